@@ -1,0 +1,5 @@
+pub mod Basic
+pub mod Element
+pub mod Settings
+pub mod Opening
+pub mod Transcript

@@ -1,0 +1,112 @@
+-- Document 01, "The opening": what a verifier checks, when a transcript is accepted, and why one is rejected.
+--
+--   Transcript              commitment, round elements, challenges, final element
+--   doubled S c0 c2         2·(c0 + c2) modulo q
+--   roundHolds S claim ..   does a round hold
+--   nextClaim S e c0 c1 c2  what the claim becomes, r = X^e
+--   finalBounded S f        has f no coefficient beyond ±n·B
+--   ending S key E f        half^L·f·G' modulo q, G' being the key folded by the challenges E
+--   endHolds S key E ..     does the claim equal it
+--   element S T t j         c_j of round t + 1
+--   claimAfter S T t        the claim after t rounds
+--   holdsAt, closes         does round t + 1 hold; is the last equation met
+--   accepted S key T        is a transcript accepted, as a test; `Accepted` is the same as a statement
+--   Cause, cause            why it is rejected: the first round that fails, else the bound, else the last equation
+--   transcriptOf            a message's transcript
+use mathlib.Core.Path.{_≡_}
+use mathlib.Core.Bool.{Bool, true, false, _&&_, not}
+use mathlib.Core.List.{List}
+use Prim.Native.Nat.{ℕ, zero, suc, _+_, _*_, _^_, _<_, _≤_}
+use lib.Dec.{eqb, ltb}
+use lib.ListN.{getD}
+use lib.IntN.{ℤ, pos, _+ℤ_, _*ℤ_, natAbs}
+use Rattle.protocol.specs.declared.Settings.{Settings}
+use Rattle.protocol.specs.Basic.{every, least, within}
+use Rattle.protocol.specs.Element.{Element, modulo, rotate, product, reduced, signed, residueAt}
+use Rattle.protocol.specs.Settings.{size, half}
+use Rattle.protocol.specs.Opening.{keyAfter, commitment, roundTable, messageAfter, finalElement}
+
+-- "A transcript is commitment, round elements, challenges and final element."
+pub record Transcript : Type 0 where
+  pub commitment : List ℕ
+  pub rounds : List ℕ
+  pub challenges : List ℕ
+  pub last : List ℤ
+
+-- the rounds are counted from 1
+pub data Cause : Type 0 where
+  none : Cause
+  round : ℕ → Cause
+  bound : Cause
+  equation : Cause
+
+-- at the end the bound comes before the equation: "final 3, 0 by the bound", and it fails both
+unfoldable pub endCause : Bool → Bool → Cause
+endCause false met = Cause.bound
+endCause true false = Cause.equation
+endCause true true = Cause.none
+
+module _ (S : Settings) where
+  open Settings S using (degree as d, depth as L, modulus as q, bound as B)
+
+  unfoldable pub doubled : Element → Element → ℕ → ℕ
+  doubled c0 c2 k = modulo q (pos 2 *ℤ (c0 k +ℤ c2 k))
+
+  -- "A round holds when 2·(c0+c2) equals the claim"
+  unfoldable pub roundHolds : List ℕ → Element → Element → Bool
+  roundHolds claim c0 c2 = every d (λ k. eqb (doubled c0 c2 k) (getD claim k 0))
+
+  -- "the claim becomes c0 + r·c1 + r²·c2"
+  unfoldable pub nextClaim : ℕ → Element → Element → Element → List ℕ
+  nextClaim e c0 c1 c2 = reduced q d (λ k. c0 k +ℤ rotate d e c1 k +ℤ rotate d e (rotate d e c2) k)
+
+  -- "the final element f must have no coefficient beyond ±n·B"
+  unfoldable pub finalBounded : Element → Bool
+  finalBounded f = every d (λ k. within (size S * B) (f k))
+
+  -- "half^L·f·G', G' being the key folded by all challenges"
+  unfoldable pub ending : List ℕ → List ℕ → Element → ℕ → ℕ
+  ending key E f k = modulo q (pos (half S ^ L) *ℤ product d f (residueAt d (keyAfter S E L key) 0) k)
+
+  -- "the claim must equal half^L·f·G'"
+  unfoldable pub endHolds : List ℕ → List ℕ → List ℕ → Element → Bool
+  endHolds key E claim f = every d (λ k. eqb (getD claim k 0) (ending key E f k))
+
+  unfoldable pub element : Transcript → ℕ → ℕ → Element
+  element T t j = residueAt d (T .rounds) (3 * t + j)
+
+  -- "with the claim started at that commitment"
+  unfoldable pub claimAfter : Transcript → ℕ → List ℕ
+  claimAfter T zero = T .commitment
+  claimAfter T (suc t) = nextClaim (getD (T .challenges) t 0) (element T t 0) (element T t 1) (element T t 2)
+
+  unfoldable pub holdsAt : Transcript → ℕ → Bool
+  holdsAt T t = roundHolds (claimAfter T t) (element T t 0) (element T t 2)
+
+  unfoldable pub closes : List ℕ → Transcript → Bool
+  closes key T = endHolds key (T .challenges) (claimAfter T L) (signed (T .last))
+
+  -- "It is accepted when, with the claim started at that commitment, every round holds and the end is met."
+  unfoldable pub accepted : List ℕ → Transcript → Bool
+  accepted key T = every L (holdsAt T) && (finalBounded (signed (T .last)) && closes key T)
+
+  -- how many rounds hold before the first that fails
+  unfoldable pub held : Transcript → ℕ
+  held T = least L (λ t. not (holdsAt T t))
+
+  unfoldable pub cause : List ℕ → Transcript → Cause
+  cause key T = elim (ltb (held T) L) [ true ↦ Cause.round (held T + 1) | false ↦ endCause (finalBounded (signed (T .last))) (closes key T) ]
+
+pub record Accepted (S : Settings) (key : List ℕ) (T : Transcript) : Type 0 where
+  pub every-round : (t : ℕ) → t < S .depth → (k : ℕ) → k < S .degree → doubled S (element S T t 0) (element S T t 2) k ≡ getD (claimAfter S T t) k 0
+  pub in-bound : (k : ℕ) → k < S .degree → natAbs (signed (T .last) k) ≤ size S * S .bound
+  pub at-end : (k : ℕ) → k < S .degree → getD (claimAfter S T (S .depth)) k 0 ≡ ending S key (T .challenges) (signed (T .last)) k
+
+-- "A message's transcript is what its opening gives, with the challenges."
+unfoldable pub transcriptOf : Settings → List ℕ → List ℤ → List ℕ → Transcript
+transcriptOf S key message E = record {
+  commitment = commitment S key message;
+  rounds = roundTable S E key message;
+  challenges = E;
+  last = finalElement S (messageAfter S E (S .depth) message);
+}
