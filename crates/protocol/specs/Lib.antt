@@ -3,3 +3,7 @@ pub mod Element
 pub mod Settings
 pub mod Opening
 pub mod Transcript
+pub mod Session
+pub mod Tree
+pub mod Judge
+pub mod Calls

@@ -1,0 +1,217 @@
+-- Document 01, "The table of refusals": the calls on tables. For each call its refusal, its whole answer, and each lent table at exit.
+-- (The session's moves are in Session, the calls on text in Text and Programs.)
+-- "Tested in number order over the whole input of the call …, before any equation (13 alone runs the verifier); the smallest that applies is given, and none is given otherwise.
+-- A refusal returns its number, with … every other part of the answer 0": a lent table is then as it was.
+--
+--   commitRefusal, commitAnswer                          1 commit
+--   roundRefusal, roundAnswer                            2 the prover's round
+--   foldRefusal, foldKeyExit, foldMessageExit            3 the fold of both tables
+--   endRefusal, endAnswer                                4 the prover's end
+--   openingRefusal, openingAnswer, opening…Exit          5 the whole opening
+--   checkRefusal, checkAnswer                            the check of a transcript
+--   judgeRefusal, judgeAnswer                            the judge
+--   extractRefusal, extractExit                          the extractor
+use mathlib.Core.Bool.{Bool, true, false, _&&_}
+use mathlib.Core.List.{List, [], _∷_}
+use Prim.Native.Nat.{ℕ, _*_, _^_}
+use lib.Dec.{leb, ltb, eqb}
+use lib.ListN.{take}
+use lib.IntN.{ℤ}
+use Rattle.protocol.specs.declared.Settings.{Settings}
+use Rattle.protocol.specs.declared.Verdict.the-variants.{Silent}
+use Rattle.protocol.specs.declared.Committed.{Committed}
+use Rattle.protocol.specs.declared.Polynomial.{Polynomial}
+use Rattle.protocol.specs.declared.Ended.{Ended}
+use Rattle.protocol.specs.declared.Opened.{Opened}
+use Rattle.protocol.specs.declared.Checked.{Checked}
+use Rattle.protocol.specs.declared.Judged.{Judged}
+use Rattle.protocol.specs.Basic.{every, tabulate, first, unless, granted}
+use Rattle.protocol.specs.Element.{width, zeros, signedZeros, padded, paddedSigned}
+use Rattle.protocol.specs.Settings.{settingsRefusal, cells, sized, residues, residueElement, small, exponent, exponents}
+use Rattle.protocol.specs.Opening.{commitment, left, roundElement, foldMessage, foldKey, messageAfter, keyAfter, finalElement, roundTable}
+use Rattle.protocol.specs.Transcript.{Transcript, accepted, transcriptOf}
+use Rattle.protocol.specs.Session.{verdict}
+use Rattle.protocol.specs.Tree.{nodes, leaves, path, apart, rootVector, grows}
+use Rattle.protocol.specs.Judge.{slackAllowed, judged}
+
+-- ---- 1 commit
+
+unfoldable pub commitRefusal : Settings → List ℕ → List ℤ → ℕ
+commitRefusal S key message =
+    first
+    (settingsRefusal S
+    ∷ unless 7 (sized (cells S) key && sized (cells S) message)
+    ∷ unless 8 (residues S key)
+    ∷ unless 9 (small (S .bound) message)
+    ∷ [])
+
+unfoldable pub commitAnswer : Settings → List ℕ → List ℤ → Committed
+commitAnswer S key message = record {
+  number = commitRefusal S key message;
+  commitment = granted (commitRefusal S key message) (padded (S .degree) (commitment S key message)) (zeros width);
+}
+
+-- ---- 2 the prover's round
+
+-- "what is left is n/2^t elements, whose message coefficients must lie within ±2^t·B"
+unfoldable pub leftSmall : Settings → ℕ → List ℤ → Bool
+leftSmall S t message = small (2 ^ t * S .bound) (take (left S t * S .degree) message)
+
+-- "refusal 9 is not tested with t over L, nor in a round or fold with t at L"
+unfoldable pub movingSmall : Settings → ℕ → List ℤ → Bool
+movingSmall S t message = elim (ltb t (S .depth)) [ true ↦ leftSmall S t message | false ↦ true ]
+
+unfoldable pub roundRefusal : Settings → ℕ → List ℕ → List ℤ → ℕ
+roundRefusal S t key message =
+    first
+    (settingsRefusal S
+    ∷ unless 7 (sized (cells S) key && sized (cells S) message)
+    ∷ unless 8 (residues S key)
+    ∷ unless 9 (movingSmall S t message)
+    ∷ unless 11 (ltb t (S .depth))
+    ∷ [])
+
+-- the round polynomial, "three elements, each an array of coefficients"
+unfoldable pub polynomial : Settings → ℕ → List ℕ → List ℤ → List (List ℕ)
+polynomial S t key message = tabulate 3 (λ j. padded (S .degree) (roundElement S t key message j))
+
+unfoldable pub noPolynomial : List (List ℕ)
+noPolynomial = tabulate 3 (λ j. zeros width)
+
+unfoldable pub roundAnswer : Settings → ℕ → List ℕ → List ℤ → Polynomial
+roundAnswer S t key message = record {
+  number = roundRefusal S t key message;
+  elements = granted (roundRefusal S t key message) (polynomial S t key message) noPolynomial;
+}
+
+-- ---- 3 the fold of both tables; its answer is the number alone
+
+unfoldable pub foldRefusal : Settings → ℕ → ℕ → List ℕ → List ℤ → ℕ
+foldRefusal S t e key message =
+    first
+    (settingsRefusal S
+    ∷ unless 7 (sized (cells S) key && sized (cells S) message)
+    ∷ unless 8 (residues S key)
+    ∷ unless 9 (movingSmall S t message)
+    ∷ unless 10 (exponent S e)
+    ∷ unless 11 (ltb t (S .depth))
+    ∷ [])
+
+unfoldable pub foldKeyExit : Settings → ℕ → ℕ → List ℕ → List ℤ → List ℕ
+foldKeyExit S t e key message = granted (foldRefusal S t e key message) (foldKey S t e key) key
+
+unfoldable pub foldMessageExit : Settings → ℕ → ℕ → List ℕ → List ℤ → List ℤ
+foldMessageExit S t e key message = granted (foldRefusal S t e key message) (foldMessage S t e message) message
+
+-- ---- 4 the prover's end
+
+-- "refusal 9 is not tested with t over L"
+unfoldable pub endingSmall : Settings → ℕ → List ℤ → Bool
+endingSmall S t message = elim (leb t (S .depth)) [ true ↦ leftSmall S t message | false ↦ true ]
+
+-- "The prover's end … wants t at L."
+unfoldable pub endRefusal : Settings → ℕ → List ℤ → ℕ
+endRefusal S t message =
+    first
+    (settingsRefusal S
+    ∷ unless 7 (sized (cells S) message)
+    ∷ unless 9 (endingSmall S t message)
+    ∷ unless 11 (eqb t (S .depth))
+    ∷ [])
+
+unfoldable pub endAnswer : Settings → ℕ → List ℤ → Ended
+endAnswer S t message = record {
+  number = endRefusal S t message;
+  last = granted (endRefusal S t message) (paddedSigned (S .degree) (finalElement S message)) (signedZeros width);
+}
+
+-- ---- 5 the whole opening
+
+unfoldable pub openingRefusal : Settings → List ℕ → List ℤ → List ℕ → List ℕ → ℕ
+openingRefusal S key message E rounds =
+    first
+    (settingsRefusal S
+    ∷ unless 7 (sized (cells S) key && sized (cells S) message && sized (S .depth) E && sized (3 * S .depth * S .degree) rounds)
+    ∷ unless 8 (residues S key)
+    ∷ unless 9 (small (S .bound) message)
+    ∷ unless 10 (exponents S E)
+    ∷ [])
+
+-- "starts the claim at the commitment that it works out, and gives commitment, round elements, final element and verdict"
+unfoldable pub openingAnswer : Settings → List ℕ → List ℤ → List ℕ → List ℕ → Opened
+openingAnswer S key message E rounds =
+    let refusal = openingRefusal S key message E rounds in
+    let T = transcriptOf S key message E in
+    record {
+      number = refusal;
+      commitment = granted refusal (padded (S .degree) (T .commitment)) (zeros width);
+      last = granted refusal (paddedSigned (S .degree) (T .last)) (signedZeros width);
+      verdict = granted refusal (verdict (accepted S key T)) Silent;
+    }
+
+-- "both tables stay as L folds leave them"
+unfoldable pub openingKeyExit : Settings → List ℕ → List ℤ → List ℕ → List ℕ → List ℕ
+openingKeyExit S key message E rounds = granted (openingRefusal S key message E rounds) (keyAfter S E (S .depth) key) key
+
+unfoldable pub openingMessageExit : Settings → List ℕ → List ℤ → List ℕ → List ℕ → List ℤ
+openingMessageExit S key message E rounds = granted (openingRefusal S key message E rounds) (messageAfter S E (S .depth) message) message
+
+unfoldable pub openingRoundsExit : Settings → List ℕ → List ℤ → List ℕ → List ℕ → List ℕ
+openingRoundsExit S key message E rounds = granted (openingRefusal S key message E rounds) (roundTable S E key message) rounds
+
+-- ---- the check of a transcript
+
+unfoldable pub checkRefusal : Settings → List ℕ → List ℕ → List ℕ → List ℕ → ℕ
+checkRefusal S C key rounds E =
+    first
+    (settingsRefusal S
+    ∷ unless 7 (sized (cells S) key && sized (3 * S .depth * S .degree) rounds && sized (S .depth) E)
+    ∷ unless 8 (residues S key && residueElement S C && residues S rounds)
+    ∷ unless 10 (exponents S E)
+    ∷ [])
+
+unfoldable pub checkAnswer : Settings → List ℕ → List ℤ → List ℕ → List ℕ → List ℕ → Checked
+checkAnswer S C f key rounds E = record {
+  number = checkRefusal S C key rounds E;
+  verdict = granted (checkRefusal S C key rounds E) (verdict (accepted S key (record { commitment = C; rounds = rounds; challenges = E; last = f }))) Silent;
+}
+
+-- ---- the judge
+
+unfoldable pub judgeRefusal : Settings → List ℕ → ℕ → List ℕ → List ℤ → ℕ
+judgeRefusal S C c key w =
+    first
+    (settingsRefusal S
+    ∷ unless 7 (sized (cells S) key && sized (cells S) w)
+    ∷ unless 8 (residues S key && residueElement S C)
+    ∷ unless 14 (grows S)
+    ∷ unless 15 (slackAllowed S c)
+    ∷ [])
+
+unfoldable pub judgeAnswer : Settings → List ℕ → ℕ → List ℕ → List ℤ → Judged
+judgeAnswer S C c key w = record {
+  number = judgeRefusal S C c key w;
+  yes = granted (judgeRefusal S C c key w) (judged S key C c w) false;
+}
+
+-- ---- the extractor; its answer is the number alone
+
+-- 13: "a path of the tree that the verifier rejects"
+unfoldable pub everyPath : Settings → List ℕ → List ℕ → List ℕ → List ℕ → List ℤ → Bool
+everyPath S C key rounds E finals = every (leaves S) (λ j. accepted S key (path S C rounds E finals j))
+
+unfoldable pub extractRefusal : Settings → List ℕ → List ℕ → List ℕ → List ℕ → List ℤ → List ℤ → ℕ
+extractRefusal S C key rounds E finals w =
+    first
+    (settingsRefusal S
+    ∷ unless 7 (sized (cells S) key && sized (3 * nodes S * S .degree) rounds && sized (3 * nodes S) E && sized (leaves S * S .degree) finals && sized (cells S) w)
+    ∷ unless 8 (residues S key && residueElement S C && residues S rounds)
+    ∷ unless 10 (exponents S E)
+    ∷ unless 12 (every (nodes S) (apart E))
+    ∷ unless 13 (everyPath S C key rounds E finals)
+    ∷ unless 14 (grows S)
+    ∷ [])
+
+-- "The root's vector w is signed 64-bit."
+unfoldable pub extractExit : Settings → List ℕ → List ℕ → List ℕ → List ℕ → List ℤ → List ℤ → List ℤ
+extractExit S C key rounds E finals w = granted (extractRefusal S C key rounds E finals w) (rootVector S E finals) w

@@ -1,0 +1,44 @@
+-- Document 01: "Judge: commitment, key, slack c from 1 to 65,536 and a vector w."
+--
+--   slackAllowed S c         is c in its range (refusal 15)
+--   slack S                  the extractor's slack, 4^L
+--   scaledCommitment S C c   c times the commitment, modulo q
+--   combination S key w      the sum of w_i·G_i, modulo q
+--   opens S key C c w        are they equal, as a test; `Opens` is the same as a statement
+--   judged S key C c w       what the judge says
+use mathlib.Core.Bool.{Bool, _&&_}
+use mathlib.Core.List.{List}
+use mathlib.Core.Path.{_≡_}
+use Prim.Native.Nat.{ℕ, _<_, _^_}
+use lib.Dec.{eqb, leb}
+use lib.IntN.{ℤ, pos}
+use Rattle.protocol.specs.declared.Settings.{Settings}
+use Rattle.protocol.specs.Basic.{every}
+use Rattle.protocol.specs.Element.{modulo, residue, times, signedAt, residueAt}
+use Rattle.protocol.specs.Settings.{size, small}
+use Rattle.protocol.specs.Opening.{inner}
+use Rattle.protocol.specs.Tree.{growth}
+
+unfoldable pub slackAllowed : Settings → ℕ → Bool
+slackAllowed S c = leb 1 c && leb c 65_536
+
+-- "so here it is 4^L"
+unfoldable pub slack : Settings → ℕ
+slack S = 4 ^ S .depth
+
+unfoldable pub scaledCommitment : Settings → List ℕ → ℕ → ℕ → ℕ
+scaledCommitment S C c k = modulo (S .modulus) (times (pos c) (residue C) k)
+
+unfoldable pub combination : Settings → List ℕ → List ℤ → ℕ → ℕ
+combination S key w k = modulo (S .modulus) (inner (S .degree) (size S) (signedAt (S .degree) w) (residueAt (S .degree) key) k)
+
+-- "To open c times the commitment is that equation alone, G being the unfolded key."
+unfoldable pub opens : Settings → List ℕ → List ℕ → ℕ → List ℤ → Bool
+opens S key C c w = every (S .degree) (λ k. eqb (scaledCommitment S C c k) (combination S key w k))
+
+abbrev pub Opens : Settings → List ℕ → List ℕ → ℕ → List ℤ → Type 0
+Opens S key C c w = (k : ℕ) → k < S .degree → scaledCommitment S C c k ≡ combination S key w k
+
+-- "Yes exactly when c times the commitment is the sum of w_i·G_i modulo q and no coefficient of w is beyond ±(12·d²)^L·B."
+unfoldable pub judged : Settings → List ℕ → List ℕ → ℕ → List ℤ → Bool
+judged S key C c w = opens S key C c w && small (growth S) w

@@ -1,0 +1,130 @@
+-- Document 01, "The opening": the verifier's session. "Each move takes the record and hands the next one back."
+--
+--   slots                    how many challenges a record holds
+--   opened S C               the record of a session that starts at the commitment C
+--   blank                    the closed record of zeros that a refused start hands back
+--   shut r                   the record r, closed
+--   advanced r p e           the record r after a round that holds, p being the polynomial and e the challenge
+--   refusedMove r number     a refused move: r unchanged
+--   start, move, close       the three moves: refusal, verdict and record
+use mathlib.Core.Bool.{Bool, true, false, _&&_, not}
+use mathlib.Core.List.{List, [], _∷_}
+use Prim.Native.Nat.{ℕ, _+_}
+use lib.Dec.{ltb, eqb}
+use lib.ListN.{getD, set}
+use lib.IntN.{ℤ}
+use Rattle.protocol.specs.declared.Settings.{Settings}
+use Rattle.protocol.specs.declared.Session.{Session}
+use Rattle.protocol.specs.declared.Started.{Started}
+use Rattle.protocol.specs.declared.Moved.{Moved}
+use Rattle.protocol.specs.declared.Verdict.{Verdict}
+use Rattle.protocol.specs.declared.Verdict.the-variants.{Silent, Holds, Accepted, Rejected}
+use Rattle.protocol.specs.Basic.{tabulate, choose, first, unless, granted}
+use Rattle.protocol.specs.Element.{Element, width, zeros, padded, signed, residue}
+use Rattle.protocol.specs.Settings.{settingsRefusal, cells, sized, residues, residueElement, exponent, exponents}
+use Rattle.protocol.specs.Transcript.{roundHolds, nextClaim, finalBounded, endHolds}
+
+-- "a list of eight challenges"
+unfoldable pub slots : ℕ
+slots = 8
+
+-- what a verifier says of a transcript, or of its end
+unfoldable pub verdict : Bool → Verdict
+verdict met = choose met Accepted Rejected
+
+-- ---- start
+
+-- "the claim starts as the commitment"; of the commitment only the first d places are read
+unfoldable pub opened : Settings → List ℕ → Session
+opened S C = record {
+  settings = S;
+  done = 0;
+  claim = padded (S .degree) (tabulate (S .degree) (λ k. getD C k 0));
+  challenges = zeros slots;
+  closed = false;
+}
+
+-- "a refused start hands back a closed record of zeros"
+unfoldable pub blank : Session
+blank = record {
+  settings = record { degree = 0; depth = 0; modulus = 0; bound = 0 };
+  done = 0;
+  claim = zeros width;
+  challenges = zeros slots;
+  closed = true;
+}
+
+unfoldable pub startRefusal : Settings → List ℕ → ℕ
+startRefusal S C = first (settingsRefusal S ∷ unless 8 (residueElement S C) ∷ [])
+
+unfoldable pub start : Settings → List ℕ → Started
+start S C = record { number = startRefusal S C; next = granted (startRefusal S C) (opened S C) blank }
+
+-- ---- a move
+
+-- "A refusal returns its number, with records handed back unchanged and every other part of the answer 0"
+unfoldable pub refusedMove : Session → ℕ → Moved
+refusedMove r number = record { number = number; verdict = Silent; next = r }
+
+-- "A rejection or an acceptance closes the record and changes no other field."
+unfoldable pub shut : Session → Session
+shut r = record { settings = r .settings; done = r .done; claim = r .claim; challenges = r .challenges; closed = true }
+
+-- ---- round
+
+-- c_j of a polynomial that is passed by value
+unfoldable pub part : List (List ℕ) → ℕ → List ℕ
+part p j = getD p j []
+
+-- 8: "a … round or claim coefficient"; 10: "tests all eight"; 11: "a round with L or more done, … a closed record"
+unfoldable pub moveRefusal : Session → List (List ℕ) → ℕ → ℕ
+moveRefusal r p e =
+    let S = r .settings in
+    first
+    (settingsRefusal S
+    ∷ unless 8 (residueElement S (r .claim) && residueElement S (part p 0) && residueElement S (part p 1) && residueElement S (part p 2))
+    ∷ unless 10 (exponents S (r .challenges) && exponent S e)
+    ∷ unless 11 (ltb (r .done) (S .depth) && not (r .closed))
+    ∷ [])
+
+-- "A round that holds counts itself and stores its challenge and the new claim."
+unfoldable pub advanced : Session → List (List ℕ) → ℕ → Session
+advanced r p e = record {
+  settings = r .settings;
+  done = r .done + 1;
+  claim = padded (r .settings .degree) (nextClaim (r .settings) e (residue (part p 0)) (residue (part p 1)) (residue (part p 2)));
+  challenges = set (r .challenges) (r .done) e;
+  closed = r .closed;
+}
+
+unfoldable pub moveHolds : Session → List (List ℕ) → Bool
+moveHolds r p = roundHolds (r .settings) (r .claim) (residue (part p 0)) (residue (part p 2))
+
+unfoldable pub move : Session → List (List ℕ) → ℕ → Moved
+move r p e =
+    granted (moveRefusal r p e)
+    (choose (moveHolds r p) (record { number = 0; verdict = Holds; next = advanced r p e }) (record { number = 0; verdict = Rejected; next = shut r }))
+    (refusedMove r (moveRefusal r p e))
+
+-- ---- end
+
+-- 8: "a key, … or claim coefficient"; 10: "tests all eight"; 11: "an end with other than L done, a closed record"
+unfoldable pub closeRefusal : Session → List ℕ → ℕ
+closeRefusal r key =
+    let S = r .settings in
+    first
+    (settingsRefusal S
+    ∷ unless 7 (sized (cells S) key)
+    ∷ unless 8 (residues S key && residueElement S (r .claim))
+    ∷ unless 10 (exponents S (r .challenges))
+    ∷ unless 11 (eqb (r .done) (S .depth) && not (r .closed))
+    ∷ [])
+
+unfoldable pub closeHolds : Session → List ℤ → List ℕ → Bool
+closeHolds r f key = finalBounded (r .settings) (signed f) && endHolds (r .settings) key (r .challenges) (r .claim) (signed f)
+
+unfoldable pub close : Session → List ℤ → List ℕ → Moved
+close r f key =
+    granted (closeRefusal r key)
+    (record { number = 0; verdict = verdict (closeHolds r f key); next = shut r })
+    (refusedMove r (closeRefusal r key))
