@@ -1,0 +1,4 @@
+pub mod Tests
+pub mod Reading
+pub mod Rotation
+pub mod Acceptance

@@ -1,0 +1,97 @@
+-- Tests and what they say: conjunctions, `every`, `all`, `least`, and refusals.
+use mathlib.Core.Path.{_≡_, refl, sym, ap, _∙_, subst}
+use mathlib.Core.Bool.{Bool, true, false, _&&_, not, false≢true}
+use mathlib.Core.List.{List, [], _∷_}
+use Prim.Native.Nat.{ℕ, zero, suc, _<_, _≤_}
+use native.Mathlib.Decide.{ℕ-discrete}
+use native.Mathlib.Omega.{arith}
+use lib.ListN.{length, getD}
+use Rattle.protocol.specs.Basic.{every, all, least, first, unless}
+
+-- ---- conjunctions
+
+pub and-split : {a b : Bool} → (a && b) ≡ true → (a ≡ true) × (b ≡ true)
+and-split {a = true} {b} t = (refl, t)
+and-split {a = false} {b} t = absurd (false≢true t)
+
+pub and-intro : {a b : Bool} → a ≡ true → b ≡ true → (a && b) ≡ true
+and-intro {a = true} {b} s t = t
+and-intro {a = false} {b} s t = s
+
+-- two tests that pass together are one test
+pub same-test : {a b : Bool} → (a ≡ true → b ≡ true) → (b ≡ true → a ≡ true) → a ≡ b
+same-test {a = true} {b} f g = sym (f refl)
+same-test {a = false} {b = true} f g = g refl
+same-test {a = false} {b = false} f g = refl
+
+-- ---- every
+
+pub every-at : (n : ℕ) (f : ℕ → Bool) → every n f ≡ true → (i : ℕ) → i < n → f i ≡ true
+unfolding every
+every-at zero f t i h = absurd (omega arith)
+every-at (suc n) f t i h = elim (ℕ-discrete i n) [
+  | yes e ↦ subst (λ j. f j ≡ true) (sym e) (and-split {a = every n f} {b = f n} t .1)
+  | no ne ↦ every-at n f (and-split {a = every n f} {b = f n} t .0) i (omega arith)
+]
+
+pub every-intro : {n : ℕ} {f : ℕ → Bool} → ((i : ℕ) → i < n → f i ≡ true) → every n f ≡ true
+unfolding every
+every-intro {n = zero} {f} h = refl
+every-intro {n = suc n} {f} h = and-intro {a = every n f} {b = f n} (every-intro {n = n} {f = f} (λ i l. h i (omega arith))) (h n (omega arith))
+
+-- ---- all
+
+pub all-at {ℓ} : {A : Type ℓ} (f : A → Bool) (l : List A) (z : A) → all f l ≡ true → (i : ℕ) → i < length l → f (getD l i z) ≡ true
+unfolding all
+all-at f [] z t i h = absurd (omega arith)
+all-at f (x ∷ l) z t zero h = and-split {a = f x} {b = all f l} t .0
+all-at f (x ∷ l) z t (suc i) h = all-at f l z (and-split {a = f x} {b = all f l} t .1) i (omega arith)
+
+pub all-intro {ℓ} : {A : Type ℓ} (f : A → Bool) (l : List A) (z : A) → ((i : ℕ) → i < length l → f (getD l i z) ≡ true) → all f l ≡ true
+unfolding all
+all-intro f [] z h = refl
+all-intro f (x ∷ l) z h = and-intro {a = f x} {b = all f l} (h 0 (omega arith)) (all-intro f l z (λ i m. h (suc i) (omega arith)))
+
+-- ---- least
+
+-- m is the first place below n at which f holds, or n
+pub record First (n : ℕ) (f : ℕ → Bool) (m : ℕ) : Type 0 where
+  pub at-most : m ≤ n
+  pub holds : m < n → f m ≡ true
+  pub none-before : (i : ℕ) → i < m → f i ≡ false
+
+later : (n : ℕ) (f : ℕ → Bool) (m : ℕ) → First n (λ i. f (suc i)) m → (b : Bool) → f 0 ≡ b → First (suc n) f (elim b as (λ _. ℕ) [ true ↦ 0 | false ↦ suc m ])
+later n f m F true e = record { at-most = omega arith; holds = λ h. e; none-before = λ i h. absurd (omega arith) }
+later n f m F false e = record { at-most = omega (arith, F .at-most); holds = λ h. F .holds (omega arith); none-before = before }
+  where
+    before : (i : ℕ) → i < suc m → f i ≡ false
+    before zero h = e
+    before (suc i) h = F .none-before i (omega arith)
+
+pub least-first : (n : ℕ) (f : ℕ → Bool) → First n f (least n f)
+unfolding least
+least-first zero f = record { at-most = omega arith; holds = λ h. absurd (omega arith); none-before = λ i h. absurd (omega arith) }
+least-first (suc n) f = later n f (least n (λ i. f (suc i))) (least-first n (λ i. f (suc i))) (f 0) refl
+
+-- ---- refusals
+
+-- nothing is refused where the first test passes and the rest refuse nothing; and the other way round
+pub first-zero : (x : ℕ) (rest : List ℕ) → first (x ∷ rest) ≡ 0 → (x ≡ 0) × (first rest ≡ 0)
+unfolding first
+first-zero zero rest e = (refl, e)
+first-zero (suc n) rest e = absurd (omega arith)
+
+pub zero-first : (x : ℕ) (rest : List ℕ) → x ≡ 0 → first rest ≡ 0 → first (x ∷ rest) ≡ 0
+unfolding first
+zero-first zero rest e f = f
+zero-first (suc n) rest e f = e
+
+pub unless-zero : (n : ℕ) (b : Bool) → unless (suc n) b ≡ 0 → b ≡ true
+unfolding unless
+unless-zero n true e = refl
+unless-zero n false e = absurd (omega arith)
+
+pub zero-unless : (n : ℕ) (b : Bool) → b ≡ true → unless n b ≡ 0
+unfolding unless
+zero-unless n true e = refl
+zero-unless n false e = absurd (false≢true e)
