@@ -1,3 +1,4 @@
 pub mod Numbering
 pub mod Paths
 pub mod Walk
+pub mod Agreement
