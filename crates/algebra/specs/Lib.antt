@@ -4,3 +4,7 @@ pub mod Hom
 pub mod Integers
 pub mod Solver
 pub mod Certificate
+pub mod Residues
+pub mod Negacyclic
+pub mod Inner
+pub mod Induced
