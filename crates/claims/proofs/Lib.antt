@@ -1,3 +1,5 @@
+pub mod Readings
+pub mod Tables
 pub mod Numbering
 pub mod Paths
 pub mod Walk

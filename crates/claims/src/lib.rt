@@ -1,1 +1,1 @@
-// Theorems about the definitions of protocol. No function stands here.
+// What is proved of document 01's definitions. No function stands here.

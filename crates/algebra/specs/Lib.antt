@@ -1,0 +1,10 @@
+pub mod Ring
+pub mod Sum
+pub mod Hom
+pub mod Integers
+pub mod Solver
+pub mod Certificate
+pub mod Residues
+pub mod Negacyclic
+pub mod Inner
+pub mod Induced
