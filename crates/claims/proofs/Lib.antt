@@ -4,3 +4,5 @@ pub mod Numbering
 pub mod Paths
 pub mod Walk
 pub mod Agreement
+pub mod TreeCheck
+pub mod TreeKeys

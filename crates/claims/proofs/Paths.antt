@@ -1,10 +1,13 @@
 -- The path to a leaf: it leads from the root to the leaf, one child after the other, and every node is on some path.
 use mathlib.Core.Path.{_≡_, sym, ap, _∙_, subst}
+use mathlib.Core.List.{List}
 use Prim.Native.Nat.{ℕ, zero, suc, _+_, _*_, _-_, _^_, _<_, _≤_}
 use native.Mathlib.Nat as Nat
 use native.Mathlib.Omega.{arith}
+use lib.ListN.{getD}
 use Rattle.protocol.specs.declared.Settings.{Settings}
-use Rattle.protocol.specs.Tree.{child, parent, place, above, nodes, leaves, onPath}
+use Rattle.protocol.specs.Tree.{child, parent, place, above, challenge, challengeTo, nodes, leaves, onPath, pathChallenges}
+use Rattle.protocol.proofs.Reading.{tabulate-at}
 use Rattle.claims.proofs.Numbering.{child-parent, before, before-power, before-le, before-add, AtDepth, parent-depth, below, above-below}
 
 module _ (S : Settings) where
@@ -35,6 +38,10 @@ module _ (S : Settings) where
   pub path-parent : (j t : ℕ) → t < L → parent (onPath S j (suc t)) ≡ onPath S j t
   unfolding onPath above
   path-parent j t l = let e : suc (L - suc t) ≡ L - t = omega arith in ap (λ h. above h (nodes S + j)) e
+
+  pub path-challenge : (E : List ℕ) (j t : ℕ) → t < L → getD (pathChallenges S E j) t 0 ≡ challenge E (onPath S j t) (place (onPath S j (suc t)))
+  unfolding pathChallenges challengeTo
+  path-challenge E j t l = tabulate-at L _ 0 t l ∙ ap (λ k. challenge E k (place (onPath S j (suc t)))) (path-parent j t l)
 
   -- after t steps it meets a node of depth t
   pub path-depth : (j : ℕ) → j < leaves S → (t h : ℕ) → h + t ≡ L → AtDepth t (onPath S j t)

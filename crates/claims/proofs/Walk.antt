@@ -12,6 +12,13 @@ use native.Mathlib.Omega.{arith}
 use Rattle.protocol.specs.Tree.{child, parent, place, above}
 use Rattle.claims.proofs.Numbering.{parent-child, place-child, before-power, below, below-zero, below-child, above-below, Turn, turn, turn-small}
 
+-- what holds for the three children holds for each
+pub three : (P : ℕ → Type 0) → P 0 → P 1 → P 2 → (j : ℕ) → j < 3 → P j
+three P a b c zero l = a
+three P a b c (suc zero) l = b
+three P a b c (suc (suc zero)) l = c
+three P a b c (suc (suc (suc j))) l = absurd (omega arith)
+
 unfoldable pub stateOn : {X : Type 0} → (ℕ → ℕ → X → X) → ℕ → ℕ → X → ℕ → X
 stateOn step h n x zero = x
 stateOn step h n x (suc t) = step (above (h - t) n) (place (above (h - suc t) n)) (stateOn step h n x t)

@@ -46,6 +46,6 @@ module _ (S : Settings) where
   treeAccepted rounds E finals zero k t claim key = leafAccepted finals k claim key
   treeAccepted rounds E finals (suc h) k t claim key =
       nodeHolds rounds k claim
-      && treeAccepted rounds E finals h (child k 0) (suc t) (claimTo rounds E k 0) (foldKey S t (challenge E k 0) key)
-      && treeAccepted rounds E finals h (child k 1) (suc t) (claimTo rounds E k 1) (foldKey S t (challenge E k 1) key)
-      && treeAccepted rounds E finals h (child k 2) (suc t) (claimTo rounds E k 2) (foldKey S t (challenge E k 2) key)
+      && (treeAccepted rounds E finals h (child k 0) (suc t) (claimTo rounds E k 0) (foldKey S t (challenge E k 0) key)
+      && (treeAccepted rounds E finals h (child k 1) (suc t) (claimTo rounds E k 1) (foldKey S t (challenge E k 1) key)
+      && treeAccepted rounds E finals h (child k 2) (suc t) (claimTo rounds E k 2) (foldKey S t (challenge E k 2) key)))
