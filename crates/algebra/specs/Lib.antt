@@ -8,3 +8,6 @@ pub mod Residues
 pub mod Negacyclic
 pub mod Inner
 pub mod Induced
+pub mod Scalars
+pub mod Cancel
+pub mod Mu
