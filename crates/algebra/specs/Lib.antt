@@ -11,3 +11,5 @@ pub mod Induced
 pub mod Scalars
 pub mod Cancel
 pub mod Mu
+pub mod Magnitude
+pub mod Norm
