@@ -13,3 +13,7 @@ pub mod Cancel
 pub mod Mu
 pub mod Magnitude
 pub mod Norm
+pub mod Steps
+pub mod Divisor
+pub mod Bounds
+pub mod Machine
