@@ -2,7 +2,6 @@
 --   `bounds (A ∷ B ∷ []) (λ x y. x ⊗ y ⊕ x)` proves, for all x of magnitude at most A and y of magnitude at most B, that x y + x has one of at most A B + A.
 --   bound β a     the bound of an expression a whose variables have the bounds β
 --   AllWithin β P P holds of all integers within the bounds β
-use mathlib.Core.Path.{_≡_}
 use mathlib.Core.List.{List, [], _∷_}
 use Prim.Native.Nat.{ℕ, zero, suc, _+_, _*_, _≤_}
 use native.Mathlib.Nat.{le-refl, le-trans, le-of-eq, add-le-add, mul-le-mul}

@@ -1,12 +1,12 @@
 -- The element s(a,b) of ℤ[X]/(X^d + 1), d a power of two, that undoes the difference X^a − X^b of two powers of X up to a factor of 2. Rests on Steps, Cancel and Norm.
 -- With k the way from a to b on the circle of exponents and m the number of steps of size k that come half way round, (1 − X^k) Σ_{i<m} X^(k i) = 1 − X^(k m) = 2.
 --   s d p a b     Σ_{i<m} X^(k i + (2 d − a)), where k = gap d a b and m = steps d k
-use mathlib.Core.Path.{_≡_, refl, sym, ap, _∙_, subst}
+use mathlib.Core.Path.{_≡_, sym, ap, _∙_, subst}
 use mathlib.Core.Logic.{_≢_}
 use Prim.Native.Nat.{ℕ, zero, suc, _+_, _*_, _-_, _/_, _%_, _^_, _<_, _≤_}
 use native.Mathlib.Nat as NatL
 use native.Mathlib.Omega.{arith}
-use lib.IntN.{ℤ, pos, natAbs}
+use lib.IntN.{pos, natAbs}
 use Rattle.algebra.specs.Ring as R
 use Rattle.algebra.specs.Ring.{CommRing, two}
 use Rattle.algebra.specs.Sum.{sum}
@@ -15,7 +15,7 @@ use Rattle.algebra.specs.Solver.{con, neg, _⊕_ as _:+_, _⊗_ as _:*_,
 use Rattle.algebra.specs.Certificate.{_·⟨_⟩_, _⇐_, done, combine}
 use Rattle.algebra.specs.Cancel.{two-unique, cancels-ℤ, cancels-negacyclic}
 use Rattle.algebra.specs.Magnitude.{natAbs-lone}
-use Rattle.algebra.specs.Negacyclic.{negacyclic, coef, coef-sum, X^, X^-zero, X^-add, X^-d, X^-whole, X^-mod, X^-elsewhere}
+use Rattle.algebra.specs.Negacyclic.{coef, coef-sum, X^, X^-zero, X^-add, X^-d, X^-whole, X^-mod, X^-elsewhere}
 use Rattle.algebra.specs.Norm.{Rℤ, Bound, bound-norm1, norm1, norm1-sum, norm1-X^}
 use Rattle.algebra.specs.Steps.{Halfway, halfway-apart, steps, steps-halfway, steps-le, gap, gap-lt, gap-pos, pow-pos}
 

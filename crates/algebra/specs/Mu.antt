@@ -1,11 +1,11 @@
 -- The combinations of three values by which a quadratic polynomial is taken apart. Rests on Cancel and Certificate.
 -- At three points a, b, c of a ring, with s's that undo their differences up to 2, s(a,b) (a − b) = 2 for each of the six pairs, the three weights are μ_a = s(a,b) s(a,c) (1 + b c) and so on.
 --   mu s t x y    s t (1 + x y): the weight of a point with the others at x and y
-use mathlib.Core.Path.{_≡_, refl, sym, ap, ap₂, _∙_}
+use mathlib.Core.Path.{_≡_, ap, ap₂, _∙_}
 use lib.IntN.{pos}
 use Rattle.algebra.specs.Ring.{CommRing, two}
 use Rattle.algebra.specs.Integers.{ints}
-use Rattle.algebra.specs.Solver.{con, neg, _⊕_ as _:+_, _⊖_ as _:-_, _⊗_ as _:*_, _≐_, ring, Expr}
+use Rattle.algebra.specs.Solver.{con, neg, _⊕_ as _:+_, _⊗_ as _:*_, _≐_, ring, Expr}
 use Rattle.algebra.specs.Certificate.{_·⟨_⟩_, _⇐_, done, combine}
 use Rattle.algebra.specs.Cancel.{Cancels, two-unique}
 
