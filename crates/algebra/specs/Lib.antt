@@ -8,3 +8,8 @@ pub mod Residues
 pub mod Negacyclic
 pub mod Inner
 pub mod Induced
+pub mod Scalars
+pub mod Cancel
+pub mod Mu
+pub mod Magnitude
+pub mod Norm
