@@ -1,3 +1,5 @@
 pub mod Readings
 pub mod Tables
 pub mod Checks
+pub mod Bounds
+pub mod Completeness
