@@ -1,5 +1,8 @@
 pub mod Readings
 pub mod Tables
+pub mod Checks
+pub mod Bounds
+pub mod Completeness
 pub mod Numbering
 pub mod Paths
 pub mod Walk

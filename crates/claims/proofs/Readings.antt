@@ -3,10 +3,12 @@
 --   read K d p a    the element a of document 01, in K[X]/(X^d + 1); only its places below d matter
 --   readℤ, readq    the same over the integers and over ℤ/q
 use mathlib.Core.Path.{_≡_, refl, sym, ap, ap₂, _∙_}
+use mathlib.Core.List.{List}
 use Prim.Native.Nat.{ℕ, zero, suc, _+_, _<_}
 use native.Mathlib.Nat as Nat
 use native.Mathlib.Numerals.{add-one}
 use native.Mathlib.Omega.{arith}
+use lib.ListN.{getD}
 use lib.IntN.{ℤ, pos, negsuc}
 use Rattle.algebra.specs.Ring as R
 use Rattle.algebra.specs.Ring.{CommRing}
@@ -16,6 +18,7 @@ use Rattle.algebra.specs.Integers.{ℤ-ring, fromℤ, ofℤ, ofℕ, ofℕ-zero,
 use Rattle.algebra.specs.Residues.{Zmod, rep, res, rep-res, ofℤ-pos, ofℤ-negsuc}
 use Rattle.algebra.specs.Negacyclic as N
 use Rattle.algebra.specs.Negacyclic.{negacyclic, coef, poly, ext, coef-poly, coef-poly-any, turn, X^}
+use Rattle.algebra.specs.Scalars.{coef-ofℕ}
 use Rattle.algebra.specs.Inner as I
 use Rattle.protocol.specs.Basic as B
 use Rattle.protocol.specs.Element.{Element, modulo, flips, around, rotate, product, one, power, plus, times, residue, reduced}
@@ -59,25 +62,12 @@ module _ (K : CommRing) (d : ℕ) (p : 0 < d) where
   -- ---- a number times an element
 
   coef-scale : (z : ℤ) (x : E) (k : ℕ) → coef K d p (ofℤ KX z ⊠ x) k ≡ ofℤ K z ⊗ coef K d p x k
-  coef-scale z x k = go z
-    where
-      up : (n : ℕ) → coef K d p (ofℕ KX n ⊠ x) k ≡ ofℕ K n ⊗ coef K d p x k
-      up zero = ap (λ t. coef K d p (t ⊠ x) k) (ofℕ-zero KX) ∙ ap (λ t. coef K d p t k) (R.zero-mul KX x) ∙ N.coef-zero K d p k ∙ sym (ap (λ t. t ⊗ coef K d p x k) (ofℕ-zero K) ∙ R.zero-mul K _)
-      up (suc n) =
-          ap (λ t. coef K d p (t ⊠ x) k) (ofℕ-suc KX n)
-          ∙ ap (λ t. coef K d p t k) (R.add-mul KX _ _ x ∙ ap (λ t. ofℕ KX n ⊠ x ⊞ t) (R.one-mul KX x))
-          ∙ N.coef-add K d p _ _ k
-          ∙ ap (λ t. t ⊕ coef K d p x k) (up n)
-          ∙ sym (ap (λ t. t ⊗ coef K d p x k) (ofℕ-suc K n) ∙ R.add-mul K _ _ _ ∙ ap (λ t. ofℕ K n ⊗ coef K d p x k ⊕ t) (R.one-mul K _))
-
-      go : (z : ℤ) → coef K d p (ofℤ KX z ⊠ x) k ≡ ofℤ K z ⊗ coef K d p x k
-      go (pos n) = up n
-      go (negsuc n) =
-          ap (λ t. coef K d p (t ⊠ x) k) (on-neg (fromℤ KX) (pos (suc n)))
-          ∙ ap (λ t. coef K d p t k) (R.neg-mul KX _ x)
-          ∙ N.coef-neg K d p _ k
-          ∙ ap ⊖_ (up (suc n))
-          ∙ sym (ap (λ t. t ⊗ coef K d p x k) (on-neg (fromℤ K) (pos (suc n))) ∙ R.neg-mul K _ _)
+  coef-scale (pos n) x k = coef-ofℕ K d p n x k
+  coef-scale (negsuc n) x k =
+      ap (λ t. coef K d p t k) (ap (λ t. t ⊠ x) (on-neg (fromℤ KX) (pos (suc n))) ∙ R.neg-mul KX _ x)
+      ∙ N.coef-neg K d p _ k
+      ∙ ap ⊖_ (coef-ofℕ K d p (suc n) x k)
+      ∙ sym (ap (λ t. t ⊗ coef K d p x k) (on-neg (fromℤ K) (pos (suc n))) ∙ R.neg-mul K _ _)
 
   pub read-times : (z : ℤ) (a : Element) → read (times z a) ≡ ofℤ KX z ⊠ read a
   unfolding times
@@ -143,6 +133,10 @@ module _ (d : ℕ) (p : 0 < d) where
 
 -- ---- over ℤ/q
 
+pub reduced-at : (q d : ℕ) (a : Element) (k : ℕ) → k < d → getD (reduced q d a) k 0 ≡ modulo q (a k)
+unfolding reduced
+reduced-at q d a k l = tabulate-at d (λ k. modulo q (a k)) 0 k l
+
 module _ (q : ℕ) (pq : 0 < q) where
   pub modulo-lt : (z : ℤ) → modulo q z < q
   unfolding modulo
@@ -176,6 +170,14 @@ module _ (q : ℕ) (pq : 0 < q) where
     pub readq-modulo : (a : Element) {b : Element} → ((k : ℕ) → k < d → b k ≡ pos (modulo q (a k))) → readq b ≡ readq a
     readq-modulo a {b} e = readq-ext b a (λ k l. ap (modulo q) (e k l) ∙ modulo-residue (modulo q (a k)) (modulo-lt (a k)))
 
+    -- a list of residues is a, reduced, exactly when its first d entries are a's places modulo q
+    pub readq-entries : (a : Element) (l : List ℕ) → ((k : ℕ) → k < d → getD l k 0 ≡ modulo q (a k)) → readq (residue l) ≡ readq a
+    unfolding residue
+    readq-entries a l e = readq-modulo a (λ k h. ap pos (e k h))
+
+    pub entries-readq : (a : Element) (l : List ℕ) → ((k : ℕ) → k < d → getD l k 0 < q) → readq (residue l) ≡ readq a → (k : ℕ) → k < d → getD l k 0 ≡ modulo q (a k)
+    unfolding residue
+    entries-readq a l r e k h = sym (modulo-residue (getD l k 0) (r k h)) ∙ readq-inj (residue l) a e k h
+
     pub readq-reduced : (a : Element) → readq (residue (reduced q d a)) ≡ readq a
-    unfolding residue reduced
-    readq-reduced a = readq-modulo a (λ k l. ap pos (tabulate-at d (λ k. modulo q (a k)) 0 k l))
+    readq-reduced a = readq-entries a (reduced q d a) (reduced-at q d a)

@@ -2,7 +2,7 @@
 --   Folds K d p h e m m′   in the ring over K, the first h elements of m′ are m_i + X^e·m_(h+i)
 use mathlib.Core.Path.{_≡_, refl, sym, ap, _∙_, subst}
 use mathlib.Core.List.{List, _++_}
-use Prim.Native.Nat.{ℕ, zero, suc, _+_, _*_, _-_, _/_, _^_, _<_, _≤_}
+use Prim.Native.Nat.{ℕ, zero, suc, _+_, _*_, _-_, _/_, _%_, _^_, _<_, _≤_}
 use native.Mathlib.Nat as Nat
 use native.Mathlib.Decide.{decLt}
 use native.Mathlib.Numerals.{add-one}
@@ -17,8 +17,8 @@ use Rattle.protocol.specs.declared.Settings.{Settings}
 use Rattle.protocol.specs.Basic.{flat}
 use Rattle.protocol.specs.Element.{Element, modulo, rotate, plus, signedAt, residueAt}
 use Rattle.protocol.specs.Settings.{size, cells}
-use Rattle.protocol.specs.Opening.{foldSigned, foldResidues, left, halfLeft, foldMessage, foldKey, messageAfter, keyAfter}
-use Rattle.protocol.proofs.Reading.{flat-length, flat-front, store-behind, tabulate-at}
+use Rattle.protocol.specs.Opening.{foldSigned, foldResidues, left, halfLeft, foldMessage, foldKey, messageAfter, keyAfter, roundElement, roundTable}
+use Rattle.protocol.proofs.Reading.{flat-length, flat-at, flat-front, store-behind, tabulate-at}
 use Rattle.claims.proofs.Readings.{read, read-ext, read-plus, read-rotate, readq-modulo, modulo-lt}
 
 -- ---- one fold
@@ -35,7 +35,7 @@ module _ (K : CommRing) (d : ℕ) (p : 0 < d) where
   unfolding folded
   read-folded h e m i = read-plus K d p (m i) (rotate d e (m (h + i))) ∙ ap (negacyclic K d p .add (read K d p (m i))) (read-rotate K d p e (m (h + i)))
 
-signed-fold : (d h e : ℕ) (m : List ℤ) (i k : ℕ) → i < h → k < d → signedAt d (foldSigned d h e m) i k ≡ folded d h e (signedAt d m) i k
+pub signed-fold : (d h e : ℕ) (m : List ℤ) (i k : ℕ) → i < h → k < d → signedAt d (foldSigned d h e m) i k ≡ folded d h e (signedAt d m) i k
 unfolding foldSigned signedAt folded plus
 signed-fold d h e m i k = flat-front d h _ _ (pos 0) i k
 
@@ -150,3 +150,15 @@ module _ (S : Settings) where
     pub key-below : 0 < q → (t : ℕ) (key : List ℕ) → ((j : ℕ) → getD key j 0 < q) → (j : ℕ) → getD (keyAfter S E t key) j 0 < q
     key-below pq zero key r j = unfold keyAfter in r j
     key-below pq (suc t) key r j = subst (λ G. getD G j 0 < q) (sym (key-suc E t key)) (residue-fold-below q d (halfLeft S t) (getD E t 0) _ pq (key-below pq t key r) j)
+
+  -- element 3t + j of the round elements is c_j of round t + 1
+  pub round-at : (E key : List ℕ) (message : List ℤ) (t j k : ℕ) → t < L → j < 3 → k < d
+      → getD (roundTable S E key message) ((3 * t + j) * d + k) 0 ≡ getD (roundElement S t (keyAfter S E t key) (messageAfter S E t message) j) k 0
+  unfolding roundTable
+  round-at E key message t j k lt lj lk = flat-at d (3 * L) _ 0 (3 * t + j) k (omega arith) lk ∙ (λ i. getD (roundElement S (round i) (keyAfter S E (round i) key) (messageAfter S E (round i) message) (which i)) k 0)
+    where
+      round : (3 * t + j) / 3 ≡ t
+      round = omega arith
+
+      which : (3 * t + j) % 3 ≡ j
+      which = omega arith
