@@ -9,3 +9,8 @@ pub mod Walk
 pub mod Agreement
 pub mod TreeCheck
 pub mod TreeKeys
+pub mod Divisors
+pub mod Weights
+pub mod Vectors
+pub mod Combination
+pub mod Extraction
