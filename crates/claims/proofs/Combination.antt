@@ -1,16 +1,21 @@
 -- One node of a tree over a commutative ring: what weights m₁, m₂, m₃ with Σ m = 4, Σ m·r = 0, Σ m·r² = 4 make of its claims, of inner products and of folds. Each step is a certificate of the solver.
 --   Balanced K m₁ m₂ m₃ r₁ r₂ r₃   the weights m have these sums at the challenges r
 use mathlib.Core.Path.{_≡_, sym, ap, ap₂, _∙_}
-use Prim.Native.Nat.{ℕ, _+_, _<_}
+use Prim.Native.Nat.{ℕ, suc, _^_}
+use native.Mathlib.Nat as Nat
 use lib.IntN.{pos}
 use Rattle.algebra.specs.Ring.{CommRing, two}
-use Rattle.algebra.specs.Integers.{ints}
-use Rattle.algebra.specs.Inner.{inner, inner-ext, add-inner, mul-inner, inner-add, inner-mul}
+use Rattle.algebra.specs.Integers.{ints, ofℕ, ofℕ-mul, ofℕ-two}
+use Rattle.algebra.specs.Inner.{inner, add-inner, mul-inner, inner-add, inner-mul}
 use Rattle.algebra.specs.Solver.{con, neg, _⊕_ as _:+_, _⊗_ as _:*_, _≐_, ring, Expr}
 use Rattle.algebra.specs.Certificate.{_·⟨_⟩_, _⇐_, done, combine}
 
 abbrev twoE : Expr
 twoE = con (pos 2)
+
+-- 4^(h+1) in a ring
+pub four-power : (K : CommRing) (h : ℕ) → ofℕ K (4 ^ suc h) ≡ K .mul (ofℕ K (4 ^ h)) (K .mul (two K) (two K))
+four-power K h = ap (ofℕ K) (Nat.pow-suc 4 h) ∙ ofℕ-mul K (4 ^ h) 4 ∙ ap (K .mul (ofℕ K (4 ^ h))) (ofℕ-mul K 2 2 ∙ λ i. K .mul (ofℕ-two K i) (ofℕ-two K i))
 
 module _ (K : CommRing) where
   open CommRing K using (C, 0#, 1#, add as _⊕_, mul as _⊗_)

@@ -13,7 +13,7 @@ use lib.Pow as Pow
 use lib.IntN.{ℤ, pos}
 use Rattle.algebra.specs.Ring as R
 use Rattle.algebra.specs.Ring.{CommRing, two}
-use Rattle.algebra.specs.Integers.{fromℤ, ofℕ, ofℕ-mul, ofℕ-two}
+use Rattle.algebra.specs.Integers.{fromℤ, ofℕ, ofℕ-two}
 use Rattle.algebra.specs.Residues.{Zmod}
 use Rattle.algebra.specs.Cancel.{cancels-Zmod}
 use Rattle.algebra.specs.Negacyclic.{negacyclic}
@@ -35,7 +35,7 @@ use Rattle.claims.proofs.Checks.{Q, readS, X^S, two-half, half-power-su
 use Rattle.claims.proofs.Numbering.{AtDepth, root-depth, child-depth}
 use Rattle.claims.proofs.Paths.{depth-branching, halfLeft-height}
 use Rattle.claims.proofs.Weights.{Triple, balanced}
-use Rattle.claims.proofs.Combination.{inner-mixed, climb}
+use Rattle.claims.proofs.Combination.{four-power, inner-mixed, climb}
 use Rattle.claims.proofs.Vectors.{vec, vec-leaf, vec-low, vec-high, e^, μ₁, μ₂, μ₃}
 use Rattle.claims.proofs.TreeCheck.{tree-split, every-path-tree}
 
@@ -118,7 +118,7 @@ module _ (S : Settings) (p : 0 < S .degree) (pq : 0 < S .modulus) (rounds E : Li
     node-opened : (D : ℕ) → 2 ^ D ≡ d → q % 2 ≡ 1 → Triple d (challenge E k 0) (challenge E k 1) (challenge E k 2) → (claim : List ℕ) → nodeHolds S rounds k claim ≡ true
         → ((j : ℕ) → j < 3 → Opened h (child k j) (suc t) (claimTo S rounds E k j) (foldKey S t (challenge E k j) key)) → Opened (suc h) k t claim key
     node-opened D power odd T claim a o =
-        ap (λ x. x ⊗ rd (residue claim)) (ap (ofℕ RQ) (Nat.pow-suc 4 h) ∙ ofℕ-mul RQ (4 ^ h) 4 ∙ ap (λ x. ofℕ RQ (4 ^ h) ⊗ x) (ofℕ-mul RQ 2 2 ∙ λ i. ofℕ-two RQ i ⊗ ofℕ-two RQ i))
+        ap (λ x. x ⊗ rd (residue claim)) (four-power RQ h)
         ∙ climb RQ (balanced K d p (cancels-Zmod q pq odd) D power T) _ _ _ _ _ _ _ _ _ _ (node-round claim a)
         (child-opened 0 (o 0 (omega arith))) (child-opened 1 (o 1 (omega arith))) (child-opened 2 (o 2 (omega arith)))
         (ap (λ x. x ⊗ ofℕ RQ (half S)) (sym (ofℕ-two RQ)) ∙ two-half S p pq odd)

@@ -1,8 +1,9 @@
 -- The vector of a node: how long it is, what its two halves are place by place, and what they are in the ring of degree d over a ring K.
-use mathlib.Core.Path.{_≡_, refl, sym, ap, ap₂, _∙_}
+use mathlib.Core.Path.{_≡_, refl, sym, ap, ap₂, _∙_, subst}
 use mathlib.Core.List.{List, _++_}
 use Prim.Native.Nat.{ℕ, zero, suc, _+_, _*_, _-_, _^_, _<_}
 use native.Mathlib.Nat as Nat
+use native.Mathlib.Decide.{decLt}
 use native.Mathlib.Omega.{arith}
 use lib.ListN.{length, getD, length-append}
 use lib.Seq.{getD-append-add}
@@ -16,6 +17,10 @@ use Rattle.protocol.specs.Tree.{child, challenge, share, joined, combined, node
 use Rattle.protocol.proofs.Reading.{tabulate-length, flat-length, flat-at, flat-front}
 use Rattle.claims.proofs.Readings.{read, read-ext, read-plus, read-rotate, read-product}
 use Rattle.claims.proofs.Weights.{weight}
+
+-- what holds of the places below n and of those n further on holds below 2·n
+pub halves : (P : ℕ → Type 0) (n : ℕ) → ((i : ℕ) → i < n → P i) → ((i : ℕ) → i < n → P (n + i)) → (i : ℕ) → i < n + n → P i
+halves P n low high i l = elim (decLt i n) [ yes h ↦ low i h | no h ↦ subst P (omega arith) (high (i - n) (omega arith)) ]
 
 -- ---- one flat table behind another
 
