@@ -2,3 +2,6 @@ pub mod Tests
 pub mod Reading
 pub mod Rotation
 pub mod Acceptance
+pub mod Compute
+pub mod Examples
+pub mod Known
