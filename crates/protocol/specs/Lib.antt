@@ -7,3 +7,4 @@ pub mod Session
 pub mod Tree
 pub mod Judge
 pub mod Calls
+pub mod Inputs
