@@ -3,3 +3,4 @@ pub mod Element
 pub mod Settings
 pub mod Opening
 pub mod Transcript
+pub mod Text
