@@ -4,3 +4,5 @@ pub mod Settings
 pub mod Opening
 pub mod Transcript
 pub mod Text
+pub mod Programs
+pub mod RoundTrip

@@ -36,7 +36,7 @@
 --   entriesRefusal                 refusals 8, 9 and 10, which reader and writer share
 --   textRefusal, readRefusal       the reader's refusals, for a text alone and with the lent tables
 --   readAnswer, readExit           the reader's answer, and the six tables as it leaves them
---   outputRefusal, writeRefusal    the writer's last refusals, and all of them
+--   outputRefusal, writeRefusal    the writer's last refusals, and all of them, for an output slice of `room` bytes
 --   written, overwritten           an answer and an output slice, for a refusal and a text
 --   writeAnswer, writeExit         the writer's answer, and its output slice as it leaves it
 --   Reading, reading r             document 01's number and values for each case of the number reader's answer
@@ -388,17 +388,17 @@ unfoldable pub readExit : Parts → List ℕ → Tables → Tables
 readExit P text t = granted (readRefusal P text t) (tablesIn (linesOf text)) t
 
 -- "it tests the length of its text last, by 1, and then the output slice, by 7"
-unfoldable pub outputRefusal : List ℕ → List ℕ → ℕ
-outputRefusal text out = first (unless 1 (leb (length text) textLimit) ∷ unless 7 (leb (length text) (length out)) ∷ [])
+unfoldable pub outputRefusal : List ℕ → ℕ → ℕ
+outputRefusal text room = first (unless 1 (leb (length text) textLimit) ∷ unless 7 (leb (length text) room) ∷ [])
 
 -- "in the writer, a final coefficient of −2,147,483,648": the one signed 32-bit number past the limit
-unfoldable pub writeRefusal : Settings → Parts → Tables → List ℕ → ℕ
-writeRefusal S P t out =
+unfoldable pub writeRefusal : Settings → Parts → Tables → ℕ → ℕ
+writeRefusal S P t room =
     first
     (settingsRefusal S
     ∷ unless 7 (fits S P t)
     ∷ entriesRefusal S (all (within valueLimit) (t .last)) t
-    ∷ outputRefusal (textOf S P t) out
+    ∷ outputRefusal (textOf S P t) room
     ∷ [])
 
 -- "The writer returns its text's length"
@@ -410,10 +410,10 @@ unfoldable pub overwritten : ℕ → List ℕ → List ℕ → List ℕ
 overwritten refusal text out = granted refusal (text ++ drop (length text) out) out
 
 unfoldable pub writeAnswer : Settings → Parts → Tables → List ℕ → Written
-writeAnswer S P t out = written (writeRefusal S P t out) (textOf S P t)
+writeAnswer S P t out = written (writeRefusal S P t (length out)) (textOf S P t)
 
 unfoldable pub writeExit : Settings → Parts → Tables → List ℕ → List ℕ
-writeExit S P t out = overwritten (writeRefusal S P t out) (textOf S P t) out
+writeExit S P t out = overwritten (writeRefusal S P t (length out)) (textOf S P t) out
 
 pub record Reading : Type 0 where
   pub number : ℕ

@@ -1,0 +1,2 @@
+pub mod ComputeText
+pub mod KnownTexts
