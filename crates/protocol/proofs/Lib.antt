@@ -6,3 +6,5 @@ pub mod Inputs
 pub mod Compute
 pub mod Examples
 pub mod Known
+pub mod ComputeText
+pub mod KnownTexts

@@ -8,3 +8,6 @@ pub mod Tree
 pub mod Judge
 pub mod Calls
 pub mod Inputs
+pub mod Text
+pub mod Programs
+pub mod RoundTrip
