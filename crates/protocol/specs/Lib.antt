@@ -11,3 +11,5 @@ pub mod Inputs
 pub mod Text
 pub mod Programs
 pub mod RoundTrip
+pub mod Promises
+pub mod Demand3
