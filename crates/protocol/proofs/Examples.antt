@@ -1,10 +1,14 @@
 -- Rows of worked examples: what the definitions give and what is wanted, both as lists of numbers, and a test that they agree.
 use mathlib.Core.Path.{_≡_, refl, ap, ap₂}
 use mathlib.Core.Bool.{Bool, true, false, _&&_, false≢true}
-use mathlib.Core.List.{List, [], _∷_}
+use mathlib.Core.List.{List, [], _∷_, _++_, map}
 use borrow.Author.Tests.{eqb-true}
 use lib.Dec.{eqb}
 use lib.IntN.{ℤ, pos, negsuc}
+use Rattle.protocol.specs.declared.Session.{Session}
+use Rattle.protocol.specs.declared.Moved.{Moved}
+use Rattle.protocol.specs.declared.Verdict.{Verdict}
+use Rattle.protocol.specs.declared.Verdict.the-variants.{Silent, Holds, Accepted, Rejected}
 use Rattle.protocol.specs.Basic.{choose}
 use Rattle.protocol.specs.Transcript.{Cause}
 use Rattle.protocol.proofs.Tests.{and-split}
@@ -39,9 +43,28 @@ causeNumber (Cause.round i) = pos i ∷ []
 causeNumber Cause.bound = pos 100 ∷ []
 causeNumber Cause.equation = pos 101 ∷ []
 
--- whoever unfolds `agreeing` unfolds these tests
+-- a verdict as a number: 0 silent, 1 holds, 2 accepted, 3 rejected
+unfoldable pub verdictNumber : Verdict → ℤ
+verdictNumber Silent = pos 0
+verdictNumber Holds = pos 1
+verdictNumber Accepted = pos 2
+verdictNumber Rejected = pos 3
+
+-- a record as numbers: settings, rounds done, closed, the challenges, and the claim's places
+unfoldable pub recordNumbers : Session → List ℤ
+recordNumbers r =
+    map pos (r .settings .degree ∷ r .settings .depth ∷ r .settings .modulus ∷ r .settings .bound ∷ r .done ∷ [])
+    ++ asNumber (r .closed)
+    ++ map pos (r .challenges)
+    ++ map pos (r .claim)
+
+-- a move's answer as numbers: the refusal, the verdict, the record
+unfoldable pub moveNumbers : Moved → List ℤ
+moveNumbers m = pos (m .number) ∷ verdictNumber (m .verdict) ∷ recordNumbers (m .next)
+
+-- whoever unfolds `agreeing` unfolds these definitions
 unfoldable pub agreeing : Unit {0}
-unfolding sameNumber sameNumbers agree asNumber causeNumber
+unfolding sameNumber sameNumbers agree asNumber causeNumber verdictNumber recordNumbers moveNumbers
 agreeing = tt
 
 -- ---- what the test says: a row that agrees is an equation

@@ -6,5 +6,6 @@ pub mod Inputs
 pub mod Compute
 pub mod Examples
 pub mod Known
+pub mod Traps
 pub mod ComputeText
 pub mod KnownTexts

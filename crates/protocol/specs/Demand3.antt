@@ -32,7 +32,7 @@ use Rattle.protocol.specs.declared.Verdict.{Verdict}
 use Rattle.protocol.specs.declared.Verdict.the-variants as Says
 use Rattle.protocol.specs.Inputs.{Valid, Below, Within}
 use Rattle.protocol.specs.Settings.{cells}
-use Rattle.protocol.specs.Transcript.{Transcript, Accepted}
+use Rattle.protocol.specs.Transcript.{Accepted}
 use Rattle.protocol.specs.Session as Verifier
 use Rattle.protocol.specs.Tree.{nodes, leaves, challenge, path, foldTo, leaf, rootVector, growth, growthLimit}
 use Rattle.protocol.specs.Judge.{slack, Opens}
