@@ -5,3 +5,4 @@ pub mod Checks
 pub mod Bounds
 pub mod Claims
 pub mod Completeness
+pub mod Honest
