@@ -1,6 +1,6 @@
 -- The combinations of three values by which a quadratic polynomial is taken apart. Rests on Cancel and Certificate.
--- At three points a, b, c of a ring, with s's that undo their differences up to 2, s(a,b) (a − b) = 2 for each of the six pairs, the three weights are μ_a = s(a,b) s(a,c) (1 + b c) and so on.
---   mu s t x y    s t (1 + x y): the weight of a point with the others at x and y
+-- At three points a, b, c of a ring, with s's that undo their differences up to 2, s(a,b) (a − b) = 2 for each of the six pairs, the three factors are μ_a = s(a,b) s(a,c) (1 + b c) and so on.
+--   mu s t x y    s t (1 + x y): the factor of a point with the others at x and y
 use mathlib.Core.Path.{_≡_, ap, ap₂, _∙_}
 use lib.IntN.{pos}
 use Rattle.algebra.specs.Ring.{CommRing, two}
@@ -36,7 +36,7 @@ module _ (K : CommRing) where
     swap : (s t x y : C) → s ⊗ (x ⊕ ⊖ y) ≡ two K → t ⊗ (y ⊕ ⊖ x) ≡ two K → t ≡ ⊖ s
     swap s t x y e f = two-unique K cancel t (⊖ s) (y ⊕ ⊖ x) f (ring K (ints K) 3 (λ s x y. neg s :* (y :+ neg x) ≐ s :* (x :+ neg y)) tt s x y ∙ e)
 
-    -- twice a combination of the weights, in three of the s's
+    -- twice a combination by the factors, in three of the s's
     twice : (f g h : C) → two K ⊗ (mu ab ac b c ⊗ f ⊕ mu ba bc a c ⊗ g ⊕ mu ca cb a b ⊗ h)
         ≡ ab ⊗ ac ⊗ bc ⊗ ((1# ⊕ b ⊗ c) ⊗ (b ⊕ ⊖ c) ⊗ f ⊕ ⊖ ((1# ⊕ a ⊗ c) ⊗ (a ⊕ ⊖ c) ⊗ g) ⊕ (1# ⊕ a ⊗ b) ⊗ (a ⊕ ⊖ b) ⊗ h)
     unfolding two
@@ -65,7 +65,7 @@ module _ (K : CommRing) where
     pub mu-quad : mu ab ac b c ⊗ (a ⊗ a) ⊕ mu ba bc a c ⊗ (b ⊗ b) ⊕ mu ca cb a b ⊗ (c ⊗ c) ≡ two K ⊗ two K
     mu-quad = cancel _ _ (twice (a ⊗ a) (b ⊗ b) (c ⊗ c) ∙ ring K (ints K) 4 (λ s a b c. s :* bracket a b c (a :* a) (b :* b) (c :* c) ≐ s :* differences a b c) tt _ a b c ∙ eight)
 
-  -- what weights with these three properties take out of A + x B + x² D
+  -- what factors with these three properties take out of A + x B + x² D
   pub taken : (m n o a b c A B D f : C) → m ⊕ n ⊕ o ≡ f → m ⊗ a ⊕ n ⊗ b ⊕ o ⊗ c ≡ 0# → m ⊗ (a ⊗ a) ⊕ n ⊗ (b ⊗ b) ⊕ o ⊗ (c ⊗ c) ≡ f
       → m ⊗ (A ⊕ a ⊗ B ⊕ a ⊗ a ⊗ D) ⊕ n ⊗ (A ⊕ b ⊗ B ⊕ b ⊗ b ⊗ D) ⊕ o ⊗ (A ⊕ c ⊗ B ⊕ c ⊗ c ⊗ D) ≡ f ⊗ (A ⊕ D)
   taken = combine K (ints K) 10 (λ m n o a b c A B D f.

@@ -1,8 +1,8 @@
 -- How many steps of size k come half way round the circle of the 2 d exponents of X. Natural numbers only.
---   least n f     the first i below n where f holds, and n where there is none
---   steps d k     the first i ≥ 1 with k i = d modulo 2 d; it is at most d where d is a power of two and 0 < k < 2 d
---   Halfway d k m m is that number: k m = d modulo 2 d, and no smaller number has that
---   gap d a b     how far exponent b lies ahead of exponent a on the circle
+--   least n f       the first i below n where f holds, and n where there is none
+--   steps d k       the first i below d with k i = d modulo 2 d, and d where there is none; where d is a power of two and 0 < k < 2 d, it is the first i of all
+--   Halfway d k m   m is the first i of all: k m = d modulo 2 d, and no smaller number has that
+--   gap d a b       how far exponent b lies ahead of exponent a on the circle
 use mathlib.Core.Path.{_≡_, refl, sym, ap, _∙_, subst}
 use mathlib.Core.Logic.{_≢_}
 use mathlib.Core.Bool.{Bool, true, false}
