@@ -1,8 +1,11 @@
 pub mod Readings
 pub mod Tables
+pub mod Ranges
 pub mod Checks
 pub mod Bounds
+pub mod Claims
 pub mod Completeness
+pub mod Honest
 pub mod Numbering
 pub mod Paths
 pub mod Walk
