@@ -17,5 +17,4 @@ pub mod Weights
 pub mod Vectors
 pub mod Combination
 pub mod Extraction
-pub mod Challenges
 pub mod Exactness

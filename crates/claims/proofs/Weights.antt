@@ -3,14 +3,18 @@
 --   weight K d p ..   μ of X^a, the others being X^b and X^c
 use mathlib.Core.Path.{_≡_, sym, ap, ap₂, _∙_}
 use mathlib.Core.Logic.{_≢_}
+use mathlib.Core.List.{List}
 use Prim.Native.Nat.{ℕ, _+_, _*_, _^_, _<_}
+use native.Mathlib.Omega.{arith}
 use lib.IntN.{pos}
 use Rattle.algebra.specs.Ring.{CommRing, two}
 use Rattle.algebra.specs.Negacyclic.{negacyclic, X^, X^-add}
 use Rattle.algebra.specs.Cancel.{Cancels, cancels-negacyclic}
 use Rattle.algebra.specs.Mu as M
+use Rattle.protocol.specs.declared.Settings.{Settings}
 use Rattle.protocol.specs.Element.{Element, one, power, product, plus, signed, coefficients}
-use Rattle.protocol.specs.Tree.{s, mu, Divisor}
+use Rattle.protocol.specs.Tree.{s, mu, challenge, nodes, Divisor}
+use Rattle.protocol.specs.Inputs.{Below}
 use Rattle.protocol.proofs.Reading.{tabulate-at}
 use Rattle.claims.proofs.Readings.{read, read-ext, read-plus, read-one, read-power, read-product}
 use Rattle.claims.proofs.Divisors.{read-divides, divisor}
@@ -23,6 +27,20 @@ pub record Triple (d a b c : ℕ) : Type 0 where
   pub a≢b : a ≢ b
   pub a≢c : a ≢ c
   pub b≢c : b ≢ c
+
+-- those of a node, from what is asked of the challenges of a tree
+pub node-triple : (S : Settings) (E : List ℕ) → Below (2 * S .degree) (3 * nodes S) E
+    → ((k : ℕ) → k < nodes S → (challenge E k 0 ≢ challenge E k 1) × (challenge E k 0 ≢ challenge E k 2) × (challenge E k 1 ≢ challenge E k 2))
+    → (k : ℕ) → k < nodes S → Triple (S .degree) (challenge E k 0) (challenge E k 1) (challenge E k 2)
+unfolding challenge
+node-triple S E b different k l = record {
+  small-a = b .each (3 * k + 0) (omega arith);
+  small-b = b .each (3 * k + 1) (omega arith);
+  small-c = b .each (3 * k + 2) (omega arith);
+  a≢b = different k l .0;
+  a≢c = different k l .1;
+  b≢c = different k l .2;
+}
 
 -- the list of an element's coefficients is that element
 pub signed-coefficients : (d : ℕ) (x : Element) (k : ℕ) → k < d → signed (coefficients d x) k ≡ x k
