@@ -18,3 +18,5 @@ pub mod Vectors
 pub mod Combination
 pub mod Extraction
 pub mod Exactness
+pub mod Norms
+pub mod Growth

@@ -22,6 +22,11 @@ use Rattle.claims.proofs.Weights.{weight}
 pub halves : (P : ℕ → Type 0) (n : ℕ) → ((i : ℕ) → i < n → P i) → ((i : ℕ) → i < n → P (n + i)) → (i : ℕ) → i < n + n → P i
 halves P n low high i l = elim (decLt i n) [ yes h ↦ low i h | no h ↦ subst P (omega arith) (high (i - n) (omega arith)) ]
 
+-- element 0 of a list
+pub signed-first : (d : ℕ) (l : List ℤ) (k : ℕ) → signedAt d l 0 k ≡ signed l k
+unfolding signedAt signed
+signed-first d l k = ap (λ j. getD l j (pos 0)) (omega arith)
+
 -- ---- one flat table behind another
 
 module _ (d n : ℕ) (F G : ℕ → ℕ → ℤ) where
@@ -97,8 +102,8 @@ module _ (S : Settings) (E : List ℕ) (finals : List ℤ) where
     vec h k i = read K (S .degree) p (signedAt (S .degree) (vector S E finals h k) i)
 
     pub vec-leaf : (k : ℕ) → vec 0 k 0 ≡ read K (S .degree) p (signed (leaf S finals (k - nodes S)))
-    unfolding vector signedAt signed
-    vec-leaf k = read-ext K (S .degree) p (λ i _. ap (λ j. getD (leaf S finals (k - nodes S)) j (pos 0)) (omega arith))
+    unfolding vector
+    vec-leaf k = read-ext K (S .degree) p (λ i _. signed-first (S .degree) (leaf S finals (k - nodes S)) i)
 
     -- challenge j of node k, and the three weights
     abbrev pub e^ : ℕ → ℕ → negacyclic K (S .degree) p .C
