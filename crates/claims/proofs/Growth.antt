@@ -1,6 +1,6 @@
 -- How large the numbers of the extractor become: at a node h steps above the leaves its vector is within (6·d²)^h·n·B, at the root within (12·d²)^L·B; and no sum on the way to it is larger than that.
 --   heightBound S h   (6·d²)^h·n·B
-use mathlib.Core.Path.{_≡_, refl, sym, ap, _∙_, subst, subst₂}
+use mathlib.Core.Path.{_≡_, sym, ap, _∙_, subst, subst₂}
 use mathlib.Core.List.{List}
 use Prim.Native.Nat.{ℕ, zero, suc, _+_, _*_, _-_, _/_, _%_, _^_, _<_, _≤_}
 use native.Mathlib.Nat as Nat
@@ -13,13 +13,16 @@ use Rattle.protocol.specs.Element.{Element, rotate, plus, signed, signedAt}
 use Rattle.protocol.specs.Settings.{size, cells}
 use Rattle.protocol.specs.Tree.{child, challenge, mu, share, joined, combined, nodes, leaves, leaf, vector, rootVector, growthFactor, growth}
 use Rattle.protocol.specs.Inputs.{Within}
-use Rattle.claims.proofs.Bounds.{Bounded, rotate-bounded, plus-bounded}
+use Rattle.claims.proofs.Bounds.{Bounded, rotate-bounded}
 use Rattle.claims.proofs.Numbering.{AtDepth, root-depth, child-depth}
 use Rattle.claims.proofs.Paths.{depth-leaf}
 use Rattle.claims.proofs.Vectors.{halves, signed-first, joined-low, joined-high, vector-length}
 use Rattle.claims.proofs.Norms.{running, running-bounded, product-bounded, weight-mu}
 
 -- ---- the bound at a height
+
+pub square : (d : ℕ) → d ^ 2 ≡ d * d
+square d = rw (Nat.pow-suc d 1, Nat.pow-suc d 0, Nat.pow-zero d) (omega arith)
 
 mul-power : (x y h : ℕ) → x ^ h * y ^ h ≡ (x * y) ^ h
 mul-power x y zero = simp Nat.pow-zero
@@ -45,7 +48,7 @@ module _ (S : Settings) where
   heightBound-root = sym (Nat.mul-assoc ((d * d * 6) ^ L) (2 ^ L) B) ∙ ap (λ n. n * B) (mul-power (d * d * 6) 2 L ∙ ap (λ n. n ^ L) factor)
     where
       factor : d * d * 6 * 2 ≡ 12 * d ^ 2
-      factor = rw (Nat.pow-suc d 1, Nat.pow-suc d 0, Nat.pow-zero d) (omega arith)
+      factor = omega (arith, square d)
 
   pub heightBound-le : 0 < d → (h : ℕ) → h ≤ L → heightBound h ≤ growth S
   heightBound-le p h l = subst (λ n. heightBound h ≤ n) heightBound-root (unfold heightBound in Nat.mul-le-mul-right (size S * B) (Nat.pow-le-pow-right (Nat.mul-pos (Nat.mul-pos p p) (omega arith)) l))

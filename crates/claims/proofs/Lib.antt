@@ -20,3 +20,4 @@ pub mod Extraction
 pub mod Exactness
 pub mod Norms
 pub mod Growth
+pub mod GrowthTest

@@ -5,17 +5,16 @@ use mathlib.Core.Path.{_≡_, refl, sym, ap, ap₂, _∙_, subst}
 use Prim.Native.Nat.{ℕ, zero, suc, _+_, _*_, _-_, _<_, _≤_}
 use native.Mathlib.Nat as Nat
 use native.Mathlib.Omega.{arith}
-use lib.IntN.{ℤ, pos, natAbs, _+ℤ_, _*ℤ_}
+use lib.IntN.{ℤ, natAbs, _*ℤ_}
 use Rattle.algebra.specs.Integers.{ℤ-ring}
 use Rattle.algebra.specs.Magnitude.{natAbs-add, natAbs-mul, weight, weight-ext, weight-at, weight-add}
-use Rattle.algebra.specs.Negacyclic.{negacyclic, coef, X^}
 use Rattle.algebra.specs.Norm as N
 use Rattle.algebra.specs.Divisor as A
 use Rattle.protocol.specs.Basic.{sum}
 use Rattle.protocol.specs.Element.{Element, one, power, rotate, product, plus, signed}
 use Rattle.protocol.specs.Tree.{gap, steps, s, mu}
 use Rattle.protocol.proofs.Tests.{least-first}
-use Rattle.claims.proofs.Readings.{readℤ, coef-readℤ, read-plus, read-one, read-power, read-product}
+use Rattle.claims.proofs.Readings.{readℤ, coef-readℤ, read-one, read-power, read-product}
 use Rattle.claims.proofs.Bounds.{Bounded, rotate-bounded, plus-bounded}
 use Rattle.claims.proofs.Divisors.{read-s}
 use Rattle.claims.proofs.Weights.{signed-coefficients}

@@ -1,5 +1,5 @@
 -- The vector of a node: how long it is, what its two halves are place by place, and what they are in the ring of degree d over a ring K.
-use mathlib.Core.Path.{_≡_, refl, sym, ap, ap₂, _∙_, subst}
+use mathlib.Core.Path.{_≡_, sym, ap, ap₂, _∙_, subst}
 use mathlib.Core.List.{List, _++_}
 use Prim.Native.Nat.{ℕ, zero, suc, _+_, _*_, _-_, _^_, _<_}
 use native.Mathlib.Nat as Nat
@@ -7,7 +7,7 @@ use native.Mathlib.Decide.{decLt}
 use native.Mathlib.Omega.{arith}
 use lib.ListN.{length, getD, length-append}
 use lib.Seq.{getD-append-add}
-use lib.IntN.{ℤ, pos, _+ℤ_}
+use lib.IntN.{ℤ, pos}
 use Rattle.algebra.specs.Ring.{CommRing}
 use Rattle.algebra.specs.Negacyclic.{negacyclic, X^}
 use Rattle.protocol.specs.declared.Settings.{Settings}
