@@ -273,9 +273,9 @@ readLine bs = do
   rest ← byte lineFeed behindValue
   some (record { spot = record { part = part; item = item; place = place }; value = value }, rest)
 
--- a line has at least one byte, so as many turns as there are bytes reach the end
+-- a line has at least one byte, so more turns than there are bytes reach the end
 unfoldable pub readLines : ℕ → List ℕ → Option (List Line)
-readLines zero bs = keep (eqb (length bs) 0) []
+readLines zero bs = none
 readLines (suc turns) [] = some []
 readLines (suc turns) (b ∷ bs) = do
   (l, rest) ← readLine (b ∷ bs)
