@@ -1,2 +1,3 @@
 pub mod ComputeText
 pub mod KnownTexts
+pub mod NumeralLaws
