@@ -21,3 +21,4 @@ pub mod Exactness
 pub mod Norms
 pub mod Growth
 pub mod GrowthTest
+pub mod Extractor
