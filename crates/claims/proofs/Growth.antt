@@ -57,6 +57,13 @@ module _ (S : Settings) where
   unfolding heightBound size
   heightBound-pos p b h = Nat.mul-pos (Nat.one-le-pow h (d * d * 6) (Nat.mul-pos (Nat.mul-pos p p) (omega arith))) (Nat.mul-pos (Nat.one-le-pow L 2 (omega arith)) b)
 
+  -- three shares, each within 2·d² times the bound of the children, and μ's own sums (Norms), stay within the root's bound
+  pub share-room : 0 < d → (h : ℕ) → h < L → 3 * (d * d * 2 * heightBound h) ≤ growth S
+  share-room p h l = omega (arith, heightBound-suc h, heightBound-le p (suc h) l)
+
+  pub mu-room : 0 < d → 0 < B → 0 < L → d * d * 2 ≤ growth S
+  mu-room p b l = omega (arith, share-room p 0 l, Nat.mul-le-mul-left (d * d * 2) (heightBound-pos p b 0))
+
 -- ---- a node's vector from those of its children
 
 three-add : (A : ℕ) (x y z : ℤ) → natAbs x ≤ A → natAbs y ≤ A → natAbs z ≤ A → natAbs (x +ℤ y +ℤ z) ≤ 3 * A
@@ -119,14 +126,6 @@ module _ (S : Settings) (p : 0 < S .degree) (E : List ℕ) (finals : List ℤ) (
   -- ---- the sums on the way to a node's vector
 
   module _ (h k t : ℕ) (e : suc (h + t) ≡ L) (a : AtDepth t k) (i x : ℕ) (li : i < 2 ^ h) (lx : x < d) where
-    -- the sum of three shares' bounds
-    pub share-room : 3 * (d * d * 2 * heightBound S h) ≤ growth S
-    share-room = omega (arith, heightBound-suc S h, heightBound-le S p (suc h) (omega arith))
-
-    -- and of μ's own sums, which Norms bounds by 2·d²
-    pub mu-room : 0 < B → d * d * 2 ≤ growth S
-    mu-room b = omega (arith, share-room, Nat.mul-le-mul-left (d * d * 2) (heightBound-pos S p b h))
-
     abbrev c : ℕ → ℕ
     c j = challenge E k j
 
@@ -155,4 +154,4 @@ module _ (S : Settings) (p : 0 < S .degree) (E : List ℕ) (finals : List ℤ) (
 
     pub node-three : (n₁ n₂ n₃ : ℕ) → n₁ ≤ d → n₂ ≤ d → n₃ ≤ d → natAbs (r₁ n₁ +ℤ r₂ n₂ +ℤ r₃ n₃) ≤ growth S
     node-three n₁ n₂ n₃ l₁ l₂ l₃ =
-        Nat.le-trans (three-add _ (r₁ n₁) (r₂ n₂) (r₃ n₃) (node-running 0 (omega arith) (c 0) (c 1) (c 2) n₁ l₁) (node-running 1 (omega arith) (c 1) (c 0) (c 2) n₂ l₂) (node-running 2 (omega arith) (c 2) (c 0) (c 1) n₃ l₃)) share-room
+        Nat.le-trans (three-add _ (r₁ n₁) (r₂ n₂) (r₃ n₃) (node-running 0 (omega arith) (c 0) (c 1) (c 2) n₁ l₁) (node-running 1 (omega arith) (c 1) (c 0) (c 2) n₂ l₂) (node-running 2 (omega arith) (c 2) (c 0) (c 1) n₃ l₃)) (share-room S p h (omega arith))
