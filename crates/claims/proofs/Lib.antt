@@ -5,3 +5,9 @@ pub mod Checks
 pub mod Bounds
 pub mod Claims
 pub mod Completeness
+pub mod Numbering
+pub mod Paths
+pub mod Walk
+pub mod Agreement
+pub mod TreeCheck
+pub mod TreeKeys
