@@ -11,3 +11,4 @@ pub mod Walk
 pub mod Agreement
 pub mod TreeCheck
 pub mod TreeKeys
+pub mod Refused
