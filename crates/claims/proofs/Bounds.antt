@@ -4,16 +4,18 @@ use mathlib.Core.List.{List}
 use Prim.Native.Nat.{ℕ, zero, suc, _+_, _*_, _-_, _/_, _%_, _^_, _<_, _≤_}
 use native.Mathlib.Nat as Nat
 use native.Mathlib.Omega.{arith}
-use lib.ListN.{getD}
+use lib.ListN.{getD, take}
+use lib.Seq.{length-take-le, getD-take}
 use lib.Pow as Pow
 use lib.IntN.{ℤ, pos, natAbs}
 use Rattle.algebra.specs.Magnitude.{natAbs-neg, natAbs-add}
 use Rattle.protocol.specs.declared.Settings.{Settings}
 use Rattle.protocol.specs.Element.{Element, flips, around, rotate, plus, signedAt}
 use Rattle.protocol.specs.Settings.{size, cells}
-use Rattle.protocol.specs.Opening.{halfLeft, messageAfter}
+use Rattle.protocol.specs.Opening.{left, halfLeft, messageAfter}
+use Rattle.protocol.specs.Inputs.{Within}
 use Rattle.protocol.proofs.Reading.{cell-inside}
-use Rattle.claims.proofs.Tables.{folded, signed-fold, message-suc, halfLeft-power, twice-power}
+use Rattle.claims.proofs.Tables.{folded, signed-fold, message-suc, message-length, left-inside, left-power, halfLeft-power, twice-power}
 
 -- the places of an element below d lie within B
 abbrev pub Bounded : ℕ → ℕ → Element → Type 0
@@ -62,3 +64,16 @@ module _ (S : Settings) (p : 0 < S .degree) (E : List ℕ) (message : List ℤ) 
   pub last-bound : Bounded d (size S * B) (m L 0)
   unfolding size
   last-bound = fold-bound L (Nat.le-refl L) 0 (Pow.pow-pos (L - L))
+
+-- the same of a table's numbers: "what is left is n/2^t elements, whose message coefficients must lie within ±2^t·B"
+pub left-within : (S : Settings) → 0 < S .degree → (E : List ℕ) (message : List ℤ) → Within (S .bound) (cells S) message → (t : ℕ) → t ≤ S .depth
+    → Within (2 ^ t * S .bound) (left S t * S .degree) (take (left S t * S .degree) (messageAfter S E t message))
+unfolding signedAt
+left-within S p E message w t l = record {
+  long = length-take-le (left S t * d) _ (omega (arith, message-length S E t message (w .long), left-inside S t));
+  each = λ j h. subst (λ z. natAbs z ≤ 2 ^ t * S .bound) (ap (λ n. getD (messageAfter S E t message) n (pos 0)) (Nat.div-add-mod' j d) ∙ sym (getD-take (left S t * d) (messageAfter S E t message) j (pos 0) h))
+      (fold-bound S p E message (w .each) t l (j / d) (subst (λ n. j / d < n) (left-power S t l) (Nat.div-lt-iff-lt-mul p .1 h)) (j % d) (Nat.mod-lt j p));
+}
+  where
+    d : ℕ
+    d = S .degree

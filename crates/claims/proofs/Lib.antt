@@ -5,6 +5,7 @@ pub mod Checks
 pub mod Bounds
 pub mod Claims
 pub mod Completeness
+pub mod Honest
 pub mod Numbering
 pub mod Paths
 pub mod Walk

@@ -4,11 +4,11 @@ use mathlib.Core.List.{List}
 use Prim.Native.Nat.{ℕ, zero, suc, _*_, _/_, _%_, _<_}
 use native.Mathlib.Decide.{decLt}
 use native.Mathlib.Omega.{arith}
-use lib.ListN.{length, getD, List·getD-eq-default}
+use lib.ListN.{length, getD, List·getD-eq-default, List·getD-append}
 use lib.IntN.{ℤ, pos}
 use Rattle.protocol.specs.declared.Settings.{Settings}
 use Rattle.protocol.specs.Basic.{flat}
-use Rattle.protocol.specs.Element.{Element, signed, signedAt, coefficients, reduced}
+use Rattle.protocol.specs.Element.{Element, signed, signedAt, coefficients, reduced, padded, paddedSigned}
 use Rattle.protocol.specs.Settings.{cells}
 use Rattle.protocol.specs.Opening.{commitment, roundElement, roundTable, messageAfter, keyAfter, finalElement}
 use Rattle.protocol.specs.Transcript.{Transcript, nextClaim, claimAfter}
@@ -26,6 +26,15 @@ below-everywhere m n t pm b j = elim (decLt j n) [
 pub reduced-below : (q : ℕ) → 0 < q → (d : ℕ) (a : Element) → Below q d (reduced q d a)
 unfolding reduced
 reduced-below q pq d a = record { long = tabulate-length d _; each = λ k l. subst (λ x. x < q) (sym (reduced-at q d a k l)) (modulo-lt q pq (a k)) }
+
+-- an element that is passed by value begins with its coefficients
+pub padded-at : (d : ℕ) (l : List ℕ) (k : ℕ) → k < length l → getD (padded d l) k 0 ≡ getD l k 0
+unfolding padded
+padded-at d l k h = List·getD-append l _ 0 k h
+
+pub padded-signed-at : (d : ℕ) (l : List ℤ) (k : ℕ) → k < length l → signed (paddedSigned d l) k ≡ signed l k
+unfolding paddedSigned signed
+padded-signed-at d l k h = List·getD-append l _ (pos 0) k h
 
 module _ (S : Settings) (pq : 0 < S .modulus) where
   open Settings S using (degree as d, depth as L, modulus as q)

@@ -18,6 +18,7 @@ use Rattle.algebra.specs.Integers.{ℤ-ring, fromℤ, ofℤ, ofℕ, ofℕ-zero,
 use Rattle.algebra.specs.Residues.{Zmod, rep, res, rep-res, ofℤ-pos, ofℤ-negsuc}
 use Rattle.algebra.specs.Negacyclic as N
 use Rattle.algebra.specs.Negacyclic.{negacyclic, coef, poly, ext, coef-poly, coef-poly-any, turn, X^}
+use Rattle.algebra.specs.Induced.{negacyclic-on, coef-on}
 use Rattle.algebra.specs.Scalars.{coef-ofℕ}
 use Rattle.algebra.specs.Inner as I
 use Rattle.protocol.specs.Basic as B
@@ -130,6 +131,10 @@ module _ (d : ℕ) (p : 0 < d) where
 
   pub readℤ-inj : (a b : Element) → readℤ a ≡ readℤ b → (k : ℕ) → k < d → a k ≡ b k
   readℤ-inj a b e k l = sym (coef-readℤ a k l) ∙ ap (λ x. coef ℤ-ring d p x k) e ∙ coef-readℤ b k l
+
+  -- reading over K is reading over the integers, and then the map of the rings
+  pub read-on : (K : CommRing) (a : Element) → negacyclic-on (fromℤ K) d p .on (readℤ a) ≡ read K d p a
+  read-on K a = ext K d p (λ k l. coef-on (fromℤ K) d p (readℤ a) k ∙ ap (ofℤ K) (coef-readℤ a k l) ∙ sym (coef-read K d p a k l))
 
 -- ---- over ℤ/q
 

@@ -116,9 +116,13 @@ module _ (S : Settings) where
   unfolding halfLeft size
   halfLeft-power t l = ap (λ n. 2 ^ L / 2 ^ n) (add-one t) ∙ half-power L (suc t) l
 
+  pub left-inside : (t : ℕ) → left S t * d ≤ cells S
+  unfolding left cells
+  left-inside t = Nat.mul-le-mul-right d (Nat.div-le-self (size S) (2 ^ t))
+
   halfLeft-inside : (t : ℕ) → halfLeft S t * d ≤ cells S
-  unfolding halfLeft cells
-  halfLeft-inside t = Nat.mul-le-mul-right d (Nat.div-le-self (size S) (2 ^ (t + 1)))
+  unfolding halfLeft left
+  halfLeft-inside t = left-inside (t + 1)
 
   module _ (E : List ℕ) (t : ℕ) where
     pub message-suc : (message : List ℤ) → messageAfter S E (suc t) message ≡ foldSigned d (halfLeft S t) (getD E t 0) (messageAfter S E t message)
