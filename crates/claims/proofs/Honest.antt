@@ -10,26 +10,21 @@ use lib.IntN.{ℤ}
 use Rattle.protocol.specs.declared.Settings.{Settings}
 use Rattle.protocol.specs.declared.Verdict.the-variants as Says
 use Rattle.protocol.specs.Basic.{choose, granted}
-use Rattle.protocol.specs.Element.{signed, signedAt, padded, paddedSigned}
+use Rattle.protocol.specs.Element.{padded, paddedSigned}
 use Rattle.protocol.specs.Settings.{cells, sized, residues, exponent, exponents}
 use Rattle.protocol.specs.Opening.{commitment, messageAfter, keyAfter, finalElement, roundTable}
 use Rattle.protocol.specs.Transcript.{transcriptOf, accepted, Accepted}
 use Rattle.protocol.specs.Session.{verdict}
 use Rattle.protocol.specs.Calls.{openingRefusal, openingAnswer, openingRoundsExit, openingKeyExit, openingMessageExit}
 use Rattle.protocol.specs.Inputs.{Valid, Below, Within}
-use Rattle.protocol.proofs.Tests.{and-intro, first-nothing, zero-first, zero-unless}
+use Rattle.protocol.proofs.Tests.{and-intro, first-nothing, zero-first, zero-unless, granted-zero}
 use Rattle.protocol.proofs.Inputs.{valid-settings, below-tested, below-sized, within-tested, within-sized}
 use Rattle.protocol.proofs.Acceptance.{accepted-test}
-use Rattle.claims.proofs.Ranges.{padded-at, padded-signed-at, commitment-below, last-length, last-at}
+use Rattle.claims.proofs.Ranges.{padded-at, commitment-below, last-padded-at}
 use Rattle.claims.proofs.Completeness.{complete, complete-beyond}
 
 pub degree-positive : (S : Settings) → Valid S → 0 < S .degree
 degree-positive S ok = subst (λ n. 0 < n) (sym (ok .degree-is)) (Pow.pow-pos (ok .log))
-
-granted-zero {ℓ} : {A : Type ℓ} (n : ℕ) (x y : A) → n ≡ 0 → granted n x y ≡ x
-unfolding granted
-granted-zero zero x y e = refl
-granted-zero (suc n) x y e = absurd (omega arith)
 
 module _ (S : Settings) (ok : Valid S) (G : List ℕ) (M : List ℤ) (E rounds : List ℕ)
     (key-ok : Below (S .modulus) (cells S) G) (message-ok : Within (S .bound) (cells S) M) (challenges-ok : Below (2 * S .degree) (S .depth) E)
@@ -78,13 +73,10 @@ module _ (S : Settings) (ok : Valid S) (G : List ℕ) (M : List ℤ) (E rounds :
     last = openingAnswer S G M E rounds .last;
   })
   opening-accepted = subst (Accepted S G) (λ i. record { commitment = sym opening-commitment i; rounds = sym opening-rounds i; challenges = E; last = sym opening-last i })
-      (complete-beyond S (degree-positive S ok) pq G M E _ _ same-commitment same-last (ok .modulus-odd) (message-ok .each))
+      (complete-beyond S (degree-positive S ok) pq G M E _ _ same-commitment (last-padded-at S (messageAfter S E L M)) (ok .modulus-odd) (message-ok .each))
     where
       pq : 0 < q
       pq = omega (arith, ok .modulus-least)
 
       same-commitment : (k : ℕ) → k < d → getD (padded d (commitment S G M)) k 0 ≡ getD (commitment S G M) k 0
       same-commitment k l = padded-at d (commitment S G M) k (omega (arith, commitment-below S pq G M .long))
-
-      same-last : (k : ℕ) → k < d → signed (paddedSigned d (finalElement S (messageAfter S E L M))) k ≡ signedAt d (messageAfter S E L M) 0 k
-      same-last k l = padded-signed-at d (finalElement S (messageAfter S E L M)) k (omega (arith, last-length S (messageAfter S E L M))) ∙ last-at S (messageAfter S E L M) k l

@@ -13,3 +13,6 @@ pub mod Agreement
 pub mod TreeCheck
 pub mod TreeKeys
 pub mod Refused
+pub mod Prover
+pub mod Stored
+pub mod Sessions

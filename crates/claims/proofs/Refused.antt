@@ -15,11 +15,7 @@ use Rattle.protocol.specs.Calls as Calls
 use Rattle.protocol.specs.Text as Text
 use Rattle.protocol.specs.Text.{Tables}
 use Rattle.protocol.specs.Demand3.{Held, State, KeyTable, MessageTable, Record, Call, Step, lentKey, lentMessage, handed, tables, refusal, backKey, backMessage, backRecord, after, step, Gap, none, refused, Run, stop, go}
-
-granted-refused {ℓ} : {A : Type ℓ} (n : ℕ) (x y : A) → n ≢ 0 → granted n x y ≡ y
-unfolding granted
-granted-refused zero x y r = absurd (r refl)
-granted-refused (suc n) x y r = refl
+use Rattle.protocol.proofs.Tests.{granted-refused}
 
 -- ---- what comes back as it was lent, to what is as it was
 
