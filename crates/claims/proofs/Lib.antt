@@ -16,3 +16,5 @@ pub mod Refused
 pub mod Prover
 pub mod Stored
 pub mod Sessions
+pub mod Moves
+pub mod Opening

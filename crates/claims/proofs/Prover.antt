@@ -1,8 +1,7 @@
 -- What the prover's calls answer in an opening, with t folds done: nothing is refused, and each gives what it is defined to give.
---   Given S G M E    inputs of an opening that nothing refuses
 use mathlib.Core.Path.{_≡_, refl}
 use mathlib.Core.Bool.{Bool, true, false, _&&_}
-use mathlib.Core.List.{List, [], _∷_}
+use mathlib.Core.List.{List, _∷_}
 use Prim.Native.Nat.{ℕ, suc, _*_, _^_, _<_, _≤_}
 use native.Mathlib.Nat as Nat
 use native.Mathlib.Omega.{arith}
@@ -13,22 +12,16 @@ use lib.IntN.{ℤ}
 use Rattle.protocol.specs.declared.Settings.{Settings}
 use Rattle.protocol.specs.Basic.{first, unless, granted}
 use Rattle.protocol.specs.Element.{padded, paddedSigned}
-use Rattle.protocol.specs.Settings.{settingsRefusal, cells, sized, residues, small, exponent}
+use Rattle.protocol.specs.Settings.{settingsRefusal, cells, sized, residues, exponent}
 use Rattle.protocol.specs.Opening.{commitment, left, messageAfter, keyAfter, finalElement}
 use Rattle.protocol.specs.Calls.{commitRefusal, commitAnswer, leftSmall, movingSmall, roundRefusal, polynomial, roundAnswer, foldRefusal, foldKeyExit, foldMessageExit, endingSmall, endRefusal, endAnswer}
-use Rattle.protocol.specs.Inputs.{Valid, Below, Within}
+use Rattle.protocol.specs.Inputs.{Below}
 use Rattle.protocol.proofs.Tests.{and-intro, first-nothing, zero-first, zero-unless}
-use Rattle.protocol.proofs.Inputs.{valid-settings, below-tested, below-sized, within-tested, within-sized}
+use Rattle.protocol.proofs.Inputs.{valid-settings, below-tested, below-sized, within-tested}
 use Rattle.claims.proofs.Tables.{message-length}
 use Rattle.claims.proofs.Ranges.{key-residues}
 use Rattle.claims.proofs.Bounds.{left-within}
-use Rattle.claims.proofs.Honest.{degree-positive}
-
-pub record Given (S : Settings) (G : List ℕ) (M : List ℤ) (E : List ℕ) : Type 0 where
-  pub settings : Valid S
-  pub key : Below (S .modulus) (cells S) G
-  pub message : Within (S .bound) (cells S) M
-  pub challenges : Below (2 * S .degree) (S .depth) E
+use Rattle.claims.proofs.Honest.{Given, degree-positive, modulus-positive}
 
 -- a test that is made only where another passes
 tested-where : (b c : Bool) → c ≡ true → (elim b as (λ _. Bool) [ true ↦ c | false ↦ true ]) ≡ true
@@ -38,9 +31,6 @@ tested-where false c e = refl
 module _ {S : Settings} {G : List ℕ} {M : List ℤ} {E : List ℕ} (ok : Given S G M E) where
   open Settings S using (degree as d, depth as L, modulus as q, bound as B)
 
-  pub modulus-positive : 0 < q
-  modulus-positive = omega (arith, ok .settings .modulus-least)
-
   -- the tables after t folds
   abbrev message : ℕ → List ℤ
   message t = messageAfter S E t M
@@ -48,8 +38,8 @@ module _ {S : Settings} {G : List ℕ} {M : List ℤ} {E : List ℕ} (ok : Given
   abbrev key : ℕ → List ℕ
   key t = keyAfter S E t G
 
-  pub key-given : (t : ℕ) → Below q (cells S) (key t)
-  key-given t = key-residues S modulus-positive E t G (ok .key)
+  key-given : (t : ℕ) → Below q (cells S) (key t)
+  key-given t = key-residues S (modulus-positive S (ok .settings)) E t G (ok .key)
 
   message-sized : (t : ℕ) → sized (cells S) (message t) ≡ true
   unfolding sized

@@ -1,5 +1,6 @@
 -- A refused call changes nothing that is held, whichever call it is and whatever it was given. So a run with refused calls between its steps is the run of its steps.
-use mathlib.Core.Path.{_≡_, refl, sym, ap, _∙_}
+--   runs S E steps a    the steps alone, one after the other
+use mathlib.Core.Path.{_≡_, refl, ap, _∙_}
 use mathlib.Core.Logic.{_≢_}
 use mathlib.Core.Bool.{Bool, true, false}
 use mathlib.Core.List.{List, [], _∷_}
@@ -13,7 +14,6 @@ use Rattle.protocol.specs.Session as Verifier
 use Rattle.protocol.specs.Session.{refusedMove}
 use Rattle.protocol.specs.Calls as Calls
 use Rattle.protocol.specs.Text as Text
-use Rattle.protocol.specs.Text.{Tables}
 use Rattle.protocol.specs.Demand3.{Held, State, KeyTable, MessageTable, Record, Call, Step, lentKey, lentMessage, handed, tables, refusal, backKey, backMessage, backRecord, after, step, Gap, none, refused, Run, stop, go}
 use Rattle.protocol.proofs.Tests.{granted-refused}
 
@@ -21,8 +21,8 @@ use Rattle.protocol.proofs.Tests.{granted-refused}
 
 back-key : (k : KeyTable) {h x : Held} {t : List ℕ} → t ≡ lentKey h k → x ≡ h → backKey k t x ≡ h
 unfolding backKey lentKey
-back-key KeyTable.ours {h} e f = λ i. record { message = f i .message; key = e i; copy = f i .copy; session = f i .session; folds = f i .folds }
-back-key KeyTable.copy {h} e f = λ i. record { message = f i .message; key = f i .key; copy = e i; session = f i .session; folds = f i .folds }
+back-key KeyTable.ours e f = λ i. record { message = f i .message; key = e i; copy = f i .copy; session = f i .session; folds = f i .folds }
+back-key KeyTable.copy e f = λ i. record { message = f i .message; key = f i .key; copy = e i; session = f i .session; folds = f i .folds }
 back-key (KeyTable.other t) e f = f
 
 back-message : (m : MessageTable) {h x : Held} {t : List ℤ} → t ≡ lentMessage h m → x ≡ h → backMessage m t x ≡ h
@@ -75,7 +75,6 @@ gap-keeps none = refl
 gap-keeps (refused c r g) = gap-keeps g ∙ refused-keeps c _ r
 
 module _ (S : Settings) (E : List ℕ) where
-  -- the steps alone, one after the other
   unfoldable pub runs : List Step → State → State
   runs [] a = a
   runs (s ∷ rest) a = runs rest (step S E s (a .held) (a .heard))
