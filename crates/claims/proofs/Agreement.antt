@@ -11,10 +11,10 @@ use lib.IntN.{ℤ, pos, _+ℤ_, _*ℤ_}
 use Rattle.protocol.specs.declared.Settings.{Settings}
 use Rattle.protocol.specs.Basic.{sum, every}
 use Rattle.protocol.specs.Element.{Element, modulo, flips, around, rotate, product, residueAt, reduced}
-use Rattle.protocol.specs.Opening.{halfLeft, foldResidues, foldKey}
+use Rattle.protocol.specs.Opening.{foldResidues, foldKey}
 use Rattle.protocol.specs.Transcript.{doubled, roundHolds, nextClaim}
 use Rattle.protocol.proofs.Reading.{cell-inside, tabulate-ext, flat-front}
-use Rattle.claims.proofs.Tables.{halfLeft-power}
+use Rattle.claims.proofs.Paths.{halfLeft-height}
 
 pub sum-ext : (n : ℕ) {f g : ℕ → ℤ} → ((i : ℕ) → i < n → f i ≡ g i) → sum n f ≡ sum n g
 unfolding sum
@@ -77,6 +77,4 @@ fold-alike q d h e G H s = alike-cells d h (foldResidues q d h e G) (foldResidue
 
 pub key-alike : (S : Settings) (h t e : ℕ) (G H : List ℕ) → suc (h + t) ≡ S .depth → Alike (2 ^ suc h * S .degree) G H → Alike (2 ^ h * S .degree) (foldKey S t e G) (foldKey S t e H)
 unfolding foldKey
-key-alike S h t e G H l s =
-    let m : S .depth - suc t ≡ h = omega arith in
-    rw (halfLeft-power S t (omega arith), m) (fold-alike (S .modulus) (S .degree) (2 ^ h) e G H (rw (Nat.two-pow-succ h) at s))
+key-alike S h t e G H l s = rw (halfLeft-height S h t l) (fold-alike (S .modulus) (S .degree) (2 ^ h) e G H (rw (Nat.two-pow-succ h) at s))

@@ -18,3 +18,9 @@ pub mod Stored
 pub mod Sessions
 pub mod Moves
 pub mod Opening
+pub mod Divisors
+pub mod Weights
+pub mod Vectors
+pub mod Combination
+pub mod Extraction
+pub mod Exactness

@@ -7,7 +7,9 @@ use native.Mathlib.Omega.{arith}
 use lib.ListN.{getD}
 use Rattle.protocol.specs.declared.Settings.{Settings}
 use Rattle.protocol.specs.Tree.{child, parent, place, above, challenge, challengeTo, nodes, leaves, onPath, pathChallenges}
+use Rattle.protocol.specs.Opening.{halfLeft}
 use Rattle.protocol.proofs.Reading.{tabulate-at}
+use Rattle.claims.proofs.Tables.{halfLeft-power}
 use Rattle.claims.proofs.Numbering.{child-parent, before, before-power, before-le, before-add, AtDepth, parent-depth, below, above-below}
 
 module _ (S : Settings) where
@@ -21,6 +23,13 @@ module _ (S : Settings) where
   -- a node that is less deep than L branches
   pub depth-branching : (t h k : ℕ) → suc (h + t) ≡ L → AtDepth t k → k < nodes S
   depth-branching t h k e a = omega (arith, nodes-before, a .to, before-le (suc t) h, ap before (Nat.add-suc h t ∙ e))
+
+  -- at a node that is h + 1 steps above the leaves, a half of what is left has 2^h elements
+  pub halfLeft-height : (h t : ℕ) → suc (h + t) ≡ L → halfLeft S t ≡ 2 ^ h
+  halfLeft-height h t e = halfLeft-power S t (omega arith) ∙ ap (λ n. 2 ^ n) down
+    where
+      down : L - suc t ≡ h
+      down = omega arith
 
   -- leaf j is the j-th of the nodes that are L steps below the root
   pub below-root : (j : ℕ) → below L 0 j ≡ nodes S + j

@@ -46,12 +46,16 @@ module _ (S : Settings) (rounds E : List ℕ) (finals : List ℤ) where
 
   -- ---- as a walk
 
-  tree-walk : (h k : ℕ) (x : State) → test h k x ≡ true → Walk hand Node Leaf h k x
+  -- what the check says of a branching node and of its children
+  pub tree-split : (h k : ℕ) (x : State) → test (suc h) k x ≡ true → (nodeHolds S rounds k (x .1) ≡ true) × ((j : ℕ) → j < 3 → test h (child k j) (hand k j x) ≡ true)
   unfolding treeAccepted
-  tree-walk zero k x a = a
-  tree-walk (suc h) k x a =
+  tree-split h k x a =
       let f = four-split (nodeHolds S rounds k (x .1)) (test h (child k 0) (hand k 0 x)) (test h (child k 1) (hand k 1 x)) (test h (child k 2) (hand k 2 x)) a in
-      (f .0, three (λ j. Walk hand Node Leaf h (child k j) (hand k j x)) (tree-walk h _ (hand k 0 x) (f .1)) (tree-walk h _ (hand k 1 x) (f .2)) (tree-walk h _ (hand k 2 x) (f .3)))
+      (f .0, three (λ j. test h (child k j) (hand k j x) ≡ true) (f .1) (f .2) (f .3))
+
+  tree-walk : (h k : ℕ) (x : State) → test h k x ≡ true → Walk hand Node Leaf h k x
+  tree-walk zero k x a = unfold treeAccepted in a
+  tree-walk (suc h) k x a = let f = tree-split h k x a in (f .0, λ j l. tree-walk h (child k j) (hand k j x) (f .1 j l))
 
   walk-tree : (h k : ℕ) (x : State) → Walk hand Node Leaf h k x → test h k x ≡ true
   unfolding treeAccepted
