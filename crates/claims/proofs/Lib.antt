@@ -12,6 +12,12 @@ pub mod Walk
 pub mod Agreement
 pub mod TreeCheck
 pub mod TreeKeys
+pub mod Refused
+pub mod Prover
+pub mod Stored
+pub mod Sessions
+pub mod Moves
+pub mod Opening
 pub mod Divisors
 pub mod Weights
 pub mod Vectors
