@@ -1,0 +1,226 @@
+//! Commitment, the prover's calls and the whole opening.
+
+use super::ring::{add, element, elements, half_power, inner_product, reduce, rotate, scale};
+use super::ring::{zero, Element};
+use super::{by_value, verifier};
+use crate::refuse::{self, Checked, Shape};
+use crate::types::*;
+
+/// Call 1: the sum of m_i·G_i modulo q.
+pub fn commit(s: Settings, key: &[u32], message: &[i32]) -> CommitAnswer {
+    let (number, commitment) = match try_commit(s, key, message) {
+        Ok(commitment) => (0, commitment),
+        Err(number) => (number, ZERO_RESIDUES),
+    };
+    CommitAnswer { number, commitment }
+}
+
+fn try_commit(s: Settings, key: &[u32], message: &[i32]) -> Checked<Residues> {
+    let shape = refuse::settings(s)?;
+    refuse::sizes(&[(key.len(), shape.table()), (message.len(), shape.table())])?;
+    refuse::residues(key, shape.q)?;
+    refuse::tall(message, shape.b)?;
+    Ok(by_value(&commitment(&shape, key, message)))
+}
+
+fn commitment(shape: &Shape, key: &[u32], message: &[i32]) -> Element {
+    let m = elements(message, shape.d);
+    let g = elements(key, shape.d);
+    reduce(&inner_product(&m, &g, shape.d), shape.q)
+}
+
+/// Refusal 9 of a prover call with `t` rounds done: what is left must be
+/// within 2^t·B. Callers leave it out where the paper does.
+fn tall_left(shape: &Shape, t: u32, message: &[i32]) -> Checked<()> {
+    let left = (shape.n >> t) * shape.d;
+    refuse::tall(&message[..left], shape.b << t)
+}
+
+/// Refusals 3 to 9 of the prover's round and fold; 9 is not tested with t at
+/// or over L.
+fn both_tables(s: Settings, t: u32, key: &[u32], message: &[i32]) -> Checked<Shape> {
+    let shape = refuse::settings(s)?;
+    refuse::sizes(&[(key.len(), shape.table()), (message.len(), shape.table())])?;
+    refuse::residues(key, shape.q)?;
+    if t < s.depth {
+        tall_left(&shape, t, message)?;
+    }
+    Ok(shape)
+}
+
+/// Call 2: the round polynomial of round t+1.
+pub fn prover_round(s: Settings, t: u32, key: &[u32], message: &[i32]) -> RoundAnswer {
+    let (number, polynomial) = match try_round(s, t, key, message) {
+        Ok(polynomial) => (0, polynomial),
+        Err(number) => (number, ZERO_POLYNOMIAL),
+    };
+    RoundAnswer { number, polynomial }
+}
+
+fn try_round(s: Settings, t: u32, key: &[u32], message: &[i32]) -> Checked<Polynomial> {
+    let shape = both_tables(s, t, key, message)?;
+    refuse::turn(t < s.depth)?;
+    Ok(round_polynomial(&shape, t, key, message))
+}
+
+fn round_polynomial(shape: &Shape, t: u32, key: &[u32], message: &[i32]) -> Polynomial {
+    let left = shape.n >> t;
+    let m = elements(message, shape.d);
+    let g = elements(key, shape.d);
+    let (m0, m1) = m[..left].split_at(left / 2);
+    let (g0, g1) = g[..left].split_at(left / 2);
+    let product = |a: &[Element], b: &[Element]| inner_product(a, b, shape.d);
+    let cross = add(&product(m0, g1), &product(m1, g0));
+    let half = half_power(shape.q, t as usize + 1);
+    [product(m0, g0), cross, product(m1, g1)].map(|c| by_value(&reduce(&scale(&c, half), shape.q)))
+}
+
+/// Call 3: the fold of both tables by X^e.
+pub fn fold(s: Settings, t: u32, e: u32, key: &mut [u32], message: &mut [i32]) -> u32 {
+    match try_fold(s, t, e, key, message) {
+        Ok(()) => 0,
+        Err(number) => number,
+    }
+}
+
+fn try_fold(s: Settings, t: u32, e: u32, key: &mut [u32], message: &mut [i32]) -> Checked<()> {
+    let shape = both_tables(s, t, key, message)?;
+    refuse::challenges(&[e], &shape)?;
+    refuse::turn(t < s.depth)?;
+    fold_both(&shape, t, e, key, message);
+    Ok(())
+}
+
+fn fold_both(shape: &Shape, t: u32, e: u32, key: &mut [u32], message: &mut [i32]) {
+    let left = shape.n >> t;
+    let m = fold_elements(&elements(&message[..left * shape.d], shape.d), e);
+    let g = fold_elements(&elements(&key[..left * shape.d], shape.d), e);
+    for (i, (a, b)) in m.iter().zip(&g).enumerate() {
+        let b = reduce(b, shape.q);
+        for k in 0..shape.d {
+            message[i * shape.d + k] = a[k] as i32;
+            key[i * shape.d + k] = b[k] as u32;
+        }
+    }
+}
+
+/// First half plus X^e times second half, over whole numbers.
+pub(super) fn fold_elements(left: &[Element], e: u32) -> Vec<Element> {
+    let (first, second) = left.split_at(left.len() / 2);
+    first
+        .iter()
+        .zip(second)
+        .map(|(a, b)| add(a, &rotate(b, e as usize)))
+        .collect()
+}
+
+/// Call 4: the final element. It takes no key.
+pub fn prover_end(s: Settings, t: u32, message: &[i32]) -> EndAnswer {
+    let (number, final_element) = match try_end(s, t, message) {
+        Ok(final_element) => (0, final_element),
+        Err(number) => (number, ZERO_WHOLES),
+    };
+    EndAnswer {
+        number,
+        final_element,
+    }
+}
+
+fn try_end(s: Settings, t: u32, message: &[i32]) -> Checked<Wholes> {
+    let shape = refuse::settings(s)?;
+    refuse::sizes(&[(message.len(), shape.table())])?;
+    if t <= s.depth {
+        tall_left(&shape, t, message)?;
+    }
+    refuse::turn(t == s.depth)?;
+    Ok(first_element(&shape, message))
+}
+
+fn first_element(shape: &Shape, message: &[i32]) -> Wholes {
+    let mut places = ZERO_WHOLES;
+    places[..shape.d].copy_from_slice(&message[..shape.d]);
+    places
+}
+
+/// Call 5: the whole opening. Both tables stay as L folds leave them.
+pub fn whole_opening(
+    s: Settings,
+    key: &mut [u32],
+    message: &mut [i32],
+    challenges: &[u32],
+    rounds: &mut [u32],
+) -> OpeningAnswer {
+    match try_opening(s, key, message, challenges, rounds) {
+        Ok(answer) => answer,
+        Err(number) => OpeningAnswer {
+            number,
+            commitment: ZERO_RESIDUES,
+            final_element: ZERO_WHOLES,
+            verdict: NONE,
+        },
+    }
+}
+
+fn try_opening(
+    s: Settings,
+    key: &mut [u32],
+    message: &mut [i32],
+    challenges: &[u32],
+    rounds: &mut [u32],
+) -> Checked<OpeningAnswer> {
+    let shape = refuse::settings(s)?;
+    refuse::sizes(&[
+        (key.len(), shape.table()),
+        (message.len(), shape.table()),
+        (challenges.len(), shape.l),
+        (rounds.len(), shape.rounds()),
+    ])?;
+    refuse::residues(key, shape.q)?;
+    refuse::tall(message, shape.b)?;
+    refuse::challenges(challenges, &shape)?;
+    Ok(opening(&shape, key, message, challenges, rounds))
+}
+
+fn opening(
+    shape: &Shape,
+    key: &mut [u32],
+    message: &mut [i32],
+    challenges: &[u32],
+    rounds: &mut [u32],
+) -> OpeningAnswer {
+    let unfolded = key.to_vec();
+    let commitment = by_value(&commitment(shape, key, message));
+    for (t, &e) in challenges.iter().enumerate() {
+        let polynomial = round_polynomial(shape, t as u32, key, message);
+        for (j, c) in polynomial.iter().enumerate() {
+            let start = (3 * t + j) * shape.d;
+            rounds[start..start + shape.d].copy_from_slice(&c[..shape.d]);
+        }
+        fold_both(shape, t as u32, e, key, message);
+    }
+    let final_element = first_element(shape, message);
+    let cause = verifier::transcript_cause(
+        shape,
+        &element(&commitment[..shape.d]),
+        &elements(rounds, shape.d),
+        challenges,
+        &element(&final_element[..shape.d]),
+        &elements(&unfolded, shape.d),
+    );
+    let verdict = if cause.is_none() { ACCEPTED } else { REJECTED };
+    OpeningAnswer {
+        number: 0,
+        commitment,
+        final_element,
+        verdict,
+    }
+}
+
+/// The key after all folds, reduced.
+pub(super) fn folded_key(shape: &Shape, key: &[Element], challenges: &[u32]) -> Element {
+    let mut left = key.to_vec();
+    for &e in challenges {
+        left = fold_elements(&left, e);
+    }
+    left.first().map_or(zero(shape.d), |g| reduce(g, shape.q))
+}
