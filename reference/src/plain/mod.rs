@@ -6,10 +6,12 @@ pub mod ring;
 
 mod prover;
 mod relaxed;
+mod text;
 mod verifier;
 
 pub use prover::{commit, fold, prover_end, prover_round, whole_opening};
 pub use relaxed::{extract, judge};
+pub use text::{prove, read, verify, write};
 pub use verifier::{check, check_cause, session_end, session_round, session_start};
 
 use crate::types::{Residues, PLACES};
