@@ -95,7 +95,7 @@ pub fn sizes(pairs: &[(usize, usize)]) -> Checked<()> {
 
 /// Refusal 8 for one table.
 pub fn residues(table: &[u32], q: u32) -> Checked<()> {
-    unless(RESIDUE, table.iter().all(|&x| x < q))
+    unless(RESIDUE, !table.iter().fold(false, |bad, &x| bad | (x >= q)))
 }
 
 /// Refusal 8 for an element by value: places from the degree on are not read.

@@ -3,24 +3,17 @@
 use super::ring::{add, element, elements, half_power, inner_product, reduce, rotate, scale};
 use super::ring::{zero, Element};
 use super::{by_value, verifier};
-use crate::refuse::{self, Checked, Shape};
+use crate::admit;
+use crate::refuse::Shape;
 use crate::types::*;
 
 /// Call 1: the sum of m_i·G_i modulo q.
 pub fn commit(s: Settings, key: &[u32], message: &[i32]) -> CommitAnswer {
-    let (number, commitment) = match try_commit(s, key, message) {
-        Ok(commitment) => (0, commitment),
+    let (number, commitment) = match admit::commit(s, key, message) {
+        Ok(shape) => (0, by_value(&commitment(&shape, key, message))),
         Err(number) => (number, ZERO_RESIDUES),
     };
     CommitAnswer { number, commitment }
-}
-
-fn try_commit(s: Settings, key: &[u32], message: &[i32]) -> Checked<Residues> {
-    let shape = refuse::settings(s)?;
-    refuse::sizes(&[(key.len(), shape.table()), (message.len(), shape.table())])?;
-    refuse::residues(key, shape.q)?;
-    refuse::tall(message, shape.b)?;
-    Ok(by_value(&commitment(&shape, key, message)))
 }
 
 fn commitment(shape: &Shape, key: &[u32], message: &[i32]) -> Element {
@@ -29,38 +22,13 @@ fn commitment(shape: &Shape, key: &[u32], message: &[i32]) -> Element {
     reduce(&inner_product(&m, &g, shape.d), shape.q)
 }
 
-/// Refusal 9 of a prover call with `t` rounds done: what is left must be
-/// within 2^t·B. Callers leave it out where the paper does.
-fn tall_left(shape: &Shape, t: u32, message: &[i32]) -> Checked<()> {
-    let left = (shape.n >> t) * shape.d;
-    refuse::tall(&message[..left], shape.b << t)
-}
-
-/// Refusals 3 to 9 of the prover's round and fold; 9 is not tested with t at
-/// or over L.
-fn both_tables(s: Settings, t: u32, key: &[u32], message: &[i32]) -> Checked<Shape> {
-    let shape = refuse::settings(s)?;
-    refuse::sizes(&[(key.len(), shape.table()), (message.len(), shape.table())])?;
-    refuse::residues(key, shape.q)?;
-    if t < s.depth {
-        tall_left(&shape, t, message)?;
-    }
-    Ok(shape)
-}
-
 /// Call 2: the round polynomial of round t+1.
 pub fn prover_round(s: Settings, t: u32, key: &[u32], message: &[i32]) -> RoundAnswer {
-    let (number, polynomial) = match try_round(s, t, key, message) {
-        Ok(polynomial) => (0, polynomial),
+    let (number, polynomial) = match admit::prover_round(s, t, key, message) {
+        Ok(shape) => (0, round_polynomial(&shape, t, key, message)),
         Err(number) => (number, ZERO_POLYNOMIAL),
     };
     RoundAnswer { number, polynomial }
-}
-
-fn try_round(s: Settings, t: u32, key: &[u32], message: &[i32]) -> Checked<Polynomial> {
-    let shape = both_tables(s, t, key, message)?;
-    refuse::turn(t < s.depth)?;
-    Ok(round_polynomial(&shape, t, key, message))
 }
 
 fn round_polynomial(shape: &Shape, t: u32, key: &[u32], message: &[i32]) -> Polynomial {
@@ -77,18 +45,13 @@ fn round_polynomial(shape: &Shape, t: u32, key: &[u32], message: &[i32]) -> Poly
 
 /// Call 3: the fold of both tables by X^e.
 pub fn fold(s: Settings, t: u32, e: u32, key: &mut [u32], message: &mut [i32]) -> u32 {
-    match try_fold(s, t, e, key, message) {
-        Ok(()) => 0,
+    match admit::fold(s, t, e, key, message) {
+        Ok(shape) => {
+            fold_both(&shape, t, e, key, message);
+            0
+        }
         Err(number) => number,
     }
-}
-
-fn try_fold(s: Settings, t: u32, e: u32, key: &mut [u32], message: &mut [i32]) -> Checked<()> {
-    let shape = both_tables(s, t, key, message)?;
-    refuse::challenges(&[e], &shape)?;
-    refuse::turn(t < s.depth)?;
-    fold_both(&shape, t, e, key, message);
-    Ok(())
 }
 
 fn fold_both(shape: &Shape, t: u32, e: u32, key: &mut [u32], message: &mut [i32]) {
@@ -116,24 +79,14 @@ pub(super) fn fold_elements(left: &[Element], e: u32) -> Vec<Element> {
 
 /// Call 4: the final element. It takes no key.
 pub fn prover_end(s: Settings, t: u32, message: &[i32]) -> EndAnswer {
-    let (number, final_element) = match try_end(s, t, message) {
-        Ok(final_element) => (0, final_element),
+    let (number, final_element) = match admit::prover_end(s, t, message) {
+        Ok(shape) => (0, first_element(&shape, message)),
         Err(number) => (number, ZERO_WHOLES),
     };
     EndAnswer {
         number,
         final_element,
     }
-}
-
-fn try_end(s: Settings, t: u32, message: &[i32]) -> Checked<Wholes> {
-    let shape = refuse::settings(s)?;
-    refuse::sizes(&[(message.len(), shape.table())])?;
-    if t <= s.depth {
-        tall_left(&shape, t, message)?;
-    }
-    refuse::turn(t == s.depth)?;
-    Ok(first_element(&shape, message))
 }
 
 fn first_element(shape: &Shape, message: &[i32]) -> Wholes {
@@ -150,8 +103,8 @@ pub fn whole_opening(
     challenges: &[u32],
     rounds: &mut [u32],
 ) -> OpeningAnswer {
-    match try_opening(s, key, message, challenges, rounds) {
-        Ok(answer) => answer,
+    match admit::opening(s, key, message, challenges, rounds) {
+        Ok(shape) => opening(&shape, key, message, challenges, rounds),
         Err(number) => OpeningAnswer {
             number,
             commitment: ZERO_RESIDUES,
@@ -159,26 +112,6 @@ pub fn whole_opening(
             verdict: NONE,
         },
     }
-}
-
-fn try_opening(
-    s: Settings,
-    key: &mut [u32],
-    message: &mut [i32],
-    challenges: &[u32],
-    rounds: &mut [u32],
-) -> Checked<OpeningAnswer> {
-    let shape = refuse::settings(s)?;
-    refuse::sizes(&[
-        (key.len(), shape.table()),
-        (message.len(), shape.table()),
-        (challenges.len(), shape.l),
-        (rounds.len(), shape.rounds()),
-    ])?;
-    refuse::residues(key, shape.q)?;
-    refuse::tall(message, shape.b)?;
-    refuse::challenges(challenges, &shape)?;
-    Ok(opening(&shape, key, message, challenges, rounds))
 }
 
 fn opening(
@@ -207,12 +140,11 @@ fn opening(
         &element(&final_element[..shape.d]),
         &elements(&unfolded, shape.d),
     );
-    let verdict = if cause.is_none() { ACCEPTED } else { REJECTED };
     OpeningAnswer {
         number: 0,
         commitment,
         final_element,
-        verdict,
+        verdict: verifier::verdict(cause),
     }
 }
 

@@ -3,34 +3,30 @@
 use super::ring::{add, doubled_inverse, element, elements, inner_product, multiply, power};
 use super::ring::{reduce, rotate, scale, zero, Element};
 use super::verifier::transcript_cause;
+use crate::admit;
 use crate::refuse::{self, Checked, Shape};
 use crate::types::*;
 
 /// Call 10: whether w opens c times the commitment within the bound.
 pub fn judge(s: Settings, commitment: Residues, c: u32, key: &[u32], w: &[i64]) -> JudgeAnswer {
-    let (number, yes) = match try_judge(s, &commitment, c, key, w) {
-        Ok(yes) => (0, yes),
+    let (number, yes) = match admit::judge(s, &commitment, c, key, w) {
+        Ok((shape, bound)) => {
+            let small = w.iter().all(|&x| -bound <= x && x <= bound);
+            (0, small && opens(&shape, &commitment, c, key, w))
+        }
         Err(number) => (number, false),
     };
     JudgeAnswer { number, yes }
 }
 
-fn try_judge(s: Settings, commitment: &Residues, c: u32, key: &[u32], w: &[i64]) -> Checked<bool> {
-    let shape = refuse::settings(s)?;
-    refuse::sizes(&[(key.len(), shape.table()), (w.len(), shape.table())])?;
-    refuse::residues(key, shape.q)?;
-    refuse::element_residues(commitment, &shape)?;
-    let bound = refuse::growth(&shape)?;
-    refuse::slack(c)?;
+fn opens(shape: &Shape, commitment: &Residues, c: u32, key: &[u32], w: &[i64]) -> bool {
     let wanted = scale(&element(&commitment[..shape.d]), i128::from(c));
     let found = inner_product(&elements(w, shape.d), &elements(key, shape.d), shape.d);
-    let opens = reduce(&wanted, shape.q) == reduce(&found, shape.q);
-    Ok(opens && w.iter().all(|&x| -bound <= x && x <= bound))
+    reduce(&wanted, shape.q) == reduce(&found, shape.q)
 }
 
 /// Call 11: the vector w of the root of a full tree whose paths are all
 /// accepted.
-#[allow(clippy::too_many_arguments)]
 pub fn extract(
     s: Settings,
     commitment: Residues,
@@ -40,49 +36,32 @@ pub fn extract(
     leaves: &[i32],
     w: &mut [i64],
 ) -> u32 {
-    let result = refuse_tree(s, &commitment, key, rounds, challenges, leaves, w.len());
-    match result {
-        Ok(shape) => {
-            let tree = Tree::new(&shape, rounds, challenges, leaves);
-            let vector = tree.vector(0, shape.l);
-            for (place, x) in w.iter_mut().zip(vector.concat()) {
-                *place = x as i64;
-            }
-            0
-        }
+    match try_extract(s, &commitment, key, rounds, challenges, leaves, w) {
+        Ok(()) => 0,
         Err(number) => number,
     }
 }
 
-fn refuse_tree(
+fn try_extract(
     s: Settings,
     commitment: &Residues,
     key: &[u32],
     rounds: &[u32],
     challenges: &[u32],
     leaves: &[i32],
-    w_length: usize,
-) -> Checked<Shape> {
-    let shape = refuse::settings(s)?;
-    refuse::sizes(&[
-        (key.len(), shape.table()),
-        (rounds.len(), 3 * shape.nodes() * shape.d),
-        (challenges.len(), 3 * shape.nodes()),
-        (leaves.len(), shape.leaves() * shape.d),
-        (w_length, shape.table()),
-    ])?;
-    refuse::residues(key, shape.q)?;
-    refuse::element_residues(commitment, &shape)?;
-    refuse::residues(rounds, shape.q)?;
-    refuse::challenges(challenges, &shape)?;
-    refuse::twins(challenges)?;
+    w: &mut [i64],
+) -> Checked<()> {
+    let shape = admit::tree(s, commitment, key, rounds, challenges, leaves, w)?;
     let tree = Tree::new(&shape, rounds, challenges, leaves);
     let commitment = element(&commitment[..shape.d]);
     let key = elements(key, shape.d);
     let accepted = (0..shape.leaves()).all(|leaf| tree.path_accepted(&commitment, &key, leaf));
     refuse::branch(accepted)?;
     refuse::growth(&shape)?;
-    Ok(shape)
+    for (place, x) in w.iter_mut().zip(tree.vector(0, shape.l).concat()) {
+        *place = x as i64;
+    }
+    Ok(())
 }
 
 /// A full tree as elements.

@@ -3,7 +3,8 @@
 use super::by_value;
 use super::prover::folded_key;
 use super::ring::{add, element, elements, half_power, multiply, reduce, rotate, scale, Element};
-use crate::refuse::{self, Checked, Shape};
+use crate::admit;
+use crate::refuse::{Checked, Shape};
 use crate::types::*;
 
 /// Whether 2·(c0+c2) equals the claim.
@@ -59,95 +60,94 @@ pub(super) fn transcript_cause(
 
 /// Call 6: a session starts at a commitment.
 pub fn session_start(s: Settings, commitment: Residues) -> StartAnswer {
-    let (number, record) = match try_start(s, &commitment) {
-        Ok(record) => (0, record),
+    let (number, record) = match admit::session_start(s, &commitment) {
+        Ok(shape) => (0, new_record(&shape, s, &commitment)),
         Err(number) => (number, Record::refused()),
     };
     StartAnswer { number, record }
 }
 
-fn try_start(s: Settings, commitment: &Residues) -> Checked<Record> {
-    let shape = refuse::settings(s)?;
-    refuse::element_residues(commitment, &shape)?;
-    Ok(Record {
+/// A new record at a commitment.
+fn new_record(shape: &Shape, s: Settings, commitment: &Residues) -> Record {
+    Record {
         settings: s,
         done: 0,
         claim: by_value(&element(&commitment[..shape.d])),
         challenges: [0; ROUNDS],
         closed: false,
-    })
+    }
 }
 
-/// The answer of a move: a refusal hands the record back unchanged.
-fn answer_move(record: Record, result: Checked<(u32, Record)>) -> MoveAnswer {
-    match result {
-        Ok((verdict, record)) => MoveAnswer {
-            number: 0,
-            verdict,
-            record,
-        },
-        Err(number) => MoveAnswer {
-            number,
-            verdict: NONE,
-            record,
+/// The answer of a refused move: the record unchanged.
+fn refused_move(record: Record, number: u32) -> MoveAnswer {
+    MoveAnswer {
+        number,
+        verdict: NONE,
+        record,
+    }
+}
+
+/// The answer of a rejection or an acceptance: the record closed, with no
+/// other field changed.
+fn closed(record: Record, verdict: u32) -> MoveAnswer {
+    MoveAnswer {
+        number: 0,
+        verdict,
+        record: Record {
+            closed: true,
+            ..record
         },
     }
 }
 
-/// The record closed, with no other field changed.
-fn closed(record: Record) -> Record {
-    Record {
-        closed: true,
-        ..record
+pub(super) fn verdict(cause: Option<Cause>) -> u32 {
+    match cause {
+        None => ACCEPTED,
+        Some(_) => REJECTED,
     }
 }
 
 /// Call 7: one round of a session.
 pub fn session_round(record: Record, polynomial: Polynomial, e: u32) -> MoveAnswer {
-    answer_move(record, try_session_round(record, &polynomial, e))
+    match admit::session_round(&record, &polynomial, e) {
+        Ok(shape) => played_round(&shape, record, &polynomial, e),
+        Err(number) => refused_move(record, number),
+    }
 }
 
-fn try_session_round(record: Record, polynomial: &Polynomial, e: u32) -> Checked<(u32, Record)> {
-    let shape = refuse::settings(record.settings)?;
-    refuse::element_residues(&record.claim, &shape)?;
-    for c in polynomial {
-        refuse::element_residues(c, &shape)?;
-    }
-    refuse::challenges(&record.challenges, &shape)?;
-    refuse::challenges(&[e], &shape)?;
-    refuse::turn(record.done < record.settings.depth && !record.closed)?;
+fn played_round(shape: &Shape, record: Record, polynomial: &Polynomial, e: u32) -> MoveAnswer {
     let c: Vec<Element> = polynomial.iter().map(|c| element(&c[..shape.d])).collect();
-    if !round_holds(&shape, &element(&record.claim[..shape.d]), &c) {
-        return Ok((REJECTED, closed(record)));
+    if !round_holds(shape, &element(&record.claim[..shape.d]), &c) {
+        return closed(record, REJECTED);
     }
     let mut next = record;
     next.challenges[record.done as usize] = e;
     next.done = record.done + 1;
-    next.claim = by_value(&next_claim(&shape, &c, e));
-    Ok((HOLDS, next))
+    next.claim = by_value(&next_claim(shape, &c, e));
+    MoveAnswer {
+        number: 0,
+        verdict: HOLDS,
+        record: next,
+    }
 }
 
 /// Call 8: the end of a session, with the unfolded key.
 pub fn session_end(record: Record, final_element: Wholes, key: &[u32]) -> MoveAnswer {
-    answer_move(record, try_session_end(record, &final_element, key))
+    match admit::session_end(&record, key) {
+        Ok(shape) => played_end(&shape, record, &final_element, key),
+        Err(number) => refused_move(record, number),
+    }
 }
 
-fn try_session_end(record: Record, final_element: &Wholes, key: &[u32]) -> Checked<(u32, Record)> {
-    let shape = refuse::settings(record.settings)?;
-    refuse::sizes(&[(key.len(), shape.table())])?;
-    refuse::residues(key, shape.q)?;
-    refuse::element_residues(&record.claim, &shape)?;
-    refuse::challenges(&record.challenges, &shape)?;
-    refuse::turn(record.done == record.settings.depth && !record.closed)?;
+fn played_end(shape: &Shape, record: Record, final_element: &Wholes, key: &[u32]) -> MoveAnswer {
     let cause = end_cause(
-        &shape,
+        shape,
         &element(&record.claim[..shape.d]),
         &record.challenges[..shape.l],
         &element(&final_element[..shape.d]),
         &elements(key, shape.d),
     );
-    let verdict = if cause.is_none() { ACCEPTED } else { REJECTED };
-    Ok((verdict, closed(record)))
+    closed(record, verdict(cause))
 }
 
 /// Call 9: the check of a transcript.
@@ -161,8 +161,7 @@ pub fn check(
 ) -> CheckAnswer {
     let (number, verdict) = match check_cause(s, commitment, final_element, key, rounds, challenges)
     {
-        Ok(None) => (0, ACCEPTED),
-        Ok(Some(_)) => (0, REJECTED),
+        Ok(cause) => (0, verdict(cause)),
         Err(number) => (number, NONE),
     };
     CheckAnswer { number, verdict }
@@ -177,16 +176,7 @@ pub fn check_cause(
     rounds: &[u32],
     challenges: &[u32],
 ) -> Checked<Option<Cause>> {
-    let shape = refuse::settings(s)?;
-    refuse::sizes(&[
-        (key.len(), shape.table()),
-        (rounds.len(), shape.rounds()),
-        (challenges.len(), shape.l),
-    ])?;
-    refuse::residues(key, shape.q)?;
-    refuse::element_residues(&commitment, &shape)?;
-    refuse::residues(rounds, shape.q)?;
-    refuse::challenges(challenges, &shape)?;
+    let shape = admit::check(s, &commitment, key, rounds, challenges)?;
     Ok(transcript_cause(
         &shape,
         &element(&commitment[..shape.d]),
