@@ -17,8 +17,9 @@ pub fn commit(s: Settings, key: &[u32], message: &[i32]) -> CommitAnswer {
 }
 
 fn commitment<const D: usize>(shape: &Shape, key: &[u32], message: &[i32]) -> Residues {
-    let sum = inner_product(message.as_chunks::<D>().0, key.as_chunks::<D>().0);
-    by_value(&sum.residues(Modulus::new(shape.q)))
+    let modulus = Modulus::new(shape.q);
+    let (m, g) = (message.as_chunks::<D>().0, key.as_chunks::<D>().0);
+    by_value(&inner_product(m, g, shape.b, modulus))
 }
 
 /// Call 5.
@@ -51,33 +52,30 @@ fn opening<const D: usize>(
     let key = key.as_chunks_mut::<D>().0;
     let message = message.as_chunks_mut::<D>().0;
     let rounds = rounds.as_chunks_mut::<D>().0;
-    let commitment = inner_product(message, key).residues(modulus);
+    let commitment = inner_product(message, key, shape.b, modulus);
     let mut claim = commitment;
     let mut holds = true;
     for (t, &e) in challenges.iter().enumerate() {
         let left = shape.n >> t;
         let (m0, m1) = message[..left].split_at_mut(left / 2);
         let (g0, g1) = key[..left].split_at_mut(left / 2);
-        let c = round_polynomial(m0, m1, g0, g1, t, modulus);
+        let half = modulus.half_power(t + 1);
+        let c = round_polynomial(m0, m1, g0, g1, shape.b << t, half, modulus);
         holds &= round_holds(&c, &claim, modulus);
         claim = next_claim(&c, e, modulus);
         rounds[3 * t..3 * t + 3].copy_from_slice(&c);
         fold_message(m0, m1, e);
         fold_key(g0, g1, e, modulus);
     }
-    let fits = within(&message[0], shape.final_bound());
-    let meets = last_equation(shape, &message[0], &key[0], &claim, modulus);
+    let meets = within(&message[0], shape.final_bound())
+        && last_equation(shape, &message[0], &key[0], &claim, modulus);
     let mut final_element = ZERO_WHOLES;
     final_element[..D].copy_from_slice(&message[0]);
     OpeningAnswer {
         number: 0,
         commitment: by_value(&commitment),
         final_element,
-        verdict: if holds && fits && meets {
-            ACCEPTED
-        } else {
-            REJECTED
-        },
+        verdict: if holds && meets { ACCEPTED } else { REJECTED },
     }
 }
 
@@ -88,23 +86,24 @@ fn round_polynomial<const D: usize>(
     m1: &[[i32; D]],
     g0: &[[u32; D]],
     g1: &[[u32; D]],
-    t: usize,
+    bound: i64,
+    half: u32,
     modulus: Modulus,
 ) -> [[u32; D]; 3] {
-    let first = inner_product(m0, g0).wholes();
-    let last = inner_product(m1, g1).wholes();
-    let mut sums = Sum::<D>::new();
+    let first = inner_product(m0, g0, bound, modulus);
+    let last = inner_product(m1, g1, bound, modulus);
+    let mut sums = Sum::<D>::new(2 * bound);
     for ((m0, m1), (g0, g1)) in m0.iter().zip(m1).zip(g0.iter().zip(g1)) {
         // Key coefficients are below 2^31, so their sum fits.
         let m = std::array::from_fn(|k| m0[k] + m1[k]);
         let g = std::array::from_fn(|k| g0[k] + g1[k]);
-        sums.add_product(&m, &g);
+        sums.add_product(&m, &g, 2 * modulus.q);
     }
-    let all = sums.wholes();
-    let middle = std::array::from_fn(|k| all[k] - first[k] - last[k]);
-    let half = modulus.half_power(t + 1);
-    let scaled = |x| modulus.multiply(modulus.reduce_signed(x), half);
-    [first, middle, last].map(|c| c.map(scaled))
+    let mut middle = sums.residues(modulus);
+    for (k, x) in middle.iter_mut().enumerate() {
+        *x = modulus.subtract(modulus.subtract(*x, first[k]), last[k]);
+    }
+    [first, middle, last].map(|c| c.map(|x| modulus.multiply(x, half)))
 }
 
 /// Folds the second half of the message into the first.
@@ -147,7 +146,7 @@ pub(super) fn next_claim<const D: usize>(c: &[[u32; D]], e: u32, modulus: Modulu
     claim
 }
 
-/// Whether the claim equals half^L·f·G'.
+/// Whether the claim equals half^L·f·G', for f within its bound.
 pub(super) fn last_equation<const D: usize>(
     shape: &Shape,
     final_element: &[i32; D],
@@ -155,8 +154,8 @@ pub(super) fn last_equation<const D: usize>(
     claim: &[u32; D],
     modulus: Modulus,
 ) -> bool {
-    let mut sum = Sum::<D>::new();
-    sum.add_product(final_element, folded_key);
+    let mut sum = Sum::<D>::new(shape.final_bound());
+    sum.add_product(final_element, folded_key, shape.q);
     // 2^L times the claim instead of half^L times the product.
     let scaled = |&x: &u32| modulus.reduce(u64::from(x) << shape.l);
     sum.residues(modulus)

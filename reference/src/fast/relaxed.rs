@@ -2,7 +2,7 @@
 
 use super::at_degree;
 use super::opening::{fold_key, last_equation, next_claim, round_holds};
-use super::ring::{add_rotated_wholes, divide_two, first_places, Modulus};
+use super::ring::{add_rotated_wholes, divide_two, first_places, Modulus, Sum};
 use crate::admit;
 use crate::refuse::{self, within, Checked, Shape};
 use crate::types::*;
@@ -35,43 +35,26 @@ fn opens<const D: usize>(
 
 /// The sum of w_i·G_i modulo q. Each w is reduced and then taken in two parts
 /// of at most 16 bits, so that sums over all n·D products fit in 64 bits:
-/// 2^16·2^31·2^14. Where the whole product fits, the high part is 0.
+/// 2^16·2^31·2^14. A small modulus leaves the high part 0.
 fn inner_product_wide<const D: usize>(
     shape: &Shape,
     key: &[u32],
     w: &[i64],
     modulus: Modulus,
 ) -> [u32; D] {
-    let mut low = [[0u64; D]; 2];
-    let mut high = [[0u64; D]; 2];
+    let mut low = Sum::<D>::new(0);
+    let mut high = Sum::<D>::new(0);
     let small = shape.q <= 1 << 16;
     for (w, g) in w.as_chunks::<D>().0.iter().zip(key.as_chunks::<D>().0) {
         let w = w.map(|x| modulus.reduce_signed(x));
-        add_products(&mut low, w.map(|x| x & 0xffff), g);
+        low.add_product(&w.map(|x| (x & 0xffff) as i32), g, shape.q);
         if !small {
-            add_products(&mut high, w.map(|x| x >> 16), g);
+            high.add_product(&w.map(|x| (x >> 16) as i32), g, shape.q);
         }
     }
-    let low = wrapped(&low, modulus);
-    let high = wrapped(&high, modulus);
+    let low = low.residues(modulus);
+    let high = high.residues(modulus);
     std::array::from_fn(|k| modulus.reduce(u64::from(low[k]) + (u64::from(high[k]) << 16)))
-}
-
-/// Adds the product of two elements into 2D places.
-#[inline]
-fn add_products<const D: usize>(places: &mut [[u64; D]; 2], w: [u32; D], g: &[u32; D]) {
-    let places = places.as_flattened_mut();
-    for (i, x) in w.into_iter().enumerate() {
-        for (place, &y) in places[i..i + D].iter_mut().zip(g) {
-            *place += u64::from(x) * u64::from(y);
-        }
-    }
-}
-
-/// 2D places reduced, with X^D = -1.
-fn wrapped<const D: usize>(places: &[[u64; D]; 2], modulus: Modulus) -> [u32; D] {
-    let [low, high] = places.map(|half| half.map(|x| modulus.reduce(x)));
-    std::array::from_fn(|k| modulus.subtract(low[k], high[k]))
 }
 
 /// Call 11.

@@ -72,50 +72,89 @@ impl Modulus {
     }
 }
 
-/// A sum of products that is not reduced modulo q. The places from D on are
-/// those of X^D to X^(2D-1).
+/// A sum of products that is reduced modulo q once, at the end. Message
+/// coefficients are lifted by their bound, so that every product is one of
+/// two unsigned numbers of 32 bits; what the lift adds is known from the sum
+/// of the key elements, and taken away at the end.
 pub struct Sum<const D: usize> {
-    places: [[i64; D]; 2],
+    lift: i32,
+    places: [u64; D],
+    keys: [u64; D],
 }
 
 impl<const D: usize> Sum<D> {
-    pub fn new() -> Sum<D> {
+    /// For message coefficients within plus or minus `lift`.
+    pub fn new(lift: i64) -> Sum<D> {
         Sum {
-            places: [[0; D]; 2],
+            lift: lift as i32,
+            places: [0; D],
+            keys: [0; D],
         }
     }
 
-    /// Adds the product of a message element and a key element.
+    /// Adds the product of a message element and a key element, whose
+    /// coefficients are at most `top`, a multiple of q. With top-g and then g
+    /// in a window, the coefficient of X^k in X^i·g is at D-i+k.
     #[inline]
-    pub fn add_product(&mut self, m: &[i32; D], g: &[u32; D]) {
-        let places = self.places.as_flattened_mut();
-        for (i, &x) in m.iter().enumerate() {
-            let x = i64::from(x);
-            for (place, &y) in places[i..i + D].iter_mut().zip(g) {
-                *place += x * i64::from(y);
+    pub fn add_product(&mut self, m: &[i32; D], g: &[u32; D], top: u32) {
+        let mut window = [[0; D]; 2];
+        for (k, &y) in g.iter().enumerate() {
+            window[0][k] = top - y;
+            window[1][k] = y;
+            self.keys[k] += u64::from(y);
+        }
+        let window = window.as_flattened();
+        let lifted = m.map(|x| u64::from((x + self.lift) as u32));
+        // Four at a time, so that the sums are loaded and stored less often;
+        // only degree 2 is no multiple of four.
+        let (fours, twos) = lifted.as_chunks::<4>();
+        for (block, x) in fours.iter().enumerate() {
+            let at = D - 4 * block;
+            let a = &window[at..at + D];
+            let b = &window[at - 1..at - 1 + D];
+            let c = &window[at - 2..at - 2 + D];
+            let d = &window[at - 3..at - 3 + D];
+            for k in 0..D {
+                self.places[k] += x[0] * u64::from(a[k])
+                    + x[1] * u64::from(b[k])
+                    + x[2] * u64::from(c[k])
+                    + x[3] * u64::from(d[k]);
+            }
+        }
+        for (i, &x) in twos.iter().enumerate() {
+            for (place, &y) in self.places.iter_mut().zip(&window[D - i..]) {
+                *place += x * u64::from(y);
             }
         }
     }
 
-    /// The whole-number coefficients, with X^D = -1.
-    #[inline]
-    pub fn wholes(&self) -> [i64; D] {
-        let [low, high] = &self.places;
-        std::array::from_fn(|k| low[k] - high[k])
-    }
-
+    /// The sum modulo q. The lift times 1 + X + ... + X^(D-1) times the keys
+    /// is too much; its coefficient at X^k is the lift times the keys up to k
+    /// less those behind.
     pub fn residues(&self, modulus: Modulus) -> [u32; D] {
-        self.wholes().map(|x| modulus.reduce_signed(x))
+        let total: u64 = self.keys.iter().sum();
+        let mut difference = -(total as i64);
+        std::array::from_fn(|k| {
+            difference += 2 * self.keys[k] as i64;
+            modulus.reduce_signed(self.places[k] as i64 - i64::from(self.lift) * difference)
+        })
     }
 }
 
-/// The sum of m_i·G_i, not reduced.
-pub fn inner_product<const D: usize>(m: &[[i32; D]], g: &[[u32; D]]) -> Sum<D> {
-    let mut sum = Sum::new();
+/// The sum of m_i·G_i modulo q, for message coefficients within plus or
+/// minus `bound`. No sum exceeds 64 bits: the bound times the number of
+/// elements is at most 2^15, and D·2^31 at most 2^37.
+pub fn inner_product<const D: usize>(
+    m: &[[i32; D]],
+    g: &[[u32; D]],
+    bound: i64,
+    modulus: Modulus,
+) -> [u32; D] {
+    let mut sum = Sum::new(bound);
     for (m, g) in m.iter().zip(g) {
-        sum.add_product(m, g);
+        sum.add_product(m, g, modulus.q);
     }
-    sum
+    sum.residues(modulus)
 }
 
 /// Splits X^e into a shift below D and whether the sign changes.
@@ -182,7 +221,8 @@ pub fn add_rotated_wholes<const D: usize>(out: &mut [i64; D], a: &[i64; D], e: u
 pub fn divide_two<const D: usize>(v: &[i64; D], k: usize) -> [i64; D] {
     let g = 1 << k.trailing_zeros();
     let steps = D / g;
-    let signed = |i: usize| if i < D { v[i] } else { -v[i - D] };
+    let sign = |i: usize| 1 - 2 * (i / D) as i64;
+    let signed = |i: usize| sign(i) * v[i % D];
     let mut z = [0; D];
     for start in 0..g {
         let mut i = start;
@@ -193,11 +233,7 @@ pub fn divide_two<const D: usize>(v: &[i64; D], k: usize) -> [i64; D] {
         }
         i = start;
         for _ in 0..steps {
-            if i < D {
-                z[i] = x;
-            } else {
-                z[i - D] = -x;
-            }
+            z[i % D] = sign(i) * x;
             i = (i + k) % (2 * D);
             x -= 2 * signed(i);
         }
