@@ -10,6 +10,7 @@
 #![forbid(unsafe_code)]
 
 pub mod admit;
+pub mod cases;
 pub mod draw;
 pub mod fast;
 pub mod plain;
