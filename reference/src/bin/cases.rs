@@ -29,7 +29,7 @@
 //!
 //! | Name | Inputs | Outputs |
 //! |---|---|---|
-//! | commit | settings, key, message | number; commitment (element) |
+//! | commit | settings; key; message | number; commitment (element) |
 //! | round | settings; t; key; message | number; polynomial |
 //! | fold | settings; t e; key; message | number; key; message |
 //! | end | settings; t; message | number; final (element) |
