@@ -28,3 +28,4 @@ pub mod Norms
 pub mod Growth
 pub mod GrowthTest
 pub mod Extractor
+pub mod Demand3
