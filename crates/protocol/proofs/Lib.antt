@@ -10,3 +10,4 @@ pub mod Traps
 pub mod ComputeText
 pub mod KnownTexts
 pub mod NumeralLaws
+pub mod Modulo
