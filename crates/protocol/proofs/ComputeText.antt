@@ -6,7 +6,7 @@ use Rattle.protocol.specs.Element.{modulo, flips, around, rotate, produc
 use Rattle.protocol.specs.Settings.{degreeAllowed, depthAllowed, modulusAllowed, boundAllowed, settingsRefusal, size, half, sized, residues, small, exponent, exponents}
 use Rattle.protocol.specs.Opening.{inner, second, cross, foldSigned, foldResidues, commitment, halfLeft, roundElement, foldMessage, foldKey, messageAfter, keyAfter, finalElement, roundTable}
 use Rattle.protocol.specs.Transcript.{doubled, roundHolds, nextClaim, finalBounded, ending, endHolds, element, claimAfter, holdsAt, closes, accepted, transcriptOf}
-use Rattle.protocol.specs.Text.{textLimit, valueLimit, bytes, names, digitCount, lowDigits, decimal, numeral, lineText, linesText, shape, settingsShape, shapes, shapeSize, spotAt, spots, wanted, contents, block, blocks, blockLines, textOf, blockFits, fits, keep, digit, digitRun, digitFirst, properDigits, readCount, plain, negative, readNumber, byte, readLine, readLines, begins, beginsWithNames, parsed, linesOf, sameSpot, sameSpots, spotsOf, valuesOf, wellFormed, unsigned, column, unsignedColumn, settingIn, settingsIn, tablesIn, noSettings, lookRefusal, loaded, lookAnswer, entriesRefusal, textRefusal, readRefusal, readAnswer, readExit, outputRefusal, writeRefusal, written, overwritten, writeAnswer, writeExit, reading, numberAnswer, readNumberAt, readCountAt}
+use Rattle.protocol.specs.Text.{textLimit, valueLimit, bytes, names, digitCount, lowDigits, decimal, numeral, lineText, linesText, shape, settingsShape, shapes, shapeSize, spotAt, spots, wanted, contents, block, blocks, blockLines, textOf, blockFits, fits, keep, digit, digitRun, digitFirst, properDigits, readCount, plain, negative, readNumber, byte, readIndex, readLine, readLines, begins, beginsWithNames, parsed, linesOf, sameSpot, sameSpots, spotsOf, valuesOf, wellFormed, unsigned, column, unsignedColumn, settingIn, settingsIn, tablesIn, noSettings, lookRefusal, loaded, lookAnswer, entriesRefusal, textRefusal, readRefusal, readAnswer, readExit, outputRefusal, writeRefusal, written, overwritten, writeAnswer, writeExit, reading, numberAnswer, readNumberAt, readCountAt}
 use Rattle.protocol.specs.Programs.{proveReads, provePrints, verifyReads, printed, proofText, proveText, proveRefusal, proveAnswer, proveExit, transcriptIn, tablesAccepted, verifyRefusal, verifyAnswer, checked, refusedLine, verdictLine, proveOutput, verifyOutput}
 use Rattle.protocol.specs.RoundTrip.{outcome}
 
@@ -19,7 +19,7 @@ unfolding
     inner second cross foldSigned foldResidues commitment halfLeft roundElement foldMessage foldKey messageAfter keyAfter finalElement roundTable
     doubled roundHolds nextClaim finalBounded ending endHolds element claimAfter holdsAt closes accepted transcriptOf
     textLimit valueLimit bytes names digitCount lowDigits decimal numeral lineText linesText shape settingsShape shapes shapeSize spotAt spots wanted
-    contents block blocks blockLines textOf blockFits fits keep digit digitRun digitFirst properDigits readCount plain negative readNumber byte
+    contents block blocks blockLines textOf blockFits fits keep digit digitRun digitFirst properDigits readCount plain negative readNumber byte readIndex
     readLine readLines begins beginsWithNames parsed linesOf sameSpot sameSpots spotsOf valuesOf wellFormed unsigned column unsignedColumn settingIn
     settingsIn tablesIn noSettings lookRefusal loaded lookAnswer entriesRefusal textRefusal readRefusal readAnswer readExit outputRefusal
     writeRefusal written overwritten writeAnswer writeExit reading numberAnswer readNumberAt readCountAt

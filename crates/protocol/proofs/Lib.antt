@@ -1,3 +1,4 @@
 pub mod ComputeText
 pub mod KnownTexts
 pub mod NumeralLaws
+pub mod LineLaws

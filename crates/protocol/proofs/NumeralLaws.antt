@@ -3,7 +3,7 @@
 use mathlib.Core.Path.{_≡_, refl, sym, _∙_, ap, subst}
 use mathlib.Core.Bool.{Bool, true, false, _&&_, not, and-true, and-false, and-eq-true-iff, true≢false}
 use mathlib.Core.List.{List, [], _∷_, _++_, append-assoc}
-use mathlib.Core.Option.{Option, none, some, bind, bind-eq-some-iff}
+use mathlib.Core.Option.{Option, none, some, bind, Option·none-ne-some}
 use Prim.Native.Nat.{ℕ, zero, suc, _+_, _*_, _-_, _/_, _%_, _^_, _<_, _≤_}
 use native.Mathlib.Omega.{arith}
 use native.Mathlib.Numerals.{add-one}
@@ -257,7 +257,7 @@ digitRun-run m (b ∷ bs) = go (digit b) refl (digitRun-run (m * 10 + (b - 48)) 
 pub keep-some {ℓ} : {A : Type ℓ} (t : Bool) (a c : A) → keep t a ≡ some c → (t ≡ true) × (a ≡ c)
 unfolding keep
 keep-some true a c e = (refl, cc)
-keep-some false a c e = absurd (let z : _≡_ {A = ℕ} 0 1 = cc in omega arith)
+keep-some false a c e = absurd (Option·none-ne-some c e)
 
 pub proper-first : (bs : List ℕ) → properDigits bs ≡ true → digitFirst bs ≡ true
 unfolding properDigits digitFirst
@@ -284,7 +284,7 @@ lead n j rest p =
 proper-digits : (n k : ℕ) (rest : List ℕ) → properDigits (lowDigits k n ++ rest) ≡ true → digitFirst rest ≡ false → n < 10 ^ k → n ≤ valueLimit → Digits n k
 proper-digits n zero rest p stop under limit =
     let q : digitFirst rest ≡ true = proper-first rest (unfold lowDigits in p) in
-    absurd (let z : _≡_ {A = Bool} true false = cc in true≢false z)
+    absurd (true≢false (sym q ∙ stop))
 proper-digits n (suc zero) rest p stop under limit = record { some-digit = omega arith; at-most = omega arith; under = under; over = λ i l. absurd (omega arith) }
 proper-digits n (suc (suc j)) rest p stop under limit =
     let l₀ : 10 ^ suc j ≤ n = lead n j rest p in
@@ -329,7 +329,7 @@ unfolding plain bind
 plain-numbered bs z rest = go (readCount bs) refl
   where
     go : (o : Option (ℕ × List ℕ)) → readCount bs ≡ o → plain o ≡ some (z, rest) → Numbered bs z rest
-    go none c e = absurd (let x : _≡_ {A = Bool} true false = cc in true≢false x)
+    go none c e = absurd (Option·none-ne-some (z, rest) e)
     go (some (n, more)) c e =
         let same : _≡_ {A = ℤ × List ℕ} (pos n, more) (z, rest) = cc in
         subst (λ (p : ℤ × List ℕ). Numbered bs (p .0) (p .1)) same (counted-numbered bs n more (readCount-text bs n more c))
@@ -339,7 +339,7 @@ unfolding negative bind numeral
 negative-numbered bs z rest = go (readCount bs) refl
   where
     go : (o : Option (ℕ × List ℕ)) → readCount bs ≡ o → negative o ≡ some (z, rest) → Numbered (45 ∷ bs) z rest
-    go none c e = absurd (let x : _≡_ {A = Bool} true false = cc in true≢false x)
+    go none c e = absurd (Option·none-ne-some (z, rest) e)
     go (some (zero, more)) c e = absurd (true≢false (sym (keep-some false (pos 0, more) (z, rest) e .0)))
     go (some (suc n, more)) c e =
         let r = readCount-text bs (suc n) more c in
@@ -351,7 +351,7 @@ negative-numbered bs z rest = go (readCount bs) refl
 
 pub readNumber-text : (bs : List ℕ) (z : ℤ) (rest : List ℕ) → readNumber bs ≡ some (z, rest) → Numbered bs z rest
 unfolding readNumber
-readNumber-text [] z rest e = absurd (let x : _≡_ {A = Bool} true false = cc in true≢false x)
+readNumber-text [] z rest e = absurd (Option·none-ne-some (z, rest) e)
 readNumber-text (b ∷ bs) z rest e = go (eqb b 45) refl e
   where
     go : (t : Bool) → eqb b 45 ≡ t → readNumber (b ∷ bs) ≡ some (z, rest) → Numbered (b ∷ bs) z rest

@@ -28,6 +28,7 @@
 --   plain r, negative r           what was read, with no sign before it, and with a minus before it
 --   readNumber bs                 the number that stands here, with the bytes behind it
 --   byte c bs                     the bytes behind a byte c
+--   readIndex bs                  a number from 0 on and a space, with the bytes behind it
 --   readLine, readLines           a line with the bytes behind it; all lines up to the end
 --   begins cs bs                  do the bytes bs begin with the bytes cs
 --   beginsWithNames text          does a text begin with the names line
@@ -260,17 +261,21 @@ unfoldable pub byte : ℕ → List ℕ → Option (List ℕ)
 byte c [] = none
 byte c (b ∷ bs) = keep (eqb b c) bs
 
--- "single spaces, a line feed after every line"; "only a value may be negative"
+-- "single spaces"
+unfoldable pub readIndex : List ℕ → Option (ℕ × List ℕ)
+readIndex bs = do
+  (n, behind) ← readCount bs
+  rest ← byte space behind
+  some (n, rest)
+
+-- "a line feed after every line"; "only a value may be negative"
 unfoldable pub readLine : List ℕ → Option (Line × List ℕ)
 readLine bs = do
-  (part, behindPart) ← readCount bs
-  itemOn ← byte space behindPart
-  (item, behindItem) ← readCount itemOn
-  placeOn ← byte space behindItem
-  (place, behindPlace) ← readCount placeOn
-  valueOn ← byte space behindPlace
-  (value, behindValue) ← readNumber valueOn
-  rest ← byte lineFeed behindValue
+  (part, itemOn) ← readIndex bs
+  (item, placeOn) ← readIndex itemOn
+  (place, valueOn) ← readIndex placeOn
+  (value, behind) ← readNumber valueOn
+  rest ← byte lineFeed behind
   some (record { spot = record { part = part; item = item; place = place }; value = value }, rest)
 
 -- a line has at least one byte, so more turns than there are bytes reach the end
