@@ -2,3 +2,4 @@ pub mod ComputeText
 pub mod KnownTexts
 pub mod NumeralLaws
 pub mod LineLaws
+pub mod PlaceLaws

@@ -8,7 +8,7 @@ use Prim.Native.Nat.{ℕ, zero, suc, _+_, _*_, _-_, _/_, _%_, _^_, _<_, _≤_}
 use native.Mathlib.Omega.{arith}
 use native.Mathlib.Numerals.{add-one}
 use native.Mathlib.Decide.{decLt}
-use native.Mathlib.Nat.{le-trans, zero-mul, mul-assoc, pow-succ', mod-lt, mod-eq-of-lt, mul-add-mod-self-right, div-add-mod', div-div-eq-div-mul, pow-suc, pow-zero, mod-one, mul-one, div-one, div-eq-of-lt, one-le-pow, pow-le-pow-right, le-div-iff-mul-le, div-lt-iff-lt-mul}
+use native.Mathlib.Nat.{le-trans, zero-mul, mul-assoc, pow-succ', mod-lt, mod-eq-of-lt, mul-add-mod-self-right, div-add-mod', div-div-eq-div-mul, pow-suc, pow-zero, mod-one, mul-one, div-one, div-eq-of-lt, one-le-pow, pow-le-pow-right, le-div-iff-mul-le, div-lt-iff-lt-mul, div-le-self}
 use lib.Dec.{leb, ltb, eqb, eqb·suc-zero}
 use lib.ListN.{length, length-append}
 use lib.IntN.{ℤ, pos, negsuc, natAbs}
@@ -221,6 +221,14 @@ readNumber-numeral (pos n) rest h stop =
     ∙ ap plain (ap readCount (sym c) ∙ readCount-decimal n rest h stop)
 readNumber-numeral (negsuc n) rest h stop = rw (readCount-decimal (suc n) rest h stop, eqb·suc-zero n)
 
+pub decimal-some : (n : ℕ) → 0 < length (decimal n)
+decimal-some n = omega (arith, decimal-length n, digitCount-suc n .1)
+
+pub numeral-some : (z : ℤ) → 0 < length (numeral z)
+unfolding numeral
+numeral-some (pos n) = decimal-some n
+numeral-some (negsuc n) = omega arith
+
 -- ---- A number that was read is written with the same bytes
 
 -- the digits at the front of bs, behind digits that stand for m: they stand for v, and rest is behind them
@@ -253,6 +261,10 @@ digitRun-run m (b ∷ bs) = go (digit b) refl (digitRun-run (m * 10 + (b - 48)) 
     go : (t : Bool) → digit b ≡ t → Run (m * 10 + (b - 48)) bs (digitRun (m * 10 + (b - 48)) bs .0) (digitRun (m * 10 + (b - 48)) bs .1) → Run m (b ∷ bs) (digitRun m (b ∷ bs) .0) (digitRun m (b ∷ bs) .1)
     go true h r = rw (digitRun-on m b bs h) (run-cons m b bs _ _ h r)
     go false h r = rw (digitRun-stop m (b ∷ bs) (unfold digitFirst in h)) (run-none m (b ∷ bs) (unfold digitFirst in h))
+
+-- digits never make a number smaller
+pub digitRun-grows : (n : ℕ) (bs : List ℕ) → n ≤ digitRun n bs .0
+digitRun-grows n bs = let r = digitRun-run n bs in omega (arith, r .before, div-le-self (digitRun n bs .0) (10 ^ r .count))
 
 pub keep-some {ℓ} : {A : Type ℓ} (t : Bool) (a c : A) → keep t a ≡ some c → (t ≡ true) × (a ≡ c)
 unfolding keep
@@ -324,7 +336,7 @@ counted-numbered : (bs : List ℕ) (n : ℕ) (rest : List ℕ) → Counted bs n 
 unfolding numeral
 counted-numbered bs n rest c = record { limit = c .limit; split = c .split; stop = c .stop }
 
-plain-numbered : (bs : List ℕ) (z : ℤ) (rest : List ℕ) → plain (readCount bs) ≡ some (z, rest) → Numbered bs z rest
+pub plain-numbered : (bs : List ℕ) (z : ℤ) (rest : List ℕ) → plain (readCount bs) ≡ some (z, rest) → Numbered bs z rest
 unfolding plain bind
 plain-numbered bs z rest = go (readCount bs) refl
   where

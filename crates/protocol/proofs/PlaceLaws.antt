@@ -1,0 +1,67 @@
+-- Laws about readers at a place of a text: what the number readers answer as calls, said of the bytes that stand there.
+use mathlib.Core.Path.{_≡_, refl, sym, _∙_, ap, subst}
+use mathlib.Core.Bool.{Bool, true, false, true≢false}
+use mathlib.Core.List.{List, [], _∷_, _++_}
+use mathlib.Core.Option.{Option, none, some}
+use Prim.Native.Nat.{ℕ, zero, suc, _+_, _-_, _<_, _≤_}
+use native.Mathlib.Omega.{arith}
+use lib.ListN.{length, drop, getD, length-append, length-drop}
+use lib.Seq.{drop-append-seam, drop-drop, drop-cons}
+use lib.IntN.{ℤ}
+use Rattle.protocol.specs.declared.Number.{Number}
+use Rattle.protocol.specs.declared.Number.the-variants.{Value, Refused}
+use Rattle.protocol.specs.Text.{decimal, numeral, readCount, readNumber, plain, numberAnswer, readNumberAt, readCountAt}
+use Rattle.protocol.proofs.NumeralLaws.{Numbered, readNumber-text, plain-numbered, numeral-some}
+
+-- what was read at a place, and where it ends
+pub record ReadAt (text : List ℕ) (at : ℕ) (read : Option (ℤ × List ℕ)) (value : ℤ) (next : ℕ) : Type 0 where
+  pub read-it : read ≡ some (value, drop next text)
+  pub onward : at < next
+  pub inside : next ≤ length text
+
+-- a rest behind something at a place is what stands from its own place on
+pub rest-place : (text pre rest : List ℕ) (at : ℕ) → drop at text ≡ pre ++ rest → 0 < length pre
+    → (rest ≡ drop (length text - length rest) text) × (at < length text - length rest)
+rest-place text pre rest at e some-pre =
+    let lengths : length text - at ≡ length pre + length rest = sym (length-drop at text) ∙ ap length e ∙ length-append pre rest in
+    let place : at + length pre ≡ length text - length rest = omega arith in
+    (sym (drop-append-seam pre rest) ∙ ap (drop (length pre)) (sym e) ∙ drop-drop (length pre) at text ∙ ap (λ (n : ℕ). drop n text) place, omega arith)
+
+module _ (text : List ℕ) (at : ℕ) where
+  read-at : (value : ℤ) (rest : List ℕ) → Numbered (drop at text) value rest → ReadAt text at (some (value, rest)) value (length text - length rest)
+  read-at value rest r =
+      let (same, on) = rest-place text (numeral value) rest at (r .split) (numeral-some value) in
+      record { read-it = ap (λ (l : List ℕ). some (value, l)) same; onward = on; inside = omega arith }
+
+  answer-value : (o : Option (ℤ × List ℕ)) → ((z : ℤ) (rest : List ℕ) → o ≡ some (z, rest) → Numbered (drop at text) z rest)
+      → (value : ℤ) (next : ℕ) → numberAnswer text o ≡ Value value next → ReadAt text at o value next
+  unfolding numberAnswer
+  answer-value none n value next e = absurd (let x : _≡_ {A = Bool} true false = cc in true≢false x)
+  answer-value (some (z, rest)) n value next e =
+      let same-value : z ≡ value = cc in
+      let same-next : length text - length rest ≡ next = cc in
+      subst
+      (λ (x : ℕ). ReadAt text at (some (z, rest)) value x)
+      same-next
+      (subst (λ (x : ℤ). ReadAt text at (some (z, rest)) x (length text - length rest)) same-value (read-at z rest (n z rest refl)))
+
+  answer-refused : (o : Option (ℤ × List ℕ)) (number : ℕ) → numberAnswer text o ≡ Refused number → (o ≡ none) × (number ≡ 2)
+  unfolding numberAnswer
+  answer-refused none number e = (refl, cc)
+  answer-refused (some (z, rest)) number e = absurd (let x : _≡_ {A = Bool} true false = cc in true≢false x)
+
+  pub readNumberAt-value : (value : ℤ) (next : ℕ) → readNumberAt text at ≡ Value value next → ReadAt text at (readNumber (drop at text)) value next
+  unfolding readNumberAt
+  readNumberAt-value = answer-value (readNumber (drop at text)) (readNumber-text (drop at text))
+
+  pub readNumberAt-refused : (number : ℕ) → readNumberAt text at ≡ Refused number → (readNumber (drop at text) ≡ none) × (number ≡ 2)
+  unfolding readNumberAt
+  readNumberAt-refused = answer-refused (readNumber (drop at text))
+
+  pub readCountAt-value : (value : ℤ) (next : ℕ) → readCountAt text at ≡ Value value next → ReadAt text at (plain (readCount (drop at text))) value next
+  unfolding readCountAt
+  readCountAt-value = answer-value (plain (readCount (drop at text))) (plain-numbered (drop at text))
+
+  pub readCountAt-refused : (number : ℕ) → readCountAt text at ≡ Refused number → (plain (readCount (drop at text)) ≡ none) × (number ≡ 2)
+  unfolding readCountAt
+  readCountAt-refused = answer-refused (plain (readCount (drop at text)))
