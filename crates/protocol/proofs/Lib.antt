@@ -3,3 +3,4 @@ pub mod KnownTexts
 pub mod NumeralLaws
 pub mod LineLaws
 pub mod PlaceLaws
+pub mod TableLaws
