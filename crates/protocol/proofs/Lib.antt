@@ -4,3 +4,5 @@ pub mod NumeralLaws
 pub mod LineLaws
 pub mod PlaceLaws
 pub mod TableLaws
+pub mod TestLaws
+pub mod RoundTripLaws
