@@ -214,16 +214,16 @@ cut (l ∷ ls) (s ∷ a) c e =
     }
 
 -- lines whose spots are those of a part and of parts that rise behind it
-record Split (b : Shape) (bs : List Shape) (ls : List Line) : Type 0 where
-  front : List Line
-  back : List Line
-  joined : ls ≡ front ++ back
-  front-spots : spotsOf front ≡ spots b
-  back-spots : spotsOf back ≡ flatMap spots bs
-  mine : column (b .part) ls ≡ valuesOf front
-  others : columns (parts bs) ls ≡ columns (parts bs) back
+pub record Split (b : Shape) (bs : List Shape) (ls : List Line) : Type 0 where
+  pub front : List Line
+  pub back : List Line
+  pub joined : ls ≡ front ++ back
+  pub front-spots : spotsOf front ≡ spots b
+  pub back-spots : spotsOf back ≡ flatMap spots bs
+  pub mine : column (b .part) ls ≡ valuesOf front
+  pub others : columns (parts bs) ls ≡ columns (parts bs) back
 
-split : (b : Shape) (bs : List Shape) (ls : List Line) → Rising (suc (b .part)) (parts bs) → spotsOf ls ≡ spots b ++ flatMap spots bs → Split b bs ls
+pub split : (b : Shape) (bs : List Shape) (ls : List Line) → Rising (suc (b .part)) (parts bs) → spotsOf ls ≡ spots b ++ flatMap spots bs → Split b bs ls
 split b bs ls r e =
     let c = cut ls (spots b) (flatMap spots bs) e in
     let ks = c .front in
