@@ -1,18 +1,19 @@
 -- Laws about lines as text: lines that are written are read back, and what is read is the text of the lines it gives.
 -- So a text of the stated shape and its list of lines determine each other.
 use mathlib.Core.Path.{_≡_, refl, sym, _∙_, ap, subst}
-use mathlib.Core.Bool.{Bool, true, false, _&&_, and-eq-true-iff, true≢false}
+use mathlib.Core.Bool.{Bool, true, false, and-eq-true-iff, true≢false}
 use mathlib.Core.List.{List, [], _∷_, _++_, append-assoc, flatMap}
 use mathlib.Core.Option.{Option, none, some, bind, bind-eq-some-iff, Option·none-ne-some}
-use Prim.Native.Nat.{ℕ, zero, suc, _+_, _-_, _<_, _≤_}
+use Prim.Native.Nat.{ℕ, zero, suc, _<_, _≤_}
 use native.Mathlib.Omega.{arith}
 use lib.Dec.{eqb}
 use lib.ListN.{length, drop, length-append}
 use lib.Seq.{drop-append-seam}
-use lib.IntN.{ℤ, natAbs}
+use lib.IntN.{natAbs}
 use borrow.Author.Tests.{eqb-true, eq-eqb}
-use Rattle.protocol.specs.Text.{Spot, Line, valueLimit, bytes, names, decimal, numeral, lineText, linesText, keep, digit, digitFirst, properDigits, readCount, readNumber, byte, readIndex, readLine, readLines, begins, beginsWithNames, parsed, linesOf}
-use Rattle.protocol.proofs.NumeralLaws.{Counted, Numbered, keep-some, readCount-decimal, readNumber-numeral, readCount-text, readNumber-text}
+use Rattle.protocol.specs.Text.{Line, valueLimit, bytes, names, decimal, numeral, lineText, linesText, keep, digit, digitFirst, properDigits}
+use Rattle.protocol.specs.Text.{readCount, readNumber, byte, readIndex, readLine, readLines, begins, beginsWithNames, parsed, linesOf}
+use Rattle.protocol.proofs.NumeralLaws.{keep-some, readCount-decimal, readNumber-numeral, readCount-text, readNumber-text}
 
 -- every number of a line is within the limit of magnitude
 pub record Limited (l : Line) : Type 0 where
@@ -128,7 +129,8 @@ byte-text c (b ∷ bs) rest e =
     ap (λ (x : ℕ). x ∷ bs) (eqb-true b c same) ∙ ap (λ (l : List ℕ). c ∷ l) more
 
 -- what was read first, and what followed
-bind-some {ℓ₁ ℓ₂ ℓ₃} : {A : Type ℓ₁} {B : Type ℓ₂} {C : Type ℓ₃} (o : Option A) (f : A → Option B) {x : B} → bind o f ≡ some x → ((a : A) → o ≡ some a → f a ≡ some x → C) → C
+bind-some {ℓ₁ ℓ₂ ℓ₃} : {A : Type ℓ₁} {B : Type ℓ₂} {C : Type ℓ₃} (o : Option A) (f : A → Option B) {x : B}
+    → bind o f ≡ some x → ((a : A) → o ≡ some a → f a ≡ some x → C) → C
 bind-some o f e k = let (a, p, q) = bind-eq-some-iff o f .0 e in k a p q
 
 pub record Indexed (bs : List ℕ) (n : ℕ) (rest : List ℕ) : Type 0 where
@@ -165,7 +167,7 @@ readLine-text bs l rest e =
     let place = readIndex-text (j .1) (k .0) (k .1) p₃ in
     let value = readNumber-text (k .1) (v .0) (v .1) p₄ in
     let t₃ : k .1 ≡ numeral (v .0) ++ (10 ∷ behind) = value .split ∙ ap (λ (t : List ℕ). numeral (v .0) ++ t) (byte-text 10 (v .1) behind p₅) in
-    let t₂ : j .1 ≡ decimal (k .0) ++ (32 ∷ (numeral (v .0) ++ (10 ∷ behind))) = place .split ∙ ap (λ (t : List ℕ). decimal (k .0) ++ (32 ∷ t)) t₃ in
+    let t₂ = place .split ∙ ap (λ (t : List ℕ). decimal (k .0) ++ (32 ∷ t)) t₃ in
     let t₁ = item .split ∙ ap (λ (t : List ℕ). decimal (j .0) ++ (32 ∷ t)) t₂ in
     let t₀ = part .split ∙ ap (λ (t : List ℕ). decimal (i .0) ++ (32 ∷ t)) t₁ in
     let same : _≡_ {A = Line × List ℕ} (m, behind) (l, rest) = cc in

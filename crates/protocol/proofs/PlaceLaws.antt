@@ -1,16 +1,15 @@
 -- Laws about readers at a place of a text: what the number readers answer as calls, said of the bytes that stand there.
 use mathlib.Core.Path.{_≡_, refl, sym, _∙_, ap, subst}
 use mathlib.Core.Bool.{Bool, true, false, true≢false}
-use mathlib.Core.List.{List, [], _∷_, _++_}
+use mathlib.Core.List.{List, _++_}
 use mathlib.Core.Option.{Option, none, some}
-use Prim.Native.Nat.{ℕ, zero, suc, _+_, _-_, _<_, _≤_}
+use Prim.Native.Nat.{ℕ, _+_, _-_, _<_, _≤_}
 use native.Mathlib.Omega.{arith}
-use lib.ListN.{length, drop, getD, length-append, length-drop}
-use lib.Seq.{drop-append-seam, drop-drop, drop-cons}
+use lib.ListN.{length, drop, length-append, length-drop}
+use lib.Seq.{drop-append-seam, drop-drop}
 use lib.IntN.{ℤ}
-use Rattle.protocol.specs.declared.Number.{Number}
 use Rattle.protocol.specs.declared.Number.the-variants.{Value, Refused}
-use Rattle.protocol.specs.Text.{decimal, numeral, readCount, readNumber, plain, numberAnswer, readNumberAt, readCountAt}
+use Rattle.protocol.specs.Text.{numeral, readCount, readNumber, plain, numberAnswer, readNumberAt, readCountAt}
 use Rattle.protocol.proofs.NumeralLaws.{Numbered, readNumber-text, plain-numbered, numeral-some}
 
 -- what was read at a place, and where it ends
@@ -58,7 +57,8 @@ module _ (text : List ℕ) (at : ℕ) where
   unfolding readNumberAt
   readNumberAt-refused = answer-refused (readNumber (drop at text))
 
-  pub readCountAt-value : (value : ℤ) (next : ℕ) → readCountAt text at ≡ Value value next → ReadAt text at (plain (readCount (drop at text))) value next
+  pub readCountAt-value : (value : ℤ) (next : ℕ) → readCountAt text at ≡ Value value next
+      → ReadAt text at (plain (readCount (drop at text))) value next
   unfolding readCountAt
   readCountAt-value = answer-value (plain (readCount (drop at text))) (plain-numbered (drop at text))
 

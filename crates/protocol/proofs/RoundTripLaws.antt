@@ -3,25 +3,30 @@ use mathlib.Core.Path.{_≡_, refl, sym, _∙_, ap, ap₂, subst}
 use mathlib.Core.Bool.{Bool, true, false, _&&_, and-eq-true-iff, true≢false}
 use mathlib.Core.List.{List, [], _∷_, _++_, map, map-append, flatMap, zipWith}
 use mathlib.Core.Option.{Option, none, some, Option·getD}
-use Prim.Native.Nat.{ℕ, zero, suc, _+_, _*_, _/_, _%_, _^_, _<_, _≤_}
+use Prim.Native.Nat.{ℕ, zero, suc, _*_, _%_, _<_, _≤_}
 use native.Mathlib.Omega.{arith}
 use native.Mathlib.Nat.{le-trans, zero-mul, pow-le-pow-right, mul-le-mul, div-le-self, mod-le}
 use lib.Dec.{leb, ltb, eqb}
-use lib.ListN.{length, getD, take, drop, length-append, List·getD-append}
+use lib.ListN.{length, getD, take, drop, List·getD-append}
 use lib.Seq.{take-append-seam}
 use lib.IntN.{ℤ, pos, negsuc, natAbs}
 use borrow.Author.Tests.{leb-true, le-leb, ltb-true, eqb-true, eq-eqb}
 use Rattle.protocol.specs.declared.Settings.{Settings}
 use Rattle.protocol.specs.declared.Parts.{Parts}
 use Rattle.protocol.specs.Basic.{tabulate, all, choose, within, first, unless, granted}
-use Rattle.protocol.specs.Settings.{degreeAllowed, depthAllowed, modulusAllowed, boundAllowed, settingsRefusal, size, sized, residues, small, exponent, exponents}
-use Rattle.protocol.specs.Text.{Spot, Line, Shape, Block, Tables, textLimit, valueLimit, names, linesText, shape, settingsShape, shapes, shapeSize, spotAt, spots, wanted, contents, block, blocks, blockLines, textOf, blockFits, fits}
-use Rattle.protocol.specs.Text.{parsed, linesOf, sameSpot, sameSpots, spotsOf, valuesOf, wellFormed, unsigned, column, unsignedColumn, settingIn, settingsIn, tablesIn, noSettings, lookRefusal, loaded, entriesRefusal, textRefusal, readRefusal, readAnswer, readExit}
+use Rattle.protocol.specs.Settings.{degreeAllowed, depthAllowed, modulusAllowed, boundAllowed, settingsRefusal, size, sized, residues, small}
+use Rattle.protocol.specs.Settings.{exponent, exponents}
+use Rattle.protocol.specs.Text.{Spot, Line, Shape, Tables, textLimit, valueLimit, names, linesText, shape, settingsShape, shapes, shapeSize}
+use Rattle.protocol.specs.Text.{spotAt, spots, wanted, contents, block, blocks, blockLines, textOf, blockFits, fits}
+use Rattle.protocol.specs.Text.{parsed, linesOf, sameSpot, sameSpots, spotsOf, valuesOf, wellFormed, unsigned, column, unsignedColumn}
+use Rattle.protocol.specs.Text.{settingIn, settingsIn, tablesIn, lookRefusal, loaded, entriesRefusal, textRefusal, readRefusal, readAnswer}
+use Rattle.protocol.specs.Text.{readExit}
 use Rattle.protocol.specs.Text.{outputRefusal, writeRefusal, written, overwritten, writeAnswer, writeExit}
 use Rattle.protocol.specs.RoundTrip.{outcome, Back, Forth, RoundTrip}
-use Rattle.protocol.proofs.TestLaws.{first-zero, zero-first, unless-zero, zero-unless, and-both, all-weaken, all-map, all-getD, among-le}
-use Rattle.protocol.proofs.LineLaws.{Limited, AllLimited, parsed-written, linesOf-written, parsed-text}
-use Rattle.protocol.proofs.TableLaws.{Rising, Fit, parts, columns, written-spots, written-columns, blockLines-values, read-lines, read-fit, Split, split}
+use Rattle.protocol.proofs.TestLaws.{first-zero, unless-zero, and-both, all-weaken, all-map, all-getD, among-le}
+use Rattle.protocol.proofs.LineLaws.{Limited, AllLimited, linesOf-written, parsed-text}
+use Rattle.protocol.proofs.TableLaws.{Rising, Fit, parts, columns, written-spots, written-columns, blockLines-values, read-lines, read-fit}
+use Rattle.protocol.proofs.TableLaws.{Split, split}
 
 -- ---- Settings that are not refused
 
@@ -101,7 +106,8 @@ record Passed (S : Settings) (t : Tables) : Type 0 where
   challenges : exponents S (t .challenges) ≡ true
   last : all (within valueLimit) (t .last) ≡ true
 
-passed : (S : Settings) (lastFits : Bool) (t : Tables) → entriesRefusal S lastFits t ≡ 0 → (lastFits ≡ true → all (within valueLimit) (t .last) ≡ true) → Passed S t
+passed : (S : Settings) (lastFits : Bool) (t : Tables) → entriesRefusal S lastFits t ≡ 0
+    → (lastFits ≡ true → all (within valueLimit) (t .last) ≡ true) → Passed S t
 unfolding entriesRefusal
 passed S lastFits t h f =
     let (h₈, r₈) = first-zero _ _ h in
@@ -132,7 +138,8 @@ small-limited : (S : Settings) (v : List ℤ) → Allowed S → small (S .bound)
 unfolding small within valueLimit
 small-limited S v a h = all-weaken (within (S .bound)) (within valueLimit) (λ z e. le-leb (natAbs z) valueLimit (omega (arith, leb-true (natAbs z) (S .bound) e, a .bound))) v h
 
-settings-limited : (S : Settings) → Allowed S → all (within valueLimit) (pos (S .degree) ∷ pos (S .depth) ∷ pos (S .modulus) ∷ pos (S .bound) ∷ []) ≡ true
+settings-limited : (S : Settings) → Allowed S
+    → all (within valueLimit) (pos (S .degree) ∷ pos (S .depth) ∷ pos (S .modulus) ∷ pos (S .bound) ∷ []) ≡ true
 unfolding all within valueLimit
 settings-limited S a =
     rw (
@@ -285,7 +292,8 @@ module _ (S : Settings) (P : Parts) (t : Tables) where
     unfolding wellFormed wanted shapes flatMap settingsShape shape choose shapeSize spots spotAt tabulate sameSpots sameSpot
     well-formed a p = rw (lines-read a p, spots-wanted)
 
-    read-back : Allowed S → Passed S t → settingsRefusal S ≡ 0 → length (textOf S P t) ≤ textLimit → (u : Tables) → fits S P u ≡ true → readRefusal P (textOf S P t) u ≡ 0
+    read-back : Allowed S → Passed S t → settingsRefusal S ≡ 0 → length (textOf S P t) ≤ textLimit → (u : Tables) → fits S P u ≡ true
+        → readRefusal P (textOf S P t) u ≡ 0
     unfolding readRefusal textRefusal lookRefusal first unless
     read-back a p s n u h =
         rw (
@@ -302,14 +310,14 @@ module _ (S : Settings) (P : Parts) (t : Tables) where
         )
 
 -- what the writer asks of settings, tables and output slice
-record Unwritten (S : Settings) (P : Parts) (t : Tables) (out : List ℕ) : Type 0 where
+record Writable (S : Settings) (P : Parts) (t : Tables) (out : List ℕ) : Type 0 where
   settings : settingsRefusal S ≡ 0
   tables : fits S P t ≡ true
   entries : entriesRefusal S (all (within valueLimit) (t .last)) t ≡ 0
   short : length (textOf S P t) ≤ textLimit
   room : length (textOf S P t) ≤ length out
 
-writable : (S : Settings) (P : Parts) (t : Tables) (out : List ℕ) → writeRefusal S P t (length out) ≡ 0 → Unwritten S P t out
+writable : (S : Settings) (P : Parts) (t : Tables) (out : List ℕ) → writeRefusal S P t (length out) ≡ 0 → Writable S P t out
 unfolding writeRefusal outputRefusal
 writable S P t out h =
     let (h₁, r₁) = first-zero _ _ h in
@@ -326,16 +334,17 @@ writable S P t out h =
       room = leb-true _ (length out) (unless-zero 6 _ h₆);
     }
 
-unwritten : (S : Settings) (P : Parts) (t : Tables) (out : List ℕ) → Unwritten S P t out → writeRefusal S P t (length out) ≡ 0
+writable-refusal : (S : Settings) (P : Parts) (t : Tables) (out : List ℕ) → Writable S P t out → writeRefusal S P t (length out) ≡ 0
 unfolding writeRefusal outputRefusal first unless
-unwritten S P t out w =
+writable-refusal S P t out w =
     rw (w .settings, w .tables, w .entries, le-leb (length (textOf S P t)) textLimit (w .short), le-leb (length (textOf S P t)) (length out) (w .room))
 
 text-written : (S : Settings) (P : Parts) (t : Tables) (out : List ℕ) → writeRefusal S P t (length out) ≡ 0 → outcome S P t out ≡ textOf S P t
 unfolding outcome writeAnswer writeExit written overwritten granted
 text-written S P t out h = rw h (take-append-seam (textOf S P t) (drop (length (textOf S P t)) out))
 
-back : (S : Settings) (P : Parts) (t : Tables) (out : List ℕ) (lent : Tables) → writeRefusal S P t (length out) ≡ 0 → fits S P lent ≡ true → Back S P t out lent
+back : (S : Settings) (P : Parts) (t : Tables) (out : List ℕ) (lent : Tables) → writeRefusal S P t (length out) ≡ 0 → fits S P lent ≡ true
+    → Back S P t out lent
 unfolding readAnswer readExit loaded granted
 back S P t out lent h f =
     let w = writable S P t out h in
@@ -397,7 +406,8 @@ parsed-lines : (text : List ℕ) → wellFormed text ≡ true → parsed text �
 unfolding wellFormed linesOf spotsOf settingsShape shape choose shapeSize spots tabulate sameSpots
 parsed-lines text h = go (parsed text) refl h
   where
-    go : (o : Option (List Line)) → parsed text ≡ o → sameSpots (take (shapeSize settingsShape) (spotsOf (Option·getD o []))) (spots settingsShape) ≡ true → o ≡ some (Option·getD o [])
+    go : (o : Option (List Line)) → parsed text ≡ o
+        → sameSpots (take (shapeSize settingsShape) (spotsOf (Option·getD o []))) (spots settingsShape) ≡ true → o ≡ some (Option·getD o [])
     go none e k = absurd (true≢false (sym k))
     go (some ls) e k = refl
 
@@ -486,7 +496,7 @@ module _ (P : Parts) (text : List ℕ) (r : Readable P text) where
   unfolding fits blocks
   fits-forth = fit-all (shapes S P) (contents S t) (subst (Fit (shapes S P)) (sym contents-forth) fitting)
 
-  written-forth : (out : List ℕ) → length text ≤ length out → Unwritten S P t out
+  written-forth : (out : List ℕ) → length text ≤ length out → Writable S P t out
   written-forth out n =
       record {
         settings = r .settings;
@@ -500,7 +510,7 @@ forth : (P : Parts) (text : List ℕ) (lent : Tables) (out : List ℕ) → readR
 unfolding readAnswer readExit loaded granted writeAnswer writeExit written overwritten
 forth P text lent out h n =
     let r = readable P text lent h in
-    let w = unwritten _ P _ out (written-forth P text r out n) in
+    let w = writable-refusal _ P _ out (written-forth P text r out n) in
     record { answer = rw (h, w, text-forth P text r); output = rw (h, w, text-forth P text r) }
 
 pub roundTrip : RoundTrip

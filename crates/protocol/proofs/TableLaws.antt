@@ -2,7 +2,7 @@
 -- the wanted spots are the lines of their columns. The parts may be any list of shapes whose part numbers rise.
 use mathlib.Core.Path.{_≡_, refl, sym, _∙_, ap, ap₂, subst}
 use mathlib.Core.Bool.{Bool, true, false}
-use mathlib.Core.List.{List, [], _∷_, _++_, append-nil, append-assoc, map, map-append, flatMap, zipWith}
+use mathlib.Core.List.{List, [], _∷_, _++_, append-nil, map, map-append, flatMap, zipWith}
 use Prim.Native.Nat.{ℕ, zero, suc, _<_, _≤_}
 use native.Mathlib.Omega.{arith}
 use lib.Dec.{eqb}
@@ -10,7 +10,7 @@ use lib.ListN.{length, getD, length-map}
 use lib.IntN.{ℤ, pos}
 use borrow.Author.Tests.{eq-eqb, ne-eqb}
 use Rattle.protocol.specs.Basic.{tabulate, choose}
-use Rattle.protocol.specs.Text.{Spot, Line, Shape, Block, shapeSize, spotAt, spots, block, blockLines, spotsOf, valuesOf, column}
+use Rattle.protocol.specs.Text.{Spot, Line, Shape, shapeSize, spotAt, spots, block, blockLines, spotsOf, valuesOf, column}
 
 -- does Q hold of the part of every spot
 abbrev pub AllParts : (ℕ → Type 0) → List Spot → Type 0
@@ -74,6 +74,10 @@ all-parts : {Q R : ℕ → Type 0} → ((q : ℕ) → Q q → R q) → (ss : Lis
 all-parts f [] h = tt
 all-parts f (s ∷ ss) h = (f (s .part) (h .0), all-parts f ss (h .1))
 
+-- a part below those of all the lines
+column-below : (p : ℕ) (ls : List Line) → AllParts (λ q. suc p ≤ q) (spotsOf ls) → column p ls ≡ []
+column-below p ls h = column-none p ls (all-parts {Q = λ q. suc p ≤ q} (λ q l e. omega arith) (spotsOf ls) h)
+
 all-parts-append : (Q : ℕ → Type 0) (ss ts : List Spot) → AllParts Q ss → AllParts Q ts → AllParts Q (ss ++ ts)
 all-parts-append Q [] ts h k = k
 all-parts-append Q (s ∷ ss) ts h k = (h .0, all-parts-append Q ss ts (h .1) k)
@@ -101,7 +105,8 @@ spots-rise q (b ∷ bs) h =
     (all-parts {Q = λ p. suc (b .part) ≤ p} (λ p e. omega (arith, e, h .0)) (flatMap spots bs) (spots-rise (suc (b .part)) bs (h .1)))
 
 -- what stands before the parts from q on does not touch their columns
-columns-skip : (p q : ℕ) (ps : List ℕ) (ks ls : List Line) → p < q → Rising q ps → AllParts (λ r. r ≡ p) (spotsOf ks) → columns ps (ks ++ ls) ≡ columns ps ls
+columns-skip : (p q : ℕ) (ps : List ℕ) (ks ls : List Line) → p < q → Rising q ps → AllParts (λ r. r ≡ p) (spotsOf ks)
+    → columns ps (ks ++ ls) ≡ columns ps ls
 columns-skip p q [] ks ls l h k = refl
 columns-skip p q (r ∷ ps) ks ls l h k =
     ap₂
@@ -132,7 +137,8 @@ lined-values zero f (x ∷ v) e = absurd (omega arith)
 lined-values (suc n) f [] e = absurd (omega arith)
 lined-values (suc n) f (x ∷ v) e = ap (λ (l : List ℤ). x ∷ l) (lined-values n (λ i. f (suc i)) v (omega arith))
 
-lined-of : (n : ℕ) (f : ℕ → Spot) (ls : List Line) → spotsOf ls ≡ tabulate n f → tabulate n (λ p. record { spot = f p; value = getD (valuesOf ls) p (pos 0) }) ≡ ls
+lined-of : (n : ℕ) (f : ℕ → Spot) (ls : List Line) → spotsOf ls ≡ tabulate n f
+    → tabulate n (λ p. record { spot = f p; value = getD (valuesOf ls) p (pos 0) }) ≡ ls
 unfolding tabulate spotsOf valuesOf
 lined-of zero f [] e = refl
 lined-of zero f (l ∷ ls) e = absurd (omega (arith, ap length e))
@@ -170,7 +176,8 @@ written-spots (b ∷ bs) (v ∷ vs) h =
     ∙ ap₂ (λ (x y : List Spot). x ++ y) (blockLines-spots b v) (written-spots bs vs (h .1))
 
 -- the columns of written lines are the values that were written
-pub written-columns : (q : ℕ) (bs : List Shape) (vs : List (List ℤ)) → Rising q (parts bs) → Fit bs vs → columns (parts bs) (flatMap blockLines (zipWith block bs vs)) ≡ vs
+pub written-columns : (q : ℕ) (bs : List Shape) (vs : List (List ℤ)) → Rising q (parts bs) → Fit bs vs
+    → columns (parts bs) (flatMap blockLines (zipWith block bs vs)) ≡ vs
 unfolding flatMap zipWith
 written-columns q [] [] r h = refl
 written-columns q [] (v ∷ vs) r h = absurd h
@@ -184,7 +191,7 @@ written-columns q (b ∷ bs) (v ∷ vs) r h =
     ap₂
     (λ (x : List ℤ) (y : List (List ℤ)). x ∷ y)
     (column-append (b .part) ks ls
-    ∙ ap₂ (λ (x y : List ℤ). x ++ y) (column-all (b .part) ks own ∙ blockLines-values b v (h .0)) (column-none (b .part) ls (all-parts {Q = λ p. suc (b .part) ≤ p} (λ p e n. omega arith) (spotsOf ls) above))
+    ∙ ap₂ (λ (x y : List ℤ). x ++ y) (column-all (b .part) ks own ∙ blockLines-values b v (h .0)) (column-below (b .part) ls above)
     ∙ append-nil v)
     (columns-skip (b .part) (suc (b .part)) (parts bs) ks ls (omega arith) (r .1) own ∙ written-columns (suc (b .part)) bs vs (r .1) (h .1))
 
@@ -223,7 +230,8 @@ pub record Split (b : Shape) (bs : List Shape) (ls : List Line) : Type 0 where
   pub mine : column (b .part) ls ≡ valuesOf front
   pub others : columns (parts bs) ls ≡ columns (parts bs) back
 
-pub split : (b : Shape) (bs : List Shape) (ls : List Line) → Rising (suc (b .part)) (parts bs) → spotsOf ls ≡ spots b ++ flatMap spots bs → Split b bs ls
+pub split : (b : Shape) (bs : List Shape) (ls : List Line) → Rising (suc (b .part)) (parts bs) → spotsOf ls ≡ spots b ++ flatMap spots bs
+    → Split b bs ls
 split b bs ls r e =
     let c = cut ls (spots b) (flatMap spots bs) e in
     let ks = c .front in
@@ -239,13 +247,14 @@ split b bs ls r e =
       back-spots = c .back-spots;
       mine = ap (column (b .part)) (c .joined)
           ∙ column-append (b .part) ks ms
-          ∙ ap₂ (λ (x y : List ℤ). x ++ y) (column-all (b .part) ks own) (column-none (b .part) ms (all-parts {Q = λ p. suc (b .part) ≤ p} (λ p l n. omega arith) (spotsOf ms) above))
+          ∙ ap₂ (λ (x y : List ℤ). x ++ y) (column-all (b .part) ks own) (column-below (b .part) ms above)
           ∙ append-nil (valuesOf ks);
       others = ap (columns (parts bs)) (c .joined) ∙ columns-skip (b .part) (suc (b .part)) (parts bs) ks ms (omega arith) r own;
     }
 
 -- lines at the wanted spots are the lines of their columns
-pub read-lines : (q : ℕ) (bs : List Shape) (ls : List Line) → Rising q (parts bs) → spotsOf ls ≡ flatMap spots bs → flatMap blockLines (zipWith block bs (columns (parts bs) ls)) ≡ ls
+pub read-lines : (q : ℕ) (bs : List Shape) (ls : List Line) → Rising q (parts bs) → spotsOf ls ≡ flatMap spots bs
+    → flatMap blockLines (zipWith block bs (columns (parts bs) ls)) ≡ ls
 unfolding flatMap zipWith spotsOf
 read-lines q [] [] r e = refl
 read-lines q [] (l ∷ ls) r e = absurd (omega (arith, ap length e))

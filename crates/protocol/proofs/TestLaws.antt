@@ -2,7 +2,7 @@
 use mathlib.Core.Path.{_≡_, refl, sym, _∙_, ap}
 use mathlib.Core.Bool.{Bool, true, false, _&&_, _||_, and-eq-true-iff, true≢false}
 use mathlib.Core.List.{List, [], _∷_, map}
-use Prim.Native.Nat.{ℕ, zero, suc, _<_, _≤_}
+use Prim.Native.Nat.{ℕ, zero, suc, _≤_}
 use native.Mathlib.Omega.{arith}
 use lib.Dec.{leb, eqb}
 use lib.ListN.{getD}
@@ -14,20 +14,10 @@ unfolding first
 first-zero zero rest h = (refl, h)
 first-zero (suc n) rest h = absurd (omega arith)
 
-pub zero-first : (n : ℕ) (rest : List ℕ) → n ≡ 0 → first rest ≡ 0 → first (n ∷ rest) ≡ 0
-unfolding first
-zero-first zero rest e h = h
-zero-first (suc n) rest e h = absurd (omega arith)
-
 pub unless-zero : (n : ℕ) (b : Bool) → unless (suc n) b ≡ 0 → b ≡ true
 unfolding unless
 unless-zero n true h = refl
 unless-zero n false h = absurd (omega arith)
-
-pub zero-unless : (n : ℕ) (b : Bool) → b ≡ true → unless n b ≡ 0
-unfolding unless
-zero-unless n true h = refl
-zero-unless n false h = absurd (true≢false (sym h))
 
 pub and-both : (a b : Bool) → a ≡ true → b ≡ true → a && b ≡ true
 and-both a b h k = and-eq-true-iff a b .1 (h, k)
