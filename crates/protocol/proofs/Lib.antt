@@ -5,4 +5,5 @@ pub mod LineLaws
 pub mod PlaceLaws
 pub mod TableLaws
 pub mod TestLaws
+pub mod LimitLaws
 pub mod RoundTripLaws
