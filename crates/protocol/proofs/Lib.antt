@@ -3,6 +3,7 @@ pub mod KnownTexts
 pub mod NumeralLaws
 pub mod LineLaws
 pub mod PlaceLaws
+pub mod ReaderLaws
 pub mod TableLaws
 pub mod TestLaws
 pub mod LimitLaws

@@ -68,7 +68,7 @@ unfolding readLines bind
 readLines-step turns [] l rest e = absurd (readLine-end l rest e)
 readLines-step turns (b ∷ bs) l rest e = rw (e, readLines)
 
-lineText-length : (l : Line) → 0 < length (lineText l)
+pub lineText-length : (l : Line) → 0 < length (lineText l)
 unfolding lineText
 lineText-length l = rw length-append (omega arith)
 

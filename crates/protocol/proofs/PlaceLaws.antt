@@ -1,16 +1,43 @@
--- Laws about readers at a place of a text: what the number readers answer as calls, said of the bytes that stand there.
+-- Laws about readers at a place of a text: single bytes and digits there, what the number readers answer as calls, and where
+-- what was read ends.
 use mathlib.Core.Path.{_≡_, refl, sym, _∙_, ap, subst}
 use mathlib.Core.Bool.{Bool, true, false, true≢false}
 use mathlib.Core.List.{List, _++_}
 use mathlib.Core.Option.{Option, none, some}
-use Prim.Native.Nat.{ℕ, _+_, _-_, _<_, _≤_}
+use Prim.Native.Nat.{ℕ, suc, _+_, _*_, _-_, _<_, _≤_}
 use native.Mathlib.Omega.{arith}
-use lib.ListN.{length, drop, length-append, length-drop}
-use lib.Seq.{drop-append-seam, drop-drop}
+use lib.ListN.{length, getD, drop, length-append, length-drop, drop-of-length-le}
+use lib.Dec.{eqb}
+use lib.Seq.{drop-append-seam, drop-drop, drop-cons}
 use lib.IntN.{ℤ}
 use Rattle.protocol.specs.declared.Number.the-variants.{Value, Refused}
-use Rattle.protocol.specs.Text.{numeral, readCount, readNumber, plain, numberAnswer, readNumberAt, readCountAt}
-use Rattle.protocol.proofs.NumeralLaws.{Numbered, readNumber-text, plain-numbered, numeral-some}
+use Rattle.protocol.specs.Text.{Line, lineText, numeral, keep, digit, digitRun, digitFirst, readCount, readNumber, plain, byte, readLine, numberAnswer, readNumberAt, readCountAt}
+use Rattle.protocol.proofs.NumeralLaws.{Numbered, digitRun-on, readNumber-text, plain-numbered, numeral-some}
+use Rattle.protocol.proofs.LineLaws.{readLine-text, lineText-length}
+
+-- ---- Bytes at a place
+
+pub byte-inside : (c : ℕ) (text : List ℕ) (at : ℕ) → at < length text → byte c (drop at text) ≡ keep (eqb (getD text at 0) c) (drop (suc at) text)
+unfolding byte
+byte-inside c text at h = rw (drop-cons text at 0 h)
+
+pub byte-past : (c : ℕ) (text : List ℕ) (at : ℕ) → length text ≤ at → byte c (drop at text) ≡ none
+unfolding byte
+byte-past c text at h = rw (drop-of-length-le text h)
+
+pub digitFirst-inside : (text : List ℕ) (at : ℕ) → at < length text → digitFirst (drop at text) ≡ digit (getD text at 0)
+unfolding digitFirst
+digitFirst-inside text at h = rw (drop-cons text at 0 h)
+
+pub digitFirst-past : (text : List ℕ) (at : ℕ) → length text ≤ at → digitFirst (drop at text) ≡ false
+unfolding digitFirst
+digitFirst-past text at h = rw (drop-of-length-le text h)
+
+pub digitRun-inside : (n : ℕ) (text : List ℕ) (at : ℕ) → at < length text → digit (getD text at 0) ≡ true
+    → digitRun n (drop at text) ≡ digitRun (n * 10 + (getD text at 0 - 48)) (drop (suc at) text)
+digitRun-inside n text at h d = ap (digitRun n) (drop-cons text at 0 h) ∙ digitRun-on n (getD text at 0) (drop (suc at) text) d
+
+-- ---- Where what was read ends
 
 -- what was read at a place, and where it ends
 pub record ReadAt (text : List ℕ) (at : ℕ) (read : Option (ℤ × List ℕ)) (value : ℤ) (next : ℕ) : Type 0 where
@@ -65,3 +92,8 @@ module _ (text : List ℕ) (at : ℕ) where
   pub readCountAt-refused : (number : ℕ) → readCountAt text at ≡ Refused number → (plain (readCount (drop at text)) ≡ none) × (number ≡ 2)
   unfolding readCountAt
   readCountAt-refused = answer-refused (plain (readCount (drop at text)))
+
+  -- a line that was read at a place, too, ends where the bytes behind it begin
+  pub readLine-place : (l : Line) (rest : List ℕ) → readLine (drop at text) ≡ some (l, rest)
+      → (rest ≡ drop (length text - length rest) text) × (at < length text - length rest)
+  readLine-place l rest e = rest-place text (lineText l) rest at (readLine-text (drop at text) l rest e .split) (lineText-length l)
