@@ -11,3 +11,10 @@ pub mod ComputeText
 pub mod KnownTexts
 pub mod NumeralLaws
 pub mod Modulo
+pub mod LineLaws
+pub mod PlaceLaws
+pub mod ReaderLaws
+pub mod TableLaws
+pub mod TestLaws
+pub mod LimitLaws
+pub mod RoundTripLaws
