@@ -5,6 +5,7 @@ pub mod Acceptance
 pub mod Inputs
 pub mod Compute
 pub mod Examples
+pub mod Listing
 pub mod Known
 pub mod Traps
 pub mod ComputeText

@@ -9,8 +9,7 @@ use mathlib.Core.List.{List, [], _∷_}
 use Prim.Native.Nat.{ℕ, zero, suc, _<_, _≤_}
 use native.Mathlib.Omega.{arith}
 use lib.ListN.{getD, replicate}
-use lib.IntN.{ℤ, pos, negsuc}
-use Rattle.protocol.specs.declared.Settings.{Settings}
+use lib.IntN.{ℤ, pos}
 use Rattle.protocol.specs.declared.Session.{Session}
 use Rattle.protocol.specs.declared.Verdict.the-variants as Says
 use Rattle.protocol.specs.Settings.{cells}
@@ -21,6 +20,7 @@ use Rattle.protocol.specs.Calls.{extractExit}
 use Rattle.protocol.specs.Inputs.{Valid, Below, Within}
 use Rattle.protocol.specs.Demand3.{State, KeyTable, MessageTable, Record, Call, lentKey, lentMessage, handed, tables, refusal, backKey, backMessage, backRecord, after, turns, moves, hear, hearCommitment, hearPolynomial, hearLast, hearVerdict, step, begun, Gap, Run, FullTree, FoldsOf, Demand3}
 use Rattle.protocol.proofs.Compute.{computed}
+use Rattle.protocol.proofs.Listing.{S₁, key₁, message₁}
 use Rattle.protocol.proofs.ComputeText.{computedText}
 use Rattle.protocol.proofs.Inputs.{settings-valid, tested-below, tested-within}
 use Rattle.protocol.proofs.Acceptance.{accepted-states}
@@ -30,15 +30,6 @@ unfolding
     computed computedText
     lentKey lentMessage handed tables refusal backKey backMessage backRecord after turns moves hear hearCommitment hearPolynomial hearLast hearVerdict step begun
 ran = tt
-
-abbrev S₁ : Settings
-S₁ = record { degree = 2; depth = 1; modulus = 17; bound = 1 }
-
-abbrev key₁ : List ℕ
-key₁ = 3 ∷ 5 ∷ 7 ∷ 2 ∷ []
-
-abbrev message₁ : List ℤ
-message₁ = pos 1 ∷ negsuc 0 ∷ pos 1 ∷ pos 0 ∷ []
 
 -- ---- refused calls
 
@@ -123,13 +114,13 @@ wide = pos 2 ∷ pos 0 ∷ pos 0 ∷ pos 0 ∷ []
 abbrev finals₁ : List ℤ
 finals₁ = pos 2 ∷ pos 0 ∷ pos 2 ∷ pos 0 ∷ pos 2 ∷ pos 0 ∷ []
 
-abbrev rounds₁ : List ℕ
-rounds₁ = 3 ∷ 5 ∷ 7 ∷ 2 ∷ 0 ∷ 0 ∷ []
+abbrev sent₁ : List ℕ
+sent₁ = 3 ∷ 5 ∷ 7 ∷ 2 ∷ 0 ∷ 0 ∷ []
 
 abbrev E₁ : List ℕ
 E₁ = 0 ∷ 1 ∷ 2 ∷ []
 
-path-accepted : (j : ℕ) → j < leaves S₁ → Accepted S₁ key₁ (path S₁ (6 ∷ 10 ∷ []) rounds₁ E₁ finals₁ j)
+path-accepted : (j : ℕ) → j < leaves S₁ → Accepted S₁ key₁ (path S₁ (6 ∷ 10 ∷ []) sent₁ E₁ finals₁ j)
 unfolding computed
 path-accepted zero h = accepted-states S₁ key₁ _ refl
 path-accepted (suc zero) h = accepted-states S₁ key₁ _ refl
@@ -146,10 +137,10 @@ unfolding computed
 challenges-differ zero h = (λ e. omega arith, λ e. omega arith, λ e. omega arith)
 challenges-differ (suc k) h = absurd (omega arith)
 
-tree₁ : FullTree S₁ key₁ (6 ∷ 10 ∷ []) rounds₁ E₁ finals₁
+tree₁ : FullTree S₁ key₁ (6 ∷ 10 ∷ []) sent₁ E₁ finals₁
 tree₁ = record {
   commitment-below = commitment-below;
-  rounds-below = tested-below 17 _ rounds₁ (unfold computed in refl) (unfold computed in refl);
+  rounds-below = tested-below 17 _ sent₁ (unfold computed in refl) (unfold computed in refl);
   challenges-below = tested-below 4 _ E₁ (unfold computed in refl) (unfold computed in refl);
   finals-long = unfold computed in refl;
   different = challenges-differ;
@@ -165,8 +156,8 @@ folds₁ = record { long = unfold computed in refl; each = each }
     each (suc (suc zero)) h = unfold computed in refl
     each (suc (suc (suc j))) h = absurd (let l : suc (suc (suc j)) < 3 = unfold computed in h in omega arith)
 
-pub extraction-gives : Demand3 → extractExit S₁ (6 ∷ 10 ∷ []) key₁ rounds₁ E₁ finals₁ (pos 9 ∷ pos 9 ∷ pos 9 ∷ pos 9 ∷ []) ≡ pos 8 ∷ pos 0 ∷ pos 0 ∷ pos 0 ∷ []
-extraction-gives claim = claim S₁ key₁ valid₁ key-below .extraction (6 ∷ 10 ∷ []) rounds₁ E₁ finals₁ (pos 9 ∷ pos 9 ∷ pos 9 ∷ pos 9 ∷ []) tree₁ room (unfold computed in refl) .exact wide folds₁ ∙ unfold computed in refl
+pub extraction-gives : Demand3 → extractExit S₁ (6 ∷ 10 ∷ []) key₁ sent₁ E₁ finals₁ (pos 9 ∷ pos 9 ∷ pos 9 ∷ pos 9 ∷ []) ≡ pos 8 ∷ pos 0 ∷ pos 0 ∷ pos 0 ∷ []
+extraction-gives claim = claim S₁ key₁ valid₁ key-below .extraction (6 ∷ 10 ∷ []) sent₁ E₁ finals₁ (pos 9 ∷ pos 9 ∷ pos 9 ∷ pos 9 ∷ []) tree₁ room (unfold computed in refl) .exact wide folds₁ ∙ unfold computed in refl
   where
     room : growth S₁ ≤ growthLimit
     room = unfold computed in omega arith
