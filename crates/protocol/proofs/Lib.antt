@@ -16,7 +16,6 @@ pub mod LineLaws
 pub mod PlaceLaws
 pub mod ReaderLaws
 pub mod TableLaws
-pub mod TestLaws
 pub mod LimitLaws
 pub mod RoundTripLaws
 pub mod Trial

@@ -8,7 +8,7 @@ use borrow.Author.Tests.{lt-leb}
 use Rattle.protocol.specs.declared.Parts.{Parts}
 use Rattle.protocol.specs.Basic.{first, unless}
 use Rattle.protocol.specs.Text.{Tables, textLimit, lookRefusal, loaded, lookAnswer, textRefusal, readRefusal, readAnswer, outputRefusal}
-use Rattle.protocol.proofs.TestLaws.{first-zero}
+use Rattle.protocol.proofs.Tests.{first-zero}
 
 -- whatever stands in it
 pub too-long-to-read : (text : List ℕ) → textLimit < length text → lookRefusal text ≡ 1
