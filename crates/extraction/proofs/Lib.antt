@@ -1,0 +1,5 @@
+pub mod Magnitude
+pub mod Rotations
+pub mod Filling
+pub mod Norms
+pub mod Rows

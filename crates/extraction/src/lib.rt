@@ -1,0 +1,2 @@
+// The extractor and the judge of relaxed openings.
+mod elements;
