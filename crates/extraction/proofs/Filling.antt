@@ -83,5 +83,8 @@ element-length d a h = ap length (element-filled d a) ∙ filled-length d a (sig
 pub element-at : (d : ℕ) (a : Element) (k : ℕ) → k < d → getD (element d a) k (pos 0) ≡ a k
 element-at d a k h = ap (λ l. getD l k (pos 0)) (element-filled d a) ∙ filled-at d a (signedZeros 64) (pos 0) k h
 
+pub element-behind : (d : ℕ) (a : Element) (k : ℕ) → d ≤ k → getD (element d a) k (pos 0) ≡ pos 0
+element-behind d a k h = ap (λ l. getD l k (pos 0)) (element-filled d a) ∙ filled-behind d a (signedZeros 64) (pos 0) k h ∙ zeros-at 64 k
+
 pub element-ext : (d : ℕ) {a b : Element} → ((k : ℕ) → k < d → a k ≡ b k) → element d a ≡ element d b
 element-ext d {a} {b} e = element-filled d a ∙ filled-ext d (signedZeros 64) e ∙ sym (element-filled d b)

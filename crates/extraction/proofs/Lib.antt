@@ -3,3 +3,5 @@ pub mod Rotations
 pub mod Filling
 pub mod Norms
 pub mod Rows
+pub mod Powers
+pub mod Mu

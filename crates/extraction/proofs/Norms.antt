@@ -4,6 +4,7 @@ use mathlib.Core.Logic.{⊎-elim}
 use mathlib.Core.List.{List}
 use Prim.Native.Nat.{ℕ, zero, suc, _+_, _*_, _-_, _/_, _%_, _<_, _≤_}
 use native.Mathlib.Nat as Nat
+use native.Mathlib.Decide.{decLt}
 use native.Mathlib.Omega.{arith}
 use lib.ListN.{getD, take, drop}
 use lib.Seq.{getD-drop}
@@ -11,6 +12,8 @@ use lib.IntN.{ℤ, pos, natAbs, _+ℤ_, _*ℤ_}
 use Rattle.protocol.specs.Basic.{sum}
 use Rattle.protocol.specs.Element.{Element, flips, around, rotate, signed}
 use Rattle.extraction.specs.Bounds.{Within, norm}
+use Rattle.extraction.specs.Steps.{element}
+use Rattle.extraction.proofs.Filling.{element-at, element-behind}
 use Rattle.extraction.proofs.Magnitude.{magnitude-neg, magnitude-add, magnitude-mul}
 
 flips-magnitude : (n : ℕ) (z : ℤ) → natAbs (flips n z) ≡ natAbs z
@@ -46,3 +49,13 @@ rows-within d (suc n) a b bound k p h =
 
 pub within-le : {b c : ℕ} {l : List ℤ} → Within b l → b ≤ c → Within c l
 within-le w h = record { each = λ i. omega (arith, w .each i) }
+
+-- an element by value
+pub element-within : (d b : ℕ) (a : Element) {l : List ℤ} → l ≡ element d a → ((k : ℕ) → k < d → natAbs (a k) ≤ b) → Within b l
+element-within d b a {l} e h = record { each = λ i. subst (λ z. natAbs z ≤ b) (ap (λ m. getD m i (pos 0)) (sym e)) (each i) }
+  where
+    each : (i : ℕ) → natAbs (getD (element d a) i (pos 0)) ≤ b
+    each i = elim (decLt i d) [
+      | yes l ↦ subst (λ z. natAbs z ≤ b) (sym (element-at d a i l)) (h i l)
+      | no g ↦ subst (λ z. natAbs z ≤ b) (sym (element-behind d a i (omega arith))) (omega arith)
+    ]

@@ -1,7 +1,7 @@
 -- Elements that grow by rows: what is added is a part of an antiperiodic extension, which is a rotation, times a number.
 use mathlib.Core.Path.{_≡_, refl, sym, ap, _∙_, subst}
 use mathlib.Core.List.{List, _++_}
-use Prim.Native.Nat.{ℕ, zero, suc, _+_, _*_, _-_, _%_, _^_, _<_, _≤_}
+use Prim.Native.Nat.{ℕ, zero, suc, _+_, _*_, _-_, _/_, _%_, _^_, _<_, _≤_}
 use native.Mathlib.Nat as Nat
 use native.Mathlib.Numerals.{add-one}
 use native.Mathlib.Omega.{arith}
@@ -9,7 +9,7 @@ use lib.ListN.{length, getD, take, drop, replicate, length-take, length-drop}
 use lib.Seq.{getD-take, getD-drop, drop-at}
 use lib.IntN.{ℤ, pos, natAbs, _+ℤ_, _*ℤ_}
 use Rattle.protocol.specs.Basic.{sum, tabulate}
-use Rattle.protocol.specs.Element.{Element, around, rotate, signed, signedZeros, product}
+use Rattle.protocol.specs.Element.{Element, flips, around, rotate, signed, signedZeros, product}
 use Rattle.protocol.proofs.Reading.{tabulate-length}
 use Rattle.extraction.specs.Bounds.{Within, norm, Room, Factors}
 use Rattle.extraction.specs.Steps.{filled, added, extended, element}
@@ -19,6 +19,10 @@ use Rattle.extraction.proofs.Norms.{rotate-within, norm-le, rows-within
 pub extended-length : (d : ℕ) (a : Element) → d ≤ 64 → length (extended d a) ≡ 192
 unfolding extended
 extended-length d a h = filled-length (3 * d) (around d a) (signedZeros 192) (omega (arith, zeros-length 192)) ∙ zeros-length 192
+
+pub extended-ext : (d : ℕ) {a b : Element} → 0 < d → ((k : ℕ) → k < d → a k ≡ b k) → extended d a ≡ extended d b
+unfolding extended around
+extended-ext d p e = filled-ext (3 * d) (signedZeros 192) (λ x _. ap (flips (x / d)) (e (x % d) (Nat.mod-lt x p)))
 
 -- the part of an extension that starts at place 2d − e
 abbrev pub part : ℕ → ℕ → List ℤ → List ℤ
