@@ -2,3 +2,10 @@ pub mod Tests
 pub mod Reading
 pub mod Rotation
 pub mod Acceptance
+pub mod Inputs
+pub mod Compute
+pub mod Examples
+pub mod Known
+pub mod Traps
+pub mod ComputeText
+pub mod KnownTexts

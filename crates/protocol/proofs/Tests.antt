@@ -1,6 +1,6 @@
 -- Tests and what they say: conjunctions, `every`, `all`, `least`, and refusals.
-use mathlib.Core.Path.{_≡_, refl, sym, ap, _∙_, subst}
-use mathlib.Core.Bool.{Bool, true, false, _&&_, not, false≢true}
+use mathlib.Core.Path.{_≡_, refl, sym, subst}
+use mathlib.Core.Bool.{Bool, true, false, _&&_, false≢true}
 use mathlib.Core.List.{List, [], _∷_}
 use Prim.Native.Nat.{ℕ, zero, suc, _<_, _≤_}
 use native.Mathlib.Decide.{ℕ-discrete}
@@ -76,6 +76,10 @@ least-first (suc n) f = later n f (least n (λ i. f (suc i))) (least-first n (λ
 -- ---- refusals
 
 -- nothing is refused where the first test passes and the rest refuse nothing; and the other way round
+pub first-nothing : first [] ≡ 0
+unfolding first
+first-nothing = refl
+
 pub first-zero : (x : ℕ) (rest : List ℕ) → first (x ∷ rest) ≡ 0 → (x ≡ 0) × (first rest ≡ 0)
 unfolding first
 first-zero zero rest e = (refl, e)
