@@ -1,4 +1,4 @@
-pub mod Magnitude
+pub mod Words
 pub mod Rotations
 pub mod Filling
 pub mod Norms

@@ -6,16 +6,18 @@ use native.Mathlib.Nat as Nat
 use native.Mathlib.Omega.{arith}
 use lib.ListN.{getD}
 use lib.IntN.{ℤ, pos, natAbs, _+ℤ_, _*ℤ_}
+use Rattle.algebra.specs.Magnitude.{weight, weight-ext}
 use Rattle.protocol.specs.Basic.{sum}
 use Rattle.protocol.specs.Element.{Element, flips, around, rotate, product, one, power, plus, signed, paddedSigned}
 use Rattle.protocol.specs.Tree.{gap, steps, s, mu}
 use Rattle.protocol.proofs.Tests.{least-first}
-use Rattle.extraction.specs.Bounds.{Within, norm, Factors}
+use Rattle.claims.proofs.Bounds.{Bounded, plus-bounded}
+use Rattle.claims.proofs.Norms.{product-bounded, weight-s, s-bounded}
+use Rattle.extraction.specs.Bounds.{Factors}
 use Rattle.extraction.specs.Steps.{element, powers}
-use Rattle.extraction.proofs.Magnitude.{magnitude-add}
 use Rattle.extraction.proofs.Filling.{element-at, element-ext}
-use Rattle.extraction.proofs.Norms.{rows-within, element-within}
-use Rattle.extraction.proofs.Powers.{one-small, power-small, powers-small, norm-within, rotate-mod}
+use Rattle.extraction.proofs.Norms.{element-within, weight-within}
+use Rattle.extraction.proofs.Powers.{one-small, power-small, rotate-mod}
 
 -- ---- products depend on the first d coefficients alone
 
@@ -47,41 +49,36 @@ pub s-powers : (d a b : ℕ) → element d (powers d (2 * d - a) (gap d a b) (st
 unfolding powers s
 s-powers d a b = refl
 
-s-small : (d a b : ℕ) → 0 < d → d ≤ 64 → (k : ℕ) → k < d → natAbs (s d a b k) ≤ 64
-unfolding powers s
-s-small d a b p h k _ = powers-small d (2 * d - a) (gap d a b) (steps d (gap d a b)) k p (omega (arith, steps-within d (gap d a b)))
-
 -- ---- μ
 
 module _ (d a b c : ℕ) (p : 0 < d) (small : d ≤ 64) {x y : List ℤ} (is-x : x ≡ element d (s d a b)) (is-y : y ≡ element d (s d a c)) where
-  x-small : (k : ℕ) → k < d → natAbs (signed x k) ≤ 64
-  x-small k l = subst (λ z. natAbs z ≤ 64) (sym (held d _ is-x k l)) (s-small d a b p small k l)
+  weight-x : weight d (signed x) ≤ 64
+  weight-x = omega (arith, weight-ext d (held d _ is-x), weight-s d p a b)
 
-  y-small : (k : ℕ) → k < d → natAbs (signed y k) ≤ 64
-  y-small k l = subst (λ z. natAbs z ≤ 64) (sym (held d _ is-y k l)) (s-small d a c p small k l)
+  y-small : Bounded d 64 (signed y)
+  y-small k l = omega (arith, ap natAbs (held d _ is-y k l), s-bounded d p a c k l)
 
   pub factors-s : Factors d x y
   factors-s = record {
     bound = 64;
-    within = element-within d 64 (s d a c) is-y (s-small d a c p small);
+    within = element-within d 64 (s d a c) is-y (λ k l. omega (arith, s-bounded d p a c k l));
     low = omega arith;
-    room = omega (arith, norm-within d 64 (signed x) x-small);
+    room = omega (arith, weight-x);
   }
 
   module _ {xy z : List ℤ} (is-xy : xy ≡ element d (product d (signed x) (signed y))) (is-z : z ≡ element d (plus one (power d ((b + c) % (2 * d))))) where
-    xy-small : (k : ℕ) → k < d → natAbs (signed xy k) ≤ 262144
-    xy-small k l = subst (λ z. natAbs z ≤ 262144) (sym (held d _ is-xy k l)) (unfold product in omega (arith, rows-within d d (signed x) (signed y) 64 k p y-small, norm-within d 64 (signed x) x-small))
+    xy-small : Bounded d 4096 (signed xy)
+    xy-small k l = omega (arith, ap natAbs (held d _ is-xy k l), product-bounded d p 64 64 (signed x) (signed y) weight-x y-small k l)
 
-    z-small : (k : ℕ) → k < d → natAbs (plus one (power d ((b + c) % (2 * d))) k) ≤ 2
-    unfolding plus
-    z-small k _ = omega (arith, magnitude-add (one k) (power d ((b + c) % (2 * d)) k), one-small k, power-small d ((b + c) % (2 * d)) k p)
+    z-small : Bounded d 2 (plus one (power d ((b + c) % (2 * d))))
+    z-small = plus-bounded d p 1 1 one _ (λ k _. one-small k) (power-small d _ p)
 
     pub factors-mu : Factors d xy z
     factors-mu = record {
       bound = 2;
       within = element-within d 2 _ is-z z-small;
       low = omega arith;
-      room = omega (arith, norm-within d 262144 (signed xy) xy-small);
+      room = omega (arith, weight-within d 4096 (signed xy) xy-small);
     }
 
     pub mu-is : element d (product d (signed xy) (signed z)) ≡ paddedSigned d (mu d a b c)

@@ -10,14 +10,15 @@ use native.Mathlib.Omega.{arith}
 use lib.ListN.{length, getD, set}
 use lib.Seq.{ext-getD}
 use lib.IntN.{ℤ, pos, negsuc, negℤ, natAbs, _+ℤ_, _*ℤ_}
+use Rattle.algebra.specs.Magnitude.{natAbs-add}
 use Rattle.protocol.specs.Basic.{sum, least}
 use Rattle.protocol.specs.Element.{Element, flips, around, rotate, one, power, signed, signedZeros}
 use Rattle.protocol.proofs.Tests.{First, least-first}
-use Rattle.extraction.specs.Bounds.{Within, norm, Room}
+use Rattle.claims.proofs.Bounds.{Bounded, rotate-bounded}
+use Rattle.extraction.specs.Bounds.{Within, Fits, Room}
 use Rattle.extraction.specs.Steps.{filled, added, extended, element, powers}
-use Rattle.extraction.proofs.Magnitude.{magnitude-add}
 use Rattle.extraction.proofs.Filling.{filled-none, filled-turn, filled-at, filled-behind, filled-ext, filled-length, zeros-at, zeros-filled, zeros-length, element-filled, element-at, element-ext}
-use Rattle.extraction.proofs.Norms.{rotate-within, within-le, element-within}
+use Rattle.extraction.proofs.Norms.{within-le, element-within}
 use Rattle.extraction.proofs.Rows.{part, part-at, added-element, extended-ext}
 
 -- the first place at which f holds is the only such place
@@ -59,9 +60,9 @@ unit-element d p h =
 
 -- ---- powers
 
-pub power-small : (d e k : ℕ) → 0 < d → natAbs (power d e k) ≤ 1
+pub power-small : (d e : ℕ) → 0 < d → Bounded d 1 (power d e)
 unfolding power
-power-small d e k p = rotate-within d e one 1 k p (λ j _. one-small j)
+power-small d e p = rotate-bounded d p 1 e one (λ j _. one-small j)
 
 pub rotate-mod : (d e : ℕ) (a : Element) (k : ℕ) → rotate d (e % (2 * d)) a k ≡ rotate d e a k
 unfolding rotate
@@ -74,12 +75,7 @@ one-times (negsuc n) = ap (λ m. negℤ (pos m)) (Nat.one-mul (suc n))
 pub sum-within : (n b : ℕ) (f : ℕ → ℤ) → ((j : ℕ) → natAbs (f j) ≤ b) → natAbs (sum n f) ≤ n * b
 unfolding sum
 sum-within zero b f h = omega arith
-sum-within (suc n) b f h = omega (arith, sum-within n b f h, h n, magnitude-add (sum n f) (f n), Nat.suc-mul n b)
-
-pub norm-within : (n b : ℕ) (a : Element) → ((j : ℕ) → j < n → natAbs (a j) ≤ b) → norm n a ≤ n * b
-unfolding norm
-norm-within zero b a h = omega arith
-norm-within (suc n) b a h = omega (arith, norm-within n b a (λ j l. h j (omega arith)), h n (omega arith), Nat.suc-mul n b)
+sum-within (suc n) b f h = omega (arith, sum-within n b f h, h n, natAbs-add (sum n f) (f n), Nat.suc-mul n b)
 
 -- ---- sums of powers, row by row
 
@@ -95,11 +91,16 @@ module _ (d e : ℕ) (f : Element) (u l : List ℤ) (small : d ≤ 64) (le : e <
   unfolding power
   turned = part-at d e one u is-u small le
 
-  pub power-room : ((k : ℕ) → k < d → natAbs (f k) ≤ 64) → Room d (pos 1) (part d e u) l
+  pub power-room : Bounded d 64 f → Room d (pos 1) (part d e u) l
   power-room h = record { each = each }
     where
-      each : (k : ℕ) → k < d → natAbs (getD l k (pos 0)) + 1 * natAbs (getD (part d e u) k (pos 0)) < 2 ^ 63
-      each k lk = rw (ap (λ m. getD m k (pos 0)) is-l, element-at d f k lk, turned k lk) (omega (arith, h k lk, power-small d e k (omega arith)))
+      each : (k : ℕ) → k < d → Fits (getD l k (pos 0)) (pos 1) (getD (part d e u) k (pos 0))
+      each k lk =
+          rw (ap (λ m. getD m k (pos 0)) is-l, element-at d f k lk, turned k lk)
+          (record {
+            product = omega (arith, ap natAbs (one-times (power d e k)), power-small d e (omega arith) k lk);
+            total = omega (arith, ap natAbs (one-times (power d e k)), power-small d e (omega arith) k lk, natAbs-add (f k) (pos 1 *ℤ power d e k), h k lk);
+          })
 
   pub power-added : added d (pos 1) (part d e u) l ≡ element d (λ k. f k +ℤ power d e k)
   power-added = added-element d (pos 1) f (power d e) (part d e u) l is-l turned ∙ element-ext d (λ k _. ap (λ z. f k +ℤ z) (one-times (power d e k)))
@@ -116,6 +117,6 @@ powers-next d x k n =
     element-ext d (λ p _. ap (λ z. powers d x k n p +ℤ z) (rotate-mod d (k * n + x) one p))
     ∙ ap (λ m. element d (powers d x k m)) (sym (add-one n))
 
-pub powers-small : (d x k n p : ℕ) → 0 < d → n ≤ 64 → natAbs (powers d x k n p) ≤ 64
+pub powers-small : (d x k n : ℕ) → 0 < d → n ≤ 64 → Bounded d 64 (powers d x k n)
 unfolding powers
-powers-small d x k n p h l = omega (arith, sum-within n 1 (λ i. power d (k * i + x) p) (λ i. power-small d (k * i + x) p h))
+powers-small d x k n h l p lp = omega (arith, sum-within n 1 (λ i. power d (k * i + x) p) (λ i. power-small d (k * i + x) h p lp))

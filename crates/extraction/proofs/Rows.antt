@@ -8,13 +8,15 @@ use native.Mathlib.Omega.{arith}
 use lib.ListN.{length, getD, take, drop, replicate, length-take, length-drop}
 use lib.Seq.{getD-take, getD-drop, drop-at}
 use lib.IntN.{ℤ, pos, natAbs, _+ℤ_, _*ℤ_}
+use Rattle.algebra.specs.Magnitude.{natAbs-mul, weight, weight-at}
 use Rattle.protocol.specs.Basic.{sum, tabulate}
 use Rattle.protocol.specs.Element.{Element, flips, around, rotate, signed, signedZeros, product}
 use Rattle.protocol.proofs.Reading.{tabulate-length}
-use Rattle.extraction.specs.Bounds.{Within, norm, Room, Factors}
+use Rattle.claims.proofs.Bounds.{Bounded, rotate-bounded}
+use Rattle.claims.proofs.Norms.{running, running-bounded}
+use Rattle.extraction.specs.Bounds.{Within, Fits, Room, Factors}
 use Rattle.extraction.specs.Steps.{filled, added, extended, element}
-use Rattle.extraction.proofs.Filling.{filled-length, filled-at, filled-ext, zeros-length, zeros-filled, element-filled, element-at}
-use Rattle.extraction.proofs.Norms.{rotate-within, norm-le, rows-within}
+use Rattle.extraction.proofs.Filling.{filled-length, filled-at, filled-ext, zeros-length, zeros-filled, element-filled, element-at, element-ext}
 
 pub extended-length : (d : ℕ) (a : Element) → d ≤ 64 → length (extended d a) ≡ 192
 unfolding extended
@@ -57,39 +59,41 @@ added-element d c f g a l is e =
 
 -- ---- products
 
--- the first n rows of a·b
-abbrev pub rows : ℕ → ℕ → Element → Element → Element
-rows d n a b k = sum n (λ j. a j *ℤ rotate d j b k)
-
-pub no-rows : (d : ℕ) (a b : Element) → d ≤ 64 → signedZeros 64 ≡ element d (rows d 0 a b)
-unfolding sum
+pub no-rows : (d : ℕ) (a b : Element) → d ≤ 64 → signedZeros 64 ≡ element d (λ k. running d a b k 0)
+unfolding running sum
 no-rows d a b h = sym (element-filled d _ ∙ zeros-filled d 64 h)
 
-next-row : (d n : ℕ) (a b : Element) → element d (λ k. rows d n a b k +ℤ a n *ℤ rotate d n b k) ≡ element d (rows d (n + 1) a b)
-unfolding sum
-next-row d n a b = ap (λ m. element d (rows d m a b)) (sym (add-one n))
+next-row : (d n : ℕ) (a b : Element) (k : ℕ) → running d a b k n +ℤ a n *ℤ rotate d n b k ≡ running d a b k (n + 1)
+unfolding running sum
+next-row d n a b k = ap (λ m. running d a b k m) (sym (add-one n))
 
-module _ (d : ℕ) (a b : List ℤ) (F : Factors d a b) (small : d ≤ 64) (i : ℕ) (lt : i < d) (u l : List ℤ) (is-u : u ≡ extended d (signed b)) (is-l : l ≡ element d (rows d i (signed a) (signed b)))
+module _ (d : ℕ) (a b : List ℤ) (F : Factors d a b) (small : d ≤ 64) (i : ℕ) (lt : i < d) (u l : List ℤ) (is-u : u ≡ extended d (signed b)) (is-l : l ≡ element d (λ k. running d (signed a) (signed b) k i))
     (z : ℤ) (is-z : z ≡ getD a i (pos 0)) where
-  within-b : (j : ℕ) → j < d → natAbs (signed b j) ≤ F .bound
+  within-b : Bounded d (F .bound) (signed b)
   unfolding signed
   within-b j _ = F .within .each j
-
-  -- the norm's next term
-  next-norm : norm i (signed a) * F .bound + natAbs z * F .bound ≤ 2 ^ 62
-  unfolding norm signed
-  next-norm = omega (arith, F .room, Nat.mul-le-mul-right (F .bound) (norm-le (signed a) (suc i) d lt), Nat.add-mul (norm i (signed a)) (natAbs (signed a i)) (F .bound), ap (λ y. natAbs y * F .bound) is-z)
 
   pub row-room : Room d z (part d i u) l
   row-room = record { each = each }
     where
-      each : (k : ℕ) → k < d → natAbs (getD l k (pos 0)) + natAbs z * natAbs (getD (part d i u) k (pos 0)) < 2 ^ 63
-      each k lk =
-          rw (ap (λ m. getD m k (pos 0)) is-l, element-at d (rows d i (signed a) (signed b)) k lk, part-at d i (signed b) u is-u small (omega arith) k lk)
-          (omega (arith, next-norm, rows-within d i (signed a) (signed b) (F .bound) k (omega arith) within-b, Nat.mul-le-mul-left (natAbs z) (rotate-within d i (signed b) (F .bound) k (omega arith) within-b)))
+      top : weight d (signed a) * F .bound < 2 ^ 63
+      top = omega (arith, F .room)
 
-  pub row-added : added d z (part d i u) l ≡ element d (rows d (i + 1) (signed a) (signed b))
+      each : (k : ℕ) → k < d → Fits (getD l k (pos 0)) z (getD (part d i u) k (pos 0))
+      each k lk =
+          rw (ap (λ m. getD m k (pos 0)) is-l, element-at d (λ k. running d (signed a) (signed b) k i) k lk, part-at d i (signed b) u is-u small (omega arith) k lk, is-z)
+          (unfold signed in record {
+            product = omega (
+              arith,
+              top,
+              natAbs-mul (getD a i (pos 0)) (rotate d i (signed b) k),
+              Nat.mul-le-mul (weight-at d (signed a) i lt) (rotate-bounded d (omega arith) (F .bound) i (signed b) within-b k lk),
+            );
+            total = omega (arith, top, ap natAbs (next-row d i (signed a) (signed b) k), running-bounded d (omega arith) (F .bound) (weight d (signed a)) (signed a) (signed b) (Nat.le-refl _) within-b k (i + 1) lk (omega arith));
+          })
+
+  pub row-added : added d z (part d i u) l ≡ element d (λ k. running d (signed a) (signed b) k (i + 1))
   row-added =
-      added-element d z (rows d i (signed a) (signed b)) (rotate d i (signed b)) (part d i u) l is-l (part-at d i (signed b) u is-u small (omega arith))
-      ∙ ap (λ y. element d (λ k. rows d i (signed a) (signed b) k +ℤ y *ℤ rotate d i (signed b) k)) is-z
-      ∙ unfold signed in next-row d i (signed a) (signed b)
+      added-element d z (λ k. running d (signed a) (signed b) k i) (rotate d i (signed b)) (part d i u) l is-l (part-at d i (signed b) u is-u small (omega arith))
+      ∙ ap (λ y. element d (λ k. running d (signed a) (signed b) k i +ℤ y *ℤ rotate d i (signed b) k)) is-z
+      ∙ element-ext d (λ k _. unfold signed in next-row d i (signed a) (signed b) k)

@@ -3,15 +3,15 @@
 ghost use mathlib.Core.Path.{_≡_};
 ghost use Prim.Native.Nat.{ℕ, _+_, _*_, _-_, _%_, _^_, _<_, _≤_};
 ghost use lib.ListN.{length};
-ghost use lib.IntN.{natAbs, _+ℤ_, _*ℤ_, pos};
+ghost use lib.IntN.{_+ℤ_, _*ℤ_};
 ghost use Rattle.protocol.specs.Element.{around, signed, product, plus, one, power, paddedSigned};
 ghost use Rattle.protocol.specs.Tree.{s, steps, mu};
-ghost use Rattle.extraction.specs.Bounds.{Within, Room, Factors};
+ghost use Rattle.extraction.specs.Bounds.{Within, Fits, Room, Factors};
 ghost use Rattle.extraction.specs.Steps.{added, extended, element, powers};
 
 // x + c·y
 fn plus_times(x: i64, c: i64, y: i64) -> i64
-    requires { ⌜ natAbs x + natAbs c * natAbs y < 2 ^ 63 ⌝ }
+    requires { ⌜ Fits x c y ⌝ }
     ensures { λ r. ⌜ r ≡ x +ℤ c *ℤ y ⌝ }
 {
     x + c * y

@@ -5,15 +5,15 @@ use Prim.Native.Nat.{ℕ, _+_, _*_, _-_, _^_, _<_, _≤_}
 use native.Mathlib.Omega.{arith}
 use borrow.Author.Needs.{needs}
 use lib.ListN.{length, getD, set, length-set}
-use lib.IntN.{ℤ, pos, natAbs, _+ℤ_, _*ℤ_}
+use lib.IntN.{ℤ, pos, _+ℤ_, _*ℤ_}
 use lib.Signed.{mag}
 use mir.Syntax.{w64}
 use mir.Val.{SFits, toZ, ofZ}
 use mir.Facts.{toZ-ofZ}
 use Rattle.extraction.specs.Steps.{filled, added}
-use Rattle.extraction.specs.Bounds.{Room}
+use Rattle.extraction.specs.Bounds.{Fits, Room}
 use Rattle.extraction.proofs.Filling.{filled-none, filled-turn, filled-end, filled-behind}
-use Rattle.extraction.proofs.Magnitude.{read}
+use Rattle.extraction.proofs.Words.{read}
 use Rattle.extraction.proofs.elements.accumulate.Statement.{statement}
 use Rattle.extraction.proofs.elements.accumulate.Tie as tie
 use Rattle.extraction.proofs.elements.accumulate.Reads as reads
@@ -35,8 +35,7 @@ module _ (z : ℤ) (a l : List ℤ) (fz : SFits w64 z) (k : ℕ) (m : List ℤ) 
   there : toZ w64 (ofZ w64 (getD a k (pos 0))) ≡ getD a k (pos 0)
   there = read _ fa
 
-  room-here : (d : ℕ) → Room d z a l → k < d
-      → natAbs (toZ w64 (ofZ w64 (getD m k (pos 0)))) + natAbs (toZ w64 (ofZ w64 z)) * natAbs (toZ w64 (ofZ w64 (getD a k (pos 0)))) < 2 ^ 63
+  room-here : (d : ℕ) → Room d z a l → k < d → Fits (toZ w64 (ofZ w64 (getD m k (pos 0)))) (toZ w64 (ofZ w64 z)) (toZ w64 (ofZ w64 (getD a k (pos 0))))
   room-here d r h = rw (here, there, toZ-ofZ fz) (r .each k h)
 
   turn : (r : ℤ) → mag r < 2 ^ 63 → r ≡ toZ w64 (ofZ w64 (getD m k (pos 0))) +ℤ toZ w64 (ofZ w64 z) *ℤ toZ w64 (ofZ w64 (getD a k (pos 0))) → k < length l

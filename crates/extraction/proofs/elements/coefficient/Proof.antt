@@ -9,9 +9,10 @@ use lib.IntN.{ℤ, pos, negℤ, _-ℤ_}
 use mir.Syntax.{w64}
 use mir.Val.{SFits, toZ, ofZ}
 use mir.Facts.{toZ-ofZ}
+use Rattle.algebra.specs.Magnitude.{natAbs-neg}
 use Rattle.protocol.specs.Element.{around, signed}
 use Rattle.extraction.specs.Bounds.{Within}
-use Rattle.extraction.proofs.Magnitude.{magnitude-neg, exact, fits, zero-minus}
+use Rattle.extraction.proofs.Words.{exact, fits, zero-minus}
 use Rattle.extraction.proofs.Rotations.{around-first, around-second, around-third}
 use Rattle.extraction.proofs.elements.coefficient.Statement.{statement}
 use Rattle.extraction.proofs.elements.coefficient.Tie as tie
@@ -24,7 +25,7 @@ module _ (d : ℕ) (a : List ℤ) (w : Within (2 ^ 62) a) where
   minus-at j = ap (λ z. pos 0 -ℤ z) (at j) ∙ zero-minus (getD a j (pos 0))
 
   minus-fits : (j : ℕ) → SFits w64 (negℤ (getD a j (pos 0)))
-  minus-fits j = fits _ (omega (arith, w .each j, magnitude-neg (getD a j (pos 0))))
+  minus-fits j = fits _ (omega (arith, w .each j, natAbs-neg (getD a j (pos 0))))
 
   first : (x : ℕ) → x < d → toZ w64 (ofZ w64 (getD a x (pos 0))) ≡ around d (signed a) x
   unfolding signed

@@ -8,7 +8,7 @@ use lib.IntN.{pos}
 use Rattle.protocol.specs.Element.{around, signed, signedZeros}
 use Rattle.extraction.specs.Steps.{filled, extended}
 use Rattle.extraction.proofs.Filling.{filled-none, filled-turn, filled-end, zeros-length}
-use Rattle.extraction.proofs.Magnitude.{read}
+use Rattle.extraction.proofs.Words.{read}
 use Rattle.extraction.proofs.elements.extension.Statement.{statement}
 use Rattle.extraction.proofs.elements.extension.Tie as tie
 use Rattle.extraction.proofs.elements.extension.Reads as reads

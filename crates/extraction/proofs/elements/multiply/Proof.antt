@@ -8,11 +8,12 @@ use lib.IntN.{ℤ, pos}
 use mir.Syntax.{w64}
 use mir.Val.{toZ, ofZ}
 use Rattle.protocol.specs.Element.{signed, signedZeros, product}
+use Rattle.claims.proofs.Norms.{running}
 use Rattle.extraction.specs.Steps.{added, extended, element}
-use Rattle.extraction.proofs.Magnitude.{read}
+use Rattle.extraction.proofs.Words.{read}
 use Rattle.extraction.proofs.Filling.{element-length}
 use Rattle.extraction.proofs.Norms.{within-le}
-use Rattle.extraction.proofs.Rows.{rows, no-rows, part, part-length, row-room, row-added}
+use Rattle.extraction.proofs.Rows.{no-rows, part, part-length, row-room, row-added}
 use Rattle.extraction.proofs.elements.multiply.Statement.{statement}
 use Rattle.extraction.proofs.elements.multiply.Tie as tie
 use Rattle.extraction.proofs.elements.multiply.Reads as reads
@@ -21,7 +22,7 @@ use Rattle.extraction.proofs.elements.accumulate.Reads as accumulate-re
 use Rattle.extraction.proofs.elements.extension.Reads as extension-reads
 
 abbrev Inv-loop : tie.InvT-loop
-Inv-loop d a b u out₀ i₀ out i = (i ≤ d) × (u ≡ extended d (signed b)) × (out ≡ element d (rows d i (signed a) (signed b))) × (length out ≡ 64)
+Inv-loop d a b u out₀ i₀ out i = (i ≤ d) × (u ≡ extended d (signed b)) × (out ≡ element d (λ k. running d (signed a) (signed b) k i)) × (length out ≡ 64)
 
 abbrev μ-loop : tie.MeasureT-loop
 μ-loop d a b u out₀ i₀ out i = d - i
@@ -82,10 +83,10 @@ loop-again c =
     (omega arith, l .inv .1, next, ap length next ∙ element-length (g .args .d) _ (g .pre .1))
 
 returns : tie.Need-returns Inv-loop μ-loop
-unfolding product
+unfolding product running
 returns c =
     let g = c .before .before .before in let l = c .before .loop in
-    l .inv .2 ∙ ap (λ n. element (g .args .d) (rows (g .args .d) n (signed (g .args .a .now)) (signed (g .args .b .now)))) (omega arith)
+    l .inv .2 ∙ ap (λ n. element (g .args .d) (λ k. running (g .args .d) (signed (g .args .a .now)) (signed (g .args .b .now)) k n)) (omega arith)
 
 pub multiply-spec : {M : Type 1} → statement M
 multiply-spec =

@@ -74,7 +74,7 @@ accumulate-requires c κs =
       g .pre .1,
       part-length (a .d) e one _ (l .inv .1) (g .pre .1),
       omega arith,
-      power-room (a .d) e (powers (a .d) (a .x) (a .k) (l .i)) _ _ (g .pre .1) (turned (c .before .before .before)) (l .inv .1) (l .inv .2) (λ p _. powers-small (a .d) (a .x) (a .k) (l .i) p (g .pre .0) (omega arith)),
+      power-room (a .d) e (powers (a .d) (a .x) (a .k) (l .i)) _ _ (g .pre .1) (turned (c .before .before .before)) (l .inv .1) (l .inv .2) (powers-small (a .d) (a .x) (a .k) (l .i) (g .pre .0) (omega arith)),
     )
 
 add-i : tie.Need-add-i Inv-loop μ-loop
