@@ -5,3 +5,5 @@ pub mod Norms
 pub mod Rows
 pub mod Powers
 pub mod Mu
+pub mod Splicing
+pub mod Parts

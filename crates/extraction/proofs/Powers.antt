@@ -77,6 +77,10 @@ unfolding sum
 sum-within zero b f h = omega arith
 sum-within (suc n) b f h = omega (arith, sum-within n b f h, h n, natAbs-add (sum n f) (f n), Nat.suc-mul n b)
 
+-- a sum with no factor
+pub fits-one : (x y : ℤ) → natAbs x + natAbs y ≤ 2 ^ 62 → Fits x (pos 1) y
+fits-one x y h = record { product = omega (arith, ap natAbs (one-times y)); total = omega (arith, ap natAbs (one-times y), natAbs-add x (pos 1 *ℤ y)) }
+
 -- ---- sums of powers, row by row
 
 pub unit-within : (d : ℕ) {l : List ℤ} → l ≡ element d one → Within (2 ^ 62) l
@@ -97,10 +101,7 @@ module _ (d e : ℕ) (f : Element) (u l : List ℤ) (small : d ≤ 64) (le : e <
       each : (k : ℕ) → k < d → Fits (getD l k (pos 0)) (pos 1) (getD (part d e u) k (pos 0))
       each k lk =
           rw (ap (λ m. getD m k (pos 0)) is-l, element-at d f k lk, turned k lk)
-          (record {
-            product = omega (arith, ap natAbs (one-times (power d e k)), power-small d e (omega arith) k lk);
-            total = omega (arith, ap natAbs (one-times (power d e k)), power-small d e (omega arith) k lk, natAbs-add (f k) (pos 1 *ℤ power d e k), h k lk);
-          })
+          (fits-one (f k) (power d e k) (omega (arith, h k lk, power-small d e (omega arith) k lk)))
 
   pub power-added : added d (pos 1) (part d e u) l ≡ element d (λ k. f k +ℤ power d e k)
   power-added = added-element d (pos 1) f (power d e) (part d e u) l is-l turned ∙ element-ext d (λ k _. ap (λ z. f k +ℤ z) (one-times (power d e k)))

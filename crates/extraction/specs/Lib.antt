@@ -1,2 +1,3 @@
 pub mod Bounds
 pub mod Steps
+pub mod Vectors

@@ -33,7 +33,7 @@ fn coefficient(d: usize, a: &[i64], x: usize) -> i64
 }
 
 // The antiperiodic extension of a, so that X^e·a is the d numbers from place 2d − e on.
-fn extension(d: usize, a: &[i64]) -> [i64; 192]
+pub(crate) fn extension(d: usize, a: &[i64]) -> [i64; 192]
     requires { ⌜ (0 < d) × (d ≤ 64) × (d ≤ length (now a)) × Within (2 ^ 62) (now a) ⌝ }
     ensures { λ r. ⌜ r ≡ extended d (signed (now (a .entry))) ⌝ }
 {
@@ -45,7 +45,7 @@ fn extension(d: usize, a: &[i64]) -> [i64; 192]
 }
 
 // Adds c·a to the first d numbers of `out`.
-fn accumulate(d: usize, c: i64, a: &[i64], out: &mut [i64])
+pub(crate) fn accumulate(d: usize, c: i64, a: &[i64], out: &mut [i64])
     requires { ⌜ (d ≤ 64) × (d ≤ length (now a)) × (d ≤ length (now out)) × Room d c (now a) (now out) ⌝ }
     ensures { λ _. ⌜ now (out .exit) ≡ added d c (now (a .entry)) (now (out .entry)) ⌝ }
 {
@@ -55,7 +55,7 @@ fn accumulate(d: usize, c: i64, a: &[i64], out: &mut [i64])
 }
 
 // a·b, row by row: b turned by X^i, times a_i.
-fn multiply(d: usize, a: &[i64; 64], b: &[i64]) -> [i64; 64]
+pub(crate) fn multiply(d: usize, a: &[i64; 64], b: &[i64]) -> [i64; 64]
     requires { ⌜ (0 < d) × (d ≤ 64) × (d ≤ length (now b)) × Factors d (now a) (now b) ⌝ }
     ensures { λ r. ⌜ r ≡ element d (product d (signed (now (a .entry))) (signed (now (b .entry)))) ⌝ }
 {

@@ -1,0 +1,34 @@
+-- What the steps on a node's vector leave.
+--
+--   spliced at d n F l    the list l with n elements of d numbers from place `at` on replaced: number k of element i by F i k
+--   scaled d n m v        v with each of its first n elements multiplied by m
+--   turned d n e to l     l with X^e times each of its first n elements added to those from place `to` on
+--   Turnable d n e to l   the places are there, and the sums fit
+use mathlib.Core.List.{List, _++_}
+use Prim.Native.Nat.{ℕ, _+_, _*_, _-_, _^_, _<_, _≤_}
+use lib.ListN.{length, getD, take, drop}
+use lib.IntN.{ℤ, pos, natAbs, _+ℤ_}
+use Rattle.protocol.specs.Basic.{flat}
+use Rattle.protocol.specs.Element.{rotate, signedAt}
+use Rattle.protocol.specs.Tree.{share}
+
+unfoldable pub spliced {ℓ} : {A : Type ℓ} → ℕ → ℕ → ℕ → (ℕ → ℕ → A) → List A → List A
+spliced at d n F l = take at l ++ (flat d n F ++ drop (at + n * d) l)
+
+unfoldable pub scaled : ℕ → ℕ → List ℤ → List ℤ → List ℤ
+scaled d n m v = spliced 0 d n (share d m v) v
+
+unfoldable pub turned : ℕ → ℕ → ℕ → ℕ → List ℤ → List ℤ
+turned d n e to l = spliced to d n (λ i k. getD l (to + (i * d + k)) (pos 0) +ℤ rotate d e (signedAt d l i) k) l
+
+pub record Turnable (d n e to : ℕ) (l : List ℤ) : Type 0 where
+  pub some : 0 < d
+  pub small : d ≤ 64
+  pub exponent : e < 2 * d
+  pub apart : n * d ≤ to
+  pub inside : to + n * d ≤ length l
+  pub bound : ℕ
+  pub bound-to : ℕ
+  pub within : (j : ℕ) → j < n * d → natAbs (getD l j (pos 0)) ≤ bound
+  pub within-to : (j : ℕ) → to ≤ j → natAbs (getD l j (pos 0)) ≤ bound-to
+  pub room : bound-to + bound ≤ 2 ^ 62
