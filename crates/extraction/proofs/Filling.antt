@@ -73,6 +73,15 @@ zeros-filled n m h = ext-getD (pos 0) _ (signedZeros m) (filled-length n _ (sign
       | no g ↦ filled-behind n (λ k. pos 0) (signedZeros m) (pos 0) k (omega arith)
     ]
 
+-- a list that is filled with zeros to its end
+pub filled-zeros : (l : List ℤ) → filled (length l) (λ _. pos 0) l ≡ signedZeros (length l)
+filled-zeros l =
+    ext-getD (pos 0) _ (signedZeros (length l)) (long ∙ sym (zeros-length (length l)))
+    (λ k h. filled-at (length l) (λ _. pos 0) l (pos 0) k (omega (arith, long)) ∙ sym (zeros-at (length l) k))
+  where
+    long : length (filled (length l) (λ _. pos 0) l) ≡ length l
+    long = filled-length (length l) (λ _. pos 0) l (Nat.le-refl _)
+
 pub element-filled : (d : ℕ) (a : Element) → element d a ≡ filled d a (signedZeros 64)
 unfolding element paddedSigned coefficients width filled signedZeros
 element-filled d a = ap (λ t. tabulate d a ++ t) (sym (drop-replicate d 64 (pos 0)))

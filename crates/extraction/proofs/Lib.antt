@@ -7,3 +7,4 @@ pub mod Powers
 pub mod Mu
 pub mod Splicing
 pub mod Parts
+pub mod Shares

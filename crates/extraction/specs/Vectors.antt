@@ -4,6 +4,9 @@
 --   scaled d n m v        v with each of its first n elements multiplied by m
 --   turned d n e to l     l with X^e times each of its first n elements added to those from place `to` on
 --   Turnable d n e to l   the places are there, and the sums fit
+--   withShare d n e m v R a node's vector R, of 2n elements, with μ·v added to its first half and X^e·μ·v to its second, μ being m
+--   Sharing d n a b c l   a child's vector, of n elements, then the node's: the exponents are exponents, and the sums fit
+use mathlib.Core.Path.{_≡_}
 use mathlib.Core.List.{List, _++_}
 use Prim.Native.Nat.{ℕ, _+_, _*_, _-_, _^_, _<_, _≤_}
 use lib.ListN.{length, getD, take, drop}
@@ -32,3 +35,19 @@ pub record Turnable (d n e to : ℕ) (l : List ℤ) : Type 0 where
   pub within : (j : ℕ) → j < n * d → natAbs (getD l j (pos 0)) ≤ bound
   pub within-to : (j : ℕ) → to ≤ j → natAbs (getD l j (pos 0)) ≤ bound-to
   pub room : bound-to + bound ≤ 2 ^ 62
+
+unfoldable pub withShare : ℕ → ℕ → ℕ → List ℤ → List ℤ → List ℤ → List ℤ
+withShare d n e m v R =
+    flat d n (λ i k. signedAt d R i k +ℤ share d m v i k) ++ flat d n (λ i k. signedAt d R (n + i) k +ℤ rotate d e (share d m v i) k)
+
+pub record Sharing (d n a b c : ℕ) (l : List ℤ) : Type 0 where
+  pub some : 0 < d
+  pub small : d ≤ 64
+  pub exponent : a < 2 * d
+  pub others : (b < 2 * d) × (c < 2 * d)
+  pub long : length l ≡ 3 * (n * d)
+  pub bound : ℕ
+  pub bound-node : ℕ
+  pub within : (j : ℕ) → j < n * d → natAbs (getD l j (pos 0)) ≤ bound
+  pub within-node : (j : ℕ) → n * d ≤ j → natAbs (getD l j (pos 0)) ≤ bound-node
+  pub room : bound-node + d * d * 2 * bound ≤ 2 ^ 62

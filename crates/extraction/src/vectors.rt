@@ -6,10 +6,11 @@ use crate::elements::multiply;
 ghost use mathlib.Core.Path.{_≡_};
 ghost use Prim.Native.Nat.{_+_, _*_, _-_, _^_, _<_, _≤_};
 ghost use lib.ListN.{length, take, drop};
-ghost use Rattle.protocol.specs.Element.{signed};
+ghost use Rattle.protocol.specs.Element.{signed, signedZeros};
+ghost use Rattle.protocol.specs.Tree.{mu};
 ghost use Rattle.extraction.specs.Bounds.{Factors};
 ghost use Rattle.extraction.specs.Steps.{filled};
-ghost use Rattle.extraction.specs.Vectors.{scaled, turned, Turnable};
+ghost use Rattle.extraction.specs.Vectors.{scaled, turned, Turnable, withShare, Sharing};
 
 // Copies the first d numbers of a.
 fn store(d: usize, a: &[i64; 64], out: &mut [i64])
@@ -45,5 +46,44 @@ fn add_turned(d: usize, n: usize, e: usize, to: usize, l: &mut [i64])
         let u = extension(d, &l[at..end]);
         let into = to + at;
         accumulate(d, 1, &u[from..], &mut l[into..]);
+    }
+}
+
+// Adds one child's share to a node's vector. The list is the child's vector, n elements, which is used up, and the node's, twice as long.
+// X^a is the challenge that leads to the child, X^b and X^c are the other two.
+fn add_share(d: usize, n: usize, a: usize, b: usize, c: usize, l: &mut [i64])
+    requires { ⌜ Sharing d n a b c (now l) ⌝ }
+    ensures { λ _. ⌜ drop (n * d) (now (l .exit)) ≡ withShare d n a (mu d a b c) (take (n * d) (now (l .entry))) (drop (n * d) (now (l .entry))) ⌝ }
+{
+    let m = mu_element(d, a, b, c);
+    let cells = n * d;
+    scale(d, n, &m, &mut l[..cells]);
+    add_turned(d, n, 0, cells, l);
+    add_turned(d, n, a, 2 * cells, l);
+}
+
+fn clear(l: &mut [i64])
+    ensures { λ _. ⌜ now (l .exit) ≡ signedZeros (length (now (l .entry))) ⌝ }
+{
+    let mut i = 0;
+    while i < l.len() {
+        l[i] = 0;
+        i += 1;
+    }
+}
+
+fn widen(x: i32) -> i64
+    ensures { λ r. ⌜ r ≡ x ⌝ }
+{
+    x as i64
+}
+
+// Copies the first d numbers of a final element.
+fn load(d: usize, f: &[i32], out: &mut [i64])
+    requires { ⌜ (d ≤ 64) × (d ≤ length (now f)) × (d ≤ length (now out)) ⌝ }
+    ensures { λ _. ⌜ now (out .exit) ≡ filled d (signed (now (f .entry))) (now (out .entry)) ⌝ }
+{
+    for k in 0..d {
+        out[k] = widen(f[k]);
     }
 }
