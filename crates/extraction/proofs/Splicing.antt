@@ -14,9 +14,22 @@ use Rattle.extraction.specs.Steps.{filled}
 use Rattle.extraction.specs.Vectors.{spliced}
 
 module _ {A : Type 0} where
-  append-nil : (l : List A) → l ++ [] ≡ l
+  pub append-nil : (l : List A) → l ++ [] ≡ l
   append-nil [] = refl
   append-nil (x ∷ l) = ap (λ t. x ∷ t) (append-nil l)
+
+  -- a part that runs to the end, and the list when it is back
+  pub part-end : (x : ℕ) (m : List A) → take (length m - x) (drop x m) ≡ drop x m
+  part-end x m = take-all (length m - x) (drop x m) (omega (arith, length-drop x m))
+
+  pub put-end : (x : ℕ) (m q : List A) → putMid x (length m - x) m q ≡ take x m ++ q
+  put-end x m q = ap (λ r. take x m ++ r) (ap (λ r. q ++ r) (drop-of-length-le (drop x m) {i = length m - x} (omega (arith, length-drop x m))) ∙ append-nil q)
+
+  pub drop-put-end : (x y : ℕ) (m q : List A) → x ≤ length m → drop (x + y) (putMid x (length m - x) m q) ≡ drop y q
+  drop-put-end x y m q h =
+      ap (drop (x + y)) (put-end x m q)
+      ∙ sym (drop-drop y x (take x m ++ q))
+      ∙ ap (drop y) (drop-at (take x m) q x (length-take-le x m h))
 
   tabulate-add : (a b : ℕ) (f : ℕ → A) → tabulate (a + b) f ≡ tabulate a f ++ tabulate b (λ i. f (a + i))
   unfolding tabulate
@@ -76,7 +89,8 @@ module _ {A : Type 0} where
       pub spliced-turn : (x : ℕ) {m p : List A} → x ≡ at + n * d → m ≡ spliced at d n F l → p ≡ filled d (F n) (take (length m - x) (drop x m)) → putMid x (length m - x) m p ≡ spliced at d (n + 1) F l
       unfolding filled
       spliced-turn x {m} {p} is e q =
-          (λ i. first i ++ (nothing-behind ∙ q ∙ ap (λ r. tabulate d (F n) ++ drop d r) rest ∙ ap (λ r. tabulate d (F n) ++ r) (drop-drop d (at + n * d) l)) i)
+          put-end x m p
+          ∙ (λ i. first i ++ (q ∙ ap (λ r. tabulate d (F n) ++ drop d r) rest ∙ ap (λ r. tabulate d (F n) ++ r) (drop-drop d (at + n * d) l)) i)
           ∙ unfold front spliced in (append-assoc (take at l) (flat d n F) _ ∙ ap (λ t. take at l ++ t) (sym (append-assoc (flat d n F) (tabulate d (F n)) _) ∙ (λ i. sym (flat-next d n F) i ++ drop (ends i) l)))
         where
           whole : m ≡ front ++ drop (at + n * d) l
@@ -86,10 +100,7 @@ module _ {A : Type 0} where
           first = (λ i. take (is i) (whole i)) ∙ take-at front _ (at + n * d) front-length
 
           rest : take (length m - x) (drop x m) ≡ drop (at + n * d) l
-          rest = take-all (length m - x) (drop x m) (omega (arith, length-drop x m)) ∙ (λ i. drop (is i) (whole i)) ∙ drop-at front _ (at + n * d) front-length
-
-          nothing-behind : p ++ drop (length m - x) (drop x m) ≡ p
-          nothing-behind = ap (λ r. p ++ r) (drop-of-length-le (drop x m) {i = length m - x} (omega (arith, length-drop x m))) ∙ append-nil p
+          rest = part-end x m ∙ (λ i. drop (is i) (whole i)) ∙ drop-at front _ (at + n * d) front-length
 
           ends : at + n * d + d ≡ at + (n + 1) * d
           ends = omega (arith, Nat.add-mul n 1 d)

@@ -3,14 +3,16 @@ use crate::elements::accumulate;
 use crate::elements::extension;
 use crate::elements::mu_element;
 use crate::elements::multiply;
+use protocol::Settings;
 ghost use mathlib.Core.Path.{_≡_};
 ghost use Prim.Native.Nat.{_+_, _*_, _-_, _^_, _<_, _≤_};
-ghost use lib.ListN.{length, take, drop};
-ghost use Rattle.protocol.specs.Element.{signed, signedZeros};
-ghost use Rattle.protocol.specs.Tree.{mu};
+ghost use lib.ListN.{length, getD, take, drop};
+ghost use Rattle.protocol.specs.Element.{signed, signedAt, coefficients, signedZeros};
+ghost use Rattle.protocol.specs.Tree.{mu, vector};
 ghost use Rattle.extraction.specs.Bounds.{Factors};
 ghost use Rattle.extraction.specs.Steps.{filled};
-ghost use Rattle.extraction.specs.Vectors.{scaled, turned, Turnable, withShare, Sharing};
+ghost use Rattle.extraction.specs.Vectors.{scaled, turned, Turnable, withShare, Sharing, Branching, branchAdded};
+ghost use Rattle.extraction.specs.Nodes.{Extractable, AtNode};
 
 // Copies the first d numbers of a.
 fn store(d: usize, a: &[i64; 64], out: &mut [i64])
@@ -86,4 +88,98 @@ fn load(d: usize, f: &[i32], out: &mut [i64])
     for k in 0..d {
         out[k] = widen(f[k]);
     }
+}
+
+// A challenge, as an exponent.
+fn exponent(challenges: &[u32], i: usize) -> usize
+    requires { ⌜ i < length (now challenges) ⌝ }
+    ensures { λ r. ⌜ r ≡ getD (now (challenges .entry)) i 0 ⌝ }
+{
+    challenges[i] as usize
+}
+
+// The share of child j at node k, x and y being the other two children: the child's vector, n elements, stands in the second quarter of ws, the node's in its second half.
+fn add_branch(
+    d: usize,
+    n: usize,
+    k: usize,
+    j: usize,
+    x: usize,
+    y: usize,
+    challenges: &[u32],
+    ws: &mut [i64],
+)
+    requires { ⌜ Branching d n k j x y (now challenges) (now ws) ⌝ }
+    ensures { λ _. ⌜ drop (2 * (n * d)) (now (ws .exit)) ≡ branchAdded d n k j x y (now (challenges .entry)) (now (ws .entry)) ⌝ }
+{
+    let i = 3 * k;
+    let a = exponent(challenges, i + j);
+    let b = exponent(challenges, i + x);
+    let c = exponent(challenges, i + y);
+    let cells = n * d;
+    add_share(d, n, a, b, c, &mut ws[cells..]);
+}
+
+// The vector of leaf j, in the second half of ws.
+fn leaf_vector(d: usize, j: usize, leaves: &[i32], ws: &mut [i64])
+    requires { ⌜ (d ≤ 64) × (j * d + d ≤ length (now leaves)) × (length (now ws) ≡ 2 * d) ⌝ }
+    ensures { λ _. ⌜ drop d (now (ws .exit)) ≡ coefficients d (signedAt d (now (leaves .entry)) j) ⌝ }
+{
+    let at = j * d;
+    load(d, &leaves[at..], &mut ws[d..]);
+}
+
+// The vector of node k, h steps above the leaves, in the second half of ws; what the first half then holds is left free.
+pub(crate) fn node(
+    settings: Settings,
+    h: u32,
+    k: usize,
+    first: usize,
+    challenges: &[u32],
+    leaves: &[i32],
+    ws: &mut [i64],
+)
+    requires { ⌜ Extractable settings (now challenges) (now leaves) ⌝ }
+    requires { ⌜ AtNode settings h k first (length (now ws)) ⌝ }
+    ensures { λ _. ⌜ drop (2 ^ h * settings .degree) (now (ws .exit)) ≡ vector settings (now (challenges .entry)) (now (leaves .entry)) h k ⌝ }
+{
+    let d = settings.degree as usize;
+    if h == 0 {
+        leaf_vector(d, k - first, leaves, ws);
+        return;
+    }
+    let half = ws.len() / 2;
+    let n = half / 2 / d;
+    clear(&mut ws[half..]);
+    let i = 3 * k;
+    node(
+        settings,
+        h - 1,
+        i + 1,
+        first,
+        challenges,
+        leaves,
+        &mut ws[..half],
+    );
+    add_branch(d, n, k, 0, 1, 2, challenges, ws);
+    node(
+        settings,
+        h - 1,
+        i + 2,
+        first,
+        challenges,
+        leaves,
+        &mut ws[..half],
+    );
+    add_branch(d, n, k, 1, 0, 2, challenges, ws);
+    node(
+        settings,
+        h - 1,
+        i + 3,
+        first,
+        challenges,
+        leaves,
+        &mut ws[..half],
+    );
+    add_branch(d, n, k, 2, 0, 1, challenges, ws);
 }
