@@ -9,4 +9,5 @@ pub mod Known
 pub mod Traps
 pub mod ComputeText
 pub mod KnownTexts
+pub mod Refusals
 pub mod Modulo
