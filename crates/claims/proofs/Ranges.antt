@@ -1,5 +1,5 @@
 -- What an opening gives is residues, of the right lengths: commitment, round elements, claims, folded key, final element.
-use mathlib.Core.Path.{_≡_, sym, subst}
+use mathlib.Core.Path.{_≡_, sym, _∙_, subst}
 use mathlib.Core.List.{List}
 use Prim.Native.Nat.{ℕ, zero, suc, _*_, _/_, _%_, _<_}
 use native.Mathlib.Decide.{decLt}
@@ -70,3 +70,6 @@ module _ (S : Settings) (message : List ℤ) where
   pub last-at : (k : ℕ) → k < S .degree → signed (finalElement S message) k ≡ signedAt (S .degree) message 0 k
   unfolding finalElement coefficients signed
   last-at k l = tabulate-at (S .degree) _ (pos 0) k l
+
+  pub last-padded-at : (k : ℕ) → k < S .degree → signed (paddedSigned (S .degree) (finalElement S message)) k ≡ signedAt (S .degree) message 0 k
+  last-padded-at k l = padded-signed-at (S .degree) (finalElement S message) k (omega (arith, last-length)) ∙ last-at k l

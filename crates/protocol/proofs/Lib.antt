@@ -11,3 +11,4 @@ pub mod ComputeText
 pub mod KnownTexts
 pub mod Refusals
 pub mod Modulo
+pub mod NumeralLaws

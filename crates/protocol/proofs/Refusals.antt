@@ -1,13 +1,13 @@
--- A call's refusal, one test after the other: the first number that is not 0 stands, and only with 0 something is granted.
-use mathlib.Core.Path.{_≡_, refl, ap, _∙_}
+-- A call's refusal, one test after the other: the first number that is not 0 stands.
+use mathlib.Core.Path.{_≡_, refl, ap}
 use mathlib.Core.Bool.{Bool, true, false}
-use mathlib.Core.List.{List, [], _∷_}
+use mathlib.Core.List.{List, _∷_}
 use Prim.Native.Nat.{ℕ, zero, suc, _<_, _≤_}
 use native.Mathlib.Omega.{arith}
 use borrow.Author.Tests.{le-leb, lt-leb, lt-ltb, le-ltb}
 use lib.IntN.{ℤ}
 use Rattle.protocol.specs.declared.Settings.{Settings}
-use Rattle.protocol.specs.Basic.{first, unless, granted}
+use Rattle.protocol.specs.Basic.{first, unless}
 use Rattle.protocol.specs.Calls.{leftSmall, movingSmall, endingSmall}
 
 pub first-stops : (x : ℕ) (rest : List ℕ) → (x ≡ 0 → ⊥) → first (x ∷ rest) ≡ x
@@ -27,15 +27,6 @@ first-fails n b rest e = ap (λ t. first (unless (suc n) t ∷ rest)) e
 pub first-holds : (n : ℕ) (b : Bool) (rest : List ℕ) → b ≡ true → first (unless n b ∷ rest) ≡ first rest
 unfolding first unless
 first-holds n b rest e = ap (λ t. first (unless n t ∷ rest)) e
-
-pub granted-all {ℓ} : {A : Type ℓ} (n : ℕ) (x y : A) → n ≡ 0 → granted n x y ≡ x
-unfolding granted
-granted-all n x y e = ap (λ m. granted m x y) e
-
-pub granted-none {ℓ} : {A : Type ℓ} (n : ℕ) (x y : A) → (n ≡ 0 → ⊥) → granted n x y ≡ y
-unfolding granted
-granted-none zero x y n = absurd (n refl)
-granted-none (suc k) x y n = refl
 
 -- ---- refusal 9 in a prover's call: what is left is tested up to L in the end, below L in a round or a fold
 

@@ -1,12 +1,13 @@
 -- Tests and what they say: conjunctions, `every`, `all`, `least`, and refusals.
 use mathlib.Core.Path.{_≡_, refl, sym, subst}
+use mathlib.Core.Logic.{_≢_}
 use mathlib.Core.Bool.{Bool, true, false, _&&_, false≢true}
 use mathlib.Core.List.{List, [], _∷_}
 use Prim.Native.Nat.{ℕ, zero, suc, _<_, _≤_}
 use native.Mathlib.Decide.{ℕ-discrete}
 use native.Mathlib.Omega.{arith}
 use lib.ListN.{length, getD}
-use Rattle.protocol.specs.Basic.{every, all, least, first, unless}
+use Rattle.protocol.specs.Basic.{every, all, least, first, unless, granted}
 
 -- ---- conjunctions
 
@@ -99,3 +100,13 @@ pub zero-unless : (n : ℕ) (b : Bool) → b ≡ true → unless n b ≡ 0
 unfolding unless
 zero-unless n true e = refl
 zero-unless n false e = absurd (false≢true e)
+
+pub granted-zero {ℓ} : {A : Type ℓ} (n : ℕ) (x y : A) → n ≡ 0 → granted n x y ≡ x
+unfolding granted
+granted-zero zero x y e = refl
+granted-zero (suc n) x y e = absurd (omega arith)
+
+pub granted-refused {ℓ} : {A : Type ℓ} (n : ℕ) (x y : A) → n ≢ 0 → granted n x y ≡ y
+unfolding granted
+granted-refused zero x y r = absurd (r refl)
+granted-refused (suc n) x y r = refl
