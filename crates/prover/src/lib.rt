@@ -1,6 +1,7 @@
 // The prover's calls: each tests what it is given, and then works on the tables that it is lent.
 mod messages;
 mod refusals;
+
 use protocol::Ended;
 use protocol::Settings;
 ghost use mathlib.Core.Path.{_≡_};

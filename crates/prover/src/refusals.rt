@@ -1,6 +1,6 @@
 // The refusals of the prover's calls, each the first that applies.
-use protocol::Settings;
 use arithmetic::tests;
+use protocol::Settings;
 ghost use mathlib.Core.Path.{_≡_};
 ghost use Prim.Native.Nat.{_≤_};
 ghost use lib.ListN.{length};

@@ -1,30 +1,36 @@
+use mathlib.Core.Path.{_≡_, sym, _∙_}
+use native.Mathlib.Omega.{arith}
 use borrow.Author.Needs.{needs}
+use Rattle.protocol.specs.Element.{width, signedZeros}
+use Rattle.protocol.specs.Opening.{finalElement}
+use Rattle.protocol.specs.Calls.{endRefusal}
+use Rattle.sizes.proofs.Limits.{degree-most, degree-inside}
+use Rattle.prover.proofs.Answers.{end-refused, end-known, end-given}
 use Rattle.prover.proofs.end.Statement.{statement}
 use Rattle.prover.proofs.end.Tie as tie
-use Rattle.prover.proofs.end.Reads as reads
-use Rattle.prover.proofs.end.Lts as lts
-use Rattle.prover.proofs.messages.first_element.Reads as first-element-reads
-use Rattle.prover.proofs.refusals.end_refusal.Reads as end-refusal-reads
 
--- src/lib.rt:13:9
+passed : (c : tie.Else1) → let a = c .before .before .args in endRefusal (a .settings) (a .done) (a .message .now) ≡ 0
+passed c = sym (c .before .end-refusal .ensures) ∙ c .if1 .left
+
 end-refusal-requires : tie.Need-end-refusal-requires
 end-refusal-requires c κs = search needs
 
--- src/lib.rt:15:9
 returns : tie.Need-returns
-returns c = ?
+unfolding signedZeros width
+returns c = let a = c .before .before .args in end-refused (a .settings) (a .done) (a .message .now) _ (c .before .end-refusal .ensures) (c .if1 .taken)
 
--- src/lib.rt:20:13
 cast-d : tie.Need-cast-d
 cast-d c = search needs
 
--- src/lib.rt:21:9
 first-element-requires : tie.Need-first-element-requires
-first-element-requires c κs = ?
+first-element-requires c κs =
+    let a = c .before .before .before .args in
+    let (ok, long) = end-known (a .settings) (a .done) (a .message .now) (passed (c .before)) in
+    (degree-most (a .settings) ok, omega (arith, degree-inside (a .settings) ok))
 
--- src/lib.rt:10:1
 returns-2 : tie.Need-returns-2
-returns-2 c = ?
+unfolding finalElement
+returns-2 c = let a = c .before .before .before .before .args in end-given (a .settings) (a .done) (a .message .now) (passed (c .before .before)) _ (c .first-element .ensures)
 
 pub end-spec : {M : Type 1} → statement M
 end-spec =

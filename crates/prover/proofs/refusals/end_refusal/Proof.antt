@@ -2,7 +2,7 @@
 use mathlib.Core.Path.{_≡_, sym, ap, _∙_}
 use mathlib.Core.Bool.{Bool, true, false}
 use Prim.Native.Nat.{_≤_}
-use native.Mathlib.Omega.{arith}
+use native.Mathlib.Nat.{ne-of-gt}
 use borrow.Author.Needs.{needs}
 use borrow.Author.Tests.{eq-eqb, ne-eqb, not-true, not-false}
 use lib.ListN.{length}
@@ -53,7 +53,7 @@ returns-3 : tie.Need-returns-3
 unfolding endRefusal
 returns-3 c =
     let two = c .before .before in
-    sym (first-passes _ _ (allowed (two .before .before)) ∙ first-holds 7 _ _ (fits two) ∙ first-holds 9 _ _ (ending-over _ _ _ (c .if3 .taken)) ∙ first-fails 10 _ _ (ne-eqb _ _ (λ e. omega (arith, c .if3 .taken))))
+    sym (first-passes _ _ (allowed (two .before .before)) ∙ first-holds 7 _ _ (fits two) ∙ first-holds 9 _ _ (ending-over _ _ _ (c .if3 .taken)) ∙ first-fails 10 _ _ (ne-eqb _ _ (ne-of-gt (c .if3 .taken))))
 
 -- src/refusals.rt:34:9
 left-small-requires : tie.Need-left-small-requires
