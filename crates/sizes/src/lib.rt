@@ -2,10 +2,10 @@
 // for settings that are allowed.
 use protocol::Settings;
 ghost use mathlib.Core.Path.{_≡_};
-ghost use Prim.Native.Nat.{_*_, _^_, _≤_};
+ghost use Prim.Native.Nat.{_*_, _^_, _<_, _≤_};
 ghost use Rattle.protocol.specs.Settings as of;
 ghost use Rattle.protocol.specs.Settings.{settingsRefusal};
-ghost use Rattle.protocol.specs.Opening.{left};
+ghost use Rattle.protocol.specs.Opening.{left, halfLeft};
 
 // The numbers of a key or a message: n elements of d.
 pub fn cells(settings: Settings) -> usize
@@ -25,6 +25,19 @@ pub fn left_cells(settings: Settings, t: u32) -> usize
         return 0;
     }
     (1usize << (settings.depth - t)) * (settings.degree as usize)
+}
+
+// The elements of a half of what is left.
+pub fn half_left(settings: Settings, t: u32) -> u32
+    ensures { λ r. ⌜ (settingsRefusal settings ≡ 0 → t < settings .depth → r ≡ halfLeft settings t) ⌝ }
+{
+    if settings.depth > 8 {
+        return 0;
+    }
+    if t >= settings.depth {
+        return 0;
+    }
+    1u32 << (settings.depth - t - 1)
 }
 
 // The bound of what is left: 2^t·B.
