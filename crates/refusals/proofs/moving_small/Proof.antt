@@ -2,11 +2,11 @@ use mathlib.Core.Path.{_≡_, sym, _∙_}
 use native.Mathlib.Omega.{arith}
 use Rattle.protocol.proofs.Refusals.{moving-tested, moving-over}
 use borrow.Author.Needs.{needs}
-use Rattle.prover.proofs.refusals.moving_small.Statement.{statement}
-use Rattle.prover.proofs.refusals.moving_small.Tie as tie
-use Rattle.prover.proofs.refusals.moving_small.Reads as reads
-use Rattle.prover.proofs.refusals.moving_small.Lts as lts
-use Rattle.prover.proofs.refusals.left_small.Reads as left-small-reads
+use Rattle.refusals.proofs.moving_small.Statement.{statement}
+use Rattle.refusals.proofs.moving_small.Tie as tie
+use Rattle.refusals.proofs.moving_small.Reads as reads
+use Rattle.refusals.proofs.moving_small.Lts as lts
+use Rattle.refusals.proofs.left_small.Reads as left-small-reads
 
 -- src/refusals.rt:48:9
 returns : tie.Need-returns

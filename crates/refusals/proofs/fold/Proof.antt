@@ -9,20 +9,20 @@ use Rattle.protocol.specs.Calls.{movingSmall, foldRefusal}
 use Rattle.protocol.proofs.Tests.{first-nothing}
 use Rattle.protocol.proofs.Refusals.{first-fails, first-holds}
 use Rattle.sizes.proofs.Limits.{degree-most}
-use Rattle.prover.specs.Refusals.{tablesRefusal}
-use Rattle.prover.proofs.Given.{TablesGiven, tables-stop, tables-pass, tables-given}
-use Rattle.prover.proofs.refusals.fold_refusal.Statement.{statement}
-use Rattle.prover.proofs.refusals.fold_refusal.Tie as tie
+use Rattle.refusals.specs.Tables.{tablesRefusal}
+use Rattle.refusals.proofs.Given.{TablesGiven, tables-stop, tables-pass, tables-given}
+use Rattle.refusals.proofs.fold.Statement.{statement}
+use Rattle.refusals.proofs.fold.Tie as tie
 
 passed : (c : tie.Else1) → let a = c .before .before .before .args in tablesRefusal (a .settings) (a .key .now) (a .message .now) ≡ 0
-passed c = sym (c .before .tables-refusal .ensures) ∙ c .if1 .left
+passed c = sym (c .before .tables .ensures) ∙ c .if1 .left
 
-tables-refusal-requires : tie.Need-tables-refusal-requires
-tables-refusal-requires c κs = search needs
+tables-requires : tie.Need-tables-requires
+tables-requires c κs = search needs
 
 returns : tie.Need-returns
 unfolding foldRefusal
-returns c = tables-stop _ _ _ _ _ (c .before .tables-refusal .ensures) (c .if1 .taken)
+returns c = tables-stop _ _ _ _ _ (c .before .tables .ensures) (c .if1 .taken)
 
 given : (c : tie.Else1) → let a = c .before .before .before .args in TablesGiven (a .settings) (a .key .now) (a .message .now)
 given c = tables-given _ _ _ (passed c)
@@ -62,5 +62,5 @@ returns-5 c =
     let two = three .before .before in
     sym (tables-pass _ _ _ _ (passed (two .before .before)) ∙ first-holds 9 _ _ (within two) ∙ first-holds 10 _ _ (below three) ∙ first-holds 11 _ _ (lt-ltb _ _ (c .if4 .left)) ∙ first-nothing)
 
-pub fold-refusal-spec : {M : Type 1} → statement M
-fold-refusal-spec = tie.close (tie.spec tables-refusal-requires returns moving-small-requires returns-2 mul-if3 returns-3 returns-4 returns-5)
+pub fold-spec : {M : Type 1} → statement M
+fold-spec = tie.close (tie.spec tables-requires returns moving-small-requires returns-2 mul-if3 returns-3 returns-4 returns-5)

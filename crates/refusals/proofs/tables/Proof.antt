@@ -7,12 +7,12 @@ use lib.ListN.{length}
 use Rattle.protocol.specs.Settings.{settingsRefusal, cells, sized, residues}
 use Rattle.protocol.proofs.Tests.{first-nothing, and-intro}
 use Rattle.protocol.proofs.Refusals.{first-stops, first-passes, first-fails, first-holds, and-fails-left, and-fails-right}
-use Rattle.prover.specs.Refusals.{tablesRefusal}
+use Rattle.refusals.specs.Tables.{tablesRefusal}
 use borrow.Author.Needs.{needs}
-use Rattle.prover.proofs.refusals.tables_refusal.Statement.{statement}
-use Rattle.prover.proofs.refusals.tables_refusal.Tie as tie
-use Rattle.prover.proofs.refusals.tables_refusal.Reads as reads
-use Rattle.prover.proofs.refusals.tables_refusal.Lts as lts
+use Rattle.refusals.proofs.tables.Statement.{statement}
+use Rattle.refusals.proofs.tables.Tie as tie
+use Rattle.refusals.proofs.tables.Reads as reads
+use Rattle.refusals.proofs.tables.Lts as lts
 use Rattle.arithmetic.proofs.tests.all_below.Reads as all-below-reads
 use Rattle.arithmetic.proofs.tests.settings_refusal.Reads as settings-refusal-reads
 use Rattle.sizes.proofs.cells.Reads as cells-reads
@@ -74,8 +74,8 @@ returns-5 c =
     let three = c .before .before in
     sym (first-passes _ _ (allowed (three .before .before .before)) ∙ first-holds 7 _ _ (both-sized three) ∙ first-holds 8 _ _ (sym (c .before .all-below .ensures) ∙ not-false _ (c .if4 .left)) ∙ first-nothing)
 
-pub tables-refusal-spec : {M : Type 1} → statement M
-tables-refusal-spec =
+pub tables-spec : {M : Type 1} → statement M
+tables-spec =
     tie.close
     (tie.spec
     settings-refusal-requires

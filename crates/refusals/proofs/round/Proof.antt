@@ -6,20 +6,20 @@ use borrow.Author.Tests.{lt-ltb, le-ltb, not-true, not-false}
 use Rattle.protocol.specs.Calls.{movingSmall, roundRefusal}
 use Rattle.protocol.proofs.Tests.{first-nothing}
 use Rattle.protocol.proofs.Refusals.{first-fails, first-holds}
-use Rattle.prover.specs.Refusals.{tablesRefusal}
-use Rattle.prover.proofs.Given.{TablesGiven, tables-stop, tables-pass, tables-given}
-use Rattle.prover.proofs.refusals.round_refusal.Statement.{statement}
-use Rattle.prover.proofs.refusals.round_refusal.Tie as tie
+use Rattle.refusals.specs.Tables.{tablesRefusal}
+use Rattle.refusals.proofs.Given.{TablesGiven, tables-stop, tables-pass, tables-given}
+use Rattle.refusals.proofs.round.Statement.{statement}
+use Rattle.refusals.proofs.round.Tie as tie
 
 passed : (c : tie.Else1) → let a = c .before .before .before .args in tablesRefusal (a .settings) (a .key .now) (a .message .now) ≡ 0
-passed c = sym (c .before .tables-refusal .ensures) ∙ c .if1 .left
+passed c = sym (c .before .tables .ensures) ∙ c .if1 .left
 
-tables-refusal-requires : tie.Need-tables-refusal-requires
-tables-refusal-requires c κs = search needs
+tables-requires : tie.Need-tables-requires
+tables-requires c κs = search needs
 
 returns : tie.Need-returns
 unfolding roundRefusal
-returns c = tables-stop _ _ _ _ _ (c .before .tables-refusal .ensures) (c .if1 .taken)
+returns c = tables-stop _ _ _ _ _ (c .before .tables .ensures) (c .if1 .taken)
 
 given : (c : tie.Else1) → let a = c .before .before .before .args in TablesGiven (a .settings) (a .key .now) (a .message .now)
 given c = tables-given _ _ _ (passed c)
@@ -42,5 +42,5 @@ returns-4 : tie.Need-returns-4
 unfolding roundRefusal
 returns-4 c = let two = c .before .before in sym (tables-pass _ _ _ _ (passed (two .before .before)) ∙ first-holds 9 _ _ (within two) ∙ first-holds 11 _ _ (lt-ltb _ _ (c .if3 .left)) ∙ first-nothing)
 
-pub round-refusal-spec : {M : Type 1} → statement M
-round-refusal-spec = tie.close (tie.spec tables-refusal-requires returns moving-small-requires returns-2 returns-3 returns-4)
+pub round-spec : {M : Type 1} → statement M
+round-spec = tie.close (tie.spec tables-requires returns moving-small-requires returns-2 returns-3 returns-4)

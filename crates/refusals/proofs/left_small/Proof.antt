@@ -8,10 +8,10 @@ use Rattle.protocol.specs.Settings.{small}
 use Rattle.protocol.specs.Opening.{left}
 use Rattle.protocol.specs.Calls.{leftSmall}
 use Rattle.claims.proofs.Tables.{left-inside}
-use Rattle.prover.proofs.refusals.left_small.Statement.{statement}
-use Rattle.prover.proofs.refusals.left_small.Tie as tie
-use Rattle.prover.proofs.refusals.left_small.Reads as reads
-use Rattle.prover.proofs.refusals.left_small.Lts as lts
+use Rattle.refusals.proofs.left_small.Statement.{statement}
+use Rattle.refusals.proofs.left_small.Tie as tie
+use Rattle.refusals.proofs.left_small.Reads as reads
+use Rattle.refusals.proofs.left_small.Lts as lts
 use Rattle.arithmetic.proofs.tests.all_within.Reads as all-within-reads
 use Rattle.sizes.proofs.left_bound.Reads as left-bound-reads
 use Rattle.sizes.proofs.left_cells.Reads as left-cells-reads

@@ -1,4 +1,4 @@
-// The refusals of the prover's calls: each function answers with the first that applies, and 0 where none does.
+// The refusals of the calls: each function answers with the number of the first that applies, and 0 where none does.
 use arithmetic::tests;
 use protocol::Settings;
 ghost use mathlib.Core.Path.{_≡_};
@@ -6,10 +6,10 @@ ghost use Prim.Native.Nat.{_≤_};
 ghost use lib.ListN.{length};
 ghost use Rattle.protocol.specs.Settings.{settingsRefusal, cells};
 ghost use Rattle.protocol.specs.Calls.{leftSmall, movingSmall, commitRefusal, roundRefusal, foldRefusal, endRefusal};
-ghost use Rattle.prover.specs.Refusals.{tablesRefusal};
+ghost use Rattle.refusals.specs.Tables.{tablesRefusal};
 
 // 3 to 8 of a call on both tables.
-fn tables_refusal(settings: Settings, key: &[u32], message: &[i32]) -> u32
+fn tables(settings: Settings, key: &[u32], message: &[i32]) -> u32
     ensures { λ r. ⌜ r ≡ tablesRefusal settings (now (key .entry)) (now (message .entry)) ⌝ }
 {
     let refusal = tests::settings_refusal(settings);
@@ -50,10 +50,10 @@ fn moving_small(settings: Settings, t: u32, message: &[i32]) -> bool
     left_small(settings, t, message)
 }
 
-pub fn commit_refusal(settings: Settings, key: &[u32], message: &[i32]) -> u32
+pub fn commit(settings: Settings, key: &[u32], message: &[i32]) -> u32
     ensures { λ r. ⌜ r ≡ commitRefusal settings (now (key .entry)) (now (message .entry)) ⌝ }
 {
-    let refusal = tables_refusal(settings, key, message);
+    let refusal = tables(settings, key, message);
     if refusal != 0 {
         return refusal;
     }
@@ -63,10 +63,10 @@ pub fn commit_refusal(settings: Settings, key: &[u32], message: &[i32]) -> u32
     0
 }
 
-pub fn round_refusal(settings: Settings, t: u32, key: &[u32], message: &[i32]) -> u32
+pub fn round(settings: Settings, t: u32, key: &[u32], message: &[i32]) -> u32
     ensures { λ r. ⌜ r ≡ roundRefusal settings t (now (key .entry)) (now (message .entry)) ⌝ }
 {
-    let refusal = tables_refusal(settings, key, message);
+    let refusal = tables(settings, key, message);
     if refusal != 0 {
         return refusal;
     }
@@ -79,10 +79,10 @@ pub fn round_refusal(settings: Settings, t: u32, key: &[u32], message: &[i32]) -
     0
 }
 
-pub fn fold_refusal(settings: Settings, t: u32, e: u32, key: &[u32], message: &[i32]) -> u32
+pub fn fold(settings: Settings, t: u32, e: u32, key: &[u32], message: &[i32]) -> u32
     ensures { λ r. ⌜ r ≡ foldRefusal settings t e (now (key .entry)) (now (message .entry)) ⌝ }
 {
-    let refusal = tables_refusal(settings, key, message);
+    let refusal = tables(settings, key, message);
     if refusal != 0 {
         return refusal;
     }
@@ -99,7 +99,7 @@ pub fn fold_refusal(settings: Settings, t: u32, e: u32, key: &[u32], message: &[
 }
 
 // With t over L what is left is not looked at.
-pub fn end_refusal(settings: Settings, t: u32, message: &[i32]) -> u32
+pub fn end(settings: Settings, t: u32, message: &[i32]) -> u32
     ensures { λ r. ⌜ r ≡ endRefusal settings t (now (message .entry)) ⌝ }
 {
     let refusal = tests::settings_refusal(settings);

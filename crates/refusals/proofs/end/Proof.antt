@@ -10,12 +10,12 @@ use Rattle.protocol.specs.Settings.{settingsRefusal, cells, sized}
 use Rattle.protocol.specs.Calls.{leftSmall, endingSmall, endRefusal}
 use Rattle.protocol.proofs.Tests.{first-nothing}
 use Rattle.protocol.proofs.Refusals.{first-stops, first-passes, first-fails, first-holds, ending-tested, ending-over}
-use Rattle.prover.proofs.refusals.end_refusal.Statement.{statement}
-use Rattle.prover.proofs.refusals.end_refusal.Tie as tie
-use Rattle.prover.proofs.refusals.end_refusal.Reads as reads
-use Rattle.prover.proofs.refusals.end_refusal.Lts as lts
+use Rattle.refusals.proofs.end.Statement.{statement}
+use Rattle.refusals.proofs.end.Tie as tie
+use Rattle.refusals.proofs.end.Reads as reads
+use Rattle.refusals.proofs.end.Lts as lts
 use Rattle.arithmetic.proofs.tests.settings_refusal.Reads as settings-refusal-reads
-use Rattle.prover.proofs.refusals.left_small.Reads as left-small-reads
+use Rattle.refusals.proofs.left_small.Reads as left-small-reads
 use Rattle.sizes.proofs.cells.Reads as cells-reads
 
 allowed : (c : tie.Else1) → settingsRefusal (c .before .before .args .settings) ≡ 0
@@ -82,8 +82,8 @@ returns-6 c =
     let two = four .before .before .before .before in
     sym (first-passes _ _ (allowed (two .before .before)) ∙ first-holds 7 _ _ (fits two) ∙ first-holds 9 _ _ (within four) ∙ first-holds 11 _ _ (eq-eqb _ _ (c .if5 .left)) ∙ first-nothing)
 
-pub end-refusal-spec : {M : Type 1} → statement M
-end-refusal-spec =
+pub end-spec : {M : Type 1} → statement M
+end-spec =
     tie.close
     (tie.spec
     settings-refusal-requires
