@@ -1,20 +1,20 @@
 -- The test `accepted`, the statement `Accepted` and the absence of a `cause` say the same.
-use mathlib.Core.Path.{_≡_, refl, sym, ap, _∙_, subst}
+use mathlib.Core.Path.{_≡_, refl, sym, ap, _∙_}
 use mathlib.Core.Bool.{Bool, true, false, _&&_, not, false≢true}
 use mathlib.Core.List.{List}
-use Prim.Native.Nat.{ℕ, _+_, _*_, _<_, _≤_}
+use Prim.Native.Nat.{ℕ, _+_, _*_, _≤_}
 use native.Mathlib.Nat as Nat
 use native.Mathlib.Decide.{decLt}
 use native.Mathlib.Omega.{arith}
 use borrow.Author.Tests.{eq-eqb, le-leb, eqb-true, leb-true, le-ltb, ltb-false, not-false}
-use lib.Dec.{leb, ltb, eqb}
+use lib.Dec.{ltb, eqb}
 use lib.ListN.{getD}
 use Rattle.protocol.specs.declared.Settings.{Settings}
 use Rattle.protocol.specs.Basic.{every, least, within}
 use Rattle.protocol.specs.Element.{signed}
 use Rattle.protocol.specs.Settings.{size}
 use Rattle.protocol.specs.Transcript.{Transcript, doubled, ending, holdsAt, closes, roundHolds, finalBounded, endHolds, claimAfter, element, Cause, endCause, held, cause, accepted, Accepted}
-use Rattle.protocol.proofs.Tests.{and-split, and-intro, every-at, every-intro, First, least-first}
+use Rattle.protocol.proofs.Tests.{and-split, and-intro, every-at, every-intro, least-first}
 
 module _ (S : Settings) (key : List ℕ) (T : Transcript) where
   pub accepted-states : accepted S key T ≡ true → Accepted S key T

@@ -3,7 +3,7 @@ use mathlib.Core.Path.{_≡_, ap, _∙_}
 use Prim.Native.Nat.{ℕ, _+_, _*_, _-_, _/_, _%_, _<_, _≤_}
 use native.Mathlib.Nat as Nat
 use native.Mathlib.Omega.{arith}
-use lib.IntN.{ℤ, negℤ, negℤ-negℤ}
+use lib.IntN.{negℤ, negℤ-negℤ}
 use Rattle.protocol.specs.Element.{Element, flips, around, rotate}
 
 module _ (d e : ℕ) (a : Element) (k : ℕ) (le : e < 2 * d) (lk : k < d) where

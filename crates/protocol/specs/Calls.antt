@@ -29,7 +29,7 @@ use Rattle.protocol.specs.Basic.{every, tabulate, first, unless, granted
 use Rattle.protocol.specs.Element.{width, zeros, signedZeros, padded, paddedSigned}
 use Rattle.protocol.specs.Settings.{settingsRefusal, cells, sized, residues, residueElement, small, exponent, exponents}
 use Rattle.protocol.specs.Opening.{commitment, left, roundElement, foldMessage, foldKey, messageAfter, keyAfter, finalElement, roundTable}
-use Rattle.protocol.specs.Transcript.{Transcript, accepted, transcriptOf}
+use Rattle.protocol.specs.Transcript.{accepted, transcriptOf}
 use Rattle.protocol.specs.Session.{verdict}
 use Rattle.protocol.specs.Tree.{nodes, leaves, path, apart, rootVector, grows}
 use Rattle.protocol.specs.Judge.{slackAllowed, judged}

@@ -7,3 +7,9 @@ pub mod Session
 pub mod Tree
 pub mod Judge
 pub mod Calls
+pub mod Inputs
+pub mod Text
+pub mod Programs
+pub mod RoundTrip
+pub mod Promises
+pub mod Demand3

@@ -20,7 +20,7 @@ use Rattle.protocol.specs.declared.Moved.{Moved}
 use Rattle.protocol.specs.declared.Verdict.{Verdict}
 use Rattle.protocol.specs.declared.Verdict.the-variants.{Silent, Holds, Accepted, Rejected}
 use Rattle.protocol.specs.Basic.{tabulate, choose, first, unless, granted}
-use Rattle.protocol.specs.Element.{Element, width, zeros, padded, signed, residue}
+use Rattle.protocol.specs.Element.{width, zeros, padded, signed, residue}
 use Rattle.protocol.specs.Settings.{settingsRefusal, cells, sized, residues, residueElement, exponent, exponents}
 use Rattle.protocol.specs.Transcript.{roundHolds, nextClaim, finalBounded, endHolds}
 

@@ -19,7 +19,7 @@
 --   vector S .. h k             the vector of node k, h steps above the leaves; rootVector S ..: that of the root
 --   growth S, grows S           (12·d²)^L·B, and is it at most 2^62 (refusal 14)
 use mathlib.Core.Path.{_≡_}
-use mathlib.Core.Bool.{Bool, true, false, _&&_, not}
+use mathlib.Core.Bool.{Bool, _&&_, not}
 use mathlib.Core.List.{List, _++_}
 use Prim.Native.Nat.{ℕ, zero, suc, _+_, _*_, _-_, _/_, _%_, _^_, _<_, _≤_}
 use lib.Dec.{eqb, leb}

@@ -1,0 +1,20 @@
+-- The files in an order in which each rests on those above it.
+pub mod Ring
+pub mod Sum
+pub mod Hom
+pub mod Integers
+pub mod Solver
+pub mod Certificate
+pub mod Inner
+pub mod Residues
+pub mod Negacyclic
+pub mod Induced
+pub mod Scalars
+pub mod Cancel
+pub mod Mu
+pub mod Magnitude
+pub mod Norm
+pub mod Steps
+pub mod Divisor
+pub mod Bounds
+pub mod Machine

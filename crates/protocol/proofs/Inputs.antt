@@ -1,0 +1,117 @@
+-- The tests of refusals 3 to 10 against the plain statements of Inputs: settings, residues, bounds, exponents.
+use mathlib.Core.Path.{_≡_, refl, ap, _∙_}
+use mathlib.Core.Bool.{Bool, true, false, _&&_, _||_, false≢true}
+use mathlib.Core.List.{List, [], _∷_}
+use Prim.Native.Nat.{ℕ, zero, suc, _%_, _^_, _<_, _≤_}
+use native.Mathlib.Omega.{arith}
+use borrow.Author.Tests.{eq-eqb, eqb-true, le-leb, leb-true, lt-ltb, ltb-true}
+use lib.Dec.{eqb, leb, ltb}
+use lib.ListN.{length, getD}
+use lib.IntN.{ℤ, pos}
+use Rattle.protocol.specs.declared.Settings.{Settings}
+use Rattle.protocol.specs.Basic.{all, among, within}
+use Rattle.protocol.specs.Settings.{degreeAllowed, depthAllowed, modulusAllowed, boundAllowed, settingsRefusal, sized, small}
+use Rattle.protocol.specs.Inputs.{Valid, Below, Within}
+use Rattle.protocol.proofs.Tests.{and-split, and-intro, all-at, all-intro, first-nothing, first-zero, zero-first, unless-zero, zero-unless}
+
+-- ---- settings
+
+-- a number that is among others stands at one of their places
+among-place : (x : ℕ) (l : List ℕ) → among x l ≡ true → (i : ℕ) × (i < length l) × (x ≡ getD l i 0)
+unfolding among
+among-place x [] t = absurd (false≢true t)
+among-place x (y ∷ l) t = go (among-place x l) (eqb x y) refl t
+  where
+    go : (among x l ≡ true → (i : ℕ) × (i < length l) × (x ≡ getD l i 0)) → (b : Bool) → eqb x y ≡ b → (b || among x l) ≡ true → (i : ℕ) × (i < suc (length l)) × (x ≡ getD (y ∷ l) i 0)
+    go more true e u = (0, omega arith, eqb-true x y e)
+    go more false e u = let (i, h, f) = more u in (suc i, omega arith, f)
+
+abbrev degrees : List ℕ
+degrees = 2 ∷ 4 ∷ 8 ∷ 16 ∷ 32 ∷ 64 ∷ []
+
+degrees-at : (i : ℕ) → i < 6 → getD degrees i 0 ≡ 2 ^ suc i
+degrees-at zero h = refl
+degrees-at (suc zero) h = refl
+degrees-at (suc (suc zero)) h = refl
+degrees-at (suc (suc (suc zero))) h = refl
+degrees-at (suc (suc (suc (suc zero)))) h = refl
+degrees-at (suc (suc (suc (suc (suc zero))))) h = refl
+degrees-at (suc (suc (suc (suc (suc (suc i)))))) h = absurd (omega arith)
+
+power-among : (i : ℕ) → i < 6 → among (2 ^ suc i) degrees ≡ true
+unfolding among
+power-among zero h = refl
+power-among (suc zero) h = refl
+power-among (suc (suc zero)) h = refl
+power-among (suc (suc (suc zero))) h = refl
+power-among (suc (suc (suc (suc zero)))) h = refl
+power-among (suc (suc (suc (suc (suc zero))))) h = refl
+power-among (suc (suc (suc (suc (suc (suc i)))))) h = absurd (omega arith)
+
+-- refusals 3 to 6 are 0 exactly for allowed settings
+pub settings-valid : (S : Settings) → settingsRefusal S ≡ 0 → Valid S
+unfolding settingsRefusal degreeAllowed depthAllowed modulusAllowed boundAllowed
+settings-valid S e =
+    let (r3, e4) = first-zero _ _ e in
+    let (r4, e5) = first-zero _ _ e4 in
+    let (r5, e6) = first-zero _ _ e5 in
+    let (r6, e7) = first-zero _ _ e6 in
+    let (i, h, f) = among-place (S .degree) degrees (unless-zero 2 _ r3) in
+    let (more, most) = and-split (unless-zero 4 (eqb (S .modulus % 2) 1 && leb 3 (S .modulus) && leb (S .modulus) 2_147_483_647) r5) in
+    let (odd, least) = and-split more in
+    let (low, high) = and-split (unless-zero 5 (leb 1 (S .bound) && leb (S .bound) 127) r6) in
+    record {
+      log = suc i;
+      degree-is = f ∙ degrees-at i h;
+      log-least = omega arith;
+      log-most = omega arith;
+      depth-most = leb-true _ _ (unless-zero 3 (leb (S .depth) 8) r4);
+      modulus-odd = eqb-true _ _ odd;
+      modulus-least = leb-true _ _ least;
+      modulus-most = leb-true _ _ most;
+      bound-least = leb-true _ _ low;
+      bound-most = leb-true _ _ high;
+    }
+
+degree-among : (d n : ℕ) → d ≡ 2 ^ n → 1 ≤ n → n ≤ 6 → among d degrees ≡ true
+degree-among d zero e l h = absurd (omega arith)
+degree-among d (suc i) e l h = ap (λ x. among x degrees) e ∙ power-among i (omega arith)
+
+pub valid-settings : (S : Settings) → Valid S → settingsRefusal S ≡ 0
+unfolding settingsRefusal degreeAllowed depthAllowed modulusAllowed boundAllowed
+valid-settings S v =
+    zero-first _ _ (zero-unless 3 _ (degree-among (S .degree) (v .log) (v .degree-is) (v .log-least) (v .log-most)))
+    (zero-first _ _ (zero-unless 4 _ (le-leb _ _ (v .depth-most)))
+    (zero-first _ _ (zero-unless 5 _ (and-intro (and-intro (eq-eqb _ _ (v .modulus-odd)) (le-leb _ _ (v .modulus-least))) (le-leb _ _ (v .modulus-most))))
+    (zero-first _ _ (zero-unless 6 _ (and-intro (le-leb _ _ (v .bound-least)) (le-leb _ _ (v .bound-most)))) first-nothing)))
+
+-- ---- tables: the length of refusal 7 with the range of refusal 8, 9 or 10
+
+module _ (limit n : ℕ) (t : List ℕ) where
+  pub tested-below : sized n t ≡ true → all (λ x. ltb x limit) t ≡ true → Below limit n t
+  unfolding sized
+  tested-below l r =
+      let e : length t ≡ n = eqb-true _ _ l in
+      record { long = e; each = λ i h. ltb-true _ _ (all-at (λ x. ltb x limit) t 0 r i (omega arith)) }
+
+  pub below-tested : Below limit n t → all (λ x. ltb x limit) t ≡ true
+  below-tested b = all-intro (λ x. ltb x limit) t 0 (λ i h. lt-ltb _ _ (b .each i (omega (arith, b .long))))
+
+  pub below-sized : Below limit n t → sized n t ≡ true
+  unfolding sized
+  below-sized b = eq-eqb _ _ (b .long)
+
+module _ (b n : ℕ) (t : List ℤ) where
+  pub tested-within : sized n t ≡ true → small b t ≡ true → Within b n t
+  unfolding sized small within
+  tested-within l r =
+      let e : length t ≡ n = eqb-true _ _ l in
+      record { long = e; each = λ i h. leb-true _ _ (all-at (within b) t (pos 0) r i (omega arith)) }
+
+  pub within-tested : Within b n t → small b t ≡ true
+  unfolding small within
+  within-tested w = all-intro (within b) t (pos 0) (λ i h. le-leb _ _ (w .each i (omega (arith, w .long))))
+
+  pub within-sized : Within b n t → sized n t ≡ true
+  unfolding sized
+  within-sized w = eq-eqb _ _ (w .long)

@@ -1,0 +1,140 @@
+-- Where a first draft goes astray: small cases of the calls on tables that pin an order of refusals, a bound or what is left unchanged, in one table.
+use mathlib.Core.Path.{_≡_, refl}
+use mathlib.Core.Bool.{true, false}
+use mathlib.Core.List.{List, [], _∷_, _++_, map}
+use Prim.Native.Nat.{ℕ}
+use lib.ListN.{replicate}
+use lib.IntN.{ℤ, pos, negsuc}
+use Rattle.protocol.specs.declared.Settings.{Settings}
+use Rattle.protocol.specs.declared.Session.{Session}
+use Rattle.protocol.specs.Basic.{all, flat}
+use Rattle.protocol.specs.Element.{power, rotate, coefficients}
+use Rattle.protocol.specs.Settings.{settingsRefusal}
+use Rattle.protocol.specs.Opening.{foldMessage, messageAfter, keyAfter}
+use Rattle.protocol.specs.Transcript.{cause}
+use Rattle.protocol.specs.Session.{blank, shut, start, move, close}
+use Rattle.protocol.specs.Judge.{slack}
+use Rattle.protocol.specs.Calls.{commitRefusal, commitAnswer, roundRefusal, foldRefusal, foldMessageExit, endRefusal, openingAnswer, openingRoundsExit, checkRefusal, judgeRefusal, judgeAnswer, extractRefusal, extractExit}
+use Rattle.protocol.proofs.Compute.{computed}
+use Rattle.protocol.proofs.Listing.{set, S₁, key₁, message₁, rounds₁, leaves₁, S₀}
+use Rattle.protocol.proofs.Examples.{Example, agree, agreeing, asNumber, causeNumber, moveNumbers, recordNumbers, verdictNumber}
+
+-- ---- the inputs
+
+abbrev polynomial₁ : List (List ℕ)
+polynomial₁ = (4 ∷ 1 ∷ []) ∷ (6 ∷ 0 ∷ []) ∷ (12 ∷ 1 ∷ []) ∷ []
+
+-- four elements, to tell halves from neighbours
+abbrev S₂ : Settings
+S₂ = set 2 2 17 1
+
+abbrev message₂ : List ℤ
+message₂ = pos 1 ∷ pos 0 ∷ pos 0 ∷ pos 1 ∷ negsuc 0 ∷ pos 1 ∷ pos 1 ∷ pos 1 ∷ []
+
+-- a record in the middle of a session: its settings, rounds done, claim, challenges, closed
+abbrev fresh : Session
+fresh = start S₁ (15 ∷ 4 ∷ []) .next
+
+-- ---- rows
+
+abbrev number : ℕ → ℕ → Example
+number given wanted = record { given = pos given ∷ []; wanted = pos wanted ∷ [] }
+
+unfoldable pub traps : List Example
+traps =
+    -- settings: the order 3, 4, 5, 6, and the ends of each range
+    number (settingsRefusal (set 3 9 2 0)) 3
+    ∷ number (settingsRefusal (set 0 9 2 0)) 3
+    ∷ number (settingsRefusal (set 128 0 12289 1)) 3
+    ∷ number (settingsRefusal (set 64 9 2 0)) 4
+    ∷ number (settingsRefusal (set 64 8 18 0)) 5
+    ∷ number (settingsRefusal (set 64 8 2_147_483_649 1)) 5
+    ∷ number (settingsRefusal (set 64 8 1 1)) 5
+    ∷ number (settingsRefusal (set 64 8 2_147_483_647 128)) 6
+    ∷ number (settingsRefusal (set 64 8 2_147_483_647 0)) 6
+    ∷ number (settingsRefusal (set 64 8 2_147_483_647 127)) 0
+    ∷ number (settingsRefusal (set 2 0 3 1)) 0
+    -- refusal 9 with t at L and over L: commit and end test it, round and fold do not
+    ∷ number (commitRefusal S₀ (3 ∷ 5 ∷ []) (pos 2 ∷ pos 0 ∷ [])) 9
+    ∷ number (roundRefusal S₀ 0 (3 ∷ 5 ∷ []) (pos 2 ∷ pos 0 ∷ [])) 11
+    ∷ number (foldRefusal S₀ 0 0 (3 ∷ 5 ∷ []) (pos 2 ∷ pos 0 ∷ [])) 11
+    ∷ number (endRefusal S₀ 0 (pos 2 ∷ pos 0 ∷ [])) 9
+    ∷ number (foldRefusal S₁ 4_294_967_295 1 key₁ (pos 9 ∷ pos 9 ∷ pos 9 ∷ pos 9 ∷ [])) 11
+    ∷ number (endRefusal S₁ 4_294_967_295 (pos 9 ∷ pos 9 ∷ pos 9 ∷ pos 9 ∷ [])) 11
+    -- the end with t below L: 9 before 11
+    ∷ number (endRefusal S₁ 0 (pos 2 ∷ pos 0 ∷ pos 0 ∷ pos 0 ∷ [])) 9
+    ∷ number (endRefusal S₁ 0 message₁) 11
+    -- 9 covers what is left, within ±2^t·B, and equality passes
+    ∷ number (endRefusal S₁ 1 (pos 2 ∷ negsuc 1 ∷ pos 1_000_000_000 ∷ pos 0 ∷ [])) 0
+    ∷ number (endRefusal S₁ 1 (pos 3 ∷ pos 0 ∷ pos 0 ∷ pos 0 ∷ [])) 9
+    -- 8 covers all n elements; 10 before 11 and after 8 and 9; 7 first
+    ∷ number (foldRefusal S₁ 1 0 (3 ∷ 5 ∷ 7 ∷ 17 ∷ []) message₁) 8
+    ∷ number (foldRefusal S₁ 1 4 key₁ message₁) 10
+    ∷ number (foldRefusal S₁ 0 4 key₁ (pos 2 ∷ pos 0 ∷ pos 0 ∷ pos 0 ∷ [])) 9
+    ∷ number (foldRefusal S₁ 0 3 key₁ message₁) 0
+    ∷ number (foldRefusal S₁ 1 4 (3 ∷ []) message₁) 7
+    -- a fold takes halves and not neighbours, those of what is left, and leaves what stands behind
+    ∷ record { given = foldMessage S₂ 0 1 message₂; wanted = pos 0 ∷ negsuc 0 ∷ negsuc 0 ∷ pos 2 ∷ negsuc 0 ∷ pos 1 ∷ pos 1 ∷ pos 1 ∷ [] }
+    ∷ record { given = messageAfter S₂ (1 ∷ 0 ∷ []) 2 message₂; wanted = negsuc 0 ∷ pos 1 ∷ negsuc 0 ∷ pos 2 ∷ negsuc 0 ∷ pos 1 ∷ pos 1 ∷ pos 1 ∷ [] }
+    ∷ record { given = map pos (keyAfter S₁ (1 ∷ []) 1 key₁); wanted = pos 1 ∷ pos 12 ∷ pos 7 ∷ pos 2 ∷ [] }
+    ∷ record { given = map pos (keyAfter S₂ (1 ∷ 0 ∷ []) 2 (1 ∷ 0 ∷ 0 ∷ 1 ∷ 16 ∷ 1 ∷ 1 ∷ 1 ∷ [])); wanted = pos 16 ∷ pos 1 ∷ pos 16 ∷ pos 2 ∷ pos 16 ∷ pos 1 ∷ pos 1 ∷ pos 1 ∷ [] }
+    -- a refused fold leaves the table
+    ∷ record { given = foldMessageExit S₁ 1 0 key₁ message₁; wanted = message₁ }
+    -- a refused call answers zeros, and a new element is 0 from d on
+    ∷ record { given = map pos (commitAnswer S₁ key₁ (pos 2 ∷ pos 0 ∷ pos 0 ∷ pos 0 ∷ []) .commitment); wanted = map pos (replicate 64 0) }
+    ∷ record { given = map pos (commitAnswer S₁ key₁ message₁ .commitment); wanted = pos 15 ∷ pos 4 ∷ map pos (replicate 62 0) }
+    -- the three zones of a rotation at d = 4: X^7·X^3 = X^2; X^0 and X^4 differ
+    ∷ record { given = coefficients 4 (rotate 4 7 (power 4 3)); wanted = pos 0 ∷ pos 0 ∷ pos 1 ∷ pos 0 ∷ [] }
+    ∷ record { given = coefficients 4 (power 4 4); wanted = negsuc 0 ∷ pos 0 ∷ pos 0 ∷ pos 0 ∷ [] }
+    -- the whole opening: round elements and verdict; its bound is ±B over all n
+    ∷ record { given = map pos (openingRoundsExit S₁ key₁ message₁ (1 ∷ []) (replicate 6 0)); wanted = map pos rounds₁ }
+    ∷ record { given = verdictNumber (openingAnswer S₁ key₁ message₁ (1 ∷ []) (replicate 6 0) .verdict) ∷ []; wanted = pos 2 ∷ [] }
+    ∷ number (openingAnswer S₁ key₁ message₁ (4 ∷ []) (replicate 6 0) .number) 10
+    ∷ number (openingAnswer S₁ key₁ message₁ (1 ∷ []) (replicate 5 0) .number) 7
+    -- a round that fails is named before the end; the check of a transcript
+    ∷ record { given = causeNumber (cause S₁ key₁ (record { commitment = 15 ∷ 5 ∷ []; rounds = rounds₁; challenges = 1 ∷ []; last = pos 3 ∷ pos 0 ∷ [] })); wanted = pos 1 ∷ [] }
+    ∷ number (checkRefusal S₁ (15 ∷ 17 ∷ []) key₁ rounds₁ (4 ∷ [])) 8
+    ∷ number (checkRefusal S₁ (15 ∷ 4 ∷ []) key₁ rounds₁ (4 ∷ [])) 10
+    -- a session: a closed record of zeros answers 3; any other closed record 11, and is handed back unchanged
+    ∷ number (move blank polynomial₁ 1 .number) 3
+    ∷ record { given = moveNumbers (move (shut fresh) polynomial₁ 1); wanted = pos 11 ∷ pos 0 ∷ recordNumbers (shut fresh) }
+    -- 8 and 10 before 11; all eight challenges are tested, and those in range are kept
+    ∷ number (move (record { settings = S₁; done = 0; claim = 17 ∷ 0 ∷ []; challenges = replicate 8 0; closed = true }) polynomial₁ 1 .number) 8
+    ∷ number (move (record { settings = S₁; done = 1; claim = 15 ∷ 4 ∷ []; challenges = replicate 7 0 ++ (4 ∷ []); closed = true }) polynomial₁ 1 .number) 10
+    ∷ record {
+      given = moveNumbers (move (record { settings = S₁; done = 0; claim = 15 ∷ 4 ∷ []; challenges = replicate 7 0 ++ (3 ∷ []); closed = false }) polynomial₁ 1);
+      wanted = pos 0 ∷ pos 1 ∷ recordNumbers (record { settings = S₁; done = 1; claim = 9 ∷ 6 ∷ replicate 62 0; challenges = (1 ∷ replicate 6 0) ++ (3 ∷ []); closed = false });
+    }
+    ∷ number (move (record { settings = S₁; done = 4_294_967_295; claim = 15 ∷ 4 ∷ []; challenges = replicate 8 0; closed = false }) polynomial₁ 1 .number) 11
+    -- a rejected round closes the record and changes no other field
+    ∷ record { given = moveNumbers (move fresh ((5 ∷ 1 ∷ []) ∷ (6 ∷ 0 ∷ []) ∷ (12 ∷ 1 ∷ []) ∷ []) 1); wanted = pos 0 ∷ pos 3 ∷ recordNumbers (shut fresh) }
+    -- an end before all rounds are done; an acceptance closes the record; a final coefficient of −2^31 is rejected and not refused
+    ∷ number (close fresh (pos 1 ∷ pos 0 ∷ []) key₁ .number) 11
+    ∷ record { given = moveNumbers (close (move fresh polynomial₁ 1 .next) (pos 1 ∷ pos 0 ∷ []) key₁); wanted = pos 0 ∷ pos 2 ∷ recordNumbers (shut (move fresh polynomial₁ 1 .next)) }
+    ∷ record { given = verdictNumber (close (move fresh polynomial₁ 1 .next) (negsuc 2_147_483_647 ∷ pos 0 ∷ []) key₁ .verdict) ∷ []; wanted = pos 3 ∷ [] }
+    -- a refused start; a start does not copy what stands from d on
+    ∷ record { given = pos (start S₁ (17 ∷ 4 ∷ []) .number) ∷ recordNumbers (start S₁ (17 ∷ 4 ∷ []) .next); wanted = pos 8 ∷ recordNumbers blank }
+    ∷ record { given = recordNumbers (start S₁ (15 ∷ 4 ∷ 9 ∷ []) .next); wanted = recordNumbers fresh }
+    -- the judge: 14 before 15; c = q with w = 0 says yes; −2^63 is beyond the bound and says no
+    ∷ number (judgeRefusal (set 64 4 17 1) (replicate 64 0) 0 (replicate 1024 0) (replicate 1024 (pos 0))) 14
+    ∷ number (judgeRefusal S₁ (15 ∷ 4 ∷ []) 65_537 key₁ message₁) 15
+    ∷ number (judgeRefusal S₁ (15 ∷ 4 ∷ []) 0 key₁ message₁) 15
+    ∷ record { given = asNumber (judgeAnswer S₁ (15 ∷ 4 ∷ []) 17 key₁ (replicate 4 (pos 0)) .yes); wanted = pos 1 ∷ [] }
+    ∷ record { given = asNumber (judgeAnswer S₁ (0 ∷ 0 ∷ []) 17 key₁ (negsuc 9_223_372_036_854_775_807 ∷ pos 0 ∷ pos 0 ∷ pos 0 ∷ []) .yes); wanted = pos 0 ∷ [] }
+    -- the extractor's slack is 4^L, and the judge takes what it extracts
+    ∷ number (slack (set 2 3 17 1)) 64
+    ∷ record { given = asNumber (judgeAnswer S₁ (15 ∷ 4 ∷ []) (slack S₁) key₁ (pos 4 ∷ negsuc 3 ∷ pos 4 ∷ pos 0 ∷ []) .yes); wanted = pos 1 ∷ [] }
+    -- the judge's bound is 12·d²·B = 48, and equality passes: 48·(3 + 5X) is 8 + 2X modulo 17
+    ∷ record { given = asNumber (judgeAnswer S₁ (8 ∷ 2 ∷ []) 1 key₁ (pos 48 ∷ pos 0 ∷ pos 0 ∷ pos 0 ∷ []) .yes); wanted = pos 1 ∷ [] }
+    ∷ record { given = asNumber (judgeAnswer S₁ (11 ∷ 7 ∷ []) 1 key₁ (pos 49 ∷ pos 0 ∷ pos 0 ∷ pos 0 ∷ []) .yes); wanted = pos 0 ∷ [] }
+    -- the extractor: 12 before 13; 10 before 12; exponents 0 and d differ; too tall a leaf is a rejected path; 13 before 14; a refusal leaves w
+    ∷ number (extractRefusal S₁ (15 ∷ 4 ∷ []) key₁ rounds₁ (0 ∷ 1 ∷ 0 ∷ []) (replicate 6 (pos 0)) (replicate 4 (pos 0))) 12
+    ∷ number (extractRefusal S₁ (15 ∷ 4 ∷ []) key₁ rounds₁ (0 ∷ 4 ∷ 0 ∷ []) (replicate 6 (pos 0)) (replicate 4 (pos 0))) 10
+    ∷ number (extractRefusal S₁ (15 ∷ 4 ∷ []) key₁ rounds₁ (0 ∷ 1 ∷ 2 ∷ []) (pos 19 ∷ negsuc 0 ∷ pos 1 ∷ pos 0 ∷ pos 0 ∷ negsuc 0 ∷ []) (replicate 4 (pos 0))) 13
+    ∷ number (extractRefusal (set 64 4 17 1) (1 ∷ replicate 63 0) (replicate 1024 0) (replicate 7680 0) (flat 3 40 (λ i k. k)) (replicate 5184 (pos 0)) (replicate 1024 (pos 0))) 13
+    ∷ record { given = extractExit S₁ (15 ∷ 5 ∷ []) key₁ rounds₁ (0 ∷ 1 ∷ 2 ∷ []) leaves₁ (pos 7 ∷ pos 7 ∷ pos 7 ∷ pos 7 ∷ []); wanted = pos 7 ∷ pos 7 ∷ pos 7 ∷ pos 7 ∷ [] }
+    ∷ []
+
+pub trapped : all agree traps ≡ true
+unfolding computed agreeing traps
+trapped = refl

@@ -1,0 +1,311 @@
+-- Demand 3 as one statement: "a single claim, about the whole list of calls and the whole tree, and not one for each call or node".
+-- It is stated over the definitions that the public promises cite. Each public function's promise is an equation with its definition,
+-- so what this says of the definitions holds of the functions.
+--
+-- The list of calls
+--   Held                     what is held: both tables, an unfolded copy of the key, the record, how many folds are done
+--   Heard                    what the calls of the list answered
+--   KeyTable, MessageTable   a table that a call is lent, and
+--   Record                   a record that it takes: one of those held, or any other
+--   Call                     any call that can be given one of those held, with all its arguments; no start
+--   refusal h c, after c h   the number that the call c answers with, and what is held after it
+--   Step, moves L            the calls of an opening move by move, in order
+--   step S E s h a           what a step does; it is given what is held and what was answered, and nothing else
+--   Gap, Run                 refused calls, and a run of steps with a gap before each and one after the last
+-- The claim
+--   SameAsWhole              commitment, round elements, final element, verdict and both tables as in the whole opening
+--   OpeningClaim             what is owed of an opening
+--   FullTree, FoldsOf        a full tree, every path accepted; every leaf a fold of m
+--   ExtractionClaim          what is owed of the extractor
+--   Demand3                  the claim
+use mathlib.Core.Path.{_≡_}
+use mathlib.Core.Logic.{_≢_}
+use mathlib.Core.Bool.{true}
+use mathlib.Core.List.{List, [], _∷_, _++_, map}
+use Prim.Native.Nat.{ℕ, zero, suc, _+_, _*_, _<_, _≤_}
+use lib.ListN.{length, getD, take, replicate}
+use lib.IntN.{ℤ, pos, _*ℤ_}
+use Rattle.protocol.specs.declared.Settings.{Settings}
+use Rattle.protocol.specs.declared.Session.{Session}
+use Rattle.protocol.specs.declared.Parts.{Parts}
+use Rattle.protocol.specs.declared.Verdict.{Verdict}
+use Rattle.protocol.specs.declared.Verdict.the-variants as Says
+use Rattle.protocol.specs.Inputs.{Valid, Below, Within}
+use Rattle.protocol.specs.Settings.{cells}
+use Rattle.protocol.specs.Transcript.{Accepted}
+use Rattle.protocol.specs.Session as Verifier
+use Rattle.protocol.specs.Tree.{nodes, leaves, challenge, path, foldTo, leaf, rootVector, growth, growthLimit}
+use Rattle.protocol.specs.Judge.{slack, Opens}
+use Rattle.protocol.specs.Calls as Calls
+use Rattle.protocol.specs.Text as Text
+use Rattle.protocol.specs.Text.{Tables}
+
+-- ════ the list of calls
+
+pub record Held : Type 0 where
+  pub message : List ℤ
+  pub key : List ℕ
+  pub copy : List ℕ
+  pub session : Session
+  pub folds : ℕ
+
+-- every number that was answered, in order; the last commitment, polynomial, final element and verdict; all round elements so far, flat
+pub record Heard : Type 0 where
+  pub numbers : List ℕ
+  pub commitment : List ℕ
+  pub polynomial : List (List ℕ)
+  pub rounds : List ℕ
+  pub last : List ℤ
+  pub verdict : Verdict
+
+pub record State : Type 0 where
+  pub held : Held
+  pub heard : Heard
+
+-- each table argument by itself: "whatever else they are given"
+pub data KeyTable : Type 0 where
+  ours : KeyTable
+  copy : KeyTable
+  other : List ℕ → KeyTable
+
+pub data MessageTable : Type 0 where
+  ours : MessageTable
+  other : List ℤ → MessageTable
+
+pub data Record : Type 0 where
+  ours : Record
+  other : Session → Record
+
+unfoldable pub lentKey : Held → KeyTable → List ℕ
+lentKey h KeyTable.ours = h .key
+lentKey h KeyTable.copy = h .copy
+lentKey h (KeyTable.other t) = t
+
+unfoldable pub lentMessage : Held → MessageTable → List ℤ
+lentMessage h MessageTable.ours = h .message
+lentMessage h (MessageTable.other t) = t
+
+unfoldable pub handed : Held → Record → Session
+handed h Record.ours = h .session
+handed h (Record.other r) = r
+
+-- the calls in the order of document 01: prover, whole opening, session, check, judge, extractor, reader, writer.
+-- A table of residues or exponents may be ours wherever one is lent, and a table of signed 32-bit numbers too.
+pub data Call : Type 0 where
+  commit : Settings → KeyTable → MessageTable → Call
+  round : Settings → ℕ → KeyTable → MessageTable → Call
+  fold : Settings → ℕ → ℕ → KeyTable → MessageTable → Call
+  end : Settings → ℕ → MessageTable → Call
+  opening : Settings → KeyTable → MessageTable → KeyTable → KeyTable → Call
+  move : Record → List (List ℕ) → ℕ → Call
+  close : Record → List ℤ → KeyTable → Call
+  check : Settings → List ℕ → List ℤ → KeyTable → KeyTable → KeyTable → Call
+  judge : Settings → List ℕ → ℕ → KeyTable → List ℤ → Call
+  extract : Settings → List ℕ → KeyTable → KeyTable → KeyTable → MessageTable → List ℤ → Call
+  read : Parts → List ℕ → KeyTable → MessageTable → KeyTable → KeyTable → KeyTable → MessageTable → Call
+  write : Settings → Parts → KeyTable → MessageTable → KeyTable → KeyTable → KeyTable → MessageTable → List ℕ → Call
+
+unfoldable pub tables : Held → KeyTable → MessageTable → KeyTable → KeyTable → KeyTable → MessageTable → Tables
+tables h k m c r e f = record
+    { key = lentKey h k; message = lentMessage h m; commitment = lentKey h c; rounds = lentKey h r; challenges = lentKey h e; last = lentMessage h f }
+
+unfoldable pub refusal : Held → Call → ℕ
+refusal h (Call.commit S k m) = Calls.commitAnswer S (lentKey h k) (lentMessage h m) .number
+refusal h (Call.round S t k m) = Calls.roundAnswer S t (lentKey h k) (lentMessage h m) .number
+refusal h (Call.fold S t e k m) = Calls.foldRefusal S t e (lentKey h k) (lentMessage h m)
+refusal h (Call.end S t m) = Calls.endAnswer S t (lentMessage h m) .number
+refusal h (Call.opening S k m e r) = Calls.openingAnswer S (lentKey h k) (lentMessage h m) (lentKey h e) (lentKey h r) .number
+refusal h (Call.move r p e) = Verifier.move (handed h r) p e .number
+refusal h (Call.close r f k) = Verifier.close (handed h r) f (lentKey h k) .number
+refusal h (Call.check S C f k r e) = Calls.checkAnswer S C f (lentKey h k) (lentKey h r) (lentKey h e) .number
+refusal h (Call.judge S C c k w) = Calls.judgeAnswer S C c (lentKey h k) w .number
+refusal h (Call.extract S C k r e f w) = Calls.extractRefusal S C (lentKey h k) (lentKey h r) (lentKey h e) (lentMessage h f) w
+refusal h (Call.read P text k m c r e f) = Text.readAnswer P text (tables h k m c r e f) .number
+refusal h (Call.write S P k m c r e f out) = Text.writeAnswer S P (tables h k m c r e f) out .number
+
+-- ---- what a call leaves behind
+
+-- a table at exit, or a record handed back, goes to whose it is
+unfoldable pub backKey : KeyTable → List ℕ → Held → Held
+backKey KeyTable.ours t h = record { message = h .message; key = t; copy = h .copy; session = h .session; folds = h .folds }
+backKey KeyTable.copy t h = record { message = h .message; key = h .key; copy = t; session = h .session; folds = h .folds }
+backKey (KeyTable.other old) t h = h
+
+unfoldable pub backMessage : MessageTable → List ℤ → Held → Held
+backMessage MessageTable.ours t h = record { message = t; key = h .key; copy = h .copy; session = h .session; folds = h .folds }
+backMessage (MessageTable.other old) t h = h
+
+unfoldable pub backRecord : Record → Session → Held → Held
+backRecord Record.ours r h = record { message = h .message; key = h .key; copy = h .copy; session = r; folds = h .folds }
+backRecord (Record.other old) r h = h
+
+-- what was lent for writing is as the promise says, all else as it was
+unfoldable pub after : Call → Held → Held
+after (Call.commit S k m) h = h
+after (Call.round S t k m) h = h
+after (Call.fold S t e k m) h =
+    backKey k (Calls.foldKeyExit S t e (lentKey h k) (lentMessage h m))
+    (backMessage m (Calls.foldMessageExit S t e (lentKey h k) (lentMessage h m)) h)
+after (Call.end S t m) h = h
+after (Call.opening S k m e r) h =
+    backKey k (Calls.openingKeyExit S (lentKey h k) (lentMessage h m) (lentKey h e) (lentKey h r))
+    (backKey r (Calls.openingRoundsExit S (lentKey h k) (lentMessage h m) (lentKey h e) (lentKey h r))
+    (backMessage m (Calls.openingMessageExit S (lentKey h k) (lentMessage h m) (lentKey h e) (lentKey h r)) h))
+after (Call.move r p e) h = backRecord r (Verifier.move (handed h r) p e .next) h
+after (Call.close r f k) h = backRecord r (Verifier.close (handed h r) f (lentKey h k) .next) h
+after (Call.check S C f k r e) h = h
+after (Call.judge S C c k w) h = h
+after (Call.extract S C k r e f w) h = h
+after (Call.read P text k m c r e f) h =
+    let exit = Text.readExit P text (tables h k m c r e f) in
+    backKey k (exit .key) (backMessage m (exit .message) (backKey c (exit .commitment)
+    (backKey r (exit .rounds) (backKey e (exit .challenges) (backMessage f (exit .last) h)))))
+after (Call.write S P k m c r e f out) h = h
+
+-- ---- "Move by move, an opening is this list of calls"
+
+pub data Step : Type 0 where
+  commits starts proves checks folds ends closes : Step
+
+-- "in round i the prover's round, the verifier's round with those three elements and challenge i, and the folding of both tables by challenge i"
+unfoldable pub turns : ℕ → List Step
+turns zero = []
+turns (suc n) = Step.proves ∷ Step.checks ∷ Step.folds ∷ turns n
+
+-- "the commitment, and a start at it; …; after round L the prover's end, and the verifier's end with that final element and an unfolded copy of the key"
+unfoldable pub moves : ℕ → List Step
+moves L = Step.commits ∷ Step.starts ∷ (turns L ++ (Step.ends ∷ Step.closes ∷ []))
+
+-- one more number is heard, and with it a commitment, a polynomial, a final element, a verdict
+unfoldable pub hear : ℕ → Heard → Heard
+hear n a = record { numbers = a .numbers ++ (n ∷ []); commitment = a .commitment; polynomial = a .polynomial; rounds = a .rounds; last = a .last; verdict = a .verdict }
+
+unfoldable pub hearCommitment : List ℕ → Heard → Heard
+hearCommitment c a = record { numbers = a .numbers; commitment = c; polynomial = a .polynomial; rounds = a .rounds; last = a .last; verdict = a .verdict }
+
+unfoldable pub hearPolynomial : ℕ → List (List ℕ) → Heard → Heard
+hearPolynomial d p a = record {
+  numbers = a .numbers;
+  commitment = a .commitment;
+  polynomial = p;
+  rounds = a .rounds ++ take d (getD p 0 []) ++ take d (getD p 1 []) ++ take d (getD p 2 []);
+  last = a .last;
+  verdict = a .verdict;
+}
+
+unfoldable pub hearLast : List ℤ → Heard → Heard
+hearLast f a = record { numbers = a .numbers; commitment = a .commitment; polynomial = a .polynomial; rounds = a .rounds; last = f; verdict = a .verdict }
+
+unfoldable pub hearVerdict : Verdict → Heard → Heard
+hearVerdict v a = record { numbers = a .numbers; commitment = a .commitment; polynomial = a .polynomial; rounds = a .rounds; last = a .last; verdict = v }
+
+-- "Each call gets the tables as the last call on them left them, or the record as the last call on it returned it; a prover call names the folds done as t."
+unfoldable pub step : Settings → List ℕ → Step → Held → Heard → State
+step S E Step.commits h a =
+    let x = Calls.commitAnswer S (h .key) (h .message) in
+    record { held = h; heard = hearCommitment (x .commitment) (hear (x .number) a) }
+step S E Step.starts h a =
+    let x = Verifier.start S (a .commitment) in
+    record { held = backRecord Record.ours (x .next) h; heard = hear (x .number) a }
+step S E Step.proves h a =
+    let x = Calls.roundAnswer S (h .folds) (h .key) (h .message) in
+    record { held = h; heard = hearPolynomial (S .degree) (x .elements) (hear (x .number) a) }
+step S E Step.checks h a =
+    let x = Verifier.move (h .session) (a .polynomial) (getD E (h .folds) 0) in
+    record { held = backRecord Record.ours (x .next) h; heard = hearVerdict (x .verdict) (hear (x .number) a) }
+step S E Step.folds h a =
+    let e = getD E (h .folds) 0 in
+    record {
+      held = record {
+        message = Calls.foldMessageExit S (h .folds) e (h .key) (h .message);
+        key = Calls.foldKeyExit S (h .folds) e (h .key) (h .message);
+        copy = h .copy;
+        session = h .session;
+        folds = h .folds + 1;
+      };
+      heard = hear (Calls.foldRefusal S (h .folds) e (h .key) (h .message)) a;
+    }
+step S E Step.ends h a =
+    let x = Calls.endAnswer S (h .folds) (h .message) in
+    record { held = h; heard = hearLast (x .last) (hear (x .number) a) }
+step S E Step.closes h a =
+    let x = Verifier.close (h .session) (a .last) (h .copy) in
+    record { held = backRecord Record.ours (x .next) h; heard = hearVerdict (x .verdict) (hear (x .number) a) }
+
+-- "It begins with message and key as loaded", with any record
+unfoldable pub begun : List ℤ → List ℕ → Session → State
+begun M G r = record {
+  held = record { message = M; key = G; copy = G; session = r; folds = 0 };
+  heard = record { numbers = []; commitment = []; polynomial = []; rounds = []; last = []; verdict = Says.Silent };
+}
+
+-- "Refused calls on them, starts aside, may stand anywhere between, whatever else they are given."
+-- A gap leads from what is held before it to what is held after it, by calls each of which is refused where it stands.
+pub data Gap : Held → Held → Type 0 where
+  none : {h : Held} → Gap h h
+  refused : {h h′ : Held} (c : Call) → refusal h c ≢ 0 → Gap (after c h) h′ → Gap h h′
+
+pub data Run (S : Settings) (E : List ℕ) : List Step → State → State → Type 0 where
+  stop : {a : State} {h : Held} → Gap (a .held) h → Run S E [] a (record { held = h; heard = a .heard })
+  go : {a b : State} {h : Held} {s : Step} {rest : List Step} → Gap (a .held) h → Run S E rest (step S E s h (a .heard)) b → Run S E (s ∷ rest) a b
+
+-- ════ an opening
+
+-- "Commitment, round elements, final element, verdict and both tables come out as in the whole opening."; no step is refused
+pub record SameAsWhole (S : Settings) (G : List ℕ) (M : List ℤ) (E rounds : List ℕ) (st : State) : Type 0 where
+  pub no-refusal : st .heard .numbers ≡ replicate (4 + 3 * S .depth) 0
+  pub same-commitment : st .heard .commitment ≡ Calls.openingAnswer S G M E rounds .commitment
+  pub same-rounds : st .heard .rounds ≡ Calls.openingRoundsExit S G M E rounds
+  pub same-last : st .heard .last ≡ Calls.openingAnswer S G M E rounds .last
+  pub same-verdict : st .heard .verdict ≡ Calls.openingAnswer S G M E rounds .verdict
+  pub same-message : st .held .message ≡ Calls.openingMessageExit S G M E rounds
+  pub same-key : st .held .key ≡ Calls.openingKeyExit S G M E rounds
+  pub copy-kept : st .held .copy ≡ G
+
+-- `rounds` is the table lent for the round elements, whatever stood in it
+pub record OpeningClaim (S : Settings) (G : List ℕ) (M : List ℤ) (E rounds : List ℕ) : Type 0 where
+  pub not-refused : Calls.openingAnswer S G M E rounds .number ≡ 0
+  pub says-accepted : Calls.openingAnswer S G M E rounds .verdict ≡ Says.Accepted
+  pub is-accepted : Accepted S G (record {
+    commitment = Calls.openingAnswer S G M E rounds .commitment;
+    rounds = Calls.openingRoundsExit S G M E rounds;
+    challenges = E;
+    last = Calls.openingAnswer S G M E rounds .last;
+  })
+  pub by-moves : (r : Session) (st : State) → Run S E (moves (S .depth)) (begun M G r) st → SameAsWhole S G M E rounds st
+
+-- ════ a tree
+
+-- "A tree is full with all N branching nodes and 3^L leaves": whatever was answered in it, with three different challenges at every node and every path accepted
+pub record FullTree (S : Settings) (G C rounds E : List ℕ) (finals : List ℤ) : Type 0 where
+  pub commitment-below : (k : ℕ) → k < S .degree → getD C k 0 < S .modulus
+  pub rounds-below : Below (S .modulus) (3 * nodes S * S .degree) rounds
+  pub challenges-below : Below (2 * S .degree) (3 * nodes S) E
+  pub finals-long : length finals ≡ leaves S * S .degree
+  pub different : (k : ℕ) → k < nodes S → (challenge E k 0 ≢ challenge E k 1) × (challenge E k 0 ≢ challenge E k 2) × (challenge E k 1 ≢ challenge E k 2)
+  pub accepted : (j : ℕ) → j < leaves S → Accepted S G (path S C rounds E finals j)
+
+-- "A leaf is a fold of m when L folds of m by its path's challenges give it; m is any n elements over whole numbers, within B or not."
+pub record FoldsOf (S : Settings) (E : List ℕ) (finals m : List ℤ) : Type 0 where
+  pub long : length m ≡ cells S
+  pub each : (j : ℕ) → j < leaves S → foldTo S E j m ≡ leaf S finals j
+
+-- w is the lent output, whatever stood in it
+pub record ExtractionClaim (S : Settings) (G C rounds E : List ℕ) (finals w : List ℤ) : Type 0 where
+  pub not-refused : Calls.extractRefusal S C G rounds E finals w ≡ 0
+  pub is-root-vector : Calls.extractExit S C G rounds E finals w ≡ rootVector S E finals
+  pub in-bound : Within (growth S) (cells S) (Calls.extractExit S C G rounds E finals w)
+  pub opens : Opens S G C (slack S) (Calls.extractExit S C G rounds E finals w)
+  pub judge-says-yes : Calls.judgeAnswer S C (slack S) G (Calls.extractExit S C G rounds E finals w) ≡ record { number = 0; yes = true }
+  pub exact : (m : List ℤ) → FoldsOf S E finals m → Calls.extractExit S C G rounds E finals w ≡ map (λ x. pos (slack S) *ℤ x) m
+
+-- ════ the claim
+
+pub record Claim (S : Settings) (G : List ℕ) : Type 0 where
+  pub opening : (M : List ℤ) (E rounds : List ℕ) → Within (S .bound) (cells S) M → Below (2 * S .degree) (S .depth) E → length rounds ≡ 3 * S .depth * S .degree
+      → OpeningClaim S G M E rounds
+  pub extraction : (C rounds E : List ℕ) (finals w : List ℤ) → FullTree S G C rounds E finals → growth S ≤ growthLimit → length w ≡ cells S
+      → ExtractionClaim S G C rounds E finals w
+
+abbrev pub Demand3 : Type 0
+Demand3 = (S : Settings) (G : List ℕ) → Valid S → Below (S .modulus) (cells S) G → Claim S G

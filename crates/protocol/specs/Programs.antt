@@ -1,0 +1,102 @@
+-- Document 01, "Text tables": the programs `prove` and `verify`, as calls on text and as what they print.
+--
+--   proveReads, provePrints, verifyReads   which parts a program reads and prints
+--   printed T                              the tables that `prove` prints of a transcript
+--   proofText S t                          the text of the transcript of the tables t, as `prove` prints it
+--   proveText text                         what `prove` writes where nothing is refused
+--   proveRefusal, proveAnswer, proveExit   `prove` on a text and an output slice: its refusals, its answer, the slice as it leaves it
+--   transcriptIn t                         the transcript in the tables that `verify` reads
+--   tablesAccepted S t                     is it accepted
+--   verifyRefusal, verifyAnswer            `verify` on a text: its refusals and its answer
+--   checked r                              document 01's number and verdict for each case of that answer
+--   refusedLine N, verdictLine r           the line that is printed for a refusal, and for an answer of `verify`
+--   proveOutput, verifyOutput              the bytes that a program prints for a standard input
+use mathlib.Core.Bool.{Bool, true, false}
+use mathlib.Core.List.{List, [], _∷_, _++_}
+use Prim.Native.Nat.{ℕ}
+use lib.ListN.{length}
+use Rattle.protocol.specs.declared.Settings.{Settings}
+use Rattle.protocol.specs.declared.Parts.{Parts}
+use Rattle.protocol.specs.declared.Written.{Written}
+use Rattle.protocol.specs.declared.Checked.{Checked}
+use Rattle.protocol.specs.declared.Verified.{Verified}
+use Rattle.protocol.specs.declared.Verdict.the-variants.{Silent, Accepted as Accepts, Rejected as Rejects}
+use Rattle.protocol.specs.declared.Verified.the-variants.{Accepted, Rejected, Refused}
+use Rattle.protocol.specs.Basic.{choose, first, granted}
+use Rattle.protocol.specs.Transcript.{Transcript, accepted, transcriptOf}
+use Rattle.protocol.specs.Text.{Tables, lineFeed, textLimit, bytes, decimal, textOf, linesOf, settingsIn, tablesIn, textRefusal, outputRefusal}
+use Rattle.protocol.specs.Text.{written, overwritten}
+
+-- "The program `prove` reads parts 0, 1, 2, 5 from standard input and prints 0, 3, 4, 5, 6."
+unfoldable pub proveReads : Parts
+proveReads = record { key = true; message = true; commitment = false; round = false; challenge = true; last = false }
+
+unfoldable pub provePrints : Parts
+provePrints = record { key = false; message = false; commitment = true; round = true; challenge = true; last = true }
+
+-- "The program `verify` reads 0, 1, 3, 4, 5, 6"
+unfoldable pub verifyReads : Parts
+verifyReads = record { key = true; message = false; commitment = true; round = true; challenge = true; last = true }
+
+-- ---- prove
+
+unfoldable pub printed : Transcript → Tables
+printed T = record { key = []; message = []; commitment = T .commitment; rounds = T .rounds; challenges = T .challenges; last = T .last }
+
+unfoldable pub proofText : Settings → Tables → List ℕ
+proofText S t = textOf S provePrints (printed (transcriptOf S (t .key) (t .message) (t .challenges)))
+
+unfoldable pub proveText : List ℕ → List ℕ
+proveText text = proofText (settingsIn (linesOf text)) (tablesIn (linesOf text))
+
+-- a program lends its own tables, each of exactly its length; after the text's refusals come those of the output
+unfoldable pub proveRefusal : List ℕ → ℕ → ℕ
+proveRefusal text room = first (textRefusal proveReads true text ∷ outputRefusal (proveText text) room ∷ [])
+
+unfoldable pub proveAnswer : List ℕ → List ℕ → Written
+proveAnswer text out = written (proveRefusal text (length out)) (proveText text)
+
+unfoldable pub proveExit : List ℕ → List ℕ → List ℕ
+proveExit text out = overwritten (proveRefusal text (length out)) (proveText text) out
+
+-- ---- verify
+
+unfoldable pub transcriptIn : Tables → Transcript
+transcriptIn t = record { commitment = t .commitment; rounds = t .rounds; challenges = t .challenges; last = t .last }
+
+unfoldable pub tablesAccepted : Settings → Tables → Bool
+tablesAccepted S t = accepted S (t .key) (transcriptIn t)
+
+unfoldable pub verifyRefusal : List ℕ → ℕ
+verifyRefusal text = textRefusal verifyReads true text
+
+unfoldable pub verifyAnswer : List ℕ → Verified
+verifyAnswer text =
+    granted
+    (verifyRefusal text)
+    (choose (tablesAccepted (settingsIn (linesOf text)) (tablesIn (linesOf text))) Accepted Rejected)
+    (Refused (verifyRefusal text))
+
+unfoldable pub checked : Verified → Checked
+checked Accepted = record { number = 0; verdict = Accepts }
+checked Rejected = record { number = 0; verdict = Rejects }
+checked (Refused number) = record { number = number; verdict = Silent }
+
+-- ---- What is printed
+
+-- "`refused N`, N being the number"
+unfoldable pub refusedLine : ℕ → List ℕ
+refusedLine number = bytes "refused " ++ (decimal number ++ (lineFeed ∷ []))
+
+-- "prints one line: `accepted`, `rejected` or `refused N`"
+unfoldable pub verdictLine : Verified → List ℕ
+verdictLine Accepted = bytes "accepted\n"
+verdictLine Rejected = bytes "rejected\n"
+verdictLine (Refused number) = refusedLine number
+
+-- "`prove` prints `refused N` too."; its output slice has room for the longest text
+unfoldable pub proveOutput : List ℕ → List ℕ
+proveOutput text = granted (proveRefusal text textLimit) (proveText text) (refusedLine (proveRefusal text textLimit))
+
+unfoldable pub verifyOutput : List ℕ → List ℕ
+verifyOutput text = verdictLine (verifyAnswer text)

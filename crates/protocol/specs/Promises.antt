@@ -1,0 +1,48 @@
+-- The promises of the calls that write lent tables, one record for each. A call that writes nothing promises one equation, with its answer's definition.
+-- In a promise x is a table at entry, and x′ the same table at exit.
+--
+--   Folded       3 the fold of both tables
+--   Opening      5 the whole opening
+--   Extracted    the extractor
+--   Read, Wrote  the table reader and the table writer
+--   Proved       the program `prove` as a call on text
+use mathlib.Core.Path.{_≡_}
+use mathlib.Core.List.{List}
+use Prim.Native.Nat.{ℕ}
+use lib.IntN.{ℤ}
+use Rattle.protocol.specs.declared.Settings.{Settings}
+use Rattle.protocol.specs.declared.Parts.{Parts}
+use Rattle.protocol.specs.declared.Opened.{Opened}
+use Rattle.protocol.specs.declared.Loaded.{Loaded}
+use Rattle.protocol.specs.declared.Written.{Written}
+use Rattle.protocol.specs.Calls.{foldRefusal, foldKeyExit, foldMessageExit, openingAnswer, openingKeyExit, openingMessageExit, openingRoundsExit, extractRefusal, extractExit}
+use Rattle.protocol.specs.Text.{Tables, readAnswer, readExit, writeAnswer, writeExit}
+use Rattle.protocol.specs.Programs.{proveAnswer, proveExit}
+
+pub record Folded (S : Settings) (t e : ℕ) (key : List ℕ) (message : List ℤ) (r : ℕ) (key′ : List ℕ) (message′ : List ℤ) : Type 0 where
+  pub number : r ≡ foldRefusal S t e key message
+  pub key-exit : key′ ≡ foldKeyExit S t e key message
+  pub message-exit : message′ ≡ foldMessageExit S t e key message
+
+pub record Opening (S : Settings) (key : List ℕ) (message : List ℤ) (E rounds : List ℕ) (r : Opened) (key′ : List ℕ) (message′ : List ℤ) (rounds′ : List ℕ) : Type 0 where
+  pub answer : r ≡ openingAnswer S key message E rounds
+  pub key-exit : key′ ≡ openingKeyExit S key message E rounds
+  pub message-exit : message′ ≡ openingMessageExit S key message E rounds
+  pub rounds-exit : rounds′ ≡ openingRoundsExit S key message E rounds
+
+pub record Extracted (S : Settings) (C key rounds E : List ℕ) (finals w : List ℤ) (r : ℕ) (w′ : List ℤ) : Type 0 where
+  pub number : r ≡ extractRefusal S C key rounds E finals w
+  pub w-exit : w′ ≡ extractExit S C key rounds E finals w
+
+-- t holds the six tables at entry, t′ at exit
+pub record Read (P : Parts) (text : List ℕ) (t : Tables) (r : Loaded) (t′ : Tables) : Type 0 where
+  pub answer : r ≡ readAnswer P text t
+  pub tables-exit : t′ ≡ readExit P text t
+
+pub record Wrote (S : Settings) (P : Parts) (t : Tables) (out : List ℕ) (r : Written) (out′ : List ℕ) : Type 0 where
+  pub answer : r ≡ writeAnswer S P t out
+  pub out-exit : out′ ≡ writeExit S P t out
+
+pub record Proved (text out : List ℕ) (r : Written) (out′ : List ℕ) : Type 0 where
+  pub answer : r ≡ proveAnswer text out
+  pub out-exit : out′ ≡ proveExit text out

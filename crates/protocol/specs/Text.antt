@@ -1,0 +1,461 @@
+-- Document 01, "Text tables": numbers, lines and tables as bytes, written and read. A text is the list of its bytes.
+-- Reader and writer go by one description of the parts, `shapes`. A reader gives what it read with the bytes behind it, or nothing.
+--
+-- Written
+--   textLimit, valueLimit         the longest text, and the largest magnitude of a number in it
+--   lineFeed, space, minus, ..    bytes by name
+--   bytes s                       the bytes of a quoted text (each of its characters has one byte)
+--   names                         the names line
+--   digitCount n, lowDigits k n   how many digits n has, and its last k digits
+--   decimal n, numeral z          a number from 0 on, and any number, as text
+--   Spot, Line                    where a line stands (part, item, place); a line: its spot and its value
+--   lineText l, linesText ls      the text of a line, and of lines
+--   Tables                        the six tables, parts 1 to 6
+--   Shape, shape, shapeSize       a part's number, items and places; how many lines it has
+--   settingsShape, shapes S P     the shape of part 0, and the shapes of all parts of a text
+--   spotAt b p, spots b           the spot of line p of a part, and the spots of all its lines
+--   wanted S P                    the spots of a whole text, in order
+--   contents S t                  the values of parts 0 to 6
+--   Block, block, blocks S P t    a part's shape with its values; all parts of the tables t
+--   blockLines b                  the lines of a part
+--   textOf S P t                  the text of the tables t
+--   blockFits b, fits S P t       has a part as many values as lines; has every table its length
+-- Read
+--   keep b a                      a where the test b passes, else nothing
+--   digit b, digitFirst bs        is b the byte of a digit; does one stand here
+--   digitRun n bs                 the number whose digits stand here, n being what stood before, and the bytes behind it
+--   properDigits bs               do digits stand here, with no leading zero
+--   readCount bs                  the number from 0 on that stands here, with the bytes behind it
+--   plain r, negative r           what was read, with no sign before it, and with a minus before it
+--   readNumber bs                 the number that stands here, with the bytes behind it
+--   byte c bs                     the bytes behind a byte c
+--   readIndex bs                  a number from 0 on and a space, with the bytes behind it
+--   readLine, readLines           a line with the bytes behind it; all lines up to the end
+--   begins cs bs                  do the bytes bs begin with the bytes cs
+--   beginsWithNames text          does a text begin with the names line
+--   parsed text, linesOf text     the lines of values, or nothing where a line is not of the stated shape
+--   spotsOf ls, valuesOf ls       the spots and the values of lines
+--   sameSpot, sameSpots           are two spots the same; are these the same spots in the same order
+--   wellFormed text               is every line of the stated shape, and are the first four value lines settings
+--   unsigned z                    z, or a number out of every range where z is below zero
+--   column p, unsignedColumn p    the values of part p, signed and unsigned
+--   settingIn, settingsIn         the value of a settings line, and the settings
+--   tablesIn ls                   the six tables in the lines
+-- The calls
+--   noSettings                    four zeros
+--   loaded N text                 the reader's answer for a refusal N
+--   lookRefusal, lookAnswer       a first look at a text's settings
+--   entriesRefusal                refusals 8, 9 and 10, which reader and writer share
+--   textRefusal, readRefusal      the reader's refusals, for a text alone and with the lent tables
+--   readAnswer, readExit          the reader's answer, and the six tables as it leaves them
+--   outputRefusal, writeRefusal   the writer's last refusals, and all of them, for an output slice of `room` bytes
+--   written, overwritten          an answer, and an output slice, for a refusal and a text
+--   writeAnswer, writeExit        the writer's answer, and its output slice as it leaves it
+--   Reading, reading r            document 01's number and values for each case of the number reader's answer
+--   numberAnswer                  what was read, as that answer
+--   readNumberAt, readCountAt     the number readers as calls on a text and a place
+use mathlib.Core.Bool.{Bool, true, false, _&&_, not}
+use mathlib.Core.List.{List, [], _∷_, _++_, map, flatMap, zipWith}
+use mathlib.Core.Option.{Option, none, some, bind as _>>=_, Option·getD}
+use Prim.Native.Nat.{ℕ, zero, suc, _+_, _*_, _-_, _/_, _%_, _^_}
+use Prim.Native.Char.{code}
+use Prim.Native.String.{String, [] as end, _∷_ as _then_}
+use lib.Dec.{leb, ltb, eqb}
+use lib.ListN.{length, getD, take, drop}
+use lib.IntN.{ℤ, pos, negsuc, negℤ}
+use Rattle.protocol.specs.declared.Settings.{Settings}
+use Rattle.protocol.specs.declared.Parts.{Parts}
+use Rattle.protocol.specs.declared.Loaded.{Loaded}
+use Rattle.protocol.specs.declared.Written.{Written}
+use Rattle.protocol.specs.declared.Number.{Number}
+use Rattle.protocol.specs.declared.Number.the-variants.{Value, Refused}
+use Rattle.protocol.specs.Basic.{least, tabulate, all, choose, within, first, unless, granted}
+use Rattle.protocol.specs.Settings.{settingsRefusal, size, sized, residues, exponents, small}
+
+-- "over 65,536 bytes"
+unfoldable pub textLimit : ℕ
+textLimit = 65_536
+
+-- "magnitude at most 2,147,483,647"
+unfoldable pub valueLimit : ℕ
+valueLimit = 2_147_483_647
+
+abbrev pub lineFeed : ℕ
+lineFeed = 10
+
+abbrev pub space : ℕ
+space = 32
+
+abbrev pub minus : ℕ
+minus = 45
+
+abbrev pub zeroDigit : ℕ
+zeroDigit = 48
+
+-- every quoted text here is ASCII, so that a character's code is its byte
+unfoldable pub bytes : String → List ℕ
+bytes end = []
+bytes (c then s) = code c ∷ bytes s
+
+-- ---- Written
+
+-- "First the names line"
+unfoldable pub names : List ℕ
+names = bytes "part item place value\n"
+
+-- one digit, and one more for each of 10, 100, .., 10^9 that n reaches: no number here has more than ten
+unfoldable pub digitCount : ℕ → ℕ
+digitCount n = suc (least 9 (λ k. ltb n (10 ^ suc k)))
+
+unfoldable pub lowDigits : ℕ → ℕ → List ℕ
+lowDigits zero n = []
+lowDigits (suc k) n = lowDigits k (n / 10) ++ ((zeroDigit + n % 10) ∷ [])
+
+-- "A number has no leading zero, no plus"
+unfoldable pub decimal : ℕ → List ℕ
+decimal n = lowDigits (digitCount n) n
+
+-- "only a value may be negative"
+unfoldable pub numeral : ℤ → List ℕ
+numeral (pos n) = decimal n
+numeral (negsuc n) = minus ∷ decimal (suc n)
+
+pub record Spot : Type 0 where
+  pub part : ℕ
+  pub item : ℕ
+  pub place : ℕ
+
+pub record Line : Type 0 where
+  pub spot : Spot
+  pub value : ℤ
+
+-- "single spaces, a line feed after every line"
+unfoldable pub lineText : Line → List ℕ
+lineText l =
+    decimal (l .spot .part)
+    ++ (space ∷ (decimal (l .spot .item) ++ (space ∷ (decimal (l .spot .place) ++ (space ∷ (numeral (l .value) ++ (lineFeed ∷ [])))))))
+
+unfoldable pub linesText : List Line → List ℕ
+linesText ls = flatMap lineText ls
+
+-- "Final coefficients are signed 32-bit.", as message coefficients are
+pub record Tables : Type 0 where
+  pub key : List ℕ
+  pub message : List ℤ
+  pub commitment : List ℕ
+  pub rounds : List ℕ
+  pub challenges : List ℕ
+  pub last : List ℤ
+
+pub record Shape : Type 0 where
+  pub part : ℕ
+  pub items : ℕ
+  pub places : ℕ
+
+-- "told for each of parts 1 to 6 whether it is there": a part that is not there has no items
+unfoldable pub shape : ℕ → Bool → ℕ → ℕ → Shape
+shape part there items places = record { part = part; items = choose there items 0; places = places }
+
+-- "0 settings (item 0, places 0 to 3: d, L, q, B)"; "part 0 always is" there
+unfoldable pub settingsShape : Shape
+settingsShape = shape 0 true 1 4
+
+-- "1 key, 2 message, 3 commitment, 4 round (item 3(i−1)+j is c_j of round i), 5 challenge (item i−1, place 0), 6 final.
+-- Otherwise item is the element and place the coefficient."
+unfoldable pub shapes : Settings → Parts → List Shape
+shapes S P =
+    settingsShape
+    ∷ shape 1 (P .key) (size S) (S .degree)
+    ∷ shape 2 (P .message) (size S) (S .degree)
+    ∷ shape 3 (P .commitment) 1 (S .degree)
+    ∷ shape 4 (P .round) (3 * S .depth) (S .degree)
+    ∷ shape 5 (P .challenge) (S .depth) 1
+    ∷ shape 6 (P .last) 1 (S .degree)
+    ∷ []
+
+unfoldable pub shapeSize : Shape → ℕ
+shapeSize b = b .items * b .places
+
+-- places go round first, then items
+unfoldable pub spotAt : Shape → ℕ → Spot
+spotAt b p = record { part = b .part; item = p / b .places; place = p % b .places }
+
+unfoldable pub spots : Shape → List Spot
+spots b = tabulate (shapeSize b) (spotAt b)
+
+-- "Lines rise by part, item, place, none missing."
+unfoldable pub wanted : Settings → Parts → List Spot
+wanted S P = flatMap spots (shapes S P)
+
+unfoldable pub contents : Settings → Tables → List (List ℤ)
+contents S t =
+    (pos (S .degree) ∷ pos (S .depth) ∷ pos (S .modulus) ∷ pos (S .bound) ∷ [])
+    ∷ map pos (t .key)
+    ∷ t .message
+    ∷ map pos (t .commitment)
+    ∷ map pos (t .rounds)
+    ∷ map pos (t .challenges)
+    ∷ t .last
+    ∷ []
+
+pub record Block : Type 0 where
+  pub shape : Shape
+  pub values : List ℤ
+
+unfoldable pub block : Shape → List ℤ → Block
+block b values = record { shape = b; values = values }
+
+unfoldable pub blocks : Settings → Parts → Tables → List Block
+blocks S P t = zipWith block (shapes S P) (contents S t)
+
+unfoldable pub blockLines : Block → List Line
+blockLines b = tabulate (shapeSize (b .shape)) (λ p. record { spot = spotAt (b .shape) p; value = getD (b .values) p (pos 0) })
+
+-- "First the names line, then lines of values in that order"
+unfoldable pub textOf : Settings → Parts → Tables → List ℕ
+textOf S P t = names ++ linesText (flatMap blockLines (blocks S P t))
+
+unfoldable pub blockFits : Block → Bool
+blockFits b = sized (shapeSize (b .shape)) (b .values)
+
+-- "a lent table not exactly its length"; "The table lent for an absent part has length 0."
+unfoldable pub fits : Settings → Parts → Tables → Bool
+fits S P t = all blockFits (blocks S P t)
+
+-- ---- Read
+
+unfoldable pub keep {ℓ} : {A : Type ℓ} → Bool → A → Option A
+keep true a = some a
+keep false a = none
+
+unfoldable pub digit : ℕ → Bool
+digit b = leb zeroDigit b && leb b 57
+
+unfoldable pub digitRun : ℕ → List ℕ → ℕ × List ℕ
+digitRun n [] = (n, [])
+digitRun n (b ∷ bs) = elim (digit b) [ true ↦ digitRun (n * 10 + (b - zeroDigit)) bs | false ↦ (n, b ∷ bs) ]
+
+unfoldable pub digitFirst : List ℕ → Bool
+digitFirst [] = false
+digitFirst (b ∷ bs) = digit b
+
+-- "A number has no leading zero, no plus"
+unfoldable pub properDigits : List ℕ → Bool
+properDigits [] = false
+properDigits (b ∷ bs) = digit b && not (eqb b zeroDigit && digitFirst bs)
+
+-- "magnitude at most 2,147,483,647"
+unfoldable pub readCount : List ℕ → Option (ℕ × List ℕ)
+readCount bs = keep (properDigits bs && leb (digitRun 0 bs .0) valueLimit) (digitRun 0 bs)
+
+unfoldable pub plain : Option (ℕ × List ℕ) → Option (ℤ × List ℕ)
+plain r = do
+  (n, rest) ← r
+  some (pos n, rest)
+
+-- "no "-0""
+unfoldable pub negative : Option (ℕ × List ℕ) → Option (ℤ × List ℕ)
+negative r = do
+  (n, rest) ← r
+  keep (not (eqb n 0)) (negℤ (pos n), rest)
+
+-- "only a value may be negative"
+unfoldable pub readNumber : List ℕ → Option (ℤ × List ℕ)
+readNumber [] = none
+readNumber (b ∷ bs) = elim (eqb b minus) [ true ↦ negative (readCount bs) | false ↦ plain (readCount (b ∷ bs)) ]
+
+unfoldable pub byte : ℕ → List ℕ → Option (List ℕ)
+byte c [] = none
+byte c (b ∷ bs) = keep (eqb b c) bs
+
+-- "single spaces"
+unfoldable pub readIndex : List ℕ → Option (ℕ × List ℕ)
+readIndex bs = do
+  (n, behind) ← readCount bs
+  rest ← byte space behind
+  some (n, rest)
+
+-- "a line feed after every line"
+unfoldable pub readLine : List ℕ → Option (Line × List ℕ)
+readLine bs = do
+  (part, itemOn) ← readIndex bs
+  (item, placeOn) ← readIndex itemOn
+  (place, valueOn) ← readIndex placeOn
+  (value, behind) ← readNumber valueOn
+  rest ← byte lineFeed behind
+  some (record { spot = record { part = part; item = item; place = place }; value = value }, rest)
+
+-- a line has at least one byte, so more turns than there are bytes reach the end
+unfoldable pub readLines : ℕ → List ℕ → Option (List Line)
+readLines zero bs = none
+readLines (suc turns) [] = some []
+readLines (suc turns) (b ∷ bs) = do
+  (l, rest) ← readLine (b ∷ bs)
+  ls ← readLines turns rest
+  some (l ∷ ls)
+
+unfoldable pub begins : List ℕ → List ℕ → Bool
+begins [] text = true
+begins (c ∷ cs) [] = false
+begins (c ∷ cs) (b ∷ bs) = eqb b c && begins cs bs
+
+-- for every text, also one that ends inside the line: does it begin with the 21 bytes of names and a line feed
+unfoldable pub beginsWithNames : List ℕ → Bool
+beginsWithNames text = begins names text
+
+-- "a line not of the stated shape (names line and last line feed included)": such a text has no lines
+unfoldable pub parsed : List ℕ → Option (List Line)
+parsed text = elim (beginsWithNames text) [ true ↦ readLines (length text) (drop (length names) text) | false ↦ none ]
+
+unfoldable pub linesOf : List ℕ → List Line
+linesOf text = Option·getD (parsed text) []
+
+unfoldable pub sameSpot : Spot → Spot → Bool
+sameSpot a b = eqb (a .part) (b .part) && (eqb (a .item) (b .item) && eqb (a .place) (b .place))
+
+unfoldable pub sameSpots : List Spot → List Spot → Bool
+sameSpots [] [] = true
+sameSpots [] (b ∷ bs) = false
+sameSpots (a ∷ rest) [] = false
+sameSpots (a ∷ rest) (b ∷ bs) = sameSpot a b && sameSpots rest bs
+
+unfoldable pub spotsOf : List Line → List Spot
+spotsOf ls = map (λ (l : Line). l .spot) ls
+
+unfoldable pub valuesOf : List Line → List ℤ
+valuesOf ls = map (λ (l : Line). l .value) ls
+
+-- "or the first four value lines aren't settings"
+unfoldable pub wellFormed : List ℕ → Bool
+wellFormed text = sameSpots (take (shapeSize settingsShape) (spotsOf (linesOf text))) (spots settingsShape)
+
+-- "In text, settings below zero count as out of range.": they count as one past the limit of magnitude, which no setting,
+-- residue or exponent reaches
+unfoldable pub unsigned : ℤ → ℕ
+unsigned (pos n) = n
+unsigned (negsuc n) = suc valueLimit
+
+unfoldable pub column : ℕ → List Line → List ℤ
+column p [] = []
+column p (l ∷ ls) = choose (eqb (l .spot .part) p) (l .value ∷ column p ls) (column p ls)
+
+unfoldable pub unsignedColumn : ℕ → List Line → List ℕ
+unsignedColumn p ls = map unsigned (column p ls)
+
+unfoldable pub settingIn : List Line → ℕ → ℕ
+settingIn ls place = unsigned (getD (valuesOf ls) place (pos 0))
+
+-- "places 0 to 3: d, L, q, B"
+unfoldable pub settingsIn : List Line → Settings
+settingsIn ls = record { degree = settingIn ls 0; depth = settingIn ls 1; modulus = settingIn ls 2; bound = settingIn ls 3 }
+
+unfoldable pub tablesIn : List Line → Tables
+tablesIn ls = record {
+  key = unsignedColumn 1 ls;
+  message = column 2 ls;
+  commitment = unsignedColumn 3 ls;
+  rounds = unsignedColumn 4 ls;
+  challenges = unsignedColumn 5 ls;
+  last = column 6 ls;
+}
+
+-- ---- The calls
+
+-- "every other part of the answer 0"
+unfoldable pub noSettings : Settings
+noSettings = record { degree = 0; depth = 0; modulus = 0; bound = 0 }
+
+-- refusals 1 and 2 over the whole text, then 3 to 6
+unfoldable pub lookRefusal : List ℕ → ℕ
+lookRefusal text =
+    first
+    (unless 1 (leb (length text) textLimit)
+    ∷ unless 2 (wellFormed text)
+    ∷ settingsRefusal (settingsIn (linesOf text))
+    ∷ [])
+
+unfoldable pub loaded : ℕ → List ℕ → Loaded
+loaded refusal text = record { number = refusal; settings = granted refusal (settingsIn (linesOf text)) noSettings }
+
+-- a caller learns d and L by it, and then lends tables of exactly their lengths
+unfoldable pub lookAnswer : List ℕ → Loaded
+lookAnswer text = loaded (lookRefusal text) text
+
+-- "8: a key, commitment, round .. coefficient not 0 to q−1", "9: a message coefficient beyond its bound", "10: an exponent
+-- outside 0 to 2d−1"; `lastFits` is what 9 asks of the final element: nothing in the reader
+unfoldable pub entriesRefusal : Settings → Bool → Tables → ℕ
+entriesRefusal S lastFits t =
+    first
+    (unless 8 (residues S (t .key) && (residues S (t .commitment) && residues S (t .rounds)))
+    ∷ unless 9 (small (S .bound) (t .message) && lastFits)
+    ∷ unless 10 (exponents S (t .challenges))
+    ∷ [])
+
+-- "7: a lent table not exactly its length, value lines not the required ones in order"; `lent` says whether the lent tables
+-- have their lengths
+unfoldable pub textRefusal : Parts → Bool → List ℕ → ℕ
+textRefusal P lent text =
+    first
+    (lookRefusal text
+    ∷ unless 7 (sameSpots (spotsOf (linesOf text)) (wanted (settingsIn (linesOf text)) P) && lent)
+    ∷ entriesRefusal (settingsIn (linesOf text)) true (tablesIn (linesOf text))
+    ∷ [])
+
+unfoldable pub readRefusal : Parts → List ℕ → Tables → ℕ
+readRefusal P text t = textRefusal P (fits (settingsIn (linesOf text)) P t) text
+
+unfoldable pub readAnswer : Parts → List ℕ → Tables → Loaded
+readAnswer P text t = loaded (readRefusal P text t) text
+
+-- a refused reader leaves the lent tables as they were
+unfoldable pub readExit : Parts → List ℕ → Tables → Tables
+readExit P text t = granted (readRefusal P text t) (tablesIn (linesOf text)) t
+
+-- "it tests the length of its text last, by 1, and then the output slice, by 7"
+unfoldable pub outputRefusal : List ℕ → ℕ → ℕ
+outputRefusal text room = first (unless 1 (leb (length text) textLimit) ∷ unless 7 (leb (length text) room) ∷ [])
+
+-- "in the writer, a final coefficient of −2,147,483,648": the one signed 32-bit number past the limit
+unfoldable pub writeRefusal : Settings → Parts → Tables → ℕ → ℕ
+writeRefusal S P t room =
+    first
+    (settingsRefusal S
+    ∷ unless 7 (fits S P t)
+    ∷ entriesRefusal S (all (within valueLimit) (t .last)) t
+    ∷ outputRefusal (textOf S P t) room
+    ∷ [])
+
+-- "The writer returns its text's length"
+unfoldable pub written : ℕ → List ℕ → Written
+written refusal text = record { number = refusal; length = granted refusal (length text) 0 }
+
+-- "and leaves bytes after its text unchanged"
+unfoldable pub overwritten : ℕ → List ℕ → List ℕ → List ℕ
+overwritten refusal text out = granted refusal (text ++ drop (length text) out) out
+
+unfoldable pub writeAnswer : Settings → Parts → Tables → List ℕ → Written
+writeAnswer S P t out = written (writeRefusal S P t (length out)) (textOf S P t)
+
+unfoldable pub writeExit : Settings → Parts → Tables → List ℕ → List ℕ
+writeExit S P t out = overwritten (writeRefusal S P t (length out)) (textOf S P t) out
+
+pub record Reading : Type 0 where
+  pub number : ℕ
+  pub value : ℤ
+  pub next : ℕ
+
+-- "The reader answers a value with the next place, or a refusal."
+unfoldable pub reading : Number → Reading
+reading (Value value next) = record { number = 0; value = value; next = next }
+reading (Refused number) = record { number = number; value = pos 0; next = 0 }
+
+-- what was read of a text, with the place where the bytes behind it begin
+unfoldable pub numberAnswer : List ℕ → Option (ℤ × List ℕ) → Number
+numberAnswer text none = Refused 2
+numberAnswer text (some (value, rest)) = Value value (length text - length rest)
+
+unfoldable pub readNumberAt : List ℕ → ℕ → Number
+readNumberAt text at = numberAnswer text (readNumber (drop at text))
+
+unfoldable pub readCountAt : List ℕ → ℕ → Number
+readCountAt text at = numberAnswer text (plain (readCount (drop at text)))

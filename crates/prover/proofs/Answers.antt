@@ -1,0 +1,38 @@
+-- The answers of the prover's calls, with a refusal and without one.
+use mathlib.Core.Path.{_≡_, sym, _∙_}
+use mathlib.Core.List.{List}
+use Prim.Native.Nat.{ℕ}
+use lib.IntN.{ℤ}
+use Rattle.protocol.specs.declared.Settings.{Settings}
+use Rattle.protocol.specs.declared.Ended.{Ended}
+use Rattle.protocol.specs.Element.{width, signedZeros, paddedSigned}
+use Rattle.protocol.specs.Opening.{foldSigned, foldResidues, halfLeft, foldMessage, foldKey, finalElement}
+use Rattle.protocol.specs.Calls.{foldRefusal, foldKeyExit, foldMessageExit, endRefusal, endAnswer}
+use Rattle.protocol.specs.Promises.{Folded}
+use Rattle.protocol.proofs.Tests.{granted-zero, granted-refused}
+
+-- ---- the fold
+
+module _ (S : Settings) (t e : ℕ) (key : List ℕ) (message : List ℤ) where
+  pub fold-refused : (n : ℕ) → n ≡ foldRefusal S t e key message → (n ≡ 0 → ⊥) → Folded S t e key message n key message
+  unfolding foldKeyExit foldMessageExit
+  fold-refused n e r = record { number = e; key-exit = sym (granted-refused _ _ _ (λ z. r (e ∙ z))); message-exit = sym (granted-refused _ _ _ (λ z. r (e ∙ z))) }
+
+  pub fold-done : foldRefusal S t e key message ≡ 0 → (key′ : List ℕ) (message′ : List ℤ)
+      → key′ ≡ foldResidues (S .modulus) (S .degree) (halfLeft S t) e key → message′ ≡ foldSigned (S .degree) (halfLeft S t) e message → Folded S t e key message 0 key′ message′
+  unfolding foldKeyExit foldMessageExit foldKey foldMessage
+  fold-done z key′ message′ k m = record { number = sym z; key-exit = k ∙ sym (granted-zero _ _ _ z); message-exit = m ∙ sym (granted-zero _ _ _ z) }
+
+-- ---- the end
+
+module _ (S : Settings) (t : ℕ) (message : List ℤ) where
+  abbrev last : List ℤ
+  last = paddedSigned (S .degree) (finalElement S message)
+
+  pub end-refused : (n : ℕ) → n ≡ endRefusal S t message → (n ≡ 0 → ⊥) → _≡_ {A = Ended} (record { number = n; last = signedZeros width }) (endAnswer S t message)
+  unfolding endAnswer
+  end-refused n e r = let none = sym (granted-refused (endRefusal S t message) last (signedZeros width) (λ z. r (e ∙ z))) in λ i. record { number = e i; last = none i }
+
+  pub end-done : endRefusal S t message ≡ 0 → (f : List ℤ) → f ≡ last → _≡_ {A = Ended} (record { number = 0; last = f }) (endAnswer S t message)
+  unfolding endAnswer
+  end-done z f g = let all = g ∙ sym (granted-zero _ last (signedZeros width) z) in λ i. record { number = sym z i; last = all i }
