@@ -17,20 +17,18 @@ use Rattle.protocol.specs.Transcript.{finalBounded}
 use Rattle.protocol.proofs.Modulo.{modulo-times, mod-times}
 use Rattle.protocol.proofs.Tests.{every-at}
 use Rattle.arithmetic.specs.Products.{limit}
-use Rattle.arithmetic.specs.Ready.{Ready}
 use Rattle.arithmetic.proofs.Padding.{padded-at}
-use Rattle.arithmetic.proofs.Scan.{every-goes-on, every-fails, every-ends, every-ext}
+use Rattle.arithmetic.proofs.Scan.{every-fails}
 use Rattle.equations.specs.Ends.{equationMet}
-
-pub two-power-most : (n : ℕ) → n ≤ 8 → 2 ^ n ≤ 256
-two-power-most n h = Nat.pow-le-pow-right {n = 2} (omega arith) {i = n} {j = 8} h
+use Rattle.claims.proofs.Agreement.{every-ext}
+use Rattle.equations.proofs.Ready.{Ready}
 
 module _ (S : Settings) (ready : Ready S) (f : List ℤ) where
   open Settings S using (degree as d, depth as L, modulus as q, bound as B)
 
   size-most : size S * B ≤ 256 * 127
   unfolding size
-  size-most = Nat.mul-le-mul {n₂ = 256} {m₂ = 127} (two-power-most L (omega arith)) (omega arith)
+  size-most = Nat.mul-le-mul {n₂ = 256} {m₂ = 127} (Nat.pow-le-pow-right {n = 2} (omega arith) {i = L} {j = 8} (omega arith)) (omega arith)
 
   pub bounded-small : finalBounded S (signed f) ≡ true → (j : ℕ) → j < d → natAbs (getD f j (pos 0)) ≤ limit
   unfolding finalBounded signed within
