@@ -1,13 +1,16 @@
 // The verifier's equations: a round, the claim after it, and the end. Every function is safe for every input; what it gives is said for
 // settings that refusals 3 to 6 let pass.
+pub mod keys;
+
 use protocol::Settings;
 ghost use mathlib.Core.Path.{_≡_};
-ghost use mathlib.Core.Bool.{true};
+ghost use mathlib.Core.Bool.{true, _&&_};
 ghost use Prim.Native.Nat.{_+_, _*_, _/_, _%_, _^_, _<_, _≤_};
 ghost use lib.Dec.{eqb};
+ghost use lib.ListN.{length};
 ghost use Rattle.protocol.specs.Element.{padded, residue, signed};
-ghost use Rattle.protocol.specs.Transcript.{roundHolds, nextClaim, finalBounded};
-ghost use Rattle.protocol.specs.Settings.{settingsRefusal};
+ghost use Rattle.protocol.specs.Transcript.{roundHolds, nextClaim, finalBounded, endHolds};
+ghost use Rattle.protocol.specs.Settings.{settingsRefusal, cells};
 ghost use Rattle.equations.specs.Ends.{equationMet, endMet};
 
 // Is 2·(x + y) modulo q the number z.
@@ -141,4 +144,18 @@ pub fn end_holds(settings: Settings, claim: [u32; 64], f: [i32; 64], g: [u32; 64
         return false;
     }
     equation_met(settings, claim, f, g)
+}
+
+// Is the end of a transcript met: the bound, and the equation with the key folded by the challenges.
+pub fn end_met(
+    settings: Settings,
+    claim: [u32; 64],
+    f: [i32; 64],
+    key: &[u32],
+    challenges: &[u32],
+) -> bool
+    ensures { λ r. ⌜ (settingsRefusal settings ≡ 0 → length (now (key .entry)) ≡ cells settings → settings .depth ≤ length (now (challenges .entry)) → r ≡ (finalBounded settings (signed f) && endHolds settings (now (key .entry)) (now (challenges .entry)) claim (signed f))) ⌝ }
+{
+    let g = keys::folded_key(settings, key, challenges);
+    end_holds(settings, claim, f, g)
 }
