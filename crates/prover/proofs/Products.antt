@@ -1,7 +1,7 @@
--- Inner products of two tables, of halves of them, and the commitment, from the sums that the code reduces.
+-- Inner products of two tables and of halves of them, the commitment and the round polynomial, from the sums that the code reduces.
 use mathlib.Core.Path.{_≡_, refl, sym, ap, ap₂, _∙_, subst}
 use mathlib.Core.List.{List}
-use Prim.Native.Nat.{ℕ, _+_, _*_, _-_, _%_, _^_, _<_, _≤_}
+use Prim.Native.Nat.{ℕ, _+_, _*_, _-_, _/_, _%_, _^_, _<_, _≤_}
 use native.Mathlib.Nat as Nat
 use native.Mathlib.Omega.{arith}
 use lib.IntN.{ℤ, pos, natAbs, _+ℤ_, _*ℤ_, +ℤ-idl}
@@ -11,10 +11,11 @@ use lib.Seq.{getD-drop}
 use Rattle.protocol.specs.declared.Settings.{Settings}
 use Rattle.protocol.specs.Basic.{tabulate}
 use Rattle.protocol.specs.Element.{Element, modulo, plus, times, padded, reduced, signedAt, residueAt, zeros}
-use Rattle.protocol.specs.Settings.{size, cells}
-use Rattle.protocol.specs.Opening.{inner, second, cross, left, commitment}
+use Rattle.protocol.specs.Settings.{size, cells, half}
+use Rattle.protocol.specs.Opening.{inner, second, cross, left, halfLeft, commitment, roundElement}
+use Rattle.protocol.specs.Calls.{polynomial}
 use Rattle.protocol.specs.Inputs.{Valid}
-use Rattle.protocol.proofs.Modulo.{modulo-times}
+use Rattle.protocol.proofs.Modulo.{modulo-times, mod-times}
 use Rattle.protocol.proofs.Reading.{tabulate-ext}
 use Rattle.claims.proofs.Agreement.{Same, sum-ext, product-same}
 use Rattle.sizes.proofs.Limits.{degree-least, degree-most}
@@ -45,6 +46,11 @@ module _ (q d n : ℕ) (m : List ℤ) (G : List ℕ) (t : Tables q d n m G) wher
 pub scaled-is : (q d s : ℕ) → 0 < q → (a : Element) (l : List ℕ) → l ≡ padded d (reduced q d a) → padded d (tabulate d (λ k. s * getD l k 0 % q)) ≡ scaled q d s a
 unfolding scaled reduced times
 scaled-is q d s p a l e = ap (padded d) (tabulate-ext d (λ k h. ap (λ x. s * x % q) (ap (λ x. getD x k 0) e ∙ padded-at d (λ j. modulo q (a j)) k h) ∙ sym (modulo-times q p s (a k))))
+
+-- by a number that is itself reduced
+pub scaled-mod : (q d s : ℕ) → 0 < q → (a : Element) → scaled q d (s % q) a ≡ padded d (reduced q d (times (pos s) a))
+unfolding scaled reduced times
+scaled-mod q d s p a = ap (padded d) (tabulate-ext d (λ k h. modulo-times q p (s % q) (a k) ∙ mod-times q p s (modulo q (a k)) ∙ sym (modulo-times q p s (a k))))
 
 -- ---- halves
 
@@ -137,3 +143,10 @@ pub commitment-is : (S : Settings) (key : List ℕ) (message : List ℤ) → Com
     → reducedSums (S .modulus) (S .degree) (innerSums (S .modulus) (S .degree) message key (left S 0) (zeros 64)) ≡ padded (S .degree) (commitment S key message)
 unfolding commitment
 commitment-is S key message g = inner-reduced (S .modulus) (S .degree) (left S 0) message key (commit-tables S key message g) ∙ ap (λ n. padded (S .degree) (reduced (S .modulus) (S .degree) (inner (S .degree) n (signedAt (S .degree) message) (residueAt (S .degree) key)))) (left-whole S)
+
+-- ---- the round polynomial
+
+pub polynomial-is : (S : Settings) (t : ℕ) (key : List ℕ) (message : List ℤ) → 0 < S .modulus
+    → tabulate 3 (λ j. scaled (S .modulus) (S .degree) (((S .modulus + 1) / 2) ^ (t + 1) % S .modulus) (cross (S .degree) (halfLeft S t) (signedAt (S .degree) message) (residueAt (S .degree) key) j)) ≡ polynomial S t key message
+unfolding polynomial roundElement half
+polynomial-is S t key message p = tabulate-ext 3 (λ j l. scaled-mod (S .modulus) (S .degree) (half S ^ (t + 1)) p (cross (S .degree) (halfLeft S t) (signedAt (S .degree) message) (residueAt (S .degree) key) j))
