@@ -4,7 +4,6 @@ use mathlib.Core.Path.{_≡_, refl, sym, ap, ap₂, _∙_, subst}
 use mathlib.Core.Logic.{_≢_}
 use mathlib.Core.Bool.{Bool, true, false}
 use Prim.Native.Nat.{ℕ, zero, suc, _+_, _*_, _-_, _^_, _<_, _≤_}
-use native.Mathlib.Bridge.{le-prop}
 use lib.IntN.{pos, negsuc, natAbs}
 use Rattle.algebra.specs.Ring as R
 use Rattle.algebra.specs.Ring.{CommRing, two}
@@ -15,7 +14,7 @@ use Rattle.algebra.specs.Negacyclic.{negacyclic, coef, X^}
 use Rattle.algebra.specs.Steps as A
 use Rattle.algebra.specs.Divisor as A′
 use Rattle.protocol.specs.Basic.{least}
-use Rattle.protocol.specs.Element.{Element, one, power, product, plus, times}
+use Rattle.protocol.specs.Element.{Element, one, power, times}
 use Rattle.protocol.specs.Tree.{gap, steps, s, difference, Divides, Divisor}
 use Rattle.claims.proofs.Readings.{read, read-ext, read-plus, read-sum, read-times, read-one, read-power, read-product, readℤ, coef-readℤ, readℤ-inj}
 

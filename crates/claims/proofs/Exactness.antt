@@ -1,5 +1,5 @@
 -- Exactness: where every leaf is a fold of one m, of whole numbers of any size, the root's vector is 4^L·m. At a node it is 4^h times what is left of m there.
-use mathlib.Core.Path.{_≡_, refl, sym, ap, ap₂, _∙_, subst}
+use mathlib.Core.Path.{_≡_, refl, sym, ap, _∙_, subst}
 use mathlib.Core.List.{List, map}
 use Prim.Native.Nat.{ℕ, zero, suc, _+_, _*_, _-_, _^_, _<_, _≤_}
 use native.Mathlib.Nat as Nat
@@ -13,10 +13,10 @@ use Rattle.algebra.specs.Integers.{ℤ-ring, fromℤ, ofℕ}
 use Rattle.algebra.specs.Cancel.{cancels-ℤ}
 use Rattle.algebra.specs.Negacyclic.{negacyclic}
 use Rattle.protocol.specs.declared.Settings.{Settings}
-use Rattle.protocol.specs.Element.{Element, times, signed, signedAt, coefficients}
+use Rattle.protocol.specs.Element.{times, signed, signedAt}
 use Rattle.protocol.specs.Settings.{size, cells}
 use Rattle.protocol.specs.Opening.{foldMessage, messageAfter, finalElement}
-use Rattle.protocol.specs.Tree.{child, challenge, place, above, nodes, leaves, onPath, pathChallenges, leaf, foldTo, rootVector}
+use Rattle.protocol.specs.Tree.{child, challenge, place, nodes, leaves, onPath, pathChallenges, leaf, foldTo, rootVector}
 use Rattle.protocol.specs.Judge.{slack}
 use Rattle.protocol.proofs.Reading.{flat-own, flat-ext}
 use Rattle.claims.proofs.Readings.{read-ext, read-times, readℤ, readℤ-inj}

@@ -3,7 +3,7 @@
 use mathlib.Core.Path.{_≡_, refl, sym, ap, ap₂, _∙_}
 use mathlib.Core.Bool.{true}
 use mathlib.Core.List.{List}
-use Prim.Native.Nat.{ℕ, zero, suc, _+_, _*_, _-_, _%_, _^_, _<_}
+use Prim.Native.Nat.{ℕ, zero, suc, _+_, _-_, _%_, _^_, _<_}
 use native.Mathlib.Nat as Nat
 use native.Mathlib.Omega.{arith}
 use borrow.Author.Tests.{eqb-true}
@@ -19,10 +19,9 @@ use Rattle.algebra.specs.Cancel.{cancels-Zmod}
 use Rattle.algebra.specs.Negacyclic.{negacyclic}
 use Rattle.algebra.specs.Inner as I
 use Rattle.protocol.specs.declared.Settings.{Settings}
-use Rattle.protocol.specs.Basic.{every}
 use Rattle.protocol.specs.Element.{Element, product, times, signed, signedAt, residue, residueAt}
 use Rattle.protocol.specs.Settings.{size, half}
-use Rattle.protocol.specs.Opening.{inner, halfLeft, foldKey}
+use Rattle.protocol.specs.Opening.{inner, foldKey}
 use Rattle.protocol.specs.Transcript.{doubled, roundHolds, finalBounded}
 use Rattle.protocol.specs.Tree.{child, challenge, nodes, leaf, rootVector}
 use Rattle.protocol.specs.Judge.{slack, scaledCommitment, combination, Opens}

@@ -24,3 +24,8 @@ pub mod Vectors
 pub mod Combination
 pub mod Extraction
 pub mod Exactness
+pub mod Norms
+pub mod Growth
+pub mod GrowthTest
+pub mod Extractor
+pub mod Demand3

@@ -3,8 +3,8 @@
 --   before t     how many nodes are less deep than t, (3^t − 1)/2: the number of the first node of depth t
 --   AtDepth t k  node k has depth t
 --   below h k i  the number of the i-th of the nodes that are h steps below node k
-use mathlib.Core.Path.{_≡_, refl, sym, ap, _∙_, subst}
-use Prim.Native.Nat.{ℕ, zero, suc, _+_, _*_, _-_, _/_, _%_, _^_, _<_, _≤_}
+use mathlib.Core.Path.{_≡_, refl, sym, ap, _∙_}
+use Prim.Native.Nat.{ℕ, zero, suc, _+_, _*_, _/_, _%_, _^_, _<_, _≤_}
 use native.Mathlib.Nat as Nat
 use native.Mathlib.Omega.{arith}
 use Rattle.protocol.specs.Tree.{child, parent, place, above}

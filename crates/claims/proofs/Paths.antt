@@ -24,6 +24,11 @@ module _ (S : Settings) where
   pub depth-branching : (t h k : ℕ) → suc (h + t) ≡ L → AtDepth t k → k < nodes S
   depth-branching t h k e a = omega (arith, nodes-before, a .to, before-le (suc t) h, ap before (Nat.add-suc h t ∙ e))
 
+  -- a node of depth L is a leaf
+  pub depth-leaf : (k : ℕ) → AtDepth L k → k - nodes S < leaves S
+  unfolding leaves before
+  depth-leaf k a = omega (arith, nodes-before, before-power L, a .to)
+
   -- at a node that is h + 1 steps above the leaves, a half of what is left has 2^h elements
   pub halfLeft-height : (h t : ℕ) → suc (h + t) ≡ L → halfLeft S t ≡ 2 ^ h
   halfLeft-height h t e = halfLeft-power S t (omega arith) ∙ ap (λ n. 2 ^ n) down

@@ -1,17 +1,17 @@
 -- The check node by node accepts a tree exactly when every path of it is accepted.
-use mathlib.Core.Path.{_≡_, refl, sym, ap, ap₂, _∙_, subst}
+use mathlib.Core.Path.{_≡_, refl, sym, ap, _∙_, subst}
 use mathlib.Core.Bool.{Bool, true, _&&_}
 use mathlib.Core.List.{List}
-use Prim.Native.Nat.{ℕ, zero, suc, _+_, _*_, _-_, _/_, _%_, _^_, _<_, _≤_}
+use Prim.Native.Nat.{ℕ, zero, suc, _+_, _*_, _/_, _%_, _<_, _≤_}
 use native.Mathlib.Nat as Nat
 use native.Mathlib.Omega.{arith}
 use lib.ListN.{getD}
-use lib.IntN.{ℤ, pos, _*ℤ_}
+use lib.IntN.{ℤ, pos}
 use Rattle.protocol.specs.declared.Settings.{Settings}
 use Rattle.protocol.specs.Basic.{every}
 use Rattle.protocol.specs.Element.{signed, residueAt}
 use Rattle.protocol.specs.Opening.{foldKey, keyAfter}
-use Rattle.protocol.specs.Transcript.{Transcript, roundHolds, nextClaim, finalBounded, ending, endHolds, element, claimAfter, holdsAt, closes, accepted}
+use Rattle.protocol.specs.Transcript.{Transcript, nextClaim, finalBounded, ending, endHolds, element, claimAfter, holdsAt, closes, accepted}
 use Rattle.protocol.specs.Tree.{child, challenge, place, nodes, leaves, onPath, pathRounds, leaf, path}
 use Rattle.protocol.specs.Calls.{everyPath}
 use Rattle.protocol.proofs.Tests.{and-split, and-intro, same-test, every-at, every-intro}

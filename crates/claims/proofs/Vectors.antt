@@ -1,5 +1,5 @@
 -- The vector of a node: how long it is, what its two halves are place by place, and what they are in the ring of degree d over a ring K.
-use mathlib.Core.Path.{_≡_, refl, sym, ap, ap₂, _∙_, subst}
+use mathlib.Core.Path.{_≡_, sym, ap, ap₂, _∙_, subst}
 use mathlib.Core.List.{List, _++_}
 use Prim.Native.Nat.{ℕ, zero, suc, _+_, _*_, _-_, _^_, _<_}
 use native.Mathlib.Nat as Nat
@@ -7,7 +7,7 @@ use native.Mathlib.Decide.{decLt}
 use native.Mathlib.Omega.{arith}
 use lib.ListN.{length, getD, length-append}
 use lib.Seq.{getD-append-add}
-use lib.IntN.{ℤ, pos, _+ℤ_}
+use lib.IntN.{ℤ, pos}
 use Rattle.algebra.specs.Ring.{CommRing}
 use Rattle.algebra.specs.Negacyclic.{negacyclic, X^}
 use Rattle.protocol.specs.declared.Settings.{Settings}
@@ -21,6 +21,11 @@ use Rattle.claims.proofs.Weights.{weight}
 -- what holds of the places below n and of those n further on holds below 2·n
 pub halves : (P : ℕ → Type 0) (n : ℕ) → ((i : ℕ) → i < n → P i) → ((i : ℕ) → i < n → P (n + i)) → (i : ℕ) → i < n + n → P i
 halves P n low high i l = elim (decLt i n) [ yes h ↦ low i h | no h ↦ subst P (omega arith) (high (i - n) (omega arith)) ]
+
+-- element 0 of a list
+pub signed-first : (d : ℕ) (l : List ℤ) (k : ℕ) → signedAt d l 0 k ≡ signed l k
+unfolding signedAt signed
+signed-first d l k = ap (λ j. getD l j (pos 0)) (omega arith)
 
 -- ---- one flat table behind another
 
@@ -97,8 +102,8 @@ module _ (S : Settings) (E : List ℕ) (finals : List ℤ) where
     vec h k i = read K (S .degree) p (signedAt (S .degree) (vector S E finals h k) i)
 
     pub vec-leaf : (k : ℕ) → vec 0 k 0 ≡ read K (S .degree) p (signed (leaf S finals (k - nodes S)))
-    unfolding vector signedAt signed
-    vec-leaf k = read-ext K (S .degree) p (λ i _. ap (λ j. getD (leaf S finals (k - nodes S)) j (pos 0)) (omega arith))
+    unfolding vector
+    vec-leaf k = read-ext K (S .degree) p (λ i _. signed-first (S .degree) (leaf S finals (k - nodes S)) i)
 
     -- challenge j of node k, and the three weights
     abbrev pub e^ : ℕ → ℕ → negacyclic K (S .degree) p .C

@@ -5,12 +5,12 @@
 --   Walk h k x       it holds at node k with the state x, and at every node of the h steps below
 --   stateOn h n x t  the state after t of the h steps that lead down to node n, x being the first
 --   Visits h n x     it holds along these steps
-use mathlib.Core.Path.{_≡_, refl, sym, ap, _∙_, subst, subst₂}
-use Prim.Native.Nat.{ℕ, zero, suc, _+_, _*_, _-_, _^_, _<_, _≤_}
+use mathlib.Core.Path.{_≡_, sym, ap, _∙_, subst, subst₂}
+use Prim.Native.Nat.{ℕ, zero, suc, _+_, _*_, _-_, _^_, _<_}
 use native.Mathlib.Nat as Nat
 use native.Mathlib.Omega.{arith}
 use Rattle.protocol.specs.Tree.{child, parent, place, above}
-use Rattle.claims.proofs.Numbering.{parent-child, place-child, before-power, below, below-zero, below-child, above-below, Turn, turn, turn-small}
+use Rattle.claims.proofs.Numbering.{parent-child, place-child, before-power, below, below-zero, below-child, above-below, turn, turn-small}
 
 -- what holds for the three children holds for each
 pub three : (P : ℕ → Type 0) → P 0 → P 1 → P 2 → (j : ℕ) → j < 3 → P j

@@ -1,7 +1,7 @@
 -- Document 01's μ of the three challenges of a node, in the ring of degree d over a ring K where 2 cancels: Σ μ_j = 4, Σ μ_j·r_j = 0, Σ μ_j·r_j² = 4.
 --   Triple d a b c    a, b, c are exponents below 2·d, and no two are equal
 --   weight K d p ..   μ of X^a, the others being X^b and X^c
-use mathlib.Core.Path.{_≡_, sym, ap, ap₂, _∙_}
+use mathlib.Core.Path.{_≡_, sym, ap₂, _∙_}
 use mathlib.Core.Logic.{_≢_}
 use mathlib.Core.List.{List}
 use Prim.Native.Nat.{ℕ, _+_, _*_, _^_, _<_}
@@ -12,8 +12,8 @@ use Rattle.algebra.specs.Negacyclic.{negacyclic, X^, X^-add}
 use Rattle.algebra.specs.Cancel.{Cancels, cancels-negacyclic}
 use Rattle.algebra.specs.Mu as M
 use Rattle.protocol.specs.declared.Settings.{Settings}
-use Rattle.protocol.specs.Element.{Element, one, power, product, plus, signed, coefficients}
-use Rattle.protocol.specs.Tree.{s, mu, challenge, nodes, Divisor}
+use Rattle.protocol.specs.Element.{Element, power, signed, coefficients}
+use Rattle.protocol.specs.Tree.{s, mu, challenge, nodes}
 use Rattle.protocol.specs.Inputs.{Below}
 use Rattle.protocol.proofs.Reading.{tabulate-at}
 use Rattle.claims.proofs.Readings.{read, read-ext, read-plus, read-one, read-power, read-product}

@@ -63,6 +63,10 @@ withFinal f = names ++ settings ++ key ++ commitment ++ rounds ++ challenge ++ f
 abbrev noDepth : String
 noDepth = "0 0 0 2\n0 0 1 0\n0 0 2 17\n0 0 3 1\n"
 
+-- settings 2, 2, 17, 1
+abbrev moreDepth : String
+moreDepth = "0 0 0 2\n0 0 1 2\n0 0 2 17\n0 0 3 1\n"
+
 -- "`prove` prints:", a line feed after every line
 abbrev listing : String
 listing =
@@ -97,6 +101,9 @@ noParts = record { key = false; message = false; commitment = false; round = fal
 
 abbrev challengeOnly : Parts
 challengeOnly = record { key = false; message = false; commitment = false; round = false; challenge = true; last = false }
+
+abbrev finalOnly : Parts
+finalOnly = record { key = false; message = false; commitment = false; round = false; challenge = false; last = true }
 
 abbrev allParts : Parts
 allParts = record { key = true; message = true; commitment = true; round = true; challenge = true; last = true }
@@ -140,6 +147,23 @@ shallow = record { degree = 2; depth = 0; modulus = 17; bound = 1 }
 
 abbrev shallowLent : Tables
 shallowLent = tables (9 ∷ 9 ∷ []) (pos 9 ∷ pos 9 ∷ []) (9 ∷ 9 ∷ []) [] [] (pos 9 ∷ pos 9 ∷ [])
+
+-- tables that are lent for what `verify` reads, and for all parts with L = 2
+abbrev lentVerify : Tables
+lentVerify = tables (replicate 4 9) [] (replicate 2 9) (replicate 6 9) (9 ∷ []) (replicate 2 (pos 9))
+
+abbrev lentDeep : Tables
+lentDeep = tables (replicate 8 9) (replicate 8 (pos 9)) (replicate 2 9) (replicate 12 9) (replicate 2 9) (replicate 2 (pos 9))
+
+abbrev onlyChallenges : List ℕ → Tables
+onlyChallenges e = tables [] [] [] [] e []
+
+abbrev onlyFinal : List ℤ → Tables
+onlyFinal f = tables [] [] [] [] [] f
+
+-- the largest modulus and bound
+abbrev widest : Settings
+widest = record { degree = 2; depth = 0; modulus = 2_147_483_647; bound = 127 }
 
 -- the largest magnitudes of a value
 abbrev extremes : List ℤ
@@ -209,7 +233,10 @@ given (writeRefused S P t room N) = writes (writeAnswer S P t (stops room)) (wri
 given (writeGives S P t room n text) = writes (writeAnswer S P t (stops room)) (writeExit S P t (stops room))
 given (output text room N) = refuses (outputRefusal text room)
 given (back S P t u) = reads (readAnswer P (outcome S P t (stops 999)) u) (readExit P (outcome S P t (stops 999)) u)
-given (forth P text u) = let S = readAnswer P (bytes text) u .settings in let t = readExit P (bytes text) u in writes (writeAnswer S P t (stops 999)) (writeExit S P t (stops 999))
+given (forth P text u) =
+    let S = readAnswer P (bytes text) u .settings in
+    let t = readExit P (bytes text) u in
+    writes (writeAnswer S P t (stops 999)) (writeExit S P t (stops 999))
 given (number text at N value next) = gives (reading (readNumberAt (bytes text) at))
 given (count text at N value next) = gives (reading (readCountAt (bytes text) at))
 
@@ -401,11 +428,11 @@ table =
     ∷ readRefused proveReads (input key message "5 0 0 4\n") nothing 7
     ∷ readRefused proveReads (withSettings "0 0 0 2\n0 0 1 1\n0 0 2 17\n0 0 3 0\n") nothing 6
     ∷ readGives provePrints listing lentListed example (listed finalElement)
-    ∷ readGives provePrints (names ++ noDepth ++ "3 0 0 8\n3 0 1 2\n6 0 0 2147483647\n6 0 1 -2147483647\n") (tables [] [] (9 ∷ 9 ∷ []) [] [] (pos 9 ∷ pos 9 ∷ [])) shallow (tables [] [] (8 ∷ 2 ∷ []) [] [] extremes)
+    ∷ readGives finalOnly (names ++ noDepth ++ "6 0 0 2147483647\n6 0 1 -2147483647\n") (onlyFinal (pos 9 ∷ pos 9 ∷ [])) shallow (onlyFinal extremes)
     ∷ readGives noParts (names ++ settings) nothing example nothing
     -- with L = 2: items go first, and a challenge is an item of its own
-    ∷ readGives challengeOnly (names ++ "0 0 0 2\n0 0 1 2\n0 0 2 17\n0 0 3 1\n5 0 0 1\n5 1 0 3\n") (tables [] [] [] [] (9 ∷ 9 ∷ []) []) deep (tables [] [] [] [] (1 ∷ 3 ∷ []) [])
-    ∷ readRefused challengeOnly (names ++ "0 0 0 2\n0 0 1 2\n0 0 2 17\n0 0 3 1\n5 0 0 1\n5 0 1 3\n") (tables [] [] [] [] (9 ∷ 9 ∷ []) []) 7
+    ∷ readGives challengeOnly (names ++ moreDepth ++ "5 0 0 1\n5 1 0 3\n") (onlyChallenges (9 ∷ 9 ∷ [])) deep (onlyChallenges (1 ∷ 3 ∷ []))
+    ∷ readRefused challengeOnly (names ++ moreDepth ++ "5 0 0 1\n5 0 1 3\n") (onlyChallenges (9 ∷ 9 ∷ [])) 7
     -- the writer: what stands behind its text stays, and on a refusal all of it
     ∷ writeGives example provePrints (listed finalElement) 149 145 listing
     ∷ writeGives example noParts nothing 60 55 (names ++ settings)
@@ -431,12 +458,12 @@ table =
     ∷ back example provePrints (listed finalElement) lentListed
     ∷ back example allParts everything everything
     ∷ back example noParts nothing nothing
-    ∷ back deep allParts (tables (replicate 8 16) (replicate 8 (negsuc 0)) (0 ∷ 1 ∷ []) (replicate 12 10) (0 ∷ 3 ∷ []) extremes) (tables (replicate 8 0) (replicate 8 (pos 0)) (0 ∷ 0 ∷ []) (replicate 12 0) (0 ∷ 0 ∷ []) (pos 0 ∷ pos 0 ∷ []))
+    ∷ back deep allParts (tables (replicate 8 16) (replicate 8 (negsuc 0)) (0 ∷ 1 ∷ []) (replicate 12 10) (0 ∷ 3 ∷ []) extremes) lentDeep
     ∷ back shallow allParts (tables (0 ∷ 16 ∷ []) (pos 1 ∷ negsuc 0 ∷ []) (8 ∷ 2 ∷ []) [] [] extremes) shallowLent
-    ∷ back (record { degree = 2; depth = 0; modulus = 2_147_483_647; bound = 127 }) proveReads (tables (2_147_483_646 ∷ 10 ∷ []) (negsuc 126 ∷ pos 127 ∷ []) [] [] [] []) (tables (0 ∷ 0 ∷ []) (pos 0 ∷ pos 0 ∷ []) [] [] [] [])
+    ∷ back widest proveReads (tables (2_147_483_646 ∷ 10 ∷ []) (negsuc 126 ∷ pos 127 ∷ []) [] [] [] []) (tables (9 ∷ 9 ∷ []) (pos 9 ∷ pos 9 ∷ []) [] [] [] [])
     ∷ forth proveReads (input key message challenge) lent
     ∷ forth provePrints listing lentListed
-    ∷ forth verifyReads (withFinal "6 0 0 -2147483647\n6 0 1 2147483647\n") (tables (replicate 4 0) [] (replicate 2 0) (replicate 6 0) (0 ∷ []) (pos 0 ∷ pos 0 ∷ []))
+    ∷ forth verifyReads (withFinal "6 0 0 -2147483647\n6 0 1 2147483647\n") lentVerify
     ∷ forth noParts (names ++ noDepth) nothing
     -- the number reader: a value with the next place, or a refusal
     ∷ number "17 5" 0 0 (pos 17) 2

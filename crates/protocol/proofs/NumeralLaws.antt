@@ -3,18 +3,20 @@
 use mathlib.Core.Path.{_≡_, refl, sym, _∙_, ap, subst}
 use mathlib.Core.Bool.{Bool, true, false, _&&_, not, and-true, and-false, and-eq-true-iff, true≢false}
 use mathlib.Core.List.{List, [], _∷_, _++_, append-assoc}
-use mathlib.Core.Option.{Option, none, some, bind, bind-eq-some-iff}
+use mathlib.Core.Option.{Option, none, some, bind, Option·none-ne-some}
 use Prim.Native.Nat.{ℕ, zero, suc, _+_, _*_, _-_, _/_, _%_, _^_, _<_, _≤_}
 use native.Mathlib.Omega.{arith}
 use native.Mathlib.Numerals.{add-one}
 use native.Mathlib.Decide.{decLt}
-use native.Mathlib.Nat.{le-trans, zero-mul, mul-assoc, pow-succ', mod-lt, mod-eq-of-lt, mul-add-mod-self-right, div-add-mod', div-div-eq-div-mul, pow-suc, pow-zero, mod-one, mul-one, div-one, div-eq-of-lt, one-le-pow, pow-le-pow-right, le-div-iff-mul-le, div-lt-iff-lt-mul}
+use native.Mathlib.Nat.{le-trans, zero-mul, mul-assoc, pow-succ', mod-lt, mod-eq-of-lt, mul-add-mod-self-right, div-add-mod', div-div-eq-div-mul}
+use native.Mathlib.Nat.{pow-suc, mod-one, mul-one, div-one, one-le-pow, pow-le-pow-right, le-div-iff-mul-le, div-lt-iff-lt-mul, div-le-self}
 use lib.Dec.{leb, ltb, eqb, eqb·suc-zero}
 use lib.ListN.{length, length-append}
 use lib.IntN.{ℤ, pos, negsuc, natAbs}
-use borrow.Author.Tests.{le-leb, lt-leb, lt-ltb, le-ltb, ltb-true, ltb-false, leb-true, eq-eqb, ne-eqb, eqb-true, eqb-false, not-true}
+use borrow.Author.Tests.{le-leb, lt-ltb, le-ltb, ltb-true, ltb-false, leb-true, ne-eqb, eqb-true, eqb-false, not-true}
 use Rattle.protocol.specs.Basic.{least}
-use Rattle.protocol.specs.Text.{valueLimit, digitCount, lowDigits, decimal, numeral, keep, digit, digitRun, digitFirst, properDigits, readCount, plain, negative, readNumber}
+use Rattle.protocol.specs.Text.{valueLimit, digitCount, lowDigits, decimal, numeral, keep, digit, digitRun, digitFirst, properDigits, readCount}
+use Rattle.protocol.specs.Text.{plain, negative, readNumber}
 
 -- ---- Digits
 
@@ -57,6 +59,9 @@ mod-ten n P h =
 ten-pos : (k : ℕ) → 0 < 10 ^ k
 ten-pos k = one-le-pow k 10 (omega arith)
 
+ten-le : (i j : ℕ) → i ≤ j → 10 ^ i ≤ 10 ^ j
+ten-le i j h = pow-le-pow-right {n = 10} (omega arith) {i = i} {j = j} h
+
 -- the last k digits of n stand for n modulo 10^k
 pub digitRun-low : (k n m : ℕ) (rest : List ℕ) → digitRun m (lowDigits k n ++ rest) ≡ digitRun (m * 10 ^ k + n % 10 ^ k) rest
 unfolding lowDigits
@@ -75,7 +80,9 @@ unfolding lowDigits
 lowDigits-cons zero n = ap (λ (x : ℕ). (48 + x % 10) ∷ []) (sym (div-one n))
 lowDigits-cons (suc k) n =
     ap (λ (l : List ℕ). l ++ ((48 + n % 10) ∷ [])) (lowDigits-cons k (n / 10))
-    ∙ ap (λ (x : ℕ). (48 + x % 10) ∷ (lowDigits k (n / 10) ++ ((48 + n % 10) ∷ []))) (div-div-eq-div-mul n 10 (10 ^ k) ∙ ap (λ (x : ℕ). n / x) (sym (pow-succ' 10 k)))
+    ∙ ap
+    (λ (x : ℕ). (48 + x % 10) ∷ (lowDigits k (n / 10) ++ ((48 + n % 10) ∷ [])))
+    (div-div-eq-div-mul n 10 (10 ^ k) ∙ ap (λ (x : ℕ). n / x) (sym (pow-succ' 10 k)))
 
 -- ---- How many digits
 
@@ -103,6 +110,9 @@ first-suc m f j h r = record { inside = omega arith; here = λ l. r .here (omega
     go zero l = h
     go (suc i) l = r .before i (omega arith)
 
+first-pred : (m : ℕ) (f : ℕ → Bool) (j : ℕ) → First (suc m) f (suc j) → First m (λ i. f (suc i)) j
+first-pred m f j r = record { inside = omega arith; here = λ l. r .here (omega arith); before = λ i l. r .before (suc i) (omega arith) }
+
 least-first : (m : ℕ) (f : ℕ → Bool) → First m f (least m f)
 least-first zero f = unfold least in (record { inside = omega arith; here = λ l. absurd (omega arith); before = λ i l. absurd (omega arith) })
 least-first (suc m) f = go (f 0) refl (least-first m (λ i. f (suc i)))
@@ -116,7 +126,7 @@ least-is zero f j r = unfold least in (omega arith)
 least-is (suc m) f zero r = least-yes m f (r .here (omega arith))
 least-is (suc m) f (suc j) r =
     least-no m f (r .before 0 (omega arith))
-    ∙ ap suc (least-is m (λ i. f (suc i)) j (record { inside = omega arith; here = λ l. r .here (omega arith); before = λ i l. r .before (suc i) (omega arith) }))
+    ∙ ap suc (least-is m (λ i. f (suc i)) j (first-pred m f j r))
 
 -- a number of k digits: 10^(k−1) ≤ n < 10^k, and one digit for 0
 pub record Digits (n k : ℕ) : Type 0 where
@@ -189,7 +199,8 @@ pub proper-cons : (b : ℕ) (bs : List ℕ) → digit b ≡ true → eqb b 48 &&
 unfolding properDigits
 proper-cons b bs h e = rw (h, e)
 
-proper-decimal : (n j : ℕ) (rest : List ℕ) → digitCount n ≡ suc j → Digits n (suc j) → digitFirst rest ≡ false → properDigits (decimal n ++ rest) ≡ true
+proper-decimal : (n j : ℕ) (rest : List ℕ) → digitCount n ≡ suc j → Digits n (suc j) → digitFirst rest ≡ false
+    → properDigits (decimal n ++ rest) ≡ true
 proper-decimal n zero rest e r h =
     rw (decimal-cons n 0 e)
     (proper-cons _ _ (digit-of (n / 1 % 10) (mod-lt (n / 1) (omega arith))) (unfold lowDigits in (rw h (and-false (eqb (48 + n / 1 % 10) 48)))))
@@ -201,7 +212,9 @@ pub readCount-decimal : (n : ℕ) (rest : List ℕ) → n ≤ valueLimit → dig
 unfolding readCount keep
 readCount-decimal n rest h stop =
     let run : digitRun 0 (decimal n ++ rest) ≡ (n, rest) = digitRun-decimal n rest h ∙ digitRun-stop n rest stop in
-    rw (run, proper-decimal n (digitCount-suc n .0) rest (digitCount-suc n .1) (subst (Digits n) (digitCount-suc n .1) (digitCount-digits n (few-digits n h))) stop, le-leb n valueLimit h)
+    let (j, e) = digitCount-suc n in
+    let digits : Digits n (suc j) = subst (Digits n) e (digitCount-digits n (few-digits n h)) in
+    rw (run, proper-decimal n j rest e digits stop, le-leb n valueLimit h)
 
 pub digit-bounds : (b : ℕ) → digit b ≡ true → (48 ≤ b) × (b ≤ 57)
 unfolding digit
@@ -220,6 +233,14 @@ readNumber-numeral (pos n) rest h stop =
     ∙ readNumber-plain (48 + n / 10 ^ j % 10) (lowDigits j n ++ rest) (ne-eqb (48 + n / 10 ^ j % 10) 45 (λ x. omega arith))
     ∙ ap plain (ap readCount (sym c) ∙ readCount-decimal n rest h stop)
 readNumber-numeral (negsuc n) rest h stop = rw (readCount-decimal (suc n) rest h stop, eqb·suc-zero n)
+
+pub decimal-some : (n : ℕ) → 0 < length (decimal n)
+decimal-some n = omega (arith, decimal-length n, digitCount-suc n .1)
+
+pub numeral-some : (z : ℤ) → 0 < length (numeral z)
+unfolding numeral
+numeral-some (pos n) = decimal-some n
+numeral-some (negsuc n) = omega arith
 
 -- ---- A number that was read is written with the same bytes
 
@@ -250,14 +271,19 @@ pub digitRun-run : (m : ℕ) (bs : List ℕ) → Run m bs (digitRun m bs .0) (di
 digitRun-run m [] = unfold digitRun in (run-none m [] (unfold digitFirst in refl))
 digitRun-run m (b ∷ bs) = go (digit b) refl (digitRun-run (m * 10 + (b - 48)) bs)
   where
-    go : (t : Bool) → digit b ≡ t → Run (m * 10 + (b - 48)) bs (digitRun (m * 10 + (b - 48)) bs .0) (digitRun (m * 10 + (b - 48)) bs .1) → Run m (b ∷ bs) (digitRun m (b ∷ bs) .0) (digitRun m (b ∷ bs) .1)
+    go : (t : Bool) → digit b ≡ t → Run (m * 10 + (b - 48)) bs (digitRun (m * 10 + (b - 48)) bs .0) (digitRun (m * 10 + (b - 48)) bs .1)
+        → Run m (b ∷ bs) (digitRun m (b ∷ bs) .0) (digitRun m (b ∷ bs) .1)
     go true h r = rw (digitRun-on m b bs h) (run-cons m b bs _ _ h r)
     go false h r = rw (digitRun-stop m (b ∷ bs) (unfold digitFirst in h)) (run-none m (b ∷ bs) (unfold digitFirst in h))
+
+-- digits never make a number smaller
+pub digitRun-grows : (n : ℕ) (bs : List ℕ) → n ≤ digitRun n bs .0
+digitRun-grows n bs = let r = digitRun-run n bs in omega (arith, r .before, div-le-self (digitRun n bs .0) (10 ^ r .count))
 
 pub keep-some {ℓ} : {A : Type ℓ} (t : Bool) (a c : A) → keep t a ≡ some c → (t ≡ true) × (a ≡ c)
 unfolding keep
 keep-some true a c e = (refl, cc)
-keep-some false a c e = absurd (let z : _≡_ {A = ℕ} 0 1 = cc in omega arith)
+keep-some false a c e = absurd (Option·none-ne-some c e)
 
 pub proper-first : (bs : List ℕ) → properDigits bs ≡ true → digitFirst bs ≡ true
 unfolding properDigits digitFirst
@@ -281,18 +307,19 @@ lead n j rest p =
     omega (arith, le-div-iff-mul-le (ten-pos (suc j)) .0 one)
 
 -- digits with no leading zero are the digits of their number
-proper-digits : (n k : ℕ) (rest : List ℕ) → properDigits (lowDigits k n ++ rest) ≡ true → digitFirst rest ≡ false → n < 10 ^ k → n ≤ valueLimit → Digits n k
+proper-digits : (n k : ℕ) (rest : List ℕ) → properDigits (lowDigits k n ++ rest) ≡ true → digitFirst rest ≡ false → n < 10 ^ k
+    → n ≤ valueLimit → Digits n k
 proper-digits n zero rest p stop under limit =
     let q : digitFirst rest ≡ true = proper-first rest (unfold lowDigits in p) in
-    absurd (let z : _≡_ {A = Bool} true false = cc in true≢false z)
+    absurd (true≢false (sym q ∙ stop))
 proper-digits n (suc zero) rest p stop under limit = record { some-digit = omega arith; at-most = omega arith; under = under; over = λ i l. absurd (omega arith) }
 proper-digits n (suc (suc j)) rest p stop under limit =
     let l₀ : 10 ^ suc j ≤ n = lead n j rest p in
     record {
       some-digit = omega arith;
-      at-most = elim (decLt (suc j) 10) [ yes l ↦ l | no l ↦ absurd (omega (arith, few-digits n limit, pow-le-pow-right {n = 10} (omega arith) {i = 10} {j = suc j} (omega arith))) ];
+      at-most = elim (decLt (suc j) 10) [ yes l ↦ l | no l ↦ absurd (omega (arith, few-digits n limit, ten-le 10 (suc j) (omega arith))) ];
       under = under;
-      over = λ i l. le-trans (pow-le-pow-right {n = 10} (omega arith) {i = suc i} {j = suc j} (omega arith)) l₀;
+      over = λ i l. le-trans (ten-le (suc i) (suc j) (omega arith)) l₀;
     }
 
 pub record Counted (bs : List ℕ) (n : ℕ) (rest : List ℕ) : Type 0 where
@@ -324,12 +351,12 @@ counted-numbered : (bs : List ℕ) (n : ℕ) (rest : List ℕ) → Counted bs n 
 unfolding numeral
 counted-numbered bs n rest c = record { limit = c .limit; split = c .split; stop = c .stop }
 
-plain-numbered : (bs : List ℕ) (z : ℤ) (rest : List ℕ) → plain (readCount bs) ≡ some (z, rest) → Numbered bs z rest
+pub plain-numbered : (bs : List ℕ) (z : ℤ) (rest : List ℕ) → plain (readCount bs) ≡ some (z, rest) → Numbered bs z rest
 unfolding plain bind
 plain-numbered bs z rest = go (readCount bs) refl
   where
     go : (o : Option (ℕ × List ℕ)) → readCount bs ≡ o → plain o ≡ some (z, rest) → Numbered bs z rest
-    go none c e = absurd (let x : _≡_ {A = Bool} true false = cc in true≢false x)
+    go none c e = absurd (Option·none-ne-some (z, rest) e)
     go (some (n, more)) c e =
         let same : _≡_ {A = ℤ × List ℕ} (pos n, more) (z, rest) = cc in
         subst (λ (p : ℤ × List ℕ). Numbered bs (p .0) (p .1)) same (counted-numbered bs n more (readCount-text bs n more c))
@@ -339,7 +366,7 @@ unfolding negative bind numeral
 negative-numbered bs z rest = go (readCount bs) refl
   where
     go : (o : Option (ℕ × List ℕ)) → readCount bs ≡ o → negative o ≡ some (z, rest) → Numbered (45 ∷ bs) z rest
-    go none c e = absurd (let x : _≡_ {A = Bool} true false = cc in true≢false x)
+    go none c e = absurd (Option·none-ne-some (z, rest) e)
     go (some (zero, more)) c e = absurd (true≢false (sym (keep-some false (pos 0, more) (z, rest) e .0)))
     go (some (suc n, more)) c e =
         let r = readCount-text bs (suc n) more c in
@@ -351,7 +378,7 @@ negative-numbered bs z rest = go (readCount bs) refl
 
 pub readNumber-text : (bs : List ℕ) (z : ℤ) (rest : List ℕ) → readNumber bs ≡ some (z, rest) → Numbered bs z rest
 unfolding readNumber
-readNumber-text [] z rest e = absurd (let x : _≡_ {A = Bool} true false = cc in true≢false x)
+readNumber-text [] z rest e = absurd (Option·none-ne-some (z, rest) e)
 readNumber-text (b ∷ bs) z rest e = go (eqb b 45) refl e
   where
     go : (t : Bool) → eqb b 45 ≡ t → readNumber (b ∷ bs) ≡ some (z, rest) → Numbered (b ∷ bs) z rest

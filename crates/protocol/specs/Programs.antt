@@ -24,7 +24,8 @@ use Rattle.protocol.specs.declared.Verdict.the-variants.{Silent, Accepte
 use Rattle.protocol.specs.declared.Verified.the-variants.{Accepted, Rejected, Refused}
 use Rattle.protocol.specs.Basic.{choose, first, granted}
 use Rattle.protocol.specs.Transcript.{Transcript, accepted, transcriptOf}
-use Rattle.protocol.specs.Text.{Tables, lineFeed, textLimit, bytes, decimal, textOf, linesOf, settingsIn, tablesIn, textRefusal, outputRefusal, written, overwritten}
+use Rattle.protocol.specs.Text.{Tables, lineFeed, textLimit, bytes, decimal, textOf, linesOf, settingsIn, tablesIn, textRefusal, outputRefusal}
+use Rattle.protocol.specs.Text.{written, overwritten}
 
 -- "The program `prove` reads parts 0, 1, 2, 5 from standard input and prints 0, 3, 4, 5, 6."
 unfoldable pub proveReads : Parts

@@ -1,4 +1,5 @@
 -- Document 01, "Text tables": numbers, lines and tables as bytes, written and read. A text is the list of its bytes.
+-- Reader and writer go by one description of the parts, `shapes`. A reader gives what it read with the bytes behind it, or nothing.
 --
 -- Written
 --   textLimit, valueLimit         the longest text, and the largest magnitude of a number in it
@@ -28,6 +29,7 @@
 --   plain r, negative r           what was read, with no sign before it, and with a minus before it
 --   readNumber bs                 the number that stands here, with the bytes behind it
 --   byte c bs                     the bytes behind a byte c
+--   readIndex bs                  a number from 0 on and a space, with the bytes behind it
 --   readLine, readLines           a line with the bytes behind it; all lines up to the end
 --   begins cs bs                  do the bytes bs begin with the bytes cs
 --   beginsWithNames text          does a text begin with the names line
@@ -90,12 +92,14 @@ minus = 45
 abbrev pub zeroDigit : ℕ
 zeroDigit = 48
 
+-- every quoted text here is ASCII, so that a character's code is its byte
 unfoldable pub bytes : String → List ℕ
 bytes end = []
 bytes (c then s) = code c ∷ bytes s
 
 -- ---- Written
 
+-- "First the names line"
 unfoldable pub names : List ℕ
 names = bytes "part item place value\n"
 
@@ -111,6 +115,7 @@ lowDigits (suc k) n = lowDigits k (n / 10) ++ ((zeroDigit + n % 10) ∷ [])
 unfoldable pub decimal : ℕ → List ℕ
 decimal n = lowDigits (digitCount n) n
 
+-- "only a value may be negative"
 unfoldable pub numeral : ℤ → List ℕ
 numeral (pos n) = decimal n
 numeral (negsuc n) = minus ∷ decimal (suc n)
@@ -133,6 +138,7 @@ lineText l =
 unfoldable pub linesText : List Line → List ℕ
 linesText ls = flatMap lineText ls
 
+-- "Final coefficients are signed 32-bit.", as message coefficients are
 pub record Tables : Type 0 where
   pub key : List ℕ
   pub message : List ℤ
@@ -146,7 +152,7 @@ pub record Shape : Type 0 where
   pub items : ℕ
   pub places : ℕ
 
--- a part that is not there has no items
+-- "told for each of parts 1 to 6 whether it is there": a part that is not there has no items
 unfoldable pub shape : ℕ → Bool → ℕ → ℕ → Shape
 shape part there items places = record { part = part; items = choose there items 0; places = places }
 
@@ -170,6 +176,7 @@ shapes S P =
 unfoldable pub shapeSize : Shape → ℕ
 shapeSize b = b .items * b .places
 
+-- places go round first, then items
 unfoldable pub spotAt : Shape → ℕ → Spot
 spotAt b p = record { part = b .part; item = p / b .places; place = p % b .places }
 
@@ -252,6 +259,7 @@ negative r = do
   (n, rest) ← r
   keep (not (eqb n 0)) (negℤ (pos n), rest)
 
+-- "only a value may be negative"
 unfoldable pub readNumber : List ℕ → Option (ℤ × List ℕ)
 readNumber [] = none
 readNumber (b ∷ bs) = elim (eqb b minus) [ true ↦ negative (readCount bs) | false ↦ plain (readCount (b ∷ bs)) ]
@@ -260,17 +268,21 @@ unfoldable pub byte : ℕ → List ℕ → Option (List ℕ)
 byte c [] = none
 byte c (b ∷ bs) = keep (eqb b c) bs
 
--- "single spaces, a line feed after every line"; "only a value may be negative"
+-- "single spaces"
+unfoldable pub readIndex : List ℕ → Option (ℕ × List ℕ)
+readIndex bs = do
+  (n, behind) ← readCount bs
+  rest ← byte space behind
+  some (n, rest)
+
+-- "a line feed after every line"
 unfoldable pub readLine : List ℕ → Option (Line × List ℕ)
 readLine bs = do
-  (part, behindPart) ← readCount bs
-  itemOn ← byte space behindPart
-  (item, behindItem) ← readCount itemOn
-  placeOn ← byte space behindItem
-  (place, behindPlace) ← readCount placeOn
-  valueOn ← byte space behindPlace
-  (value, behindValue) ← readNumber valueOn
-  rest ← byte lineFeed behindValue
+  (part, itemOn) ← readIndex bs
+  (item, placeOn) ← readIndex itemOn
+  (place, valueOn) ← readIndex placeOn
+  (value, behind) ← readNumber valueOn
+  rest ← byte lineFeed behind
   some (record { spot = record { part = part; item = item; place = place }; value = value }, rest)
 
 -- a line has at least one byte, so more turns than there are bytes reach the end
@@ -287,7 +299,7 @@ begins [] text = true
 begins (c ∷ cs) [] = false
 begins (c ∷ cs) (b ∷ bs) = eqb b c && begins cs bs
 
--- yes exactly when the text begins with the 21 bytes of names and a line feed
+-- for every text, also one that ends inside the line: does it begin with the 21 bytes of names and a line feed
 unfoldable pub beginsWithNames : List ℕ → Bool
 beginsWithNames text = begins names text
 
@@ -317,7 +329,8 @@ valuesOf ls = map (λ (l : Line). l .value) ls
 unfoldable pub wellFormed : List ℕ → Bool
 wellFormed text = sameSpots (take (shapeSize settingsShape) (spotsOf (linesOf text))) (spots settingsShape)
 
--- "In text, settings below zero count as out of range."; so do residues and exponents
+-- "In text, settings below zero count as out of range.": they count as one past the limit of magnitude, which no setting,
+-- residue or exponent reaches
 unfoldable pub unsigned : ℤ → ℕ
 unsigned (pos n) = n
 unsigned (negsuc n) = suc valueLimit
@@ -348,9 +361,11 @@ tablesIn ls = record {
 
 -- ---- The calls
 
+-- "every other part of the answer 0"
 unfoldable pub noSettings : Settings
 noSettings = record { degree = 0; depth = 0; modulus = 0; bound = 0 }
 
+-- refusals 1 and 2 over the whole text, then 3 to 6
 unfoldable pub lookRefusal : List ℕ → ℕ
 lookRefusal text =
     first
@@ -366,7 +381,8 @@ loaded refusal text = record { number = refusal; settings = granted refusal (set
 unfoldable pub lookAnswer : List ℕ → Loaded
 lookAnswer text = loaded (lookRefusal text) text
 
--- refusals 8, 9 and 10; `lastFits` is what 9 asks of the final element
+-- "8: a key, commitment, round .. coefficient not 0 to q−1", "9: a message coefficient beyond its bound", "10: an exponent
+-- outside 0 to 2d−1"; `lastFits` is what 9 asks of the final element: nothing in the reader
 unfoldable pub entriesRefusal : Settings → Bool → Tables → ℕ
 entriesRefusal S lastFits t =
     first
@@ -375,7 +391,8 @@ entriesRefusal S lastFits t =
     ∷ unless 10 (exponents S (t .challenges))
     ∷ [])
 
--- refusals 1 to 10 of a text that must hold the parts P; `lent` says whether the lent tables have their lengths
+-- "7: a lent table not exactly its length, value lines not the required ones in order"; `lent` says whether the lent tables
+-- have their lengths
 unfoldable pub textRefusal : Parts → Bool → List ℕ → ℕ
 textRefusal P lent text =
     first
@@ -390,6 +407,7 @@ readRefusal P text t = textRefusal P (fits (settingsIn (linesOf text)) P t) text
 unfoldable pub readAnswer : Parts → List ℕ → Tables → Loaded
 readAnswer P text t = loaded (readRefusal P text t) text
 
+-- a refused reader leaves the lent tables as they were
 unfoldable pub readExit : Parts → List ℕ → Tables → Tables
 readExit P text t = granted (readRefusal P text t) (tablesIn (linesOf text)) t
 
