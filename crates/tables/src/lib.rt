@@ -1,0 +1,5 @@
+// Text tables: numbers, lines and tables as bytes, read and written. What each function gives is said by the definitions of
+// `protocol`'s specs/Text.antt; those of this crate's specs/ put them into the shape in which the code goes.
+mod names;
+
+pub use names::begins_with_names;
