@@ -21,9 +21,10 @@ use lib.Seq.{drop-drop}
 use lib.IntN.{ℤ, pos, negsuc, negℤ}
 use Rattle.protocol.specs.declared.Number.{Number}
 use Rattle.protocol.specs.declared.Number.the-variants.{Value, Refused}
-use Rattle.protocol.specs.Text.{valueLimit, minus, keep, digit, digitRun, properDigits, readCount, plain, negative, readNumber, numberAnswer, readNumberAt, readCountAt}
+use Rattle.protocol.specs.Text.{valueLimit, minus, keep, digit, digitFirst, digitRun, properDigits, readCount, plain, negative, readNumber, numberAnswer, readNumberAt, readCountAt}
 use Rattle.protocol.proofs.Tests.{and-split, and-intro}
 use Rattle.tables.proofs.From.{from-cons}
+use Rattle.tables.proofs.Runs.{run-step}
 
 -- ---- suffixes
 
@@ -38,6 +39,9 @@ suffix-more b s = (suc (s .0), s .1)
 
 pub suffix-of : {a b c : List ℕ} → Suffix a b → Suffix b c → Suffix a c
 suffix-of {a} {b} {c} s t = (t .0 + s .0, s .1 ∙ ap (drop (s .0)) (t .1) ∙ drop-drop (s .0) (t .0) c)
+
+pub suffix-length : {rest bs : List ℕ} → Suffix rest bs → length rest ≤ length bs
+suffix-length {rest} {bs} s = omega (arith, ap length (s .1), length-drop (s .0) bs)
 
 -- a suffix begins where as many bytes are left as it has
 module _ (text rest : List ℕ) (n : ℕ) (e : rest ≡ drop n text) where
@@ -94,6 +98,13 @@ unfolding digitRun
 run-suffix n [] = suffix-self []
 run-suffix n (b ∷ bs) = run-either n b bs (run-suffix (n * 10 + (b - 48)) bs) (digit b)
 
+run-shorter : (bs : List ℕ) → properDigits bs ≡ true → length (digitRun 0 bs .1) + 1 ≤ length bs
+unfolding properDigits
+run-shorter [] t = absurd (false≢true t)
+run-shorter (b ∷ bs) t =
+    let one : digitRun 0 (b ∷ bs) ≡ digitRun (0 * 10 + (b - 48)) bs = run-step 0 b bs (and-split {a = digit b} {b = not (eqb b 48 && digitFirst bs)} t .0) in
+    omega (arith, ap (λ r. length (r .1)) one, suffix-length (run-suffix (0 * 10 + (b - 48)) bs))
+
 -- ---- numbers without a sign
 
 module _ (bs : List ℕ) where
@@ -119,6 +130,9 @@ module _ (bs : List ℕ) where
 
     pub count-suffix : Suffix rest bs
     count-suffix = subst (λ r. Suffix (r .1) bs) (whole .1) (run-suffix 0 bs)
+
+    pub count-shorter : length rest + 1 ≤ length bs
+    count-shorter = subst (λ r. length (r .1) + 1 ≤ length bs) (whole .1) (run-shorter bs (and-split {a = properDigits bs} {b = leb (digitRun 0 bs .0) valueLimit} (whole .0) .0))
 
 -- ---- answers
 
@@ -210,15 +224,24 @@ negative-value (some (n, behind)) v rest e =
     let same : _≡_ {A = ℤ × List ℕ} (negℤ (pos n), behind) (v, rest) = keep-some (not (eqb n 0)) _ _ e .1 in
     (n, (λ j. some (n, same j .1)))
 
-either-suffix : (b : ℕ) (bs : List ℕ) (v : ℤ) (rest : List ℕ) (m : Bool)
-    → bySign b bs m ≡ some (v, rest) → Suffix rest (b ∷ bs)
-either-suffix b bs v rest true e = let (n, q) = negative-value (readCount bs) v rest e in suffix-more b (count-suffix bs n rest q)
-either-suffix b bs v rest false e = let (n, w, q) = plain-value (readCount (b ∷ bs)) v rest e in count-suffix (b ∷ bs) n rest q
+either-suffix : (b : ℕ) (bs : List ℕ) (v : ℤ) (rest : List ℕ) (m : Bool) → bySign b bs m ≡ some (v, rest) → Suffix rest (b ∷ bs) × (length rest + 1 ≤ length (b ∷ bs))
+either-suffix b bs v rest true e =
+    let (n, q) = negative-value (readCount bs) v rest e in
+    (suffix-more b (count-suffix bs n rest q), omega (arith, count-shorter bs n rest q))
+either-suffix b bs v rest false e =
+    let (n, w, q) = plain-value (readCount (b ∷ bs)) v rest e in
+    (count-suffix (b ∷ bs) n rest q, count-shorter (b ∷ bs) n rest q)
+
+number-ends : (bs : List ℕ) (v : ℤ) (rest : List ℕ) → readNumber bs ≡ some (v, rest) → Suffix rest bs × (length rest + 1 ≤ length bs)
+unfolding readNumber
+number-ends [] v rest e = let z : _≡_ {A = ℕ} 0 1 = cc in absurd (omega arith)
+number-ends (b ∷ bs) v rest e = either-suffix b bs v rest (eqb b minus) e
 
 pub number-suffix : (bs : List ℕ) (v : ℤ) (rest : List ℕ) → readNumber bs ≡ some (v, rest) → Suffix rest bs
-unfolding readNumber
-number-suffix [] v rest e = let z : _≡_ {A = ℕ} 0 1 = cc in absurd (omega arith)
-number-suffix (b ∷ bs) v rest e = either-suffix b bs v rest (eqb b minus) e
+number-suffix bs v rest e = number-ends bs v rest e .0
+
+pub number-shorter : (bs : List ℕ) (v : ℤ) (rest : List ℕ) → readNumber bs ≡ some (v, rest) → length rest + 1 ≤ length bs
+number-shorter bs v rest e = number-ends bs v rest e .1
 
 module _ (text : List ℕ) (at : ℕ) where
   pub numbered : (v : ℤ) (next : ℕ) → readNumberAt text at ≡ Value v next → Found readNumber text at v next

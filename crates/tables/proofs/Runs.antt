@@ -94,7 +94,7 @@ kept r = (min (r .0) most, r .1)
 abbrev onward : ℕ → ℕ → List ℕ → Bool → ℕ × List ℕ
 onward n b bs d = elim d as (λ _. ℕ × List ℕ) [ true ↦ digitRun (n * 10 + (b - 48)) bs | false ↦ (n, b ∷ bs) ]
 
-run-step : (n b : ℕ) (bs : List ℕ) → digit b ≡ true → digitRun n (b ∷ bs) ≡ digitRun (n * 10 + (b - 48)) bs
+pub run-step : (n b : ℕ) (bs : List ℕ) → digit b ≡ true → digitRun n (b ∷ bs) ≡ digitRun (n * 10 + (b - 48)) bs
 unfolding digitRun
 run-step n b bs t = ap (onward n b bs) t
 
