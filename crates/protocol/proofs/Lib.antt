@@ -9,3 +9,4 @@ pub mod Known
 pub mod Traps
 pub mod ComputeText
 pub mod KnownTexts
+pub mod Modulo

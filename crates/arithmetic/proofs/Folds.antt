@@ -1,0 +1,93 @@
+-- One turn of a fold: what is read has not been written yet.
+use mathlib.Core.Path.{_≡_, refl, sym, ap, _∙_}
+use mathlib.Core.List.{List, _++_}
+use Prim.Native.Nat.{ℕ, suc, _+_, _*_, _-_, _/_, _%_, _<_, _≤_}
+use native.Mathlib.Nat as Nat
+use native.Mathlib.Omega.{arith}
+use lib.IntN.{ℤ, pos, _+ℤ_}
+use lib.ListN.{length, getD, take, drop, set, length-drop}
+use lib.Seq.{getD-drop, take-all}
+use Rattle.protocol.specs.Basic.{tabulate, flat}
+use Rattle.protocol.specs.Element.{Element, modulo, around, rotate, residue, residueAt}
+use Rattle.protocol.specs.Opening.{foldResidues}
+use Rattle.protocol.proofs.Reading.{cell-element, cell-place}
+use Rattle.arithmetic.specs.Folds.{spliced, foldCell, folded, foldDown}
+use Rattle.arithmetic.proofs.Around.{around-ext, rotate-back}
+use Rattle.arithmetic.proofs.Splice.{spliced-none, spliced-more, spliced-behind, spliced-twice}
+
+-- the tail of a list as the code lends it
+pub tail-all {ℓ} : {A : Type ℓ} (s : ℕ) (l : List A) → take (length l - s) (drop s l) ≡ drop s l
+tail-all s l = take-all (length l - s) (drop s l) (omega (arith, length-drop s l))
+
+module _ (q d back to first second : ℕ) (t₀ : List ℕ) where
+  abbrev cell : ℕ → ℕ
+  cell = foldCell q d back (drop first t₀) (drop second t₀)
+
+  module _ (t : List ℕ) (k : ℕ) (e : t ≡ spliced cell to k t₀) (a : to ≤ first) (b : to + d ≤ second) (c : second + d ≤ length t₀) (l : k < d) where
+    as-was : (j : ℕ) → to + k ≤ j → getD t j 0 ≡ getD t₀ j 0
+    as-was j h = ap (λ x. getD x j 0) e ∙ spliced-behind cell to k t₀ (omega arith) j h
+
+    part-at : (j : ℕ) → getD (take (length t - second) (drop second t)) j 0 ≡ getD (drop second t₀) j 0
+    part-at j = ap (λ x. getD x j 0) (tail-all second t) ∙ getD-drop second t j 0 ∙ as-was (second + j) (omega arith) ∙ sym (getD-drop second t₀ j 0)
+
+    pub cell-is : modulo q (pos (getD t (first + k) 0) +ℤ around d (residue (take (length t - second) (drop second t))) (k + back)) ≡ cell k
+    unfolding foldCell residue
+    cell-is =
+        (λ i. modulo q (pos ((as-was (first + k) (omega arith) ∙ sym (getD-drop first t₀ k 0)) i) +ℤ around d (residue (take (length t - second) (drop second t))) (k + back)))
+        ∙ ap (λ z. modulo q (pos (getD (drop first t₀) k 0) +ℤ z)) (around-ext d (k + back) (omega arith) (λ j _. ap pos (part-at j)))
+
+    pub turn-is : set t (to + k) (cell k) ≡ spliced cell to (k + 1) t₀
+    turn-is = ap (λ x. set x (to + k) (cell k)) e ∙ spliced-more cell to k t₀ (omega arith) (omega arith)
+
+-- ---- the fold of a table, element by element
+
+-- element j ends inside its half
+pub row-inside : (d h j : ℕ) → j < h → j * d + d ≤ h * d
+row-inside d h j l = omega (arith, Nat.mul-le-mul-right d l, Nat.suc-mul j d)
+
+-- number p of the folded elements
+abbrev pub foldedFlat : ℕ → ℕ → ℕ → ℕ → ℕ → List ℕ → ℕ → ℕ
+foldedFlat q d h e from t p = folded q d h e (drop from t) (p / d) (p % d)
+
+module _ (q d h e from to : ℕ) (t₀ : List ℕ) (pd : 0 < d) where
+  abbrev G : ℕ → ℕ
+  G = foldedFlat q d h e from t₀
+
+  pub rows-none : t₀ ≡ spliced G to (0 * d) t₀
+  rows-none = spliced-none G to t₀ ∙ ap (λ n. spliced G to n t₀) (sym (Nat.zero-mul d))
+
+  pub rows-done : spliced G to (h * d) t₀ ≡ foldDown q d h e from to t₀
+  unfolding spliced foldDown flat
+  rows-done = refl
+
+  module _ (t : List ℕ) (j : ℕ) (eq : t ≡ spliced G to (j * d) t₀) (a : to ≤ from) (b : from + 2 * (h * d) ≤ length t₀) (l : j < h) where
+    later : (x : ℕ) → to + j * d ≤ x → getD t x 0 ≡ getD t₀ x 0
+    later x m = ap (λ s. getD s x 0) eq ∙ spliced-behind G to (j * d) t₀ (omega arith) x m
+
+    first-at : (k : ℕ) → pos (getD (drop (from + j * d) t) k 0) ≡ residueAt d (drop from t₀) j k
+    unfolding residueAt
+    first-at k = ap pos (getD-drop (from + j * d) t k 0 ∙ later (from + j * d + k) (omega arith) ∙ ap (λ x. getD t₀ x 0) (Nat.add-assoc from (j * d) k) ∙ sym (getD-drop from t₀ (j * d + k) 0))
+
+    second-at : (k : ℕ) → residue (drop (from + h * d + j * d) t) k ≡ residueAt d (drop from t₀) (h + j) k
+    unfolding residue residueAt
+    second-at k =
+        ap pos (getD-drop (from + h * d + j * d) t k 0 ∙ later (from + h * d + j * d + k) (omega arith) ∙ ap (λ x. getD t₀ x 0) place ∙ sym (getD-drop from t₀ ((h + j) * d + k) 0))
+      where
+        place : from + h * d + j * d + k ≡ from + ((h + j) * d + k)
+        place = omega (arith, Nat.add-mul h j d)
+
+    row-is : (k : ℕ) → k < d → foldCell q d (d + d - e % (d + d)) (drop (from + j * d) t) (drop (from + h * d + j * d) t) k ≡ G (j * d + k)
+    unfolding foldCell folded
+    row-is k m =
+        (λ i. modulo q (first-at k i +ℤ (around-ext d (k + (d + d - e % (d + d))) pd (λ x _. second-at x) ∙ rotate-back d e (residueAt d (drop from t₀) (h + j)) k) i))
+        ∙ sym (λ i. folded q d h e (drop from t₀) (cell-element d j k m i) (cell-place d j k m i))
+
+    pub row-turn : spliced (foldCell q d (d + d - e % (d + d)) (drop (from + j * d) t) (drop (from + h * d + j * d) t)) (to + j * d) d t ≡ spliced G to ((j + 1) * d) t₀
+    row-turn =
+        ap (λ s. spliced (foldCell q d (d + d - e % (d + d)) (drop (from + j * d) t) (drop (from + h * d + j * d) t)) (to + j * d) d s) eq
+        ∙ spliced-twice G (foldCell q d (d + d - e % (d + d)) (drop (from + j * d) t) (drop (from + h * d + j * d) t)) to (j * d) d t₀ (omega (arith, row-inside d h j l)) row-is
+        ∙ ap (λ n. spliced G to n t₀) (omega (arith, Nat.suc-mul j d, Nat.add-mul j 1 d, Nat.one-mul d))
+
+pub fold-in-place : (q d h e : ℕ) (t : List ℕ) → foldDown q d h e 0 0 t ≡ foldResidues q d h e t
+unfolding foldDown folded foldResidues
+fold-in-place q d h e t = refl

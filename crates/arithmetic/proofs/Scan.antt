@@ -1,0 +1,48 @@
+-- Loops that test one entry after the other and stop at the first that fails.
+use mathlib.Core.Path.{_≡_, refl, sym, ap, _∙_}
+use mathlib.Core.Bool.{Bool, true, false, _&&_, false≢true}
+use mathlib.Core.List.{List, []}
+use Prim.Native.Nat.{ℕ, suc, _+_, _<_, _≤_}
+use native.Mathlib.Numerals.{add-one}
+use native.Mathlib.Omega.{arith}
+use lib.ListN.{length, getD, drop, drop-of-length-le}
+use lib.Seq.{drop-cons}
+use Rattle.protocol.specs.Basic.{every, all}
+use Rattle.protocol.proofs.Tests.{and-intro, every-at}
+
+-- ---- over a table: what is left decides
+
+module _ {ℓ} {A : Type ℓ} (f : A → Bool) (t : List A) (z : A) (i : ℕ) (e : all f t ≡ all f (drop i t)) where
+  at : i < length t → all f t ≡ (f (getD t i z) && all f (drop (suc i) t))
+  unfolding all
+  at h = e ∙ ap (all f) (drop-cons t i z h)
+
+  pub all-goes-on : i < length t → f (getD t i z) ≡ true → all f t ≡ all f (drop (i + 1) t)
+  all-goes-on h p = at h ∙ ap (λ b. b && all f (drop (suc i) t)) p ∙ ap (λ n. all f (drop n t)) (sym (add-one i))
+
+  pub all-fails : i < length t → f (getD t i z) ≡ false → false ≡ all f t
+  all-fails h p = sym (at h ∙ ap (λ b. b && all f (drop (suc i) t)) p)
+
+  pub all-ends : length t ≤ i → true ≡ all f t
+  unfolding all
+  all-ends h = sym (e ∙ ap (all f) (drop-of-length-le t h))
+
+-- ---- over the places below n: those that are passed hold
+
+pub every-none : (f : ℕ → Bool) → every 0 f ≡ true
+unfolding every
+every-none f = refl
+
+pub every-goes-on : (f : ℕ → Bool) (k : ℕ) → every k f ≡ true → f k ≡ true → every (k + 1) f ≡ true
+unfolding every
+every-goes-on f k e p = ap (λ n. every n f) (add-one k) ∙ and-intro {a = every k f} {b = f k} e p
+
+pub every-fails : (f : ℕ → Bool) (n k : ℕ) → k < n → f k ≡ false → false ≡ every n f
+every-fails f n k h p = go (every n f) refl
+  where
+    go : (b : Bool) → every n f ≡ b → false ≡ b
+    go true e = sym p ∙ every-at n f e k h
+    go false e = refl
+
+pub every-ends : (f : ℕ → Bool) (n k : ℕ) → every k f ≡ true → k ≡ n → true ≡ every n f
+every-ends f n k e p = sym e ∙ ap (λ m. every m f) p

@@ -1,0 +1,93 @@
+-- A part of a list that is overwritten from its front on.
+use mathlib.Core.Path.{_≡_, refl, sym, ap, _∙_}
+use mathlib.Core.List.{List, [], _∷_, _++_}
+use Prim.Native.Nat.{ℕ, zero, suc, _+_, _-_, _<_, _≤_}
+use native.Mathlib.Nat as Nat
+use native.Mathlib.Decide.{decLt}
+use native.Mathlib.Omega.{arith}
+use lib.ListN.{length, getD, take, drop, set, length-append, length-drop, take-append-drop, List·getD-append}
+use lib.Seq.{length-take-le, getD-append-add, getD-drop, getD-take, ext-getD}
+use Rattle.protocol.specs.Basic.{tabulate}
+use Rattle.protocol.proofs.Reading.{tabulate-at, tabulate-length}
+use Rattle.arithmetic.specs.Folds.{spliced}
+use Rattle.arithmetic.proofs.Fill.{filled, filled-none, filled-more, filled-behind, filled-length}
+
+set-behind {ℓ} : {A : Type ℓ} (xs ys : List A) (n : ℕ) (a : A) → set (xs ++ ys) (length xs + n) a ≡ xs ++ set ys n a
+set-behind [] ys n a = ap (λ m. set ys m a) (Nat.zero-add n)
+set-behind (x ∷ xs) ys n a = ap (λ m. set (x ∷ xs ++ ys) m a) (Nat.suc-add (length xs) n) ∙ ap (λ l. x ∷ l) (set-behind xs ys n a)
+
+pub spliced-none : (f : ℕ → ℕ) (at : ℕ) (l : List ℕ) → l ≡ spliced f at 0 l
+unfolding spliced tabulate
+spliced-none f at l = sym (take-append-drop at l)
+
+module _ (f : ℕ → ℕ) (at n : ℕ) (l : List ℕ) (inside : at ≤ length l) where
+  front : length (take at l) ≡ at
+  front = length-take-le at l inside
+
+  pub spliced-more : at + n < length l → set (spliced f at n l) (at + n) (f n) ≡ spliced f at (n + 1) l
+  unfolding spliced filled
+  spliced-more h =
+      ap (λ m. set (take at l ++ filled f n (drop at l)) (m + n) (f n)) (sym front)
+      ∙ set-behind (take at l) (filled f n (drop at l)) n (f n)
+      ∙ ap (λ s. take at l ++ s) (filled-more f n (drop at l) (omega (arith, length-drop at l)))
+
+  pub spliced-length : at + n ≤ length l → length (spliced f at n l) ≡ length l
+  unfolding spliced filled
+  spliced-length h =
+      length-append (take at l) (filled f n (drop at l))
+      ∙ omega (arith, front, filled-length f n (drop at l) (omega (arith, length-drop at l)), length-drop at l)
+
+  pub spliced-before : (j : ℕ) → j < at → getD (spliced f at n l) j 0 ≡ getD l j 0
+  unfolding spliced
+  spliced-before j h = List·getD-append (take at l) _ 0 j (omega (arith, front)) ∙ getD-take at l j 0 h
+
+  -- entry number m of what stands from place `at` on
+  behind : (m : ℕ) → getD (spliced f at n l) (at + m) 0 ≡ getD (filled f n (drop at l)) m 0
+  unfolding spliced filled
+  behind m = ap (λ x. getD (take at l ++ filled f n (drop at l)) (x + m) 0) (sym front) ∙ getD-append-add (take at l) (filled f n (drop at l)) m 0
+
+  pub spliced-inside : (m : ℕ) → m < n → getD (spliced f at n l) (at + m) 0 ≡ f m
+  unfolding filled
+  spliced-inside m h = behind m ∙ List·getD-append (tabulate n f) _ 0 m (omega (arith, tabulate-length n f)) ∙ tabulate-at n f 0 m h
+
+  pub spliced-behind : (j : ℕ) → at + n ≤ j → getD (spliced f at n l) j 0 ≡ getD l j 0
+  spliced-behind j h =
+      ap (λ x. getD (spliced f at n l) x 0) {y = at + (j - at)} (omega arith)
+      ∙ behind (j - at)
+      ∙ filled-behind f n (drop at l) 0 (j - at) (omega arith)
+      ∙ getD-drop at l (j - at) 0
+      ∙ ap (λ x. getD l x 0) (omega arith)
+
+-- two splices in a row, the second where the first ends
+module _ (f g : ℕ → ℕ) (at n m : ℕ) (l : List ℕ) (h : at + n + m ≤ length l) (e : (k : ℕ) → k < m → g k ≡ f (n + k)) where
+  S : List ℕ
+  S = spliced f at n l
+
+  S-length : length S ≡ length l
+  unfolding S
+  S-length = spliced-length f at n l (omega arith) (omega arith)
+
+  same-length : length (spliced g (at + n) m S) ≡ length (spliced f at (n + m) l)
+  same-length =
+      spliced-length g (at + n) m S (omega (arith, S-length)) (omega (arith, S-length)) ∙ S-length ∙ sym (spliced-length f at (n + m) l (omega arith) (omega arith))
+
+  entry : (j : ℕ) → getD (spliced g (at + n) m S) j 0 ≡ getD (spliced f at (n + m) l) j 0
+  entry j = elim (decLt j (at + n + m)) [
+    | no past ↦ spliced-behind g (at + n) m S (omega (arith, S-length)) j (omega arith) ∙ unfold S in spliced-behind f at n l (omega arith) j (omega arith) ∙ sym (spliced-behind f at (n + m) l (omega arith) j (omega arith))
+    | yes below ↦ elim (decLt j (at + n)) [
+      | no second ↦
+          ap (λ x. getD (spliced g (at + n) m S) x 0) {y = at + n + (j - (at + n))} (omega arith)
+          ∙ spliced-inside g (at + n) m S (omega (arith, S-length)) (j - (at + n)) (omega arith)
+          ∙ e (j - (at + n)) (omega arith)
+          ∙ sym (ap (λ x. getD (spliced f at (n + m) l) x 0) {y = at + (n + (j - (at + n)))} (omega arith) ∙ spliced-inside f at (n + m) l (omega arith) (n + (j - (at + n))) (omega arith))
+      | yes first ↦ spliced-before g (at + n) m S (omega (arith, S-length)) j first ∙ elim (decLt j at) [
+        | yes before ↦ unfold S in spliced-before f at n l (omega arith) j before ∙ sym (spliced-before f at (n + m) l (omega arith) j before)
+        | no after ↦
+            unfold S in (ap (λ x. getD (spliced f at n l) x 0) {y = at + (j - at)} (omega arith) ∙ spliced-inside f at n l (omega arith) (j - at) (omega arith))
+            ∙ sym (ap (λ x. getD (spliced f at (n + m) l) x 0) {y = at + (j - at)} (omega arith) ∙ spliced-inside f at (n + m) l (omega arith) (j - at) (omega arith))
+      ]
+    ]
+  ]
+
+  pub spliced-twice : spliced g (at + n) m (spliced f at n l) ≡ spliced f at (n + m) l
+  spliced-twice = unfold S in ext-getD 0 (spliced g (at + n) m S) (spliced f at (n + m) l) same-length (λ j _. entry j)

@@ -1,0 +1,72 @@
+-- The loop keeps: the first k coefficients are in place, the others are 0.
+use mathlib.Core.Path.{_≡_, ap, _∙_}
+use Prim.Native.Nat.{ℕ, _+_, _*_, _-_, _≤_}
+use native.Mathlib.Nat.{mul-le-mul}
+use native.Mathlib.Omega.{arith}
+use lib.ListN.{getD}
+use Rattle.arithmetic.specs.Elements.{elementAt}
+use Rattle.arithmetic.proofs.Fill.{filled, blank, element-none, element-more, element-done}
+use borrow.Author.Needs.{needs}
+use Rattle.arithmetic.proofs.elements.element_at.Statement.{statement}
+use Rattle.arithmetic.proofs.elements.element_at.Tie as tie
+
+abbrev Inv-loop : tie.InvT-loop
+Inv-loop d t i a₀ n at k₀ a k = (k ≤ d) × (d ≤ 64) × (a ≡ filled (λ (j : ℕ). getD t (i * d + j) 0) k blank)
+
+abbrev μ-loop : tie.MeasureT-loop
+μ-loop d t i a₀ n at k₀ a k = d - k
+
+offset : (c : tie.Else1 Inv-loop μ-loop) → c .before .before .args .i * c .before .before .args .d ≤ 4294967295 * 64
+offset c = mul-le-mul {n₂ = 4294967295} {m₂ = 64} (omega arith) (omega arith)
+
+returns : tie.Need-returns Inv-loop μ-loop
+returns c = λ h. absurd (omega arith)
+
+mul-at : tie.Need-mul-at Inv-loop μ-loop
+mul-at c = omega (arith, offset c)
+
+loop-holds : tie.Need-loop-holds Inv-loop μ-loop
+loop-holds c = (omega arith, omega arith, element-none _)
+
+add-entry : tie.Need-add-entry Inv-loop μ-loop
+add-entry c = omega (arith, offset (c .before .before))
+
+entry-requires : tie.Need-entry-requires Inv-loop μ-loop
+entry-requires c κs = search needs
+
+mul-a : tie.Need-mul-a Inv-loop μ-loop
+mul-a c = search needs
+
+array-write-a : tie.Need-array-write-a Inv-loop μ-loop
+array-write-a c = search needs
+
+add-k : tie.Need-add-k Inv-loop μ-loop
+add-k c = search needs
+
+loop-less : tie.Need-loop-less Inv-loop μ-loop
+loop-less c = search needs
+
+loop-again : tie.Need-loop-again Inv-loop μ-loop
+loop-again c = let l = c .before .before .loop in (omega arith, omega arith, element-more _ (l .k) _ (l .a) (l .inv .2) (omega arith) (c .entry .ensures))
+
+returns-2 : tie.Need-returns-2 Inv-loop μ-loop
+unfolding elementAt
+returns-2 c = λ h. let l = c .before .loop in element-done _ (l .k) _ (l .a) (l .inv .2) (omega arith)
+
+pub element-at-spec : {M : Type 1} → statement M
+element-at-spec =
+    tie.close
+    (tie.spec
+    Inv-loop
+    μ-loop
+    returns
+    mul-at
+    loop-holds
+    add-entry
+    entry-requires
+    mul-a
+    array-write-a
+    add-k
+    loop-less
+    loop-again
+    returns-2)

@@ -1,0 +1,109 @@
+-- The loop keeps: j elements are folded, and everything from there on is as it was.
+use mathlib.Core.Path.{_≡_, sym, ap, _∙_}
+use Prim.Native.Nat.{ℕ, _+_, _*_, _-_, _%_, _≤_, _<_}
+use native.Mathlib.Nat.{mod-lt, mul-le-mul}
+use native.Mathlib.Omega.{arith}
+use lib.ListN.{length}
+use Rattle.arithmetic.specs.Folds.{spliced}
+use Rattle.arithmetic.proofs.Folds.{foldedFlat, row-inside, rows-none, rows-done, row-turn}
+use borrow.Author.Needs.{needs}
+use Rattle.arithmetic.proofs.tables.fold_elements.Statement.{statement}
+use Rattle.arithmetic.proofs.tables.fold_elements.Tie as tie
+
+abbrev Inv-loop : tie.InvT-loop
+Inv-loop q d h e from to t₀ half back j₀ t j = (j ≤ h) × (t ≡ spliced (foldedFlat q d h e from t₀) to (j * d) t₀) × (length t ≡ length t₀)
+
+abbrev μ-loop : tie.MeasureT-loop
+μ-loop q d h e from to t₀ half back j₀ t j = h - j
+
+few : (c : tie.Start Inv-loop μ-loop) → c .args .h * c .args .d ≤ 128 * 64
+few c = mul-le-mul {n₂ = 128} {m₂ = 64} (omega arith) (omega arith)
+
+inside : (c : tie.In-loop Inv-loop μ-loop) → let a = c .before .before .before .args in c .before .loop .j * a .d + a .d ≤ a .h * a .d
+inside c = let a = c .before .before .before .args in row-inside (a .d) (a .h) (c .before .loop .j) (c .loop-test .taken)
+
+mul-half : tie.Need-mul-half Inv-loop μ-loop
+mul-half c = omega (arith, few (c .before))
+
+add-back : tie.Need-add-back Inv-loop μ-loop
+add-back c = search needs
+
+add-back-2 : tie.Need-add-back-2 Inv-loop μ-loop
+add-back-2 c = search needs
+
+rem-back : tie.Need-rem-back Inv-loop μ-loop
+rem-back c = search needs
+
+sub-back : tie.Need-sub-back Inv-loop μ-loop
+sub-back c = let a = c .before .args in omega (arith, mod-lt (a .e) {m = a .d + a .d} (omega arith))
+
+loop-holds : tie.Need-loop-holds Inv-loop μ-loop
+loop-holds c = let a = c .before .args in (omega arith, rows-none (a .q) (a .d) (a .h) (a .e) (a .from) (a .to) (a .t .now) (omega arith), search needs)
+
+mul-at : tie.Need-mul-at Inv-loop μ-loop
+mul-at c = omega (arith, few (c .before .before .before), inside c)
+
+add-fold-element : tie.Need-add-fold-element Inv-loop μ-loop
+add-fold-element c = omega (arith, few (c .before .before .before), inside c)
+
+add-fold-element-2 : tie.Need-add-fold-element-2 Inv-loop μ-loop
+add-fold-element-2 c = omega (arith, few (c .before .before .before), inside c)
+
+add-fold-element-3 : tie.Need-add-fold-element-3 Inv-loop μ-loop
+add-fold-element-3 c = omega (arith, few (c .before .before .before), inside c)
+
+add-fold-element-4 : tie.Need-add-fold-element-4 Inv-loop μ-loop
+add-fold-element-4 c = omega (arith, few (c .before .before .before), inside c)
+
+fold-element-requires : tie.Need-fold-element-requires Inv-loop μ-loop
+fold-element-requires c κs = (omega arith, omega (arith, inside (c .before)))
+
+add-j : tie.Need-add-j Inv-loop μ-loop
+add-j c = search needs
+
+loop-less : tie.Need-loop-less Inv-loop μ-loop
+loop-less c = search needs
+
+loop-again : tie.Need-loop-again Inv-loop μ-loop
+loop-again c =
+    let a = c .before .before .before .before .before .before .before .args in
+    let l = c .before .before .before .before .before .loop in (
+      omega arith,
+      c .before .before .fold-element .ensures
+          ∙ row-turn (a .q) (a .d) (a .h) (a .e) (a .from) (a .to) (a .t .now) (omega arith) (l .t) (l .j) (l .inv .1) (omega arith) (omega arith) (omega arith),
+      c .before .before .fold-element .kept .1 .1 .1 .1 .1 .1 .0 ∙ l .inv .2,
+    )
+
+same-length : tie.Need-same-length Inv-loop μ-loop
+same-length c = search needs
+
+returns : tie.Need-returns Inv-loop μ-loop
+returns c =
+    let a = c .before .before .before .args in
+    c .before .loop .inv .1
+    ∙ ap (λ n. spliced (foldedFlat (a .q) (a .d) (a .h) (a .e) (a .from) (a .t .now)) (a .to) (n * a .d) (a .t .now)) (omega arith)
+    ∙ rows-done (a .q) (a .d) (a .h) (a .e) (a .from) (a .to) (a .t .now) (omega arith)
+
+pub fold-elements-spec : {M : Type 1} → statement M
+fold-elements-spec =
+    tie.close
+    (tie.spec
+    Inv-loop
+    μ-loop
+    mul-half
+    add-back
+    add-back-2
+    rem-back
+    sub-back
+    loop-holds
+    mul-at
+    add-fold-element
+    add-fold-element-2
+    add-fold-element-3
+    add-fold-element-4
+    fold-element-requires
+    add-j
+    loop-less
+    loop-again
+    same-length
+    returns)

@@ -1,0 +1,59 @@
+// Elements of residues that are passed by value.
+use crate::residues;
+ghost use mathlib.Core.Path.{_≡_};
+ghost use Prim.Native.Nat.{_<_, _≤_};
+ghost use lib.ListN.{getD};
+ghost use Rattle.protocol.specs.Element.{residue};
+ghost use Rattle.arithmetic.specs.Elements.{elementAt, addRotated};
+
+// Number p of a table; 0 where it has none.
+fn entry(t: &[u32], p: usize) -> u32
+    ensures { λ r. ⌜ r ≡ getD (now (t .entry)) p 0 ⌝ }
+{
+    if p < t.len() {
+        return t[p];
+    }
+    0
+}
+
+// Element i of a flat table; coefficients that the table does not have are 0.
+pub fn element_at(d: u32, t: &[u32], i: u32) -> [u32; 64]
+    ensures { λ r. ⌜ (d ≤ 64 → r ≡ elementAt d (now (t .entry)) i) ⌝ }
+{
+    let mut a = [0u32; 64];
+    if d > 64 {
+        return a;
+    }
+    let n = d as usize;
+    let at = (i as usize) * n;
+    let mut k: usize = 0;
+    while k < n {
+        a[k] = entry(t, at + k);
+        k += 1;
+    }
+    a
+}
+
+// a + X^e·b, modulo q
+pub fn add_rotated(q: u32, d: u32, e: u32, a: [u32; 64], b: [u32; 64]) -> [u32; 64]
+    ensures { λ r. ⌜ (0 < q → 0 < d → d ≤ 64 → r ≡ addRotated q d e (residue a) (residue b)) ⌝ }
+{
+    let mut c = [0u32; 64];
+    if q == 0 {
+        return c;
+    }
+    if d == 0 {
+        return c;
+    }
+    if d > 64 {
+        return c;
+    }
+    let n = d as usize;
+    let back = n + n - (e as usize) % (n + n);
+    let mut k: usize = 0;
+    while k < n {
+        c[k] = residues::add_around(q, n, a[k], &b, k + back);
+        k += 1;
+    }
+    c
+}

@@ -1,0 +1,85 @@
+// Folds of flat tables of residues.
+use crate::residues;
+ghost use mathlib.Core.Path.{_≡_};
+ghost use Prim.Native.Nat.{_+_, _*_, _<_, _≤_};
+ghost use lib.ListN.{length, drop};
+ghost use Rattle.protocol.specs.Opening.{foldResidues};
+ghost use Rattle.arithmetic.specs.Folds.{spliced, foldCell, Foldable, foldDown};
+
+// The element at place `first` plus the one at place `second`, read `back` places on, written to place `to`. Nothing is written that is read later.
+fn fold_element(
+    q: u32,
+    d: usize,
+    back: usize,
+    to: usize,
+    first: usize,
+    second: usize,
+    t: &mut [u32],
+)
+    requires { ⌜ (0 < q) × (d ≤ 64) × (back ≤ 2 * d) ⌝ }
+    requires { ⌜ (to ≤ first) × (to + d ≤ second) × (first ≤ second) × (second + d ≤ length (now t)) ⌝ }
+    ensures { λ _. ⌜ now (t .exit) ≡ spliced (foldCell q d back (drop first (now (t .entry))) (drop second (now (t .entry)))) to d (now (t .entry)) ⌝ }
+{
+    let mut k: usize = 0;
+    while k < d {
+        let x = t[first + k];
+        let z = residues::add_around(q, d, x, &t[second..], k + back);
+        t[to + k] = z;
+        k += 1;
+    }
+}
+
+// The fold of the 2h elements from place `from` on, written from place `to` on.
+fn fold_elements(q: u32, d: usize, h: usize, e: usize, from: usize, to: usize, t: &mut [u32])
+    requires { ⌜ Foldable q d h from to (length (now t)) ⌝ }
+    ensures { λ _. ⌜ now (t .exit) ≡ foldDown q d h e from to (now (t .entry)) ⌝ }
+{
+    let half = h * d;
+    let back = d + d - e % (d + d);
+    let mut j: usize = 0;
+    while j < h {
+        let at = j * d;
+        fold_element(q, d, back, to + at, from + at, from + half + at, t);
+        j += 1;
+    }
+}
+
+// The same for every input: the table stays as it is where it may not be folded so.
+pub fn fold_down(q: u32, d: u32, h: u32, e: u32, from: u32, to: u32, t: &mut [u32])
+    ensures { λ _. ⌜ (Foldable q d h from to (length (now (t .entry))) → now (t .exit) ≡ foldDown q d h e from to (now (t .entry))) ⌝ }
+{
+    if q == 0 {
+        return;
+    }
+    if d == 0 {
+        return;
+    }
+    if d > 64 {
+        return;
+    }
+    if h > 128 {
+        return;
+    }
+    if to > from {
+        return;
+    }
+    if t.len() < (from as usize) + 2 * ((h as usize) * (d as usize)) {
+        return;
+    }
+    fold_elements(
+        q,
+        d as usize,
+        h as usize,
+        e as usize,
+        from as usize,
+        to as usize,
+        t,
+    );
+}
+
+// The fold of a table of residues by X^e, in place, the halves having h elements.
+pub fn fold_residues(q: u32, d: u32, h: u32, e: u32, t: &mut [u32])
+    ensures { λ _. ⌜ (Foldable q d h 0 0 (length (now (t .entry))) → now (t .exit) ≡ foldResidues q d h e (now (t .entry))) ⌝ }
+{
+    fold_down(q, d, h, e, 0, 0, t);
+}
