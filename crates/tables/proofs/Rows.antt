@@ -332,3 +332,21 @@ all-next (b ∷ bs) l rest e =
 pub all-none : (bs : List ℕ) → 0 < length bs → readLine bs ≡ none → allLines bs ≡ none
 all-none [] h e = absurd (omega arith)
 all-none (b ∷ bs) h e = all-turn b bs ∙ bind-none (readLine (b ∷ bs)) _ e
+
+-- the first of the lines that were read
+pub all-some : (bs : List ℕ) (l : Line) (ls : List Line) → allLines bs ≡ some (l ∷ ls) → (rest : List ℕ) × (readLine bs ≡ some (l, rest)) × (allLines rest ≡ some ls)
+unfolding bind
+all-some [] l ls e = let z : _≡_ {A = ℕ} 0 1 = cc all-end in absurd (omega arith)
+all-some (b ∷ bs) l ls e = of-line (readLine (b ∷ bs)) refl
+  where
+    of-lines : (m : Line) (rest : List ℕ) → readLine (b ∷ bs) ≡ some (m, rest) → (o : Option (List Line)) → allLines rest ≡ o → bind o (λ ms. some (m ∷ ms)) ≡ some (l ∷ ls)
+        → (rest : List ℕ) × (readLine (b ∷ bs) ≡ some (l, rest)) × (allLines rest ≡ some ls)
+    of-lines m rest p none q f = let z : _≡_ {A = ℕ} 0 1 = cc in absurd (omega arith)
+    of-lines m rest p (some ms) q f =
+        let m-is : m ≡ l = cc in
+        let ms-is : ms ≡ ls = cc in
+        (rest, p ∙ (λ j. some (m-is j, rest)), q ∙ (λ j. some (ms-is j)))
+
+    of-line : (o : Option (Line × List ℕ)) → readLine (b ∷ bs) ≡ o → (rest : List ℕ) × (readLine (b ∷ bs) ≡ some (l, rest)) × (allLines rest ≡ some ls)
+    of-line none p = let z : _≡_ {A = ℕ} 0 1 = cc (all-none (b ∷ bs) (omega arith) p) in absurd (omega arith)
+    of-line (some (m, rest)) p = of-lines m rest p (allLines rest) refl (sym (all-next (b ∷ bs) m rest p) ∙ e)

@@ -4,8 +4,8 @@ use crate::numbers::read_number;
 use protocol::Number;
 ghost use mathlib.Core.Path.{_≡_};
 ghost use lib.ListN.{drop};
-ghost use Rattle.protocol.specs.Text.{byte as behindByte};
-ghost use Rattle.tables.specs.Scan.{present, readColumnAt, readLineAt, allLines};
+ghost use Rattle.protocol.specs.Text.{byte as behindByte, numberAnswer};
+ghost use Rattle.tables.specs.Scan.{present, readColumnAt, readLineAt, allLines, spot, readValue};
 
 // What stands at a place: a line of the stated shape with the place behind it, or none.
 pub enum Entry {
@@ -104,4 +104,30 @@ pub fn all_lines(text: &[u8], from: usize) -> bool
         at = next;
     }
     true
+}
+
+// The value of the line at a place, where it is the line of that part, item and place.
+pub fn value_at(text: &[u8], at: usize, part: u32, item: u32, place: u32) -> Number
+    ensures { λ r. ⌜ r ≡ numberAnswer (now (text .entry)) (readValue (spot part item place) (drop at (now (text .entry)))) ⌝ }
+{
+    let Entry::Found {
+        part: p,
+        item: i,
+        place: k,
+        value,
+        next,
+    } = read_line(text, at)
+    else {
+        return Number::Refused(2);
+    };
+    if p != part {
+        return Number::Refused(2);
+    }
+    if i != item {
+        return Number::Refused(2);
+    }
+    if k != place {
+        return Number::Refused(2);
+    }
+    Number::Value { value, next }
 }
