@@ -40,6 +40,10 @@ module _ (d p : ℕ) where
   pub cell-more : p % d + 1 < d → cellAt d (p + 1) ≡ cell (p / d) (p % d + 1)
   cell-more h = cell-of d (p / d) (p % d + 1) (p + 1) h (omega (arith, Nat.div-add-mod' p d))
 
+pub spots-count : (b : Shape) → length (spots b) ≡ shapeSize b
+unfolding spots
+spots-count b = tabulate-length (shapeSize b) (spotAt b)
+
 module _ (b : Shape) (p : ℕ) (h : p < shapeSize b) where
   some-places : 0 < b .places
   unfolding shapeSize
@@ -59,12 +63,11 @@ module _ (b : Shape) (p : ℕ) (h : p < shapeSize b) where
   pub spots-next : drop p (spots b) ≡ spotAt b p ∷ drop (p + 1) (spots b)
   unfolding spots
   spots-next =
-      from-cons (spots b) p (spotAt b 0) (omega (arith, tabulate-length (shapeSize b) (spotAt b)))
+      from-cons (spots b) p (spotAt b 0) (omega (arith, spots-count b))
       ∙ ap (λ s. s ∷ drop (p + 1) (spots b)) (tabulate-at (shapeSize b) (spotAt b) (spotAt b 0) p h)
 
 pub spots-end : (b : Shape) (p : ℕ) → shapeSize b ≤ p → drop p (spots b) ≡ []
-unfolding spots
-spots-end b p h = drop-of-length-le (spots b) {i = p} (omega (arith, tabulate-length (shapeSize b) (spotAt b)))
+spots-end b p h = drop-of-length-le (spots b) {i = p} (omega (arith, spots-count b))
 
 -- ---- what the answer of the reader of a part says
 

@@ -19,12 +19,12 @@ use Rattle.protocol.specs.declared.Settings.{Settings}
 use Rattle.protocol.specs.declared.Loaded.{Loaded}
 use Rattle.protocol.specs.Basic.{tabulate, choose, first, unless, granted}
 use Rattle.protocol.specs.Settings.{settingsRefusal}
-use Rattle.protocol.specs.Text.{Spot, Line, textLimit, shape, settingsShape, shapeSize, spotAt, spots, beginsWithNames, afterNames, parsed, linesOf, sameSpots, spotsOf, valuesOf, wellFormed, unsigned, settingIn, settingsIn, noSettings, lookRefusal, loaded, lookAnswer}
-use Rattle.protocol.proofs.Reading.{tabulate-length}
+use Rattle.protocol.specs.Text.{Spot, Line, textLimit, shape, settingsShape, shapeSize, spots, beginsWithNames, afterNames, parsed, linesOf, sameSpots, spotsOf, valuesOf, wellFormed, unsigned, settingIn, settingsIn, noSettings, lookRefusal, loaded, lookAnswer}
 use Rattle.tables.specs.declared.header.Header.{Header}
 use Rattle.tables.specs.Scan.{present, readValues, allLines, settingsOf, readSettings, headerAnswer}
 use Rattle.tables.proofs.Counts.{suffix-place}
 use Rattle.tables.proofs.Values.{behind-names, names-long, settings-named, settings-unnamed}
+use Rattle.tables.proofs.Cells.{spots-count}
 use Rattle.tables.proofs.Follow.{same-spots-self, lines-before, Lines, values-lines, values-elsewhere}
 
 -- ---- refusals
@@ -72,8 +72,7 @@ abbrev pub settingsSpots : List Spot
 settingsSpots = spots settingsShape
 
 settings-count : length settingsSpots ≡ shapeSize settingsShape
-unfolding spots
-settings-count = tabulate-length (shapeSize settingsShape) (spotAt settingsShape)
+settings-count = spots-count settingsShape
 
 -- a text without lines
 no-lines : (text : List ℕ) → parsed text ≡ none → linesOf text ≡ []

@@ -7,7 +7,7 @@ use crate::shapes::size_of;
 use protocol::Number;
 ghost use Prim.Native.Nat.{_≤_};
 ghost use lib.ListN.{length};
-ghost use Rattle.protocol.specs.Text.{shapeSize};
+ghost use Rattle.protocol.specs.Text.{shapeSize, spots};
 ghost use Rattle.tables.specs.Parts.{asShape, Took};
 
 // Were all lines found, and the place behind them.
@@ -19,7 +19,7 @@ pub struct Taken {
 // The values of the lines of a part, from a place on.
 pub fn read_part(text: &[u8], from: usize, shape: Shape, values: &mut [i32]) -> Taken
     requires { ⌜ (from ≤ length (now text)) × (shapeSize (asShape shape) ≤ length (now values)) ⌝ }
-    ensures { λ r. ⌜ Took (now (text .entry)) from (asShape shape) r (now (values .exit)) ⌝ }
+    ensures { λ r. ⌜ Took (now (text .entry)) from (spots (asShape shape)) r (now (values .exit)) ⌝ }
 {
     let size = size_of(shape);
     let mut at = from;

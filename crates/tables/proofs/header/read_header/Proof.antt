@@ -14,7 +14,7 @@ use lib.Signed.{mag}
 use mir.Syntax.{w32}
 use mir.Val.{hbits, ofZ, toZ}
 use mir.Facts.{toZ-ofZ}
-use Rattle.protocol.specs.Basic.{choose}
+use Rattle.protocol.specs.Basic.{tabulate, choose}
 use Rattle.protocol.specs.Text.{shape, settingsShape, shapeSize, spots, beginsWithNames, unsigned, noSettings}
 use Rattle.tables.specs.declared.header.Header.{Header}
 use Rattle.tables.specs.Scan.{readValues, readSettings, settingsOf, headerAnswer}
@@ -41,11 +41,11 @@ module _ (c : tie.After-read-part) where
   begun : readSettings text ≡ read
   begun = settings-named text (named (c .before .before .before))
 
-  took : Took text 22 settingsShape (c .read-part .result) values
-  took = subst (λ b. Took text 22 b (c .read-part .result) values) (c .before .before .settings-shape .ensures) (c .read-part .ensures)
+  took : Took text 22 (spots settingsShape) (c .read-part .result) values
+  took = subst (λ b. Took text 22 (spots b) (c .read-part .result) values) (c .before .before .settings-shape .ensures) (c .read-part .ensures)
 
   stored : (vs : List ℤ) (rest : List ℕ) → read ≡ some (vs, rest) → take 4 values ≡ vs
-  unfolding shapeSize settingsShape shape choose
+  unfolding spots tabulate shapeSize settingsShape shape choose
   stored = took .stored
 
 -- a value of the table, passed on as a word

@@ -21,7 +21,7 @@ use Rattle.tables.specs.Scan.{spot, readValue, readValues}
 use Rattle.tables.specs.Parts.{asShape, cellAt, takenAnswer, Took}
 use Rattle.tables.proofs.Counts.{Found, suffix-back}
 use Rattle.tables.proofs.Values.{prefix, prefix-nothing, valued, unvalued, values-more, values-over, values-done}
-use Rattle.tables.proofs.Cells.{cell, cell-first, cell-place-inside, cell-item-inside, spots-next, spots-end}
+use Rattle.tables.proofs.Cells.{cell, cell-first, cell-place-inside, cell-item-inside, spots-count, spots-next, spots-end}
 use Rattle.tables.proofs.parts.read_part.Statement.{statement}
 use Rattle.tables.proofs.parts.read_part.Tie as tie
 
@@ -56,21 +56,21 @@ module _ (text : List ℕ) (from : ℕ) (b : Shape) where
     stop : readValue (spotAt b p) (drop at text) ≡ none → all-of ≡ none
     stop e = values-over all-of (take p values) (spotAt b p) (drop (p + 1) (spots b)) (drop at text) here e
 
-  missed : (values : List ℤ) → all-of ≡ none → Took text from b (record { found = false; next = 0 }) values
+  missed : (values : List ℤ) → all-of ≡ none → Took text from (spots b) (record { found = false; next = 0 }) values
   unfolding takenAnswer
   missed values e = record {
     answer = sym (ap (takenAnswer text) e);
     stored = λ vs rest f. let z : _≡_ {A = ℕ} 0 1 = cc in absurd (omega arith);
   }
 
-  done : (values : List ℤ) (at p : ℕ) → p ≡ shapeSize b → at ≤ length text → Left values at p → Took text from b (record { found = true; next = at }) values
+  done : (values : List ℤ) (at p : ℕ) → p ≡ shapeSize b → at ≤ length text → Left values at p → Took text from (spots b) (record { found = true; next = at }) values
   unfolding takenAnswer
   done values at p e h left =
       let whole : all-of ≡ some (take p values, drop at text) =
       values-done all-of (take p values) (drop at text) (left ∙ ap (λ ss. prefix (take p values) (readValues ss (drop at text))) (spots-end b p (omega arith))) in
       record {
         answer = (λ j. record { found = true; next = sym (suffix-back text at h) j }) ∙ sym (ap (takenAnswer text) whole);
-        stored = λ vs rest f. ap (λ n. take n values) (sym e) ∙ ap (λ r. r .0) (Option·some-injective (take p values, drop at text) (vs, rest) (sym whole ∙ f));
+        stored = λ vs rest f. ap (λ n. take n values) (spots-count b ∙ sym e) ∙ ap (λ r. r .0) (Option·some-injective (take p values, drop at text) (vs, rest) (sym whole ∙ f));
       }
 
 -- the line that is wanted
