@@ -2,6 +2,7 @@
 use mathlib.Core.Path.{_≡_, refl, ap, _∙_}
 use Prim.Native.Nat.{ℕ, zero, _+_, _*_, _-_, _/_, _%_, _<_, _≤_}
 use native.Mathlib.Nat as Nat
+use native.Mathlib.Numerals.{add-one}
 use native.Mathlib.Omega.{arith}
 use lib.IntN.{ℤ, negℤ, negℤ-negℤ}
 use Rattle.protocol.specs.Element.{Element, flips, around, rotate}
@@ -35,3 +36,13 @@ around-ext d y p h = ap (flips (y / d)) (h (y % d) (Nat.mod-lt y p))
 pub rotate-back : (d e : ℕ) (a : Element) (k : ℕ) → around d a (k + (d + d - e % (d + d))) ≡ rotate d e a k
 unfolding rotate
 rotate-back d e a k = ap (λ n. around d a (k + (n - e % n))) (omega arith)
+
+-- one round on, the sign changes
+pub around-next : (d : ℕ) (a : Element) (y : ℕ) → 0 < d → around d a (y + d) ≡ negℤ (around d a y)
+unfolding around flips
+around-next d a y p = λ i. flips ((Nat.add-div-right y p ∙ add-one (y / d)) i) (a (Nat.add-mod-right y d i))
+
+-- the rotation by an exponent below 2d
+pub rotate-at : (d e : ℕ) (a : Element) (k : ℕ) → e < 2 * d → rotate d e a k ≡ around d a (k + (d + d - e))
+unfolding rotate
+rotate-at d e a k h = ap (λ x. around d a (k + (2 * d - x))) (Nat.mod-eq-of-lt h) ∙ ap (λ n. around d a (k + (n - e))) (omega arith)

@@ -5,3 +5,4 @@ pub mod Differences
 pub mod Fill
 pub mod Splice
 pub mod Folds
+pub mod Rows

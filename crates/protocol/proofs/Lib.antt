@@ -18,3 +18,4 @@ pub mod TableLaws
 pub mod TestLaws
 pub mod LimitLaws
 pub mod RoundTripLaws
+pub mod Refusals
