@@ -13,7 +13,7 @@ use Rattle.algebra.specs.Residues.{Zmod, ofℕ-res, res-modulus}
 use Rattle.algebra.specs.Scalars.{ofℕ-vanish}
 use Rattle.algebra.specs.Negacyclic.{negacyclic, X^}
 use Rattle.protocol.specs.declared.Settings.{Settings}
-use Rattle.protocol.specs.Element.{Element, modulo, rotate, product, plus, times, residue, residueAt}
+use Rattle.protocol.specs.Element.{Element, rotate, product, plus, times, residue, residueAt}
 use Rattle.protocol.specs.Settings.{half}
 use Rattle.protocol.specs.Opening.{keyAfter}
 use Rattle.protocol.specs.Transcript.{doubled, nextClaim, ending}

@@ -4,7 +4,7 @@
 --   readℤ, readq    the same over the integers and over ℤ/q
 use mathlib.Core.Path.{_≡_, refl, sym, ap, ap₂, _∙_}
 use mathlib.Core.List.{List}
-use Prim.Native.Nat.{ℕ, zero, suc, _+_, _<_}
+use Prim.Native.Nat.{ℕ, zero, suc, _<_}
 use native.Mathlib.Nat as Nat
 use native.Mathlib.Numerals.{add-one}
 use native.Mathlib.Omega.{arith}

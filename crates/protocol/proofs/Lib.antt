@@ -5,6 +5,7 @@ pub mod Acceptance
 pub mod Inputs
 pub mod Compute
 pub mod Examples
+pub mod Listing
 pub mod Known
 pub mod Traps
 pub mod ComputeText
@@ -15,7 +16,7 @@ pub mod LineLaws
 pub mod PlaceLaws
 pub mod ReaderLaws
 pub mod TableLaws
-pub mod TestLaws
 pub mod LimitLaws
 pub mod RoundTripLaws
 pub mod Refusals
+pub mod Trial

@@ -16,7 +16,7 @@ use Rattle.protocol.specs.Settings.{exponent, exponents}
 use Rattle.protocol.specs.Text.{Line, Shape, Tables, valueLimit, shape, settingsShape, shapes, shapeSize}
 use Rattle.protocol.specs.Text.{spotAt, contents, block, blockLines}
 use Rattle.protocol.specs.Text.{entriesRefusal}
-use Rattle.protocol.proofs.TestLaws.{first-zero, unless-zero, all-weaken, all-map, all-getD, among-le}
+use Rattle.protocol.proofs.Tests.{first-zero, unless-zero, all-weaken, all-map, all-getD, among-le}
 use Rattle.protocol.proofs.LineLaws.{Limited, AllLimited}
 
 -- ---- Settings that are not refused

@@ -5,10 +5,9 @@ use Prim.Native.Nat.{ℕ, zero, suc, _+_, _*_, _-_, _/_, _%_, _<_, _≤_}
 use native.Mathlib.Nat as Nat
 use native.Mathlib.Decide.{decLt}
 use native.Mathlib.Omega.{arith}
-use borrow.Author.Tests.{ltb-true, ltb-false, le-ltb}
+use borrow.Author.Tests.{ltb-false, le-ltb}
 use lib.Dec.{ltb}
-use lib.IntN.{ℤ, pos, negsuc, negℤ, _+ℤ_, _*ℤ_, pos-ne-negsuc, +ℤ-assoc, +ℤ-comm, +ℤ-invr, *ℤ-comm, *ℤ-negsuc, sucℤ-*ℤ, zero-*ℤ}
-use Rattle.protocol.specs.Basic.{sum}
+use lib.IntN.{ℤ, pos, negsuc, negℤ, _+ℤ_, _*ℤ_, pos-ne-negsuc, +ℤ-assoc, +ℤ-comm, +ℤ-invr, sucℤ-*ℤ, zero-*ℤ}
 use Rattle.protocol.specs.Element.{modulo}
 
 module _ (q : ℕ) (p : 0 < q) where

@@ -1,5 +1,5 @@
 -- Laws about the refusals of reader and writer: texts that are too long, and a first look beside the whole reading.
-use mathlib.Core.Path.{_≡_, refl, sym, _∙_, ap}
+use mathlib.Core.Path.{_≡_, sym, _∙_, ap}
 use mathlib.Core.Bool.{Bool}
 use mathlib.Core.List.{List}
 use Prim.Native.Nat.{ℕ, suc, _<_}
@@ -8,7 +8,7 @@ use borrow.Author.Tests.{lt-leb}
 use Rattle.protocol.specs.declared.Parts.{Parts}
 use Rattle.protocol.specs.Basic.{first, unless}
 use Rattle.protocol.specs.Text.{Tables, textLimit, lookRefusal, loaded, lookAnswer, textRefusal, readRefusal, readAnswer, outputRefusal}
-use Rattle.protocol.proofs.TestLaws.{first-zero}
+use Rattle.protocol.proofs.Tests.{first-zero}
 
 -- whatever stands in it
 pub too-long-to-read : (text : List ℕ) → textLimit < length text → lookRefusal text ≡ 1

@@ -22,7 +22,7 @@ use Rattle.protocol.specs.Text.{settingIn, settingsIn, tablesIn, lookRef
 use Rattle.protocol.specs.Text.{readExit}
 use Rattle.protocol.specs.Text.{outputRefusal, writeRefusal, written, overwritten, writeAnswer, writeExit}
 use Rattle.protocol.specs.RoundTrip.{outcome, Back, Forth, RoundTrip}
-use Rattle.protocol.proofs.TestLaws.{first-zero, unless-zero, and-both}
+use Rattle.protocol.proofs.Tests.{first-zero, unless-zero, and-intro}
 use Rattle.protocol.proofs.LineLaws.{AllLimited, linesOf-written, parsed-text}
 use Rattle.protocol.proofs.TableLaws.{Rising, Fit, parts, columns, written-spots, written-columns, blockLines-values, read-lines, read-fit}
 use Rattle.protocol.proofs.TableLaws.{Split, split}
@@ -48,7 +48,7 @@ unfolding all zipWith blockFits block sized
 fit-all [] [] h = refl
 fit-all [] (v ∷ vs) h = absurd h
 fit-all (b ∷ bs) [] h = absurd h
-fit-all (b ∷ bs) (v ∷ vs) h = and-both _ _ (eq-eqb (length v) (shapeSize b) (h .0)) (fit-all bs vs (h .1))
+fit-all (b ∷ bs) (v ∷ vs) h = and-intro (eq-eqb (length v) (shapeSize b) (h .0)) (fit-all bs vs (h .1))
 
 fits-fit : (S : Settings) (P : Parts) (t : Tables) → fits S P t ≡ true → Fit (shapes S P) (contents S t)
 unfolding fits blocks
@@ -220,7 +220,7 @@ column-limited p [] h = refl
 column-limited p (l ∷ ls) h = go (eqb (l .spot .part) p) (column-limited p ls (h .1))
   where
     go : (t : Bool) → all (within valueLimit) (column p ls) ≡ true → all (within valueLimit) (choose t (l .value ∷ column p ls) (column p ls)) ≡ true
-    go true e = and-both _ _ (le-leb (natAbs (l .value)) valueLimit (h .0 .value)) e
+    go true e = and-intro (le-leb (natAbs (l .value)) valueLimit (h .0 .value)) e
     go false e = e
 
 four : (v : List ℤ) → length v ≡ 4 → v ≡ getD v 0 (pos 0) ∷ getD v 1 (pos 0) ∷ getD v 2 (pos 0) ∷ getD v 3 (pos 0) ∷ []

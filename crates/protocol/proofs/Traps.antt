@@ -16,34 +16,13 @@ use Rattle.protocol.specs.Session.{blank, shut, start, move, close}
 use Rattle.protocol.specs.Judge.{slack}
 use Rattle.protocol.specs.Calls.{commitRefusal, commitAnswer, roundRefusal, foldRefusal, foldMessageExit, endRefusal, openingAnswer, openingRoundsExit, checkRefusal, judgeRefusal, judgeAnswer, extractRefusal, extractExit}
 use Rattle.protocol.proofs.Compute.{computed}
+use Rattle.protocol.proofs.Listing.{set, S₁, key₁, message₁, rounds₁, leaves₁, S₀}
 use Rattle.protocol.proofs.Examples.{Example, agree, agreeing, asNumber, causeNumber, moveNumbers, recordNumbers, verdictNumber}
 
 -- ---- the inputs
 
-abbrev set : ℕ → ℕ → ℕ → ℕ → Settings
-set d l q b = record { degree = d; depth = l; modulus = q; bound = b }
-
--- document 01's listing, and its settings at depth 0
-abbrev S₀ : Settings
-S₀ = set 2 0 17 1
-
-abbrev S₁ : Settings
-S₁ = set 2 1 17 1
-
-abbrev key₁ : List ℕ
-key₁ = 3 ∷ 5 ∷ 7 ∷ 2 ∷ []
-
-abbrev message₁ : List ℤ
-message₁ = pos 1 ∷ negsuc 0 ∷ pos 1 ∷ pos 0 ∷ []
-
-abbrev rounds₁ : List ℕ
-rounds₁ = 4 ∷ 1 ∷ 6 ∷ 0 ∷ 12 ∷ 1 ∷ []
-
 abbrev polynomial₁ : List (List ℕ)
 polynomial₁ = (4 ∷ 1 ∷ []) ∷ (6 ∷ 0 ∷ []) ∷ (12 ∷ 1 ∷ []) ∷ []
-
-abbrev leaves₁ : List ℤ
-leaves₁ = pos 2 ∷ negsuc 0 ∷ pos 1 ∷ pos 0 ∷ pos 0 ∷ negsuc 0 ∷ []
 
 -- four elements, to tell halves from neighbours
 abbrev S₂ : Settings
