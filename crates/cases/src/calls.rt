@@ -1,0 +1,51 @@
+// The calls. Each `run` reads a case's inputs and gives what is left of the input; each `answer` makes the call and prints what it gives.
+use crate::input::Input;
+use crate::output;
+use crate::tables;
+use protocol::Settings;
+
+fn answer_fold(settings: Settings, t: u32, e: u32, key: &mut [u32], message: &mut [i32]) {
+    let number = prover::fold(settings, t, e, key, message);
+    output::first(number);
+    output::residues(key);
+    output::signeds(message);
+    output::end();
+}
+
+pub fn run_fold(input: Input) -> Input {
+    let given = tables::settings(input);
+    let t = given.next.number();
+    let e = t.next.number();
+    let mut key = tables::residue_room();
+    let keys = tables::residues(e.next, &mut key);
+    let mut message = tables::signed_room();
+    let messages = tables::signeds(keys.next, &mut message);
+    let n = keys.count;
+    let m = messages.count;
+    answer_fold(
+        given.settings,
+        t.value.residue(),
+        e.value.residue(),
+        &mut key[..n],
+        &mut message[..m],
+    );
+    messages.next
+}
+
+fn answer_end(settings: Settings, t: u32, message: &[i32]) {
+    let answer = prover::end(settings, t, message);
+    let last = answer.last;
+    output::first(answer.number);
+    output::signed_element(last);
+    output::end();
+}
+
+pub fn run_end(input: Input) -> Input {
+    let given = tables::settings(input);
+    let t = given.next.number();
+    let mut message = tables::signed_room();
+    let messages = tables::signeds(t.next, &mut message);
+    let m = messages.count;
+    answer_end(given.settings, t.value.residue(), &message[..m]);
+    messages.next
+}

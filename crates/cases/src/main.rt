@@ -1,0 +1,35 @@
+// Runs cases through the public calls and prints their answers. Standard input is a stream of decimal numbers: for each case the number of
+// its call and then its inputs, a table or an element being its length and then its numbers. The answer to each case is one line.
+mod calls;
+mod input;
+mod output;
+mod tables;
+
+use input::Input;
+
+fn run(call: u32, input: Input) -> Input {
+    match call {
+        3 => calls::run_fold(input),
+        4 => calls::run_end(input),
+        _ => unknown(input),
+    }
+}
+
+// A call that is not run here.
+fn unknown(input: Input) -> Input {
+    io::write_all(1, b"unknown\n");
+    input
+}
+
+fn main() {
+    let mut input = Input::none();
+    let mut turns = u64::MAX;
+    while turns > 0 {
+        turns -= 1;
+        let call = input.number();
+        if call.ended {
+            return;
+        }
+        input = run(call.value.residue(), call.next);
+    }
+}
