@@ -18,5 +18,5 @@ pub mod ReaderLaws
 pub mod TableLaws
 pub mod LimitLaws
 pub mod RoundTripLaws
-pub mod Refusals
 pub mod Trial
+pub mod Refusals
