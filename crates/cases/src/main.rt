@@ -1,16 +1,17 @@
 // Runs cases through the public calls and prints their answers. Standard input is a stream of decimal numbers: for each case the number of
 // its call and then its inputs, a table or an element being its length and then its numbers. The answer to each case is one line.
-mod calls;
 mod input;
 mod output;
+mod proving;
 mod tables;
 
 use input::Input;
 
 fn run(call: u32, input: Input) -> Input {
     match call {
-        3 => calls::run_fold(input),
-        4 => calls::run_end(input),
+        1 => proving::run_commit(input),
+        3 => proving::run_fold(input),
+        4 => proving::run_end(input),
         _ => unknown(input),
     }
 }

@@ -1,5 +1,8 @@
 // Answers on standard output: a line of numbers with single spaces. `first` begins a line, `end` ends it.
 use arithmetic::tests;
+use protocol::Session;
+use protocol::Settings;
+use protocol::Verdict;
 ghost use Prim.Native.Nat.{_≤_};
 
 pub fn first(x: u32) {
@@ -47,14 +50,19 @@ pub fn end() {
     io::write_all(1, b"\n");
 }
 
-// A table: its length and its numbers.
-pub fn residues(t: &[u32]) {
-    count(t.len());
+// The numbers of a table, with no length before them.
+fn each(t: &[u32]) {
     let mut i: usize = 0;
     while i < t.len() {
         number(t[i]);
         i += 1;
     }
+}
+
+// A table: its length and its numbers.
+pub fn residues(t: &[u32]) {
+    count(t.len());
+    each(t);
 }
 
 pub fn signeds(t: &[i32]) {
@@ -111,4 +119,30 @@ pub fn element(a: [u32; 64]) {
 pub fn signed_element(a: [i32; 64]) {
     let n = signed_places(&a);
     signeds(&a[..n]);
+}
+
+pub fn verdict(v: Verdict) {
+    match v {
+        Verdict::Silent => number(0),
+        Verdict::Holds => number(1),
+        Verdict::Accepted => number(2),
+        Verdict::Rejected => number(3),
+    }
+}
+
+fn settings(s: Settings) {
+    number(s.degree);
+    number(s.depth);
+    number(s.modulus);
+    number(s.bound);
+}
+
+pub fn session(s: Session) {
+    settings(s.settings);
+    number(s.done);
+    flag(s.closed);
+    let claim = s.claim;
+    element(claim);
+    let challenges = s.challenges;
+    each(&challenges);
 }

@@ -1,5 +1,6 @@
 // Tables and elements of the input. A table is its length and then its numbers; numbers past the room lent for them are not read.
 use crate::input::Input;
+use protocol::Session;
 use protocol::Settings;
 ghost use mathlib.Core.Path.{_≡_};
 ghost use Prim.Native.Nat.{_≤_};
@@ -40,12 +41,12 @@ fn least(a: u64, b: usize) -> usize
     b
 }
 
-pub fn residues(input: Input, t: &mut [u32]) -> Filled
+// The next numbers, as many as wanted, with no length before them.
+fn some_residues(input: Input, wanted: u64, t: &mut [u32]) -> Filled
     ensures { λ r. ⌜ Counted (r .count) (now (t .exit)) ⌝ }
 {
-    let length = input.number();
-    let count = least(length.value.magnitude, t.len());
-    let mut next = length.next;
+    let count = least(wanted, t.len());
+    let mut next = input;
     let mut i: usize = 0;
     while i < count {
         let taken = next.number();
@@ -57,6 +58,13 @@ pub fn residues(input: Input, t: &mut [u32]) -> Filled
         count: count,
         next: next,
     }
+}
+
+pub fn residues(input: Input, t: &mut [u32]) -> Filled
+    ensures { λ r. ⌜ Counted (r .count) (now (t .exit)) ⌝ }
+{
+    let length = input.number();
+    some_residues(length.next, length.value.magnitude, t)
 }
 
 pub fn signeds(input: Input, t: &mut [i32]) -> Filled
@@ -148,6 +156,35 @@ pub fn signed_element(input: Input) -> SignedTaken {
     let next = filled.next;
     SignedTaken {
         places: places,
+        next: next,
+    }
+}
+
+// A session record: settings, rounds done, 1 where it is closed, the claim and the eight challenges.
+pub struct SessionTaken {
+    pub session: Session,
+    pub next: Input,
+}
+
+pub fn session(input: Input) -> SessionTaken {
+    let given = settings(input);
+    let done = given.next.number();
+    let closed = done.next.number();
+    let claim = element(closed.next);
+    let mut challenges = [0u32; 8];
+    let filled = some_residues(claim.next, 8, &mut challenges);
+    let set = given.settings;
+    let places = claim.places;
+    let session = Session {
+        settings: set,
+        done: done.value.residue(),
+        claim: places,
+        challenges: challenges,
+        closed: closed.value.magnitude != 0,
+    };
+    let next = filled.next;
+    SessionTaken {
+        session: session,
         next: next,
     }
 }

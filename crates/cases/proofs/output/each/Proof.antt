@@ -1,17 +1,14 @@
 use borrow.Author.Needs.{needs}
 use Prim.Native.Nat.{_-_}
 use lib.ListN.{length}
-use Rattle.cases.proofs.output.residues.Statement.{statement}
-use Rattle.cases.proofs.output.residues.Tie as tie
+use Rattle.cases.proofs.output.each.Statement.{statement}
+use Rattle.cases.proofs.output.each.Tie as tie
 
 abbrev Inv-loop : tie.InvT-loop
 Inv-loop t i₀ i = Unit {0}
 
 abbrev μ-loop : tie.MeasureT-loop
 μ-loop t i₀ i = length t - i
-
-count-requires : tie.Need-count-requires Inv-loop μ-loop
-count-requires c κs = search needs
 
 loop-holds : tie.Need-loop-holds Inv-loop μ-loop
 loop-holds c = search needs
@@ -37,13 +34,12 @@ loop-again c = search needs
 returns : tie.Need-returns Inv-loop μ-loop
 returns c = search needs
 
-pub residues-spec : {M : Type 1} → statement M
-residues-spec =
+pub each-spec : {M : Type 1} → statement M
+each-spec =
     tie.close
     (tie.spec
     Inv-loop
     μ-loop
-    count-requires
     loop-holds
     mul-number
     shared-slice-read-number

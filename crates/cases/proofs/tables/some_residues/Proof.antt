@@ -4,17 +4,14 @@ use native.Mathlib.Omega.{arith}
 use Prim.Native.Nat.{_-_, _≤_}
 use lib.ListN.{length}
 use Rattle.cases.proofs.Counting.{counted}
-use Rattle.cases.proofs.tables.residues.Statement.{statement}
-use Rattle.cases.proofs.tables.residues.Tie as tie
+use Rattle.cases.proofs.tables.some_residues.Statement.{statement}
+use Rattle.cases.proofs.tables.some_residues.Tie as tie
 
 abbrev Inv-loop : tie.InvT-loop
-Inv-loop t₀ count next₀ i₀ t next i = (count ≤ length t₀) × (length t ≡ length t₀)
+Inv-loop wanted t₀ count next₀ i₀ t next i = (count ≤ length t₀) × (length t ≡ length t₀)
 
 abbrev μ-loop : tie.MeasureT-loop
-μ-loop t₀ count next₀ i₀ t next i = count - i
-
-number-requires : tie.Need-number-requires Inv-loop μ-loop
-number-requires c κs = search needs
+μ-loop wanted t₀ count next₀ i₀ t next i = count - i
 
 least-requires : tie.Need-least-requires Inv-loop μ-loop
 least-requires c κs = search needs
@@ -22,8 +19,8 @@ least-requires c κs = search needs
 loop-holds : tie.Need-loop-holds Inv-loop μ-loop
 loop-holds c = search needs
 
-number-requires-2 : tie.Need-number-requires-2 Inv-loop μ-loop
-number-requires-2 c κs = search needs
+number-requires : tie.Need-number-requires Inv-loop μ-loop
+number-requires c κs = search needs
 
 residue-requires : tie.Need-residue-requires Inv-loop μ-loop
 residue-requires c κs = search needs
@@ -49,16 +46,15 @@ same-length c = search needs
 returns : tie.Need-returns Inv-loop μ-loop
 returns c = counted _ _ (omega arith)
 
-pub residues-spec : {M : Type 1} → statement M
-residues-spec =
+pub some-residues-spec : {M : Type 1} → statement M
+some-residues-spec =
     tie.close
     (tie.spec
     Inv-loop
     μ-loop
-    number-requires
     least-requires
     loop-holds
-    number-requires-2
+    number-requires
     residue-requires
     mul-t
     slice-write-t

@@ -1,8 +1,28 @@
-// The calls. Each `run` reads a case's inputs and gives what is left of the input; each `answer` makes the call and prints what it gives.
+// The prover's calls. Each `run` reads a case's inputs and gives what is left of the input; each `answer` makes the call and prints what it gives.
 use crate::input::Input;
 use crate::output;
 use crate::tables;
 use protocol::Settings;
+
+fn answer_commit(settings: Settings, key: &[u32], message: &[i32]) {
+    let answer = prover::commit(settings, key, message);
+    let commitment = answer.commitment;
+    output::first(answer.number);
+    output::element(commitment);
+    output::end();
+}
+
+pub fn run_commit(input: Input) -> Input {
+    let given = tables::settings(input);
+    let mut key = tables::residue_room();
+    let keys = tables::residues(given.next, &mut key);
+    let mut message = tables::signed_room();
+    let messages = tables::signeds(keys.next, &mut message);
+    let n = keys.count;
+    let m = messages.count;
+    answer_commit(given.settings, &key[..n], &message[..m]);
+    messages.next
+}
 
 fn answer_fold(settings: Settings, t: u32, e: u32, key: &mut [u32], message: &mut [i32]) {
     let number = prover::fold(settings, t, e, key, message);
