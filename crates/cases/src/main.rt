@@ -10,6 +10,7 @@ use input::Input;
 fn run(call: u32, input: Input) -> Input {
     match call {
         1 => proving::run_commit(input),
+        2 => proving::run_round(input),
         3 => proving::run_fold(input),
         4 => proving::run_end(input),
         _ => unknown(input),

@@ -24,6 +24,32 @@ pub fn run_commit(input: Input) -> Input {
     messages.next
 }
 
+fn answer_round(settings: Settings, t: u32, key: &[u32], message: &[i32]) {
+    let answer = prover::round(settings, t, key, message);
+    let elements = prover::elements_of(answer);
+    let c0 = elements[0];
+    let c1 = elements[1];
+    let c2 = elements[2];
+    output::first(answer.number);
+    output::element(c0);
+    output::element(c1);
+    output::element(c2);
+    output::end();
+}
+
+pub fn run_round(input: Input) -> Input {
+    let given = tables::settings(input);
+    let t = given.next.number();
+    let mut key = tables::residue_room();
+    let keys = tables::residues(t.next, &mut key);
+    let mut message = tables::signed_room();
+    let messages = tables::signeds(keys.next, &mut message);
+    let n = keys.count;
+    let m = messages.count;
+    answer_round(given.settings, t.value.residue(), &key[..n], &message[..m]);
+    messages.next
+}
+
 fn answer_fold(settings: Settings, t: u32, e: u32, key: &mut [u32], message: &mut [i32]) {
     let number = prover::fold(settings, t, e, key, message);
     output::first(number);
