@@ -19,3 +19,4 @@ pub mod TableLaws
 pub mod LimitLaws
 pub mod RoundTripLaws
 pub mod Trial
+pub mod Refusals

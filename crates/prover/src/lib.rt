@@ -1,0 +1,44 @@
+// The prover's calls: each tests what it is given, and then works on the tables that it is lent.
+mod messages;
+mod refusals;
+
+use arithmetic::tables;
+use protocol::Ended;
+use protocol::Settings;
+ghost use mathlib.Core.Path.{_≡_};
+ghost use Rattle.protocol.specs.Calls.{endAnswer};
+ghost use Rattle.protocol.specs.Promises.{Folded};
+
+// The fold of both tables by X^e. Nothing is written before the last test.
+pub fn fold(settings: Settings, done: u32, e: u32, key: &mut [u32], message: &mut [i32]) -> u32
+    ensures { λ r. ⌜ Folded settings done e (now (key .entry)) (now (message .entry)) r (now (key .exit)) (now (message .exit)) ⌝ }
+{
+    let number = refusals::fold_refusal(settings, done, e, key, message);
+    if number != 0 {
+        return number;
+    }
+    let d = settings.degree;
+    let h = sizes::half_left(settings, done);
+    tables::fold_residues(settings.modulus, d, h, e, key);
+    messages::fold_message(d as usize, h as usize, e as usize, message);
+    0
+}
+
+// The prover's end: the final element, with the rounds done at L.
+pub fn end(settings: Settings, done: u32, message: &[i32]) -> Ended
+    ensures { λ r. ⌜ r ≡ endAnswer settings done (now (message .entry)) ⌝ }
+{
+    let number = refusals::end_refusal(settings, done, message);
+    if number != 0 {
+        return Ended {
+            number: number,
+            last: [0i32; 64],
+        };
+    }
+    let d = settings.degree as usize;
+    let last = messages::first_element(d, message);
+    Ended {
+        number: 0,
+        last: last,
+    }
+}

@@ -1,0 +1,54 @@
+// How many numbers a table has, and how many of them are left after t rounds. Each function is safe for every input, and says what it gives
+// for settings that are allowed.
+use protocol::Settings;
+ghost use mathlib.Core.Path.{_≡_};
+ghost use Prim.Native.Nat.{_*_, _^_, _<_, _≤_};
+ghost use Rattle.protocol.specs.Settings as of;
+ghost use Rattle.protocol.specs.Settings.{settingsRefusal};
+ghost use Rattle.protocol.specs.Opening.{left, halfLeft};
+
+// The numbers of a key or a message: n elements of d.
+pub fn cells(settings: Settings) -> usize
+    ensures { λ r. ⌜ (settingsRefusal settings ≡ 0 → r ≡ of.cells settings) ⌝ }
+{
+    left_cells(settings, 0)
+}
+
+// The numbers of the n/2^t elements that are left.
+pub fn left_cells(settings: Settings, t: u32) -> usize
+    ensures { λ r. ⌜ (settingsRefusal settings ≡ 0 → t ≤ settings .depth → r ≡ left settings t * settings .degree) ⌝ }
+{
+    if settings.depth > 8 {
+        return 0;
+    }
+    if t > settings.depth {
+        return 0;
+    }
+    (1usize << (settings.depth - t)) * (settings.degree as usize)
+}
+
+// The elements of a half of what is left.
+pub fn half_left(settings: Settings, t: u32) -> u32
+    ensures { λ r. ⌜ (settingsRefusal settings ≡ 0 → t < settings .depth → r ≡ halfLeft settings t) ⌝ }
+{
+    if settings.depth > 8 {
+        return 0;
+    }
+    if t >= settings.depth {
+        return 0;
+    }
+    1u32 << (settings.depth - t - 1)
+}
+
+// The bound of what is left: 2^t·B.
+pub fn left_bound(settings: Settings, t: u32) -> u32
+    ensures { λ r. ⌜ (settingsRefusal settings ≡ 0 → t ≤ settings .depth → r ≡ 2 ^ t * settings .bound) ⌝ }
+{
+    if settings.bound > 127 {
+        return 0;
+    }
+    if t > 8 {
+        return 0;
+    }
+    (1u32 << t) * settings.bound
+}
