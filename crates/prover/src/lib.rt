@@ -1,6 +1,5 @@
 // The prover's calls: each tests what it is given, and then works on the tables that it is lent.
 mod messages;
-mod refusals;
 
 use arithmetic::tables;
 use protocol::Ended;
@@ -13,7 +12,7 @@ ghost use Rattle.protocol.specs.Promises.{Folded};
 pub fn fold(settings: Settings, done: u32, e: u32, key: &mut [u32], message: &mut [i32]) -> u32
     ensures { λ r. ⌜ Folded settings done e (now (key .entry)) (now (message .entry)) r (now (key .exit)) (now (message .exit)) ⌝ }
 {
-    let number = refusals::fold_refusal(settings, done, e, key, message);
+    let number = refusals::fold(settings, done, e, key, message);
     if number != 0 {
         return number;
     }
@@ -28,7 +27,7 @@ pub fn fold(settings: Settings, done: u32, e: u32, key: &mut [u32], message: &mu
 pub fn end(settings: Settings, done: u32, message: &[i32]) -> Ended
     ensures { λ r. ⌜ r ≡ endAnswer settings done (now (message .entry)) ⌝ }
 {
-    let number = refusals::end_refusal(settings, done, message);
+    let number = refusals::end(settings, done, message);
     if number != 0 {
         return Ended {
             number: number,

@@ -5,7 +5,30 @@ ghost use mathlib.Core.Path.{_≡_};
 ghost use Prim.Native.Nat.{_*_, _^_, _<_, _≤_};
 ghost use Rattle.protocol.specs.Settings as of;
 ghost use Rattle.protocol.specs.Settings.{settingsRefusal};
-ghost use Rattle.protocol.specs.Opening.{left, halfLeft};
+ghost use Rattle.protocol.specs.Opening as opening;
+ghost use Rattle.protocol.specs.Opening.{halfLeft};
+
+// The elements that are left, n/2^t, and those of a half of them.
+pub fn left(settings: Settings, t: u32) -> u32
+    ensures { λ r. ⌜ (settingsRefusal settings ≡ 0 → t ≤ settings .depth → r ≡ opening.left settings t) ⌝ }
+{
+    if settings.depth > 8 {
+        return 0;
+    }
+    if t > settings.depth {
+        return 0;
+    }
+    1u32 << (settings.depth - t)
+}
+
+pub fn half_left(settings: Settings, t: u32) -> u32
+    ensures { λ r. ⌜ (settingsRefusal settings ≡ 0 → t < settings .depth → r ≡ halfLeft settings t) ⌝ }
+{
+    if t >= settings.depth {
+        return 0;
+    }
+    left(settings, t + 1)
+}
 
 // The numbers of a key or a message: n elements of d.
 pub fn cells(settings: Settings) -> usize
@@ -14,30 +37,11 @@ pub fn cells(settings: Settings) -> usize
     left_cells(settings, 0)
 }
 
-// The numbers of the n/2^t elements that are left.
+// The numbers of the elements that are left.
 pub fn left_cells(settings: Settings, t: u32) -> usize
-    ensures { λ r. ⌜ (settingsRefusal settings ≡ 0 → t ≤ settings .depth → r ≡ left settings t * settings .degree) ⌝ }
+    ensures { λ r. ⌜ (settingsRefusal settings ≡ 0 → t ≤ settings .depth → r ≡ opening.left settings t * settings .degree) ⌝ }
 {
-    if settings.depth > 8 {
-        return 0;
-    }
-    if t > settings.depth {
-        return 0;
-    }
-    (1usize << (settings.depth - t)) * (settings.degree as usize)
-}
-
-// The elements of a half of what is left.
-pub fn half_left(settings: Settings, t: u32) -> u32
-    ensures { λ r. ⌜ (settingsRefusal settings ≡ 0 → t < settings .depth → r ≡ halfLeft settings t) ⌝ }
-{
-    if settings.depth > 8 {
-        return 0;
-    }
-    if t >= settings.depth {
-        return 0;
-    }
-    1u32 << (settings.depth - t - 1)
+    (left(settings, t) as usize) * (settings.degree as usize)
 }
 
 // The bound of what is left: 2^t·B.

@@ -6,8 +6,9 @@ use Rattle.protocol.specs.Opening.{halfLeft, foldSigned, foldResidues}
 use Rattle.protocol.specs.Calls.{foldRefusal}
 use Rattle.sizes.proofs.Limits.{degree-least, degree-most}
 use Rattle.arithmetic.specs.Folds.{Foldable}
-use Rattle.prover.proofs.Given.{halves-inside, half-most, left-room}
-use Rattle.prover.proofs.Answers.{FoldGiven, fold-refused, fold-given, fold-done}
+use Rattle.refusals.proofs.Given.{FoldGiven, fold-given}
+use Rattle.prover.proofs.Halves.{halves-inside, half-most, left-room}
+use Rattle.prover.proofs.Answers.{fold-refused, fold-done}
 use borrow.Author.Needs.{needs}
 use Rattle.prover.proofs.fold.Statement.{statement}
 use Rattle.prover.proofs.fold.Tie as tie
@@ -15,11 +16,11 @@ use Rattle.prover.proofs.fold.Reads as reads
 use Rattle.prover.proofs.fold.Lts as lts
 use Rattle.arithmetic.proofs.tables.fold_residues.Reads as fold-residues-reads
 use Rattle.prover.proofs.messages.fold_message.Reads as fold-message-reads
-use Rattle.prover.proofs.refusals.fold_refusal.Reads as fold-refusal-reads
+use Rattle.refusals.proofs.fold.Reads as fold-reads
 use Rattle.sizes.proofs.half_left.Reads as half-left-reads
 
 passed : (c : tie.Else1) → let a = c .before .before .before .before .before .args in foldRefusal (a .settings) (a .done) (a .e) (a .key .now) (a .message .now) ≡ 0
-passed c = sym (c .before .fold-refusal .ensures) ∙ c .if1 .left
+passed c = sym (c .before .fold .ensures) ∙ c .if1 .left
 
 given : (c : tie.Else1) → let a = c .before .before .before .before .before .args in FoldGiven (a .settings) (a .done) (a .e) (a .key .now) (a .message .now)
 given c = fold-given _ _ _ _ _ (passed c)
@@ -39,11 +40,11 @@ foldable c =
       degree-most = degree-most S ok;
       elements = half-most S ok (a .done) (g .turn);
       down = omega arith;
-      inside = omega (arith, halves-inside S ok (a .done) (g .turn), g .tables .residues-given .long);
+      inside = omega (arith, halves-inside S ok (a .done) (g .turn), g .tables .key-given .long);
     })
 
-fold-refusal-requires : tie.Need-fold-refusal-requires
-fold-refusal-requires c κs = search needs
+fold-requires : tie.Need-fold-requires
+fold-requires c κs = search needs
 
 -- src/lib.rt:18:9
 same-length : tie.Need-same-length
@@ -55,7 +56,7 @@ same-length-2 c = search needs
 
 -- src/lib.rt:18:9
 returns : tie.Need-returns
-returns c = let a = c .before .before .before .before .before .args in fold-refused (a .settings) (a .done) (a .e) (a .key .now) (a .message .now) _ (c .before .fold-refusal .ensures) (c .if1 .taken)
+returns c = let a = c .before .before .before .before .before .args in fold-refused (a .settings) (a .done) (a .e) (a .key .now) (a .message .now) _ (c .before .fold .ensures) (c .if1 .taken)
 
 -- src/lib.rt:21:9
 half-left-requires : tie.Need-half-left-requires
@@ -82,7 +83,7 @@ fold-message-requires c κs =
     let S = a .settings in
     let ok = g .tables .settings in (
       (omega (arith, degree-least S ok), degree-most S ok, omega (arith, half-is h, half-most S ok (a .done) (g .turn)), g .exponent-below),
-      rw (half-is h) (omega (arith, halves-inside S ok (a .done) (g .turn), g .tables .message-long), left-room S ok (a .done) (g .turn) (a .message .now) (g .tables .message-long) (g .small-left)),
+      rw (half-is h) (omega (arith, halves-inside S ok (a .done) (g .turn), g .tables .message-long), left-room S ok (a .done) (g .turn) (a .message .now) (g .small-left)),
     )
 
 -- src/lib.rt:13:1
@@ -106,7 +107,7 @@ pub fold-spec : {M : Type 1} → statement M
 fold-spec =
     tie.close
     (tie.spec
-    fold-refusal-requires
+    fold-requires
     same-length
     same-length-2
     returns
