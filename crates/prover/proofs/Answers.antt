@@ -4,12 +4,27 @@ use mathlib.Core.List.{List}
 use Prim.Native.Nat.{ℕ}
 use lib.IntN.{ℤ}
 use Rattle.protocol.specs.declared.Settings.{Settings}
+use Rattle.protocol.specs.declared.Committed.{Committed}
 use Rattle.protocol.specs.declared.Ended.{Ended}
-use Rattle.protocol.specs.Element.{width, signedZeros, paddedSigned}
-use Rattle.protocol.specs.Opening.{foldSigned, foldResidues, halfLeft, foldMessage, foldKey, finalElement}
-use Rattle.protocol.specs.Calls.{foldRefusal, foldKeyExit, foldMessageExit, endRefusal, endAnswer}
+use Rattle.protocol.specs.Element.{width, zeros, signedZeros, padded, paddedSigned}
+use Rattle.protocol.specs.Opening.{commitment, foldSigned, foldResidues, halfLeft, foldMessage, foldKey, finalElement}
+use Rattle.protocol.specs.Calls.{commitRefusal, commitAnswer, foldRefusal, foldKeyExit, foldMessageExit, endRefusal, endAnswer}
 use Rattle.protocol.specs.Promises.{Folded}
 use Rattle.protocol.proofs.Tests.{granted-zero, granted-refused}
+
+-- ---- commit
+
+module _ (S : Settings) (key : List ℕ) (message : List ℤ) where
+  abbrev committed : List ℕ
+  committed = padded (S .degree) (commitment S key message)
+
+  pub commit-refused : (n : ℕ) → n ≡ commitRefusal S key message → (n ≡ 0 → ⊥) → _≡_ {A = Committed} (record { number = n; commitment = zeros width }) (commitAnswer S key message)
+  unfolding commitAnswer
+  commit-refused n e r = let none = sym (granted-refused (commitRefusal S key message) committed (zeros width) (λ z. r (e ∙ z))) in λ i. record { number = e i; commitment = none i }
+
+  pub commit-done : commitRefusal S key message ≡ 0 → (a : List ℕ) → a ≡ committed → _≡_ {A = Committed} (record { number = 0; commitment = a }) (commitAnswer S key message)
+  unfolding commitAnswer
+  commit-done z a g = let all = g ∙ sym (granted-zero _ committed (zeros width) z) in λ i. record { number = sym z i; commitment = all i }
 
 -- ---- the fold
 

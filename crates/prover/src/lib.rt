@@ -1,12 +1,38 @@
 // The prover's calls: each tests what it is given, and then works on the tables that it is lent.
+mod inner;
 mod messages;
 
+use arithmetic::products;
 use arithmetic::tables;
+use protocol::Committed;
 use protocol::Ended;
 use protocol::Settings;
 ghost use mathlib.Core.Path.{_≡_};
-ghost use Rattle.protocol.specs.Calls.{endAnswer};
+ghost use Rattle.protocol.specs.Calls.{commitAnswer, endAnswer};
 ghost use Rattle.protocol.specs.Promises.{Folded};
+
+// The commitment to a message.
+pub fn commit(settings: Settings, key: &[u32], message: &[i32]) -> Committed
+    ensures { λ r. ⌜ r ≡ commitAnswer settings (now (key .entry)) (now (message .entry)) ⌝ }
+{
+    let number = refusals::commit(settings, key, message);
+    if number != 0 {
+        return Committed {
+            number: number,
+            commitment: [0u32; 64],
+        };
+    }
+    let q = settings.modulus;
+    let d = settings.degree;
+    let n = sizes::left(settings, 0);
+    let mut sums = [0u64; 64];
+    inner::add_inner(q, d, n, message, key, &mut sums);
+    let commitment = products::reduced_sums(q, d, &sums);
+    Committed {
+        number: 0,
+        commitment: commitment,
+    }
+}
 
 // The fold of both tables by X^e. Nothing is written before the last test.
 pub fn fold(settings: Settings, done: u32, e: u32, key: &mut [u32], message: &mut [i32]) -> u32
