@@ -1,7 +1,8 @@
 -- The promises of the calls that write an element or a record to a lent slice: where the slice is long enough the answer is the call's own, else `short`,
 -- and then nothing is written. In a promise x is a slice at entry, and x′ the same slice at exit.
 --
---   EndStored    the prover's end
+--   CommitStored   commit
+--   EndStored      the prover's end
 use mathlib.Core.Path.{_≡_}
 use mathlib.Core.List.{List}
 use Prim.Native.Nat.{ℕ}
@@ -11,8 +12,12 @@ use lib.IntN.{ℤ, pos}
 use Rattle.protocol.specs.declared.Settings.{Settings}
 use Rattle.protocol.specs.Basic.{choose}
 use Rattle.protocol.specs.Element.{width}
-use Rattle.protocol.specs.Calls.{endAnswer}
+use Rattle.protocol.specs.Calls.{commitAnswer, endAnswer}
 use Rattle.exports.specs.Slices.{stored, short}
+
+pub record CommitStored (S : Settings) (key : List ℕ) (message : List ℤ) (commitment : List ℕ) (r : ℕ) (commitment′ : List ℕ) : Type 0 where
+  pub number : r ≡ choose (leb width (length commitment)) (commitAnswer S key message .number) short
+  pub commitment-exit : commitment′ ≡ choose (leb width (length commitment)) (stored 0 (commitAnswer S key message .commitment) commitment) commitment
 
 pub record EndStored (S : Settings) (t : ℕ) (message last : List ℤ) (r : ℕ) (last′ : List ℤ) : Type 0 where
   pub number : r ≡ choose (leb width (length last)) (endAnswer S t message .number) short

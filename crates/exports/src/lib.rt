@@ -10,7 +10,7 @@ ghost use mathlib.Core.Path.{_≡_};
 ghost use Rattle.protocol.specs.Settings.{settingsRefusal};
 ghost use Rattle.protocol.specs.Promises.{Folded};
 ghost use Rattle.exports.specs.Slices.{given};
-ghost use Rattle.exports.specs.Promises.{EndStored};
+ghost use Rattle.exports.specs.Promises.{CommitStored, EndStored};
 
 // Refusals 3 to 6.
 #[no_mangle]
@@ -24,6 +24,34 @@ pub extern "C" fn wovenrock_settings(degree: u32, depth: u32, modulus: u32, boun
         bound: bound,
     };
     tests::settings_refusal(s)
+}
+
+// Commit: the commitment goes to the slice `commitment`.
+#[no_mangle]
+pub extern "C" fn wovenrock_commit(
+    degree: u32,
+    depth: u32,
+    modulus: u32,
+    bound: u32,
+    key: &[u32],
+    message: &[i32],
+    commitment: &mut [u32],
+) -> u32
+    ensures { λ r. ⌜ CommitStored (given degree depth modulus bound) (now (key .entry)) (now (message .entry)) (now (commitment .entry)) r (now (commitment .exit)) ⌝ }
+{
+    if commitment.len() < 64 {
+        return 100;
+    }
+    let s = Settings {
+        degree: degree,
+        depth: depth,
+        modulus: modulus,
+        bound: bound,
+    };
+    let answer = prover::commit(s, key, message);
+    let element = answer.commitment;
+    slices::store_residues(element, commitment);
+    answer.number
 }
 
 // The fold of both tables by X^e, with `done` rounds done.

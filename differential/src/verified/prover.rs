@@ -1,20 +1,20 @@
-//! The functions of the verified library, each with a safe wrapper.
-//!
-//! Nothing checks these declarations against the library, so they are kept
-//! to numbers and slices: a slice is a pointer and a length. A function
-//! needs nothing of its arguments but that the slices are what they say, so
-//! a wrapper tests nothing.
+//! The prover's calls.
 
 use reference::types::Settings;
 
-/// What is answered where a slice for an element or a record is too short.
-pub const SHORT: u32 = 100;
-
-/// Numbers of an element in a lent slice.
-pub const ELEMENT: usize = 64;
-
 extern "C" {
-    fn wovenrock_settings(degree: u32, depth: u32, modulus: u32, bound: u32) -> u32;
+    fn wovenrock_commit(
+        degree: u32,
+        depth: u32,
+        modulus: u32,
+        bound: u32,
+        key: *const u32,
+        key_length: usize,
+        message: *const i32,
+        message_length: usize,
+        commitment: *mut u32,
+        commitment_length: usize,
+    ) -> u32;
 
     fn wovenrock_fold(
         degree: u32,
@@ -42,9 +42,22 @@ extern "C" {
     ) -> u32;
 }
 
-/// Refusals 3 to 6.
-pub fn settings(s: Settings) -> u32 {
-    unsafe { wovenrock_settings(s.degree, s.depth, s.modulus, s.bound) }
+/// Commit.
+pub fn commit(s: Settings, key: &[u32], message: &[i32], commitment: &mut [u32]) -> u32 {
+    unsafe {
+        wovenrock_commit(
+            s.degree,
+            s.depth,
+            s.modulus,
+            s.bound,
+            key.as_ptr(),
+            key.len(),
+            message.as_ptr(),
+            message.len(),
+            commitment.as_mut_ptr(),
+            commitment.len(),
+        )
+    }
 }
 
 /// The fold of both tables.
