@@ -2,6 +2,7 @@
 //
 // Every function first answers 100 where a slice that it is to write an element or a record to is too short, and then touches nothing. Otherwise it
 // answers the number of the refusal, 0 where nothing is refused.
+mod records;
 mod slices;
 
 use arithmetic::tests;
