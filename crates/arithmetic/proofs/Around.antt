@@ -89,7 +89,3 @@ module _ (d : ℕ) (p : 0 < d) where
 pub rotate-mod : (d e : ℕ) (a : Element) (k : ℕ) → rotate d (e % (2 * d)) a k ≡ rotate d e a k
 unfolding rotate
 rotate-mod d e a k = ap (λ x. around d a (k + (2 * d - x))) (Nat.mod-mod e (2 * d))
-
-pub rotate-ext : (d e : ℕ) {a b : Element} (k : ℕ) → 0 < d → ((j : ℕ) → j < d → a j ≡ b j) → rotate d e a k ≡ rotate d e b k
-unfolding rotate
-rotate-ext d e k p h = around-ext d (k + (2 * d - e % (2 * d))) p h

@@ -6,5 +6,4 @@ pub mod Fill
 pub mod Splice
 pub mod Folds
 pub mod Rows
-pub mod Readiness
 pub mod Padding

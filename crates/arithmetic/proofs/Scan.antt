@@ -2,7 +2,7 @@
 use mathlib.Core.Path.{_≡_, refl, sym, ap, _∙_}
 use mathlib.Core.Bool.{Bool, true, false, _&&_, false≢true}
 use mathlib.Core.List.{List, []}
-use Prim.Native.Nat.{ℕ, zero, suc, _+_, _<_, _≤_}
+use Prim.Native.Nat.{ℕ, suc, _+_, _<_, _≤_}
 use native.Mathlib.Numerals.{add-one}
 use native.Mathlib.Omega.{arith}
 use lib.ListN.{length, getD, drop, drop-of-length-le}
@@ -46,8 +46,3 @@ every-fails f n k h p = go (every n f) refl
 
 pub every-ends : (f : ℕ → Bool) (n k : ℕ) → every k f ≡ true → k ≡ n → true ≡ every n f
 every-ends f n k e p = sym e ∙ ap (λ m. every m f) p
-
-pub every-ext : (n : ℕ) {f g : ℕ → Bool} → ((k : ℕ) → k < n → f k ≡ g k) → every n f ≡ every n g
-unfolding every
-every-ext zero h = refl
-every-ext (suc n) {f} {g} h = λ i. every-ext n {f = f} {g = g} (λ k l. h k (omega arith)) i && h n (omega arith) i

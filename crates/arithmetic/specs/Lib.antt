@@ -1,4 +1,3 @@
 pub mod Elements
 pub mod Folds
 pub mod Products
-pub mod Ready

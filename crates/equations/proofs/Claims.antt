@@ -11,9 +11,10 @@ use Rattle.protocol.specs.Transcript.{nextClaim}
 use Rattle.protocol.proofs.Modulo.{modulo-again}
 use Rattle.protocol.proofs.Reading.{tabulate-ext}
 use Rattle.arithmetic.specs.Elements.{addRotated}
-use Rattle.arithmetic.specs.Ready.{Ready}
-use Rattle.arithmetic.proofs.Around.{rotate-rotate, rotate-mod, rotate-ext}
+use Rattle.arithmetic.proofs.Around.{rotate-rotate, rotate-mod}
 use Rattle.arithmetic.proofs.Padding.{padded-at}
+use Rattle.claims.proofs.Agreement.{rotate-same}
+use Rattle.equations.proofs.Ready.{Ready}
 
 module _ (S : Settings) (ready : Ready S) (e : ℕ) where
   open Settings S using (degree as d, modulus as q)
@@ -24,7 +25,7 @@ module _ (S : Settings) (ready : Ready S) (e : ℕ) where
       ap (λ n. rotate d n a k) (omega arith)
       ∙ sym (rotate-rotate d (omega arith) (e % (2 * d)) (e % (2 * d)) a k)
       ∙ rotate-mod d e (rotate d (e % (2 * d)) a) k
-      ∙ rotate-ext d e k (omega arith) (λ j _. rotate-mod d e a j)
+      ∙ rotate-same {d = d} (omega arith) e (λ j _. rotate-mod d e a j) k
 
   module _ (c0 c1 c2 : Element) (sum : List ℕ) (is : sum ≡ addRotated q d (e % (2 * d)) c0 c1) where
     first : (k : ℕ) → k < d → residue sum k ≡ pos (modulo q (c0 k +ℤ rotate d e c1 k))

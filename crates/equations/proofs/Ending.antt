@@ -1,6 +1,6 @@
 -- The end of a transcript: the bound in numbers, and the last equation coefficient by coefficient.
 use mathlib.Core.Path.{_≡_, refl, sym, ap, _∙_}
-use mathlib.Core.Bool.{Bool, true, false}
+use mathlib.Core.Bool.{Bool, true, false, _&&_}
 use mathlib.Core.List.{List}
 use Prim.Native.Nat.{ℕ, _+_, _*_, _/_, _%_, _^_, _<_, _≤_}
 use native.Mathlib.Nat as Nat
@@ -11,26 +11,26 @@ use lib.IntN.{ℤ, pos, _*ℤ_, natAbs}
 use lib.ListN.{getD}
 use Rattle.protocol.specs.declared.Settings.{Settings}
 use Rattle.protocol.specs.Basic.{every, within}
-use Rattle.protocol.specs.Element.{modulo, product, signed, residue, reduced, padded}
+use Rattle.protocol.specs.Element.{Element, modulo, product, signed, residue, reduced, padded}
 use Rattle.protocol.specs.Settings.{size, half}
-use Rattle.protocol.specs.Transcript.{finalBounded}
+use Rattle.protocol.specs.Transcript.{finalBounded, ending, endHolds}
 use Rattle.protocol.proofs.Modulo.{modulo-times, mod-times}
 use Rattle.protocol.proofs.Tests.{every-at}
+use Rattle.protocol.specs.Opening.{keyAfter}
+use Rattle.arithmetic.specs.Elements.{elementAt}
 use Rattle.arithmetic.specs.Products.{limit}
-use Rattle.arithmetic.specs.Ready.{Ready}
-use Rattle.arithmetic.proofs.Padding.{padded-at}
-use Rattle.arithmetic.proofs.Scan.{every-goes-on, every-fails, every-ends, every-ext}
-use Rattle.equations.specs.Ends.{equationMet}
-
-pub two-power-most : (n : ℕ) → n ≤ 8 → 2 ^ n ≤ 256
-two-power-most n h = Nat.pow-le-pow-right {n = 2} (omega arith) {i = n} {j = 8} h
+use Rattle.arithmetic.proofs.Padding.{padded-at, element-residue}
+use Rattle.arithmetic.proofs.Scan.{every-fails}
+use Rattle.equations.specs.Ends.{equationMet, endMet}
+use Rattle.claims.proofs.Agreement.{every-ext, product-same}
+use Rattle.equations.proofs.Ready.{Ready}
 
 module _ (S : Settings) (ready : Ready S) (f : List ℤ) where
   open Settings S using (degree as d, depth as L, modulus as q, bound as B)
 
   size-most : size S * B ≤ 256 * 127
   unfolding size
-  size-most = Nat.mul-le-mul {n₂ = 256} {m₂ = 127} (two-power-most L (omega arith)) (omega arith)
+  size-most = Nat.mul-le-mul {n₂ = 256} {m₂ = 127} (Nat.pow-le-pow-right {n = 2} (omega arith) {i = L} {j = 8} (omega arith)) (omega arith)
 
   pub bounded-small : finalBounded S (signed f) ≡ true → (j : ℕ) → j < d → natAbs (getD f j (pos 0)) ≤ limit
   unfolding finalBounded signed within
@@ -58,3 +58,10 @@ module _ (S : Settings) (ready : Ready S) (f : List ℤ) where
     pub equation-holds : every d (λ j. eqb (getD claim j 0) (h * getD p j 0 % q)) ≡ true → true ≡ equationMet S claim (signed f) (residue g)
     unfolding equationMet
     equation-holds t = sym t ∙ every-ext d test-is
+
+-- the end by the first element of the folded key, as by the key
+pub end-by-key : (S : Settings) (key E claim : List ℕ) (f : Element) → endMet S claim f (residue (elementAt (S .degree) (keyAfter S E (S .depth) key) 0)) ≡ (finalBounded S f && endHolds S key E claim f)
+unfolding endMet equationMet endHolds ending
+end-by-key S key E claim f = ap (λ b. finalBounded S f && b) (every-ext (S .degree) (λ k l.
+    ap (λ z. eqb (getD claim k 0) (modulo (S .modulus) (pos (half S ^ S .depth) *ℤ z)))
+    (product-same {d = S .degree} (omega arith) (λ _ _. refl) (element-residue (S .degree) (keyAfter S E (S .depth) key) 0) k)))

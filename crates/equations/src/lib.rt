@@ -1,13 +1,16 @@
 // The verifier's equations: a round, the claim after it, and the end. Every function is safe for every input; what it gives is said for
 // settings that refusals 3 to 6 let pass.
+pub mod keys;
+
 use protocol::Settings;
 ghost use mathlib.Core.Path.{_≡_};
-ghost use mathlib.Core.Bool.{true};
+ghost use mathlib.Core.Bool.{true, _&&_};
 ghost use Prim.Native.Nat.{_+_, _*_, _/_, _%_, _^_, _<_, _≤_};
 ghost use lib.Dec.{eqb};
+ghost use lib.ListN.{length};
 ghost use Rattle.protocol.specs.Element.{padded, residue, signed};
-ghost use Rattle.protocol.specs.Transcript.{roundHolds, nextClaim, finalBounded};
-ghost use Rattle.arithmetic.specs.Ready.{Ready};
+ghost use Rattle.protocol.specs.Transcript.{roundHolds, nextClaim, finalBounded, endHolds};
+ghost use Rattle.protocol.specs.Settings.{settingsRefusal, cells};
 ghost use Rattle.equations.specs.Ends.{equationMet, endMet};
 
 // Is 2·(x + y) modulo q the number z.
@@ -21,7 +24,7 @@ fn doubled_is(q: u32, x: u32, y: u32, z: u32) -> bool
 
 // Does a round hold.
 pub fn round_holds(settings: Settings, claim: [u32; 64], c0: [u32; 64], c2: [u32; 64]) -> bool
-    ensures { λ r. ⌜ (Ready settings → r ≡ roundHolds settings claim (residue c0) (residue c2)) ⌝ }
+    ensures { λ r. ⌜ (settingsRefusal settings ≡ 0 → r ≡ roundHolds settings claim (residue c0) (residue c2)) ⌝ }
 {
     let q = settings.modulus;
     let d = settings.degree as usize;
@@ -49,7 +52,7 @@ pub fn next_claim(
     c1: [u32; 64],
     c2: [u32; 64],
 ) -> [u32; 64]
-    ensures { λ r. ⌜ (Ready settings → r ≡ padded (settings .degree) (nextClaim settings e (residue c0) (residue c1) (residue c2))) ⌝ }
+    ensures { λ r. ⌜ (settingsRefusal settings ≡ 0 → r ≡ padded (settings .degree) (nextClaim settings e (residue c0) (residue c1) (residue c2))) ⌝ }
 {
     let q = settings.modulus;
     let d = settings.degree;
@@ -82,29 +85,15 @@ pub fn half_power(q: u32, exponent: u32) -> u32
     power as u32
 }
 
-// 2^exponent; 0 for an exponent over 8.
-fn power_of_two(exponent: u32) -> u32
-    ensures { λ r. ⌜ ((exponent ≤ 8 → r ≡ 2 ^ exponent) × (r ≤ 256)) ⌝ }
-{
-    if exponent > 8 {
-        return 0;
-    }
-    1 << exponent
-}
-
 // Has the final element no coefficient beyond ±n·B.
 pub fn final_bounded(settings: Settings, f: [i32; 64]) -> bool
-    ensures { λ r. ⌜ (Ready settings → r ≡ finalBounded settings (signed f)) ⌝ }
+    ensures { λ r. ⌜ (settingsRefusal settings ≡ 0 → r ≡ finalBounded settings (signed f)) ⌝ }
 {
     let d = settings.degree as usize;
-    let bound = settings.bound;
     if d > 64 {
         return false;
     }
-    if bound > 127 {
-        return false;
-    }
-    let limit = power_of_two(settings.depth) * bound;
+    let limit = sizes::left_bound(settings, settings.depth);
     let mut k: usize = 0;
     while k < d {
         if arithmetic::tests::magnitude(f[k]) > limit {
@@ -125,7 +114,7 @@ fn scaled_is(q: u32, x: u32, y: u32, z: u32) -> bool
 
 // Is the claim half^L·f·g, where f has no coefficient beyond ±n·B.
 fn equation_met(settings: Settings, claim: [u32; 64], f: [i32; 64], g: [u32; 64]) -> bool
-    ensures { λ r. ⌜ (Ready settings → finalBounded settings (signed f) ≡ true → r ≡ equationMet settings claim (signed f) (residue g)) ⌝ }
+    ensures { λ r. ⌜ (settingsRefusal settings ≡ 0 → finalBounded settings (signed f) ≡ true → r ≡ equationMet settings claim (signed f) (residue g)) ⌝ }
 {
     let q = settings.modulus;
     let d = settings.degree as usize;
@@ -149,10 +138,24 @@ fn equation_met(settings: Settings, claim: [u32; 64], f: [i32; 64], g: [u32; 64]
 
 // Is the end met: the bound first, then the equation.
 pub fn end_holds(settings: Settings, claim: [u32; 64], f: [i32; 64], g: [u32; 64]) -> bool
-    ensures { λ r. ⌜ (Ready settings → r ≡ endMet settings claim (signed f) (residue g)) ⌝ }
+    ensures { λ r. ⌜ (settingsRefusal settings ≡ 0 → r ≡ endMet settings claim (signed f) (residue g)) ⌝ }
 {
     if !final_bounded(settings, f) {
         return false;
     }
     equation_met(settings, claim, f, g)
+}
+
+// Is the end of a transcript met: the bound, and the equation with the key folded by the challenges.
+pub fn end_met(
+    settings: Settings,
+    claim: [u32; 64],
+    f: [i32; 64],
+    key: &[u32],
+    challenges: &[u32],
+) -> bool
+    ensures { λ r. ⌜ (settingsRefusal settings ≡ 0 → length (now (key .entry)) ≡ cells settings → settings .depth ≤ length (now (challenges .entry)) → r ≡ (finalBounded settings (signed f) && endHolds settings (now (key .entry)) (now (challenges .entry)) claim (signed f))) ⌝ }
+{
+    let g = keys::folded_key(settings, key, challenges);
+    end_holds(settings, claim, f, g)
 }

@@ -1,6 +1,5 @@
 -- Inner products as sums: the loop over the elements, and what the sums are modulo q where none of them reaches 2^64.
 --   most              what one product of small coefficients with residues adds to a sum at most
---   Small n m         the first n coefficients of m are small
 --   SumIs q k s b z   sum k of the sums s is at most b, and is z modulo q
 use mathlib.Core.Path.{_≡_, refl, sym, ap, _∙_, subst}
 use mathlib.Core.List.{List, _++_}
@@ -20,6 +19,7 @@ use Rattle.protocol.proofs.Reading.{tabulate-at, tabulate-length, tabulate-ext}
 use Rattle.claims.proofs.Agreement.{product-same}
 use Rattle.arithmetic.specs.Products.{extension, start, addRows, total, term, reducedSums}
 use Rattle.arithmetic.proofs.Rows.{rows-at, terms-residue}
+use Rattle.prover.specs.Messages.{Small}
 use Rattle.prover.specs.Sums.{innerSums}
 
 -- ---- the loop over the elements
@@ -37,9 +37,6 @@ inner-more q d m G s i f x s′ a b c = (λ j. addRows d (a j) (b j) d (c j)) �
 
 abbrev pub most : ℕ
 most = 64 * (2 ^ 14 * 2 ^ 31)
-
-abbrev pub Small : ℕ → List ℤ → Type 0
-Small n m = (j : ℕ) → j < n → natAbs (getD m j (pos 0)) ≤ 2 ^ 14
 
 total-most : (n : ℕ) (f : ℕ → ℕ) (b : ℕ) → ((j : ℕ) → j < n → f j ≤ b) → total n f ≤ n * b
 unfolding total

@@ -10,6 +10,7 @@ use Rattle.protocol.specs.Basic.{every}
 use Rattle.arithmetic.proofs.Scan.{every-none, every-goes-on}
 use Rattle.equations.proofs.Ending.{bounded-small, equation-fails, equation-holds}
 use borrow.Author.Needs.{needs}
+use Rattle.equations.proofs.Ready.{ready}
 use Rattle.equations.proofs.equation_met.Statement.{statement}
 use Rattle.equations.proofs.equation_met.Tie as tie
 
@@ -23,10 +24,10 @@ cast-d : tie.Need-cast-d Inv-loop μ-loop
 cast-d c = search needs
 
 returns : tie.Need-returns Inv-loop μ-loop
-returns c = λ r. absurd (omega arith)
+returns c = λ e. absurd (let r = ready _ e in omega arith)
 
 returns-2 : tie.Need-returns-2 Inv-loop μ-loop
-returns-2 c = λ r. absurd (omega arith)
+returns-2 c = λ e. absurd (let r = ready _ e in omega arith)
 
 half-power-requires : tie.Need-half-power-requires Inv-loop μ-loop
 half-power-requires c κs = search needs
@@ -53,9 +54,10 @@ scaled-is-requires : tie.Need-scaled-is-requires Inv-loop μ-loop
 scaled-is-requires c κs = search needs
 
 returns-3 : tie.Need-returns-3 Inv-loop μ-loop
-returns-3 c = λ r t.
+returns-3 c = λ e t.
     let p = c .before .before .before .before in
     let a = p .before .before .before .before .before .args in
+    let r = ready (a .settings) e in
     equation-fails (a .settings) r (a .f) (a .t2) (a .g) (p .product .result) (p .before .half-power .result) (p .before .half-power .ensures (omega arith))
     (p .product .ensures (omega arith) (omega arith) (omega arith) (bounded-small (a .settings) r (a .f) t)) (c .before .before .before .loop .k) (omega arith) (sym (c .before .scaled-is .ensures) ∙ not-true _ (c .if3 .taken))
 
@@ -71,9 +73,10 @@ loop-again c =
     (omega arith, omega arith, omega arith, every-goes-on _ (l .k) (l .inv .3) (sym (c .before .scaled-is .ensures) ∙ not-false _ (c .if3 .left)))
 
 returns-4 : tie.Need-returns-4 Inv-loop μ-loop
-returns-4 c = λ r t.
+returns-4 c = λ e t.
     let p = c .before .before in
     let a = p .before .before .before .before .before .args in
+    let r = ready (a .settings) e in
     let l = c .before .loop in
     equation-holds (a .settings) r (a .f) (a .t2) (a .g) (p .product .result) (p .before .half-power .result) (p .before .half-power .ensures (omega arith))
     (p .product .ensures (omega arith) (omega arith) (omega arith) (bounded-small (a .settings) r (a .f) t))

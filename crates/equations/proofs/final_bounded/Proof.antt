@@ -2,7 +2,7 @@
 use mathlib.Core.Path.{_≡_, sym, ap, _∙_}
 use mathlib.Core.Bool.{true}
 use Prim.Native.Nat.{ℕ, _*_, _-_, _≤_, _<_}
-use native.Mathlib.Nat.{mul-le-mul}
+use native.Mathlib.Nat.{le-refl}
 use native.Mathlib.Omega.{arith}
 use borrow.Author.Tests.{le-leb, lt-leb}
 use lib.Dec.{leb}
@@ -11,46 +11,40 @@ use lib.ListN.{getD}
 use mir.Syntax.{w32}
 use Rattle.protocol.specs.Basic.{every, within}
 use Rattle.protocol.specs.Element.{signed}
-use Rattle.protocol.specs.Settings.{size}
+use Rattle.protocol.specs.Settings.{settingsRefusal, size}
 use Rattle.protocol.specs.Transcript.{finalBounded}
-use Rattle.arithmetic.specs.Ready.{Ready}
 use Rattle.arithmetic.proofs.Magnitude.{through-bits}
 use Rattle.arithmetic.proofs.Scan.{every-none, every-goes-on, every-fails, every-ends}
+use Rattle.equations.proofs.Ready.{ready}
 use borrow.Author.Needs.{needs}
 use Rattle.equations.proofs.final_bounded.Statement.{statement}
 use Rattle.equations.proofs.final_bounded.Tie as tie
 
 abbrev Inv-loop : tie.InvT-loop
-Inv-loop f d bound limit k₀ k = (k ≤ d) × (d ≤ 64) × (every k (λ (j : ℕ). within limit (signed f j)) ≡ true)
+Inv-loop f d limit k₀ k = (k ≤ d) × (d ≤ 64) × (every k (λ (j : ℕ). within limit (signed f j)) ≡ true)
 
 abbrev μ-loop : tie.MeasureT-loop
-μ-loop f d bound limit k₀ k = d - k
-
--- the coefficient that the turn looks at
-abbrev coefficient : tie.In-loop Inv-loop μ-loop → ℤ
-coefficient c = getD (c .before .before .before .before .before .before .args .t2) (c .before .loop .k) (pos 0)
-
-size-is : (c : tie.After-magnitude Inv-loop μ-loop) → natAbs (coefficient (c .before .before)) ≡ c .magnitude .result
-size-is c = sym (c .magnitude .ensures ∙ ap natAbs (through-bits w32 (coefficient (c .before .before)) (c .before .magnitude-arg .given)))
-
-limit-is : (c : tie.After-power-of-two Inv-loop μ-loop) → let S = c .before .before .before .before .args .settings in Ready S → c .power-of-two .result * S .bound ≡ size S * S .bound
-unfolding size
-limit-is c r = ap (λ n. n * c .before .before .before .before .args .settings .bound) (c .power-of-two .ensures .0 (r .depth-most))
+μ-loop f d limit k₀ k = d - k
 
 cast-d : tie.Need-cast-d Inv-loop μ-loop
 cast-d c = search needs
 
 returns : tie.Need-returns Inv-loop μ-loop
-returns c = λ r. absurd (omega arith)
+returns c = λ e. absurd (let r = ready _ e in omega arith)
 
-returns-2 : tie.Need-returns-2 Inv-loop μ-loop
-returns-2 c = λ r. absurd (omega arith)
+left-bound-requires : tie.Need-left-bound-requires Inv-loop μ-loop
+left-bound-requires c κs = search needs
 
-power-of-two-requires : tie.Need-power-of-two-requires Inv-loop μ-loop
-power-of-two-requires c κs = search needs
+-- the coefficient that the turn looks at
+abbrev coefficient : tie.In-loop Inv-loop μ-loop → ℤ
+coefficient c = getD (c .before .before .before .before .before .args .t2) (c .before .loop .k) (pos 0)
 
-mul-limit : tie.Need-mul-limit Inv-loop μ-loop
-mul-limit c = omega (arith, mul-le-mul {n₁ = c .power-of-two .result} {m₁ = c .before .before .before .before .args .settings .bound} {n₂ = 256} {m₂ = 127} (omega (arith, c .power-of-two .ensures .1)) (omega arith))
+size-is : (c : tie.After-magnitude Inv-loop μ-loop) → natAbs (coefficient (c .before .before)) ≡ c .magnitude .result
+size-is c = sym (c .magnitude .ensures ∙ ap natAbs (through-bits w32 (coefficient (c .before .before)) (c .before .magnitude-arg .given)))
+
+limit-is : (c : tie.After-left-bound Inv-loop μ-loop) → let S = c .before .before .before .args .settings in settingsRefusal S ≡ 0 → c .left-bound .result ≡ size S * S .bound
+unfolding size
+limit-is c e = c .left-bound .ensures e (le-refl _)
 
 loop-holds : tie.Need-loop-holds Inv-loop μ-loop
 loop-holds c = (omega arith, omega arith, every-none _)
@@ -64,14 +58,14 @@ array-copy-out-magnitude c = search needs
 magnitude-requires : tie.Need-magnitude-requires Inv-loop μ-loop
 magnitude-requires c κs = search needs
 
-returns-3 : tie.Need-returns-3 Inv-loop μ-loop
+returns-2 : tie.Need-returns-2 Inv-loop μ-loop
 unfolding finalBounded within signed
-returns-3 c = λ r.
+returns-2 c = λ e.
     let w = c .before .before .before .before .before in
-    let a = w .before .before .before .before .args in
-    every-fails (λ j. within (w .power-of-two .result * a .settings .bound) (signed (a .t2) j)) (a .settings .degree) (c .before .before .before .before .loop .k) (omega arith)
-    (ap (λ m. leb m (w .power-of-two .result * a .settings .bound)) (size-is (c .before)) ∙ lt-leb _ _ (c .if3 .taken))
-    ∙ ap (λ n. every (a .settings .degree) (λ j. within n (signed (a .t2) j))) (limit-is w r)
+    let a = w .before .before .before .args in
+    every-fails (λ j. within (w .left-bound .result) (signed (a .t2) j)) (a .settings .degree) (c .before .before .before .before .loop .k) (omega arith)
+    (ap (λ m. leb m (w .left-bound .result)) (size-is (c .before)) ∙ lt-leb _ _ (c .if2 .taken))
+    ∙ ap (λ n. every (a .settings .degree) (λ j. within n (signed (a .t2) j))) (limit-is w e)
 
 add-k : tie.Need-add-k Inv-loop μ-loop
 add-k c = search needs
@@ -82,21 +76,20 @@ loop-less c = search needs
 loop-again : tie.Need-loop-again Inv-loop μ-loop
 unfolding within signed
 loop-again c =
-    let l = c .before .before .before .before .loop in
-    let w = c .before .before .before .before .before in (
+    let l = c .before .before .before .before .loop in (
       omega arith,
       omega arith,
-      every-goes-on _ (l .k) (l .inv .2) (ap (λ m. leb m (w .power-of-two .result * w .before .before .before .before .args .settings .bound)) (size-is (c .before)) ∙ le-leb _ _ (c .if3 .left)),
+      every-goes-on _ (l .k) (l .inv .2) (ap (λ m. leb m (c .before .before .before .before .before .left-bound .result)) (size-is (c .before)) ∙ le-leb _ _ (c .if2 .left)),
     )
 
-returns-4 : tie.Need-returns-4 Inv-loop μ-loop
+returns-3 : tie.Need-returns-3 Inv-loop μ-loop
 unfolding finalBounded
-returns-4 c = λ r.
+returns-3 c = λ e.
     let l = c .before .loop in
     let w = c .before .before in
-    let a = w .before .before .before .before .args in
-    every-ends (λ j. within (w .power-of-two .result * a .settings .bound) (signed (a .t2) j)) (a .settings .degree) (l .k) (l .inv .2) (omega arith)
-    ∙ ap (λ n. every (a .settings .degree) (λ j. within n (signed (a .t2) j))) (limit-is w r)
+    let a = w .before .before .before .args in
+    every-ends (λ j. within (w .left-bound .result) (signed (a .t2) j)) (a .settings .degree) (l .k) (l .inv .2) (omega arith)
+    ∙ ap (λ n. every (a .settings .degree) (λ j. within n (signed (a .t2) j))) (limit-is w e)
 
 pub final-bounded-spec : {M : Type 1} → statement M
 final-bounded-spec =
@@ -106,15 +99,13 @@ final-bounded-spec =
     μ-loop
     cast-d
     returns
-    returns-2
-    power-of-two-requires
-    mul-limit
+    left-bound-requires
     loop-holds
     mul-magnitude
     array-copy-out-magnitude
     magnitude-requires
-    returns-3
+    returns-2
     add-k
     loop-less
     loop-again
-    returns-4)
+    returns-3)

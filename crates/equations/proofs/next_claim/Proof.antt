@@ -5,14 +5,15 @@ use native.Mathlib.Omega.{arith}
 use Rattle.protocol.specs.Element.{residue}
 use Rattle.equations.proofs.Claims.{claim-is}
 use borrow.Author.Needs.{needs}
+use Rattle.equations.proofs.Ready.{ready}
 use Rattle.equations.proofs.next_claim.Statement.{statement}
 use Rattle.equations.proofs.next_claim.Tie as tie
 
 returns : tie.Need-returns
-returns c = λ r. absurd (omega arith)
+returns c = λ e. absurd (let r = ready _ e in omega arith)
 
 returns-2 : tie.Need-returns-2
-returns-2 c = λ r. absurd (omega arith)
+returns-2 c = λ e. absurd (let r = ready _ e in omega arith)
 
 mul-turn : tie.Need-mul-turn
 mul-turn c = search needs
@@ -30,7 +31,11 @@ add-rotated-requires-2 : tie.Need-add-rotated-requires-2
 add-rotated-requires-2 c κs = search needs
 
 returns-3 : tie.Need-returns-3
-returns-3 c = λ r. let a = c .before .before .before .before .args in c .add-rotated2 .ensures (omega arith) (omega arith) (omega arith) ∙ claim-is (a .settings) r (a .e) (residue (a .c0)) (residue (a .c1)) (residue (a .c2)) _ (c .before .add-rotated .ensures (omega arith) (omega arith) (omega arith))
+returns-3 c = λ e.
+    let a = c .before .before .before .before .args in
+    let r = ready (a .settings) e in
+    c .add-rotated2 .ensures (omega arith) (omega arith) (omega arith)
+    ∙ claim-is (a .settings) r (a .e) (residue (a .c0)) (residue (a .c1)) (residue (a .c2)) _ (c .before .add-rotated .ensures (omega arith) (omega arith) (omega arith))
 
 pub next-claim-spec : {M : Type 1} → statement M
 next-claim-spec =

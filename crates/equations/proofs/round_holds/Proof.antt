@@ -11,6 +11,7 @@ use Rattle.protocol.specs.Element.{modulo, residue}
 use Rattle.protocol.specs.Transcript.{doubled, roundHolds}
 use Rattle.arithmetic.proofs.Scan.{every-none, every-goes-on, every-fails, every-ends}
 use borrow.Author.Needs.{needs}
+use Rattle.equations.proofs.Ready.{ready}
 use Rattle.equations.proofs.round_holds.Statement.{statement}
 use Rattle.equations.proofs.round_holds.Tie as tie
 
@@ -24,10 +25,10 @@ cast-d : tie.Need-cast-d Inv-loop μ-loop
 cast-d c = search needs
 
 returns : tie.Need-returns Inv-loop μ-loop
-returns c = λ r. absurd (omega arith)
+returns c = λ e. absurd (let r = ready _ e in omega arith)
 
 returns-2 : tie.Need-returns-2 Inv-loop μ-loop
-returns-2 c = λ r. absurd (omega arith)
+returns-2 c = λ e. absurd (let r = ready _ e in omega arith)
 
 loop-holds : tie.Need-loop-holds Inv-loop μ-loop
 loop-holds c = (omega arith, omega arith, omega arith, every-none _)

@@ -1,16 +1,13 @@
 use mathlib.Core.Path.{_≡_, sym, ap, _∙_}
-use Prim.Native.Nat.{_*_}
 use native.Mathlib.Omega.{arith}
-use lib.ListN.{length, length-replicate}
 use Rattle.protocol.specs.Element.{width, zeros}
-use Rattle.protocol.specs.Settings.{cells}
 use Rattle.protocol.specs.Opening.{left}
 use Rattle.protocol.specs.Calls.{commitRefusal}
-use Rattle.sizes.proofs.Limits.{degree-least, degree-most}
+use Rattle.sizes.proofs.Limits.{degree-most}
 use Rattle.arithmetic.specs.Products.{reducedSums}
 use Rattle.refusals.proofs.Given.{CommitGiven, commit-given}
 use Rattle.prover.specs.Sums.{innerSums}
-use Rattle.prover.proofs.Commitments.{left-whole, commitment-is}
+use Rattle.prover.proofs.Products.{commit-tables, commitment-is}
 use Rattle.prover.proofs.Answers.{commit-refused, commit-done}
 use borrow.Author.Needs.{needs}
 use Rattle.prover.proofs.commit.Statement.{statement}
@@ -49,14 +46,11 @@ slice-aggregate-add-inner c = search needs
 
 -- src/lib.rt:29:5
 add-inner-requires : tie.Need-add-inner-requires
-unfolding cells
 add-inner-requires c κs =
     let n = c .before in
-    let S = n .before .before .before .before .args .settings in
-    let g = given (n .before) .tables in
-    let ok = g .settings in
-    let whole = ap (λ x. x * S .degree) (all n ∙ left-whole S) in
-    ((omega (arith, ok .modulus-least), omega (arith, degree-least S ok), degree-most S ok, omega (arith, degree-most S ok)), (omega (arith, whole, g .message-long), omega (arith, whole, g .key-given .long)))
+    let a = n .before .before .before .before .args in
+    let g = given (n .before) in
+    (rw (all n) (commit-tables (a .settings) (a .key .now) (a .message .now) g), omega (arith, degree-most (a .settings) (g .tables .settings)))
 
 -- src/lib.rt:30:51
 slice-aggregate-reduced-sums : tie.Need-slice-aggregate-reduced-sums

@@ -96,8 +96,8 @@ loop-again c =
     let key-long : a .d ≤ length (take (length (a .key .now) - at) (drop at (a .key .now))) = omega (arith, inside t, ap length (tail-all at (a .key .now)), length-drop at (a .key .now)) in
     let message-long : a .d ≤ length (take (length (a .message .now) - at) (drop at (a .message .now))) = omega (arith, inside t, ap length (tail-all at (a .message .now)), length-drop at (a .message .now)) in (
       omega arith,
-      c .before .before .accumulate .ensures (record { degree = s .pre .0 .2; coefficients = message-long; residues = omega arith; sums = omega arith })
-          ∙ inner-more (a .q) (a .d) (a .message .now) (a .key .now) (a .sums .now) (l .i) _ _ _ (tail-all at (a .message .now)) (x .ensures (s .pre .0 .0) (s .pre .0 .1) (s .pre .0 .2) key-long ∙ ap (extension (a .q) (a .d)) (tail-all at (a .key .now))) (l .inv .1),
+      c .before .before .accumulate .ensures (record { degree = s .pre .0 .degree-most; coefficients = message-long; residues = omega arith; sums = omega arith })
+          ∙ inner-more (a .q) (a .d) (a .message .now) (a .key .now) (a .sums .now) (l .i) _ _ _ (tail-all at (a .message .now)) (x .ensures (s .pre .0 .modulus) (s .pre .0 .degree) (s .pre .0 .degree-most) key-long ∙ ap (extension (a .q) (a .d)) (tail-all at (a .key .now))) (l .inv .1),
       c .before .before .accumulate .kept .1 .1 .1 .0 ∙ l .inv .2,
     )
 
