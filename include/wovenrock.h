@@ -36,7 +36,7 @@
  *    13  branch      a path of the tree that the verifier rejects
  *    14  growth      (12*d*d)^L * B is over 2^62
  *    15  slack       the slack is not 1 to 65536
- *   100              a slice that an element or a record is to be written to is too short; this is tested before all others
+ *   100              a slice that an element, a round polynomial or a record is to be written to is too short; this is tested before all others
  *
  * (1, long, and 2, text, are refusals of texts.) A refused call writes nothing to the tables that it is lent; an element that it would have
  * written is 0 at all 64 places, and a verdict is 0. With 100 nothing at all is written.
@@ -54,6 +54,9 @@ extern "C" {
 /* Places of an element that is not in a table. */
 #define WOVENROCK_ELEMENT 64
 
+/* Places of a round polynomial. */
+#define WOVENROCK_POLYNOMIAL 192
+
 /* What is returned where a slice for an element or a record is too short. */
 #define WOVENROCK_SHORT 100
 
@@ -66,6 +69,15 @@ uint32_t wovenrock_commit(uint32_t degree, uint32_t depth, uint32_t modulus, uin
                           const uint32_t *key, size_t key_length,
                           const int32_t *message, size_t message_length,
                           uint32_t *commitment, size_t commitment_length);
+
+/* The prover's round: the round polynomial of round done + 1, whose three elements c0, c1, c2 are written to `polynomial` (192 places: c0 at 0, c1 at
+ * 64, c2 at 128). Tables: key n*d, message n*d, both folded `done` times. Refusals 3 to 9, 11; what is left of the message must lie within
+ * 2^done * B. */
+uint32_t wovenrock_round(uint32_t degree, uint32_t depth, uint32_t modulus, uint32_t bound,
+                         uint32_t done,
+                         const uint32_t *key, size_t key_length,
+                         const int32_t *message, size_t message_length,
+                         uint32_t *polynomial, size_t polynomial_length);
 
 /* The fold of both tables by X^exponent, with `done` rounds done: of the n/2^done elements that are left, the first half becomes first half plus
  * X^exponent times second half, over whole numbers in the message and modulo q in the key. Every number behind it stays.

@@ -52,12 +52,12 @@ module _ (t : List ℤ) where
   unfolding placed filled width signedZeros
   reading-end k a e p = e ∙ ap reading p ∙ append-nil _
 
--- where a slice t for an element is long enough, or not
-module _ {ℓ ℓ′} {A : Type ℓ} {B : Type ℓ′} (t : List A) (x y : B) where
-  pub kept : length t < 64 → y ≡ choose (leb width (length t)) x y
-  unfolding choose width
+-- where a slice t is long enough for n numbers, or not
+module _ {ℓ ℓ′} {A : Type ℓ} {B : Type ℓ′} (n : ℕ) (t : List A) (x y : B) where
+  pub kept : length t < n → y ≡ choose (leb n (length t)) x y
+  unfolding choose
   kept h = sym (ap (λ b. choose b x y) (lt-leb _ _ h))
 
-  pub written : 64 ≤ length t → x ≡ choose (leb width (length t)) x y
-  unfolding choose width
+  pub written : n ≤ length t → x ≡ choose (leb n (length t)) x y
+  unfolding choose
   written h = sym (ap (λ b. choose b x y) (le-leb _ _ h))

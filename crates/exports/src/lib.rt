@@ -11,7 +11,7 @@ ghost use mathlib.Core.Path.{_≡_};
 ghost use Rattle.protocol.specs.Settings.{settingsRefusal};
 ghost use Rattle.protocol.specs.Promises.{Folded};
 ghost use Rattle.exports.specs.Slices.{given};
-ghost use Rattle.exports.specs.Promises.{CommitStored, EndStored};
+ghost use Rattle.exports.specs.Promises.{CommitStored, RoundStored, EndStored};
 
 // Refusals 3 to 6.
 #[no_mangle]
@@ -52,6 +52,35 @@ pub extern "C" fn wovenrock_commit(
     let answer = prover::commit(s, key, message);
     let element = answer.commitment;
     slices::store_residues(element, commitment);
+    answer.number
+}
+
+// The prover's round: the round polynomial of round done + 1 goes to the slice `polynomial`, 64 places for each of its three elements.
+#[no_mangle]
+pub extern "C" fn wovenrock_round(
+    degree: u32,
+    depth: u32,
+    modulus: u32,
+    bound: u32,
+    done: u32,
+    key: &[u32],
+    message: &[i32],
+    polynomial: &mut [u32],
+) -> u32
+    ensures { λ r. ⌜ RoundStored (given degree depth modulus bound) done (now (key .entry)) (now (message .entry)) (now (polynomial .entry)) r (now (polynomial .exit)) ⌝ }
+{
+    if polynomial.len() < 192 {
+        return 100;
+    }
+    let s = Settings {
+        degree: degree,
+        depth: depth,
+        modulus: modulus,
+        bound: bound,
+    };
+    let answer = prover::round(s, done, key, message);
+    let elements = prover::elements_of(answer);
+    slices::store_polynomial(elements, polynomial);
     answer.number
 }
 

@@ -6,5 +6,5 @@ mod prover;
 mod settings;
 
 pub use commit::Commit;
-pub use prover::{End, Fold};
+pub use prover::{End, Fold, ProverRound};
 pub use settings::SettingsCase;

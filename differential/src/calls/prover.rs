@@ -2,7 +2,7 @@
 
 use super::lent::{room, stored};
 use crate::case::{Case, Outcome, Table};
-use crate::verified::{self, ELEMENT, SHORT};
+use crate::verified::{self, ELEMENT, POLYNOMIAL, SHORT};
 use reference::cases::{calls, Page};
 use reference::draw::tables::{self, ProverCall, ProverInput};
 use reference::draw::{damage_some, Limits};
@@ -16,6 +16,60 @@ fn drawn(random: &mut Random, limits: &Limits, call: ProverCall) -> ProverInput 
         damage_some(random, &mut input);
     }
     input
+}
+
+#[derive(Clone)]
+pub struct ProverRound {
+    input: ProverInput,
+    /// Numbers of the slice for the round polynomial.
+    room: usize,
+}
+
+impl ProverRound {
+    fn polynomial(&self) -> Vec<u32> {
+        vec![u32::MAX; self.room]
+    }
+}
+
+impl Case for ProverRound {
+    const NAME: &'static str = "round";
+
+    fn draw(random: &mut Random, limits: &Limits) -> ProverRound {
+        ProverRound {
+            input: drawn(random, limits, ProverCall::Round),
+            room: room(random, POLYNOMIAL),
+        }
+    }
+
+    fn plain(&self) -> Outcome {
+        if self.room < POLYNOMIAL {
+            return Outcome::new(SHORT).with("polynomial", &self.polynomial());
+        }
+        let ProverInput { settings, t, .. } = self.input;
+        let answer = plain::prover_round(settings, t, &self.input.key, &self.input.message);
+        let after = stored(&self.polynomial(), &answer.polynomial.concat());
+        Outcome::new(answer.number).with("polynomial", &after)
+    }
+
+    fn verified(&self) -> Outcome {
+        let ProverInput { settings, t, .. } = self.input;
+        let mut polynomial = self.polynomial();
+        let (key, message) = (&self.input.key, &self.input.message);
+        let number = verified::round(settings, t, key, message, &mut polynomial);
+        Outcome::new(number).with("polynomial", &polynomial)
+    }
+
+    fn tables(&mut self) -> Vec<Table<'_>> {
+        vec![
+            Table::Unsigned(&mut self.input.key),
+            Table::Signed(&mut self.input.message),
+        ]
+    }
+
+    fn print(&self, page: &mut Page) {
+        calls::round(page, &self.input);
+        page.header(&format!("a slice of {} for the polynomial", self.room));
+    }
 }
 
 #[derive(Clone)]

@@ -7,7 +7,7 @@
 
 mod prover;
 
-pub use prover::{commit, end, fold};
+pub use prover::{commit, end, fold, round};
 
 use reference::types::Settings;
 
@@ -16,6 +16,9 @@ pub const SHORT: u32 = 100;
 
 /// Numbers of an element in a lent slice.
 pub const ELEMENT: usize = 64;
+
+/// Numbers of a round polynomial in a lent slice.
+pub const POLYNOMIAL: usize = 3 * ELEMENT;
 
 extern "C" {
     fn wovenrock_settings(degree: u32, depth: u32, modulus: u32, bound: u32) -> u32;

@@ -16,6 +16,20 @@ extern "C" {
         commitment_length: usize,
     ) -> u32;
 
+    fn wovenrock_round(
+        degree: u32,
+        depth: u32,
+        modulus: u32,
+        bound: u32,
+        done: u32,
+        key: *const u32,
+        key_length: usize,
+        message: *const i32,
+        message_length: usize,
+        polynomial: *mut u32,
+        polynomial_length: usize,
+    ) -> u32;
+
     fn wovenrock_fold(
         degree: u32,
         depth: u32,
@@ -56,6 +70,25 @@ pub fn commit(s: Settings, key: &[u32], message: &[i32], commitment: &mut [u32])
             message.len(),
             commitment.as_mut_ptr(),
             commitment.len(),
+        )
+    }
+}
+
+/// The prover's round.
+pub fn round(s: Settings, done: u32, key: &[u32], message: &[i32], polynomial: &mut [u32]) -> u32 {
+    unsafe {
+        wovenrock_round(
+            s.degree,
+            s.depth,
+            s.modulus,
+            s.bound,
+            done,
+            key.as_ptr(),
+            key.len(),
+            message.as_ptr(),
+            message.len(),
+            polynomial.as_mut_ptr(),
+            polynomial.len(),
         )
     }
 }
