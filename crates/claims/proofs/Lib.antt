@@ -29,3 +29,5 @@ pub mod Growth
 pub mod GrowthTest
 pub mod Extractor
 pub mod Demand3
+pub mod TextLimits
+pub mod RoundTrip

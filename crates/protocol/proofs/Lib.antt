@@ -16,7 +16,5 @@ pub mod LineLaws
 pub mod PlaceLaws
 pub mod ReaderLaws
 pub mod TableLaws
-pub mod LimitLaws
-pub mod RoundTripLaws
 pub mod Trial
 pub mod Refusals

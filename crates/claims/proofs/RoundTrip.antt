@@ -10,23 +10,23 @@ use lib.ListN.{length, getD, take, drop, List·getD-append}
 use lib.Seq.{take-append-seam}
 use lib.IntN.{ℤ, pos, negsuc, natAbs}
 use borrow.Author.Tests.{leb-true, le-leb, eqb-true, eq-eqb}
 use Rattle.protocol.specs.declared.Settings.{Settings}
 use Rattle.protocol.specs.declared.Parts.{Parts}
 use Rattle.protocol.specs.Basic.{tabulate, all, choose, within, first, unless, granted}
 use Rattle.protocol.specs.Settings.{settingsRefusal, sized, residues}
 use Rattle.protocol.specs.Settings.{exponent, exponents}
 use Rattle.protocol.specs.Text.{Spot, Line, Shape, Tables, textLimit, valueLimit, names, linesText, shape, settingsShape, shapes, shapeSize}
 use Rattle.protocol.specs.Text.{spotAt, spots, wanted, contents, block, blocks, blockLines, textOf, blockFits, fits}
 use Rattle.protocol.specs.Text.{parsed, linesOf, sameSpot, sameSpots, spotsOf, valuesOf, wellFormed, unsigned, column, unsignedColumn}
 use Rattle.protocol.specs.Text.{settingIn, settingsIn, tablesIn, lookRefusal, loaded, entriesRefusal, textRefusal, readRefusal, readAnswer}
 use Rattle.protocol.specs.Text.{readExit}
 use Rattle.protocol.specs.Text.{outputRefusal, writeRefusal, written, overwritten, writeAnswer, writeExit}
 use Rattle.protocol.specs.RoundTrip.{outcome, Back, Forth, RoundTrip}
 use Rattle.protocol.proofs.Tests.{first-zero, unless-zero, and-intro}
 use Rattle.protocol.proofs.LineLaws.{AllLimited, linesOf-written, parsed-text}
 use Rattle.protocol.proofs.TableLaws.{Rising, Fit, parts, columns, written-spots, written-columns, blockLines-values, read-lines, read-fit}
 use Rattle.protocol.proofs.TableLaws.{Split, split}
-use Rattle.protocol.proofs.LimitLaws.{Allowed, allowed, Passed, passed, unrefused, lines-limited, contents-limited, below-limited, exponent-le}
+use Rattle.claims.proofs.TextLimits.{Allowed, allowed, Passed, passed, unrefused, lines-limited, contents-limited, below-limited, exponent-le}
 
 -- ---- The parts
 
