@@ -1,4 +1,4 @@
--- The halves of what is left of a table: how large they are, and that a message's have room for a fold.
+-- The halves of what is left of a table: how large they are, that a message's have room for a fold, and that both tables' are ready for inner products.
 use mathlib.Core.Path.{_≡_, sym, ap, _∙_}
 use mathlib.Core.List.{List}
 use Prim.Native.Nat.{ℕ, _+_, _*_, _^_, _<_, _≤_}
@@ -11,8 +11,9 @@ use Rattle.protocol.specs.Settings.{cells}
 use Rattle.protocol.specs.Opening.{left, halfLeft}
 use Rattle.protocol.specs.Inputs.{Valid}
 use Rattle.claims.proofs.Tables.{left-power, halfLeft-power, twice-power, left-inside}
-use Rattle.refusals.proofs.Given.{SmallLeft}
-use Rattle.prover.specs.Messages.{Room}
+use Rattle.sizes.proofs.Limits.{degree-least, degree-most}
+use Rattle.refusals.proofs.Given.{SmallLeft, RoundGiven}
+use Rattle.prover.specs.Messages.{Room, Tables}
 
 module _ (S : Settings) (ok : Valid S) (t : ℕ) (l : t < S .depth) where
   abbrev half-cells : ℕ
@@ -32,3 +33,21 @@ module _ (S : Settings) (ok : Valid S) (t : ℕ) (l : t < S .depth) where
 
   pub left-room : (message : List ℤ) → SmallLeft S t message → Room (2 * half-cells) message
   left-room message small = record { each = λ j m. omega (arith, left-most, small j (omega (arith, left-halves))) }
+
+pub round-tables : (S : Settings) (t : ℕ) (key : List ℕ) (message : List ℤ) → RoundGiven S t key message → Tables (S .modulus) (S .degree) (2 * halfLeft S t) message key
+round-tables S t key message g = record {
+  modulus = omega (arith, ok .modulus-least);
+  modulus-most = omega (arith, ok .modulus-most);
+  degree = omega (arith, degree-least S ok);
+  degree-most = degree-most S ok;
+  elements = omega (arith, half-most S ok t (g .turn));
+  message-long = omega (arith, same, halves-inside S ok t (g .turn), g .tables .message-long);
+  key-long = omega (arith, same, halves-inside S ok t (g .turn), g .tables .key-given .long);
+  message-small = λ j l. omega (arith, left-most S ok t (g .turn), g .small-left j (omega (arith, same, left-halves S ok t (g .turn))));
+}
+  where
+    ok : Valid S
+    ok = g .tables .settings
+
+    same : 2 * halfLeft S t * S .degree ≡ 2 * (halfLeft S t * S .degree)
+    same = Nat.mul-assoc 2 (halfLeft S t) (S .degree)

@@ -1,4 +1,6 @@
 // The refusals of the calls: each function answers with the number of the first that applies, and 0 where none does.
+pub mod session;
+
 use arithmetic::tests;
 use protocol::Settings;
 ghost use mathlib.Core.Path.{_≡_};
