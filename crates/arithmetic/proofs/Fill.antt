@@ -5,10 +5,11 @@ use Prim.Native.Nat.{ℕ, zero, suc, _+_, _-_, _<_, _≤_}
 use native.Mathlib.Nat as Nat
 use native.Mathlib.Numerals.{add-one}
 use native.Mathlib.Omega.{arith}
-use lib.ListN.{length, getD, drop, set, replicate, length-append, length-drop, length-replicate}
+use lib.ListN.{length, getD, drop, set, replicate, length-append, length-drop, length-replicate, List·getD-append}
+use lib.Seq.{drop-at}
 use Rattle.protocol.specs.Basic.{tabulate}
 use Rattle.protocol.specs.Element.{width, zeros, padded}
-use Rattle.protocol.proofs.Reading.{tabulate-length, tabulate-ext, store-next, store-behind}
+use Rattle.protocol.proofs.Reading.{tabulate-length, tabulate-at, tabulate-ext, store-next, store-behind}
 
 module _ {ℓ} {A : Type ℓ} where
   unfoldable pub filled : (ℕ → A) → ℕ → List A → List A
@@ -34,6 +35,21 @@ module _ {ℓ} {A : Type ℓ} where
   pub filled-ext : (f g : ℕ → A) (k : ℕ) (z : List A) → ((i : ℕ) → i < k → f i ≡ g i) → filled f k z ≡ filled g k z
   unfolding filled
   filled-ext f g k z e = ap (λ l. l ++ drop k z) (tabulate-ext k e)
+
+  pub filled-at : (f : ℕ → A) (k : ℕ) (z : List A) (d : A) (j : ℕ) → j < k → getD (filled f k z) j d ≡ f j
+  unfolding filled
+  filled-at f k z d j h = List·getD-append (tabulate k f) (drop k z) d j (omega (arith, tabulate-length k f)) ∙ tabulate-at k f d j h
+
+  -- a turn of such a loop, its end, and a list that is filled twice
+  pub filled-turn : (f : ℕ → A) (k : ℕ) (z : List A) {a : List A} {v : A} → a ≡ filled f k z → v ≡ f k → k < length z → set a k v ≡ filled f (k + 1) z
+  filled-turn f k z e h l = (λ i. set (e i) k (h i)) ∙ filled-more f k z l
+
+  pub filled-end : (f : ℕ → A) (z : List A) {k d : ℕ} {a : List A} → a ≡ filled f k z → k ≡ d → a ≡ filled f d z
+  filled-end f z e h = e ∙ ap (λ n. filled f n z) h
+
+  pub filled-again : (f g : ℕ → A) (k : ℕ) (z : List A) → filled g k (filled f k z) ≡ filled g k z
+  unfolding filled
+  filled-again f g k z = ap (λ t. tabulate k g ++ t) (drop-at (tabulate k f) (drop k z) k (tabulate-length k f))
 
 drop-zeros : (n m : ℕ) → drop {A = ℕ} n (replicate m 0) ≡ replicate (m - n) 0
 drop-zeros zero m = ap (λ k. replicate k 0) (sym (Nat.sub-zero m))

@@ -1,6 +1,5 @@
 pub mod Words
-pub mod Rotations
-pub mod Filling
+pub mod Values
 pub mod Norms
 pub mod Rows
 pub mod Powers

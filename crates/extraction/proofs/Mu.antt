@@ -15,29 +15,10 @@ use Rattle.claims.proofs.Bounds.{Bounded, plus-bounded}
 use Rattle.claims.proofs.Norms.{product-bounded, weight-s, s-bounded}
 use Rattle.extraction.specs.Bounds.{Factors}
 use Rattle.extraction.specs.Steps.{element, powers}
-use Rattle.extraction.proofs.Filling.{element-at, element-ext}
+use Rattle.relaxed.proofs.Products.{product-ext}
+use Rattle.extraction.proofs.Values.{held, element-ext}
 use Rattle.extraction.proofs.Norms.{element-within, weight-within}
 use Rattle.extraction.proofs.Powers.{one-small, power-small, rotate-mod}
-
--- ---- products depend on the first d coefficients alone
-
-sum-ext : (n : ℕ) {f g : ℕ → ℤ} → ((i : ℕ) → i < n → f i ≡ g i) → sum n f ≡ sum n g
-unfolding sum
-sum-ext zero e = refl
-sum-ext (suc n) e = λ j. sum-ext n (λ i l. e i (omega arith)) j +ℤ e n (omega arith) j
-
-pub rotate-ext : (d e : ℕ) {a b : Element} (k : ℕ) → 0 < d → ((j : ℕ) → j < d → a j ≡ b j) → rotate d e a k ≡ rotate d e b k
-unfolding rotate around
-rotate-ext d e k p h = ap (flips ((k + (2 * d - e % (2 * d))) / d)) (h _ (Nat.mod-lt _ p))
-
-pub product-ext : (d : ℕ) {a a′ b b′ : Element} (k : ℕ) → 0 < d → ((j : ℕ) → j < d → a j ≡ a′ j) → ((j : ℕ) → j < d → b j ≡ b′ j) → product d a b k ≡ product d a′ b′ k
-unfolding product
-product-ext d k p ea eb = sum-ext d (λ i l j. ea i l j *ℤ rotate-ext d i k p eb j)
-
--- an element by value, read again
-pub held : (d : ℕ) (a : Element) {l : List ℤ} → l ≡ element d a → (k : ℕ) → k < d → signed l k ≡ a k
-unfolding signed
-held d a e k h = ap (λ m. getD m k (pos 0)) e ∙ element-at d a k h
 
 -- ---- s(a,b)
 

@@ -28,9 +28,10 @@ use Rattle.claims.proofs.Weights.{signed-coefficients}
 use Rattle.claims.proofs.Growth.{heightBound, heightBound-suc, heightBound-le, vector-bounded}
 use Rattle.extraction.specs.Vectors.{withShare, Sharing, Branching, branchAdded}
 use Rattle.extraction.specs.Nodes.{Extractable, AtNode}
-use Rattle.extraction.proofs.Filling.{zeros-at, zeros-length}
+use Rattle.arithmetic.proofs.SignedFill.{signed-zeros-at, signed-zeros-length}
 use Rattle.extraction.proofs.Shares.{by-cells, withShare-length, withShare-first, withShare-second}
-use Rattle.extraction.proofs.Parts.{inside, part-length}
+use Rattle.arithmetic.proofs.Folds.{row-inside}
+use Rattle.extraction.proofs.Parts.{part-length}
 use Rattle.extraction.proofs.Splicing.{drop-put-end, put-end}
 
 -- ---- three shares
@@ -53,7 +54,7 @@ module _ (d n : ℕ) (p : 0 < d) where
 
   low-zeros : (N i k : ℕ) → signedAt d (signedZeros N) i k ≡ pos 0
   unfolding signedAt
-  low-zeros N i k = zeros-at N (i * d + k)
+  low-zeros N i k = signed-zeros-at N (i * d + k)
 
   last-shared : (e : ℕ) (m v R : List ℤ) → withShare d n e m v R ≡ flat d n (λ i k. low R i k +ℤ share d m v i k) ++ flat d n (λ i k. high R i k +ℤ rotate d e (share d m v i) k)
   unfolding withShare
@@ -155,7 +156,7 @@ module _ (S : Settings) (E : List ℕ) (finals : List ℤ) (X : Extractable S E 
     leaf-number = omega (arith, A .first-is, nodes-before S, at-leaf .from)
 
     pub leaf-inside : (k - first) * d + d ≤ length finals
-    leaf-inside = omega (arith, X .within .long, inside d (k - nodes S) (leaves S) (depth-leaf S k at-leaf), ap (λ x. (k - x) * d) (A .first-is))
+    leaf-inside = omega (arith, X .within .long, row-inside d (leaves S) (k - nodes S) (depth-leaf S k at-leaf), ap (λ x. (k - x) * d) (A .first-is))
 
     pub leaf-space : space ≡ 2 * d
     leaf-space = A .space-is ∙ ap (λ x. 2 * (2 ^ x * d)) low ∙ ap (λ x. 2 * x) (Nat.one-mul d)
@@ -218,7 +219,7 @@ module _ (S : Settings) (E : List ℕ) (finals : List ℤ) (X : Extractable S E 
 
     shared-length : (j : ℕ) → length (shared j) ≡ 2 * (n * d)
     unfolding shared
-    shared-length zero = zeros-length (2 * (n * d))
+    shared-length zero = signed-zeros-length (2 * (n * d))
     shared-length (suc j) = withShare-length d n (c j) (m j) (v j) (shared j)
 
     child-length : (j : ℕ) → length (v j) ≡ n * d
@@ -233,7 +234,7 @@ module _ (S : Settings) (E : List ℕ) (finals : List ℤ) (X : Extractable S E 
 
     shared-small : (j : ℕ) → j ≤ 3 → (i : ℕ) → natAbs (getD (shared j) i (pos 0)) ≤ j * (d * d * 2 * β)
     unfolding shared
-    shared-small zero l i = omega (arith, ap natAbs (zeros-at (2 * (n * d)) i))
+    shared-small zero l i = omega (arith, ap natAbs (signed-zeros-at (2 * (n * d)) i))
     shared-small (suc j) l i =
         omega (arith, shared-within d n some (c j) (c (other j)) (c (another j)) (v j) (shared j) (j * (d * d * 2 * β)) β (child-within j l) (shared-small j (omega arith)) i, Nat.suc-mul j (d * d * 2 * β))
 
@@ -304,7 +305,7 @@ module _ (S : Settings) (E : List ℕ) (finals : List ℤ) (X : Extractable S E 
     }
       where
         q-length : length q ≡ half
-        q-length = ap length is-q ∙ zeros-length _ ∙ part-length half (length ws - half) ws (omega (arith, space-is)) ∙ omega (arith, space-is)
+        q-length = ap length is-q ∙ signed-zeros-length _ ∙ part-length half (length ws - half) ws (omega (arith, space-is)) ∙ omega (arith, space-is)
 
     -- where child j works
     pub child-place : (j x : ℕ) → j < 3 → x ≡ child k j → (W : List ℤ) → length W ≡ space → AtNode S (h - 1) x first (length (take half W))

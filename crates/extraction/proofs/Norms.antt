@@ -12,7 +12,7 @@ use Rattle.protocol.specs.Element.{Element}
 use Rattle.claims.proofs.Bounds.{Bounded}
 use Rattle.extraction.specs.Bounds.{Within}
 use Rattle.extraction.specs.Steps.{element}
-use Rattle.extraction.proofs.Filling.{element-at, element-behind}
+use Rattle.extraction.proofs.Values.{element-at, element-behind}
 
 pub within-le : {b c : ℕ} {l : List ℤ} → Within b l → b ≤ c → Within c l
 within-le w h = record { each = λ i. omega (arith, w .each i) }

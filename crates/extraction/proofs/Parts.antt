@@ -1,8 +1,7 @@
 -- Elements of a flat list, read as parts of it.
 use mathlib.Core.Path.{_≡_, sym, ap, _∙_, subst}
 use mathlib.Core.List.{List}
-use Prim.Native.Nat.{ℕ, suc, _+_, _*_, _-_, _<_, _≤_}
-use native.Mathlib.Nat as Nat
+use Prim.Native.Nat.{ℕ, _+_, _*_, _-_, _<_, _≤_}
 use native.Mathlib.Decide.{decLt}
 use native.Mathlib.Omega.{arith}
 use lib.ListN.{length, getD, take, drop, length-take, length-drop, List·getD-eq-default}
@@ -10,10 +9,6 @@ use lib.Seq.{getD-take, getD-drop}
 use lib.IntN.{ℤ, pos, natAbs}
 use Rattle.protocol.specs.Element.{signed, signedAt}
 use Rattle.extraction.specs.Bounds.{Within}
-
--- element i of n is inside
-pub inside : (d i n : ℕ) → i < n → i * d + d ≤ n * d
-inside d i n h = omega (arith, Nat.mul-le-mul-right d h, Nat.suc-mul i d)
 
 module _ (x k : ℕ) (m : List ℤ) where
   pub part-length : x + k ≤ length m → length (take k (drop x m)) ≡ k

@@ -16,8 +16,10 @@ use Rattle.protocol.specs.Element.{Element, flips, around, rotate, one, power, 
 use Rattle.protocol.proofs.Tests.{First, least-first}
 use Rattle.claims.proofs.Bounds.{Bounded, rotate-bounded}
 use Rattle.extraction.specs.Bounds.{Within, Fits, Room}
-use Rattle.extraction.specs.Steps.{filled, added, extended, element, powers}
-use Rattle.extraction.proofs.Filling.{filled-none, filled-turn, filled-at, filled-behind, filled-ext, filled-length, zeros-at, zeros-filled, zeros-length, element-filled, element-at, element-ext}
+use Rattle.extraction.specs.Steps.{added, extended, element, powers}
+use Rattle.arithmetic.proofs.Fill.{filled, filled-none, filled-turn, filled-at, filled-behind, filled-length}
+use Rattle.arithmetic.proofs.SignedFill.{signed-zeros-length, signed-zeros-at, signed-zeros-filled}
+use Rattle.extraction.proofs.Values.{element-filled, element-at, element-ext}
 use Rattle.extraction.proofs.Norms.{within-le, element-within}
 use Rattle.extraction.proofs.Rows.{part, part-at, added-element, extended-ext}
 
@@ -43,20 +45,20 @@ unfolding one
 one-small zero = omega arith
 one-small (suc k) = omega arith
 
-one-filled : (n i : ℕ) → 0 < n → getD (filled n one (signedZeros 64)) i (pos 0) ≡ one i
+one-filled : (n i : ℕ) → 0 < n → getD (filled one n (signedZeros 64)) i (pos 0) ≡ one i
 one-filled n i p = elim (decLt i n) [
-  | yes l ↦ filled-at n one (signedZeros 64) (pos 0) i l
-  | no g ↦ filled-behind n one (signedZeros 64) (pos 0) i (omega arith) ∙ zeros-at 64 i ∙ sym (one-later i (omega arith))
+  | yes l ↦ filled-at one n (signedZeros 64) (pos 0) i l
+  | no g ↦ filled-behind one n (signedZeros 64) (pos 0) i (omega arith) ∙ signed-zeros-at 64 i ∙ sym (one-later i (omega arith))
 ]
 
 pub unit-element : (d : ℕ) → 0 < d → d ≤ 64 → set (signedZeros 64) 0 (pos 1) ≡ element d one
 unit-element d p h =
-    filled-turn 0 one (signedZeros 64) (filled-none one (signedZeros 64)) (unfold one in refl) (omega (arith, zeros-length 64))
+    filled-turn one 0 (signedZeros 64) (filled-none one (signedZeros 64)) (unfold one in refl) (omega (arith, signed-zeros-length 64))
     ∙ ext-getD (pos 0) _ _ (long 1 (omega arith) ∙ sym (long d h)) (λ i _. one-filled 1 i (omega arith) ∙ sym (one-filled d i p))
     ∙ sym (element-filled d one)
   where
-    long : (n : ℕ) → n ≤ 64 → length (filled n one (signedZeros 64)) ≡ 64
-    long n l = filled-length n one (signedZeros 64) (omega (arith, zeros-length 64)) ∙ zeros-length 64
+    long : (n : ℕ) → n ≤ 64 → length (filled one n (signedZeros 64)) ≡ 64
+    long n l = filled-length one n (signedZeros 64) (omega (arith, signed-zeros-length 64)) ∙ signed-zeros-length 64
 
 -- ---- powers
 
@@ -110,7 +112,7 @@ module _ (d e : ℕ) (f : Element) (u l : List ℤ) (small : d ≤ 64) (le : e <
 
 pub powers-none : (d x k : ℕ) → d ≤ 64 → signedZeros 64 ≡ element d (powers d x k 0)
 unfolding powers sum
-powers-none d x k h = sym (element-filled d _ ∙ zeros-filled d 64 h)
+powers-none d x k h = sym (element-filled d _ ∙ signed-zeros-filled d 64 h)
 
 pub powers-next : (d x k n : ℕ) → element d (λ p. powers d x k n p +ℤ power d ((k * n + x) % (2 * d)) p) ≡ element d (powers d x k (n + 1))
 unfolding powers sum power

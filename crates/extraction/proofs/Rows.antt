@@ -1,7 +1,7 @@
 -- Elements that grow by rows: what is added is a part of an antiperiodic extension, which is a rotation, times a number.
 use mathlib.Core.Path.{_≡_, refl, sym, ap, _∙_, subst}
 use mathlib.Core.List.{List, _++_}
-use Prim.Native.Nat.{ℕ, zero, suc, _+_, _*_, _-_, _/_, _%_, _^_, _<_, _≤_}
+use Prim.Native.Nat.{ℕ, zero, suc, _+_, _*_, _-_, _%_, _^_, _<_, _≤_}
 use native.Mathlib.Nat as Nat
 use native.Mathlib.Numerals.{add-one}
 use native.Mathlib.Omega.{arith}
@@ -10,21 +10,24 @@ use lib.Seq.{getD-take, getD-drop, drop-at}
 use lib.IntN.{ℤ, pos, natAbs, _+ℤ_, _*ℤ_}
 use Rattle.algebra.specs.Magnitude.{natAbs-mul, weight, weight-at}
 use Rattle.protocol.specs.Basic.{sum, tabulate}
-use Rattle.protocol.specs.Element.{Element, flips, around, rotate, signed, signedZeros, product}
+use Rattle.protocol.specs.Element.{Element, around, rotate, signed, signedZeros, product}
 use Rattle.protocol.proofs.Reading.{tabulate-length}
 use Rattle.claims.proofs.Bounds.{Bounded, rotate-bounded}
 use Rattle.claims.proofs.Norms.{running, running-bounded}
 use Rattle.extraction.specs.Bounds.{Within, Fits, Room, Factors}
-use Rattle.extraction.specs.Steps.{filled, added, extended, element}
-use Rattle.extraction.proofs.Filling.{filled-length, filled-at, filled-ext, zeros-length, zeros-filled, element-filled, element-at, element-ext}
+use Rattle.extraction.specs.Steps.{added, extended, element}
+use Rattle.arithmetic.proofs.Around.{around-ext}
+use Rattle.arithmetic.proofs.Fill.{filled, filled-length, filled-at, filled-ext, filled-again}
+use Rattle.arithmetic.proofs.SignedFill.{signed-zeros-length, signed-zeros-filled}
+use Rattle.extraction.proofs.Values.{element-filled, element-at, element-ext}
 
 pub extended-length : (d : ℕ) (a : Element) → d ≤ 64 → length (extended d a) ≡ 192
 unfolding extended
-extended-length d a h = filled-length (3 * d) (around d a) (signedZeros 192) (omega (arith, zeros-length 192)) ∙ zeros-length 192
+extended-length d a h = filled-length (around d a) (3 * d) (signedZeros 192) (omega (arith, signed-zeros-length 192)) ∙ signed-zeros-length 192
 
 pub extended-ext : (d : ℕ) {a b : Element} → 0 < d → ((k : ℕ) → k < d → a k ≡ b k) → extended d a ≡ extended d b
-unfolding extended around
-extended-ext d p e = filled-ext (3 * d) (signedZeros 192) (λ x _. ap (flips (x / d)) (e (x % d) (Nat.mod-lt x p)))
+unfolding extended
+extended-ext d {a} {b} p e = filled-ext (around d a) (around d b) (3 * d) (signedZeros 192) (λ x _. around-ext d x p e)
 
 -- the part of an extension that starts at place 2d − e
 abbrev pub part : ℕ → ℕ → List ℤ → List ℤ
@@ -40,28 +43,23 @@ module _ (d e : ℕ) (a : Element) (u : List ℤ) (is : u ≡ extended d a) (sma
       getD-take (192 - (2 * d - e)) (drop (2 * d - e) u) k (pos 0) (omega arith)
       ∙ getD-drop (2 * d - e) u k (pos 0)
       ∙ ap (λ l. getD l (2 * d - e + k) (pos 0)) is
-      ∙ filled-at (3 * d) (around d a) (signedZeros 192) (pos 0) (2 * d - e + k) (omega arith)
+      ∙ filled-at (around d a) (3 * d) (signedZeros 192) (pos 0) (2 * d - e + k) (omega arith)
       ∙ ap (around d a) (omega (arith, Nat.mod-eq-of-lt le))
-
--- a filled list that is filled again
-filled-again : (d : ℕ) (f g : Element) (l : List ℤ) → filled d g (filled d f l) ≡ filled d g l
-unfolding filled
-filled-again d f g l = ap (λ t. tabulate d g ++ t) (drop-at (tabulate d f) (drop d l) d (tabulate-length d f))
 
 -- an element by value grows by c·a
 pub added-element : (d : ℕ) (c : ℤ) (f g : Element) (a l : List ℤ) → l ≡ element d f → ((k : ℕ) → k < d → getD a k (pos 0) ≡ g k) → added d c a l ≡ element d (λ k. f k +ℤ c *ℤ g k)
 unfolding added signed
 added-element d c f g a l is e =
     ap (λ m. added d c a m) (is ∙ element-filled d f)
-    ∙ filled-again d f _ (signedZeros 64)
-    ∙ filled-ext d (signedZeros 64) (λ k lk i. filled-at d f (signedZeros 64) (pos 0) k lk i +ℤ c *ℤ e k lk i)
+    ∙ filled-again f _ d (signedZeros 64)
+    ∙ filled-ext _ (λ k. f k +ℤ c *ℤ g k) d (signedZeros 64) (λ k lk i. filled-at f d (signedZeros 64) (pos 0) k lk i +ℤ c *ℤ e k lk i)
     ∙ sym (element-filled d _)
 
 -- ---- products
 
 pub no-rows : (d : ℕ) (a b : Element) → d ≤ 64 → signedZeros 64 ≡ element d (λ k. running d a b k 0)
 unfolding running sum
-no-rows d a b h = sym (element-filled d _ ∙ zeros-filled d 64 h)
+no-rows d a b h = sym (element-filled d _ ∙ signed-zeros-filled d 64 h)
 
 next-row : (d n : ℕ) (a b : Element) (k : ℕ) → running d a b k n +ℤ a n *ℤ rotate d n b k ≡ running d a b k (n + 1)
 unfolding running sum

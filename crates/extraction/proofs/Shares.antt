@@ -19,7 +19,7 @@ use Rattle.claims.proofs.Ranges.{padded-signed-at}
 use Rattle.claims.proofs.Norms.{product-bounded, weight-mu}
 use Rattle.extraction.specs.Bounds.{Within, Factors}
 use Rattle.extraction.specs.Vectors.{spliced, scaled, turned, Turnable, withShare, Sharing}
-use Rattle.extraction.proofs.Mu.{product-ext, rotate-ext}
+use Rattle.relaxed.proofs.Products.{product-ext, rotate-ext}
 use Rattle.extraction.proofs.Parts.{part-within}
 use Rattle.extraction.proofs.Splicing.{spliced-length, spliced-low, spliced-behind, spliced-at}
 

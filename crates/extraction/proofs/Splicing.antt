@@ -6,11 +6,12 @@ use native.Mathlib.Nat as Nat
 use native.Mathlib.Numerals.{add-one}
 use native.Mathlib.Omega.{arith}
 use lib.ListN.{length, getD, take, drop, length-append, length-drop, take-append-drop, drop-of-length-le, List·getD-append}
-use lib.Seq.{length-take-le, take-all, take-at, drop-at, drop-drop, getD-take, getD-drop, getD-append-add}
+use lib.Seq.{length-take-le, take-at, drop-at, drop-drop, getD-take, getD-drop, getD-append-add}
 use borrow.Rule.Slice.PartMut.{putMid}
 use Rattle.protocol.specs.Basic.{tabulate, flat}
 use Rattle.protocol.proofs.Reading.{tabulate-length, tabulate-ext, flat-length, flat-at, cell-inside, cell-element, cell-place}
-use Rattle.extraction.specs.Steps.{filled}
+use Rattle.arithmetic.proofs.Folds.{tail-all}
+use Rattle.arithmetic.proofs.Fill.{filled}
 use Rattle.extraction.specs.Vectors.{spliced}
 
 module _ {A : Type 0} where
@@ -18,10 +19,7 @@ module _ {A : Type 0} where
   append-nil [] = refl
   append-nil (x ∷ l) = ap (λ t. x ∷ t) (append-nil l)
 
-  -- a part that runs to the end, and the list when it is back
-  pub part-end : (x : ℕ) (m : List A) → take (length m - x) (drop x m) ≡ drop x m
-  part-end x m = take-all (length m - x) (drop x m) (omega (arith, length-drop x m))
-
+  -- a list when a part that runs to its end is back
   pub put-end : (x : ℕ) (m q : List A) → putMid x (length m - x) m q ≡ take x m ++ q
   put-end x m q = ap (λ r. take x m ++ r) (ap (λ r. q ++ r) (drop-of-length-le (drop x m) {i = length m - x} (omega (arith, length-drop x m))) ∙ append-nil q)
 
@@ -86,7 +84,7 @@ module _ {A : Type 0} where
           ∙ flat-at d n F z i k li lk
 
       -- the turn that replaces element n: what comes back is the list before it, and the part from there on with its first d entries replaced
-      pub spliced-turn : (x : ℕ) {m p : List A} → x ≡ at + n * d → m ≡ spliced at d n F l → p ≡ filled d (F n) (take (length m - x) (drop x m)) → putMid x (length m - x) m p ≡ spliced at d (n + 1) F l
+      pub spliced-turn : (x : ℕ) {m p : List A} → x ≡ at + n * d → m ≡ spliced at d n F l → p ≡ filled (F n) d (take (length m - x) (drop x m)) → putMid x (length m - x) m p ≡ spliced at d (n + 1) F l
       unfolding filled
       spliced-turn x {m} {p} is e q =
           put-end x m p
@@ -100,7 +98,7 @@ module _ {A : Type 0} where
           first = (λ i. take (is i) (whole i)) ∙ take-at front _ (at + n * d) front-length
 
           rest : take (length m - x) (drop x m) ≡ drop (at + n * d) l
-          rest = part-end x m ∙ (λ i. drop (is i) (whole i)) ∙ drop-at front _ (at + n * d) front-length
+          rest = tail-all x m ∙ (λ i. drop (is i) (whole i)) ∙ drop-at front _ (at + n * d) front-length
 
           ends : at + n * d + d ≡ at + (n + 1) * d
           ends = omega (arith, Nat.add-mul n 1 d)

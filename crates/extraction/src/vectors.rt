@@ -10,14 +10,14 @@ ghost use lib.ListN.{length, getD, take, drop};
 ghost use Rattle.protocol.specs.Element.{signed, signedAt, coefficients, signedZeros};
 ghost use Rattle.protocol.specs.Tree.{mu, vector};
 ghost use Rattle.extraction.specs.Bounds.{Factors};
-ghost use Rattle.extraction.specs.Steps.{filled};
+ghost use Rattle.arithmetic.proofs.Fill.{filled};
 ghost use Rattle.extraction.specs.Vectors.{scaled, turned, Turnable, withShare, Sharing, Branching, branchAdded};
 ghost use Rattle.extraction.specs.Nodes.{Extractable, AtNode};
 
 // Copies the first d numbers of a.
 fn store(d: usize, a: &[i64; 64], out: &mut [i64])
     requires { ⌜ (d ≤ 64) × (d ≤ length (now out)) ⌝ }
-    ensures { λ _. ⌜ now (out .exit) ≡ filled d (signed (now (a .entry))) (now (out .entry)) ⌝ }
+    ensures { λ _. ⌜ now (out .exit) ≡ filled (signed (now (a .entry))) d (now (out .entry)) ⌝ }
 {
     for k in 0..d {
         out[k] = a[k];
@@ -83,7 +83,7 @@ fn widen(x: i32) -> i64
 // Copies the first d numbers of a final element.
 fn load(d: usize, f: &[i32], out: &mut [i64])
     requires { ⌜ (d ≤ 64) × (d ≤ length (now f)) × (d ≤ length (now out)) ⌝ }
-    ensures { λ _. ⌜ now (out .exit) ≡ filled d (signed (now (f .entry))) (now (out .entry)) ⌝ }
+    ensures { λ _. ⌜ now (out .exit) ≡ filled (signed (now (f .entry))) d (now (out .entry)) ⌝ }
 {
     for k in 0..d {
         out[k] = widen(f[k]);

@@ -8,7 +8,7 @@ use native.Mathlib.Numerals.{add-one}
 use native.Mathlib.Omega.{arith}
 use lib.IntN.{ℤ, pos, _+ℤ_}
 use lib.ListN.{length, getD, take, drop, replicate, length-take, length-drop, List·getD-append}
-use lib.Seq.{drop-at, ext-getD, getD-take, getD-drop}
+use lib.Seq.{ext-getD, getD-take, getD-drop}
 use Rattle.protocol.specs.declared.Settings.{Settings}
 use Rattle.protocol.specs.Basic.{sum, tabulate}
 use Rattle.protocol.specs.Element.{Element, modulo, product, signed, residue, signedAt, residueAt, zeros, padded}
@@ -17,7 +17,7 @@ use Rattle.protocol.specs.Opening.{inner, left}
 use Rattle.protocol.proofs.Modulo.{modulo-add, modulo-lt}
 use Rattle.protocol.proofs.Reading.{tabulate-length, tabulate-at, tabulate-ext}
 use Rattle.arithmetic.specs.Elements.{elementAt}
-use Rattle.arithmetic.proofs.Fill.{filled, filled-behind, filled-length, zeros-length, element-done}
+use Rattle.arithmetic.proofs.Fill.{filled, filled-at, filled-again, filled-behind, filled-length, zeros-length, element-done}
 use Rattle.claims.proofs.Readings.{modulo-residue}
 use Rattle.relaxed.specs.Digits.{productAdded}
 use Rattle.relaxed.proofs.Products.{product-ext}
@@ -37,10 +37,6 @@ zeros-at zero k = refl
 zeros-at (suc n) zero = refl
 zeros-at (suc n) (suc k) = zeros-at n k
 
-filled-at : (f : ℕ → ℕ) (n : ℕ) (z : List ℕ) (k : ℕ) → k < n → getD (filled f n z) k 0 ≡ f k
-unfolding filled
-filled-at f n z k h = List·getD-append (tabulate n f) (drop n z) 0 k (omega (arith, tabulate-length n f)) ∙ tabulate-at n f 0 k h
-
 pub sums-none : (q d : ℕ) (key : List ℕ) (w : List ℤ) → d ≤ 64 → zeros 64 ≡ filled (sums q d 0 key w) d (zeros 64)
 sums-none q d key w h = ext-getD 0 (zeros 64) _ (sym (filled-length (sums q d 0 key w) d (zeros 64) (omega (arith, zeros-length 64)))) (λ k _. same k)
   where
@@ -49,14 +45,9 @@ sums-none q d key w h = ext-getD 0 (zeros 64) _ (sym (filled-length (sums q d 0 
 
     same : (k : ℕ) → getD (zeros 64) k 0 ≡ getD (filled (sums q d 0 key w) d (zeros 64)) k 0
     same k = elim (decLt k d) [
-      | yes l ↦ zeros-at 64 k ∙ sym (filled-at (sums q d 0 key w) d (zeros 64) k l ∙ nothing k)
+      | yes l ↦ zeros-at 64 k ∙ sym (filled-at (sums q d 0 key w) d (zeros 64) 0 k l ∙ nothing k)
       | no g ↦ sym (filled-behind (sums q d 0 key w) d (zeros 64) 0 k (omega arith))
     ]
-
--- filled twice
-filled-again : (f g : ℕ → ℕ) (d : ℕ) (z : List ℕ) → filled g d (filled f d z) ≡ filled g d z
-unfolding filled
-filled-again f g d z = ap (λ t. tabulate d g ++ t) (drop-at (tabulate d f) (drop d z) d (tabulate-length d f))
 
 module _ (q d : ℕ) (p : 0 < q) (pd : 0 < d) (key : List ℕ) (w : List ℤ) (i : ℕ) where
   next-product : (k : ℕ) → inner d i (signedAt d w) (residueAt d key) k +ℤ product d (signedAt d w i) (residueAt d key i) k ≡ inner d (i + 1) (signedAt d w) (residueAt d key) k
@@ -77,7 +68,7 @@ module _ (q d : ℕ) (p : 0 < q) (pd : 0 < d) (key : List ℕ) (w : List ℤ) (i
     where
       each : (k : ℕ) → k < d → modulo q (pos (getD s k 0) +ℤ product d (signed a) (residue g) k) ≡ sums q d (i + 1) key w k
       each k l =
-          (λ j. modulo q (pos ((ap (λ t. getD t k 0) e ∙ filled-at (sums q d i key w) d (zeros 64) k l) j) +ℤ product-ext d k pd ea eg j))
+          (λ j. modulo q (pos ((ap (λ t. getD t k 0) e ∙ filled-at (sums q d i key w) d (zeros 64) 0 k l) j) +ℤ product-ext d k pd ea eg j))
           ∙ reduced-twice (inner d i (signedAt d w) (residueAt d key) k) (product d (signedAt d w i) (residueAt d key i) k)
           ∙ ap (modulo q) (next-product k)
 

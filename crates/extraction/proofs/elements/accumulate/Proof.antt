@@ -10,10 +10,10 @@ use lib.Signed.{mag}
 use mir.Syntax.{w64}
 use mir.Val.{SFits, toZ, ofZ}
 use mir.Facts.{toZ-ofZ}
-use Rattle.extraction.specs.Steps.{filled, added}
+use Rattle.arithmetic.proofs.Fill.{filled, filled-none, filled-turn, filled-end, filled-behind}
+use Rattle.extraction.specs.Steps.{added}
 use Rattle.extraction.specs.Bounds.{Fits, Room}
-use Rattle.extraction.proofs.Filling.{filled-none, filled-turn, filled-end, filled-behind}
-use Rattle.extraction.proofs.Words.{read}
+use Rattle.arithmetic.proofs.Magnitude.{through-bits}
 use Rattle.extraction.proofs.elements.accumulate.Statement.{statement}
 use Rattle.extraction.proofs.elements.accumulate.Tie as tie
 use Rattle.extraction.proofs.elements.accumulate.Reads as reads
@@ -21,26 +21,26 @@ use Rattle.extraction.proofs.elements.accumulate.Lts as lts
 use Rattle.extraction.proofs.elements.plus_times.Reads as plus-times-reads
 
 abbrev Inv-loop : tie.InvT-loop
-Inv-loop d c a out₀ k₀ out k = (k ≤ d) × (out ≡ filled k (λ j. getD out₀ j (pos 0) +ℤ toZ w64 c *ℤ getD a j (pos 0)) out₀) × (length out ≡ length out₀)
+Inv-loop d c a out₀ k₀ out k = (k ≤ d) × (out ≡ filled (λ j. getD out₀ j (pos 0) +ℤ toZ w64 c *ℤ getD a j (pos 0)) k out₀) × (length out ≡ length out₀)
 
 abbrev μ-loop : tie.MeasureT-loop
 μ-loop d c a out₀ k₀ out k = d - k
 
 -- a turn over plain variables: z is the factor, l the list at entry, m as the loop has it
-module _ (z : ℤ) (a l : List ℤ) (fz : SFits w64 z) (k : ℕ) (m : List ℤ) (e : m ≡ filled k (λ j. getD l j (pos 0) +ℤ toZ w64 (ofZ w64 z) *ℤ getD a j (pos 0)) l)
+module _ (z : ℤ) (a l : List ℤ) (fz : SFits w64 z) (k : ℕ) (m : List ℤ) (e : m ≡ filled (λ j. getD l j (pos 0) +ℤ toZ w64 (ofZ w64 z) *ℤ getD a j (pos 0)) k l)
     (fm : mag (getD m k (pos 0)) < 2 ^ 63) (fa : mag (getD a k (pos 0)) < 2 ^ 63) where
   here : toZ w64 (ofZ w64 (getD m k (pos 0))) ≡ getD l k (pos 0)
-  here = read _ fm ∙ ap (λ t. getD t k (pos 0)) e ∙ filled-behind k _ l (pos 0) k (omega arith)
+  here = through-bits w64 _ fm ∙ ap (λ t. getD t k (pos 0)) e ∙ filled-behind _ k l (pos 0) k (omega arith)
 
   there : toZ w64 (ofZ w64 (getD a k (pos 0))) ≡ getD a k (pos 0)
-  there = read _ fa
+  there = through-bits w64 _ fa
 
   room-here : (d : ℕ) → Room d z a l → k < d → Fits (toZ w64 (ofZ w64 (getD m k (pos 0)))) (toZ w64 (ofZ w64 z)) (toZ w64 (ofZ w64 (getD a k (pos 0))))
   room-here d r h = rw (here, there, toZ-ofZ fz) (r .each k h)
 
   turn : (r : ℤ) → mag r < 2 ^ 63 → r ≡ toZ w64 (ofZ w64 (getD m k (pos 0))) +ℤ toZ w64 (ofZ w64 z) *ℤ toZ w64 (ofZ w64 (getD a k (pos 0))) → k < length l
-      → set m k (toZ w64 (ofZ w64 r)) ≡ filled (k + 1) (λ j. getD l j (pos 0) +ℤ toZ w64 (ofZ w64 z) *ℤ getD a j (pos 0)) l
-  turn r fr h lt = filled-turn k _ l e (read r fr ∙ h ∙ λ i. here i +ℤ toZ w64 (ofZ w64 z) *ℤ there i) lt
+      → set m k (toZ w64 (ofZ w64 r)) ≡ filled (λ j. getD l j (pos 0) +ℤ toZ w64 (ofZ w64 z) *ℤ getD a j (pos 0)) (k + 1) l
+  turn r fr h lt = filled-turn _ k l e (through-bits w64 r fr ∙ h ∙ λ i. here i +ℤ toZ w64 (ofZ w64 z) *ℤ there i) lt
 
 loop-holds : tie.Need-loop-holds Inv-loop μ-loop
 loop-holds c = (omega arith, filled-none _ _, refl)
@@ -86,7 +86,7 @@ returns : tie.Need-returns Inv-loop μ-loop
 unfolding added
 returns c =
     let g = c .before .before in
-    filled-end _ _ (c .before .loop .inv .1) (omega arith) ∙ ap (λ z. filled (g .args .d) (λ j. getD (g .args .out .now) j (pos 0) +ℤ z *ℤ getD (g .args .a .now) j (pos 0)) (g .args .out .now)) (toZ-ofZ (g .fits .c))
+    filled-end _ _ (c .before .loop .inv .1) (omega arith) ∙ ap (λ z. filled (λ j. getD (g .args .out .now) j (pos 0) +ℤ z *ℤ getD (g .args .a .now) j (pos 0)) (g .args .d) (g .args .out .now)) (toZ-ofZ (g .fits .c))
 
 pub accumulate-spec : {M : Type 1} → statement M
 accumulate-spec =

@@ -13,7 +13,7 @@ use Rattle.algebra.specs.Magnitude.{natAbs-neg}
 use Rattle.protocol.specs.Element.{around, signed}
 use Rattle.extraction.specs.Bounds.{Within}
 use Rattle.extraction.proofs.Words.{exact, fits, zero-minus}
-use Rattle.extraction.proofs.Rotations.{around-first, around-second, around-third}
+use Rattle.arithmetic.proofs.Around.{around-first, around-second, around-third}
 use Rattle.extraction.proofs.elements.coefficient.Statement.{statement}
 use Rattle.extraction.proofs.elements.coefficient.Tie as tie
 
@@ -33,11 +33,11 @@ module _ (d : ℕ) (a : List ℤ) (w : Within (2 ^ 62) a) where
 
   second : (x : ℕ) → d ≤ x → x < 2 * d → toZ w64 (ofZ w64 (pos 0 -ℤ toZ w64 (ofZ w64 (getD a (x - d) (pos 0))))) ≡ around d (signed a) x
   unfolding signed
-  second x g l = ap (λ z. toZ w64 (ofZ w64 z)) (minus-at (x - d)) ∙ toZ-ofZ (minus-fits (x - d)) ∙ sym (around-second d (signed a) (x - d) (omega arith) x (omega arith))
+  second x g l = ap (λ z. toZ w64 (ofZ w64 z)) (minus-at (x - d)) ∙ toZ-ofZ (minus-fits (x - d)) ∙ sym (around-second d (signed a) x g (omega arith))
 
   third : (x : ℕ) → 2 * d ≤ x → x < 3 * d → toZ w64 (ofZ w64 (getD a (x - 2 * d) (pos 0))) ≡ around d (signed a) x
   unfolding signed
-  third x g l = at (x - 2 * d) ∙ sym (around-third d (signed a) (x - 2 * d) (omega arith) x (omega arith))
+  third x g l = at (x - 2 * d) ∙ ap (λ y. getD a y (pos 0)) (omega arith) ∙ sym (around-third d (signed a) x (omega arith) l)
 
 mul-result : tie.Need-mul-result
 mul-result c = search needs

@@ -6,9 +6,11 @@ use borrow.Author.Needs.{needs}
 use lib.ListN.{length, replicate}
 use lib.IntN.{pos}
 use Rattle.protocol.specs.Element.{around, signed, signedZeros}
-use Rattle.extraction.specs.Steps.{filled, extended}
-use Rattle.extraction.proofs.Filling.{filled-none, filled-turn, filled-end, zeros-length}
-use Rattle.extraction.proofs.Words.{read}
+use Rattle.arithmetic.proofs.Fill.{filled, filled-none, filled-turn, filled-end}
+use Rattle.arithmetic.proofs.SignedFill.{signed-zeros-length}
+use Rattle.extraction.specs.Steps.{extended}
+use mir.Syntax.{w64}
+use Rattle.arithmetic.proofs.Magnitude.{through-bits}
 use Rattle.extraction.proofs.elements.extension.Statement.{statement}
 use Rattle.extraction.proofs.elements.extension.Tie as tie
 use Rattle.extraction.proofs.elements.extension.Reads as reads
@@ -16,7 +18,7 @@ use Rattle.extraction.proofs.elements.extension.Lts as lts
 use Rattle.extraction.proofs.elements.coefficient.Reads as coefficient-reads
 
 abbrev Inv-loop : tie.InvT-loop
-Inv-loop d a u₀ x₀ x-end u x = (x ≤ 3 * d) × (x-end ≡ 3 * d) × (u ≡ filled x (around d (signed a)) (signedZeros 192))
+Inv-loop d a u₀ x₀ x-end u x = (x ≤ 3 * d) × (x-end ≡ 3 * d) × (u ≡ filled (around d (signed a)) x (signedZeros 192))
 
 abbrev μ-loop : tie.MeasureT-loop
 μ-loop d a u₀ x₀ x-end u x = 3 * d - x
@@ -46,7 +48,7 @@ loop-less c = search needs
 loop-again : tie.Need-loop-again Inv-loop μ-loop
 loop-again c =
     let l = c .before .before .loop in
-    (omega arith, search needs, filled-turn (l .x) _ _ (l .inv .2) (read _ (c .coefficient .ok) ∙ c .coefficient .ensures) (omega (arith, zeros-length 192)))
+    (omega arith, search needs, filled-turn _ (l .x) _ (l .inv .2) (through-bits w64 _ (c .coefficient .ok) ∙ c .coefficient .ensures) (omega (arith, signed-zeros-length 192)))
 
 returns : tie.Need-returns Inv-loop μ-loop
 unfolding extended

@@ -7,7 +7,7 @@ use borrow.Author.Needs.{needs}
 use lib.ListN.{length}
 use Rattle.protocol.specs.Element.{one, plus, power}
 use Rattle.protocol.specs.Tree.{s}
-use Rattle.extraction.proofs.Filling.{element-length}
+use Rattle.extraction.proofs.Values.{element-length}
 use Rattle.extraction.proofs.Mu.{factors-s, factors-mu, mu-is}
 use Rattle.extraction.proofs.elements.mu_element.Statement.{statement}
 use Rattle.extraction.proofs.elements.mu_element.Tie as tie

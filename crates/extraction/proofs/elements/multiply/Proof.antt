@@ -10,8 +10,8 @@ use mir.Val.{toZ, ofZ}
 use Rattle.protocol.specs.Element.{signed, signedZeros, product}
 use Rattle.claims.proofs.Norms.{running}
 use Rattle.extraction.specs.Steps.{added, extended, element}
-use Rattle.extraction.proofs.Words.{read}
-use Rattle.extraction.proofs.Filling.{element-length}
+use Rattle.arithmetic.proofs.Magnitude.{through-bits}
+use Rattle.extraction.proofs.Values.{element-length}
 use Rattle.extraction.proofs.Norms.{within-le}
 use Rattle.extraction.proofs.Rows.{no-rows, part, part-length, row-room, row-added}
 use Rattle.extraction.proofs.elements.multiply.Statement.{statement}
@@ -67,7 +67,7 @@ accumulate-requires c κs =
       g .pre .1,
       part-length (g .args .d) (l .i) _ _ (l .inv .1) (g .pre .1),
       omega arith,
-      row-room (g .args .d) (g .args .a .now) (g .args .b .now) (g .pre .3) (g .pre .1) (l .i) (omega arith) _ _ (l .inv .1) (l .inv .2) _ (read _ (c .before .before .before .accumulate-arg .given)),
+      row-room (g .args .d) (g .args .a .now) (g .args .b .now) (g .pre .3) (g .pre .1) (l .i) (omega arith) _ _ (l .inv .1) (l .inv .2) _ (through-bits w64 _ (c .before .before .before .accumulate-arg .given)),
     )
 
 add-i : tie.Need-add-i Inv-loop μ-loop
@@ -79,7 +79,7 @@ loop-less c = search needs
 loop-again : tie.Need-loop-again Inv-loop μ-loop
 loop-again c =
     let g = c .before .before .before .before .before .before .before .before .before in let l = c .before .before .before .before .before .before .before .loop in
-    let next = c .before .accumulate .ensures ∙ row-added (g .args .d) (g .args .a .now) (g .args .b .now) (g .pre .3) (g .pre .1) (l .i) (omega arith) _ _ (l .inv .1) (l .inv .2) _ (read _ (c .before .before .before .before .before .accumulate-arg .given)) in
+    let next = c .before .accumulate .ensures ∙ row-added (g .args .d) (g .args .a .now) (g .args .b .now) (g .pre .3) (g .pre .1) (l .i) (omega arith) _ _ (l .inv .1) (l .inv .2) _ (through-bits w64 _ (c .before .before .before .before .before .accumulate-arg .given)) in
     (omega arith, l .inv .1, next, ap length next ∙ element-length (g .args .d) _ (g .pre .1))
 
 returns : tie.Need-returns Inv-loop μ-loop

@@ -6,7 +6,7 @@ use borrow.Author.Needs.{needs}
 use lib.ListN.{length}
 use Rattle.protocol.specs.Element.{one, plus, power}
 use Rattle.extraction.specs.Steps.{added, extended, element}
-use Rattle.extraction.proofs.Filling.{element-length}
+use Rattle.extraction.proofs.Values.{element-length}
 use Rattle.extraction.proofs.Rows.{part-length}
 use Rattle.extraction.proofs.Powers.{one-small, power-room, power-added}
 use Rattle.extraction.proofs.elements.one_plus_power.Statement.{statement}

@@ -8,7 +8,7 @@ use borrow.Author.Needs.{needs}
 use lib.ListN.{length}
 use Rattle.protocol.specs.Element.{one, power, signedZeros}
 use Rattle.extraction.specs.Steps.{added, extended, element, powers}
-use Rattle.extraction.proofs.Filling.{element-length}
+use Rattle.extraction.proofs.Values.{element-length}
 use Rattle.extraction.proofs.Rows.{part-length}
 use Rattle.extraction.proofs.Powers.{powers-none, powers-next, powers-small, power-room, power-added}
 use Rattle.extraction.proofs.elements.progression.Statement.{statement}

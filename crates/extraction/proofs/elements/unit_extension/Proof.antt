@@ -6,7 +6,7 @@ use borrow.Author.Needs.{needs}
 use lib.ListN.{length}
 use Rattle.protocol.specs.Element.{one}
 use Rattle.extraction.specs.Steps.{extended, element}
-use Rattle.extraction.proofs.Filling.{element-length}
+use Rattle.extraction.proofs.Values.{element-length}
 use Rattle.extraction.proofs.Powers.{unit-within, unit-extended}
 use Rattle.extraction.proofs.elements.unit_extension.Statement.{statement}
 use Rattle.extraction.proofs.elements.unit_extension.Tie as tie

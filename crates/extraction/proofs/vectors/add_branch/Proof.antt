@@ -9,14 +9,15 @@ use lib.IntN.{ℤ}
 use lib.ListN.{length, getD, take, drop}
 use Rattle.protocol.specs.Tree.{challenge, mu}
 use Rattle.extraction.specs.Vectors.{withShare, Sharing, Branching, branchAdded}
-use Rattle.extraction.proofs.Splicing.{part-end, drop-put-end}
+use Rattle.arithmetic.proofs.Folds.{tail-all}
+use Rattle.extraction.proofs.Splicing.{drop-put-end}
 use Rattle.extraction.proofs.vectors.add_branch.Statement.{statement}
 use Rattle.extraction.proofs.vectors.add_branch.Tie as tie
 
 module _ (d n k j x y : ℕ) (E : List ℕ) (ws : List ℤ) (B : Branching d n k j x y E ws) {a b c : ℕ} (is-a : a ≡ getD E (3 * k + j) 0) (is-b : b ≡ getD E (3 * k + x) 0) (is-c : c ≡ getD E (3 * k + y) 0) where
   sharing : Sharing d n a b c (take (length ws - n * d) (drop (n * d) ws))
   unfolding challenge
-  sharing = rw (is-a, is-b, is-c, part-end (n * d) ws) (B .sharing)
+  sharing = rw (is-a, is-b, is-c, tail-all (n * d) ws) (B .sharing)
 
   added : (q : List ℤ)
       → drop (n * d) q ≡ withShare d n a (mu d a b c) (take (n * d) (take (length ws - n * d) (drop (n * d) ws))) (drop (n * d) (take (length ws - n * d) (drop (n * d) ws)))
@@ -27,7 +28,7 @@ module _ (d n k j x y : ℕ) (E : List ℕ) (ws : List ℤ) (B : Branching d n k
       ap (λ z. drop z (putMid (n * d) (length ws - n * d) ws q)) two
       ∙ drop-put-end (n * d) (n * d) ws q (omega (arith, B .long))
       ∙ e
-      ∙ λ i. withShare d n (is-a i) (mu d (is-a i) (is-b i) (is-c i)) (take (n * d) (part-end (n * d) ws i)) (drop (n * d) (part-end (n * d) ws i))
+      ∙ λ i. withShare d n (is-a i) (mu d (is-a i) (is-b i) (is-c i)) (take (n * d) (tail-all (n * d) ws i)) (drop (n * d) (tail-all (n * d) ws i))
 
 mul-i : tie.Need-mul-i
 mul-i c = search needs

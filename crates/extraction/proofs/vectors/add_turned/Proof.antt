@@ -11,15 +11,16 @@ use lib.IntN.{ℤ, pos, natAbs, _+ℤ_, _*ℤ_}
 use Rattle.protocol.specs.Element.{rotate, signed, signedAt}
 use Rattle.claims.proofs.Bounds.{Bounded, rotate-bounded}
 use Rattle.extraction.specs.Bounds.{Within, Fits, Room}
-use Rattle.extraction.specs.Steps.{filled, added, extended}
+use Rattle.extraction.specs.Steps.{added, extended}
 use Rattle.extraction.specs.Vectors.{spliced, turned, Turnable}
-use Rattle.extraction.proofs.Filling.{filled-ext}
+use Rattle.arithmetic.proofs.Fill.{filled, filled-ext}
 use Rattle.extraction.proofs.Norms.{within-le}
 use Rattle.extraction.proofs.Rows as Rows
 use Rattle.extraction.proofs.Rows.{part}
 use Rattle.extraction.proofs.Powers.{one-times, fits-one}
-use Rattle.extraction.proofs.Mu.{rotate-ext}
-use Rattle.extraction.proofs.Parts.{inside, part-length, part-entry, part-within, part-signed}
+use Rattle.relaxed.proofs.Products.{rotate-ext}
+use Rattle.arithmetic.proofs.Folds.{row-inside}
+use Rattle.extraction.proofs.Parts.{part-length, part-entry, part-within, part-signed}
 use Rattle.extraction.proofs.Splicing.{spliced-none, spliced-turn, spliced-length, spliced-low, spliced-behind}
 use Rattle.extraction.proofs.vectors.add_turned.Statement.{statement}
 use Rattle.extraction.proofs.vectors.add_turned.Tie as tie
@@ -41,7 +42,7 @@ abbrev μ-loop : tie.MeasureT-loop
 -- a turn over plain variables
 module _ (d n e to : ℕ) (l : List ℤ) (T : Turnable d n e to l) (i : ℕ) (lt : i < n) (w : List ℤ) (is : w ≡ spliced to d i (sums d e to l) l) (same : length w ≡ length l) where
   fits-in : to + i * d + d ≤ length l
-  fits-in = omega (arith, inside d i n lt, T .inside)
+  fits-in = omega (arith, row-inside d n i lt, T .inside)
 
   -- the element that is read, and what is written to
   abbrev source : List ℤ
@@ -51,10 +52,10 @@ module _ (d n e to : ℕ) (l : List ℤ) (T : Turnable d n e to l) (i : ℕ) (lt
   target = take (length w - (to + i * d)) (drop (to + i * d) w)
 
   source-as-was : (j : ℕ) → j < i * d + d - i * d → getD w (i * d + j) (pos 0) ≡ getD l (i * d + j) (pos 0)
-  source-as-was j h = ap (λ m. getD m (i * d + j) (pos 0)) is ∙ spliced-low to d (sums d e to l) l i (omega (arith, fits-in)) (pos 0) (i * d + j) (omega (arith, inside d i n lt, T .apart))
+  source-as-was j h = ap (λ m. getD m (i * d + j) (pos 0)) is ∙ spliced-low to d (sums d e to l) l i (omega (arith, fits-in)) (pos 0) (i * d + j) (omega (arith, row-inside d n i lt, T .apart))
 
   source-within : Within (T .bound) source
-  source-within = part-within (i * d) (i * d + d - i * d) w (T .bound) (λ j h. subst (λ z. natAbs z ≤ T .bound) (sym (source-as-was j h)) (T .within (i * d + j) (omega (arith, inside d i n lt))))
+  source-within = part-within (i * d) (i * d + d - i * d) w (T .bound) (λ j h. subst (λ z. natAbs z ≤ T .bound) (sym (source-as-was j h)) (T .within (i * d + j) (omega (arith, row-inside d n i lt))))
 
   source-is : (j : ℕ) → j < d → signed source j ≡ signedAt d l i j
   source-is j h = part-signed (i * d) (i * d + d - i * d) w d i refl (omega arith) j h ∙ unfold signedAt in source-as-was j (omega arith)
@@ -72,7 +73,7 @@ module _ (d n e to : ℕ) (l : List ℤ) (T : Turnable d n e to l) (i : ℕ) (lt
 
     element-within : Bounded d (T .bound) (signedAt d l i)
     unfolding signedAt
-    element-within k h = T .within (i * d + k) (omega (arith, inside d i n lt))
+    element-within k h = T .within (i * d + k) (omega (arith, row-inside d n i lt))
 
     room : Room d (pos 1) (part d e u) target
     room = record { each = each }
@@ -85,7 +86,7 @@ module _ (d n e to : ℕ) (l : List ℤ) (T : Turnable d n e to l) (i : ℕ) (lt
     turn : (q : List ℤ) → q ≡ added d (pos 1) (part d e u) target → putMid (to + i * d) (length w - (to + i * d)) w q ≡ spliced to d (i + 1) (sums d e to l) l
     unfolding added
     turn q eq = spliced-turn to d (sums d e to l) l i (omega (arith, fits-in)) (to + i * d) refl is
-        (eq ∙ filled-ext d target (λ k h j. target-entry k h j +ℤ (one-times (getD (part d e u) k (pos 0)) ∙ turned-entry k h) j))
+        (eq ∙ filled-ext _ (sums d e to l i) d target (λ k h j. target-entry k h j +ℤ (one-times (getD (part d e u) k (pos 0)) ∙ turned-entry k h) j))
 
 mul-from : tie.Need-mul-from Inv-loop μ-loop
 mul-from c = search needs
@@ -98,7 +99,7 @@ loop-holds c = (omega arith, spliced-none _ _ _ _ (omega (arith, c .pre .inside)
 
 -- an element's place
 here : (c : tie.In-loop Inv-loop μ-loop) → let a = c .before .before .args in (c .before .loop .i * a .d + a .d ≤ a .to) × (a .to + (c .before .loop .i * a .d + a .d) ≤ length (a .l .now))
-here c = let a = c .before .before .args in let p = c .before .before .pre in let h = inside (a .d) (c .before .loop .i) (a .n) (omega arith) in (omega (arith, p .apart), omega (arith, p .inside))
+here c = let a = c .before .before .args in let p = c .before .before .pre in let h = row-inside (a .d) (a .n) (c .before .loop .i) (omega arith) in (omega (arith, p .apart), omega (arith, p .inside))
 
 mul-at : tie.Need-mul-at Inv-loop μ-loop
 mul-at c = let h = here c in record { fits = omega arith }

@@ -5,13 +5,13 @@ use native.Mathlib.Omega.{arith}
 use borrow.Author.Needs.{needs}
 use lib.ListN.{length, length-set}
 use lib.IntN.{pos}
-use Rattle.extraction.specs.Steps.{filled}
-use Rattle.extraction.proofs.Filling.{filled-none, filled-turn, filled-end, filled-zeros}
+use Rattle.arithmetic.proofs.Fill.{filled, filled-none, filled-turn, filled-end}
+use Rattle.arithmetic.proofs.SignedFill.{filled-signed-zeros}
 use Rattle.extraction.proofs.vectors.clear.Statement.{statement}
 use Rattle.extraction.proofs.vectors.clear.Tie as tie
 
 abbrev Inv-loop : tie.InvT-loop
-Inv-loop l₀ i₀ l i = (i ≤ length l₀) × (l ≡ filled i (λ _. pos 0) l₀) × (length l ≡ length l₀)
+Inv-loop l₀ i₀ l i = (i ≤ length l₀) × (l ≡ filled (λ _. pos 0) i l₀) × (length l ≡ length l₀)
 
 abbrev μ-loop : tie.MeasureT-loop
 μ-loop l₀ i₀ l i = length l₀ - i
@@ -32,13 +32,13 @@ loop-less : tie.Need-loop-less Inv-loop μ-loop
 loop-less c = search needs
 
 loop-again : tie.Need-loop-again Inv-loop μ-loop
-loop-again c = let l = c .before .loop in (search needs, filled-turn (l .i) (λ _. pos 0) (c .before .before .args .l .now) (l .inv .1) refl (omega arith), simp length-set (search needs))
+loop-again c = let l = c .before .loop in (search needs, filled-turn (λ _. pos 0) (l .i) (c .before .before .args .l .now) (l .inv .1) refl (omega arith), simp length-set (search needs))
 
 same-length : tie.Need-same-length Inv-loop μ-loop
 same-length c = search needs
 
 returns : tie.Need-returns Inv-loop μ-loop
-returns c = filled-end _ _ (c .before .loop .inv .1) (omega arith) ∙ filled-zeros (c .before .before .args .l .now)
+returns c = filled-end _ _ (c .before .loop .inv .1) (omega arith) ∙ filled-signed-zeros (c .before .before .args .l .now)
 
 pub clear-spec : {M : Type 1} → statement M
 clear-spec = tie.close (tie.spec Inv-loop μ-loop loop-holds mul-l slice-set-of-l add-i loop-less loop-again same-length returns)

@@ -11,21 +11,22 @@ use lib.ListN.{length, take, drop, length-drop, drop-of-length-le}
 use Rattle.protocol.specs.Basic.{tabulate}
 use Rattle.protocol.specs.Element.{signed, signedAt, coefficients}
 use Rattle.protocol.proofs.Reading.{tabulate-ext}
-use Rattle.extraction.specs.Steps.{filled}
+use Rattle.arithmetic.proofs.Fill.{filled}
 use Rattle.extraction.proofs.Parts.{part-signed}
-use Rattle.extraction.proofs.Splicing.{append-nil, part-end, drop-put-end}
+use Rattle.arithmetic.proofs.Folds.{tail-all}
+use Rattle.extraction.proofs.Splicing.{append-nil, drop-put-end}
 use Rattle.extraction.proofs.vectors.leaf_vector.Statement.{statement}
 use Rattle.extraction.proofs.vectors.leaf_vector.Tie as tie
 
 loaded : (d j : ℕ) (finals ws q : List ℤ) → j * d + d ≤ length finals → length ws ≡ 2 * d
-    → q ≡ filled d (signed (take (length finals - j * d) (drop (j * d) finals))) (take (length ws - d) (drop d ws))
+    → q ≡ filled (signed (take (length finals - j * d) (drop (j * d) finals))) d (take (length ws - d) (drop d ws))
     → drop d (putMid d (length ws - d) ws q) ≡ coefficients d (signedAt d finals j)
 unfolding filled coefficients
 loaded d j finals ws q inside long e =
     ap (λ x. drop x (putMid d (length ws - d) ws q)) (sym (Nat.add-zero d))
     ∙ drop-put-end d 0 ws q (omega arith)
     ∙ e
-    ∙ (λ i. tabulate d (signed (take (length finals - j * d) (drop (j * d) finals))) ++ drop d (part-end d ws i))
+    ∙ (λ i. tabulate d (signed (take (length finals - j * d) (drop (j * d) finals))) ++ drop d (tail-all d ws i))
     ∙ ap (λ r. tabulate d (signed (take (length finals - j * d) (drop (j * d) finals))) ++ r) (drop-of-length-le (drop d ws) {i = d} (omega (arith, length-drop d ws)))
     ∙ append-nil _
     ∙ tabulate-ext d (part-signed (j * d) (length finals - j * d) finals d j refl (omega arith))

@@ -6,9 +6,9 @@ use borrow.Author.Needs.{needs}
 use lib.ListN.{length, length-set}
 use mir.Facts.{toZ-ofZ}
 use Rattle.protocol.specs.Element.{signed}
-use Rattle.extraction.specs.Steps.{filled}
-use Rattle.extraction.proofs.Filling.{filled-none, filled-turn, filled-end}
-use Rattle.extraction.proofs.Words.{read}
+use Rattle.arithmetic.proofs.Fill.{filled, filled-none, filled-turn, filled-end}
+use mir.Syntax.{w64}
+use Rattle.arithmetic.proofs.Magnitude.{through-bits}
 use Rattle.extraction.proofs.vectors.load.Statement.{statement}
 use Rattle.extraction.proofs.vectors.load.Tie as tie
 use Rattle.extraction.proofs.vectors.load.Reads as reads
@@ -16,7 +16,7 @@ use Rattle.extraction.proofs.vectors.load.Lts as lts
 use Rattle.extraction.proofs.vectors.widen.Reads as widen-reads
 
 abbrev Inv-loop : tie.InvT-loop
-Inv-loop d f out₀ k₀ out k = (k ≤ d) × (out ≡ filled k (signed f) out₀) × (length out ≡ length out₀)
+Inv-loop d f out₀ k₀ out k = (k ≤ d) × (out ≡ filled (signed f) k out₀) × (length out ≡ length out₀)
 
 abbrev μ-loop : tie.MeasureT-loop
 μ-loop d f out₀ k₀ out k = d - k
@@ -50,7 +50,7 @@ unfolding signed
 loop-again c =
     let g = c .before .before .before .before in let l = c .before .before .before .loop in (
       search needs,
-      filled-turn (l .k) (signed (g .args .f .now)) (g .args .out .now) (l .inv .1) (read _ (c .widen .ok) ∙ c .widen .ensures ∙ toZ-ofZ (record { sfits = c .before .widen-arg .given })) (omega arith),
+      filled-turn (signed (g .args .f .now)) (l .k) (g .args .out .now) (l .inv .1) (through-bits w64 _ (c .widen .ok) ∙ c .widen .ensures ∙ toZ-ofZ (record { sfits = c .before .widen-arg .given })) (omega arith),
       simp length-set (search needs),
     )
 

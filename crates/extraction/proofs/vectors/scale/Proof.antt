@@ -11,11 +11,13 @@ use lib.IntN.{ℤ, pos, natAbs}
 use Rattle.protocol.specs.Element.{product, signed, signedAt}
 use Rattle.protocol.specs.Tree.{share}
 use Rattle.extraction.specs.Bounds.{Within, Factors}
-use Rattle.extraction.specs.Steps.{filled, element}
+use Rattle.extraction.specs.Steps.{element}
 use Rattle.extraction.specs.Vectors.{spliced, scaled}
-use Rattle.extraction.proofs.Filling.{filled-ext}
-use Rattle.extraction.proofs.Mu.{held, product-ext}
-use Rattle.extraction.proofs.Parts.{inside, part-length, part-entry, part-within, part-signed}
+use Rattle.arithmetic.proofs.Fill.{filled, filled-ext}
+use Rattle.extraction.proofs.Values.{held}
+use Rattle.relaxed.proofs.Products.{product-ext}
+use Rattle.arithmetic.proofs.Folds.{row-inside}
+use Rattle.extraction.proofs.Parts.{part-length, part-entry, part-within, part-signed}
 use Rattle.extraction.proofs.Splicing.{spliced-none, spliced-turn, spliced-length, spliced-behind}
 use Rattle.extraction.proofs.vectors.scale.Statement.{statement}
 use Rattle.extraction.proofs.vectors.scale.Tie as tie
@@ -36,10 +38,10 @@ module _ (d n : ℕ) (m v : List ℤ) (F : Factors d m v) (p : 0 < d) (long : n 
   rest = take (length w - i * d) (drop (i * d) w)
 
   rest-long : d ≤ length rest
-  rest-long = omega (arith, part-length (i * d) (length w - i * d) w (omega (arith, inside d i n lt)), inside d i n lt)
+  rest-long = omega (arith, part-length (i * d) (length w - i * d) w (omega (arith, row-inside d n i lt)), row-inside d n i lt)
 
   as-was : (j : ℕ) → i * d ≤ j → getD w j (pos 0) ≡ getD v j (pos 0)
-  as-was j h = ap (λ l. getD l j (pos 0)) is ∙ spliced-behind 0 d (share d m v) v i (omega (arith, inside d i n lt)) (pos 0) j (omega arith)
+  as-was j h = ap (λ l. getD l j (pos 0)) is ∙ spliced-behind 0 d (share d m v) v i (omega (arith, row-inside d n i lt)) (pos 0) j (omega arith)
 
   factors : Factors d m rest
   factors = record {
@@ -49,18 +51,18 @@ module _ (d n : ℕ) (m v : List ℤ) (F : Factors d m v) (p : 0 < d) (long : n 
     room = F .room;
   }
 
-  turn : (a q : List ℤ) → a ≡ element d (product d (signed m) (signed rest)) → q ≡ filled d (signed a) rest → putMid (i * d) (length w - i * d) w q ≡ spliced 0 d (i + 1) (share d m v) v
-  turn a q ea eq = spliced-turn 0 d (share d m v) v i (omega (arith, inside d i n lt)) (i * d) (sym (Nat.zero-add (i * d))) is (eq ∙ filled-ext d rest (λ k lk. held d _ ea k lk ∙ unfold share in product-ext d k p (λ j _. refl) element-is))
+  turn : (a q : List ℤ) → a ≡ element d (product d (signed m) (signed rest)) → q ≡ filled (signed a) d rest → putMid (i * d) (length w - i * d) w q ≡ spliced 0 d (i + 1) (share d m v) v
+  turn a q ea eq = spliced-turn 0 d (share d m v) v i (omega (arith, row-inside d n i lt)) (i * d) (sym (Nat.zero-add (i * d))) is (eq ∙ filled-ext (signed a) (share d m v i) d rest (λ k lk. held d _ ea k lk ∙ unfold share in product-ext d k p (λ j _. refl) element-is))
     where
       element-is : (j : ℕ) → j < d → signed rest j ≡ signedAt d v i j
-      element-is j lj = part-signed (i * d) (length w - i * d) w d i refl (omega (arith, inside d i n lt)) j lj ∙ unfold signedAt in as-was (i * d + j) (omega arith)
+      element-is j lj = part-signed (i * d) (length w - i * d) w d i refl (omega (arith, row-inside d n i lt)) j lj ∙ unfold signedAt in as-was (i * d + j) (omega arith)
 
 loop-holds : tie.Need-loop-holds Inv-loop μ-loop
 loop-holds c = (omega arith, spliced-none 0 _ _ _ (omega arith), refl)
 
 -- an element's place
 here : (c : tie.In-loop Inv-loop μ-loop) → c .before .loop .i * c .before .before .args .d + c .before .before .args .d ≤ length (c .before .before .args .v .now)
-here c = Nat.le-trans (inside (c .before .before .args .d) (c .before .loop .i) (c .before .before .args .n) (omega arith)) (c .before .before .pre .2)
+here c = Nat.le-trans (row-inside (c .before .before .args .d) (c .before .before .args .n) (c .before .loop .i) (omega arith)) (c .before .before .pre .2)
 
 mul-at : tie.Need-mul-at Inv-loop μ-loop
 mul-at c = record { fits = omega (arith, here c) }

@@ -5,16 +5,16 @@ use native.Mathlib.Omega.{arith}
 use borrow.Author.Needs.{needs}
 use lib.ListN.{length, length-set}
 use Rattle.protocol.specs.Element.{signed}
-use Rattle.extraction.specs.Steps.{filled}
-use Rattle.extraction.proofs.Filling.{filled-none, filled-turn, filled-end}
-use Rattle.extraction.proofs.Words.{read}
+use Rattle.arithmetic.proofs.Fill.{filled, filled-none, filled-turn, filled-end}
+use mir.Syntax.{w64}
+use Rattle.arithmetic.proofs.Magnitude.{through-bits}
 use Rattle.extraction.proofs.vectors.store.Statement.{statement}
 use Rattle.extraction.proofs.vectors.store.Tie as tie
 use Rattle.extraction.proofs.vectors.store.Reads as reads
 use Rattle.extraction.proofs.vectors.store.Lts as lts
 
 abbrev Inv-loop : tie.InvT-loop
-Inv-loop d a out₀ k₀ out k = (k ≤ d) × (out ≡ filled k (signed a) out₀) × (length out ≡ length out₀)
+Inv-loop d a out₀ k₀ out k = (k ≤ d) × (out ≡ filled (signed a) k out₀) × (length out ≡ length out₀)
 
 abbrev μ-loop : tie.MeasureT-loop
 μ-loop d a out₀ k₀ out k = d - k
@@ -44,7 +44,7 @@ loop-again : tie.Need-loop-again Inv-loop μ-loop
 unfolding signed
 loop-again c =
     let g = c .before .before .before in let l = c .before .before .loop in
-    (search needs, filled-turn (l .k) (signed (g .args .a .now)) (g .args .out .now) (l .inv .1) (read _ (c .out .given)) (omega arith), simp length-set (search needs))
+    (search needs, filled-turn (signed (g .args .a .now)) (l .k) (g .args .out .now) (l .inv .1) (through-bits w64 _ (c .out .given)) (omega arith), simp length-set (search needs))
 
 same-length : tie.Need-same-length Inv-loop μ-loop
 same-length c = search needs
