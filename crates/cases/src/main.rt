@@ -5,6 +5,7 @@ mod input;
 mod output;
 mod proving;
 mod tables;
+mod verifying;
 
 use input::Input;
 
@@ -14,6 +15,7 @@ fn run(call: u32, input: Input) -> Input {
         2 => proving::run_round(input),
         3 => proving::run_fold(input),
         4 => proving::run_end(input),
+        9 => verifying::run_check(input),
         10 => extracting::run_judge(input),
         _ => unknown(input),
     }
