@@ -1,9 +1,11 @@
 // Runs cases through the public calls and prints their answers. Standard input is a stream of decimal numbers: for each case the number of
 // its call and then its inputs, a table or an element being its length and then its numbers. The answer to each case is one line.
+mod extracting;
 mod input;
 mod output;
 mod proving;
 mod tables;
+mod verifying;
 
 use input::Input;
 
@@ -13,6 +15,8 @@ fn run(call: u32, input: Input) -> Input {
         2 => proving::run_round(input),
         3 => proving::run_fold(input),
         4 => proving::run_end(input),
+        9 => verifying::run_check(input),
+        10 => extracting::run_judge(input),
         _ => unknown(input),
     }
 }

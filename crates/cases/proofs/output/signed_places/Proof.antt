@@ -1,3 +1,4 @@
+-- The loop keeps: at most all places are left. Their number falls.
 use borrow.Author.Needs.{needs}
 use Prim.Native.Nat.{_≤_}
 use Rattle.cases.proofs.output.signed_places.Statement.{statement}

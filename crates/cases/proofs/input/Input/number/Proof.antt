@@ -1,3 +1,4 @@
+-- Nothing has to hold from turn to turn. The turns that are left fall.
 use borrow.Author.Needs.{needs}
 use Rattle.cases.proofs.input.Input.number.Statement.{statement}
 use Rattle.cases.proofs.input.Input.number.Tie as tie
