@@ -41,7 +41,7 @@ module _ (c f : ℕ) (p : 0 < f) where
   power-within b zero l = simp (Nat.pow-zero, Nat.one-mul)
   power-within b (suc n) l = let t = times-within (cappedPower c f b n) l in t .0 ∙ ap (λ g. g * f) (power-within b n (t .1)) ∙ power-next b n
 
-  power-exact : (b n : ℕ) → f ^ n * b ≤ c → cappedPower c f b n ≡ f ^ n * b
+  pub power-exact : (b n : ℕ) → f ^ n * b ≤ c → cappedPower c f b n ≡ f ^ n * b
   unfolding cappedPower
   power-exact b zero l = simp (Nat.pow-zero, Nat.one-mul)
   power-exact b (suc n) l =

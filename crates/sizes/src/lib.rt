@@ -7,6 +7,7 @@ ghost use Rattle.protocol.specs.Settings as of;
 ghost use Rattle.protocol.specs.Settings.{settingsRefusal};
 ghost use Rattle.protocol.specs.Opening as opening;
 ghost use Rattle.protocol.specs.Opening.{halfLeft};
+ghost use Rattle.protocol.specs.Tree as tree;
 
 // The elements that are left, n/2^t, and those of a half of them.
 pub fn left(settings: Settings, t: u32) -> u32
@@ -55,4 +56,25 @@ pub fn left_bound(settings: Settings, t: u32) -> u32
         return 0;
     }
     (1u32 << t) * settings.bound
+}
+
+// The leaves of a full tree, 3^L, and its branching nodes.
+pub fn leaves(settings: Settings) -> usize
+    ensures { λ r. ⌜ ((settingsRefusal settings ≡ 0 → r ≡ tree.leaves settings) × (1 ≤ r) × (r ≤ 6561)) ⌝ }
+{
+    let depth = settings.depth;
+    if depth > 8 {
+        return 1;
+    }
+    let mut power: usize = 1;
+    for i in 0..depth {
+        power = 3 * power;
+    }
+    power
+}
+
+pub fn nodes(settings: Settings) -> usize
+    ensures { λ r. ⌜ ((settingsRefusal settings ≡ 0 → r ≡ tree.nodes settings) × (r ≤ 3280)) ⌝ }
+{
+    (leaves(settings) - 1) / 2
 }
