@@ -1,0 +1,99 @@
+-- The session's moves: what is known of their inputs with no refusal, and their answers with one and without.
+use mathlib.Core.Path.{_≡_, refl, sym, ap, _∙_}
+use mathlib.Core.Bool.{Bool, true, false, _&&_, not}
+use mathlib.Core.List.{List}
+use Prim.Native.Nat.{ℕ, _+_, _*_, _<_, _≤_}
+use native.Mathlib.Omega.{arith}
+use native.Mathlib.Nat as Nat
+use borrow.Author.Tests.{eqb-true, ltb-true}
+use lib.IntN.{ℤ}
+use lib.ListN.{length, getD}
+use Rattle.protocol.specs.declared.Settings.{Settings}
+use Rattle.protocol.specs.declared.Session.{Session}
+use Rattle.protocol.specs.declared.Started.{Started}
+use Rattle.protocol.specs.declared.Moved.{Moved}
+use Rattle.protocol.specs.declared.Verdict.the-variants.{Silent, Holds, Accepted, Rejected}
+use Rattle.protocol.specs.Basic.{tabulate, choose}
+use Rattle.protocol.specs.Element.{zeros, padded, residue}
+use Rattle.protocol.specs.Settings.{settingsRefusal, cells, sized}
+use Rattle.protocol.specs.Transcript.{nextClaim}
+use Rattle.protocol.specs.Session.{slots, verdict, opened, blank, startRefusal, start, refusedMove, shut, part, moveRefusal, advanced, moveHolds, move, closeRefusal, closeHolds, close}
+use Rattle.protocol.proofs.Tests.{and-split, first-zero, unless-zero, granted-zero, granted-refused}
+use Rattle.protocol.proofs.Reading.{tabulate-ext}
+use Rattle.arithmetic.specs.Elements.{elementAt}
+use Rattle.verifier.specs.Records.{counted}
+
+-- ---- start
+
+module _ (S : Settings) (C : List ℕ) where
+  pub start-allowed : startRefusal S C ≡ 0 → settingsRefusal S ≡ 0
+  unfolding startRefusal
+  start-allowed e = first-zero _ _ e .0
+
+  pub start-refused : (n : ℕ) (none : Session) → n ≡ startRefusal S C → (n ≡ 0 → ⊥) → none ≡ blank → _≡_ {A = Started} (record { number = n; next = none }) (start S C)
+  unfolding start
+  start-refused n none e r b = let next = b ∙ sym (granted-refused (startRefusal S C) (opened S C) blank (λ z. r (e ∙ z))) in λ i. record { number = e i; next = next i }
+
+  -- of the commitment only the first d places are read
+  pub start-done : startRefusal S C ≡ 0 → (claim : List ℕ) → claim ≡ elementAt (S .degree) C 0
+      → _≡_ {A = Started} (record { number = 0; next = record { settings = S; done = 0; claim = claim; challenges = zeros slots; closed = false } }) (start S C)
+  unfolding start opened elementAt
+  start-done z claim e =
+      let read = e ∙ ap (padded (S .degree)) (tabulate-ext (S .degree) (λ k l. ap (λ n. getD C n 0) {x = 0 * S .degree + k} {y = k} (omega (arith, Nat.zero-mul (S .degree))))) in
+      let next = (λ i. record { settings = S; done = 0; claim = read i; challenges = zeros slots; closed = false }) ∙ sym (granted-zero (startRefusal S C) (opened S C) blank z) in
+      λ i. record { number = sym z i; next = next i }
+
+-- ---- round
+
+module _ (r : Session) (p : List (List ℕ)) (e : ℕ) where
+  pub record RoundGiven : Type 0 where
+    pub allowed : settingsRefusal (r .settings) ≡ 0
+    pub turn : r .done < r .settings .depth
+
+  pub round-given : moveRefusal r p e ≡ 0 → RoundGiven
+  unfolding moveRefusal
+  round-given z =
+      let (r6, e8) = first-zero _ _ z in
+      let (r8, e10) = first-zero _ _ e8 in
+      let (r10, e11) = first-zero _ _ e10 in
+      let (r11, rest) = first-zero _ _ e11 in
+      record { allowed = r6; turn = ltb-true _ _ (and-split (unless-zero 10 _ r11) .0) }
+
+  pub round-refused : (n : ℕ) → n ≡ moveRefusal r p e → (n ≡ 0 → ⊥) → _≡_ {A = Moved} (record { number = n; verdict = Silent; next = r }) (move r p e)
+  unfolding move refusedMove
+  round-refused n f s = (λ i. record { number = f i; verdict = Silent; next = r }) ∙ sym (granted-refused (moveRefusal r p e) _ _ (λ z. s (f ∙ z)))
+
+  made : moveRefusal r p e ≡ 0 → (b : Bool) → moveHolds r p ≡ b → move r p e ≡ choose b (record { number = 0; verdict = Holds; next = advanced r p e }) (record { number = 0; verdict = Rejected; next = shut r })
+  unfolding move
+  made z b h = granted-zero (moveRefusal r p e) _ _ z ∙ ap (λ t. choose t (record { number = 0; verdict = Holds; next = advanced r p e }) (record { number = 0; verdict = Rejected; next = shut r })) h
+
+  pub round-rejected : moveRefusal r p e ≡ 0 → moveHolds r p ≡ false → (next : Session) → next ≡ shut r → _≡_ {A = Moved} (record { number = 0; verdict = Rejected; next = next }) (move r p e)
+  unfolding choose
+  round-rejected z h next s = (λ i. record { number = 0; verdict = Rejected; next = s i }) ∙ sym (made z false h)
+
+  pub round-counted : moveRefusal r p e ≡ 0 → moveHolds r p ≡ true → (next : Session) (claim : List ℕ) → next ≡ counted r e claim
+      → claim ≡ padded (r .settings .degree) (nextClaim (r .settings) e (residue (part p 0)) (residue (part p 1)) (residue (part p 2))) → _≡_ {A = Moved} (record { number = 0; verdict = Holds; next = next }) (move r p e)
+  unfolding choose advanced
+  round-counted z h next claim s c = (λ i. record { number = 0; verdict = Holds; next = (s ∙ ap (counted r e) c) i }) ∙ sym (made z true h)
+
+-- ---- end
+
+module _ (r : Session) (f : List ℤ) (key : List ℕ) where
+  pub record EndGiven : Type 0 where
+    pub allowed : settingsRefusal (r .settings) ≡ 0
+    pub key-long : length key ≡ cells (r .settings)
+
+  pub end-given : closeRefusal r key ≡ 0 → EndGiven
+  unfolding closeRefusal sized
+  end-given z =
+      let (r6, e7) = first-zero _ _ z in
+      let (r7, e8) = first-zero _ _ e7 in
+      record { allowed = r6; key-long = eqb-true _ _ (unless-zero 6 _ r7) }
+
+  pub end-refused : (n : ℕ) → n ≡ closeRefusal r key → (n ≡ 0 → ⊥) → _≡_ {A = Moved} (record { number = n; verdict = Silent; next = r }) (close r f key)
+  unfolding close refusedMove
+  end-refused n e s = (λ i. record { number = e i; verdict = Silent; next = r }) ∙ sym (granted-refused (closeRefusal r key) _ _ (λ z. s (e ∙ z)))
+
+  pub end-done : closeRefusal r key ≡ 0 → (b : Bool) → closeHolds r f key ≡ b → (next : Session) → next ≡ shut r → _≡_ {A = Moved} (record { number = 0; verdict = verdict b; next = next }) (close r f key)
+  unfolding close
+  end-done z b h next s = (λ i. record { number = 0; verdict = verdict (sym h i); next = s i }) ∙ sym (granted-zero (closeRefusal r key) _ _ z)

@@ -1,0 +1,80 @@
+use mathlib.Core.Path.{_≡_, sym, _∙_}
+use mathlib.Core.Bool.{true, false}
+use Prim.Native.Nat.{_≤_}
+use native.Mathlib.Omega.{arith}
+use lib.ListN.{length}
+use Rattle.protocol.specs.Basic.{choose}
+use Rattle.protocol.specs.Session.{verdict, closeRefusal, closeHolds}
+use Rattle.protocol.proofs.Inputs.{settings-valid}
+use Rattle.verifier.proofs.Answers.{EndGiven, end-given, end-refused, end-done}
+use borrow.Author.Needs.{needs}
+use Rattle.verifier.proofs.Verifier.end.Statement.{statement}
+use Rattle.verifier.proofs.Verifier.end.Tie as tie
+use Rattle.verifier.proofs.Verifier.end.Reads as reads
+use Rattle.verifier.proofs.Verifier.end.Lts as lts
+use Rattle.equations.proofs.end_met.Reads as end-met-reads
+use Rattle.refusals.proofs.session.end.Reads as end-reads
+use Rattle.verifier.proofs.shut.Reads as shut-reads
+
+passed : (c : tie.Else1) → let a = c .before .before .before .before .args in closeRefusal (a .self .0) (a .key .now) ≡ 0
+passed c = sym (c .before .end .ensures) ∙ c .if1 .left
+
+-- src/lib.rt:121:13
+end-requires : tie.Need-end-requires
+end-requires c κs = search needs
+
+-- src/lib.rt:123:13
+returns : tie.Need-returns
+returns c = let a = c .before .before .before .before .args in end-refused (a .self .0) (a .last) (a .key .now) _ (c .before .end .ensures) (c .if1 .taken)
+
+-- src/lib.rt:132:13
+shut-requires : tie.Need-shut-requires
+shut-requires c κs = search needs
+
+-- src/lib.rt:133:59
+slice-aggregate-end-met : tie.Need-slice-aggregate-end-met
+slice-aggregate-end-met c = search needs
+
+-- the record has eight challenges
+eight : (c : tie.After-challenges2) → 8 ≤ length (c .before .before .before .before .before .before .before .before .before .args .self .0 .challenges)
+eight c = omega (arith, slice-aggregate-end-met c)
+
+-- the verdict is that of the last equation and the bound
+met : (c : tie.After-end-met) → let a = c .before .before .before .before .before .before .before .before .before .before .args in c .end-met .result ≡ closeHolds (a .self .0) (a .last) (a .key .now)
+unfolding closeHolds
+met c =
+    let one = c .before .before .before .before .before .before in
+    let g = end-given _ (one .before .before .before .before .args .last) _ (passed one) in
+    c .end-met .ensures (g .allowed) (g .key-long) (omega (arith, settings-valid _ (g .allowed) .depth-most, eight (c .before)))
+
+-- src/lib.rt:133:12
+end-met-requires : tie.Need-end-met-requires
+end-met-requires c κs = search needs
+
+-- src/lib.rt:134:13
+returns-2 : tie.Need-returns-2
+unfolding verdict choose
+returns-2 c =
+    let one = c .before .before .before .before .before .before .before in
+    let a = one .before .before .before .before .args in
+    end-done (a .self .0) (a .last) (a .key .now) (passed one) true (sym (met (c .before)) ∙ c .if2 .taken) _ (c .before .before .before .shut .ensures)
+
+-- src/lib.rt:117:5
+returns-3 : tie.Need-returns-3
+unfolding verdict choose
+returns-3 c =
+    let one = c .before .before .before .before .before .before .before in
+    let a = one .before .before .before .before .args in
+    end-done (a .self .0) (a .last) (a .key .now) (passed one) false (sym (met (c .before)) ∙ c .if2 .left) _ (c .before .before .before .shut .ensures)
+
+pub end-spec : {M : Type 1} → statement M
+end-spec =
+    tie.close
+    (tie.spec
+    end-requires
+    returns
+    shut-requires
+    slice-aggregate-end-met
+    end-met-requires
+    returns-2
+    returns-3)

@@ -1,0 +1,56 @@
+use mathlib.Core.Path.{_≡_, sym, _∙_}
+use Rattle.protocol.specs.Element.{zeros}
+use Rattle.protocol.specs.Session.{slots, startRefusal}
+use Rattle.protocol.proofs.Inputs.{settings-valid}
+use Rattle.sizes.proofs.Limits.{degree-most}
+use Rattle.verifier.proofs.Answers.{start-allowed, start-refused, start-done}
+use borrow.Author.Needs.{needs}
+use Rattle.verifier.proofs.Verifier.start.Statement.{statement}
+use Rattle.verifier.proofs.Verifier.start.Tie as tie
+use Rattle.verifier.proofs.Verifier.start.Reads as reads
+use Rattle.verifier.proofs.Verifier.start.Lts as lts
+use Rattle.arithmetic.proofs.elements.element_at.Reads as element-at-reads
+use Rattle.refusals.proofs.session.start.Reads as start-reads
+use Rattle.verifier.proofs.blank.Reads as blank-reads
+
+passed : (c : tie.Else1) → startRefusal (c .before .before .args .settings) (c .before .before .args .t3) ≡ 0
+passed c = sym (c .before .start .ensures) ∙ c .if1 .left
+
+-- src/lib.rt:61:13
+start-requires : tie.Need-start-requires
+start-requires c κs = search needs
+
+-- src/lib.rt:63:17
+blank-requires : tie.Need-blank-requires
+blank-requires c κs = search needs
+
+-- src/lib.rt:64:13
+returns : tie.Need-returns
+returns c = let a = c .before .before .before .args in start-refused (a .settings) (a .t3) _ _ (c .before .before .start .ensures) (c .before .if1 .taken) (c .blank .ensures)
+
+-- src/lib.rt:72:70
+slice-aggregate-element-at : tie.Need-slice-aggregate-element-at
+slice-aggregate-element-at c = search needs
+
+-- src/lib.rt:72:20
+element-at-requires : tie.Need-element-at-requires
+element-at-requires c κs = search needs
+
+-- src/lib.rt:58:5
+returns-2 : tie.Need-returns-2
+unfolding zeros slots
+returns-2 c =
+    let a = c .before .before .before .before .args in
+    let z = passed (c .before .before) in
+    start-done (a .settings) (a .t3) z _ (c .element-at .ensures (degree-most _ (settings-valid _ (start-allowed _ _ z))))
+
+pub start-spec : {M : Type 1} → statement M
+start-spec =
+    tie.close
+    (tie.spec
+    start-requires
+    blank-requires
+    returns
+    slice-aggregate-element-at
+    element-at-requires
+    returns-2)

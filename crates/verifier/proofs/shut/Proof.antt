@@ -1,0 +1,14 @@
+use mathlib.Core.Path.{refl}
+use Rattle.protocol.specs.Session.{shut}
+use Rattle.verifier.proofs.shut.Statement.{statement}
+use Rattle.verifier.proofs.shut.Tie as tie
+use Rattle.verifier.proofs.shut.Reads as reads
+use Rattle.verifier.proofs.shut.Lts as lts
+
+-- src/lib.rt:35:1
+returns : tie.Need-returns
+unfolding shut
+returns c = refl
+
+pub shut-spec : {M : Type 1} → statement M
+shut-spec = tie.close (tie.spec returns)

@@ -1,0 +1,146 @@
+// The verifier's session. Each move takes the record and hands the next one back.
+use protocol::Moved;
+use protocol::Session;
+use protocol::Settings;
+use protocol::Started;
+use protocol::Verdict;
+ghost use mathlib.Core.Path.{_≡_};
+ghost use Prim.Native.Nat.{_+_, _<_};
+ghost use Rattle.protocol.specs.Session as moves;
+ghost use Rattle.verifier.specs.Records.{counted};
+
+// A verifier holds its session's record. (A method stands in the crate of its type, and the record's type in the crate of the definitions.)
+pub struct Verifier(pub Session);
+
+// The closed record of zeros.
+fn blank() -> Session
+    ensures { λ r. ⌜ r ≡ moves.blank ⌝ }
+{
+    let settings = Settings {
+        degree: 0,
+        depth: 0,
+        modulus: 0,
+        bound: 0,
+    };
+    Session {
+        settings: settings,
+        done: 0,
+        claim: [0u32; 64],
+        challenges: [0u32; 8],
+        closed: true,
+    }
+}
+
+// The record, closed.
+fn shut(session: Session) -> Session
+    ensures { λ r. ⌜ r ≡ moves.shut session ⌝ }
+{
+    let mut next = session;
+    next.closed = true;
+    next
+}
+
+// The record after a round that holds.
+fn counted(session: Session, e: u32, claim: [u32; 64]) -> Session
+    requires { ⌜ session .done < 8 ⌝ }
+    ensures { λ r. ⌜ r ≡ counted session e claim ⌝ }
+{
+    let t = session.done as usize;
+    let mut next = session;
+    next.challenges[t] = e;
+    next.done = next.done + 1;
+    next.claim = claim;
+    next
+}
+
+impl Verifier {
+    // A session starts at a commitment, whatever record there was before.
+    pub fn start(self, settings: Settings, commitment: [u32; 64]) -> Started
+        ensures { λ r. ⌜ r ≡ moves.start settings commitment ⌝ }
+    {
+        let number = refusals::session::start(settings, commitment);
+        if number != 0 {
+            let none = blank();
+            return Started {
+                number: number,
+                next: none,
+            };
+        }
+        let next = Session {
+            settings: settings,
+            done: 0,
+            claim: arithmetic::elements::element_at(settings.degree, &commitment, 0),
+            challenges: [0u32; 8],
+            closed: false,
+        };
+        Started {
+            number: 0,
+            next: next,
+        }
+    }
+
+    // A round: the equation 2·(c0 + c2) = claim, and the next claim.
+    pub fn round(self, polynomial: [[u32; 64]; 3], e: u32) -> Moved
+        ensures { λ r. ⌜ r ≡ moves.move (self .0) polynomial e ⌝ }
+    {
+        let session = self.0;
+        let number = refusals::session::round(session, polynomial, e);
+        if number != 0 {
+            return Moved {
+                number: number,
+                verdict: Verdict::Silent,
+                next: session,
+            };
+        }
+        let settings = session.settings;
+        let claim = session.claim;
+        let c0 = polynomial[0];
+        let c1 = polynomial[1];
+        let c2 = polynomial[2];
+        if !equations::round_holds(settings, claim, c0, c2) {
+            let closed = shut(session);
+            return Moved {
+                number: 0,
+                verdict: Verdict::Rejected,
+                next: closed,
+            };
+        }
+        let next = counted(session, e, equations::next_claim(settings, e, c0, c1, c2));
+        Moved {
+            number: 0,
+            verdict: Verdict::Holds,
+            next: next,
+        }
+    }
+
+    // The end: the bound on the final element, and the last equation with the key folded by the record's challenges.
+    pub fn end(self, last: [i32; 64], key: &[u32]) -> Moved
+        ensures { λ r. ⌜ r ≡ moves.close (self .0) last (now (key .entry)) ⌝ }
+    {
+        let session = self.0;
+        let number = refusals::session::end(session, key);
+        if number != 0 {
+            return Moved {
+                number: number,
+                verdict: Verdict::Silent,
+                next: session,
+            };
+        }
+        let settings = session.settings;
+        let claim = session.claim;
+        let challenges = session.challenges;
+        let closed = shut(session);
+        if equations::end_met(settings, claim, last, key, &challenges) {
+            return Moved {
+                number: 0,
+                verdict: Verdict::Accepted,
+                next: closed,
+            };
+        }
+        Moved {
+            number: 0,
+            verdict: Verdict::Rejected,
+            next: closed,
+        }
+    }
+}
