@@ -1,0 +1,9 @@
+pub mod From
+pub mod Runs
+pub mod Counts
+pub mod Rows
+pub mod Words
+pub mod Values
+pub mod Cells
+pub mod Follow
+pub mod Looks

@@ -1,0 +1,217 @@
+-- `read_part`: up to line p the lines are the wanted ones and their values are stored, so what is left decides.
+use mathlib.Core.Path.{_≡_, refl, sym, ap, subst, _∙_}
+use mathlib.Core.Bool.{true, false}
+use mathlib.Core.List.{List, [], _∷_, _++_}
+use mathlib.Core.Option.{Option, none, some, Option·some-injective}
+use Prim.Native.Nat.{ℕ, suc, _+_, _-_, _*_, _/_, _%_, _^_, _≤_, _<_}
+use native.Mathlib.Omega.{arith}
+use native.Mathlib.Numerals.{add-one}
+use borrow.Author.Needs.{needs}
+use lib.ListN.{length, drop, take, set, length-set}
+use lib.Seq.{take-suc-set, take-all}
+use lib.IntN.{ℤ}
+use mir.Syntax.{w32}
+use mir.Val.{ofZ, toZ}
+use mir.Facts.{toZ-ofZ}
+use Rattle.protocol.specs.Text.{Spot, Shape, shapeSize, spotAt, spots}
+use Rattle.tables.specs.declared.shapes.Shape.{Shape as Part}
+use Rattle.tables.specs.declared.shapes.Cell.{Cell}
+use Rattle.tables.specs.declared.parts.Taken.{Taken}
+use Rattle.tables.specs.Scan.{spot, readValue, readValues}
+use Rattle.tables.specs.Parts.{asShape, cellAt, takenAnswer, Took}
+use Rattle.tables.proofs.Counts.{Found, suffix-back}
+use Rattle.tables.proofs.Values.{prefix, prefix-nothing, valued, unvalued, values-more, values-over, values-done}
+use Rattle.tables.proofs.Cells.{cell, cell-first, cell-place-inside, cell-item-inside, spots-count, spots-next, spots-end}
+use Rattle.tables.proofs.parts.read_part.Statement.{statement}
+use Rattle.tables.proofs.parts.read_part.Tie as tie
+
+abbrev Inv-loop : tie.InvT-loop
+Inv-loop text from shape values₀ size at₀ cell₀ p₀ values at cell p =
+    (p ≤ size) × (size ≡ shapeSize (asShape shape)) × (at ≤ length text) × (length values ≡ length values₀) × (cell ≡ cellAt (shape .places) p)
+    × (readValues (spots (asShape shape)) (drop from text) ≡ prefix (take p values) (readValues (drop p (spots (asShape shape))) (drop at text)))
+
+abbrev μ-loop : tie.MeasureT-loop
+μ-loop text from shape values₀ size at₀ cell₀ p₀ values at cell p = size - p
+
+size-of-requires : tie.Need-size-of-requires Inv-loop μ-loop
+size-of-requires c κs = search needs
+
+-- one line more
+module _ (text : List ℕ) (from : ℕ) (b : Shape) where
+  abbrev all-of : Option (List ℤ × List ℕ)
+  all-of = readValues (spots b) (drop from text)
+
+  abbrev Left : List ℤ → ℕ → ℕ → Type 0
+  Left values at p = all-of ≡ prefix (take p values) (readValues (drop p (spots b)) (drop at text))
+
+  module _ (values : List ℤ) (at p : ℕ) (h : p < shapeSize b) (left : Left values at p) where
+    here : all-of ≡ prefix (take p values) (readValues (spotAt b p ∷ drop (p + 1) (spots b)) (drop at text))
+    here = left ∙ ap (λ ss. prefix (take p values) (readValues ss (drop at text))) (spots-next b p h)
+
+    step : (v : ℤ) (next : ℕ) → p < length values → Found (readValue (spotAt b p)) text at v next → Left (set values p v) next (p + 1)
+    step v next l f =
+        values-more all-of (take p values) (spotAt b p) (drop (p + 1) (spots b)) (drop at text) v (drop next text) here (f .is)
+        ∙ ap (λ ws. prefix ws (readValues (drop (p + 1) (spots b)) (drop next text))) (sym (ap (λ n. take n (set values p v)) (add-one p) ∙ take-suc-set values p v l))
+
+    stop : readValue (spotAt b p) (drop at text) ≡ none → all-of ≡ none
+    stop e = values-over all-of (take p values) (spotAt b p) (drop (p + 1) (spots b)) (drop at text) here e
+
+  missed : (values : List ℤ) → all-of ≡ none → Took text from (spots b) (record { found = false; next = 0 }) values
+  unfolding takenAnswer
+  missed values e = record {
+    answer = sym (ap (takenAnswer text) e);
+    stored = λ vs rest f. let z : _≡_ {A = ℕ} 0 1 = cc in absurd (omega arith);
+  }
+
+  done : (values : List ℤ) (at p : ℕ) → p ≡ shapeSize b → at ≤ length text → Left values at p → Took text from (spots b) (record { found = true; next = at }) values
+  unfolding takenAnswer
+  done values at p e h left =
+      let whole : all-of ≡ some (take p values, drop at text) =
+      values-done all-of (take p values) (drop at text) (left ∙ ap (λ ss. prefix (take p values) (readValues ss (drop at text))) (spots-end b p (omega arith))) in
+      record {
+        answer = (λ j. record { found = true; next = sym (suffix-back text at h) j }) ∙ sym (ap (takenAnswer text) whole);
+        stored = λ vs rest f. ap (λ n. take n values) (spots-count b ∙ sym e) ∙ ap (λ r. r .0) (Option·some-injective (take p values, drop at text) (vs, rest) (sym whole ∙ f));
+      }
+
+-- the line that is wanted
+module _ (c : tie.In-loop Inv-loop μ-loop) where
+  abbrev text : List ℕ
+  text = c .before .before .before .before .args .text .now
+
+  abbrev from : ℕ
+  from = c .before .before .before .before .args .from
+
+  abbrev part : Part
+  part = c .before .before .before .before .args .shape
+
+  abbrev now-at : ℕ
+  now-at = c .before .loop .at
+
+  abbrev line : ℕ
+  line = c .before .loop .p
+
+  abbrev values : List ℤ
+  values = c .before .loop .values
+
+  inside : line < shapeSize (asShape part)
+  inside = omega arith
+
+  room : line < length values
+  room = omega arith
+
+  wanted : spot (part .part) (c .before .loop .cell .item) (c .before .loop .cell .place) ≡ spotAt (asShape part) line
+  unfolding cellAt spotAt
+  wanted = λ j. spot (part .part) (c .before .loop .inv .4 j .item) (c .before .loop .inv .4 j .place)
+
+  few : part .items < 2 ^ 32
+  few = search needs
+
+  within : (c .before .loop .cell .place < part .places) × (c .before .loop .cell .item + 1 < 2 ^ 32)
+  unfolding cellAt
+  within =
+      let e = c .before .loop .inv .4 in (
+        omega (arith, ap (λ x. x .place) e, cell-place-inside (asShape part) line inside),
+        omega (arith, ap (λ x. x .item) e, cell-item-inside (asShape part) line inside, few),
+      )
+
+-- its value
+module _ (c : tie.After-known-told Inv-loop μ-loop) where
+  abbrev turn : tie.In-loop Inv-loop μ-loop
+  turn = c .before .before .before .before
+
+  abbrev v : ℤ
+  v = c .before .value .given .0 .0
+
+  abbrev next : ℕ
+  next = c .before .value .given .0 .1 .0
+
+  got : Found (readValue (spotAt (asShape (part turn)) (line turn))) (text turn) (now-at turn) v next
+  got = subst (λ s. Found (readValue s) (text turn) (now-at turn) v next) (wanted turn)
+      (valued (text turn) _ (now-at turn) v next (sym (c .before .before .before .value-at .ensures) ∙ c .before .value .given .1))
+
+  word : toZ w32 (ofZ w32 v) ≡ v
+  word = toZ-ofZ {w = w32} {z = v} (record { sfits = c .known-told .given .0 .1 })
+
+loop-holds : tie.Need-loop-holds Inv-loop μ-loop
+loop-holds c = (search needs, c .size-of .ensures, search needs, refl, sym (cell-first _), sym (prefix-nothing _))
+
+value-at-requires : tie.Need-value-at-requires Inv-loop μ-loop
+value-at-requires c κs = search needs
+
+enum-known-value : tie.Need-enum-known-value Inv-loop μ-loop
+enum-known-value c = search needs
+
+enum-told : tie.Need-enum-told Inv-loop μ-loop
+enum-told c = search needs
+
+same-length : tie.Need-same-length Inv-loop μ-loop
+same-length c = c .before .before .before .before .loop .inv .3
+
+returns : tie.Need-returns Inv-loop μ-loop
+returns c =
+    let d = c .before .before .before in
+    let none-here = unvalued (text d) _ (now-at d) _ (sym (c .before .before .value-at .ensures) ∙ c .enum-told .given .1) in
+    missed (text d) (from d) (asShape (part d)) (values d)
+    (stop (text d) (from d) (asShape (part d)) (values d) (now-at d) (line d) (inside d) (d .before .loop .inv .5)
+    (subst (λ s. readValue s (drop (now-at d) (text d)) ≡ none) (wanted d) none-here))
+
+mul-value : tie.Need-mul-value Inv-loop μ-loop
+mul-value c = search needs
+
+slice-set-from-value : tie.Need-slice-set-from-value Inv-loop μ-loop
+slice-set-from-value c = room (turn c)
+
+next-cell-requires : tie.Need-next-cell-requires Inv-loop μ-loop
+next-cell-requires c κs = within (turn c)
+
+add-p : tie.Need-add-p Inv-loop μ-loop
+add-p c = search needs
+
+loop-less : tie.Need-loop-less Inv-loop μ-loop
+loop-less c = search needs
+
+loop-again : tie.Need-loop-again Inv-loop μ-loop
+loop-again c =
+    let k = c .before in
+    let d = turn k in
+    let l = d .before .loop in (
+      omega arith,
+      l .inv .1,
+      got k .within,
+      simp length-set (l .inv .3),
+      c .next-cell .ensures (line d) (l .inv .4),
+      subst (λ w. Left (text d) (from d) (asShape (part d)) (set (values d) (line d) w) (next k) (line d + 1)) (sym (word k))
+          (step (text d) (from d) (asShape (part d)) (values d) (now-at d) (line d) (inside d) (l .inv .5) (v k) (next k) (room d) (got k)),
+    )
+
+same-length-2 : tie.Need-same-length-2 Inv-loop μ-loop
+same-length-2 c = c .before .loop .inv .3
+
+returns-2 : tie.Need-returns-2 Inv-loop μ-loop
+returns-2 c =
+    let l = c .before .loop in
+    let a = c .before .before .before .before .args in
+    let all : l .p ≡ shapeSize (asShape (a .shape)) = omega arith in
+    done (a .text .now) (a .from) (asShape (a .shape)) (l .values) (l .at) (l .p) all (l .inv .2) (l .inv .5)
+
+pub read-part-spec : {M : Type 1} → statement M
+read-part-spec =
+    tie.close
+    (tie.spec
+    Inv-loop
+    μ-loop
+    size-of-requires
+    loop-holds
+    value-at-requires
+    enum-known-value
+    enum-told
+    same-length
+    returns
+    mul-value
+    slice-set-from-value
+    next-cell-requires
+    add-p
+    loop-less
+    loop-again
+    same-length-2
+    returns-2)

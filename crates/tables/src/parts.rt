@@ -1,0 +1,45 @@
+// The lines of a part, read one after the other.
+use crate::lines::value_at;
+use crate::shapes::Cell;
+use crate::shapes::Shape;
+use crate::shapes::next_cell;
+use crate::shapes::size_of;
+use protocol::Number;
+ghost use Prim.Native.Nat.{_≤_};
+ghost use lib.ListN.{length};
+ghost use Rattle.protocol.specs.Text.{shapeSize, spots};
+ghost use Rattle.tables.specs.Parts.{asShape, Took};
+
+// Were all lines found, and the place behind them.
+pub struct Taken {
+    pub found: bool,
+    pub next: usize,
+}
+
+// The values of the lines of a part, from a place on.
+pub fn read_part(text: &[u8], from: usize, shape: Shape, values: &mut [i32]) -> Taken
+    requires { ⌜ (from ≤ length (now text)) × (shapeSize (asShape shape) ≤ length (now values)) ⌝ }
+    ensures { λ r. ⌜ Took (now (text .entry)) from (spots (asShape shape)) r (now (values .exit)) ⌝ }
+{
+    let size = size_of(shape);
+    let mut at = from;
+    let mut cell = Cell { item: 0, place: 0 };
+    let mut p: usize = 0;
+    while p < size {
+        let Number::Value { value, next } = value_at(text, at, shape.part, cell.item, cell.place)
+        else {
+            return Taken {
+                found: false,
+                next: 0,
+            };
+        };
+        values[p] = value;
+        at = next;
+        cell = next_cell(cell, shape.places);
+        p += 1;
+    }
+    Taken {
+        found: true,
+        next: at,
+    }
+}
