@@ -8,7 +8,7 @@ use crate::shapes::size_of;
 use protocol::Number;
 use protocol::Parts;
 use protocol::Settings;
-ghost use Prim.Native.Nat.{_≤_};
+ghost use Prim.Native.Nat.{_*_, _≤_};
 ghost use lib.ListN.{length};
 ghost use Rattle.protocol.specs.Text.{shapeSize, spots};
 ghost use Rattle.tables.specs.Parts.{asShape, partSpots, Took};
@@ -47,7 +47,8 @@ pub fn read_part(text: &[u8], from: usize, shape: Shape, values: &mut [i32]) -> 
     }
 }
 
-// The values of the lines behind the settings, part after part.
+// The values of the lines behind the settings, part after part. A line has at least eight bytes, so where there is no room for the values of
+// the lines that are wanted, not all of them are in the text.
 pub fn read_parts(
     settings: Settings,
     parts: Parts,
@@ -55,7 +56,7 @@ pub fn read_parts(
     from: usize,
     values: &mut [i32],
 ) -> Taken
-    requires { ⌜ (settings .depth ≤ 8) × (from ≤ length (now text)) × (length (partSpots settings parts) ≤ length (now values)) ⌝ }
+    requires { ⌜ (settings .depth ≤ 8) × (from ≤ length (now text)) × (length (now text) ≤ 8 * length (now values)) ⌝ }
     ensures { λ r. ⌜ Took (now (text .entry)) from (partSpots settings parts) r (now (values .exit)) ⌝ }
 {
     let mut at = from;
@@ -63,6 +64,13 @@ pub fn read_parts(
     let mut part: u32 = 1;
     while part < 7 {
         let shape = shape_of(settings, parts, part);
+        let size = size_of(shape);
+        if size > values.len() - start {
+            return Taken {
+                found: false,
+                next: 0,
+            };
+        }
         let taken = read_part(text, at, shape, &mut values[start..]);
         if !taken.found {
             return Taken {
@@ -71,7 +79,7 @@ pub fn read_parts(
             };
         }
         at = taken.next;
-        start += size_of(shape);
+        start += size;
         part += 1;
     }
     Taken {
