@@ -1,7 +1,9 @@
 -- What stands at a place of an element, going round by X^d = −1: the first three rounds.
-use mathlib.Core.Path.{_≡_, refl, ap, _∙_}
-use Prim.Native.Nat.{ℕ, zero, _+_, _*_, _-_, _/_, _%_, _<_, _≤_}
+use mathlib.Core.Path.{_≡_, refl, sym, ap, _∙_}
+use Prim.Native.Nat.{ℕ, zero, suc, _+_, _*_, _-_, _/_, _%_, _<_, _≤_}
 use native.Mathlib.Nat as Nat
+use native.Mathlib.Decide.{decLt}
+use native.Mathlib.Numerals.{add-one}
 use native.Mathlib.Omega.{arith}
 use lib.IntN.{ℤ, negℤ, negℤ-negℤ}
 use Rattle.protocol.specs.Element.{Element, flips, around, rotate}
@@ -35,3 +37,55 @@ around-ext d y p h = ap (flips (y / d)) (h (y % d) (Nat.mod-lt y p))
 pub rotate-back : (d e : ℕ) (a : Element) (k : ℕ) → around d a (k + (d + d - e % (d + d))) ≡ rotate d e a k
 unfolding rotate
 rotate-back d e a k = ap (λ n. around d a (k + (n - e % n))) (omega arith)
+
+-- one round on, the sign changes
+pub around-next : (d : ℕ) (a : Element) (y : ℕ) → 0 < d → around d a (y + d) ≡ negℤ (around d a y)
+unfolding around flips
+around-next d a y p = λ i. flips ((Nat.add-div-right y p ∙ add-one (y / d)) i) (a (Nat.add-mod-right y d i))
+
+-- the rotation by an exponent below 2d
+pub rotate-at : (d e : ℕ) (a : Element) (k : ℕ) → e < 2 * d → rotate d e a k ≡ around d a (k + (d + d - e))
+unfolding rotate
+rotate-at d e a k h = ap (λ x. around d a (k + (2 * d - x))) (Nat.mod-eq-of-lt h) ∙ ap (λ n. around d a (k + (n - e))) (omega arith)
+
+-- ---- rotations in a row
+
+module _ (d : ℕ) (p : 0 < d) where
+  around-rounds : (a : Element) (y n : ℕ) → around d a (y + n * d) ≡ flips n (around d a y)
+  unfolding flips
+  around-rounds a y zero = ap (around d a) (omega (arith, Nat.zero-mul d))
+  around-rounds a y (suc n) =
+      ap (around d a) {y = y + n * d + d} (omega (arith, Nat.suc-mul n d)) ∙ around-next d a (y + n * d) p ∙ ap negℤ (around-rounds a y n)
+
+  -- a whole turn
+  around-turn : (a : Element) (y : ℕ) → around d a (y + 2 * d) ≡ around d a y
+  unfolding flips
+  around-turn a y = around-rounds a y 2 ∙ negℤ-negℤ (around d a y)
+
+  opened : (a : Element) (n y : ℕ) → around d (λ k. around d a (k + n)) y ≡ flips (y / d) (around d a (y % d + n))
+  unfolding around
+  opened a n y = refl
+
+  -- to go round an element that was moved n places on is to go n places further
+  around-moved : (a : Element) (n y : ℕ) → around d (λ k. around d a (k + n)) y ≡ around d a (y + n)
+  around-moved a n y =
+      opened a n y
+      ∙ sym (around-rounds a (y % d + n) (y / d))
+      ∙ ap (around d a) (omega (arith, Nat.mod-add-div' y d))
+
+  back : (a : Element) (e f k : ℕ) → e < 2 * d → f < 2 * d → around d a (k + (2 * d - e) + (2 * d - f)) ≡ around d a (k + (2 * d - (e + f) % (2 * d)))
+  back a e f k le lf = elim (decLt (e + f) (2 * d)) [
+    | yes h ↦ ap (around d a) {y = k + (2 * d - (e + f)) + 2 * d} (omega arith) ∙ around-turn a (k + (2 * d - (e + f))) ∙ ap (λ x. around d a (k + (2 * d - x))) (sym (Nat.mod-eq-of-lt h))
+    | no h ↦ ap (around d a) {y = k + (2 * d - (e + f - 2 * d))} (omega arith) ∙ ap (λ x. around d a (k + (2 * d - x))) (sym (Nat.mod-eq-sub-mod (omega arith) ∙ Nat.mod-eq-of-lt (omega arith)))
+  ]
+
+  pub rotate-rotate : (e f : ℕ) (a : Element) (k : ℕ) → rotate d e (rotate d f a) k ≡ rotate d (e + f) a k
+  unfolding rotate
+  rotate-rotate e f a k =
+      around-moved a (2 * d - f % (2 * d)) (k + (2 * d - e % (2 * d)))
+      ∙ back a (e % (2 * d)) (f % (2 * d)) k (Nat.mod-lt e (omega arith)) (Nat.mod-lt f (omega arith))
+      ∙ ap (λ x. around d a (k + (2 * d - x))) (sym (Nat.add-mod e f (2 * d)))
+
+pub rotate-mod : (d e : ℕ) (a : Element) (k : ℕ) → rotate d (e % (2 * d)) a k ≡ rotate d e a k
+unfolding rotate
+rotate-mod d e a k = ap (λ x. around d a (k + (2 * d - x))) (Nat.mod-mod e (2 * d))

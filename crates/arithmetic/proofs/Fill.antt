@@ -40,22 +40,24 @@ drop-zeros zero m = ap (λ k. replicate k 0) (sym (Nat.sub-zero m))
 drop-zeros (suc n) zero = ap (λ k. replicate k 0) (sym (Nat.zero-sub (suc n)))
 drop-zeros (suc n) (suc m) = drop-zeros n m ∙ ap (λ k. replicate k 0) (sym (Nat.suc-sub-suc m n))
 
--- ---- an element: the list of zeros that it starts from, shut
+-- ---- over zeros, which stay shut
 
-unfoldable pub blank : List ℕ
-blank = replicate 64 0
+pub zeros-length : (n : ℕ) → length (zeros n) ≡ n
+unfolding zeros
+zeros-length n = length-replicate n 0
 
-pub blank-length : length blank ≡ 64
-unfolding blank
-blank-length = refl
+pub fill-none : (n : ℕ) (f : ℕ → ℕ) → replicate n 0 ≡ filled f 0 (zeros n)
+unfolding zeros
+fill-none n f = filled-none f (replicate n 0)
 
-pub element-none : (f : ℕ → ℕ) → replicate 64 0 ≡ filled f 0 blank
-unfolding blank
-element-none f = filled-none f (replicate 64 0)
+pub fill-more : (n : ℕ) (f : ℕ → ℕ) (k x : ℕ) (a : List ℕ) → a ≡ filled f k (zeros n) → k < n → x ≡ f k → set a k x ≡ filled f (k + 1) (zeros n)
+fill-more n f k x a e h v = (λ i. set (e i) k (v i)) ∙ filled-more f k (zeros n) (omega (arith, zeros-length n))
 
-pub element-more : (f : ℕ → ℕ) (k x : ℕ) (a : List ℕ) → a ≡ filled f k blank → k < 64 → x ≡ f k → set a k x ≡ filled f (k + 1) blank
-element-more f k x a e h v = (λ i. set (e i) k (v i)) ∙ filled-more f k blank (omega (arith, blank-length))
+pub fill-done : (n : ℕ) (f : ℕ → ℕ) (k d : ℕ) (a : List ℕ) → a ≡ filled f k (zeros n) → k ≡ d → a ≡ tabulate d f ++ zeros (n - d)
+unfolding filled zeros
+fill-done n f k d a e p = e ∙ ap (λ m. filled f m (zeros n)) p ∙ ap (λ l. tabulate d f ++ l) (drop-zeros d n)
 
-pub element-done : (f : ℕ → ℕ) (k d : ℕ) (a : List ℕ) → a ≡ filled f k blank → k ≡ d → a ≡ padded d (tabulate d f)
-unfolding filled blank padded width zeros
-element-done f k d a e p = e ∙ ap (λ n. filled f n blank) p ∙ ap (λ l. tabulate d f ++ l) (drop-zeros d 64)
+-- an element that is passed by value
+pub element-done : (f : ℕ → ℕ) (k d : ℕ) (a : List ℕ) → a ≡ filled f k (zeros 64) → k ≡ d → a ≡ padded d (tabulate d f)
+unfolding padded width
+element-done f k d a e p = fill-done 64 f k d a e p

@@ -3,5 +3,8 @@ pub mod Magnitude
 pub mod Around
 pub mod Differences
 pub mod Fill
+pub mod SignedFill
 pub mod Splice
 pub mod Folds
+pub mod Rows
+pub mod Padding

@@ -3,9 +3,7 @@
 use mathlib.Core.Path.{_≡_, refl}
 use mathlib.Core.Bool.{true}
 use mathlib.Core.List.{List, [], _∷_, map}
-use Prim.Native.Nat.{ℕ}
 use lib.IntN.{ℤ, pos, negsuc}
-use Rattle.protocol.specs.declared.Settings.{Settings}
 use Rattle.protocol.specs.Basic.{all}
 use Rattle.protocol.specs.Element.{power, product, coefficients}
 use Rattle.protocol.specs.Opening.{commitment}
@@ -13,40 +11,20 @@ use Rattle.protocol.specs.Transcript.{Transcript, claimAfter, cause, tra
 use Rattle.protocol.specs.Tree.{s, rootVector, grows}
 use Rattle.protocol.specs.Calls.{extractRefusal, extractExit}
 use Rattle.protocol.proofs.Compute.{computed}
+use Rattle.protocol.proofs.Listing.{set, S₁, key₁, message₁, rounds₁, leaves₁, S₀}
 use Rattle.protocol.proofs.Examples.{Example, agree, agreeing, asNumber, causeNumber}
 
 -- ---- the inputs
-
-abbrev set : ℕ → ℕ → ℕ → ℕ → Settings
-set d l q b = record { degree = d; depth = l; modulus = q; bound = b }
-
--- "For settings 2, 1, 17, 1, key 3 5 and 7 2, message 1 −1 and 1 0, challenge 1"
-abbrev S₁ : Settings
-S₁ = set 2 1 17 1
-
-abbrev key₁ : List ℕ
-key₁ = 3 ∷ 5 ∷ 7 ∷ 2 ∷ []
-
-abbrev message₁ : List ℤ
-message₁ = pos 1 ∷ negsuc 0 ∷ pos 1 ∷ pos 0 ∷ []
 
 abbrev T₁ : Transcript
 T₁ = transcriptOf S₁ key₁ message₁ (1 ∷ [])
 
 -- the listing's transcript with another final element
 abbrev ending₁ : List ℤ → Transcript
-ending₁ f = record { commitment = 15 ∷ 4 ∷ []; rounds = 4 ∷ 1 ∷ 6 ∷ 0 ∷ 12 ∷ 1 ∷ []; challenges = 1 ∷ []; last = f }
-
--- "the same key and message, challenges 0, 1, 2, leaves 2 −1, 1 0, 0 −1"
-abbrev leaves₁ : List ℤ
-leaves₁ = pos 2 ∷ negsuc 0 ∷ pos 1 ∷ pos 0 ∷ pos 0 ∷ negsuc 0 ∷ []
+ending₁ f = record { commitment = 15 ∷ 4 ∷ []; rounds = rounds₁; challenges = 1 ∷ []; last = f }
 
 abbrev w₁ : List ℤ
 w₁ = pos 0 ∷ pos 0 ∷ pos 0 ∷ pos 0 ∷ []
-
--- "L = 0, d = 2, q = 17, B = 1, key 3 5, message 1 −1"
-abbrev S₀ : Settings
-S₀ = set 2 0 17 1
 
 abbrev message₀ : List ℤ
 message₀ = pos 1 ∷ negsuc 0 ∷ []

@@ -5,10 +5,9 @@ use Prim.Native.Nat.{ℕ, zero, suc, _+_, _*_, _-_, _/_, _%_, _<_, _≤_}
 use native.Mathlib.Nat as Nat
 use native.Mathlib.Decide.{decLt}
 use native.Mathlib.Omega.{arith}
-use borrow.Author.Tests.{ltb-true, ltb-false, le-ltb}
+use borrow.Author.Tests.{ltb-false, le-ltb}
 use lib.Dec.{ltb}
-use lib.IntN.{ℤ, pos, negsuc, negℤ, _+ℤ_, _*ℤ_, pos-ne-negsuc, +ℤ-assoc, +ℤ-comm, +ℤ-invr, *ℤ-comm, *ℤ-negsuc, sucℤ-*ℤ, zero-*ℤ}
-use Rattle.protocol.specs.Basic.{sum}
+use lib.IntN.{ℤ, pos, negsuc, negℤ, _+ℤ_, _*ℤ_, pos-ne-negsuc, +ℤ-assoc, +ℤ-comm, +ℤ-invr, sucℤ-*ℤ, zero-*ℤ}
 use Rattle.protocol.specs.Element.{modulo}
 
 module _ (q : ℕ) (p : 0 < q) where
@@ -97,3 +96,18 @@ module _ (q : ℕ) (p : 0 < q) where
       ∙ ap (λ x. (x + modulo q a) % q) (modulo-times n a)
       ∙ Nat.mod-add-mod (n * modulo q a) q (modulo q a)
       ∙ ap (λ x. x % q) (sym (Nat.suc-mul n (modulo q a)))
+
+  -- to reduce once more, or before, changes nothing
+  reduced-again : (n : ℕ) → n < q → modulo q (pos n) ≡ n
+  unfolding modulo
+  reduced-again n h = Nat.mod-eq-of-lt h
+
+  pub modulo-again : (a b : ℤ) → modulo q (pos (modulo q a) +ℤ b) ≡ modulo q (a +ℤ b)
+  modulo-again a b = modulo-add (pos (modulo q a)) b ∙ ap (λ x. (x + modulo q b) % q) (reduced-again (modulo q a) (modulo-lt a)) ∙ sym (modulo-add a b)
+
+  pub times-mod : (a b : ℕ) → a * (b % q) % q ≡ a * b % q
+  unfolding modulo
+  times-mod a b = sym (modulo-times a (pos b))
+
+  pub mod-times : (a b : ℕ) → a % q * b % q ≡ a * b % q
+  mod-times a b = ap (λ x. x % q) (Nat.mul-comm (a % q) b) ∙ times-mod b a ∙ ap (λ x. x % q) (Nat.mul-comm b a)

@@ -39,6 +39,11 @@ module _ {ℓ} {A : Type ℓ} where
   pub tabulate-own : (n : ℕ) (l : List A) (z : A) → length l ≡ n → tabulate n (λ k. getD l k z) ≡ l
   tabulate-own n l z e = ext-getD z _ l (tabulate-length n _ ∙ sym e) (λ i h. tabulate-at n _ z i (omega (arith, tabulate-length n (λ k. getD l k z))))
 
+  pub tabulate-add : (n m : ℕ) (f : ℕ → A) → tabulate (n + m) f ≡ tabulate n f ++ tabulate m (λ i. f (n + i))
+  unfolding tabulate
+  tabulate-add zero m f = λ j. tabulate (Nat.zero-add m j) (λ i. f (sym (Nat.zero-add i) j))
+  tabulate-add (suc n) m f = ap (λ k. tabulate k f) (Nat.suc-add n m) ∙ ap (λ l. f 0 ∷ l) (tabulate-add n m (λ i. f (suc i))) ∙ λ j. f 0 ∷ (tabulate n (λ i. f (suc i)) ++ tabulate m (λ i. f (sym (Nat.suc-add n i) j)))
+
   -- a loop that stores f 0, f 1, … over the list l: one turn more
   pub store-next : (p : ℕ) (f : ℕ → A) (l : List A) → p < length l → set (tabulate p f ++ drop p l) p (f p) ≡ tabulate (suc p) f ++ drop (suc p) l
   unfolding tabulate
@@ -80,3 +85,14 @@ module _ {ℓ} {A : Type ℓ} where
   pub flat-ext : (d n : ℕ) {F G : ℕ → ℕ → A} → 0 < d → ((i k : ℕ) → i < n → k < d → F i k ≡ G i k) → flat d n F ≡ flat d n G
   unfolding flat
   flat-ext d n p e = tabulate-ext (n * d) (λ q h. e (q / d) (q % d) (Nat.div-lt-iff-lt-mul p .1 h) (Nat.mod-lt q p))
+
+  -- one element more
+  pub flat-suc : (d n : ℕ) (F : ℕ → ℕ → A) → flat d (suc n) F ≡ flat d n F ++ tabulate d (F n)
+  unfolding flat
+  flat-suc d n F =
+      ap (λ m. tabulate m P) (Nat.suc-mul n d)
+      ∙ tabulate-add (n * d) d P
+      ∙ ap (λ l. tabulate (n * d) P ++ l) (tabulate-ext d (λ k h. λ j. F (cell-element d n k h j) (cell-place d n k h j)))
+    where
+      P : ℕ → A
+      P p = F (p / d) (p % d)

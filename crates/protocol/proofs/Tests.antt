@@ -1,12 +1,15 @@
--- Tests and what they say: conjunctions, `every`, `all`, `least`, and refusals.
-use mathlib.Core.Path.{_≡_, refl, sym, subst}
-use mathlib.Core.Bool.{Bool, true, false, _&&_, false≢true}
-use mathlib.Core.List.{List, [], _∷_}
+-- Tests and what they say: conjunctions, `every`, `all`, `least`, `among`, and refusals.
+use mathlib.Core.Path.{_≡_, refl, sym, ap, subst}
+use mathlib.Core.Logic.{_≢_}
+use mathlib.Core.Bool.{Bool, true, false, _&&_, _||_, false≢true}
+use mathlib.Core.List.{List, [], _∷_, map}
 use Prim.Native.Nat.{ℕ, zero, suc, _<_, _≤_}
 use native.Mathlib.Decide.{ℕ-discrete}
 use native.Mathlib.Omega.{arith}
+use borrow.Author.Tests.{leb-true, eqb-true}
+use lib.Dec.{leb, eqb}
 use lib.ListN.{length, getD}
-use Rattle.protocol.specs.Basic.{every, all, least, first, unless}
+use Rattle.protocol.specs.Basic.{every, all, among, least, first, unless, granted}
 
 -- ---- conjunctions
 
@@ -52,6 +55,23 @@ unfolding all
 all-intro f [] z h = refl
 all-intro f (x ∷ l) z h = and-intro {a = f x} {b = all f l} (h 0 (omega arith)) (all-intro f l z (λ i m. h (suc i) (omega arith)))
 
+pub all-weaken {ℓ} : {A : Type ℓ} (f g : A → Bool) → ((x : A) → f x ≡ true → g x ≡ true) → (l : List A) → all f l ≡ true → all g l ≡ true
+unfolding all
+all-weaken f g w [] h = refl
+all-weaken f g w (x ∷ l) h = let (a, b) = and-split {a = f x} {b = all f l} h in and-intro {a = g x} {b = all g l} (w x a) (all-weaken f g w l b)
+
+pub all-map {ℓ₁ ℓ₂} : {A : Type ℓ₁} {B : Type ℓ₂} (f : B → Bool) (g : A → B) (l : List A) → all f (map g l) ≡ all (λ x. f (g x)) l
+unfolding all
+all-map f g [] = refl
+all-map f g (x ∷ l) = ap (λ (b : Bool). f (g x) && b) (all-map f g l)
+
+pub all-getD {ℓ} : {A : Type ℓ} (f : A → Bool) (l : List A) (i : ℕ) (d : A) → f d ≡ true → all f l ≡ true → f (getD l i d) ≡ true
+unfolding all
+all-getD f [] zero d h k = h
+all-getD f [] (suc i) d h k = h
+all-getD f (x ∷ l) zero d h k = and-split {a = f x} {b = all f l} k .0
+all-getD f (x ∷ l) (suc i) d h k = all-getD f l i d h (and-split {a = f x} {b = all f l} k .1)
+
 -- ---- least
 
 -- m is the first place below n at which f holds, or n
@@ -72,6 +92,19 @@ pub least-first : (n : ℕ) (f : ℕ → Bool) → First n f (least n f)
 unfolding least
 least-first zero f = record { at-most = omega arith; holds = λ h. absurd (omega arith); none-before = λ i h. absurd (omega arith) }
 least-first (suc n) f = later n f (least n (λ i. f (suc i))) (least-first n (λ i. f (suc i))) (f 0) refl
+
+-- ---- among
+
+pub among-le : (x b : ℕ) (l : List ℕ) → all (λ y. leb y b) l ≡ true → among x l ≡ true → x ≤ b
+unfolding all among
+among-le x b [] h k = absurd (false≢true k)
+among-le x b (y ∷ l) h k =
+    let (here, more) = and-split {a = leb y b} {b = all (λ z. leb z b) l} h in
+    go (eqb x y) refl (leb-true y b here) (among-le x b l more) k
+  where
+    go : (t : Bool) → eqb x y ≡ t → y ≤ b → (among x l ≡ true → x ≤ b) → t || among x l ≡ true → x ≤ b
+    go true e m f j = omega (arith, eqb-true x y e)
+    go false e m f j = f j
 
 -- ---- refusals
 
@@ -99,3 +132,13 @@ pub zero-unless : (n : ℕ) (b : Bool) → b ≡ true → unless n b ≡ 0
 unfolding unless
 zero-unless n true e = refl
 zero-unless n false e = absurd (false≢true e)
+
+pub granted-zero {ℓ} : {A : Type ℓ} (n : ℕ) (x y : A) → n ≡ 0 → granted n x y ≡ x
+unfolding granted
+granted-zero zero x y e = refl
+granted-zero (suc n) x y e = absurd (omega arith)
+
+pub granted-refused {ℓ} : {A : Type ℓ} (n : ℕ) (x y : A) → n ≢ 0 → granted n x y ≡ y
+unfolding granted
+granted-refused zero x y r = absurd (r refl)
+granted-refused (suc n) x y r = refl

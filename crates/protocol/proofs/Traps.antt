@@ -13,36 +13,16 @@ use Rattle.protocol.specs.Settings.{settingsRefusal}
 use Rattle.protocol.specs.Opening.{foldMessage, messageAfter, keyAfter}
 use Rattle.protocol.specs.Transcript.{cause}
 use Rattle.protocol.specs.Session.{blank, shut, start, move, close}
+use Rattle.protocol.specs.Judge.{slack}
 use Rattle.protocol.specs.Calls.{commitRefusal, commitAnswer, roundRefusal, foldRefusal, foldMessageExit, endRefusal, openingAnswer, openingRoundsExit, checkRefusal, judgeRefusal, judgeAnswer, extractRefusal, extractExit}
 use Rattle.protocol.proofs.Compute.{computed}
+use Rattle.protocol.proofs.Listing.{set, S₁, key₁, message₁, rounds₁, leaves₁, S₀}
 use Rattle.protocol.proofs.Examples.{Example, agree, agreeing, asNumber, causeNumber, moveNumbers, recordNumbers, verdictNumber}
 
 -- ---- the inputs
 
-abbrev set : ℕ → ℕ → ℕ → ℕ → Settings
-set d l q b = record { degree = d; depth = l; modulus = q; bound = b }
-
--- document 01's listing, and its settings at depth 0
-abbrev S₀ : Settings
-S₀ = set 2 0 17 1
-
-abbrev S₁ : Settings
-S₁ = set 2 1 17 1
-
-abbrev key₁ : List ℕ
-key₁ = 3 ∷ 5 ∷ 7 ∷ 2 ∷ []
-
-abbrev message₁ : List ℤ
-message₁ = pos 1 ∷ negsuc 0 ∷ pos 1 ∷ pos 0 ∷ []
-
-abbrev rounds₁ : List ℕ
-rounds₁ = 4 ∷ 1 ∷ 6 ∷ 0 ∷ 12 ∷ 1 ∷ []
-
 abbrev polynomial₁ : List (List ℕ)
 polynomial₁ = (4 ∷ 1 ∷ []) ∷ (6 ∷ 0 ∷ []) ∷ (12 ∷ 1 ∷ []) ∷ []
-
-abbrev leaves₁ : List ℤ
-leaves₁ = pos 2 ∷ negsuc 0 ∷ pos 1 ∷ pos 0 ∷ pos 0 ∷ negsuc 0 ∷ []
 
 -- four elements, to tell halves from neighbours
 abbrev S₂ : Settings
@@ -97,6 +77,7 @@ traps =
     ∷ record { given = foldMessage S₂ 0 1 message₂; wanted = pos 0 ∷ negsuc 0 ∷ negsuc 0 ∷ pos 2 ∷ negsuc 0 ∷ pos 1 ∷ pos 1 ∷ pos 1 ∷ [] }
     ∷ record { given = messageAfter S₂ (1 ∷ 0 ∷ []) 2 message₂; wanted = negsuc 0 ∷ pos 1 ∷ negsuc 0 ∷ pos 2 ∷ negsuc 0 ∷ pos 1 ∷ pos 1 ∷ pos 1 ∷ [] }
     ∷ record { given = map pos (keyAfter S₁ (1 ∷ []) 1 key₁); wanted = pos 1 ∷ pos 12 ∷ pos 7 ∷ pos 2 ∷ [] }
+    ∷ record { given = map pos (keyAfter S₂ (1 ∷ 0 ∷ []) 2 (1 ∷ 0 ∷ 0 ∷ 1 ∷ 16 ∷ 1 ∷ 1 ∷ 1 ∷ [])); wanted = pos 16 ∷ pos 1 ∷ pos 16 ∷ pos 2 ∷ pos 16 ∷ pos 1 ∷ pos 1 ∷ pos 1 ∷ [] }
     -- a refused fold leaves the table
     ∷ record { given = foldMessageExit S₁ 1 0 key₁ message₁; wanted = message₁ }
     -- a refused call answers zeros, and a new element is 0 from d on
@@ -140,6 +121,9 @@ traps =
     ∷ number (judgeRefusal S₁ (15 ∷ 4 ∷ []) 0 key₁ message₁) 15
     ∷ record { given = asNumber (judgeAnswer S₁ (15 ∷ 4 ∷ []) 17 key₁ (replicate 4 (pos 0)) .yes); wanted = pos 1 ∷ [] }
     ∷ record { given = asNumber (judgeAnswer S₁ (0 ∷ 0 ∷ []) 17 key₁ (negsuc 9_223_372_036_854_775_807 ∷ pos 0 ∷ pos 0 ∷ pos 0 ∷ []) .yes); wanted = pos 0 ∷ [] }
+    -- the extractor's slack is 4^L, and the judge takes what it extracts
+    ∷ number (slack (set 2 3 17 1)) 64
+    ∷ record { given = asNumber (judgeAnswer S₁ (15 ∷ 4 ∷ []) (slack S₁) key₁ (pos 4 ∷ negsuc 3 ∷ pos 4 ∷ pos 0 ∷ []) .yes); wanted = pos 1 ∷ [] }
     -- the judge's bound is 12·d²·B = 48, and equality passes: 48·(3 + 5X) is 8 + 2X modulo 17
     ∷ record { given = asNumber (judgeAnswer S₁ (8 ∷ 2 ∷ []) 1 key₁ (pos 48 ∷ pos 0 ∷ pos 0 ∷ pos 0 ∷ []) .yes); wanted = pos 1 ∷ [] }
     ∷ record { given = asNumber (judgeAnswer S₁ (11 ∷ 7 ∷ []) 1 key₁ (pos 49 ∷ pos 0 ∷ pos 0 ∷ pos 0 ∷ []) .yes); wanted = pos 0 ∷ [] }

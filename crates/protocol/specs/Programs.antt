@@ -2,9 +2,11 @@
 --
 --   proveReads, provePrints, verifyReads   which parts a program reads and prints
 --   printed T                              the tables that `prove` prints of a transcript
+--   proofText S t                          the text of the transcript of the tables t, as `prove` prints it
 --   proveText text                         what `prove` writes where nothing is refused
 --   proveRefusal, proveAnswer, proveExit   `prove` on a text and an output slice: its refusals, its answer, the slice as it leaves it
 --   transcriptIn t                         the transcript in the tables that `verify` reads
+--   tablesAccepted S t                     is it accepted
 --   verifyRefusal, verifyAnswer            `verify` on a text: its refusals and its answer
 --   checked r                              document 01's number and verdict for each case of that answer
 --   refusedLine N, verdictLine r           the line that is printed for a refusal, and for an answer of `verify`
@@ -22,7 +24,8 @@ use Rattle.protocol.specs.declared.Verdict.the-variants.{Silent, Accepte
 use Rattle.protocol.specs.declared.Verified.the-variants.{Accepted, Rejected, Refused}
 use Rattle.protocol.specs.Basic.{choose, first, granted}
 use Rattle.protocol.specs.Transcript.{Transcript, accepted, transcriptOf}
-use Rattle.protocol.specs.Text.{Tables, lineFeed, textLimit, bytes, decimal, textOf, linesOf, settingsIn, tablesIn, textRefusal, outputRefusal, written, overwritten}
+use Rattle.protocol.specs.Text.{Tables, lineFeed, textLimit, bytes, decimal, textOf, linesOf, settingsIn, tablesIn, textRefusal, outputRefusal}
+use Rattle.protocol.specs.Text.{written, overwritten}
 
 -- "The program `prove` reads parts 0, 1, 2, 5 from standard input and prints 0, 3, 4, 5, 6."
 unfoldable pub proveReads : Parts

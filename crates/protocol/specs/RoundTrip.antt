@@ -1,8 +1,8 @@
 -- Document 01, "Text tables": one text for each table. The statement that reading gives back what was written, and writing what was read.
 --
---   output t n         the first n bytes of an output slice: the text that was written
---   Back, Forth        the two halves
---   RoundTrip          both, for all settings, parts, tables and texts
+--   outcome S P t out   the bytes that the writer put into an output slice
+--   Back, Forth         the two halves, for one call each
+--   RoundTrip           both, for all settings, parts, tables and texts
 use mathlib.Core.Path.{_≡_}
 use mathlib.Core.Bool.{true}
 use mathlib.Core.List.{List, _++_}
@@ -12,7 +12,6 @@ use Rattle.protocol.specs.declared.Settings.{Settings}
 use Rattle.protocol.specs.declared.Parts.{Parts}
 use Rattle.protocol.specs.Text.{Tables, fits, readAnswer, readExit, writeAnswer, writeExit}
 
--- what the writer put into an output slice
 unfoldable pub outcome : Settings → Parts → Tables → List ℕ → List ℕ
 outcome S P t out = take (writeAnswer S P t out .length) (writeExit S P t out)
 

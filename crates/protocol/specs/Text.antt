@@ -1,48 +1,61 @@
 -- Document 01, "Text tables": numbers, lines and tables as bytes, written and read. A text is the list of its bytes.
+-- Reader and writer go by one description of the parts, `shapes`. A reader gives what it read with the bytes behind it, or nothing.
 --
 -- Written
---   textLimit, valueLimit          the longest text, and the largest magnitude of a number in it
---   bytes s                        the bytes of a quoted text (every character of it has one byte)
---   names                          the names line
---   digitCount n, lowDigits k n    how many digits n has, and its last k digits
---   decimal n, numeral z           a number from 0 on, and any number, as text
---   Spot, Line                     where a line stands (part, item, place), and a line: its spot and its value
---   lineText l, linesText ls       the text of a line, and of lines
---   Tables                         the six tables, parts 1 to 6
---   Shape, shapes S P              a part's number, items and places; the parts of a text
---   settingsShape                  the shape of part 0
---   shapeSize b, spots b           how many lines a part has, and their spots
---   wanted S P                     the spots of a whole text, in order
---   contents S t                   the values of parts 0 to 6
---   partLines, tableLines          the lines of one part, and of all
---   textOf S P t                   the text of the tables t
---   fits S P t                     has every table its length
+--   textLimit, valueLimit         the longest text, and the largest magnitude of a number in it
+--   lineFeed, space, minus, ..    bytes by name
+--   bytes s                       the bytes of a quoted text (each of its characters has one byte)
+--   names                         the names line
+--   digitCount n, lowDigits k n   how many digits n has, and its last k digits
+--   decimal n, numeral z          a number from 0 on, and any number, as text
+--   Spot, Line                    where a line stands (part, item, place); a line: its spot and its value
+--   lineText l, linesText ls      the text of a line, and of lines
+--   Tables                        the six tables, parts 1 to 6
+--   Shape, shape, shapeSize       a part's number, items and places; how many lines it has
+--   settingsShape, shapes S P     the shape of part 0, and the shapes of all parts of a text
+--   spotAt b p, spots b           the spot of line p of a part, and the spots of all its lines
+--   wanted S P                    the spots of a whole text, in order
+--   contents S t                  the values of parts 0 to 6
+--   Block, block, blocks S P t    a part's shape with its values; all parts of the tables t
+--   blockLines b                  the lines of a part
+--   textOf S P t                  the text of the tables t
+--   blockFits b, fits S P t       has a part as many values as lines; has every table its length
 -- Read
---   digit b                        is b the byte of a digit
---   digitRun n bs                  the number whose digits stand here, n being what stood before, and the bytes behind it
---   properDigits bs                does a digit stand here, and no leading zero
---   readCount, readNumber          a number from 0 on, and any number, with the bytes behind it
---   byte c bs                      the bytes behind a byte c
---   readLine, readLines            a line with the bytes behind it, and all lines up to the end
---   beginsWithNames text           does a text begin with the names line
---   linesOf text                   the lines of values; none where a line is not of the stated shape
---   sameSpots a b                  are these the same spots in the same order
---   wellFormed text                is every line of the stated shape, and are the first four value lines settings
---   unsigned z                     z, or a number out of every range where z is below zero
---   column p ls                    the values of part p
---   settingsIn ls, tablesIn ls     settings and tables in the lines
+--   keep b a                      a where the test b passes, else nothing
+--   digit b, digitFirst bs        is b the byte of a digit; does one stand here
+--   digitRun n bs                 the number whose digits stand here, n being what stood before, and the bytes behind it
+--   properDigits bs               do digits stand here, with no leading zero
+--   readCount bs                  the number from 0 on that stands here, with the bytes behind it
+--   plain r, negative r           what was read, with no sign before it, and with a minus before it
+--   readNumber bs                 the number that stands here, with the bytes behind it
+--   byte c bs                     the bytes behind a byte c
+--   readIndex bs                  a number from 0 on and a space, with the bytes behind it
+--   readLine, readLines           a line with the bytes behind it; all lines up to the end
+--   begins cs bs                  do the bytes bs begin with the bytes cs
+--   beginsWithNames text          does a text begin with the names line
+--   parsed text, linesOf text     the lines of values, or nothing where a line is not of the stated shape
+--   spotsOf ls, valuesOf ls       the spots and the values of lines
+--   sameSpot, sameSpots           are two spots the same; are these the same spots in the same order
+--   wellFormed text               is every line of the stated shape, and are the first four value lines settings
+--   unsigned z                    z, or a number out of every range where z is below zero
+--   column p, unsignedColumn p    the values of part p, signed and unsigned
+--   settingIn, settingsIn         the value of a settings line, and the settings
+--   tablesIn ls                   the six tables in the lines
 -- The calls
---   lookRefusal, lookAnswer        a first look at a text's settings
---   entriesRefusal                 refusals 8, 9 and 10, which reader and writer share
---   textRefusal, readRefusal       the reader's refusals, for a text alone and with the lent tables
---   readAnswer, readExit           the reader's answer, and the six tables as it leaves them
---   outputRefusal, writeRefusal    the writer's last refusals, and all of them, for an output slice of `room` bytes
---   written, overwritten           an answer and an output slice, for a refusal and a text
---   writeAnswer, writeExit         the writer's answer, and its output slice as it leaves it
---   Reading, reading r             document 01's number and values for each case of the number reader's answer
---   readNumberAt, readCountAt      the number readers as calls on a text and a place
+--   noSettings                    four zeros
+--   loaded N text                 the reader's answer for a refusal N
+--   lookRefusal, lookAnswer       a first look at a text's settings
+--   entriesRefusal                refusals 8, 9 and 10, which reader and writer share
+--   textRefusal, readRefusal      the reader's refusals, for a text alone and with the lent tables
+--   readAnswer, readExit          the reader's answer, and the six tables as it leaves them
+--   outputRefusal, writeRefusal   the writer's last refusals, and all of them, for an output slice of `room` bytes
+--   written, overwritten          an answer, and an output slice, for a refusal and a text
+--   writeAnswer, writeExit        the writer's answer, and its output slice as it leaves it
+--   Reading, reading r            document 01's number and values for each case of the number reader's answer
+--   numberAnswer                  what was read, as that answer
+--   readNumberAt, readCountAt     the number readers as calls on a text and a place
 use mathlib.Core.Bool.{Bool, true, false, _&&_, not}
-use mathlib.Core.List.{List, [], _∷_, _++_, map}
+use mathlib.Core.List.{List, [], _∷_, _++_, map, flatMap, zipWith}
 use mathlib.Core.Option.{Option, none, some, bind as _>>=_, Option·getD}
 use Prim.Native.Nat.{ℕ, zero, suc, _+_, _*_, _-_, _/_, _%_, _^_}
 use Prim.Native.Char.{code}
@@ -79,12 +92,14 @@ minus = 45
 abbrev pub zeroDigit : ℕ
 zeroDigit = 48
 
+-- every quoted text here is ASCII, so that a character's code is its byte
 unfoldable pub bytes : String → List ℕ
 bytes end = []
 bytes (c then s) = code c ∷ bytes s
 
 -- ---- Written
 
+-- "First the names line"
 unfoldable pub names : List ℕ
 names = bytes "part item place value\n"
 
@@ -100,6 +115,7 @@ lowDigits (suc k) n = lowDigits k (n / 10) ++ ((zeroDigit + n % 10) ∷ [])
 unfoldable pub decimal : ℕ → List ℕ
 decimal n = lowDigits (digitCount n) n
 
+-- "only a value may be negative"
 unfoldable pub numeral : ℤ → List ℕ
 numeral (pos n) = decimal n
 numeral (negsuc n) = minus ∷ decimal (suc n)
@@ -120,9 +136,9 @@ lineText l =
     ++ (space ∷ (decimal (l .spot .item) ++ (space ∷ (decimal (l .spot .place) ++ (space ∷ (numeral (l .value) ++ (lineFeed ∷ [])))))))
 
 unfoldable pub linesText : List Line → List ℕ
-linesText [] = []
-linesText (l ∷ ls) = lineText l ++ linesText ls
+linesText ls = flatMap lineText ls
 
+-- "Final coefficients are signed 32-bit.", as message coefficients are
 pub record Tables : Type 0 where
   pub key : List ℕ
   pub message : List ℤ
@@ -136,7 +152,7 @@ pub record Shape : Type 0 where
   pub items : ℕ
   pub places : ℕ
 
--- a part that is not there has no items
+-- "told for each of parts 1 to 6 whether it is there": a part that is not there has no items
 unfoldable pub shape : ℕ → Bool → ℕ → ℕ → Shape
 shape part there items places = record { part = part; items = choose there items 0; places = places }
 
@@ -160,19 +176,16 @@ shapes S P =
 unfoldable pub shapeSize : Shape → ℕ
 shapeSize b = b .items * b .places
 
+-- places go round first, then items
 unfoldable pub spotAt : Shape → ℕ → Spot
 spotAt b p = record { part = b .part; item = p / b .places; place = p % b .places }
 
 unfoldable pub spots : Shape → List Spot
 spots b = tabulate (shapeSize b) (spotAt b)
 
-unfoldable pub allSpots : List Shape → List Spot
-allSpots [] = []
-allSpots (b ∷ bs) = spots b ++ allSpots bs
-
 -- "Lines rise by part, item, place, none missing."
 unfoldable pub wanted : Settings → Parts → List Spot
-wanted S P = allSpots (shapes S P)
+wanted S P = flatMap spots (shapes S P)
 
 unfoldable pub contents : Settings → Tables → List (List ℤ)
 contents S t =
@@ -185,26 +198,29 @@ contents S t =
     ∷ t .last
     ∷ []
 
-unfoldable pub partLines : Shape → List ℤ → List Line
-partLines b values = tabulate (shapeSize b) (λ p. record { spot = spotAt b p; value = getD values p (pos 0) })
+pub record Block : Type 0 where
+  pub shape : Shape
+  pub values : List ℤ
 
-unfoldable pub tableLines : List Shape → List (List ℤ) → List Line
-tableLines [] vs = []
-tableLines (b ∷ bs) [] = []
-tableLines (b ∷ bs) (v ∷ vs) = partLines b v ++ tableLines bs vs
+unfoldable pub block : Shape → List ℤ → Block
+block b values = record { shape = b; values = values }
+
+unfoldable pub blocks : Settings → Parts → Tables → List Block
+blocks S P t = zipWith block (shapes S P) (contents S t)
+
+unfoldable pub blockLines : Block → List Line
+blockLines b = tabulate (shapeSize (b .shape)) (λ p. record { spot = spotAt (b .shape) p; value = getD (b .values) p (pos 0) })
 
 -- "First the names line, then lines of values in that order"
 unfoldable pub textOf : Settings → Parts → Tables → List ℕ
-textOf S P t = names ++ linesText (tableLines (shapes S P) (contents S t))
+textOf S P t = names ++ linesText (flatMap blockLines (blocks S P t))
 
-unfoldable pub shapesFit : List Shape → List (List ℤ) → Bool
-shapesFit [] vs = true
-shapesFit (b ∷ bs) [] = true
-shapesFit (b ∷ bs) (v ∷ vs) = sized (shapeSize b) v && shapesFit bs vs
+unfoldable pub blockFits : Block → Bool
+blockFits b = sized (shapeSize (b .shape)) (b .values)
 
 -- "a lent table not exactly its length"; "The table lent for an absent part has length 0."
 unfoldable pub fits : Settings → Parts → Tables → Bool
-fits S P t = shapesFit (shapes S P) (contents S t)
+fits S P t = all blockFits (blocks S P t)
 
 -- ---- Read
 
@@ -243,6 +259,7 @@ negative r = do
   (n, rest) ← r
   keep (not (eqb n 0)) (negℤ (pos n), rest)
 
+-- "only a value may be negative"
 unfoldable pub readNumber : List ℕ → Option (ℤ × List ℕ)
 readNumber [] = none
 readNumber (b ∷ bs) = elim (eqb b minus) [ true ↦ negative (readCount bs) | false ↦ plain (readCount (b ∷ bs)) ]
@@ -251,22 +268,26 @@ unfoldable pub byte : ℕ → List ℕ → Option (List ℕ)
 byte c [] = none
 byte c (b ∷ bs) = keep (eqb b c) bs
 
--- "single spaces, a line feed after every line"; "only a value may be negative"
+-- "single spaces"
+unfoldable pub readIndex : List ℕ → Option (ℕ × List ℕ)
+readIndex bs = do
+  (n, behind) ← readCount bs
+  rest ← byte space behind
+  some (n, rest)
+
+-- "a line feed after every line"
 unfoldable pub readLine : List ℕ → Option (Line × List ℕ)
 readLine bs = do
-  (part, behindPart) ← readCount bs
-  itemOn ← byte space behindPart
-  (item, behindItem) ← readCount itemOn
-  placeOn ← byte space behindItem
-  (place, behindPlace) ← readCount placeOn
-  valueOn ← byte space behindPlace
-  (value, behindValue) ← readNumber valueOn
-  rest ← byte lineFeed behindValue
+  (part, itemOn) ← readIndex bs
+  (item, placeOn) ← readIndex itemOn
+  (place, valueOn) ← readIndex placeOn
+  (value, behind) ← readNumber valueOn
+  rest ← byte lineFeed behind
   some (record { spot = record { part = part; item = item; place = place }; value = value }, rest)
 
--- a line has at least one byte, so as many turns as there are bytes reach the end
+-- a line has at least one byte, so more turns than there are bytes reach the end
 unfoldable pub readLines : ℕ → List ℕ → Option (List Line)
-readLines zero bs = keep (eqb (length bs) 0) []
+readLines zero bs = none
 readLines (suc turns) [] = some []
 readLines (suc turns) (b ∷ bs) = do
   (l, rest) ← readLine (b ∷ bs)
@@ -278,16 +299,13 @@ begins [] text = true
 begins (c ∷ cs) [] = false
 begins (c ∷ cs) (b ∷ bs) = eqb b c && begins cs bs
 
--- yes exactly when the text begins with the 21 bytes of names and a line feed
+-- for every text, also one that ends inside the line: does it begin with the 21 bytes of names and a line feed
 unfoldable pub beginsWithNames : List ℕ → Bool
 beginsWithNames text = begins names text
 
-unfoldable pub afterNames : List ℕ → List ℕ
-afterNames text = drop (length names) text
-
 -- "a line not of the stated shape (names line and last line feed included)": such a text has no lines
 unfoldable pub parsed : List ℕ → Option (List Line)
-parsed text = elim (beginsWithNames text) [ true ↦ readLines (length (afterNames text)) (afterNames text) | false ↦ none ]
+parsed text = elim (beginsWithNames text) [ true ↦ readLines (length text) (drop (length names) text) | false ↦ none ]
 
 unfoldable pub linesOf : List ℕ → List Line
 linesOf text = Option·getD (parsed text) []
@@ -311,7 +329,8 @@ valuesOf ls = map (λ (l : Line). l .value) ls
 unfoldable pub wellFormed : List ℕ → Bool
 wellFormed text = sameSpots (take (shapeSize settingsShape) (spotsOf (linesOf text))) (spots settingsShape)
 
--- "In text, settings below zero count as out of range."; so do residues and exponents
+-- "In text, settings below zero count as out of range.": they count as one past the limit of magnitude, which no setting,
+-- residue or exponent reaches
 unfoldable pub unsigned : ℤ → ℕ
 unsigned (pos n) = n
 unsigned (negsuc n) = suc valueLimit
@@ -342,9 +361,11 @@ tablesIn ls = record {
 
 -- ---- The calls
 
+-- "every other part of the answer 0"
 unfoldable pub noSettings : Settings
 noSettings = record { degree = 0; depth = 0; modulus = 0; bound = 0 }
 
+-- refusals 1 and 2 over the whole text, then 3 to 6
 unfoldable pub lookRefusal : List ℕ → ℕ
 lookRefusal text =
     first
@@ -360,7 +381,8 @@ loaded refusal text = record { number = refusal; settings = granted refusal (set
 unfoldable pub lookAnswer : List ℕ → Loaded
 lookAnswer text = loaded (lookRefusal text) text
 
--- refusals 8, 9 and 10; `lastFits` is what 9 asks of the final element
+-- "8: a key, commitment, round .. coefficient not 0 to q−1", "9: a message coefficient beyond its bound", "10: an exponent
+-- outside 0 to 2d−1"; `lastFits` is what 9 asks of the final element: nothing in the reader
 unfoldable pub entriesRefusal : Settings → Bool → Tables → ℕ
 entriesRefusal S lastFits t =
     first
@@ -369,7 +391,8 @@ entriesRefusal S lastFits t =
     ∷ unless 10 (exponents S (t .challenges))
     ∷ [])
 
--- refusals 1 to 10 of a text that must hold the parts P; `lent` says whether the lent tables have their lengths
+-- "7: a lent table not exactly its length, value lines not the required ones in order"; `lent` says whether the lent tables
+-- have their lengths
 unfoldable pub textRefusal : Parts → Bool → List ℕ → ℕ
 textRefusal P lent text =
     first
@@ -384,6 +407,7 @@ readRefusal P text t = textRefusal P (fits (settingsIn (linesOf text)) P t) text
 unfoldable pub readAnswer : Parts → List ℕ → Tables → Loaded
 readAnswer P text t = loaded (readRefusal P text t) text
 
+-- a refused reader leaves the lent tables as they were
 unfoldable pub readExit : Parts → List ℕ → Tables → Tables
 readExit P text t = granted (readRefusal P text t) (tablesIn (linesOf text)) t
 

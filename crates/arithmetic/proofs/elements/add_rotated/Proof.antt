@@ -5,16 +5,16 @@ use native.Mathlib.Nat.{mod-lt}
 use native.Mathlib.Omega.{arith}
 use lib.IntN.{pos, _+ℤ_}
 use lib.ListN.{getD}
-use Rattle.protocol.specs.Element.{modulo, rotate, residue, reduced}
+use Rattle.protocol.specs.Element.{modulo, rotate, residue, reduced, zeros}
 use Rattle.arithmetic.specs.Elements.{addRotated}
 use Rattle.arithmetic.proofs.Around.{rotate-back}
-use Rattle.arithmetic.proofs.Fill.{filled, blank, element-none, element-more, element-done}
+use Rattle.arithmetic.proofs.Fill.{filled, fill-none, fill-more, element-done}
 use borrow.Author.Needs.{needs}
 use Rattle.arithmetic.proofs.elements.add_rotated.Statement.{statement}
 use Rattle.arithmetic.proofs.elements.add_rotated.Tie as tie
 
 abbrev Inv-loop : tie.InvT-loop
-Inv-loop q d e a b c₀ n back k₀ c k = (k ≤ d) × (0 < q) × (0 < d) × (d ≤ 64) × (c ≡ filled (λ (j : ℕ). modulo q (residue a j +ℤ rotate d e (residue b) j)) k blank)
+Inv-loop q d e a b c₀ n back k₀ c k = (k ≤ d) × (0 < q) × (0 < d) × (d ≤ 64) × (c ≡ filled (λ (j : ℕ). modulo q (residue a j +ℤ rotate d e (residue b) j)) k (zeros 64))
 
 abbrev μ-loop : tie.MeasureT-loop
 μ-loop q d e a b c₀ n back k₀ c k = d - k
@@ -41,7 +41,7 @@ sub-back : tie.Need-sub-back Inv-loop μ-loop
 sub-back c = let a = c .before .before .before .args in omega (arith, mod-lt (a .e) {m = a .d + a .d} (omega arith))
 
 loop-holds : tie.Need-loop-holds Inv-loop μ-loop
-loop-holds c = (omega arith, omega arith, omega arith, omega arith, element-none _)
+loop-holds c = (omega arith, omega arith, omega arith, omega arith, fill-none 64 _)
 
 mul-add-around : tie.Need-mul-add-around Inv-loop μ-loop
 mul-add-around c = search needs
@@ -79,7 +79,7 @@ loop-again c =
       omega arith,
       omega arith,
       omega arith,
-      element-more _ (l .k) _ (l .c) (l .inv .4) (omega arith)
+      fill-more 64 _ (l .k) _ (l .c) (l .inv .4) (omega arith)
           (c .add-around .ensures ∙ ap (λ z. modulo (a .q) (pos (getD (a .t4) (l .k) 0) +ℤ z)) (rotate-back (a .d) (a .e) (residue (a .t5)) (l .k))),
     )
 

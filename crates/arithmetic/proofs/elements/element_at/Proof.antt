@@ -4,14 +4,15 @@ use Prim.Native.Nat.{ℕ, _+_, _*_, _-_, _≤_}
 use native.Mathlib.Nat.{mul-le-mul}
 use native.Mathlib.Omega.{arith}
 use lib.ListN.{getD}
+use Rattle.protocol.specs.Element.{zeros}
 use Rattle.arithmetic.specs.Elements.{elementAt}
-use Rattle.arithmetic.proofs.Fill.{filled, blank, element-none, element-more, element-done}
+use Rattle.arithmetic.proofs.Fill.{filled, fill-none, fill-more, element-done}
 use borrow.Author.Needs.{needs}
 use Rattle.arithmetic.proofs.elements.element_at.Statement.{statement}
 use Rattle.arithmetic.proofs.elements.element_at.Tie as tie
 
 abbrev Inv-loop : tie.InvT-loop
-Inv-loop d t i a₀ n at k₀ a k = (k ≤ d) × (d ≤ 64) × (a ≡ filled (λ (j : ℕ). getD t (i * d + j) 0) k blank)
+Inv-loop d t i a₀ n at k₀ a k = (k ≤ d) × (d ≤ 64) × (a ≡ filled (λ (j : ℕ). getD t (i * d + j) 0) k (zeros 64))
 
 abbrev μ-loop : tie.MeasureT-loop
 μ-loop d t i a₀ n at k₀ a k = d - k
@@ -26,7 +27,7 @@ mul-at : tie.Need-mul-at Inv-loop μ-loop
 mul-at c = omega (arith, offset c)
 
 loop-holds : tie.Need-loop-holds Inv-loop μ-loop
-loop-holds c = (omega arith, omega arith, element-none _)
+loop-holds c = (omega arith, omega arith, fill-none 64 _)
 
 add-entry : tie.Need-add-entry Inv-loop μ-loop
 add-entry c = omega (arith, offset (c .before .before))
@@ -47,7 +48,7 @@ loop-less : tie.Need-loop-less Inv-loop μ-loop
 loop-less c = search needs
 
 loop-again : tie.Need-loop-again Inv-loop μ-loop
-loop-again c = let l = c .before .before .loop in (omega arith, omega arith, element-more _ (l .k) _ (l .a) (l .inv .2) (omega arith) (c .entry .ensures))
+loop-again c = let l = c .before .before .loop in (omega arith, omega arith, fill-more 64 _ (l .k) _ (l .a) (l .inv .2) (omega arith) (c .entry .ensures))
 
 returns-2 : tie.Need-returns-2 Inv-loop μ-loop
 unfolding elementAt

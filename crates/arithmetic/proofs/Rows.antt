@@ -1,0 +1,160 @@
+-- The rows of a product: one row, all rows where no sum reaches 2^64, and what the sums are modulo q.
+use mathlib.Core.Path.{_≡_, refl, sym, ap, _∙_}
+use mathlib.Core.Bool.{true, false, false≢true}
+use mathlib.Core.List.{List, _++_}
+use Prim.Native.Nat.{ℕ, zero, suc, _+_, _*_, _-_, _%_, _^_, _<_, _≤_}
+use native.Mathlib.Nat as Nat
+use native.Mathlib.Decide.{decLt}
+use native.Mathlib.Omega.{arith}
+use borrow.Author.Tests.{le-ltb}
+use lib.IntN.{ℤ, pos, negsuc, negℤ, _*ℤ_, natAbs}
+use lib.ListN.{length, getD, drop, set, replicate, getD-replicate, List·getD-append}
+use lib.Signed.{ltZ}
+use Rattle.protocol.specs.Basic.{sum, tabulate}
+use Rattle.protocol.specs.Element.{modulo, around, rotate, product, signed, residue, reduced, padded}
+use Rattle.protocol.proofs.Modulo.{modulo-lt, modulo-add, modulo-times}
+use Rattle.protocol.proofs.Reading.{tabulate-at, tabulate-length, tabulate-ext}
+use Rattle.arithmetic.specs.Products.{extension, start, addRow, addRows, total, term, limit, reducedSums}
+use Rattle.arithmetic.proofs.Around.{around-next, rotate-at}
+use Rattle.arithmetic.proofs.Fill.{filled, filled-more, filled-behind, filled-length}
+
+-- ---- where a row begins
+
+pub start-below : (d j : ℕ) (z : ℤ) → ltZ z (pos 0) ≡ true → d - j ≡ start d z j
+unfolding start
+start-below d j (pos n) t = absurd (false≢true (sym (le-ltb n 0 (omega arith)) ∙ t))
+start-below d j (negsuc n) t = refl
+
+pub start-above : (d j : ℕ) (z : ℤ) → ltZ z (pos 0) ≡ false → d + d - j ≡ start d z j
+unfolding start
+start-above d j (pos n) t = refl
+start-above d j (negsuc n) t = absurd (false≢true (sym t))
+
+pub start-most : (d j : ℕ) (z : ℤ) → start d z j ≤ d + d
+unfolding start
+start-most d j (pos n) = omega arith
+start-most d j (negsuc n) = omega arith
+
+-- ---- one row
+
+abbrev pub rowCell : ℕ → ℕ → List ℕ → List ℕ → ℕ → ℕ
+rowCell m at x s k = (getD s k 0 + m * getD x (at + k) 0) % 2 ^ 64
+
+pub row-turn : (m at : ℕ) (x s₀ s : List ℕ) (k v : ℕ) → s ≡ filled (rowCell m at x s₀) k s₀ → k < length s₀ → v ≡ rowCell m at x s k → set s k v ≡ filled (rowCell m at x s₀) (k + 1) s₀
+row-turn m at x s₀ s k v e h w =
+    (λ i. set (e i) k ((w ∙ ap (λ y. (y + m * getD x (at + k) 0) % 2 ^ 64) (ap (λ l. getD l k 0) e ∙ filled-behind (rowCell m at x s₀) k s₀ 0 k (Nat.le-refl k))) i))
+    ∙ filled-more (rowCell m at x s₀) k s₀ h
+
+pub row-done : (d m at : ℕ) (x s₀ : List ℕ) → filled (rowCell m at x s₀) d s₀ ≡ addRow d m at x s₀
+unfolding filled addRow
+row-done d m at x s₀ = refl
+
+pub row-length : (d m at : ℕ) (x s : List ℕ) → d ≤ length s → length (addRow d m at x s) ≡ length s
+row-length d m at x s h = ap length (sym (row-done d m at x s)) ∙ filled-length (rowCell m at x s) d s h
+
+pub row-at : (d m at : ℕ) (x s : List ℕ) (k : ℕ) → k < d → getD (addRow d m at x s) k 0 ≡ rowCell m at x s k
+unfolding addRow
+row-at d m at x s k h = List·getD-append (tabulate d (rowCell m at x s)) (drop d s) 0 k (omega (arith, tabulate-length d (rowCell m at x s))) ∙ tabulate-at d (rowCell m at x s) 0 k h
+
+-- ---- sums
+
+total-most : (n : ℕ) (f : ℕ → ℕ) (b : ℕ) → ((j : ℕ) → j < n → f j ≤ b) → total n f ≤ n * b
+unfolding total
+total-most zero f b h = omega arith
+total-most (suc n) f b h = omega (arith, total-most n f b (λ j l. h j (omega arith)), h n (omega arith), Nat.suc-mul n b)
+
+total-up : (n d : ℕ) (f : ℕ → ℕ) → n ≤ d → total n f ≤ total d f
+unfolding total
+total-up n zero f h = Nat.le-of-eq (ap (λ m. total m f) {x = n} {y = 0} (omega arith))
+total-up n (suc d) f h = elim (decLt d n) [
+  | yes l ↦ Nat.le-of-eq (ap (λ m. total m f) {x = n} {y = suc d} (omega arith))
+  | no l ↦ omega (arith, total-up n d f (omega arith))
+]
+
+module _ (q : ℕ) (p : 0 < q) where
+  total-residue : (n : ℕ) (f : ℕ → ℕ) (g : ℕ → ℤ) → ((j : ℕ) → j < n → f j % q ≡ modulo q (g j)) → total n f % q ≡ modulo q (sum n g)
+  unfolding total sum
+  total-residue zero f g h = unfold modulo in refl
+  total-residue (suc n) f g h =
+      Nat.add-mod (total n f) (f n) q
+      ∙ (λ i. (total-residue n f g (λ j l. h j (omega arith)) i + h n (omega arith) i) % q)
+      ∙ sym (modulo-add q p (sum n g) (g n))
+
+-- ---- all rows, where no sum reaches 2^64
+
+module _ (d : ℕ) (f : List ℤ) (x s : List ℕ) (k : ℕ) (l : k < d) (room : getD s k 0 + total d (term d f x k) < 2 ^ 64) where
+  pub rows-at : (n : ℕ) → n ≤ d → getD (addRows d f x n s) k 0 ≡ getD s k 0 + total n (term d f x k)
+  unfolding addRows total term
+  rows-at zero h = omega arith
+  rows-at (suc n) h =
+      row-at d _ _ x (addRows d f x n s) k l
+      ∙ ap (λ y. (y + term d f x k n) % 2 ^ 64) (rows-at n (omega arith))
+      ∙ Nat.mod-eq-of-lt (omega (arith, total-up (suc n) d (term d f x k) h))
+      ∙ Nat.add-assoc (getD s k 0) (total n (term d f x k)) (term d f x k n)
+
+-- ---- the rows of an extension are those of a product
+
+module _ (q d : ℕ) (p : 0 < q) (pd : 0 < d) (a : List ℕ) where
+  extension-at : (y : ℕ) → y < 3 * d → getD (extension q d a) y 0 ≡ modulo q (around d (residue a) y)
+  unfolding extension
+  extension-at y h =
+      List·getD-append (tabulate (3 * d) (λ z. modulo q (around d (residue a) z))) _ 0 y (omega (arith, tabulate-length (3 * d) (λ z. modulo q (around d (residue a) z))))
+      ∙ tabulate-at (3 * d) (λ z. modulo q (around d (residue a) z)) 0 y h
+
+  opposite : (n : ℕ) (z : ℤ) → negsuc n *ℤ negℤ z ≡ pos (suc n) *ℤ z
+  opposite n (pos zero) = ap (λ m. negℤ (pos m)) (Nat.mul-zero (suc n)) ∙ ap pos (sym (Nat.mul-zero (suc n)))
+  opposite n (pos (suc m)) = refl
+  opposite n (negsuc m) = refl
+
+  module _ (k j : ℕ) (lk : k < d) (lj : j < d) where
+    turned : rotate d j (residue a) k ≡ around d (residue a) (d + d - j + k)
+    turned = rotate-at d j (residue a) k (omega arith) ∙ ap (around d (residue a)) (omega arith)
+
+    before : rotate d j (residue a) k ≡ negℤ (around d (residue a) (d - j + k))
+    before = turned ∙ ap (around d (residue a)) {y = d - j + k + d} (omega arith) ∙ around-next d (residue a) (d - j + k) pd
+
+    by-sign : (z : ℤ) → natAbs z * getD (extension q d a) (start d z j + k) 0 % q ≡ modulo q (z *ℤ rotate d j (residue a) k)
+    unfolding start
+    by-sign (pos n) =
+        ap (λ y. n * y % q) (extension-at (d + d - j + k) (omega arith))
+        ∙ sym (modulo-times q p n (around d (residue a) (d + d - j + k)))
+        ∙ ap (λ z. modulo q (pos n *ℤ z)) (sym turned)
+    by-sign (negsuc n) =
+        ap (λ y. suc n * y % q) (extension-at (d - j + k) (omega arith))
+        ∙ sym (modulo-times q p (suc n) (around d (residue a) (d - j + k)))
+        ∙ ap (modulo q) (sym (opposite n (around d (residue a) (d - j + k))))
+        ∙ ap (λ z. modulo q (negsuc n *ℤ z)) (sym before)
+
+  module _ (f : List ℤ) (k : ℕ) (lk : k < d) where
+    pub terms-residue : total d (term d f (extension q d a) k) % q ≡ modulo q (product d (signed f) (residue a) k)
+    unfolding term product signed
+    terms-residue = total-residue q p d _ _ (λ j l. by-sign k j lk l (getD f j (pos 0)))
+
+    -- no sum reaches 2^64 by one product
+    pub terms-most : d ≤ 64 → q < 2 ^ 32 → ((j : ℕ) → j < d → natAbs (getD f j (pos 0)) ≤ limit) → total d (term d f (extension q d a) k) ≤ 64 * (2 ^ 26 * (2 ^ 32 - 1))
+    unfolding term
+    terms-most h w small =
+        Nat.le-trans (total-most d (term d f (extension q d a) k) (2 ^ 26 * (2 ^ 32 - 1)) each) (Nat.mul-le-mul-right (2 ^ 26 * (2 ^ 32 - 1)) h)
+      where
+        inside : (z : ℤ) (j : ℕ) → j < d → start d z j + k < 3 * d
+        inside (pos n) j l = unfold start in omega arith
+        inside (negsuc n) j l = unfold start in omega arith
+
+        each : (j : ℕ) → j < d → natAbs (getD f j (pos 0)) * getD (extension q d a) (start d (getD f j (pos 0)) j + k) 0 ≤ 2 ^ 26 * (2 ^ 32 - 1)
+        each j l = Nat.mul-le-mul {n₂ = 2 ^ 26} {m₂ = 2 ^ 32 - 1} (small j l)
+            (omega (arith, extension-at (start d (getD f j (pos 0)) j + k) (inside (getD f j (pos 0)) j l), modulo-lt q p (around d (residue a) (start d (getD f j (pos 0)) j + k))))
+
+-- the whole product: rows over zeros, reduced
+pub product-done : (q d : ℕ) (f : List ℤ) (g : List ℕ) → 0 < q → 0 < d → d ≤ 64 → q < 2 ^ 32 → ((j : ℕ) → j < d → natAbs (getD f j (pos 0)) ≤ limit)
+    → reducedSums q d (addRows d f (extension q d g) d (replicate 64 0)) ≡ padded d (reduced q d (product d (signed f) (residue g)))
+unfolding reducedSums reduced
+product-done q d f g p pd h w small = ap (padded d) (tabulate-ext d (λ k l. ap (λ y. y % q) (sum-is k l) ∙ terms-residue q d p pd g f k l))
+  where
+    none : (k : ℕ) → k < d → getD {A = ℕ} (replicate 64 0) k 0 ≡ 0
+    none k l = getD-replicate 64 k 0 0 (omega arith)
+
+    sum-is : (k : ℕ) → k < d → getD (addRows d f (extension q d g) d (replicate 64 0)) k 0 ≡ total d (term d f (extension q d g) k)
+    sum-is k l =
+        rows-at d f (extension q d g) (replicate 64 0) k l (omega (arith, none k l, terms-most q d p pd g f k l h w small)) d (Nat.le-refl d)
+        ∙ ap (λ y. y + total d (term d f (extension q d g) k)) (none k l)
+        ∙ Nat.zero-add _

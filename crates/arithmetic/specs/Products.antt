@@ -1,0 +1,52 @@
+-- The product of an element of whole numbers with an element of residues, by rows of sums that are reduced once, at the end.
+--
+--   extension q d a   the residues at the places 0 to 3d − 1 of a, going round by X^d = −1: each rotation of a, and its negative, is d of them in a row
+--   start d z j       where X^j·a, or for a negative z its negative, begins among them
+--   addRow d m at ..  the sums s with m times the d residues from place `at` on added, modulo 2^64
+--   addRows d f x j   the sums after the first j rows: row j adds f_j·X^j·a
+--   total n f         f 0 + f 1 + … + f (n − 1)
+--   term d f x k j    what row j adds to sum k
+--   reducedSums q d s the sums modulo q, an element
+--   Rows d ..         are the tables long enough
+--   limit             the magnitude of a coefficient with which no sum reaches 2^64
+use mathlib.Core.List.{List, _++_}
+use Prim.Native.Nat.{ℕ, zero, suc, _+_, _*_, _-_, _%_, _^_, _≤_, _<_}
+use lib.IntN.{ℤ, pos, negsuc, natAbs}
+use lib.ListN.{getD, drop}
+use Rattle.protocol.specs.Basic.{tabulate}
+use Rattle.protocol.specs.Element.{modulo, around, residue, zeros, padded}
+
+unfoldable pub extension : ℕ → ℕ → List ℕ → List ℕ
+extension q d a = tabulate (3 * d) (λ y. modulo q (around d (residue a) y)) ++ zeros (192 - 3 * d)
+
+unfoldable pub start : ℕ → ℤ → ℕ → ℕ
+start d (pos n) j = d + d - j
+start d (negsuc n) j = d - j
+
+unfoldable pub addRow : ℕ → ℕ → ℕ → List ℕ → List ℕ → List ℕ
+addRow d m at x s = tabulate d (λ k. (getD s k 0 + m * getD x (at + k) 0) % 2 ^ 64) ++ drop d s
+
+unfoldable pub addRows : ℕ → List ℤ → List ℕ → ℕ → List ℕ → List ℕ
+addRows d f x zero s = s
+addRows d f x (suc j) s = addRow d (natAbs (getD f j (pos 0))) (start d (getD f j (pos 0)) j) x (addRows d f x j s)
+
+unfoldable pub total : ℕ → (ℕ → ℕ) → ℕ
+total zero f = 0
+total (suc n) f = total n f + f n
+
+unfoldable pub term : ℕ → List ℤ → List ℕ → ℕ → ℕ → ℕ
+term d f x k j = natAbs (getD f j (pos 0)) * getD x (start d (getD f j (pos 0)) j + k) 0
+
+-- f has d coefficients, x is an extension and there are d sums
+pub record Rows (d f x s : ℕ) : Type 0 where
+  pub degree : d ≤ 64
+  pub coefficients : d ≤ f
+  pub residues : 3 * d ≤ x
+  pub sums : d ≤ s
+
+abbrev pub limit : ℕ
+limit = 2 ^ 26
+
+-- the first d sums, modulo q, as an element that is passed by value
+unfoldable pub reducedSums : ℕ → ℕ → List ℕ → List ℕ
+reducedSums q d s = padded d (tabulate d (λ k. getD s k 0 % q))

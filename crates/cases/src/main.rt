@@ -1,0 +1,37 @@
+// Runs cases through the public calls and prints their answers. Standard input is a stream of decimal numbers: for each case the number of
+// its call and then its inputs, a table or an element being its length and then its numbers. The answer to each case is one line.
+mod input;
+mod output;
+mod proving;
+mod tables;
+
+use input::Input;
+
+fn run(call: u32, input: Input) -> Input {
+    match call {
+        1 => proving::run_commit(input),
+        2 => proving::run_round(input),
+        3 => proving::run_fold(input),
+        4 => proving::run_end(input),
+        _ => unknown(input),
+    }
+}
+
+// A call that is not run here.
+fn unknown(input: Input) -> Input {
+    io::write_all(1, b"unknown\n");
+    input
+}
+
+fn main() {
+    let mut input = Input::none();
+    let mut turns = u64::MAX;
+    while turns > 0 {
+        turns -= 1;
+        let call = input.number();
+        if call.ended {
+            return;
+        }
+        input = run(call.value.residue(), call.next);
+    }
+}

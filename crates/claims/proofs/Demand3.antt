@@ -1,0 +1,34 @@
+-- Demand 3, proved: "a single claim, about the whole list of calls and the whole tree, and not one for each call or node".
+--
+-- What is claimed is the type `Demand3` of protocol/specs/Demand3: for all allowed settings and every key,
+--   · an opening of any message within its bound, by any challenges, is not refused, says accepted and gives an accepted transcript, and so does every list of calls that makes it
+--     move by move, refused calls of any kind standing anywhere between: no step of it is refused, and it ends with the same answers and tables;
+--   · from every full tree whose paths are all accepted, whatever was answered in it, the extractor is not refused within the growth limit and leaves the root vector: within its
+--     bound, opening 4^L times the commitment, and exactly 4^L·m where all leaves are folds of one m.
+--
+-- From here to the functions. The claim speaks of definitions such as `openingAnswer`, `foldKeyExit`, `move` and `extractExit`. Each public function promises an equation with its
+-- definition, for every input and with no `requires`: r ≡ openingAnswer .., key at exit ≡ openingKeyExit .., and so on. Put these equations in, and the claim is one about the functions.
+--
+-- What rules out a weaker claim, in the order of the ways in which one could slip in:
+--    1 refused calls of some kinds only          `Call` has every call that can be lent one of the tables or given the record: the table reader and writer, the whole opening, the extractor too
+--    2 refused calls on both tables only         each argument is a `KeyTable`, `MessageTable` or `Record` of its own: ours, the copy, or any other
+--    3 refused calls at some places only         `Run` has a `Gap` before every step and one after the last; before the start the record is any record r
+--    4 honest arguments from the definitions     `step` is given what is held and what was heard, and nothing else but S and E
+--    5 the verdicts alone equal                  `SameAsWhole` has commitment, round elements, final element, verdict, both tables, and that no step is refused
+--    6 "refused" as "unchanged"                  `Gap` asks for a number that is not 0; that nothing changes is proved (Refused)
+--    7 the root vector and not the call          `ExtractionClaim` is about `extractRefusal` and `extractExit`, the call's number and its slice at exit
+--    8 acceptance by code or node by node        `FullTree` asks for `Accepted` of every path, a record of equations over a transcript; the recursion is proved equal (TreeCheck)
+--    9 an honest prover in the tree              `FullTree` says nothing of where rounds, challenges and leaves come from; `FoldsOf` asks for no bound on m, and for one m
+--   10 leaves or m as machine numbers            they are lists over ℤ
+--   11 L ≥ 1, or some degrees                    `Valid` has L from 0 to 8 and every listed degree; the proofs are over d = 2^D and never split on L
+--   12 two theorems                              one type, one name, below
+--   13 hypotheses carried by a `requires`        no public function has one
+use Rattle.protocol.specs.Demand3.{Demand3}
+use Rattle.claims.proofs.Opening.{opening-claim}
+use Rattle.claims.proofs.Extractor.{extraction-claim}
+
+pub demand3 : Demand3
+demand3 S G ok key-ok = record {
+  opening = opening-claim S G ok key-ok;
+  extraction = λ C rounds E finals w tree room long. extraction-claim S ok G C rounds E finals w key-ok tree room long;
+}

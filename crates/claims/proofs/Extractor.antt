@@ -1,0 +1,121 @@
+-- Demand 3's claim on trees: the extractor refuses no full tree, and what it gives is the root's vector, within its bound, opens 4^L times the commitment, satisfies the judge, and is 4^L·m where the leaves are folds of m.
+use mathlib.Core.Path.{_≡_, sym, ap, _∙_, subst}
+use mathlib.Core.Logic.{_≢_}
+use mathlib.Core.Bool.{true, false, not}
+use mathlib.Core.List.{List}
+use Prim.Native.Nat.{ℕ, _*_, _<_, _≤_}
+use native.Mathlib.Nat as Nat
+use native.Mathlib.Omega.{arith}
+use borrow.Author.Tests.{eq-eqb, ne-eqb, le-leb, lt-ltb}
+use lib.Dec.{eqb}
+use lib.ListN.{length}
+use lib.IntN.{ℤ}
+use Rattle.protocol.specs.declared.Settings.{Settings}
+use Rattle.protocol.specs.Basic.{every, granted}
+use Rattle.protocol.specs.Element.{signed}
+use Rattle.protocol.specs.Settings.{size, cells, sized, residues, residueElement, exponent, exponents}
+use Rattle.protocol.specs.Transcript.{accepted}
+use Rattle.protocol.specs.Tree.{nodes, leaves, leaf, path, challenge, apart, rootVector, growth, growthLimit, grows}
+use Rattle.protocol.specs.Judge.{slack, slackAllowed, opens, judged, Opens}
+use Rattle.protocol.specs.Calls.{everyPath, extractRefusal, extractExit, judgeRefusal, judgeAnswer}
+use Rattle.protocol.specs.Inputs.{Valid, Below, Within}
+use Rattle.protocol.specs.Demand3.{FullTree, ExtractionClaim}
+use Rattle.protocol.proofs.Tests.{and-intro, every-intro, first-nothing, zero-first, zero-unless}
+use Rattle.protocol.proofs.Inputs.{valid-settings, below-tested, below-sized, within-tested, within-sized}
+use Rattle.protocol.proofs.Acceptance.{accepted-test}
+use Rattle.claims.proofs.Bounds.{Bounded}
+use Rattle.claims.proofs.Honest.{degree-positive}
+use Rattle.claims.proofs.Weights.{Triple, node-triple}
+use Rattle.claims.proofs.Extraction.{extracts}
+use Rattle.claims.proofs.Exactness.{exact}
+use Rattle.claims.proofs.Growth.{root-within}
+
+-- 1 ≤ 4^L ≤ 65,536 for L ≤ 8
+slack-allowed : (S : Settings) → S .depth ≤ 8 → slackAllowed S (slack S) ≡ true
+unfolding slackAllowed slack
+slack-allowed S l = and-intro (le-leb _ _ (Nat.one-le-pow (S .depth) 4 (omega arith))) (le-leb _ _ (Nat.pow-le-pow-right (omega arith) l))
+
+differ : (a b : ℕ) → a ≢ b → not (eqb a b) ≡ true
+differ a b ne = ap not (ne-eqb a b ne)
+
+module _ (S : Settings) (ok : Valid S) (G C rounds E : List ℕ) (finals w : List ℤ) (key-ok : Below (S .modulus) (cells S) G) (tree : FullTree S G C rounds E finals) (room : growth S ≤ growthLimit) where
+  open Settings S using (degree as d, depth as L, modulus as q)
+
+  abbrev root : List ℤ
+  root = rootVector S E finals
+
+  paths-accepted : everyPath S C G rounds E finals ≡ true
+  unfolding everyPath
+  paths-accepted = every-intro (λ j l. accepted-test S G _ (tree .accepted j l))
+
+  challenges-apart : every (nodes S) (apart E) ≡ true
+  unfolding apart
+  challenges-apart = every-intro (λ k l. let t = tree .different k l in and-intro (and-intro (differ _ _ (t .0)) (differ _ _ (t .1))) (differ _ _ (t .2)))
+
+  commitment-tested : residueElement S C ≡ true
+  unfolding residueElement
+  commitment-tested = every-intro (λ k l. lt-ltb _ _ (tree .commitment-below k l))
+
+  growth-tested : grows S ≡ true
+  unfolding grows
+  growth-tested = le-leb _ _ room
+
+  triples : (k : ℕ) → k < nodes S → Triple d (challenge E k 0) (challenge E k 1) (challenge E k 2)
+  triples = node-triple S E (tree .challenges-below) (tree .different)
+
+  -- ---- the root's vector
+
+  leaf-small : (j : ℕ) → j < leaves S → Bounded d (size S * S .bound) (signed (leaf S finals j))
+  unfolding path
+  leaf-small j l = tree .accepted j l .in-bound
+
+  in-bound : Within (growth S) (cells S) root
+  in-bound = root-within S (degree-positive S ok) E finals leaf-small
+
+  root-opens : Opens S G C (slack S) root
+  root-opens = extracts S (ok .log) (sym (ok .degree-is)) (ok .modulus-odd) C G rounds E finals triples paths-accepted
+
+  judge-granted : judgeRefusal S C (slack S) G root ≡ 0
+  unfolding judgeRefusal residues
+  judge-granted =
+      zero-first _ _ (valid-settings S ok)
+      (zero-first _ _ (zero-unless 7 _ (and-intro (below-sized q (cells S) G key-ok) (within-sized (growth S) (cells S) root in-bound)))
+      (zero-first _ _ (zero-unless 8 _ (and-intro (below-tested q (cells S) G key-ok) commitment-tested))
+      (zero-first _ _ (zero-unless 14 _ growth-tested)
+      (zero-first _ _ (zero-unless 15 _ (slack-allowed S (ok .depth-most))) first-nothing))))
+
+  judge-yes : judged S G C (slack S) root ≡ true
+  unfolding judged opens
+  judge-yes = and-intro (every-intro (λ k l. eq-eqb _ _ (root-opens k l))) (within-tested (growth S) (cells S) root in-bound)
+
+  judge-says : judgeAnswer S C (slack S) G root ≡ record { number = 0; yes = true }
+  unfolding judgeAnswer granted
+  judge-says = λ i. record { number = judge-granted i; yes = granted (judge-granted i) (judge-yes i) false }
+
+  -- ---- the call
+
+  module _ (long : length w ≡ cells S) where
+    extract-granted : extractRefusal S C G rounds E finals w ≡ 0
+    unfolding extractRefusal residues exponents exponent sized
+    extract-granted =
+        zero-first _ _ (valid-settings S ok)
+        (zero-first _ _ (zero-unless 7 _ (and-intro (and-intro (and-intro (and-intro (below-sized q (cells S) G key-ok) (below-sized q (3 * nodes S * d) rounds (tree .rounds-below))) (below-sized (2 * d) (3 * nodes S) E (tree .challenges-below))) (eq-eqb _ _ (tree .finals-long))) (eq-eqb _ _ long)))
+        (zero-first _ _ (zero-unless 8 _ (and-intro (and-intro (below-tested q (cells S) G key-ok) commitment-tested) (below-tested q (3 * nodes S * d) rounds (tree .rounds-below))))
+        (zero-first _ _ (zero-unless 10 _ (below-tested (2 * d) (3 * nodes S) E (tree .challenges-below)))
+        (zero-first _ _ (zero-unless 12 _ challenges-apart)
+        (zero-first _ _ (zero-unless 13 _ paths-accepted)
+        (zero-first _ _ (zero-unless 14 _ growth-tested) first-nothing))))))
+
+    exit-root : extractExit S C G rounds E finals w ≡ root
+    unfolding extractExit granted
+    exit-root = ap (λ n. granted n root w) extract-granted
+
+    pub extraction-claim : ExtractionClaim S G C rounds E finals w
+    extraction-claim = record {
+      not-refused = extract-granted;
+      is-root-vector = exit-root;
+      in-bound = subst (Within (growth S) (cells S)) (sym exit-root) in-bound;
+      opens = subst (Opens S G C (slack S)) (sym exit-root) root-opens;
+      judge-says-yes = ap (judgeAnswer S C (slack S) G) exit-root ∙ judge-says;
+      exact = λ m f. exit-root ∙ exact S (ok .log) (sym (ok .degree-is)) E finals m triples (f .long) (f .each);
+    }

@@ -1,0 +1,2 @@
+pub mod TreeCheck
+pub mod GrowthTest

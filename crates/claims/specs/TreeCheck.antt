@@ -1,0 +1,51 @@
+-- The check of a whole tree node by node: each node hands its next claim and its folded key to its children, so that no fold is done twice.
+-- Document 01 accepts a tree path by path; proofs/TreeCheck shows that the two are one test.
+--
+--   nodeElement S rounds k j          c_j of node k
+--   foldedEnding S folded f           half^L·f·G', G' being the first element of the folded key
+--   claimTo S rounds E k j            the claim that node k hands to its child j
+--   nodeHolds S rounds k claim        does the round of node k hold
+--   leafAccepted S finals k ..        is the end met at the leaf that has number k
+--   treeAccepted S rounds .. h k t    is every path accepted from node k on, which is h steps above the leaves, with t rounds done, its claim and the folded key
+use mathlib.Core.Bool.{Bool, _&&_}
+use mathlib.Core.List.{List}
+use Prim.Native.Nat.{ℕ, zero, suc, _+_, _*_, _-_, _^_}
+use lib.Dec.{eqb}
+use lib.ListN.{getD}
+use lib.IntN.{ℤ, pos, _*ℤ_}
+use Rattle.protocol.specs.declared.Settings.{Settings}
+use Rattle.protocol.specs.Basic.{every}
+use Rattle.protocol.specs.Element.{Element, modulo, product, signed, residueAt}
+use Rattle.protocol.specs.Settings.{half}
+use Rattle.protocol.specs.Opening.{foldKey}
+use Rattle.protocol.specs.Transcript.{roundHolds, nextClaim, finalBounded}
+use Rattle.protocol.specs.Tree.{child, challenge, nodes, leaf}
+
+module _ (S : Settings) where
+  open Settings S using (degree as d, depth as L, modulus as q)
+
+  unfoldable pub nodeElement : List ℕ → ℕ → ℕ → Element
+  nodeElement rounds k j = residueAt d rounds (3 * k + j)
+
+  unfoldable pub foldedEnding : List ℕ → Element → ℕ → ℕ
+  foldedEnding folded f k = modulo q (pos (half S ^ L) *ℤ product d f (residueAt d folded 0) k)
+
+  unfoldable pub claimTo : List ℕ → List ℕ → ℕ → ℕ → List ℕ
+  claimTo rounds E k j = nextClaim S (challenge E k j) (nodeElement rounds k 0) (nodeElement rounds k 1) (nodeElement rounds k 2)
+
+  unfoldable pub nodeHolds : List ℕ → ℕ → List ℕ → Bool
+  nodeHolds rounds k claim = roundHolds S claim (nodeElement rounds k 0) (nodeElement rounds k 2)
+
+  unfoldable pub foldedEndHolds : List ℕ → List ℕ → Element → Bool
+  foldedEndHolds folded claim f = every d (λ k. eqb (getD claim k 0) (foldedEnding folded f k))
+
+  unfoldable pub leafAccepted : List ℤ → ℕ → List ℕ → List ℕ → Bool
+  leafAccepted finals k claim folded = finalBounded S (signed (leaf S finals (k - nodes S))) && foldedEndHolds folded claim (signed (leaf S finals (k - nodes S)))
+
+  unfoldable pub treeAccepted : List ℕ → List ℕ → List ℤ → ℕ → ℕ → ℕ → List ℕ → List ℕ → Bool
+  treeAccepted rounds E finals zero k t claim key = leafAccepted finals k claim key
+  treeAccepted rounds E finals (suc h) k t claim key =
+      nodeHolds rounds k claim
+      && (treeAccepted rounds E finals h (child k 0) (suc t) (claimTo rounds E k 0) (foldKey S t (challenge E k 0) key)
+      && (treeAccepted rounds E finals h (child k 1) (suc t) (claimTo rounds E k 1) (foldKey S t (challenge E k 1) key)
+      && treeAccepted rounds E finals h (child k 2) (suc t) (claimTo rounds E k 2) (foldKey S t (challenge E k 2) key)))

@@ -1,0 +1,1 @@
+// Drawn cases of the definitions, in proofs/. No function stands here.

@@ -1,0 +1,102 @@
+-- The loop keeps: the key is folded by the first t challenges.
+use mathlib.Core.Path.{_≡_, refl, sym, ap, _∙_}
+use Prim.Native.Nat.{ℕ, _+_, _-_, _≤_, _<_}
+use native.Mathlib.Numerals.{add-one}
+use native.Mathlib.Omega.{arith}
+use lib.ListN.{getD, length}
+use Rattle.protocol.specs.Settings.{settingsRefusal, cells}
+use Rattle.protocol.specs.Opening.{foldResidues, keyAfter, foldKey}
+use Rattle.equations.proofs.Halves.{key-foldable}
+use Rattle.equations.proofs.Ready.{ready}
+use borrow.Author.Needs.{needs}
+use Rattle.equations.proofs.keys.fold_rounds.Statement.{statement}
+use Rattle.equations.proofs.keys.fold_rounds.Tie as tie
+
+abbrev Inv-loop : tie.InvT-loop
+Inv-loop settings challenges key₀ rounds t₀ key t = (t ≤ settings .depth) × (settings .depth ≤ 8) × (settings .depth ≤ length challenges) × (settingsRefusal settings ≡ 0 → length key₀ ≡ cells settings → key ≡ keyAfter settings challenges t key₀) × (length key ≡ length key₀)
+
+abbrev μ-loop : tie.MeasureT-loop
+μ-loop settings challenges key₀ rounds t₀ key t = settings .depth - t
+
+returns : tie.Need-returns Inv-loop μ-loop
+returns c = λ e l m. absurd (let r = ready _ e in omega arith)
+
+cast-if2 : tie.Need-cast-if2 Inv-loop μ-loop
+cast-if2 c = search needs
+
+returns-2 : tie.Need-returns-2 Inv-loop μ-loop
+returns-2 c = λ e l m. absurd (omega arith)
+
+loop-holds : tie.Need-loop-holds Inv-loop μ-loop
+unfolding keyAfter
+loop-holds c = (omega arith, omega arith, omega arith, (λ e l. refl), search needs)
+
+half-left-requires : tie.Need-half-left-requires Inv-loop μ-loop
+half-left-requires c κs = search needs
+
+cast-e : tie.Need-cast-e Inv-loop μ-loop
+cast-e c = search needs
+
+mul-e : tie.Need-mul-e Inv-loop μ-loop
+mul-e c = search needs
+
+shared-slice-read-e : tie.Need-shared-slice-read-e Inv-loop μ-loop
+shared-slice-read-e c = search needs
+
+fold-residues-requires : tie.Need-fold-residues-requires Inv-loop μ-loop
+fold-residues-requires c κs = search needs
+
+add-t : tie.Need-add-t Inv-loop μ-loop
+add-t c = search needs
+
+loop-less : tie.Need-loop-less Inv-loop μ-loop
+loop-less c = search needs
+
+loop-again : tie.Need-loop-again Inv-loop μ-loop
+unfolding keyAfter foldKey
+loop-again c =
+    let f = c .before .before .fold-residues in
+    let h = c .before .before .before .before .before .half-left in
+    let l = c .before .before .before .before .before .before .before .loop in
+    let a = c .before .before .before .before .before .before .before .before .before .before .before .before .args in
+    let S = a .settings in (
+      omega arith,
+      omega arith,
+      omega arith,
+      (λ e n.
+          let half = h .ensures e (omega arith) in
+          f .ensures (key-foldable S (ready S e) (l .t) (omega arith) (h .result) (length (l .key)) half (l .inv .4 ∙ n))
+          ∙ (λ i. foldResidues (S .modulus) (S .degree) (half i) (getD (a .challenges .now) (l .t) 0) (l .inv .3 e n i))
+          ∙ ap (λ m. keyAfter S (a .challenges .now) m (a .key .now)) (sym (add-one (l .t)))),
+      f .kept .1 .1 .1 .1 .0 ∙ l .inv .4,
+    )
+
+same-length : tie.Need-same-length Inv-loop μ-loop
+same-length c = search needs
+
+returns-3 : tie.Need-returns-3 Inv-loop μ-loop
+returns-3 c = λ e n m.
+    let l = c .before .loop in
+    let a = c .before .before .before .before .before .before .args in
+    l .inv .3 e n ∙ ap (λ k. keyAfter (a .settings) (a .challenges .now) k (a .key .now)) (omega arith)
+
+pub fold-rounds-spec : {M : Type 1} → statement M
+fold-rounds-spec =
+    tie.close
+    (tie.spec
+    Inv-loop
+    μ-loop
+    returns
+    cast-if2
+    returns-2
+    loop-holds
+    half-left-requires
+    cast-e
+    mul-e
+    shared-slice-read-e
+    fold-residues-requires
+    add-t
+    loop-less
+    loop-again
+    same-length
+    returns-3)

@@ -1,0 +1,74 @@
+use mathlib.Core.Path.{_≡_, refl, sym, ap, _∙_}
+use mathlib.Core.List.{_++_}
+use native.Mathlib.Omega.{arith}
+use lib.ListN.{length, take, drop}
+use lib.Seq.{length-take-le, length-front, take-at}
+use Rattle.protocol.specs.Opening.{keyAfter}
+use Rattle.protocol.proofs.Inputs.{settings-valid}
+use Rattle.claims.proofs.Tables.{key-length}
+use Rattle.sizes.proofs.Limits.{cells-most, degree-most, degree-inside}
+use Rattle.arithmetic.specs.Elements.{elementAt}
+use Rattle.arithmetic.proofs.Padding.{element-front}
+use borrow.Author.Needs.{needs}
+use Rattle.equations.proofs.keys.folded_key.Statement.{statement}
+use Rattle.equations.proofs.keys.folded_key.Tie as tie
+
+returns : tie.Need-returns
+returns c = λ e l m. absurd (omega (arith, cells-most _ (settings-valid _ e)))
+
+room-requires : tie.Need-room-requires
+room-requires c κs = search needs
+
+slice-aggregate-copy : tie.Need-slice-aggregate-copy
+slice-aggregate-copy c = search needs
+
+copy-requires : tie.Need-copy-requires
+copy-requires c κs = search needs
+
+array-borrow-prefix-folded : tie.Need-array-borrow-prefix-folded
+array-borrow-prefix-folded c = search needs
+
+slice-aggregate-fold-rounds : tie.Need-slice-aggregate-fold-rounds
+slice-aggregate-fold-rounds c = sym (length-take-le _ _ (omega (arith, c .before .before .copy .kept .1 .0)))
+
+fold-rounds-requires : tie.Need-fold-rounds-requires
+fold-rounds-requires c κs = search needs
+
+slice-aggregate-element-at : tie.Need-slice-aggregate-element-at
+slice-aggregate-element-at c =
+    let f = c .before .before .fold-rounds in
+    let m = c .before .before .before .before .before .copy in
+    sym (length-front (m .last .1 .0) (f .last .1 .1 .0) (length (c .before .before .before .before .before .before .before .before .before .before .before .args .key .now)) (f .kept .1 .1 .0) ∙ m .kept .1 .0 ∙ omega arith)
+
+element-at-requires : tie.Need-element-at-requires
+element-at-requires c κs = search needs
+
+returns-2 : tie.Need-returns-2
+returns-2 c = λ e l m.
+    let f = c .before .before .before .fold-rounds in
+    let w = c .before .before .before .before .before .before .copy in
+    let a = c .before .before .before .before .before .before .before .before .before .before .before .before .args in
+    let S = a .settings in
+    let ok = settings-valid S e in
+    let key = a .key .now in
+    let K = keyAfter S (a .challenges .now) (S .depth) key in
+    let own : take (length key) (w .last .1 .0) ≡ key = ap (take (length key)) (w .ensures) ∙ take-at key _ (length key) refl in
+    let folded : f .last .1 .1 .0 ≡ K = f .ensures e (ap length own ∙ l) m ∙ ap (keyAfter S (a .challenges .now) (S .depth)) own in
+    c .element-at .ensures (degree-most S ok)
+    ∙ ap (λ s. elementAt (S .degree) (s ++ drop (length key) (w .last .1 .0)) 0) folded
+    ∙ element-front (S .degree) K (drop (length key) (w .last .1 .0)) (omega (arith, key-length S (a .challenges .now) (S .depth) key l, degree-inside S ok))
+
+pub folded-key-spec : {M : Type 1} → statement M
+folded-key-spec =
+    tie.close
+    (tie.spec
+    returns
+    room-requires
+    slice-aggregate-copy
+    copy-requires
+    array-borrow-prefix-folded
+    slice-aggregate-fold-rounds
+    fold-rounds-requires
+    slice-aggregate-element-at
+    element-at-requires
+    returns-2)

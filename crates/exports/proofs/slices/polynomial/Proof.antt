@@ -1,0 +1,35 @@
+use mathlib.Core.List.{[], _∷_}
+use native.Mathlib.Omega.{arith}
+use Rattle.protocol.specs.Element.{width}
+use Rattle.exports.specs.Slices.{placedPolynomial}
+use borrow.Author.Needs.{needs}
+use Rattle.exports.proofs.slices.polynomial.Statement.{statement}
+use Rattle.exports.proofs.slices.polynomial.Tie as tie
+use Rattle.exports.proofs.slices.polynomial.Reads as reads
+use Rattle.exports.proofs.slices.polynomial.Lts as lts
+use Rattle.arithmetic.proofs.elements.element_at.Reads as element-at-reads
+
+-- src/slices.rt:88:9
+element-at-requires : tie.Need-element-at-requires
+element-at-requires c κs = search needs
+
+-- src/slices.rt:89:9
+element-at-requires-2 : tie.Need-element-at-requires-2
+element-at-requires-2 c κs = search needs
+
+-- src/slices.rt:90:9
+element-at-requires-3 : tie.Need-element-at-requires-3
+element-at-requires-3 c κs = search needs
+
+-- src/slices.rt:85:1
+returns : tie.Need-returns
+unfolding placedPolynomial width
+returns c =
+    let c0 = c .before .before .element-at .ensures (omega arith) in
+    let c1 = c .before .element-at2 .ensures (omega arith) in
+    let c2 = c .element-at3 .ensures (omega arith) in
+    λ i. c0 i ∷ c1 i ∷ c2 i ∷ []
+
+pub polynomial-spec : {M : Type 1} → statement M
+polynomial-spec =
+    tie.close (tie.spec element-at-requires element-at-requires-2 element-at-requires-3 returns)

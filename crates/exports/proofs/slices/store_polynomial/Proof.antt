@@ -1,0 +1,60 @@
+use mathlib.Core.Path.{ap, _∙_}
+use mathlib.Core.List.{[]}
+use lib.ListN.{getD}
+use Rattle.protocol.specs.Session.{part}
+use Rattle.exports.specs.Slices.{storedAt, storedPolynomial}
+use borrow.Author.Needs.{needs}
+use Rattle.exports.proofs.slices.store_polynomial.Statement.{statement}
+use Rattle.exports.proofs.slices.store_polynomial.Tie as tie
+use Rattle.exports.proofs.slices.store_polynomial.Reads as reads
+use Rattle.exports.proofs.slices.store_polynomial.Lts as lts
+use Rattle.exports.proofs.slices.store_at.Reads as store-at-reads
+
+-- src/slices.rt:79:14
+array-copy-out-store-at : tie.Need-array-copy-out-store-at
+array-copy-out-store-at c = search needs
+
+-- src/slices.rt:79:5
+store-at-requires : tie.Need-store-at-requires
+store-at-requires c κs = search needs
+
+-- src/slices.rt:80:14
+array-copy-out-store-at-2 : tie.Need-array-copy-out-store-at-2
+array-copy-out-store-at-2 c = search needs
+
+-- src/slices.rt:80:5
+store-at-requires-2 : tie.Need-store-at-requires-2
+store-at-requires-2 c κs = search needs
+
+-- src/slices.rt:81:14
+array-copy-out-store-at-3 : tie.Need-array-copy-out-store-at-3
+array-copy-out-store-at-3 c = search needs
+
+-- src/slices.rt:81:5
+store-at-requires-3 : tie.Need-store-at-requires-3
+store-at-requires-3 c κs = search needs
+
+-- src/slices.rt:75:1
+same-length : tie.Need-same-length
+same-length c = search needs
+
+-- src/slices.rt:75:1
+returns : tie.Need-returns
+unfolding storedPolynomial part
+returns c =
+    let p = c .before .before .before .before .before .before .before .before .before .before .before .before .before .before .before .before .args .t1 in
+    c .before .before .store-at3 .ensures
+    ∙ ap (storedAt (getD p 2 []) 128) (c .before .before .before .before .before .before .before .store-at2 .ensures ∙ ap (storedAt (getD p 1 []) 64) (c .before .before .before .before .before .before .before .before .before .before .before .before .store-at .ensures))
+
+pub store-polynomial-spec : {M : Type 1} → statement M
+store-polynomial-spec =
+    tie.close
+    (tie.spec
+    array-copy-out-store-at
+    store-at-requires
+    array-copy-out-store-at-2
+    store-at-requires-2
+    array-copy-out-store-at-3
+    store-at-requires-3
+    same-length
+    returns)

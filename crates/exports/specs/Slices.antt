@@ -1,0 +1,39 @@
+-- How the calls for C and Rust read and write numbers and slices.
+--
+--   given d L q B          the settings with these numbers
+--   placed z t             the element by value that a slice stands for: its first 64 numbers, z for each that it does not have
+--   stored z a t           the slice t after the element a was written to its front
+--   storedAt a at t        the slice t after the element a was written to it from place `at` on
+--   placedPolynomial t     the round polynomial that a slice stands for: three elements, 64 places each, the missing ones 0
+--   storedPolynomial p t   the slice t after the round polynomial p was written to its front
+--   short                  the answer where a slice for an element or a record is too short
+use mathlib.Core.List.{List, [], _∷_, _++_}
+use Prim.Native.Nat.{ℕ}
+use lib.ListN.{getD, drop}
+use Rattle.protocol.specs.declared.Settings.{Settings}
+use Rattle.protocol.specs.Basic.{tabulate}
+use Rattle.protocol.specs.Element.{width}
+use Rattle.protocol.specs.Session.{part}
+use Rattle.arithmetic.specs.Elements.{elementAt}
+use Rattle.arithmetic.specs.Folds.{spliced}
+
+abbrev pub given : ℕ → ℕ → ℕ → ℕ → Settings
+given d L q B = record { degree = d; depth = L; modulus = q; bound = B }
+
+unfoldable pub placed {ℓ} : {A : Type ℓ} → A → List A → List A
+placed z t = tabulate width (λ k. getD t k z)
+
+unfoldable pub stored {ℓ} : {A : Type ℓ} → A → List A → List A → List A
+stored z a t = placed z a ++ drop width t
+
+unfoldable pub storedAt : List ℕ → ℕ → List ℕ → List ℕ
+storedAt a at t = spliced (λ k. getD a k 0) at width t
+
+unfoldable pub placedPolynomial : List ℕ → List (List ℕ)
+placedPolynomial t = elementAt width t 0 ∷ elementAt width t 1 ∷ elementAt width t 2 ∷ []
+
+unfoldable pub storedPolynomial : List (List ℕ) → List ℕ → List ℕ
+storedPolynomial p t = storedAt (part p 2) 128 (storedAt (part p 1) 64 (storedAt (part p 0) 0 t))
+
+unfoldable pub short : ℕ
+short = 100

@@ -1,0 +1,11 @@
+pub mod Words
+pub mod Rotations
+pub mod Filling
+pub mod Norms
+pub mod Rows
+pub mod Powers
+pub mod Mu
+pub mod Splicing
+pub mod Parts
+pub mod Shares
+pub mod Nodes

@@ -1,0 +1,20 @@
+-- A 32-bit number fits 64 bits.
+use native.Mathlib.Omega.{arith}
+use borrow.Author.Needs.{needs}
+use Rattle.extraction.proofs.vectors.exponent.Statement.{statement}
+use Rattle.extraction.proofs.vectors.exponent.Tie as tie
+
+mul-result : tie.Need-mul-result
+mul-result c = search needs
+
+shared-slice-read-result : tie.Need-shared-slice-read-result
+shared-slice-read-result c = search needs
+
+cast-result : tie.Need-cast-result
+cast-result c = omega (arith, c .shared-slice-known .given (c .before .args .i))
+
+returns : tie.Need-returns
+returns c = search needs
+
+pub exponent-spec : {M : Type 1} → statement M
+exponent-spec = tie.close (tie.spec mul-result shared-slice-read-result cast-result returns)

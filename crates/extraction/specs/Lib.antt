@@ -1,0 +1,4 @@
+pub mod Bounds
+pub mod Steps
+pub mod Vectors
+pub mod Nodes

@@ -1,0 +1,66 @@
+-- What the steps on a node's vector leave.
+--
+--   spliced at d n F l    the list l with n elements of d numbers from place `at` on replaced: number k of element i by F i k
+--   scaled d n m v        v with each of its first n elements multiplied by m
+--   turned d n e to l     l with X^e times each of its first n elements added to those from place `to` on
+--   Turnable d n e to l   the places are there, and the sums fit
+--   withShare d n e m v R a node's vector R, of 2n elements, with μ·v added to its first half and X^e·μ·v to its second, μ being m
+--   Sharing d n a b c l   a child's vector, of n elements, then the node's: the exponents are exponents, and the sums fit
+--   branchAdded d n k ..  the node's vector after the share of child j at node k, the child's vector standing before it
+--   Branching d n k ..    the list is n free elements, the child's vector and the node's; the challenges of node k are there
+use mathlib.Core.Path.{_≡_}
+use mathlib.Core.List.{List, _++_}
+use Prim.Native.Nat.{ℕ, _+_, _*_, _-_, _^_, _<_, _≤_}
+use lib.ListN.{length, getD, take, drop}
+use lib.IntN.{ℤ, pos, natAbs, _+ℤ_}
+use Rattle.protocol.specs.Basic.{flat}
+use Rattle.protocol.specs.Element.{rotate, signedAt}
+use Rattle.protocol.specs.Tree.{challenge, mu, share}
+
+unfoldable pub spliced {ℓ} : {A : Type ℓ} → ℕ → ℕ → ℕ → (ℕ → ℕ → A) → List A → List A
+spliced at d n F l = take at l ++ (flat d n F ++ drop (at + n * d) l)
+
+unfoldable pub scaled : ℕ → ℕ → List ℤ → List ℤ → List ℤ
+scaled d n m v = spliced 0 d n (share d m v) v
+
+unfoldable pub turned : ℕ → ℕ → ℕ → ℕ → List ℤ → List ℤ
+turned d n e to l = spliced to d n (λ i k. getD l (to + (i * d + k)) (pos 0) +ℤ rotate d e (signedAt d l i) k) l
+
+pub record Turnable (d n e to : ℕ) (l : List ℤ) : Type 0 where
+  pub some : 0 < d
+  pub small : d ≤ 64
+  pub exponent : e < 2 * d
+  pub apart : n * d ≤ to
+  pub inside : to + n * d ≤ length l
+  pub bound : ℕ
+  pub bound-to : ℕ
+  pub within : (j : ℕ) → j < n * d → natAbs (getD l j (pos 0)) ≤ bound
+  pub within-to : (j : ℕ) → to ≤ j → natAbs (getD l j (pos 0)) ≤ bound-to
+  pub room : bound-to + bound ≤ 2 ^ 62
+
+unfoldable pub withShare : ℕ → ℕ → ℕ → List ℤ → List ℤ → List ℤ → List ℤ
+withShare d n e m v R =
+    flat d n (λ i k. signedAt d R i k +ℤ share d m v i k) ++ flat d n (λ i k. signedAt d R (n + i) k +ℤ rotate d e (share d m v i) k)
+
+pub record Sharing (d n a b c : ℕ) (l : List ℤ) : Type 0 where
+  pub some : 0 < d
+  pub small : d ≤ 64
+  pub exponent : a < 2 * d
+  pub others : (b < 2 * d) × (c < 2 * d)
+  pub long : length l ≡ 3 * (n * d)
+  pub bound : ℕ
+  pub bound-node : ℕ
+  pub within : (j : ℕ) → j < n * d → natAbs (getD l j (pos 0)) ≤ bound
+  pub within-node : (j : ℕ) → n * d ≤ j → natAbs (getD l j (pos 0)) ≤ bound-node
+  pub room : bound-node + d * d * 2 * bound ≤ 2 ^ 62
+
+module _ (d n k j x y : ℕ) (E : List ℕ) where
+  unfoldable pub branchAdded : List ℤ → List ℤ
+  branchAdded ws =
+      withShare d n (challenge E k j) (mu d (challenge E k j) (challenge E k x) (challenge E k y)) (take (n * d) (drop (n * d) ws)) (drop (n * d) (drop (n * d) ws))
+
+  pub record Branching (ws : List ℤ) : Type 0 where
+    pub children : (j < 3) × (x < 3) × (y < 3)
+    pub inside : 3 * k + 3 ≤ length E
+    pub long : length ws ≡ 4 * (n * d)
+    pub sharing : Sharing d n (challenge E k j) (challenge E k x) (challenge E k y) (drop (n * d) ws)

@@ -1,0 +1,3 @@
+// The extractor and the judge of relaxed openings.
+mod elements;
+mod vectors;

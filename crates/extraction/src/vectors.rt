@@ -1,0 +1,185 @@
+// The vectors of a tree's nodes, over whole numbers: flat lists of elements, d numbers each.
+use crate::elements::accumulate;
+use crate::elements::extension;
+use crate::elements::mu_element;
+use crate::elements::multiply;
+use protocol::Settings;
+ghost use mathlib.Core.Path.{_≡_};
+ghost use Prim.Native.Nat.{_+_, _*_, _-_, _^_, _<_, _≤_};
+ghost use lib.ListN.{length, getD, take, drop};
+ghost use Rattle.protocol.specs.Element.{signed, signedAt, coefficients, signedZeros};
+ghost use Rattle.protocol.specs.Tree.{mu, vector};
+ghost use Rattle.extraction.specs.Bounds.{Factors};
+ghost use Rattle.extraction.specs.Steps.{filled};
+ghost use Rattle.extraction.specs.Vectors.{scaled, turned, Turnable, withShare, Sharing, Branching, branchAdded};
+ghost use Rattle.extraction.specs.Nodes.{Extractable, AtNode};
+
+// Copies the first d numbers of a.
+fn store(d: usize, a: &[i64; 64], out: &mut [i64])
+    requires { ⌜ (d ≤ 64) × (d ≤ length (now out)) ⌝ }
+    ensures { λ _. ⌜ now (out .exit) ≡ filled d (signed (now (a .entry))) (now (out .entry)) ⌝ }
+{
+    for k in 0..d {
+        out[k] = a[k];
+    }
+}
+
+// Multiplies each of the first n elements of v by m.
+fn scale(d: usize, n: usize, m: &[i64; 64], v: &mut [i64])
+    requires { ⌜ (0 < d) × (d ≤ 64) × (n * d ≤ length (now v)) × Factors d (now m) (now v) ⌝ }
+    ensures { λ _. ⌜ now (v .exit) ≡ scaled d n (now (m .entry)) (now (v .entry)) ⌝ }
+{
+    for i in 0..n {
+        let at = i * d;
+        let p = multiply(d, m, &v[at..]);
+        store(d, &p, &mut v[at..]);
+    }
+}
+
+// Adds X^e times each of the first n elements to those from place `to` on.
+fn add_turned(d: usize, n: usize, e: usize, to: usize, l: &mut [i64])
+    requires { ⌜ Turnable d n e to (now l) ⌝ }
+    ensures { λ _. ⌜ now (l .exit) ≡ turned d n e to (now (l .entry)) ⌝ }
+{
+    let from = 2 * d - e;
+    for i in 0..n {
+        let at = i * d;
+        let end = at + d;
+        let u = extension(d, &l[at..end]);
+        let into = to + at;
+        accumulate(d, 1, &u[from..], &mut l[into..]);
+    }
+}
+
+// Adds one child's share to a node's vector. The list is the child's vector, n elements, which is used up, and the node's, twice as long.
+// X^a is the challenge that leads to the child, X^b and X^c are the other two.
+fn add_share(d: usize, n: usize, a: usize, b: usize, c: usize, l: &mut [i64])
+    requires { ⌜ Sharing d n a b c (now l) ⌝ }
+    ensures { λ _. ⌜ drop (n * d) (now (l .exit)) ≡ withShare d n a (mu d a b c) (take (n * d) (now (l .entry))) (drop (n * d) (now (l .entry))) ⌝ }
+{
+    let m = mu_element(d, a, b, c);
+    let cells = n * d;
+    scale(d, n, &m, &mut l[..cells]);
+    add_turned(d, n, 0, cells, l);
+    add_turned(d, n, a, 2 * cells, l);
+}
+
+fn clear(l: &mut [i64])
+    ensures { λ _. ⌜ now (l .exit) ≡ signedZeros (length (now (l .entry))) ⌝ }
+{
+    let mut i = 0;
+    while i < l.len() {
+        l[i] = 0;
+        i += 1;
+    }
+}
+
+fn widen(x: i32) -> i64
+    ensures { λ r. ⌜ r ≡ x ⌝ }
+{
+    x as i64
+}
+
+// Copies the first d numbers of a final element.
+fn load(d: usize, f: &[i32], out: &mut [i64])
+    requires { ⌜ (d ≤ 64) × (d ≤ length (now f)) × (d ≤ length (now out)) ⌝ }
+    ensures { λ _. ⌜ now (out .exit) ≡ filled d (signed (now (f .entry))) (now (out .entry)) ⌝ }
+{
+    for k in 0..d {
+        out[k] = widen(f[k]);
+    }
+}
+
+// A challenge, as an exponent.
+fn exponent(challenges: &[u32], i: usize) -> usize
+    requires { ⌜ i < length (now challenges) ⌝ }
+    ensures { λ r. ⌜ r ≡ getD (now (challenges .entry)) i 0 ⌝ }
+{
+    challenges[i] as usize
+}
+
+// The share of child j at node k, x and y being the other two children: the child's vector, n elements, stands in the second quarter of ws, the node's in its second half.
+fn add_branch(
+    d: usize,
+    n: usize,
+    k: usize,
+    j: usize,
+    x: usize,
+    y: usize,
+    challenges: &[u32],
+    ws: &mut [i64],
+)
+    requires { ⌜ Branching d n k j x y (now challenges) (now ws) ⌝ }
+    ensures { λ _. ⌜ drop (2 * (n * d)) (now (ws .exit)) ≡ branchAdded d n k j x y (now (challenges .entry)) (now (ws .entry)) ⌝ }
+{
+    let i = 3 * k;
+    let a = exponent(challenges, i + j);
+    let b = exponent(challenges, i + x);
+    let c = exponent(challenges, i + y);
+    let cells = n * d;
+    add_share(d, n, a, b, c, &mut ws[cells..]);
+}
+
+// The vector of leaf j, in the second half of ws.
+fn leaf_vector(d: usize, j: usize, leaves: &[i32], ws: &mut [i64])
+    requires { ⌜ (d ≤ 64) × (j * d + d ≤ length (now leaves)) × (length (now ws) ≡ 2 * d) ⌝ }
+    ensures { λ _. ⌜ drop d (now (ws .exit)) ≡ coefficients d (signedAt d (now (leaves .entry)) j) ⌝ }
+{
+    let at = j * d;
+    load(d, &leaves[at..], &mut ws[d..]);
+}
+
+// The vector of node k, h steps above the leaves, in the second half of ws; what the first half then holds is left free.
+pub(crate) fn node(
+    settings: Settings,
+    h: u32,
+    k: usize,
+    first: usize,
+    challenges: &[u32],
+    leaves: &[i32],
+    ws: &mut [i64],
+)
+    requires { ⌜ Extractable settings (now challenges) (now leaves) ⌝ }
+    requires { ⌜ AtNode settings h k first (length (now ws)) ⌝ }
+    ensures { λ _. ⌜ drop (2 ^ h * settings .degree) (now (ws .exit)) ≡ vector settings (now (challenges .entry)) (now (leaves .entry)) h k ⌝ }
+{
+    let d = settings.degree as usize;
+    if h == 0 {
+        leaf_vector(d, k - first, leaves, ws);
+        return;
+    }
+    let half = ws.len() / 2;
+    let n = half / 2 / d;
+    clear(&mut ws[half..]);
+    let i = 3 * k;
+    node(
+        settings,
+        h - 1,
+        i + 1,
+        first,
+        challenges,
+        leaves,
+        &mut ws[..half],
+    );
+    add_branch(d, n, k, 0, 1, 2, challenges, ws);
+    node(
+        settings,
+        h - 1,
+        i + 2,
+        first,
+        challenges,
+        leaves,
+        &mut ws[..half],
+    );
+    add_branch(d, n, k, 1, 0, 2, challenges, ws);
+    node(
+        settings,
+        h - 1,
+        i + 3,
+        first,
+        challenges,
+        leaves,
+        &mut ws[..half],
+    );
+    add_branch(d, n, k, 2, 0, 1, challenges, ws);
+}

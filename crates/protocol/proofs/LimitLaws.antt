@@ -1,0 +1,173 @@
+-- Laws about limits: settings and tables that are not refused have lines in which every number is within the limit of magnitude.
+use mathlib.Core.Path.{_≡_, refl, _∙_}
+use mathlib.Core.Bool.{Bool, true, false, _&&_, and-eq-true-iff}
+use mathlib.Core.List.{List, [], _∷_, _++_, map, flatMap, zipWith}
+use Prim.Native.Nat.{ℕ, zero, suc, _*_, _%_, _<_, _≤_}
+use native.Mathlib.Omega.{arith}
+use native.Mathlib.Nat.{le-trans, zero-mul, pow-le-pow-right, mul-le-mul, div-le-self, mod-le}
+use lib.Dec.{leb, ltb, eqb}
+use lib.IntN.{ℤ, pos, natAbs}
+use borrow.Author.Tests.{leb-true, le-leb, ltb-true}
+use Rattle.protocol.specs.declared.Settings.{Settings}
+use Rattle.protocol.specs.declared.Parts.{Parts}
+use Rattle.protocol.specs.Basic.{tabulate, all, choose, within, first, unless}
+use Rattle.protocol.specs.Settings.{degreeAllowed, depthAllowed, modulusAllowed, boundAllowed, settingsRefusal, size, residues, small}
+use Rattle.protocol.specs.Settings.{exponent, exponents}
+use Rattle.protocol.specs.Text.{Line, Shape, Tables, valueLimit, shape, settingsShape, shapes, shapeSize}
+use Rattle.protocol.specs.Text.{spotAt, contents, block, blockLines}
+use Rattle.protocol.specs.Text.{entriesRefusal}
+use Rattle.protocol.proofs.Tests.{first-zero, unless-zero, all-weaken, all-map, all-getD, among-le}
+use Rattle.protocol.proofs.LineLaws.{Limited, AllLimited}
+
+-- ---- Settings that are not refused
+
+pub record Allowed (S : Settings) : Type 0 where
+  pub degree : S .degree ≤ 64
+  pub depth : S .depth ≤ 8
+  pub modulus : S .modulus ≤ valueLimit
+  pub bound : S .bound ≤ 127
+
+pub allowed : (S : Settings) → settingsRefusal S ≡ 0 → Allowed S
+unfolding settingsRefusal degreeAllowed depthAllowed modulusAllowed boundAllowed valueLimit all
+allowed S h =
+    let (h₃, r₃) = first-zero _ _ h in
+    let (h₄, r₄) = first-zero _ _ r₃ in
+    let (h₅, r₅) = first-zero _ _ r₄ in
+    let (h₆, r₆) = first-zero _ _ r₅ in
+    record {
+      degree = among-le (S .degree) 64 _ refl (unless-zero 2 _ h₃);
+      depth = leb-true (S .depth) 8 (unless-zero 3 _ h₄);
+      modulus = leb-true (S .modulus) 2_147_483_647 (and-eq-true-iff (eqb (S .modulus % 2) 1 && leb 3 (S .modulus)) _ .0 (unless-zero 4 _ h₅) .1);
+      bound = leb-true (S .bound) 127 (and-eq-true-iff (leb 1 (S .bound)) _ .0 (unless-zero 5 _ h₆) .1);
+    }
+
+pub size-le : (S : Settings) → Allowed S → size S ≤ 256
+unfolding size
+size-le S a = pow-le-pow-right {n = 2} (omega arith) {i = S .depth} {j = 8} (a .depth)
+
+-- ---- Lines within the limit of magnitude
+
+pub allLimited-append : (ks ls : List Line) → AllLimited ks → AllLimited ls → AllLimited (ks ++ ls)
+allLimited-append [] ls h k = k
+allLimited-append (l ∷ ks) ls h k = (h .0, allLimited-append ks ls (h .1) k)
+
+tabulate-limited : (n : ℕ) (f : ℕ → Line) → ((p : ℕ) → p < n → Limited (f p)) → AllLimited (tabulate n f)
+unfolding tabulate
+tabulate-limited zero f h = tt
+tabulate-limited (suc n) f h = (h 0 (omega arith), tabulate-limited n (λ i. f (suc i)) (λ p l. h (suc p) (omega arith)))
+
+pub record SmallShape (b : Shape) : Type 0 where
+  pub number : b .part ≤ valueLimit
+  pub lines : shapeSize b ≤ valueLimit
+
+block-limited : (b : Shape) (v : List ℤ) → SmallShape b → all (within valueLimit) v ≡ true → AllLimited (blockLines (block b v))
+unfolding blockLines block spotAt within
+block-limited b v s h =
+    tabulate-limited (shapeSize b) _ λ p l.
+    record {
+      part = s .number;
+      item = omega (arith, div-le-self p (b .places), s .lines);
+      place = omega (arith, mod-le p (b .places), s .lines);
+      value = leb-true _ valueLimit (all-getD (within valueLimit) v p (pos 0) (le-leb 0 valueLimit (omega arith)) h);
+    }
+
+abbrev pub Limits : List Shape → List (List ℤ) → Type 0
+Limits [] vs = Unit {0}
+Limits (b ∷ bs) [] = Unit {0}
+Limits (b ∷ bs) (v ∷ vs) = (SmallShape b × (all (within valueLimit) v ≡ true)) × Limits bs vs
+
+pub lines-limited : (bs : List Shape) (vs : List (List ℤ)) → Limits bs vs → AllLimited (flatMap blockLines (zipWith block bs vs))
+unfolding flatMap zipWith
+lines-limited [] vs h = tt
+lines-limited (b ∷ bs) [] h = tt
+lines-limited (b ∷ bs) (v ∷ vs) h = allLimited-append (blockLines (block b v)) _ (block-limited b v (h .0 .0) (h .0 .1)) (lines-limited bs vs (h .1))
+
+shape-small : (p : ℕ) (there : Bool) (items places : ℕ) → p ≤ valueLimit → items * places ≤ valueLimit → SmallShape (shape p there items places)
+unfolding shape choose shapeSize
+shape-small p true items places h k = record { number = h; lines = k }
+shape-small p false items places h k = record { number = h; lines = omega (arith, zero-mul places) }
+
+-- ---- Tables that are not refused
+
+pub record Passed (S : Settings) (t : Tables) : Type 0 where
+  pub key : residues S (t .key) ≡ true
+  pub commitment : residues S (t .commitment) ≡ true
+  pub rounds : residues S (t .rounds) ≡ true
+  pub message : small (S .bound) (t .message) ≡ true
+  pub challenges : exponents S (t .challenges) ≡ true
+  pub last : all (within valueLimit) (t .last) ≡ true
+
+pub passed : (S : Settings) (lastFits : Bool) (t : Tables) → entriesRefusal S lastFits t ≡ 0
+    → (lastFits ≡ true → all (within valueLimit) (t .last) ≡ true) → Passed S t
+unfolding entriesRefusal
+passed S lastFits t h f =
+    let (h₈, r₈) = first-zero _ _ h in
+    let (h₉, r₉) = first-zero _ _ r₈ in
+    let (h₁₀, r₁₀) = first-zero _ _ r₉ in
+    let (k, cr) = and-eq-true-iff (residues S (t .key)) _ .0 (unless-zero 7 _ h₈) in
+    let (c, r) = and-eq-true-iff (residues S (t .commitment)) _ .0 cr in
+    let (m, l) = and-eq-true-iff (small (S .bound) (t .message)) lastFits .0 (unless-zero 8 _ h₉) in
+    record { key = k; commitment = c; rounds = r; message = m; challenges = unless-zero 9 _ h₁₀; last = f l }
+
+pub unrefused : (S : Settings) (lastFits : Bool) (t : Tables) → Passed S t → lastFits ≡ true → entriesRefusal S lastFits t ≡ 0
+unfolding entriesRefusal first unless
+unrefused S lastFits t p l = rw (p .key, p .commitment, p .rounds, p .message, l, p .challenges)
+
+pub below-limited : (m : ℕ) (v : List ℕ) → m ≤ valueLimit → all (λ x. ltb x m) v ≡ true → all (λ x. leb x valueLimit) v ≡ true
+below-limited m v l h = all-weaken (λ x. ltb x m) (λ x. leb x valueLimit) (λ x e. le-leb x valueLimit (omega (arith, ltb-true x m e))) v h
+
+-- the largest exponent is far below the limit
+pub exponent-le : (S : Settings) → Allowed S → 2 * S .degree ≤ valueLimit
+unfolding valueLimit
+exponent-le S a = omega (arith, a .degree)
+
+residues-limited : (S : Settings) (v : List ℕ) → Allowed S → residues S v ≡ true → all (within valueLimit) (map pos v) ≡ true
+unfolding residues within
+residues-limited S v a h = all-map (within valueLimit) pos v ∙ below-limited (S .modulus) v (a .modulus) h
+
+exponents-limited : (S : Settings) (v : List ℕ) → Allowed S → exponents S v ≡ true → all (within valueLimit) (map pos v) ≡ true
+unfolding exponents exponent within
+exponents-limited S v a h = all-map (within valueLimit) pos v ∙ below-limited (2 * S .degree) v (exponent-le S a) h
+
+small-limited : (S : Settings) (v : List ℤ) → Allowed S → small (S .bound) v ≡ true → all (within valueLimit) v ≡ true
+unfolding small within valueLimit
+small-limited S v a h =
+    all-weaken (within (S .bound)) (within valueLimit) (λ z e. le-leb (natAbs z) valueLimit (omega (arith, leb-true (natAbs z) (S .bound) e, a .bound))) v h
+
+settings-limited : (S : Settings) → Allowed S
+    → all (within valueLimit) (pos (S .degree) ∷ pos (S .depth) ∷ pos (S .modulus) ∷ pos (S .bound) ∷ []) ≡ true
+unfolding all within valueLimit
+settings-limited S a =
+    rw (
+      le-leb (S .degree) 2_147_483_647 (omega (arith, a .degree)),
+      le-leb (S .depth) 2_147_483_647 (omega (arith, a .depth)),
+      le-leb (S .modulus) 2_147_483_647 (a .modulus),
+      le-leb (S .bound) 2_147_483_647 (omega (arith, a .bound)),
+    )
+
+-- the values of parts 0 to 6 and the shapes of parts 0 to 6 are within the limit
+pub contents-limited : (S : Settings) (P : Parts) (t : Tables) → Allowed S → Passed S t → Limits (shapes S P) (contents S t)
+unfolding shapes contents settingsShape valueLimit
+contents-limited S P t a p =
+    let n : size S ≤ 256 = size-le S a in
+    let table : size S * S .degree ≤ 2_147_483_647 = le-trans (mul-le-mul n (a .degree)) (omega arith) in
+    let items : 3 * S .depth ≤ 24 = omega (arith, a .depth) in
+    let rounds : 3 * S .depth * S .degree ≤ 2_147_483_647 = le-trans (mul-le-mul items (a .degree)) (omega arith) in (
+      (shape-small 0 true 1 4 (omega arith) (omega arith), settings-limited S a),
+      (
+        (shape-small 1 (P .key) (size S) (S .degree) (omega arith) table, residues-limited S (t .key) a (p .key)),
+        (
+          (shape-small 2 (P .message) (size S) (S .degree) (omega arith) table, small-limited S (t .message) a (p .message)),
+          (
+            (shape-small 3 (P .commitment) 1 (S .degree) (omega arith) (omega (arith, a .degree)), residues-limited S (t .commitment) a (p .commitment)),
+            (
+              (shape-small 4 (P .round) (3 * S .depth) (S .degree) (omega arith) rounds, residues-limited S (t .rounds) a (p .rounds)),
+              (
+                (shape-small 5 (P .challenge) (S .depth) 1 (omega arith) (omega (arith, a .depth)), exponents-limited S (t .challenges) a (p .challenges)),
+                ((shape-small 6 (P .last) 1 (S .degree) (omega arith) (omega (arith, a .degree)), p .last), tt),
+              ),
+            ),
+          ),
+        ),
+      ),
+    )

@@ -1,0 +1,88 @@
+use mathlib.Core.Path.{_≡_, sym, ap, _∙_}
+use native.Mathlib.Omega.{arith}
+use Rattle.protocol.specs.Element.{width, zeros}
+use Rattle.protocol.specs.Opening.{left}
+use Rattle.protocol.specs.Calls.{commitRefusal}
+use Rattle.sizes.proofs.Limits.{degree-most}
+use Rattle.arithmetic.specs.Products.{reducedSums}
+use Rattle.refusals.proofs.Given.{CommitGiven, commit-given}
+use Rattle.prover.specs.Sums.{innerSums}
+use Rattle.prover.proofs.Products.{commit-tables, commitment-is}
+use Rattle.prover.proofs.Answers.{commit-refused, commit-done}
+use borrow.Author.Needs.{needs}
+use Rattle.prover.proofs.commit.Statement.{statement}
+use Rattle.prover.proofs.commit.Tie as tie
+use Rattle.prover.proofs.commit.Reads as reads
+use Rattle.prover.proofs.commit.Lts as lts
+use Rattle.arithmetic.proofs.products.reduced_sums.Reads as reduced-sums-reads
+use Rattle.prover.proofs.inner.add_inner.Reads as add-inner-reads
+use Rattle.refusals.proofs.commit.Reads as commit-reads
+use Rattle.sizes.proofs.left.Reads as left-reads
+
+passed : (c : tie.Else1) → let a = c .before .before .before .args in commitRefusal (a .settings) (a .key .now) (a .message .now) ≡ 0
+passed c = sym (c .before .commit .ensures) ∙ c .if1 .left
+
+given : (c : tie.Else1) → let a = c .before .before .before .args in CommitGiven (a .settings) (a .key .now) (a .message .now)
+given c = commit-given _ _ _ (passed c)
+
+all : (c : tie.After-left) → c .left .result ≡ left (c .before .before .before .before .args .settings) 0
+all c = c .left .ensures (given (c .before) .tables .allowed) (omega arith)
+
+commit-requires : tie.Need-commit-requires
+commit-requires c κs = search needs
+
+-- src/lib.rt:20:9
+returns : tie.Need-returns
+unfolding zeros width
+returns c = let a = c .before .before .before .args in commit-refused (a .settings) (a .key .now) (a .message .now) _ (c .before .commit .ensures) (c .if1 .taken)
+
+-- src/lib.rt:27:9
+left-requires : tie.Need-left-requires
+left-requires c κs = search needs
+
+-- src/lib.rt:29:45
+slice-aggregate-add-inner : tie.Need-slice-aggregate-add-inner
+slice-aggregate-add-inner c = search needs
+
+-- src/lib.rt:29:5
+add-inner-requires : tie.Need-add-inner-requires
+add-inner-requires c κs =
+    let n = c .before in
+    let a = n .before .before .before .before .args in
+    let g = given (n .before) in
+    (rw (all n) (commit-tables (a .settings) (a .key .now) (a .message .now) g), omega (arith, degree-most (a .settings) (g .tables .settings)))
+
+-- src/lib.rt:30:51
+slice-aggregate-reduced-sums : tie.Need-slice-aggregate-reduced-sums
+slice-aggregate-reduced-sums c = search needs
+
+-- src/lib.rt:30:9
+reduced-sums-requires : tie.Need-reduced-sums-requires
+reduced-sums-requires c κs = search needs
+
+-- src/lib.rt:15:1
+returns-2 : tie.Need-returns-2
+unfolding zeros
+returns-2 c =
+    let n = c .before .before .before .before .before in
+    let a = n .before .before .before .before .args in
+    let S = a .settings in
+    let g = given (n .before) in
+    let ok = g .tables .settings in
+    commit-done S (a .key .now) (a .message .now) (passed (n .before)) _
+    (c .reduced-sums .ensures (omega (arith, ok .modulus-least)) (degree-most S ok) (omega (arith, degree-most S ok, c .before .before .before .add-inner .kept .1 .1 .1 .1 .1 .0))
+    ∙ ap (reducedSums (S .modulus) (S .degree)) (c .before .before .before .add-inner .ensures ∙ ap (λ x. innerSums (S .modulus) (S .degree) (a .message .now) (a .key .now) x (zeros 64)) (all n))
+    ∙ commitment-is S (a .key .now) (a .message .now) g)
+
+pub commit-spec : {M : Type 1} → statement M
+commit-spec =
+    tie.close
+    (tie.spec
+    commit-requires
+    returns
+    left-requires
+    slice-aggregate-add-inner
+    add-inner-requires
+    slice-aggregate-reduced-sums
+    reduced-sums-requires
+    returns-2)

@@ -1,0 +1,38 @@
+use mathlib.Core.Path.{_≡_, sym, _∙_}
+use native.Mathlib.Omega.{arith}
+use borrow.Author.Needs.{needs}
+use Rattle.protocol.specs.Element.{width, signedZeros}
+use Rattle.protocol.specs.Opening.{finalElement}
+use Rattle.protocol.specs.Calls.{endRefusal}
+use Rattle.sizes.proofs.Limits.{degree-most, degree-inside}
+use Rattle.refusals.proofs.Given.{end-given}
+use Rattle.prover.proofs.Answers.{end-refused, end-done}
+use Rattle.prover.proofs.end.Statement.{statement}
+use Rattle.prover.proofs.end.Tie as tie
+
+passed : (c : tie.Else1) → let a = c .before .before .args in endRefusal (a .settings) (a .done) (a .message .now) ≡ 0
+passed c = sym (c .before .end .ensures) ∙ c .if1 .left
+
+end-requires : tie.Need-end-requires
+end-requires c κs = search needs
+
+returns : tie.Need-returns
+unfolding signedZeros width
+returns c = let a = c .before .before .args in end-refused (a .settings) (a .done) (a .message .now) _ (c .before .end .ensures) (c .if1 .taken)
+
+cast-d : tie.Need-cast-d
+cast-d c = search needs
+
+first-element-requires : tie.Need-first-element-requires
+first-element-requires c κs =
+    let a = c .before .before .before .args in
+    let (ok, long) = end-given (a .settings) (a .done) (a .message .now) (passed (c .before)) in
+    (degree-most (a .settings) ok, omega (arith, degree-inside (a .settings) ok))
+
+returns-2 : tie.Need-returns-2
+unfolding finalElement
+returns-2 c = let a = c .before .before .before .before .args in end-done (a .settings) (a .done) (a .message .now) (passed (c .before .before)) _ (c .first-element .ensures)
+
+pub end-spec : {M : Type 1} → statement M
+end-spec =
+    tie.close (tie.spec end-requires returns cast-d first-element-requires returns-2)

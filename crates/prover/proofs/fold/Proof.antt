@@ -1,0 +1,121 @@
+use mathlib.Core.Path.{_≡_, sym, ap, _∙_}
+use Prim.Native.Nat.{_*_}
+use native.Mathlib.Omega.{arith}
+use lib.ListN.{length}
+use Rattle.protocol.specs.Opening.{halfLeft, foldSigned, foldResidues}
+use Rattle.protocol.specs.Calls.{foldRefusal}
+use Rattle.sizes.proofs.Limits.{degree-least, degree-most}
+use Rattle.arithmetic.specs.Folds.{Foldable}
+use Rattle.refusals.proofs.Given.{FoldGiven, fold-given}
+use Rattle.prover.proofs.Halves.{halves-inside, half-most, left-room}
+use Rattle.prover.proofs.Answers.{fold-refused, fold-done}
+use borrow.Author.Needs.{needs}
+use Rattle.prover.proofs.fold.Statement.{statement}
+use Rattle.prover.proofs.fold.Tie as tie
+use Rattle.prover.proofs.fold.Reads as reads
+use Rattle.prover.proofs.fold.Lts as lts
+use Rattle.arithmetic.proofs.tables.fold_residues.Reads as fold-residues-reads
+use Rattle.prover.proofs.messages.fold_message.Reads as fold-message-reads
+use Rattle.refusals.proofs.fold.Reads as fold-reads
+use Rattle.sizes.proofs.half_left.Reads as half-left-reads
+
+passed : (c : tie.Else1) → let a = c .before .before .before .before .before .args in foldRefusal (a .settings) (a .done) (a .e) (a .key .now) (a .message .now) ≡ 0
+passed c = sym (c .before .fold .ensures) ∙ c .if1 .left
+
+given : (c : tie.Else1) → let a = c .before .before .before .before .before .args in FoldGiven (a .settings) (a .done) (a .e) (a .key .now) (a .message .now)
+given c = fold-given _ _ _ _ _ (passed c)
+
+half-is : (c : tie.After-half-left) → let a = c .before .before .before .before .before .before .args in c .half-left .result ≡ halfLeft (a .settings) (a .done)
+half-is c = c .half-left .ensures (given (c .before) .tables .allowed) (given (c .before) .turn)
+
+foldable : (c : tie.After-half-left) → let a = c .before .before .before .before .before .before .args in Foldable (a .settings .modulus) (a .settings .degree) (c .half-left .result) 0 0 (length (a .key .now))
+foldable c =
+    let a = c .before .before .before .before .before .before .args in
+    let g = given (c .before) in
+    let S = a .settings in
+    let ok = g .tables .settings in
+    rw (half-is c) (record {
+      modulus = omega (arith, ok .modulus-least);
+      degree = omega (arith, degree-least S ok);
+      degree-most = degree-most S ok;
+      elements = half-most S ok (a .done) (g .turn);
+      down = omega arith;
+      inside = omega (arith, halves-inside S ok (a .done) (g .turn), g .tables .key-given .long);
+    })
+
+fold-requires : tie.Need-fold-requires
+fold-requires c κs = search needs
+
+-- src/lib.rt:18:9
+same-length : tie.Need-same-length
+same-length c = search needs
+
+-- src/lib.rt:18:9
+same-length-2 : tie.Need-same-length-2
+same-length-2 c = search needs
+
+-- src/lib.rt:18:9
+returns : tie.Need-returns
+returns c = let a = c .before .before .before .before .before .args in fold-refused (a .settings) (a .done) (a .e) (a .key .now) (a .message .now) _ (c .before .fold .ensures) (c .if1 .taken)
+
+-- src/lib.rt:21:9
+half-left-requires : tie.Need-half-left-requires
+half-left-requires c κs = search needs
+
+-- src/lib.rt:22:5
+fold-residues-requires : tie.Need-fold-residues-requires
+fold-residues-requires c κs = search needs
+
+-- src/lib.rt:23:28
+cast-fold-message : tie.Need-cast-fold-message
+cast-fold-message c = search needs
+
+-- src/lib.rt:23:40
+cast-fold-message-2 : tie.Need-cast-fold-message-2
+cast-fold-message-2 c = search needs
+
+-- src/lib.rt:23:5
+fold-message-requires : tie.Need-fold-message-requires
+fold-message-requires c κs =
+    let h = c .before .before .before .before .before in
+    let a = h .before .before .before .before .before .before .args in
+    let g = given (h .before) in
+    let S = a .settings in
+    let ok = g .tables .settings in (
+      (omega (arith, degree-least S ok), degree-most S ok, omega (arith, half-is h, half-most S ok (a .done) (g .turn)), g .exponent-below),
+      rw (half-is h) (omega (arith, halves-inside S ok (a .done) (g .turn), g .tables .message-long), left-room S ok (a .done) (g .turn) (a .message .now) (g .small-left)),
+    )
+
+-- src/lib.rt:13:1
+same-length-3 : tie.Need-same-length-3
+same-length-3 c = search needs
+
+-- src/lib.rt:13:1
+same-length-4 : tie.Need-same-length-4
+same-length-4 c = search needs
+
+-- src/lib.rt:13:1
+returns-2 : tie.Need-returns-2
+returns-2 c =
+    let h = c .before .before .before .before .before .before .before in
+    let a = h .before .before .before .before .before .before .args in
+    fold-done (a .settings) (a .done) (a .e) (a .key .now) (a .message .now) (passed (h .before)) _ _
+    (c .before .before .before .before .before .fold-residues .ensures (foldable h) ∙ ap (λ n. foldResidues (a .settings .modulus) (a .settings .degree) n (a .e) (a .key .now)) (half-is h))
+    (c .before .fold-message .ensures ∙ ap (λ n. foldSigned (a .settings .degree) n (a .e) (a .message .now)) (half-is h))
+
+pub fold-spec : {M : Type 1} → statement M
+fold-spec =
+    tie.close
+    (tie.spec
+    fold-requires
+    same-length
+    same-length-2
+    returns
+    half-left-requires
+    fold-residues-requires
+    cast-fold-message
+    cast-fold-message-2
+    fold-message-requires
+    same-length-3
+    same-length-4
+    returns-2)

@@ -1,0 +1,90 @@
+use mathlib.Core.Path.{_≡_, sym, ap, _∙_}
+use Prim.Native.Nat.{_+_, _*_, _/_, _%_, _^_}
+use native.Mathlib.Omega.{arith}
+use Rattle.protocol.specs.Basic.{tabulate}
+use Rattle.protocol.specs.Element.{width, zeros, signedAt, residueAt}
+use Rattle.protocol.specs.Opening.{halfLeft, cross}
+use Rattle.protocol.specs.Calls.{noPolynomial, roundRefusal}
+use Rattle.refusals.proofs.Given.{RoundGiven, round-given}
+use Rattle.prover.specs.Sums.{scaled}
+use Rattle.prover.proofs.Halves.{round-tables}
+use Rattle.prover.proofs.Products.{polynomial-is}
+use Rattle.prover.proofs.Answers.{round-refused, round-done}
+use borrow.Author.Needs.{needs}
+use Rattle.prover.proofs.round.Statement.{statement}
+use Rattle.prover.proofs.round.Tie as tie
+use Rattle.prover.proofs.round.Reads as reads
+use Rattle.prover.proofs.round.Lts as lts
+use Rattle.equations.proofs.half_power.Reads as half-power-reads
+use Rattle.prover.proofs.inner.polynomial.Reads as polynomial-reads
+use Rattle.prover.proofs.polynomial_of.Reads as polynomial-of-reads
+use Rattle.refusals.proofs.round.Reads as round-reads
+use Rattle.sizes.proofs.half_left.Reads as half-left-reads
+
+passed : (c : tie.Else1) → let a = c .before .before .before .args in roundRefusal (a .settings) (a .done) (a .key .now) (a .message .now) ≡ 0
+passed c = sym (c .before .round .ensures) ∙ c .if1 .left
+
+given : (c : tie.Else1) → let a = c .before .before .before .args in RoundGiven (a .settings) (a .done) (a .key .now) (a .message .now)
+given c = round-given _ _ _ _ (passed c)
+
+half-is : (c : tie.After-half-left) → let a = c .before .before .before .before .args in c .half-left .result ≡ halfLeft (a .settings) (a .done)
+half-is c = c .half-left .ensures (given (c .before) .tables .allowed) (given (c .before) .turn)
+
+round-requires : tie.Need-round-requires
+round-requires c κs = search needs
+
+-- src/lib.rt:59:9
+polynomial-of-requires : tie.Need-polynomial-of-requires
+polynomial-of-requires c κs = search needs
+
+-- src/lib.rt:59:9
+returns : tie.Need-returns
+unfolding noPolynomial tabulate zeros width
+returns c = let a = c .before .before .before .before .args in round-refused (a .settings) (a .done) (a .key .now) (a .message .now) _ _ (c .before .before .round .ensures) (c .before .if1 .taken) (c .polynomial-of .ensures .0) (c .polynomial-of .ensures .1)
+
+-- src/lib.rt:63:9
+half-left-requires : tie.Need-half-left-requires
+half-left-requires c κs = search needs
+
+-- src/lib.rt:64:38
+add-half-power : tie.Need-add-half-power
+add-half-power c = let g = given (c .before) in omega (arith, g .turn, g .tables .settings .depth-most)
+
+-- src/lib.rt:64:9
+half-power-requires : tie.Need-half-power-requires
+half-power-requires c κs = search needs
+
+-- src/lib.rt:65:9
+polynomial-requires : tie.Need-polynomial-requires
+polynomial-requires c κs = let h = c .before in let a = h .before .before .before .before .args in rw (half-is h) (round-tables (a .settings) (a .done) (a .key .now) (a .message .now) (given (h .before)))
+
+-- src/lib.rt:66:5
+polynomial-of-requires-2 : tie.Need-polynomial-of-requires-2
+polynomial-of-requires-2 c κs = search needs
+
+-- src/lib.rt:53:1
+returns-2 : tie.Need-returns-2
+returns-2 c =
+    let h = c .before .before .before in
+    let a = h .before .before .before .before .args in
+    let S = a .settings in
+    let g = given (h .before) in
+    let power = c .before .before .half-power .ensures (omega (arith, g .tables .settings .modulus-least)) in
+    round-done S (a .done) (a .key .now) (a .message .now) _ (passed (h .before)) (c .polynomial-of2 .ensures .0)
+    (c .polynomial-of2 .ensures .1 ∙ c .before .polynomial .ensures
+    ∙ (λ i. tabulate 3 (λ j. scaled (S .modulus) (S .degree) (power i) (cross (S .degree) (half-is h i) (signedAt (S .degree) (a .message .now)) (residueAt (S .degree) (a .key .now)) j)))
+    ∙ polynomial-is S (a .done) (a .key .now) (a .message .now) (omega (arith, g .tables .settings .modulus-least)))
+
+pub round-spec : {M : Type 1} → statement M
+round-spec =
+    tie.close
+    (tie.spec
+    round-requires
+    polynomial-of-requires
+    returns
+    half-left-requires
+    add-half-power
+    half-power-requires
+    polynomial-requires
+    polynomial-of-requires-2
+    returns-2)

@@ -1,0 +1,30 @@
+-- What the work on a message and a key asks of them.
+--
+--   from l p           the element whose coefficients stand from place p of the table l on
+--   Room n l           the first n numbers of l are small enough that the sum of two of them is a signed number of 32 bits
+--   Small n l          they are small enough for inner products
+--   Tables q d n ..    both have n elements, for inner products modulo q
+use mathlib.Core.List.{List}
+use Prim.Native.Nat.{ℕ, _+_, _*_, _^_, _<_, _≤_}
+use lib.IntN.{ℤ, pos, natAbs}
+use lib.ListN.{length, getD}
+use Rattle.protocol.specs.Element.{Element}
+
+abbrev pub from : List ℤ → ℕ → Element
+from l p k = getD l (p + k) (pos 0)
+
+pub record Room (n : ℕ) (l : List ℤ) : Type 0 where
+  pub each : (j : ℕ) → j < n → natAbs (getD l j (pos 0)) < 2 ^ 30
+
+abbrev pub Small : ℕ → List ℤ → Type 0
+Small n l = (j : ℕ) → j < n → natAbs (getD l j (pos 0)) ≤ 2 ^ 14
+
+pub record Tables (q d n : ℕ) (message : List ℤ) (key : List ℕ) : Type 0 where
+  pub modulus : 0 < q
+  pub modulus-most : q ≤ 2 ^ 31
+  pub degree : 0 < d
+  pub degree-most : d ≤ 64
+  pub elements : n ≤ 256
+  pub message-long : n * d ≤ length message
+  pub key-long : n * d ≤ length key
+  pub message-small : Small (n * d) message

@@ -1,0 +1,17 @@
+-- Inner products of messages and keys, as sums that are reduced once, at the end.
+--
+--   innerSums q d m G n s   the sums s with the products of the first n elements of m and G added
+--   scaled q d s a          s·a modulo q, an element that is passed by value
+use mathlib.Core.List.{List}
+use Prim.Native.Nat.{ℕ, zero, suc, _*_}
+use lib.IntN.{ℤ, pos}
+use lib.ListN.{drop}
+use Rattle.protocol.specs.Element.{Element, times, reduced, padded}
+use Rattle.arithmetic.specs.Products.{extension, addRows}
+
+unfoldable pub innerSums : ℕ → ℕ → List ℤ → List ℕ → ℕ → List ℕ → List ℕ
+innerSums q d m G zero s = s
+innerSums q d m G (suc n) s = addRows d (drop (n * d) m) (extension q d (drop (n * d) G)) d (innerSums q d m G n s)
+
+unfoldable pub scaled : ℕ → ℕ → ℕ → Element → List ℕ
+scaled q d s a = padded d (reduced q d (times (pos s) a))

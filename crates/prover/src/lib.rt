@@ -1,0 +1,101 @@
+// The prover's calls: each tests what it is given, and then works on the tables that it is lent.
+mod inner;
+mod messages;
+
+use arithmetic::products;
+use arithmetic::tables;
+use protocol::Committed;
+use protocol::Ended;
+use protocol::Polynomial;
+use protocol::Settings;
+ghost use mathlib.Core.Path.{_≡_};
+ghost use Rattle.protocol.specs.Calls.{commitAnswer, roundAnswer, endAnswer};
+ghost use Rattle.protocol.specs.Promises.{Folded};
+
+// The commitment to a message.
+pub fn commit(settings: Settings, key: &[u32], message: &[i32]) -> Committed
+    ensures { λ r. ⌜ r ≡ commitAnswer settings (now (key .entry)) (now (message .entry)) ⌝ }
+{
+    let number = refusals::commit(settings, key, message);
+    if number != 0 {
+        return Committed {
+            number: number,
+            commitment: [0u32; 64],
+        };
+    }
+    let q = settings.modulus;
+    let d = settings.degree;
+    let n = sizes::left(settings, 0);
+    let mut sums = [0u64; 64];
+    inner::add_inner(q, d, n, message, key, &mut sums);
+    let commitment = products::reduced_sums(q, d, &sums);
+    Committed {
+        number: 0,
+        commitment: commitment,
+    }
+}
+
+// The answer of a prover's round, put together and taken apart: whoever holds one calls these, since a field that is an array of arrays
+// is read and written by hand.
+fn polynomial_of(number: u32, elements: [[u32; 64]; 3]) -> Polynomial
+    ensures { λ r. ⌜ (r .number ≡ number) × (r .elements ≡ elements) ⌝ }
+{
+    Polynomial { number, elements }
+}
+
+pub fn elements_of(answer: Polynomial) -> [[u32; 64]; 3]
+    ensures { λ r. ⌜ r ≡ answer .elements ⌝ }
+{
+    answer.elements
+}
+
+// The prover's round: the round polynomial of round t + 1.
+pub fn round(settings: Settings, done: u32, key: &[u32], message: &[i32]) -> Polynomial
+    ensures { λ r. ⌜ r ≡ roundAnswer settings done (now (key .entry)) (now (message .entry)) ⌝ }
+{
+    let number = refusals::round(settings, done, key, message);
+    if number != 0 {
+        let none = [0u32; 64];
+        return polynomial_of(number, [none, none, none]);
+    }
+    let q = settings.modulus;
+    let d = settings.degree;
+    let h = sizes::half_left(settings, done);
+    let s = equations::half_power(q, done + 1);
+    let elements = inner::polynomial(q, d, h, s, message, key);
+    polynomial_of(0, elements)
+}
+
+// The fold of both tables by X^e. Nothing is written before the last test.
+pub fn fold(settings: Settings, done: u32, e: u32, key: &mut [u32], message: &mut [i32]) -> u32
+    ensures { λ r. ⌜ Folded settings done e (now (key .entry)) (now (message .entry)) r (now (key .exit)) (now (message .exit)) ⌝ }
+{
+    let number = refusals::fold(settings, done, e, key, message);
+    if number != 0 {
+        return number;
+    }
+    let d = settings.degree;
+    let h = sizes::half_left(settings, done);
+    tables::fold_residues(settings.modulus, d, h, e, key);
+    messages::fold_message(d as usize, h as usize, e as usize, message);
+    0
+}
+
+// The prover's end: the final element, with the rounds done at L.
+pub fn end(settings: Settings, done: u32, message: &[i32]) -> Ended
+    ensures { λ r. ⌜ r ≡ endAnswer settings done (now (message .entry)) ⌝ }
+{
+    let number = refusals::end(settings, done, message);
+    if number != 0 {
+        return Ended {
+            number: number,
+            last: [0i32; 64],
+        };
+    }
+    let d = settings.degree as usize;
+    let last = messages::first_element(d, message);
+    Ended {
+        number: 0,
+        last: last,
+    }
+}

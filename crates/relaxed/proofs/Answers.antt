@@ -1,0 +1,67 @@
+-- The judge's answer: with a refusal, and without one.
+use mathlib.Core.Path.{_≡_, sym, ap, _∙_}
+use mathlib.Core.Bool.{Bool, true, false, _&&_}
+use mathlib.Core.List.{List}
+use Prim.Native.Nat.{ℕ, _<_, _≤_}
+use native.Mathlib.Nat as Nat
+use native.Mathlib.Omega.{arith}
+use borrow.Author.Tests.{eqb-true, leb-true}
+use lib.IntN.{ℤ}
+use lib.ListN.{length}
+use Rattle.protocol.specs.declared.Settings.{Settings}
+use Rattle.protocol.specs.declared.Judged.{Judged}
+use Rattle.protocol.specs.Settings.{settingsRefusal, cells, sized, small}
+use Rattle.protocol.specs.Tree.{growthFactor, growthLimit, growth, grows}
+use Rattle.protocol.specs.Judge.{opens, judged}
+use Rattle.protocol.specs.Calls.{judgeRefusal, judgeAnswer}
+use Rattle.protocol.proofs.Inputs.{settings-valid}
+use Rattle.protocol.proofs.Tests.{and-split, first-zero, unless-zero, granted-zero, granted-refused}
+use Rattle.protocol.proofs.Refusals.{and-fails-right}
+use Rattle.claims.specs.GrowthTest.{cappedGrowth}
+use Rattle.claims.proofs.GrowthTest.{power-exact}
+use Rattle.sizes.proofs.Limits.{degree-least}
+
+-- where nothing is past the limit, the capped number is the number
+pub growth-exact : (S : Settings) → settingsRefusal S ≡ 0 → grows S ≡ true → cappedGrowth S ≡ growth S
+unfolding cappedGrowth grows growth growthFactor
+growth-exact S e t =
+    power-exact growthLimit (growthFactor (S .degree)) (Nat.mul-pos (omega arith) (Nat.one-le-pow 2 (S .degree) (omega (arith, degree-least S (settings-valid S e))))) (S .bound) (S .depth) (leb-true _ _ t)
+
+-- what is known of inputs that are not refused
+pub record JudgeGiven (S : Settings) (key : List ℕ) (w : List ℤ) : Type 0 where
+  pub allowed : settingsRefusal S ≡ 0
+  pub key-long : length key ≡ cells S
+  pub w-long : length w ≡ cells S
+  pub limited : grows S ≡ true
+
+module _ (S : Settings) (C : List ℕ) (c : ℕ) (key : List ℕ) (w : List ℤ) where
+  pub judge-given : judgeRefusal S C c key w ≡ 0 → JudgeGiven S key w
+  unfolding judgeRefusal sized
+  judge-given e =
+      let (r6, e7) = first-zero _ _ e in
+      let (r7, e8) = first-zero _ _ e7 in
+      let (r8, e14) = first-zero _ _ e8 in
+      let (r14, e15) = first-zero _ _ e14 in
+      let (k, v) = and-split (unless-zero 6 (sized (cells S) key && sized (cells S) w) r7) in
+      record { allowed = r6; key-long = eqb-true _ _ k; w-long = eqb-true _ _ v; limited = unless-zero 13 _ r14 }
+
+  pub judge-refused : (n : ℕ) → n ≡ judgeRefusal S C c key w → (n ≡ 0 → ⊥) → _≡_ {A = Judged} (record { number = n; yes = false }) (judgeAnswer S C c key w)
+  unfolding judgeAnswer
+  judge-refused n e r = let none = sym (granted-refused (judgeRefusal S C c key w) (judged S key C c w) false (λ z. r (e ∙ z))) in λ i. record { number = e i; yes = none i }
+
+  pub judge-done : judgeRefusal S C c key w ≡ 0 → (y : Bool) → y ≡ judged S key C c w → _≡_ {A = Judged} (record { number = 0; yes = y }) (judgeAnswer S C c key w)
+  unfolding judgeAnswer
+  judge-done z y e = let all = e ∙ sym (granted-zero _ (judged S key C c w) false z) in λ i. record { number = sym z i; yes = all i }
+
+  -- the bound first, then the equation
+  pub beyond : small (growth S) w ≡ false → false ≡ judged S key C c w
+  unfolding judged
+  beyond t = sym (and-fails-right (opens S key C c w) (small (growth S) w) t)
+
+  pub within : (y : Bool) → small (growth S) w ≡ true → y ≡ opens S key C c w → y ≡ judged S key C c w
+  unfolding judged
+  within y t e = e ∙ sym (and-true (opens S key C c w) t)
+    where
+      and-true : (a : Bool) {b : Bool} → b ≡ true → (a && b) ≡ a
+      and-true true e = e
+      and-true false e = ap (λ b. false && b) e

@@ -1,0 +1,76 @@
+-- The loop keeps: the first k digits stand.
+use mathlib.Core.Path.{_≡_, sym, ap, _∙_}
+use Prim.Native.Nat.{ℕ, _+_, _*_, _-_, _^_, _<_, _≤_}
+use native.Mathlib.Omega.{arith}
+use borrow.Author.Needs.{needs}
+use lib.IntN.{pos}
+use lib.ListN.{length}
+use mir.Facts.{toZ-ofZ}
+use Rattle.protocol.specs.Element.{signed, signedZeros, coefficients}
+use Rattle.arithmetic.proofs.Fill.{filled}
+use Rattle.arithmetic.proofs.Magnitude.{through-bits}
+use Rattle.arithmetic.proofs.SignedFill.{signed-fill-none, signed-fill-more, signed-element-done}
+use mir.Syntax.{w32, w64}
+use Rattle.relaxed.specs.Digits.{digit, digitsOf}
+use Rattle.relaxed.proofs.combination.digits.Statement.{statement}
+use Rattle.relaxed.proofs.combination.digits.Tie as tie
+
+abbrev Inv-loop : tie.InvT-loop
+Inv-loop q d base w f₀ k₀ f k = (k ≤ d) × (f ≡ filled (λ j. pos (digit q base (signed w j))) k (signedZeros 64))
+
+abbrev μ-loop : tie.MeasureT-loop
+μ-loop q d base w f₀ k₀ f k = d - k
+
+loop-holds : tie.Need-loop-holds Inv-loop μ-loop
+loop-holds c = (omega arith, signed-fill-none 64 (λ j. pos (digit (c .args .q) (c .args .base) (signed (c .args .w .now) j))))
+
+mul-digit-of : tie.Need-mul-digit-of Inv-loop μ-loop
+mul-digit-of c = search needs
+
+shared-slice-copy-out-digit-of : tie.Need-shared-slice-copy-out-digit-of Inv-loop μ-loop
+shared-slice-copy-out-digit-of c = search needs
+
+digit-of-requires : tie.Need-digit-of-requires Inv-loop μ-loop
+digit-of-requires c κs = let p = c .before .before .before .pre in (p .0 .modulus, p .1)
+
+mul-f : tie.Need-mul-f Inv-loop μ-loop
+mul-f c = search needs
+
+array-set-from-f : tie.Need-array-set-from-f Inv-loop μ-loop
+array-set-from-f c = search needs
+
+add-k : tie.Need-add-k Inv-loop μ-loop
+add-k c = search needs
+
+loop-less : tie.Need-loop-less Inv-loop μ-loop
+loop-less c = search needs
+
+loop-again : tie.Need-loop-again Inv-loop μ-loop
+unfolding signed
+loop-again c =
+    let g = c .before .before .before .before in let l = c .before .before .before .loop in let a = g .args in (
+      omega arith,
+      signed-fill-more 64 (λ j. pos (digit (a .q) (a .base) (signed (a .w .now) j))) (l .k) _ (l .f) (l .inv .1) (omega (arith, g .pre .0 .degree-most))
+          (through-bits w32 (c .digit-of .result) (c .digit-of .ok) ∙ c .digit-of .ensures ∙ ap (λ z. pos (digit (a .q) (a .base) z)) (through-bits w64 _ (c .before .digit-of-arg .given))),
+    )
+
+returns : tie.Need-returns Inv-loop μ-loop
+unfolding digitsOf coefficients
+returns c = signed-element-done _ _ _ _ (c .before .loop .inv .1) (omega arith)
+
+pub digits-spec : {M : Type 1} → statement M
+digits-spec =
+    tie.close
+    (tie.spec
+    Inv-loop
+    μ-loop
+    loop-holds
+    mul-digit-of
+    shared-slice-copy-out-digit-of
+    digit-of-requires
+    mul-f
+    array-set-from-f
+    add-k
+    loop-less
+    loop-again
+    returns)

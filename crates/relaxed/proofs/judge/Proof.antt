@@ -1,0 +1,56 @@
+-- The refusal, then the bound, then the equation.
+use mathlib.Core.Path.{_≡_, sym, ap, _∙_}
+use mathlib.Core.Bool.{true, false}
+use borrow.Author.Needs.{needs}
+use borrow.Author.Tests.{not-true, not-false}
+use Rattle.protocol.specs.Settings.{small}
+use Rattle.protocol.specs.Tree.{growth}
+use Rattle.protocol.specs.Calls.{judgeRefusal}
+use Rattle.relaxed.proofs.Answers.{growth-exact, JudgeGiven, judge-given, judge-refused, judge-done, beyond, within}
+use Rattle.relaxed.proofs.judge.Statement.{statement}
+use Rattle.relaxed.proofs.judge.Tie as tie
+
+passed : (c : tie.Else1) → let a = c .before .before .before .args in judgeRefusal (a .settings) (a .commitment) (a .c) (a .key .now) (a .w .now) ≡ 0
+passed c = sym (c .before .refusal .ensures) ∙ c .if1 .left
+
+given : (c : tie.Else1) → let a = c .before .before .before .args in JudgeGiven (a .settings) (a .key .now) (a .w .now)
+given c = let a = c .before .before .before .args in judge-given (a .settings) (a .commitment) (a .c) (a .key .now) (a .w .now) (passed c)
+
+-- the test of the bound is made with the growth itself
+tested : (c : tie.After-all-within-wide) → let a = c .before .before .before .before .before .args in c .all-within-wide .result ≡ small (growth (a .settings)) (a .w .now)
+tested c =
+    let a = c .before .before .before .before .before .args in let g = given (c .before .before) in
+    c .all-within-wide .ensures ∙ ap (λ n. small n (a .w .now)) (c .before .growth .ensures (g .allowed) ∙ growth-exact (a .settings) (g .allowed) (g .limited))
+
+refusal-requires : tie.Need-refusal-requires
+refusal-requires c κs = search needs
+
+returns : tie.Need-returns
+returns c = judge-refused (c .before .before .before .args .settings) (c .before .before .before .args .commitment) (c .before .before .before .args .c) (c .before .before .before .args .key .now) (c .before .before .before .args .w .now) _ (c .before .refusal .ensures) (c .if1 .taken)
+
+growth-requires : tie.Need-growth-requires
+growth-requires c κs = search needs
+
+all-within-wide-requires : tie.Need-all-within-wide-requires
+all-within-wide-requires c κs = search needs
+
+returns-2 : tie.Need-returns-2
+returns-2 c = judge-done (c .before .before .before .before .before .before .args .settings) (c .before .before .before .before .before .before .args .commitment) (c .before .before .before .before .before .before .args .c) (c .before .before .before .before .before .before .args .key .now) (c .before .before .before .before .before .before .args .w .now) (passed (c .before .before .before)) false (beyond (c .before .before .before .before .before .before .args .settings) (c .before .before .before .before .before .before .args .commitment) (c .before .before .before .before .before .before .args .c) (c .before .before .before .before .before .before .args .key .now) (c .before .before .before .before .before .before .args .w .now) (sym (tested (c .before)) ∙ not-true _ (c .if2 .taken)))
+
+opens-requires : tie.Need-opens-requires
+opens-requires c κs = let g = given (c .before .before .before) in (g .allowed, g .key-long, g .w-long)
+
+returns-3 : tie.Need-returns-3
+returns-3 c = judge-done (c .before .before .before .before .before .before .before .args .settings) (c .before .before .before .before .before .before .before .args .commitment) (c .before .before .before .before .before .before .before .args .c) (c .before .before .before .before .before .before .before .args .key .now) (c .before .before .before .before .before .before .before .args .w .now) (passed (c .before .before .before .before)) _ (within (c .before .before .before .before .before .before .before .args .settings) (c .before .before .before .before .before .before .before .args .commitment) (c .before .before .before .before .before .before .before .args .c) (c .before .before .before .before .before .before .before .args .key .now) (c .before .before .before .before .before .before .before .args .w .now) _ (sym (tested (c .before .before)) ∙ not-false _ (c .before .if2 .left)) (c .opens .ensures))
+
+pub judge-spec : {M : Type 1} → statement M
+judge-spec =
+    tie.close
+    (tie.spec
+    refusal-requires
+    returns
+    growth-requires
+    all-within-wide-requires
+    returns-2
+    opens-requires
+    returns-3)

@@ -1,0 +1,22 @@
+use mathlib.Core.Path.{_≡_, ap, _∙_}
+use Prim.Native.Nat.{_*_}
+use native.Mathlib.Nat as Nat
+use native.Mathlib.Omega.{arith}
+use borrow.Author.Needs.{needs}
+use Rattle.protocol.specs.Settings.{size, cells}
+use Rattle.protocol.specs.Opening.{left}
+use Rattle.sizes.proofs.cells.Statement.{statement}
+use Rattle.sizes.proofs.cells.Tie as tie
+use Rattle.sizes.proofs.cells.Reads as reads
+use Rattle.sizes.proofs.cells.Lts as lts
+use Rattle.sizes.proofs.left_cells.Reads as left-cells-reads
+
+left-cells-requires : tie.Need-left-cells-requires
+left-cells-requires c κs = search needs
+
+returns : tie.Need-returns
+unfolding cells left
+returns c = λ e. let S = c .before .args .settings in c .left-cells .ensures e (omega arith) ∙ ap (λ n. n * S .degree) (Nat.div-one (size S))
+
+pub cells-spec : {M : Type 1} → statement M
+cells-spec = tie.close (tie.spec left-cells-requires returns)

@@ -1,0 +1,29 @@
+use mathlib.Core.Path.{_≡_}
+use native.Mathlib.Omega.{arith}
+use Rattle.protocol.specs.Opening.{left, halfLeft}
+use borrow.Author.Needs.{needs}
+use Rattle.sizes.proofs.half_left.Statement.{statement}
+use Rattle.sizes.proofs.half_left.Tie as tie
+use Rattle.sizes.proofs.half_left.Reads as reads
+use Rattle.sizes.proofs.half_left.Lts as lts
+use Rattle.sizes.proofs.left.Reads as left-reads
+
+-- src/lib.rt:48:9
+returns : tie.Need-returns
+returns c = search needs
+
+-- src/lib.rt:50:20
+add-left : tie.Need-add-left
+add-left c = search needs
+
+-- src/lib.rt:50:5
+left-requires : tie.Need-left-requires
+left-requires c κs = search needs
+
+-- src/lib.rt:44:1
+returns-2 : tie.Need-returns-2
+unfolding left halfLeft
+returns-2 c = λ e l. c .left .ensures e (omega arith)
+
+pub half-left-spec : {M : Type 1} → statement M
+half-left-spec = tie.close (tie.spec returns add-left left-requires returns-2)

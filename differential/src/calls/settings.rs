@@ -1,0 +1,51 @@
+//! The test of settings.
+
+use crate::case::{Case, Outcome, Table};
+use crate::verified;
+use reference::cases::Page;
+use reference::draw::base::{damage_settings, settings};
+use reference::draw::Limits;
+use reference::random::Random;
+use reference::refuse;
+use reference::types::Settings;
+
+#[derive(Clone)]
+pub struct SettingsCase(Settings);
+
+impl Case for SettingsCase {
+    const NAME: &'static str = "settings";
+
+    fn draw(random: &mut Random, limits: &Limits) -> SettingsCase {
+        let mut s = settings(random, limits, false);
+        for _ in 0..random.below(4) {
+            let number = random.pick(&[3, 4, 5, 6]);
+            damage_settings(random, &mut s, number);
+        }
+        if random.one_in(4) {
+            // Any numbers near the borders.
+            s.degree = random.below(130) as u32;
+            s.depth = random.below(12) as u32;
+            s.modulus = random.word() as u32;
+            s.bound = random.below(140) as u32;
+        }
+        SettingsCase(s)
+    }
+
+    fn plain(&self) -> Outcome {
+        Outcome::new(refuse::settings(self.0).err().unwrap_or(0))
+    }
+
+    fn verified(&self) -> Outcome {
+        Outcome::new(verified::settings(self.0))
+    }
+
+    fn tables(&mut self) -> Vec<Table<'_>> {
+        Vec::new()
+    }
+
+    fn print(&self, page: &mut Page) {
+        page.header("settings");
+        page.settings(self.0);
+        page.numbers([self.plain().number]);
+    }
+}

@@ -1,0 +1,10 @@
+//! The verified library beside the reference implementation.
+//!
+//! `verified` declares and wraps the functions of the verified library;
+//! `case` runs one input through both and makes a differing one smaller;
+//! `calls` has the inputs of each call; `report` counts what was answered.
+
+pub mod calls;
+pub mod case;
+pub mod report;
+pub mod verified;

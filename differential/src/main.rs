@@ -1,0 +1,81 @@
+//! Compares the verified library with the reference implementation on drawn
+//! inputs.
+//!
+//! Usage: differential [SEED [TIMES]]
+//!
+//! Without arguments it runs the quick set: seed 1, once. TIMES multiplies
+//! the number of drawn inputs. It leaves with 1 where any answer or any lent
+//! table differs, and prints the smallest such case that it finds.
+
+use differential::calls::{Commit, End, Fold, ProverRound, SettingsCase};
+use differential::case::{self, Case, Difference};
+use differential::report::Report;
+use reference::draw::Limits;
+use reference::random::Random;
+use std::process::ExitCode;
+
+struct Run {
+    random: Random,
+    times: usize,
+    report: Report,
+}
+
+impl Run {
+    /// Drawn inputs of one call: mostly small ones, and some large ones.
+    fn call<C: Case>(&mut self, small: usize, large: usize) -> Result<(), Difference> {
+        let sizes = [
+            (small / 2, Limits::new(64, 300)),
+            (small / 2, Limits::new(1024, 2000)),
+            (large, Limits::new(16_384, 20_000)),
+        ];
+        for (count, limits) in sizes {
+            for _ in 0..count * self.times {
+                let case = C::draw(&mut self.random, &limits);
+                let outcome = case::check(&case)?;
+                self.report.count(C::NAME, &outcome);
+            }
+        }
+        Ok(())
+    }
+
+    fn all(&mut self) -> Result<(), Difference> {
+        self.call::<SettingsCase>(20_000, 0)?;
+        self.call::<Commit>(10_000, 200)?;
+        self.call::<ProverRound>(10_000, 200)?;
+        self.call::<Fold>(10_000, 200)?;
+        self.call::<End>(10_000, 200)
+    }
+}
+
+fn main() -> ExitCode {
+    let words: Result<Vec<u64>, _> = std::env::args().skip(1).map(|w| w.parse()).collect();
+    let (seed, times) = match words.as_deref() {
+        Ok([]) => (1, 1),
+        Ok([seed]) => (*seed, 1),
+        Ok([seed, times]) => (*seed, *times as usize),
+        _ => {
+            eprintln!("usage: differential [SEED [TIMES]]");
+            return ExitCode::FAILURE;
+        }
+    };
+    let mut run = Run {
+        random: Random::new(seed),
+        times,
+        report: Report::default(),
+    };
+    match run.all() {
+        Ok(()) => {
+            println!(
+                "differential: seed {seed}, {} cases, no difference",
+                run.report.total()
+            );
+            println!("by call and number (0: not refused; 100: a lent slice is too short)");
+            run.report.print();
+            ExitCode::SUCCESS
+        }
+        Err(difference) => {
+            println!("differential: seed {seed}, FAILED\n{}", difference.text);
+            ExitCode::FAILURE
+        }
+    }
+}

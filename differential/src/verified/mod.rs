@@ -1,0 +1,30 @@
+//! The functions of the verified library, each with a safe wrapper.
+//!
+//! Nothing checks these declarations against the library, so they are kept
+//! to numbers and slices: a slice is a pointer and a length. A function
+//! needs nothing of its arguments but that the slices are what they say, so
+//! a wrapper tests nothing.
+
+mod prover;
+
+pub use prover::{commit, end, fold, round};
+
+use reference::types::Settings;
+
+/// What is answered where a slice for an element or a record is too short.
+pub const SHORT: u32 = 100;
+
+/// Numbers of an element in a lent slice.
+pub const ELEMENT: usize = 64;
+
+/// Numbers of a round polynomial in a lent slice.
+pub const POLYNOMIAL: usize = 3 * ELEMENT;
+
+extern "C" {
+    fn wovenrock_settings(degree: u32, depth: u32, modulus: u32, bound: u32) -> u32;
+}
+
+/// Refusals 3 to 6.
+pub fn settings(s: Settings) -> u32 {
+    unsafe { wovenrock_settings(s.degree, s.depth, s.modulus, s.bound) }
+}

@@ -1,0 +1,129 @@
+//! The prover's calls.
+
+use reference::types::Settings;
+
+extern "C" {
+    fn wovenrock_commit(
+        degree: u32,
+        depth: u32,
+        modulus: u32,
+        bound: u32,
+        key: *const u32,
+        key_length: usize,
+        message: *const i32,
+        message_length: usize,
+        commitment: *mut u32,
+        commitment_length: usize,
+    ) -> u32;
+
+    fn wovenrock_round(
+        degree: u32,
+        depth: u32,
+        modulus: u32,
+        bound: u32,
+        done: u32,
+        key: *const u32,
+        key_length: usize,
+        message: *const i32,
+        message_length: usize,
+        polynomial: *mut u32,
+        polynomial_length: usize,
+    ) -> u32;
+
+    fn wovenrock_fold(
+        degree: u32,
+        depth: u32,
+        modulus: u32,
+        bound: u32,
+        done: u32,
+        exponent: u32,
+        key: *mut u32,
+        key_length: usize,
+        message: *mut i32,
+        message_length: usize,
+    ) -> u32;
+
+    fn wovenrock_end(
+        degree: u32,
+        depth: u32,
+        modulus: u32,
+        bound: u32,
+        done: u32,
+        message: *const i32,
+        message_length: usize,
+        last: *mut i32,
+        last_length: usize,
+    ) -> u32;
+}
+
+/// Commit.
+pub fn commit(s: Settings, key: &[u32], message: &[i32], commitment: &mut [u32]) -> u32 {
+    unsafe {
+        wovenrock_commit(
+            s.degree,
+            s.depth,
+            s.modulus,
+            s.bound,
+            key.as_ptr(),
+            key.len(),
+            message.as_ptr(),
+            message.len(),
+            commitment.as_mut_ptr(),
+            commitment.len(),
+        )
+    }
+}
+
+/// The prover's round.
+pub fn round(s: Settings, done: u32, key: &[u32], message: &[i32], polynomial: &mut [u32]) -> u32 {
+    unsafe {
+        wovenrock_round(
+            s.degree,
+            s.depth,
+            s.modulus,
+            s.bound,
+            done,
+            key.as_ptr(),
+            key.len(),
+            message.as_ptr(),
+            message.len(),
+            polynomial.as_mut_ptr(),
+            polynomial.len(),
+        )
+    }
+}
+
+/// The fold of both tables.
+pub fn fold(s: Settings, done: u32, exponent: u32, key: &mut [u32], message: &mut [i32]) -> u32 {
+    unsafe {
+        wovenrock_fold(
+            s.degree,
+            s.depth,
+            s.modulus,
+            s.bound,
+            done,
+            exponent,
+            key.as_mut_ptr(),
+            key.len(),
+            message.as_mut_ptr(),
+            message.len(),
+        )
+    }
+}
+
+/// The prover's end.
+pub fn end(s: Settings, done: u32, message: &[i32], last: &mut [i32]) -> u32 {
+    unsafe {
+        wovenrock_end(
+            s.degree,
+            s.depth,
+            s.modulus,
+            s.bound,
+            done,
+            message.as_ptr(),
+            message.len(),
+            last.as_mut_ptr(),
+            last.len(),
+        )
+    }
+}

@@ -1,0 +1,130 @@
+#!/usr/bin/env python3
+"""Draws layers.svg, rounds.svg and tree.svg in this folder. Run it here: ./draw.py"""
+
+INK = '#1f2933'
+SOFT = '#52606d'
+LINE = '#9aa5b1'
+MATH = '#e3f0ea'
+BELIEVE = '#fdf1d6'
+CODE = '#e4ecf7'
+FONT = 'font-family="sans-serif"'
+
+
+class Picture:
+    def __init__(self, width, height, title):
+        self.parts = ['<svg xmlns="http://www.w3.org/2000/svg" viewBox="0 0 %d %d" width="%d" height="%d" role="img" aria-label="%s">' % (width, height, width, height, title),
+                      '<rect width="100%" height="100%" fill="#ffffff"/>',
+                      '<defs><marker id="tip" viewBox="0 0 8 8" refX="7" refY="4" markerWidth="7" markerHeight="7" orient="auto"><path d="M0,0 L8,4 L0,8 z" fill="%s"/></marker></defs>' % SOFT]
+
+    def box(self, x, y, w, h, fill, title, lines=()):
+        self.parts.append('<rect x="%d" y="%d" width="%d" height="%d" rx="6" fill="%s" stroke="%s"/>' % (x, y, w, h, fill, LINE))
+        top = y + 20
+        self.text(x + 10, top, title, 14, INK, 'bold')
+        for i, line in enumerate(lines):
+            self.text(x + 10, top + 18 * (i + 1), line, 12, SOFT)
+
+    def text(self, x, y, words, size=12, colour=INK, weight='normal', anchor='start'):
+        self.parts.append('<text x="%d" y="%d" %s font-size="%d" fill="%s" font-weight="%s" text-anchor="%s">%s</text>' % (x, y, FONT, size, colour, weight, anchor, words.replace('&', '&amp;').replace('<', '&lt;')))
+
+    def arrow(self, x1, y1, x2, y2, colour=SOFT):
+        self.parts.append('<line x1="%d" y1="%d" x2="%d" y2="%d" stroke="%s" stroke-width="1.4" marker-end="url(#tip)"/>' % (x1, y1, x2, y2, colour))
+
+    def line(self, x1, y1, x2, y2):
+        self.parts.append('<line x1="%d" y1="%d" x2="%d" y2="%d" stroke="%s"/>' % (x1, y1, x2, y2, LINE))
+
+    def circle(self, x, y, r, fill, label):
+        self.parts.append('<circle cx="%d" cy="%d" r="%d" fill="%s" stroke="%s"/>' % (x, y, r, fill, LINE))
+        self.text(x, y + 4, label, 12, INK, 'normal', 'middle')
+
+    def save(self, name):
+        with open(name, 'w') as f:
+            f.write('\n'.join(self.parts) + '\n</svg>\n')
+
+
+def layers():
+    p = Picture(760, 430, 'The layers: what rests on what')
+    p.box(20, 330, 220, 80, MATH, 'algebra', ['rings, residues, norms, s(a,b)', 'no protocol in it'])
+    p.box(270, 330, 220, 80, BELIEVE, 'protocol', ['the definitions of document 01:', 'what a reader must believe'])
+    p.box(20, 210, 220, 80, MATH, 'claims', ['completeness, extraction,', 'demand 3 as one claim'])
+    p.box(270, 210, 220, 80, CODE, 'arithmetic', ['residues, elements, folds,', 'the tests of refusals'])
+    p.box(270, 115, 105, 60, CODE, 'opening', ['prover, session'])
+    p.box(385, 115, 105, 60, CODE, 'extraction', ['tree, judge'])
+    p.box(520, 115, 105, 60, CODE, 'tables', ['text'])
+    p.box(270, 25, 355, 55, CODE, 'prove, verify, static library', ['thin: they read, call and write'])
+    p.box(540, 330, 200, 80, MATH, 'drawn, reference/', ["another author's answers,", 'compared with the definitions'])
+    for x1, y1, x2, y2 in [(130, 290, 130, 330), (200, 290, 300, 330), (380, 290, 380, 330), (322, 175, 340, 210), (437, 175, 420, 210), (572, 175, 470, 210), (322, 80, 322, 115), (437, 80, 437, 115), (572, 80, 572, 115), (540, 370, 490, 370)]:
+        p.arrow(x1, y1, x2, y2)
+    p.text(20, 30, 'An arrow points to what a layer rests on.', 12, SOFT)
+    p.text(20, 50, 'green: mathematics alone', 12, SOFT)
+    p.text(20, 68, 'yellow: definitions', 12, SOFT)
+    p.text(20, 86, 'blue: proved code', 12, SOFT)
+    p.save('layers.svg')
+
+
+def rounds():
+    p = Picture(820, 400, 'The rounds of an opening')
+    p.text(190, 28, 'prover', 15, INK, 'bold', 'middle')
+    p.text(630, 28, 'verifier', 15, INK, 'bold', 'middle')
+    p.line(190, 40, 190, 380)
+    p.line(630, 40, 630, 340)
+
+    def send(y, words, right=True):
+        if right:
+            p.arrow(195, y, 624, y)
+        else:
+            p.arrow(624, y, 196, y)
+        p.text(410, y - 6, words, 13, INK, 'normal', 'middle')
+
+    send(70, 'commitment C = Σ m_i·G_i')
+    p.text(640, 75, 'claim = C', 12, SOFT)
+    p.parts.append('<rect x="20" y="92" width="780" height="170" rx="6" fill="none" stroke="%s" stroke-dasharray="4 4"/>' % LINE)
+    p.text(30, 110, 'round i = 1 .. L', 12, SOFT)
+    p.text(30, 134, 'halves (m0, m1),', 12, SOFT)
+    p.text(30, 150, '(G0, G1) of what is left', 12, SOFT)
+    send(140, 'c0, c1, c2 = half^i·(⟨m0,G0⟩, ⟨m0,G1⟩+⟨m1,G0⟩, ⟨m1,G1⟩)')
+    p.text(640, 158, '2·(c0+c2) = claim ?', 12, SOFT)
+    send(195, 'challenge r = X^e', False)
+    p.text(30, 225, 'm ← m0 + r·m1', 12, SOFT)
+    p.text(30, 243, 'G ← G0 + r·G1', 12, SOFT)
+    p.text(640, 225, 'claim ← c0 + r·c1', 12, SOFT)
+    p.text(640, 243, '+ r²·c2', 12, SOFT)
+    send(300, 'final element f: all that is left of m')
+    p.text(640, 305, 'f within ±n·B ?', 12, SOFT)
+    p.text(640, 323, "claim = half^L·f·G' ?", 12, SOFT)
+    p.text(630, 365, 'accepted or rejected', 13, INK, 'bold', 'middle')
+    p.save('rounds.svg')
+
+
+def tree():
+    p = Picture(760, 380, 'The tree of depth 2 and its numbering')
+    level = {0: 60, 1: 170, 2: 290}
+    xs = {0: 380}
+    for j in range(3):
+        xs[1 + j] = 140 + 240 * j
+    for k in range(1, 4):
+        for j in range(3):
+            xs[3 * k + 1 + j] = xs[k] + 76 * (j - 1)
+    for k in range(0, 4):
+        for j in range(3):
+            c = 3 * k + 1 + j
+            y = level[0] if k == 0 else level[1]
+            yc = level[1] if k == 0 else level[2]
+            p.line(xs[k], y + 18, xs[c], yc - 18)
+            if k == 0:
+                p.text((xs[k] + xs[c]) // 2 + (8 if j == 2 else -8), (y + yc) // 2 - 4, 'r%d' % (j + 1), 12, SOFT, 'normal', 'start' if j == 2 else 'end')
+    for k in range(0, 13):
+        y = level[0] if k == 0 else level[1] if k < 4 else level[2]
+        p.circle(xs[k], y, 18, CODE if k < 4 else BELIEVE, str(k))
+        if k >= 4:
+            p.text(xs[k], level[2] + 36, 'leaf %d' % (k - 4), 11, SOFT, 'normal', 'middle')
+    p.text(410, 50, 'root: c0, c1, c2 and three different challenges', 12, SOFT)
+    p.text(20, 30, 'Children of node k: 3k+1, 3k+2, 3k+3.', 12, SOFT)
+    p.text(20, 48, 'L = 2: N = 4 branching nodes, number N + j is leaf j.', 12, SOFT)
+    p.text(20, 350, 'A leaf has a final element. Going up, a node makes Σ μ_j·v_j followed by Σ μ_j·r_j·v_j of its children’s vectors;', 12, SOFT)
+    p.text(20, 368, 'the root’s vector w opens 4^L times the commitment.', 12, SOFT)
+    p.save('tree.svg')
+
+
+layers()
+rounds()
+tree()

@@ -1,0 +1,101 @@
+/* Wovenrock: a verified sumcheck argument over the ring of polynomials modulo X^d + 1. The functions of libexports.a.
+ *
+ * Every function is proved to meet its contract (crates/exports) for all numbers and for slices of all lengths: it stays inside the slices that it
+ * is lent, ends, and needs nothing of its arguments but this:
+ *
+ *   - a slice is a pointer and, behind it, its length in numbers (not in bytes);
+ *   - a pointer is not null, also where the length is 0, and is aligned for its type;
+ *   - a slice that a function writes (no const) overlaps no other slice of the same call.
+ *
+ * Settings are the first four numbers of most calls:
+ *
+ *   degree    d, 2, 4, 8, 16, 32 or 64: an element has d coefficients, that of X^0 first, and X^d = -1
+ *   depth     L, 0 to 8: a table has n = 2^L elements
+ *   modulus   q, odd, 3 to 2147483647: coefficients of key, commitment and round polynomials are 0 to q - 1
+ *   bound     B, 1 to 127: coefficients of a message are from -B to B
+ *
+ * A table is flat: element i of it begins at number i*d, and it has exactly the length that is said here. A challenge is an exponent e from 0 to
+ * 2d - 1 and stands for X^e.
+ *
+ * An element that is not in a table has 64 places in a slice of its own. A function that reads one takes the first 64 numbers of the slice; those
+ * that the slice does not have count as 0, and places from d on are not read. A function that writes one fills all 64 places, those from d on
+ * with 0, and the slice must have room for them; numbers behind them stay.
+ *
+ * Every function returns the number of the first refusal that applies, in the order of this table, and 0 where nothing is refused:
+ *
+ *     3  degree      d is not listed
+ *     4  depth       L is over 8
+ *     5  modulus     q is even or out of range
+ *     6  bound       B is out of range
+ *     7  size        a table has not exactly its length
+ *     8  residue     a coefficient of a key, commitment, round polynomial or claim is not 0 to q - 1
+ *     9  tall        a message coefficient is beyond its bound
+ *    10  challenge   an exponent is not 0 to 2d - 1
+ *    11  turn        a round with L or more rounds done, an end with other than L done, a closed record
+ *    12  twin        two equal exponents at one node
+ *    13  branch      a path of the tree that the verifier rejects
+ *    14  growth      (12*d*d)^L * B is over 2^62
+ *    15  slack       the slack is not 1 to 65536
+ *   100              a slice that an element, a round polynomial or a record is to be written to is too short; this is tested before all others
+ *
+ * (1, long, and 2, text, are refusals of texts.) A refused call writes nothing to the tables that it is lent; an element that it would have
+ * written is 0 at all 64 places, and a verdict is 0. With 100 nothing at all is written.
+ */
+#ifndef WOVENROCK_H
+#define WOVENROCK_H
+
+#include <stddef.h>
+#include <stdint.h>
+
+#ifdef __cplusplus
+extern "C" {
+#endif
+
+/* Places of an element that is not in a table. */
+#define WOVENROCK_ELEMENT 64
+
+/* Places of a round polynomial. */
+#define WOVENROCK_POLYNOMIAL 192
+
+/* What is returned where a slice for an element or a record is too short. */
+#define WOVENROCK_SHORT 100
+
+/* Are these settings allowed: refusals 3 to 6. */
+uint32_t wovenrock_settings(uint32_t degree, uint32_t depth, uint32_t modulus, uint32_t bound);
+
+/* Commit: the sum of m_i*G_i modulo q over the n elements m_i of the message and G_i of the key, written to `commitment` (64 places).
+ * Tables: key n*d, message n*d. Refusals 3 to 9. */
+uint32_t wovenrock_commit(uint32_t degree, uint32_t depth, uint32_t modulus, uint32_t bound,
+                          const uint32_t *key, size_t key_length,
+                          const int32_t *message, size_t message_length,
+                          uint32_t *commitment, size_t commitment_length);
+
+/* The prover's round: the round polynomial of round done + 1, whose three elements c0, c1, c2 are written to `polynomial` (192 places: c0 at 0, c1 at
+ * 64, c2 at 128). Tables: key n*d, message n*d, both folded `done` times. Refusals 3 to 9, 11; what is left of the message must lie within
+ * 2^done * B. */
+uint32_t wovenrock_round(uint32_t degree, uint32_t depth, uint32_t modulus, uint32_t bound,
+                         uint32_t done,
+                         const uint32_t *key, size_t key_length,
+                         const int32_t *message, size_t message_length,
+                         uint32_t *polynomial, size_t polynomial_length);
+
+/* The fold of both tables by X^exponent, with `done` rounds done: of the n/2^done elements that are left, the first half becomes first half plus
+ * X^exponent times second half, over whole numbers in the message and modulo q in the key. Every number behind it stays.
+ * Tables: key n*d, message n*d. Refusals 3 to 11; what is left of the message must lie within 2^done * B. */
+uint32_t wovenrock_fold(uint32_t degree, uint32_t depth, uint32_t modulus, uint32_t bound,
+                        uint32_t done, uint32_t exponent,
+                        uint32_t *key, size_t key_length,
+                        int32_t *message, size_t message_length);
+
+/* The prover's end: the first element of a message that was folded L times, written to `last` (64 places).
+ * Tables: message n*d. Refusals 3 to 7, 9, 11. */
+uint32_t wovenrock_end(uint32_t degree, uint32_t depth, uint32_t modulus, uint32_t bound,
+                       uint32_t done,
+                       const int32_t *message, size_t message_length,
+                       int32_t *last, size_t last_length);
+
+#ifdef __cplusplus
+}
+#endif
+
+#endif

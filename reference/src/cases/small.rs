@@ -1,0 +1,313 @@
+//! About forty small cases, degree 2 or 4 and depth 0 to 2, with the listing
+//! of document 01 among them.
+
+use super::{calls, chains, Page};
+use crate::draw::session::{self, Move};
+use crate::draw::tables::{self, OpeningInput, ProverCall};
+use crate::draw::text::{self, Tables, TextInput, WriteInput};
+use crate::draw::transcript::{self, Transcript};
+use crate::draw::tree::{self, Tree};
+use crate::draw::{base, damage_by, Limits};
+use crate::plain;
+use crate::random::Random;
+use crate::types::*;
+
+pub fn print(page: &mut Page, random: &mut Random) {
+    tables(page, random);
+    checks(page, random);
+    judgements(page, random);
+    extractions(page, random);
+    sessions(page, random);
+    texts(page, random);
+}
+
+/// Zeros behind the degree, to keep the cases small.
+fn tidy<T: Default>(places: &mut [T; PLACES], d: usize) {
+    for place in &mut places[d..] {
+        *place = T::default();
+    }
+}
+
+/// The opening of document 01's listing.
+fn listing() -> OpeningInput {
+    let settings = Settings::new(2, 1, 17, 1);
+    OpeningInput {
+        shape: base::shape(settings),
+        settings,
+        key: vec![3, 5, 7, 2],
+        message: vec![1, -1, 1, 0],
+        challenges: vec![1],
+        rounds: vec![0; 6],
+    }
+}
+
+/// An opening whose rounds' table is 0 before the call.
+fn opening(random: &mut Random, settings: Settings) -> OpeningInput {
+    let mut input = tables::opening_at(random, settings);
+    input.rounds.fill(0);
+    input
+}
+
+fn tables(page: &mut Page, random: &mut Random) {
+    calls::opening(page, &listing());
+    for (d, l, q, b) in [(4, 0, 9, 3), (2, 2, 2_147_483_629, 127), (4, 1, 3, 2)] {
+        let input = opening(random, Settings::new(d, l, q, b));
+        calls::commit(page, &input);
+    }
+    for (d, l, q, b) in [(2, 0, 17, 5), (2, 2, 9, 1), (4, 1, 2_147_483_647, 100)] {
+        let input = opening(random, Settings::new(d, l, q, b));
+        calls::opening(page, &input);
+    }
+    let mut input = opening(random, Settings::new(2, 1, 17, 2));
+    damage_by(random, &mut input, &[8, 9]);
+    calls::opening(page, &input);
+    let limits = Limits::small();
+    for call in [ProverCall::Round, ProverCall::Fold, ProverCall::End] {
+        // One that is answered and one that is refused by its turn.
+        for wanted in [0, 11] {
+            let input = drawn_until(random, |random| {
+                let (input, number) = tables::prover(random, &limits, call);
+                let fine = number == wanted && input.shape.l > 0;
+                fine.then_some(input)
+            });
+            match call {
+                ProverCall::Round => calls::round(page, &input),
+                ProverCall::Fold => drop(calls::fold(page, &input)),
+                ProverCall::End => calls::end(page, &input),
+            }
+        }
+    }
+}
+
+/// Draws until there is a result.
+fn drawn_until<T>(random: &mut Random, draw: impl Fn(&mut Random) -> Option<T>) -> T {
+    loop {
+        if let Some(found) = draw(random) {
+            return found;
+        }
+    }
+}
+
+fn tidy_transcript(mut input: Transcript) -> Transcript {
+    tidy(&mut input.commitment, input.shape.d);
+    tidy(&mut input.final_element, input.shape.d);
+    input
+}
+
+/// A transcript with the given cause of rejection.
+fn spoiled(random: &mut Random, settings: Settings, cause: Cause) -> Transcript {
+    drawn_until(random, |random| {
+        let mut input = tidy_transcript(transcript::honest_at(random, settings));
+        let found = transcript::spoil(random, &mut input);
+        (found == Some(cause)).then_some(input)
+    })
+}
+
+fn checks(page: &mut Page, random: &mut Random) {
+    let honest = transcript::honest_at(random, Settings::new(2, 2, 17, 3));
+    calls::check(page, &tidy_transcript(honest));
+    let free = drawn_until(random, |random| {
+        let input = transcript::free(random, &Limits::small());
+        (input.shape.l == 1).then_some(input)
+    });
+    calls::check(page, &tidy_transcript(free));
+    for (d, l, q, b, cause) in [
+        (2, 2, 9, 2, Cause::Round(1)),
+        (2, 2, 2_147_483_647, 2, Cause::Round(2)),
+        (4, 1, 17, 2, Cause::Bound),
+        (2, 2, 3, 1, Cause::Equation),
+        (4, 0, 17, 7, Cause::Equation),
+    ] {
+        let input = spoiled(random, Settings::new(d, l, q, b), cause);
+        calls::check(page, &input);
+    }
+    let mut input = tidy_transcript(transcript::honest_at(random, Settings::new(2, 1, 17, 1)));
+    damage_by(random, &mut input, &[8, 10]);
+    calls::check(page, &input);
+}
+
+fn judgements(page: &mut Page, random: &mut Random) {
+    let limits = Limits::small();
+    // Yes, no by the bound, no by the equation, refused.
+    for wanted in [
+        Some((true, true)),
+        Some((false, true)),
+        Some((true, false)),
+        None,
+    ] {
+        let mut input = drawn_until(random, |random| {
+            let (input, _) = tables::judge(random, &limits);
+            let found = judged(&input);
+            (input.shape.l == 1 && found == wanted.unwrap_or(found)).then_some(input)
+        });
+        tidy(&mut input.commitment, input.shape.d);
+        if wanted.is_none() {
+            damage_by(random, &mut input, &[15]);
+        }
+        calls::judge(page, &input);
+    }
+}
+
+/// Whether w is within its bound, and whether it opens.
+fn judged(input: &tables::JudgeInput) -> (bool, bool) {
+    let bound = crate::refuse::growth(&input.shape).unwrap_or(i64::MAX);
+    let small = input.w.iter().all(|&x| -bound <= x && x <= bound);
+    let q = i64::from(input.shape.q);
+    let reduced: Vec<i64> = input.w.iter().map(|x| x % q).collect();
+    let (c, key) = (input.c, &input.key);
+    // The same question with the numbers reduced, so that the bound is met;
+    // with L = 1 it is at least 48.
+    let wide = Settings {
+        bound: 127,
+        ..input.settings
+    };
+    let opens = if q <= 48 * 127 {
+        plain::judge(wide, input.commitment, c, key, &reduced).yes
+    } else {
+        small && plain::judge(input.settings, input.commitment, c, key, &input.w).yes
+    };
+    (small, opens)
+}
+
+fn tidy_tree(mut tree: Tree) -> Tree {
+    tidy(&mut tree.commitment, tree.shape.d);
+    tree.w.fill(0);
+    tree
+}
+
+fn extractions(page: &mut Page, random: &mut Random) {
+    for (d, l, q, b) in [(2, 0, 17, 1), (2, 1, 9, 2), (4, 1, 2_147_483_647, 3)] {
+        let (tree, _) = tree::honest_at(random, Settings::new(d, l, q, b));
+        calls::extract(page, &tidy_tree(tree));
+    }
+    for (d, l, q, b) in [(2, 1, 17, 1), (4, 1, 9, 2), (2, 2, 3, 1)] {
+        let tree = drawn_until(random, |random| {
+            let tree = tree::free_at(random, Settings::new(d, l, q, b));
+            no_multiple(&tree).then_some(tree)
+        });
+        calls::extract(page, &tidy_tree(tree));
+    }
+    for number in [12, 13] {
+        let mut tree = tree::free_at(random, Settings::new(2, 1, 17, 2));
+        damage_by(random, &mut tree, &[number]);
+        calls::extract(page, &tidy_tree(tree));
+    }
+}
+
+/// Whether w is no multiple of 4^L, so that the leaves are folds of no m.
+fn no_multiple(tree: &Tree) -> bool {
+    let mut w = tree.w.clone();
+    plain::extract(
+        tree.settings,
+        tree.commitment,
+        &tree.key,
+        &tree.rounds,
+        &tree.challenges,
+        &tree.leaves,
+        &mut w,
+    );
+    w.iter().any(|x| x % 4i64.pow(tree.settings.depth) != 0)
+}
+
+/// The listing move by move, a round that is rejected, and a session with refused moves between.
+fn sessions(page: &mut Page, random: &mut Random) {
+    chains::print_moves(page, random, &listing(), false);
+    let round = drawn_until(random, |random| {
+        let mut input = session::round(random, &Limits::small()).0;
+        input
+            .polynomial
+            .iter_mut()
+            .for_each(|c| tidy(c, input.shape.d));
+        tidy(&mut input.record.claim, input.shape.d);
+        let answer = plain::session_round(input.record, input.polynomial, input.e);
+        (answer.verdict == REJECTED).then_some(input)
+    });
+    calls::session_round(page, &round);
+    let session = drawn_until(random, |random| {
+        let session = session::session(random, &Limits::small());
+        let s = session.settings;
+        let at_end = matches!(session.cause, Some(Cause::Bound | Cause::Equation));
+        let fits = s.degree == 2 && s.depth == 1 && session.moves.len() == 4;
+        (fits && at_end && session.moves[0].1 != 0).then_some(session)
+    });
+    chains::print_session(page, tidy_session(session));
+}
+
+fn tidy_session(mut session: session::Session) -> session::Session {
+    let d = session.settings.degree as usize;
+    tidy(&mut session.commitment, d);
+    for (step, _) in &mut session.moves {
+        match step {
+            Move::Round(c, _) => c.iter_mut().for_each(|c| tidy(c, d)),
+            Move::End(f, _) => tidy(f, d),
+        }
+    }
+    session
+}
+
+/// The listing's input of `prove`.
+fn provable_listing() -> TextInput {
+    let input = listing();
+    let tables = Tables {
+        key: input.key,
+        message: input.message,
+        challenges: input.challenges,
+        ..Tables::default()
+    };
+    TextInput {
+        shape: input.shape,
+        parts: [true, true, false, false, true, false],
+        lines: text::lines(input.settings, &tables),
+        lengths: Some(tables.lengths()),
+    }
+}
+
+fn texts(page: &mut Page, random: &mut Random) {
+    let input = provable_listing();
+    calls::read(page, &input);
+    calls::prove(page, &input.text(), 200);
+    for numbers in [&[2][..], &[3], &[7, 9], &[8]] {
+        let mut input = provable_listing();
+        damage_by(random, &mut input, numbers);
+        calls::read(page, &input);
+    }
+    let (settings, parts, tables) = written_tables();
+    for room in [160, 100] {
+        calls::write(
+            page,
+            &WriteInput {
+                shape: base::shape(settings),
+                settings,
+                parts,
+                tables: tables.clone(),
+                room,
+            },
+        );
+    }
+    calls::verify(page, &verifiable_listing());
+}
+
+/// Tables of parts 3 and 6 at depth 0.
+fn written_tables() -> (Settings, Parts, Tables) {
+    let tables = Tables {
+        commitment: vec![2_147_483_646, 0],
+        final_element: vec![-2_147_483_647, 10],
+        ..Tables::default()
+    };
+    let parts = [false, false, true, false, false, true];
+    (Settings::new(2, 0, 2_147_483_647, 127), parts, tables)
+}
+
+/// The transcript of the listing as a text.
+fn verifiable_listing() -> Vec<u8> {
+    let input = listing();
+    let tables = Tables {
+        key: input.key,
+        message: vec![],
+        commitment: vec![15, 4],
+        rounds: vec![4, 1, 6, 0, 12, 1],
+        challenges: vec![1],
+        final_element: vec![1, 0],
+    };
+    text::lines(input.settings, &tables).concat()
+}

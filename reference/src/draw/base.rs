@@ -1,0 +1,193 @@
+//! Drawn settings, tables and elements, and the damages shared by calls.
+
+use super::Limits;
+use crate::random::Random;
+use crate::refuse::{self, Shape};
+use crate::types::{Residues, Settings, Wholes, PLACES};
+
+/// The shape of settings that are known to be valid.
+pub fn shape(s: Settings) -> Shape {
+    refuse::settings(s).expect("valid settings")
+}
+
+/// Drawn settings whose tables and, if wanted, trees are within the limits.
+pub fn settings(random: &mut Random, limits: &Limits, for_tree: bool) -> Settings {
+    loop {
+        let degree = random.pick(&[2, 4, 8, 16, 32, 64]);
+        let depth = random.below(limits.depth as usize + 1) as u32;
+        let table = (degree as usize) << depth;
+        let tree = 3usize.pow(depth) * degree as usize;
+        let fits = table <= limits.table && (!for_tree || tree <= limits.tree);
+        if degree <= limits.degree && fits {
+            return Settings::new(degree, depth, modulus(random), bound(random));
+        }
+    }
+}
+
+/// A modulus: a special one, or an odd one of any length.
+pub fn modulus(random: &mut Random) -> u32 {
+    const SPECIAL: [u32; 10] = [
+        3,
+        5,
+        9,
+        15,
+        17,
+        12_289,
+        65_535,
+        65_537,
+        2_147_483_645,
+        2_147_483_647,
+    ];
+    if random.one_in(2) {
+        return random.pick(&SPECIAL);
+    }
+    let bits = random.between(2, 31) as u32;
+    let high = 1u64 << (bits - 1);
+    (high + random.word() % high) as u32 | 1
+}
+
+pub fn bound(random: &mut Random) -> u32 {
+    if random.one_in(2) {
+        random.pick(&[1, 2, 127])
+    } else {
+        random.between(1, 127) as u32
+    }
+}
+
+/// A table of residues: mostly any, at times only the smallest or largest.
+pub fn residues(random: &mut Random, length: usize, q: u32) -> Vec<u32> {
+    let style = random.below(8);
+    let draw = |_| match style {
+        0 => q - 1,
+        1 => random.pick(&[0, 0, 1, q - 1]),
+        _ => random.residue(q),
+    };
+    (0..length).map(draw).collect()
+}
+
+/// A table of whole numbers within plus or minus `bound`.
+pub fn wholes(random: &mut Random, length: usize, bound: i64) -> Vec<i32> {
+    let style = random.below(8);
+    let draw = |_| match style {
+        0 => bound as i32,
+        1 => random.pick(&[-bound as i32, bound as i32, 0]),
+        _ => random.between(-bound, bound) as i32,
+    };
+    (0..length).map(draw).collect()
+}
+
+/// A list of exponents, at times only the smallest and largest.
+pub fn exponents(random: &mut Random, length: usize, d: usize) -> Vec<u32> {
+    let extreme = random.one_in(8);
+    let draw = |_| {
+        if extreme {
+            random.pick(&[0, d as u32, 2 * d as u32 - 1])
+        } else {
+            random.below(2 * d) as u32
+        }
+    };
+    (0..length).map(draw).collect()
+}
+
+/// Three different exponents for each node of a tree.
+pub fn node_exponents(random: &mut Random, nodes: usize, d: usize) -> Vec<u32> {
+    let mut list = Vec::with_capacity(3 * nodes);
+    for _ in 0..nodes {
+        let mut all: Vec<u32> = (0..2 * d as u32).collect();
+        for _ in 0..3 {
+            let place = random.below(all.len());
+            list.push(all.swap_remove(place));
+        }
+    }
+    list
+}
+
+/// An element by value. Places from the degree on are not read by any call,
+/// so at times they hold anything.
+pub fn residues_by_value(random: &mut Random, coefficients: &[u32]) -> Residues {
+    let junk = random.one_in(3);
+    let mut places = [0; PLACES];
+    for (k, place) in places.iter_mut().enumerate() {
+        *place = match coefficients.get(k) {
+            Some(&x) => x,
+            None if junk => random.word() as u32,
+            None => 0,
+        };
+    }
+    places
+}
+
+/// The same for whole numbers.
+pub fn wholes_by_value(random: &mut Random, coefficients: &[i32]) -> Wholes {
+    let junk = random.one_in(3);
+    let mut places = [0; PLACES];
+    for (k, place) in places.iter_mut().enumerate() {
+        *place = match coefficients.get(k) {
+            Some(&x) => x,
+            None if junk => random.word() as i32,
+            None => 0,
+        };
+    }
+    places
+}
+
+/// Damages one setting: refusals 3 to 6.
+pub fn damage_settings(random: &mut Random, s: &mut Settings, number: u32) -> bool {
+    match number {
+        refuse::DEGREE => s.degree = random.pick(&[0, 1, 3, 6, 12, 63, 65, 128, u32::MAX]),
+        refuse::DEPTH => s.depth = random.pick(&[9, 10, 31, 32, 64, u32::MAX]),
+        refuse::MODULUS => {
+            let even = s.modulus & !1;
+            let list = [0, 1, 2, 4, even, 1 << 31, (1 << 31) + 1, u32::MAX];
+            s.modulus = random.pick(&list);
+        }
+        refuse::BOUND => s.bound = random.pick(&[0, 128, 255, u32::MAX]),
+        _ => return false,
+    }
+    true
+}
+
+/// Gives a table another length.
+pub fn damage_length<T: Copy + Default>(random: &mut Random, table: &mut Vec<T>) -> bool {
+    match random.below(4) {
+        0 if !table.is_empty() => table.clear(),
+        1 if !table.is_empty() => {
+            table.pop();
+        }
+        2 if !table.is_empty() => table.extend_from_within(..),
+        _ => table.push(T::default()),
+    }
+    true
+}
+
+/// Puts a number that is no residue at one place.
+pub fn damage_residue(random: &mut Random, table: &mut [u32], q: u32) -> bool {
+    if table.is_empty() {
+        return false;
+    }
+    let place = random.below(table.len());
+    table[place] = random.pick(&[q, q + 1, u32::MAX, u32::MAX - q]);
+    true
+}
+
+/// Puts a number beyond the bound at one place.
+pub fn damage_whole(random: &mut Random, table: &mut [i32], bound: i64) -> bool {
+    if table.is_empty() {
+        return false;
+    }
+    let place = random.below(table.len());
+    let over = bound as i32 + 1;
+    table[place] = random.pick(&[over, -over, i32::MAX, i32::MIN]);
+    true
+}
+
+/// Puts an exponent outside 0 to 2d-1 at one place.
+pub fn damage_exponent(random: &mut Random, list: &mut [u32], d: usize) -> bool {
+    if list.is_empty() {
+        return false;
+    }
+    let place = random.below(list.len());
+    let end = 2 * d as u32;
+    list[place] = random.pick(&[end, end + 1, 2 * end, u32::MAX]);
+    true
+}

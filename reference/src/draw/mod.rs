@@ -1,0 +1,89 @@
+//! Drawn inputs for every call: valid ones, and ones damaged so that a known
+//! refusal or rejection follows.
+//!
+//! Every input keeps the shape of its settings from before any damage, so
+//! that several damages can be put on one input. What a damaged input must
+//! be refused with is the smallest of the numbers put on it.
+
+pub mod base;
+pub mod session;
+pub mod tables;
+pub mod text;
+pub mod transcript;
+pub mod tree;
+
+use crate::random::Random;
+
+/// The largest sizes to draw.
+#[derive(Clone, Copy, Debug)]
+pub struct Limits {
+    pub degree: u32,
+    pub depth: u32,
+    /// Coefficients of a table of n elements.
+    pub table: usize,
+    /// Coefficients of all leaves of a tree.
+    pub tree: usize,
+}
+
+impl Limits {
+    /// All degrees and depths, with a limit on the number of coefficients.
+    pub fn new(table: usize, tree: usize) -> Limits {
+        Limits {
+            degree: 64,
+            depth: 8,
+            table,
+            tree,
+        }
+    }
+
+    /// Degrees 2 and 4, depths 0 to 2.
+    pub fn small() -> Limits {
+        Limits {
+            degree: 4,
+            depth: 2,
+            table: 16,
+            tree: 36,
+        }
+    }
+}
+
+/// An input that can be damaged.
+pub trait Damage {
+    /// The refusals that `damage` can bring about.
+    const NUMBERS: &'static [u32];
+
+    /// Damages the input so that this refusal applies, and answers whether
+    /// that could be done. An input's own turn or growth is not undone.
+    fn damage(&mut self, random: &mut Random, number: u32) -> bool;
+}
+
+/// Puts the given refusals on an input, the largest number first, and
+/// answers the smallest that took; 0 for none.
+pub fn damage_by<T: Damage>(random: &mut Random, input: &mut T, numbers: &[u32]) -> u32 {
+    let mut numbers = numbers.to_vec();
+    numbers.sort_unstable_by(|a, b| b.cmp(a));
+    numbers.dedup();
+    let mut expected = 0;
+    for number in numbers {
+        if input.damage(random, number) {
+            expected = number;
+        }
+    }
+    expected
+}
+
+/// Puts up to three drawn refusals on an input, often none or one.
+pub fn damage_some<T: Damage>(random: &mut Random, input: &mut T) -> u32 {
+    let count = random.pick(&[0, 0, 0, 1, 1, 1, 2, 3]);
+    let numbers: Vec<u32> = (0..count).map(|_| random.pick(T::NUMBERS)).collect();
+    damage_by(random, input, &numbers)
+}
+
+/// The refusal of an input that has one of its own and one put on it, where
+/// 0 stands for none.
+pub fn smaller(own: u32, put: u32) -> u32 {
+    match (own, put) {
+        (0, number) | (number, 0) => number,
+        (a, b) => a.min(b),
+    }
+}

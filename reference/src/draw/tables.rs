@@ -1,0 +1,268 @@
+//! Inputs of the calls on key and message: commitment, prover's calls, whole
+//! opening, judge.
+
+use super::base::*;
+use super::{Damage, Limits};
+use crate::fast;
+use crate::random::Random;
+use crate::refuse::{self, Shape};
+use crate::types::*;
+
+/// Input of the commitment and of the whole opening.
+#[derive(Clone, Debug)]
+pub struct OpeningInput {
+    pub shape: Shape,
+    pub settings: Settings,
+    pub key: Vec<u32>,
+    pub message: Vec<i32>,
+    pub challenges: Vec<u32>,
+    /// The rounds' table, to be written: any numbers.
+    pub rounds: Vec<u32>,
+}
+
+pub fn opening(random: &mut Random, limits: &Limits) -> OpeningInput {
+    let settings = settings(random, limits, false);
+    opening_at(random, settings)
+}
+
+pub fn opening_at(random: &mut Random, settings: Settings) -> OpeningInput {
+    let shape = shape(settings);
+    OpeningInput {
+        shape,
+        settings,
+        key: residues(random, shape.table(), shape.q),
+        message: wholes(random, shape.table(), shape.b),
+        challenges: exponents(random, shape.l, shape.d),
+        rounds: vec![u32::MAX; shape.rounds()],
+    }
+}
+
+impl Damage for OpeningInput {
+    const NUMBERS: &'static [u32] = &[3, 4, 5, 6, 7, 8, 9, 10];
+
+    fn damage(&mut self, random: &mut Random, number: u32) -> bool {
+        let Shape { d, q, b, .. } = self.shape;
+        match number {
+            refuse::SIZE => match random.below(4) {
+                0 => damage_length(random, &mut self.key),
+                1 => damage_length(random, &mut self.message),
+                2 => damage_length(random, &mut self.challenges),
+                _ => damage_length(random, &mut self.rounds),
+            },
+            refuse::RESIDUE => damage_residue(random, &mut self.key, q),
+            refuse::TALL => damage_whole(random, &mut self.message, b),
+            refuse::CHALLENGE => damage_exponent(random, &mut self.challenges, d),
+            _ => damage_settings(random, &mut self.settings, number),
+        }
+    }
+}
+
+/// Input of the commitment alone.
+#[derive(Clone, Debug)]
+pub struct CommitInput(pub OpeningInput);
+
+impl Damage for CommitInput {
+    const NUMBERS: &'static [u32] = &[3, 4, 5, 6, 7, 8, 9];
+
+    fn damage(&mut self, random: &mut Random, number: u32) -> bool {
+        match number {
+            refuse::SIZE if random.one_in(2) => damage_length(random, &mut self.0.key),
+            refuse::SIZE => damage_length(random, &mut self.0.message),
+            refuse::CHALLENGE => false,
+            _ => self.0.damage(random, number),
+        }
+    }
+}
+
+/// Which of the prover's three calls an input is for.
+#[derive(Clone, Copy, Debug, PartialEq, Eq)]
+pub enum ProverCall {
+    Round,
+    Fold,
+    End,
+}
+
+/// Input of the prover's round, fold and end.
+#[derive(Clone, Debug)]
+pub struct ProverInput {
+    pub call: ProverCall,
+    pub shape: Shape,
+    pub settings: Settings,
+    pub t: u32,
+    pub e: u32,
+    pub key: Vec<u32>,
+    pub message: Vec<i32>,
+}
+
+/// Draws an input, and answers with it refusal 11 when `t` is a wrong turn.
+/// What is behind the elements left may hold any whole numbers.
+pub fn prover(random: &mut Random, limits: &Limits, call: ProverCall) -> (ProverInput, u32) {
+    let settings = settings(random, limits, false);
+    let shape = shape(settings);
+    let t = drawn_turn(random, call, settings.depth);
+    let wrong = match call {
+        ProverCall::End => t != settings.depth,
+        _ => t >= settings.depth,
+    };
+    let mut message = wholes(random, shape.table(), i64::from(i32::MAX));
+    let left = if t <= settings.depth {
+        (shape.n >> t) * shape.d
+    } else {
+        0
+    };
+    let within = wholes(random, left, shape.b << t.min(8));
+    message[..left].copy_from_slice(&within);
+    let input = ProverInput {
+        call,
+        shape,
+        settings,
+        t,
+        e: random.below(2 * shape.d) as u32,
+        key: residues(random, shape.table(), shape.q),
+        message,
+    };
+    (input, if wrong { refuse::TURN } else { 0 })
+}
+
+/// Mostly a right turn, where there is one.
+fn drawn_turn(random: &mut Random, call: ProverCall, depth: u32) -> u32 {
+    if random.one_in(5) {
+        return random.pick(&[depth, depth + 1, 9, 31, 32, 64, u32::MAX]);
+    }
+    match call {
+        ProverCall::End if random.one_in(5) => random.below(depth as usize + 1) as u32,
+        ProverCall::End => depth,
+        _ => random.below(depth.max(1) as usize) as u32,
+    }
+}
+
+impl ProverInput {
+    /// Coefficients that refusal 9 tests, none where it is not tested.
+    fn tested(&self) -> usize {
+        let depth = self.shape.l as u32;
+        let tested = match self.call {
+            ProverCall::End => self.t <= depth,
+            _ => self.t < depth,
+        };
+        if tested {
+            let left = (self.shape.n >> self.t) * self.shape.d;
+            left.min(self.message.len())
+        } else {
+            0
+        }
+    }
+}
+
+impl Damage for ProverInput {
+    const NUMBERS: &'static [u32] = &[3, 4, 5, 6, 7, 8, 9, 10];
+
+    fn damage(&mut self, random: &mut Random, number: u32) -> bool {
+        let Shape { d, q, b, .. } = self.shape;
+        let takes_key = self.call != ProverCall::End;
+        match number {
+            refuse::SIZE if takes_key && random.one_in(2) => damage_length(random, &mut self.key),
+            refuse::SIZE => damage_length(random, &mut self.message),
+            refuse::RESIDUE => takes_key && damage_residue(random, &mut self.key, q),
+            refuse::TALL => {
+                let tested = self.tested();
+                let bound = b << self.t.min(8);
+                damage_whole(random, &mut self.message[..tested], bound)
+            }
+            refuse::CHALLENGE if self.call == ProverCall::Fold => {
+                let mut list = [self.e];
+                damage_exponent(random, &mut list, d);
+                self.e = list[0];
+                true
+            }
+            refuse::CHALLENGE => false,
+            _ => damage_settings(random, &mut self.settings, number),
+        }
+    }
+}
+
+/// Input of the judge.
+#[derive(Clone, Debug)]
+pub struct JudgeInput {
+    pub shape: Shape,
+    pub settings: Settings,
+    pub commitment: Residues,
+    pub c: u32,
+    pub key: Vec<u32>,
+    pub w: Vec<i64>,
+}
+
+/// Draws an input of the judge and answers with it refusal 14 or 0. The
+/// commitment is one that w opens, or w goes beyond its bound or the
+/// equation is spoiled.
+pub fn judge(random: &mut Random, limits: &Limits) -> (JudgeInput, u32) {
+    let settings = settings(random, limits, false);
+    let shape = shape(settings);
+    let key = residues(random, shape.table(), shape.q);
+    let (bound, number) = match refuse::growth(&shape) {
+        Ok(bound) => (bound, 0),
+        Err(number) => (1 << 62, number),
+    };
+    let c = random.pick(&[1, 2, 4, 16, 65_536, 65_535]);
+    let message = wholes(random, shape.table(), shape.b);
+    // c times a message opens c times its commitment, as far as it is small.
+    let mut w: Vec<i64> = message.iter().map(|&m| i64::from(m)).collect();
+    let small = i64::from(c) * shape.b <= bound;
+    let c = if small { c } else { 1 };
+    let mut commitment = fast::commit(settings, &key, &message).commitment;
+    for x in w.iter_mut() {
+        *x *= i64::from(c);
+    }
+    spoil_judged(random, &shape, bound, &mut commitment, &mut w);
+    let input = JudgeInput {
+        shape,
+        settings,
+        commitment: residues_by_value(random, &commitment[..shape.d]),
+        c,
+        key,
+        w,
+    };
+    (input, number)
+}
+
+/// Changes w or the commitment in some way, or not at all.
+fn spoil_judged(
+    random: &mut Random,
+    shape: &Shape,
+    bound: i64,
+    commitment: &mut Residues,
+    w: &mut [i64],
+) {
+    let place = random.below(w.len());
+    let q = i64::from(shape.q);
+    match random.below(8) {
+        0 => commitment[random.below(shape.d)] = random.residue(shape.q),
+        1 => w[place] = random.pick(&[bound, -bound, bound + 1, -bound - 1]),
+        2 => w[place] = random.pick(&[i64::MAX, i64::MIN]),
+        // A multiple of q more, which leaves the equation as it is, just
+        // within the bound or just beyond it.
+        3 => w[place] += (bound - w[place]) / q * q,
+        4 => w[place] += ((bound - w[place]) / q + 1) * q,
+        5 => w[place] -= ((bound + w[place]) / q + random.below(2) as i64) * q,
+        6 => w[place] += random.pick(&[-1, 1]),
+        _ => (),
+    }
+}
+
+impl Damage for JudgeInput {
+    const NUMBERS: &'static [u32] = &[3, 4, 5, 6, 7, 8, 15];
+
+    fn damage(&mut self, random: &mut Random, number: u32) -> bool {
+        let Shape { d, q, .. } = self.shape;
+        match number {
+            refuse::SIZE if random.one_in(2) => damage_length(random, &mut self.key),
+            refuse::SIZE => damage_length(random, &mut self.w),
+            refuse::RESIDUE if random.one_in(2) => damage_residue(random, &mut self.key, q),
+            refuse::RESIDUE => damage_residue(random, &mut self.commitment[..d], q),
+            refuse::SLACK => {
+                self.c = random.pick(&[0, 65_537, u32::MAX]);
+                true
+            }
+            _ => damage_settings(random, &mut self.settings, number),
+        }
+    }
+}

@@ -1,0 +1,488 @@
+//! Texts and the tables of a text.
+
+use super::base::*;
+use super::session::any_transcript;
+use super::{damage_by, Damage, Limits};
+use crate::random::Random;
+use crate::refuse::{self, Shape};
+use crate::types::*;
+
+/// The tables of parts 1 to 6; an absent one is empty.
+#[derive(Clone, Debug, PartialEq, Eq, Default)]
+pub struct Tables {
+    pub key: Vec<u32>,
+    pub message: Vec<i32>,
+    pub commitment: Vec<u32>,
+    pub rounds: Vec<u32>,
+    pub challenges: Vec<u32>,
+    pub final_element: Vec<i32>,
+}
+
+impl Tables {
+    pub fn lengths(&self) -> [usize; 6] {
+        [
+            self.key.len(),
+            self.message.len(),
+            self.commitment.len(),
+            self.rounds.len(),
+            self.challenges.len(),
+            self.final_element.len(),
+        ]
+    }
+
+    /// The values of part 1 to 6.
+    fn values(&self, part: usize) -> Vec<i64> {
+        let unsigned = |table: &[u32]| table.iter().map(|&x| i64::from(x)).collect();
+        let signed = |table: &[i32]| table.iter().map(|&x| i64::from(x)).collect();
+        match part {
+            1 => unsigned(&self.key),
+            2 => signed(&self.message),
+            3 => unsigned(&self.commitment),
+            4 => unsigned(&self.rounds),
+            5 => unsigned(&self.challenges),
+            _ => signed(&self.final_element),
+        }
+    }
+
+    /// Tables of the given lengths that hold numbers to be overwritten.
+    pub fn to_be_written(lengths: [usize; 6]) -> Tables {
+        Tables {
+            key: vec![u32::MAX; lengths[0]],
+            message: vec![i32::MIN; lengths[1]],
+            commitment: vec![u32::MAX; lengths[2]],
+            rounds: vec![u32::MAX; lengths[3]],
+            challenges: vec![u32::MAX; lengths[4]],
+            final_element: vec![i32::MIN; lengths[5]],
+        }
+    }
+}
+
+/// Drawn tables of the parts that are there.
+fn tables(random: &mut Random, shape: &Shape, parts: Parts) -> Tables {
+    let Shape { d, l, q, .. } = *shape;
+    let there = |part: usize, length: usize| if parts[part - 1] { length } else { 0 };
+    let final_bound = random.pick(&[shape.final_bound(), 9, 2_147_483_647]);
+    Tables {
+        key: residues(random, there(1, shape.table()), q),
+        message: wholes(random, there(2, shape.table()), shape.b),
+        commitment: residues(random, there(3, d), q),
+        rounds: residues(random, there(4, shape.rounds()), q),
+        challenges: exponents(random, there(5, l), d),
+        final_element: wholes(random, there(6, d), final_bound),
+    }
+}
+
+fn parts(random: &mut Random) -> Parts {
+    let bits = random.below(64);
+    std::array::from_fn(|i| bits >> i & 1 == 1)
+}
+
+/// Every line of a text with its line feed, the names line first.
+pub fn lines(s: Settings, tables: &Tables) -> Vec<Vec<u8>> {
+    let mut lines = vec![b"part item place value\n".to_vec()];
+    let settings = [s.degree, s.depth, s.modulus, s.bound].map(i64::from);
+    add_lines(&mut lines, 0, 4, &settings);
+    for part in 1..=6 {
+        let size = if part == 5 { 1 } else { s.degree as usize };
+        add_lines(&mut lines, part, size, &tables.values(part));
+    }
+    lines
+}
+
+fn add_lines(lines: &mut Vec<Vec<u8>>, part: usize, size: usize, values: &[i64]) {
+    for (i, value) in values.iter().enumerate() {
+        let line = format!("{part} {} {} {value}\n", i / size, i % size);
+        lines.push(line.into_bytes());
+    }
+}
+
+/// A text with what its reader is told and lent.
+#[derive(Clone, Debug)]
+pub struct TextInput {
+    pub shape: Shape,
+    pub parts: Parts,
+    pub lines: Vec<Vec<u8>>,
+    /// Lengths of the lent tables; the programs lend none.
+    pub lengths: Option<[usize; 6]>,
+}
+
+impl TextInput {
+    pub fn text(&self) -> Vec<u8> {
+        self.lines.concat()
+    }
+}
+
+/// A text for the reader, with its settings and tables.
+pub fn readable(random: &mut Random, limits: &Limits) -> (TextInput, Settings, Tables) {
+    let settings = settings(random, limits, false);
+    let shape = shape(settings);
+    let parts = parts(random);
+    let tables = tables(random, &shape, parts);
+    let input = TextInput {
+        shape,
+        parts,
+        lines: lines(settings, &tables),
+        lengths: Some(tables.lengths()),
+    };
+    (input, settings, tables)
+}
+
+/// A text for `prove`.
+pub fn provable(random: &mut Random, limits: &Limits) -> TextInput {
+    let settings = settings(random, limits, false);
+    let shape = shape(settings);
+    let parts = [true, true, false, false, true, false];
+    let tables = tables(random, &shape, parts);
+    TextInput {
+        shape,
+        parts,
+        lines: lines(settings, &tables),
+        lengths: None,
+    }
+}
+
+/// A text for `verify`, and whether it must be accepted.
+pub fn verifiable(random: &mut Random, limits: &Limits) -> (TextInput, bool) {
+    let (transcript, mut cause) = any_transcript(random, limits);
+    let d = transcript.shape.d;
+    let mut final_element = transcript.final_element[..d].to_vec();
+    for x in final_element.iter_mut().filter(|x| **x == i32::MIN) {
+        // No text holds this number; the next one is beyond the bound too.
+        *x += 1;
+        cause = cause.or(Some(Cause::Bound));
+    }
+    let tables = Tables {
+        key: transcript.key,
+        message: vec![],
+        commitment: transcript.commitment[..d].to_vec(),
+        rounds: transcript.rounds,
+        challenges: transcript.challenges,
+        final_element,
+    };
+    let input = TextInput {
+        shape: transcript.shape,
+        parts: [true, false, true, true, true, true],
+        lines: lines(transcript.settings, &tables),
+        lengths: None,
+    };
+    (input, cause.is_none())
+}
+
+/// Settings and tables whose text has exactly this length, between 42,000
+/// and 77,000 bytes: a long key with as many digits as are wanted.
+pub fn tables_of_length(length: usize) -> (Settings, Parts, Tables) {
+    let settings = Settings::new(64, 6, 2_147_483_647, 1);
+    let mut tables = Tables {
+        key: vec![0; 4096],
+        ..Tables::default()
+    };
+    let mut missing = length - lines(settings, &tables).concat().len();
+    for x in tables.key.iter_mut() {
+        let more = missing.min(9);
+        *x = 10u32.pow(more as u32);
+        missing -= more;
+    }
+    (settings, [true, false, false, false, false, false], tables)
+}
+
+/// Part of a value line, if the line has one.
+fn part_of(line: &[u8]) -> u8 {
+    line.first().copied().unwrap_or(0)
+}
+
+/// The four fields of a value line.
+fn fields(line: &[u8]) -> Vec<String> {
+    let text = String::from_utf8_lossy(line);
+    text.trim_end().split(' ').map(String::from).collect()
+}
+
+fn joined(fields: &[String]) -> Vec<u8> {
+    format!("{}\n", fields.join(" ")).into_bytes()
+}
+
+impl TextInput {
+    /// Gives a drawn line of one of these parts another value.
+    fn set_value(&mut self, random: &mut Random, parts: &[u8], values: &[i64]) -> bool {
+        let of_parts = |i: &usize| parts.contains(&part_of(&self.lines[*i]));
+        let places: Vec<usize> = (5..self.lines.len()).filter(of_parts).collect();
+        if places.is_empty() {
+            return false;
+        }
+        let place = random.pick(&places);
+        self.set_value_at(place, random.pick(values));
+        true
+    }
+
+    fn set_value_at(&mut self, place: usize, value: i64) {
+        let mut fields = fields(&self.lines[place]);
+        fields[3] = value.to_string();
+        self.lines[place] = joined(&fields);
+    }
+
+    /// Refusal 7: another length of a lent table, or other lines behind the
+    /// settings.
+    fn damage_size(&mut self, random: &mut Random) {
+        if let Some(lengths) = &mut self.lengths {
+            if random.one_in(3) {
+                let i = random.below(6);
+                lengths[i] = match lengths[i] {
+                    0 => random.pick(&[1, 2, 64]),
+                    length => random.pick(&[0, length - 1, length + 1]),
+                };
+                return;
+            }
+        }
+        let first = 5;
+        let count = self.lines.len() - first;
+        let place = first + random.below(count.max(1));
+        match random.below(6) {
+            0 if count > 0 => {
+                self.lines.remove(place);
+            }
+            1 if count > 0 => {
+                let line = self.lines[place].clone();
+                self.lines.insert(place, line);
+            }
+            2 if count > 1 => {
+                let other = first + (place - first + 1 + random.below(count - 1)) % count;
+                self.lines.swap(place, other);
+            }
+            3 if count > 0 => {
+                let mut fields = fields(&self.lines[place]);
+                let field = random.below(3);
+                let old: u64 = fields[field].parse().unwrap_or(0);
+                fields[field] = (old + 1).to_string();
+                self.lines[place] = joined(&fields);
+            }
+            4 if count > 0 => self.lines.truncate(place),
+            _ => {
+                let list = [
+                    "7 0 0 0",
+                    "0 0 0 2",
+                    "6 1 0 0",
+                    "2147483647 0 0 0",
+                    "1 999 0 0",
+                ];
+                let line = format!("{}\n", random.pick(&list));
+                self.lines.push(line.into_bytes());
+            }
+        }
+    }
+
+    /// Refusal 2: a line of another shape, or other lines in place of the
+    /// settings.
+    fn damage_shape(&mut self, random: &mut Random) {
+        match random.below(8) {
+            0 => self.damage_names(random),
+            1 => self.damage_settings_lines(random),
+            2 => self.damage_end(random),
+            3 => self.damage_bytes(random),
+            _ => self.damage_field(random),
+        }
+    }
+
+    fn damage_names(&mut self, random: &mut Random) {
+        match random.below(5) {
+            0 => {
+                self.lines.remove(0);
+            }
+            1 => self.lines[0] = b"part item place  value\n".to_vec(),
+            2 => self.lines[0] = b"Part item place value\n".to_vec(),
+            3 => self.lines[0] = b"part item place value\r\n".to_vec(),
+            _ => {
+                let names = self.lines[0].clone();
+                self.lines.insert(1, names);
+            }
+        }
+    }
+
+    fn damage_settings_lines(&mut self, random: &mut Random) {
+        let place = 1 + random.below(4);
+        match random.below(4) {
+            0 => self.lines.swap(place, 1 + place % 4),
+            1 if place < 4 => {
+                self.lines.remove(place);
+            }
+            2 if place < 4 => {
+                let line = self.lines[place].clone();
+                self.lines.insert(place, line);
+            }
+            _ => {
+                let mut fields = fields(&self.lines[place]);
+                fields[random.below(3)] = "5".to_string();
+                self.lines[place] = joined(&fields);
+            }
+        }
+    }
+
+    fn damage_end(&mut self, random: &mut Random) {
+        match random.below(4) {
+            0 => self.lines.clear(),
+            1 => self.lines.truncate(1 + random.below(4)),
+            2 => self.lines.push(b"\n".to_vec()),
+            _ => {
+                if let Some(last) = self.lines.last_mut() {
+                    last.pop();
+                }
+            }
+        }
+    }
+
+    /// A byte that no line has, or an empty line between.
+    fn damage_bytes(&mut self, random: &mut Random) {
+        let place = random.below(self.lines.len());
+        let line = &mut self.lines[place];
+        let end = line.len() - 1;
+        match random.below(5) {
+            0 => line.insert(end, b'\r'),
+            1 => line.insert(end, b' '),
+            2 => line.insert(0, b' '),
+            3 => {
+                let at = random.below(end + 1);
+                line.insert(at, random.pick(&[0, b'\t', b'x', b'.', 0xff, b'+']));
+            }
+            _ => line.insert(0, b'\n'),
+        }
+    }
+
+    /// One field of a value line that is no number, or too many or too few.
+    fn damage_field(&mut self, random: &mut Random) {
+        let place = 1 + random.below(self.lines.len() - 1);
+        let mut fields = fields(&self.lines[place]);
+        let i = random.below(4);
+        let negative = fields[i].starts_with('-');
+        match random.below(9) {
+            0 => fields[i] = String::new(),
+            1 if !negative => fields[i].insert(0, '0'),
+            2 => fields[i].insert(0, '+'),
+            3 if i < 3 || negative => fields[i].insert(0, '-'),
+            4 => fields[i] = "-0".to_string(),
+            5 => fields[i] = random.pick(&["2147483648", "4294967296"]).to_string(),
+            6 => {
+                fields[3] = random
+                    .pick(&["-2147483648", "-", "--1", "-01", "1-"])
+                    .to_string()
+            }
+            7 => {
+                fields.remove(i);
+            }
+            8 => fields.insert(i, "0".to_string()),
+            _ => fields[i] = "9".repeat(random.between(11, 40) as usize),
+        }
+        self.lines[place] = joined(&fields);
+    }
+
+    /// Refusal 1: behind the text, lines or digits up to over 65,536 bytes.
+    fn damage_long(&mut self, random: &mut Random) {
+        let missing = LONGEST_TEXT + 1 - self.text().len().min(LONGEST_TEXT);
+        let filler = if random.one_in(2) {
+            vec![b'0'; missing]
+        } else {
+            b"7 0 0 0\n".repeat(missing / 8 + 1)
+        };
+        self.lines.push(filler);
+    }
+}
+
+impl Damage for TextInput {
+    const NUMBERS: &'static [u32] = &[1, 2, 2, 3, 4, 5, 6, 7, 7, 8, 9, 10];
+
+    fn damage(&mut self, random: &mut Random, number: u32) -> bool {
+        const HIGH: i64 = 2_147_483_647;
+        let Shape { d, q, b, .. } = self.shape;
+        let (end, q) = (2 * d as i64, i64::from(q));
+        match number {
+            refuse::LONG => self.damage_long(random),
+            refuse::TEXT => self.damage_shape(random),
+            refuse::DEGREE => self.set_value_at(1, random.pick(&[0, 1, 3, -2, 128, HIGH])),
+            refuse::DEPTH => self.set_value_at(2, random.pick(&[9, 10, -1, HIGH, -HIGH])),
+            refuse::MODULUS => self.set_value_at(3, random.pick(&[0, 1, 2, 18, -17, HIGH - 1])),
+            refuse::BOUND => self.set_value_at(4, random.pick(&[0, 128, -1, HIGH])),
+            refuse::SIZE => self.damage_size(random),
+            refuse::RESIDUE => {
+                let over = (q + 1).min(HIGH);
+                return self.set_value(random, b"134", &[q, over, HIGH, -1, -HIGH]);
+            }
+            refuse::TALL => {
+                return self.set_value(random, b"2", &[b + 1, -b - 1, HIGH, -HIGH]);
+            }
+            refuse::CHALLENGE => {
+                return self.set_value(random, b"5", &[end, end + 1, -1, HIGH]);
+            }
+            _ => return false,
+        }
+        true
+    }
+}
+
+/// Input of the writer.
+#[derive(Clone, Debug)]
+pub struct WriteInput {
+    pub shape: Shape,
+    pub settings: Settings,
+    pub parts: Parts,
+    pub tables: Tables,
+    /// Length of the output slice.
+    pub room: usize,
+}
+
+/// An input of the writer and its text.
+pub fn writable(random: &mut Random, limits: &Limits) -> (WriteInput, Vec<u8>) {
+    let (input, settings, tables) = readable(random, limits);
+    let text = input.text();
+    let input = WriteInput {
+        shape: input.shape,
+        settings,
+        parts: input.parts,
+        tables,
+        room: text.len() + random.pick(&[0, 0, 1, 9]),
+    };
+    (input, text)
+}
+
+impl Damage for WriteInput {
+    const NUMBERS: &'static [u32] = &[3, 4, 5, 6, 7, 8, 9, 10];
+
+    fn damage(&mut self, random: &mut Random, number: u32) -> bool {
+        let Shape { d, q, b, .. } = self.shape;
+        let tables = &mut self.tables;
+        match number {
+            refuse::SIZE => match random.below(6) {
+                0 => damage_length(random, &mut tables.key),
+                1 => damage_length(random, &mut tables.message),
+                2 => damage_length(random, &mut tables.commitment),
+                3 => damage_length(random, &mut tables.rounds),
+                4 => damage_length(random, &mut tables.challenges),
+                _ => damage_length(random, &mut tables.final_element),
+            },
+            refuse::RESIDUE => {
+                let table = match random.below(3) {
+                    0 => &mut tables.key,
+                    1 => &mut tables.commitment,
+                    _ => &mut tables.rounds,
+                };
+                damage_residue(random, table, q)
+            }
+            refuse::TALL if random.one_in(2) => damage_whole(random, &mut tables.message, b),
+            refuse::TALL if tables.final_element.is_empty() => false,
+            refuse::TALL => {
+                let place = random.below(tables.final_element.len());
+                tables.final_element[place] = i32::MIN;
+                true
+            }
+            refuse::CHALLENGE => damage_exponent(random, &mut tables.challenges, d),
+            _ => damage_settings(random, &mut self.settings, number),
+        }
+    }
+}
+
+/// Damages a text; most draws of refusal 1 are dropped, as they are long.
+pub fn damage_text(random: &mut Random, input: &mut TextInput) -> u32 {
+    let count = random.pick(&[0, 0, 1, 1, 1, 2, 3]);
+    let draw = |_| random.pick(TextInput::NUMBERS);
+    let mut numbers: Vec<u32> = (0..count).map(draw).collect();
+    if !random.one_in(8) {
+        numbers.retain(|&number| number != refuse::LONG);
+    }
+    damage_by(random, input, &numbers)
+}

@@ -1,0 +1,223 @@
+//! Trees: those of messages, accepted ones whose leaves are any elements
+//! within their bound, and refused ones.
+
+use super::base::*;
+use super::transcript::{last_claim, narrow};
+use super::{Damage, Limits};
+use crate::plain;
+use crate::plain::ring::{add, doubled_inverse, half_power, multiply, reduce, rotate, scale};
+use crate::plain::ring::{zero, Element};
+use crate::random::Random;
+use crate::refuse::{self, Shape};
+use crate::types::*;
+
+#[derive(Clone, Debug)]
+pub struct Tree {
+    pub shape: Shape,
+    pub settings: Settings,
+    pub commitment: Residues,
+    pub key: Vec<u32>,
+    pub rounds: Vec<u32>,
+    pub challenges: Vec<u32>,
+    pub leaves: Vec<i32>,
+    /// The vector to be written: any numbers.
+    pub w: Vec<i64>,
+}
+
+impl Tree {
+    /// A tree without round polynomials and leaves.
+    fn empty(random: &mut Random, settings: Settings) -> Tree {
+        let shape = shape(settings);
+        Tree {
+            shape,
+            settings,
+            commitment: ZERO_RESIDUES,
+            key: residues(random, shape.table(), shape.q),
+            rounds: vec![0; 3 * shape.nodes() * shape.d],
+            challenges: node_exponents(random, shape.nodes(), shape.d),
+            leaves: vec![0; shape.leaves() * shape.d],
+            w: vec![i64::MIN; shape.table()],
+        }
+    }
+
+    /// Refusal 14 or 0.
+    pub fn growth(&self) -> u32 {
+        refuse::growth(&self.shape).err().unwrap_or(0)
+    }
+
+    fn store_polynomial(&mut self, node: usize, c: &[u32]) {
+        let size = 3 * self.shape.d;
+        self.rounds[node * size..][..size].copy_from_slice(c);
+    }
+
+    /// The exponents from the root to a leaf.
+    pub fn path_challenges(&self, leaf: usize) -> Vec<u32> {
+        let mut node = self.shape.nodes() + leaf;
+        let mut list = Vec::new();
+        while node != 0 {
+            // Node k's challenge j, from 0, leads to 3k+1+j, and stands at
+            // place 3k+j of the table.
+            list.push(self.challenges[node - 1]);
+            node = (node - 1) / 3;
+        }
+        list.reverse();
+        list
+    }
+
+    /// Fills in the one commitment and the one set of round polynomials that
+    /// make every path accepted with the leaves as they are.
+    pub fn interpolate(&mut self) {
+        let claim = self.claim_below(0, self.shape.l);
+        self.commitment[..self.shape.d].copy_from_slice(&narrow(&claim));
+    }
+
+    /// The claim at a node, from the leaves up. The round polynomial takes
+    /// the three claims below at the three challenges: half·s(a,b) inverts
+    /// X^a - X^b.
+    fn claim_below(&mut self, node: usize, depth: usize) -> Element {
+        let Shape { d, q, .. } = self.shape;
+        if depth == 0 {
+            return self.leaf_claim(node - self.shape.nodes());
+        }
+        let r = [0, 1, 2].map(|j| self.challenges[3 * node + j] as usize);
+        let mut c = [zero(d), zero(d), zero(d)];
+        for j in 0..3 {
+            let claim = self.claim_below(3 * node + 1 + j, depth - 1);
+            let (k, l) = (r[(j + 1) % 3], r[(j + 2) % 3]);
+            let inverse = multiply(&doubled_inverse(d, r[j], k), &doubled_inverse(d, r[j], l));
+            let product = reduce(&multiply(&inverse, &claim), q);
+            let weight = reduce(&scale(&product, half_power(q, 2)), q);
+            // weight·(X - r_k)·(X - r_l)
+            c[0] = add(&c[0], &rotate(&weight, k + l));
+            c[1] = add(&c[1], &rotate(&weight, d + k));
+            c[1] = add(&c[1], &rotate(&weight, d + l));
+            c[2] = add(&c[2], &weight);
+        }
+        let c = c.map(|c| reduce(&c, q));
+        self.store_polynomial(node, &narrow(&c.concat()));
+        reduce(&scale(&add(&c[0], &c[2]), 2), q)
+    }
+
+    fn leaf_claim(&self, leaf: usize) -> Element {
+        let d = self.shape.d;
+        let f = &self.leaves[leaf * d..(leaf + 1) * d];
+        last_claim(&self.shape, &self.key, &self.path_challenges(leaf), f)
+    }
+
+    /// Fills in the round polynomials and leaves that the prover gives below
+    /// a node, `t` rounds being done.
+    fn fill_honest(&mut self, node: usize, t: u32, key: &[u32], message: &[i32]) {
+        let d = self.shape.d;
+        if t == self.settings.depth {
+            let leaf = node - self.shape.nodes();
+            self.leaves[leaf * d..(leaf + 1) * d].copy_from_slice(&message[..d]);
+            return;
+        }
+        let answer = plain::prover_round(self.settings, t, key, message);
+        self.store_polynomial(node, &answer.polynomial.map(|c| c[..d].to_vec()).concat());
+        for j in 0..3 {
+            let (mut key, mut message) = (key.to_vec(), message.to_vec());
+            let e = self.challenges[3 * node + j];
+            let number = plain::fold(self.settings, t, e, &mut key, &mut message);
+            assert_eq!(number, 0);
+            self.fill_honest(3 * node + 1 + j, t + 1, &key, &message);
+        }
+    }
+}
+
+/// The full tree of a drawn message, and the message.
+pub fn honest(random: &mut Random, limits: &Limits) -> (Tree, Vec<i32>) {
+    let settings = settings(random, limits, true);
+    honest_at(random, settings)
+}
+
+pub fn honest_at(random: &mut Random, settings: Settings) -> (Tree, Vec<i32>) {
+    let mut tree = Tree::empty(random, settings);
+    let message = wholes(random, tree.shape.table(), tree.shape.b);
+    let key = tree.key.clone();
+    tree.fill_honest(0, 0, &key, &message);
+    let answer = plain::commit(settings, &key, &message);
+    tree.commitment = residues_by_value(random, &answer.commitment[..tree.shape.d]);
+    (tree, message)
+}
+
+/// An accepted full tree whose leaves are drawn, and so are in general no
+/// folds of one message.
+pub fn free(random: &mut Random, limits: &Limits) -> Tree {
+    let settings = settings(random, limits, true);
+    free_at(random, settings)
+}
+
+pub fn free_at(random: &mut Random, settings: Settings) -> Tree {
+    let mut tree = Tree::empty(random, settings);
+    let bound = tree.shape.final_bound();
+    tree.leaves = wholes(random, tree.leaves.len(), bound);
+    tree.interpolate();
+    tree.commitment = residues_by_value(random, &tree.commitment[..tree.shape.d]);
+    tree
+}
+
+/// The smallest settings at which an accepted tree is refused by 14.
+pub fn growth_settings(random: &mut Random) -> Settings {
+    Settings::new(64, 4, modulus(random), bound(random))
+}
+
+impl Damage for Tree {
+    const NUMBERS: &'static [u32] = &[3, 4, 5, 6, 7, 8, 10, 12, 13];
+
+    fn damage(&mut self, random: &mut Random, number: u32) -> bool {
+        let Shape { d, q, .. } = self.shape;
+        match number {
+            refuse::SIZE => match random.below(5) {
+                0 => damage_length(random, &mut self.key),
+                1 => damage_length(random, &mut self.rounds),
+                2 => damage_length(random, &mut self.challenges),
+                3 => damage_length(random, &mut self.leaves),
+                _ => damage_length(random, &mut self.w),
+            },
+            refuse::RESIDUE => match random.below(3) {
+                0 => damage_residue(random, &mut self.key, q),
+                1 => damage_residue(random, &mut self.rounds, q),
+                _ => damage_residue(random, &mut self.commitment[..d], q),
+            },
+            refuse::CHALLENGE => damage_exponent(random, &mut self.challenges, d),
+            refuse::TWIN => self.damage_twin(random),
+            refuse::BRANCH => self.damage_branch(random),
+            _ => damage_settings(random, &mut self.settings, number),
+        }
+    }
+}
+
+impl Tree {
+    fn damage_twin(&mut self, random: &mut Random) -> bool {
+        if self.challenges.is_empty() {
+            return false;
+        }
+        let node = random.below(self.challenges.len() / 3);
+        let j = random.below(3);
+        let other = (j + 1 + random.below(2)) % 3;
+        self.challenges[3 * node + j] = self.challenges[3 * node + other];
+        true
+    }
+
+    /// A leaf beyond its bound, or another coefficient of a round polynomial
+    /// or the commitment: a test of some path must fail, as the old numbers
+    /// met it.
+    fn damage_branch(&mut self, random: &mut Random) -> bool {
+        let Shape { d, q, .. } = self.shape;
+        let bound = self.shape.final_bound();
+        let more = |x: u32| ((u64::from(x) + 1) % u64::from(q)) as u32;
+        match random.below(3) {
+            0 => return damage_whole(random, &mut self.leaves, bound),
+            1 if !self.rounds.is_empty() => {
+                let place = random.below(self.rounds.len());
+                self.rounds[place] = more(self.rounds[place]);
+            }
+            _ => {
+                let place = random.below(d);
+                self.commitment[place] = more(self.commitment[place]);
+            }
+        }
+        true
+    }
+}

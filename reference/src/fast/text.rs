@@ -1,0 +1,480 @@
+//! Text tables and the two programs: the text is read in one pass, and
+//! written in place after its length has been counted.
+
+use super::{check, whole_opening};
+use crate::refuse::{self, Checked, Shape};
+use crate::types::*;
+
+const NAMES: &[u8] = b"part item place value\n";
+
+/// Items and places of each of parts 1 to 6, none for an absent part.
+fn part_sizes(shape: &Shape, parts: Parts) -> [(usize, usize); 6] {
+    let Shape { d, l, n, .. } = *shape;
+    let all = [(n, d), (n, d), (1, d), (3 * l, d), (l, 1), (1, d)];
+    std::array::from_fn(|i| if parts[i] { all[i] } else { (0, 0) })
+}
+
+/// A text and the place up to which it has been read.
+struct Reader<'a> {
+    text: &'a [u8],
+    at: usize,
+}
+
+impl Reader<'_> {
+    fn peek(&self) -> u8 {
+        // No byte of a number or a line equals 0, so it can mark the end.
+        self.text.get(self.at).copied().unwrap_or(0)
+    }
+
+    fn expect(&mut self, byte: u8) -> Checked<()> {
+        if self.peek() != byte {
+            return Err(refuse::TEXT);
+        }
+        self.at += 1;
+        Ok(())
+    }
+
+    /// A number without sign.
+    fn number(&mut self) -> Checked<u32> {
+        let first = self.peek().wrapping_sub(b'0');
+        if first > 9 {
+            return Err(refuse::TEXT);
+        }
+        self.at += 1;
+        let mut value = u64::from(first);
+        loop {
+            let digit = self.peek().wrapping_sub(b'0');
+            if digit > 9 {
+                return Ok(value as u32);
+            }
+            value = 10 * value + u64::from(digit);
+            // A digit behind a leading zero, or too large a magnitude.
+            if first == 0 || value > 2_147_483_647 {
+                return Err(refuse::TEXT);
+            }
+            self.at += 1;
+        }
+    }
+
+    /// A number that may be negative.
+    fn value(&mut self) -> Checked<i32> {
+        if self.peek() != b'-' {
+            return Ok(self.number()? as i32);
+        }
+        self.at += 1;
+        match self.number()? {
+            0 => Err(refuse::TEXT),
+            magnitude => Ok(-(magnitude as i32)),
+        }
+    }
+
+    /// A value line: part, item, place, and its value.
+    fn line(&mut self) -> Checked<([u32; 3], i32)> {
+        let part = self.number()?;
+        self.expect(b' ')?;
+        let item = self.number()?;
+        self.expect(b' ')?;
+        let place = self.number()?;
+        self.expect(b' ')?;
+        let value = self.value()?;
+        self.expect(b'\n')?;
+        Ok(([part, item, place], value))
+    }
+
+    /// The rest of the text, of which only the shape matters.
+    fn rest(&mut self) -> Checked<()> {
+        while self.at < self.text.len() {
+            self.line()?;
+        }
+        Ok(())
+    }
+
+    /// The settings of the first four value lines; below zero they become a
+    /// number that is out of range for each of the four.
+    fn settings(&mut self) -> Checked<Settings> {
+        let mut values = [0; 4];
+        for (place, value) in values.iter_mut().enumerate() {
+            let (found, x) = self.line()?;
+            if found != [0, 0, place as u32] {
+                return Err(refuse::TEXT);
+            }
+            *value = u32::try_from(x).unwrap_or(u32::MAX);
+        }
+        Ok(Settings::new(values[0], values[1], values[2], values[3]))
+    }
+
+    /// The values of the required lines, or refusal 7 at the first line that
+    /// is another, or 2 at the first of the wrong shape.
+    fn values(&mut self, sizes: &[(usize, usize); 6]) -> Checked<Vec<i32>> {
+        let length = sizes.iter().map(|(items, places)| items * places).sum();
+        let mut values = Vec::with_capacity(length);
+        for (i, &(items, places)) in sizes.iter().enumerate() {
+            for item in 0..items as u32 {
+                for place in 0..places as u32 {
+                    if self.at == self.text.len() {
+                        return Err(refuse::SIZE);
+                    }
+                    let (found, value) = self.line()?;
+                    if found != [i as u32 + 1, item, place] {
+                        return Err(refuse::SIZE);
+                    }
+                    values.push(value);
+                }
+            }
+        }
+        if self.at < self.text.len() {
+            return Err(refuse::SIZE);
+        }
+        Ok(values)
+    }
+}
+
+/// Settings, sizes of the parts and all values behind the settings.
+struct Content {
+    settings: Settings,
+    sizes: [(usize, usize); 6],
+    values: Vec<i32>,
+}
+
+impl Content {
+    /// The values of the six parts.
+    fn parts(&self) -> [&[i32]; 6] {
+        let mut rest = &self.values[..];
+        self.sizes.map(|(items, places)| {
+            let (part, behind) = rest.split_at(items * places);
+            rest = behind;
+            part
+        })
+    }
+}
+
+/// Reads a text. The programs lend no tables and so give no lengths.
+fn read_text(parts: Parts, text: &[u8], lent: Option<[usize; 6]>) -> Checked<Content> {
+    if text.len() > LONGEST_TEXT {
+        return Err(refuse::LONG);
+    }
+    if !text.starts_with(NAMES) {
+        return Err(refuse::TEXT);
+    }
+    let at = NAMES.len();
+    let mut reader = Reader { text, at };
+    let settings = reader.settings()?;
+    match read_values(&mut reader, parts, settings, lent) {
+        Ok(content) => Ok(content),
+        Err(number) => {
+            // A line of the wrong shape further on comes before the number.
+            reader.rest()?;
+            Err(number)
+        }
+    }
+}
+
+fn read_values(
+    reader: &mut Reader,
+    parts: Parts,
+    settings: Settings,
+    lent: Option<[usize; 6]>,
+) -> Checked<Content> {
+    let shape = refuse::settings(settings)?;
+    let sizes = part_sizes(&shape, parts);
+    if let Some(lengths) = lent {
+        lent_sizes(&sizes, lengths)?;
+    }
+    let content = Content {
+        settings,
+        sizes,
+        values: reader.values(&sizes)?,
+    };
+    refuse_values(&shape, &content.parts())?;
+    Ok(content)
+}
+
+/// Refusal 7 for the lent tables.
+fn lent_sizes(sizes: &[(usize, usize); 6], lengths: [usize; 6]) -> Checked<()> {
+    let wanted = sizes.map(|(items, places)| items * places);
+    refuse::sizes(&std::array::from_fn::<_, 6, _>(|i| (lengths[i], wanted[i])))
+}
+
+/// Whether every value is 0 to end-1; a negative one turns large.
+fn below(values: &[i32], end: u32) -> bool {
+    !values.iter().fold(false, |bad, &x| bad | (x as u32 >= end))
+}
+
+/// Refusals 8 to 10 of a text that has been read.
+fn refuse_values(shape: &Shape, parts: &[&[i32]; 6]) -> Checked<()> {
+    let [key, message, commitment, rounds, challenges, _] = parts;
+    if ![key, commitment, rounds].iter().all(|x| below(x, shape.q)) {
+        return Err(refuse::RESIDUE);
+    }
+    refuse::tall(message, shape.b)?;
+    if !below(challenges, 2 * shape.d as u32) {
+        return Err(refuse::CHALLENGE);
+    }
+    Ok(())
+}
+
+/// Call 12.
+#[allow(clippy::too_many_arguments)]
+pub fn read(
+    parts: Parts,
+    text: &[u8],
+    key: &mut [u32],
+    message: &mut [i32],
+    commitment: &mut [u32],
+    rounds: &mut [u32],
+    challenges: &mut [u32],
+    final_element: &mut [i32],
+) -> ReadAnswer {
+    let lengths = [
+        key.len(),
+        message.len(),
+        commitment.len(),
+        rounds.len(),
+        challenges.len(),
+        final_element.len(),
+    ];
+    match read_text(parts, text, Some(lengths)) {
+        Ok(content) => {
+            let values = content.parts();
+            store(values[0], key);
+            message.copy_from_slice(values[1]);
+            store(values[2], commitment);
+            store(values[3], rounds);
+            store(values[4], challenges);
+            final_element.copy_from_slice(values[5]);
+            ReadAnswer {
+                number: 0,
+                settings: content.settings,
+            }
+        }
+        Err(number) => ReadAnswer {
+            number,
+            settings: Settings::default(),
+        },
+    }
+}
+
+/// Stores values that are not negative.
+fn store(values: &[i32], table: &mut [u32]) {
+    for (place, &x) in table.iter_mut().zip(values) {
+        *place = x as u32;
+    }
+}
+
+/// The tables of the six parts for the writer.
+struct Tables<'a> {
+    key: &'a [u32],
+    message: &'a [i32],
+    commitment: &'a [u32],
+    rounds: &'a [u32],
+    challenges: &'a [u32],
+    final_element: &'a [i32],
+}
+
+impl Tables<'_> {
+    fn lengths(&self) -> [usize; 6] {
+        [
+            self.key.len(),
+            self.message.len(),
+            self.commitment.len(),
+            self.rounds.len(),
+            self.challenges.len(),
+            self.final_element.len(),
+        ]
+    }
+}
+
+/// Call 13.
+#[allow(clippy::too_many_arguments)]
+pub fn write(
+    s: Settings,
+    parts: Parts,
+    key: &[u32],
+    message: &[i32],
+    commitment: &[u32],
+    rounds: &[u32],
+    challenges: &[u32],
+    final_element: &[i32],
+    out: &mut [u8],
+) -> WriteAnswer {
+    let tables = Tables {
+        key,
+        message,
+        commitment,
+        rounds,
+        challenges,
+        final_element,
+    };
+    answer(write_tables(s, parts, &tables, out))
+}
+
+fn answer(result: Checked<usize>) -> WriteAnswer {
+    match result {
+        Ok(length) => WriteAnswer { number: 0, length },
+        Err(number) => WriteAnswer { number, length: 0 },
+    }
+}
+
+fn write_tables(s: Settings, parts: Parts, tables: &Tables, out: &mut [u8]) -> Checked<usize> {
+    let shape = refuse::settings(s)?;
+    let sizes = part_sizes(&shape, parts);
+    lent_sizes(&sizes, tables.lengths())?;
+    refuse::residues(tables.key, shape.q)?;
+    refuse::residues(tables.commitment, shape.q)?;
+    refuse::residues(tables.rounds, shape.q)?;
+    refuse::tall(tables.message, shape.b)?;
+    refuse::tall(tables.final_element, 2_147_483_647)?;
+    refuse::challenges(tables.challenges, &shape)?;
+    let mut count = Count(0);
+    render(s, &sizes, tables, &mut count);
+    if count.0 > LONGEST_TEXT {
+        return Err(refuse::LONG);
+    }
+    if count.0 > out.len() {
+        return Err(refuse::SIZE);
+    }
+    render(s, &sizes, tables, &mut Output { out, at: 0 });
+    Ok(count.0)
+}
+
+/// Where the writer's bytes go.
+trait Sink {
+    fn bytes(&mut self, bytes: &[u8]);
+    /// A number and the byte behind it.
+    fn number(&mut self, magnitude: u32, behind: u8);
+}
+
+/// Counts the bytes of a text.
+struct Count(usize);
+
+impl Sink for Count {
+    fn bytes(&mut self, bytes: &[u8]) {
+        self.0 += bytes.len();
+    }
+
+    fn number(&mut self, magnitude: u32, _: u8) {
+        self.0 += digits(magnitude) + 1;
+    }
+}
+
+/// Writes a text from the start of a slice on.
+struct Output<'a> {
+    out: &'a mut [u8],
+    at: usize,
+}
+
+impl Sink for Output<'_> {
+    fn bytes(&mut self, bytes: &[u8]) {
+        let end = self.at + bytes.len();
+        self.out[self.at..end].copy_from_slice(bytes);
+        self.at = end;
+    }
+
+    fn number(&mut self, magnitude: u32, behind: u8) {
+        let length = digits(magnitude);
+        let places = &mut self.out[self.at..self.at + length + 1];
+        places[length] = behind;
+        let mut rest = magnitude;
+        for place in places[..length].iter_mut().rev() {
+            *place = b'0' + (rest % 10) as u8;
+            rest /= 10;
+        }
+        self.at += length + 1;
+    }
+}
+
+/// The decimal digits of a number.
+fn digits(x: u32) -> usize {
+    x.checked_ilog10().unwrap_or(0) as usize + 1
+}
+
+/// Writes the settings and the given parts.
+fn render(s: Settings, sizes: &[(usize, usize); 6], tables: &Tables, sink: &mut impl Sink) {
+    sink.bytes(NAMES);
+    let settings = [s.degree, s.depth, s.modulus, s.bound];
+    render_part(0, 4, &settings, sink);
+    let places = sizes.map(|size| size.1);
+    render_part(1, places[0], tables.key, sink);
+    render_part(2, places[1], tables.message, sink);
+    render_part(3, places[2], tables.commitment, sink);
+    render_part(4, places[3], tables.rounds, sink);
+    render_part(5, places[4], tables.challenges, sink);
+    render_part(6, places[5], tables.final_element, sink);
+}
+
+/// Writes the lines of one part with `places` values to an item.
+fn render_part<T: Copy + Into<i64>>(part: u32, places: usize, table: &[T], sink: &mut impl Sink) {
+    if table.is_empty() {
+        return;
+    }
+    for (item, values) in table.chunks_exact(places).enumerate() {
+        for (place, &value) in values.iter().enumerate() {
+            let value: i64 = value.into();
+            sink.number(part, b' ');
+            sink.number(item as u32, b' ');
+            sink.number(place as u32, b' ');
+            if value < 0 {
+                sink.bytes(b"-");
+            }
+            sink.number(value.unsigned_abs() as u32, b'\n');
+        }
+    }
+}
+
+/// Values that are not negative, as residues or exponents.
+fn unsigned(values: &[i32]) -> Vec<u32> {
+    values.iter().map(|&x| x as u32).collect()
+}
+
+/// Call 14.
+pub fn prove(text: &[u8], out: &mut [u8]) -> WriteAnswer {
+    answer(try_prove(text, out))
+}
+
+fn try_prove(text: &[u8], out: &mut [u8]) -> Checked<usize> {
+    let content = read_text([true, true, false, false, true, false], text, None)?;
+    let [key, message, _, _, challenges, _] = content.parts();
+    let s = content.settings;
+    let d = s.degree as usize;
+    let mut key = unsigned(key);
+    let mut message = message.to_vec();
+    let challenges = unsigned(challenges);
+    let mut rounds = vec![0; 3 * challenges.len() * d];
+    let opening = whole_opening(s, &mut key, &mut message, &challenges, &mut rounds);
+    let tables = Tables {
+        key: &[],
+        message: &[],
+        commitment: &opening.commitment[..d],
+        rounds: &rounds,
+        challenges: &challenges,
+        final_element: &opening.final_element[..d],
+    };
+    write_tables(s, [false, false, true, true, true, true], &tables, out)
+}
+
+/// Call 15.
+pub fn verify(text: &[u8]) -> Verification {
+    match try_verify(text) {
+        Ok(true) => Verification::Accepted,
+        Ok(false) => Verification::Rejected,
+        Err(number) => Verification::Refused(number),
+    }
+}
+
+fn try_verify(text: &[u8]) -> Checked<bool> {
+    let content = read_text([true, false, true, true, true, true], text, None)?;
+    let [key, _, commitment, rounds, challenges, final_element] = content.parts();
+    let mut by_value = ZERO_RESIDUES;
+    store(commitment, &mut by_value);
+    let mut final_by_value = ZERO_WHOLES;
+    final_by_value[..final_element.len()].copy_from_slice(final_element);
+    let answer = check(
+        content.settings,
+        by_value,
+        final_by_value,
+        &unsigned(key),
+        &unsigned(rounds),
+        &unsigned(challenges),
+    );
+    Ok(answer.verdict == ACCEPTED)
+}

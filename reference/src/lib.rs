@@ -1,0 +1,19 @@
+//! Reference implementation of lane table openings by a sumcheck argument.
+//!
+//! It is written from document 01 (the scope) alone, in safe Rust, without
+//! dependencies. `plain` is the simple version that is meant to be obviously
+//! right; `fast` gives the same answers quickly. `refuse` holds the table of
+//! refusals and `admit` runs it for each call; `types` holds the settings,
+//! the session record and the answers. `draw` makes drawn inputs from the
+//! generator in `random`.
+
+#![forbid(unsafe_code)]
+
+pub mod admit;
+pub mod cases;
+pub mod draw;
+pub mod fast;
+pub mod plain;
+pub mod random;
+pub mod refuse;
+pub mod types;

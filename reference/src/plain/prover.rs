@@ -1,0 +1,158 @@
+//! Commitment, the prover's calls and the whole opening.
+
+use super::ring::{add, element, elements, half_power, inner_product, reduce, rotate, scale};
+use super::ring::{zero, Element};
+use super::{by_value, verifier};
+use crate::admit;
+use crate::refuse::Shape;
+use crate::types::*;
+
+/// Call 1: the sum of m_i·G_i modulo q.
+pub fn commit(s: Settings, key: &[u32], message: &[i32]) -> CommitAnswer {
+    let (number, commitment) = match admit::commit(s, key, message) {
+        Ok(shape) => (0, by_value(&commitment(&shape, key, message))),
+        Err(number) => (number, ZERO_RESIDUES),
+    };
+    CommitAnswer { number, commitment }
+}
+
+fn commitment(shape: &Shape, key: &[u32], message: &[i32]) -> Element {
+    let m = elements(message, shape.d);
+    let g = elements(key, shape.d);
+    reduce(&inner_product(&m, &g, shape.d), shape.q)
+}
+
+/// Call 2: the round polynomial of round t+1.
+pub fn prover_round(s: Settings, t: u32, key: &[u32], message: &[i32]) -> RoundAnswer {
+    let (number, polynomial) = match admit::prover_round(s, t, key, message) {
+        Ok(shape) => (0, round_polynomial(&shape, t, key, message)),
+        Err(number) => (number, ZERO_POLYNOMIAL),
+    };
+    RoundAnswer { number, polynomial }
+}
+
+fn round_polynomial(shape: &Shape, t: u32, key: &[u32], message: &[i32]) -> Polynomial {
+    let left = shape.n >> t;
+    let m = elements(message, shape.d);
+    let g = elements(key, shape.d);
+    let (m0, m1) = m[..left].split_at(left / 2);
+    let (g0, g1) = g[..left].split_at(left / 2);
+    let product = |a: &[Element], b: &[Element]| inner_product(a, b, shape.d);
+    let cross = add(&product(m0, g1), &product(m1, g0));
+    let half = half_power(shape.q, t as usize + 1);
+    [product(m0, g0), cross, product(m1, g1)].map(|c| by_value(&reduce(&scale(&c, half), shape.q)))
+}
+
+/// Call 3: the fold of both tables by X^e.
+pub fn fold(s: Settings, t: u32, e: u32, key: &mut [u32], message: &mut [i32]) -> u32 {
+    match admit::fold(s, t, e, key, message) {
+        Ok(shape) => {
+            fold_both(&shape, t, e, key, message);
+            0
+        }
+        Err(number) => number,
+    }
+}
+
+fn fold_both(shape: &Shape, t: u32, e: u32, key: &mut [u32], message: &mut [i32]) {
+    let left = shape.n >> t;
+    let m = fold_elements(&elements(&message[..left * shape.d], shape.d), e);
+    let g = fold_elements(&elements(&key[..left * shape.d], shape.d), e);
+    for (i, (a, b)) in m.iter().zip(&g).enumerate() {
+        let b = reduce(b, shape.q);
+        for k in 0..shape.d {
+            message[i * shape.d + k] = a[k] as i32;
+            key[i * shape.d + k] = b[k] as u32;
+        }
+    }
+}
+
+/// First half plus X^e times second half, over whole numbers.
+pub(super) fn fold_elements(left: &[Element], e: u32) -> Vec<Element> {
+    let (first, second) = left.split_at(left.len() / 2);
+    first
+        .iter()
+        .zip(second)
+        .map(|(a, b)| add(a, &rotate(b, e as usize)))
+        .collect()
+}
+
+/// Call 4: the final element. It takes no key.
+pub fn prover_end(s: Settings, t: u32, message: &[i32]) -> EndAnswer {
+    let (number, final_element) = match admit::prover_end(s, t, message) {
+        Ok(shape) => (0, first_element(&shape, message)),
+        Err(number) => (number, ZERO_WHOLES),
+    };
+    EndAnswer {
+        number,
+        final_element,
+    }
+}
+
+fn first_element(shape: &Shape, message: &[i32]) -> Wholes {
+    let mut places = ZERO_WHOLES;
+    places[..shape.d].copy_from_slice(&message[..shape.d]);
+    places
+}
+
+/// Call 5: the whole opening. Both tables stay as L folds leave them.
+pub fn whole_opening(
+    s: Settings,
+    key: &mut [u32],
+    message: &mut [i32],
+    challenges: &[u32],
+    rounds: &mut [u32],
+) -> OpeningAnswer {
+    match admit::opening(s, key, message, challenges, rounds) {
+        Ok(shape) => opening(&shape, key, message, challenges, rounds),
+        Err(number) => OpeningAnswer {
+            number,
+            commitment: ZERO_RESIDUES,
+            final_element: ZERO_WHOLES,
+            verdict: NONE,
+        },
+    }
+}
+
+fn opening(
+    shape: &Shape,
+    key: &mut [u32],
+    message: &mut [i32],
+    challenges: &[u32],
+    rounds: &mut [u32],
+) -> OpeningAnswer {
+    let unfolded = key.to_vec();
+    let commitment = by_value(&commitment(shape, key, message));
+    for (t, &e) in challenges.iter().enumerate() {
+        let polynomial = round_polynomial(shape, t as u32, key, message);
+        for (j, c) in polynomial.iter().enumerate() {
+            let start = (3 * t + j) * shape.d;
+            rounds[start..start + shape.d].copy_from_slice(&c[..shape.d]);
+        }
+        fold_both(shape, t as u32, e, key, message);
+    }
+    let final_element = first_element(shape, message);
+    let cause = verifier::transcript_cause(
+        shape,
+        &element(&commitment[..shape.d]),
+        &elements(rounds, shape.d),
+        challenges,
+        &element(&final_element[..shape.d]),
+        &elements(&unfolded, shape.d),
+    );
+    OpeningAnswer {
+        number: 0,
+        commitment,
+        final_element,
+        verdict: verifier::verdict(cause),
+    }
+}
+
+/// The key after all folds, reduced.
+pub(super) fn folded_key(shape: &Shape, key: &[Element], challenges: &[u32]) -> Element {
+    let mut left = key.to_vec();
+    for &e in challenges {
+        left = fold_elements(&left, e);
+    }
+    left.first().map_or(zero(shape.d), |g| reduce(g, shape.q))
+}

@@ -1,0 +1,141 @@
+//! Relaxed openings: the judge, the tree and the extractor.
+
+use super::ring::{add, doubled_inverse, element, elements, inner_product, multiply, power};
+use super::ring::{reduce, rotate, scale, zero, Element};
+use super::verifier::transcript_cause;
+use crate::admit;
+use crate::refuse::{self, Checked, Shape};
+use crate::types::*;
+
+/// Call 10: whether w opens c times the commitment within the bound.
+pub fn judge(s: Settings, commitment: Residues, c: u32, key: &[u32], w: &[i64]) -> JudgeAnswer {
+    let (number, yes) = match admit::judge(s, &commitment, c, key, w) {
+        Ok((shape, bound)) => {
+            let small = w.iter().all(|&x| -bound <= x && x <= bound);
+            (0, small && opens(&shape, &commitment, c, key, w))
+        }
+        Err(number) => (number, false),
+    };
+    JudgeAnswer { number, yes }
+}
+
+fn opens(shape: &Shape, commitment: &Residues, c: u32, key: &[u32], w: &[i64]) -> bool {
+    let wanted = scale(&element(&commitment[..shape.d]), i128::from(c));
+    let found = inner_product(&elements(w, shape.d), &elements(key, shape.d), shape.d);
+    reduce(&wanted, shape.q) == reduce(&found, shape.q)
+}
+
+/// Call 11: the vector w of the root of a full tree whose paths are all
+/// accepted.
+pub fn extract(
+    s: Settings,
+    commitment: Residues,
+    key: &[u32],
+    rounds: &[u32],
+    challenges: &[u32],
+    leaves: &[i32],
+    w: &mut [i64],
+) -> u32 {
+    match try_extract(s, &commitment, key, rounds, challenges, leaves, w) {
+        Ok(()) => 0,
+        Err(number) => number,
+    }
+}
+
+fn try_extract(
+    s: Settings,
+    commitment: &Residues,
+    key: &[u32],
+    rounds: &[u32],
+    challenges: &[u32],
+    leaves: &[i32],
+    w: &mut [i64],
+) -> Checked<()> {
+    let shape = admit::tree(s, commitment, key, rounds, challenges, leaves, w)?;
+    let tree = Tree::new(&shape, rounds, challenges, leaves);
+    let commitment = element(&commitment[..shape.d]);
+    let key = elements(key, shape.d);
+    let accepted = (0..shape.leaves()).all(|leaf| tree.path_accepted(&commitment, &key, leaf));
+    refuse::branch(accepted)?;
+    refuse::growth(&shape)?;
+    for (place, x) in w.iter_mut().zip(tree.vector(0, shape.l).concat()) {
+        *place = x as i64;
+    }
+    Ok(())
+}
+
+/// A full tree as elements.
+struct Tree<'a> {
+    shape: &'a Shape,
+    rounds: Vec<Element>,
+    challenges: &'a [u32],
+    leaves: Vec<Element>,
+}
+
+impl<'a> Tree<'a> {
+    fn new(shape: &'a Shape, rounds: &[u32], challenges: &'a [u32], leaves: &[i32]) -> Tree<'a> {
+        Tree {
+            shape,
+            rounds: elements(rounds, shape.d),
+            challenges,
+            leaves: elements(leaves, shape.d),
+        }
+    }
+
+    /// The branching nodes from the root to a leaf, each with the place (0 to
+    /// 2) of the challenge taken there.
+    fn path(&self, leaf: usize) -> Vec<(usize, usize)> {
+        let mut steps = Vec::new();
+        let mut node = self.shape.nodes() + leaf;
+        while node != 0 {
+            let parent = (node - 1) / 3;
+            steps.push((parent, node - (3 * parent + 1)));
+            node = parent;
+        }
+        steps.reverse();
+        steps
+    }
+
+    /// Whether the verifier accepts the path to a leaf.
+    fn path_accepted(&self, commitment: &Element, key: &[Element], leaf: usize) -> bool {
+        let mut rounds = Vec::new();
+        let mut challenges = Vec::new();
+        for (node, child) in self.path(leaf) {
+            rounds.extend_from_slice(&self.rounds[3 * node..3 * node + 3]);
+            challenges.push(self.challenges[3 * node + child]);
+        }
+        let final_element = &self.leaves[leaf];
+        let shape = self.shape;
+        transcript_cause(shape, commitment, &rounds, &challenges, final_element, key).is_none()
+    }
+
+    /// The vector of a node with `depth` rounds below it.
+    fn vector(&self, node: usize, depth: usize) -> Vec<Element> {
+        if depth == 0 {
+            return vec![self.leaves[node - self.shape.nodes()].clone()];
+        }
+        let r: Vec<usize> = (0..3)
+            .map(|j| self.challenges[3 * node + j] as usize)
+            .collect();
+        let size = 1 << (depth - 1);
+        let mut first = vec![zero(self.shape.d); size];
+        let mut second = first.clone();
+        for j in 0..3 {
+            let child = self.vector(3 * node + 1 + j, depth - 1);
+            let mu = multiplier(self.shape.d, r[j], r[(j + 1) % 3], r[(j + 2) % 3]);
+            for i in 0..size {
+                let product = multiply(&mu, &child[i]);
+                first[i] = add(&first[i], &product);
+                second[i] = add(&second[i], &rotate(&product, r[j]));
+            }
+        }
+        first.extend(second);
+        first
+    }
+}
+
+/// μ of challenge a beside b and c: s(a,b)·s(a,c)·(1 + X^b·X^c).
+fn multiplier(d: usize, a: usize, b: usize, c: usize) -> Element {
+    let product = multiply(&doubled_inverse(d, a, b), &doubled_inverse(d, a, c));
+    multiply(&product, &add(&power(d, 0), &power(d, b + c)))
+}

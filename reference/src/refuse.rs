@@ -1,0 +1,156 @@
+//! The table of refusals. Every test answers `Err(number)` when its refusal
+//! applies; the calls run the tests in number order over their whole input.
+
+use crate::types::{Residues, Settings};
+
+pub const LONG: u32 = 1;
+pub const TEXT: u32 = 2;
+pub const DEGREE: u32 = 3;
+pub const DEPTH: u32 = 4;
+pub const MODULUS: u32 = 5;
+pub const BOUND: u32 = 6;
+pub const SIZE: u32 = 7;
+pub const RESIDUE: u32 = 8;
+pub const TALL: u32 = 9;
+pub const CHALLENGE: u32 = 10;
+pub const TURN: u32 = 11;
+pub const TWIN: u32 = 12;
+pub const BRANCH: u32 = 13;
+pub const GROWTH: u32 = 14;
+pub const SLACK: u32 = 15;
+
+/// The number of a refusal, as an error.
+pub type Checked<T> = Result<T, u32>;
+
+/// Settings that have passed refusals 3 to 6, as sizes for loops.
+#[derive(Clone, Copy, Debug, PartialEq, Eq)]
+pub struct Shape {
+    /// Degree.
+    pub d: usize,
+    /// Depth.
+    pub l: usize,
+    /// Elements of a table, 2^L.
+    pub n: usize,
+    /// Modulus.
+    pub q: u32,
+    /// Bound.
+    pub b: i64,
+}
+
+impl Shape {
+    /// Coefficients of a table of n elements.
+    pub fn table(&self) -> usize {
+        self.n * self.d
+    }
+
+    /// Coefficients of the round elements of one transcript.
+    pub fn rounds(&self) -> usize {
+        3 * self.l * self.d
+    }
+
+    /// Branching nodes of a full tree.
+    pub fn nodes(&self) -> usize {
+        (self.leaves() - 1) / 2
+    }
+
+    /// Leaves of a full tree.
+    pub fn leaves(&self) -> usize {
+        3usize.pow(self.l as u32)
+    }
+
+    /// Bound of the final element, n times B.
+    pub fn final_bound(&self) -> i64 {
+        self.n as i64 * self.b
+    }
+}
+
+fn unless(number: u32, fine: bool) -> Checked<()> {
+    if fine {
+        Ok(())
+    } else {
+        Err(number)
+    }
+}
+
+/// Refusals 3 to 6.
+pub fn settings(s: Settings) -> Checked<Shape> {
+    unless(DEGREE, matches!(s.degree, 2 | 4 | 8 | 16 | 32 | 64))?;
+    unless(DEPTH, s.depth <= 8)?;
+    let in_range = (3..=2_147_483_647).contains(&s.modulus);
+    unless(MODULUS, in_range && s.modulus % 2 == 1)?;
+    unless(BOUND, (1..=127).contains(&s.bound))?;
+    Ok(Shape {
+        d: s.degree as usize,
+        l: s.depth as usize,
+        n: 1 << s.depth,
+        q: s.modulus,
+        b: i64::from(s.bound),
+    })
+}
+
+/// Refusal 7 for lent tables: pairs of found and wanted length.
+pub fn sizes(pairs: &[(usize, usize)]) -> Checked<()> {
+    unless(SIZE, pairs.iter().all(|(found, wanted)| found == wanted))
+}
+
+/// Refusal 8 for one table.
+pub fn residues(table: &[u32], q: u32) -> Checked<()> {
+    unless(RESIDUE, !table.iter().fold(false, |bad, &x| bad | (x >= q)))
+}
+
+/// Refusal 8 for an element by value: places from the degree on are not read.
+pub fn element_residues(element: &Residues, shape: &Shape) -> Checked<()> {
+    residues(&element[..shape.d], shape.q)
+}
+
+/// Refusal 9: every coefficient within plus or minus `bound`.
+pub fn tall(coefficients: &[i32], bound: i64) -> Checked<()> {
+    unless(TALL, within(coefficients, bound))
+}
+
+/// Whether no coefficient is beyond plus or minus `bound`.
+pub fn within(coefficients: &[i32], bound: i64) -> bool {
+    coefficients
+        .iter()
+        .all(|&x| -bound <= i64::from(x) && i64::from(x) <= bound)
+}
+
+/// Refusal 10 for a list of exponents.
+pub fn challenges(exponents: &[u32], shape: &Shape) -> Checked<()> {
+    let end = 2 * shape.d as u32;
+    unless(CHALLENGE, exponents.iter().all(|&e| e < end))
+}
+
+/// Refusal 11.
+pub fn turn(fine: bool) -> Checked<()> {
+    unless(TURN, fine)
+}
+
+/// Refusal 12: the three exponents of each node differ.
+pub fn twins(exponents: &[u32]) -> Checked<()> {
+    let differ = |e: &[u32]| e[0] != e[1] && e[0] != e[2] && e[1] != e[2];
+    unless(TWIN, exponents.chunks_exact(3).all(differ))
+}
+
+/// Refusal 13.
+pub fn branch(accepted: bool) -> Checked<()> {
+    unless(BRANCH, accepted)
+}
+
+/// Refusal 14: answers (12·d²)^L·B, which is at most 2^62.
+pub fn growth(shape: &Shape) -> Checked<i64> {
+    let limit: i128 = 1 << 62;
+    let factor = 12 * (shape.d * shape.d) as i128;
+    let mut product = i128::from(shape.b);
+    for _ in 0..shape.l {
+        product *= factor;
+        // The product only grows, so the first one over the limit decides.
+        unless(GROWTH, product <= limit)?;
+    }
+    Ok(product as i64)
+}
+
+/// Refusal 15.
+pub fn slack(c: u32) -> Checked<()> {
+    unless(SLACK, (1..=65_536).contains(&c))
+}

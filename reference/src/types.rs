@@ -1,0 +1,156 @@
+//! Settings, elements by value, the session record and the answers.
+
+/// Places of an element that is passed by value.
+pub const PLACES: usize = 64;
+
+/// Places of the list of challenges in a session record.
+pub const ROUNDS: usize = 8;
+
+/// Longest text that is read or written, in bytes.
+pub const LONGEST_TEXT: usize = 65_536;
+
+/// An element modulo q by value; places from the degree on are 0 when new.
+pub type Residues = [u32; PLACES];
+
+/// An element over whole numbers by value.
+pub type Wholes = [i32; PLACES];
+
+/// A round polynomial by value: c0, c1, c2.
+pub type Polynomial = [Residues; 3];
+
+/// Which of the text's parts 1 to 6 are there: key, message, commitment,
+/// rounds, challenges, final element. Part 0, the settings, always is.
+pub type Parts = [bool; 6];
+
+pub const ZERO_RESIDUES: Residues = [0; PLACES];
+pub const ZERO_WHOLES: Wholes = [0; PLACES];
+pub const ZERO_POLYNOMIAL: Polynomial = [ZERO_RESIDUES; 3];
+
+/// Verdicts as numbers in the answers.
+pub const NONE: u32 = 0;
+pub const HOLDS: u32 = 1;
+pub const ACCEPTED: u32 = 2;
+pub const REJECTED: u32 = 3;
+
+/// The settings d, L, q, B.
+#[derive(Clone, Copy, Debug, PartialEq, Eq, Default)]
+pub struct Settings {
+    pub degree: u32,
+    pub depth: u32,
+    pub modulus: u32,
+    pub bound: u32,
+}
+
+impl Settings {
+    pub fn new(degree: u32, depth: u32, modulus: u32, bound: u32) -> Settings {
+        Settings {
+            degree,
+            depth,
+            modulus,
+            bound,
+        }
+    }
+}
+
+/// A verifier's session record.
+#[derive(Clone, Copy, Debug, PartialEq, Eq)]
+pub struct Record {
+    pub settings: Settings,
+    pub done: u32,
+    pub claim: Residues,
+    pub challenges: [u32; ROUNDS],
+    pub closed: bool,
+}
+
+impl Record {
+    /// What a refused start hands back: a closed record of zeros.
+    pub fn refused() -> Record {
+        Record {
+            settings: Settings::default(),
+            done: 0,
+            claim: ZERO_RESIDUES,
+            challenges: [0; ROUNDS],
+            closed: true,
+        }
+    }
+}
+
+/// Why the verifier rejects a transcript; the bound is tested before the
+/// last equation. Rounds count from 1.
+#[derive(Clone, Copy, Debug, PartialEq, Eq)]
+pub enum Cause {
+    Round(u32),
+    Bound,
+    Equation,
+}
+
+#[derive(Clone, Copy, Debug, PartialEq, Eq)]
+pub struct CommitAnswer {
+    pub number: u32,
+    pub commitment: Residues,
+}
+
+#[derive(Clone, Copy, Debug, PartialEq, Eq)]
+pub struct RoundAnswer {
+    pub number: u32,
+    pub polynomial: Polynomial,
+}
+
+#[derive(Clone, Copy, Debug, PartialEq, Eq)]
+pub struct EndAnswer {
+    pub number: u32,
+    pub final_element: Wholes,
+}
+
+#[derive(Clone, Copy, Debug, PartialEq, Eq)]
+pub struct OpeningAnswer {
+    pub number: u32,
+    pub commitment: Residues,
+    pub final_element: Wholes,
+    pub verdict: u32,
+}
+
+#[derive(Clone, Copy, Debug, PartialEq, Eq)]
+pub struct StartAnswer {
+    pub number: u32,
+    pub record: Record,
+}
+
+#[derive(Clone, Copy, Debug, PartialEq, Eq)]
+pub struct MoveAnswer {
+    pub number: u32,
+    pub verdict: u32,
+    pub record: Record,
+}
+
+#[derive(Clone, Copy, Debug, PartialEq, Eq)]
+pub struct CheckAnswer {
+    pub number: u32,
+    pub verdict: u32,
+}
+
+#[derive(Clone, Copy, Debug, PartialEq, Eq)]
+pub struct JudgeAnswer {
+    pub number: u32,
+    pub yes: bool,
+}
+
+#[derive(Clone, Copy, Debug, PartialEq, Eq)]
+pub struct ReadAnswer {
+    pub number: u32,
+    pub settings: Settings,
+}
+
+#[derive(Clone, Copy, Debug, PartialEq, Eq)]
+pub struct WriteAnswer {
+    pub number: u32,
+    pub length: usize,
+}
+
+/// The answer of `verify` on a text.
+#[derive(Clone, Copy, Debug, PartialEq, Eq)]
+pub enum Verification {
+    Accepted,
+    Rejected,
+    Refused(u32),
+}

@@ -1,0 +1,156 @@
+#!/usr/bin/env python3
+"""Turns drawn cases (the format of the program `cases`) into rows of worked examples for the prover.
+
+Usage: to-antt.py < small.txt > ../../crates/drawn/proofs/Drawn.antt
+Each case becomes one row: what the definitions give for its inputs, and the outputs that the reference gave."""
+import sys
+
+lines = [line.split() for line in sys.stdin.read().split('\n')]
+at = 0
+
+
+def take():
+    global at
+    at += 1
+    return [int(word) for word in lines[at - 1]]
+
+
+def table():
+    numbers = take()
+    assert numbers[0] == len(numbers) - 1
+    return numbers[1:]
+
+
+def naturals(l):
+    return '(' + ''.join('%d ∷ ' % n for n in l) + '[])'
+
+
+def integer(z):
+    return 'pos %d' % z if z >= 0 else 'negsuc %d' % (-z - 1)
+
+
+def integers(l):
+    return '(' + ''.join(integer(z) + ' ∷ ' for z in l) + '[])'
+
+
+def settings(s):
+    return '(set %d %d %d %d)' % tuple(s)
+
+
+def record():
+    s = take()
+    done, closed = take()
+    claim = table()
+    challenges = take()
+    return '(session %s %d %s (%s) %s)' % (settings(s), done, naturals(claim), naturals(challenges), 'true' if closed else 'false')
+
+
+def polynomial():
+    return '(full %s ∷ full %s ∷ full %s ∷ [])' % tuple(naturals(table()) for _ in range(3))
+
+
+def tables():
+    key, message, commitment, rounds, challenges, last = (table() for _ in range(6))
+    return '(sixTables %s %s %s %s %s %s)' % (naturals(key), integers(message), naturals(commitment), naturals(rounds), naturals(challenges), integers(last))
+
+
+def parts():
+    return '(sixParts %s)' % ' '.join('true' if p else 'false' for p in take())
+
+
+def verdict(v):
+    return ['Silent', 'Holds', 'Accepted', 'Rejected'][v]
+
+
+def cause(c, t):
+    return ['Cause.none', '(Cause.round %d)' % t, 'Cause.bound', 'Cause.equation'][c]
+
+
+def case(name):
+    if name == 'commit':
+        s = settings(take()); key = naturals(table()); message = integers(table())
+        return 'commitRow %s %s %s %d %s' % (s, key, message, take()[0], naturals(table()))
+    if name == 'round':
+        s = settings(take()); t = take()[0]; key = naturals(table()); message = integers(table())
+        return 'roundRow %s %d %s %s %d %s' % (s, t, key, message, take()[0], polynomial())
+    if name == 'fold':
+        s = settings(take()); t, e = take(); key = naturals(table()); message = integers(table())
+        return 'foldRow %s %d %d %s %s %d %s %s' % (s, t, e, key, message, take()[0], naturals(table()), integers(table()))
+    if name == 'end':
+        s = settings(take()); t = take()[0]; message = integers(table())
+        return 'endRow %s %d %s %d %s' % (s, t, message, take()[0], integers(table()))
+    if name == 'opening':
+        s = settings(take()); key = naturals(table()); message = integers(table()); e = naturals(table()); rounds = naturals(table())
+        n, v = take()
+        return 'openingRow %s %s %s %s %s %d %s %s %s %s %s %s' % (s, key, message, e, rounds, n, verdict(v), naturals(table()), integers(table()), naturals(table()), integers(table()), naturals(table()))
+    if name == 'start':
+        s = settings(take()); c = naturals(table())
+        return 'startRow %s (full %s) %d %s' % (s, c, take()[0], record())
+    if name == 'session_round':
+        r = record(); p = polynomial(); e = take()[0]
+        n, v = take()
+        return 'moveRow %s %s %d %d %s %s' % (r, p, e, n, verdict(v), record())
+    if name == 'session_end':
+        r = record(); f = integers(table()); key = naturals(table())
+        n, v = take()
+        return 'closeRow %s (fullSigned %s) %s %d %s %s' % (r, f, key, n, verdict(v), record())
+    if name == 'check':
+        s = settings(take()); c = naturals(table()); f = integers(table()); key = naturals(table()); rounds = naturals(table()); e = naturals(table())
+        n, v = take()
+        why, t = take()
+        return 'checkRow %s (full %s) (fullSigned %s) %s %s %s %d %s %s' % (s, c, f, key, rounds, e, n, verdict(v), cause(why, t))
+    if name == 'judge':
+        s = settings(take()); c = naturals(table()); slack = take()[0]; key = naturals(table()); w = integers(table())
+        n, yes = take()
+        return 'judgeRow %s (full %s) %d %s %s %d %s' % (s, c, slack, key, w, n, 'true' if yes else 'false')
+    if name == 'extract':
+        s = settings(take()); c = naturals(table()); key = naturals(table()); rounds = naturals(table()); e = naturals(table()); leaves = integers(table()); w = integers(table())
+        return 'extractRow %s (full %s) %s %s %s %s %s %d %s' % (s, c, key, rounds, e, leaves, w, take()[0], integers(table()))
+    if name == 'read':
+        p = parts(); text = naturals(table()); t = tables()
+        n = take()[0]
+        return 'readRow %s %s %s %d %s %s' % (p, text, t, n, settings(take()), tables())
+    if name == 'write':
+        s = settings(take()); p = parts(); t = tables(); room, byte = take()
+        n, length = take()
+        return 'writeRow %s %s %s %d %d %d %d %s' % (s, p, t, room, byte, n, length, naturals(table()))
+    if name == 'prove':
+        text = naturals(table()); room, byte = take()
+        n, length = take()
+        return 'proveRow %s %d %d %d %d %s' % (text, room, byte, n, length, naturals(table()))
+    if name == 'verify':
+        text = naturals(table())
+        n, v = take()
+        return 'verifyRow %s %d %s' % (text, n, verdict(v))
+    raise SystemExit('unknown case ' + name)
+
+
+rows = []
+while at < len(lines):
+    head = lines[at]
+    at += 1
+    if head:
+        rows.append(case(head[0]))
+print('''-- Made by reference/vectors/to-antt.py from reference/vectors/small.txt: drawn cases, whose outputs come from another author's implementation of document 01.
+use mathlib.Core.Path.{_≡_, refl}
+use mathlib.Core.Bool.{true, false}
+use mathlib.Core.List.{List, [], _∷_}
+use lib.IntN.{pos, negsuc}
+use Rattle.protocol.specs.declared.Verdict.the-variants.{Silent, Holds, Accepted, Rejected}
+use Rattle.protocol.specs.Basic.{all}
+use Rattle.protocol.specs.Transcript.{Cause}
+use Rattle.protocol.proofs.Examples.{Example, agree, agreeing}
+use Rattle.protocol.proofs.Compute.{computed}
+use Rattle.protocol.proofs.ComputeText.{computedText}
+use Rattle.drawn.proofs.Rows.{rowsUnfolded, set, session, full, fullSigned, sixTables, sixParts, commitRow, roundRow, foldRow, endRow, openingRow, startRow, moveRow, closeRow, checkRow, judgeRow, extractRow, readRow, writeRow, proveRow, verifyRow}
+
+unfoldable pub drawn : List Example
+drawn =''')
+for row in rows:
+    print('    %s' % ('' if row is rows[0] else '∷ ') + row)
+print('''    ∷ []
+
+-- the definitions give what the reference gave
+pub drawn-agree : all agree drawn ≡ true
+unfolding computed computedText agreeing rowsUnfolded drawn
+drawn-agree = refl''')
