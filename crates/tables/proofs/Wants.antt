@@ -3,7 +3,7 @@
 --   spotsFrom S P k          the spots from part k on
 --   values-then, values-never  values of one part, and then of others
 use mathlib.Core.Path.{_≡_, refl, sym, ap, subst, _∙_}
-use mathlib.Core.List.{List, [], _∷_, _++_}
+use mathlib.Core.List.{List, [], _∷_, _++_, flatMap}
 use mathlib.Core.Option.{Option, none, some}
 use Prim.Native.Nat.{ℕ, zero, suc, _+_, _≤_, _<_}
 use native.Mathlib.Omega.{arith}
@@ -11,7 +11,7 @@ use lib.ListN.{length, getD, drop}
 use lib.IntN.{ℤ}
 use Rattle.protocol.specs.declared.Settings.{Settings}
 use Rattle.protocol.specs.declared.Parts.{Parts}
-use Rattle.protocol.specs.Text.{Spot, Shape, settingsShape, shapes, spots, allSpots, wanted}
+use Rattle.protocol.specs.Text.{Spot, Shape, settingsShape, shapes, spots, wanted}
 use Rattle.tables.specs.Scan.{readValue, readValues}
 use Rattle.tables.specs.Parts.{partShape, partSpots}
 use Rattle.tables.proofs.From.{from-cons}
@@ -19,14 +19,14 @@ use Rattle.tables.proofs.Values.{prefix, prefix-nothing, prefix-prefix,
 
 module _ (S : Settings) (P : Parts) where
   unfoldable pub spotsFrom : ℕ → List Spot
-  spotsFrom k = allSpots (drop k (shapes S P))
+  spotsFrom k = flatMap spots (drop k (shapes S P))
 
   pub spots-from-next : (k : ℕ) → k < 7 → spotsFrom k ≡ spots (partShape S P k) ++ spotsFrom (k + 1)
-  unfolding spotsFrom allSpots partShape shapes
-  spots-from-next k h = ap allSpots (from-cons (shapes S P) k settingsShape h)
+  unfolding spotsFrom partShape shapes flatMap
+  spots-from-next k h = ap (flatMap spots) (from-cons (shapes S P) k settingsShape h)
 
   pub spots-from-end : spotsFrom 7 ≡ []
-  unfolding spotsFrom allSpots shapes
+  unfolding spotsFrom shapes flatMap
   spots-from-end = refl
 
   pub spots-from-one : partSpots S P ≡ spotsFrom 1
@@ -34,7 +34,7 @@ module _ (S : Settings) (P : Parts) where
   spots-from-one = refl
 
   pub wanted-is : wanted S P ≡ spots settingsShape ++ partSpots S P
-  unfolding wanted partSpots allSpots shapes
+  unfolding wanted partSpots shapes flatMap
   wanted-is = refl
 
 -- ---- values of some lines, and then of others
