@@ -4,7 +4,7 @@
 --   same-spots-..          the test whether spots are the same
 --   values-lines           values that were read are those of lines at these spots, and the other lines follow
 --   values-elsewhere       where they were not read, the lines are not at these spots
---   values-shorter         every value takes at least eight bytes
+--   values-room            every value takes at least eight bytes
 use mathlib.Core.Path.{_≡_, refl, sym, ap, subst, _∙_}
 use mathlib.Core.Bool.{Bool, true, false, _&&_, false≢true}
 use mathlib.Core.List.{List, [], _∷_, _++_, append-assoc}
@@ -12,7 +12,7 @@ use mathlib.Core.Option.{Option, none, some, bind, Option·some-injective}
 use Prim.Native.Nat.{ℕ, zero, suc, _+_, _-_, _*_, _≤_, _<_}
 use native.Mathlib.Omega.{arith}
 use borrow.Author.Tests.{eq-eqb}
-use lib.ListN.{length, take}
+use lib.ListN.{length, take, length-map}
 use lib.IntN.{ℤ}
 use Rattle.protocol.specs.Text.{Spot, Line, readLine, sameSpot, sameSpots, spotsOf, valuesOf}
 use Rattle.protocol.proofs.Tests.{and-split, and-intro}
@@ -114,6 +114,13 @@ values-lines [] bs vs rest e =
 values-lines (s ∷ ss) bs vs rest e =
     let f = first-value s ss bs vs rest (readValue s bs) refl e in
     lines-first s ss bs vs rest f (values-lines ss (f .on) (f .ws) rest (f .others))
+
+-- a value takes at least eight bytes
+pub values-room : (ss : List Spot) (bs : List ℕ) (vs : List ℤ) (rest : List ℕ) → readValues ss bs ≡ some (vs, rest) → 8 * length ss ≤ length bs
+unfolding spotsOf
+values-room ss bs vs rest e =
+    let l = values-lines ss bs vs rest e in
+    omega (arith, l .shorter, ap length (l .spots-are), length-map (l .lines) (λ m. m .spot))
 
 prefix-none : (vs : List ℤ) (o : Option (List ℤ × List ℕ)) → prefix vs o ≡ none → o ≡ none
 unfolding prefix

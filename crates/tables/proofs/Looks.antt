@@ -19,10 +19,11 @@ use Rattle.protocol.specs.declared.Settings.{Settings}
 use Rattle.protocol.specs.declared.Loaded.{Loaded}
 use Rattle.protocol.specs.Basic.{tabulate, choose, first, unless, granted}
 use Rattle.protocol.specs.Settings.{settingsRefusal}
-use Rattle.protocol.specs.Text.{Spot, Line, textLimit, shape, settingsShape, shapeSize, spots, beginsWithNames, afterNames, parsed, linesOf, sameSpots, spotsOf, valuesOf, wellFormed, unsigned, settingIn, settingsIn, noSettings, lookRefusal, loaded, lookAnswer}
+use Rattle.protocol.specs.Text.{Spot, Line, textLimit, shape, settingsShape, shapeSize, spots, names, readLines, beginsWithNames, parsed, linesOf, sameSpots, spotsOf, valuesOf, wellFormed, unsigned, settingIn, settingsIn, noSettings, lookRefusal, loaded, lookAnswer}
 use Rattle.tables.specs.declared.header.Header.{Header}
 use Rattle.tables.specs.Scan.{present, readValues, allLines, settingsOf, readSettings, headerAnswer}
 use Rattle.tables.proofs.Counts.{suffix-place}
+use Rattle.tables.proofs.Rows.{all-turns}
 use Rattle.tables.proofs.Values.{behind-names, names-long, settings-named, settings-unnamed}
 use Rattle.tables.proofs.Cells.{spots-count}
 use Rattle.tables.proofs.Follow.{same-spots-self, lines-before, Lines, values-lines, values-elsewhere}
@@ -58,15 +59,17 @@ unless-false n false e = refl
 
 -- the lines behind the names line, by the test whether it is there
 abbrev named : List ℕ → Bool → Option (List Line)
-named text b = elim b as (λ _. Option (List Line)) [ true ↦ allLines (afterNames text) | false ↦ none ]
+named text b = elim b as (λ _. Option (List Line)) [ true ↦ readLines (length text) (drop (length names) text) | false ↦ none ]
 
 pub parsed-unnamed : (text : List ℕ) → beginsWithNames text ≡ false → parsed text ≡ none
-unfolding parsed allLines
+unfolding parsed
 parsed-unnamed text t = ap (named text) t
 
 pub parsed-named : (text : List ℕ) → beginsWithNames text ≡ true → parsed text ≡ allLines (drop 22 text)
-unfolding parsed allLines
-parsed-named text t = ap (named text) t ∙ ap allLines (behind-names text)
+unfolding parsed
+parsed-named text t =
+    ap (named text) t ∙ ap (readLines (length text)) (behind-names text)
+    ∙ all-turns (length text) (drop 22 text) (omega (arith, names-long text t, length-drop 22 text))
 
 abbrev pub settingsSpots : List Spot
 settingsSpots = spots settingsShape

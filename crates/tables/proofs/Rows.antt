@@ -19,10 +19,10 @@ use lib.Dec.{leb, eqb}
 use lib.ListN.{length, getD, drop, length-drop, drop-of-length-le}
 use lib.IntN.{ℤ, pos}
 use Rattle.protocol.specs.declared.Number.the-variants.{Value, Refused}
-use Rattle.protocol.specs.Text.{Line, space, lineFeed, valueLimit, keep, digit, digitRun, properDigits, readCount, negative, plain, readNumber, byte, readLine, readLines, numberAnswer}
+use Rattle.protocol.specs.Text.{Line, space, lineFeed, valueLimit, keep, digit, digitRun, properDigits, readCount, negative, plain, readNumber, byte, readIndex, readLine, readLines, numberAnswer}
 use Rattle.protocol.proofs.Tests.{and-split}
 use Rattle.tables.specs.declared.lines.Entry.the-variants.{Found as Line-at, Malformed}
-use Rattle.tables.specs.Scan.{present, readColumn, readColumnAt, lineAnswer, readLineAt, allLines}
+use Rattle.tables.specs.Scan.{present, readIndexAt, lineAnswer, readLineAt, allLines}
 use Rattle.tables.proofs.From.{from-cons}
 use Rattle.tables.proofs.Counts.{Suffix, suffix-self, suffix-more, suffix-of, Found, found, keep-yes, keep-no, keep-some, count-small, count-suffix, count-shorter, number-suffix, number-shorter, plain-found, plain-missed}
 
@@ -94,19 +94,19 @@ module _ (c : ℕ) (text : List ℕ) (at : ℕ) (t : present (byte c (drop at te
 
 -- ---- columns
 
-pub column-uncounted : (bs : List ℕ) → readCount bs ≡ none → readColumn bs ≡ none
-unfolding readColumn bind
+pub column-uncounted : (bs : List ℕ) → readCount bs ≡ none → readIndex bs ≡ none
+unfolding readIndex bind
 column-uncounted bs e = bind-none (readCount bs) _ e
 
 module _ (bs : List ℕ) (n : ℕ) (behind : List ℕ) (e : readCount bs ≡ some (n, behind)) where
-  column-counted : readColumn bs ≡ bind (byte space behind) (λ rest. some (n, rest))
-  unfolding readColumn
+  column-counted : readIndex bs ≡ bind (byte space behind) (λ rest. some (n, rest))
+  unfolding readIndex
   column-counted = bind-some (readCount bs) (n, behind) _ e
 
-  pub column-unspaced : byte space behind ≡ none → readColumn bs ≡ none
+  pub column-unspaced : byte space behind ≡ none → readIndex bs ≡ none
   column-unspaced f = column-counted ∙ bind-none (byte space behind) _ f
 
-  pub column-read : (rest : List ℕ) → byte space behind ≡ some rest → readColumn bs ≡ some (n, rest)
+  pub column-read : (rest : List ℕ) → byte space behind ≡ some rest → readIndex bs ≡ some (n, rest)
   column-read rest f = column-counted ∙ bind-some (byte space behind) rest _ f
 
 -- a column that was read is a number, with a space behind it
@@ -128,47 +128,32 @@ unfolding bind
 counted-value n rest none e = let z : _≡_ {A = ℕ} 0 1 = cc in absurd (omega arith)
 counted-value n rest (some (m, behind)) e = let s = spaced-value m n rest (byte space behind) e in (behind, (λ j. some (s .0 j, behind)), s .1)
 
-column-value : (bs : List ℕ) (n : ℕ) (rest : List ℕ) → readColumn bs ≡ some (n, rest) → (behind : List ℕ) × (readCount bs ≡ some (n, behind)) × (byte space behind ≡ some rest)
-unfolding readColumn
+column-value : (bs : List ℕ) (n : ℕ) (rest : List ℕ) → readIndex bs ≡ some (n, rest) → (behind : List ℕ) × (readCount bs ≡ some (n, behind)) × (byte space behind ≡ some rest)
+unfolding readIndex
 column-value bs n rest e = counted-value n rest (readCount bs) e
 
-pub column-suffix : (bs : List ℕ) (n : ℕ) (rest : List ℕ) → readColumn bs ≡ some (n, rest) → Suffix rest bs
+pub column-suffix : (bs : List ℕ) (n : ℕ) (rest : List ℕ) → readIndex bs ≡ some (n, rest) → Suffix rest bs
 column-suffix bs n rest e =
     let (behind, p, q) = column-value bs n rest e in
     suffix-of (byte-suffix space behind rest q) (count-suffix bs n behind p)
 
-column-shorter : (bs : List ℕ) (n : ℕ) (rest : List ℕ) → readColumn bs ≡ some (n, rest) → length rest + 2 ≤ length bs
+column-shorter : (bs : List ℕ) (n : ℕ) (rest : List ℕ) → readIndex bs ≡ some (n, rest) → length rest + 2 ≤ length bs
 column-shorter bs n rest e =
     let (behind, p, q) = column-value bs n rest e in
     omega (arith, byte-shorter space behind rest q, count-shorter bs n behind p)
 
-pub column-small : (bs : List ℕ) (n : ℕ) (rest : List ℕ) → readColumn bs ≡ some (n, rest) → n ≤ valueLimit
+pub column-small : (bs : List ℕ) (n : ℕ) (rest : List ℕ) → readIndex bs ≡ some (n, rest) → n ≤ valueLimit
 column-small bs n rest e = let (behind, p, q) = column-value bs n rest e in count-small bs n behind p
 
 -- what an answer says of a column
 module _ (text : List ℕ) (at : ℕ) where
-  pub columned : (v : ℤ) (next : ℕ) → readColumnAt text at ≡ Value v next → (n : ℕ) × (v ≡ pos n) × Found readColumn text at n next
-  unfolding readColumnAt
-  columned = plain-found readColumn column-suffix text at
+  pub columned : (v : ℤ) (next : ℕ) → readIndexAt text at ≡ Value v next → (n : ℕ) × (v ≡ pos n) × Found readIndex text at n next
+  unfolding readIndexAt
+  columned = plain-found readIndex column-suffix text at
 
-  pub uncolumned : (number : ℕ) → readColumnAt text at ≡ Refused number → readColumn (drop at text) ≡ none
-  unfolding readColumnAt
-  uncolumned = plain-missed readColumn column-suffix text at
-
--- a step after a column is one after its number and its space
-spaced-then {κ} : {B : Type κ} (k : ℕ × List ℕ → Option B) (m : ℕ) (o : Option (List ℕ)) → bind (spaced m o) k ≡ bind o (λ end. k (m, end))
-unfolding bind
-spaced-then k m none = refl
-spaced-then k m (some end) = refl
-
-counted-then {κ} : {B : Type κ} (k : ℕ × List ℕ → Option B) (o : Option (ℕ × List ℕ)) → bind (counted o) k ≡ bind o (λ r. bind (byte space (r .1)) (λ end. k (r .0, end)))
-unfolding bind
-counted-then k none = refl
-counted-then k (some (m, behind)) = spaced-then k m (byte space behind)
-
-column-then {κ} : {B : Type κ} (bs : List ℕ) (k : ℕ × List ℕ → Option B) → bind (readColumn bs) k ≡ bind (readCount bs) (λ r. bind (byte space (r .1)) (λ end. k (r .0, end)))
-unfolding readColumn
-column-then bs k = counted-then k (readCount bs)
+  pub uncolumned : (number : ℕ) → readIndexAt text at ≡ Refused number → readIndex (drop at text) ≡ none
+  unfolding readIndexAt
+  uncolumned = plain-missed readIndex column-suffix text at
 
 -- ---- a line
 
@@ -182,18 +167,14 @@ unfoldable pub line₃ : ℕ → ℕ → ℕ × List ℕ → Option (Line × Lis
 line₃ part item r = bind (readNumber (r .1)) (line₄ part item (r .0))
 
 unfoldable pub line₂ : ℕ → ℕ × List ℕ → Option (Line × List ℕ)
-line₂ part r = bind (readColumn (r .1)) (line₃ part (r .0))
+line₂ part r = bind (readIndex (r .1)) (line₃ part (r .0))
 
 unfoldable pub line₁ : ℕ × List ℕ → Option (Line × List ℕ)
-line₁ r = bind (readColumn (r .1)) (line₂ (r .0))
+line₁ r = bind (readIndex (r .1)) (line₂ (r .0))
 
-pub line-columns : (bs : List ℕ) → readLine bs ≡ bind (readColumn bs) line₁
+pub line-columns : (bs : List ℕ) → readLine bs ≡ bind (readIndex bs) line₁
 unfolding readLine line₁ line₂ line₃ line₄
-line-columns bs =
-    sym (column-then bs line₁
-    ∙ (λ j. bind (readCount bs) (λ r. bind (byte space (r .1)) (λ end. column-then end (line₂ (r .0)) j)))
-    ∙ (λ j. bind (readCount bs) (λ r. bind (byte space (r .1)) (λ end.
-    bind (readCount end) (λ s. bind (byte space (s .1)) (λ end′. column-then end′ (line₃ (r .0) (s .0)) j))))))
+line-columns bs = refl
 
 -- a line that was read, by its columns
 record Columns (bs : List ℕ) (l : Line) (rest : List ℕ) : Type 0 where
@@ -201,9 +182,9 @@ record Columns (bs : List ℕ) (l : Line) (rest : List ℕ) : Type 0 where
   placeOn : List ℕ
   valueOn : List ℕ
   behind : List ℕ
-  part-is : readColumn bs ≡ some (l .spot .part, itemOn)
-  item-is : readColumn itemOn ≡ some (l .spot .item, placeOn)
-  place-is : readColumn placeOn ≡ some (l .spot .place, valueOn)
+  part-is : readIndex bs ≡ some (l .spot .part, itemOn)
+  item-is : readIndex itemOn ≡ some (l .spot .item, placeOn)
+  place-is : readIndex placeOn ≡ some (l .spot .place, valueOn)
   value-is : readNumber valueOn ≡ some (l .value, behind)
   end-is : byte lineFeed behind ≡ some rest
 
@@ -215,8 +196,8 @@ ended-value m l rest (some end) e =
     (ap (λ r. r .0) same, (λ j. some (same j .1)))
 
 module _ (bs : List ℕ) (l : Line) (rest : List ℕ) (e : readLine bs ≡ some (l, rest)) where
-  columns₄ : (part item place : ℕ) (itemOn placeOn valueOn : List ℕ) (r : ℤ × List ℕ) → readColumn bs ≡ some (part, itemOn) → readColumn itemOn ≡ some (item, placeOn)
-      → readColumn placeOn ≡ some (place, valueOn) → readNumber valueOn ≡ some r → line₄ part item place r ≡ some (l, rest) → Columns bs l rest
+  columns₄ : (part item place : ℕ) (itemOn placeOn valueOn : List ℕ) (r : ℤ × List ℕ) → readIndex bs ≡ some (part, itemOn) → readIndex itemOn ≡ some (item, placeOn)
+      → readIndex placeOn ≡ some (place, valueOn) → readNumber valueOn ≡ some r → line₄ part item place r ≡ some (l, rest) → Columns bs l rest
   unfolding line₄
   columns₄ part item place itemOn placeOn valueOn r p i k v f =
       let (same, end) = ended-value (line part item place (r .0)) l rest (byte lineFeed (r .1)) f in
@@ -235,9 +216,9 @@ module _ (bs : List ℕ) (l : Line) (rest : List ℕ) (e : readLine bs ≡ some 
   columns : Columns bs l rest
   unfolding line₁ line₂ line₃
   columns =
-      let (p, p-is, p-then) = bind-value (readColumn bs) line₁ (l, rest) (sym (line-columns bs) ∙ e) in
-      let (i, i-is, i-then) = bind-value (readColumn (p .1)) (line₂ (p .0)) (l, rest) p-then in
-      let (k, k-is, k-then) = bind-value (readColumn (i .1)) (line₃ (p .0) (i .0)) (l, rest) i-then in
+      let (p, p-is, p-then) = bind-value (readIndex bs) line₁ (l, rest) (sym (line-columns bs) ∙ e) in
+      let (i, i-is, i-then) = bind-value (readIndex (p .1)) (line₂ (p .0)) (l, rest) p-then in
+      let (k, k-is, k-then) = bind-value (readIndex (i .1)) (line₃ (p .0) (i .0)) (l, rest) i-then in
       let (v, v-is, v-then) = bind-value (readNumber (k .1)) (line₄ (p .0) (i .0) (k .0)) (l, rest) k-then in
       columns₄ (p .0) (i .0) (k .0) (p .1) (i .1) (k .1) v p-is i-is k-is v-is v-then
 
@@ -299,35 +280,35 @@ unfolding bind
 turns-line k m none same = refl
 turns-line k m (some (l, rest)) same = ap (λ o. bind o (λ ls. some (l ∷ ls))) (same l rest refl)
 
-turns-enough : (k m : ℕ) (bs : List ℕ) → length bs ≤ k → length bs ≤ m → readLines k bs ≡ readLines m bs
-unfolding readLines keep
-turns-enough zero zero [] h i = refl
-turns-enough zero (suc m) [] h i = refl
-turns-enough (suc k) zero [] h i = refl
+turns-enough : (k m : ℕ) (bs : List ℕ) → length bs < k → length bs < m → readLines k bs ≡ readLines m bs
+unfolding readLines
+turns-enough zero m bs h i = absurd (omega arith)
+turns-enough (suc k) zero bs h i = absurd (omega arith)
 turns-enough (suc k) (suc m) [] h i = refl
-turns-enough zero m (b ∷ bs) h i = absurd (omega arith)
-turns-enough (suc k) zero (b ∷ bs) h i = absurd (omega arith)
 turns-enough (suc k) (suc m) (b ∷ bs) h i =
     turns-line k m (readLine (b ∷ bs)) (λ l rest e. turns-enough k m rest (omega (arith, line-shorter (b ∷ bs) l rest e)) (omega (arith, line-shorter (b ∷ bs) l rest e)))
 
+pub all-turns : (k : ℕ) (bs : List ℕ) → length bs < k → readLines k bs ≡ allLines bs
+unfolding allLines
+all-turns k bs h = turns-enough k (suc (length bs)) bs h (omega arith)
+
 pub all-end : allLines [] ≡ some []
-unfolding allLines readLines keep
+unfolding allLines readLines
 all-end = refl
 
 line-empty : readLine [] ≡ none
-unfolding readLine readCount properDigits keep bind
+unfolding readLine readIndex readCount properDigits keep bind
 line-empty = refl
 
-all-turn : (b : ℕ) (bs : List ℕ) → allLines (b ∷ bs) ≡ bind (readLine (b ∷ bs)) (λ r. bind (readLines (length bs) (r .1)) (λ ls. some (r .0 ∷ ls)))
+all-turn : (b : ℕ) (bs : List ℕ) → allLines (b ∷ bs) ≡ bind (readLine (b ∷ bs)) (λ r. bind (readLines (suc (length bs)) (r .1)) (λ ls. some (r .0 ∷ ls)))
 unfolding allLines readLines
 all-turn b bs = refl
 
 pub all-next : (bs : List ℕ) (l : Line) (rest : List ℕ) → readLine bs ≡ some (l, rest) → allLines bs ≡ bind (allLines rest) (λ ls. some (l ∷ ls))
-unfolding allLines
 all-next [] l rest e = let z : _≡_ {A = ℕ} 0 1 = cc line-empty in absurd (omega arith)
 all-next (b ∷ bs) l rest e =
     all-turn b bs ∙ bind-some (readLine (b ∷ bs)) (l, rest) _ e
-    ∙ ap (λ o. bind o (λ ls. some (l ∷ ls))) (turns-enough (length bs) (length rest) rest (omega (arith, line-shorter (b ∷ bs) l rest e)) (omega arith))
+    ∙ ap (λ o. bind o (λ ls. some (l ∷ ls))) (all-turns (suc (length bs)) rest (omega (arith, line-shorter (b ∷ bs) l rest e)))
 
 pub all-none : (bs : List ℕ) → 0 < length bs → readLine bs ≡ none → allLines bs ≡ none
 all-none [] h e = absurd (omega arith)

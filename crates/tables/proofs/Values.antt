@@ -15,7 +15,7 @@ use lib.Dec.{eqb}
 use lib.ListN.{length, getD, drop, take}
 use lib.IntN.{ℤ, pos}
 use Rattle.protocol.specs.declared.Number.the-variants.{Value, Refused}
-use Rattle.protocol.specs.Text.{Spot, Line, bytes, names, settingsShape, spots, keep, readLine, begins, beginsWithNames, afterNames, sameSpot, numberAnswer}
+use Rattle.protocol.specs.Text.{Spot, Line, bytes, names, settingsShape, spots, keep, readLine, begins, beginsWithNames, sameSpot, numberAnswer}
 use Rattle.protocol.proofs.Tests.{and-split, and-intro}
 use Rattle.tables.specs.Scan.{spot, readValue, readValues, readSettings}
 use Rattle.tables.proofs.Counts.{Suffix, suffix-self, suffix-of, Found, found, keep-yes, keep-no, keep-some, answer-value, answer-refused}
@@ -147,8 +147,8 @@ values-done o vs bs e = e ∙ (λ j. some (append-nil vs j, bs))
 
 -- ---- the lines that every text begins with
 
-pub behind-names : (text : List ℕ) → afterNames text ≡ drop 22 text
-unfolding afterNames names bytes
+pub behind-names : (text : List ℕ) → drop (length names) text ≡ drop 22 text
+unfolding names bytes
 behind-names text = refl
 
 begins-long : (cs bs : List ℕ) → begins cs bs ≡ true → length cs ≤ length bs
@@ -163,7 +163,7 @@ names-long text t = begins-long _ text t
 
 -- the lines behind the names line, by the test whether it is there
 abbrev named : List ℕ → Bool → Option (List ℤ × List ℕ)
-named text b = elim b as (λ _. Option (List ℤ × List ℕ)) [ true ↦ readValues (spots settingsShape) (afterNames text) | false ↦ none ]
+named text b = elim b as (λ _. Option (List ℤ × List ℕ)) [ true ↦ readValues (spots settingsShape) (drop (length names) text) | false ↦ none ]
 
 pub settings-unnamed : (text : List ℕ) → beginsWithNames text ≡ false → readSettings text ≡ none
 unfolding readSettings

@@ -10,7 +10,7 @@
 --   Took                  what such a reader promises
 use mathlib.Core.Path.{_≡_}
 use mathlib.Core.Bool.{Bool, true, false, _&&_}
-use mathlib.Core.List.{List}
+use mathlib.Core.List.{List, flatMap}
 use mathlib.Core.Option.{Option, none, some}
 use Prim.Native.Nat.{ℕ, _-_, _/_, _%_}
 use lib.Dec.{eqb}
@@ -18,7 +18,7 @@ use lib.ListN.{length, getD, drop, take}
 use lib.IntN.{ℤ}
 use Rattle.protocol.specs.declared.Settings.{Settings}
 use Rattle.protocol.specs.declared.Parts.{Parts}
-use Rattle.protocol.specs.Text.{Spot, Tables, Shape, settingsShape, shapes, shapeSize, allSpots}
+use Rattle.protocol.specs.Text.{Spot, Tables, Shape, settingsShape, shapes, shapeSize, spots}
 use Rattle.tables.specs.declared.shapes.Shape.{Shape as Part}
 use Rattle.tables.specs.declared.shapes.Cell.{Cell}
 use Rattle.tables.specs.declared.shapes.Lengths.{Lengths}
@@ -35,7 +35,7 @@ unfoldable pub partShape : Settings → Parts → ℕ → Shape
 partShape S P part = getD (shapes S P) part settingsShape
 
 unfoldable pub partSpots : Settings → Parts → List Spot
-partSpots S P = allSpots (drop 1 (shapes S P))
+partSpots S P = flatMap spots (drop 1 (shapes S P))
 
 unfoldable pub lengthsOf : Tables → Lengths
 lengthsOf t = record {

@@ -1,8 +1,7 @@
 -- What the readers of lines give, from a place of a text on: document 01's definitions in the shape in which the code goes.
 --
 --   present r            was anything read
---   readColumn           a number from 0 on and the space behind it: one of the first three columns of a line
---   readColumnAt         the same as a call on a text and a place
+--   readIndexAt          a number from 0 on and the space behind it, as a call on a text and a place
 --   lineAnswer           the line reader's answer for what was read
 --   readLineAt           the line reader as a call on a text and a place
 --   allLines bs          all lines up to the end
@@ -14,12 +13,12 @@
 use mathlib.Core.Bool.{Bool, true, false}
 use mathlib.Core.List.{List, [], _∷_}
 use mathlib.Core.Option.{Option, none, some, bind as _>>=_}
-use Prim.Native.Nat.{ℕ, _-_}
+use Prim.Native.Nat.{ℕ, suc, _-_}
 use lib.ListN.{length, getD, drop}
 use lib.IntN.{ℤ, pos}
 use Rattle.protocol.specs.declared.Settings.{Settings}
 use Rattle.protocol.specs.declared.Number.{Number}
-use Rattle.protocol.specs.Text.{Spot, Line, space, keep, readCount, plain, byte, readLine, readLines, beginsWithNames, afterNames, sameSpot, spots, settingsShape, unsigned, noSettings, numberAnswer}
+use Rattle.protocol.specs.Text.{Spot, Line, names, keep, plain, readIndex, readLine, readLines, beginsWithNames, sameSpot, spots, settingsShape, unsigned, noSettings, numberAnswer}
 use Rattle.tables.specs.declared.header.Header.{Header}
 use Rattle.tables.specs.declared.lines.Entry.{Entry}
 use Rattle.tables.specs.declared.lines.Entry.the-variants.{Found, Malformed}
@@ -28,14 +27,8 @@ unfoldable pub present {ℓ} : {A : Type ℓ} → Option A → Bool
 present none = false
 present (some a) = true
 
-unfoldable pub readColumn : List ℕ → Option (ℕ × List ℕ)
-readColumn bs = do
-  (n, behind) ← readCount bs
-  rest ← byte space behind
-  some (n, rest)
-
-unfoldable pub readColumnAt : List ℕ → ℕ → Number
-readColumnAt text at = numberAnswer text (plain (readColumn (drop at text)))
+unfoldable pub readIndexAt : List ℕ → ℕ → Number
+readIndexAt text at = numberAnswer text (plain (readIndex (drop at text)))
 
 unfoldable pub lineAnswer : List ℕ → Option (Line × List ℕ) → Entry
 lineAnswer text none = Malformed
@@ -45,7 +38,7 @@ unfoldable pub readLineAt : List ℕ → ℕ → Entry
 readLineAt text at = lineAnswer text (readLine (drop at text))
 
 unfoldable pub allLines : List ℕ → Option (List Line)
-allLines bs = readLines (length bs) bs
+allLines bs = readLines (suc (length bs)) bs
 
 abbrev pub spot : ℕ → ℕ → ℕ → Spot
 spot part item place = record { part = part; item = item; place = place }
@@ -71,7 +64,7 @@ settingsOf vs = record {
 }
 
 unfoldable pub readSettings : List ℕ → Option (List ℤ × List ℕ)
-readSettings text = elim (beginsWithNames text) [ true ↦ readValues (spots settingsShape) (afterNames text) | false ↦ none ]
+readSettings text = elim (beginsWithNames text) [ true ↦ readValues (spots settingsShape) (drop (length names) text) | false ↦ none ]
 
 unfoldable pub headerAnswer : List ℕ → Option (List ℤ × List ℕ) → Header
 headerAnswer text none = record { found = false; settings = noSettings; next = 0 }

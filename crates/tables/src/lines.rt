@@ -5,7 +5,7 @@ use protocol::Number;
 ghost use mathlib.Core.Path.{_≡_};
 ghost use lib.ListN.{drop};
 ghost use Rattle.protocol.specs.Text.{byte as behindByte, numberAnswer};
-ghost use Rattle.tables.specs.Scan.{present, readColumnAt, readLineAt, allLines, spot, readValue};
+ghost use Rattle.tables.specs.Scan.{present, readIndexAt, readLineAt, allLines, spot, readValue};
 
 // What stands at a place: a line of the stated shape with the place behind it, or none.
 pub enum Entry {
@@ -30,8 +30,8 @@ fn stands(text: &[u8], at: usize, byte: u8) -> bool
 }
 
 // A number without a sign and the space behind it.
-fn read_column(text: &[u8], at: usize) -> Number
-    ensures { λ r. ⌜ r ≡ readColumnAt (now (text .entry)) at ⌝ }
+fn read_index(text: &[u8], at: usize) -> Number
+    ensures { λ r. ⌜ r ≡ readIndexAt (now (text .entry)) at ⌝ }
 {
     let Number::Value { value, next } = read_count(text, at) else {
         return Number::Refused(2);
@@ -52,21 +52,21 @@ pub fn read_line(text: &[u8], at: usize) -> Entry
     let Number::Value {
         value: part,
         next: item_on,
-    } = read_column(text, at)
+    } = read_index(text, at)
     else {
         return Entry::Malformed;
     };
     let Number::Value {
         value: item,
         next: place_on,
-    } = read_column(text, item_on)
+    } = read_index(text, item_on)
     else {
         return Entry::Malformed;
     };
     let Number::Value {
         value: place,
         next: value_on,
-    } = read_column(text, place_on)
+    } = read_index(text, place_on)
     else {
         return Entry::Malformed;
     };

@@ -12,9 +12,9 @@ use lib.IntN.{ℤ, pos, natAbs}
 use mir.Syntax.{w32}
 use mir.Val.{ofZ, toZ}
 use mir.Facts.{toZ-ofZ}
-use Rattle.protocol.specs.Text.{lineFeed, valueLimit, readNumber, byte, readLine}
+use Rattle.protocol.specs.Text.{lineFeed, valueLimit, readNumber, byte, readIndex, readLine}
 use Rattle.tables.specs.declared.lines.Entry.the-variants.{Found as Line-at}
-use Rattle.tables.specs.Scan.{present, readColumn, lineAnswer, readLineAt}
+use Rattle.tables.specs.Scan.{present, lineAnswer, readLineAt}
 use Rattle.tables.proofs.Counts.{Found, suffix-back, numbered, unnumbered}
 use Rattle.tables.proofs.Rows.{bind-some, bind-none, present-none, byte-place, byte-stands, columned, uncolumned, column-small, line-columns, line₁, line₂, line₃, line₄}
 use Rattle.tables.proofs.Words.{word-value, word-cast}
@@ -35,8 +35,8 @@ module _ (c : tie.After-known-told) where
   abbrev on₁ : ℕ
   on₁ = c .before .part .given .0 .1 .0
 
-  part : (n : ℕ) × (c .before .part .given .0 .0 ≡ pos n) × Found readColumn text at n on₁
-  part = columned text at (c .before .part .given .0 .0) on₁ (sym (c .before .before .before .read-column .ensures) ∙ c .before .part .given .1)
+  part : (n : ℕ) × (c .before .part .given .0 .0 ≡ pos n) × Found readIndex text at n on₁
+  part = columned text at (c .before .part .given .0 .0) on₁ (sym (c .before .before .before .read-index .ensures) ∙ c .before .part .given .1)
 
   part-small : part .0 ≤ 2147483647
   unfolding valueLimit
@@ -53,8 +53,8 @@ module _ (c : tie.After-known-told2) where
   abbrev on₂ : ℕ
   on₂ = c .before .item .given .0 .1 .0
 
-  item : (n : ℕ) × (c .before .item .given .0 .0 ≡ pos n) × Found readColumn (text from₁) (on₁ from₁) n on₂
-  item = columned (text from₁) (on₁ from₁) (c .before .item .given .0 .0) on₂ (sym (c .before .before .before .read-column2 .ensures) ∙ c .before .item .given .1)
+  item : (n : ℕ) × (c .before .item .given .0 .0 ≡ pos n) × Found readIndex (text from₁) (on₁ from₁) n on₂
+  item = columned (text from₁) (on₁ from₁) (c .before .item .given .0 .0) on₂ (sym (c .before .before .before .read-index2 .ensures) ∙ c .before .item .given .1)
 
   item-small : item .0 ≤ 2147483647
   unfolding valueLimit
@@ -75,8 +75,8 @@ module _ (c : tie.After-known-told3) where
   abbrev on₃ : ℕ
   on₃ = c .before .place .given .0 .1 .0
 
-  place : (n : ℕ) × (c .before .place .given .0 .0 ≡ pos n) × Found readColumn text₂ (on₂ from₂) n on₃
-  place = columned text₂ (on₂ from₂) (c .before .place .given .0 .0) on₃ (sym (c .before .before .before .read-column3 .ensures) ∙ c .before .place .given .1)
+  place : (n : ℕ) × (c .before .place .given .0 .0 ≡ pos n) × Found readIndex text₂ (on₂ from₂) n on₃
+  place = columned text₂ (on₂ from₂) (c .before .place .given .0 .0) on₃ (sym (c .before .before .before .read-index3 .ensures) ∙ c .before .place .given .1)
 
   place-small : place .0 ≤ 2147483647
   unfolding valueLimit
@@ -135,8 +135,8 @@ module _ (c : tie.After-known-told4) where
 ends : (c : tie.Else1) → present (byte lineFeed (drop (on₄ (c .before .before)) (text₃ (c .before .before)))) ≡ true
 ends c = sym (c .before .stands .ensures) ∙ not-false _ (c .if1 .left)
 
-read-column-requires : tie.Need-read-column-requires
-read-column-requires c κs = search needs
+read-index-requires : tie.Need-read-index-requires
+read-index-requires c κs = search needs
 
 enum-known-part : tie.Need-enum-known-part
 enum-known-part c = search needs
@@ -148,11 +148,11 @@ returns : tie.Need-returns
 unfolding readLineAt lineAnswer
 returns c =
     let a = c .before .before .before .before .args in
-    let missed = uncolumned (a .text .now) (a .at) _ (sym (c .before .before .read-column .ensures) ∙ c .enum-told .given .1) in
+    let missed = uncolumned (a .text .now) (a .at) _ (sym (c .before .before .read-index .ensures) ∙ c .enum-told .given .1) in
     sym (ap (lineAnswer (a .text .now)) (line-columns (drop (a .at) (a .text .now)) ∙ bind-none _ line₁ missed))
 
-read-column-requires-2 : tie.Need-read-column-requires-2
-read-column-requires-2 c κs = search needs
+read-index-requires-2 : tie.Need-read-index-requires-2
+read-index-requires-2 c κs = search needs
 
 enum-known-item : tie.Need-enum-known-item
 enum-known-item c = search needs
@@ -164,11 +164,11 @@ returns-2 : tie.Need-returns-2
 unfolding readLineAt lineAnswer line₁
 returns-2 c =
     let d = c .before .before .before in
-    let missed = uncolumned (text d) (on₁ d) _ (sym (c .before .before .read-column2 .ensures) ∙ c .enum-told2 .given .1) in
+    let missed = uncolumned (text d) (on₁ d) _ (sym (c .before .before .read-index2 .ensures) ∙ c .enum-told2 .given .1) in
     sym (ap (lineAnswer (text d)) (left₁ d ∙ bind-none _ (line₂ (part d .0)) missed))
 
-read-column-requires-3 : tie.Need-read-column-requires-3
-read-column-requires-3 c κs = search needs
+read-index-requires-3 : tie.Need-read-index-requires-3
+read-index-requires-3 c κs = search needs
 
 enum-known-place : tie.Need-enum-known-place
 enum-known-place c = search needs
@@ -180,7 +180,7 @@ returns-3 : tie.Need-returns-3
 unfolding readLineAt lineAnswer line₂
 returns-3 c =
     let d = c .before .before .before in
-    let missed = uncolumned (text (from₁ d)) (on₂ d) _ (sym (c .before .before .read-column3 .ensures) ∙ c .enum-told3 .given .1) in
+    let missed = uncolumned (text (from₁ d)) (on₂ d) _ (sym (c .before .before .read-index3 .ensures) ∙ c .enum-told3 .given .1) in
     sym (ap (lineAnswer (text (from₁ d))) (left₂ d ∙ bind-none _ (line₃ (part (from₁ d) .0) (item d .0)) missed))
 
 read-number-requires : tie.Need-read-number-requires
@@ -233,15 +233,15 @@ pub read-line-spec : {M : Type 1} → statement M
 read-line-spec =
     tie.close
     (tie.spec
-    read-column-requires
+    read-index-requires
     enum-known-part
     enum-told
     returns
-    read-column-requires-2
+    read-index-requires-2
     enum-known-item
     enum-told-2
     returns-2
-    read-column-requires-3
+    read-index-requires-3
     enum-known-place
     enum-told-3
     returns-3

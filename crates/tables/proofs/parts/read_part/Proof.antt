@@ -21,7 +21,7 @@ use Rattle.tables.specs.Scan.{spot, readValue, readValues}
 use Rattle.tables.specs.Parts.{asShape, cellAt, takenAnswer, Took}
 use Rattle.tables.proofs.Counts.{Found, suffix-back}
 use Rattle.tables.proofs.Values.{prefix, prefix-nothing, valued, unvalued, values-more, values-over, values-done}
-use Rattle.tables.proofs.Cells.{cell, cell-first, cell-place-inside, cell-item-inside, spots-count, spots-next, spots-end}
+use Rattle.tables.proofs.Cells.{cell, cell-first, cell-place-inside, cell-item-inside, spots-count, spots-next, spots-end, took-missed, took-done}
 use Rattle.tables.proofs.parts.read_part.Statement.{statement}
 use Rattle.tables.proofs.parts.read_part.Tie as tie
 
@@ -56,22 +56,9 @@ module _ (text : List ℕ) (from : ℕ) (b : Shape) where
     stop : readValue (spotAt b p) (drop at text) ≡ none → all-of ≡ none
     stop e = values-over all-of (take p values) (spotAt b p) (drop (p + 1) (spots b)) (drop at text) here e
 
-  missed : (values : List ℤ) → all-of ≡ none → Took text from (spots b) (record { found = false; next = 0 }) values
-  unfolding takenAnswer
-  missed values e = record {
-    answer = sym (ap (takenAnswer text) e);
-    stored = λ vs rest f. let z : _≡_ {A = ℕ} 0 1 = cc in absurd (omega arith);
-  }
-
-  done : (values : List ℤ) (at p : ℕ) → p ≡ shapeSize b → at ≤ length text → Left values at p → Took text from (spots b) (record { found = true; next = at }) values
-  unfolding takenAnswer
-  done values at p e h left =
-      let whole : all-of ≡ some (take p values, drop at text) =
-      values-done all-of (take p values) (drop at text) (left ∙ ap (λ ss. prefix (take p values) (readValues ss (drop at text))) (spots-end b p (omega arith))) in
-      record {
-        answer = (λ j. record { found = true; next = sym (suffix-back text at h) j }) ∙ sym (ap (takenAnswer text) whole);
-        stored = λ vs rest f. ap (λ n. take n values) (spots-count b ∙ sym e) ∙ ap (λ r. r .0) (Option·some-injective (take p values, drop at text) (vs, rest) (sym whole ∙ f));
-      }
+  done : (values : List ℤ) (at p : ℕ) → shapeSize b ≤ p → Left values at p → all-of ≡ some (take p values, drop at text)
+  done values at p h left =
+      values-done all-of (take p values) (drop at text) (left ∙ ap (λ ss. prefix (take p values) (readValues ss (drop at text))) (spots-end b p h))
 
 -- the line that is wanted
 module _ (c : tie.In-loop Inv-loop μ-loop) where
@@ -150,9 +137,10 @@ same-length c = c .before .before .before .before .loop .inv .3
 returns : tie.Need-returns Inv-loop μ-loop
 returns c =
     let d = c .before .before .before in
+    let b = asShape (part d) in
     let none-here = unvalued (text d) _ (now-at d) _ (sym (c .before .before .value-at .ensures) ∙ c .enum-told .given .1) in
-    missed (text d) (from d) (asShape (part d)) (values d)
-    (stop (text d) (from d) (asShape (part d)) (values d) (now-at d) (line d) (inside d) (d .before .loop .inv .5)
+    took-missed (text d) (from d) (spots b) (values d)
+    (stop (text d) (from d) b (values d) (now-at d) (line d) (inside d) (d .before .loop .inv .5)
     (subst (λ s. readValue s (drop (now-at d) (text d)) ≡ none) (wanted d) none-here))
 
 mul-value : tie.Need-mul-value Inv-loop μ-loop
@@ -191,8 +179,9 @@ returns-2 : tie.Need-returns-2 Inv-loop μ-loop
 returns-2 c =
     let l = c .before .loop in
     let a = c .before .before .before .before .args in
-    let all : l .p ≡ shapeSize (asShape (a .shape)) = omega arith in
-    done (a .text .now) (a .from) (asShape (a .shape)) (l .values) (l .at) (l .p) all (l .inv .2) (l .inv .5)
+    let b = asShape (a .shape) in
+    took-done (a .text .now) (a .from) (spots b) (l .values) (l .p) (l .at) (omega (arith, spots-count b)) (l .inv .2)
+    (done (a .text .now) (a .from) b (l .values) (l .at) (l .p) (omega arith) (l .inv .5))
 
 pub read-part-spec : {M : Type 1} → statement M
 read-part-spec =

@@ -1,4 +1,4 @@
--- `read_column`: the number, and then the space.
+-- `read_index`: the number, and then the space.
 use mathlib.Core.Path.{_≡_, sym, ap, _∙_}
 use mathlib.Core.Bool.{true}
 use mathlib.Core.List.{List}
@@ -10,13 +10,13 @@ use borrow.Author.Tests.{not-true, not-false}
 use lib.ListN.{length, drop}
 use lib.IntN.{ℤ, pos}
 use Rattle.protocol.specs.declared.Number.the-variants.{Value, Refused}
-use Rattle.protocol.specs.Text.{space, valueLimit, readCount, plain, byte, numberAnswer}
-use Rattle.tables.specs.Scan.{present, readColumn, readColumnAt}
+use Rattle.protocol.specs.Text.{space, valueLimit, readCount, plain, byte, readIndex, numberAnswer}
+use Rattle.tables.specs.Scan.{present, readIndexAt}
 use Rattle.tables.proofs.Counts.{Found, suffix-back, counted, uncounted, count-small}
 use Rattle.tables.proofs.Rows.{present-none, byte-place, byte-stands, column-uncounted, column-unspaced, column-read}
 use Rattle.tables.proofs.Words.{word-pos}
-use Rattle.tables.proofs.lines.read_column.Statement.{statement}
-use Rattle.tables.proofs.lines.read_column.Tie as tie
+use Rattle.tables.proofs.lines.read_index.Statement.{statement}
+use Rattle.tables.proofs.lines.read_index.Tie as tie
 
 -- the number that was read
 module _ (c : tie.After-known-told) where
@@ -53,7 +53,7 @@ enum-told : tie.Need-enum-told
 enum-told c = search needs
 
 returns : tie.Need-returns
-unfolding readColumnAt numberAnswer plain bind
+unfolding readIndexAt numberAnswer plain bind
 returns c =
     let a = c .before .before .before .before .args in
     let missed = uncounted (a .text .now) (a .at) _ (sym (c .before .before .read-count .ensures) ∙ c .enum-told .given .1) in
@@ -63,7 +63,7 @@ stands-requires : tie.Need-stands-requires
 stands-requires c κs = search needs
 
 returns-2 : tie.Need-returns-2
-unfolding readColumnAt numberAnswer plain bind
+unfolding readIndexAt numberAnswer plain bind
 returns-2 c =
     let d = c .before .before in
     let missed : byte space (drop (next d) (text d)) ≡ none = present-none _ (sym (c .before .stands .ensures) ∙ not-true _ (c .if1 .taken)) in
@@ -73,7 +73,7 @@ add-t8 : tie.Need-add-t8
 add-t8 c = let d = c .before .before in record { fits = omega (arith, byte-place space (text d) (next d) (stands c)) }
 
 returns-3 : tie.Need-returns-3
-unfolding readColumnAt numberAnswer plain bind
+unfolding readIndexAt numberAnswer plain bind
 returns-3 c =
     let d = c .before .before in
     let n = got d .0 in
@@ -82,8 +82,8 @@ returns-3 c =
     ∙ sym (ap (λ o. numberAnswer (text d) (plain o))
     (column-read (drop (at d) (text d)) n (drop (next d) (text d)) (got d .2 .is) (drop (next d + 1) (text d)) (byte-stands space (text d) (next d) (stands c))))
 
-pub read-column-spec : {M : Type 1} → statement M
-read-column-spec =
+pub read-index-spec : {M : Type 1} → statement M
+read-index-spec =
     tie.close
     (tie.spec
     read-count-requires
