@@ -2,12 +2,13 @@
 use crate::residues;
 ghost use mathlib.Core.Path.{_≡_};
 ghost use Prim.Native.Nat.{_<_, _≤_};
+ghost use lib.IntN.{pos};
 ghost use lib.ListN.{getD};
-ghost use Rattle.protocol.specs.Element.{residue};
+ghost use Rattle.protocol.specs.Element.{residue, coefficients, paddedSigned, signedAt};
 ghost use Rattle.arithmetic.specs.Elements.{elementAt, addRotated};
 
 // Number p of a table; 0 where it has none.
-fn entry(t: &[u32], p: usize) -> u32
+pub fn entry(t: &[u32], p: usize) -> u32
     ensures { λ r. ⌜ r ≡ getD (now (t .entry)) p 0 ⌝ }
 {
     if p < t.len() {
@@ -29,6 +30,33 @@ pub fn element_at(d: u32, t: &[u32], i: u32) -> [u32; 64]
     let mut k: usize = 0;
     while k < n {
         a[k] = entry(t, at + k);
+        k += 1;
+    }
+    a
+}
+
+// The same for tables of whole numbers.
+pub fn signed_entry(t: &[i32], p: usize) -> i32
+    ensures { λ r. ⌜ r ≡ getD (now (t .entry)) p (pos 0) ⌝ }
+{
+    if p < t.len() {
+        return t[p];
+    }
+    0
+}
+
+pub fn signed_element_at(d: u32, t: &[i32], i: u32) -> [i32; 64]
+    ensures { λ r. ⌜ (d ≤ 64 → r ≡ paddedSigned d (coefficients d (signedAt d (now (t .entry)) i))) ⌝ }
+{
+    let mut a = [0i32; 64];
+    if d > 64 {
+        return a;
+    }
+    let n = d as usize;
+    let at = (i as usize) * n;
+    let mut k: usize = 0;
+    while k < n {
+        a[k] = signed_entry(t, at + k);
         k += 1;
     }
     a

@@ -1,6 +1,7 @@
 // Folds of flat tables of residues.
 use crate::residues;
 ghost use mathlib.Core.Path.{_≡_};
+ghost use mathlib.Core.List.{_++_};
 ghost use Prim.Native.Nat.{_+_, _*_, _<_, _≤_};
 ghost use lib.ListN.{length, drop};
 ghost use Rattle.protocol.specs.Opening.{foldResidues};
@@ -82,4 +83,18 @@ pub fn fold_residues(q: u32, d: u32, h: u32, e: u32, t: &mut [u32])
     ensures { λ _. ⌜ (Foldable q d h 0 0 (length (now (t .entry))) → now (t .exit) ≡ foldResidues q d h e (now (t .entry))) ⌝ }
 {
     fold_down(q, d, h, e, 0, 0, t);
+}
+
+// A table copied to the front of one that is not shorter; a shorter one stays as it is.
+pub fn copy(table: &[u32], to: &mut [u32])
+    ensures { λ _. ⌜ (length (now (table .entry)) ≤ length (now (to .entry)) → now (to .exit) ≡ now (table .entry) ++ drop (length (now (table .entry))) (now (to .entry))) ⌝ }
+{
+    if to.len() < table.len() {
+        return;
+    }
+    let mut i: usize = 0;
+    while i < table.len() {
+        to[i] = table[i];
+        i += 1;
+    }
 }

@@ -1,9 +1,8 @@
 // The key folded by all challenges.
 use protocol::Settings;
 ghost use mathlib.Core.Path.{_≡_};
-ghost use mathlib.Core.List.{_++_};
 ghost use Prim.Native.Nat.{_≤_};
-ghost use lib.ListN.{length, drop};
+ghost use lib.ListN.{length};
 ghost use Rattle.protocol.specs.Settings.{settingsRefusal, cells};
 ghost use Rattle.protocol.specs.Opening.{keyAfter};
 ghost use Rattle.arithmetic.specs.Elements.{elementAt};
@@ -11,18 +10,6 @@ ghost use Rattle.arithmetic.specs.Elements.{elementAt};
 // Room for the largest key.
 fn room() -> [u32; 16384] {
     [0u32; 16384]
-}
-
-// A table copied to the front of a longer one.
-fn copy(table: &[u32], to: &mut [u32])
-    requires { ⌜ length (now table) ≤ length (now to) ⌝ }
-    ensures { λ _. ⌜ now (to .exit) ≡ now (table .entry) ++ drop (length (now (table .entry))) (now (to .entry)) ⌝ }
-{
-    let mut i: usize = 0;
-    while i < table.len() {
-        to[i] = table[i];
-        i += 1;
-    }
 }
 
 // The folds of a key by the challenges of all rounds, in place.
@@ -54,7 +41,7 @@ pub fn folded_key(settings: Settings, key: &[u32], challenges: &[u32]) -> [u32; 
         return [0u32; 64];
     }
     let mut folded = room();
-    copy(key, &mut folded);
+    arithmetic::tables::copy(key, &mut folded);
     fold_rounds(settings, challenges, &mut folded[..n]);
     arithmetic::elements::element_at(settings.degree, &folded, 0)
 }

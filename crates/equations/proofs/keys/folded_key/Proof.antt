@@ -52,7 +52,7 @@ returns-2 c = λ e l m.
     let ok = settings-valid S e in
     let key = a .key .now in
     let K = keyAfter S (a .challenges .now) (S .depth) key in
-    let own : take (length key) (w .last .1 .0) ≡ key = ap (take (length key)) (w .ensures) ∙ take-at key _ (length key) refl in
+    let own : take (length key) (w .last .1 .0) ≡ key = ap (take (length key)) (w .ensures (omega arith)) ∙ take-at key _ (length key) refl in
     let folded : f .last .1 .1 .0 ≡ K = f .ensures e (ap length own ∙ l) m ∙ ap (keyAfter S (a .challenges .now) (S .depth)) own in
     c .element-at .ensures (degree-most S ok)
     ∙ ap (λ s. elementAt (S .degree) (s ++ drop (length key) (w .last .1 .0)) 0) folded

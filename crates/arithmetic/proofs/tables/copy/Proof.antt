@@ -6,16 +6,19 @@ use native.Mathlib.Omega.{arith}
 use lib.ListN.{getD, length, drop, set, length-set}
 use Rattle.protocol.specs.Basic.{tabulate}
 use Rattle.protocol.proofs.Reading.{tabulate-own}
 use Rattle.arithmetic.proofs.Fill.{filled, filled-none, filled-more}
 use borrow.Author.Needs.{needs}
-use Rattle.equations.proofs.keys.copy.Statement.{statement}
-use Rattle.equations.proofs.keys.copy.Tie as tie
+use Rattle.arithmetic.proofs.tables.copy.Statement.{statement}
+use Rattle.arithmetic.proofs.tables.copy.Tie as tie
 
 abbrev Inv-loop : tie.InvT-loop
 Inv-loop table to₀ i₀ to i = (i ≤ length table) × (to ≡ filled (λ (j : ℕ). getD table j 0) i to₀) × (length to ≡ length to₀)
 
 abbrev μ-loop : tie.MeasureT-loop
 μ-loop table to₀ i₀ to i = length table - i
+
+returns : tie.Need-returns Inv-loop μ-loop
+returns c = λ l. absurd (omega arith)
 
 loop-holds : tie.Need-loop-holds Inv-loop μ-loop
 loop-holds c = (omega arith, filled-none _ _, search needs)
@@ -41,7 +44,7 @@ loop-less c = search needs
 loop-again : tie.Need-loop-again Inv-loop μ-loop
 loop-again c =
     let l = c .before .before .loop in
-    let a = c .before .before .before .args in (
+    let a = c .before .before .before .before .args in (
       omega arith,
       ap (λ s. set s (l .i) (getD (a .table .now) (l .i) 0)) (l .inv .1) ∙ filled-more (λ j. getD (a .table .now) j 0) (l .i) (a .to .now) (omega arith),
       simp length-set (omega arith),
@@ -50,11 +53,11 @@ loop-again c =
 same-length : tie.Need-same-length Inv-loop μ-loop
 same-length c = search needs
 
-returns : tie.Need-returns Inv-loop μ-loop
+returns-2 : tie.Need-returns-2 Inv-loop μ-loop
 unfolding filled
-returns c =
+returns-2 c = λ h.
     let l = c .before .loop in
-    let a = c .before .before .args in
+    let a = c .before .before .before .args in
     let n = length (a .table .now) in
     l .inv .1
     ∙ ap (λ m. tabulate m (λ j. getD (a .table .now) j 0) ++ drop m (a .to .now)) {y = n} (omega arith)
@@ -66,6 +69,7 @@ copy-spec =
     (tie.spec
     Inv-loop
     μ-loop
+    returns
     loop-holds
     mul-to
     shared-slice-read-to
@@ -75,4 +79,4 @@ copy-spec =
     loop-less
     loop-again
     same-length
-    returns)
+    returns-2)
