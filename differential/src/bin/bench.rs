@@ -152,5 +152,5 @@ fn main() {
     table.check(large);
     table.check(Settings::new(4, 8, Q, 127));
     table.judge(Settings::new(64, 3, Q, 127));
-    table.judge(Settings::new(4, 8, Q, 127));
+    table.judge(Settings::new(4, 8, Q, 2));
 }

@@ -68,7 +68,7 @@ fn used(mut call: Call) -> usize {
 /// Every call at the largest settings that it does not refuse.
 fn calls() -> Vec<(&'static str, Call<'static>)> {
     let large = Settings::new(64, 8, 2_147_483_647, 127);
-    let bounded = Settings::new(4, 8, 2_147_483_647, 127);
+    let bounded = Settings::new(4, 8, 2_147_483_647, 2);
     let input = opening_at(&mut Random::new(7), large);
     let (commit, round, mut fold, end) =
         (input.clone(), input.clone(), input.clone(), input.clone());
