@@ -2,6 +2,7 @@
 
 use std::env;
 use std::path::PathBuf;
+use std::process;
 
 fn main() {
     let package = PathBuf::from(env::var("CARGO_MANIFEST_DIR").expect("set by cargo"));
@@ -9,8 +10,8 @@ fn main() {
     let library = folder.join("libexports.a");
     println!("cargo:rerun-if-changed={}", library.display());
     if !library.exists() {
-        println!("cargo:warning=the verified library is not built: run `rt staticlib exports` in the repository's root first");
-        panic!("target/staticlib/libexports.a is missing: run `rt staticlib exports` in the repository's root first");
+        eprintln!("target/staticlib/libexports.a is missing: run `rt staticlib exports` in the repository's root first");
+        process::exit(1);
     }
     println!("cargo:rustc-link-search=native={}", folder.display());
     println!("cargo:rustc-link-lib=static=exports");

@@ -60,6 +60,12 @@ extern "C" {
 /* What is returned where a slice for an element or a record is too short. */
 #define WOVENROCK_SHORT 100
 
+/* What a verifier says. */
+#define WOVENROCK_SILENT 0   /* nothing: the call was refused */
+#define WOVENROCK_HOLDS 1    /* a session's round holds */
+#define WOVENROCK_ACCEPTED 2
+#define WOVENROCK_REJECTED 3
+
 /* Are these settings allowed: refusals 3 to 6. */
 uint32_t wovenrock_settings(uint32_t degree, uint32_t depth, uint32_t modulus, uint32_t bound);
 
@@ -93,6 +99,25 @@ uint32_t wovenrock_end(uint32_t degree, uint32_t depth, uint32_t modulus, uint32
                        uint32_t done,
                        const int32_t *message, size_t message_length,
                        int32_t *last, size_t last_length);
+
+/* The check of a transcript: is it accepted, with the claim started at the commitment? `*verdict` becomes 2 or 3.
+ * Tables: key n*d (unfolded), rounds 3*L*d (c_j of round i is element 3*(i-1)+j), challenges L. Refusals 3 to 8, 10. */
+uint32_t wovenrock_check(uint32_t degree, uint32_t depth, uint32_t modulus, uint32_t bound,
+                         const uint32_t *commitment, size_t commitment_length,
+                         const int32_t *last, size_t last_length,
+                         const uint32_t *key, size_t key_length,
+                         const uint32_t *rounds, size_t rounds_length,
+                         const uint32_t *challenges, size_t challenges_length,
+                         uint32_t *verdict);
+
+/* The judge of relaxed openings: is `slack` times the commitment the sum of w_i*G_i modulo q, and no coefficient of w beyond (12*d*d)^L * B?
+ * `*yes` becomes 1 or 0. Tables: key n*d, w n*d. Refusals 3 to 8, 14, 15. */
+uint32_t wovenrock_judge(uint32_t degree, uint32_t depth, uint32_t modulus, uint32_t bound,
+                         const uint32_t *commitment, size_t commitment_length,
+                         uint32_t slack,
+                         const uint32_t *key, size_t key_length,
+                         const int64_t *w, size_t w_length,
+                         uint32_t *yes);
 
 #ifdef __cplusplus
 }

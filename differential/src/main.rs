@@ -7,7 +7,7 @@
 //! the number of drawn inputs. It leaves with 1 where any answer or any lent
 //! table differs, and prints the smallest such case that it finds.
 
-use differential::calls::{Commit, End, Fold, ProverRound, SettingsCase};
+use differential::calls::{Check, Commit, End, Fold, Judge, ProverRound, SettingsCase};
 use differential::case::{self, Case, Difference};
 use differential::report::Report;
 use reference::draw::Limits;
@@ -43,7 +43,9 @@ impl Run {
         self.call::<Commit>(10_000, 200)?;
         self.call::<ProverRound>(10_000, 200)?;
         self.call::<Fold>(10_000, 200)?;
-        self.call::<End>(10_000, 200)
+        self.call::<End>(10_000, 200)?;
+        self.call::<Check>(6_000, 60)?;
+        self.call::<Judge>(10_000, 100)
     }
 }
 

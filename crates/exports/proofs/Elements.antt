@@ -1,14 +1,16 @@
 -- Elements by value that stand for slices, and slices that elements are written to.
-use mathlib.Core.Path.{_≡_, sym, ap, _∙_}
+use mathlib.Core.Path.{_≡_, refl, sym, ap, _∙_}
+use mathlib.Core.Bool.{Bool, true, false}
 use mathlib.Core.List.{List, append-nil}
 use Prim.Native.Nat.{ℕ, _+_, _<_, _≤_}
 use native.Mathlib.Nat as Nat
 use native.Mathlib.Omega.{arith}
 use borrow.Author.Tests.{le-leb, lt-leb}
+use mir.Val.{boolByte}
 use lib.Dec.{leb}
 use lib.IntN.{ℤ, pos}
 use lib.ListN.{length, getD, set, replicate, length-replicate}
-use Rattle.protocol.specs.Basic.{tabulate, choose}
+use Rattle.protocol.specs.Basic.{choose}
 use Rattle.protocol.specs.Element.{width, zeros, signedZeros, padded}
 use Rattle.protocol.proofs.Reading.{tabulate-ext}
 use Rattle.arithmetic.specs.Elements.{elementAt}
@@ -61,3 +63,9 @@ module _ {ℓ ℓ′} {A : Type ℓ} {B : Type ℓ′} (n : ℕ) (t : List A) (x
   pub written : n ≤ length t → x ≡ choose (leb n (length t)) x y
   unfolding choose
   written h = sym (ap (λ b. choose b x y) (le-leb _ _ h))
+
+-- a test as a number
+pub as-number : (b : Bool) → boolByte b ≡ choose b 1 0
+unfolding choose
+as-number true = refl
+as-number false = refl

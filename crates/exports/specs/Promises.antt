@@ -1,9 +1,11 @@
--- The promises of the calls that write an element or a record to a lent slice: where the slice is long enough the answer is the call's own, else `short`,
--- and then nothing is written. In a promise x is a slice at entry, and x′ the same slice at exit.
+-- The promises of the calls that write a part of their answer to what they are lent. An element or a round polynomial goes to a slice: where that is long
+-- enough the answer is the call's own, else it is `short`, and nothing is written. In a promise x is a slice at entry, and x′ the same slice at exit.
 --
 --   CommitStored   commit
 --   RoundStored    the prover's round
 --   EndStored      the prover's end
+--   CheckStored    the check of a transcript; C and f are the slices for commitment and final element
+--   JudgeStored    the judge; C is the slice for the commitment
 use mathlib.Core.Path.{_≡_}
 use mathlib.Core.List.{List}
 use Prim.Native.Nat.{ℕ}
@@ -13,8 +15,8 @@ use lib.IntN.{ℤ, pos}
 use Rattle.protocol.specs.declared.Settings.{Settings}
 use Rattle.protocol.specs.Basic.{choose}
 use Rattle.protocol.specs.Element.{width}
-use Rattle.protocol.specs.Calls.{commitAnswer, roundAnswer, endAnswer}
-use Rattle.exports.specs.Slices.{stored, storedPolynomial, short}
+use Rattle.protocol.specs.Calls.{commitAnswer, roundAnswer, endAnswer, checkAnswer, judgeAnswer}
+use Rattle.exports.specs.Slices.{placed, stored, storedPolynomial, verdictNumber, short}
 
 pub record CommitStored (S : Settings) (key : List ℕ) (message : List ℤ) (commitment : List ℕ) (r : ℕ) (commitment′ : List ℕ) : Type 0 where
   pub number : r ≡ choose (leb width (length commitment)) (commitAnswer S key message .number) short
@@ -27,3 +29,11 @@ pub record RoundStored (S : Settings) (t : ℕ) (key : List ℕ) (message : List
 pub record EndStored (S : Settings) (t : ℕ) (message last : List ℤ) (r : ℕ) (last′ : List ℤ) : Type 0 where
   pub number : r ≡ choose (leb width (length last)) (endAnswer S t message .number) short
   pub last-exit : last′ ≡ choose (leb width (length last)) (stored (pos 0) (endAnswer S t message .last) last) last
+
+pub record CheckStored (S : Settings) (C : List ℕ) (f : List ℤ) (key rounds E : List ℕ) (r verdict′ : ℕ) : Type 0 where
+  pub number : r ≡ checkAnswer S (placed 0 C) (placed (pos 0) f) key rounds E .number
+  pub verdict-exit : verdict′ ≡ verdictNumber (checkAnswer S (placed 0 C) (placed (pos 0) f) key rounds E .verdict)
+
+pub record JudgeStored (S : Settings) (C : List ℕ) (c : ℕ) (key : List ℕ) (w : List ℤ) (r yes′ : ℕ) : Type 0 where
+  pub number : r ≡ judgeAnswer S (placed 0 C) c key w .number
+  pub yes-exit : yes′ ≡ choose (judgeAnswer S (placed 0 C) c key w .yes) 1 0

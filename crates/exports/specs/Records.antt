@@ -5,7 +5,7 @@
 --   numberOf r k       number k of the record r
 --   recordStored r t   the slice t after the record r was written to its front
 use mathlib.Core.Bool.{not}
-use mathlib.Core.List.{List, [], _∷_, _++_}
+use mathlib.Core.List.{List, _++_}
 use Prim.Native.Nat.{ℕ, _+_, _-_}
 use lib.Dec.{ltb, eqb}
 use lib.ListN.{getD, drop}

@@ -6,11 +6,14 @@
 --   storedAt a at t        the slice t after the element a was written to it from place `at` on
 --   placedPolynomial t     the round polynomial that a slice stands for: three elements, 64 places each, the missing ones 0
 --   storedPolynomial p t   the slice t after the round polynomial p was written to its front
+--   verdictNumber v        a verdict as a number: 0 none, 1 holds, 2 accepted, 3 rejected
 --   short                  the answer where a slice for an element or a record is too short
 use mathlib.Core.List.{List, [], _∷_, _++_}
 use Prim.Native.Nat.{ℕ}
 use lib.ListN.{getD, drop}
 use Rattle.protocol.specs.declared.Settings.{Settings}
+use Rattle.protocol.specs.declared.Verdict.{Verdict}
+use Rattle.protocol.specs.declared.Verdict.the-variants.{Silent, Holds, Accepted, Rejected}
 use Rattle.protocol.specs.Basic.{tabulate}
 use Rattle.protocol.specs.Element.{width}
 use Rattle.protocol.specs.Session.{part}
@@ -34,6 +37,12 @@ placedPolynomial t = elementAt width t 0 ∷ elementAt width t 1 ∷ elementAt w
 
 unfoldable pub storedPolynomial : List (List ℕ) → List ℕ → List ℕ
 storedPolynomial p t = storedAt (part p 2) 128 (storedAt (part p 1) 64 (storedAt (part p 0) 0 t))
+
+unfoldable pub verdictNumber : Verdict → ℕ
+verdictNumber Silent = 0
+verdictNumber Holds = 1
+verdictNumber Accepted = 2
+verdictNumber Rejected = 3
 
 unfoldable pub short : ℕ
 short = 100

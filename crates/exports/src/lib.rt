@@ -7,11 +7,12 @@ mod slices;
 
 use arithmetic::tests;
 use protocol::Settings;
+use protocol::Verdict;
 ghost use mathlib.Core.Path.{_≡_};
 ghost use Rattle.protocol.specs.Settings.{settingsRefusal};
 ghost use Rattle.protocol.specs.Promises.{Folded};
-ghost use Rattle.exports.specs.Slices.{given};
-ghost use Rattle.exports.specs.Promises.{CommitStored, RoundStored, EndStored};
+ghost use Rattle.exports.specs.Slices.{given, verdictNumber};
+ghost use Rattle.exports.specs.Promises.{CommitStored, RoundStored, EndStored, CheckStored, JudgeStored};
 
 // Refusals 3 to 6.
 #[no_mangle]
@@ -132,5 +133,74 @@ pub extern "C" fn wovenrock_end(
     let answer = prover::end(s, done, message);
     let element = answer.last;
     slices::store_wholes(element, last);
+    answer.number
+}
+
+// A verdict as a number.
+fn verdict_number(v: Verdict) -> u32
+    ensures { λ r. ⌜ r ≡ verdictNumber v ⌝ }
+{
+    match v {
+        Verdict::Silent => 0,
+        Verdict::Holds => 1,
+        Verdict::Accepted => 2,
+        Verdict::Rejected => 3,
+    }
+}
+
+// The check of a transcript.
+#[no_mangle]
+pub extern "C" fn wovenrock_check(
+    degree: u32,
+    depth: u32,
+    modulus: u32,
+    bound: u32,
+    commitment: &[u32],
+    last: &[i32],
+    key: &[u32],
+    rounds: &[u32],
+    challenges: &[u32],
+    verdict: &mut u32,
+) -> u32
+    ensures { λ r. ⌜ CheckStored (given degree depth modulus bound) (now (commitment .entry)) (now (last .entry)) (now (key .entry)) (now (rounds .entry)) (now (challenges .entry)) r (now (verdict .exit)) ⌝ }
+{
+    let s = Settings {
+        degree: degree,
+        depth: depth,
+        modulus: modulus,
+        bound: bound,
+    };
+    let c = slices::residues(commitment);
+    let f = slices::wholes(last);
+    let answer = verification::check(s, c, f, key, rounds, challenges);
+    let said = answer.verdict;
+    *verdict = verdict_number(said);
+    answer.number
+}
+
+// The judge of relaxed openings.
+#[no_mangle]
+pub extern "C" fn wovenrock_judge(
+    degree: u32,
+    depth: u32,
+    modulus: u32,
+    bound: u32,
+    commitment: &[u32],
+    slack: u32,
+    key: &[u32],
+    w: &[i64],
+    yes: &mut u32,
+) -> u32
+    ensures { λ r. ⌜ JudgeStored (given degree depth modulus bound) (now (commitment .entry)) slack (now (key .entry)) (now (w .entry)) r (now (yes .exit)) ⌝ }
+{
+    let s = Settings {
+        degree: degree,
+        depth: depth,
+        modulus: modulus,
+        bound: bound,
+    };
+    let c = slices::residues(commitment);
+    let answer = relaxed::judge(s, c, slack, key, w);
+    *yes = answer.yes as u32;
     answer.number
 }

@@ -12,9 +12,10 @@
 use differential::verified;
 use reference::draw::base::shape;
 use reference::draw::tables::{opening_at, OpeningInput};
+use reference::draw::transcript;
 use reference::fast;
 use reference::random::Random;
-use reference::types::Settings;
+use reference::types::{Settings, ACCEPTED};
 use std::hint::black_box;
 use std::time::{Duration, Instant};
 
@@ -78,6 +79,48 @@ impl Table {
             },
         );
     }
+
+    /// The transcript of a message, which is accepted.
+    fn check(&self, s: Settings) {
+        let t = transcript::honest_at(&mut Random::new(7), s);
+        self.row(
+            &format!("check, d = {}, L = {}", s.degree, s.depth),
+            &mut || {
+                let t = black_box(&t);
+                let (c, f) = (&t.commitment, &t.final_element);
+                let mut verdict = 0;
+                let number =
+                    verified::check(s, c, f, &t.key, &t.rounds, &t.challenges, &mut verdict);
+                assert_eq!((number, verdict), (0, ACCEPTED));
+            },
+            &mut || {
+                let t = black_box(&t);
+                let (c, f) = (t.commitment, t.final_element);
+                let answer = fast::check(s, c, f, &t.key, &t.rounds, &t.challenges);
+                assert_eq!(answer.verdict, ACCEPTED);
+            },
+        );
+    }
+
+    /// A vector that opens the commitment of a message.
+    fn judge(&self, s: Settings) {
+        let OpeningInput { key, message, .. } = opening_at(&mut Random::new(7), s);
+        let commitment = fast::commit(s, &key, &message).commitment;
+        let w: Vec<i64> = message.iter().map(|&x| i64::from(x)).collect();
+        self.row(
+            &format!("judge, d = {}, L = {}", s.degree, s.depth),
+            &mut || {
+                let mut yes = 0;
+                let number =
+                    verified::judge(s, &commitment, 1, black_box(&key), black_box(&w), &mut yes);
+                assert_eq!((number, yes), (0, 1));
+            },
+            &mut || {
+                let answer = fast::judge(s, commitment, 1, black_box(&key), black_box(&w));
+                assert!(answer.yes);
+            },
+        );
+    }
 }
 
 fn main() {
@@ -106,4 +149,8 @@ fn main() {
     assert_eq!(shape(large).table(), 16_384);
     table.commit(large);
     table.commit(Settings::new(4, 8, Q, 127));
+    table.check(large);
+    table.check(Settings::new(4, 8, Q, 127));
+    table.judge(Settings::new(64, 3, Q, 127));
+    table.judge(Settings::new(4, 8, Q, 2));
 }

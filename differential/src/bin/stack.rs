@@ -7,8 +7,9 @@
 
 use differential::verified;
 use reference::draw::tables::opening_at;
+use reference::draw::transcript;
 use reference::random::Random;
-use reference::types::Settings;
+use reference::types::{Settings, ACCEPTED};
 use std::ffi::c_void;
 use std::process::ExitCode;
 
@@ -64,22 +65,74 @@ fn used(mut call: Call) -> usize {
     STACK - untouched
 }
 
-fn main() -> ExitCode {
+/// Every call at the largest settings that it does not refuse.
+fn calls() -> Vec<(&'static str, Call<'static>)> {
     let large = Settings::new(64, 8, 2_147_483_647, 127);
+    let bounded = Settings::new(4, 8, 2_147_483_647, 2);
     let input = opening_at(&mut Random::new(7), large);
-    let mut out = [0u32; verified::ELEMENT];
+    let (commit, round, mut fold, end) =
+        (input.clone(), input.clone(), input.clone(), input.clone());
+    let check = transcript::honest_at(&mut Random::new(7), large);
+    let judge = opening_at(&mut Random::new(7), bounded);
+    vec![
+        (
+            "commit, d = 64, L = 8",
+            Box::new(move || {
+                let mut out = [0; verified::ELEMENT];
+                let number = verified::commit(large, &commit.key, &commit.message, &mut out);
+                assert_eq!(number, 0);
+            }),
+        ),
+        (
+            "round, d = 64, L = 8",
+            Box::new(move || {
+                let mut out = [0; verified::POLYNOMIAL];
+                let number = verified::round(large, 0, &round.key, &round.message, &mut out);
+                assert_eq!(number, 0);
+            }),
+        ),
+        (
+            "fold, d = 64, L = 8",
+            Box::new(move || {
+                let number = verified::fold(large, 0, 77, &mut fold.key, &mut fold.message);
+                assert_eq!(number, 0);
+            }),
+        ),
+        (
+            "end, d = 64, L = 8",
+            Box::new(move || {
+                let mut out = [0; verified::ELEMENT];
+                let number = verified::end(large, 8, &end.message, &mut out);
+                assert_eq!(number, 0);
+            }),
+        ),
+        (
+            "check, d = 64, L = 8",
+            Box::new(move || {
+                let (c, f) = (&check.commitment, &check.final_element);
+                let (rounds, challenges) = (&check.rounds, &check.challenges);
+                let mut verdict = 0;
+                let number =
+                    verified::check(large, c, f, &check.key, rounds, challenges, &mut verdict);
+                assert_eq!((number, verdict), (0, ACCEPTED));
+            }),
+        ),
+        (
+            "judge, d = 4, L = 8",
+            Box::new(move || {
+                let w = vec![0; judge.key.len()];
+                let mut yes = 0;
+                let number = verified::judge(bounded, &[0; 64], 1, &judge.key, &w, &mut yes);
+                assert_eq!((number, yes), (0, 1));
+            }),
+        ),
+    ]
+}
+
+fn main() -> ExitCode {
     let empty = used(Box::new(|| ()));
-    let calls: Vec<(&str, Call)> = vec![(
-        "commit, d = 64, L = 8",
-        Box::new(|| {
-            assert_eq!(
-                verified::commit(large, &input.key, &input.message, &mut out),
-                0
-            );
-        }),
-    )];
     let mut most = 0;
-    for (name, call) in calls {
+    for (name, call) in calls() {
         let bytes = used(call).saturating_sub(empty);
         println!("{name:<44} {bytes:>9} bytes of stack");
         most = most.max(bytes);

@@ -1,4 +1,4 @@
-use mathlib.Core.Path.{sym, ap, _∙_}
+use mathlib.Core.Path.{ap, _∙_}
 use Rattle.protocol.specs.declared.Committed.{Committed}
 use Rattle.protocol.specs.Element.{width}
 use borrow.Author.Needs.{needs}

@@ -1,4 +1,4 @@
-use mathlib.Core.Path.{sym, ap, _∙_}
+use mathlib.Core.Path.{ap, _∙_}
 use lib.IntN.{pos}
 use Rattle.protocol.specs.declared.Ended.{Ended}
 use Rattle.protocol.specs.Element.{width}

@@ -5,34 +5,23 @@ use Rattle.exports.proofs.Elements.{kept, written}
 use borrow.Author.Needs.{needs}
 use Rattle.exports.proofs.wovenrock_round.Statement.{statement}
 use Rattle.exports.proofs.wovenrock_round.Tie as tie
-use Rattle.exports.proofs.wovenrock_round.Reads as reads
-use Rattle.exports.proofs.wovenrock_round.Lts as lts
-use Rattle.exports.proofs.slices.store_polynomial.Reads as store-polynomial-reads
-use Rattle.prover.proofs.elements_of.Reads as elements-of-reads
-use Rattle.prover.proofs.round.Reads as round-reads
 
--- src/lib.rt:73:9
 returns : tie.Need-returns
 unfolding short
 returns c = let a = c .before .before .before .args in record { number = kept 192 (a .polynomial .now) _ _ (c .if1 .taken); polynomial-exit = kept 192 (a .polynomial .now) _ _ (c .if1 .taken) }
 
--- src/lib.rt:81:9
 round-requires : tie.Need-round-requires
 round-requires c κs = search needs
 
--- src/lib.rt:82:9
 elements-of-requires : tie.Need-elements-of-requires
 elements-of-requires c κs = search needs
 
--- src/lib.rt:83:5
 store-polynomial-requires : tie.Need-store-polynomial-requires
 store-polynomial-requires c κs = search needs
 
--- src/lib.rt:59:1
 same-length : tie.Need-same-length
 same-length c = search needs
 
--- src/lib.rt:59:1
 returns-2 : tie.Need-returns-2
 returns-2 c =
     let e = c .before .before .before .before .before in

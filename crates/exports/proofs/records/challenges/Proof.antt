@@ -1,3 +1,4 @@
+-- The loop keeps: the first k challenges are read, the others are 0.
 use mathlib.Core.Path.{_≡_, refl, _∙_}
 use mathlib.Core.List.{append-nil}
 use Prim.Native.Nat.{ℕ, _+_, _-_, _≤_}
@@ -9,8 +10,6 @@ use Rattle.exports.specs.Records.{challengesOf}
 use borrow.Author.Needs.{needs}
 use Rattle.exports.proofs.records.challenges.Statement.{statement}
 use Rattle.exports.proofs.records.challenges.Tie as tie
-use Rattle.exports.proofs.records.challenges.Reads as reads
-use Rattle.exports.proofs.records.challenges.Lts as lts
 
 abbrev Inv-loop : tie.InvT-loop
 Inv-loop t e₀ k₀ e k = (k ≤ 8) × (78 ≤ length t) × (e ≡ filled (λ (j : ℕ). getD t (6 + j) 0) k (zeros 8))
@@ -18,43 +17,33 @@ Inv-loop t e₀ k₀ e k = (k ≤ 8) × (78 ≤ length t) × (e ≡ filled (λ (
 abbrev μ-loop : tie.MeasureT-loop
 μ-loop t e₀ k₀ e k = 8 - k
 
--- src/records.rt:17:5
 loop-holds : tie.Need-loop-holds Inv-loop μ-loop
 loop-holds c = (omega arith, omega arith, fill-none 8 _)
 
--- src/records.rt:18:18
 add-e : tie.Need-add-e Inv-loop μ-loop
 add-e c = search needs
 
--- src/records.rt:18:16
 mul-e : tie.Need-mul-e Inv-loop μ-loop
 mul-e c = search needs
 
--- src/records.rt:18:16
 shared-slice-read-e : tie.Need-shared-slice-read-e Inv-loop μ-loop
 shared-slice-read-e c = search needs
 
--- src/records.rt:18:9
 mul-e-2 : tie.Need-mul-e-2 Inv-loop μ-loop
 mul-e-2 c = search needs
 
--- src/records.rt:18:9
 array-write-e : tie.Need-array-write-e Inv-loop μ-loop
 array-write-e c = search needs
 
--- src/records.rt:19:9
 add-k : tie.Need-add-k Inv-loop μ-loop
 add-k c = search needs
 
--- src/records.rt:17:5
 loop-less : tie.Need-loop-less Inv-loop μ-loop
 loop-less c = search needs
 
--- src/records.rt:17:5
 loop-again : tie.Need-loop-again Inv-loop μ-loop
 loop-again c = let l = c .before .before .loop in (omega arith, omega arith, fill-more 8 _ (l .k) _ (l .e) (l .inv .2) (omega arith) refl)
 
--- src/records.rt:11:1
 returns : tie.Need-returns Inv-loop μ-loop
 unfolding challengesOf zeros
 returns c = let l = c .before .loop in fill-done 8 _ (l .k) 8 (l .e) (l .inv .2) (omega arith) ∙ append-nil _

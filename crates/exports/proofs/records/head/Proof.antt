@@ -1,50 +1,35 @@
-use mathlib.Core.Path.{_≡_, refl, _∙_}
-use mathlib.Core.Bool.{Bool, true, false}
+use mathlib.Core.Path.{_∙_}
 use borrow.Author.Tests.{ne-eqb}
-use mir.Val.{boolByte}
 use Rattle.protocol.specs.Basic.{choose}
 use Rattle.exports.specs.Records.{headOf}
+use Rattle.exports.proofs.Elements.{as-number}
 use borrow.Author.Needs.{needs}
 use Rattle.exports.proofs.records.head.Statement.{statement}
 use Rattle.exports.proofs.records.head.Tie as tie
-use Rattle.exports.proofs.records.head.Reads as reads
-use Rattle.exports.proofs.records.head.Lts as lts
 
-as-number : (t : Bool) → boolByte t ≡ choose t 1 0
-unfolding choose
-as-number true = refl
-as-number false = refl
-
--- src/records.rt:57:14
 cast-result : tie.Need-cast-result
 cast-result c = search needs
 
--- src/records.rt:47:1
 returns : tie.Need-returns
 unfolding headOf choose
 returns c = rw (c .match .keys1)
 
--- src/records.rt:47:1
 returns-2 : tie.Need-returns-2
 unfolding headOf choose
 returns-2 c = rw (c .match .keys2)
 
--- src/records.rt:47:1
 returns-3 : tie.Need-returns-3
 unfolding headOf choose
 returns-3 c = rw (c .match .keys3)
 
--- src/records.rt:47:1
 returns-4 : tie.Need-returns-4
 unfolding headOf choose
 returns-4 c = rw (c .match .keys4)
 
--- src/records.rt:47:1
 returns-5 : tie.Need-returns-5
 unfolding headOf choose
 returns-5 c = rw (c .match .keys5)
 
--- src/records.rt:47:1
 returns-6 : tie.Need-returns-6
 unfolding headOf choose
 returns-6 c =

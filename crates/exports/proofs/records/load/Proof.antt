@@ -11,59 +11,43 @@ use Rattle.exports.specs.Records.{sessionOf}
 use borrow.Author.Needs.{needs}
 use Rattle.exports.proofs.records.load.Statement.{statement}
 use Rattle.exports.proofs.records.load.Tie as tie
-use Rattle.exports.proofs.records.load.Reads as reads
-use Rattle.exports.proofs.records.load.Lts as lts
-use Rattle.exports.proofs.records.challenges.Reads as challenges-reads
-use Rattle.exports.proofs.slices.residues.Reads as residues-reads
 
 rest : (t : List ℕ) → take (length t - 14) (drop 14 t) ≡ drop 14 t
 rest t = take-all (length t - 14) (drop 14 t) (omega (arith, length-drop 14 t))
 
--- src/records.rt:30:17
 shared-slice-read-t6 : tie.Need-shared-slice-read-t6
 shared-slice-read-t6 c = search needs
 
--- src/records.rt:31:16
 shared-slice-read-t8 : tie.Need-shared-slice-read-t8
 shared-slice-read-t8 c = search needs
 
--- src/records.rt:32:18
 shared-slice-read-t10 : tie.Need-shared-slice-read-t10
 shared-slice-read-t10 c = search needs
 
--- src/records.rt:33:16
 shared-slice-read-t12 : tie.Need-shared-slice-read-t12
 shared-slice-read-t12 c = search needs
 
--- src/records.rt:35:34
 sub-residues : tie.Need-sub-residues
 sub-residues c = search needs
 
--- src/records.rt:35:34
 part-residues-start : tie.Need-part-residues-start
 part-residues-start c = search needs
 
--- src/records.rt:35:34
 part-residues-end : tie.Need-part-residues-end
 part-residues-end c = search needs
 
--- src/records.rt:35:9
 residues-requires : tie.Need-residues-requires
 residues-requires c κs = search needs
 
--- src/records.rt:36:9
 challenges-requires : tie.Need-challenges-requires
 challenges-requires c κs = search needs
 
--- src/records.rt:39:15
 shared-slice-read-t6-2 : tie.Need-shared-slice-read-t6-2
 shared-slice-read-t6-2 c = search needs
 
--- src/records.rt:42:17
 shared-slice-read-t8-2 : tie.Need-shared-slice-read-t8-2
 shared-slice-read-t8-2 c = search needs
 
--- src/records.rt:25:1
 returns : tie.Need-returns
 unfolding sessionOf
 returns c =

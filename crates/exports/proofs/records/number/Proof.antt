@@ -5,41 +5,30 @@ use Rattle.exports.specs.Records.{numberOf}
 use borrow.Author.Needs.{needs}
 use Rattle.exports.proofs.records.number.Statement.{statement}
 use Rattle.exports.proofs.records.number.Tie as tie
-use Rattle.exports.proofs.records.number.Reads as reads
-use Rattle.exports.proofs.records.number.Lts as lts
-use Rattle.exports.proofs.records.head.Reads as head-reads
 
--- src/records.rt:66:9
 head-requires : tie.Need-head-requires
 head-requires c κs = search needs
 
--- src/records.rt:66:9
 returns : tie.Need-returns
 unfolding numberOf choose
 returns c = c .head .ensures ∙ simp (lt-ltb _ _ (c .before .if1 .taken))
 
--- src/records.rt:69:16
 mul-result : tie.Need-mul-result
 mul-result c = search needs
 
--- src/records.rt:69:16
 element-copy-out-result : tie.Need-element-copy-out-result
 element-copy-out-result c = search needs
 
--- src/records.rt:69:9
 returns-2 : tie.Need-returns-2
 unfolding numberOf choose
 returns-2 c = simp (le-ltb _ _ (c .before .before .if1 .left), lt-ltb _ _ (c .before .if2 .taken))
 
--- src/records.rt:71:5
 mul-result-2 : tie.Need-mul-result-2
 mul-result-2 c = search needs
 
--- src/records.rt:71:5
 element-copy-out-result-2 : tie.Need-element-copy-out-result-2
 element-copy-out-result-2 c = search needs
 
--- src/records.rt:61:1
 returns-3 : tie.Need-returns-3
 unfolding numberOf choose
 returns-3 c = simp (le-ltb _ _ (c .before .before .if1 .left), le-ltb _ _ (c .before .if2 .left))

@@ -1,5 +1,6 @@
+-- The loop keeps: the numbers below k are written, the others are as they were.
 use mathlib.Core.Path.{_≡_, ap, _∙_}
-use Prim.Native.Nat.{ℕ, _-_, _≤_}
+use Prim.Native.Nat.{_-_, _≤_}
 use native.Mathlib.Omega.{arith}
 use lib.ListN.{length, set}
 use Rattle.arithmetic.proofs.Fill.{filled, filled-none, filled-more, filled-length}
@@ -7,9 +8,6 @@ use Rattle.exports.specs.Records.{recordWidth, numberOf, recordStored}
 use borrow.Author.Needs.{needs}
 use Rattle.exports.proofs.records.store.Statement.{statement}
 use Rattle.exports.proofs.records.store.Tie as tie
-use Rattle.exports.proofs.records.store.Reads as reads
-use Rattle.exports.proofs.records.store.Lts as lts
-use Rattle.exports.proofs.records.number.Reads as number-reads
 
 abbrev Inv-loop : tie.InvT-loop
 Inv-loop r t₀ k₀ t k = (k ≤ 78) × (78 ≤ length t₀) × (t ≡ filled (numberOf r) k t₀)
@@ -20,42 +18,33 @@ abbrev μ-loop : tie.MeasureT-loop
 long : (c : tie.At-loop Inv-loop μ-loop) → length (c .loop .t) ≡ length (c .before .before .args .t .now)
 long c = ap length (c .loop .inv .2) ∙ filled-length (numberOf (c .before .before .args .r)) (c .loop .k) (c .before .before .args .t .now) (omega arith)
 
--- src/records.rt:80:5
 loop-holds : tie.Need-loop-holds Inv-loop μ-loop
 loop-holds c = (omega arith, omega arith, filled-none _ _)
 
--- src/records.rt:81:16
 number-requires : tie.Need-number-requires Inv-loop μ-loop
 number-requires c κs = search needs
 
--- src/records.rt:81:9
 mul-t : tie.Need-mul-t Inv-loop μ-loop
 mul-t c = search needs
 
--- src/records.rt:81:9
 slice-write-t : tie.Need-slice-write-t Inv-loop μ-loop
 slice-write-t c = omega (arith, long (c .before .before))
 
--- src/records.rt:82:9
 add-k : tie.Need-add-k Inv-loop μ-loop
 add-k c = search needs
 
--- src/records.rt:80:5
 loop-less : tie.Need-loop-less Inv-loop μ-loop
 loop-less c = search needs
 
--- src/records.rt:80:5
 loop-again : tie.Need-loop-again Inv-loop μ-loop
 loop-again c =
     let l = c .before .before .loop in
     let a = c .before .before .before .before .args in
     (omega arith, omega arith, (λ i. set (l .inv .2 i) (l .k) (c .number .ensures i)) ∙ filled-more (numberOf (a .r)) (l .k) (a .t .now) (omega arith))
 
--- src/records.rt:75:1
 same-length : tie.Need-same-length Inv-loop μ-loop
 same-length c = long (c .before)
 
--- src/records.rt:75:1
 returns : tie.Need-returns Inv-loop μ-loop
 unfolding recordStored recordWidth filled
 returns c =

@@ -5,23 +5,16 @@ use Rattle.exports.specs.Slices.{placedPolynomial}
 use borrow.Author.Needs.{needs}
 use Rattle.exports.proofs.slices.polynomial.Statement.{statement}
 use Rattle.exports.proofs.slices.polynomial.Tie as tie
-use Rattle.exports.proofs.slices.polynomial.Reads as reads
-use Rattle.exports.proofs.slices.polynomial.Lts as lts
-use Rattle.arithmetic.proofs.elements.element_at.Reads as element-at-reads
 
--- src/slices.rt:88:9
 element-at-requires : tie.Need-element-at-requires
 element-at-requires c κs = search needs
 
--- src/slices.rt:89:9
 element-at-requires-2 : tie.Need-element-at-requires-2
 element-at-requires-2 c κs = search needs
 
--- src/slices.rt:90:9
 element-at-requires-3 : tie.Need-element-at-requires-3
 element-at-requires-3 c κs = search needs
 
--- src/slices.rt:85:1
 returns : tie.Need-returns
 unfolding placedPolynomial width
 returns c =

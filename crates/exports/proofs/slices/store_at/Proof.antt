@@ -1,3 +1,4 @@
+-- The loop keeps: the first k places from `at` on are written, the others are as they were.
 use mathlib.Core.Path.{_≡_, ap, _∙_}
 use Prim.Native.Nat.{ℕ, _+_, _-_, _≤_}
 use native.Mathlib.Omega.{arith}
@@ -9,8 +10,6 @@ use Rattle.exports.specs.Slices.{storedAt}
 use borrow.Author.Needs.{needs}
 use Rattle.exports.proofs.slices.store_at.Statement.{statement}
 use Rattle.exports.proofs.slices.store_at.Tie as tie
-use Rattle.exports.proofs.slices.store_at.Reads as reads
-use Rattle.exports.proofs.slices.store_at.Lts as lts
 
 abbrev Inv-loop : tie.InvT-loop
 Inv-loop at out₀ a k₀ out k = (k ≤ 64) × (at + 64 ≤ length out₀) × (out ≡ spliced (λ (j : ℕ). getD a j 0) at k out₀)
@@ -23,50 +22,39 @@ long c =
     let a = c .before .args in
     ap length (c .loop .inv .2) ∙ spliced-length (λ (j : ℕ). getD (a .t1) j 0) (a .at) (c .loop .k) (a .out .now) (omega arith) (omega arith)
 
--- src/slices.rt:68:5
 loop-holds : tie.Need-loop-holds Inv-loop μ-loop
 loop-holds c = (omega arith, omega arith, spliced-none _ _ _)
 
--- src/slices.rt:69:23
 mul-out : tie.Need-mul-out Inv-loop μ-loop
 mul-out c = search needs
 
--- src/slices.rt:69:23
 array-read-out : tie.Need-array-read-out Inv-loop μ-loop
 array-read-out c = search needs
 
--- src/slices.rt:69:13
 add-out : tie.Need-add-out Inv-loop μ-loop
 add-out c = search needs
 
--- src/slices.rt:69:9
 mul-out-2 : tie.Need-mul-out-2 Inv-loop μ-loop
 mul-out-2 c = search needs
 
--- src/slices.rt:69:9
 slice-write-out : tie.Need-slice-write-out Inv-loop μ-loop
 slice-write-out c = omega (arith, long (c .before))
 
--- src/slices.rt:70:9
 add-k : tie.Need-add-k Inv-loop μ-loop
 add-k c = search needs
 
--- src/slices.rt:68:5
 loop-less : tie.Need-loop-less Inv-loop μ-loop
 loop-less c = search needs
 
--- src/slices.rt:68:5
 loop-again : tie.Need-loop-again Inv-loop μ-loop
 loop-again c =
     let l = c .before .loop in
     let a = c .before .before .args in
     (omega arith, omega arith, ap (λ t. set t (a .at + l .k) (getD (a .t1) (l .k) 0)) (l .inv .2) ∙ spliced-more (λ (j : ℕ). getD (a .t1) j 0) (a .at) (l .k) (a .out .now) (omega arith) (omega arith))
 
--- src/slices.rt:63:1
 same-length : tie.Need-same-length Inv-loop μ-loop
 same-length c = long (c .before)
 
--- src/slices.rt:63:1
 returns : tie.Need-returns Inv-loop μ-loop
 unfolding storedAt width
 returns c =

@@ -6,39 +6,28 @@ use Rattle.exports.specs.Slices.{storedAt, storedPolynomial}
 use borrow.Author.Needs.{needs}
 use Rattle.exports.proofs.slices.store_polynomial.Statement.{statement}
 use Rattle.exports.proofs.slices.store_polynomial.Tie as tie
-use Rattle.exports.proofs.slices.store_polynomial.Reads as reads
-use Rattle.exports.proofs.slices.store_polynomial.Lts as lts
-use Rattle.exports.proofs.slices.store_at.Reads as store-at-reads
 
--- src/slices.rt:79:14
 array-copy-out-store-at : tie.Need-array-copy-out-store-at
 array-copy-out-store-at c = search needs
 
--- src/slices.rt:79:5
 store-at-requires : tie.Need-store-at-requires
 store-at-requires c κs = search needs
 
--- src/slices.rt:80:14
 array-copy-out-store-at-2 : tie.Need-array-copy-out-store-at-2
 array-copy-out-store-at-2 c = search needs
 
--- src/slices.rt:80:5
 store-at-requires-2 : tie.Need-store-at-requires-2
 store-at-requires-2 c κs = search needs
 
--- src/slices.rt:81:14
 array-copy-out-store-at-3 : tie.Need-array-copy-out-store-at-3
 array-copy-out-store-at-3 c = search needs
 
--- src/slices.rt:81:5
 store-at-requires-3 : tie.Need-store-at-requires-3
 store-at-requires-3 c κs = search needs
 
--- src/slices.rt:75:1
 same-length : tie.Need-same-length
 same-length c = search needs
 
--- src/slices.rt:75:1
 returns : tie.Need-returns
 unfolding storedPolynomial part
 returns c =

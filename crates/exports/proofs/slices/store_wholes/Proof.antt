@@ -1,8 +1,9 @@
-use mathlib.Core.Path.{_≡_, refl}
-use Prim.Native.Nat.{ℕ, _-_, _≤_}
+-- The loop keeps: the places below k are written, the others are as they were.
+use mathlib.Core.Path.{_≡_}
+use Prim.Native.Nat.{_-_, _≤_}
 use native.Mathlib.Omega.{arith}
 use lib.IntN.{pos}
-use lib.ListN.{length, getD, set}
+use lib.ListN.{length}
 use Rattle.arithmetic.proofs.Fill.{filled-none}
 use Rattle.arithmetic.proofs.Magnitude.{through-bits}
 use mir.Syntax.{w32}
@@ -10,8 +11,6 @@ use Rattle.exports.proofs.Elements.{storing, storing-next, storing-leng
 use borrow.Author.Needs.{needs}
 use Rattle.exports.proofs.slices.store_wholes.Statement.{statement}
 use Rattle.exports.proofs.slices.store_wholes.Tie as tie
-use Rattle.exports.proofs.slices.store_wholes.Reads as reads
-use Rattle.exports.proofs.slices.store_wholes.Lts as lts
 
 abbrev Inv-loop : tie.InvT-loop
 Inv-loop out₀ a k₀ out k = (k ≤ 64) × (64 ≤ length out₀) × (out ≡ storing (pos 0) a out₀ k)
@@ -19,43 +18,33 @@ Inv-loop out₀ a k₀ out k = (k ≤ 64) × (64 ≤ length out₀) × (out ≡ 
 abbrev μ-loop : tie.MeasureT-loop
 μ-loop out₀ a k₀ out k = 64 - k
 
--- src/slices.rt:56:5
 loop-holds : tie.Need-loop-holds Inv-loop μ-loop
 loop-holds c = (omega arith, omega arith, filled-none _ _)
 
--- src/slices.rt:57:18
 mul-out : tie.Need-mul-out Inv-loop μ-loop
 mul-out c = search needs
 
--- src/slices.rt:57:18
 array-copy-out-out : tie.Need-array-copy-out-out Inv-loop μ-loop
 array-copy-out-out c = search needs
 
--- src/slices.rt:57:9
 mul-t10 : tie.Need-mul-t10 Inv-loop μ-loop
 mul-t10 c = search needs
 
--- src/slices.rt:57:9
 slice-set-from-out : tie.Need-slice-set-from-out Inv-loop μ-loop
 slice-set-from-out c = let x = c .before .before .before .args in let l = c .before .before .loop in omega (arith, storing-length (pos 0) (x .t1) (x .out .now) (l .k) (l .out) (l .inv .2) (omega arith))
 
--- src/slices.rt:58:9
 add-k : tie.Need-add-k Inv-loop μ-loop
 add-k c = search needs
 
--- src/slices.rt:56:5
 loop-less : tie.Need-loop-less Inv-loop μ-loop
 loop-less c = search needs
 
--- src/slices.rt:56:5
 loop-again : tie.Need-loop-again Inv-loop μ-loop
 loop-again c = let x = c .before .before .before .args in let l = c .before .before .loop in (omega arith, omega arith, storing-next (pos 0) (x .t1) (x .out .now) (l .k) _ (l .out) (l .inv .2) (omega arith) (through-bits w32 _ (c .out .given)))
 
--- src/slices.rt:51:1
 same-length : tie.Need-same-length Inv-loop μ-loop
 same-length c = let x = c .before .before .args in let l = c .before .loop in storing-length (pos 0) (x .t1) (x .out .now) (l .k) (l .out) (l .inv .2) (omega arith)
 
--- src/slices.rt:51:1
 returns : tie.Need-returns Inv-loop μ-loop
 returns c = let x = c .before .before .args in let l = c .before .loop in storing-end (pos 0) (x .t1) (x .out .now) (l .k) (l .out) (l .inv .2) (omega arith)
 
