@@ -8,3 +8,4 @@ pub mod Splicing
 pub mod Parts
 pub mod Shares
 pub mod Nodes
+pub mod Workspace
