@@ -9,3 +9,5 @@ pub mod Parts
 pub mod Shares
 pub mod Nodes
 pub mod Workspace
+pub mod Answers
+pub mod Opening
