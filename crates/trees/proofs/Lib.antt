@@ -1,0 +1,6 @@
+pub mod Checks
+pub mod Places
+pub mod Workspace
+pub mod Descent
+pub mod Stages
+pub mod Root
