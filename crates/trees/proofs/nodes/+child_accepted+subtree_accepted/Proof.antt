@@ -123,10 +123,10 @@ folded-long : (t : ℕ) (c : child-accepted-lts.After-slice-known2 (child-calls 
 folded-long t c = c .before .before .fold-key .kept .1 .1 .1 .0
 
 child-accepted-claim-to-requires : (t : ℕ) → child-accepted-lts.Need-claim-to-requires (child-calls t) (child-accepted-at t) child-accepted.Post
-child-accepted-claim-to-requires t c κs = let g = c .before .before .before in (allowed t g, few t g, g .pre .1 .0 .2)
+child-accepted-claim-to-requires t c κs = let g = c .before .before .before in (allowed t g, few t g, omega (arith, g .pre .1 .0 .2))
 
 child-accepted-challenge-requires : (t : ℕ) → child-accepted-lts.Need-challenge-requires (child-calls t) (child-accepted-at t) child-accepted.Post
-child-accepted-challenge-requires t c κs = let g = c .before .before .before .before in (few t g, g .pre .1 .0 .2)
+child-accepted-challenge-requires t c κs = let g = c .before .before .before .before in (few t g, omega (arith, g .pre .1 .0 .2))
 
 child-accepted-fold-key-requires : (t : ℕ) → child-accepted-lts.Need-fold-key-requires (child-calls t) (child-accepted-at t) child-accepted.Post
 child-accepted-fold-key-requires t c κs = let g = c .before .before .before .before .before .before in record { allowed = allowed t g; up = higher t g; height = place t g .height; space-is = place t g .space-is }
