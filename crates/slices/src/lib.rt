@@ -1,0 +1,59 @@
+// Elements by value that stand for slices, and verdicts as numbers: what the calls for C and Rust share.
+use arithmetic::elements;
+use protocol::Verdict;
+ghost use mathlib.Core.Path.{_≡_};
+ghost use lib.IntN.{pos};
+ghost use lib.ListN.{getD};
+ghost use Rattle.slices.specs.Slices.{placed, placedPolynomial, verdictNumber};
+
+// An element of residues.
+pub fn residues(t: &[u32]) -> [u32; 64]
+    ensures { λ r. ⌜ r ≡ placed 0 (now (t .entry)) ⌝ }
+{
+    elements::element_at(64, t, 0)
+}
+
+// Number k of a slice; 0 where it has none.
+fn entry(t: &[i32], k: usize) -> i32
+    ensures { λ r. ⌜ r ≡ getD (now (t .entry)) k (pos 0) ⌝ }
+{
+    if k < t.len() {
+        return t[k];
+    }
+    0
+}
+
+// An element of whole numbers.
+pub fn wholes(t: &[i32]) -> [i32; 64]
+    ensures { λ r. ⌜ r ≡ placed (pos 0) (now (t .entry)) ⌝ }
+{
+    let mut a = [0i32; 64];
+    let mut k: usize = 0;
+    while k < 64 {
+        a[k] = entry(t, k);
+        k += 1;
+    }
+    a
+}
+
+// The round polynomial that a slice stands for: three elements, 64 places each.
+pub fn polynomial(t: &[u32]) -> [[u32; 64]; 3]
+    ensures { λ r. ⌜ r ≡ placedPolynomial (now (t .entry)) ⌝ }
+{
+    let c0 = elements::element_at(64, t, 0);
+    let c1 = elements::element_at(64, t, 1);
+    let c2 = elements::element_at(64, t, 2);
+    [c0, c1, c2]
+}
+
+// A verdict as a number.
+pub fn verdict_number(v: Verdict) -> u32
+    ensures { λ r. ⌜ r ≡ verdictNumber v ⌝ }
+{
+    match v {
+        Verdict::Silent => 0,
+        Verdict::Holds => 1,
+        Verdict::Accepted => 2,
+        Verdict::Rejected => 3,
+    }
+}
