@@ -2,19 +2,17 @@
 use mathlib.Core.Path.{_≡_, refl, sym, ap, _∙_}
 use mathlib.Core.Bool.{Bool, true, false}
 use mathlib.Core.List.{List, append-nil}
-use Prim.Native.Nat.{ℕ, _+_, _<_, _≤_}
+use Prim.Native.Nat.{ℕ, _<_, _≤_}
 use native.Mathlib.Nat as Nat
-use native.Mathlib.Omega.{arith}
 use borrow.Author.Tests.{le-leb, lt-leb}
 use mir.Val.{boolByte}
 use lib.Dec.{leb}
 use lib.IntN.{ℤ, pos}
-use lib.ListN.{length, getD, set, replicate, length-replicate}
+use lib.ListN.{length, getD}
 use Rattle.protocol.specs.Basic.{choose}
-use Rattle.protocol.specs.Element.{width, zeros, signedZeros, padded}
+use Rattle.protocol.specs.Element.{width, zeros, signedZeros, padded, paddedSigned, coefficients, signedAt}
 use Rattle.protocol.proofs.Reading.{tabulate-ext}
 use Rattle.arithmetic.specs.Elements.{elementAt}
-use Rattle.arithmetic.proofs.Fill.{filled, filled-none, filled-more}
 use Rattle.slices.specs.Slices.{placed}
 
 -- element 0 of a table with a stride of 64
@@ -22,22 +20,9 @@ pub whole : (t : List ℕ) → elementAt 64 t 0 ≡ placed 0 t
 unfolding elementAt placed padded zeros width
 whole t = append-nil _ ∙ tabulate-ext 64 (λ k h. ap (λ n. getD t n 0) (Nat.zero-add k))
 
--- a loop that reads an element of whole numbers from t, place by place
-module _ (t : List ℤ) where
-  abbrev pub reading : ℕ → List ℤ
-  reading k = filled (λ (j : ℕ). getD t j (pos 0)) k (signedZeros 64)
-
-  pub reading-start : replicate 64 (pos 0) ≡ reading 0
-  unfolding signedZeros
-  reading-start = filled-none _ _
-
-  pub reading-next : (k : ℕ) (x : ℤ) (a : List ℤ) → a ≡ reading k → k < 64 → x ≡ getD t k (pos 0) → set a k x ≡ reading (k + 1)
-  unfolding signedZeros
-  reading-next k x a e h v = (λ i. set (e i) k (v i)) ∙ filled-more (λ (j : ℕ). getD t j (pos 0)) k (signedZeros 64) (omega (arith, length-replicate 64 (pos 0)))
-
-  pub reading-end : (k : ℕ) (a : List ℤ) → a ≡ reading k → k ≡ 64 → a ≡ placed (pos 0) t
-  unfolding placed filled width signedZeros
-  reading-end k a e p = e ∙ ap reading p ∙ append-nil _
+pub whole-signed : (t : List ℤ) → paddedSigned 64 (coefficients 64 (signedAt 64 t 0)) ≡ placed (pos 0) t
+unfolding placed paddedSigned coefficients signedAt signedZeros width
+whole-signed t = append-nil _ ∙ tabulate-ext 64 (λ k h. ap (λ n. getD t n (pos 0)) (Nat.zero-add k))
 
 -- where a slice t is long enough for n numbers, or not
 module _ {ℓ ℓ′} {A : Type ℓ} {B : Type ℓ′} (n : ℕ) (t : List A) (x y : B) where

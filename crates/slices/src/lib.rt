@@ -3,7 +3,6 @@ use arithmetic::elements;
 use protocol::Verdict;
 ghost use mathlib.Core.Path.{_≡_};
 ghost use lib.IntN.{pos};
-ghost use lib.ListN.{getD};
 ghost use Rattle.slices.specs.Slices.{placed, placedPolynomial, verdictNumber};
 
 // An element of residues.
@@ -13,27 +12,11 @@ pub fn residues(t: &[u32]) -> [u32; 64]
     elements::element_at(64, t, 0)
 }
 
-// Number k of a slice; 0 where it has none.
-fn entry(t: &[i32], k: usize) -> i32
-    ensures { λ r. ⌜ r ≡ getD (now (t .entry)) k (pos 0) ⌝ }
-{
-    if k < t.len() {
-        return t[k];
-    }
-    0
-}
-
 // An element of whole numbers.
 pub fn wholes(t: &[i32]) -> [i32; 64]
     ensures { λ r. ⌜ r ≡ placed (pos 0) (now (t .entry)) ⌝ }
 {
-    let mut a = [0i32; 64];
-    let mut k: usize = 0;
-    while k < 64 {
-        a[k] = entry(t, k);
-        k += 1;
-    }
-    a
+    elements::signed_element_at(64, t, 0)
 }
 
 // The round polynomial that a slice stands for: three elements, 64 places each.
