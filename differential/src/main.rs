@@ -7,7 +7,9 @@
 //! the number of drawn inputs. It leaves with 1 where any answer or any lent
 //! table differs, and prints the smallest such case that it finds.
 
-use differential::calls::{Check, Commit, End, Extract, Fold, Judge, Largest, Moves, Opening};
+use differential::calls::{
+    Check, Commit, End, Extract, Fold, Judge, Large, Largest, Moves, Opening,
+};
 use differential::calls::{ProverRound, SessionEnd, SessionRound, Sessions, SettingsCase, Start};
 use differential::case::{self, Case, Difference};
 use differential::report::Report;
@@ -60,7 +62,8 @@ impl Run {
         self.call::<Opening>(6_000, 40)?;
         self.call::<Moves>(2_000, 10)?;
         self.call::<Extract>(4_000, 120)?;
-        self.call::<Largest>(0, 14)
+        self.call::<Large>(0, 18)?;
+        self.call::<Largest>(0, 6)
     }
 }
 

@@ -19,7 +19,7 @@ pub use prover::{End, Fold, ProverRound};
 pub use relaxed::Judge;
 pub use session::{SessionEnd, SessionRound, Start};
 pub use settings::SettingsCase;
-pub use tree::{Extract, Largest};
+pub use tree::{Extract, Large, Largest};
 
 /// What a verifier says, by number.
 const VERDICTS: [&str; 4] = ["none", "holds", "accepted", "rejected"];

@@ -128,55 +128,73 @@ impl Case for Extract {
     }
 }
 
-/// Trees of the largest sizes: all that growth allows at one of degree and
-/// depth, and once in seven times degree 64 and depth 8, which is refused by
-/// 14, or by 13 where a path is damaged.
+/// Trees of the largest sizes that growth allows, by degree.
+#[derive(Clone)]
+pub struct Large(Extract);
+
+/// Trees of degree 64 and depth 8, which are refused by 14, or by 13 where a
+/// path is damaged.
 #[derive(Clone)]
 pub struct Largest(Extract);
 
-impl Case for Largest {
-    const NAME: &'static str = "extract, large";
-
-    fn draw(random: &mut Random, limits: &Limits) -> Largest {
-        if limits.tree == usize::MAX {
-            // A smaller one is wanted.
-            return Largest(Extract::draw(random, limits));
-        }
-        let sizes = [
-            (64, 3, 127),
-            (32, 4, 127),
-            (16, 5, 16),
-            (8, 6, 22),
-            (2, 8, 127),
-            (4, 8, 2),
-            (64, 8, 127),
-        ];
-        let (degree, depth, bound) = random.pick(&sizes);
-        let settings = Settings::new(degree, depth, base::modulus(random), bound);
-        let mut tree = accepted(random, settings);
-        if random.one_in(3) {
-            damage_by(random, &mut tree, &[BRANCH]);
-        }
-        Largest(Extract::new(random, tree))
+/// An accepted tree, or once in three times one with a damaged path. Where
+/// `limits` have no size a smaller tree is wanted.
+fn sized(random: &mut Random, limits: &Limits, sizes: &[(u32, u32, u32)]) -> Extract {
+    if limits.tree == usize::MAX {
+        return Extract::draw(random, limits);
     }
-
-    fn plain(&self) -> Outcome {
-        self.0.plain()
+    let (degree, depth, bound) = random.pick(sizes);
+    let settings = Settings::new(degree, depth, base::modulus(random), bound);
+    let mut tree = accepted(random, settings);
+    if random.one_in(3) {
+        damage_by(random, &mut tree, &[BRANCH]);
     }
-
-    fn fast(&self) -> Option<Outcome> {
-        self.0.fast()
-    }
-
-    fn verified(&self) -> Outcome {
-        self.0.verified()
-    }
-
-    fn tables(&mut self) -> Vec<Table<'_>> {
-        self.0.tables()
-    }
-
-    fn print(&self, page: &mut Page) {
-        self.0.print(page);
-    }
+    Extract::new(random, tree)
 }
+
+/// Trees of some sizes are compared as any are.
+macro_rules! sized {
+    ($case:ident, $name:expr, $sizes:expr) => {
+        impl Case for $case {
+            const NAME: &'static str = $name;
+
+            fn draw(random: &mut Random, limits: &Limits) -> $case {
+                $case(sized(random, limits, $sizes))
+            }
+
+            fn plain(&self) -> Outcome {
+                self.0.plain()
+            }
+
+            fn fast(&self) -> Option<Outcome> {
+                self.0.fast()
+            }
+
+            fn verified(&self) -> Outcome {
+                self.0.verified()
+            }
+
+            fn tables(&mut self) -> Vec<Table<'_>> {
+                self.0.tables()
+            }
+
+            fn print(&self, page: &mut Page) {
+                self.0.print(page);
+            }
+        }
+    };
+}
+
+sized!(
+    Large,
+    "extract, large",
+    &[
+        (64, 3, 127),
+        (32, 4, 127),
+        (16, 5, 16),
+        (8, 6, 22),
+        (4, 8, 2),
+        (2, 8, 127),
+    ]
+);
+sized!(Largest, "extract, largest", &[(64, 8, 127)]);
