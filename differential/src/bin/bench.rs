@@ -19,7 +19,7 @@ use reference::random::Random;
 use reference::refuse::GROWTH;
 use reference::types::{Settings, ACCEPTED, HOLDS};
 use std::hint::black_box;
-use std::time::{Duration, Instant};
+use std::time::Duration;
 
 /// The largest prime below 2^31.
 const Q: u32 = 2_147_483_647;
@@ -29,11 +29,32 @@ struct Table {
     label: &'static str,
 }
 
+#[repr(C)]
+#[derive(Default)]
+struct Time {
+    seconds: i64,
+    nanoseconds: i64,
+}
+
+extern "C" {
+    fn clock_gettime(clock: i32, time: *mut Time) -> i32;
+}
+
+/// The processor time of this thread so far, which does not go on while
+/// other programs run.
+fn now() -> Duration {
+    const THREAD_TIME: i32 = 3;
+    let mut time = Time::default();
+    let failed = unsafe { clock_gettime(THREAD_TIME, &mut time) };
+    assert_eq!(failed, 0);
+    Duration::new(time.seconds as u64, time.nanoseconds as u32)
+}
+
 /// The time that a call takes.
 fn timed(call: impl FnOnce()) -> Duration {
-    let start = Instant::now();
+    let start = now();
     call();
-    start.elapsed()
+    now() - start
 }
 
 fn median(mut times: Vec<Duration>) -> f64 {
