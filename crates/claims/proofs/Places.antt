@@ -1,32 +1,37 @@
--- The places of nodes in a tree, and of their keys in the workspace.
+-- The place of a node in a tree, and in a list that a recursion down the tree hands on: a node's own numbers are the second half of its part, and its children work in the first half.
+--
+--   AtNode S h k first space   node k is h steps above the leaves, `first` is the number of the first leaf, and a list of `space` numbers has room for 2^h elements and as many again
 use mathlib.Core.Path.{_≡_, sym, ap, _∙_, subst}
-use mathlib.Core.List.{List}
 use Prim.Native.Nat.{ℕ, suc, _+_, _*_, _-_, _/_, _^_, _<_, _≤_}
 use native.Mathlib.Nat as Nat
 use native.Mathlib.Omega.{arith}
 use Rattle.protocol.specs.declared.Settings.{Settings}
 use Rattle.protocol.specs.Settings.{size, cells}
 use Rattle.protocol.specs.Tree.{child, nodes}
 use Rattle.claims.proofs.Numbering.{AtDepth, before, before-le, child-depth, root-depth}
 use Rattle.claims.proofs.Paths.{nodes-before, depth-branching}
-use Rattle.trees.specs.Nodes.{AtNode}
+
+pub record AtNode (S : Settings) (h k first space : ℕ) : Type 0 where
+  pub height : h ≤ S .depth
+  pub at-depth : AtDepth (S .depth - h) k
+  pub first-is : first ≡ nodes S
+  pub space-is : space ≡ 2 * (2 ^ h * S .degree)
 
 module _ (S : Settings) where
   open Settings S using (degree as d, depth as L)
 
-  pub nodes-most : L ≤ 8 → nodes S ≤ 3280
+  nodes-most : L ≤ 8 → nodes S ≤ 3280
   unfolding before
   nodes-most l = omega (arith, nodes-before S, before-le L (8 - L), ap before up)
     where
       up : 8 - L + L ≡ 8
       up = omega arith
 
-  -- the root
   pub at-root : (first space : ℕ) → first ≡ nodes S → space ≡ 2 * cells S → AtNode S L 0 first space
   unfolding cells size
   at-root first space f s = record { height = Nat.le-refl L; at-depth = subst (λ t. AtDepth t 0) (sym (Nat.sub-self L)) root-depth; first-is = f; space-is = s }
 
-  -- a node's key is twice as long as its children's
+  -- a node has twice as many numbers as each of its children
   pub twice-cells : (h : ℕ) → 0 < h → 2 ^ h * d ≡ 2 ^ (h - 1) * d + 2 ^ (h - 1) * d
   twice-cells h up =
       let up-one : h ≡ suc (h - 1) = omega arith in
@@ -38,11 +43,14 @@ module _ (S : Settings) where
 
     -- a leaf
     module _ (low : h ≡ 0) where
-      whole-depth : L - h ≡ L
-      whole-depth = omega arith
+      pub at-leaf : AtDepth L k
+      at-leaf = subst (λ t. AtDepth t k) whole-depth (A .at-depth)
+        where
+          whole-depth : L - h ≡ L
+          whole-depth = omega arith
 
       pub leaf-number : first ≤ k
-      leaf-number = omega (arith, A .first-is, nodes-before S, subst (λ t. AtDepth t k) whole-depth (A .at-depth) .from)
+      leaf-number = omega (arith, A .first-is, nodes-before S, at-leaf .from)
 
       pub leaf-cells : 2 ^ h * d ≡ d
       leaf-cells = ap (λ x. 2 ^ x * d) low ∙ Nat.one-mul d
@@ -52,12 +60,16 @@ module _ (S : Settings) where
       pub height-is : suc (h - 1 + (L - h)) ≡ L
       height-is = omega (arith, A .height)
 
+      pub branching-node : k < nodes S
+      branching-node = depth-branching S (L - h) (h - 1) k height-is (A .at-depth)
+
       pub node-most : L ≤ 8 → k ≤ 3280
-      node-most l = omega (arith, nodes-most l, depth-branching S (L - h) (h - 1) k height-is (A .at-depth))
+      node-most l = omega (arith, nodes-most l, branching-node)
 
       pub deeper : suc (L - h) ≡ L - (h - 1)
       deeper = omega (arith, A .height)
 
+      -- where child j works
       pub at-child : (j x lent : ℕ) → j < 3 → x ≡ child k j → lent ≡ space / 2 → AtNode S (h - 1) x first lent
       at-child j x lent l is e = record {
         height = omega (arith, A .height);
