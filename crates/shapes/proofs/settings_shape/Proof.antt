@@ -2,8 +2,8 @@
 use mathlib.Core.Path.{refl}
 use Rattle.protocol.specs.Basic.{choose}
 use Rattle.protocol.specs.Text.{shape, settingsShape}
-use Rattle.tables.proofs.shapes.settings_shape.Statement.{statement}
-use Rattle.tables.proofs.shapes.settings_shape.Tie as tie
+use Rattle.shapes.proofs.settings_shape.Statement.{statement}
+use Rattle.shapes.proofs.settings_shape.Tie as tie
 
 returns : tie.Need-returns
 unfolding settingsShape shape choose

@@ -1,10 +1,11 @@
-// The parts of a text: what their lines are. One description for the reader and for the writer.
+// The parts of a text: what their lines are. One description for the reader and for the writer. Each function is safe for every input, and says
+// what it gives for a depth that is allowed.
 use protocol::Parts;
 use protocol::Settings;
 ghost use mathlib.Core.Path.{_≡_};
 ghost use Prim.Native.Nat.{ℕ, _+_, _^_, _<_, _≤_};
 ghost use Rattle.protocol.specs.Text.{shape, settingsShape, shapeSize};
-ghost use Rattle.tables.specs.Parts.{asShape, cellAt, partShape, lengthsFit};
+ghost use Rattle.shapes.specs.Parts.{asShape, cellAt, partShape, lengthsFit};
 
 // A part: its number, its items and the places of an item.
 pub struct Shape {
@@ -58,20 +59,23 @@ pub fn settings_shape() -> Shape
     }
 }
 
-// Parts 1 to 6.
+// The part of a number; part 0 where there is none of that number.
 pub fn shape_of(settings: Settings, parts: Parts, part: u32) -> Shape
-    requires { ⌜ (settings .depth ≤ 8) × (1 ≤ part) × (part ≤ 6) ⌝ }
-    ensures { λ r. ⌜ asShape r ≡ partShape settings parts part ⌝ }
+    ensures { λ r. ⌜ (settings .depth ≤ 8 → asShape r ≡ partShape settings parts part) ⌝ }
 {
     let degree = settings.degree;
     let depth = settings.depth;
+    if depth > 8 {
+        return settings_shape();
+    }
     match part {
         1 => part_of(1, parts.key, 1u32 << depth, degree),
         2 => part_of(2, parts.message, 1u32 << depth, degree),
         3 => part_of(3, parts.commitment, 1, degree),
         4 => part_of(4, parts.round, 3 * depth, degree),
         5 => part_of(5, parts.challenge, depth, 1),
-        _ => part_of(6, parts.last, 1, degree),
+        6 => part_of(6, parts.last, 1, degree),
+        _ => settings_shape(),
     }
 }
 
@@ -82,35 +86,38 @@ pub fn size_of(shape: Shape) -> usize
     (shape.items as usize) * (shape.places as usize)
 }
 
-// The line behind a line.
+// The line behind a line; a line outside its item, or of the last item that there can be, stays.
 pub fn next_cell(cell: Cell, places: u32) -> Cell
-    requires { ⌜ (cell .place < places) × (cell .item + 1 < 2 ^ 32) ⌝ }
-    ensures { λ r. ⌜ ((p : ℕ) → cell ≡ cellAt places p → r ≡ cellAt places (p + 1)) ⌝ }
+    ensures { λ r. ⌜ (cell .place < places → cell .item + 1 < 2 ^ 32 → (p : ℕ) → cell ≡ cellAt places p → r ≡ cellAt places (p + 1)) ⌝ }
 {
-    if cell.place + 1 == places {
+    if cell.place >= places {
+        return cell;
+    }
+    if cell.place + 1 < places {
         return Cell {
-            item: cell.item + 1,
-            place: 0,
+            item: cell.item,
+            place: cell.place + 1,
         };
     }
+    if cell.item == 4294967295 {
+        return cell;
+    }
     Cell {
-        item: cell.item,
-        place: cell.place + 1,
+        item: cell.item + 1,
+        place: 0,
     }
 }
 
 // How many lines a part of a text has.
 pub fn part_size(settings: Settings, parts: Parts, part: u32) -> usize
-    requires { ⌜ (settings .depth ≤ 8) × (1 ≤ part) × (part ≤ 6) ⌝ }
-    ensures { λ r. ⌜ r ≡ shapeSize (partShape settings parts part) ⌝ }
+    ensures { λ r. ⌜ (settings .depth ≤ 8 → r ≡ shapeSize (partShape settings parts part)) ⌝ }
 {
     size_of(shape_of(settings, parts, part))
 }
 
 // Refusal 7 of lent tables: has each of them exactly its length.
 pub fn fits(settings: Settings, parts: Parts, lengths: Lengths) -> bool
-    requires { ⌜ settings .depth ≤ 8 ⌝ }
-    ensures { λ r. ⌜ r ≡ lengthsFit settings parts lengths ⌝ }
+    ensures { λ r. ⌜ (settings .depth ≤ 8 → r ≡ lengthsFit settings parts lengths) ⌝ }
 {
     if lengths.key != part_size(settings, parts, 1) {
         return false;

@@ -2,8 +2,8 @@
 use mathlib.Core.Path.{sym, ap}
 use Rattle.protocol.specs.Basic.{choose}
 use Rattle.protocol.specs.Text.{shape}
-use Rattle.tables.proofs.shapes.part_of.Statement.{statement}
-use Rattle.tables.proofs.shapes.part_of.Tie as tie
+use Rattle.shapes.proofs.part_of.Statement.{statement}
+use Rattle.shapes.proofs.part_of.Tie as tie
 
 returns : tie.Need-returns
 unfolding shape choose

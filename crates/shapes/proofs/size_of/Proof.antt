@@ -5,8 +5,8 @@ use native.Mathlib.Omega.{arith}
 use native.Mathlib.Nat as Nat
 use borrow.Author.Needs.{needs}
 use Rattle.protocol.specs.Text.{shapeSize}
-use Rattle.tables.proofs.shapes.size_of.Statement.{statement}
-use Rattle.tables.proofs.shapes.size_of.Tie as tie
+use Rattle.shapes.proofs.size_of.Statement.{statement}
+use Rattle.shapes.proofs.size_of.Tie as tie
 
 cast-result : tie.Need-cast-result
 cast-result c = search needs
