@@ -1,12 +1,12 @@
 -- The lines of a part, one after the other.
 --
 --   cell-first, cell-last, cell-more   the first line, and the line behind one, at the end of an item or not
---   cell-place-inside, cell-item-inside   a line of a part is within its places and items
+--   cell-inside                        a line of a part is within its places and items
 --   spots-count                        how many lines a part has
 --   spots-next, spots-end              the spots from line p on
 use mathlib.Core.Path.{_≡_, ap, _∙_}
 use mathlib.Core.List.{[], _∷_}
-use Prim.Native.Nat.{ℕ, zero, suc, _+_, _*_, _/_, _%_, _<_, _≤_}
+use Prim.Native.Nat.{ℕ, zero, suc, _+_, _*_, _/_, _%_, _^_, _<_, _≤_}
 use native.Mathlib.Nat as Nat
 use native.Mathlib.Omega.{arith}
 use lib.ListN.{length, drop, drop-of-length-le}
@@ -48,12 +48,17 @@ module _ (b : Shape) (p : ℕ) (h : p < shapeSize b) where
       positive zero n l = absurd (omega (arith, Nat.mul-zero n))
       positive (suc d) n l = omega arith
 
-  pub cell-place-inside : p % b .places < b .places
+  cell-place-inside : p % b .places < b .places
   cell-place-inside = Nat.mod-lt p some-places
 
-  pub cell-item-inside : p / b .places < b .items
+  cell-item-inside : p / b .places < b .items
   unfolding shapeSize
   cell-item-inside = Nat.div-lt-iff-lt-mul some-places .1 h
+
+  -- so the line behind it can be named
+  pub cell-inside : (c : Cell) → b .items < 2 ^ 32 → c ≡ cellAt (b .places) p → (c .place < b .places) × (c .item + 1 < 2 ^ 32)
+  unfolding cellAt
+  cell-inside c few e = (omega (arith, ap (λ x. x .place) e, cell-place-inside), omega (arith, ap (λ x. x .item) e, cell-item-inside))
 
   pub spots-next : drop p (spots b) ≡ spotAt b p ∷ drop (p + 1) (spots b)
   unfolding spots

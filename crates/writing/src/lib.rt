@@ -2,3 +2,4 @@
 // nothing is refused. What each function gives is said by the definitions of `protocol`'s specs/Text.antt.
 mod lines;
 mod numbers;
+mod parts;

@@ -22,7 +22,7 @@ use Rattle.shapes.specs.Parts.{asShape, cellAt}
 use Rattle.tables.specs.Parts.{takenAnswer, Took}
 use Rattle.tables.proofs.Counts.{Found, suffix-back}
 use Rattle.tables.proofs.Values.{prefix, prefix-nothing, valued, unvalued, values-more, values-over, values-done}
-use Rattle.shapes.proofs.Cells.{cell, cell-first, cell-place-inside, cell-item-inside, spots-count, spots-next, spots-end}
+use Rattle.shapes.proofs.Cells.{cell, cell-first, cell-inside, spots-count, spots-next, spots-end}
 use Rattle.tables.proofs.Cells.{took-missed, took-done}
 use Rattle.tables.proofs.parts.read_part.Statement.{statement}
 use Rattle.tables.proofs.parts.read_part.Tie as tie
@@ -92,16 +92,8 @@ module _ (c : tie.In-loop Inv-loop μ-loop) where
   unfolding cellAt spotAt
   wanted = λ j. spot (part .part) (c .before .loop .inv .4 j .item) (c .before .loop .inv .4 j .place)
 
-  few : part .items < 2 ^ 32
-  few = search needs
-
   within : (c .before .loop .cell .place < part .places) × (c .before .loop .cell .item + 1 < 2 ^ 32)
-  unfolding cellAt
-  within =
-      let e = c .before .loop .inv .4 in (
-        omega (arith, ap (λ x. x .place) e, cell-place-inside (asShape part) line inside),
-        omega (arith, ap (λ x. x .item) e, cell-item-inside (asShape part) line inside, few),
-      )
+  within = cell-inside (asShape part) line inside (c .before .loop .cell) (search needs) (c .before .loop .inv .4)
 
 -- its value
 module _ (c : tie.After-known-told Inv-loop μ-loop) where
