@@ -5,6 +5,8 @@
 --   partShape S P part    the shape of a part
 --   lengthsOf t           how long six tables are
 --   lengthsFit S P n      has every table its length
+--   Exact S P t           the lengths of tables that fit
+use mathlib.Core.Path.{_≡_}
 use mathlib.Core.Bool.{Bool, _&&_}
 use Prim.Native.Nat.{ℕ, _/_, _%_}
 use lib.Dec.{eqb}
@@ -43,3 +45,11 @@ lengthsFit S P n =
     && (eqb (n .rounds) (shapeSize (partShape S P 4))
     && (eqb (n .challenges) (shapeSize (partShape S P 5))
     && eqb (n .last) (shapeSize (partShape S P 6))))))
+
+pub record Exact (S : Settings) (P : Parts) (t : Tables) : Type 0 where
+  pub key : length (t .key) ≡ shapeSize (partShape S P 1)
+  pub message : length (t .message) ≡ shapeSize (partShape S P 2)
+  pub commitment : length (t .commitment) ≡ shapeSize (partShape S P 3)
+  pub rounds : length (t .rounds) ≡ shapeSize (partShape S P 4)
+  pub challenges : length (t .challenges) ≡ shapeSize (partShape S P 5)
+  pub last : length (t .last) ≡ shapeSize (partShape S P 6)

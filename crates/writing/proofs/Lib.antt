@@ -2,3 +2,4 @@ pub mod Puts
 pub mod Digits
 pub mod LineTexts
 pub mod PartTexts
+pub mod WholeText

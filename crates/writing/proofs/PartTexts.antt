@@ -36,7 +36,7 @@ held-over text more h t = record { kept = λ l. absurd (omega arith); over = λ 
 
 -- ---- the lines of a part
 
-lines-append : (ks ls : List Line) → linesText (ks ++ ls) ≡ linesText ks ++ linesText ls
+pub lines-append : (ks ls : List Line) → linesText (ks ++ ls) ≡ linesText ks ++ linesText ls
 unfolding linesText flatMap
 lines-append [] ls = refl
 lines-append (k ∷ ks) ls = ap (λ t. lineText k ++ t) (lines-append ks ls) ∙ sym (append-assoc (lineText k) (linesText ks) (linesText ls))

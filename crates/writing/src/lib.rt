@@ -3,3 +3,4 @@
 mod lines;
 mod numbers;
 mod parts;
+mod text;
