@@ -1,4 +1,3 @@
-pub mod From
 pub mod Runs
 pub mod Counts
 pub mod Rows

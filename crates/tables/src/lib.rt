@@ -5,7 +5,6 @@ mod lines;
 mod names;
 mod numbers;
 mod parts;
-mod shapes;
 
 pub use header::look;
 pub use lines::Entry;

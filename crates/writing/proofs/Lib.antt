@@ -1,0 +1,5 @@
+pub mod Puts
+pub mod Digits
+pub mod LineTexts
+pub mod PartTexts
+pub mod WholeText
