@@ -1,5 +1,6 @@
 -- The values of a whole text, gathered part after part.
 --
+--   behind-rise          the numbers of parts 1 to 6 rise
 --   columns-behind       the values of parts 1 to 6 are those of the lines behind the settings
 --   Looked, looked       what a text is whose settings are not refused
 --   order-..             are its lines the required ones, by what was read of them
@@ -52,7 +53,7 @@ columns-joined q (b ∷ bs) ls r e =
     ap₂ (λ (x y : List ℤ). x ++ y) (c .mine) (ap joined (c .others) ∙ columns-joined (suc (b .part)) bs (c .back) (r .1) (c .back-spots))
     ∙ sym (values-append (c .front) (c .back)) ∙ ap valuesOf (sym (c .joined))
 
-behind-rise : (S : Settings) (P : Parts) → Rising 1 (parts (drop 1 (shapes S P)))
+pub behind-rise : (S : Settings) (P : Parts) → Rising 1 (parts (drop 1 (shapes S P)))
 unfolding shapes shape settingsShape
 behind-rise S P = (omega arith, (omega arith, (omega arith, (omega arith, (omega arith, (omega arith, tt))))))
 
