@@ -3,4 +3,8 @@
 mod lines;
 mod numbers;
 mod parts;
+mod refusal;
 mod text;
+mod whole;
+
+pub use whole::write;
