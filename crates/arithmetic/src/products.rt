@@ -13,26 +13,21 @@ ghost use Rattle.arithmetic.specs.Products.{extension, start, addRow, ad
 pub fn extended(q: u32, d: u32, a: &[u32]) -> [u32; 192]
     ensures { λ r. ⌜ (0 < q → 0 < d → d ≤ 64 → d ≤ length (now (a .entry)) → r ≡ extension q d (now (a .entry))) ⌝ }
 {
-    let mut x = [0u32; 192];
+    let none = [0u32; 192];
     if q == 0 {
-        return x;
+        return none;
     }
     if d == 0 {
-        return x;
+        return none;
     }
     if d > 64 {
-        return x;
+        return none;
     }
     let n = d as usize;
     if a.len() < n {
-        return x;
+        return none;
     }
-    let mut p: usize = 0;
-    while p < 3 * n {
-        x[p] = residues::add_around(q, n, 0, a, p);
-        p += 1;
-    }
-    x
+    residues::extension(q, n, a)
 }
 
 fn scaled(m: u32, y: u32) -> u64

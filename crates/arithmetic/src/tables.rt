@@ -16,18 +16,15 @@ fn fold_element(
     first: usize,
     second: usize,
     t: &mut [u32],
+    x: &mut [u32],
 )
-    requires { ⌜ (0 < q) × (d ≤ 64) × (back ≤ 2 * d) ⌝ }
+    requires { ⌜ (0 < q) × (0 < d) × (d ≤ 64) × (back ≤ 2 * d) × (256 ≤ length (now x)) ⌝ }
     requires { ⌜ (to ≤ first) × (to + d ≤ second) × (first ≤ second) × (second + d ≤ length (now t)) ⌝ }
     ensures { λ _. ⌜ now (t .exit) ≡ spliced (foldCell q d back (drop first (now (t .entry))) (drop second (now (t .entry)))) to d (now (t .entry)) ⌝ }
 {
-    let mut k: usize = 0;
-    while k < d {
-        let x = t[first + k];
-        let z = residues::add_around(q, d, x, &t[second..], k + back);
-        t[to + k] = z;
-        k += 1;
-    }
+    residues::extend(q, d, t, second, x);
+    residues::reduce_row(q, d, t, first, x, 192);
+    residues::add_rows(q, d, x, 192, back, t, to);
 }
 
 // The fold of the 2h elements from place `from` on, written from place `to` on.
@@ -37,10 +34,11 @@ fn fold_elements(q: u32, d: usize, h: usize, e: usize, from: usize, to: usize, t
 {
     let half = h * d;
     let back = d + d - e % (d + d);
+    let mut x = [0u32; 256];
     let mut j: usize = 0;
     while j < h {
         let at = j * d;
-        fold_element(q, d, back, to + at, from + at, from + half + at, t);
+        fold_element(q, d, back, to + at, from + at, from + half + at, t, &mut x);
         j += 1;
     }
 }

@@ -1,9 +1,9 @@
 -- The loop keeps: j elements are folded, and everything from there on is as it was.
-use mathlib.Core.Path.{_≡_, sym, ap, _∙_}
-use Prim.Native.Nat.{ℕ, _+_, _*_, _-_, _%_, _≤_, _<_}
+use mathlib.Core.Path.{_≡_, ap, _∙_}
+use Prim.Native.Nat.{ℕ, _+_, _*_, _-_, _≤_}
 use native.Mathlib.Nat.{mod-lt, mul-le-mul}
 use native.Mathlib.Omega.{arith}
-use lib.ListN.{length}
+use lib.ListN.{length, length-replicate}
 use Rattle.arithmetic.specs.Folds.{spliced}
 use Rattle.arithmetic.proofs.Folds.{foldedFlat, row-inside, rows-none, rows-done, row-turn}
 use borrow.Author.Needs.{needs}
@@ -11,10 +11,10 @@ use Rattle.arithmetic.proofs.tables.fold_elements.Statement.{statement}
 use Rattle.arithmetic.proofs.tables.fold_elements.Tie as tie
 
 abbrev Inv-loop : tie.InvT-loop
-Inv-loop q d h e from to t₀ half back j₀ t j = (j ≤ h) × (t ≡ spliced (foldedFlat q d h e from t₀) to (j * d) t₀) × (length t ≡ length t₀)
+Inv-loop q d h e from to t₀ half back x₀ j₀ t x j = (j ≤ h) × (t ≡ spliced (foldedFlat q d h e from t₀) to (j * d) t₀) × (length t ≡ length t₀) × (length x ≡ 256)
 
 abbrev μ-loop : tie.MeasureT-loop
-μ-loop q d h e from to t₀ half back j₀ t j = h - j
+μ-loop q d h e from to t₀ half back x₀ j₀ t x j = h - j
 
 few : (c : tie.Start Inv-loop μ-loop) → c .args .h * c .args .d ≤ 128 * 64
 few c = mul-le-mul {n₂ = 128} {m₂ = 64} (omega arith) (omega arith)
@@ -38,7 +38,7 @@ sub-back : tie.Need-sub-back Inv-loop μ-loop
 sub-back c = let a = c .before .args in omega (arith, mod-lt (a .e) {m = a .d + a .d} (omega arith))
 
 loop-holds : tie.Need-loop-holds Inv-loop μ-loop
-loop-holds c = let a = c .before .args in (omega arith, rows-none (a .q) (a .d) (a .h) (a .e) (a .from) (a .to) (a .t .now) (omega arith), search needs)
+loop-holds c = let a = c .before .args in (omega arith, rows-none (a .q) (a .d) (a .h) (a .e) (a .from) (a .to) (a .t .now) (omega arith), search needs, length-replicate {A = ℕ} 256 0)
 
 mul-at : tie.Need-mul-at Inv-loop μ-loop
 mul-at c = omega (arith, few (c .before .before .before), inside c)
@@ -55,8 +55,11 @@ add-fold-element-3 c = omega (arith, few (c .before .before .before), inside c)
 add-fold-element-4 : tie.Need-add-fold-element-4 Inv-loop μ-loop
 add-fold-element-4 c = omega (arith, few (c .before .before .before), inside c)
 
+slice-aggregate-fold-element : tie.Need-slice-aggregate-fold-element Inv-loop μ-loop
+slice-aggregate-fold-element c = search needs
+
 fold-element-requires : tie.Need-fold-element-requires Inv-loop μ-loop
-fold-element-requires c κs = (omega arith, omega (arith, inside (c .before)))
+fold-element-requires c κs = (omega arith, omega (arith, inside (c .before .before)))
 
 add-j : tie.Need-add-j Inv-loop μ-loop
 add-j c = search needs
@@ -66,12 +69,14 @@ loop-less c = search needs
 
 loop-again : tie.Need-loop-again Inv-loop μ-loop
 loop-again c =
-    let a = c .before .before .before .before .before .before .before .args in
-    let l = c .before .before .before .before .before .loop in (
+    let a = c .before .before .before .before .before .before .before .before .before .args in
+    let l = c .before .before .before .before .before .before .before .loop in
+    let f = c .before .before .before .fold-element in (
       omega arith,
-      c .before .before .fold-element .ensures
+      f .ensures
           ∙ row-turn (a .q) (a .d) (a .h) (a .e) (a .from) (a .to) (a .t .now) (omega arith) (l .t) (l .j) (l .inv .1) (omega arith) (omega arith) (omega arith),
-      c .before .before .fold-element .kept .1 .1 .1 .1 .1 .1 .0 ∙ l .inv .2,
+      f .kept .1 .1 .1 .1 .1 .1 .0 ∙ l .inv .2,
+      f .kept .1 .1 .1 .1 .1 .1 .1 .0 ∙ l .inv .3,
     )
 
 same-length : tie.Need-same-length Inv-loop μ-loop
@@ -101,6 +106,7 @@ fold-elements-spec =
     add-fold-element-2
     add-fold-element-3
     add-fold-element-4
+    slice-aggregate-fold-element
     fold-element-requires
     add-j
     loop-less
