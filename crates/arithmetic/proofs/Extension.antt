@@ -1,7 +1,7 @@
 -- The extension of an element: rows of residues, each the negative of the row before; and the sums of its numbers with those of another element.
 use mathlib.Core.Path.{_≡_, refl, sym, ap, _∙_}
 use mathlib.Core.List.{List}
-use Prim.Native.Nat.{ℕ, _+_, _*_, _-_, _%_, _<_, _≤_}
+use Prim.Native.Nat.{ℕ, zero, suc, _+_, _*_, _-_, _%_, _<_, _≤_}
 use native.Mathlib.Nat as Nat
 use native.Mathlib.Omega.{arith}
 use lib.IntN.{ℤ, pos, negℤ, _+ℤ_}
@@ -36,6 +36,25 @@ module _ (q : ℕ) (p : 0 < q) where
       modulo-neg q p (pos (modulo q z))
       ∙ ap (λ n. (q - n) % q) (same (modulo q z) (modulo-lt q p z))
       ∙ sym (modulo-neg q p z)
+
+  -- differences
+  pub minus-below : (x y : ℕ) → x < y → y < q → x + (q - y) ≡ modulo q (pos x +ℤ negℤ (pos y))
+  minus-below x y h l =
+      sym
+      (modulo-add q p (pos x) (negℤ (pos y))
+      ∙ (λ i. (same x (omega arith) i + sym (negative-residue y (omega arith) l) i) % q)
+      ∙ Nat.mod-eq-of-lt (omega arith))
+
+  pub minus-above : (x y : ℕ) → y ≤ x → x < q → x - y ≡ modulo q (pos x +ℤ negℤ (pos y))
+  minus-above x zero h l =
+      sym (modulo-add q p (pos x) (negℤ (pos 0)) ∙ (λ i. (same x l i + sym negative-none i) % q) ∙ ap (λ n. n % q) (Nat.add-zero x) ∙ Nat.mod-eq-of-lt l ∙ sym (Nat.sub-zero x))
+  minus-above x (suc y) h l =
+      sym
+      (modulo-add q p (pos x) (negℤ (pos (suc y)))
+      ∙ (λ i. (same x l i + sym (negative-residue (suc y) (omega arith) (omega arith)) i) % q)
+      ∙ Nat.mod-eq-sub-mod {n = x + (q - suc y)} {m = q} (omega arith)
+      ∙ Nat.mod-eq-of-lt (omega arith)
+      ∙ omega arith)
 
 -- ---- the rows
 

@@ -8,3 +8,4 @@ pub mod Folds
 pub mod Rows
 pub mod Padding
 pub mod Extension
+pub mod Turns

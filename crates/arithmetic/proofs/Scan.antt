@@ -9,7 +9,24 @@ use lib.Seq.{drop-cons}
 use Rattle.protocol.specs.Basic.{every, all}
 use Rattle.protocol.proofs.Tests.{and-intro, every-at}
 
--- ---- over a table: what is known, and what is left, decide
+-- ---- over a table, in a loop that stops at the first that fails: what is left decides
+
+module _ {ℓ} {A : Type ℓ} (f : A → Bool) (t : List A) (z : A) (i : ℕ) (e : all f t ≡ all f (drop i t)) where
+  at : i < length t → all f t ≡ (f (getD t i z) && all f (drop (suc i) t))
+  unfolding all
+  at h = e ∙ ap (all f) (drop-cons t i z h)
+
+  pub all-goes-on : i < length t → f (getD t i z) ≡ true → all f t ≡ all f (drop (i + 1) t)
+  all-goes-on h p = at h ∙ ap (λ b. b && all f (drop (suc i) t)) p ∙ ap (λ n. all f (drop n t)) (sym (add-one i))
+
+  pub all-fails : i < length t → f (getD t i z) ≡ false → false ≡ all f t
+  all-fails h p = sym (at h ∙ ap (λ b. b && all f (drop (suc i) t)) p)
+
+  pub all-ends : length t ≤ i → true ≡ all f t
+  unfolding all
+  all-ends h = sym (e ∙ ap (all f) (drop-of-length-le t h))
+
+-- ---- the same in a loop that asks all entries: what is known, and what is left, decide
 
 and-assoc : (a b c : Bool) → (a && (b && c)) ≡ ((a && b) && c)
 and-assoc true b c = refl
@@ -24,17 +41,17 @@ and-false true = refl
 and-false false = refl
 
 module _ {ℓ} {A : Type ℓ} (f : A → Bool) (t : List A) (z : A) (i : ℕ) (good : Bool) (e : all f t ≡ (good && all f (drop i t))) where
-  pub all-goes-on : i < length t → {next : Bool} → next ≡ (good && f (getD t i z)) → all f t ≡ (next && all f (drop (i + 1) t))
+  pub asked-goes-on : i < length t → {next : Bool} → next ≡ (good && f (getD t i z)) → all f t ≡ (next && all f (drop (i + 1) t))
   unfolding all
-  all-goes-on h n =
+  asked-goes-on h n =
       e
       ∙ ap (λ l. good && all f l) (drop-cons t i z h)
       ∙ and-assoc good (f (getD t i z)) (all f (drop (suc i) t))
       ∙ sym (λ j. n j && all f (drop (add-one i j) t))
 
-  pub all-ends : length t ≤ i → good ≡ all f t
+  pub asked-ends : length t ≤ i → good ≡ all f t
   unfolding all
-  all-ends h = sym (e ∙ ap (λ l. good && all f l) (drop-of-length-le t h) ∙ and-true good)
+  asked-ends h = sym (e ∙ ap (λ l. good && all f l) (drop-of-length-le t h) ∙ and-true good)
 
 -- ---- over the places below n: those that are passed hold
 

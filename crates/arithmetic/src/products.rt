@@ -13,21 +13,22 @@ ghost use Rattle.arithmetic.specs.Products.{extension, start, addRow, ad
 pub fn extended(q: u32, d: u32, a: &[u32]) -> [u32; 192]
     ensures { λ r. ⌜ (0 < q → 0 < d → d ≤ 64 → d ≤ length (now (a .entry)) → r ≡ extension q d (now (a .entry))) ⌝ }
 {
-    let none = [0u32; 192];
+    let mut x = [0u32; 192];
     if q == 0 {
-        return none;
+        return x;
     }
     if d == 0 {
-        return none;
+        return x;
     }
     if d > 64 {
-        return none;
+        return x;
     }
     let n = d as usize;
     if a.len() < n {
-        return none;
+        return x;
     }
-    residues::extension(q, n, a)
+    residues::extend(q, n, a, 0, &mut x);
+    x
 }
 
 fn scaled(m: u32, y: u32) -> u64

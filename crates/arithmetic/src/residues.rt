@@ -1,13 +1,14 @@
-// Single residues and rows of them. Where all numbers are residues nothing is divided and no branch depends on them, so that the compiler takes
-// several at a time.
+// Single residues and rows of them. A row is named by the place at which it begins. Where all numbers are residues nothing is divided and no branch
+// depends on them, so that the compiler takes several at a time.
+use crate::tests;
 ghost use mathlib.Core.Path.{_≡_};
-ghost use Prim.Native.Nat.{ℕ, _+_, _*_, _%_, _<_, _≤_};
-ghost use lib.IntN.{pos, negℤ};
+ghost use mathlib.Core.Bool.{true};
+ghost use Prim.Native.Nat.{_+_, _*_, _%_, _<_, _≤_};
+ghost use lib.IntN.{pos, negℤ, _+ℤ_};
 ghost use lib.ListN.{length, getD, drop};
 ghost use Rattle.protocol.specs.Element.{modulo};
 ghost use Rattle.arithmetic.specs.Folds.{spliced};
-ghost use Rattle.arithmetic.specs.Products as products;
-ghost use Rattle.arithmetic.specs.Residues.{Residues, turned};
+ghost use Rattle.arithmetic.specs.Residues.{Residues, signed, turned};
 
 // x + y modulo q
 fn plus(q: u32, x: u32, y: u32) -> u32
@@ -32,29 +33,42 @@ fn negated(q: u32, y: u32) -> u32
     q - y
 }
 
-fn larger(x: u32, y: u32) -> u32
-    ensures { λ r. ⌜ (x ≤ r) × (y ≤ r) ⌝ }
+// x − y modulo q
+fn minus(q: u32, x: u32, y: u32) -> u32
+    requires { ⌜ (x < q) × (y < q) ⌝ }
+    ensures { λ r. ⌜ r ≡ modulo q (pos x +ℤ negℤ (pos y)) ⌝ }
 {
     if x < y {
-        return y;
+        return x + (q - y);
     }
-    x
+    x - y
 }
 
-// None of the n numbers from a place on is larger.
-fn largest(n: usize, t: &[u32], from: usize) -> u32
-    requires { ⌜ from + n ≤ length (now t) ⌝ }
-    ensures { λ r. ⌜ ((k : ℕ) → k < n → getD (now (t .entry)) (from + k) 0 ≤ r) ⌝ }
+// x + y modulo q, or x − y.
+fn signed_sum(q: u32, negative: bool, x: u32, y: u32) -> u32
+    requires { ⌜ (x < q) × (y < q) ⌝ }
+    ensures { λ r. ⌜ r ≡ modulo q (pos x +ℤ signed negative (pos y)) ⌝ }
 {
-    let mut most = 0u32;
-    for k in 0..n {
-        most = larger(most, t[from + k]);
+    if negative {
+        return minus(q, x, y);
     }
-    most
+    plus(q, x, y)
+}
+
+// Are the n numbers from a place on residues.
+pub fn all_residues(q: u32, n: usize, t: &[u32], from: usize) -> bool
+    requires { ⌜ from + n ≤ length (now t) ⌝ }
+    ensures { λ r. ⌜ (r ≡ true → Residues q n from (now (t .entry))) ⌝ }
+{
+    let mut good = true;
+    for k in 0..n {
+        good = tests::and_below(good, q, t[from + k]);
+    }
+    good
 }
 
 // The n numbers from a place of one table on, written to a place of another.
-fn copy_row(n: usize, t: &[u32], from: usize, x: &mut [u32], to: usize)
+pub fn copy_row(n: usize, t: &[u32], from: usize, x: &mut [u32], to: usize)
     requires { ⌜ (from + n ≤ length (now t)) × (to + n ≤ length (now x)) ⌝ }
     ensures { λ _. ⌜ now (x .exit) ≡ spliced (λ k. getD (now (t .entry)) (from + k) 0) to n (now (x .entry)) ⌝ }
 {
@@ -79,7 +93,7 @@ pub fn reduce_row(q: u32, n: usize, t: &[u32], from: usize, x: &mut [u32], to: u
     requires { ⌜ (0 < q) × (from + n ≤ length (now t)) × (to + n ≤ length (now x)) ⌝ }
     ensures { λ _. ⌜ now (x .exit) ≡ spliced (λ k. getD (now (t .entry)) (from + k) 0 % q) to n (now (x .entry)) ⌝ }
 {
-    if largest(n, t, from) < q {
+    if all_residues(q, n, t, from) {
         copy_row(n, t, from, x, to);
         return;
     }
@@ -93,6 +107,26 @@ pub fn add_rows(q: u32, n: usize, x: &[u32], a: usize, b: usize, t: &mut [u32], 
 {
     for k in 0..n {
         t[to + k] = plus(q, x[a + k], x[b + k]);
+    }
+}
+
+// The sums, or the differences, of a row of x and a row of t, modulo q, written to a place of t before that row.
+pub fn add_signed_row(
+    q: u32,
+    n: usize,
+    negative: bool,
+    x: &[u32],
+    a: usize,
+    t: &mut [u32],
+    b: usize,
+    to: usize,
+)
+    requires { ⌜ Residues q n a (now x) × Residues q n b (now t) × (to + n ≤ b) ⌝ }
+    ensures { λ _. ⌜ now (t .exit) ≡ spliced (λ k. modulo q (pos (getD (now (x .entry)) (a + k) 0) +ℤ signed negative (pos (getD (now (t .entry)) (b + k) 0)))) to n (now (t .entry)) ⌝ }
+{
+    for k in 0..n {
+        let y = t[b + k];
+        t[to + k] = signed_sum(q, negative, x[a + k], y);
     }
 }
 
@@ -115,14 +149,4 @@ pub fn extend(q: u32, d: usize, t: &[u32], from: usize, x: &mut [u32])
     reduce_row(q, d, t, from, x, 0);
     negate_row(q, d, 0, d, x);
     negate_row(q, d, d, 2 * d, x);
-}
-
-// The same by value.
-pub fn extension(q: u32, d: usize, t: &[u32]) -> [u32; 192]
-    requires { ⌜ (0 < q) × (0 < d) × (d ≤ 64) × (d ≤ length (now t)) ⌝ }
-    ensures { λ r. ⌜ r ≡ products.extension q d (now (t .entry)) ⌝ }
-{
-    let mut x = [0u32; 192];
-    extend(q, d, t, 0, &mut x);
-    x
 }

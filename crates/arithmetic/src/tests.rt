@@ -65,7 +65,7 @@ pub fn settings_refusal(settings: Settings) -> u32
 }
 
 // One test more. The loops over tables ask all numbers, also after one that fails, so that the compiler takes several at a time.
-fn and_below(good: bool, limit: u32, x: u32) -> bool
+pub(crate) fn and_below(good: bool, limit: u32, x: u32) -> bool
     ensures { λ r. ⌜ r ≡ (good && ltb x limit) ⌝ }
 {
     if x < limit {

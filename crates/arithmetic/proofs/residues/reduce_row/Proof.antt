@@ -1,13 +1,12 @@
 use mathlib.Core.Path.{sym, _∙_}
 use native.Mathlib.Nat.{mod-eq-of-lt}
-use native.Mathlib.Omega.{arith}
 use Rattle.arithmetic.proofs.Splice.{spliced-ext}
 use borrow.Author.Needs.{needs}
 use Rattle.arithmetic.proofs.residues.reduce_row.Statement.{statement}
 use Rattle.arithmetic.proofs.residues.reduce_row.Tie as tie
 
-largest-requires : tie.Need-largest-requires
-largest-requires c κs = search needs
+all-residues-requires : tie.Need-all-residues-requires
+all-residues-requires c κs = search needs
 
 copy-row-requires : tie.Need-copy-row-requires
 copy-row-requires c κs = search needs
@@ -16,7 +15,7 @@ same-length : tie.Need-same-length
 same-length c = search needs
 
 returns : tie.Need-returns
-returns c = c .before .before .copy-row .ensures ∙ spliced-ext _ _ _ _ _ (λ k h. sym (mod-eq-of-lt (omega (arith, c .before .before .before .before .before .largest .ensures k h))))
+returns c = c .before .before .copy-row .ensures ∙ spliced-ext _ _ _ _ _ (λ k h. sym (mod-eq-of-lt (c .before .before .before .before .before .all-residues .ensures (c .before .before .before .before .if1 .taken) .each k h)))
 
 divide-row-requires : tie.Need-divide-row-requires
 divide-row-requires c κs = search needs
@@ -31,7 +30,7 @@ pub reduce-row-spec : {M : Type 1} → statement M
 reduce-row-spec =
     tie.close
     (tie.spec
-    largest-requires
+    all-residues-requires
     copy-row-requires
     same-length
     returns

@@ -6,7 +6,7 @@ use native.Mathlib.Omega.{arith}
 use lib.Dec.{ltb}
 use lib.ListN.{length, drop}
 use Rattle.protocol.specs.Basic.{all}
-use Rattle.arithmetic.proofs.Scan.{all-goes-on, all-ends}
+use Rattle.arithmetic.proofs.Scan.{asked-goes-on, asked-ends}
 use borrow.Author.Needs.{needs}
 use Rattle.arithmetic.proofs.tests.all_below.Statement.{statement}
 use Rattle.arithmetic.proofs.tests.all_below.Tie as tie
@@ -36,10 +36,10 @@ loop-less : tie.Need-loop-less Inv-loop μ-loop
 loop-less c = search needs
 
 loop-again : tie.Need-loop-again Inv-loop μ-loop
-loop-again c = let l = c .before .before .before .loop in (omega arith, l .inv .1, all-goes-on _ _ 0 (l .i) (l .good) (l .inv .2) (omega arith) (c .and-below .ensures))
+loop-again c = let l = c .before .before .before .loop in (omega arith, l .inv .1, asked-goes-on _ _ 0 (l .i) (l .good) (l .inv .2) (omega arith) (c .and-below .ensures))
 
 returns : tie.Need-returns Inv-loop μ-loop
-returns c = let l = c .before .loop in all-ends _ _ 0 (l .i) (l .good) (l .inv .2) (omega arith)
+returns c = let l = c .before .loop in asked-ends _ _ 0 (l .i) (l .good) (l .inv .2) (omega arith)
 
 pub all-below-spec : {M : Type 1} → statement M
 all-below-spec =
