@@ -38,6 +38,9 @@ mul-loop c = search needs
 add-around-requires : tie.Need-add-around-requires Inv-loop μ-loop
 add-around-requires c κs = search needs
 
+cast-x : tie.Need-cast-x Inv-loop μ-loop
+cast-x c = search needs
+
 mul-x : tie.Need-mul-x Inv-loop μ-loop
 mul-x c = search needs
 
@@ -79,6 +82,7 @@ extended-spec =
     loop-holds
     mul-loop
     add-around-requires
+    cast-x
     mul-x
     array-write-x
     add-p
