@@ -95,6 +95,14 @@ module _ (q d : ℕ) (p : 0 < q) (pd : 0 < d) (a : List ℕ) where
   unfolding extension turned
   extension-done = fill-done 192 (turned q d a) (3 * d) (3 * d) (spliced (turned q d a) 0 (3 * d) (replicate 192 0)) (spliced-zeros (turned q d a) 192 (3 * d)) refl
 
+  -- the same numbers in 64 bits
+  pub wide-done : {x y : List ℕ} → x ≡ spliced (turned q d a) 0 (3 * d) (replicate 192 0) → y ≡ spliced (λ k. getD x k 0) 0 (3 * d) (replicate 192 0) → y ≡ extension q d a
+  wide-done {x} {y} ex ey =
+      ey
+      ∙ spliced-ext (λ k. getD x k 0) (turned q d a) 0 (3 * d) (replicate 192 0)
+      (λ k l. ap (λ t. getD t k 0) ex ∙ ap (λ i. getD (spliced (turned q d a) 0 (3 * d) (replicate 192 0)) i 0) (sym (Nat.zero-add k)) ∙ spliced-inside (turned q d a) 0 (3 * d) (replicate 192 0) (omega arith) k l)
+      ∙ extension-done
+
 -- the first row of the element at a place of a table
 pub first-row : (q d : ℕ) → 0 < q → 0 < d → (from : ℕ) (t x : List ℕ) → spliced (λ k. getD t (from + k) 0 % q) 0 d x ≡ spliced (turned q d (drop from t)) 0 d x
 first-row q d p pd from t x =
