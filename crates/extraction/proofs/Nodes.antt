@@ -2,6 +2,7 @@
 --   shared j        the node's vector after the shares of its first j children
 --   Stage j W       the list W has room for the node, and its second half is `shared j`
 use mathlib.Core.Path.{_≡_, refl, sym, ap, _∙_, subst}
+use mathlib.Core.Logic.{_≢_}
 use mathlib.Core.List.{List, _++_}
 use Prim.Native.Nat.{ℕ, zero, suc, _+_, _*_, _-_, _/_, _%_, _^_, _<_, _≤_}
 use native.Mathlib.Nat as Nat
@@ -244,6 +245,12 @@ module _ (S : Settings) (E : List ℕ) (finals : List ℤ) (X : Extractable S E 
     another-small (suc zero) = omega arith
     another-small (suc (suc j)) = omega arith
 
+    apart : (j : ℕ) → j < 3 → (c j ≢ c (other j)) × (c j ≢ c (another j))
+    apart zero l = let h = X .different k branching-node in (h .0, h .1)
+    apart (suc zero) l = let h = X .different k branching-node in (λ e. h .0 (sym e), h .2)
+    apart (suc (suc zero)) l = let h = X .different k branching-node in (λ e. h .1 (sym e), λ e. h .2 (sym e))
+    apart (suc (suc (suc j))) l = absurd (omega arith)
+
     -- the share of child j may be added where its vector and the node's stand
     module _ (j : ℕ) (l : j < 3) (W : List ℤ) (long : length W ≡ 4 * (n * d)) (is-child : take (n * d) (drop (n * d) W) ≡ v j) (is-node : drop (2 * (n * d)) W ≡ shared j) where
       behind : drop (n * d) (drop (n * d) W) ≡ shared j
@@ -255,10 +262,14 @@ module _ (S : Settings) (E : List ℕ) (finals : List ℤ) (X : Extractable S E 
         inside = challenges-inside;
         long = long;
         sharing = record {
+          log = X .valid .log;
+          log-most = X .valid .log-most;
+          degree-is = X .valid .degree-is;
           some = some;
           small = small;
           exponent = exponent-small j l;
           others = (exponent-small (other j) (other-small j), exponent-small (another j) (another-small j));
+          different = apart j l;
           long = length-drop (n * d) W ∙ omega arith;
           bound = β;
           bound-node = j * (d * d * 2 * β);

@@ -8,8 +8,8 @@ use Rattle.protocol.specs.Element.{signed}
 use Rattle.arithmetic.proofs.Fill.{filled, filled-none, filled-turn, filled-end}
 use mir.Syntax.{w64}
 use Rattle.arithmetic.proofs.Magnitude.{through-bits}
-use Rattle.extraction.proofs.vectors.store.Statement.{statement}
-use Rattle.extraction.proofs.vectors.store.Tie as tie
+use Rattle.extraction.proofs.elements.store.Statement.{statement}
+use Rattle.extraction.proofs.elements.store.Tie as tie
 
 abbrev Inv-loop : tie.InvT-loop
 Inv-loop n a out₀ k₀ out k = (k ≤ n) × (out ≡ filled (signed a) k out₀) × (length out ≡ length out₀)
