@@ -40,7 +40,7 @@ and-true : (b : Bool) → (b && true) ≡ b
 and-true true = refl
 and-true false = refl
 
-fits-lengths : (S : Settings) (P : Parts) (t : Tables) → fits S P t ≡ lengthsFit S P (lengthsOf t)
+pub fits-lengths : (S : Settings) (P : Parts) (t : Tables) → fits S P t ≡ lengthsFit S P (lengthsOf t)
 unfolding fits blocks all zipWith blockFits block shapes contents sized lengthsFit lengthsOf partShape settingsShape shape shapeSize choose
 fits-lengths S P t = λ j.
     eqb (length-map (t .key) pos j) (shapeSize (partShape S P 1))
