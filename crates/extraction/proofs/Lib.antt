@@ -8,3 +8,6 @@ pub mod Splicing
 pub mod Parts
 pub mod Shares
 pub mod Nodes
+pub mod Workspace
+pub mod Answers
+pub mod Opening

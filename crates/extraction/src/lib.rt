@@ -1,3 +1,33 @@
-// The extractor and the judge of relaxed openings.
+// The extractor: from a full tree of accepted transcripts to a relaxed opening of 4^L times its commitment.
 mod elements;
+mod root;
 mod vectors;
+
+use protocol::Settings;
+ghost use Rattle.protocol.specs.Promises.{Extracted};
+
+// The vector of the root of a full tree, every path of which the verifier accepts. Nothing is written before the last test.
+pub fn extract(
+    settings: Settings,
+    commitment: [u32; 64],
+    key: &[u32],
+    rounds: &[u32],
+    challenges: &[u32],
+    leaves: &[i32],
+    w: &mut [i64],
+) -> u32
+    ensures { λ r. ⌜ Extracted settings commitment (now (key .entry)) (now (rounds .entry)) (now (challenges .entry)) (now (leaves .entry)) (now (w .entry)) r (now (w .exit)) ⌝ }
+{
+    let number = branches::refusal(settings, commitment, key, rounds, challenges, leaves, w);
+    if number != 0 {
+        return number;
+    }
+    if !trees::every_path_accepted(settings, commitment, key, rounds, challenges, leaves) {
+        return 13;
+    }
+    if !relaxed::growth_allowed(settings) {
+        return 14;
+    }
+    root::root(settings, challenges, leaves, w);
+    0
+}

@@ -14,12 +14,12 @@ ghost use Rattle.arithmetic.proofs.Fill.{filled};
 ghost use Rattle.extraction.specs.Vectors.{scaled, turned, Turnable, withShare, Sharing, Branching, branchAdded};
 ghost use Rattle.extraction.specs.Nodes.{Extractable, AtNode};
 
-// Copies the first d numbers of a.
-fn store(d: usize, a: &[i64; 64], out: &mut [i64])
-    requires { ⌜ (d ≤ 64) × (d ≤ length (now out)) ⌝ }
-    ensures { λ _. ⌜ now (out .exit) ≡ filled (signed (now (a .entry))) d (now (out .entry)) ⌝ }
+// Copies the first n numbers of a.
+pub(crate) fn store(n: usize, a: &[i64], out: &mut [i64])
+    requires { ⌜ (n ≤ length (now a)) × (n ≤ length (now out)) ⌝ }
+    ensures { λ _. ⌜ now (out .exit) ≡ filled (signed (now (a .entry))) n (now (out .entry)) ⌝ }
 {
-    for k in 0..d {
+    for k in 0..n {
         out[k] = a[k];
     }
 }

@@ -4,9 +4,10 @@ pub mod session;
 use arithmetic::tests;
 use protocol::Settings;
 ghost use mathlib.Core.Path.{_≡_};
+ghost use mathlib.Core.Bool.{_&&_};
 ghost use Prim.Native.Nat.{_≤_};
 ghost use lib.ListN.{length};
-ghost use Rattle.protocol.specs.Settings.{settingsRefusal, cells};
+ghost use Rattle.protocol.specs.Settings.{settingsRefusal, cells, residues, residueElement};
 ghost use Rattle.protocol.specs.Calls.{leftSmall, movingSmall, commitRefusal, roundRefusal, foldRefusal, endRefusal};
 ghost use Rattle.refusals.specs.Tables.{tablesRefusal};
 
@@ -29,6 +30,19 @@ fn tables(settings: Settings, key: &[u32], message: &[i32]) -> u32
         return 8;
     }
     0
+}
+
+// 8 of a check by the verifier: are the numbers of key, commitment and round elements residues.
+pub fn all_residues(settings: Settings, commitment: [u32; 64], key: &[u32], rounds: &[u32]) -> bool
+    ensures { λ r. ⌜ (settings .degree ≤ 64 → r ≡ (residues settings (now (key .entry)) && residueElement settings commitment && residues settings (now (rounds .entry)))) ⌝ }
+{
+    if !tests::all_below(settings.modulus, key) {
+        return false;
+    }
+    if !tests::element_below(settings.modulus, settings.degree, commitment) {
+        return false;
+    }
+    tests::all_below(settings.modulus, rounds)
 }
 
 // 9: does what is left of a message lie within ±2^t·B.

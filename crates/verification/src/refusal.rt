@@ -4,7 +4,7 @@ use protocol::Settings;
 ghost use mathlib.Core.Path.{_≡_};
 ghost use mathlib.Core.Bool.{_&&_};
 ghost use Prim.Native.Nat.{_*_};
-ghost use Rattle.protocol.specs.Settings.{settingsRefusal, cells, sized, residues, residueElement};
+ghost use Rattle.protocol.specs.Settings.{settingsRefusal, cells, sized};
 ghost use Rattle.protocol.specs.Calls.{checkRefusal};
 
 // 7: have the tables of a transcript their lengths.
@@ -19,20 +19,6 @@ fn check_sized(settings: Settings, key: &[u32], rounds: &[u32], challenges: &[u3
         return false;
     }
     challenges.len() == (settings.depth as usize)
-}
-
-// 8: are the numbers of key, commitment and rounds residues.
-fn check_residues(settings: Settings, commitment: [u32; 64], key: &[u32], rounds: &[u32]) -> bool
-    requires { ⌜ settingsRefusal settings ≡ 0 ⌝ }
-    ensures { λ r. ⌜ r ≡ (residues settings (now (key .entry)) && residueElement settings commitment && residues settings (now (rounds .entry))) ⌝ }
-{
-    if !tests::all_below(settings.modulus, key) {
-        return false;
-    }
-    if !tests::element_below(settings.modulus, settings.degree, commitment) {
-        return false;
-    }
-    tests::all_below(settings.modulus, rounds)
 }
 
 pub fn check(
@@ -51,7 +37,7 @@ pub fn check(
     if !check_sized(settings, key, rounds, challenges) {
         return 7;
     }
-    if !check_residues(settings, commitment, key, rounds) {
+    if !refusals::all_residues(settings, commitment, key, rounds) {
         return 8;
     }
     if !tests::all_below(2 * settings.degree, challenges) {

@@ -14,7 +14,7 @@ use Rattle.extraction.specs.Bounds.{Within, Factors}
 use Rattle.extraction.specs.Steps.{element}
 use Rattle.extraction.specs.Vectors.{spliced, scaled}
 use Rattle.arithmetic.proofs.Fill.{filled, filled-ext}
-use Rattle.extraction.proofs.Values.{held}
+use Rattle.extraction.proofs.Values.{held, element-length}
 use Rattle.relaxed.proofs.Products.{product-ext}
 use Rattle.arithmetic.proofs.Folds.{row-inside}
 use Rattle.extraction.proofs.Parts.{part-length, part-entry, part-within, part-signed}
@@ -88,6 +88,12 @@ multiply-requires c κs =
       factors (a .d) (a .n) (a .m .now) (a .v .now) (g .pre .3) (g .pre .0) (g .pre .2) (l .i) (omega arith) (l .v) (l .inv .1) (l .inv .2),
     )
 
+product-long : (c : tie.After-p Inv-loop μ-loop) → length (c .before .multiply .result) ≡ 64
+product-long c = ap length (c .before .multiply .ensures) ∙ element-length _ _ (c .before .before .before .before .before .before .pre .1)
+
+slice-aggregate-store : tie.Need-slice-aggregate-store Inv-loop μ-loop
+slice-aggregate-store c = sym (product-long c)
+
 mul-store : tie.Need-mul-store Inv-loop μ-loop
 mul-store c = record { fits = omega (arith, here (c .before .before .before .before)) }
 
@@ -103,7 +109,7 @@ part-store-end c = search needs
 store-requires : tie.Need-store-requires Inv-loop μ-loop
 store-requires c κs =
     let g = c .before .before .before .before .before .before .before in let l = c .before .before .before .before .before .before .loop in let a = g .args in
-    (g .pre .1, rest-long (a .d) (a .n) (a .m .now) (a .v .now) (g .pre .3) (g .pre .0) (g .pre .2) (l .i) (omega arith) (l .v) (l .inv .1) (l .inv .2))
+    (omega (arith, g .pre .1, product-long (c .before)), rest-long (a .d) (a .n) (a .m .now) (a .v .now) (g .pre .3) (g .pre .0) (g .pre .2) (l .i) (omega arith) (l .v) (l .inv .1) (l .inv .2))
 
 add-i : tie.Need-add-i Inv-loop μ-loop
 add-i c = search needs
@@ -137,6 +143,7 @@ scale-spec =
     part-multiply-start
     part-multiply-end
     multiply-requires
+    slice-aggregate-store
     mul-store
     sub-store
     part-store-start

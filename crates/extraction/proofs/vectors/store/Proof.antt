@@ -10,14 +10,12 @@ use mir.Syntax.{w64}
 use Rattle.arithmetic.proofs.Magnitude.{through-bits}
 use Rattle.extraction.proofs.vectors.store.Statement.{statement}
 use Rattle.extraction.proofs.vectors.store.Tie as tie
-use Rattle.extraction.proofs.vectors.store.Reads as reads
-use Rattle.extraction.proofs.vectors.store.Lts as lts
 
 abbrev Inv-loop : tie.InvT-loop
-Inv-loop d a out₀ k₀ out k = (k ≤ d) × (out ≡ filled (signed a) k out₀) × (length out ≡ length out₀)
+Inv-loop n a out₀ k₀ out k = (k ≤ n) × (out ≡ filled (signed a) k out₀) × (length out ≡ length out₀)
 
 abbrev μ-loop : tie.MeasureT-loop
-μ-loop d a out₀ k₀ out k = d - k
+μ-loop n a out₀ k₀ out k = n - k
 
 loop-holds : tie.Need-loop-holds Inv-loop μ-loop
 loop-holds c = (omega arith, filled-none _ _, refl)
@@ -25,11 +23,11 @@ loop-holds c = (omega arith, filled-none _ _, refl)
 mul-out : tie.Need-mul-out Inv-loop μ-loop
 mul-out c = search needs
 
-element-copy-out-out : tie.Need-element-copy-out-out Inv-loop μ-loop
-element-copy-out-out c = search needs
+shared-slice-copy-out-out : tie.Need-shared-slice-copy-out-out Inv-loop μ-loop
+shared-slice-copy-out-out c = search needs
 
-mul-t10 : tie.Need-mul-t10 Inv-loop μ-loop
-mul-t10 c = search needs
+mul-t9 : tie.Need-mul-t9 Inv-loop μ-loop
+mul-t9 c = search needs
 
 slice-set-from-out : tie.Need-slice-set-from-out Inv-loop μ-loop
 slice-set-from-out c = search needs
@@ -54,4 +52,4 @@ returns c = filled-end _ _ (c .before .loop .inv .1) (omega arith)
 
 pub store-spec : {M : Type 1} → statement M
 store-spec =
-    tie.close (tie.spec Inv-loop μ-loop loop-holds mul-out element-copy-out-out mul-t10 slice-set-from-out add-k loop-less loop-again same-length returns)
+    tie.close (tie.spec Inv-loop μ-loop loop-holds mul-out shared-slice-copy-out-out mul-t9 slice-set-from-out add-k loop-less loop-again same-length returns)

@@ -20,8 +20,11 @@ lengths : (c : tie.Else2) → let a = c .before .before .before .before .before 
     (sized (cells (a .settings)) (a .key .now) && sized (3 * a .settings .depth * a .settings .degree) (a .rounds .now) && sized (a .settings .depth) (a .challenges .now)) ≡ true
 lengths c = sym (c .before .check-sized .ensures) ∙ not-false _ (c .if2 .left)
 
+residues-are : (c : tie.After-all-residues) → let a = c .before .before .before .before .before .before .before .before .args in c .all-residues .result ≡ (residues (a .settings) (a .key .now) && residueElement (a .settings) (a .commitment) && residues (a .settings) (a .rounds .now))
+residues-are c = let S = c .before .before .before .before .before .before .before .before .args .settings in c .all-residues .ensures (degree-most S (settings-valid S (allowed (c .before .before .before))))
+
 numbers : (c : tie.Else3) → let a = c .before .before .before .before .before .before .before .before .before .args in (residues (a .settings) (a .key .now) && residueElement (a .settings) (a .commitment) && residues (a .settings) (a .rounds .now)) ≡ true
-numbers c = sym (c .before .check-residues .ensures) ∙ not-false _ (c .if3 .left)
+numbers c = sym (residues-are (c .before)) ∙ not-false _ (c .if3 .left)
 
 settings-refusal-requires : tie.Need-settings-refusal-requires
 settings-refusal-requires c κs = search needs
@@ -37,12 +40,12 @@ returns-2 : tie.Need-returns-2
 unfolding checkRefusal
 returns-2 c = sym (first-passes _ _ (allowed (c .before .before)) ∙ first-fails 6 _ _ (sym (c .before .check-sized .ensures) ∙ not-true _ (c .if2 .taken)))
 
-check-residues-requires : tie.Need-check-residues-requires
-check-residues-requires c κs = allowed (c .before .before)
+all-residues-requires : tie.Need-all-residues-requires
+all-residues-requires c κs = search needs
 
 returns-3 : tie.Need-returns-3
 unfolding checkRefusal
-returns-3 c = sym (first-passes _ _ (allowed (c .before .before .before .before)) ∙ first-holds 7 _ _ (lengths (c .before .before)) ∙ first-fails 7 _ _ (sym (c .before .check-residues .ensures) ∙ not-true _ (c .if3 .taken)))
+returns-3 c = sym (first-passes _ _ (allowed (c .before .before .before .before)) ∙ first-holds 7 _ _ (lengths (c .before .before)) ∙ first-fails 7 _ _ (sym (residues-are (c .before)) ∙ not-true _ (c .if3 .taken)))
 
 mul-all-below : tie.Need-mul-all-below
 mul-all-below c = let s = c .before .before .before .before .before .before .before .before .before .before in omega (arith, degree-most (s .args .settings) (settings-valid (s .args .settings) (allowed (c .before .before .before .before .before))))
@@ -66,7 +69,7 @@ check-spec =
     returns
     check-sized-requires
     returns-2
-    check-residues-requires
+    all-residues-requires
     returns-3
     mul-all-below
     all-below-requires

@@ -1,0 +1,116 @@
+use mathlib.Core.Path.{_≡_, sym, ap, _∙_}
+use mathlib.Core.List.{List, _++_}
+use Prim.Native.Nat.{ℕ, _*_, _-_, _≤_}
+use native.Mathlib.Omega.{arith}
+use lib.ListN.{length, take, drop}
+use lib.Seq.{length-take-le}
+use borrow.Rule.Slice.PartMut.{putMid, mid-len}
+use Rattle.protocol.proofs.Inputs.{settings-valid}
+use Rattle.sizes.proofs.Limits.{cells-most}
+use Rattle.claims.proofs.Places.{at-root}
+use Rattle.trees.proofs.Root.{root-room, root-key, root-tests}
+use borrow.Author.Needs.{needs}
+use Rattle.trees.proofs.nodes.root_accepted.Statement.{statement}
+use Rattle.trees.proofs.nodes.root_accepted.Tie as tie
+
+few : (c : tie.Start) → length (c .args .key .now) ≤ 16384
+few c = omega (arith, cells-most (c .args .settings) (settings-valid (c .args .settings) (c .pre .0)), c .pre .1)
+
+-- the workspace with the key in it
+module _ (c : tie.After-ws2) where
+  abbrev key : List ℕ
+  key = c .before .before .before .before .before .before .before .before .args .key .now
+
+  abbrev n : ℕ
+  n = length key
+
+  abbrev zeros : List ℕ
+  zeros = c .before .before .before .room .result
+
+  abbrev part : List ℕ
+  part = take (32768 - n) (drop n zeros)
+
+  abbrev copied : List ℕ
+  copied = c .before .copy .last .1 .0
+
+  abbrev ws : List ℕ
+  ws = putMid n (32768 - n) zeros copied
+
+  inside : n ≤ length zeros
+  inside = omega (arith, few (c .before .before .before .before .before .before .before .before))
+
+  is-copied : copied ≡ key ++ drop n part
+  is-copied = c .before .copy .ensures (omega (arith, few (c .before .before .before .before .before .before .before .before), mid-len n 32768 zeros (omega arith)))
+
+  room-enough : 2 * n ≤ length ws
+  room-enough = root-room n (32768 - n) zeros copied key (drop n part) inside (λ _. n) is-copied
+
+  lent : length (take (2 * n) ws) ≡ 2 * n
+  lent = length-take-le (2 * n) ws room-enough
+
+  has-key : drop n (take (2 * n) ws) ≡ key
+  has-key = root-key n (32768 - n) zeros copied key (drop n part) inside (λ _. n) is-copied
+
+mul-all : tie.Need-mul-all
+mul-all c = search needs
+
+nodes-requires : tie.Need-nodes-requires
+nodes-requires c κs = search needs
+
+cast-first : tie.Need-cast-first
+cast-first c = search needs
+
+room-requires : tie.Need-room-requires
+room-requires c κs = search needs
+
+mul-ws : tie.Need-mul-ws
+mul-ws c = search needs
+
+sub-copy : tie.Need-sub-copy
+sub-copy c = omega (arith, few (c .before .before .before .before .before))
+
+part-ws-start : tie.Need-part-ws-start
+part-ws-start c = omega (arith, few (c .before .before .before .before .before))
+
+part-ws-end : tie.Need-part-ws-end
+part-ws-end c = search needs
+
+copy-requires : tie.Need-copy-requires
+copy-requires c κs = search needs
+
+array-borrow-prefix-ws : tie.Need-array-borrow-prefix-ws
+array-borrow-prefix-ws c = room-enough c
+
+slice-aggregate-subtree-accepted : tie.Need-slice-aggregate-subtree-accepted
+slice-aggregate-subtree-accepted c = sym (lent (c .before))
+
+subtree-accepted-requires : tie.Need-subtree-accepted-requires
+subtree-accepted-requires c κs =
+    let s = c .before .before .before .before .before .before .before .before .before in
+    let S = s .args .settings in
+    (s .pre .0, at-root S _ _ (c .before .before .before .before .before .nodes .ensures .0 (s .pre .0)) (lent (c .before) ∙ ap (λ x. 2 * x) (s .pre .1)))
+
+returns : tie.Need-returns
+returns c =
+    let s = c .before .before .before .before .before .before .before .before .before .before .before in
+    let a = s .args in
+    c .before .subtree-accepted .ensures
+    ∙ root-tests (a .settings) (a .rounds .now) (a .challenges .now) (a .leaves .now) (a .commitment) (a .key .now) (take (2 * length (a .key .now)) (ws (c .before .before .before))) (length (a .key .now)) (s .pre .1) (has-key (c .before .before .before))
+
+pub root-accepted-spec : {M : Type 1} → statement M
+root-accepted-spec =
+    tie.close
+    (tie.spec
+    mul-all
+    nodes-requires
+    cast-first
+    room-requires
+    mul-ws
+    sub-copy
+    part-ws-start
+    part-ws-end
+    copy-requires
+    array-borrow-prefix-ws
+    slice-aggregate-subtree-accepted
+    subtree-accepted-requires
+    returns)

@@ -1,0 +1,31 @@
+-- The check of a tree node by node, as the code goes through it.
+--
+--   Folding S h space          the key of a node that is h steps above the leaves can be folded in a list of `space` numbers
+--   leafMet S finals j ..      is the end met at leaf j, with its claim and the folded key
+--   childAccepted S .. h k j   is every path accepted that goes from node k, h steps above the leaves and with this key, to its child j
+use mathlib.Core.Path.{_≡_}
+use mathlib.Core.Bool.{Bool, _&&_}
+use mathlib.Core.List.{List}
+use Prim.Native.Nat.{ℕ, suc, _*_, _-_, _^_, _<_, _≤_}
+use lib.IntN.{ℤ}
+use Rattle.protocol.specs.declared.Settings.{Settings}
+use Rattle.protocol.specs.Element.{signed}
+use Rattle.protocol.specs.Settings.{settingsRefusal}
+use Rattle.protocol.specs.Opening.{foldKey}
+use Rattle.protocol.specs.Transcript.{finalBounded}
+use Rattle.protocol.specs.Tree.{child, challenge, leaf}
+use Rattle.claims.specs.TreeCheck.{claimTo, foldedEndHolds, treeAccepted}
+
+pub record Folding (S : Settings) (h space : ℕ) : Type 0 where
+  pub allowed : settingsRefusal S ≡ 0
+  pub up : 0 < h
+  pub height : h ≤ S .depth
+  pub space-is : space ≡ 2 * (2 ^ h * S .degree)
+
+module _ (S : Settings) where
+  unfoldable pub leafMet : List ℤ → ℕ → List ℕ → List ℕ → Bool
+  leafMet finals j claim folded = finalBounded S (signed (leaf S finals j)) && foldedEndHolds S folded claim (signed (leaf S finals j))
+
+  module _ (rounds E : List ℕ) (finals : List ℤ) (h k : ℕ) (key : List ℕ) where
+    unfoldable pub childAccepted : ℕ → Bool
+    childAccepted j = treeAccepted S rounds E finals (h - 1) (child k j) (suc (S .depth - h)) (claimTo S rounds E k j) (foldKey S (S .depth - h) (challenge E k j) key)

@@ -1,0 +1,32 @@
+// The check of every path of a tree (refusal 13).
+mod nodes;
+
+use protocol::Settings;
+ghost use mathlib.Core.Path.{_≡_};
+ghost use Prim.Native.Nat.{_*_};
+ghost use lib.ListN.{length};
+ghost use Rattle.protocol.specs.Settings.{settingsRefusal, cells};
+ghost use Rattle.protocol.specs.Tree as tree;
+ghost use Rattle.protocol.specs.Calls.{everyPath};
+
+// Is every path of a tree accepted. The key and the tree's tables stay as they are.
+pub fn every_path_accepted(
+    settings: Settings,
+    commitment: [u32; 64],
+    key: &[u32],
+    rounds: &[u32],
+    challenges: &[u32],
+    leaves: &[i32],
+) -> bool
+    ensures { λ r. ⌜ (settingsRefusal settings ≡ 0 → length (now (key .entry)) ≡ cells settings → length (now (rounds .entry)) ≡ 3 * tree.nodes settings * settings .degree
+        → length (now (challenges .entry)) ≡ 3 * tree.nodes settings → length (now (leaves .entry)) ≡ tree.leaves settings * settings .degree
+        → r ≡ everyPath settings commitment (now (key .entry)) (now (rounds .entry)) (now (challenges .entry)) (now (leaves .entry))) ⌝ }
+{
+    if arithmetic::tests::settings_refusal(settings) != 0 {
+        return false;
+    }
+    if key.len() != sizes::cells(settings) {
+        return false;
+    }
+    nodes::root_accepted(settings, commitment, key, rounds, challenges, leaves)
+}

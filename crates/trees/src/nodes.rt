@@ -1,0 +1,172 @@
+// The check of a tree node by node. Each node hands its next claim and its folded key to its children, so that no fold is done twice.
+// All of them share one workspace: a node's key stands in the second half of its part, and its children work in the first half.
+use arithmetic::elements;
+use arithmetic::tables;
+use protocol::Settings;
+ghost use mathlib.Core.Path.{_≡_};
+ghost use Prim.Native.Nat.{_+_, _*_, _-_, _^_, _<_, _≤_};
+ghost use lib.ListN.{length, drop};
+ghost use Rattle.protocol.specs.Element.{padded};
+ghost use Rattle.protocol.specs.Settings.{settingsRefusal, cells};
+ghost use Rattle.protocol.specs.Tree as tree;
+ghost use Rattle.protocol.specs.Calls.{everyPath};
+ghost use Rattle.arithmetic.specs.Folds.{foldDown};
+ghost use Rattle.claims.specs.TreeCheck.{claimTo, nodeHolds, treeAccepted};
+ghost use Rattle.claims.proofs.Places.{AtNode};
+ghost use Rattle.trees.specs.Nodes.{Folding, leafMet, childAccepted};
+
+// Challenge j of node k.
+fn challenge(challenges: &[u32], k: u32, j: u32) -> u32
+    requires { ⌜ (k ≤ 3280) × (j < 3) ⌝ }
+    ensures { λ r. ⌜ r ≡ tree.challenge (now (challenges .entry)) k j ⌝ }
+{
+    elements::entry(challenges, (3 * k + j) as usize)
+}
+
+// Does the round of node k hold.
+fn node_holds(settings: Settings, k: u32, claim: [u32; 64], rounds: &[u32]) -> bool
+    requires { ⌜ (settingsRefusal settings ≡ 0) × (k ≤ 3280) ⌝ }
+    ensures { λ r. ⌜ r ≡ nodeHolds settings (now (rounds .entry)) k claim ⌝ }
+{
+    let c0 = elements::element_at(settings.degree, rounds, 3 * k);
+    let c2 = elements::element_at(settings.degree, rounds, 3 * k + 2);
+    equations::round_holds(settings, claim, c0, c2)
+}
+
+// The claim that node k hands to its child j.
+fn claim_to(settings: Settings, k: u32, j: u32, rounds: &[u32], challenges: &[u32]) -> [u32; 64]
+    requires { ⌜ (settingsRefusal settings ≡ 0) × (k ≤ 3280) × (j < 3) ⌝ }
+    ensures { λ r. ⌜ r ≡ padded (settings .degree) (claimTo settings (now (rounds .entry)) (now (challenges .entry)) k j) ⌝ }
+{
+    let e = challenge(challenges, k, j);
+    let c0 = elements::element_at(settings.degree, rounds, 3 * k);
+    let c1 = elements::element_at(settings.degree, rounds, 3 * k + 1);
+    let c2 = elements::element_at(settings.degree, rounds, 3 * k + 2);
+    equations::next_claim(settings, e, c0, c1, c2)
+}
+
+// Is the end met at leaf j, with the key folded down to it.
+fn leaf_accepted(
+    settings: Settings,
+    j: u32,
+    claim: [u32; 64],
+    leaves: &[i32],
+    folded: &[u32],
+) -> bool
+    requires { ⌜ settingsRefusal settings ≡ 0 ⌝ }
+    ensures { λ r. ⌜ r ≡ leafMet settings (now (leaves .entry)) j claim (now (folded .entry)) ⌝ }
+{
+    let f = elements::signed_element_at(settings.degree, leaves, j);
+    let g = elements::element_at(settings.degree, folded, 0);
+    equations::end_holds(settings, claim, f, g)
+}
+
+// Folds the key of a node that is h steps above the leaves by X^e, to where its child's key stands.
+fn fold_key(settings: Settings, h: u32, e: u32, ws: &mut [u32])
+    requires { ⌜ Folding settings h (length (now ws)) ⌝ }
+    ensures { λ _. ⌜ now (ws .exit) ≡ foldDown (settings .modulus) (settings .degree) (2 ^ (h - 1)) e (2 ^ h * settings .degree) (2 ^ (h - 1) * settings .degree) (now (ws .entry)) ⌝ }
+{
+    let d = settings.degree;
+    let n = sizes::half_left(settings, settings.depth - h);
+    let to = n * d;
+    tables::fold_down(settings.modulus, d, n, e, 2 * to, to, ws);
+}
+
+// Is every path accepted that goes from node k, h steps above the leaves, to its child j. The node's key stays.
+fn child_accepted(
+    settings: Settings,
+    h: u32,
+    k: u32,
+    j: u32,
+    first: u32,
+    rounds: &[u32],
+    challenges: &[u32],
+    leaves: &[i32],
+    ws: &mut [u32],
+) -> bool
+    requires { ⌜ (settingsRefusal settings ≡ 0) × (0 < h) × (j < 3) ⌝ }
+    requires { ⌜ AtNode settings h k first (length (now ws)) ⌝ }
+    ensures { λ r. ⌜ (r ≡ childAccepted settings (now (rounds .entry)) (now (challenges .entry)) (now (leaves .entry)) h k (drop (2 ^ h * settings .degree) (now (ws .entry))) j) × (drop (2 ^ h * settings .degree) (now (ws .exit)) ≡ drop (2 ^ h * settings .degree) (now (ws .entry))) ⌝ }
+{
+    let claim = claim_to(settings, k, j, rounds, challenges);
+    fold_key(settings, h, challenge(challenges, k, j), ws);
+    let half = ws.len() / 2;
+    subtree_accepted(
+        settings,
+        h - 1,
+        3 * k + 1 + j,
+        first,
+        claim,
+        rounds,
+        challenges,
+        leaves,
+        &mut ws[..half],
+    )
+}
+
+// Is every path accepted from node k on, which is h steps above the leaves, with its claim. Its key is the second half of ws; what ws then holds is left free.
+fn subtree_accepted(
+    settings: Settings,
+    h: u32,
+    k: u32,
+    first: u32,
+    claim: [u32; 64],
+    rounds: &[u32],
+    challenges: &[u32],
+    leaves: &[i32],
+    ws: &mut [u32],
+) -> bool
+    requires { ⌜ settingsRefusal settings ≡ 0 ⌝ }
+    requires { ⌜ AtNode settings h k first (length (now ws)) ⌝ }
+    ensures { λ r. ⌜ r ≡ treeAccepted settings (now (rounds .entry)) (now (challenges .entry)) (now (leaves .entry)) h k (settings .depth - h) claim (drop (2 ^ h * settings .degree) (now (ws .entry))) ⌝ }
+{
+    if h == 0 {
+        let d = settings.degree as usize;
+        return leaf_accepted(settings, k - first, claim, leaves, &ws[d..]);
+    }
+    if !node_holds(settings, k, claim, rounds) {
+        return false;
+    }
+    if !child_accepted(settings, h, k, 0, first, rounds, challenges, leaves, ws) {
+        return false;
+    }
+    if !child_accepted(settings, h, k, 1, first, rounds, challenges, leaves, ws) {
+        return false;
+    }
+    child_accepted(settings, h, k, 2, first, rounds, challenges, leaves, ws)
+}
+
+// Room for the largest key, and as much again for all that it is folded to.
+fn room() -> [u32; 32768] {
+    [0u32; 32768]
+}
+
+// The root: its claim is the commitment and its key the unfolded one.
+pub(crate) fn root_accepted(
+    settings: Settings,
+    commitment: [u32; 64],
+    key: &[u32],
+    rounds: &[u32],
+    challenges: &[u32],
+    leaves: &[i32],
+) -> bool
+    requires { ⌜ (settingsRefusal settings ≡ 0) × (length (now key) ≡ cells settings) ⌝ }
+    ensures { λ r. ⌜ r ≡ everyPath settings commitment (now (key .entry)) (now (rounds .entry)) (now (challenges .entry)) (now (leaves .entry)) ⌝ }
+{
+    let n = key.len();
+    let all = 2 * n;
+    let first = sizes::nodes(settings) as u32;
+    let mut ws = room();
+    tables::copy(key, &mut ws[n..]);
+    subtree_accepted(
+        settings,
+        settings.depth,
+        0,
+        first,
+        commitment,
+        rounds,
+        challenges,
+        leaves,
+        &mut ws[..all],
+    )
+}
