@@ -7,3 +7,4 @@ pub mod Cells
 pub mod Follow
 pub mod Looks
 pub mod Wants
+pub mod Gathers
