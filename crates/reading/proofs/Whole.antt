@@ -1,6 +1,5 @@
 -- The whole reader: its refusals in two steps, and its tables among the values that were gathered.
 --
---   fits-lengths      lent tables have their lengths, by these lengths
 --   read-stops        a text that the first step refuses
 --   read-entries      one that it does not: refusals 8 to 10 decide
 --   tables-are        then the values are those of the tables, one table after the other
@@ -28,27 +27,12 @@ use Rattle.protocol.proofs.Refusals.{front-stops, front-passes}
 use Rattle.protocol.proofs.TableLaws.{Rising, Fit, parts, columns, read-fit}
 use Rattle.shapes.specs.declared.Lengths.{Lengths}
 use Rattle.shapes.specs.Parts.{partShape, lengthsOf, lengthsFit}
+use Rattle.shapes.proofs.Exactly.{lengths-fit}
 use Rattle.tables.specs.Stored.{columnsIn, inOrder, linesRefusal, First, Gathered}
 use Rattle.tables.proofs.Follow.{spots-same}
 use Rattle.tables.proofs.Looks.{first-only, loaded-refused}
 use Rattle.tables.proofs.Gathers.{behind-rise}
 use Rattle.reading.specs.Cut.{cut, total, tablesOf, six}
-
--- ---- refusal 7 of lent tables
-
-and-true : (b : Bool) → (b && true) ≡ b
-and-true true = refl
-and-true false = refl
-
-pub fits-lengths : (S : Settings) (P : Parts) (t : Tables) → fits S P t ≡ lengthsFit S P (lengthsOf t)
-unfolding fits blocks all zipWith blockFits block shapes contents sized lengthsFit lengthsOf partShape settingsShape shape shapeSize choose
-fits-lengths S P t = λ j.
-    eqb (length-map (t .key) pos j) (shapeSize (partShape S P 1))
-    && (eqb (length (t .message)) (shapeSize (partShape S P 2))
-    && (eqb (length-map (t .commitment) pos j) (shapeSize (partShape S P 3))
-    && (eqb (length-map (t .rounds) pos j) (shapeSize (partShape S P 4))
-    && (eqb (length-map (t .challenges) pos j) (shapeSize (partShape S P 5))
-    && and-true (eqb (length (t .last)) (shapeSize (partShape S P 6))) j))))
 
 -- ---- refusals
 
@@ -62,7 +46,7 @@ module _ (P : Parts) (text : List ℕ) (t : Tables) where
   -- the refusals of the first step stand before those of the second
   in-steps : readRefusal P text t ≡ first ((lookRefusal text ∷ unless 7 (inOrder P text && lengthsFit S P (lengthsOf t)) ∷ []) ++ (entriesRefusal S true (tablesIn ls) ∷ []))
   unfolding readRefusal textRefusal inOrder
-  in-steps = λ j. first (lookRefusal text ∷ unless 7 (inOrder P text && fits-lengths S P t j) ∷ entriesRefusal S true (tablesIn ls) ∷ [])
+  in-steps = λ j. first (lookRefusal text ∷ unless 7 (inOrder P text && sym (lengths-fit S P t) j) ∷ entriesRefusal S true (tablesIn ls) ∷ [])
 
   pub read-stops : (linesRefusal P (lengthsOf t) text ≡ 0 → ⊥) → readRefusal P text t ≡ linesRefusal P (lengthsOf t) text
   unfolding linesRefusal

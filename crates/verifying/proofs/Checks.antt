@@ -36,8 +36,8 @@ use Rattle.claims.proofs.Agreement.{Same}
 use Rattle.arithmetic.specs.Elements.{elementAt}
 use Rattle.arithmetic.proofs.Padding.{padded-at}
 use Rattle.sizes.proofs.Limits.{degree-least}
-use Rattle.tables.specs.Parts.{partShape, lengthsOf, lengthsFit}
-use Rattle.reading.proofs.Whole.{fits-lengths}
+use Rattle.shapes.specs.Parts.{partShape, lengthsOf, lengthsFit}
+use Rattle.shapes.proofs.Exactly.{lengths-fit}
 use Rattle.verifying.specs.Given.{Given}
 use Rattle.verifying.proofs.Alike.{accepted-alike}
 
@@ -62,7 +62,7 @@ module _ (S : Settings) (t : Tables) (g : Given S t) where
   pub long : Long S t
   unfolding lengthsFit lengthsOf partShape shapes shape shapeSize choose verifyReads cells
   long =
-      let (k₁, r₁) = and-split (sym (fits-lengths S verifyReads t) ∙ g .fitting) in
+      let (k₁, r₁) = and-split (lengths-fit S verifyReads t ∙ g .fitting) in
       let (k₂, r₂) = and-split r₁ in
       let (k₃, r₃) = and-split r₂ in
       let (k₄, r₄) = and-split r₃ in

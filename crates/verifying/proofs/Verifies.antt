@@ -23,8 +23,8 @@ use Rattle.protocol.specs.Promises.{Read}
 use Rattle.protocol.specs.Programs.{verifyReads, tablesAccepted, verifyRefusal, verifyAnswer}
 use Rattle.protocol.proofs.Tests.{and-intro, first-zero, granted-zero, granted-refused}
 use Rattle.protocol.proofs.Refusals.{first-stops}
-use Rattle.tables.specs.Parts.{partShape, lengthsOf, lengthsFit}
-use Rattle.reading.proofs.Whole.{fits-lengths}
+use Rattle.shapes.specs.Parts.{partShape, lengthsOf, lengthsFit}
+use Rattle.shapes.proofs.Exactly.{lengths-fit}
 use Rattle.verifying.specs.Given.{Given}
 use Rattle.verifying.proofs.Checks.{Long}
 
@@ -95,7 +95,7 @@ module _ (text : List ℕ) where
       pub verify-given : lengthsOf t′ ≡ lengthsOf t → Given (r .settings) t′
       verify-given l = record {
         settings = ap settingsRefusal settings-are ∙ own-given .0;
-        fitting = ap (λ x. fits x verifyReads t′) settings-are ∙ fits-lengths S verifyReads t′ ∙ ap (lengthsFit S verifyReads) l ∙ sym (fits-lengths S verifyReads t) ∙ fit;
+        fitting = ap (λ x. fits x verifyReads t′) settings-are ∙ sym (lengths-fit S verifyReads t′) ∙ ap (lengthsFit S verifyReads) l ∙ lengths-fit S verifyReads t ∙ fit;
         entries = (λ j. entriesRefusal (settings-are j) true (tables-are j)) ∙ own-given .1;
       }
 
@@ -106,7 +106,7 @@ module _ (text : List ℕ) where
 pub lent-fitting : (S : Settings) (t : Tables) → Long S t → fits S verifyReads t ≡ true
 unfolding lengthsFit lengthsOf partShape shapes shape shapeSize choose verifyReads cells
 lent-fitting S t l =
-    fits-lengths S verifyReads t
+    sym (lengths-fit S verifyReads t)
     ∙ and-intro (eq-eqb _ _ (l .key))
     (and-intro (eq-eqb _ _ (l .message ∙ sym (Nat.zero-mul (S .degree))))
     (and-intro (eq-eqb _ _ (l .commitment ∙ sym (Nat.one-mul (S .degree))))
