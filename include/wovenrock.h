@@ -40,6 +40,14 @@
  *
  * (1, long, and 2, text, are refusals of texts.) A refused call writes nothing to the tables that it is lent; an element that it would have
  * written is 0 at all 64 places, and a verdict is 0. With 100 nothing at all is written.
+ *
+ * A session record has 78 places in a slice of its own; numbers behind them stay:
+ *
+ *    0 to 3    degree, depth, modulus, bound
+ *         4    rounds done
+ *         5    closed: 0 says open, any other number closed; a function writes 0 or 1
+ *    6 to 13   the eight challenges, the unused ones 0
+ *   14 to 77   the claim, 64 places
  */
 #ifndef WOVENROCK_H
 #define WOVENROCK_H
@@ -56,6 +64,9 @@ extern "C" {
 
 /* Places of a round polynomial. */
 #define WOVENROCK_POLYNOMIAL 192
+
+/* Places of a session record. */
+#define WOVENROCK_SESSION 78
 
 /* What is returned where a slice for an element or a record is too short. */
 #define WOVENROCK_SHORT 100
@@ -100,6 +111,40 @@ uint32_t wovenrock_end(uint32_t degree, uint32_t depth, uint32_t modulus, uint32
                        const int32_t *message, size_t message_length,
                        int32_t *last, size_t last_length);
 
+/* The whole opening: the prover and the verifier take turns in L rounds by the given challenges, the claim starting at the commitment. The commitment is
+ * written to `commitment` and the final element to `last` (64 places each), the round elements to `rounds`, and both tables stay as L folds leave
+ * them. `*verdict` becomes 2 or 3. Tables: key n*d, message n*d, challenges L, rounds 3*L*d (c_j of round i is element 3*(i-1)+j).
+ * Refusals 3 to 10. */
+uint32_t wovenrock_open(uint32_t degree, uint32_t depth, uint32_t modulus, uint32_t bound,
+                        uint32_t *key, size_t key_length,
+                        int32_t *message, size_t message_length,
+                        const uint32_t *challenges, size_t challenges_length,
+                        uint32_t *rounds, size_t rounds_length,
+                        uint32_t *commitment, size_t commitment_length,
+                        int32_t *last, size_t last_length,
+                        uint32_t *verdict);
+
+/* A verifier's session starts at a commitment: its record is written to `session` (78 places), whatever was there. Where the start is refused, that
+ * is a closed record of zeros. Refusals 3 to 6, 8. */
+uint32_t wovenrock_session_start(uint32_t degree, uint32_t depth, uint32_t modulus, uint32_t bound,
+                                 const uint32_t *commitment, size_t commitment_length,
+                                 uint32_t *session, size_t session_length);
+
+/* A session's round, with the round polynomial (192 places: c0 at 0, c1 at 64, c2 at 128; the missing ones count as 0) and the challenge X^exponent. It
+ * holds where 2*(c0 + c2) is the claim: `*verdict` becomes 1, and the record counts the round and stores the challenge and the next claim. Else `*verdict`
+ * becomes 3, and the record is closed. A refused round leaves the record as it was. Refusals 3 to 6, 8, 10 (the record's eight challenges too), 11. */
+uint32_t wovenrock_session_round(const uint32_t *polynomial, size_t polynomial_length,
+                                 uint32_t exponent,
+                                 uint32_t *session, size_t session_length,
+                                 uint32_t *verdict);
+
+/* A session's end, with the final element and the unfolded key (n*d): `*verdict` becomes 2 or 3, and the record is closed. A refused end leaves the
+ * record as it was. Refusals 3 to 8, 10 (the record's eight challenges), 11. */
+uint32_t wovenrock_session_end(const int32_t *last, size_t last_length,
+                               const uint32_t *key, size_t key_length,
+                               uint32_t *session, size_t session_length,
+                               uint32_t *verdict);
+
 /* The check of a transcript: is it accepted, with the claim started at the commitment? `*verdict` becomes 2 or 3.
  * Tables: key n*d (unfolded), rounds 3*L*d (c_j of round i is element 3*(i-1)+j), challenges L. Refusals 3 to 8, 10. */
 uint32_t wovenrock_check(uint32_t degree, uint32_t depth, uint32_t modulus, uint32_t bound,
@@ -118,6 +163,18 @@ uint32_t wovenrock_judge(uint32_t degree, uint32_t depth, uint32_t modulus, uint
                          const uint32_t *key, size_t key_length,
                          const int64_t *w, size_t w_length,
                          uint32_t *yes);
+
+/* The extractor: from a full tree of accepted transcripts a vector w that opens 4^L times the commitment, in the judge's sense with slack 4^L.
+ * The root is node 0, and the children of node k are 3k+1, 3k+2, 3k+3. There are N = (3^L - 1)/2 branching nodes, and number N + j is leaf j.
+ * Tables: key n*d, rounds 3*N*d (c_j of node k is element 3k+j), challenges 3*N (that to child 3k+1+j is number 3k+j), leaves 3^L*d (final elements),
+ * w n*d, which is written where nothing is refused. Refusals 3 to 8, 10, 12, 13, 14. */
+uint32_t wovenrock_extract(uint32_t degree, uint32_t depth, uint32_t modulus, uint32_t bound,
+                           const uint32_t *commitment, size_t commitment_length,
+                           const uint32_t *key, size_t key_length,
+                           const uint32_t *rounds, size_t rounds_length,
+                           const uint32_t *challenges, size_t challenges_length,
+                           const int32_t *leaves, size_t leaves_length,
+                           int64_t *w, size_t w_length);
 
 #ifdef __cplusplus
 }

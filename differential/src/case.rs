@@ -80,6 +80,9 @@ pub trait Case: Clone {
     /// The call's name.
     const NAME: &'static str;
 
+    /// The numbers that it can answer, each of which is wanted often.
+    const NUMBERS: &'static [u32] = &[];
+
     /// Draws a valid or a damaged input.
     fn draw(random: &mut Random, limits: &Limits) -> Self;
 

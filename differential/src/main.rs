@@ -7,7 +7,10 @@
 //! the number of drawn inputs. It leaves with 1 where any answer or any lent
 //! table differs, and prints the smallest such case that it finds.
 
-use differential::calls::{Check, Commit, End, Fold, Judge, ProverRound, SettingsCase};
+use differential::calls::{
+    Check, Commit, End, Extract, Fold, Judge, Large, Largest, Moves, Opening,
+};
+use differential::calls::{ProverRound, SessionEnd, SessionRound, Sessions, SettingsCase, Start};
 use differential::case::{self, Case, Difference};
 use differential::report::Report;
 use reference::draw::Limits;
@@ -21,7 +24,8 @@ struct Run {
 }
 
 impl Run {
-    /// Drawn inputs of one call: mostly small ones, and some large ones.
+    /// Drawn inputs of one call: mostly small ones, and some large ones. Every
+    /// number that it can answer must come up.
     fn call<C: Case>(&mut self, small: usize, large: usize) -> Result<(), Difference> {
         let sizes = [
             (small / 2, Limits::new(64, 300)),
@@ -35,6 +39,11 @@ impl Run {
                 self.report.count(C::NAME, &outcome);
             }
         }
+        let rare = self.report.rare(C::NAME, C::NUMBERS);
+        if !rare.is_empty() {
+            let text = format!("{}: the numbers {rare:?} were answered too rarely", C::NAME);
+            return Err(Difference { text });
+        }
         Ok(())
     }
 
@@ -45,7 +54,16 @@ impl Run {
         self.call::<Fold>(10_000, 200)?;
         self.call::<End>(10_000, 200)?;
         self.call::<Check>(6_000, 60)?;
-        self.call::<Judge>(10_000, 100)
+        self.call::<Judge>(10_000, 100)?;
+        self.call::<Start>(6_000, 100)?;
+        self.call::<SessionRound>(8_000, 100)?;
+        self.call::<SessionEnd>(8_000, 100)?;
+        self.call::<Sessions>(3_000, 20)?;
+        self.call::<Opening>(6_000, 40)?;
+        self.call::<Moves>(2_000, 10)?;
+        self.call::<Extract>(4_000, 120)?;
+        self.call::<Large>(0, 18)?;
+        self.call::<Largest>(0, 6)
     }
 }
 

@@ -22,6 +22,15 @@ impl Report {
         }
     }
 
+    /// The numbers that a call can answer and has answered too rarely.
+    pub fn rare(&self, call: &'static str, numbers: &[u32]) -> Vec<u32> {
+        const LEAST: usize = 20;
+        let count = |number: u32| self.numbers.get(&(call, number)).copied().unwrap_or(0);
+        let mut rare = numbers.to_vec();
+        rare.retain(|&number| count(number) < LEAST);
+        rare
+    }
+
     /// All cases.
     pub fn total(&self) -> usize {
         self.numbers.values().sum()
@@ -39,7 +48,7 @@ impl Report {
                 .iter()
                 .map(|(number, count)| format!("{number}:{count}"))
                 .collect();
-            println!("{call:<14}{cases:>8} cases   {}", words.join(" "));
+            println!("{call:<16}{cases:>8} cases   {}", words.join(" "));
             self.print_words(call);
         }
     }
@@ -52,7 +61,7 @@ impl Report {
             .map(|(key, count)| format!("{} {count}", key.1))
             .collect();
         if !words.is_empty() {
-            println!("{:<14}{:>14}   not refused: {}", "", "", words.join(", "));
+            println!("{:<16}{:>14}   not refused: {}", "", "", words.join(", "));
         }
     }
 }

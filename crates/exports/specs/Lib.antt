@@ -1,3 +1,2 @@
-pub mod Slices
-pub mod Records
+pub mod Storing
 pub mod Promises

@@ -2,17 +2,19 @@
 //
 // Every function first answers 100 where a slice that it is to write an element or a record to is too short, and then touches nothing. Otherwise it
 // answers the number of the refusal, 0 where nothing is refused.
-mod records;
-mod slices;
+mod storing;
 
 use arithmetic::tests;
 use protocol::Settings;
-use protocol::Verdict;
 ghost use mathlib.Core.Path.{_≡_};
 ghost use Rattle.protocol.specs.Settings.{settingsRefusal};
-ghost use Rattle.protocol.specs.Promises.{Folded};
-ghost use Rattle.exports.specs.Slices.{given, verdictNumber};
-ghost use Rattle.exports.specs.Promises.{CommitStored, RoundStored, EndStored, CheckStored, JudgeStored};
+ghost use Rattle.protocol.specs.Session as moves;
+ghost use Rattle.protocol.specs.Promises.{Folded, Extracted};
+ghost use lib.IntN.{pos};
+ghost use Rattle.slices.specs.Slices.{given, placed, placedPolynomial};
+ghost use Rattle.sessions.specs.Records.{sessionOf};
+ghost use Rattle.sessions.specs.Promises.{StartStored, MoveStored};
+ghost use Rattle.exports.specs.Promises.{CommitStored, RoundStored, EndStored, OpeningStored, CheckStored, JudgeStored};
 
 // Refusals 3 to 6.
 #[no_mangle]
@@ -52,7 +54,7 @@ pub extern "C" fn wovenrock_commit(
     };
     let answer = prover::commit(s, key, message);
     let element = answer.commitment;
-    slices::store_residues(element, commitment);
+    storing::store_residues(element, commitment);
     answer.number
 }
 
@@ -81,7 +83,7 @@ pub extern "C" fn wovenrock_round(
     };
     let answer = prover::round(s, done, key, message);
     let elements = prover::elements_of(answer);
-    slices::store_polynomial(elements, polynomial);
+    storing::store_polynomial(elements, polynomial);
     answer.number
 }
 
@@ -132,20 +134,94 @@ pub extern "C" fn wovenrock_end(
     };
     let answer = prover::end(s, done, message);
     let element = answer.last;
-    slices::store_wholes(element, last);
+    storing::store_wholes(element, last);
     answer.number
 }
 
-// A verdict as a number.
-fn verdict_number(v: Verdict) -> u32
-    ensures { λ r. ⌜ r ≡ verdictNumber v ⌝ }
+// The whole opening: commitment, round elements, final element and verdict.
+#[no_mangle]
+pub extern "C" fn wovenrock_open(
+    degree: u32,
+    depth: u32,
+    modulus: u32,
+    bound: u32,
+    key: &mut [u32],
+    message: &mut [i32],
+    challenges: &[u32],
+    rounds: &mut [u32],
+    commitment: &mut [u32],
+    last: &mut [i32],
+    verdict: &mut u32,
+) -> u32
+    ensures { λ r. ⌜ OpeningStored (given degree depth modulus bound) (now (key .entry)) (now (message .entry)) (now (challenges .entry)) (now (rounds .entry)) (now (commitment .entry)) (now (last .entry)) (now (verdict .entry)) r (now (key .exit)) (now (message .exit)) (now (rounds .exit)) (now (commitment .exit)) (now (last .exit)) (now (verdict .exit)) ⌝ }
 {
-    match v {
-        Verdict::Silent => 0,
-        Verdict::Holds => 1,
-        Verdict::Accepted => 2,
-        Verdict::Rejected => 3,
+    if commitment.len() < 64 {
+        return 100;
     }
+    if last.len() < 64 {
+        return 100;
+    }
+    let s = Settings {
+        degree: degree,
+        depth: depth,
+        modulus: modulus,
+        bound: bound,
+    };
+    let answer = opening::open(s, key, message, challenges, rounds);
+    let first = answer.commitment;
+    storing::store_residues(first, commitment);
+    let end = answer.last;
+    storing::store_wholes(end, last);
+    let said = answer.verdict;
+    *verdict = slices::verdict_number(said);
+    answer.number
+}
+
+// A session's start at a commitment; the record goes to the slice `session`.
+#[no_mangle]
+pub extern "C" fn wovenrock_session_start(
+    degree: u32,
+    depth: u32,
+    modulus: u32,
+    bound: u32,
+    commitment: &[u32],
+    session: &mut [u32],
+) -> u32
+    ensures { λ r. ⌜ StartStored (given degree depth modulus bound) (now (commitment .entry)) (now (session .entry)) r (now (session .exit)) ⌝ }
+{
+    let s = Settings {
+        degree: degree,
+        depth: depth,
+        modulus: modulus,
+        bound: bound,
+    };
+    sessions::start(s, commitment, session)
+}
+
+// A session's round.
+#[no_mangle]
+pub extern "C" fn wovenrock_session_round(
+    polynomial: &[u32],
+    exponent: u32,
+    session: &mut [u32],
+    verdict: &mut u32,
+) -> u32
+    ensures { λ r. ⌜ MoveStored (moves.move (sessionOf (now (session .entry))) (placedPolynomial (now (polynomial .entry))) exponent) (now (session .entry)) (now (verdict .entry)) r (now (session .exit)) (now (verdict .exit)) ⌝ }
+{
+    sessions::round(polynomial, exponent, session, verdict)
+}
+
+// A session's end.
+#[no_mangle]
+pub extern "C" fn wovenrock_session_end(
+    last: &[i32],
+    key: &[u32],
+    session: &mut [u32],
+    verdict: &mut u32,
+) -> u32
+    ensures { λ r. ⌜ MoveStored (moves.close (sessionOf (now (session .entry))) (placed (pos 0) (now (last .entry))) (now (key .entry))) (now (session .entry)) (now (verdict .entry)) r (now (session .exit)) (now (verdict .exit)) ⌝ }
+{
+    sessions::end(last, key, session, verdict)
 }
 
 // The check of a transcript.
@@ -174,7 +250,7 @@ pub extern "C" fn wovenrock_check(
     let f = slices::wholes(last);
     let answer = verification::check(s, c, f, key, rounds, challenges);
     let said = answer.verdict;
-    *verdict = verdict_number(said);
+    *verdict = slices::verdict_number(said);
     answer.number
 }
 
@@ -203,4 +279,30 @@ pub extern "C" fn wovenrock_judge(
     let answer = relaxed::judge(s, c, slack, key, w);
     *yes = answer.yes as u32;
     answer.number
+}
+
+// The extractor: the root's vector goes to the table `w`.
+#[no_mangle]
+pub extern "C" fn wovenrock_extract(
+    degree: u32,
+    depth: u32,
+    modulus: u32,
+    bound: u32,
+    commitment: &[u32],
+    key: &[u32],
+    rounds: &[u32],
+    challenges: &[u32],
+    leaves: &[i32],
+    w: &mut [i64],
+) -> u32
+    ensures { λ r. ⌜ Extracted (given degree depth modulus bound) (placed 0 (now (commitment .entry))) (now (key .entry)) (now (rounds .entry)) (now (challenges .entry)) (now (leaves .entry)) (now (w .entry)) r (now (w .exit)) ⌝ }
+{
+    let s = Settings {
+        degree: degree,
+        depth: depth,
+        modulus: modulus,
+        bound: bound,
+    };
+    let c = slices::residues(commitment);
+    extraction::extract(s, c, key, rounds, challenges, leaves, w)
 }

@@ -13,11 +13,13 @@ use differential::verified;
 use reference::draw::base::shape;
 use reference::draw::tables::{opening_at, OpeningInput};
 use reference::draw::transcript;
+use reference::draw::tree::{honest_at, Tree};
 use reference::fast;
 use reference::random::Random;
-use reference::types::{Settings, ACCEPTED};
+use reference::refuse::GROWTH;
+use reference::types::{Settings, ACCEPTED, HOLDS};
 use std::hint::black_box;
-use std::time::{Duration, Instant};
+use std::time::Duration;
 
 /// The largest prime below 2^31.
 const Q: u32 = 2_147_483_647;
@@ -27,11 +29,32 @@ struct Table {
     label: &'static str,
 }
 
+#[repr(C)]
+#[derive(Default)]
+struct Time {
+    seconds: i64,
+    nanoseconds: i64,
+}
+
+extern "C" {
+    fn clock_gettime(clock: i32, time: *mut Time) -> i32;
+}
+
+/// The processor time of this thread so far, which does not go on while
+/// other programs run.
+fn now() -> Duration {
+    const THREAD_TIME: i32 = 3;
+    let mut time = Time::default();
+    let failed = unsafe { clock_gettime(THREAD_TIME, &mut time) };
+    assert_eq!(failed, 0);
+    Duration::new(time.seconds as u64, time.nanoseconds as u32)
+}
+
 /// The time that a call takes.
-fn timed(call: &mut dyn FnMut()) -> Duration {
-    let start = Instant::now();
+fn timed(call: impl FnOnce()) -> Duration {
+    let start = now();
     call();
-    start.elapsed()
+    now() - start
 }
 
 fn median(mut times: Vec<Duration>) -> f64 {
@@ -42,15 +65,27 @@ fn median(mut times: Vec<Duration>) -> f64 {
 impl Table {
     /// One row: both calls in turns.
     fn row(&self, name: &str, verified: &mut dyn FnMut(), other: &mut dyn FnMut()) {
+        self.turns(name, self.label, &mut || timed(&mut *verified), &mut || {
+            timed(&mut *other)
+        });
+    }
+
+    /// One row of calls that say themselves what time is taken.
+    fn turns(
+        &self,
+        name: &str,
+        label: &str,
+        verified: &mut dyn FnMut() -> Duration,
+        other: &mut dyn FnMut() -> Duration,
+    ) {
         let (mut ours, mut theirs) = (Vec::new(), Vec::new());
         for _ in 0..self.repetitions {
-            ours.push(timed(verified));
-            theirs.push(timed(other));
+            ours.push(verified());
+            theirs.push(other());
         }
         let (ours, theirs) = (median(ours), median(theirs));
         println!(
-            "{name:<44} {:<24} {:>11.1} {:>11.1} {:>7.2}",
-            self.label,
+            "{name:<44} {label:<24} {:>11.1} {:>11.1} {:>7.2}",
             ours * 1e6,
             theirs * 1e6,
             ours / theirs
@@ -121,6 +156,153 @@ impl Table {
             },
         );
     }
+
+    /// The whole opening; both tables are filled anew before each turn.
+    fn open(&self, s: Settings) {
+        let input = opening_at(&mut Random::new(7), s);
+        let (mut commitment, mut last) = ([0; verified::ELEMENT], [0; verified::ELEMENT]);
+        self.turns(
+            &format!("open, d = {}, L = {}", s.degree, s.depth),
+            self.label,
+            &mut || {
+                let mut t = input.clone();
+                let mut verdict = 0;
+                let time = timed(|| {
+                    let (key, message, rounds) = (&mut t.key, &mut t.message, &mut t.rounds);
+                    let (c, f) = (&mut commitment, &mut last);
+                    verified::open(s, key, message, &t.challenges, rounds, c, f, &mut verdict);
+                });
+                assert_eq!(verdict, ACCEPTED);
+                black_box(&t);
+                time
+            },
+            &mut || {
+                let mut t = input.clone();
+                let mut verdict = 0;
+                let time = timed(|| {
+                    let (key, message, rounds) = (&mut t.key, &mut t.message, &mut t.rounds);
+                    let answer = fast::whole_opening(s, key, message, &t.challenges, rounds);
+                    verdict = answer.verdict;
+                });
+                assert_eq!(verdict, ACCEPTED);
+                black_box(&t);
+                time
+            },
+        );
+    }
+
+    /// A session of all rounds and the end, beside the check of the same
+    /// transcript.
+    fn session(&self, s: Settings) {
+        let t = transcript::honest_at(&mut Random::new(7), s);
+        let d = t.shape.d;
+        let polynomials: Vec<Vec<u32>> = t.rounds.chunks(3 * d).map(|c| spread(c, d)).collect();
+        let (c, f) = (t.commitment, t.final_element);
+        self.row(
+            &format!("session, d = {}, L = {}", s.degree, s.depth),
+            &mut || {
+                let mut session = [0; verified::SESSION];
+                let mut verdict = 0;
+                verified::session_start(s, black_box(&c), &mut session);
+                for (polynomial, &e) in polynomials.iter().zip(&t.challenges) {
+                    verified::session_round(polynomial, e, &mut session, &mut verdict);
+                    assert_eq!(verdict, HOLDS);
+                }
+                verified::session_end(&f, &t.key, &mut session, &mut verdict);
+                assert_eq!(verdict, ACCEPTED);
+            },
+            &mut || {
+                let answer = fast::check(s, black_box(c), f, &t.key, &t.rounds, &t.challenges);
+                assert_eq!(answer.verdict, ACCEPTED);
+            },
+        );
+    }
+
+    /// The tree of a message, which is accepted; `number` is 0 or 14.
+    fn extract(&self, s: Settings, tree: &Tree, number: u32) {
+        let t = tree;
+        let (mut w, mut other) = (t.w.clone(), t.w.clone());
+        let what = if number == GROWTH {
+            "tree check"
+        } else {
+            "extract"
+        };
+        self.row(
+            &format!("{what}, d = {}, L = {}", s.degree, s.depth),
+            &mut || assert_eq!(verified_extract(black_box(t), &mut w), number),
+            &mut || {
+                let t = black_box(t);
+                let (key, rounds, leaves) = (&t.key, &t.rounds, &t.leaves);
+                let c = t.commitment;
+                let found = fast::extract(s, c, key, rounds, &t.challenges, leaves, &mut other);
+                assert_eq!(found, number);
+            },
+        );
+        assert_eq!(w, other);
+    }
+
+    /// The tree check beside the verified check of every path on its own.
+    fn paths(&self, s: Settings, t: &Tree) {
+        let d = t.shape.d;
+        let paths: Vec<(Vec<u32>, Vec<u32>)> = (0..t.shape.leaves())
+            .map(|leaf| (path_rounds(t, leaf), t.path_challenges(leaf)))
+            .collect();
+        let mut w = t.w.clone();
+        self.turns(
+            &format!("tree check, d = {}, L = {}", s.degree, s.depth),
+            "verified, path by path",
+            &mut || {
+                timed(|| {
+                    black_box(verified_extract(black_box(t), &mut w));
+                })
+            },
+            &mut || {
+                timed(|| {
+                    for ((rounds, challenges), f) in paths.iter().zip(t.leaves.chunks(d)) {
+                        let mut verdict = 0;
+                        let c = &t.commitment;
+                        verified::check(s, c, f, &t.key, rounds, challenges, &mut verdict);
+                        assert_eq!(verdict, ACCEPTED);
+                    }
+                })
+            },
+        );
+    }
+}
+
+/// The three elements of a round polynomial, 64 places each.
+fn spread(c: &[u32], d: usize) -> Vec<u32> {
+    let mut out = vec![0; verified::POLYNOMIAL];
+    for (places, element) in out.chunks_mut(verified::ELEMENT).zip(c.chunks(d)) {
+        places[..d].copy_from_slice(element);
+    }
+    out
+}
+
+fn verified_extract(t: &Tree, w: &mut [i64]) -> u32 {
+    let (key, rounds, leaves) = (&t.key, &t.rounds, &t.leaves);
+    verified::extract(
+        t.settings,
+        &t.commitment,
+        key,
+        rounds,
+        &t.challenges,
+        leaves,
+        w,
+    )
+}
+
+/// The round polynomials from the root to a leaf.
+fn path_rounds(t: &Tree, leaf: usize) -> Vec<u32> {
+    let size = 3 * t.shape.d;
+    let mut node = t.shape.nodes() + leaf;
+    let mut list = Vec::new();
+    while node != 0 {
+        node = (node - 1) / 3;
+        list.push(&t.rounds[node * size..][..size]);
+    }
+    list.reverse();
+    list.concat()
 }
 
 fn main() {
@@ -153,4 +335,18 @@ fn main() {
     table.check(Settings::new(4, 8, Q, 127));
     table.judge(Settings::new(64, 3, Q, 127));
     table.judge(Settings::new(4, 8, Q, 2));
+    table.open(large);
+    table.open(Settings::new(4, 8, Q, 127));
+    table.session(large);
+    for (s, number) in [
+        (Settings::new(64, 3, Q, 127), 0),
+        (Settings::new(4, 8, Q, 2), 0),
+        (large, GROWTH),
+    ] {
+        let (tree, _) = honest_at(&mut Random::new(7), s);
+        table.extract(s, &tree, number);
+        if !native && number == GROWTH {
+            table.paths(s, &tree);
+        }
+    }
 }

@@ -8,7 +8,9 @@
 use differential::verified;
 use reference::draw::tables::opening_at;
 use reference::draw::transcript;
+use reference::draw::tree::{free_at, Tree};
 use reference::random::Random;
+use reference::refuse::GROWTH;
 use reference::types::{Settings, ACCEPTED};
 use std::ffi::c_void;
 use std::process::ExitCode;
@@ -126,7 +128,51 @@ fn calls() -> Vec<(&'static str, Call<'static>)> {
                 assert_eq!((number, yes), (0, 1));
             }),
         ),
+        ("open, d = 64, L = 8", open(large)),
+        ("session end, d = 64, L = 8", session_end(large)),
+        (
+            "extract, d = 64, L = 3",
+            extract(Settings::new(64, 3, 9, 127), 0),
+        ),
+        ("extract, d = 4, L = 8", extract(bounded, 0)),
+        ("extract, d = 64, L = 8", extract(large, GROWTH)),
     ]
+}
+
+fn open(s: Settings) -> Call<'static> {
+    let mut t = opening_at(&mut Random::new(7), s);
+    Box::new(move || {
+        let (mut c, mut f) = ([0; verified::ELEMENT], [0; verified::ELEMENT]);
+        let (key, message, rounds) = (&mut t.key, &mut t.message, &mut t.rounds);
+        let mut verdict = 0;
+        let (c, f) = (&mut c, &mut f);
+        verified::open(s, key, message, &t.challenges, rounds, c, f, &mut verdict);
+        assert_eq!(verdict, ACCEPTED);
+    })
+}
+
+/// An end of a session that has the rounds behind it.
+fn session_end(s: Settings) -> Call<'static> {
+    let t = transcript::honest_at(&mut Random::new(7), s);
+    Box::new(move || {
+        let mut session = [0; verified::SESSION];
+        let mut verdict = 0;
+        verified::session_start(s, &t.commitment, &mut session);
+        session[4] = s.depth;
+        let number = verified::session_end(&t.final_element, &t.key, &mut session, &mut verdict);
+        assert_eq!(number, 0);
+    })
+}
+
+/// An accepted tree; `number` is 0 or 14.
+fn extract(s: Settings, number: u32) -> Call<'static> {
+    let mut t: Tree = free_at(&mut Random::new(7), s);
+    Box::new(move || {
+        let (key, rounds, leaves) = (&t.key, &t.rounds, &t.leaves);
+        let (c, e) = (&t.commitment, &t.challenges);
+        let found = verified::extract(s, c, key, rounds, e, leaves, &mut t.w);
+        assert_eq!(found, number);
+    })
 }
 
 fn main() -> ExitCode {

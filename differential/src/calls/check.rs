@@ -26,6 +26,7 @@ fn outcome(answer: CheckAnswer) -> Outcome {
 
 impl Case for Check {
     const NAME: &'static str = "check";
+    const NUMBERS: &'static [u32] = &[0, 3, 4, 5, 6, 7, 8, 10];
 
     fn draw(random: &mut Random, limits: &Limits) -> Check {
         let (mut input, _) = any_transcript(random, limits);

@@ -34,6 +34,7 @@ impl Commit {
 
 impl Case for Commit {
     const NAME: &'static str = "commit";
+    const NUMBERS: &'static [u32] = &[0, 3, 4, 5, 6, 7, 8, 9, 100];
 
     fn draw(random: &mut Random, limits: &Limits) -> Commit {
         let mut input = CommitInput(tables::opening(random, limits));

@@ -33,6 +33,7 @@ impl ProverRound {
 
 impl Case for ProverRound {
     const NAME: &'static str = "round";
+    const NUMBERS: &'static [u32] = &[0, 3, 4, 5, 6, 7, 8, 9, 11, 100];
 
     fn draw(random: &mut Random, limits: &Limits) -> ProverRound {
         ProverRound {
@@ -77,6 +78,7 @@ pub struct Fold(ProverInput);
 
 impl Case for Fold {
     const NAME: &'static str = "fold";
+    const NUMBERS: &'static [u32] = &[0, 3, 4, 5, 6, 7, 8, 9, 10, 11];
 
     fn draw(random: &mut Random, limits: &Limits) -> Fold {
         Fold(drawn(random, limits, ProverCall::Fold))
@@ -125,6 +127,7 @@ impl End {
 
 impl Case for End {
     const NAME: &'static str = "end";
+    const NUMBERS: &'static [u32] = &[0, 3, 4, 5, 6, 7, 9, 11, 100];
 
     fn draw(random: &mut Random, limits: &Limits) -> End {
         End {

@@ -14,6 +14,7 @@ pub struct SettingsCase(Settings);
 
 impl Case for SettingsCase {
     const NAME: &'static str = "settings";
+    const NUMBERS: &'static [u32] = &[0, 3, 4, 5, 6];
 
     fn draw(random: &mut Random, limits: &Limits) -> SettingsCase {
         let mut s = settings(random, limits, false);

@@ -6,12 +6,16 @@
 //! a wrapper tests nothing.
 
 mod check;
+mod opening;
 mod prover;
 mod relaxed;
+mod session;
 
 pub use check::check;
+pub use opening::open;
 pub use prover::{commit, end, fold, round};
-pub use relaxed::judge;
+pub use relaxed::{extract, judge};
+pub use session::{session_end, session_round, session_start};
 
 use reference::types::Settings;
 
@@ -23,6 +27,9 @@ pub const ELEMENT: usize = 64;
 
 /// Numbers of a round polynomial in a lent slice.
 pub const POLYNOMIAL: usize = 3 * ELEMENT;
+
+/// Numbers of a session record in a lent slice.
+pub const SESSION: usize = 78;
 
 extern "C" {
     fn wovenrock_settings(degree: u32, depth: u32, modulus: u32, bound: u32) -> u32;

@@ -1,4 +1,4 @@
-//! The judge of relaxed openings.
+//! The judge of relaxed openings, and the extractor.
 
 use reference::types::Settings;
 
@@ -16,6 +16,25 @@ extern "C" {
         w: *const i64,
         w_length: usize,
         yes: *mut u32,
+    ) -> u32;
+
+    fn wovenrock_extract(
+        degree: u32,
+        depth: u32,
+        modulus: u32,
+        bound: u32,
+        commitment: *const u32,
+        commitment_length: usize,
+        key: *const u32,
+        key_length: usize,
+        rounds: *const u32,
+        rounds_length: usize,
+        challenges: *const u32,
+        challenges_length: usize,
+        leaves: *const i32,
+        leaves_length: usize,
+        w: *mut i64,
+        w_length: usize,
     ) -> u32;
 }
 
@@ -42,6 +61,39 @@ pub fn judge(
             w.as_ptr(),
             w.len(),
             yes,
+        )
+    }
+}
+
+/// The extractor.
+#[allow(clippy::too_many_arguments)]
+pub fn extract(
+    s: Settings,
+    commitment: &[u32],
+    key: &[u32],
+    rounds: &[u32],
+    challenges: &[u32],
+    leaves: &[i32],
+    w: &mut [i64],
+) -> u32 {
+    unsafe {
+        wovenrock_extract(
+            s.degree,
+            s.depth,
+            s.modulus,
+            s.bound,
+            commitment.as_ptr(),
+            commitment.len(),
+            key.as_ptr(),
+            key.len(),
+            rounds.as_ptr(),
+            rounds.len(),
+            challenges.as_ptr(),
+            challenges.len(),
+            leaves.as_ptr(),
+            leaves.len(),
+            w.as_mut_ptr(),
+            w.len(),
         )
     }
 }

@@ -1,7 +1,7 @@
 use mathlib.Core.Path.{ap, _∙_}
 use Rattle.protocol.specs.declared.Checked.{Checked}
 use Rattle.protocol.specs.Calls.{checkAnswer}
-use Rattle.exports.specs.Slices.{given, verdictNumber}
+use Rattle.slices.specs.Slices.{given, verdictNumber}
 use borrow.Author.Needs.{needs}
 use Rattle.exports.proofs.wovenrock_check.Statement.{statement}
 use Rattle.exports.proofs.wovenrock_check.Tie as tie

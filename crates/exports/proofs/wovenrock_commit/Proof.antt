@@ -2,8 +2,9 @@ use mathlib.Core.Path.{ap, _∙_}
 use Rattle.protocol.specs.declared.Committed.{Committed}
 use Rattle.protocol.specs.Element.{width}
 use borrow.Author.Needs.{needs}
-use Rattle.exports.specs.Slices.{stored, short}
-use Rattle.exports.proofs.Elements.{kept, written}
+use Rattle.slices.specs.Slices.{short}
+use Rattle.exports.specs.Storing.{stored}
+use Rattle.slices.proofs.Elements.{kept, written}
 use Rattle.exports.proofs.wovenrock_commit.Statement.{statement}
 use Rattle.exports.proofs.wovenrock_commit.Tie as tie
 

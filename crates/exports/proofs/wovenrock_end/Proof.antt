@@ -3,8 +3,9 @@ use lib.IntN.{pos}
 use Rattle.protocol.specs.declared.Ended.{Ended}
 use Rattle.protocol.specs.Element.{width}
 use borrow.Author.Needs.{needs}
-use Rattle.exports.specs.Slices.{stored, short}
-use Rattle.exports.proofs.Elements.{kept, written}
+use Rattle.slices.specs.Slices.{short}
+use Rattle.exports.specs.Storing.{stored}
+use Rattle.slices.proofs.Elements.{kept, written}
 use Rattle.exports.proofs.wovenrock_end.Statement.{statement}
 use Rattle.exports.proofs.wovenrock_end.Tie as tie
 

@@ -2,8 +2,8 @@ use mathlib.Core.Path.{ap, _∙_}
 use Rattle.protocol.specs.declared.Judged.{Judged}
 use Rattle.protocol.specs.Basic.{choose}
 use Rattle.protocol.specs.Calls.{judgeAnswer}
-use Rattle.exports.specs.Slices.{given}
-use Rattle.exports.proofs.Elements.{as-number}
+use Rattle.slices.specs.Slices.{given}
+use Rattle.slices.proofs.Elements.{as-number}
 use borrow.Author.Needs.{needs}
 use Rattle.exports.proofs.wovenrock_judge.Statement.{statement}
 use Rattle.exports.proofs.wovenrock_judge.Tie as tie

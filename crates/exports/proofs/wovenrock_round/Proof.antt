@@ -1,7 +1,8 @@
 use mathlib.Core.Path.{ap, _∙_}
 use Rattle.protocol.specs.declared.Polynomial.{Polynomial}
-use Rattle.exports.specs.Slices.{storedPolynomial, short}
-use Rattle.exports.proofs.Elements.{kept, written}
+use Rattle.slices.specs.Slices.{short}
+use Rattle.exports.specs.Storing.{storedPolynomial}
+use Rattle.slices.proofs.Elements.{kept, written}
 use borrow.Author.Needs.{needs}
 use Rattle.exports.proofs.wovenrock_round.Statement.{statement}
 use Rattle.exports.proofs.wovenrock_round.Tie as tie

@@ -1,7 +1,6 @@
 -- A node tests its round and then child by child; a child folds the node's key, works out its claim and tests what is below it.
 -- The measure is twice the height, and one more at a node.
 use mathlib.Core.Path.{_≡_, sym, ap, _∙_, subst}
-use mathlib.Core.Bool.{true, false}
 use mathlib.Core.List.{List}
 use Prim.Native.Nat.{ℕ, _+_, _*_, _-_, _/_, _^_, _<_, _≤_}
 use native.Mathlib.Omega.{arith}
@@ -14,8 +13,8 @@ use Rattle.protocol.specs.Tree.{child, challenge}
 use Rattle.protocol.proofs.Inputs.{settings-valid}
 use Rattle.sizes.proofs.Limits.{degree-most}
 use Rattle.arithmetic.specs.Folds.{foldDown}
-use Rattle.trees.specs.Nodes.{AtNode}
-use Rattle.trees.proofs.Places as Places
+use Rattle.claims.proofs.Places as Places
+use Rattle.claims.proofs.Places.{AtNode}
 use Rattle.trees.proofs.Descent as Descent
 use Rattle.trees.proofs.Stages as Stages
 use borrow.Fn.Kinds.{In}
@@ -123,10 +122,10 @@ folded-long : (t : ℕ) (c : child-accepted-lts.After-slice-known2 (child-calls 
 folded-long t c = c .before .before .fold-key .kept .1 .1 .1 .0
 
 child-accepted-claim-to-requires : (t : ℕ) → child-accepted-lts.Need-claim-to-requires (child-calls t) (child-accepted-at t) child-accepted.Post
-child-accepted-claim-to-requires t c κs = let g = c .before .before .before in (allowed t g, few t g, g .pre .1 .0 .2)
+child-accepted-claim-to-requires t c κs = let g = c .before .before .before in (allowed t g, few t g, omega (arith, g .pre .1 .0 .2))
 
 child-accepted-challenge-requires : (t : ℕ) → child-accepted-lts.Need-challenge-requires (child-calls t) (child-accepted-at t) child-accepted.Post
-child-accepted-challenge-requires t c κs = let g = c .before .before .before .before in (few t g, g .pre .1 .0 .2)
+child-accepted-challenge-requires t c κs = let g = c .before .before .before .before in (few t g, omega (arith, g .pre .1 .0 .2))
 
 child-accepted-fold-key-requires : (t : ℕ) → child-accepted-lts.Need-fold-key-requires (child-calls t) (child-accepted-at t) child-accepted.Post
 child-accepted-fold-key-requires t c κs = let g = c .before .before .before .before .before .before in record { allowed = allowed t g; up = higher t g; height = place t g .height; space-is = place t g .space-is }

@@ -1,0 +1,107 @@
+-- The answer of the whole opening, and the tables at its exit.
+use mathlib.Core.Path.{_≡_, refl, sym, ap, _∙_, subst}
+use mathlib.Core.Bool.{true, _&&_}
+use mathlib.Core.List.{List}
+use Prim.Native.Nat.{ℕ, _≤_}
+use native.Mathlib.Omega.{arith}
+use lib.IntN.{ℤ}
+use Rattle.protocol.specs.declared.Settings.{Settings}
+use Rattle.protocol.specs.declared.Verdict.{Verdict}
+use Rattle.protocol.specs.declared.Verdict.the-variants.{Silent}
+use Rattle.protocol.specs.Element.{width, zeros, signedZeros, padded, paddedSigned, coefficients, signedAt, signed, residue}
+use Rattle.protocol.specs.Settings.{settingsRefusal}
+use Rattle.protocol.specs.Opening.{commitment, keyAfter, messageAfter, finalElement}
+use Rattle.protocol.specs.Transcript.{Transcript, accepted, transcriptOf}
+use Rattle.protocol.specs.Session.{verdict}
+use Rattle.protocol.specs.Calls.{commitAnswer, openingRefusal, openingAnswer, openingKeyExit, openingMessageExit, openingRoundsExit}
+use Rattle.protocol.specs.Promises.{Opening}
+use Rattle.protocol.proofs.Tests.{granted-zero, granted-refused}
+use Rattle.claims.proofs.Honest.{Given, modulus-positive, opening-commitment, opening-last, opening-key, opening-message, opening-rounds}
+use Rattle.claims.proofs.Prover.{commit-answer}
+use Rattle.sizes.proofs.Limits.{degree-most}
+use Rattle.arithmetic.specs.Elements.{elementAt}
+use Rattle.equations.specs.Ends.{endMet}
+use Rattle.opening.specs.declared.turns.State.{State}
+use Rattle.opening.specs.Turns.{TablesAt, CheckedAt, Finished, ProverTurn}
+use Rattle.opening.proofs.Inputs.{Lent, lent}
+use Rattle.opening.proofs.Storing.{front-none, front-all}
+use Rattle.opening.proofs.Checking.{checked-none, accepted-is}
+
+module _ (S : Settings) (G : List ℕ) (M : List ℤ) (E R : List ℕ) where
+  open Settings S using (degree as d, depth as L)
+
+  abbrev T : Transcript
+  T = transcriptOf S G M E
+
+  pub opening-refused : (n : ℕ) → n ≡ openingRefusal S G M E R → (n ≡ 0 → ⊥)
+      → Opening S G M E R (record { number = n; commitment = zeros width; last = signedZeros width; verdict = Silent }) G M R
+  unfolding openingAnswer openingKeyExit openingMessageExit openingRoundsExit
+  opening-refused n e r = record {
+    answer = λ i. record {
+      number = e i;
+      commitment = sym (granted-refused (openingRefusal S G M E R) (padded d (T .commitment)) (zeros width) some) i;
+      last = sym (granted-refused (openingRefusal S G M E R) (paddedSigned d (T .last)) (signedZeros width) some) i;
+      verdict = sym (granted-refused (openingRefusal S G M E R) (verdict (accepted S G T)) Silent some) i;
+    };
+    key-exit = sym (granted-refused _ _ _ some);
+    message-exit = sym (granted-refused _ _ _ some);
+    rounds-exit = sym (granted-refused _ _ _ some);
+  }
+    where
+      some : openingRefusal S G M E R ≡ 0 → ⊥
+      some z = r (e ∙ z)
+
+  module _ (passed : openingRefusal S G M E R ≡ 0) (C : List ℕ) (f : List ℤ) (v : Verdict) (r : State) (key : List ℕ) (message : List ℤ) (rounds : List ℕ)
+      (commits : C ≡ commitAnswer S G M .commitment)
+      (turn : ProverTurn S E (record { done = 0; claim = C; holds = true }) G M R r key message rounds)
+      (ends : d ≤ 64 → f ≡ paddedSigned d (coefficients d (signedAt d message 0)))
+      (says : settingsRefusal S ≡ 0 → v ≡ verdict (r .holds && endMet S (r .claim) (signed f) (residue (elementAt d key 0)))) where
+    given : Lent S G M E R
+    given = lent S G M E R passed
+
+    ok : Given S G M E
+    ok = given .given
+
+    C-is : C ≡ padded d (commitment S G M)
+    C-is = commits ∙ ap (λ a. a .commitment) (commit-answer ok)
+
+    start : TablesAt S G M E R 0 G M R
+    unfolding keyAfter messageAfter
+    start = record { done-most = omega arith; key-is = refl; message-is = refl; rounds-is = front-none S (modulus-positive S (ok .settings)) G M E R (given .rounds-long) }
+
+    begun : CheckedAt S G M E R 0 C true
+    begun = subst (λ c. CheckedAt S G M E R 0 c true) (sym C-is) (unfold transcriptOf in checked-none S (modulus-positive S (ok .settings)) G M E R)
+
+    finished : Finished S G M E R key message rounds r
+    finished = turn .turns G M R passed start begun
+
+    f-is : f ≡ paddedSigned d (finalElement S (messageAfter S E L M))
+    unfolding finalElement
+    f-is = ends (degree-most S (ok .settings)) ∙ ap (λ m. paddedSigned d (coefficients d (signedAt d m 0))) (finished .tables .message-is)
+
+    v-is : v ≡ verdict (accepted S G T)
+    v-is =
+        says (given .allowed)
+        ∙ (λ i. verdict (finished .checks .holds-is i && endMet S (finished .checks .claim-is i) (signed (f-is i)) (residue (elementAt d (finished .tables .key-is i) 0))))
+        ∙ ap verdict (sym (accepted-is S (modulus-positive S (ok .settings)) G M E R))
+
+    number-is : 0 ≡ openingAnswer S G M E R .number
+    unfolding openingAnswer
+    number-is = sym passed
+
+    verdict-is : openingAnswer S G M E R .verdict ≡ verdict (accepted S G T)
+    unfolding openingAnswer
+    verdict-is = granted-zero _ _ _ passed
+
+    pub opening-done : Opening S G M E R (record { number = 0; commitment = C; last = f; verdict = v }) key message rounds
+    opening-done = record {
+      answer = λ i. record {
+        number = number-is i;
+        commitment = (C-is ∙ sym (opening-commitment ok R (given .rounds-long))) i;
+        last = (f-is ∙ sym (opening-last ok R (given .rounds-long))) i;
+        verdict = (v-is ∙ sym verdict-is) i;
+      };
+      key-exit = finished .tables .key-is ∙ sym (opening-key ok R (given .rounds-long));
+      message-exit = finished .tables .message-is ∙ sym (opening-message ok R (given .rounds-long));
+      rounds-exit = finished .tables .rounds-is ∙ front-all S (modulus-positive S (ok .settings)) G M E R (given .rounds-long) ∙ sym (opening-rounds ok R (given .rounds-long));
+    }

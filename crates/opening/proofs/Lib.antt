@@ -1,0 +1,5 @@
+pub mod Inputs
+pub mod Storing
+pub mod Checking
+pub mod Turning
+pub mod Answers

@@ -1,0 +1,44 @@
+use mathlib.Core.Path.{_∙_}
+use Rattle.protocol.specs.Session.{close}
+use Rattle.sessions.proofs.Answers.{move-short, move-stored}
+use borrow.Author.Needs.{needs}
+use Rattle.sessions.proofs.end.Statement.{statement}
+use Rattle.sessions.proofs.end.Tie as tie
+
+returns : tie.Need-returns
+returns c = let a = c .before .before .before .args in move-short (a .session .now) (c .if1 .taken) _ (a .verdict .now)
+
+load-requires : tie.Need-load-requires
+load-requires c κs = search needs
+
+wholes-requires : tie.Need-wholes-requires
+wholes-requires c κs = search needs
+
+end-requires : tie.Need-end-requires
+end-requires c κs = search needs
+
+answer-requires : tie.Need-answer-requires
+answer-requires c κs = search needs
+
+same-length : tie.Need-same-length
+same-length c = search needs
+
+returns-2 : tie.Need-returns-2
+returns-2 c =
+    let e = c .before .before .before .before .before in
+    let a = e .before .before .before .before .before .before .before .args in
+    let loaded = e .before .before .load .ensures in
+    let last = e .before .wholes .ensures in
+    move-stored (a .session .now) (e .before .before .before .before .if1 .left) _ _ (a .verdict .now) _ _ _ (e .end .ensures ∙ (λ i. close (loaded i) (last i) (a .key .now))) (c .before .before .answer .ensures)
+
+pub end-spec : {M : Type 1} → statement M
+end-spec =
+    tie.close
+    (tie.spec
+    returns
+    load-requires
+    wholes-requires
+    end-requires
+    answer-requires
+    same-length
+    returns-2)

@@ -1,0 +1,66 @@
+-- The loop keeps: the first k challenges are read, the others are 0.
+use mathlib.Core.Path.{_≡_, refl, _∙_}
+use mathlib.Core.List.{append-nil}
+use Prim.Native.Nat.{ℕ, _+_, _-_, _≤_}
+use native.Mathlib.Omega.{arith}
+use lib.ListN.{length, getD}
+use Rattle.protocol.specs.Element.{zeros}
+use Rattle.arithmetic.proofs.Fill.{filled, fill-none, fill-more, fill-done}
+use Rattle.sessions.specs.Records.{challengesOf}
+use borrow.Author.Needs.{needs}
+use Rattle.sessions.proofs.records.challenges.Statement.{statement}
+use Rattle.sessions.proofs.records.challenges.Tie as tie
+
+abbrev Inv-loop : tie.InvT-loop
+Inv-loop t e₀ k₀ e k = (k ≤ 8) × (78 ≤ length t) × (e ≡ filled (λ (j : ℕ). getD t (6 + j) 0) k (zeros 8))
+
+abbrev μ-loop : tie.MeasureT-loop
+μ-loop t e₀ k₀ e k = 8 - k
+
+loop-holds : tie.Need-loop-holds Inv-loop μ-loop
+loop-holds c = (omega arith, omega arith, fill-none 8 _)
+
+add-e : tie.Need-add-e Inv-loop μ-loop
+add-e c = search needs
+
+mul-e : tie.Need-mul-e Inv-loop μ-loop
+mul-e c = search needs
+
+shared-slice-read-e : tie.Need-shared-slice-read-e Inv-loop μ-loop
+shared-slice-read-e c = search needs
+
+mul-e-2 : tie.Need-mul-e-2 Inv-loop μ-loop
+mul-e-2 c = search needs
+
+array-write-e : tie.Need-array-write-e Inv-loop μ-loop
+array-write-e c = search needs
+
+add-k : tie.Need-add-k Inv-loop μ-loop
+add-k c = search needs
+
+loop-less : tie.Need-loop-less Inv-loop μ-loop
+loop-less c = search needs
+
+loop-again : tie.Need-loop-again Inv-loop μ-loop
+loop-again c = let l = c .before .before .loop in (omega arith, omega arith, fill-more 8 _ (l .k) _ (l .e) (l .inv .2) (omega arith) refl)
+
+returns : tie.Need-returns Inv-loop μ-loop
+unfolding challengesOf zeros
+returns c = let l = c .before .loop in fill-done 8 _ (l .k) 8 (l .e) (l .inv .2) (omega arith) ∙ append-nil _
+
+pub challenges-spec : {M : Type 1} → statement M
+challenges-spec =
+    tie.close
+    (tie.spec
+    Inv-loop
+    μ-loop
+    loop-holds
+    add-e
+    mul-e
+    shared-slice-read-e
+    mul-e-2
+    array-write-e
+    add-k
+    loop-less
+    loop-again
+    returns)

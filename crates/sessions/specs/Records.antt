@@ -1,0 +1,41 @@
+-- Session records in slices of 78 numbers: degree, depth, modulus, bound, rounds done, closed, the eight challenges, the 64 places of the claim.
+--
+--   recordWidth        78
+--   sessionOf t        the record that the slice t holds; any number but 0 says that it is closed
+--   numberOf r k       number k of the record r
+--   recordStored r t   the slice t after the record r was written to its front
+use mathlib.Core.Bool.{not}
+use mathlib.Core.List.{List, _++_}
+use Prim.Native.Nat.{ℕ, _+_, _-_}
+use lib.Dec.{ltb, eqb}
+use lib.ListN.{getD, drop}
+use Rattle.protocol.specs.declared.Session.{Session}
+use Rattle.protocol.specs.Basic.{tabulate, choose}
+use Rattle.slices.specs.Slices.{given, placed}
+
+unfoldable pub recordWidth : ℕ
+recordWidth = 78
+
+unfoldable pub challengesOf : List ℕ → List ℕ
+challengesOf t = tabulate 8 (λ k. getD t (6 + k) 0)
+
+unfoldable pub sessionOf : List ℕ → Session
+sessionOf t = record {
+  settings = given (getD t 0 0) (getD t 1 0) (getD t 2 0) (getD t 3 0);
+  done = getD t 4 0;
+  claim = placed 0 (drop 14 t);
+  challenges = challengesOf t;
+  closed = not (eqb (getD t 5 0) 0);
+}
+
+-- one of the first six numbers
+unfoldable pub headOf : Session → ℕ → ℕ
+headOf r k =
+    let S = r .settings in
+    choose (eqb k 0) (S .degree) (choose (eqb k 1) (S .depth) (choose (eqb k 2) (S .modulus) (choose (eqb k 3) (S .bound) (choose (eqb k 4) (r .done) (choose (r .closed) 1 0)))))
+
+unfoldable pub numberOf : Session → ℕ → ℕ
+numberOf r k = choose (ltb k 6) (headOf r k) (choose (ltb k 14) (getD (r .challenges) (k - 6) 0) (getD (r .claim) (k - 14) 0))
+
+unfoldable pub recordStored : Session → List ℕ → List ℕ
+recordStored r t = tabulate recordWidth (numberOf r) ++ drop recordWidth t

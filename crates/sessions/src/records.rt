@@ -1,0 +1,83 @@
+// Session records in slices of 78 numbers: degree, depth, modulus, bound, rounds done, closed, the eight challenges, the 64 places of the claim.
+use protocol::Session;
+use protocol::Settings;
+ghost use mathlib.Core.Path.{_≡_};
+ghost use Prim.Native.Nat.{_+_, _<_, _≤_};
+ghost use lib.ListN.{length, getD};
+ghost use Rattle.protocol.specs.Basic.{tabulate};
+ghost use Rattle.sessions.specs.Records.{challengesOf, sessionOf, headOf, numberOf, recordStored};
+
+fn challenges(t: &[u32]) -> [u32; 8]
+    requires { ⌜ 78 ≤ length (now t) ⌝ }
+    ensures { λ r. ⌜ r ≡ challengesOf (now (t .entry)) ⌝ }
+{
+    let mut e = [0u32; 8];
+    let mut k: usize = 0;
+    while k < 8 {
+        e[k] = t[6 + k];
+        k += 1;
+    }
+    e
+}
+
+// The record that a slice holds; any number but 0 says that it is closed.
+pub fn load(t: &[u32]) -> Session
+    requires { ⌜ 78 ≤ length (now t) ⌝ }
+    ensures { λ r. ⌜ r ≡ sessionOf (now (t .entry)) ⌝ }
+{
+    let s = Settings {
+        degree: t[0],
+        depth: t[1],
+        modulus: t[2],
+        bound: t[3],
+    };
+    let claim = slices::residues(&t[14..]);
+    let e = challenges(t);
+    Session {
+        settings: s,
+        done: t[4],
+        claim: claim,
+        challenges: e,
+        closed: t[5] != 0,
+    }
+}
+
+// One of the first six numbers of a record.
+fn head(r: Session, k: usize) -> u32
+    ensures { λ x. ⌜ x ≡ headOf r k ⌝ }
+{
+    let s = r.settings;
+    match k {
+        0 => s.degree,
+        1 => s.depth,
+        2 => s.modulus,
+        3 => s.bound,
+        4 => r.done,
+        _ => r.closed as u32,
+    }
+}
+
+fn number(r: Session, k: usize) -> u32
+    requires { ⌜ k < 78 ⌝ }
+    ensures { λ x. ⌜ x ≡ numberOf r k ⌝ }
+{
+    if k < 6 {
+        return head(r, k);
+    }
+    if k < 14 {
+        return r.challenges[k - 6];
+    }
+    r.claim[k - 14]
+}
+
+// Writes a record to the front of a slice.
+pub fn store(r: Session, t: &mut [u32])
+    requires { ⌜ 78 ≤ length (now t) ⌝ }
+    ensures { λ _. ⌜ now (t .exit) ≡ recordStored r (now (t .entry)) ⌝ }
+{
+    let mut k: usize = 0;
+    while k < 78 {
+        t[k] = number(r, k);
+        k += 1;
+    }
+}

@@ -1,0 +1,15 @@
+use native.Mathlib.Omega.{arith}
+use mathlib.Core.Path.{_∙_}
+use Rattle.slices.proofs.Elements.{whole}
+use borrow.Author.Needs.{needs}
+use Rattle.slices.proofs.residues.Statement.{statement}
+use Rattle.slices.proofs.residues.Tie as tie
+
+element-at-requires : tie.Need-element-at-requires
+element-at-requires c κs = search needs
+
+returns : tie.Need-returns
+returns c = c .element-at .ensures (omega arith) ∙ whole (c .before .before .args .t .now)
+
+pub residues-spec : {M : Type 1} → statement M
+residues-spec = tie.close (tie.spec element-at-requires returns)

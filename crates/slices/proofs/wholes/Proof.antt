@@ -1,0 +1,15 @@
+use native.Mathlib.Omega.{arith}
+use mathlib.Core.Path.{_∙_}
+use Rattle.slices.proofs.Elements.{whole-signed}
+use borrow.Author.Needs.{needs}
+use Rattle.slices.proofs.wholes.Statement.{statement}
+use Rattle.slices.proofs.wholes.Tie as tie
+
+signed-element-at-requires : tie.Need-signed-element-at-requires
+signed-element-at-requires c κs = search needs
+
+returns : tie.Need-returns
+returns c = c .signed-element-at .ensures (omega arith) ∙ whole-signed (c .before .args .t .now)
+
+pub wholes-spec : {M : Type 1} → statement M
+wholes-spec = tie.close (tie.spec signed-element-at-requires returns)

@@ -1,0 +1,328 @@
+//! Lists of calls, each on what the last one left, with refused calls
+//! between: a session, and an opening move by move.
+
+use super::opening::all;
+use super::session::{numbers, polynomial, record};
+use super::VERDICTS;
+use crate::case::{Case, Outcome, Table};
+use crate::verified::{self, ELEMENT, POLYNOMIAL, SESSION};
+use reference::cases::{chains, Page};
+use reference::draw::base::{damage_length, damage_settings};
+use reference::draw::session::{self, Move, Session};
+use reference::draw::tables::{self, OpeningInput};
+use reference::draw::Limits;
+use reference::random::Random;
+use reference::types::{Record, Settings, ZERO_POLYNOMIAL};
+use reference::{fast, plain};
+
+/// What was said in a list of calls: number and verdict of each.
+type Said = Vec<u32>;
+
+/// A session of a drawn transcript with refused moves between.
+#[derive(Clone)]
+pub struct Sessions(Session);
+
+impl Case for Sessions {
+    const NAME: &'static str = "sessions";
+
+    fn draw(random: &mut Random, limits: &Limits) -> Sessions {
+        Sessions(session::session(random, limits))
+    }
+
+    fn plain(&self) -> Outcome {
+        let answer = plain::session_start(self.0.settings, self.0.commitment);
+        let mut r = answer.record;
+        let (mut said, mut records): (Said, Vec<u32>) = (vec![answer.number], numbers(&r));
+        let mut last = 0;
+        for (step, _) in &self.0.moves {
+            let answer = match step {
+                Move::Round(c, e) => plain::session_round(r, *c, *e),
+                Move::End(f, key) => plain::session_end(r, *f, key),
+            };
+            r = answer.record;
+            said.extend([answer.number, answer.verdict]);
+            records.extend(numbers(&r));
+            last = last.max(answer.verdict);
+        }
+        Outcome::new(0)
+            .with("said", &said)
+            .with("records", &records)
+            .with_word("verdict", last, &VERDICTS)
+    }
+
+    fn verified(&self) -> Outcome {
+        let mut t = vec![u32::MAX; SESSION];
+        let number = verified::session_start(self.0.settings, &self.0.commitment, &mut t);
+        let (mut said, mut records): (Said, Vec<u32>) = (vec![number], t.clone());
+        let mut last = 0;
+        for (step, _) in &self.0.moves {
+            let mut verdict = u32::MAX;
+            let number = match step {
+                Move::Round(c, e) => verified::session_round(&c.concat(), *e, &mut t, &mut verdict),
+                Move::End(f, key) => verified::session_end(f, key, &mut t, &mut verdict),
+            };
+            said.extend([number, verdict]);
+            records.extend(&t);
+            last = last.max(verdict);
+        }
+        Outcome::new(0)
+            .with("said", &said)
+            .with("records", &records)
+            .with_word("verdict", last, &VERDICTS)
+    }
+
+    fn tables(&mut self) -> Vec<Table<'_>> {
+        Vec::new()
+    }
+
+    fn print(&self, page: &mut Page) {
+        chains::print_session(page, self.0.clone());
+    }
+}
+
+/// A call on the tables or on the record that is refused at any turn.
+#[derive(Clone, Copy)]
+enum Refused {
+    Round(Settings, u32),
+    Fold(Settings, u32, u32),
+    End(Settings, u32),
+    SessionRound(u32, u32),
+    /// Numbers of the key.
+    SessionEnd(usize),
+}
+
+fn refused(random: &mut Random, input: &OpeningInput) -> Refused {
+    let good = input.settings;
+    let mut bad = good;
+    let number = random.pick(&[3, 4, 5, 6]);
+    damage_settings(random, &mut bad, number);
+    let any = random.below(12) as u32;
+    let late = good.depth + random.below(3) as u32;
+    match random.below(8) {
+        0 => Refused::Round(bad, any),
+        1 => Refused::Round(good, late),
+        2 => Refused::Fold(bad, any, 0),
+        3 => Refused::Fold(good, any, 2 * good.degree),
+        4 => Refused::Fold(good, late, 0),
+        5 => Refused::End(bad, any),
+        6 => Refused::SessionRound(random.pick(&[0, good.modulus]), 2 * good.degree),
+        _ => {
+            let mut key = input.key.clone();
+            damage_length(random, &mut key);
+            Refused::SessionEnd(key.len())
+        }
+    }
+}
+
+/// The calls of an opening, on tables and a record that are lent to them.
+trait Calls {
+    fn commit(&mut self, t: &OpeningInput) -> (u32, Vec<u32>);
+    fn start(&mut self, s: Settings, commitment: &[u32]) -> u32;
+    fn round(&mut self, s: Settings, t: u32, tables: &OpeningInput) -> (u32, Vec<u32>);
+    fn fold(&mut self, s: Settings, t: u32, e: u32, tables: &mut OpeningInput) -> u32;
+    fn end(&mut self, s: Settings, t: u32, message: &[i32]) -> (u32, Vec<i32>);
+    fn session_round(&mut self, c: &[u32], e: u32) -> (u32, u32);
+    fn session_end(&mut self, last: &[i32], key: &[u32]) -> (u32, u32);
+}
+
+/// The verified library; the record is in a slice.
+struct Verified(Vec<u32>);
+
+impl Calls for Verified {
+    fn commit(&mut self, t: &OpeningInput) -> (u32, Vec<u32>) {
+        let mut out = vec![u32::MAX; ELEMENT];
+        let number = verified::commit(t.settings, &t.key, &t.message, &mut out);
+        (number, out)
+    }
+
+    fn start(&mut self, s: Settings, commitment: &[u32]) -> u32 {
+        verified::session_start(s, commitment, &mut self.0)
+    }
+
+    fn round(&mut self, s: Settings, t: u32, tables: &OpeningInput) -> (u32, Vec<u32>) {
+        let mut out = vec![u32::MAX; POLYNOMIAL];
+        let number = verified::round(s, t, &tables.key, &tables.message, &mut out);
+        (number, out)
+    }
+
+    fn fold(&mut self, s: Settings, t: u32, e: u32, tables: &mut OpeningInput) -> u32 {
+        verified::fold(s, t, e, &mut tables.key, &mut tables.message)
+    }
+
+    fn end(&mut self, s: Settings, t: u32, message: &[i32]) -> (u32, Vec<i32>) {
+        let mut out = vec![i32::MIN; ELEMENT];
+        let number = verified::end(s, t, message, &mut out);
+        (number, out)
+    }
+
+    fn session_round(&mut self, c: &[u32], e: u32) -> (u32, u32) {
+        let mut verdict = u32::MAX;
+        let number = verified::session_round(c, e, &mut self.0, &mut verdict);
+        (number, verdict)
+    }
+
+    fn session_end(&mut self, last: &[i32], key: &[u32]) -> (u32, u32) {
+        let mut verdict = u32::MAX;
+        let number = verified::session_end(last, key, &mut self.0, &mut verdict);
+        (number, verdict)
+    }
+}
+
+/// The simple reference.
+struct Plain(Record);
+
+impl Calls for Plain {
+    fn commit(&mut self, t: &OpeningInput) -> (u32, Vec<u32>) {
+        let answer = plain::commit(t.settings, &t.key, &t.message);
+        (answer.number, answer.commitment.to_vec())
+    }
+
+    fn start(&mut self, s: Settings, commitment: &[u32]) -> u32 {
+        let commitment = commitment.try_into().expect("an element");
+        let answer = plain::session_start(s, commitment);
+        self.0 = answer.record;
+        answer.number
+    }
+
+    fn round(&mut self, s: Settings, t: u32, tables: &OpeningInput) -> (u32, Vec<u32>) {
+        let answer = plain::prover_round(s, t, &tables.key, &tables.message);
+        (answer.number, answer.polynomial.concat())
+    }
+
+    fn fold(&mut self, s: Settings, t: u32, e: u32, tables: &mut OpeningInput) -> u32 {
+        plain::fold(s, t, e, &mut tables.key, &mut tables.message)
+    }
+
+    fn end(&mut self, s: Settings, t: u32, message: &[i32]) -> (u32, Vec<i32>) {
+        let answer = plain::prover_end(s, t, message);
+        (answer.number, answer.final_element.to_vec())
+    }
+
+    fn session_round(&mut self, c: &[u32], e: u32) -> (u32, u32) {
+        let answer = plain::session_round(self.0, polynomial(c), e);
+        self.0 = answer.record;
+        (answer.number, answer.verdict)
+    }
+
+    fn session_end(&mut self, last: &[i32], key: &[u32]) -> (u32, u32) {
+        let last = last.try_into().expect("an element");
+        let answer = plain::session_end(self.0, last, key);
+        self.0 = answer.record;
+        (answer.number, answer.verdict)
+    }
+}
+
+/// An opening move by move, with calls between that are refused. All that
+/// it gives must be what the whole opening gives.
+#[derive(Clone)]
+pub struct Moves {
+    input: OpeningInput,
+    /// The refused calls before each turn, and those before the end.
+    between: Vec<Vec<Refused>>,
+}
+
+impl Moves {
+    fn play(&self, calls: &mut impl Calls) -> (Said, Outcome) {
+        let mut t = self.input.clone();
+        let s = t.settings;
+        let (number, commitment) = calls.commit(&t);
+        let mut said = vec![number, calls.start(s, &commitment)];
+        let challenges = t.challenges.clone();
+        for (done, &e) in challenges.iter().enumerate() {
+            self.play_refused(calls, done, &mut t, &mut said);
+            let (number, c) = calls.round(s, done as u32, &t);
+            let (refusal, verdict) = calls.session_round(&c, e);
+            let fold = calls.fold(s, done as u32, e, &mut t);
+            said.extend([number, refusal, verdict, fold]);
+            for (j, element) in c.chunks(ELEMENT).enumerate() {
+                let at = (3 * done + j) * t.shape.d;
+                t.rounds[at..at + t.shape.d].copy_from_slice(&element[..t.shape.d]);
+            }
+        }
+        self.play_refused(calls, challenges.len(), &mut t, &mut said);
+        let (number, last) = calls.end(s, s.depth, &t.message);
+        let (refusal, verdict) = calls.session_end(&last, &self.input.key);
+        said.extend([number, refusal]);
+        (said, all(0, &t, &commitment, &last, verdict))
+    }
+
+    /// Plays the refused calls before a turn; what they would have written
+    /// is not used.
+    fn play_refused(
+        &self,
+        calls: &mut impl Calls,
+        turn: usize,
+        t: &mut OpeningInput,
+        said: &mut Said,
+    ) {
+        for &call in &self.between[turn] {
+            let number = match call {
+                Refused::Round(s, done) => calls.round(s, done, t).0,
+                Refused::Fold(s, done, e) => calls.fold(s, done, e, t),
+                Refused::End(s, done) => calls.end(s, done, &t.message).0,
+                Refused::SessionRound(x, e) => {
+                    let mut c = ZERO_POLYNOMIAL;
+                    c[1][0] = x;
+                    calls.session_round(&c.concat(), e).0
+                }
+                Refused::SessionEnd(length) => calls.session_end(&[0; ELEMENT], &vec![0; length]).0,
+            };
+            assert_ne!(number, 0, "a call between was not refused");
+            said.push(number);
+        }
+    }
+}
+
+impl Case for Moves {
+    const NAME: &'static str = "open by moves";
+
+    fn draw(random: &mut Random, limits: &Limits) -> Moves {
+        let input = tables::opening(random, limits);
+        let mut between = Vec::new();
+        for _ in 0..=input.shape.l {
+            let mut calls = Vec::new();
+            while random.one_in(2) {
+                calls.push(refused(random, &input));
+            }
+            between.push(calls);
+        }
+        Moves { input, between }
+    }
+
+    fn plain(&self) -> Outcome {
+        let (said, outcome) = self.play(&mut Plain(Record::refused()));
+        outcome.with("said", &said)
+    }
+
+    /// The whole opening, with what the simple reference said on the way.
+    fn fast(&self) -> Option<Outcome> {
+        let (said, _) = self.play(&mut Plain(Record::refused()));
+        let mut t = self.input.clone();
+        let (key, message, rounds) = (&mut t.key, &mut t.message, &mut t.rounds);
+        let answer = fast::whole_opening(t.settings, key, message, &t.challenges, rounds);
+        let (c, f) = (answer.commitment, answer.final_element);
+        Some(all(answer.number, &t, &c, &f, answer.verdict).with("said", &said))
+    }
+
+    fn verified(&self) -> Outcome {
+        let mut calls = Verified(vec![u32::MAX; SESSION]);
+        let (said, outcome) = self.play(&mut calls);
+        assert!(record(&calls.0).closed);
+        outcome.with("said", &said)
+    }
+
+    fn tables(&mut self) -> Vec<Table<'_>> {
+        vec![
+            Table::Unsigned(&mut self.input.key),
+            Table::Signed(&mut self.input.message),
+            Table::Unsigned(&mut self.input.challenges),
+        ]
+    }
+
+    fn print(&self, page: &mut Page) {
+        chains::print_moves(page, &mut Random::new(1), &self.input, false);
+        let between: Vec<usize> = self.between.iter().map(Vec::len).collect();
+        page.header("refused calls before each turn:");
+        page.numbers(between);
+    }
+}

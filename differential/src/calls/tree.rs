@@ -1,0 +1,200 @@
+//! The extractor.
+
+use super::lent::{lend, places, width};
+use crate::case::{Case, Outcome, Table};
+use crate::verified;
+use reference::cases::{calls, Page};
+use reference::draw::base;
+use reference::draw::tree::{self, Tree};
+use reference::draw::{damage_by, damage_some, Limits};
+use reference::random::Random;
+use reference::refuse::BRANCH;
+use reference::types::{Residues, Settings};
+use reference::{fast, plain};
+
+#[derive(Clone)]
+pub struct Extract {
+    /// With the commitment that the lent slice stands for.
+    tree: Tree,
+    commitment: Vec<u32>,
+}
+
+/// The extractor by one of the references.
+type Extractor = fn(Settings, Residues, &[u32], &[u32], &[u32], &[i32], &mut [i64]) -> u32;
+
+/// Leaves times coefficients of the key from which on the simple reference,
+/// which folds the key anew for each path, takes seconds.
+const LONG: usize = 20_000_000;
+
+impl Extract {
+    fn new(random: &mut Random, mut tree: Tree) -> Extract {
+        let commitment = lend(&tree.commitment, width(random, tree.shape.d), u32::MAX);
+        tree.commitment = places(&commitment);
+        Extract { tree, commitment }
+    }
+
+    fn outcome(&self, extract: Extractor) -> Outcome {
+        let t = &self.tree;
+        let mut w = t.w.clone();
+        let number = extract(
+            t.settings,
+            t.commitment,
+            &t.key,
+            &t.rounds,
+            &t.challenges,
+            &t.leaves,
+            &mut w,
+        );
+        Outcome::new(number).with("w", &w)
+    }
+}
+
+/// Settings at which an accepted tree is refused by 14, with small trees.
+fn growing(random: &mut Random) -> Settings {
+    let (degree, depth, least) = random.pick(&[(16, 5, 17), (8, 6, 23), (64, 4, 1), (32, 5, 1)]);
+    let bound = random.between(least, 127) as u32;
+    Settings::new(degree, depth, base::modulus(random), bound)
+}
+
+/// An accepted tree: of a message, or with leaves that are in general no
+/// folds of one. Once in three times the modulus is small or not prime.
+fn accepted(random: &mut Random, mut settings: Settings) -> Tree {
+    if random.one_in(3) {
+        settings.modulus = random.pick(&[3, 9, 15, 21, 105]);
+    }
+    if random.one_in(2) {
+        tree::honest_at(random, settings).0
+    } else {
+        tree::free_at(random, settings)
+    }
+}
+
+impl Case for Extract {
+    const NAME: &'static str = "extract";
+    const NUMBERS: &'static [u32] = &[0, 3, 4, 5, 6, 7, 8, 10, 12, 13, 14];
+
+    fn draw(random: &mut Random, limits: &Limits) -> Extract {
+        let settings = if limits.tree > 10_000 && random.one_in(2) {
+            growing(random)
+        } else {
+            base::settings(random, limits, true)
+        };
+        let mut tree = accepted(random, settings);
+        if random.one_in(2) {
+            damage_some(random, &mut tree);
+        }
+        Extract::new(random, tree)
+    }
+
+    fn plain(&self) -> Outcome {
+        if self.tree.shape.leaves() * self.tree.shape.table() > LONG {
+            return self.outcome(fast::extract);
+        }
+        self.outcome(plain::extract)
+    }
+
+    fn fast(&self) -> Option<Outcome> {
+        Some(self.outcome(fast::extract))
+    }
+
+    fn verified(&self) -> Outcome {
+        let t = &self.tree;
+        let mut w = t.w.clone();
+        let number = verified::extract(
+            t.settings,
+            &self.commitment,
+            &t.key,
+            &t.rounds,
+            &t.challenges,
+            &t.leaves,
+            &mut w,
+        );
+        Outcome::new(number).with("w", &w)
+    }
+
+    fn tables(&mut self) -> Vec<Table<'_>> {
+        vec![
+            Table::Unsigned(&mut self.tree.key),
+            Table::Unsigned(&mut self.tree.rounds),
+            Table::Unsigned(&mut self.tree.challenges),
+            Table::Signed(&mut self.tree.leaves),
+            Table::Wide(&mut self.tree.w),
+        ]
+    }
+
+    fn print(&self, page: &mut Page) {
+        calls::extract(page, &self.tree);
+        page.header(&format!("a slice of {}", self.commitment.len()));
+    }
+}
+
+/// Trees of the largest sizes that growth allows, by degree.
+#[derive(Clone)]
+pub struct Large(Extract);
+
+/// Trees of degree 64 and depth 8, which are refused by 14, or by 13 where a
+/// path is damaged.
+#[derive(Clone)]
+pub struct Largest(Extract);
+
+/// An accepted tree, or once in three times one with a damaged path. Where
+/// `limits` have no size a smaller tree is wanted.
+fn sized(random: &mut Random, limits: &Limits, sizes: &[(u32, u32, u32)]) -> Extract {
+    if limits.tree == usize::MAX {
+        return Extract::draw(random, limits);
+    }
+    let (degree, depth, bound) = random.pick(sizes);
+    let settings = Settings::new(degree, depth, base::modulus(random), bound);
+    let mut tree = accepted(random, settings);
+    if random.one_in(3) {
+        damage_by(random, &mut tree, &[BRANCH]);
+    }
+    Extract::new(random, tree)
+}
+
+/// Trees of some sizes are compared as any are.
+macro_rules! sized {
+    ($case:ident, $name:expr, $sizes:expr) => {
+        impl Case for $case {
+            const NAME: &'static str = $name;
+
+            fn draw(random: &mut Random, limits: &Limits) -> $case {
+                $case(sized(random, limits, $sizes))
+            }
+
+            fn plain(&self) -> Outcome {
+                self.0.plain()
+            }
+
+            fn fast(&self) -> Option<Outcome> {
+                self.0.fast()
+            }
+
+            fn verified(&self) -> Outcome {
+                self.0.verified()
+            }
+
+            fn tables(&mut self) -> Vec<Table<'_>> {
+                self.0.tables()
+            }
+
+            fn print(&self, page: &mut Page) {
+                self.0.print(page);
+            }
+        }
+    };
+}
+
+sized!(
+    Large,
+    "extract, large",
+    &[
+        (64, 3, 127),
+        (32, 4, 127),
+        (16, 5, 16),
+        (8, 6, 22),
+        (4, 8, 2),
+        (2, 8, 127),
+    ]
+);
+sized!(Largest, "extract, largest", &[(64, 8, 127)]);

@@ -1,0 +1,60 @@
+//! The whole opening.
+
+use reference::types::Settings;
+
+extern "C" {
+    fn wovenrock_open(
+        degree: u32,
+        depth: u32,
+        modulus: u32,
+        bound: u32,
+        key: *mut u32,
+        key_length: usize,
+        message: *mut i32,
+        message_length: usize,
+        challenges: *const u32,
+        challenges_length: usize,
+        rounds: *mut u32,
+        rounds_length: usize,
+        commitment: *mut u32,
+        commitment_length: usize,
+        last: *mut i32,
+        last_length: usize,
+        verdict: *mut u32,
+    ) -> u32;
+}
+
+/// The whole opening.
+#[allow(clippy::too_many_arguments)]
+pub fn open(
+    s: Settings,
+    key: &mut [u32],
+    message: &mut [i32],
+    challenges: &[u32],
+    rounds: &mut [u32],
+    commitment: &mut [u32],
+    last: &mut [i32],
+    verdict: &mut u32,
+) -> u32 {
+    unsafe {
+        wovenrock_open(
+            s.degree,
+            s.depth,
+            s.modulus,
+            s.bound,
+            key.as_mut_ptr(),
+            key.len(),
+            message.as_mut_ptr(),
+            message.len(),
+            challenges.as_ptr(),
+            challenges.len(),
+            rounds.as_mut_ptr(),
+            rounds.len(),
+            commitment.as_mut_ptr(),
+            commitment.len(),
+            last.as_mut_ptr(),
+            last.len(),
+            verdict,
+        )
+    }
+}

@@ -1,0 +1,85 @@
+//! The verifier's session on a record in a slice.
+
+use reference::types::Settings;
+
+extern "C" {
+    fn wovenrock_session_start(
+        degree: u32,
+        depth: u32,
+        modulus: u32,
+        bound: u32,
+        commitment: *const u32,
+        commitment_length: usize,
+        session: *mut u32,
+        session_length: usize,
+    ) -> u32;
+
+    fn wovenrock_session_round(
+        polynomial: *const u32,
+        polynomial_length: usize,
+        exponent: u32,
+        session: *mut u32,
+        session_length: usize,
+        verdict: *mut u32,
+    ) -> u32;
+
+    fn wovenrock_session_end(
+        last: *const i32,
+        last_length: usize,
+        key: *const u32,
+        key_length: usize,
+        session: *mut u32,
+        session_length: usize,
+        verdict: *mut u32,
+    ) -> u32;
+}
+
+/// A session's start.
+pub fn session_start(s: Settings, commitment: &[u32], session: &mut [u32]) -> u32 {
+    unsafe {
+        wovenrock_session_start(
+            s.degree,
+            s.depth,
+            s.modulus,
+            s.bound,
+            commitment.as_ptr(),
+            commitment.len(),
+            session.as_mut_ptr(),
+            session.len(),
+        )
+    }
+}
+
+/// A session's round.
+pub fn session_round(
+    polynomial: &[u32],
+    exponent: u32,
+    session: &mut [u32],
+    verdict: &mut u32,
+) -> u32 {
+    unsafe {
+        wovenrock_session_round(
+            polynomial.as_ptr(),
+            polynomial.len(),
+            exponent,
+            session.as_mut_ptr(),
+            session.len(),
+            verdict,
+        )
+    }
+}
+
+/// A session's end.
+pub fn session_end(last: &[i32], key: &[u32], session: &mut [u32], verdict: &mut u32) -> u32 {
+    unsafe {
+        wovenrock_session_end(
+            last.as_ptr(),
+            last.len(),
+            key.as_ptr(),
+            key.len(),
+            session.as_mut_ptr(),
+            session.len(),
+            verdict,
+        )
+    }
+}

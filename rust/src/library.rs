@@ -1,0 +1,162 @@
+//! The functions of the static library, as `include/wovenrock.h` declares them.
+//!
+//! Each needs nothing of its arguments but that a slice is what its pointer and
+//! its length say, and that a slice that is written overlaps no other.
+
+extern "C" {
+    pub fn wovenrock_settings(degree: u32, depth: u32, modulus: u32, bound: u32) -> u32;
+
+    pub fn wovenrock_commit(
+        degree: u32,
+        depth: u32,
+        modulus: u32,
+        bound: u32,
+        key: *const u32,
+        key_length: usize,
+        message: *const i32,
+        message_length: usize,
+        commitment: *mut u32,
+        commitment_length: usize,
+    ) -> u32;
+
+    pub fn wovenrock_round(
+        degree: u32,
+        depth: u32,
+        modulus: u32,
+        bound: u32,
+        done: u32,
+        key: *const u32,
+        key_length: usize,
+        message: *const i32,
+        message_length: usize,
+        polynomial: *mut u32,
+        polynomial_length: usize,
+    ) -> u32;
+
+    pub fn wovenrock_fold(
+        degree: u32,
+        depth: u32,
+        modulus: u32,
+        bound: u32,
+        done: u32,
+        exponent: u32,
+        key: *mut u32,
+        key_length: usize,
+        message: *mut i32,
+        message_length: usize,
+    ) -> u32;
+
+    pub fn wovenrock_end(
+        degree: u32,
+        depth: u32,
+        modulus: u32,
+        bound: u32,
+        done: u32,
+        message: *const i32,
+        message_length: usize,
+        last: *mut i32,
+        last_length: usize,
+    ) -> u32;
+
+    pub fn wovenrock_open(
+        degree: u32,
+        depth: u32,
+        modulus: u32,
+        bound: u32,
+        key: *mut u32,
+        key_length: usize,
+        message: *mut i32,
+        message_length: usize,
+        challenges: *const u32,
+        challenges_length: usize,
+        rounds: *mut u32,
+        rounds_length: usize,
+        commitment: *mut u32,
+        commitment_length: usize,
+        last: *mut i32,
+        last_length: usize,
+        verdict: *mut u32,
+    ) -> u32;
+
+    pub fn wovenrock_session_start(
+        degree: u32,
+        depth: u32,
+        modulus: u32,
+        bound: u32,
+        commitment: *const u32,
+        commitment_length: usize,
+        session: *mut u32,
+        session_length: usize,
+    ) -> u32;
+
+    pub fn wovenrock_session_round(
+        polynomial: *const u32,
+        polynomial_length: usize,
+        exponent: u32,
+        session: *mut u32,
+        session_length: usize,
+        verdict: *mut u32,
+    ) -> u32;
+
+    pub fn wovenrock_session_end(
+        last: *const i32,
+        last_length: usize,
+        key: *const u32,
+        key_length: usize,
+        session: *mut u32,
+        session_length: usize,
+        verdict: *mut u32,
+    ) -> u32;
+
+    pub fn wovenrock_check(
+        degree: u32,
+        depth: u32,
+        modulus: u32,
+        bound: u32,
+        commitment: *const u32,
+        commitment_length: usize,
+        last: *const i32,
+        last_length: usize,
+        key: *const u32,
+        key_length: usize,
+        rounds: *const u32,
+        rounds_length: usize,
+        challenges: *const u32,
+        challenges_length: usize,
+        verdict: *mut u32,
+    ) -> u32;
+
+    pub fn wovenrock_judge(
+        degree: u32,
+        depth: u32,
+        modulus: u32,
+        bound: u32,
+        commitment: *const u32,
+        commitment_length: usize,
+        slack: u32,
+        key: *const u32,
+        key_length: usize,
+        w: *const i64,
+        w_length: usize,
+        yes: *mut u32,
+    ) -> u32;
+
+    pub fn wovenrock_extract(
+        degree: u32,
+        depth: u32,
+        modulus: u32,
+        bound: u32,
+        commitment: *const u32,
+        commitment_length: usize,
+        key: *const u32,
+        key_length: usize,
+        rounds: *const u32,
+        rounds_length: usize,
+        challenges: *const u32,
+        challenges_length: usize,
+        leaves: *const i32,
+        leaves_length: usize,
+        w: *mut i64,
+        w_length: usize,
+    ) -> u32;
+}
