@@ -62,6 +62,12 @@ pub zeros-length : (n : ℕ) → length (zeros n) ≡ n
 unfolding zeros
 zeros-length n = length-replicate n 0
 
+pub zeros-at : (n j : ℕ) → getD (zeros n) j 0 ≡ 0
+unfolding zeros
+zeros-at zero j = refl
+zeros-at (suc n) zero = refl
+zeros-at (suc n) (suc j) = zeros-at n j
+
 pub fill-none : (n : ℕ) (f : ℕ → ℕ) → replicate n 0 ≡ filled f 0 (zeros n)
 unfolding zeros
 fill-none n f = filled-none f (replicate n 0)

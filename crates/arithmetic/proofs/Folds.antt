@@ -1,45 +1,28 @@
--- One turn of a fold: what is read has not been written yet.
+-- The fold of a table, element by element: what is read has not been written yet.
 use mathlib.Core.Path.{_≡_, refl, sym, ap, _∙_}
-use mathlib.Core.List.{List, _++_}
-use Prim.Native.Nat.{ℕ, suc, _+_, _*_, _-_, _/_, _%_, _<_, _≤_}
+use mathlib.Core.List.{List}
+use Prim.Native.Nat.{ℕ, _+_, _*_, _-_, _/_, _%_, _<_, _≤_}
 use native.Mathlib.Nat as Nat
 use native.Mathlib.Omega.{arith}
-use lib.IntN.{ℤ, pos, _+ℤ_}
-use lib.ListN.{length, getD, take, drop, set, length-drop}
+use lib.IntN.{pos, _+ℤ_}
+use lib.ListN.{length, getD, take, drop, length-drop}
 use lib.Seq.{getD-drop, take-all}
-use Rattle.protocol.specs.Basic.{tabulate, flat}
-use Rattle.protocol.specs.Element.{Element, modulo, around, rotate, residue, residueAt}
+use Rattle.protocol.specs.Basic.{flat}
+use Rattle.protocol.specs.Element.{modulo, around, residue, residueAt}
 use Rattle.protocol.specs.Opening.{foldResidues}
 use Rattle.protocol.proofs.Reading.{cell-element, cell-place}
 use Rattle.arithmetic.specs.Folds.{spliced, foldCell, folded, foldDown}
 use Rattle.arithmetic.proofs.Around.{around-ext, rotate-back}
-use Rattle.arithmetic.proofs.Splice.{spliced-none, spliced-more, spliced-behind, spliced-twice}
+use Rattle.arithmetic.proofs.Splice.{spliced-none, spliced-behind, spliced-twice}
 
 -- the tail of a list as the code lends it
 pub tail-all {ℓ} : {A : Type ℓ} (s : ℕ) (l : List A) → take (length l - s) (drop s l) ≡ drop s l
 tail-all s l = take-all (length l - s) (drop s l) (omega (arith, length-drop s l))
 
-module _ (q d back to first second : ℕ) (t₀ : List ℕ) where
-  abbrev cell : ℕ → ℕ
-  cell = foldCell q d back (drop first t₀) (drop second t₀)
-
-  module _ (t : List ℕ) (k : ℕ) (e : t ≡ spliced cell to k t₀) (a : to ≤ first) (b : to + d ≤ second) (c : second + d ≤ length t₀) (l : k < d) where
-    as-was : (j : ℕ) → to + k ≤ j → getD t j 0 ≡ getD t₀ j 0
-    as-was j h = ap (λ x. getD x j 0) e ∙ spliced-behind cell to k t₀ (omega arith) j h
-
-    part-at : (j : ℕ) → getD (take (length t - second) (drop second t)) j 0 ≡ getD (drop second t₀) j 0
-    part-at j = ap (λ x. getD x j 0) (tail-all second t) ∙ getD-drop second t j 0 ∙ as-was (second + j) (omega arith) ∙ sym (getD-drop second t₀ j 0)
-
-    pub cell-is : modulo q (pos (getD t (first + k) 0) +ℤ around d (residue (take (length t - second) (drop second t))) (k + back)) ≡ cell k
-    unfolding foldCell residue
-    cell-is =
-        (λ i. modulo q (pos ((as-was (first + k) (omega arith) ∙ sym (getD-drop first t₀ k 0)) i) +ℤ around d (residue (take (length t - second) (drop second t))) (k + back)))
-        ∙ ap (λ z. modulo q (pos (getD (drop first t₀) k 0) +ℤ z)) (around-ext d (k + back) (omega arith) (λ j _. ap pos (part-at j)))
-
-    pub turn-is : set t (to + k) (cell k) ≡ spliced cell to (k + 1) t₀
-    turn-is = ap (λ x. set x (to + k) (cell k)) e ∙ spliced-more cell to k t₀ (omega arith) (omega arith)
-
--- ---- the fold of a table, element by element
+-- one coefficient of a fold
+pub cell-is : (q d back first : ℕ) (t b : List ℕ) (k : ℕ) → modulo q (pos (getD t (first + k) 0) +ℤ around d (residue b) (k + back)) ≡ foldCell q d back (drop first t) b k
+unfolding foldCell
+cell-is q d back first t b k = ap (λ n. modulo q (pos n +ℤ around d (residue b) (k + back))) (sym (getD-drop first t k 0))
 
 -- element j ends inside its half
 pub row-inside : (d h j : ℕ) → j < h → j * d + d ≤ h * d

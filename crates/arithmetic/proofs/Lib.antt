@@ -1,10 +1,11 @@
 pub mod Scan
 pub mod Magnitude
 pub mod Around
-pub mod Differences
 pub mod Fill
 pub mod SignedFill
 pub mod Splice
 pub mod Folds
 pub mod Rows
 pub mod Padding
+pub mod Extension
+pub mod Turns

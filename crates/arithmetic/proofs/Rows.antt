@@ -1,5 +1,5 @@
 -- The rows of a product: one row, all rows where no sum reaches 2^64, and what the sums are modulo q.
-use mathlib.Core.Path.{_≡_, refl, sym, ap, _∙_}
+use mathlib.Core.Path.{_≡_, refl, sym, ap, _∙_, subst}
 use mathlib.Core.Bool.{true, false, false≢true}
 use mathlib.Core.List.{List, _++_}
 use Prim.Native.Nat.{ℕ, zero, suc, _+_, _*_, _-_, _%_, _^_, _<_, _≤_}
@@ -8,15 +8,16 @@ use native.Mathlib.Decide.{decLt}
 use native.Mathlib.Omega.{arith}
 use borrow.Author.Tests.{le-ltb}
 use lib.IntN.{ℤ, pos, negsuc, negℤ, _*ℤ_, natAbs}
-use lib.ListN.{length, getD, drop, set, replicate, getD-replicate, List·getD-append}
+use lib.ListN.{length, getD, drop, set, replicate, getD-replicate, length-map, List·getD-append, List·getD-map}
+use lib.Seq.{getD-append-add, ext-getD}
 use lib.Signed.{ltZ}
 use Rattle.protocol.specs.Basic.{sum, tabulate}
-use Rattle.protocol.specs.Element.{modulo, around, rotate, product, signed, residue, reduced, padded}
+use Rattle.protocol.specs.Element.{modulo, around, rotate, product, signed, residue, zeros, reduced, padded}
 use Rattle.protocol.proofs.Modulo.{modulo-lt, modulo-add, modulo-times}
 use Rattle.protocol.proofs.Reading.{tabulate-at, tabulate-length, tabulate-ext}
-use Rattle.arithmetic.specs.Products.{extension, start, addRow, addRows, total, term, limit, reducedSums}
+use Rattle.arithmetic.specs.Products.{extension, narrowed, start, addRow, nextRow, addRows, addFour, total, term, limit, reducedSums}
 use Rattle.arithmetic.proofs.Around.{around-next, rotate-at}
-use Rattle.arithmetic.proofs.Fill.{filled, filled-more, filled-behind, filled-length}
+use Rattle.arithmetic.proofs.Fill.{filled, filled-more, filled-behind, filled-length, filled-ext, filled-at, filled-turn, filled-again, zeros-at}
 
 -- ---- where a row begins
 
@@ -55,6 +56,61 @@ row-length d m at x s h = ap length (sym (row-done d m at x s)) ∙ filled-lengt
 pub row-at : (d m at : ℕ) (x s : List ℕ) (k : ℕ) → k < d → getD (addRow d m at x s) k 0 ≡ rowCell m at x s k
 unfolding addRow
 row-at d m at x s k h = List·getD-append (tabulate d (rowCell m at x s)) (drop d s) 0 k (omega (arith, tabulate-length d (rowCell m at x s))) ∙ tabulate-at d (rowCell m at x s) 0 k h
+
+-- ---- what a row reads
+
+pub narrowed-at : (x : List ℕ) (j : ℕ) → getD (narrowed x) j 0 ≡ getD x j 0 % 2 ^ 32
+unfolding narrowed
+narrowed-at x j = List·getD-map (λ y. y % 2 ^ 32) x j 0
+
+-- a cell of a row over what the function f fills in
+abbrev pub overCell : (ℕ → ℕ) → ℕ → ℕ → List ℕ → ℕ → ℕ
+overCell f m at x k = (f k + m * getD x (at + k) 0) % 2 ^ 64
+
+-- as it is worked out from a list whose numbers are narrowed first
+pub cell-narrowed : (y m at : ℕ) (x : List ℕ) (k : ℕ) → (y + m * (getD x (at + k) 0 % 2 ^ 32)) % 2 ^ 64 ≡ (y + m * getD (narrowed x) (at + k) 0) % 2 ^ 64
+cell-narrowed y m at x k = ap (λ z. (y + m * z) % 2 ^ 64) (sym (narrowed-at x (at + k)))
+
+row-over : (d m at : ℕ) (x : List ℕ) (f : ℕ → ℕ) (s : List ℕ) → filled (overCell f m at x) d s ≡ addRow d m at x (filled f d s)
+row-over d m at x f s = sym (
+    sym (row-done d m at x (filled f d s)) ∙ filled-again f (rowCell m at x (filled f d s)) d s
+    ∙ filled-ext (rowCell m at x (filled f d s)) (overCell f m at x) d s (λ k h. ap (λ y. (y + m * getD x (at + k) 0) % 2 ^ 64) (filled-at f d s 0 k h)))
+
+module _ (m0 at0 m1 at1 m2 at2 m3 at3 : ℕ) (x : List ℕ) where
+  -- four rows at once
+  abbrev pub fourCell : List ℕ → ℕ → ℕ
+  fourCell s = overCell (overCell (overCell (rowCell m0 at0 x s) m1 at1 x) m2 at2 x) m3 at3 x
+
+  pub four-done : (d : ℕ) (s : List ℕ) → filled (fourCell s) d s ≡ addRow d m3 at3 x (addRow d m2 at2 x (addRow d m1 at1 x (addRow d m0 at0 x s)))
+  four-done d s =
+      row-over d m3 at3 x _ s
+      ∙ ap (addRow d m3 at3 x) (row-over d m2 at2 x _ s ∙ ap (addRow d m2 at2 x) (row-over d m1 at1 x (rowCell m0 at0 x s) s ∙ ap (addRow d m1 at1 x) (row-done d m0 at0 x s)))
+
+-- a turn of the loop that adds four rows at once
+pub four-turn : (m0 at0 m1 at1 m2 at2 m3 at3 : ℕ) (x s₀ s : List ℕ) (k : ℕ) (first second third fourth : ℕ) → let cell = fourCell m0 at0 m1 at1 m2 at2 m3 at3 (narrowed x) s₀ in
+    s ≡ filled cell k s₀ → k < length s₀
+    → first ≡ (getD s k 0 + m0 * (getD x (at0 + k) 0 % 2 ^ 32)) % 2 ^ 64 → second ≡ (first + m1 * (getD x (at1 + k) 0 % 2 ^ 32)) % 2 ^ 64
+    → third ≡ (second + m2 * (getD x (at2 + k) 0 % 2 ^ 32)) % 2 ^ 64 → fourth ≡ (third + m3 * (getD x (at3 + k) 0 % 2 ^ 32)) % 2 ^ 64
+    → set s k fourth ≡ filled cell (k + 1) s₀
+four-turn m0 at0 m1 at1 m2 at2 m3 at3 x s₀ s k first second third fourth e h one two three four =
+    let cell : ℕ → ℕ = fourCell m0 at0 m1 at1 m2 at2 m3 at3 (narrowed x) s₀ in
+    let over : ℕ → ℕ → ℕ → ℕ = λ m at y. (y + m * getD (narrowed x) (at + k) 0) % 2 ^ 64 in
+    filled-turn cell k s₀ e
+    (four ∙ cell-narrowed third m3 at3 x k ∙ ap (over m3 at3)
+    (three ∙ cell-narrowed second m2 at2 x k ∙ ap (over m2 at2)
+    (two ∙ cell-narrowed first m1 at1 x k ∙ ap (over m1 at1)
+    (one ∙ cell-narrowed (getD s k 0) m0 at0 x k ∙ ap (over m0 at0) (ap (λ l. getD l k 0) e ∙ filled-behind cell k s₀ 0 k (Nat.le-refl k))))))
+    h
+
+pub four-more : (d : ℕ) (f : List ℤ) (x : List ℕ) (j : ℕ) (s : List ℕ) → addFour d f x j (addRows d f x j s) ≡ addRows d f x (j + 4) s
+unfolding addFour addRows
+four-more d f x j s =
+    let one : j + 1 ≡ suc j = omega arith in
+    let two : j + 2 ≡ suc (suc j) = omega arith in
+    let three : j + 3 ≡ suc (suc (suc j)) = omega arith in
+    let four : suc (suc (suc (suc j))) ≡ j + 4 = omega arith in
+    (λ i. nextRow d f x (three i) (nextRow d f x (two i) (nextRow d f x (one i) (nextRow d f x j (addRows d f x j s)))))
+    ∙ ap (λ n. addRows d f x n s) four
 
 -- ---- sums
 
@@ -100,6 +156,23 @@ module _ (q d : ℕ) (p : 0 < q) (pd : 0 < d) (a : List ℕ) where
   extension-at y h =
       List·getD-append (tabulate (3 * d) (λ z. modulo q (around d (residue a) z))) _ 0 y (omega (arith, tabulate-length (3 * d) (λ z. modulo q (around d (residue a) z))))
       ∙ tabulate-at (3 * d) (λ z. modulo q (around d (residue a) z)) 0 y h
+
+  pub extension-below : (y : ℕ) → getD (extension q d a) y 0 < q
+  unfolding extension
+  extension-below y = elim (decLt y (3 * d)) [
+    | yes h ↦ subst (λ x. x < q) (sym (unfold extension in extension-at y h)) (modulo-lt q p _)
+    | no h ↦ subst (λ x. x < q) (sym (
+        ap (λ n. getD (tabulate (3 * d) f ++ zeros (192 - 3 * d)) n 0) {y = length (tabulate (3 * d) f) + (y - 3 * d)} (omega (arith, tabulate-length (3 * d) f))
+        ∙ getD-append-add (tabulate (3 * d) f) _ (y - 3 * d) 0
+        ∙ zeros-at _ _)) p
+  ]
+    where
+      f : ℕ → ℕ
+      f = λ x. modulo q (around d (residue a) x)
+
+  -- residues are read as they are
+  pub narrowed-extension : q ≤ 2 ^ 32 → narrowed (extension q d a) ≡ extension q d a
+  narrowed-extension w = ext-getD 0 _ _ (unfold narrowed in length-map (extension q d a) (λ y. y % 2 ^ 32)) (λ j _. narrowed-at (extension q d a) j ∙ Nat.mod-eq-of-lt (omega (arith, extension-below j)))
 
   opposite : (n : ℕ) (z : ℤ) → negsuc n *ℤ negℤ z ≡ pos (suc n) *ℤ z
   opposite n (pos zero) = ap (λ m. negℤ (pos m)) (Nat.mul-zero (suc n)) ∙ ap pos (sym (Nat.mul-zero (suc n)))

@@ -1,16 +1,15 @@
--- Loops that test one entry after the other and stop at the first that fails.
+-- Loops that test one entry after the other.
 use mathlib.Core.Path.{_≡_, refl, sym, ap, _∙_}
-use mathlib.Core.Bool.{Bool, true, false, _&&_, false≢true}
+use mathlib.Core.Bool.{Bool, true, false, _&&_}
 use mathlib.Core.List.{List, []}
 use Prim.Native.Nat.{ℕ, suc, _+_, _<_, _≤_}
 use native.Mathlib.Numerals.{add-one}
-use native.Mathlib.Omega.{arith}
 use lib.ListN.{length, getD, drop, drop-of-length-le}
 use lib.Seq.{drop-cons}
 use Rattle.protocol.specs.Basic.{every, all}
 use Rattle.protocol.proofs.Tests.{and-intro, every-at}
 
--- ---- over a table: what is left decides
+-- ---- over a table, in a loop that stops at the first that fails: what is left decides
 
 module _ {ℓ} {A : Type ℓ} (f : A → Bool) (t : List A) (z : A) (i : ℕ) (e : all f t ≡ all f (drop i t)) where
   at : i < length t → all f t ≡ (f (getD t i z) && all f (drop (suc i) t))
@@ -26,6 +25,33 @@ module _ {ℓ} {A : Type ℓ} (f : A → Bool) (t : List A) (z : A) (i : ℕ) (e
   pub all-ends : length t ≤ i → true ≡ all f t
   unfolding all
   all-ends h = sym (e ∙ ap (all f) (drop-of-length-le t h))
+
+-- ---- the same in a loop that asks all entries: what is known, and what is left, decide
+
+and-assoc : (a b c : Bool) → (a && (b && c)) ≡ ((a && b) && c)
+and-assoc true b c = refl
+and-assoc false b c = refl
+
+pub and-true : (a : Bool) → (a && true) ≡ a
+and-true true = refl
+and-true false = refl
+
+pub and-false : (a : Bool) → (a && false) ≡ false
+and-false true = refl
+and-false false = refl
+
+module _ {ℓ} {A : Type ℓ} (f : A → Bool) (t : List A) (z : A) (i : ℕ) (good : Bool) (e : all f t ≡ (good && all f (drop i t))) where
+  pub asked-goes-on : i < length t → {next : Bool} → next ≡ (good && f (getD t i z)) → all f t ≡ (next && all f (drop (i + 1) t))
+  unfolding all
+  asked-goes-on h n =
+      e
+      ∙ ap (λ l. good && all f l) (drop-cons t i z h)
+      ∙ and-assoc good (f (getD t i z)) (all f (drop (suc i) t))
+      ∙ sym (λ j. n j && all f (drop (add-one i j) t))
+
+  pub asked-ends : length t ≤ i → good ≡ all f t
+  unfolding all
+  asked-ends h = sym (e ∙ ap (λ l. good && all f l) (drop-of-length-le t h) ∙ and-true good)
 
 -- ---- over the places below n: those that are passed hold
 

@@ -1,16 +1,17 @@
 -- A part of a list that is overwritten from its front on.
 use mathlib.Core.Path.{_≡_, refl, sym, ap, _∙_}
 use mathlib.Core.List.{List, [], _∷_, _++_}
-use Prim.Native.Nat.{ℕ, zero, suc, _+_, _-_, _<_, _≤_}
+use Prim.Native.Nat.{ℕ, _+_, _-_, _<_, _≤_}
 use native.Mathlib.Nat as Nat
 use native.Mathlib.Decide.{decLt}
 use native.Mathlib.Omega.{arith}
-use lib.ListN.{length, getD, take, drop, set, length-append, length-drop, take-append-drop, List·getD-append}
+use lib.ListN.{length, getD, take, drop, set, replicate, length-append, length-drop, take-append-drop, List·getD-append}
 use lib.Seq.{length-take-le, getD-append-add, getD-drop, getD-take, ext-getD}
 use Rattle.protocol.specs.Basic.{tabulate}
-use Rattle.protocol.proofs.Reading.{tabulate-at, tabulate-length}
+use Rattle.protocol.specs.Element.{zeros, padded}
+use Rattle.protocol.proofs.Reading.{tabulate-at, tabulate-length, tabulate-ext}
 use Rattle.arithmetic.specs.Folds.{spliced}
-use Rattle.arithmetic.proofs.Fill.{filled, filled-none, filled-more, filled-behind, filled-length}
+use Rattle.arithmetic.proofs.Fill.{filled, filled-more, filled-behind, filled-length, element-done}
 
 set-behind {ℓ} : {A : Type ℓ} (xs ys : List A) (n : ℕ) (a : A) → set (xs ++ ys) (length xs + n) a ≡ xs ++ set ys n a
 set-behind [] ys n a = ap (λ m. set ys m a) (Nat.zero-add n)
@@ -57,6 +58,25 @@ module _ (f : ℕ → ℕ) (at n : ℕ) (l : List ℕ) (inside : at ≤ length l
       ∙ filled-behind f n (drop at l) 0 (j - at) (omega arith)
       ∙ getD-drop at l (j - at) 0
       ∙ ap (λ x. getD l x 0) (omega arith)
+
+-- a turn of a loop that writes one entry after the other, its end, and other names for what is written
+pub spliced-turn : (f : ℕ → ℕ) (at k : ℕ) (l : List ℕ) {s : List ℕ} {v : ℕ} → s ≡ spliced f at k l → v ≡ f k → at + k < length l → set s (at + k) v ≡ spliced f at (k + 1) l
+spliced-turn f at k l e w h = (λ i. set (e i) (at + k) (w i)) ∙ spliced-more f at k l (omega arith) h
+
+pub spliced-end : (f : ℕ → ℕ) (at : ℕ) (l : List ℕ) {k n : ℕ} {s : List ℕ} → s ≡ spliced f at k l → k ≡ n → s ≡ spliced f at n l
+spliced-end f at l e h = e ∙ ap (λ m. spliced f at m l) h
+
+pub spliced-ext : (f g : ℕ → ℕ) (at n : ℕ) (l : List ℕ) → ((k : ℕ) → k < n → f k ≡ g k) → spliced f at n l ≡ spliced g at n l
+unfolding spliced
+spliced-ext f g at n l e = ap (λ s. take at l ++ (s ++ drop n (drop at l))) (tabulate-ext n e)
+
+-- over zeros; in particular an element that is passed by value
+pub spliced-zeros : (f : ℕ → ℕ) (n d : ℕ) → spliced f 0 d (replicate n 0) ≡ filled f d (zeros n)
+unfolding spliced filled zeros
+spliced-zeros f n d = refl
+
+pub spliced-element : (f g : ℕ → ℕ) (d : ℕ) → ((k : ℕ) → k < d → f k ≡ g k) → spliced f 0 d (replicate 64 0) ≡ padded d (tabulate d g)
+spliced-element f g d e = spliced-ext f g 0 d (replicate 64 0) e ∙ element-done g d d (spliced g 0 d (replicate 64 0)) (spliced-zeros g 64 d) refl
 
 -- two splices in a row, the second where the first ends
 module _ (f g : ℕ → ℕ) (at n m : ℕ) (l : List ℕ) (h : at + n + m ≤ length l) (e : (k : ℕ) → k < m → g k ≡ f (n + k)) where

@@ -1,3 +1,4 @@
 pub mod Elements
 pub mod Folds
 pub mod Products
+pub mod Residues

@@ -3,13 +3,16 @@
 --   extension q d a   the residues at the places 0 to 3d − 1 of a, going round by X^d = −1: each rotation of a, and its negative, is d of them in a row
 --   start d z j       where X^j·a, or for a negative z its negative, begins among them
 --   addRow d m at ..  the sums s with m times the d residues from place `at` on added, modulo 2^64
---   addRows d f x j   the sums after the first j rows: row j adds f_j·X^j·a
+--   nextRow d f x j s the sums s with row j added, which is f_j·X^j·a
+--   addRows d f x j   the sums after the first j rows
+--   narrowed x        the numbers of x modulo 2^32, which is what a row reads of them
+--   addFour d f x j s the sums s with the four rows from row j on added
 --   total n f         f 0 + f 1 + … + f (n − 1)
 --   term d f x k j    what row j adds to sum k
 --   reducedSums q d s the sums modulo q, an element
 --   Rows d ..         are the tables long enough
 --   limit             the magnitude of a coefficient with which no sum reaches 2^64
-use mathlib.Core.List.{List, _++_}
+use mathlib.Core.List.{List, _++_, map}
 use Prim.Native.Nat.{ℕ, zero, suc, _+_, _*_, _-_, _%_, _^_, _≤_, _<_}
 use lib.IntN.{ℤ, pos, negsuc, natAbs}
 use lib.ListN.{getD, drop}
@@ -26,9 +29,18 @@ start d (negsuc n) j = d - j
 unfoldable pub addRow : ℕ → ℕ → ℕ → List ℕ → List ℕ → List ℕ
 addRow d m at x s = tabulate d (λ k. (getD s k 0 + m * getD x (at + k) 0) % 2 ^ 64) ++ drop d s
 
+abbrev pub nextRow : ℕ → List ℤ → List ℕ → ℕ → List ℕ → List ℕ
+nextRow d f x j s = addRow d (natAbs (getD f j (pos 0))) (start d (getD f j (pos 0)) j) x s
+
 unfoldable pub addRows : ℕ → List ℤ → List ℕ → ℕ → List ℕ → List ℕ
 addRows d f x zero s = s
-addRows d f x (suc j) s = addRow d (natAbs (getD f j (pos 0))) (start d (getD f j (pos 0)) j) x (addRows d f x j s)
+addRows d f x (suc j) s = nextRow d f x j (addRows d f x j s)
+
+unfoldable pub narrowed : List ℕ → List ℕ
+narrowed x = map (λ y. y % 2 ^ 32) x
+
+unfoldable pub addFour : ℕ → List ℤ → List ℕ → ℕ → List ℕ → List ℕ
+addFour d f x j s = nextRow d f x (j + 3) (nextRow d f x (j + 2) (nextRow d f x (j + 1) (nextRow d f x j s)))
 
 unfoldable pub total : ℕ → (ℕ → ℕ) → ℕ
 total zero f = 0

@@ -78,10 +78,9 @@ pub fn add_rotated(q: u32, d: u32, e: u32, a: [u32; 64], b: [u32; 64]) -> [u32; 
     }
     let n = d as usize;
     let back = n + n - (e as usize) % (n + n);
-    let mut k: usize = 0;
-    while k < n {
-        c[k] = residues::add_around(q, n, a[k], &b, k + back);
-        k += 1;
-    }
+    let mut x = [0u32; 256];
+    residues::extend(q, n, &b, 0, &mut x);
+    residues::reduce_row(q, n, &a, 0, &mut x, 192);
+    residues::add_rows(q, n, &x, 192, back, &mut c, 0);
     c
 }

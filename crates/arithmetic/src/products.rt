@@ -1,54 +1,107 @@
-// Products of an element of whole numbers with an element of residues. Products are summed as they are and reduced once.
+// Products of an element of whole numbers with an element of residues. Products are summed as they are and reduced once. Residues stand in
+// 64 bits, and four rows are added at a time: so a row costs one product and one sum for each of its numbers.
 use crate::residues;
 use crate::tests;
 ghost use mathlib.Core.Path.{_≡_};
-ghost use Prim.Native.Nat.{ℕ, _+_, _*_, _%_, _<_, _≤_};
+ghost use mathlib.Core.List.{List};
+ghost use Prim.Native.Nat.{ℕ, _+_, _*_, _%_, _^_, _<_, _≤_};
 ghost use lib.IntN.{pos, natAbs};
 ghost use lib.ListN.{length, getD};
 ghost use Rattle.protocol.specs.Element.{padded, reduced, signed, residue};
 ghost use Rattle.protocol.specs.Element as Element;
-ghost use Rattle.arithmetic.specs.Products.{extension, start, addRow, addRows, Rows, limit, reducedSums};
+ghost use Rattle.arithmetic.specs.Folds.{spliced};
+ghost use Rattle.arithmetic.specs.Products.{extension, narrowed, start, addRow, addRows, addFour, Rows, limit, reducedSums};
+
+fn wide(x: u32) -> u64
+    ensures { λ r. ⌜ r ≡ x ⌝ }
+{
+    x as u64
+}
+
+// The first n numbers of a row, in 64 bits.
+fn widen(n: usize, x: &[u32], y: &mut [u64])
+    requires { ⌜ (n ≤ length (now x)) × (n ≤ length (now y)) ⌝ }
+    ensures { λ _. ⌜ now (y .exit) ≡ spliced (λ k. getD (now (x .entry)) k 0) 0 n (now (y .entry)) ⌝ }
+{
+    for k in 0..n {
+        y[k] = wide(x[k]);
+    }
+}
 
 // The residues that stand at the places 0 to 3d − 1 of a, going round by X^d = −1.
-pub fn extended(q: u32, d: u32, a: &[u32]) -> [u32; 192]
+pub fn extended(q: u32, d: u32, a: &[u32]) -> [u64; 192]
     ensures { λ r. ⌜ (0 < q → 0 < d → d ≤ 64 → d ≤ length (now (a .entry)) → r ≡ extension q d (now (a .entry))) ⌝ }
 {
-    let mut x = [0u32; 192];
+    let none = [0u64; 192];
     if q == 0 {
-        return x;
+        return none;
     }
     if d == 0 {
-        return x;
+        return none;
     }
     if d > 64 {
-        return x;
+        return none;
     }
     let n = d as usize;
     if a.len() < n {
-        return x;
+        return none;
     }
-    let mut p: usize = 0;
-    while p < 3 * n {
-        x[p] = residues::add_around(q, n, 0, a, p);
-        p += 1;
-    }
-    x
+    let mut x = [0u32; 192];
+    residues::extend(q, n, a, 0, &mut x);
+    let mut y = [0u64; 192];
+    widen(3 * n, &x, &mut y);
+    y
 }
 
-fn scaled(m: u32, y: u32) -> u64
-    ensures { λ r. ⌜ r ≡ m * y ⌝ }
+// m·y, y being below 2^32.
+fn scaled(m: u32, y: u64) -> u64
+    ensures { λ r. ⌜ r ≡ m * (y % 2 ^ 32) ⌝ }
 {
-    (m as u64) * (y as u64)
+    (m as u64) * (y % 4294967296)
+}
+
+// s + m·y modulo 2^64
+fn plus_scaled(s: u64, m: u32, y: u64) -> u64
+    ensures { λ r. ⌜ r ≡ (s + m * (y % 2 ^ 32)) % 2 ^ 64 ⌝ }
+{
+    std::num::wrapping_add_u64(s, scaled(m, y))
 }
 
 // One row: m times the d residues from place `at` on.
-fn add_row(d: usize, m: u32, at: usize, x: &[u32], sums: &mut [u64])
+fn add_row(d: usize, m: u32, at: usize, x: &[u64], sums: &mut [u64])
     requires { ⌜ (at + d ≤ length (now x)) × (d ≤ length (now sums)) ⌝ }
-    ensures { λ _. ⌜ now (sums .exit) ≡ addRow d m at (now (x .entry)) (now (sums .entry)) ⌝ }
+    ensures { λ _. ⌜ now (sums .exit) ≡ addRow d m at (narrowed (now (x .entry))) (now (sums .entry)) ⌝ }
 {
     let mut k: usize = 0;
     while k < d {
-        sums[k] = std::num::wrapping_add_u64(sums[k], scaled(m, x[at + k]));
+        sums[k] = plus_scaled(sums[k], m, x[at + k]);
+        k += 1;
+    }
+}
+
+// Four rows at a time.
+fn add_four(
+    d: usize,
+    m0: u32,
+    at0: usize,
+    m1: u32,
+    at1: usize,
+    m2: u32,
+    at2: usize,
+    m3: u32,
+    at3: usize,
+    x: &[u64],
+    sums: &mut [u64],
+)
+    requires { ⌜ (at0 + d ≤ length (now x)) × (at1 + d ≤ length (now x)) × (at2 + d ≤ length (now x)) × (at3 + d ≤ length (now x)) × (d ≤ length (now sums)) ⌝ }
+    ensures { λ _. ⌜ now (sums .exit) ≡ addRow d m3 at3 (narrowed (now (x .entry))) (addRow d m2 at2 (narrowed (now (x .entry))) (addRow d m1 at1 (narrowed (now (x .entry))) (addRow d m0 at0 (narrowed (now (x .entry))) (now (sums .entry))))) ⌝ }
+{
+    let mut k: usize = 0;
+    while k < d {
+        let first = plus_scaled(sums[k], m0, x[at0 + k]);
+        let second = plus_scaled(first, m1, x[at1 + k]);
+        let third = plus_scaled(second, m2, x[at2 + k]);
+        sums[k] = plus_scaled(third, m3, x[at3 + k]);
         k += 1;
     }
 }
@@ -64,12 +117,36 @@ fn row_start(d: usize, c: i32, j: usize) -> usize
     d + d - j
 }
 
-// The rows of all coefficients of f.
-fn add_rows(d: usize, f: &[i32], x: &[u32], sums: &mut [u64])
-    requires { ⌜ Rows d (length (now f)) (length (now x)) (length (now sums)) ⌝ }
-    ensures { λ _. ⌜ now (sums .exit) ≡ addRows d (now (f .entry)) (now (x .entry)) d (now (sums .entry)) ⌝ }
+// The rows of the four coefficients from coefficient j on.
+fn add_block(d: usize, j: usize, f: &[i32], x: &[u64], sums: &mut [u64])
+    requires { ⌜ Rows d (length (now f)) (length (now x)) (length (now sums)) × (j + 4 ≤ d) ⌝ }
+    ensures { λ _. ⌜ now (sums .exit) ≡ addFour d (now (f .entry)) (narrowed (now (x .entry))) j (now (sums .entry)) ⌝ }
 {
-    let mut j: usize = 0;
+    let c0 = f[j];
+    let c1 = f[j + 1];
+    let c2 = f[j + 2];
+    let c3 = f[j + 3];
+    add_four(
+        d,
+        tests::magnitude(c0),
+        row_start(d, c0, j),
+        tests::magnitude(c1),
+        row_start(d, c1, j + 1),
+        tests::magnitude(c2),
+        row_start(d, c2, j + 2),
+        tests::magnitude(c3),
+        row_start(d, c3, j + 3),
+        x,
+        sums,
+    );
+}
+
+// The rows from coefficient `done` on, those before it being added.
+fn add_rest(d: usize, done: usize, f: &[i32], x: &[u64], sums: &mut [u64])
+    requires { ⌜ Rows d (length (now f)) (length (now x)) (length (now sums)) × (done ≤ d) ⌝ }
+    ensures { λ _. ⌜ ((s : List ℕ) → now (sums .entry) ≡ addRows d (now (f .entry)) (narrowed (now (x .entry))) done s → now (sums .exit) ≡ addRows d (now (f .entry)) (narrowed (now (x .entry))) d s) ⌝ }
+{
+    let mut j: usize = done;
     while j < d {
         let c = f[j];
         add_row(d, tests::magnitude(c), row_start(d, c, j), x, sums);
@@ -77,9 +154,22 @@ fn add_rows(d: usize, f: &[i32], x: &[u32], sums: &mut [u64])
     }
 }
 
+// The rows of all coefficients of f.
+fn add_rows(d: usize, f: &[i32], x: &[u64], sums: &mut [u64])
+    requires { ⌜ Rows d (length (now f)) (length (now x)) (length (now sums)) ⌝ }
+    ensures { λ _. ⌜ now (sums .exit) ≡ addRows d (now (f .entry)) (narrowed (now (x .entry))) d (now (sums .entry)) ⌝ }
+{
+    let mut j: usize = 0;
+    while j + 4 <= d {
+        add_block(d, j, f, x, sums);
+        j += 4;
+    }
+    add_rest(d, j, f, x, sums);
+}
+
 // The product of f with the element whose extension is x, added to the sums modulo 2^64.
-pub fn accumulate(d: u32, f: &[i32], x: &[u32], sums: &mut [u64])
-    ensures { λ _. ⌜ (Rows d (length (now (f .entry))) (length (now (x .entry))) (length (now (sums .entry))) → now (sums .exit) ≡ addRows d (now (f .entry)) (now (x .entry)) d (now (sums .entry))) ⌝ }
+pub fn accumulate(d: u32, f: &[i32], x: &[u64], sums: &mut [u64])
+    ensures { λ _. ⌜ (Rows d (length (now (f .entry))) (length (now (x .entry))) (length (now (sums .entry))) → now (sums .exit) ≡ addRows d (now (f .entry)) (narrowed (now (x .entry))) d (now (sums .entry))) ⌝ }
 {
     let n = d as usize;
     if n > 64 {

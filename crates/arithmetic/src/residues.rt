@@ -1,63 +1,152 @@
-// Single residues. The numbers need not be residues, but where they are there is no division.
+// Single residues and rows of them. A row is named by the place at which it begins. Where all numbers are residues nothing is divided and no branch
+// depends on them, so that the compiler takes several at a time.
+use crate::tests;
 ghost use mathlib.Core.Path.{_≡_};
+ghost use mathlib.Core.Bool.{true};
 ghost use Prim.Native.Nat.{_+_, _*_, _%_, _<_, _≤_};
-ghost use lib.IntN.{pos, _+ℤ_, _-ℤ_};
-ghost use lib.ListN.{length};
-ghost use Rattle.protocol.specs.Element.{modulo, around, residue};
-
-// x modulo q
-pub fn reduced(q: u32, x: u32) -> u32
-    requires { ⌜ 0 < q ⌝ }
-    ensures { λ r. ⌜ r ≡ x % q ⌝ }
-{
-    if x < q {
-        return x;
-    }
-    x % q
-}
+ghost use lib.IntN.{pos, negℤ, _+ℤ_};
+ghost use lib.ListN.{length, getD, drop};
+ghost use Rattle.protocol.specs.Element.{modulo};
+ghost use Rattle.arithmetic.specs.Folds.{spliced};
+ghost use Rattle.arithmetic.specs.Residues.{Residues, signed, turned};
 
 // x + y modulo q
-pub fn sum(q: u32, x: u32, y: u32) -> u32
-    requires { ⌜ 0 < q ⌝ }
+fn plus(q: u32, x: u32, y: u32) -> u32
+    requires { ⌜ (x < q) × (y < q) ⌝ }
     ensures { λ r. ⌜ r ≡ (x + y) % q ⌝ }
 {
-    let m = q as u64;
-    let s = (x as u64) + (y as u64);
-    if s < m {
-        return s as u32;
+    let z = q - y;
+    if x < z {
+        return x + y;
     }
-    let t = s - m;
-    if t < m {
-        return t as u32;
+    x - z
+}
+
+// −y modulo q
+fn negated(q: u32, y: u32) -> u32
+    requires { ⌜ y < q ⌝ }
+    ensures { λ r. ⌜ r ≡ modulo q (negℤ (pos y)) ⌝ }
+{
+    if y == 0 {
+        return 0;
     }
-    (s % m) as u32
+    q - y
 }
 
 // x − y modulo q
-pub fn difference(q: u32, x: u32, y: u32) -> u32
-    requires { ⌜ 0 < q ⌝ }
-    ensures { λ r. ⌜ r ≡ modulo q (pos x -ℤ pos y) ⌝ }
+fn minus(q: u32, x: u32, y: u32) -> u32
+    requires { ⌜ (x < q) × (y < q) ⌝ }
+    ensures { λ r. ⌜ r ≡ modulo q (pos x +ℤ negℤ (pos y)) ⌝ }
 {
-    if y <= x {
-        return reduced(q, x - y);
+    if x < y {
+        return x + (q - y);
     }
-    let z = reduced(q, y - x);
-    if z == 0 {
-        return 0;
-    }
-    q - z
+    x - y
 }
 
-// x plus what stands at place y of a, going round by X^d = −1, modulo q: a sum, a difference and a sum again.
-pub fn add_around(q: u32, d: usize, x: u32, a: &[u32], y: usize) -> u32
-    requires { ⌜ (0 < q) × (d ≤ 64) × (y < 3 * d) × (d ≤ length (now a)) ⌝ }
-    ensures { λ r. ⌜ r ≡ modulo q (pos x +ℤ around d (residue (now (a .entry))) y) ⌝ }
+// x + y modulo q, or x − y.
+fn signed_sum(q: u32, negative: bool, x: u32, y: u32) -> u32
+    requires { ⌜ (x < q) × (y < q) ⌝ }
+    ensures { λ r. ⌜ r ≡ modulo q (pos x +ℤ signed negative (pos y)) ⌝ }
 {
-    if y < d {
-        return sum(q, x, a[y]);
+    if negative {
+        return minus(q, x, y);
     }
-    if y < d + d {
-        return difference(q, x, a[y - d]);
+    plus(q, x, y)
+}
+
+// Are the n numbers from a place on residues.
+pub fn all_residues(q: u32, n: usize, t: &[u32], from: usize) -> bool
+    requires { ⌜ from + n ≤ length (now t) ⌝ }
+    ensures { λ r. ⌜ (r ≡ true → Residues q n from (now (t .entry))) ⌝ }
+{
+    let mut good = true;
+    for k in 0..n {
+        good = tests::and_below(good, q, t[from + k]);
     }
-    sum(q, x, a[y - d - d])
+    good
+}
+
+// The n numbers from a place of one table on, written to a place of another.
+pub fn copy_row(n: usize, t: &[u32], from: usize, x: &mut [u32], to: usize)
+    requires { ⌜ (from + n ≤ length (now t)) × (to + n ≤ length (now x)) ⌝ }
+    ensures { λ _. ⌜ now (x .exit) ≡ spliced (λ k. getD (now (t .entry)) (from + k) 0) to n (now (x .entry)) ⌝ }
+{
+    for k in 0..n {
+        x[to + k] = t[from + k];
+    }
+}
+
+// The same modulo q, by division.
+fn divide_row(q: u32, n: usize, t: &[u32], from: usize, x: &mut [u32], to: usize)
+    requires { ⌜ (0 < q) × (from + n ≤ length (now t)) × (to + n ≤ length (now x)) ⌝ }
+    ensures { λ _. ⌜ now (x .exit) ≡ spliced (λ k. getD (now (t .entry)) (from + k) 0 % q) to n (now (x .entry)) ⌝ }
+{
+    for k in 0..n {
+        let y = t[from + k];
+        x[to + k] = y % q;
+    }
+}
+
+// The same modulo q.
+pub fn reduce_row(q: u32, n: usize, t: &[u32], from: usize, x: &mut [u32], to: usize)
+    requires { ⌜ (0 < q) × (from + n ≤ length (now t)) × (to + n ≤ length (now x)) ⌝ }
+    ensures { λ _. ⌜ now (x .exit) ≡ spliced (λ k. getD (now (t .entry)) (from + k) 0 % q) to n (now (x .entry)) ⌝ }
+{
+    if all_residues(q, n, t, from) {
+        copy_row(n, t, from, x, to);
+        return;
+    }
+    divide_row(q, n, t, from, x, to);
+}
+
+// The sums of two rows of x, modulo q, written to a place of t.
+pub fn add_rows(q: u32, n: usize, x: &[u32], a: usize, b: usize, t: &mut [u32], to: usize)
+    requires { ⌜ Residues q n a (now x) × Residues q n b (now x) × (to + n ≤ length (now t)) ⌝ }
+    ensures { λ _. ⌜ now (t .exit) ≡ spliced (λ k. (getD (now (x .entry)) (a + k) 0 + getD (now (x .entry)) (b + k) 0) % q) to n (now (t .entry)) ⌝ }
+{
+    for k in 0..n {
+        t[to + k] = plus(q, x[a + k], x[b + k]);
+    }
+}
+
+// The sums, or the differences, of a row of x and a row of t, modulo q, written to a place of t before that row.
+pub fn add_signed_row(
+    q: u32,
+    n: usize,
+    negative: bool,
+    x: &[u32],
+    a: usize,
+    t: &mut [u32],
+    b: usize,
+    to: usize,
+)
+    requires { ⌜ Residues q n a (now x) × Residues q n b (now t) × (to + n ≤ b) ⌝ }
+    ensures { λ _. ⌜ now (t .exit) ≡ spliced (λ k. modulo q (pos (getD (now (x .entry)) (a + k) 0) +ℤ signed negative (pos (getD (now (t .entry)) (b + k) 0)))) to n (now (t .entry)) ⌝ }
+{
+    for k in 0..n {
+        let y = t[b + k];
+        t[to + k] = signed_sum(q, negative, x[a + k], y);
+    }
+}
+
+// The negatives of a row of x, written behind it.
+fn negate_row(q: u32, n: usize, from: usize, to: usize, x: &mut [u32])
+    requires { ⌜ Residues q n from (now x) × (from + n ≤ to) × (to + n ≤ length (now x)) ⌝ }
+    ensures { λ _. ⌜ now (x .exit) ≡ spliced (λ k. modulo q (negℤ (pos (getD (now (x .entry)) (from + k) 0)))) to n (now (x .entry)) ⌝ }
+{
+    for k in 0..n {
+        let y = x[from + k];
+        x[to + k] = negated(q, y);
+    }
+}
+
+// The residues at the places 0 to 3d − 1 of the element that stands at a place of t, going round by X^d = −1, written to the front of x.
+pub fn extend(q: u32, d: usize, t: &[u32], from: usize, x: &mut [u32])
+    requires { ⌜ (0 < q) × (0 < d) × (d ≤ 64) × (from + d ≤ length (now t)) × (3 * d ≤ length (now x)) ⌝ }
+    ensures { λ _. ⌜ now (x .exit) ≡ spliced (turned q d (drop from (now (t .entry)))) 0 (3 * d) (now (x .entry)) ⌝ }
+{
+    reduce_row(q, d, t, from, x, 0);
+    negate_row(q, d, 0, d, x);
+    negate_row(q, d, d, 2 * d, x);
 }

@@ -1,13 +1,16 @@
 // Folds of flat tables of residues.
 use crate::residues;
 ghost use mathlib.Core.Path.{_≡_};
+ghost use mathlib.Core.Bool.{true};
 ghost use mathlib.Core.List.{_++_};
-ghost use Prim.Native.Nat.{_+_, _*_, _<_, _≤_};
+ghost use Prim.Native.Nat.{_+_, _*_, _-_, _<_, _≤_};
 ghost use lib.ListN.{length, drop};
 ghost use Rattle.protocol.specs.Opening.{foldResidues};
 ghost use Rattle.arithmetic.specs.Folds.{spliced, foldCell, Foldable, foldDown};
+ghost use Rattle.arithmetic.specs.Residues.{Residues};
 
 // The element at place `first` plus the one at place `second`, read `back` places on, written to place `to`. Nothing is written that is read later.
+// x is room to work in; what it holds means nothing before or after.
 fn fold_element(
     q: u32,
     d: usize,
@@ -16,18 +19,73 @@ fn fold_element(
     first: usize,
     second: usize,
     t: &mut [u32],
+    x: &mut [u32],
 )
-    requires { ⌜ (0 < q) × (d ≤ 64) × (back ≤ 2 * d) ⌝ }
+    requires { ⌜ (0 < q) × (0 < d) × (d ≤ 64) × (back ≤ 2 * d) × (256 ≤ length (now x)) ⌝ }
     requires { ⌜ (to ≤ first) × (to + d ≤ second) × (first ≤ second) × (second + d ≤ length (now t)) ⌝ }
     ensures { λ _. ⌜ now (t .exit) ≡ spliced (foldCell q d back (drop first (now (t .entry))) (drop second (now (t .entry)))) to d (now (t .entry)) ⌝ }
 {
-    let mut k: usize = 0;
-    while k < d {
-        let x = t[first + k];
-        let z = residues::add_around(q, d, x, &t[second..], k + back);
-        t[to + k] = z;
-        k += 1;
+    residues::extend(q, d, t, second, x);
+    residues::reduce_row(q, d, t, first, x, 192);
+    residues::add_rows(q, d, x, 192, back, t, to);
+}
+
+// Where the first of the two rows begins that stand `back` places on.
+fn row_start(d: usize, back: usize) -> usize
+    requires { ⌜ back ≤ 2 * d ⌝ }
+    ensures { λ r. ⌜ (r ≤ d) × (back < d → r ≡ back) × (d ≤ back → r ≡ back - d) ⌝ }
+{
+    if back < d {
+        return back;
     }
+    back - d
+}
+
+// The same where all numbers are residues: what stands `back` places on is two rows of the element, with different signs.
+fn fold_rows(
+    q: u32,
+    d: usize,
+    back: usize,
+    to: usize,
+    first: usize,
+    second: usize,
+    t: &mut [u32],
+    x: &mut [u32],
+)
+    requires { ⌜ (d ≤ 64) × (back ≤ 2 * d) × (256 ≤ length (now x)) ⌝ }
+    requires { ⌜ Residues q d first (now t) × Residues q d second (now t) × (to + d ≤ second) ⌝ }
+    ensures { λ _. ⌜ now (t .exit) ≡ spliced (foldCell q d back (drop first (now (t .entry))) (drop second (now (t .entry)))) to d (now (t .entry)) ⌝ }
+{
+    let low = back < d;
+    let s = row_start(d, back);
+    let n = d - s;
+    residues::copy_row(d, t, first, x, 0);
+    residues::add_signed_row(q, n, !low, x, 0, t, second + s, to);
+    residues::add_signed_row(q, s, low, x, n, t, second, to + n);
+}
+
+// The one or the other: `small` says that all numbers are residues.
+fn fold_either(
+    small: bool,
+    q: u32,
+    d: usize,
+    back: usize,
+    to: usize,
+    first: usize,
+    second: usize,
+    t: &mut [u32],
+    x: &mut [u32],
+)
+    requires { ⌜ (0 < q) × (0 < d) × (d ≤ 64) × (back ≤ 2 * d) × (256 ≤ length (now x)) ⌝ }
+    requires { ⌜ (to ≤ first) × (to + d ≤ second) × (first ≤ second) × (second + d ≤ length (now t)) ⌝ }
+    requires { ⌜ (small ≡ true → Residues q d first (now t) × Residues q d second (now t)) ⌝ }
+    ensures { λ _. ⌜ now (t .exit) ≡ spliced (foldCell q d back (drop first (now (t .entry))) (drop second (now (t .entry)))) to d (now (t .entry)) ⌝ }
+{
+    if small {
+        fold_rows(q, d, back, to, first, second, t, x);
+        return;
+    }
+    fold_element(q, d, back, to, first, second, t, x);
 }
 
 // The fold of the 2h elements from place `from` on, written from place `to` on.
@@ -37,10 +95,22 @@ fn fold_elements(q: u32, d: usize, h: usize, e: usize, from: usize, to: usize, t
 {
     let half = h * d;
     let back = d + d - e % (d + d);
+    let small = residues::all_residues(q, 2 * half, t, from);
+    let mut x = [0u32; 256];
     let mut j: usize = 0;
     while j < h {
         let at = j * d;
-        fold_element(q, d, back, to + at, from + at, from + half + at, t);
+        fold_either(
+            small,
+            q,
+            d,
+            back,
+            to + at,
+            from + at,
+            from + half + at,
+            t,
+            &mut x,
+        );
         j += 1;
     }
 }

@@ -1,11 +1,12 @@
 // The tests that refusals go by.
 use protocol::Settings;
 ghost use mathlib.Core.Path.{_≡_};
+ghost use mathlib.Core.Bool.{_&&_};
 ghost use Prim.Native.Nat.{_≤_};
 ghost use lib.Dec.{ltb};
 ghost use lib.IntN.{natAbs};
 ghost use lib.ListN.{getD};
-ghost use Rattle.protocol.specs.Basic.{every, all};
+ghost use Rattle.protocol.specs.Basic.{every, all, within};
 ghost use Rattle.protocol.specs.Settings.{degreeAllowed, modulusAllowed, boundAllowed, settingsRefusal, small};
 
 // Refusal 3: is the degree allowed.
@@ -63,18 +64,25 @@ pub fn settings_refusal(settings: Settings) -> u32
     0
 }
 
+// One test more. The loops over tables ask all numbers, also after one that fails, so that the compiler takes several at a time.
+pub(crate) fn and_below(good: bool, limit: u32, x: u32) -> bool
+    ensures { λ r. ⌜ r ≡ (good && ltb x limit) ⌝ }
+{
+    if x < limit {
+        return good;
+    }
+    false
+}
+
 // Is every number of a table below the limit: refusal 8 at the modulus, refusal 10 at 2d.
 pub fn all_below(limit: u32, t: &[u32]) -> bool
     ensures { λ r. ⌜ r ≡ all (λ x. ltb x limit) (now (t .entry)) ⌝ }
 {
-    let mut i: usize = 0;
-    while i < t.len() {
-        if t[i] >= limit {
-            return false;
-        }
-        i += 1;
+    let mut good = true;
+    for i in 0..t.len() {
+        good = and_below(good, limit, t[i]);
     }
-    true
+    good
 }
 
 // The same for the first d places of an element.
@@ -116,29 +124,41 @@ pub fn magnitude_wide(x: i64) -> u64
     }
 }
 
+fn and_within(good: bool, bound: u32, x: i32) -> bool
+    ensures { λ r. ⌜ r ≡ (good && within bound x) ⌝ }
+{
+    if magnitude(x) <= bound {
+        return good;
+    }
+    false
+}
+
 // Is every number of a table from −bound to bound.
 pub fn all_within(bound: u32, t: &[i32]) -> bool
     ensures { λ r. ⌜ r ≡ small bound (now (t .entry)) ⌝ }
 {
-    let mut i: usize = 0;
-    while i < t.len() {
-        if magnitude(t[i]) > bound {
-            return false;
-        }
-        i += 1;
+    let mut good = true;
+    for i in 0..t.len() {
+        good = and_within(good, bound, t[i]);
     }
-    true
+    good
+}
+
+fn and_within_wide(good: bool, bound: u64, x: i64) -> bool
+    ensures { λ r. ⌜ r ≡ (good && within bound x) ⌝ }
+{
+    if magnitude_wide(x) <= bound {
+        return good;
+    }
+    false
 }
 
 pub fn all_within_wide(bound: u64, t: &[i64]) -> bool
     ensures { λ r. ⌜ r ≡ small bound (now (t .entry)) ⌝ }
 {
-    let mut i: usize = 0;
-    while i < t.len() {
-        if magnitude_wide(t[i]) > bound {
-            return false;
-        }
-        i += 1;
+    let mut good = true;
+    for i in 0..t.len() {
+        good = and_within_wide(good, bound, t[i]);
     }
-    true
+    good
 }

@@ -1,4 +1,4 @@
-// The judge of relaxed openings. Each `run` reads a case's inputs and gives what is left of the input; each `answer` makes the
+// The judge of relaxed openings and the extractor. Each `run` reads a case's inputs and gives what is left of the input; each `answer` makes the
 // call and prints what it gives.
 use crate::input::Input;
 use crate::output;
@@ -31,4 +31,61 @@ pub fn run_judge(input: Input) -> Input {
         &w[..m],
     );
     vector.next
+}
+
+fn answer_extract(
+    settings: Settings,
+    commitment: [u32; 64],
+    key: &[u32],
+    rounds: &[u32],
+    challenges: &[u32],
+    leaves: &[i32],
+    w: &mut [i64],
+) {
+    let number = extraction::extract(settings, commitment, key, rounds, challenges, leaves, w);
+    output::first(number);
+    output::wides(w);
+    output::end();
+}
+
+// The second half of an extraction's inputs: challenges, leaves and what w holds before.
+fn run_tree(
+    settings: Settings,
+    commitment: [u32; 64],
+    key: &[u32],
+    rounds: &[u32],
+    input: Input,
+) -> Input {
+    let mut challenge = tables::residue_room();
+    let challenges = tables::residues(input, &mut challenge);
+    let mut leaf = tables::signed_room();
+    let leaves = tables::signeds(challenges.next, &mut leaf);
+    let mut w = tables::wide_room();
+    let vector = tables::wides(leaves.next, &mut w);
+    let l = challenges.count;
+    let m = leaves.count;
+    let v = vector.count;
+    answer_extract(
+        settings,
+        commitment,
+        key,
+        rounds,
+        &challenge[..l],
+        &leaf[..m],
+        &mut w[..v],
+    );
+    vector.next
+}
+
+pub fn run_extract(input: Input) -> Input {
+    let given = tables::settings(input);
+    let commitment = tables::element(given.next);
+    let mut key = tables::residue_room();
+    let keys = tables::residues(commitment.next, &mut key);
+    let mut round = tables::residue_room();
+    let rounds = tables::residues(keys.next, &mut round);
+    let places = commitment.places;
+    let n = keys.count;
+    let k = rounds.count;
+    run_tree(given.settings, places, &key[..n], &round[..k], rounds.next)
 }

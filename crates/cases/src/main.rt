@@ -15,8 +15,13 @@ fn run(call: u32, input: Input) -> Input {
         2 => proving::run_round(input),
         3 => proving::run_fold(input),
         4 => proving::run_end(input),
+        5 => proving::run_opening(input),
+        6 => verifying::run_start(input),
+        7 => verifying::run_round(input),
+        8 => verifying::run_end(input),
         9 => verifying::run_check(input),
         10 => extracting::run_judge(input),
+        11 => extracting::run_extract(input),
         _ => unknown(input),
     }
 }

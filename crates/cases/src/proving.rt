@@ -95,3 +95,48 @@ pub fn run_end(input: Input) -> Input {
     answer_end(given.settings, t.value.residue(), &message[..m]);
     messages.next
 }
+
+fn answer_opening(
+    settings: Settings,
+    key: &mut [u32],
+    message: &mut [i32],
+    challenges: &[u32],
+    rounds: &mut [u32],
+) {
+    let answer = opening::open(settings, key, message, challenges, rounds);
+    let commitment = answer.commitment;
+    let last = answer.last;
+    let verdict = answer.verdict;
+    output::first(answer.number);
+    output::verdict(verdict);
+    output::element(commitment);
+    output::signed_element(last);
+    output::residues(key);
+    output::signeds(message);
+    output::residues(rounds);
+    output::end();
+}
+
+pub fn run_opening(input: Input) -> Input {
+    let given = tables::settings(input);
+    let mut key = tables::residue_room();
+    let keys = tables::residues(given.next, &mut key);
+    let mut message = tables::signed_room();
+    let messages = tables::signeds(keys.next, &mut message);
+    let mut challenge = tables::residue_room();
+    let challenges = tables::residues(messages.next, &mut challenge);
+    let mut round = tables::residue_room();
+    let rounds = tables::residues(challenges.next, &mut round);
+    let n = keys.count;
+    let m = messages.count;
+    let l = challenges.count;
+    let k = rounds.count;
+    answer_opening(
+        given.settings,
+        &mut key[..n],
+        &mut message[..m],
+        &challenge[..l],
+        &mut round[..k],
+    );
+    rounds.next
+}

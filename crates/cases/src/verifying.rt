@@ -3,7 +3,89 @@
 use crate::input::Input;
 use crate::output;
 use crate::tables;
+use protocol::Moved;
+use protocol::Session;
 use protocol::Settings;
+use verifier::Verifier;
+
+// A record whose every field differs from what a start gives: a start must not look at the record before it.
+fn used() -> Session {
+    let settings = Settings {
+        degree: 1,
+        depth: 9,
+        modulus: 2,
+        bound: 128,
+    };
+    Session {
+        settings: settings,
+        done: 9,
+        claim: [7u32; 64],
+        challenges: [5u32; 8],
+        closed: true,
+    }
+}
+
+fn answer_start(settings: Settings, commitment: [u32; 64]) {
+    let verifier = Verifier(used());
+    let answer = verifier.start(settings, commitment);
+    let next = answer.next;
+    output::first(answer.number);
+    output::session(next);
+    output::end();
+}
+
+pub fn run_start(input: Input) -> Input {
+    let given = tables::settings(input);
+    let commitment = tables::element(given.next);
+    let places = commitment.places;
+    answer_start(given.settings, places);
+    commitment.next
+}
+
+fn answer_move(answer: Moved) {
+    let verdict = answer.verdict;
+    let next = answer.next;
+    output::first(answer.number);
+    output::verdict(verdict);
+    output::session(next);
+    output::end();
+}
+
+fn answer_round(session: Session, polynomial: [[u32; 64]; 3], e: u32) {
+    let verifier = Verifier(session);
+    answer_move(verifier.round(polynomial, e));
+}
+
+pub fn run_round(input: Input) -> Input {
+    let given = tables::session(input);
+    let c0 = tables::element(given.next);
+    let c1 = tables::element(c0.next);
+    let c2 = tables::element(c1.next);
+    let e = c2.next.number();
+    let session = given.session;
+    let p0 = c0.places;
+    let p1 = c1.places;
+    let p2 = c2.places;
+    answer_round(session, [p0, p1, p2], e.value.residue());
+    e.next
+}
+
+fn answer_end(session: Session, last: [i32; 64], key: &[u32]) {
+    let verifier = Verifier(session);
+    answer_move(verifier.end(last, key));
+}
+
+pub fn run_end(input: Input) -> Input {
+    let given = tables::session(input);
+    let last = tables::signed_element(given.next);
+    let mut key = tables::residue_room();
+    let keys = tables::residues(last.next, &mut key);
+    let session = given.session;
+    let places = last.places;
+    let n = keys.count;
+    answer_end(session, places, &key[..n]);
+    keys.next
+}
 
 fn answer_check(
     settings: Settings,

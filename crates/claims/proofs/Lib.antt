@@ -8,6 +8,7 @@ pub mod Completeness
 pub mod Honest
 pub mod Numbering
 pub mod Paths
+pub mod Places
 pub mod Walk
 pub mod Agreement
 pub mod TreeCheck

@@ -1,11 +1,10 @@
 pub mod Words
-pub mod Values
-pub mod Norms
-pub mod Rows
-pub mod Powers
-pub mod Mu
-pub mod Splicing
 pub mod Parts
+pub mod Splicing
+pub mod Sums
+pub mod Quotients
+pub mod Mu
+pub mod Weighing
 pub mod Shares
 pub mod Nodes
 pub mod Workspace

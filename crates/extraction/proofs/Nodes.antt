@@ -2,17 +2,18 @@
 --   shared j        the node's vector after the shares of its first j children
 --   Stage j W       the list W has room for the node, and its second half is `shared j`
 use mathlib.Core.Path.{_≡_, refl, sym, ap, _∙_, subst}
+use mathlib.Core.Logic.{_≢_}
 use mathlib.Core.List.{List, _++_}
-use Prim.Native.Nat.{ℕ, zero, suc, _+_, _*_, _-_, _/_, _%_, _^_, _<_, _≤_}
+use Prim.Native.Nat.{ℕ, zero, suc, _+_, _*_, _-_, _/_, _^_, _<_, _≤_}
 use native.Mathlib.Nat as Nat
 use native.Mathlib.Decide.{decLt}
 use native.Mathlib.Omega.{arith}
-use lib.ListN.{length, getD, take, drop, length-append, length-drop, List·getD-eq-default, List·getD-append}
-use lib.Seq.{length-take-le, drop-at, drop-append-le, take-at, take-all, drop-drop, getD-append-add, getD-take, getD-drop}
+use lib.ListN.{length, getD, take, drop, length-append, length-drop, List·getD-eq-default}
+use lib.Seq.{length-take-le, drop-at, drop-append-le, take-at, drop-drop, getD-take, getD-drop}
 use lib.Pow as Pow
 use lib.IntN.{ℤ, pos, natAbs, _+ℤ_, +ℤ-idl}
 use borrow.Rule.Slice.PartMut.{putMid}
-use Rattle.algebra.specs.Magnitude.{natAbs-add, weight}
+use Rattle.algebra.specs.Magnitude.{natAbs-add}
 use Rattle.protocol.specs.declared.Settings.{Settings}
 use Rattle.protocol.specs.Basic.{flat}
 use Rattle.protocol.specs.Element.{rotate, signed, signedAt, signedZeros, coefficients}
@@ -21,12 +22,13 @@ use Rattle.protocol.specs.Tree.{child, challenge, mu, share, joined, combined, 
 use Rattle.protocol.proofs.Reading.{flat-ext, cell-inside}
 use Rattle.claims.proofs.Bounds.{Bounded, rotate-bounded}
 use Rattle.claims.proofs.Numbering.{AtDepth, child-depth}
-use Rattle.claims.proofs.Paths.{nodes-before, depth-branching, depth-leaf}
+use Rattle.claims.proofs.Paths.{depth-leaf}
+use Rattle.claims.proofs.Places as Places
 use Rattle.claims.proofs.Norms.{product-bounded, weight-mu}
 use Rattle.claims.proofs.Vectors.{vector-length}
 use Rattle.claims.proofs.Weights.{signed-coefficients}
 use Rattle.claims.proofs.Growth.{heightBound, heightBound-suc, heightBound-le, vector-bounded}
-use Rattle.extraction.specs.Vectors.{withShare, Sharing, Branching, branchAdded}
+use Rattle.extraction.specs.Vectors.{withShare, Branching, branchAdded}
 use Rattle.extraction.specs.Nodes.{Extractable, AtNode}
 use Rattle.arithmetic.proofs.SignedFill.{signed-zeros-at, signed-zeros-length}
 use Rattle.extraction.proofs.Shares.{by-cells, withShare-length, withShare-first, withShare-second}
@@ -146,36 +148,24 @@ module _ (S : Settings) (E : List ℕ) (finals : List ℤ) (X : Extractable S E 
 
   -- a leaf
   module _ (h k first space : ℕ) (A : AtNode S h k first space) (low : h ≡ 0) where
-    whole-depth : S .depth - h ≡ L
-    whole-depth = omega arith
-
-    at-leaf : AtDepth L k
-    at-leaf = subst (λ t. AtDepth t k) whole-depth (A .at-depth)
-
-    pub leaf-number : first ≤ k
-    leaf-number = omega (arith, A .first-is, nodes-before S, at-leaf .from)
-
     pub leaf-inside : (k - first) * d + d ≤ length finals
-    leaf-inside = omega (arith, X .within .long, row-inside d (leaves S) (k - nodes S) (depth-leaf S k at-leaf), ap (λ x. (k - x) * d) (A .first-is))
+    leaf-inside = omega (arith, X .within .long, row-inside d (leaves S) (k - nodes S) (depth-leaf S k (Places.at-leaf S h k first space A low)), ap (λ x. (k - x) * d) (A .first-is))
 
     pub leaf-space : space ≡ 2 * d
-    leaf-space = A .space-is ∙ ap (λ x. 2 * (2 ^ x * d)) low ∙ ap (λ x. 2 * x) (Nat.one-mul d)
+    leaf-space = A .space-is ∙ ap (λ x. 2 * x) (Places.leaf-cells S h k first space A low)
 
     pub leaf-is : (W : List ℤ) → drop d W ≡ coefficients d (signedAt d finals (k - first)) → drop (2 ^ h * d) W ≡ vector S E finals h k
     unfolding vector leaf
     leaf-is W e =
-        ap (λ x. drop x W) (ap (λ x. 2 ^ x * d) low ∙ Nat.one-mul d)
+        ap (λ x. drop x W) (Places.leaf-cells S h k first space A low)
         ∙ e
         ∙ ap (λ x. coefficients d (signedAt d finals (k - x))) (A .first-is)
         ∙ ap (λ x. vector S E finals x k) (sym low)
 
   -- a node above its children, on a list of `space` numbers
   module _ (h k first space : ℕ) (A : AtNode S h k first space) (up : 0 < h) where
-    height-is : suc (h - 1 + (L - h)) ≡ L
-    height-is = omega (arith, A .height)
-
-    pub branching-node : k < nodes S
-    branching-node = depth-branching S (L - h) (h - 1) k height-is (A .at-depth)
+    branching-node : k < nodes S
+    branching-node = Places.branching-node S h k first space A up
 
     pub challenges-inside : 3 * k + 3 ≤ length E
     challenges-inside = omega (arith, branching-node, X .challenges .long)
@@ -188,9 +178,7 @@ module _ (S : Settings) (E : List ℕ) (finals : List ℤ) (X : Extractable S E 
     n = space / 2 / 2 / d
 
     space-four : space ≡ 4 * (2 ^ (h - 1) * d)
-    space-four =
-        let up-one : h ≡ suc (h - 1) = omega arith in
-        omega (arith, A .space-is, ap (λ x. 2 ^ x * d) up-one, ap (λ x. x * d) (Nat.two-pow-succ (h - 1)), Nat.add-mul (2 ^ (h - 1)) (2 ^ (h - 1)) d)
+    space-four = omega (arith, A .space-is, Places.twice-cells S h up)
 
     is-n : n ≡ 2 ^ (h - 1)
     is-n = ap (λ x. x / d) quarter ∙ Nat.mul-div-cancel (2 ^ (h - 1)) some
@@ -230,7 +218,7 @@ module _ (S : Settings) (E : List ℕ) (finals : List ℤ) (X : Extractable S E 
     β = heightBound S (h - 1)
 
     child-within : (j : ℕ) → j < 3 → (i : ℕ) → natAbs (getD (v j) i (pos 0)) ≤ β
-    child-within j l i = vector-within (h - 1) (child k j) (suc (L - h)) (omega (arith, height-is)) (child-depth (L - h) k j l (A .at-depth)) i
+    child-within j l i = vector-within (h - 1) (child k j) (suc (L - h)) (omega (arith, A .height)) (child-depth (L - h) k j l (A .at-depth)) i
 
     shared-small : (j : ℕ) → j ≤ 3 → (i : ℕ) → natAbs (getD (shared j) i (pos 0)) ≤ j * (d * d * 2 * β)
     unfolding shared
@@ -257,6 +245,12 @@ module _ (S : Settings) (E : List ℕ) (finals : List ℤ) (X : Extractable S E 
     another-small (suc zero) = omega arith
     another-small (suc (suc j)) = omega arith
 
+    apart : (j : ℕ) → j < 3 → (c j ≢ c (other j)) × (c j ≢ c (another j))
+    apart zero l = let h = X .different k branching-node in (h .0, h .1)
+    apart (suc zero) l = let h = X .different k branching-node in (λ e. h .0 (sym e), h .2)
+    apart (suc (suc zero)) l = let h = X .different k branching-node in (λ e. h .1 (sym e), λ e. h .2 (sym e))
+    apart (suc (suc (suc j))) l = absurd (omega arith)
+
     -- the share of child j may be added where its vector and the node's stand
     module _ (j : ℕ) (l : j < 3) (W : List ℤ) (long : length W ≡ 4 * (n * d)) (is-child : take (n * d) (drop (n * d) W) ≡ v j) (is-node : drop (2 * (n * d)) W ≡ shared j) where
       behind : drop (n * d) (drop (n * d) W) ≡ shared j
@@ -268,10 +262,14 @@ module _ (S : Settings) (E : List ℕ) (finals : List ℤ) (X : Extractable S E 
         inside = challenges-inside;
         long = long;
         sharing = record {
+          log = X .valid .log;
+          log-most = X .valid .log-most;
+          degree-is = X .valid .degree-is;
           some = some;
           small = small;
           exponent = exponent-small j l;
           others = (exponent-small (other j) (other-small j), exponent-small (another j) (another-small j));
+          different = apart j l;
           long = length-drop (n * d) W ∙ omega arith;
           bound = β;
           bound-node = j * (d * d * 2 * β);
@@ -309,15 +307,7 @@ module _ (S : Settings) (E : List ℕ) (finals : List ℤ) (X : Extractable S E 
 
     -- where child j works
     pub child-place : (j x : ℕ) → j < 3 → x ≡ child k j → (W : List ℤ) → length W ≡ space → AtNode S (h - 1) x first (length (take half W))
-    child-place j x l is W e = record {
-      height = omega (arith, A .height);
-      at-depth = subst (λ t. AtDepth t x) deeper (subst (λ y. AtDepth (suc (L - h)) y) (sym is) (child-depth (L - h) k j l (A .at-depth)));
-      first-is = A .first-is;
-      space-is = lent-length W e ∙ is-half ∙ ap (λ y. 2 * (y * d)) is-n;
-    }
-      where
-        deeper : suc (L - h) ≡ L - (h - 1)
-        deeper = omega (arith, A .height)
+    child-place j x l is W e = Places.at-child S h k first space A up j x (length (take half W)) l is (lent-length W e)
 
     module _ (j x : ℕ) (l : j < 3) (is : x ≡ child k j) {W : List ℤ} (last : List ℤ) (st : Stage half space (shared j) W) (kept : length last ≡ length (take half W))
         (is-last : drop (2 ^ (h - 1) * d) last ≡ vector S E finals (h - 1) x) where

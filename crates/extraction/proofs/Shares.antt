@@ -1,26 +1,24 @@
 -- One child's share: what it adds to a node's vector, and how large the numbers are meanwhile.
-use mathlib.Core.Path.{_≡_, refl, sym, ap, _∙_, subst}
+use mathlib.Core.Path.{_≡_, sym, ap, _∙_, subst}
 use mathlib.Core.List.{List, _++_}
-use Prim.Native.Nat.{ℕ, _+_, _*_, _-_, _/_, _%_, _^_, _<_, _≤_}
+use Prim.Native.Nat.{ℕ, _+_, _*_, _-_, _/_, _%_, _<_, _≤_}
 use native.Mathlib.Nat as Nat
 use native.Mathlib.Decide.{decLt}
 use native.Mathlib.Omega.{arith}
 use lib.ListN.{length, getD, take, drop, length-append, length-drop, List·getD-append}
 use lib.Seq.{length-take-le, getD-take, getD-drop, getD-append-add, ext-getD}
 use lib.IntN.{ℤ, pos, natAbs, _+ℤ_}
-use Rattle.algebra.specs.Magnitude.{natAbs-add, weight, weight-ext}
 use Rattle.protocol.specs.Basic.{flat}
-use Rattle.protocol.specs.Element.{Element, rotate, signed, signedAt, paddedSigned, coefficients}
-use Rattle.protocol.specs.Tree.{mu, share}
-use Rattle.protocol.proofs.Reading.{tabulate-length, flat-length, flat-at, flat-front, cell-inside}
+use Rattle.protocol.specs.Element.{Element, rotate, signed, signedAt}
+use Rattle.protocol.specs.Tree.{gap, mu, share}
+use Rattle.protocol.proofs.Reading.{flat-length, flat-at, flat-front, cell-inside}
 use Rattle.protocol.proofs.Rotation.{rotate-plus}
 use Rattle.claims.proofs.Bounds.{Bounded, rotate-bounded}
-use Rattle.claims.proofs.Ranges.{padded-signed-at}
 use Rattle.claims.proofs.Norms.{product-bounded, weight-mu}
-use Rattle.extraction.specs.Bounds.{Within, Factors}
-use Rattle.extraction.specs.Vectors.{spliced, scaled, turned, Turnable, withShare, Sharing}
-use Rattle.relaxed.proofs.Products.{product-ext, rotate-ext}
-use Rattle.extraction.proofs.Parts.{part-within}
+use Rattle.extraction.specs.Steps.{weighted}
+use Rattle.extraction.specs.Vectors.{scaled, Scalable, turned, Turnable, withShare, Sharing}
+use Rattle.relaxed.proofs.Products.{rotate-ext}
+use Rattle.extraction.proofs.Mu.{gap-some, gap-below, weighted-mu, rotate-rotate}
 use Rattle.extraction.proofs.Splicing.{spliced-length, spliced-low, spliced-behind, spliced-at}
 
 -- ---- lists of 2n elements
@@ -75,11 +73,14 @@ module _ (d n e : ℕ) (m v R : List ℤ) where
 rotate-none : (d : ℕ) (a : Element) (k : ℕ) → k < d → rotate d 0 a k ≡ a k
 rotate-none d a k l = rotate-plus d 0 a k (omega arith) l (omega arith) ∙ ap a (Nat.sub-zero k)
 
-mu-length : (d a b c : ℕ) → length (mu d a b c) ≡ d
-unfolding mu coefficients
-mu-length d a b c = tabulate-length d _
+-- exponents that turn back by X^a, and by X^(2a)
+unfoldable pub backOnce : ℕ → ℕ → ℕ
+backOnce d a = (2 * d - a) % (2 * d)
 
-module _ (d n a b c : ℕ) (l : List ℤ) (T : Sharing d n a b c l) {m : List ℤ} (is-m : m ≡ paddedSigned d (mu d a b c)) where
+unfoldable pub backTwice : ℕ → ℕ → ℕ
+backTwice d a = 2 * backOnce d a % (2 * d)
+
+module _ (d n a b c : ℕ) (l : List ℤ) (T : Sharing d n a b c l) where
   abbrev M : List ℤ
   M = mu d a b c
 
@@ -96,14 +97,6 @@ module _ (d n a b c : ℕ) (l : List ℤ) (T : Sharing d n a b c l) {m : List �
   unfolding signedAt
   R-at i k = getD-drop (n * d) l (i * d + k) (pos 0)
 
-  m-at : (j : ℕ) → j < d → signed m j ≡ signed M j
-  m-at j h = ap (λ x. signed x j) is-m ∙ padded-signed-at d M j (omega (arith, mu-length d a b c))
-
-  -- the factor may be passed by value
-  share-is : (i k : ℕ) → share d m v i k ≡ share d M v i k
-  unfolding share
-  share-is i k = product-ext d k (T .some) m-at (λ j _. refl)
-
   v-bounded : (i : ℕ) → i < n → Bounded d (T .bound) (signedAt d v i)
   unfolding signedAt
   v-bounded i li k lk = let h = cell-inside d n i k li lk in subst (λ z. natAbs z ≤ T .bound) (sym (v-at (i * d + k) h)) (T .within (i * d + k) h)
@@ -112,33 +105,96 @@ module _ (d n a b c : ℕ) (l : List ℤ) (T : Sharing d n a b c l) {m : List �
   unfolding share
   share-bounded i li = product-bounded d (T .some) (T .bound) (d * d * 2) (signed M) (signedAt d v i) (weight-mu d (T .some) a b c) (v-bounded i li)
 
-  pub share-factors : Factors d m v
-  share-factors = record {
+  -- what the products leave: X^(2a) times the share
+  abbrev ahead : ℕ → Element
+  ahead i = rotate d (2 * a) (share d M v i)
+
+  ahead-bounded : (i : ℕ) → i < n → Bounded d (d * d * 2 * T .bound) (ahead i)
+  ahead-bounded i li = rotate-bounded d (T .some) (d * d * 2 * T .bound) (2 * a) (share d M v i) (share-bounded i li)
+
+  abbrev once : ℕ
+  once = backOnce d a
+
+  abbrev twice : ℕ
+  twice = backTwice d a
+
+  once-whole : (once + 2 * a) % (2 * d) ≡ a % (2 * d)
+  unfolding backOnce
+  once-whole =
+      Nat.mod-add-mod (2 * d - a) (2 * d) (2 * a)
+      ∙ (let whole : 2 * d - a + 2 * a ≡ a + 1 * (2 * d) = omega (arith, T .exponent) in ap (λ x. x % (2 * d)) whole)
+      ∙ Nat.add-mul-mod-self-right a 1 (2 * d)
+
+  twice-whole : (twice + 2 * a) % (2 * d) ≡ 0 % (2 * d)
+  unfolding backTwice backOnce
+  twice-whole =
+      Nat.mod-add-mod (2 * once) (2 * d) (2 * a)
+      ∙ (let apart : 2 * once + 2 * a ≡ once + a + (once + a) = omega arith in ap (λ x. x % (2 * d)) apart)
+      ∙ sym (Nat.mod-add-mod (once + a) (2 * d) (once + a))
+      ∙ sym (Nat.add-mod-mod ((once + a) % (2 * d)) (once + a) (2 * d))
+      ∙ (λ i. (none i + none i) % (2 * d))
+    where
+      none : (once + a) % (2 * d) ≡ 0
+      none =
+          Nat.mod-add-mod (2 * d - a) (2 * d) a
+          ∙ (let whole : 2 * d - a + a ≡ 2 * d = omega (arith, T .exponent) in ap (λ x. x % (2 * d)) whole)
+          ∙ Nat.mod-self (2 * d)
+
+  turned-once : (i k : ℕ) → k < d → rotate d once (ahead i) k ≡ rotate d a (share d M v i) k
+  turned-once i k lk = rotate-rotate d (T .some) once (2 * a) a once-whole (share d M v i) k lk
+
+  turned-twice : (i k : ℕ) → k < d → rotate d twice (ahead i) k ≡ share d M v i k
+  turned-twice i k lk = rotate-rotate d (T .some) twice (2 * a) 0 twice-whole (share d M v i) k lk ∙ rotate-none d (share d M v i) k lk
+
+  -- the exponents that the products go by
+  abbrev k₁ : ℕ
+  k₁ = gap d a b
+
+  abbrev k₂ : ℕ
+  k₂ = gap d a c
+
+  abbrev e : ℕ
+  e = (b + c) % (2 * d)
+
+  products-are : (i k : ℕ) → k < d → weighted d k₁ k₂ e (signedAt d v i) k ≡ ahead i k
+  unfolding share
+  products-are i k lk = weighted-mu d (T .some) (T .log) (T .degree-is) (T .log-most) a b c (T .exponent) (T .others .0) (T .others .1) (T .different .0) (T .different .1) (signedAt d v i) k lk
+
+  pub share-scalable : Scalable d n k₁ k₂ e v
+  share-scalable = record {
+    long = Nat.le-of-eq (sym (length-take-le (n * d) l (omega (arith, T .long))));
     bound = T .bound;
-    within = part-within 0 (n * d) l (T .bound) (λ j h. T .within (0 + j) (omega arith));
-    low = omega (arith, T .room, Nat.mul-le-mul-right (T .bound) (Nat.mul-pos (Nat.mul-pos (T .some) (T .some)) (Nat.zero-lt-suc 1)), Nat.one-mul (T .bound));
-    room = omega (arith, T .room, Nat.mul-le-mul-right (T .bound) (weight-mu d (T .some) a b c), ap (λ x. x * T .bound) (weight-ext d m-at));
+    factors = record {
+      log = T .log;
+      log-most = T .log-most;
+      degree-is = T .degree-is;
+      first = (gap-some d (T .some) (T .log) (T .degree-is) (T .log-most) a b (T .exponent) (T .others .0) (T .different .0), gap-below d (T .some) (T .log) (T .degree-is) (T .log-most) a b (T .exponent) (T .others .0) (T .different .0));
+      second = (gap-some d (T .some) (T .log) (T .degree-is) (T .log-most) a c (T .exponent) (T .others .1) (T .different .1), gap-below d (T .some) (T .log) (T .degree-is) (T .log-most) a c (T .exponent) (T .others .1) (T .different .1));
+      exponent = Nat.mod-lt (b + c) (omega (arith, T .some));
+      room = omega (arith, T .room, Nat.mul-assoc d d (T .bound), Nat.mul-assoc (d * d) 2 (T .bound), Nat.mul-assoc d d (2 * T .bound));
+    };
+    within = λ j h. subst (λ z. natAbs z ≤ T .bound) (sym (v-at j h)) (T .within j h);
   }
 
   -- after the products
-  module _ {s : List ℤ} (is-s : s ≡ scaled d n m v) where
+  module _ {s : List ℤ} (is-s : s ≡ scaled d n k₁ k₂ e v) where
     v-length : length v ≡ n * d
     v-length = length-take-le (n * d) l (omega (arith, T .long))
 
     s-length : length s ≡ n * d
     unfolding scaled
-    s-length = ap length is-s ∙ spliced-length 0 d (share d m v) v n (omega (arith, v-length)) ∙ v-length
+    s-length = ap length is-s ∙ spliced-length 0 d _ v n (omega (arith, v-length)) ∙ v-length
 
     first-length : length (s ++ R) ≡ 3 * (n * d)
     first-length = length-append s R ∙ omega (arith, s-length, length-drop (n * d) l, T .long)
 
-    first-low : (i k : ℕ) → i < n → k < d → getD (s ++ R) (i * d + k) (pos 0) ≡ share d M v i k
+    first-low : (i k : ℕ) → i < n → k < d → getD (s ++ R) (i * d + k) (pos 0) ≡ ahead i k
     unfolding scaled
     first-low i k li lk =
         List·getD-append s R (pos 0) (i * d + k) (omega (arith, s-length, cell-inside d n i k li lk))
         ∙ (λ j. getD (is-s j) (sym (Nat.zero-add (i * d + k)) j) (pos 0))
-        ∙ spliced-at 0 d (share d m v) v n (omega (arith, v-length)) (pos 0) i k li lk
-        ∙ share-is i k
+        ∙ spliced-at 0 d (λ i. weighted d k₁ k₂ e (signedAt d v i)) v n (omega (arith, v-length)) (pos 0) i k li lk
+        ∙ products-are i k lk
 
     first-high : (j : ℕ) → n * d ≤ j → getD (s ++ R) j (pos 0) ≡ getD l j (pos 0)
     first-high j h =
@@ -148,13 +204,14 @@ module _ (d n a b c : ℕ) (l : List ℤ) (T : Sharing d n a b c l) {m : List �
         ∙ ap (λ x. getD l x (pos 0)) (omega arith)
 
     first-within : (j : ℕ) → j < n * d → natAbs (getD (s ++ R) j (pos 0)) ≤ d * d * 2 * T .bound
-    first-within = by-cells d n (T .some) (λ j. natAbs (getD (s ++ R) j (pos 0)) ≤ d * d * 2 * T .bound) (λ i k li lk. subst (λ z. natAbs z ≤ d * d * 2 * T .bound) (sym (first-low i k li lk)) (share-bounded i li k lk))
+    first-within = by-cells d n (T .some) (λ j. natAbs (getD (s ++ R) j (pos 0)) ≤ d * d * 2 * T .bound) (λ i k li lk. subst (λ z. natAbs z ≤ d * d * 2 * T .bound) (sym (first-low i k li lk)) (ahead-bounded i li k lk))
 
-    pub first-turnable : Turnable d n 0 (n * d) (s ++ R)
+    pub first-turnable : Turnable d n twice (n * d) (s ++ R)
+    unfolding backTwice
     first-turnable = record {
       some = T .some;
       small = T .small;
-      exponent = omega (arith, T .some);
+      exponent = Nat.mod-lt (2 * once) (omega (arith, T .some));
       apart = Nat.le-refl (n * d);
       inside = omega (arith, first-length);
       bound = d * d * 2 * T .bound;
@@ -165,7 +222,7 @@ module _ (d n a b c : ℕ) (l : List ℤ) (T : Sharing d n a b c l) {m : List �
     }
 
     -- after the first half
-    module _ {t : List ℤ} (is-t : t ≡ turned d n 0 (n * d) (s ++ R)) where
+    module _ {t : List ℤ} (is-t : t ≡ turned d n twice (n * d) (s ++ R)) where
       room-t : n * d + n * d ≤ length (s ++ R)
       room-t = omega (arith, first-length)
 
@@ -182,17 +239,18 @@ module _ (d n a b c : ℕ) (l : List ℤ) (T : Sharing d n a b c l) {m : List �
       t-mid i k li lk =
           ap (λ x. getD x (n * d + (i * d + k)) (pos 0)) is-t
           ∙ spliced-at (n * d) d _ (s ++ R) n room-t (pos 0) i k li lk
-          ∙ λ j. (first-high (n * d + (i * d + k)) (omega arith) ∙ sym (R-at i k)) j +ℤ (rotate-none d (signedAt d (s ++ R) i) k lk ∙ first-low i k li lk) j
+          ∙ λ j. (first-high (n * d + (i * d + k)) (omega arith) ∙ sym (R-at i k)) j +ℤ (rotate-ext d twice k (T .some) (λ y ly. first-low i y li ly) ∙ turned-twice i k lk) j
 
       t-high : (j : ℕ) → 2 * (n * d) ≤ j → getD t j (pos 0) ≡ getD l j (pos 0)
       unfolding turned
       t-high j h = ap (λ x. getD x j (pos 0)) is-t ∙ spliced-behind (n * d) d _ (s ++ R) n room-t (pos 0) j (omega arith) ∙ first-high j (omega arith)
 
-      pub second-turnable : Turnable d n a (2 * (n * d)) t
+      pub second-turnable : Turnable d n once (2 * (n * d)) t
+      unfolding backOnce
       second-turnable = record {
         some = T .some;
         small = T .small;
-        exponent = T .exponent;
+        exponent = Nat.mod-lt (2 * d - a) (omega (arith, T .some));
         apart = omega arith;
         inside = omega (arith, t-length);
         bound = d * d * 2 * T .bound;
@@ -203,7 +261,7 @@ module _ (d n a b c : ℕ) (l : List ℤ) (T : Sharing d n a b c l) {m : List �
       }
 
       -- after the second
-      module _ {w : List ℤ} (is-w : w ≡ turned d n a (2 * (n * d)) t) where
+      module _ {w : List ℤ} (is-w : w ≡ turned d n once (2 * (n * d)) t) where
         room-w : 2 * (n * d) + n * d ≤ length t
         room-w = omega (arith, t-length)
 
@@ -230,8 +288,8 @@ module _ (d n a b c : ℕ) (l : List ℤ) (T : Sharing d n a b c l) {m : List �
                 ∙ λ j. (t-high (2 * (n * d) + (i * d + k)) (omega arith) ∙ sym there) j +ℤ alike j
                 )
               where
-                alike : rotate d a (signedAt d t i) k ≡ rotate d a (share d M v i) k
-                alike = rotate-ext d a k (T .some) (λ y ly. unfold signedAt in (t-low (i * d + y) (cell-inside d n i y li ly) ∙ first-low i y li ly))
+                alike : rotate d once (signedAt d t i) k ≡ rotate d a (share d M v i) k
+                alike = rotate-ext d once {b = ahead i} k (T .some) (λ y ly. unfold signedAt in (t-low (i * d + y) (cell-inside d n i y li ly) ∙ first-low i y li ly)) ∙ turned-once i k lk
 
                 same : n * d + (n * d + (i * d + k)) ≡ 2 * (n * d) + (i * d + k)
                 same = omega arith

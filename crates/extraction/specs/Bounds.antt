@@ -1,17 +1,16 @@
 -- How large whole numbers are: what the functions on signed 64-bit numbers ask, so that no sum or product of theirs overflows.
 --
---   Within b l        every number of l is from −b to b
---   Room d c a l      c·a_k and l_k + c·a_k fit, for every k below d
---   Factors d a b     the magnitudes of the lists a and b leave room for every sum of the product of their first d numbers
+--   Fits x c y        c·y and x + c·y fit
+--   Room d c a l      the same for l_k, c and a_k, for every k below d
+--   Summable d a l    the first d numbers of a and of l are there, and small enough to be added
+--   Doubling d k a    the first d numbers of a are there, and small enough to be divided by 1 − X^k; d is a power of two
+--   Factors d k m e bound   numbers up to `bound` are small enough to be divided by 1 − X^k and by 1 − X^m and multiplied by 1 + X^e
+--   Weighable d k m e a     the first d numbers of a are there, and are such numbers
+use mathlib.Core.Path.{_≡_}
 use mathlib.Core.List.{List}
-use Prim.Native.Nat.{ℕ, _*_, _^_, _<_, _≤_}
-use lib.ListN.{getD}
+use Prim.Native.Nat.{ℕ, _+_, _*_, _^_, _<_, _≤_}
+use lib.ListN.{length, getD}
 use lib.IntN.{ℤ, pos, natAbs, _+ℤ_, _*ℤ_}
-use Rattle.algebra.specs.Magnitude.{weight}
-use Rattle.protocol.specs.Element.{signed}
-
-pub record Within (b : ℕ) (l : List ℤ) : Type 0 where
-  pub each : (i : ℕ) → natAbs (getD l i (pos 0)) ≤ b
 
 -- the product and the sum of one machine step
 pub record Fits (x c y : ℤ) : Type 0 where
@@ -21,9 +20,37 @@ pub record Fits (x c y : ℤ) : Type 0 where
 pub record Room (d : ℕ) (c : ℤ) (a l : List ℤ) : Type 0 where
   pub each : (k : ℕ) → k < d → Fits (getD l k (pos 0)) c (getD a k (pos 0))
 
--- the sum of a's magnitudes times b's largest is the largest that a sum of products can be
-pub record Factors (d : ℕ) (a b : List ℤ) : Type 0 where
+pub record Summable (d : ℕ) (a l : List ℤ) : Type 0 where
+  pub long : d ≤ length a
+  pub long-to : d ≤ length l
   pub bound : ℕ
-  pub within : Within bound b
-  pub low : bound ≤ 2 ^ 62
-  pub room : weight d (signed a) * bound ≤ 2 ^ 62
+  pub bound-to : ℕ
+  pub within : (k : ℕ) → k < d → natAbs (getD a k (pos 0)) ≤ bound
+  pub within-to : (k : ℕ) → k < d → natAbs (getD l k (pos 0)) ≤ bound-to
+  pub room : bound-to + bound ≤ 2 ^ 62
+
+pub record Doubling (d k : ℕ) (a : List ℤ) : Type 0 where
+  pub log : ℕ
+  pub log-most : log ≤ 6
+  pub degree-is : d ≡ 2 ^ log
+  pub some : 0 < k
+  pub exponent : k < 2 * d
+  pub long : d ≤ length a
+  pub bound : ℕ
+  pub within : (j : ℕ) → j < d → natAbs (getD a j (pos 0)) ≤ bound
+  pub room : d * bound ≤ 2 ^ 62
+
+pub record Factors (d k m e bound : ℕ) : Type 0 where
+  pub log : ℕ
+  pub log-most : log ≤ 6
+  pub degree-is : d ≡ 2 ^ log
+  pub first : (0 < k) × (k < 2 * d)
+  pub second : (0 < m) × (m < 2 * d)
+  pub exponent : e < 2 * d
+  pub room : 2 * (d * (d * bound)) ≤ 2 ^ 62
+
+pub record Weighable (d k m e : ℕ) (a : List ℤ) : Type 0 where
+  pub long : d ≤ length a
+  pub bound : ℕ
+  pub factors : Factors d k m e bound
+  pub within : (j : ℕ) → j < d → natAbs (getD a j (pos 0)) ≤ bound

@@ -1,14 +1,16 @@
 -- What the steps on a node's vector leave.
 --
 --   spliced at d n F l    the list l with n elements of d numbers from place `at` on replaced: number k of element i by F i k
---   scaled d n m v        v with each of its first n elements multiplied by m
+--   scaled d n k m e v    v with each of its first n elements `weighted`, which is multiplied by X^(2a)·μ (Mu)
+--   Scalable d n k m e v  the places are there, and the numbers are small enough
 --   turned d n e to l     l with X^e times each of its first n elements added to those from place `to` on
 --   Turnable d n e to l   the places are there, and the sums fit
 --   withShare d n e m v R a node's vector R, of 2n elements, with μ·v added to its first half and X^e·μ·v to its second, μ being m
---   Sharing d n a b c l   a child's vector, of n elements, then the node's: the exponents are exponents, and the sums fit
+--   Sharing d n a b c l   a child's vector, of n elements, then the node's: the degree is one, the exponents are different ones, and the sums fit
 --   branchAdded d n k ..  the node's vector after the share of child j at node k, the child's vector standing before it
 --   Branching d n k ..    the list is n free elements, the child's vector and the node's; the challenges of node k are there
 use mathlib.Core.Path.{_≡_}
+use mathlib.Core.Logic.{_≢_}
 use mathlib.Core.List.{List, _++_}
 use Prim.Native.Nat.{ℕ, _+_, _*_, _-_, _^_, _<_, _≤_}
 use lib.ListN.{length, getD, take, drop}
@@ -16,12 +18,20 @@ use lib.IntN.{ℤ, pos, natAbs, _+ℤ_}
 use Rattle.protocol.specs.Basic.{flat}
 use Rattle.protocol.specs.Element.{rotate, signedAt}
 use Rattle.protocol.specs.Tree.{challenge, mu, share}
+use Rattle.extraction.specs.Bounds.{Factors}
+use Rattle.extraction.specs.Steps.{weighted}
 
 unfoldable pub spliced {ℓ} : {A : Type ℓ} → ℕ → ℕ → ℕ → (ℕ → ℕ → A) → List A → List A
 spliced at d n F l = take at l ++ (flat d n F ++ drop (at + n * d) l)
 
-unfoldable pub scaled : ℕ → ℕ → List ℤ → List ℤ → List ℤ
-scaled d n m v = spliced 0 d n (share d m v) v
+unfoldable pub scaled : ℕ → ℕ → ℕ → ℕ → ℕ → List ℤ → List ℤ
+scaled d n k m e v = spliced 0 d n (λ i. weighted d k m e (signedAt d v i)) v
+
+pub record Scalable (d n k m e : ℕ) (v : List ℤ) : Type 0 where
+  pub long : n * d ≤ length v
+  pub bound : ℕ
+  pub factors : Factors d k m e bound
+  pub within : (j : ℕ) → j < n * d → natAbs (getD v j (pos 0)) ≤ bound
 
 unfoldable pub turned : ℕ → ℕ → ℕ → ℕ → List ℤ → List ℤ
 turned d n e to l = spliced to d n (λ i k. getD l (to + (i * d + k)) (pos 0) +ℤ rotate d e (signedAt d l i) k) l
@@ -43,10 +53,14 @@ withShare d n e m v R =
     flat d n (λ i k. signedAt d R i k +ℤ share d m v i k) ++ flat d n (λ i k. signedAt d R (n + i) k +ℤ rotate d e (share d m v i) k)
 
 pub record Sharing (d n a b c : ℕ) (l : List ℤ) : Type 0 where
+  pub log : ℕ
+  pub log-most : log ≤ 6
+  pub degree-is : d ≡ 2 ^ log
   pub some : 0 < d
   pub small : d ≤ 64
   pub exponent : a < 2 * d
   pub others : (b < 2 * d) × (c < 2 * d)
+  pub different : (a ≢ b) × (a ≢ c)
   pub long : length l ≡ 3 * (n * d)
   pub bound : ℕ
   pub bound-node : ℕ

@@ -1,6 +1,6 @@
 // The vector of a tree's root.
+use crate::elements::store;
 use crate::vectors::node;
-use crate::vectors::store;
 use protocol::Settings;
 ghost use mathlib.Core.Path.{_≡_};
 ghost use lib.ListN.{length};

@@ -1,38 +1,27 @@
 // The vectors of a tree's nodes, over whole numbers: flat lists of elements, d numbers each.
-use crate::elements::accumulate;
-use crate::elements::extension;
-use crate::elements::mu_element;
-use crate::elements::multiply;
+use crate::elements::add_rotated;
+use crate::elements::on_circle;
+use crate::elements::store;
+use crate::elements::weigh;
 use protocol::Settings;
 ghost use mathlib.Core.Path.{_≡_};
 ghost use Prim.Native.Nat.{_+_, _*_, _-_, _^_, _<_, _≤_};
 ghost use lib.ListN.{length, getD, take, drop};
 ghost use Rattle.protocol.specs.Element.{signed, signedAt, coefficients, signedZeros};
 ghost use Rattle.protocol.specs.Tree.{mu, vector};
-ghost use Rattle.extraction.specs.Bounds.{Factors};
 ghost use Rattle.arithmetic.proofs.Fill.{filled};
-ghost use Rattle.extraction.specs.Vectors.{scaled, turned, Turnable, withShare, Sharing, Branching, branchAdded};
+ghost use Rattle.extraction.specs.Vectors.{scaled, Scalable, turned, Turnable, withShare, Sharing, Branching, branchAdded};
 ghost use Rattle.extraction.specs.Nodes.{Extractable, AtNode};
 
-// Copies the first n numbers of a.
-pub(crate) fn store(n: usize, a: &[i64], out: &mut [i64])
-    requires { ⌜ (n ≤ length (now a)) × (n ≤ length (now out)) ⌝ }
-    ensures { λ _. ⌜ now (out .exit) ≡ filled (signed (now (a .entry))) n (now (out .entry)) ⌝ }
+// Multiplies each of the first n elements of v by X^(2a)·μ, from the exponents that μ's quotients and sum go by.
+fn scale(d: usize, n: usize, k: usize, m: usize, e: usize, v: &mut [i64])
+    requires { ⌜ Scalable d n k m e (now v) ⌝ }
+    ensures { λ _. ⌜ now (v .exit) ≡ scaled d n k m e (now (v .entry)) ⌝ }
 {
-    for k in 0..n {
-        out[k] = a[k];
-    }
-}
-
-// Multiplies each of the first n elements of v by m.
-fn scale(d: usize, n: usize, m: &[i64; 64], v: &mut [i64])
-    requires { ⌜ (0 < d) × (d ≤ 64) × (n * d ≤ length (now v)) × Factors d (now m) (now v) ⌝ }
-    ensures { λ _. ⌜ now (v .exit) ≡ scaled d n (now (m .entry)) (now (v .entry)) ⌝ }
-{
+    let mut copy = [0i64; 64];
     for i in 0..n {
         let at = i * d;
-        let p = multiply(d, m, &v[at..]);
-        store(d, &p, &mut v[at..]);
+        weigh(d, k, m, e, &mut v[at..], &mut copy);
     }
 }
 
@@ -41,13 +30,12 @@ fn add_turned(d: usize, n: usize, e: usize, to: usize, l: &mut [i64])
     requires { ⌜ Turnable d n e to (now l) ⌝ }
     ensures { λ _. ⌜ now (l .exit) ≡ turned d n e to (now (l .entry)) ⌝ }
 {
-    let from = 2 * d - e;
+    let mut copy = [0i64; 64];
     for i in 0..n {
         let at = i * d;
-        let end = at + d;
-        let u = extension(d, &l[at..end]);
+        store(d, &l[at..], &mut copy);
         let into = to + at;
-        accumulate(d, 1, &u[from..], &mut l[into..]);
+        add_rotated(d, e, &copy, &mut l[into..]);
     }
 }
 
@@ -57,11 +45,16 @@ fn add_share(d: usize, n: usize, a: usize, b: usize, c: usize, l: &mut [i64])
     requires { ⌜ Sharing d n a b c (now l) ⌝ }
     ensures { λ _. ⌜ drop (n * d) (now (l .exit)) ≡ withShare d n a (mu d a b c) (take (n * d) (now (l .entry))) (drop (n * d) (now (l .entry))) ⌝ }
 {
-    let m = mu_element(d, a, b, c);
+    let back = 2 * d - a;
+    let k = on_circle(d, b + back);
+    let m = on_circle(d, c + back);
+    let e = on_circle(d, b + c);
     let cells = n * d;
-    scale(d, n, &m, &mut l[..cells]);
-    add_turned(d, n, 0, cells, l);
-    add_turned(d, n, a, 2 * cells, l);
+    scale(d, n, k, m, e, &mut l[..cells]);
+    let once = on_circle(d, back);
+    let twice = on_circle(d, 2 * once);
+    add_turned(d, n, twice, cells, l);
+    add_turned(d, n, once, 2 * cells, l);
 }
 
 fn clear(l: &mut [i64])

@@ -2,23 +2,23 @@
 --   most              what one product of small coefficients with residues adds to a sum at most
 --   SumIs q k s b z   sum k of the sums s is at most b, and is z modulo q
 use mathlib.Core.Path.{_≡_, refl, sym, ap, _∙_, subst}
-use mathlib.Core.List.{List, _++_}
-use Prim.Native.Nat.{ℕ, zero, suc, _+_, _*_, _-_, _%_, _^_, _<_, _≤_}
+use mathlib.Core.List.{List}
+use Prim.Native.Nat.{ℕ, zero, suc, _+_, _*_, _%_, _^_, _<_, _≤_}
 use native.Mathlib.Nat as Nat
-use native.Mathlib.Decide.{decLt}
 use native.Mathlib.Numerals.{add-one}
 use native.Mathlib.Omega.{arith}
 use lib.IntN.{ℤ, pos, natAbs, _+ℤ_, +ℤ-assoc, +ℤ-idr}
-use lib.ListN.{length, getD, drop, replicate, List·getD-append}
-use lib.Seq.{getD-drop, getD-append-add}
-use Rattle.protocol.specs.Basic.{sum, tabulate}
-use Rattle.protocol.specs.Element.{Element, modulo, around, product, residue, signed, residueAt, signedAt, zeros, reduced, padded}
+use lib.ListN.{getD, drop}
+use lib.Seq.{getD-drop}
+use Rattle.protocol.specs.Basic.{sum}
+use Rattle.protocol.specs.Element.{Element, modulo, product, residue, signed, residueAt, signedAt, zeros, reduced, padded}
 use Rattle.protocol.specs.Opening.{inner}
-use Rattle.protocol.proofs.Modulo.{modulo-lt, modulo-add}
-use Rattle.protocol.proofs.Reading.{tabulate-at, tabulate-length, tabulate-ext}
+use Rattle.protocol.proofs.Modulo.{modulo-add}
+use Rattle.protocol.proofs.Reading.{tabulate-ext}
 use Rattle.claims.proofs.Agreement.{product-same}
-use Rattle.arithmetic.specs.Products.{extension, start, addRows, total, term, reducedSums}
-use Rattle.arithmetic.proofs.Rows.{rows-at, terms-residue}
+use Rattle.arithmetic.specs.Products.{extension, addRows, total, term, reducedSums}
+use Rattle.arithmetic.proofs.Rows.{rows-at, extension-below, terms-residue}
+use Rattle.arithmetic.proofs.Fill.{zeros-at}
 use Rattle.prover.specs.Messages.{Small}
 use Rattle.prover.specs.Sums.{innerSums}
 
@@ -43,12 +43,6 @@ unfolding total
 total-most zero f b h = omega arith
 total-most (suc n) f b h = omega (arith, total-most n f b (λ j l. h j (omega arith)), h n (omega arith), Nat.suc-mul n b)
 
-pub zeros-at : (n j : ℕ) → getD (zeros n) j 0 ≡ 0
-unfolding zeros
-zeros-at zero j = refl
-zeros-at (suc n) zero = refl
-zeros-at (suc n) (suc j) = zeros-at n j
-
 pub record SumIs (q k : ℕ) (s : List ℕ) (b : ℕ) (z : ℤ) : Type 0 where
   pub size : getD s k 0 ≤ b
   pub value : getD s k 0 % q ≡ modulo q z
@@ -58,20 +52,10 @@ unfolding modulo
 sum-none q k = record { size = omega (arith, zeros-at 64 k); value = ap (λ x. x % q) (zeros-at 64 k) }
 
 module _ (q d : ℕ) (p : 0 < q) (few : q ≤ 2 ^ 31) (pd : 0 < d) (d64 : d ≤ 64) (k : ℕ) (l : k < d) where
-  extension-below : (g : List ℕ) (y : ℕ) → getD (extension q d g) y 0 < q
-  unfolding extension
-  extension-below g y = elim (decLt y (3 * d)) [
-    | yes h ↦ subst (λ x. x < q) (sym (List·getD-append (tabulate (3 * d) f) _ 0 y (omega (arith, tabulate-length (3 * d) f)) ∙ tabulate-at (3 * d) f 0 y h)) (modulo-lt q p _)
-    | no h ↦ subst (λ x. x < q) (sym (ap (λ n. getD (tabulate (3 * d) f ++ zeros (192 - 3 * d)) n 0) {y = length (tabulate (3 * d) f) + (y - 3 * d)} (omega (arith, tabulate-length (3 * d) f)) ∙ getD-append-add (tabulate (3 * d) f) _ (y - 3 * d) 0 ∙ zeros-at _ _)) p
-  ]
-    where
-      f : ℕ → ℕ
-      f = λ x. modulo q (around d (residue g) x)
-
   product-most : (f : List ℤ) (g : List ℕ) → Small d f → total d (term d f (extension q d g) k) ≤ most
   unfolding term
   product-most f g small =
-      Nat.le-trans (total-most d (term d f (extension q d g) k) (2 ^ 14 * 2 ^ 31) (λ j h. Nat.mul-le-mul (small j h) (Nat.le-trans (Nat.le-of-lt (extension-below g _)) few))) (Nat.mul-le-mul-right (2 ^ 14 * 2 ^ 31) d64)
+      Nat.le-trans (total-most d (term d f (extension q d g) k) (2 ^ 14 * 2 ^ 31) (λ j h. Nat.mul-le-mul (small j h) (Nat.le-trans (Nat.le-of-lt (extension-below q d p pd g _)) few))) (Nat.mul-le-mul-right (2 ^ 14 * 2 ^ 31) d64)
 
   sum-product : (f : List ℤ) (g s : List ℕ) (b : ℕ) (z : ℤ) → Small d f → b + most < 2 ^ 64 → SumIs q k s b z → SumIs q k (addRows d f (extension q d g) d s) (b + most) (z +ℤ product d (signed f) (residue g) k)
   sum-product f g s b z small room is = record {

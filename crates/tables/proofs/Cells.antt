@@ -1,81 +1,23 @@
--- The lines of a part, one after the other.
+-- What a reader of lines gives.
 --
---   cell-first, cell-last, cell-more   the first line, and the line behind one, at the end of an item or not
---   cell-inside                        a line of a part is within its items and places
---   spots-next, spots-end              the spots from line p on
---   taken-missed, taken-found          what the answer of a reader of lines says
+--   taken-missed, taken-found          what its answer says
 --   took-missed, took-done             what it promises where lines are missing, and where all are found
 --   took-place                         the place behind them
-use mathlib.Core.Path.{_≡_, refl, sym, ap, subst, _∙_}
+use mathlib.Core.Path.{_≡_, refl, sym, ap, _∙_}
 use mathlib.Core.Bool.{true, false, false≢true}
-use mathlib.Core.List.{List, [], _∷_}
+use mathlib.Core.List.{List}
 use mathlib.Core.Option.{Option, none, some, Option·some-injective}
-use Prim.Native.Nat.{ℕ, zero, suc, _+_, _-_, _*_, _/_, _%_, _^_, _<_, _≤_}
-use native.Mathlib.Nat as Nat
+use Prim.Native.Nat.{ℕ, _+_, _-_, _≤_}
 use native.Mathlib.Omega.{arith}
-use lib.ListN.{length, getD, drop, take, drop-of-length-le}
+use lib.ListN.{length, drop, take}
 use lib.Seq.{drop-drop}
 use lib.IntN.{ℤ}
-use Rattle.protocol.specs.Basic.{tabulate}
-use Rattle.protocol.specs.Text.{Spot, Shape, shapeSize, spotAt, spots}
-use Rattle.protocol.proofs.Reading.{cell-element, cell-place, tabulate-length, tabulate-at}
-use Rattle.tables.specs.declared.shapes.Cell.{Cell}
+use Rattle.protocol.specs.Text.{Spot}
 use Rattle.tables.specs.declared.parts.Taken.{Taken}
 use Rattle.tables.specs.Scan.{readValues}
-use Rattle.tables.specs.Parts.{cellAt, takenAnswer, Took}
-use Rattle.tables.proofs.From.{from-cons}
+use Rattle.tables.specs.Parts.{takenAnswer, Took}
 use Rattle.tables.proofs.Counts.{suffix-place, suffix-back}
 use Rattle.tables.proofs.Follow.{values-lines}
-
-abbrev pub cell : ℕ → ℕ → Cell
-cell item place = record { item = item; place = place }
-
-pub cell-first : (d : ℕ) → cellAt d 0 ≡ cell 0 0
-unfolding cellAt
-cell-first d = λ j. cell (Nat.zero-div d j) (Nat.zero-mod d j)
-
--- the cell of i·d + k
-cell-of : (d i k p : ℕ) → k < d → p ≡ i * d + k → cellAt d p ≡ cell i k
-unfolding cellAt
-cell-of d i k p h e = ap (cellAt d) e ∙ (λ j. cell (cell-element d i k h j) (cell-place d i k h j))
-
-module _ (d p : ℕ) where
-  pub cell-last : p % d < d → p % d + 1 ≡ d → cellAt d (p + 1) ≡ cell (p / d + 1) 0
-  cell-last h e = cell-of d (p / d + 1) 0 (p + 1) (omega arith) (omega (arith, Nat.div-add-mod' p d, Nat.add-mul (p / d) 1 d))
-
-  pub cell-more : p % d + 1 < d → cellAt d (p + 1) ≡ cell (p / d) (p % d + 1)
-  cell-more h = cell-of d (p / d) (p % d + 1) (p + 1) h (omega (arith, Nat.div-add-mod' p d))
-
-pub spots-count : (b : Shape) → length (spots b) ≡ shapeSize b
-unfolding spots
-spots-count b = tabulate-length (shapeSize b) (spotAt b)
-
-module _ (b : Shape) (p : ℕ) (h : p < shapeSize b) where
-  some-places : 0 < b .places
-  unfolding shapeSize
-  some-places = positive (b .places) (b .items) h
-    where
-      positive : (d n : ℕ) → p < n * d → 0 < d
-      positive zero n l = absurd (omega (arith, Nat.mul-zero n))
-      positive (suc d) n l = omega arith
-
-  pub cell-place-inside : p % b .places < b .places
-  cell-place-inside = Nat.mod-lt p some-places
-
-  pub cell-item-inside : p / b .places < b .items
-  unfolding shapeSize
-  cell-item-inside = Nat.div-lt-iff-lt-mul some-places .1 h
-
-  pub spots-next : drop p (spots b) ≡ spotAt b p ∷ drop (p + 1) (spots b)
-  unfolding spots
-  spots-next =
-      from-cons (spots b) p (spotAt b 0) (omega (arith, spots-count b))
-      ∙ ap (λ s. s ∷ drop (p + 1) (spots b)) (tabulate-at (shapeSize b) (spotAt b) (spotAt b 0) p h)
-
-pub spots-end : (b : Shape) (p : ℕ) → shapeSize b ≤ p → drop p (spots b) ≡ []
-spots-end b p h = drop-of-length-le (spots b) {i = p} (omega (arith, spots-count b))
-
--- ---- what the answer of a reader of lines says
 
 pub taken-missed : (text : List ℕ) (o : Option (List ℤ × List ℕ)) (r : Taken) → r ≡ takenAnswer text o → r .found ≡ false → o ≡ none
 unfolding takenAnswer

@@ -23,7 +23,7 @@ use Rattle.protocol.specs.declared.Number.{Number}
 use Rattle.protocol.specs.declared.Number.the-variants.{Value, Refused}
 use Rattle.protocol.specs.Text.{valueLimit, minus, keep, digit, digitFirst, digitRun, properDigits, readCount, plain, negative, readNumber, numberAnswer, readNumberAt, readCountAt}
 use Rattle.protocol.proofs.Tests.{and-split, and-intro}
-use Rattle.tables.proofs.From.{from-cons}
+use Rattle.shapes.proofs.From.{from-cons}
 use Rattle.tables.proofs.Runs.{run-step}
 
 -- ---- suffixes

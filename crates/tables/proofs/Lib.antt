@@ -1,4 +1,3 @@
-pub mod From
 pub mod Runs
 pub mod Counts
 pub mod Rows
@@ -8,3 +7,4 @@ pub mod Cells
 pub mod Follow
 pub mod Looks
 pub mod Wants
+pub mod Gathers

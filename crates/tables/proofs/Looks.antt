@@ -25,7 +25,7 @@ use Rattle.tables.specs.Scan.{present, readValues, allLines, settingsOf,
 use Rattle.tables.proofs.Counts.{suffix-place}
 use Rattle.tables.proofs.Rows.{all-turns}
 use Rattle.tables.proofs.Values.{behind-names, names-long, settings-named, settings-unnamed}
-use Rattle.tables.proofs.Cells.{spots-count}
+use Rattle.shapes.proofs.Cells.{spots-count}
 use Rattle.tables.proofs.Follow.{same-spots-self, lines-before, Lines, values-lines, values-elsewhere}
 
 -- ---- refusals

@@ -23,7 +23,7 @@ use Rattle.protocol.specs.Text.{Line, space, lineFeed, valueLimit, keep, digit,
 use Rattle.protocol.proofs.Tests.{and-split}
 use Rattle.tables.specs.declared.lines.Entry.the-variants.{Found as Line-at, Malformed}
 use Rattle.tables.specs.Scan.{present, readIndexAt, lineAnswer, readLineAt, allLines}
-use Rattle.tables.proofs.From.{from-cons}
+use Rattle.shapes.proofs.From.{from-cons}
 use Rattle.tables.proofs.Counts.{Suffix, suffix-self, suffix-more, suffix-of, Found, found, keep-yes, keep-no, keep-some, count-small, count-suffix, count-shorter, number-suffix, number-shorter, plain-found, plain-missed}
 
 -- ---- steps

@@ -15,7 +15,7 @@ use lib.ListN.{length, getD, drop, drop-of-length-le, length-drop}
 use Rattle.protocol.specs.Text.{digit, digitFirst, properDigits, digitRun}
 use Rattle.protocol.proofs.Tests.{and-split}
 use Rattle.tables.specs.Digits.{most}
-use Rattle.tables.proofs.From.{from-cons}
+use Rattle.shapes.proofs.From.{from-cons}
 
 -- ---- one byte
 

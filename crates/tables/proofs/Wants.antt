@@ -13,8 +13,9 @@ use Rattle.protocol.specs.declared.Settings.{Settings}
 use Rattle.protocol.specs.declared.Parts.{Parts}
 use Rattle.protocol.specs.Text.{Spot, Shape, settingsShape, shapes, spots, wanted}
 use Rattle.tables.specs.Scan.{readValue, readValues}
-use Rattle.tables.specs.Parts.{partShape, partSpots}
-use Rattle.tables.proofs.From.{from-cons}
+use Rattle.shapes.specs.Parts.{partShape}
+use Rattle.tables.specs.Parts.{partSpots}
+use Rattle.shapes.proofs.From.{from-cons}
 use Rattle.tables.proofs.Values.{prefix, prefix-nothing, prefix-prefix, values-step, values-stop}
 
 module _ (S : Settings) (P : Parts) where

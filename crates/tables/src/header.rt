@@ -2,10 +2,10 @@
 use crate::lines::all_lines;
 use crate::names::begins_with_names;
 use crate::parts::read_part;
-use crate::shapes::settings_shape;
 use arithmetic::tests::settings_refusal;
 use protocol::Loaded;
 use protocol::Settings;
+use shapes::settings_shape;
 ghost use mathlib.Core.Path.{_≡_};
 ghost use mathlib.Core.Bool.{false};
 ghost use lib.ListN.{drop};

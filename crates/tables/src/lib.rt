@@ -5,11 +5,14 @@ mod lines;
 mod names;
 mod numbers;
 mod parts;
-mod shapes;
+mod whole;
 
 pub use header::look;
+pub use header::refused;
+pub use header::unsigned;
 pub use lines::Entry;
 pub use lines::read_line;
 pub use names::begins_with_names;
 pub use numbers::read_count;
 pub use numbers::read_number;
+pub use whole::gather;

@@ -1,17 +1,18 @@
 // The lines of a part, read one after the other.
 use crate::lines::value_at;
-use crate::shapes::Cell;
-use crate::shapes::Shape;
-use crate::shapes::next_cell;
-use crate::shapes::shape_of;
-use crate::shapes::size_of;
 use protocol::Number;
 use protocol::Parts;
 use protocol::Settings;
+use shapes::Cell;
+use shapes::Shape;
+use shapes::next_cell;
+use shapes::shape_of;
+use shapes::size_of;
 ghost use Prim.Native.Nat.{_*_, _≤_};
 ghost use lib.ListN.{length};
 ghost use Rattle.protocol.specs.Text.{shapeSize, spots};
-ghost use Rattle.tables.specs.Parts.{asShape, partSpots, Took};
+ghost use Rattle.shapes.specs.Parts.{asShape};
+ghost use Rattle.tables.specs.Parts.{partSpots, Took};
 
 // Were all lines found, and the place behind them.
 pub struct Taken {

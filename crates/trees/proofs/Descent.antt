@@ -17,9 +17,9 @@ use Rattle.claims.specs.TreeCheck.{claimTo, nodeHolds, leafAccepted, treeAccept
 use Rattle.claims.proofs.Agreement.{Alike}
 use Rattle.claims.proofs.Paths.{halfLeft-height}
 use Rattle.claims.proofs.TreeKeys.{tree-alike}
-use Rattle.trees.specs.Nodes.{AtNode, leafMet, childAccepted}
+use Rattle.claims.proofs.Places.{AtNode, leaf-cells, twice-cells, height-is, deeper}
+use Rattle.trees.specs.Nodes.{leafMet, childAccepted}
 use Rattle.trees.proofs.Checks.{claim-alike}
-use Rattle.trees.proofs.Places.{leaf-cells, twice-cells, height-is, deeper}
 use Rattle.trees.proofs.Workspace.{fold-kept, child-alike}
 
 module _ (S : Settings) (rounds E : List ℕ) (finals : List ℤ) (h k first space : ℕ) (A : AtNode S h k first space) where

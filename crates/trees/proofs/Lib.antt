@@ -1,5 +1,4 @@
 pub mod Checks
-pub mod Places
 pub mod Workspace
 pub mod Descent
 pub mod Stages

@@ -4,14 +4,15 @@
 use mathlib.Core.Path.{_≡_, refl, sym, ap, _∙_}
 use mathlib.Core.Bool.{Bool, true, false, _&&_}
 use mathlib.Core.List.{List}
-use Prim.Native.Nat.{ℕ, zero, suc, _+_, _*_, _-_, _^_, _<_}
+use Prim.Native.Nat.{ℕ, zero, suc, _*_, _-_, _^_, _<_}
 use native.Mathlib.Omega.{arith}
 use lib.IntN.{ℤ}
 use lib.ListN.{length, drop}
 use Rattle.protocol.specs.declared.Settings.{Settings}
 use Rattle.protocol.proofs.Refusals.{and-fails-left}
 use Rattle.claims.specs.TreeCheck.{nodeHolds, treeAccepted}
-use Rattle.trees.specs.Nodes.{AtNode, childAccepted}
+use Rattle.claims.proofs.Places.{AtNode}
+use Rattle.trees.specs.Nodes.{childAccepted}
 use Rattle.trees.proofs.Descent.{node-tests}
 
 module _ (S : Settings) (rounds E : List ℕ) (finals : List ℤ) (h k first : ℕ) (claim ws : List ℕ) where

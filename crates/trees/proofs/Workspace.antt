@@ -1,7 +1,7 @@
 -- The fold of a node's key in the workspace. It leaves the child's key where the child looks for it, and the node's own key as it was.
 use mathlib.Core.Path.{_≡_, sym, ap, _∙_}
 use mathlib.Core.List.{List, _++_, append-assoc}
-use Prim.Native.Nat.{ℕ, suc, _+_, _*_, _-_, _^_, _<_, _≤_}
+use Prim.Native.Nat.{ℕ, _+_, _*_, _-_, _^_, _≤_}
 use native.Mathlib.Nat as Nat
 use native.Mathlib.Omega.{arith}
 use lib.ListN.{length, getD, take, drop, length-append, List·getD-append}
@@ -15,8 +15,8 @@ use Rattle.sizes.proofs.Limits.{degree-least, degree-most}
 use Rattle.arithmetic.specs.Folds.{folded, Foldable, foldDown}
 use Rattle.claims.proofs.Agreement.{Alike}
 use Rattle.claims.proofs.Paths.{halfLeft-height}
+use Rattle.claims.proofs.Places.{twice-cells}
 use Rattle.trees.specs.Nodes.{Folding}
-use Rattle.trees.proofs.Places.{twice-cells}
 
 module _ (q d n e : ℕ) (W : List ℕ) (long : n * d ≤ length W) where
   abbrev m : ℕ

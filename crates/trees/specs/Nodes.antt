@@ -1,28 +1,20 @@
 -- The check of a tree node by node, as the code goes through it.
 --
---   AtNode S h k first space   node k is h steps above the leaves, `first` is the number of the first leaf, and a list of `space` numbers has room for its key and as much again
 --   Folding S h space          the key of a node that is h steps above the leaves can be folded in a list of `space` numbers
 --   leafMet S finals j ..      is the end met at leaf j, with its claim and the folded key
 --   childAccepted S .. h k j   is every path accepted that goes from node k, h steps above the leaves and with this key, to its child j
 use mathlib.Core.Path.{_≡_}
 use mathlib.Core.Bool.{Bool, _&&_}
 use mathlib.Core.List.{List}
-use Prim.Native.Nat.{ℕ, suc, _+_, _*_, _-_, _^_, _<_, _≤_}
+use Prim.Native.Nat.{ℕ, suc, _*_, _-_, _^_, _<_, _≤_}
 use lib.IntN.{ℤ}
 use Rattle.protocol.specs.declared.Settings.{Settings}
 use Rattle.protocol.specs.Element.{signed}
 use Rattle.protocol.specs.Settings.{settingsRefusal}
 use Rattle.protocol.specs.Opening.{foldKey}
 use Rattle.protocol.specs.Transcript.{finalBounded}
-use Rattle.protocol.specs.Tree.{child, challenge, nodes, leaf}
+use Rattle.protocol.specs.Tree.{child, challenge, leaf}
 use Rattle.claims.specs.TreeCheck.{claimTo, foldedEndHolds, treeAccepted}
-use Rattle.claims.proofs.Numbering.{AtDepth}
-
-pub record AtNode (S : Settings) (h k first space : ℕ) : Type 0 where
-  pub height : h ≤ S .depth
-  pub at-depth : AtDepth (S .depth - h) k
-  pub first-is : first ≡ nodes S
-  pub space-is : space ≡ 2 * (2 ^ h * S .degree)
 
 pub record Folding (S : Settings) (h space : ℕ) : Type 0 where
   pub allowed : settingsRefusal S ≡ 0

@@ -12,7 +12,8 @@ ghost use Rattle.protocol.specs.Tree as tree;
 ghost use Rattle.protocol.specs.Calls.{everyPath};
 ghost use Rattle.arithmetic.specs.Folds.{foldDown};
 ghost use Rattle.claims.specs.TreeCheck.{claimTo, nodeHolds, treeAccepted};
-ghost use Rattle.trees.specs.Nodes.{Folding, AtNode, leafMet, childAccepted};
+ghost use Rattle.claims.proofs.Places.{AtNode};
+ghost use Rattle.trees.specs.Nodes.{Folding, leafMet, childAccepted};
 
 // Challenge j of node k.
 fn challenge(challenges: &[u32], k: u32, j: u32) -> u32

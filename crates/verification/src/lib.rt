@@ -1,4 +1,4 @@
-// The verifier's whole checks: of a transcript, and of every path of a tree.
+// The check of a whole transcript.
 mod refusal;
 mod replay;
 

@@ -1,8 +1,8 @@
 use mathlib.Core.Path.{ap, _∙_}
 use native.Mathlib.Omega.{arith}
 use lib.ListN.{replicate}
-use Rattle.arithmetic.specs.Products.{addRows, reducedSums}
-use Rattle.arithmetic.proofs.Rows.{product-done}
+use Rattle.arithmetic.specs.Products.{narrowed, addRows, reducedSums}
+use Rattle.arithmetic.proofs.Rows.{narrowed-extension, product-done}
 use borrow.Author.Needs.{needs}
 use Rattle.arithmetic.proofs.products.product.Statement.{statement}
 use Rattle.arithmetic.proofs.products.product.Tie as tie
@@ -38,7 +38,7 @@ returns c = λ hq hd h small.
     let s = c .before .before .before .accumulate in
     c .reduced-sums .ensures hq h (omega arith)
     ∙ ap (reducedSums (a .q) (a .d))
-    (s .ensures (record { degree = h; coefficients = omega arith; residues = omega arith; sums = omega arith }) ∙ ap (λ l. addRows (a .d) (a .t3) l (a .d) (replicate 64 0)) (x .ensures hq hd h (omega arith)))
+    (s .ensures (record { degree = h; coefficients = omega arith; residues = omega arith; sums = omega arith }) ∙ ap (λ l. addRows (a .d) (a .t3) l (a .d) (replicate 64 0)) (ap narrowed (x .ensures hq hd h (omega arith)) ∙ narrowed-extension (a .q) (a .d) hq hd (a .t4) (omega arith)))
     ∙ product-done (a .q) (a .d) (a .t3) (a .t4) hq hd h (omega arith) small
 
 pub product-spec : {M : Type 1} → statement M

@@ -1,3 +1,4 @@
+use Prim.Native.Nat.{_%_}
 use native.Mathlib.Nat.{mul-le-mul}
 use native.Mathlib.Omega.{arith}
 use borrow.Author.Needs.{needs}
@@ -5,7 +6,7 @@ use Rattle.arithmetic.proofs.products.scaled.Statement.{statement}
 use Rattle.arithmetic.proofs.products.scaled.Tie as tie
 
 mul-result : tie.Need-mul-result
-mul-result c = omega (arith, mul-le-mul {n₁ = c .args .m} {m₁ = c .args .y} {n₂ = 4294967295} {m₂ = 4294967295} (omega arith) (omega arith))
+mul-result c = omega (arith, mul-le-mul {n₁ = c .args .m} {m₁ = c .args .y % 4294967296} {n₂ = 4294967295} {m₂ = 4294967295} (omega arith) (omega arith))
 
 returns : tie.Need-returns
 returns c = search needs

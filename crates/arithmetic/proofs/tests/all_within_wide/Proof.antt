@@ -1,51 +1,37 @@
-use borrow.Author.Needs.{needs}
--- The loop keeps: the numbers that are left decide.
-use mathlib.Core.Path.{_≡_, refl, sym, ap, _∙_}
+-- The loop keeps: what is known, and the numbers that are left, decide.
+use mathlib.Core.Path.{_≡_, refl, ap, _∙_}
+use mathlib.Core.Bool.{_&&_}
 use Prim.Native.Nat.{_-_, _≤_}
 use native.Mathlib.Omega.{arith}
-use borrow.Author.Tests.{le-leb, lt-leb}
-use lib.Dec.{leb}
-use lib.IntN.{ℤ, pos, natAbs}
+use lib.IntN.{pos}
 use lib.ListN.{length, getD, drop}
 use mir.Syntax.{w64}
 use Rattle.protocol.specs.Basic.{all, within}
 use Rattle.protocol.specs.Settings.{small}
 use Rattle.arithmetic.proofs.Magnitude.{through-bits}
-use Rattle.arithmetic.proofs.Scan.{all-goes-on, all-fails, all-ends}
+use Rattle.arithmetic.proofs.Scan.{asked-goes-on, asked-ends}
+use borrow.Author.Needs.{needs}
 use Rattle.arithmetic.proofs.tests.all_within_wide.Statement.{statement}
 use Rattle.arithmetic.proofs.tests.all_within_wide.Tie as tie
 
 abbrev Inv-loop : tie.InvT-loop
-Inv-loop bound t i₀ i = (i ≤ length t) × (all (within bound) t ≡ all (within bound) (drop i t))
+Inv-loop bound t good₀ i₀ i-end good i = (i ≤ length t) × (i-end ≡ length t) × (all (within bound) t ≡ (good && all (within bound) (drop i t)))
 
 abbrev μ-loop : tie.MeasureT-loop
-μ-loop bound t i₀ i = length t - i
-
--- the number that the loop looks at
-abbrev entry : tie.In-loop Inv-loop μ-loop → ℤ
-entry c = getD (c .before .before .args .t .now) (c .before .loop .i) (pos 0)
-
-size : (c : tie.After-magnitude-wide Inv-loop μ-loop) → natAbs (entry (c .before .before)) ≡ c .magnitude-wide .result
-size c = sym (c .magnitude-wide .ensures ∙ ap natAbs (through-bits w64 (entry (c .before .before)) (c .before .magnitude-wide-arg .given)))
+μ-loop bound t good₀ i₀ i-end good i = length t - i
 
 loop-holds : tie.Need-loop-holds Inv-loop μ-loop
-loop-holds c = (omega arith, refl)
+loop-holds c = (omega arith, refl, refl)
 
-mul-magnitude-wide : tie.Need-mul-magnitude-wide Inv-loop μ-loop
-mul-magnitude-wide c = search needs
+mul-and-within-wide : tie.Need-mul-and-within-wide Inv-loop μ-loop
+mul-and-within-wide c = search needs
 
-shared-slice-copy-out-magnitude-wide :
-    tie.Need-shared-slice-copy-out-magnitude-wide Inv-loop μ-loop
-shared-slice-copy-out-magnitude-wide c = search needs
+shared-slice-copy-out-and-within-wide :
+    tie.Need-shared-slice-copy-out-and-within-wide Inv-loop μ-loop
+shared-slice-copy-out-and-within-wide c = search needs
 
-magnitude-wide-requires : tie.Need-magnitude-wide-requires Inv-loop μ-loop
-magnitude-wide-requires c κs = search needs
-
-returns : tie.Need-returns Inv-loop μ-loop
-unfolding small within
-returns c =
-    let l = c .before .before .before .before .loop in
-    all-fails _ _ (pos 0) (l .i) (l .inv .1) (omega arith) (ap (λ m. leb m (c .before .before .before .before .before .args .bound)) (size (c .before)) ∙ lt-leb _ _ (c .if1 .taken))
+and-within-wide-requires : tie.Need-and-within-wide-requires Inv-loop μ-loop
+and-within-wide-requires c κs = search needs
 
 add-i : tie.Need-add-i Inv-loop μ-loop
 add-i c = search needs
@@ -54,14 +40,18 @@ loop-less : tie.Need-loop-less Inv-loop μ-loop
 loop-less c = search needs
 
 loop-again : tie.Need-loop-again Inv-loop μ-loop
-unfolding within
 loop-again c =
-    let l = c .before .before .before .before .loop in
-    (omega arith, all-goes-on _ _ (pos 0) (l .i) (l .inv .1) (omega arith) (ap (λ m. leb m (c .before .before .before .before .before .args .bound)) (size (c .before)) ∙ le-leb _ _ (c .if1 .left)))
+    let a = c .before .before .before .before .args in
+    let l = c .before .before .before .loop in (
+      omega arith,
+      l .inv .1,
+      asked-goes-on _ (a .t .now) (pos 0) (l .i) (l .good) (l .inv .2) (omega arith)
+          (c .and-within-wide .ensures ∙ ap (λ z. l .good && within (a .bound) z) (through-bits w64 (getD (a .t .now) (l .i) (pos 0)) (c .before .and-within-wide-arg .given))),
+    )
 
-returns-2 : tie.Need-returns-2 Inv-loop μ-loop
+returns : tie.Need-returns Inv-loop μ-loop
 unfolding small
-returns-2 c = let l = c .before .loop in all-ends _ _ (pos 0) (l .i) (l .inv .1) (omega arith)
+returns c = let l = c .before .loop in asked-ends _ _ (pos 0) (l .i) (l .good) (l .inv .2) (omega arith)
 
 pub all-within-wide-spec : {M : Type 1} → statement M
 all-within-wide-spec =
@@ -70,11 +60,10 @@ all-within-wide-spec =
     Inv-loop
     μ-loop
     loop-holds
-    mul-magnitude-wide
-    shared-slice-copy-out-magnitude-wide
-    magnitude-wide-requires
-    returns
+    mul-and-within-wide
+    shared-slice-copy-out-and-within-wide
+    and-within-wide-requires
     add-i
     loop-less
     loop-again
-    returns-2)
+    returns)

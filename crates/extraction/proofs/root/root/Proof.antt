@@ -1,6 +1,6 @@
 -- The root's vector is worked out in a local list and then copied.
 use mathlib.Core.Path.{_≡_, sym, ap, _∙_}
-use Prim.Native.Nat.{ℕ, _*_, _^_, _≤_}
+use Prim.Native.Nat.{_*_, _≤_}
 use native.Mathlib.Omega.{arith}
 use borrow.Author.Needs.{needs}
 use mathlib.Core.List.{List}
@@ -67,7 +67,7 @@ part-store-end : tie.Need-part-store-end
 part-store-end c = let n = c .before .before in omega (arith, kept-long _ (left n) (given n) (room (n .before .before .before .before)) (lent n) (n .before .before .workspace .ensures))
 
 store-requires : tie.Need-store-requires
-store-requires c κs = let n = c .before .before .before .before in let g = c .before .before .before .before .before .before .before .before .before .before in (part-room _ (left n) (given n) (room (n .before .before .before .before)) (lent n) (n .before .before .workspace .ensures), omega (arith, g .pre .1, cells-are (c .before .before .before .before .before .before .before .before)))
+store-requires c κs = let n = c .before .before .before .before in let g = c .before .before .before .before .before .before .before .before .before .before in (omega (arith, part-room _ (left n) (given n) (room (n .before .before .before .before)) (lent n) (n .before .before .workspace .ensures)), omega (arith, g .pre .1, cells-are (c .before .before .before .before .before .before .before .before)))
 
 same-length : tie.Need-same-length
 same-length c = search needs

@@ -1,7 +1,7 @@
 -- A leaf's vector is its final element; above the leaves the second half of the list starts as zeros and takes the share of each child. The measure is the height.
-use mathlib.Core.Path.{_≡_, refl, sym, ap, _∙_}
+use mathlib.Core.Path.{_≡_, refl, sym}
 use mathlib.Core.List.{List, _++_}
-use Prim.Native.Nat.{ℕ, suc, _+_, _*_, _-_, _/_, _^_, _<_, _≤_}
+use Prim.Native.Nat.{ℕ, suc, _+_, _*_, _-_, _/_, _^_, _<_}
 use native.Mathlib.Omega.{arith}
 use borrow.Author.Needs.{needs}
 use borrow.Fn.Kinds.{In}
@@ -13,6 +13,7 @@ use Rattle.protocol.specs.Element.{signedZeros}
 use Rattle.protocol.specs.Tree.{child, vector}
 use Rattle.extraction.specs.Vectors.{Branching, branchAdded}
 use Rattle.extraction.specs.Nodes.{Extractable, AtNode}
+use Rattle.claims.proofs.Places as Places
 use Rattle.extraction.proofs.Nodes as N
 use Rattle.extraction.proofs.vectors.node.Reads as node
 use Rattle.extraction.proofs.vectors.node.Kinds as node-kinds
@@ -111,7 +112,7 @@ node-cast-d : (t : ℕ) → node-lts.Need-cast-d (calls t) (node-at t) node.Post
 node-cast-d t c = omega (arith, N.small _ _ _ (c .before .before .pre .1 .0))
 
 node-sub-leaf-vector : (t : ℕ) → node-lts.Need-sub-leaf-vector (calls t) (node-at t) node.Post
-node-sub-leaf-vector t c = N.leaf-number (c .before .before .before .args .settings) _ _ (tree t (c .before .before .before)) (c .before .before .before .args .h) (c .before .before .before .args .k) (c .before .before .before .args .first) _ (place t (c .before .before .before)) (omega arith)
+node-sub-leaf-vector t c = Places.leaf-number (c .before .before .before .args .settings) (c .before .before .before .args .h) (c .before .before .before .args .k) (c .before .before .before .args .first) _ (place t (c .before .before .before)) (omega arith)
 
 node-leaf-vector-requires : (t : ℕ) → node-lts.Need-leaf-vector-requires (calls t) (node-at t) node.Post
 node-leaf-vector-requires t c κs = (N.small _ _ _ (tree t (c .before .before .before .before)), N.leaf-inside (c .before .before .before .before .args .settings) _ _ (tree t (c .before .before .before .before)) (c .before .before .before .before .args .h) (c .before .before .before .before .args .k) (c .before .before .before .before .args .first) _ (place t (c .before .before .before .before)) (omega arith), N.leaf-space (c .before .before .before .before .args .settings) _ _ (tree t (c .before .before .before .before)) (c .before .before .before .before .args .h) (c .before .before .before .before .args .k) (c .before .before .before .before .args .first) _ (place t (c .before .before .before .before)) (omega arith))

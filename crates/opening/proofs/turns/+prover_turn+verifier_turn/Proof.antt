@@ -52,7 +52,7 @@ prover-turn-returns : (t : ℕ) → prover-turn-lts.Need-returns (
   verifier-turn-below t,
   verifier-turn.Post,
 ) (prover-turn-at t) prover-turn.Post
-prover-turn-returns t c = let a = c .before .before .before .before .before .args in prover-stops (a .settings) (a .challenges .now) (a .state) (a .key .now) (a .message .now) (a .rounds .now) (c .if1 .taken)
+prover-turn-returns t c = let a = c .before .before .before .before .before .args in prover-stops (a .settings) (a .challenges .now) (a .state) (a .key .now) (a .message .now) (a .rounds .now) (omega arith)
 
 prover-turn-cast-entry : (t : ℕ) → prover-turn-lts.Need-cast-entry (
   entry-reads.Asked,

@@ -4,7 +4,8 @@ use Prim.Native.Nat.{_+_, _*_, _-_, _≤_}
 use native.Mathlib.Omega.{arith}
 use borrow.Author.Needs.{needs}
 use lib.ListN.{length, take, drop, length-drop}
-use Rattle.arithmetic.specs.Products.{extension}
+use Rattle.arithmetic.specs.Products.{extension, narrowed}
+use Rattle.arithmetic.proofs.Rows.{narrowed-extension}
 use Rattle.arithmetic.proofs.Folds.{tail-all, row-inside}
 use Rattle.prover.specs.Sums.{innerSums}
 use Rattle.prover.proofs.Sums.{inner-none, inner-more}
@@ -97,7 +98,7 @@ loop-again c =
     let message-long : a .d ≤ length (take (length (a .message .now) - at) (drop at (a .message .now))) = omega (arith, inside t, ap length (tail-all at (a .message .now)), length-drop at (a .message .now)) in (
       omega arith,
       c .before .before .accumulate .ensures (record { degree = s .pre .0 .degree-most; coefficients = message-long; residues = omega arith; sums = omega arith })
-          ∙ inner-more (a .q) (a .d) (a .message .now) (a .key .now) (a .sums .now) (l .i) _ _ _ (tail-all at (a .message .now)) (x .ensures (s .pre .0 .modulus) (s .pre .0 .degree) (s .pre .0 .degree-most) key-long ∙ ap (extension (a .q) (a .d)) (tail-all at (a .key .now))) (l .inv .1),
+          ∙ inner-more (a .q) (a .d) (a .message .now) (a .key .now) (a .sums .now) (l .i) _ _ _ (tail-all at (a .message .now)) (ap narrowed (x .ensures (s .pre .0 .modulus) (s .pre .0 .degree) (s .pre .0 .degree-most) key-long ∙ ap (extension (a .q) (a .d)) (tail-all at (a .key .now))) ∙ narrowed-extension (a .q) (a .d) (s .pre .0 .modulus) (s .pre .0 .degree) (drop at (a .key .now)) (omega (arith, s .pre .0 .modulus-most))) (l .inv .1),
       c .before .before .accumulate .kept .1 .1 .1 .0 ∙ l .inv .2,
     )
 

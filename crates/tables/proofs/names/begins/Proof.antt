@@ -9,7 +9,7 @@ use borrow.Author.Tests.{eq-eqb, ne-eqb}
 use lib.Dec.{eqb}
 use lib.ListN.{length, getD, drop, drop-of-length-le}
 use Rattle.protocol.specs.Text.{begins}
-use Rattle.tables.proofs.From.{from-cons}
+use Rattle.shapes.proofs.From.{from-cons}
 use Rattle.tables.proofs.names.begins.Statement.{statement}
 use Rattle.tables.proofs.names.begins.Tie as tie
 

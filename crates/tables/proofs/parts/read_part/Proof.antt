@@ -14,14 +14,16 @@ use mir.Syntax.{w32}
 use mir.Val.{ofZ, toZ}
 use mir.Facts.{toZ-ofZ}
 use Rattle.protocol.specs.Text.{Spot, Shape, shapeSize, spotAt, spots}
-use Rattle.tables.specs.declared.shapes.Shape.{Shape as Part}
-use Rattle.tables.specs.declared.shapes.Cell.{Cell}
+use Rattle.shapes.specs.declared.Shape.{Shape as Part}
+use Rattle.shapes.specs.declared.Cell.{Cell}
 use Rattle.tables.specs.declared.parts.Taken.{Taken}
 use Rattle.tables.specs.Scan.{spot, readValue, readValues}
-use Rattle.tables.specs.Parts.{asShape, cellAt, takenAnswer, Took}
+use Rattle.shapes.specs.Parts.{asShape, cellAt}
+use Rattle.tables.specs.Parts.{takenAnswer, Took}
 use Rattle.tables.proofs.Counts.{Found, suffix-back}
 use Rattle.tables.proofs.Values.{prefix, prefix-nothing, valued, unvalued, values-more, values-over, values-done}
-use Rattle.tables.proofs.Cells.{cell, cell-first, cell-place-inside, cell-item-inside, spots-count, spots-next, spots-end, took-missed, took-done}
+use Rattle.shapes.proofs.Cells.{cell, cell-first, cell-inside, spots-count, spots-next, spots-end}
+use Rattle.tables.proofs.Cells.{took-missed, took-done}
 use Rattle.tables.proofs.parts.read_part.Statement.{statement}
 use Rattle.tables.proofs.parts.read_part.Tie as tie
 
@@ -90,16 +92,8 @@ module _ (c : tie.In-loop Inv-loop μ-loop) where
   unfolding cellAt spotAt
   wanted = λ j. spot (part .part) (c .before .loop .inv .4 j .item) (c .before .loop .inv .4 j .place)
 
-  few : part .items < 2 ^ 32
-  few = search needs
-
   within : (c .before .loop .cell .place < part .places) × (c .before .loop .cell .item + 1 < 2 ^ 32)
-  unfolding cellAt
-  within =
-      let e = c .before .loop .inv .4 in (
-        omega (arith, ap (λ x. x .place) e, cell-place-inside (asShape part) line inside),
-        omega (arith, ap (λ x. x .item) e, cell-item-inside (asShape part) line inside, few),
-      )
+  within = cell-inside (asShape part) line inside (c .before .loop .cell) (search needs) (c .before .loop .inv .4)
 
 -- its value
 module _ (c : tie.After-known-told Inv-loop μ-loop) where
@@ -150,7 +144,7 @@ slice-set-from-value : tie.Need-slice-set-from-value Inv-loop μ-loop
 slice-set-from-value c = room (turn c)
 
 next-cell-requires : tie.Need-next-cell-requires Inv-loop μ-loop
-next-cell-requires c κs = within (turn c)
+next-cell-requires c κs = search needs
 
 add-p : tie.Need-add-p Inv-loop μ-loop
 add-p c = search needs
@@ -167,7 +161,7 @@ loop-again c =
       l .inv .1,
       got k .within,
       simp length-set (l .inv .3),
-      c .next-cell .ensures (line d) (l .inv .4),
+      c .next-cell .ensures (within d .0) (within d .1) (line d) (l .inv .4),
       subst (λ w. Left (text d) (from d) (asShape (part d)) (set (values d) (line d) w) (next k) (line d + 1)) (sym (word k))
           (step (text d) (from d) (asShape (part d)) (values d) (now-at d) (line d) (inside d) (l .inv .5) (v k) (next k) (room d) (got k)),
     )

@@ -14,9 +14,11 @@ use Rattle.protocol.specs.declared.Settings.{Settings}
 use Rattle.protocol.specs.declared.Parts.{Parts}
 use Rattle.protocol.specs.Text.{Spot, Shape, shapeSize, spots}
 use Rattle.tables.specs.Scan.{readValues}
-use Rattle.tables.specs.Parts.{asShape, partShape, partSpots, takenAnswer, Took}
+use Rattle.shapes.specs.Parts.{asShape, partShape}
+use Rattle.tables.specs.Parts.{partSpots, takenAnswer, Took}
 use Rattle.tables.proofs.Values.{prefix, prefix-nothing, prefix-prefix, values-done}
-use Rattle.tables.proofs.Cells.{spots-count, taken-missed, taken-found, took-missed, took-done, took-place}
+use Rattle.shapes.proofs.Cells.{spots-count}
+use Rattle.tables.proofs.Cells.{taken-missed, taken-found, took-missed, took-done, took-place}
 use Rattle.tables.proofs.Follow.{values-room}
 use Rattle.tables.proofs.Wants.{spotsFrom, spots-from-next, spots-from-end, spots-from-one, values-then, values-never}
 use Rattle.tables.proofs.parts.read_parts.Statement.{statement}
@@ -24,8 +26,6 @@ use Rattle.tables.proofs.parts.read_parts.Tie as tie
 use Rattle.tables.proofs.parts.read_parts.Reads as reads
 use Rattle.tables.proofs.parts.read_parts.Lts as lts
 use Rattle.tables.proofs.parts.read_part.Reads as read-part-reads
-use Rattle.tables.proofs.shapes.shape_of.Reads as shape-of-reads
-use Rattle.tables.proofs.shapes.size_of.Reads as size-of-reads
 
 abbrev Inv-loop : tie.InvT-loop
 Inv-loop settings parts text from values₀ at₀ start₀ part₀ values at start part =
@@ -86,7 +86,7 @@ module _ (c : tie.After-size-of Inv-loop μ-loop) where
   whole = readValues (partSpots S P) (drop from text)
 
   next-spots : spotsFrom S P now-part ≡ spots-here ++ spots-next
-  next-spots = spots-from-next S P now-part (omega arith) ∙ ap (λ b. spots b ++ spots-next) (sym (c .before .shape-of .ensures))
+  next-spots = spots-from-next S P now-part (omega arith) ∙ ap (λ b. spots b ++ spots-next) (sym (c .before .shape-of .ensures (omega arith)))
 
   size-is : size ≡ length spots-here
   size-is = c .size-of .ensures ∙ sym (spots-count _)

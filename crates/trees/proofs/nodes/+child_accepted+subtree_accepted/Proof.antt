@@ -1,7 +1,6 @@
 -- A node tests its round and then child by child; a child folds the node's key, works out its claim and tests what is below it.
 -- The measure is twice the height, and one more at a node.
 use mathlib.Core.Path.{_≡_, sym, ap, _∙_, subst}
-use mathlib.Core.Bool.{true, false}
 use mathlib.Core.List.{List}
 use Prim.Native.Nat.{ℕ, _+_, _*_, _-_, _/_, _^_, _<_, _≤_}
 use native.Mathlib.Omega.{arith}
@@ -14,8 +13,8 @@ use Rattle.protocol.specs.Tree.{child, challenge}
 use Rattle.protocol.proofs.Inputs.{settings-valid}
 use Rattle.sizes.proofs.Limits.{degree-most}
 use Rattle.arithmetic.specs.Folds.{foldDown}
-use Rattle.trees.specs.Nodes.{AtNode}
-use Rattle.trees.proofs.Places as Places
+use Rattle.claims.proofs.Places as Places
+use Rattle.claims.proofs.Places.{AtNode}
 use Rattle.trees.proofs.Descent as Descent
 use Rattle.trees.proofs.Stages as Stages
 use borrow.Fn.Kinds.{In}

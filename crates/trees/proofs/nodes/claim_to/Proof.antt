@@ -1,4 +1,4 @@
-use mathlib.Core.Path.{_≡_, ap, _∙_}
+use mathlib.Core.Path.{ap, _∙_}
 use Rattle.protocol.specs.Element.{residue, padded}
 use Rattle.protocol.specs.Transcript.{nextClaim}
 use Rattle.protocol.specs.Tree.{challenge}

@@ -1,4 +1,4 @@
-use mathlib.Core.Path.{_≡_, _∙_}
+use mathlib.Core.Path.{_∙_}
 use Rattle.protocol.specs.Element.{signed, residue}
 use Rattle.protocol.proofs.Inputs.{settings-valid}
 use Rattle.sizes.proofs.Limits.{degree-most}

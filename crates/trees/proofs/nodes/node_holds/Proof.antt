@@ -1,4 +1,4 @@
-use mathlib.Core.Path.{_≡_, ap, _∙_}
+use mathlib.Core.Path.{_∙_}
 use Rattle.protocol.specs.Element.{residue}
 use Rattle.protocol.specs.Transcript.{roundHolds}
 use Rattle.protocol.proofs.Inputs.{settings-valid}

@@ -7,7 +7,7 @@ use lib.Seq.{length-take-le}
 use borrow.Rule.Slice.PartMut.{putMid, mid-len}
 use Rattle.protocol.proofs.Inputs.{settings-valid}
 use Rattle.sizes.proofs.Limits.{cells-most}
-use Rattle.trees.proofs.Places.{at-root}
+use Rattle.claims.proofs.Places.{at-root}
 use Rattle.trees.proofs.Root.{root-room, root-key, root-tests}
 use borrow.Author.Needs.{needs}
 use Rattle.trees.proofs.nodes.root_accepted.Statement.{statement}

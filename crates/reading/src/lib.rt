@@ -1,0 +1,43 @@
+// The table reader: the tables of a text, in what is lent for them. Nothing is written before the whole text has passed refusals 1 to 10.
+mod entries;
+mod store;
+
+use protocol::Loaded;
+use protocol::Parts;
+use shapes::Lengths;
+ghost use Rattle.protocol.specs.Promises.{Read};
+ghost use Rattle.reading.specs.Cut.{six};
+
+// The tables of a text. A caller learns their lengths by `tables::look`; the table of a part that is not there has length 0.
+pub fn read(
+    parts: Parts,
+    text: &[u8],
+    key: &mut [u32],
+    message: &mut [i32],
+    commitment: &mut [u32],
+    rounds: &mut [u32],
+    challenges: &mut [u32],
+    last: &mut [i32],
+) -> Loaded
+    ensures { λ r. ⌜ Read parts (now (text .entry)) (six (now (key .entry)) (now (message .entry)) (now (commitment .entry)) (now (rounds .entry)) (now (challenges .entry)) (now (last .entry))) r (six (now (key .exit)) (now (message .exit)) (now (commitment .exit)) (now (rounds .exit)) (now (challenges .exit)) (now (last .exit))) ⌝ }
+{
+    let lengths = Lengths {
+        key: key.len(),
+        message: message.len(),
+        commitment: commitment.len(),
+        rounds: rounds.len(),
+        challenges: challenges.len(),
+        last: last.len(),
+    };
+    let mut values = [0i32; 8192];
+    let loaded = tables::gather(parts, text, lengths, &mut values);
+    if loaded.number != 0 {
+        return loaded;
+    }
+    let number = entries::refusal(loaded.settings, lengths, &values);
+    if number != 0 {
+        return tables::refused(number);
+    }
+    store::all(&values, key, message, commitment, rounds, challenges, last);
+    loaded
+}

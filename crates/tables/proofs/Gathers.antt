@@ -1,0 +1,305 @@
+-- The values of a whole text, gathered part after part.
+--
+--   behind-rise          the numbers of parts 1 to 6 rise
+--   columns-behind       the values of parts 1 to 6 are those of the lines behind the settings
+--   Looked, looked       what a text is whose settings are not refused
+--   order-..             are its lines the required ones, by what was read of them
+--   gathered-..          what the reader of all values promises
+use mathlib.Core.Path.{_≡_, refl, sym, ap, ap₂, subst, _∙_}
+use mathlib.Core.Bool.{Bool, true, false, _&&_, false≢true}
+use mathlib.Core.List.{List, [], _∷_, _++_, append-nil, flatMap}
+use mathlib.Core.Option.{Option, none, some, bind, Option·some-injective}
+use Prim.Native.Nat.{ℕ, suc, _+_, _-_, _≤_, _<_}
+use native.Mathlib.Omega.{arith}
+use borrow.Author.Tests.{leb-true, eqb-true, eq-eqb}
+use lib.Dec.{eqb}
+use lib.ListN.{length, drop, take, length-append, length-map}
+use lib.Seq.{take-all}
+use lib.IntN.{ℤ}
+use Rattle.protocol.specs.declared.Settings.{Settings}
+use Rattle.protocol.specs.declared.Parts.{Parts}
+use Rattle.protocol.specs.declared.Loaded.{Loaded}
+use Rattle.protocol.specs.Basic.{tabulate, choose, unless}
+use Rattle.protocol.specs.Settings.{settingsRefusal}
+use Rattle.protocol.specs.Text.{Spot, Line, Shape, textLimit, shape, settingsShape, shapes, shapeSize, spotAt, spots, wanted, readLine, linesOf, sameSpots, spotsOf, valuesOf, column, settingsIn, noSettings, lookRefusal, loaded, lookAnswer}
+use Rattle.protocol.proofs.Tests.{same-test, first-zero, unless-zero, granted-zero}
+use Rattle.protocol.proofs.Refusals.{first-stops}
+use Rattle.protocol.proofs.TableLaws.{AllParts, Rising, parts, columns, column-append, column-none, split}
+use Rattle.tables.specs.Scan.{present, readValues, allLines, settingsOf, readSettings, headerAnswer}
+use Rattle.shapes.specs.Parts.{lengthsFit}
+use Rattle.tables.specs.Parts.{partSpots, Took}
+use Rattle.tables.specs.declared.header.Header.{Header}
+use Rattle.tables.specs.declared.parts.Taken.{Taken}
+use Rattle.shapes.specs.declared.Lengths.{Lengths}
+use Rattle.tables.specs.Stored.{columnsIn, inOrder, linesRefusal, First, Followed, Gathered}
+use Rattle.tables.proofs.Counts.{suffix-length}
+use Rattle.tables.proofs.Rows.{all-end, all-next, all-none}
+use Rattle.tables.proofs.Values.{same-spot}
+use Rattle.tables.proofs.Cells.{taken-missed, taken-found}
+use Rattle.tables.proofs.Follow.{same-spots-self, spots-same, lines-before, values-lines, values-elsewhere}
+use Rattle.tables.proofs.Looks.{settingsSpots, first-pass, first-only, spots-append, values-append, Settled, settled, settled-lines, settled-settings, settled-look, look-missing, loaded-refused}
+use Rattle.tables.proofs.Wants.{wanted-is}
+
+-- ---- values by parts
+
+joined : List (List ℤ) → List ℤ
+joined vs = flatMap (λ (v : List ℤ). v) vs
+
+columns-joined : (q : ℕ) (bs : List Shape) (ls : List Line) → Rising q (parts bs) → spotsOf ls ≡ flatMap spots bs → joined (columns (parts bs) ls) ≡ valuesOf ls
+unfolding joined flatMap spotsOf valuesOf
+columns-joined q [] [] r e = refl
+columns-joined q [] (l ∷ ls) r e = absurd (omega (arith, ap length e))
+columns-joined q (b ∷ bs) ls r e =
+    let c = split b bs ls (r .1) e in
+    ap₂ (λ (x y : List ℤ). x ++ y) (c .mine) (ap joined (c .others) ∙ columns-joined (suc (b .part)) bs (c .back) (r .1) (c .back-spots))
+    ∙ sym (values-append (c .front) (c .back)) ∙ ap valuesOf (sym (c .joined))
+
+pub behind-rise : (S : Settings) (P : Parts) → Rising 1 (parts (drop 1 (shapes S P)))
+unfolding shapes shape settingsShape
+behind-rise S P = (omega arith, (omega arith, (omega arith, (omega arith, (omega arith, (omega arith, tt))))))
+
+columns-are : (S : Settings) (P : Parts) (ls : List Line) → spotsOf ls ≡ partSpots S P → columnsIn ls ≡ valuesOf ls
+unfolding columnsIn partSpots joined flatMap shapes shape settingsShape
+columns-are S P ls e =
+    ap (λ v. column 1 ls ++ (column 2 ls ++ (column 3 ls ++ (column 4 ls ++ (column 5 ls ++ v))))) (sym (append-nil (column 6 ls)))
+    ∙ columns-joined 1 (drop 1 (shapes S P)) ls (behind-rise S P) e
+
+settings-elsewhere : (p : ℕ) → AllParts (λ q. ¬ (q ≡ suc p)) settingsSpots
+unfolding spots tabulate shapeSize settingsShape shape choose spotAt
+settings-elsewhere p = (apart, (apart, (apart, (apart, tt))))
+  where
+    apart : ¬ (0 ≡ suc p)
+    apart e = omega arith
+
+module _ (front more : List Line) (e : spotsOf front ≡ settingsSpots) where
+  column-behind : (p : ℕ) → column (suc p) (front ++ more) ≡ column (suc p) more
+  column-behind p =
+      column-append (suc p) front more
+      ∙ ap (λ v. v ++ column (suc p) more) (column-none (suc p) front (subst (AllParts (λ q. ¬ (q ≡ suc p))) (sym e) (settings-elsewhere p)))
+
+  pub columns-behind : (S : Settings) (P : Parts) → spotsOf more ≡ partSpots S P → columnsIn (front ++ more) ≡ valuesOf more
+  unfolding columnsIn
+  columns-behind S P f =
+      (λ j. column-behind 0 j ++ (column-behind 1 j ++ (column-behind 2 j ++ (column-behind 3 j ++ (column-behind 4 j ++ column-behind 5 j)))))
+      ∙ columns-are S P more f
+
+-- ---- the same spots
+
+same-spots-behind : (a ss tt : List Spot) → sameSpots (a ++ ss) (a ++ tt) ≡ sameSpots ss tt
+unfolding sameSpots
+same-spots-behind [] ss tt = refl
+same-spots-behind (s ∷ a) ss tt = ap (λ b. b && sameSpots (a ++ ss) (a ++ tt)) (same-spot s s refl refl refl) ∙ same-spots-behind a ss tt
+
+-- ---- a text whose settings are not refused
+
+pub record Looked (text : List ℕ) : Type 0 where
+  pub values : List ℤ
+  pub rest : List ℕ
+  pub more : List Line
+  pub header-is : readSettings text ≡ some (values, rest)
+  pub begins : Settled text values rest
+  pub more-is : allLines rest ≡ some more
+  pub short : length text ≤ textLimit
+  pub allowed : settingsRefusal (settingsOf values) ≡ 0
+
+module _ (text : List ℕ) (e : lookRefusal text ≡ 0) where
+  short-text : length text ≤ textLimit
+  unfolding lookRefusal
+  short-text = leb-true _ _ (unless-zero 0 _ (first-zero _ _ e .0))
+
+  by-lines : (vs : List ℤ) (rest : List ℕ) → readSettings text ≡ some (vs, rest) → (o : Option (List Line)) → allLines rest ≡ o → choose (present o) (settingsRefusal (settingsOf vs)) 2 ≡ 0 → Looked text
+  unfolding choose present
+  by-lines vs rest h none f g = absurd (omega (arith, g))
+  by-lines vs rest h (some more) f g = record {
+    values = vs;
+    rest = rest;
+    more = more;
+    header-is = h;
+    begins = settled text vs rest h;
+    more-is = f;
+    short = short-text;
+    allowed = g;
+  }
+
+  by-header : (o : Option (List ℤ × List ℕ)) → readSettings text ≡ o → Looked text
+  by-header none h = absurd (omega (arith, sym e ∙ look-missing text short-text h))
+  by-header (some (vs, rest)) h =
+      by-lines vs rest h (allLines rest) refl (sym (settled-look text vs rest (settled text vs rest h) short-text) ∙ e)
+
+  pub looked : Looked text
+  looked = by-header (readSettings text) refl
+
+module _ (text : List ℕ) (P : Parts) (l : Looked text) where
+  abbrev S : Settings
+  S = settingsOf (l .values)
+
+  pub looked-settings : settingsIn (linesOf text) ≡ S
+  looked-settings = settled-settings text (l .values) (l .rest) (l .begins) (l .more) (l .more-is)
+
+  looked-lines : linesOf text ≡ l .begins .front ++ l .more
+  looked-lines = settled-lines text (l .values) (l .rest) (l .begins) (l .more) (l .more-is)
+
+  pub looked-order : inOrder P text ≡ sameSpots (spotsOf (l .more)) (partSpots S P)
+  unfolding inOrder
+  looked-order =
+      (λ j. sameSpots (spotsOf (looked-lines j)) (wanted (looked-settings j) P))
+      ∙ (λ j. sameSpots ((spots-append (l .begins .front) (l .more) ∙ ap (λ ss. ss ++ spotsOf (l .more)) (l .begins .spots-are)) j) (wanted-is S P j))
+      ∙ same-spots-behind settingsSpots (spotsOf (l .more)) (partSpots S P)
+
+  pub looked-columns : spotsOf (l .more) ≡ partSpots S P → columnsIn (linesOf text) ≡ valuesOf (l .more)
+  looked-columns e = ap columnsIn looked-lines ∙ columns-behind (l .begins .front) (l .more) (l .begins .spots-are) S P e
+
+-- ---- are the lines the wanted ones
+
+module _ (ss : List Spot) (bs : List ℕ) (more : List Line) (f : allLines bs ≡ some more) where
+  pub order-missed : readValues ss bs ≡ none → sameSpots (spotsOf more) ss ≡ false
+  order-missed e = by (sameSpots (spotsOf more) ss) refl
+    where
+      by : (b : Bool) → sameSpots (spotsOf more) ss ≡ b → sameSpots (spotsOf more) ss ≡ false
+      by false t = t
+      by true t =
+          let same = spots-same (spotsOf more) ss t in
+          let whole : take (length ss) (spotsOf more) ≡ ss = ap (take (length ss)) same ∙ take-all (length ss) ss (omega arith) in
+          absurd (false≢true (sym (values-elsewhere ss bs more e f) ∙ ap (λ x. sameSpots x ss) whole ∙ same-spots-self ss))
+
+  -- behind the lines that were read
+  lines-of : (front : List Line) (o : Option (List Line)) → some more ≡ lines-before front o → (behind : List Line) × (o ≡ some behind) × (more ≡ front ++ behind)
+  unfolding lines-before
+  lines-of front none e = let z : _≡_ {A = ℕ} 0 1 = cc in absurd (omega arith)
+  lines-of front (some behind) e = (behind, refl, Option·some-injective more (front ++ behind) e)
+
+  some-lines : (b : ℕ) (cs : List ℕ) (ls : List Line) → allLines (b ∷ cs) ≡ some ls → 0 < length ls
+  unfolding bind
+  some-lines b cs ls e = by-line (readLine (b ∷ cs)) refl
+    where
+      by-rest : (l : Line) (o : Option (List Line)) → bind o (λ ms. some (l ∷ ms)) ≡ some ls → 0 < length ls
+      by-rest l none h = let z : _≡_ {A = ℕ} 0 1 = cc in absurd (omega arith)
+      by-rest l (some ms) h = omega (arith, ap length (Option·some-injective (l ∷ ms) ls h))
+
+      by-line : (o : Option (Line × List ℕ)) → readLine (b ∷ cs) ≡ o → 0 < length ls
+      by-line none h = let z : _≡_ {A = ℕ} 0 1 = cc (all-none (b ∷ cs) (omega arith) h) in absurd (omega arith)
+      by-line (some (l, rest)) h = by-rest l (allLines rest) (sym (all-next (b ∷ cs) l rest h) ∙ e)
+
+  module _ (vs : List ℤ) (end : List ℕ) (e : readValues ss bs ≡ some (vs, end)) where
+    -- nothing stands behind them
+    ended : length end ≡ 0 → (spotsOf more ≡ ss) × (valuesOf more ≡ vs)
+    ended h =
+        let k = values-lines ss bs vs end e in
+        let (behind, p, q) = lines-of (k .lines) (allLines end) (sym f ∙ k .all-are) in
+        let nothing : behind ≡ [] = by-end end h behind p in
+        let same : more ≡ k .lines = q ∙ ap (λ ms. k .lines ++ ms) nothing ∙ append-nil (k .lines) in
+        (ap spotsOf same ∙ k .spots-are, ap valuesOf same ∙ k .values-are)
+      where
+        by-end : (end : List ℕ) → length end ≡ 0 → (behind : List Line) → allLines end ≡ some behind → behind ≡ []
+        by-end [] h behind p = Option·some-injective behind [] (sym p ∙ all-end)
+        by-end (b ∷ cs) h behind p = absurd (omega arith)
+
+    pub order-values : length end ≡ 0 → valuesOf more ≡ vs
+    order-values h = ended h .1
+
+    pub order-spots : length end ≡ 0 → spotsOf more ≡ ss
+    order-spots h = ended h .0
+
+    -- other lines do
+    crowded : sameSpots (spotsOf more) ss ≡ true → length end ≡ 0
+    unfolding spotsOf
+    crowded t =
+        let k = values-lines ss bs vs end e in
+        let (behind, p, q) = lines-of (k .lines) (allLines end) (sym f ∙ k .all-are) in
+        by-end end behind p (omega (arith, ap length (spots-same (spotsOf more) ss t), ap length (k .spots-are), ap length q, length-append (k .lines) behind, length-map more (λ m. m .spot), length-map (k .lines) (λ m. m .spot)))
+      where
+        by-end : (end : List ℕ) (behind : List Line) → allLines end ≡ some behind → length behind ≡ 0 → length end ≡ 0
+        by-end [] behind p h = refl
+        by-end (b ∷ cs) behind p h = absurd (omega (arith, some-lines b cs behind p))
+
+    pub order-found : (n m : ℕ) → length bs < m → n ≡ m - length end → eqb n m ≡ sameSpots (spotsOf more) ss
+    order-found n m h g = same-test (λ t. order-same (eqb-true n m t)) (λ t. eq-eqb n m (omega (arith, crowded t)))
+      where
+        order-same : n ≡ m → sameSpots (spotsOf more) ss ≡ true
+        order-same p =
+            let none-left : length end ≡ 0 = omega (arith, suffix-length (values-lines ss bs vs end e .ends)) in
+            ap (λ x. sameSpots x ss) (order-spots none-left) ∙ same-spots-self ss
+
+-- ---- what the readers promise
+
+spots-values : (ls : List Line) → length (spotsOf ls) ≡ length (valuesOf ls)
+unfolding spotsOf valuesOf
+spots-values ls = length-map ls _ ∙ sym (length-map ls _)
+
+-- the lines behind the settings of a text, read from the place that the reader of the settings gave
+module _ (text : List ℕ) (P : Parts) (l : Looked text) (h : Header) (h-is : h ≡ headerAnswer text (readSettings text)) where
+  opened : h ≡ record { found = true; settings = settingsOf (l .values); next = length text - length (l .rest) }
+  unfolding headerAnswer
+  opened = h-is ∙ ap (headerAnswer text) (l .header-is)
+
+  pub followed-settings : h .settings ≡ settingsOf (l .values)
+  followed-settings = ap (λ x. x .settings) opened
+
+  pub followed-next : h .next ≤ length text
+  followed-next = omega (arith, ap (λ x. x .next) opened)
+
+  from : drop (h .next) text ≡ l .rest
+  from = ap (λ x. drop (x .next) text) opened ∙ l .begins .place-is
+
+  abbrev wanted-spots : List Spot
+  wanted-spots = partSpots (settingsOf (l .values)) P
+
+  module _ (r : Taken) (values : List ℤ) (t : Took text (h .next) (partSpots (h .settings) P) r values) where
+    took : Took text (h .next) wanted-spots r values
+    took = subst (λ S. Took text (h .next) (partSpots S P) r values) followed-settings t
+
+    pub followed-missed : r .found ≡ false → Followed P text false values
+    followed-missed e = record {
+      answer = sym (looked-order text P l
+          ∙ order-missed wanted-spots (l .rest) (l .more) (l .more-is) (ap (readValues wanted-spots) (sym from) ∙ taken-missed text _ r (took .answer) e));
+      stored = λ f. absurd (false≢true f);
+    }
+
+    pub followed-found : r .found ≡ true → Followed P text (eqb (r .next) (length text)) values
+    followed-found e =
+        let (vs, end, found, next-is) = taken-found text _ r (took .answer) e in
+        let read : readValues wanted-spots (l .rest) ≡ some (vs, end) = ap (readValues wanted-spots) (sym from) ∙ found in
+        let shorter = suffix-length (values-lines wanted-spots (l .rest) vs end read .ends) in
+        record {
+          answer = order-found wanted-spots (l .rest) (l .more) (l .more-is) vs end read (r .next) (length text) (omega (arith, l .begins .shorter)) next-is
+              ∙ sym (looked-order text P l);
+          stored = λ f.
+              let nothing : length end ≡ 0 = omega (arith, eqb-true (r .next) (length text) f, l .begins .shorter) in
+              let spots-are = order-spots wanted-spots (l .rest) (l .more) (l .more-is) vs end read nothing in
+              let columns-is : columnsIn (linesOf text) ≡ vs =
+              looked-columns text P l spots-are ∙ order-values wanted-spots (l .rest) (l .more) (l .more-is) vs end read nothing in
+              let count : length wanted-spots ≡ length vs =
+              ap length (sym spots-are) ∙ spots-values (l .more) ∙ ap length (order-values wanted-spots (l .rest) (l .more) (l .more-is) vs end read nothing) in
+              ap (λ (ws : List ℤ). take (length ws) values) columns-is ∙ ap (λ n. take n values) (sym count) ∙ took .stored vs end found ∙ sym columns-is;
+        }
+
+-- refusals 1 to 7, after a first look
+module _ (P : Parts) (n : Lengths) (text : List ℕ) (r : Loaded) (r-is : r ≡ lookAnswer text) (values : List ℤ) where
+  pub look-number : r .number ≡ lookRefusal text
+  unfolding lookAnswer loaded
+  look-number = ap (λ x. x .number) r-is
+
+  pub look-settings : r .number ≡ 0 → r .settings ≡ settingsIn (linesOf text)
+  unfolding lookAnswer loaded
+  look-settings e = ap (λ x. x .settings) r-is ∙ granted-zero _ _ _ (sym look-number ∙ e)
+
+  pub gathered-look : (r .number ≡ 0 → ⊥) → Gathered P n text r values
+  unfolding linesRefusal lookAnswer
+  gathered-look h =
+      let same : linesRefusal P n text ≡ lookRefusal text = first-stops _ _ (λ e. h (look-number ∙ e)) in
+      record { answer = r-is ∙ ap (λ m. loaded m text) (sym same); stored = λ e. absurd (h (look-number ∙ sym same ∙ e)) }
+
+  module _ (e : r .number ≡ 0) where
+    behind-look : (b : Bool) → (inOrder P text && lengthsFit (settingsIn (linesOf text)) P n) ≡ b → linesRefusal P n text ≡ unless 7 b
+    unfolding linesRefusal
+    behind-look b h = first-pass _ _ (sym look-number ∙ e) ∙ first-only _ ∙ ap (unless 7) h
+
+    pub gathered-refused : (r₇ : Loaded) → r₇ ≡ record { number = 7; settings = noSettings } → (inOrder P text && lengthsFit (settingsIn (linesOf text)) P n) ≡ false → Gathered P n text r₇ values
+    unfolding unless
+    gathered-refused r₇ f h =
+        let seven : linesRefusal P n text ≡ 7 = behind-look false h in
+        record { answer = loaded-refused text r₇ 7 (linesRefusal P n text) f seven (λ z. absurd (omega arith)); stored = λ z. absurd (omega arith) }
+
+    pub gathered-granted : (inOrder P text && lengthsFit (settingsIn (linesOf text)) P n) ≡ true → First (columnsIn (linesOf text)) values → Gathered P n text r values
+    unfolding unless lookAnswer
+    gathered-granted h s = record { answer = r-is ∙ ap (λ m. loaded m text) (sym look-number ∙ e ∙ sym (behind-look true h)); stored = λ _. s }

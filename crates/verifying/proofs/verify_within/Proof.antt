@@ -1,0 +1,195 @@
+-- `verify_within`: a first look, and then tables of exactly the lengths that the settings ask for.
+use mathlib.Core.Path.{_≡_, sym, ap, _∙_}
+use mathlib.Core.List.{List, []}
+use Prim.Native.Nat.{ℕ, _*_, _≤_}
+use native.Mathlib.Nat as Nat
+use native.Mathlib.Omega.{arith}
+use borrow.Author.Needs.{needs}
+use lib.ListN.{length, take}
+use lib.Seq.{length-take-le}
+use Rattle.protocol.specs.declared.Settings.{Settings}
+use Rattle.protocol.specs.Inputs.{Valid}
+use Rattle.protocol.specs.Settings.{settingsRefusal, cells}
+use Rattle.protocol.specs.Text.{Tables, fits}
+use Rattle.protocol.specs.Programs.{verifyReads}
+use Rattle.protocol.proofs.Inputs.{settings-valid}
+use Rattle.sizes.proofs.Limits.{degree-most, cells-most}
+use Rattle.reading.specs.Cut.{six}
+use Rattle.verifying.proofs.Checks.{Long}
+use Rattle.verifying.proofs.Verifies.{verify-stops, look-settings, look-allowed, lent-fitting}
+use Rattle.verifying.proofs.verify_within.Statement.{statement}
+use Rattle.verifying.proofs.verify_within.Tie as tie
+
+-- settings that are not refused
+module _ (c : tie.After-cells) where
+  abbrev left : tie.Else1
+  left = c .before .before .before .before
+
+  abbrev seen : tie.After-look
+  seen = left .before .before
+
+  abbrev start : tie.Start
+  start = seen .before .before .before .before .before .before
+
+  abbrev S : Settings
+  S = seen .look .result .settings
+
+  abbrev text : List ℕ
+  text = start .args .text .now
+
+  allowed : settingsRefusal S ≡ 0
+  allowed = look-allowed text (seen .look .result) (seen .look .ensures) (left .if1 .left)
+
+  valid : Valid S
+  valid = settings-valid S allowed
+
+  cells-is : c .cells .result ≡ cells S
+  cells-is = c .cells .ensures allowed
+
+  -- there is room for every table
+  key-room : c .cells .result ≤ length (start .args .key .now)
+  key-room = omega (arith, cells-is, cells-most S valid, start .pre .0)
+
+  commitment-room : S .degree ≤ length (start .args .commitment .now)
+  commitment-room = omega (arith, degree-most S valid, start .pre .1)
+
+  rounds-most : 3 * S .depth * S .degree ≤ 1536
+  rounds-most = Nat.mul-le-mul {n₂ = 24} {m₂ = 64} (omega (arith, valid .depth-most)) (degree-most S valid)
+
+  rounds-room : 3 * S .depth * S .degree ≤ length (start .args .rounds .now)
+  rounds-room = omega (arith, rounds-most, start .pre .2)
+
+  challenges-room : S .depth ≤ length (start .args .challenges .now)
+  challenges-room = omega (arith, valid .depth-most, start .pre .3)
+
+  last-room : S .degree ≤ length (start .args .last .now)
+  last-room = omega (arith, degree-most S valid, start .pre .4)
+
+  abbrev t : Tables
+  t = six (take (c .cells .result) (start .args .key .now)) [] (take (S .degree) (start .args .commitment .now)) (take (3 * S .depth * S .degree) (start .args .rounds .now))
+      (take (S .depth) (start .args .challenges .now)) (take (S .degree) (start .args .last .now))
+
+  long : Long S t
+  long = record {
+    key = length-take-le _ _ key-room ∙ cells-is;
+    message = λ _. 0;
+    commitment = length-take-le _ _ commitment-room;
+    rounds = length-take-le _ _ rounds-room;
+    challenges = length-take-le _ _ challenges-room;
+    last = length-take-le _ _ last-room;
+  }
+
+look-requires : tie.Need-look-requires
+look-requires c κs = search needs
+
+returns : tie.Need-returns
+returns c = let l = c .before .before in verify-stops (l .before .before .before .before .before .before .args .text .now) (l .look .result) (l .look .ensures) (c .if1 .taken)
+
+cast-degree : tie.Need-cast-degree
+cast-degree c = search needs
+
+cast-depth : tie.Need-cast-depth
+cast-depth c = search needs
+
+cells-requires : tie.Need-cells-requires
+cells-requires c κs = search needs
+
+mul-elements : tie.Need-mul-elements
+mul-elements c = search needs
+
+mul-elements-2 : tie.Need-mul-elements-2
+mul-elements-2 c = record { fits = omega (arith, rounds-most c) }
+
+slice-relend-prefix-verify-in : tie.Need-slice-relend-prefix-verify-in
+slice-relend-prefix-verify-in c = key-room c
+
+slice-aggregate-verify-in : tie.Need-slice-aggregate-verify-in
+slice-aggregate-verify-in c = sym (length-take-le _ _ (key-room (c .before)))
+
+slice-relend-prefix-verify-in-2 : tie.Need-slice-relend-prefix-verify-in-2
+slice-relend-prefix-verify-in-2 c = search needs
+
+slice-aggregate-verify-in-2 : tie.Need-slice-aggregate-verify-in-2
+slice-aggregate-verify-in-2 c = search needs
+
+slice-relend-prefix-verify-in-3 : tie.Need-slice-relend-prefix-verify-in-3
+slice-relend-prefix-verify-in-3 c = commitment-room (c .before .before)
+
+slice-aggregate-verify-in-3 : tie.Need-slice-aggregate-verify-in-3
+slice-aggregate-verify-in-3 c = sym (length-take-le _ _ (commitment-room (c .before .before .before)))
+
+slice-relend-prefix-verify-in-4 : tie.Need-slice-relend-prefix-verify-in-4
+slice-relend-prefix-verify-in-4 c = rounds-room (c .before .before .before)
+
+slice-aggregate-verify-in-4 : tie.Need-slice-aggregate-verify-in-4
+slice-aggregate-verify-in-4 c = sym (length-take-le _ _ (rounds-room (c .before .before .before .before)))
+
+slice-relend-prefix-verify-in-5 : tie.Need-slice-relend-prefix-verify-in-5
+slice-relend-prefix-verify-in-5 c = challenges-room (c .before .before .before .before)
+
+slice-aggregate-verify-in-5 : tie.Need-slice-aggregate-verify-in-5
+slice-aggregate-verify-in-5 c = sym (length-take-le _ _ (challenges-room (c .before .before .before .before .before)))
+
+slice-relend-prefix-verify-in-6 : tie.Need-slice-relend-prefix-verify-in-6
+slice-relend-prefix-verify-in-6 c = last-room (c .before .before .before .before .before)
+
+slice-aggregate-verify-in-6 : tie.Need-slice-aggregate-verify-in-6
+slice-aggregate-verify-in-6 c = sym (length-take-le _ _ (last-room (c .before .before .before .before .before .before)))
+
+verify-in-requires : tie.Need-verify-in-requires
+verify-in-requires c κs =
+    let k = c .before .before .before .before .before .before in
+    ap (λ x. fits x verifyReads (t k)) (sym (look-settings (text k) (seen k .look .result) (seen k .look .ensures) (left k .if1 .left))) ∙ lent-fitting (S k) (t k) (long k)
+
+same-length : tie.Need-same-length
+same-length c = search needs
+
+same-length-2 : tie.Need-same-length-2
+same-length-2 c = search needs
+
+same-length-3 : tie.Need-same-length-3
+same-length-3 c = search needs
+
+same-length-4 : tie.Need-same-length-4
+same-length-4 c = search needs
+
+same-length-5 : tie.Need-same-length-5
+same-length-5 c = search needs
+
+same-length-6 : tie.Need-same-length-6
+same-length-6 c = search needs
+
+returns-2 : tie.Need-returns-2
+returns-2 c = search needs
+
+pub verify-within-spec : {M : Type 1} → statement M
+verify-within-spec =
+    tie.close
+    (tie.spec
+    look-requires
+    returns
+    cast-degree
+    cast-depth
+    cells-requires
+    mul-elements
+    mul-elements-2
+    slice-relend-prefix-verify-in
+    slice-aggregate-verify-in
+    slice-relend-prefix-verify-in-2
+    slice-aggregate-verify-in-2
+    slice-relend-prefix-verify-in-3
+    slice-aggregate-verify-in-3
+    slice-relend-prefix-verify-in-4
+    slice-aggregate-verify-in-4
+    slice-relend-prefix-verify-in-5
+    slice-aggregate-verify-in-5
+    slice-relend-prefix-verify-in-6
+    slice-aggregate-verify-in-6
+    verify-in-requires
+    same-length
+    same-length-2
+    same-length-3
+    same-length-4
+    same-length-5
+    same-length-6
+    returns-2)

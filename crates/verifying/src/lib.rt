@@ -1,0 +1,134 @@
+// The program `verify` as a call on text: its settings, its tables, and the check of its transcript.
+use arithmetic::elements;
+use protocol::Parts;
+use protocol::Settings;
+use protocol::Verdict;
+use protocol::Verified;
+ghost use mathlib.Core.Path.{_≡_};
+ghost use mathlib.Core.Bool.{true};
+ghost use mathlib.Core.List.{[]};
+ghost use Prim.Native.Nat.{_≤_};
+ghost use lib.ListN.{length};
+ghost use Rattle.protocol.specs.Basic.{choose};
+ghost use Rattle.protocol.specs.Text.{fits, linesOf, settingsIn};
+ghost use Rattle.protocol.specs.Programs.{verifyReads, tablesAccepted, verifyAnswer};
+ghost use Rattle.reading.specs.Cut.{six};
+ghost use Rattle.verifying.specs.Given.{Given};
+
+// The parts that the program reads.
+fn reads() -> Parts
+    ensures { λ r. ⌜ r ≡ verifyReads ⌝ }
+{
+    Parts {
+        key: true,
+        message: false,
+        commitment: true,
+        round: true,
+        challenge: true,
+        last: true,
+    }
+}
+
+// The answer for tables of which nothing is refused.
+fn answer(
+    settings: Settings,
+    key: &[u32],
+    commitment: &[u32],
+    rounds: &[u32],
+    challenges: &[u32],
+    last: &[i32],
+) -> Verified
+    requires { ⌜ Given settings (six (now key) [] (now commitment) (now rounds) (now challenges) (now last)) ⌝ }
+    ensures { λ r. ⌜ r ≡ choose (tablesAccepted settings (six (now (key .entry)) [] (now (commitment .entry)) (now (rounds .entry)) (now (challenges .entry)) (now (last .entry)))) Verified.Accepted Verified.Rejected ⌝ }
+{
+    let c = elements::element_at(settings.degree, commitment, 0);
+    let f = elements::signed_element_at(settings.degree, last, 0);
+    let checked = verification::check(settings, c, f, key, rounds, challenges);
+    let verdict = checked.verdict;
+    match verdict {
+        Verdict::Accepted => Verified::Accepted,
+        _ => Verified::Rejected,
+    }
+}
+
+// The call with tables of exactly their lengths.
+fn verify_in(
+    text: &[u8],
+    key: &mut [u32],
+    message: &mut [i32],
+    commitment: &mut [u32],
+    rounds: &mut [u32],
+    challenges: &mut [u32],
+    last: &mut [i32],
+) -> Verified
+    requires { ⌜ fits (settingsIn (linesOf (now text))) verifyReads (six (now key) (now message) (now commitment) (now rounds) (now challenges) (now last)) ≡ true ⌝ }
+    ensures { λ r. ⌜ r ≡ verifyAnswer (now (text .entry)) ⌝ }
+{
+    let loaded = reading::read(
+        reads(),
+        text,
+        key,
+        message,
+        commitment,
+        rounds,
+        challenges,
+        last,
+    );
+    if loaded.number != 0 {
+        return Verified::Refused(loaded.number);
+    }
+    answer(loaded.settings, key, commitment, rounds, challenges, last)
+}
+
+// The call with tables that have room for every text: their first numbers, as many as the settings ask for, are lent.
+fn verify_within(
+    text: &[u8],
+    key: &mut [u32],
+    message: &mut [i32],
+    commitment: &mut [u32],
+    rounds: &mut [u32],
+    challenges: &mut [u32],
+    last: &mut [i32],
+) -> Verified
+    requires { ⌜ (16384 ≤ length (now key)) × (64 ≤ length (now commitment)) × (1536 ≤ length (now rounds)) × (8 ≤ length (now challenges)) × (64 ≤ length (now last)) ⌝ }
+    ensures { λ r. ⌜ r ≡ verifyAnswer (now (text .entry)) ⌝ }
+{
+    let looked = tables::look(text);
+    if looked.number != 0 {
+        return Verified::Refused(looked.number);
+    }
+    let settings = looked.settings;
+    let degree = settings.degree as usize;
+    let depth = settings.depth as usize;
+    let cells = sizes::cells(settings);
+    let elements = 3 * depth * degree;
+    verify_in(
+        text,
+        &mut key[..cells],
+        &mut message[..0],
+        &mut commitment[..degree],
+        &mut rounds[..elements],
+        &mut challenges[..depth],
+        &mut last[..degree],
+    )
+}
+
+pub fn verify(text: &[u8]) -> Verified
+    ensures { λ r. ⌜ r ≡ verifyAnswer (now (text .entry)) ⌝ }
+{
+    let mut key = [0u32; 16384];
+    let mut message = [0i32; 1];
+    let mut commitment = [0u32; 64];
+    let mut rounds = [0u32; 1536];
+    let mut challenges = [0u32; 8];
+    let mut last = [0i32; 64];
+    verify_within(
+        text,
+        &mut key,
+        &mut message,
+        &mut commitment,
+        &mut rounds,
+        &mut challenges,
+        &mut last,
+    )
+}

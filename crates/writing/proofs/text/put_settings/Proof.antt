@@ -1,0 +1,55 @@
+-- `put_settings`: the names line, and behind it the lines of part 0.
+use mathlib.Core.Path.{_≡_, refl, sym, subst}
+use mathlib.Core.List.{List, _++_}
+use Prim.Native.Nat.{ℕ, _≤_, _<_}
+use native.Mathlib.Omega.{arith}
+use borrow.Author.Needs.{needs}
+use lib.ListN.{length, take, drop}
+use lib.Seq.{take-append-seam}
+use Rattle.protocol.specs.Basic.{choose}
+use Rattle.protocol.specs.Text.{textLimit, bytes, names, shape, settingsShape, shapes, shapeSize}
+use Rattle.shapes.specs.Parts.{partShape}
+use Rattle.writing.specs.Put.{Held}
+use Rattle.writing.specs.Tables.{settingsText}
+use Rattle.writing.proofs.text.put_settings.Statement.{statement}
+use Rattle.writing.proofs.text.put_settings.Tie as tie
+
+-- the names line stands first
+named : (out : List ℕ) → Held names 22 (names ++ drop 22 out)
+unfolding names bytes textLimit
+named out = record { kept = λ _. (refl, take-append-seam names (drop 22 out)); over = λ h. absurd (omega arith) }
+
+slice-aggregate-copy : tie.Need-slice-aggregate-copy
+slice-aggregate-copy c = search needs
+
+copy-requires : tie.Need-copy-requires
+copy-requires c κs = search needs
+
+slice-aggregate-put-unsigned-part : tie.Need-slice-aggregate-put-unsigned-part
+slice-aggregate-put-unsigned-part c = search needs
+
+put-unsigned-part-requires : tie.Need-put-unsigned-part-requires
+unfolding partShape shapes settingsShape shape choose shapeSize
+put-unsigned-part-requires c κs = (search needs, search needs, refl)
+
+same-length : tie.Need-same-length
+same-length c = search needs
+
+returns : tie.Need-returns
+unfolding settingsText names bytes
+returns c =
+    let p = c .before .before in
+    let k = p .before .before .before .before .before in
+    let a = k .before .before .before .before .args in
+    p .put-unsigned-part .ensures names (subst (Held names 22) (sym (k .copy .ensures)) (named (a .out .now)))
+
+pub put-settings-spec : {M : Type 1} → statement M
+put-settings-spec =
+    tie.close
+    (tie.spec
+    slice-aggregate-copy
+    copy-requires
+    slice-aggregate-put-unsigned-part
+    put-unsigned-part-requires
+    same-length
+    returns)

@@ -1,0 +1,49 @@
+-- `put_text`: the settings, and then part after part.
+use mathlib.Core.Path.{subst}
+use borrow.Author.Needs.{needs}
+use Rattle.writing.specs.Put.{Held}
+use Rattle.writing.specs.Tables.{tables}
+use Rattle.writing.proofs.WholeText.{text-parts}
+use Rattle.writing.proofs.text.put_text.Statement.{statement}
+use Rattle.writing.proofs.text.put_text.Tie as tie
+
+put-settings-requires : tie.Need-put-settings-requires
+put-settings-requires c κs = search needs
+
+put-mixed-requires : tie.Need-put-mixed-requires
+put-mixed-requires c κs = search needs
+
+put-unsigned-part-requires : tie.Need-put-unsigned-part-requires
+put-unsigned-part-requires c κs = search needs
+
+put-unsigned-part-requires-2 : tie.Need-put-unsigned-part-requires-2
+put-unsigned-part-requires-2 c κs = search needs
+
+put-mixed-requires-2 : tie.Need-put-mixed-requires-2
+put-mixed-requires-2 c κs = search needs
+
+same-length : tie.Need-same-length
+same-length c = search needs
+
+returns : tie.Need-returns
+returns c =
+    let m₂ = c .before .before in
+    let r = m₂ .before .before .before .before in
+    let o = r .before .before .before .before in
+    let m₁ = o .before .before .before .before in
+    let s = m₁ .before .before .before .before in
+    let a = s .before .before .before .before .before .before .before .args in
+    subst (λ l. Held l (m₂ .put-mixed2 .result) (m₂ .put-mixed2 .last .1 .1 .1 .1 .1 .1 .0)) (text-parts (a .settings) (a .parts) (tables (a .key .now) (a .message .now) (a .commitment .now) (a .rounds .now) (a .challenges .now) (a .last .now)))
+    (m₂ .put-mixed2 .ensures _ (r .put-unsigned-part2 .ensures _ (o .put-unsigned-part .ensures _ (m₁ .put-mixed .ensures _ (s .put-settings .ensures)))))
+
+pub put-text-spec : {M : Type 1} → statement M
+put-text-spec =
+    tie.close
+    (tie.spec
+    put-settings-requires
+    put-mixed-requires
+    put-unsigned-part-requires
+    put-unsigned-part-requires-2
+    put-mixed-requires-2
+    same-length
+    returns)

@@ -1,0 +1,10 @@
+// The table writer. The text is made in a place of its own with room for the longest text and one line more, and copied to the output slice once
+// nothing is refused. What each function gives is said by the definitions of `protocol`'s specs/Text.antt.
+mod lines;
+mod numbers;
+mod parts;
+mod refusal;
+mod text;
+mod whole;
+
+pub use whole::write;

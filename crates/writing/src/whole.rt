@@ -1,0 +1,64 @@
+// The table writer.
+use crate::refusal::tables_refusal;
+use crate::text::copy;
+use crate::text::put_text;
+use protocol::Parts;
+use protocol::Settings;
+use protocol::Written;
+ghost use Rattle.protocol.specs.Promises.{Wrote};
+ghost use Rattle.writing.specs.Tables.{tables};
+
+// Call 13. The text is made in a place of its own: the output slice is written only once nothing is refused.
+pub fn write(
+    settings: Settings,
+    parts: Parts,
+    key: &[u32],
+    message: &[i32],
+    commitment: &[u32],
+    rounds: &[u32],
+    challenges: &[u32],
+    last: &[i32],
+    out: &mut [u8],
+) -> Written
+    ensures { λ r. ⌜ Wrote settings parts (tables (now (key .entry)) (now (message .entry)) (now (commitment .entry)) (now (rounds .entry)) (now (challenges .entry)) (now (last .entry))) (now (out .entry)) r (now (out .exit)) ⌝ }
+{
+    let number = tables_refusal(
+        settings,
+        parts,
+        key,
+        message,
+        commitment,
+        rounds,
+        challenges,
+        last,
+    );
+    if number != 0 {
+        return Written { number, length: 0 };
+    }
+    let mut text = [0u8; 65600];
+    let length = put_text(
+        settings,
+        parts,
+        key,
+        message,
+        commitment,
+        rounds,
+        challenges,
+        last,
+        &mut text,
+    );
+    if length > 65536 {
+        return Written {
+            number: 1,
+            length: 0,
+        };
+    }
+    if length > out.len() {
+        return Written {
+            number: 7,
+            length: 0,
+        };
+    }
+    copy(&text[..length], out);
+    Written { number: 0, length }
+}
