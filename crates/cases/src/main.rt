@@ -1,13 +1,10 @@
 // Runs cases through the public calls and prints their answers. Standard input is a stream of decimal numbers: for each case the number of
 // its call and then its inputs, a table or an element being its length and then its numbers. The answer to each case is one line.
 mod extracting;
-mod input;
-mod output;
 mod proving;
-mod tables;
 mod verifying;
 
-use input::Input;
+use stream::input::Input;
 
 fn run(call: u32, input: Input) -> Input {
     match call {
