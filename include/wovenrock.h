@@ -5,7 +5,7 @@
  *
  *   - a slice is a pointer and, behind it, its length in numbers (not in bytes);
  *   - a pointer is not null, also where the length is 0, and is aligned for its type;
- *   - a slice that a function writes (no const) overlaps no other slice of the same call.
+ *   - what a function writes (no const), a slice or a single number, overlaps nothing else that is lent to the same call.
  *
  * Settings are the first four numbers of most calls:
  *

@@ -59,8 +59,8 @@ impl Run {
         self.call::<SessionRound>(8_000, 100)?;
         self.call::<SessionEnd>(8_000, 100)?;
         self.call::<Sessions>(3_000, 20)?;
-        self.call::<Opening>(6_000, 40)?;
-        self.call::<Moves>(2_000, 10)?;
+        self.call::<Opening>(8_000, 40)?;
+        self.call::<Moves>(6_000, 20)?;
         self.call::<Extract>(4_000, 120)?;
         self.call::<Large>(0, 18)?;
         self.call::<Largest>(0, 6)

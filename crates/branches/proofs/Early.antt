@@ -1,10 +1,9 @@
 -- What the early tests say: the lengths of the tables, and what is left of the extractor's refusal once they pass.
-use mathlib.Core.Path.{_≡_, refl, sym, ap, _∙_}
-use mathlib.Core.Bool.{Bool, true, false, _&&_}
-use mathlib.Core.List.{List, [], _∷_, _++_}
+use mathlib.Core.Path.{_≡_, refl, sym, _∙_}
+use mathlib.Core.Bool.{Bool, true, false}
+use mathlib.Core.List.{List, [], _∷_}
 use Prim.Native.Nat.{ℕ, _*_}
 use borrow.Author.Tests.{eq-eqb, eqb-true}
-use lib.Dec.{eqb}
 use lib.IntN.{ℤ}
 use lib.ListN.{length}
 use Rattle.protocol.specs.declared.Settings.{Settings}
@@ -12,9 +11,9 @@ use Rattle.protocol.specs.Basic.{first, unless}
 use Rattle.protocol.specs.Settings.{cells, sized}
 use Rattle.protocol.specs.Tree.{nodes, leaves, grows}
 use Rattle.protocol.specs.Calls.{everyPath, extractRefusal}
-use Rattle.protocol.proofs.Tests.{and-split, and-intro, same-test}
+use Rattle.protocol.proofs.Tests.{and-split, and-intro}
 use Rattle.protocol.proofs.Refusals.{front-stops, front-passes}
-use Rattle.branches.specs.Early.{tablesSized, earlyTests, earlyRefusal}
+use Rattle.branches.specs.Early.{tablesSized, earlyRefusal}
 
 pub record Lengths (S : Settings) (key rounds E : List ℕ) (finals w : List ℤ) : Type 0 where
   pub key-long : length key ≡ cells S

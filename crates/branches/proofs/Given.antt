@@ -4,7 +4,7 @@
 --   ExtractGiven S C ..    where nothing is refused
 use mathlib.Core.Path.{_≡_, sym, ap, _∙_}
 use mathlib.Core.Logic.{_≢_}
-use mathlib.Core.Bool.{Bool, true, false, _&&_, not, false≢true}
+use mathlib.Core.Bool.{true, false, _&&_, not, false≢true}
 use mathlib.Core.List.{List, [], _∷_}
 use Prim.Native.Nat.{ℕ, _*_, _<_, _≤_}
 use borrow.Author.Tests.{eq-eqb, leb-true, ltb-true}
@@ -12,9 +12,9 @@ use lib.Dec.{eqb, ltb}
 use lib.IntN.{ℤ}
 use lib.ListN.{length, getD}
 use Rattle.protocol.specs.declared.Settings.{Settings}
-use Rattle.protocol.specs.Basic.{every, first, unless}
+use Rattle.protocol.specs.Basic.{unless}
 use Rattle.protocol.specs.Settings.{settingsRefusal, cells, sized, residues, residueElement, exponent, exponents}
-use Rattle.protocol.specs.Transcript.{accepted, Accepted}
+use Rattle.protocol.specs.Transcript.{accepted}
 use Rattle.protocol.specs.Tree.{nodes, leaves, path, challenge, apart, growth, growthLimit, grows}
 use Rattle.protocol.specs.Calls.{everyPath, extractRefusal}
 use Rattle.protocol.specs.Inputs.{Valid, Below}

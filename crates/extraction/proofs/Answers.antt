@@ -1,5 +1,5 @@
 -- The extractor's answer: with a refusal, and without one.
-use mathlib.Core.Path.{_≡_, refl, sym, ap, _∙_, subst}
+use mathlib.Core.Path.{_≡_, sym, _∙_, subst}
 use mathlib.Core.Bool.{true, false}
 use mathlib.Core.List.{List}
 use Prim.Native.Nat.{ℕ, _+_, _*_, _/_, _%_, _<_, _≤_}
@@ -7,11 +7,10 @@ use native.Mathlib.Nat as Nat
 use lib.IntN.{ℤ, pos, natAbs}
 use lib.ListN.{getD}
 use Rattle.protocol.specs.declared.Settings.{Settings}
-use Rattle.protocol.specs.Element.{signed, signedAt}
+use Rattle.protocol.specs.Element.{signedAt}
 use Rattle.protocol.specs.Settings.{size}
 use Rattle.protocol.specs.Tree.{leaves, leaf, path, rootVector, grows}
 use Rattle.protocol.specs.Calls.{everyPath, extractRefusal, extractExit}
-use Rattle.protocol.specs.Inputs.{Within}
 use Rattle.protocol.specs.Promises.{Extracted}
 use Rattle.protocol.proofs.Tests.{first-nothing, granted-zero, granted-refused}
 use Rattle.protocol.proofs.Refusals.{first-fails, first-holds}

@@ -1,11 +1,10 @@
 -- Multiplication by μ, up to a power of X, by two quotients and a sum: in the ring over the integers s(a,b) is X^(−a)·2/(1 − X^(b−a)).
-use mathlib.Core.Path.{_≡_, refl, sym, ap, ap₂, _∙_, subst}
+use mathlib.Core.Path.{_≡_, sym, ap, ap₂, _∙_}
 use mathlib.Core.Logic.{_≢_}
-use mathlib.Core.List.{List}
 use Prim.Native.Nat.{ℕ, zero, suc, _+_, _*_, _-_, _%_, _^_, _<_, _≤_}
 use native.Mathlib.Nat as Nat
 use native.Mathlib.Omega.{arith}
-use lib.IntN.{ℤ, pos}
+use lib.IntN.{pos}
 use Rattle.algebra.specs.Ring as R
 use Rattle.algebra.specs.Ring.{CommRing, two}
 use Rattle.algebra.specs.Integers.{ℤ-ring, ints}
@@ -14,7 +13,7 @@ use Rattle.algebra.specs.Certificate.{_·⟨_⟩_, _⇐_, done, combine}
 use Rattle.algebra.specs.Cancel.{cancels-ℤ, cancels-negacyclic}
 use Rattle.algebra.specs.Negacyclic.{negacyclic, X^, X^-add, X^-d, X^-whole, X^-mod}
 use Rattle.algebra.specs.Steps as A
-use Rattle.protocol.specs.Element.{Element, rotate, product, plus, signed}
+use Rattle.protocol.specs.Element.{Element, rotate, product, signed}
 use Rattle.protocol.specs.Tree.{gap, s, mu}
 use Rattle.claims.proofs.Readings.{readℤ, readℤ-inj, read-ext, read-plus, read-one, read-power, read-rotate, read-product}
 use Rattle.claims.proofs.Divisors.{read-divides, divisor}

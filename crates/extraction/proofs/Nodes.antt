@@ -4,16 +4,16 @@
 use mathlib.Core.Path.{_≡_, refl, sym, ap, _∙_, subst}
 use mathlib.Core.Logic.{_≢_}
 use mathlib.Core.List.{List, _++_}
-use Prim.Native.Nat.{ℕ, zero, suc, _+_, _*_, _-_, _/_, _%_, _^_, _<_, _≤_}
+use Prim.Native.Nat.{ℕ, zero, suc, _+_, _*_, _-_, _/_, _^_, _<_, _≤_}
 use native.Mathlib.Nat as Nat
 use native.Mathlib.Decide.{decLt}
 use native.Mathlib.Omega.{arith}
-use lib.ListN.{length, getD, take, drop, length-append, length-drop, List·getD-eq-default, List·getD-append}
-use lib.Seq.{length-take-le, drop-at, drop-append-le, take-at, take-all, drop-drop, getD-append-add, getD-take, getD-drop}
+use lib.ListN.{length, getD, take, drop, length-append, length-drop, List·getD-eq-default}
+use lib.Seq.{length-take-le, drop-at, drop-append-le, take-at, drop-drop, getD-take, getD-drop}
 use lib.Pow as Pow
 use lib.IntN.{ℤ, pos, natAbs, _+ℤ_, +ℤ-idl}
 use borrow.Rule.Slice.PartMut.{putMid}
-use Rattle.algebra.specs.Magnitude.{natAbs-add, weight}
+use Rattle.algebra.specs.Magnitude.{natAbs-add}
 use Rattle.protocol.specs.declared.Settings.{Settings}
 use Rattle.protocol.specs.Basic.{flat}
 use Rattle.protocol.specs.Element.{rotate, signed, signedAt, signedZeros, coefficients}
@@ -28,7 +28,7 @@ use Rattle.claims.proofs.Norms.{product-bounded, weight-mu}
 use Rattle.claims.proofs.Vectors.{vector-length}
 use Rattle.claims.proofs.Weights.{signed-coefficients}
 use Rattle.claims.proofs.Growth.{heightBound, heightBound-suc, heightBound-le, vector-bounded}
-use Rattle.extraction.specs.Vectors.{withShare, Sharing, Branching, branchAdded}
+use Rattle.extraction.specs.Vectors.{withShare, Branching, branchAdded}
 use Rattle.extraction.specs.Nodes.{Extractable, AtNode}
 use Rattle.arithmetic.proofs.SignedFill.{signed-zeros-at, signed-zeros-length}
 use Rattle.extraction.proofs.Shares.{by-cells, withShare-length, withShare-first, withShare-second}

@@ -9,7 +9,7 @@ use Rattle.protocol.specs.declared.Settings.{Settings}
 use Rattle.protocol.specs.Settings.{cells}
 use Rattle.protocol.specs.Tree.{growth, growthLimit}
 use Rattle.protocol.specs.Judge.{slack, Opens}
-use Rattle.protocol.specs.Calls.{extractRefusal, judgeAnswer}
+use Rattle.protocol.specs.Calls.{judgeAnswer}
 use Rattle.protocol.specs.Inputs.{Valid, Below, Within}
 use Rattle.protocol.specs.Promises.{Extracted}
 use Rattle.protocol.specs.Demand3.{FullTree, FoldsOf, ExtractionClaim}

@@ -1,5 +1,5 @@
 -- Division of 2·a by 1 − X^k by doubling k: after j doublings a has become a·(1 − X^(2^j·k))/(1 − X^k), and once 2^j·k is d on the circle of 2d exponents the numerator is 2·a.
-use mathlib.Core.Path.{_≡_, refl, sym, ap, _∙_, subst}
+use mathlib.Core.Path.{_≡_, sym, ap, _∙_, subst}
 use mathlib.Core.Bool.{Bool, true, false, false≢true}
 use mathlib.Core.List.{List}
 use Prim.Native.Nat.{ℕ, zero, suc, _+_, _*_, _-_, _/_, _%_, _^_, _<_, _≤_}

@@ -1,7 +1,7 @@
 -- One child's share: what it adds to a node's vector, and how large the numbers are meanwhile.
-use mathlib.Core.Path.{_≡_, refl, sym, ap, _∙_, subst}
+use mathlib.Core.Path.{_≡_, sym, ap, _∙_, subst}
 use mathlib.Core.List.{List, _++_}
-use Prim.Native.Nat.{ℕ, _+_, _*_, _-_, _/_, _%_, _^_, _<_, _≤_}
+use Prim.Native.Nat.{ℕ, _+_, _*_, _-_, _/_, _%_, _<_, _≤_}
 use native.Mathlib.Nat as Nat
 use native.Mathlib.Decide.{decLt}
 use native.Mathlib.Omega.{arith}
@@ -9,15 +9,14 @@ use lib.ListN.{length, getD, take, drop, length-append, length-drop, List·getD-
 use lib.Seq.{length-take-le, getD-take, getD-drop, getD-append-add, ext-getD}
 use lib.IntN.{ℤ, pos, natAbs, _+ℤ_}
 use Rattle.protocol.specs.Basic.{flat}
-use Rattle.protocol.specs.Element.{Element, rotate, product, signed, signedAt}
+use Rattle.protocol.specs.Element.{Element, rotate, signed, signedAt}
 use Rattle.protocol.specs.Tree.{gap, mu, share}
 use Rattle.protocol.proofs.Reading.{flat-length, flat-at, flat-front, cell-inside}
 use Rattle.protocol.proofs.Rotation.{rotate-plus}
 use Rattle.claims.proofs.Bounds.{Bounded, rotate-bounded}
 use Rattle.claims.proofs.Norms.{product-bounded, weight-mu}
-use Rattle.extraction.specs.Bounds.{Factors}
 use Rattle.extraction.specs.Steps.{weighted}
-use Rattle.extraction.specs.Vectors.{spliced, scaled, Scalable, turned, Turnable, withShare, Sharing}
+use Rattle.extraction.specs.Vectors.{scaled, Scalable, turned, Turnable, withShare, Sharing}
 use Rattle.relaxed.proofs.Products.{rotate-ext}
 use Rattle.extraction.proofs.Mu.{gap-some, gap-below, weighted-mu, rotate-rotate}
 use Rattle.extraction.proofs.Splicing.{spliced-length, spliced-low, spliced-behind, spliced-at}

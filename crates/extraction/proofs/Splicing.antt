@@ -3,13 +3,12 @@ use mathlib.Core.Path.{_≡_, refl, sym, ap, _∙_}
 use mathlib.Core.List.{List, [], _∷_, _++_, append-assoc}
 use Prim.Native.Nat.{ℕ, zero, suc, _+_, _*_, _-_, _/_, _%_, _<_, _≤_}
 use native.Mathlib.Nat as Nat
-use native.Mathlib.Numerals.{add-one}
 use native.Mathlib.Omega.{arith}
 use lib.ListN.{length, getD, take, drop, length-append, length-drop, take-append-drop, drop-of-length-le, List·getD-append}
 use lib.Seq.{length-take-le, take-at, drop-at, drop-drop, getD-take, getD-drop, getD-append-add}
 use borrow.Rule.Slice.PartMut.{putMid}
 use Rattle.protocol.specs.Basic.{tabulate, flat}
-use Rattle.protocol.proofs.Reading.{tabulate-length, tabulate-ext, flat-length, flat-at, cell-inside, cell-element, cell-place}
+use Rattle.protocol.proofs.Reading.{tabulate-ext, flat-length, flat-at, cell-inside, cell-element, cell-place}
 use Rattle.arithmetic.proofs.Folds.{tail-all}
 use Rattle.arithmetic.proofs.Fill.{filled}
 use Rattle.extraction.specs.Vectors.{spliced}

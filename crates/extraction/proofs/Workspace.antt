@@ -1,7 +1,7 @@
 -- The root's vector in a local list of 2,048 numbers: there is room for it, and its second half, copied, is the vector.
 use mathlib.Core.Path.{_≡_, sym, ap, _∙_, subst}
 use mathlib.Core.List.{List, _++_}
-use Prim.Native.Nat.{ℕ, _+_, _*_, _-_, _^_, _<_, _≤_}
+use Prim.Native.Nat.{ℕ, _+_, _*_, _-_, _<_, _≤_}
 use native.Mathlib.Nat as Nat
 use native.Mathlib.Omega.{arith}
 use lib.ListN.{length, getD, take, drop, length-append, length-drop, length-take, drop-of-length-le, List·getD-append}
@@ -11,11 +11,10 @@ use Rattle.protocol.specs.declared.Settings.{Settings}
 use Rattle.protocol.specs.Basic.{tabulate}
 use Rattle.protocol.specs.Element.{signed}
 use Rattle.protocol.specs.Settings.{size, cells}
-use Rattle.protocol.specs.Tree.{nodes, vector, rootVector}
+use Rattle.protocol.specs.Tree.{nodes}
 use Rattle.protocol.proofs.Reading.{tabulate-own}
 use Rattle.claims.proofs.GrowthTest.{growth-cells}
 use Rattle.claims.proofs.Numbering.{AtDepth, root-depth}
-use Rattle.claims.proofs.Vectors.{vector-length}
 use Rattle.arithmetic.proofs.Fill.{filled, filled-ext}
 use Rattle.extraction.specs.Nodes.{Extractable, AtNode}
 use Rattle.extraction.proofs.Parts.{part-entry}

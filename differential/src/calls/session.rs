@@ -23,7 +23,7 @@ pub fn numbers(r: &Record) -> Vec<u32> {
 }
 
 /// The record that a slice of enough numbers holds.
-pub fn record(t: &[u32]) -> Record {
+fn record(t: &[u32]) -> Record {
     Record {
         settings: Settings::new(t[0], t[1], t[2], t[3]),
         done: t[4],

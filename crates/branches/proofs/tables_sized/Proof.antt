@@ -11,7 +11,7 @@ use Rattle.protocol.specs.Tree.{nodes, leaves}
 use Rattle.protocol.proofs.Inputs.{settings-valid}
 use Rattle.protocol.proofs.Tests.{same-test}
 use Rattle.sizes.proofs.Limits.{degree-most}
-use Rattle.branches.proofs.Early.{Lengths, sized-lengths, lengths-sized, not-lengths}
+use Rattle.branches.proofs.Early.{sized-lengths, lengths-sized, not-lengths}
 use Rattle.branches.proofs.tables_sized.Statement.{statement}
 use Rattle.branches.proofs.tables_sized.Tie as tie
 

@@ -1,5 +1,5 @@
 -- The loop keeps: the first k numbers are the sums, the others are as they were.
-use mathlib.Core.Path.{_≡_, refl, sym, ap, _∙_}
+use mathlib.Core.Path.{_≡_, refl, ap, _∙_}
 use mathlib.Core.List.{List}
 use Prim.Native.Nat.{ℕ, _+_, _*_, _-_, _^_, _<_, _≤_}
 use native.Mathlib.Omega.{arith}
@@ -16,9 +16,6 @@ use Rattle.extraction.specs.Bounds.{Fits, Room}
 use Rattle.arithmetic.proofs.Magnitude.{through-bits}
 use Rattle.extraction.proofs.elements.accumulate.Statement.{statement}
 use Rattle.extraction.proofs.elements.accumulate.Tie as tie
-use Rattle.extraction.proofs.elements.accumulate.Reads as reads
-use Rattle.extraction.proofs.elements.accumulate.Lts as lts
-use Rattle.extraction.proofs.elements.plus_times.Reads as plus-times-reads
 
 abbrev Inv-loop : tie.InvT-loop
 Inv-loop d c a out₀ k₀ out k = (k ≤ d) × (out ≡ filled (λ j. getD out₀ j (pos 0) +ℤ toZ w64 c *ℤ getD a j (pos 0)) k out₀) × (length out ≡ length out₀)

@@ -1,6 +1,5 @@
 -- The copy stands for what it was copied from.
-use mathlib.Core.Path.{_≡_, _∙_}
-use native.Mathlib.Omega.{arith}
+use mathlib.Core.Path.{_∙_}
 use borrow.Author.Needs.{needs}
 use Rattle.extraction.proofs.Sums.{copy-summable, copy-rotated}
 use Rattle.extraction.proofs.elements.add_own.Statement.{statement}

@@ -1,6 +1,6 @@
 -- Below X^d the piece that passes it is subtracted; from X^d on the other piece is.
-use mathlib.Core.Path.{_≡_, _∙_}
-use Prim.Native.Nat.{_*_, _-_, _<_, _≤_}
+use mathlib.Core.Path.{_∙_}
+use Prim.Native.Nat.{_-_}
 use native.Mathlib.Omega.{arith}
 use borrow.Author.Needs.{needs}
 use Rattle.extraction.proofs.Sums.{rotated-less, rotated-more}

@@ -1,10 +1,9 @@
 -- The first piece, then the second, which leaves the first as it is.
 use mathlib.Core.Path.{_≡_, ap, _∙_}
-use Prim.Native.Nat.{_-_, _≤_}
+use Prim.Native.Nat.{_-_}
 use native.Mathlib.Omega.{arith}
 use borrow.Author.Needs.{needs}
 use lib.ListN.{length, take, drop}
-use lib.IntN.{ℤ}
 use mir.Facts.{toZ-ofZ}
 use Rattle.extraction.specs.Steps.{added}
 use Rattle.extraction.proofs.Sums as Sums

@@ -1,5 +1,4 @@
 -- The product and the sum fit, as the caller shows.
-use mathlib.Core.Path.{_∙_, ap}
 use lib.IntN.{_+ℤ_, _*ℤ_}
 use mir.Facts.{toZ-ofZ}
 use mir.Syntax.{w64}

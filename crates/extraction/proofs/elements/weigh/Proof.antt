@@ -1,5 +1,4 @@
 -- One quotient, the other, and the sum.
-use mathlib.Core.Path.{_≡_}
 use native.Mathlib.Omega.{arith}
 use borrow.Author.Needs.{needs}
 use Rattle.extraction.proofs.Weighing as W

@@ -1,10 +1,10 @@
 -- The products, then the sums with the first half and with the second. The products are ahead by X^(2a), which the sums turn back.
 use mathlib.Core.Path.{_≡_, sym, ap, _∙_}
-use Prim.Native.Nat.{ℕ, _+_, _*_, _-_, _%_, _≤_, _<_}
+use Prim.Native.Nat.{_+_, _*_, _-_, _%_, _<_}
 use native.Mathlib.Nat as Nat
 use native.Mathlib.Omega.{arith}
 use borrow.Author.Needs.{needs}
-use lib.ListN.{length, take, drop}
+use lib.ListN.{take, drop}
 use lib.Seq.{length-take-le}
 use mathlib.Core.List.{_++_}
 use Rattle.protocol.specs.Tree.{gap}

@@ -1,7 +1,7 @@
 -- The loop keeps: i elements are added to, everything else is as it was.
 use mathlib.Core.Path.{_≡_, refl, sym, ap, _∙_, subst}
 use mathlib.Core.List.{List}
-use Prim.Native.Nat.{ℕ, _+_, _*_, _-_, _^_, _<_, _≤_}
+use Prim.Native.Nat.{ℕ, _+_, _*_, _-_, _<_, _≤_}
 use native.Mathlib.Nat as Nat
 use native.Mathlib.Omega.{arith}
 use borrow.Author.Needs.{needs}
@@ -12,7 +12,7 @@ use Rattle.protocol.specs.Element.{rotate, plus, signed, signedAt}
 use Rattle.extraction.specs.Bounds.{Summable}
 use Rattle.extraction.specs.Steps.{rotatedAdded}
 use Rattle.extraction.specs.Vectors.{spliced, turned, Turnable}
-use Rattle.arithmetic.proofs.Fill.{filled, filled-ext}
+use Rattle.arithmetic.proofs.Fill.{filled-ext}
 use Rattle.arithmetic.proofs.Folds.{row-inside}
 use Rattle.relaxed.proofs.Products.{rotate-ext}
 use Rattle.extraction.proofs.Parts.{part-length, part-entry}

@@ -1,6 +1,6 @@
 -- The loop keeps: the first k numbers are the final element's.
 use mathlib.Core.Path.{_≡_, refl, _∙_}
-use Prim.Native.Nat.{ℕ, _+_, _*_, _-_, _<_, _≤_}
+use Prim.Native.Nat.{_-_, _≤_}
 use native.Mathlib.Omega.{arith}
 use borrow.Author.Needs.{needs}
 use lib.ListN.{length, length-set}
@@ -11,9 +11,6 @@ use mir.Syntax.{w64}
 use Rattle.arithmetic.proofs.Magnitude.{through-bits}
 use Rattle.extraction.proofs.vectors.load.Statement.{statement}
 use Rattle.extraction.proofs.vectors.load.Tie as tie
-use Rattle.extraction.proofs.vectors.load.Reads as reads
-use Rattle.extraction.proofs.vectors.load.Lts as lts
-use Rattle.extraction.proofs.vectors.widen.Reads as widen-reads
 
 abbrev Inv-loop : tie.InvT-loop
 Inv-loop d f out₀ k₀ out k = (k ≤ d) × (out ≡ filled (signed f) k out₀) × (length out ≡ length out₀)

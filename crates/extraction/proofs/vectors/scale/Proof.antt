@@ -8,14 +8,13 @@ use borrow.Author.Needs.{needs}
 use borrow.Rule.Slice.PartMut.{putMid}
 use lib.ListN.{length, getD, take, drop}
 use lib.IntN.{ℤ, pos, natAbs}
-use lib.Pow as Pow
 use Rattle.protocol.specs.Element.{Element, signed, signedAt}
 use Rattle.extraction.specs.Bounds.{Weighable}
 use Rattle.extraction.specs.Steps.{weighted}
 use Rattle.extraction.specs.Vectors.{spliced, scaled, Scalable}
 use Rattle.arithmetic.proofs.Fill.{filled, filled-ext}
 use Rattle.arithmetic.proofs.Folds.{row-inside}
-use Rattle.extraction.proofs.Parts.{part-length, part-entry, part-signed}
+use Rattle.extraction.proofs.Parts.{part-length, part-entry}
 use Rattle.extraction.proofs.Splicing.{spliced-none, spliced-turn, spliced-length, spliced-behind}
 use Rattle.extraction.proofs.Weighing as W
 use Rattle.extraction.proofs.vectors.scale.Statement.{statement}
