@@ -1,6 +1,6 @@
 // Runs cases through the public calls and prints their answers. Standard input is a stream of decimal numbers: for each case the number of
-// its call and then its inputs, a table or an element being its length and then its numbers, a text its length, a line feed and then its bytes. The answer to each case is
-// one line, or more where a text is in it.
+// its call and then its inputs, a table or an element being its length and then its numbers, a text its length, a line feed and then its
+// bytes. The answer to each case is one line, or more where a text is in it.
 mod extracting;
 mod openings;
 mod texts;
