@@ -1,27 +1,29 @@
 // Runs cases through the public calls and prints their answers. Standard input is a stream of decimal numbers: for each case the number of
-// its call and then its inputs, a table or an element being its length and then its numbers. The answer to each case is one line.
+// its call and then its inputs, a table or an element being its length and then its numbers, a text its length, a line feed and then its
+// bytes. The answer to each case is one line, or more where a text is in it.
 mod extracting;
-mod input;
-mod output;
-mod proving;
-mod tables;
-mod verifying;
+mod openings;
+mod texts;
+mod transcripts;
 
-use input::Input;
+use stream::input::Input;
 
 fn run(call: u32, input: Input) -> Input {
     match call {
-        1 => proving::run_commit(input),
-        2 => proving::run_round(input),
-        3 => proving::run_fold(input),
-        4 => proving::run_end(input),
-        5 => proving::run_opening(input),
-        6 => verifying::run_start(input),
-        7 => verifying::run_round(input),
-        8 => verifying::run_end(input),
-        9 => verifying::run_check(input),
+        1 => openings::run_commit(input),
+        2 => openings::run_round(input),
+        3 => openings::run_fold(input),
+        4 => openings::run_end(input),
+        5 => openings::run_opening(input),
+        6 => transcripts::run_start(input),
+        7 => transcripts::run_round(input),
+        8 => transcripts::run_end(input),
+        9 => transcripts::run_check(input),
         10 => extracting::run_judge(input),
         11 => extracting::run_extract(input),
+        12 => texts::run_read(input),
+        13 => texts::run_write(input),
+        15 => texts::run_verify(input),
         _ => unknown(input),
     }
 }

@@ -1,0 +1,222 @@
+// The calls on texts: the table reader, the table writer, and `verify`. Reader and writer are lent six tables: `run_tables` and `run_last` read them,
+// three each. Each `answer` makes the call and prints what it gives.
+use protocol::Parts;
+use protocol::Settings;
+use protocol::Verified;
+use stream::input::Input;
+use stream::output;
+use stream::tables;
+
+// Which of the two calls it is, and what it is told. A reader is told no settings.
+struct Task {
+    writes: bool,
+    settings: Settings,
+    parts: Parts,
+}
+
+fn answer_read(
+    parts: Parts,
+    text: &[u8],
+    key: &mut [u32],
+    message: &mut [i32],
+    commitment: &mut [u32],
+    rounds: &mut [u32],
+    challenges: &mut [u32],
+    last: &mut [i32],
+) {
+    let answer = reading::read(
+        parts,
+        text,
+        key,
+        message,
+        commitment,
+        rounds,
+        challenges,
+        last,
+    );
+    let settings = answer.settings;
+    output::first(answer.number);
+    output::settings(settings);
+    output::residues(key);
+    output::signeds(message);
+    output::residues(commitment);
+    output::residues(rounds);
+    output::residues(challenges);
+    output::signeds(last);
+    output::end();
+}
+
+fn answer_write(
+    settings: Settings,
+    parts: Parts,
+    key: &[u32],
+    message: &[i32],
+    commitment: &[u32],
+    rounds: &[u32],
+    challenges: &[u32],
+    last: &[i32],
+    out: &mut [u8],
+) {
+    let answer = writing::write(
+        settings,
+        parts,
+        key,
+        message,
+        commitment,
+        rounds,
+        challenges,
+        last,
+        out,
+    );
+    output::first(answer.number);
+    output::count(answer.length);
+    output::text(out);
+    output::end();
+}
+
+fn answer(
+    task: Task,
+    text: &mut [u8],
+    key: &mut [u32],
+    message: &mut [i32],
+    commitment: &mut [u32],
+    rounds: &mut [u32],
+    challenges: &mut [u32],
+    last: &mut [i32],
+) {
+    let parts = task.parts;
+    if task.writes {
+        answer_write(
+            task.settings,
+            parts,
+            key,
+            message,
+            commitment,
+            rounds,
+            challenges,
+            last,
+            text,
+        );
+    } else {
+        answer_read(
+            parts,
+            text,
+            key,
+            message,
+            commitment,
+            rounds,
+            challenges,
+            last,
+        );
+    }
+}
+
+fn run_last(
+    task: Task,
+    text: &mut [u8],
+    key: &mut [u32],
+    message: &mut [i32],
+    commitment: &mut [u32],
+    input: Input,
+) -> Input {
+    let mut round = tables::residue_room();
+    let rounds = tables::residues(input, &mut round);
+    let mut challenge = tables::residue_room();
+    let challenges = tables::residues(rounds.next, &mut challenge);
+    let mut last = tables::signed_room();
+    let lasts = tables::signeds(challenges.next, &mut last);
+    let k = rounds.count;
+    let l = challenges.count;
+    let m = lasts.count;
+    answer(
+        task,
+        text,
+        key,
+        message,
+        commitment,
+        &mut round[..k],
+        &mut challenge[..l],
+        &mut last[..m],
+    );
+    lasts.next
+}
+
+fn run_tables(task: Task, text: &mut [u8], input: Input) -> Input {
+    let mut key = tables::residue_room();
+    let keys = tables::residues(input, &mut key);
+    let mut message = tables::signed_room();
+    let messages = tables::signeds(keys.next, &mut message);
+    let mut commitment = tables::residue_room();
+    let commitments = tables::residues(messages.next, &mut commitment);
+    let n = keys.count;
+    let m = messages.count;
+    let k = commitments.count;
+    run_last(
+        task,
+        text,
+        &mut key[..n],
+        &mut message[..m],
+        &mut commitment[..k],
+        commitments.next,
+    )
+}
+
+pub fn run_read(input: Input) -> Input {
+    let told = tables::parts(input);
+    let mut text = tables::text_room();
+    let texts = tables::text(told.next, &mut text);
+    let none = Settings {
+        degree: 0,
+        depth: 0,
+        modulus: 0,
+        bound: 0,
+    };
+    let parts = told.parts;
+    let task = Task {
+        writes: false,
+        settings: none,
+        parts: parts,
+    };
+    let n = texts.count;
+    run_tables(task, &mut text[..n], texts.next)
+}
+
+pub fn run_write(input: Input) -> Input {
+    let given = tables::settings(input);
+    let told = tables::parts(given.next);
+    let mut out = tables::text_room();
+    let outs = tables::blank(told.next, &mut out);
+    let settings = given.settings;
+    let parts = told.parts;
+    let task = Task {
+        writes: true,
+        settings: settings,
+        parts: parts,
+    };
+    let n = outs.count;
+    run_tables(task, &mut out[..n], outs.next)
+}
+
+// A refusal's number and a verdict, as the other calls print them.
+fn verdict(number: u32, verdict: u32) {
+    output::first(number);
+    output::number(verdict);
+    output::end();
+}
+
+fn answer_verify(text: &[u8]) {
+    let answer = verifying::verify(text);
+    match answer {
+        Verified::Accepted => verdict(0, 2),
+        Verified::Rejected => verdict(0, 3),
+        Verified::Refused(number) => verdict(number, 0),
+    }
+}
+
+pub fn run_verify(input: Input) -> Input {
+    let mut text = tables::text_room();
+    let texts = tables::text(input, &mut text);
+    let n = texts.count;
+    answer_verify(&text[..n]);
+    texts.next
+}

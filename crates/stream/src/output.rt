@@ -1,0 +1,155 @@
+// Answers on standard output: a line of numbers with single spaces. `first` begins a line, `end` ends it.
+use arithmetic::tests;
+use protocol::Session;
+use protocol::Settings;
+use protocol::Verdict;
+ghost use Prim.Native.Nat.{_≤_};
+
+pub fn first(x: u32) {
+    io::print_decimal(1, x as u64);
+}
+
+fn more(x: u64) {
+    io::write_all(1, b" ");
+    io::print_decimal(1, x);
+}
+
+pub fn number(x: u32) {
+    more(x as u64);
+}
+
+pub fn flag(x: bool) {
+    if x {
+        number(1);
+    } else {
+        number(0);
+    }
+}
+
+pub fn count(x: usize) {
+    more(x as u64);
+}
+
+pub fn signed(x: i32) {
+    io::write_all(1, b" ");
+    if x < 0 {
+        io::write_all(1, b"-");
+    }
+    io::print_decimal(1, tests::magnitude(x) as u64);
+}
+
+pub fn wide(x: i64) {
+    io::write_all(1, b" ");
+    if x < 0 {
+        io::write_all(1, b"-");
+    }
+    io::print_decimal(1, tests::magnitude_wide(x));
+}
+
+pub fn end() {
+    io::write_all(1, b"\n");
+}
+
+// The numbers of a table, with no length before them.
+fn each(t: &[u32]) {
+    let mut i: usize = 0;
+    while i < t.len() {
+        number(t[i]);
+        i += 1;
+    }
+}
+
+// A table: its length and its numbers.
+pub fn residues(t: &[u32]) {
+    count(t.len());
+    each(t);
+}
+
+pub fn signeds(t: &[i32]) {
+    count(t.len());
+    let mut i: usize = 0;
+    while i < t.len() {
+        signed(t[i]);
+        i += 1;
+    }
+}
+
+pub fn wides(t: &[i64]) {
+    count(t.len());
+    let mut i: usize = 0;
+    while i < t.len() {
+        wide(t[i]);
+        i += 1;
+    }
+}
+
+// A text: its length, and on the next lines its bytes as they are.
+pub fn text(t: &[u8]) {
+    count(t.len());
+    end();
+    io::write_all(1, t);
+}
+
+// The places of an element up to the last one that is not 0.
+fn places(a: &[u32; 64]) -> usize
+    ensures { λ r. ⌜ r ≤ 64 ⌝ }
+{
+    let mut n: usize = 64;
+    while n > 0 {
+        if a[n - 1] != 0 {
+            return n;
+        }
+        n -= 1;
+    }
+    0
+}
+
+fn signed_places(a: &[i32; 64]) -> usize
+    ensures { λ r. ⌜ r ≤ 64 ⌝ }
+{
+    let mut n: usize = 64;
+    while n > 0 {
+        if a[n - 1] != 0 {
+            return n;
+        }
+        n -= 1;
+    }
+    0
+}
+
+// An element: how many places it has up to the last one that is not 0, and those places.
+pub fn element(a: [u32; 64]) {
+    let n = places(&a);
+    residues(&a[..n]);
+}
+
+pub fn signed_element(a: [i32; 64]) {
+    let n = signed_places(&a);
+    signeds(&a[..n]);
+}
+
+pub fn verdict(v: Verdict) {
+    match v {
+        Verdict::Silent => number(0),
+        Verdict::Holds => number(1),
+        Verdict::Accepted => number(2),
+        Verdict::Rejected => number(3),
+    }
+}
+
+pub fn settings(s: Settings) {
+    number(s.degree);
+    number(s.depth);
+    number(s.modulus);
+    number(s.bound);
+}
+
+pub fn session(s: Session) {
+    settings(s.settings);
+    number(s.done);
+    flag(s.closed);
+    let claim = s.claim;
+    element(claim);
+    let challenges = s.challenges;
+    each(&challenges);
+}
