@@ -1,3 +1,4 @@
 pub mod Cuts
 pub mod Refuses
 pub mod Whole
+pub mod OnText

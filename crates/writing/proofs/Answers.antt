@@ -2,6 +2,7 @@
 --
 --   stopped   refused before the text
 --   passed-depth, passed-exact   what holds where that is not so
+--   text-decides   then the text and the output slice decide
 --   long      a text that is too long
 --   cramped   an output slice that is too short
 --   done      nothing refused
@@ -55,21 +56,21 @@ module _ (S : Settings) (P : Parts) (t : Tables) (out : List ℕ) where
   stopped n e ne = refused n ne (front-stops (_ ∷ _ ∷ _ ∷ []) _ (λ z. ne (e ∙ z)) ∙ sym e)
 
   module _ (fine : tablesRefusal S P t ≡ 0) where
-    left : writeRefusal S P t (length out) ≡ outputRefusal text (length out)
+    pub text-decides : writeRefusal S P t (length out) ≡ outputRefusal text (length out)
     unfolding writeRefusal tablesRefusal
-    left = front-passes (_ ∷ _ ∷ _ ∷ []) _ fine ∙ first-only _
+    text-decides = front-passes (_ ∷ _ ∷ _ ∷ []) _ fine ∙ first-only _
 
     pub long : textLimit < length text → Wrote S P t out (answer 1 0) out
     unfolding outputRefusal
-    long h = refused 1 (λ e. omega arith) (left ∙ first-fails 0 _ _ (lt-leb _ _ h))
+    long h = refused 1 (λ e. omega arith) (text-decides ∙ first-fails 0 _ _ (lt-leb _ _ h))
 
     module _ (short : length text ≤ textLimit) where
       pub cramped : length out < length text → Wrote S P t out (answer 7 0) out
       unfolding outputRefusal
-      cramped h = refused 7 (λ e. omega arith) (left ∙ first-holds 1 _ _ (le-leb _ _ short) ∙ first-fails 6 _ _ (lt-leb _ _ h))
+      cramped h = refused 7 (λ e. omega arith) (text-decides ∙ first-holds 1 _ _ (le-leb _ _ short) ∙ first-fails 6 _ _ (lt-leb _ _ h))
 
       pub done : (n : ℕ) (out′ : List ℕ) → n ≡ length text → length text ≤ length out → out′ ≡ text ++ drop (length text) out → Wrote S P t out (answer 0 n) out′
       unfolding outputRefusal writeAnswer writeExit written overwritten granted
       done n out′ long h is =
-          let e : writeRefusal S P t (length out) ≡ 0 = left ∙ first-holds 1 _ _ (le-leb _ _ short) ∙ first-holds 7 _ _ (le-leb _ _ h) ∙ first-nothing in
+          let e : writeRefusal S P t (length out) ≡ 0 = text-decides ∙ first-holds 1 _ _ (le-leb _ _ short) ∙ first-holds 7 _ _ (le-leb _ _ h) ∙ first-nothing in
           record { answer = ap (answer 0) long ∙ sym (ap (λ k. written k text) e); out-exit = is ∙ sym (ap (λ k. overwritten k text out) e) }

@@ -162,7 +162,14 @@ fn range(random: &mut Random, text: &[u8]) -> std::ops::Range<usize> {
     start..end
 }
 
-/// Replaces a run of digits by another number.
+/// Where the value of a line begins, behind a place.
+fn value_behind(text: &[u8], from: usize) -> Option<usize> {
+    let end = from + text[from..].iter().position(|&b| b == b'\n')?;
+    let space = text[from..end].iter().rposition(|&b| b == b' ')?;
+    Some(from + space + 1)
+}
+
+/// Replaces a run of digits, mostly in a value, by another number.
 fn change_number(random: &mut Random, text: &mut Vec<u8>) {
     const NUMBERS: [&str; 22] = [
         "0",
@@ -188,7 +195,10 @@ fn change_number(random: &mut Random, text: &mut Vec<u8>) {
         "2147483648",
         "-2147483647",
     ];
-    let from = place(random, text).min(text.len());
+    let mut from = place(random, text).min(text.len());
+    if !random.one_in(4) {
+        from = value_behind(text, from).unwrap_or(from);
+    }
     let digit = |b: &u8| b.is_ascii_digit();
     let Some(start) = text[from..].iter().position(digit).map(|i| from + i) else {
         return;

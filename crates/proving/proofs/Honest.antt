@@ -1,0 +1,127 @@
+-- The transcript of an honest opening can be written: of its tables the writer refuses nothing, so that only the length of its text and the output slice are left to test.
+--
+--   commitment-front, last-front   commitment and final element stand first in what the opening gives
+--   given             the inputs of the opening, as the theorems have them
+--   honest-written    refusals 3 to 10 do not apply to the tables of the transcript
+--   printed-by        what the writer promises for them
+use mathlib.Core.Path.{_≡_, refl, sym, ap, subst, _∙_}
+use mathlib.Core.Bool.{true}
+use mathlib.Core.List.{List, []}
+use Prim.Native.Nat.{ℕ, _*_, _<_, _≤_}
+use native.Mathlib.Nat as Nat
+use native.Mathlib.Omega.{arith}
+use borrow.Author.Tests.{eq-eqb}
+use lib.ListN.{length, getD, take, length-append}
+use lib.Seq.{take-at}
+use lib.IntN.{ℤ, pos, natAbs}
+use Rattle.protocol.specs.declared.Settings.{Settings}
+use Rattle.protocol.specs.declared.Written.{Written}
+use Rattle.protocol.specs.Basic.{all, choose}
+use Rattle.protocol.specs.Element.{signed, padded, paddedSigned}
+use Rattle.protocol.specs.Settings.{settingsRefusal, size, residues, small, exponent, exponents}
+use Rattle.protocol.specs.Inputs.{Within}
+use Rattle.protocol.specs.Opening.{commitment, roundTable, messageAfter, finalElement}
+use Rattle.protocol.specs.Transcript.{Transcript, transcriptOf}
+use Rattle.protocol.specs.Text.{Tables, valueLimit, shape, shapes, shapeSize, fits, outputRefusal, written, overwritten, writeRefusal, writeAnswer, writeExit}
+use Rattle.protocol.specs.Programs.{provePrints, printed}
+use Rattle.protocol.specs.Promises.{Wrote}
+use Rattle.protocol.proofs.Tests.{and-intro, zero-first, zero-unless, first-nothing}
+use Rattle.protocol.proofs.Inputs.{valid-settings, below-tested, within-tested}
+use Rattle.claims.proofs.TextLimits.{Allowed, allowed, size-le, Passed, unrefused}
+use Rattle.claims.proofs.Honest.{Given, degree-positive, modulus-positive}
+use Rattle.claims.proofs.Ranges.{commitment-below, rounds-below, last-length}
+use Rattle.claims.proofs.Completeness.{complete}
+use Rattle.shapes.specs.Parts.{partShape, lengthsOf, lengthsFit}
+use Rattle.shapes.proofs.Exactly.{lengths-fit}
+use Rattle.writing.specs.Tables.{tablesRefusal}
+use Rattle.writing.proofs.Answers.{text-decides}
+use Rattle.proving.specs.Printed.{Openable, proof, Printed}
+
+module _ (S : Settings) (G : List ℕ) (M : List ℤ) (E rounds : List ℕ) (ok : Openable S G M E rounds) where
+  open Settings S using (degree as d, depth as L, modulus as q, bound as B)
+
+  pub given : Given S G M E
+  given = record { settings = ok .settings; key = ok .key; message = ok .message; challenges = ok .challenges }
+
+  abbrev T : Transcript
+  T = transcriptOf S G M E
+
+  abbrev t : Tables
+  t = printed T
+
+  pq : 0 < q
+  pq = modulus-positive S (ok .settings)
+
+  last-long : length (T .last) ≡ d
+  unfolding transcriptOf
+  last-long = last-length S (messageAfter S E L M)
+
+  commitment-long : length (T .commitment) ≡ d
+  unfolding transcriptOf
+  commitment-long = commitment-below S pq G M .long
+
+  rounds-long : length (T .rounds) ≡ 3 * L * d
+  unfolding transcriptOf
+  rounds-long = rounds-below S pq E G M .long
+
+  -- "no coefficient beyond ±n·B", and n·B is at most 32,512
+  last-within : Within valueLimit d (T .last)
+  unfolding signed valueLimit
+  last-within = record {
+    long = last-long;
+    each = λ k l. Nat.le-trans
+        (complete S (degree-positive S (ok .settings)) (ok .settings .modulus-odd) G M E (ok .message .each) .in-bound k l)
+        (Nat.le-trans (Nat.mul-le-mul (size-le S (allowed S (valid-settings S (ok .settings)))) (ok .settings .bound-most)) (omega arith));
+  }
+
+  -- commitment and final element as the opening passes them by value
+  pub commitment-front : (r : List ℕ) → r ≡ padded d (commitment S G M) → (d ≤ length r) × (take d r ≡ T .commitment)
+  unfolding transcriptOf padded
+  commitment-front r e = (
+    omega (arith, ap length e ∙ length-append (commitment S G M) _, commitment-below S pq G M .long),
+    ap (take d) e ∙ take-at (commitment S G M) _ d (commitment-below S pq G M .long),
+  )
+
+  pub last-front : (r : List ℤ) → r ≡ paddedSigned d (finalElement S (messageAfter S E L M)) → (d ≤ length r) × (take d r ≡ T .last)
+  unfolding transcriptOf paddedSigned
+  last-front r e = (
+    omega (arith, ap length e ∙ length-append (finalElement S (messageAfter S E L M)) _, last-length S (messageAfter S E L M)),
+    ap (take d) e ∙ take-at (finalElement S (messageAfter S E L M)) _ d (last-length S (messageAfter S E L M)),
+  )
+
+  fitting : fits S provePrints t ≡ true
+  unfolding lengthsFit lengthsOf partShape shapes shape shapeSize choose provePrints printed transcriptOf
+  fitting =
+      sym (lengths-fit S provePrints t)
+      ∙ and-intro (eq-eqb _ _ (sym (Nat.zero-mul d)))
+      (and-intro (eq-eqb _ _ (sym (Nat.zero-mul d)))
+      (and-intro (eq-eqb _ _ (commitment-long ∙ sym (Nat.one-mul d)))
+      (and-intro (eq-eqb _ _ rounds-long)
+      (and-intro (eq-eqb _ _ (ok .challenges .long ∙ sym (Nat.mul-one L))) (eq-eqb _ _ (last-long ∙ sym (Nat.one-mul d)))))))
+
+  passing : Passed S t
+  unfolding printed transcriptOf residues small exponents exponent all
+  passing = record {
+    key = refl;
+    commitment = below-tested q d (commitment S G M) (commitment-below S pq G M);
+    rounds = below-tested q (3 * L * d) (roundTable S E G M) (rounds-below S pq E G M);
+    message = refl;
+    challenges = below-tested (2 * d) L E (ok .challenges);
+    last = within-tested valueLimit d (T .last) last-within;
+  }
+
+  pub honest-written : tablesRefusal S provePrints t ≡ 0
+  unfolding tablesRefusal
+  honest-written =
+      zero-first _ _ (valid-settings S (ok .settings))
+      (zero-first _ _ (zero-unless 7 _ fitting)
+      (zero-first _ _ (unrefused S _ t passing (passing .last)) first-nothing))
+
+  pub printed-by : (u : Tables) (out : List ℕ) (r : Written) (out′ : List ℕ) → u ≡ t → Wrote S provePrints u out r out′ → Printed S G M E out r out′
+  unfolding writeAnswer writeExit
+  printed-by u out r out′ e w =
+      let decided = text-decides S provePrints t out honest-written in
+      record {
+        answer = w .answer ∙ ap (λ x. writeAnswer S provePrints x out) e ∙ ap (λ n. written n (proof S G M E)) decided;
+        out-exit = w .out-exit ∙ ap (λ x. writeExit S provePrints x out) e ∙ ap (λ n. overwritten n (proof S G M E) out) decided;
+      }

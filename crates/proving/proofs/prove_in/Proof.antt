@@ -1,0 +1,156 @@
+-- `prove_in`: the reader, and then the opening and its text.
+use mathlib.Core.Path.{_≡_, sym, ap, subst, _∙_}
+use mathlib.Core.Bool.{true}
+use mathlib.Core.List.{List, []}
+use Prim.Native.Nat.{ℕ, _*_}
+use borrow.Author.Needs.{needs}
+use lib.ListN.{length}
+use Rattle.protocol.specs.declared.Settings.{Settings}
+use Rattle.protocol.specs.Text.{Tables, fits, linesOf, settingsIn}
+use Rattle.protocol.specs.Promises.{Read}
+use Rattle.protocol.specs.Programs.{proveReads}
+use Rattle.shapes.specs.Parts.{lengthsOf}
+use Rattle.reading.specs.Cut.{six}
+use Rattle.reading.proofs.OnText.{number-is, settings-are, tables-are, settings-allowed, entries-passed, still-fitting}
+use Rattle.proving.proofs.Proves.{prove-refused, prove-done, openable}
+use Rattle.proving.proofs.prove_in.Statement.{statement}
+use Rattle.proving.proofs.prove_in.Tie as tie
+
+module _ (c : tie.After-read) where
+  abbrev start : tie.Start
+  start = c .before .before .before .before .before .before .before .before .before .before .before .before .before
+
+  abbrev text : List ℕ
+  text = start .args .text .now
+
+  abbrev t : Tables
+  t = six (start .args .key .now) (start .args .message .now) [] [] (start .args .challenges .now) []
+
+  abbrev t′ : Tables
+  t′ = six (c .read .last .1 .1 .0) (c .read .last .1 .1 .1 .0) (c .read .last .1 .1 .1 .1 .0) (c .read .last .1 .1 .1 .1 .1 .0) (c .read .last .1 .1 .1 .1 .1 .1 .0) (c .read .last .1 .1 .1 .1 .1 .1 .1 .0)
+
+  fit : fits (settingsIn (linesOf text)) proveReads t ≡ true
+  fit = start .pre .0
+
+  promise : Read proveReads text t (c .read .result) t′
+  promise = subst (λ P. Read P text t (c .read .result) t′) (c .before .before .before .before .before .before .before .reads .ensures) (c .read .ensures)
+
+-- a text that is not refused
+module _ (c : tie.Else1) where
+  abbrev got : tie.After-read
+  got = c .before .before .before .before .before .before .before .before .before
+
+  abbrev S : Settings
+  S = got .read .result .settings
+
+  same-settings : S ≡ settingsIn (linesOf (text got))
+  same-settings = settings-are (text got) proveReads (t got) (t′ got) (fit got) (got .read .result) (promise got) (c .if1 .left)
+
+  lengths : lengthsOf (t′ got) ≡ lengthsOf (t got)
+  unfolding lengthsOf
+  lengths =
+      let a = start got .args in
+      let key : length (t′ got .key) ≡ length (a .key .now) = search needs in
+      let message : length (t′ got .message) ≡ length (a .message .now) = search needs in
+      let commitment : length (t′ got .commitment) ≡ 0 = search needs in
+      let rounds : length (t′ got .rounds) ≡ 0 = search needs in
+      let challenges : length (t′ got .challenges) ≡ length (a .challenges .now) = search needs in
+      let last : length (t′ got .last) ≡ 0 = search needs in
+      λ j. record { key = key j; message = message j; commitment = commitment j; rounds = rounds j; challenges = challenges j; last = last j }
+
+reads-requires : tie.Need-reads-requires
+reads-requires c κs = search needs
+
+array-borrow-prefix-no-commitment : tie.Need-array-borrow-prefix-no-commitment
+array-borrow-prefix-no-commitment c = search needs
+
+slice-aggregate-read : tie.Need-slice-aggregate-read
+slice-aggregate-read c = search needs
+
+array-borrow-prefix-no-rounds : tie.Need-array-borrow-prefix-no-rounds
+array-borrow-prefix-no-rounds c = search needs
+
+slice-aggregate-read-2 : tie.Need-slice-aggregate-read-2
+slice-aggregate-read-2 c = search needs
+
+array-borrow-prefix-no-last : tie.Need-array-borrow-prefix-no-last
+array-borrow-prefix-no-last c = search needs
+
+slice-aggregate-read-3 : tie.Need-slice-aggregate-read-3
+slice-aggregate-read-3 c = search needs
+
+read-requires : tie.Need-read-requires
+read-requires c κs = search needs
+
+same-length : tie.Need-same-length
+same-length c = search needs
+
+same-length-2 : tie.Need-same-length-2
+same-length-2 c = search needs
+
+same-length-3 : tie.Need-same-length-3
+same-length-3 c = search needs
+
+returns : tie.Need-returns
+returns c =
+    let r = c .before .before .before .before .before .before .before .before .before in
+    prove-refused (text r) (start r .args .out .now) (r .read .result .number) (c .if1 .taken) (sym (number-is (text r) proveReads (t r) (t′ r) (fit r) (r .read .result) (promise r)))
+
+print-opening-requires : tie.Need-print-opening-requires
+print-opening-requires c κs =
+    let e = c .before .before .before .before .before in
+    let r = got e in
+    openable (S e) (t′ r) (start r .args .rounds .now)
+    (settings-allowed (text r) proveReads (t r) (t′ r) (fit r) (r .read .result) (promise r) (e .if1 .left))
+    (still-fitting (text r) proveReads (t r) (t′ r) (fit r) (r .read .result) (promise r) (e .if1 .left) (lengths e))
+    (entries-passed (text r) proveReads (t r) (t′ r) (fit r) (r .read .result) (promise r) (e .if1 .left))
+    (start r .pre .1 ∙ sym (ap (λ (x : Settings). 3 * x .depth * x .degree) (same-settings e)))
+
+same-length-4 : tie.Need-same-length-4
+same-length-4 c = search needs
+
+same-length-5 : tie.Need-same-length-5
+same-length-5 c = search needs
+
+same-length-6 : tie.Need-same-length-6
+same-length-6 c = search needs
+
+same-length-7 : tie.Need-same-length-7
+same-length-7 c = search needs
+
+same-length-8 : tie.Need-same-length-8
+same-length-8 c = search needs
+
+returns-2 : tie.Need-returns-2
+returns-2 c =
+    let p = c .before .before .before .before .before .before .before in
+    let e = p .before .before .before .before .before .before in
+    let r = got e in
+    prove-done (text r) (start r .args .out .now) (S e) (t′ r) (same-settings e)
+    (tables-are (text r) proveReads (t r) (t′ r) (fit r) (r .read .result) (promise r) (e .if1 .left))
+    (sym (number-is (text r) proveReads (t r) (t′ r) (fit r) (r .read .result) (promise r)) ∙ e .if1 .left)
+    (p .print-opening .result) (p .print-opening .last .1 .1 .1 .1 .1 .0) (p .print-opening .ensures)
+
+pub prove-in-spec : {M : Type 1} → statement M
+prove-in-spec =
+    tie.close
+    (tie.spec
+    reads-requires
+    array-borrow-prefix-no-commitment
+    slice-aggregate-read
+    array-borrow-prefix-no-rounds
+    slice-aggregate-read-2
+    array-borrow-prefix-no-last
+    slice-aggregate-read-3
+    read-requires
+    same-length
+    same-length-2
+    same-length-3
+    returns
+    print-opening-requires
+    same-length-4
+    same-length-5
+    same-length-6
+    same-length-7
+    same-length-8
+    returns-2)

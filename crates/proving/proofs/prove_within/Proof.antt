@@ -1,0 +1,171 @@
+-- `prove_within`: a first look, and then tables of exactly the lengths that the settings ask for.
+use mathlib.Core.Path.{_≡_, sym, ap, _∙_}
+use mathlib.Core.List.{List, []}
+use Prim.Native.Nat.{ℕ, _*_, _≤_}
+use native.Mathlib.Nat as Nat
+use native.Mathlib.Omega.{arith}
+use borrow.Author.Needs.{needs}
+use lib.ListN.{length, take}
+use lib.Seq.{length-take-le}
+use Rattle.protocol.specs.declared.Settings.{Settings}
+use Rattle.protocol.specs.Inputs.{Valid}
+use Rattle.protocol.specs.Settings.{settingsRefusal, cells}
+use Rattle.protocol.specs.Text.{Tables, fits, linesOf, settingsIn}
+use Rattle.protocol.specs.Programs.{proveReads}
+use Rattle.protocol.proofs.Inputs.{settings-valid}
+use Rattle.sizes.proofs.Limits.{degree-most, cells-most}
+use Rattle.reading.specs.Cut.{six}
+use Rattle.reading.proofs.OnText.{look-refusal, look-settings, look-allowed}
+use Rattle.proving.proofs.Proves.{prove-refused, lent-fitting}
+use Rattle.proving.proofs.prove_within.Statement.{statement}
+use Rattle.proving.proofs.prove_within.Tie as tie
+
+-- settings that are not refused
+module _ (c : tie.After-cells) where
+  abbrev left : tie.Else1
+  left = c .before .before .before .before
+
+  abbrev seen : tie.After-look
+  seen = left .before
+
+  abbrev start : tie.Start
+  start = seen .before .before .before .before .before .before
+
+  abbrev S : Settings
+  S = seen .look .result .settings
+
+  abbrev text : List ℕ
+  text = start .args .text .now
+
+  same-settings : S ≡ settingsIn (linesOf text)
+  same-settings = look-settings text (seen .look .result) (seen .look .ensures) (left .if1 .left)
+
+  allowed : settingsRefusal S ≡ 0
+  allowed = look-allowed text (seen .look .result) (seen .look .ensures) (left .if1 .left)
+
+  valid : Valid S
+  valid = settings-valid S allowed
+
+  cells-is : c .cells .result ≡ cells S
+  cells-is = c .cells .ensures allowed
+
+  -- there is room for every table
+  key-room : c .cells .result ≤ length (start .args .key .now)
+  key-room = omega (arith, cells-is, cells-most S valid, start .pre .0)
+
+  message-room : c .cells .result ≤ length (start .args .message .now)
+  message-room = omega (arith, cells-is, cells-most S valid, start .pre .1)
+
+  challenges-room : S .depth ≤ length (start .args .challenges .now)
+  challenges-room = omega (arith, valid .depth-most, start .pre .2)
+
+  rounds-most : 3 * S .depth * S .degree ≤ 1536
+  rounds-most = Nat.mul-le-mul {n₂ = 24} {m₂ = 64} (omega (arith, valid .depth-most)) (degree-most S valid)
+
+  rounds-room : 3 * S .depth * S .degree ≤ length (start .args .rounds .now)
+  rounds-room = omega (arith, rounds-most, start .pre .3)
+
+look-requires : tie.Need-look-requires
+look-requires c κs = search needs
+
+returns : tie.Need-returns
+returns c =
+    let l = c .before in
+    let a = l .before .before .before .before .before .before .args in
+    prove-refused (a .text .now) (a .out .now) (l .look .result .number) (c .if1 .taken) (look-refusal (a .text .now) (l .look .result) (l .look .ensures) proveReads (c .if1 .taken))
+
+cast-degree : tie.Need-cast-degree
+cast-degree c = search needs
+
+cast-depth : tie.Need-cast-depth
+cast-depth c = search needs
+
+cells-requires : tie.Need-cells-requires
+cells-requires c κs = search needs
+
+mul-elements : tie.Need-mul-elements
+mul-elements c = search needs
+
+mul-elements-2 : tie.Need-mul-elements-2
+mul-elements-2 c = record { fits = omega (arith, rounds-most c) }
+
+slice-relend-prefix-prove-in : tie.Need-slice-relend-prefix-prove-in
+slice-relend-prefix-prove-in c = key-room c
+
+slice-aggregate-prove-in : tie.Need-slice-aggregate-prove-in
+slice-aggregate-prove-in c = sym (length-take-le _ _ (key-room (c .before)))
+
+slice-relend-prefix-prove-in-2 : tie.Need-slice-relend-prefix-prove-in-2
+slice-relend-prefix-prove-in-2 c = message-room (c .before)
+
+slice-aggregate-prove-in-2 : tie.Need-slice-aggregate-prove-in-2
+slice-aggregate-prove-in-2 c = sym (length-take-le _ _ (message-room (c .before .before)))
+
+slice-relend-prefix-prove-in-3 : tie.Need-slice-relend-prefix-prove-in-3
+slice-relend-prefix-prove-in-3 c = challenges-room (c .before .before)
+
+slice-aggregate-prove-in-3 : tie.Need-slice-aggregate-prove-in-3
+slice-aggregate-prove-in-3 c = sym (length-take-le _ _ (challenges-room (c .before .before .before)))
+
+slice-relend-prefix-prove-in-4 : tie.Need-slice-relend-prefix-prove-in-4
+slice-relend-prefix-prove-in-4 c = rounds-room (c .before .before .before)
+
+slice-aggregate-prove-in-4 : tie.Need-slice-aggregate-prove-in-4
+slice-aggregate-prove-in-4 c = sym (length-take-le _ _ (rounds-room (c .before .before .before .before)))
+
+prove-in-requires : tie.Need-prove-in-requires
+prove-in-requires c κs =
+    let k = c .before .before .before .before .before in
+    let a = start k .args in
+    let G = take (k .cells .result) (a .key .now) in
+    let M = take (k .cells .result) (a .message .now) in
+    let E = take (S k .depth) (a .challenges .now) in (
+      ap (λ x. fits x proveReads (six G M [] [] E [])) (sym (same-settings k))
+          ∙ lent-fitting (S k) G M E (length-take-le _ _ (key-room k) ∙ cells-is k) (length-take-le _ _ (message-room k) ∙ cells-is k) (length-take-le _ _ (challenges-room k)),
+      length-take-le _ _ (rounds-room k) ∙ ap (λ (x : Settings). 3 * x .depth * x .degree) (same-settings k),
+    )
+
+same-length : tie.Need-same-length
+same-length c = search needs
+
+same-length-2 : tie.Need-same-length-2
+same-length-2 c = search needs
+
+same-length-3 : tie.Need-same-length-3
+same-length-3 c = search needs
+
+same-length-4 : tie.Need-same-length-4
+same-length-4 c = search needs
+
+same-length-5 : tie.Need-same-length-5
+same-length-5 c = search needs
+
+returns-2 : tie.Need-returns-2
+returns-2 c = search needs
+
+pub prove-within-spec : {M : Type 1} → statement M
+prove-within-spec =
+    tie.close
+    (tie.spec
+    look-requires
+    returns
+    cast-degree
+    cast-depth
+    cells-requires
+    mul-elements
+    mul-elements-2
+    slice-relend-prefix-prove-in
+    slice-aggregate-prove-in
+    slice-relend-prefix-prove-in-2
+    slice-aggregate-prove-in-2
+    slice-relend-prefix-prove-in-3
+    slice-aggregate-prove-in-3
+    slice-relend-prefix-prove-in-4
+    slice-aggregate-prove-in-4
+    prove-in-requires
+    same-length
+    same-length-2
+    same-length-3
+    same-length-4
+    same-length-5
+    returns-2)

@@ -1,0 +1,31 @@
+-- An opening of tables of which nothing is refused, and its text.
+--
+--   Openable S G M E rounds   the settings are allowed, key, message and challenges have their lengths and ranges, and there is room for the round elements
+--   proof S G M E             the text of the message's transcript
+--   Printed                   what is answered and stored where the text is all that can be refused
+use mathlib.Core.Path.{_≡_}
+use mathlib.Core.List.{List}
+use Prim.Native.Nat.{ℕ, _*_}
+use lib.ListN.{length}
+use lib.IntN.{ℤ}
+use Rattle.protocol.specs.declared.Settings.{Settings}
+use Rattle.protocol.specs.declared.Written.{Written}
+use Rattle.protocol.specs.Settings.{cells}
+use Rattle.protocol.specs.Inputs.{Valid, Below, Within}
+use Rattle.protocol.specs.Transcript.{transcriptOf}
+use Rattle.protocol.specs.Text.{textOf, outputRefusal, written, overwritten}
+use Rattle.protocol.specs.Programs.{provePrints, printed}
+
+pub record Openable (S : Settings) (G : List ℕ) (M : List ℤ) (E rounds : List ℕ) : Type 0 where
+  pub settings : Valid S
+  pub key : Below (S .modulus) (cells S) G
+  pub message : Within (S .bound) (cells S) M
+  pub challenges : Below (2 * S .degree) (S .depth) E
+  pub rounds-long : length rounds ≡ 3 * S .depth * S .degree
+
+abbrev pub proof : Settings → List ℕ → List ℤ → List ℕ → List ℕ
+proof S G M E = textOf S provePrints (printed (transcriptOf S G M E))
+
+pub record Printed (S : Settings) (G : List ℕ) (M : List ℤ) (E out : List ℕ) (r : Written) (out′ : List ℕ) : Type 0 where
+  pub answer : r ≡ written (outputRefusal (proof S G M E) (length out)) (proof S G M E)
+  pub out-exit : out′ ≡ overwritten (outputRefusal (proof S G M E) (length out)) (proof S G M E) out

@@ -1,0 +1,154 @@
+// The program `prove` as a call on text: its settings, its tables, the whole opening, and the text of the transcript.
+use protocol::Parts;
+use protocol::Settings;
+use protocol::Written;
+ghost use mathlib.Core.Path.{_≡_};
+ghost use mathlib.Core.Bool.{true};
+ghost use mathlib.Core.List.{[]};
+ghost use Prim.Native.Nat.{_*_, _≤_};
+ghost use lib.ListN.{length};
+ghost use Rattle.protocol.specs.Text.{fits, linesOf, settingsIn};
+ghost use Rattle.protocol.specs.Programs.{proveReads, provePrints};
+ghost use Rattle.protocol.specs.Promises.{Proved};
+ghost use Rattle.reading.specs.Cut.{six};
+ghost use Rattle.proving.specs.Printed.{Openable, Printed};
+
+// The parts that the program reads, and those that it prints.
+fn reads() -> Parts
+    ensures { λ r. ⌜ r ≡ proveReads ⌝ }
+{
+    Parts {
+        key: true,
+        message: true,
+        commitment: false,
+        round: false,
+        challenge: true,
+        last: false,
+    }
+}
+
+fn prints() -> Parts
+    ensures { λ r. ⌜ r ≡ provePrints ⌝ }
+{
+    Parts {
+        key: false,
+        message: false,
+        commitment: true,
+        round: true,
+        challenge: true,
+        last: true,
+    }
+}
+
+// The opening of tables of which nothing is refused, and its text.
+fn print_opening(
+    settings: Settings,
+    key: &mut [u32],
+    message: &mut [i32],
+    challenges: &[u32],
+    rounds: &mut [u32],
+    out: &mut [u8],
+) -> Written
+    requires { ⌜ Openable settings (now key) (now message) (now challenges) (now rounds) ⌝ }
+    ensures { λ r. ⌜ Printed settings (now (key .entry)) (now (message .entry)) (now (challenges .entry)) (now (out .entry)) r (now (out .exit)) ⌝ }
+{
+    let opened = opening::open(settings, key, message, challenges, rounds);
+    let commitment = opened.commitment;
+    let last = opened.last;
+    let degree = settings.degree as usize;
+    let no_key = [0u32; 1];
+    let no_message = [0i32; 1];
+    writing::write(
+        settings,
+        prints(),
+        &no_key[..0],
+        &no_message[..0],
+        &commitment[..degree],
+        rounds,
+        challenges,
+        &last[..degree],
+        out,
+    )
+}
+
+// The call with tables of exactly their lengths. The tables of parts that are not read have length 0.
+fn prove_in(
+    text: &[u8],
+    key: &mut [u32],
+    message: &mut [i32],
+    challenges: &mut [u32],
+    rounds: &mut [u32],
+    out: &mut [u8],
+) -> Written
+    requires { ⌜ fits (settingsIn (linesOf (now text))) proveReads (six (now key) (now message) [] [] (now challenges) []) ≡ true ⌝ }
+    requires { ⌜ length (now rounds) ≡ 3 * settingsIn (linesOf (now text)) .depth * settingsIn (linesOf (now text)) .degree ⌝ }
+    ensures { λ r. ⌜ Proved (now (text .entry)) (now (out .entry)) r (now (out .exit)) ⌝ }
+{
+    let mut no_commitment = [0u32; 1];
+    let mut no_rounds = [0u32; 1];
+    let mut no_last = [0i32; 1];
+    let loaded = reading::read(
+        reads(),
+        text,
+        key,
+        message,
+        &mut no_commitment[..0],
+        &mut no_rounds[..0],
+        challenges,
+        &mut no_last[..0],
+    );
+    let number = loaded.number;
+    if number != 0 {
+        return Written { number, length: 0 };
+    }
+    print_opening(loaded.settings, key, message, challenges, rounds, out)
+}
+
+// The call with tables that have room for every text: their first numbers, as many as the settings ask for, are lent.
+fn prove_within(
+    text: &[u8],
+    key: &mut [u32],
+    message: &mut [i32],
+    challenges: &mut [u32],
+    rounds: &mut [u32],
+    out: &mut [u8],
+) -> Written
+    requires { ⌜ (16384 ≤ length (now key)) × (16384 ≤ length (now message)) × (8 ≤ length (now challenges)) × (1536 ≤ length (now rounds)) ⌝ }
+    ensures { λ r. ⌜ Proved (now (text .entry)) (now (out .entry)) r (now (out .exit)) ⌝ }
+{
+    let looked = tables::look(text);
+    let number = looked.number;
+    if number != 0 {
+        return Written { number, length: 0 };
+    }
+    let settings = looked.settings;
+    let degree = settings.degree as usize;
+    let depth = settings.depth as usize;
+    let cells = sizes::cells(settings);
+    let elements = 3 * depth * degree;
+    prove_in(
+        text,
+        &mut key[..cells],
+        &mut message[..cells],
+        &mut challenges[..depth],
+        &mut rounds[..elements],
+        out,
+    )
+}
+
+pub fn prove(text: &[u8], out: &mut [u8]) -> Written
+    ensures { λ r. ⌜ Proved (now (text .entry)) (now (out .entry)) r (now (out .exit)) ⌝ }
+{
+    let mut key = [0u32; 16384];
+    let mut message = [0i32; 16384];
+    let mut challenges = [0u32; 8];
+    let mut rounds = [0u32; 1536];
+    prove_within(
+        text,
+        &mut key,
+        &mut message,
+        &mut challenges,
+        &mut rounds,
+        out,
+    )
+}
