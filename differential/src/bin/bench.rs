@@ -1,14 +1,16 @@
-//! Times the verified library beside the reference.
+//! Times the verified library beside the reference and other libraries.
 //!
-//! Usage: bench [REPETITIONS [native]]
+//! Usage: bench REPETITIONS [native | LIBRARY...]
 //!
 //! Every row is measured in turns in one process: once the verified call,
 //! once the other, and so on; the medians are compared. Both get the same
 //! input, and output slices are filled anew before each turn, outside the
-//! time that is taken. `native` prints the rows without a heading: for a
-//! reference that is built for this machine, as the script `bench` beside
-//! this package does.
+//! time that is taken. Libraries are those that the script `bench/run` of the
+//! repository builds; it runs this program. `native` prints the rows without a
+//! heading: for a reference that is built for this machine.
 
+use differential::baseline::Baseline;
+use differential::timing::{median, timed};
 use differential::verified;
 use reference::draw::base::shape;
 use reference::draw::tables::{opening_at, OpeningInput};
@@ -27,39 +29,6 @@ const Q: u32 = 2_147_483_647;
 struct Table {
     repetitions: usize,
     label: &'static str,
-}
-
-#[repr(C)]
-#[derive(Default)]
-struct Time {
-    seconds: i64,
-    nanoseconds: i64,
-}
-
-extern "C" {
-    fn clock_gettime(clock: i32, time: *mut Time) -> i32;
-}
-
-/// The processor time of this thread so far, which does not go on while
-/// other programs run.
-fn now() -> Duration {
-    const THREAD_TIME: i32 = 3;
-    let mut time = Time::default();
-    let failed = unsafe { clock_gettime(THREAD_TIME, &mut time) };
-    assert_eq!(failed, 0);
-    Duration::new(time.seconds as u64, time.nanoseconds as u32)
-}
-
-/// The time that a call takes.
-fn timed(call: impl FnOnce()) -> Duration {
-    let start = now();
-    call();
-    now() - start
-}
-
-fn median(mut times: Vec<Duration>) -> f64 {
-    times.sort_unstable();
-    times[times.len() / 2].as_secs_f64()
 }
 
 impl Table {
@@ -86,8 +55,8 @@ impl Table {
         let (ours, theirs) = (median(ours), median(theirs));
         println!(
             "{name:<44} {label:<24} {:>11.1} {:>11.1} {:>7.2}",
-            ours * 1e6,
-            theirs * 1e6,
+            ours,
+            theirs,
             ours / theirs
         );
     }
@@ -189,6 +158,60 @@ impl Table {
                 time
             },
         );
+    }
+
+    /// The commitment beside another library's.
+    fn commit_beside(&self, s: Settings, other: &Baseline) {
+        let OpeningInput {
+            key,
+            message,
+            challenges,
+            ..
+        } = opening_at(&mut Random::new(7), s);
+        let mut prepared = other.prepare(s, &key, &message, &challenges);
+        let (mut ours, mut theirs) = ([0; verified::ELEMENT], [0; verified::ELEMENT]);
+        self.turns(
+            &format!("commit, d = {}, L = {}", s.degree, s.depth),
+            &other.name,
+            &mut || {
+                timed(|| {
+                    let (key, message) = (black_box(&key), black_box(&message));
+                    assert_eq!(verified::commit(s, key, message, &mut ours), 0);
+                })
+            },
+            &mut || timed(|| assert_eq!(prepared.commit(black_box(&mut theirs)), 0)),
+        );
+        assert_eq!(ours, theirs);
+    }
+
+    /// The whole opening beside another library's; its tables are prepared
+    /// anew before each turn.
+    fn open_beside(&self, s: Settings, other: &Baseline) {
+        let input = opening_at(&mut Random::new(7), s);
+        let new = || {
+            let (c, f) = ([0; verified::ELEMENT], [0; verified::ELEMENT]);
+            (vec![0; input.rounds.len()], c, f, 0)
+        };
+        let (mut ours, mut theirs) = (new(), new());
+        self.turns(
+            &format!("open, d = {}, L = {}", s.degree, s.depth),
+            &other.name,
+            &mut || {
+                let mut t = input.clone();
+                let (rounds, c, f, verdict) = &mut ours;
+                timed(|| {
+                    let (key, message) = (&mut t.key, &mut t.message);
+                    verified::open(s, key, message, &t.challenges, rounds, c, f, verdict);
+                })
+            },
+            &mut || {
+                let mut tables = other.prepare(s, &input.key, &input.message, &input.challenges);
+                let (rounds, c, f, verdict) = &mut theirs;
+                timed(|| *verdict = tables.open(rounds, c, f))
+            },
+        );
+        assert_eq!(ours.3, ACCEPTED);
+        assert!(ours == theirs, "{} answers otherwise", other.name);
     }
 
     /// A session of all rounds and the end, beside the check of the same
@@ -305,30 +328,8 @@ fn path_rounds(t: &Tree, leaf: usize) -> Vec<u32> {
     list.concat()
 }
 
-fn main() {
-    let words: Vec<String> = std::env::args().skip(1).collect();
-    let repetitions = match words.first().map(|w| w.parse()) {
-        None => 15,
-        Some(Ok(count)) if count > 0 => count,
-        _ => {
-            eprintln!("usage: bench [REPETITIONS [native]]");
-            std::process::exit(1);
-        }
-    };
-    let native = words.get(1).is_some_and(|w| w == "native");
-    let table = Table {
-        repetitions,
-        label: if native {
-            "fast, this machine"
-        } else {
-            "fast, plain x86-64"
-        },
-    };
-    if !native {
-        table.heading();
-    }
-    let large = Settings::new(64, 8, Q, 127);
-    assert_eq!(shape(large).table(), 16_384);
+/// Rows beside the reference.
+fn reference_rows(table: &Table, large: Settings, native: bool) {
     table.commit(large);
     table.commit(Settings::new(4, 8, Q, 127));
     table.check(large);
@@ -349,4 +350,43 @@ fn main() {
             table.paths(s, &tree);
         }
     }
+}
+
+fn usage() -> ! {
+    eprintln!("usage: bench REPETITIONS [native | LIBRARY...]");
+    std::process::exit(1);
+}
+
+fn main() {
+    let words: Vec<String> = std::env::args().skip(1).collect();
+    let Some((Ok(repetitions @ 1..), rest)) = words.split_first().map(|(w, r)| (w.parse(), r))
+    else {
+        usage()
+    };
+    let native = rest.first().is_some_and(|w| w == "native");
+    let label = if native {
+        "fast, this machine"
+    } else {
+        "fast, plain x86-64"
+    };
+    let table = Table { repetitions, label };
+    let large = Settings::new(64, 8, Q, 127);
+    assert_eq!(shape(large).table(), 16_384);
+    if native {
+        return reference_rows(&table, large, native);
+    }
+    table.heading();
+    for path in rest {
+        match Baseline::load(path) {
+            Ok(other) => {
+                table.commit_beside(large, &other);
+                table.open_beside(large, &other);
+            }
+            Err(reason) => {
+                eprintln!("{reason}");
+                std::process::exit(1);
+            }
+        }
+    }
+    reference_rows(&table, large, native);
 }
