@@ -239,6 +239,13 @@ uint32_t wovenrock_write(uint32_t degree, uint32_t depth, uint32_t modulus, uint
                          uint8_t *out, size_t out_length,
                          size_t *length);
 
+/* The program `prove`: the whole opening of the key, message and challenges in a text of these three parts. The text of settings, commitment, rounds, challenges
+ * and final element is written to `out`, and its length to `*length` (0 where the call is refused). Bytes behind it stay. Refusals 1 to 10, then 1 and 7 as
+ * in the table writer; WOVENROCK_TEXT bytes are always enough. */
+uint32_t wovenrock_prove(const uint8_t *text, size_t text_length,
+                         uint8_t *out, size_t out_length,
+                         size_t *length);
+
 /* The program `verify`: is the transcript in a text of settings, key, commitment, rounds, challenges and final element accepted? `*verdict` becomes 2 or 3.
  * Refusals 1 to 8, 10. */
 uint32_t wovenrock_verify(const uint8_t *text, size_t text_length, uint32_t *verdict);

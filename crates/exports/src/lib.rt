@@ -17,7 +17,7 @@ ghost use Rattle.sessions.specs.Promises.{StartStored, MoveStored};
 ghost use Rattle.reading.specs.Cut.{six};
 ghost use Rattle.protocol.specs.Programs.{checked, verifyAnswer};
 ghost use Rattle.texts.specs.Texts.{partsOf};
-ghost use Rattle.texts.specs.Promises.{Looked, ReadStored, WroteStored, Verdicts};
+ghost use Rattle.texts.specs.Promises.{Looked, ReadStored, WroteStored, Verdicts, ProvedStored};
 ghost use Rattle.exports.specs.Promises.{CommitStored, RoundStored, EndStored, OpeningStored, CheckStored, JudgeStored};
 
 // Refusals 3 to 6.
@@ -392,4 +392,12 @@ pub extern "C" fn wovenrock_verify(text: &[u8], verdict: &mut u32) -> u32
     ensures { λ r. ⌜ Verdicts (checked (verifyAnswer (now (text .entry)))) r (now (verdict .exit)) ⌝ }
 {
     texts::verify(text, verdict)
+}
+
+// The program `prove` as a call on text.
+#[no_mangle]
+pub extern "C" fn wovenrock_prove(text: &[u8], out: &mut [u8], length: &mut usize) -> u32
+    ensures { λ r. ⌜ ProvedStored (now (text .entry)) (now (out .entry)) r (now (out .exit)) (now (length .exit)) ⌝ }
+{
+    texts::prove(text, out, length)
 }

@@ -5,6 +5,7 @@
 --   ReadStored    the table reader; t holds the six tables
 --   WroteStored   the table writer
 --   Verdicts      an answer with a verdict: r is its number
+--   ProvedStored  the program `prove` as a call on text
 use mathlib.Core.Path.{_≡_}
 use mathlib.Core.Bool.{Bool}
 use mathlib.Core.List.{List}
@@ -16,6 +17,7 @@ use Rattle.protocol.specs.declared.Parts.{Parts}
 use Rattle.protocol.specs.declared.Checked.{Checked}
 use Rattle.protocol.specs.Basic.{choose}
 use Rattle.protocol.specs.Text.{Tables, lookAnswer, readAnswer, readExit, writeAnswer, writeExit}
+use Rattle.protocol.specs.Programs.{proveAnswer, proveExit}
 use Rattle.slices.specs.Slices.{verdictNumber, short}
 use Rattle.texts.specs.Texts.{settingsStored}
 
@@ -36,3 +38,8 @@ pub record WroteStored (S : Settings) (P : Parts) (t : Tables) (out : List ℕ) 
 pub record Verdicts (answer : Checked) (r verdict′ : ℕ) : Type 0 where
   pub number : r ≡ answer .number
   pub verdict-exit : verdict′ ≡ verdictNumber (answer .verdict)
+
+pub record ProvedStored (text out : List ℕ) (r : ℕ) (out′ : List ℕ) (length′ : ℕ) : Type 0 where
+  pub number : r ≡ proveAnswer text out .number
+  pub out-exit : out′ ≡ proveExit text out
+  pub length-exit : length′ ≡ proveAnswer text out .length

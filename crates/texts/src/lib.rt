@@ -12,7 +12,7 @@ ghost use mathlib.Core.Path.{_≡_};
 ghost use Rattle.reading.specs.Cut.{six};
 ghost use Rattle.protocol.specs.Programs.{checked, verifyAnswer};
 ghost use Rattle.texts.specs.Texts.{partsOf};
-ghost use Rattle.texts.specs.Promises.{Looked, ReadStored, WroteStored, Verdicts};
+ghost use Rattle.texts.specs.Promises.{Looked, ReadStored, WroteStored, Verdicts, ProvedStored};
 
 // The parts that a number names; bits from bit 6 on are not read.
 fn parts_of(bits: u32) -> Parts
@@ -129,4 +129,13 @@ pub fn verify(text: &[u8], verdict: &mut u32) -> u32
 {
     let verified = verifying::verify(text);
     verdict_of(verified, verdict)
+}
+
+// The program `prove` as a call on text. The length of what it writes goes to `length`.
+pub fn prove(text: &[u8], out: &mut [u8], length: &mut usize) -> u32
+    ensures { λ r. ⌜ ProvedStored (now (text .entry)) (now (out .entry)) r (now (out .exit)) (now (length .exit)) ⌝ }
+{
+    let written = proving::prove(text, out);
+    *length = written.length;
+    written.number
 }
