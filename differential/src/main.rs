@@ -10,7 +10,7 @@
 use differential::calls::{
     Check, Commit, End, Extract, Fold, Judge, Large, Largest, Moves, Opening,
 };
-use differential::calls::{Look, Read, Verify, Write};
+use differential::calls::{Look, Prove, Read, Verify, Write};
 use differential::calls::{ProverRound, SessionEnd, SessionRound, Sessions, SettingsCase, Start};
 use differential::case::{self, Case, Difference};
 use differential::report::Report;
@@ -68,6 +68,7 @@ impl Run {
         self.call::<Look>(10_000, 100)?;
         self.call::<Read>(10_000, 200)?;
         self.call::<Write>(10_000, 200)?;
+        self.call::<Prove>(10_000, 100)?;
         self.call::<Verify>(10_000, 200)
     }
 }

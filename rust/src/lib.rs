@@ -78,7 +78,34 @@
 //! A text has a line of names and then a line for each number: its part, item
 //! and place, and its value. Parts are 0 settings, 1 key, 2 message,
 //! 3 commitment, 4 rounds, 5 challenges, 6 final element. There is one text
-//! for the same tables, and a text is read only where it is that one:
+//! for the same tables, and a text is read only where it is that one. An
+//! opening from text to text:
+//!
+//! ```
+//! use wovenrock::{prove, LONGEST_TEXT};
+//!
+//! let text = b"part item place value
+//! 0 0 0 2
+//! 0 0 1 1
+//! 0 0 2 17
+//! 0 0 3 1
+//! 1 0 0 3
+//! 1 0 1 5
+//! 1 1 0 7
+//! 1 1 1 2
+//! 2 0 0 1
+//! 2 0 1 -1
+//! 2 1 0 1
+//! 2 1 1 0
+//! 5 0 0 1
+//! ";
+//! let mut out = [0; LONGEST_TEXT];
+//! let length = prove(text, &mut out)?;
+//! assert!(out[..length].ends_with(b"5 0 0 1\n6 0 0 1\n6 0 1 0\n"));
+//! # Ok::<(), wovenrock::Refusal>(())
+//! ```
+//!
+//! Its verification, and tables that are read and written:
 //!
 //! ```
 //! use wovenrock::{look, read, verify, write, Refusal, Tables, TablesMut, Verdict};
@@ -147,7 +174,7 @@ pub use refusal::Refusal;
 pub use relaxed::{extract, judge};
 pub use session::Session;
 pub use settings::Settings;
-pub use text::{look, read, verify, write, Tables, TablesMut, LONGEST_TEXT};
+pub use text::{look, prove, read, verify, write, Tables, TablesMut, LONGEST_TEXT};
 pub use verifier::{check, Verdict};
 
 /// Places of an element that is not in a table.

@@ -210,5 +210,13 @@ extern "C" {
         length: *mut usize,
     ) -> u32;
 
+    pub fn wovenrock_prove(
+        text: *const u8,
+        text_length: usize,
+        out: *mut u8,
+        out_length: usize,
+        length: *mut usize,
+    ) -> u32;
+
     pub fn wovenrock_verify(text: *const u8, text_length: usize, verdict: *mut u32) -> u32;
 }

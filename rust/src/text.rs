@@ -151,6 +151,24 @@ pub fn write(settings: Settings, tables: Tables<'_>, out: &mut [u8]) -> Result<u
     Refusal::answer(number).map(|()| length)
 }
 
+/// Opens the key and message in a text by its challenges, which are its
+/// three parts. The text of settings, commitment, rounds, challenges and
+/// final element goes to the front of `out`, for which [`LONGEST_TEXT`] bytes
+/// are always enough; the answer is its length. Refusals 1 to 10.
+pub fn prove(text: &[u8], out: &mut [u8]) -> Result<usize, Refusal> {
+    let mut length = 0;
+    let number = unsafe {
+        library::wovenrock_prove(
+            text.as_ptr(),
+            text.len(),
+            out.as_mut_ptr(),
+            out.len(),
+            &mut length,
+        )
+    };
+    Refusal::answer(number).map(|()| length)
+}
+
 /// Is the transcript in a text accepted? The text has settings, key,
 /// commitment, rounds, challenges and final element. Refusals 1 to 8, 10.
 pub fn verify(text: &[u8]) -> Result<Verdict, Refusal> {

@@ -14,12 +14,13 @@ use differential::timing::{median, timed};
 use differential::verified;
 use reference::draw::base::shape;
 use reference::draw::tables::{opening_at, OpeningInput};
+use reference::draw::text::{self, Tables};
 use reference::draw::transcript;
 use reference::draw::tree::{honest_at, Tree};
 use reference::fast;
 use reference::random::Random;
 use reference::refuse::GROWTH;
-use reference::types::{Settings, ACCEPTED, HOLDS};
+use reference::types::{Parts, Settings, Verification, ACCEPTED, HOLDS, LONGEST_TEXT};
 use std::hint::black_box;
 use std::time::Duration;
 
@@ -291,6 +292,121 @@ impl Table {
             },
         );
     }
+
+    /// The table reader and the table writer on one text.
+    fn text(&self, s: Settings, parts: Parts, tables: &Tables) {
+        let text = text::lines(s, tables).concat();
+        let bits = verified::bits(parts);
+        let (mut ours, mut theirs) = (tables.clone(), tables.clone());
+        self.row(
+            &format!("read, {} bytes", text.len()),
+            &mut || {
+                let mut settings = [0; verified::SETTINGS];
+                let number = verified::read(bits, black_box(&text), &mut settings, &mut ours);
+                assert_eq!(number, 0);
+            },
+            &mut || {
+                let t = &mut theirs;
+                let answer = fast::read(
+                    parts,
+                    black_box(&text),
+                    &mut t.key,
+                    &mut t.message,
+                    &mut t.commitment,
+                    &mut t.rounds,
+                    &mut t.challenges,
+                    &mut t.final_element,
+                );
+                assert_eq!(answer.number, 0);
+            },
+        );
+        let (mut ours, mut theirs) = (vec![0; text.len()], vec![0; text.len()]);
+        self.row(
+            &format!("write, {} bytes", text.len()),
+            &mut || {
+                let mut length = 0;
+                verified::write(s, bits, black_box(tables), &mut ours, &mut length);
+                assert_eq!(length, text.len());
+            },
+            &mut || {
+                let t = black_box(tables);
+                let answer = fast::write(
+                    s,
+                    parts,
+                    &t.key,
+                    &t.message,
+                    &t.commitment,
+                    &t.rounds,
+                    &t.challenges,
+                    &t.final_element,
+                    &mut theirs,
+                );
+                assert_eq!(answer.length, text.len());
+            },
+        );
+        assert_eq!((&ours, &theirs), (&text, &text));
+    }
+
+    /// `prove` and `verify` as calls on text.
+    fn programs(&self, s: Settings) {
+        let input = opening_at(&mut Random::new(7), s);
+        let given = Tables {
+            key: input.key,
+            message: input.message,
+            challenges: input.challenges,
+            ..Tables::default()
+        };
+        let text = text::lines(s, &given).concat();
+        let (mut ours, mut theirs) = (vec![0; LONGEST_TEXT], vec![0; LONGEST_TEXT]);
+        self.row(
+            &format!("prove, text, d = {}, L = {}", s.degree, s.depth),
+            &mut || {
+                let mut length = 0;
+                let number = verified::prove(black_box(&text), &mut ours, &mut length);
+                assert_eq!(number, 0);
+            },
+            &mut || assert_eq!(fast::prove(black_box(&text), &mut theirs).number, 0),
+        );
+        assert_eq!(ours, theirs);
+        let t = transcript::honest_at(&mut Random::new(7), s);
+        let d = t.shape.d;
+        let tables = Tables {
+            key: t.key,
+            message: vec![],
+            commitment: t.commitment[..d].to_vec(),
+            rounds: t.rounds,
+            challenges: t.challenges,
+            final_element: t.final_element[..d].to_vec(),
+        };
+        let text = text::lines(s, &tables).concat();
+        self.row(
+            &format!("verify, text, d = {}, L = {}", s.degree, s.depth),
+            &mut || {
+                let mut verdict = 0;
+                verified::verify(black_box(&text), &mut verdict);
+                assert_eq!(verdict, ACCEPTED);
+            },
+            &mut || {
+                let answer = fast::verify(black_box(&text));
+                assert_eq!(answer, Verification::Accepted);
+            },
+        );
+    }
+}
+
+/// Texts of a key alone: the longest one, and ones of growing length.
+fn text_rows(table: &Table) {
+    let (settings, parts, tables) = text::tables_of_length(LONGEST_TEXT);
+    table.text(settings, parts, &tables);
+    for depth in 3..=6 {
+        let settings = Settings::new(64, depth, 1009, 1);
+        let tables = Tables {
+            key: opening_at(&mut Random::new(7), settings).key,
+            ..Tables::default()
+        };
+        table.text(settings, parts, &tables);
+    }
+    table.programs(Settings::new(64, 4, 99_991, 127));
 }
 
 /// The three elements of a round polynomial, 64 places each.
@@ -339,6 +455,7 @@ fn reference_rows(table: &Table, large: Settings, native: bool) {
     table.open(large);
     table.open(Settings::new(4, 8, Q, 127));
     table.session(large);
+    text_rows(table);
     for (s, number) in [
         (Settings::new(64, 3, Q, 127), 0),
         (Settings::new(4, 8, Q, 2), 0),

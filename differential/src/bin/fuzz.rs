@@ -5,13 +5,13 @@
 //!
 //! Without arguments: 1,000,000 texts, seed 1. Each text is a valid one with a
 //! few changes, or, rarely, without any. It goes through the first look, the
-//! table reader and `verify`; tables that are read go through the writer,
+//! table reader, `prove` and `verify`; tables that are read go through the writer,
 //! which must give the text back. Tables with a few changed numbers go through the
 //! writer as well. It leaves with 1 at the first difference, which it prints.
 
 use differential::calls::stretch;
 use differential::verified;
-use reference::draw::text::{self, Tables};
+use reference::draw::text::{self, Tables, TextInput};
 use reference::draw::Limits;
 use reference::random::Random;
 use reference::types::*;
@@ -33,6 +33,7 @@ struct Counts {
     read: [usize; 11],
     verify: [usize; 11],
     write: [usize; 11],
+    prove: [usize; 11],
     accepted: usize,
     rejected: usize,
     bytes: usize,
@@ -50,10 +51,10 @@ fn seeds(random: &mut Random) -> Vec<Seed> {
     let mut seeds = Vec::new();
     for (count, limits) in sizes {
         for i in 0..count {
-            seeds.push(if i % 2 == 0 {
-                verifiable(random, &limits)
-            } else {
-                readable(random, &limits)
+            seeds.push(match i % 3 {
+                0 => of_program(text::verifiable(random, &limits).0),
+                1 => of_program(text::provable(random, &limits)),
+                _ => readable(random, &limits),
             });
         }
     }
@@ -79,12 +80,20 @@ fn readable(random: &mut Random, limits: &Limits) -> Seed {
     }
 }
 
-fn verifiable(random: &mut Random, limits: &Limits) -> Seed {
-    let input = text::verifiable(random, limits).0;
+/// A text that a program reads.
+fn of_program(input: TextInput) -> Seed {
     let text = input.text();
     let shape = input.shape;
-    let mut tables =
-        Tables::to_be_written([shape.table(), 0, shape.d, shape.rounds(), shape.l, shape.d]);
+    let sizes = [
+        shape.table(),
+        shape.table(),
+        shape.d,
+        shape.rounds(),
+        shape.l,
+        shape.d,
+    ];
+    let there = |i: usize| if input.parts[i] { sizes[i] } else { 0 };
+    let mut tables = Tables::to_be_written(std::array::from_fn(there));
     let answer = plain_read(input.parts, &text, &mut tables);
     Seed {
         text,
@@ -363,6 +372,28 @@ impl Fuzz {
         Ok(())
     }
 
+    fn prove(&mut self, text: &[u8], room: usize, simple: bool) -> Result<(), String> {
+        self.wanted[..room].fill(0xa5);
+        let answer = fast::prove(text, &mut self.wanted[..room]);
+        if simple {
+            self.out[..room].fill(0xa5);
+            let other = plain::prove(text, &mut self.out[..room]);
+            if other != answer || self.out[..room] != self.wanted[..room] {
+                return Err("the two references differ in prove".to_string());
+            }
+        }
+        self.out[..room].fill(0xa5);
+        let mut length = usize::MAX;
+        let number = verified::prove(text, &mut self.out[..room], &mut length);
+        if (number, length) != (answer.number, answer.length)
+            || self.out[..room] != self.wanted[..room]
+        {
+            return Err(format!("prove: {answer:?} and {number}, {length}"));
+        }
+        self.counts.prove[number as usize] += 1;
+        Ok(())
+    }
+
     fn verify(&mut self, text: &[u8], simple: bool) -> Result<(), String> {
         let answer = fast::verify(text);
         if simple && plain::verify(text) != answer {
@@ -432,11 +463,13 @@ impl Fuzz {
             mutate_tables(random, &mut tables);
         }
         let room = seed.text.len() + 2 - random.below(4);
+        let printed = random.pick(&[40, 400, 4000, 20_000]);
         let simple = random.one_in(8);
         self.counts.bytes += text.len();
         let (parts, run) = (seed.parts, text);
         self.look(&run)
             .and_then(|()| self.read(parts, lengths, &run, simple))
+            .and_then(|()| self.prove(&run, printed, simple))
             .and_then(|()| self.verify(&run, simple))
             .map_err(|e| {
                 format!(
@@ -495,6 +528,7 @@ fn main() -> ExitCode {
     );
     println!("read     {}", numbers(&counts.read));
     println!("write    {}", numbers(&counts.write));
+    println!("prove    {}", numbers(&counts.prove));
     println!(
         "verify   {} (accepted {}, rejected {})",
         numbers(&counts.verify),

@@ -140,6 +140,10 @@ fn calls() -> Vec<(&'static str, Call<'static>)> {
         ("read, 65,536 bytes", read()),
         ("write, 65,536 bytes", write()),
         (
+            "prove, d = 64, L = 4",
+            prove(Settings::new(64, 4, 99_991, 127)),
+        ),
+        (
             "verify, d = 64, L = 4",
             verify(Settings::new(64, 4, 99_991, 127)),
         ),
@@ -201,6 +205,23 @@ fn write() -> Call<'static> {
         let parts = verified::bits(parts);
         let number = verified::write(settings, parts, &tables, &mut out, &mut length);
         assert_eq!((number, length), (0, LONGEST_TEXT));
+    })
+}
+
+fn prove(s: Settings) -> Call<'static> {
+    let t = opening_at(&mut Random::new(7), s);
+    let tables = Tables {
+        key: t.key,
+        message: t.message,
+        challenges: t.challenges,
+        ..Tables::default()
+    };
+    let text = lines(s, &tables).concat();
+    let mut out = vec![0; LONGEST_TEXT];
+    Box::new(move || {
+        let mut length = 0;
+        let number = verified::prove(&text, &mut out, &mut length);
+        assert_eq!(number, 0);
     })
 }
 

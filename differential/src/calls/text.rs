@@ -1,5 +1,5 @@
 //! The calls on text: a first look, the table reader, the table writer and
-//! the program `verify`.
+//! the programs `prove` and `verify`.
 
 use super::lent::{room, stored};
 use super::stretch::stretch;
@@ -34,11 +34,16 @@ fn settings_stored(room: usize, s: Settings) -> Vec<u32> {
 
 /// A text for the reader or for `verify`, valid or damaged.
 fn any_text(random: &mut Random, limits: &Limits) -> TextInput {
-    let mut input = match random.below(40) {
+    let input = match random.below(40) {
         0 => longest(random),
         1..=20 => text::verifiable(random, limits).0,
         _ => text::readable(random, limits).0,
     };
+    damaged(random, input)
+}
+
+/// A text with some damages or none.
+fn damaged(random: &mut Random, mut input: TextInput) -> TextInput {
     if random.one_in(2) {
         text::damage_text(random, &mut input);
     }
@@ -227,7 +232,7 @@ pub struct Write {
 
 fn wrote(answer: WriteAnswer, out: &[u8]) -> Outcome {
     Outcome::new(answer.number)
-        .with("length", &[answer.length as u32])
+        .with("length", &[answer.length as i64])
         .with("out", out)
 }
 
@@ -317,6 +322,65 @@ impl Case for Write {
 
     fn print(&self, page: &mut Page) {
         calls::write(page, &self.input);
+    }
+}
+
+/// The program `prove` as a call on text.
+#[derive(Clone)]
+pub struct Prove {
+    text: Vec<u8>,
+    room: usize,
+}
+
+impl Prove {
+    fn out(&self) -> Vec<u8> {
+        vec![FILL; self.room]
+    }
+}
+
+impl Case for Prove {
+    const NAME: &'static str = "prove";
+    const NUMBERS: &'static [u32] = &[0, 1, 2, 3, 4, 5, 6, 7, 8, 9, 10];
+
+    fn draw(random: &mut Random, limits: &Limits) -> Prove {
+        let input = match random.below(20) {
+            0 => text::readable(random, limits).0,
+            _ => text::provable(random, limits),
+        };
+        let text = damaged(random, input).text();
+        let mut out = vec![FILL; LONGEST_TEXT];
+        let length = fast::prove(&text, &mut out).length;
+        let room = match random.below(12) {
+            0 => length.saturating_sub(1 + random.below(12)),
+            1 => 0,
+            _ => length + random.pick(&[0, 0, 1, 9]),
+        };
+        Prove { text, room }
+    }
+
+    fn plain(&self) -> Outcome {
+        let mut out = self.out();
+        wrote(plain::prove(&self.text, &mut out), &out)
+    }
+
+    fn fast(&self) -> Option<Outcome> {
+        let mut out = self.out();
+        Some(wrote(fast::prove(&self.text, &mut out), &out))
+    }
+
+    fn verified(&self) -> Outcome {
+        let mut out = self.out();
+        let mut length = usize::MAX;
+        let number = verified::prove(&self.text, &mut out, &mut length);
+        wrote(WriteAnswer { number, length }, &out)
+    }
+
+    fn tables(&mut self) -> Vec<Table<'_>> {
+        vec![]
+    }
+
+    fn print(&self, page: &mut Page) {
+        calls::prove(page, &self.text, self.room);
     }
 }
 

@@ -17,7 +17,7 @@ pub use opening::open;
 pub use prover::{commit, end, fold, round};
 pub use relaxed::{extract, judge};
 pub use session::{session_end, session_round, session_start};
-pub use text::{bits, look, read, verify, write};
+pub use text::{bits, look, prove, read, verify, write};
 
 use reference::types::Settings;
 

@@ -54,6 +54,14 @@ extern "C" {
         length: *mut usize,
     ) -> u32;
 
+    fn wovenrock_prove(
+        text: *const u8,
+        text_length: usize,
+        out: *mut u8,
+        out_length: usize,
+        length: *mut usize,
+    ) -> u32;
+
     fn wovenrock_verify(text: *const u8, text_length: usize, verdict: *mut u32) -> u32;
 }
 
@@ -122,6 +130,19 @@ pub fn write(s: Settings, parts: u32, tables: &Tables, out: &mut [u8], length: &
             tables.challenges.len(),
             tables.final_element.as_ptr(),
             tables.final_element.len(),
+            out.as_mut_ptr(),
+            out.len(),
+            length,
+        )
+    }
+}
+
+/// The program `prove` as a call on text.
+pub fn prove(text: &[u8], out: &mut [u8], length: &mut usize) -> u32 {
+    unsafe {
+        wovenrock_prove(
+            text.as_ptr(),
+            text.len(),
             out.as_mut_ptr(),
             out.len(),
             length,
