@@ -23,22 +23,24 @@
  *
  * Every function returns the number of the first refusal that applies, in the order of this table, and 0 where nothing is refused:
  *
+ *     1  long        a text, read or to be written, is over 65536 bytes
+ *     2  text        a line is not of the stated shape, or the first four value lines are not the settings
  *     3  degree      d is not listed
  *     4  depth       L is over 8
  *     5  modulus     q is even or out of range
  *     6  bound       B is out of range
- *     7  size        a table has not exactly its length
+ *     7  size        a table has not exactly its length, value lines are not the required ones in order, or a slice is shorter than the text
  *     8  residue     a coefficient of a key, commitment, round polynomial or claim is not 0 to q - 1
- *     9  tall        a message coefficient is beyond its bound
+ *     9  tall        a message coefficient is beyond its bound; in the writer, a final coefficient is -2147483648
  *    10  challenge   an exponent is not 0 to 2d - 1
  *    11  turn        a round with L or more rounds done, an end with other than L done, a closed record
  *    12  twin        two equal exponents at one node
  *    13  branch      a path of the tree that the verifier rejects
  *    14  growth      (12*d*d)^L * B is over 2^62
  *    15  slack       the slack is not 1 to 65536
- *   100              a slice that an element, a round polynomial or a record is to be written to is too short; this is tested before all others
+ *   100              a slice that an element, a round polynomial, a record or settings are to be written to is too short; this is tested before all others
  *
- * (1, long, and 2, text, are refusals of texts.) A refused call writes nothing to the tables that it is lent; an element that it would have
+ * A refused call writes nothing to the tables that it is lent; an element that it would have
  * written is 0 at all 64 places, and a verdict is 0. With 100 nothing at all is written.
  *
  * A session record has 78 places in a slice of its own; numbers behind them stay:
@@ -48,6 +50,23 @@
  *         5    closed: 0 says open, any other number closed; a function writes 0 or 1
  *    6 to 13   the eight challenges, the unused ones 0
  *   14 to 77   the claim, 64 places
+ *
+ * A text is a slice of bytes: the line "part item place value", and then a line of four numbers for each value, with single spaces between and a line
+ * feed after every line. A number has no leading zero, no plus and no "-0", and its magnitude is at most 2147483647; only a value may be negative.
+ * Lines rise by part, item and place, and none is missing:
+ *
+ *   part 0   settings     item 0, places 0 to 3: degree, depth, modulus, bound
+ *   part 1   key          item: element, place: coefficient
+ *   part 2   message      likewise
+ *   part 3   commitment   item 0
+ *   part 4   rounds       item 3*(i-1)+j: c_j of round i
+ *   part 5   challenges   item i-1: that of round i; place 0
+ *   part 6   last         item 0: the final element
+ *
+ * Part 0 is always there. Which others are there is a number of six bits: WOVENROCK_KEY for part 1 to WOVENROCK_LAST for part 6, added up; other bits are
+ * not read. A table that belongs to an absent part has length 0; each other one has exactly its length: key and message n*d, commitment and last d,
+ * rounds 3*L*d, challenges L. Settings go to a slice with room for 4 numbers, in the order of part 0; numbers behind them stay, and a refused call writes
+ * zeros there.
  */
 #ifndef WOVENROCK_H
 #define WOVENROCK_H
@@ -68,7 +87,21 @@ extern "C" {
 /* Places of a session record. */
 #define WOVENROCK_SESSION 78
 
-/* What is returned where a slice for an element or a record is too short. */
+/* Places of settings. */
+#define WOVENROCK_SETTINGS 4
+
+/* Bytes of the longest text. */
+#define WOVENROCK_TEXT 65536
+
+/* Parts of a text. */
+#define WOVENROCK_KEY 1
+#define WOVENROCK_MESSAGE 2
+#define WOVENROCK_COMMITMENT 4
+#define WOVENROCK_ROUNDS 8
+#define WOVENROCK_CHALLENGES 16
+#define WOVENROCK_LAST 32
+
+/* What is returned where a slice for an element, a record or settings is too short. */
 #define WOVENROCK_SHORT 100
 
 /* What a verifier says. */
@@ -175,6 +208,47 @@ uint32_t wovenrock_extract(uint32_t degree, uint32_t depth, uint32_t modulus, ui
                            const uint32_t *challenges, size_t challenges_length,
                            const int32_t *leaves, size_t leaves_length,
                            int64_t *w, size_t w_length);
+
+/* A first look at a text: its settings are written to `settings` (4 places), from which a caller knows the lengths of the tables. Every line of the text is
+ * tested. Refusals 1 to 6. */
+uint32_t wovenrock_look(const uint8_t *text, size_t text_length,
+                        uint32_t *settings, size_t settings_length);
+
+/* The table reader: the settings of a text are written to `settings` (4 places), and the values of the parts that are there to their tables. No table is
+ * written before the whole text has passed all tests. Refusals 1 to 10. */
+uint32_t wovenrock_read(uint32_t parts,
+                        const uint8_t *text, size_t text_length,
+                        uint32_t *settings, size_t settings_length,
+                        uint32_t *key, size_t key_length,
+                        int32_t *message, size_t message_length,
+                        uint32_t *commitment, size_t commitment_length,
+                        uint32_t *rounds, size_t rounds_length,
+                        uint32_t *challenges, size_t challenges_length,
+                        int32_t *last, size_t last_length);
+
+/* The table writer: the text of the parts that are there is written to `out`, and its length to `*length` (0 where the call is refused). Bytes behind the text
+ * stay. Refusals 3 to 10, then 1 (the text is over 65536 bytes), then 7 (`out` is shorter than the text). */
+uint32_t wovenrock_write(uint32_t degree, uint32_t depth, uint32_t modulus, uint32_t bound,
+                         uint32_t parts,
+                         const uint32_t *key, size_t key_length,
+                         const int32_t *message, size_t message_length,
+                         const uint32_t *commitment, size_t commitment_length,
+                         const uint32_t *rounds, size_t rounds_length,
+                         const uint32_t *challenges, size_t challenges_length,
+                         const int32_t *last, size_t last_length,
+                         uint8_t *out, size_t out_length,
+                         size_t *length);
+
+/* The program `prove`: the whole opening of the key, message and challenges in a text of these three parts. The text of settings, commitment, rounds, challenges
+ * and final element is written to `out`, and its length to `*length` (0 where the call is refused). Bytes behind it stay. Refusals 1 to 10, then 1 and 7 as
+ * in the table writer; WOVENROCK_TEXT bytes are always enough. */
+uint32_t wovenrock_prove(const uint8_t *text, size_t text_length,
+                         uint8_t *out, size_t out_length,
+                         size_t *length);
+
+/* The program `verify`: is the transcript in a text of settings, key, commitment, rounds, challenges and final element accepted? `*verdict` becomes 2 or 3.
+ * Refusals 1 to 8, 10. */
+uint32_t wovenrock_verify(const uint8_t *text, size_t text_length, uint32_t *verdict);
 
 #ifdef __cplusplus
 }

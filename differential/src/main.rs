@@ -10,6 +10,7 @@
 use differential::calls::{
     Check, Commit, End, Extract, Fold, Judge, Large, Largest, Moves, Opening,
 };
+use differential::calls::{Look, Prove, Read, Verify, Write};
 use differential::calls::{ProverRound, SessionEnd, SessionRound, Sessions, SettingsCase, Start};
 use differential::case::{self, Case, Difference};
 use differential::report::Report;
@@ -63,7 +64,12 @@ impl Run {
         self.call::<Moves>(6_000, 20)?;
         self.call::<Extract>(4_000, 120)?;
         self.call::<Large>(0, 18)?;
-        self.call::<Largest>(0, 6)
+        self.call::<Largest>(0, 6)?;
+        self.call::<Look>(10_000, 100)?;
+        self.call::<Read>(10_000, 200)?;
+        self.call::<Write>(10_000, 200)?;
+        self.call::<Prove>(10_000, 100)?;
+        self.call::<Verify>(10_000, 200)
     }
 }
 

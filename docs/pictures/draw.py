@@ -125,6 +125,7 @@ def tree():
     p.save('tree.svg')
 
 
-layers()
-rounds()
-tree()
+if __name__ == '__main__':
+    layers()
+    rounds()
+    tree()

@@ -72,6 +72,92 @@
 //! assert!(judge(settings, &commitment, settings.slack(), &key, &w)?);
 //! # Ok::<(), wovenrock::Refusal>(())
 //! ```
+//!
+//! # Tables as text
+//!
+//! A text has a line of names and then a line for each number: its part, item
+//! and place, and its value. Parts are 0 settings, 1 key, 2 message,
+//! 3 commitment, 4 rounds, 5 challenges, 6 final element. There is one text
+//! for the same tables, and a text is read only where it is that one. An
+//! opening from text to text:
+//!
+//! ```
+//! use wovenrock::{prove, LONGEST_TEXT};
+//!
+//! let text = b"part item place value
+//! 0 0 0 2
+//! 0 0 1 1
+//! 0 0 2 17
+//! 0 0 3 1
+//! 1 0 0 3
+//! 1 0 1 5
+//! 1 1 0 7
+//! 1 1 1 2
+//! 2 0 0 1
+//! 2 0 1 -1
+//! 2 1 0 1
+//! 2 1 1 0
+//! 5 0 0 1
+//! ";
+//! let mut out = [0; LONGEST_TEXT];
+//! let length = prove(text, &mut out)?;
+//! assert!(out[..length].ends_with(b"5 0 0 1\n6 0 0 1\n6 0 1 0\n"));
+//! # Ok::<(), wovenrock::Refusal>(())
+//! ```
+//!
+//! Its verification, and tables that are read and written:
+//!
+//! ```
+//! use wovenrock::{look, read, verify, write, Refusal, Tables, TablesMut, Verdict};
+//!
+//! let text = b"part item place value
+//! 0 0 0 2
+//! 0 0 1 1
+//! 0 0 2 17
+//! 0 0 3 1
+//! 1 0 0 3
+//! 1 0 1 5
+//! 1 1 0 7
+//! 1 1 1 2
+//! 3 0 0 15
+//! 3 0 1 4
+//! 4 0 0 4
+//! 4 0 1 1
+//! 4 1 0 6
+//! 4 1 1 0
+//! 4 2 0 12
+//! 4 2 1 1
+//! 5 0 0 1
+//! 6 0 0 1
+//! 6 0 1 0
+//! ";
+//! assert_eq!(verify(text)?, Verdict::Accepted);
+//!
+//! let settings = look(text)?;
+//! let (mut key, mut commitment, mut rounds) = (vec![0; settings.cells()], [0; 2], [0; 6]);
+//! let (mut challenges, mut last) = ([0; 1], [0; 2]);
+//! let tables = TablesMut {
+//!     key: Some(&mut key),
+//!     commitment: Some(&mut commitment),
+//!     rounds: Some(&mut rounds),
+//!     challenges: Some(&mut challenges),
+//!     last: Some(&mut last),
+//!     ..TablesMut::default()
+//! };
+//! read(text, tables)?;
+//! assert_eq!((key[..].as_ref(), commitment), ([3, 5, 7, 2].as_ref(), [15, 4]));
+//!
+//! let mut out = [0; 1000];
+//! let tables = Tables {
+//!     commitment: Some(&commitment),
+//!     last: Some(&last),
+//!     ..Tables::default()
+//! };
+//! let length = write(settings, tables, &mut out)?;
+//! assert!(out[..length].ends_with(b"3 0 0 15\n3 0 1 4\n6 0 0 1\n6 0 1 0\n"));
+//! assert_eq!(verify(&out[..length]), Err(Refusal::Size));
+//! # Ok::<(), wovenrock::Refusal>(())
+//! ```
 #![no_std]
 
 mod library;
@@ -80,6 +166,7 @@ mod refusal;
 mod relaxed;
 mod session;
 mod settings;
+mod text;
 mod verifier;
 
 pub use prover::{commit, end, fold, open, round, Opened};
@@ -87,6 +174,7 @@ pub use refusal::Refusal;
 pub use relaxed::{extract, judge};
 pub use session::Session;
 pub use settings::Settings;
+pub use text::{look, prove, read, verify, write, Tables, TablesMut, LONGEST_TEXT};
 pub use verifier::{check, Verdict};
 
 /// Places of an element that is not in a table.

@@ -159,4 +159,64 @@ extern "C" {
         w: *mut i64,
         w_length: usize,
     ) -> u32;
+
+    pub fn wovenrock_look(
+        text: *const u8,
+        text_length: usize,
+        settings: *mut u32,
+        settings_length: usize,
+    ) -> u32;
+
+    pub fn wovenrock_read(
+        parts: u32,
+        text: *const u8,
+        text_length: usize,
+        settings: *mut u32,
+        settings_length: usize,
+        key: *mut u32,
+        key_length: usize,
+        message: *mut i32,
+        message_length: usize,
+        commitment: *mut u32,
+        commitment_length: usize,
+        rounds: *mut u32,
+        rounds_length: usize,
+        challenges: *mut u32,
+        challenges_length: usize,
+        last: *mut i32,
+        last_length: usize,
+    ) -> u32;
+
+    pub fn wovenrock_write(
+        degree: u32,
+        depth: u32,
+        modulus: u32,
+        bound: u32,
+        parts: u32,
+        key: *const u32,
+        key_length: usize,
+        message: *const i32,
+        message_length: usize,
+        commitment: *const u32,
+        commitment_length: usize,
+        rounds: *const u32,
+        rounds_length: usize,
+        challenges: *const u32,
+        challenges_length: usize,
+        last: *const i32,
+        last_length: usize,
+        out: *mut u8,
+        out_length: usize,
+        length: *mut usize,
+    ) -> u32;
+
+    pub fn wovenrock_prove(
+        text: *const u8,
+        text_length: usize,
+        out: *mut u8,
+        out_length: usize,
+        length: *mut usize,
+    ) -> u32;
+
+    pub fn wovenrock_verify(text: *const u8, text_length: usize, verdict: *mut u32) -> u32;
 }

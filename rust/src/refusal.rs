@@ -7,9 +7,10 @@ use core::fmt;
 #[derive(Clone, Copy, Debug, PartialEq, Eq, PartialOrd, Ord, Hash)]
 #[repr(u32)]
 pub enum Refusal {
-    /// A text over 65,536 bytes.
+    /// A text, read or to be written, over 65,536 bytes.
     Long = 1,
-    /// A line not of the stated shape.
+    /// A line not of the stated shape, or a text that does not begin with its
+    /// settings.
     Text = 2,
     /// The degree is not listed.
     Degree = 3,
@@ -19,12 +20,14 @@ pub enum Refusal {
     Modulus = 5,
     /// The bound is out of range.
     Bound = 6,
-    /// A table has not exactly its length.
+    /// A table has not exactly its length, the lines of a text are not the
+    /// required ones in order, or a slice is shorter than the text.
     Size = 7,
     /// A coefficient of a key, commitment, round polynomial or claim is not
     /// 0 to q − 1.
     Residue = 8,
-    /// A message coefficient is beyond its bound.
+    /// A message coefficient is beyond its bound; in the writer, a final
+    /// coefficient is −2,147,483,648.
     Tall = 9,
     /// An exponent is not 0 to 2d − 1.
     Challenge = 10,
@@ -87,8 +90,9 @@ impl Refusal {
         WORDS[self as usize - 1]
     }
 
-    /// What the library's answer says. (100, a slice for an element that is
-    /// too short, does not come up: those slices are arrays here.)
+    /// What the library's answer says. (100, a slice for an element or
+    /// settings that is too short, does not come up: those slices are arrays
+    /// here.)
     pub(crate) fn answer(number: u32) -> Result<(), Refusal> {
         match number {
             0 => Ok(()),

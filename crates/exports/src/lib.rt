@@ -1,6 +1,6 @@
 // The calls for C and Rust programs: numbers and slices only. A slice is a pointer and a length. include/wovenrock.h says what each function does.
 //
-// Every function first answers 100 where a slice that it is to write an element or a record to is too short, and then touches nothing. Otherwise it
+// Every function first answers 100 where a slice that it is to write an element, a record or settings to is too short, and then touches nothing. Otherwise it
 // answers the number of the refusal, 0 where nothing is refused.
 mod storing;
 
@@ -14,6 +14,10 @@ ghost use lib.IntN.{pos};
 ghost use Rattle.slices.specs.Slices.{given, placed, placedPolynomial};
 ghost use Rattle.sessions.specs.Records.{sessionOf};
 ghost use Rattle.sessions.specs.Promises.{StartStored, MoveStored};
+ghost use Rattle.reading.specs.Cut.{six};
+ghost use Rattle.protocol.specs.Programs.{checked, verifyAnswer};
+ghost use Rattle.texts.specs.Texts.{partsOf};
+ghost use Rattle.texts.specs.Promises.{Looked, ReadStored, WroteStored, Verdicts, ProvedStored};
 ghost use Rattle.exports.specs.Promises.{CommitStored, RoundStored, EndStored, OpeningStored, CheckStored, JudgeStored};
 
 // Refusals 3 to 6.
@@ -305,4 +309,95 @@ pub extern "C" fn wovenrock_extract(
     };
     let c = slices::residues(commitment);
     extraction::extract(s, c, key, rounds, challenges, leaves, w)
+}
+
+// A first look at a text's settings.
+#[no_mangle]
+pub extern "C" fn wovenrock_look(text: &[u8], settings: &mut [u32]) -> u32
+    ensures { λ r. ⌜ Looked (now (text .entry)) (now (settings .entry)) r (now (settings .exit)) ⌝ }
+{
+    texts::look(text, settings)
+}
+
+// The table reader.
+#[no_mangle]
+pub extern "C" fn wovenrock_read(
+    parts: u32,
+    text: &[u8],
+    settings: &mut [u32],
+    key: &mut [u32],
+    message: &mut [i32],
+    commitment: &mut [u32],
+    rounds: &mut [u32],
+    challenges: &mut [u32],
+    last: &mut [i32],
+) -> u32
+    ensures { λ r. ⌜ ReadStored (partsOf parts) (now (text .entry)) (now (settings .entry)) (six (now (key .entry)) (now (message .entry)) (now (commitment .entry)) (now (rounds .entry)) (now (challenges .entry)) (now (last .entry))) r (now (settings .exit)) (six (now (key .exit)) (now (message .exit)) (now (commitment .exit)) (now (rounds .exit)) (now (challenges .exit)) (now (last .exit))) ⌝ }
+{
+    texts::read(
+        parts,
+        text,
+        settings,
+        key,
+        message,
+        commitment,
+        rounds,
+        challenges,
+        last,
+    )
+}
+
+// The table writer.
+#[no_mangle]
+pub extern "C" fn wovenrock_write(
+    degree: u32,
+    depth: u32,
+    modulus: u32,
+    bound: u32,
+    parts: u32,
+    key: &[u32],
+    message: &[i32],
+    commitment: &[u32],
+    rounds: &[u32],
+    challenges: &[u32],
+    last: &[i32],
+    out: &mut [u8],
+    length: &mut usize,
+) -> u32
+    ensures { λ r. ⌜ WroteStored (given degree depth modulus bound) (partsOf parts) (six (now (key .entry)) (now (message .entry)) (now (commitment .entry)) (now (rounds .entry)) (now (challenges .entry)) (now (last .entry))) (now (out .entry)) r (now (out .exit)) (now (length .exit)) ⌝ }
+{
+    let s = Settings {
+        degree: degree,
+        depth: depth,
+        modulus: modulus,
+        bound: bound,
+    };
+    texts::write(
+        s,
+        parts,
+        key,
+        message,
+        commitment,
+        rounds,
+        challenges,
+        last,
+        out,
+        length,
+    )
+}
+
+// The program `verify` as a call on text.
+#[no_mangle]
+pub extern "C" fn wovenrock_verify(text: &[u8], verdict: &mut u32) -> u32
+    ensures { λ r. ⌜ Verdicts (checked (verifyAnswer (now (text .entry)))) r (now (verdict .exit)) ⌝ }
+{
+    texts::verify(text, verdict)
+}
+
+// The program `prove` as a call on text.
+#[no_mangle]
+pub extern "C" fn wovenrock_prove(text: &[u8], out: &mut [u8], length: &mut usize) -> u32
+    ensures { λ r. ⌜ ProvedStored (now (text .entry)) (now (out .entry)) r (now (out .exit)) (now (length .exit)) ⌝ }
+{
+    texts::prove(text, out, length)
 }

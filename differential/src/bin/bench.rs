@@ -1,23 +1,26 @@
-//! Times the verified library beside the reference.
+//! Times the verified library beside the reference and other libraries.
 //!
-//! Usage: bench [REPETITIONS [native]]
+//! Usage: bench REPETITIONS [native | LIBRARY...]
 //!
 //! Every row is measured in turns in one process: once the verified call,
 //! once the other, and so on; the medians are compared. Both get the same
 //! input, and output slices are filled anew before each turn, outside the
-//! time that is taken. `native` prints the rows without a heading: for a
-//! reference that is built for this machine, as the script `bench` beside
-//! this package does.
+//! time that is taken. Libraries are those that the script `bench/run` of the
+//! repository builds; it runs this program. `native` prints the rows without a
+//! heading: for a reference that is built for this machine.
 
+use differential::baseline::Baseline;
+use differential::timing::{median, timed};
 use differential::verified;
 use reference::draw::base::shape;
 use reference::draw::tables::{opening_at, OpeningInput};
+use reference::draw::text::{self, Tables};
 use reference::draw::transcript;
 use reference::draw::tree::{honest_at, Tree};
 use reference::fast;
 use reference::random::Random;
 use reference::refuse::GROWTH;
-use reference::types::{Settings, ACCEPTED, HOLDS};
+use reference::types::{Parts, Settings, Verification, ACCEPTED, HOLDS, LONGEST_TEXT};
 use std::hint::black_box;
 use std::time::Duration;
 
@@ -27,39 +30,6 @@ const Q: u32 = 2_147_483_647;
 struct Table {
     repetitions: usize,
     label: &'static str,
-}
-
-#[repr(C)]
-#[derive(Default)]
-struct Time {
-    seconds: i64,
-    nanoseconds: i64,
-}
-
-extern "C" {
-    fn clock_gettime(clock: i32, time: *mut Time) -> i32;
-}
-
-/// The processor time of this thread so far, which does not go on while
-/// other programs run.
-fn now() -> Duration {
-    const THREAD_TIME: i32 = 3;
-    let mut time = Time::default();
-    let failed = unsafe { clock_gettime(THREAD_TIME, &mut time) };
-    assert_eq!(failed, 0);
-    Duration::new(time.seconds as u64, time.nanoseconds as u32)
-}
-
-/// The time that a call takes.
-fn timed(call: impl FnOnce()) -> Duration {
-    let start = now();
-    call();
-    now() - start
-}
-
-fn median(mut times: Vec<Duration>) -> f64 {
-    times.sort_unstable();
-    times[times.len() / 2].as_secs_f64()
 }
 
 impl Table {
@@ -86,8 +56,8 @@ impl Table {
         let (ours, theirs) = (median(ours), median(theirs));
         println!(
             "{name:<44} {label:<24} {:>11.1} {:>11.1} {:>7.2}",
-            ours * 1e6,
-            theirs * 1e6,
+            ours,
+            theirs,
             ours / theirs
         );
     }
@@ -191,6 +161,60 @@ impl Table {
         );
     }
 
+    /// The commitment beside another library's.
+    fn commit_beside(&self, s: Settings, other: &Baseline) {
+        let OpeningInput {
+            key,
+            message,
+            challenges,
+            ..
+        } = opening_at(&mut Random::new(7), s);
+        let mut prepared = other.prepare(s, &key, &message, &challenges);
+        let (mut ours, mut theirs) = ([0; verified::ELEMENT], [0; verified::ELEMENT]);
+        self.turns(
+            &format!("commit, d = {}, L = {}", s.degree, s.depth),
+            &other.name,
+            &mut || {
+                timed(|| {
+                    let (key, message) = (black_box(&key), black_box(&message));
+                    assert_eq!(verified::commit(s, key, message, &mut ours), 0);
+                })
+            },
+            &mut || timed(|| assert_eq!(prepared.commit(black_box(&mut theirs)), 0)),
+        );
+        assert_eq!(ours, theirs);
+    }
+
+    /// The whole opening beside another library's; its tables are prepared
+    /// anew before each turn.
+    fn open_beside(&self, s: Settings, other: &Baseline) {
+        let input = opening_at(&mut Random::new(7), s);
+        let new = || {
+            let (c, f) = ([0; verified::ELEMENT], [0; verified::ELEMENT]);
+            (vec![0; input.rounds.len()], c, f, 0)
+        };
+        let (mut ours, mut theirs) = (new(), new());
+        self.turns(
+            &format!("open, d = {}, L = {}", s.degree, s.depth),
+            &other.name,
+            &mut || {
+                let mut t = input.clone();
+                let (rounds, c, f, verdict) = &mut ours;
+                timed(|| {
+                    let (key, message) = (&mut t.key, &mut t.message);
+                    verified::open(s, key, message, &t.challenges, rounds, c, f, verdict);
+                })
+            },
+            &mut || {
+                let mut tables = other.prepare(s, &input.key, &input.message, &input.challenges);
+                let (rounds, c, f, verdict) = &mut theirs;
+                timed(|| *verdict = tables.open(rounds, c, f))
+            },
+        );
+        assert_eq!(ours.3, ACCEPTED);
+        assert!(ours == theirs, "{} answers otherwise", other.name);
+    }
+
     /// A session of all rounds and the end, beside the check of the same
     /// transcript.
     fn session(&self, s: Settings) {
@@ -268,6 +292,121 @@ impl Table {
             },
         );
     }
+
+    /// The table reader and the table writer on one text.
+    fn text(&self, s: Settings, parts: Parts, tables: &Tables) {
+        let text = text::lines(s, tables).concat();
+        let bits = verified::bits(parts);
+        let (mut ours, mut theirs) = (tables.clone(), tables.clone());
+        self.row(
+            &format!("read, {} bytes", text.len()),
+            &mut || {
+                let mut settings = [0; verified::SETTINGS];
+                let number = verified::read(bits, black_box(&text), &mut settings, &mut ours);
+                assert_eq!(number, 0);
+            },
+            &mut || {
+                let t = &mut theirs;
+                let answer = fast::read(
+                    parts,
+                    black_box(&text),
+                    &mut t.key,
+                    &mut t.message,
+                    &mut t.commitment,
+                    &mut t.rounds,
+                    &mut t.challenges,
+                    &mut t.final_element,
+                );
+                assert_eq!(answer.number, 0);
+            },
+        );
+        let (mut ours, mut theirs) = (vec![0; text.len()], vec![0; text.len()]);
+        self.row(
+            &format!("write, {} bytes", text.len()),
+            &mut || {
+                let mut length = 0;
+                verified::write(s, bits, black_box(tables), &mut ours, &mut length);
+                assert_eq!(length, text.len());
+            },
+            &mut || {
+                let t = black_box(tables);
+                let answer = fast::write(
+                    s,
+                    parts,
+                    &t.key,
+                    &t.message,
+                    &t.commitment,
+                    &t.rounds,
+                    &t.challenges,
+                    &t.final_element,
+                    &mut theirs,
+                );
+                assert_eq!(answer.length, text.len());
+            },
+        );
+        assert_eq!((&ours, &theirs), (&text, &text));
+    }
+
+    /// `prove` and `verify` as calls on text.
+    fn programs(&self, s: Settings) {
+        let input = opening_at(&mut Random::new(7), s);
+        let given = Tables {
+            key: input.key,
+            message: input.message,
+            challenges: input.challenges,
+            ..Tables::default()
+        };
+        let text = text::lines(s, &given).concat();
+        let (mut ours, mut theirs) = (vec![0; LONGEST_TEXT], vec![0; LONGEST_TEXT]);
+        self.row(
+            &format!("prove, text, d = {}, L = {}", s.degree, s.depth),
+            &mut || {
+                let mut length = 0;
+                let number = verified::prove(black_box(&text), &mut ours, &mut length);
+                assert_eq!(number, 0);
+            },
+            &mut || assert_eq!(fast::prove(black_box(&text), &mut theirs).number, 0),
+        );
+        assert_eq!(ours, theirs);
+        let t = transcript::honest_at(&mut Random::new(7), s);
+        let d = t.shape.d;
+        let tables = Tables {
+            key: t.key,
+            message: vec![],
+            commitment: t.commitment[..d].to_vec(),
+            rounds: t.rounds,
+            challenges: t.challenges,
+            final_element: t.final_element[..d].to_vec(),
+        };
+        let text = text::lines(s, &tables).concat();
+        self.row(
+            &format!("verify, text, d = {}, L = {}", s.degree, s.depth),
+            &mut || {
+                let mut verdict = 0;
+                verified::verify(black_box(&text), &mut verdict);
+                assert_eq!(verdict, ACCEPTED);
+            },
+            &mut || {
+                let answer = fast::verify(black_box(&text));
+                assert_eq!(answer, Verification::Accepted);
+            },
+        );
+    }
+}
+
+/// Texts of a key alone: the longest one, and ones of growing length.
+fn text_rows(table: &Table) {
+    let (settings, parts, tables) = text::tables_of_length(LONGEST_TEXT);
+    table.text(settings, parts, &tables);
+    for depth in 3..=6 {
+        let settings = Settings::new(64, depth, 1009, 1);
+        let tables = Tables {
+            key: opening_at(&mut Random::new(7), settings).key,
+            ..Tables::default()
+        };
+        table.text(settings, parts, &tables);
+    }
+    table.programs(Settings::new(64, 4, 99_991, 127));
 }
 
 /// The three elements of a round polynomial, 64 places each.
@@ -305,30 +444,8 @@ fn path_rounds(t: &Tree, leaf: usize) -> Vec<u32> {
     list.concat()
 }
 
-fn main() {
-    let words: Vec<String> = std::env::args().skip(1).collect();
-    let repetitions = match words.first().map(|w| w.parse()) {
-        None => 15,
-        Some(Ok(count)) if count > 0 => count,
-        _ => {
-            eprintln!("usage: bench [REPETITIONS [native]]");
-            std::process::exit(1);
-        }
-    };
-    let native = words.get(1).is_some_and(|w| w == "native");
-    let table = Table {
-        repetitions,
-        label: if native {
-            "fast, this machine"
-        } else {
-            "fast, plain x86-64"
-        },
-    };
-    if !native {
-        table.heading();
-    }
-    let large = Settings::new(64, 8, Q, 127);
-    assert_eq!(shape(large).table(), 16_384);
+/// Rows beside the reference.
+fn reference_rows(table: &Table, large: Settings, native: bool) {
     table.commit(large);
     table.commit(Settings::new(4, 8, Q, 127));
     table.check(large);
@@ -338,6 +455,7 @@ fn main() {
     table.open(large);
     table.open(Settings::new(4, 8, Q, 127));
     table.session(large);
+    text_rows(table);
     for (s, number) in [
         (Settings::new(64, 3, Q, 127), 0),
         (Settings::new(4, 8, Q, 2), 0),
@@ -349,4 +467,43 @@ fn main() {
             table.paths(s, &tree);
         }
     }
+}
+
+fn usage() -> ! {
+    eprintln!("usage: bench REPETITIONS [native | LIBRARY...]");
+    std::process::exit(1);
+}
+
+fn main() {
+    let words: Vec<String> = std::env::args().skip(1).collect();
+    let Some((Ok(repetitions @ 1..), rest)) = words.split_first().map(|(w, r)| (w.parse(), r))
+    else {
+        usage()
+    };
+    let native = rest.first().is_some_and(|w| w == "native");
+    let label = if native {
+        "fast, this machine"
+    } else {
+        "fast, plain x86-64"
+    };
+    let table = Table { repetitions, label };
+    let large = Settings::new(64, 8, Q, 127);
+    assert_eq!(shape(large).table(), 16_384);
+    if native {
+        return reference_rows(&table, large, native);
+    }
+    table.heading();
+    for path in rest {
+        match Baseline::load(path) {
+            Ok(other) => {
+                table.commit_beside(large, &other);
+                table.open_beside(large, &other);
+            }
+            Err(reason) => {
+                eprintln!("{reason}");
+                std::process::exit(1);
+            }
+        }
+    }
+    reference_rows(&table, large, native);
 }

@@ -7,11 +7,12 @@
 
 use differential::verified;
 use reference::draw::tables::opening_at;
+use reference::draw::text::{lines, tables_of_length, Tables};
 use reference::draw::transcript;
 use reference::draw::tree::{free_at, Tree};
 use reference::random::Random;
 use reference::refuse::GROWTH;
-use reference::types::{Settings, ACCEPTED};
+use reference::types::{Settings, ACCEPTED, LONGEST_TEXT};
 use std::ffi::c_void;
 use std::process::ExitCode;
 
@@ -136,6 +137,16 @@ fn calls() -> Vec<(&'static str, Call<'static>)> {
         ),
         ("extract, d = 4, L = 8", extract(bounded, 0)),
         ("extract, d = 64, L = 8", extract(large, GROWTH)),
+        ("read, 65,536 bytes", read()),
+        ("write, 65,536 bytes", write()),
+        (
+            "prove, d = 64, L = 4",
+            prove(Settings::new(64, 4, 99_991, 127)),
+        ),
+        (
+            "verify, d = 64, L = 4",
+            verify(Settings::new(64, 4, 99_991, 127)),
+        ),
     ]
 }
 
@@ -172,6 +183,65 @@ fn extract(s: Settings, number: u32) -> Call<'static> {
         let (c, e) = (&t.commitment, &t.challenges);
         let found = verified::extract(s, c, key, rounds, e, leaves, &mut t.w);
         assert_eq!(found, number);
+    })
+}
+
+fn read() -> Call<'static> {
+    let (settings, parts, mut tables) = tables_of_length(LONGEST_TEXT);
+    let text = lines(settings, &tables).concat();
+    Box::new(move || {
+        let mut settings = [0; verified::SETTINGS];
+        let parts = verified::bits(parts);
+        let number = verified::read(parts, &text, &mut settings, &mut tables);
+        assert_eq!(number, 0);
+    })
+}
+
+fn write() -> Call<'static> {
+    let (settings, parts, tables) = tables_of_length(LONGEST_TEXT);
+    let mut out = vec![0; LONGEST_TEXT];
+    Box::new(move || {
+        let mut length = 0;
+        let parts = verified::bits(parts);
+        let number = verified::write(settings, parts, &tables, &mut out, &mut length);
+        assert_eq!((number, length), (0, LONGEST_TEXT));
+    })
+}
+
+fn prove(s: Settings) -> Call<'static> {
+    let t = opening_at(&mut Random::new(7), s);
+    let tables = Tables {
+        key: t.key,
+        message: t.message,
+        challenges: t.challenges,
+        ..Tables::default()
+    };
+    let text = lines(s, &tables).concat();
+    let mut out = vec![0; LONGEST_TEXT];
+    Box::new(move || {
+        let mut length = 0;
+        let number = verified::prove(&text, &mut out, &mut length);
+        assert_eq!(number, 0);
+    })
+}
+
+/// A transcript that is accepted, as text.
+fn verify(s: Settings) -> Call<'static> {
+    let t = transcript::honest_at(&mut Random::new(7), s);
+    let d = t.shape.d;
+    let tables = Tables {
+        key: t.key,
+        message: vec![],
+        commitment: t.commitment[..d].to_vec(),
+        rounds: t.rounds,
+        challenges: t.challenges,
+        final_element: t.final_element[..d].to_vec(),
+    };
+    let text = lines(s, &tables).concat();
+    Box::new(move || {
+        let mut verdict = 0;
+        let number = verified::verify(&text, &mut verdict);
+        assert_eq!((number, verdict), (0, ACCEPTED));
     })
 }
 

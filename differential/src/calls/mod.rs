@@ -9,6 +9,8 @@ mod prover;
 mod relaxed;
 mod session;
 mod settings;
+mod stretch;
+mod text;
 mod tree;
 
 pub use chains::{Moves, Sessions};
@@ -19,6 +21,8 @@ pub use prover::{End, Fold, ProverRound};
 pub use relaxed::Judge;
 pub use session::{SessionEnd, SessionRound, Start};
 pub use settings::SettingsCase;
+pub use stretch::stretch;
+pub use text::{Look, Prove, Read, Verify, Write};
 pub use tree::{Extract, Large, Largest};
 
 /// What a verifier says, by number.

@@ -10,16 +10,19 @@ mod opening;
 mod prover;
 mod relaxed;
 mod session;
+mod text;
 
 pub use check::check;
 pub use opening::open;
 pub use prover::{commit, end, fold, round};
 pub use relaxed::{extract, judge};
 pub use session::{session_end, session_round, session_start};
+pub use text::{bits, look, prove, read, verify, write};
 
 use reference::types::Settings;
 
-/// What is answered where a slice for an element or a record is too short.
+/// What is answered where a slice for an element, a record or settings is too
+/// short.
 pub const SHORT: u32 = 100;
 
 /// Numbers of an element in a lent slice.
@@ -27,6 +30,9 @@ pub const ELEMENT: usize = 64;
 
 /// Numbers of a round polynomial in a lent slice.
 pub const POLYNOMIAL: usize = 3 * ELEMENT;
+
+/// Numbers of settings in a lent slice.
+pub const SETTINGS: usize = 4;
 
 /// Numbers of a session record in a lent slice.
 pub const SESSION: usize = 78;

@@ -11,7 +11,7 @@ mod verifier;
 
 pub use prover::{commit, fold, prover_end, prover_round, whole_opening};
 pub use relaxed::{extract, judge};
-pub use text::{prove, read, verify, write};
+pub use text::{look, prove, read, verify, write};
 pub use verifier::{check, check_cause, session_end, session_round, session_start};
 
 use crate::types::{Residues, PLACES};

@@ -152,6 +152,20 @@ fn refuse_values(shape: &Shape, values: &[Vec<i64>; 6]) -> Checked<()> {
     Ok(())
 }
 
+/// A first look at a text's settings.
+pub fn look(text: &[u8]) -> ReadAnswer {
+    match open_text(text) {
+        Ok((settings, ..)) => ReadAnswer {
+            number: 0,
+            settings,
+        },
+        Err(number) => ReadAnswer {
+            number,
+            settings: Settings::default(),
+        },
+    }
+}
+
 /// Call 12: the table reader.
 #[allow(clippy::too_many_arguments)]
 pub fn read(

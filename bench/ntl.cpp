@@ -1,0 +1,197 @@
+/* The benchmark's NTL, on zz_pX. Key and message are polynomials over the residues; a whole number is told from its residue, as it is far below q/2.
+ * Input is not tested. There are two ways to the sums of products:
+ *
+ *   plain        mul for each product; products are added up unreduced, then X^d = -1 is put in and one reduction made per coefficient
+ *   TRANSFORMED  elements are brought into NTL's transform (fftRep), multiplied and added up there, and one sum is brought back at the end
+ */
+#include <NTL/lzz_pX.h>
+#include <vector>
+#ifdef TRANSFORMED
+#define NAME "NTL, summed transforms"
+#else
+#define NAME "NTL zz_pX"
+#endif
+#include "opening.h"
+
+using NTL::fftRep;
+using NTL::zz_p;
+using NTL::zz_pX;
+
+struct tables {
+    struct shape shape;
+    std::vector<zz_pX> key, message;
+};
+
+/* The coefficient of X^k; leading zeros are not stored. */
+static inline long at(const zz_pX &a, long k) { return k < a.rep.length() ? NTL::rep(a.rep[k]) : 0; }
+
+#ifndef TRANSFORMED
+
+struct Sum {
+    uint64_t places[2 * MOST] = {};
+    zz_pX product;
+
+    void add_product(const zz_pX &m, const zz_pX &g)
+    {
+        NTL::mul(product, m, g);
+        for (long k = 0; k < product.rep.length(); k++)
+            places[k] += (uint64_t)NTL::rep(product.rep[k]);
+    }
+
+    void residues(const struct shape *s, uint32_t *out) const
+    {
+        for (uint32_t k = 0; k < s->d; k++)
+            out[k] = subtract(s->q, reduce(s, places[k]), reduce(s, places[s->d + k]));
+    }
+};
+
+static void inner(struct tables *t, size_t count, uint32_t *out)
+{
+    Sum sum;
+    for (size_t i = 0; i < count; i++)
+        sum.add_product(t->message[i], t->key[i]);
+    sum.residues(&t->shape, out);
+}
+
+static void round_sums(struct tables *t, size_t half, uint32_t *out)
+{
+    uint32_t d = t->shape.d, q = t->shape.q;
+    Sum first, middle, second;
+    zz_pX m, g;
+    for (size_t i = 0; i < half; i++) {
+        const zz_pX &m0 = t->message[i], &m1 = t->message[half + i], &g0 = t->key[i], &g1 = t->key[half + i];
+        NTL::add(m, m0, m1);
+        NTL::add(g, g0, g1);
+        first.add_product(m0, g0);
+        second.add_product(m1, g1);
+        middle.add_product(m, g);
+    }
+    first.residues(&t->shape, out);
+    middle.residues(&t->shape, out + d);
+    second.residues(&t->shape, out + 2 * d);
+    for (uint32_t k = 0; k < d; k++)
+        out[d + k] = subtract(q, subtract(q, out[d + k], out[k]), out[2 * d + k]);
+}
+
+#else
+
+/* A transform has 2^places >= 2d-1 points. */
+static long places(uint32_t d)
+{
+    long k = 0;
+    while (((uint32_t)1 << k) < 2 * d - 1)
+        k++;
+    return k;
+}
+
+struct Sum {
+    fftRep whole, product;
+    bool empty = true;
+
+    void add_product(const fftRep &m, const fftRep &g)
+    {
+        if (empty) {
+            NTL::mul(whole, m, g);
+            empty = false;
+        } else {
+            NTL::mul(product, m, g);
+            NTL::add(whole, whole, product);
+        }
+    }
+
+    void residues(const struct shape *s, uint32_t *out)
+    {
+        zz_pX sum;
+        NTL::FromfftRep(sum, whole, 0, 2 * (long)s->d - 2);
+        for (uint32_t k = 0; k < s->d; k++)
+            out[k] = subtract(s->q, (uint32_t)at(sum, k), (uint32_t)at(sum, s->d + k));
+    }
+};
+
+static void inner(struct tables *t, size_t count, uint32_t *out)
+{
+    long k = places(t->shape.d);
+    Sum sum;
+    fftRep m, g;
+    for (size_t i = 0; i < count; i++) {
+        NTL::TofftRep(m, t->message[i], k);
+        NTL::TofftRep(g, t->key[i], k);
+        sum.add_product(m, g);
+    }
+    sum.residues(&t->shape, out);
+}
+
+static void round_sums(struct tables *t, size_t half, uint32_t *out)
+{
+    long k = places(t->shape.d);
+    Sum first, cross, second;
+    fftRep m0, m1, g0, g1;
+    for (size_t i = 0; i < half; i++) {
+        NTL::TofftRep(m0, t->message[i], k);
+        NTL::TofftRep(m1, t->message[half + i], k);
+        NTL::TofftRep(g0, t->key[i], k);
+        NTL::TofftRep(g1, t->key[half + i], k);
+        first.add_product(m0, g0);
+        second.add_product(m1, g1);
+        cross.add_product(m0, g1);
+        cross.add_product(m1, g0);
+    }
+    first.residues(&t->shape, out);
+    cross.residues(&t->shape, out + t->shape.d);
+    second.residues(&t->shape, out + 2 * t->shape.d);
+}
+
+#endif
+
+/* a0 + X^e*a1, in place, with all d coefficients stored meanwhile. */
+static void fold_element(const struct shape *s, zz_pX &a0, const zz_pX &a1, uint32_t e)
+{
+    long d = s->d, shift = e % d;
+    long length = a1.rep.length();
+    a0.rep.SetLength(d);
+    for (long k = 0; k < length; k++) {
+        bool wraps = k + shift >= d;
+        zz_p &x = a0.rep[wraps ? k + shift - d : k + shift];
+        if (wraps == (e >= s->d))
+            NTL::add(x, x, a1.rep[k]);
+        else
+            NTL::sub(x, x, a1.rep[k]);
+    }
+    a0.normalize();
+}
+
+static void fold(struct tables *t, size_t half, uint32_t e)
+{
+    for (size_t i = 0; i < half; i++) {
+        fold_element(&t->shape, t->message[i], t->message[half + i], e);
+        fold_element(&t->shape, t->key[i], t->key[half + i], e);
+    }
+}
+
+static int admitted(const struct tables *) { return 1; }
+
+static void last_element(const struct tables *t, int32_t *out)
+{
+    for (uint32_t k = 0; k < t->shape.d; k++) {
+        long x = at(t->message[0], k);
+        out[k] = (int32_t)(x > t->shape.q / 2 ? x - (long)t->shape.q : x);
+    }
+}
+
+struct tables *baseline_prepare(uint32_t d, uint32_t l, uint32_t q, uint32_t b, const uint32_t *key, const int32_t *message, const uint32_t *challenges)
+{
+    struct tables *t = new tables;
+    start(&t->shape, d, l, q, b);
+    t->shape.challenges = challenges;
+    zz_p::init(q);
+    t->key.resize(t->shape.n);
+    t->message.resize(t->shape.n);
+    for (size_t i = 0; i < t->shape.n; i++)
+        for (uint32_t k = 0; k < d; k++) {
+            NTL::SetCoeff(t->key[i], k, (long)key[i * d + k]);
+            NTL::SetCoeff(t->message[i], k, (long)message[i * d + k]);
+        }
+    return t;
+}
+
+void baseline_release(struct tables *t) { delete t; }

@@ -1,0 +1,163 @@
+/* The commitment and the whole opening over somebody else's arithmetic, for the benchmark.
+ *
+ * A file that includes this has defined `struct tables`, which begins with `struct shape shape`, and these functions on it:
+ *
+ *   prepare   takes key and message over into the arithmetic's own form; no time is taken of it
+ *   admitted  whether key and message are within their bounds, where the arithmetic's form leaves that open
+ *   inner     the sum of m_i*G_i over the first `count` elements
+ *   round     the three sums <m0,G0>, <m0,G1>+<m1,G0>, <m1,G1> over `half` elements
+ *   fold      folds both tables by X^e: the second `half` elements into the first
+ *   last      the first message element
+ *   release   gives the memory back
+ *
+ * What is left, the scaling, the verifier's equations and the end, is the same for all and costs next to nothing: it is done here.
+ */
+#ifndef OPENING_H
+#define OPENING_H
+
+#include <stddef.h>
+#include <stdint.h>
+#include <stdlib.h>
+#include <string.h>
+
+#define MOST 64
+
+struct shape {
+    uint32_t d, l, q, b;
+    size_t n;
+    uint64_t reciprocal; /* 2^64 divided by q, rounded down */
+    const uint32_t *challenges;
+};
+
+static inline uint32_t reduce(const struct shape *s, uint64_t x)
+{
+    uint64_t quotient = (uint64_t)(((unsigned __int128)x * s->reciprocal) >> 64);
+    uint64_t rest = x - quotient * s->q;
+    return (uint32_t)(rest >= s->q ? rest - s->q : rest);
+}
+
+static inline uint32_t reduce_signed(const struct shape *s, int64_t x)
+{
+    uint32_t rest = reduce(s, (uint64_t)(x < 0 ? -x : x));
+    return x < 0 && rest != 0 ? s->q - rest : rest;
+}
+
+static inline uint32_t add(uint32_t q, uint32_t x, uint32_t y)
+{
+    uint32_t sum = x + y, less = sum - q;
+    return sum < less ? sum : less;
+}
+
+static inline uint32_t subtract(uint32_t q, uint32_t x, uint32_t y)
+{
+    uint32_t difference = x - y, more = difference + q;
+    return difference < more ? difference : more;
+}
+
+#ifdef __cplusplus
+extern "C" {
+#endif
+
+struct tables;
+static int admitted(const struct tables *t);
+static void inner(struct tables *t, size_t count, uint32_t *out);
+static void round_sums(struct tables *t, size_t half, uint32_t *out);
+static void fold(struct tables *t, size_t half, uint32_t e);
+static void last_element(const struct tables *t, int32_t *out);
+
+/* Adds X^e*a to out. */
+static void add_rotated(const struct shape *s, uint32_t *out, const uint32_t *a, uint32_t e)
+{
+    uint32_t d = s->d;
+    for (uint32_t k = 0; k < d; k++) {
+        uint32_t at = (k + e) % (2 * d);
+        if (at < d)
+            out[at] = add(s->q, out[at], a[k]);
+        else
+            out[at - d] = subtract(s->q, out[at - d], a[k]);
+    }
+}
+
+/* Scales a round's three sums by half^i, tests the round, and goes on to the next claim. */
+static int verifier_round(const struct shape *s, uint32_t scale, uint32_t e, uint32_t *c, uint32_t *claim)
+{
+    uint32_t d = s->d;
+    int holds = 1;
+    for (uint32_t k = 0; k < 3 * d; k++)
+        c[k] = reduce(s, (uint64_t)c[k] * scale);
+    for (uint32_t k = 0; k < d; k++) {
+        uint32_t sum = add(s->q, c[k], c[2 * d + k]);
+        holds &= add(s->q, sum, sum) == claim[k];
+    }
+    memcpy(claim, c, d * sizeof *c);
+    add_rotated(s, claim, c + d, e);
+    add_rotated(s, claim, c + 2 * d, 2 * e);
+    return holds;
+}
+
+/* Whether the final element is within its bound and 2^L times the claim is its product with the folded key. */
+static int verifier_end(struct tables *t, const struct shape *s, const uint32_t *claim, const int32_t *last)
+{
+    int64_t bound = (int64_t)s->n * s->b;
+    uint32_t product[MOST];
+    int meets = 1;
+    inner(t, 1, product);
+    for (uint32_t k = 0; k < s->d; k++) {
+        meets &= -bound <= last[k] && last[k] <= bound;
+        meets &= product[k] == reduce(s, (uint64_t)claim[k] << s->l);
+    }
+    return meets;
+}
+
+/* 0, or 1 where the input is refused. */
+uint32_t baseline_commit(struct tables *t, uint32_t *commitment)
+{
+    const struct shape *s = (const struct shape *)t;
+    if (!admitted(t))
+        return 1;
+    inner(t, s->n, commitment);
+    return 0;
+}
+
+/* 2 says accepted, 3 rejected, 0 that the input is refused. */
+uint32_t baseline_open(struct tables *t, uint32_t *rounds, uint32_t *commitment, int32_t *last)
+{
+    const struct shape *s = (const struct shape *)t;
+    uint32_t claim[MOST], scale = 1, half = s->q / 2 + 1;
+    int holds = 1;
+    if (!admitted(t))
+        return 0;
+    inner(t, s->n, commitment);
+    memcpy(claim, commitment, s->d * sizeof *claim);
+    for (uint32_t i = 0; i < s->l; i++) {
+        size_t rest = s->n >> (i + 1);
+        uint32_t *c = rounds + (size_t)3 * s->d * i;
+        scale = reduce(s, (uint64_t)scale * half);
+        round_sums(t, rest, c);
+        holds &= verifier_round(s, scale, s->challenges[i], c, claim);
+        fold(t, rest, s->challenges[i]);
+    }
+    last_element(t, last);
+    return verifier_end(t, s, claim, last) && holds ? 2 : 3;
+}
+
+static void start(struct shape *s, uint32_t d, uint32_t l, uint32_t q, uint32_t b)
+{
+    s->d = d;
+    s->l = l;
+    s->q = q;
+    s->b = b;
+    s->n = (size_t)1 << l;
+    s->reciprocal = UINT64_MAX / q;
+}
+
+const char *baseline_name(void) { return NAME; }
+
+struct tables *baseline_prepare(uint32_t d, uint32_t l, uint32_t q, uint32_t b, const uint32_t *key, const int32_t *message, const uint32_t *challenges);
+void baseline_release(struct tables *t);
+
+#ifdef __cplusplus
+}
+#endif
+
+#endif

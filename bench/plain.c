@@ -1,0 +1,206 @@
+/* The benchmark's C, in the verified library's way: products stay unreduced in 64 bits and are reduced once per coefficient, a negative coefficient takes
+ * the row d places before, and four rows are added at a time. It tests its input.
+ *
+ * With BY_HAND it is as quick as we could make it: the innermost loop is written in vector instructions, and a round takes three inner products instead
+ * of four, as the two cross products come from one product of sums, less the outer ones. */
+#ifndef NAME
+#define NAME "C"
+#endif
+#include "opening.h"
+#ifdef BY_HAND
+#include <immintrin.h>
+#endif
+
+struct tables {
+    struct shape shape;
+    uint32_t *key;
+    int32_t *message;
+};
+
+/* Where the row of coefficient j begins, and how often it is added. */
+static uint32_t row(uint32_t d, const int32_t *m, uint32_t j) { return (m[j] < 0 ? d : 2 * d) - j; }
+
+static uint32_t magnitude(const int32_t *m, uint32_t j) { return (uint32_t)(m[j] < 0 ? -m[j] : m[j]); }
+
+/* m*y, y being below 2^32: a compiler that sees this needs one instruction for it. */
+static uint64_t times(uint32_t m, uint64_t y) { return m * (y & UINT32_MAX); }
+
+#if defined(BY_HAND) && defined(__AVX512F__)
+#define STEP 8
+#define VECTOR __m512i
+#define LOAD(p) _mm512_loadu_si512(p)
+#define STORE(p, x) _mm512_storeu_si512(p, x)
+#define ADD _mm512_add_epi64
+#define TIMES _mm512_mul_epu32
+#define ALL(m) _mm512_set1_epi64(m)
+#elif defined(BY_HAND)
+#define STEP 2
+#define VECTOR __m128i
+#define LOAD(p) _mm_loadu_si128((const __m128i *)(p))
+#define STORE(p, x) _mm_storeu_si128((__m128i *)(p), x)
+#define ADD _mm_add_epi64
+#define TIMES _mm_mul_epu32
+#define ALL(m) _mm_set1_epi64x(m)
+#endif
+
+/* Adds m0*w0 + m1*w1 + m2*w2 + m3*w3 to the sums. */
+static void add_four(uint64_t *restrict sums, uint32_t d, uint32_t m0, const uint64_t *w0, uint32_t m1, const uint64_t *w1, uint32_t m2, const uint64_t *w2,
+                     uint32_t m3, const uint64_t *w3)
+{
+    uint32_t k = 0;
+#ifdef STEP
+    VECTOR v0 = ALL(m0), v1 = ALL(m1), v2 = ALL(m2), v3 = ALL(m3);
+    for (; k + STEP <= d; k += STEP) {
+        VECTOR first = ADD(TIMES(v0, LOAD(w0 + k)), TIMES(v1, LOAD(w1 + k)));
+        VECTOR second = ADD(TIMES(v2, LOAD(w2 + k)), TIMES(v3, LOAD(w3 + k)));
+        STORE(sums + k, ADD(LOAD(sums + k), ADD(first, second)));
+    }
+#endif
+    for (; k < d; k++)
+        sums[k] += times(m0, w0[k]) + times(m1, w1[k]) + times(m2, w2[k]) + times(m3, w3[k]);
+}
+
+/* Adds m*g to the sums; the coefficients of g are at most `top`, a multiple of q. */
+static void add_product(uint64_t *restrict sums, uint32_t d, const int32_t *m, const uint32_t *g, uint32_t top)
+{
+    uint64_t window[3 * MOST];
+    for (uint32_t k = 0; k < d; k++) {
+        window[k] = g[k];
+        window[d + k] = top - g[k];
+        window[2 * d + k] = g[k];
+    }
+    uint32_t j = 0;
+    for (; j + 4 <= d; j += 4) {
+        const uint64_t *w[4];
+        uint32_t by[4];
+        for (uint32_t i = 0; i < 4; i++) {
+            w[i] = window + row(d, m, j + i);
+            by[i] = magnitude(m, j + i);
+        }
+        add_four(sums, d, by[0], w[0], by[1], w[1], by[2], w[2], by[3], w[3]);
+    }
+    for (; j < d; j++) {
+        const uint64_t *w = window + row(d, m, j);
+        for (uint32_t k = 0; k < d; k++)
+            sums[k] += times(magnitude(m, j), w[k]);
+    }
+}
+
+static void add_products(uint64_t *sums, const struct shape *s, uint32_t d, size_t count, const int32_t *m, const uint32_t *g)
+{
+    for (size_t i = 0; i < count; i++)
+        add_product(sums, d, m + i * d, g + i * d, s->q);
+}
+
+static void reduced(const struct shape *s, uint32_t d, const uint64_t *sums, uint32_t *out)
+{
+    for (uint32_t k = 0; k < d; k++)
+        out[k] = reduce(s, sums[k]);
+}
+
+static void inner(struct tables *t, size_t count, uint32_t *out)
+{
+    uint32_t d = t->shape.d;
+    uint64_t sums[MOST] = {0};
+    add_products(sums, &t->shape, d, count, t->message, t->key);
+    reduced(&t->shape, d, sums, out);
+}
+
+#ifndef BY_HAND
+
+static void cross_at(uint64_t *sums, struct tables *t, uint32_t d, size_t half)
+{
+    add_products(sums, &t->shape, d, half, t->message, t->key + half * d);
+    add_products(sums, &t->shape, d, half, t->message + half * d, t->key);
+}
+
+#else
+
+static void cross_at(uint64_t *sums, struct tables *t, uint32_t d, size_t half)
+{
+    const int32_t *m0 = t->message, *m1 = m0 + half * d;
+    const uint32_t *g0 = t->key, *g1 = g0 + half * d;
+    for (size_t i = 0; i < half * d; i += d) {
+        int32_t m[MOST];
+        uint32_t g[MOST];
+        for (uint32_t k = 0; k < d; k++) {
+            m[k] = m0[i + k] + m1[i + k];
+            g[k] = g0[i + k] + g1[i + k];
+        }
+        add_product(sums, d, m, g, 2 * t->shape.q);
+    }
+}
+
+#endif
+
+static void round_sums(struct tables *t, size_t half, uint32_t *out)
+{
+    const struct shape *s = &t->shape;
+    uint32_t d = s->d;
+    uint64_t first[MOST] = {0}, cross[MOST] = {0}, second[MOST] = {0};
+    add_products(first, s, d, half, t->message, t->key);
+    cross_at(cross, t, d, half);
+    add_products(second, s, d, half, t->message + half * d, t->key + half * d);
+    reduced(s, d, first, out);
+    reduced(s, d, cross, out + d);
+    reduced(s, d, second, out + 2 * d);
+#ifdef BY_HAND
+    for (uint32_t k = 0; k < d; k++)
+        out[d + k] = subtract(s->q, subtract(s->q, out[d + k], out[k]), out[2 * d + k]);
+#endif
+}
+
+static void fold(struct tables *t, size_t half, uint32_t e)
+{
+    uint32_t q = t->shape.q, d = t->shape.d, shift = e % d;
+    for (size_t i = 0; i < half; i++) {
+        int32_t *m0 = t->message + i * d;
+        uint32_t *g0 = t->key + i * d;
+        const int32_t *m1 = m0 + half * d;
+        const uint32_t *g1 = g0 + half * d;
+        if (e < d) {
+            for (uint32_t k = shift; k < d; k++) m0[k] += m1[k - shift], g0[k] = add(q, g0[k], g1[k - shift]);
+            for (uint32_t k = 0; k < shift; k++) m0[k] -= m1[k + d - shift], g0[k] = subtract(q, g0[k], g1[k + d - shift]);
+        } else {
+            for (uint32_t k = shift; k < d; k++) m0[k] -= m1[k - shift], g0[k] = subtract(q, g0[k], g1[k - shift]);
+            for (uint32_t k = 0; k < shift; k++) m0[k] += m1[k + d - shift], g0[k] = add(q, g0[k], g1[k + d - shift]);
+        }
+    }
+}
+
+static int admitted(const struct tables *t)
+{
+    size_t places = t->shape.n * t->shape.d;
+    int32_t bound = (int32_t)t->shape.b;
+    int good = 1;
+    for (size_t k = 0; k < places; k++)
+        good &= t->key[k] < t->shape.q;
+    for (size_t k = 0; k < places; k++)
+        good &= -bound <= t->message[k] && t->message[k] <= bound;
+    return good;
+}
+
+static void last_element(const struct tables *t, int32_t *out)
+{
+    memcpy(out, t->message, t->shape.d * sizeof *out);
+}
+
+struct tables *baseline_prepare(uint32_t d, uint32_t l, uint32_t q, uint32_t b, const uint32_t *key, const int32_t *message, const uint32_t *challenges)
+{
+    struct tables *t = malloc(sizeof *t);
+    start(&t->shape, d, l, q, b);
+    size_t bytes = t->shape.n * d * 4;
+    t->shape.challenges = challenges;
+    t->key = malloc(bytes);
+    t->message = malloc(bytes);
+    memcpy(t->key, key, bytes);
+    memcpy(t->message, message, bytes);
+    return t;
+}
+
+void baseline_release(struct tables *t)
+{
+    free(t->key);
+    free(t->message);
+    free(t);
+}

@@ -1,0 +1,37 @@
+use native.Mathlib.Omega.{arith}
+use lib.ListN.{length-set}
+use Rattle.texts.specs.Texts.{settingsStored}
+use Rattle.texts.proofs.Front.{front}
+use borrow.Author.Needs.{needs}
+use Rattle.texts.proofs.settings.store.Statement.{statement}
+use Rattle.texts.proofs.settings.store.Tie as tie
+
+slice-write-out : tie.Need-slice-write-out
+slice-write-out c = search needs
+
+slice-write-out-2 : tie.Need-slice-write-out-2
+slice-write-out-2 c = simp length-set (omega arith)
+
+slice-write-out-3 : tie.Need-slice-write-out-3
+slice-write-out-3 c = simp length-set (omega arith)
+
+slice-write-out-4 : tie.Need-slice-write-out-4
+slice-write-out-4 c = search needs
+
+same-length : tie.Need-same-length
+same-length c = search needs
+
+returns : tie.Need-returns
+unfolding settingsStored
+returns c = let a = c .args in front (a .s .degree) (a .s .depth) (a .s .modulus) (a .s .bound) (a .out .now) (c .pre)
+
+pub store-spec : {M : Type 1} → statement M
+store-spec =
+    tie.close
+    (tie.spec
+    slice-write-out
+    slice-write-out-2
+    slice-write-out-3
+    slice-write-out-4
+    same-length
+    returns)

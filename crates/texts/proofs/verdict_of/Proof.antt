@@ -1,0 +1,66 @@
+use mathlib.Core.Path.{_≡_, sym, ap, _∙_}
+use Rattle.protocol.specs.declared.Verified.{Verified}
+use Rattle.protocol.specs.Programs.{checked}
+use Rattle.slices.specs.Slices.{verdictNumber}
+use borrow.Author.Needs.{needs}
+use Rattle.texts.proofs.verdict_of.Statement.{statement}
+use Rattle.texts.proofs.verdict_of.Tie as tie
+
+enum-told : tie.Need-enum-told
+enum-told c = search needs
+
+verdict-number-requires : tie.Need-verdict-number-requires
+verdict-number-requires c κs = search needs
+
+enum-told-2 : tie.Need-enum-told-2
+enum-told-2 c = search needs
+
+verdict-number-requires-2 : tie.Need-verdict-number-requires-2
+verdict-number-requires-2 c κs = search needs
+
+enum-known-verified : tie.Need-enum-known-verified
+enum-known-verified c = search needs
+
+verdict-number-requires-3 : tie.Need-verdict-number-requires-3
+verdict-number-requires-3 c κs = search needs
+
+returns : tie.Need-returns
+unfolding checked
+returns c =
+    let told = c .before .enum-told .given .1 in
+    record {
+      number = sym (ap (λ (v : Verified). checked v .number) told);
+      verdict-exit = c .verdict-number .ensures ∙ sym (ap (λ (v : Verified). verdictNumber (checked v .verdict)) told);
+    }
+
+returns-2 : tie.Need-returns-2
+unfolding checked
+returns-2 c =
+    let told = c .before .enum-told2 .given .1 in
+    record {
+      number = sym (ap (λ (v : Verified). checked v .number) told);
+      verdict-exit = c .verdict-number2 .ensures ∙ sym (ap (λ (v : Verified). verdictNumber (checked v .verdict)) told);
+    }
+
+returns-3 : tie.Need-returns-3
+unfolding checked
+returns-3 c =
+    let told = c .before .before .verified .given .1 in
+    record {
+      number = sym (ap (λ (v : Verified). checked v .number) told);
+      verdict-exit = c .verdict-number3 .ensures ∙ sym (ap (λ (v : Verified). verdictNumber (checked v .verdict)) told);
+    }
+
+pub verdict-of-spec : {M : Type 1} → statement M
+verdict-of-spec =
+    tie.close
+    (tie.spec
+    enum-told
+    verdict-number-requires
+    enum-told-2
+    verdict-number-requires-2
+    enum-known-verified
+    verdict-number-requires-3
+    returns
+    returns-2
+    returns-3)

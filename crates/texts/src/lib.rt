@@ -1,0 +1,141 @@
+// The calls on text with numbers and slices only, for C and Rust.
+//
+// Settings go to a slice of four numbers: degree, depth, modulus, bound. Where that slice is too short the answer is 100, and nothing is written; numbers
+// behind them stay. Which of parts 1 to 6 are there is a number of six bits: bit 0 is the key, bit 5 the final element.
+mod settings;
+
+use protocol::Parts;
+use protocol::Settings;
+use protocol::Verdict;
+use protocol::Verified;
+ghost use mathlib.Core.Path.{_≡_};
+ghost use Rattle.reading.specs.Cut.{six};
+ghost use Rattle.protocol.specs.Programs.{checked, verifyAnswer};
+ghost use Rattle.texts.specs.Texts.{partsOf};
+ghost use Rattle.texts.specs.Promises.{Looked, ReadStored, WroteStored, Verdicts, ProvedStored};
+
+// The parts that a number names; bits from bit 6 on are not read.
+fn parts_of(bits: u32) -> Parts
+    ensures { λ r. ⌜ r ≡ partsOf bits ⌝ }
+{
+    Parts {
+        key: bits % 2 == 1,
+        message: bits / 2 % 2 == 1,
+        commitment: bits / 4 % 2 == 1,
+        round: bits / 8 % 2 == 1,
+        challenge: bits / 16 % 2 == 1,
+        last: bits / 32 % 2 == 1,
+    }
+}
+
+// A first look at a text's settings.
+pub fn look(text: &[u8], settings: &mut [u32]) -> u32
+    ensures { λ r. ⌜ Looked (now (text .entry)) (now (settings .entry)) r (now (settings .exit)) ⌝ }
+{
+    if settings.len() < 4 {
+        return 100;
+    }
+    let loaded = tables::look(text);
+    settings::store(loaded.settings, settings);
+    loaded.number
+}
+
+// The table reader.
+pub fn read(
+    parts: u32,
+    text: &[u8],
+    settings: &mut [u32],
+    key: &mut [u32],
+    message: &mut [i32],
+    commitment: &mut [u32],
+    rounds: &mut [u32],
+    challenges: &mut [u32],
+    last: &mut [i32],
+) -> u32
+    ensures { λ r. ⌜ ReadStored (partsOf parts) (now (text .entry)) (now (settings .entry)) (six (now (key .entry)) (now (message .entry)) (now (commitment .entry)) (now (rounds .entry)) (now (challenges .entry)) (now (last .entry))) r (now (settings .exit)) (six (now (key .exit)) (now (message .exit)) (now (commitment .exit)) (now (rounds .exit)) (now (challenges .exit)) (now (last .exit))) ⌝ }
+{
+    if settings.len() < 4 {
+        return 100;
+    }
+    let there = parts_of(parts);
+    let loaded = reading::read(
+        there,
+        text,
+        key,
+        message,
+        commitment,
+        rounds,
+        challenges,
+        last,
+    );
+    settings::store(loaded.settings, settings);
+    loaded.number
+}
+
+// The table writer. The length of the text goes to `length`.
+pub fn write(
+    settings: Settings,
+    parts: u32,
+    key: &[u32],
+    message: &[i32],
+    commitment: &[u32],
+    rounds: &[u32],
+    challenges: &[u32],
+    last: &[i32],
+    out: &mut [u8],
+    length: &mut usize,
+) -> u32
+    ensures { λ r. ⌜ WroteStored settings (partsOf parts) (six (now (key .entry)) (now (message .entry)) (now (commitment .entry)) (now (rounds .entry)) (now (challenges .entry)) (now (last .entry))) (now (out .entry)) r (now (out .exit)) (now (length .exit)) ⌝ }
+{
+    let there = parts_of(parts);
+    let written = writing::write(
+        settings,
+        there,
+        key,
+        message,
+        commitment,
+        rounds,
+        challenges,
+        last,
+        out,
+    );
+    *length = written.length;
+    written.number
+}
+
+// An answer of `verify` as a number and a verdict.
+fn verdict_of(verified: Verified, verdict: &mut u32) -> u32
+    ensures { λ r. ⌜ Verdicts (checked verified) r (now (verdict .exit)) ⌝ }
+{
+    match verified {
+        Verified::Accepted => {
+            *verdict = slices::verdict_number(Verdict::Accepted);
+            0
+        }
+        Verified::Rejected => {
+            *verdict = slices::verdict_number(Verdict::Rejected);
+            0
+        }
+        Verified::Refused(number) => {
+            *verdict = slices::verdict_number(Verdict::Silent);
+            number
+        }
+    }
+}
+
+// The program `verify` as a call on text.
+pub fn verify(text: &[u8], verdict: &mut u32) -> u32
+    ensures { λ r. ⌜ Verdicts (checked (verifyAnswer (now (text .entry)))) r (now (verdict .exit)) ⌝ }
+{
+    let verified = verifying::verify(text);
+    verdict_of(verified, verdict)
+}
+
+// The program `prove` as a call on text. The length of what it writes goes to `length`.
+pub fn prove(text: &[u8], out: &mut [u8], length: &mut usize) -> u32
+    ensures { λ r. ⌜ ProvedStored (now (text .entry)) (now (out .entry)) r (now (out .exit)) (now (length .exit)) ⌝ }
+{
+    let written = proving::prove(text, out);
+    *length = written.length;
+    written.number
+}
