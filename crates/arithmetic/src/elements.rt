@@ -27,6 +27,10 @@ pub fn element_at(d: u32, t: &[u32], i: u32) -> [u32; 64]
     }
     let n = d as usize;
     let at = (i as usize) * n;
+    if at + n <= t.len() {
+        residues::copy_row(n, t, at, &mut a, 0);
+        return a;
+    }
     let mut k: usize = 0;
     while k < n {
         a[k] = entry(t, at + k);

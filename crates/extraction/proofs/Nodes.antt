@@ -210,9 +210,6 @@ module _ (S : Settings) (E : List ℕ) (finals : List ℤ) (X : Extractable S E 
     shared-length zero = signed-zeros-length (2 * (n * d))
     shared-length (suc j) = withShare-length d n (c j) (m j) (v j) (shared j)
 
-    child-length : (j : ℕ) → length (v j) ≡ n * d
-    child-length j = vector-length S E finals (h - 1) (child k j) ∙ ap (λ x. x * d) (sym is-n)
-
     -- how large a child's numbers and a share's are
     abbrev β : ℕ
     β = heightBound S (h - 1)

@@ -5,7 +5,7 @@
 --   rotatedAdded d e a l     l with X^e·a added to its first d numbers
 --   summed d k j a           a·(1 + X^k)·(1 + X^2k)·(1 + X^4k)·…, j factors
 --   doublings d k            how often k is doubled until it is d on the circle of 2d exponents; 7 where that is not met
---   divided d k a            2·a divided by 1 − X^k, for different exponents' k (Quotients)
+--   divided d k a            2·a divided by 1 − X^k, where d is a power of two and k no multiple of 2d (Mu)
 --   weighted d k₁ k₂ e a     the same for two k, times 1 + X^e
 use mathlib.Core.List.{List}
 use Prim.Native.Nat.{ℕ, zero, suc, _+_, _*_, _-_, _%_, _^_}

@@ -40,7 +40,7 @@ fn add_turned(d: usize, n: usize, e: usize, to: usize, l: &mut [i64])
 }
 
 // Adds one child's share to a node's vector. The list is the child's vector, n elements, which is used up, and the node's, twice as long.
-// X^a is the challenge that leads to the child, X^b and X^c are the other two.
+// X^a is the challenge that leads to the child, X^b and X^c are the other two. The products are ahead of μ's by X^(2a), so the sums turn back.
 fn add_share(d: usize, n: usize, a: usize, b: usize, c: usize, l: &mut [i64])
     requires { ⌜ Sharing d n a b c (now l) ⌝ }
     ensures { λ _. ⌜ drop (n * d) (now (l .exit)) ≡ withShare d n a (mu d a b c) (take (n * d) (now (l .entry))) (drop (n * d) (now (l .entry))) ⌝ }

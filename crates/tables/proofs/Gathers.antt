@@ -4,6 +4,7 @@
 --   columns-behind       the values of parts 1 to 6 are those of the lines behind the settings
 --   Looked, looked       what a text is whose settings are not refused
 --   order-..             are its lines the required ones, by what was read of them
+--   look-..              what the answer of a first look says
 --   gathered-..          what the reader of all values promises
 use mathlib.Core.Path.{_≡_, refl, sym, ap, ap₂, subst, _∙_}
 use mathlib.Core.Bool.{Bool, true, false, _&&_, false≢true}
@@ -133,7 +134,7 @@ module _ (text : List ℕ) (P : Parts) (l : Looked text) where
   abbrev S : Settings
   S = settingsOf (l .values)
 
-  pub looked-settings : settingsIn (linesOf text) ≡ S
+  looked-settings : settingsIn (linesOf text) ≡ S
   looked-settings = settled-settings text (l .values) (l .rest) (l .begins) (l .more) (l .more-is)
 
   looked-lines : linesOf text ≡ l .begins .front ++ l .more
@@ -273,26 +274,36 @@ module _ (text : List ℕ) (P : Parts) (l : Looked text) (h : Header) (h-is : h 
               ap (λ (ws : List ℤ). take (length ws) values) columns-is ∙ ap (λ n. take n values) (sym count) ∙ took .stored vs end found ∙ sym columns-is;
         }
 
--- refusals 1 to 7, after a first look
-module _ (P : Parts) (n : Lengths) (text : List ℕ) (r : Loaded) (r-is : r ≡ lookAnswer text) (values : List ℤ) where
+-- what the answer of a first look says
+module _ (text : List ℕ) (r : Loaded) (r-is : r ≡ lookAnswer text) where
   pub look-number : r .number ≡ lookRefusal text
   unfolding lookAnswer loaded
   look-number = ap (λ x. x .number) r-is
 
-  pub look-settings : r .number ≡ 0 → r .settings ≡ settingsIn (linesOf text)
-  unfolding lookAnswer loaded
-  look-settings e = ap (λ x. x .settings) r-is ∙ granted-zero _ _ _ (sym look-number ∙ e)
+  module _ (e : r .number ≡ 0) where
+    pub look-settings : r .settings ≡ settingsIn (linesOf text)
+    unfolding lookAnswer loaded
+    look-settings = ap (λ x. x .settings) r-is ∙ granted-zero _ _ _ (sym look-number ∙ e)
+
+    pub look-allowed : settingsRefusal (r .settings) ≡ 0
+    unfolding lookRefusal
+    look-allowed = ap settingsRefusal look-settings ∙ first-zero _ _ (first-zero _ _ (first-zero _ _ (sym look-number ∙ e) .1) .1) .0
+
+-- refusals 1 to 7, after a first look
+module _ (P : Parts) (n : Lengths) (text : List ℕ) (r : Loaded) (r-is : r ≡ lookAnswer text) (values : List ℤ) where
+  abbrev number-is : r .number ≡ lookRefusal text
+  number-is = look-number text r r-is
 
   pub gathered-look : (r .number ≡ 0 → ⊥) → Gathered P n text r values
   unfolding linesRefusal lookAnswer
   gathered-look h =
-      let same : linesRefusal P n text ≡ lookRefusal text = first-stops _ _ (λ e. h (look-number ∙ e)) in
-      record { answer = r-is ∙ ap (λ m. loaded m text) (sym same); stored = λ e. absurd (h (look-number ∙ sym same ∙ e)) }
+      let same : linesRefusal P n text ≡ lookRefusal text = first-stops _ _ (λ e. h (number-is ∙ e)) in
+      record { answer = r-is ∙ ap (λ m. loaded m text) (sym same); stored = λ e. absurd (h (number-is ∙ sym same ∙ e)) }
 
   module _ (e : r .number ≡ 0) where
     behind-look : (b : Bool) → (inOrder P text && lengthsFit (settingsIn (linesOf text)) P n) ≡ b → linesRefusal P n text ≡ unless 7 b
     unfolding linesRefusal
-    behind-look b h = first-pass _ _ (sym look-number ∙ e) ∙ first-only _ ∙ ap (unless 7) h
+    behind-look b h = first-pass _ _ (sym number-is ∙ e) ∙ first-only _ ∙ ap (unless 7) h
 
     pub gathered-refused : (r₇ : Loaded) → r₇ ≡ record { number = 7; settings = noSettings } → (inOrder P text && lengthsFit (settingsIn (linesOf text)) P n) ≡ false → Gathered P n text r₇ values
     unfolding unless
@@ -302,4 +313,4 @@ module _ (P : Parts) (n : Lengths) (text : List ℕ) (r : Loaded) (r-is : r ≡ 
 
     pub gathered-granted : (inOrder P text && lengthsFit (settingsIn (linesOf text)) P n) ≡ true → First (columnsIn (linesOf text)) values → Gathered P n text r values
     unfolding unless lookAnswer
-    gathered-granted h s = record { answer = r-is ∙ ap (λ m. loaded m text) (sym look-number ∙ e ∙ sym (behind-look true h)); stored = λ _. s }
+    gathered-granted h s = record { answer = r-is ∙ ap (λ m. loaded m text) (sym number-is ∙ e ∙ sym (behind-look true h)); stored = λ _. s }

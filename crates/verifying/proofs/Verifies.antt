@@ -1,7 +1,6 @@
 -- `verify` as a call on text, step by step.
 --
 --   verify-stops       a text whose settings are refused
---   read-fitting       where the lent tables have their lengths, the reader refuses what `verify` refuses
 --   verify-refused     the answer for a text that the reader refuses
 --   verify-given       one that it does not: nothing is refused of its tables
 --   verify-done        and the answer is whether they are accepted
@@ -25,6 +24,7 @@ use Rattle.protocol.proofs.Tests.{and-intro, first-zero, granted-zero, granted-
 use Rattle.protocol.proofs.Refusals.{first-stops}
 use Rattle.shapes.specs.Parts.{partShape, lengthsOf, lengthsFit}
 use Rattle.shapes.proofs.Exactly.{lengths-fit}
+use Rattle.tables.proofs.Gathers.{look-number}
 use Rattle.verifying.specs.Given.{Given}
 use Rattle.verifying.proofs.Checks.{Long}
 
@@ -39,25 +39,12 @@ module _ (text : List ℕ) where
   -- ---- a first look
 
   module _ (r : Loaded) (r-is : r ≡ lookAnswer text) where
-    look-number : r .number ≡ lookRefusal text
-    unfolding lookAnswer loaded
-    look-number = ap (λ x. x .number) r-is
-
     look-first : (r .number ≡ 0 → ⊥) → verifyRefusal text ≡ lookRefusal text
     unfolding verifyRefusal textRefusal
-    look-first h = first-stops _ _ (λ z. h (look-number ∙ z))
+    look-first h = first-stops _ _ (λ z. h (look-number text r r-is ∙ z))
 
     pub verify-stops : (r .number ≡ 0 → ⊥) → Refused (r .number) ≡ verifyAnswer text
-    verify-stops h = refused-is (r .number) (look-first h ∙ sym look-number) h
-
-    module _ (e : r .number ≡ 0) where
-      pub look-settings : r .settings ≡ S
-      unfolding lookAnswer loaded
-      look-settings = ap (λ x. x .settings) r-is ∙ granted-zero _ _ _ (sym look-number ∙ e)
-
-      pub look-allowed : settingsRefusal (r .settings) ≡ 0
-      unfolding lookRefusal
-      look-allowed = ap settingsRefusal look-settings ∙ first-zero _ _ (first-zero _ _ (first-zero _ _ (sym look-number ∙ e) .1) .1) .0
+    verify-stops h = refused-is (r .number) (look-first h ∙ sym (look-number text r r-is)) h
 
   -- ---- tables of their lengths
 

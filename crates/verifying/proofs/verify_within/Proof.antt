@@ -13,10 +13,11 @@ use Rattle.protocol.specs.Settings.{settingsRefusal, cells}
 use Rattle.protocol.specs.Text.{Tables, fits}
 use Rattle.protocol.specs.Programs.{verifyReads}
 use Rattle.protocol.proofs.Inputs.{settings-valid}
+use Rattle.tables.proofs.Gathers.{look-settings, look-allowed}
 use Rattle.sizes.proofs.Limits.{degree-most, cells-most}
 use Rattle.reading.specs.Cut.{six}
 use Rattle.verifying.proofs.Checks.{Long}
-use Rattle.verifying.proofs.Verifies.{verify-stops, look-settings, look-allowed, lent-fitting}
+use Rattle.verifying.proofs.Verifies.{verify-stops, lent-fitting}
 use Rattle.verifying.proofs.verify_within.Statement.{statement}
 use Rattle.verifying.proofs.verify_within.Tie as tie
 

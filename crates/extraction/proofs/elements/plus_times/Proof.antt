@@ -3,15 +3,15 @@ use lib.IntN.{_+ℤ_, _*ℤ_}
 use mir.Facts.{toZ-ofZ}
 use mir.Syntax.{w64}
 use mir.Val.{SFits}
-use Rattle.extraction.proofs.Words.{fits}
+use Rattle.algebra.specs.Machine.{sfits-natAbs}
 use Rattle.extraction.proofs.elements.plus_times.Statement.{statement}
 use Rattle.extraction.proofs.elements.plus_times.Tie as tie
 
 product-fits : (c : tie.Start) → SFits w64 (c .args .c *ℤ c .args .y)
-product-fits c = fits _ (c .pre .product)
+product-fits c = sfits-natAbs _ (c .pre .product)
 
 sum-fits : (c : tie.Start) → SFits w64 (c .args .x +ℤ c .args .c *ℤ c .args .y)
-sum-fits c = fits _ (c .pre .total)
+sum-fits c = sfits-natAbs _ (c .pre .total)
 
 mul-result : tie.Need-mul-result
 mul-result c = simp (toZ-ofZ (c .fits .c), toZ-ofZ (c .fits .y)) (product-fits c)

@@ -1,22 +1,20 @@
 -- `gather`: a first look, the order of the lines, and the lengths of the lent tables.
-use mathlib.Core.Path.{_≡_, sym, ap, subst, _∙_}
+use mathlib.Core.Path.{_≡_, sym, ap, _∙_}
 use mathlib.Core.Bool.{Bool}
-use mathlib.Core.List.{List, []}
+use mathlib.Core.List.{List}
 use Prim.Native.Nat.{ℕ, _≤_}
 use native.Mathlib.Omega.{arith}
 use borrow.Author.Needs.{needs}
 use borrow.Author.Tests.{not-true, not-false}
-use Rattle.protocol.specs.declared.Settings.{Settings}
 use Rattle.protocol.specs.declared.Parts.{Parts}
 use Rattle.protocol.specs.Text.{linesOf, settingsIn, lookRefusal}
 use Rattle.protocol.proofs.Tests.{and-intro}
 use Rattle.protocol.proofs.Inputs.{settings-valid}
 use Rattle.protocol.proofs.Refusals.{and-fails-left, and-fails-right}
 use Rattle.shapes.specs.declared.Lengths.{Lengths}
-use Rattle.tables.specs.Scan.{settingsOf}
 use Rattle.shapes.specs.Parts.{lengthsFit}
 use Rattle.tables.specs.Stored.{inOrder}
-use Rattle.tables.proofs.Gathers.{looked, looked-settings, look-number, look-settings, gathered-look, gathered-refused, gathered-granted}
+use Rattle.tables.proofs.Gathers.{look-number, look-settings, look-allowed, gathered-look, gathered-refused, gathered-granted}
 use Rattle.tables.proofs.whole.gather.Statement.{statement}
 use Rattle.tables.proofs.whole.gather.Tie as tie
 
@@ -35,15 +33,13 @@ module _ (c : tie.Else2) where
   lengths = seen .before .before .before .args .lengths
 
   unrefused : lookRefusal text ≡ 0
-  unrefused = sym (look-number parts lengths text (seen .look .result) (seen .look .ensures) []) ∙ c .if2 .left
+  unrefused = sym (look-number text (seen .look .result) (seen .look .ensures)) ∙ c .if2 .left
 
   settings-are : seen .look .result .settings ≡ settingsIn (linesOf text)
-  settings-are = look-settings parts lengths text (seen .look .result) (seen .look .ensures) [] (c .if2 .left)
+  settings-are = look-settings text (seen .look .result) (seen .look .ensures) (c .if2 .left)
 
   shallow : seen .look .result .settings .depth ≤ 8
-  shallow =
-      let l = looked text unrefused in
-      subst (λ (S : Settings). S .depth ≤ 8) (sym (settings-are ∙ looked-settings text parts l)) (settings-valid (settingsOf (l .values)) (l .allowed) .depth-most)
+  shallow = settings-valid _ (look-allowed text (seen .look .result) (seen .look .ensures) (c .if2 .left)) .depth-most
 
 -- its lines
 module _ (c : tie.After-values) where
