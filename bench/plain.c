@@ -1,7 +1,7 @@
 /* The benchmark's C, in the verified library's way: products stay unreduced in 64 bits and are reduced once per coefficient, a negative coefficient takes
  * the row d places before, and four rows are added at a time. It tests its input.
  *
- * With BY_HAND it is as quick as we could make it: the innermost loop is written in vector instructions, and a round takes three inner products instead
+ * With BY_HAND it is as quick as we could make it: the innermost loop is in vector instructions, with degree 64 fixed, and a round takes three inner products instead
  * of four, as the two cross products come from one product of sums, less the outer ones. */
 #ifndef NAME
 #define NAME "C"
