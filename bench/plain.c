@@ -1,7 +1,7 @@
 /* The benchmark's C, in the verified library's way: products stay unreduced in 64 bits and are reduced once per coefficient, a negative coefficient takes
  * the row d places before, and four rows are added at a time. It tests its input.
  *
- * With BY_HAND it is as quick as we could make it: the innermost loop is written in vector instructions, and a round takes three inner products instead
+ * With BY_HAND it is as quick as we could make it: the innermost loop is in vector instructions, with degree 64 fixed, and a round takes three inner products instead
  * of four, as the two cross products come from one product of sums, less the outer ones. */
 #ifndef NAME
 #define NAME "C"
@@ -9,6 +9,9 @@
 #include "opening.h"
 #ifdef BY_HAND
 #include <immintrin.h>
+#define INLINE static inline __attribute__((always_inline))
+#else
+#define INLINE static
 #endif
 
 struct tables {
@@ -44,7 +47,7 @@ static uint64_t times(uint32_t m, uint64_t y) { return m * (y & UINT32_MAX); }
 #endif
 
 /* Adds m0*w0 + m1*w1 + m2*w2 + m3*w3 to the sums. */
-static void add_four(uint64_t *restrict sums, uint32_t d, uint32_t m0, const uint64_t *w0, uint32_t m1, const uint64_t *w1, uint32_t m2, const uint64_t *w2,
+INLINE void add_four(uint64_t *restrict sums, uint32_t d, uint32_t m0, const uint64_t *w0, uint32_t m1, const uint64_t *w1, uint32_t m2, const uint64_t *w2,
                      uint32_t m3, const uint64_t *w3)
 {
     uint32_t k = 0;
@@ -61,7 +64,7 @@ static void add_four(uint64_t *restrict sums, uint32_t d, uint32_t m0, const uin
 }
 
 /* Adds m*g to the sums; the coefficients of g are at most `top`, a multiple of q. */
-static void add_product(uint64_t *restrict sums, uint32_t d, const int32_t *m, const uint32_t *g, uint32_t top)
+INLINE void add_product(uint64_t *restrict sums, uint32_t d, const int32_t *m, const uint32_t *g, uint32_t top)
 {
     uint64_t window[3 * MOST];
     for (uint32_t k = 0; k < d; k++) {
@@ -86,10 +89,17 @@ static void add_product(uint64_t *restrict sums, uint32_t d, const int32_t *m, c
     }
 }
 
+/* By hand, the largest degree has loops of its own. */
+#ifdef BY_HAND
+#define ADD_PRODUCT(sums, d, m, g, top) ((d) == 64 ? add_product(sums, 64, m, g, top) : add_product(sums, d, m, g, top))
+#else
+#define ADD_PRODUCT add_product
+#endif
+
 static void add_products(uint64_t *sums, const struct shape *s, uint32_t d, size_t count, const int32_t *m, const uint32_t *g)
 {
     for (size_t i = 0; i < count; i++)
-        add_product(sums, d, m + i * d, g + i * d, s->q);
+        ADD_PRODUCT(sums, d, m + i * d, g + i * d, s->q);
 }
 
 static void reduced(const struct shape *s, uint32_t d, const uint64_t *sums, uint32_t *out)
@@ -127,7 +137,7 @@ static void cross_at(uint64_t *sums, struct tables *t, uint32_t d, size_t half)
             m[k] = m0[i + k] + m1[i + k];
             g[k] = g0[i + k] + g1[i + k];
         }
-        add_product(sums, d, m, g, 2 * t->shape.q);
+        ADD_PRODUCT(sums, d, m, g, 2 * t->shape.q);
     }
 }
 

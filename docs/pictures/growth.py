@@ -64,7 +64,7 @@ def draw(times):
         panels[2].curve(whole + checks, colour, checks)
         p.parts.append('<line x1="%d" y1="376" x2="%d" y2="376" stroke="%s" stroke-width="3"/>' % (70 + 80 * i, 90 + 80 * i, colour))
         p.text(96 + 80 * i, 380, 'd = %d' % d)
-    p.text(710, 380, 'open points: refused by 14 after the check of the whole tree', 11, SOFT)
+    p.text(640, 380, 'open points: refused by 14 after the check of the whole tree', 11, SOFT)
     p.save('growth.svg')
 
 
