@@ -4,7 +4,8 @@ use mathlib.Core.List.{List}
 use Prim.Native.Nat.{ℕ, _+_, _*_, _^_, _<_, _≤_}
 use native.Mathlib.Nat as Nat
 use native.Mathlib.Omega.{arith}
-use lib.IntN.{ℤ}
+use lib.IntN.{ℤ, pos, natAbs}
+use lib.ListN.{getD}
 use lib.Pow as Pow
 use Rattle.protocol.specs.declared.Settings.{Settings}
 use Rattle.protocol.specs.Settings.{cells}
@@ -13,7 +14,7 @@ use Rattle.protocol.specs.Inputs.{Valid}
 use Rattle.claims.proofs.Tables.{left-power, halfLeft-power, twice-power, left-inside}
 use Rattle.sizes.proofs.Limits.{degree-least, degree-most}
 use Rattle.refusals.proofs.Given.{SmallLeft, RoundGiven}
-use Rattle.prover.specs.Messages.{Room, Tables}
+use Rattle.prover.specs.Messages.{Room, Halved}
 
 module _ (S : Settings) (ok : Valid S) (t : ℕ) (l : t < S .depth) where
   abbrev half-cells : ℕ
@@ -34,16 +35,20 @@ module _ (S : Settings) (ok : Valid S) (t : ℕ) (l : t < S .depth) where
   pub left-room : (message : List ℤ) → SmallLeft S t message → Room (2 * half-cells) message
   left-room message small = record { each = λ j m. omega (arith, left-most, small j (omega (arith, left-halves))) }
 
-pub round-tables : (S : Settings) (t : ℕ) (key : List ℕ) (message : List ℤ) → RoundGiven S t key message → Tables (S .modulus) (S .degree) (2 * halfLeft S t) message key
+pub round-tables : (S : Settings) (t : ℕ) (key : List ℕ) (message : List ℤ) → RoundGiven S t key message → Halved (S .modulus) (S .degree) (halfLeft S t) message key
 round-tables S t key message g = record {
-  modulus = omega (arith, ok .modulus-least);
-  modulus-most = omega (arith, ok .modulus-most);
-  degree = omega (arith, degree-least S ok);
-  degree-most = degree-most S ok;
-  elements = omega (arith, half-most S ok t (g .turn));
-  message-long = omega (arith, same, halves-inside S ok t (g .turn), g .tables .message-long);
-  key-long = omega (arith, same, halves-inside S ok t (g .turn), g .tables .key-given .long);
-  message-small = λ j l. omega (arith, left-most S ok t (g .turn), g .small-left j (omega (arith, same, left-halves S ok t (g .turn))));
+  tables = record {
+    modulus = omega (arith, ok .modulus-least);
+    modulus-most = omega (arith, ok .modulus-most);
+    degree = omega (arith, degree-least S ok);
+    degree-most = degree-most S ok;
+    elements = omega (arith, half-most S ok t (g .turn));
+    message-long = omega (arith, same, halves-inside S ok t (g .turn), g .tables .message-long);
+    key-long = omega (arith, same, halves-inside S ok t (g .turn), g .tables .key-given .long);
+    message-small = λ j l. omega (arith, small j (omega (arith, same)));
+  };
+  message-half = small;
+  key-residues = λ j l. g .tables .key-given .each j (omega (arith, halves-inside S ok t (g .turn)));
 }
   where
     ok : Valid S
@@ -51,3 +56,6 @@ round-tables S t key message g = record {
 
     same : 2 * halfLeft S t * S .degree ≡ 2 * (halfLeft S t * S .degree)
     same = Nat.mul-assoc 2 (halfLeft S t) (S .degree)
+
+    small : (j : ℕ) → j < 2 * (halfLeft S t * S .degree) → natAbs (getD message j (pos 0)) ≤ 2 ^ 14
+    small j l = omega (arith, left-most S ok t (g .turn), g .small-left j (omega (arith, left-halves S ok t (g .turn))))

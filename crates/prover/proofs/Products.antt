@@ -1,5 +1,5 @@
 -- Inner products of two tables and of halves of them, the commitment and the round polynomial, from the sums that the code reduces.
-use mathlib.Core.Path.{_≡_, refl, sym, ap, ap₂, _∙_, subst}
+use mathlib.Core.Path.{_≡_, refl, sym, ap, _∙_, subst}
 use mathlib.Core.List.{List}
 use Prim.Native.Nat.{ℕ, _+_, _*_, _-_, _/_, _%_, _^_, _<_, _≤_}
 use native.Mathlib.Nat as Nat
@@ -10,7 +10,7 @@ use lib.Pow as Pow
 use lib.Seq.{getD-drop}
 use Rattle.protocol.specs.declared.Settings.{Settings}
 use Rattle.protocol.specs.Basic.{tabulate}
-use Rattle.protocol.specs.Element.{Element, modulo, plus, times, padded, reduced, signedAt, residueAt, zeros}
+use Rattle.protocol.specs.Element.{Element, modulo, times, padded, reduced, signedAt, residueAt, zeros}
 use Rattle.protocol.specs.Settings.{size, cells, half}
 use Rattle.protocol.specs.Opening.{inner, second, cross, left, halfLeft, commitment, roundElement}
 use Rattle.protocol.specs.Calls.{polynomial}
@@ -23,7 +23,7 @@ use Rattle.arithmetic.specs.Products.{reducedSums}
 use Rattle.arithmetic.proofs.Folds.{tail-all}
 use Rattle.arithmetic.proofs.Padding.{padded-at}
 use Rattle.refusals.proofs.Given.{CommitGiven}
-use Rattle.prover.specs.Messages.{Small, Tables}
+use Rattle.prover.specs.Messages.{Tables}
 use Rattle.prover.specs.Sums.{innerSums, scaled}
 use Rattle.prover.proofs.Sums.{SumIs, sum-none, sum-inner, sums-reduced, most}
 
@@ -68,7 +68,7 @@ module _ (q d h : ℕ) (m : List ℤ) (G : List ℕ) (t : Tables q d (2 * h) m G
     elements = omega (arith, t .elements);
     message-long = omega (arith, length-drop a m, t .message-long, twice);
     key-long = omega (arith, length-drop b G, t .key-long, twice);
-    message-small = λ j l. subst (λ z. natAbs z ≤ 2 ^ 14) (sym (getD-drop a m j (pos 0))) (t .message-small (a + j) (omega (arith, twice)));
+    message-small = λ j l. subst (λ z. natAbs z ≤ 2 ^ 15) (sym (getD-drop a m j (pos 0))) (t .message-small (a + j) (omega (arith, twice)));
   }
 
   -- as the code hands the second halves on
@@ -80,12 +80,6 @@ module _ (q d h : ℕ) (m : List ℤ) (G : List ℕ) (t : Tables q d (2 * h) m G
 
   pub first-halves : Tables q d h m G
   first-halves = halves 0 0 (omega arith) (omega arith)
-
-  pub second-of-key : Tables q d h m G1
-  second-of-key = subst (λ G′. Tables q d h m G′) (sym (tail-all (h * d) G)) (halves 0 (h * d) (omega arith) (Nat.le-refl _))
-
-  pub second-of-message : Tables q d h m1 G
-  second-of-message = subst (λ m′. Tables q d h m′ G) (sym (tail-all (h * d) m)) (halves (h * d) 0 (Nat.le-refl _) (omega arith))
 
   pub second-halves : Tables q d h m1 G1
   second-halves = subst (λ m′. Tables q d h m′ G1) (sym (tail-all (h * d) m)) (subst (λ G′. Tables q d h (drop (h * d) m) G′) (sym (tail-all (h * d) G)) (halves (h * d) (h * d) (Nat.le-refl _) (Nat.le-refl _)))
@@ -104,14 +98,6 @@ module _ (q d h : ℕ) (m : List ℤ) (G : List ℕ) (t : Tables q d (2 * h) m G
   pub cross-first : inner d h (signedAt d m) (residueAt d G) ≡ crossing 0
   unfolding cross
   cross-first = refl
-
-  pub cross-middle : reducedSums q d (innerSums q d m1 G h (innerSums q d m G1 h (zeros 64))) ≡ padded d (reduced q d (crossing 1))
-  unfolding cross plus
-  cross-middle = sums-reduced q d _ (0 + h * most + h * most) (crossing 1) (λ k l. subst (SumIs q k _ _) (both k)
-      (sum-next q d h m1 G second-of-message k l _ (0 + h * most) _ (omega (arith, t .elements)) (sum-next q d h m G1 second-of-key k l (zeros 64) 0 (pos 0) (omega arith) (sum-none q k))))
-    where
-      both : (k : ℕ) → (pos 0 +ℤ inner d h (signedAt d m) (residueAt d G1) k) +ℤ inner d h (signedAt d m1) (residueAt d G) k ≡ inner d h (signedAt d m) (second h (residueAt d G)) k +ℤ inner d h (second h (signedAt d m)) (residueAt d G) k
-      both k = ap₂ _+ℤ_ (+ℤ-idl _ ∙ inner-same d h (t .degree) (λ i l j e. refl) (λ i l. second-key i) k) (inner-same d h (t .degree) (λ i l. second-message i) (λ i l j e. refl) k)
 
   pub cross-last : (s : ℕ) → scaled q d s (inner d h (signedAt d m1) (residueAt d G1)) ≡ scaled q d s (crossing 2)
   unfolding cross scaled reduced times

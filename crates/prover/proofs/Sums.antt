@@ -36,7 +36,7 @@ inner-more q d m G s i f x s′ a b c = (λ j. addRows d (a j) (b j) d (c j)) �
 -- ---- one product
 
 abbrev pub most : ℕ
-most = 64 * (2 ^ 14 * 2 ^ 31)
+most = 64 * (2 ^ 15 * 2 ^ 31)
 
 total-most : (n : ℕ) (f : ℕ → ℕ) (b : ℕ) → ((j : ℕ) → j < n → f j ≤ b) → total n f ≤ n * b
 unfolding total
@@ -55,7 +55,7 @@ module _ (q d : ℕ) (p : 0 < q) (few : q ≤ 2 ^ 31) (pd : 0 < d) (d64 : d ≤ 
   product-most : (f : List ℤ) (g : List ℕ) → Small d f → total d (term d f (extension q d g) k) ≤ most
   unfolding term
   product-most f g small =
-      Nat.le-trans (total-most d (term d f (extension q d g) k) (2 ^ 14 * 2 ^ 31) (λ j h. Nat.mul-le-mul (small j h) (Nat.le-trans (Nat.le-of-lt (extension-below q d p pd g _)) few))) (Nat.mul-le-mul-right (2 ^ 14 * 2 ^ 31) d64)
+      Nat.le-trans (total-most d (term d f (extension q d g) k) (2 ^ 15 * 2 ^ 31) (λ j h. Nat.mul-le-mul (small j h) (Nat.le-trans (Nat.le-of-lt (extension-below q d p pd g _)) few))) (Nat.mul-le-mul-right (2 ^ 15 * 2 ^ 31) d64)
 
   sum-product : (f : List ℤ) (g s : List ℕ) (b : ℕ) (z : ℤ) → Small d f → b + most < 2 ^ 64 → SumIs q k s b z → SumIs q k (addRows d f (extension q d g) d s) (b + most) (z +ℤ product d (signed f) (residue g) k)
   sum-product f g s b z small room is = record {
@@ -74,7 +74,7 @@ module _ (q d : ℕ) (p : 0 < q) (few : q ≤ 2 ^ 31) (pd : 0 < d) (d64 : d ≤ 
     element-product n = product-same pd (λ j h. getD-drop (n * d) m j (pos 0)) (λ j h. ap pos (getD-drop (n * d) G j 0)) k
 
     element-small : (n h : ℕ) → n < h → Small (h * d) m → Small d (drop (n * d) m)
-    element-small n h a small j i = subst (λ z. natAbs z ≤ 2 ^ 14) (sym (getD-drop (n * d) m j (pos 0))) (small (n * d + j) (omega (arith, Nat.mul-le-mul-right d a, Nat.suc-mul n d)))
+    element-small n h a small j i = subst (λ z. natAbs z ≤ 2 ^ 15) (sym (getD-drop (n * d) m j (pos 0))) (small (n * d + j) (omega (arith, Nat.mul-le-mul-right d a, Nat.suc-mul n d)))
 
     pub sum-inner : (n : ℕ) (s : List ℕ) (b : ℕ) (z : ℤ) → Small (n * d) m → b + n * most < 2 ^ 64 → SumIs q k s b z
         → SumIs q k (innerSums q d m G n s) (b + n * most) (z +ℤ inner d n (signedAt d m) (residueAt d G) k)

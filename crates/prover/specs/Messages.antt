@@ -4,6 +4,7 @@
 --   Room n l           the first n numbers of l are small enough that the sum of two of them is a signed number of 32 bits
 --   Small n l          they are small enough for inner products
 --   Tables q d n ..    both have n elements, for inner products modulo q
+--   Halved q d h ..    both have two halves of h elements, for inner products of the halves' sums
 use mathlib.Core.List.{List}
 use Prim.Native.Nat.{ℕ, _+_, _*_, _^_, _<_, _≤_}
 use lib.IntN.{ℤ, pos, natAbs}
@@ -17,7 +18,7 @@ pub record Room (n : ℕ) (l : List ℤ) : Type 0 where
   pub each : (j : ℕ) → j < n → natAbs (getD l j (pos 0)) < 2 ^ 30
 
 abbrev pub Small : ℕ → List ℤ → Type 0
-Small n l = (j : ℕ) → j < n → natAbs (getD l j (pos 0)) ≤ 2 ^ 14
+Small n l = (j : ℕ) → j < n → natAbs (getD l j (pos 0)) ≤ 2 ^ 15
 
 pub record Tables (q d n : ℕ) (message : List ℤ) (key : List ℕ) : Type 0 where
   pub modulus : 0 < q
@@ -28,3 +29,8 @@ pub record Tables (q d n : ℕ) (message : List ℤ) (key : List ℕ) : Type 0 w
   pub message-long : n * d ≤ length message
   pub key-long : n * d ≤ length key
   pub message-small : Small (n * d) message
+
+pub record Halved (q d h : ℕ) (message : List ℤ) (key : List ℕ) : Type 0 where
+  pub tables : Tables q d (2 * h) message key
+  pub message-half : (j : ℕ) → j < 2 * (h * d) → natAbs (getD message j (pos 0)) ≤ 2 ^ 14
+  pub key-residues : (j : ℕ) → j < 2 * (h * d) → getD key j 0 < q

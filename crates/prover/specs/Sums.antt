@@ -2,11 +2,13 @@
 --
 --   innerSums q d m G n s   the sums s with the products of the first n elements of m and G added
 --   scaled q d s a          s·a modulo q, an element that is passed by value
+--   mixed d h m G           ⟨m0 + m1, G0 + G1⟩, the halves having h elements
 use mathlib.Core.List.{List}
 use Prim.Native.Nat.{ℕ, zero, suc, _*_}
 use lib.IntN.{ℤ, pos}
 use lib.ListN.{drop}
-use Rattle.protocol.specs.Element.{Element, times, reduced, padded}
+use Rattle.protocol.specs.Element.{Element, plus, times, reduced, padded}
+use Rattle.protocol.specs.Opening.{inner, second}
 use Rattle.arithmetic.specs.Products.{extension, addRows}
 
 unfoldable pub innerSums : ℕ → ℕ → List ℤ → List ℕ → ℕ → List ℕ → List ℕ
@@ -15,3 +17,6 @@ innerSums q d m G (suc n) s = addRows d (drop (n * d) m) (extension q d (drop (n
 
 unfoldable pub scaled : ℕ → ℕ → ℕ → Element → List ℕ
 scaled q d s a = padded d (reduced q d (times (pos s) a))
+
+unfoldable pub mixed : ℕ → ℕ → (ℕ → Element) → (ℕ → Element) → Element
+mixed d h m G = inner d h (λ i. plus (m i) (second h m i)) (λ i. plus (G i) (second h G i))

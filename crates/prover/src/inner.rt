@@ -1,13 +1,14 @@
 // Inner products of messages and keys. Products are summed as they are and reduced once.
+use crate::totals;
 use arithmetic::products;
 ghost use mathlib.Core.Path.{_≡_};
-ghost use Prim.Native.Nat.{_+_, _*_, _%_, _<_, _≤_};
+ghost use Prim.Native.Nat.{_+_, _*_, _-_, _%_, _<_, _≤_};
 ghost use lib.ListN.{length, getD};
 ghost use Rattle.protocol.specs.Basic.{tabulate};
 ghost use Rattle.protocol.specs.Element.{padded, signedAt, residueAt};
 ghost use Rattle.protocol.specs.Opening.{cross};
 ghost use Rattle.protocol.specs.Opening as opening;
-ghost use Rattle.prover.specs.Messages.{Tables};
+ghost use Rattle.prover.specs.Messages.{Tables, Halved};
 ghost use Rattle.prover.specs.Sums.{innerSums};
 ghost use Rattle.prover.specs.Sums as sums;
 
@@ -60,26 +61,52 @@ fn straight(q: u32, d: u32, h: u32, s: u32, message: &[i32], key: &[u32]) -> [u3
     scaled(q, d, s, products::reduced_sums(q, d, &sums))
 }
 
-// s·(⟨m0, G1⟩ + ⟨m1, G0⟩) modulo q, the halves having h elements
-fn crossed(q: u32, d: u32, h: u32, s: u32, message: &[i32], key: &[u32]) -> [u32; 64]
-    requires { ⌜ Tables q d (2 * h) (now message) (now key) ⌝ }
-    ensures { λ r. ⌜ r ≡ sums.scaled q d s (cross d h (signedAt d (now (message .entry))) (residueAt d (now (key .entry))) 1) ⌝ }
+// s·⟨m0 + m1, G0 + G1⟩ modulo q, the halves having h elements
+fn mixed(q: u32, d: u32, h: u32, s: u32, message: &[i32], key: &[u32]) -> [u32; 64]
+    requires { ⌜ Halved q d h (now message) (now key) ⌝ }
+    ensures { λ r. ⌜ r ≡ sums.scaled q d s (sums.mixed d h (signedAt d (now (message .entry))) (residueAt d (now (key .entry)))) ⌝ }
 {
     let half = (h as usize) * (d as usize);
-    let mut sums = [0u64; 64];
-    add_inner(q, d, h, message, &key[half..], &mut sums);
-    add_inner(q, d, h, &message[half..], key, &mut sums);
-    scaled(q, d, s, products::reduced_sums(q, d, &sums))
+    let mut m = [0i32; 8192];
+    let mut g = [0u32; 8192];
+    totals::message_sums(half, message, &mut m);
+    totals::key_sums(q, half, key, &mut g);
+    straight(q, d, h, s, &m, &g)
 }
 
-// The three elements of a round polynomial, s being the power of half.
+// x − a − b modulo q
+fn less(q: u32, x: u32, a: u32, b: u32) -> u32
+    requires { ⌜ 0 < q ⌝ }
+    ensures { λ r. ⌜ r ≡ (x + (q - a % q) + (q - b % q)) % q ⌝ }
+{
+    (((x as u64) + ((q - a % q) as u64) + ((q - b % q) as u64)) % (q as u64)) as u32
+}
+
+// The same for elements.
+fn difference(q: u32, d: u32, x: [u32; 64], a: [u32; 64], b: [u32; 64]) -> [u32; 64]
+    requires { ⌜ (0 < q) × (d ≤ 64) ⌝ }
+    ensures { λ r. ⌜ r ≡ padded d (tabulate d (λ k. (getD x k 0 + (q - getD a k 0 % q) + (q - getD b k 0 % q)) % q)) ⌝ }
+{
+    let mut r = [0u32; 64];
+    let n = d as usize;
+    let mut k: usize = 0;
+    while k < n {
+        r[k] = less(q, x[k], a[k], b[k]);
+        k += 1;
+    }
+    r
+}
+
+// The three elements of a round polynomial, s being the power of half. The middle one is what the product of the sums has more than the other two, so that
+// a round takes three inner products.
 pub fn polynomial(q: u32, d: u32, h: u32, s: u32, message: &[i32], key: &[u32]) -> [[u32; 64]; 3]
-    requires { ⌜ Tables q d (2 * h) (now message) (now key) ⌝ }
+    requires { ⌜ Halved q d h (now message) (now key) ⌝ }
     ensures { λ r. ⌜ r ≡ tabulate 3 (λ j. sums.scaled q d s (cross d h (signedAt d (now (message .entry))) (residueAt d (now (key .entry))) j)) ⌝ }
 {
     let half = (h as usize) * (d as usize);
     let c0 = straight(q, d, h, s, message, key);
-    let c1 = crossed(q, d, h, s, message, key);
     let c2 = straight(q, d, h, s, &message[half..], &key[half..]);
+    let x = mixed(q, d, h, s, message, key);
+    let c1 = difference(q, d, x, c0, c2);
     [c0, c1, c2]
 }

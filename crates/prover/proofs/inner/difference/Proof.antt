@@ -1,0 +1,96 @@
+-- The loop keeps: the places below k are filled, the others 0.
+use mathlib.Core.Path.{_≡_}
+use Prim.Native.Nat.{_+_, _-_, _%_, _≤_}
+use native.Mathlib.Omega.{arith}
+use lib.ListN.{getD}
+use Rattle.protocol.specs.Element.{zeros}
+use Rattle.arithmetic.proofs.Fill.{filled, fill-none, fill-more, element-done}
+use borrow.Author.Needs.{needs}
+use Rattle.prover.proofs.inner.difference.Statement.{statement}
+use Rattle.prover.proofs.inner.difference.Tie as tie
+use Rattle.prover.proofs.inner.difference.Reads as reads
+use Rattle.prover.proofs.inner.difference.Lts as lts
+use Rattle.prover.proofs.inner.less.Reads as less-reads
+
+abbrev Inv-loop : tie.InvT-loop
+Inv-loop q d x a b r₀ n k₀ r k = (k ≤ d) × (r ≡ filled (λ j. (getD x j 0 + (q - getD a j 0 % q) + (q - getD b j 0 % q)) % q) k (zeros 64))
+
+abbrev μ-loop : tie.MeasureT-loop
+μ-loop q d x a b r₀ n k₀ r k = d - k
+
+-- src/inner.rt:93:5
+loop-holds : tie.Need-loop-holds Inv-loop μ-loop
+loop-holds c = (omega arith, fill-none _ _)
+
+-- src/inner.rt:94:24
+mul-less : tie.Need-mul-less Inv-loop μ-loop
+mul-less c = search needs
+
+-- src/inner.rt:94:24
+array-read-less : tie.Need-array-read-less Inv-loop μ-loop
+array-read-less c = search needs
+
+-- src/inner.rt:94:30
+mul-less-2 : tie.Need-mul-less-2 Inv-loop μ-loop
+mul-less-2 c = search needs
+
+-- src/inner.rt:94:30
+array-read-less-2 : tie.Need-array-read-less-2 Inv-loop μ-loop
+array-read-less-2 c = search needs
+
+-- src/inner.rt:94:36
+mul-less-3 : tie.Need-mul-less-3 Inv-loop μ-loop
+mul-less-3 c = search needs
+
+-- src/inner.rt:94:36
+array-read-less-3 : tie.Need-array-read-less-3 Inv-loop μ-loop
+array-read-less-3 c = search needs
+
+-- src/inner.rt:94:16
+less-requires : tie.Need-less-requires Inv-loop μ-loop
+less-requires c κs = search needs
+
+-- src/inner.rt:94:9
+mul-r : tie.Need-mul-r Inv-loop μ-loop
+mul-r c = search needs
+
+-- src/inner.rt:94:9
+array-write-r : tie.Need-array-write-r Inv-loop μ-loop
+array-write-r c = search needs
+
+-- src/inner.rt:95:9
+add-k : tie.Need-add-k Inv-loop μ-loop
+add-k c = search needs
+
+-- src/inner.rt:93:5
+loop-less : tie.Need-loop-less Inv-loop μ-loop
+loop-less c = search needs
+
+-- src/inner.rt:93:5
+loop-again : tie.Need-loop-again Inv-loop μ-loop
+loop-again c = let l = c .before .before .loop in (omega arith, fill-more 64 _ (l .k) _ (l .r) (l .inv .1) (omega arith) (c .less .ensures))
+
+-- src/inner.rt:86:1
+returns : tie.Need-returns Inv-loop μ-loop
+returns c = let l = c .before .loop in element-done _ (l .k) _ (l .r) (l .inv .1) (omega arith)
+
+pub difference-spec : {M : Type 1} → statement M
+difference-spec =
+    tie.close
+    (tie.spec
+    Inv-loop
+    μ-loop
+    loop-holds
+    mul-less
+    array-read-less
+    mul-less-2
+    array-read-less-2
+    mul-less-3
+    array-read-less-3
+    less-requires
+    mul-r
+    array-write-r
+    add-k
+    loop-less
+    loop-again
+    returns)
