@@ -30,9 +30,10 @@ linesRefusal P n text = first (lookRefusal text ∷ unless 7 (inOrder P text && 
 abbrev pub First : List ℤ → List ℤ → Type 0
 First vs values = take (length vs) values ≡ vs
 
--- of a text whose settings are not refused
+-- lines that were followed to the text's end leave nothing to refuse by 1 to 6; the answer for a text that is refused by them is no
 pub record Followed (P : Parts) (text : List ℕ) (r : Bool) (values : List ℤ) : Type 0 where
-  pub answer : r ≡ inOrder P text
+  pub unrefused : r ≡ true → lookRefusal text ≡ 0
+  pub answer : lookRefusal text ≡ 0 → r ≡ inOrder P text
   pub stored : r ≡ true → First (columnsIn (linesOf text)) values
 
 pub record Gathered (P : Parts) (n : Lengths) (text : List ℕ) (r : Loaded) (values : List ℤ) : Type 0 where
