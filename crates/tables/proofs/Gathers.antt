@@ -5,8 +5,10 @@
 --   Looked, looked       what a text is whose settings are not refused
 --   order-..             are its lines the required ones, by what was read of them
 --   values-present       lines at wanted spots up to the end are of the stated shape
+--   header-settings      the settings that it begins with are those of its lines
 --   followed-..          what the reader of the lines behind the settings promises
 --   look-..              what the answer of a first look says
+--   begun-..             what the reader of the settings alone promises
 --   gathered-..          what the reader of all values promises
 use mathlib.Core.Path.{_≡_, refl, sym, ap, ap₂, subst, _∙_}
 use mathlib.Core.Bool.{Bool, true, false, _&&_, false≢true}
@@ -34,7 +36,7 @@ use Rattle.tables.specs.Parts.{partSpots, Took}
 use Rattle.tables.specs.declared.header.Header.{Header}
 use Rattle.tables.specs.declared.parts.Taken.{Taken}
 use Rattle.shapes.specs.declared.Lengths.{Lengths}
-use Rattle.tables.specs.Stored.{columnsIn, inOrder, linesRefusal, First, Followed, Gathered}
+use Rattle.tables.specs.Stored.{columnsIn, inOrder, linesRefusal, First, Begun, Followed, Gathered}
 use Rattle.tables.proofs.Counts.{suffix-length}
 use Rattle.tables.proofs.Rows.{all-end, all-next, all-none}
 use Rattle.tables.proofs.Values.{same-spot}
@@ -229,8 +231,8 @@ spots-values : (ls : List Line) → length (spotsOf ls) ≡ length (valuesOf ls)
 unfolding spotsOf valuesOf
 spots-values ls = length-map ls _ ∙ sym (length-map ls _)
 
--- the lines behind the settings of a text that is not refused, read from the place that the reader of the settings gave
-module _ (text : List ℕ) (P : Parts) (l : Looked text) (h : Header) (h-is : h ≡ headerAnswer text (readSettings text)) where
+-- what the reader of the settings gives for a text that is not refused
+module _ (text : List ℕ) (l : Looked text) (h : Header) (h-is : h ≡ headerAnswer text (readSettings text)) where
   opened : h ≡ record { found = true; settings = settingsOf (l .values); next = length text - length (l .rest) }
   unfolding headerAnswer
   opened = h-is ∙ ap (headerAnswer text) (l .header-is)
@@ -238,15 +240,22 @@ module _ (text : List ℕ) (P : Parts) (l : Looked text) (h : Header) (h-is : h 
   opened-settings : h .settings ≡ settingsOf (l .values)
   opened-settings = ap (λ x. x .settings) opened
 
+pub header-settings : (text : List ℕ) (h : Header) → h ≡ headerAnswer text (readSettings text) → lookRefusal text ≡ 0 → settingsIn (linesOf text) ≡ h .settings
+header-settings text h h-is e =
+    let l = looked text e in
+    settled-settings text (l .values) (l .rest) (l .begins) (l .more) (l .more-is) ∙ sym (opened-settings text l h h-is)
+
+-- the lines behind the settings, read from the place that it gave
+module _ (text : List ℕ) (P : Parts) (l : Looked text) (h : Header) (h-is : h ≡ headerAnswer text (readSettings text)) where
   from : drop (h .next) text ≡ l .rest
-  from = ap (λ x. drop (x .next) text) opened ∙ l .begins .place-is
+  from = ap (λ x. drop (x .next) text) (opened text l h h-is) ∙ l .begins .place-is
 
   abbrev wanted-spots : List Spot
   wanted-spots = partSpots (settingsOf (l .values)) P
 
   module _ (r : Taken) (values : List ℤ) (t : Took text (h .next) (partSpots (h .settings) P) r values) where
     took : Took text (h .next) wanted-spots r values
-    took = subst (λ S. Took text (h .next) (partSpots S P) r values) opened-settings t
+    took = subst (λ S. Took text (h .next) (partSpots S P) r values) (opened-settings text l h h-is) t
 
     missed-order : r .found ≡ false → false ≡ inOrder P text
     missed-order e = sym (looked-order text P l
@@ -283,9 +292,6 @@ values-present ss bs vs (b ∷ cs) e h = absurd (omega arith)
 
 -- the reader of the lines behind the settings, by the answer of the reader of the settings
 module _ (text : List ℕ) (P : Parts) (h : Header) (h-is : h ≡ headerAnswer text (readSettings text)) where
-  pub followed-settings : lookRefusal text ≡ 0 → settingsIn (linesOf text) ≡ h .settings
-  followed-settings e = let l = looked text e in looked-settings text P l ∙ sym (opened-settings text P l h h-is)
-
   module _ (values : List ℤ) where
     refused-before : (lookRefusal text ≡ 0 → ⊥) → Followed P text false values
     refused-before n = record { unrefused = λ f. absurd (false≢true f); answer = λ e. absurd (n e); stored = λ f. absurd (false≢true f) }
@@ -294,10 +300,10 @@ module _ (text : List ℕ) (P : Parts) (h : Header) (h-is : h ≡ headerAnswer t
     followed-long n = refused-before (λ e. absurd (omega (arith, looked text e .short)))
 
     pub followed-unbegun : h .found ≡ false → Followed P text false values
-    followed-unbegun f = refused-before (λ e. false≢true (sym f ∙ ap (λ x. x .found) (opened text P (looked text e) h h-is)))
+    followed-unbegun f = refused-before (λ e. false≢true (sym f ∙ ap (λ x. x .found) (opened text (looked text e) h h-is)))
 
     pub followed-disallowed : (settingsRefusal (h .settings) ≡ 0 → ⊥) → Followed P text false values
-    followed-disallowed n = refused-before (λ e. n (ap settingsRefusal (opened-settings text P (looked text e) h h-is) ∙ looked text e .allowed))
+    followed-disallowed n = refused-before (λ e. n (ap settingsRefusal (opened-settings text (looked text e) h h-is) ∙ looked text e .allowed))
 
     module _ (r : Taken) (t : Took text (h .next) (partSpots (h .settings) P) r values) where
       pub followed-missed : r .found ≡ false → Followed P text false values
@@ -341,6 +347,18 @@ module _ (text : List ℕ) (r : Loaded) (r-is : r ≡ lookAnswer text) where
     pub look-allowed : settingsRefusal (r .settings) ≡ 0
     unfolding lookRefusal
     look-allowed = ap settingsRefusal look-settings ∙ first-zero _ _ (first-zero _ _ (first-zero _ _ (sym look-number ∙ e) .1) .1) .0
+
+-- the settings alone
+module _ (text : List ℕ) where
+  pub begun-looked : (r : Loaded) → r ≡ lookAnswer text → Begun text r
+  begun-looked r r-is = record {
+    refused = λ _. r-is;
+    allowed = look-allowed text r r-is;
+    settings-are = λ e. look-settings text r r-is (look-number text r r-is ∙ e);
+  }
+
+  pub begun-allowed : (h : Header) → h ≡ headerAnswer text (readSettings text) → settingsRefusal (h .settings) ≡ 0 → Begun text (record { number = 0; settings = h .settings })
+  begun-allowed h h-is e = record { refused = λ n. absurd (n refl); allowed = λ _. e; settings-are = λ l. sym (header-settings text h h-is l) }
 
 -- refusals 1 to 7, after a first look
 module _ (P : Parts) (n : Lengths) (text : List ℕ) (r : Loaded) (r-is : r ≡ lookAnswer text) (values : List ℤ) where

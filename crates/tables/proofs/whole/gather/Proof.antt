@@ -17,7 +17,7 @@ use Rattle.shapes.specs.Parts.{lengthsFit}
 use Rattle.tables.specs.declared.header.Header.{Header}
 use Rattle.tables.specs.Stored.{inOrder}
 use Rattle.tables.proofs.Looks.{loaded-granted}
-use Rattle.tables.proofs.Gathers.{followed-settings, look-number, look-allowed, gathered-look, gathered-refused, gathered-granted}
+use Rattle.tables.proofs.Gathers.{header-settings, look-number, look-allowed, gathered-look, gathered-refused, gathered-granted}
 use Rattle.tables.proofs.whole.gather.Statement.{statement}
 use Rattle.tables.proofs.whole.gather.Tie as tie
 
@@ -53,7 +53,7 @@ module _ (c : tie.After-values) where
     unrefused = c .before .follow .ensures .unrefused found
 
     settings-are : settingsIn (linesOf text) ≡ header .settings
-    settings-are = followed-settings text parts header (begun .read-header .ensures) unrefused
+    settings-are = header-settings text header (begun .read-header .ensures) unrefused
 
     looks : answer ≡ lookAnswer text
     unfolding lookAnswer
