@@ -7,7 +7,7 @@ ghost use mathlib.Core.Bool.{true};
 ghost use mathlib.Core.List.{[]};
 ghost use Prim.Native.Nat.{_*_, _≤_};
 ghost use lib.ListN.{length};
-ghost use Rattle.protocol.specs.Text.{fits, linesOf, settingsIn};
+ghost use Rattle.protocol.specs.Text.{fits, linesOf, settingsIn, lookRefusal};
 ghost use Rattle.protocol.specs.Programs.{proveReads, provePrints};
 ghost use Rattle.protocol.specs.Promises.{Proved};
 ghost use Rattle.reading.specs.Cut.{six};
@@ -71,7 +71,7 @@ fn print_opening(
     )
 }
 
-// The call with tables of exactly their lengths. The tables of parts that are not read have length 0.
+// The call with tables of exactly their lengths, where a first look refuses nothing. The tables of parts that are not read have length 0.
 fn prove_in(
     text: &[u8],
     key: &mut [u32],
@@ -80,8 +80,8 @@ fn prove_in(
     rounds: &mut [u32],
     out: &mut [u8],
 ) -> Written
-    requires { ⌜ fits (settingsIn (linesOf (now text))) proveReads (six (now key) (now message) [] [] (now challenges) []) ≡ true ⌝ }
-    requires { ⌜ length (now rounds) ≡ 3 * settingsIn (linesOf (now text)) .depth * settingsIn (linesOf (now text)) .degree ⌝ }
+    requires { ⌜ (lookRefusal (now text) ≡ 0 → fits (settingsIn (linesOf (now text))) proveReads (six (now key) (now message) [] [] (now challenges) []) ≡ true) ⌝ }
+    requires { ⌜ (lookRefusal (now text) ≡ 0 → length (now rounds) ≡ 3 * settingsIn (linesOf (now text)) .depth * settingsIn (linesOf (now text)) .degree) ⌝ }
     ensures { λ r. ⌜ Proved (now (text .entry)) (now (out .entry)) r (now (out .exit)) ⌝ }
 {
     let mut no_commitment = [0u32; 1];
@@ -116,7 +116,7 @@ fn prove_within(
     requires { ⌜ (16384 ≤ length (now key)) × (16384 ≤ length (now message)) × (8 ≤ length (now challenges)) × (1536 ≤ length (now rounds)) ⌝ }
     ensures { λ r. ⌜ Proved (now (text .entry)) (now (out .entry)) r (now (out .exit)) ⌝ }
 {
-    let looked = tables::look(text);
+    let looked = tables::allowed_settings(text);
     let number = looked.number;
     if number != 0 {
         return Written { number, length: 0 };

@@ -4,7 +4,11 @@
 --   columns-behind       the values of parts 1 to 6 are those of the lines behind the settings
 --   Looked, looked       what a text is whose settings are not refused
 --   order-..             are its lines the required ones, by what was read of them
+--   values-present       lines at wanted spots up to the end are of the stated shape
+--   header-settings      the settings that it begins with are those of its lines
+--   followed-..          what the reader of the lines behind the settings promises
 --   look-..              what the answer of a first look says
+--   begun-..             what the reader of the settings alone promises
 --   gathered-..          what the reader of all values promises
 use mathlib.Core.Path.{_≡_, refl, sym, ap, ap₂, subst, _∙_}
 use mathlib.Core.Bool.{Bool, true, false, _&&_, false≢true}
@@ -32,13 +36,13 @@ use Rattle.tables.specs.Parts.{partSpots, Took}
 use Rattle.tables.specs.declared.header.Header.{Header}
 use Rattle.tables.specs.declared.parts.Taken.{Taken}
 use Rattle.shapes.specs.declared.Lengths.{Lengths}
-use Rattle.tables.specs.Stored.{columnsIn, inOrder, linesRefusal, First, Followed, Gathered}
+use Rattle.tables.specs.Stored.{columnsIn, inOrder, linesRefusal, First, Begun, Followed, Gathered}
 use Rattle.tables.proofs.Counts.{suffix-length}
 use Rattle.tables.proofs.Rows.{all-end, all-next, all-none}
 use Rattle.tables.proofs.Values.{same-spot}
 use Rattle.tables.proofs.Cells.{taken-missed, taken-found}
 use Rattle.tables.proofs.Follow.{same-spots-self, spots-same, lines-before, values-lines, values-elsewhere}
-use Rattle.tables.proofs.Looks.{settingsSpots, first-pass, first-only, spots-append, values-append, Settled, settled, settled-lines, settled-settings, settled-look, look-missing, loaded-refused}
+use Rattle.tables.proofs.Looks.{settingsSpots, first-pass, first-only, spots-append, values-append, Settled, settled, settled-lines, settled-settings, settled-look, look-missing, loaded-refused, header-found}
 use Rattle.tables.proofs.Wants.{wanted-is}
 
 -- ---- values by parts
@@ -227,51 +231,106 @@ spots-values : (ls : List Line) → length (spotsOf ls) ≡ length (valuesOf ls)
 unfolding spotsOf valuesOf
 spots-values ls = length-map ls _ ∙ sym (length-map ls _)
 
--- the lines behind the settings of a text, read from the place that the reader of the settings gave
-module _ (text : List ℕ) (P : Parts) (l : Looked text) (h : Header) (h-is : h ≡ headerAnswer text (readSettings text)) where
+-- what the reader of the settings gives for a text that is not refused
+module _ (text : List ℕ) (l : Looked text) (h : Header) (h-is : h ≡ headerAnswer text (readSettings text)) where
   opened : h ≡ record { found = true; settings = settingsOf (l .values); next = length text - length (l .rest) }
   unfolding headerAnswer
   opened = h-is ∙ ap (headerAnswer text) (l .header-is)
 
-  pub followed-settings : h .settings ≡ settingsOf (l .values)
-  followed-settings = ap (λ x. x .settings) opened
+  opened-settings : h .settings ≡ settingsOf (l .values)
+  opened-settings = ap (λ x. x .settings) opened
 
-  pub followed-next : h .next ≤ length text
-  followed-next = omega (arith, ap (λ x. x .next) opened)
+pub header-settings : (text : List ℕ) (h : Header) → h ≡ headerAnswer text (readSettings text) → lookRefusal text ≡ 0 → settingsIn (linesOf text) ≡ h .settings
+header-settings text h h-is e =
+    let l = looked text e in
+    settled-settings text (l .values) (l .rest) (l .begins) (l .more) (l .more-is) ∙ sym (opened-settings text l h h-is)
 
+-- the lines behind the settings, read from the place that it gave
+module _ (text : List ℕ) (P : Parts) (l : Looked text) (h : Header) (h-is : h ≡ headerAnswer text (readSettings text)) where
   from : drop (h .next) text ≡ l .rest
-  from = ap (λ x. drop (x .next) text) opened ∙ l .begins .place-is
+  from = ap (λ x. drop (x .next) text) (opened text l h h-is) ∙ l .begins .place-is
 
   abbrev wanted-spots : List Spot
   wanted-spots = partSpots (settingsOf (l .values)) P
 
   module _ (r : Taken) (values : List ℤ) (t : Took text (h .next) (partSpots (h .settings) P) r values) where
     took : Took text (h .next) wanted-spots r values
-    took = subst (λ S. Took text (h .next) (partSpots S P) r values) followed-settings t
+    took = subst (λ S. Took text (h .next) (partSpots S P) r values) (opened-settings text l h h-is) t
 
-    pub followed-missed : r .found ≡ false → Followed P text false values
-    followed-missed e = record {
-      answer = sym (looked-order text P l
-          ∙ order-missed wanted-spots (l .rest) (l .more) (l .more-is) (ap (readValues wanted-spots) (sym from) ∙ taken-missed text _ r (took .answer) e));
-      stored = λ f. absurd (false≢true f);
-    }
+    missed-order : r .found ≡ false → false ≡ inOrder P text
+    missed-order e = sym (looked-order text P l
+        ∙ order-missed wanted-spots (l .rest) (l .more) (l .more-is) (ap (readValues wanted-spots) (sym from) ∙ taken-missed text _ r (took .answer) e))
 
-    pub followed-found : r .found ≡ true → Followed P text (eqb (r .next) (length text)) values
-    followed-found e =
-        let (vs, end, found, next-is) = taken-found text _ r (took .answer) e in
-        let read : readValues wanted-spots (l .rest) ≡ some (vs, end) = ap (readValues wanted-spots) (sym from) ∙ found in
-        let shorter = suffix-length (values-lines wanted-spots (l .rest) vs end read .ends) in
-        record {
-          answer = order-found wanted-spots (l .rest) (l .more) (l .more-is) vs end read (r .next) (length text) (omega (arith, l .begins .shorter)) next-is
-              ∙ sym (looked-order text P l);
-          stored = λ f.
-              let nothing : length end ≡ 0 = omega (arith, eqb-true (r .next) (length text) f, l .begins .shorter) in
-              let spots-are = order-spots wanted-spots (l .rest) (l .more) (l .more-is) vs end read nothing in
-              let columns-is : columnsIn (linesOf text) ≡ vs =
-              looked-columns text P l spots-are ∙ order-values wanted-spots (l .rest) (l .more) (l .more-is) vs end read nothing in
-              let count : length wanted-spots ≡ length vs =
-              ap length (sym spots-are) ∙ spots-values (l .more) ∙ ap length (order-values wanted-spots (l .rest) (l .more) (l .more-is) vs end read nothing) in
-              ap (λ (ws : List ℤ). take (length ws) values) columns-is ∙ ap (λ n. take n values) (sym count) ∙ took .stored vs end found ∙ sym columns-is;
+    module _ (e : r .found ≡ true) where
+      read-on : (vs : List ℤ) × (end : List ℕ) × (readValues wanted-spots (drop (h .next) text) ≡ some (vs, end)) × (r .next ≡ length text - length end)
+      read-on = taken-found text _ r (took .answer) e
+
+      read-rest : readValues wanted-spots (l .rest) ≡ some (read-on .0, read-on .1)
+      read-rest = ap (readValues wanted-spots) (sym from) ∙ read-on .2
+
+      found-order : eqb (r .next) (length text) ≡ inOrder P text
+      found-order =
+          order-found wanted-spots (l .rest) (l .more) (l .more-is) (read-on .0) (read-on .1) read-rest (r .next) (length text) (omega (arith, l .begins .shorter)) (read-on .3)
+          ∙ sym (looked-order text P l)
+
+      found-stored : eqb (r .next) (length text) ≡ true → First (columnsIn (linesOf text)) values
+      found-stored f =
+          let (vs, end, found, next-is) = read-on in
+          let shorter = suffix-length (values-lines wanted-spots (l .rest) vs end read-rest .ends) in
+          let nothing : length end ≡ 0 = omega (arith, eqb-true (r .next) (length text) f, l .begins .shorter) in
+          let spots-are = order-spots wanted-spots (l .rest) (l .more) (l .more-is) vs end read-rest nothing in
+          let values-are = order-values wanted-spots (l .rest) (l .more) (l .more-is) vs end read-rest nothing in
+          let columns-is : columnsIn (linesOf text) ≡ vs = looked-columns text P l spots-are ∙ values-are in
+          let count : length wanted-spots ≡ length vs = ap length (sym spots-are) ∙ spots-values (l .more) ∙ ap length values-are in
+          ap (λ (ws : List ℤ). take (length ws) values) columns-is ∙ ap (λ n. take n values) (sym count) ∙ took .stored vs end found ∙ sym columns-is
+
+-- lines at wanted spots up to the end are of the stated shape
+values-present : (ss : List Spot) (bs : List ℕ) (vs : List ℤ) (end : List ℕ) → readValues ss bs ≡ some (vs, end) → length end ≡ 0 → present (allLines bs) ≡ true
+unfolding present lines-before
+values-present ss bs vs [] e h = let k = values-lines ss bs vs [] e in ap present (k .all-are ∙ ap (lines-before (k .lines)) all-end)
+values-present ss bs vs (b ∷ cs) e h = absurd (omega arith)
+
+-- the reader of the lines behind the settings, by the answer of the reader of the settings
+module _ (text : List ℕ) (P : Parts) (h : Header) (h-is : h ≡ headerAnswer text (readSettings text)) where
+  module _ (values : List ℤ) where
+    refused-before : (lookRefusal text ≡ 0 → ⊥) → Followed P text false values
+    refused-before n = record { unrefused = λ f. absurd (false≢true f); answer = λ e. absurd (n e); stored = λ f. absurd (false≢true f) }
+
+    pub followed-long : textLimit < length text → Followed P text false values
+    followed-long n = refused-before (λ e. absurd (omega (arith, looked text e .short)))
+
+    pub followed-unbegun : h .found ≡ false → Followed P text false values
+    followed-unbegun f = refused-before (λ e. false≢true (sym f ∙ ap (λ x. x .found) (opened text (looked text e) h h-is)))
+
+    pub followed-disallowed : (settingsRefusal (h .settings) ≡ 0 → ⊥) → Followed P text false values
+    followed-disallowed n = refused-before (λ e. n (ap settingsRefusal (opened-settings text (looked text e) h h-is) ∙ looked text e .allowed))
+
+    module _ (r : Taken) (t : Took text (h .next) (partSpots (h .settings) P) r values) where
+      pub followed-missed : r .found ≡ false → Followed P text false values
+      followed-missed f = record {
+        unrefused = λ g. absurd (false≢true g);
+        answer = λ e. missed-order text P (looked text e) h h-is r values t f;
+        stored = λ g. absurd (false≢true g);
+      }
+
+      module _ (short : length text ≤ textLimit) (begun : h .found ≡ true) (allowed : settingsRefusal (h .settings) ≡ 0) (f : r .found ≡ true) where
+        ended-unrefused : eqb (r .next) (length text) ≡ true → lookRefusal text ≡ 0
+        unfolding choose
+        ended-unrefused g =
+            let (vs, rest, begins, settings-is, place-is) = header-found text h h-is begun in
+            let (ws, end, read, next-is) = taken-found text _ r (t .answer) f in
+            let on : readValues (partSpots (h .settings) P) rest ≡ some (ws, end) = ap (readValues (partSpots (h .settings) P)) (sym place-is) ∙ read in
+            let shorter = suffix-length (values-lines (partSpots (h .settings) P) rest ws end on .ends) in
+            let nothing : length end ≡ 0 = omega (arith, eqb-true (r .next) (length text) g, begins .shorter) in
+            settled-look text vs rest begins short
+            ∙ ap (λ b. choose b (settingsRefusal (settingsOf vs)) 2) (values-present (partSpots (h .settings) P) rest ws end on nothing)
+            ∙ ap settingsRefusal (sym settings-is) ∙ allowed
+
+        pub followed-found : Followed P text (eqb (r .next) (length text)) values
+        followed-found = record {
+          unrefused = ended-unrefused;
+          answer = λ e. found-order text P (looked text e) h h-is r values t f;
+          stored = λ g. found-stored text P (looked text (ended-unrefused g)) h h-is r values t f g;
         }
 
 -- what the answer of a first look says
@@ -288,6 +347,18 @@ module _ (text : List ℕ) (r : Loaded) (r-is : r ≡ lookAnswer text) where
     pub look-allowed : settingsRefusal (r .settings) ≡ 0
     unfolding lookRefusal
     look-allowed = ap settingsRefusal look-settings ∙ first-zero _ _ (first-zero _ _ (first-zero _ _ (sym look-number ∙ e) .1) .1) .0
+
+-- the settings alone
+module _ (text : List ℕ) where
+  pub begun-looked : (r : Loaded) → r ≡ lookAnswer text → Begun text r
+  begun-looked r r-is = record {
+    refused = λ _. r-is;
+    allowed = look-allowed text r r-is;
+    settings-are = λ e. look-settings text r r-is (look-number text r r-is ∙ e);
+  }
+
+  pub begun-allowed : (h : Header) → h ≡ headerAnswer text (readSettings text) → settingsRefusal (h .settings) ≡ 0 → Begun text (record { number = 0; settings = h .settings })
+  begun-allowed h h-is e = record { refused = λ n. absurd (n refl); allowed = λ _. e; settings-are = λ l. sym (header-settings text h h-is l) }
 
 -- refusals 1 to 7, after a first look
 module _ (P : Parts) (n : Lengths) (text : List ℕ) (r : Loaded) (r-is : r ≡ lookAnswer text) (values : List ℤ) where

@@ -245,3 +245,11 @@ module _ (text : List ℕ) where
 
   pub header-unfound : (r : Header) → r ≡ headerAnswer text (readSettings text) → r .found ≡ false → readSettings text ≡ none
   header-unfound = header-none (readSettings text)
+
+  next-within : (o : Option (List ℤ × List ℕ)) (r : Header) → r ≡ headerAnswer text o → r .next ≤ length text
+  unfolding headerAnswer
+  next-within none r f = omega (arith, ap (λ x. x .next) f)
+  next-within (some (vs, rest)) r f = omega (arith, ap (λ x. x .next) f)
+
+  pub header-within : (r : Header) → r ≡ headerAnswer text (readSettings text) → r .next ≤ length text
+  header-within = next-within (readSettings text)

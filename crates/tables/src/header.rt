@@ -12,6 +12,7 @@ ghost use lib.ListN.{drop};
 ghost use Rattle.protocol.specs.Basic.{choose};
 ghost use Rattle.protocol.specs.Text.{unsigned as unsignedOf, noSettings, lookAnswer};
 ghost use Rattle.tables.specs.Scan.{present, allLines, readSettings, headerAnswer};
+ghost use Rattle.tables.specs.Stored.{Begun};
 
 // The settings of a text and the place behind them; `found` is false where the text does not begin with them.
 pub struct Header {
@@ -111,6 +112,22 @@ pub fn look(text: &[u8]) -> Loaded
     let number = or_malformed(text, next, settings_refusal(settings));
     if number != 0 {
         return refused(number);
+    }
+    Loaded {
+        number: 0,
+        settings,
+    }
+}
+
+// The settings that a text begins with, where they are allowed: a caller learns the lengths of its tables by them, and the reader tests all lines.
+// Otherwise the text is refused, and a first look says by which number; a text that does not begin with settings has those that are all 0.
+pub fn allowed_settings(text: &[u8]) -> Loaded
+    ensures { λ r. ⌜ Begun (now (text .entry)) r ⌝ }
+{
+    let header = read_header(text);
+    let settings = header.settings;
+    if settings_refusal(settings) != 0 {
+        return look(text);
     }
     Loaded {
         number: 0,

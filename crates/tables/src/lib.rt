@@ -7,6 +7,7 @@ mod numbers;
 mod parts;
 mod whole;
 
+pub use header::allowed_settings;
 pub use header::look;
 pub use header::refused;
 pub use header::unsigned;

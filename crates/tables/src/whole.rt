@@ -1,8 +1,10 @@
 // All values of a text, gathered part after part before any of them is tested or stored.
+use crate::header::Header;
 use crate::header::look;
 use crate::header::read_header;
 use crate::header::refused;
 use crate::parts::read_parts;
+use arithmetic::tests::settings_refusal;
 use protocol::Loaded;
 use protocol::Parts;
 use shapes::Lengths;
@@ -10,16 +12,25 @@ use shapes::fits;
 ghost use mathlib.Core.Path.{_≡_};
 ghost use Prim.Native.Nat.{_≤_};
 ghost use lib.ListN.{length};
-ghost use Rattle.protocol.specs.Text.{lookRefusal};
+ghost use Rattle.tables.specs.Scan.{readSettings, headerAnswer};
 ghost use Rattle.tables.specs.Stored.{Followed, Gathered};
 
-// Are the lines behind the settings the required ones, with none after them.
-fn follow(parts: Parts, text: &[u8], values: &mut [i32]) -> bool
-    requires { ⌜ (lookRefusal (now text) ≡ 0) × (8192 ≤ length (now values)) ⌝ }
+// Do the lines of a text that begins so go on with the required ones up to its end, where its length and its settings are allowed. All lines are
+// then of the stated shape, and one walk has read them: refusals 1 to 6 do not apply.
+fn follow(parts: Parts, header: Header, text: &[u8], values: &mut [i32]) -> bool
+    requires { ⌜ (header ≡ headerAnswer (now text) (readSettings (now text))) × (8192 ≤ length (now values)) ⌝ }
     ensures { λ r. ⌜ Followed parts (now (text .entry)) r (now (values .exit)) ⌝ }
 {
-    let header = read_header(text);
+    if text.len() > 65536 {
+        return false;
+    }
+    if !header.found {
+        return false;
+    }
     let settings = header.settings;
+    if settings_refusal(settings) != 0 {
+        return false;
+    }
     let next = header.next;
     let taken = read_parts(settings, parts, text, next, values);
     if !taken.found {
@@ -36,15 +47,20 @@ pub fn gather(parts: Parts, text: &[u8], lengths: Lengths, values: &mut [i32]) -
     if values.len() < 8192 {
         return refused(7);
     }
-    let loaded = look(text);
-    if loaded.number != 0 {
-        return loaded;
-    }
-    if !follow(parts, text, values) {
+    let header = read_header(text);
+    if !follow(parts, header, text, values) {
+        let loaded = look(text);
+        if loaded.number != 0 {
+            return loaded;
+        }
         return refused(7);
     }
-    if !fits(loaded.settings, parts, lengths) {
+    let settings = header.settings;
+    if !fits(settings, parts, lengths) {
         return refused(7);
     }
-    loaded
+    Loaded {
+        number: 0,
+        settings,
+    }
 }

@@ -16,15 +16,14 @@ use Rattle.protocol.specs.declared.Loaded.{Loaded}
 use Rattle.protocol.specs.declared.Verified.{Verified}
 use Rattle.protocol.specs.declared.Verified.the-variants.{Accepted, Rejected, Refused}
 use Rattle.protocol.specs.Basic.{choose}
-use Rattle.protocol.specs.Settings.{settingsRefusal, cells}
-use Rattle.protocol.specs.Text.{Tables, shape, shapes, shapeSize, fits, linesOf, settingsIn, tablesIn, lookRefusal, loaded, lookAnswer, entriesRefusal, textRefusal, readRefusal, readAnswer, readExit}
+use Rattle.protocol.specs.Settings.{cells}
+use Rattle.protocol.specs.Text.{Tables, shape, shapes, shapeSize, fits, linesOf, settingsIn, lookRefusal, lookAnswer}
 use Rattle.protocol.specs.Promises.{Read}
 use Rattle.protocol.specs.Programs.{verifyReads, tablesAccepted, verifyRefusal, verifyAnswer}
-use Rattle.protocol.proofs.Tests.{and-intro, first-zero, granted-zero, granted-refused}
-use Rattle.protocol.proofs.Refusals.{first-stops}
+use Rattle.protocol.proofs.Tests.{and-intro, granted-zero, granted-refused}
 use Rattle.shapes.specs.Parts.{partShape, lengthsOf, lengthsFit}
 use Rattle.shapes.proofs.Exactly.{lengths-fit}
-use Rattle.tables.proofs.Gathers.{look-number}
+use Rattle.reading.proofs.OnText.{look-refusal, number-is, settings-are, tables-are, settings-allowed, entries-passed, still-fitting}
 use Rattle.verifying.specs.Given.{Given}
 use Rattle.verifying.proofs.Checks.{Long}
 
@@ -38,57 +37,33 @@ module _ (text : List ℕ) where
 
   -- ---- a first look
 
-  module _ (r : Loaded) (r-is : r ≡ lookAnswer text) where
-    look-first : (r .number ≡ 0 → ⊥) → verifyRefusal text ≡ lookRefusal text
-    unfolding verifyRefusal textRefusal
-    look-first h = first-stops _ _ (λ z. h (look-number text r r-is ∙ z))
-
-    pub verify-stops : (r .number ≡ 0 → ⊥) → Refused (r .number) ≡ verifyAnswer text
-    verify-stops h = refused-is (r .number) (look-first h ∙ sym (look-number text r r-is)) h
+  pub verify-stops : (r : Loaded) → r ≡ lookAnswer text → (r .number ≡ 0 → ⊥) → Refused (r .number) ≡ verifyAnswer text
+  verify-stops r r-is h = refused-is (r .number) (unfold verifyRefusal in (look-refusal text r r-is verifyReads h)) h
 
   -- ---- tables of their lengths
 
-  module _ (t t′ : Tables) (fit : fits S verifyReads t ≡ true) (r : Loaded) (h : Read verifyReads text t r t′) where
-    same-refusal : readRefusal verifyReads text t ≡ verifyRefusal text
-    unfolding readRefusal verifyRefusal
-    same-refusal = ap (λ b. textRefusal verifyReads b text) fit
-
-    number-is : r .number ≡ verifyRefusal text
-    unfolding readAnswer loaded
-    number-is = ap (λ x. x .number) (h .answer) ∙ same-refusal
+  module _ (t t′ : Tables) (fit : lookRefusal text ≡ 0 → fits S verifyReads t ≡ true) (r : Loaded) (h : Read verifyReads text t r t′) where
+    refusal-is : r .number ≡ verifyRefusal text
+    unfolding verifyRefusal
+    refusal-is = number-is text verifyReads t t′ fit r h
 
     pub verify-refused : (r .number ≡ 0 → ⊥) → Refused (r .number) ≡ verifyAnswer text
-    verify-refused n = refused-is (r .number) (sym number-is) n
+    verify-refused n = refused-is (r .number) (sym refusal-is) n
 
     module _ (e : r .number ≡ 0) where
-      unrefused : verifyRefusal text ≡ 0
-      unrefused = sym number-is ∙ e
-
-      settings-are : r .settings ≡ S
-      unfolding readAnswer loaded
-      settings-are = ap (λ x. x .settings) (h .answer) ∙ granted-zero _ _ _ (same-refusal ∙ unrefused)
-
-      tables-are : t′ ≡ tablesIn (linesOf text)
-      unfolding readExit
-      tables-are = h .tables-exit ∙ granted-zero _ _ _ (same-refusal ∙ unrefused)
-
-      own-given : settingsRefusal S ≡ 0 × (entriesRefusal S true (tablesIn (linesOf text)) ≡ 0)
-      unfolding verifyRefusal textRefusal lookRefusal
-      own-given =
-          let (look, more) = first-zero _ _ unrefused in
-          (first-zero _ _ (first-zero _ _ (first-zero _ _ look .1) .1) .0, first-zero _ _ (first-zero _ _ more .1) .0)
-
       -- a table keeps its length
       pub verify-given : lengthsOf t′ ≡ lengthsOf t → Given (r .settings) t′
       verify-given l = record {
-        settings = ap settingsRefusal settings-are ∙ own-given .0;
-        fitting = ap (λ x. fits x verifyReads t′) settings-are ∙ sym (lengths-fit S verifyReads t′) ∙ ap (lengthsFit S verifyReads) l ∙ lengths-fit S verifyReads t ∙ fit;
-        entries = (λ j. entriesRefusal (settings-are j) true (tables-are j)) ∙ own-given .1;
+        settings = settings-allowed text verifyReads t t′ fit r h e;
+        fitting = still-fitting text verifyReads t t′ fit r h e l;
+        entries = entries-passed text verifyReads t t′ fit r h e;
       }
 
       pub verify-done : (v : Verified) → v ≡ choose (tablesAccepted (r .settings) t′) Accepted Rejected → v ≡ verifyAnswer text
       unfolding verifyAnswer
-      verify-done v f = f ∙ (λ j. choose (tablesAccepted (settings-are j) (tables-are j)) Accepted Rejected) ∙ sym (granted-zero _ _ _ unrefused)
+      verify-done v f =
+          f ∙ (λ j. choose (tablesAccepted (settings-are text verifyReads t t′ fit r h e j) (tables-are text verifyReads t t′ fit r h e j)) Accepted Rejected)
+          ∙ sym (granted-zero _ _ _ (sym refusal-is ∙ e))
 
 pub lent-fitting : (S : Settings) (t : Tables) → Long S t → fits S verifyReads t ≡ true
 unfolding lengthsFit lengthsOf partShape shapes shape shapeSize choose verifyReads cells

@@ -10,7 +10,7 @@ ghost use mathlib.Core.List.{[]};
 ghost use Prim.Native.Nat.{_≤_};
 ghost use lib.ListN.{length};
 ghost use Rattle.protocol.specs.Basic.{choose};
-ghost use Rattle.protocol.specs.Text.{fits, linesOf, settingsIn};
+ghost use Rattle.protocol.specs.Text.{fits, linesOf, settingsIn, lookRefusal};
 ghost use Rattle.protocol.specs.Programs.{verifyReads, tablesAccepted, verifyAnswer};
 ghost use Rattle.reading.specs.Cut.{six};
 ghost use Rattle.verifying.specs.Given.{Given};
@@ -51,7 +51,7 @@ fn answer(
     }
 }
 
-// The call with tables of exactly their lengths.
+// The call with tables of exactly their lengths, where a first look refuses nothing.
 fn verify_in(
     text: &[u8],
     key: &mut [u32],
@@ -61,7 +61,7 @@ fn verify_in(
     challenges: &mut [u32],
     last: &mut [i32],
 ) -> Verified
-    requires { ⌜ fits (settingsIn (linesOf (now text))) verifyReads (six (now key) (now message) (now commitment) (now rounds) (now challenges) (now last)) ≡ true ⌝ }
+    requires { ⌜ (lookRefusal (now text) ≡ 0 → fits (settingsIn (linesOf (now text))) verifyReads (six (now key) (now message) (now commitment) (now rounds) (now challenges) (now last)) ≡ true) ⌝ }
     ensures { λ r. ⌜ r ≡ verifyAnswer (now (text .entry)) ⌝ }
 {
     let loaded = reading::read(
@@ -93,7 +93,7 @@ fn verify_within(
     requires { ⌜ (16384 ≤ length (now key)) × (64 ≤ length (now commitment)) × (1536 ≤ length (now rounds)) × (8 ≤ length (now challenges)) × (64 ≤ length (now last)) ⌝ }
     ensures { λ r. ⌜ r ≡ verifyAnswer (now (text .entry)) ⌝ }
 {
-    let looked = tables::look(text);
+    let looked = tables::allowed_settings(text);
     if looked.number != 0 {
         return Verified::Refused(looked.number);
     }

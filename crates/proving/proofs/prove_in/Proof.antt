@@ -6,12 +6,12 @@ use Prim.Native.Nat.{ℕ, _*_}
 use borrow.Author.Needs.{needs}
 use lib.ListN.{length}
 use Rattle.protocol.specs.declared.Settings.{Settings}
-use Rattle.protocol.specs.Text.{Tables, fits, linesOf, settingsIn}
+use Rattle.protocol.specs.Text.{Tables, fits, linesOf, settingsIn, lookRefusal}
 use Rattle.protocol.specs.Promises.{Read}
 use Rattle.protocol.specs.Programs.{proveReads}
 use Rattle.shapes.specs.Parts.{lengthsOf}
 use Rattle.reading.specs.Cut.{six}
-use Rattle.reading.proofs.OnText.{number-is, settings-are, tables-are, settings-allowed, entries-passed, still-fitting}
+use Rattle.reading.proofs.OnText.{number-is, settings-unrefused, settings-are, tables-are, settings-allowed, entries-passed, still-fitting}
 use Rattle.proving.proofs.Proves.{prove-refused, prove-done, openable}
 use Rattle.proving.proofs.prove_in.Statement.{statement}
 use Rattle.proving.proofs.prove_in.Tie as tie
@@ -29,7 +29,7 @@ module _ (c : tie.After-read) where
   abbrev t′ : Tables
   t′ = six (c .read .last .1 .1 .0) (c .read .last .1 .1 .1 .0) (c .read .last .1 .1 .1 .1 .0) (c .read .last .1 .1 .1 .1 .1 .0) (c .read .last .1 .1 .1 .1 .1 .1 .0) (c .read .last .1 .1 .1 .1 .1 .1 .1 .0)
 
-  fit : fits (settingsIn (linesOf text)) proveReads t ≡ true
+  fit : lookRefusal text ≡ 0 → fits (settingsIn (linesOf text)) proveReads t ≡ true
   fit = start .pre .0
 
   promise : Read proveReads text t (c .read .result) t′
@@ -104,7 +104,7 @@ print-opening-requires c κs =
     (settings-allowed (text r) proveReads (t r) (t′ r) (fit r) (r .read .result) (promise r) (e .if1 .left))
     (still-fitting (text r) proveReads (t r) (t′ r) (fit r) (r .read .result) (promise r) (e .if1 .left) (lengths e))
     (entries-passed (text r) proveReads (t r) (t′ r) (fit r) (r .read .result) (promise r) (e .if1 .left))
-    (start r .pre .1 ∙ sym (ap (λ (x : Settings). 3 * x .depth * x .degree) (same-settings e)))
+    (start r .pre .1 (settings-unrefused (text r) proveReads (t r) (t′ r) (fit r) (r .read .result) (promise r) (e .if1 .left)) ∙ sym (ap (λ (x : Settings). 3 * x .depth * x .degree) (same-settings e)))
 
 same-length-4 : tie.Need-same-length-4
 same-length-4 c = search needs

@@ -1,4 +1,4 @@
--- `prove_within`: a first look, and then tables of exactly the lengths that the settings ask for.
+-- `prove_within`: the settings, and then tables of exactly the lengths that the settings ask for.
 use mathlib.Core.Path.{_≡_, sym, ap, _∙_}
 use mathlib.Core.List.{List, []}
 use Prim.Native.Nat.{ℕ, _*_, _≤_}
@@ -10,12 +10,12 @@ use lib.Seq.{length-take-le}
 use Rattle.protocol.specs.declared.Settings.{Settings}
 use Rattle.protocol.specs.Inputs.{Valid}
 use Rattle.protocol.specs.Settings.{settingsRefusal, cells}
-use Rattle.protocol.specs.Text.{Tables, fits, linesOf, settingsIn}
+use Rattle.protocol.specs.Text.{fits, linesOf, settingsIn, lookRefusal}
 use Rattle.protocol.specs.Programs.{proveReads}
 use Rattle.protocol.proofs.Inputs.{settings-valid}
 use Rattle.sizes.proofs.Limits.{degree-most, cells-most}
 use Rattle.reading.specs.Cut.{six}
-use Rattle.reading.proofs.OnText.{look-refusal, look-settings, look-allowed}
+use Rattle.reading.proofs.OnText.{look-refusal}
 use Rattle.proving.proofs.Proves.{prove-refused, lent-fitting}
 use Rattle.proving.proofs.prove_within.Statement.{statement}
 use Rattle.proving.proofs.prove_within.Tie as tie
@@ -25,23 +25,23 @@ module _ (c : tie.After-cells) where
   abbrev left : tie.Else1
   left = c .before .before .before .before
 
-  abbrev seen : tie.After-look
+  abbrev seen : tie.After-allowed-settings
   seen = left .before
 
   abbrev start : tie.Start
   start = seen .before .before .before .before .before .before
 
   abbrev S : Settings
-  S = seen .look .result .settings
+  S = seen .allowed-settings .result .settings
 
   abbrev text : List ℕ
   text = start .args .text .now
 
-  same-settings : S ≡ settingsIn (linesOf text)
-  same-settings = look-settings text (seen .look .result) (seen .look .ensures) (left .if1 .left)
+  same-settings : lookRefusal text ≡ 0 → S ≡ settingsIn (linesOf text)
+  same-settings = seen .allowed-settings .ensures .settings-are
 
   allowed : settingsRefusal S ≡ 0
-  allowed = look-allowed text (seen .look .result) (seen .look .ensures) (left .if1 .left)
+  allowed = seen .allowed-settings .ensures .allowed (left .if1 .left)
 
   valid : Valid S
   valid = settings-valid S allowed
@@ -65,14 +65,15 @@ module _ (c : tie.After-cells) where
   rounds-room : 3 * S .depth * S .degree ≤ length (start .args .rounds .now)
   rounds-room = omega (arith, rounds-most, start .pre .3)
 
-look-requires : tie.Need-look-requires
-look-requires c κs = search needs
+allowed-settings-requires : tie.Need-allowed-settings-requires
+allowed-settings-requires c κs = search needs
 
 returns : tie.Need-returns
 returns c =
     let l = c .before in
     let a = l .before .before .before .before .before .before .args in
-    prove-refused (a .text .now) (a .out .now) (l .look .result .number) (c .if1 .taken) (look-refusal (a .text .now) (l .look .result) (l .look .ensures) proveReads (c .if1 .taken))
+    prove-refused (a .text .now) (a .out .now) (l .allowed-settings .result .number) (c .if1 .taken)
+    (look-refusal (a .text .now) (l .allowed-settings .result) (l .allowed-settings .ensures .refused (c .if1 .taken)) proveReads (c .if1 .taken))
 
 cast-degree : tie.Need-cast-degree
 cast-degree c = search needs
@@ -120,9 +121,9 @@ prove-in-requires c κs =
     let G = take (k .cells .result) (a .key .now) in
     let M = take (k .cells .result) (a .message .now) in
     let E = take (S k .depth) (a .challenges .now) in (
-      ap (λ x. fits x proveReads (six G M [] [] E [])) (sym (same-settings k))
+      λ e. ap (λ x. fits x proveReads (six G M [] [] E [])) (sym (same-settings k e))
           ∙ lent-fitting (S k) G M E (length-take-le _ _ (key-room k) ∙ cells-is k) (length-take-le _ _ (message-room k) ∙ cells-is k) (length-take-le _ _ (challenges-room k)),
-      length-take-le _ _ (rounds-room k) ∙ ap (λ (x : Settings). 3 * x .depth * x .degree) (same-settings k),
+      λ e. length-take-le _ _ (rounds-room k) ∙ ap (λ (x : Settings). 3 * x .depth * x .degree) (same-settings k e),
     )
 
 same-length : tie.Need-same-length
@@ -147,7 +148,7 @@ pub prove-within-spec : {M : Type 1} → statement M
 prove-within-spec =
     tie.close
     (tie.spec
-    look-requires
+    allowed-settings-requires
     returns
     cast-degree
     cast-depth

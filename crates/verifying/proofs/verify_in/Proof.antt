@@ -5,7 +5,7 @@ use mathlib.Core.List.{List}
 use Prim.Native.Nat.{ℕ}
 use borrow.Author.Needs.{needs}
 use lib.ListN.{length}
-use Rattle.protocol.specs.Text.{Tables, fits, linesOf, settingsIn}
+use Rattle.protocol.specs.Text.{Tables, fits, linesOf, settingsIn, lookRefusal}
 use Rattle.protocol.specs.Promises.{Read}
 use Rattle.protocol.specs.Programs.{verifyReads, transcriptIn, tablesAccepted}
 use Rattle.shapes.specs.Parts.{lengthsOf}
@@ -28,7 +28,7 @@ module _ (c : tie.After-read) where
   abbrev t′ : Tables
   t′ = six (c .read .last .1 .1 .0) (c .read .last .1 .1 .1 .0) (c .read .last .1 .1 .1 .1 .0) (c .read .last .1 .1 .1 .1 .1 .0) (c .read .last .1 .1 .1 .1 .1 .1 .0) (c .read .last .1 .1 .1 .1 .1 .1 .1 .0)
 
-  fit : fits (settingsIn (linesOf text)) verifyReads t ≡ true
+  fit : lookRefusal text ≡ 0 → fits (settingsIn (linesOf text)) verifyReads t ≡ true
   fit = start .pre
 
   promise : Read verifyReads text t (c .read .result) t′

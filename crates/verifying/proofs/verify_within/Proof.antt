@@ -1,4 +1,4 @@
--- `verify_within`: a first look, and then tables of exactly the lengths that the settings ask for.
+-- `verify_within`: the settings, and then tables of exactly the lengths that the settings ask for.
 use mathlib.Core.Path.{_≡_, sym, ap, _∙_}
 use mathlib.Core.List.{List, []}
 use Prim.Native.Nat.{ℕ, _*_, _≤_}
@@ -13,7 +13,6 @@ use Rattle.protocol.specs.Settings.{settingsRefusal, cells}
 use Rattle.protocol.specs.Text.{Tables, fits}
 use Rattle.protocol.specs.Programs.{verifyReads}
 use Rattle.protocol.proofs.Inputs.{settings-valid}
-use Rattle.tables.proofs.Gathers.{look-settings, look-allowed}
 use Rattle.sizes.proofs.Limits.{degree-most, cells-most}
 use Rattle.reading.specs.Cut.{six}
 use Rattle.verifying.proofs.Checks.{Long}
@@ -26,20 +25,20 @@ module _ (c : tie.After-cells) where
   abbrev left : tie.Else1
   left = c .before .before .before .before
 
-  abbrev seen : tie.After-look
+  abbrev seen : tie.After-allowed-settings
   seen = left .before .before
 
   abbrev start : tie.Start
   start = seen .before .before .before .before .before .before
 
   abbrev S : Settings
-  S = seen .look .result .settings
+  S = seen .allowed-settings .result .settings
 
   abbrev text : List ℕ
   text = start .args .text .now
 
   allowed : settingsRefusal S ≡ 0
-  allowed = look-allowed text (seen .look .result) (seen .look .ensures) (left .if1 .left)
+  allowed = seen .allowed-settings .ensures .allowed (left .if1 .left)
 
   valid : Valid S
   valid = settings-valid S allowed
@@ -80,11 +79,13 @@ module _ (c : tie.After-cells) where
     last = length-take-le _ _ last-room;
   }
 
-look-requires : tie.Need-look-requires
-look-requires c κs = search needs
+allowed-settings-requires : tie.Need-allowed-settings-requires
+allowed-settings-requires c κs = search needs
 
 returns : tie.Need-returns
-returns c = let l = c .before .before in verify-stops (l .before .before .before .before .before .before .args .text .now) (l .look .result) (l .look .ensures) (c .if1 .taken)
+returns c =
+    let l = c .before .before in
+    verify-stops (l .before .before .before .before .before .before .args .text .now) (l .allowed-settings .result) (l .allowed-settings .ensures .refused (c .if1 .taken)) (c .if1 .taken)
 
 cast-degree : tie.Need-cast-degree
 cast-degree c = search needs
@@ -140,7 +141,7 @@ slice-aggregate-verify-in-6 c = sym (length-take-le _ _ (last-room (c .before .b
 verify-in-requires : tie.Need-verify-in-requires
 verify-in-requires c κs =
     let k = c .before .before .before .before .before .before in
-    ap (λ x. fits x verifyReads (t k)) (sym (look-settings (text k) (seen k .look .result) (seen k .look .ensures) (left k .if1 .left))) ∙ lent-fitting (S k) (t k) (long k)
+    λ e. ap (λ x. fits x verifyReads (t k)) (sym (seen k .allowed-settings .ensures .settings-are e)) ∙ lent-fitting (S k) (t k) (long k)
 
 same-length : tie.Need-same-length
 same-length c = search needs
@@ -167,7 +168,7 @@ pub verify-within-spec : {M : Type 1} → statement M
 verify-within-spec =
     tie.close
     (tie.spec
-    look-requires
+    allowed-settings-requires
     returns
     cast-degree
     cast-depth

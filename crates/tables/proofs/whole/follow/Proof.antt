@@ -1,57 +1,88 @@
--- `follow`: the lines behind the settings, from the place that the reader of the settings gives.
-use mathlib.Core.Path.{sym, subst}
-use mathlib.Core.List.{List}
-use Prim.Native.Nat.{ℕ, _≤_}
+-- `follow`: the length, the settings, and then the lines behind them, from the place that the reader of the settings gives.
+use mathlib.Core.Path.{_≡_, sym, _∙_}
+use Prim.Native.Nat.{_≤_}
 use native.Mathlib.Omega.{arith}
 use borrow.Author.Needs.{needs}
 use borrow.Author.Tests.{not-true, not-false}
-use Rattle.protocol.specs.declared.Settings.{Settings}
+use lib.ListN.{length}
+use Rattle.protocol.specs.Settings.{settingsRefusal}
 use Rattle.protocol.specs.Text.{textLimit}
 use Rattle.protocol.proofs.Inputs.{settings-valid}
-use Rattle.tables.specs.Scan.{settingsOf}
-use Rattle.tables.proofs.Gathers.{Looked, looked, followed-settings, followed-next, followed-missed, followed-found}
+use Rattle.tables.proofs.Looks.{header-within}
+use Rattle.tables.proofs.Gathers.{followed-long, followed-unbegun, followed-disallowed, followed-missed, followed-found}
 use Rattle.tables.proofs.whole.follow.Statement.{statement}
 use Rattle.tables.proofs.whole.follow.Tie as tie
 
-module _ (c : tie.After-read-header) where
-  abbrev text : List ℕ
-  text = c .before .before .args .text .now
+-- a text whose length and settings are allowed
+module _ (c : tie.Else3) where
+  abbrev start : tie.Start
+  start = c .before .before .before .before .before .before .before
 
-  seen : Looked text
-  seen = looked text (c .before .before .pre .0)
+  short : length (start .args .text .now) ≤ textLimit
+  unfolding textLimit
+  short = omega arith
 
-read-header-requires : tie.Need-read-header-requires
-read-header-requires c κs = search needs
+  allowed : settingsRefusal (start .args .header .settings) ≡ 0
+  allowed = sym (c .before .settings-refusal .ensures) ∙ c .if3 .left
+
+returns : tie.Need-returns
+unfolding textLimit
+returns c =
+    let s = c .before .before in
+    followed-long (s .args .text .now) (s .args .parts) (s .args .header) (s .pre .0) _ (c .if1 .taken)
+
+returns-2 : tie.Need-returns-2
+returns-2 c =
+    let s = c .before .before .before .before in
+    followed-unbegun (s .args .text .now) (s .args .parts) (s .args .header) (s .pre .0) _ (not-true _ (c .if2 .taken))
+
+settings-refusal-requires : tie.Need-settings-refusal-requires
+settings-refusal-requires c κs = search needs
+
+returns-3 : tie.Need-returns-3
+returns-3 c =
+    let s = c .before .before .before .before .before .before .before in
+    followed-disallowed (s .args .text .now) (s .args .parts) (s .args .header) (s .pre .0) _ (λ e. c .if3 .taken (c .before .settings-refusal .ensures ∙ e))
 
 read-parts-requires : tie.Need-read-parts-requires
 unfolding textLimit
 read-parts-requires c κs =
-    let h = c .before .before in
-    let settings-is = followed-settings (text h) (h .before .before .args .parts) (seen h) (h .read-header .result) (h .read-header .ensures) in (
-      subst (λ (S : Settings). S .depth ≤ 8) (sym settings-is) (settings-valid (settingsOf (seen h .values)) (seen h .allowed) .depth-most),
-      followed-next (text h) (h .before .before .args .parts) (seen h) (h .read-header .result) (h .read-header .ensures),
-      omega (arith, seen h .short),
+    let s = start (c .before) in (
+      settings-valid (s .args .header .settings) (allowed (c .before)) .depth-most,
+      header-within (s .args .text .now) (s .args .header) (s .pre .0),
+      omega (arith, short (c .before), s .pre .1),
     )
 
 same-length : tie.Need-same-length
 same-length c = search needs
 
-returns : tie.Need-returns
-returns c =
+returns-4 : tie.Need-returns-4
+returns-4 c =
     let p = c .before .before .before in
-    let h = p .before .before .before in
-    followed-missed (text h) (h .before .before .args .parts) (seen h) (h .read-header .result) (h .read-header .ensures) (p .read-parts .result) _ (p .read-parts .ensures)
-    (not-true _ (c .if1 .taken))
+    let s = start (p .before .before) in
+    followed-missed (s .args .text .now) (s .args .parts) (s .args .header) (s .pre .0) _ (p .read-parts .result) (p .read-parts .ensures) (not-true _ (c .if4 .taken))
 
 same-length-2 : tie.Need-same-length-2
 same-length-2 c = search needs
 
-returns-2 : tie.Need-returns-2
-returns-2 c =
+returns-5 : tie.Need-returns-5
+returns-5 c =
     let p = c .before .before .before .before in
-    let h = p .before .before .before in
-    followed-found (text h) (h .before .before .args .parts) (seen h) (h .read-header .result) (h .read-header .ensures) (p .read-parts .result) _ (p .read-parts .ensures)
-    (not-false _ (c .before .if1 .left))
+    let e = p .before .before in
+    let s = start e in
+    followed-found (s .args .text .now) (s .args .parts) (s .args .header) (s .pre .0) _ (p .read-parts .result) (p .read-parts .ensures)
+    (short e) (not-false _ (e .before .before .before .if2 .left)) (allowed e) (not-false _ (c .before .if4 .left))
 
 pub follow-spec : {M : Type 1} → statement M
-follow-spec = tie.close (tie.spec read-header-requires read-parts-requires same-length returns same-length-2 returns-2)
+follow-spec =
+    tie.close
+    (tie.spec
+    returns
+    returns-2
+    settings-refusal-requires
+    returns-3
+    read-parts-requires
+    same-length
+    returns-4
+    same-length-2
+    returns-5)

@@ -1,59 +1,79 @@
--- `gather`: a first look, the order of the lines, and the lengths of the lent tables.
-use mathlib.Core.Path.{_≡_, sym, ap, _∙_}
-use mathlib.Core.Bool.{Bool}
+-- `gather`: the lines of a good text are followed to its end, and the lengths of the lent tables are left. Otherwise a look says the refusal.
+use mathlib.Core.Path.{_≡_, refl, sym, ap, _∙_}
+use mathlib.Core.Bool.{Bool, true}
 use mathlib.Core.List.{List}
 use Prim.Native.Nat.{ℕ, _≤_}
 use native.Mathlib.Omega.{arith}
 use borrow.Author.Needs.{needs}
 use borrow.Author.Tests.{not-true, not-false}
 use Rattle.protocol.specs.declared.Parts.{Parts}
-use Rattle.protocol.specs.Text.{linesOf, settingsIn, lookRefusal}
+use Rattle.protocol.specs.declared.Loaded.{Loaded}
+use Rattle.protocol.specs.Text.{linesOf, settingsIn, lookRefusal, lookAnswer}
 use Rattle.protocol.proofs.Tests.{and-intro}
 use Rattle.protocol.proofs.Inputs.{settings-valid}
 use Rattle.protocol.proofs.Refusals.{and-fails-left, and-fails-right}
 use Rattle.shapes.specs.declared.Lengths.{Lengths}
 use Rattle.shapes.specs.Parts.{lengthsFit}
+use Rattle.tables.specs.declared.header.Header.{Header}
 use Rattle.tables.specs.Stored.{inOrder}
-use Rattle.tables.proofs.Gathers.{look-number, look-settings, look-allowed, gathered-look, gathered-refused, gathered-granted}
+use Rattle.tables.proofs.Looks.{loaded-granted}
+use Rattle.tables.proofs.Gathers.{header-settings, look-number, look-allowed, gathered-look, gathered-refused, gathered-granted}
 use Rattle.tables.proofs.whole.gather.Statement.{statement}
 use Rattle.tables.proofs.whole.gather.Tie as tie
 
--- a text whose settings are not refused
-module _ (c : tie.Else2) where
-  abbrev seen : tie.After-look
-  seen = c .before .before
+-- a text whose lines were followed
+module _ (c : tie.After-values) where
+  abbrev begun : tie.After-read-header
+  begun = c .before .before .before
 
   abbrev parts : Parts
-  parts = seen .before .before .before .args .parts
+  parts = begun .before .before .before .args .parts
 
   abbrev text : List ℕ
-  text = seen .before .before .before .args .text .now
+  text = begun .before .before .before .args .text .now
 
   abbrev lengths : Lengths
-  lengths = seen .before .before .before .args .lengths
+  lengths = begun .before .before .before .args .lengths
 
-  unrefused : lookRefusal text ≡ 0
-  unrefused = sym (look-number text (seen .look .result) (seen .look .ensures)) ∙ c .if2 .left
-
-  settings-are : seen .look .result .settings ≡ settingsIn (linesOf text)
-  settings-are = look-settings text (seen .look .result) (seen .look .ensures) (c .if2 .left)
-
-  shallow : seen .look .result .settings .depth ≤ 8
-  shallow = settings-valid _ (look-allowed text (seen .look .result) (seen .look .ensures) (c .if2 .left)) .depth-most
-
--- its lines
-module _ (c : tie.After-values) where
-  abbrev left : tie.Else2
-  left = c .before .before .before
+  abbrev header : Header
+  header = begun .read-header .result
 
   abbrev ordered : Bool
-  ordered = inOrder (parts left) (text left)
+  ordered = inOrder parts text
 
   abbrev fitting : Bool
-  fitting = lengthsFit (settingsIn (linesOf (text left))) (parts left) (lengths left)
+  fitting = lengthsFit (settingsIn (linesOf text)) parts lengths
 
-fitted : (c : tie.After-fits2) → c .fits2 .result ≡ fitting (c .before .before)
-fitted c = let l = left (c .before .before) in c .fits2 .ensures (shallow l) ∙ ap (λ S. lengthsFit S (parts l) (lengths l)) (settings-are l)
+  -- to its end
+  module _ (found : c .before .follow .result ≡ true) where
+    abbrev answer : Loaded
+    answer = record { number = 0; settings = header .settings }
+
+    unrefused : lookRefusal text ≡ 0
+    unrefused = c .before .follow .ensures .unrefused found
+
+    settings-are : settingsIn (linesOf text) ≡ header .settings
+    settings-are = header-settings text header (begun .read-header .ensures) unrefused
+
+    looks : answer ≡ lookAnswer text
+    unfolding lookAnswer
+    looks = loaded-granted text (header .settings) (lookRefusal text) unrefused settings-are
+
+    shallow : header .settings .depth ≤ 8
+    shallow = settings-valid _ (look-allowed text answer looks refl) .depth-most
+
+    in-order : ordered ≡ true
+    in-order = sym (c .before .follow .ensures .answer unrefused) ∙ found
+
+module _ (c : tie.After-fits2) where
+  abbrev followed : tie.After-values
+  followed = c .before .before .before
+
+  reached : followed .before .follow .result ≡ true
+  reached = not-false _ (c .before .before .if2 .left)
+
+  fitted : c .fits2 .result ≡ fitting followed
+  fitted = c .fits2 .ensures (shallow followed reached) ∙ ap (λ S. lengthsFit S (parts followed) (lengths followed)) (sym (settings-are followed reached))
 
 refused-requires : tie.Need-refused-requires
 refused-requires c κs = search needs
@@ -61,27 +81,34 @@ refused-requires c κs = search needs
 returns : tie.Need-returns
 returns c = λ h. absurd (omega arith)
 
-look-requires : tie.Need-look-requires
-look-requires c κs = search needs
-
-returns-2 : tie.Need-returns-2
-returns-2 c = λ _. gathered-look _ _ _ (c .before .before .look .result) (c .before .before .look .ensures) _ (c .if2 .taken)
+read-header-requires : tie.Need-read-header-requires
+read-header-requires c κs = search needs
 
 follow-requires : tie.Need-follow-requires
-follow-requires c κs = (unrefused (c .before), search needs)
+follow-requires c κs = search needs
 
-refused-requires-2 : tie.Need-refused-requires-2
-refused-requires-2 c κs = search needs
+look-requires : tie.Need-look-requires
+look-requires c κs = search needs
 
 same-length : tie.Need-same-length
 same-length c = search needs
 
+returns-2 : tie.Need-returns-2
+returns-2 c = λ _. gathered-look _ _ _ (c .before .before .look .result) (c .before .before .look .ensures) _ (c .if3 .taken)
+
+refused-requires-2 : tie.Need-refused-requires-2
+refused-requires-2 c κs = search needs
+
+same-length-2 : tie.Need-same-length-2
+same-length-2 c = search needs
+
 returns-3 : tie.Need-returns-3
 returns-3 c = λ _.
-    let v = c .before .before in
-    let l = left v in
-    gathered-refused (parts l) (lengths l) (text l) (seen l .look .result) (seen l .look .ensures) _ (l .if2 .left) (c .refused2 .result) (c .refused2 .ensures)
-    (and-fails-left (ordered v) (fitting v) (sym (v .before .follow .ensures .answer) ∙ not-true _ (c .before .if3 .taken)))
+    let seen = c .before .before .before in
+    let v = seen .before .before in
+    let unrefused = sym (look-number (text v) (seen .look .result) (seen .look .ensures)) ∙ c .before .if3 .left in
+    gathered-refused (parts v) (lengths v) (text v) (seen .look .result) (seen .look .ensures) _ (c .before .if3 .left) (c .refused2 .result) (c .refused2 .ensures)
+    (and-fails-left (ordered v) (fitting v) (sym (v .before .follow .ensures .answer unrefused) ∙ not-true _ (seen .before .if2 .taken)))
 
 fits-requires : tie.Need-fits-requires
 fits-requires c κs = search needs
@@ -89,29 +116,26 @@ fits-requires c κs = search needs
 refused-requires-3 : tie.Need-refused-requires-3
 refused-requires-3 c κs = search needs
 
-same-length-2 : tie.Need-same-length-2
-same-length-2 c = search needs
+same-length-3 : tie.Need-same-length-3
+same-length-3 c = search needs
 
 returns-4 : tie.Need-returns-4
 returns-4 c = λ _.
     let f = c .before .before in
-    let v = f .before .before in
-    let l = left v in
-    gathered-refused (parts l) (lengths l) (text l) (seen l .look .result) (seen l .look .ensures) _ (l .if2 .left) (c .refused3 .result) (c .refused3 .ensures)
+    let v = followed f in
+    gathered-refused (parts v) (lengths v) (text v) (answer v (reached f)) (looks v (reached f)) _ refl (c .refused3 .result) (c .refused3 .ensures)
     (and-fails-right (ordered v) (fitting v) (sym (fitted f) ∙ not-true _ (c .before .if4 .taken)))
 
-same-length-3 : tie.Need-same-length-3
-same-length-3 c = search needs
+same-length-4 : tie.Need-same-length-4
+same-length-4 c = search needs
 
 returns-5 : tie.Need-returns-5
 returns-5 c = λ _.
     let f = c .before in
-    let v = f .before .before in
-    let l = left v in
-    let found = not-false _ (f .before .if3 .left) in
-    gathered-granted (parts l) (lengths l) (text l) (seen l .look .result) (seen l .look .ensures) _ (l .if2 .left)
-    (and-intro {a = ordered v} {b = fitting v} (sym (v .before .follow .ensures .answer) ∙ found) (sym (fitted f) ∙ not-false _ (c .if4 .left)))
-    (v .before .follow .ensures .stored found)
+    let v = followed f in
+    gathered-granted (parts v) (lengths v) (text v) (answer v (reached f)) (looks v (reached f)) _ refl
+    (and-intro {a = ordered v} {b = fitting v} (in-order v (reached f)) (sym (fitted f) ∙ not-false _ (c .if4 .left)))
+    (v .before .follow .ensures .stored (reached f))
 
 pub gather-spec : {M : Type 1} → statement M
 gather-spec =
@@ -119,15 +143,17 @@ gather-spec =
     (tie.spec
     refused-requires
     returns
-    look-requires
-    returns-2
+    read-header-requires
     follow-requires
-    refused-requires-2
+    look-requires
     same-length
+    returns-2
+    refused-requires-2
+    same-length-2
     returns-3
     fits-requires
     refused-requires-3
-    same-length-2
-    returns-4
     same-length-3
+    returns-4
+    same-length-4
     returns-5)

@@ -1,0 +1,26 @@
+-- `allowed_settings`: the settings by the first lines, or a first look.
+use mathlib.Core.Path.{sym, _∙_}
+use borrow.Author.Needs.{needs}
+use Rattle.tables.proofs.Gathers.{begun-looked, begun-allowed}
+use Rattle.tables.proofs.header.allowed_settings.Statement.{statement}
+use Rattle.tables.proofs.header.allowed_settings.Tie as tie
+
+read-header-requires : tie.Need-read-header-requires
+read-header-requires c κs = search needs
+
+settings-refusal-requires : tie.Need-settings-refusal-requires
+settings-refusal-requires c κs = search needs
+
+look-requires : tie.Need-look-requires
+look-requires c κs = search needs
+
+returns : tie.Need-returns
+returns c = begun-looked _ (c .look .result) (c .look .ensures)
+
+returns-2 : tie.Need-returns-2
+returns-2 c =
+    let h = c .before .before .before in
+    begun-allowed _ (h .read-header .result) (h .read-header .ensures) (sym (c .before .settings-refusal .ensures) ∙ c .if1 .left)
+
+pub allowed-settings-spec : {M : Type 1} → statement M
+allowed-settings-spec = tie.close (tie.spec read-header-requires settings-refusal-requires look-requires returns returns-2)
