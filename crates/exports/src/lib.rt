@@ -14,7 +14,7 @@ ghost use lib.IntN.{pos};
 ghost use Rattle.slices.specs.Slices.{given, placed, placedPolynomial};
 ghost use Rattle.sessions.specs.Records.{sessionOf};
 ghost use Rattle.sessions.specs.Promises.{StartStored, MoveStored};
-ghost use Rattle.reading.specs.Cut.{six};
+ghost use Rattle.shapes.specs.Parts.{six};
 ghost use Rattle.protocol.specs.Programs.{checked, verifyAnswer};
 ghost use Rattle.texts.specs.Texts.{partsOf};
 ghost use Rattle.texts.specs.Promises.{Looked, ReadStored, WroteStored, Verdicts, ProvedStored};

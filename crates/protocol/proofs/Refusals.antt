@@ -20,6 +20,11 @@ unfolding first
 first-passes zero rest e = refl
 first-passes (suc x) rest e = absurd (omega arith)
 
+pub first-only : (x : ℕ) → first (x ∷ []) ≡ x
+unfolding first
+first-only zero = refl
+first-only (suc x) = refl
+
 pub first-fails : (n : ℕ) (b : Bool) (rest : List ℕ) → b ≡ false → first (unless (suc n) b ∷ rest) ≡ suc n
 unfolding first unless
 first-fails n b rest e = ap (λ t. first (unless (suc n) t ∷ rest)) e

@@ -20,9 +20,8 @@ use Rattle.protocol.specs.Text.{Tables, shape, shapes, shapeSize, fits, linesOf
 use Rattle.protocol.specs.Programs.{proveReads, provePrints, printed, proofText, proveText, proveRefusal, proveAnswer, proveExit}
 use Rattle.protocol.specs.Promises.{Proved}
 use Rattle.protocol.proofs.Tests.{and-split, and-intro, first-zero, unless-zero}
-use Rattle.protocol.proofs.Refusals.{first-stops, first-passes}
+use Rattle.protocol.proofs.Refusals.{first-stops, first-passes, first-only}
 use Rattle.protocol.proofs.Inputs.{settings-valid, tested-below, tested-within}
-use Rattle.tables.proofs.Looks.{first-only}
 use Rattle.shapes.specs.Parts.{partShape, lengthsOf, lengthsFit, Exact}
 use Rattle.shapes.proofs.Exactly.{lengths-fit, fits-exact}
 use Rattle.proving.specs.Printed.{Openable, proof, Printed}

@@ -10,7 +10,7 @@ ghost use lib.ListN.{length};
 ghost use Rattle.protocol.specs.Text.{fits, linesOf, settingsIn, lookRefusal};
 ghost use Rattle.protocol.specs.Programs.{proveReads, provePrints};
 ghost use Rattle.protocol.specs.Promises.{Proved};
-ghost use Rattle.reading.specs.Cut.{six};
+ghost use Rattle.shapes.specs.Parts.{six};
 ghost use Rattle.proving.specs.Printed.{Openable, Printed};
 
 // The parts that the program reads, and those that it prints.

@@ -23,16 +23,16 @@ use Rattle.protocol.specs.Settings.{settingsRefusal, sized}
 use Rattle.protocol.specs.Text.{Line, Tables, shape, settingsShape, shapes, shapeSize, wanted, contents, block, blocks, blockFits, fits, linesOf, unsigned, column, unsignedColumn, settingsIn, tablesIn, noSettings, lookRefusal, loaded, entriesRefusal, textRefusal, readRefusal, readAnswer, readExit}
 use Rattle.protocol.specs.Promises.{Read}
 use Rattle.protocol.proofs.Tests.{and-split, first-zero, unless-zero, granted-zero, granted-refused}
-use Rattle.protocol.proofs.Refusals.{front-stops, front-passes}
+use Rattle.protocol.proofs.Refusals.{front-stops, front-passes, first-only}
 use Rattle.protocol.proofs.TableLaws.{Rising, Fit, parts, columns, read-fit}
 use Rattle.shapes.specs.declared.Lengths.{Lengths}
-use Rattle.shapes.specs.Parts.{partShape, lengthsOf, lengthsFit}
+use Rattle.shapes.specs.Parts.{six, partShape, lengthsOf, lengthsFit}
 use Rattle.shapes.proofs.Exactly.{lengths-fit}
 use Rattle.tables.specs.Stored.{columnsIn, inOrder, linesRefusal, First, Gathered}
 use Rattle.tables.proofs.Follow.{spots-same}
-use Rattle.tables.proofs.Looks.{first-only, loaded-refused}
+use Rattle.tables.proofs.Looks.{loaded-refused}
 use Rattle.tables.proofs.Gathers.{behind-rise}
-use Rattle.reading.specs.Cut.{cut, total, tablesOf, six}
+use Rattle.reading.specs.Cut.{cut, total, tablesOf}
 
 -- ---- refusals
 

@@ -3,7 +3,6 @@
 --   cut from n vs    the n values from a place on
 --   total n          how many values tables of the lengths n have
 --   tablesOf n vs    these tables
---   six              six tables
 use mathlib.Core.List.{List, map}
 use Prim.Native.Nat.{ℕ, _+_}
 use lib.ListN.{take, drop}
@@ -26,7 +25,3 @@ tablesOf n vs = record {
   challenges = map unsigned (cut (n .key + n .message + n .commitment + n .rounds) (n .challenges) vs);
   last = cut (n .key + n .message + n .commitment + n .rounds + n .challenges) (n .last) vs;
 }
-
-abbrev pub six : List ℕ → List ℤ → List ℕ → List ℕ → List ℕ → List ℤ → Tables
-six key message commitment rounds challenges last =
-    record { key = key; message = message; commitment = commitment; rounds = rounds; challenges = challenges; last = last }

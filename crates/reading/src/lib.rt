@@ -6,7 +6,7 @@ use protocol::Loaded;
 use protocol::Parts;
 use shapes::Lengths;
 ghost use Rattle.protocol.specs.Promises.{Read};
-ghost use Rattle.reading.specs.Cut.{six};
+ghost use Rattle.shapes.specs.Parts.{six};
 
 // The tables of a text. A caller learns their lengths by `tables::look`; the table of a part that is not there has length 0.
 pub fn read(

@@ -4,8 +4,8 @@ ghost use Prim.Native.Nat.{_+_, _≤_};
 ghost use lib.ListN.{length};
 ghost use mathlib.Core.List.{map};
 ghost use Rattle.protocol.specs.Text.{unsigned as unsignedOf};
-ghost use Rattle.shapes.specs.Parts.{lengthsOf};
-ghost use Rattle.reading.specs.Cut.{cut, total, tablesOf, six};
+ghost use Rattle.shapes.specs.Parts.{six, lengthsOf};
+ghost use Rattle.reading.specs.Cut.{cut, total, tablesOf};
 
 // The values from a place on, as many as the table has; the place behind them.
 fn signed(values: &[i32], from: usize, table: &mut [i32]) -> usize

@@ -1,5 +1,6 @@
 -- The parts of a text in the shape in which the code goes through their lines.
 --
+--   six                   six tables
 --   asShape b             a part as the definitions have it
 --   cellAt places p       line p of a part: its item and its place
 --   partShape S P part    the shape of a part
@@ -8,15 +9,21 @@
 --   Exact S P t           the lengths of tables that fit
 use mathlib.Core.Path.{_≡_}
 use mathlib.Core.Bool.{Bool, _&&_}
+use mathlib.Core.List.{List}
 use Prim.Native.Nat.{ℕ, _/_, _%_}
 use lib.Dec.{eqb}
 use lib.ListN.{length, getD}
+use lib.IntN.{ℤ}
 use Rattle.protocol.specs.declared.Settings.{Settings}
 use Rattle.protocol.specs.declared.Parts.{Parts}
 use Rattle.protocol.specs.Text.{Tables, Shape, settingsShape, shapes, shapeSize}
 use Rattle.shapes.specs.declared.Shape.{Shape as Part}
 use Rattle.shapes.specs.declared.Cell.{Cell}
 use Rattle.shapes.specs.declared.Lengths.{Lengths}
+
+abbrev pub six : List ℕ → List ℤ → List ℕ → List ℕ → List ℕ → List ℤ → Tables
+six key message commitment rounds challenges last =
+    record { key = key; message = message; commitment = commitment; rounds = rounds; challenges = challenges; last = last }
 
 abbrev pub asShape : Part → Shape
 asShape b = record { part = b .part; items = b .items; places = b .places }

@@ -28,7 +28,7 @@ use Rattle.protocol.specs.Basic.{tabulate, choose, unless}
 use Rattle.protocol.specs.Settings.{settingsRefusal}
 use Rattle.protocol.specs.Text.{Spot, Line, Shape, textLimit, shape, settingsShape, shapes, shapeSize, spotAt, spots, wanted, readLine, linesOf, sameSpots, spotsOf, valuesOf, column, settingsIn, noSettings, lookRefusal, loaded, lookAnswer}
 use Rattle.protocol.proofs.Tests.{same-test, first-zero, unless-zero, granted-zero}
-use Rattle.protocol.proofs.Refusals.{first-stops}
+use Rattle.protocol.proofs.Refusals.{first-stops, first-passes, first-only}
 use Rattle.protocol.proofs.TableLaws.{AllParts, Rising, parts, columns, column-append, column-none, split}
 use Rattle.tables.specs.Scan.{present, readValues, allLines, settingsOf, readSettings, headerAnswer}
 use Rattle.shapes.specs.Parts.{lengthsFit}
@@ -42,7 +42,7 @@ use Rattle.tables.proofs.Rows.{all-end, all-next, all-none}
 use Rattle.tables.proofs.Values.{same-spot}
 use Rattle.tables.proofs.Cells.{taken-missed, taken-found}
 use Rattle.tables.proofs.Follow.{same-spots-self, spots-same, lines-before, values-lines, values-elsewhere}
-use Rattle.tables.proofs.Looks.{settingsSpots, first-pass, first-only, spots-append, values-append, Settled, settled, settled-lines, settled-settings, settled-look, look-missing, loaded-refused, header-found}
+use Rattle.tables.proofs.Looks.{settingsSpots, spots-append, values-append, Settled, settled, settled-lines, settled-settings, settled-look, look-missing, loaded-refused, header-found}
 use Rattle.tables.proofs.Wants.{wanted-is}
 
 -- ---- values by parts
@@ -374,7 +374,7 @@ module _ (P : Parts) (n : Lengths) (text : List ℕ) (r : Loaded) (r-is : r ≡ 
   module _ (e : r .number ≡ 0) where
     behind-look : (b : Bool) → (inOrder P text && lengthsFit (settingsIn (linesOf text)) P n) ≡ b → linesRefusal P n text ≡ unless 7 b
     unfolding linesRefusal
-    behind-look b h = first-pass _ _ (sym number-is ∙ e) ∙ first-only _ ∙ ap (unless 7) h
+    behind-look b h = first-passes _ _ (sym number-is ∙ e) ∙ first-only _ ∙ ap (unless 7) h
 
     pub gathered-refused : (r₇ : Loaded) → r₇ ≡ record { number = 7; settings = noSettings } → (inOrder P text && lengthsFit (settingsIn (linesOf text)) P n) ≡ false → Gathered P n text r₇ values
     unfolding unless

@@ -1,6 +1,5 @@
 -- A first look at a text: refusals 1 to 6 by the lines that it begins with and by the shape of those behind them.
 --
---   first-..                    the first of refusals that is not 0
 --   parsed-named, parsed-unnamed  the lines of a text, by its names line
 --   header-missing              a text that does not begin with settings is not well formed
 --   Header, header-found        one that does is well formed where the lines behind them are
@@ -20,6 +19,7 @@ use Rattle.protocol.specs.declared.Loaded.{Loaded}
 use Rattle.protocol.specs.Basic.{tabulate, choose, first, unless, granted}
 use Rattle.protocol.specs.Settings.{settingsRefusal}
 use Rattle.protocol.specs.Text.{Spot, Line, textLimit, shape, settingsShape, shapeSize, spots, names, readLines, beginsWithNames, parsed, linesOf, sameSpots, spotsOf, valuesOf, wellFormed, unsigned, settingIn, settingsIn, noSettings, lookRefusal, loaded, lookAnswer}
+use Rattle.protocol.proofs.Refusals.{first-fails, first-holds, first-only}
 use Rattle.tables.specs.declared.header.Header.{Header}
 use Rattle.tables.specs.Scan.{present, readValues, allLines, settingsOf, readSettings, headerAnswer}
 use Rattle.tables.proofs.Counts.{suffix-place}
@@ -27,33 +27,6 @@ use Rattle.tables.proofs.Rows.{all-turns}
 use Rattle.tables.proofs.Values.{behind-names, names-long, settings-named, settings-unnamed}
 use Rattle.shapes.proofs.Cells.{spots-count}
 use Rattle.tables.proofs.Follow.{same-spots-self, lines-before, Lines, values-lines, values-elsewhere}
-
--- ---- refusals
-
-pub first-pass : (x : ℕ) (rest : List ℕ) → x ≡ 0 → first (x ∷ rest) ≡ first rest
-unfolding first
-first-pass zero rest e = refl
-first-pass (suc n) rest e = absurd (omega arith)
-
-pub first-stop : (x n : ℕ) (rest : List ℕ) → x ≡ n → (n ≡ 0 → ⊥) → first (x ∷ rest) ≡ n
-unfolding first
-first-stop zero n rest e h = absurd (h (sym e))
-first-stop (suc x) n rest e h = e
-
-pub first-only : (x : ℕ) → first (x ∷ []) ≡ x
-unfolding first
-first-only zero = refl
-first-only (suc n) = refl
-
-pub unless-true : (n : ℕ) (b : Bool) → b ≡ true → unless n b ≡ 0
-unfolding unless
-unless-true n true e = refl
-unless-true n false e = absurd (false≢true e)
-
-pub unless-false : (n : ℕ) (b : Bool) → b ≡ false → unless n b ≡ n
-unfolding unless
-unless-false n true e = absurd (false≢true (sym e))
-unless-false n false e = refl
 
 -- ---- the lines of a text
 
@@ -191,12 +164,12 @@ module _ (text : List ℕ) (vs : List ℤ) (rest : List ℕ) (h : Settled text v
   -- refusals 2 to 6
   settled-refusal : (o : Option (List Line)) → allLines rest ≡ o → first (unless 2 (wellFormed text) ∷ settingsRefusal (settingsIn (linesOf text)) ∷ []) ≡ choose (present o) (settingsRefusal (settingsOf vs)) 2
   unfolding choose present
-  settled-refusal none e = first-stop _ 2 _ (unless-false 2 _ (settled-malformed e)) (λ z. absurd (omega arith))
-  settled-refusal (some more) e = first-pass _ _ (unless-true 2 _ (settled-formed more e)) ∙ first-only _ ∙ ap settingsRefusal (settled-settings more e)
+  settled-refusal none e = first-fails 1 _ _ (settled-malformed e)
+  settled-refusal (some more) e = first-holds 2 _ _ (settled-formed more e) ∙ first-only _ ∙ ap settingsRefusal (settled-settings more e)
 
   pub settled-look : length text ≤ textLimit → lookRefusal text ≡ choose (present (allLines rest)) (settingsRefusal (settingsOf vs)) 2
   unfolding lookRefusal
-  settled-look l = first-pass _ _ (unless-true 1 _ (le-leb _ _ l)) ∙ settled-refusal (allLines rest) refl
+  settled-look l = first-holds 1 _ _ (le-leb _ _ l) ∙ settled-refusal (allLines rest) refl
 
   settled-by-lines : (o : Option (List Line)) → allLines rest ≡ o → (n : ℕ) → choose (present o) n 2 ≡ 0 → settingsIn (linesOf text) ≡ settingsOf vs
   unfolding choose present
@@ -211,11 +184,11 @@ module _ (text : List ℕ) (vs : List ℤ) (rest : List ℕ) (h : Settled text v
 module _ (text : List ℕ) where
   pub look-long : textLimit < length text → lookRefusal text ≡ 1
   unfolding lookRefusal
-  look-long h = first-stop _ 1 _ (unless-false 1 _ (lt-leb _ _ h)) (λ z. absurd (omega arith))
+  look-long h = first-fails 0 _ _ (lt-leb _ _ h)
 
   pub look-missing : length text ≤ textLimit → readSettings text ≡ none → lookRefusal text ≡ 2
   unfolding lookRefusal
-  look-missing h e = first-pass _ _ (unless-true 1 _ (le-leb _ _ h)) ∙ first-stop _ 2 _ (unless-false 2 _ (header-missing text e)) (λ z. absurd (omega arith))
+  look-missing h e = first-holds 1 _ _ (le-leb _ _ h) ∙ first-fails 1 _ _ (header-missing text e)
 
   pub loaded-refused : (r : Loaded) (n refusal : ℕ) → r ≡ record { number = n; settings = noSettings } → refusal ≡ n → (n ≡ 0 → ⊥) → r ≡ loaded refusal text
   unfolding loaded granted

@@ -9,7 +9,7 @@ use protocol::Settings;
 use protocol::Verdict;
 use protocol::Verified;
 ghost use mathlib.Core.Path.{_≡_};
-ghost use Rattle.reading.specs.Cut.{six};
+ghost use Rattle.shapes.specs.Parts.{six};
 ghost use Rattle.protocol.specs.Programs.{checked, verifyAnswer};
 ghost use Rattle.texts.specs.Texts.{partsOf};
 ghost use Rattle.texts.specs.Promises.{Looked, ReadStored, WroteStored, Verdicts, ProvedStored};

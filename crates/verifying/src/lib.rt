@@ -12,7 +12,7 @@ ghost use lib.ListN.{length};
 ghost use Rattle.protocol.specs.Basic.{choose};
 ghost use Rattle.protocol.specs.Text.{fits, linesOf, settingsIn, lookRefusal};
 ghost use Rattle.protocol.specs.Programs.{verifyReads, tablesAccepted, verifyAnswer};
-ghost use Rattle.reading.specs.Cut.{six};
+ghost use Rattle.shapes.specs.Parts.{six};
 ghost use Rattle.verifying.specs.Given.{Given};
 
 // The parts that the program reads.

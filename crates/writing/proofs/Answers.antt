@@ -19,12 +19,11 @@ use Rattle.protocol.specs.Basic.{granted}
 use Rattle.protocol.specs.Text.{Tables, textLimit, textOf, outputRefusal, writeRefusal, written, overwritten, writeAnswer, writeExit}
 use Rattle.protocol.specs.Promises.{Wrote}
 use Rattle.protocol.proofs.Tests.{first-nothing, first-zero, unless-zero}
-use Rattle.protocol.proofs.Refusals.{first-fails, first-holds, front-stops, front-passes}
+use Rattle.protocol.proofs.Refusals.{first-only, first-fails, first-holds, front-stops, front-passes}
 use Rattle.claims.proofs.TextLimits.{Allowed, allowed}
 use Rattle.shapes.specs.Parts.{Exact}
 use Rattle.shapes.proofs.Exactly.{fits-exact}
 use Rattle.writing.specs.Tables.{tablesRefusal}
-use Rattle.writing.proofs.Entries.{first-only}
 
 abbrev answer : ℕ → ℕ → Written
 answer number length = record { number = number; length = length }

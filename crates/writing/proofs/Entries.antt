@@ -10,11 +10,6 @@ use Rattle.protocol.specs.Text.{Tables, entriesRefusal}
 use Rattle.protocol.proofs.Tests.{first-nothing, and-intro}
 use Rattle.protocol.proofs.Refusals.{first-fails, first-holds, and-fails-left, and-fails-right}
 
-pub first-only : (n : ℕ) → first (n ∷ []) ≡ n
-unfolding first
-first-only zero = refl
-first-only (suc n) = refl
-
 module _ (S : Settings) (l : Bool) (t : Tables) where
   pub fails₁ : residues S (t .key) ≡ false → 8 ≡ entriesRefusal S l t
   unfolding entriesRefusal

@@ -1,6 +1,5 @@
 -- The six tables that the writer is lent, and pieces of their text.
 --
---   tables             the six tables as one record
 --   settingsText S P   the names line and the settings
 --   tablesRefusal      refusals 3 to 10 of the writer
 --   mixedText          a part of numbers from 0 on, and the part of signed numbers behind it
@@ -14,16 +13,6 @@ use Rattle.protocol.specs.Settings.{settingsRefusal}
 use Rattle.protocol.specs.Text.{Tables, valueLimit, names, fits, entriesRefusal}
 use Rattle.shapes.specs.Parts.{partShape}
 use Rattle.writing.specs.Put.{partText}
-
-abbrev pub tables : List ℕ → List ℤ → List ℕ → List ℕ → List ℕ → List ℤ → Tables
-tables key message commitment rounds challenges last = record {
-  key = key;
-  message = message;
-  commitment = commitment;
-  rounds = rounds;
-  challenges = challenges;
-  last = last;
-}
 
 unfoldable pub settingsText : Settings → Parts → List ℕ
 settingsText S P = names ++ partText (partShape S P 0) (map pos (S .degree ∷ S .depth ∷ S .modulus ∷ S .bound ∷ []))

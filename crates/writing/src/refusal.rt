@@ -10,7 +10,8 @@ ghost use mathlib.Core.Path.{_≡_};
 ghost use Prim.Native.Nat.{_≤_};
 ghost use Rattle.protocol.specs.Basic.{all, within};
 ghost use Rattle.protocol.specs.Text.{valueLimit, entriesRefusal};
-ghost use Rattle.writing.specs.Tables.{tables, tablesRefusal};
+ghost use Rattle.shapes.specs.Parts.{six};
+ghost use Rattle.writing.specs.Tables.{tablesRefusal};
 
 // Refusals 8, 9 and 10.
 pub fn entries_refusal(
@@ -23,7 +24,7 @@ pub fn entries_refusal(
     last: &[i32],
 ) -> u32
     requires { ⌜ settings .degree ≤ 64 ⌝ }
-    ensures { λ r. ⌜ r ≡ entriesRefusal settings (all (within valueLimit) (now (last .entry))) (tables (now (key .entry)) (now (message .entry)) (now (commitment .entry)) (now (rounds .entry)) (now (challenges .entry)) (now (last .entry))) ⌝ }
+    ensures { λ r. ⌜ r ≡ entriesRefusal settings (all (within valueLimit) (now (last .entry))) (six (now (key .entry)) (now (message .entry)) (now (commitment .entry)) (now (rounds .entry)) (now (challenges .entry)) (now (last .entry))) ⌝ }
 {
     let q = settings.modulus;
     if !all_below(q, key) {
@@ -58,7 +59,7 @@ pub fn tables_refusal(
     challenges: &[u32],
     last: &[i32],
 ) -> u32
-    ensures { λ r. ⌜ r ≡ tablesRefusal settings parts (tables (now (key .entry)) (now (message .entry)) (now (commitment .entry)) (now (rounds .entry)) (now (challenges .entry)) (now (last .entry))) ⌝ }
+    ensures { λ r. ⌜ r ≡ tablesRefusal settings parts (six (now (key .entry)) (now (message .entry)) (now (commitment .entry)) (now (rounds .entry)) (now (challenges .entry)) (now (last .entry))) ⌝ }
 {
     let number = settings_refusal(settings);
     if number != 0 {

@@ -8,9 +8,9 @@ ghost use mathlib.Core.List.{_++_};
 ghost use Prim.Native.Nat.{_+_, _≤_};
 ghost use lib.ListN.{length, drop};
 ghost use Rattle.protocol.specs.Text.{shapeSize, textOf};
-ghost use Rattle.shapes.specs.Parts.{partShape, Exact};
+ghost use Rattle.shapes.specs.Parts.{six, partShape, Exact};
 ghost use Rattle.writing.specs.Put.{Held, Adds};
-ghost use Rattle.writing.specs.Tables.{tables, settingsText, mixedText};
+ghost use Rattle.writing.specs.Tables.{settingsText, mixedText};
 
 // Bytes copied to the front of a slice.
 pub fn copy(bytes: &[u8], out: &mut [u8])
@@ -70,8 +70,8 @@ pub fn put_text(
     out: &mut [u8],
 ) -> usize
     requires { ⌜ (settings .depth ≤ 8) × (65600 ≤ length (now out)) ⌝ }
-    requires { ⌜ Exact settings parts (tables (now key) (now message) (now commitment) (now rounds) (now challenges) (now last)) ⌝ }
-    ensures { λ r. ⌜ Held (textOf settings parts (tables (now (key .entry)) (now (message .entry)) (now (commitment .entry)) (now (rounds .entry)) (now (challenges .entry)) (now (last .entry)))) r (now (out .exit)) ⌝ }
+    requires { ⌜ Exact settings parts (six (now key) (now message) (now commitment) (now rounds) (now challenges) (now last)) ⌝ }
+    ensures { λ r. ⌜ Held (textOf settings parts (six (now (key .entry)) (now (message .entry)) (now (commitment .entry)) (now (rounds .entry)) (now (challenges .entry)) (now (last .entry)))) r (now (out .exit)) ⌝ }
 {
     let key_on = put_settings(settings, parts, out);
     let commitment_on = put_mixed(settings, parts, 1, key, message, key_on, out);

@@ -6,7 +6,7 @@ use protocol::Parts;
 use protocol::Settings;
 use protocol::Written;
 ghost use Rattle.protocol.specs.Promises.{Wrote};
-ghost use Rattle.writing.specs.Tables.{tables};
+ghost use Rattle.shapes.specs.Parts.{six};
 
 // Call 13. The text is made in a place of its own: the output slice is written only once nothing is refused.
 pub fn write(
@@ -20,7 +20,7 @@ pub fn write(
     last: &[i32],
     out: &mut [u8],
 ) -> Written
-    ensures { λ r. ⌜ Wrote settings parts (tables (now (key .entry)) (now (message .entry)) (now (commitment .entry)) (now (rounds .entry)) (now (challenges .entry)) (now (last .entry))) (now (out .entry)) r (now (out .exit)) ⌝ }
+    ensures { λ r. ⌜ Wrote settings parts (six (now (key .entry)) (now (message .entry)) (now (commitment .entry)) (now (rounds .entry)) (now (challenges .entry)) (now (last .entry))) (now (out .entry)) r (now (out .exit)) ⌝ }
 {
     let number = tables_refusal(
         settings,

@@ -13,7 +13,7 @@ use Rattle.protocol.specs.Calls.{openingAnswer, openingRoundsExit}
 use Rattle.protocol.specs.Programs.{provePrints, printed}
 use Rattle.protocol.specs.Promises.{Opening, Wrote}
 use Rattle.claims.proofs.Honest.{opening-commitment, opening-last, opening-rounds}
-use Rattle.writing.specs.Tables.{tables}
+use Rattle.shapes.specs.Parts.{six}
 use Rattle.proving.specs.Printed.{Openable}
 use Rattle.proving.proofs.Honest.{given, commitment-front, last-front, printed-by}
 use Rattle.proving.proofs.print_opening.Statement.{statement}
@@ -105,11 +105,11 @@ returns c =
     let w = c .before .before in
     let o = c .before .before .before .before .before .before .before .before .before .before .before .before .before .before .before .before .before .before in
     let p = c .before .before .before .before .before .before .before .before .before in
-    let u = tables [] [] (take (S o .degree) (o .«open» .result .commitment)) (o .«open» .last .1 .1 .1 .1 .0) (E o) (take (S o .degree) (o .«open» .result .last)) in
+    let u = six [] [] (take (S o .degree) (o .«open» .result .commitment)) (o .«open» .last .1 .1 .1 .1 .0) (E o) (take (S o .degree) (o .«open» .result .last)) in
     let out = start o .args .out .now in
     let out′ = w .write .last .1 .1 .1 .1 .1 .1 .1 .1 .0 in
     printed-by (S o) (G o) (M o) (E o) (R o) (ok o) u out (w .write .result) out′
-    (λ j. tables [] [] (commitment-given o .1 j) (rounds-given o j) (E o) (last-given o .1 j))
+    (λ j. six [] [] (commitment-given o .1 j) (rounds-given o j) (E o) (last-given o .1 j))
     (subst (λ P. Wrote (S o) P u out (w .write .result) out′) (p .prints .ensures) (w .write .ensures))
 
 pub print-opening-spec : {M : Type 1} → statement M

@@ -9,8 +9,7 @@ use Rattle.protocol.specs.declared.Settings.{Settings}
 use Rattle.protocol.specs.Text.{Tables, fits, linesOf, settingsIn, lookRefusal}
 use Rattle.protocol.specs.Promises.{Read}
 use Rattle.protocol.specs.Programs.{proveReads}
-use Rattle.shapes.specs.Parts.{lengthsOf}
-use Rattle.reading.specs.Cut.{six}
+use Rattle.shapes.specs.Parts.{six, lengthsOf}
 use Rattle.reading.proofs.OnText.{number-is, settings-unrefused, settings-are, tables-are, settings-allowed, entries-passed, still-fitting}
 use Rattle.proving.proofs.Proves.{prove-refused, prove-done, openable}
 use Rattle.proving.proofs.prove_in.Statement.{statement}

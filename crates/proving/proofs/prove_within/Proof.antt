@@ -14,7 +14,7 @@ use Rattle.protocol.specs.Text.{fits, linesOf, settingsIn, lookRefusal}
 use Rattle.protocol.specs.Programs.{proveReads}
 use Rattle.protocol.proofs.Inputs.{settings-valid}
 use Rattle.sizes.proofs.Limits.{degree-most, cells-most}
-use Rattle.reading.specs.Cut.{six}
+use Rattle.shapes.specs.Parts.{six}
 use Rattle.reading.proofs.OnText.{look-refusal}
 use Rattle.proving.proofs.Proves.{prove-refused, lent-fitting}
 use Rattle.proving.proofs.prove_within.Statement.{statement}

@@ -1,7 +1,7 @@
 use mathlib.Core.Path.{ap, _∙_}
 use Rattle.protocol.specs.declared.Loaded.{Loaded}
 use Rattle.protocol.specs.Text.{readAnswer, readExit}
-use Rattle.reading.specs.Cut.{six}
+use Rattle.shapes.specs.Parts.{six}
 use Rattle.slices.specs.Slices.{short}
 use Rattle.slices.proofs.Elements.{kept, written}
 use Rattle.texts.specs.Texts.{settingsStored}

@@ -2,7 +2,7 @@ use mathlib.Core.Path.{ap, _∙_}
 use Rattle.protocol.specs.declared.Written.{Written}
 use Rattle.protocol.specs.declared.Parts.{Parts}
 use Rattle.protocol.specs.Text.{writeAnswer, writeExit}
-use Rattle.reading.specs.Cut.{six}
+use Rattle.shapes.specs.Parts.{six}
 use borrow.Author.Needs.{needs}
 use Rattle.texts.proofs.write.Statement.{statement}
 use Rattle.texts.proofs.write.Tie as tie

@@ -14,7 +14,7 @@ use Rattle.protocol.specs.Session.{verdict}
 use Rattle.protocol.specs.Programs.{tablesAccepted}
 use Rattle.protocol.proofs.Inputs.{settings-valid}
 use Rattle.sizes.proofs.Limits.{degree-most}
-use Rattle.reading.specs.Cut.{six}
+use Rattle.shapes.specs.Parts.{six}
 use Rattle.verifying.specs.Given.{Given}
 use Rattle.verifying.proofs.Checks.{check-verdict, says-accepted, says-rejected}
 use Rattle.verifying.proofs.answer.Statement.{statement}

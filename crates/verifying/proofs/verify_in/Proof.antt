@@ -8,8 +8,7 @@ use lib.ListN.{length}
 use Rattle.protocol.specs.Text.{Tables, fits, linesOf, settingsIn, lookRefusal}
 use Rattle.protocol.specs.Promises.{Read}
 use Rattle.protocol.specs.Programs.{verifyReads, transcriptIn, tablesAccepted}
-use Rattle.shapes.specs.Parts.{lengthsOf}
-use Rattle.reading.specs.Cut.{six}
+use Rattle.shapes.specs.Parts.{six, lengthsOf}
 use Rattle.verifying.proofs.Checks.{given-bare}
 use Rattle.verifying.proofs.Verifies.{verify-refused, verify-given, verify-done}
 use Rattle.verifying.proofs.verify_in.Statement.{statement}

@@ -14,7 +14,7 @@ use Rattle.protocol.specs.Text.{Tables, fits}
 use Rattle.protocol.specs.Programs.{verifyReads}
 use Rattle.protocol.proofs.Inputs.{settings-valid}
 use Rattle.sizes.proofs.Limits.{degree-most, cells-most}
-use Rattle.reading.specs.Cut.{six}
+use Rattle.shapes.specs.Parts.{six}
 use Rattle.verifying.proofs.Checks.{Long}
 use Rattle.verifying.proofs.Verifies.{verify-stops, lent-fitting}
 use Rattle.verifying.proofs.verify_within.Statement.{statement}

@@ -7,9 +7,9 @@ use borrow.Author.Needs.{needs}
 use lib.ListN.{length}
 use lib.IntN.{ℤ}
 use Rattle.protocol.specs.Text.{unsigned}
-use Rattle.shapes.specs.Parts.{lengthsOf}
+use Rattle.shapes.specs.Parts.{six, lengthsOf}
 use Rattle.shapes.specs.declared.Lengths.{Lengths}
-use Rattle.reading.specs.Cut.{cut, total, tablesOf, six}
+use Rattle.reading.specs.Cut.{cut, total, tablesOf}
 use Rattle.reading.proofs.store.all.Statement.{statement}
 use Rattle.reading.proofs.store.all.Tie as tie
 

@@ -6,12 +6,11 @@ use borrow.Author.Needs.{needs}
 use borrow.Author.Tests.{not-true, not-false}
 use Rattle.protocol.specs.Settings.{settingsRefusal}
 use Rattle.protocol.specs.Text.{fits}
-use Rattle.protocol.proofs.Refusals.{first-stops, first-passes, first-fails, first-holds}
+use Rattle.protocol.proofs.Refusals.{first-only, first-stops, first-passes, first-fails, first-holds}
 use Rattle.claims.proofs.TextLimits.{Allowed, allowed}
-use Rattle.shapes.specs.Parts.{lengthsOf, lengthsFit}
+use Rattle.shapes.specs.Parts.{six, lengthsOf, lengthsFit}
 use Rattle.shapes.proofs.Exactly.{lengths-fit}
-use Rattle.writing.specs.Tables.{tables, tablesRefusal}
-use Rattle.writing.proofs.Entries.{first-only}
+use Rattle.writing.specs.Tables.{tablesRefusal}
 use Rattle.writing.proofs.refusal.tables_refusal.Statement.{statement}
 use Rattle.writing.proofs.refusal.tables_refusal.Tie as tie
 
@@ -21,7 +20,7 @@ granted c = sym (c .before .settings-refusal .ensures) ∙ c .if1 .left
 
 -- what the test of the lengths says
 sized : (c : tie.After-fits2) → let a = c .before .before .before .before .before .before .before .args in
-    c .fits2 .result ≡ fits (a .settings) (a .parts) (tables (a .key .now) (a .message .now) (a .commitment .now) (a .rounds .now) (a .challenges .now) (a .last .now))
+    c .fits2 .result ≡ fits (a .settings) (a .parts) (six (a .key .now) (a .message .now) (a .commitment .now) (a .rounds .now) (a .challenges .now) (a .last .now))
 unfolding lengthsOf
 sized c =
     let a = c .before .before .before .before .before .before .before .args in

@@ -10,9 +10,9 @@ use Rattle.protocol.specs.declared.Settings.{Settings}
 use Rattle.protocol.specs.declared.Parts.{Parts}
 use Rattle.protocol.specs.Settings.{settingsRefusal}
 use Rattle.protocol.specs.Text.{Tables, textLimit, textOf}
-use Rattle.shapes.specs.Parts.{Exact}
+use Rattle.shapes.specs.Parts.{six, Exact}
 use Rattle.writing.specs.Put.{Held}
-use Rattle.writing.specs.Tables.{tables, tablesRefusal}
+use Rattle.writing.specs.Tables.{tablesRefusal}
 use Rattle.writing.proofs.Answers.{stopped, long, cramped, done, passed-depth, passed-exact}
 use Rattle.writing.proofs.whole.write.Statement.{statement}
 use Rattle.writing.proofs.whole.write.Tie as tie
@@ -26,7 +26,7 @@ module _ (c : tie.Else1) where
   P = c .before .before .before .before .before .before .before .args .parts
 
   abbrev t : Tables
-  t = let a = c .before .before .before .before .before .before .before .args in tables (a .key .now) (a .message .now) (a .commitment .now) (a .rounds .now) (a .challenges .now) (a .last .now)
+  t = let a = c .before .before .before .before .before .before .before .args in six (a .key .now) (a .message .now) (a .commitment .now) (a .rounds .now) (a .challenges .now) (a .last .now)
 
   fine : tablesRefusal S P t ≡ 0
   fine = sym (c .before .tables-refusal .ensures) ∙ c .if1 .left
