@@ -10,3 +10,4 @@ pub mod Padding
 pub mod Extension
 pub mod Turns
 pub mod Values
+pub mod ThreeRows

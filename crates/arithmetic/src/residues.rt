@@ -24,7 +24,7 @@ fn plus(q: u32, x: u32, y: u32) -> u32
 }
 
 // −y modulo q
-fn negated(q: u32, y: u32) -> u32
+pub fn negated(q: u32, y: u32) -> u32
     requires { ⌜ y < q ⌝ }
     ensures { λ r. ⌜ r ≡ modulo q (negℤ (pos y)) ⌝ }
 {
