@@ -1,7 +1,6 @@
 // Folds of flat tables of residues.
 use crate::residues;
 ghost use mathlib.Core.Path.{_≡_};
-ghost use mathlib.Core.Bool.{true};
 ghost use mathlib.Core.List.{_++_};
 ghost use Prim.Native.Nat.{_+_, _*_, _-_, _<_, _≤_};
 ghost use lib.ListN.{length, drop};
@@ -41,7 +40,7 @@ fn fold_rows(
     t: &mut [u32],
     x: &mut [u32],
 )
-    requires { ⌜ (d ≤ 64) × (back ≤ 2 * d) × (256 ≤ length (now x)) ⌝ }
+    requires { ⌜ (d ≤ 64) × (back ≤ 2 * d) × (d ≤ length (now x)) ⌝ }
     requires { ⌜ Residues q d first (now t) × Residues q d second (now t) × (to + d ≤ second) ⌝ }
     ensures { λ _. ⌜ now (t .exit) ≡ spliced (foldCell q d back (drop first (now (t .entry))) (drop second (now (t .entry)))) to d (now (t .entry)) ⌝ }
 {
@@ -53,55 +52,48 @@ fn fold_rows(
     residues::add_signed_row(q, s, low, x, n, t, second, to + n);
 }
 
-// The one or the other: `small` says that all numbers are residues.
-fn fold_either(
-    small: bool,
-    q: u32,
-    d: usize,
-    back: usize,
-    to: usize,
-    first: usize,
-    second: usize,
-    t: &mut [u32],
-    x: &mut [u32],
-)
-    requires { ⌜ (0 < q) × (0 < d) × (d ≤ 64) × (back ≤ 2 * d) × (256 ≤ length (now x)) ⌝ }
-    requires { ⌜ (to ≤ first) × (to + d ≤ second) × (first ≤ second) × (second + d ≤ length (now t)) ⌝ }
-    requires { ⌜ (small ≡ true → Residues q d first (now t) × Residues q d second (now t)) ⌝ }
-    ensures { λ _. ⌜ now (t .exit) ≡ spliced (foldCell q d back (drop first (now (t .entry))) (drop second (now (t .entry)))) to d (now (t .entry)) ⌝ }
+// The fold of the 2h elements from place `from` on, written from place `to` on, where all numbers are residues.
+fn fold_small(q: u32, d: usize, h: usize, e: usize, from: usize, to: usize, t: &mut [u32])
+    requires { ⌜ Foldable q d h from to (length (now t)) × Residues q (2 * (h * d)) from (now t) ⌝ }
+    ensures { λ _. ⌜ now (t .exit) ≡ foldDown q d h e from to (now (t .entry)) ⌝ }
 {
-    if small {
-        fold_rows(q, d, back, to, first, second, t, x);
-        return;
+    let half = h * d;
+    let back = 2 * d - residues::on_circle(d, e);
+    let mut x = [0u32; 64];
+    let mut j: usize = 0;
+    while j < h {
+        let at = j * d;
+        fold_rows(q, d, back, to + at, from + at, from + half + at, t, &mut x);
+        j += 1;
     }
-    fold_element(q, d, back, to, first, second, t, x);
 }
 
-// The fold of the 2h elements from place `from` on, written from place `to` on.
-fn fold_elements(q: u32, d: usize, h: usize, e: usize, from: usize, to: usize, t: &mut [u32])
+// The same for any numbers, by division.
+fn fold_divided(q: u32, d: usize, h: usize, e: usize, from: usize, to: usize, t: &mut [u32])
     requires { ⌜ Foldable q d h from to (length (now t)) ⌝ }
     ensures { λ _. ⌜ now (t .exit) ≡ foldDown q d h e from to (now (t .entry)) ⌝ }
 {
     let half = h * d;
-    let back = d + d - e % (d + d);
-    let small = residues::all_residues(q, 2 * half, t, from);
+    let back = 2 * d - residues::on_circle(d, e);
     let mut x = [0u32; 256];
     let mut j: usize = 0;
     while j < h {
         let at = j * d;
-        fold_either(
-            small,
-            q,
-            d,
-            back,
-            to + at,
-            from + at,
-            from + half + at,
-            t,
-            &mut x,
-        );
+        fold_element(q, d, back, to + at, from + at, from + half + at, t, &mut x);
         j += 1;
     }
+}
+
+// The same for any numbers.
+fn fold_elements(q: u32, d: usize, h: usize, e: usize, from: usize, to: usize, t: &mut [u32])
+    requires { ⌜ Foldable q d h from to (length (now t)) ⌝ }
+    ensures { λ _. ⌜ now (t .exit) ≡ foldDown q d h e from to (now (t .entry)) ⌝ }
+{
+    if residues::all_residues(q, 2 * (h * d), t, from) {
+        fold_small(q, d, h, e, from, to, t);
+        return;
+    }
+    fold_divided(q, d, h, e, from, to, t);
 }
 
 // The same for every input: the table stays as it is where it may not be folded so.
