@@ -1,6 +1,7 @@
 // Folds of flat tables of residues.
 use crate::residues;
 ghost use mathlib.Core.Path.{_≡_};
+ghost use mathlib.Core.Bool.{true, false};
 ghost use mathlib.Core.List.{_++_};
 ghost use Prim.Native.Nat.{_+_, _*_, _-_, _<_, _≤_};
 ghost use lib.ListN.{length, drop};
@@ -52,48 +53,78 @@ fn fold_rows(
     residues::add_signed_row(q, s, low, x, n, t, second, to + n);
 }
 
-// The fold of the 2h elements from place `from` on, written from place `to` on, where all numbers are residues.
-fn fold_small(q: u32, d: usize, h: usize, e: usize, from: usize, to: usize, t: &mut [u32])
-    requires { ⌜ Foldable q d h from to (length (now t)) × Residues q (2 * (h * d)) from (now t) ⌝ }
+// The one or the other: `small` says that all numbers are residues. Division takes more room.
+fn fold_either(
+    small: bool,
+    q: u32,
+    d: usize,
+    back: usize,
+    to: usize,
+    first: usize,
+    second: usize,
+    t: &mut [u32],
+    x: &mut [u32],
+)
+    requires { ⌜ (0 < q) × (0 < d) × (d ≤ 64) × (back ≤ 2 * d) × (d ≤ length (now x)) × (small ≡ false → 256 ≤ length (now x)) ⌝ }
+    requires { ⌜ (to ≤ first) × (to + d ≤ second) × (first ≤ second) × (second + d ≤ length (now t)) ⌝ }
+    requires { ⌜ (small ≡ true → Residues q d first (now t) × Residues q d second (now t)) ⌝ }
+    ensures { λ _. ⌜ now (t .exit) ≡ spliced (foldCell q d back (drop first (now (t .entry))) (drop second (now (t .entry)))) to d (now (t .entry)) ⌝ }
+{
+    if small {
+        fold_rows(q, d, back, to, first, second, t, x);
+        return;
+    }
+    fold_element(q, d, back, to, first, second, t, x);
+}
+
+// The fold of the 2h elements from place `from` on, written from place `to` on, each by `fold_either`.
+fn fold_each(
+    small: bool,
+    q: u32,
+    d: usize,
+    h: usize,
+    e: usize,
+    from: usize,
+    to: usize,
+    t: &mut [u32],
+    x: &mut [u32],
+)
+    requires { ⌜ Foldable q d h from to (length (now t)) × (d ≤ length (now x)) × (small ≡ false → 256 ≤ length (now x)) ⌝ }
+    requires { ⌜ (small ≡ true → Residues q (2 * (h * d)) from (now t)) ⌝ }
     ensures { λ _. ⌜ now (t .exit) ≡ foldDown q d h e from to (now (t .entry)) ⌝ }
 {
     let half = h * d;
     let back = 2 * d - residues::on_circle(d, e);
-    let mut x = [0u32; 64];
     let mut j: usize = 0;
     while j < h {
         let at = j * d;
-        fold_rows(q, d, back, to + at, from + at, from + half + at, t, &mut x);
+        fold_either(
+            small,
+            q,
+            d,
+            back,
+            to + at,
+            from + at,
+            from + half + at,
+            t,
+            x,
+        );
         j += 1;
     }
 }
 
-// The same for any numbers, by division.
-fn fold_divided(q: u32, d: usize, h: usize, e: usize, from: usize, to: usize, t: &mut [u32])
-    requires { ⌜ Foldable q d h from to (length (now t)) ⌝ }
-    ensures { λ _. ⌜ now (t .exit) ≡ foldDown q d h e from to (now (t .entry)) ⌝ }
-{
-    let half = h * d;
-    let back = 2 * d - residues::on_circle(d, e);
-    let mut x = [0u32; 256];
-    let mut j: usize = 0;
-    while j < h {
-        let at = j * d;
-        fold_element(q, d, back, to + at, from + at, from + half + at, t, &mut x);
-        j += 1;
-    }
-}
-
-// The same for any numbers.
+// The same, with a test whether all numbers are residues and room of its own: little where they are.
 fn fold_elements(q: u32, d: usize, h: usize, e: usize, from: usize, to: usize, t: &mut [u32])
     requires { ⌜ Foldable q d h from to (length (now t)) ⌝ }
     ensures { λ _. ⌜ now (t .exit) ≡ foldDown q d h e from to (now (t .entry)) ⌝ }
 {
     if residues::all_residues(q, 2 * (h * d), t, from) {
-        fold_small(q, d, h, e, from, to, t);
+        let mut x = [0u32; 64];
+        fold_each(true, q, d, h, e, from, to, t, &mut x);
         return;
     }
-    fold_divided(q, d, h, e, from, to, t);
+    let mut x = [0u32; 256];
+    fold_each(false, q, d, h, e, from, to, t, &mut x);
 }
 
 // The same for every input: the table stays as it is where it may not be folded so.

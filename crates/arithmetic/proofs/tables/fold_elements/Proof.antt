@@ -1,3 +1,6 @@
+use mathlib.Core.Path.{sym}
+use mathlib.Core.Bool.{true≢false}
+use native.Mathlib.Omega.{arith}
 use borrow.Author.Needs.{needs}
 use Rattle.arithmetic.proofs.tables.fold_elements.Statement.{statement}
 use Rattle.arithmetic.proofs.tables.fold_elements.Tie as tie
@@ -11,8 +14,11 @@ mul-all-residues-2 c = search needs
 all-residues-requires : tie.Need-all-residues-requires
 all-residues-requires c κs = search needs
 
-fold-small-requires : tie.Need-fold-small-requires
-fold-small-requires c κs = (search needs, c .before .before .all-residues .ensures (c .before .if1 .taken))
+slice-aggregate-fold-each : tie.Need-slice-aggregate-fold-each
+slice-aggregate-fold-each c = search needs
+
+fold-each-requires : tie.Need-fold-each-requires
+fold-each-requires c κs = let s = c .before .before in ((search needs, omega arith, λ g. absurd (true≢false g)), λ g. s .before .all-residues .ensures (s .if1 .taken))
 
 same-length : tie.Need-same-length
 same-length c = search needs
@@ -20,8 +26,11 @@ same-length c = search needs
 returns : tie.Need-returns
 returns c = search needs
 
-fold-divided-requires : tie.Need-fold-divided-requires
-fold-divided-requires c κs = search needs
+slice-aggregate-fold-each-2 : tie.Need-slice-aggregate-fold-each-2
+slice-aggregate-fold-each-2 c = search needs
+
+fold-each-requires-2 : tie.Need-fold-each-requires-2
+fold-each-requires-2 c κs = ((search needs, omega arith, λ g. omega arith), λ g. absurd (true≢false (sym g)))
 
 same-length-2 : tie.Need-same-length-2
 same-length-2 c = search needs
@@ -36,9 +45,11 @@ fold-elements-spec =
     mul-all-residues
     mul-all-residues-2
     all-residues-requires
-    fold-small-requires
+    slice-aggregate-fold-each
+    fold-each-requires
     same-length
     returns
-    fold-divided-requires
+    slice-aggregate-fold-each-2
+    fold-each-requires-2
     same-length-2
     returns-2)
