@@ -12,7 +12,7 @@ use Rattle.protocol.proofs.Modulo.{modulo-add, modulo-lt, modulo-neg}
 use Rattle.arithmetic.specs.Folds.{spliced}
 use Rattle.arithmetic.specs.Products.{extension}
 use Rattle.arithmetic.specs.Residues.{Residues, turned}
-use Rattle.arithmetic.proofs.Around.{around-first, around-next}
+use Rattle.arithmetic.proofs.Around.{around-first, around-third, around-next}
 use Rattle.arithmetic.proofs.Fill.{fill-done}
 use Rattle.arithmetic.proofs.Splice.{spliced-length, spliced-before, spliced-inside, spliced-ext, spliced-zeros, spliced-twice}
 
@@ -95,13 +95,19 @@ module _ (q d : ℕ) (p : 0 < q) (pd : 0 < d) (a : List ℕ) where
   unfolding extension turned
   extension-done = fill-done 192 (turned q d a) (3 * d) (3 * d) (spliced (turned q d a) 0 (3 * d) (replicate 192 0)) (spliced-zeros (turned q d a) 192 (3 * d)) refl
 
-  -- the same numbers in 64 bits
-  pub wide-done : {x y : List ℕ} → x ≡ spliced (turned q d a) 0 (3 * d) (replicate 192 0) → y ≡ spliced (λ k. getD x k 0) 0 (3 * d) (replicate 192 0) → y ≡ extension q d a
-  wide-done {x} {y} ex ey =
-      ey
-      ∙ spliced-ext (λ k. getD x k 0) (turned q d a) 0 (3 * d) (replicate 192 0)
-      (λ k l. ap (λ t. getD t k 0) ex ∙ ap (λ i. getD (spliced (turned q d a) 0 (3 * d) (replicate 192 0)) i 0) (sym (Nat.zero-add k)) ∙ spliced-inside (turned q d a) 0 (3 * d) (replicate 192 0) (omega arith) k l)
-      ∙ extension-done
+  -- what stands at place k of each row, v being the residue
+  module _ (k v : ℕ) (h : k < d) (e : v ≡ getD a k 0 % q) where
+    pub place-first : v ≡ turned q d a k
+    place-first = e ∙ turned-first k h
+
+    pub place-second : modulo q (negℤ (pos v)) ≡ turned q d a (d + k)
+    place-second = ap (λ n. modulo q (negℤ (pos n))) place-first ∙ turned-next k ∙ ap (turned q d a) (Nat.add-comm k d)
+
+    pub place-third : v ≡ turned q d a (2 * d + k)
+    unfolding turned
+    place-third =
+        place-first
+        ∙ ap (modulo q) (around-first d (residue a) k h ∙ ap (residue a) {y = 2 * d + k - d - d} (omega arith) ∙ sym (around-third d (residue a) (2 * d + k) (omega arith) (omega arith)))
 
 -- the first row of the element at a place of a table
 pub first-row : (q d : ℕ) → 0 < q → 0 < d → (from : ℕ) (t x : List ℕ) → spliced (λ k. getD t (from + k) 0 % q) 0 d x ≡ spliced (turned q d (drop from t)) 0 d x

@@ -8,11 +8,11 @@ use lib.IntN.{pos, _+ℤ_}
 use lib.ListN.{length, getD, take, drop, length-drop}
 use lib.Seq.{getD-drop, take-all}
 use Rattle.protocol.specs.Basic.{flat}
-use Rattle.protocol.specs.Element.{modulo, around, residue, residueAt}
+use Rattle.protocol.specs.Element.{modulo, around, rotate, residue, residueAt}
 use Rattle.protocol.specs.Opening.{foldResidues}
 use Rattle.protocol.proofs.Reading.{cell-element, cell-place}
 use Rattle.arithmetic.specs.Folds.{spliced, foldCell, folded, foldDown}
-use Rattle.arithmetic.proofs.Around.{around-ext, rotate-back}
+use Rattle.arithmetic.proofs.Around.{around-ext}
 use Rattle.arithmetic.proofs.Splice.{spliced-none, spliced-behind, spliced-twice}
 
 -- the tail of a list as the code lends it
@@ -24,7 +24,10 @@ pub cell-is : (q d back first : ℕ) (t b : List ℕ) (k : ℕ) → modulo q (po
 unfolding foldCell
 cell-is q d back first t b k = ap (λ n. modulo q (pos n +ℤ around d (residue b) (k + back))) (sym (getD-drop first t k 0))
 
--- element j ends inside its half
+-- a half has few numbers, and element j ends inside it
+pub few : (d h : ℕ) → d ≤ 64 → h ≤ 128 → h * d ≤ 128 * 64
+few d h ld lh = Nat.mul-le-mul {n₂ = 128} {m₂ = 64} lh ld
+
 pub row-inside : (d h j : ℕ) → j < h → j * d + d ≤ h * d
 row-inside d h j l = omega (arith, Nat.mul-le-mul-right d l, Nat.suc-mul j d)
 
@@ -59,17 +62,23 @@ module _ (q d h e from to : ℕ) (t₀ : List ℕ) (pd : 0 < d) where
         place : from + h * d + j * d + k ≡ from + ((h + j) * d + k)
         place = omega (arith, Nat.add-mul h j d)
 
-    row-is : (k : ℕ) → k < d → foldCell q d (d + d - e % (d + d)) (drop (from + j * d) t) (drop (from + h * d + j * d) t) k ≡ G (j * d + k)
-    unfolding foldCell folded
-    row-is k m =
-        (λ i. modulo q (first-at k i +ℤ (around-ext d (k + (d + d - e % (d + d))) pd (λ x _. second-at x) ∙ rotate-back d e (residueAt d (drop from t₀) (h + j)) k) i))
-        ∙ sym (λ i. folded q d h e (drop from t₀) (cell-element d j k m i) (cell-place d j k m i))
+    module _ (back : ℕ) (is : back ≡ 2 * d - e % (2 * d)) where
+      abbrev cell : ℕ → ℕ
+      cell = foldCell q d back (drop (from + j * d) t) (drop (from + h * d + j * d) t)
 
-    pub row-turn : spliced (foldCell q d (d + d - e % (d + d)) (drop (from + j * d) t) (drop (from + h * d + j * d) t)) (to + j * d) d t ≡ spliced G to ((j + 1) * d) t₀
-    row-turn =
-        ap (λ s. spliced (foldCell q d (d + d - e % (d + d)) (drop (from + j * d) t) (drop (from + h * d + j * d) t)) (to + j * d) d s) eq
-        ∙ spliced-twice G (foldCell q d (d + d - e % (d + d)) (drop (from + j * d) t) (drop (from + h * d + j * d) t)) to (j * d) d t₀ (omega (arith, row-inside d h j l)) row-is
-        ∙ ap (λ n. spliced G to n t₀) (omega (arith, Nat.suc-mul j d, Nat.add-mul j 1 d, Nat.one-mul d))
+      turn-is : (k : ℕ) → around d (residue (drop (from + h * d + j * d) t)) (k + back) ≡ rotate d e (residueAt d (drop from t₀) (h + j)) k
+      unfolding rotate
+      turn-is k = around-ext d (k + back) pd (λ x _. second-at x) ∙ ap (λ n. around d (residueAt d (drop from t₀) (h + j)) (k + n)) is
+
+      row-is : (k : ℕ) → k < d → cell k ≡ G (j * d + k)
+      unfolding foldCell folded
+      row-is k m = (λ i. modulo q (first-at k i +ℤ turn-is k i)) ∙ sym (λ i. folded q d h e (drop from t₀) (cell-element d j k m i) (cell-place d j k m i))
+
+      pub row-turn : spliced cell (to + j * d) d t ≡ spliced G to ((j + 1) * d) t₀
+      row-turn =
+          ap (spliced cell (to + j * d) d) eq
+          ∙ spliced-twice G cell to (j * d) d t₀ (omega (arith, row-inside d h j l)) row-is
+          ∙ ap (λ n. spliced G to n t₀) (omega (arith, Nat.suc-mul j d, Nat.add-mul j 1 d, Nat.one-mul d))
 
 pub fold-in-place : (q d h e : ℕ) (t : List ℕ) → foldDown q d h e 0 0 t ≡ foldResidues q d h e t
 unfolding foldDown folded foldResidues

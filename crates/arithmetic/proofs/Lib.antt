@@ -9,3 +9,5 @@ pub mod Rows
 pub mod Padding
 pub mod Extension
 pub mod Turns
+pub mod Values
+pub mod ThreeRows

@@ -10,6 +10,7 @@ ghost use lib.ListN.{length, getD};
 ghost use Rattle.protocol.specs.Element.{padded, reduced, signed, residue};
 ghost use Rattle.protocol.specs.Element as Element;
 ghost use Rattle.arithmetic.specs.Folds.{spliced};
+ghost use Rattle.arithmetic.specs.Residues.{turned};
 ghost use Rattle.arithmetic.specs.Products.{extension, narrowed, start, addRow, addRows, addFour, Rows, limit, reducedSums};
 
 fn wide(x: u32) -> u64
@@ -18,38 +19,50 @@ fn wide(x: u32) -> u64
     x as u64
 }
 
-// The first n numbers of a row, in 64 bits.
-fn widen(n: usize, x: &[u32], y: &mut [u64])
-    requires { ⌜ (n ≤ length (now x)) × (n ≤ length (now y)) ⌝ }
-    ensures { λ _. ⌜ now (y .exit) ≡ spliced (λ k. getD (now (x .entry)) k 0) 0 n (now (y .entry)) ⌝ }
+// x modulo q; a residue is not divided.
+fn reduce(q: u32, x: u32) -> u32
+    requires { ⌜ 0 < q ⌝ }
+    ensures { λ r. ⌜ r ≡ x % q ⌝ }
 {
-    for k in 0..n {
-        y[k] = wide(x[k]);
+    if x < q {
+        return x;
+    }
+    x % q
+}
+
+// The residues that stand at the places 0 to 3d − 1 of a, going round by X^d = −1, written to the front of y: each residue, its negative, and
+// the residue again.
+fn extend(q: u32, d: usize, a: &[u32], y: &mut [u64])
+    requires { ⌜ (0 < q) × (d ≤ 64) × (d ≤ length (now a)) × (3 * d ≤ length (now y)) ⌝ }
+    ensures { λ _. ⌜ now (y .exit) ≡ spliced (turned q d (now (a .entry))) 0 (3 * d) (now (y .entry)) ⌝ }
+{
+    for k in 0..d {
+        let x = reduce(q, a[k]);
+        y[k] = wide(x);
+        y[d + k] = wide(residues::negated(q, x));
+        y[2 * d + k] = wide(x);
     }
 }
 
-// The residues that stand at the places 0 to 3d − 1 of a, going round by X^d = −1.
+// The same as an array that is passed by value.
 pub fn extended(q: u32, d: u32, a: &[u32]) -> [u64; 192]
     ensures { λ r. ⌜ (0 < q → 0 < d → d ≤ 64 → d ≤ length (now (a .entry)) → r ≡ extension q d (now (a .entry))) ⌝ }
 {
-    let none = [0u64; 192];
+    let mut y = [0u64; 192];
     if q == 0 {
-        return none;
+        return y;
     }
     if d == 0 {
-        return none;
+        return y;
     }
     if d > 64 {
-        return none;
+        return y;
     }
     let n = d as usize;
     if a.len() < n {
-        return none;
+        return y;
     }
-    let mut x = [0u32; 192];
-    residues::extend(q, n, a, 0, &mut x);
-    let mut y = [0u64; 192];
-    widen(3 * n, &x, &mut y);
+    extend(q, n, a, &mut y);
     y
 }
 

@@ -1,7 +1,7 @@
 // Folds of flat tables of residues.
 use crate::residues;
 ghost use mathlib.Core.Path.{_≡_};
-ghost use mathlib.Core.Bool.{true};
+ghost use mathlib.Core.Bool.{true, false};
 ghost use mathlib.Core.List.{_++_};
 ghost use Prim.Native.Nat.{_+_, _*_, _-_, _<_, _≤_};
 ghost use lib.ListN.{length, drop};
@@ -30,17 +30,6 @@ fn fold_element(
     residues::add_rows(q, d, x, 192, back, t, to);
 }
 
-// Where the first of the two rows begins that stand `back` places on.
-fn row_start(d: usize, back: usize) -> usize
-    requires { ⌜ back ≤ 2 * d ⌝ }
-    ensures { λ r. ⌜ (r ≤ d) × (back < d → r ≡ back) × (d ≤ back → r ≡ back - d) ⌝ }
-{
-    if back < d {
-        return back;
-    }
-    back - d
-}
-
 // The same where all numbers are residues: what stands `back` places on is two rows of the element, with different signs.
 fn fold_rows(
     q: u32,
@@ -52,19 +41,19 @@ fn fold_rows(
     t: &mut [u32],
     x: &mut [u32],
 )
-    requires { ⌜ (d ≤ 64) × (back ≤ 2 * d) × (256 ≤ length (now x)) ⌝ }
+    requires { ⌜ (d ≤ 64) × (back ≤ 2 * d) × (d ≤ length (now x)) ⌝ }
     requires { ⌜ Residues q d first (now t) × Residues q d second (now t) × (to + d ≤ second) ⌝ }
     ensures { λ _. ⌜ now (t .exit) ≡ spliced (foldCell q d back (drop first (now (t .entry))) (drop second (now (t .entry)))) to d (now (t .entry)) ⌝ }
 {
     let low = back < d;
-    let s = row_start(d, back);
+    let s = residues::row_start(d, back);
     let n = d - s;
     residues::copy_row(d, t, first, x, 0);
     residues::add_signed_row(q, n, !low, x, 0, t, second + s, to);
     residues::add_signed_row(q, s, low, x, n, t, second, to + n);
 }
 
-// The one or the other: `small` says that all numbers are residues.
+// The one or the other: `small` says that all numbers are residues. Division takes more room.
 fn fold_either(
     small: bool,
     q: u32,
@@ -76,7 +65,7 @@ fn fold_either(
     t: &mut [u32],
     x: &mut [u32],
 )
-    requires { ⌜ (0 < q) × (0 < d) × (d ≤ 64) × (back ≤ 2 * d) × (256 ≤ length (now x)) ⌝ }
+    requires { ⌜ (0 < q) × (0 < d) × (d ≤ 64) × (back ≤ 2 * d) × (d ≤ length (now x)) × (small ≡ false → 256 ≤ length (now x)) ⌝ }
     requires { ⌜ (to ≤ first) × (to + d ≤ second) × (first ≤ second) × (second + d ≤ length (now t)) ⌝ }
     requires { ⌜ (small ≡ true → Residues q d first (now t) × Residues q d second (now t)) ⌝ }
     ensures { λ _. ⌜ now (t .exit) ≡ spliced (foldCell q d back (drop first (now (t .entry))) (drop second (now (t .entry)))) to d (now (t .entry)) ⌝ }
@@ -88,15 +77,24 @@ fn fold_either(
     fold_element(q, d, back, to, first, second, t, x);
 }
 
-// The fold of the 2h elements from place `from` on, written from place `to` on.
-fn fold_elements(q: u32, d: usize, h: usize, e: usize, from: usize, to: usize, t: &mut [u32])
-    requires { ⌜ Foldable q d h from to (length (now t)) ⌝ }
+// The fold of the 2h elements from place `from` on, written from place `to` on, each by `fold_either`.
+fn fold_each(
+    small: bool,
+    q: u32,
+    d: usize,
+    h: usize,
+    e: usize,
+    from: usize,
+    to: usize,
+    t: &mut [u32],
+    x: &mut [u32],
+)
+    requires { ⌜ Foldable q d h from to (length (now t)) × (d ≤ length (now x)) × (small ≡ false → 256 ≤ length (now x)) ⌝ }
+    requires { ⌜ (small ≡ true → Residues q (2 * (h * d)) from (now t)) ⌝ }
     ensures { λ _. ⌜ now (t .exit) ≡ foldDown q d h e from to (now (t .entry)) ⌝ }
 {
     let half = h * d;
-    let back = d + d - e % (d + d);
-    let small = residues::all_residues(q, 2 * half, t, from);
-    let mut x = [0u32; 256];
+    let back = 2 * d - residues::on_circle(d, e);
     let mut j: usize = 0;
     while j < h {
         let at = j * d;
@@ -109,10 +107,24 @@ fn fold_elements(q: u32, d: usize, h: usize, e: usize, from: usize, to: usize, t
             from + at,
             from + half + at,
             t,
-            &mut x,
+            x,
         );
         j += 1;
     }
+}
+
+// The same, with a test whether all numbers are residues and room of its own: little where they are.
+fn fold_elements(q: u32, d: usize, h: usize, e: usize, from: usize, to: usize, t: &mut [u32])
+    requires { ⌜ Foldable q d h from to (length (now t)) ⌝ }
+    ensures { λ _. ⌜ now (t .exit) ≡ foldDown q d h e from to (now (t .entry)) ⌝ }
+{
+    if residues::all_residues(q, 2 * (h * d), t, from) {
+        let mut x = [0u32; 64];
+        fold_each(true, q, d, h, e, from, to, t, &mut x);
+        return;
+    }
+    let mut x = [0u32; 256];
+    fold_each(false, q, d, h, e, from, to, t, &mut x);
 }
 
 // The same for every input: the table stays as it is where it may not be folded so.

@@ -1,5 +1,6 @@
+use mathlib.Core.Path.{_∙_}
 use native.Mathlib.Omega.{arith}
-use Rattle.arithmetic.proofs.Extension.{wide-done}
+use Rattle.arithmetic.proofs.Extension.{extension-done}
 use borrow.Author.Needs.{needs}
 use Rattle.arithmetic.proofs.products.extended.Statement.{statement}
 use Rattle.arithmetic.proofs.products.extended.Tie as tie
@@ -22,22 +23,8 @@ slice-aggregate-extend c = search needs
 extend-requires : tie.Need-extend-requires
 extend-requires c κs = search needs
 
-mul-widen : tie.Need-mul-widen
-mul-widen c = search needs
-
-slice-aggregate-widen : tie.Need-slice-aggregate-widen
-slice-aggregate-widen c = search needs
-
-slice-aggregate-widen-2 : tie.Need-slice-aggregate-widen-2
-slice-aggregate-widen-2 c = search needs
-
-widen-requires : tie.Need-widen-requires
-widen-requires c κs = search needs
-
 returns-5 : tie.Need-returns-5
-returns-5 c = λ hq hd h l.
-    let a = c .before .before .before .before .before .before .before .before .before .before .before .before .args in
-    wide-done (a .q) (a .d) hq hd (a .a .now) (c .before .before .before .before .before .extend .ensures) (c .before .widen .ensures)
+returns-5 c = λ hq hd h l. let a = c .before .before .before .before .before .before .before .before .args in c .before .extend .ensures ∙ extension-done (a .q) (a .d) hq hd (a .a .now)
 
 pub extended-spec : {M : Type 1} → statement M
 extended-spec =
@@ -49,8 +36,4 @@ extended-spec =
     returns-4
     slice-aggregate-extend
     extend-requires
-    mul-widen
-    slice-aggregate-widen
-    slice-aggregate-widen-2
-    widen-requires
     returns-5)

@@ -1,12 +1,12 @@
 use Prim.Native.Nat.{_*_, _≤_}
-use native.Mathlib.Nat.{mul-le-mul}
 use native.Mathlib.Omega.{arith}
+use Rattle.arithmetic.proofs.Folds.{few}
 use borrow.Author.Needs.{needs}
 use Rattle.arithmetic.proofs.tables.fold_down.Statement.{statement}
 use Rattle.arithmetic.proofs.tables.fold_down.Tie as tie
 
-few : (c : tie.Else5) → let a = c .before .before .before .before .before .before .args in a .h * a .d ≤ 128 * 64
-few c = mul-le-mul {n₂ = 128} {m₂ = 64} (omega arith) (omega arith)
+half-small : (c : tie.Else5) → let a = c .before .before .before .before .before .before .args in a .h * a .d ≤ 128 * 64
+half-small c = let a = c .before .before .before .before .before .before .args in few (a .d) (a .h) (omega arith) (omega arith)
 
 returns : tie.Need-returns
 returns c = λ f. absurd (omega arith)
@@ -24,13 +24,13 @@ returns-5 : tie.Need-returns-5
 returns-5 c = λ f. absurd (omega arith)
 
 mul-if6 : tie.Need-mul-if6
-mul-if6 c = omega (arith, few c)
+mul-if6 c = omega (arith, half-small c)
 
 mul-if6-2 : tie.Need-mul-if6-2
-mul-if6-2 c = omega (arith, few c)
+mul-if6-2 c = omega (arith, half-small c)
 
 add-if6 : tie.Need-add-if6
-add-if6 c = omega (arith, few c)
+add-if6 c = omega (arith, half-small c)
 
 returns-6 : tie.Need-returns-6
 returns-6 c = λ f. absurd (omega arith)

@@ -4,7 +4,7 @@ use Rattle.arithmetic.proofs.tables.fold_either.Statement.{statement}
 use Rattle.arithmetic.proofs.tables.fold_either.Tie as tie
 
 fold-rows-requires : tie.Need-fold-rows-requires
-fold-rows-requires c κs = let r = c .before .before .before .before .before .pre .1 .1 (c .before .before .if1 .taken) in ((omega arith, omega arith, search needs), (r .0, r .1, omega arith))
+fold-rows-requires c κs = let r = c .before .before .before .before .before .pre .1 .1 (c .before .before .if1 .taken) in (omega arith, (r .0, r .1, omega arith))
 
 same-length : tie.Need-same-length
 same-length c = search needs
@@ -16,7 +16,7 @@ returns : tie.Need-returns
 returns c = search needs
 
 fold-element-requires : tie.Need-fold-element-requires
-fold-element-requires c κs = search needs
+fold-element-requires c κs = let m = c .before .before .before .before .before .pre .0 .5 (c .before .before .if1 .left) in ((omega arith, omega arith, omega arith, omega arith, m), omega arith)
 
 same-length-3 : tie.Need-same-length-3
 same-length-3 c = search needs
