@@ -1,4 +1,4 @@
--- How large whole numbers are: what the functions on signed 64-bit numbers ask, so that no sum or product of theirs overflows.
+-- How large whole numbers are: what the functions on signed 64-bit numbers ask, so that no sum and no change of sign overflows.
 --
 --   Spreadable d a x  the first d numbers of a are there, with room for three times as many in x, and their signs can be changed
 --   Addable d i x l   d numbers of x, from place i on, and the first d of l are there, and their sums fit
