@@ -43,9 +43,6 @@ module _ (d : ℕ) (x : List ℤ) (k : ℕ) (lt : k < d) (long : 3 * d ≤ lengt
   two-long : length two ≡ length x
   two-long = length-set one (d + k) z ∙ one-long
 
-  three-long : length three ≡ length x
-  three-long = length-set two (2 * d + k) y ∙ two-long
-
   -- what is stored
   first : getD three k (pos 0) ≡ y
   first = getD-set-other two (2 * d + k) k y (pos 0) (λ e. omega arith) ∙ getD-set-other one (d + k) k z (pos 0) (λ e. omega arith) ∙ getD-set-same x k y (pos 0) (omega arith)
@@ -131,7 +128,7 @@ loop-again c =
     let g = c .before .before .before .before in let l = c .before .before .before .loop in let a = g .args in
     let long : 3 * a .d ≤ length (l .x) = omega (arith, g .pre .long-to, l .inv .1) in
     let here = through-bits w64 (getD (a .a .now) (l .k) (pos 0)) (c .before .y .given) in
-    (omega arith, three-long (a .d) (l .x) (l .k) (omega arith) long _ _ ∙ l .inv .1, turn (a .d) (l .x) (l .k) (omega arith) long _ _ (a .a .now) here (through-bits w64 (c .minus .result) (c .minus .ok) ∙ c .minus .ensures ∙ ap negℤ here) (l .inv .2))
+    (omega arith, simp length-set (search needs), turn (a .d) (l .x) (l .k) (omega arith) long _ _ (a .a .now) here (through-bits w64 (c .minus .result) (c .minus .ok) ∙ c .minus .ensures ∙ ap negℤ here) (l .inv .2))
 
 same-length : tie.Need-same-length Inv-loop μ-loop
 same-length c = search needs
