@@ -1,26 +1,27 @@
 -- What single steps on elements and lists leave, in the shape in which the code leaves it.
 --
---   added d c a l            the list l with c·a added to its first d numbers
---   splitAdded d r x y a l   l with x times the last r numbers of a added to its first r numbers, and y times the first d − r of a to the next d − r
+--   Spread d a x             the first 3d numbers of x are those that stand there of a, going round by X^d = −1
+--   spreadAdded d i x l      the list l with d numbers of x, from place i on, added to its first d numbers
 --   rotatedAdded d e a l     l with X^e·a added to its first d numbers
 --   summed d k j a           a·(1 + X^k)·(1 + X^2k)·(1 + X^4k)·…, j factors
 --   doublings d k            how often k is doubled until it is d on the circle of 2d exponents; 7 where that is not met
 --   divided d k a            2·a divided by 1 − X^k, where d is a power of two and k no multiple of 2d (Mu)
 --   weighted d k₁ k₂ e a     the same for two k, times 1 + X^e
+use mathlib.Core.Path.{_≡_}
 use mathlib.Core.List.{List}
-use Prim.Native.Nat.{ℕ, zero, suc, _+_, _*_, _-_, _%_, _^_}
-use lib.Dec.{ltb, eqb}
+use Prim.Native.Nat.{ℕ, zero, suc, _+_, _*_, _%_, _^_, _<_}
+use lib.Dec.{eqb}
 use lib.ListN.{getD}
-use lib.IntN.{ℤ, pos, _+ℤ_, _*ℤ_}
-use Rattle.protocol.specs.Basic.{choose, least}
-use Rattle.protocol.specs.Element.{Element, rotate, plus, signed}
+use lib.IntN.{ℤ, pos, _+ℤ_}
+use Rattle.protocol.specs.Basic.{least}
+use Rattle.protocol.specs.Element.{Element, around, rotate, plus, signed}
 use Rattle.arithmetic.proofs.Fill.{filled}
 
-unfoldable pub added : ℕ → ℤ → List ℤ → List ℤ → List ℤ
-added d c a l = filled (λ k. getD l k (pos 0) +ℤ c *ℤ getD a k (pos 0)) d l
+pub record Spread (d : ℕ) (a x : List ℤ) : Type 0 where
+  pub each : (j : ℕ) → j < 3 * d → getD x j (pos 0) ≡ around d (signed a) j
 
-unfoldable pub splitAdded : ℕ → ℕ → ℤ → ℤ → List ℤ → List ℤ → List ℤ
-splitAdded d r x y a l = filled (λ k. getD l k (pos 0) +ℤ choose (ltb k r) (x *ℤ getD a (d - r + k) (pos 0)) (y *ℤ getD a (k - r) (pos 0))) d l
+unfoldable pub spreadAdded : ℕ → ℕ → List ℤ → List ℤ → List ℤ
+spreadAdded d i x l = filled (λ k. getD l k (pos 0) +ℤ getD x (i + k) (pos 0)) d l
 
 unfoldable pub rotatedAdded : ℕ → ℕ → List ℤ → List ℤ → List ℤ
 rotatedAdded d e a l = filled (plus (signed l) (rotate d e (signed a))) d l

@@ -1,31 +1,13 @@
 // Elements over whole numbers, in signed 64-bit numbers and in place: sums with rotations, and the quotients that multiplication by μ is made of.
 // What a function asks of magnitudes leaves room for all its sums.
 ghost use mathlib.Core.Path.{_≡_};
-ghost use Prim.Native.Nat.{_+_, _*_, _-_, _%_, _<_, _≤_};
+ghost use Prim.Native.Nat.{_+_, _*_, _-_, _%_, _^_, _<_, _≤_};
 ghost use lib.ListN.{length};
-ghost use lib.IntN.{natAbs, _+ℤ_, _*ℤ_};
+ghost use lib.IntN.{natAbs, negℤ, _+ℤ_};
 ghost use Rattle.protocol.specs.Element.{signed};
 ghost use Rattle.arithmetic.proofs.Fill.{filled};
-ghost use Rattle.extraction.specs.Bounds.{Fits, Room, Summable, Doubling, Weighable};
-ghost use Rattle.extraction.specs.Steps.{added, splitAdded, rotatedAdded, divided, weighted};
-
-// x + c·y
-fn plus_times(x: i64, c: i64, y: i64) -> i64
-    requires { ⌜ Fits x c y ⌝ }
-    ensures { λ r. ⌜ r ≡ x +ℤ c *ℤ y ⌝ }
-{
-    x + c * y
-}
-
-// Adds c·a to the first d numbers of `out`.
-fn accumulate(d: usize, c: i64, a: &[i64], out: &mut [i64])
-    requires { ⌜ (d ≤ 64) × (d ≤ length (now a)) × (d ≤ length (now out)) × Room d c (now a) (now out) ⌝ }
-    ensures { λ _. ⌜ now (out .exit) ≡ added d c (now (a .entry)) (now (out .entry)) ⌝ }
-{
-    for k in 0..d {
-        out[k] = plus_times(out[k], c, a[k]);
-    }
-}
+ghost use Rattle.extraction.specs.Bounds.{Spreadable, Addable, Summable, Doubling, Weighable};
+ghost use Rattle.extraction.specs.Steps.{Spread, spreadAdded, rotatedAdded, divided, weighted};
 
 // Copies the first n numbers of a.
 pub(crate) fn store(n: usize, a: &[i64], out: &mut [i64])
@@ -37,35 +19,51 @@ pub(crate) fn store(n: usize, a: &[i64], out: &mut [i64])
     }
 }
 
-// Adds to the first d numbers of `out`: to those below place r the last r numbers of a times `low`, to the others the first d − r times `high`.
-fn add_split(d: usize, r: usize, low: i64, high: i64, a: &[i64], out: &mut [i64])
-    requires { ⌜ (r ≤ d) × (d ≤ 64) × (natAbs low ≤ 1) × (natAbs high ≤ 1) × Summable d (now a) (now out) ⌝ }
-    ensures { λ _. ⌜ now (out .exit) ≡ splitAdded d r low high (now (a .entry)) (now (out .entry)) ⌝ }
+fn plus(x: i64, y: i64) -> i64
+    requires { ⌜ natAbs (x +ℤ y) < 2 ^ 63 ⌝ }
+    ensures { λ r. ⌜ r ≡ x +ℤ y ⌝ }
 {
-    let rest = d - r;
-    accumulate(r, low, &a[rest..], out);
-    accumulate(rest, high, a, &mut out[r..]);
+    x + y
 }
 
-// Adds X^e·a to the first d numbers of `out`. What passes X^d changes its sign.
-pub(crate) fn add_rotated(d: usize, e: usize, a: &[i64], out: &mut [i64])
-    requires { ⌜ (0 < d) × (d ≤ 64) × (e < 2 * d) × Summable d (now a) (now out) ⌝ }
-    ensures { λ _. ⌜ now (out .exit) ≡ rotatedAdded d e (now (a .entry)) (now (out .entry)) ⌝ }
+fn minus(x: i64) -> i64
+    requires { ⌜ natAbs x < 2 ^ 63 ⌝ }
+    ensures { λ r. ⌜ r ≡ negℤ x ⌝ }
 {
-    if e < d {
-        add_split(d, e, -1, 1, a, out);
-        return;
+    -x
+}
+
+// Spreads the first d numbers of a over the first 3d of x, going round by X^d = −1: a, −a, a. Every X^e·a, e < 2d, is then d numbers of x in a row.
+pub(crate) fn spread(d: usize, a: &[i64], x: &mut [i64])
+    requires { ⌜ Spreadable d (now a) (now x) ⌝ }
+    ensures { λ _. ⌜ Spread d (now (a .entry)) (now (x .exit)) ⌝ }
+{
+    for k in 0..d {
+        let y = a[k];
+        x[k] = y;
+        x[d + k] = minus(y);
+        x[2 * d + k] = y;
     }
-    add_split(d, e - d, 1, -1, a, out);
 }
 
-// a + X^e·a in place of a; `copy` is room for it.
-fn add_own(d: usize, e: usize, a: &mut [i64], copy: &mut [i64])
-    requires { ⌜ (0 < d) × (d ≤ 64) × (e < 2 * d) × (d ≤ length (now copy)) × Summable d (now a) (now a) ⌝ }
+// Adds X^e·a to the first d numbers of `out`, a being spread over x.
+pub(crate) fn add_spread(d: usize, e: usize, x: &[i64], out: &mut [i64])
+    requires { ⌜ (d ≤ 64) × (e ≤ 2 * d) × Addable d (2 * d - e) (now x) (now out) ⌝ }
+    ensures { λ _. ⌜ now (out .exit) ≡ spreadAdded d (2 * d - e) (now (x .entry)) (now (out .entry)) ⌝ }
+{
+    let from = 2 * d - e;
+    for k in 0..d {
+        out[k] = plus(out[k], x[from + k]);
+    }
+}
+
+// a + X^e·a in place of a; x is room for the spread a.
+fn add_own(d: usize, e: usize, a: &mut [i64], x: &mut [i64])
+    requires { ⌜ (0 < d) × (d ≤ 64) × (e < 2 * d) × (3 * d ≤ length (now x)) × Summable d (now a) (now a) ⌝ }
     ensures { λ _. ⌜ now (a .exit) ≡ rotatedAdded d e (now (a .entry)) (now (a .entry)) ⌝ }
 {
-    store(d, a, copy);
-    add_rotated(d, e, copy, a);
+    spread(d, a, x);
+    add_spread(d, e, x, a);
 }
 
 // x on the circle of 2d exponents.
@@ -80,8 +78,8 @@ pub(crate) fn on_circle(d: usize, x: usize) -> usize
 }
 
 // 2·a divided by 1 − X^k, in place of a: a·(1 + X^k)·(1 + X^2k)·(1 + X^4k) and so on, until the next power is X^d, which is −1.
-fn divide(d: usize, k: usize, a: &mut [i64], copy: &mut [i64])
-    requires { ⌜ (d ≤ length (now copy)) × Doubling d k (now a) ⌝ }
+fn divide(d: usize, k: usize, a: &mut [i64], x: &mut [i64])
+    requires { ⌜ (3 * d ≤ length (now x)) × Doubling d k (now a) ⌝ }
     ensures { λ _. ⌜ now (a .exit) ≡ filled (divided d k (signed (now (a .entry)))) d (now (a .entry)) ⌝ }
 {
     let mut e = k;
@@ -89,17 +87,17 @@ fn divide(d: usize, k: usize, a: &mut [i64], copy: &mut [i64])
         if e == d {
             return;
         }
-        add_own(d, e, a, copy);
+        add_own(d, e, a, x);
         e = on_circle(d, 2 * e);
     }
 }
 
 // Both quotients, by 1 − X^k and by 1 − X^m, and then times 1 + X^e.
-pub(crate) fn weigh(d: usize, k: usize, m: usize, e: usize, a: &mut [i64], copy: &mut [i64])
-    requires { ⌜ (d ≤ length (now copy)) × Weighable d k m e (now a) ⌝ }
+pub(crate) fn weigh(d: usize, k: usize, m: usize, e: usize, a: &mut [i64], x: &mut [i64])
+    requires { ⌜ (3 * d ≤ length (now x)) × Weighable d k m e (now a) ⌝ }
     ensures { λ _. ⌜ now (a .exit) ≡ filled (weighted d k m e (signed (now (a .entry)))) d (now (a .entry)) ⌝ }
 {
-    divide(d, k, a, copy);
-    divide(d, m, a, copy);
-    add_own(d, e, a, copy);
+    divide(d, k, a, x);
+    divide(d, m, a, x);
+    add_own(d, e, a, x);
 }

@@ -1,7 +1,7 @@
 // The vectors of a tree's nodes, over whole numbers: flat lists of elements, d numbers each.
-use crate::elements::add_rotated;
+use crate::elements::add_spread;
 use crate::elements::on_circle;
-use crate::elements::store;
+use crate::elements::spread;
 use crate::elements::weigh;
 use protocol::Settings;
 ghost use mathlib.Core.Path.{_≡_};
@@ -13,29 +13,27 @@ ghost use Rattle.arithmetic.proofs.Fill.{filled};
 ghost use Rattle.extraction.specs.Vectors.{scaled, Scalable, turned, Turnable, withShare, Sharing, Branching, branchAdded};
 ghost use Rattle.extraction.specs.Nodes.{Extractable, AtNode};
 
-// Multiplies each of the first n elements of v by X^(2a)·μ, from the exponents that μ's quotients and sum go by.
-fn scale(d: usize, n: usize, k: usize, m: usize, e: usize, v: &mut [i64])
-    requires { ⌜ Scalable d n k m e (now v) ⌝ }
+// Multiplies each of the first n elements of v by X^(2a)·μ, from the exponents that μ's quotients and sum go by; x is room for one spread element.
+fn scale(d: usize, n: usize, k: usize, m: usize, e: usize, v: &mut [i64], x: &mut [i64])
+    requires { ⌜ (3 * d ≤ length (now x)) × Scalable d n k m e (now v) ⌝ }
     ensures { λ _. ⌜ now (v .exit) ≡ scaled d n k m e (now (v .entry)) ⌝ }
 {
-    let mut copy = [0i64; 64];
     for i in 0..n {
         let at = i * d;
-        weigh(d, k, m, e, &mut v[at..], &mut copy);
+        weigh(d, k, m, e, &mut v[at..], x);
     }
 }
 
-// Adds X^e times each of the first n elements to those from place `to` on.
-fn add_turned(d: usize, n: usize, e: usize, to: usize, l: &mut [i64])
-    requires { ⌜ Turnable d n e to (now l) ⌝ }
+// Adds X^e times each of the first n elements to those from place `to` on; x is room for one spread element.
+fn add_turned(d: usize, n: usize, e: usize, to: usize, l: &mut [i64], x: &mut [i64])
+    requires { ⌜ (3 * d ≤ length (now x)) × Turnable d n e to (now l) ⌝ }
     ensures { λ _. ⌜ now (l .exit) ≡ turned d n e to (now (l .entry)) ⌝ }
 {
-    let mut copy = [0i64; 64];
     for i in 0..n {
         let at = i * d;
-        store(d, &l[at..], &mut copy);
+        spread(d, &l[at..], x);
         let into = to + at;
-        add_rotated(d, e, &copy, &mut l[into..]);
+        add_spread(d, e, x, &mut l[into..]);
     }
 }
 
@@ -50,11 +48,12 @@ fn add_share(d: usize, n: usize, a: usize, b: usize, c: usize, l: &mut [i64])
     let m = on_circle(d, c + back);
     let e = on_circle(d, b + c);
     let cells = n * d;
-    scale(d, n, k, m, e, &mut l[..cells]);
+    let mut x = [0i64; 192];
+    scale(d, n, k, m, e, &mut l[..cells], &mut x);
     let once = on_circle(d, back);
     let twice = on_circle(d, 2 * once);
-    add_turned(d, n, twice, cells, l);
-    add_turned(d, n, once, 2 * cells, l);
+    add_turned(d, n, twice, cells, l, &mut x);
+    add_turned(d, n, once, 2 * cells, l, &mut x);
 }
 
 fn clear(l: &mut [i64])

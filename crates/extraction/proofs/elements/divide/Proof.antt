@@ -22,11 +22,11 @@ abbrev Before : ℕ → ℕ → ℕ → Type 0
 Before d k j = (i : ℕ) → i < j → eqb (k * 2 ^ i % (2 * d)) d ≡ false
 
 abbrev Inv-loop : tie.InvT-loop
-Inv-loop d k a₀ copy₀ e₀ j₀ a copy e j =
-    (j ≤ 7) × (e ≡ k * 2 ^ j % (2 * d)) × (a ≡ filled (summed d k j (signed a₀)) d a₀) × (length a ≡ length a₀) × (length copy ≡ length copy₀) × Before d k j
+Inv-loop d k a₀ x₀ e₀ j₀ a x e j =
+    (j ≤ 7) × (e ≡ k * 2 ^ j % (2 * d)) × (a ≡ filled (summed d k j (signed a₀)) d a₀) × (length a ≡ length a₀) × (length x ≡ length x₀) × Before d k j
 
 abbrev μ-loop : tie.MeasureT-loop
-μ-loop d k a₀ copy₀ e₀ j₀ a copy e j = 7 - j
+μ-loop d k a₀ x₀ e₀ j₀ a x e j = 7 - j
 
 some : (c : tie.Start Inv-loop μ-loop) → 0 < c .args .d
 some c = omega (arith, c .pre .1 .degree-is, Pow.pow-pos (c .pre .1 .log))

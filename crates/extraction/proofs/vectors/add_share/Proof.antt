@@ -1,10 +1,10 @@
 -- The products, then the sums with the first half and with the second. The products are ahead by X^(2a), which the sums turn back.
 use mathlib.Core.Path.{_≡_, sym, ap, _∙_}
-use Prim.Native.Nat.{_+_, _*_, _-_, _%_, _<_}
+use Prim.Native.Nat.{_+_, _*_, _-_, _%_, _<_, _≤_}
 use native.Mathlib.Nat as Nat
 use native.Mathlib.Omega.{arith}
 use borrow.Author.Needs.{needs}
-use lib.ListN.{take, drop}
+use lib.ListN.{length, take, drop}
 use lib.Seq.{length-take-le}
 use mathlib.Core.List.{_++_}
 use Rattle.protocol.specs.Tree.{gap}
@@ -22,25 +22,32 @@ second : (c : tie.After-on-circle2) → let a = c .before .before .args in c .on
 unfolding gap
 second c = c .on-circle2 .ensures
 
-once : (c : tie.After-on-circle4) → let g = c .before .before .before .before .before .before .before in let a = g .args in c .on-circle4 .result ≡ backOnce (a .d) (a .a)
+once : (c : tie.After-on-circle4) → let g = c .before .before .before .before .before .before .before .before .before in let a = g .args in c .on-circle4 .result ≡ backOnce (a .d) (a .a)
 unfolding backOnce
 once c = c .on-circle4 .ensures
 
-once-small : (c : tie.After-on-circle4) → c .on-circle4 .result < 2 * c .before .before .before .before .before .before .before .args .d
-once-small c = let g = c .before .before .before .before .before .before .before in let p : 0 < 2 * g .args .d = omega (arith, g .pre .some) in omega (arith, c .on-circle4 .ensures, Nat.mod-lt (2 * g .args .d - g .args .a) p)
+once-small : (c : tie.After-on-circle4) → c .on-circle4 .result < 2 * c .before .before .before .before .before .before .before .before .before .args .d
+once-small c = let g = c .before .before .before .before .before .before .before .before .before in let p : 0 < 2 * g .args .d = omega (arith, g .pre .some) in omega (arith, c .on-circle4 .ensures, Nat.mod-lt (2 * g .args .d - g .args .a) p)
 
-twice : (c : tie.After-on-circle5) → let g = c .before .before .before .before .before .before .before .before in let a = g .args in c .on-circle5 .result ≡ backTwice (a .d) (a .a)
+twice : (c : tie.After-on-circle5) → let g = c .before .before .before .before .before .before .before .before .before .before in let a = g .args in c .on-circle5 .result ≡ backTwice (a .d) (a .a)
 unfolding backTwice
-twice c = c .on-circle5 .ensures ∙ ap (λ x. 2 * x % (2 * c .before .before .before .before .before .before .before .before .args .d)) (once (c .before))
+twice c = c .on-circle5 .ensures ∙ ap (λ x. 2 * x % (2 * c .before .before .before .before .before .before .before .before .before .before .args .d)) (once (c .before))
 
 -- the products
-products : (c : tie.After-scale) → let a = c .before .before .before .before .before .args in
+products : (c : tie.After-scale) → let a = c .before .before .before .before .before .before .args in
     c .scale .last .1 .1 .1 .1 .1 .0 ≡ scaled (a .d) (a .n) (gap (a .d) (a .a) (a .b)) (gap (a .d) (a .a) (a .c)) ((a .b + a .c) % (2 * a .d)) (take (a .n * a .d) (a .l .now))
-products c = let a = c .before .before .before .before .before .args in c .scale .ensures ∙ (λ i. scaled (a .d) (a .n) (first (c .before .before .before .before) i) (second (c .before .before .before) i) (c .before .before .on-circle3 .ensures i) (take (a .n * a .d) (a .l .now)))
+products c = let a = c .before .before .before .before .before .before .args in c .scale .ensures ∙ (λ i. scaled (a .d) (a .n) (first (c .before .before .before .before .before) i) (second (c .before .before .before .before) i) (c .before .before .before .on-circle3 .ensures i) (take (a .n * a .d) (a .l .now)))
 
 -- the sums with the first half
-sums : (c : tie.After-add-turned) → let g = c .before .before .before .before .before .before .before .before .before .before in let a = g .args in c .add-turned .last .1 .1 .1 .1 .0 ≡ turned (a .d) (a .n) (backTwice (a .d) (a .a)) (a .n * a .d) (c .before .before .before .before .before .scale .last .1 .1 .1 .1 .1 .0 ++ drop (a .n * a .d) (a .l .now))
-sums c = let a = c .before .before .before .before .before .before .before .before .before .before .args in c .add-turned .ensures ∙ ap (λ x. turned (a .d) (a .n) x (a .n * a .d) (c .before .before .before .before .before .scale .last .1 .1 .1 .1 .1 .0 ++ drop (a .n * a .d) (a .l .now))) (twice (c .before .before))
+sums : (c : tie.After-add-turned) → let g = c .before .before .before .before .before .before .before .before .before .before .before .before .before in let a = g .args in c .add-turned .last .1 .1 .1 .1 .0 ≡ turned (a .d) (a .n) (backTwice (a .d) (a .a)) (a .n * a .d) (c .before .before .before .before .before .before .before .scale .last .1 .1 .1 .1 .1 .0 ++ drop (a .n * a .d) (a .l .now))
+sums c = let a = c .before .before .before .before .before .before .before .before .before .before .before .before .before .args in c .add-turned .ensures ∙ ap (λ x. turned (a .d) (a .n) x (a .n * a .d) (c .before .before .before .before .before .before .before .scale .last .1 .1 .1 .1 .1 .0 ++ drop (a .n * a .d) (a .l .now))) (twice (c .before .before .before))
+
+-- the room for a spread element keeps its length
+room : (c : tie.After-scale) → 3 * c .before .before .before .before .before .before .args .d ≤ length (c .scale .last .1 .1 .1 .1 .1 .1 .0)
+room c = omega (arith, c .before .before .before .before .before .before .pre .small, c .scale .kept .1 .1 .1 .1 .1 .1 .0)
+
+room-still : (c : tie.After-add-turned) → 3 * c .before .before .before .before .before .before .before .before .before .before .before .before .before .args .d ≤ length (c .add-turned .last .1 .1 .1 .1 .1 .0)
+room-still c = omega (arith, room (c .before .before .before .before .before .before .before), c .add-turned .kept .1 .1 .1 .1 .1 .0)
 
 mul-back : tie.Need-mul-back
 mul-back c = omega (arith, c .pre .small)
@@ -75,34 +82,43 @@ slice-relend-prefix-scale c = search needs
 slice-aggregate-scale : tie.Need-slice-aggregate-scale
 slice-aggregate-scale c = let g = c .before .before .before .before in sym (length-take-le _ _ (omega (arith, g .pre .long)))
 
+slice-aggregate-scale-2 : tie.Need-slice-aggregate-scale-2
+slice-aggregate-scale-2 c = search needs
+
 scale-requires : tie.Need-scale-requires
-scale-requires c κs = let g = c .before .before .before .before in let a = g .args in rw (first (c .before .before .before), second (c .before .before), c .before .on-circle3 .ensures) (share-scalable (a .d) (a .n) (a .a) (a .b) (a .c) (a .l .now) (g .pre))
+scale-requires c κs = let g = c .before .before .before .before .before in let a = g .args in (omega (arith, g .pre .small), rw (first (c .before .before .before .before), second (c .before .before .before), c .before .before .on-circle3 .ensures) (share-scalable (a .d) (a .n) (a .a) (a .b) (a .c) (a .l .now) (g .pre)))
 
 on-circle-requires-4 : tie.Need-on-circle-requires-4
-on-circle-requires-4 c κs = let g = c .before .before .before .before .before .before in (g .pre .small, omega (arith, g .pre .some))
+on-circle-requires-4 c κs = let g = c .before .before .before .before .before .before .before .before in (g .pre .small, omega (arith, g .pre .some))
 
 mul-on-circle : tie.Need-mul-on-circle
-mul-on-circle c = omega (arith, once-small c, c .before .before .before .before .before .before .before .pre .small)
+mul-on-circle c = omega (arith, once-small c, c .before .before .before .before .before .before .before .before .before .pre .small)
 
 on-circle-requires-5 : tie.Need-on-circle-requires-5
-on-circle-requires-5 c κs = (c .before .before .before .before .before .before .before .pre .small, omega (arith, once-small c))
+on-circle-requires-5 c κs = (c .before .before .before .before .before .before .before .before .before .pre .small, omega (arith, once-small c))
+
+slice-aggregate-add-turned : tie.Need-slice-aggregate-add-turned
+slice-aggregate-add-turned c = search needs
 
 add-turned-requires : tie.Need-add-turned-requires
-add-turned-requires c κs = let g = c .before .before .before .before .before .before .before .before .before in let a = g .args in rw (twice (c .before)) (first-turnable (a .d) (a .n) (a .a) (a .b) (a .c) (a .l .now) (g .pre) (products (c .before .before .before .before)))
+add-turned-requires c κs = let g = c .before .before .before .before .before .before .before .before .before .before .before .before in let a = g .args in (room (c .before .before .before .before .before .before), rw (twice (c .before .before)) (first-turnable (a .d) (a .n) (a .a) (a .b) (a .c) (a .l .now) (g .pre) (products (c .before .before .before .before .before .before))))
 
 mul-add-turned : tie.Need-mul-add-turned
 mul-add-turned c = search needs
 
+slice-aggregate-add-turned-2 : tie.Need-slice-aggregate-add-turned-2
+slice-aggregate-add-turned-2 c = search needs
+
 add-turned-requires-2 : tie.Need-add-turned-requires-2
-add-turned-requires-2 c κs = let g = c .before .before .before .before .before .before .before .before .before .before .before .before in let a = g .args in rw (once (c .before .before .before .before .before)) (second-turnable (a .d) (a .n) (a .a) (a .b) (a .c) (a .l .now) (g .pre) (products (c .before .before .before .before .before .before .before)) (sums (c .before .before)))
+add-turned-requires-2 c κs = let g = c .before .before .before .before .before .before .before .before .before .before .before .before .before .before .before .before .before in let a = g .args in (room-still (c .before .before .before .before), rw (once (c .before .before .before .before .before .before .before .before)) (second-turnable (a .d) (a .n) (a .a) (a .b) (a .c) (a .l .now) (g .pre) (products (c .before .before .before .before .before .before .before .before .before .before .before)) (sums (c .before .before .before .before))))
 
 same-length : tie.Need-same-length
 same-length c = search needs
 
 returns : tie.Need-returns
 returns c =
-    let g = c .before .before .before .before .before .before .before .before .before .before .before .before .before .before in let a = g .args in
-    share-added (a .d) (a .n) (a .a) (a .b) (a .c) (a .l .now) (g .pre) (products (c .before .before .before .before .before .before .before .before .before)) (sums (c .before .before .before .before)) (c .before .add-turned2 .ensures ∙ ap (λ x. turned (a .d) (a .n) x (2 * (a .n * a .d)) (c .before .before .before .before .add-turned .last .1 .1 .1 .1 .0)) (once (c .before .before .before .before .before .before .before)))
+    let g = c .before .before .before .before .before .before .before .before .before .before .before .before .before .before .before .before .before .before .before .before in let a = g .args in
+    share-added (a .d) (a .n) (a .a) (a .b) (a .c) (a .l .now) (g .pre) (products (c .before .before .before .before .before .before .before .before .before .before .before .before .before .before)) (sums (c .before .before .before .before .before .before .before)) (c .before .before .add-turned2 .ensures ∙ ap (λ x. turned (a .d) (a .n) x (2 * (a .n * a .d)) (c .before .before .before .before .before .before .before .add-turned .last .1 .1 .1 .1 .0)) (once (c .before .before .before .before .before .before .before .before .before .before .before)))
 
 pub add-share-spec : {M : Type 1} → statement M
 add-share-spec =
@@ -119,12 +135,15 @@ add-share-spec =
     mul-cells
     slice-relend-prefix-scale
     slice-aggregate-scale
+    slice-aggregate-scale-2
     scale-requires
     on-circle-requires-4
     mul-on-circle
     on-circle-requires-5
+    slice-aggregate-add-turned
     add-turned-requires
     mul-add-turned
+    slice-aggregate-add-turned-2
     add-turned-requires-2
     same-length
     returns)

@@ -17,7 +17,7 @@ use Rattle.arithmetic.proofs.Folds.{row-inside}
 use Rattle.relaxed.proofs.Products.{rotate-ext}
 use Rattle.extraction.proofs.Parts.{part-length, part-entry}
 use Rattle.extraction.proofs.Splicing.{spliced-none, spliced-turn, spliced-length, spliced-low, spliced-behind}
-use Rattle.extraction.proofs.Sums.{copy-summable, copy-rotated}
+use Rattle.extraction.proofs.Sums.{spreadable, addable, spread-rotated}
 use Rattle.extraction.proofs.vectors.add_turned.Statement.{statement}
 use Rattle.extraction.proofs.vectors.add_turned.Tie as tie
 
@@ -26,10 +26,10 @@ abbrev sums : ℕ → ℕ → ℕ → List ℤ → ℕ → ℕ → ℤ
 sums d e to l i k = getD l (to + (i * d + k)) (pos 0) +ℤ rotate d e (signedAt d l i) k
 
 abbrev Inv-loop : tie.InvT-loop
-Inv-loop d n e to l₀ copy₀ i₀ l copy i = (i ≤ n) × (l ≡ spliced to d i (sums d e to l₀) l₀) × (length l ≡ length l₀) × (length copy ≡ 64)
+Inv-loop d n e to l₀ x₀ i₀ l x i = (i ≤ n) × (l ≡ spliced to d i (sums d e to l₀) l₀) × (length l ≡ length l₀) × (length x ≡ length x₀)
 
 abbrev μ-loop : tie.MeasureT-loop
-μ-loop d n e to l₀ copy₀ i₀ l copy i = n - i
+μ-loop d n e to l₀ x₀ i₀ l x i = n - i
 
 -- a turn over plain variables
 module _ (d n e to : ℕ) (l : List ℤ) (T : Turnable d n e to l) (i : ℕ) (lt : i < n) (w : List ℤ) (is : w ≡ spliced to d i (sums d e to l) l) (same : length w ≡ length l) where
@@ -79,54 +79,49 @@ module _ (d n e to : ℕ) (l : List ℤ) (T : Turnable d n e to l) (i : ℕ) (lt
 
 -- an element's place
 here : (c : tie.In-loop Inv-loop μ-loop) → let a = c .before .before .args in (c .before .loop .i * a .d + a .d ≤ a .to) × (a .to + c .before .loop .i * a .d + a .d ≤ length (a .l .now))
-here c = let g = c .before .before in let l = c .before .loop in let a = g .args in fits-in (a .d) (a .n) (a .e) (a .to) (a .l .now) (g .pre) (l .i) (omega arith) (l .l) (l .inv .1) (l .inv .2)
+here c = let g = c .before .before in let l = c .before .loop in let a = g .args in fits-in (a .d) (a .n) (a .e) (a .to) (a .l .now) (g .pre .1) (l .i) (omega arith) (l .l) (l .inv .1) (l .inv .2)
 
 loop-holds : tie.Need-loop-holds Inv-loop μ-loop
-loop-holds c = (omega arith, spliced-none _ _ _ _ (omega (arith, c .pre .inside)), refl, refl)
+loop-holds c = (omega arith, spliced-none _ _ _ _ (omega (arith, c .pre .1 .inside)), refl, refl)
 
 mul-at : tie.Need-mul-at Inv-loop μ-loop
 mul-at c = let h = here c in record { fits = omega arith }
 
-mul-store : tie.Need-mul-store Inv-loop μ-loop
-mul-store c = let h = here c in record { fits = omega arith }
+mul-spread : tie.Need-mul-spread Inv-loop μ-loop
+mul-spread c = let h = here c in record { fits = omega arith }
 
-sub-store : tie.Need-sub-store Inv-loop μ-loop
-sub-store c = let h = here c in omega arith
+sub-spread : tie.Need-sub-spread Inv-loop μ-loop
+sub-spread c = let h = here c in omega arith
 
-part-store-start : tie.Need-part-store-start Inv-loop μ-loop
-part-store-start c = let h = here (c .before) in omega arith
+part-spread-start : tie.Need-part-spread-start Inv-loop μ-loop
+part-spread-start c = let h = here (c .before) in omega arith
 
-part-store-end : tie.Need-part-store-end Inv-loop μ-loop
-part-store-end c = search needs
+part-spread-end : tie.Need-part-spread-end Inv-loop μ-loop
+part-spread-end c = search needs
 
-slice-aggregate-store : tie.Need-slice-aggregate-store Inv-loop μ-loop
-slice-aggregate-store c = sym (c .before .before .before .before .loop .inv .3)
-
-store-requires : tie.Need-store-requires Inv-loop μ-loop
-store-requires c κs = let g = c .before .before .before .before .before in let l = c .before .before .before .before .loop in let a = g .args in (source-long (a .d) (a .n) (a .e) (a .to) (a .l .now) (g .pre) (l .i) (omega arith) (l .l) (l .inv .1) (l .inv .2), omega (arith, g .pre .small, l .inv .3))
+spread-requires : tie.Need-spread-requires Inv-loop μ-loop
+spread-requires c κs = let g = c .before .before .before .before .before in let l = c .before .before .before .before .loop in let a = g .args in spreadable (a .d) _ _ (summable (a .d) (a .n) (a .e) (a .to) (a .l .now) (g .pre .1) (l .i) (omega arith) (l .l) (l .inv .1) (l .inv .2)) (l .x) (omega (arith, g .pre .0, l .inv .3))
 
 add-into : tie.Need-add-into Inv-loop μ-loop
 add-into c = let h = here (c .before .before .before .before .before) in record { fits = omega arith }
 
-slice-aggregate-add-rotated : tie.Need-slice-aggregate-add-rotated Inv-loop μ-loop
-slice-aggregate-add-rotated c = sym (c .before .before .store .kept .1 .1 .0 ∙ c .before .before .before .before .before .before .before .loop .inv .3)
+mul-add-spread : tie.Need-mul-add-spread Inv-loop μ-loop
+mul-add-spread c = let h = here (c .before .before .before .before .before .before) in record { fits = omega arith }
 
-mul-add-rotated : tie.Need-mul-add-rotated Inv-loop μ-loop
-mul-add-rotated c = let h = here (c .before .before .before .before .before .before) in record { fits = omega arith }
+sub-add-spread : tie.Need-sub-add-spread Inv-loop μ-loop
+sub-add-spread c = let h = here (c .before .before .before .before .before .before) in omega arith
 
-sub-add-rotated : tie.Need-sub-add-rotated Inv-loop μ-loop
-sub-add-rotated c = let h = here (c .before .before .before .before .before .before) in omega arith
+part-add-spread-start : tie.Need-part-add-spread-start Inv-loop μ-loop
+part-add-spread-start c = let h = here (c .before .before .before .before .before .before) in omega arith
 
-part-add-rotated-start : tie.Need-part-add-rotated-start Inv-loop μ-loop
-part-add-rotated-start c = let h = here (c .before .before .before .before .before .before) in omega arith
+part-add-spread-end : tie.Need-part-add-spread-end Inv-loop μ-loop
+part-add-spread-end c = search needs
 
-part-add-rotated-end : tie.Need-part-add-rotated-end Inv-loop μ-loop
-part-add-rotated-end c = search needs
-
-add-rotated-requires : tie.Need-add-rotated-requires Inv-loop μ-loop
-add-rotated-requires c κs =
+add-spread-requires : tie.Need-add-spread-requires Inv-loop μ-loop
+add-spread-requires c κs =
     let g = c .before .before .before .before .before .before .before .before .before in let l = c .before .before .before .before .before .before .before .before .loop in let a = g .args in
-    (g .pre .some, g .pre .small, g .pre .exponent, copy-summable (a .d) _ _ _ (summable (a .d) (a .n) (a .e) (a .to) (a .l .now) (g .pre) (l .i) (omega arith) (l .l) (l .inv .1) (l .inv .2)) (l .copy) (omega (arith, g .pre .small, l .inv .3)) (c .before .before .before .store .ensures))
+    let s = c .before .before .before .spread in
+    (g .pre .1 .small, omega (arith, g .pre .1 .exponent), addable (a .d) _ _ (summable (a .d) (a .n) (a .e) (a .to) (a .l .now) (g .pre .1) (l .i) (omega arith) (l .l) (l .inv .1) (l .inv .2)) _ (omega (arith, g .pre .0, l .inv .3, s .kept .1 .1 .0)) (g .pre .1 .some) (a .e) (g .pre .1 .exponent) (s .ensures))
 
 add-i : tie.Need-add-i Inv-loop μ-loop
 add-i c = search needs
@@ -137,11 +132,15 @@ loop-less c = search needs
 loop-again : tie.Need-loop-again Inv-loop μ-loop
 loop-again c =
     let g = c .before .before .before .before .before .before .before .before .before .before .before in let l = c .before .before .before .before .before .before .before .before .before .before .loop in let a = g .args in let h = here (c .before .before .before .before .before .before .before .before .before) in
-    let next = turn (a .d) (a .n) (a .e) (a .to) (a .l .now) (g .pre) (l .i) (omega arith) (l .l) (l .inv .1) (l .inv .2) _ (c .before .add-rotated .ensures ∙ copy-rotated (a .d) _ _ _ (summable (a .d) (a .n) (a .e) (a .to) (a .l .now) (g .pre) (l .i) (omega arith) (l .l) (l .inv .1) (l .inv .2)) (l .copy) (omega (arith, g .pre .small, l .inv .3)) (c .before .before .before .before .before .store .ensures) (a .e) (g .pre .some)) in
-    (omega arith, next, ap length next ∙ spliced-length (a .to) (a .d) (sums (a .d) (a .e) (a .to) (a .l .now)) (a .l .now) (l .i + 1) (omega (arith, Nat.add-mul (l .i) 1 (a .d))), c .before .before .before .before .before .store .kept .1 .1 .0 ∙ l .inv .3)
+    let s = c .before .before .before .before .before .spread in
+    let next = turn (a .d) (a .n) (a .e) (a .to) (a .l .now) (g .pre .1) (l .i) (omega arith) (l .l) (l .inv .1) (l .inv .2) _ (c .before .add-spread .ensures ∙ spread-rotated (a .d) _ _ (summable (a .d) (a .n) (a .e) (a .to) (a .l .now) (g .pre .1) (l .i) (omega arith) (l .l) (l .inv .1) (l .inv .2)) _ (omega (arith, g .pre .0, l .inv .3, s .kept .1 .1 .0)) (g .pre .1 .some) (a .e) (g .pre .1 .exponent) (s .ensures)) in
+    (omega arith, next, ap length next ∙ spliced-length (a .to) (a .d) (sums (a .d) (a .e) (a .to) (a .l .now)) (a .l .now) (l .i + 1) (omega (arith, Nat.add-mul (l .i) 1 (a .d))), s .kept .1 .1 .0 ∙ l .inv .3)
 
 same-length : tie.Need-same-length Inv-loop μ-loop
 same-length c = search needs
+
+same-length-2 : tie.Need-same-length-2 Inv-loop μ-loop
+same-length-2 c = search needs
 
 returns : tie.Need-returns Inv-loop μ-loop
 unfolding turned
@@ -155,21 +154,20 @@ add-turned-spec =
     μ-loop
     loop-holds
     mul-at
-    mul-store
-    sub-store
-    part-store-start
-    part-store-end
-    slice-aggregate-store
-    store-requires
+    mul-spread
+    sub-spread
+    part-spread-start
+    part-spread-end
+    spread-requires
     add-into
-    slice-aggregate-add-rotated
-    mul-add-rotated
-    sub-add-rotated
-    part-add-rotated-start
-    part-add-rotated-end
-    add-rotated-requires
+    mul-add-spread
+    sub-add-spread
+    part-add-spread-start
+    part-add-spread-end
+    add-spread-requires
     add-i
     loop-less
     loop-again
     same-length
+    same-length-2
     returns)

@@ -25,10 +25,10 @@ abbrev products : ℕ → ℕ → ℕ → ℕ → List ℤ → ℕ → Element
 products d k m e v i = weighted d k m e (signedAt d v i)
 
 abbrev Inv-loop : tie.InvT-loop
-Inv-loop d n k m e v₀ copy₀ i₀ v copy i = (i ≤ n) × (v ≡ spliced 0 d i (products d k m e v₀) v₀) × (length v ≡ length v₀) × (length copy ≡ 64)
+Inv-loop d n k m e v₀ x₀ i₀ v x i = (i ≤ n) × (v ≡ spliced 0 d i (products d k m e v₀) v₀) × (length v ≡ length v₀) × (length x ≡ length x₀)
 
 abbrev μ-loop : tie.MeasureT-loop
-μ-loop d n k m e v₀ copy₀ i₀ v copy i = n - i
+μ-loop d n k m e v₀ x₀ i₀ v x i = n - i
 
 -- a turn over plain variables
 module _ (d n k m e : ℕ) (v : List ℤ) (X : Scalable d n k m e v) (i : ℕ) (lt : i < n) (w : List ℤ) (is : w ≡ spliced 0 d i (products d k m e v) v) (same : length w ≡ length v) where
@@ -59,7 +59,7 @@ module _ (d n k m e : ℕ) (v : List ℤ) (X : Scalable d n k m e v) (i : ℕ) (
 
 -- an element's place
 here : (c : tie.In-loop Inv-loop μ-loop) → c .before .loop .i * c .before .before .args .d + c .before .before .args .d ≤ length (c .before .before .args .v .now)
-here c = Nat.le-trans (row-inside (c .before .before .args .d) (c .before .before .args .n) (c .before .loop .i) (omega arith)) (c .before .before .pre .long)
+here c = Nat.le-trans (row-inside (c .before .before .args .d) (c .before .before .args .n) (c .before .loop .i) (omega arith)) (c .before .before .pre .1 .long)
 
 loop-holds : tie.Need-loop-holds Inv-loop μ-loop
 loop-holds c = (omega arith, spliced-none 0 _ _ _ (omega arith), refl, refl)
@@ -79,11 +79,8 @@ part-weigh-start c = omega (arith, here c)
 part-weigh-end : tie.Need-part-weigh-end Inv-loop μ-loop
 part-weigh-end c = search needs
 
-slice-aggregate-weigh : tie.Need-slice-aggregate-weigh Inv-loop μ-loop
-slice-aggregate-weigh c = sym (c .before .before .before .loop .inv .3)
-
 weigh-requires : tie.Need-weigh-requires Inv-loop μ-loop
-weigh-requires c κs = let g = c .before .before .before .before in let l = c .before .before .before .loop in let a = g .args in let x = weighable (a .d) (a .n) (a .k) (a .m) (a .e) (a .v .now) (g .pre) (l .i) (omega arith) (l .v) (l .inv .1) (l .inv .2) in (omega (arith, W.small (a .d) (a .k) (a .m) (a .e) _ x, l .inv .3), x)
+weigh-requires c κs = let g = c .before .before .before .before in let l = c .before .before .before .loop in let a = g .args in let x = weighable (a .d) (a .n) (a .k) (a .m) (a .e) (a .v .now) (g .pre .1) (l .i) (omega arith) (l .v) (l .inv .1) (l .inv .2) in (omega (arith, g .pre .0, l .inv .3), x)
 
 add-i : tie.Need-add-i Inv-loop μ-loop
 add-i c = search needs
@@ -94,11 +91,14 @@ loop-less c = search needs
 loop-again : tie.Need-loop-again Inv-loop μ-loop
 loop-again c =
     let g = c .before .before .before .before .before .before .before in let l = c .before .before .before .before .before .before .loop in let a = g .args in
-    let next = turn (a .d) (a .n) (a .k) (a .m) (a .e) (a .v .now) (g .pre) (l .i) (omega arith) (l .v) (l .inv .1) (l .inv .2) _ (c .before .before .weigh .ensures) in
+    let next = turn (a .d) (a .n) (a .k) (a .m) (a .e) (a .v .now) (g .pre .1) (l .i) (omega arith) (l .v) (l .inv .1) (l .inv .2) _ (c .before .before .weigh .ensures) in
     (omega arith, next, ap length next ∙ spliced-length 0 (a .d) (products (a .d) (a .k) (a .m) (a .e) (a .v .now)) (a .v .now) (l .i + 1) (omega (arith, here (c .before .before .before .before .before), Nat.add-mul (l .i) 1 (a .d))), c .before .before .weigh .kept .1 .1 .1 .1 .1 .0 ∙ l .inv .3)
 
 same-length : tie.Need-same-length Inv-loop μ-loop
 same-length c = search needs
+
+same-length-2 : tie.Need-same-length-2 Inv-loop μ-loop
+same-length-2 c = search needs
 
 returns : tie.Need-returns Inv-loop μ-loop
 unfolding scaled
@@ -116,10 +116,10 @@ scale-spec =
     sub-weigh
     part-weigh-start
     part-weigh-end
-    slice-aggregate-weigh
     weigh-requires
     add-i
     loop-less
     loop-again
     same-length
+    same-length-2
     returns)
