@@ -1,5 +1,6 @@
 pub mod Ready
 pub mod Claims
 pub mod Powers
+pub mod Quotients
 pub mod Ending
 pub mod Halves
