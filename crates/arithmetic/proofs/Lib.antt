@@ -9,3 +9,4 @@ pub mod Rows
 pub mod Padding
 pub mod Extension
 pub mod Turns
+pub mod Values

@@ -11,7 +11,7 @@ use Rattle.protocol.specs.Basic.{tabulate}
 use Rattle.protocol.specs.Element.{zeros, padded}
 use Rattle.protocol.proofs.Reading.{tabulate-at, tabulate-length, tabulate-ext}
 use Rattle.arithmetic.specs.Folds.{spliced}
-use Rattle.arithmetic.proofs.Fill.{filled, filled-more, filled-behind, filled-length, element-done}
+use Rattle.arithmetic.proofs.Fill.{filled, filled-more, filled-behind, filled-length, filled-again, element-done}
 
 set-behind {ℓ} : {A : Type ℓ} (xs ys : List A) (n : ℕ) (a : A) → set (xs ++ ys) (length xs + n) a ≡ xs ++ set ys n a
 set-behind [] ys n a = ap (λ m. set ys m a) (Nat.zero-add n)
@@ -69,6 +69,11 @@ spliced-end f at l e h = e ∙ ap (λ m. spliced f at m l) h
 pub spliced-ext : (f g : ℕ → ℕ) (at n : ℕ) (l : List ℕ) → ((k : ℕ) → k < n → f k ≡ g k) → spliced f at n l ≡ spliced g at n l
 unfolding spliced
 spliced-ext f g at n l e = ap (λ s. take at l ++ (s ++ drop n (drop at l))) (tabulate-ext n e)
+
+-- a front that is overwritten twice
+pub spliced-again : (f g : ℕ → ℕ) (n : ℕ) (l : List ℕ) → spliced g 0 n (spliced f 0 n l) ≡ spliced g 0 n l
+unfolding spliced filled
+spliced-again f g n l = filled-again f g n l
 
 -- over zeros; in particular an element that is passed by value
 pub spliced-zeros : (f : ℕ → ℕ) (n d : ℕ) → spliced f 0 d (replicate n 0) ≡ filled f d (zeros n)

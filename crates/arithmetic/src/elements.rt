@@ -1,11 +1,12 @@
-// Elements of residues that are passed by value.
+// Elements of residues, passed by value or as the fronts of slices.
 use crate::residues;
 ghost use mathlib.Core.Path.{_≡_};
 ghost use Prim.Native.Nat.{_<_, _≤_};
 ghost use lib.IntN.{pos};
-ghost use lib.ListN.{getD};
+ghost use lib.ListN.{length, getD};
 ghost use Rattle.protocol.specs.Element.{residue, coefficients, paddedSigned, signedAt};
-ghost use Rattle.arithmetic.specs.Elements.{elementAt, addRotated};
+ghost use Rattle.arithmetic.specs.Elements.{elementAt, addRotated, valueAt};
+ghost use Rattle.arithmetic.specs.Folds.{spliced};
 
 // Number p of a table; 0 where it has none.
 pub fn entry(t: &[u32], p: usize) -> u32
@@ -87,4 +88,33 @@ pub fn add_rotated(q: u32, d: u32, e: u32, a: [u32; 64], b: [u32; 64]) -> [u32; 
     residues::reduce_row(q, n, &a, 0, &mut x, 192);
     residues::add_rows(q, n, &x, 192, back, &mut c, 0);
     c
+}
+
+// The value at X^e of the polynomial with the coefficients c0, c1, c2, modulo q, written to the front of out.
+pub fn value(q: u32, d: u32, e: u32, c0: &[u32], c1: &[u32], c2: &[u32], out: &mut [u32])
+    ensures { λ _. ⌜ (0 < q → 0 < d → d ≤ 64 → d ≤ length (now (c0 .entry)) → d ≤ length (now (c1 .entry)) → d ≤ length (now (c2 .entry)) → d ≤ length (now (out .entry)) → now (out .exit) ≡ spliced (valueAt q d e (residue (now (c0 .entry))) (residue (now (c1 .entry))) (residue (now (c2 .entry)))) 0 d (now (out .entry))) ⌝ }
+{
+    if q == 0 {
+        return;
+    }
+    if d == 0 {
+        return;
+    }
+    if d > 64 {
+        return;
+    }
+    let n = d as usize;
+    if c0.len() < n {
+        return;
+    }
+    if c1.len() < n {
+        return;
+    }
+    if c2.len() < n {
+        return;
+    }
+    if out.len() < n {
+        return;
+    }
+    residues::value(q, n, e as usize, c0, c1, c2, out);
 }

@@ -3,10 +3,11 @@
 use crate::tests;
 ghost use mathlib.Core.Path.{_≡_};
 ghost use mathlib.Core.Bool.{true};
-ghost use Prim.Native.Nat.{_+_, _*_, _%_, _<_, _≤_};
+ghost use Prim.Native.Nat.{_+_, _*_, _-_, _%_, _<_, _≤_};
 ghost use lib.IntN.{pos, negℤ, _+ℤ_};
 ghost use lib.ListN.{length, getD, drop};
-ghost use Rattle.protocol.specs.Element.{modulo};
+ghost use Rattle.protocol.specs.Element.{modulo, rotate, residue};
+ghost use Rattle.arithmetic.specs.Elements.{valueAt};
 ghost use Rattle.arithmetic.specs.Folds.{spliced};
 ghost use Rattle.arithmetic.specs.Residues.{Residues, signed, turned};
 
@@ -149,4 +150,91 @@ pub fn extend(q: u32, d: usize, t: &[u32], from: usize, x: &mut [u32])
     reduce_row(q, d, t, from, x, 0);
     negate_row(q, d, 0, d, x);
     negate_row(q, d, d, 2 * d, x);
+}
+
+// An exponent of X on the circle of 2d places.
+pub fn on_circle(d: usize, e: usize) -> usize
+    requires { ⌜ (0 < d) × (d ≤ 64) ⌝ }
+    ensures { λ r. ⌜ r ≡ e % (2 * d) ⌝ }
+{
+    if e < 2 * d {
+        return e;
+    }
+    e % (2 * d)
+}
+
+// Where the first of the two rows begins that stand `back` places on.
+pub fn row_start(d: usize, back: usize) -> usize
+    requires { ⌜ back ≤ 2 * d ⌝ }
+    ensures { λ r. ⌜ (r ≤ d) × (back < d → r ≡ back) × (d ≤ back → r ≡ back - d) ⌝ }
+{
+    if back < d {
+        return back;
+    }
+    back - d
+}
+
+// Adds a row of a to a row of out, or takes it away, modulo q.
+fn accumulate_row(
+    q: u32,
+    n: usize,
+    negative: bool,
+    a: &[u32],
+    from: usize,
+    out: &mut [u32],
+    to: usize,
+)
+    requires { ⌜ Residues q n from (now a) × Residues q n to (now out) ⌝ }
+    ensures { λ _. ⌜ now (out .exit) ≡ spliced (λ k. modulo q (pos (getD (now (out .entry)) (to + k) 0) +ℤ signed negative (pos (getD (now (a .entry)) (from + k) 0)))) to n (now (out .entry)) ⌝ }
+{
+    for k in 0..n {
+        let y = out[to + k];
+        out[to + k] = signed_sum(q, negative, y, a[from + k]);
+    }
+}
+
+// Adds X^e·a to the element at the front of out, where all numbers are residues: X^e·a is two rows of a, with different signs.
+fn accumulate_turned(q: u32, d: usize, e: usize, a: &[u32], out: &mut [u32])
+    requires { ⌜ (d ≤ 64) × (e < 2 * d) × Residues q d 0 (now a) × Residues q d 0 (now out) ⌝ }
+    ensures { λ _. ⌜ now (out .exit) ≡ spliced (λ k. modulo q (residue (now (out .entry)) k +ℤ rotate d e (residue (now (a .entry))) k)) 0 d (now (out .entry)) ⌝ }
+{
+    let low = e < d;
+    let s = row_start(d, e);
+    let n = d - s;
+    accumulate_row(q, s, low, a, n, out, 0);
+    accumulate_row(q, n, !low, a, 0, out, s);
+}
+
+// The same for an a of any numbers, by division.
+fn accumulate_divided(q: u32, d: usize, e: usize, a: &[u32], out: &mut [u32])
+    requires { ⌜ (0 < q) × (d ≤ 64) × (e < 2 * d) × (d ≤ length (now a)) × Residues q d 0 (now out) ⌝ }
+    ensures { λ _. ⌜ now (out .exit) ≡ spliced (λ k. modulo q (residue (now (out .entry)) k +ℤ rotate d e (residue (now (a .entry))) k)) 0 d (now (out .entry)) ⌝ }
+{
+    let mut x = [0u32; 64];
+    divide_row(q, d, a, 0, &mut x, 0);
+    accumulate_turned(q, d, e, &x, out);
+}
+
+// The same for an a of any numbers.
+fn accumulate(q: u32, d: usize, e: usize, a: &[u32], out: &mut [u32])
+    requires { ⌜ (0 < q) × (d ≤ 64) × (e < 2 * d) × (d ≤ length (now a)) × Residues q d 0 (now out) ⌝ }
+    ensures { λ _. ⌜ now (out .exit) ≡ spliced (λ k. modulo q (residue (now (out .entry)) k +ℤ rotate d e (residue (now (a .entry))) k)) 0 d (now (out .entry)) ⌝ }
+{
+    if all_residues(q, d, a, 0) {
+        accumulate_turned(q, d, e, a, out);
+        return;
+    }
+    accumulate_divided(q, d, e, a, out);
+}
+
+// The value at X^e of the polynomial with the coefficients c0, c1, c2, modulo q, written to the front of out.
+pub fn value(q: u32, d: usize, e: usize, c0: &[u32], c1: &[u32], c2: &[u32], out: &mut [u32])
+    requires { ⌜ (0 < q) × (0 < d) × (d ≤ 64) × (d ≤ length (now c0)) × (d ≤ length (now c1)) × (d ≤ length (now c2)) × (d ≤ length (now out)) ⌝ }
+    ensures { λ _. ⌜ now (out .exit) ≡ spliced (valueAt q d e (residue (now (c0 .entry))) (residue (now (c1 .entry))) (residue (now (c2 .entry)))) 0 d (now (out .entry)) ⌝ }
+{
+    let once = on_circle(d, e);
+    let twice = on_circle(d, once + once);
+    reduce_row(q, d, c0, 0, out, 0);
+    accumulate(q, d, once, c1, out);
+    accumulate(q, d, twice, c2, out);
 }

@@ -30,17 +30,6 @@ fn fold_element(
     residues::add_rows(q, d, x, 192, back, t, to);
 }
 
-// Where the first of the two rows begins that stand `back` places on.
-fn row_start(d: usize, back: usize) -> usize
-    requires { ⌜ back ≤ 2 * d ⌝ }
-    ensures { λ r. ⌜ (r ≤ d) × (back < d → r ≡ back) × (d ≤ back → r ≡ back - d) ⌝ }
-{
-    if back < d {
-        return back;
-    }
-    back - d
-}
-
 // The same where all numbers are residues: what stands `back` places on is two rows of the element, with different signs.
 fn fold_rows(
     q: u32,
@@ -57,7 +46,7 @@ fn fold_rows(
     ensures { λ _. ⌜ now (t .exit) ≡ spliced (foldCell q d back (drop first (now (t .entry))) (drop second (now (t .entry)))) to d (now (t .entry)) ⌝ }
 {
     let low = back < d;
-    let s = row_start(d, back);
+    let s = residues::row_start(d, back);
     let n = d - s;
     residues::copy_row(d, t, first, x, 0);
     residues::add_signed_row(q, n, !low, x, 0, t, second + s, to);
