@@ -1,5 +1,4 @@
 pub mod Ready
-pub mod Claims
 pub mod Powers
 pub mod Quotients
 pub mod Ending

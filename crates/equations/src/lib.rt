@@ -69,17 +69,9 @@ pub fn next_claim(
 ) -> [u32; 64]
     ensures { λ r. ⌜ (settingsRefusal settings ≡ 0 → r ≡ padded (settings .degree) (nextClaim settings e (residue c0) (residue c1) (residue c2))) ⌝ }
 {
-    let q = settings.modulus;
-    let d = settings.degree;
-    if d == 0 {
-        return [0u32; 64];
-    }
-    if d > 64 {
-        return [0u32; 64];
-    }
-    let turn = e % (2 * d);
-    let sum = arithmetic::elements::add_rotated(q, d, turn, c0, c1);
-    arithmetic::elements::add_rotated(q, d, 2 * turn, sum, c2)
+    let mut claim = [0u32; 64];
+    arithmetic::elements::value(settings.modulus, settings.degree, e, &c0, &c1, &c2, &mut claim);
+    claim
 }
 
 // A power of half, the inverse of 2 modulo q.
