@@ -125,7 +125,7 @@ module _ (d : ℕ) (f : List ℤ) (x x′ : List ℕ) (e : (y : ℕ) → y < 3 *
 
 -- ---- sums
 
-total-most : (n : ℕ) (f : ℕ → ℕ) (b : ℕ) → ((j : ℕ) → j < n → f j ≤ b) → total n f ≤ n * b
+pub total-most : (n : ℕ) (f : ℕ → ℕ) (b : ℕ) → ((j : ℕ) → j < n → f j ≤ b) → total n f ≤ n * b
 unfolding total
 total-most zero f b h = omega arith
 total-most (suc n) f b h = omega (arith, total-most n f b (λ j l. h j (omega arith)), h n (omega arith), Nat.suc-mul n b)

@@ -5,7 +5,7 @@ ghost use Prim.Native.Nat.{_<_, _≤_};
 ghost use lib.IntN.{pos};
 ghost use lib.ListN.{length, getD};
 ghost use Rattle.protocol.specs.Element.{residue, coefficients, paddedSigned, signedAt};
-ghost use Rattle.arithmetic.specs.Elements.{elementAt, addRotated, valueAt};
+ghost use Rattle.arithmetic.specs.Elements.{elementAt, valueAt};
 ghost use Rattle.arithmetic.specs.Folds.{spliced};
 
 // Number p of a table; 0 where it has none.
@@ -65,29 +65,6 @@ pub fn signed_element_at(d: u32, t: &[i32], i: u32) -> [i32; 64]
         k += 1;
     }
     a
-}
-
-// a + X^e·b, modulo q
-pub fn add_rotated(q: u32, d: u32, e: u32, a: [u32; 64], b: [u32; 64]) -> [u32; 64]
-    ensures { λ r. ⌜ (0 < q → 0 < d → d ≤ 64 → r ≡ addRotated q d e (residue a) (residue b)) ⌝ }
-{
-    let mut c = [0u32; 64];
-    if q == 0 {
-        return c;
-    }
-    if d == 0 {
-        return c;
-    }
-    if d > 64 {
-        return c;
-    }
-    let n = d as usize;
-    let back = n + n - (e as usize) % (n + n);
-    let mut x = [0u32; 256];
-    residues::extend(q, n, &b, 0, &mut x);
-    residues::reduce_row(q, n, &a, 0, &mut x, 192);
-    residues::add_rows(q, n, &x, 192, back, &mut c, 0);
-    c
 }
 
 // The value at X^e of the polynomial with the coefficients c0, c1, c2, modulo q, written to the front of out.

@@ -1,5 +1,5 @@
 pub mod Ready
-pub mod Claims
 pub mod Powers
+pub mod Quotients
 pub mod Ending
 pub mod Halves

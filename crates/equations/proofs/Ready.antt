@@ -1,6 +1,6 @@
 -- What refusals 3 to 6 leave of the settings, as bounds.
 use mathlib.Core.Path.{_≡_}
-use Prim.Native.Nat.{_≤_}
+use Prim.Native.Nat.{_%_, _≤_}
 use Rattle.protocol.specs.declared.Settings.{Settings}
 use Rattle.protocol.specs.Settings.{settingsRefusal}
 use Rattle.protocol.proofs.Inputs.{settings-valid}
@@ -10,6 +10,7 @@ pub record Ready (S : Settings) : Type 0 where
   pub degree-least : 2 ≤ S .degree
   pub degree-most : S .degree ≤ 64
   pub depth-most : S .depth ≤ 8
+  pub modulus-odd : S .modulus % 2 ≡ 1
   pub modulus-least : 3 ≤ S .modulus
   pub modulus-most : S .modulus ≤ 2_147_483_647
   pub bound-most : S .bound ≤ 127
@@ -21,6 +22,7 @@ ready S e =
       degree-least = Limits.degree-least S ok;
       degree-most = Limits.degree-most S ok;
       depth-most = ok .depth-most;
+      modulus-odd = ok .modulus-odd;
       modulus-least = ok .modulus-least;
       modulus-most = ok .modulus-most;
       bound-most = ok .bound-most;

@@ -7,11 +7,12 @@ ghost use mathlib.Core.Path.{_≡_};
 ghost use mathlib.Core.Bool.{true, _&&_};
 ghost use Prim.Native.Nat.{_+_, _*_, _/_, _%_, _^_, _<_, _≤_};
 ghost use lib.Dec.{eqb};
-ghost use lib.ListN.{length};
+ghost use lib.ListN.{length, getD};
+ghost use Rattle.protocol.specs.Basic.{every};
 ghost use Rattle.protocol.specs.Element.{padded, residue, signed};
 ghost use Rattle.protocol.specs.Transcript.{roundHolds, nextClaim, finalBounded, endHolds};
 ghost use Rattle.protocol.specs.Settings.{settingsRefusal, cells};
-ghost use Rattle.equations.specs.Ends.{equationMet, endMet};
+ghost use Rattle.equations.specs.Ends.{quotientIs, equationMet, endMet};
 
 // Is 2·(x + y) modulo q the number z.
 fn doubled_is(q: u32, x: u32, y: u32, z: u32) -> bool
@@ -23,15 +24,22 @@ fn doubled_is(q: u32, x: u32, y: u32, z: u32) -> bool
 }
 
 // Does a round hold.
-pub fn round_holds(settings: Settings, claim: [u32; 64], c0: [u32; 64], c2: [u32; 64]) -> bool
-    ensures { λ r. ⌜ (settingsRefusal settings ≡ 0 → r ≡ roundHolds settings claim (residue c0) (residue c2)) ⌝ }
+pub fn round_met(settings: Settings, claim: &[u32], c0: &[u32], c2: &[u32]) -> bool
+    ensures { λ r. ⌜ (settingsRefusal settings ≡ 0 → settings .degree ≤ length (now (claim .entry)) → settings .degree ≤ length (now (c0 .entry)) → settings .degree ≤ length (now (c2 .entry))
+        → r ≡ roundHolds settings (now (claim .entry)) (residue (now (c0 .entry))) (residue (now (c2 .entry)))) ⌝ }
 {
     let q = settings.modulus;
     let d = settings.degree as usize;
     if q == 0 {
         return false;
     }
-    if d > 64 {
+    if claim.len() < d {
+        return false;
+    }
+    if c0.len() < d {
+        return false;
+    }
+    if c2.len() < d {
         return false;
     }
     let mut k: usize = 0;
@@ -44,6 +52,13 @@ pub fn round_holds(settings: Settings, claim: [u32; 64], c0: [u32; 64], c2: [u32
     true
 }
 
+// The same for elements that are passed by value.
+pub fn round_holds(settings: Settings, claim: [u32; 64], c0: [u32; 64], c2: [u32; 64]) -> bool
+    ensures { λ r. ⌜ (settingsRefusal settings ≡ 0 → r ≡ roundHolds settings claim (residue c0) (residue c2)) ⌝ }
+{
+    round_met(settings, &claim, &c0, &c2)
+}
+
 // The claim after a round: c0 + r·c1 + r²·c2, r = X^e.
 pub fn next_claim(
     settings: Settings,
@@ -54,17 +69,9 @@ pub fn next_claim(
 ) -> [u32; 64]
     ensures { λ r. ⌜ (settingsRefusal settings ≡ 0 → r ≡ padded (settings .degree) (nextClaim settings e (residue c0) (residue c1) (residue c2))) ⌝ }
 {
-    let q = settings.modulus;
-    let d = settings.degree;
-    if d == 0 {
-        return [0u32; 64];
-    }
-    if d > 64 {
-        return [0u32; 64];
-    }
-    let turn = e % (2 * d);
-    let sum = arithmetic::elements::add_rotated(q, d, turn, c0, c1);
-    arithmetic::elements::add_rotated(q, d, 2 * turn, sum, c2)
+    let mut claim = [0u32; 64];
+    arithmetic::elements::value(settings.modulus, settings.degree, e, &c0, &c1, &c2, &mut claim);
+    claim
 }
 
 // A power of half, the inverse of 2 modulo q.
@@ -86,13 +93,11 @@ pub fn half_power(q: u32, exponent: u32) -> u32
 }
 
 // Has the final element no coefficient beyond ±n·B.
-pub fn final_bounded(settings: Settings, f: [i32; 64]) -> bool
-    ensures { λ r. ⌜ (settingsRefusal settings ≡ 0 → r ≡ finalBounded settings (signed f)) ⌝ }
+fn final_bounded(settings: Settings, f: &[i32]) -> bool
+    requires { ⌜ settings .degree ≤ length (now f) ⌝ }
+    ensures { λ r. ⌜ (settingsRefusal settings ≡ 0 → r ≡ finalBounded settings (signed (now (f .entry)))) ⌝ }
 {
     let d = settings.degree as usize;
-    if d > 64 {
-        return false;
-    }
     let limit = sizes::left_bound(settings, settings.depth);
     let mut k: usize = 0;
     while k < d {
@@ -104,17 +109,38 @@ pub fn final_bounded(settings: Settings, f: [i32; 64]) -> bool
     true
 }
 
-// Is x·y modulo q the number z.
-fn scaled_is(q: u32, x: u32, y: u32, z: u32) -> bool
+// Is z the number s/n modulo q: z is below q, and q divides s + n·(q − z).
+fn quotient_is(q: u32, n: u32, s: u64, z: u32) -> bool
     requires { ⌜ 0 < q ⌝ }
-    ensures { λ r. ⌜ r ≡ eqb z (x * y % q) ⌝ }
+    ensures { λ r. ⌜ r ≡ quotientIs q n s z ⌝ }
 {
-    (z as u64) == (x as u64) * (y as u64) % (q as u64)
+    if z >= q {
+        return false;
+    }
+    let m = q as u64;
+    let rest = (n as u64) * (m - (z as u64));
+    std::num::wrapping_add_u64(s, rest) % m == 0
 }
 
-// Is the claim half^L·f·g, where f has no coefficient beyond ±n·B.
-fn equation_met(settings: Settings, claim: [u32; 64], f: [i32; 64], g: [u32; 64]) -> bool
-    ensures { λ r. ⌜ (settingsRefusal settings ≡ 0 → finalBounded settings (signed f) ≡ true → r ≡ equationMet settings claim (signed f) (residue g)) ⌝ }
+// The same for each of the first d sums.
+fn quotients_are(q: u32, d: usize, n: u32, sums: &[u64], claim: &[u32]) -> bool
+    requires { ⌜ (0 < q) × (d ≤ length (now sums)) × (d ≤ length (now claim)) ⌝ }
+    ensures { λ r. ⌜ r ≡ every d (λ k. quotientIs q n (getD (now (sums .entry)) k 0) (getD (now (claim .entry)) k 0)) ⌝ }
+{
+    let mut k: usize = 0;
+    while k < d {
+        if !quotient_is(q, n, sums[k], claim[k]) {
+            return false;
+        }
+        k += 1;
+    }
+    true
+}
+
+// Is the claim half^L·f·g, where f has no coefficient beyond ±n·B. The product stays as sums that are not reduced: half^L is 1/2^L.
+fn equation_met(settings: Settings, claim: &[u32], f: &[i32], g: &[u32]) -> bool
+    requires { ⌜ (settings .degree ≤ length (now claim)) × (settings .degree ≤ length (now f)) × (settings .degree ≤ length (now g)) ⌝ }
+    ensures { λ r. ⌜ (settingsRefusal settings ≡ 0 → finalBounded settings (signed (now (f .entry))) ≡ true → r ≡ equationMet settings (now (claim .entry)) (signed (now (f .entry))) (residue (now (g .entry)))) ⌝ }
 {
     let q = settings.modulus;
     let d = settings.degree as usize;
@@ -124,26 +150,38 @@ fn equation_met(settings: Settings, claim: [u32; 64], f: [i32; 64], g: [u32; 64]
     if d > 64 {
         return false;
     }
-    let h = half_power(q, settings.depth);
-    let p = arithmetic::products::product(q, settings.degree, f, g);
-    let mut k: usize = 0;
-    while k < d {
-        if !scaled_is(q, h, p[k], claim[k]) {
-            return false;
-        }
-        k += 1;
-    }
-    true
+    let x = arithmetic::products::extended(q, settings.degree, g);
+    let mut sums = [0u64; 64];
+    arithmetic::products::accumulate(settings.degree, f, &x, &mut sums);
+    quotients_are(q, d, sizes::left(settings, 0), &sums, claim)
 }
 
 // Is the end met: the bound first, then the equation.
-pub fn end_holds(settings: Settings, claim: [u32; 64], f: [i32; 64], g: [u32; 64]) -> bool
-    ensures { λ r. ⌜ (settingsRefusal settings ≡ 0 → r ≡ endMet settings claim (signed f) (residue g)) ⌝ }
+pub fn ending_met(settings: Settings, claim: &[u32], f: &[i32], g: &[u32]) -> bool
+    ensures { λ r. ⌜ (settingsRefusal settings ≡ 0 → settings .degree ≤ length (now (claim .entry)) → settings .degree ≤ length (now (f .entry)) → settings .degree ≤ length (now (g .entry))
+        → r ≡ endMet settings (now (claim .entry)) (signed (now (f .entry))) (residue (now (g .entry)))) ⌝ }
 {
+    let d = settings.degree as usize;
+    if claim.len() < d {
+        return false;
+    }
+    if f.len() < d {
+        return false;
+    }
+    if g.len() < d {
+        return false;
+    }
     if !final_bounded(settings, f) {
         return false;
     }
     equation_met(settings, claim, f, g)
+}
+
+// The same for elements that are passed by value.
+pub fn end_holds(settings: Settings, claim: [u32; 64], f: [i32; 64], g: [u32; 64]) -> bool
+    ensures { λ r. ⌜ (settingsRefusal settings ≡ 0 → r ≡ endMet settings claim (signed f) (residue g)) ⌝ }
+{
+    ending_met(settings, &claim, &f, &g)
 }
 
 // Is the end of a transcript met: the bound, and the equation with the key folded by the challenges.

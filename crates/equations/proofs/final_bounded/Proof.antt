@@ -1,13 +1,13 @@
 -- The loop keeps: the places that are passed hold.
 use mathlib.Core.Path.{_≡_, sym, ap, _∙_}
 use mathlib.Core.Bool.{true}
-use Prim.Native.Nat.{ℕ, _*_, _-_, _≤_, _<_}
+use Prim.Native.Nat.{ℕ, _*_, _-_, _≤_}
 use native.Mathlib.Nat.{le-refl}
 use native.Mathlib.Omega.{arith}
 use borrow.Author.Tests.{le-leb, lt-leb}
 use lib.Dec.{leb}
 use lib.IntN.{ℤ, pos, natAbs}
-use lib.ListN.{getD}
+use lib.ListN.{length, getD}
 use mir.Syntax.{w32}
 use Rattle.protocol.specs.Basic.{every, within}
 use Rattle.protocol.specs.Element.{signed}
@@ -15,13 +15,12 @@ use Rattle.protocol.specs.Settings.{settingsRefusal, size}
 use Rattle.protocol.specs.Transcript.{finalBounded}
 use Rattle.arithmetic.proofs.Magnitude.{through-bits}
 use Rattle.arithmetic.proofs.Scan.{every-none, every-goes-on, every-fails, every-ends}
-use Rattle.equations.proofs.Ready.{ready}
 use borrow.Author.Needs.{needs}
 use Rattle.equations.proofs.final_bounded.Statement.{statement}
 use Rattle.equations.proofs.final_bounded.Tie as tie
 
 abbrev Inv-loop : tie.InvT-loop
-Inv-loop f d limit k₀ k = (k ≤ d) × (d ≤ 64) × (every k (λ (j : ℕ). within limit (signed f j)) ≡ true)
+Inv-loop f d limit k₀ k = (k ≤ d) × (d ≤ length f) × (every k (λ (j : ℕ). within limit (signed f j)) ≡ true)
 
 abbrev μ-loop : tie.MeasureT-loop
 μ-loop f d limit k₀ k = d - k
@@ -29,20 +28,17 @@ abbrev μ-loop : tie.MeasureT-loop
 cast-d : tie.Need-cast-d Inv-loop μ-loop
 cast-d c = search needs
 
-returns : tie.Need-returns Inv-loop μ-loop
-returns c = λ e. absurd (let r = ready _ e in omega arith)
-
 left-bound-requires : tie.Need-left-bound-requires Inv-loop μ-loop
 left-bound-requires c κs = search needs
 
 -- the coefficient that the turn looks at
 abbrev coefficient : tie.In-loop Inv-loop μ-loop → ℤ
-coefficient c = getD (c .before .before .before .before .before .args .t2) (c .before .loop .k) (pos 0)
+coefficient c = getD (c .before .before .before .before .args .f .now) (c .before .loop .k) (pos 0)
 
 size-is : (c : tie.After-magnitude Inv-loop μ-loop) → natAbs (coefficient (c .before .before)) ≡ c .magnitude .result
 size-is c = sym (c .magnitude .ensures ∙ ap natAbs (through-bits w32 (coefficient (c .before .before)) (c .before .magnitude-arg .given)))
 
-limit-is : (c : tie.After-left-bound Inv-loop μ-loop) → let S = c .before .before .before .args .settings in settingsRefusal S ≡ 0 → c .left-bound .result ≡ size S * S .bound
+limit-is : (c : tie.After-left-bound Inv-loop μ-loop) → let S = c .before .before .args .settings in settingsRefusal S ≡ 0 → c .left-bound .result ≡ size S * S .bound
 unfolding size
 limit-is c e = c .left-bound .ensures e (le-refl _)
 
@@ -52,20 +48,20 @@ loop-holds c = (omega arith, omega arith, every-none _)
 mul-magnitude : tie.Need-mul-magnitude Inv-loop μ-loop
 mul-magnitude c = search needs
 
-array-copy-out-magnitude : tie.Need-array-copy-out-magnitude Inv-loop μ-loop
-array-copy-out-magnitude c = search needs
+shared-slice-copy-out-magnitude : tie.Need-shared-slice-copy-out-magnitude Inv-loop μ-loop
+shared-slice-copy-out-magnitude c = search needs
 
 magnitude-requires : tie.Need-magnitude-requires Inv-loop μ-loop
 magnitude-requires c κs = search needs
 
-returns-2 : tie.Need-returns-2 Inv-loop μ-loop
+returns : tie.Need-returns Inv-loop μ-loop
 unfolding finalBounded within signed
-returns-2 c = λ e.
+returns c = λ e.
     let w = c .before .before .before .before .before in
-    let a = w .before .before .before .args in
-    every-fails (λ j. within (w .left-bound .result) (signed (a .t2) j)) (a .settings .degree) (c .before .before .before .before .loop .k) (omega arith)
-    (ap (λ m. leb m (w .left-bound .result)) (size-is (c .before)) ∙ lt-leb _ _ (c .if2 .taken))
-    ∙ ap (λ n. every (a .settings .degree) (λ j. within n (signed (a .t2) j))) (limit-is w e)
+    let a = w .before .before .args in
+    every-fails (λ j. within (w .left-bound .result) (signed (a .f .now) j)) (a .settings .degree) (c .before .before .before .before .loop .k) (omega arith)
+    (ap (λ m. leb m (w .left-bound .result)) (size-is (c .before)) ∙ lt-leb _ _ (c .if1 .taken))
+    ∙ ap (λ n. every (a .settings .degree) (λ j. within n (signed (a .f .now) j))) (limit-is w e)
 
 add-k : tie.Need-add-k Inv-loop μ-loop
 add-k c = search needs
@@ -79,17 +75,17 @@ loop-again c =
     let l = c .before .before .before .before .loop in (
       omega arith,
       omega arith,
-      every-goes-on _ (l .k) (l .inv .2) (ap (λ m. leb m (c .before .before .before .before .before .left-bound .result)) (size-is (c .before)) ∙ le-leb _ _ (c .if2 .left)),
+      every-goes-on _ (l .k) (l .inv .2) (ap (λ m. leb m (c .before .before .before .before .before .left-bound .result)) (size-is (c .before)) ∙ le-leb _ _ (c .if1 .left)),
     )
 
-returns-3 : tie.Need-returns-3 Inv-loop μ-loop
+returns-2 : tie.Need-returns-2 Inv-loop μ-loop
 unfolding finalBounded
-returns-3 c = λ e.
+returns-2 c = λ e.
     let l = c .before .loop in
     let w = c .before .before in
-    let a = w .before .before .before .args in
-    every-ends (λ j. within (w .left-bound .result) (signed (a .t2) j)) (a .settings .degree) (l .k) (l .inv .2) (omega arith)
-    ∙ ap (λ n. every (a .settings .degree) (λ j. within n (signed (a .t2) j))) (limit-is w e)
+    let a = w .before .before .args in
+    every-ends (λ j. within (w .left-bound .result) (signed (a .f .now) j)) (a .settings .degree) (l .k) (l .inv .2) (omega arith)
+    ∙ ap (λ n. every (a .settings .degree) (λ j. within n (signed (a .f .now) j))) (limit-is w e)
 
 pub final-bounded-spec : {M : Type 1} → statement M
 final-bounded-spec =
@@ -98,14 +94,13 @@ final-bounded-spec =
     Inv-loop
     μ-loop
     cast-d
-    returns
     left-bound-requires
     loop-holds
     mul-magnitude
-    array-copy-out-magnitude
+    shared-slice-copy-out-magnitude
     magnitude-requires
-    returns-2
+    returns
     add-k
     loop-less
     loop-again
-    returns-3)
+    returns-2)

@@ -1,95 +1,30 @@
--- The loop keeps: the places that are passed hold.
-use mathlib.Core.Path.{_≡_, sym, _∙_}
-use mathlib.Core.Bool.{true}
-use Prim.Native.Nat.{ℕ, _+_, _*_, _-_, _%_, _≤_, _<_}
 use native.Mathlib.Omega.{arith}
-use borrow.Author.Tests.{not-true, not-false}
-use lib.Dec.{eqb}
-use lib.ListN.{getD}
-use Rattle.protocol.specs.Basic.{every}
-use Rattle.protocol.specs.Element.{modulo, residue}
-use Rattle.protocol.specs.Transcript.{doubled, roundHolds}
-use Rattle.arithmetic.proofs.Scan.{every-none, every-goes-on, every-fails, every-ends}
 use borrow.Author.Needs.{needs}
 use Rattle.equations.proofs.Ready.{ready}
 use Rattle.equations.proofs.round_holds.Statement.{statement}
 use Rattle.equations.proofs.round_holds.Tie as tie
 
-abbrev Inv-loop : tie.InvT-loop
-Inv-loop claim c0 c2 q d k₀ k = (k ≤ d) × (d ≤ 64) × (0 < q) × (every k (λ (j : ℕ). eqb (2 * (getD c0 j 0 + getD c2 j 0) % q) (getD claim j 0)) ≡ true)
+slice-aggregate-round-met : tie.Need-slice-aggregate-round-met
+slice-aggregate-round-met c = search needs
 
-abbrev μ-loop : tie.MeasureT-loop
-μ-loop claim c0 c2 q d k₀ k = d - k
+slice-aggregate-round-met-2 : tie.Need-slice-aggregate-round-met-2
+slice-aggregate-round-met-2 c = search needs
 
-cast-d : tie.Need-cast-d Inv-loop μ-loop
-cast-d c = search needs
+slice-aggregate-round-met-3 : tie.Need-slice-aggregate-round-met-3
+slice-aggregate-round-met-3 c = search needs
 
-returns : tie.Need-returns Inv-loop μ-loop
-returns c = λ e. absurd (let r = ready _ e in omega arith)
+round-met-requires : tie.Need-round-met-requires
+round-met-requires c κs = search needs
 
-returns-2 : tie.Need-returns-2 Inv-loop μ-loop
-returns-2 c = λ e. absurd (let r = ready _ e in omega arith)
-
-loop-holds : tie.Need-loop-holds Inv-loop μ-loop
-loop-holds c = (omega arith, omega arith, omega arith, every-none _)
-
-mul-doubled-is : tie.Need-mul-doubled-is Inv-loop μ-loop
-mul-doubled-is c = search needs
-
-array-read-doubled-is : tie.Need-array-read-doubled-is Inv-loop μ-loop
-array-read-doubled-is c = search needs
-
-mul-doubled-is-2 : tie.Need-mul-doubled-is-2 Inv-loop μ-loop
-mul-doubled-is-2 c = search needs
-
-array-read-doubled-is-2 : tie.Need-array-read-doubled-is-2 Inv-loop μ-loop
-array-read-doubled-is-2 c = search needs
-
-mul-doubled-is-3 : tie.Need-mul-doubled-is-3 Inv-loop μ-loop
-mul-doubled-is-3 c = search needs
-
-array-read-doubled-is-3 : tie.Need-array-read-doubled-is-3 Inv-loop μ-loop
-array-read-doubled-is-3 c = search needs
-
-doubled-is-requires : tie.Need-doubled-is-requires Inv-loop μ-loop
-doubled-is-requires c κs = search needs
-
-returns-3 : tie.Need-returns-3 Inv-loop μ-loop
-unfolding roundHolds doubled modulo residue
-returns-3 c = λ r. let l = c .before .before .before .loop in every-fails _ _ (l .k) (omega arith) (sym (c .before .doubled-is .ensures) ∙ not-true _ (c .if3 .taken))
-
-add-k : tie.Need-add-k Inv-loop μ-loop
-add-k c = search needs
-
-loop-less : tie.Need-loop-less Inv-loop μ-loop
-loop-less c = search needs
-
-loop-again : tie.Need-loop-again Inv-loop μ-loop
-loop-again c = let l = c .before .before .before .loop in (omega arith, omega arith, omega arith, every-goes-on _ (l .k) (l .inv .3) (sym (c .before .doubled-is .ensures) ∙ not-false _ (c .if3 .left)))
-
-returns-4 : tie.Need-returns-4 Inv-loop μ-loop
-unfolding roundHolds doubled modulo residue
-returns-4 c = λ r. let l = c .before .loop in every-ends _ _ (l .k) (l .inv .3) (omega arith)
+returns : tie.Need-returns
+returns c = λ e. let r = ready _ e in c .round-met .ensures e (omega arith) (omega arith) (omega arith)
 
 pub round-holds-spec : {M : Type 1} → statement M
 round-holds-spec =
     tie.close
     (tie.spec
-    Inv-loop
-    μ-loop
-    cast-d
-    returns
-    returns-2
-    loop-holds
-    mul-doubled-is
-    array-read-doubled-is
-    mul-doubled-is-2
-    array-read-doubled-is-2
-    mul-doubled-is-3
-    array-read-doubled-is-3
-    doubled-is-requires
-    returns-3
-    add-k
-    loop-less
-    loop-again
-    returns-4)
+    slice-aggregate-round-met
+    slice-aggregate-round-met-2
+    slice-aggregate-round-met-3
+    round-met-requires
+    returns)

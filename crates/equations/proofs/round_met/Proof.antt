@@ -1,0 +1,103 @@
+-- The loop keeps: the places that are passed hold.
+use mathlib.Core.Path.{_≡_, sym, _∙_}
+use mathlib.Core.Bool.{true}
+use Prim.Native.Nat.{ℕ, _+_, _*_, _-_, _%_, _≤_, _<_}
+use native.Mathlib.Omega.{arith}
+use borrow.Author.Tests.{not-true, not-false}
+use lib.Dec.{eqb}
+use lib.ListN.{length, getD}
+use Rattle.protocol.specs.Basic.{every}
+use Rattle.protocol.specs.Element.{modulo, residue}
+use Rattle.protocol.specs.Transcript.{doubled, roundHolds}
+use Rattle.arithmetic.proofs.Scan.{every-none, every-goes-on, every-fails, every-ends}
+use borrow.Author.Needs.{needs}
+use Rattle.equations.proofs.Ready.{ready}
+use Rattle.equations.proofs.round_met.Statement.{statement}
+use Rattle.equations.proofs.round_met.Tie as tie
+
+abbrev Inv-loop : tie.InvT-loop
+Inv-loop claim c0 c2 q d k₀ k = (k ≤ d) × (d ≤ length claim) × (d ≤ length c0) × (d ≤ length c2) × (0 < q) × (every k (λ (j : ℕ). eqb (2 * (getD c0 j 0 + getD c2 j 0) % q) (getD claim j 0)) ≡ true)
+
+abbrev μ-loop : tie.MeasureT-loop
+μ-loop claim c0 c2 q d k₀ k = d - k
+
+cast-d : tie.Need-cast-d Inv-loop μ-loop
+cast-d c = search needs
+
+returns : tie.Need-returns Inv-loop μ-loop
+returns c = λ e h0 h1 h2. absurd (let r = ready _ e in omega arith)
+
+returns-2 : tie.Need-returns-2 Inv-loop μ-loop
+returns-2 c = λ e h0 h1 h2. absurd (omega arith)
+
+returns-3 : tie.Need-returns-3 Inv-loop μ-loop
+returns-3 c = λ e h0 h1 h2. absurd (omega arith)
+
+returns-4 : tie.Need-returns-4 Inv-loop μ-loop
+returns-4 c = λ e h0 h1 h2. absurd (omega arith)
+
+loop-holds : tie.Need-loop-holds Inv-loop μ-loop
+loop-holds c = (omega arith, omega arith, omega arith, omega arith, omega arith, every-none _)
+
+mul-doubled-is : tie.Need-mul-doubled-is Inv-loop μ-loop
+mul-doubled-is c = search needs
+
+shared-slice-read-doubled-is : tie.Need-shared-slice-read-doubled-is Inv-loop μ-loop
+shared-slice-read-doubled-is c = search needs
+
+mul-doubled-is-2 : tie.Need-mul-doubled-is-2 Inv-loop μ-loop
+mul-doubled-is-2 c = search needs
+
+shared-slice-read-doubled-is-2 : tie.Need-shared-slice-read-doubled-is-2 Inv-loop μ-loop
+shared-slice-read-doubled-is-2 c = search needs
+
+mul-doubled-is-3 : tie.Need-mul-doubled-is-3 Inv-loop μ-loop
+mul-doubled-is-3 c = search needs
+
+shared-slice-read-doubled-is-3 : tie.Need-shared-slice-read-doubled-is-3 Inv-loop μ-loop
+shared-slice-read-doubled-is-3 c = search needs
+
+doubled-is-requires : tie.Need-doubled-is-requires Inv-loop μ-loop
+doubled-is-requires c κs = search needs
+
+returns-5 : tie.Need-returns-5 Inv-loop μ-loop
+unfolding roundHolds doubled modulo residue
+returns-5 c = λ e h0 h1 h2. let l = c .before .before .before .before .before .before .loop in every-fails _ _ (l .k) (omega arith) (sym (c .before .doubled-is .ensures) ∙ not-true _ (c .if5 .taken))
+
+add-k : tie.Need-add-k Inv-loop μ-loop
+add-k c = search needs
+
+loop-less : tie.Need-loop-less Inv-loop μ-loop
+loop-less c = search needs
+
+loop-again : tie.Need-loop-again Inv-loop μ-loop
+loop-again c = let l = c .before .before .before .before .before .before .loop in (omega arith, omega arith, omega arith, omega arith, omega arith, every-goes-on _ (l .k) (l .inv .5) (sym (c .before .doubled-is .ensures) ∙ not-false _ (c .if5 .left)))
+
+returns-6 : tie.Need-returns-6 Inv-loop μ-loop
+unfolding roundHolds doubled modulo residue
+returns-6 c = λ e h0 h1 h2. let l = c .before .loop in every-ends _ _ (l .k) (l .inv .5) (omega arith)
+
+pub round-met-spec : {M : Type 1} → statement M
+round-met-spec =
+    tie.close
+    (tie.spec
+    Inv-loop
+    μ-loop
+    cast-d
+    returns
+    returns-2
+    returns-3
+    returns-4
+    loop-holds
+    mul-doubled-is
+    shared-slice-read-doubled-is
+    mul-doubled-is-2
+    shared-slice-read-doubled-is-2
+    mul-doubled-is-3
+    shared-slice-read-doubled-is-3
+    doubled-is-requires
+    returns-5
+    add-k
+    loop-less
+    loop-again
+    returns-6)
