@@ -8,8 +8,8 @@ use native.Mathlib.Decide.{decLt}
 use native.Mathlib.Omega.{arith}
 use borrow.Author.Tests.{le-ltb}
 use lib.IntN.{ℤ, pos, negsuc, negℤ, _*ℤ_, natAbs}
-use lib.ListN.{length, getD, drop, set, replicate, getD-replicate, length-map, List·getD-append, List·getD-map}
-use lib.Seq.{getD-append-add, ext-getD}
+use lib.ListN.{length, getD, drop, set, replicate, getD-replicate, List·getD-append, List·getD-map}
+use lib.Seq.{getD-append-add}
 use lib.Signed.{ltZ}
 use Rattle.protocol.specs.Basic.{sum, tabulate}
 use Rattle.protocol.specs.Element.{modulo, around, rotate, product, signed, residue, zeros, reduced, padded}
@@ -180,10 +180,6 @@ module _ (q d : ℕ) (p : 0 < q) (pd : 0 < d) (a : List ℕ) where
     where
       f : ℕ → ℕ
       f = λ x. modulo q (around d (residue a) x)
-
-  -- residues are read as they are
-  pub narrowed-extension : q ≤ 2 ^ 32 → narrowed (extension q d a) ≡ extension q d a
-  narrowed-extension w = ext-getD 0 _ _ (unfold narrowed in length-map (extension q d a) (λ y. y % 2 ^ 32)) (λ j _. narrowed-at (extension q d a) j ∙ Nat.mod-eq-of-lt (omega (arith, extension-below j)))
 
   opposite : (n : ℕ) (z : ℤ) → negsuc n *ℤ negℤ z ≡ pos (suc n) *ℤ z
   opposite n (pos zero) = ap (λ m. negℤ (pos m)) (Nat.mul-zero (suc n)) ∙ ap pos (sym (Nat.mul-zero (suc n)))
