@@ -1,20 +1,20 @@
 -- The extension of an element: rows of residues, each the negative of the row before; and the sums of its numbers with those of another element.
-use mathlib.Core.Path.{_≡_, refl, sym, ap, _∙_}
+use mathlib.Core.Path.{_≡_, sym, ap, _∙_}
 use mathlib.Core.List.{List}
-use Prim.Native.Nat.{ℕ, zero, suc, _+_, _*_, _-_, _%_, _<_, _≤_}
+use Prim.Native.Nat.{ℕ, zero, suc, _+_, _*_, _-_, _%_, _^_, _<_, _≤_}
 use native.Mathlib.Nat as Nat
 use native.Mathlib.Omega.{arith}
 use lib.IntN.{ℤ, pos, negℤ, _+ℤ_}
-use lib.ListN.{length, getD, drop, replicate}
+use lib.ListN.{length, getD, drop}
 use lib.Seq.{getD-drop}
 use Rattle.protocol.specs.Element.{modulo, around, residue}
 use Rattle.protocol.proofs.Modulo.{modulo-add, modulo-lt, modulo-neg}
 use Rattle.arithmetic.specs.Folds.{spliced}
-use Rattle.arithmetic.specs.Products.{extension}
+use Rattle.arithmetic.specs.Products.{extension, narrowed, addRows}
 use Rattle.arithmetic.specs.Residues.{Residues, turned}
 use Rattle.arithmetic.proofs.Around.{around-first, around-third, around-next}
-use Rattle.arithmetic.proofs.Fill.{fill-done}
-use Rattle.arithmetic.proofs.Splice.{spliced-length, spliced-before, spliced-inside, spliced-ext, spliced-zeros, spliced-twice}
+use Rattle.arithmetic.proofs.Rows.{narrowed-at, rows-front, extension-at}
+use Rattle.arithmetic.proofs.Splice.{spliced-length, spliced-before, spliced-inside, spliced-ext, spliced-twice}
 
 -- ---- the residue of a number with the other sign
 
@@ -91,9 +91,20 @@ module _ (q d : ℕ) (p : 0 < q) (pd : 0 < d) (a : List ℕ) where
         ∙ spliced-twice (turned q d a) (λ k. modulo q (negℤ (pos (getD x (from + k) 0)))) 0 to d x₀ (omega arith)
         (λ k h. ap (λ n. modulo q (negℤ (pos n))) (row-at k h) ∙ turned-next (from + k) ∙ ap (turned q d a) (omega arith))
 
-  pub extension-done : spliced (turned q d a) 0 (3 * d) (replicate 192 0) ≡ extension q d a
-  unfolding extension turned
-  extension-done = fill-done 192 (turned q d a) (3 * d) (3 * d) (spliced (turned q d a) 0 (3 * d) (replicate 192 0)) (spliced-zeros (turned q d a) 192 (3 * d)) refl
+  -- the rows at the front of a room x₀: sums over them are those over the extension, whatever stands behind them
+  module _ (w : q ≤ 2 ^ 32) (x₀ x : List ℕ) (e : x ≡ spliced (turned q d a) 0 (3 * d) x₀) where
+    front-at : (y : ℕ) → y < 3 * d → getD (narrowed x) y 0 ≡ getD (extension q d a) y 0
+    unfolding turned
+    front-at y h =
+        narrowed-at x y
+        ∙ ap (λ l. getD l y 0 % 2 ^ 32) e
+        ∙ ap (λ n. getD (spliced (turned q d a) 0 (3 * d) x₀) n 0 % 2 ^ 32) (sym (Nat.zero-add y))
+        ∙ ap (λ n. n % 2 ^ 32) (spliced-inside (turned q d a) 0 (3 * d) x₀ (omega arith) y h)
+        ∙ Nat.mod-eq-of-lt (omega (arith, turned-lt y))
+        ∙ sym (extension-at q d p pd a y h)
+
+    pub extension-rows : (f : List ℤ) (s : List ℕ) → addRows d f (narrowed x) d s ≡ addRows d f (extension q d a) d s
+    extension-rows f s = rows-front d f (narrowed x) (extension q d a) front-at d s
 
   -- what stands at place k of each row, v being the residue
   module _ (k v : ℕ) (h : k < d) (e : v ≡ getD a k 0 % q) where

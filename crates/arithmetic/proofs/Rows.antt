@@ -8,8 +8,8 @@ use native.Mathlib.Decide.{decLt}
 use native.Mathlib.Omega.{arith}
 use borrow.Author.Tests.{le-ltb}
 use lib.IntN.{ℤ, pos, negsuc, negℤ, _*ℤ_, natAbs}
-use lib.ListN.{length, getD, drop, set, replicate, getD-replicate, length-map, List·getD-append, List·getD-map}
-use lib.Seq.{getD-append-add, ext-getD}
+use lib.ListN.{length, getD, drop, set, replicate, getD-replicate, List·getD-append, List·getD-map}
+use lib.Seq.{getD-append-add}
 use lib.Signed.{ltZ}
 use Rattle.protocol.specs.Basic.{sum, tabulate}
 use Rattle.protocol.specs.Element.{modulo, around, rotate, product, signed, residue, zeros, reduced, padded}
@@ -112,6 +112,17 @@ four-more d f x j s =
     (λ i. nextRow d f x (three i) (nextRow d f x (two i) (nextRow d f x (one i) (nextRow d f x j (addRows d f x j s)))))
     ∙ ap (λ n. addRows d f x n s) four
 
+-- of the list x a product reads the first 3d numbers alone
+module _ (d : ℕ) (f : List ℤ) (x x′ : List ℕ) (e : (y : ℕ) → y < 3 * d → getD x y 0 ≡ getD x′ y 0) where
+  row-front : (m at : ℕ) (s : List ℕ) → at ≤ d + d → addRow d m at x s ≡ addRow d m at x′ s
+  unfolding addRow
+  row-front m at s h = ap (λ l. l ++ drop d s) (tabulate-ext d (λ k l. ap (λ y. (getD s k 0 + m * y) % 2 ^ 64) (e (at + k) (omega arith))))
+
+  pub rows-front : (n : ℕ) (s : List ℕ) → addRows d f x n s ≡ addRows d f x′ n s
+  unfolding addRows
+  rows-front zero s = refl
+  rows-front (suc n) s = row-front _ _ (addRows d f x n s) (start-most d n (getD f n (pos 0))) ∙ ap (nextRow d f x′ n) (rows-front n s)
+
 -- ---- sums
 
 pub total-most : (n : ℕ) (f : ℕ → ℕ) (b : ℕ) → ((j : ℕ) → j < n → f j ≤ b) → total n f ≤ n * b
@@ -151,7 +162,7 @@ module _ (d : ℕ) (f : List ℤ) (x s : List ℕ) (k : ℕ) (l : k < d) (room :
 -- ---- the rows of an extension are those of a product
 
 module _ (q d : ℕ) (p : 0 < q) (pd : 0 < d) (a : List ℕ) where
-  extension-at : (y : ℕ) → y < 3 * d → getD (extension q d a) y 0 ≡ modulo q (around d (residue a) y)
+  pub extension-at : (y : ℕ) → y < 3 * d → getD (extension q d a) y 0 ≡ modulo q (around d (residue a) y)
   unfolding extension
   extension-at y h =
       List·getD-append (tabulate (3 * d) (λ z. modulo q (around d (residue a) z))) _ 0 y (omega (arith, tabulate-length (3 * d) (λ z. modulo q (around d (residue a) z))))
@@ -169,10 +180,6 @@ module _ (q d : ℕ) (p : 0 < q) (pd : 0 < d) (a : List ℕ) where
     where
       f : ℕ → ℕ
       f = λ x. modulo q (around d (residue a) x)
-
-  -- residues are read as they are
-  pub narrowed-extension : q ≤ 2 ^ 32 → narrowed (extension q d a) ≡ extension q d a
-  narrowed-extension w = ext-getD 0 _ _ (unfold narrowed in length-map (extension q d a) (λ y. y % 2 ^ 32)) (λ j _. narrowed-at (extension q d a) j ∙ Nat.mod-eq-of-lt (omega (arith, extension-below j)))
 
   opposite : (n : ℕ) (z : ℤ) → negsuc n *ℤ negℤ z ≡ pos (suc n) *ℤ z
   opposite n (pos zero) = ap (λ m. negℤ (pos m)) (Nat.mul-zero (suc n)) ∙ ap pos (sym (Nat.mul-zero (suc n)))

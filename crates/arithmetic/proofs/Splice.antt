@@ -76,7 +76,7 @@ unfolding spliced filled
 spliced-again f g n l = filled-again f g n l
 
 -- over zeros; in particular an element that is passed by value
-pub spliced-zeros : (f : ℕ → ℕ) (n d : ℕ) → spliced f 0 d (replicate n 0) ≡ filled f d (zeros n)
+spliced-zeros : (f : ℕ → ℕ) (n d : ℕ) → spliced f 0 d (replicate n 0) ≡ filled f d (zeros n)
 unfolding spliced filled zeros
 spliced-zeros f n d = refl
 

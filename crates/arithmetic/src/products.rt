@@ -11,7 +11,7 @@ ghost use Rattle.protocol.specs.Element.{padded, reduced, signed, residue};
 ghost use Rattle.protocol.specs.Element as Element;
 ghost use Rattle.arithmetic.specs.Folds.{spliced};
 ghost use Rattle.arithmetic.specs.Residues.{turned};
-ghost use Rattle.arithmetic.specs.Products.{extension, narrowed, start, addRow, addRows, addFour, Rows, limit, reducedSums};
+ghost use Rattle.arithmetic.specs.Products.{narrowed, start, addRow, addRows, addFour, Rows, limit, reducedSums};
 
 fn wide(x: u32) -> u64
     ensures { λ r. ⌜ r ≡ x ⌝ }
@@ -32,7 +32,7 @@ fn reduce(q: u32, x: u32) -> u32
 
 // The residues that stand at the places 0 to 3d − 1 of a, going round by X^d = −1, written to the front of y: each residue, its negative, and
 // the residue again.
-fn extend(q: u32, d: usize, a: &[u32], y: &mut [u64])
+fn write_rows(q: u32, d: usize, a: &[u32], y: &mut [u64])
     requires { ⌜ (0 < q) × (d ≤ 64) × (d ≤ length (now a)) × (3 * d ≤ length (now y)) ⌝ }
     ensures { λ _. ⌜ now (y .exit) ≡ spliced (turned q d (now (a .entry))) 0 (3 * d) (now (y .entry)) ⌝ }
 {
@@ -44,26 +44,24 @@ fn extend(q: u32, d: usize, a: &[u32], y: &mut [u64])
     }
 }
 
-// The same as an array that is passed by value.
-pub fn extended(q: u32, d: u32, a: &[u32]) -> [u64; 192]
-    ensures { λ r. ⌜ (0 < q → 0 < d → d ≤ 64 → d ≤ length (now (a .entry)) → r ≡ extension q d (now (a .entry))) ⌝ }
+// The extension of a, at the front of a lent room x. What stands behind it stays.
+pub fn extend(q: u32, d: u32, a: &[u32], x: &mut [u64])
+    ensures { λ _. ⌜ (0 < q → 0 < d → d ≤ 64 → d ≤ length (now (a .entry)) → 3 * d ≤ length (now (x .entry)) → now (x .exit) ≡ spliced (turned q d (now (a .entry))) 0 (3 * d) (now (x .entry))) ⌝ }
 {
-    let mut y = [0u64; 192];
-    if q == 0 {
-        return y;
-    }
-    if d == 0 {
-        return y;
-    }
-    if d > 64 {
-        return y;
-    }
     let n = d as usize;
-    if a.len() < n {
-        return y;
+    if q == 0 {
+        return;
     }
-    extend(q, n, a, &mut y);
-    y
+    if n > 64 {
+        return;
+    }
+    if a.len() < n {
+        return;
+    }
+    if x.len() < 3 * n {
+        return;
+    }
+    write_rows(q, n, a, x);
 }
 
 // m·y, y being below 2^32.
@@ -180,7 +178,7 @@ fn add_rows(d: usize, f: &[i32], x: &[u64], sums: &mut [u64])
     add_rest(d, j, f, x, sums);
 }
 
-// The product of f with the element whose extension is x, added to the sums modulo 2^64.
+// The product of f with the element whose extension stands at the front of x, added to the sums modulo 2^64.
 pub fn accumulate(d: u32, f: &[i32], x: &[u64], sums: &mut [u64])
     ensures { λ _. ⌜ (Rows d (length (now (f .entry))) (length (now (x .entry))) (length (now (sums .entry))) → now (sums .exit) ≡ addRows d (now (f .entry)) (narrowed (now (x .entry))) d (now (sums .entry))) ⌝ }
 {
@@ -234,7 +232,8 @@ pub fn reduced_sums(q: u32, d: u32, sums: &[u64]) -> [u32; 64]
 pub fn product(q: u32, d: u32, f: [i32; 64], g: [u32; 64]) -> [u32; 64]
     ensures { λ r. ⌜ (0 < q → 0 < d → d ≤ 64 → ((j : ℕ) → j < d → natAbs (getD f j (pos 0)) ≤ limit) → r ≡ padded d (reduced q d (Element.product d (signed f) (residue g)))) ⌝ }
 {
-    let x = extended(q, d, &g);
+    let mut x = [0u64; 192];
+    extend(q, d, &g, &mut x);
     let mut sums = [0u64; 64];
     accumulate(d, &f, &x, &mut sums);
     reduced_sums(q, d, &sums)

@@ -150,7 +150,8 @@ fn equation_met(settings: Settings, claim: &[u32], f: &[i32], g: &[u32]) -> bool
     if d > 64 {
         return false;
     }
-    let x = arithmetic::products::extended(q, settings.degree, g);
+    let mut x = [0u64; 192];
+    arithmetic::products::extend(q, settings.degree, g, &mut x);
     let mut sums = [0u64; 64];
     arithmetic::products::accumulate(settings.degree, f, &x, &mut sums);
     quotients_are(q, d, sizes::left(settings, 0), &sums, claim)

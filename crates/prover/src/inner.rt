@@ -19,10 +19,11 @@ pub fn add_inner(q: u32, d: u32, h: u32, message: &[i32], key: &[u32], sums: &mu
 {
     let step = d as usize;
     let n = h as usize;
+    let mut x = [0u64; 192];
     let mut i: usize = 0;
     while i < n {
         let at = i * step;
-        let x = products::extended(q, d, &key[at..]);
+        products::extend(q, d, &key[at..], &mut x);
         products::accumulate(d, &message[at..], &x, sums);
         i += 1;
     }

@@ -1,8 +1,7 @@
-use mathlib.Core.Path.{ap, _∙_}
+use mathlib.Core.Path.{_∙_}
 use native.Mathlib.Omega.{arith}
 use lib.ListN.{replicate}
-use Rattle.arithmetic.specs.Products.{narrowed, addRows}
-use Rattle.arithmetic.proofs.Rows.{narrowed-extension}
+use Rattle.arithmetic.proofs.Extension.{extension-rows}
 use Rattle.equations.proofs.Ending.{equation-is}
 use Rattle.equations.proofs.Ready.{ready}
 use borrow.Author.Needs.{needs}
@@ -18,8 +17,11 @@ returns c = λ e t. absurd (let r = ready _ e in omega arith)
 returns-2 : tie.Need-returns-2
 returns-2 c = λ e t. absurd (let r = ready _ e in omega arith)
 
-extended-requires : tie.Need-extended-requires
-extended-requires c κs = search needs
+slice-aggregate-extend : tie.Need-slice-aggregate-extend
+slice-aggregate-extend c = search needs
+
+extend-requires : tie.Need-extend-requires
+extend-requires c κs = search needs
 
 slice-aggregate-accumulate : tie.Need-slice-aggregate-accumulate
 slice-aggregate-accumulate c = search needs
@@ -41,15 +43,15 @@ quotients-are-requires c κs = search needs
 
 returns-3 : tie.Need-returns-3
 returns-3 c = λ e t.
-    let a = c .before .before .before .before .before .before .before .before .before .before .before .before .before .args in
+    let x = c .before .before .before .before .before .before .before .before in
+    let a = x .before .before .before .before .before .before .before .args in
     let S = a .settings in
     let r = ready S e in
-    let x = c .before .before .before .before .before .before .before .extended in
     let s = c .before .before .before .before .accumulate in
     c .quotients-are .ensures
     ∙ equation-is S r (a .f .now) t (a .g .now) (a .claim .now) _ _ (c .before .before .left .ensures e (omega arith))
     (s .ensures (record { degree = r .degree-most; coefficients = omega arith; residues = omega arith; sums = omega arith })
-    ∙ ap (λ l. addRows (S .degree) (a .f .now) l (S .degree) (replicate 64 0)) (ap narrowed (x .ensures (omega arith) (omega arith) (r .degree-most) (omega arith)) ∙ narrowed-extension (S .modulus) (S .degree) (omega arith) (omega arith) (a .g .now) (omega arith)))
+    ∙ extension-rows (S .modulus) (S .degree) (omega arith) (omega arith) (a .g .now) (omega arith) (replicate 192 0) _ (x .extend .ensures (omega arith) (omega arith) (r .degree-most) (omega arith) (omega arith)) (a .f .now) (replicate 64 0))
 
 pub equation-met-spec : {M : Type 1} → statement M
 equation-met-spec =
@@ -58,7 +60,8 @@ equation-met-spec =
     cast-d
     returns
     returns-2
-    extended-requires
+    slice-aggregate-extend
+    extend-requires
     slice-aggregate-accumulate
     slice-aggregate-accumulate-2
     accumulate-requires

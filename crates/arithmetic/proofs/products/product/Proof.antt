@@ -1,17 +1,21 @@
 use mathlib.Core.Path.{ap, _∙_}
 use native.Mathlib.Omega.{arith}
 use lib.ListN.{replicate}
-use Rattle.arithmetic.specs.Products.{narrowed, addRows, reducedSums}
-use Rattle.arithmetic.proofs.Rows.{narrowed-extension, product-done}
+use Rattle.arithmetic.specs.Products.{reducedSums}
+use Rattle.arithmetic.proofs.Extension.{extension-rows}
+use Rattle.arithmetic.proofs.Rows.{product-done}
 use borrow.Author.Needs.{needs}
 use Rattle.arithmetic.proofs.products.product.Statement.{statement}
 use Rattle.arithmetic.proofs.products.product.Tie as tie
 
-slice-aggregate-extended : tie.Need-slice-aggregate-extended
-slice-aggregate-extended c = search needs
+slice-aggregate-extend : tie.Need-slice-aggregate-extend
+slice-aggregate-extend c = search needs
 
-extended-requires : tie.Need-extended-requires
-extended-requires c κs = search needs
+slice-aggregate-extend-2 : tie.Need-slice-aggregate-extend-2
+slice-aggregate-extend-2 c = search needs
+
+extend-requires : tie.Need-extend-requires
+extend-requires c κs = search needs
 
 slice-aggregate-accumulate : tie.Need-slice-aggregate-accumulate
 slice-aggregate-accumulate c = search needs
@@ -33,20 +37,22 @@ reduced-sums-requires c κs = search needs
 
 returns : tie.Need-returns
 returns c = λ hq hd h small.
-    let a = c .before .before .before .before .before .before .before .before .before .args in
-    let x = c .before .before .before .before .before .before .before .extended in
+    let b = c .before .before .before .before .before .before .before .before in
+    let a = b .before .before .before .args in
     let s = c .before .before .before .accumulate in
     c .reduced-sums .ensures hq h (omega arith)
     ∙ ap (reducedSums (a .q) (a .d))
-    (s .ensures (record { degree = h; coefficients = omega arith; residues = omega arith; sums = omega arith }) ∙ ap (λ l. addRows (a .d) (a .t3) l (a .d) (replicate 64 0)) (ap narrowed (x .ensures hq hd h (omega arith)) ∙ narrowed-extension (a .q) (a .d) hq hd (a .t4) (omega arith)))
+    (s .ensures (record { degree = h; coefficients = omega arith; residues = omega arith; sums = omega arith })
+    ∙ extension-rows (a .q) (a .d) hq hd (a .t4) (omega arith) (replicate 192 0) _ (b .extend .ensures hq hd h (omega arith) (omega arith)) (a .t3) (replicate 64 0))
     ∙ product-done (a .q) (a .d) (a .t3) (a .t4) hq hd h (omega arith) small
 
 pub product-spec : {M : Type 1} → statement M
 product-spec =
     tie.close
     (tie.spec
-    slice-aggregate-extended
-    extended-requires
+    slice-aggregate-extend
+    slice-aggregate-extend-2
+    extend-requires
     slice-aggregate-accumulate
     slice-aggregate-accumulate-2
     slice-aggregate-accumulate-3
