@@ -63,13 +63,7 @@ fn claim_to(
 }
 
 // Is the end met at leaf j, with the key folded down to it.
-fn leaf_accepted(
-    settings: Settings,
-    j: u32,
-    claim: &[u32],
-    leaves: &[i32],
-    folded: &[u32],
-) -> bool
+fn leaf_accepted(settings: Settings, j: u32, claim: &[u32], leaves: &[i32], folded: &[u32]) -> bool
     requires { ⌜ (settingsRefusal settings ≡ 0) × (j * settings .degree + settings .degree ≤ length (now leaves)) × (settings .degree ≤ length (now claim)) × (settings .degree ≤ length (now folded)) ⌝ }
     ensures { λ r. ⌜ r ≡ leafMet settings (now (leaves .entry)) j (now (claim .entry)) (now (folded .entry)) ⌝ }
 {
