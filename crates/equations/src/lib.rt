@@ -69,8 +69,10 @@ pub fn next_claim(
 ) -> [u32; 64]
     ensures { λ r. ⌜ (settingsRefusal settings ≡ 0 → r ≡ padded (settings .degree) (nextClaim settings e (residue c0) (residue c1) (residue c2))) ⌝ }
 {
+    let q = settings.modulus;
+    let d = settings.degree;
     let mut claim = [0u32; 64];
-    arithmetic::elements::value(settings.modulus, settings.degree, e, &c0, &c1, &c2, &mut claim);
+    arithmetic::elements::value(q, d, e, &c0, &c1, &c2, &mut claim);
     claim
 }
 

@@ -1,4 +1,4 @@
--- From a node of the check to its children: the claim and the key that a child gets by value and in the workspace are the ones that the check hands down.
+-- From a node of the check to its children: the claim and the key that a child gets are the ones that the check hands down.
 use mathlib.Core.Path.{_≡_, sym, ap, _∙_}
 use mathlib.Core.Bool.{_&&_}
 use mathlib.Core.List.{List, _++_}
@@ -8,7 +8,6 @@ use lib.IntN.{ℤ}
 use lib.ListN.{length, getD, take, drop}
 use lib.Seq.{length-take-le, drop-at}
 use Rattle.protocol.specs.declared.Settings.{Settings}
-use Rattle.protocol.specs.Element.{padded}
 use Rattle.protocol.specs.Opening.{foldResidues, foldKey}
 use Rattle.protocol.specs.Tree.{child, challenge}
 use Rattle.arithmetic.specs.Folds.{foldDown}
@@ -19,7 +18,6 @@ use Rattle.claims.proofs.Paths.{halfLeft-height}
 use Rattle.claims.proofs.TreeKeys.{tree-alike}
 use Rattle.claims.proofs.Places.{AtNode, leaf-cells, twice-cells, height-is, deeper}
 use Rattle.trees.specs.Nodes.{leafMet, childAccepted}
-use Rattle.trees.proofs.Checks.{claim-alike}
 use Rattle.trees.proofs.Workspace.{fold-kept, child-alike}
 
 module _ (S : Settings) (rounds E : List ℕ) (finals : List ℤ) (h k first space : ℕ) (A : AtNode S h k first space) where
@@ -61,12 +59,12 @@ module _ (S : Settings) (rounds E : List ℕ) (finals : List ℤ) (h k first spa
           ∙ child-alike q d n (challenge E k j) W room i l
           ∙ ap (λ s. getD s i 0) key-is
 
-      pub child-tests : (claim : List ℕ) → claim ≡ padded d (claimTo S rounds E k j)
+      pub child-tests : (claim : List ℕ) → Alike d claim (claimTo S rounds E k j)
           → treeAccepted S rounds E finals (h - 1) (3 * k + 1 + j) (L - (h - 1)) claim (drop (n * d) (take half U)) ≡ childAccepted S rounds E finals h k (drop (2 ^ h * d) W) j
       unfolding childAccepted child
-      child-tests claim is-claim =
+      child-tests claim alike =
           ap (λ t. treeAccepted S rounds E finals (h - 1) (child k j) t claim (drop (n * d) (take half U))) (sym (deeper S h k first space A up))
-          ∙ tree-alike S rounds E finals (h - 1) (child k j) (suc (L - h)) claim (claimTo S rounds E k j) _ _ (omega (arith, A .height)) (λ i l. ap (λ s. getD s i 0) is-claim ∙ claim-alike S rounds E k j i l) key-alike
+          ∙ tree-alike S rounds E finals (h - 1) (child k j) (suc (L - h)) claim (claimTo S rounds E k j) _ _ (omega (arith, A .height)) alike key-alike
 
       -- the node's own key
       pub key-kept : (last : List ℕ) → length last ≡ length (take half U) → half ≤ length U → drop (2 ^ h * d) (last ++ drop half U) ≡ drop (2 ^ h * d) W

@@ -1,19 +1,21 @@
 -- The check of a tree node by node, as the code goes through it.
 --
 --   Folding S h space          the key of a node that is h steps above the leaves can be folded in a list of `space` numbers
+--   Tables S rounds finals     a full tree has so many numbers in its tables of rounds and of final elements
+--   Round S k rounds           node k has a round, which stands in a table of `rounds` numbers
 --   leafMet S finals j ..      is the end met at leaf j, with its claim and the folded key
 --   childAccepted S .. h k j   is every path accepted that goes from node k, h steps above the leaves and with this key, to its child j
 use mathlib.Core.Path.{_≡_}
 use mathlib.Core.Bool.{Bool, _&&_}
 use mathlib.Core.List.{List}
-use Prim.Native.Nat.{ℕ, suc, _*_, _-_, _^_, _<_, _≤_}
+use Prim.Native.Nat.{ℕ, suc, _+_, _*_, _-_, _^_, _<_, _≤_}
 use lib.IntN.{ℤ}
 use Rattle.protocol.specs.declared.Settings.{Settings}
 use Rattle.protocol.specs.Element.{signed}
 use Rattle.protocol.specs.Settings.{settingsRefusal}
 use Rattle.protocol.specs.Opening.{foldKey}
 use Rattle.protocol.specs.Transcript.{finalBounded}
-use Rattle.protocol.specs.Tree.{child, challenge, leaf}
+use Rattle.protocol.specs.Tree.{child, challenge, nodes, leaves, leaf}
 use Rattle.claims.specs.TreeCheck.{claimTo, foldedEndHolds, treeAccepted}
 
 pub record Folding (S : Settings) (h space : ℕ) : Type 0 where
@@ -21,6 +23,16 @@ pub record Folding (S : Settings) (h space : ℕ) : Type 0 where
   pub up : 0 < h
   pub height : h ≤ S .depth
   pub space-is : space ≡ 2 * (2 ^ h * S .degree)
+
+pub record Tables (S : Settings) (rounds finals : ℕ) : Type 0 where
+  pub allowed : settingsRefusal S ≡ 0
+  pub rounds-long : rounds ≡ 3 * nodes S * S .degree
+  pub finals-long : finals ≡ leaves S * S .degree
+
+pub record Round (S : Settings) (k rounds : ℕ) : Type 0 where
+  pub allowed : settingsRefusal S ≡ 0
+  pub number : k ≤ 3280
+  pub inside : 3 * k * S .degree + 3 * S .degree ≤ rounds
 
 module _ (S : Settings) where
   unfoldable pub leafMet : List ℤ → ℕ → List ℕ → List ℕ → Bool

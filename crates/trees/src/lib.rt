@@ -19,13 +19,20 @@ pub fn every_path_accepted(
     leaves: &[i32],
 ) -> bool
     ensures { λ r. ⌜ (settingsRefusal settings ≡ 0 → length (now (key .entry)) ≡ cells settings → length (now (rounds .entry)) ≡ 3 * tree.nodes settings * settings .degree
-        → length (now (challenges .entry)) ≡ 3 * tree.nodes settings → length (now (leaves .entry)) ≡ tree.leaves settings * settings .degree
+        → length (now (leaves .entry)) ≡ tree.leaves settings * settings .degree
         → r ≡ everyPath settings commitment (now (key .entry)) (now (rounds .entry)) (now (challenges .entry)) (now (leaves .entry))) ⌝ }
 {
     if arithmetic::tests::settings_refusal(settings) != 0 {
         return false;
     }
     if key.len() != sizes::cells(settings) {
+        return false;
+    }
+    let d = settings.degree as usize;
+    if rounds.len() != 3 * sizes::nodes(settings) * d {
+        return false;
+    }
+    if leaves.len() != sizes::leaves(settings) * d {
         return false;
     }
     nodes::root_accepted(settings, commitment, key, rounds, challenges, leaves)

@@ -6,14 +6,14 @@ use protocol::Settings;
 ghost use mathlib.Core.Path.{_≡_};
 ghost use Prim.Native.Nat.{_+_, _*_, _-_, _^_, _<_, _≤_};
 ghost use lib.ListN.{length, drop};
-ghost use Rattle.protocol.specs.Element.{padded};
 ghost use Rattle.protocol.specs.Settings.{settingsRefusal, cells};
 ghost use Rattle.protocol.specs.Tree as tree;
 ghost use Rattle.protocol.specs.Calls.{everyPath};
 ghost use Rattle.arithmetic.specs.Folds.{foldDown};
 ghost use Rattle.claims.specs.TreeCheck.{claimTo, nodeHolds, treeAccepted};
+ghost use Rattle.claims.proofs.Agreement.{Alike};
 ghost use Rattle.claims.proofs.Places.{AtNode};
-ghost use Rattle.trees.specs.Nodes.{Folding, leafMet, childAccepted};
+ghost use Rattle.trees.specs.Nodes.{Folding, Tables, Round, leafMet, childAccepted};
 
 // Challenge j of node k.
 fn challenge(challenges: &[u32], k: u32, j: u32) -> u32
@@ -24,41 +24,51 @@ fn challenge(challenges: &[u32], k: u32, j: u32) -> u32
 }
 
 // Does the round of node k hold.
-fn node_holds(settings: Settings, k: u32, claim: [u32; 64], rounds: &[u32]) -> bool
-    requires { ⌜ (settingsRefusal settings ≡ 0) × (k ≤ 3280) ⌝ }
-    ensures { λ r. ⌜ r ≡ nodeHolds settings (now (rounds .entry)) k claim ⌝ }
+fn node_holds(settings: Settings, k: u32, claim: &[u32], rounds: &[u32]) -> bool
+    requires { ⌜ Round settings k (length (now rounds)) × (settings .degree ≤ length (now claim)) ⌝ }
+    ensures { λ r. ⌜ r ≡ nodeHolds settings (now (rounds .entry)) k (now (claim .entry)) ⌝ }
 {
-    let c0 = elements::element_at(settings.degree, rounds, 3 * k);
-    let c2 = elements::element_at(settings.degree, rounds, 3 * k + 2);
-    equations::round_holds(settings, claim, c0, c2)
+    let d = settings.degree as usize;
+    let at = 3 * (k as usize) * d;
+    let last = at + 2 * d;
+    equations::round_met(settings, claim, &rounds[at..], &rounds[last..])
 }
 
-// The claim that node k hands to its child j.
-fn claim_to(settings: Settings, k: u32, j: u32, rounds: &[u32], challenges: &[u32]) -> [u32; 64]
-    requires { ⌜ (settingsRefusal settings ≡ 0) × (k ≤ 3280) × (j < 3) ⌝ }
-    ensures { λ r. ⌜ r ≡ padded (settings .degree) (claimTo settings (now (rounds .entry)) (now (challenges .entry)) k j) ⌝ }
+// The claim that node k hands to its child j, written to the front of `claim`. What else `claim` holds is left free.
+fn claim_to(
+    settings: Settings,
+    k: u32,
+    j: u32,
+    rounds: &[u32],
+    challenges: &[u32],
+    claim: &mut [u32],
+)
+    requires { ⌜ Round settings k (length (now rounds)) × (j < 3) × (settings .degree ≤ length (now claim)) ⌝ }
+    ensures { λ _. ⌜ Alike (settings .degree) (now (claim .exit)) (claimTo settings (now (rounds .entry)) (now (challenges .entry)) k j) ⌝ }
 {
     let e = challenge(challenges, k, j);
-    let c0 = elements::element_at(settings.degree, rounds, 3 * k);
-    let c1 = elements::element_at(settings.degree, rounds, 3 * k + 1);
-    let c2 = elements::element_at(settings.degree, rounds, 3 * k + 2);
-    equations::next_claim(settings, e, c0, c1, c2)
+    let d = settings.degree as usize;
+    let at = 3 * (k as usize) * d;
+    let second = at + d;
+    let third = at + 2 * d;
+    elements::value(
+        settings.modulus,
+        settings.degree,
+        e,
+        &rounds[at..],
+        &rounds[second..],
+        &rounds[third..],
+        claim,
+    );
 }
 
 // Is the end met at leaf j, with the key folded down to it.
-fn leaf_accepted(
-    settings: Settings,
-    j: u32,
-    claim: [u32; 64],
-    leaves: &[i32],
-    folded: &[u32],
-) -> bool
-    requires { ⌜ settingsRefusal settings ≡ 0 ⌝ }
-    ensures { λ r. ⌜ r ≡ leafMet settings (now (leaves .entry)) j claim (now (folded .entry)) ⌝ }
+fn leaf_accepted(settings: Settings, j: u32, claim: &[u32], leaves: &[i32], folded: &[u32]) -> bool
+    requires { ⌜ (settingsRefusal settings ≡ 0) × (j * settings .degree + settings .degree ≤ length (now leaves)) × (settings .degree ≤ length (now claim)) × (settings .degree ≤ length (now folded)) ⌝ }
+    ensures { λ r. ⌜ r ≡ leafMet settings (now (leaves .entry)) j (now (claim .entry)) (now (folded .entry)) ⌝ }
 {
-    let f = elements::signed_element_at(settings.degree, leaves, j);
-    let g = elements::element_at(settings.degree, folded, 0);
-    equations::end_holds(settings, claim, f, g)
+    let at = (j as usize) * (settings.degree as usize);
+    equations::ending_met(settings, claim, &leaves[at..], folded)
 }
 
 // Folds the key of a node that is h steps above the leaves by X^e, to where its child's key stands.
@@ -84,11 +94,12 @@ fn child_accepted(
     leaves: &[i32],
     ws: &mut [u32],
 ) -> bool
-    requires { ⌜ (settingsRefusal settings ≡ 0) × (0 < h) × (j < 3) ⌝ }
+    requires { ⌜ Tables settings (length (now rounds)) (length (now leaves)) × (0 < h) × (j < 3) ⌝ }
     requires { ⌜ AtNode settings h k first (length (now ws)) ⌝ }
     ensures { λ r. ⌜ (r ≡ childAccepted settings (now (rounds .entry)) (now (challenges .entry)) (now (leaves .entry)) h k (drop (2 ^ h * settings .degree) (now (ws .entry))) j) × (drop (2 ^ h * settings .degree) (now (ws .exit)) ≡ drop (2 ^ h * settings .degree) (now (ws .entry))) ⌝ }
 {
-    let claim = claim_to(settings, k, j, rounds, challenges);
+    let mut claim = [0u32; 64];
+    claim_to(settings, k, j, rounds, challenges, &mut claim);
     fold_key(settings, h, challenge(challenges, k, j), ws);
     let half = ws.len() / 2;
     subtree_accepted(
@@ -96,7 +107,7 @@ fn child_accepted(
         h - 1,
         3 * k + 1 + j,
         first,
-        claim,
+        &claim,
         rounds,
         challenges,
         leaves,
@@ -110,15 +121,15 @@ fn subtree_accepted(
     h: u32,
     k: u32,
     first: u32,
-    claim: [u32; 64],
+    claim: &[u32],
     rounds: &[u32],
     challenges: &[u32],
     leaves: &[i32],
     ws: &mut [u32],
 ) -> bool
-    requires { ⌜ settingsRefusal settings ≡ 0 ⌝ }
+    requires { ⌜ Tables settings (length (now rounds)) (length (now leaves)) × (settings .degree ≤ length (now claim)) ⌝ }
     requires { ⌜ AtNode settings h k first (length (now ws)) ⌝ }
-    ensures { λ r. ⌜ r ≡ treeAccepted settings (now (rounds .entry)) (now (challenges .entry)) (now (leaves .entry)) h k (settings .depth - h) claim (drop (2 ^ h * settings .degree) (now (ws .entry))) ⌝ }
+    ensures { λ r. ⌜ r ≡ treeAccepted settings (now (rounds .entry)) (now (challenges .entry)) (now (leaves .entry)) h k (settings .depth - h) (now (claim .entry)) (drop (2 ^ h * settings .degree) (now (ws .entry))) ⌝ }
 {
     if h == 0 {
         let d = settings.degree as usize;
@@ -150,7 +161,7 @@ pub(crate) fn root_accepted(
     challenges: &[u32],
     leaves: &[i32],
 ) -> bool
-    requires { ⌜ (settingsRefusal settings ≡ 0) × (length (now key) ≡ cells settings) ⌝ }
+    requires { ⌜ Tables settings (length (now rounds)) (length (now leaves)) × (length (now key) ≡ cells settings) ⌝ }
     ensures { λ r. ⌜ r ≡ everyPath settings commitment (now (key .entry)) (now (rounds .entry)) (now (challenges .entry)) (now (leaves .entry)) ⌝ }
 {
     let n = key.len();
@@ -163,7 +174,7 @@ pub(crate) fn root_accepted(
         settings.depth,
         0,
         first,
-        commitment,
+        &commitment,
         rounds,
         challenges,
         leaves,

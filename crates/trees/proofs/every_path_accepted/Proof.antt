@@ -1,5 +1,10 @@
-use mathlib.Core.Path.{_≡_, sym, _∙_}
+use mathlib.Core.Path.{_≡_, sym, ap, _∙_}
+use Prim.Native.Nat.{_*_, _≤_}
+use native.Mathlib.Nat.{mul-le-mul}
+use native.Mathlib.Omega.{arith}
 use Rattle.protocol.specs.Settings.{settingsRefusal}
+use Rattle.protocol.proofs.Inputs.{settings-valid}
+use Rattle.sizes.proofs.Limits.{degree-most}
 use borrow.Author.Needs.{needs}
 use Rattle.trees.proofs.every_path_accepted.Statement.{statement}
 use Rattle.trees.proofs.every_path_accepted.Tie as tie
@@ -7,23 +12,60 @@ use Rattle.trees.proofs.every_path_accepted.Tie as tie
 allowed : (c : tie.Else1) → settingsRefusal (c .before .before .before .before .before .args .settings) ≡ 0
 allowed c = sym (c .before .settings-refusal .ensures) ∙ c .if1 .left
 
+small : (c : tie.Else1) → c .before .before .before .before .before .args .settings .degree ≤ 64
+small c = degree-most (c .before .before .before .before .before .args .settings) (settings-valid (c .before .before .before .before .before .args .settings) (allowed c))
+
 settings-refusal-requires : tie.Need-settings-refusal-requires
 settings-refusal-requires c κs = search needs
 
 returns : tie.Need-returns
-returns c = λ e l m n o. absurd (c .if1 .taken (c .before .settings-refusal .ensures ∙ e))
+returns c = λ e l m n. absurd (c .if1 .taken (c .before .settings-refusal .ensures ∙ e))
 
 cells-requires : tie.Need-cells-requires
 cells-requires c κs = search needs
 
 returns-2 : tie.Need-returns-2
-returns-2 c = λ e l m n o. absurd (c .if2 .taken (l ∙ sym (c .before .cells .ensures e)))
+returns-2 c = λ e l m n. absurd (c .if2 .taken (l ∙ sym (c .before .cells .ensures e)))
 
-root-accepted-requires : tie.Need-root-accepted-requires
-root-accepted-requires c κs = let e = allowed (c .before .before) in (e, c .if2 .left ∙ c .before .cells .ensures e)
+cast-d : tie.Need-cast-d
+cast-d c = search needs
+
+nodes-requires : tie.Need-nodes-requires
+nodes-requires c κs = search needs
+
+mul-if3 : tie.Need-mul-if3
+mul-if3 c = search needs
+
+mul-if3-2 : tie.Need-mul-if3-2
+mul-if3-2 c = omega (arith, mul-le-mul {n₁ = 3 * c .nodes .result} {n₂ = 9840} {m₂ = 64} (omega (arith, c .nodes .ensures .1)) (small (c .before .before .before .before)))
 
 returns-3 : tie.Need-returns-3
-returns-3 c = λ e l m n o. c .root-accepted .ensures
+returns-3 c = λ e l m n. absurd (c .if3 .taken (m ∙ ap (λ x. 3 * x * c .before .before .before .before .before .before .before .before .before .before .args .settings .degree) (sym (c .before .nodes .ensures .0 e))))
+
+leaves-requires : tie.Need-leaves-requires
+leaves-requires c κs = search needs
+
+mul-if4 : tie.Need-mul-if4
+mul-if4 c = omega (arith, mul-le-mul {n₁ = c .leaves .result} {n₂ = 6561} {m₂ = 64} (c .leaves .ensures .2) (small (c .before .before .before .before .before .before)))
+
+returns-4 : tie.Need-returns-4
+returns-4 c = λ e l m n. absurd (c .if4 .taken (n ∙ ap (λ x. x * c .before .before .before .before .before .before .before .before .before .before .before .before .args .settings .degree) (sym (c .before .leaves .ensures .0 e))))
+
+root-accepted-requires : tie.Need-root-accepted-requires
+root-accepted-requires c κs =
+    let d = c .before .before .before .before .before .before .before .before .before .before .before .before .args .settings .degree in
+    let e = allowed (c .before .before .before .before .before .before .before) in
+    let three = c .before .before in (
+      record {
+        allowed = e;
+        rounds-long = three .if3 .left ∙ ap (λ x. 3 * x * d) (three .before .nodes .ensures .0 e);
+        finals-long = c .if4 .left ∙ ap (λ x. x * d) (c .before .leaves .ensures .0 e);
+      },
+      c .before .before .before .before .before .if2 .left ∙ c .before .before .before .before .before .before .cells .ensures e,
+    )
+
+returns-5 : tie.Need-returns-5
+returns-5 c = λ e l m n. c .root-accepted .ensures
 
 pub every-path-accepted-spec : {M : Type 1} → statement M
 every-path-accepted-spec =
@@ -33,5 +75,13 @@ every-path-accepted-spec =
     returns
     cells-requires
     returns-2
+    cast-d
+    nodes-requires
+    mul-if3
+    mul-if3-2
+    returns-3
+    leaves-requires
+    mul-if4
+    returns-4
     root-accepted-requires
-    returns-3)
+    returns-5)

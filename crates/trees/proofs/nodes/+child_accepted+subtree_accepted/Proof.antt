@@ -15,6 +15,8 @@ use Rattle.sizes.proofs.Limits.{degree-most}
 use Rattle.arithmetic.specs.Folds.{foldDown}
 use Rattle.claims.proofs.Places as Places
 use Rattle.claims.proofs.Places.{AtNode}
+use Rattle.trees.specs.Nodes.{Round}
+use Rattle.trees.proofs.Checks as Checks
 use Rattle.trees.proofs.Descent as Descent
 use Rattle.trees.proofs.Stages as Stages
 use borrow.Fn.Kinds.{In}
@@ -36,7 +38,7 @@ use Rattle.trees.proofs.nodes.+child_accepted+subtree_accepted.Tie.{clo
 abbrev μ-child-accepted : Measures 4 child-accepted-kinds.ps ℕ
 μ-child-accepted κs a = a .1 .0 + a .1 .0
 
-abbrev μ-subtree-accepted : Measures 4 subtree-accepted-kinds.ps ℕ
+abbrev μ-subtree-accepted : Measures 5 subtree-accepted-kinds.ps ℕ
 μ-subtree-accepted κs a = a .1 .0 + a .1 .0 + 1
 
 abbrev child-accepted-at : ℕ → In 4 child-accepted-kinds.ps
@@ -55,20 +57,20 @@ child-accepted-below t =
     (falls 4 child-accepted-kinds.ps _<_ μ-child-accepted t)
     child-accepted.Pre
 
-abbrev subtree-accepted-at : ℕ → In 4 subtree-accepted-kinds.ps
+abbrev subtree-accepted-at : ℕ → In 5 subtree-accepted-kinds.ps
 subtree-accepted-at t =
     and
-    4
+    5
     subtree-accepted-kinds.ps
-    (is 4 subtree-accepted-kinds.ps μ-subtree-accepted t)
+    (is 5 subtree-accepted-kinds.ps μ-subtree-accepted t)
     subtree-accepted.Pre
 
-abbrev subtree-accepted-below : ℕ → In 4 subtree-accepted-kinds.ps
+abbrev subtree-accepted-below : ℕ → In 5 subtree-accepted-kinds.ps
 subtree-accepted-below t =
     and
-    4
+    5
     subtree-accepted-kinds.ps
-    (falls 4 subtree-accepted-kinds.ps _<_ μ-subtree-accepted t)
+    (falls 5 subtree-accepted-kinds.ps _<_ μ-subtree-accepted t)
     subtree-accepted.Pre
 
 -- what is known of the functions that are called
@@ -85,7 +87,7 @@ module _ (t : ℕ) (g : child-accepted-lts.Start (child-calls t) (child-accepted
   space = length (g .args .ws .now)
 
   allowed : settingsRefusal (g .args .settings) ≡ 0
-  allowed = g .pre .1 .0 .0
+  allowed = g .pre .1 .0 .0 .allowed
 
   higher : 0 < g .args .h
   higher = g .pre .1 .0 .1
@@ -93,8 +95,11 @@ module _ (t : ℕ) (g : child-accepted-lts.Start (child-calls t) (child-accepted
   place : AtNode (g .args .settings) (g .args .h) (g .args .k) (g .args .first) space
   place = g .pre .1 .1
 
+  round : Round (g .args .settings) (g .args .k) (length (g .args .rounds .now))
+  round = Checks.round-inside (g .args .settings) (g .args .h) (g .args .k) (g .args .first) space _ _ place (g .pre .1 .0 .0) higher
+
   few : g .args .k ≤ 3280
-  few = Places.node-most (g .args .settings) (g .args .h) (g .args .k) (g .args .first) space place higher (settings-valid (g .args .settings) allowed .depth-most)
+  few = round .number
 
   half-is : (U : List ℕ) → length U ≡ space → length U / 2 ≡ 2 ^ g .args .h * g .args .settings .degree
   half-is U e = ap (λ n. n / 2) e ∙ Places.half-is (g .args .settings) (g .args .h) (g .args .k) (g .args .first) space place
@@ -110,62 +115,75 @@ module _ (t : ℕ) (g : child-accepted-lts.Start (child-calls t) (child-accepted
 abbrev after : (t : ℕ) → child-accepted-lts.After-slice-known2 (child-calls t) (child-accepted-at t) child-accepted.Post → List ℕ
 after t c = c .before .before .fold-key .last .1 .1 .1 .0
 
-folded-is : (t : ℕ) (c : child-accepted-lts.After-slice-known2 (child-calls t) (child-accepted-at t) child-accepted.Post) → let a = c .before .before .before .before .before .before .before .before .before .args in
+folded-is : (t : ℕ) (c : child-accepted-lts.After-slice-known2 (child-calls t) (child-accepted-at t) child-accepted.Post) → let a = c .before .before .before .before .before .before .before .before .before .before .before .args in
     after t c
     ≡ foldDown (a .settings .modulus) (a .settings .degree) (2 ^ (a .h - 1)) (challenge (a .challenges .now) (a .k) (a .j)) (2 ^ a .h * a .settings .degree) (2 ^ (a .h - 1) * a .settings .degree) (a .ws .now)
 folded-is t c =
-    let a = c .before .before .before .before .before .before .before .before .before .args in
+    let a = c .before .before .before .before .before .before .before .before .before .before .before .args in
     c .before .before .fold-key .ensures
     ∙ ap (λ e. foldDown (a .settings .modulus) (a .settings .degree) (2 ^ (a .h - 1)) e (2 ^ a .h * a .settings .degree) (2 ^ (a .h - 1) * a .settings .degree) (a .ws .now)) (c .before .before .before .before .challenge .ensures)
 
-folded-long : (t : ℕ) (c : child-accepted-lts.After-slice-known2 (child-calls t) (child-accepted-at t) child-accepted.Post) → length (after t c) ≡ length (c .before .before .before .before .before .before .before .before .before .args .ws .now)
+folded-long : (t : ℕ) (c : child-accepted-lts.After-slice-known2 (child-calls t) (child-accepted-at t) child-accepted.Post) → length (after t c) ≡ length (c .before .before .before .before .before .before .before .before .before .before .before .args .ws .now)
 folded-long t c = c .before .before .fold-key .kept .1 .1 .1 .0
 
+claim-room : (t : ℕ) (c : child-accepted-lts.After-slice-known2 (child-calls t) (child-accepted-at t) child-accepted.Post) → c .before .before .before .before .before .before .before .before .before .before .before .args .settings .degree ≤ length (c .before .before .before .before .before .before .claim-to .last .1 .1 .1 .1 .1 .0)
+claim-room t c = let g = c .before .before .before .before .before .before .before .before .before .before .before in omega (arith, c .before .before .before .before .before .before .claim-to .kept .1 .1 .1 .1 .1 .0, degree-most (g .args .settings) (settings-valid (g .args .settings) (allowed t g)))
+
+child-accepted-slice-aggregate-claim-to : (t : ℕ) → child-accepted-lts.Need-slice-aggregate-claim-to (child-calls t) (child-accepted-at t) child-accepted.Post
+child-accepted-slice-aggregate-claim-to t c = search needs
+
 child-accepted-claim-to-requires : (t : ℕ) → child-accepted-lts.Need-claim-to-requires (child-calls t) (child-accepted-at t) child-accepted.Post
-child-accepted-claim-to-requires t c κs = let g = c .before .before .before in (allowed t g, few t g, omega (arith, g .pre .1 .0 .2))
+child-accepted-claim-to-requires t c κs = let g = c .before .before .before .before in (round t g, omega (arith, g .pre .1 .0 .2), omega (arith, degree-most (g .args .settings) (settings-valid (g .args .settings) (allowed t g))))
 
 child-accepted-challenge-requires : (t : ℕ) → child-accepted-lts.Need-challenge-requires (child-calls t) (child-accepted-at t) child-accepted.Post
-child-accepted-challenge-requires t c κs = let g = c .before .before .before .before in (few t g, omega (arith, g .pre .1 .0 .2))
+child-accepted-challenge-requires t c κs = let g = c .before .before .before .before .before .before in (few t g, omega (arith, g .pre .1 .0 .2))
 
 child-accepted-fold-key-requires : (t : ℕ) → child-accepted-lts.Need-fold-key-requires (child-calls t) (child-accepted-at t) child-accepted.Post
-child-accepted-fold-key-requires t c κs = let g = c .before .before .before .before .before .before in record { allowed = allowed t g; up = higher t g; height = place t g .height; space-is = place t g .space-is }
+child-accepted-fold-key-requires t c κs = let g = c .before .before .before .before .before .before .before .before in record { allowed = allowed t g; up = higher t g; height = place t g .height; space-is = place t g .space-is }
 
 child-accepted-sub-subtree-accepted : (t : ℕ) → child-accepted-lts.Need-sub-subtree-accepted (child-calls t) (child-accepted-at t) child-accepted.Post
-child-accepted-sub-subtree-accepted t c = higher t (c .before .before .before .before .before .before .before .before .before)
+child-accepted-sub-subtree-accepted t c = higher t (c .before .before .before .before .before .before .before .before .before .before .before)
 
 child-accepted-mul-subtree-accepted : (t : ℕ) → child-accepted-lts.Need-mul-subtree-accepted (child-calls t) (child-accepted-at t) child-accepted.Post
-child-accepted-mul-subtree-accepted t c = record { fits = omega (arith, few t (c .before .before .before .before .before .before .before .before .before)) }
+child-accepted-mul-subtree-accepted t c = record { fits = omega (arith, few t (c .before .before .before .before .before .before .before .before .before .before .before)) }
 
 child-accepted-add-subtree-accepted : (t : ℕ) → child-accepted-lts.Need-add-subtree-accepted (child-calls t) (child-accepted-at t) child-accepted.Post
-child-accepted-add-subtree-accepted t c = record { fits = omega (arith, few t (c .before .before .before .before .before .before .before .before .before)) }
+child-accepted-add-subtree-accepted t c = record { fits = omega (arith, few t (c .before .before .before .before .before .before .before .before .before .before .before)) }
 
 child-accepted-add-subtree-accepted-2 : (t : ℕ) → child-accepted-lts.Need-add-subtree-accepted-2 (child-calls t) (child-accepted-at t) child-accepted.Post
-child-accepted-add-subtree-accepted-2 t c = record { fits = omega (arith, few t (c .before .before .before .before .before .before .before .before .before), c .before .before .before .before .before .before .before .before .before .pre .1 .0 .2) }
+child-accepted-add-subtree-accepted-2 t c = record { fits = omega (arith, few t (c .before .before .before .before .before .before .before .before .before .before .before), c .before .before .before .before .before .before .before .before .before .before .before .pre .1 .0 .2) }
+
+child-accepted-slice-aggregate-subtree-accepted :
+    (t : ℕ) → child-accepted-lts.Need-slice-aggregate-subtree-accepted (child-calls t) (child-accepted-at t) child-accepted.Post
+child-accepted-slice-aggregate-subtree-accepted t c = search needs
 
 child-accepted-slice-relend-prefix-subtree-accepted :
     (t : ℕ) → child-accepted-lts.Need-slice-relend-prefix-subtree-accepted (child-calls t) (child-accepted-at t) child-accepted.Post
 child-accepted-slice-relend-prefix-subtree-accepted t c = search needs
 
-child-accepted-slice-aggregate-subtree-accepted :
-    (t : ℕ) → child-accepted-lts.Need-slice-aggregate-subtree-accepted (child-calls t) (child-accepted-at t) child-accepted.Post
-child-accepted-slice-aggregate-subtree-accepted t c = sym (lent t (c .before .before .before .before .before .before .before .before .before .before) (after t (c .before)))
+child-accepted-slice-aggregate-subtree-accepted-2 :
+    (t : ℕ) → child-accepted-lts.Need-slice-aggregate-subtree-accepted-2 (child-calls t) (child-accepted-at t) child-accepted.Post
+child-accepted-slice-aggregate-subtree-accepted-2 t c = sym (lent t (c .before .before .before .before .before .before .before .before .before .before .before .before .before) (after t (c .before .before)))
 
 child-accepted-subtree-accepted-requires :
     (t : ℕ) → child-accepted-lts.Need-subtree-accepted-requires (child-calls t) (child-accepted-at t) child-accepted.Post
-child-accepted-subtree-accepted-requires t c κs = let g = c .before .before .before .before .before .before .before .before .before .before in (omega (arith, higher t g), (allowed t g, below t g (after t (c .before)) (folded-long t (c .before))))
+child-accepted-subtree-accepted-requires t c κs =
+    let g = c .before .before .before .before .before .before .before .before .before .before .before .before .before in
+    let b = c .before .before in
+    (omega (arith, higher t g), ((g .pre .1 .0 .0, claim-room t b), below t g (after t b) (folded-long t b)))
 
 child-accepted-same-length : (t : ℕ) → child-accepted-lts.Need-same-length (child-calls t) (child-accepted-at t) child-accepted.Post
-child-accepted-same-length t c = let U = after t (c .before .before .before .before) in length-front U (c .before .before .subtree-accepted .last .1 .1 .1 .1 .1 .1 .1 .1 .0) (length U / 2) (c .before .before .subtree-accepted .kept .1 .1 .1 .1 .1 .1 .1 .1 .0) ∙ folded-long t (c .before .before .before .before)
+child-accepted-same-length t c = let U = after t (c .before .before .before .before .before) in length-front U (c .before .before .subtree-accepted .last .1 .1 .1 .1 .1 .1 .1 .1 .0) (length U / 2) (c .before .before .subtree-accepted .kept .1 .1 .1 .1 .1 .1 .1 .1 .0) ∙ folded-long t (c .before .before .before .before .before)
 
 child-accepted-returns : (t : ℕ) → child-accepted-lts.Need-returns (child-calls t) (child-accepted-at t) child-accepted.Post
 child-accepted-returns t c =
-    let g = c .before .before .before .before .before .before .before .before .before .before .before .before .before in
+    let g = c .before .before .before .before .before .before .before .before .before .before .before .before .before .before .before .before in
     let a = g .args in
-    let b = c .before .before .before .before in
+    let b = c .before .before .before .before .before in
     let U = after t b in
     let half = half-is t g U (folded-long t b) in
     let f = c .before .before .subtree-accepted in (
-      f .ensures ∙ Descent.child-tests (a .settings) (a .rounds .now) (a .challenges .now) (a .leaves .now) (a .h) (a .k) (a .first) (space t g) (place t g) (higher t g) (a .j) (length U / 2) (a .ws .now) U (λ _. space t g) half (folded-is t b) _ (b .before .before .before .before .before .claim-to .ensures),
+      f .ensures ∙ Descent.child-tests (a .settings) (a .rounds .now) (a .challenges .now) (a .leaves .now) (a .h) (a .k) (a .first) (space t g) (place t g) (higher t g) (a .j) (length U / 2) (a .ws .now) U (λ _. space t g) half (folded-is t b) _ (b .before .before .before .before .before .before .claim-to .ensures),
       Descent.key-kept (a .settings) (a .rounds .now) (a .challenges .now) (a .leaves .now) (a .h) (a .k) (a .first) (space t g) (place t g) (higher t g) (a .j) (length U / 2) (a .ws .now) U (λ _. space t g) half (folded-is t b) (f .last .1 .1 .1 .1 .1 .1 .1 .1 .0) (f .kept .1 .1 .1 .1 .1 .1 .1 .1 .0) (omega arith),
     )
 
@@ -173,57 +191,67 @@ child-accepted-returns t c =
 
 module _ (t : ℕ) (g : subtree-accepted-lts.Start (subtree-calls t) (subtree-accepted-at t) subtree-accepted.Post) where
   granted : settingsRefusal (g .args .settings) ≡ 0
-  granted = g .pre .1 .0
+  granted = g .pre .1 .0 .0 .allowed
 
   position : AtNode (g .args .settings) (g .args .h) (g .args .k) (g .args .first) (length (g .args .ws .now))
   position = g .pre .1 .1
 
+  abbrev rounds-many : ℕ
+  rounds-many = length (g .args .rounds .now)
+
+  abbrev finals-many : ℕ
+  finals-many = length (g .args .leaves .now)
+
+  -- a leaf's key, and as much room again
+  leaf-twice : g .args .h ≡ 0 → g .args .settings .degree + g .args .settings .degree ≤ length (g .args .ws .now)
+  leaf-twice low = omega (arith, position .space-is, Places.leaf-cells (g .args .settings) (g .args .h) (g .args .k) (g .args .first) (length (g .args .ws .now)) position low)
+
   leaf-room : g .args .h ≡ 0 → g .args .settings .degree ≤ length (g .args .ws .now)
-  leaf-room low = omega (arith, position .space-is, Places.leaf-cells (g .args .settings) (g .args .h) (g .args .k) (g .args .first) (length (g .args .ws .now)) position low)
+  leaf-room low = omega (arith, leaf-twice low)
 
   abbrev Stage : ℕ → List ℕ → Type 0
-  Stage = Stages.Stage (g .args .settings) (g .args .rounds .now) (g .args .challenges .now) (g .args .leaves .now) (g .args .h) (g .args .k) (g .args .first) (g .args .claim) (g .args .ws .now)
+  Stage = Stages.Stage (g .args .settings) (g .args .rounds .now) (g .args .challenges .now) (g .args .leaves .now) (g .args .h) (g .args .k) (g .args .first) (g .args .claim .now) (g .args .ws .now)
 
   stays : (j : ℕ) {W : List ℕ} → Stage j W → AtNode (g .args .settings) (g .args .h) (g .args .k) (g .args .first) (length W)
   stays j st = subst (AtNode (g .args .settings) (g .args .h) (g .args .k) (g .args .first)) (sym (st .long)) position
 
 module _ (t : ℕ) where
-  upper : (c : subtree-accepted-lts.Else1 (subtree-calls t) (subtree-accepted-at t) subtree-accepted.Post) → 0 < c .before .before .before .before .args .h
+  upper : (c : subtree-accepted-lts.Else1 (subtree-calls t) (subtree-accepted-at t) subtree-accepted.Post) → 0 < c .before .before .before .before .before .args .h
   upper c = omega arith
 
-  stage-0 : (c : subtree-accepted-lts.Else2 (subtree-calls t) (subtree-accepted-at t) subtree-accepted.Post) → Stage t (c .before .before .before .before .before .before) 0 (c .before .before .before .before .before .before .args .ws .now)
+  stage-0 : (c : subtree-accepted-lts.Else2 (subtree-calls t) (subtree-accepted-at t) subtree-accepted.Post) → Stage t (c .before .before .before .before .before .before .before) 0 (c .before .before .before .before .before .before .before .args .ws .now)
   stage-0 c =
-      let g = c .before .before .before .before .before .before in
+      let g = c .before .before .before .before .before .before .before in
       let a = g .args in
-      Stages.stage-first (a .settings) (a .rounds .now) (a .challenges .now) (a .leaves .now) (a .h) (a .k) (a .first) (a .claim) (a .ws .now) (position t g) (upper (c .before .before)) (sym (c .before .node-holds .ensures) ∙ not-false _ (c .if2 .left))
+      Stages.stage-first (a .settings) (a .rounds .now) (a .challenges .now) (a .leaves .now) (a .h) (a .k) (a .first) (a .claim .now) (a .ws .now) (position t g) (upper (c .before .before)) (sym (c .before .node-holds .ensures) ∙ not-false _ (c .if2 .left))
 
-  stage-1 : (c : subtree-accepted-lts.Else3 (subtree-calls t) (subtree-accepted-at t) subtree-accepted.Post) → Stage t (c .before .before .before .before .before .before .before .before .before .before .before) 1 (c .before .before .before .child-accepted .last .1 .1 .1 .1 .1 .1 .1 .1 .0)
+  stage-1 : (c : subtree-accepted-lts.Else3 (subtree-calls t) (subtree-accepted-at t) subtree-accepted.Post) → Stage t (c .before .before .before .before .before .before .before .before .before .before .before .before) 1 (c .before .before .before .child-accepted .last .1 .1 .1 .1 .1 .1 .1 .1 .0)
   stage-1 c =
-      let a = c .before .before .before .before .before .before .before .before .before .before .before .args in
+      let a = c .before .before .before .before .before .before .before .before .before .before .before .before .args in
       let f = c .before .before .before .child-accepted in
-      Stages.stage-next (a .settings) (a .rounds .now) (a .challenges .now) (a .leaves .now) (a .h) (a .k) (a .first) (a .claim) (a .ws .now) 0 (stage-0 (c .before .before .before .before .before)) (f .ensures .0) (omega arith) (not-false _ (c .if3 .left)) _ (f .ensures .1) (f .kept .1 .1 .1 .1 .1 .1 .1 .1 .0)
+      Stages.stage-next (a .settings) (a .rounds .now) (a .challenges .now) (a .leaves .now) (a .h) (a .k) (a .first) (a .claim .now) (a .ws .now) 0 (stage-0 (c .before .before .before .before .before)) (f .ensures .0) (omega arith) (not-false _ (c .if3 .left)) _ (f .ensures .1) (f .kept .1 .1 .1 .1 .1 .1 .1 .1 .0)
 
-  stage-2 : (c : subtree-accepted-lts.Else4 (subtree-calls t) (subtree-accepted-at t) subtree-accepted.Post) → Stage t (c .before .before .before .before .before .before .before .before .before .before .before .before .before .before .before .before) 2 (c .before .before .before .child-accepted2 .last .1 .1 .1 .1 .1 .1 .1 .1 .0)
+  stage-2 : (c : subtree-accepted-lts.Else4 (subtree-calls t) (subtree-accepted-at t) subtree-accepted.Post) → Stage t (c .before .before .before .before .before .before .before .before .before .before .before .before .before .before .before .before .before) 2 (c .before .before .before .child-accepted2 .last .1 .1 .1 .1 .1 .1 .1 .1 .0)
   stage-2 c =
-      let a = c .before .before .before .before .before .before .before .before .before .before .before .before .before .before .before .before .args in
+      let a = c .before .before .before .before .before .before .before .before .before .before .before .before .before .before .before .before .before .args in
       let f = c .before .before .before .child-accepted2 in
-      Stages.stage-next (a .settings) (a .rounds .now) (a .challenges .now) (a .leaves .now) (a .h) (a .k) (a .first) (a .claim) (a .ws .now) 1 (stage-1 (c .before .before .before .before .before)) (f .ensures .0) (omega arith) (not-false _ (c .if4 .left)) _ (f .ensures .1) (f .kept .1 .1 .1 .1 .1 .1 .1 .1 .0)
+      Stages.stage-next (a .settings) (a .rounds .now) (a .challenges .now) (a .leaves .now) (a .h) (a .k) (a .first) (a .claim .now) (a .ws .now) 1 (stage-1 (c .before .before .before .before .before)) (f .ensures .0) (omega arith) (not-false _ (c .if4 .left)) _ (f .ensures .1) (f .kept .1 .1 .1 .1 .1 .1 .1 .1 .0)
 
 subtree-accepted-cast-d : (t : ℕ) → subtree-accepted-lts.Need-cast-d (subtree-calls t) (subtree-accepted-at t) subtree-accepted.Post
 subtree-accepted-cast-d t c = search needs
 
 subtree-accepted-sub-leaf-accepted : (t : ℕ) → subtree-accepted-lts.Need-sub-leaf-accepted (subtree-calls t) (subtree-accepted-at t) subtree-accepted.Post
-subtree-accepted-sub-leaf-accepted t c = let g = c .before .before .before .before .before in Places.leaf-number (g .args .settings) (g .args .h) (g .args .k) (g .args .first) _ (position t g) (omega arith)
+subtree-accepted-sub-leaf-accepted t c = let g = c .before .before .before .before .before .before in Places.leaf-number (g .args .settings) (g .args .h) (g .args .k) (g .args .first) _ (position t g) (omega arith)
 
 subtree-accepted-mul-leaf-accepted : (t : ℕ) → subtree-accepted-lts.Need-mul-leaf-accepted (subtree-calls t) (subtree-accepted-at t) subtree-accepted.Post
-subtree-accepted-mul-leaf-accepted t c = let S = c .before .before .before .before .before .args .settings in record { fits = omega (arith, degree-most S (settings-valid S (granted t (c .before .before .before .before .before)))) }
+subtree-accepted-mul-leaf-accepted t c = let S = c .before .before .before .before .before .before .args .settings in record { fits = omega (arith, degree-most S (settings-valid S (granted t (c .before .before .before .before .before .before)))) }
 
 subtree-accepted-sub-leaf-accepted-2 : (t : ℕ) → subtree-accepted-lts.Need-sub-leaf-accepted-2 (subtree-calls t) (subtree-accepted-at t) subtree-accepted.Post
-subtree-accepted-sub-leaf-accepted-2 t c = leaf-room t (c .before .before .before .before .before) (omega arith)
+subtree-accepted-sub-leaf-accepted-2 t c = leaf-room t (c .before .before .before .before .before .before) (omega arith)
 
 subtree-accepted-part-leaf-accepted-start :
     (t : ℕ) → subtree-accepted-lts.Need-part-leaf-accepted-start (subtree-calls t) (subtree-accepted-at t) subtree-accepted.Post
-subtree-accepted-part-leaf-accepted-start t c = leaf-room t (c .before .before .before .before .before .before) (omega arith)
+subtree-accepted-part-leaf-accepted-start t c = leaf-room t (c .before .before .before .before .before .before .before) (omega arith)
 
 subtree-accepted-part-leaf-accepted-end :
     (t : ℕ) → subtree-accepted-lts.Need-part-leaf-accepted-end (subtree-calls t) (subtree-accepted-at t) subtree-accepted.Post
@@ -231,67 +259,71 @@ subtree-accepted-part-leaf-accepted-end t c = search needs
 
 subtree-accepted-leaf-accepted-requires :
     (t : ℕ) → subtree-accepted-lts.Need-leaf-accepted-requires (subtree-calls t) (subtree-accepted-at t) subtree-accepted.Post
-subtree-accepted-leaf-accepted-requires t c κs = granted t (c .before .before .before .before .before .before .before)
+subtree-accepted-leaf-accepted-requires t c κs =
+    let g = c .before .before .before .before .before .before .before .before in
+    let a = g .args in
+    (granted t g, Checks.leaf-inside (a .settings) (a .h) (a .k) (a .first) _ (rounds-many t g) (finals-many t g) (position t g) (g .pre .1 .0 .0) (omega arith), g .pre .1 .0 .1, Checks.part-long (a .settings .degree) (a .settings .degree) (a .ws .now) (leaf-twice t g (omega arith)))
 
 subtree-accepted-same-length : (t : ℕ) → subtree-accepted-lts.Need-same-length (subtree-calls t) (subtree-accepted-at t) subtree-accepted.Post
 subtree-accepted-same-length t c = search needs
 
 subtree-accepted-returns : (t : ℕ) → subtree-accepted-lts.Need-returns (subtree-calls t) (subtree-accepted-at t) subtree-accepted.Post
 subtree-accepted-returns t c =
-    let g = c .before .before .before .before .before .before .before .before in
+    let g = c .before .before .before .before .before .before .before .before .before in
     let a = g .args in
-    c .leaf-accepted .ensures ∙ Descent.leaf-tests (a .settings) (a .rounds .now) (a .challenges .now) (a .leaves .now) (a .h) (a .k) (a .first) _ (position t g) (omega arith) (a .claim) (a .ws .now)
+    c .leaf-accepted .ensures ∙ Descent.leaf-tests (a .settings) (a .rounds .now) (a .challenges .now) (a .leaves .now) (a .h) (a .k) (a .first) _ (position t g) (omega arith) (a .claim .now) (a .ws .now)
 
 subtree-accepted-node-holds-requires : (t : ℕ) → subtree-accepted-lts.Need-node-holds-requires (subtree-calls t) (subtree-accepted-at t) subtree-accepted.Post
-subtree-accepted-node-holds-requires t c κs = let g = c .before .before .before .before in (granted t g, Places.node-most (g .args .settings) (g .args .h) (g .args .k) (g .args .first) _ (position t g) (upper t c) (settings-valid (g .args .settings) (granted t g) .depth-most))
+subtree-accepted-node-holds-requires t c κs = let g = c .before .before .before .before .before in let a = g .args in (Checks.round-inside (a .settings) (a .h) (a .k) (a .first) _ (rounds-many t g) (finals-many t g) (position t g) (g .pre .1 .0 .0) (upper t c), g .pre .1 .0 .1)
 
 subtree-accepted-returns-2 : (t : ℕ) → subtree-accepted-lts.Need-returns-2 (subtree-calls t) (subtree-accepted-at t) subtree-accepted.Post
 subtree-accepted-returns-2 t c =
-    let g = c .before .before .before .before .before .before in
+    let g = c .before .before .before .before .before .before .before in
     let a = g .args in
-    Stages.node-stops (a .settings) (a .rounds .now) (a .challenges .now) (a .leaves .now) (a .h) (a .k) (a .first) (a .claim) (a .ws .now) (position t g) (upper t (c .before .before)) (sym (c .before .node-holds .ensures) ∙ not-true _ (c .if2 .taken))
+    Stages.node-stops (a .settings) (a .rounds .now) (a .challenges .now) (a .leaves .now) (a .h) (a .k) (a .first) (a .claim .now) (a .ws .now) (position t g) (upper t (c .before .before)) (sym (c .before .node-holds .ensures) ∙ not-true _ (c .if2 .taken))
 
 subtree-accepted-child-accepted-requires :
     (t : ℕ) → subtree-accepted-lts.Need-child-accepted-requires (subtree-calls t) (subtree-accepted-at t) subtree-accepted.Post
-subtree-accepted-child-accepted-requires t c κs = let g = c .before .before .before .before .before .before .before in (omega arith, ((granted t g, upper t (c .before .before .before), omega arith), stays t g 0 (stage-0 t (c .before))))
+subtree-accepted-child-accepted-requires t c κs = let g = c .before .before .before .before .before .before .before .before in (omega arith, ((g .pre .1 .0 .0, upper t (c .before .before .before), omega arith), stays t g 0 (stage-0 t (c .before))))
 
 subtree-accepted-same-length-2 : (t : ℕ) → subtree-accepted-lts.Need-same-length-2 (subtree-calls t) (subtree-accepted-at t) subtree-accepted.Post
 subtree-accepted-same-length-2 t c = search needs
 
 subtree-accepted-returns-3 : (t : ℕ) → subtree-accepted-lts.Need-returns-3 (subtree-calls t) (subtree-accepted-at t) subtree-accepted.Post
 subtree-accepted-returns-3 t c =
-    let a = c .before .before .before .before .before .before .before .before .before .before .before .args in
-    Stages.stage-stops (a .settings) (a .rounds .now) (a .challenges .now) (a .leaves .now) (a .h) (a .k) (a .first) (a .claim) (a .ws .now) 0 (stage-0 t (c .before .before .before .before .before)) (c .before .before .before .child-accepted .ensures .0) (omega arith) (not-true _ (c .if3 .taken))
+    let a = c .before .before .before .before .before .before .before .before .before .before .before .before .args in
+    Stages.stage-stops (a .settings) (a .rounds .now) (a .challenges .now) (a .leaves .now) (a .h) (a .k) (a .first) (a .claim .now) (a .ws .now) 0 (stage-0 t (c .before .before .before .before .before)) (c .before .before .before .child-accepted .ensures .0) (omega arith) (not-true _ (c .if3 .taken))
 
 subtree-accepted-child-accepted-requires-2 :
     (t : ℕ) → subtree-accepted-lts.Need-child-accepted-requires-2 (subtree-calls t) (subtree-accepted-at t) subtree-accepted.Post
-subtree-accepted-child-accepted-requires-2 t c κs = let g = c .before .before .before .before .before .before .before .before .before .before .before .before in (omega arith, ((granted t g, upper t (c .before .before .before .before .before .before .before .before), omega arith), stays t g 1 (stage-1 t (c .before))))
+subtree-accepted-child-accepted-requires-2 t c κs = let g = c .before .before .before .before .before .before .before .before .before .before .before .before .before in (omega arith, ((g .pre .1 .0 .0, upper t (c .before .before .before .before .before .before .before .before), omega arith), stays t g 1 (stage-1 t (c .before))))
 
 subtree-accepted-same-length-3 : (t : ℕ) → subtree-accepted-lts.Need-same-length-3 (subtree-calls t) (subtree-accepted-at t) subtree-accepted.Post
 subtree-accepted-same-length-3 t c = c .before .before .before .child-accepted2 .kept .1 .1 .1 .1 .1 .1 .1 .1 .0 ∙ stage-1 t (c .before .before .before .before .before) .long
 
 subtree-accepted-returns-4 : (t : ℕ) → subtree-accepted-lts.Need-returns-4 (subtree-calls t) (subtree-accepted-at t) subtree-accepted.Post
 subtree-accepted-returns-4 t c =
-    let a = c .before .before .before .before .before .before .before .before .before .before .before .before .before .before .before .before .args in
-    Stages.stage-stops (a .settings) (a .rounds .now) (a .challenges .now) (a .leaves .now) (a .h) (a .k) (a .first) (a .claim) (a .ws .now) 1 (stage-1 t (c .before .before .before .before .before)) (c .before .before .before .child-accepted2 .ensures .0) (omega arith) (not-true _ (c .if4 .taken))
+    let a = c .before .before .before .before .before .before .before .before .before .before .before .before .before .before .before .before .before .args in
+    Stages.stage-stops (a .settings) (a .rounds .now) (a .challenges .now) (a .leaves .now) (a .h) (a .k) (a .first) (a .claim .now) (a .ws .now) 1 (stage-1 t (c .before .before .before .before .before)) (c .before .before .before .child-accepted2 .ensures .0) (omega arith) (not-true _ (c .if4 .taken))
 
 subtree-accepted-child-accepted-requires-3 :
     (t : ℕ) → subtree-accepted-lts.Need-child-accepted-requires-3 (subtree-calls t) (subtree-accepted-at t) subtree-accepted.Post
-subtree-accepted-child-accepted-requires-3 t c κs = let g = c .before .before .before .before .before .before .before .before .before .before .before .before .before .before .before .before .before in (omega arith, ((granted t g, upper t (c .before .before .before .before .before .before .before .before .before .before .before .before .before), omega arith), stays t g 2 (stage-2 t (c .before))))
+subtree-accepted-child-accepted-requires-3 t c κs = let g = c .before .before .before .before .before .before .before .before .before .before .before .before .before .before .before .before .before .before in (omega arith, ((g .pre .1 .0 .0, upper t (c .before .before .before .before .before .before .before .before .before .before .before .before .before), omega arith), stays t g 2 (stage-2 t (c .before))))
 
 subtree-accepted-same-length-4 : (t : ℕ) → subtree-accepted-lts.Need-same-length-4 (subtree-calls t) (subtree-accepted-at t) subtree-accepted.Post
 subtree-accepted-same-length-4 t c = c .before .before .child-accepted3 .kept .1 .1 .1 .1 .1 .1 .1 .1 .0 ∙ stage-2 t (c .before .before .before .before) .long
 
 subtree-accepted-returns-5 : (t : ℕ) → subtree-accepted-lts.Need-returns-5 (subtree-calls t) (subtree-accepted-at t) subtree-accepted.Post
 subtree-accepted-returns-5 t c =
-    let a = c .before .before .before .before .before .before .before .before .before .before .before .before .before .before .before .before .before .before .before .before .args in
-    Stages.stage-last (a .settings) (a .rounds .now) (a .challenges .now) (a .leaves .now) (a .h) (a .k) (a .first) (a .claim) (a .ws .now) (stage-2 t (c .before .before .before .before)) (c .before .before .child-accepted3 .ensures .0)
+    let a = c .before .before .before .before .before .before .before .before .before .before .before .before .before .before .before .before .before .before .before .before .before .args in
+    Stages.stage-last (a .settings) (a .rounds .now) (a .challenges .now) (a .leaves .now) (a .h) (a .k) (a .first) (a .claim .now) (a .ws .now) (stage-2 t (c .before .before .before .before)) (c .before .before .child-accepted3 .ensures .0)
 
 pub +child-accepted+subtree-accepted-spec : {M : Type 1} → statement M
 +child-accepted+subtree-accepted-spec =
     close μ-child-accepted μ-subtree-accepted (λ t. child-accepted-lts.spec (child-calls t)
     (child-accepted-at t)
     child-accepted.Post
+    (child-accepted-slice-aggregate-claim-to t)
     (child-accepted-claim-to-requires t)
     (child-accepted-challenge-requires t)
     (child-accepted-fold-key-requires t)
@@ -299,8 +331,9 @@ pub +child-accepted+subtree-accepted-spec : {M : Type 1} → statement M
     (child-accepted-mul-subtree-accepted t)
     (child-accepted-add-subtree-accepted t)
     (child-accepted-add-subtree-accepted-2 t)
-    (child-accepted-slice-relend-prefix-subtree-accepted t)
     (child-accepted-slice-aggregate-subtree-accepted t)
+    (child-accepted-slice-relend-prefix-subtree-accepted t)
+    (child-accepted-slice-aggregate-subtree-accepted-2 t)
     (child-accepted-subtree-accepted-requires t)
     (child-accepted-same-length t)
     (child-accepted-returns t))

@@ -1,11 +1,9 @@
-use mathlib.Core.Path.{ap, _∙_}
-use Rattle.protocol.specs.Element.{residue, padded}
-use Rattle.protocol.specs.Transcript.{nextClaim}
-use Rattle.protocol.specs.Tree.{challenge}
+use mathlib.Core.Path.{refl}
+use Prim.Native.Nat.{_+_, _*_}
+use native.Mathlib.Omega.{arith}
 use Rattle.protocol.proofs.Inputs.{settings-valid}
-use Rattle.sizes.proofs.Limits.{degree-most}
-use Rattle.claims.specs.TreeCheck.{claimTo}
-use Rattle.trees.proofs.Checks.{claim-is}
+use Rattle.sizes.proofs.Limits.{degree-least, degree-most}
+use Rattle.trees.proofs.Checks.{part-long, claim-alike}
 use borrow.Author.Needs.{needs}
 use Rattle.trees.proofs.nodes.claim_to.Statement.{statement}
 use Rattle.trees.proofs.nodes.claim_to.Tie as tie
@@ -13,57 +11,102 @@ use Rattle.trees.proofs.nodes.claim_to.Tie as tie
 challenge-requires : tie.Need-challenge-requires
 challenge-requires c κs = search needs
 
-mul-element-at : tie.Need-mul-element-at
-mul-element-at c = search needs
+cast-d : tie.Need-cast-d
+cast-d c = search needs
 
-element-at-requires : tie.Need-element-at-requires
-element-at-requires c κs = search needs
+mul-at : tie.Need-mul-at
+mul-at c = search needs
 
-mul-element-at-2 : tie.Need-mul-element-at-2
-mul-element-at-2 c = search needs
+mul-at-2 : tie.Need-mul-at-2
+mul-at-2 c = search needs
 
-add-element-at : tie.Need-add-element-at
-add-element-at c = search needs
+add-second : tie.Need-add-second
+add-second c = search needs
 
-element-at-requires-2 : tie.Need-element-at-requires-2
-element-at-requires-2 c κs = search needs
+mul-third : tie.Need-mul-third
+mul-third c = search needs
 
-mul-element-at-3 : tie.Need-mul-element-at-3
-mul-element-at-3 c = search needs
+add-third : tie.Need-add-third
+add-third c = search needs
 
-add-element-at-2 : tie.Need-add-element-at-2
-add-element-at-2 c = search needs
+mul-value : tie.Need-mul-value
+mul-value c = search needs
 
-element-at-requires-3 : tie.Need-element-at-requires-3
-element-at-requires-3 c κs = search needs
+sub-value : tie.Need-sub-value
+sub-value c = search needs
 
-next-claim-requires : tie.Need-next-claim-requires
-next-claim-requires c κs = search needs
+part-value-start : tie.Need-part-value-start
+part-value-start c = search needs
+
+part-value-end : tie.Need-part-value-end
+part-value-end c = search needs
+
+mul-value-2 : tie.Need-mul-value-2
+mul-value-2 c = search needs
+
+sub-value-2 : tie.Need-sub-value-2
+sub-value-2 c = search needs
+
+part-value-start-2 : tie.Need-part-value-start-2
+part-value-start-2 c = search needs
+
+part-value-end-2 : tie.Need-part-value-end-2
+part-value-end-2 c = search needs
+
+mul-value-3 : tie.Need-mul-value-3
+mul-value-3 c = search needs
+
+sub-value-3 : tie.Need-sub-value-3
+sub-value-3 c = search needs
+
+part-value-start-3 : tie.Need-part-value-start-3
+part-value-start-3 c = search needs
+
+part-value-end-3 : tie.Need-part-value-end-3
+part-value-end-3 c = search needs
+
+value-requires : tie.Need-value-requires
+value-requires c κs = search needs
+
+same-length : tie.Need-same-length
+same-length c = search needs
 
 returns : tie.Need-returns
-unfolding claimTo
 returns c =
-    let s = c .before .before .before .before .before .before .before in
+    let s = c .before .before .before .before .before .before .before .before .before .before .before .before in
     let a = s .args in
     let S = a .settings in
-    let small = degree-most S (settings-valid S (s .pre .0)) in
-    c .next-claim .ensures (s .pre .0)
-    ∙ (λ i. padded (S .degree) (nextClaim S (c .before .before .before .before .challenge .ensures i)
-    (residue (c .before .before .before .element-at .ensures small i)) (residue (c .before .before .element-at2 .ensures small i)) (residue (c .before .element-at3 .ensures small i))))
-    ∙ ap (padded (S .degree)) (claim-is S (a .rounds .now) (a .k) (challenge (a .challenges .now) (a .k) (a .j)))
+    let d = S .degree in
+    let R = s .pre .0 in
+    let ok = settings-valid S (R .allowed) in
+    let at = 3 * a .k * d in
+    claim-alike S (a .rounds .now) (a .k) at (at + 2 * d) refl refl (a .challenges .now) (a .j) _ (at + d) (c .before .before .before .before .before .before .before .before .challenge .ensures) refl (a .claim .now)
+    (c .before .before .value .ensures (omega (arith, ok .modulus-least)) (omega (arith, degree-least S ok)) (degree-most S ok)
+    (part-long at d (a .rounds .now) (omega (arith, R .inside))) (part-long (at + d) d (a .rounds .now) (omega (arith, R .inside))) (part-long (at + 2 * d) d (a .rounds .now) (omega (arith, R .inside))) (s .pre .2))
 
 pub claim-to-spec : {M : Type 1} → statement M
 claim-to-spec =
     tie.close
     (tie.spec
     challenge-requires
-    mul-element-at
-    element-at-requires
-    mul-element-at-2
-    add-element-at
-    element-at-requires-2
-    mul-element-at-3
-    add-element-at-2
-    element-at-requires-3
-    next-claim-requires
+    cast-d
+    mul-at
+    mul-at-2
+    add-second
+    mul-third
+    add-third
+    mul-value
+    sub-value
+    part-value-start
+    part-value-end
+    mul-value-2
+    sub-value-2
+    part-value-start-2
+    part-value-end-2
+    mul-value-3
+    sub-value-3
+    part-value-start-3
+    part-value-end-3
+    value-requires
+    same-length
     returns)

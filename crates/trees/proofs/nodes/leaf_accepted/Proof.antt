@@ -1,32 +1,48 @@
 use mathlib.Core.Path.{_∙_}
-use Rattle.protocol.specs.Element.{signed, residue}
-use Rattle.protocol.proofs.Inputs.{settings-valid}
-use Rattle.sizes.proofs.Limits.{degree-most}
-use Rattle.equations.specs.Ends.{endMet}
-use Rattle.trees.proofs.Checks.{leaf-is}
+use Prim.Native.Nat.{_*_}
+use Rattle.trees.proofs.Checks.{part-long, leaf-is}
 use borrow.Author.Needs.{needs}
 use Rattle.trees.proofs.nodes.leaf_accepted.Statement.{statement}
 use Rattle.trees.proofs.nodes.leaf_accepted.Tie as tie
 
-signed-element-at-requires : tie.Need-signed-element-at-requires
-signed-element-at-requires c κs = search needs
+cast-at : tie.Need-cast-at
+cast-at c = search needs
 
-element-at-requires : tie.Need-element-at-requires
-element-at-requires c κs = search needs
+mul-at : tie.Need-mul-at
+mul-at c = search needs
 
-end-holds-requires : tie.Need-end-holds-requires
-end-holds-requires c κs = search needs
+mul-ending-met : tie.Need-mul-ending-met
+mul-ending-met c = search needs
+
+sub-ending-met : tie.Need-sub-ending-met
+sub-ending-met c = search needs
+
+part-ending-met-start : tie.Need-part-ending-met-start
+part-ending-met-start c = search needs
+
+part-ending-met-end : tie.Need-part-ending-met-end
+part-ending-met-end c = search needs
+
+ending-met-requires : tie.Need-ending-met-requires
+ending-met-requires c κs = search needs
 
 returns : tie.Need-returns
 returns c =
-    let s = c .before .before .before .before in
+    let s = c .before .before .before .before .before in
     let a = s .args in
-    let S = a .settings in
-    let small = degree-most S (settings-valid S (s .pre)) in
-    c .end-holds .ensures (s .pre)
-    ∙ (λ i. endMet S (a .claim) (signed (c .before .before .signed-element-at .ensures small i)) (residue (c .before .element-at .ensures small i)))
-    ∙ leaf-is S (a .leaves .now) (a .j) (a .claim) (a .folded .now)
+    let d = a .settings .degree in
+    c .ending-met .ensures (s .pre .0) (s .pre .2) (part-long (a .j * d) d (a .leaves .now) (s .pre .1)) (s .pre .3)
+    ∙ leaf-is (a .settings) (a .leaves .now) (a .j) (a .claim .now) (a .folded .now)
 
 pub leaf-accepted-spec : {M : Type 1} → statement M
 leaf-accepted-spec =
-    tie.close (tie.spec signed-element-at-requires element-at-requires end-holds-requires returns)
+    tie.close
+    (tie.spec
+    cast-at
+    mul-at
+    mul-ending-met
+    sub-ending-met
+    part-ending-met-start
+    part-ending-met-end
+    ending-met-requires
+    returns)

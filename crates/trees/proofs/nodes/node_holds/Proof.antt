@@ -1,48 +1,79 @@
-use mathlib.Core.Path.{_∙_}
-use Rattle.protocol.specs.Element.{residue}
-use Rattle.protocol.specs.Transcript.{roundHolds}
-use Rattle.protocol.proofs.Inputs.{settings-valid}
-use Rattle.sizes.proofs.Limits.{degree-most}
-use Rattle.trees.proofs.Checks.{node-is}
+use mathlib.Core.Path.{refl, _∙_}
+use Prim.Native.Nat.{_+_, _*_}
+use native.Mathlib.Omega.{arith}
+use Rattle.trees.proofs.Checks.{part-long, node-is}
 use borrow.Author.Needs.{needs}
 use Rattle.trees.proofs.nodes.node_holds.Statement.{statement}
 use Rattle.trees.proofs.nodes.node_holds.Tie as tie
 
-mul-element-at : tie.Need-mul-element-at
-mul-element-at c = search needs
+cast-d : tie.Need-cast-d
+cast-d c = search needs
 
-element-at-requires : tie.Need-element-at-requires
-element-at-requires c κs = search needs
+mul-at : tie.Need-mul-at
+mul-at c = search needs
 
-mul-element-at-2 : tie.Need-mul-element-at-2
-mul-element-at-2 c = search needs
+mul-at-2 : tie.Need-mul-at-2
+mul-at-2 c = search needs
 
-add-element-at : tie.Need-add-element-at
-add-element-at c = search needs
+mul-last : tie.Need-mul-last
+mul-last c = search needs
 
-element-at-requires-2 : tie.Need-element-at-requires-2
-element-at-requires-2 c κs = search needs
+add-last : tie.Need-add-last
+add-last c = search needs
 
-round-holds-requires : tie.Need-round-holds-requires
-round-holds-requires c κs = search needs
+mul-round-met : tie.Need-mul-round-met
+mul-round-met c = search needs
+
+sub-round-met : tie.Need-sub-round-met
+sub-round-met c = search needs
+
+part-round-met-start : tie.Need-part-round-met-start
+part-round-met-start c = search needs
+
+part-round-met-end : tie.Need-part-round-met-end
+part-round-met-end c = search needs
+
+mul-round-met-2 : tie.Need-mul-round-met-2
+mul-round-met-2 c = search needs
+
+sub-round-met-2 : tie.Need-sub-round-met-2
+sub-round-met-2 c = search needs
+
+part-round-met-start-2 : tie.Need-part-round-met-start-2
+part-round-met-start-2 c = search needs
+
+part-round-met-end-2 : tie.Need-part-round-met-end-2
+part-round-met-end-2 c = search needs
+
+round-met-requires : tie.Need-round-met-requires
+round-met-requires c κs = search needs
 
 returns : tie.Need-returns
 returns c =
-    let s = c .before .before .before .before in
+    let s = c .before .before .before .before .before .before in
     let a = s .args in
-    let small = degree-most (a .settings) (settings-valid (a .settings) (s .pre .0)) in
-    c .round-holds .ensures (s .pre .0)
-    ∙ (λ i. roundHolds (a .settings) (a .claim) (residue (c .before .before .element-at .ensures small i)) (residue (c .before .element-at2 .ensures small i)))
-    ∙ node-is (a .settings) (a .rounds .now) (a .k) (a .claim)
+    let d = a .settings .degree in
+    let R = s .pre .0 in
+    let at = 3 * a .k * d in
+    c .round-met .ensures (R .allowed) (s .pre .1) (part-long at d (a .rounds .now) (omega (arith, R .inside))) (part-long (at + 2 * d) d (a .rounds .now) (omega (arith, R .inside)))
+    ∙ node-is (a .settings) (a .rounds .now) (a .k) at (at + 2 * d) refl refl (a .claim .now)
 
 pub node-holds-spec : {M : Type 1} → statement M
 node-holds-spec =
     tie.close
     (tie.spec
-    mul-element-at
-    element-at-requires
-    mul-element-at-2
-    add-element-at
-    element-at-requires-2
-    round-holds-requires
+    cast-d
+    mul-at
+    mul-at-2
+    mul-last
+    add-last
+    mul-round-met
+    sub-round-met
+    part-round-met-start
+    part-round-met-end
+    mul-round-met-2
+    sub-round-met-2
+    part-round-met-start-2
+    part-round-met-end-2
+    round-met-requires
     returns)

@@ -6,7 +6,7 @@ use lib.ListN.{length, take, drop}
 use lib.Seq.{length-take-le}
 use borrow.Rule.Slice.PartMut.{putMid, mid-len}
 use Rattle.protocol.proofs.Inputs.{settings-valid}
-use Rattle.sizes.proofs.Limits.{cells-most}
+use Rattle.sizes.proofs.Limits.{degree-most, cells-most}
 use Rattle.claims.proofs.Places.{at-root}
 use Rattle.trees.proofs.Root.{root-room, root-key, root-tests}
 use borrow.Author.Needs.{needs}
@@ -14,7 +14,7 @@ use Rattle.trees.proofs.nodes.root_accepted.Statement.{statement}
 use Rattle.trees.proofs.nodes.root_accepted.Tie as tie
 
 few : (c : tie.Start) → length (c .args .key .now) ≤ 16384
-few c = omega (arith, cells-most (c .args .settings) (settings-valid (c .args .settings) (c .pre .0)), c .pre .1)
+few c = omega (arith, cells-most (c .args .settings) (settings-valid (c .args .settings) (c .pre .0 .allowed)), c .pre .1)
 
 -- the workspace with the key in it
 module _ (c : tie.After-ws2) where
@@ -78,24 +78,28 @@ part-ws-end c = search needs
 copy-requires : tie.Need-copy-requires
 copy-requires c κs = search needs
 
-array-borrow-prefix-ws : tie.Need-array-borrow-prefix-ws
-array-borrow-prefix-ws c = room-enough c
-
 slice-aggregate-subtree-accepted : tie.Need-slice-aggregate-subtree-accepted
-slice-aggregate-subtree-accepted c = sym (lent (c .before))
+slice-aggregate-subtree-accepted c = search needs
+
+array-borrow-prefix-ws : tie.Need-array-borrow-prefix-ws
+array-borrow-prefix-ws c = room-enough (c .before)
+
+slice-aggregate-subtree-accepted-2 : tie.Need-slice-aggregate-subtree-accepted-2
+slice-aggregate-subtree-accepted-2 c = sym (lent (c .before .before))
 
 subtree-accepted-requires : tie.Need-subtree-accepted-requires
 subtree-accepted-requires c κs =
-    let s = c .before .before .before .before .before .before .before .before .before in
+    let s = c .before .before .before .before .before .before .before .before .before .before in
     let S = s .args .settings in
-    (s .pre .0, at-root S _ _ (c .before .before .before .before .before .nodes .ensures .0 (s .pre .0)) (lent (c .before) ∙ ap (λ x. 2 * x) (s .pre .1)))
+    let T = s .pre .0 in
+    ((T, omega (arith, degree-most S (settings-valid S (T .allowed)))), at-root S _ _ (c .before .before .before .before .before .before .nodes .ensures .0 (T .allowed)) (lent (c .before .before) ∙ ap (λ x. 2 * x) (s .pre .1)))
 
 returns : tie.Need-returns
 returns c =
-    let s = c .before .before .before .before .before .before .before .before .before .before .before in
+    let s = c .before .before .before .before .before .before .before .before .before .before .before .before in
     let a = s .args in
     c .before .subtree-accepted .ensures
-    ∙ root-tests (a .settings) (a .rounds .now) (a .challenges .now) (a .leaves .now) (a .commitment) (a .key .now) (take (2 * length (a .key .now)) (ws (c .before .before .before))) (length (a .key .now)) (s .pre .1) (has-key (c .before .before .before))
+    ∙ root-tests (a .settings) (a .rounds .now) (a .challenges .now) (a .leaves .now) (a .t2) (a .key .now) (take (2 * length (a .key .now)) (ws (c .before .before .before .before))) (length (a .key .now)) (s .pre .1) (has-key (c .before .before .before .before))
 
 pub root-accepted-spec : {M : Type 1} → statement M
 root-accepted-spec =
@@ -110,7 +114,8 @@ root-accepted-spec =
     part-ws-start
     part-ws-end
     copy-requires
-    array-borrow-prefix-ws
     slice-aggregate-subtree-accepted
+    array-borrow-prefix-ws
+    slice-aggregate-subtree-accepted-2
     subtree-accepted-requires
     returns)
