@@ -4,30 +4,30 @@
 --   given             the inputs of the opening, as the theorems have them
 --   honest-written    refusals 3 to 10 do not apply to the tables of the transcript
 --   printed-by        what the writer promises for them
-use mathlib.Core.Path.{_≡_, refl, sym, ap, subst, _∙_}
+use mathlib.Core.Path.{_≡_, refl, sym, ap, _∙_}
 use mathlib.Core.Bool.{true}
-use mathlib.Core.List.{List, []}
+use mathlib.Core.List.{List}
 use Prim.Native.Nat.{ℕ, _*_, _<_, _≤_}
 use native.Mathlib.Nat as Nat
 use native.Mathlib.Omega.{arith}
 use borrow.Author.Tests.{eq-eqb}
-use lib.ListN.{length, getD, take, length-append}
+use lib.ListN.{length, take, length-append}
 use lib.Seq.{take-at}
-use lib.IntN.{ℤ, pos, natAbs}
+use lib.IntN.{ℤ}
 use Rattle.protocol.specs.declared.Settings.{Settings}
 use Rattle.protocol.specs.declared.Written.{Written}
 use Rattle.protocol.specs.Basic.{all, choose}
 use Rattle.protocol.specs.Element.{signed, padded, paddedSigned}
-use Rattle.protocol.specs.Settings.{settingsRefusal, size, residues, small, exponent, exponents}
+use Rattle.protocol.specs.Settings.{residues, small, exponent, exponents}
 use Rattle.protocol.specs.Inputs.{Within}
 use Rattle.protocol.specs.Opening.{commitment, roundTable, messageAfter, finalElement}
 use Rattle.protocol.specs.Transcript.{Transcript, transcriptOf}
-use Rattle.protocol.specs.Text.{Tables, valueLimit, shape, shapes, shapeSize, fits, outputRefusal, written, overwritten, writeRefusal, writeAnswer, writeExit}
+use Rattle.protocol.specs.Text.{Tables, valueLimit, shape, shapes, shapeSize, fits, written, overwritten, writeAnswer, writeExit}
 use Rattle.protocol.specs.Programs.{provePrints, printed}
 use Rattle.protocol.specs.Promises.{Wrote}
 use Rattle.protocol.proofs.Tests.{and-intro, zero-first, zero-unless, first-nothing}
 use Rattle.protocol.proofs.Inputs.{valid-settings, below-tested, within-tested}
-use Rattle.claims.proofs.TextLimits.{Allowed, allowed, size-le, Passed, unrefused}
+use Rattle.claims.proofs.TextLimits.{allowed, size-le, Passed, unrefused}
 use Rattle.claims.proofs.Honest.{Given, degree-positive, modulus-positive}
 use Rattle.claims.proofs.Ranges.{commitment-below, rounds-below, last-length}
 use Rattle.claims.proofs.Completeness.{complete}

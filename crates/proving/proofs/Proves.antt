@@ -4,9 +4,9 @@
 --   prove-done       and for one that is not
 --   openable         tables that were read and of which nothing is refused can be opened
 --   lent-fitting     tables of the lengths that the settings ask for
-use mathlib.Core.Path.{_≡_, refl, sym, ap, subst, _∙_}
+use mathlib.Core.Path.{_≡_, refl, sym, ap, _∙_}
 use mathlib.Core.Bool.{true}
-use mathlib.Core.List.{List, [], _∷_}
+use mathlib.Core.List.{List, []}
 use Prim.Native.Nat.{ℕ, zero, suc, _*_}
 use native.Mathlib.Nat as Nat
 use borrow.Author.Tests.{eq-eqb}
@@ -15,14 +15,14 @@ use lib.IntN.{ℤ}
 use Rattle.protocol.specs.declared.Settings.{Settings}
 use Rattle.protocol.specs.declared.Written.{Written}
 use Rattle.protocol.specs.Basic.{choose, granted}
-use Rattle.protocol.specs.Settings.{settingsRefusal, cells, sized, residues, small, exponent, exponents}
+use Rattle.protocol.specs.Settings.{settingsRefusal, cells, sized, residues, exponent, exponents}
 use Rattle.protocol.specs.Text.{Tables, shape, shapes, shapeSize, fits, linesOf, settingsIn, tablesIn, entriesRefusal, textRefusal, outputRefusal, written, overwritten}
-use Rattle.protocol.specs.Programs.{proveReads, provePrints, printed, proofText, proveText, proveRefusal, proveAnswer, proveExit}
+use Rattle.protocol.specs.Programs.{proveReads, proofText, proveText, proveRefusal, proveAnswer, proveExit}
 use Rattle.protocol.specs.Promises.{Proved}
 use Rattle.protocol.proofs.Tests.{and-split, and-intro, first-zero, unless-zero}
 use Rattle.protocol.proofs.Refusals.{first-stops, first-passes, first-only}
 use Rattle.protocol.proofs.Inputs.{settings-valid, tested-below, tested-within}
-use Rattle.shapes.specs.Parts.{partShape, lengthsOf, lengthsFit, Exact}
+use Rattle.shapes.specs.Parts.{partShape, lengthsOf, lengthsFit}
 use Rattle.shapes.proofs.Exactly.{lengths-fit, fits-exact}
 use Rattle.proving.specs.Printed.{Openable, proof, Printed}
 

@@ -5,22 +5,21 @@
 --   tables-are        then the values are those of the tables, one table after the other
 --   tables-room       and there is room for them
 --   read-..           what the reader promises, by what was gathered and by refusals 8 to 10
-use mathlib.Core.Path.{_≡_, refl, sym, ap, _∙_}
-use mathlib.Core.Bool.{Bool, true, false, _&&_}
-use mathlib.Core.List.{List, [], _∷_, _++_, append-assoc, map, zipWith}
+use mathlib.Core.Path.{_≡_, sym, ap, _∙_}
+use mathlib.Core.Bool.{true, _&&_}
+use mathlib.Core.List.{List, [], _∷_, _++_, append-assoc, map}
 use Prim.Native.Nat.{ℕ, _+_, _≤_}
 use native.Mathlib.Omega.{arith}
 use borrow.Author.Tests.{eqb-true}
-use lib.Dec.{eqb}
-use lib.ListN.{length, take, drop, length-append, length-take, length-map, take-append-drop}
+use lib.ListN.{length, take, drop, length-append, length-take, take-append-drop}
 use lib.Seq.{take-append-seam, drop-append-seam, drop-append-add}
-use lib.IntN.{ℤ, pos}
+use lib.IntN.{ℤ}
 use Rattle.protocol.specs.declared.Settings.{Settings}
 use Rattle.protocol.specs.declared.Parts.{Parts}
 use Rattle.protocol.specs.declared.Loaded.{Loaded}
-use Rattle.protocol.specs.Basic.{all, choose, first, unless}
-use Rattle.protocol.specs.Settings.{settingsRefusal, sized}
-use Rattle.protocol.specs.Text.{Line, Tables, shape, settingsShape, shapes, shapeSize, wanted, contents, block, blocks, blockFits, fits, linesOf, unsigned, column, unsignedColumn, settingsIn, tablesIn, noSettings, lookRefusal, loaded, entriesRefusal, textRefusal, readRefusal, readAnswer, readExit}
+use Rattle.protocol.specs.Basic.{first, unless}
+use Rattle.protocol.specs.Settings.{settingsRefusal}
+use Rattle.protocol.specs.Text.{Line, Tables, shape, settingsShape, shapes, wanted, linesOf, unsigned, column, unsignedColumn, settingsIn, tablesIn, noSettings, lookRefusal, loaded, entriesRefusal, textRefusal, readRefusal, readAnswer, readExit}
 use Rattle.protocol.specs.Promises.{Read}
 use Rattle.protocol.proofs.Tests.{and-split, first-zero, unless-zero, granted-zero, granted-refused}
 use Rattle.protocol.proofs.Refusals.{front-stops, front-passes, first-only}

@@ -5,7 +5,6 @@ use mathlib.Core.List.{List}
 use Prim.Native.Nat.{ℕ, _<_, _≤_}
 use lib.ListN.{length}
 use Rattle.protocol.specs.declared.Settings.{Settings}
-use Rattle.protocol.specs.declared.Session.{Session}
 use Rattle.protocol.specs.declared.Started.{Started}
 use Rattle.protocol.specs.declared.Moved.{Moved}
 use Rattle.protocol.specs.Basic.{granted}

@@ -2,19 +2,19 @@
 --
 --   lengths-fit    the test of the six lengths is the test of the tables
 --   fits-exact     what it says where it passes
-use mathlib.Core.Path.{_≡_, refl, sym, ap, _∙_}
-use mathlib.Core.Bool.{Bool, true, _&&_, and-true}
-use mathlib.Core.List.{List, [], _∷_, map, zipWith}
+use mathlib.Core.Path.{_≡_, sym, ap, _∙_}
+use mathlib.Core.Bool.{true, and-true}
+use mathlib.Core.List.{List, map, zipWith}
 use Prim.Native.Nat.{ℕ}
 use borrow.Author.Tests.{eqb-true}
 use lib.Dec.{eqb}
 use lib.ListN.{length, length-map}
-use lib.IntN.{ℤ, pos}
+use lib.IntN.{pos}
 use Rattle.protocol.specs.declared.Settings.{Settings}
 use Rattle.protocol.specs.declared.Parts.{Parts}
 use Rattle.protocol.specs.Basic.{all, choose}
 use Rattle.protocol.specs.Settings.{sized}
-use Rattle.protocol.specs.Text.{Tables, Shape, shape, settingsShape, shapes, shapeSize, contents, block, blocks, blockFits, fits}
+use Rattle.protocol.specs.Text.{Tables, shape, settingsShape, shapes, shapeSize, contents, block, blocks, blockFits, fits}
 use Rattle.protocol.proofs.Tests.{and-split}
 use Rattle.shapes.specs.Parts.{partShape, lengthsOf, lengthsFit, Exact}
 

@@ -11,15 +11,14 @@ use mathlib.Core.Path.{_≡_, refl, sym, ap, subst, _∙_}
 use mathlib.Core.Bool.{Bool, true, false, _&&_, not, false≢true}
 use mathlib.Core.List.{List, [], _∷_}
 use mathlib.Core.Option.{Option, none, some, bind}
-use Prim.Native.Nat.{ℕ, zero, suc, _+_, _-_, _≤_, _<_, _*_}
+use Prim.Native.Nat.{ℕ, suc, _+_, _-_, _≤_, _<_, _*_}
 use native.Mathlib.Omega.{arith}
 use native.Mathlib.Decide.{decLe}
 use borrow.Author.Tests.{le-leb, lt-leb, leb-true, eq-eqb, ne-eqb}
 use lib.Dec.{leb, eqb}
 use lib.ListN.{length, getD, drop, length-drop, drop-of-length-le}
 use lib.Seq.{drop-drop}
-use lib.IntN.{ℤ, pos, negsuc, negℤ}
-use Rattle.protocol.specs.declared.Number.{Number}
+use lib.IntN.{ℤ, pos, negℤ}
 use Rattle.protocol.specs.declared.Number.the-variants.{Value, Refused}
 use Rattle.protocol.specs.Text.{valueLimit, minus, keep, digit, digitFirst, digitRun, properDigits, readCount, plain, negative, readNumber, numberAnswer, readNumberAt, readCountAt}
 use Rattle.protocol.proofs.Tests.{and-split, and-intro}

@@ -5,21 +5,20 @@
 --   values-lines           values that were read are those of lines at these spots, and the other lines follow
 --   values-elsewhere       where they were not read, the lines are not at these spots
 --   values-room            every value takes at least eight bytes
-use mathlib.Core.Path.{_≡_, refl, sym, ap, subst, _∙_}
+use mathlib.Core.Path.{_≡_, refl, sym, ap, _∙_}
 use mathlib.Core.Bool.{Bool, true, false, _&&_, false≢true}
-use mathlib.Core.List.{List, [], _∷_, _++_, append-assoc}
+use mathlib.Core.List.{List, [], _∷_, _++_}
 use mathlib.Core.Option.{Option, none, some, bind, Option·some-injective}
-use Prim.Native.Nat.{ℕ, zero, suc, _+_, _-_, _*_, _≤_, _<_}
+use Prim.Native.Nat.{ℕ, _+_, _-_, _*_, _≤_}
 use native.Mathlib.Omega.{arith}
-use borrow.Author.Tests.{eq-eqb}
 use lib.ListN.{length, take, length-map}
 use lib.IntN.{ℤ}
 use Rattle.protocol.specs.Text.{Spot, Line, readLine, sameSpot, sameSpots, spotsOf, valuesOf}
 use Rattle.protocol.proofs.Tests.{and-split, and-intro}
-use Rattle.tables.specs.Scan.{present, readValue, readValues, allLines}
+use Rattle.tables.specs.Scan.{readValue, readValues, allLines}
 use Rattle.tables.proofs.Counts.{Suffix, suffix-of}
 use Rattle.tables.proofs.Rows.{line-suffix, line-shorter, all-next, all-some}
-use Rattle.tables.proofs.Values.{same-spot, spot-same, value-of, value-elsewhere, value-read, prefix, values-step, values-stop}
+use Rattle.tables.proofs.Values.{same-spot, spot-same, value-of, value-read, prefix, values-step, values-stop}
 
 -- ---- the same spots
 

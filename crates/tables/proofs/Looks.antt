@@ -4,21 +4,21 @@
 --   header-missing              a text that does not begin with settings is not well formed
 --   Header, header-found        one that does is well formed where the lines behind them are
 --   look-..                     what `lookRefusal` and `lookAnswer` give
-use mathlib.Core.Path.{_≡_, refl, sym, ap, subst, _∙_}
-use mathlib.Core.Bool.{Bool, true, false, _&&_, false≢true}
-use mathlib.Core.List.{List, [], _∷_, _++_, map}
+use mathlib.Core.Path.{_≡_, refl, sym, ap, _∙_}
+use mathlib.Core.Bool.{Bool, true, false, false≢true}
+use mathlib.Core.List.{List, [], _∷_, _++_}
 use mathlib.Core.Option.{Option, none, some, Option·getD}
-use Prim.Native.Nat.{ℕ, zero, suc, _+_, _-_, _*_, _≤_, _<_}
+use Prim.Native.Nat.{ℕ, zero, suc, _+_, _-_, _≤_, _<_}
 use native.Mathlib.Omega.{arith}
 use borrow.Author.Tests.{le-leb, lt-leb}
-use lib.ListN.{length, getD, take, drop, List·getD-append, length-drop, length-map}
+use lib.ListN.{length, take, drop, List·getD-append, length-drop, length-map}
 use lib.Seq.{take-at, drop-drop}
 use lib.IntN.{ℤ, pos}
 use Rattle.protocol.specs.declared.Settings.{Settings}
 use Rattle.protocol.specs.declared.Loaded.{Loaded}
 use Rattle.protocol.specs.Basic.{tabulate, choose, first, unless, granted}
 use Rattle.protocol.specs.Settings.{settingsRefusal}
-use Rattle.protocol.specs.Text.{Spot, Line, textLimit, shape, settingsShape, shapeSize, spots, names, readLines, beginsWithNames, parsed, linesOf, sameSpots, spotsOf, valuesOf, wellFormed, unsigned, settingIn, settingsIn, noSettings, lookRefusal, loaded, lookAnswer}
+use Rattle.protocol.specs.Text.{Spot, Line, textLimit, shape, settingsShape, shapeSize, spots, names, readLines, beginsWithNames, parsed, linesOf, sameSpots, spotsOf, valuesOf, wellFormed, unsigned, settingIn, settingsIn, noSettings, lookRefusal, loaded}
 use Rattle.protocol.proofs.Refusals.{first-fails, first-holds, first-only}
 use Rattle.tables.specs.declared.header.Header.{Header}
 use Rattle.tables.specs.Scan.{present, readValues, allLines, settingsOf, readSettings, headerAnswer}
@@ -26,7 +26,7 @@ use Rattle.tables.proofs.Counts.{suffix-place}
 use Rattle.tables.proofs.Rows.{all-turns}
 use Rattle.tables.proofs.Values.{behind-names, names-long, settings-named, settings-unnamed}
 use Rattle.shapes.proofs.Cells.{spots-count}
-use Rattle.tables.proofs.Follow.{same-spots-self, lines-before, Lines, values-lines, values-elsewhere}
+use Rattle.tables.proofs.Follow.{same-spots-self, lines-before, values-lines, values-elsewhere}
 
 -- ---- the lines of a text
 

@@ -9,22 +9,20 @@
 --   line-found, line-missed   what the line reader's answer says
 --   all-..                    all lines, one after the other
 use mathlib.Core.Path.{_≡_, refl, sym, ap, subst, _∙_}
-use mathlib.Core.Bool.{Bool, true, false, _&&_, false≢true}
+use mathlib.Core.Bool.{Bool, true, false, false≢true}
 use mathlib.Core.List.{List, [], _∷_}
 use mathlib.Core.Option.{Option, none, some, bind, Option·some-injective}
-use Prim.Native.Nat.{ℕ, zero, suc, _+_, _-_, _*_, _≤_, _<_}
+use Prim.Native.Nat.{ℕ, zero, suc, _+_, _-_, _≤_, _<_}
 use native.Mathlib.Omega.{arith}
-use borrow.Author.Tests.{eq-eqb, ne-eqb}
-use lib.Dec.{leb, eqb}
+use lib.Dec.{eqb}
 use lib.ListN.{length, getD, drop, length-drop, drop-of-length-le}
 use lib.IntN.{ℤ, pos}
 use Rattle.protocol.specs.declared.Number.the-variants.{Value, Refused}
-use Rattle.protocol.specs.Text.{Line, space, lineFeed, valueLimit, keep, digit, digitRun, properDigits, readCount, negative, plain, readNumber, byte, readIndex, readLine, readLines, numberAnswer}
-use Rattle.protocol.proofs.Tests.{and-split}
+use Rattle.protocol.specs.Text.{Line, space, lineFeed, valueLimit, keep, properDigits, readCount, readNumber, byte, readIndex, readLine, readLines}
 use Rattle.tables.specs.declared.lines.Entry.the-variants.{Found as Line-at, Malformed}
 use Rattle.tables.specs.Scan.{present, readIndexAt, lineAnswer, readLineAt, allLines}
 use Rattle.shapes.proofs.From.{from-cons}
-use Rattle.tables.proofs.Counts.{Suffix, suffix-self, suffix-more, suffix-of, Found, found, keep-yes, keep-no, keep-some, count-small, count-suffix, count-shorter, number-suffix, number-shorter, plain-found, plain-missed}
+use Rattle.tables.proofs.Counts.{Suffix, suffix-self, suffix-more, suffix-of, Found, found, keep-yes, keep-some, count-small, count-suffix, count-shorter, number-suffix, number-shorter, plain-found, plain-missed}
 
 -- ---- steps
 

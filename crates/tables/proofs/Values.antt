@@ -6,20 +6,20 @@
 --   values-..                  values of lines, one after the other
 use mathlib.Core.Path.{_≡_, refl, sym, ap, subst, _∙_}
 use mathlib.Core.Bool.{Bool, true, false, _&&_, false≢true}
-use mathlib.Core.List.{List, [], _∷_, _++_, append-assoc, append-nil, map}
-use mathlib.Core.Option.{Option, none, some, bind, Option·some-injective}
-use Prim.Native.Nat.{ℕ, zero, suc, _+_, _-_, _*_, _≤_, _<_}
+use mathlib.Core.List.{List, [], _∷_, _++_, append-assoc, append-nil}
+use mathlib.Core.Option.{Option, none, some, bind}
+use Prim.Native.Nat.{ℕ, _+_, _-_, _≤_}
 use native.Mathlib.Omega.{arith}
 use borrow.Author.Tests.{eq-eqb, ne-eqb, eqb-true}
 use lib.Dec.{eqb}
-use lib.ListN.{length, getD, drop, take}
-use lib.IntN.{ℤ, pos}
+use lib.ListN.{length, drop}
+use lib.IntN.{ℤ}
 use Rattle.protocol.specs.declared.Number.the-variants.{Value, Refused}
 use Rattle.protocol.specs.Text.{Spot, Line, bytes, names, settingsShape, spots, keep, readLine, begins, beginsWithNames, sameSpot, numberAnswer}
 use Rattle.protocol.proofs.Tests.{and-split, and-intro}
 use Rattle.tables.specs.Scan.{spot, readValue, readValues, readSettings}
-use Rattle.tables.proofs.Counts.{Suffix, suffix-self, suffix-of, Found, found, keep-yes, keep-no, keep-some, answer-value, answer-refused}
-use Rattle.tables.proofs.Rows.{bind-some, bind-none, bind-value, line-suffix, line-shorter, all-next}
+use Rattle.tables.proofs.Counts.{Suffix, Found, found, keep-yes, keep-no, keep-some, answer-value, answer-refused}
+use Rattle.tables.proofs.Rows.{bind-some, bind-none, line-suffix}
 
 -- ---- spots
 

@@ -2,16 +2,15 @@
 --
 --   spotsFrom S P k          the spots from part k on
 --   values-then, values-never  values of one part, and then of others
-use mathlib.Core.Path.{_≡_, refl, sym, ap, subst, _∙_}
+use mathlib.Core.Path.{_≡_, refl, sym, ap, _∙_}
 use mathlib.Core.List.{List, [], _∷_, _++_, flatMap}
 use mathlib.Core.Option.{Option, none, some}
-use Prim.Native.Nat.{ℕ, zero, suc, _+_, _≤_, _<_}
-use native.Mathlib.Omega.{arith}
-use lib.ListN.{length, getD, drop}
+use Prim.Native.Nat.{ℕ, _+_, _<_}
+use lib.ListN.{drop}
 use lib.IntN.{ℤ}
 use Rattle.protocol.specs.declared.Settings.{Settings}
 use Rattle.protocol.specs.declared.Parts.{Parts}
-use Rattle.protocol.specs.Text.{Spot, Shape, settingsShape, shapes, spots, wanted}
+use Rattle.protocol.specs.Text.{Spot, settingsShape, shapes, spots, wanted}
 use Rattle.tables.specs.Scan.{readValue, readValues}
 use Rattle.shapes.specs.Parts.{partShape}
 use Rattle.tables.specs.Parts.{partSpots}

@@ -7,7 +7,6 @@
 --   Verdicts      an answer with a verdict: r is its number
 --   ProvedStored  the program `prove` as a call on text
 use mathlib.Core.Path.{_≡_}
-use mathlib.Core.Bool.{Bool}
 use mathlib.Core.List.{List}
 use Prim.Native.Nat.{ℕ}
 use lib.Dec.{leb}

@@ -2,7 +2,6 @@
 --
 --   partsOf n            the parts that a number of six bits names
 --   settingsStored S t   the slice t after the four settings were written to its front
-use mathlib.Core.Bool.{Bool}
 use mathlib.Core.List.{List, _∷_}
 use Prim.Native.Nat.{ℕ, _/_, _%_}
 use lib.Dec.{eqb}

@@ -1,7 +1,7 @@
 -- The answer of the check of a transcript, and what is known where nothing is refused.
-use mathlib.Core.Path.{_≡_, refl, sym, ap, _∙_}
-use mathlib.Core.Bool.{Bool, true, false, _&&_}
-use mathlib.Core.List.{List, [], _∷_}
+use mathlib.Core.Path.{_≡_, sym, ap, _∙_}
+use mathlib.Core.Bool.{true, false, _&&_}
+use mathlib.Core.List.{List}
 use Prim.Native.Nat.{ℕ, _*_}
 use borrow.Author.Tests.{eqb-true}
 use lib.Dec.{eqb}
@@ -11,8 +11,8 @@ use Rattle.protocol.specs.declared.Settings.{Settings}
 use Rattle.protocol.specs.declared.Checked.{Checked}
 use Rattle.protocol.specs.declared.Verdict.{Verdict}
 use Rattle.protocol.specs.declared.Verdict.the-variants.{Silent, Accepted, Rejected}
-use Rattle.protocol.specs.Basic.{choose, granted}
-use Rattle.protocol.specs.Settings.{settingsRefusal, cells, sized}
+use Rattle.protocol.specs.Basic.{choose}
+use Rattle.protocol.specs.Settings.{cells, sized}
 use Rattle.protocol.specs.Transcript.{accepted}
 use Rattle.protocol.specs.Session.{verdict}
 use Rattle.protocol.specs.Calls.{checkRefusal, checkAnswer}

@@ -1,8 +1,8 @@
 -- The session's moves: what is known of their inputs with no refusal, and their answers with one and without.
-use mathlib.Core.Path.{_≡_, refl, sym, ap, _∙_}
-use mathlib.Core.Bool.{Bool, true, false, _&&_, not}
+use mathlib.Core.Path.{_≡_, sym, ap, _∙_}
+use mathlib.Core.Bool.{Bool, true, false}
 use mathlib.Core.List.{List}
-use Prim.Native.Nat.{ℕ, _+_, _*_, _<_, _≤_}
+use Prim.Native.Nat.{ℕ, _+_, _*_, _<_}
 use native.Mathlib.Omega.{arith}
 use native.Mathlib.Nat as Nat
 use borrow.Author.Tests.{eqb-true, ltb-true}
@@ -12,8 +12,8 @@ use Rattle.protocol.specs.declared.Settings.{Settings}
 use Rattle.protocol.specs.declared.Session.{Session}
 use Rattle.protocol.specs.declared.Started.{Started}
 use Rattle.protocol.specs.declared.Moved.{Moved}
-use Rattle.protocol.specs.declared.Verdict.the-variants.{Silent, Holds, Accepted, Rejected}
-use Rattle.protocol.specs.Basic.{tabulate, choose}
+use Rattle.protocol.specs.declared.Verdict.the-variants.{Silent, Holds, Rejected}
+use Rattle.protocol.specs.Basic.{choose}
 use Rattle.protocol.specs.Element.{zeros, padded, residue}
 use Rattle.protocol.specs.Settings.{settingsRefusal, cells, sized}
 use Rattle.protocol.specs.Transcript.{nextClaim}

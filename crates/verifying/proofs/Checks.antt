@@ -5,7 +5,7 @@
 --   check-granted     the check refuses nothing
 --   check-verdict     and says whether the tables are accepted
 --   says-..           the answer of `verify` by what the check says
-use mathlib.Core.Path.{_≡_, refl, sym, ap, subst, _∙_}
+use mathlib.Core.Path.{_≡_, refl, ap, subst, _∙_}
 use mathlib.Core.Bool.{Bool, true, false}
 use mathlib.Core.List.{List, [], _∷_}
 use Prim.Native.Nat.{ℕ, _+_, _*_, _<_}

@@ -5,15 +5,15 @@
 --   field-length     a number and a byte behind it
 --   digit-step       one digit more, before those that are stored
 --   digits-done      all of them
-use mathlib.Core.Path.{_≡_, refl, sym, ap, _∙_}
+use mathlib.Core.Path.{_≡_, sym, ap, _∙_}
 use mathlib.Core.List.{List, [], _∷_, _++_, append-assoc}
-use Prim.Native.Nat.{ℕ, zero, suc, _+_, _-_, _/_, _%_, _^_, _<_, _≤_}
+use Prim.Native.Nat.{ℕ, suc, _+_, _-_, _/_, _%_, _^_, _<_, _≤_}
 use native.Mathlib.Omega.{arith}
 use native.Mathlib.Nat as Nat
 use lib.Dec.{ltb}
 use lib.ListN.{length, take, drop, set, length-append}
 use Rattle.protocol.specs.Text.{digitCount, lowDigits, decimal}
-use Rattle.protocol.proofs.Tests.{First, least-first}
+use Rattle.protocol.proofs.Tests.{least-first}
 use Rattle.protocol.proofs.NumeralLaws.{decimal-length, digits-count}
 use Rattle.writing.specs.Put.{field}
 use Rattle.writing.proofs.Puts.{drop-set-here}

@@ -1,10 +1,7 @@
 -- Refusals 8, 9 and 10, by the tests in the order in which the code makes them: `fails₁` where the first fails, .. and `holds` where none does.
-use mathlib.Core.Path.{_≡_, refl, sym, _∙_}
-use mathlib.Core.Bool.{Bool, true, false, _&&_}
-use mathlib.Core.List.{[], _∷_}
-use Prim.Native.Nat.{ℕ, zero, suc}
+use mathlib.Core.Path.{_≡_, sym, _∙_}
+use mathlib.Core.Bool.{Bool, true, false}
 use Rattle.protocol.specs.declared.Settings.{Settings}
-use Rattle.protocol.specs.Basic.{first}
 use Rattle.protocol.specs.Settings.{residues, small, exponents}
 use Rattle.protocol.specs.Text.{Tables, entriesRefusal}
 use Rattle.protocol.proofs.Tests.{first-nothing, and-intro}

@@ -6,13 +6,12 @@
 --   upto-end, upto-over     all lines, and too many
 use mathlib.Core.Path.{_≡_, refl, sym, ap, subst, _∙_}
 use mathlib.Core.List.{List, [], _∷_, _++_, append-assoc, append-nil, flatMap}
-use Prim.Native.Nat.{ℕ, zero, suc, _+_, _<_, _≤_}
+use Prim.Native.Nat.{ℕ, _+_, _<_, _≤_}
 use native.Mathlib.Omega.{arith}
 use native.Mathlib.Numerals.{add-one}
 use lib.ListN.{length, getD, take, drop, length-append, take-append-drop}
 use lib.Seq.{take-suc, take-all}
 use lib.IntN.{ℤ, pos}
-use Rattle.protocol.specs.Basic.{tabulate}
 use Rattle.protocol.specs.Text.{Line, Shape, textLimit, lineText, linesText, shapeSize, spotAt, block, blockLines}
 use Rattle.protocol.proofs.Reading.{tabulate-length, tabulate-at}
 use Rattle.shapes.specs.declared.Cell.{Cell}

@@ -1,6 +1,6 @@
 -- The loop keeps: the power is half^i modulo q.
 use mathlib.Core.Path.{_≡_, sym, ap, _∙_}
-use Prim.Native.Nat.{ℕ, _+_, _*_, _/_, _-_, _%_, _^_, _≤_, _<_}
+use Prim.Native.Nat.{_+_, _/_, _-_, _%_, _^_, _≤_, _<_}
 use native.Mathlib.Nat.{mod-lt, mul-le-mul, pow-zero}
 use native.Mathlib.Omega.{arith}
 use Rattle.equations.proofs.Powers.{power-next}

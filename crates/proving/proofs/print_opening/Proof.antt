@@ -8,10 +8,9 @@ use lib.Seq.{length-take-le}
 use lib.IntN.{ℤ}
 use Rattle.protocol.specs.declared.Settings.{Settings}
 use Rattle.protocol.specs.Opening.{roundTable}
-use Rattle.protocol.specs.Transcript.{Transcript, transcriptOf}
-use Rattle.protocol.specs.Calls.{openingAnswer, openingRoundsExit}
-use Rattle.protocol.specs.Programs.{provePrints, printed}
-use Rattle.protocol.specs.Promises.{Opening, Wrote}
+use Rattle.protocol.specs.Transcript.{transcriptOf}
+use Rattle.protocol.specs.Programs.{printed}
+use Rattle.protocol.specs.Promises.{Wrote}
 use Rattle.claims.proofs.Honest.{opening-commitment, opening-last, opening-rounds}
 use Rattle.shapes.specs.Parts.{six}
 use Rattle.proving.specs.Printed.{Openable}

@@ -1,22 +1,16 @@
 -- Each return is where the first test fails; those before it hold.
-use mathlib.Core.Path.{_≡_, sym, ap, _∙_}
-use mathlib.Core.Bool.{Bool, true, false}
-use Prim.Native.Nat.{_≤_}
+use mathlib.Core.Path.{_≡_, sym, _∙_}
+use mathlib.Core.Bool.{true}
 use native.Mathlib.Nat.{ne-of-gt}
 use borrow.Author.Needs.{needs}
 use borrow.Author.Tests.{eq-eqb, ne-eqb, not-true, not-false}
 use lib.ListN.{length}
 use Rattle.protocol.specs.Settings.{settingsRefusal, cells, sized}
-use Rattle.protocol.specs.Calls.{leftSmall, endingSmall, endRefusal}
+use Rattle.protocol.specs.Calls.{endingSmall, endRefusal}
 use Rattle.protocol.proofs.Tests.{first-nothing}
 use Rattle.protocol.proofs.Refusals.{first-stops, first-passes, first-fails, first-holds, ending-tested, ending-over}
 use Rattle.refusals.proofs.end.Statement.{statement}
 use Rattle.refusals.proofs.end.Tie as tie
-use Rattle.refusals.proofs.end.Reads as reads
-use Rattle.refusals.proofs.end.Lts as lts
-use Rattle.arithmetic.proofs.tests.settings_refusal.Reads as settings-refusal-reads
-use Rattle.refusals.proofs.left_small.Reads as left-small-reads
-use Rattle.sizes.proofs.cells.Reads as cells-reads
 
 allowed : (c : tie.Else1) → settingsRefusal (c .before .before .args .settings) ≡ 0
 allowed c = sym (c .before .settings-refusal .ensures) ∙ c .if1 .left

@@ -10,11 +10,6 @@ use Rattle.protocol.specs.Calls.{leftSmall}
 use Rattle.claims.proofs.Tables.{left-inside}
 use Rattle.refusals.proofs.left_small.Statement.{statement}
 use Rattle.refusals.proofs.left_small.Tie as tie
-use Rattle.refusals.proofs.left_small.Reads as reads
-use Rattle.refusals.proofs.left_small.Lts as lts
-use Rattle.arithmetic.proofs.tests.all_within.Reads as all-within-reads
-use Rattle.sizes.proofs.left_bound.Reads as left-bound-reads
-use Rattle.sizes.proofs.left_cells.Reads as left-cells-reads
 
 part : (c : tie.After-left-cells) → c .left-cells .result ≡ left (c .before .args .settings) (c .before .args .t) * c .before .args .settings .degree
 part c = c .left-cells .ensures (c .before .pre .0) (c .before .pre .1)

@@ -1,9 +1,7 @@
 -- Each return is where the first test fails; those before it hold.
-use mathlib.Core.Path.{_≡_, sym, ap, _∙_}
-use mathlib.Core.Bool.{true, false, _&&_}
-use native.Mathlib.Omega.{arith}
+use mathlib.Core.Path.{_≡_, sym, _∙_}
+use mathlib.Core.Bool.{true, _&&_}
 use borrow.Author.Tests.{eq-eqb, ne-eqb, not-true, not-false}
-use lib.ListN.{length}
 use Rattle.protocol.specs.Settings.{settingsRefusal, cells, sized, residues}
 use Rattle.protocol.proofs.Tests.{first-nothing, and-intro}
 use Rattle.protocol.proofs.Refusals.{first-stops, first-passes, first-fails, first-holds, and-fails-left, and-fails-right}
@@ -11,11 +9,6 @@ use Rattle.refusals.specs.Tables.{tablesRefusal}
 use borrow.Author.Needs.{needs}
 use Rattle.refusals.proofs.tables.Statement.{statement}
 use Rattle.refusals.proofs.tables.Tie as tie
-use Rattle.refusals.proofs.tables.Reads as reads
-use Rattle.refusals.proofs.tables.Lts as lts
-use Rattle.arithmetic.proofs.tests.all_below.Reads as all-below-reads
-use Rattle.arithmetic.proofs.tests.settings_refusal.Reads as settings-refusal-reads
-use Rattle.sizes.proofs.cells.Reads as cells-reads
 
 allowed : (c : tie.Else1) → settingsRefusal (c .before .before .before .args .settings) ≡ 0
 allowed c = sym (c .before .settings-refusal .ensures) ∙ c .if1 .left

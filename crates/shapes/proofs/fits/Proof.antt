@@ -1,6 +1,6 @@
 -- `fits`: table by table.
 use mathlib.Core.Path.{_≡_, sym, ap, _∙_}
-use mathlib.Core.Bool.{Bool, true, false, _&&_}
+use mathlib.Core.Bool.{Bool, false, _&&_}
 use Prim.Native.Nat.{ℕ, _≤_}
 use borrow.Author.Needs.{needs}
 use borrow.Author.Tests.{eq-eqb, ne-eqb}
@@ -12,9 +12,6 @@ use Rattle.shapes.specs.declared.Lengths.{Lengths}
 use Rattle.shapes.specs.Parts.{partShape, lengthsFit}
 use Rattle.shapes.proofs.fits.Statement.{statement}
 use Rattle.shapes.proofs.fits.Tie as tie
-use Rattle.shapes.proofs.fits.Reads as reads
-use Rattle.shapes.proofs.fits.Lts as lts
-use Rattle.shapes.proofs.part_size.Reads as part-size-reads
 
 -- a length n against a size m that was worked out as r
 passes : (n m r : ℕ) (rest : Bool) → r ≡ m → n ≡ r → (eqb n m && rest) ≡ rest

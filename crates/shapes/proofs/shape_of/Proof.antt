@@ -4,7 +4,6 @@ use Prim.Native.Nat.{ℕ, zero, suc, _*_, _%_, _^_, _≤_}
 use native.Mathlib.Omega.{arith}
 use native.Mathlib.Nat as Nat
 use borrow.Author.Needs.{needs}
-use lib.ListN.{getD}
 use lib.Pow.{pow-mono}
 use Rattle.protocol.specs.Settings.{size}
 use Rattle.protocol.specs.declared.Settings.{Settings}

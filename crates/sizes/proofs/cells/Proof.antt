@@ -1,4 +1,4 @@
-use mathlib.Core.Path.{_≡_, ap, _∙_}
+use mathlib.Core.Path.{ap, _∙_}
 use Prim.Native.Nat.{_*_}
 use native.Mathlib.Nat as Nat
 use native.Mathlib.Omega.{arith}
@@ -7,9 +7,6 @@ use Rattle.protocol.specs.Settings.{size, cells}
 use Rattle.protocol.specs.Opening.{left}
 use Rattle.sizes.proofs.cells.Statement.{statement}
 use Rattle.sizes.proofs.cells.Tie as tie
-use Rattle.sizes.proofs.cells.Reads as reads
-use Rattle.sizes.proofs.cells.Lts as lts
-use Rattle.sizes.proofs.left_cells.Reads as left-cells-reads
 
 left-cells-requires : tie.Need-left-cells-requires
 left-cells-requires c κs = search needs

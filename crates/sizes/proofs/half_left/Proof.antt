@@ -1,12 +1,8 @@
-use mathlib.Core.Path.{_≡_}
 use native.Mathlib.Omega.{arith}
 use Rattle.protocol.specs.Opening.{left, halfLeft}
 use borrow.Author.Needs.{needs}
 use Rattle.sizes.proofs.half_left.Statement.{statement}
 use Rattle.sizes.proofs.half_left.Tie as tie
-use Rattle.sizes.proofs.half_left.Reads as reads
-use Rattle.sizes.proofs.half_left.Lts as lts
-use Rattle.sizes.proofs.left.Reads as left-reads
 
 -- src/lib.rt:48:9
 returns : tie.Need-returns

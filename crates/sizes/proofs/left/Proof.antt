@@ -1,4 +1,4 @@
-use mathlib.Core.Path.{_≡_, sym, _∙_}
+use mathlib.Core.Path.{sym, _∙_}
 use native.Mathlib.Omega.{arith}
 use Rattle.protocol.proofs.Inputs.{settings-valid}
 use Rattle.claims.proofs.Tables.{left-power}
@@ -6,8 +6,6 @@ use Rattle.sizes.proofs.Shift.{shifted}
 use borrow.Author.Needs.{needs}
 use Rattle.sizes.proofs.left.Statement.{statement}
 use Rattle.sizes.proofs.left.Tie as tie
-use Rattle.sizes.proofs.left.Reads as reads
-use Rattle.sizes.proofs.left.Lts as lts
 
 -- src/lib.rt:36:9
 returns : tie.Need-returns

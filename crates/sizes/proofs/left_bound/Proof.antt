@@ -1,4 +1,4 @@
-use mathlib.Core.Path.{_≡_, ap}
+use mathlib.Core.Path.{ap}
 use Prim.Native.Nat.{_*_}
 use native.Mathlib.Omega.{arith}
 use borrow.Author.Needs.{needs}
@@ -6,8 +6,6 @@ use Rattle.protocol.proofs.Inputs.{settings-valid}
 use Rattle.sizes.proofs.Shift.{shifted, shifted-times}
 use Rattle.sizes.proofs.left_bound.Statement.{statement}
 use Rattle.sizes.proofs.left_bound.Tie as tie
-use Rattle.sizes.proofs.left_bound.Reads as reads
-use Rattle.sizes.proofs.left_bound.Lts as lts
 
 returns : tie.Need-returns
 returns c = λ e. absurd (omega (arith, settings-valid _ e .bound-most))

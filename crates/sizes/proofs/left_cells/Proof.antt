@@ -1,13 +1,10 @@
-use mathlib.Core.Path.{_≡_, ap}
+use mathlib.Core.Path.{ap}
 use Prim.Native.Nat.{_*_}
 use native.Mathlib.Omega.{arith}
 use Rattle.sizes.proofs.Shift.{product-fits}
 use borrow.Author.Needs.{needs}
 use Rattle.sizes.proofs.left_cells.Statement.{statement}
 use Rattle.sizes.proofs.left_cells.Tie as tie
-use Rattle.sizes.proofs.left_cells.Reads as reads
-use Rattle.sizes.proofs.left_cells.Lts as lts
-use Rattle.sizes.proofs.left.Reads as left-reads
 
 -- src/lib.rt:44:6
 left-requires : tie.Need-left-requires

@@ -1,4 +1,4 @@
-use mathlib.Core.Path.{_≡_, sym, ap, _∙_}
+use mathlib.Core.Path.{sym, ap, _∙_}
 use Rattle.protocol.specs.declared.Verified.{Verified}
 use Rattle.protocol.specs.Programs.{checked}
 use Rattle.slices.specs.Slices.{verdictNumber}

@@ -1,6 +1,5 @@
 use mathlib.Core.Path.{ap, _∙_}
 use Rattle.protocol.specs.declared.Written.{Written}
-use Rattle.protocol.specs.declared.Parts.{Parts}
 use Rattle.protocol.specs.Text.{writeAnswer, writeExit}
 use Rattle.shapes.specs.Parts.{six}
 use borrow.Author.Needs.{needs}

@@ -1,5 +1,5 @@
 use mathlib.Core.Path.{_≡_, sym, ap, _∙_}
-use mathlib.Core.Bool.{true, false, _&&_}
+use mathlib.Core.Bool.{_&&_}
 use native.Mathlib.Nat.{le-refl, le-of-eq}
 use borrow.Author.Tests.{not-true, not-false}
 use Rattle.protocol.specs.Basic.{every}

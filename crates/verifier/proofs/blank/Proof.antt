@@ -3,8 +3,6 @@ use Rattle.protocol.specs.Element.{zeros, width}
 use Rattle.protocol.specs.Session.{blank, slots}
 use Rattle.verifier.proofs.blank.Statement.{statement}
 use Rattle.verifier.proofs.blank.Tie as tie
-use Rattle.verifier.proofs.blank.Reads as reads
-use Rattle.verifier.proofs.blank.Lts as lts
 
 -- src/lib.rt:16:1
 returns : tie.Need-returns

@@ -2,8 +2,6 @@ use mathlib.Core.Path.{refl}
 use Rattle.protocol.specs.Session.{shut}
 use Rattle.verifier.proofs.shut.Statement.{statement}
 use Rattle.verifier.proofs.shut.Tie as tie
-use Rattle.verifier.proofs.shut.Reads as reads
-use Rattle.verifier.proofs.shut.Lts as lts
 
 -- src/lib.rt:35:1
 returns : tie.Need-returns

@@ -1,5 +1,5 @@
-use mathlib.Core.Path.{_≡_, sym, _∙_}
-use mathlib.Core.Bool.{Bool, true, _&&_}
+use mathlib.Core.Path.{sym, _∙_}
+use mathlib.Core.Bool.{_&&_}
 use borrow.Author.Tests.{not-true, not-false}
 use Rattle.protocol.specs.Settings.{residueElement}
 use Rattle.protocol.specs.Session.{part}
@@ -9,9 +9,6 @@ use Rattle.protocol.proofs.Refusals.{and-fails-left, and-fails-right}
 use borrow.Author.Needs.{needs}
 use Rattle.refusals.proofs.session.elements_below.Statement.{statement}
 use Rattle.refusals.proofs.session.elements_below.Tie as tie
-use Rattle.refusals.proofs.session.elements_below.Reads as reads
-use Rattle.refusals.proofs.session.elements_below.Lts as lts
-use Rattle.arithmetic.proofs.tests.element_below.Reads as element-below-reads
 
 -- src/session.rt:31:14
 array-copy-out-c0 : tie.Need-array-copy-out-c0

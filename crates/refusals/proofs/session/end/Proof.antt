@@ -14,12 +14,6 @@ use Rattle.sizes.proofs.Limits.{degree-most}
 use borrow.Author.Needs.{needs}
 use Rattle.refusals.proofs.session.end.Statement.{statement}
 use Rattle.refusals.proofs.session.end.Tie as tie
-use Rattle.refusals.proofs.session.end.Reads as reads
-use Rattle.refusals.proofs.session.end.Lts as lts
-use Rattle.arithmetic.proofs.tests.all_below.Reads as all-below-reads
-use Rattle.arithmetic.proofs.tests.settings_refusal.Reads as settings-refusal-reads
-use Rattle.refusals.proofs.session.key_below.Reads as key-below-reads
-use Rattle.sizes.proofs.cells.Reads as cells-reads
 
 allowed : (c : tie.Else1) → settingsRefusal (c .before .before .before .before .args .session .settings) ≡ 0
 allowed c = sym (c .before .settings-refusal .ensures) ∙ c .if1 .left

@@ -1,5 +1,4 @@
-use mathlib.Core.Path.{_≡_, sym, _∙_}
-use mathlib.Core.Bool.{_&&_}
+use mathlib.Core.Path.{sym, _∙_}
 use borrow.Author.Tests.{not-true, not-false}
 use Rattle.protocol.specs.Settings.{exponent, exponents}
 use Rattle.refusals.proofs.Passing.{and-passes}
@@ -7,9 +6,6 @@ use Rattle.protocol.proofs.Refusals.{and-fails-left}
 use borrow.Author.Needs.{needs}
 use Rattle.refusals.proofs.session.exponents_below.Statement.{statement}
 use Rattle.refusals.proofs.session.exponents_below.Tie as tie
-use Rattle.refusals.proofs.session.exponents_below.Reads as reads
-use Rattle.refusals.proofs.session.exponents_below.Lts as lts
-use Rattle.arithmetic.proofs.tests.all_below.Reads as all-below-reads
 
 -- src/session.rt:51:17
 mul-limit : tie.Need-mul-limit

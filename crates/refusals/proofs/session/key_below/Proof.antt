@@ -1,5 +1,4 @@
-use mathlib.Core.Path.{_≡_, sym, _∙_}
-use mathlib.Core.Bool.{_&&_}
+use mathlib.Core.Path.{sym, _∙_}
 use borrow.Author.Tests.{not-true, not-false}
 use Rattle.protocol.specs.Settings.{residues, residueElement}
 use Rattle.refusals.proofs.Passing.{and-passes}
@@ -7,10 +6,6 @@ use Rattle.protocol.proofs.Refusals.{and-fails-left}
 use borrow.Author.Needs.{needs}
 use Rattle.refusals.proofs.session.key_below.Statement.{statement}
 use Rattle.refusals.proofs.session.key_below.Tie as tie
-use Rattle.refusals.proofs.session.key_below.Reads as reads
-use Rattle.refusals.proofs.session.key_below.Lts as lts
-use Rattle.arithmetic.proofs.tests.all_below.Reads as all-below-reads
-use Rattle.arithmetic.proofs.tests.element_below.Reads as element-below-reads
 
 -- src/session.rt:88:9
 all-below-requires : tie.Need-all-below-requires

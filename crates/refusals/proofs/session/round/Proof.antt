@@ -2,7 +2,6 @@
 use mathlib.Core.Path.{_≡_, sym, ap, _∙_}
 use mathlib.Core.Bool.{true, _&&_, not}
 use Prim.Native.Nat.{_≤_}
-use native.Mathlib.Omega.{arith}
 use borrow.Author.Tests.{lt-ltb, le-ltb, not-true, not-false}
 use lib.Dec.{ltb}
 use Rattle.protocol.specs.Settings.{settingsRefusal, residueElement, exponent, exponents}
@@ -14,11 +13,6 @@ use Rattle.sizes.proofs.Limits.{degree-most}
 use borrow.Author.Needs.{needs}
 use Rattle.refusals.proofs.session.round.Statement.{statement}
 use Rattle.refusals.proofs.session.round.Tie as tie
-use Rattle.refusals.proofs.session.round.Reads as reads
-use Rattle.refusals.proofs.session.round.Lts as lts
-use Rattle.arithmetic.proofs.tests.settings_refusal.Reads as settings-refusal-reads
-use Rattle.refusals.proofs.session.elements_below.Reads as elements-below-reads
-use Rattle.refusals.proofs.session.exponents_below.Reads as exponents-below-reads
 
 allowed : (c : tie.Else1) → settingsRefusal (c .before .before .before .args .session .settings) ≡ 0
 allowed c = sym (c .before .settings-refusal .ensures) ∙ c .if1 .left

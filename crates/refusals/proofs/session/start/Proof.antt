@@ -9,10 +9,6 @@ use Rattle.sizes.proofs.Limits.{degree-most}
 use borrow.Author.Needs.{needs}
 use Rattle.refusals.proofs.session.start.Statement.{statement}
 use Rattle.refusals.proofs.session.start.Tie as tie
-use Rattle.refusals.proofs.session.start.Reads as reads
-use Rattle.refusals.proofs.session.start.Lts as lts
-use Rattle.arithmetic.proofs.tests.element_below.Reads as element-below-reads
-use Rattle.arithmetic.proofs.tests.settings_refusal.Reads as settings-refusal-reads
 
 allowed : (c : tie.Else1) → settingsRefusal (c .before .before .args .settings) ≡ 0
 allowed c = sym (c .before .settings-refusal .ensures) ∙ c .if1 .left

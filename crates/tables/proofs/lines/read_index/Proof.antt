@@ -9,8 +9,8 @@ use borrow.Author.Needs.{needs}
 use borrow.Author.Tests.{not-true, not-false}
 use lib.ListN.{length, drop}
 use lib.IntN.{ℤ, pos}
-use Rattle.protocol.specs.declared.Number.the-variants.{Value, Refused}
-use Rattle.protocol.specs.Text.{space, valueLimit, readCount, plain, byte, readIndex, numberAnswer}
+use Rattle.protocol.specs.declared.Number.the-variants.{Value}
+use Rattle.protocol.specs.Text.{space, valueLimit, readCount, plain, byte, numberAnswer}
 use Rattle.tables.specs.Scan.{present, readIndexAt}
 use Rattle.tables.proofs.Counts.{Found, suffix-back, counted, uncounted, count-small}
 use Rattle.tables.proofs.Rows.{present-none, byte-place, byte-stands, column-uncounted, column-unspaced, column-read}

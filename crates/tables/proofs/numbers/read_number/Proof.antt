@@ -1,19 +1,17 @@
 -- `read_number`: by the first byte.
-use mathlib.Core.Path.{_≡_, refl, sym, ap, subst, _∙_}
+use mathlib.Core.Path.{_≡_, sym, ap, subst, _∙_}
 use mathlib.Core.List.{List}
-use mathlib.Core.Option.{Option, some, bind}
-use Prim.Native.Nat.{ℕ, zero, suc, _+_, _≤_, _<_}
+use Prim.Native.Nat.{ℕ, zero, suc, _+_, _≤_}
 use native.Mathlib.Omega.{arith}
 use borrow.Author.Needs.{needs}
-use borrow.Author.Tests.{eq-eqb, ne-eqb}
-use lib.ListN.{length, drop}
-use lib.IntN.{ℤ, pos, negsuc, negℤ, _-ℤ_, +ℤ-idl}
+use lib.ListN.{drop}
+use lib.IntN.{ℤ, pos, negℤ, _-ℤ_, +ℤ-idl}
 use mir.Syntax.{w32}
 use mir.Val.{SFits, ofZ, toZ}
 use mir.ValLaws.{toZ-ofZ}
 use mir.Facts.{toZ-pos}
-use Rattle.protocol.specs.declared.Number.the-variants.{Value, Refused}
-use Rattle.protocol.specs.Text.{valueLimit, readCount, plain, negative, readNumber, numberAnswer, readNumberAt, readCountAt}
+use Rattle.protocol.specs.declared.Number.the-variants.{Value}
+use Rattle.protocol.specs.Text.{valueLimit, readCount, negative, readNumber, numberAnswer, readNumberAt, readCountAt}
 use Rattle.tables.proofs.Counts.{Found, suffix-back, counted, uncounted, count-small, number-outside, number-plain, number-minus, negative-number, negative-zero, negative-none}
 use Rattle.tables.proofs.numbers.read_number.Statement.{statement}
 use Rattle.tables.proofs.numbers.read_number.Tie as tie

@@ -1,26 +1,22 @@
 -- `read_part`: up to line p the lines are the wanted ones and their values are stored, so what is left decides.
 use mathlib.Core.Path.{_≡_, refl, sym, ap, subst, _∙_}
-use mathlib.Core.Bool.{true, false}
-use mathlib.Core.List.{List, [], _∷_, _++_}
-use mathlib.Core.Option.{Option, none, some, Option·some-injective}
-use Prim.Native.Nat.{ℕ, suc, _+_, _-_, _*_, _/_, _%_, _^_, _≤_, _<_}
+use mathlib.Core.List.{List, [], _∷_}
+use mathlib.Core.Option.{Option, none, some}
+use Prim.Native.Nat.{ℕ, _+_, _-_, _^_, _≤_, _<_}
 use native.Mathlib.Omega.{arith}
 use native.Mathlib.Numerals.{add-one}
 use borrow.Author.Needs.{needs}
 use lib.ListN.{length, drop, take, set, length-set}
-use lib.Seq.{take-suc-set, take-all}
+use lib.Seq.{take-suc-set}
 use lib.IntN.{ℤ}
 use mir.Syntax.{w32}
 use mir.Val.{ofZ, toZ}
 use mir.Facts.{toZ-ofZ}
-use Rattle.protocol.specs.Text.{Spot, Shape, shapeSize, spotAt, spots}
+use Rattle.protocol.specs.Text.{Shape, shapeSize, spotAt, spots}
 use Rattle.shapes.specs.declared.Shape.{Shape as Part}
-use Rattle.shapes.specs.declared.Cell.{Cell}
-use Rattle.tables.specs.declared.parts.Taken.{Taken}
 use Rattle.tables.specs.Scan.{spot, readValue, readValues}
 use Rattle.shapes.specs.Parts.{asShape, cellAt}
-use Rattle.tables.specs.Parts.{takenAnswer, Took}
-use Rattle.tables.proofs.Counts.{Found, suffix-back}
+use Rattle.tables.proofs.Counts.{Found}
 use Rattle.tables.proofs.Values.{prefix, prefix-nothing, valued, unvalued, values-more, values-over, values-done}
 use Rattle.shapes.proofs.Cells.{cell, cell-first, cell-inside, spots-count, spots-next, spots-end}
 use Rattle.tables.proofs.Cells.{took-missed, took-done}

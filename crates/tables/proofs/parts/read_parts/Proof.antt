@@ -1,9 +1,8 @@
 -- `read_parts`: up to a part the lines are the wanted ones and their values are stored, so what is left decides.
-use mathlib.Core.Path.{_≡_, refl, sym, ap, subst, _∙_}
-use mathlib.Core.Bool.{true, false}
-use mathlib.Core.List.{List, [], _∷_, _++_}
-use mathlib.Core.Option.{Option, none, some, Option·some-injective}
-use Prim.Native.Nat.{ℕ, suc, _+_, _-_, _*_, _≤_, _<_}
+use mathlib.Core.Path.{_≡_, refl, sym, ap, _∙_}
+use mathlib.Core.List.{List, [], _++_}
+use mathlib.Core.Option.{Option, none, some}
+use Prim.Native.Nat.{ℕ, _+_, _-_, _≤_, _<_}
 use native.Mathlib.Omega.{arith}
 use borrow.Author.Needs.{needs}
 use borrow.Author.Tests.{not-true, not-false}
@@ -12,10 +11,10 @@ use lib.Seq.{length-take-le, take-append-add, take-append-le}
 use lib.IntN.{ℤ}
 use Rattle.protocol.specs.declared.Settings.{Settings}
 use Rattle.protocol.specs.declared.Parts.{Parts}
-use Rattle.protocol.specs.Text.{Spot, Shape, shapeSize, spots}
+use Rattle.protocol.specs.Text.{Spot, spots}
 use Rattle.tables.specs.Scan.{readValues}
-use Rattle.shapes.specs.Parts.{asShape, partShape}
-use Rattle.tables.specs.Parts.{partSpots, takenAnswer, Took}
+use Rattle.shapes.specs.Parts.{asShape}
+use Rattle.tables.specs.Parts.{partSpots, Took}
 use Rattle.tables.proofs.Values.{prefix, prefix-nothing, prefix-prefix, values-done}
 use Rattle.shapes.proofs.Cells.{spots-count}
 use Rattle.tables.proofs.Cells.{taken-missed, taken-found, took-missed, took-done, took-place}
@@ -23,9 +22,6 @@ use Rattle.tables.proofs.Follow.{values-room}
 use Rattle.tables.proofs.Wants.{spotsFrom, spots-from-next, spots-from-end, spots-from-one, values-then, values-never}
 use Rattle.tables.proofs.parts.read_parts.Statement.{statement}
 use Rattle.tables.proofs.parts.read_parts.Tie as tie
-use Rattle.tables.proofs.parts.read_parts.Reads as reads
-use Rattle.tables.proofs.parts.read_parts.Lts as lts
-use Rattle.tables.proofs.parts.read_part.Reads as read-part-reads
 
 abbrev Inv-loop : tie.InvT-loop
 Inv-loop settings parts text from values₀ at₀ start₀ part₀ values at start part =

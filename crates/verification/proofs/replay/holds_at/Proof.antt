@@ -1,4 +1,4 @@
-use mathlib.Core.Path.{_≡_, _∙_}
+use mathlib.Core.Path.{_∙_}
 use native.Mathlib.Omega.{arith}
 use Rattle.protocol.specs.Element.{residue}
 use Rattle.protocol.specs.Transcript.{roundHolds}

@@ -6,15 +6,10 @@ use lib.ListN.{length}
 use Rattle.protocol.specs.Basic.{choose}
 use Rattle.protocol.specs.Session.{verdict, closeRefusal, closeHolds}
 use Rattle.protocol.proofs.Inputs.{settings-valid}
-use Rattle.verifier.proofs.Answers.{EndGiven, end-given, end-refused, end-done}
+use Rattle.verifier.proofs.Answers.{end-given, end-refused, end-done}
 use borrow.Author.Needs.{needs}
 use Rattle.verifier.proofs.Verifier.end.Statement.{statement}
 use Rattle.verifier.proofs.Verifier.end.Tie as tie
-use Rattle.verifier.proofs.Verifier.end.Reads as reads
-use Rattle.verifier.proofs.Verifier.end.Lts as lts
-use Rattle.equations.proofs.end_met.Reads as end-met-reads
-use Rattle.refusals.proofs.session.end.Reads as end-reads
-use Rattle.verifier.proofs.shut.Reads as shut-reads
 
 passed : (c : tie.Else1) → let a = c .before .before .before .before .args in closeRefusal (a .self .0) (a .key .now) ≡ 0
 passed c = sym (c .before .end .ensures) ∙ c .if1 .left

@@ -1,5 +1,4 @@
 use mathlib.Core.Path.{_≡_, sym, _∙_}
-use mathlib.Core.Bool.{Bool}
 use native.Mathlib.Omega.{arith}
 use borrow.Author.Tests.{not-true, not-false}
 use Rattle.protocol.specs.Session.{part, moveRefusal, moveHolds}
@@ -8,13 +7,6 @@ use Rattle.verifier.proofs.Answers.{RoundGiven, round-given, round-refu
 use borrow.Author.Needs.{needs}
 use Rattle.verifier.proofs.Verifier.round.Statement.{statement}
 use Rattle.verifier.proofs.Verifier.round.Tie as tie
-use Rattle.verifier.proofs.Verifier.round.Reads as reads
-use Rattle.verifier.proofs.Verifier.round.Lts as lts
-use Rattle.equations.proofs.next_claim.Reads as next-claim-reads
-use Rattle.equations.proofs.round_holds.Reads as round-holds-reads
-use Rattle.refusals.proofs.session.round.Reads as round-reads
-use Rattle.verifier.proofs.counted.Reads as counted-reads
-use Rattle.verifier.proofs.shut.Reads as shut-reads
 
 passed : (c : tie.Else1) → let a = c .before .before .before .args in moveRefusal (a .self .0) (a .t2) (a .e) ≡ 0
 passed c = sym (c .before .round .ensures) ∙ c .if1 .left

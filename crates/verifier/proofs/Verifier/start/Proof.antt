@@ -7,11 +7,6 @@ use Rattle.verifier.proofs.Answers.{start-allowed, start-refused, start
 use borrow.Author.Needs.{needs}
 use Rattle.verifier.proofs.Verifier.start.Statement.{statement}
 use Rattle.verifier.proofs.Verifier.start.Tie as tie
-use Rattle.verifier.proofs.Verifier.start.Reads as reads
-use Rattle.verifier.proofs.Verifier.start.Lts as lts
-use Rattle.arithmetic.proofs.elements.element_at.Reads as element-at-reads
-use Rattle.refusals.proofs.session.start.Reads as start-reads
-use Rattle.verifier.proofs.blank.Reads as blank-reads
 
 passed : (c : tie.Else1) → startRefusal (c .before .before .args .settings) (c .before .before .args .t3) ≡ 0
 passed c = sym (c .before .start .ensures) ∙ c .if1 .left

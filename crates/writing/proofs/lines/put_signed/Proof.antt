@@ -7,7 +7,7 @@ use borrow.Author.Needs.{needs}
 use lib.ListN.{length, set, length-set}
 use lib.IntN.{natAbs}
 use mir.Facts.{toZ-ofZ}
-use Rattle.writing.specs.Put.{field, spotText, Put}
+use Rattle.writing.specs.Put.{field, spotText}
 use Rattle.writing.proofs.Puts.{put-byte, put-then, put-as}
 use Rattle.writing.proofs.LineTexts.{spot-most, line-spot, value-below, value-from}
 use Rattle.writing.proofs.lines.put_signed.Statement.{statement}

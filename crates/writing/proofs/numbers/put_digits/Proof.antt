@@ -1,11 +1,11 @@
 -- `put_digits`: the digits that are left and those that are stored are the digits that are wanted.
 use mathlib.Core.Path.{_≡_, refl, sym, ap, _∙_}
-use mathlib.Core.List.{List, _++_, append-nil}
-use Prim.Native.Nat.{ℕ, _+_, _-_, _≤_}
+use mathlib.Core.List.{_++_, append-nil}
+use Prim.Native.Nat.{_+_, _-_, _≤_}
 use native.Mathlib.Omega.{arith}
 use native.Mathlib.Nat as Nat
 use borrow.Author.Needs.{needs}
-use lib.ListN.{length, take, drop, set, length-set}
+use lib.ListN.{length, take, drop, length-set}
 use lib.Seq.{take-set-le, take-add}
 use Rattle.protocol.specs.Text.{lowDigits}
 use Rattle.protocol.proofs.NumeralLaws.{lowDigits-length}

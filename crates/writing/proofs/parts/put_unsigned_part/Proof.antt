@@ -1,7 +1,7 @@
 -- `put_unsigned_part`: up to line p the lines stand in the slice, as far as the limit lets them.
 use mathlib.Core.Path.{_≡_, refl, sym, ap, subst, _∙_}
 use mathlib.Core.List.{List, map}
-use Prim.Native.Nat.{ℕ, _+_, _-_, _^_, _<_, _≤_}
+use Prim.Native.Nat.{ℕ, _-_, _^_, _<_, _≤_}
 use native.Mathlib.Omega.{arith}
 use borrow.Author.Needs.{needs}
 use lib.ListN.{length, getD, List·getD-map}
@@ -11,7 +11,7 @@ use Rattle.protocol.specs.declared.Settings.{Settings}
 use Rattle.protocol.specs.declared.Parts.{Parts}
 use Rattle.shapes.specs.Parts.{asShape, cellAt, partShape}
 use Rattle.shapes.proofs.Cells.{cell-first, cell-inside}
-use Rattle.writing.specs.Put.{Put, lineAt, partText, Adds}
+use Rattle.writing.specs.Put.{partText, Adds}
 use Rattle.writing.proofs.PartTexts.{Upto, upto-none, upto-line, upto-end, upto-over}
 use Rattle.writing.proofs.parts.put_unsigned_part.Statement.{statement}
 use Rattle.writing.proofs.parts.put_unsigned_part.Tie as tie

@@ -1,14 +1,12 @@
 -- `tables_refusal`: settings, lengths and then entries.
 use mathlib.Core.Path.{_≡_, sym, _∙_}
-use mathlib.Core.Bool.{true, false}
-use native.Mathlib.Omega.{arith}
 use borrow.Author.Needs.{needs}
 use borrow.Author.Tests.{not-true, not-false}
 use Rattle.protocol.specs.Settings.{settingsRefusal}
 use Rattle.protocol.specs.Text.{fits}
 use Rattle.protocol.proofs.Refusals.{first-only, first-stops, first-passes, first-fails, first-holds}
-use Rattle.claims.proofs.TextLimits.{Allowed, allowed}
-use Rattle.shapes.specs.Parts.{six, lengthsOf, lengthsFit}
+use Rattle.claims.proofs.TextLimits.{allowed}
+use Rattle.shapes.specs.Parts.{six, lengthsOf}
 use Rattle.shapes.proofs.Exactly.{lengths-fit}
 use Rattle.writing.specs.Tables.{tablesRefusal}
 use Rattle.writing.proofs.refusal.tables_refusal.Statement.{statement}

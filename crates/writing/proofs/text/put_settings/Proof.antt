@@ -1,10 +1,10 @@
 -- `put_settings`: the names line, and behind it the lines of part 0.
-use mathlib.Core.Path.{_≡_, refl, sym, subst}
+use mathlib.Core.Path.{refl, sym, subst}
 use mathlib.Core.List.{List, _++_}
-use Prim.Native.Nat.{ℕ, _≤_, _<_}
+use Prim.Native.Nat.{ℕ}
 use native.Mathlib.Omega.{arith}
 use borrow.Author.Needs.{needs}
-use lib.ListN.{length, take, drop}
+use lib.ListN.{drop}
 use lib.Seq.{take-append-seam}
 use Rattle.protocol.specs.Basic.{choose}
 use Rattle.protocol.specs.Text.{textLimit, bytes, names, shape, settingsShape, shapes, shapeSize}

@@ -1,16 +1,14 @@
 -- `write`: what is refused before the text, by the text's length and by the output slice; and the text where nothing is.
-use mathlib.Core.Path.{_≡_, refl, sym, ap, subst, _∙_}
+use mathlib.Core.Path.{_≡_, sym, ap, _∙_}
 use mathlib.Core.List.{List, _++_}
-use Prim.Native.Nat.{ℕ, _≤_, _<_}
+use Prim.Native.Nat.{ℕ}
 use native.Mathlib.Omega.{arith}
 use borrow.Author.Needs.{needs}
 use lib.ListN.{length, take, drop}
-use lib.Seq.{length-take-le}
 use Rattle.protocol.specs.declared.Settings.{Settings}
 use Rattle.protocol.specs.declared.Parts.{Parts}
-use Rattle.protocol.specs.Settings.{settingsRefusal}
 use Rattle.protocol.specs.Text.{Tables, textLimit, textOf}
-use Rattle.shapes.specs.Parts.{six, Exact}
+use Rattle.shapes.specs.Parts.{six}
 use Rattle.writing.specs.Put.{Held}
 use Rattle.writing.specs.Tables.{tablesRefusal}
 use Rattle.writing.proofs.Answers.{stopped, long, cramped, done, passed-depth, passed-exact}
