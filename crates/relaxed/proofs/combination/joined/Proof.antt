@@ -1,6 +1,5 @@
 -- The sum is below 2^49.
-use Prim.Native.Nat.{_+_, _*_, _%_}
-use native.Mathlib.Nat.{mod-lt}
+use native.Mathlib.Nat.{mod-lt, lt-of-lt-of-le}
 use native.Mathlib.Omega.{arith}
 use borrow.Author.Needs.{needs}
 use Rattle.relaxed.proofs.combination.joined.Statement.{statement}
@@ -22,7 +21,7 @@ rem-result-3 : tie.Need-rem-result-3
 rem-result-3 c = search needs
 
 cast-result : tie.Need-cast-result
-cast-result c = let a = c .args in omega (arith, mod-lt (a .x % a .q + 65536 * (a .y % a .q)) {m = a .q} (c .pre))
+cast-result c = record { fits = lt-of-lt-of-le (mod-lt _ {m = c .args .q} (c .pre)) (omega arith) }
 
 returns : tie.Need-returns
 returns c = search needs
