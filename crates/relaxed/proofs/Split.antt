@@ -1,7 +1,7 @@
 -- A product, and an inner product, by the two digits of each factor's residue.
 use mathlib.Core.Path.{_≡_, sym, ap, ap₂, _∙_}
 use mathlib.Core.List.{List}
-use Prim.Native.Nat.{ℕ, zero, suc, _+_, _*_, _%_, _^_, _<_, _≤_}
+use Prim.Native.Nat.{ℕ, zero, suc, _+_, _*_, _/_, _%_, _^_, _<_, _≤_}
 use native.Mathlib.Nat as Nat
 use native.Mathlib.Omega.{arith}
 use lib.IntN.{ℤ, pos, natAbs, _+ℤ_, _*ℤ_}
@@ -12,18 +12,26 @@ use Rattle.algebra.specs.Integers.{ofℤ}
 use Rattle.algebra.specs.Residues.{Zmod}
 use Rattle.algebra.specs.Negacyclic.{negacyclic}
 use Rattle.protocol.specs.Basic.{sum, tabulate}
-use Rattle.protocol.specs.Element.{Element, modulo, product, plus, times, signed, residue, coefficients, paddedSigned}
+use Rattle.protocol.specs.Element.{Element, modulo, product, plus, times, signed, residue, coefficients, reduced, padded, paddedSigned}
 use Rattle.protocol.proofs.Modulo.{modulo-lt, modulo-add, modulo-times}
-use Rattle.protocol.proofs.Reading.{tabulate-length, tabulate-at}
+use Rattle.protocol.proofs.Reading.{tabulate-length, tabulate-at, tabulate-ext}
 use Rattle.claims.proofs.Readings.{read-plus, read-times, read-product, readq, readq-inj, readq-modulo}
 use Rattle.protocol.specs.Opening.{inner}
-use Rattle.relaxed.specs.Digits.{digit, digitsOf}
+use Rattle.relaxed.specs.Digits.{digit, digitsOf, digitsIn}
 
 digits-at : (q d base : ℕ) (a : Element) (j : ℕ) → j < d → signed (digitsOf q d base a) j ≡ pos (digit q base (a j))
 unfolding signed digitsOf paddedSigned coefficients
 digits-at q d base a j h =
     List·getD-append (tabulate d (λ k. pos (digit q base (a k)))) _ (pos 0) j (omega (arith, tabulate-length d (λ k. pos (digit q base (a k)))))
     ∙ tabulate-at d (λ k. pos (digit q base (a k))) (pos 0) j h
+
+-- the digits of residues
+pub residues-digits : (q d base : ℕ) (a : Element) (r : List ℕ) → r ≡ padded d (reduced q d a) → digitsIn d base r ≡ digitsOf q d base a
+unfolding digitsIn digitsOf digit coefficients padded reduced
+residues-digits q d base a r e = ap (paddedSigned d) (tabulate-ext d (λ k l. ap (λ m. pos (m / base % 65536)) (
+    ap (λ t. getD t k 0) e
+    ∙ List·getD-append (tabulate d (λ j. modulo q (a j))) _ 0 k (omega (arith, tabulate-length d (λ j. modulo q (a j))))
+    ∙ tabulate-at d (λ j. modulo q (a j)) 0 k l)))
 
 digit-most : (q base : ℕ) (z : ℤ) → digit q base z < 65536
 unfolding digit

@@ -9,7 +9,7 @@ use lib.IntN.{ℤ, pos, +ℤ-idl}
 use lib.ListN.{length, getD, take, drop, length-drop}
 use Rattle.protocol.specs.declared.Settings.{Settings}
 use Rattle.protocol.specs.Basic.{tabulate}
-use Rattle.protocol.specs.Element.{modulo, signed, residue, signedAt, residueAt, zeros, padded}
+use Rattle.protocol.specs.Element.{modulo, signed, residue, signedAt, residueAt, reduced, zeros, padded}
 use Rattle.protocol.specs.Settings.{settingsRefusal, size, cells}
 use Rattle.protocol.specs.Opening.{inner, left}
 use Rattle.protocol.proofs.Inputs.{settings-valid}
@@ -21,8 +21,8 @@ use Rattle.arithmetic.proofs.Extension.{extension-rows}
 use Rattle.arithmetic.proofs.Folds.{tail-all, row-inside}
 use Rattle.arithmetic.proofs.Sums.{sum-none, elements-none, elements-more, sum-elements, signed-places, residue-places}
 use Rattle.sizes.proofs.Limits.{degree-least, degree-most}
-use Rattle.relaxed.specs.Digits.{digitsOf, digitSums, joinedSums, Numbers, Elements}
-use Rattle.relaxed.proofs.Split.{digits-small, inner-split}
+use Rattle.relaxed.specs.Digits.{digitsOf, digitsIn, digitSums, joinedSums, Numbers, Elements}
+use Rattle.relaxed.proofs.Split.{residues-digits, digits-small, inner-split}
 
 -- the elements of a table are as many as were left before the first round
 pub left-none : (S : Settings) → left S 0 ≡ size S
@@ -68,15 +68,15 @@ module _ (q d n : ℕ) (G : List ℕ) (w : List ℤ) (E : Elements q d n G w) (i
     long = part-long d i w (omega (arith, E .long, row-inside d n i l));
   }
 
--- a turn: x has the extension of element i of the key at its front
+-- a turn: x has the extension of element i of the key at its front, r are the residues of element i of w
 module _ (q d : ℕ) (p : 0 < q) (few : q ≤ 2147483647) (pd : 0 < d) (w : List ℤ) (G : List ℕ) (i : ℕ) (x₀ x : List ℕ) (e : x ≡ spliced (turned q d (take (length G - i * d) (drop (i * d) G))) 0 (3 * d) x₀) where
-  pub digits-more : (base : ℕ) (s₀ s s′ : List ℕ) → s ≡ digitSums q d base w G i s₀
-      → s′ ≡ addRows d (digitsOf q d base (signed (take (length w - i * d) (drop (i * d) w)))) (narrowed x) d s → s′ ≡ digitSums q d base w G (i + 1) s₀
+  pub digits-more : (r : List ℕ) → r ≡ padded d (reduced q d (signed (take (length w - i * d) (drop (i * d) w)))) → (base : ℕ) (s₀ s s′ : List ℕ) → s ≡ digitSums q d base w G i s₀
+      → s′ ≡ addRows d (digitsIn d base r) (narrowed x) d s → s′ ≡ digitSums q d base w G (i + 1) s₀
   unfolding digitSums
-  digits-more base s₀ s s′ before now =
+  digits-more r is base s₀ s s′ before now =
       now
       ∙ extension-rows q d p pd (take (length G - i * d) (drop (i * d) G)) (omega arith) x₀ x e _ s
-      ∙ elements-more q d _ _ s₀ i _ _ s (ap (λ l. digitsOf q d base (signed l)) (tail-all (i * d) w)) (ap (extension q d) (tail-all (i * d) G)) before
+      ∙ elements-more q d _ _ s₀ i _ _ s (residues-digits q d base _ r is ∙ ap (λ l. digitsOf q d base (signed l)) (tail-all (i * d) w)) (ap (extension q d) (tail-all (i * d) G)) before
 
 -- ---- the sums behind the loop
 

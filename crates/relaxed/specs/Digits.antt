@@ -1,11 +1,12 @@
 -- How the judge multiplies a number by a residue: by the two digits, to the base 2^16, of the number's own residue.
 --
---   digit q base z       digit 0 (base 1) or 1 (base 2^16) of z modulo q
---   digitsOf q d base w  that digit of the first d numbers of w, an element
+--   digit q base z               digit 0 (base 1) or 1 (base 2^16) of z modulo q
+--   digitsOf q d base w          that digit of the first d numbers of w, an element
+--   digitsIn d base r            that digit of the first d residues of r, an element
 --   digitSums q d base w G n s   the sums s with the products of that digit of the first n elements of w and those of G added
---   joinedSums q d s t   s + 2^16·t modulo q, an element
---   Numbers q d w        the modulus and the degree are small, and w has d numbers
---   Elements q d n G w   they are small, and G and w have n elements
+--   joinedSums q d s t           s + 2^16·t modulo q, an element
+--   Numbers q d w                the modulus and the degree are small, and w has d numbers
+--   Elements q d n G w           they are small, and G and w have n elements
 use mathlib.Core.List.{List}
 use Prim.Native.Nat.{ℕ, _+_, _*_, _/_, _%_, _<_, _≤_}
 use lib.IntN.{ℤ, pos}
@@ -19,6 +20,9 @@ digit q base z = modulo q z / base % 65536
 
 unfoldable pub digitsOf : ℕ → ℕ → ℕ → Element → List ℤ
 digitsOf q d base a = paddedSigned d (coefficients d (λ k. pos (digit q base (a k))))
+
+unfoldable pub digitsIn : ℕ → ℕ → List ℕ → List ℤ
+digitsIn d base r = paddedSigned d (coefficients d (λ k. pos (getD r k 0 / base % 65536)))
 
 unfoldable pub digitSums : ℕ → ℕ → ℕ → List ℤ → List ℕ → ℕ → List ℕ → List ℕ
 digitSums q d base w G n s = elementSums q d (λ i. digitsOf q d base (signed (drop (i * d) w))) (λ i. drop (i * d) G) n s

@@ -4,16 +4,16 @@ use arithmetic::products;
 use arithmetic::tests;
 use protocol::Settings;
 ghost use mathlib.Core.Path.{_≡_};
-ghost use Prim.Native.Nat.{_+_, _*_, _-_, _%_, _<_, _≤_};
+ghost use Prim.Native.Nat.{_+_, _*_, _-_, _/_, _%_, _<_, _≤_};
 ghost use lib.Dec.{eqb};
 ghost use lib.IntN.{pos};
 ghost use lib.ListN.{length};
-ghost use Rattle.protocol.specs.Element.{modulo, signed, padded};
+ghost use Rattle.protocol.specs.Element.{modulo, signed, reduced, padded};
 ghost use Rattle.protocol.specs.Settings.{settingsRefusal, cells};
 ghost use Rattle.protocol.specs.Basic.{tabulate};
 ghost use Rattle.protocol.specs.Judge as of;
-ghost use Rattle.arithmetic.specs.Products.{narrowed, addRows};
-ghost use Rattle.relaxed.specs.Digits.{digit, digitsOf, digitSums, joinedSums, Numbers, Elements};
+ghost use Rattle.arithmetic.specs.Products.{narrowed, addRows, Rows};
+ghost use Rattle.relaxed.specs.Digits.{digitsIn, digitSums, joinedSums, Numbers, Elements};
 
 // The negative of a residue.
 fn negated(q: u32, m: u32) -> u32
@@ -38,31 +38,43 @@ fn residue(q: u32, x: i64) -> u32
     m
 }
 
-// One digit of x modulo q: base 1 for the first, 2^16 for the second.
-fn digit_of(q: u32, base: u32, x: i64) -> i32
-    requires { ⌜ (0 < q) × (0 < base) ⌝ }
-    ensures { λ r. ⌜ r ≡ pos (digit q base x) ⌝ }
+// The residues of the first d numbers of w.
+fn residues(q: u32, d: usize, w: &[i64]) -> [u32; 64]
+    requires { ⌜ Numbers q d (now w) ⌝ }
+    ensures { λ r. ⌜ r ≡ padded d (reduced q d (signed (now (w .entry)))) ⌝ }
 {
-    (residue(q, x) / base % 65536) as i32
+    let mut r = [0u32; 64];
+    for k in 0..d {
+        r[k] = residue(q, w[k]);
+    }
+    r
 }
 
-fn digits(q: u32, d: usize, base: u32, w: &[i64]) -> [i32; 64]
-    requires { ⌜ Numbers q d (now w) × (0 < base) ⌝ }
-    ensures { λ r. ⌜ r ≡ digitsOf q d base (signed (now (w .entry))) ⌝ }
+// One digit of m: base 1 for the first, 2^16 for the second.
+fn digit_of(base: u32, m: u32) -> i32
+    requires { ⌜ 0 < base ⌝ }
+    ensures { λ r. ⌜ r ≡ pos (m / base % 65536) ⌝ }
+{
+    (m / base % 65536) as i32
+}
+
+fn digits(d: usize, base: u32, r: &[u32]) -> [i32; 64]
+    requires { ⌜ (d ≤ 64) × (d ≤ length (now r)) × (0 < base) ⌝ }
+    ensures { λ f. ⌜ f ≡ digitsIn d base (now (r .entry)) ⌝ }
 {
     let mut f = [0i32; 64];
     for k in 0..d {
-        f[k] = digit_of(q, base, w[k]);
+        f[k] = digit_of(base, r[k]);
     }
     f
 }
 
-// The products of one digit of w with the element whose extension stands at the front of x, added to the sums.
-fn add_digit(q: u32, d: u32, base: u32, w: &[i64], x: &[u64], sums: &mut [u64])
-    requires { ⌜ Numbers q d (now w) × (0 < base) × (3 * d ≤ length (now x)) × (d ≤ length (now sums)) ⌝ }
-    ensures { λ _. ⌜ now (sums .exit) ≡ addRows d (digitsOf q d base (signed (now (w .entry)))) (narrowed (now (x .entry))) d (now (sums .entry)) ⌝ }
+// The products of one digit of the residues r with the element whose extension stands at the front of x, added to the sums.
+fn add_digit(d: u32, base: u32, r: &[u32], x: &[u64], sums: &mut [u64])
+    requires { ⌜ Rows d (length (now r)) (length (now x)) (length (now sums)) × (0 < base) ⌝ }
+    ensures { λ _. ⌜ now (sums .exit) ≡ addRows d (digitsIn d base (now (r .entry))) (narrowed (now (x .entry))) d (now (sums .entry)) ⌝ }
 {
-    let f = digits(q, d as usize, base, w);
+    let f = digits(d as usize, base, r);
     products::accumulate(d, &f, x, sums);
 }
 
@@ -74,9 +86,10 @@ fn add_digits(q: u32, d: u32, n: u32, key: &[u32], w: &[i64], low: &mut [u64], h
     let mut x = [0u64; 192];
     for i in 0..n {
         let at = (i as usize) * (d as usize);
+        let r = residues(q, d as usize, &w[at..]);
         products::extend(q, d, &key[at..], &mut x);
-        add_digit(q, d, 1, &w[at..], &x, low);
-        add_digit(q, d, 65536, &w[at..], &x, high);
+        add_digit(d, 1, &r, &x, low);
+        add_digit(d, 65536, &r, &x, high);
     }
 }
 

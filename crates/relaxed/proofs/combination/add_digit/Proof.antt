@@ -20,9 +20,10 @@ same-length c = search needs
 
 returns : tie.Need-returns
 returns c =
-    let s = c .before .before .before .before .before .before .before .before in
+    let s = c .before .before .before .before .before .before .before .before .before in
     let a = s .args in
-    c .before .before .accumulate .ensures (record { degree = s .pre .0 .degree-most; coefficients = omega (arith, s .pre .0 .degree-most); residues = s .pre .2; sums = s .pre .3 })
+    let R = s .pre .0 in
+    c .before .before .accumulate .ensures (record { degree = R .degree; coefficients = omega (arith, R .degree); residues = R .residues; sums = R .sums })
     ∙ ap (λ f. addRows (a .d) f (narrowed (a .x .now)) (a .d) (a .sums .now)) (c .before .before .before .before .before .digits .ensures)
 
 pub add-digit-spec : {M : Type 1} → statement M

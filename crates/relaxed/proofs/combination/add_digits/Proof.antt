@@ -36,14 +36,29 @@ cast-at c = search needs
 mul-at : tie.Need-mul-at Inv-loop μ-loop
 mul-at c = omega (arith, inside c, few c)
 
+mul-residues : tie.Need-mul-residues Inv-loop μ-loop
+mul-residues c = omega (arith, inside c, few c)
+
+sub-residues : tie.Need-sub-residues Inv-loop μ-loop
+sub-residues c = omega (arith, inside c, few c)
+
+part-residues-start : tie.Need-part-residues-start Inv-loop μ-loop
+part-residues-start c = omega (arith, inside c, few c)
+
+part-residues-end : tie.Need-part-residues-end Inv-loop μ-loop
+part-residues-end c = search needs
+
+residues-requires : tie.Need-residues-requires Inv-loop μ-loop
+residues-requires c κs = numbers (c .before)
+
 mul-extend : tie.Need-mul-extend Inv-loop μ-loop
-mul-extend c = omega (arith, inside c, few c)
+mul-extend c = omega (arith, inside (c .before .before), few (c .before .before))
 
 sub-extend : tie.Need-sub-extend Inv-loop μ-loop
-sub-extend c = omega (arith, inside c, few c)
+sub-extend c = omega (arith, inside (c .before .before), few (c .before .before))
 
 part-extend-start : tie.Need-part-extend-start Inv-loop μ-loop
-part-extend-start c = omega (arith, inside c, few c)
+part-extend-start c = omega (arith, inside (c .before .before), few (c .before .before))
 
 part-extend-end : tie.Need-part-extend-end Inv-loop μ-loop
 part-extend-end c = search needs
@@ -54,41 +69,23 @@ slice-aggregate-extend c = search needs
 extend-requires : tie.Need-extend-requires Inv-loop μ-loop
 extend-requires c κs = search needs
 
-mul-add-digit : tie.Need-mul-add-digit Inv-loop μ-loop
-mul-add-digit c = omega (arith, inside (c .before .before .before .before), few (c .before .before .before .before))
-
-sub-add-digit : tie.Need-sub-add-digit Inv-loop μ-loop
-sub-add-digit c = omega (arith, inside (c .before .before .before .before), few (c .before .before .before .before))
-
-part-add-digit-start : tie.Need-part-add-digit-start Inv-loop μ-loop
-part-add-digit-start c = omega (arith, inside (c .before .before .before .before), few (c .before .before .before .before))
-
-part-add-digit-end : tie.Need-part-add-digit-end Inv-loop μ-loop
-part-add-digit-end c = search needs
-
 slice-aggregate-add-digit : tie.Need-slice-aggregate-add-digit Inv-loop μ-loop
 slice-aggregate-add-digit c = search needs
-
-add-digit-requires : tie.Need-add-digit-requires Inv-loop μ-loop
-add-digit-requires c κs = (numbers (c .before .before .before .before .before .before .before), omega arith, omega arith, omega arith)
-
-mul-add-digit-2 : tie.Need-mul-add-digit-2 Inv-loop μ-loop
-mul-add-digit-2 c = omega (arith, inside (c .before .before .before .before .before .before .before .before .before .before), few (c .before .before .before .before .before .before .before .before .before .before))
-
-sub-add-digit-2 : tie.Need-sub-add-digit-2 Inv-loop μ-loop
-sub-add-digit-2 c = omega (arith, inside (c .before .before .before .before .before .before .before .before .before .before), few (c .before .before .before .before .before .before .before .before .before .before))
-
-part-add-digit-start-2 : tie.Need-part-add-digit-start-2 Inv-loop μ-loop
-part-add-digit-start-2 c = omega (arith, inside (c .before .before .before .before .before .before .before .before .before .before), few (c .before .before .before .before .before .before .before .before .before .before))
-
-part-add-digit-end-2 : tie.Need-part-add-digit-end-2 Inv-loop μ-loop
-part-add-digit-end-2 c = search needs
 
 slice-aggregate-add-digit-2 : tie.Need-slice-aggregate-add-digit-2 Inv-loop μ-loop
 slice-aggregate-add-digit-2 c = search needs
 
+add-digit-requires : tie.Need-add-digit-requires Inv-loop μ-loop
+add-digit-requires c κs = let E = c .before .before .before .before .before .before .before .before .before .before .before .before .before .before .pre .0 in (record { degree = E .degree-most; coefficients = omega (arith, E .degree-most); residues = omega (arith, E .degree-most); sums = omega arith }, omega arith)
+
+slice-aggregate-add-digit-3 : tie.Need-slice-aggregate-add-digit-3 Inv-loop μ-loop
+slice-aggregate-add-digit-3 c = search needs
+
+slice-aggregate-add-digit-4 : tie.Need-slice-aggregate-add-digit-4 Inv-loop μ-loop
+slice-aggregate-add-digit-4 c = search needs
+
 add-digit-requires-2 : tie.Need-add-digit-requires-2 Inv-loop μ-loop
-add-digit-requires-2 c κs = (numbers (c .before .before .before .before .before .before .before .before .before .before .before .before .before), omega arith, omega arith, omega arith)
+add-digit-requires-2 c κs = let E = c .before .before .before .before .before .before .before .before .before .before .before .before .before .before .before .before .before .before .before .before .pre .0 in (record { degree = E .degree-most; coefficients = omega (arith, E .degree-most); residues = omega (arith, E .degree-most); sums = omega arith }, omega arith)
 
 add-i : tie.Need-add-i Inv-loop μ-loop
 add-i c = search needs
@@ -100,17 +97,19 @@ loop-again : tie.Need-loop-again Inv-loop μ-loop
 loop-again c =
     let first = c .before .before .before .before .before .before .before .before in
     let e = first .before .before .before .before .before in
-    let t = e .before .before .before in
+    let m = e .before .before .before in
+    let t = m .before .before in
     let l = t .before .loop in
     let a = t .before .before .before .before .before .args in
     let E = t .before .before .before .before .before .pre .0 in
     let turn = digits-more (a .q) (a .d) (E .modulus) (E .modulus-most) (E .degree) (a .w .now) (a .key .now) (l .i) (l .x) _
-    (e .extend .ensures (E .modulus) (E .degree) (E .degree-most) (key-part (a .q) (a .d) (a .n) (a .key .now) (a .w .now) E (l .i) (t .loop-test .taken)) (omega arith)) in (
+    (e .extend .ensures (E .modulus) (E .degree) (E .degree-most) (key-part (a .q) (a .d) (a .n) (a .key .now) (a .w .now) E (l .i) (t .loop-test .taken)) (omega arith))
+    _ (m .residues .ensures) in (
       omega arith,
       turn 1 (a .low .now) (l .low) _ (l .inv .1) (first .add-digit .ensures),
       turn 65536 (a .high .now) (l .high) _ (l .inv .2) (c .before .before .add-digit2 .ensures),
-      first .add-digit .kept .1 .1 .1 .1 .1 .0 ∙ l .inv .3,
-      c .before .before .add-digit2 .kept .1 .1 .1 .1 .1 .0 ∙ l .inv .4,
+      first .add-digit .kept .1 .1 .1 .1 .0 ∙ l .inv .3,
+      c .before .before .add-digit2 .kept .1 .1 .1 .1 .0 ∙ l .inv .4,
       search needs,
     )
 
@@ -138,23 +137,22 @@ add-digits-spec =
     loop-holds
     cast-at
     mul-at
+    mul-residues
+    sub-residues
+    part-residues-start
+    part-residues-end
+    residues-requires
     mul-extend
     sub-extend
     part-extend-start
     part-extend-end
     slice-aggregate-extend
     extend-requires
-    mul-add-digit
-    sub-add-digit
-    part-add-digit-start
-    part-add-digit-end
     slice-aggregate-add-digit
-    add-digit-requires
-    mul-add-digit-2
-    sub-add-digit-2
-    part-add-digit-start-2
-    part-add-digit-end-2
     slice-aggregate-add-digit-2
+    add-digit-requires
+    slice-aggregate-add-digit-3
+    slice-aggregate-add-digit-4
     add-digit-requires-2
     add-i
     loop-less
