@@ -6,6 +6,7 @@ pub mod SignedFill
 pub mod Splice
 pub mod Folds
 pub mod Rows
+pub mod Sums
 pub mod Padding
 pub mod Extension
 pub mod Turns

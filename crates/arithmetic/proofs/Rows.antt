@@ -8,14 +8,14 @@ use native.Mathlib.Decide.{decLt}
 use native.Mathlib.Omega.{arith}
 use borrow.Author.Tests.{le-ltb}
 use lib.IntN.{ℤ, pos, negsuc, negℤ, _*ℤ_, natAbs}
-use lib.ListN.{length, getD, drop, set, replicate, getD-replicate, List·getD-append, List·getD-map}
+use lib.ListN.{length, getD, drop, set, List·getD-append, List·getD-map}
 use lib.Seq.{getD-append-add}
 use lib.Signed.{ltZ}
 use Rattle.protocol.specs.Basic.{sum, tabulate}
-use Rattle.protocol.specs.Element.{modulo, around, rotate, product, signed, residue, zeros, reduced, padded}
+use Rattle.protocol.specs.Element.{modulo, around, rotate, product, signed, residue, zeros}
 use Rattle.protocol.proofs.Modulo.{modulo-lt, modulo-add, modulo-times}
 use Rattle.protocol.proofs.Reading.{tabulate-at, tabulate-length, tabulate-ext}
-use Rattle.arithmetic.specs.Products.{extension, narrowed, start, addRow, nextRow, addRows, addFour, total, term, limit, reducedSums}
+use Rattle.arithmetic.specs.Products.{extension, narrowed, start, addRow, nextRow, addRows, addFour, total, term}
 use Rattle.arithmetic.proofs.Around.{around-next, rotate-at}
 use Rattle.arithmetic.proofs.Fill.{filled, filled-more, filled-behind, filled-length, filled-ext, filled-at, filled-turn, filled-again, zeros-at}
 
@@ -209,32 +209,3 @@ module _ (q d : ℕ) (p : 0 < q) (pd : 0 < d) (a : List ℕ) where
     pub terms-residue : total d (term d f (extension q d a) k) % q ≡ modulo q (product d (signed f) (residue a) k)
     unfolding term product signed
     terms-residue = total-residue q p d _ _ (λ j l. by-sign k j lk l (getD f j (pos 0)))
-
-    -- no sum reaches 2^64 by one product
-    pub terms-most : d ≤ 64 → q < 2 ^ 32 → ((j : ℕ) → j < d → natAbs (getD f j (pos 0)) ≤ limit) → total d (term d f (extension q d a) k) ≤ 64 * (2 ^ 26 * (2 ^ 32 - 1))
-    unfolding term
-    terms-most h w small =
-        Nat.le-trans (total-most d (term d f (extension q d a) k) (2 ^ 26 * (2 ^ 32 - 1)) each) (Nat.mul-le-mul-right (2 ^ 26 * (2 ^ 32 - 1)) h)
-      where
-        inside : (z : ℤ) (j : ℕ) → j < d → start d z j + k < 3 * d
-        inside (pos n) j l = unfold start in omega arith
-        inside (negsuc n) j l = unfold start in omega arith
-
-        each : (j : ℕ) → j < d → natAbs (getD f j (pos 0)) * getD (extension q d a) (start d (getD f j (pos 0)) j + k) 0 ≤ 2 ^ 26 * (2 ^ 32 - 1)
-        each j l = Nat.mul-le-mul {n₂ = 2 ^ 26} {m₂ = 2 ^ 32 - 1} (small j l)
-            (omega (arith, extension-at (start d (getD f j (pos 0)) j + k) (inside (getD f j (pos 0)) j l), modulo-lt q p (around d (residue a) (start d (getD f j (pos 0)) j + k))))
-
--- the whole product: rows over zeros, reduced
-pub product-done : (q d : ℕ) (f : List ℤ) (g : List ℕ) → 0 < q → 0 < d → d ≤ 64 → q < 2 ^ 32 → ((j : ℕ) → j < d → natAbs (getD f j (pos 0)) ≤ limit)
-    → reducedSums q d (addRows d f (extension q d g) d (replicate 64 0)) ≡ padded d (reduced q d (product d (signed f) (residue g)))
-unfolding reducedSums reduced
-product-done q d f g p pd h w small = ap (padded d) (tabulate-ext d (λ k l. ap (λ y. y % q) (sum-is k l) ∙ terms-residue q d p pd g f k l))
-  where
-    none : (k : ℕ) → k < d → getD {A = ℕ} (replicate 64 0) k 0 ≡ 0
-    none k l = getD-replicate 64 k 0 0 (omega arith)
-
-    sum-is : (k : ℕ) → k < d → getD (addRows d f (extension q d g) d (replicate 64 0)) k 0 ≡ total d (term d f (extension q d g) k)
-    sum-is k l =
-        rows-at d f (extension q d g) (replicate 64 0) k l (omega (arith, none k l, terms-most q d p pd g f k l h w small)) d (Nat.le-refl d)
-        ∙ ap (λ y. y + total d (term d f (extension q d g) k)) (none k l)
-        ∙ Nat.zero-add _

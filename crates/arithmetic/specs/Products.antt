@@ -7,13 +7,13 @@
 --   addRows d f x j   the sums after the first j rows
 --   narrowed x        the numbers of x modulo 2^32, which is what a row reads of them
 --   addFour d f x j s the sums s with the four rows from row j on added
+--   elementSums ..    the sums s with the products of the first n elements of f and g added
 --   total n f         f 0 + f 1 + … + f (n − 1)
 --   term d f x k j    what row j adds to sum k
 --   reducedSums q d s the sums modulo q, an element
 --   Rows d ..         are the tables long enough
---   limit             the magnitude of a coefficient with which no sum reaches 2^64
 use mathlib.Core.List.{List, _++_, map}
-use Prim.Native.Nat.{ℕ, zero, suc, _+_, _*_, _-_, _%_, _^_, _≤_, _<_}
+use Prim.Native.Nat.{ℕ, zero, suc, _+_, _*_, _-_, _%_, _^_, _≤_}
 use lib.IntN.{ℤ, pos, negsuc, natAbs}
 use lib.ListN.{getD, drop}
 use Rattle.protocol.specs.Basic.{tabulate}
@@ -42,6 +42,10 @@ narrowed x = map (λ y. y % 2 ^ 32) x
 unfoldable pub addFour : ℕ → List ℤ → List ℕ → ℕ → List ℕ → List ℕ
 addFour d f x j s = nextRow d f x (j + 3) (nextRow d f x (j + 2) (nextRow d f x (j + 1) (nextRow d f x j s)))
 
+unfoldable pub elementSums : ℕ → ℕ → (ℕ → List ℤ) → (ℕ → List ℕ) → ℕ → List ℕ → List ℕ
+elementSums q d f g zero s = s
+elementSums q d f g (suc n) s = addRows d (f n) (extension q d (g n)) d (elementSums q d f g n s)
+
 unfoldable pub total : ℕ → (ℕ → ℕ) → ℕ
 total zero f = 0
 total (suc n) f = total n f + f n
@@ -55,9 +59,6 @@ pub record Rows (d f x s : ℕ) : Type 0 where
   pub coefficients : d ≤ f
   pub residues : 3 * d ≤ x
   pub sums : d ≤ s
-
-abbrev pub limit : ℕ
-limit = 2 ^ 26
 
 -- the first d sums, modulo q, as an element that is passed by value
 unfoldable pub reducedSums : ℕ → ℕ → List ℕ → List ℕ

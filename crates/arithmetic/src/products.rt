@@ -5,13 +5,10 @@ use crate::tests;
 ghost use mathlib.Core.Path.{_≡_};
 ghost use mathlib.Core.List.{List};
 ghost use Prim.Native.Nat.{ℕ, _+_, _*_, _%_, _^_, _<_, _≤_};
-ghost use lib.IntN.{pos, natAbs};
-ghost use lib.ListN.{length, getD};
-ghost use Rattle.protocol.specs.Element.{padded, reduced, signed, residue};
-ghost use Rattle.protocol.specs.Element as Element;
+ghost use lib.ListN.{length};
 ghost use Rattle.arithmetic.specs.Folds.{spliced};
 ghost use Rattle.arithmetic.specs.Residues.{turned};
-ghost use Rattle.arithmetic.specs.Products.{narrowed, start, addRow, addRows, addFour, Rows, limit, reducedSums};
+ghost use Rattle.arithmetic.specs.Products.{narrowed, start, addRow, addRows, addFour, Rows, reducedSums};
 
 fn wide(x: u32) -> u64
     ensures { λ r. ⌜ r ≡ x ⌝ }
@@ -226,15 +223,4 @@ pub fn reduced_sums(q: u32, d: u32, sums: &[u64]) -> [u32; 64]
         k += 1;
     }
     a
-}
-
-// f·g modulo q
-pub fn product(q: u32, d: u32, f: [i32; 64], g: [u32; 64]) -> [u32; 64]
-    ensures { λ r. ⌜ (0 < q → 0 < d → d ≤ 64 → ((j : ℕ) → j < d → natAbs (getD f j (pos 0)) ≤ limit) → r ≡ padded d (reduced q d (Element.product d (signed f) (residue g)))) ⌝ }
-{
-    let mut x = [0u64; 192];
-    extend(q, d, &g, &mut x);
-    let mut sums = [0u64; 64];
-    accumulate(d, &f, &x, &mut sums);
-    reduced_sums(q, d, &sums)
 }

@@ -20,12 +20,13 @@ use Rattle.protocol.proofs.Reading.{tabulate-ext}
 use Rattle.claims.proofs.Agreement.{Same, sum-ext, product-same}
 use Rattle.sizes.proofs.Limits.{degree-least, degree-most}
 use Rattle.arithmetic.specs.Products.{reducedSums}
+use Rattle.arithmetic.proofs.Sums.{SumIs, sum-none, sums-reduced}
 use Rattle.arithmetic.proofs.Folds.{tail-all}
 use Rattle.arithmetic.proofs.Padding.{padded-at}
 use Rattle.refusals.proofs.Given.{CommitGiven}
 use Rattle.prover.specs.Messages.{Tables}
 use Rattle.prover.specs.Sums.{innerSums, scaled}
-use Rattle.prover.proofs.Sums.{SumIs, sum-none, sum-inner, sums-reduced, most}
+use Rattle.prover.proofs.Sums.{sum-inner, most}
 
 inner-same : (d h : ℕ) → 0 < d → {m m′ G G′ : ℕ → Element} → ((i : ℕ) → i < h → Same d (m i) (m′ i)) → ((i : ℕ) → i < h → Same d (G i) (G′ i)) → (k : ℕ) → inner d h m G k ≡ inner d h m′ G′ k
 unfolding inner

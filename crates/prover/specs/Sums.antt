@@ -4,16 +4,15 @@
 --   scaled q d s a          s·a modulo q, an element that is passed by value
 --   mixed d h m G           ⟨m0 + m1, G0 + G1⟩, the halves having h elements
 use mathlib.Core.List.{List}
-use Prim.Native.Nat.{ℕ, zero, suc, _*_}
+use Prim.Native.Nat.{ℕ, _*_}
 use lib.IntN.{ℤ, pos}
 use lib.ListN.{drop}
 use Rattle.protocol.specs.Element.{Element, plus, times, reduced, padded}
 use Rattle.protocol.specs.Opening.{inner, second}
-use Rattle.arithmetic.specs.Products.{extension, addRows}
+use Rattle.arithmetic.specs.Products.{elementSums}
 
 unfoldable pub innerSums : ℕ → ℕ → List ℤ → List ℕ → ℕ → List ℕ → List ℕ
-innerSums q d m G zero s = s
-innerSums q d m G (suc n) s = addRows d (drop (n * d) m) (extension q d (drop (n * d) G)) d (innerSums q d m G n s)
+innerSums q d m G n s = elementSums q d (λ i. drop (i * d) m) (λ i. drop (i * d) G) n s
 
 unfoldable pub scaled : ℕ → ℕ → ℕ → Element → List ℕ
 scaled q d s a = padded d (reduced q d (times (pos s) a))

@@ -1,23 +1,23 @@
--- A product by the two digits of each factor's residue.
-use mathlib.Core.Path.{_≡_, refl, sym, ap, ap₂, _∙_}
+-- A product, and an inner product, by the two digits of each factor's residue.
+use mathlib.Core.Path.{_≡_, sym, ap, ap₂, _∙_}
 use mathlib.Core.List.{List}
-use Prim.Native.Nat.{ℕ, _+_, _*_, _/_, _%_, _^_, _<_, _≤_}
+use Prim.Native.Nat.{ℕ, zero, suc, _+_, _*_, _/_, _%_, _^_, _<_, _≤_}
 use native.Mathlib.Nat as Nat
 use native.Mathlib.Omega.{arith}
 use lib.IntN.{ℤ, pos, natAbs, _+ℤ_, _*ℤ_}
-use lib.ListN.{length, getD, List·getD-append}
+use lib.ListN.{getD, List·getD-append}
 use Rattle.algebra.specs.Ring as R
 use Rattle.algebra.specs.Ring.{CommRing}
 use Rattle.algebra.specs.Integers.{ofℤ}
 use Rattle.algebra.specs.Residues.{Zmod}
 use Rattle.algebra.specs.Negacyclic.{negacyclic}
-use Rattle.protocol.specs.Basic.{tabulate}
-use Rattle.protocol.specs.Element.{Element, modulo, product, plus, times, signed, residue, coefficients, paddedSigned, padded, reduced}
+use Rattle.protocol.specs.Basic.{sum, tabulate}
+use Rattle.protocol.specs.Element.{Element, modulo, product, plus, times, signed, residue, coefficients, reduced, padded, paddedSigned}
 use Rattle.protocol.proofs.Modulo.{modulo-lt, modulo-add, modulo-times}
-use Rattle.protocol.proofs.Reading.{tabulate-length, tabulate-at}
-use Rattle.claims.proofs.Readings.{read-plus, read-times, read-product, readq, readq-inj, readq-modulo, read-ext}
-use Rattle.arithmetic.specs.Products.{limit}
-use Rattle.relaxed.specs.Digits.{digit, digitsOf}
+use Rattle.protocol.proofs.Reading.{tabulate-length, tabulate-at, tabulate-ext}
+use Rattle.claims.proofs.Readings.{read-plus, read-times, read-product, readq, readq-inj, readq-modulo}
+use Rattle.protocol.specs.Opening.{inner}
+use Rattle.relaxed.specs.Digits.{digit, digitsOf, digitsIn}
 
 digits-at : (q d base : ℕ) (a : Element) (j : ℕ) → j < d → signed (digitsOf q d base a) j ≡ pos (digit q base (a j))
 unfolding signed digitsOf paddedSigned coefficients
@@ -25,14 +25,22 @@ digits-at q d base a j h =
     List·getD-append (tabulate d (λ k. pos (digit q base (a k)))) _ (pos 0) j (omega (arith, tabulate-length d (λ k. pos (digit q base (a k)))))
     ∙ tabulate-at d (λ k. pos (digit q base (a k))) (pos 0) j h
 
+-- the digits of residues
+pub residues-digits : (q d base : ℕ) (a : Element) (r : List ℕ) → r ≡ padded d (reduced q d a) → digitsIn d base r ≡ digitsOf q d base a
+unfolding digitsIn digitsOf digit coefficients padded reduced
+residues-digits q d base a r e = ap (paddedSigned d) (tabulate-ext d (λ k l. ap (λ m. pos (m / base % 65536)) (
+    ap (λ t. getD t k 0) e
+    ∙ List·getD-append (tabulate d (λ j. modulo q (a j))) _ 0 k (omega (arith, tabulate-length d (λ j. modulo q (a j))))
+    ∙ tabulate-at d (λ j. modulo q (a j)) 0 k l)))
+
 digit-most : (q base : ℕ) (z : ℤ) → digit q base z < 65536
 unfolding digit
 digit-most q base z = omega arith
 
--- small enough for a product
-pub digits-small : (q d base : ℕ) (a : Element) (l : List ℤ) → l ≡ digitsOf q d base a → (j : ℕ) → j < d → natAbs (getD l j (pos 0)) ≤ limit
+-- small enough for sums over all elements
+pub digits-small : (q d base : ℕ) (a : Element) (j : ℕ) → j < d → natAbs (getD (digitsOf q d base a) j (pos 0)) ≤ 2 ^ 16
 unfolding signed
-digits-small q d base a l e j h = omega (arith, ap (λ m. natAbs (getD m j (pos 0))) e ∙ ap natAbs (digits-at q d base a j h), digit-most q base (a j))
+digits-small q d base a j h = omega (arith, ap natAbs (digits-at q d base a j h), digit-most q base (a j))
 
 module _ (q d : ℕ) (p : 0 < q) (most : q ≤ 2147483647) (pd : 0 < d) where
   digits-sum : (z : ℤ) → digit q 1 z + 65536 * digit q 65536 z ≡ modulo q z
@@ -68,7 +76,7 @@ module _ (q d : ℕ) (p : 0 < q) (most : q ≤ 2147483647) (pd : 0 < d) where
         ∙ ap₂ (Q .add) (sym (read-product (Zmod q p) d pd low g)) (Q .mul-assoc (ofℤ Q (pos 65536)) (rd high) (rd g) ∙ ap (Q .mul (ofℤ Q (pos 65536))) (sym (read-product (Zmod q p) d pd high g)) ∙ sym (read-times (Zmod q p) d pd (pos 65536) (product d high g)))
         ∙ sym (read-plus (Zmod q p) d pd (product d low g) (times (pos 65536) (product d high g)))
 
-    pub product-split : (k : ℕ) → k < d → modulo q (product d a g k) ≡ (modulo q (product d low g k) + 65536 * modulo q (product d high g k)) % q
+    product-split : (k : ℕ) → k < d → modulo q (product d a g k) ≡ (modulo q (product d low g k) + 65536 * modulo q (product d high g k)) % q
     unfolding plus times
     product-split k h =
         readq-inj q p d pd (product d a g) (plus (product d low g) (times (pos 65536) (product d high g))) products k h
@@ -76,20 +84,30 @@ module _ (q d : ℕ) (p : 0 < q) (most : q ≤ 2147483647) (pd : 0 < d) where
         ∙ ap (λ y. (modulo q (product d low g k) + y) % q) (modulo-times q p 65536 (product d high g k))
         ∙ Nat.add-mod-mod (modulo q (product d low g k)) (65536 * modulo q (product d high g k)) q
 
-    -- added to a number
-    pub added-split : (s k x y : ℕ) → k < d → x ≡ modulo q (product d low g k) → y ≡ modulo q (product d high g k) → (s + x + 65536 * y) % q ≡ modulo q (pos s +ℤ product d a g k)
-    added-split s k x y h ex ey =
-        ap (λ z. z % q) (Nat.add-assoc s x (65536 * y))
-        ∙ sym (Nat.mod-add-mod s q (x + 65536 * y))
-        ∙ sym (Nat.add-mod-mod (s % q) (x + 65536 * y) q)
-        ∙ (λ i. (s % q + (ex i + 65536 * ey i) % q) % q)
-        ∙ ap (λ z. (s % q + z) % q) (sym (product-split k h))
-        ∙ sym (unfold modulo in modulo-add q p (pos s) (product d a g k))
+  -- a sum of two pairs of digits
+  pairs-sum : (a b a′ b′ : ℕ) → ((a + 65536 * b) % q + (a′ + 65536 * b′) % q) % q ≡ ((a + a′) % q + 65536 * ((b + b′) % q)) % q
+  unfolding modulo
+  pairs-sum a b a′ b′ =
+      sym (Nat.add-mod (a + 65536 * b) (a′ + 65536 * b′) q)
+      ∙ ap (λ x. x % q) {x = a + 65536 * b + (a′ + 65536 * b′)} {y = a + a′ + 65536 * (b + b′)} (omega arith)
+      ∙ Nat.add-mod (a + a′) (65536 * (b + b′)) q
+      ∙ ap (λ x. ((a + a′) % q + x) % q) (modulo-times q p 65536 (pos (b + b′)))
+      ∙ Nat.add-mod-mod ((a + a′) % q) (65536 * ((b + b′) % q)) q
 
--- a product of `products::product`, read at a place
-pub padded-at : (q d : ℕ) (a : Element) (l : List ℕ) → l ≡ padded d (reduced q d a) → (k : ℕ) → k < d → getD l k 0 ≡ modulo q (a k)
-unfolding padded reduced
-padded-at q d a l e k h =
-    ap (λ m. getD m k 0) e
-    ∙ List·getD-append (tabulate d (λ j. modulo q (a j))) _ 0 k (omega (arith, tabulate-length d (λ j. modulo q (a j))))
-    ∙ tabulate-at d (λ j. modulo q (a j)) 0 k h
+  -- the inner product of the elements a and g by the inner products of their digits
+  module _ (a g : ℕ → Element) (k : ℕ) (h : k < d) where
+    abbrev part : ℕ → ℕ → ℤ
+    part base n = inner d n (λ i. signed (digitsOf q d base (a i))) g k
+
+    none : modulo q (pos 0) ≡ 0
+    unfolding modulo
+    none = Nat.zero-mod q
+
+    pub inner-split : (n : ℕ) → modulo q (inner d n a g k) ≡ (modulo q (part 1 n) + 65536 * modulo q (part 65536 n)) % q
+    unfolding inner sum
+    inner-split zero = none ∙ sym (ap (λ x. (x + 65536 * x) % q) none ∙ Nat.zero-mod q)
+    inner-split (suc n) =
+        modulo-add q p (inner d n a g k) (product d (a n) (g n) k)
+        ∙ (λ i. (inner-split n i + product-split (a n) (g n) k h i) % q)
+        ∙ pairs-sum _ _ _ _
+        ∙ sym (λ i. (modulo-add q p (part 1 n) (product d (signed (digitsOf q d 1 (a n))) (g n) k) i + 65536 * modulo-add q p (part 65536 n) (product d (signed (digitsOf q d 65536 (a n))) (g n) k) i) % q)

@@ -1,92 +1,96 @@
--- The sum of the products of the elements of w and of the key, element by element.
-use mathlib.Core.Path.{_≡_, refl, sym, ap, _∙_}
-use mathlib.Core.List.{List, _++_}
-use Prim.Native.Nat.{ℕ, zero, suc, _+_, _*_, _-_, _%_, _^_, _<_, _≤_}
+-- The sums of the digits of w times the key, element by element, and what both sums are when they are joined.
+use mathlib.Core.Path.{_≡_, sym, ap, _∙_}
+use mathlib.Core.List.{List}
+use Prim.Native.Nat.{ℕ, _+_, _*_, _-_, _%_, _^_, _<_, _≤_}
 use native.Mathlib.Nat as Nat
-use native.Mathlib.Decide.{decLt}
-use native.Mathlib.Numerals.{add-one}
+use lib.Pow as Pow
 use native.Mathlib.Omega.{arith}
-use lib.IntN.{ℤ, pos, _+ℤ_}
-use lib.ListN.{length, getD, take, drop, replicate, length-take, length-drop, List·getD-append}
-use lib.Seq.{ext-getD, getD-take, getD-drop}
+use lib.IntN.{ℤ, pos, +ℤ-idl}
+use lib.ListN.{length, getD, take, drop, length-drop}
 use Rattle.protocol.specs.declared.Settings.{Settings}
-use Rattle.protocol.specs.Basic.{sum, tabulate}
-use Rattle.protocol.specs.Element.{Element, modulo, product, signed, residue, signedAt, residueAt, zeros, padded}
-use Rattle.protocol.specs.Settings.{size}
+use Rattle.protocol.specs.Basic.{tabulate}
+use Rattle.protocol.specs.Element.{modulo, signed, residue, signedAt, residueAt, reduced, zeros, padded}
+use Rattle.protocol.specs.Settings.{settingsRefusal, size, cells}
 use Rattle.protocol.specs.Opening.{inner, left}
-use Rattle.protocol.proofs.Modulo.{modulo-add, modulo-lt}
-use Rattle.protocol.proofs.Reading.{tabulate-length, tabulate-at, tabulate-ext}
-use Rattle.arithmetic.specs.Elements.{elementAt}
-use Rattle.arithmetic.proofs.Fill.{filled, filled-at, filled-again, filled-behind, filled-length, zeros-length, element-done}
-use Rattle.claims.proofs.Readings.{modulo-residue}
-use Rattle.relaxed.specs.Digits.{productAdded}
-use Rattle.relaxed.proofs.Products.{product-ext}
+use Rattle.protocol.proofs.Inputs.{settings-valid}
+use Rattle.protocol.proofs.Reading.{tabulate-ext}
+use Rattle.arithmetic.specs.Folds.{spliced}
+use Rattle.arithmetic.specs.Residues.{turned}
+use Rattle.arithmetic.specs.Products.{extension, narrowed, addRows}
+use Rattle.arithmetic.proofs.Extension.{extension-rows}
+use Rattle.arithmetic.proofs.Folds.{tail-all, row-inside}
+use Rattle.arithmetic.proofs.Sums.{sum-none, elements-none, elements-more, sum-elements, signed-places, residue-places}
+use Rattle.sizes.proofs.Limits.{degree-least, degree-most}
+use Rattle.relaxed.specs.Digits.{digitsOf, digitsIn, digitSums, joinedSums, Numbers, Elements}
+use Rattle.relaxed.proofs.Split.{residues-digits, digits-small, inner-split}
 
 -- the elements of a table are as many as were left before the first round
 pub left-none : (S : Settings) → left S 0 ≡ size S
 unfolding left
 left-none S = Nat.div-one (size S)
 
--- what the sums are after i elements
-abbrev pub sums : ℕ → ℕ → ℕ → List ℕ → List ℤ → ℕ → ℕ
-sums q d i key w k = modulo q (inner d i (signedAt d w) (residueAt d key) k)
+-- what the settings say of the tables
+pub settings-elements : (S : Settings) (n : ℕ) (key : List ℕ) (w : List ℤ) → settingsRefusal S ≡ 0 → n ≡ size S → length key ≡ cells S → length w ≡ cells S → Elements (S .modulus) (S .degree) n key w
+unfolding cells size
+settings-elements S n key w e is key-is w-is =
+    let ok = settings-valid S e in
+    let all = ap (λ m. m * S .degree) is in
+    record {
+      modulus = omega (arith, ok .modulus-least);
+      modulus-most = ok .modulus-most;
+      degree = omega (arith, degree-least S ok);
+      degree-most = degree-most S ok;
+      elements = omega (arith, is, Pow.pow-mono {j = 8} (ok .depth-most));
+      key-long = omega (arith, all, key-is);
+      long = omega (arith, all, w-is);
+    }
 
-zeros-at : (n k : ℕ) → getD (zeros n) k 0 ≡ 0
-unfolding zeros
-zeros-at zero k = refl
-zeros-at (suc n) zero = refl
-zeros-at (suc n) (suc k) = zeros-at n k
+-- ---- the loop over the elements
 
-pub sums-none : (q d : ℕ) (key : List ℕ) (w : List ℤ) → d ≤ 64 → zeros 64 ≡ filled (sums q d 0 key w) d (zeros 64)
-sums-none q d key w h = ext-getD 0 (zeros 64) _ (sym (filled-length (sums q d 0 key w) d (zeros 64) (omega (arith, zeros-length 64)))) (λ k _. same k)
-  where
-    nothing : (k : ℕ) → sums q d 0 key w k ≡ 0
-    nothing k = unfold inner sum modulo in Nat.zero-mod q
+pub digits-none : (q d base : ℕ) (w : List ℤ) (G s : List ℕ) → s ≡ digitSums q d base w G 0 s
+unfolding digitSums
+digits-none q d base w G s = elements-none q d _ _ s
 
-    same : (k : ℕ) → getD (zeros 64) k 0 ≡ getD (filled (sums q d 0 key w) d (zeros 64)) k 0
-    same k = elim (decLt k d) [
-      | yes l ↦ zeros-at 64 k ∙ sym (filled-at (sums q d 0 key w) d (zeros 64) 0 k l ∙ nothing k)
-      | no g ↦ sym (filled-behind (sums q d 0 key w) d (zeros 64) 0 k (omega arith))
-    ]
+-- element i, as a part
+part-long {ℓ} : {A : Type ℓ} (d i : ℕ) (l : List A) → i * d + d ≤ length l → d ≤ length (take (length l - i * d) (drop (i * d) l))
+part-long d i l h = omega (arith, ap length (tail-all (i * d) l), length-drop (i * d) l)
 
-module _ (q d : ℕ) (p : 0 < q) (pd : 0 < d) (key : List ℕ) (w : List ℤ) (i : ℕ) where
-  next-product : (k : ℕ) → inner d i (signedAt d w) (residueAt d key) k +ℤ product d (signedAt d w i) (residueAt d key i) k ≡ inner d (i + 1) (signedAt d w) (residueAt d key) k
-  unfolding inner sum
-  next-product k = ap (λ n. inner d n (signedAt d w) (residueAt d key) k) (sym (add-one i))
+module _ (q d n : ℕ) (G : List ℕ) (w : List ℤ) (E : Elements q d n G w) (i : ℕ) (l : i < n) where
+  pub key-part : d ≤ length (take (length G - i * d) (drop (i * d) G))
+  key-part = part-long d i G (omega (arith, E .key-long, row-inside d n i l))
 
-  -- a residue may stand for its number
-  reduced-twice : (z y : ℤ) → modulo q (pos (modulo q z) +ℤ y) ≡ modulo q (z +ℤ y)
-  reduced-twice z y = modulo-add q p (pos (modulo q z)) y ∙ ap (λ m. (m + modulo q y) % q) (modulo-residue q p (modulo q z) (modulo-lt q p z)) ∙ sym (modulo-add q p z y)
+  pub part-numbers : Numbers q d (take (length w - i * d) (drop (i * d) w))
+  part-numbers = record {
+    modulus = E .modulus;
+    modulus-most = E .modulus-most;
+    degree = E .degree;
+    degree-most = E .degree-most;
+    long = part-long d i w (omega (arith, E .long, row-inside d n i l));
+  }
 
-  pub sums-next : (a : List ℤ) (g s : List ℕ) → ((j : ℕ) → j < d → signed a j ≡ signedAt d w i j) → ((j : ℕ) → j < d → residue g j ≡ residueAt d key i j)
-      → s ≡ filled (sums q d i key w) d (zeros 64) → productAdded q d (signed a) (residue g) s ≡ filled (sums q d (i + 1) key w) d (zeros 64)
-  unfolding productAdded residue
-  sums-next a g s ea eg e =
-      ap (λ t. t ++ drop d s) (tabulate-ext d each)
-      ∙ ap (λ x. tabulate d (sums q d (i + 1) key w) ++ drop d x) e
-      ∙ unfold filled in filled-again (sums q d i key w) (sums q d (i + 1) key w) d (zeros 64)
-    where
-      each : (k : ℕ) → k < d → modulo q (pos (getD s k 0) +ℤ product d (signed a) (residue g) k) ≡ sums q d (i + 1) key w k
-      each k l =
-          (λ j. modulo q (pos ((ap (λ t. getD t k 0) e ∙ filled-at (sums q d i key w) d (zeros 64) 0 k l) j) +ℤ product-ext d k pd ea eg j))
-          ∙ reduced-twice (inner d i (signedAt d w) (residueAt d key) k) (product d (signedAt d w i) (residueAt d key i) k)
-          ∙ ap (modulo q) (next-product k)
+-- a turn: x has the extension of element i of the key at its front, r are the residues of element i of w
+module _ (q d : ℕ) (p : 0 < q) (few : q ≤ 2147483647) (pd : 0 < d) (w : List ℤ) (G : List ℕ) (i : ℕ) (x₀ x : List ℕ) (e : x ≡ spliced (turned q d (take (length G - i * d) (drop (i * d) G))) 0 (3 * d) x₀) where
+  pub digits-more : (r : List ℕ) → r ≡ padded d (reduced q d (signed (take (length w - i * d) (drop (i * d) w)))) → (base : ℕ) (s₀ s s′ : List ℕ) → s ≡ digitSums q d base w G i s₀
+      → s′ ≡ addRows d (digitsIn d base r) (narrowed x) d s → s′ ≡ digitSums q d base w G (i + 1) s₀
+  unfolding digitSums
+  digits-more r is base s₀ s s′ before now =
+      now
+      ∙ extension-rows q d p pd (take (length G - i * d) (drop (i * d) G)) (omega arith) x₀ x e _ s
+      ∙ elements-more q d _ _ s₀ i _ _ s (residues-digits q d base _ r is ∙ ap (λ l. digitsOf q d base (signed l)) (tail-all (i * d) w)) (ap (extension q d) (tail-all (i * d) G)) before
 
--- element i of the key, by value
-pub element-is : (d i : ℕ) (key g : List ℕ) → g ≡ elementAt d key i → (j : ℕ) → j < d → residue g j ≡ residueAt d key i j
-unfolding residue residueAt elementAt padded
-element-is d i key g e j h =
-    ap (λ l. pos (getD l j 0)) e
-    ∙ ap pos (List·getD-append (tabulate d (λ k. getD key (i * d + k) 0)) _ 0 j (omega (arith, tabulate-length d (λ k. getD key (i * d + k) 0))) ∙ tabulate-at d (λ k. getD key (i * d + k) 0) 0 j h)
+-- ---- the sums behind the loop
 
--- element i of w, as a part
-pub part-is : (d i : ℕ) (w : List ℤ) → i * d + d ≤ length w → (j : ℕ) → j < d → signed (take (length w - i * d) (drop (i * d) w)) j ≡ signedAt d w i j
-unfolding signed signedAt
-part-is d i w h j l = getD-take (length w - i * d) (drop (i * d) w) j (pos 0) (omega arith) ∙ getD-drop (i * d) w j (pos 0)
+module _ (q d n : ℕ) (G : List ℕ) (w : List ℤ) (E : Elements q d n G w) where
+  digit-sum : (base k : ℕ) → k < d
+      → getD (digitSums q d base w G n (zeros 64)) k 0 % q ≡ modulo q (inner d n (λ i. signed (digitsOf q d base (signed (drop (i * d) w)))) (λ i. residue (drop (i * d) G)) k)
+  unfolding digitSums
+  digit-sum base k l =
+      sum-elements (2 ^ 16) q d (E .modulus) (omega (arith, E .modulus-most)) (E .degree) (E .degree-most) k l _ _ n (zeros 64) 0 (pos 0) (λ i _. digits-small q d base (signed (drop (i * d) w))) (omega (arith, E .elements)) (sum-none q k) .value
+      ∙ ap (modulo q) (+ℤ-idl _)
 
-pub part-long : (d i : ℕ) (w : List ℤ) → i * d + d ≤ length w → d ≤ length (take (length w - i * d) (drop (i * d) w))
-part-long d i w h = simp (length-take, length-drop) (omega arith)
-
--- the sums as an element
-pub sums-done : (q d n : ℕ) (key : List ℕ) (w : List ℤ) (s : List ℕ) → s ≡ filled (sums q d n key w) d (zeros 64) → s ≡ padded d (tabulate d (sums q d n key w))
-sums-done q d n key w s e = element-done (sums q d n key w) d d s e refl
+  pub sums-joined : joinedSums q d (digitSums q d 1 w G n (zeros 64)) (digitSums q d 65536 w G n (zeros 64)) ≡ padded d (tabulate d (λ k. modulo q (inner d n (signedAt d w) (residueAt d G) k)))
+  unfolding joinedSums
+  sums-joined = ap (padded d) (tabulate-ext d (λ k l.
+      (λ i. (digit-sum 1 k l i + 65536 * digit-sum 65536 k l i) % q)
+      ∙ sym (inner-split q d (E .modulus) (E .modulus-most) (E .degree) (λ i. signed (drop (i * d) w)) (λ i. residue (drop (i * d) G)) k l n)
+      ∙ (λ i. modulo q (inner d n (signed-places d w i) (residue-places d G i) k))))

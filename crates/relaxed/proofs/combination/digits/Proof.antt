@@ -1,37 +1,36 @@
 -- The loop keeps: the first k digits stand.
-use mathlib.Core.Path.{_≡_, sym, ap, _∙_}
-use Prim.Native.Nat.{ℕ, _+_, _*_, _-_, _^_, _<_, _≤_}
+use mathlib.Core.Path.{_≡_, _∙_}
+use Prim.Native.Nat.{_-_, _/_, _%_, _≤_}
 use native.Mathlib.Omega.{arith}
 use borrow.Author.Needs.{needs}
 use lib.IntN.{pos}
-use lib.ListN.{length}
-use mir.Facts.{toZ-ofZ}
-use Rattle.protocol.specs.Element.{signed, signedZeros, coefficients}
+use lib.ListN.{getD}
+use mir.Syntax.{w32}
+use Rattle.protocol.specs.Element.{signedZeros, coefficients}
 use Rattle.arithmetic.proofs.Fill.{filled}
 use Rattle.arithmetic.proofs.Magnitude.{through-bits}
 use Rattle.arithmetic.proofs.SignedFill.{signed-fill-none, signed-fill-more, signed-element-done}
-use mir.Syntax.{w32, w64}
-use Rattle.relaxed.specs.Digits.{digit, digitsOf}
+use Rattle.relaxed.specs.Digits.{digitsIn}
 use Rattle.relaxed.proofs.combination.digits.Statement.{statement}
 use Rattle.relaxed.proofs.combination.digits.Tie as tie
 
 abbrev Inv-loop : tie.InvT-loop
-Inv-loop q d base w f₀ k₀ f k = (k ≤ d) × (f ≡ filled (λ j. pos (digit q base (signed w j))) k (signedZeros 64))
+Inv-loop d base r f₀ k₀ f k = (k ≤ d) × (f ≡ filled (λ j. pos (getD r j 0 / base % 65536)) k (signedZeros 64))
 
 abbrev μ-loop : tie.MeasureT-loop
-μ-loop q d base w f₀ k₀ f k = d - k
+μ-loop d base r f₀ k₀ f k = d - k
 
 loop-holds : tie.Need-loop-holds Inv-loop μ-loop
-loop-holds c = (omega arith, signed-fill-none 64 (λ j. pos (digit (c .args .q) (c .args .base) (signed (c .args .w .now) j))))
+loop-holds c = (omega arith, signed-fill-none 64 _)
 
 mul-digit-of : tie.Need-mul-digit-of Inv-loop μ-loop
 mul-digit-of c = search needs
 
-shared-slice-copy-out-digit-of : tie.Need-shared-slice-copy-out-digit-of Inv-loop μ-loop
-shared-slice-copy-out-digit-of c = search needs
+shared-slice-read-digit-of : tie.Need-shared-slice-read-digit-of Inv-loop μ-loop
+shared-slice-read-digit-of c = search needs
 
 digit-of-requires : tie.Need-digit-of-requires Inv-loop μ-loop
-digit-of-requires c κs = let p = c .before .before .before .pre in (p .0 .modulus, p .1)
+digit-of-requires c κs = search needs
 
 mul-f : tie.Need-mul-f Inv-loop μ-loop
 mul-f c = search needs
@@ -46,16 +45,14 @@ loop-less : tie.Need-loop-less Inv-loop μ-loop
 loop-less c = search needs
 
 loop-again : tie.Need-loop-again Inv-loop μ-loop
-unfolding signed
 loop-again c =
-    let g = c .before .before .before .before in let l = c .before .before .before .loop in let a = g .args in (
+    let g = c .before .before .before .before .before in let l = c .before .before .before .loop in let a = g .args in (
       omega arith,
-      signed-fill-more 64 (λ j. pos (digit (a .q) (a .base) (signed (a .w .now) j))) (l .k) _ (l .f) (l .inv .1) (omega (arith, g .pre .0 .degree-most))
-          (through-bits w32 (c .digit-of .result) (c .digit-of .ok) ∙ c .digit-of .ensures ∙ ap (λ z. pos (digit (a .q) (a .base) z)) (through-bits w64 _ (c .before .digit-of-arg .given))),
+      signed-fill-more 64 (λ j. pos (getD (a .r .now) j 0 / a .base % 65536)) (l .k) _ (l .f) (l .inv .1) (omega arith) (through-bits w32 (c .digit-of .result) (c .digit-of .ok) ∙ c .digit-of .ensures),
     )
 
 returns : tie.Need-returns Inv-loop μ-loop
-unfolding digitsOf coefficients
+unfolding digitsIn coefficients
 returns c = signed-element-done _ _ _ _ (c .before .loop .inv .1) (omega arith)
 
 pub digits-spec : {M : Type 1} → statement M
@@ -66,7 +63,7 @@ digits-spec =
     μ-loop
     loop-holds
     mul-digit-of
-    shared-slice-copy-out-digit-of
+    shared-slice-read-digit-of
     digit-of-requires
     mul-f
     array-set-from-f

@@ -1,0 +1,73 @@
+-- The loop keeps: the places below k are filled, the others 0.
+use mathlib.Core.Path.{_≡_}
+use Prim.Native.Nat.{_+_, _*_, _-_, _%_, _≤_}
+use native.Mathlib.Omega.{arith}
+use borrow.Author.Needs.{needs}
+use lib.ListN.{getD}
+use Rattle.protocol.specs.Element.{zeros}
+use Rattle.arithmetic.proofs.Fill.{filled, fill-none, fill-more, element-done}
+use Rattle.relaxed.specs.Digits.{joinedSums}
+use Rattle.relaxed.proofs.combination.joined_sums.Statement.{statement}
+use Rattle.relaxed.proofs.combination.joined_sums.Tie as tie
+
+abbrev Inv-loop : tie.InvT-loop
+Inv-loop q d low high r₀ k₀ r k = (k ≤ d) × (r ≡ filled (λ j. (getD low j 0 % q + 65536 * (getD high j 0 % q)) % q) k (zeros 64))
+
+abbrev μ-loop : tie.MeasureT-loop
+μ-loop q d low high r₀ k₀ r k = d - k
+
+loop-holds : tie.Need-loop-holds Inv-loop μ-loop
+loop-holds c = (omega arith, fill-none _ _)
+
+mul-joined : tie.Need-mul-joined Inv-loop μ-loop
+mul-joined c = search needs
+
+shared-slice-read-joined : tie.Need-shared-slice-read-joined Inv-loop μ-loop
+shared-slice-read-joined c = search needs
+
+mul-joined-2 : tie.Need-mul-joined-2 Inv-loop μ-loop
+mul-joined-2 c = search needs
+
+shared-slice-read-joined-2 : tie.Need-shared-slice-read-joined-2 Inv-loop μ-loop
+shared-slice-read-joined-2 c = search needs
+
+joined-requires : tie.Need-joined-requires Inv-loop μ-loop
+joined-requires c κs = search needs
+
+mul-r : tie.Need-mul-r Inv-loop μ-loop
+mul-r c = search needs
+
+array-write-r : tie.Need-array-write-r Inv-loop μ-loop
+array-write-r c = search needs
+
+add-k : tie.Need-add-k Inv-loop μ-loop
+add-k c = search needs
+
+loop-less : tie.Need-loop-less Inv-loop μ-loop
+loop-less c = search needs
+
+loop-again : tie.Need-loop-again Inv-loop μ-loop
+loop-again c = let l = c .before .before .before .before .loop in (omega arith, fill-more 64 _ (l .k) _ (l .r) (l .inv .1) (omega arith) (c .joined .ensures))
+
+returns : tie.Need-returns Inv-loop μ-loop
+unfolding joinedSums
+returns c = let l = c .before .loop in element-done _ (l .k) _ (l .r) (l .inv .1) (omega arith)
+
+pub joined-sums-spec : {M : Type 1} → statement M
+joined-sums-spec =
+    tie.close
+    (tie.spec
+    Inv-loop
+    μ-loop
+    loop-holds
+    mul-joined
+    shared-slice-read-joined
+    mul-joined-2
+    shared-slice-read-joined-2
+    joined-requires
+    mul-r
+    array-write-r
+    add-k
+    loop-less
+    loop-again
+    returns)
