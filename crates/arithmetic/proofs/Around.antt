@@ -5,7 +5,7 @@ use native.Mathlib.Nat as Nat
 use native.Mathlib.Decide.{decLt}
 use native.Mathlib.Numerals.{add-one}
 use native.Mathlib.Omega.{arith}
-use lib.IntN.{ℤ, negℤ, negℤ-negℤ}
+use lib.IntN.{negℤ, negℤ-negℤ}
 use Rattle.protocol.specs.Element.{Element, flips, around, rotate}
 
 module _ (d : ℕ) (a : Element) (y : ℕ) where
@@ -32,11 +32,6 @@ module _ (d : ℕ) (a : Element) (y : ℕ) where
 pub around-ext : (d : ℕ) {a b : Element} (y : ℕ) → 0 < d → ((k : ℕ) → k < d → a k ≡ b k) → around d a y ≡ around d b y
 unfolding around
 around-ext d y p h = ap (flips (y / d)) (h (y % d) (Nat.mod-lt y p))
-
--- a rotation, as the code counts its places back
-pub rotate-back : (d e : ℕ) (a : Element) (k : ℕ) → around d a (k + (d + d - e % (d + d))) ≡ rotate d e a k
-unfolding rotate
-rotate-back d e a k = ap (λ n. around d a (k + (n - e % n))) (omega arith)
 
 -- one round on, the sign changes
 pub around-next : (d : ℕ) (a : Element) (y : ℕ) → 0 < d → around d a (y + d) ≡ negℤ (around d a y)

@@ -7,7 +7,7 @@ use native.Mathlib.Omega.{arith}
 use lib.IntN.{pos}
 use lib.ListN.{length, getD, List·getD-append}
 use Rattle.protocol.specs.Basic.{tabulate}
-use Rattle.protocol.specs.Element.{Element, padded, reduced, residue, residueAt}
+use Rattle.protocol.specs.Element.{padded, residue, residueAt}
 use Rattle.protocol.proofs.Reading.{tabulate-at, tabulate-length, tabulate-ext}
 use Rattle.arithmetic.specs.Elements.{elementAt}
 

@@ -17,7 +17,7 @@ use Rattle.protocol.proofs.Modulo.{modulo-lt, modulo-add, modulo-times}
 use Rattle.protocol.proofs.Reading.{tabulate-at, tabulate-length, tabulate-ext}
 use Rattle.arithmetic.specs.Products.{extension, narrowed, start, addRow, nextRow, addRows, addFour, total, term}
 use Rattle.arithmetic.proofs.Around.{around-next, rotate-at}
-use Rattle.arithmetic.proofs.Fill.{filled, filled-more, filled-behind, filled-length, filled-ext, filled-at, filled-turn, filled-again, zeros-at}
+use Rattle.arithmetic.proofs.Fill.{filled, filled-more, filled-behind, filled-ext, filled-at, filled-turn, filled-again, zeros-at}
 
 -- ---- where a row begins
 
@@ -49,9 +49,6 @@ row-turn m at x s₀ s k v e h w =
 pub row-done : (d m at : ℕ) (x s₀ : List ℕ) → filled (rowCell m at x s₀) d s₀ ≡ addRow d m at x s₀
 unfolding filled addRow
 row-done d m at x s₀ = refl
-
-pub row-length : (d m at : ℕ) (x s : List ℕ) → d ≤ length s → length (addRow d m at x s) ≡ length s
-row-length d m at x s h = ap length (sym (row-done d m at x s)) ∙ filled-length (rowCell m at x s) d s h
 
 pub row-at : (d m at : ℕ) (x s : List ℕ) (k : ℕ) → k < d → getD (addRow d m at x s) k 0 ≡ rowCell m at x s k
 unfolding addRow

@@ -1,16 +1,15 @@
 -- The laws of Fill over zeros that are whole numbers: elements of whole numbers that are passed by value.
 use mathlib.Core.Path.{_≡_, refl, sym, ap, _∙_}
 use mathlib.Core.List.{List, _++_}
-use Prim.Native.Nat.{ℕ, zero, suc, _+_, _-_, _<_, _≤_}
+use Prim.Native.Nat.{ℕ, zero, suc, _+_, _-_, _<_}
 use native.Mathlib.Nat as Nat
-use native.Mathlib.Decide.{decLt}
 use native.Mathlib.Omega.{arith}
 use lib.Seq.{ext-getD}
 use lib.IntN.{ℤ, pos}
 use lib.ListN.{length, getD, drop, set, replicate, length-replicate}
 use Rattle.protocol.specs.Basic.{tabulate}
 use Rattle.protocol.specs.Element.{width, signedZeros, paddedSigned}
-use Rattle.arithmetic.proofs.Fill.{filled, filled-none, filled-more, filled-at, filled-behind, filled-length}
+use Rattle.arithmetic.proofs.Fill.{filled, filled-none, filled-more, filled-at, filled-length}
 
 pub signed-zeros-length : (n : ℕ) → length (signedZeros n) ≡ n
 unfolding signedZeros
@@ -43,16 +42,6 @@ pub signed-element-done : (f : ℕ → ℤ) (k d : ℕ) (a : List ℤ) → a ≡
 signed-element-done f k d a e h = e ∙ ap (λ n. filled f n (signedZeros 64)) h ∙ sym (padded-filled d f)
 
 -- ---- zeros
-
--- over zeros
-pub signed-zeros-filled : (k n : ℕ) → k ≤ n → filled (λ _. pos 0) k (signedZeros n) ≡ signedZeros n
-signed-zeros-filled k n h = ext-getD (pos 0) _ (signedZeros n) (filled-length _ k (signedZeros n) (omega (arith, signed-zeros-length n))) (λ j _. same j)
-  where
-    same : (j : ℕ) → getD (filled (λ _. pos 0) k (signedZeros n)) j (pos 0) ≡ getD (signedZeros n) j (pos 0)
-    same j = elim (decLt j k) [
-      | yes l ↦ filled-at (λ _. pos 0) k (signedZeros n) (pos 0) j l ∙ sym (signed-zeros-at n j)
-      | no g ↦ filled-behind (λ _. pos 0) k (signedZeros n) (pos 0) j (omega arith)
-    ]
 
 -- a list that is filled with zeros to its end
 pub filled-signed-zeros : (l : List ℤ) → filled (λ _. pos 0) (length l) l ≡ signedZeros (length l)

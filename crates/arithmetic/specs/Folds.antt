@@ -10,7 +10,7 @@ use Prim.Native.Nat.{ℕ, _+_, _*_, _<_, _≤_}
 use lib.ListN.{getD, take, drop}
 use lib.IntN.{ℤ, pos, _+ℤ_}
 use Rattle.protocol.specs.Basic.{tabulate, flat}
-use Rattle.protocol.specs.Element.{Element, modulo, around, rotate, residue, residueAt}
+use Rattle.protocol.specs.Element.{modulo, around, rotate, residue, residueAt}
 
 unfoldable pub spliced : (ℕ → ℕ) → ℕ → ℕ → List ℕ → List ℕ
 spliced f at n l = take at l ++ (tabulate n f ++ drop n (drop at l))

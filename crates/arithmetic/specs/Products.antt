@@ -53,7 +53,7 @@ total (suc n) f = total n f + f n
 unfoldable pub term : ℕ → List ℤ → List ℕ → ℕ → ℕ → ℕ
 term d f x k j = natAbs (getD f j (pos 0)) * getD x (start d (getD f j (pos 0)) j + k) 0
 
--- f has d coefficients, x is an extension and there are d sums
+-- f has d coefficients, x begins with an extension, and there are d sums
 pub record Rows (d f x s : ℕ) : Type 0 where
   pub degree : d ≤ 64
   pub coefficients : d ≤ f

@@ -1,12 +1,12 @@
 -- A loop that fills an element by value from its place 0 on: what it holds is f up to place k, then zeros.
 use mathlib.Core.Path.{_≡_, refl, sym, ap, _∙_}
 use mathlib.Core.List.{List, _++_}
-use Prim.Native.Nat.{ℕ, zero, suc, _+_, _-_, _<_, _≤_}
+use Prim.Native.Nat.{ℕ, zero, suc, _+_, _-_, _<_}
 use native.Mathlib.Nat as Nat
 use native.Mathlib.Numerals.{add-one}
 use native.Mathlib.Omega.{arith}
 use lib.IntN.{ℤ, pos}
-use lib.ListN.{length, drop, set, replicate, length-replicate}
+use lib.ListN.{drop, set, replicate, length-replicate}
 use Rattle.protocol.specs.Basic.{tabulate}
 use Rattle.protocol.specs.Element.{width, signedZeros, paddedSigned}
 use Rattle.protocol.proofs.Reading.{store-next}

@@ -1,6 +1,6 @@
 -- One turn of a message's fold: the numbers before place p are folded, and what is read has not been written yet.
-use mathlib.Core.Path.{_≡_, refl, sym, ap, _∙_, subst}
-use mathlib.Core.List.{List, _++_}
+use mathlib.Core.Path.{_≡_, sym, ap, _∙_, subst}
+use mathlib.Core.List.{List}
 use Prim.Native.Nat.{ℕ, _+_, _*_, _-_, _/_, _%_, _^_, _<_, _≤_}
 use native.Mathlib.Nat as Nat
 use native.Mathlib.Omega.{arith}
@@ -8,11 +8,11 @@ use lib.IntN.{ℤ, pos, _+ℤ_, natAbs}
 use lib.ListN.{length, getD, take, drop, set, length-drop}
 use lib.Seq.{getD-drop}
 use Rattle.protocol.specs.Basic.{flat}
-use Rattle.protocol.specs.Element.{Element, rotate, signedAt}
+use Rattle.protocol.specs.Element.{rotate, signedAt}
 use Rattle.protocol.specs.Opening.{foldSigned}
 use Rattle.claims.proofs.Bounds.{rotate-bounded}
 use Rattle.claims.proofs.Agreement.{rotate-same}
-use Rattle.arithmetic.proofs.Fill.{filled, filled-none, filled-more, filled-behind, filled-length}
+use Rattle.arithmetic.proofs.Fill.{filled, filled-more, filled-behind, filled-length}
 use Rattle.arithmetic.proofs.Folds.{tail-all}
 use Rattle.prover.specs.Messages.{from, Room}
 

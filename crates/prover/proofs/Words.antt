@@ -1,6 +1,6 @@
 -- Signed numbers of 32 bits: the sign changed, and a sum, where the magnitudes leave room.
 use mathlib.Core.Path.{_≡_, sym, ap, _∙_, subst}
-use Prim.Native.Nat.{ℕ, _+_, _^_, _<_, _≤_}
+use Prim.Native.Nat.{_+_, _^_, _<_, _≤_}
 use native.Mathlib.Omega.{arith}
 use lib.IntN.{ℤ, pos, negℤ, _+ℤ_, _-ℤ_, natAbs, +ℤ-idl}
 use mir.Syntax.{w32}

@@ -12,7 +12,7 @@ use Rattle.algebra.specs.Integers.{ofℤ}
 use Rattle.algebra.specs.Residues.{Zmod}
 use Rattle.algebra.specs.Negacyclic.{negacyclic}
 use Rattle.protocol.specs.Basic.{sum, tabulate}
-use Rattle.protocol.specs.Element.{Element, modulo, product, plus, times, signed, residue, coefficients, reduced, padded, paddedSigned}
+use Rattle.protocol.specs.Element.{Element, modulo, product, plus, times, signed, coefficients, reduced, padded, paddedSigned}
 use Rattle.protocol.proofs.Modulo.{modulo-lt, modulo-add, modulo-times}
 use Rattle.protocol.proofs.Reading.{tabulate-length, tabulate-at, tabulate-ext}
 use Rattle.claims.proofs.Readings.{read-plus, read-times, read-product, readq, readq-inj, readq-modulo}

@@ -12,12 +12,6 @@ use Rattle.prover.proofs.Answers.{commit-refused, commit-done}
 use borrow.Author.Needs.{needs}
 use Rattle.prover.proofs.commit.Statement.{statement}
 use Rattle.prover.proofs.commit.Tie as tie
-use Rattle.prover.proofs.commit.Reads as reads
-use Rattle.prover.proofs.commit.Lts as lts
-use Rattle.arithmetic.proofs.products.reduced_sums.Reads as reduced-sums-reads
-use Rattle.prover.proofs.inner.add_inner.Reads as add-inner-reads
-use Rattle.refusals.proofs.commit.Reads as commit-reads
-use Rattle.sizes.proofs.left.Reads as left-reads
 
 passed : (c : tie.Else1) → let a = c .before .before .before .args in commitRefusal (a .settings) (a .key .now) (a .message .now) ≡ 0
 passed c = sym (c .before .commit .ensures) ∙ c .if1 .left

@@ -1,5 +1,4 @@
 use mathlib.Core.Path.{_≡_, sym, ap, _∙_}
-use Prim.Native.Nat.{_*_}
 use native.Mathlib.Omega.{arith}
 use lib.ListN.{length}
 use Rattle.protocol.specs.Opening.{halfLeft, foldSigned, foldResidues}
@@ -12,12 +11,6 @@ use Rattle.prover.proofs.Answers.{fold-refused, fold-done}
 use borrow.Author.Needs.{needs}
 use Rattle.prover.proofs.fold.Statement.{statement}
 use Rattle.prover.proofs.fold.Tie as tie
-use Rattle.prover.proofs.fold.Reads as reads
-use Rattle.prover.proofs.fold.Lts as lts
-use Rattle.arithmetic.proofs.tables.fold_residues.Reads as fold-residues-reads
-use Rattle.prover.proofs.messages.fold_message.Reads as fold-message-reads
-use Rattle.refusals.proofs.fold.Reads as fold-reads
-use Rattle.sizes.proofs.half_left.Reads as half-left-reads
 
 passed : (c : tie.Else1) → let a = c .before .before .before .before .before .args in foldRefusal (a .settings) (a .done) (a .e) (a .key .now) (a .message .now) ≡ 0
 passed c = sym (c .before .fold .ensures) ∙ c .if1 .left

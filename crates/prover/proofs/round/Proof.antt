@@ -1,5 +1,4 @@
-use mathlib.Core.Path.{_≡_, sym, ap, _∙_}
-use Prim.Native.Nat.{_+_, _*_, _/_, _%_, _^_}
+use mathlib.Core.Path.{_≡_, sym, _∙_}
 use native.Mathlib.Omega.{arith}
 use Rattle.protocol.specs.Basic.{tabulate}
 use Rattle.protocol.specs.Element.{width, zeros, signedAt, residueAt}
@@ -13,13 +12,6 @@ use Rattle.prover.proofs.Answers.{round-refused, round-done}
 use borrow.Author.Needs.{needs}
 use Rattle.prover.proofs.round.Statement.{statement}
 use Rattle.prover.proofs.round.Tie as tie
-use Rattle.prover.proofs.round.Reads as reads
-use Rattle.prover.proofs.round.Lts as lts
-use Rattle.equations.proofs.half_power.Reads as half-power-reads
-use Rattle.prover.proofs.inner.polynomial.Reads as polynomial-reads
-use Rattle.prover.proofs.polynomial_of.Reads as polynomial-of-reads
-use Rattle.refusals.proofs.round.Reads as round-reads
-use Rattle.sizes.proofs.half_left.Reads as half-left-reads
 
 passed : (c : tie.Else1) → let a = c .before .before .before .args in roundRefusal (a .settings) (a .done) (a .key .now) (a .message .now) ≡ 0
 passed c = sym (c .before .round .ensures) ∙ c .if1 .left

@@ -1,11 +1,10 @@
 -- The quotient decides whether the product is past the limit.
-use mathlib.Core.Path.{_≡_, ap, sym}
-use Prim.Native.Nat.{_*_, _/_, _≤_, _<_}
+use mathlib.Core.Path.{ap, sym}
+use Prim.Native.Nat.{_*_, _/_, _≤_}
 use native.Mathlib.Nat as Nat
 use native.Mathlib.Omega.{arith}
 use borrow.Author.Needs.{needs}
 use borrow.Author.Tests.{le-leb, lt-leb}
-use lib.Dec.{leb}
 use Rattle.protocol.specs.Basic.{choose}
 use Rattle.protocol.specs.Tree.{growthLimit}
 use Rattle.claims.specs.GrowthTest.{cappedTimes}

@@ -1,12 +1,10 @@
 -- The loop keeps: g is the bound times the factor i times, capped.
 use mathlib.Core.Path.{_≡_, refl, sym, ap, _∙_}
-use Prim.Native.Nat.{ℕ, suc, _+_, _*_, _-_, _^_, _≤_, _<_}
+use Prim.Native.Nat.{ℕ, suc, _+_, _*_, _-_, _≤_, _<_}
 use native.Mathlib.Nat as Nat
 use native.Mathlib.Numerals.{add-one}
 use native.Mathlib.Omega.{arith}
 use borrow.Author.Needs.{needs}
-use Rattle.protocol.specs.declared.Settings.{Settings}
-use Rattle.protocol.specs.Settings.{settingsRefusal}
 use Rattle.protocol.specs.Tree.{growthFactor, growthLimit}
 use Rattle.protocol.proofs.Inputs.{settings-valid}
 use Rattle.claims.specs.GrowthTest.{cappedTimes, cappedPower, cappedGrowth}

@@ -1,6 +1,6 @@
 -- The two ends of the range.
-use mathlib.Core.Path.{_≡_, sym, ap}
-use mathlib.Core.Bool.{true, false, _&&_}
+use mathlib.Core.Path.{sym, ap}
+use mathlib.Core.Bool.{_&&_}
 use borrow.Author.Tests.{le-leb, lt-leb}
 use lib.Dec.{leb}
 use Rattle.protocol.specs.Judge.{slackAllowed}

@@ -1,10 +1,8 @@
 -- The loop keeps: the first k coefficients are in place, the others are 0.
-use mathlib.Core.Path.{_≡_, ap, _∙_}
-use Prim.Native.Nat.{ℕ, _+_, _*_, _-_, _≤_}
+use mathlib.Core.Path.{_≡_, _∙_}
+use Prim.Native.Nat.{_*_, _-_, _≤_}
 use native.Mathlib.Nat.{mul-le-mul}
 use native.Mathlib.Omega.{arith}
-use lib.IntN.{ℤ, pos}
-use lib.ListN.{getD}
 use mir.Syntax.{w32}
 use Rattle.protocol.specs.Element.{coefficients, signedAt, signedZeros}
 use Rattle.arithmetic.proofs.Fill.{filled}

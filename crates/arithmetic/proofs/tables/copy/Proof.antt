@@ -1,7 +1,7 @@
 -- The loop keeps: the first i numbers are copied, the others are as they were.
 use mathlib.Core.Path.{_≡_, refl, ap, _∙_}
 use mathlib.Core.List.{_++_}
-use Prim.Native.Nat.{ℕ, _-_, _≤_, _<_}
+use Prim.Native.Nat.{ℕ, _-_, _≤_}
 use native.Mathlib.Omega.{arith}
 use lib.ListN.{getD, length, drop, set, length-set}
 use Rattle.protocol.specs.Basic.{tabulate}

@@ -1,7 +1,4 @@
-use mathlib.Core.Path.{_≡_}
-use mathlib.Core.Bool.{true}
 use mathlib.Core.Logic.{_⊎_, inl, inr, ⊎-elim}
-use Prim.Native.Nat.{ℕ}
 use borrow.Author.Tests.{ne-eqb}
 use Rattle.protocol.specs.Basic.{among}
 use Rattle.protocol.specs.Settings.{degreeAllowed}

@@ -1,9 +1,9 @@
 use mathlib.Core.Path.{_≡_, sym, _∙_}
-use mathlib.Core.Bool.{true, false}
+use mathlib.Core.Bool.{true}
 use borrow.Author.Needs.{needs}
 use borrow.Author.Tests.{le-leb, lt-leb, not-true, not-false}
 use Rattle.protocol.specs.Basic.{first, unless}
-use Rattle.protocol.specs.Settings.{degreeAllowed, depthAllowed, modulusAllowed, boundAllowed, settingsRefusal}
+use Rattle.protocol.specs.Settings.{degreeAllowed, depthAllowed, modulusAllowed, settingsRefusal}
 use Rattle.arithmetic.proofs.tests.settings_refusal.Statement.{statement}
 use Rattle.arithmetic.proofs.tests.settings_refusal.Tie as tie
 

@@ -8,9 +8,6 @@ use Rattle.arithmetic.proofs.Fill.{filled, fill-none, fill-more, element-done}
 use borrow.Author.Needs.{needs}
 use Rattle.prover.proofs.inner.difference.Statement.{statement}
 use Rattle.prover.proofs.inner.difference.Tie as tie
-use Rattle.prover.proofs.inner.difference.Reads as reads
-use Rattle.prover.proofs.inner.difference.Lts as lts
-use Rattle.prover.proofs.inner.less.Reads as less-reads
 
 abbrev Inv-loop : tie.InvT-loop
 Inv-loop q d x a b r₀ n k₀ r k = (k ≤ d) × (r ≡ filled (λ j. (getD x j 0 + (q - getD a j 0 % q) + (q - getD b j 0 % q)) % q) k (zeros 64))

@@ -4,8 +4,6 @@ use native.Mathlib.Omega.{arith}
 use borrow.Author.Needs.{needs}
 use Rattle.prover.proofs.inner.less.Statement.{statement}
 use Rattle.prover.proofs.inner.less.Tie as tie
-use Rattle.prover.proofs.inner.less.Reads as reads
-use Rattle.prover.proofs.inner.less.Lts as lts
 
 -- src/inner.rt:82:26
 rem-result : tie.Need-rem-result

@@ -1,15 +1,10 @@
-use mathlib.Core.Path.{_≡_, _∙_}
+use mathlib.Core.Path.{_∙_}
 use Rattle.protocol.specs.Element.{zeros, signedZeros}
 use Rattle.arithmetic.proofs.Fill.{filled}
 use Rattle.prover.proofs.Mixing.{message-room, key-room, half-inside, sums-tables, sums-mixed}
 use borrow.Author.Needs.{needs}
 use Rattle.prover.proofs.inner.mixed.Statement.{statement}
 use Rattle.prover.proofs.inner.mixed.Tie as tie
-use Rattle.prover.proofs.inner.mixed.Reads as reads
-use Rattle.prover.proofs.inner.mixed.Lts as lts
-use Rattle.prover.proofs.inner.straight.Reads as straight-reads
-use Rattle.prover.proofs.totals.key_sums.Reads as key-sums-reads
-use Rattle.prover.proofs.totals.message_sums.Reads as message-sums-reads
 
 -- src/inner.rt:69:16
 mul-half : tie.Need-mul-half

@@ -5,8 +5,6 @@ use Rattle.sizes.proofs.Shift.{product-fits}
 use borrow.Author.Needs.{needs}
 use Rattle.prover.proofs.inner.multiple.Statement.{statement}
 use Rattle.prover.proofs.inner.multiple.Tie as tie
-use Rattle.prover.proofs.inner.multiple.Reads as reads
-use Rattle.prover.proofs.inner.multiple.Lts as lts
 
 -- src/inner.rt:36:6
 mul-result : tie.Need-mul-result

@@ -1,4 +1,4 @@
-use mathlib.Core.Path.{_≡_, ap, _∙_}
+use mathlib.Core.Path.{ap, _∙_}
 use mathlib.Core.List.{[], _∷_}
 use Rattle.protocol.specs.Basic.{tabulate}
 use Rattle.protocol.specs.Element.{signedAt, residueAt}
@@ -8,11 +8,6 @@ use Rattle.prover.proofs.Mixing.{difference-is}
 use borrow.Author.Needs.{needs}
 use Rattle.prover.proofs.inner.polynomial.Statement.{statement}
 use Rattle.prover.proofs.inner.polynomial.Tie as tie
-use Rattle.prover.proofs.inner.polynomial.Reads as reads
-use Rattle.prover.proofs.inner.polynomial.Lts as lts
-use Rattle.prover.proofs.inner.difference.Reads as difference-reads
-use Rattle.prover.proofs.inner.mixed.Reads as mixed-reads
-use Rattle.prover.proofs.inner.straight.Reads as straight-reads
 
 -- src/inner.rt:106:16
 mul-half : tie.Need-mul-half

@@ -8,9 +8,6 @@ use Rattle.protocol.specs.Element.{zeros}
 use Rattle.arithmetic.proofs.Fill.{filled, fill-none, fill-more, element-done}
 use Rattle.prover.proofs.inner.scaled.Statement.{statement}
 use Rattle.prover.proofs.inner.scaled.Tie as tie
-use Rattle.prover.proofs.inner.scaled.Reads as reads
-use Rattle.prover.proofs.inner.scaled.Lts as lts
-use Rattle.prover.proofs.inner.multiple.Reads as multiple-reads
 
 abbrev Inv-loop : tie.InvT-loop
 Inv-loop q d s a r₀ n k₀ r k = (k ≤ d) × (r ≡ filled (λ j. s * getD a j 0 % q) k (zeros 64))

@@ -1,4 +1,4 @@
-use mathlib.Core.Path.{_≡_, ap, _∙_}
+use mathlib.Core.Path.{ap, _∙_}
 use native.Mathlib.Omega.{arith}
 use Rattle.protocol.specs.Element.{zeros, signedAt, residueAt}
 use Rattle.protocol.specs.Opening.{inner}
@@ -7,11 +7,6 @@ use Rattle.prover.proofs.Products.{inner-reduced, scaled-is}
 use borrow.Author.Needs.{needs}
 use Rattle.prover.proofs.inner.straight.Statement.{statement}
 use Rattle.prover.proofs.inner.straight.Tie as tie
-use Rattle.prover.proofs.inner.straight.Reads as reads
-use Rattle.prover.proofs.inner.straight.Lts as lts
-use Rattle.arithmetic.proofs.products.reduced_sums.Reads as reduced-sums-reads
-use Rattle.prover.proofs.inner.add_inner.Reads as add-inner-reads
-use Rattle.prover.proofs.inner.scaled.Reads as scaled-reads
 
 -- src/inner.rt:59:38
 slice-aggregate-add-inner : tie.Need-slice-aggregate-add-inner

@@ -11,8 +11,6 @@ use Rattle.arithmetic.proofs.Magnitude.{through-bits}
 use Rattle.prover.proofs.Fill.{filled, fill-start, fill-next, fill-end}
 use Rattle.prover.proofs.messages.first_element.Statement.{statement}
 use Rattle.prover.proofs.messages.first_element.Tie as tie
-use Rattle.prover.proofs.messages.first_element.Reads as reads
-use Rattle.prover.proofs.messages.first_element.Lts as lts
 
 abbrev Inv-loop : tie.InvT-loop
 Inv-loop d message a₀ k₀ a k = (k ≤ d) × (a ≡ filled (signedAt d message 0) k)

@@ -11,9 +11,6 @@ use Rattle.prover.proofs.Folding.{cell, second-long, second-room, sum-r
 use Rattle.prover.proofs.Words.{plus-fits, plus-is}
 use Rattle.prover.proofs.messages.fold_message.Statement.{statement}
 use Rattle.prover.proofs.messages.fold_message.Tie as tie
-use Rattle.prover.proofs.messages.fold_message.Reads as reads
-use Rattle.prover.proofs.messages.fold_message.Lts as lts
-use Rattle.prover.proofs.messages.rotated.Reads as rotated-reads
 
 abbrev Inv-loop : tie.InvT-loop
 Inv-loop d h e message₀ half p₀ message p = (p ≤ half) × (message ≡ filled (cell d h e message₀) p message₀) × (length message ≡ length message₀)

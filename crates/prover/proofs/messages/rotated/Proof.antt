@@ -1,16 +1,14 @@
-use mathlib.Core.Path.{_≡_, sym, ap, _∙_}
-use Prim.Native.Nat.{ℕ, _+_, _*_, _-_, _^_, _<_}
+use mathlib.Core.Path.{sym, _∙_}
+use Prim.Native.Nat.{ℕ, _+_, _-_, _^_, _<_}
 use native.Mathlib.Omega.{arith}
 use borrow.Author.Needs.{needs}
-use lib.IntN.{pos, negℤ, natAbs}
+use lib.IntN.{pos, natAbs}
 use lib.ListN.{getD}
 use Rattle.protocol.proofs.Rotation.{rotate-plus, rotate-minus, rotate-again}
 use Rattle.prover.specs.Messages.{from}
-use Rattle.prover.proofs.Words.{read, read-is, minus-fits, minus-is}
+use Rattle.prover.proofs.Words.{read-is, minus-fits, minus-is}
 use Rattle.prover.proofs.messages.rotated.Statement.{statement}
 use Rattle.prover.proofs.messages.rotated.Tie as tie
-use Rattle.prover.proofs.messages.rotated.Reads as reads
-use Rattle.prover.proofs.messages.rotated.Lts as lts
 
 -- a number of the element is small
 small : (c : tie.Start) (j : ℕ) → j < c .args .d → natAbs (getD (c .args .t .now) (c .args .row + j) (pos 0)) < 2 ^ 31

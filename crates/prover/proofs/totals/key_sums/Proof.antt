@@ -7,9 +7,6 @@ use Rattle.arithmetic.proofs.Fill.{filled, filled-none, filled-turn, filled-end
 use borrow.Author.Needs.{needs}
 use Rattle.prover.proofs.totals.key_sums.Statement.{statement}
 use Rattle.prover.proofs.totals.key_sums.Tie as tie
-use Rattle.prover.proofs.totals.key_sums.Reads as reads
-use Rattle.prover.proofs.totals.key_sums.Lts as lts
-use Rattle.prover.proofs.totals.residue_sum.Reads as residue-sum-reads
 
 abbrev Inv-loop : tie.InvT-loop
 Inv-loop q n key sums₀ p₀ sums p = (p ≤ n) × (sums ≡ filled (λ (j : ℕ). (getD key j 0 + getD key (n + j) 0) % q) p sums₀) × (length sums ≡ length sums₀)

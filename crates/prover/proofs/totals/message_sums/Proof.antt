@@ -9,9 +9,6 @@ use borrow.Author.Needs.{needs}
 use Rattle.prover.proofs.Words.{read, read-small, plus-is}
 use Rattle.prover.proofs.totals.message_sums.Statement.{statement}
 use Rattle.prover.proofs.totals.message_sums.Tie as tie
-use Rattle.prover.proofs.totals.message_sums.Reads as reads
-use Rattle.prover.proofs.totals.message_sums.Lts as lts
-use Rattle.prover.proofs.totals.whole_sum.Reads as whole-sum-reads
 
 abbrev Inv-loop : tie.InvT-loop
 Inv-loop n message sums₀ p₀ sums p = (p ≤ n) × (sums ≡ filled (λ (j : ℕ). getD message j (pos 0) +ℤ getD message (n + j) (pos 0)) p sums₀) × (length sums ≡ length sums₀)

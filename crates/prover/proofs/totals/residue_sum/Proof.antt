@@ -1,11 +1,9 @@
-use mathlib.Core.Path.{_≡_, sym, _∙_}
+use mathlib.Core.Path.{sym, _∙_}
 use native.Mathlib.Nat.{mod-eq-of-lt, mod-eq-sub-mod}
 use native.Mathlib.Omega.{arith}
 use borrow.Author.Needs.{needs}
 use Rattle.prover.proofs.totals.residue_sum.Statement.{statement}
 use Rattle.prover.proofs.totals.residue_sum.Tie as tie
-use Rattle.prover.proofs.totals.residue_sum.Reads as reads
-use Rattle.prover.proofs.totals.residue_sum.Lts as lts
 
 -- src/totals.rt:31:13
 add-z : tie.Need-add-z

@@ -2,8 +2,6 @@ use native.Mathlib.Omega.{arith}
 use Rattle.prover.proofs.Words.{plus-fits, plus-is}
 use Rattle.prover.proofs.totals.whole_sum.Statement.{statement}
 use Rattle.prover.proofs.totals.whole_sum.Tie as tie
-use Rattle.prover.proofs.totals.whole_sum.Reads as reads
-use Rattle.prover.proofs.totals.whole_sum.Lts as lts
 
 -- src/totals.rt:13:5
 add-result : tie.Need-add-result

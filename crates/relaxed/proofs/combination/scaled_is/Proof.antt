@@ -1,5 +1,4 @@
 -- The product of two 32-bit numbers fits 64 bits.
-use Prim.Native.Nat.{_*_}
 use native.Mathlib.Nat.{mul-le-mul}
 use native.Mathlib.Omega.{arith}
 use borrow.Author.Needs.{needs}
