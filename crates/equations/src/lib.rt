@@ -14,13 +14,37 @@ ghost use Rattle.protocol.specs.Transcript.{roundHolds, nextClaim, finalBounded
 ghost use Rattle.protocol.specs.Settings.{settingsRefusal, cells};
 ghost use Rattle.equations.specs.Ends.{quotientIs, equationMet, endMet};
 
+// s modulo m, s being below 2m.
+fn less_once(m: u64, s: u64) -> u64
+    requires { ⌜ s < 2 * m ⌝ }
+    ensures { λ r. ⌜ r ≡ s % m ⌝ }
+{
+    if s < m {
+        return s;
+    }
+    s - m
+}
+
+// 2·(x + y) modulo q. Residues are not divided.
+fn doubled(q: u32, x: u32, y: u32) -> u64
+    requires { ⌜ 0 < q ⌝ }
+    ensures { λ r. ⌜ r ≡ 2 * (x + y) % q ⌝ }
+{
+    let m = q as u64;
+    let s = (x as u64) + (y as u64);
+    if s < 2 * m {
+        let t = less_once(m, s);
+        return less_once(m, 2 * t);
+    }
+    2 * s % m
+}
+
 // Is 2·(x + y) modulo q the number z.
 fn doubled_is(q: u32, x: u32, y: u32, z: u32) -> bool
     requires { ⌜ 0 < q ⌝ }
     ensures { λ r. ⌜ r ≡ eqb (2 * (x + y) % q) z ⌝ }
 {
-    let s = 2 * ((x as u64) + (y as u64));
-    s % (q as u64) == (z as u64)
+    doubled(q, x, y) == (z as u64)
 }
 
 // Does a round hold.
