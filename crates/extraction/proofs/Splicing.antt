@@ -1,11 +1,12 @@
 -- Loops that replace the elements of a flat list one after the other, from a place on.
-use mathlib.Core.Path.{_≡_, refl, sym, ap, _∙_}
+use mathlib.Core.Path.{_≡_, refl, sym, ap, _∙_, subst}
 use mathlib.Core.List.{List, [], _∷_, _++_, append-assoc}
 use Prim.Native.Nat.{ℕ, zero, suc, _+_, _*_, _-_, _/_, _%_, _<_, _≤_}
 use native.Mathlib.Nat as Nat
+use native.Mathlib.Decide.{decLt}
 use native.Mathlib.Omega.{arith}
 use lib.ListN.{length, getD, take, drop, length-append, length-drop, take-append-drop, drop-of-length-le, List·getD-append}
-use lib.Seq.{length-take-le, take-at, drop-at, drop-drop, getD-take, getD-drop, getD-append-add}
+use lib.Seq.{length-take-le, take-at, drop-at, drop-drop, getD-take, getD-drop, getD-append-add, ext-getD}
 use borrow.Rule.Slice.PartMut.{putMid}
 use Rattle.protocol.specs.Basic.{tabulate, flat}
 use Rattle.protocol.proofs.Reading.{tabulate-ext, flat-length, flat-at, cell-inside, cell-element, cell-place}
@@ -74,13 +75,15 @@ module _ {A : Type 0} where
           ∙ getD-drop (at + n * d) l (j - (at + n * d)) z
           ∙ ap (λ i. getD l i z) (omega arith)
 
-      pub spliced-at : (z : A) (i k : ℕ) → i < n → k < d → getD (spliced at d n F l) (at + (i * d + k)) z ≡ F i k
+      spliced-inside : (z : A) (j : ℕ) → j < n * d → getD (spliced at d n F l) (at + j) z ≡ getD (flat d n F) j z
       unfolding spliced
-      spliced-at z i k li lk =
-          ap (λ j. getD (take at l ++ (flat d n F ++ drop (at + n * d) l)) (j + (i * d + k)) z) (sym (length-take-le at l (omega arith)))
-          ∙ getD-append-add (take at l) _ (i * d + k) z
-          ∙ List·getD-append (flat d n F) _ z (i * d + k) (omega (arith, flat-length d n F, cell-inside d n i k li lk))
-          ∙ flat-at d n F z i k li lk
+      spliced-inside z j lj =
+          ap (λ y. getD (take at l ++ (flat d n F ++ drop (at + n * d) l)) (y + j) z) (sym (length-take-le at l (omega arith)))
+          ∙ getD-append-add (take at l) _ j z
+          ∙ List·getD-append (flat d n F) _ z j (omega (arith, flat-length d n F))
+
+      pub spliced-at : (z : A) (i k : ℕ) → i < n → k < d → getD (spliced at d n F l) (at + (i * d + k)) z ≡ F i k
+      spliced-at z i k li lk = spliced-inside z (i * d + k) (cell-inside d n i k li lk) ∙ flat-at d n F z i k li lk
 
       -- the turn that replaces element n: what comes back is the list before it, and the part from there on with its first d entries replaced
       pub spliced-turn : (x : ℕ) {m p : List A} → x ≡ at + n * d → m ≡ spliced at d n F l → p ≡ filled (F n) d (take (length m - x) (drop x m)) → putMid x (length m - x) m p ≡ spliced at d (n + 1) F l
@@ -101,3 +104,39 @@ module _ {A : Type 0} where
 
           ends : at + n * d + d ≡ at + (n + 1) * d
           ends = omega (arith, Nat.add-mul n 1 d)
+
+  -- an entry afterwards depends on no other entry
+  module _ (at d n : ℕ) (F : ℕ → ℕ → A) (l m : List A) (hl : at + n * d ≤ length l) (hm : at + n * d ≤ length m) where
+    spliced-same : (z : A) (j : ℕ) → getD l j z ≡ getD m j z → getD (spliced at d n F l) j z ≡ getD (spliced at d n F m) j z
+    spliced-same z j e = elim (decLt j at) [
+      | yes p ↦ spliced-low at d F l n hl z j p ∙ e ∙ sym (spliced-low at d F m n hm z j p)
+      | no p ↦ elim (decLt j (at + n * d)) [
+        | yes q ↦ subst (λ y. getD (spliced at d n F l) y z ≡ getD (spliced at d n F m) y z) (omega arith) (spliced-inside at d F l n hl z (j - at) (omega arith) ∙ sym (spliced-inside at d F m n hm z (j - at) (omega arith)))
+        | no q ↦ spliced-behind at d F l n hl z j (omega arith) ∙ e ∙ sym (spliced-behind at d F m n hm z j (omega arith))
+      ]
+    ]
+
+  -- parts that lie apart are replaced in either order
+  pub spliced-apart : A → (d a i b j : ℕ) (F G : ℕ → ℕ → A) (l : List A) → a + i * d ≤ b → b + j * d ≤ length l → spliced a d i F (spliced b d j G l) ≡ spliced b d j G (spliced a d i F l)
+  spliced-apart z d a i b j F G l apart inside = ext-getD z _ _ (above-second ∙ second-length ∙ sym (above-first ∙ first-length)) (λ p _. elim (decLt p b) [
+    | yes h ↦ spliced-same a d i F second l (omega (arith, second-length)) (omega arith) z p (spliced-low b d G l j inside z p h) ∙ sym (spliced-low b d G first j (omega (arith, first-length)) z p h)
+    | no h ↦ spliced-behind a d F second i (omega (arith, second-length)) z p (omega arith) ∙ sym (spliced-same b d j G first l (omega (arith, first-length)) inside z p (spliced-behind a d F l i (omega arith) z p (omega arith)))
+  ])
+    where
+      first : List A
+      first = spliced a d i F l
+
+      second : List A
+      second = spliced b d j G l
+
+      first-length : length first ≡ length l
+      first-length = spliced-length a d F l i (omega arith)
+
+      second-length : length second ≡ length l
+      second-length = spliced-length b d G l j inside
+
+      above-second : length (spliced a d i F second) ≡ length second
+      above-second = spliced-length a d F second i (omega (arith, second-length))
+
+      above-first : length (spliced b d j G first) ≡ length first
+      above-first = spliced-length b d G first j (omega (arith, first-length))

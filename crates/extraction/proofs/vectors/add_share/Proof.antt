@@ -1,5 +1,5 @@
 -- The products, then the sums with the first half and with the second. The products are ahead by X^(2a), which the sums turn back.
-use mathlib.Core.Path.{_≡_, sym, ap, _∙_}
+use mathlib.Core.Path.{_≡_, refl, sym, ap, _∙_}
 use Prim.Native.Nat.{_+_, _*_, _-_, _%_, _<_, _≤_}
 use native.Mathlib.Nat as Nat
 use native.Mathlib.Omega.{arith}
@@ -38,16 +38,9 @@ products : (c : tie.After-scale) → let a = c .before .before .before .before .
     c .scale .last .1 .1 .1 .1 .1 .0 ≡ scaled (a .d) (a .n) (gap (a .d) (a .a) (a .b)) (gap (a .d) (a .a) (a .c)) ((a .b + a .c) % (2 * a .d)) (take (a .n * a .d) (a .l .now))
 products c = let a = c .before .before .before .before .before .before .args in c .scale .ensures ∙ (λ i. scaled (a .d) (a .n) (first (c .before .before .before .before .before) i) (second (c .before .before .before .before) i) (c .before .before .before .on-circle3 .ensures i) (take (a .n * a .d) (a .l .now)))
 
--- the sums with the first half
-sums : (c : tie.After-add-turned) → let g = c .before .before .before .before .before .before .before .before .before .before .before .before .before in let a = g .args in c .add-turned .last .1 .1 .1 .1 .0 ≡ turned (a .d) (a .n) (backTwice (a .d) (a .a)) (a .n * a .d) (c .before .before .before .before .before .before .before .scale .last .1 .1 .1 .1 .1 .0 ++ drop (a .n * a .d) (a .l .now))
-sums c = let a = c .before .before .before .before .before .before .before .before .before .before .before .before .before .args in c .add-turned .ensures ∙ ap (λ x. turned (a .d) (a .n) x (a .n * a .d) (c .before .before .before .before .before .before .before .scale .last .1 .1 .1 .1 .1 .0 ++ drop (a .n * a .d) (a .l .now))) (twice (c .before .before .before))
-
 -- the room for a spread element keeps its length
 room : (c : tie.After-scale) → 3 * c .before .before .before .before .before .before .args .d ≤ length (c .scale .last .1 .1 .1 .1 .1 .1 .0)
 room c = omega (arith, c .before .before .before .before .before .before .pre .small, c .scale .kept .1 .1 .1 .1 .1 .1 .0)
-
-room-still : (c : tie.After-add-turned) → 3 * c .before .before .before .before .before .before .before .before .before .before .before .before .before .args .d ≤ length (c .add-turned .last .1 .1 .1 .1 .1 .0)
-room-still c = omega (arith, room (c .before .before .before .before .before .before .before), c .add-turned .kept .1 .1 .1 .1 .1 .0)
 
 mul-back : tie.Need-mul-back
 mul-back c = omega (arith, c .pre .small)
@@ -97,28 +90,25 @@ mul-on-circle c = omega (arith, once-small c, c .before .before .before .before 
 on-circle-requires-5 : tie.Need-on-circle-requires-5
 on-circle-requires-5 c κs = (c .before .before .before .before .before .before .before .before .before .pre .small, omega (arith, once-small c))
 
+mul-add-turned : tie.Need-mul-add-turned
+mul-add-turned c = search needs
+
 slice-aggregate-add-turned : tie.Need-slice-aggregate-add-turned
 slice-aggregate-add-turned c = search needs
 
 add-turned-requires : tie.Need-add-turned-requires
-add-turned-requires c κs = let g = c .before .before .before .before .before .before .before .before .before .before .before .before in let a = g .args in (room (c .before .before .before .before .before .before), rw (twice (c .before .before)) (first-turnable (a .d) (a .n) (a .a) (a .b) (a .c) (a .l .now) (g .pre) (products (c .before .before .before .before .before .before))))
-
-mul-add-turned : tie.Need-mul-add-turned
-mul-add-turned c = search needs
-
-slice-aggregate-add-turned-2 : tie.Need-slice-aggregate-add-turned-2
-slice-aggregate-add-turned-2 c = search needs
-
-add-turned-requires-2 : tie.Need-add-turned-requires-2
-add-turned-requires-2 c κs = let g = c .before .before .before .before .before .before .before .before .before .before .before .before .before .before .before .before .before in let a = g .args in (room-still (c .before .before .before .before), rw (once (c .before .before .before .before .before .before .before .before)) (second-turnable (a .d) (a .n) (a .a) (a .b) (a .c) (a .l .now) (g .pre) (products (c .before .before .before .before .before .before .before .before .before .before .before)) (sums (c .before .before .before .before))))
+add-turned-requires c κs =
+    let g = c .before .before .before .before .before .before .before .before .before .before .before .before in let a = g .args in let is-s = products (c .before .before .before .before .before .before) in
+    ((room (c .before .before .before .before .before .before), omega arith), rw (twice (c .before .before), once (c .before .before .before)) (first-turnable (a .d) (a .n) (a .a) (a .b) (a .c) (a .l .now) (g .pre) is-s, second-turnable (a .d) (a .n) (a .a) (a .b) (a .c) (a .l .now) (g .pre) is-s refl))
 
 same-length : tie.Need-same-length
 same-length c = search needs
 
 returns : tie.Need-returns
 returns c =
-    let g = c .before .before .before .before .before .before .before .before .before .before .before .before .before .before .before .before .before .before .before .before in let a = g .args in
-    share-added (a .d) (a .n) (a .a) (a .b) (a .c) (a .l .now) (g .pre) (products (c .before .before .before .before .before .before .before .before .before .before .before .before .before .before)) (sums (c .before .before .before .before .before .before .before)) (c .before .before .add-turned2 .ensures ∙ ap (λ x. turned (a .d) (a .n) x (2 * (a .n * a .d)) (c .before .before .before .before .before .before .before .add-turned .last .1 .1 .1 .1 .0)) (once (c .before .before .before .before .before .before .before .before .before .before .before)))
+    let g = c .before .before .before .before .before .before .before .before .before .before .before .before .before .before .before in let a = g .args in let s = c .before .before .before .before .before .before .before .before .before .scale .last .1 .1 .1 .1 .1 .0 ++ drop (a .n * a .d) (a .l .now) in
+    share-added (a .d) (a .n) (a .a) (a .b) (a .c) (a .l .now) (g .pre) (products (c .before .before .before .before .before .before .before .before .before)) refl
+    (c .before .before .add-turned .ensures ∙ (λ i. turned (a .d) (a .n) (once (c .before .before .before .before .before .before) i) (2 * (a .n * a .d)) (turned (a .d) (a .n) (twice (c .before .before .before .before .before) i) (a .n * a .d) s)))
 
 pub add-share-spec : {M : Type 1} → statement M
 add-share-spec =
@@ -140,10 +130,8 @@ add-share-spec =
     on-circle-requires-4
     mul-on-circle
     on-circle-requires-5
+    mul-add-turned
     slice-aggregate-add-turned
     add-turned-requires
-    mul-add-turned
-    slice-aggregate-add-turned-2
-    add-turned-requires-2
     same-length
     returns)
