@@ -69,7 +69,7 @@ fn answer_write(
         out,
     );
     output::first(answer.number);
-    output::count(answer.length);
+    output::count(answer.count);
     output::text(out);
     output::end();
 }

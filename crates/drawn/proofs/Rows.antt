@@ -129,13 +129,13 @@ unfoldable pub writeRow : Settings → Parts → Tables → ℕ → ℕ → ℕ 
 writeRow S P t room byte n long text =
     let out = replicate room byte in
     let r = writeAnswer S P t out in
-    record { given = pos (r .number) ∷ pos (r .length) ∷ map pos (writeExit S P t out); wanted = pos n ∷ pos long ∷ map pos (text ++ drop (length text) out) }
+    record { given = pos (r .number) ∷ pos (r .count) ∷ map pos (writeExit S P t out); wanted = pos n ∷ pos long ∷ map pos (text ++ drop (length text) out) }
 
 unfoldable pub proveRow : List ℕ → ℕ → ℕ → ℕ → ℕ → List ℕ → Example
 proveRow input room byte n long text =
     let out = replicate room byte in
     let r = proveAnswer input out in
-    record { given = pos (r .number) ∷ pos (r .length) ∷ map pos (proveExit input out); wanted = pos n ∷ pos long ∷ map pos (text ++ drop (length text) out) }
+    record { given = pos (r .number) ∷ pos (r .count) ∷ map pos (proveExit input out); wanted = pos n ∷ pos long ∷ map pos (text ++ drop (length text) out) }
 
 unfoldable pub verifyRow : List ℕ → ℕ → Verdict → Example
 verifyRow text n v =

@@ -362,9 +362,9 @@ pub extern "C" fn wovenrock_write(
     challenges: &[u32],
     last: &[i32],
     out: &mut [u8],
-    length: &mut usize,
+    count: &mut usize,
 ) -> u32
-    ensures { λ r. ⌜ WroteStored (given degree depth modulus bound) (partsOf parts) (six (now (key .entry)) (now (message .entry)) (now (commitment .entry)) (now (rounds .entry)) (now (challenges .entry)) (now (last .entry))) (now (out .entry)) r (now (out .exit)) (now (length .exit)) ⌝ }
+    ensures { λ r. ⌜ WroteStored (given degree depth modulus bound) (partsOf parts) (six (now (key .entry)) (now (message .entry)) (now (commitment .entry)) (now (rounds .entry)) (now (challenges .entry)) (now (last .entry))) (now (out .entry)) r (now (out .exit)) (now (count .exit)) ⌝ }
 {
     let s = Settings {
         degree: degree,
@@ -382,7 +382,7 @@ pub extern "C" fn wovenrock_write(
         challenges,
         last,
         out,
-        length,
+        count,
     )
 }
 
@@ -396,8 +396,8 @@ pub extern "C" fn wovenrock_verify(text: &[u8], verdict: &mut u32) -> u32
 
 // The program `prove` as a call on text.
 #[no_mangle]
-pub extern "C" fn wovenrock_prove(text: &[u8], out: &mut [u8], length: &mut usize) -> u32
-    ensures { λ r. ⌜ ProvedStored (now (text .entry)) (now (out .entry)) r (now (out .exit)) (now (length .exit)) ⌝ }
+pub extern "C" fn wovenrock_prove(text: &[u8], out: &mut [u8], count: &mut usize) -> u32
+    ensures { λ r. ⌜ ProvedStored (now (text .entry)) (now (out .entry)) r (now (out .exit)) (now (count .exit)) ⌝ }
 {
-    texts::prove(text, out, length)
+    texts::prove(text, out, count)
 }

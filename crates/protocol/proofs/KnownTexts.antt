@@ -249,15 +249,15 @@ expected (look text N) = refuses N
 expected (begins text b) = says b
 expected (lookGives text N S) = finds (record { number = N; settings = S })
 expected (checks text N v) = judges (record { number = N; verdict = v })
-expected (callRefused text room N) = writes (record { number = N; length = 0 }) (stops room)
-expected (callGives text room n line) = writes (record { number = 0; length = n }) (bytes line ++ᴸ stops (room - n))
+expected (callRefused text room N) = writes (record { number = N; count = 0 }) (stops room)
+expected (callGives text room n line) = writes (record { number = 0; count = n }) (bytes line ++ᴸ stops (room - n))
 expected (readRefused P text t N) = reads (record { number = N; settings = noSettings }) t
 expected (readGives P text t S u) = reads (record { number = 0; settings = S }) u
-expected (writeRefused S P t room N) = writes (record { number = N; length = 0 }) (stops room)
-expected (writeGives S P t room n text) = writes (record { number = 0; length = n }) (bytes text ++ᴸ stops (room - n))
+expected (writeRefused S P t room N) = writes (record { number = N; count = 0 }) (stops room)
+expected (writeGives S P t room n text) = writes (record { number = 0; count = n }) (bytes text ++ᴸ stops (room - n))
 expected (output text room N) = refuses N
 expected (back S P t u) = reads (record { number = 0; settings = S }) t
-expected (forth P text u) = let n = length (bytes text) in writes (record { number = 0; length = n }) (bytes text ++ᴸ stops (999 - n))
+expected (forth P text u) = let n = length (bytes text) in writes (record { number = 0; count = n }) (bytes text ++ᴸ stops (999 - n))
 expected (number text at N value next) = gives (record { number = N; value = value; next = next })
 expected (count text at N value next) = gives (record { number = N; value = value; next = next })
 

@@ -13,7 +13,7 @@ use Rattle.protocol.specs.declared.Parts.{Parts}
 use Rattle.protocol.specs.Text.{Tables, fits, readAnswer, readExit, writeAnswer, writeExit}
 
 unfoldable pub outcome : Settings → Parts → Tables → List ℕ → List ℕ
-outcome S P t out = take (writeAnswer S P t out .length) (writeExit S P t out)
+outcome S P t out = take (writeAnswer S P t out .count) (writeExit S P t out)
 
 -- the text of tables that are not refused is read into any lent tables of the right lengths, with the same settings and the same tables
 pub record Back (S : Settings) (P : Parts) (t : Tables) (out : List ℕ) (lent : Tables) : Type 0 where
@@ -22,7 +22,7 @@ pub record Back (S : Settings) (P : Parts) (t : Tables) (out : List ℕ) (lent :
 
 -- what was read of a text that is not refused is written, into any output slice that is long enough, as the same text
 pub record Forth (P : Parts) (text : List ℕ) (lent : Tables) (out : List ℕ) : Type 0 where
-  pub answer : writeAnswer (readAnswer P text lent .settings) P (readExit P text lent) out ≡ record { number = 0; length = length text }
+  pub answer : writeAnswer (readAnswer P text lent .settings) P (readExit P text lent) out ≡ record { number = 0; count = length text }
   pub output : writeExit (readAnswer P text lent .settings) P (readExit P text lent) out ≡ text ++ drop (length text) out
 
 pub record RoundTrip : Type 0 where

@@ -427,7 +427,7 @@ writeRefusal S P t room =
 
 -- "The writer returns its text's length"
 unfoldable pub written : ℕ → List ℕ → Written
-written refusal text = record { number = refusal; length = granted refusal (length text) 0 }
+written refusal text = record { number = refusal; count = granted refusal (length text) 0 }
 
 -- "and leaves bytes after its text unchanged"
 unfoldable pub overwritten : ℕ → List ℕ → List ℕ → List ℕ

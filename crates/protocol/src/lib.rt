@@ -97,7 +97,7 @@ pub struct Loaded {
 // The table writer, and the program `prove` as a call on text: how many bytes were written.
 pub struct Written {
     pub number: u32,
-    pub length: usize,
+    pub count: usize,
 }
 
 // The number reader. Document 01: "The reader answers a value with the next place, or a refusal."

@@ -6,9 +6,9 @@ fn refused(number: u32) {
 }
 
 // The first bytes of a slice.
-fn print(out: &[u8], length: usize) {
+fn print(out: &[u8], count: usize) {
     if length <= out.len() {
-        io::write_all(1, &out[..length]);
+        io::write_all(1, &out[..count]);
     }
 }
 
@@ -18,7 +18,7 @@ fn answer(text: &[u8], out: &mut [u8]) {
         refused(written.number);
         return;
     }
-    print(out, written.length);
+    print(out, written.count);
 }
 
 // One byte more than the longest text has is read, so that a longer one is seen to be longer.

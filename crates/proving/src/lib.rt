@@ -99,7 +99,7 @@ fn prove_in(
     );
     let number = loaded.number;
     if number != 0 {
-        return Written { number, length: 0 };
+        return Written { number, count: 0 };
     }
     print_opening(loaded.settings, key, message, challenges, rounds, out)
 }
@@ -119,7 +119,7 @@ fn prove_within(
     let looked = tables::allowed_settings(text);
     let number = looked.number;
     if number != 0 {
-        return Written { number, length: 0 };
+        return Written { number, count: 0 };
     }
     let settings = looked.settings;
     let degree = settings.degree as usize;

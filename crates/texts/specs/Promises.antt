@@ -29,16 +29,16 @@ pub record ReadStored (P : Parts) (text settings : List ℕ) (t : Tables) (r : �
   pub settings-exit : settings′ ≡ choose (leb 4 (length settings)) (settingsStored (readAnswer P text t .settings) settings) settings
   pub tables-exit : t′ ≡ choose (leb 4 (length settings)) (readExit P text t) t
 
-pub record WroteStored (S : Settings) (P : Parts) (t : Tables) (out : List ℕ) (r : ℕ) (out′ : List ℕ) (length′ : ℕ) : Type 0 where
+pub record WroteStored (S : Settings) (P : Parts) (t : Tables) (out : List ℕ) (r : ℕ) (out′ : List ℕ) (count′ : ℕ) : Type 0 where
   pub number : r ≡ writeAnswer S P t out .number
   pub out-exit : out′ ≡ writeExit S P t out
-  pub length-exit : length′ ≡ writeAnswer S P t out .length
+  pub count-exit : count′ ≡ writeAnswer S P t out .count
 
 pub record Verdicts (answer : Checked) (r verdict′ : ℕ) : Type 0 where
   pub number : r ≡ answer .number
   pub verdict-exit : verdict′ ≡ verdictNumber (answer .verdict)
 
-pub record ProvedStored (text out : List ℕ) (r : ℕ) (out′ : List ℕ) (length′ : ℕ) : Type 0 where
+pub record ProvedStored (text out : List ℕ) (r : ℕ) (out′ : List ℕ) (count′ : ℕ) : Type 0 where
   pub number : r ≡ proveAnswer text out .number
   pub out-exit : out′ ≡ proveExit text out
-  pub length-exit : length′ ≡ proveAnswer text out .length
+  pub count-exit : count′ ≡ proveAnswer text out .count

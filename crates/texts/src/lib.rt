@@ -72,7 +72,7 @@ pub fn read(
     loaded.number
 }
 
-// The table writer. The length of the text goes to `length`.
+// The table writer. The length of the text goes to `count`.
 pub fn write(
     settings: Settings,
     parts: u32,
@@ -83,9 +83,9 @@ pub fn write(
     challenges: &[u32],
     last: &[i32],
     out: &mut [u8],
-    length: &mut usize,
+    count: &mut usize,
 ) -> u32
-    ensures { λ r. ⌜ WroteStored settings (partsOf parts) (six (now (key .entry)) (now (message .entry)) (now (commitment .entry)) (now (rounds .entry)) (now (challenges .entry)) (now (last .entry))) (now (out .entry)) r (now (out .exit)) (now (length .exit)) ⌝ }
+    ensures { λ r. ⌜ WroteStored settings (partsOf parts) (six (now (key .entry)) (now (message .entry)) (now (commitment .entry)) (now (rounds .entry)) (now (challenges .entry)) (now (last .entry))) (now (out .entry)) r (now (out .exit)) (now (count .exit)) ⌝ }
 {
     let there = parts_of(parts);
     let written = writing::write(
@@ -99,7 +99,7 @@ pub fn write(
         last,
         out,
     );
-    *length = written.length;
+    *count = written.count;
     written.number
 }
 
@@ -131,11 +131,11 @@ pub fn verify(text: &[u8], verdict: &mut u32) -> u32
     verdict_of(verified, verdict)
 }
 
-// The program `prove` as a call on text. The length of what it writes goes to `length`.
-pub fn prove(text: &[u8], out: &mut [u8], length: &mut usize) -> u32
-    ensures { λ r. ⌜ ProvedStored (now (text .entry)) (now (out .entry)) r (now (out .exit)) (now (length .exit)) ⌝ }
+// The program `prove` as a call on text. The length of what it writes goes to `count`.
+pub fn prove(text: &[u8], out: &mut [u8], count: &mut usize) -> u32
+    ensures { λ r. ⌜ ProvedStored (now (text .entry)) (now (out .entry)) r (now (out .exit)) (now (count .exit)) ⌝ }
 {
     let written = proving::prove(text, out);
-    *length = written.length;
+    *count = written.count;
     written.number
 }

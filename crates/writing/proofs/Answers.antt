@@ -26,7 +26,7 @@ use Rattle.shapes.proofs.Exactly.{fits-exact}
 use Rattle.writing.specs.Tables.{tablesRefusal}
 
 abbrev answer : ℕ → ℕ → Written
-answer number length = record { number = number; length = length }
+answer number count = record { number = number; count = count }
 
 module _ (S : Settings) (P : Parts) (t : Tables) (fine : tablesRefusal S P t ≡ 0) where
   pub passed-depth : S .depth ≤ 8

@@ -33,10 +33,10 @@ pub fn write(
         last,
     );
     if number != 0 {
-        return Written { number, length: 0 };
+        return Written { number, count: 0 };
     }
     let mut text = [0u8; 65600];
-    let length = put_text(
+    let count = put_text(
         settings,
         parts,
         key,
@@ -47,18 +47,18 @@ pub fn write(
         last,
         &mut text,
     );
-    if length > 65536 {
+    if count > 65536 {
         return Written {
             number: 1,
-            length: 0,
+            count: 0,
         };
     }
-    if length > out.len() {
+    if count > out.len() {
         return Written {
             number: 7,
-            length: 0,
+            count: 0,
         };
     }
-    copy(&text[..length], out);
-    Written { number: 0, length }
+    copy(&text[..count], out);
+    Written { number: 0, count }
 }

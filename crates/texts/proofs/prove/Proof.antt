@@ -16,7 +16,7 @@ returns c =
     record {
       number = ap (λ (r : Written). r .number) (given .answer);
       out-exit = given .out-exit;
-      length-exit = ap (λ (r : Written). r .length) (given .answer);
+      count-exit = ap (λ (r : Written). r .count) (given .answer);
     }
 
 pub prove-spec : {M : Type 1} → statement M

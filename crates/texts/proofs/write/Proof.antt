@@ -25,7 +25,7 @@ returns c =
     record {
       number = ap (λ (r : Written). r .number) answer;
       out-exit = e .write .ensures .out-exit ∙ ap (λ P. writeExit (a .settings) P t (a .out .now)) there;
-      length-exit = ap (λ (r : Written). r .length) answer;
+      count-exit = ap (λ (r : Written). r .count) answer;
     }
 
 pub write-spec : {M : Type 1} → statement M
