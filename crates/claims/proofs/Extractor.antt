@@ -24,7 +24,8 @@ use Rattle.protocol.proofs.Tests.{and-intro, every-intro, first-nothing, zero-f
 use Rattle.protocol.proofs.Inputs.{valid-settings, below-tested, below-sized, within-tested, within-sized}
 use Rattle.protocol.proofs.Acceptance.{accepted-test}
 use Rattle.claims.proofs.Bounds.{Bounded}
-use Rattle.claims.proofs.Honest.{degree-positive}
+use Rattle.claims.proofs.Ranges.{accepted-commitment}
+use Rattle.claims.proofs.Honest.{degree-positive, modulus-positive}
 use Rattle.claims.proofs.Weights.{Triple, node-triple}
 use Rattle.claims.proofs.Extraction.{extracts}
 use Rattle.claims.proofs.Exactness.{exact}
@@ -52,9 +53,13 @@ module _ (S : Settings) (ok : Valid S) (G C rounds E : List ℕ) (finals w : Lis
   unfolding apart
   challenges-apart = every-intro (λ k l. let t = tree .different k l in and-intro (and-intro (differ _ _ (t .0)) (differ _ _ (t .1))) (differ _ _ (t .2)))
 
+  some-leaf : 0 < leaves S
+  unfolding leaves
+  some-leaf = Nat.one-le-pow L 3 (omega arith)
+
   commitment-tested : residueElement S C ≡ true
-  unfolding residueElement
-  commitment-tested = every-intro (λ k l. lt-ltb _ _ (tree .commitment-below k l))
+  unfolding residueElement path
+  commitment-tested = every-intro (λ k l. lt-ltb _ _ (accepted-commitment S (modulus-positive S ok) G _ (tree .accepted 0 some-leaf) k l))
 
   growth-tested : grows S ≡ true
   unfolding grows

@@ -21,7 +21,7 @@ use Rattle.protocol.specs.Text.{parsed, linesOf, sameSpot, sameSpots, spotsOf, 
 use Rattle.protocol.specs.Text.{settingIn, settingsIn, tablesIn, lookRefusal, loaded, entriesRefusal, textRefusal, readRefusal, readAnswer}
 use Rattle.protocol.specs.Text.{readExit}
 use Rattle.protocol.specs.Text.{outputRefusal, writeRefusal, written, overwritten, writeAnswer, writeExit}
-use Rattle.protocol.specs.RoundTrip.{outcome, Back, Forth, RoundTrip}
+use Rattle.protocol.specs.RoundTrip.{outcome, Back, Forth, RoundTrip, OneText}
 use Rattle.protocol.proofs.Tests.{first-zero, unless-zero, and-intro}
 use Rattle.protocol.proofs.LineLaws.{AllLimited, linesOf-written, parsed-text}
 use Rattle.protocol.proofs.TableLaws.{Rising, Fit, parts, columns, written-spots, written-columns, blockLines-values, read-lines, read-fit}
@@ -369,3 +369,13 @@ forth P text lent out h n =
 pub roundTrip : RoundTrip
 unfolding writeAnswer written readAnswer loaded
 roundTrip = record { back = back; forth = forth }
+
+-- what was read of a text has one text, and that is it
+text-of-read : (P : Parts) (text : List ℕ) (lent : Tables) → readRefusal P text lent ≡ 0 → textOf (readAnswer P text lent .settings) P (readExit P text lent) ≡ text
+unfolding readAnswer readExit loaded granted
+text-of-read P text lent h = rw h (text-forth P text (readable P text lent h))
+
+pub oneText : OneText
+unfolding readAnswer loaded
+oneText P text text′ lent lent′ h h′ settings tables =
+    sym (text-of-read P text lent h) ∙ ap₂ (λ S t. textOf S P t) settings tables ∙ text-of-read P text′ lent′ h′

@@ -8,7 +8,7 @@ use mathlib.Core.Bool.{true, false}
 use mathlib.Core.List.{List, [], _∷_}
 use Prim.Native.Nat.{ℕ, zero, suc, _<_, _≤_}
 use native.Mathlib.Omega.{arith}
-use lib.ListN.{getD, replicate}
+use lib.ListN.{replicate}
 use lib.IntN.{ℤ, pos}
 use Rattle.protocol.specs.declared.Session.{Session}
 use Rattle.protocol.specs.declared.Verdict.the-variants as Says
@@ -127,11 +127,6 @@ path-accepted (suc zero) h = accepted-states S₁ key₁ _ refl
 path-accepted (suc (suc zero)) h = accepted-states S₁ key₁ _ refl
 path-accepted (suc (suc (suc j))) h = absurd (omega arith)
 
-commitment-below : (k : ℕ) → k < 2 → getD (6 ∷ 10 ∷ []) k 0 < 17
-commitment-below zero h = omega arith
-commitment-below (suc zero) h = omega arith
-commitment-below (suc (suc k)) h = absurd (omega arith)
-
 challenges-differ : (k : ℕ) → k < nodes S₁ → (challenge E₁ k 0 ≢ challenge E₁ k 1) × (challenge E₁ k 0 ≢ challenge E₁ k 2) × (challenge E₁ k 1 ≢ challenge E₁ k 2)
 unfolding computed
 challenges-differ zero h = (λ e. omega arith, λ e. omega arith, λ e. omega arith)
@@ -139,7 +134,6 @@ challenges-differ (suc k) h = absurd (omega arith)
 
 tree₁ : FullTree S₁ key₁ (6 ∷ 10 ∷ []) sent₁ E₁ finals₁
 tree₁ = record {
-  commitment-below = commitment-below;
   rounds-below = tested-below 17 _ sent₁ (unfold computed in refl) (unfold computed in refl);
   challenges-below = tested-below 4 _ E₁ (unfold computed in refl) (unfold computed in refl);
   finals-long = unfold computed in refl;

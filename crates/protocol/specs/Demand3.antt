@@ -276,9 +276,9 @@ pub record OpeningClaim (S : Settings) (G : List ℕ) (M : List ℤ) (E rounds :
 
 -- ════ a tree
 
--- "A tree is full with all N branching nodes and 3^L leaves": whatever was answered in it, with three different challenges at every node and every path accepted
+-- "A tree is full with all N branching nodes and 3^L leaves": whatever was answered in it, with three different challenges at every node and every path accepted.
+-- Nothing is asked of the commitment: that it is residues follows (claims/proofs/Ranges, accepted-commitment)
 pub record FullTree (S : Settings) (G C rounds E : List ℕ) (finals : List ℤ) : Type 0 where
-  pub commitment-below : (k : ℕ) → k < S .degree → getD C k 0 < S .modulus
   pub rounds-below : Below (S .modulus) (3 * nodes S * S .degree) rounds
   pub challenges-below : Below (2 * S .degree) (3 * nodes S) E
   pub finals-long : length finals ≡ leaves S * S .degree
