@@ -3,13 +3,14 @@
 use mathlib.Core.Path.{_≡_, refl}
 use mathlib.Core.Bool.{true}
 use mathlib.Core.List.{List, [], _∷_, map}
+use lib.ListN.{replicate}
 use lib.IntN.{ℤ, pos, negsuc}
 use Rattle.protocol.specs.Basic.{all}
 use Rattle.protocol.specs.Element.{power, product, coefficients}
 use Rattle.protocol.specs.Opening.{commitment}
 use Rattle.protocol.specs.Transcript.{Transcript, claimAfter, cause, transcriptOf}
 use Rattle.protocol.specs.Tree.{s, rootVector, grows}
-use Rattle.protocol.specs.Calls.{extractRefusal, extractExit}
+use Rattle.protocol.specs.Calls.{judgeRefusal, extractRefusal, extractExit}
 use Rattle.protocol.proofs.Compute.{computed}
 use Rattle.protocol.proofs.Listing.{set, S₁, key₁, message₁, rounds₁, leaves₁, S₀}
 use Rattle.protocol.proofs.Examples.{Example, agree, agreeing, asNumber, causeNumber}
@@ -56,6 +57,9 @@ examples =
     -- "growth passes at d 32, L 4, B 127; refused at d 64, L 4, B 1."
     ∷ record { given = asNumber (grows (set 32 4 17 127)); wanted = pos 1 ∷ [] }
     ∷ record { given = asNumber (grows (set 64 4 17 1)); wanted = pos 0 ∷ [] }
+    -- the same as the judge's refusal 14, at tables of zeros; as the extractor's, at every full tree, in claims/proofs/Extractor
+    ∷ record { given = pos (judgeRefusal (set 32 4 17 127) (replicate 32 0) 256 (replicate 512 0) (replicate 512 (pos 0))) ∷ []; wanted = pos 0 ∷ [] }
+    ∷ record { given = pos (judgeRefusal (set 64 4 17 1) (replicate 64 0) 256 (replicate 1024 0) (replicate 1024 (pos 0))) ∷ []; wanted = pos 14 ∷ [] }
     ∷ []
 
 -- the definitions give each
