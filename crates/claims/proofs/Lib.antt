@@ -28,6 +28,7 @@ pub mod Exactness
 pub mod Norms
 pub mod Growth
 pub mod GrowthTest
+pub mod HonestTree
 pub mod Extractor
 pub mod Demand3
 pub mod TextLimits

@@ -68,8 +68,8 @@ module _ (S : Settings) (pq : 0 < S .modulus) where
   accepted-commitment key T a k l = elim (decLt 0 L) [
     | yes some ↦ subst (λ x. x < q) (a .every-round 0 some k l) (modulo-lt q pq _)
     | no none ↦
-      let bare : 0 ≡ L = omega arith in
-      subst (λ x. x < q) (sym (ap (λ t. getD (claimAfter S T t) k 0) bare ∙ a .at-end k l)) (modulo-lt q pq _)
+        let bare : 0 ≡ L = omega arith in
+        subst (λ x. x < q) (sym (ap (λ t. getD (claimAfter S T t) k 0) bare ∙ a .at-end k l)) (modulo-lt q pq _)
   ]
 
 module _ (S : Settings) (message : List ℤ) where

@@ -11,6 +11,7 @@ use Rattle.protocol.specs.Opening.{commitment}
 use Rattle.protocol.specs.Transcript.{Transcript, claimAfter, cause, transcriptOf}
 use Rattle.protocol.specs.Tree.{s, rootVector, grows}
 use Rattle.protocol.specs.Calls.{judgeRefusal, extractRefusal, extractExit}
+use Rattle.protocol.specs.HonestTree.{honestRounds, honestFinals}
 use Rattle.protocol.proofs.Compute.{computed}
 use Rattle.protocol.proofs.Listing.{set, S₁, key₁, message₁, rounds₁, leaves₁, S₀}
 use Rattle.protocol.proofs.Examples.{Example, agree, agreeing, asNumber, causeNumber}
@@ -47,6 +48,9 @@ examples =
     ∷ record { given = coefficients 2 (s 2 0 1); wanted = pos 1 ∷ pos 1 ∷ [] }
     ∷ record { given = coefficients 4 (s 4 0 2); wanted = pos 1 ∷ pos 0 ∷ pos 1 ∷ pos 0 ∷ [] }
     ∷ record { given = coefficients 4 (product 4 (power 4 3) (power 4 1)); wanted = negsuc 0 ∷ pos 0 ∷ pos 0 ∷ pos 0 ∷ [] }
+    -- "challenges 0, 1, 2, leaves 2 −1, 1 0, 0 −1": the tree that honest answers give
+    ∷ record { given = map pos (honestRounds S₁ (0 ∷ 1 ∷ 2 ∷ []) key₁ message₁); wanted = map pos rounds₁ }
+    ∷ record { given = honestFinals S₁ (0 ∷ 1 ∷ 2 ∷ []) message₁; wanted = leaves₁ }
     -- "w is 4 −4, 4 0.": as the root vector, and as what the call leaves
     ∷ record { given = rootVector S₁ (0 ∷ 1 ∷ 2 ∷ []) leaves₁; wanted = pos 4 ∷ negsuc 3 ∷ pos 4 ∷ pos 0 ∷ [] }
     ∷ record { given = extractExit S₁ (T₁ .commitment) key₁ (T₁ .rounds) (0 ∷ 1 ∷ 2 ∷ []) leaves₁ w₁; wanted = pos 4 ∷ negsuc 3 ∷ pos 4 ∷ pos 0 ∷ [] }

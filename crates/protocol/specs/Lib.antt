@@ -13,3 +13,4 @@ pub mod Programs
 pub mod RoundTrip
 pub mod Promises
 pub mod Demand3
+pub mod HonestTree
