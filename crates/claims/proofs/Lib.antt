@@ -31,5 +31,6 @@ pub mod GrowthTest
 pub mod HonestTree
 pub mod Extractor
 pub mod Demand3
+pub mod Performed
 pub mod TextLimits
 pub mod RoundTrip

@@ -1,6 +1,6 @@
 -- Demand 3 as one statement: "a single claim, about the whole list of calls and the whole tree, and not one for each call or node".
--- It is stated over the definitions that the public promises cite. Each public function's promise is an equation with its definition,
--- so what this says of the definitions holds of the functions.
+-- It is stated over the definitions that the public promises cite. Each public function's promise is an equation with its definition;
+-- Performed states the same over what the functions give, of which only these promises are known.
 --
 -- The list of calls
 --   Held                     what is held: both tables, an unfolded copy of the key, the record, how many folds are done

@@ -14,3 +14,4 @@ pub mod RoundTrip
 pub mod Promises
 pub mod Demand3
 pub mod HonestTree
+pub mod Performed
