@@ -34,3 +34,4 @@ pub mod Demand3
 pub mod Performed
 pub mod TextLimits
 pub mod RoundTrip
+pub mod ProveVerify

@@ -15,3 +15,4 @@ pub mod Promises
 pub mod Demand3
 pub mod HonestTree
 pub mod Performed
+pub mod ProveVerify
