@@ -49,7 +49,7 @@ module _ {S : Settings} {G : List ℕ} {M : List ℤ} {E : List ℕ} (ok : Given
   last-long = last-length S (messageAfter S E L M)
 
   -- "no coefficient beyond ±n·B", and n·B is at most 32,512
-  last-within : Within valueLimit d (T .last)
+  pub last-within : Within valueLimit d (T .last)
   unfolding signed valueLimit
   last-within = record {
     long = last-long;
@@ -71,11 +71,22 @@ module _ {S : Settings} {G : List ℕ} {M : List ℤ} {E : List ℕ} (ok : Given
 
   tables-fit : Fit (shapes S verifyReads) (contents S (keyed G T))
   unfolding shapes settingsShape shape shapeSize choose contents verifyReads keyed transcriptOf cells
-  tables-fit =
-      (refl, (length-map G pos ∙ ok .key .long, (sym (Nat.zero-mul d),
-      (length-map (commitment S G M) pos ∙ commitment-below S pq G M .long ∙ sym (Nat.one-mul d),
-      (length-map (roundTable S E G M) pos ∙ rounds-below S pq E G M .long,
-      (length-map E pos ∙ ok .challenges .long ∙ sym (Nat.mul-one L), (last-long ∙ sym (Nat.one-mul d), tt)))))))
+  tables-fit = (
+    refl,
+    (
+      length-map G pos ∙ ok .key .long,
+      (
+        sym (Nat.zero-mul d),
+        (
+          length-map (commitment S G M) pos ∙ commitment-below S pq G M .long ∙ sym (Nat.one-mul d),
+          (
+            length-map (roundTable S E G M) pos ∙ rounds-below S pq E G M .long,
+            (length-map E pos ∙ ok .challenges .long ∙ sym (Nat.mul-one L), (last-long ∙ sym (Nat.one-mul d), tt)),
+          ),
+        ),
+      ),
+    ),
+  )
 
   tables-accepted : tablesAccepted S (keyed G T) ≡ true
   unfolding tablesAccepted transcriptIn keyed
