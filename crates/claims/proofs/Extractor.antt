@@ -102,15 +102,18 @@ module _ (S : Settings) (ok : Valid S) (G C rounds E : List ℕ) (finals : List 
     unfolding grows
     growth-refused over = let past : grows S ≡ false = lt-leb _ _ over in (λ c. judge-tests c ∙ first-fails 13 _ _ past, extract-tests ∙ first-fails 13 _ _ past)
 
+    -- up to 2^62 they refuse none
+    pub growth-passed : growth S ≤ growthLimit → ((c : ℕ) → slackAllowed S c ≡ true → judgeRefusal S C c G w ≡ 0) × (extractRefusal S C G rounds E finals w ≡ 0)
+    unfolding grows
+    growth-passed room =
+        let small : grows S ≡ true = le-leb _ _ room in
+        (λ c a. judge-tests c ∙ first-holds 14 _ _ small ∙ first-holds 15 _ _ a ∙ first-nothing, extract-tests ∙ first-holds 14 _ _ small ∙ first-nothing)
+
   -- ---- within 2^62
 
   module _ (room : growth S ≤ growthLimit) where
-    growth-tested : grows S ≡ true
-    unfolding grows
-    growth-tested = le-leb _ _ room
-
     judge-granted : judgeRefusal S C (slack S) G root ≡ 0
-    judge-granted = judge-tests root (in-bound .long) (slack S) ∙ first-holds 14 _ _ growth-tested ∙ first-holds 15 _ _ (slack-allowed S (ok .depth-most)) ∙ first-nothing
+    judge-granted = growth-passed root (in-bound .long) room .0 (slack S) (slack-allowed S (ok .depth-most))
 
     judge-yes : judged S G C (slack S) root ≡ true
     unfolding judged opens
@@ -122,7 +125,7 @@ module _ (S : Settings) (ok : Valid S) (G C rounds E : List ℕ) (finals : List 
 
     module _ (w : List ℤ) (long : length w ≡ cells S) where
       extract-granted : extractRefusal S C G rounds E finals w ≡ 0
-      extract-granted = extract-tests w long ∙ first-holds 14 _ _ growth-tested ∙ first-nothing
+      extract-granted = growth-passed w long room .1
 
       exit-root : extractExit S C G rounds E finals w ≡ root
       unfolding extractExit granted

@@ -30,6 +30,7 @@ pub mod Growth
 pub mod GrowthTest
 pub mod HonestTree
 pub mod Extractor
+pub mod GrowthCases
 pub mod Demand3
 pub mod Performed
 pub mod TextLimits

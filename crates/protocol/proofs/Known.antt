@@ -61,7 +61,7 @@ examples =
     -- "growth passes at d 32, L 4, B 127; refused at d 64, L 4, B 1."
     ∷ record { given = asNumber (grows (set 32 4 17 127)); wanted = pos 1 ∷ [] }
     ∷ record { given = asNumber (grows (set 64 4 17 1)); wanted = pos 0 ∷ [] }
-    -- the same as the judge's refusal 14, at tables of zeros; as the extractor's, at every full tree, in claims/proofs/Extractor
+    -- the same as the judge's refusal 14, at tables of zeros; as the judge's and the extractor's at every full tree, in claims/proofs/GrowthCases
     ∷ record { given = pos (judgeRefusal (set 32 4 17 127) (replicate 32 0) 256 (replicate 512 0) (replicate 512 (pos 0))) ∷ []; wanted = pos 0 ∷ [] }
     ∷ record { given = pos (judgeRefusal (set 64 4 17 1) (replicate 64 0) 256 (replicate 1024 0) (replicate 1024 (pos 0))) ∷ []; wanted = pos 14 ∷ [] }
     ∷ []
