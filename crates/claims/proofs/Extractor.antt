@@ -1,4 +1,5 @@
--- Demand 3's claim on trees: the extractor refuses no full tree, and what it gives is the root's vector, within its bound, opens 4^L times the commitment, satisfies the judge, and is 4^L·m where the leaves are folds of m.
+-- Demand 3's claim on trees: the extractor refuses no full tree, and what it gives is the root's vector, within its bound, opens 4^L times the commitment, satisfies the judge,
+-- and is 4^L·m where the leaves are folds of m. Where the growth is beyond its limit, judge and extractor refuse every full tree by 14.
 use mathlib.Core.Path.{_≡_, sym, ap, _∙_, subst}
 use mathlib.Core.Logic.{_≢_}
 use mathlib.Core.Bool.{true, false, not}
@@ -91,7 +92,12 @@ module _ (S : Settings) (ok : Valid S) (G C rounds E : List ℕ) (finals : List 
     unfolding extractRefusal residues exponents exponent sized
     extract-tests =
         first-passes _ _ (valid-settings S ok)
-        ∙ first-holds 7 _ _ (and-intro (and-intro (and-intro (and-intro (below-sized q (cells S) G key-ok) (below-sized q (3 * nodes S * d) rounds (tree .rounds-below))) (below-sized (2 * d) (3 * nodes S) E (tree .challenges-below))) (eq-eqb _ _ (tree .finals-long))) (eq-eqb _ _ long))
+        ∙ first-holds 7 _ _ (and-intro (and-intro (and-intro (and-intro
+        (below-sized q (cells S) G key-ok)
+        (below-sized q (3 * nodes S * d) rounds (tree .rounds-below)))
+        (below-sized (2 * d) (3 * nodes S) E (tree .challenges-below)))
+        (eq-eqb _ _ (tree .finals-long)))
+        (eq-eqb _ _ long))
         ∙ first-holds 8 _ _ (and-intro (and-intro (below-tested q (cells S) G key-ok) commitment-tested) (below-tested q (3 * nodes S * d) rounds (tree .rounds-below)))
         ∙ first-holds 10 _ _ (below-tested (2 * d) (3 * nodes S) E (tree .challenges-below))
         ∙ first-holds 12 _ _ challenges-apart
@@ -141,6 +147,7 @@ module _ (S : Settings) (ok : Valid S) (G C rounds E : List ℕ) (finals : List 
         exact = λ m f. exit-root ∙ exact S (ok .log) (sym (ok .degree-is)) E finals m triples (f .long) (f .each);
       }
 
-pub extraction-claim : (S : Settings) → Valid S → (G C rounds E : List ℕ) (finals w : List ℤ) → Below (S .modulus) (cells S) G → FullTree S G C rounds E finals → growth S ≤ growthLimit → length w ≡ cells S
+pub extraction-claim : (S : Settings) → Valid S → (G C rounds E : List ℕ) (finals w : List ℤ)
+    → Below (S .modulus) (cells S) G → FullTree S G C rounds E finals → growth S ≤ growthLimit → length w ≡ cells S
     → ExtractionClaim S G C rounds E finals w
 extraction-claim S ok G C rounds E finals w key-ok tree room long = claimed S ok G C rounds E finals key-ok tree room w long

@@ -155,7 +155,11 @@ module _ (S : Settings) where
   three-each : Valid S → ThreeEach S counted
   three-each ok = record {
     below = record { long = tabulate-length (3 * nodes S) _; each = λ i l. subst (λ x. x < 2 * S .degree) (sym (tabulate-at (3 * nodes S) (λ i. i % 3) 0 i l)) (omega (arith, degree-least ok)) };
-    different = λ k l. (apart-at k 0 1 l (omega arith) (omega arith) (λ e. omega arith), apart-at k 0 2 l (omega arith) (omega arith) (λ e. omega arith), apart-at k 1 2 l (omega arith) (omega arith) (λ e. omega arith));
+    different = λ k l. (
+      apart-at k 0 1 l (omega arith) (omega arith) (λ e. omega arith),
+      apart-at k 0 2 l (omega arith) (omega arith) (λ e. omega arith),
+      apart-at k 1 2 l (omega arith) (omega arith) (λ e. omega arith),
+    );
   }
 
 pub never-vacuous : NeverVacuous

@@ -85,7 +85,10 @@ opening-performed : (S : Settings) (G : List ℕ) (M : List ℤ) (E rounds : Lis
 opening-performed S G M E rounds claim r key′ message′ rounds′ call = record {
   not-refused = ap (λ x. x .number) (call .answer) ∙ claim .not-refused;
   says-accepted = ap (λ x. x .verdict) (call .answer) ∙ claim .says-accepted;
-  is-accepted = subst (Accepted S G) (λ i. record { commitment = sym (call .answer) i .commitment; rounds = sym (call .rounds-exit) i; challenges = E; last = sym (call .answer) i .last }) (claim .is-accepted);
+  is-accepted = subst
+      (Accepted S G)
+      (λ i. record { commitment = sym (call .answer) i .commitment; rounds = sym (call .rounds-exit) i; challenges = E; last = sym (call .answer) i .last })
+      (claim .is-accepted);
   by-moves = same;
 }
   where

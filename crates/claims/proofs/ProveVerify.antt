@@ -20,7 +20,8 @@ use Rattle.protocol.specs.Opening.{commitment, roundTable, messageAfter}
 use Rattle.protocol.specs.Transcript.{Transcript, transcriptOf, accepted}
 use Rattle.protocol.specs.Text.{Line, Tables, textLimit, valueLimit, names, linesText, shape, settingsShape, shapes, shapeSize, contents, block, blocks, blockLines, textOf}
 use Rattle.protocol.specs.Text.{linesOf, settingsIn, tablesIn, lookRefusal, textRefusal, written, overwritten}
-use Rattle.protocol.specs.Programs.{proveReads, provePrints, verifyReads, printed, proofText, proveText, proveRefusal, proveAnswer, proveExit, proveOutput, transcriptIn, tablesAccepted, verifyRefusal, verifyAnswer}
+use Rattle.protocol.specs.Programs.{proveReads, provePrints, verifyReads, printed, proofText, proveText, proveRefusal, proveAnswer, proveExit, proveOutput}
+use Rattle.protocol.specs.Programs.{transcriptIn, tablesAccepted, verifyRefusal, verifyAnswer}
 use Rattle.protocol.specs.ProveVerify.{keyLines, headLength, withKey, keyed, Accepts, ProveVerify}
 use Rattle.protocol.proofs.Tests.{first-zero, granted-zero}
 use Rattle.protocol.proofs.Inputs.{settings-valid, valid-settings, tested-below, tested-within, below-tested, within-tested}
@@ -48,7 +49,7 @@ module _ {S : Settings} {G : List ℕ} {M : List ℤ} {E : List ℕ} (ok : Given
   unfolding transcriptOf
   last-long = last-length S (messageAfter S E L M)
 
-  -- "no coefficient beyond ±n·B", and n·B is at most 32,512
+  -- a final element's coefficients are within ±n·B, which is at most 32,512
   pub last-within : Within valueLimit d (T .last)
   unfolding signed valueLimit
   last-within = record {

@@ -372,7 +372,7 @@ roundTrip = record { back = back; forth = forth }
 
 -- a text that is not refused, and the tables that stand in it
 pub readable-tables : (P : Parts) (text : List ℕ) → textRefusal P true text ≡ 0
-    → (settingsRefusal (settingsIn (linesOf text)) ≡ 0) × Fit (shapes (settingsIn (linesOf text)) P) (contents (settingsIn (linesOf text)) (tablesIn (linesOf text))) × Passed (settingsIn (linesOf text)) (tablesIn (linesOf text))
+    → let S = settingsIn (linesOf text) in let t = tablesIn (linesOf text) in (settingsRefusal S ≡ 0) × Fit (shapes S P) (contents S t) × Passed S t
 readable-tables P text h =
     let r = readable P true text h in
     (r .settings, subst (Fit (shapes _ P)) (sym (contents-forth P text r)) (fitting P text r), fine P text r)

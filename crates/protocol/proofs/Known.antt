@@ -48,7 +48,7 @@ examples =
     ∷ record { given = coefficients 2 (s 2 0 1); wanted = pos 1 ∷ pos 1 ∷ [] }
     ∷ record { given = coefficients 4 (s 4 0 2); wanted = pos 1 ∷ pos 0 ∷ pos 1 ∷ pos 0 ∷ [] }
     ∷ record { given = coefficients 4 (product 4 (power 4 3) (power 4 1)); wanted = negsuc 0 ∷ pos 0 ∷ pos 0 ∷ pos 0 ∷ [] }
-    -- "challenges 0, 1, 2, leaves 2 −1, 1 0, 0 −1": the tree that honest answers give
+    -- these leaves, and the listing's round at the root, are what honest answers give
     ∷ record { given = map pos (honestRounds S₁ (0 ∷ 1 ∷ 2 ∷ []) key₁ message₁); wanted = map pos rounds₁ }
     ∷ record { given = honestFinals S₁ (0 ∷ 1 ∷ 2 ∷ []) message₁; wanted = leaves₁ }
     -- "w is 4 −4, 4 0.": as the root vector, and as what the call leaves

@@ -23,7 +23,8 @@ use Rattle.protocol.specs.Session.{blank}
 use Rattle.protocol.specs.Calls.{openingAnswer}
 use Rattle.protocol.specs.Inputs.{Valid, Below, Within}
 use Rattle.protocol.specs.Promises.{Opening}
-use Rattle.protocol.specs.Demand3.{State, KeyTable, MessageTable, Record, Call, lentKey, lentMessage, handed, tables, refusal, backKey, backMessage, backRecord, after, turns, moves, hear, hearCommitment, hearPolynomial, hearLast, hearVerdict, step, begun, Gap, Run, OpeningClaim, Demand3}
+use Rattle.protocol.specs.Demand3.{State, KeyTable, MessageTable, Record, Call, turns, moves, step, begun, Gap, Run, OpeningClaim, Demand3}
+use Rattle.protocol.specs.Demand3.{lentKey, lentMessage, handed, tables, refusal, backKey, backMessage, backRecord, after, hear, hearCommitment, hearPolynomial, hearLast, hearVerdict}
 use Rattle.protocol.specs.Performed.{Performance, PerformedDemand3}
 use Rattle.protocol.proofs.Compute.{computed}
 use Rattle.protocol.proofs.Listing.{S₁, key₁, message₁, rounds₁}
@@ -189,7 +190,10 @@ module _ (claim : PerformedDemand3) (r : Opened) (key′ : List ℕ) (message′
         whole = record {
           not-refused = o .not-refused;
           verdict-accepted = o .says-accepted;
-          transcript = subst (Accepted S₁ key₁) (λ i. record { commitment = call .answer i .commitment; rounds = call .rounds-exit i; challenges = 1 ∷ []; last = call .answer i .last }) (o .is-accepted);
+          transcript = subst
+              (Accepted S₁ key₁)
+              (λ i. record { commitment = call .answer i .commitment; rounds = call .rounds-exit i; challenges = 1 ∷ []; last = call .answer i .last })
+              (o .is-accepted);
         };
         moves = record {
           no-refusal = same .no-refusal;

@@ -39,8 +39,8 @@ use Rattle.protocol.specs.Judge.{slack, Opens}
 use Rattle.protocol.specs.Calls as Calls
 use Rattle.protocol.specs.Text.{Tables}
 use Rattle.protocol.specs.Promises.{Folded, Opening, Extracted, Read, Wrote}
-use Rattle.protocol.specs.Demand3.{Held, Heard, State, KeyTable, MessageTable, Record, Call, Step, lentKey, lentMessage, handed, tables, backKey, backMessage, backRecord, moves, begun, FullTree, FoldsOf}
-use Rattle.protocol.specs.Demand3.{hear, hearCommitment, hearPolynomial, hearLast, hearVerdict}
+use Rattle.protocol.specs.Demand3.{Held, Heard, State, KeyTable, MessageTable, Record, Call, Step, moves, begun, FullTree, FoldsOf}
+use Rattle.protocol.specs.Demand3.{lentKey, lentMessage, handed, tables, backKey, backMessage, backRecord, hear, hearCommitment, hearPolynomial, hearLast, hearVerdict}
 
 -- ════ calls
 
