@@ -7,10 +7,10 @@ use mathlib.Core.Logic.{_≢_}
 use mathlib.Core.Bool.{true, false, _&&_, not, false≢true}
 use mathlib.Core.List.{List, [], _∷_}
 use Prim.Native.Nat.{ℕ, _*_, _<_, _≤_}
-use borrow.Author.Tests.{eq-eqb, leb-true, ltb-true}
-use lib.Dec.{eqb, ltb}
+use borrow.Author.Tests.{eq-eqb, leb-true}
+use lib.Dec.{eqb}
 use lib.IntN.{ℤ}
-use lib.ListN.{length, getD}
+use lib.ListN.{length}
 use Rattle.protocol.specs.declared.Settings.{Settings}
 use Rattle.protocol.specs.Basic.{unless}
 use Rattle.protocol.specs.Settings.{settingsRefusal, cells, sized, residues, residueElement, exponent, exponents}
@@ -34,7 +34,6 @@ pub record EarlyGiven (S : Settings) (C key rounds E : List ℕ) (finals w : Lis
   pub settings : Valid S
   pub lengths : Lengths S key rounds E finals w
   pub key-below : Below (S .modulus) (cells S) key
-  pub commitment-below : (k : ℕ) → k < S .degree → getD C k 0 < S .modulus
   pub rounds-below : Below (S .modulus) (3 * nodes S * S .degree) rounds
   pub challenges-below : Below (2 * S .degree) (3 * nodes S) E
   pub different : (k : ℕ) → k < nodes S → Apart E k
@@ -58,7 +57,7 @@ node-apart E k t =
 
 module _ (S : Settings) (C key rounds E : List ℕ) (finals w : List ℤ) where
   pub early-given : earlyRefusal S C key rounds E finals w ≡ 0 → EarlyGiven S C key rounds E finals w
-  unfolding earlyRefusal residues residueElement exponents exponent sized
+  unfolding earlyRefusal residues exponents exponent sized
   early-given e =
       let (r6, e7) = first-zero _ _ e in
       let (r7, e8) = first-zero _ _ e7 in
@@ -73,7 +72,6 @@ module _ (S : Settings) (C key rounds E : List ℕ) (finals w : List ℤ) where
         settings = settings-valid S r6;
         lengths = l;
         key-below = tested-below (S .modulus) (cells S) key (eq-eqb _ _ (l .key-long)) of-key;
-        commitment-below = λ k h. ltb-true _ _ (every-at (S .degree) (λ k. ltb (getD C k 0) (S .modulus)) of-commitment k h);
         rounds-below = tested-below (S .modulus) (3 * nodes S * S .degree) rounds (eq-eqb _ _ (l .rounds-long)) of-rounds;
         challenges-below = tested-below (2 * S .degree) (3 * nodes S) E (eq-eqb _ _ (l .challenges-long)) (unless-zero 9 _ r10);
         different = λ k h. node-apart E k (every-at (nodes S) (apart E) (unless-zero 11 _ r12) k h);
@@ -90,7 +88,6 @@ module _ (S : Settings) (C key rounds E : List ℕ) (finals w : List ℤ) where
         settings = g .settings;
         key-below = g .key-below;
         tree = record {
-          commitment-below = g .commitment-below;
           rounds-below = g .rounds-below;
           challenges-below = g .challenges-below;
           finals-long = g .lengths .finals-long;

@@ -7,7 +7,8 @@
 --     bound, opening 4^L times the commitment, and exactly 4^L·m where all leaves are folds of one m.
 --
 -- From here to the functions. The claim speaks of definitions such as `openingAnswer`, `foldKeyExit`, `move` and `extractExit`. Each public function promises an equation with its
--- definition, for every input and with no `requires`: r ≡ openingAnswer .., key at exit ≡ openingKeyExit .., and so on. Put these equations in, and the claim is one about the functions.
+-- definition, for every input and with no `requires`. `PerformedDemand3` (protocol/specs/Performed) is the claim over values of which only these promises are known; Performed proves it from this one.
+-- That there is something to claim, a run for every message and a full tree for every choice of challenges, is `NeverVacuous` (protocol/specs/HonestTree), proved in HonestTree.
 --
 -- What rules out a weaker claim, in the order of the ways in which one could slip in:
 --    1 refused calls of some kinds only          `Call` has every call that can be lent one of the tables or given the record: the table reader and writer, the whole opening, the extractor too

@@ -1,17 +1,18 @@
--- Demand 3's claim on trees: the extractor refuses no full tree, and what it gives is the root's vector, within its bound, opens 4^L times the commitment, satisfies the judge, and is 4^L·m where the leaves are folds of m.
+-- Demand 3's claim on trees: the extractor refuses no full tree, and what it gives is the root's vector, within its bound, opens 4^L times the commitment, satisfies the judge,
+-- and is 4^L·m where the leaves are folds of m. Where the growth is beyond its limit, judge and extractor refuse every full tree by 14.
 use mathlib.Core.Path.{_≡_, sym, ap, _∙_, subst}
 use mathlib.Core.Logic.{_≢_}
 use mathlib.Core.Bool.{true, false, not}
-use mathlib.Core.List.{List}
+use mathlib.Core.List.{List, [], _∷_}
 use Prim.Native.Nat.{ℕ, _*_, _<_, _≤_}
 use native.Mathlib.Nat as Nat
 use native.Mathlib.Omega.{arith}
-use borrow.Author.Tests.{eq-eqb, ne-eqb, le-leb, lt-ltb}
+use borrow.Author.Tests.{eq-eqb, ne-eqb, le-leb, lt-leb, lt-ltb}
 use lib.Dec.{eqb}
 use lib.ListN.{length}
 use lib.IntN.{ℤ}
 use Rattle.protocol.specs.declared.Settings.{Settings}
-use Rattle.protocol.specs.Basic.{every, granted}
+use Rattle.protocol.specs.Basic.{every, first, unless, granted}
 use Rattle.protocol.specs.Element.{signed}
 use Rattle.protocol.specs.Settings.{size, cells, sized, residues, residueElement, exponent, exponents}
 use Rattle.protocol.specs.Transcript.{accepted}
@@ -20,11 +21,13 @@ use Rattle.protocol.specs.Judge.{slack, slackAllowed, opens, judged, Opens}
 use Rattle.protocol.specs.Calls.{everyPath, extractRefusal, extractExit, judgeRefusal, judgeAnswer}
 use Rattle.protocol.specs.Inputs.{Valid, Below, Within}
 use Rattle.protocol.specs.Demand3.{FullTree, ExtractionClaim}
-use Rattle.protocol.proofs.Tests.{and-intro, every-intro, first-nothing, zero-first, zero-unless}
-use Rattle.protocol.proofs.Inputs.{valid-settings, below-tested, below-sized, within-tested, within-sized}
+use Rattle.protocol.proofs.Tests.{and-intro, every-intro, first-nothing}
+use Rattle.protocol.proofs.Refusals.{first-passes, first-holds, first-fails}
+use Rattle.protocol.proofs.Inputs.{valid-settings, below-tested, below-sized, within-tested}
 use Rattle.protocol.proofs.Acceptance.{accepted-test}
 use Rattle.claims.proofs.Bounds.{Bounded}
-use Rattle.claims.proofs.Honest.{degree-positive}
+use Rattle.claims.proofs.Ranges.{accepted-commitment}
+use Rattle.claims.proofs.Honest.{degree-positive, modulus-positive}
 use Rattle.claims.proofs.Weights.{Triple, node-triple}
 use Rattle.claims.proofs.Extraction.{extracts}
 use Rattle.claims.proofs.Exactness.{exact}
@@ -38,7 +41,7 @@ slack-allowed S l = and-intro (le-leb _ _ (Nat.one-le-pow (S .depth) 4 (omega ar
 differ : (a b : ℕ) → a ≢ b → not (eqb a b) ≡ true
 differ a b ne = ap not (ne-eqb a b ne)
 
-module _ (S : Settings) (ok : Valid S) (G C rounds E : List ℕ) (finals w : List ℤ) (key-ok : Below (S .modulus) (cells S) G) (tree : FullTree S G C rounds E finals) (room : growth S ≤ growthLimit) where
+module _ (S : Settings) (ok : Valid S) (G C rounds E : List ℕ) (finals : List ℤ) (key-ok : Below (S .modulus) (cells S) G) (tree : FullTree S G C rounds E finals) where
   open Settings S using (degree as d, depth as L, modulus as q)
 
   abbrev root : List ℤ
@@ -52,13 +55,13 @@ module _ (S : Settings) (ok : Valid S) (G C rounds E : List ℕ) (finals w : Lis
   unfolding apart
   challenges-apart = every-intro (λ k l. let t = tree .different k l in and-intro (and-intro (differ _ _ (t .0)) (differ _ _ (t .1))) (differ _ _ (t .2)))
 
-  commitment-tested : residueElement S C ≡ true
-  unfolding residueElement
-  commitment-tested = every-intro (λ k l. lt-ltb _ _ (tree .commitment-below k l))
+  some-leaf : 0 < leaves S
+  unfolding leaves
+  some-leaf = Nat.one-le-pow L 3 (omega arith)
 
-  growth-tested : grows S ≡ true
-  unfolding grows
-  growth-tested = le-leb _ _ room
+  commitment-tested : residueElement S C ≡ true
+  unfolding residueElement path
+  commitment-tested = every-intro (λ k l. lt-ltb _ _ (accepted-commitment S (modulus-positive S ok) G _ (tree .accepted 0 some-leaf) k l))
 
   triples : (k : ℕ) → k < nodes S → Triple d (challenge E k 0) (challenge E k 1) (challenge E k 2)
   triples = node-triple S E (tree .challenges-below) (tree .different)
@@ -75,47 +78,76 @@ module _ (S : Settings) (ok : Valid S) (G C rounds E : List ℕ) (finals w : Lis
   root-opens : Opens S G C (slack S) root
   root-opens = extracts S (ok .log) (sym (ok .degree-is)) (ok .modulus-odd) C G rounds E finals triples paths-accepted
 
-  judge-granted : judgeRefusal S C (slack S) G root ≡ 0
-  unfolding judgeRefusal residues
-  judge-granted =
-      zero-first _ _ (valid-settings S ok)
-      (zero-first _ _ (zero-unless 7 _ (and-intro (below-sized q (cells S) G key-ok) (within-sized (growth S) (cells S) root in-bound)))
-      (zero-first _ _ (zero-unless 8 _ (and-intro (below-tested q (cells S) G key-ok) commitment-tested))
-      (zero-first _ _ (zero-unless 14 _ growth-tested)
-      (zero-first _ _ (zero-unless 15 _ (slack-allowed S (ok .depth-most))) first-nothing))))
+  -- ---- the tests before 14 pass
 
-  judge-yes : judged S G C (slack S) root ≡ true
-  unfolding judged opens
-  judge-yes = and-intro (every-intro (λ k l. eq-eqb _ _ (root-opens k l))) (within-tested (growth S) (cells S) root in-bound)
+  module _ (w : List ℤ) (long : length w ≡ cells S) where
+    pub judge-tests : (c : ℕ) → judgeRefusal S C c G w ≡ first (unless 14 (grows S) ∷ unless 15 (slackAllowed S c) ∷ [])
+    unfolding judgeRefusal residues sized
+    judge-tests c =
+        first-passes _ _ (valid-settings S ok)
+        ∙ first-holds 7 _ _ (and-intro (below-sized q (cells S) G key-ok) (eq-eqb _ _ long))
+        ∙ first-holds 8 _ _ (and-intro (below-tested q (cells S) G key-ok) commitment-tested)
 
-  judge-says : judgeAnswer S C (slack S) G root ≡ record { number = 0; yes = true }
-  unfolding judgeAnswer granted
-  judge-says = λ i. record { number = judge-granted i; yes = granted (judge-granted i) (judge-yes i) false }
-
-  -- ---- the call
-
-  module _ (long : length w ≡ cells S) where
-    extract-granted : extractRefusal S C G rounds E finals w ≡ 0
+    pub extract-tests : extractRefusal S C G rounds E finals w ≡ first (unless 14 (grows S) ∷ [])
     unfolding extractRefusal residues exponents exponent sized
-    extract-granted =
-        zero-first _ _ (valid-settings S ok)
-        (zero-first _ _ (zero-unless 7 _ (and-intro (and-intro (and-intro (and-intro (below-sized q (cells S) G key-ok) (below-sized q (3 * nodes S * d) rounds (tree .rounds-below))) (below-sized (2 * d) (3 * nodes S) E (tree .challenges-below))) (eq-eqb _ _ (tree .finals-long))) (eq-eqb _ _ long)))
-        (zero-first _ _ (zero-unless 8 _ (and-intro (and-intro (below-tested q (cells S) G key-ok) commitment-tested) (below-tested q (3 * nodes S * d) rounds (tree .rounds-below))))
-        (zero-first _ _ (zero-unless 10 _ (below-tested (2 * d) (3 * nodes S) E (tree .challenges-below)))
-        (zero-first _ _ (zero-unless 12 _ challenges-apart)
-        (zero-first _ _ (zero-unless 13 _ paths-accepted)
-        (zero-first _ _ (zero-unless 14 _ growth-tested) first-nothing))))))
+    extract-tests =
+        first-passes _ _ (valid-settings S ok)
+        ∙ first-holds 7 _ _ (and-intro (and-intro (and-intro (and-intro
+        (below-sized q (cells S) G key-ok)
+        (below-sized q (3 * nodes S * d) rounds (tree .rounds-below)))
+        (below-sized (2 * d) (3 * nodes S) E (tree .challenges-below)))
+        (eq-eqb _ _ (tree .finals-long)))
+        (eq-eqb _ _ long))
+        ∙ first-holds 8 _ _ (and-intro (and-intro (below-tested q (cells S) G key-ok) commitment-tested) (below-tested q (3 * nodes S * d) rounds (tree .rounds-below)))
+        ∙ first-holds 10 _ _ (below-tested (2 * d) (3 * nodes S) E (tree .challenges-below))
+        ∙ first-holds 12 _ _ challenges-apart
+        ∙ first-holds 13 _ _ paths-accepted
 
-    exit-root : extractExit S C G rounds E finals w ≡ root
-    unfolding extractExit granted
-    exit-root = ap (λ n. granted n root w) extract-granted
+    -- beyond 2^62 judge and extractor refuse every full tree by 14, whatever the slack
+    pub growth-refused : growthLimit < growth S → ((c : ℕ) → judgeRefusal S C c G w ≡ 14) × (extractRefusal S C G rounds E finals w ≡ 14)
+    unfolding grows
+    growth-refused over = let past : grows S ≡ false = lt-leb _ _ over in (λ c. judge-tests c ∙ first-fails 13 _ _ past, extract-tests ∙ first-fails 13 _ _ past)
 
-    pub extraction-claim : ExtractionClaim S G C rounds E finals w
-    extraction-claim = record {
-      not-refused = extract-granted;
-      is-root-vector = exit-root;
-      in-bound = subst (Within (growth S) (cells S)) (sym exit-root) in-bound;
-      opens = subst (Opens S G C (slack S)) (sym exit-root) root-opens;
-      judge-says-yes = ap (judgeAnswer S C (slack S) G) exit-root ∙ judge-says;
-      exact = λ m f. exit-root ∙ exact S (ok .log) (sym (ok .degree-is)) E finals m triples (f .long) (f .each);
-    }
+    -- up to 2^62 they refuse none
+    pub growth-passed : growth S ≤ growthLimit → ((c : ℕ) → slackAllowed S c ≡ true → judgeRefusal S C c G w ≡ 0) × (extractRefusal S C G rounds E finals w ≡ 0)
+    unfolding grows
+    growth-passed room =
+        let small : grows S ≡ true = le-leb _ _ room in
+        (λ c a. judge-tests c ∙ first-holds 14 _ _ small ∙ first-holds 15 _ _ a ∙ first-nothing, extract-tests ∙ first-holds 14 _ _ small ∙ first-nothing)
+
+  -- ---- within 2^62
+
+  module _ (room : growth S ≤ growthLimit) where
+    judge-granted : judgeRefusal S C (slack S) G root ≡ 0
+    judge-granted = growth-passed root (in-bound .long) room .0 (slack S) (slack-allowed S (ok .depth-most))
+
+    judge-yes : judged S G C (slack S) root ≡ true
+    unfolding judged opens
+    judge-yes = and-intro (every-intro (λ k l. eq-eqb _ _ (root-opens k l))) (within-tested (growth S) (cells S) root in-bound)
+
+    judge-says : judgeAnswer S C (slack S) G root ≡ record { number = 0; yes = true }
+    unfolding judgeAnswer granted
+    judge-says = λ i. record { number = judge-granted i; yes = granted (judge-granted i) (judge-yes i) false }
+
+    module _ (w : List ℤ) (long : length w ≡ cells S) where
+      extract-granted : extractRefusal S C G rounds E finals w ≡ 0
+      extract-granted = growth-passed w long room .1
+
+      exit-root : extractExit S C G rounds E finals w ≡ root
+      unfolding extractExit granted
+      exit-root = ap (λ n. granted n root w) extract-granted
+
+      claimed : ExtractionClaim S G C rounds E finals w
+      claimed = record {
+        not-refused = extract-granted;
+        is-root-vector = exit-root;
+        in-bound = subst (Within (growth S) (cells S)) (sym exit-root) in-bound;
+        opens = subst (Opens S G C (slack S)) (sym exit-root) root-opens;
+        judge-says-yes = ap (judgeAnswer S C (slack S) G) exit-root ∙ judge-says;
+        exact = λ m f. exit-root ∙ exact S (ok .log) (sym (ok .degree-is)) E finals m triples (f .long) (f .each);
+      }
+
+pub extraction-claim : (S : Settings) → Valid S → (G C rounds E : List ℕ) (finals w : List ℤ)
+    → Below (S .modulus) (cells S) G → FullTree S G C rounds E finals → growth S ≤ growthLimit → length w ≡ cells S
+    → ExtractionClaim S G C rounds E finals w
+extraction-claim S ok G C rounds E finals w key-ok tree room long = claimed S ok G C rounds E finals key-ok tree room w long

@@ -28,7 +28,11 @@ pub mod Exactness
 pub mod Norms
 pub mod Growth
 pub mod GrowthTest
+pub mod HonestTree
 pub mod Extractor
+pub mod GrowthCases
 pub mod Demand3
+pub mod Performed
 pub mod TextLimits
 pub mod RoundTrip
+pub mod ProveVerify

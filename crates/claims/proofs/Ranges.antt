@@ -1,5 +1,5 @@
 -- What an opening gives is residues, of the right lengths: commitment, round elements, claims, folded key, final element.
-use mathlib.Core.Path.{_≡_, sym, _∙_, subst}
+use mathlib.Core.Path.{_≡_, sym, ap, _∙_, subst}
 use mathlib.Core.List.{List}
 use Prim.Native.Nat.{ℕ, zero, suc, _*_, _/_, _%_, _<_}
 use native.Mathlib.Decide.{decLt}
@@ -11,7 +11,7 @@ use Rattle.protocol.specs.Basic.{flat}
 use Rattle.protocol.specs.Element.{Element, signed, signedAt, coefficients, reduced, padded, paddedSigned}
 use Rattle.protocol.specs.Settings.{cells}
 use Rattle.protocol.specs.Opening.{commitment, roundElement, roundTable, messageAfter, keyAfter, finalElement}
-use Rattle.protocol.specs.Transcript.{Transcript, nextClaim, claimAfter}
+use Rattle.protocol.specs.Transcript.{Transcript, doubled, ending, nextClaim, claimAfter, Accepted}
 use Rattle.protocol.specs.Inputs.{Below}
 use Rattle.protocol.proofs.Reading.{tabulate-length, tabulate-at}
 use Rattle.claims.proofs.Readings.{reduced-at, modulo-lt}
@@ -61,6 +61,16 @@ module _ (S : Settings) (pq : 0 < S .modulus) where
 
   pub key-residues : (E : List ℕ) (t : ℕ) (key : List ℕ) → Below q (cells S) key → Below q (cells S) (keyAfter S E t key)
   key-residues E t key b = record { long = key-length S E t key (b .long); each = λ i l. key-below S E pq t key (below-everywhere q (cells S) key pq b) i }
+
+  -- an accepted transcript starts at residues: with rounds by the first of them, with none by the end
+  pub accepted-commitment : (key : List ℕ) (T : Transcript) → Accepted S key T → (k : ℕ) → k < d → getD (T .commitment) k 0 < q
+  unfolding claimAfter doubled ending
+  accepted-commitment key T a k l = elim (decLt 0 L) [
+    | yes some ↦ subst (λ x. x < q) (a .every-round 0 some k l) (modulo-lt q pq _)
+    | no none ↦
+        let bare : 0 ≡ L = omega arith in
+        subst (λ x. x < q) (sym (ap (λ t. getD (claimAfter S T t) k 0) bare ∙ a .at-end k l)) (modulo-lt q pq _)
+  ]
 
 module _ (S : Settings) (message : List ℤ) where
   pub last-length : length (finalElement S message) ≡ S .degree

@@ -21,7 +21,7 @@ use Rattle.protocol.specs.Text.{parsed, linesOf, sameSpot, sameSpots, spotsOf, 
 use Rattle.protocol.specs.Text.{settingIn, settingsIn, tablesIn, lookRefusal, loaded, entriesRefusal, textRefusal, readRefusal, readAnswer}
 use Rattle.protocol.specs.Text.{readExit}
 use Rattle.protocol.specs.Text.{outputRefusal, writeRefusal, written, overwritten, writeAnswer, writeExit}
-use Rattle.protocol.specs.RoundTrip.{outcome, Back, Forth, RoundTrip}
+use Rattle.protocol.specs.RoundTrip.{outcome, Back, Forth, RoundTrip, OneText}
 use Rattle.protocol.proofs.Tests.{first-zero, unless-zero, and-intro}
 use Rattle.protocol.proofs.LineLaws.{AllLimited, linesOf-written, parsed-text}
 use Rattle.protocol.proofs.TableLaws.{Rising, Fit, parts, columns, written-spots, written-columns, blockLines-values, read-lines, read-fit}
@@ -147,10 +147,10 @@ module _ (S : Settings) (P : Parts) (t : Tables) where
     unfolding wellFormed wanted shapes flatMap settingsShape shape choose shapeSize spots spotAt tabulate sameSpots sameSpot
     well-formed a p = rw (lines-read a p, spots-wanted)
 
-    read-back : Allowed S → Passed S t → settingsRefusal S ≡ 0 → length (textOf S P t) ≤ textLimit → (u : Tables) → fits S P u ≡ true
-        → readRefusal P (textOf S P t) u ≡ 0
-    unfolding readRefusal textRefusal lookRefusal first unless
-    read-back a p s n u h =
+    -- the lent tables having their lengths
+    read-back : Allowed S → Passed S t → settingsRefusal S ≡ 0 → length (textOf S P t) ≤ textLimit → (lent : Bool) → lent ≡ true → textRefusal P lent (textOf S P t) ≡ 0
+    unfolding textRefusal lookRefusal first unless
+    read-back a p s n lent h =
         rw (
           le-leb (length (textOf S P t)) textLimit n,
           well-formed a p,
@@ -200,13 +200,13 @@ text-written S P t out h = rw h (take-append-seam (textOf S P t) (drop (length (
 
 back : (S : Settings) (P : Parts) (t : Tables) (out : List ℕ) (lent : Tables) → writeRefusal S P t (length out) ≡ 0 → fits S P lent ≡ true
     → Back S P t out lent
-unfolding readAnswer readExit loaded granted
+unfolding readRefusal readAnswer readExit loaded granted
 back S P t out lent h f =
     let w = writable S P t out h in
     let a = allowed S (w .settings) in
     let p = passed S _ t (w .entries) (λ e. e) in
     let g = fits-fit S P t (w .tables) in
-    let r = read-back S P t g a p (w .settings) (w .short) lent f in
+    let r : readRefusal P (textOf S P t) lent ≡ 0 = read-back S P t g a p (w .settings) (w .short) _ (ap (λ R. fits R P lent) (ap settingsIn (lines-read S P t a p) ∙ settings-back S P t) ∙ f) in
     record {
       answer = rw (text-written S P t out h, r, lines-read S P t a p, settings-back S P t);
       tables = rw (text-written S P t out h, r, lines-read S P t a p, tables-back S P t g);
@@ -239,9 +239,9 @@ record Readable (P : Parts) (text : List ℕ) : Type 0 where
   order : spotsOf (linesOf text) ≡ wanted (settingsIn (linesOf text)) P
   entries : entriesRefusal (settingsIn (linesOf text)) true (tablesIn (linesOf text)) ≡ 0
 
-readable : (P : Parts) (text : List ℕ) (lent : Tables) → readRefusal P text lent ≡ 0 → Readable P text
-unfolding readRefusal textRefusal lookRefusal
-readable P text lent h =
+readable : (P : Parts) (lent : Bool) (text : List ℕ) → textRefusal P lent text ≡ 0 → Readable P text
+unfolding textRefusal lookRefusal
+readable P lent text h =
     let (look, r₁) = first-zero _ _ h in
     let (h₇, r₂) = first-zero _ _ r₁ in
     let (h₈, r₃) = first-zero _ _ r₂ in
@@ -360,12 +360,36 @@ module _ (P : Parts) (text : List ℕ) (r : Readable P text) where
       }
 
 forth : (P : Parts) (text : List ℕ) (lent : Tables) (out : List ℕ) → readRefusal P text lent ≡ 0 → length text ≤ length out → Forth P text lent out
-unfolding readAnswer readExit loaded granted writeAnswer writeExit written overwritten
+unfolding readRefusal readAnswer readExit loaded granted writeAnswer writeExit written overwritten
 forth P text lent out h n =
-    let r = readable P text lent h in
+    let r = readable P _ text h in
     let w = writable-refusal _ P _ out (written-forth P text r out n) in
     record { answer = rw (h, w, text-forth P text r); output = rw (h, w, text-forth P text r) }
 
 pub roundTrip : RoundTrip
 unfolding writeAnswer written readAnswer loaded
 roundTrip = record { back = back; forth = forth }
+
+-- a text that is not refused, and the tables that stand in it
+pub readable-tables : (P : Parts) (text : List ℕ) → textRefusal P true text ≡ 0
+    → let S = settingsIn (linesOf text) in let t = tablesIn (linesOf text) in (settingsRefusal S ≡ 0) × Fit (shapes S P) (contents S t) × Passed S t
+readable-tables P text h =
+    let r = readable P true text h in
+    (r .settings, subst (Fit (shapes _ P)) (sym (contents-forth P text r)) (fitting P text r), fine P text r)
+
+-- and the other way round
+pub tables-readable : (S : Settings) (P : Parts) (t : Tables) → settingsRefusal S ≡ 0 → Fit (shapes S P) (contents S t) → Passed S t → length (textOf S P t) ≤ textLimit
+    → (textRefusal P true (textOf S P t) ≡ 0) × (settingsIn (linesOf (textOf S P t)) ≡ S) × (tablesIn (linesOf (textOf S P t)) ≡ t)
+tables-readable S P t s f p n =
+    let a = allowed S s in
+    (read-back S P t f a p s n true refl, ap settingsIn (lines-read S P t a p) ∙ settings-back S P t, ap tablesIn (lines-read S P t a p) ∙ tables-back S P t f)
+
+-- what was read of a text has one text, and that is it
+text-of-read : (P : Parts) (text : List ℕ) (lent : Tables) → readRefusal P text lent ≡ 0 → textOf (readAnswer P text lent .settings) P (readExit P text lent) ≡ text
+unfolding readRefusal readAnswer readExit loaded granted
+text-of-read P text lent h = rw h (text-forth P text (readable P _ text h))
+
+pub oneText : OneText
+unfolding readAnswer loaded
+oneText P text text′ lent lent′ h h′ settings tables =
+    sym (text-of-read P text lent h) ∙ ap₂ (λ S t. textOf S P t) settings tables ∙ text-of-read P text′ lent′ h′

@@ -1,6 +1,6 @@
 -- The challenges that a record holds after t rounds: exponents all of them, and for the folds of a key as good as the challenges themselves.
 --   stored E t    the list of eight, the first t of E stored one after the other
-use mathlib.Core.Path.{_≡_, refl, sym, ap₂, _∙_, subst}
+use mathlib.Core.Path.{_≡_, refl, sym, _∙_, subst}
 use mathlib.Core.Bool.{Bool, true}
 use mathlib.Core.List.{List, [], _∷_}
 use Prim.Native.Nat.{ℕ, zero, suc, _*_, _<_, _≤_}
@@ -13,10 +13,10 @@ use Rattle.protocol.specs.declared.Settings.{Settings}
 use Rattle.protocol.specs.Basic.{all}
 use Rattle.protocol.specs.Element.{Element, zeros}
 use Rattle.protocol.specs.Settings.{exponent, exponents}
-use Rattle.protocol.specs.Opening.{keyAfter, foldKey}
 use Rattle.protocol.specs.Transcript.{ending}
 use Rattle.protocol.specs.Session.{slots}
 use Rattle.protocol.proofs.Tests.{and-split, and-intro}
+use Rattle.claims.proofs.Tables.{key-challenges}
 
 -- "stores its challenge"; "the unused ones 0"
 unfoldable pub stored : List ℕ → ℕ → List ℕ
@@ -52,12 +52,6 @@ unfolding exponents exponent stored zeros
 stored-exponents S p E zero e = all-replicate (exponent S) slots 0 (lt-ltb 0 (2 * S .degree) (omega arith))
 stored-exponents S p E (suc t) e = all-set (exponent S) (stored E t) t _ (stored-exponents S p E t (λ i h. e i (omega arith))) (e t (omega arith))
 
--- a key's folds read only the challenges of their rounds
-key-challenges : (S : Settings) (key E F : List ℕ) (t : ℕ) → ((i : ℕ) → i < t → getD E i 0 ≡ getD F i 0) → keyAfter S E t key ≡ keyAfter S F t key
-unfolding keyAfter
-key-challenges S key E F zero e = refl
-key-challenges S key E F (suc t) e = ap₂ (foldKey S t) (e t (omega arith)) (key-challenges S key E F t (λ i h. e i (omega arith)))
-
 pub stored-ending : (S : Settings) → S .depth ≤ slots → (key E : List ℕ) (f : Element) (k : ℕ) → ending S key E f k ≡ ending S key (stored E (S .depth)) f k
 unfolding ending
-stored-ending S l key E f k = rw (key-challenges S key E (stored E (S .depth)) (S .depth) (λ i h. sym (stored-at E (S .depth) i h l)))
+stored-ending S l key E f k = rw (key-challenges S E (stored E (S .depth)) key (S .depth) (λ i h. sym (stored-at E (S .depth) i h l)))

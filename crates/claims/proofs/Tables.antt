@@ -1,6 +1,6 @@
 -- Tables after folds: what their elements are in the ring, which numbers stay, how long they are, and how many elements are left.
 --   Folds K d p h e m m′   in the ring over K, the first h elements of m′ are m_i + X^e·m_(h+i)
-use mathlib.Core.Path.{_≡_, refl, sym, ap, _∙_, subst}
+use mathlib.Core.Path.{_≡_, refl, sym, ap, ap₂, _∙_, subst}
 use mathlib.Core.List.{List, _++_}
 use Prim.Native.Nat.{ℕ, zero, suc, _+_, _*_, _-_, _/_, _%_, _^_, _<_, _≤_}
 use native.Mathlib.Nat as Nat
@@ -154,6 +154,18 @@ module _ (S : Settings) where
     pub key-below : 0 < q → (t : ℕ) (key : List ℕ) → ((j : ℕ) → getD key j 0 < q) → (j : ℕ) → getD (keyAfter S E t key) j 0 < q
     key-below pq zero key r j = unfold keyAfter in r j
     key-below pq (suc t) key r j = subst (λ G. getD G j 0 < q) (sym (key-suc E t key)) (residue-fold-below q d (halfLeft S t) (getD E t 0) _ pq (key-below pq t key r) j)
+
+  -- folds read only the challenges of their rounds
+  module _ (E F : List ℕ) where
+    pub key-challenges : (key : List ℕ) (t : ℕ) → ((i : ℕ) → i < t → getD E i 0 ≡ getD F i 0) → keyAfter S E t key ≡ keyAfter S F t key
+    unfolding keyAfter
+    key-challenges key zero e = refl
+    key-challenges key (suc t) e = ap₂ (foldKey S t) (e t (omega arith)) (key-challenges key t (λ i h. e i (omega arith)))
+
+    pub message-challenges : (message : List ℤ) (t : ℕ) → ((i : ℕ) → i < t → getD E i 0 ≡ getD F i 0) → messageAfter S E t message ≡ messageAfter S F t message
+    unfolding messageAfter
+    message-challenges message zero e = refl
+    message-challenges message (suc t) e = ap₂ (foldMessage S t) (e t (omega arith)) (message-challenges message t (λ i h. e i (omega arith)))
 
   -- element 3t + j of the round elements is c_j of round t + 1
   pub round-at : (E key : List ℕ) (message : List ℤ) (t j k : ℕ) → t < L → j < 3 → k < d

@@ -8,6 +8,7 @@ use Rattle.protocol.specs.Session.{slots, verdict, opened, blank, startR
 use Rattle.protocol.specs.Tree.{child, parent, place, above, challenge, challengeTo, apart, gap, steps, s, difference, mu, share, joined, combined, growthFactor, growthLimit, nodes, leaves, onPath, pathChallenges, pathRounds, leaf, path, foldTo, vector, rootVector, growth, grows}
 use Rattle.protocol.specs.Judge.{slackAllowed, slack, scaledCommitment, combination, opens, judged}
 use Rattle.protocol.specs.Calls.{commitRefusal, commitAnswer, leftSmall, movingSmall, roundRefusal, polynomial, noPolynomial, roundAnswer, foldRefusal, foldKeyExit, foldMessageExit, endingSmall, endRefusal, endAnswer, openingRefusal, openingAnswer, openingKeyExit, openingMessageExit, openingRoundsExit, checkRefusal, checkAnswer, judgeRefusal, judgeAnswer, everyPath, extractRefusal, extractExit}
+use Rattle.protocol.specs.HonestTree.{wayTo, answerAt, honestRounds, honestFinals}
 
 unfoldable pub computed : Unit {0}
 unfolding
@@ -20,4 +21,5 @@ unfolding
     child parent place above challenge challengeTo apart gap steps s difference mu share joined combined growthFactor growthLimit nodes leaves onPath pathChallenges pathRounds leaf path foldTo vector rootVector growth grows
     slackAllowed slack scaledCommitment combination opens judged
     commitRefusal commitAnswer leftSmall movingSmall roundRefusal polynomial noPolynomial roundAnswer foldRefusal foldKeyExit foldMessageExit endingSmall endRefusal endAnswer openingRefusal openingAnswer openingKeyExit openingMessageExit openingRoundsExit checkRefusal checkAnswer judgeRefusal judgeAnswer everyPath extractRefusal extractExit
+    wayTo answerAt honestRounds honestFinals
 computed = tt

@@ -3,13 +3,15 @@
 use mathlib.Core.Path.{_≡_, refl}
 use mathlib.Core.Bool.{true}
 use mathlib.Core.List.{List, [], _∷_, map}
+use lib.ListN.{replicate}
 use lib.IntN.{ℤ, pos, negsuc}
 use Rattle.protocol.specs.Basic.{all}
 use Rattle.protocol.specs.Element.{power, product, coefficients}
 use Rattle.protocol.specs.Opening.{commitment}
 use Rattle.protocol.specs.Transcript.{Transcript, claimAfter, cause, transcriptOf}
 use Rattle.protocol.specs.Tree.{s, rootVector, grows}
-use Rattle.protocol.specs.Calls.{extractRefusal, extractExit}
+use Rattle.protocol.specs.Calls.{judgeRefusal, extractRefusal, extractExit}
+use Rattle.protocol.specs.HonestTree.{honestRounds, honestFinals}
 use Rattle.protocol.proofs.Compute.{computed}
 use Rattle.protocol.proofs.Listing.{set, S₁, key₁, message₁, rounds₁, leaves₁, S₀}
 use Rattle.protocol.proofs.Examples.{Example, agree, agreeing, asNumber, causeNumber}
@@ -46,6 +48,9 @@ examples =
     ∷ record { given = coefficients 2 (s 2 0 1); wanted = pos 1 ∷ pos 1 ∷ [] }
     ∷ record { given = coefficients 4 (s 4 0 2); wanted = pos 1 ∷ pos 0 ∷ pos 1 ∷ pos 0 ∷ [] }
     ∷ record { given = coefficients 4 (product 4 (power 4 3) (power 4 1)); wanted = negsuc 0 ∷ pos 0 ∷ pos 0 ∷ pos 0 ∷ [] }
+    -- these leaves, and the listing's round at the root, are what honest answers give
+    ∷ record { given = map pos (honestRounds S₁ (0 ∷ 1 ∷ 2 ∷ []) key₁ message₁); wanted = map pos rounds₁ }
+    ∷ record { given = honestFinals S₁ (0 ∷ 1 ∷ 2 ∷ []) message₁; wanted = leaves₁ }
     -- "w is 4 −4, 4 0.": as the root vector, and as what the call leaves
     ∷ record { given = rootVector S₁ (0 ∷ 1 ∷ 2 ∷ []) leaves₁; wanted = pos 4 ∷ negsuc 3 ∷ pos 4 ∷ pos 0 ∷ [] }
     ∷ record { given = extractExit S₁ (T₁ .commitment) key₁ (T₁ .rounds) (0 ∷ 1 ∷ 2 ∷ []) leaves₁ w₁; wanted = pos 4 ∷ negsuc 3 ∷ pos 4 ∷ pos 0 ∷ [] }
@@ -56,6 +61,9 @@ examples =
     -- "growth passes at d 32, L 4, B 127; refused at d 64, L 4, B 1."
     ∷ record { given = asNumber (grows (set 32 4 17 127)); wanted = pos 1 ∷ [] }
     ∷ record { given = asNumber (grows (set 64 4 17 1)); wanted = pos 0 ∷ [] }
+    -- the same as the judge's refusal 14, at tables of zeros; as the judge's and the extractor's at every full tree, in claims/proofs/GrowthCases
+    ∷ record { given = pos (judgeRefusal (set 32 4 17 127) (replicate 32 0) 256 (replicate 512 0) (replicate 512 (pos 0))) ∷ []; wanted = pos 0 ∷ [] }
+    ∷ record { given = pos (judgeRefusal (set 64 4 17 1) (replicate 64 0) 256 (replicate 1024 0) (replicate 1024 (pos 0))) ∷ []; wanted = pos 14 ∷ [] }
     ∷ []
 
 -- the definitions give each

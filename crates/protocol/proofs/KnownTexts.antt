@@ -19,6 +19,7 @@ use Rattle.protocol.specs.Text.{outputRefusal, writeAnswer, writeExit, r
 use Rattle.protocol.specs.Programs.{proveReads, provePrints, verifyReads, proveRefusal, proveAnswer, proveExit, proveOutput}
 use Rattle.protocol.specs.Programs.{verifyRefusal, verifyAnswer, verifyOutput, checked}
 use Rattle.protocol.specs.RoundTrip.{outcome}
+use Rattle.protocol.specs.ProveVerify.{keyLines, headLength, withKey}
 use Rattle.protocol.proofs.ComputeText.{computedText}
 
 -- ---- The pieces
@@ -488,3 +489,8 @@ table =
 known-texts : map given table ≡ map expected table
 unfolding computedText given expected
 known-texts = refl
+
+-- what `prove` prints, with the key's lines put in, is what `verify` reads
+listing-keyed : withKey example (3 ∷ 5 ∷ 7 ∷ 2 ∷ []) (proveOutput (bytes (input key message challenge))) ≡ bytes (withFinal final)
+unfolding computedText keyLines headLength withKey
+listing-keyed = refl

@@ -17,4 +17,5 @@ pub mod PlaceLaws
 pub mod ReaderLaws
 pub mod TableLaws
 pub mod Trial
+pub mod TrialTree
 pub mod Refusals

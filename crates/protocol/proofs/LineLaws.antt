@@ -81,6 +81,11 @@ readLines-written (suc turns) (l ∷ ls) h t =
     readLines-step turns (lineText l ++ linesText ls) l (linesText ls) (readLine-written l (linesText ls) (h .0))
     ∙ rw (readLines-written turns ls (h .1) shorter)
 
+pub lines-append : (ks ls : List Line) → linesText (ks ++ ls) ≡ linesText ks ++ linesText ls
+unfolding linesText flatMap
+lines-append [] ls = refl
+lines-append (k ∷ ks) ls = ap (λ t. lineText k ++ t) (lines-append ks ls) ∙ sym (append-assoc (lineText k) (linesText ks) (linesText ls))
+
 pub begins-append : (cs bs : List ℕ) → begins cs (cs ++ bs) ≡ true
 unfolding begins
 begins-append [] bs = refl

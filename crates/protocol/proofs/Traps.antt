@@ -35,6 +35,13 @@ message₂ = pos 1 ∷ pos 0 ∷ pos 0 ∷ pos 1 ∷ negsuc 0 ∷ pos 1 ∷ pos 
 abbrev fresh : Session
 fresh = start S₁ (15 ∷ 4 ∷ []) .next
 
+-- records at the end of a session whose claim, and whose last challenge, is out of range; both are closed and have too few rounds done
+abbrev spoiled : Session
+spoiled = record { settings = S₁; done = 0; claim = 9 ∷ 17 ∷ []; challenges = 4 ∷ replicate 7 0; closed = true }
+
+abbrev overfull : Session
+overfull = record { settings = S₁; done = 0; claim = 9 ∷ 6 ∷ []; challenges = 1 ∷ replicate 6 0 ++ (4 ∷ []); closed = true }
+
 -- ---- rows
 
 abbrev number : ℕ → ℕ → Example
@@ -110,6 +117,10 @@ traps =
     ∷ record { given = moveNumbers (move fresh ((5 ∷ 1 ∷ []) ∷ (6 ∷ 0 ∷ []) ∷ (12 ∷ 1 ∷ []) ∷ []) 1); wanted = pos 0 ∷ pos 3 ∷ recordNumbers (shut fresh) }
     -- an end before all rounds are done; an acceptance closes the record; a final coefficient of −2^31 is rejected and not refused
     ∷ number (close fresh (pos 1 ∷ pos 0 ∷ []) key₁ .number) 11
+    -- an end tests its claim (8), then all eight challenges (10), both before 11; a refused end hands the record back
+    ∷ record { given = moveNumbers (close spoiled (pos 1 ∷ pos 0 ∷ []) key₁); wanted = pos 8 ∷ pos 0 ∷ recordNumbers spoiled }
+    ∷ record { given = moveNumbers (close overfull (pos 1 ∷ pos 0 ∷ []) key₁); wanted = pos 10 ∷ pos 0 ∷ recordNumbers overfull }
+    ∷ number (close (record { settings = S₁; done = 1; claim = 9 ∷ 6 ∷ []; challenges = 1 ∷ replicate 7 0; closed = false }) (pos 1 ∷ pos 0 ∷ []) (3 ∷ 5 ∷ 7 ∷ 17 ∷ []) .number) 8
     ∷ record { given = moveNumbers (close (move fresh polynomial₁ 1 .next) (pos 1 ∷ pos 0 ∷ []) key₁); wanted = pos 0 ∷ pos 2 ∷ recordNumbers (shut (move fresh polynomial₁ 1 .next)) }
     ∷ record { given = verdictNumber (close (move fresh polynomial₁ 1 .next) (negsuc 2_147_483_647 ∷ pos 0 ∷ []) key₁ .verdict) ∷ []; wanted = pos 3 ∷ [] }
     -- a refused start; a start does not copy what stands from d on

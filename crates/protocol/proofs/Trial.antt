@@ -1,29 +1,35 @@
--- Demand 3 put to use at document 01's listing. Whoever has the claim gets, at one stroke, what each of the four kinds of callers relies on; a claim that says less no longer gives it.
---   run₁              a list of calls that makes the listing's opening move by move, refused calls of several kinds standing between, on one table or the other
---   moves-give        from the claim: whatever such a list is, it ends with the verdict, the rounds and both tables of the whole opening
---   extraction-gives  from the claim: a tree of folds of a message beyond B gives exactly 4 times that message
-use mathlib.Core.Path.{_≡_, refl, _∙_}
+-- Demand 3 put to use at document 01's listing: whoever has the claim gets, at one stroke, what a caller of the whole opening and a caller of the moves rely on. Every field of
+-- the claim is used, and refused calls of every kind stand in the gaps, so that a claim that says less no longer gives this. (TrialTree does the same for the extractor.)
+--   run₁              a list of calls that makes the listing's opening move by move, refused calls of every kind standing between, on one table or the other
+--   opening-gives     from the claim: the whole opening is not refused, says accepted and gives an accepted transcript
+--   moves-give        from the claim: whatever such a list is, it ends with the answers and both tables of the whole opening
+--   functions-give    the same from the claim of the functions, over the values that a call of the whole opening gave
+use mathlib.Core.Path.{_≡_, refl, ap, _∙_, subst}
 use mathlib.Core.Logic.{_≢_}
 use mathlib.Core.Bool.{true, false}
 use mathlib.Core.List.{List, [], _∷_}
-use Prim.Native.Nat.{ℕ, zero, suc, _<_, _≤_}
+use Prim.Native.Nat.{ℕ, suc}
 use native.Mathlib.Omega.{arith}
-use lib.ListN.{getD, replicate}
+use lib.ListN.{replicate}
 use lib.IntN.{ℤ, pos}
 use Rattle.protocol.specs.declared.Session.{Session}
+use Rattle.protocol.specs.declared.Parts.{Parts}
+use Rattle.protocol.specs.declared.Opened.{Opened}
+use Rattle.protocol.specs.declared.Verdict.{Verdict}
 use Rattle.protocol.specs.declared.Verdict.the-variants as Says
 use Rattle.protocol.specs.Settings.{cells}
-use Rattle.protocol.specs.Transcript.{accepted, Accepted}
+use Rattle.protocol.specs.Transcript.{Accepted}
 use Rattle.protocol.specs.Session.{blank}
-use Rattle.protocol.specs.Tree.{challenge, path, leaf, foldTo, leaves, nodes, growth, growthLimit}
-use Rattle.protocol.specs.Calls.{extractExit}
+use Rattle.protocol.specs.Calls.{openingAnswer}
 use Rattle.protocol.specs.Inputs.{Valid, Below, Within}
-use Rattle.protocol.specs.Demand3.{State, KeyTable, MessageTable, Record, Call, lentKey, lentMessage, handed, tables, refusal, backKey, backMessage, backRecord, after, turns, moves, hear, hearCommitment, hearPolynomial, hearLast, hearVerdict, step, begun, Gap, Run, FullTree, FoldsOf, Demand3}
+use Rattle.protocol.specs.Promises.{Opening}
+use Rattle.protocol.specs.Demand3.{State, KeyTable, MessageTable, Record, Call, turns, moves, step, begun, Gap, Run, OpeningClaim, Demand3}
+use Rattle.protocol.specs.Demand3.{lentKey, lentMessage, handed, tables, refusal, backKey, backMessage, backRecord, after, hear, hearCommitment, hearPolynomial, hearLast, hearVerdict}
+use Rattle.protocol.specs.Performed.{Performance, PerformedDemand3}
 use Rattle.protocol.proofs.Compute.{computed}
-use Rattle.protocol.proofs.Listing.{S₁, key₁, message₁}
+use Rattle.protocol.proofs.Listing.{S₁, key₁, message₁, rounds₁}
 use Rattle.protocol.proofs.ComputeText.{computedText}
 use Rattle.protocol.proofs.Inputs.{settings-valid, tested-below, tested-within}
-use Rattle.protocol.proofs.Acceptance.{accepted-states}
 
 unfoldable ran : Unit {0}
 unfolding
@@ -31,12 +37,21 @@ unfolding
     lentKey lentMessage handed tables refusal backKey backMessage backRecord after turns moves hear hearCommitment hearPolynomial hearLast hearVerdict step begun
 ran = tt
 
--- ---- refused calls
+-- ---- refused calls, of every kind
 
--- a text that is none, read into both tables (2)
-abbrev junk : Call
-junk = Call.read (record { key = true; message = true; commitment = false; round = false; challenge = false; last = false }) (1 ∷ [])
-    KeyTable.ours MessageTable.ours (KeyTable.other []) (KeyTable.other []) (KeyTable.other []) (MessageTable.other [])
+abbrev keyAndMessage : Parts
+keyAndMessage = record { key = true; message = true; commitment = false; round = false; challenge = false; last = false }
+
+abbrev nothing : KeyTable
+nothing = KeyTable.other []
+
+-- a commitment of our message with another key, whose length is wrong (7)
+abbrev short : Call
+short = Call.commit S₁ (KeyTable.other (1 ∷ [])) MessageTable.ours
+
+-- a round with all rounds done (11)
+abbrev over : Call
+over = Call.round S₁ 1 KeyTable.ours MessageTable.ours
 
 -- a fold of our message with another key, whose length is wrong (7)
 abbrev strange : Call
@@ -46,13 +61,44 @@ strange = Call.fold S₁ 0 0 (KeyTable.other (1 ∷ [])) MessageTable.ours
 abbrev late : Call
 late = Call.fold S₁ 0 4 KeyTable.ours MessageTable.ours
 
+-- an end with more folds named than there are rounds (11)
+abbrev beyond : Call
+beyond = Call.end S₁ 2 MessageTable.ours
+
 -- a whole opening on both tables whose table of challenges is our key (7)
 abbrev whole : Call
-whole = Call.opening S₁ KeyTable.ours MessageTable.ours KeyTable.copy (KeyTable.other [])
+whole = Call.opening S₁ KeyTable.ours MessageTable.ours KeyTable.copy nothing
 
--- a move on the record as it stands before the start (3)
+-- a move on the record as it stands before the start (3), and one with a challenge out of range (10)
 abbrev early : Call
 early = Call.move Record.ours [] 0
+
+abbrev wild : Call
+wild = Call.move Record.ours ((0 ∷ []) ∷ (0 ∷ []) ∷ (0 ∷ []) ∷ []) 4
+
+-- an end of the session with a key of the wrong length (7)
+abbrev hasty : Call
+hasty = Call.close Record.ours (pos 1 ∷ []) nothing
+
+-- a check of a transcript whose round elements are our key (7)
+abbrev mistaken : Call
+mistaken = Call.check S₁ (15 ∷ 4 ∷ []) (pos 1 ∷ []) KeyTable.ours KeyTable.copy (KeyTable.other (1 ∷ []))
+
+-- a judge with no slack (15)
+abbrev slackless : Call
+slackless = Call.judge S₁ (15 ∷ 4 ∷ []) 0 KeyTable.ours (replicate 4 (pos 0))
+
+-- an extractor whose leaves are our message (7)
+abbrev leafless : Call
+leafless = Call.extract S₁ (15 ∷ 4 ∷ []) KeyTable.ours (KeyTable.other rounds₁) (KeyTable.other (0 ∷ 1 ∷ 2 ∷ [])) MessageTable.ours (replicate 4 (pos 0))
+
+-- a text that is none, read into both tables (2)
+abbrev junk : Call
+junk = Call.read keyAndMessage (1 ∷ []) KeyTable.ours MessageTable.ours nothing nothing nothing (MessageTable.other [])
+
+-- our tables written where there is no room (7)
+abbrev roomless : Call
+roomless = Call.write S₁ keyAndMessage KeyTable.ours MessageTable.ours nothing nothing nothing (MessageTable.other []) []
 
 nonzero : (n : ℕ) → suc n ≢ 0
 nonzero n e = omega arith
@@ -61,22 +107,22 @@ pub run₁ : (st : State) × Run S₁ (1 ∷ []) (moves 1) (begun message₁ key
 unfolding ran
 run₁ = (
   _,
-  Run.go (Gap.refused early (nonzero 2) (Gap.refused junk (nonzero 1) Gap.none))
-      (Run.go (Gap.refused late (nonzero 9) Gap.none)
-      (Run.go (Gap.refused whole (nonzero 6) Gap.none)
-      (Run.go (Gap.refused junk (nonzero 1) Gap.none)
-      (Run.go (Gap.refused strange (nonzero 6) Gap.none)
-      (Run.go Gap.none
-      (Run.go Gap.none
-      (Run.stop (Gap.refused junk (nonzero 1) Gap.none)))))))),
+  Run.go (Gap.refused early (nonzero 2) (Gap.refused junk (nonzero 1) (Gap.refused short (nonzero 6) Gap.none)))
+      (Run.go (Gap.refused late (nonzero 9) (Gap.refused over (nonzero 10) Gap.none))
+      (Run.go (Gap.refused whole (nonzero 6) (Gap.refused wild (nonzero 9) Gap.none))
+      (Run.go (Gap.refused hasty (nonzero 6) (Gap.refused mistaken (nonzero 6) Gap.none))
+      (Run.go (Gap.refused strange (nonzero 6) (Gap.refused leafless (nonzero 6) Gap.none))
+      (Run.go (Gap.refused roomless (nonzero 6) (Gap.refused beyond (nonzero 10) Gap.none))
+      (Run.go (Gap.refused slackless (nonzero 14) Gap.none)
+      (Run.stop (Gap.refused junk (nonzero 1) (Gap.refused roomless (nonzero 6) Gap.none))))))))),
 )
 
 -- ---- what the claim gives
 
-valid₁ : Valid S₁
+pub valid₁ : Valid S₁
 valid₁ = settings-valid S₁ (unfold computed in refl)
 
-key-below : Below 17 (cells S₁) key₁
+pub key-below : Below 17 (cells S₁) key₁
 key-below = tested-below 17 (cells S₁) key₁ (unfold computed in refl) (unfold computed in refl)
 
 message-within : Within 1 (cells S₁) message₁
@@ -85,79 +131,78 @@ message-within = tested-within 1 (cells S₁) message₁ (unfold computed in ref
 challenge-below : Below 4 1 (1 ∷ [])
 challenge-below = tested-below 4 1 (1 ∷ []) (unfold computed in refl) (unfold computed in refl)
 
+-- commitment and final element as they are passed by value
+abbrev commitment₁ : List ℕ
+commitment₁ = 15 ∷ 4 ∷ replicate 62 0
+
+abbrev last₁ : List ℤ
+last₁ = pos 1 ∷ pos 0 ∷ replicate 62 (pos 0)
+
+opened₁ : Demand3 → OpeningClaim S₁ key₁ message₁ (1 ∷ []) (replicate 6 0)
+unfolding computed
+opened₁ claim = claim S₁ key₁ valid₁ key-below .opening message₁ (1 ∷ []) (replicate 6 0) message-within challenge-below refl
+
+pub record Whole (number : ℕ) (verdict : Verdict) : Type 0 where
+  pub not-refused : number ≡ 0
+  pub verdict-accepted : verdict ≡ Says.Accepted
+  pub transcript : Accepted S₁ key₁ (record { commitment = commitment₁; rounds = rounds₁; challenges = 1 ∷ []; last = last₁ })
+
+pub opening-gives : Demand3 → Whole (openingAnswer S₁ key₁ message₁ (1 ∷ []) (replicate 6 0) .number) (openingAnswer S₁ key₁ message₁ (1 ∷ []) (replicate 6 0) .verdict)
+unfolding computed
+opening-gives claim = let o = opened₁ claim in record { not-refused = o .not-refused; verdict-accepted = o .says-accepted; transcript = o .is-accepted }
+
 pub record Given (st : State) : Type 0 where
+  pub no-refusal : st .heard .numbers ≡ replicate 7 0
+  pub commitment : st .heard .commitment ≡ commitment₁
+  pub rounds : st .heard .rounds ≡ rounds₁
+  pub last : st .heard .last ≡ last₁
   pub verdict : st .heard .verdict ≡ Says.Accepted
-  pub rounds : st .heard .rounds ≡ 4 ∷ 1 ∷ 6 ∷ 0 ∷ 12 ∷ 1 ∷ []
   pub message : st .held .message ≡ pos 1 ∷ pos 0 ∷ pos 1 ∷ pos 0 ∷ []
   pub key : st .held .key ≡ 1 ∷ 12 ∷ 7 ∷ 2 ∷ []
   pub copy : st .held .copy ≡ key₁
-  pub no-refusal : st .heard .numbers ≡ replicate 7 0
 
 pub moves-give : Demand3 → (r : Session) (st : State) → Run S₁ (1 ∷ []) (moves 1) (begun message₁ key₁ r) st → Given st
 unfolding computed
 moves-give claim r st run =
-    let o = claim S₁ key₁ valid₁ key-below .opening message₁ (1 ∷ []) (0 ∷ 0 ∷ 0 ∷ 0 ∷ 0 ∷ 0 ∷ []) message-within challenge-below refl in
-    let same = o .by-moves r st run in
+    let same = opened₁ claim .by-moves r st run in
     record {
-      verdict = same .same-verdict ∙ o .says-accepted;
+      no-refusal = same .no-refusal;
+      commitment = same .same-commitment;
       rounds = same .same-rounds;
+      last = same .same-last;
+      verdict = same .same-verdict ∙ opened₁ claim .says-accepted;
       message = same .same-message;
       key = same .same-key;
       copy = same .copy-kept;
-      no-refusal = same .no-refusal;
     }
 
--- m = 2 and 0 is beyond B = 1, and its three folds are all 2: within n·B
-abbrev wide : List ℤ
-wide = pos 2 ∷ pos 0 ∷ pos 0 ∷ pos 0 ∷ []
+module _ (claim : PerformedDemand3) (r : Opened) (key′ : List ℕ) (message′ : List ℤ) (rounds′ : List ℕ) (call : Opening S₁ key₁ message₁ (1 ∷ []) (replicate 6 0) r key′ message′ rounds′) where
+  pub record Performed (st : State) : Type 0 where
+    pub whole : Whole (r .number) (r .verdict)
+    pub moves : Given st
 
-abbrev finals₁ : List ℤ
-finals₁ = pos 2 ∷ pos 0 ∷ pos 2 ∷ pos 0 ∷ pos 2 ∷ pos 0 ∷ []
-
-abbrev sent₁ : List ℕ
-sent₁ = 3 ∷ 5 ∷ 7 ∷ 2 ∷ 0 ∷ 0 ∷ []
-
-abbrev E₁ : List ℕ
-E₁ = 0 ∷ 1 ∷ 2 ∷ []
-
-path-accepted : (j : ℕ) → j < leaves S₁ → Accepted S₁ key₁ (path S₁ (6 ∷ 10 ∷ []) sent₁ E₁ finals₁ j)
-unfolding computed
-path-accepted zero h = accepted-states S₁ key₁ _ refl
-path-accepted (suc zero) h = accepted-states S₁ key₁ _ refl
-path-accepted (suc (suc zero)) h = accepted-states S₁ key₁ _ refl
-path-accepted (suc (suc (suc j))) h = absurd (omega arith)
-
-commitment-below : (k : ℕ) → k < 2 → getD (6 ∷ 10 ∷ []) k 0 < 17
-commitment-below zero h = omega arith
-commitment-below (suc zero) h = omega arith
-commitment-below (suc (suc k)) h = absurd (omega arith)
-
-challenges-differ : (k : ℕ) → k < nodes S₁ → (challenge E₁ k 0 ≢ challenge E₁ k 1) × (challenge E₁ k 0 ≢ challenge E₁ k 2) × (challenge E₁ k 1 ≢ challenge E₁ k 2)
-unfolding computed
-challenges-differ zero h = (λ e. omega arith, λ e. omega arith, λ e. omega arith)
-challenges-differ (suc k) h = absurd (omega arith)
-
-tree₁ : FullTree S₁ key₁ (6 ∷ 10 ∷ []) sent₁ E₁ finals₁
-tree₁ = record {
-  commitment-below = commitment-below;
-  rounds-below = tested-below 17 _ sent₁ (unfold computed in refl) (unfold computed in refl);
-  challenges-below = tested-below 4 _ E₁ (unfold computed in refl) (unfold computed in refl);
-  finals-long = unfold computed in refl;
-  different = challenges-differ;
-  accepted = path-accepted;
-}
-
-folds₁ : FoldsOf S₁ E₁ finals₁ wide
-folds₁ = record { long = unfold computed in refl; each = each }
-  where
-    each : (j : ℕ) → j < leaves S₁ → foldTo S₁ E₁ j wide ≡ leaf S₁ finals₁ j
-    each zero h = unfold computed in refl
-    each (suc zero) h = unfold computed in refl
-    each (suc (suc zero)) h = unfold computed in refl
-    each (suc (suc (suc j))) h = absurd (let l : suc (suc (suc j)) < 3 = unfold computed in h in omega arith)
-
-pub extraction-gives : Demand3 → extractExit S₁ (6 ∷ 10 ∷ []) key₁ sent₁ E₁ finals₁ (pos 9 ∷ pos 9 ∷ pos 9 ∷ pos 9 ∷ []) ≡ pos 8 ∷ pos 0 ∷ pos 0 ∷ pos 0 ∷ []
-extraction-gives claim = claim S₁ key₁ valid₁ key-below .extraction (6 ∷ 10 ∷ []) sent₁ E₁ finals₁ (pos 9 ∷ pos 9 ∷ pos 9 ∷ pos 9 ∷ []) tree₁ room (unfold computed in refl) .exact wide folds₁ ∙ unfold computed in refl
-  where
-    room : growth S₁ ≤ growthLimit
-    room = unfold computed in omega arith
+  pub functions-give : (s : Session) (st : State) → Performance S₁ (1 ∷ []) (moves 1) (begun message₁ key₁ s) st → Performed st
+  unfolding computed
+  functions-give s st performed =
+      let o = claim S₁ key₁ valid₁ key-below .opening message₁ (1 ∷ []) (replicate 6 0) message-within challenge-below refl r key′ message′ rounds′ call in
+      let same = o .by-moves s st performed in
+      record {
+        whole = record {
+          not-refused = o .not-refused;
+          verdict-accepted = o .says-accepted;
+          transcript = subst
+              (Accepted S₁ key₁)
+              (λ i. record { commitment = call .answer i .commitment; rounds = call .rounds-exit i; challenges = 1 ∷ []; last = call .answer i .last })
+              (o .is-accepted);
+        };
+        moves = record {
+          no-refusal = same .no-refusal;
+          commitment = same .same-commitment ∙ ap (λ x. x .commitment) (call .answer);
+          rounds = same .same-rounds ∙ call .rounds-exit;
+          last = same .same-last ∙ ap (λ x. x .last) (call .answer);
+          verdict = same .same-verdict ∙ o .says-accepted;
+          message = same .same-message ∙ call .message-exit;
+          key = same .same-key ∙ call .key-exit;
+          copy = same .copy-kept;
+        };
+      }

@@ -1,6 +1,6 @@
 -- Demand 3 as one statement: "a single claim, about the whole list of calls and the whole tree, and not one for each call or node".
--- It is stated over the definitions that the public promises cite. Each public function's promise is an equation with its definition,
--- so what this says of the definitions holds of the functions.
+-- It is stated over the definitions that the public promises cite. Each public function's promise is an equation with its definition;
+-- Performed states the same over what the functions give, of which only these promises are known.
 --
 -- The list of calls
 --   Held                     what is held: both tables, an unfolded copy of the key, the record, how many folds are done
@@ -276,9 +276,9 @@ pub record OpeningClaim (S : Settings) (G : List ℕ) (M : List ℤ) (E rounds :
 
 -- ════ a tree
 
--- "A tree is full with all N branching nodes and 3^L leaves": whatever was answered in it, with three different challenges at every node and every path accepted
+-- "A tree is full with all N branching nodes and 3^L leaves": whatever was answered in it, with three different challenges at every node and every path accepted.
+-- Nothing is asked of the commitment: that it is residues follows (claims/proofs/Ranges, accepted-commitment)
 pub record FullTree (S : Settings) (G C rounds E : List ℕ) (finals : List ℤ) : Type 0 where
-  pub commitment-below : (k : ℕ) → k < S .degree → getD C k 0 < S .modulus
   pub rounds-below : Below (S .modulus) (3 * nodes S * S .degree) rounds
   pub challenges-below : Below (2 * S .degree) (3 * nodes S) E
   pub finals-long : length finals ≡ leaves S * S .degree

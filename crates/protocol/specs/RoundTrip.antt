@@ -3,6 +3,7 @@
 --   outcome S P t out   the bytes that the writer put into an output slice
 --   Back, Forth         the two halves, for one call each
 --   RoundTrip           both, for all settings, parts, tables and texts
+--   OneText             each table has one text: two texts that are read as the same settings and tables are the same text
 use mathlib.Core.Path.{_≡_}
 use mathlib.Core.Bool.{true}
 use mathlib.Core.List.{List, _++_}
@@ -30,3 +31,9 @@ pub record RoundTrip : Type 0 where
       → writeAnswer S P t out .number ≡ 0 → fits S P lent ≡ true → Back S P t out lent
   pub forth : (P : Parts) (text : List ℕ) (lent : Tables) (out : List ℕ)
       → readAnswer P text lent .number ≡ 0 → length text ≤ length out → Forth P text lent out
+
+-- whatever tables were lent for reading
+abbrev pub OneText : Type 0
+OneText = (P : Parts) (text text′ : List ℕ) (lent lent′ : Tables)
+    → readAnswer P text lent .number ≡ 0 → readAnswer P text′ lent′ .number ≡ 0
+    → readAnswer P text lent .settings ≡ readAnswer P text′ lent′ .settings → readExit P text lent ≡ readExit P text′ lent′ → text ≡ text′

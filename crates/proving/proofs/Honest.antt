@@ -17,9 +17,8 @@ use lib.IntN.{ℤ}
 use Rattle.protocol.specs.declared.Settings.{Settings}
 use Rattle.protocol.specs.declared.Written.{Written}
 use Rattle.protocol.specs.Basic.{all, choose}
-use Rattle.protocol.specs.Element.{signed, padded, paddedSigned}
+use Rattle.protocol.specs.Element.{padded, paddedSigned}
 use Rattle.protocol.specs.Settings.{residues, small, exponent, exponents}
-use Rattle.protocol.specs.Inputs.{Within}
 use Rattle.protocol.specs.Opening.{commitment, roundTable, messageAfter, finalElement}
 use Rattle.protocol.specs.Transcript.{Transcript, transcriptOf}
 use Rattle.protocol.specs.Text.{Tables, valueLimit, shape, shapes, shapeSize, fits, written, overwritten, writeAnswer, writeExit}
@@ -27,10 +26,10 @@ use Rattle.protocol.specs.Programs.{provePrints, printed}
 use Rattle.protocol.specs.Promises.{Wrote}
 use Rattle.protocol.proofs.Tests.{and-intro, zero-first, zero-unless, first-nothing}
 use Rattle.protocol.proofs.Inputs.{valid-settings, below-tested, within-tested}
-use Rattle.claims.proofs.TextLimits.{allowed, size-le, Passed, unrefused}
-use Rattle.claims.proofs.Honest.{Given, degree-positive, modulus-positive}
+use Rattle.claims.proofs.TextLimits.{Passed, unrefused}
+use Rattle.claims.proofs.Honest.{Given, modulus-positive}
 use Rattle.claims.proofs.Ranges.{commitment-below, rounds-below, last-length}
-use Rattle.claims.proofs.Completeness.{complete}
+use Rattle.claims.proofs.ProveVerify.{last-within}
 use Rattle.shapes.specs.Parts.{partShape, lengthsOf, lengthsFit}
 use Rattle.shapes.proofs.Exactly.{lengths-fit}
 use Rattle.writing.specs.Tables.{tablesRefusal}
@@ -63,16 +62,6 @@ module _ (S : Settings) (G : List ℕ) (M : List ℤ) (E rounds : List ℕ) (ok 
   rounds-long : length (T .rounds) ≡ 3 * L * d
   unfolding transcriptOf
   rounds-long = rounds-below S pq E G M .long
-
-  -- "no coefficient beyond ±n·B", and n·B is at most 32,512
-  last-within : Within valueLimit d (T .last)
-  unfolding signed valueLimit
-  last-within = record {
-    long = last-long;
-    each = λ k l. Nat.le-trans
-        (complete S (degree-positive S (ok .settings)) (ok .settings .modulus-odd) G M E (ok .message .each) .in-bound k l)
-        (Nat.le-trans (Nat.mul-le-mul (size-le S (allowed S (valid-settings S (ok .settings)))) (ok .settings .bound-most)) (omega arith));
-  }
 
   -- commitment and final element as the opening passes them by value
   pub commitment-front : (r : List ℕ) → r ≡ padded d (commitment S G M) → (d ≤ length r) × (take d r ≡ T .commitment)
@@ -107,7 +96,7 @@ module _ (S : Settings) (G : List ℕ) (M : List ℤ) (E rounds : List ℕ) (ok 
     rounds = below-tested q (3 * L * d) (roundTable S E G M) (rounds-below S pq E G M);
     message = refl;
     challenges = below-tested (2 * d) L E (ok .challenges);
-    last = within-tested valueLimit d (T .last) last-within;
+    last = within-tested valueLimit d (T .last) (last-within given);
   }
 
   pub honest-written : tablesRefusal S provePrints t ≡ 0

@@ -4,7 +4,7 @@
 --   Upto                    a part up to line p
 --   upto-none, upto-line    no line, and one line more
 --   upto-end, upto-over     all lines, and too many
-use mathlib.Core.Path.{_≡_, refl, sym, ap, subst, _∙_}
+use mathlib.Core.Path.{_≡_, sym, ap, subst, _∙_}
 use mathlib.Core.List.{List, [], _∷_, _++_, append-assoc, append-nil, flatMap}
 use Prim.Native.Nat.{ℕ, _+_, _<_, _≤_}
 use native.Mathlib.Omega.{arith}
@@ -14,6 +14,7 @@ use lib.Seq.{take-suc, take-all}
 use lib.IntN.{ℤ, pos}
 use Rattle.protocol.specs.Text.{Line, Shape, textLimit, lineText, linesText, shapeSize, spotAt, block, blockLines}
 use Rattle.protocol.proofs.Reading.{tabulate-length, tabulate-at}
+use Rattle.protocol.proofs.LineLaws.{lines-append}
 use Rattle.shapes.specs.declared.Cell.{Cell}
 use Rattle.shapes.specs.Parts.{cellAt}
 use Rattle.writing.specs.Put.{Put, lineAt, partText, Held, Adds}
@@ -34,11 +35,6 @@ held-over : {out : List ℕ} {at : ℕ} (text more : List ℕ) → textLimit < a
 held-over text more h t = record { kept = λ l. absurd (omega arith); over = λ _. omega (arith, t .over h, length-append text more) }
 
 -- ---- the lines of a part
-
-pub lines-append : (ks ls : List Line) → linesText (ks ++ ls) ≡ linesText ks ++ linesText ls
-unfolding linesText flatMap
-lines-append [] ls = refl
-lines-append (k ∷ ks) ls = ap (λ t. lineText k ++ t) (lines-append ks ls) ∙ sym (append-assoc (lineText k) (linesText ks) (linesText ls))
 
 module _ (b : Shape) (v : List ℤ) where
   abbrev lines : List Line

@@ -9,10 +9,10 @@ use lib.IntN.{pos}
 use Rattle.protocol.specs.declared.Settings.{Settings}
 use Rattle.protocol.specs.declared.Parts.{Parts}
 use Rattle.protocol.specs.Text.{Block, Tables, names, linesText, shapes, contents, block, blocks, blockLines, textOf}
+use Rattle.protocol.proofs.LineLaws.{lines-append}
 use Rattle.shapes.specs.Parts.{partShape}
 use Rattle.writing.specs.Put.{partText, Held, Adds}
 use Rattle.writing.specs.Tables.{settingsText, mixedText}
-use Rattle.writing.proofs.PartTexts.{lines-append}
 
 pub adds-then : {out out′ out″ : List ℕ} {at r s : ℕ} (xs ys : List ℕ) → Adds out at xs r out′ → Adds out′ r ys s out″ → Adds out at (xs ++ ys) s out″
 adds-then {out} {out′} {out″} {at} {r} {s} xs ys p q text t = subst (λ l. Held l s out″) (append-assoc text xs ys) (q (text ++ xs) (p text t))
