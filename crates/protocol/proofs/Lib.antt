@@ -18,3 +18,4 @@ pub mod ReaderLaws
 pub mod TableLaws
 pub mod Trial
 pub mod Refusals
+pub mod Answers

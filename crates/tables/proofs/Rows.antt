@@ -19,8 +19,8 @@ use lib.ListN.{length, getD, drop, length-drop, drop-of-length-le}
 use lib.IntN.{ℤ, pos}
 use Rattle.protocol.specs.declared.Number.the-variants.{Value, Refused}
 use Rattle.protocol.specs.Text.{Line, space, lineFeed, valueLimit, keep, properDigits, readCount, readNumber, byte, readIndex, readLine, readLines}
-use Rattle.tables.specs.declared.lines.Entry.the-variants.{Found as Line-at, Malformed}
-use Rattle.tables.specs.Scan.{present, readIndexAt, lineAnswer, readLineAt, allLines}
+use Rattle.protocol.specs.declared.Entry.the-variants.{Found as Line-at, Malformed}
+use Rattle.protocol.specs.Lines.{present, readIndexAt, lineAnswer, readLineAt, allLines}
 use Rattle.shapes.proofs.From.{from-cons}
 use Rattle.tables.proofs.Counts.{Suffix, suffix-self, suffix-more, suffix-of, Found, found, keep-yes, keep-some, count-small, count-suffix, count-shorter, number-suffix, number-shorter, plain-found, plain-missed}
 

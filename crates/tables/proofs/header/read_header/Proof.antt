@@ -17,7 +17,8 @@ use mir.Facts.{toZ-ofZ}
 use Rattle.protocol.specs.Basic.{tabulate, choose}
 use Rattle.protocol.specs.Text.{shape, settingsShape, shapeSize, spots, beginsWithNames, unsigned, noSettings}
 use Rattle.tables.specs.declared.header.Header.{Header}
-use Rattle.tables.specs.Scan.{readValues, readSettings, settingsOf, headerAnswer}
+use Rattle.protocol.specs.Lines.{readValues, readSettings, settingsOf}
+use Rattle.tables.specs.Header.{headerAnswer}
 use Rattle.tables.specs.Parts.{Took}
 use Rattle.tables.proofs.Values.{settings-unnamed, settings-named, names-long}
 use Rattle.tables.proofs.Cells.{taken-missed, taken-found}

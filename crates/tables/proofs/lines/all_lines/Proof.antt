@@ -6,7 +6,7 @@ use native.Mathlib.Omega.{arith}
 use borrow.Author.Needs.{needs}
 use lib.ListN.{length, drop, length-drop, drop-of-length-le}
 use Rattle.protocol.specs.Text.{Line, readLine}
-use Rattle.tables.specs.Scan.{present, allLines}
+use Rattle.protocol.specs.Lines.{present, allLines}
 use Rattle.tables.proofs.Counts.{Found}
 use Rattle.tables.proofs.Rows.{present-bind, line, line-found, line-missed, line-shorter, all-end, all-next, all-none}
 use Rattle.tables.proofs.lines.all_lines.Statement.{statement}

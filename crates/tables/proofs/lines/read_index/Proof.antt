@@ -11,7 +11,7 @@ use lib.ListN.{length, drop}
 use lib.IntN.{ℤ, pos}
 use Rattle.protocol.specs.declared.Number.the-variants.{Value}
 use Rattle.protocol.specs.Text.{space, valueLimit, readCount, plain, byte, numberAnswer}
-use Rattle.tables.specs.Scan.{present, readIndexAt}
+use Rattle.protocol.specs.Lines.{present, readIndexAt}
 use Rattle.tables.proofs.Counts.{Found, suffix-back, counted, uncounted, count-small}
 use Rattle.tables.proofs.Rows.{present-none, byte-place, byte-stands, column-uncounted, column-unspaced, column-read}
 use Rattle.tables.proofs.Words.{word-pos}

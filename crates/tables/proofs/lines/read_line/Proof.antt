@@ -13,8 +13,8 @@ use mir.Syntax.{w32}
 use mir.Val.{ofZ, toZ}
 use mir.Facts.{toZ-ofZ}
 use Rattle.protocol.specs.Text.{lineFeed, valueLimit, readNumber, byte, readIndex, readLine}
-use Rattle.tables.specs.declared.lines.Entry.the-variants.{Found as Line-at}
-use Rattle.tables.specs.Scan.{present, lineAnswer, readLineAt}
+use Rattle.protocol.specs.declared.Entry.the-variants.{Found as Line-at}
+use Rattle.protocol.specs.Lines.{present, lineAnswer, readLineAt}
 use Rattle.tables.proofs.Counts.{Found, suffix-back, numbered, unnumbered}
 use Rattle.tables.proofs.Rows.{bind-some, bind-none, present-none, byte-place, byte-stands, columned, uncolumned, column-small, line-columns, line₁, line₂, line₃, line₄}
 use Rattle.tables.proofs.Words.{word-value, word-cast}

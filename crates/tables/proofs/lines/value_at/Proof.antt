@@ -11,7 +11,7 @@ use mir.Val.{ofZ, toZ}
 use mir.Facts.{toZ-ofZ}
 use Rattle.protocol.specs.declared.Number.the-variants.{Value, Refused}
 use Rattle.protocol.specs.Text.{Spot, Line, readLine, sameSpot, numberAnswer}
-use Rattle.tables.specs.Scan.{spot, readValue}
+use Rattle.protocol.specs.Lines.{spot, readValue}
 use Rattle.tables.proofs.Counts.{Found, suffix-back}
 use Rattle.tables.proofs.Rows.{line, line-found, line-missed}
 use Rattle.tables.proofs.Values.{same-spot, other-part, other-item, other-place, value-unread, value-elsewhere, value-read}

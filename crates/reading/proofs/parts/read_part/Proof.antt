@@ -14,14 +14,14 @@ use mir.Val.{ofZ, toZ}
 use mir.Facts.{toZ-ofZ}
 use Rattle.protocol.specs.Text.{Shape, shapeSize, spotAt, spots}
 use Rattle.shapes.specs.declared.Shape.{Shape as Part}
-use Rattle.tables.specs.Scan.{spot, readValue, readValues}
+use Rattle.protocol.specs.Lines.{spot, readValue, readValues}
 use Rattle.shapes.specs.Parts.{asShape, cellAt}
 use Rattle.tables.proofs.Counts.{Found}
 use Rattle.tables.proofs.Values.{prefix, prefix-nothing, valued, unvalued, values-more, values-over, values-done}
 use Rattle.shapes.proofs.Cells.{cell, cell-first, cell-inside, spots-count, spots-next, spots-end}
-use Rattle.tables.proofs.Cells.{took-missed, took-done}
-use Rattle.tables.proofs.parts.read_part.Statement.{statement}
-use Rattle.tables.proofs.parts.read_part.Tie as tie
+use Rattle.reading.proofs.Cells.{took-missed, took-done}
+use Rattle.reading.proofs.parts.read_part.Statement.{statement}
+use Rattle.reading.proofs.parts.read_part.Tie as tie
 
 abbrev Inv-loop : tie.InvT-loop
 Inv-loop text from shape values₀ size at₀ cell₀ p₀ values at cell p =

@@ -11,11 +11,11 @@ use lib.IntN.{ℤ}
 use Rattle.protocol.specs.declared.Settings.{Settings}
 use Rattle.protocol.specs.declared.Parts.{Parts}
 use Rattle.protocol.specs.Text.{Spot, settingsShape, shapes, spots, wanted}
-use Rattle.tables.specs.Scan.{readValue, readValues}
+use Rattle.protocol.specs.Lines.{readValue, readValues}
 use Rattle.shapes.specs.Parts.{partShape}
-use Rattle.tables.specs.Parts.{partSpots}
+use Rattle.reading.specs.Parts.{partSpots}
 use Rattle.shapes.proofs.From.{from-cons}
 use Rattle.tables.proofs.Values.{prefix, prefix-nothing, prefix-prefix, values-step, values-stop}
 
 module _ (S : Settings) (P : Parts) where
   unfoldable pub spotsFrom : ℕ → List Spot

@@ -4,7 +4,6 @@
 --   inOrder P text       are the value lines the required ones, in order
 --   linesRefusal P n text  refusals 1 to 7, the lent tables having the lengths n
 --   First vs values      the values vs stand first in the table `values`
---   Begun                what the reader of the settings alone promises
 --   Followed, Gathered   what the readers of all values promise
 use mathlib.Core.Path.{_≡_}
 use mathlib.Core.Bool.{Bool, true, _&&_}
@@ -15,8 +14,7 @@ use lib.IntN.{ℤ}
 use Rattle.protocol.specs.declared.Parts.{Parts}
 use Rattle.protocol.specs.declared.Loaded.{Loaded}
 use Rattle.protocol.specs.Basic.{first, unless}
-use Rattle.protocol.specs.Settings.{settingsRefusal}
-use Rattle.protocol.specs.Text.{Line, wanted, linesOf, sameSpots, spotsOf, column, settingsIn, lookRefusal, loaded, lookAnswer}
+use Rattle.protocol.specs.Text.{Line, wanted, linesOf, sameSpots, spotsOf, column, settingsIn, lookRefusal, loaded}
 use Rattle.shapes.specs.declared.Lengths.{Lengths}
 use Rattle.shapes.specs.Parts.{lengthsFit}
 
@@ -31,12 +29,6 @@ linesRefusal P n text = first (lookRefusal text ∷ unless 7 (inOrder P text && 
 
 abbrev pub First : List ℤ → List ℤ → Type 0
 First vs values = take (length vs) values ≡ vs
-
--- the settings are allowed, and they are the text's where its lines are of the stated shape
-pub record Begun (text : List ℕ) (r : Loaded) : Type 0 where
-  pub refused : (r .number ≡ 0 → ⊥) → r ≡ lookAnswer text
-  pub allowed : r .number ≡ 0 → settingsRefusal (r .settings) ≡ 0
-  pub settings-are : lookRefusal text ≡ 0 → r .settings ≡ settingsIn (linesOf text)
 
 -- lines that were followed to the text's end leave nothing to refuse by 1 to 6; the answer for a text that is refused by them is no
 pub record Followed (P : Parts) (text : List ℕ) (r : Bool) (values : List ℤ) : Type 0 where

@@ -12,16 +12,16 @@ use lib.IntN.{ℤ}
 use Rattle.protocol.specs.declared.Settings.{Settings}
 use Rattle.protocol.specs.declared.Parts.{Parts}
 use Rattle.protocol.specs.Text.{Spot, spots}
-use Rattle.tables.specs.Scan.{readValues}
+use Rattle.protocol.specs.Lines.{readValues}
 use Rattle.shapes.specs.Parts.{asShape}
-use Rattle.tables.specs.Parts.{partSpots, Took}
+use Rattle.reading.specs.Parts.{partSpots, Took}
 use Rattle.tables.proofs.Values.{prefix, prefix-nothing, prefix-prefix, values-done}
 use Rattle.shapes.proofs.Cells.{spots-count}
-use Rattle.tables.proofs.Cells.{taken-missed, taken-found, took-missed, took-done, took-place}
+use Rattle.reading.proofs.Cells.{taken-missed, taken-found, took-missed, took-done, took-place}
 use Rattle.tables.proofs.Follow.{values-room}
-use Rattle.tables.proofs.Wants.{spotsFrom, spots-from-next, spots-from-end, spots-from-one, values-then, values-never}
-use Rattle.tables.proofs.parts.read_parts.Statement.{statement}
-use Rattle.tables.proofs.parts.read_parts.Tie as tie
+use Rattle.reading.proofs.Wants.{spotsFrom, spots-from-next, spots-from-end, spots-from-one, values-then, values-never}
+use Rattle.reading.proofs.parts.read_parts.Statement.{statement}
+use Rattle.reading.proofs.parts.read_parts.Tie as tie
 
 abbrev Inv-loop : tie.InvT-loop
 Inv-loop settings parts text from values₀ at₀ start₀ part₀ values at start part =

@@ -14,12 +14,13 @@ use Rattle.protocol.proofs.Inputs.{settings-valid}
 use Rattle.protocol.proofs.Refusals.{and-fails-left, and-fails-right}
 use Rattle.shapes.specs.declared.Lengths.{Lengths}
 use Rattle.shapes.specs.Parts.{lengthsFit}
 use Rattle.tables.specs.declared.header.Header.{Header}
-use Rattle.tables.specs.Stored.{inOrder}
+use Rattle.reading.specs.Stored.{inOrder}
 use Rattle.tables.proofs.Looks.{loaded-granted}
-use Rattle.tables.proofs.Gathers.{header-settings, look-number, look-allowed, gathered-look, gathered-refused, gathered-granted}
-use Rattle.tables.proofs.whole.gather.Statement.{statement}
-use Rattle.tables.proofs.whole.gather.Tie as tie
+use Rattle.tables.proofs.Looked.{header-settings, look-number, look-allowed}
+use Rattle.reading.proofs.Gathers.{gathered-look, gathered-refused, gathered-granted}
+use Rattle.reading.proofs.whole.gather.Statement.{statement}
+use Rattle.reading.proofs.whole.gather.Tie as tie
 
 -- a text whose lines were followed
 module _ (c : tie.After-values) where

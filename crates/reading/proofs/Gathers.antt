@@ -2,13 +2,9 @@
 --
 --   behind-rise          the numbers of parts 1 to 6 rise
 --   columns-behind       the values of parts 1 to 6 are those of the lines behind the settings
---   Looked, looked       what a text is whose settings are not refused
 --   order-..             are its lines the required ones, by what was read of them
 --   values-present       lines at wanted spots up to the end are of the stated shape
---   header-settings      the settings that it begins with are those of its lines
 --   followed-..          what the reader of the lines behind the settings promises
---   look-..              what the answer of a first look says
---   begun-..             what the reader of the settings alone promises
 --   gathered-..          what the reader of all values promises
 use mathlib.Core.Path.{_≡_, refl, sym, ap, ap₂, subst, _∙_}
 use mathlib.Core.Bool.{Bool, true, false, _&&_, false≢true}
@@ -16,7 +12,7 @@ use mathlib.Core.List.{List, [], _∷_, _++_, append-nil, flatMap}
 use mathlib.Core.Option.{Option, none, some, bind, Option·some-injective}
 use Prim.Native.Nat.{ℕ, suc, _+_, _-_, _≤_, _<_}
 use native.Mathlib.Omega.{arith}
-use borrow.Author.Tests.{leb-true, eqb-true, eq-eqb}
+use borrow.Author.Tests.{eqb-true, eq-eqb}
 use lib.Dec.{eqb}
 use lib.ListN.{length, drop, take, length-append, length-map}
 use lib.Seq.{take-all}
@@ -27,23 +23,25 @@ use Rattle.protocol.specs.declared.Loaded.{Loaded}
 use Rattle.protocol.specs.Basic.{tabulate, choose, unless}
 use Rattle.protocol.specs.Settings.{settingsRefusal}
 use Rattle.protocol.specs.Text.{Spot, Line, Shape, textLimit, shape, settingsShape, shapes, shapeSize, spotAt, spots, wanted, readLine, linesOf, sameSpots, spotsOf, valuesOf, column, settingsIn, noSettings, lookRefusal, loaded, lookAnswer}
-use Rattle.protocol.proofs.Tests.{same-test, first-zero, unless-zero, granted-zero}
+use Rattle.protocol.proofs.Tests.{same-test}
 use Rattle.protocol.proofs.Refusals.{first-stops, first-passes, first-only}
 use Rattle.protocol.proofs.TableLaws.{AllParts, Rising, parts, columns, column-append, column-none, split}
-use Rattle.tables.specs.Scan.{present, readValues, allLines, settingsOf, readSettings, headerAnswer}
+use Rattle.protocol.specs.Lines.{present, readValues, allLines, settingsOf, readSettings}
+use Rattle.tables.specs.Header.{headerAnswer}
 use Rattle.shapes.specs.Parts.{lengthsFit}
-use Rattle.tables.specs.Parts.{partSpots, Took}
+use Rattle.reading.specs.Parts.{partSpots, Took}
 use Rattle.tables.specs.declared.header.Header.{Header}
-use Rattle.tables.specs.declared.parts.Taken.{Taken}
+use Rattle.reading.specs.declared.parts.Taken.{Taken}
 use Rattle.shapes.specs.declared.Lengths.{Lengths}
-use Rattle.tables.specs.Stored.{columnsIn, inOrder, linesRefusal, First, Begun, Followed, Gathered}
+use Rattle.reading.specs.Stored.{columnsIn, inOrder, linesRefusal, First, Followed, Gathered}
 use Rattle.tables.proofs.Counts.{suffix-length}
 use Rattle.tables.proofs.Rows.{all-end, all-next, all-none}
 use Rattle.tables.proofs.Values.{same-spot}
-use Rattle.tables.proofs.Cells.{taken-missed, taken-found}
+use Rattle.reading.proofs.Cells.{taken-missed, taken-found}
 use Rattle.tables.proofs.Follow.{same-spots-self, spots-same, lines-before, values-lines, values-elsewhere}
-use Rattle.tables.proofs.Looks.{settingsSpots, spots-append, values-append, Settled, settled, settled-lines, settled-settings, settled-look, look-missing, loaded-refused, header-found}
-use Rattle.tables.proofs.Wants.{wanted-is}
+use Rattle.tables.proofs.Looks.{settingsSpots, spots-append, values-append, settled-lines, settled-settings, settled-look, loaded-refused, header-found}
+use Rattle.tables.proofs.Looked.{Looked, looked, opened, opened-settings, look-number}
+use Rattle.reading.proofs.Wants.{wanted-is}
 
 -- ---- values by parts
 
@@ -96,43 +94,6 @@ same-spots-behind [] ss tt = refl
 same-spots-behind (s ∷ a) ss tt = ap (λ b. b && sameSpots (a ++ ss) (a ++ tt)) (same-spot s s refl refl refl) ∙ same-spots-behind a ss tt
 
 -- ---- a text whose settings are not refused
-
-pub record Looked (text : List ℕ) : Type 0 where
-  pub values : List ℤ
-  pub rest : List ℕ
-  pub more : List Line
-  pub header-is : readSettings text ≡ some (values, rest)
-  pub begins : Settled text values rest
-  pub more-is : allLines rest ≡ some more
-  pub short : length text ≤ textLimit
-  pub allowed : settingsRefusal (settingsOf values) ≡ 0
-
-module _ (text : List ℕ) (e : lookRefusal text ≡ 0) where
-  short-text : length text ≤ textLimit
-  unfolding lookRefusal
-  short-text = leb-true _ _ (unless-zero 0 _ (first-zero _ _ e .0))
-
-  by-lines : (vs : List ℤ) (rest : List ℕ) → readSettings text ≡ some (vs, rest) → (o : Option (List Line)) → allLines rest ≡ o → choose (present o) (settingsRefusal (settingsOf vs)) 2 ≡ 0 → Looked text
-  unfolding choose present
-  by-lines vs rest h none f g = absurd (omega (arith, g))
-  by-lines vs rest h (some more) f g = record {
-    values = vs;
-    rest = rest;
-    more = more;
-    header-is = h;
-    begins = settled text vs rest h;
-    more-is = f;
-    short = short-text;
-    allowed = g;
-  }
-
-  by-header : (o : Option (List ℤ × List ℕ)) → readSettings text ≡ o → Looked text
-  by-header none h = absurd (omega (arith, sym e ∙ look-missing text short-text h))
-  by-header (some (vs, rest)) h =
-      by-lines vs rest h (allLines rest) refl (sym (settled-look text vs rest (settled text vs rest h) short-text) ∙ e)
-
-  pub looked : Looked text
-  looked = by-header (readSettings text) refl
 
 module _ (text : List ℕ) (P : Parts) (l : Looked text) where
   abbrev S : Settings
@@ -231,20 +192,6 @@ spots-values : (ls : List Line) → length (spotsOf ls) ≡ length (valuesOf ls)
 unfolding spotsOf valuesOf
 spots-values ls = length-map ls _ ∙ sym (length-map ls _)
 
--- what the reader of the settings gives for a text that is not refused
-module _ (text : List ℕ) (l : Looked text) (h : Header) (h-is : h ≡ headerAnswer text (readSettings text)) where
-  opened : h ≡ record { found = true; settings = settingsOf (l .values); next = length text - length (l .rest) }
-  unfolding headerAnswer
-  opened = h-is ∙ ap (headerAnswer text) (l .header-is)
-
-  opened-settings : h .settings ≡ settingsOf (l .values)
-  opened-settings = ap (λ x. x .settings) opened
-
-pub header-settings : (text : List ℕ) (h : Header) → h ≡ headerAnswer text (readSettings text) → lookRefusal text ≡ 0 → settingsIn (linesOf text) ≡ h .settings
-header-settings text h h-is e =
-    let l = looked text e in
-    settled-settings text (l .values) (l .rest) (l .begins) (l .more) (l .more-is) ∙ sym (opened-settings text l h h-is)
-
 -- the lines behind the settings, read from the place that it gave
 module _ (text : List ℕ) (P : Parts) (l : Looked text) (h : Header) (h-is : h ≡ headerAnswer text (readSettings text)) where
   from : drop (h .next) text ≡ l .rest
@@ -332,33 +279,6 @@ module _ (text : List ℕ) (P : Parts) (h : Header) (h-is : h ≡ headerAnswer t
           answer = λ e. found-order text P (looked text e) h h-is r values t f;
           stored = λ g. found-stored text P (looked text (ended-unrefused g)) h h-is r values t f g;
         }
-
--- what the answer of a first look says
-module _ (text : List ℕ) (r : Loaded) (r-is : r ≡ lookAnswer text) where
-  pub look-number : r .number ≡ lookRefusal text
-  unfolding lookAnswer loaded
-  look-number = ap (λ x. x .number) r-is
-
-  module _ (e : r .number ≡ 0) where
-    pub look-settings : r .settings ≡ settingsIn (linesOf text)
-    unfolding lookAnswer loaded
-    look-settings = ap (λ x. x .settings) r-is ∙ granted-zero _ _ _ (sym look-number ∙ e)
-
-    pub look-allowed : settingsRefusal (r .settings) ≡ 0
-    unfolding lookRefusal
-    look-allowed = ap settingsRefusal look-settings ∙ first-zero _ _ (first-zero _ _ (first-zero _ _ (sym look-number ∙ e) .1) .1) .0
-
--- the settings alone
-module _ (text : List ℕ) where
-  pub begun-looked : (r : Loaded) → r ≡ lookAnswer text → Begun text r
-  begun-looked r r-is = record {
-    refused = λ _. r-is;
-    allowed = look-allowed text r r-is;
-    settings-are = λ e. look-settings text r r-is (look-number text r r-is ∙ e);
-  }
-
-  pub begun-allowed : (h : Header) → h ≡ headerAnswer text (readSettings text) → settingsRefusal (h .settings) ≡ 0 → Begun text (record { number = 0; settings = h .settings })
-  begun-allowed h h-is e = record { refused = λ n. absurd (n refl); allowed = λ _. e; settings-are = λ l. sym (header-settings text h h-is l) }
 
 -- refusals 1 to 7, after a first look
 module _ (P : Parts) (n : Lengths) (text : List ℕ) (r : Loaded) (r-is : r ≡ lookAnswer text) (values : List ℤ) where

@@ -13,8 +13,8 @@ use lib.IntN.{ℤ}
 use Rattle.protocol.specs.declared.Settings.{Settings}
 use Rattle.protocol.specs.declared.Parts.{Parts}
 use Rattle.protocol.specs.Text.{Spot, shapes, spots}
-use Rattle.tables.specs.declared.parts.Taken.{Taken}
-use Rattle.tables.specs.Scan.{readValues}
+use Rattle.reading.specs.declared.parts.Taken.{Taken}
+use Rattle.protocol.specs.Lines.{readValues}
 
 unfoldable pub partSpots : Settings → Parts → List Spot
 partSpots S P = flatMap spots (drop 1 (shapes S P))

@@ -13,11 +13,11 @@ use lib.ListN.{length, drop, take}
 use lib.Seq.{drop-drop}
 use lib.IntN.{ℤ}
 use Rattle.protocol.specs.Text.{Spot}
-use Rattle.tables.specs.declared.parts.Taken.{Taken}
-use Rattle.tables.specs.Scan.{readValues}
-use Rattle.tables.specs.Parts.{takenAnswer, Took}
+use Rattle.reading.specs.declared.parts.Taken.{Taken}
+use Rattle.protocol.specs.Lines.{readValues}
+use Rattle.reading.specs.Parts.{takenAnswer, Took}
 use Rattle.tables.proofs.Counts.{suffix-place, suffix-back}
 use Rattle.tables.proofs.Follow.{values-lines}
 
 pub taken-missed : (text : List ℕ) (o : Option (List ℤ × List ℕ)) (r : Taken) → r ≡ takenAnswer text o → r .found ≡ false → o ≡ none
 unfolding takenAnswer
