@@ -3,9 +3,9 @@
 use protocol::Parts;
 use protocol::Settings;
 use protocol::Verified;
-use stream::input::Input;
-use stream::output;
-use stream::tables;
+use crate::input::Input;
+use crate::output;
+use crate::tables;
 
 // Which of the two calls it is, and what it is told. A reader is told no settings.
 struct Task {

@@ -3,9 +3,9 @@
 use protocol::Moved;
 use protocol::Session;
 use protocol::Settings;
-use stream::input::Input;
-use stream::output;
-use stream::tables;
+use crate::input::Input;
+use crate::output;
+use crate::tables;
 use verifier::Verifier;
 
 // A record whose every field differs from what a start gives: a start must not look at the record before it.

@@ -1,5 +1,4 @@
 // The lines of a part, read one after the other.
-use crate::lines::value_at;
 use protocol::Number;
 use protocol::Parts;
 use protocol::Settings;
@@ -8,11 +7,12 @@ use shapes::Shape;
 use shapes::next_cell;
 use shapes::shape_of;
 use shapes::size_of;
+use tables::value_at;
 ghost use Prim.Native.Nat.{_*_, _≤_};
 ghost use lib.ListN.{length};
 ghost use Rattle.protocol.specs.Text.{shapeSize, spots};
 ghost use Rattle.shapes.specs.Parts.{asShape};
-ghost use Rattle.tables.specs.Parts.{partSpots, Took};
+ghost use Rattle.reading.specs.Parts.{partSpots, Took};
 
 // Were all lines found, and the place behind them.
 pub struct Taken {

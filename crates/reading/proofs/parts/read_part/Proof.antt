@@ -104,7 +104,7 @@ module _ (c : tie.After-known-told Inv-loop μ-loop) where
 
   got : Found (readValue (spotAt (asShape (part turn)) (line turn))) (text turn) (now-at turn) v next
   got = subst (λ s. Found (readValue s) (text turn) (now-at turn) v next) (wanted turn)
-      (valued (text turn) _ (now-at turn) v next (sym (c .before .before .before .value-at .ensures) ∙ c .before .value .given .1))
+      (valued (text turn) _ (now-at turn) v next (sym (c .before .before .before .value-at .ensures .0) ∙ c .before .value .given .1))
 
   word : toZ w32 (ofZ w32 v) ≡ v
   word = toZ-ofZ {w = w32} {z = v} (record { sfits = c .known-told .given .0 .1 })
@@ -128,7 +128,7 @@ returns : tie.Need-returns Inv-loop μ-loop
 returns c =
     let d = c .before .before .before in
     let b = asShape (part d) in
-    let none-here = unvalued (text d) _ (now-at d) _ (sym (c .before .before .value-at .ensures) ∙ c .enum-told .given .1) in
+    let none-here = unvalued (text d) _ (now-at d) _ (sym (c .before .before .value-at .ensures .0) ∙ c .enum-told .given .1) in
     took-missed (text d) (from d) (spots b) (values d)
     (stop (text d) (from d) b (values d) (now-at d) (line d) (inside d) (d .before .loop .inv .5)
     (subst (λ s. readValue s (drop (now-at d) (text d)) ≡ none) (wanted d) none-here))
