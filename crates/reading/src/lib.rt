@@ -1,8 +1,8 @@
 // The table reader: the tables of a text, in what is lent for them. Nothing is written before the whole text has passed refusals 1 to 10.
 mod entries;
+mod gathering;
 mod parts;
 mod store;
-mod whole;
 
 use protocol::Loaded;
 use protocol::Parts;
@@ -32,7 +32,7 @@ pub fn read(
         last: last.len(),
     };
     let mut values = [0i32; 8192];
-    let loaded = whole::gather(parts, text, lengths, &mut values);
+    let loaded = gathering::gather(parts, text, lengths, &mut values);
     if loaded.number != 0 {
         return loaded;
     }

@@ -30,7 +30,7 @@ module _ (c : tie.After-gather) where
 
   gathered : Gathered P (lengthsOf t) text (c .gather .result) values
   unfolding lengthsOf
-  gathered = c .gather .ensures (omega arith)
+  gathered = c .gather .ensures
 
 slice-aggregate-gather : tie.Need-slice-aggregate-gather
 slice-aggregate-gather c = search needs

@@ -10,8 +10,8 @@ use Rattle.protocol.specs.Text.{textLimit}
 use Rattle.protocol.proofs.Inputs.{settings-valid}
 use Rattle.tables.proofs.Looks.{header-within}
 use Rattle.reading.proofs.Gathers.{followed-long, followed-unbegun, followed-disallowed, followed-missed, followed-found}
-use Rattle.reading.proofs.whole.follow.Statement.{statement}
-use Rattle.reading.proofs.whole.follow.Tie as tie
+use Rattle.reading.proofs.gathering.follow.Statement.{statement}
+use Rattle.reading.proofs.gathering.follow.Tie as tie
 
 -- a text whose length and settings are allowed
 module _ (c : tie.Else3) where

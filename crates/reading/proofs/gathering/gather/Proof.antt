@@ -19,8 +19,8 @@ use Rattle.reading.specs.Stored.{inOrder}
 use Rattle.tables.proofs.Looks.{loaded-granted}
 use Rattle.tables.proofs.Looked.{header-settings, look-number, look-allowed}
 use Rattle.reading.proofs.Gathers.{gathered-look, gathered-refused, gathered-granted}
-use Rattle.reading.proofs.whole.gather.Statement.{statement}
-use Rattle.reading.proofs.whole.gather.Tie as tie
+use Rattle.reading.proofs.gathering.gather.Statement.{statement}
+use Rattle.reading.proofs.gathering.gather.Tie as tie
 
 -- a text whose lines were followed
 module _ (c : tie.After-values) where
@@ -28,13 +28,13 @@ module _ (c : tie.After-values) where
   begun = c .before .before .before
 
   abbrev parts : Parts
-  parts = begun .before .before .before .args .parts
+  parts = begun .before .before .args .parts
 
   abbrev text : List ℕ
-  text = begun .before .before .before .args .text .now
+  text = begun .before .before .args .text .now
 
   abbrev lengths : Lengths
-  lengths = begun .before .before .before .args .lengths
+  lengths = begun .before .before .args .lengths
 
   abbrev header : Header
   header = begun .read-header .result
@@ -71,16 +71,10 @@ module _ (c : tie.After-fits2) where
   followed = c .before .before .before
 
   reached : followed .before .follow .result ≡ true
-  reached = not-false _ (c .before .before .if2 .left)
+  reached = not-false _ (c .before .before .if1 .left)
 
   fitted : c .fits2 .result ≡ fitting followed
   fitted = c .fits2 .ensures (shallow followed reached) ∙ ap (λ S. lengthsFit S (parts followed) (lengths followed)) (sym (settings-are followed reached))
-
-refused-requires : tie.Need-refused-requires
-refused-requires c κs = search needs
-
-returns : tie.Need-returns
-returns c = λ h. absurd (omega arith)
 
 read-header-requires : tie.Need-read-header-requires
 read-header-requires c κs = search needs
@@ -94,67 +88,65 @@ look-requires c κs = search needs
 same-length : tie.Need-same-length
 same-length c = search needs
 
-returns-2 : tie.Need-returns-2
-returns-2 c = λ _. gathered-look _ _ _ (c .before .before .look .result) (c .before .before .look .ensures) _ (c .if3 .taken)
+returns : tie.Need-returns
+returns c = gathered-look _ _ _ (c .before .before .look .result) (c .before .before .look .ensures) _ (c .if2 .taken)
 
-refused-requires-2 : tie.Need-refused-requires-2
-refused-requires-2 c κs = search needs
+refused-requires : tie.Need-refused-requires
+refused-requires c κs = search needs
 
 same-length-2 : tie.Need-same-length-2
 same-length-2 c = search needs
 
-returns-3 : tie.Need-returns-3
-returns-3 c = λ _.
+returns-2 : tie.Need-returns-2
+returns-2 c =
     let seen = c .before .before .before in
     let v = seen .before .before in
-    let unrefused = sym (look-number (text v) (seen .look .result) (seen .look .ensures)) ∙ c .before .if3 .left in
-    gathered-refused (parts v) (lengths v) (text v) (seen .look .result) (seen .look .ensures) _ (c .before .if3 .left) (c .refused2 .result) (c .refused2 .ensures)
-    (and-fails-left (ordered v) (fitting v) (sym (v .before .follow .ensures .answer unrefused) ∙ not-true _ (seen .before .if2 .taken)))
+    let unrefused = sym (look-number (text v) (seen .look .result) (seen .look .ensures)) ∙ c .before .if2 .left in
+    gathered-refused (parts v) (lengths v) (text v) (seen .look .result) (seen .look .ensures) _ (c .before .if2 .left) (c .refused .result) (c .refused .ensures)
+    (and-fails-left (ordered v) (fitting v) (sym (v .before .follow .ensures .answer unrefused) ∙ not-true _ (seen .before .if1 .taken)))
 
 fits-requires : tie.Need-fits-requires
 fits-requires c κs = search needs
 
-refused-requires-3 : tie.Need-refused-requires-3
-refused-requires-3 c κs = search needs
+refused-requires-2 : tie.Need-refused-requires-2
+refused-requires-2 c κs = search needs
 
 same-length-3 : tie.Need-same-length-3
 same-length-3 c = search needs
 
-returns-4 : tie.Need-returns-4
-returns-4 c = λ _.
+returns-3 : tie.Need-returns-3
+returns-3 c =
     let f = c .before .before in
     let v = followed f in
-    gathered-refused (parts v) (lengths v) (text v) (answer v (reached f)) (looks v (reached f)) _ refl (c .refused3 .result) (c .refused3 .ensures)
-    (and-fails-right (ordered v) (fitting v) (sym (fitted f) ∙ not-true _ (c .before .if4 .taken)))
+    gathered-refused (parts v) (lengths v) (text v) (answer v (reached f)) (looks v (reached f)) _ refl (c .refused2 .result) (c .refused2 .ensures)
+    (and-fails-right (ordered v) (fitting v) (sym (fitted f) ∙ not-true _ (c .before .if3 .taken)))
 
 same-length-4 : tie.Need-same-length-4
 same-length-4 c = search needs
 
-returns-5 : tie.Need-returns-5
-returns-5 c = λ _.
+returns-4 : tie.Need-returns-4
+returns-4 c =
     let f = c .before in
     let v = followed f in
     gathered-granted (parts v) (lengths v) (text v) (answer v (reached f)) (looks v (reached f)) _ refl
-    (and-intro {a = ordered v} {b = fitting v} (in-order v (reached f)) (sym (fitted f) ∙ not-false _ (c .if4 .left)))
+    (and-intro {a = ordered v} {b = fitting v} (in-order v (reached f)) (sym (fitted f) ∙ not-false _ (c .if3 .left)))
     (v .before .follow .ensures .stored (reached f))
 
 pub gather-spec : {M : Type 1} → statement M
 gather-spec =
     tie.close
     (tie.spec
-    refused-requires
-    returns
     read-header-requires
     follow-requires
     look-requires
     same-length
-    returns-2
-    refused-requires-2
+    returns
+    refused-requires
     same-length-2
-    returns-3
+    returns-2
     fits-requires
-    refused-requires-3
+    refused-requires-2
     same-length-3
-    returns-4
+    returns-3
     same-length-4
-    returns-5)
+    returns-4)
