@@ -19,6 +19,7 @@ use Rattle.reading.specs.Stored.{inOrder}
 use Rattle.tables.proofs.Looks.{loaded-granted}
 use Rattle.tables.proofs.Looked.{header-settings, look-number, look-allowed}
 use Rattle.reading.proofs.Gathers.{gathered-look, gathered-refused, gathered-granted}
+use Rattle.shapes.proofs.Shallow.{lengths-shallow}
 use Rattle.reading.proofs.gathering.gather.Statement.{statement}
 use Rattle.reading.proofs.gathering.gather.Tie as tie
 
@@ -74,7 +75,7 @@ module _ (c : tie.After-fits2) where
   reached = not-false _ (c .before .before .if1 .left)
 
   fitted : c .fits2 .result ≡ fitting followed
-  fitted = c .fits2 .ensures (shallow followed reached) ∙ ap (λ S. lengthsFit S (parts followed) (lengths followed)) (sym (settings-are followed reached))
+  fitted = c .fits2 .ensures ∙ lengths-shallow (header followed .settings) (parts followed) (lengths followed) (shallow followed reached) ∙ ap (λ S. lengthsFit S (parts followed) (lengths followed)) (sym (settings-are followed reached))
 
 read-header-requires : tie.Need-read-header-requires
 read-header-requires c κs = search needs

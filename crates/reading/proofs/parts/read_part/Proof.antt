@@ -18,7 +18,7 @@ use Rattle.protocol.specs.Lines.{spot, readValue, readValues}
 use Rattle.shapes.specs.Parts.{asShape, cellAt}
 use Rattle.tables.proofs.Counts.{Found}
 use Rattle.tables.proofs.Values.{prefix, prefix-nothing, valued, unvalued, values-more, values-over, values-done}
-use Rattle.shapes.proofs.Cells.{cell, cell-first, cell-inside, spots-count, spots-next, spots-end}
+use Rattle.shapes.proofs.Cells.{cell, cell-first, cell-inside, next-cell, spots-count, spots-next, spots-end}
 use Rattle.reading.proofs.Cells.{took-missed, took-done}
 use Rattle.reading.proofs.parts.read_part.Statement.{statement}
 use Rattle.reading.proofs.parts.read_part.Tie as tie
@@ -157,7 +157,7 @@ loop-again c =
       l .inv .1,
       got k .within,
       simp length-set (l .inv .3),
-      c .next-cell .ensures (within d .0) (within d .1) (line d) (l .inv .4),
+      c .next-cell .ensures ∙ next-cell _ _ (within d .0) (within d .1) (line d) (l .inv .4),
       subst (λ w. Left (text d) (from d) (asShape (part d)) (set (values d) (line d) w) (next k) (line d + 1)) (sym (word k))
           (step (text d) (from d) (asShape (part d)) (values d) (now-at d) (line d) (inside d) (l .inv .5) (v k) (next k) (room d) (got k)),
     )

@@ -20,6 +20,7 @@ use Rattle.shapes.proofs.Cells.{spots-count}
 use Rattle.reading.proofs.Cells.{taken-missed, taken-found, took-missed, took-done, took-place}
 use Rattle.tables.proofs.Follow.{values-room}
 use Rattle.reading.proofs.Wants.{spotsFrom, spots-from-next, spots-from-end, spots-from-one, values-then, values-never}
+use Rattle.shapes.proofs.Shallow.{part-of}
 use Rattle.reading.proofs.parts.read_parts.Statement.{statement}
 use Rattle.reading.proofs.parts.read_parts.Tie as tie
 
@@ -82,7 +83,7 @@ module _ (c : tie.After-size-of Inv-loop μ-loop) where
   whole = readValues (partSpots S P) (drop from text)
 
   next-spots : spotsFrom S P now-part ≡ spots-here ++ spots-next
-  next-spots = spots-from-next S P now-part (omega arith) ∙ ap (λ b. spots b ++ spots-next) (sym (c .before .shape-of .ensures (omega arith)))
+  next-spots = spots-from-next S P now-part (omega arith) ∙ ap (λ b. spots b ++ spots-next) (sym (c .before .shape-of .ensures ∙ part-of S P now-part (omega arith)))
 
   size-is : size ≡ length spots-here
   size-is = c .size-of .ensures ∙ sym (spots-count _)
