@@ -35,8 +35,10 @@ check-requires : tie.Need-check-requires
 check-requires c κs = search needs
 
 returns : tie.Need-returns
-returns c = let a = c .before .before .before .before .before .args in
-    answered (a .settings) (a .commitment) (a .key .now) (a .rounds .now) (a .challenges .now) (a .last) _ (refused (a .settings) (a .commitment) (a .key .now) (a .rounds .now) (a .challenges .now) (a .last) _ (c .before .check .ensures) (c .if1 .taken))
+returns c =
+    let a = c .before .before .before .before .before .args in
+    answered (a .settings) (a .commitment) (a .key .now) (a .rounds .now) (a .challenges .now) (a .last) _
+    (refused (a .settings) (a .commitment) (a .key .now) (a .rounds .now) (a .challenges .now) (a .last) _ (c .before .check .ensures) (c .if1 .taken))
 
 rounds-hold-requires : tie.Need-rounds-hold-requires
 rounds-hold-requires c κs = tables c .tables

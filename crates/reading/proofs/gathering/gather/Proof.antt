@@ -75,7 +75,10 @@ module _ (c : tie.After-fits2) where
   reached = not-false _ (c .before .before .if1 .left)
 
   fitted : c .fits2 .result ≡ fitting followed
-  fitted = c .fits2 .ensures ∙ lengths-shallow (header followed .settings) (parts followed) (lengths followed) (shallow followed reached) ∙ ap (λ S. lengthsFit S (parts followed) (lengths followed)) (sym (settings-are followed reached))
+  fitted =
+      c .fits2 .ensures
+      ∙ lengths-shallow (header followed .settings) (parts followed) (lengths followed) (shallow followed reached)
+      ∙ ap (λ S. lengthsFit S (parts followed) (lengths followed)) (sym (settings-are followed reached))
 
 read-header-requires : tie.Need-read-header-requires
 read-header-requires c κs = search needs

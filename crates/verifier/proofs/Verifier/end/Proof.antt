@@ -18,7 +18,9 @@ end-requires : tie.Need-end-requires
 end-requires c κs = search needs
 
 returns : tie.Need-returns
-returns c = let a = c .before .before .before .before .args in end-answered (a .self .0) (a .last) (a .key .now) _ (end-refused (a .self .0) (a .last) (a .key .now) _ (c .before .end .ensures) (c .if1 .taken))
+returns c =
+    let a = c .before .before .before .before .args in
+    end-answered (a .self .0) (a .last) (a .key .now) _ (end-refused (a .self .0) (a .last) (a .key .now) _ (c .before .end .ensures) (c .if1 .taken))
 
 shut-requires : tie.Need-shut-requires
 shut-requires c κs = search needs
@@ -46,14 +48,16 @@ unfolding verdict choose
 returns-2 c =
     let one = c .before .before .before .before .before .before .before in
     let a = one .before .before .before .before .args in
-    end-answered (a .self .0) (a .last) (a .key .now) _ (end-done (a .self .0) (a .last) (a .key .now) (passed one) true (sym (met (c .before)) ∙ c .if2 .taken) _ (c .before .before .before .shut .ensures))
+    end-answered (a .self .0) (a .last) (a .key .now) _
+    (end-done (a .self .0) (a .last) (a .key .now) (passed one) true (sym (met (c .before)) ∙ c .if2 .taken) _ (c .before .before .before .shut .ensures))
 
 returns-3 : tie.Need-returns-3
 unfolding verdict choose
 returns-3 c =
     let one = c .before .before .before .before .before .before .before in
     let a = one .before .before .before .before .args in
-    end-answered (a .self .0) (a .last) (a .key .now) _ (end-done (a .self .0) (a .last) (a .key .now) (passed one) false (sym (met (c .before)) ∙ c .if2 .left) _ (c .before .before .before .shut .ensures))
+    end-answered (a .self .0) (a .last) (a .key .now) _
+    (end-done (a .self .0) (a .last) (a .key .now) (passed one) false (sym (met (c .before)) ∙ c .if2 .left) _ (c .before .before .before .shut .ensures))
 
 pub end-spec : {M : Type 1} → statement M
 end-spec =

@@ -18,7 +18,9 @@ round-requires : tie.Need-round-requires
 round-requires c κs = search needs
 
 returns : tie.Need-returns
-returns c = let a = c .before .before .before .args in round-answered (a .self .0) (a .t2) (a .e) _ (round-refused (a .self .0) (a .t2) (a .e) _ (c .before .round .ensures) (c .if1 .taken))
+returns c =
+    let a = c .before .before .before .args in
+    round-answered (a .self .0) (a .t2) (a .e) _ (round-refused (a .self .0) (a .t2) (a .e) _ (c .before .round .ensures) (c .if1 .taken))
 
 array-copy-out-c0 : tie.Need-array-copy-out-c0
 array-copy-out-c0 c = search needs
@@ -40,7 +42,8 @@ unfolding moveHolds part
 returns-2 c =
     let one = c .before .before .before .before .before .before .before .before in
     let a = one .before .before .before .args in
-    round-answered (a .self .0) (a .t2) (a .e) _ (round-rejected (a .self .0) (a .t2) (a .e) (passed one) (sym (c .before .before .round-holds .ensures (given one .allowed)) ∙ not-true _ (c .before .if2 .taken)) _ (c .shut .ensures))
+    round-answered (a .self .0) (a .t2) (a .e) _
+    (round-rejected (a .self .0) (a .t2) (a .e) (passed one) (sym (c .before .before .round-holds .ensures (given one .allowed)) ∙ not-true _ (c .before .if2 .taken)) _ (c .shut .ensures))
 
 next-claim-requires : tie.Need-next-claim-requires
 next-claim-requires c κs = search needs
@@ -53,7 +56,8 @@ unfolding moveHolds part
 returns-3 c =
     let one = c .before .before .before .before .before .before .before .before .before in
     let a = one .before .before .before .args in
-    round-answered (a .self .0) (a .t2) (a .e) _ (round-counted (a .self .0) (a .t2) (a .e) (passed one) (sym (c .before .before .before .round-holds .ensures (given one .allowed)) ∙ not-false _ (c .before .before .if2 .left)) _ _ (c .counted .ensures) (c .before .next-claim .ensures (given one .allowed)))
+    round-answered (a .self .0) (a .t2) (a .e) _
+    (round-counted (a .self .0) (a .t2) (a .e) (passed one) (sym (c .before .before .before .round-holds .ensures (given one .allowed)) ∙ not-false _ (c .before .before .if2 .left)) _ _ (c .counted .ensures) (c .before .next-claim .ensures (given one .allowed)))
 
 pub round-spec : {M : Type 1} → statement M
 round-spec =
