@@ -1,9 +1,9 @@
 // The judge of relaxed openings and the extractor. Each `run` reads a case's inputs and gives what is left of the input; each `answer` makes the
 // call and prints what it gives.
+use crate::input::Input;
+use crate::output;
+use crate::tables;
 use protocol::Settings;
-use stream::input::Input;
-use stream::output;
-use stream::tables;
 
 fn answer_judge(settings: Settings, commitment: [u32; 64], c: u32, key: &[u32], w: &[i64]) {
     let answer = relaxed::judge(settings, commitment, c, key, w);

@@ -2,11 +2,14 @@
 // its call and then its inputs, a table or an element being its length and then its numbers, a text its length, a line feed and then its
 // bytes. The answer to each case is one line, or more where a text is in it.
 mod extracting;
+mod input;
 mod openings;
+mod output;
+mod tables;
 mod texts;
 mod transcripts;
 
-use stream::input::Input;
+use crate::input::Input;
 
 fn run(call: u32, input: Input) -> Input {
     match call {

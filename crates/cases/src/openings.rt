@@ -1,8 +1,8 @@
 // The prover's calls. Each `run` reads a case's inputs and gives what is left of the input; each `answer` makes the call and prints what it gives.
+use crate::input::Input;
+use crate::output;
+use crate::tables;
 use protocol::Settings;
-use stream::input::Input;
-use stream::output;
-use stream::tables;
 
 fn answer_commit(settings: Settings, key: &[u32], message: &[i32]) {
     let answer = prover::commit(settings, key, message);

@@ -1,11 +1,11 @@
 // The calls on texts: the table reader, the table writer, and `verify`. Reader and writer are lent six tables: `run_tables` and `run_last` read them,
 // three each. Each `answer` makes the call and prints what it gives.
+use crate::input::Input;
+use crate::output;
+use crate::tables;
 use protocol::Parts;
 use protocol::Settings;
 use protocol::Verified;
-use stream::input::Input;
-use stream::output;
-use stream::tables;
 
 // Which of the two calls it is, and what it is told. A reader is told no settings.
 struct Task {

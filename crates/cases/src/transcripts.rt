@@ -1,11 +1,11 @@
 // The verifier's calls. Each `run` reads a case's inputs and gives what is left of the input; each `answer` makes the call and prints what it
 // gives.
+use crate::input::Input;
+use crate::output;
+use crate::tables;
 use protocol::Moved;
 use protocol::Session;
 use protocol::Settings;
-use stream::input::Input;
-use stream::output;
-use stream::tables;
 use verifier::Verifier;
 
 // A record whose every field differs from what a start gives: a start must not look at the record before it.

@@ -13,7 +13,7 @@ use Rattle.protocol.specs.Session.{start, move, close}
 use Rattle.protocol.specs.Calls.{commitAnswer, roundAnswer, foldRefusal, foldKeyExit, foldMessageExit, endAnswer, openingAnswer, openingKeyExit, openingMessageExit, openingRoundsExit, checkAnswer, judgeAnswer, extractRefusal, extractExit}
 use Rattle.protocol.specs.Text.{Tables, readAnswer, readExit, writeAnswer, writeExit}
 use Rattle.protocol.specs.Programs.{proveAnswer, proveExit, verifyAnswer, checked}
-use Rattle.protocol.proofs.Examples.{Example, asNumber, causeNumber, verdictNumber, recordNumbers, moveNumbers}
+use Rattle.protocol.proofs.Examples.{Example, asNumber, causeNumber, verdictAsNumber, recordNumbers, moveNumbers}
 
 -- ---- inputs
 
@@ -82,9 +82,9 @@ unfoldable pub openingRow : Settings → List ℕ → List ℤ → List ℕ → 
 openingRow S key message E rounds n v c f key′ message′ rounds′ =
     let r = openingAnswer S key message E rounds in
     record {
-      given = pos (r .number) ∷ verdictNumber (r .verdict) ∷ (map pos (r .commitment) ++ r .last
+      given = pos (r .number) ∷ verdictAsNumber (r .verdict) ∷ (map pos (r .commitment) ++ r .last
           ++ map pos (openingKeyExit S key message E rounds) ++ openingMessageExit S key message E rounds ++ map pos (openingRoundsExit S key message E rounds));
-      wanted = pos n ∷ verdictNumber v ∷ (map pos (full c) ++ fullSigned f ++ map pos key′ ++ message′ ++ map pos rounds′);
+      wanted = pos n ∷ verdictAsNumber v ∷ (map pos (full c) ++ fullSigned f ++ map pos key′ ++ message′ ++ map pos rounds′);
     }
 
 unfoldable pub startRow : Settings → List ℕ → ℕ → Session → Example
@@ -106,8 +106,8 @@ unfoldable pub checkRow : Settings → List ℕ → List ℤ → List ℕ → Li
 checkRow S C f key rounds E n v why =
     let r = checkAnswer S C f key rounds E in
     record {
-      given = pos (r .number) ∷ verdictNumber (r .verdict) ∷ whyRejected S (r .number) key (record { commitment = C; rounds = rounds; challenges = E; last = f });
-      wanted = pos n ∷ verdictNumber v ∷ causeNumber why;
+      given = pos (r .number) ∷ verdictAsNumber (r .verdict) ∷ whyRejected S (r .number) key (record { commitment = C; rounds = rounds; challenges = E; last = f });
+      wanted = pos n ∷ verdictAsNumber v ∷ causeNumber why;
     }
 
 unfoldable pub judgeRow : Settings → List ℕ → ℕ → List ℕ → List ℤ → ℕ → Bool → Example
@@ -140,7 +140,7 @@ proveRow input room byte n long text =
 unfoldable pub verifyRow : List ℕ → ℕ → Verdict → Example
 verifyRow text n v =
     let r = checked (verifyAnswer text) in
-    record { given = pos (r .number) ∷ verdictNumber (r .verdict) ∷ []; wanted = pos n ∷ verdictNumber v ∷ [] }
+    record { given = pos (r .number) ∷ verdictAsNumber (r .verdict) ∷ []; wanted = pos n ∷ verdictAsNumber v ∷ [] }
 
 unfoldable pub rowsUnfolded : Unit {0}
 unfolding

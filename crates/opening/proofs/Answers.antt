@@ -12,7 +12,7 @@ use Rattle.protocol.specs.Element.{width, zeros, signedZeros, padded, paddedSig
 use Rattle.protocol.specs.Settings.{settingsRefusal}
 use Rattle.protocol.specs.Opening.{commitment, keyAfter, messageAfter, finalElement}
 use Rattle.protocol.specs.Transcript.{Transcript, accepted, transcriptOf}
-use Rattle.protocol.specs.Session.{verdict}
+use Rattle.protocol.specs.Session.{verdict, verdictNumber}
 use Rattle.protocol.specs.Calls.{commitAnswer, openingRefusal, openingAnswer, openingKeyExit, openingMessageExit, openingRoundsExit}
 use Rattle.protocol.specs.Promises.{Opening}
 use Rattle.protocol.proofs.Tests.{granted-zero, granted-refused}
@@ -22,6 +22,7 @@ use Rattle.sizes.proofs.Limits.{degree-most}
 use Rattle.arithmetic.specs.Elements.{elementAt}
 use Rattle.equations.specs.Ends.{endMet}
 use Rattle.opening.specs.declared.turns.State.{State}
+use Rattle.protocol.proofs.Answers.{opening-number}
 use Rattle.opening.specs.Turns.{TablesAt, CheckedAt, Finished, ProverTurn}
 use Rattle.opening.proofs.Inputs.{Lent, lent}
 use Rattle.opening.proofs.Storing.{front-none, front-all}
@@ -43,6 +44,7 @@ module _ (S : Settings) (G : List ℕ) (M : List ℤ) (E R : List ℕ) where
       last = sym (granted-refused (openingRefusal S G M E R) (paddedSigned d (T .last)) (signedZeros width) some) i;
       verdict = sym (granted-refused (openingRefusal S G M E R) (verdict (accepted S G T)) Silent some) i;
     };
+    verdict-number = ap verdictNumber (sym (granted-refused (openingRefusal S G M E R) (verdict (accepted S G T)) Silent some)) ∙ opening-number S G M E R;
     key-exit = sym (granted-refused _ _ _ some);
     message-exit = sym (granted-refused _ _ _ some);
     rounds-exit = sym (granted-refused _ _ _ some);
@@ -101,6 +103,7 @@ module _ (S : Settings) (G : List ℕ) (M : List ℤ) (E R : List ℕ) where
         last = (f-is ∙ sym (opening-last ok R (given .rounds-long))) i;
         verdict = (v-is ∙ sym verdict-is) i;
       };
+      verdict-number = ap verdictNumber (v-is ∙ sym verdict-is) ∙ opening-number S G M E R;
       key-exit = finished .tables .key-is ∙ sym (opening-key ok R (given .rounds-long));
       message-exit = finished .tables .message-is ∙ sym (opening-message ok R (given .rounds-long));
       rounds-exit = finished .tables .rounds-is ∙ front-all S (modulus-positive S (ok .settings)) G M E R (given .rounds-long) ∙ sym (opening-rounds ok R (given .rounds-long));

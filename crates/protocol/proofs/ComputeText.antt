@@ -16,6 +16,7 @@ use Rattle.protocol.specs.Text.{readLine, readLines, begins, beginsWithN
 use Rattle.protocol.specs.Text.{wellFormed, unsigned, column, unsignedColumn, settingIn, settingsIn, tablesIn, noSettings, lookRefusal, loaded}
 use Rattle.protocol.specs.Text.{lookAnswer, entriesRefusal, textRefusal, readRefusal, readAnswer, readExit, outputRefusal, writeRefusal}
 use Rattle.protocol.specs.Text.{written, overwritten, writeAnswer, writeExit, reading, numberAnswer, readNumberAt, readCountAt}
+use Rattle.protocol.specs.Lines.{noLine, lineReading, lineAnswer, readLineAt, readValue, readValues, settingsOf, readSettings, begunWith, begunAnswer}
 use Rattle.protocol.specs.Programs.{proveReads, provePrints, verifyReads, printed, proofText, proveText, proveRefusal, proveAnswer, proveExit}
 use Rattle.protocol.specs.Programs.{transcriptIn, tablesAccepted, verifyRefusal, verifyAnswer, checked, refusedLine, verdictLine, proveOutput}
 use Rattle.protocol.specs.Programs.{verifyOutput}
@@ -34,6 +35,7 @@ unfolding
     readLine readLines begins beginsWithNames parsed linesOf sameSpot sameSpots spotsOf valuesOf wellFormed unsigned column unsignedColumn settingIn
     settingsIn tablesIn noSettings lookRefusal loaded lookAnswer entriesRefusal textRefusal readRefusal readAnswer readExit outputRefusal
     writeRefusal written overwritten writeAnswer writeExit reading numberAnswer readNumberAt readCountAt
+    noLine lineReading lineAnswer readLineAt readValue readValues settingsOf readSettings begunWith begunAnswer
     proveReads provePrints verifyReads printed proofText proveText proveRefusal proveAnswer proveExit transcriptIn tablesAccepted verifyRefusal
     verifyAnswer checked refusedLine verdictLine proveOutput verifyOutput
     outcome

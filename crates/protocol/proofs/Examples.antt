@@ -8,9 +8,9 @@ use lib.IntN.{ℤ, pos, negsuc}
 use Rattle.protocol.specs.declared.Session.{Session}
 use Rattle.protocol.specs.declared.Moved.{Moved}
 use Rattle.protocol.specs.declared.Verdict.{Verdict}
-use Rattle.protocol.specs.declared.Verdict.the-variants.{Silent, Holds, Accepted, Rejected}
 use Rattle.protocol.specs.Basic.{choose}
 use Rattle.protocol.specs.Transcript.{Cause}
+use Rattle.protocol.specs.Session.{verdictNumber}
 use Rattle.protocol.proofs.Tests.{and-split}
 
 pub record Example : Type 0 where
@@ -43,12 +43,9 @@ causeNumber (Cause.round i) = pos i ∷ []
 causeNumber Cause.bound = pos 100 ∷ []
 causeNumber Cause.equation = pos 101 ∷ []
 
--- a verdict as a number: 0 silent, 1 holds, 2 accepted, 3 rejected
-unfoldable pub verdictNumber : Verdict → ℤ
-verdictNumber Silent = pos 0
-verdictNumber Holds = pos 1
-verdictNumber Accepted = pos 2
-verdictNumber Rejected = pos 3
+-- a verdict as a number
+unfoldable pub verdictAsNumber : Verdict → ℤ
+verdictAsNumber v = pos (verdictNumber v)
 
 -- a record as numbers: settings, rounds done, closed, the challenges, and the claim's places
 unfoldable pub recordNumbers : Session → List ℤ
@@ -60,11 +57,11 @@ recordNumbers r =
 
 -- a move's answer as numbers: the refusal, the verdict, the record
 unfoldable pub moveNumbers : Moved → List ℤ
-moveNumbers m = pos (m .number) ∷ verdictNumber (m .verdict) ∷ recordNumbers (m .next)
+moveNumbers m = pos (m .number) ∷ verdictAsNumber (m .verdict) ∷ recordNumbers (m .next)
 
 -- whoever unfolds `agreeing` unfolds these definitions
 unfoldable pub agreeing : Unit {0}
-unfolding sameNumber sameNumbers agree asNumber causeNumber verdictNumber recordNumbers moveNumbers
+unfolding sameNumber sameNumbers agree asNumber causeNumber verdictNumber verdictAsNumber recordNumbers moveNumbers
 agreeing = tt
 
 -- ---- what the test says: a row that agrees is an equation

@@ -16,6 +16,7 @@ use Rattle.protocol.specs.declared.Verdict.{Verdict}
 use Rattle.protocol.specs.declared.Verdict.the-variants.{Silent, Accepted, Rejected}
 use Rattle.protocol.specs.Text.{Tables, Reading, bytes, noSettings, beginsWithNames, lookRefusal, lookAnswer, readAnswer, readExit}
 use Rattle.protocol.specs.Text.{outputRefusal, writeAnswer, writeExit, reading, readNumberAt, readCountAt}
+use Rattle.protocol.specs.Lines.{LineReading, lineReading, readLineAt, begunAnswer}
 use Rattle.protocol.specs.Programs.{proveReads, provePrints, verifyReads, proveRefusal, proveAnswer, proveExit, proveOutput}
 use Rattle.protocol.specs.Programs.{verifyRefusal, verifyAnswer, verifyOutput, checked}
 use Rattle.protocol.specs.RoundTrip.{outcome}
@@ -203,6 +204,11 @@ data Row : Type 0 where
   -- a number reader's number, value and next place
   number : String → ℕ → ℕ → ℤ → ℕ → Row
   count : String → ℕ → ℕ → ℤ → ℕ → Row
+  -- the line reader's part, item, place, value and next place, or its refusal
+  lineGives : String → ℕ → ℕ → ℕ → ℕ → ℤ → ℕ → Row
+  lineRefused : String → ℕ → Row
+  -- the settings that a text begins with
+  begunGives : String → ℕ → Settings → Row
 
 data Answer : Type 0 where
   prints : List ℕ → Answer
@@ -213,6 +219,7 @@ data Answer : Type 0 where
   reads : Loaded → Tables → Answer
   writes : Written → List ℕ → Answer
   gives : Reading → Answer
+  givesLine : LineReading → Answer
 
 abbrev stops : ℕ → List ℕ
 stops n = replicate n 46
@@ -240,6 +247,9 @@ given (forth P text u) =
     writes (writeAnswer S P t (stops 999)) (writeExit S P t (stops 999))
 given (number text at N value next) = gives (reading (readNumberAt (bytes text) at))
 given (count text at N value next) = gives (reading (readCountAt (bytes text) at))
+given (lineGives text at part item place value next) = givesLine (lineReading (readLineAt (bytes text) at))
+given (lineRefused text at) = givesLine (lineReading (readLineAt (bytes text) at))
+given (begunGives text N S) = finds (begunAnswer (bytes text))
 
 unfoldable expected : Row → Answer
 expected (proves text line) = prints (bytes line)
@@ -261,6 +271,11 @@ expected (back S P t u) = reads (record { number = 0; settings = S }) t
 expected (forth P text u) = let n = length (bytes text) in writes (record { number = 0; count = n }) (bytes text ++ᴸ stops (999 - n))
 expected (number text at N value next) = gives (record { number = N; value = value; next = next })
 expected (count text at N value next) = gives (record { number = N; value = value; next = next })
+expected (lineGives text at part item place value next) =
+    givesLine (record { number = 0; line = record { spot = record { part = part; item = item; place = place }; value = value }; next = next })
+expected (lineRefused text at) =
+    givesLine (record { number = 2; line = record { spot = record { part = 0; item = 0; place = 0 }; value = pos 0 }; next = 0 })
+expected (begunGives text N S) = finds (record { number = N; settings = S })
 
 -- ---- The table
 
@@ -484,6 +499,20 @@ table =
     ∷ count "17 5" 0 0 (pos 17) 2
     ∷ count "-3\n" 0 2 (pos 0) 0
     ∷ count "03\n" 0 2 (pos 0) 0
+    -- the line reader: a line with the next place, or a refusal
+    ∷ lineGives "2 0 1 -1\n2 1 0 1\n" 0 2 0 1 (negsuc 0) 9
+    ∷ lineGives "2 0 1 -1\n2 1 0 1\n" 9 2 1 0 (pos 1) 17
+    ∷ lineGives "4 2 10 16\n" 0 4 2 10 (pos 16) 10
+    ∷ lineRefused "2 0 1 -1" 0
+    ∷ lineRefused "2 0 1 -1\n" 1
+    ∷ lineRefused "2 0 1\n" 0
+    ∷ lineRefused "2 0 -1 1\n" 0
+    ∷ lineRefused "2 0 1 -1\n" 9
+    -- the settings that a text begins with: the lines behind them are looked at where the settings are not allowed
+    ∷ begunGives (names ++ settings ++ "x") 0 example
+    ∷ begunGives (names ++ "0 0 0 3\n0 0 1 1\n0 0 2 17\n0 0 3 1\n") 3 noSettings
+    ∷ begunGives (names ++ "0 0 0 3\n0 0 1 1\n0 0 2 17\n0 0 3 1\nx") 2 noSettings
+    ∷ begunGives settings 2 noSettings
     ∷ []
 
 known-texts : map given table ≡ map expected table

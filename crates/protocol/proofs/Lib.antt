@@ -19,3 +19,4 @@ pub mod TableLaws
 pub mod Trial
 pub mod TrialTree
 pub mod Refusals
+pub mod Answers

@@ -17,7 +17,7 @@ use Rattle.protocol.specs.Judge.{slack}
 use Rattle.protocol.specs.Calls.{commitRefusal, commitAnswer, roundRefusal, foldRefusal, foldMessageExit, endRefusal, openingAnswer, openingRoundsExit, checkRefusal, judgeRefusal, judgeAnswer, extractRefusal, extractExit}
 use Rattle.protocol.proofs.Compute.{computed}
 use Rattle.protocol.proofs.Listing.{set, S₁, key₁, message₁, rounds₁, leaves₁, S₀}
-use Rattle.protocol.proofs.Examples.{Example, agree, agreeing, asNumber, causeNumber, moveNumbers, recordNumbers, verdictNumber}
+use Rattle.protocol.proofs.Examples.{Example, agree, agreeing, asNumber, causeNumber, moveNumbers, recordNumbers, verdictAsNumber}
 
 -- ---- the inputs
 
@@ -95,7 +95,7 @@ traps =
     ∷ record { given = coefficients 4 (power 4 4); wanted = negsuc 0 ∷ pos 0 ∷ pos 0 ∷ pos 0 ∷ [] }
     -- the whole opening: round elements and verdict; its bound is ±B over all n
     ∷ record { given = map pos (openingRoundsExit S₁ key₁ message₁ (1 ∷ []) (replicate 6 0)); wanted = map pos rounds₁ }
-    ∷ record { given = verdictNumber (openingAnswer S₁ key₁ message₁ (1 ∷ []) (replicate 6 0) .verdict) ∷ []; wanted = pos 2 ∷ [] }
+    ∷ record { given = verdictAsNumber (openingAnswer S₁ key₁ message₁ (1 ∷ []) (replicate 6 0) .verdict) ∷ []; wanted = pos 2 ∷ [] }
     ∷ number (openingAnswer S₁ key₁ message₁ (4 ∷ []) (replicate 6 0) .number) 10
     ∷ number (openingAnswer S₁ key₁ message₁ (1 ∷ []) (replicate 5 0) .number) 7
     -- a round that fails is named before the end; the check of a transcript
@@ -122,7 +122,7 @@ traps =
     ∷ record { given = moveNumbers (close overfull (pos 1 ∷ pos 0 ∷ []) key₁); wanted = pos 10 ∷ pos 0 ∷ recordNumbers overfull }
     ∷ number (close (record { settings = S₁; done = 1; claim = 9 ∷ 6 ∷ []; challenges = 1 ∷ replicate 7 0; closed = false }) (pos 1 ∷ pos 0 ∷ []) (3 ∷ 5 ∷ 7 ∷ 17 ∷ []) .number) 8
     ∷ record { given = moveNumbers (close (move fresh polynomial₁ 1 .next) (pos 1 ∷ pos 0 ∷ []) key₁); wanted = pos 0 ∷ pos 2 ∷ recordNumbers (shut (move fresh polynomial₁ 1 .next)) }
-    ∷ record { given = verdictNumber (close (move fresh polynomial₁ 1 .next) (negsuc 2_147_483_647 ∷ pos 0 ∷ []) key₁ .verdict) ∷ []; wanted = pos 3 ∷ [] }
+    ∷ record { given = verdictAsNumber (close (move fresh polynomial₁ 1 .next) (negsuc 2_147_483_647 ∷ pos 0 ∷ []) key₁ .verdict) ∷ []; wanted = pos 3 ∷ [] }
     -- a refused start; a start does not copy what stands from d on
     ∷ record { given = pos (start S₁ (17 ∷ 4 ∷ []) .number) ∷ recordNumbers (start S₁ (17 ∷ 4 ∷ []) .next); wanted = pos 8 ∷ recordNumbers blank }
     ∷ record { given = recordNumbers (start S₁ (15 ∷ 4 ∷ 9 ∷ []) .next); wanted = recordNumbers fresh }

@@ -9,6 +9,7 @@
 --   endRefusal, endAnswer                                4 the prover's end
 --   openingRefusal, openingAnswer, opening…Exit          5 the whole opening
 --   checkRefusal, checkAnswer                            the check of a transcript
+--   openingNumber, checkNumber                           the number of the verdict of these two
 --   judgeRefusal, judgeAnswer                            the judge
 --   extractRefusal, extractExit                          the extractor
 use mathlib.Core.Bool.{Bool, true, false, _&&_}
@@ -30,7 +31,7 @@ use Rattle.protocol.specs.Element.{width, zeros, signedZeros, padded, pa
 use Rattle.protocol.specs.Settings.{settingsRefusal, cells, sized, residues, residueElement, small, exponent, exponents}
 use Rattle.protocol.specs.Opening.{commitment, left, roundElement, foldMessage, foldKey, messageAfter, keyAfter, finalElement, roundTable}
 use Rattle.protocol.specs.Transcript.{accepted, transcriptOf}
-use Rattle.protocol.specs.Session.{verdict}
+use Rattle.protocol.specs.Session.{verdict, endNumber}
 use Rattle.protocol.specs.Tree.{nodes, leaves, path, apart, rootVector, grows}
 use Rattle.protocol.specs.Judge.{slackAllowed, judged}
 
@@ -149,6 +150,9 @@ openingAnswer S key message E rounds =
       verdict = granted refusal (verdict (accepted S key T)) Silent;
     }
 
+unfoldable pub openingNumber : Settings → List ℕ → List ℤ → List ℕ → List ℕ → ℕ
+openingNumber S key message E rounds = endNumber (openingRefusal S key message E rounds) (accepted S key (transcriptOf S key message E))
+
 -- "both tables stay as L folds leave them"
 unfoldable pub openingKeyExit : Settings → List ℕ → List ℤ → List ℕ → List ℕ → List ℕ
 openingKeyExit S key message E rounds = granted (openingRefusal S key message E rounds) (keyAfter S E (S .depth) key) key
@@ -175,6 +179,10 @@ checkAnswer S C f key rounds E = record {
   number = checkRefusal S C key rounds E;
   verdict = granted (checkRefusal S C key rounds E) (verdict (accepted S key (record { commitment = C; rounds = rounds; challenges = E; last = f }))) Silent;
 }
+
+unfoldable pub checkNumber : Settings → List ℕ → List ℤ → List ℕ → List ℕ → List ℕ → ℕ
+checkNumber S C f key rounds E =
+    endNumber (checkRefusal S C key rounds E) (accepted S key (record { commitment = C; rounds = rounds; challenges = E; last = f }))
 
 -- ---- the judge
 

@@ -9,6 +9,7 @@ pub mod Judge
 pub mod Calls
 pub mod Inputs
 pub mod Text
+pub mod Lines
 pub mod Programs
 pub mod RoundTrip
 pub mod Promises

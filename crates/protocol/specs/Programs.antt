@@ -9,6 +9,7 @@
 --   tablesAccepted S t                     is it accepted
 --   verifyRefusal, verifyAnswer            `verify` on a text: its refusals and its answer
 --   checked r                              document 01's number and verdict for each case of that answer
+--   verifyGives text                       the number and the verdict for a text
 --   refusedLine N, verdictLine r           the line that is printed for a refusal, and for an answer of `verify`
 --   proveOutput, verifyOutput              the bytes that a program prints for a standard input
 use mathlib.Core.Bool.{Bool, true, false}
@@ -24,6 +25,7 @@ use Rattle.protocol.specs.declared.Verdict.the-variants.{Silent, Accepte
 use Rattle.protocol.specs.declared.Verified.the-variants.{Accepted, Rejected, Refused}
 use Rattle.protocol.specs.Basic.{choose, first, granted}
 use Rattle.protocol.specs.Transcript.{Transcript, accepted, transcriptOf}
+use Rattle.protocol.specs.Session.{verdict}
 use Rattle.protocol.specs.Text.{Tables, lineFeed, textLimit, bytes, decimal, textOf, linesOf, settingsIn, tablesIn, textRefusal, outputRefusal}
 use Rattle.protocol.specs.Text.{written, overwritten}
 
@@ -81,6 +83,12 @@ unfoldable pub checked : Verified → Checked
 checked Accepted = record { number = 0; verdict = Accepts }
 checked Rejected = record { number = 0; verdict = Rejects }
 checked (Refused number) = record { number = number; verdict = Silent }
+
+unfoldable pub verifyGives : List ℕ → Checked
+verifyGives text = record {
+  number = verifyRefusal text;
+  verdict = granted (verifyRefusal text) (verdict (tablesAccepted (settingsIn (linesOf text)) (tablesIn (linesOf text)))) Silent;
+}
 
 -- ---- What is printed
 

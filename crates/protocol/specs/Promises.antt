@@ -15,7 +15,8 @@ use Rattle.protocol.specs.declared.Parts.{Parts}
 use Rattle.protocol.specs.declared.Opened.{Opened}
 use Rattle.protocol.specs.declared.Loaded.{Loaded}
 use Rattle.protocol.specs.declared.Written.{Written}
-use Rattle.protocol.specs.Calls.{foldRefusal, foldKeyExit, foldMessageExit, openingAnswer, openingKeyExit, openingMessageExit, openingRoundsExit, extractRefusal, extractExit}
+use Rattle.protocol.specs.Session.{verdictNumber}
+use Rattle.protocol.specs.Calls.{foldRefusal, foldKeyExit, foldMessageExit, openingAnswer, openingNumber, openingKeyExit, openingMessageExit, openingRoundsExit, extractRefusal, extractExit}
 use Rattle.protocol.specs.Text.{Tables, readAnswer, readExit, writeAnswer, writeExit}
 use Rattle.protocol.specs.Programs.{proveAnswer, proveExit}
 
@@ -26,6 +27,7 @@ pub record Folded (S : Settings) (t e : ℕ) (key : List ℕ) (message : List �
 
 pub record Opening (S : Settings) (key : List ℕ) (message : List ℤ) (E rounds : List ℕ) (r : Opened) (key′ : List ℕ) (message′ : List ℤ) (rounds′ : List ℕ) : Type 0 where
   pub answer : r ≡ openingAnswer S key message E rounds
+  pub verdict-number : verdictNumber (r .verdict) ≡ openingNumber S key message E rounds
   pub key-exit : key′ ≡ openingKeyExit S key message E rounds
   pub message-exit : message′ ≡ openingMessageExit S key message E rounds
   pub rounds-exit : rounds′ ≡ openingRoundsExit S key message E rounds

@@ -1,12 +1,17 @@
 -- Document 01, "The opening": the verifier's session. "Each move takes the record and hands the next one back."
 --
 --   slots                    how many challenges a record holds
+--   verdict met              what a verifier says of a transcript, or of its end
+--   verdictNumber v          a verdict as a number: 0 the 0 of a refusal, 1 a round that holds, 2 accepted, 3 rejected
+--   roundNumber N met        the number of a round's verdict, for a refusal N and whether the round holds
+--   endNumber N met          the number of the verdict of an end, of a transcript or of a whole opening
 --   opened S C               the record of a session that starts at the commitment C
 --   blank                    the closed record of zeros that a refused start hands back
 --   shut r                   the record r, closed
 --   advanced r p e           the record r after a round that holds, p being the polynomial and e the challenge
 --   refusedMove r number     a refused move: r unchanged
 --   start, move, close       the three moves: refusal, verdict and record
+--   moveNumber, closeNumber  the number of a move's verdict
 use mathlib.Core.Bool.{Bool, true, false, _&&_, not}
 use mathlib.Core.List.{List, [], _∷_}
 use Prim.Native.Nat.{ℕ, _+_}
@@ -31,6 +36,18 @@ slots = 8
 -- what a verifier says of a transcript, or of its end
 unfoldable pub verdict : Bool → Verdict
 verdict met = choose met Accepted Rejected
+
+unfoldable pub verdictNumber : Verdict → ℕ
+verdictNumber Silent = 0
+verdictNumber Holds = 1
+verdictNumber Accepted = 2
+verdictNumber Rejected = 3
+
+unfoldable pub roundNumber : ℕ → Bool → ℕ
+roundNumber refusal met = granted refusal (choose met 1 3) 0
+
+unfoldable pub endNumber : ℕ → Bool → ℕ
+endNumber refusal met = granted refusal (choose met 2 3) 0
 
 -- ---- start
 
@@ -106,6 +123,9 @@ move r p e =
     (choose (moveHolds r p) (record { number = 0; verdict = Holds; next = advanced r p e }) (record { number = 0; verdict = Rejected; next = shut r }))
     (refusedMove r (moveRefusal r p e))
 
+unfoldable pub moveNumber : Session → List (List ℕ) → ℕ → ℕ
+moveNumber r p e = roundNumber (moveRefusal r p e) (moveHolds r p)
+
 -- ---- end
 
 -- 8: "a key, … or claim coefficient"; 10: "tests all eight"; 11: "an end with other than L done, a closed record"
@@ -128,3 +148,6 @@ close r f key =
     granted (closeRefusal r key)
     (record { number = 0; verdict = verdict (closeHolds r f key); next = shut r })
     (refusedMove r (closeRefusal r key))
+
+unfoldable pub closeNumber : Session → List ℤ → List ℕ → ℕ
+closeNumber r f key = endNumber (closeRefusal r key) (closeHolds r f key)

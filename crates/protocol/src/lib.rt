@@ -106,6 +106,18 @@ pub enum Number {
     Refused(u32),
 }
 
+// The line reader: a line of the stated shape with the place behind it, or none.
+pub enum Entry {
+    Found {
+        part: u32,
+        item: u32,
+        place: u32,
+        value: i32,
+        next: usize,
+    },
+    Malformed,
+}
+
 // The program `verify` as a call on text.
 pub enum Verified {
     Accepted,

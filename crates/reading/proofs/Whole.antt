@@ -27,10 +27,10 @@ use Rattle.protocol.proofs.TableLaws.{Rising, Fit, parts, columns, read-fit}
 use Rattle.shapes.specs.declared.Lengths.{Lengths}
 use Rattle.shapes.specs.Parts.{six, partShape, lengthsOf, lengthsFit}
 use Rattle.shapes.proofs.Exactly.{lengths-fit}
-use Rattle.tables.specs.Stored.{columnsIn, inOrder, linesRefusal, First, Gathered}
+use Rattle.reading.specs.Stored.{columnsIn, inOrder, linesRefusal, First, Gathered}
 use Rattle.tables.proofs.Follow.{spots-same}
 use Rattle.tables.proofs.Looks.{loaded-refused}
-use Rattle.tables.proofs.Gathers.{behind-rise}
+use Rattle.reading.proofs.Gathers.{behind-rise}
 use Rattle.reading.specs.Cut.{cut, total, tablesOf}
 
 -- ---- refusals

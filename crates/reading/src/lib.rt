@@ -1,5 +1,7 @@
 // The table reader: the tables of a text, in what is lent for them. Nothing is written before the whole text has passed refusals 1 to 10.
 mod entries;
+mod gathering;
+mod parts;
 mod store;
 
 use protocol::Loaded;
@@ -30,7 +32,7 @@ pub fn read(
         last: last.len(),
     };
     let mut values = [0i32; 8192];
-    let loaded = tables::gather(parts, text, lengths, &mut values);
+    let loaded = gathering::gather(parts, text, lengths, &mut values);
     if loaded.number != 0 {
         return loaded;
     }

@@ -1,19 +1,25 @@
 -- The lines of a part, one after the other.
 --
 --   cell-first, cell-last, cell-more   the first line, and the line behind one, at the end of an item or not
+--   next-..                            the line behind a line, by the tests of `nextCell`
+--   next-cell                          of line p it is line p + 1
 --   cell-inside                        a line of a part is within its places and items
 --   spots-count                        how many lines a part has
 --   spots-next, spots-end              the spots from line p on
-use mathlib.Core.Path.{_≡_, ap, _∙_}
+use mathlib.Core.Path.{_≡_, sym, ap, _∙_}
 use mathlib.Core.List.{[], _∷_}
 use Prim.Native.Nat.{ℕ, zero, suc, _+_, _*_, _/_, _%_, _^_, _<_, _≤_}
 use native.Mathlib.Nat as Nat
 use native.Mathlib.Omega.{arith}
+use native.Mathlib.Decide.{decLt}
+use borrow.Author.Tests.{lt-ltb, le-ltb, le-leb, lt-leb, eq-eqb, ne-eqb}
+use lib.Dec.{eqb, ltb}
 use lib.ListN.{length, drop, drop-of-length-le}
+use Rattle.protocol.specs.Basic.{choose}
 use Rattle.protocol.specs.Text.{Shape, shapeSize, spotAt, spots}
 use Rattle.protocol.proofs.Reading.{cell-element, cell-place, tabulate-length, tabulate-at}
 use Rattle.shapes.specs.declared.Cell.{Cell}
-use Rattle.shapes.specs.Parts.{cellAt}
+use Rattle.shapes.specs.Parts.{cellAt, nextCell}
 use Rattle.shapes.proofs.From.{from-cons}
 
 abbrev pub cell : ℕ → ℕ → Cell
@@ -34,6 +40,41 @@ module _ (d p : ℕ) where
 
   pub cell-more : p % d + 1 < d → cellAt d (p + 1) ≡ cell (p / d) (p % d + 1)
   cell-more h = cell-of d (p / d) (p % d + 1) (p + 1) h (omega (arith, Nat.div-add-mod' p d))
+
+-- ---- the line behind a line
+
+module _ (d : ℕ) (c : Cell) where
+  abbrev more : Cell
+  more = cell (c .item) (c .place + 1)
+
+  abbrev item : Cell
+  item = cell (c .item + 1) 0
+
+  pub next-outside : d ≤ c .place → nextCell d c ≡ c
+  unfolding nextCell choose
+  next-outside h = λ j. choose (le-leb _ _ h j) c (choose (ltb (c .place + 1) d) more (choose (eqb (c .item) 4_294_967_295) c item))
+
+  module _ (h : c .place < d) where
+    pub next-more : c .place + 1 < d → nextCell d c ≡ more
+    unfolding nextCell choose
+    next-more m = λ j. choose (lt-leb _ _ h j) c (choose (lt-ltb _ _ m j) more (choose (eqb (c .item) 4_294_967_295) c item))
+
+    pub next-full : d ≤ c .place + 1 → c .item ≡ 4_294_967_295 → nextCell d c ≡ c
+    unfolding nextCell choose
+    next-full l e = λ j. choose (lt-leb _ _ h j) c (choose (le-ltb _ _ l j) more (choose (eq-eqb _ _ e j) c item))
+
+    pub next-item : d ≤ c .place + 1 → (c .item ≡ 4_294_967_295 → ⊥) → nextCell d c ≡ item
+    unfolding nextCell choose
+    next-item l n = λ j. choose (lt-leb _ _ h j) c (choose (le-ltb _ _ l j) more (choose (ne-eqb _ _ n j) c item))
+
+    pub next-cell : c .item + 1 < 2 ^ 32 → (p : ℕ) → c ≡ cellAt d p → nextCell d c ≡ cellAt d (p + 1)
+    unfolding cellAt
+    next-cell few p e =
+        let place-is : c .place ≡ p % d = ap (λ x. x .place) e in
+        elim (decLt (c .place + 1) d) [
+          | yes m ↦ next-more m ∙ (λ j. cell (e j .item) (e j .place + 1)) ∙ sym (cell-more d p (omega arith))
+          | no n ↦ next-item (omega arith) (λ f. absurd (omega arith)) ∙ (λ j. cell (e j .item + 1) 0) ∙ sym (cell-last d p (omega arith) (omega arith))
+        ]
 
 pub spots-count : (b : Shape) → length (spots b) ≡ shapeSize b
 unfolding spots

@@ -1,3 +1,4 @@
 pub mod From
 pub mod Cells
+pub mod Shallow
 pub mod Exactly

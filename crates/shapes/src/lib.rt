@@ -1,11 +1,9 @@
-// The parts of a text: what their lines are. One description for the reader and for the writer. Each function is safe for every input, and says
-// what it gives for a depth that is allowed.
+// The parts of a text: what their lines are. One description for the reader and for the writer.
 use protocol::Parts;
 use protocol::Settings;
 ghost use mathlib.Core.Path.{_≡_};
-ghost use Prim.Native.Nat.{ℕ, _+_, _^_, _<_, _≤_};
 ghost use Rattle.protocol.specs.Text.{shape, settingsShape, shapeSize};
-ghost use Rattle.shapes.specs.Parts.{asShape, cellAt, partShape, lengthsFit};
+ghost use Rattle.shapes.specs.Parts.{asShape, nextCell, partOf, lengthsAre};
 
 // A part: its number, its items and the places of an item.
 pub struct Shape {
@@ -59,9 +57,9 @@ pub fn settings_shape() -> Shape
     }
 }
 
-// The part of a number; part 0 where there is none of that number.
+// The part of a number; part 0 where there is none of that number, and where the depth is not allowed.
 pub fn shape_of(settings: Settings, parts: Parts, part: u32) -> Shape
-    ensures { λ r. ⌜ (settings .depth ≤ 8 → asShape r ≡ partShape settings parts part) ⌝ }
+    ensures { λ r. ⌜ asShape r ≡ partOf settings parts part ⌝ }
 {
     let degree = settings.degree;
     let depth = settings.depth;
@@ -88,7 +86,7 @@ pub fn size_of(shape: Shape) -> usize
 
 // The line behind a line; a line outside its item, or of the last item that there can be, stays.
 pub fn next_cell(cell: Cell, places: u32) -> Cell
-    ensures { λ r. ⌜ (cell .place < places → cell .item + 1 < 2 ^ 32 → (p : ℕ) → cell ≡ cellAt places p → r ≡ cellAt places (p + 1)) ⌝ }
+    ensures { λ r. ⌜ r ≡ nextCell places cell ⌝ }
 {
     if cell.place >= places {
         return cell;
@@ -110,14 +108,14 @@ pub fn next_cell(cell: Cell, places: u32) -> Cell
 
 // How many lines a part of a text has.
 pub fn part_size(settings: Settings, parts: Parts, part: u32) -> usize
-    ensures { λ r. ⌜ (settings .depth ≤ 8 → r ≡ shapeSize (partShape settings parts part)) ⌝ }
+    ensures { λ r. ⌜ r ≡ shapeSize (partOf settings parts part) ⌝ }
 {
     size_of(shape_of(settings, parts, part))
 }
 
 // Refusal 7 of lent tables: has each of them exactly its length.
 pub fn fits(settings: Settings, parts: Parts, lengths: Lengths) -> bool
-    ensures { λ r. ⌜ (settings .depth ≤ 8 → r ≡ lengthsFit settings parts lengths) ⌝ }
+    ensures { λ r. ⌜ r ≡ lengthsAre (partOf settings parts) lengths ⌝ }
 {
     if lengths.key != part_size(settings, parts, 1) {
         return false;

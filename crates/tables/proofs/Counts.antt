@@ -7,6 +7,7 @@
 --   number-..                    the same for `readNumber`
 --   answer-value, answer-refused a number reader's answer, and what was read
 --   counted, numbered            what an answer with a value says; uncounted, unnumbered: a refusal
+--   ..-both                      an answer, and its number and values
 use mathlib.Core.Path.{_≡_, refl, sym, ap, subst, _∙_}
 use mathlib.Core.Bool.{Bool, true, false, _&&_, not, false≢true}
 use mathlib.Core.List.{List, [], _∷_}
@@ -19,8 +20,11 @@ use lib.Dec.{leb, eqb}
 use lib.ListN.{length, getD, drop, length-drop, drop-of-length-le}
 use lib.Seq.{drop-drop}
 use lib.IntN.{ℤ, pos, negℤ}
+use Rattle.protocol.specs.declared.Number.{Number}
 use Rattle.protocol.specs.declared.Number.the-variants.{Value, Refused}
-use Rattle.protocol.specs.Text.{valueLimit, minus, keep, digit, digitFirst, digitRun, properDigits, readCount, plain, negative, readNumber, numberAnswer, readNumberAt, readCountAt}
+use Rattle.protocol.specs.Text.{valueLimit, minus, keep, digit, digitFirst, digitRun, properDigits, readCount, plain, negative, readNumber, numberAnswer, readNumberAt, readCountAt, reading}
+use Rattle.protocol.specs.Lines.{givenNumber}
+use Rattle.protocol.proofs.Answers.{number-given}
 use Rattle.protocol.proofs.Tests.{and-split, and-intro}
 use Rattle.shapes.proofs.From.{from-cons}
 use Rattle.tables.proofs.Runs.{run-step}
@@ -252,3 +256,17 @@ module _ (text : List ℕ) (at : ℕ) where
   pub unnumbered : (number : ℕ) → readNumberAt text at ≡ Refused number → readNumber (drop at text) ≡ none
   unfolding readNumberAt
   unnumbered number e = answer-refused text _ number e
+
+-- ---- an answer, and its number and values
+
+pub answer-both : (text : List ℕ) (o : Option (ℤ × List ℕ)) (r : Number) → r ≡ numberAnswer text o → (r ≡ numberAnswer text o) × (reading r ≡ givenNumber text o)
+answer-both text o r e = (e, ap reading e ∙ number-given text o)
+
+module _ (text : List ℕ) (at : ℕ) (r : Number) where
+  pub count-both : r ≡ readCountAt text at → (r ≡ readCountAt text at) × (reading r ≡ givenNumber text (plain (readCount (drop at text))))
+  unfolding readCountAt
+  count-both e = answer-both text (plain (readCount (drop at text))) r e
+
+  pub number-both : r ≡ readNumberAt text at → (r ≡ readNumberAt text at) × (reading r ≡ givenNumber text (readNumber (drop at text)))
+  unfolding readNumberAt
+  number-both e = answer-both text (readNumber (drop at text)) r e

@@ -15,7 +15,7 @@ use lib.ListN.{length, take, length-map}
 use lib.IntN.{ℤ}
 use Rattle.protocol.specs.Text.{Spot, Line, readLine, sameSpot, sameSpots, spotsOf, valuesOf}
 use Rattle.protocol.proofs.Tests.{and-split, and-intro}
-use Rattle.tables.specs.Scan.{readValue, readValues, allLines}
+use Rattle.protocol.specs.Lines.{readValue, readValues, allLines}
 use Rattle.tables.proofs.Counts.{Suffix, suffix-of}
 use Rattle.tables.proofs.Rows.{line-suffix, line-shorter, all-next, all-some}
 use Rattle.tables.proofs.Values.{same-spot, spot-same, value-of, value-read, prefix, values-step, values-stop}

@@ -3,8 +3,6 @@ pub mod Counts
 pub mod Rows
 pub mod Words
 pub mod Values
-pub mod Cells
 pub mod Follow
 pub mod Looks
-pub mod Wants
-pub mod Gathers
+pub mod Looked

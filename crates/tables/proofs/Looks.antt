@@ -21,7 +21,8 @@ use Rattle.protocol.specs.Settings.{settingsRefusal}
 use Rattle.protocol.specs.Text.{Spot, Line, textLimit, shape, settingsShape, shapeSize, spots, names, readLines, beginsWithNames, parsed, linesOf, sameSpots, spotsOf, valuesOf, wellFormed, unsigned, settingIn, settingsIn, noSettings, lookRefusal, loaded}
 use Rattle.protocol.proofs.Refusals.{first-fails, first-holds, first-only}
 use Rattle.tables.specs.declared.header.Header.{Header}
-use Rattle.tables.specs.Scan.{present, readValues, allLines, settingsOf, readSettings, headerAnswer}
+use Rattle.protocol.specs.Lines.{present, readValues, allLines, settingsOf, readSettings}
+use Rattle.tables.specs.Header.{headerAnswer}
 use Rattle.tables.proofs.Counts.{suffix-place}
 use Rattle.tables.proofs.Rows.{all-turns}
 use Rattle.tables.proofs.Values.{behind-names, names-long, settings-named, settings-unnamed}

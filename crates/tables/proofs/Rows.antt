@@ -7,6 +7,7 @@
 --   line₁ .. line₄            the rest of a line, after its first column and so on
 --   line-columns              a line by its columns
 --   line-found, line-missed   what the line reader's answer says
+--   ..-both                   an answer, and its number and values
 --   all-..                    all lines, one after the other
 use mathlib.Core.Path.{_≡_, refl, sym, ap, subst, _∙_}
 use mathlib.Core.Bool.{Bool, true, false, false≢true}
@@ -17,12 +18,15 @@ use native.Mathlib.Omega.{arith}
 use lib.Dec.{eqb}
 use lib.ListN.{length, getD, drop, length-drop, drop-of-length-le}
 use lib.IntN.{ℤ, pos}
+use Rattle.protocol.specs.declared.Number.{Number}
 use Rattle.protocol.specs.declared.Number.the-variants.{Value, Refused}
-use Rattle.protocol.specs.Text.{Line, space, lineFeed, valueLimit, keep, properDigits, readCount, readNumber, byte, readIndex, readLine, readLines}
-use Rattle.tables.specs.declared.lines.Entry.the-variants.{Found as Line-at, Malformed}
-use Rattle.tables.specs.Scan.{present, readIndexAt, lineAnswer, readLineAt, allLines}
+use Rattle.protocol.specs.declared.Entry.{Entry}
+use Rattle.protocol.specs.Text.{Line, space, lineFeed, valueLimit, keep, properDigits, readCount, readNumber, byte, plain, readIndex, readLine, readLines, reading}
+use Rattle.protocol.specs.declared.Entry.the-variants.{Found as Line-at, Malformed}
+use Rattle.protocol.specs.Lines.{present, givenNumber, readIndexAt, lineReading, givenLine, lineAnswer, readLineAt, allLines}
+use Rattle.protocol.proofs.Answers.{line-given}
 use Rattle.shapes.proofs.From.{from-cons}
-use Rattle.tables.proofs.Counts.{Suffix, suffix-self, suffix-more, suffix-of, Found, found, keep-yes, keep-some, count-small, count-suffix, count-shorter, number-suffix, number-shorter, plain-found, plain-missed}
+use Rattle.tables.proofs.Counts.{Suffix, suffix-self, suffix-more, suffix-of, Found, found, keep-yes, keep-some, count-small, count-suffix, count-shorter, number-suffix, number-shorter, plain-found, plain-missed, answer-both}
 
 -- ---- steps
 
@@ -153,6 +157,10 @@ module _ (text : List ℕ) (at : ℕ) where
   unfolding readIndexAt
   uncolumned = plain-missed readIndex column-suffix text at
 
+  pub index-both : (r : Number) → r ≡ readIndexAt text at → (r ≡ readIndexAt text at) × (reading r ≡ givenNumber text (plain (readIndex (drop at text))))
+  unfolding readIndexAt
+  index-both r e = answer-both text (plain (readIndex (drop at text))) r e
+
 -- ---- a line
 
 abbrev pub line : ℕ → ℕ → ℕ → ℤ → Line
@@ -268,6 +276,10 @@ module _ (text : List ℕ) (at : ℕ) where
   pub line-missed : readLineAt text at ≡ Malformed → readLine (drop at text) ≡ none
   unfolding readLineAt
   line-missed e = answer-malformed (readLine (drop at text)) e
+
+  pub line-both : (r : Entry) → r ≡ readLineAt text at → (r ≡ readLineAt text at) × (lineReading r ≡ givenLine text (readLine (drop at text)))
+  unfolding readLineAt
+  line-both r e = (e, ap lineReading e ∙ line-given text (readLine (drop at text)))
 
 -- ---- all lines
 

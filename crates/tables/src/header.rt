@@ -1,18 +1,18 @@
 // The names line and the settings, with which every text begins.
 use crate::lines::all_lines;
+use crate::lines::value_at;
 use crate::names::begins_with_names;
-use crate::parts::read_part;
 use arithmetic::tests::settings_refusal;
 use protocol::Loaded;
+use protocol::Number;
 use protocol::Settings;
-use shapes::settings_shape;
 ghost use mathlib.Core.Path.{_≡_};
 ghost use mathlib.Core.Bool.{false};
 ghost use lib.ListN.{drop};
 ghost use Rattle.protocol.specs.Basic.{choose};
 ghost use Rattle.protocol.specs.Text.{unsigned as unsignedOf, noSettings, lookAnswer};
-ghost use Rattle.tables.specs.Scan.{present, allLines, readSettings, headerAnswer};
-ghost use Rattle.tables.specs.Stored.{Begun};
+ghost use Rattle.protocol.specs.Lines.{present, allLines, readSettings, begunAnswer};
+ghost use Rattle.tables.specs.Header.{headerAnswer};
 
 // The settings of a text and the place behind them; `found` is false where the text does not begin with them.
 pub struct Header {
@@ -61,28 +61,47 @@ pub fn unsigned(value: i32) -> u32
     value as u32
 }
 
-// The names line and the lines of part 0.
+// The names line and the lines of part 0: degree, depth, modulus and bound.
 pub fn read_header(text: &[u8]) -> Header
     ensures { λ r. ⌜ r ≡ headerAnswer (now (text .entry)) (readSettings (now (text .entry))) ⌝ }
 {
     if !begins_with_names(text) {
         return no_header();
     }
-    let mut values = [0i32; 4];
-    let taken = read_part(text, 22, settings_shape(), &mut values);
-    if !taken.found {
+    let Number::Value {
+        value: degree,
+        next: depth_on,
+    } = value_at(text, 22, 0, 0, 0)
+    else {
         return no_header();
-    }
+    };
+    let Number::Value {
+        value: depth,
+        next: modulus_on,
+    } = value_at(text, depth_on, 0, 0, 1)
+    else {
+        return no_header();
+    };
+    let Number::Value {
+        value: modulus,
+        next: bound_on,
+    } = value_at(text, modulus_on, 0, 0, 2)
+    else {
+        return no_header();
+    };
+    let Number::Value { value: bound, next } = value_at(text, bound_on, 0, 0, 3) else {
+        return no_header();
+    };
     let settings = Settings {
-        degree: unsigned(values[0]),
-        depth: unsigned(values[1]),
-        modulus: unsigned(values[2]),
-        bound: unsigned(values[3]),
+        degree: unsigned(degree),
+        depth: unsigned(depth),
+        modulus: unsigned(modulus),
+        bound: unsigned(bound),
     };
     Header {
         found: true,
         settings,
-        next: taken.next,
+        next,
     }
 }
 
@@ -120,9 +139,9 @@ pub fn look(text: &[u8]) -> Loaded
 }
 
 // The settings that a text begins with, where they are allowed: a caller learns the lengths of its tables by them, and the reader tests all lines.
-// Otherwise the text is refused, and a first look says by which number; a text that does not begin with settings has those that are all 0.
+// Otherwise the text is refused, and a first look says by which number; a text that does not begin with settings counts as one whose settings are all 0.
 pub fn allowed_settings(text: &[u8]) -> Loaded
-    ensures { λ r. ⌜ Begun (now (text .entry)) r ⌝ }
+    ensures { λ r. ⌜ r ≡ begunAnswer (now (text .entry)) ⌝ }
 {
     let header = read_header(text);
     let settings = header.settings;

@@ -1,23 +1,12 @@
 // The line reader.
 use crate::numbers::read_count;
 use crate::numbers::read_number;
+use protocol::Entry;
 use protocol::Number;
 ghost use mathlib.Core.Path.{_≡_};
 ghost use lib.ListN.{drop};
-ghost use Rattle.protocol.specs.Text.{byte as behindByte, numberAnswer};
-ghost use Rattle.tables.specs.Scan.{present, readIndexAt, readLineAt, allLines, spot, readValue};
-
-// What stands at a place: a line of the stated shape with the place behind it, or none.
-pub enum Entry {
-    Found {
-        part: u32,
-        item: u32,
-        place: u32,
-        value: i32,
-        next: usize,
-    },
-    Malformed,
-}
+ghost use Rattle.protocol.specs.Text.{byte as behindByte, plain, readIndex, readLine, numberAnswer, reading};
+ghost use Rattle.protocol.specs.Lines.{present, givenNumber, readIndexAt, lineReading, givenLine, readLineAt, allLines, spot, readValue};
 
 // Does this byte stand at a place.
 fn stands(text: &[u8], at: usize, byte: u8) -> bool
@@ -31,7 +20,8 @@ fn stands(text: &[u8], at: usize, byte: u8) -> bool
 
 // A number without a sign and the space behind it.
 fn read_index(text: &[u8], at: usize) -> Number
-    ensures { λ r. ⌜ r ≡ readIndexAt (now (text .entry)) at ⌝ }
+    ensures answer { λ r. ⌜ r ≡ readIndexAt (now (text .entry)) at ⌝ }
+    ensures numbers { λ r. ⌜ reading r ≡ givenNumber (now (text .entry)) (plain (readIndex (drop at (now (text .entry))))) ⌝ }
 {
     let Number::Value { value, next } = read_count(text, at) else {
         return Number::Refused(2);
@@ -47,7 +37,8 @@ fn read_index(text: &[u8], at: usize) -> Number
 
 // The line at a place, which may be any number.
 pub fn read_line(text: &[u8], at: usize) -> Entry
-    ensures { λ r. ⌜ r ≡ readLineAt (now (text .entry)) at ⌝ }
+    ensures answer { λ r. ⌜ r ≡ readLineAt (now (text .entry)) at ⌝ }
+    ensures numbers { λ r. ⌜ lineReading r ≡ givenLine (now (text .entry)) (readLine (drop at (now (text .entry)))) ⌝ }
 {
     let Number::Value {
         value: part,
@@ -108,7 +99,8 @@ pub fn all_lines(text: &[u8], from: usize) -> bool
 
 // The value of the line at a place, where it is the line of that part, item and place.
 pub fn value_at(text: &[u8], at: usize, part: u32, item: u32, place: u32) -> Number
-    ensures { λ r. ⌜ r ≡ numberAnswer (now (text .entry)) (readValue (spot part item place) (drop at (now (text .entry)))) ⌝ }
+    ensures answer { λ r. ⌜ r ≡ numberAnswer (now (text .entry)) (readValue (spot part item place) (drop at (now (text .entry)))) ⌝ }
+    ensures numbers { λ r. ⌜ reading r ≡ givenNumber (now (text .entry)) (readValue (spot part item place) (drop at (now (text .entry)))) ⌝ }
 {
     let Entry::Found {
         part: p,

@@ -3,7 +3,8 @@ use protocol::Number;
 ghost use mathlib.Core.Path.{_≡_};
 ghost use Prim.Native.Nat.{_≤_};
 ghost use lib.ListN.{length, drop};
-ghost use Rattle.protocol.specs.Text.{digitFirst, properDigits, digitRun, readCountAt, readNumberAt};
+ghost use Rattle.protocol.specs.Text.{digitFirst, properDigits, digitRun, plain, readCount, readNumber, readCountAt, readNumberAt, reading};
+ghost use Rattle.protocol.specs.Lines.{givenNumber};
 ghost use Rattle.tables.specs.Digits.{runAnswer};
 
 // A run of digits: its number, or one past the largest magnitude where it is larger; and the place behind it.
@@ -57,7 +58,8 @@ fn proper_digits(text: &[u8], at: usize) -> bool
 
 // A number without a sign. The place may be any number.
 pub fn read_count(text: &[u8], at: usize) -> Number
-    ensures { λ r. ⌜ r ≡ readCountAt (now (text .entry)) at ⌝ }
+    ensures answer { λ r. ⌜ r ≡ readCountAt (now (text .entry)) at ⌝ }
+    ensures numbers { λ r. ⌜ reading r ≡ givenNumber (now (text .entry)) (plain (readCount (drop at (now (text .entry))))) ⌝ }
 {
     if !proper_digits(text, at) {
         return Number::Refused(2);
@@ -74,7 +76,8 @@ pub fn read_count(text: &[u8], at: usize) -> Number
 
 // A number that may be negative. The place may be any number.
 pub fn read_number(text: &[u8], at: usize) -> Number
-    ensures { λ r. ⌜ r ≡ readNumberAt (now (text .entry)) at ⌝ }
+    ensures answer { λ r. ⌜ r ≡ readNumberAt (now (text .entry)) at ⌝ }
+    ensures numbers { λ r. ⌜ reading r ≡ givenNumber (now (text .entry)) (readNumber (drop at (now (text .entry)))) ⌝ }
 {
     if at >= text.len() {
         return Number::Refused(2);

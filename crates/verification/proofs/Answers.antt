@@ -14,8 +14,9 @@ use Rattle.protocol.specs.declared.Verdict.the-variants.{Silent, Accepted, Reje
 use Rattle.protocol.specs.Basic.{choose}
 use Rattle.protocol.specs.Settings.{cells, sized}
 use Rattle.protocol.specs.Transcript.{accepted}
-use Rattle.protocol.specs.Session.{verdict}
-use Rattle.protocol.specs.Calls.{checkRefusal, checkAnswer}
+use Rattle.protocol.specs.Session.{verdict, verdictNumber}
+use Rattle.protocol.specs.Calls.{checkRefusal, checkAnswer, checkNumber}
+use Rattle.protocol.proofs.Answers.{check-number}
 use Rattle.protocol.proofs.Tests.{and-split, first-zero, unless-zero, granted-zero, granted-refused}
 use Rattle.verification.specs.Replays.{Given}
 use Rattle.verification.proofs.Replaying.{whole}
@@ -35,6 +36,10 @@ module _ (S : Settings) (C key rounds E : List ℕ) where
       record { tables = record { settings = settings; rounds-long = eqb-true _ _ elements; challenges-long = eqb-true _ _ challenges }; key-long = eqb-true _ _ keys }
 
   module _ (f : List ℤ) where
+    -- an answer, and the number of its verdict
+    pub answered : (r : Checked) → r ≡ checkAnswer S C f key rounds E → (r ≡ checkAnswer S C f key rounds E) × (verdictNumber (r .verdict) ≡ checkNumber S C f key rounds E)
+    answered r e = (e, ap (λ x. verdictNumber (x .verdict)) e ∙ check-number S C f key rounds E)
+
     pub refused : (n : ℕ) → n ≡ checkRefusal S C key rounds E → (n ≡ 0 → ⊥) → _≡_ {A = Checked} (record { number = n; verdict = Silent }) (checkAnswer S C f key rounds E)
     unfolding checkAnswer
     refused n e r = λ i. record { number = e i; verdict = sym (granted-refused (checkRefusal S C key rounds E) (verdict (accepted S key (whole S C rounds E f))) Silent (λ z. r (e ∙ z))) i }

@@ -6,7 +6,8 @@ use protocol::Checked;
 use protocol::Settings;
 use protocol::Verdict;
 ghost use mathlib.Core.Path.{_≡_};
-ghost use Rattle.protocol.specs.Calls.{checkAnswer};
+ghost use Rattle.protocol.specs.Session.{verdictNumber};
+ghost use Rattle.protocol.specs.Calls.{checkAnswer, checkNumber};
 
 // Is a transcript accepted: every round holds, and the end is met.
 pub fn check(
@@ -17,7 +18,8 @@ pub fn check(
     rounds: &[u32],
     challenges: &[u32],
 ) -> Checked
-    ensures { λ r. ⌜ r ≡ checkAnswer settings commitment last (now (key .entry)) (now (rounds .entry)) (now (challenges .entry)) ⌝ }
+    ensures answer { λ r. ⌜ r ≡ checkAnswer settings commitment last (now (key .entry)) (now (rounds .entry)) (now (challenges .entry)) ⌝ }
+    ensures verdict { λ r. ⌜ verdictNumber (r .verdict) ≡ checkNumber settings commitment last (now (key .entry)) (now (rounds .entry)) (now (challenges .entry)) ⌝ }
 {
     let number = refusal::check(settings, commitment, key, rounds, challenges);
     if number != 0 {

@@ -17,7 +17,8 @@ use Rattle.protocol.specs.Basic.{choose}
 use Rattle.protocol.specs.Element.{zeros, padded, residue}
 use Rattle.protocol.specs.Settings.{settingsRefusal, cells, sized}
 use Rattle.protocol.specs.Transcript.{nextClaim}
-use Rattle.protocol.specs.Session.{slots, verdict, opened, blank, startRefusal, start, refusedMove, shut, part, moveRefusal, advanced, moveHolds, move, closeRefusal, closeHolds, close}
+use Rattle.protocol.specs.Session.{slots, verdict, opened, blank, startRefusal, start, refusedMove, shut, part, moveRefusal, advanced, moveHolds, move, closeRefusal, closeHolds, close, verdictNumber, moveNumber, closeNumber}
+use Rattle.protocol.proofs.Answers.{move-number, close-number}
 use Rattle.protocol.proofs.Tests.{and-split, first-zero, unless-zero, granted-zero, granted-refused}
 use Rattle.protocol.proofs.Reading.{tabulate-ext}
 use Rattle.arithmetic.specs.Elements.{elementAt}
@@ -46,6 +47,10 @@ module _ (S : Settings) (C : List ℕ) where
 -- ---- round
 
 module _ (r : Session) (p : List (List ℕ)) (e : ℕ) where
+  -- an answer, and the number of its verdict
+  pub round-answered : (m : Moved) → m ≡ move r p e → (m ≡ move r p e) × (verdictNumber (m .verdict) ≡ moveNumber r p e)
+  round-answered m is = (is, ap (λ x. verdictNumber (x .verdict)) is ∙ move-number r p e)
+
   pub record RoundGiven : Type 0 where
     pub allowed : settingsRefusal (r .settings) ≡ 0
     pub turn : r .done < r .settings .depth
@@ -79,6 +84,10 @@ module _ (r : Session) (p : List (List ℕ)) (e : ℕ) where
 -- ---- end
 
 module _ (r : Session) (f : List ℤ) (key : List ℕ) where
+  -- an answer, and the number of its verdict
+  pub end-answered : (m : Moved) → m ≡ close r f key → (m ≡ close r f key) × (verdictNumber (m .verdict) ≡ closeNumber r f key)
+  end-answered m is = (is, ap (λ x. verdictNumber (x .verdict)) is ∙ close-number r f key)
+
   pub record EndGiven : Type 0 where
     pub allowed : settingsRefusal (r .settings) ≡ 0
     pub key-long : length key ≡ cells (r .settings)

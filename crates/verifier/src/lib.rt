@@ -81,7 +81,8 @@ impl Verifier {
 
     // A round: the equation 2·(c0 + c2) = claim, and the next claim.
     pub fn round(self, polynomial: [[u32; 64]; 3], e: u32) -> Moved
-        ensures { λ r. ⌜ r ≡ moves.move (self .0) polynomial e ⌝ }
+        ensures answer { λ r. ⌜ r ≡ moves.move (self .0) polynomial e ⌝ }
+        ensures verdict { λ r. ⌜ moves.verdictNumber (r .verdict) ≡ moves.moveNumber (self .0) polynomial e ⌝ }
     {
         let session = self.0;
         let number = refusals::session::round(session, polynomial, e);
@@ -115,7 +116,8 @@ impl Verifier {
 
     // The end: the bound on the final element, and the last equation with the key folded by the record's challenges.
     pub fn end(self, last: [i32; 64], key: &[u32]) -> Moved
-        ensures { λ r. ⌜ r ≡ moves.close (self .0) last (now (key .entry)) ⌝ }
+        ensures answer { λ r. ⌜ r ≡ moves.close (self .0) last (now (key .entry)) ⌝ }
+        ensures verdict { λ r. ⌜ moves.verdictNumber (r .verdict) ≡ moves.closeNumber (self .0) last (now (key .entry)) ⌝ }
     {
         let session = self.0;
         let number = refusals::session::end(session, key);

@@ -11,7 +11,7 @@ ghost use Prim.Native.Nat.{_≤_};
 ghost use lib.ListN.{length};
 ghost use Rattle.protocol.specs.Basic.{choose};
 ghost use Rattle.protocol.specs.Text.{fits, linesOf, settingsIn, lookRefusal};
-ghost use Rattle.protocol.specs.Programs.{verifyReads, tablesAccepted, verifyAnswer};
+ghost use Rattle.protocol.specs.Programs.{verifyReads, tablesAccepted, verifyAnswer, checked, verifyGives};
 ghost use Rattle.shapes.specs.Parts.{six};
 ghost use Rattle.verifying.specs.Given.{Given};
 
@@ -113,8 +113,10 @@ fn verify_within(
     )
 }
 
+// The call: the answer, and the same as document 01's number and verdict.
 pub fn verify(text: &[u8]) -> Verified
-    ensures { λ r. ⌜ r ≡ verifyAnswer (now (text .entry)) ⌝ }
+    ensures answer { λ r. ⌜ r ≡ verifyAnswer (now (text .entry)) ⌝ }
+    ensures numbers { λ r. ⌜ checked r ≡ verifyGives (now (text .entry)) ⌝ }
 {
     let mut key = [0u32; 16384];
     let mut message = [0i32; 1];

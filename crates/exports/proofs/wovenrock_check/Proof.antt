@@ -24,7 +24,7 @@ returns c =
     let commitment = c .before .before .before .residues .ensures in
     let last = c .before .before .wholes .ensures in
     let answer =
-    c .before .check .ensures
+    c .before .check .ensures .0
     ∙ (λ i. checkAnswer (given (a .degree) (a .depth) (a .modulus) (a .bound)) (commitment i) (last i) (a .key .now) (a .rounds .now) (a .challenges .now)) in
     record {
       number = ap (λ (r : Checked). r .number) answer;

@@ -17,6 +17,7 @@ use Rattle.sizes.proofs.Limits.{degree-most, cells-most}
 use Rattle.shapes.specs.Parts.{six}
 use Rattle.reading.proofs.OnText.{look-refusal}
 use Rattle.proving.proofs.Proves.{prove-refused, lent-fitting}
+use Rattle.tables.proofs.Looked.{Begun, begun}
 use Rattle.proving.proofs.prove_within.Statement.{statement}
 use Rattle.proving.proofs.prove_within.Tie as tie
 
@@ -37,11 +38,14 @@ module _ (c : tie.After-cells) where
   abbrev text : List ℕ
   text = start .args .text .now
 
+  known : Begun text (seen .allowed-settings .result)
+  known = begun text (seen .allowed-settings .result) (seen .allowed-settings .ensures)
+
   same-settings : lookRefusal text ≡ 0 → S ≡ settingsIn (linesOf text)
-  same-settings = seen .allowed-settings .ensures .settings-are
+  same-settings = known .settings-are
 
   allowed : settingsRefusal S ≡ 0
-  allowed = seen .allowed-settings .ensures .allowed (left .if1 .left)
+  allowed = known .allowed (left .if1 .left)
 
   valid : Valid S
   valid = settings-valid S allowed
@@ -72,8 +76,9 @@ returns : tie.Need-returns
 returns c =
     let l = c .before in
     let a = l .before .before .before .before .before .before .args in
-    prove-refused (a .text .now) (a .out .now) (l .allowed-settings .result .number) (c .if1 .taken)
-    (look-refusal (a .text .now) (l .allowed-settings .result) (l .allowed-settings .ensures .refused (c .if1 .taken)) proveReads (c .if1 .taken))
+    let r = l .allowed-settings .result in
+    prove-refused (a .text .now) (a .out .now) (r .number) (c .if1 .taken)
+    (look-refusal (a .text .now) r (begun (a .text .now) r (l .allowed-settings .ensures) .refused (c .if1 .taken)) proveReads (c .if1 .taken))
 
 cast-degree : tie.Need-cast-degree
 cast-degree c = search needs

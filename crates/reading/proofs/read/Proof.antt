@@ -7,7 +7,7 @@ use lib.IntN.{ℤ}
 use Rattle.protocol.specs.declared.Parts.{Parts}
 use Rattle.protocol.specs.Text.{Tables}
 use Rattle.shapes.specs.Parts.{six, lengthsOf}
-use Rattle.tables.specs.Stored.{Gathered}
+use Rattle.reading.specs.Stored.{Gathered}
 use Rattle.reading.proofs.Whole.{read-refused, read-allowed, read-room, read-refused-entries, read-done}
 use Rattle.reading.proofs.read.Statement.{statement}
 use Rattle.reading.proofs.read.Tie as tie
@@ -30,7 +30,7 @@ module _ (c : tie.After-gather) where
 
   gathered : Gathered P (lengthsOf t) text (c .gather .result) values
   unfolding lengthsOf
-  gathered = c .gather .ensures (omega arith)
+  gathered = c .gather .ensures
 
 slice-aggregate-gather : tie.Need-slice-aggregate-gather
 slice-aggregate-gather c = search needs

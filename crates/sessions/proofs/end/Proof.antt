@@ -29,7 +29,7 @@ returns-2 c =
     let a = e .before .before .before .before .before .before .before .args in
     let loaded = e .before .before .load .ensures in
     let last = e .before .wholes .ensures in
-    move-stored (a .session .now) (e .before .before .before .before .if1 .left) _ _ (a .verdict .now) _ _ _ (e .end .ensures ∙ (λ i. close (loaded i) (last i) (a .key .now))) (c .before .before .answer .ensures)
+    move-stored (a .session .now) (e .before .before .before .before .if1 .left) _ _ (a .verdict .now) _ _ _ (e .end .ensures .0 ∙ (λ i. close (loaded i) (last i) (a .key .now))) (c .before .before .answer .ensures)
 
 pub end-spec : {M : Type 1} → statement M
 end-spec =

@@ -29,7 +29,7 @@ returns-2 c =
     let a = e .before .before .before .before .before .before .before .args in
     let loaded = e .before .before .load .ensures in
     let polynomial = e .before .polynomial .ensures in
-    move-stored (a .session .now) (e .before .before .before .before .if1 .left) _ _ (a .verdict .now) _ _ _ (e .round .ensures ∙ (λ i. move (loaded i) (polynomial i) (a .e))) (c .before .before .answer .ensures)
+    move-stored (a .session .now) (e .before .before .before .before .if1 .left) _ _ (a .verdict .now) _ _ _ (e .round .ensures .0 ∙ (λ i. move (loaded i) (polynomial i) (a .e))) (c .before .before .answer .ensures)
 
 pub round-spec : {M : Type 1} → statement M
 round-spec =

@@ -12,7 +12,7 @@ size-of-requires : tie.Need-size-of-requires
 size-of-requires c κs = search needs
 
 returns : tie.Need-returns
-returns c = λ h. c .size-of .ensures ∙ ap shapeSize (c .before .shape-of .ensures h)
+returns c = c .size-of .ensures ∙ ap shapeSize (c .before .shape-of .ensures)
 
 pub part-size-spec : {M : Type 1} → statement M
 part-size-spec = tie.close (tie.spec shape-of-requires size-of-requires returns)

@@ -10,6 +10,7 @@ use Rattle.protocol.specs.declared.Settings.{Settings}
 use Rattle.protocol.specs.declared.Parts.{Parts}
 use Rattle.protocol.specs.Text.{shape, settingsShape, shapes}
 use Rattle.shapes.specs.Parts.{partShape}
+use Rattle.shapes.proofs.Shallow.{part-of, part-of-deep}
 use Rattle.shapes.proofs.shape_of.Statement.{statement}
 use Rattle.shapes.proofs.shape_of.Tie as tie
 
@@ -33,7 +34,7 @@ settings-shape-requires : tie.Need-settings-shape-requires
 settings-shape-requires c κs = search needs
 
 returns : tie.Need-returns
-returns c = λ h. absurd (omega arith)
+returns c = let a = c .before .before .args in c .settings-shape .ensures ∙ sym (part-of-deep (a .settings) (a .parts) (a .part) (omega arith))
 
 shl-part-of : tie.Need-shl-part-of
 shl-part-of c = search needs
@@ -67,30 +68,51 @@ settings-shape-requires-2 c κs = search needs
 
 returns-2 : tie.Need-returns-2
 unfolding partShape shapes size
-returns-2 c = λ h. let a = c .before .before .before .args in c .part-of .ensures ∙ (λ j. shape 1 (a .parts .key) (shifted (a .settings .depth) h j) (a .settings .degree)) ∙ sym (ap (partShape (a .settings) (a .parts)) (c .before .match .keys1))
+returns-2 c =
+    let a = c .before .before .before .args in
+    let h : a .settings .depth ≤ 8 = omega arith in
+    c .part-of .ensures ∙ (λ j. shape 1 (a .parts .key) (shifted (a .settings .depth) h j) (a .settings .degree)) ∙ sym (ap (partShape (a .settings) (a .parts)) (c .before .match .keys1)) ∙ sym (part-of (a .settings) (a .parts) (a .part) h)
 
 returns-3 : tie.Need-returns-3
 unfolding partShape shapes size
-returns-3 c = λ h. let a = c .before .before .before .args in c .part-of2 .ensures ∙ (λ j. shape 2 (a .parts .message) (shifted (a .settings .depth) h j) (a .settings .degree)) ∙ sym (ap (partShape (a .settings) (a .parts)) (c .before .match .keys2))
+returns-3 c =
+    let a = c .before .before .before .args in
+    let h : a .settings .depth ≤ 8 = omega arith in
+    c .part-of2 .ensures ∙ (λ j. shape 2 (a .parts .message) (shifted (a .settings .depth) h j) (a .settings .degree)) ∙ sym (ap (partShape (a .settings) (a .parts)) (c .before .match .keys2)) ∙ sym (part-of (a .settings) (a .parts) (a .part) h)
 
 returns-4 : tie.Need-returns-4
 unfolding partShape shapes size
-returns-4 c = λ h. let a = c .before .before .before .args in c .part-of3 .ensures ∙ sym (ap (partShape (a .settings) (a .parts)) (c .before .match .keys3))
+returns-4 c =
+    let a = c .before .before .before .args in
+    let h : a .settings .depth ≤ 8 = omega arith in
+    c .part-of3 .ensures ∙ sym (ap (partShape (a .settings) (a .parts)) (c .before .match .keys3)) ∙ sym (part-of (a .settings) (a .parts) (a .part) h)
 
 returns-5 : tie.Need-returns-5
 unfolding partShape shapes size
-returns-5 c = λ h. let a = c .before .before .before .args in c .part-of4 .ensures ∙ sym (ap (partShape (a .settings) (a .parts)) (c .before .match .keys4))
+returns-5 c =
+    let a = c .before .before .before .args in
+    let h : a .settings .depth ≤ 8 = omega arith in
+    c .part-of4 .ensures ∙ sym (ap (partShape (a .settings) (a .parts)) (c .before .match .keys4)) ∙ sym (part-of (a .settings) (a .parts) (a .part) h)
 
 returns-6 : tie.Need-returns-6
 unfolding partShape shapes size
-returns-6 c = λ h. let a = c .before .before .before .args in c .part-of5 .ensures ∙ sym (ap (partShape (a .settings) (a .parts)) (c .before .match .keys5))
+returns-6 c =
+    let a = c .before .before .before .args in
+    let h : a .settings .depth ≤ 8 = omega arith in
+    c .part-of5 .ensures ∙ sym (ap (partShape (a .settings) (a .parts)) (c .before .match .keys5)) ∙ sym (part-of (a .settings) (a .parts) (a .part) h)
 
 returns-7 : tie.Need-returns-7
 unfolding partShape shapes size
-returns-7 c = λ h. let a = c .before .before .before .args in c .part-of6 .ensures ∙ sym (ap (partShape (a .settings) (a .parts)) (c .before .match .keys6))
+returns-7 c =
+    let a = c .before .before .before .args in
+    let h : a .settings .depth ≤ 8 = omega arith in
+    c .part-of6 .ensures ∙ sym (ap (partShape (a .settings) (a .parts)) (c .before .match .keys6)) ∙ sym (part-of (a .settings) (a .parts) (a .part) h)
 
 returns-8 : tie.Need-returns-8
-returns-8 c = λ h. let a = c .before .before .before .args in c .settings-shape2 .ensures ∙ sym (none-such (a .settings) (a .parts) (a .part) (λ l. omega arith))
+returns-8 c =
+    let a = c .before .before .before .args in
+    let h : a .settings .depth ≤ 8 = omega arith in
+    c .settings-shape2 .ensures ∙ sym (none-such (a .settings) (a .parts) (a .part) (λ l. omega arith)) ∙ sym (part-of (a .settings) (a .parts) (a .part) h)
 
 pub shape-of-spec : {M : Type 1} → statement M
 shape-of-spec =

@@ -14,7 +14,7 @@ verdict-of-requires c κs = search needs
 
 returns : tie.Need-returns
 returns c =
-    let answer = c .before .before .verify .ensures in
+    let answer = c .before .before .verify .ensures .0 in
     let given = c .verdict-of .ensures in
     record {
       number = given .number ∙ ap (λ (v : Verified). checked v .number) answer;

@@ -9,7 +9,7 @@ use Rattle.protocol.specs.Calls.{checkRefusal}
 use Rattle.protocol.proofs.Tests.{and-intro}
 use Rattle.protocol.proofs.Refusals.{and-fails-left, and-fails-right}
 use Rattle.verification.specs.Replays.{bare, claimAt}
-use Rattle.verification.proofs.Answers.{Passed, passed, refused, accepts, rejects}
+use Rattle.verification.proofs.Answers.{Passed, passed, answered, refused, accepts, rejects}
 use Rattle.verification.proofs.Replaying.{accepted-is}
 use borrow.Author.Needs.{needs}
 use Rattle.verification.proofs.check.Statement.{statement}
@@ -35,7 +35,10 @@ check-requires : tie.Need-check-requires
 check-requires c κs = search needs
 
 returns : tie.Need-returns
-returns c = let a = c .before .before .before .before .before .args in refused (a .settings) (a .commitment) (a .key .now) (a .rounds .now) (a .challenges .now) (a .last) _ (c .before .check .ensures) (c .if1 .taken)
+returns c =
+    let a = c .before .before .before .before .before .args in
+    answered (a .settings) (a .commitment) (a .key .now) (a .rounds .now) (a .challenges .now) (a .last) _
+    (refused (a .settings) (a .commitment) (a .key .now) (a .rounds .now) (a .challenges .now) (a .last) _ (c .before .check .ensures) (c .if1 .taken))
 
 rounds-hold-requires : tie.Need-rounds-hold-requires
 rounds-hold-requires c κs = tables c .tables
@@ -43,8 +46,9 @@ rounds-hold-requires c κs = tables c .tables
 returns-2 : tie.Need-returns-2
 returns-2 c =
     let a = c .before .before .before .before .before .before .before .args in
-    rejects (a .settings) (a .commitment) (a .key .now) (a .rounds .now) (a .challenges .now) (a .last) (none (c .before .before))
-    (accepted-is (a .settings) (a .commitment) (a .rounds .now) (a .challenges .now) (a .last) (a .key .now) ∙ and-fails-left _ _ (sym (c .before .rounds-hold .ensures) ∙ not-true _ (c .if2 .taken)))
+    answered (a .settings) (a .commitment) (a .key .now) (a .rounds .now) (a .challenges .now) (a .last) _
+    (rejects (a .settings) (a .commitment) (a .key .now) (a .rounds .now) (a .challenges .now) (a .last) (none (c .before .before))
+    (accepted-is (a .settings) (a .commitment) (a .rounds .now) (a .challenges .now) (a .last) (a .key .now) ∙ and-fails-left _ _ (sym (c .before .rounds-hold .ensures) ∙ not-true _ (c .if2 .taken))))
 
 claim-at-requires : tie.Need-claim-at-requires
 claim-at-requires c κs = (tables (c .before .before) .tables, le-refl _)
@@ -55,14 +59,16 @@ end-met-requires c κs = search needs
 returns-3 : tie.Need-returns-3
 returns-3 c =
     let a = c .before .before .before .before .before .before .before .before .before .before .args in
-    rejects (a .settings) (a .commitment) (a .key .now) (a .rounds .now) (a .challenges .now) (a .last) (none (c .before .before .before .before .before))
-    (accepted-is (a .settings) (a .commitment) (a .rounds .now) (a .challenges .now) (a .last) (a .key .now) ∙ and-fails-right (every (a .settings .depth) (holdsAt (a .settings) (bare (a .commitment) (a .rounds .now) (a .challenges .now)))) _ (sym (end-is (c .before)) ∙ not-true _ (c .if3 .taken)))
+    answered (a .settings) (a .commitment) (a .key .now) (a .rounds .now) (a .challenges .now) (a .last) _
+    (rejects (a .settings) (a .commitment) (a .key .now) (a .rounds .now) (a .challenges .now) (a .last) (none (c .before .before .before .before .before))
+    (accepted-is (a .settings) (a .commitment) (a .rounds .now) (a .challenges .now) (a .last) (a .key .now) ∙ and-fails-right (every (a .settings .depth) (holdsAt (a .settings) (bare (a .commitment) (a .rounds .now) (a .challenges .now)))) _ (sym (end-is (c .before)) ∙ not-true _ (c .if3 .taken))))
 
 returns-4 : tie.Need-returns-4
 returns-4 c =
     let a = c .before .before .before .before .before .before .before .before .before .before .args in
-    accepts (a .settings) (a .commitment) (a .key .now) (a .rounds .now) (a .challenges .now) (a .last) (none (c .before .before .before .before .before))
-    (accepted-is (a .settings) (a .commitment) (a .rounds .now) (a .challenges .now) (a .last) (a .key .now) ∙ and-intro (sym (c .before .before .before .before .rounds-hold .ensures) ∙ not-false _ (c .before .before .before .if2 .left)) (sym (end-is (c .before)) ∙ not-false _ (c .if3 .left)))
+    answered (a .settings) (a .commitment) (a .key .now) (a .rounds .now) (a .challenges .now) (a .last) _
+    (accepts (a .settings) (a .commitment) (a .key .now) (a .rounds .now) (a .challenges .now) (a .last) (none (c .before .before .before .before .before))
+    (accepted-is (a .settings) (a .commitment) (a .rounds .now) (a .challenges .now) (a .last) (a .key .now) ∙ and-intro (sym (c .before .before .before .before .rounds-hold .ensures) ∙ not-false _ (c .before .before .before .if2 .left)) (sym (end-is (c .before)) ∙ not-false _ (c .if3 .left))))
 
 pub check-spec : {M : Type 1} → statement M
 check-spec =

@@ -37,7 +37,7 @@ module _ (c : tie.After-check) where
   small = degree-most S (settings-valid S (given .settings))
 
   says : c .check .result .verdict ≡ verdict (tablesAccepted S t)
-  says = check-verdict S t given _ _ (c .check .result) (c .before .before .element-at .ensures small) (c .before .signed-element-at .ensures small) (c .check .ensures)
+  says = check-verdict S t given _ _ (c .check .result) (c .before .before .element-at .ensures small) (c .before .signed-element-at .ensures small) (c .check .ensures .0)
 
 -- the number of `Accepted` is none of those of the other arm
 other : OneOf (0 ∷ 1 ∷ 3 ∷ []) 2 → ⊥

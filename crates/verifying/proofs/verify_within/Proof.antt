@@ -17,6 +17,7 @@ use Rattle.sizes.proofs.Limits.{degree-most, cells-most}
 use Rattle.shapes.specs.Parts.{six}
 use Rattle.verifying.proofs.Checks.{Long}
 use Rattle.verifying.proofs.Verifies.{verify-stops, lent-fitting}
+use Rattle.tables.proofs.Looked.{Begun, begun}
 use Rattle.verifying.proofs.verify_within.Statement.{statement}
 use Rattle.verifying.proofs.verify_within.Tie as tie
 
@@ -37,8 +38,11 @@ module _ (c : tie.After-cells) where
   abbrev text : List ℕ
   text = start .args .text .now
 
+  known : Begun text (seen .allowed-settings .result)
+  known = begun text (seen .allowed-settings .result) (seen .allowed-settings .ensures)
+
   allowed : settingsRefusal S ≡ 0
-  allowed = seen .allowed-settings .ensures .allowed (left .if1 .left)
+  allowed = known .allowed (left .if1 .left)
 
   valid : Valid S
   valid = settings-valid S allowed
@@ -85,7 +89,9 @@ allowed-settings-requires c κs = search needs
 returns : tie.Need-returns
 returns c =
     let l = c .before .before in
-    verify-stops (l .before .before .before .before .before .before .args .text .now) (l .allowed-settings .result) (l .allowed-settings .ensures .refused (c .if1 .taken)) (c .if1 .taken)
+    let t = l .before .before .before .before .before .before .args .text .now in
+    let r = l .allowed-settings .result in
+    verify-stops t r (begun t r (l .allowed-settings .ensures) .refused (c .if1 .taken)) (c .if1 .taken)
 
 cast-degree : tie.Need-cast-degree
 cast-degree c = search needs
@@ -141,7 +147,7 @@ slice-aggregate-verify-in-6 c = sym (length-take-le _ _ (last-room (c .before .b
 verify-in-requires : tie.Need-verify-in-requires
 verify-in-requires c κs =
     let k = c .before .before .before .before .before .before in
-    λ e. ap (λ x. fits x verifyReads (t k)) (sym (seen k .allowed-settings .ensures .settings-are e)) ∙ lent-fitting (S k) (t k) (long k)
+    λ e. ap (λ x. fits x verifyReads (t k)) (sym (known k .settings-are e)) ∙ lent-fitting (S k) (t k) (long k)
 
 same-length : tie.Need-same-length
 same-length c = search needs

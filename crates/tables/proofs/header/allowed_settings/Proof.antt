@@ -1,7 +1,7 @@
 -- `allowed_settings`: the settings by the first lines, or a first look.
 use mathlib.Core.Path.{sym, _∙_}
 use borrow.Author.Needs.{needs}
-use Rattle.tables.proofs.Gathers.{begun-looked, begun-allowed}
+use Rattle.tables.proofs.Looked.{begun-refused, begun-granted}
 use Rattle.tables.proofs.header.allowed_settings.Statement.{statement}
 use Rattle.tables.proofs.header.allowed_settings.Tie as tie
 
@@ -15,12 +15,15 @@ look-requires : tie.Need-look-requires
 look-requires c κs = search needs
 
 returns : tie.Need-returns
-returns c = begun-looked _ (c .look .result) (c .look .ensures)
+returns c =
+    let s = c .before .before in
+    let h = s .before .before in
+    begun-refused _ (h .read-header .result) (h .read-header .ensures) (c .look .result) (c .look .ensures) (λ e. c .before .if1 .taken (s .settings-refusal .ensures ∙ e))
 
 returns-2 : tie.Need-returns-2
 returns-2 c =
     let h = c .before .before .before in
-    begun-allowed _ (h .read-header .result) (h .read-header .ensures) (sym (c .before .settings-refusal .ensures) ∙ c .if1 .left)
+    begun-granted _ (h .read-header .result) (h .read-header .ensures) (sym (c .before .settings-refusal .ensures) ∙ c .if1 .left)
 
 pub allowed-settings-spec : {M : Type 1} → statement M
 allowed-settings-spec = tie.close (tie.spec read-header-requires settings-refusal-requires look-requires returns returns-2)

@@ -10,7 +10,7 @@ use lib.IntN.{ℤ}
 use Rattle.protocol.specs.Basic.{choose}
 use Rattle.protocol.specs.Settings.{settingsRefusal}
 use Rattle.protocol.specs.Text.{textLimit, lookRefusal, lookAnswer}
-use Rattle.tables.specs.Scan.{present, allLines, settingsOf}
+use Rattle.protocol.specs.Lines.{present, allLines, settingsOf}
 use Rattle.tables.proofs.Looks.{Settled, settled-look, settled-granted, look-long, look-missing, loaded-refused, loaded-granted, header-found, header-unfound}
 use Rattle.tables.proofs.header.look.Statement.{statement}
 use Rattle.tables.proofs.header.look.Tie as tie

@@ -1,56 +1,139 @@
--- `read_header`: the names line, and then the lines of part 0.
-use mathlib.Core.Path.{_≡_, sym, ap, subst, _∙_}
+-- `read_header`: the names line, and then the four lines of part 0. After each of them, what is left to read.
+use mathlib.Core.Path.{_≡_, refl, sym, ap, _∙_}
 use mathlib.Core.Bool.{true, false}
-use mathlib.Core.List.{List}
-use mathlib.Core.Option.{Option, none, some}
-use Prim.Native.Nat.{ℕ, _^_, _<_}
-use native.Mathlib.Omega.{arith}
+use mathlib.Core.List.{List, [], _∷_}
+use mathlib.Core.Option.{none, some}
+use Prim.Native.Nat.{ℕ}
 use borrow.Author.Needs.{needs}
 use borrow.Author.Tests.{not-true, not-false}
-use lib.ListN.{getD, drop, take}
-use lib.Seq.{take-all}
-use lib.IntN.{ℤ, pos}
-use lib.Signed.{mag}
+use lib.ListN.{length, drop}
+use lib.IntN.{ℤ}
 use mir.Syntax.{w32}
-use mir.Val.{hbits, ofZ, toZ}
+use mir.Val.{ofZ, toZ}
 use mir.Facts.{toZ-ofZ}
 use Rattle.protocol.specs.Basic.{tabulate, choose}
-use Rattle.protocol.specs.Text.{shape, settingsShape, shapeSize, spots, beginsWithNames, unsigned, noSettings}
+use Rattle.protocol.specs.Text.{Spot, shape, settingsShape, shapeSize, spotAt, spots, beginsWithNames, unsigned, noSettings}
+use Rattle.protocol.specs.Lines.{spot, readValue, readValues, settingsOf, readSettings}
 use Rattle.tables.specs.declared.header.Header.{Header}
-use Rattle.tables.specs.Scan.{readValues, readSettings, settingsOf, headerAnswer}
-use Rattle.tables.specs.Parts.{Took}
-use Rattle.tables.proofs.Values.{settings-unnamed, settings-named, names-long}
-use Rattle.tables.proofs.Cells.{taken-missed, taken-found}
+use Rattle.tables.specs.Header.{headerAnswer}
+use Rattle.tables.proofs.Counts.{Found, suffix-back}
+use Rattle.tables.proofs.Values.{prefix, prefix-nothing, valued, unvalued, values-more, values-over, values-done, settings-unnamed, settings-named}
 use Rattle.tables.proofs.header.read_header.Statement.{statement}
 use Rattle.tables.proofs.header.read_header.Tie as tie
+
+abbrev at-place : ℕ → Spot
+at-place k = spot 0 0 k
+
+four : spots settingsShape ≡ at-place 0 ∷ at-place 1 ∷ at-place 2 ∷ at-place 3 ∷ []
+unfolding spots tabulate shapeSize settingsShape shape choose spotAt
+four = refl
+
+-- what is left to read behind the values vs: the lines ss from a place on
+abbrev Left : List ℕ → List ℤ → List Spot → ℕ → Type 0
+Left text vs ss at = readSettings text ≡ prefix vs (readValues ss (drop at text))
 
 named : (c : tie.Else1) → beginsWithNames (c .before .before .before .args .text .now) ≡ true
 named c = sym (c .before .begins-with-names .ensures) ∙ not-false _ (c .if1 .left)
 
--- the lines of part 0
-module _ (c : tie.After-read-part) where
+-- the names line
+module _ (c : tie.Else1) where
   abbrev text : List ℕ
-  text = c .before .before .before .before .before .before .args .text .now
+  text = c .before .before .before .args .text .now
+
+  left₀ : Left text [] (at-place 0 ∷ at-place 1 ∷ at-place 2 ∷ at-place 3 ∷ []) 22
+  left₀ = settings-named text (named c) ∙ ap (λ ss. readValues ss (drop 22 text)) four ∙ sym (prefix-nothing _)
+
+-- the degree
+module _ (c : tie.After-known-told) where
+  abbrev from₀ : tie.Else1
+  from₀ = c .before .before .before .before
+
+  abbrev v₁ : ℤ
+  v₁ = c .before .degree .given .0 .0
+
+  abbrev on₁ : ℕ
+  on₁ = c .before .degree .given .0 .1 .0
+
+  got₁ : Found (readValue (at-place 0)) (text from₀) 22 v₁ on₁
+  got₁ = valued (text from₀) (at-place 0) 22 v₁ on₁ (sym (c .before .before .before .value-at .ensures .0) ∙ c .before .degree .given .1)
+
+  word₁ : toZ w32 (ofZ w32 v₁) ≡ v₁
+  word₁ = toZ-ofZ {w = w32} {z = v₁} (record { sfits = c .known-told .given .0 .1 })
+
+  left₁ : Left (text from₀) (v₁ ∷ []) (at-place 1 ∷ at-place 2 ∷ at-place 3 ∷ []) on₁
+  left₁ = values-more _ [] (at-place 0) _ _ v₁ (drop on₁ (text from₀)) (left₀ from₀) (got₁ .is)
+
+-- the depth
+module _ (c : tie.After-known-told2) where
+  abbrev from₁ : tie.After-known-told
+  from₁ = c .before .before .before .before
+
+  abbrev text₁ : List ℕ
+  text₁ = text (from₀ from₁)
+
+  abbrev v₂ : ℤ
+  v₂ = c .before .depth .given .0 .0
+
+  abbrev on₂ : ℕ
+  on₂ = c .before .depth .given .0 .1 .0
+
+  got₂ : Found (readValue (at-place 1)) text₁ (on₁ from₁) v₂ on₂
+  got₂ = valued text₁ (at-place 1) (on₁ from₁) v₂ on₂ (sym (c .before .before .before .value-at2 .ensures .0) ∙ c .before .depth .given .1)
+
+  word₂ : toZ w32 (ofZ w32 v₂) ≡ v₂
+  word₂ = toZ-ofZ {w = w32} {z = v₂} (record { sfits = c .known-told2 .given .0 .1 })
+
+  left₂ : Left text₁ (v₁ from₁ ∷ v₂ ∷ []) (at-place 2 ∷ at-place 3 ∷ []) on₂
+  left₂ = values-more _ (v₁ from₁ ∷ []) (at-place 1) _ _ v₂ (drop on₂ text₁) (left₁ from₁) (got₂ .is)
+
+-- the modulus
+module _ (c : tie.After-known-told3) where
+  abbrev from₂ : tie.After-known-told2
+  from₂ = c .before .before .before .before
+
+  abbrev text₂ : List ℕ
+  text₂ = text₁ from₂
+
+  abbrev v₃ : ℤ
+  v₃ = c .before .modulus .given .0 .0
+
+  abbrev on₃ : ℕ
+  on₃ = c .before .modulus .given .0 .1 .0
+
+  got₃ : Found (readValue (at-place 2)) text₂ (on₂ from₂) v₃ on₃
+  got₃ = valued text₂ (at-place 2) (on₂ from₂) v₃ on₃ (sym (c .before .before .before .value-at3 .ensures .0) ∙ c .before .modulus .given .1)
+
+  word₃ : toZ w32 (ofZ w32 v₃) ≡ v₃
+  word₃ = toZ-ofZ {w = w32} {z = v₃} (record { sfits = c .known-told3 .given .0 .1 })
+
+  left₃ : Left text₂ (v₁ (from₁ from₂) ∷ v₂ from₂ ∷ v₃ ∷ []) (at-place 3 ∷ []) on₃
+  left₃ = values-more _ (v₁ (from₁ from₂) ∷ v₂ from₂ ∷ []) (at-place 2) _ _ v₃ (drop on₃ text₂) (left₂ from₂) (got₃ .is)
+
+-- the bound
+module _ (c : tie.After-known-told4) where
+  abbrev from₃ : tie.After-known-told3
+  from₃ = c .before .before .before .before
+
+  abbrev text₃ : List ℕ
+  text₃ = text₂ from₃
+
+  abbrev v₄ : ℤ
+  v₄ = c .before .bound .given .0 .0
+
+  abbrev on₄ : ℕ
+  on₄ = c .before .bound .given .0 .1 .0
 
   abbrev values : List ℤ
-  values = c .read-part .last .1 .1 .1 .0
+  values = v₁ (from₁ (from₂ from₃)) ∷ v₂ (from₂ from₃) ∷ v₃ from₃ ∷ v₄ ∷ []
 
-  abbrev read : Option (List ℤ × List ℕ)
-  read = readValues (spots settingsShape) (drop 22 text)
+  got₄ : Found (readValue (at-place 3)) text₃ (on₃ from₃) v₄ on₄
+  got₄ = valued text₃ (at-place 3) (on₃ from₃) v₄ on₄ (sym (c .before .before .before .value-at4 .ensures .0) ∙ c .before .bound .given .1)
 
-  begun : readSettings text ≡ read
-  begun = settings-named text (named (c .before .before .before))
+  word₄ : toZ w32 (ofZ w32 v₄) ≡ v₄
+  word₄ = toZ-ofZ {w = w32} {z = v₄} (record { sfits = c .known-told4 .given .0 .1 })
 
-  took : Took text 22 (spots settingsShape) (c .read-part .result) values
-  took = subst (λ b. Took text 22 (spots b) (c .read-part .result) values) (c .before .before .settings-shape .ensures) (c .read-part .ensures)
-
-  stored : (vs : List ℤ) (rest : List ℕ) → read ≡ some (vs, rest) → take 4 values ≡ vs
-  unfolding spots tabulate shapeSize settingsShape shape choose
-  stored = took .stored
-
--- a value of the table, passed on as a word
-setting : (k r : ℕ) (values vs : List ℤ) → values ≡ vs → mag (getD values k (pos 0)) < 2 ^ hbits w32 → r ≡ unsigned (toZ w32 (ofZ w32 (getD values k (pos 0)))) → r ≡ unsigned (getD vs k (pos 0))
-setting k r values vs e h f = f ∙ ap unsigned (toZ-ofZ {w = w32} {z = getD values k (pos 0)} (record { sfits = h })) ∙ ap (λ l. unsigned (getD l k (pos 0))) e
+  whole : readSettings text₃ ≡ some (values, drop on₄ text₃)
+  whole = values-done _ values _ (values-more _ (v₁ (from₁ (from₂ from₃)) ∷ v₂ (from₂ from₃) ∷ v₃ from₃ ∷ []) (at-place 3) [] _ v₄ (drop on₄ text₃) (left₃ from₃) (got₄ .is))
 
 -- nothing is found
 refuses : (text : List ℕ) (r : Header) → r ≡ record { found = false; settings = noSettings; next = 0 } → readSettings text ≡ none → r ≡ headerAnswer text (readSettings text)
@@ -68,71 +151,108 @@ returns c =
     let t = c .before .before .before .before .args .text .now in
     refuses t _ (c .no-header .ensures) (settings-unnamed t (sym (c .before .before .begins-with-names .ensures) ∙ not-true _ (c .before .if1 .taken)))
 
-settings-shape-requires : tie.Need-settings-shape-requires
-settings-shape-requires c κs = search needs
+value-at-requires : tie.Need-value-at-requires
+value-at-requires c κs = search needs
 
-slice-aggregate-read-part : tie.Need-slice-aggregate-read-part
-slice-aggregate-read-part c = search needs
+enum-known-degree : tie.Need-enum-known-degree
+enum-known-degree c = search needs
 
-read-part-requires : tie.Need-read-part-requires
-unfolding shapeSize settingsShape shape choose
-read-part-requires c κs =
-    let e = c .before .before in
-    (names-long (e .before .before .before .args .text .now) (named e), omega (arith, ap shapeSize (c .before .settings-shape .ensures)))
+enum-told : tie.Need-enum-told
+enum-told c = search needs
 
 no-header-requires-2 : tie.Need-no-header-requires-2
 no-header-requires-2 c κs = search needs
 
 returns-2 : tie.Need-returns-2
 returns-2 c =
-    let r = c .before .before .before .before in
-    refuses (text r) _ (c .no-header2 .ensures) (begun r ∙ taken-missed (text r) (read r) (r .read-part .result) (took r .answer) (not-true _ (c .before .if2 .taken)))
+    let d = c .before .before .before .before in
+    let missed = unvalued (text d) (at-place 0) 22 _ (sym (c .before .before .before .value-at .ensures .0) ∙ c .before .enum-told .given .1) in
+    refuses (text d) _ (c .no-header2 .ensures) (values-over _ [] (at-place 0) _ _ (left₀ d) missed)
 
-array-copy-out-unsigned : tie.Need-array-copy-out-unsigned
-array-copy-out-unsigned c = search needs
+value-at-requires-2 : tie.Need-value-at-requires-2
+value-at-requires-2 c κs = search needs
+
+enum-known-depth : tie.Need-enum-known-depth
+enum-known-depth c = search needs
+
+enum-told-2 : tie.Need-enum-told-2
+enum-told-2 c = search needs
+
+no-header-requires-3 : tie.Need-no-header-requires-3
+no-header-requires-3 c κs = search needs
+
+returns-3 : tie.Need-returns-3
+returns-3 c =
+    let d = c .before .before .before .before in
+    let t = text (from₀ d) in
+    let missed = unvalued t (at-place 1) (on₁ d) _ (sym (c .before .before .before .value-at2 .ensures .0) ∙ c .before .enum-told2 .given .1) in
+    refuses t _ (c .no-header3 .ensures) (values-over _ (v₁ d ∷ []) (at-place 1) _ _ (left₁ d) missed)
+
+value-at-requires-3 : tie.Need-value-at-requires-3
+value-at-requires-3 c κs = search needs
+
+enum-known-modulus : tie.Need-enum-known-modulus
+enum-known-modulus c = search needs
+
+enum-told-3 : tie.Need-enum-told-3
+enum-told-3 c = search needs
+
+no-header-requires-4 : tie.Need-no-header-requires-4
+no-header-requires-4 c κs = search needs
+
+returns-4 : tie.Need-returns-4
+returns-4 c =
+    let d = c .before .before .before .before in
+    let t = text₁ d in
+    let missed = unvalued t (at-place 2) (on₂ d) _ (sym (c .before .before .before .value-at3 .ensures .0) ∙ c .before .enum-told3 .given .1) in
+    refuses t _ (c .no-header4 .ensures) (values-over _ (v₁ (from₁ d) ∷ v₂ d ∷ []) (at-place 2) _ _ (left₂ d) missed)
+
+value-at-requires-4 : tie.Need-value-at-requires-4
+value-at-requires-4 c κs = search needs
+
+enum-known-bound : tie.Need-enum-known-bound
+enum-known-bound c = search needs
+
+enum-told-4 : tie.Need-enum-told-4
+enum-told-4 c = search needs
+
+no-header-requires-5 : tie.Need-no-header-requires-5
+no-header-requires-5 c κs = search needs
+
+returns-5 : tie.Need-returns-5
+returns-5 c =
+    let d = c .before .before .before .before in
+    let t = text₂ d in
+    let missed = unvalued t (at-place 3) (on₃ d) _ (sym (c .before .before .before .value-at4 .ensures .0) ∙ c .before .enum-told4 .given .1) in
+    refuses t _ (c .no-header5 .ensures) (values-over _ (v₁ (from₁ (from₂ d)) ∷ v₂ (from₂ d) ∷ v₃ d ∷ []) (at-place 3) [] _ (left₃ d) missed)
 
 unsigned-requires : tie.Need-unsigned-requires
 unsigned-requires c κs = search needs
 
-array-copy-out-unsigned-2 : tie.Need-array-copy-out-unsigned-2
-array-copy-out-unsigned-2 c = search needs
-
 unsigned-requires-2 : tie.Need-unsigned-requires-2
 unsigned-requires-2 c κs = search needs
-
-array-copy-out-unsigned-3 : tie.Need-array-copy-out-unsigned-3
-array-copy-out-unsigned-3 c = search needs
 
 unsigned-requires-3 : tie.Need-unsigned-requires-3
 unsigned-requires-3 c κs = search needs
 
-array-copy-out-unsigned-4 : tie.Need-array-copy-out-unsigned-4
-array-copy-out-unsigned-4 c = search needs
-
 unsigned-requires-4 : tie.Need-unsigned-requires-4
 unsigned-requires-4 c κs = search needs
 
-returns-3 : tie.Need-returns-3
+returns-6 : tie.Need-returns-6
 unfolding headerAnswer settingsOf
-returns-3 c =
-    let u₃ = c .before .before in
-    let u₂ = u₃ .before .before in
-    let u₁ = u₂ .before .before in
-    let d = u₁ .before .before in
-    let r = d .before .before .before in
-    let (vs, rest, whole, next-is) = taken-found (text r) (read r) (r .read-part .result) (took r .answer) (not-false _ (d .if2 .left)) in
-    let same : values r ≡ vs = sym (take-all 4 (values r) (omega (arith, d .before .before .values2 .given))) ∙ stored r vs rest whole in
+returns-6 c =
+    let d = c .before .before .before .before in
     (λ j. record {
       found = true;
       settings = record {
-        degree = setting 0 _ (values r) vs same (u₁ .before .unsigned-arg .given) (u₁ .unsigned .ensures) j;
-        depth = setting 1 _ (values r) vs same (u₂ .before .unsigned-arg2 .given) (u₂ .unsigned2 .ensures) j;
-        modulus = setting 2 _ (values r) vs same (u₃ .before .unsigned-arg3 .given) (u₃ .unsigned3 .ensures) j;
-        bound = setting 3 _ (values r) vs same (c .before .unsigned-arg4 .given) (c .unsigned4 .ensures) j;
+        degree = (c .before .before .before .unsigned .ensures ∙ ap unsigned (word₁ (from₁ (from₂ (from₃ d))))) j;
+        depth = (c .before .before .unsigned2 .ensures ∙ ap unsigned (word₂ (from₂ (from₃ d)))) j;
+        modulus = (c .before .unsigned3 .ensures ∙ ap unsigned (word₃ (from₃ d))) j;
+        bound = (c .unsigned4 .ensures ∙ ap unsigned (word₄ d)) j;
       };
-      next = next-is j;
+      next = sym (suffix-back (text₃ d) (on₄ d) (got₄ d .within)) j;
     })
-    ∙ sym (ap (headerAnswer (text r)) (begun r ∙ whole))
+    ∙ sym (ap (headerAnswer (text₃ d)) (whole d))
 
 pub read-header-spec : {M : Type 1} → statement M
 read-header-spec =
@@ -141,17 +261,28 @@ read-header-spec =
     begins-with-names-requires
     no-header-requires
     returns
-    settings-shape-requires
-    slice-aggregate-read-part
-    read-part-requires
+    value-at-requires
+    enum-known-degree
+    enum-told
     no-header-requires-2
     returns-2
-    array-copy-out-unsigned
+    value-at-requires-2
+    enum-known-depth
+    enum-told-2
+    no-header-requires-3
+    returns-3
+    value-at-requires-3
+    enum-known-modulus
+    enum-told-3
+    no-header-requires-4
+    returns-4
+    value-at-requires-4
+    enum-known-bound
+    enum-told-4
+    no-header-requires-5
+    returns-5
     unsigned-requires
-    array-copy-out-unsigned-2
     unsigned-requires-2
-    array-copy-out-unsigned-3
     unsigned-requires-3
-    array-copy-out-unsigned-4
     unsigned-requires-4
-    returns-3)
+    returns-6)

@@ -6,7 +6,7 @@ use native.Mathlib.Omega.{arith}
 use borrow.Author.Needs.{needs}
 use lib.ListN.{length, drop, length-drop, drop-of-length-le}
 use Rattle.protocol.specs.Text.{Line, readLine}
-use Rattle.tables.specs.Scan.{present, allLines}
+use Rattle.protocol.specs.Lines.{present, allLines}
 use Rattle.tables.proofs.Counts.{Found}
 use Rattle.tables.proofs.Rows.{present-bind, line, line-found, line-missed, line-shorter, all-end, all-next, all-none}
 use Rattle.tables.proofs.lines.all_lines.Statement.{statement}
@@ -33,7 +33,7 @@ module _ (c : tie.After-known-told Inv-loop μ-loop) where
   read = let g = c .before .next .given .0 in line (g .0) (g .1 .0) (g .1 .1 .0) (g .1 .1 .1 .0)
 
   got : Found readLine text at read next
-  got = let g = c .before .next .given .0 in line-found text at (g .0) (g .1 .0) (g .1 .1 .0) (g .1 .1 .1 .0) next (sym (c .before .before .before .read-line .ensures) ∙ c .before .next .given .1)
+  got = let g = c .before .next .given .0 in line-found text at (g .0) (g .1 .0) (g .1 .1 .0) (g .1 .1 .1 .0) next (sym (c .before .before .before .read-line .ensures .0) ∙ c .before .next .given .1)
 
   rises : at < next
   rises = omega (arith, line-shorter (drop at text) read (drop next text) (got .is), length-drop at text, length-drop next text, got .within)
@@ -56,7 +56,7 @@ returns c =
     let l = c .before .before .before .before .loop in
     let t = c .before .before .before .before .before .before .args .text .now in
     let some-left : 0 < length (drop (l .at) t) = omega (arith, length-drop (l .at) t) in
-    let missed = line-missed t (l .at) (sym (c .before .before .read-line .ensures) ∙ c .enum-told .given .1) in
+    let missed = line-missed t (l .at) (sym (c .before .before .read-line .ensures .0) ∙ c .enum-told .given .1) in
     sym (l .inv ∙ ap present (all-none (drop (l .at) t) some-left missed))
 
 loop-less : tie.Need-loop-less Inv-loop μ-loop

@@ -11,9 +11,9 @@ use lib.ListN.{length, drop}
 use lib.IntN.{ℤ, pos}
 use Rattle.protocol.specs.declared.Number.the-variants.{Value}
 use Rattle.protocol.specs.Text.{space, valueLimit, readCount, plain, byte, numberAnswer}
-use Rattle.tables.specs.Scan.{present, readIndexAt}
+use Rattle.protocol.specs.Lines.{present, readIndexAt}
 use Rattle.tables.proofs.Counts.{Found, suffix-back, counted, uncounted, count-small}
-use Rattle.tables.proofs.Rows.{present-none, byte-place, byte-stands, column-uncounted, column-unspaced, column-read}
+use Rattle.tables.proofs.Rows.{present-none, byte-place, byte-stands, column-uncounted, column-unspaced, column-read, index-both}
 use Rattle.tables.proofs.Words.{word-pos}
 use Rattle.tables.proofs.lines.read_index.Statement.{statement}
 use Rattle.tables.proofs.lines.read_index.Tie as tie
@@ -33,7 +33,7 @@ module _ (c : tie.After-known-told) where
   next = c .before .value .given .0 .1 .0
 
   got : (n : ℕ) × (v ≡ pos n) × Found readCount text at n next
-  got = counted text at v next (sym (c .before .before .before .read-count .ensures) ∙ c .before .value .given .1)
+  got = counted text at v next (sym (c .before .before .before .read-count .ensures .0) ∙ c .before .value .given .1)
 
   small : got .0 ≤ 2147483647
   unfolding valueLimit
@@ -56,8 +56,8 @@ returns : tie.Need-returns
 unfolding readIndexAt numberAnswer plain bind
 returns c =
     let a = c .before .before .before .before .args in
-    let missed = uncounted (a .text .now) (a .at) _ (sym (c .before .before .read-count .ensures) ∙ c .enum-told .given .1) in
-    sym (ap (λ o. numberAnswer (a .text .now) (plain o)) (column-uncounted (drop (a .at) (a .text .now)) missed))
+    let missed = uncounted (a .text .now) (a .at) _ (sym (c .before .before .read-count .ensures .0) ∙ c .enum-told .given .1) in
+    index-both (a .text .now) (a .at) _ (sym (ap (λ o. numberAnswer (a .text .now) (plain o)) (column-uncounted (drop (a .at) (a .text .now)) missed)))
 
 stands-requires : tie.Need-stands-requires
 stands-requires c κs = search needs
@@ -67,7 +67,7 @@ unfolding readIndexAt numberAnswer plain bind
 returns-2 c =
     let d = c .before .before in
     let missed : byte space (drop (next d) (text d)) ≡ none = present-none _ (sym (c .before .stands .ensures) ∙ not-true _ (c .if1 .taken)) in
-    sym (ap (λ o. numberAnswer (text d) (plain o)) (column-unspaced (drop (at d) (text d)) (got d .0) (drop (next d) (text d)) (got d .2 .is) missed))
+    index-both (text d) (at d) _ (sym (ap (λ o. numberAnswer (text d) (plain o)) (column-unspaced (drop (at d) (text d)) (got d .0) (drop (next d) (text d)) (got d .2 .is) missed)))
 
 add-t8 : tie.Need-add-t8
 add-t8 c = let d = c .before .before in record { fits = omega (arith, byte-place space (text d) (next d) (stands c)) }
@@ -78,9 +78,10 @@ returns-3 c =
     let d = c .before .before in
     let n = got d .0 in
     let on : next d + 1 ≤ length (text d) = omega (arith, byte-place space (text d) (next d) (stands c)) in
-    (λ j. Value (word-pos (v d) n (got d .1) (small d) j) (sym (suffix-back (text d) (next d + 1) on) j))
+    index-both (text d) (at d) _
+    ((λ j. Value (word-pos (v d) n (got d .1) (small d) j) (sym (suffix-back (text d) (next d + 1) on) j))
     ∙ sym (ap (λ o. numberAnswer (text d) (plain o))
-    (column-read (drop (at d) (text d)) n (drop (next d) (text d)) (got d .2 .is) (drop (next d + 1) (text d)) (byte-stands space (text d) (next d) (stands c))))
+    (column-read (drop (at d) (text d)) n (drop (next d) (text d)) (got d .2 .is) (drop (next d + 1) (text d)) (byte-stands space (text d) (next d) (stands c)))))
 
 pub read-index-spec : {M : Type 1} → statement M
 read-index-spec =

@@ -13,10 +13,10 @@ use mir.Syntax.{w32}
 use mir.Val.{ofZ, toZ}
 use mir.Facts.{toZ-ofZ}
 use Rattle.protocol.specs.Text.{lineFeed, valueLimit, readNumber, byte, readIndex, readLine}
-use Rattle.tables.specs.declared.lines.Entry.the-variants.{Found as Line-at}
-use Rattle.tables.specs.Scan.{present, lineAnswer, readLineAt}
+use Rattle.protocol.specs.declared.Entry.the-variants.{Found as Line-at}
+use Rattle.protocol.specs.Lines.{present, lineAnswer, readLineAt}
 use Rattle.tables.proofs.Counts.{Found, suffix-back, numbered, unnumbered}
-use Rattle.tables.proofs.Rows.{bind-some, bind-none, present-none, byte-place, byte-stands, columned, uncolumned, column-small, line-columns, line₁, line₂, line₃, line₄}
+use Rattle.tables.proofs.Rows.{bind-some, bind-none, present-none, byte-place, byte-stands, columned, uncolumned, column-small, line-columns, line-both, line₁, line₂, line₃, line₄}
 use Rattle.tables.proofs.Words.{word-value, word-cast}
 use Rattle.tables.proofs.lines.read_line.Statement.{statement}
 use Rattle.tables.proofs.lines.read_line.Tie as tie
@@ -36,7 +36,7 @@ module _ (c : tie.After-known-told) where
   on₁ = c .before .part .given .0 .1 .0
 
   part : (n : ℕ) × (c .before .part .given .0 .0 ≡ pos n) × Found readIndex text at n on₁
-  part = columned text at (c .before .part .given .0 .0) on₁ (sym (c .before .before .before .read-index .ensures) ∙ c .before .part .given .1)
+  part = columned text at (c .before .part .given .0 .0) on₁ (sym (c .before .before .before .read-index .ensures .0) ∙ c .before .part .given .1)
 
   part-small : part .0 ≤ 2147483647
   unfolding valueLimit
@@ -54,7 +54,7 @@ module _ (c : tie.After-known-told2) where
   on₂ = c .before .item .given .0 .1 .0
 
   item : (n : ℕ) × (c .before .item .given .0 .0 ≡ pos n) × Found readIndex (text from₁) (on₁ from₁) n on₂
-  item = columned (text from₁) (on₁ from₁) (c .before .item .given .0 .0) on₂ (sym (c .before .before .before .read-index2 .ensures) ∙ c .before .item .given .1)
+  item = columned (text from₁) (on₁ from₁) (c .before .item .given .0 .0) on₂ (sym (c .before .before .before .read-index2 .ensures .0) ∙ c .before .item .given .1)
 
   item-small : item .0 ≤ 2147483647
   unfolding valueLimit
@@ -76,7 +76,7 @@ module _ (c : tie.After-known-told3) where
   on₃ = c .before .place .given .0 .1 .0
 
   place : (n : ℕ) × (c .before .place .given .0 .0 ≡ pos n) × Found readIndex text₂ (on₂ from₂) n on₃
-  place = columned text₂ (on₂ from₂) (c .before .place .given .0 .0) on₃ (sym (c .before .before .before .read-index3 .ensures) ∙ c .before .place .given .1)
+  place = columned text₂ (on₂ from₂) (c .before .place .given .0 .0) on₃ (sym (c .before .before .before .read-index3 .ensures .0) ∙ c .before .place .given .1)
 
   place-small : place .0 ≤ 2147483647
   unfolding valueLimit
@@ -113,7 +113,7 @@ module _ (c : tie.After-known-told4) where
   on₄ = c .before .value .given .0 .1 .0
 
   value : Found readNumber text₃ (on₃ from₃) v on₄
-  value = numbered text₃ (on₃ from₃) v on₄ (sym (c .before .before .before .read-number .ensures) ∙ c .before .value .given .1)
+  value = numbered text₃ (on₃ from₃) v on₄ (sym (c .before .before .before .read-number .ensures .0) ∙ c .before .value .given .1)
 
   word : toZ w32 (ofZ w32 v) ≡ v
   word = toZ-ofZ {w = w32} {z = v} (record { sfits = c .known-told4 .given .0 .1 })
@@ -148,8 +148,8 @@ returns : tie.Need-returns
 unfolding readLineAt lineAnswer
 returns c =
     let a = c .before .before .before .before .args in
-    let missed = uncolumned (a .text .now) (a .at) _ (sym (c .before .before .read-index .ensures) ∙ c .enum-told .given .1) in
-    sym (ap (lineAnswer (a .text .now)) (line-columns (drop (a .at) (a .text .now)) ∙ bind-none _ line₁ missed))
+    let missed = uncolumned (a .text .now) (a .at) _ (sym (c .before .before .read-index .ensures .0) ∙ c .enum-told .given .1) in
+    line-both (a .text .now) (a .at) _ (sym (ap (lineAnswer (a .text .now)) (line-columns (drop (a .at) (a .text .now)) ∙ bind-none _ line₁ missed)))
 
 read-index-requires-2 : tie.Need-read-index-requires-2
 read-index-requires-2 c κs = search needs
@@ -164,8 +164,8 @@ returns-2 : tie.Need-returns-2
 unfolding readLineAt lineAnswer line₁
 returns-2 c =
     let d = c .before .before .before in
-    let missed = uncolumned (text d) (on₁ d) _ (sym (c .before .before .read-index2 .ensures) ∙ c .enum-told2 .given .1) in
-    sym (ap (lineAnswer (text d)) (left₁ d ∙ bind-none _ (line₂ (part d .0)) missed))
+    let missed = uncolumned (text d) (on₁ d) _ (sym (c .before .before .read-index2 .ensures .0) ∙ c .enum-told2 .given .1) in
+    line-both (text d) (at d) _ (sym (ap (lineAnswer (text d)) (left₁ d ∙ bind-none _ (line₂ (part d .0)) missed)))
 
 read-index-requires-3 : tie.Need-read-index-requires-3
 read-index-requires-3 c κs = search needs
@@ -180,8 +180,8 @@ returns-3 : tie.Need-returns-3
 unfolding readLineAt lineAnswer line₂
 returns-3 c =
     let d = c .before .before .before in
-    let missed = uncolumned (text (from₁ d)) (on₂ d) _ (sym (c .before .before .read-index3 .ensures) ∙ c .enum-told3 .given .1) in
-    sym (ap (lineAnswer (text (from₁ d))) (left₂ d ∙ bind-none _ (line₃ (part (from₁ d) .0) (item d .0)) missed))
+    let missed = uncolumned (text (from₁ d)) (on₂ d) _ (sym (c .before .before .read-index3 .ensures .0) ∙ c .enum-told3 .given .1) in
+    line-both (text (from₁ d)) (at (from₁ d)) _ (sym (ap (lineAnswer (text (from₁ d))) (left₂ d ∙ bind-none _ (line₃ (part (from₁ d) .0) (item d .0)) missed)))
 
 read-number-requires : tie.Need-read-number-requires
 read-number-requires c κs = search needs
@@ -196,8 +196,8 @@ returns-4 : tie.Need-returns-4
 unfolding readLineAt lineAnswer line₃
 returns-4 c =
     let d = c .before .before .before in
-    let missed = unnumbered (text₂ d) (on₃ d) _ (sym (c .before .before .read-number .ensures) ∙ c .enum-told4 .given .1) in
-    sym (ap (lineAnswer (text₂ d)) (left₃ d ∙ bind-none _ (line₄ (part (from₁ (from₂ d)) .0) (item (from₂ d) .0) (place d .0)) missed))
+    let missed = unnumbered (text₂ d) (on₃ d) _ (sym (c .before .before .read-number .ensures .0) ∙ c .enum-told4 .given .1) in
+    line-both (text₂ d) (at (from₁ (from₂ d))) _ (sym (ap (lineAnswer (text₂ d)) (left₃ d ∙ bind-none _ (line₄ (part (from₁ (from₂ d)) .0) (item (from₂ d) .0) (place d .0)) missed)))
 
 stands-requires : tie.Need-stands-requires
 stands-requires c κs = search needs
@@ -207,7 +207,7 @@ unfolding readLineAt lineAnswer line₄
 returns-5 c =
     let d = c .before .before in
     let missed : byte lineFeed (drop (on₄ d) (text₃ d)) ≡ none = present-none _ (sym (c .before .stands .ensures) ∙ not-true _ (c .if1 .taken)) in
-    sym (ap (lineAnswer (text₃ d)) (left₄ d ∙ bind-none _ _ missed))
+    line-both (text₃ d) (at₃ d) _ (sym (ap (lineAnswer (text₃ d)) (left₄ d ∙ bind-none _ _ missed)))
 
 cast-t17 : tie.Need-cast-t17
 cast-t17 c = let d = from₁ (from₂ (from₃ (c .before .before))) in word-cast _ (part d .0) (part d .1) (part-small d)
@@ -226,8 +226,9 @@ unfolding readLineAt lineAnswer line₄
 returns-6 c =
     let d = c .before .before in
     let on : on₄ d + 1 ≤ length (text₃ d) = omega (arith, byte-place lineFeed (text₃ d) (on₄ d) (ends c)) in
-    (λ j. Line-at (first d j) (second d j) (third d j) (word d j) (sym (suffix-back (text₃ d) (on₄ d + 1) on) j))
-    ∙ sym (ap (lineAnswer (text₃ d)) (left₄ d ∙ bind-some _ (drop (on₄ d + 1) (text₃ d)) _ (byte-stands lineFeed (text₃ d) (on₄ d) (ends c))))
+    line-both (text₃ d) (at₃ d) _
+    ((λ j. Line-at (first d j) (second d j) (third d j) (word d j) (sym (suffix-back (text₃ d) (on₄ d + 1) on) j))
+    ∙ sym (ap (lineAnswer (text₃ d)) (left₄ d ∙ bind-some _ (drop (on₄ d + 1) (text₃ d)) _ (byte-stands lineFeed (text₃ d) (on₄ d) (ends c)))))
 
 pub read-line-spec : {M : Type 1} → statement M
 read-line-spec =

@@ -1,7 +1,7 @@
 -- `stands`: the byte at the place, where there is one.
 use mathlib.Core.Path.{sym, ap, _∙_}
 use borrow.Author.Needs.{needs}
-use Rattle.tables.specs.Scan.{present}
+use Rattle.protocol.specs.Lines.{present}
 use Rattle.tables.proofs.Rows.{byte-outside, byte-inside, present-keep}
 use Rattle.tables.proofs.lines.stands.Statement.{statement}
 use Rattle.tables.proofs.lines.stands.Tie as tie

@@ -10,9 +10,9 @@ use mir.Syntax.{w32}
 use mir.Val.{ofZ, toZ}
 use mir.Facts.{toZ-ofZ}
 use Rattle.protocol.specs.declared.Number.the-variants.{Value, Refused}
-use Rattle.protocol.specs.Text.{Spot, Line, readLine, sameSpot, numberAnswer}
-use Rattle.tables.specs.Scan.{spot, readValue}
-use Rattle.tables.proofs.Counts.{Found, suffix-back}
+use Rattle.protocol.specs.Text.{Spot, Line, readLine, sameSpot, numberAnswer, reading}
+use Rattle.protocol.specs.Lines.{spot, readValue, givenNumber}
+use Rattle.tables.proofs.Counts.{Found, suffix-back, answer-both}
 use Rattle.tables.proofs.Rows.{line, line-found, line-missed}
 use Rattle.tables.proofs.Values.{same-spot, other-part, other-item, other-place, value-unread, value-elsewhere, value-read}
 use Rattle.tables.proofs.lines.value_at.Statement.{statement}
@@ -39,7 +39,7 @@ module _ (c : tie.After-known-told) where
   read = let g = c .before .p .given .0 in line (g .0) (g .1 .0) (g .1 .1 .0) v
 
   got : Found readLine text at read next
-  got = let g = c .before .p .given .0 in line-found text at (g .0) (g .1 .0) (g .1 .1 .0) v next (sym (c .before .before .before .read-line .ensures) ∙ c .before .p .given .1)
+  got = let g = c .before .p .given .0 in line-found text at (g .0) (g .1 .0) (g .1 .1 .0) v next (sym (c .before .before .before .read-line .ensures .0) ∙ c .before .p .given .1)
 
   word : toZ w32 (ofZ w32 v) ≡ v
   word = toZ-ofZ {w = w32} {z = v} (record { sfits = c .known-told .given .1 .1 .1 .0 .1 })
@@ -57,13 +57,15 @@ returns : tie.Need-returns
 unfolding numberAnswer
 returns c =
     let a = c .before .before .before .before .args in
-    let missed = line-missed (a .text .now) (a .at) (sym (c .before .before .read-line .ensures) ∙ c .enum-told .given .1) in
-    sym (ap (numberAnswer (a .text .now)) (value-unread (spot (a .part) (a .item) (a .place)) (drop (a .at) (a .text .now)) missed))
+    let missed = line-missed (a .text .now) (a .at) (sym (c .before .before .read-line .ensures .0) ∙ c .enum-told .given .1) in
+    answer-both (a .text .now) (readValue (spot (a .part) (a .item) (a .place)) (drop (a .at) (a .text .now))) _
+    (sym (ap (numberAnswer (a .text .now)) (value-unread (spot (a .part) (a .item) (a .place)) (drop (a .at) (a .text .now)) missed)))
 
 -- a line elsewhere
-refuses : (c : tie.After-known-told) → sameSpot (read c .spot) (wanted c) ≡ false → Refused 2 ≡ numberAnswer (text c) (readValue (wanted c) (drop (at c) (text c)))
+refuses : (c : tie.After-known-told) → sameSpot (read c .spot) (wanted c) ≡ false
+    → (Refused 2 ≡ numberAnswer (text c) (readValue (wanted c) (drop (at c) (text c)))) × (reading (Refused 2) ≡ givenNumber (text c) (readValue (wanted c) (drop (at c) (text c))))
 unfolding numberAnswer
-refuses c t = sym (ap (numberAnswer (text c)) (value-elsewhere (wanted c) (drop (at c) (text c)) (read c) (drop (next c) (text c)) (got c .is) t))
+refuses c t = answer-both (text c) (readValue (wanted c) (drop (at c) (text c))) _ (sym (ap (numberAnswer (text c)) (value-elsewhere (wanted c) (drop (at c) (text c)) (read c) (drop (next c) (text c)) (got c .is) t)))
 
 returns-2 : tie.Need-returns-2
 returns-2 c = refuses (c .before) (other-part _ _ (c .if1 .taken))
@@ -79,8 +81,9 @@ unfolding numberAnswer
 returns-5 c =
     let d = c .before .before .before in
     let here = same-spot (read d .spot) (wanted d) (c .before .before .if1 .left) (c .before .if2 .left) (c .if3 .left) in
-    (λ j. Value (word d j) (sym (suffix-back (text d) (next d) (got d .within)) j))
-    ∙ sym (ap (numberAnswer (text d)) (value-read (wanted d) (drop (at d) (text d)) (read d) (drop (next d) (text d)) (got d .is) here))
+    answer-both (text d) (readValue (wanted d) (drop (at d) (text d))) _
+    ((λ j. Value (word d j) (sym (suffix-back (text d) (next d) (got d .within)) j))
+    ∙ sym (ap (numberAnswer (text d)) (value-read (wanted d) (drop (at d) (text d)) (read d) (drop (next d) (text d)) (got d .is) here)))
 
 pub value-at-spec : {M : Type 1} → statement M
 value-at-spec =

@@ -15,7 +15,7 @@ use Rattle.protocol.specs.declared.Number.the-variants.{Value}
 use Rattle.protocol.specs.Text.{valueLimit, digitRun, properDigits, plain, numberAnswer, readCountAt}
 use Rattle.tables.specs.Digits.{most, runAnswer}
 use Rattle.tables.proofs.Runs.{proper-place}
-use Rattle.tables.proofs.Counts.{count-improper, count-large, count-read}
+use Rattle.tables.proofs.Counts.{count-improper, count-large, count-read, count-both}
 use Rattle.tables.proofs.numbers.read_count.Statement.{statement}
 use Rattle.tables.proofs.numbers.read_count.Tie as tie
 
@@ -48,7 +48,8 @@ returns : tie.Need-returns
 unfolding readCountAt numberAnswer plain bind
 returns c =
     let a = c .before .before .before .args in
-    sym (ap (λ o. numberAnswer (a .text .now) (plain o)) (count-improper (drop (a .at) (a .text .now)) (sym (c .before .proper-digits .ensures) ∙ not-true _ (c .if1 .taken))))
+    count-both (a .text .now) (a .at) _
+    (sym (ap (λ o. numberAnswer (a .text .now) (plain o)) (count-improper (drop (a .at) (a .text .now)) (sym (c .before .proper-digits .ensures) ∙ not-true _ (c .if1 .taken)))))
 
 digit-run-requires : tie.Need-digit-run-requires
 digit-run-requires c κs = let a = c .before .before .before .args in omega (arith, proper-place (a .text .now) (a .at) (proper c))
@@ -57,7 +58,7 @@ returns-2 : tie.Need-returns-2
 unfolding readCountAt numberAnswer plain bind valueLimit
 returns-2 c =
     let d = c .before .before in
-    sym (ap (λ o. numberAnswer (text d) (plain o)) (count-large (drop (at d) (text d)) (proper (d .before)) (omega (arith, kept d))))
+    count-both (text d) (at d) _ (sym (ap (λ o. numberAnswer (text d) (plain o)) (count-large (drop (at d) (text d)) (proper (d .before)) (omega (arith, kept d)))))
 
 cast-t6 : tie.Need-cast-t6
 cast-t6 c = search needs
@@ -68,9 +69,10 @@ returns-3 c =
     let d = c .before .before .before in
     let run = digitRun 0 (drop (at d) (text d)) in
     let exact : d .digit-run .result .value ≡ run .0 = omega (arith, kept d) in
-    (λ j. Value (toZ-pos w32 {n = d .digit-run .result .value} (omega arith) j) (behind d j))
+    count-both (text d) (at d) _
+    ((λ j. Value (toZ-pos w32 {n = d .digit-run .result .value} (omega arith) j) (behind d j))
     ∙ (λ j. Value (pos (exact j)) (length (text d) - length (run .1)))
-    ∙ sym (ap (λ o. numberAnswer (text d) (plain o)) (count-read (drop (at d) (text d)) (proper (d .before)) (small d (c .before .if2 .left))))
+    ∙ sym (ap (λ o. numberAnswer (text d) (plain o)) (count-read (drop (at d) (text d)) (proper (d .before)) (small d (c .before .if2 .left)))))
 
 pub read-count-spec : {M : Type 1} → statement M
 read-count-spec =

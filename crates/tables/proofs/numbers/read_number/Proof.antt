@@ -12,7 +12,7 @@ use mir.ValLaws.{toZ-ofZ}
 use mir.Facts.{toZ-pos}
 use Rattle.protocol.specs.declared.Number.the-variants.{Value}
 use Rattle.protocol.specs.Text.{valueLimit, readCount, negative, readNumber, numberAnswer, readNumberAt, readCountAt}
-use Rattle.tables.proofs.Counts.{Found, suffix-back, counted, uncounted, count-small, number-outside, number-plain, number-minus, negative-number, negative-zero, negative-none}
+use Rattle.tables.proofs.Counts.{Found, suffix-back, counted, uncounted, count-small, number-outside, number-plain, number-minus, negative-number, negative-zero, negative-none, number-both}
 use Rattle.tables.proofs.numbers.read_number.Statement.{statement}
 use Rattle.tables.proofs.numbers.read_number.Tie as tie
 
@@ -39,7 +39,7 @@ module _ (c : tie.After-known-told) where
   next = c .before .value .given .0 .1 .0
 
   got : (n : ℕ) × (v ≡ pos n) × Found readCount text (at + 1) n next
-  got = counted text (at + 1) v next (sym (c .before .before .before .read-count2 .ensures) ∙ c .before .value .given .1)
+  got = counted text (at + 1) v next (sym (c .before .before .before .read-count2 .ensures .0) ∙ c .before .value .given .1)
 
   small : got .0 ≤ 2147483647
   unfolding valueLimit
@@ -52,7 +52,7 @@ returns : tie.Need-returns
 unfolding readNumberAt numberAnswer
 returns c =
     let a = c .before .before .args in
-    sym (ap (numberAnswer (a .text .now)) (number-outside (a .text .now) (a .at) (c .if1 .taken)))
+    number-both (a .text .now) (a .at) _ (sym (ap (numberAnswer (a .text .now)) (number-outside (a .text .now) (a .at) (c .if1 .taken))))
 
 shared-slice-read-if2 : tie.Need-shared-slice-read-if2
 shared-slice-read-if2 c = search needs
@@ -64,7 +64,8 @@ returns-2 : tie.Need-returns-2
 unfolding readNumberAt readCountAt
 returns-2 c =
     let a = c .before .before .before .before .before .args in
-    c .read-count .ensures ∙ sym (ap (numberAnswer (a .text .now)) (number-plain (a .text .now) (a .at) (search needs) (c .before .if2 .taken)))
+    number-both (a .text .now) (a .at) _
+    (c .read-count .ensures .0 ∙ sym (ap (numberAnswer (a .text .now)) (number-plain (a .text .now) (a .at) (search needs) (c .before .if2 .taken))))
 
 add-read-count : tie.Need-add-read-count
 add-read-count c = search needs
@@ -83,14 +84,15 @@ unfolding readNumberAt numberAnswer
 returns-3 c =
     let d = c .before .before .before in
     let a = d .before .before .before .before .args in
-    let none-behind = uncounted (a .text .now) (a .at + 1) _ (sym (c .before .before .read-count2 .ensures) ∙ c .enum-told .given .1) in
-    sym (ap (numberAnswer (a .text .now)) (number-minus (a .text .now) (a .at) (search needs) (d .if2 .left) ∙ negative-none _ none-behind))
+    let none-behind = uncounted (a .text .now) (a .at + 1) _ (sym (c .before .before .read-count2 .ensures .0) ∙ c .enum-told .given .1) in
+    number-both (a .text .now) (a .at) _ (sym (ap (numberAnswer (a .text .now)) (number-minus (a .text .now) (a .at) (search needs) (d .if2 .left) ∙ negative-none _ none-behind)))
 
 returns-4 : tie.Need-returns-4
 unfolding readNumberAt numberAnswer
 returns-4 c =
     let d = c .before in
-    sym (ap (numberAnswer (text d)) (signed d ∙ negative-zero _ (got d .0) (drop (next d) (text d)) (got d .2 .is) (sym (ap (ofZ w32) (got d .1)) ∙ c .if3 .taken)))
+    number-both (text d) (at d) _
+    (sym (ap (numberAnswer (text d)) (signed d ∙ negative-zero _ (got d .0) (drop (next d) (text d)) (got d .2 .is) (sym (ap (ofZ w32) (got d .1)) ∙ c .if3 .taken))))
 
 sub-t10 : tie.Need-sub-t10
 sub-t10 c = let d = c .before in subst (SFits w32) (sym (neg-is (v d) (got d .0) (got d .1) (small d))) (neg-fits (got d .0) (small d))
@@ -103,8 +105,9 @@ returns-5 c =
     let whole : toZ w32 (ofZ w32 (pos 0 -ℤ toZ w32 (ofZ w32 (v d)))) ≡ negℤ (pos n) =
     ap (λ z. toZ w32 (ofZ w32 z)) (neg-is (v d) n (got d .1) (small d)) ∙ toZ-ofZ w32 (negℤ (pos n)) (neg-fits n (small d)) in
     let nonzero : n ≡ 0 → ⊥ = λ e. c .if3 .left (ap (ofZ w32) (got d .1) ∙ e) in
-    (λ j. Value (whole j) (sym (suffix-back (text d) (next d) (got d .2 .within)) j))
-    ∙ sym (ap (numberAnswer (text d)) (signed d ∙ negative-number _ n (drop (next d) (text d)) (got d .2 .is) nonzero))
+    number-both (text d) (at d) _
+    ((λ j. Value (whole j) (sym (suffix-back (text d) (next d) (got d .2 .within)) j))
+    ∙ sym (ap (numberAnswer (text d)) (signed d ∙ negative-number _ n (drop (next d) (text d)) (got d .2 .is) nonzero)))
 
 pub read-number-spec : {M : Type 1} → statement M
 read-number-spec =

@@ -6,7 +6,7 @@ use lib.ListN.{length}
 use Rattle.protocol.specs.Basic.{choose}
 use Rattle.protocol.specs.Session.{verdict, closeRefusal, closeHolds}
 use Rattle.protocol.proofs.Inputs.{settings-valid}
-use Rattle.verifier.proofs.Answers.{end-given, end-refused, end-done}
+use Rattle.verifier.proofs.Answers.{end-given, end-answered, end-refused, end-done}
 use borrow.Author.Needs.{needs}
 use Rattle.verifier.proofs.Verifier.end.Statement.{statement}
 use Rattle.verifier.proofs.Verifier.end.Tie as tie
@@ -14,19 +14,17 @@ use Rattle.verifier.proofs.Verifier.end.Tie as tie
 passed : (c : tie.Else1) → let a = c .before .before .before .before .args in closeRefusal (a .self .0) (a .key .now) ≡ 0
 passed c = sym (c .before .end .ensures) ∙ c .if1 .left
 
--- src/lib.rt:121:13
 end-requires : tie.Need-end-requires
 end-requires c κs = search needs
 
--- src/lib.rt:123:13
 returns : tie.Need-returns
-returns c = let a = c .before .before .before .before .args in end-refused (a .self .0) (a .last) (a .key .now) _ (c .before .end .ensures) (c .if1 .taken)
+returns c =
+    let a = c .before .before .before .before .args in
+    end-answered (a .self .0) (a .last) (a .key .now) _ (end-refused (a .self .0) (a .last) (a .key .now) _ (c .before .end .ensures) (c .if1 .taken))
 
--- src/lib.rt:132:13
 shut-requires : tie.Need-shut-requires
 shut-requires c κs = search needs
 
--- src/lib.rt:133:59
 slice-aggregate-end-met : tie.Need-slice-aggregate-end-met
 slice-aggregate-end-met c = search needs
 
@@ -42,25 +40,24 @@ met c =
     let g = end-given _ (one .before .before .before .before .args .last) _ (passed one) in
     c .end-met .ensures (g .allowed) (g .key-long) (omega (arith, settings-valid _ (g .allowed) .depth-most, eight (c .before)))
 
--- src/lib.rt:133:12
 end-met-requires : tie.Need-end-met-requires
 end-met-requires c κs = search needs
 
--- src/lib.rt:134:13
 returns-2 : tie.Need-returns-2
 unfolding verdict choose
 returns-2 c =
     let one = c .before .before .before .before .before .before .before in
     let a = one .before .before .before .before .args in
-    end-done (a .self .0) (a .last) (a .key .now) (passed one) true (sym (met (c .before)) ∙ c .if2 .taken) _ (c .before .before .before .shut .ensures)
+    end-answered (a .self .0) (a .last) (a .key .now) _
+    (end-done (a .self .0) (a .last) (a .key .now) (passed one) true (sym (met (c .before)) ∙ c .if2 .taken) _ (c .before .before .before .shut .ensures))
 
--- src/lib.rt:117:5
 returns-3 : tie.Need-returns-3
 unfolding verdict choose
 returns-3 c =
     let one = c .before .before .before .before .before .before .before in
     let a = one .before .before .before .before .args in
-    end-done (a .self .0) (a .last) (a .key .now) (passed one) false (sym (met (c .before)) ∙ c .if2 .left) _ (c .before .before .before .shut .ensures)
+    end-answered (a .self .0) (a .last) (a .key .now) _
+    (end-done (a .self .0) (a .last) (a .key .now) (passed one) false (sym (met (c .before)) ∙ c .if2 .left) _ (c .before .before .before .shut .ensures))
 
 pub end-spec : {M : Type 1} → statement M
 end-spec =

@@ -10,7 +10,8 @@ use Rattle.protocol.specs.Text.{textLimit, shapeSize}
 use Rattle.protocol.specs.declared.Settings.{Settings}
 use Rattle.protocol.specs.declared.Parts.{Parts}
 use Rattle.shapes.specs.Parts.{asShape, cellAt, partShape}
-use Rattle.shapes.proofs.Cells.{cell-first, cell-inside}
+use Rattle.shapes.proofs.Cells.{cell-first, cell-inside, next-cell}
+use Rattle.shapes.proofs.Shallow.{part-of}
 use Rattle.writing.specs.Put.{partText, Adds}
 use Rattle.writing.proofs.PartTexts.{Upto, upto-none, upto-line, upto-end, upto-over}
 use Rattle.writing.proofs.parts.put_unsigned_part.Statement.{statement}
@@ -34,12 +35,15 @@ module _ (c : tie.After-shape-of Inv-loop μ-loop) where
   abbrev P : Parts
   P = c .before .before .before .args .parts
 
+  shape-is : asShape (c .shape-of .result) ≡ partShape S P (c .before .before .before .args .part)
+  shape-is = c .shape-of .ensures ∙ part-of S P (c .before .before .before .args .part) (c .before .before .before .pre .0)
+
   shaped : length (c .before .before .before .args .values .now) ≡ shapeSize (asShape (c .shape-of .result))
-  shaped = c .before .before .before .pre .2 ∙ sym (ap shapeSize (c .shape-of .ensures (c .before .before .before .pre .0)))
+  shaped = c .before .before .before .pre .2 ∙ sym (ap shapeSize shape-is)
 
   finished : {r : ℕ} {out : List ℕ} → let a = c .before .before .before .args in
       Adds (a .out .now) (a .from) (partText (asShape (c .shape-of .result)) (map pos (a .values .now))) r out → Adds (a .out .now) (a .from) (partText (partShape S P (a .part)) (map pos (a .values .now))) r out
-  finished {r} {out} h = let a = c .before .before .before .args in subst (λ b. Adds (a .out .now) (a .from) (partText b (map pos (a .values .now))) r out) (c .shape-of .ensures (c .before .before .before .pre .0)) h
+  finished {r} {out} h = let a = c .before .before .before .args in subst (λ b. Adds (a .out .now) (a .from) (partText b (map pos (a .values .now))) r out) shape-is h
 
 loop-holds : tie.Need-loop-holds Inv-loop μ-loop
 loop-holds c =
@@ -90,7 +94,7 @@ loop-again c =
       omega arith,
       l .inv .1,
       same ∙ l .inv .2,
-      c .next-cell .ensures within few (l .p) (l .inv .3),
+      c .next-cell .ensures ∙ next-cell _ _ within few (l .p) (l .inv .3),
       upto-line b (map pos (a .values .now)) (a .from) (a .out .now) (l .p) (l .at) (l .out) (l .inv .4) (l .cell) (pos (getD (a .values .now) (l .p) 0)) inside (omega arith) (l .inv .3) (sym (List·getD-map pos (a .values .now) (l .p) 0)) (w .put-unsigned .ensures),
     )
 

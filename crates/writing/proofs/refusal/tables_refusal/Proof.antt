@@ -8,6 +8,7 @@ use Rattle.protocol.proofs.Refusals.{first-only, first-stops, first-passes, fir
 use Rattle.claims.proofs.TextLimits.{allowed}
 use Rattle.shapes.specs.Parts.{six, lengthsOf}
 use Rattle.shapes.proofs.Exactly.{lengths-fit}
+use Rattle.shapes.proofs.Shallow.{lengths-shallow}
 use Rattle.writing.specs.Tables.{tablesRefusal}
 use Rattle.writing.proofs.refusal.tables_refusal.Statement.{statement}
 use Rattle.writing.proofs.refusal.tables_refusal.Tie as tie
@@ -22,7 +23,7 @@ sized : (c : tie.After-fits2) → let a = c .before .before .before .before .bef
 unfolding lengthsOf
 sized c =
     let a = c .before .before .before .before .before .before .before .args in
-    c .fits2 .ensures (allowed (a .settings) (granted (c .before)) .depth) ∙ lengths-fit (a .settings) (a .parts) _
+    c .fits2 .ensures ∙ lengths-shallow (a .settings) (a .parts) _ (allowed (a .settings) (granted (c .before)) .depth) ∙ lengths-fit (a .settings) (a .parts) _
 
 settings-refusal-requires : tie.Need-settings-refusal-requires
 settings-refusal-requires c κs = search needs

@@ -1,0 +1,266 @@
+// Tables and elements of the input. A table is its length and then its numbers; numbers past the room lent for them are not read.
+use crate::input::Input;
+use protocol::Parts;
+use protocol::Session;
+use protocol::Settings;
+ghost use mathlib.Core.Path.{_≡_};
+ghost use Prim.Native.Nat.{_≤_};
+ghost use lib.ListN.{length};
+ghost use Rattle.cases.specs.Counted.{Counted};
+
+// Room for a key, a message, the rounds, challenges or leaves of a tree, and for a vector.
+pub fn residue_room() -> [u32; 16384]
+    ensures { λ r. ⌜ 16384 ≡ length r ⌝ }
+{
+    [0; 16384]
+}
+
+pub fn signed_room() -> [i32; 16384]
+    ensures { λ r. ⌜ 16384 ≡ length r ⌝ }
+{
+    [0; 16384]
+}
+
+pub fn wide_room() -> [i64; 1024]
+    ensures { λ r. ⌜ 1024 ≡ length r ⌝ }
+{
+    [0; 1024]
+}
+
+// Room for a text, and for some that are longer than the longest.
+pub fn text_room() -> [u8; 65600]
+    ensures { λ r. ⌜ 65600 ≡ length r ⌝ }
+{
+    [0; 65600]
+}
+
+// How many numbers were put at the start of a table, and what is left of the input.
+pub struct Filled {
+    pub count: usize,
+    pub next: Input,
+}
+
+fn least(a: u64, b: usize) -> usize
+    ensures { λ r. ⌜ r ≤ b ⌝ }
+{
+    if a < b as u64 {
+        return a as usize;
+    }
+    b
+}
+
+// The next numbers, as many as wanted, with no length before them.
+fn some_residues(input: Input, wanted: u64, t: &mut [u32]) -> Filled
+    ensures { λ r. ⌜ Counted (r .count) (now (t .exit)) ⌝ }
+{
+    let count = least(wanted, t.len());
+    let mut next = input;
+    let mut i: usize = 0;
+    while i < count {
+        let taken = next.number();
+        t[i] = taken.value.residue();
+        next = taken.next;
+        i += 1;
+    }
+    Filled {
+        count: count,
+        next: next,
+    }
+}
+
+pub fn residues(input: Input, t: &mut [u32]) -> Filled
+    ensures { λ r. ⌜ Counted (r .count) (now (t .exit)) ⌝ }
+{
+    let size = input.number();
+    some_residues(size.next, size.value.magnitude, t)
+}
+
+pub fn signeds(input: Input, t: &mut [i32]) -> Filled
+    ensures { λ r. ⌜ Counted (r .count) (now (t .exit)) ⌝ }
+{
+    let size = input.number();
+    let count = least(size.value.magnitude, t.len());
+    let mut next = size.next;
+    let mut i: usize = 0;
+    while i < count {
+        let taken = next.number();
+        t[i] = taken.value.signed();
+        next = taken.next;
+        i += 1;
+    }
+    Filled {
+        count: count,
+        next: next,
+    }
+}
+
+pub fn wides(input: Input, t: &mut [i64]) -> Filled
+    ensures { λ r. ⌜ Counted (r .count) (now (t .exit)) ⌝ }
+{
+    let size = input.number();
+    let count = least(size.value.magnitude, t.len());
+    let mut next = size.next;
+    let mut i: usize = 0;
+    while i < count {
+        let taken = next.number();
+        t[i] = taken.value.wide();
+        next = taken.next;
+        i += 1;
+    }
+    Filled {
+        count: count,
+        next: next,
+    }
+}
+
+// A text: its length, one byte that ends that number, and its bytes as they are.
+pub fn text(input: Input, t: &mut [u8]) -> Filled
+    ensures { λ r. ⌜ Counted (r .count) (now (t .exit)) ⌝ }
+{
+    let size = input.number();
+    let count = least(size.value.magnitude, t.len());
+    let mut next = size.next;
+    let mut i: usize = 0;
+    while i < count {
+        let taken = next.byte();
+        t[i] = taken.byte;
+        next = taken.next;
+        i += 1;
+    }
+    Filled {
+        count: count,
+        next: next,
+    }
+}
+
+// An output slice before it is written: its length, and the byte at all its places.
+pub fn blank(input: Input, t: &mut [u8]) -> Filled
+    ensures { λ r. ⌜ Counted (r .count) (now (t .exit)) ⌝ }
+{
+    let size = input.number();
+    let byte = size.next.number();
+    let count = least(size.value.magnitude, t.len());
+    let b = byte.value.byte();
+    let mut i: usize = 0;
+    while i < count {
+        t[i] = b;
+        i += 1;
+    }
+    let next = byte.next;
+    Filled {
+        count: count,
+        next: next,
+    }
+}
+
+// Four numbers: d, L, q, B.
+pub struct SettingsTaken {
+    pub settings: Settings,
+    pub next: Input,
+}
+
+pub fn settings(input: Input) -> SettingsTaken {
+    let degree = input.number();
+    let depth = degree.next.number();
+    let modulus = depth.next.number();
+    let bound = modulus.next.number();
+    let settings = Settings {
+        degree: degree.value.residue(),
+        depth: depth.value.residue(),
+        modulus: modulus.value.residue(),
+        bound: bound.value.residue(),
+    };
+    let next = bound.next;
+    SettingsTaken {
+        settings: settings,
+        next: next,
+    }
+}
+
+// An element by value: a table whose places behind the ones given are 0.
+pub struct ElementTaken {
+    pub places: [u32; 64],
+    pub next: Input,
+}
+
+pub fn element(input: Input) -> ElementTaken {
+    let mut places = [0u32; 64];
+    let filled = residues(input, &mut places);
+    let next = filled.next;
+    ElementTaken {
+        places: places,
+        next: next,
+    }
+}
+
+pub struct SignedTaken {
+    pub places: [i32; 64],
+    pub next: Input,
+}
+
+pub fn signed_element(input: Input) -> SignedTaken {
+    let mut places = [0i32; 64];
+    let filled = signeds(input, &mut places);
+    let next = filled.next;
+    SignedTaken {
+        places: places,
+        next: next,
+    }
+}
+
+// A session record: settings, rounds done, 1 where it is closed, the claim and the eight challenges.
+pub struct SessionTaken {
+    pub session: Session,
+    pub next: Input,
+}
+
+pub fn session(input: Input) -> SessionTaken {
+    let given = settings(input);
+    let done = given.next.number();
+    let closed = done.next.number();
+    let claim = element(closed.next);
+    let mut challenges = [0u32; 8];
+    let filled = some_residues(claim.next, 8, &mut challenges);
+    let set = given.settings;
+    let places = claim.places;
+    let session = Session {
+        settings: set,
+        done: done.value.residue(),
+        claim: places,
+        challenges: challenges,
+        closed: closed.value.magnitude != 0,
+    };
+    let next = filled.next;
+    SessionTaken {
+        session: session,
+        next: next,
+    }
+}
+
+// Six numbers: 1 where part 1 to 6 is there, else 0.
+pub struct PartsTaken {
+    pub parts: Parts,
+    pub next: Input,
+}
+
+pub fn parts(input: Input) -> PartsTaken {
+    let key = input.number();
+    let message = key.next.number();
+    let commitment = message.next.number();
+    let round = commitment.next.number();
+    let challenge = round.next.number();
+    let last = challenge.next.number();
+    let parts = Parts {
+        key: key.value.magnitude != 0,
+        message: message.value.magnitude != 0,
+        commitment: commitment.value.magnitude != 0,
+        round: round.value.magnitude != 0,
+        challenge: challenge.value.magnitude != 0,
+        last: last.value.magnitude != 0,
+    };
+    let next = last.next;
+    PartsTaken {
+        parts: parts,
+        next: next,
+    }
+}

@@ -1,0 +1,89 @@
+-- Answers that are enums, by document 01's numbers and values.
+--
+--   number-given, line-given          the number reader's answer, and the line reader's
+--   move-number, close-number         the verdict of a session's round, and of its end
+--   check-number, opening-number      the verdict of a transcript, and of a whole opening
+--   verify-given                      the answer of `verify`
+use mathlib.Core.Path.{_≡_, refl}
+use mathlib.Core.Bool.{Bool, true, false}
+use mathlib.Core.List.{List}
+use mathlib.Core.Option.{Option, none, some}
+use Prim.Native.Nat.{ℕ, zero, suc}
+use lib.IntN.{ℤ}
+use Rattle.protocol.specs.declared.Settings.{Settings}
+use Rattle.protocol.specs.declared.Session.{Session}
+use Rattle.protocol.specs.declared.Moved.{Moved}
+use Rattle.protocol.specs.declared.Checked.{Checked}
+use Rattle.protocol.specs.declared.Verdict.the-variants.{Silent, Holds, Rejected}
+use Rattle.protocol.specs.declared.Verified.the-variants as Verify
+use Rattle.protocol.specs.Basic.{choose, granted}
+use Rattle.protocol.specs.Session.{verdict, verdictNumber, roundNumber, endNumber, refusedMove, move, moveRefusal, moveHolds, moveNumber, close, closeRefusal, closeHolds, closeNumber, advanced, shut}
+use Rattle.protocol.specs.Transcript.{accepted, transcriptOf}
+use Rattle.protocol.specs.Calls.{openingRefusal, openingAnswer, openingNumber, checkRefusal, checkAnswer, checkNumber}
+use Rattle.protocol.specs.Text.{Line, linesOf, settingsIn, tablesIn, reading, numberAnswer}
+use Rattle.protocol.specs.Lines.{givenNumber, lineReading, givenLine, lineAnswer}
+use Rattle.protocol.specs.Programs.{tablesAccepted, verifyRefusal, verifyAnswer, checked, verifyGives}
+
+-- ---- the readers
+
+module _ (text : List ℕ) where
+  pub number-given : (o : Option (ℤ × List ℕ)) → reading (numberAnswer text o) ≡ givenNumber text o
+  unfolding reading numberAnswer givenNumber
+  number-given none = refl
+  number-given (some (value, rest)) = refl
+
+  pub line-given : (o : Option (Line × List ℕ)) → lineReading (lineAnswer text o) ≡ givenLine text o
+  unfolding lineReading lineAnswer givenLine
+  line-given none = refl
+  line-given (some (l, rest)) = refl
+
+-- ---- verdicts
+
+-- a round's, by its refusal and whether it holds
+round-says : (n : ℕ) (b : Bool) (held shut kept : Session)
+    → verdictNumber (granted n (choose b (record { number = 0; verdict = Holds; next = held }) (record { number = 0; verdict = Rejected; next = shut })) (refusedMove kept n) .verdict) ≡ roundNumber n b
+unfolding verdictNumber granted choose refusedMove roundNumber
+round-says zero true held shut kept = refl
+round-says zero false held shut kept = refl
+round-says (suc n) b held shut kept = refl
+
+-- an end's, as a verdict beside its number and as a part of a move
+end-says : (n : ℕ) (b : Bool) → verdictNumber (granted n (verdict b) Silent) ≡ endNumber n b
+unfolding verdictNumber granted choose verdict endNumber
+end-says zero true = refl
+end-says zero false = refl
+end-says (suc n) b = refl
+
+end-moves : (n : ℕ) (b : Bool) (shut kept : Session) → verdictNumber (granted n (record { number = 0; verdict = verdict b; next = shut }) (refusedMove kept n) .verdict) ≡ endNumber n b
+unfolding verdictNumber granted choose verdict refusedMove endNumber
+end-moves zero true shut kept = refl
+end-moves zero false shut kept = refl
+end-moves (suc n) b shut kept = refl
+
+pub move-number : (r : Session) (p : List (List ℕ)) (e : ℕ) → verdictNumber (move r p e .verdict) ≡ moveNumber r p e
+unfolding move moveNumber
+move-number r p e = round-says (moveRefusal r p e) (moveHolds r p) (advanced r p e) (shut r) r
+
+pub close-number : (r : Session) (f : List ℤ) (key : List ℕ) → verdictNumber (close r f key .verdict) ≡ closeNumber r f key
+unfolding close closeNumber
+close-number r f key = end-moves (closeRefusal r key) (closeHolds r f key) (shut r) r
+
+pub opening-number : (S : Settings) (key : List ℕ) (message : List ℤ) (E rounds : List ℕ) → verdictNumber (openingAnswer S key message E rounds .verdict) ≡ openingNumber S key message E rounds
+unfolding openingAnswer openingNumber
+opening-number S key message E rounds = end-says (openingRefusal S key message E rounds) (accepted S key (transcriptOf S key message E))
+
+pub check-number : (S : Settings) (C : List ℕ) (f : List ℤ) (key rounds E : List ℕ) → verdictNumber (checkAnswer S C f key rounds E .verdict) ≡ checkNumber S C f key rounds E
+unfolding checkAnswer checkNumber
+check-number S C f key rounds E = end-says (checkRefusal S C key rounds E) (accepted S key (record { commitment = C; rounds = rounds; challenges = E; last = f }))
+
+-- ---- `verify`
+
+verify-says : (n : ℕ) (b : Bool) → _≡_ {A = Checked} (checked (granted n (choose b Verify.Accepted Verify.Rejected) (Verify.Refused n))) (record { number = n; verdict = granted n (verdict b) Silent })
+unfolding checked granted choose verdict
+verify-says zero true = refl
+verify-says zero false = refl
+verify-says (suc n) b = refl
+
+pub verify-given : (text : List ℕ) → checked (verifyAnswer text) ≡ verifyGives text
+unfolding verifyAnswer verifyGives
+verify-given text = verify-says (verifyRefusal text) (tablesAccepted (settingsIn (linesOf text)) (tablesIn (linesOf text)))

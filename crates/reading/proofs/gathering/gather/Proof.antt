@@ -1,0 +1,156 @@
+-- `gather`: the lines of a good text are followed to its end, and the lengths of the lent tables are left. Otherwise a look says the refusal.
+use mathlib.Core.Path.{_≡_, refl, sym, ap, _∙_}
+use mathlib.Core.Bool.{Bool, true}
+use mathlib.Core.List.{List}
+use Prim.Native.Nat.{ℕ, _≤_}
+use native.Mathlib.Omega.{arith}
+use borrow.Author.Needs.{needs}
+use borrow.Author.Tests.{not-true, not-false}
+use Rattle.protocol.specs.declared.Parts.{Parts}
+use Rattle.protocol.specs.declared.Loaded.{Loaded}
+use Rattle.protocol.specs.Text.{linesOf, settingsIn, lookRefusal, lookAnswer}
+use Rattle.protocol.proofs.Tests.{and-intro}
+use Rattle.protocol.proofs.Inputs.{settings-valid}
+use Rattle.protocol.proofs.Refusals.{and-fails-left, and-fails-right}
+use Rattle.shapes.specs.declared.Lengths.{Lengths}
+use Rattle.shapes.specs.Parts.{lengthsFit}
+use Rattle.tables.specs.declared.header.Header.{Header}
+use Rattle.reading.specs.Stored.{inOrder}
+use Rattle.tables.proofs.Looks.{loaded-granted}
+use Rattle.tables.proofs.Looked.{header-settings, look-number, look-allowed}
+use Rattle.reading.proofs.Gathers.{gathered-look, gathered-refused, gathered-granted}
+use Rattle.shapes.proofs.Shallow.{lengths-shallow}
+use Rattle.reading.proofs.gathering.gather.Statement.{statement}
+use Rattle.reading.proofs.gathering.gather.Tie as tie
+
+-- a text whose lines were followed
+module _ (c : tie.After-values) where
+  abbrev begun : tie.After-read-header
+  begun = c .before .before .before
+
+  abbrev parts : Parts
+  parts = begun .before .before .args .parts
+
+  abbrev text : List ℕ
+  text = begun .before .before .args .text .now
+
+  abbrev lengths : Lengths
+  lengths = begun .before .before .args .lengths
+
+  abbrev header : Header
+  header = begun .read-header .result
+
+  abbrev ordered : Bool
+  ordered = inOrder parts text
+
+  abbrev fitting : Bool
+  fitting = lengthsFit (settingsIn (linesOf text)) parts lengths
+
+  -- to its end
+  module _ (found : c .before .follow .result ≡ true) where
+    abbrev answer : Loaded
+    answer = record { number = 0; settings = header .settings }
+
+    unrefused : lookRefusal text ≡ 0
+    unrefused = c .before .follow .ensures .unrefused found
+
+    settings-are : settingsIn (linesOf text) ≡ header .settings
+    settings-are = header-settings text header (begun .read-header .ensures) unrefused
+
+    looks : answer ≡ lookAnswer text
+    unfolding lookAnswer
+    looks = loaded-granted text (header .settings) (lookRefusal text) unrefused settings-are
+
+    shallow : header .settings .depth ≤ 8
+    shallow = settings-valid _ (look-allowed text answer looks refl) .depth-most
+
+    in-order : ordered ≡ true
+    in-order = sym (c .before .follow .ensures .answer unrefused) ∙ found
+
+module _ (c : tie.After-fits2) where
+  abbrev followed : tie.After-values
+  followed = c .before .before .before
+
+  reached : followed .before .follow .result ≡ true
+  reached = not-false _ (c .before .before .if1 .left)
+
+  fitted : c .fits2 .result ≡ fitting followed
+  fitted =
+      c .fits2 .ensures
+      ∙ lengths-shallow (header followed .settings) (parts followed) (lengths followed) (shallow followed reached)
+      ∙ ap (λ S. lengthsFit S (parts followed) (lengths followed)) (sym (settings-are followed reached))
+
+read-header-requires : tie.Need-read-header-requires
+read-header-requires c κs = search needs
+
+follow-requires : tie.Need-follow-requires
+follow-requires c κs = search needs
+
+look-requires : tie.Need-look-requires
+look-requires c κs = search needs
+
+same-length : tie.Need-same-length
+same-length c = search needs
+
+returns : tie.Need-returns
+returns c = gathered-look _ _ _ (c .before .before .look .result) (c .before .before .look .ensures) _ (c .if2 .taken)
+
+refused-requires : tie.Need-refused-requires
+refused-requires c κs = search needs
+
+same-length-2 : tie.Need-same-length-2
+same-length-2 c = search needs
+
+returns-2 : tie.Need-returns-2
+returns-2 c =
+    let seen = c .before .before .before in
+    let v = seen .before .before in
+    let unrefused = sym (look-number (text v) (seen .look .result) (seen .look .ensures)) ∙ c .before .if2 .left in
+    gathered-refused (parts v) (lengths v) (text v) (seen .look .result) (seen .look .ensures) _ (c .before .if2 .left) (c .refused .result) (c .refused .ensures)
+    (and-fails-left (ordered v) (fitting v) (sym (v .before .follow .ensures .answer unrefused) ∙ not-true _ (seen .before .if1 .taken)))
+
+fits-requires : tie.Need-fits-requires
+fits-requires c κs = search needs
+
+refused-requires-2 : tie.Need-refused-requires-2
+refused-requires-2 c κs = search needs
+
+same-length-3 : tie.Need-same-length-3
+same-length-3 c = search needs
+
+returns-3 : tie.Need-returns-3
+returns-3 c =
+    let f = c .before .before in
+    let v = followed f in
+    gathered-refused (parts v) (lengths v) (text v) (answer v (reached f)) (looks v (reached f)) _ refl (c .refused2 .result) (c .refused2 .ensures)
+    (and-fails-right (ordered v) (fitting v) (sym (fitted f) ∙ not-true _ (c .before .if3 .taken)))
+
+same-length-4 : tie.Need-same-length-4
+same-length-4 c = search needs
+
+returns-4 : tie.Need-returns-4
+returns-4 c =
+    let f = c .before in
+    let v = followed f in
+    gathered-granted (parts v) (lengths v) (text v) (answer v (reached f)) (looks v (reached f)) _ refl
+    (and-intro {a = ordered v} {b = fitting v} (in-order v (reached f)) (sym (fitted f) ∙ not-false _ (c .if3 .left)))
+    (v .before .follow .ensures .stored (reached f))
+
+pub gather-spec : {M : Type 1} → statement M
+gather-spec =
+    tie.close
+    (tie.spec
+    read-header-requires
+    follow-requires
+    look-requires
+    same-length
+    returns
+    refused-requires
+    same-length-2
+    returns-2
+    fits-requires
+    refused-requires-2
+    same-length-3
+    returns-3
+    same-length-4
+    returns-4)

@@ -1,0 +1,50 @@
+-- `verify`: the answer of the call on its own tables, and its number and verdict.
+use mathlib.Core.Path.{_≡_, ap, _∙_}
+use mathlib.Core.List.{List}
+use Prim.Native.Nat.{ℕ}
+use borrow.Author.Needs.{needs}
+use Rattle.protocol.specs.declared.Verified.{Verified}
+use Rattle.protocol.specs.Programs.{verifyAnswer, checked, verifyGives}
+use Rattle.protocol.proofs.Answers.{verify-given}
+use Rattle.verifying.proofs.verify.Statement.{statement}
+use Rattle.verifying.proofs.verify.Tie as tie
+
+told : (text : List ℕ) (r : Verified) → r ≡ verifyAnswer text → (r ≡ verifyAnswer text) × (checked r ≡ verifyGives text)
+told text r e = (e, ap checked e ∙ verify-given text)
+
+slice-aggregate-verify-within : tie.Need-slice-aggregate-verify-within
+slice-aggregate-verify-within c = search needs
+
+slice-aggregate-verify-within-2 : tie.Need-slice-aggregate-verify-within-2
+slice-aggregate-verify-within-2 c = search needs
+
+slice-aggregate-verify-within-3 : tie.Need-slice-aggregate-verify-within-3
+slice-aggregate-verify-within-3 c = search needs
+
+slice-aggregate-verify-within-4 : tie.Need-slice-aggregate-verify-within-4
+slice-aggregate-verify-within-4 c = search needs
+
+slice-aggregate-verify-within-5 : tie.Need-slice-aggregate-verify-within-5
+slice-aggregate-verify-within-5 c = search needs
+
+slice-aggregate-verify-within-6 : tie.Need-slice-aggregate-verify-within-6
+slice-aggregate-verify-within-6 c = search needs
+
+verify-within-requires : tie.Need-verify-within-requires
+verify-within-requires c κs = search needs
+
+returns : tie.Need-returns
+returns c = told _ _ (search needs)
+
+pub verify-spec : {M : Type 1} → statement M
+verify-spec =
+    tie.close
+    (tie.spec
+    slice-aggregate-verify-within
+    slice-aggregate-verify-within-2
+    slice-aggregate-verify-within-3
+    slice-aggregate-verify-within-4
+    slice-aggregate-verify-within-5
+    slice-aggregate-verify-within-6
+    verify-within-requires
+    returns)
