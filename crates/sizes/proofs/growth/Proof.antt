@@ -9,9 +9,9 @@ use Rattle.protocol.specs.Tree.{growthFactor, growthLimit}
 use Rattle.protocol.proofs.Inputs.{settings-valid}
 use Rattle.claims.specs.GrowthTest.{cappedTimes, cappedPower, cappedGrowth}
 use Rattle.claims.proofs.Growth.{square}
 use Rattle.sizes.proofs.Limits.{degree-least, degree-most}
-use Rattle.relaxed.proofs.growth.Statement.{statement}
-use Rattle.relaxed.proofs.growth.Tie as tie
+use Rattle.sizes.proofs.growth.Statement.{statement}
+use Rattle.sizes.proofs.growth.Tie as tie
 
 -- 12·d² as the code has it
 factor-is : (d : ℕ) → 12 * d * d ≡ growthFactor d

@@ -8,8 +8,8 @@ use borrow.Author.Tests.{le-leb, lt-leb}
 use Rattle.protocol.specs.Basic.{choose}
 use Rattle.protocol.specs.Tree.{growthLimit}
 use Rattle.claims.specs.GrowthTest.{cappedTimes}
-use Rattle.relaxed.proofs.capped_times.Statement.{statement}
-use Rattle.relaxed.proofs.capped_times.Tie as tie
+use Rattle.sizes.proofs.capped_times.Statement.{statement}
+use Rattle.sizes.proofs.capped_times.Tie as tie
 
 div-if1 : tie.Need-div-if1
 div-if1 c = search needs
