@@ -1,5 +1,4 @@
 // The check of a whole transcript.
-mod refusal;
 mod replay;
 
 use protocol::Checked;
@@ -19,7 +18,7 @@ pub fn check(
 ) -> Checked
     ensures { λ r. ⌜ r ≡ checkAnswer settings commitment last (now (key .entry)) (now (rounds .entry)) (now (challenges .entry)) ⌝ }
 {
-    let number = refusal::check(settings, commitment, key, rounds, challenges);
+    let number = refusals::transcript::check(settings, commitment, key, rounds, challenges);
     if number != 0 {
         return Checked {
             number: number,
