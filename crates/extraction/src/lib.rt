@@ -23,7 +23,14 @@ pub fn extract(
     if r12 != 0 {
         return r12;
     }
-    let accepted = trees::every_path_accepted(settings, commitment, key, rounds, challenges, leaves);
+    let accepted = trees::every_path_accepted(
+        settings,
+        commitment,
+        key,
+        rounds,
+        challenges,
+        leaves,
+    );
     let r13 = refuse(r12, 13, accepted);
     let r14 = refuse(r13, 14, refusals::judge::growth_allowed(settings));
     if r14 != 0 {

@@ -29,5 +29,6 @@ pub fn open(
     }
     let r8 = refuse(r7, 8, tests::all_below(settings.modulus, key));
     let r9 = refuse(r8, 9, tests::all_within(settings.bound, message));
-    refuse(r9, 10, tests::all_below(sizes::exponent_count(settings), challenges))
+    let limit = sizes::exponent_count(settings);
+    refuse(r9, 10, tests::all_below(limit, challenges))
 }

@@ -9,8 +9,10 @@ ghost use Rattle.protocol.specs.Session.{startRefusal, moveRefusal, closeRefusa
 pub fn start(settings: Settings, commitment: [u32; 64]) -> u32
     ensures { λ r. ⌜ r ≡ startRefusal settings commitment ⌝ }
 {
+    let q = settings.modulus;
+    let d = settings.degree;
     let r6 = tests::settings_refusal(settings);
-    refuse(r6, 8, tests::element_below(settings.modulus, settings.degree, commitment))
+    refuse(r6, 8, tests::element_below(q, d, commitment))
 }
 
 pub fn round(session: Session, polynomial: [[u32; 64]; 3], e: u32) -> u32
@@ -43,6 +45,7 @@ pub fn end(session: Session, key: &[u32]) -> u32
 {
     let settings = session.settings;
     let q = settings.modulus;
+    let d = settings.degree;
     let claim = session.claim;
     let challenges = session.challenges;
     let r6 = tests::settings_refusal(settings);
@@ -53,8 +56,9 @@ pub fn end(session: Session, key: &[u32]) -> u32
     let r8 = refuse(
         r7,
         8,
-        tests::all_below(q, key) & tests::element_below(q, settings.degree, claim),
+        tests::all_below(q, key) & tests::element_below(q, d, claim),
     );
-    let r10 = refuse(r8, 10, tests::all_below(sizes::exponent_count(settings), &challenges));
+    let limit = sizes::exponent_count(settings);
+    let r10 = refuse(r8, 10, tests::all_below(limit, &challenges));
     refuse(r10, 11, (session.done == settings.depth) & !session.closed)
 }

@@ -33,5 +33,6 @@ pub fn check(
             & tests::element_below(q, settings.degree, commitment)
             & tests::all_below(q, rounds),
     );
-    refuse(r8, 10, tests::all_below(sizes::exponent_count(settings), challenges))
+    let limit = sizes::exponent_count(settings);
+    refuse(r8, 10, tests::all_below(limit, challenges))
 }

@@ -68,6 +68,7 @@ pub fn extract(
             & tests::element_below(q, settings.degree, commitment)
             & tests::all_below(q, rounds),
     );
-    let r10 = refuse(r8, 10, tests::all_below(sizes::exponent_count(settings), challenges));
+    let limit = sizes::exponent_count(settings);
+    let r10 = refuse(r8, 10, tests::all_below(limit, challenges));
     refuse(r10, 12, all_differ(sizes::nodes(settings), challenges))
 }
