@@ -4,7 +4,7 @@ use protocol::Settings;
 ghost use mathlib.Core.Path.{_≡_};
 ghost use Prim.Native.Nat.{_*_, _^_, _<_, _≤_};
 ghost use Rattle.protocol.specs.Layout as layout;
-ghost use Rattle.protocol.specs.Layout.{leftCells, halfLeft, roundCells, treeChallenges, treeRoundCells, leafCells, exponentCount};
+ghost use Rattle.protocol.specs.Layout.{leftCells, halfLeft, roundCells, itemOf, treeChallenges, treeRoundCells, leafCells, exponentCount};
 ghost use Rattle.protocol.specs.Settings.{settingsRefusal};
 ghost use Rattle.protocol.specs.Tree.{growthLimit};
 ghost use Rattle.claims.specs.GrowthTest.{cappedTimes, cappedGrowth};
@@ -97,6 +97,19 @@ pub fn round_cells(settings: Settings) -> usize
         return 0;
     }
     3 * (settings.depth as usize) * (settings.degree as usize)
+}
+
+// The item of c_j of round k + 1 or of node k, and of challenge j of node k. No tree has more than 3,280 branching nodes.
+pub fn item_of(k: u32, j: u32) -> u32
+    ensures { λ r. ⌜ (k ≤ 3280 → j < 3 → r ≡ itemOf k j) ⌝ }
+{
+    if k > 3280 {
+        return 0;
+    }
+    if j > 2 {
+        return 0;
+    }
+    3 * k + j
 }
 
 // The challenges of a tree, three to a branching node, and the numbers of its round polynomials and of its leaves.
