@@ -2,7 +2,7 @@
 --
 -- A function asks its tests in order, and each answer is the refusal so far. Such a refusal stands at the head of the definition's list for all tests up to it:
 -- `first-known` puts the first answer there, `first-tested` each next one, and `first-only` ends the list; `first-stops` ends it at a refusal.
--- Where nothing is refused, `none-refused` says that every test of a list passed.
+-- Where nothing is refused, `none-refused` says that every test of a list passed; `passed-all` is the other way round.
 use mathlib.Core.Path.{_≡_, refl, sym, ap, _∙_}
 use mathlib.Core.Bool.{Bool, true, false, _&&_}
 use mathlib.Core.List.{List, [], _∷_, _++_}
@@ -13,7 +13,7 @@ use lib.IntN.{ℤ}
 use Rattle.protocol.specs.declared.Settings.{Settings}
 use Rattle.protocol.specs.Basic.{first, unless, Tested}
 use Rattle.protocol.specs.Calls.{leftSmall, movingSmall, endingSmall}
-use Rattle.protocol.proofs.Tests.{first-zero, unless-zero}
+use Rattle.protocol.proofs.Tests.{first-nothing, first-zero, zero-first, unless-zero, zero-unless}
 
 pub first-stops : (x : ℕ) (rest : List ℕ) → (x ≡ 0 → ⊥) → first (x ∷ rest) ≡ x
 unfolding first
@@ -95,6 +95,10 @@ Passed ((n, b) ∷ tests) = (b ≡ true) × Passed tests
 pub all-passed : (tests : List (ℕ × Bool)) → first (refusalsOf tests) ≡ 0 → Passed tests
 all-passed [] e = tt
 all-passed ((n, b) ∷ tests) e = let (z, more) = first-zero _ _ e in (unless-zero n b z, all-passed tests more)
+
+pub passed-all : (tests : List (ℕ × Bool)) → Passed tests → first (refusalsOf tests) ≡ 0
+passed-all [] p = first-nothing
+passed-all ((n, b) ∷ tests) p = zero-first _ _ (zero-unless (suc n) b (p .0)) (passed-all tests (p .1))
 
 pub none-refused : {x : ℕ} (tests : List (ℕ × Bool)) → first (x ∷ refusalsOf tests) ≡ 0 → (x ≡ 0) × Passed tests
 none-refused tests e = let (z, more) = first-zero _ _ e in (z, all-passed tests more)

@@ -4,8 +4,9 @@
 --   size S, cells S             n = 2^L elements, and n·d numbers: a key, a message, the extractor's w
 --   left S t, leftCells S t     the elements that are left after t rounds, n/2^t, and their numbers
 --   halfLeft S t                the elements of a half of what is left after t rounds
---   elementCells S              d numbers: a commitment, a claim, a final element
---   polynomialCells S           3·d numbers: a round polynomial
+--   commitmentCells S           d numbers: a commitment
+--   polynomialCells d           3·d numbers: a round polynomial
+--   polynomialAt d k            3·k·d: where the polynomial of round k + 1, or of node k, begins
 --   roundItems S, roundCells S  3·L elements, and 3·L·d numbers: the round polynomials of a transcript
 --   nodes S, leaves S           N = (3^L − 1)/2 branching nodes, and 3^L leaves
 --   treeRoundCells S            3·N·d numbers: the round polynomials of a tree
@@ -36,11 +37,14 @@ halfLeft S t = size S / 2 ^ (t + 1)
 
 -- ---- elements and round polynomials
 
-abbrev pub elementCells : Settings → ℕ
-elementCells S = S .degree
+abbrev pub commitmentCells : Settings → ℕ
+commitmentCells S = S .degree
 
-abbrev pub polynomialCells : Settings → ℕ
-polynomialCells S = 3 * S .degree
+abbrev pub polynomialCells : ℕ → ℕ
+polynomialCells d = 3 * d
+
+abbrev pub polynomialAt : ℕ → ℕ → ℕ
+polynomialAt d k = 3 * k * d
 
 abbrev pub roundItems : Settings → ℕ
 roundItems S = 3 * S .depth

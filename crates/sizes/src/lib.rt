@@ -4,7 +4,7 @@ use protocol::Settings;
 ghost use mathlib.Core.Path.{_≡_};
 ghost use Prim.Native.Nat.{_*_, _^_, _<_, _≤_};
 ghost use Rattle.protocol.specs.Layout as layout;
-ghost use Rattle.protocol.specs.Layout.{leftCells, halfLeft, roundCells, itemOf, treeChallenges, treeRoundCells, leafCells, exponentCount};
+ghost use Rattle.protocol.specs.Layout.{leftCells, halfLeft, roundCells, itemOf, polynomialAt, treeChallenges, treeRoundCells, leafCells, exponentCount};
 ghost use Rattle.protocol.specs.Settings.{settingsRefusal};
 ghost use Rattle.protocol.specs.Tree.{growthLimit};
 ghost use Rattle.claims.specs.GrowthTest.{cappedTimes, cappedGrowth};
@@ -110,6 +110,19 @@ pub fn item_of(k: u32, j: u32) -> u32
         return 0;
     }
     3 * k + j
+}
+
+// Where the polynomial of round k + 1, or of node k, begins.
+pub fn polynomial_at(d: u32, k: u32) -> usize
+    ensures { λ r. ⌜ ((d ≤ 64 → k ≤ 3280 → r ≡ polynomialAt d k) × (r ≤ 629760)) ⌝ }
+{
+    if d > 64 {
+        return 0;
+    }
+    if k > 3280 {
+        return 0;
+    }
+    3 * (k as usize) * (d as usize)
 }
 
 // The challenges of a tree, three to a branching node, and the numbers of its round polynomials and of its leaves.
