@@ -26,3 +26,31 @@ number c =
 
 returns : tie.Need-returns
 returns c = refused _ _ _ _ _ _ _ _ (sym (tree-joined _ _ _ _ _ _ _ ∙ first-known _ _ (c .before .extract .ensures) ∙ first-stops _ _ (c .if1 .taken))) (c .if1 .taken)
+
+returns-2 : tie.Need-returns-2
+returns-2 c = refused _ _ _ _ _ _ _ _ (number (c .before)) (c .if2 .taken)
+
+root-requires : tie.Need-root-requires
+root-requires c κs =
+    let no = c .before in
+    (extractable _ _ _ _ _ _ _ (sym (number (no .before)) ∙ no .if2 .left), given (no .before .before .before .before .before) .lengths .w-long)
+
+returns-3 : tie.Need-returns-3
+returns-3 c = let no = c .before .before .before in extracted _ _ _ _ _ _ _ (sym (number (no .before)) ∙ no .if2 .left) _ (c .before .root .ensures)
+
+pub extract-spec : {M : Type 1} → statement M
+extract-spec =
+    tie.close
+    (tie.spec
+    (λ c κs. search needs)
+    (λ c. search needs)
+    returns
+    (λ c κs. search needs)
+    (λ c κs. search needs)
+    (λ c κs. search needs)
+    (λ c κs. search needs)
+    (λ c. search needs)
+    returns-2
+    root-requires
+    (λ c. search needs)
+    returns-3)
