@@ -1,38 +1,30 @@
 -- The extractor's answer: with a refusal, and without one.
 use mathlib.Core.Path.{_≡_, sym, _∙_, subst}
-use mathlib.Core.Bool.{true, false}
-use mathlib.Core.List.{List}
+use mathlib.Core.List.{List, [], _∷_}
 use Prim.Native.Nat.{ℕ, _+_, _*_, _/_, _%_, _<_, _≤_}
 use native.Mathlib.Nat as Nat
 use lib.IntN.{ℤ, pos, natAbs}
 use lib.ListN.{getD}
 use Rattle.protocol.specs.declared.Settings.{Settings}
+use Rattle.protocol.specs.Basic.{first, unless}
 use Rattle.protocol.specs.Element.{signedAt}
 use Rattle.protocol.specs.Settings.{size}
-use Rattle.protocol.specs.Tree.{leaves, leaf, path, rootVector, grows}
-use Rattle.protocol.specs.Calls.{everyPath, extractRefusal, extractExit}
+use Rattle.protocol.specs.Layout.{leaves, leafCells}
+use Rattle.protocol.specs.Tree.{leaf, path, rootVector, grows}
+use Rattle.protocol.specs.Calls.{everyPath, treeTests, treeRefusal, extractRefusal, extractExit}
 use Rattle.protocol.specs.Promises.{Extracted}
-use Rattle.protocol.proofs.Tests.{first-nothing, granted-zero, granted-refused}
-use Rattle.protocol.proofs.Refusals.{first-fails, first-holds}
+use Rattle.protocol.proofs.Tests.{granted-zero, granted-refused}
+use Rattle.protocol.proofs.Refusals.{front-joined}
 use Rattle.claims.proofs.Honest.{degree-positive}
 use Rattle.claims.proofs.Weights.{signed-coefficients}
-use Rattle.branches.specs.Early.{earlyRefusal}
-use Rattle.branches.proofs.Early.{early-passes}
-use Rattle.branches.proofs.Given.{ExtractGiven, extract-given}
+use Rattle.refusals.proofs.GivenTree.{ExtractGiven, extract-given}
 use Rattle.extraction.specs.Nodes.{Extractable}
 
 module _ (S : Settings) (C key rounds E : List ℕ) (finals w : List ℤ) where
-  -- ---- 13, then 14
-
-  module _ (early : earlyRefusal S C key rounds E finals w ≡ 0) where
-    pub path-rejected : everyPath S C key rounds E finals ≡ false → 13 ≡ extractRefusal S C key rounds E finals w
-    path-rejected t = sym (early-passes S C key rounds E finals w early ∙ first-fails 12 _ _ t)
-
-    pub grows-over : everyPath S C key rounds E finals ≡ true → grows S ≡ false → 14 ≡ extractRefusal S C key rounds E finals w
-    grows-over t g = sym (early-passes S C key rounds E finals w early ∙ first-holds 13 _ _ t ∙ first-fails 13 _ _ g)
-
-    pub nothing-refused : everyPath S C key rounds E finals ≡ true → grows S ≡ true → extractRefusal S C key rounds E finals w ≡ 0
-    nothing-refused t g = early-passes S C key rounds E finals w early ∙ first-holds 13 _ _ t ∙ first-holds 14 _ _ g ∙ first-nothing
+  -- what is tested before the verifier runs stands at the head of the list; then 13, then 14
+  pub tree-joined : extractRefusal S C key rounds E finals w ≡ first (treeRefusal S C key rounds E finals w ∷ unless 13 (everyPath S C key rounds E finals) ∷ unless 14 (grows S) ∷ [])
+  unfolding extractRefusal treeRefusal
+  tree-joined = front-joined (treeTests S C key rounds E finals w) _
 
   -- ---- the promise
 
@@ -56,7 +48,7 @@ module _ (S : Settings) (C key rounds E : List ℕ) (finals w : List ℤ) where
       at : (j k : ℕ) → j < leaves S → k < S .degree → natAbs (getD finals (j * S .degree + k) (pos 0)) ≤ size S * S .bound
       at j k lj lk = subst (λ x. natAbs x ≤ size S * S .bound) (signed-coefficients (S .degree) (signedAt (S .degree) finals j) k lk) (g .tree .accepted j lj .in-bound k lk)
 
-      small : (i : ℕ) → i < leaves S * S .degree → natAbs (getD finals i (pos 0)) ≤ size S * S .bound
+      small : (i : ℕ) → i < leafCells S → natAbs (getD finals i (pos 0)) ≤ size S * S .bound
       small i l =
           let p : 0 < S .degree = degree-positive S (g .settings) in
           subst (λ n. natAbs (getD finals n (pos 0)) ≤ size S * S .bound) (Nat.div-add-mod' i (S .degree)) (at (i / S .degree) (i % S .degree) (Nat.div-lt-iff-lt-mul p .1 l) (Nat.mod-lt i p))

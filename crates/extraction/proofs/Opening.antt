@@ -14,7 +14,7 @@ use Rattle.protocol.specs.Inputs.{Valid, Below, Within}
 use Rattle.protocol.specs.Promises.{Extracted}
 use Rattle.protocol.specs.Demand3.{FullTree, FoldsOf, ExtractionClaim}
 use Rattle.claims.proofs.Extractor.{extraction-claim}
-use Rattle.branches.proofs.Given.{extract-given}
+use Rattle.refusals.proofs.GivenTree.{extract-given}
 
 -- w opens 4^L times the commitment, within (12·d²)^L·B, as the judge says; and it is 4^L·m where all leaves are folds of m
 pub record RelaxedOpening (S : Settings) (C key E : List ℕ) (finals w : List ℤ) : Type 0 where

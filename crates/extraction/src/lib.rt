@@ -4,6 +4,7 @@ mod root;
 mod vectors;
 
 use protocol::Settings;
+use refusals::refuse;
 ghost use Rattle.protocol.specs.Promises.{Extracted};
 
 // The vector of the root of a full tree, every path of which the verifier accepts. Nothing is written before the last test.
@@ -18,15 +19,22 @@ pub fn extract(
 ) -> u32
     ensures { λ r. ⌜ Extracted settings commitment (now (key .entry)) (now (rounds .entry)) (now (challenges .entry)) (now (leaves .entry)) (now (w .entry)) r (now (w .exit)) ⌝ }
 {
-    let number = branches::refusal(settings, commitment, key, rounds, challenges, leaves, w);
-    if number != 0 {
-        return number;
+    let r12 = refusals::tree::extract(settings, commitment, key, rounds, challenges, leaves, w);
+    if r12 != 0 {
+        return r12;
     }
-    if !trees::every_path_accepted(settings, commitment, key, rounds, challenges, leaves) {
-        return 13;
-    }
-    if !relaxed::growth_allowed(settings) {
-        return 14;
+    let accepted = trees::every_path_accepted(
+        settings,
+        commitment,
+        key,
+        rounds,
+        challenges,
+        leaves,
+    );
+    let r13 = refuse(r12, 13, accepted);
+    let r14 = refuse(r13, 14, refusals::judge::growth_allowed(settings));
+    if r14 != 0 {
+        return r14;
     }
     root::root(settings, challenges, leaves, w);
     0

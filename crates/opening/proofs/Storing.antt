@@ -9,6 +9,7 @@ use lib.ListN.{length, getD, take, drop, length-append, length-drop}
 use lib.Seq.{length-take-le, take-at, drop-at, take-add, drop-drop, getD-drop, getD-take, ext-getD, take-all, drop-length}
 use Rattle.protocol.specs.declared.Settings.{Settings}
 use Rattle.protocol.specs.Basic.{tabulate}
+use Rattle.protocol.specs.Layout.{roundCells}
 use Rattle.protocol.specs.Element.{padded}
 use Rattle.protocol.specs.Opening.{roundElement, roundTable, keyAfter, messageAfter}
 use Rattle.protocol.specs.Session.{part}
@@ -39,7 +40,7 @@ module _ (X R : List ℕ) (n m : ℕ) (inside : n + m ≤ length X) (f : ℕ →
       ∙ sym (append-assoc (take n X) (take m (drop n X)) (drop m (drop n R)))
       ∙ (λ i. sym (take-add n m X) i ++ drop-drop m n R i)
 
-module _ (S : Settings) (pq : 0 < S .modulus) (G : List ℕ) (M : List ℤ) (E R : List ℕ) (long : length R ≡ 3 * S .depth * S .degree) where
+module _ (S : Settings) (pq : 0 < S .modulus) (G : List ℕ) (M : List ℤ) (E R : List ℕ) (long : length R ≡ roundCells S) where
   open Settings S using (degree as d, depth as L)
 
   abbrev X : List ℕ

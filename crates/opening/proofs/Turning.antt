@@ -8,6 +8,7 @@ use lib.IntN.{ℤ}
 use lib.ListN.{length, getD}
 use Rattle.protocol.specs.declared.Settings.{Settings}
 use Rattle.protocol.specs.Settings.{settingsRefusal}
+use Rattle.protocol.specs.Layout.{polynomialCells, polynomialAt, roundCells}
 use Rattle.protocol.specs.Opening.{keyAfter, messageAfter}
 use Rattle.protocol.specs.Calls.{openingRefusal, roundAnswer, polynomial, foldKeyExit, foldMessageExit}
 use Rattle.protocol.specs.Promises.{Folded}
@@ -25,28 +26,28 @@ use Rattle.opening.proofs.Checking.{tested-done, checked-more}
 module _ (S : Settings) (t e : ℕ) (key : List ℕ) (message : List ℤ) (rounds : List ℕ) (p : List (List ℕ)) (number : ℕ) (key′ : List ℕ) (message′ : List ℤ) (rounds′ : List ℕ)
     (polynomial-is : p ≡ roundAnswer S t key message .elements)
     (folds : Folded S t e key message number key′ message′)
-    (stores : S .degree ≤ 64 → t < 8 → (3 * t + 3) * S .degree ≤ length rounds → rounds′ ≡ storedRound (S .degree) t p rounds) where
+    (stores : S .degree ≤ 64 → t < 8 → polynomialAt (S .degree) t + polynomialCells (S .degree) ≤ length rounds → rounds′ ≡ storedRound (S .degree) t p rounds) where
   open Settings S using (degree as d, depth as L)
 
   module _ (G : List ℕ) (M : List ℤ) (E R : List ℕ) (passed : openingRefusal S G M E R ≡ 0) (l : t < L) (e-is : e ≡ getD E t 0) (at : TablesAt S G M E R t key message rounds) where
     ok : Given S G M E
     ok = lent S G M E R passed .given
 
-    long : length R ≡ 3 * L * d
+    long : length R ≡ roundCells S
     long = lent S G M E R passed .rounds-long
 
     given-polynomial : p ≡ polynomial S t (keyAfter S E t G) (messageAfter S E t M)
     given-polynomial = polynomial-is ∙ (λ i. roundAnswer S t (at .key-is i) (at .message-is i) .elements) ∙ ap (λ a. a .elements) (round-answer ok t l)
 
-    inside : (3 * t + 3) * d ≤ 3 * L * d
-    inside = Nat.mul-le-mul-right {m = 3 * t + 3} {n = 3 * L} d (omega arith)
+    inside : polynomialAt d t + polynomialCells d ≤ roundCells S
+    inside = omega (arith, Nat.add-mul (3 * t) 3 d, Nat.mul-le-mul-right {m = 3 * t + 3} {n = 3 * L} d (omega arith))
 
-    room : (3 * t + 3) * d ≤ length rounds
+    room : polynomialAt d t + polynomialCells d ≤ length rounds
     room = omega (
       arith,
       inside,
       ap length (at .rounds-is),
-      front-length S (modulus-positive S (ok .settings)) G M E R long (3 * t * d) (omega (arith, inside, Nat.add-mul (3 * t) 3 d)),
+      front-length S (modulus-positive S (ok .settings)) G M E R long (polynomialAt d t) (omega (arith, inside)),
     )
 
     next-tables : TablesAt S G M E R (suc t) key′ message′ rounds′

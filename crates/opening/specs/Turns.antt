@@ -17,6 +17,7 @@ use lib.IntN.{ℤ}
 use lib.ListN.{getD, take, drop}
 use Rattle.protocol.specs.declared.Settings.{Settings}
 use Rattle.protocol.specs.Basic.{every}
+use Rattle.protocol.specs.Layout.{polynomialAt}
 use Rattle.protocol.specs.Element.{residue, padded}
 use Rattle.protocol.specs.Opening.{keyAfter, messageAfter, roundTable}
 use Rattle.protocol.specs.Transcript.{roundHolds, nextClaim, claimAfter, holdsAt, transcriptOf}
@@ -26,7 +27,8 @@ use Rattle.arithmetic.specs.Folds.{spliced}
 use Rattle.opening.specs.declared.turns.State.{State}
 
 unfoldable pub storedRound : ℕ → ℕ → List (List ℕ) → List ℕ → List ℕ
-storedRound d t p l = spliced (λ k. getD (part p 2) k 0) (3 * t * d + 2 * d) d (spliced (λ k. getD (part p 1) k 0) (3 * t * d + d) d (spliced (λ k. getD (part p 0) k 0) (3 * t * d) d l))
+storedRound d t p l =
+    spliced (λ k. getD (part p 2) k 0) (polynomialAt d t + 2 * d) d (spliced (λ k. getD (part p 1) k 0) (polynomialAt d t + d) d (spliced (λ k. getD (part p 0) k 0) (polynomialAt d t) d l))
 
 unfoldable pub tested : Settings → State → List (List ℕ) → ℕ → State
 tested S s p e = record {
@@ -42,7 +44,7 @@ module _ (S : Settings) (G : List ℕ) (M : List ℤ) (E R : List ℕ) where
     pub done-most : t ≤ L
     pub key-is : key ≡ keyAfter S E t G
     pub message-is : message ≡ messageAfter S E t M
-    pub rounds-is : rounds ≡ take (3 * t * d) (roundTable S E G M) ++ drop (3 * t * d) R
+    pub rounds-is : rounds ≡ take (polynomialAt d t) (roundTable S E G M) ++ drop (polynomialAt d t) R
 
   pub record CheckedAt (t : ℕ) (claim : List ℕ) (holds : Bool) : Type 0 where
     pub claim-is : claim ≡ padded d (claimAfter S (transcriptOf S G M E) t)

@@ -1,6 +1,5 @@
 // The whole opening: turns of the prover and the verifier, on tables that are folded in place.
 mod ending;
-mod refusal;
 mod storage;
 mod turns;
 
@@ -21,7 +20,7 @@ pub fn open(
 ) -> Opened
     ensures { λ r. ⌜ Opening settings (now (key .entry)) (now (message .entry)) (now (challenges .entry)) (now (rounds .entry)) r (now (key .exit)) (now (message .exit)) (now (rounds .exit)) ⌝ }
 {
-    let number = refusal::opening(settings, key, message, challenges, rounds);
+    let number = refusals::opening::open(settings, key, message, challenges, rounds);
     if number != 0 {
         return Opened {
             number: number,

@@ -2,6 +2,7 @@
 ghost use mathlib.Core.Path.{_≡_};
 ghost use Prim.Native.Nat.{_+_, _*_, _<_, _≤_};
 ghost use lib.ListN.{length, getD};
+ghost use Rattle.protocol.specs.Layout.{polynomialCells, polynomialAt};
 ghost use Rattle.arithmetic.specs.Folds.{spliced};
 ghost use Rattle.opening.specs.Turns.{storedRound};
 
@@ -19,7 +20,7 @@ fn store_element(d: usize, a: [u32; 64], at: usize, out: &mut [u32])
 
 // Writes the three elements of round t + 1. A table without room for them stays as it is.
 pub fn store_round(d: u32, t: u32, polynomial: [[u32; 64]; 3], out: &mut [u32])
-    ensures { λ _. ⌜ (d ≤ 64 → t < 8 → (3 * t + 3) * d ≤ length (now (out .entry)) → now (out .exit) ≡ storedRound d t polynomial (now (out .entry))) ⌝ }
+    ensures { λ _. ⌜ (d ≤ 64 → t < 8 → polynomialAt d t + polynomialCells d ≤ length (now (out .entry)) → now (out .exit) ≡ storedRound d t polynomial (now (out .entry))) ⌝ }
 {
     if d > 64 {
         return;
@@ -28,7 +29,7 @@ pub fn store_round(d: u32, t: u32, polynomial: [[u32; 64]; 3], out: &mut [u32])
         return;
     }
     let n = d as usize;
-    let at = 3 * (t as usize) * n;
+    let at = sizes::polynomial_at(d, t);
     if out.len() < at + 3 * n {
         return;
     }

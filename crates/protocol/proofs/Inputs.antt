@@ -12,7 +12,8 @@ use Rattle.protocol.specs.declared.Settings.{Settings}
 use Rattle.protocol.specs.Basic.{all, among, within}
 use Rattle.protocol.specs.Settings.{degreeAllowed, depthAllowed, modulusAllowed, boundAllowed, settingsRefusal, sized, small}
 use Rattle.protocol.specs.Inputs.{Valid, Below, Within}
-use Rattle.protocol.proofs.Tests.{and-split, and-intro, all-at, all-intro, first-nothing, first-zero, zero-first, unless-zero, zero-unless}
+use Rattle.protocol.proofs.Tests.{and-split, and-intro, all-at, all-intro}
+use Rattle.protocol.proofs.Refusals.{all-passed, passed-all}
 
 -- ---- settings
 
@@ -52,20 +53,17 @@ power-among (suc (suc (suc (suc (suc (suc i)))))) h = absurd (omega arith)
 pub settings-valid : (S : Settings) → settingsRefusal S ≡ 0 → Valid S
 unfolding settingsRefusal degreeAllowed depthAllowed modulusAllowed boundAllowed
 settings-valid S e =
-    let (r3, e4) = first-zero _ _ e in
-    let (r4, e5) = first-zero _ _ e4 in
-    let (r5, e6) = first-zero _ _ e5 in
-    let (r6, e7) = first-zero _ _ e6 in
-    let (i, h, f) = among-place (S .degree) degrees (unless-zero 2 _ r3) in
-    let (more, most) = and-split (unless-zero 4 (eqb (S .modulus % 2) 1 && leb 3 (S .modulus) && leb (S .modulus) 2_147_483_647) r5) in
+    let (t3, (t4, (t5, (t6, _)))) = all-passed ((2, _) ∷ (3, _) ∷ (4, _) ∷ (5, _) ∷ []) e in
+    let (i, h, f) = among-place (S .degree) degrees t3 in
+    let (more, most) = and-split t5 in
     let (odd, least) = and-split more in
-    let (low, high) = and-split (unless-zero 5 (leb 1 (S .bound) && leb (S .bound) 127) r6) in
+    let (low, high) = and-split t6 in
     record {
       log = suc i;
       degree-is = f ∙ degrees-at i h;
       log-least = omega arith;
       log-most = omega arith;
-      depth-most = leb-true _ _ (unless-zero 3 (leb (S .depth) 8) r4);
+      depth-most = leb-true _ _ t4;
       modulus-odd = eqb-true _ _ odd;
       modulus-least = leb-true _ _ least;
       modulus-most = leb-true _ _ most;
@@ -80,10 +78,16 @@ degree-among d (suc i) e l h = ap (λ x. among x degrees) e ∙ power-among i (o
 pub valid-settings : (S : Settings) → Valid S → settingsRefusal S ≡ 0
 unfolding settingsRefusal degreeAllowed depthAllowed modulusAllowed boundAllowed
 valid-settings S v =
-    zero-first _ _ (zero-unless 3 _ (degree-among (S .degree) (v .log) (v .degree-is) (v .log-least) (v .log-most)))
-    (zero-first _ _ (zero-unless 4 _ (le-leb _ _ (v .depth-most)))
-    (zero-first _ _ (zero-unless 5 _ (and-intro (and-intro (eq-eqb _ _ (v .modulus-odd)) (le-leb _ _ (v .modulus-least))) (le-leb _ _ (v .modulus-most))))
-    (zero-first _ _ (zero-unless 6 _ (and-intro (le-leb _ _ (v .bound-least)) (le-leb _ _ (v .bound-most)))) first-nothing)))
+    passed-all ((2, _) ∷ (3, _) ∷ (4, _) ∷ (5, _) ∷ []) (
+      degree-among (S .degree) (v .log) (v .degree-is) (v .log-least) (v .log-most),
+      (
+        le-leb _ _ (v .depth-most),
+        (
+          and-intro (and-intro (eq-eqb _ _ (v .modulus-odd)) (le-leb _ _ (v .modulus-least))) (le-leb _ _ (v .modulus-most)),
+          (and-intro (le-leb _ _ (v .bound-least)) (le-leb _ _ (v .bound-most)), tt),
+        ),
+      ),
+    )
 
 -- ---- tables: the length of refusal 7 with the range of refusal 8, 9 or 10
 

@@ -12,6 +12,8 @@
 --   first l        the first of the numbers l that is not 0; 0 where there is none
 --   unless N b     the refusal N where the test b fails, 0 where it passes
 --   granted N x y  x where the refusal N is 0, else y
+--   Tested x N b r  the refusal is r where it was x before the test b, whose number is N
+use mathlib.Core.Path.{_≡_}
 use mathlib.Core.Bool.{Bool, true, false, _&&_, _||_}
 use mathlib.Core.List.{List, [], _∷_}
 use Prim.Native.Nat.{ℕ, zero, suc, _*_, _/_, _%_}
@@ -64,3 +66,7 @@ unless number false = number
 unfoldable pub granted {ℓ} : {A : Type ℓ} → ℕ → A → A → A
 granted zero x y = x
 granted (suc n) x y = y
+
+-- one test more: what was refused before it stands, and otherwise the test decides
+pub record Tested (x number : ℕ) (b : Bool) (r : ℕ) : Type 0 where
+  pub is : r ≡ first (x ∷ unless number b ∷ [])

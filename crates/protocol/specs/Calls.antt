@@ -11,9 +11,9 @@
 --   checkRefusal, checkAnswer                            the check of a transcript
 --   openingNumber, checkNumber                           the number of the verdict of these two
 --   judgeRefusal, judgeAnswer                            the judge
---   extractRefusal, extractExit                          the extractor
+--   treeRefusal, extractRefusal, extractExit             the extractor; treeRefusal is what is tested before the verifier runs
 use mathlib.Core.Bool.{Bool, true, false, _&&_}
-use mathlib.Core.List.{List, [], _∷_}
+use mathlib.Core.List.{List, [], _∷_, _++_}
 use Prim.Native.Nat.{ℕ, _*_, _^_}
 use lib.Dec.{leb, ltb, eqb}
 use lib.ListN.{take}
@@ -29,10 +29,11 @@ use Rattle.protocol.specs.declared.Judged.{Judged}
 use Rattle.protocol.specs.Basic.{every, tabulate, first, unless, granted}
 use Rattle.protocol.specs.Element.{width, zeros, signedZeros, padded, paddedSigned}
 use Rattle.protocol.specs.Settings.{settingsRefusal, cells, sized, residues, residueElement, small, exponent, exponents}
-use Rattle.protocol.specs.Opening.{commitment, left, roundElement, foldMessage, foldKey, messageAfter, keyAfter, finalElement, roundTable}
+use Rattle.protocol.specs.Layout.{leftCells, roundCells, nodes, leaves, treeRoundCells, treeChallenges, leafCells}
+use Rattle.protocol.specs.Opening.{commitment, roundElement, foldMessage, foldKey, messageAfter, keyAfter, finalElement, roundTable}
 use Rattle.protocol.specs.Transcript.{accepted, transcriptOf}
 use Rattle.protocol.specs.Session.{verdict, endNumber}
-use Rattle.protocol.specs.Tree.{nodes, leaves, path, apart, rootVector, grows}
+use Rattle.protocol.specs.Tree.{path, apart, rootVector, grows}
 use Rattle.protocol.specs.Judge.{slackAllowed, judged}
 
 -- ---- 1 commit
@@ -56,7 +57,7 @@ commitAnswer S key message = record {
 
 -- "what is left is n/2^t elements, whose message coefficients must lie within ±2^t·B"
 unfoldable pub leftSmall : Settings → ℕ → List ℤ → Bool
-leftSmall S t message = small (2 ^ t * S .bound) (take (left S t * S .degree) message)
+leftSmall S t message = small (2 ^ t * S .bound) (take (leftCells S t) message)
 
 -- "refusal 9 is not tested with t over L, nor in a round or fold with t at L"
 unfoldable pub movingSmall : Settings → ℕ → List ℤ → Bool
@@ -132,7 +133,7 @@ unfoldable pub openingRefusal : Settings → List ℕ → List ℤ → List ℕ 
 openingRefusal S key message E rounds =
     first
     (settingsRefusal S
-    ∷ unless 7 (sized (cells S) key && sized (cells S) message && sized (S .depth) E && sized (3 * S .depth * S .degree) rounds)
+    ∷ unless 7 (sized (cells S) key && sized (cells S) message && sized (S .depth) E && sized (roundCells S) rounds)
     ∷ unless 8 (residues S key)
     ∷ unless 9 (small (S .bound) message)
     ∷ unless 10 (exponents S E)
@@ -169,7 +170,7 @@ unfoldable pub checkRefusal : Settings → List ℕ → List ℕ → List ℕ �
 checkRefusal S C key rounds E =
     first
     (settingsRefusal S
-    ∷ unless 7 (sized (cells S) key && sized (3 * S .depth * S .degree) rounds && sized (S .depth) E)
+    ∷ unless 7 (sized (cells S) key && sized (roundCells S) rounds && sized (S .depth) E)
     ∷ unless 8 (residues S key && residueElement S C && residues S rounds)
     ∷ unless 10 (exponents S E)
     ∷ [])
@@ -208,15 +209,24 @@ judgeAnswer S C c key w = record {
 unfoldable pub everyPath : Settings → List ℕ → List ℕ → List ℕ → List ℕ → List ℤ → Bool
 everyPath S C key rounds E finals = every (leaves S) (λ j. accepted S key (path S C rounds E finals j))
 
-unfoldable pub extractRefusal : Settings → List ℕ → List ℕ → List ℕ → List ℕ → List ℤ → List ℤ → ℕ
-extractRefusal S C key rounds E finals w =
-    first
-    (settingsRefusal S
-    ∷ unless 7 (sized (cells S) key && sized (3 * nodes S * S .degree) rounds && sized (3 * nodes S) E && sized (leaves S * S .degree) finals && sized (cells S) w)
+-- what is tested before the verifier runs
+abbrev pub treeTests : Settings → List ℕ → List ℕ → List ℕ → List ℕ → List ℤ → List ℤ → List ℕ
+treeTests S C key rounds E finals w =
+    settingsRefusal S
+    ∷ unless 7 (sized (cells S) key && sized (treeRoundCells S) rounds && sized (treeChallenges S) E && sized (leafCells S) finals && sized (cells S) w)
     ∷ unless 8 (residues S key && residueElement S C && residues S rounds)
     ∷ unless 10 (exponents S E)
     ∷ unless 12 (every (nodes S) (apart E))
-    ∷ unless 13 (everyPath S C key rounds E finals)
+    ∷ []
+
+unfoldable pub treeRefusal : Settings → List ℕ → List ℕ → List ℕ → List ℕ → List ℤ → List ℤ → ℕ
+treeRefusal S C key rounds E finals w = first (treeTests S C key rounds E finals w)
+
+unfoldable pub extractRefusal : Settings → List ℕ → List ℕ → List ℕ → List ℕ → List ℤ → List ℤ → ℕ
+extractRefusal S C key rounds E finals w =
+    first
+    (treeTests S C key rounds E finals w
+    ++ unless 13 (everyPath S C key rounds E finals)
     ∷ unless 14 (grows S)
     ∷ [])
 

@@ -1,4 +1,5 @@
 pub mod Basic
+pub mod Layout
 pub mod Element
 pub mod Settings
 pub mod Opening

@@ -6,7 +6,7 @@
 --   cross d h m G j            ⟨m0,G0⟩, ⟨m0,G1⟩ + ⟨m1,G0⟩, ⟨m1,G1⟩ for j = 0, 1, 2, the halves having h elements
 --   foldSigned, foldResidues   a table after a fold by X^e, the halves having h elements
 --   commitment S key message   the commitment
---   left S t, halfLeft S t     how many elements are left after t rounds, and how many a half of them has
+--   left S t, halfLeft S t     passed on from Layout
 --   roundElement S t .. j      c_j of round t + 1
 --   foldMessage, foldKey       a table after the fold of round t + 1
 --   messageAfter, keyAfter     a table after t folds by the first t of the challenges E
@@ -20,6 +20,8 @@ use Rattle.protocol.specs.declared.Settings.{Settings}
 use Rattle.protocol.specs.Basic.{sum, flat}
 use Rattle.protocol.specs.Element.{Element, modulo, rotate, product, plus, times, signedAt, residueAt, coefficients, reduced}
 use Rattle.protocol.specs.Settings.{size, half}
+use Rattle.protocol.specs.Layout.{roundItems}
+unfoldable pub use Rattle.protocol.specs.Layout.{left, halfLeft}
 
 -- the sum of m_i·G_i over i from 0 to h − 1, over whole numbers
 unfoldable pub inner : ℕ → ℕ → (ℕ → Element) → (ℕ → Element) → Element
@@ -48,23 +50,15 @@ module _ (S : Settings) where
   unfoldable pub commitment : List ℕ → List ℤ → List ℕ
   commitment key message = reduced q d (inner d (size S) (signedAt d message) (residueAt d key))
 
-  -- "what is left is n/2^t elements"
-  unfoldable pub left : ℕ → ℕ
-  left t = size S / 2 ^ t
-
-  -- "works on the first half and the second half of what is left"
-  unfoldable pub halfLeft : ℕ → ℕ
-  halfLeft t = size S / 2 ^ (t + 1)
-
   -- "c0 = half^i·⟨m0,G0⟩, c1 = half^i·(⟨m0,G1⟩+⟨m1,G0⟩), c2 = half^i·⟨m1,G1⟩", i = t + 1
   unfoldable pub roundElement : ℕ → List ℕ → List ℤ → ℕ → List ℕ
-  roundElement t key message j = reduced q d (times (pos (half S ^ (t + 1))) (cross d (halfLeft t) (signedAt d message) (residueAt d key) j))
+  roundElement t key message j = reduced q d (times (pos (half S ^ (t + 1))) (cross d (halfLeft S t) (signedAt d message) (residueAt d key) j))
 
   unfoldable pub foldMessage : ℕ → ℕ → List ℤ → List ℤ
-  foldMessage t e message = foldSigned d (halfLeft t) e message
+  foldMessage t e message = foldSigned d (halfLeft S t) e message
 
   unfoldable pub foldKey : ℕ → ℕ → List ℕ → List ℕ
-  foldKey t e key = foldResidues q d (halfLeft t) e key
+  foldKey t e key = foldResidues q d (halfLeft S t) e key
 
   unfoldable pub messageAfter : List ℕ → ℕ → List ℤ → List ℤ
   messageAfter E zero message = message
@@ -80,4 +74,4 @@ module _ (S : Settings) where
 
   -- "item 3(i−1)+j is c_j of round i"
   unfoldable pub roundTable : List ℕ → List ℕ → List ℤ → List ℕ
-  roundTable E key message = flat d (3 * L) (λ i k. getD (roundElement (i / 3) (keyAfter E (i / 3) key) (messageAfter E (i / 3) message) (i % 3)) k 0)
+  roundTable E key message = flat d (roundItems S) (λ i k. getD (roundElement (i / 3) (keyAfter E (i / 3) key) (messageAfter E (i / 3) message) (i % 3)) k 0)

@@ -2,7 +2,7 @@
 --
 --   degreeAllowed S .. boundAllowed S   is d, L, q, B allowed
 --   settingsRefusal S                   refusals 3 to 6
---   size S, cells S                     n = 2^L elements, and n·d numbers, in a table
+--   size S, cells S                     passed on from Layout
 --   half S                              the inverse of 2 modulo q
 --   sized n t                           has the table t exactly n entries (refusal 7)
 --   residues S t, residueElement S a    are the numbers of a table, of an element by value, residues (refusal 8)
@@ -16,6 +16,8 @@ use lib.ListN.{length, getD}
 use lib.IntN.{ℤ}
 use Rattle.protocol.specs.declared.Settings.{Settings}
 use Rattle.protocol.specs.Basic.{every, all, among, within, first, unless}
+use Rattle.protocol.specs.Layout.{exponentCount}
+unfoldable pub use Rattle.protocol.specs.Layout.{size, cells}
 
 -- "Degree d is 2, 4, 8, 16, 32 or 64."
 unfoldable pub degreeAllowed : Settings → Bool
@@ -35,13 +37,6 @@ boundAllowed S = leb 1 (S .bound) && leb (S .bound) 127
 
 unfoldable pub settingsRefusal : Settings → ℕ
 settingsRefusal S = first (unless 3 (degreeAllowed S) ∷ unless 4 (depthAllowed S) ∷ unless 5 (modulusAllowed S) ∷ unless 6 (boundAllowed S) ∷ [])
-
--- "n = 2^L elements make a table"
-unfoldable pub size : Settings → ℕ
-size S = 2 ^ S .depth
-
-unfoldable pub cells : Settings → ℕ
-cells S = size S * S .degree
 
 -- "Half" is the inverse of 2 modulo q, (q+1)/2.
 unfoldable pub half : Settings → ℕ
@@ -64,7 +59,7 @@ small b t = all (within b) t
 
 -- "A challenge is an exponent e from 0 to 2d−1"
 unfoldable pub exponent : Settings → ℕ → Bool
-exponent S e = ltb e (2 * S .degree)
+exponent S e = ltb e (exponentCount S)
 
 unfoldable pub exponents : Settings → List ℕ → Bool
 exponents S t = all (exponent S) t

@@ -24,6 +24,7 @@ use Rattle.protocol.specs.declared.Settings.{Settings}
 use Rattle.protocol.specs.Basic.{every, least, within}
 use Rattle.protocol.specs.Element.{Element, modulo, rotate, product, reduced, signed, residueAt}
 use Rattle.protocol.specs.Settings.{size, half}
+use Rattle.protocol.specs.Layout.{itemOf}
 use Rattle.protocol.specs.Opening.{keyAfter, commitment, roundTable, messageAfter, finalElement}
 
 -- "A transcript is commitment, round elements, challenges and final element."
@@ -73,7 +74,7 @@ module _ (S : Settings) where
   endHolds key E claim f = every d (λ k. eqb (getD claim k 0) (ending key E f k))
 
   unfoldable pub element : Transcript → ℕ → ℕ → Element
-  element T t j = residueAt d (T .rounds) (3 * t + j)
+  element T t j = residueAt d (T .rounds) (itemOf t j)
 
   -- "with the claim started at that commitment"
   unfoldable pub claimAfter : Transcript → ℕ → List ℕ

@@ -12,7 +12,7 @@
 --   share d m v i               element i of μ·v
 --   combined d n ..             a node's vector from its three children's, of n elements each
 --   growthFactor, growthLimit   12·d², 2^62
---   nodes S, leaves S           N, and 3^L
+--   nodes S, leaves S           passed on from Layout
 --   onPath S j t                the node that the path to leaf j meets after t steps
 --   path S ..                   the path to leaf j, a transcript
 --   leaf S finals j             the final element of leaf j; foldTo S E j m: what L folds of m by its path's challenges give
@@ -28,6 +28,8 @@ use lib.IntN.{ℤ, pos, negsuc, _+ℤ_, natAbs}
 use Rattle.protocol.specs.declared.Settings.{Settings}
 use Rattle.protocol.specs.Basic.{sum, least, tabulate, flat}
 use Rattle.protocol.specs.Element.{Element, one, power, rotate, product, plus, times, signed, signedAt, coefficients}
+use Rattle.protocol.specs.Layout.{itemOf, roundItems}
+unfoldable pub use Rattle.protocol.specs.Layout.{nodes, leaves}
 use Rattle.protocol.specs.Opening.{messageAfter, finalElement}
 use Rattle.protocol.specs.Transcript.{Transcript}
 
@@ -48,7 +50,7 @@ above zero k = k
 above (suc h) k = parent (above h k)
 
 unfoldable pub challenge : List ℕ → ℕ → ℕ → ℕ
-challenge E k j = getD E (3 * k + j) 0
+challenge E k j = getD E (itemOf k j) 0
 
 -- "Of node k's challenges the first leads to 3k+1, the second to 3k+2, the third to 3k+3."
 unfoldable pub challengeTo : List ℕ → ℕ → ℕ
@@ -119,22 +121,15 @@ growthLimit = 2 ^ 62
 module _ (S : Settings) where
   open Settings S using (degree as d, depth as L, bound as B)
 
-  -- "There are N = (3^L−1)/2 branching nodes"
-  unfoldable pub nodes : ℕ
-  nodes = (3 ^ L - 1) / 2
-
-  unfoldable pub leaves : ℕ
-  leaves = 3 ^ L
-
   -- "number N+j is leaf j"
   unfoldable pub onPath : ℕ → ℕ → ℕ
-  onPath j t = above (L - t) (nodes + j)
+  onPath j t = above (L - t) (nodes S + j)
 
   unfoldable pub pathChallenges : List ℕ → ℕ → List ℕ
   pathChallenges E j = tabulate L (λ t. challengeTo E (onPath j (suc t)))
 
   unfoldable pub pathRounds : List ℕ → ℕ → List ℕ
-  pathRounds rounds j = flat d (3 * L) (λ i k. getD rounds ((3 * onPath j (i / 3) + i % 3) * d + k) 0)
+  pathRounds rounds j = flat d (roundItems S) (λ i k. getD rounds (itemOf (onPath j (i / 3)) (i % 3) * d + k) 0)
 
   unfoldable pub leaf : List ℤ → ℕ → List ℤ
   leaf finals j = coefficients d (signedAt d finals j)
@@ -149,7 +144,7 @@ module _ (S : Settings) where
 
   -- "It is worked out node by node down the tree, with a depth that falls. A leaf's vector is its final element."
   unfoldable pub vector : List ℕ → List ℤ → ℕ → ℕ → List ℤ
-  vector E finals zero k = leaf finals (k - nodes)
+  vector E finals zero k = leaf finals (k - nodes S)
   vector E finals (suc h) k =
       combined d (2 ^ h) (challenge E k 0) (challenge E k 1) (challenge E k 2)
       (vector E finals h (child k 0)) (vector E finals h (child k 1)) (vector E finals h (child k 2))

@@ -17,7 +17,7 @@ ghost use Rattle.protocol.specs.Promises.{Folded};
 pub fn commit(settings: Settings, key: &[u32], message: &[i32]) -> Committed
     ensures { λ r. ⌜ r ≡ commitAnswer settings (now (key .entry)) (now (message .entry)) ⌝ }
 {
-    let number = refusals::commit(settings, key, message);
+    let number = refusals::prover::commit(settings, key, message);
     if number != 0 {
         return Committed {
             number: number,
@@ -54,7 +54,7 @@ pub fn elements_of(answer: Polynomial) -> [[u32; 64]; 3]
 pub fn round(settings: Settings, done: u32, key: &[u32], message: &[i32]) -> Polynomial
     ensures { λ r. ⌜ r ≡ roundAnswer settings done (now (key .entry)) (now (message .entry)) ⌝ }
 {
-    let number = refusals::round(settings, done, key, message);
+    let number = refusals::prover::round(settings, done, key, message);
     if number != 0 {
         let none = [0u32; 64];
         return polynomial_of(number, [none, none, none]);
@@ -71,7 +71,7 @@ pub fn round(settings: Settings, done: u32, key: &[u32], message: &[i32]) -> Pol
 pub fn fold(settings: Settings, done: u32, e: u32, key: &mut [u32], message: &mut [i32]) -> u32
     ensures { λ r. ⌜ Folded settings done e (now (key .entry)) (now (message .entry)) r (now (key .exit)) (now (message .exit)) ⌝ }
 {
-    let number = refusals::fold(settings, done, e, key, message);
+    let number = refusals::prover::fold(settings, done, e, key, message);
     if number != 0 {
         return number;
     }
@@ -86,7 +86,7 @@ pub fn fold(settings: Settings, done: u32, e: u32, key: &mut [u32], message: &mu
 pub fn end(settings: Settings, done: u32, message: &[i32]) -> Ended
     ensures { λ r. ⌜ r ≡ endAnswer settings done (now (message .entry)) ⌝ }
 {
-    let number = refusals::end(settings, done, message);
+    let number = refusals::prover::end(settings, done, message);
     if number != 0 {
         return Ended {
             number: number,

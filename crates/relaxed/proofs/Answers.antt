@@ -1,7 +1,7 @@
 -- The judge's answer: with a refusal, and without one.
 use mathlib.Core.Path.{_≡_, sym, ap, _∙_}
 use mathlib.Core.Bool.{Bool, true, false, _&&_}
-use mathlib.Core.List.{List}
+use mathlib.Core.List.{List, [], _∷_}
 use Prim.Native.Nat.{ℕ}
 use native.Mathlib.Nat as Nat
 use native.Mathlib.Omega.{arith}
@@ -15,8 +15,8 @@ use Rattle.protocol.specs.Tree.{growthFactor, growthLimit, growth, grows}
 use Rattle.protocol.specs.Judge.{opens, judged}
 use Rattle.protocol.specs.Calls.{judgeRefusal, judgeAnswer}
 use Rattle.protocol.proofs.Inputs.{settings-valid}
-use Rattle.protocol.proofs.Tests.{and-split, first-zero, unless-zero, granted-zero, granted-refused}
-use Rattle.protocol.proofs.Refusals.{and-fails-right}
+use Rattle.protocol.proofs.Tests.{and-split, granted-zero, granted-refused}
+use Rattle.protocol.proofs.Refusals.{none-refused, and-fails-right}
 use Rattle.claims.specs.GrowthTest.{cappedGrowth}
 use Rattle.claims.proofs.GrowthTest.{power-exact}
 use Rattle.sizes.proofs.Limits.{degree-least}
@@ -38,12 +38,9 @@ module _ (S : Settings) (C : List ℕ) (c : ℕ) (key : List ℕ) (w : List ℤ)
   pub judge-given : judgeRefusal S C c key w ≡ 0 → JudgeGiven S key w
   unfolding judgeRefusal sized
   judge-given e =
-      let (r6, e7) = first-zero _ _ e in
-      let (r7, e8) = first-zero _ _ e7 in
-      let (r8, e14) = first-zero _ _ e8 in
-      let (r14, e15) = first-zero _ _ e14 in
-      let (k, v) = and-split (unless-zero 6 (sized (cells S) key && sized (cells S) w) r7) in
-      record { allowed = r6; key-long = eqb-true _ _ k; w-long = eqb-true _ _ v; limited = unless-zero 13 _ r14 }
+      let (r6, (t7, (_, (t14, _)))) = none-refused ((6, _) ∷ (7, _) ∷ (13, _) ∷ (14, _) ∷ []) e in
+      let (k, v) = and-split t7 in
+      record { allowed = r6; key-long = eqb-true _ _ k; w-long = eqb-true _ _ v; limited = t14 }
 
   pub judge-refused : (n : ℕ) → n ≡ judgeRefusal S C c key w → (n ≡ 0 → ⊥) → _≡_ {A = Judged} (record { number = n; yes = false }) (judgeAnswer S C c key w)
   unfolding judgeAnswer

@@ -1,17 +1,17 @@
-// How many numbers a table has, and how many of them are left after t rounds. Each function is safe for every input, and says what it gives
-// for settings that are allowed.
+// The layout in code: how many elements, numbers, challenges and nodes there are, how many of them are left after t rounds, and how large numbers become.
+// Each function is safe for every input, and says what it gives for settings that are allowed.
 use protocol::Settings;
 ghost use mathlib.Core.Path.{_≡_};
 ghost use Prim.Native.Nat.{_*_, _^_, _<_, _≤_};
-ghost use Rattle.protocol.specs.Settings as of;
+ghost use Rattle.protocol.specs.Layout as layout;
+ghost use Rattle.protocol.specs.Layout.{leftCells, halfLeft, roundCells, itemOf, polynomialAt, treeChallenges, treeRoundCells, leafCells, exponentCount};
 ghost use Rattle.protocol.specs.Settings.{settingsRefusal};
-ghost use Rattle.protocol.specs.Opening as opening;
-ghost use Rattle.protocol.specs.Opening.{halfLeft};
-ghost use Rattle.protocol.specs.Tree as tree;
+ghost use Rattle.protocol.specs.Tree.{growthLimit};
+ghost use Rattle.claims.specs.GrowthTest.{cappedTimes, cappedGrowth};
 
 // The elements that are left, n/2^t, and those of a half of them.
 pub fn left(settings: Settings, t: u32) -> u32
-    ensures { λ r. ⌜ (settingsRefusal settings ≡ 0 → t ≤ settings .depth → r ≡ opening.left settings t) ⌝ }
+    ensures { λ r. ⌜ (settingsRefusal settings ≡ 0 → t ≤ settings .depth → r ≡ layout.left settings t) ⌝ }
 {
     if settings.depth > 8 {
         return 0;
@@ -33,14 +33,14 @@ pub fn half_left(settings: Settings, t: u32) -> u32
 
 // The numbers of a key or a message: n elements of d.
 pub fn cells(settings: Settings) -> usize
-    ensures { λ r. ⌜ (settingsRefusal settings ≡ 0 → r ≡ of.cells settings) ⌝ }
+    ensures { λ r. ⌜ (settingsRefusal settings ≡ 0 → r ≡ layout.cells settings) ⌝ }
 {
     left_cells(settings, 0)
 }
 
 // The numbers of the elements that are left.
 pub fn left_cells(settings: Settings, t: u32) -> usize
-    ensures { λ r. ⌜ (settingsRefusal settings ≡ 0 → t ≤ settings .depth → r ≡ opening.left settings t * settings .degree) ⌝ }
+    ensures { λ r. ⌜ (settingsRefusal settings ≡ 0 → t ≤ settings .depth → r ≡ leftCells settings t) ⌝ }
 {
     (left(settings, t) as usize) * (settings.degree as usize)
 }
@@ -60,7 +60,7 @@ pub fn left_bound(settings: Settings, t: u32) -> u32
 
 // The leaves of a full tree, 3^L, and its branching nodes.
 pub fn leaves(settings: Settings) -> usize
-    ensures { λ r. ⌜ ((settingsRefusal settings ≡ 0 → r ≡ tree.leaves settings) × (1 ≤ r) × (r ≤ 6561)) ⌝ }
+    ensures { λ r. ⌜ ((settingsRefusal settings ≡ 0 → r ≡ layout.leaves settings) × (1 ≤ r) × (r ≤ 6561)) ⌝ }
 {
     let depth = settings.depth;
     if depth > 8 {
@@ -74,7 +74,102 @@ pub fn leaves(settings: Settings) -> usize
 }
 
 pub fn nodes(settings: Settings) -> usize
-    ensures { λ r. ⌜ ((settingsRefusal settings ≡ 0 → r ≡ tree.nodes settings) × (r ≤ 3280)) ⌝ }
+    ensures { λ r. ⌜ ((settingsRefusal settings ≡ 0 → r ≡ layout.nodes settings) × (r ≤ 3280)) ⌝ }
 {
     (leaves(settings) - 1) / 2
+}
+
+// The exponents that a challenge may be: 2·d.
+pub fn exponent_count(settings: Settings) -> u32
+    ensures { λ r. ⌜ (settingsRefusal settings ≡ 0 → r ≡ exponentCount settings) ⌝ }
+{
+    if settings.degree > 64 {
+        return 0;
+    }
+    2 * settings.degree
+}
+
+// The numbers of a transcript's round polynomials: 3·L elements of d.
+pub fn round_cells(settings: Settings) -> usize
+    ensures { λ r. ⌜ (settingsRefusal settings ≡ 0 → r ≡ roundCells settings) ⌝ }
+{
+    if settings.depth > 8 {
+        return 0;
+    }
+    3 * (settings.depth as usize) * (settings.degree as usize)
+}
+
+// The item of c_j of round k + 1 or of node k, and of challenge j of node k. No tree has more than 3,280 branching nodes.
+pub fn item_of(k: u32, j: u32) -> u32
+    ensures { λ r. ⌜ (k ≤ 3280 → j < 3 → r ≡ itemOf k j) ⌝ }
+{
+    if k > 3280 {
+        return 0;
+    }
+    if j > 2 {
+        return 0;
+    }
+    3 * k + j
+}
+
+// Where the polynomial of round k + 1, or of node k, begins.
+pub fn polynomial_at(d: u32, k: u32) -> usize
+    ensures { λ r. ⌜ ((d ≤ 64 → k ≤ 3280 → r ≡ polynomialAt d k) × (r ≤ 629760)) ⌝ }
+{
+    if d > 64 {
+        return 0;
+    }
+    if k > 3280 {
+        return 0;
+    }
+    3 * (k as usize) * (d as usize)
+}
+
+// The challenges of a tree, three to a branching node, and the numbers of its round polynomials and of its leaves.
+pub fn tree_challenges(settings: Settings) -> usize
+    ensures { λ r. ⌜ ((settingsRefusal settings ≡ 0 → r ≡ treeChallenges settings) × (r ≤ 9840)) ⌝ }
+{
+    3 * nodes(settings)
+}
+
+pub fn tree_round_cells(settings: Settings) -> usize
+    ensures { λ r. ⌜ (settingsRefusal settings ≡ 0 → r ≡ treeRoundCells settings) ⌝ }
+{
+    tree_challenges(settings) * (settings.degree as usize)
+}
+
+pub fn leaf_cells(settings: Settings) -> usize
+    ensures { λ r. ⌜ (settingsRefusal settings ≡ 0 → r ≡ leafCells settings) ⌝ }
+{
+    leaves(settings) * (settings.degree as usize)
+}
+
+// One factor more, held at one past 2^62.
+fn capped_times(factor: u64, g: u64) -> u64
+    requires { ⌜ 0 < factor ⌝ }
+    ensures { λ r. ⌜ r ≡ cappedTimes growthLimit factor g ⌝ }
+{
+    if g > 4611686018427387904 / factor {
+        return 4611686018427387905;
+    }
+    g * factor
+}
+
+// (12·d²)^L·B, held at one past 2^62 as soon as it is past it.
+pub fn growth(settings: Settings) -> u64
+    ensures { λ r. ⌜ (settingsRefusal settings ≡ 0 → r ≡ cappedGrowth settings) ⌝ }
+{
+    let d = settings.degree as u64;
+    if d == 0 {
+        return 0;
+    }
+    if d > 64 {
+        return 0;
+    }
+    let factor = 12 * d * d;
+    let mut g = settings.bound as u64;
+    for i in 0..settings.depth {
+        g = capped_times(factor, g);
+    }
+    g
 }

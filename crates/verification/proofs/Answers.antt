@@ -1,10 +1,9 @@
 -- The answer of the check of a transcript, and what is known where nothing is refused.
 use mathlib.Core.Path.{_≡_, sym, ap, _∙_}
 use mathlib.Core.Bool.{true, false, _&&_}
-use mathlib.Core.List.{List}
-use Prim.Native.Nat.{ℕ, _*_}
+use mathlib.Core.List.{List, [], _∷_}
+use Prim.Native.Nat.{ℕ}
 use borrow.Author.Tests.{eqb-true}
-use lib.Dec.{eqb}
 use lib.IntN.{ℤ}
 use lib.ListN.{length}
 use Rattle.protocol.specs.declared.Settings.{Settings}
@@ -17,7 +16,8 @@ use Rattle.protocol.specs.Transcript.{accepted}
 use Rattle.protocol.specs.Session.{verdict, verdictNumber}
 use Rattle.protocol.specs.Calls.{checkRefusal, checkAnswer, checkNumber}
 use Rattle.protocol.proofs.Answers.{check-number}
-use Rattle.protocol.proofs.Tests.{and-split, first-zero, unless-zero, granted-zero, granted-refused}
+use Rattle.protocol.proofs.Tests.{and-split, granted-zero, granted-refused}
+use Rattle.protocol.proofs.Refusals.{none-refused}
 use Rattle.verification.specs.Replays.{Given}
 use Rattle.verification.proofs.Replaying.{whole}
 
@@ -29,10 +29,9 @@ module _ (S : Settings) (C key rounds E : List ℕ) where
   pub passed : checkRefusal S C key rounds E ≡ 0 → Passed
   unfolding checkRefusal sized
   passed e =
-      let (settings, more) = first-zero _ _ e in
-      let (sizes, _) = first-zero _ _ more in
-      let (left, challenges) = and-split {a = eqb (length key) (cells S) && eqb (length rounds) (3 * S .depth * S .degree)} (unless-zero 6 _ sizes) in
-      let (keys, elements) = and-split {a = eqb (length key) (cells S)} left in
+      let (settings, (sizes, _)) = none-refused ((6, _) ∷ (7, _) ∷ (9, _) ∷ []) e in
+      let (left, challenges) = and-split sizes in
+      let (keys, elements) = and-split left in
       record { tables = record { settings = settings; rounds-long = eqb-true _ _ elements; challenges-long = eqb-true _ _ challenges }; key-long = eqb-true _ _ keys }
 
   module _ (f : List ℤ) where

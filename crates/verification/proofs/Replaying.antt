@@ -2,13 +2,14 @@
 use mathlib.Core.Path.{_≡_, refl, sym, ap, ap₂, _∙_}
 use mathlib.Core.Bool.{_&&_}
 use mathlib.Core.List.{List}
-use Prim.Native.Nat.{ℕ, zero, suc, _+_, _*_, _<_}
+use Prim.Native.Nat.{ℕ, zero, suc, _<_}
 use native.Mathlib.Omega.{arith}
 use lib.Dec.{eqb}
 use lib.IntN.{ℤ}
 use lib.ListN.{length, getD, List·getD-append}
 use Rattle.protocol.specs.declared.Settings.{Settings}
 use Rattle.protocol.specs.Basic.{every}
+use Rattle.protocol.specs.Layout.{itemOf}
 use Rattle.protocol.specs.Element.{Element, residue, residueAt, padded, reduced, signed}
 use Rattle.protocol.specs.Transcript.{Transcript, roundHolds, nextClaim, finalBounded, ending, endHolds, element, claimAfter, holdsAt, closes, accepted}
 use Rattle.protocol.proofs.Reading.{tabulate-length}
@@ -31,17 +32,14 @@ module _ (S : Settings) (C rounds E : List ℕ) where
   abbrev T : Transcript
   T = bare C rounds E
 
-  element-same : (t j : ℕ) → Same d (residue (elementAt d rounds (3 * t + j))) (element S T t j)
+  element-same : (t j : ℕ) → Same d (residue (elementAt d rounds (itemOf t j))) (element S T t j)
   unfolding element bare
-  element-same t j k l = element-residue d rounds (3 * t + j) k l
+  element-same t j k l = element-residue d rounds (itemOf t j) k l
 
-  first-same : (t : ℕ) → Same d (residue (elementAt d rounds (3 * t))) (element S T t 0)
-  first-same t k l = ap (λ i. residue (elementAt d rounds i) k) {y = 3 * t + 0} (omega arith) ∙ element-same t 0 k l
-
-  pub claim-next : (t : ℕ) → padded d (nextClaim S (getD E t 0) (residue (elementAt d rounds (3 * t))) (residue (elementAt d rounds (3 * t + 1))) (residue (elementAt d rounds (3 * t + 2))))
+  pub claim-next : (t : ℕ) → padded d (nextClaim S (getD E t 0) (residue (elementAt d rounds (itemOf t 0))) (residue (elementAt d rounds (itemOf t 1))) (residue (elementAt d rounds (itemOf t 2))))
       ≡ claimAt S C rounds E (suc t)
   unfolding claimAt
-  claim-next t = ap (padded d) (claim-same S (first-same t) (element-same t 1) (element-same t 2) (getD E t 0))
+  claim-next t = ap (padded d) (claim-same S (element-same t 0) (element-same t 1) (element-same t 2) (getD E t 0))
 
   -- only the first d places of a claim count
   claim-alike : (t k : ℕ) → k < d → getD (claimAt S C rounds E t) k 0 ≡ getD (claimAfter S T t) k 0
@@ -49,9 +47,9 @@ module _ (S : Settings) (C rounds E : List ℕ) where
   claim-alike zero k l = refl
   claim-alike (suc t) k l = padded-front d _ k (omega (arith, claim-length S (getD E t 0) (element S T t 0) (element S T t 1) (element S T t 2)))
 
-  pub round-is : (t : ℕ) → roundHolds S (claimAt S C rounds E t) (residue (elementAt d rounds (3 * t))) (residue (elementAt d rounds (3 * t + 2))) ≡ holdsAt S T t
+  pub round-is : (t : ℕ) → roundHolds S (claimAt S C rounds E t) (residue (elementAt d rounds (itemOf t 0))) (residue (elementAt d rounds (itemOf t 2))) ≡ holdsAt S T t
   unfolding holdsAt
-  round-is t = round-same S (first-same t) (element-same t 1) (element-same t 2) (claimAt S C rounds E t) (claimAfter S T t) (claim-alike t)
+  round-is t = round-same S (element-same t 0) (element-same t 1) (element-same t 2) (claimAt S C rounds E t) (claimAfter S T t) (claim-alike t)
 
 -- ---- the whole check
 
@@ -66,7 +64,7 @@ module _ (S : Settings) (C rounds E : List ℕ) (f : List ℤ) where
 
   round-free : (t : ℕ) → holdsAt S whole t ≡ holdsAt S (bare C rounds E) t
   unfolding holdsAt element bare
-  round-free t = ap (λ claim. roundHolds S claim (residueAt (S .degree) rounds (3 * t + 0)) (residueAt (S .degree) rounds (3 * t + 2))) (claim-free t)
+  round-free t = ap (λ claim. roundHolds S claim (residueAt (S .degree) rounds (itemOf t 0)) (residueAt (S .degree) rounds (itemOf t 2))) (claim-free t)
 
   end-same : (key claim claim′ : List ℕ) → ((k : ℕ) → k < S .degree → getD claim k 0 ≡ getD claim′ k 0) → endHolds S key E claim (signed f) ≡ endHolds S key E claim′ (signed f)
   unfolding endHolds

@@ -5,11 +5,12 @@
 --   Given S rounds E       the settings are allowed, and the rounds and challenges have their lengths
 use mathlib.Core.List.{List, []}
 use mathlib.Core.Path.{_≡_}
-use Prim.Native.Nat.{ℕ, zero, suc, _*_}
+use Prim.Native.Nat.{ℕ, zero, suc}
 use lib.ListN.{length, getD}
 use Rattle.protocol.specs.declared.Settings.{Settings}
 use Rattle.protocol.specs.Element.{padded}
 use Rattle.protocol.specs.Settings.{settingsRefusal}
+use Rattle.protocol.specs.Layout.{roundCells}
 use Rattle.protocol.specs.Transcript.{Transcript, nextClaim, element}
 
 unfoldable pub bare : List ℕ → List ℕ → List ℕ → Transcript
@@ -22,5 +23,5 @@ claimAt S C rounds E (suc t) =
 
 pub record Given (S : Settings) (rounds E : List ℕ) : Type 0 where
   pub settings : settingsRefusal S ≡ 0
-  pub rounds-long : length rounds ≡ 3 * S .depth * S .degree
+  pub rounds-long : length rounds ≡ roundCells S
   pub challenges-long : length E ≡ S .depth

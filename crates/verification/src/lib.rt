@@ -1,5 +1,4 @@
 // The check of a whole transcript.
-mod refusal;
 mod replay;
 
 use protocol::Checked;
@@ -21,7 +20,7 @@ pub fn check(
     ensures answer { λ r. ⌜ r ≡ checkAnswer settings commitment last (now (key .entry)) (now (rounds .entry)) (now (challenges .entry)) ⌝ }
     ensures verdict { λ r. ⌜ verdictNumber (r .verdict) ≡ checkNumber settings commitment last (now (key .entry)) (now (rounds .entry)) (now (challenges .entry)) ⌝ }
 {
-    let number = refusal::check(settings, commitment, key, rounds, challenges);
+    let number = refusals::transcript::check(settings, commitment, key, rounds, challenges);
     if number != 0 {
         return Checked {
             number: number,

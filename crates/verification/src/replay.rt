@@ -24,9 +24,9 @@ pub fn claim_at(
     }
     let d = settings.degree;
     let before = t - 1;
-    let c0 = elements::element_at(d, rounds, 3 * before);
-    let c1 = elements::element_at(d, rounds, 3 * before + 1);
-    let c2 = elements::element_at(d, rounds, 3 * before + 2);
+    let c0 = elements::element_at(d, rounds, sizes::item_of(before, 0));
+    let c1 = elements::element_at(d, rounds, sizes::item_of(before, 1));
+    let c2 = elements::element_at(d, rounds, sizes::item_of(before, 2));
     let e = challenges[before as usize];
     equations::next_claim(settings, e, c0, c1, c2)
 }
@@ -44,8 +44,8 @@ fn holds_at(
     ensures { λ r. ⌜ r ≡ holdsAt settings (bare commitment (now (rounds .entry)) (now (challenges .entry))) t ⌝ }
 {
     let claim = claim_at(settings, commitment, rounds, challenges, t);
-    let c0 = elements::element_at(settings.degree, rounds, 3 * t);
-    let c2 = elements::element_at(settings.degree, rounds, 3 * t + 2);
+    let c0 = elements::element_at(settings.degree, rounds, sizes::item_of(t, 0));
+    let c2 = elements::element_at(settings.degree, rounds, sizes::item_of(t, 2));
     equations::round_holds(settings, claim, c0, c2)
 }
 

@@ -1,7 +1,7 @@
 -- The session's moves: what is known of their inputs with no refusal, and their answers with one and without.
 use mathlib.Core.Path.{_≡_, sym, ap, _∙_}
 use mathlib.Core.Bool.{Bool, true, false}
-use mathlib.Core.List.{List}
+use mathlib.Core.List.{List, [], _∷_}
 use Prim.Native.Nat.{ℕ, _+_, _*_, _<_}
 use native.Mathlib.Omega.{arith}
 use native.Mathlib.Nat as Nat
@@ -19,7 +19,8 @@ use Rattle.protocol.specs.Settings.{settingsRefusal, cells, sized}
 use Rattle.protocol.specs.Transcript.{nextClaim}
 use Rattle.protocol.specs.Session.{slots, verdict, opened, blank, startRefusal, start, refusedMove, shut, part, moveRefusal, advanced, moveHolds, move, closeRefusal, closeHolds, close, verdictNumber, moveNumber, closeNumber}
 use Rattle.protocol.proofs.Answers.{move-number, close-number}
-use Rattle.protocol.proofs.Tests.{and-split, first-zero, unless-zero, granted-zero, granted-refused}
+use Rattle.protocol.proofs.Tests.{and-split, granted-zero, granted-refused}
+use Rattle.protocol.proofs.Refusals.{none-refused}
 use Rattle.protocol.proofs.Reading.{tabulate-ext}
 use Rattle.arithmetic.specs.Elements.{elementAt}
 use Rattle.verifier.specs.Records.{counted}
@@ -29,7 +30,7 @@ use Rattle.verifier.specs.Records.{counted}
 module _ (S : Settings) (C : List ℕ) where
   pub start-allowed : startRefusal S C ≡ 0 → settingsRefusal S ≡ 0
   unfolding startRefusal
-  start-allowed e = first-zero _ _ e .0
+  start-allowed e = none-refused ((7, _) ∷ []) e .0
 
   pub start-refused : (n : ℕ) (none : Session) → n ≡ startRefusal S C → (n ≡ 0 → ⊥) → none ≡ blank → _≡_ {A = Started} (record { number = n; next = none }) (start S C)
   unfolding start
@@ -58,11 +59,8 @@ module _ (r : Session) (p : List (List ℕ)) (e : ℕ) where
   pub round-given : moveRefusal r p e ≡ 0 → RoundGiven
   unfolding moveRefusal
   round-given z =
-      let (r6, e8) = first-zero _ _ z in
-      let (r8, e10) = first-zero _ _ e8 in
-      let (r10, e11) = first-zero _ _ e10 in
-      let (r11, rest) = first-zero _ _ e11 in
-      record { allowed = r6; turn = ltb-true _ _ (and-split (unless-zero 10 _ r11) .0) }
+      let (r6, (_, (_, (t11, _)))) = none-refused ((7, _) ∷ (9, _) ∷ (10, _) ∷ []) z in
+      record { allowed = r6; turn = ltb-true _ _ (and-split t11 .0) }
 
   pub round-refused : (n : ℕ) → n ≡ moveRefusal r p e → (n ≡ 0 → ⊥) → _≡_ {A = Moved} (record { number = n; verdict = Silent; next = r }) (move r p e)
   unfolding move refusedMove
@@ -95,9 +93,8 @@ module _ (r : Session) (f : List ℤ) (key : List ℕ) where
   pub end-given : closeRefusal r key ≡ 0 → EndGiven
   unfolding closeRefusal sized
   end-given z =
-      let (r6, e7) = first-zero _ _ z in
-      let (r7, e8) = first-zero _ _ e7 in
-      record { allowed = r6; key-long = eqb-true _ _ (unless-zero 6 _ r7) }
+      let (r6, (t7, _)) = none-refused ((6, _) ∷ (7, _) ∷ (9, _) ∷ (10, _) ∷ []) z in
+      record { allowed = r6; key-long = eqb-true _ _ t7 }
 
   pub end-refused : (n : ℕ) → n ≡ closeRefusal r key → (n ≡ 0 → ⊥) → _≡_ {A = Moved} (record { number = n; verdict = Silent; next = r }) (close r f key)
   unfolding close refusedMove

@@ -5,8 +5,8 @@ use borrow.Author.Needs.{needs}
 use Rattle.opening.proofs.open.Statement.{statement}
 use Rattle.opening.proofs.open.Tie as tie
 
-opening-requires : tie.Need-opening-requires
-opening-requires c κs = search needs
+open-requires : tie.Need-open-requires
+open-requires c κs = search needs
 
 same-length : tie.Need-same-length
 same-length c = search needs
@@ -19,7 +19,7 @@ same-length-3 c = search needs
 
 returns : tie.Need-returns
 unfolding zeros signedZeros width
-returns c = let a = c .before .before .before .before .before .before .before .before .args in opening-refused (a .settings) (a .key .now) (a .message .now) (a .challenges .now) (a .rounds .now) _ (c .before .opening .ensures) (c .if1 .taken)
+returns c = let a = c .before .before .before .before .before .before .before .before .args in opening-refused (a .settings) (a .key .now) (a .message .now) (a .challenges .now) (a .rounds .now) _ (c .before .open .ensures) (c .if1 .taken)
 
 commit-requires : tie.Need-commit-requires
 commit-requires c κs = search needs
@@ -46,14 +46,14 @@ returns-2 : tie.Need-returns-2
 returns-2 c =
     let a = c .before .before .before .before .before .before .before .before .before .before .before .before .before .before .before .before .before .before .before .before .before .before .before .before .before .args in
     let p = c .before .before .before .before .before .before .before .before .before in
-    opening-done (a .settings) (a .key .now) (a .message .now) (a .challenges .now) (a .rounds .now) (sym (c .before .before .before .before .before .before .before .before .before .before .before .before .before .before .before .before .before .before .opening .ensures) ∙ c .before .before .before .before .before .before .before .before .before .before .before .before .before .before .before .before .before .if1 .left) _ _ _ (p .prover-turn .result) _ _ _
+    opening-done (a .settings) (a .key .now) (a .message .now) (a .challenges .now) (a .rounds .now) (sym (c .before .before .before .before .before .before .before .before .before .before .before .before .before .before .before .before .before .before .open .ensures) ∙ c .before .before .before .before .before .before .before .before .before .before .before .before .before .before .before .before .before .if1 .left) _ _ _ (p .prover-turn .result) _ _ _
     (ap (λ r. r .commitment) (c .before .before .before .before .before .before .before .before .before .before .before .before .before .before .commit .ensures)) (p .prover-turn .ensures) (c .before .before .signed-element-at .ensures) (c .verdict .ensures)
 
 pub open-spec : {M : Type 1} → statement M
 open-spec =
     tie.close
     (tie.spec
-    opening-requires
+    open-requires
     same-length
     same-length-2
     same-length-3

@@ -11,7 +11,7 @@ use Rattle.relaxed.proofs.judge.Statement.{statement}
 use Rattle.relaxed.proofs.judge.Tie as tie
 
 passed : (c : tie.Else1) → let a = c .before .before .before .args in judgeRefusal (a .settings) (a .commitment) (a .c) (a .key .now) (a .w .now) ≡ 0
-passed c = sym (c .before .refusal .ensures) ∙ c .if1 .left
+passed c = sym (c .before .judge .ensures) ∙ c .if1 .left
 
 given : (c : tie.Else1) → let a = c .before .before .before .args in JudgeGiven (a .settings) (a .key .now) (a .w .now)
 given c = let a = c .before .before .before .args in judge-given (a .settings) (a .commitment) (a .c) (a .key .now) (a .w .now) (passed c)
@@ -22,11 +22,11 @@ tested c =
     let a = c .before .before .before .before .before .args in let g = given (c .before .before) in
     c .all-within-wide .ensures ∙ ap (λ n. small n (a .w .now)) (c .before .growth .ensures (g .allowed) ∙ growth-exact (a .settings) (g .allowed) (g .limited))
 
-refusal-requires : tie.Need-refusal-requires
-refusal-requires c κs = search needs
+judge-requires : tie.Need-judge-requires
+judge-requires c κs = search needs
 
 returns : tie.Need-returns
-returns c = judge-refused (c .before .before .before .args .settings) (c .before .before .before .args .commitment) (c .before .before .before .args .c) (c .before .before .before .args .key .now) (c .before .before .before .args .w .now) _ (c .before .refusal .ensures) (c .if1 .taken)
+returns c = judge-refused (c .before .before .before .args .settings) (c .before .before .before .args .commitment) (c .before .before .before .args .c) (c .before .before .before .args .key .now) (c .before .before .before .args .w .now) _ (c .before .judge .ensures) (c .if1 .taken)
 
 growth-requires : tie.Need-growth-requires
 growth-requires c κs = search needs
@@ -47,7 +47,7 @@ pub judge-spec : {M : Type 1} → statement M
 judge-spec =
     tie.close
     (tie.spec
-    refusal-requires
+    judge-requires
     returns
     growth-requires
     all-within-wide-requires

@@ -4,7 +4,6 @@ use Rattle.protocol.specs.Session.{blank, slots}
 use Rattle.verifier.proofs.blank.Statement.{statement}
 use Rattle.verifier.proofs.blank.Tie as tie
 
--- src/lib.rt:16:1
 returns : tie.Need-returns
 unfolding blank zeros width slots
 returns c = refl

@@ -3,7 +3,6 @@ use Rattle.protocol.specs.Session.{shut}
 use Rattle.verifier.proofs.shut.Statement.{statement}
 use Rattle.verifier.proofs.shut.Tie as tie
 
--- src/lib.rt:35:1
 returns : tie.Need-returns
 unfolding shut
 returns c = refl

@@ -1,2 +1,0 @@
-pub mod Early
-pub mod Given

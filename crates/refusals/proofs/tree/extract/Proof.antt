@@ -1,0 +1,73 @@
+-- Each test in its turn.
+use mathlib.Core.Bool.{_&&_}
+use mathlib.Core.Path.{_≡_, refl, sym, ap, _∙_}
+use Prim.Native.Nat.{_*_}
+use borrow.Author.Needs.{needs}
+use Rattle.protocol.specs.Basic.{Tested}
+use Rattle.protocol.specs.Calls.{treeRefusal}
+use Rattle.protocol.specs.Settings.{settingsRefusal, sized, residues, residueElement, exponent, exponents}
+use Rattle.protocol.proofs.Inputs.{settings-valid}
+use Rattle.protocol.proofs.Refusals.{first-stops, first-known, first-tested, tested-before, first-only}
+use Rattle.sizes.proofs.Limits.{degree-most}
+use Rattle.refusals.proofs.GivenTree.{treeSized, lengths-given}
+use Rattle.refusals.proofs.tree.extract.Statement.{statement}
+use Rattle.refusals.proofs.tree.extract.Tie as tie
+
+-- 3 to 7
+lengths : (c : tie.After-refuse) → let a = c .before .before .before .before .before .before .before .before .before .args in
+    Tested (settingsRefusal (a .settings)) 7 (treeSized (a .settings) (a .key .now) (a .rounds .now) (a .challenges .now) (a .leaves .now) (a .w .now)) (c .refuse .result)
+unfolding sized
+lengths c =
+    let s = c .before in
+    let c6 = s .before .before .before in
+    record {
+      is = sym (first-known _ _ (c6 .settings-refusal .ensures)
+          ∙ first-tested _ _ (c .refuse .ensures) (λ z. let ok = sym (c6 .settings-refusal .ensures) ∙ z in rw (c6 .before .cells .ensures ok, s .before .before .tree-round-cells .ensures ok, s .before .tree-challenges .ensures .0 ok, s .leaf-cells .ensures ok))
+          ∙ first-only _);
+    }
+
+returns : tie.Need-returns
+unfolding treeRefusal
+returns c = sym (first-tested _ _ (lengths (c .before)) (λ z. refl) ∙ first-stops _ _ (c .if1 .taken))
+
+all-differ-requires : tie.Need-all-differ-requires
+all-differ-requires c κs =
+    let no = c .before .before .before .before .before .before .before .before in
+    let e = lengths (no .before) in
+    lengths-given _ _ _ _ _ _ e (no .if1 .left) .challenges-long ∙ ap (λ n. 3 * n) (sym (c .nodes .ensures .0 (tested-before e (no .if1 .left))))
+
+returns-2 : tie.Need-returns-2
+unfolding treeRefusal residues residueElement exponents exponent
+returns-2 c =
+    let c10 = c .before .before .before in
+    let c8 = c10 .before .before .before in
+    let no = c8 .before .before .before .before in
+    let ok = tested-before (lengths (no .before)) (no .if1 .left) in
+    sym (first-tested _ _ (lengths (no .before)) (λ z. refl)
+    ∙ first-tested _ _ (c8 .refuse2 .ensures) (λ z. rw (c8 .before .before .before .all-below .ensures, c8 .before .before .element-below .ensures (degree-most _ (settings-valid _ ok)), c8 .before .all-below2 .ensures))
+    ∙ first-tested _ _ (c10 .refuse3 .ensures) (λ z. rw (c10 .before .all-below3 .ensures, c10 .before .before .exponent-count .ensures ok))
+    ∙ first-tested _ _ (c .refuse4 .ensures) (λ z. rw (c .before .all-differ .ensures, c .before .before .nodes .ensures .0 ok))
+    ∙ first-only _)
+
+pub extract-spec : {M : Type 1} → statement M
+extract-spec =
+    tie.close
+    (tie.spec
+    (λ c κs. search needs)
+    (λ c κs. search needs)
+    (λ c κs. search needs)
+    (λ c κs. search needs)
+    (λ c κs. search needs)
+    (λ c κs. search needs)
+    returns
+    (λ c κs. search needs)
+    (λ c κs. search needs)
+    (λ c κs. search needs)
+    (λ c κs. search needs)
+    (λ c κs. search needs)
+    (λ c κs. search needs)
+    (λ c κs. search needs)
+    (λ c κs. search needs)
+    all-differ-requires
+    (λ c κs. search needs)
+    returns-2)

@@ -1,0 +1,42 @@
+// The refusals of the judge.
+use crate::refuse;
+use arithmetic::tests;
+use protocol::Settings;
+ghost use mathlib.Core.Path.{_≡_};
+ghost use Rattle.protocol.specs.Settings.{settingsRefusal};
+ghost use Rattle.protocol.specs.Tree.{grows};
+ghost use Rattle.protocol.specs.Judge as of;
+ghost use Rattle.protocol.specs.Calls.{judgeRefusal};
+
+// 14, here and in the extractor: is the growth at most 2^62.
+pub fn growth_allowed(settings: Settings) -> bool
+    ensures { λ r. ⌜ (settingsRefusal settings ≡ 0 → r ≡ grows settings) ⌝ }
+{
+    sizes::growth(settings) <= 4611686018427387904
+}
+
+// 15: is the slack in its range.
+fn slack_allowed(settings: Settings, c: u32) -> bool
+    ensures { λ r. ⌜ r ≡ of.slackAllowed settings c ⌝ }
+{
+    (1 <= c) & (c <= 65536)
+}
+
+pub fn judge(settings: Settings, commitment: [u32; 64], c: u32, key: &[u32], w: &[i64]) -> u32
+    ensures { λ r. ⌜ r ≡ judgeRefusal settings commitment c (now (key .entry)) (now (w .entry)) ⌝ }
+{
+    let cells = sizes::cells(settings);
+    let q = settings.modulus;
+    let r6 = tests::settings_refusal(settings);
+    let r7 = refuse(r6, 7, (key.len() == cells) & (w.len() == cells));
+    if r7 != 0 {
+        return r7;
+    }
+    let r8 = refuse(
+        r7,
+        8,
+        tests::all_below(q, key) & tests::element_below(q, settings.degree, commitment),
+    );
+    let r14 = refuse(r8, 14, growth_allowed(settings));
+    refuse(r14, 15, slack_allowed(settings, c))
+}
