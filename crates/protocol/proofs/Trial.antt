@@ -1,4 +1,4 @@
--- Demand 3 put to use at document 01's listing. Whoever has the claim gets, at one stroke, what each of the four kinds of callers relies on; a claim that says less no longer gives it.
+-- Demand 3 put to use at the example of PROTOCOL 12.1. Whoever has the claim gets, at one stroke, what each of the four kinds of callers relies on; a claim that says less no longer gives it.
 --   run₁              a list of calls that makes the listing's opening move by move, refused calls of several kinds standing between, on one table or the other
 --   moves-give        from the claim: whatever such a list is, it ends with the verdict, the rounds and both tables of the whole opening
 --   extraction-gives  from the claim: a tree of folds of a message beyond B gives exactly 4 times that message

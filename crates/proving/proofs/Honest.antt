@@ -64,7 +64,7 @@ module _ (S : Settings) (G : List ℕ) (M : List ℤ) (E rounds : List ℕ) (ok 
   unfolding transcriptOf
   rounds-long = rounds-below S pq E G M .long
 
-  -- "no coefficient beyond ±n·B", and n·B is at most 32,512
+  -- PROTOCOL 3.3, the bound: n·B is at most 32,512
   last-within : Within valueLimit d (T .last)
   unfolding signed valueLimit
   last-within = record {
