@@ -5,126 +5,98 @@
     docs/limits.py            writes both tables between their markers
     docs/limits.py --check    writes nothing, and fails where a table is not what the library gives
 
-A shared object is made of target/staticlib/libexports.a (or of the archive named behind --library) in a temporary folder; needs a C compiler.
+It calls the library by the module of examples/python, which needs a C compiler to make a shared object of target/staticlib/libexports.a (or of the archive
+that is named behind --library).
 
-What is asked, at every degree and depth, with the modulus below:
-  extraction   the judge's refusal 14 at every bound B; where it is not given, the judge has to say yes to a vector whose one coefficient is
-               (12*d*d)^L * B and no to one more, so the ceiling is the library's and not only this script's
-  binding      twice that ceiling is below the modulus
-  texts        the table writer writes the longest and the shortest text, or refuses it by 1
+What is asked, at every degree and depth, with the largest modulus:
+  extraction   from which bound B on the judge refuses by 14; at the largest that it takes it must say yes to a vector whose one coefficient is
+               (12*d*d)^L * B and no to one more, so that this ceiling is the library's and not only this script's
+  binding      up to which B twice that ceiling is below the modulus
+  texts        whether the table writer writes the longest and the shortest text, or refuses it by 1
 """
 import argparse
-import ctypes
+import bisect
 import pathlib
 import subprocess
 import sys
 import tempfile
 
 ROOT = pathlib.Path(__file__).resolve().parent.parent
+PYTHON = ROOT / "examples" / "python"
+sys.dont_write_bytecode = True
+sys.path.insert(0, str(PYTHON))
+from wovenrock import PARTS, Library, Refused  # noqa: E402
+
 DEGREES = (2, 4, 8, 16, 32, 64)
 DEPTHS = range(9)
 MODULUS = 2_147_483_647
 BOUNDS = range(1, 128)
 LARGEST = BOUNDS[-1]
-LONGEST_TEXT = 65_536
 LONG, GROWTH, SLACK = 1, 14, 15
 
-# Parts of a text by their bits, as in wovenrock.h: what `prove` reads, what it prints, and what `verify` reads.
-KEY, MESSAGE, COMMITMENT, ROUNDS, CHALLENGES, LAST = 1, 2, 4, 8, 16, 32
-PROVE_READS = KEY | MESSAGE | CHALLENGES
-PROVE_PRINTS = COMMITMENT | ROUNDS | CHALLENGES | LAST
-VERIFY_READS = KEY | PROVE_PRINTS
-
-
-class Library:
-    def __init__(self, archive, folder):
-        shared = pathlib.Path(folder) / "libwovenrock.so"
-        subprocess.run(["cc", "-shared", "-o", str(shared), "-Wl,--whole-archive", str(archive), "-Wl,--no-whole-archive"], check=True)
-        self.calls = ctypes.CDLL(str(shared))
-        for name in ("judge", "write"):
-            getattr(self.calls, "wovenrock_" + name).restype = ctypes.c_uint32
-
-    def judge(self, settings, slack, coefficient=0):
-        """Refusal and answer of the judge; commitment, key and w are zeros, but for w's first coefficient."""
-        degree, depth = settings[:2]
-        numbers = degree << depth
-        w = (ctypes.c_int64 * numbers)(coefficient)
-        yes = ctypes.c_uint32(2)
-        number = self.calls.wovenrock_judge(
-            *unsigned(settings), (ctypes.c_uint32 * degree)(), ctypes.c_size_t(degree), ctypes.c_uint32(slack),
-            (ctypes.c_uint32 * numbers)(), ctypes.c_size_t(numbers), w, ctypes.c_size_t(numbers), ctypes.byref(yes))
-        return number, yes.value
-
-    def write(self, settings, parts, tables):
-        """Refusal of the writer and its count of bytes, with room for the longest text."""
-        types = (ctypes.c_uint32, ctypes.c_int32, ctypes.c_uint32, ctypes.c_uint32, ctypes.c_uint32, ctypes.c_int32)
-        lent = [part for kind, numbers in zip(types, tables) for part in table(kind, numbers)]
-        count = ctypes.c_size_t(0)
-        number = self.calls.wovenrock_write(
-            *unsigned(settings), ctypes.c_uint32(parts), *lent,
-            (ctypes.c_uint8 * LONGEST_TEXT)(), ctypes.c_size_t(LONGEST_TEXT), ctypes.byref(count))
-        return number, count.value
-
-
-def unsigned(numbers):
-    return [ctypes.c_uint32(number) for number in numbers]
-
-
-def table(kind, numbers):
-    """A slice: a pointer that is not null, and a length."""
-    return (kind * max(1, len(numbers)))(*numbers), ctypes.c_size_t(len(numbers))
-
-
-def ceiling(degree, depth, bound):
-    return (12 * degree * degree) ** depth * bound
+PROVE_READS = ("key", "message", "challenges")
+PROVE_PRINTS = ("commitment", "rounds", "challenges", "last")
+VERIFY_READS = ("key", *PROVE_PRINTS)
 
 
 def wrong(what):
     raise SystemExit("limits: the library does not answer as the definitions say: " + what)
 
 
+def ceiling(settings):
+    return (12 * settings.degree**2) ** settings.depth * settings.bound
+
+
+def judged(library, settings, slack, coefficient):
+    """The judge on zeros, but for one coefficient of w."""
+    zeros = [0] * settings.table
+    return library.judge(settings, zeros[: settings.element], slack, zeros, [coefficient] + zeros[1:])
+
+
+def grows_too_far(library, settings):
+    """Is 14 the refusal of a judge that is given slack 0, which is refused by 15 behind it."""
+    try:
+        judged(library, settings, 0, 0)
+    except Refused as refused:
+        if refused.number in (GROWTH, SLACK):
+            return refused.number == GROWTH
+    wrong(f"the judge with slack 0 at {settings}")
+
+
 def extraction_bound(library, degree, depth):
     """The largest B at which the judge does not refuse by 14, 0 where there is none."""
-    largest = 0
-    for bound in BOUNDS:
-        # slack 0 is refused by 15, which is tested behind 14
-        number, _ = library.judge((degree, depth, MODULUS, bound), 0)
-        if number not in (GROWTH, SLACK):
-            wrong(f"judge, d = {degree}, L = {depth}, B = {bound}: refusal {number}")
-        if number == SLACK:
-            if largest != bound - 1:
-                wrong(f"judge, d = {degree}, L = {depth}: 14 at B = {bound - 1} and not at {bound}")
-            largest = bound
+
+    def at(bound):
+        return library.settings(degree, depth, MODULUS, bound)
+
+    largest = bisect.bisect_left(BOUNDS, True, key=lambda bound: grows_too_far(library, at(bound)))
     if largest:
-        top = ceiling(degree, depth, largest)
-        for coefficient, answer in ((top, 1), (-top, 1), (top + 1, 0), (-top - 1, 0)):
-            if library.judge((degree, depth, MODULUS, largest), 1, coefficient) != (0, answer):
-                wrong(f"judge, d = {degree}, L = {depth}, B = {largest}: w = {coefficient}")
+        settings = at(largest)
+        top = ceiling(settings)
+        if [judged(library, settings, 1, x) for x in (top, -top, top + 1, -top - 1)] != [True, True, False, False]:
+            wrong(f"the judge at the ceiling of {settings}")
     return largest
 
 
-def binding_bound(degree, depth):
+def binding_bound(library, degree, depth):
     """The largest B at which twice the ceiling is below the modulus, 0 where there is none."""
-    return max((bound for bound in BOUNDS if 2 * ceiling(degree, depth, bound) < MODULUS), default=0)
-
-
-def lengths(degree, depth):
-    """Numbers of the six tables of a text, in the order of its parts."""
-    numbers = degree << depth
-    return numbers, numbers, degree, 3 * depth * degree, depth, degree
+    return bisect.bisect_left(BOUNDS, True, key=lambda bound: 2 * ceiling(library.settings(degree, depth, MODULUS, bound)) >= MODULUS)
 
 
 def text_size(library, degree, depth, parts, longest):
     """Bytes of the longest or the shortest text with these parts, None where the writer refuses it by 1."""
-    bound = LARGEST if longest else 1
-    # the final coefficient that a verifier can accept and that takes most bytes is -n*B
-    values = (MODULUS - 1, -bound, MODULUS - 1, MODULUS - 1, 2 * degree - 1, -(bound << depth)) if longest else (0,) * 6
-    tables = [[value] * (length if parts >> bit & 1 else 0)
-              for bit, (value, length) in enumerate(zip(values, lengths(degree, depth)))]
-    number, count = library.write((degree, depth, MODULUS, bound), parts, tables)
-    if number not in (0, LONG):
-        wrong(f"writer, d = {degree}, L = {depth}, parts {parts}: refusal {number}")
-    return count if number == 0 else None
+    settings = library.settings(degree, depth, MODULUS, LARGEST if longest else 1)
+    lengths = (settings.table, settings.table, settings.element, settings.rounds, settings.challenges, settings.element)
+    # of the final coefficients that a verifier can accept, -n*B has most bytes
+    last = -(settings.bound << depth)
+    values = (MODULUS - 1, -settings.bound, MODULUS - 1, MODULUS - 1, 2 * degree - 1, last) if longest else (0,) * len(PARTS)
+    tables = {name: [value] * length for name, value, length in zip(PARTS, values, lengths) if name in parts}
+    try:
+        return len(library.write(settings, tables))
+    except Refused as refused:
+        if refused.number != LONG:
+            wrong(f"the writer at {settings} with {parts}: {refused}")
+        return None
 
 
 def span(depths):
@@ -160,11 +132,10 @@ def limits_table(library):
         "|---:|---|---|---|---|",
     ]
     for degree in DEGREES:
-        allowed = [extraction_bound(library, degree, depth) for depth in DEPTHS]
-        binds = [binding_bound(degree, depth) for depth in DEPTHS]
-        sizes = [[[text_size(library, degree, depth, parts, longest) for depth in DEPTHS] for longest in (True, False)]
-                 for parts in (PROVE_READS, VERIFY_READS)]
-        cells = [str(degree), by_bound(allowed), by_bound(binds)] + [by_size(*size) for size in sizes]
+        cells = [str(degree)]
+        cells += [by_bound([bound(library, degree, depth) for depth in DEPTHS]) for bound in (extraction_bound, binding_bound)]
+        for parts in (PROVE_READS, VERIFY_READS):
+            cells.append(by_size(*([text_size(library, degree, depth, parts, longest) for depth in DEPTHS] for longest in (True, False))))
         lines.append("| " + " | ".join(cells) + " |")
     return "\n".join(lines) + "\n"
 
@@ -177,12 +148,12 @@ def sizes_table(library):
     for degree in DEGREES:
         cells = [text_size(library, degree, depth, PROVE_PRINTS, True) for depth in DEPTHS]
         if None in cells:
-            wrong(f"writer, d = {degree}: a transcript does not fit")
+            wrong(f"a transcript of degree {degree} does not fit")
         lines.append(f"| {degree} | " + " | ".join(f"{cell:,}" for cell in cells) + " |")
     return "\n".join(lines) + "\n"
 
 
-def place(page, name, text, check):
+def place(page, name, table, check):
     """Puts a table between its markers; whether it stood there already."""
     first, last = f"<!-- {name}: written by docs/limits.py -->\n", f"<!-- end of {name} -->\n"
     old = page.read_text(encoding="utf-8")
@@ -190,7 +161,7 @@ def place(page, name, text, check):
         raise SystemExit(f"limits: {page.relative_to(ROOT)} has not the two marker lines of '{name}'")
     head, rest = old.split(first)
     _, tail = rest.split(last)
-    new = f"{head}{first}\n{text}\n{last}{tail}"
+    new = f"{head}{first}\n{table}\n{last}{tail}"
     if not check and new != old:
         page.write_text(new, encoding="utf-8")
     return new == old
@@ -199,18 +170,18 @@ def place(page, name, text, check):
 def main():
     arguments = argparse.ArgumentParser(description="writes or checks the tables of limits and sizes")
     arguments.add_argument("--check", action="store_true", help="write nothing, fail where a table differs")
-    arguments.add_argument("--library", type=pathlib.Path, default=ROOT / "target" / "staticlib" / "libexports.a")
+    arguments.add_argument("--library", default=ROOT / "target" / "staticlib" / "libexports.a", help="the static library")
     given = arguments.parse_args()
-    if not given.library.exists():
-        raise SystemExit("limits: there is no archive; run 'rt staticlib exports' first")
     with tempfile.TemporaryDirectory() as folder:
-        library = Library(given.library, folder)
+        shared = subprocess.run([PYTHON / "shared", folder, given.library], stdout=subprocess.PIPE, text=True, check=False)
+        if shared.returncode != 0:
+            raise SystemExit("limits: there is no library to ask")
+        library = Library(shared.stdout.strip())
         tables = (("limits", ROOT / "README.md", limits_table(library)), ("sizes", ROOT / "docs" / "BENCHMARKS.md", sizes_table(library)))
-    differ = [str(page.relative_to(ROOT)) for name, page, text in tables if not place(page, name, text, given.check)]
+    differ = [str(page.relative_to(ROOT)) for name, page, table in tables if not place(page, name, table, given.check)]
     if given.check and differ:
         raise SystemExit("limits: not what docs/limits.py gives: " + ", ".join(differ))
-    print("limits: " + ("both tables are what the library gives" if given.check or not differ else "written: " + ", ".join(differ)))
+    print("limits: " + (f"written: {', '.join(differ)}" if differ else "both tables are what the library gives"))
 
 
-if __name__ == "__main__":
-    sys.exit(main())
+main()
