@@ -65,7 +65,7 @@ module _ (S : Settings) (p : 0 < S .degree) (E : List ℕ) (message : List ℤ) 
   unfolding size
   last-bound = fold-bound L (Nat.le-refl L) 0 (Pow.pow-pos (L - L))
 
--- the same of a table's numbers: "what is left is n/2^t elements, whose message coefficients must lie within ±2^t·B"
+-- the same of a table's numbers (PROTOCOL 2.2)
 pub left-within : (S : Settings) → 0 < S .degree → (E : List ℕ) (message : List ℤ) → Within (S .bound) (cells S) message → (t : ℕ) → t ≤ S .depth
     → Within (2 ^ t * S .bound) (left S t * S .degree) (take (left S t * S .degree) (messageAfter S E t message))
 unfolding signedAt

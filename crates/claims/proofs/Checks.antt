@@ -48,7 +48,7 @@ module _ (S : Settings) (p : 0 < S .degree) (pq : 0 < S .modulus) where
   pub half-power-suc : (t : ℕ) → ofℕ Q (half S ^ suc t) ≡ ofℕ Q (half S ^ t) ⊗ ofℕ Q (half S)
   half-power-suc t = ap (ofℕ Q) (Nat.pow-suc (half S) t) ∙ ofℕ-mul Q (half S ^ t) (half S)
 
-  -- "the claim becomes c0 + r·c1 + r²·c2"
+  -- PROTOCOL 3.2
   pub read-nextClaim : (e : ℕ) (c0 c1 c2 : Element) → readS (residue (nextClaim S e c0 c1 c2)) ≡ readS c0 ⊕ X^S e ⊗ readS c1 ⊕ X^S e ⊗ (X^S e ⊗ readS c2)
   unfolding nextClaim plus
   read-nextClaim e c0 c1 c2 = readq-reduced q pq d p (plus (plus c0 (rotate d e c1)) (rotate d e (rotate d e c2)))
@@ -59,7 +59,7 @@ module _ (S : Settings) (p : 0 < S .degree) (pq : 0 < S .modulus) where
       turned c = read-rotate (Zmod q pq) d p e c
 
   module _ (claim : List ℕ) where
-    -- "A round holds when 2·(c0+c2) equals the claim"
+    -- PROTOCOL 3.1
     module _ (c0 c2 : Element) where
       doubled-read : readS (times (pos 2) (plus c0 c2)) ≡ ofℕ Q 2 ⊗ (readS c0 ⊕ readS c2)
       doubled-read = read-times (Zmod q pq) d p (pos 2) (plus c0 c2) ∙ ap (λ x. ofℕ Q 2 ⊗ x) (read-plus (Zmod q pq) d p c0 c2)
@@ -72,7 +72,7 @@ module _ (S : Settings) (p : 0 < S .degree) (pq : 0 < S .modulus) where
       unfolding doubled times plus
       equation-round below e k l = sym (entries-readq q pq d p (times (pos 2) (plus c0 c2)) claim below (sym (doubled-read ∙ e)) k l)
 
-    -- "the claim must equal half^L·f·G'"
+    -- PROTOCOL 3.3, the last equation
     module _ (key E : List ℕ) (f : Element) where
       ended : Element
       ended = times (pos (half S ^ L)) (product d f (residueAt d (keyAfter S E L key) 0))

@@ -56,7 +56,7 @@ module _ (S : Settings) (p : 0 < S .degree) (pq : 0 < S .modulus) (key : List �
   pub complete-beyond : q % 2 ≡ 1 → ((j : ℕ) → j < cells S → natAbs (getD message j (pos 0)) ≤ B) → Accepted S key T
   complete-beyond odd small = record { every-round = rounds-met odd; in-bound = bound-met small; at-end = end-met }
 
--- "A message's transcript is what its opening gives, with the challenges."
+-- PROTOCOL 2.6 and 3.7
 pub complete : (S : Settings) → 0 < S .degree → S .modulus % 2 ≡ 1 → (key : List ℕ) (message : List ℤ) (E : List ℕ)
     → ((j : ℕ) → j < cells S → natAbs (getD message j (pos 0)) ≤ S .bound) → Accepted S key (transcriptOf S key message E)
 unfolding transcriptOf

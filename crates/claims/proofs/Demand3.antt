@@ -1,4 +1,4 @@
--- Demand 3, proved: "a single claim, about the whole list of calls and the whole tree, and not one for each call or node".
+-- Demand 3, proved (PROTOCOL 11.2): all calls of an opening in their order, and all of a tree, in one claim.
 --
 -- What is claimed is the type `Demand3` of protocol/specs/Demand3: for all allowed settings and every key,
 --   · an opening of any message within its bound, by any challenges, is not refused, says accepted and gives an accepted transcript, and so does every list of calls that makes it

@@ -1,4 +1,4 @@
--- Document 01: "s(a,b) is the whole-number element with s·(X^a−X^b) = 2. It exists, and its coefficients are −1, 0 or 1." Here for every degree that is a power of two;
+-- PROTOCOL 5.3: s(a,b) divides 2 by X^a − X^b, is the only element that does, and has no coefficient beyond ±1. Here for every degree that is a power of two;
 -- and the same equation in the ring of degree d over every ring K.
 use mathlib.Core.Path.{_≡_, refl, sym, ap, ap₂, _∙_, subst}
 use mathlib.Core.Logic.{_≢_}
@@ -54,7 +54,7 @@ module _ (d : ℕ) (p : 0 < d) where
       ∙ Σ.sum-ext (negacyclic ℤ-ring d p) (steps d (gap d a b)) (λ i _. read-power ℤ-ring d p (gap d a b * i + (2 * d - a)))
       ∙ ap (λ m. Σ.sum (negacyclic ℤ-ring d p) m (λ i. X^ ℤ-ring d p (gap d a b * i + (2 * d - a)))) (steps-same d (gap d a b))
 
--- ---- what document 01 says of s
+-- ---- what is owed of s
 
 module _ (D a b : ℕ) (la : a < 2 * 2 ^ D) (lb : b < 2 * 2 ^ D) (ne : a ≢ b) where
   abbrev q : 0 < 2 ^ D

@@ -114,7 +114,7 @@ module _ (S : Settings) (p : 0 < S .degree) (E : List ℕ) (finals : List ℤ) (
       (vector-bounded h (child k 2) (suc t) f (child-depth t k 2 (omega arith) a))
       i (omega (arith, Nat.two-pow-succ h)))
 
-  -- "no coefficient of w is beyond ±(12·d²)^L·B"
+  -- PROTOCOL 5.6, at the root
   pub root-within : Within (growth S) (cells S) (rootVector S E finals)
   unfolding rootVector cells size signedAt
   root-within = record {

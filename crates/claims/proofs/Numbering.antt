@@ -1,4 +1,4 @@
--- How document 01 numbers the nodes of a tree: parents and children, the nodes of one depth, and the nodes below a node.
+-- How the nodes of a tree are numbered (PROTOCOL 5.1): parents and children, the nodes of one depth, and the nodes below a node.
 --
 --   before t     how many nodes are less deep than t, (3^t − 1)/2: the number of the first node of depth t
 --   AtDepth t k  node k has depth t

@@ -1,6 +1,6 @@
--- The elements of document 01 as elements of the ring of degree d over a ring K: the bridge from definitions on coefficients to algebra.
+-- The elements of the definitions as elements of the ring of degree d over a ring K: the bridge from coefficients to algebra.
 -- Each definition of specs/Element and the inner product has one law here, for every K. Over the integers an element is known by its places below d; over ℤ/q by these modulo q.
---   read K d p a    the element a of document 01, in K[X]/(X^d + 1); only its places below d matter
+--   read K d p a    the element a of the definitions, in K[X]/(X^d + 1); only its places below d matter
 --   readℤ, readq    the same over the integers and over ℤ/q
 use mathlib.Core.Path.{_≡_, refl, sym, ap, ap₂, _∙_}
 use mathlib.Core.List.{List}

@@ -18,7 +18,7 @@ use Rattle.protocol.specs.Session.{slots}
 use Rattle.protocol.proofs.Tests.{and-split, and-intro}
 use Rattle.claims.proofs.Tables.{key-challenges}
 
--- "stores its challenge"; "the unused ones 0"
+-- PROTOCOL 4.3: the new challenge is in its slot, and the slots behind it are still 0
 unfoldable pub stored : List ℕ → ℕ → List ℕ
 stored E zero = zeros slots
 stored E (suc t) = set (stored E t) t (getD E t 0)

@@ -46,12 +46,12 @@ module _ (d n a b c : ℕ) (m₁ m₂ m₃ v₁ v₂ v₃ : List ℤ) where
   unfolding joined
   joined-length = halves-length d n _ _
 
-  -- "Σ μ_j·v_j …"
+  -- PROTOCOL 5.5, the first half of a node's vector
   pub joined-low : (i k : ℕ) → i < n → k < d → signedAt d (joined d n a b c m₁ m₂ m₃ v₁ v₂ v₃) i k ≡ plus (plus (share d m₁ v₁ i) (share d m₂ v₂ i)) (share d m₃ v₃ i) k
   unfolding joined signedAt plus
   joined-low i k li lk = flat-front d n _ _ (pos 0) i k li lk
 
-  -- "… followed by Σ μ_j·r_j·v_j"
+  -- PROTOCOL 5.5, the second half
   pub joined-high : (i k : ℕ) → i < n → k < d
       → signedAt d (joined d n a b c m₁ m₂ m₃ v₁ v₂ v₃) (n + i) k ≡ plus (plus (rotate d a (share d m₁ v₁ i)) (rotate d b (share d m₂ v₂ i))) (rotate d c (share d m₃ v₃ i)) k
   unfolding joined signedAt plus

@@ -1,4 +1,4 @@
--- Document 01's μ of the three challenges of a node, in the ring of degree d over a ring K where 2 cancels: Σ μ_j = 4, Σ μ_j·r_j = 0, Σ μ_j·r_j² = 4.
+-- PROTOCOL 5.4: the weights of a node's three challenges, in the ring of degree d over a ring K where 2 cancels: Σ μ_j = 4, Σ μ_j·r_j = 0, Σ μ_j·r_j² = 4.
 --   Triple d a b c    a, b, c are exponents below 2·d, and no two are equal
 --   weight K d p ..   μ of X^a, the others being X^b and X^c
 use mathlib.Core.Path.{_≡_, sym, ap₂, _∙_}

@@ -1,5 +1,5 @@
 -- The check of a whole tree node by node: each node hands its next claim and its folded key to its children, so that no fold is done twice.
--- Document 01 accepts a tree path by path; proofs/TreeCheck shows that the two are one test.
+-- The definitions accept a tree path by path (PROTOCOL 7.3, refusal 13); proofs/TreeCheck shows that the two are one test.
 --
 --   nodeElement S rounds k j          c_j of node k
 --   foldedEnding S folded f           half^L·f·G', G' being the first element of the folded key

@@ -1,1 +1,1 @@
-// What is proved of document 01's definitions. No function stands here.
+// What is proved of the protocol's definitions. No function stands here.

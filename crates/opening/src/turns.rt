@@ -1,4 +1,4 @@
-// The turns of a whole opening: the prover moves, then the verifier, while rounds are left.
+// The turns of a whole opening (PROTOCOL 2.6, 8.7): prover and verifier call each other, once each in every round.
 use crate::storage;
 use arithmetic::elements;
 use protocol::Settings;

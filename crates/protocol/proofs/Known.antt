@@ -1,5 +1,5 @@
--- Document 01, "Known lanes": the examples that it marks M, in one table, and one proof over the table that the definitions give each.
--- A row holds what the definitions give and what document 01 says, both as lists of numbers.
+-- The worked examples of PROTOCOL 12 (in document 01 those marked M), in one table, and one proof over the table that the definitions give each.
+-- A row holds what the definitions give and what the page says, both as lists of numbers.
 use mathlib.Core.Path.{_≡_, refl}
 use mathlib.Core.Bool.{true}
 use mathlib.Core.List.{List, [], _∷_, map}
@@ -35,16 +35,16 @@ message₀ = pos 1 ∷ negsuc 0 ∷ []
 
 unfoldable pub examples : List Example
 examples =
-    -- "in that listing the commitment is 15, 4; the three round elements are as printed; the last claim is 9, 6."
+    -- PROTOCOL 12.1: commitment, round elements, last claim
     record { given = map pos (T₁ .commitment); wanted = pos 15 ∷ pos 4 ∷ [] }
     ∷ record { given = map pos (T₁ .rounds); wanted = pos 4 ∷ pos 1 ∷ pos 6 ∷ pos 0 ∷ pos 12 ∷ pos 1 ∷ [] }
     ∷ record { given = map pos (claimAfter S₁ T₁ 1); wanted = pos 9 ∷ pos 6 ∷ [] }
     ∷ record { given = T₁ .last; wanted = pos 1 ∷ pos 0 ∷ [] }
     ∷ record { given = causeNumber (cause S₁ key₁ T₁); wanted = pos 0 ∷ [] }
-    -- "final 2, 0 is rejected there by the equation; final 3, 0 by the bound."
+    -- PROTOCOL 12.1: the two other final elements, and why each is rejected
     ∷ record { given = causeNumber (cause S₁ key₁ (ending₁ (pos 2 ∷ pos 0 ∷ []))); wanted = pos 101 ∷ [] }
     ∷ record { given = causeNumber (cause S₁ key₁ (ending₁ (pos 3 ∷ pos 0 ∷ []))); wanted = pos 100 ∷ [] }
-    -- "d = 2, s(0,1) is 1 + X." "d = 4, s(0,2) is 1 + X²." "d = 4, X³·X = −1."
+    -- PROTOCOL 12.6: s of two pairs, and a product that passes X^d
     ∷ record { given = coefficients 2 (s 2 0 1); wanted = pos 1 ∷ pos 1 ∷ [] }
     ∷ record { given = coefficients 4 (s 4 0 2); wanted = pos 1 ∷ pos 0 ∷ pos 1 ∷ pos 0 ∷ [] }
     ∷ record { given = coefficients 4 (product 4 (power 4 3) (power 4 1)); wanted = negsuc 0 ∷ pos 0 ∷ pos 0 ∷ pos 0 ∷ [] }
@@ -55,10 +55,10 @@ examples =
     ∷ record { given = rootVector S₁ (0 ∷ 1 ∷ 2 ∷ []) leaves₁; wanted = pos 4 ∷ negsuc 3 ∷ pos 4 ∷ pos 0 ∷ [] }
     ∷ record { given = extractExit S₁ (T₁ .commitment) key₁ (T₁ .rounds) (0 ∷ 1 ∷ 2 ∷ []) leaves₁ w₁; wanted = pos 4 ∷ negsuc 3 ∷ pos 4 ∷ pos 0 ∷ [] }
     ∷ record { given = pos (extractRefusal S₁ (T₁ .commitment) key₁ (T₁ .rounds) (0 ∷ 1 ∷ 2 ∷ []) leaves₁ w₁) ∷ []; wanted = pos 0 ∷ [] }
-    -- "commitment 8 2, w equals the message."
+    -- PROTOCOL 12.5: depth 0
     ∷ record { given = map pos (commitment S₀ (3 ∷ 5 ∷ []) message₀); wanted = pos 8 ∷ pos 2 ∷ [] }
     ∷ record { given = extractExit S₀ (8 ∷ 2 ∷ []) (3 ∷ 5 ∷ []) [] [] message₀ (pos 0 ∷ pos 0 ∷ []); wanted = message₀ }
-    -- "growth passes at d 32, L 4, B 127; refused at d 64, L 4, B 1."
+    -- PROTOCOL 12.6: growth on both sides of its limit
     ∷ record { given = asNumber (grows (set 32 4 17 127)); wanted = pos 1 ∷ [] }
     ∷ record { given = asNumber (grows (set 64 4 17 1)); wanted = pos 0 ∷ [] }
     -- the same as the judge's refusal 14, at tables of zeros; as the judge's and the extractor's at every full tree, in claims/proofs/GrowthCases

@@ -1,5 +1,5 @@
--- Known texts: document 01's listing byte for byte, and what damaged texts and tables are refused for. One table, and one proof over it.
--- A text is made of pieces of document 01's example, most often with one piece changed.
+-- Known texts: the listing of PROTOCOL 12.1 byte for byte, and what damaged texts and tables are refused for. One table, and one proof over it.
+-- A text is made of pieces of that example, most often with one piece changed.
 use mathlib.Core.Path.{_≡_, refl}
 use mathlib.Core.Bool.{Bool, true, false}
 use mathlib.Core.List.{List, [], _∷_, _++_ as _++ᴸ_, map}
@@ -69,7 +69,7 @@ noDepth = "0 0 0 2\n0 0 1 0\n0 0 2 17\n0 0 3 1\n"
 abbrev moreDepth : String
 moreDepth = "0 0 0 2\n0 0 1 2\n0 0 2 17\n0 0 3 1\n"
 
--- "`prove` prints:", a line feed after every line
+-- what `prove` prints in PROTOCOL 12.1
 abbrev listing : String
 listing =
     "part item place value\n"
@@ -185,7 +185,7 @@ data Row : Type 0 where
   begins : String → Bool → Row
   -- a first look gives this number and these settings
   lookGives : String → ℕ → Settings → Row
-  -- the answer of `verify` in document 01's terms
+  -- the answer of `verify` as number and verdict
   checks : String → ℕ → Verdict → Row
   -- `prove` as a call on an output slice of so many full stops: it refuses and leaves the slice; it gives a length and writes a text
   callRefused : String → ℕ → ℕ → Row
@@ -281,7 +281,7 @@ expected (begunGives text N S) = finds (record { number = N; settings = S })
 
 abbrev table : List Row
 table =
-    -- the example of document 01
+    -- the example
     proves (input key message challenge) listing
     ∷ verifies (withFinal final) "accepted\n"
     ∷ verifies (withFinal "6 0 0 2\n6 0 1 0\n") "rejected\n"

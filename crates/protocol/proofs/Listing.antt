@@ -1,4 +1,4 @@
--- Document 01's worked example: "For settings 2, 1, 17, 1, key 3 5 and 7 2, message 1 −1 and 1 0, challenge 1".
+-- The worked example of PROTOCOL 12.1: its settings, key, message and challenge, and the transcript that they give.
 use mathlib.Core.List.{List, [], _∷_}
 use Prim.Native.Nat.{ℕ}
 use lib.IntN.{ℤ, pos, negsuc}
@@ -20,7 +20,7 @@ message₁ = pos 1 ∷ negsuc 0 ∷ pos 1 ∷ pos 0 ∷ []
 abbrev pub rounds₁ : List ℕ
 rounds₁ = 4 ∷ 1 ∷ 6 ∷ 0 ∷ 12 ∷ 1 ∷ []
 
--- "the same key and message, challenges 0, 1, 2, leaves 2 −1, 1 0, 0 −1"
+-- PROTOCOL 12.3: the tree over it
 abbrev pub leaves₁ : List ℤ
 leaves₁ = pos 2 ∷ negsuc 0 ∷ pos 1 ∷ pos 0 ∷ pos 0 ∷ negsuc 0 ∷ []
 

@@ -1,4 +1,4 @@
--- Where a first draft goes astray: small cases of the calls on tables that pin an order of refusals, a bound or what is left unchanged, in one table.
+-- Small cases of the calls on tables, each of which pins an order of refusals, a bound or what is left unchanged, in one table.
 use mathlib.Core.Path.{_≡_, refl}
 use mathlib.Core.Bool.{true, false}
 use mathlib.Core.List.{List, [], _∷_, _++_, map}
@@ -113,7 +113,7 @@ traps =
       wanted = pos 0 ∷ pos 1 ∷ recordNumbers (record { settings = S₁; done = 1; claim = 9 ∷ 6 ∷ replicate 62 0; challenges = (1 ∷ replicate 6 0) ++ (3 ∷ []); closed = false });
     }
     ∷ number (move (record { settings = S₁; done = 4_294_967_295; claim = 15 ∷ 4 ∷ []; challenges = replicate 8 0; closed = false }) polynomial₁ 1 .number) 11
-    -- a rejected round closes the record and changes no other field
+    -- a rejected round sets closed and nothing else
     ∷ record { given = moveNumbers (move fresh ((5 ∷ 1 ∷ []) ∷ (6 ∷ 0 ∷ []) ∷ (12 ∷ 1 ∷ []) ∷ []) 1); wanted = pos 0 ∷ pos 3 ∷ recordNumbers (shut fresh) }
     -- an end before all rounds are done; an acceptance closes the record; a final coefficient of −2^31 is rejected and not refused
     ∷ number (close fresh (pos 1 ∷ pos 0 ∷ []) key₁ .number) 11

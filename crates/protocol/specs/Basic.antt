@@ -1,4 +1,4 @@
--- Tools with no meaning of their own, for the definitions of document 01.
+-- Tools with no meaning of their own, for the definitions of the protocol.
 --
 --   sum n f        f 0 + f 1 + … + f (n − 1)
 --   every n f      does f hold at 0, 1, …, n − 1

@@ -1,7 +1,7 @@
--- Document 01, "The table of refusals": the calls on tables. For each call its refusal, its whole answer, and each lent table at exit.
+-- PROTOCOL 8: the calls on tables. For each call its refusal, its whole answer, and each lent table at exit.
 -- (The session's moves are in Session, the calls on text in Text and Programs.)
--- "Tested in number order over the whole input of the call …, before any equation (13 alone runs the verifier); the smallest that applies is given, and none is given otherwise.
--- A refusal returns its number, with … every other part of the answer 0": a lent table is then as it was.
+-- A refusal is the first number of the call's own list whose test fails; all tests are over what was lent, and only that of 13 needs the verifier's equations (PROTOCOL 7.2, 7.3).
+-- In a refused call all other parts of the answer are 0, and a lent table is as it was (PROTOCOL 7.4).
 --
 --   commitRefusal, commitAnswer                          1 commit
 --   roundRefusal, roundAnswer                            2 the prover's round
@@ -55,11 +55,11 @@ commitAnswer S key message = record {
 
 -- ---- 2 the prover's round
 
--- "what is left is n/2^t elements, whose message coefficients must lie within ±2^t·B"
+-- PROTOCOL 2.2: the bound grows with t, the part that is looked at shrinks
 unfoldable pub leftSmall : Settings → ℕ → List ℤ → Bool
 leftSmall S t message = small (2 ^ t * S .bound) (take (leftCells S t) message)
 
--- "refusal 9 is not tested with t over L, nor in a round or fold with t at L"
+-- PROTOCOL 7.3, refusal 9: in a round or fold only while a round is left
 unfoldable pub movingSmall : Settings → ℕ → List ℤ → Bool
 movingSmall S t message = elim (ltb t (S .depth)) [ true ↦ leftSmall S t message | false ↦ true ]
 
@@ -73,7 +73,7 @@ roundRefusal S t key message =
     ∷ unless 11 (ltb t (S .depth))
     ∷ [])
 
--- the round polynomial, "three elements, each an array of coefficients"
+-- PROTOCOL 2.3: the round polynomial by value
 unfoldable pub polynomial : Settings → ℕ → List ℕ → List ℤ → List (List ℕ)
 polynomial S t key message = tabulate 3 (λ j. padded (S .degree) (roundElement S t key message j))
 
@@ -107,11 +107,11 @@ foldMessageExit S t e key message = granted (foldRefusal S t e key message) (fol
 
 -- ---- 4 the prover's end
 
--- "refusal 9 is not tested with t over L"
+-- PROTOCOL 7.3, refusal 9: in the end also where no round is left
 unfoldable pub endingSmall : Settings → ℕ → List ℤ → Bool
 endingSmall S t message = elim (leb t (S .depth)) [ true ↦ leftSmall S t message | false ↦ true ]
 
--- "The prover's end … wants t at L."
+-- PROTOCOL 8.6
 unfoldable pub endRefusal : Settings → ℕ → List ℤ → ℕ
 endRefusal S t message =
     first
@@ -139,7 +139,7 @@ openingRefusal S key message E rounds =
     ∷ unless 10 (exponents S E)
     ∷ [])
 
--- "starts the claim at the commitment that it works out, and gives commitment, round elements, final element and verdict"
+-- PROTOCOL 8.7: the message's transcript, and what the verifier says of it
 unfoldable pub openingAnswer : Settings → List ℕ → List ℤ → List ℕ → List ℕ → Opened
 openingAnswer S key message E rounds =
     let refusal = openingRefusal S key message E rounds in
@@ -205,7 +205,7 @@ judgeAnswer S C c key w = record {
 
 -- ---- the extractor; its answer is the number alone
 
--- 13: "a path of the tree that the verifier rejects"
+-- PROTOCOL 7.3, refusal 13: each path by itself
 unfoldable pub everyPath : Settings → List ℕ → List ℕ → List ℕ → List ℕ → List ℤ → Bool
 everyPath S C key rounds E finals = every (leaves S) (λ j. accepted S key (path S C rounds E finals j))
 
@@ -230,6 +230,6 @@ extractRefusal S C key rounds E finals w =
     ∷ unless 14 (grows S)
     ∷ [])
 
--- "The root's vector w is signed 64-bit."
+-- PROTOCOL 8.13
 unfoldable pub extractExit : Settings → List ℕ → List ℕ → List ℕ → List ℕ → List ℤ → List ℤ → List ℤ
 extractExit S C key rounds E finals w = granted (extractRefusal S C key rounds E finals w) (rootVector S E finals) w

@@ -62,7 +62,7 @@ pub record State : Type 0 where
   pub held : Held
   pub heard : Heard
 
--- each table argument by itself: "whatever else they are given"
+-- each table argument by itself
 pub data KeyTable : Type 0 where
   ours : KeyTable
   copy : KeyTable
@@ -89,7 +89,7 @@ unfoldable pub handed : Held → Record → Session
 handed h Record.ours = h .session
 handed h (Record.other r) = r
 
--- the calls in the order of document 01: prover, whole opening, session, check, judge, extractor, reader, writer.
+-- the calls in the order of PROTOCOL 8: prover, whole opening, session, check, judge, extractor, reader, writer.
 -- A table of residues or exponents may be ours wherever one is lent, and a table of signed 32-bit numbers too.
 pub data Call : Type 0 where
   commit : Settings → KeyTable → MessageTable → Call
@@ -162,17 +162,17 @@ after (Call.read P text k m c r e f) h =
     (backKey r (exit .rounds) (backKey e (exit .challenges) (backMessage f (exit .last) h)))))
 after (Call.write S P k m c r e f out) h = h
 
--- ---- "Move by move, an opening is this list of calls"
+-- ---- an opening as a list of calls, PROTOCOL 11.1
 
 pub data Step : Type 0 where
   commits starts proves checks folds ends closes : Step
 
--- "in round i the prover's round, the verifier's round with those three elements and challenge i, and the folding of both tables by challenge i"
+-- PROTOCOL 11.1, step 2
 unfoldable pub turns : ℕ → List Step
 turns zero = []
 turns (suc n) = Step.proves ∷ Step.checks ∷ Step.folds ∷ turns n
 
--- "the commitment, and a start at it; …; after round L the prover's end, and the verifier's end with that final element and an unfolded copy of the key"
+-- PROTOCOL 11.1, steps 1 to 3
 unfoldable pub moves : ℕ → List Step
 moves L = Step.commits ∷ Step.starts ∷ (turns L ++ (Step.ends ∷ Step.closes ∷ []))
 
@@ -199,7 +199,7 @@ hearLast f a = record { numbers = a .numbers; commitment = a .commitment; polyno
 unfoldable pub hearVerdict : Verdict → Heard → Heard
 hearVerdict v a = record { numbers = a .numbers; commitment = a .commitment; polynomial = a .polynomial; rounds = a .rounds; last = a .last; verdict = v }
 
--- "Each call gets the tables as the last call on them left them, or the record as the last call on it returned it; a prover call names the folds done as t."
+-- PROTOCOL 11.1: a step is given what is held and what was answered before; the prover's t is the count of folds so far
 unfoldable pub step : Settings → List ℕ → Step → Held → Heard → State
 step S E Step.commits h a =
     let x = Calls.commitAnswer S (h .key) (h .message) in
@@ -232,14 +232,14 @@ step S E Step.closes h a =
     let x = Verifier.close (h .session) (a .last) (h .copy) in
     record { held = backRecord Record.ours (x .next) h; heard = hearVerdict (x .verdict) (hear (x .number) a) }
 
--- "It begins with message and key as loaded", with any record
+-- before the first call: both tables unfolded, any record
 unfoldable pub begun : List ℤ → List ℕ → Session → State
 begun M G r = record {
   held = record { message = M; key = G; copy = G; session = r; folds = 0 };
   heard = record { numbers = []; commitment = []; polynomial = []; rounds = []; last = []; verdict = Says.Silent };
 }
 
--- "Refused calls on them, starts aside, may stand anywhere between, whatever else they are given."
+-- PROTOCOL 11.1: what may stand between; a `Call` is no start, and has any arguments.
 -- A gap leads from what is held before it to what is held after it, by calls each of which is refused where it stands.
 pub data Gap : Held → Held → Type 0 where
   none : {h : Held} → Gap h h
@@ -251,7 +251,7 @@ pub data Run (S : Settings) (E : List ℕ) : List Step → State → State → T
 
 -- ════ an opening
 
--- "Commitment, round elements, final element, verdict and both tables come out as in the whole opening."; no step is refused
+-- PROTOCOL 11.2: the steps give what the one call gives, and no step is refused
 pub record SameAsWhole (S : Settings) (G : List ℕ) (M : List ℤ) (E rounds : List ℕ) (st : State) : Type 0 where
   pub no-refusal : st .heard .numbers ≡ replicate (4 + 3 * S .depth) 0
   pub same-commitment : st .heard .commitment ≡ Calls.openingAnswer S G M E rounds .commitment
@@ -285,7 +285,7 @@ pub record FullTree (S : Settings) (G C rounds E : List ℕ) (finals : List ℤ)
   pub different : (k : ℕ) → k < nodes S → (challenge E k 0 ≢ challenge E k 1) × (challenge E k 0 ≢ challenge E k 2) × (challenge E k 1 ≢ challenge E k 2)
   pub accepted : (j : ℕ) → j < leaves S → Accepted S G (path S C rounds E finals j)
 
--- "A leaf is a fold of m when L folds of m by its path's challenges give it; m is any n elements over whole numbers, within B or not."
+-- PROTOCOL 5.7: every leaf is what m folds to along its path; nothing is asked of how large m is
 pub record FoldsOf (S : Settings) (E : List ℕ) (finals m : List ℤ) : Type 0 where
   pub long : length m ≡ cells S
   pub each : (j : ℕ) → j < leaves S → foldTo S E j m ≡ leaf S finals j

@@ -1,4 +1,4 @@
--- Document 01, "The ring and the tables": elements, and how they are added, rotated, multiplied and reduced.
+-- PROTOCOL 1.2 and 1.3: elements, and how they are added, rotated, multiplied and reduced.
 -- An element is a function from places to whole numbers, and only its places below d are read. A residue counts as the whole number that it is;
 -- each definition works over whole numbers and reduces once, at its end.
 --
@@ -23,7 +23,7 @@ use lib.ListN.{getD, replicate}
 use lib.IntN.{ℤ, pos, negsuc, negℤ, _+ℤ_, _*ℤ_}
 use Rattle.protocol.specs.Basic.{sum, tabulate}
 
--- "An element is d coefficients, that of X^0 first."
+-- PROTOCOL 1.2: place k has the coefficient of X^k
 abbrev pub Element : Type 0
 Element = ℕ → ℤ
 
@@ -37,11 +37,11 @@ unfoldable pub flips : ℕ → ℤ → ℤ
 flips zero z = z
 flips (suc n) z = negℤ (flips n z)
 
--- "Products use X^d = −1": past place d − 1 the coefficients start again with the other sign
+-- PROTOCOL 1.3: past place d − 1 the coefficients start again with the other sign
 unfoldable pub around : ℕ → Element → ℕ → ℤ
 around d a x = flips (x / d) (a (x % d))
 
--- "Multiplying by r is a signed rotation": place k gets what stands e places before it, 2d places being a whole turn
+-- PROTOCOL 1.3: place k gets what stands e places before it, 2d places being a whole turn
 unfoldable pub rotate : ℕ → ℕ → Element → Element
 rotate d e a k = around d a (k + (2 * d - e % (2 * d)))
 
@@ -89,7 +89,7 @@ zeros n = replicate n 0
 unfoldable pub signedZeros : ℕ → List ℤ
 signedZeros n = replicate n (pos 0)
 
--- "Array places from d on are not read, and are 0 in every new element."
+-- PROTOCOL 8.1: behind its first d places an element that a call makes has zeros
 unfoldable pub padded : ℕ → List ℕ → List ℕ
 padded d l = l ++ zeros (width - d)
 

@@ -10,7 +10,7 @@ use lib.ListN.{length, getD}
 use lib.IntN.{ℤ, pos, natAbs}
 use Rattle.protocol.specs.declared.Settings.{Settings}
 
--- "Degree d is 2, 4, 8, 16, 32 or 64": d = 2^log. "Depth L is 0 to 8". "Modulus q is odd, 3 to 2,147,483,647." "Bound B is 1 to 127."
+-- PROTOCOL 1.1; the degree is 2^log
 pub record Valid (S : Settings) : Type 0 where
   pub log : ℕ
   pub degree-is : S .degree ≡ 2 ^ log

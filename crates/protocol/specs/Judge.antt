@@ -1,4 +1,4 @@
--- Document 01: "Judge: commitment, key, slack c from 1 to 65,536 and a vector w."
+-- PROTOCOL 6: the judge of relaxed openings.
 --
 --   slackAllowed S c         is c in its range (refusal 15)
 --   slack S                  the extractor's slack, 4^L
@@ -22,7 +22,7 @@ use Rattle.protocol.specs.Tree.{growth}
 unfoldable pub slackAllowed : Settings → ℕ → Bool
 slackAllowed S c = leb 1 c && leb c 65_536
 
--- "so here it is 4^L"
+-- PROTOCOL 5.7: 4 for each round
 unfoldable pub slack : Settings → ℕ
 slack S = 4 ^ S .depth
 
@@ -32,13 +32,13 @@ scaledCommitment S C c k = modulo (S .modulus) (times (pos c) (residue C) k)
 unfoldable pub combination : Settings → List ℕ → List ℤ → ℕ → ℕ
 combination S key w k = modulo (S .modulus) (inner (S .degree) (size S) (signedAt (S .degree) w) (residueAt (S .degree) key) k)
 
--- "To open c times the commitment is that equation alone, G being the unfolded key."
+-- PROTOCOL 6: without the growth bound, and with the key before any fold
 unfoldable pub opens : Settings → List ℕ → List ℕ → ℕ → List ℤ → Bool
 opens S key C c w = every (S .degree) (λ k. eqb (scaledCommitment S C c k) (combination S key w k))
 
 abbrev pub Opens : Settings → List ℕ → List ℕ → ℕ → List ℤ → Type 0
 Opens S key C c w = (k : ℕ) → k < S .degree → scaledCommitment S C c k ≡ combination S key w k
 
--- "Yes exactly when c times the commitment is the sum of w_i·G_i modulo q and no coefficient of w is beyond ±(12·d²)^L·B."
+-- PROTOCOL 6: the equation and the growth bound
 unfoldable pub judged : Settings → List ℕ → List ℕ → ℕ → List ℤ → Bool
 judged S key C c w = opens S key C c w && small (growth S) w

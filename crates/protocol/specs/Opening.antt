@@ -1,4 +1,4 @@
--- Document 01, "The opening": commitment, round polynomial, folds and final element.
+-- PROTOCOL 2: commitment, round polynomial, folds and final element.
 -- Tables are flat, d numbers to an element; t is how many rounds are done, so the next round is round i = t + 1.
 --
 --   inner d h m G              ⟨m, G⟩ of h elements
@@ -35,18 +35,18 @@ cross d h m G zero = inner d h m G
 cross d h m G (suc zero) = plus (inner d h m (second h G)) (inner d h (second h m) G)
 cross d h m G (suc (suc j)) = inner d h (second h m) (second h G)
 
--- "Fold: m0 + r·m1 over whole numbers … The result stands in the first half of what was left. Every number behind it stays."
+-- PROTOCOL 2.4, the message: the second half, turned by X^e, is added to the first; all numbers behind the first half are kept
 unfoldable pub foldSigned : ℕ → ℕ → ℕ → List ℤ → List ℤ
 foldSigned d h e m = flat d h (λ i k. signedAt d m i k +ℤ rotate d e (signedAt d m (h + i)) k) ++ drop (h * d) m
 
--- "… G0 + r·G1 modulo q."
+-- PROTOCOL 2.4, the key: the same, reduced
 unfoldable pub foldResidues : ℕ → ℕ → ℕ → ℕ → List ℕ → List ℕ
 foldResidues q d h e G = flat d h (λ i k. modulo q (residueAt d G i k +ℤ rotate d e (residueAt d G (h + i)) k)) ++ drop (h * d) G
 
 module _ (S : Settings) where
   open Settings S using (degree as d, depth as L, modulus as q)
 
-  -- "Commitment: the sum of m_i·G_i over i from 0 to n−1, modulo q."
+  -- PROTOCOL 2.1
   unfoldable pub commitment : List ℕ → List ℤ → List ℕ
   commitment key message = reduced q d (inner d (size S) (signedAt d message) (residueAt d key))
 
@@ -68,10 +68,10 @@ module _ (S : Settings) where
   keyAfter E zero key = key
   keyAfter E (suc t) key = foldKey t (getD E t 0) (keyAfter E t key)
 
-  -- "The final element is the first of the message table after L folds."
+  -- PROTOCOL 2.5
   unfoldable pub finalElement : List ℤ → List ℤ
   finalElement message = coefficients d (signedAt d message 0)
 
-  -- "item 3(i−1)+j is c_j of round i"
+  -- PROTOCOL 1.4: three elements for each round, in the order of the rounds
   unfoldable pub roundTable : List ℕ → List ℕ → List ℤ → List ℕ
   roundTable E key message = flat d (roundItems S) (λ i k. getD (roundElement (i / 3) (keyAfter E (i / 3) key) (messageAfter E (i / 3) message) (i % 3)) k 0)

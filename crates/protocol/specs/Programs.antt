@@ -1,4 +1,4 @@
--- Document 01, "Text tables": the programs `prove` and `verify`, as calls on text and as what they print.
+-- PROTOCOL 10: the programs `prove` and `verify`, as calls on text and as what they print.
 --
 --   proveReads, provePrints, verifyReads   which parts a program reads and prints
 --   printed T                              the tables that `prove` prints of a transcript
@@ -29,14 +29,14 @@ use Rattle.protocol.specs.Session.{verdict}
 use Rattle.protocol.specs.Text.{Tables, lineFeed, textLimit, bytes, decimal, textOf, linesOf, settingsIn, tablesIn, textRefusal, outputRefusal}
 use Rattle.protocol.specs.Text.{written, overwritten}
 
--- "The program `prove` reads parts 0, 1, 2, 5 from standard input and prints 0, 3, 4, 5, 6."
+-- PROTOCOL 10.1: what goes into an opening, and the transcript that comes out
 unfoldable pub proveReads : Parts
 proveReads = record { key = true; message = true; commitment = false; round = false; challenge = true; last = false }
 
 unfoldable pub provePrints : Parts
 provePrints = record { key = false; message = false; commitment = true; round = true; challenge = true; last = true }
 
--- "The program `verify` reads 0, 1, 3, 4, 5, 6"
+-- PROTOCOL 10.2: a key and a transcript
 unfoldable pub verifyReads : Parts
 verifyReads = record { key = true; message = false; commitment = true; round = true; challenge = true; last = true }
 
@@ -92,17 +92,17 @@ verifyGives text = record {
 
 -- ---- What is printed
 
--- "`refused N`, N being the number"
+-- PROTOCOL 10.1 and 10.2
 unfoldable pub refusedLine : ℕ → List ℕ
 refusedLine number = bytes "refused " ++ (decimal number ++ (lineFeed ∷ []))
 
--- "prints one line: `accepted`, `rejected` or `refused N`"
+-- PROTOCOL 10.2
 unfoldable pub verdictLine : Verified → List ℕ
 verdictLine Accepted = bytes "accepted\n"
 verdictLine Rejected = bytes "rejected\n"
 verdictLine (Refused number) = refusedLine number
 
--- "`prove` prints `refused N` too."; its output slice has room for the longest text
+-- PROTOCOL 10.1; the output slice of the program has room for the longest text
 unfoldable pub proveOutput : List ℕ → List ℕ
 proveOutput text = granted (proveRefusal text textLimit) (proveText text) (refusedLine (proveRefusal text textLimit))
 

@@ -1,4 +1,4 @@
--- Document 01, "Text tables": one text for each table. The statement that reading gives back what was written, and writing what was read.
+-- PROTOCOL 9.7: one text for each table. The statement that reading gives back what was written, and writing what was read.
 --
 --   outcome S P t out   the bytes that the writer put into an output slice
 --   Back, Forth         the two halves, for one call each

@@ -1,4 +1,4 @@
--- Document 01, "The opening": the verifier's session. "Each move takes the record and hands the next one back."
+-- PROTOCOL 4: the verifier's session. A move is given a record by value, and answers with the one that follows it.
 --
 --   slots                    how many challenges a record holds
 --   verdict met              what a verifier says of a transcript, or of its end
@@ -29,7 +29,7 @@ use Rattle.protocol.specs.Element.{width, zeros, padded, signed, residue
 use Rattle.protocol.specs.Settings.{settingsRefusal, cells, sized, residues, residueElement, exponent, exponents}
 use Rattle.protocol.specs.Transcript.{roundHolds, nextClaim, finalBounded, endHolds}
 
--- "a list of eight challenges"
+-- PROTOCOL 4.1: one for each round that the largest depth has
 unfoldable pub slots : ℕ
 slots = 8
 
@@ -51,7 +51,7 @@ endNumber refusal met = granted refusal (choose met 2 3) 0
 
 -- ---- start
 
--- "the claim starts as the commitment"; of the commitment only the first d places are read
+-- PROTOCOL 4.2; of the commitment only the first d places are read
 unfoldable pub opened : Settings → List ℕ → Session
 opened S C = record {
   settings = S;
@@ -61,7 +61,7 @@ opened S C = record {
   closed = false;
 }
 
--- "a refused start hands back a closed record of zeros"
+-- PROTOCOL 4.1: what a refused start gives
 unfoldable pub blank : Session
 blank = record {
   settings = record { degree = 0; depth = 0; modulus = 0; bound = 0 };
@@ -79,11 +79,11 @@ start S C = record { number = startRefusal S C; next = granted (startRefusal S C
 
 -- ---- a move
 
--- "A refusal returns its number, with records handed back unchanged and every other part of the answer 0"
+-- PROTOCOL 4.5 and 7.4
 unfoldable pub refusedMove : Session → ℕ → Moved
 refusedMove r number = record { number = number; verdict = Silent; next = r }
 
--- "A rejection or an acceptance closes the record and changes no other field."
+-- PROTOCOL 4.3 and 4.4: what a final verdict does to the record
 unfoldable pub shut : Session → Session
 shut r = record { settings = r .settings; done = r .done; claim = r .claim; challenges = r .challenges; closed = true }
 
@@ -93,7 +93,7 @@ shut r = record { settings = r .settings; done = r .done; claim = r .claim; chal
 unfoldable pub part : List (List ℕ) → ℕ → List ℕ
 part p j = getD p j []
 
--- 8: "a … round or claim coefficient"; 10: "tests all eight"; 11: "a round with L or more done, … a closed record"
+-- PROTOCOL 8.9: 8 is over claim and polynomial, 10 over every slot and the new exponent, 11 asks for a round that is left and an open record
 unfoldable pub moveRefusal : Session → List (List ℕ) → ℕ → ℕ
 moveRefusal r p e =
     let S = r .settings in
@@ -104,7 +104,7 @@ moveRefusal r p e =
     ∷ unless 11 (ltb (r .done) (S .depth) && not (r .closed))
     ∷ [])
 
--- "A round that holds counts itself and stores its challenge and the new claim."
+-- PROTOCOL 4.3: the slot of the challenge is the count before this round
 unfoldable pub advanced : Session → List (List ℕ) → ℕ → Session
 advanced r p e = record {
   settings = r .settings;
@@ -128,7 +128,7 @@ moveNumber r p e = roundNumber (moveRefusal r p e) (moveHolds r p)
 
 -- ---- end
 
--- 8: "a key, … or claim coefficient"; 10: "tests all eight"; 11: "an end with other than L done, a closed record"
+-- PROTOCOL 8.10: 8 is over key and claim, 10 over every slot, 11 asks that no round is left and for an open record
 unfoldable pub closeRefusal : Session → List ℕ → ℕ
 closeRefusal r key =
     let S = r .settings in

@@ -1,4 +1,4 @@
--- Document 01, "The ring and the tables": which settings are allowed, and the tests that several calls share.
+-- PROTOCOL 1.1: which settings are allowed; PROTOCOL 7.1 and 7.3: the tests that several calls share.
 --
 --   degreeAllowed S .. boundAllowed S   is d, L, q, B allowed
 --   settingsRefusal S                   refusals 3 to 6
@@ -19,19 +19,19 @@ use Rattle.protocol.specs.Basic.{every, all, among, within, first, unles
 use Rattle.protocol.specs.Layout.{exponentCount}
 unfoldable pub use Rattle.protocol.specs.Layout.{size, cells}
 
--- "Degree d is 2, 4, 8, 16, 32 or 64."
+-- PROTOCOL 1.1: the powers of two from 2^1 to 2^6
 unfoldable pub degreeAllowed : Settings → Bool
 degreeAllowed S = among (S .degree) (2 ∷ 4 ∷ 8 ∷ 16 ∷ 32 ∷ 64 ∷ [])
 
--- "Depth L is 0 to 8"
+-- PROTOCOL 1.1: a table has at most 256 elements
 unfoldable pub depthAllowed : Settings → Bool
 depthAllowed S = leb (S .depth) 8
 
--- "Modulus q is odd, 3 to 2,147,483,647."
+-- PROTOCOL 1.1: odd, so that 2 has an inverse, and below 2^31
 unfoldable pub modulusAllowed : Settings → Bool
 modulusAllowed S = eqb (S .modulus % 2) 1 && leb 3 (S .modulus) && leb (S .modulus) 2_147_483_647
 
--- "Bound B is 1 to 127."
+-- PROTOCOL 1.1: not 0, and below 2^7
 unfoldable pub boundAllowed : Settings → Bool
 boundAllowed S = leb 1 (S .bound) && leb (S .bound) 127
 
@@ -42,22 +42,22 @@ settingsRefusal S = first (unless 3 (degreeAllowed S) ∷ unless 4 (depthAllowed
 unfoldable pub half : Settings → ℕ
 half S = (S .modulus + 1) / 2
 
--- "a lent table not exactly its length"
+-- PROTOCOL 7.1, refusal 7
 unfoldable pub sized {ℓ} : {A : Type ℓ} → ℕ → List A → Bool
 sized n t = eqb (length t) n
 
--- "Key, commitment and round coefficients are 0 to q−1"
+-- PROTOCOL 7.1, refusal 8
 unfoldable pub residues : Settings → List ℕ → Bool
 residues S t = all (λ x. ltb x (S .modulus)) t
 
 unfoldable pub residueElement : Settings → List ℕ → Bool
 residueElement S a = every (S .degree) (λ k. ltb (getD a k 0) (S .modulus))
 
--- "Message coefficients are signed 32-bit whole numbers from −B to B"; later bounds are larger
+-- PROTOCOL 7.1, refusal 9: b is B before any fold, and larger later
 unfoldable pub small : ℕ → List ℤ → Bool
 small b t = all (within b) t
 
--- "A challenge is an exponent e from 0 to 2d−1"
+-- PROTOCOL 1.5, and 7.1, refusal 10
 unfoldable pub exponent : Settings → ℕ → Bool
 exponent S e = ltb e (exponentCount S)
 

@@ -1,4 +1,4 @@
--- Document 01, "Text tables": numbers, lines and tables as bytes, written and read. A text is the list of its bytes.
+-- PROTOCOL 9: numbers, lines and tables as bytes, written and read. A text is the list of its bytes.
 -- Reader and writer go by one description of the parts, `shapes`. A reader gives what it read with the bytes behind it, or nothing.
 --
 -- Written
@@ -51,7 +51,7 @@
 --   outputRefusal, writeRefusal   the writer's last refusals, and all of them, for an output slice of `room` bytes
 --   written, overwritten          an answer, and an output slice, for a refusal and a text
 --   writeAnswer, writeExit        the writer's answer, and its output slice as it leaves it
---   Reading, reading r            document 01's number and values for each case of the number reader's answer
+--   Reading, reading r            the refusal's number and the values for each case of the number reader's answer
 --   numberAnswer                  what was read, as that answer
 --   readNumberAt, readCountAt     the number readers as calls on a text and a place
 use mathlib.Core.Bool.{Bool, true, false, _&&_, not}
@@ -72,11 +72,11 @@ use Rattle.protocol.specs.declared.Number.the-variants.{Value, Refused}
 use Rattle.protocol.specs.Basic.{least, tabulate, all, choose, within, first, unless, granted}
 use Rattle.protocol.specs.Settings.{settingsRefusal, size, sized, residues, exponents, small}
 
--- "over 65,536 bytes"
+-- PROTOCOL 7.1, refusal 1
 unfoldable pub textLimit : ℕ
 textLimit = 65_536
 
--- "magnitude at most 2,147,483,647"
+-- PROTOCOL 9.1: below 2^31
 unfoldable pub valueLimit : ℕ
 valueLimit = 2_147_483_647
 
@@ -99,7 +99,7 @@ bytes (c then s) = code c ∷ bytes s
 
 -- ---- Written
 
--- "First the names line"
+-- PROTOCOL 9.1: 21 bytes and a line feed
 unfoldable pub names : List ℕ
 names = bytes "part item place value\n"
 
@@ -111,11 +111,11 @@ unfoldable pub lowDigits : ℕ → ℕ → List ℕ
 lowDigits zero n = []
 lowDigits (suc k) n = lowDigits k (n / 10) ++ ((zeroDigit + n % 10) ∷ [])
 
--- "A number has no leading zero, no plus"
+-- PROTOCOL 9.1: only the number 0 begins with the digit 0
 unfoldable pub decimal : ℕ → List ℕ
 decimal n = lowDigits (digitCount n) n
 
--- "only a value may be negative"
+-- PROTOCOL 9.1: a minus stands before values alone
 unfoldable pub numeral : ℤ → List ℕ
 numeral (pos n) = decimal n
 numeral (negsuc n) = minus ∷ decimal (suc n)
@@ -129,7 +129,7 @@ pub record Line : Type 0 where
   pub spot : Spot
   pub value : ℤ
 
--- "single spaces, a line feed after every line"
+-- PROTOCOL 9.1, a line
 unfoldable pub lineText : Line → List ℕ
 lineText l =
     decimal (l .spot .part)
@@ -138,7 +138,7 @@ lineText l =
 unfoldable pub linesText : List Line → List ℕ
 linesText ls = flatMap lineText ls
 
--- "Final coefficients are signed 32-bit.", as message coefficients are
+-- PROTOCOL 9.2: messages and final elements have signs, the other tables none
 pub record Tables : Type 0 where
   pub key : List ℕ
   pub message : List ℤ
@@ -152,16 +152,16 @@ pub record Shape : Type 0 where
   pub items : ℕ
   pub places : ℕ
 
--- "told for each of parts 1 to 6 whether it is there": a part that is not there has no items
+-- PROTOCOL 9.2: a part that is not there has no items
 unfoldable pub shape : ℕ → Bool → ℕ → ℕ → Shape
 shape part there items places = record { part = part; items = choose there items 0; places = places }
 
--- "0 settings (item 0, places 0 to 3: d, L, q, B)"; "part 0 always is" there
+-- PROTOCOL 9.2: one item of four places, in every text
 unfoldable pub settingsShape : Shape
 settingsShape = shape 0 true 1 4
 
--- "1 key, 2 message, 3 commitment, 4 round (item 3(i−1)+j is c_j of round i), 5 challenge (item i−1, place 0), 6 final.
--- Otherwise item is the element and place the coefficient."
+-- PROTOCOL 9.2: the items of a part are elements and their places coefficients, three elements for each round; a challenge is
+-- an item of one place.
 unfoldable pub shapes : Settings → Parts → List Shape
 shapes S P =
     settingsShape
@@ -183,7 +183,7 @@ spotAt b p = record { part = b .part; item = p / b .places; place = p % b .place
 unfoldable pub spots : Shape → List Spot
 spots b = tabulate (shapeSize b) (spotAt b)
 
--- "Lines rise by part, item, place, none missing."
+-- PROTOCOL 9.3
 unfoldable pub wanted : Settings → Parts → List Spot
 wanted S P = flatMap spots (shapes S P)
 
@@ -211,14 +211,14 @@ blocks S P t = zipWith block (shapes S P) (contents S t)
 unfoldable pub blockLines : Block → List Line
 blockLines b = tabulate (shapeSize (b .shape)) (λ p. record { spot = spotAt (b .shape) p; value = getD (b .values) p (pos 0) })
 
--- "First the names line, then lines of values in that order"
+-- PROTOCOL 9.6
 unfoldable pub textOf : Settings → Parts → Tables → List ℕ
 textOf S P t = names ++ linesText (flatMap blockLines (blocks S P t))
 
 unfoldable pub blockFits : Block → Bool
 blockFits b = sized (shapeSize (b .shape)) (b .values)
 
--- "a lent table not exactly its length"; "The table lent for an absent part has length 0."
+-- PROTOCOL 7.1, refusal 7: a part that is not there has no values
 unfoldable pub fits : Settings → Parts → Tables → Bool
 fits S P t = all blockFits (blocks S P t)
 
@@ -239,12 +239,12 @@ unfoldable pub digitFirst : List ℕ → Bool
 digitFirst [] = false
 digitFirst (b ∷ bs) = digit b
 
--- "A number has no leading zero, no plus"
+-- PROTOCOL 9.1: only the number 0 begins with the digit 0
 unfoldable pub properDigits : List ℕ → Bool
 properDigits [] = false
 properDigits (b ∷ bs) = digit b && not (eqb b zeroDigit && digitFirst bs)
 
--- "magnitude at most 2,147,483,647"
+-- PROTOCOL 9.1: below 2^31
 unfoldable pub readCount : List ℕ → Option (ℕ × List ℕ)
 readCount bs = keep (properDigits bs && leb (digitRun 0 bs .0) valueLimit) (digitRun 0 bs)
 
@@ -253,13 +253,13 @@ plain r = do
   (n, rest) ← r
   some (pos n, rest)
 
--- "no "-0""
+-- PROTOCOL 9.1: 0 has no minus
 unfoldable pub negative : Option (ℕ × List ℕ) → Option (ℤ × List ℕ)
 negative r = do
   (n, rest) ← r
   keep (not (eqb n 0)) (negℤ (pos n), rest)
 
--- "only a value may be negative"
+-- PROTOCOL 9.1: a minus stands before values alone
 unfoldable pub readNumber : List ℕ → Option (ℤ × List ℕ)
 readNumber [] = none
 readNumber (b ∷ bs) = elim (eqb b minus) [ true ↦ negative (readCount bs) | false ↦ plain (readCount (b ∷ bs)) ]
@@ -268,14 +268,14 @@ unfoldable pub byte : ℕ → List ℕ → Option (List ℕ)
 byte c [] = none
 byte c (b ∷ bs) = keep (eqb b c) bs
 
--- "single spaces"
+-- PROTOCOL 9.1: one space behind it
 unfoldable pub readIndex : List ℕ → Option (ℕ × List ℕ)
 readIndex bs = do
   (n, behind) ← readCount bs
   rest ← byte space behind
   some (n, rest)
 
--- "a line feed after every line"
+-- PROTOCOL 9.1, a line
 unfoldable pub readLine : List ℕ → Option (Line × List ℕ)
 readLine bs = do
   (part, itemOn) ← readIndex bs
@@ -303,7 +303,7 @@ begins (c ∷ cs) (b ∷ bs) = eqb b c && begins cs bs
 unfoldable pub beginsWithNames : List ℕ → Bool
 beginsWithNames text = begins names text
 
--- "a line not of the stated shape (names line and last line feed included)": such a text has no lines
+-- PROTOCOL 9.1: bytes that are no text have no lines
 unfoldable pub parsed : List ℕ → Option (List Line)
 parsed text = elim (beginsWithNames text) [ true ↦ readLines (length text) (drop (length names) text) | false ↦ none ]
 
@@ -325,11 +325,11 @@ spotsOf ls = map (λ (l : Line). l .spot) ls
 unfoldable pub valuesOf : List Line → List ℤ
 valuesOf ls = map (λ (l : Line). l .value) ls
 
--- "or the first four value lines aren't settings"
+-- PROTOCOL 9.1: the lines of part 0 come first; bytes that are no text fail here, since they have no lines
 unfoldable pub wellFormed : List ℕ → Bool
 wellFormed text = sameSpots (take (shapeSize settingsShape) (spotsOf (linesOf text))) (spots settingsShape)
 
--- "In text, settings below zero count as out of range.": they count as one past the limit of magnitude, which no setting,
+-- PROTOCOL 9.4: a number with a minus counts as one past the limit of magnitude, which no setting,
 -- residue or exponent reaches
 unfoldable pub unsigned : ℤ → ℕ
 unsigned (pos n) = n
@@ -345,7 +345,7 @@ unsignedColumn p ls = map unsigned (column p ls)
 unfoldable pub settingIn : List Line → ℕ → ℕ
 settingIn ls place = unsigned (getD (valuesOf ls) place (pos 0))
 
--- "places 0 to 3: d, L, q, B"
+-- PROTOCOL 9.2, part 0
 unfoldable pub settingsIn : List Line → Settings
 settingsIn ls = record { degree = settingIn ls 0; depth = settingIn ls 1; modulus = settingIn ls 2; bound = settingIn ls 3 }
 
@@ -361,7 +361,7 @@ tablesIn ls = record {
 
 -- ---- The calls
 
--- "every other part of the answer 0"
+-- PROTOCOL 7.4
 unfoldable pub noSettings : Settings
 noSettings = record { degree = 0; depth = 0; modulus = 0; bound = 0 }
 
@@ -381,8 +381,8 @@ loaded refusal text = record { number = refusal; settings = granted refusal (set
 unfoldable pub lookAnswer : List ℕ → Loaded
 lookAnswer text = loaded (lookRefusal text) text
 
--- "8: a key, commitment, round .. coefficient not 0 to q−1", "9: a message coefficient beyond its bound", "10: an exponent
--- outside 0 to 2d−1"; `lastFits` is what 9 asks of the final element: nothing in the reader
+-- PROTOCOL 9.5 and 9.6: 8 over key, commitment and rounds, 9 over the message, 10 over the challenges;
+-- `lastFits` is what 9 asks of the final element: nothing in the reader
 unfoldable pub entriesRefusal : Settings → Bool → Tables → ℕ
 entriesRefusal S lastFits t =
     first
@@ -391,7 +391,7 @@ entriesRefusal S lastFits t =
     ∷ unless 10 (exponents S (t .challenges))
     ∷ [])
 
--- "7: a lent table not exactly its length, value lines not the required ones in order"; `lent` says whether the lent tables
+-- PROTOCOL 9.5: the order over the whole text; `lent` says whether the lent tables
 -- have their lengths
 unfoldable pub textRefusal : Parts → Bool → List ℕ → ℕ
 textRefusal P lent text =
@@ -411,11 +411,11 @@ readAnswer P text t = loaded (readRefusal P text t) text
 unfoldable pub readExit : Parts → List ℕ → Tables → Tables
 readExit P text t = granted (readRefusal P text t) (tablesIn (linesOf text)) t
 
--- "it tests the length of its text last, by 1, and then the output slice, by 7"
+-- PROTOCOL 9.6: behind all tests of the input
 unfoldable pub outputRefusal : List ℕ → ℕ → ℕ
 outputRefusal text room = first (unless 1 (leb (length text) textLimit) ∷ unless 7 (leb (length text) room) ∷ [])
 
--- "in the writer, a final coefficient of −2,147,483,648": the one signed 32-bit number past the limit
+-- PROTOCOL 9.6; −2^31 is the one signed 32-bit number that a text cannot hold
 unfoldable pub writeRefusal : Settings → Parts → Tables → ℕ → ℕ
 writeRefusal S P t room =
     first
@@ -425,11 +425,11 @@ writeRefusal S P t room =
     ∷ outputRefusal (textOf S P t) room
     ∷ [])
 
--- "The writer returns its text's length"
+-- PROTOCOL 9.6: the bytes that were written
 unfoldable pub written : ℕ → List ℕ → Written
 written refusal text = record { number = refusal; count = granted refusal (length text) 0 }
 
--- "and leaves bytes after its text unchanged"
+-- PROTOCOL 9.6: behind the text stands what stood there
 unfoldable pub overwritten : ℕ → List ℕ → List ℕ → List ℕ
 overwritten refusal text out = granted refusal (text ++ drop (length text) out) out
 
@@ -444,7 +444,7 @@ pub record Reading : Type 0 where
   pub value : ℤ
   pub next : ℕ
 
--- "The reader answers a value with the next place, or a refusal."
+-- PROTOCOL 9.4
 unfoldable pub reading : Number → Reading
 reading (Value value next) = record { number = 0; value = value; next = next }
 reading (Refused number) = record { number = number; value = pos 0; next = 0 }

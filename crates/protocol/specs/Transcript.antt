@@ -1,4 +1,4 @@
--- Document 01, "The opening": what a verifier checks, when a transcript is accepted, and why one is rejected.
+-- PROTOCOL 3: what a verifier checks, when a transcript is accepted, and why one is rejected.
 --
 --   Transcript              commitment, round elements, challenges, final element
 --   doubled S c0 c2         2·(c0 + c2) modulo q
@@ -27,7 +27,7 @@ use Rattle.protocol.specs.Settings.{size, half}
 use Rattle.protocol.specs.Layout.{itemOf}
 use Rattle.protocol.specs.Opening.{keyAfter, commitment, roundTable, messageAfter, finalElement}
 
--- "A transcript is commitment, round elements, challenges and final element."
+-- PROTOCOL 3.4
 pub record Transcript : Type 0 where
   pub commitment : List ℕ
   pub rounds : List ℕ
@@ -41,7 +41,7 @@ pub data Cause : Type 0 where
   bound : Cause
   equation : Cause
 
--- at the end the bound comes before the equation: "final 3, 0 by the bound", and it fails both
+-- PROTOCOL 3.5: at the end the bound comes before the equation; the example of 12.1 with final element 3 0 fails both
 unfoldable pub endCause : Bool → Bool → Cause
 endCause false met = Cause.bound
 endCause true false = Cause.equation
@@ -53,30 +53,30 @@ module _ (S : Settings) where
   unfoldable pub doubled : Element → Element → ℕ → ℕ
   doubled c0 c2 k = modulo q (pos 2 *ℤ (c0 k +ℤ c2 k))
 
-  -- "A round holds when 2·(c0+c2) equals the claim"
+  -- PROTOCOL 3.1
   unfoldable pub roundHolds : List ℕ → Element → Element → Bool
   roundHolds claim c0 c2 = every d (λ k. eqb (doubled c0 c2 k) (getD claim k 0))
 
-  -- "the claim becomes c0 + r·c1 + r²·c2"
+  -- PROTOCOL 3.2
   unfoldable pub nextClaim : ℕ → Element → Element → Element → List ℕ
   nextClaim e c0 c1 c2 = reduced q d (λ k. c0 k +ℤ rotate d e c1 k +ℤ rotate d e (rotate d e c2) k)
 
-  -- "the final element f must have no coefficient beyond ±n·B"
+  -- PROTOCOL 3.3, the bound
   unfoldable pub finalBounded : Element → Bool
   finalBounded f = every d (λ k. within (size S * B) (f k))
 
-  -- "half^L·f·G', G' being the key folded by all challenges"
+  -- PROTOCOL 3.3: what the last equation compares the claim with
   unfoldable pub ending : List ℕ → List ℕ → Element → ℕ → ℕ
   ending key E f k = modulo q (pos (half S ^ L) *ℤ product d f (residueAt d (keyAfter S E L key) 0) k)
 
-  -- "the claim must equal half^L·f·G'"
+  -- PROTOCOL 3.3, the last equation
   unfoldable pub endHolds : List ℕ → List ℕ → List ℕ → Element → Bool
   endHolds key E claim f = every d (λ k. eqb (getD claim k 0) (ending key E f k))
 
   unfoldable pub element : Transcript → ℕ → ℕ → Element
   element T t j = residueAt d (T .rounds) (itemOf t j)
 
-  -- "with the claim started at that commitment"
+  -- PROTOCOL 3.4: the first claim is the transcript's own commitment
   unfoldable pub claimAfter : Transcript → ℕ → List ℕ
   claimAfter T zero = T .commitment
   claimAfter T (suc t) = nextClaim (getD (T .challenges) t 0) (element T t 0) (element T t 1) (element T t 2)
@@ -87,7 +87,7 @@ module _ (S : Settings) where
   unfoldable pub closes : List ℕ → Transcript → Bool
   closes key T = endHolds key (T .challenges) (claimAfter T L) (signed (T .last))
 
-  -- "It is accepted when, with the claim started at that commitment, every round holds and the end is met."
+  -- PROTOCOL 3.4: every round, the bound, and the last equation
   unfoldable pub accepted : List ℕ → Transcript → Bool
   accepted key T = every L (holdsAt T) && (finalBounded (signed (T .last)) && closes key T)
 
@@ -103,7 +103,7 @@ pub record Accepted (S : Settings) (key : List ℕ) (T : Transcript) : Type 0 wh
   pub in-bound : (k : ℕ) → k < S .degree → natAbs (signed (T .last) k) ≤ size S * S .bound
   pub at-end : (k : ℕ) → k < S .degree → getD (claimAfter S T (S .depth)) k 0 ≡ ending S key (T .challenges) (signed (T .last)) k
 
--- "A message's transcript is what its opening gives, with the challenges."
+-- PROTOCOL 2.6
 unfoldable pub transcriptOf : Settings → List ℕ → List ℤ → List ℕ → Transcript
 transcriptOf S key message E = record {
   commitment = commitment S key message;

@@ -1,4 +1,4 @@
--- Document 01, "The tree and the extractor": numbering, paths, s(a,b), μ, node vectors, growth.
+-- PROTOCOL 5: numbering, paths, s(a,b), μ, node vectors, growth.
 -- Node k's round polynomial is elements 3k, 3k+1, 3k+2 of the flat table of rounds; its challenges are numbers 3k, 3k+1, 3k+2 of theirs.
 --
 --   child k j                   the children of node k, for j = 0, 1, 2
@@ -7,7 +7,7 @@
 --   challenge E k j             challenge j of node k; challengeTo E k: the challenge that leads to node k
 --   apart E k                   are the three challenges of node k different (refusal 12)
 --   gap d a b, steps d k        b − a on the circle of 2d exponents; how many steps of k go half way round it
---   s d a b                     s(a,b); `Divisor` states what document 01 says of it
+--   s d a b                     s(a,b); `Divisor` states what is owed of it
 --   mu d a b c                  μ of the challenge X^a, the others being X^b and X^c
 --   share d m v i               element i of μ·v
 --   combined d n ..             a node's vector from its three children's, of n elements each
@@ -35,7 +35,7 @@ use Rattle.protocol.specs.Transcript.{Transcript}
 
 -- ---- numbering
 
--- "the children of node k are 3k+1, 3k+2, 3k+3"
+-- PROTOCOL 5.1
 unfoldable pub child : ℕ → ℕ → ℕ
 child k j = 3 * k + 1 + j
 
@@ -52,11 +52,11 @@ above (suc h) k = parent (above h k)
 unfoldable pub challenge : List ℕ → ℕ → ℕ → ℕ
 challenge E k j = getD E (itemOf k j) 0
 
--- "Of node k's challenges the first leads to 3k+1, the second to 3k+2, the third to 3k+3."
+-- PROTOCOL 5.1: challenge j leads to child j
 unfoldable pub challengeTo : List ℕ → ℕ → ℕ
 challengeTo E k = challenge E (parent k) (place k)
 
--- "two equal exponents at one node"
+-- PROTOCOL 7.3, refusal 12: as numbers
 unfoldable pub apart : List ℕ → ℕ → Bool
 apart E k =
     not (eqb (challenge E k 0) (challenge E k 1))
@@ -80,11 +80,11 @@ s d a b place = sum (steps d (gap d a b)) (λ i. power d (gap d a b * i + (2 * d
 unfoldable pub difference : ℕ → ℕ → ℕ → Element
 difference d a b = plus (power d a) (times (negsuc 0) (power d b))
 
--- is x an element "with s·(X^a−X^b) = 2"
+-- PROTOCOL 5.3: is x an element that times X^a − X^b gives 2
 abbrev pub Divides : ℕ → ℕ → ℕ → Element → Type 0
 Divides d a b x = (k : ℕ) → k < d → product d x (difference d a b) k ≡ times (pos 2) one k
 
--- "the whole-number element with s·(X^a−X^b) = 2. It exists, and its coefficients are −1, 0 or 1.": owed for different exponents a and b
+-- PROTOCOL 5.3: the product is 2, no coefficient is larger than 1 in magnitude, and no other element does it; owed for different exponents a and b
 pub record Divisor (d a b : ℕ) : Type 0 where
   pub divides : Divides d a b (s d a b)
   pub ternary : (k : ℕ) → k < d → natAbs (s d a b k) ≤ 1
@@ -92,14 +92,14 @@ pub record Divisor (d a b : ℕ) : Type 0 where
 
 -- ---- vectors
 
--- "μ_j … the product of the two s from r_j to the other challenges r_k, r_l, times (1 + r_k·r_l)"
+-- PROTOCOL 5.4, the weight of X^a: both s begin at a
 unfoldable pub mu : ℕ → ℕ → ℕ → ℕ → List ℤ
 mu d a b c = coefficients d (product d (product d (s d a b) (s d a c)) (plus one (power d (b + c))))
 
 unfoldable pub share : ℕ → List ℤ → List ℤ → ℕ → Element
 share d m v i = product d (signed m) (signedAt d v i)
 
--- "Σ μ_j·v_j followed by Σ μ_j·r_j·v_j", the μ_j being m₁, m₂, m₃ and the r_j being X^a, X^b, X^c
+-- PROTOCOL 5.5, the μ_j being m₁, m₂, m₃ and the r_j being X^a, X^b, X^c
 unfoldable pub joined : ℕ → ℕ → ℕ → ℕ → ℕ → List ℤ → List ℤ → List ℤ → List ℤ → List ℤ → List ℤ → List ℤ
 joined d n a b c m₁ m₂ m₃ v₁ v₂ v₃ =
     flat d n (λ i k. share d m₁ v₁ i k +ℤ share d m₂ v₂ i k +ℤ share d m₃ v₃ i k)
@@ -108,7 +108,7 @@ joined d n a b c m₁ m₂ m₃ v₁ v₂ v₃ =
 unfoldable pub combined : ℕ → ℕ → ℕ → ℕ → ℕ → List ℤ → List ℤ → List ℤ → List ℤ
 combined d n a b c v₁ v₂ v₃ = joined d n a b c (mu d a b c) (mu d b a c) (mu d c a b) v₁ v₂ v₃
 
--- ---- growth: "(12·d²)^L·B over 2^62"
+-- ---- growth, PROTOCOL 5.6
 
 unfoldable pub growthFactor : ℕ → ℕ
 growthFactor d = 12 * d ^ 2
@@ -134,22 +134,22 @@ module _ (S : Settings) where
   unfoldable pub leaf : List ℤ → ℕ → List ℤ
   leaf finals j = coefficients d (signedAt d finals j)
 
-  -- "The path to a leaf is the transcript of the commitment given with the tree, the round polynomials and challenges met from the root on, and that leaf's final element."
+  -- PROTOCOL 5.2
   unfoldable pub path : List ℕ → List ℕ → List ℕ → List ℤ → ℕ → Transcript
   path C rounds E finals j = record { commitment = C; rounds = pathRounds rounds j; challenges = pathChallenges E j; last = leaf finals j }
 
-  -- "A leaf is a fold of m when L folds of m by its path's challenges give it"
+  -- PROTOCOL 5.7: what the leaf would be if m had been folded along its path
   unfoldable pub foldTo : List ℕ → ℕ → List ℤ → List ℤ
   foldTo E j m = finalElement S (messageAfter S (pathChallenges E j) L m)
 
-  -- "It is worked out node by node down the tree, with a depth that falls. A leaf's vector is its final element."
+  -- PROTOCOL 5.5; h is how far the leaves are below node k
   unfoldable pub vector : List ℕ → List ℤ → ℕ → ℕ → List ℤ
   vector E finals zero k = leaf finals (k - nodes S)
   vector E finals (suc h) k =
       combined d (2 ^ h) (challenge E k 0) (challenge E k 1) (challenge E k 2)
       (vector E finals h (child k 0)) (vector E finals h (child k 1)) (vector E finals h (child k 2))
 
-  -- "The root's vector w"
+  -- PROTOCOL 5.5: w
   unfoldable pub rootVector : List ℕ → List ℤ → List ℤ
   rootVector E finals = vector E finals L 0
 

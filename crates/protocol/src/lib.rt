@@ -1,6 +1,6 @@
-// The declared types of the public calls, in document 01's terms. No function stands here.
+// The declared types of the public calls (PROTOCOL 8.1, by value). No function stands here.
 
-// Document 01: "Settings are d, L, q, B."
+// PROTOCOL 1.1.
 pub struct Settings {
     pub degree: u32,
     pub depth: u32,
@@ -16,7 +16,7 @@ pub enum Verdict {
     Rejected,
 }
 
-// Document 01: "A verifier's session record holds settings, rounds done, claim, a list of eight challenges (the unused ones 0) and whether it is closed."
+// The record of a verifier (PROTOCOL 4.1).
 pub struct Session {
     pub settings: Settings,
     pub done: u32,
@@ -33,7 +33,7 @@ pub struct Committed {
     pub commitment: [u32; 64],
 }
 
-// The prover's round. Document 01: "passed by value as three elements, each an array of coefficients."
+// The prover's round (PROTOCOL 8.4): c0, c1 and c2.
 pub struct Polynomial {
     pub number: u32,
     pub elements: [[u32; 64]; 3],
@@ -78,7 +78,7 @@ pub struct Judged {
     pub yes: bool,
 }
 
-// Document 01: "Table reader and table writer are told for each of parts 1 to 6 whether it is there".
+// Which parts a text has (PROTOCOL 9.2).
 pub struct Parts {
     pub key: bool,
     pub message: bool,
@@ -100,7 +100,7 @@ pub struct Written {
     pub count: usize,
 }
 
-// The number reader. Document 01: "The reader answers a value with the next place, or a refusal."
+// The number reader (PROTOCOL 9.4).
 pub enum Number {
     Value { value: i32, next: usize },
     Refused(u32),

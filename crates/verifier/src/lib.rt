@@ -1,4 +1,4 @@
-// The verifier's session. Each move takes the record and hands the next one back.
+// The verifier's session (PROTOCOL 4): moves by value, from one record to the next.
 use protocol::Moved;
 use protocol::Session;
 use protocol::Settings;
