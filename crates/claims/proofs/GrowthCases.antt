@@ -1,4 +1,4 @@
--- Document 01's marked cases of growth as refusals by 14, for judge and extractor at every full tree, whatever the modulus: at d 64, L 4, B 1 both refuse, at d 32, L 4, B 127 neither does.
+-- The marked cases of growth (PROTOCOL 12.6) as refusals by 14, for judge and extractor at every full tree, whatever the modulus: at d 64, L 4, B 1 both refuse, at d 32, L 4, B 127 neither does.
 -- (HonestTree has a full tree for each.)
 use mathlib.Core.Path.{_≡_}
 use mathlib.Core.Bool.{true}

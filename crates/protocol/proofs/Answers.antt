@@ -1,4 +1,4 @@
--- Answers that are enums, by document 01's numbers and values.
+-- Answers that are enums, by the numbers and values that PROTOCOL gives them.
 --
 --   number-given, line-given          the number reader's answer, and the line reader's
 --   move-number, close-number         the verdict of a session's round, and of its end

@@ -51,7 +51,7 @@ examples =
     -- these leaves, and the listing's round at the root, are what honest answers give
     ∷ record { given = map pos (honestRounds S₁ (0 ∷ 1 ∷ 2 ∷ []) key₁ message₁); wanted = map pos rounds₁ }
     ∷ record { given = honestFinals S₁ (0 ∷ 1 ∷ 2 ∷ []) message₁; wanted = leaves₁ }
-    -- "w is 4 −4, 4 0.": as the root vector, and as what the call leaves
+    -- PROTOCOL 12.3: w, as the root vector, and as what the call leaves
     ∷ record { given = rootVector S₁ (0 ∷ 1 ∷ 2 ∷ []) leaves₁; wanted = pos 4 ∷ negsuc 3 ∷ pos 4 ∷ pos 0 ∷ [] }
     ∷ record { given = extractExit S₁ (T₁ .commitment) key₁ (T₁ .rounds) (0 ∷ 1 ∷ 2 ∷ []) leaves₁ w₁; wanted = pos 4 ∷ negsuc 3 ∷ pos 4 ∷ pos 0 ∷ [] }
     ∷ record { given = pos (extractRefusal S₁ (T₁ .commitment) key₁ (T₁ .rounds) (0 ∷ 1 ∷ 2 ∷ []) leaves₁ w₁) ∷ []; wanted = pos 0 ∷ [] }

@@ -1,4 +1,4 @@
--- Demand 3 put to use at document 01's listing: whoever has the claim gets, at one stroke, what a caller of the whole opening and a caller of the moves rely on. Every field of
+-- Demand 3 put to use at the worked listing (PROTOCOL 12): whoever has the claim gets, at one stroke, what a caller of the whole opening and a caller of the moves rely on. Every field of
 -- the claim is used, and refused calls of every kind stand in the gaps, so that a claim that says less no longer gives this. (TrialTree does the same for the extractor.)
 --   run₁              a list of calls that makes the listing's opening move by move, refused calls of every kind standing between, on one table or the other
 --   opening-gives     from the claim: the whole opening is not refused, says accepted and gives an accepted transcript

@@ -1,4 +1,4 @@
--- Demand 3 put to use at a tree of document 01's listing: whoever has the claim gets what a caller of the extractor relies on. Every field of the claim is used.
+-- Demand 3 put to use at a tree of the worked listing (PROTOCOL 12): whoever has the claim gets what a caller of the extractor relies on. Every field of the claim is used.
 --   extraction-gives    from the claim: a tree of folds of a message beyond B is not refused, and w is its root vector, within its bound, opens 4 times the commitment, satisfies the judge,
 --                       and is exactly 4 times that message
 --   functions-give      the same from the claim of the functions, over the values that a call of the extractor and one of the judge gave

@@ -154,7 +154,7 @@ openingAnswer S key message E rounds =
 unfoldable pub openingNumber : Settings → List ℕ → List ℤ → List ℕ → List ℕ → ℕ
 openingNumber S key message E rounds = endNumber (openingRefusal S key message E rounds) (accepted S key (transcriptOf S key message E))
 
--- "both tables stay as L folds leave them"
+-- PROTOCOL 8.7: each table is left folded all the way
 unfoldable pub openingKeyExit : Settings → List ℕ → List ℤ → List ℕ → List ℕ → List ℕ
 openingKeyExit S key message E rounds = granted (openingRefusal S key message E rounds) (keyAfter S E (S .depth) key) key
 

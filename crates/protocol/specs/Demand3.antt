@@ -1,4 +1,4 @@
--- Demand 3 as one statement: "a single claim, about the whole list of calls and the whole tree, and not one for each call or node".
+-- Demand 3 as one statement, PROTOCOL 11.2: all calls of an opening in their order, and all of a tree, in one claim.
 -- It is stated over the definitions that the public promises cite. Each public function's promise is an equation with its definition;
 -- Performed states the same over what the functions give, of which only these promises are known.
 --
@@ -276,7 +276,7 @@ pub record OpeningClaim (S : Settings) (G : List ℕ) (M : List ℤ) (E rounds :
 
 -- ════ a tree
 
--- "A tree is full with all N branching nodes and 3^L leaves": whatever was answered in it, with three different challenges at every node and every path accepted.
+-- PROTOCOL 5.2: a full tree has all its branching nodes and leaves, whatever was answered in it, with three different challenges at every node and every path accepted.
 -- Nothing is asked of the commitment: that it is residues follows (claims/proofs/Ranges, accepted-commitment)
 pub record FullTree (S : Settings) (G C rounds E : List ℕ) (finals : List ℤ) : Type 0 where
   pub rounds-below : Below (S .modulus) (3 * nodes S * S .degree) rounds

@@ -1,11 +1,11 @@
--- Document 01, "Text tables": the readers of a number and of a line as calls on a text and a place, what they answer in document 01's numbers, and
+-- PROTOCOL 9.1 and 9.5: the readers of a number and of a line as calls on a text and a place, what they answer by number and value, and
 -- the lines that every text begins with. What a number and a line are is said in Text.
 --
 --   present r                  was anything read
 --   givenNumber text o         what a reader of numbers gives for what it read: number, value and next place (`reading` has them for its enum)
 --   readIndexAt                a number from 0 on and the space behind it, as a call on a text and a place
 --   noLine                     a line of zeros
---   LineReading, lineReading r document 01's number and values for each case of the line reader's answer
+--   LineReading, lineReading r the number and values for each case of the line reader's answer
 --   givenLine text o           the same for what was read
 --   lineAnswer text o          what was read, as the line reader's answer
 --   readLineAt                 the line reader as a call on a text and a place

@@ -50,7 +50,7 @@ module _ (S : Settings) where
   unfoldable pub commitment : List ℕ → List ℤ → List ℕ
   commitment key message = reduced q d (inner d (size S) (signedAt d message) (residueAt d key))
 
-  -- "c0 = half^i·⟨m0,G0⟩, c1 = half^i·(⟨m0,G1⟩+⟨m1,G0⟩), c2 = half^i·⟨m1,G1⟩", i = t + 1
+  -- PROTOCOL 2.3; this is round t + 1
   unfoldable pub roundElement : ℕ → List ℕ → List ℤ → ℕ → List ℕ
   roundElement t key message j = reduced q d (times (pos (half S ^ (t + 1))) (cross d (halfLeft S t) (signedAt d message) (residueAt d key) j))
 

@@ -8,7 +8,7 @@
 --   transcriptIn t                         the transcript in the tables that `verify` reads
 --   tablesAccepted S t                     is it accepted
 --   verifyRefusal, verifyAnswer            `verify` on a text: its refusals and its answer
---   checked r                              document 01's number and verdict for each case of that answer
+--   checked r                              the number and the verdict for each case of that answer
 --   verifyGives text                       the number and the verdict for a text
 --   refusedLine N, verdictLine r           the line that is printed for a refusal, and for an answer of `verify`
 --   proveOutput, verifyOutput              the bytes that a program prints for a standard input

@@ -38,7 +38,7 @@ boundAllowed S = leb 1 (S .bound) && leb (S .bound) 127
 unfoldable pub settingsRefusal : Settings → ℕ
 settingsRefusal S = first (unless 3 (degreeAllowed S) ∷ unless 4 (depthAllowed S) ∷ unless 5 (modulusAllowed S) ∷ unless 6 (boundAllowed S) ∷ [])
 
--- "Half" is the inverse of 2 modulo q, (q+1)/2.
+-- PROTOCOL 1.1: twice this is q + 1
 unfoldable pub half : Settings → ℕ
 half S = (S .modulus + 1) / 2
 

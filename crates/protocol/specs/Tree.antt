@@ -121,7 +121,7 @@ growthLimit = 2 ^ 62
 module _ (S : Settings) where
   open Settings S using (degree as d, depth as L, bound as B)
 
-  -- "number N+j is leaf j"
+  -- PROTOCOL 5.1: leaves are numbered behind the branching nodes, and a path is followed upwards from its leaf
   unfoldable pub onPath : ℕ → ℕ → ℕ
   onPath j t = above (L - t) (nodes S + j)
 

@@ -3,7 +3,7 @@
 --
 --   StartStored   the start; C is the slice for the commitment
 --   MoveStored    a round or an end, m being the move on the record that the slice holds
---   Answered      what a move leaves in a slice that is long enough: the record where it is not refused, "records handed back unchanged" else
+--   Answered      what a move leaves in a slice that is long enough: the next record where it is not refused, else what stood there
 use mathlib.Core.Path.{_≡_}
 use mathlib.Core.List.{List}
 use Prim.Native.Nat.{ℕ}

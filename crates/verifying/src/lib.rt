@@ -113,7 +113,7 @@ fn verify_within(
     )
 }
 
-// The call: the answer, and the same as document 01's number and verdict.
+// The call: the answer, and the same as number and verdict.
 pub fn verify(text: &[u8]) -> Verified
     ensures answer { λ r. ⌜ r ≡ verifyAnswer (now (text .entry)) ⌝ }
     ensures numbers { λ r. ⌜ checked r ≡ verifyGives (now (text .entry)) ⌝ }
