@@ -11,8 +11,11 @@ pub struct Outcome {
     pub number: u32,
     /// Each part of the answer and each lent table at exit, by name.
     pub parts: Vec<(&'static str, Vec<i64>)>,
-    /// For the counts: what a call that is not refused says.
-    pub word: &'static str,
+    /// For the counts: the numbers that were answered, in a list of calls
+    /// those of each call.
+    pub counted: Vec<u32>,
+    /// For the counts: what was said where nothing was refused.
+    pub words: Vec<&'static str>,
 }
 
 impl Outcome {
@@ -20,7 +23,8 @@ impl Outcome {
         Outcome {
             number,
             parts: Vec::new(),
-            word: "",
+            counted: vec![number],
+            words: Vec::new(),
         }
     }
 
@@ -34,11 +38,28 @@ impl Outcome {
     /// Adds a verdict, and the word of it that is counted.
     pub fn with_word(self, name: &'static str, value: u32, words: &[&'static str]) -> Outcome {
         let word = words.get(value as usize).copied().unwrap_or("?");
+        let said = if self.number == 0 { vec![word] } else { vec![] };
         Outcome {
-            word,
+            words: said,
             ..self.with(name, &[value])
         }
     }
+
+    /// Whether everything that is named here is the same there.
+    fn agrees(&self, other: &Outcome) -> bool {
+        self.number == other.number && self.parts.iter().all(|part| other.parts.contains(part))
+    }
+}
+
+/// Who a case was compared with.
+#[derive(Clone, Copy)]
+pub enum Author {
+    /// The simple reference.
+    Simple,
+    /// The fast reference.
+    Fast,
+    /// The refusals behind the fast reference, where it has no such call.
+    Refusals,
 }
 
 /// A table of a case whose numbers may be put to 0 to make the case simpler.
@@ -80,8 +101,14 @@ pub trait Case: Clone {
     /// The call's name.
     const NAME: &'static str;
 
-    /// The numbers that it can answer, each of which is wanted often.
-    const NUMBERS: &'static [u32] = &[];
+    /// The numbers that it can answer, each of which must come up.
+    const NUMBERS: &'static [u32];
+
+    /// What it can say where nothing is refused, each of which must come up.
+    const WORDS: &'static [&'static str] = &[];
+
+    /// How often each of these must come up.
+    const LEAST: usize = 20;
 
     /// Draws a valid or a damaged input.
     fn draw(random: &mut Random, limits: &Limits) -> Self;
@@ -89,8 +116,15 @@ pub trait Case: Clone {
     /// What the simple reference answers.
     fn plain(&self) -> Outcome;
 
-    /// What the fast reference answers, where it has the call.
+    /// What the fast reference answers, where it has the call. What it does
+    /// not name is not compared.
     fn fast(&self) -> Option<Outcome> {
+        None
+    }
+
+    /// The number by the refusals that the fast reference uses, where it has
+    /// no such call.
+    fn admitted(&self) -> Option<u32> {
         None
     }
 
@@ -109,21 +143,32 @@ pub struct Difference {
     pub text: String,
 }
 
-/// Runs a case; answers what was said, or the difference.
-pub fn run<C: Case>(case: &C) -> Result<Outcome, (Outcome, Outcome)> {
+/// Runs a case; answers what was said and who says the same, or the
+/// difference.
+pub fn run<C: Case>(case: &C) -> Result<(Outcome, Vec<Author>), (Outcome, Outcome)> {
     let verified = case.verified();
     let plain = case.plain();
     if verified != plain {
         return Err((plain, verified));
     }
-    match case.fast() {
-        Some(fast) if fast != verified => Err((fast, verified)),
-        _ => Ok(verified),
+    let mut authors = vec![Author::Simple];
+    if let Some(fast) = case.fast() {
+        if !fast.agrees(&verified) {
+            return Err((fast, verified));
+        }
+        authors.push(Author::Fast);
     }
+    if let Some(number) = case.admitted() {
+        if number != verified.number {
+            return Err((Outcome::new(number), verified));
+        }
+        authors.push(Author::Refusals);
+    }
+    Ok((verified, authors))
 }
 
 /// The same, with the smallest differing case that is found.
-pub fn check<C: Case>(case: &C) -> Result<Outcome, Difference> {
+pub fn check<C: Case>(case: &C) -> Result<(Outcome, Vec<Author>), Difference> {
     run(case).map_err(|_| {
         let small = clear_tables(redraw_smaller(case));
         describe(&small)
@@ -187,7 +232,10 @@ fn describe<C: Case>(case: &C) -> Difference {
     text.push_str(&page.text);
     if let Err((wanted, found)) = run(case) {
         text.push_str(&format!("number: {} and {}\n", wanted.number, found.number));
-        for ((name, a), (_, b)) in wanted.parts.iter().zip(&found.parts) {
+        for (name, a) in &wanted.parts {
+            let Some((_, b)) = found.parts.iter().find(|part| part.0 == *name) else {
+                continue;
+            };
             if let Some(place) = (0..a.len().max(b.len())).find(|&i| a.get(i) != b.get(i)) {
                 text.push_str(&format!(
                     "{name}: first differs at {place}: {:?} and {:?}\n",

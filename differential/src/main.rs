@@ -5,7 +5,8 @@
 //!
 //! Without arguments it runs the quick set: seed 1, once. TIMES multiplies
 //! the number of drawn inputs. It leaves with 1 where any answer or any lent
-//! table differs, and prints the smallest such case that it finds.
+//! table differs, and prints the smallest such case that it finds; and where
+//! an answer that a call can give never came up.
 
 use differential::calls::{
     Check, Commit, End, Extract, Fold, Judge, Large, Largest, Moves, Opening,
@@ -25,24 +26,40 @@ struct Run {
 }
 
 impl Run {
+    fn one<C: Case>(&mut self, limits: &Limits) -> Result<(), Difference> {
+        let case = C::draw(&mut self.random, limits);
+        let (outcome, authors) = case::check(&case)?;
+        self.report.count(C::NAME, &outcome, &authors);
+        Ok(())
+    }
+
     /// Drawn inputs of one call: mostly small ones, and some large ones. Every
-    /// number that it can answer must come up.
+    /// number and every word that it can answer must come up, and no other
+    /// may. Where one is still missing as many inputs are drawn again.
     fn call<C: Case>(&mut self, small: usize, large: usize) -> Result<(), Difference> {
         let sizes = [
             (small / 2, Limits::new(64, 300)),
             (small / 2, Limits::new(1024, 2000)),
             (large, Limits::new(16_384, 20_000)),
         ];
-        for (count, limits) in sizes {
-            for _ in 0..count * self.times {
-                let case = C::draw(&mut self.random, &limits);
-                let outcome = case::check(&case)?;
-                self.report.count(C::NAME, &outcome);
+        for turn in 0..2 {
+            for (count, limits) in &sizes {
+                for _ in 0..count * self.times {
+                    self.one::<C>(limits)?;
+                }
+            }
+            let rare = self.report.rare(C::NAME, C::NUMBERS, C::WORDS, C::LEAST);
+            if rare.is_empty() {
+                break;
+            }
+            if turn == 1 {
+                let text = format!("{}: answered too rarely: {}", C::NAME, rare.join(", "));
+                return Err(Difference { text });
             }
         }
-        let rare = self.report.rare(C::NAME, C::NUMBERS);
-        if !rare.is_empty() {
-            let text = format!("{}: the numbers {rare:?} were answered too rarely", C::NAME);
+        let strange = self.report.strange(C::NAME, C::NUMBERS, C::WORDS);
+        if !strange.is_empty() {
+            let text = format!("{}: must not be answered: {}", C::NAME, strange.join(", "));
             return Err(Difference { text });
         }
         Ok(())
@@ -95,7 +112,9 @@ fn main() -> ExitCode {
                 "differential: seed {seed}, {} cases, no difference",
                 run.report.total()
             );
-            println!("by call and number (0: not refused; 100: a lent slice is too short)");
+            println!(
+                "by call and number (0: not refused), and the references that answered the same"
+            );
             run.report.print();
             ExitCode::SUCCESS
         }

@@ -1,67 +1,117 @@
-//! Counts of what was answered.
+//! Counts of what was answered, and of who was compared with.
 
-use crate::case::Outcome;
+use crate::case::{Author, Outcome};
 use std::collections::BTreeMap;
 
-/// How often each call gave each number, and each word where it gave none.
+/// Counts of one call.
+#[derive(Default)]
+struct Counts {
+    cases: usize,
+    numbers: BTreeMap<u32, usize>,
+    words: BTreeMap<&'static str, usize>,
+    simple: usize,
+    fast: usize,
+    refusals: usize,
+}
+
+/// How often each call gave each number and said each word.
 #[derive(Default)]
 pub struct Report {
     order: Vec<&'static str>,
-    numbers: BTreeMap<(&'static str, u32), usize>,
-    words: BTreeMap<(&'static str, &'static str), usize>,
+    calls: BTreeMap<&'static str, Counts>,
 }
 
 impl Report {
-    pub fn count(&mut self, call: &'static str, outcome: &Outcome) {
+    pub fn count(&mut self, call: &'static str, outcome: &Outcome, authors: &[Author]) {
         if !self.order.contains(&call) {
             self.order.push(call);
         }
-        *self.numbers.entry((call, outcome.number)).or_default() += 1;
-        if outcome.number == 0 && !outcome.word.is_empty() {
-            *self.words.entry((call, outcome.word)).or_default() += 1;
+        let counts = self.calls.entry(call).or_default();
+        counts.cases += 1;
+        for &number in &outcome.counted {
+            *counts.numbers.entry(number).or_default() += 1;
+        }
+        for &word in &outcome.words {
+            *counts.words.entry(word).or_default() += 1;
+        }
+        for author in authors {
+            match author {
+                Author::Simple => counts.simple += 1,
+                Author::Fast => counts.fast += 1,
+                Author::Refusals => counts.refusals += 1,
+            }
         }
     }
 
-    /// The numbers that a call can answer and has answered too rarely.
-    pub fn rare(&self, call: &'static str, numbers: &[u32]) -> Vec<u32> {
-        const LEAST: usize = 20;
-        let count = |number: u32| self.numbers.get(&(call, number)).copied().unwrap_or(0);
-        let mut rare = numbers.to_vec();
-        rare.retain(|&number| count(number) < LEAST);
-        rare
+    /// The numbers and words that a call can answer and has answered less
+    /// than `least` times.
+    pub fn rare(
+        &self,
+        call: &'static str,
+        numbers: &[u32],
+        words: &[&'static str],
+        least: usize,
+    ) -> Vec<String> {
+        let none = Counts::default();
+        let counts = self.calls.get(call).unwrap_or(&none);
+        let rare_number = |number: &&u32| counts.numbers.get(*number).copied().unwrap_or(0) < least;
+        let rare_word =
+            |word: &&&'static str| counts.words.get(**word).copied().unwrap_or(0) < least;
+        let numbers = numbers.iter().filter(rare_number).map(u32::to_string);
+        let words = words.iter().filter(rare_word).map(|word| word.to_string());
+        numbers.chain(words).collect()
+    }
+
+    /// The numbers and words that a call has answered and is not said to.
+    pub fn strange(
+        &self,
+        call: &'static str,
+        numbers: &[u32],
+        words: &[&'static str],
+    ) -> Vec<String> {
+        let Some(counts) = self.calls.get(call) else {
+            return Vec::new();
+        };
+        let other = |number: &&u32| !numbers.contains(number);
+        let numbers = counts.numbers.keys().filter(other).map(u32::to_string);
+        let other = |word: &&&'static str| !words.contains(word);
+        let words = counts
+            .words
+            .keys()
+            .filter(other)
+            .map(|word| word.to_string());
+        numbers.chain(words).collect()
     }
 
     /// All cases.
     pub fn total(&self) -> usize {
-        self.numbers.values().sum()
+        self.calls.values().map(|counts| counts.cases).sum()
     }
 
-    /// A line for each call: the cases, and those of each number.
+    /// Two lines for each call: the cases and those of each number; who they
+    /// were compared with, and what was said.
     pub fn print(&self) {
         for call in &self.order {
-            let mine = |(key, count): (&(&'static str, u32), &usize)| {
-                (key.0 == *call).then_some((key.1, *count))
-            };
-            let numbers: Vec<(u32, usize)> = self.numbers.iter().filter_map(mine).collect();
-            let cases: usize = numbers.iter().map(|(_, count)| count).sum();
-            let words: Vec<String> = numbers
-                .iter()
-                .map(|(number, count)| format!("{number}:{count}"))
+            let counts = &self.calls[call];
+            let numbers = counts.numbers.iter();
+            let numbers: Vec<String> = numbers.map(|(n, count)| format!("{n}:{count}")).collect();
+            println!(
+                "{call:<16}{:>8} cases   {}",
+                counts.cases,
+                numbers.join(" ")
+            );
+            let mut authors = format!("simple {}, fast {}", counts.simple, counts.fast);
+            if counts.refusals > 0 {
+                authors += &format!(", fast's refusals {}", counts.refusals);
+            }
+            let words = counts.words.iter();
+            let words: Vec<String> = words
+                .map(|(word, count)| format!("{word} {count}"))
                 .collect();
-            println!("{call:<16}{cases:>8} cases   {}", words.join(" "));
-            self.print_words(call);
-        }
-    }
-
-    fn print_words(&self, call: &str) {
-        let words: Vec<String> = self
-            .words
-            .iter()
-            .filter(|(key, _)| key.0 == call)
-            .map(|(key, count)| format!("{} {count}", key.1))
-            .collect();
-        if !words.is_empty() {
-            println!("{:<16}{:>14}   not refused: {}", "", "", words.join(", "));
+            if !words.is_empty() {
+                authors += &format!("; not refused: {}", words.join(", "));
+            }
+            println!("{:<16}{:>8} with    {authors}", "", "");
         }
     }
 }

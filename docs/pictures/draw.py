@@ -1,5 +1,13 @@
 #!/usr/bin/env python3
-"""Draws layers.svg, rounds.svg and tree.svg in this folder. Run it here: ./draw.py"""
+"""Draws layers.svg, rounds.svg and tree.svg: draw.py [FOLDER]
+
+They go to FOLDER, or to the folder that this file is in. The layers are those of crates.txt."""
+
+import os
+import sys
+
+HERE = os.path.dirname(os.path.abspath(__file__))
+CRATES = os.path.join(HERE, '..', '..', 'crates.txt')
 
 INK = '#1f2933'
 SOFT = '#52606d'
@@ -7,6 +15,7 @@ LINE = '#9aa5b1'
 MATH = '#e3f0ea'
 BELIEVE = '#fdf1d6'
 CODE = '#e4ecf7'
+PROGRAM = '#f3e8f7'
 FONT = 'font-family="sans-serif"'
 
 
@@ -37,27 +46,65 @@ class Picture:
         self.text(x, y + 4, label, 12, INK, 'normal', 'middle')
 
     def save(self, name):
-        with open(name, 'w') as f:
+        with open(os.path.join(folder(), name), 'w', encoding='utf-8') as f:
             f.write('\n'.join(self.parts) + '\n</svg>\n')
 
 
+def folder():
+    return sys.argv[1] if len(sys.argv) > 1 else HERE
+
+
+def crates():
+    """What crates.txt says: crate -> what it rests on, and crate -> the heading that it stands under. Crates of the kit are left out."""
+    rests, headings, heading = {}, {}, ''
+    with open(CRATES, encoding='utf-8') as f:
+        for line in f.read().splitlines():
+            if line.startswith('#'):
+                heading = line[1:].strip()
+            elif ':' in line:
+                name, _, others = line.partition(':')
+                rests[name.strip()] = others.split()
+                headings[name.strip()] = heading
+    return {name: [other for other in others if other in rests] for name, others in rests.items()}, headings
+
+
+def below(rests, name):
+    """All that a crate rests on, through others too."""
+    return set(rests[name]).union(*(below(rests, other) for other in rests[name]))
+
+
 def layers():
-    p = Picture(760, 430, 'The layers: what rests on what')
-    p.box(20, 330, 220, 80, MATH, 'algebra', ['rings, residues, norms, s(a,b)', 'no protocol in it'])
-    p.box(270, 330, 220, 80, BELIEVE, 'protocol', ['the definitions of document 01:', 'what a reader must believe'])
-    p.box(20, 210, 220, 80, MATH, 'claims', ['completeness, extraction,', 'demand 3 as one claim'])
-    p.box(270, 210, 220, 80, CODE, 'arithmetic', ['residues, elements, folds,', 'the tests of refusals'])
-    p.box(270, 115, 105, 60, CODE, 'opening', ['prover, session'])
-    p.box(385, 115, 105, 60, CODE, 'extraction', ['tree, judge'])
-    p.box(520, 115, 105, 60, CODE, 'tables', ['text'])
-    p.box(270, 25, 355, 55, CODE, 'prove, verify, static library', ['thin: they read, call and write'])
-    p.box(540, 330, 200, 80, MATH, 'drawn, reference/', ["another author's answers,", 'compared with the definitions'])
-    for x1, y1, x2, y2 in [(130, 290, 130, 330), (200, 290, 300, 330), (380, 290, 380, 330), (322, 175, 340, 210), (437, 175, 420, 210), (572, 175, 470, 210), (322, 80, 322, 115), (437, 80, 437, 115), (572, 80, 572, 115), (540, 370, 490, 370)]:
-        p.arrow(x1, y1, x2, y2)
-    p.text(20, 30, 'An arrow points to what a layer rests on.', 12, SOFT)
-    p.text(20, 50, 'green: mathematics alone', 12, SOFT)
-    p.text(20, 68, 'yellow: definitions', 12, SOFT)
-    p.text(20, 86, 'blue: proved code', 12, SOFT)
+    rests, headings = crates()
+    level = {}
+
+    def height(name):
+        if name not in level:
+            level[name] = 1 + max((height(other) for other in rests[name]), default=-1)
+        return level[name]
+
+    # Of what a crate rests on, that which it does not rest on through another one too.
+    near = {name: [other for other in others if not any(other in below(rests, third) for third in others if third != other)] for name, others in rests.items()}
+    rows = [[name for name in rests if height(name) == i] for i in range(1 + max(map(height, rests)))]
+    wide, high, gap = 104, 30, 44
+    width = 40 + (wide + 20) * max(len(row) for row in rows)
+    bottom = 70 + (high + gap) * len(rows)
+    place = {}
+    for i, row in enumerate(rows):
+        # A crate stands near the middle of what it rests on.
+        row.sort(key=lambda name: (sum(place[other][0] for other in near[name]) / len(near[name]) if near[name] else 0, name))
+        left = (width - (wide + 20) * len(row) + 20) // 2
+        for j, name in enumerate(row):
+            place[name] = (left + (wide + 20) * j, bottom - (high + gap) * (i + 1))
+    p = Picture(width, bottom, 'The layers: what rests on what')
+    for name in rests:
+        for other in near[name]:
+            p.arrow(place[name][0] + wide // 2, place[name][1] + high, place[other][0] + wide // 2, place[other][1], LINE)
+    colours = {'mathematics, and the definitions': MATH, 'code': CODE, 'programs': PROGRAM}
+    for name in rests:
+        fill = BELIEVE if name == 'protocol' else colours.get(headings[name], CODE)
+        p.box(place[name][0], place[name][1], wide, high, fill, name)
+    p.text(20, 24, 'A line leads down to what a crate rests on; what it rests on through another one is left out.', 12, SOFT)
+    p.text(20, 42, 'yellow: definitions; green: mathematics alone; blue: proved code; violet: programs', 12, SOFT)
     p.save('layers.svg')
 
 

@@ -1,9 +1,12 @@
 #!/usr/bin/env python3
-"""Draws growth.svg from growth.txt, which differential's `growth` prints, and prints its numbers as tables. Run it here: ./growth.py"""
+"""Draws growth.svg from growth.txt, which differential's `growth` prints, and prints its numbers as tables: growth.py [FOLDER]
 
+The picture goes to FOLDER, or to the folder that this file is in."""
+
+import os
 from math import log10
 
-from draw import INK, LINE, SOFT, Picture
+from draw import HERE, INK, LINE, SOFT, Picture
 
 DEGREES = [2, 4, 8, 16, 32, 64]
 DEPTHS = range(9)
@@ -81,7 +84,7 @@ def number(time):
 
 
 def main():
-    times = read('growth.txt')
+    times = read(os.path.join(HERE, 'growth.txt'))
     draw(times)
     depths = ['L = %d' % depth for depth in DEPTHS]
     for call, title in [('commit', 'Commitment, µs'), ('open', 'Whole opening, µs')]:

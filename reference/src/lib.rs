@@ -2,9 +2,10 @@
 //!
 //! It is written from document 01 (the scope) alone, in safe Rust, without
 //! dependencies. `plain` is the simple version that is meant to be obviously
-//! right; `fast` gives the same answers quickly. `refuse` holds the table of
-//! refusals and `admit` runs it for each call; `types` holds the settings,
-//! the session record and the answers. `draw` makes drawn inputs from the
+//! right; `fast` gives the same answers quickly. Each has its own refusals:
+//! `plain` in `plain::refusals`; for `fast`, `refuse` holds the table and
+//! `admit` runs it for each call. `types` holds the settings, the session
+//! record and the answers. `draw` makes drawn inputs from the
 //! generator in `random`.
 
 #![forbid(unsafe_code)]

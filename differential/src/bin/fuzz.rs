@@ -7,7 +7,10 @@
 //! few changes, or, rarely, without any. It goes through the first look, the
 //! table reader, `prove` and `verify`; tables that are read go through the writer,
 //! which must give the text back. Tables with a few changed numbers go through the
-//! writer as well. It leaves with 1 at the first difference, which it prints.
+//! writer as well. Everything is compared with the fast reference and one text in
+//! eight with the simple one too; the first look, which the fast one does not have,
+//! is compared with the simple one. It leaves with 1 at the first difference, which it
+//! prints, and where 20,000 texts or more never gave an answer that a call can give.
 
 use differential::calls::stretch;
 use differential::verified;
@@ -16,6 +19,7 @@ use reference::draw::Limits;
 use reference::random::Random;
 use reference::types::*;
 use reference::{fast, plain};
+use std::collections::BTreeMap;
 use std::process::ExitCode;
 use std::time::Instant;
 
@@ -27,17 +31,51 @@ struct Seed {
     tables: Tables,
 }
 
-/// What the calls answered, by number.
+/// What the calls answered.
 #[derive(Default)]
 struct Counts {
-    read: [usize; 11],
-    verify: [usize; 11],
-    write: [usize; 11],
-    prove: [usize; 11],
-    accepted: usize,
-    rejected: usize,
+    answers: BTreeMap<(&'static str, String), usize>,
     bytes: usize,
+    /// Texts that were compared with the simple reference too.
+    simple: usize,
 }
+
+impl Counts {
+    fn count(&mut self, call: &'static str, answer: impl ToString) {
+        *self.answers.entry((call, answer.to_string())).or_default() += 1;
+    }
+
+    fn of(&self, call: &'static str, answer: &str) -> usize {
+        let key = (call, answer.to_string());
+        self.answers.get(&key).copied().unwrap_or(0)
+    }
+}
+
+/// The answers that each call can give.
+const ANSWERS: [(&str, &[&str]); 5] = [
+    ("look", &["0", "1", "2", "3", "4", "5", "6"]),
+    (
+        "read",
+        &["0", "1", "2", "3", "4", "5", "6", "7", "8", "9", "10"],
+    ),
+    (
+        "write",
+        &["0", "1", "3", "4", "5", "6", "7", "8", "9", "10"],
+    ),
+    (
+        "prove",
+        &["0", "1", "2", "3", "4", "5", "6", "7", "8", "9", "10"],
+    ),
+    (
+        "verify",
+        &[
+            "accepted", "rejected", "1", "2", "3", "4", "5", "6", "7", "8", "10",
+        ],
+    ),
+];
+
+/// Texts from which on every answer must come up.
+const ENOUGH: u64 = 20_000;
 
 const SMALL: usize = 600;
 const LARGE: usize = 12;
@@ -129,6 +167,20 @@ fn fast_read(parts: Parts, text: &[u8], t: &mut Tables) -> ReadAnswer {
     )
 }
 
+fn plain_write(s: Settings, parts: Parts, t: &Tables, out: &mut [u8]) -> WriteAnswer {
+    plain::write(
+        s,
+        parts,
+        &t.key,
+        &t.message,
+        &t.commitment,
+        &t.rounds,
+        &t.challenges,
+        &t.final_element,
+        out,
+    )
+}
+
 fn fast_write(s: Settings, parts: Parts, t: &Tables, out: &mut [u8]) -> WriteAnswer {
     fast::write(
         s,
@@ -217,9 +269,40 @@ fn change_number(random: &mut Random, text: &mut Vec<u8>) {
     text.splice(start..start + length, number);
 }
 
+/// Moduli that are allowed, and ones that are not.
+const MODULI: [u32; 12] = [
+    3,
+    5,
+    15,
+    17,
+    12_289,
+    65_537,
+    2_147_483_645,
+    2_147_483_647,
+    0,
+    1,
+    16,
+    2_147_483_646,
+];
+
+/// Puts another modulus into the third value line.
+fn change_modulus(random: &mut Random, text: &mut Vec<u8>) {
+    let feeds = text.iter().enumerate().filter(|(_, &b)| b == b'\n');
+    let Some((feed, _)) = feeds.take(3).last() else {
+        return;
+    };
+    let Some(start) = value_behind(text, feed + 1) else {
+        return;
+    };
+    let length = text[start..].iter().take_while(|&&b| b != b'\n').count();
+    let modulus = random.pick(&MODULI).to_string();
+    text.splice(start..start + length, modulus.bytes());
+}
+
 fn mutate(random: &mut Random, text: &mut Vec<u8>, other: &[u8]) {
     const BYTES: &[u8] = b"0123456789 \n-+\r\tpx\0\xff";
-    match random.below(20) {
+    match random.below(21) {
+        20 => change_modulus(random, text),
         0..=1 => {
             let at = place(random, text);
             if at < text.len() {
@@ -287,7 +370,7 @@ fn mutate_tables(random: &mut Random, seed: &mut Seed) {
     let t = &mut seed.tables;
     let q = seed.settings.modulus;
     let d = seed.settings.degree;
-    let residues = [0, 1, q - 1, q, 9, 10, 99, 100, u32::MAX];
+    let residues = [0, 1, q.wrapping_sub(1), q, 9, 10, 99, 100, u32::MAX];
     let wholes = [
         0,
         1,
@@ -300,8 +383,8 @@ fn mutate_tables(random: &mut Random, seed: &mut Seed) {
         -i32::MAX,
         i32::MIN,
     ];
-    let exponents = [0, 1, 2 * d - 1, 2 * d, u32::MAX];
-    match random.below(10) {
+    let exponents = [0, 1, (2 * d).wrapping_sub(1), 2 * d, u32::MAX];
+    match random.below(11) {
         0 => change(random, &mut t.key, &residues),
         1 => change(random, &mut t.message, &wholes),
         2 => change(random, &mut t.commitment, &residues),
@@ -311,6 +394,7 @@ fn mutate_tables(random: &mut Random, seed: &mut Seed) {
         6 => seed.parts[random.below(6)] ^= true,
         7 => seed.settings.degree = random.pick(&[2, 4, 8, 3, 0]),
         8 => seed.settings.depth = random.pick(&[0, 1, 2, 8, 9]),
+        9 => seed.settings.modulus = random.pick(&MODULI),
         _ => seed.settings.bound = random.pick(&[1, 2, 127, 128, 0]),
     }
 }
@@ -349,7 +433,7 @@ impl Fuzz {
         {
             return Err(format!("read: {} and {number}", answer.number));
         }
-        self.counts.read[number as usize] += 1;
+        self.counts.count("read", number);
         if number == 0 {
             let mut length = 0;
             self.out.fill(0xa5);
@@ -369,6 +453,7 @@ impl Fuzz {
         if (number, settings) != (answer.number, [s.degree, s.depth, s.modulus, s.bound]) {
             return Err(format!("look: {} and {number}", answer.number));
         }
+        self.counts.count("look", number);
         Ok(())
     }
 
@@ -390,7 +475,7 @@ impl Fuzz {
         {
             return Err(format!("prove: {answer:?} and {number}, {length}"));
         }
-        self.counts.prove[number as usize] += 1;
+        self.counts.count("prove", number);
         Ok(())
     }
 
@@ -410,18 +495,25 @@ impl Fuzz {
             return Err(format!("verify: {answer:?} and {found:?}"));
         }
         match found {
-            Verification::Accepted => self.counts.accepted += 1,
-            Verification::Rejected => self.counts.rejected += 1,
-            Verification::Refused(number) => self.counts.verify[number as usize] += 1,
+            Verification::Accepted => self.counts.count("verify", "accepted"),
+            Verification::Rejected => self.counts.count("verify", "rejected"),
+            Verification::Refused(number) => self.counts.count("verify", number),
         }
         Ok(())
     }
 
-    fn write(&mut self, seed: &Seed, room: usize) -> Result<(), String> {
+    fn write(&mut self, seed: &Seed, room: usize, simple: bool) -> Result<(), String> {
         let (s, parts, tables) = (seed.settings, seed.parts, &seed.tables);
         self.wanted[..room].fill(0xa5);
         self.out[..room].fill(0xa5);
         let answer = fast_write(s, parts, tables, &mut self.wanted[..room]);
+        if simple {
+            let other = plain_write(s, parts, tables, &mut self.out[..room]);
+            if other != answer || self.out[..room] != self.wanted[..room] {
+                return Err("the two references differ in write".to_string());
+            }
+            self.out[..room].fill(0xa5);
+        }
         let mut length = usize::MAX;
         let bits = verified::bits(parts);
         let number = verified::write(s, bits, tables, &mut self.out[..room], &mut length);
@@ -430,7 +522,7 @@ impl Fuzz {
         {
             return Err(format!("write: {answer:?} and {number}, {length}"));
         }
-        self.counts.write[number as usize] += 1;
+        self.counts.count("write", number);
         Ok(())
     }
 
@@ -438,12 +530,12 @@ impl Fuzz {
     fn step(&mut self, seeds: &[Seed]) -> Result<(), String> {
         let random = &mut self.random;
         // The seeds behind the small ones are long.
-        let end = if random.one_in(200) {
-            seeds.len()
+        let small = SMALL + SMALL / 4;
+        let seed = if random.one_in(150) {
+            &seeds[small + random.below(seeds.len() - small)]
         } else {
-            SMALL + SMALL / 4
+            &seeds[random.below(small)]
         };
-        let seed = &seeds[random.below(end)];
         let other = &seeds[random.below(SMALL)];
         let mut text = seed.text.clone();
         let changes = random.pick(&[0, 1, 1, 1, 1, 2, 2, 3, 5]);
@@ -466,6 +558,7 @@ impl Fuzz {
         let printed = random.pick(&[40, 400, 4000, 20_000]);
         let simple = random.one_in(8);
         self.counts.bytes += text.len();
+        self.counts.simple += usize::from(simple);
         let (parts, run) = (seed.parts, text);
         self.look(&run)
             .and_then(|()| self.read(parts, lengths, &run, simple))
@@ -477,7 +570,7 @@ impl Fuzz {
                     run.escape_ascii()
                 )
             })?;
-        self.write(&tables, room).map_err(|e| {
+        self.write(&tables, room, simple).map_err(|e| {
             let s = tables.settings;
             format!(
                 "{e}\n{s:?} {:?} room {room}\n{:?}",
@@ -487,12 +580,18 @@ impl Fuzz {
     }
 }
 
-fn numbers(counts: &[usize]) -> String {
-    let words = counts.iter().enumerate().filter(|(_, &count)| count > 0);
-    let words: Vec<String> = words
-        .map(|(number, count)| format!("{number}:{count}"))
-        .collect();
-    words.join(" ")
+/// A line for each call, and whether every answer has come up.
+fn print(counts: &Counts) -> bool {
+    let mut all = true;
+    for (call, answers) in ANSWERS {
+        let words: Vec<String> = answers
+            .iter()
+            .map(|answer| format!("{answer}:{}", counts.of(call, answer)))
+            .collect();
+        println!("{call:<8} {}", words.join(" "));
+        all &= answers.iter().all(|answer| counts.of(call, answer) > 0);
+    }
+    all
 }
 
 fn main() -> ExitCode {
@@ -526,14 +625,13 @@ fn main() -> ExitCode {
         counts.bytes,
         start.elapsed().as_secs()
     );
-    println!("read     {}", numbers(&counts.read));
-    println!("write    {}", numbers(&counts.write));
-    println!("prove    {}", numbers(&counts.prove));
     println!(
-        "verify   {} (accepted {}, rejected {})",
-        numbers(&counts.verify),
-        counts.accepted,
-        counts.rejected
+        "compared with the fast reference {count}, with the simple one {}; the first look with the simple one alone",
+        counts.simple
     );
+    if !print(counts) && count >= ENOUGH {
+        println!("fuzz: FAILED: an answer never came up");
+        return ExitCode::FAILURE;
+    }
     ExitCode::SUCCESS
 }

@@ -6,18 +6,23 @@
 //! Each program gets texts that are drawn for it and for the other one,
 //! valid and damaged, and a few of the largest sizes. What `prove` prints
 //! goes to `verify` with the key, which must accept it. A difference prints
-//! the shortest text that shows it. Then input and output misbehave: closed,
-//! endless, one byte at a time, a full disk.
+//! the shortest text that shows it, and every run must leave with status 0.
+//! Then input and output misbehave: closed, endless, one byte at a time, a full
+//! disk, a disk that is full in the middle of a listing, a narrow pipe, a pipe
+//! that nobody reads. Every answer that a program can give must come up.
 
-use reference::draw::text::{damage_text, provable, verifiable};
+use reference::draw::text::{damage_text, provable, provable_at, verifiable};
 use reference::draw::Limits;
 use reference::plain;
 use reference::random::Random;
-use reference::types::{Verification, LONGEST_TEXT};
+use reference::types::{Settings, Verification, LONGEST_TEXT};
 use std::collections::BTreeMap;
-use std::io::Write;
+use std::ffi::c_int;
+use std::fs;
+use std::io::{Read, Write};
+use std::os::fd::AsRawFd;
 use std::path::{Path, PathBuf};
-use std::process::{Command, ExitCode, Stdio};
+use std::process::{Child, Command, ExitCode, Stdio};
 
 const NAMES: &[u8] = b"part item place value\n";
 
@@ -34,18 +39,68 @@ struct Run {
     smallest: Option<Difference>,
 }
 
+/// What each program can print; a listing is named by its first line.
+const PRINTED: [(&str, &[&str]); 2] = [
+    (
+        "prove",
+        &[
+            "a listing",
+            "refused 1",
+            "refused 2",
+            "refused 3",
+            "refused 4",
+            "refused 5",
+            "refused 6",
+            "refused 7",
+            "refused 8",
+            "refused 9",
+            "refused 10",
+        ],
+    ),
+    (
+        "verify",
+        &[
+            "accepted",
+            "rejected",
+            "refused 1",
+            "refused 2",
+            "refused 3",
+            "refused 4",
+            "refused 5",
+            "refused 6",
+            "refused 7",
+            "refused 8",
+            "refused 10",
+        ],
+    ),
+];
+
+fn start(folder: &Path, program: &str) -> Child {
+    Command::new(folder.join(program))
+        .stdin(Stdio::piped())
+        .stdout(Stdio::piped())
+        .spawn()
+        .unwrap_or_else(|error| panic!("{program} does not start: {error}"))
+}
+
+/// What a program prints, with what it says where its status is not 0.
+fn ended(child: Child) -> Vec<u8> {
+    let output = child.wait_with_output().expect("it ends");
+    let mut printed = output.stdout;
+    if !output.status.success() {
+        printed.extend_from_slice(format!("and left with {}\n", output.status).as_bytes());
+    }
+    printed
+}
+
 impl Run {
     fn output(&self, program: &str, text: &[u8]) -> Vec<u8> {
-        let mut child = Command::new(self.folder.join(program))
-            .stdin(Stdio::piped())
-            .stdout(Stdio::piped())
-            .spawn()
-            .unwrap_or_else(|error| panic!("{program} does not start: {error}"));
+        let mut child = start(&self.folder, program);
         let mut input = child.stdin.take().expect("piped");
         // A program that has read enough closes its input.
         let _ = input.write_all(text);
         drop(input);
-        child.wait_with_output().expect("it ends").stdout
+        ended(child)
     }
 
     fn compare(&mut self, program: &'static str, text: &[u8]) -> Vec<u8> {
@@ -53,6 +108,10 @@ impl Run {
             "prove" => prove_prints(text),
             _ => verify_prints(text),
         };
+        self.compare_with(program, text, wanted)
+    }
+
+    fn compare_with(&mut self, program: &'static str, text: &[u8], wanted: Vec<u8>) -> Vec<u8> {
         let printed = self.output(program, text);
         let line = printed.split(|&b| b == b'\n').next().unwrap_or(b"");
         let kind = String::from_utf8_lossy(if printed.starts_with(NAMES) {
@@ -74,12 +133,29 @@ impl Run {
         printed
     }
 
+    /// Both programs on a text; what `prove` prints must be accepted.
     fn both(&mut self, text: &[u8]) {
         self.compare("verify", text);
         let listing = self.compare("prove", text);
         if listing.starts_with(NAMES) {
-            self.compare("verify", &with_key(&listing, text));
+            let record = with_key(&listing, text);
+            let wanted: &[u8] = if record.len() > LONGEST_TEXT {
+                b"refused 1\n"
+            } else {
+                b"accepted\n"
+            };
+            self.compare_with("verify", &record, wanted.to_vec());
         }
+    }
+
+    /// The answers that never came up.
+    fn missing(&self) -> Vec<String> {
+        let all = PRINTED
+            .iter()
+            .flat_map(|(program, answers)| answers.iter().map(move |answer| (*program, *answer)));
+        all.filter(|(program, answer)| !self.counts.contains_key(&(*program, answer.to_string())))
+            .map(|(program, answer)| format!("{program}: {answer}"))
+            .collect()
     }
 }
 
@@ -135,35 +211,45 @@ fn at_the_limits() -> Vec<Vec<u8>> {
     ]
 }
 
-/// What a shell's line prints that starts a program with odd input or output; a program that does not end within ten seconds prints nothing.
-fn fault(folder: &Path, line: &str) -> String {
+/// What a shell's line prints that starts a program with odd input or output; a program that does not end within ten seconds has status 124.
+fn fault(folder: &Path, work: &Path, line: &str) -> String {
     let output = Command::new("sh")
         .arg("-c")
         .arg(line)
         .env("P", folder)
+        .current_dir(work)
         .stdin(Stdio::null())
         .output()
         .expect("sh starts");
     String::from_utf8_lossy(&output.stdout).into_owned()
 }
 
-/// Each line with what it must print.
+/// Each line with what it must print. NAME is a program, and the file NAME.in a text that `prove` makes a listing of and `verify` accepts.
 const FAULTS: &[(&str, &str)] = &[
-    ("timeout 10 \"$P/NAME\" <&-", "refused 2\n"),
-    ("timeout 10 \"$P/NAME\" </dev/null", "refused 2\n"),
-    ("yes | timeout 10 \"$P/NAME\"", "refused 1\n"),
-    ("printf 'part item' | timeout 10 \"$P/NAME\"", "refused 2\n"),
-    ("(printf 'part item '; sleep 0.1; printf 'place value\\n'; sleep 0.1; printf '0 0 0 3\\n0 0 1 1\\n0 0 2 17\\n0 0 3 1\\n') | timeout 10 \"$P/NAME\"", "refused 3\n"),
-    ("timeout 10 \"$P/NAME\" </dev/null >/dev/full; test $? -ne 124 && echo ended", "ended\n"),
-    ("timeout 10 \"$P/NAME\" </dev/null >&-; test $? -ne 124 && echo ended", "ended\n"),
+    ("timeout 10 \"$P/NAME\" <&-; echo $?", "refused 2\n0\n"),
+    ("timeout 10 \"$P/NAME\" </dev/null; echo $?", "refused 2\n0\n"),
+    ("yes | timeout 10 \"$P/NAME\"; echo $?", "refused 1\n0\n"),
+    ("printf 'part item' | timeout 10 \"$P/NAME\"; echo $?", "refused 2\n0\n"),
+    ("(printf 'part item '; sleep 0.1; printf 'place value\\n'; sleep 0.1; printf '0 0 0 3\\n0 0 1 1\\n0 0 2 17\\n0 0 3 1\\n') | timeout 10 \"$P/NAME\"; echo $?", "refused 3\n0\n"),
+    // A full disk and a closed output: the program gives up and ends.
+    ("timeout 10 \"$P/NAME\" </dev/null >/dev/full; echo $?", "0\n"),
+    ("timeout 10 \"$P/NAME\" <NAME.in >/dev/full; echo $?", "0\n"),
+    ("timeout 10 \"$P/NAME\" <NAME.in >&-; echo $?", "0\n"),
+    // A pipe that nobody reads any more: the signal ends the program (13), or the program gives up where the signal is ignored.
+    ("(sleep 0.2; timeout 10 \"$P/NAME\" <NAME.in; echo $? >status) | true; cat status", "141\n"),
+    ("(trap '' PIPE; sleep 0.2; timeout 10 \"$P/NAME\" <NAME.in; echo $? >status) | true; cat status", "0\n"),
+    // A disk that becomes full in the middle of the output: what was written is the front of it.
+    ("(trap '' XFSZ; ulimit -f 1; timeout 10 \"$P/NAME\" <NAME.in >part; echo $?); cmp -n $(wc -c <part) part NAME.out && test -s part && echo front", "0\nfront\n"),
+    // A reader that is late.
+    ("timeout 10 \"$P/NAME\" <NAME.in | (sleep 0.2; cmp - NAME.out) && echo all", "all\n"),
 ];
 
-fn faults(folder: &Path) -> bool {
+fn faults(folder: &Path, work: &Path) -> bool {
     let mut good = true;
     for program in ["prove", "verify"] {
         for (line, wanted) in FAULTS {
             let line = line.replace("NAME", program);
-            let printed = fault(folder, &line);
+            let printed = fault(folder, work, &line);
             if printed != *wanted {
                 println!("{line}\nprints: {printed}\nwanted: {wanted}");
                 good = false;
@@ -173,19 +259,50 @@ fn faults(folder: &Path) -> bool {
     good
 }
 
+extern "C" {
+    fn fcntl(file: c_int, command: c_int, argument: c_int) -> c_int;
+}
+
+/// What comes through a pipe that holds one page and is read a little at a time.
+fn through_narrow_pipe(folder: &Path, program: &str, text: &[u8]) -> Vec<u8> {
+    const SET_SIZE: c_int = 1031;
+    let mut child = start(folder, program);
+    let mut output = child.stdout.take().expect("piped");
+    let size = unsafe { fcntl(output.as_raw_fd(), SET_SIZE, 4096) };
+    assert_eq!(size, 4096, "the pipe keeps its size");
+    let mut input = child.stdin.take().expect("piped");
+    input.write_all(text).expect("it is read");
+    drop(input);
+    let mut printed = Vec::new();
+    let mut some = [0; 100];
+    loop {
+        match output.read(&mut some).expect("it is readable") {
+            0 => break,
+            n => printed.extend_from_slice(&some[..n]),
+        }
+    }
+    let mut rest = ended(child);
+    printed.append(&mut rest);
+    printed
+}
+
 /// One byte at a time.
 fn dripped(folder: &Path, program: &str, text: &[u8]) -> Vec<u8> {
-    let mut child = Command::new(folder.join(program))
-        .stdin(Stdio::piped())
-        .stdout(Stdio::piped())
-        .spawn()
-        .expect("it starts");
+    let mut child = start(folder, program);
     let mut input = child.stdin.take().expect("piped");
     for byte in text.chunks(1) {
         let _ = input.write_all(byte).and_then(|()| input.flush());
     }
     drop(input);
-    child.wait_with_output().expect("it ends").stdout
+    ended(child)
+}
+
+/// A text of many lines that `prove` answers with a listing of many lines, and the record of it that is accepted.
+fn long_texts(random: &mut Random) -> (Vec<u8>, Vec<u8>, Vec<u8>) {
+    let text = provable_at(random, Settings::new(64, 4, 2_147_483_647, 127)).text();
+    let listing = prove_prints(&text);
+    let record = with_key(&listing, &text);
+    (text, listing, record)
 }
 
 fn main() -> ExitCode {
@@ -220,13 +337,34 @@ fn main() -> ExitCode {
         }
     }
     let small = provable(&mut random, &Limits::small()).text();
-    if dripped(&run.folder, "prove", &small) != prove_prints(&small)
-        || dripped(&run.folder, "verify", &small) != verify_prints(&small)
-    {
-        println!("programs: a text that comes one byte at a time gives another answer");
+    let (text, listing, record) = long_texts(&mut random);
+    let accepted = b"accepted\n".to_vec();
+    let same = dripped(&run.folder, "prove", &small) == prove_prints(&small)
+        && dripped(&run.folder, "verify", &small) == verify_prints(&small)
+        && dripped(&run.folder, "verify", &record) == accepted
+        && through_narrow_pipe(&run.folder, "prove", &text) == listing
+        && through_narrow_pipe(&run.folder, "verify", &record) == accepted;
+    if !same {
+        println!("programs: a text that comes one byte at a time, or leaves through a narrow pipe, gives another answer");
         return ExitCode::FAILURE;
     }
-    if !faults(&run.folder) {
+    let work = run.folder.join("../programs");
+    let files = [
+        ("prove.in", &text),
+        ("prove.out", &listing),
+        ("verify.in", &record),
+        ("verify.out", &accepted),
+    ];
+    fs::create_dir_all(&work).expect("target is writable");
+    for (name, bytes) in files {
+        fs::write(work.join(name), bytes).expect("target is writable");
+    }
+    if !faults(&run.folder, &work) {
+        return ExitCode::FAILURE;
+    }
+    let missing = run.missing();
+    if !missing.is_empty() {
+        println!("programs: FAILED: never printed: {}", missing.join(", "));
         return ExitCode::FAILURE;
     }
     for ((program, answer), count) in &run.counts {

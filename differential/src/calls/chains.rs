@@ -22,8 +22,21 @@ type Said = Vec<u32>;
 #[derive(Clone)]
 pub struct Sessions(Session);
 
+/// What a session comes to: every move's number and word is counted.
+fn played(said: &Said, records: &[u32], moves: &[(u32, u32)]) -> Outcome {
+    let granted = moves.iter().filter(|(number, _)| *number == 0);
+    let word = |verdict: u32| VERDICTS.get(verdict as usize).copied().unwrap_or("?");
+    Outcome {
+        counted: moves.iter().map(|(number, _)| *number).collect(),
+        words: granted.map(|(_, verdict)| word(*verdict)).collect(),
+        ..Outcome::new(0).with("said", said).with("records", records)
+    }
+}
+
 impl Case for Sessions {
     const NAME: &'static str = "sessions";
+    const NUMBERS: &'static [u32] = &[0, 7, 8, 10, 11];
+    const WORDS: &'static [&'static str] = &["holds", "accepted", "rejected"];
 
     fn draw(random: &mut Random, limits: &Limits) -> Sessions {
         Sessions(session::session(random, limits))
@@ -33,7 +46,7 @@ impl Case for Sessions {
         let answer = plain::session_start(self.0.settings, self.0.commitment);
         let mut r = answer.record;
         let (mut said, mut records): (Said, Vec<u32>) = (vec![answer.number], numbers(&r));
-        let mut last = 0;
+        let mut verdicts = Vec::new();
         for (step, _) in &self.0.moves {
             let answer = match step {
                 Move::Round(c, e) => plain::session_round(r, *c, *e),
@@ -42,19 +55,16 @@ impl Case for Sessions {
             r = answer.record;
             said.extend([answer.number, answer.verdict]);
             records.extend(numbers(&r));
-            last = last.max(answer.verdict);
+            verdicts.push((answer.number, answer.verdict));
         }
-        Outcome::new(0)
-            .with("said", &said)
-            .with("records", &records)
-            .with_word("verdict", last, &VERDICTS)
+        played(&said, &records, &verdicts)
     }
 
     fn verified(&self) -> Outcome {
         let mut t = vec![u32::MAX; SESSION];
         let number = verified::session_start(self.0.settings, &self.0.commitment, &mut t);
         let (mut said, mut records): (Said, Vec<u32>) = (vec![number], t.clone());
-        let mut last = 0;
+        let mut verdicts = Vec::new();
         for (step, _) in &self.0.moves {
             let mut verdict = u32::MAX;
             let number = match step {
@@ -63,12 +73,9 @@ impl Case for Sessions {
             };
             said.extend([number, verdict]);
             records.extend(&t);
-            last = last.max(verdict);
+            verdicts.push((number, verdict));
         }
-        Outcome::new(0)
-            .with("said", &said)
-            .with("records", &records)
-            .with_word("verdict", last, &VERDICTS)
+        played(&said, &records, &verdicts)
     }
 
     fn tables(&mut self) -> Vec<Table<'_>> {
@@ -281,7 +288,8 @@ impl Moves {
 
 impl Case for Moves {
     const NAME: &'static str = "open by moves";
-    const NUMBERS: &'static [u32] = &[0, 3, 4, 5, 6, 7, 8, 9, 10];
+    const NUMBERS: &'static [u32] = &[0, 3, 4, 5, 6, 7, 8, 9, 10, 11];
+    const WORDS: &'static [&'static str] = &["accepted"];
 
     fn draw(random: &mut Random, limits: &Limits) -> Moves {
         let mut input = tables::opening(random, limits);
@@ -304,7 +312,7 @@ impl Case for Moves {
         outcome.with("said", &said)
     }
 
-    /// The whole opening, with what the simple reference said on the way.
+    /// The whole opening, where nothing is refused.
     fn fast(&self) -> Option<Outcome> {
         let mut t = self.input.clone();
         let (key, message, rounds) = (&mut t.key, &mut t.message, &mut t.rounds);
@@ -312,9 +320,8 @@ impl Case for Moves {
         if answer.number != 0 {
             return None;
         }
-        let (said, _) = self.play(&mut Plain(Record::refused()));
         let (c, f) = (answer.commitment, answer.final_element);
-        Some(all(0, &t, &c, &f, answer.verdict).with("said", &said))
+        Some(all(0, &t, &c, &f, answer.verdict))
     }
 
     fn verified(&self) -> Outcome {

@@ -27,6 +27,7 @@ fn outcome(answer: CheckAnswer) -> Outcome {
 impl Case for Check {
     const NAME: &'static str = "check";
     const NUMBERS: &'static [u32] = &[0, 3, 4, 5, 6, 7, 8, 10];
+    const WORDS: &'static [&'static str] = &["accepted", "rejected"];
 
     fn draw(random: &mut Random, limits: &Limits) -> Check {
         let (mut input, _) = any_transcript(random, limits);

@@ -67,6 +67,7 @@ pub fn all(
 impl Case for Opening {
     const NAME: &'static str = "open";
     const NUMBERS: &'static [u32] = &[0, 3, 4, 5, 6, 7, 8, 9, 10, 100];
+    const WORDS: &'static [&'static str] = &["accepted"];
 
     fn draw(random: &mut Random, limits: &Limits) -> Opening {
         let mut input = tables::opening(random, limits);

@@ -22,6 +22,7 @@ pub struct Judge {
 impl Case for Judge {
     const NAME: &'static str = "judge";
     const NUMBERS: &'static [u32] = &[0, 3, 4, 5, 6, 7, 8, 14, 15];
+    const WORDS: &'static [&'static str] = &["no", "yes"];
 
     fn draw(random: &mut Random, limits: &Limits) -> Judge {
         let (mut input, _) = tables::judge(random, limits);

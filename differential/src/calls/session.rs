@@ -153,6 +153,7 @@ pub struct SessionRound {
 impl Case for SessionRound {
     const NAME: &'static str = "session round";
     const NUMBERS: &'static [u32] = &[0, 3, 4, 5, 6, 8, 10, 11, 100];
+    const WORDS: &'static [&'static str] = &["holds", "rejected"];
 
     fn draw(random: &mut Random, limits: &Limits) -> SessionRound {
         let (mut input, _) = session::round(random, limits);
@@ -205,6 +206,7 @@ pub struct SessionEnd {
 impl Case for SessionEnd {
     const NAME: &'static str = "session end";
     const NUMBERS: &'static [u32] = &[0, 3, 4, 5, 6, 7, 8, 10, 11, 100];
+    const WORDS: &'static [&'static str] = &["accepted", "rejected"];
 
     fn draw(random: &mut Random, limits: &Limits) -> SessionEnd {
         let (mut input, _) = session::end(random, limits);

@@ -6,8 +6,8 @@ use reference::cases::Page;
 use reference::draw::base::{damage_settings, settings};
 use reference::draw::Limits;
 use reference::random::Random;
-use reference::refuse;
 use reference::types::Settings;
+use reference::{plain, refuse};
 
 #[derive(Clone)]
 pub struct SettingsCase(Settings);
@@ -33,7 +33,11 @@ impl Case for SettingsCase {
     }
 
     fn plain(&self) -> Outcome {
-        Outcome::new(refuse::settings(self.0).err().unwrap_or(0))
+        Outcome::new(plain::refusals::settings(self.0))
+    }
+
+    fn admitted(&self) -> Option<u32> {
+        Some(refuse::settings(self.0).err().unwrap_or(0))
     }
 
     fn verified(&self) -> Outcome {

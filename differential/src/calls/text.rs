@@ -402,6 +402,7 @@ fn said(answer: Verification) -> Outcome {
 impl Case for Verify {
     const NAME: &'static str = "verify";
     const NUMBERS: &'static [u32] = &[0, 1, 2, 3, 4, 5, 6, 7, 8, 10];
+    const WORDS: &'static [&'static str] = &["accepted", "rejected"];
 
     fn draw(random: &mut Random, limits: &Limits) -> Verify {
         Verify {

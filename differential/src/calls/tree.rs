@@ -22,10 +22,6 @@ pub struct Extract {
 /// The extractor by one of the references.
 type Extractor = fn(Settings, Residues, &[u32], &[u32], &[u32], &[i32], &mut [i64]) -> u32;
 
-/// Leaves times coefficients of the key from which on the simple reference,
-/// which folds the key anew for each path, takes seconds.
-const LONG: usize = 20_000_000;
-
 impl Extract {
     fn new(random: &mut Random, mut tree: Tree) -> Extract {
         let commitment = lend(&tree.commitment, width(random, tree.shape.d), u32::MAX);
@@ -87,9 +83,6 @@ impl Case for Extract {
     }
 
     fn plain(&self) -> Outcome {
-        if self.tree.shape.leaves() * self.tree.shape.table() > LONG {
-            return self.outcome(fast::extract);
-        }
         self.outcome(plain::extract)
     }
 
@@ -154,9 +147,11 @@ fn sized(random: &mut Random, limits: &Limits, sizes: &[(u32, u32, u32)]) -> Ext
 
 /// Trees of some sizes are compared as any are.
 macro_rules! sized {
-    ($case:ident, $name:expr, $sizes:expr) => {
+    ($case:ident, $name:expr, $numbers:expr, $sizes:expr) => {
         impl Case for $case {
             const NAME: &'static str = $name;
+            const NUMBERS: &'static [u32] = $numbers;
+            const LEAST: usize = 1;
 
             fn draw(random: &mut Random, limits: &Limits) -> $case {
                 $case(sized(random, limits, $sizes))
@@ -188,6 +183,7 @@ macro_rules! sized {
 sized!(
     Large,
     "extract, large",
+    &[0, 13],
     &[
         (64, 3, 127),
         (32, 4, 127),
@@ -197,4 +193,4 @@ sized!(
         (2, 8, 127),
     ]
 );
-sized!(Largest, "extract, largest", &[(64, 8, 127)]);
+sized!(Largest, "extract, largest", &[13, 14], &[(64, 8, 127)]);

@@ -130,6 +130,11 @@ pub fn readable(random: &mut Random, limits: &Limits) -> (TextInput, Settings, T
 /// A text for `prove`.
 pub fn provable(random: &mut Random, limits: &Limits) -> TextInput {
     let settings = settings(random, limits, false);
+    provable_at(random, settings)
+}
+
+/// The same with given settings.
+pub fn provable_at(random: &mut Random, settings: Settings) -> TextInput {
     let shape = shape(settings);
     let parts = [true, true, false, false, true, false];
     let tables = tables(random, &shape, parts);

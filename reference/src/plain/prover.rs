@@ -2,16 +2,15 @@
 
 use super::ring::{add, element, elements, half_power, inner_product, reduce, rotate, scale};
 use super::ring::{zero, Element};
-use super::{by_value, verifier};
-use crate::admit;
+use super::{by_value, refusals, shape, verifier};
 use crate::refuse::Shape;
 use crate::types::*;
 
 /// Call 1: the sum of m_i·G_i modulo q.
 pub fn commit(s: Settings, key: &[u32], message: &[i32]) -> CommitAnswer {
-    let (number, commitment) = match admit::commit(s, key, message) {
-        Ok(shape) => (0, by_value(&commitment(&shape, key, message))),
-        Err(number) => (number, ZERO_RESIDUES),
+    let (number, commitment) = match refusals::commit(s, key, message) {
+        0 => (0, by_value(&commitment(&shape(s), key, message))),
+        number => (number, ZERO_RESIDUES),
     };
     CommitAnswer { number, commitment }
 }
@@ -24,9 +23,9 @@ fn commitment(shape: &Shape, key: &[u32], message: &[i32]) -> Element {
 
 /// Call 2: the round polynomial of round t+1.
 pub fn prover_round(s: Settings, t: u32, key: &[u32], message: &[i32]) -> RoundAnswer {
-    let (number, polynomial) = match admit::prover_round(s, t, key, message) {
-        Ok(shape) => (0, round_polynomial(&shape, t, key, message)),
-        Err(number) => (number, ZERO_POLYNOMIAL),
+    let (number, polynomial) = match refusals::prover_round(s, t, key, message) {
+        0 => (0, round_polynomial(&shape(s), t, key, message)),
+        number => (number, ZERO_POLYNOMIAL),
     };
     RoundAnswer { number, polynomial }
 }
@@ -45,13 +44,11 @@ fn round_polynomial(shape: &Shape, t: u32, key: &[u32], message: &[i32]) -> Poly
 
 /// Call 3: the fold of both tables by X^e.
 pub fn fold(s: Settings, t: u32, e: u32, key: &mut [u32], message: &mut [i32]) -> u32 {
-    match admit::fold(s, t, e, key, message) {
-        Ok(shape) => {
-            fold_both(&shape, t, e, key, message);
-            0
-        }
-        Err(number) => number,
+    let number = refusals::fold(s, t, e, key, message);
+    if number == 0 {
+        fold_both(&shape(s), t, e, key, message);
     }
+    number
 }
 
 fn fold_both(shape: &Shape, t: u32, e: u32, key: &mut [u32], message: &mut [i32]) {
@@ -79,9 +76,9 @@ pub(super) fn fold_elements(left: &[Element], e: u32) -> Vec<Element> {
 
 /// Call 4: the final element. It takes no key.
 pub fn prover_end(s: Settings, t: u32, message: &[i32]) -> EndAnswer {
-    let (number, final_element) = match admit::prover_end(s, t, message) {
-        Ok(shape) => (0, first_element(&shape, message)),
-        Err(number) => (number, ZERO_WHOLES),
+    let (number, final_element) = match refusals::prover_end(s, t, message) {
+        0 => (0, first_element(&shape(s), message)),
+        number => (number, ZERO_WHOLES),
     };
     EndAnswer {
         number,
@@ -103,9 +100,9 @@ pub fn whole_opening(
     challenges: &[u32],
     rounds: &mut [u32],
 ) -> OpeningAnswer {
-    match admit::opening(s, key, message, challenges, rounds) {
-        Ok(shape) => opening(&shape, key, message, challenges, rounds),
-        Err(number) => OpeningAnswer {
+    match refusals::opening(s, key, message, challenges, rounds) {
+        0 => opening(&shape(s), key, message, challenges, rounds),
+        number => OpeningAnswer {
             number,
             commitment: ZERO_RESIDUES,
             final_element: ZERO_WHOLES,

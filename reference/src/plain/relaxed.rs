@@ -3,20 +3,26 @@
 use super::ring::{add, doubled_inverse, element, elements, inner_product, multiply, power};
 use super::ring::{reduce, rotate, scale, zero, Element};
 use super::verifier::transcript_cause;
-use crate::admit;
-use crate::refuse::{self, Checked, Shape};
+use super::{refusals, shape};
+use crate::refuse::Shape;
 use crate::types::*;
 
 /// Call 10: whether w opens c times the commitment within the bound.
 pub fn judge(s: Settings, commitment: Residues, c: u32, key: &[u32], w: &[i64]) -> JudgeAnswer {
-    let (number, yes) = match admit::judge(s, &commitment, c, key, w) {
-        Ok((shape, bound)) => {
-            let small = w.iter().all(|&x| -bound <= x && x <= bound);
-            (0, small && opens(&shape, &commitment, c, key, w))
+    let (number, yes) = match refusals::judge(s, &commitment, c, key, w) {
+        0 => {
+            let bound = vector_bound(&shape(s));
+            let small = w.iter().all(|&x| i128::from(x).abs() <= bound);
+            (0, small && opens(&shape(s), &commitment, c, key, w))
         }
-        Err(number) => (number, false),
+        number => (number, false),
     };
     JudgeAnswer { number, yes }
+}
+
+/// (12·d²)^L·B.
+fn vector_bound(shape: &Shape) -> i128 {
+    (12 * (shape.d * shape.d) as i128).pow(shape.l as u32) * i128::from(shape.b)
 }
 
 fn opens(shape: &Shape, commitment: &Residues, c: u32, key: &[u32], w: &[i64]) -> bool {
@@ -36,32 +42,32 @@ pub fn extract(
     leaves: &[i32],
     w: &mut [i64],
 ) -> u32 {
-    match try_extract(s, &commitment, key, rounds, challenges, leaves, w) {
-        Ok(()) => 0,
-        Err(number) => number,
+    let shape = || shape(s);
+    let lent = refusals::Tree {
+        settings: s,
+        commitment: &commitment,
+        key,
+        rounds,
+        challenges,
+        leaves,
+        w,
+    };
+    let rejected = || {
+        let shape = shape();
+        let tree = Tree::new(&shape, rounds, challenges, leaves);
+        let commitment = element(&commitment[..shape.d]);
+        let key = elements(key, shape.d);
+        (0..shape.leaves()).any(|leaf| !tree.path_accepted(&commitment, &key, leaf))
+    };
+    let number = refusals::extract(&lent, &rejected);
+    if number == 0 {
+        let shape = shape();
+        let tree = Tree::new(&shape, rounds, challenges, leaves);
+        for (place, x) in w.iter_mut().zip(tree.vector(0, shape.l).concat()) {
+            *place = x as i64;
+        }
     }
-}
-
-fn try_extract(
-    s: Settings,
-    commitment: &Residues,
-    key: &[u32],
-    rounds: &[u32],
-    challenges: &[u32],
-    leaves: &[i32],
-    w: &mut [i64],
-) -> Checked<()> {
-    let shape = admit::tree(s, commitment, key, rounds, challenges, leaves, w)?;
-    let tree = Tree::new(&shape, rounds, challenges, leaves);
-    let commitment = element(&commitment[..shape.d]);
-    let key = elements(key, shape.d);
-    let accepted = (0..shape.leaves()).all(|leaf| tree.path_accepted(&commitment, &key, leaf));
-    refuse::branch(accepted)?;
-    refuse::growth(&shape)?;
-    for (place, x) in w.iter_mut().zip(tree.vector(0, shape.l).concat()) {
-        *place = x as i64;
-    }
-    Ok(())
+    number
 }
 
 /// A full tree as elements.

@@ -1,8 +1,20 @@
 //! Text tables: reader, writer, and the two programs as calls on text.
 
-use super::{check, whole_opening};
-use crate::refuse::{self, Checked, Shape};
+use super::refusals::{self, first};
+use super::{check, shape, whole_opening};
+use crate::refuse::Shape;
 use crate::types::*;
+
+/// What is asked for, or the number of a refusal.
+type Checked<T> = Result<T, u32>;
+
+/// A number as an error where it is a refusal's.
+fn unrefused(number: u32) -> Checked<()> {
+    match number {
+        0 => Ok(()),
+        number => Err(number),
+    }
+}
 
 /// The first line of every text.
 const NAMES: &[u8] = b"part item place value";
@@ -73,19 +85,6 @@ fn part_sizes(shape: &Shape) -> [(usize, usize); 6] {
     [(n, d), (n, d), (1, d), (3 * l, d), (l, 1), (1, d)]
 }
 
-/// The wanted length of each lent table: 0 for an absent part.
-fn table_lengths(shape: &Shape, parts: Parts) -> [usize; 6] {
-    let sizes = part_sizes(shape);
-    [0, 1, 2, 3, 4, 5].map(|i| if parts[i] { sizes[i].0 * sizes[i].1 } else { 0 })
-}
-
-/// Refusal 7 for the six lent tables.
-fn lent_sizes(shape: &Shape, parts: Parts, found: [usize; 6]) -> Checked<()> {
-    let wanted = table_lengths(shape, parts);
-    let pairs: Vec<_> = found.into_iter().zip(wanted).collect();
-    refuse::sizes(&pairs)
-}
-
 /// Part, item and place of every required line, settings included.
 fn required(shape: &Shape, parts: Parts) -> Vec<(i64, i64, i64)> {
     let mut places: Vec<_> = (0..4).map(|place| (0, 0, place)).collect();
@@ -101,25 +100,33 @@ fn required(shape: &Shape, parts: Parts) -> Vec<(i64, i64, i64)> {
     places
 }
 
-/// Refusals 1 to 6 of a text.
-fn open_text(text: &[u8]) -> Checked<(Settings, Shape, Vec<Line>)> {
-    if text.len() > LONGEST_TEXT {
-        return Err(refuse::LONG);
-    }
-    let lines = value_lines(text).ok_or(refuse::TEXT)?;
-    let settings = text_settings(&lines).ok_or(refuse::TEXT)?;
-    let shape = refuse::settings(settings)?;
-    Ok((settings, shape, lines))
+/// A text of the stated shape, with settings before all else.
+struct Lines {
+    settings: Settings,
+    lines: Vec<Line>,
 }
 
-/// Refusal 7 of the lines: exactly the required ones, in order.
-fn required_lines(shape: &Shape, parts: Parts, lines: &[Line]) -> Checked<()> {
-    let found = lines.iter().map(|line| (line.0, line.1, line.2));
-    if found.eq(required(shape, parts)) {
-        Ok(())
-    } else {
-        Err(refuse::SIZE)
+/// The lines of a text, or nothing where 2 applies.
+fn lines_of(text: &[u8]) -> Option<Lines> {
+    let lines = value_lines(text)?;
+    let settings = text_settings(&lines)?;
+    Some(Lines { settings, lines })
+}
+
+/// Refusals 1 to 6 of a text.
+fn open_text(text: &[u8]) -> Checked<Lines> {
+    if text.len() > LONGEST_TEXT {
+        return Err(1);
     }
+    let found = lines_of(text).ok_or(2u32)?;
+    unrefused(refusals::settings(found.settings))?;
+    Ok(found)
+}
+
+/// Whether the lines are not exactly the required ones in order.
+fn other_lines(shape: &Shape, parts: Parts, lines: &[Line]) -> bool {
+    let found = lines.iter().map(|line| (line.0, line.1, line.2));
+    !found.eq(required(shape, parts))
 }
 
 /// The values of one part.
@@ -128,36 +135,12 @@ fn part_values(lines: &[Line], part: i64) -> Vec<i64> {
     of_part.map(|line| line.3).collect()
 }
 
-fn all_in(values: &[i64], low: i64, high: i64) -> bool {
-    values.iter().all(|&x| low <= x && x <= high)
-}
-
-/// Refusals 8 to 10 of the values of parts 1 to 6. The final element's 9 can
-/// only come from the writer: the reader meets no such number.
-fn refuse_values(shape: &Shape, values: &[Vec<i64>; 6]) -> Checked<()> {
-    let [key, message, commitment, rounds, challenges, final_element] = values;
-    let last = i64::from(shape.q) - 1;
-    for table in [key, commitment, rounds] {
-        if !all_in(table, 0, last) {
-            return Err(refuse::RESIDUE);
-        }
-    }
-    let final_fits = all_in(final_element, -2_147_483_647, 2_147_483_647);
-    if !all_in(message, -shape.b, shape.b) || !final_fits {
-        return Err(refuse::TALL);
-    }
-    if !all_in(challenges, 0, 2 * shape.d as i64 - 1) {
-        return Err(refuse::CHALLENGE);
-    }
-    Ok(())
-}
-
 /// A first look at a text's settings.
 pub fn look(text: &[u8]) -> ReadAnswer {
     match open_text(text) {
-        Ok((settings, ..)) => ReadAnswer {
+        Ok(found) => ReadAnswer {
             number: 0,
-            settings,
+            settings: found.settings,
         },
         Err(number) => ReadAnswer {
             number,
@@ -222,13 +205,14 @@ fn try_read(
     text: &[u8],
     lengths: Option<[usize; 6]>,
 ) -> Checked<(Settings, [Vec<i64>; 6])> {
-    let (settings, shape, lines) = open_text(text)?;
-    if let Some(lengths) = lengths {
-        lent_sizes(&shape, parts, lengths)?;
-    }
-    required_lines(&shape, parts, &lines)?;
+    let Lines { settings, lines } = open_text(text)?;
     let values = [1, 2, 3, 4, 5, 6].map(|part| part_values(&lines, part));
-    refuse_values(&shape, &values)?;
+    let wanted = refusals::part_lengths(settings, parts);
+    unrefused(first(&[
+        (7, &|| lengths.is_some_and(|found| found != wanted)),
+        (7, &|| other_lines(&shape(settings), parts, &lines)),
+    ]))?;
+    unrefused(refusals::values(settings, &values))?;
     Ok((settings, values))
 }
 
@@ -264,16 +248,15 @@ fn wide<T: Copy + Into<i64>>(table: &[T]) -> Vec<i64> {
 }
 
 fn try_write(s: Settings, parts: Parts, values: &[Vec<i64>; 6], out: &mut [u8]) -> Checked<usize> {
-    let shape = refuse::settings(s)?;
-    lent_sizes(&shape, parts, [0, 1, 2, 3, 4, 5].map(|i| values[i].len()))?;
-    refuse_values(&shape, values)?;
-    let text = render(s, &shape, parts, values);
-    if text.len() > LONGEST_TEXT {
-        return Err(refuse::LONG);
-    }
-    if text.len() > out.len() {
-        return Err(refuse::SIZE);
-    }
+    unrefused(refusals::settings(s))?;
+    let found = [0, 1, 2, 3, 4, 5].map(|i| values[i].len());
+    unrefused(first(&[(7, &|| found != refusals::part_lengths(s, parts))]))?;
+    unrefused(refusals::values(s, values))?;
+    let text = render(s, &shape(s), parts, values);
+    unrefused(first(&[
+        (1, &|| text.len() > LONGEST_TEXT),
+        (7, &|| text.len() > out.len()),
+    ]))?;
     out[..text.len()].copy_from_slice(text.as_bytes());
     Ok(text.len())
 }

@@ -1,10 +1,9 @@
 //! The verifier: session moves and the check of a transcript.
 
-use super::by_value;
 use super::prover::folded_key;
 use super::ring::{add, element, elements, half_power, multiply, reduce, rotate, scale, Element};
-use crate::admit;
-use crate::refuse::{Checked, Shape};
+use super::{by_value, refusals, shape};
+use crate::refuse::Shape;
 use crate::types::*;
 
 /// Whether 2·(c0+c2) equals the claim.
@@ -60,9 +59,9 @@ pub(super) fn transcript_cause(
 
 /// Call 6: a session starts at a commitment.
 pub fn session_start(s: Settings, commitment: Residues) -> StartAnswer {
-    let (number, record) = match admit::session_start(s, &commitment) {
-        Ok(shape) => (0, new_record(&shape, s, &commitment)),
-        Err(number) => (number, Record::refused()),
+    let (number, record) = match refusals::session_start(s, &commitment) {
+        0 => (0, new_record(&shape(s), s, &commitment)),
+        number => (number, Record::refused()),
     };
     StartAnswer { number, record }
 }
@@ -109,9 +108,9 @@ pub(super) fn verdict(cause: Option<Cause>) -> u32 {
 
 /// Call 7: one round of a session.
 pub fn session_round(record: Record, polynomial: Polynomial, e: u32) -> MoveAnswer {
-    match admit::session_round(&record, &polynomial, e) {
-        Ok(shape) => played_round(&shape, record, &polynomial, e),
-        Err(number) => refused_move(record, number),
+    match refusals::session_round(&record, &polynomial, e) {
+        0 => played_round(&shape(record.settings), record, &polynomial, e),
+        number => refused_move(record, number),
     }
 }
 
@@ -133,9 +132,9 @@ fn played_round(shape: &Shape, record: Record, polynomial: &Polynomial, e: u32) 
 
 /// Call 8: the end of a session, with the unfolded key.
 pub fn session_end(record: Record, final_element: Wholes, key: &[u32]) -> MoveAnswer {
-    match admit::session_end(&record, key) {
-        Ok(shape) => played_end(&shape, record, &final_element, key),
-        Err(number) => refused_move(record, number),
+    match refusals::session_end(&record, key) {
+        0 => played_end(&shape(record.settings), record, &final_element, key),
+        number => refused_move(record, number),
     }
 }
 
@@ -175,8 +174,12 @@ pub fn check_cause(
     key: &[u32],
     rounds: &[u32],
     challenges: &[u32],
-) -> Checked<Option<Cause>> {
-    let shape = admit::check(s, &commitment, key, rounds, challenges)?;
+) -> Result<Option<Cause>, u32> {
+    match refusals::check(s, &commitment, key, rounds, challenges) {
+        0 => (),
+        number => return Err(number),
+    }
+    let shape = shape(s);
     Ok(transcript_cause(
         &shape,
         &element(&commitment[..shape.d]),

@@ -1,0 +1,391 @@
+//! The refusals of every call, for the simple version alone: document 01's
+//! table read off call by call. Each call is a straight list of numbers in
+//! the order in which they are tested, each with the test that says whether
+//! it applies. A test may rely on the ones before it: lengths are worked out
+//! from settings that have passed 3 to 6, and numbers are looked at in tables
+//! whose lengths have passed 7.
+//!
+//! Nothing here is shared with `refuse` and `admit`, which the fast version
+//! uses.
+
+use crate::types::{Parts, Polynomial, Record, Residues, Settings};
+
+/// A number of the table, and whether it applies.
+pub type Line<'a> = (u32, &'a dyn Fn() -> bool);
+
+/// The first number of a list that applies, or 0.
+pub fn first(list: &[Line]) -> u32 {
+    for (number, applies) in list {
+        if applies() {
+            return *number;
+        }
+    }
+    0
+}
+
+/// The settings as whole numbers.
+#[derive(Clone, Copy)]
+pub struct Whole {
+    d: i128,
+    l: i128,
+    q: i128,
+    b: i128,
+}
+
+impl Whole {
+    pub fn of(s: Settings) -> Whole {
+        Whole {
+            d: s.degree.into(),
+            l: s.depth.into(),
+            q: s.modulus.into(),
+            b: s.bound.into(),
+        }
+    }
+
+    fn no_degree(self) -> bool {
+        ![2, 4, 8, 16, 32, 64].contains(&self.d)
+    }
+
+    fn no_depth(self) -> bool {
+        self.l > 8
+    }
+
+    fn no_modulus(self) -> bool {
+        self.q % 2 == 0 || self.q < 3 || self.q > 2_147_483_647
+    }
+
+    fn no_bound(self) -> bool {
+        self.b == 0 || self.b > 127
+    }
+
+    /// Elements of a table.
+    fn n(self) -> i128 {
+        (0..self.l).fold(1, |n, _| 2 * n)
+    }
+
+    /// Leaves of a tree.
+    fn leaves(self) -> i128 {
+        (0..self.l).fold(1, |leaves, _| 3 * leaves)
+    }
+
+    /// Branching nodes: 1 + 3 + .. + 3^(L-1).
+    fn nodes(self) -> i128 {
+        (0..self.l).fold(0, |nodes, _| 3 * nodes + 1)
+    }
+
+    /// Whether a coefficient is no residue.
+    fn no_residue(self, x: u32) -> bool {
+        self.q <= i128::from(x)
+    }
+
+    /// Whether an exponent is no challenge.
+    fn no_challenge(self, e: u32) -> bool {
+        self.d + self.d <= i128::from(e)
+    }
+
+    fn some_no_residue(self, table: &[u32]) -> bool {
+        table.iter().any(|&x| self.no_residue(x))
+    }
+
+    /// The same of an element by value, whose places from d on are not read.
+    fn element_no_residue(self, places: &Residues) -> bool {
+        (0..self.d as usize).any(|k| self.no_residue(places[k]))
+    }
+
+    fn some_no_challenge(self, list: &[u32]) -> bool {
+        list.iter().any(|&e| self.no_challenge(e))
+    }
+
+    /// Whether one of the first `elements` elements of a message goes beyond
+    /// `times` times the bound.
+    fn too_tall(self, message: &[i32], elements: i128, times: i128) -> bool {
+        let mut coefficients = message.iter().take((elements * self.d) as usize);
+        coefficients.any(|&m| i128::from(m).abs() > times * self.b)
+    }
+
+    /// Whether what is left of a message after t rounds is too tall.
+    fn left_too_tall(self, message: &[i32], t: u32) -> bool {
+        let times = (0..t).fold(1, |times, _| 2 * times);
+        self.too_tall(message, self.n() / times, times)
+    }
+
+    /// Whether (12·d²)^L·B is over 2^62. A product that has no room in 128
+    /// bits is.
+    fn grows(self) -> bool {
+        let factor = 12 * self.d * self.d;
+        let growth = (0..self.l).try_fold(self.b, |g, _| g.checked_mul(factor));
+        growth.map_or(true, |g| g > 4_611_686_018_427_387_904)
+    }
+}
+
+/// Whether some length is not the wanted one.
+fn other(pairs: &[(usize, i128)]) -> bool {
+    pairs.iter().any(|&(found, wanted)| found as i128 != wanted)
+}
+
+/// 3 to 6.
+pub fn settings(s: Settings) -> u32 {
+    let w = Whole::of(s);
+    first(&[
+        (3, &|| w.no_degree()),
+        (4, &|| w.no_depth()),
+        (5, &|| w.no_modulus()),
+        (6, &|| w.no_bound()),
+    ])
+}
+
+/// Call 1.
+pub fn commit(s: Settings, key: &[u32], message: &[i32]) -> u32 {
+    let w = Whole::of(s);
+    first(&[
+        (3, &|| w.no_degree()),
+        (4, &|| w.no_depth()),
+        (5, &|| w.no_modulus()),
+        (6, &|| w.no_bound()),
+        (7, &|| {
+            other(&[(key.len(), w.n() * w.d), (message.len(), w.n() * w.d)])
+        }),
+        (8, &|| w.some_no_residue(key)),
+        (9, &|| w.too_tall(message, w.n(), 1)),
+    ])
+}
+
+/// Call 2.
+pub fn prover_round(s: Settings, t: u32, key: &[u32], message: &[i32]) -> u32 {
+    let w = Whole::of(s);
+    first(&[
+        (3, &|| w.no_degree()),
+        (4, &|| w.no_depth()),
+        (5, &|| w.no_modulus()),
+        (6, &|| w.no_bound()),
+        (7, &|| {
+            other(&[(key.len(), w.n() * w.d), (message.len(), w.n() * w.d)])
+        }),
+        (8, &|| w.some_no_residue(key)),
+        (9, &|| i128::from(t) < w.l && w.left_too_tall(message, t)),
+        (11, &|| i128::from(t) >= w.l),
+    ])
+}
+
+/// Call 3.
+pub fn fold(s: Settings, t: u32, e: u32, key: &[u32], message: &[i32]) -> u32 {
+    let w = Whole::of(s);
+    first(&[
+        (3, &|| w.no_degree()),
+        (4, &|| w.no_depth()),
+        (5, &|| w.no_modulus()),
+        (6, &|| w.no_bound()),
+        (7, &|| {
+            other(&[(key.len(), w.n() * w.d), (message.len(), w.n() * w.d)])
+        }),
+        (8, &|| w.some_no_residue(key)),
+        (9, &|| i128::from(t) < w.l && w.left_too_tall(message, t)),
+        (10, &|| w.no_challenge(e)),
+        (11, &|| i128::from(t) >= w.l),
+    ])
+}
+
+/// Call 4, which takes no key.
+pub fn prover_end(s: Settings, t: u32, message: &[i32]) -> u32 {
+    let w = Whole::of(s);
+    first(&[
+        (3, &|| w.no_degree()),
+        (4, &|| w.no_depth()),
+        (5, &|| w.no_modulus()),
+        (6, &|| w.no_bound()),
+        (7, &|| other(&[(message.len(), w.n() * w.d)])),
+        (9, &|| i128::from(t) <= w.l && w.left_too_tall(message, t)),
+        (11, &|| i128::from(t) != w.l),
+    ])
+}
+
+/// Call 5.
+pub fn opening(
+    s: Settings,
+    key: &[u32],
+    message: &[i32],
+    challenges: &[u32],
+    rounds: &[u32],
+) -> u32 {
+    let w = Whole::of(s);
+    let lengths = || {
+        [
+            (key.len(), w.n() * w.d),
+            (message.len(), w.n() * w.d),
+            (challenges.len(), w.l),
+            (rounds.len(), 3 * w.l * w.d),
+        ]
+    };
+    first(&[
+        (3, &|| w.no_degree()),
+        (4, &|| w.no_depth()),
+        (5, &|| w.no_modulus()),
+        (6, &|| w.no_bound()),
+        (7, &|| other(&lengths())),
+        (8, &|| w.some_no_residue(key)),
+        (9, &|| w.too_tall(message, w.n(), 1)),
+        (10, &|| w.some_no_challenge(challenges)),
+    ])
+}
+
+/// Call 6.
+pub fn session_start(s: Settings, commitment: &Residues) -> u32 {
+    let w = Whole::of(s);
+    first(&[
+        (3, &|| w.no_degree()),
+        (4, &|| w.no_depth()),
+        (5, &|| w.no_modulus()),
+        (6, &|| w.no_bound()),
+        (8, &|| w.element_no_residue(commitment)),
+    ])
+}
+
+/// Call 7.
+pub fn session_round(record: &Record, polynomial: &Polynomial, e: u32) -> u32 {
+    let w = Whole::of(record.settings);
+    first(&[
+        (3, &|| w.no_degree()),
+        (4, &|| w.no_depth()),
+        (5, &|| w.no_modulus()),
+        (6, &|| w.no_bound()),
+        (8, &|| w.element_no_residue(&record.claim)),
+        (8, &|| polynomial.iter().any(|c| w.element_no_residue(c))),
+        (10, &|| {
+            w.some_no_challenge(&record.challenges) || w.no_challenge(e)
+        }),
+        (11, &|| record.closed || i128::from(record.done) >= w.l),
+    ])
+}
+
+/// Call 8.
+pub fn session_end(record: &Record, key: &[u32]) -> u32 {
+    let w = Whole::of(record.settings);
+    first(&[
+        (3, &|| w.no_degree()),
+        (4, &|| w.no_depth()),
+        (5, &|| w.no_modulus()),
+        (6, &|| w.no_bound()),
+        (7, &|| other(&[(key.len(), w.n() * w.d)])),
+        (8, &|| {
+            w.some_no_residue(key) || w.element_no_residue(&record.claim)
+        }),
+        (10, &|| w.some_no_challenge(&record.challenges)),
+        (11, &|| record.closed || i128::from(record.done) != w.l),
+    ])
+}
+
+/// Call 9.
+pub fn check(
+    s: Settings,
+    commitment: &Residues,
+    key: &[u32],
+    rounds: &[u32],
+    challenges: &[u32],
+) -> u32 {
+    let w = Whole::of(s);
+    let lengths = || {
+        [
+            (key.len(), w.n() * w.d),
+            (rounds.len(), 3 * w.l * w.d),
+            (challenges.len(), w.l),
+        ]
+    };
+    first(&[
+        (3, &|| w.no_degree()),
+        (4, &|| w.no_depth()),
+        (5, &|| w.no_modulus()),
+        (6, &|| w.no_bound()),
+        (7, &|| other(&lengths())),
+        (8, &|| w.element_no_residue(commitment)),
+        (8, &|| w.some_no_residue(key) || w.some_no_residue(rounds)),
+        (10, &|| w.some_no_challenge(challenges)),
+    ])
+}
+
+/// Call 10.
+pub fn judge(s: Settings, commitment: &Residues, c: u32, key: &[u32], vector: &[i64]) -> u32 {
+    let w = Whole::of(s);
+    first(&[
+        (3, &|| w.no_degree()),
+        (4, &|| w.no_depth()),
+        (5, &|| w.no_modulus()),
+        (6, &|| w.no_bound()),
+        (7, &|| {
+            other(&[(key.len(), w.n() * w.d), (vector.len(), w.n() * w.d)])
+        }),
+        (8, &|| {
+            w.some_no_residue(key) || w.element_no_residue(commitment)
+        }),
+        (14, &|| w.grows()),
+        (15, &|| c == 0 || c > 65_536),
+    ])
+}
+
+/// A tree with what is lent beside it.
+pub struct Tree<'a> {
+    pub settings: Settings,
+    pub commitment: &'a Residues,
+    pub key: &'a [u32],
+    pub rounds: &'a [u32],
+    pub challenges: &'a [u32],
+    pub leaves: &'a [i32],
+    pub w: &'a [i64],
+}
+
+/// Call 11; `rejected` says whether the verifier rejects some path, and is
+/// asked where nothing before 13 applies.
+pub fn extract(tree: &Tree, rejected: &dyn Fn() -> bool) -> u32 {
+    let w = Whole::of(tree.settings);
+    let lengths = || {
+        [
+            (tree.key.len(), w.n() * w.d),
+            (tree.rounds.len(), 3 * w.nodes() * w.d),
+            (tree.challenges.len(), 3 * w.nodes()),
+            (tree.leaves.len(), w.leaves() * w.d),
+            (tree.w.len(), w.n() * w.d),
+        ]
+    };
+    let equal = |a: usize, b: usize| tree.challenges[a] == tree.challenges[b];
+    let twin_at = |k: usize| {
+        equal(3 * k, 3 * k + 1) || equal(3 * k, 3 * k + 2) || equal(3 * k + 1, 3 * k + 2)
+    };
+    first(&[
+        (3, &|| w.no_degree()),
+        (4, &|| w.no_depth()),
+        (5, &|| w.no_modulus()),
+        (6, &|| w.no_bound()),
+        (7, &|| other(&lengths())),
+        (8, &|| w.element_no_residue(tree.commitment)),
+        (8, &|| {
+            w.some_no_residue(tree.key) || w.some_no_residue(tree.rounds)
+        }),
+        (10, &|| w.some_no_challenge(tree.challenges)),
+        (12, &|| (0..w.nodes() as usize).any(twin_at)),
+        (13, rejected),
+        (14, &|| w.grows()),
+    ])
+}
+
+/// The wanted lengths of the tables of parts 1 to 6.
+pub fn part_lengths(s: Settings, parts: Parts) -> [usize; 6] {
+    let w = Whole::of(s);
+    let wanted = [w.n() * w.d, w.n() * w.d, w.d, 3 * w.l * w.d, w.l, w.d];
+    std::array::from_fn(|i| if parts[i] { wanted[i] as usize } else { 0 })
+}
+
+/// Values of parts 1 to 6, as a text or tables have them: 8 to 10. A final
+/// coefficient of -2,147,483,648 only a table can have.
+pub fn values(s: Settings, values: &[Vec<i64>; 6]) -> u32 {
+    let w = Whole::of(s);
+    let beyond = |part: usize, low: i128, high: i128| {
+        let mut coefficients = values[part - 1].iter().map(|&x| i128::from(x));
+        coefficients.any(|x| x < low || x > high)
+    };
+    let no_residues = |part: usize| beyond(part, 0, w.q - 1);
+    first(&[
+        (8, &|| no_residues(1) || no_residues(3) || no_residues(4)),
+        (9, &|| beyond(2, -w.b, w.b)),
+        (9, &|| beyond(6, -2_147_483_647, i128::MAX)),
+        (10, &|| beyond(5, 0, 2 * w.d - 1)),
+    ])
+}
