@@ -187,3 +187,8 @@ pub use settings::Settings;
 pub use text::{look, prove, read, verify, write, Tables, TablesMut, LONGEST_TEXT};
 pub use verdict::{EndVerdict, Judgement, RoundVerdict};
 pub use verifier::check;
+
+/// The programs in the guide are run as well.
+#[cfg(doctest)]
+#[doc = include_str!("../../docs/LINKING.md")]
+struct Guide;

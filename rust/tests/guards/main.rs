@@ -1,9 +1,9 @@
 //! What the exported calls do to the memory that they are lent, at several
 //! degrees and depths: every slice and every single number stands between two
 //! guards of 16 numbers. Each call is made as it should be, with each fault for
-//! which it has a refusal, and with each slice one number too short and one too
-//! long. A refused call leaves every byte as it was; but a refused start writes
-//! a closed record of zeros, and a single number becomes 0.
+//! which it has a refusal, with each slice one number too short and one too
+//! long, and with both. A refused call leaves every byte as it was; but a
+//! refused start writes a closed record of zeros, and a single number becomes 0.
 
 #[path = "../../src/library.rs"]
 mod library;
@@ -15,7 +15,7 @@ mod lent;
 mod scenarios;
 
 use honest::Opening;
-use lent::Use;
+use lent::{Table, Use};
 use scenarios::Scenario;
 use std::collections::BTreeSet;
 use wovenrock::Settings;
@@ -79,33 +79,54 @@ fn every_call_between_guards() {
     assert_eq!(met, REFUSALS.iter().flat_map(each).collect());
 }
 
-/// Runs a scenario as it is, with its faults and with wrong lengths; gives the
-/// refusals that were met.
+/// Runs a scenario as it is, with its faults, with wrong lengths, and with a
+/// fault and a wrong length at once; gives the refusals that were met.
 fn met_by(scenario: &Scenario) -> BTreeSet<u32> {
-    let (name, call, input) = (scenario.name, scenario.call, &scenario.input);
-    let mut met = BTreeSet::new();
-    met.insert(lent::call(name, call, input, scenario.answer, "as it is"));
+    let (name, call) = (scenario.name, scenario.call);
+    let mut inputs = vec![(scenario.answer, scenario.input.clone())];
     for (refusal, fault) in &scenario.faults {
-        let mut input = input.clone();
+        let mut input = scenario.input.clone();
         fault(&mut input);
-        met.insert(lent::call(name, call, &input, *refusal, "with a fault"));
+        inputs.push((*refusal, input));
     }
-    for (i, table) in input.tables.iter().enumerate() {
-        let count = table.values.len();
-        let lengths = match table.used {
-            Use::Text | Use::Single => vec![],
-            _ => vec![count.checked_sub(1), Some(count + 1)],
-        };
-        for wrong in lengths.into_iter().flatten() {
-            let mut input = input.clone();
-            input.tables[i].values.resize(wrong, 0);
-            let what = format!("{} of {wrong} numbers", table.name);
-            // Only an output may be longer.
-            let longer = table.used == Use::Out && wrong > count;
-            let wanted = if longer { scenario.answer } else { 7 };
-            met.insert(lent::call(name, call, &input, wanted, &what));
+    let mut met = BTreeSet::new();
+    for (number, input) in &inputs {
+        met.insert(lent::call(
+            name,
+            call,
+            input,
+            *number,
+            "its lengths as they are",
+        ));
+        for (i, table) in input.tables.iter().enumerate() {
+            let count = table.values.len();
+            let lengths = match table.used {
+                Use::Text | Use::Single => vec![],
+                _ => vec![count.checked_sub(1), Some(count + 1)],
+            };
+            for wrong in lengths.into_iter().flatten() {
+                let wanted = with_wrong_length(name, table, wrong > count, *number);
+                let what = format!("{number}, and {} of {wrong} numbers", table.name);
+                let mut input = input.clone();
+                input.tables[i].values.resize(wrong, 0);
+                met.insert(lent::call(name, call, &input, wanted, &what));
+            }
         }
     }
     met.remove(&0);
     met
+}
+
+/// What a call that answers `number` answers where a slice has a wrong length
+/// as well: 7 stands behind 1 to 6. An output may be longer than its text, and
+/// is tested last where it is shorter; the writer tests the length of its text
+/// just before that. A record that is not of 78 numbers is refused at once.
+fn with_wrong_length(name: &str, table: &Table, longer: bool, number: u32) -> u32 {
+    let writer = name == "write" && number == 1;
+    let record = table.name == "session" && table.used == Use::Written;
+    match table.used {
+        Use::Out if longer || number != 0 => number,
+        _ if number == 0 || writer || record => 7,
+        _ => number.min(7),
+    }
 }
