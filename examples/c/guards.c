@@ -158,16 +158,21 @@ struct fault {
 };
 
 #define NO_MORE {0, SETTING, 0, 0, 0, NULL, NULL}
-#define FAULTY_SETTINGS {3, SETTING, 0, 0, 3, NULL, NULL}, {4, SETTING, 1, 0, 9, NULL, NULL}, {5, SETTING, 2, 0, 16, NULL, NULL}, {6, SETTING, 3, 0, 0, NULL, NULL}
-#define FAULTY_RECORD(slice) {3, NUMBER, slice, 0, 3, NULL, NULL}, {4, NUMBER, slice, 1, 9, NULL, NULL}, {5, NUMBER, slice, 2, 16, NULL, NULL}, \
-    {6, NUMBER, slice, 3, 0, NULL, NULL}, {7, NUMBER, slice, 5, 2, NULL, NULL}, {7, NUMBER, slice, 5, UINT32_MAX, NULL, NULL}, \
-    {8, NUMBER, slice, 14, 17, NULL, NULL}, {10, NUMBER, slice, 6, 4, NULL, NULL}, {10, NUMBER, slice, 13, 4, NULL, NULL}, \
-    {11, NUMBER, slice, 5, 1, NULL, NULL}
-#define FAULTY_TEXT {1, STRETCH, 0, 0, WOVENROCK_TEXT + 1, NULL, NULL}, {2, LINE, 0, 0, 0, "part", "Part"}, {2, LINE, 0, 0, 0, "0 0 3 1\n", "0 0 3 01\n"}, \
-    {3, LINE, 0, 0, 0, "0 0 0 2\n", "0 0 0 3\n"}, {4, LINE, 0, 0, 0, "0 0 1 1\n", "0 0 1 9\n"}, {5, LINE, 0, 0, 0, "0 0 2 17\n", "0 0 2 -17\n"}, \
-    {6, LINE, 0, 0, 0, "0 0 3 1\n", "0 0 3 128\n"}
-#define AT_NUMBER(refusal, slice, value) {refusal, NUMBER, slice, 0, value, NULL, NULL}
-#define AT_LINE(refusal, from, to) {refusal, LINE, 0, 0, 0, from, to}
+#define IN_SETTING(refusal, which, value) {refusal, SETTING, which, 0, value, NULL, NULL}
+#define IN_DONE(refusal, value) {refusal, DONE, 0, 0, value, NULL, NULL}
+#define IN_EXPONENT(refusal, value) {refusal, EXPONENT, 0, 0, value, NULL, NULL}
+#define IN_SLACK(refusal, value) {refusal, SLACK, 0, 0, value, NULL, NULL}
+#define IN_PARTS(refusal, value) {refusal, PARTS, 0, 0, value, NULL, NULL}
+#define IN_SLICE(refusal, slice, place, value) {refusal, NUMBER, slice, place, value, NULL, NULL}
+#define IN_LINE(refusal, from, to) {refusal, LINE, 0, 0, 0, from, to}
+#define FAULTY_SETTINGS IN_SETTING(3, 0, 3), IN_SETTING(4, 1, 9), IN_SETTING(5, 2, 16), IN_SETTING(6, 3, 0)
+#define FAULTY_RECORD(slice) \
+    IN_SLICE(3, slice, 0, 3), IN_SLICE(4, slice, 1, 9), IN_SLICE(5, slice, 2, 16), IN_SLICE(6, slice, 3, 0), IN_SLICE(7, slice, 5, 2), \
+        IN_SLICE(7, slice, 5, UINT32_MAX), IN_SLICE(8, slice, 14, 17), IN_SLICE(10, slice, 6, 4), IN_SLICE(10, slice, 13, 4), IN_SLICE(11, slice, 5, 1)
+#define FAULTY_TEXT \
+    {1, STRETCH, 0, 0, WOVENROCK_TEXT + 1, NULL, NULL}, IN_LINE(2, "part", "Part"), IN_LINE(2, "0 0 3 1\n", "0 0 3 01\n"), \
+        IN_LINE(3, "0 0 0 2\n", "0 0 0 3\n"), IN_LINE(4, "0 0 1 1\n", "0 0 1 9\n"), IN_LINE(5, "0 0 2 17\n", "0 0 2 -17\n"), \
+        IN_LINE(6, "0 0 3 1\n", "0 0 3 128\n")
 
 /* Whether the fault can be put in: a place may be missing in a slice that is too short. */
 static bool spoil(struct input *in, const struct fault *f) {
@@ -285,7 +290,7 @@ static void show(const struct input *in) {
         if (s->use == OUT)
             printf("\n%.*s", (int)s->count, (const char *)numbers(s));
         else
-            for (size_t k = 0; k < s->count && k < 24; k++)
+            for (size_t k = 0; k < s->count; k++)
                 printf(" %lld", (long long)number_at(s, k));
         printf("\n");
     }
@@ -599,35 +604,35 @@ static struct input verify_input(void) {
 
 static const struct scenario scenarios[] = {
     {"settings", settings, worked, 0, {FAULTY_SETTINGS, NO_MORE}},
-    {"commit", commit, commit_input, 0, {FAULTY_SETTINGS, AT_NUMBER(8, 0, 17), AT_NUMBER(9, 1, -2), NO_MORE}},
-    {"round", prover_round, round_input, 0, {FAULTY_SETTINGS, AT_NUMBER(8, 0, 17), AT_NUMBER(9, 1, 2), {11, DONE, 0, 0, 1, NULL, NULL},
-        {11, DONE, 0, 0, UINT32_MAX, NULL, NULL}, NO_MORE}},
-    {"fold", fold, fold_input, 0, {FAULTY_SETTINGS, AT_NUMBER(8, 0, 17), AT_NUMBER(9, 1, 2), {10, EXPONENT, 0, 0, 4, NULL, NULL},
-        {11, DONE, 0, 0, 1, NULL, NULL}, NO_MORE}},
-    {"end", prover_end, end_input, 0, {FAULTY_SETTINGS, AT_NUMBER(9, 0, 3), {11, DONE, 0, 0, 0, NULL, NULL}, {11, DONE, 0, 0, 2, NULL, NULL}, NO_MORE}},
-    {"open", whole, open_input, 0, {FAULTY_SETTINGS, AT_NUMBER(8, 0, 17), AT_NUMBER(9, 1, 2), AT_NUMBER(10, 2, 4), NO_MORE}},
-    {"session_start", start, start_input, 0, {FAULTY_SETTINGS, AT_NUMBER(8, 0, 17), NO_MORE}},
-    {"session_round", session_round, session_round_input, 0, {FAULTY_RECORD(1), AT_NUMBER(8, 0, 17), {10, EXPONENT, 0, 0, 4, NULL, NULL},
-        {11, NUMBER, 1, 4, 1, NULL, NULL}, NO_MORE}},
-    {"session_end", session_end, session_end_input, 0, {FAULTY_RECORD(2), AT_NUMBER(8, 1, 17), {11, NUMBER, 2, 4, 0, NULL, NULL}, NO_MORE}},
-    {"check", check, check_input, 0, {FAULTY_SETTINGS, AT_NUMBER(8, 0, 17), AT_NUMBER(8, 2, 17), AT_NUMBER(8, 3, 17), AT_NUMBER(10, 4, 4), NO_MORE}},
-    {"judge", judge, judge_input, 0, {FAULTY_SETTINGS, AT_NUMBER(8, 0, 17), AT_NUMBER(8, 1, 17), {15, SLACK, 0, 0, 0, NULL, NULL},
-        {15, SLACK, 0, 0, 65537, NULL, NULL}, NO_MORE}},
-    {"judge, growth", judge, large_judge_input, 14, {AT_NUMBER(8, 0, 17), {14, SLACK, 0, 0, 0, NULL, NULL}, NO_MORE}},
-    {"extract", extract, extract_input, 0, {FAULTY_SETTINGS, AT_NUMBER(8, 0, 17), AT_NUMBER(8, 1, 17), AT_NUMBER(8, 2, 17), AT_NUMBER(10, 3, 4),
-        AT_NUMBER(12, 3, 1), AT_NUMBER(13, 4, 1), AT_NUMBER(13, 4, 3), NO_MORE}},
-    {"extract, growth", extract, large_extract_input, 14, {AT_NUMBER(8, 0, 17), AT_NUMBER(13, 4, 17), NO_MORE}},
+    {"commit", commit, commit_input, 0, {FAULTY_SETTINGS, IN_SLICE(8, 0, 0, 17), IN_SLICE(9, 1, 0, -2), NO_MORE}},
+    {"round", prover_round, round_input, 0, {FAULTY_SETTINGS, IN_SLICE(8, 0, 0, 17), IN_SLICE(9, 1, 0, 2), IN_DONE(11, 1),
+        IN_DONE(11, UINT32_MAX), NO_MORE}},
+    {"fold", fold, fold_input, 0, {FAULTY_SETTINGS, IN_SLICE(8, 0, 0, 17), IN_SLICE(9, 1, 0, 2), IN_EXPONENT(10, 4),
+        IN_DONE(11, 1), NO_MORE}},
+    {"end", prover_end, end_input, 0, {FAULTY_SETTINGS, IN_SLICE(9, 0, 0, 3), IN_DONE(11, 0), IN_DONE(11, 2), NO_MORE}},
+    {"open", whole, open_input, 0, {FAULTY_SETTINGS, IN_SLICE(8, 0, 0, 17), IN_SLICE(9, 1, 0, 2), IN_SLICE(10, 2, 0, 4), NO_MORE}},
+    {"session_start", start, start_input, 0, {FAULTY_SETTINGS, IN_SLICE(8, 0, 0, 17), NO_MORE}},
+    {"session_round", session_round, session_round_input, 0, {FAULTY_RECORD(1), IN_SLICE(8, 0, 0, 17), IN_EXPONENT(10, 4),
+        IN_SLICE(11, 1, 4, 1), NO_MORE}},
+    {"session_end", session_end, session_end_input, 0, {FAULTY_RECORD(2), IN_SLICE(8, 1, 0, 17), IN_SLICE(11, 2, 4, 0), NO_MORE}},
+    {"check", check, check_input, 0, {FAULTY_SETTINGS, IN_SLICE(8, 0, 0, 17), IN_SLICE(8, 2, 0, 17), IN_SLICE(8, 3, 0, 17), IN_SLICE(10, 4, 0, 4), NO_MORE}},
+    {"judge", judge, judge_input, 0, {FAULTY_SETTINGS, IN_SLICE(8, 0, 0, 17), IN_SLICE(8, 1, 0, 17), IN_SLACK(15, 0),
+        IN_SLACK(15, 65537), NO_MORE}},
+    {"judge, growth", judge, large_judge_input, 14, {IN_SLICE(8, 0, 0, 17), IN_SLACK(14, 0), NO_MORE}},
+    {"extract", extract, extract_input, 0, {FAULTY_SETTINGS, IN_SLICE(8, 0, 0, 17), IN_SLICE(8, 1, 0, 17), IN_SLICE(8, 2, 0, 17), IN_SLICE(10, 3, 0, 4),
+        IN_SLICE(12, 3, 0, 1), IN_SLICE(13, 4, 0, 1), IN_SLICE(13, 4, 0, 3), NO_MORE}},
+    {"extract, growth", extract, large_extract_input, 14, {IN_SLICE(8, 0, 0, 17), IN_SLICE(13, 4, 0, 17), NO_MORE}},
     {"look", look, look_input, 0, {FAULTY_TEXT, NO_MORE}},
-    {"read", reads, read_input, 0, {FAULTY_TEXT, AT_LINE(7, "2 1 1 0\n", ""), AT_LINE(8, "1 0 0 3\n", "1 0 0 17\n"), AT_LINE(8, "1 0 0 3\n", "1 0 0 -1\n"),
-        AT_LINE(9, "2 0 0 1\n", "2 0 0 2\n"), AT_LINE(10, "5 0 0 1\n", "5 0 0 4\n"), {7, PARTS, 0, 0, 62, NULL, NULL}, {7, PARTS, 0, 0, 127, NULL, NULL},
-        {7, PARTS, 0, 0, 63 + (INT64_C(1) << 31), NULL, NULL}, NO_MORE}},
-    {"read, a key", reads, read_key_input, 0, {FAULTY_TEXT, {7, PARTS, 0, 0, 0, NULL, NULL}, {7, PARTS, 0, 0, 65, NULL, NULL}, NO_MORE}},
-    {"write", writes, write_input, 0, {FAULTY_SETTINGS, AT_NUMBER(8, 0, 17), AT_NUMBER(8, 2, 17), AT_NUMBER(8, 3, 17), AT_NUMBER(9, 1, 2),
-        AT_NUMBER(9, 5, INT32_MIN), AT_NUMBER(10, 4, 4), {7, PARTS, 0, 0, 62, NULL, NULL}, {7, PARTS, 0, 0, 127, NULL, NULL}, NO_MORE}},
-    {"write, too long", writes, write_long_input, 1, {FAULTY_SETTINGS, AT_NUMBER(8, 0, 17), {7, PARTS, 0, 0, 65, NULL, NULL}, NO_MORE}},
-    {"prove", prove, prove_input, 0, {FAULTY_TEXT, AT_LINE(7, "2 1 1 0\n", ""), AT_LINE(8, "1 0 0 3\n", "1 0 0 17\n"), AT_LINE(9, "2 0 0 1\n", "2 0 0 2\n"),
-        AT_LINE(10, "5 0 0 1\n", "5 0 0 4\n"), NO_MORE}},
-    {"verify", verify, verify_input, 0, {FAULTY_TEXT, AT_LINE(7, "3 0 1 4\n", ""), AT_LINE(8, "4 2 1 1\n", "4 2 1 17\n"), AT_LINE(10, "5 0 0 1\n", "5 0 0 4\n"),
+    {"read", reads, read_input, 0, {FAULTY_TEXT, IN_LINE(7, "2 1 1 0\n", ""), IN_LINE(8, "1 0 0 3\n", "1 0 0 17\n"), IN_LINE(8, "1 0 0 3\n", "1 0 0 -1\n"),
+        IN_LINE(9, "2 0 0 1\n", "2 0 0 2\n"), IN_LINE(10, "5 0 0 1\n", "5 0 0 4\n"), IN_PARTS(7, 62), IN_PARTS(7, 127),
+        IN_PARTS(7, 63 + (INT64_C(1) << 31)), NO_MORE}},
+    {"read, a key", reads, read_key_input, 0, {FAULTY_TEXT, IN_PARTS(7, 0), IN_PARTS(7, 65), NO_MORE}},
+    {"write", writes, write_input, 0, {FAULTY_SETTINGS, IN_SLICE(8, 0, 0, 17), IN_SLICE(8, 2, 0, 17), IN_SLICE(8, 3, 0, 17), IN_SLICE(9, 1, 0, 2),
+        IN_SLICE(9, 5, 0, INT32_MIN), IN_SLICE(10, 4, 0, 4), IN_PARTS(7, 62), IN_PARTS(7, 127), NO_MORE}},
+    {"write, too long", writes, write_long_input, 1, {FAULTY_SETTINGS, IN_SLICE(8, 0, 0, 17), IN_PARTS(7, 65), NO_MORE}},
+    {"prove", prove, prove_input, 0, {FAULTY_TEXT, IN_LINE(7, "2 1 1 0\n", ""), IN_LINE(8, "1 0 0 3\n", "1 0 0 17\n"), IN_LINE(9, "2 0 0 1\n", "2 0 0 2\n"),
+        IN_LINE(10, "5 0 0 1\n", "5 0 0 4\n"), NO_MORE}},
+    {"verify", verify, verify_input, 0, {FAULTY_TEXT, IN_LINE(7, "3 0 1 4\n", ""), IN_LINE(8, "4 2 1 1\n", "4 2 1 17\n"), IN_LINE(10, "5 0 0 1\n", "5 0 0 4\n"),
         NO_MORE}},
 };
 
