@@ -70,7 +70,8 @@ int main(void) {
     printf("%d settings\n", settings);
     for (uint32_t number = 0; number <= 16; number++)
         printf("%u %s\n", number, wovenrock_word(number));
-    printf("version %s\n", wovenrock_version());
+    if (strcmp(wovenrock_version(), WOVENROCK_VERSION) != 0)
+        failures++;
     printf("%d failed\n", failures);
     return failures != 0;
 }
