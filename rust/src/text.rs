@@ -246,7 +246,7 @@ pub fn write<'o>(
 /// challenges, which are its three parts. The text of settings, commitment,
 /// round elements, challenges and final element goes to the front of `out`,
 /// for which [`LONGEST_TEXT`] bytes are always enough, and is the answer.
-/// Refusals 1 to 10, then 1 and 7 as in [`write`].
+/// Refusals 1 to 10, then 1 and 7 as in [`write()`].
 ///
 /// ```
 /// use wovenrock::{prove, LONGEST_TEXT};
