@@ -3,31 +3,36 @@
 //!
 //! A prover commits to a table of small numbers and later shows that it still
 //! has that table, without sending it. Every function here is a thin, safe
-//! shell around a function of the static library `libexports.a`, which is
-//! proved to meet its contract for every input; `include/wovenrock.h` has the
-//! contracts in words. A function needs nothing of its arguments: what is not
-//! as it should be is answered by a [`Refusal`].
+//! shell around a function of the static library, which is proved to meet its
+//! contract for every input; `include/wovenrock.h` has the contracts in words.
+//! A function needs nothing of its arguments: what is not as it should be is
+//! answered by a [`Refusal`], and then nothing that was lent has changed.
+//!
+//! **`Ok` says that a call was not refused, and not that anything was
+//! accepted.** What a verifier says is a [`RoundVerdict`] or an
+//! [`EndVerdict`], and what a judge says is a [`Judgement`].
 //!
 //! Tables are flat and lent by the caller: element i of a table begins at
-//! number i·d. The lengths that a function wants are in [`Settings`].
+//! number i·d. Every slice has exactly the length that [`Settings`] gives; no
+//! function fills one up or cuts it off.
 //!
 //! # An opening
 //!
 //! ```
-//! use wovenrock::{commit, open, Settings, Verdict};
+//! use wovenrock::{commit, open, Settings};
 //!
-//! let settings = Settings { degree: 2, depth: 1, modulus: 17, bound: 1 };
+//! let settings = Settings::new(2, 1, 17, 1)?;
 //! let mut key = [3, 5, 7, 2];
 //! let mut message = [1, -1, 1, 0];
 //! let commitment = commit(settings, &key, &message)?;
-//! assert_eq!(commitment[..2], [15, 4]);
+//! assert_eq!(commitment, [15, 4]);
 //!
-//! let mut rounds = [0; 6];
+//! let mut rounds = vec![0; settings.rounds_len()];
 //! let opened = open(settings, &mut key, &mut message, &[1], &mut rounds)?;
 //! assert_eq!(opened.commitment, commitment);
 //! assert_eq!(rounds, [4, 1, 6, 0, 12, 1]);
-//! assert_eq!(opened.last[..2], [1, 0]);
-//! assert_eq!(opened.verdict, Verdict::Accepted);
+//! assert_eq!(opened.last, [1, 0]);
+//! assert!(opened.verdict.is_accepted());
 //! # Ok::<(), wovenrock::Refusal>(())
 //! ```
 //!
@@ -36,21 +41,19 @@
 //! By a session, move by move, and by one check of the whole transcript:
 //!
 //! ```
-//! use wovenrock::{check, residues, wholes, Session, Settings, Verdict};
+//! use wovenrock::{check, Session, Settings};
 //!
-//! let settings = Settings { degree: 2, depth: 1, modulus: 17, bound: 1 };
+//! let settings = Settings::new(2, 1, 17, 1)?;
 //! let key = [3, 5, 7, 2];
-//! let commitment = residues(&[15, 4]);
-//! let polynomial = [residues(&[4, 1]), residues(&[6, 0]), residues(&[12, 1])];
-//! let last = wholes(&[1, 0]);
+//! let (commitment, rounds, last) = ([15, 4], [4, 1, 6, 0, 12, 1], [1, 0]);
 //!
 //! let mut session = Session::start(settings, &commitment)?;
-//! assert_eq!(session.round(&polynomial, 1)?, Verdict::Holds);
-//! assert_eq!(session.claim()[..2], [9, 6]);
-//! assert_eq!(session.end(&last, &key)?, Verdict::Accepted);
+//! assert!(session.round(&rounds, 1)?.holds());
+//! assert_eq!(session.claim(), [9, 6]);
+//! assert!(session.end(&last, &key)?.is_accepted());
 //!
-//! let verdict = check(settings, &commitment, &last, &key, &[4, 1, 6, 0, 12, 1], &[1])?;
-//! assert_eq!(verdict, Verdict::Accepted);
+//! let verdict = check(settings, &commitment, &last, &key, &rounds, &[1])?;
+//! assert!(verdict.is_accepted());
 //! # Ok::<(), wovenrock::Refusal>(())
 //! ```
 //!
@@ -60,16 +63,16 @@
 //! opens 4 times the commitment:
 //!
 //! ```
-//! use wovenrock::{extract, judge, residues, Settings};
+//! use wovenrock::{extract, judge, Settings};
 //!
-//! let settings = Settings { degree: 2, depth: 1, modulus: 17, bound: 1 };
+//! let settings = Settings::new(2, 1, 17, 1)?;
 //! let key = [3, 5, 7, 2];
-//! let commitment = residues(&[15, 4]);
+//! let commitment = [15, 4];
 //! let leaves = [2, -1, 1, 0, 0, -1];
-//! let mut w = [0; 4];
+//! let mut w = vec![0; settings.table_len()];
 //! extract(settings, &commitment, &key, &[4, 1, 6, 0, 12, 1], &[0, 1, 2], &leaves, &mut w)?;
 //! assert_eq!(w, [4, -4, 4, 0]);
-//! assert!(judge(settings, &commitment, settings.slack(), &key, &w)?);
+//! assert!(judge(settings, &commitment, settings.slack(), &key, &w)?.is_opening());
 //! # Ok::<(), wovenrock::Refusal>(())
 //! ```
 //!
@@ -100,15 +103,15 @@
 //! 5 0 0 1
 //! ";
 //! let mut out = [0; LONGEST_TEXT];
-//! let length = prove(text, &mut out)?;
-//! assert!(out[..length].ends_with(b"5 0 0 1\n6 0 0 1\n6 0 1 0\n"));
+//! let listing = prove(text, &mut out)?;
+//! assert!(listing.ends_with(b"5 0 0 1\n6 0 0 1\n6 0 1 0\n"));
 //! # Ok::<(), wovenrock::Refusal>(())
 //! ```
 //!
 //! Its verification, and tables that are read and written:
 //!
 //! ```
-//! use wovenrock::{look, read, verify, write, Refusal, Tables, TablesMut, Verdict};
+//! use wovenrock::{look, read, verify, write, Refusal, Tables, TablesMut};
 //!
 //! let text = b"part item place value
 //! 0 0 0 2
@@ -131,11 +134,14 @@
 //! 6 0 0 1
 //! 6 0 1 0
 //! ";
-//! assert_eq!(verify(text)?, Verdict::Accepted);
+//! assert!(verify(text)?.is_accepted());
 //!
 //! let settings = look(text)?;
-//! let (mut key, mut commitment, mut rounds) = (vec![0; settings.cells()], [0; 2], [0; 6]);
-//! let (mut challenges, mut last) = ([0; 1], [0; 2]);
+//! let mut key = vec![0; settings.table_len()];
+//! let mut commitment = vec![0; settings.element_len()];
+//! let mut rounds = vec![0; settings.rounds_len()];
+//! let mut challenges = vec![0; settings.challenges_len()];
+//! let mut last = vec![0; settings.element_len()];
 //! let tables = TablesMut {
 //!     key: Some(&mut key),
 //!     commitment: Some(&mut commitment),
@@ -145,7 +151,7 @@
 //!     ..TablesMut::default()
 //! };
 //! read(text, tables)?;
-//! assert_eq!((key[..].as_ref(), commitment), ([3, 5, 7, 2].as_ref(), [15, 4]));
+//! assert_eq!((key, commitment.clone()), (vec![3, 5, 7, 2], vec![15, 4]));
 //!
 //! let mut out = [0; 1000];
 //! let tables = Tables {
@@ -153,50 +159,36 @@
 //!     last: Some(&last),
 //!     ..Tables::default()
 //! };
-//! let length = write(settings, tables, &mut out)?;
-//! assert!(out[..length].ends_with(b"3 0 0 15\n3 0 1 4\n6 0 0 1\n6 0 1 0\n"));
-//! assert_eq!(verify(&out[..length]), Err(Refusal::Size));
+//! let written = write(settings, tables, &mut out)?;
+//! assert!(written.ends_with(b"3 0 0 15\n3 0 1 4\n6 0 0 1\n6 0 1 0\n"));
+//! assert_eq!(verify(written), Err(Refusal::Size));
 //! # Ok::<(), wovenrock::Refusal>(())
 //! ```
 #![no_std]
+#![deny(missing_docs)]
 
 mod library;
+mod numbers;
 mod prover;
 mod refusal;
 mod relaxed;
 mod session;
 mod settings;
 mod text;
+mod verdict;
 mod verifier;
 
+pub use numbers::{Numbers, Polynomial, Residues, Wholes};
 pub use prover::{commit, end, fold, open, round, Opened};
 pub use refusal::Refusal;
 pub use relaxed::{extract, judge};
 pub use session::Session;
 pub use settings::Settings;
 pub use text::{look, prove, read, verify, write, Tables, TablesMut, LONGEST_TEXT};
-pub use verifier::{check, Verdict};
+pub use verdict::{EndVerdict, Judgement, RoundVerdict};
+pub use verifier::check;
 
-/// Places of an element that is not in a table.
-pub const PLACES: usize = 64;
-
-/// An element of residues. Places from the degree on are not read, and are 0
-/// in every new element.
-pub type Residues = [u32; PLACES];
-
-/// An element of whole numbers.
-pub type Wholes = [i32; PLACES];
-
-/// A round polynomial: c0, c1, c2.
-pub type Polynomial = [Residues; 3];
-
-/// An element with these coefficients, that of X^0 first; more than 64 are
-/// left out.
-pub fn residues(coefficients: &[u32]) -> Residues {
-    core::array::from_fn(|k| coefficients.get(k).copied().unwrap_or(0))
-}
-
-/// The same of whole numbers.
-pub fn wholes(coefficients: &[i32]) -> Wholes {
-    core::array::from_fn(|k| coefficients.get(k).copied().unwrap_or(0))
-}
+/// The programs in the guide are run as well.
+#[cfg(doctest)]
+#[doc = include_str!("../../docs/LINKING.md")]
+struct Guide;

@@ -1,10 +1,17 @@
 //! The functions of the static library, as `include/wovenrock.h` declares them.
 //!
 //! Each needs nothing of its arguments but that a slice is what its pointer and
-//! its length say, and that a slice that is written overlaps no other.
+//! its length say, and that a slice that is written overlaps no other. A
+//! parameter has a line of its own, so that a script can compare them.
 
+#[rustfmt::skip]
 extern "C" {
-    pub fn wovenrock_settings(degree: u32, depth: u32, modulus: u32, bound: u32) -> u32;
+    pub fn wovenrock_settings(
+        degree: u32,
+        depth: u32,
+        modulus: u32,
+        bound: u32,
+    ) -> u32;
 
     pub fn wovenrock_commit(
         degree: u32,
@@ -207,7 +214,7 @@ extern "C" {
         last_length: usize,
         out: *mut u8,
         out_length: usize,
-        length: *mut usize,
+        count: *mut usize,
     ) -> u32;
 
     pub fn wovenrock_prove(
@@ -215,8 +222,12 @@ extern "C" {
         text_length: usize,
         out: *mut u8,
         out_length: usize,
-        length: *mut usize,
+        count: *mut usize,
     ) -> u32;
 
-    pub fn wovenrock_verify(text: *const u8, text_length: usize, verdict: *mut u32) -> u32;
+    pub fn wovenrock_verify(
+        text: *const u8,
+        text_length: usize,
+        verdict: *mut u32,
+    ) -> u32;
 }

@@ -3,9 +3,22 @@
 use core::error::Error;
 use core::fmt;
 
-/// Why a call was refused: the first that applies, in the order of numbers.
+/// Why a call was refused: the first that applies, in the order of the call's
+/// tests. A refused call has written nothing. That a call is not refused does
+/// not say that anything was accepted: that is a verdict's part.
+///
+/// ```
+/// use wovenrock::{commit, Refusal, Settings};
+///
+/// let settings = Settings::new(2, 1, 17, 1)?;
+/// let refused = commit(settings, &[3, 5, 7, 17], &[1, -1, 1, 0]).unwrap_err();
+/// assert_eq!(refused, Refusal::Residue);
+/// assert_eq!(refused.to_string(), "refused 8: residue");
+/// # Ok::<(), Refusal>(())
+/// ```
 #[derive(Clone, Copy, Debug, PartialEq, Eq, PartialOrd, Ord, Hash)]
 #[repr(u32)]
+#[non_exhaustive]
 pub enum Refusal {
     /// A text, read or to be written, over 65,536 bytes.
     Long = 1,
@@ -20,7 +33,7 @@ pub enum Refusal {
     Modulus = 5,
     /// The bound is out of range.
     Bound = 6,
-    /// A table has not exactly its length, the lines of a text are not the
+    /// A slice has not exactly its length, the lines of a text are not the
     /// required ones in order, or a slice is shorter than the text.
     Size = 7,
     /// A coefficient of a key, commitment, round polynomial or claim is not
@@ -44,8 +57,16 @@ pub enum Refusal {
 }
 
 impl Refusal {
-    /// All refusals, in their order.
-    pub const ALL: [Refusal; 15] = [
+    /// All refusals, in the order of their numbers.
+    ///
+    /// ```
+    /// use wovenrock::Refusal;
+    ///
+    /// for (place, refusal) in Refusal::ALL.iter().enumerate() {
+    ///     assert_eq!(refusal.number() as usize, place + 1);
+    /// }
+    /// ```
+    pub const ALL: &'static [Refusal] = &[
         Refusal::Long,
         Refusal::Text,
         Refusal::Degree,
@@ -64,41 +85,46 @@ impl Refusal {
     ];
 
     /// The number in the table of refusals.
+    ///
+    /// ```
+    /// assert_eq!(wovenrock::Refusal::Size.number(), 7);
+    /// ```
     pub fn number(self) -> u32 {
         self as u32
     }
 
     /// The word in the table of refusals.
+    ///
+    /// ```
+    /// assert_eq!(wovenrock::Refusal::Size.word(), "size");
+    /// ```
     pub fn word(self) -> &'static str {
-        const WORDS: [&str; 15] = [
-            "long",
-            "text",
-            "degree",
-            "depth",
-            "modulus",
-            "bound",
-            "size",
-            "residue",
-            "tall",
-            "challenge",
-            "turn",
-            "twin",
-            "branch",
-            "growth",
-            "slack",
-        ];
-        WORDS[self as usize - 1]
+        match self {
+            Refusal::Long => "long",
+            Refusal::Text => "text",
+            Refusal::Degree => "degree",
+            Refusal::Depth => "depth",
+            Refusal::Modulus => "modulus",
+            Refusal::Bound => "bound",
+            Refusal::Size => "size",
+            Refusal::Residue => "residue",
+            Refusal::Tall => "tall",
+            Refusal::Challenge => "challenge",
+            Refusal::Turn => "turn",
+            Refusal::Twin => "twin",
+            Refusal::Branch => "branch",
+            Refusal::Growth => "growth",
+            Refusal::Slack => "slack",
+        }
     }
 
-    /// What the library's answer says. (100, a slice for an element or
-    /// settings that is too short, does not come up: those slices are arrays
-    /// here.)
+    /// What the number that a call answers says.
     pub(crate) fn answer(number: u32) -> Result<(), Refusal> {
-        match number {
-            0 => Ok(()),
-            1..=15 => Err(Refusal::ALL[number as usize - 1]),
-            _ => unreachable!("the library answers 0 to 15 where every slice is long enough"),
+        if number == 0 {
+            return Ok(());
         }
+        let refusal = Refusal::ALL.get(number as usize - 1);
+        Err(*refusal.expect("a call answers 0 or a number of the table"))
     }
 }
 

@@ -1,24 +1,37 @@
 //! Relaxed openings: the judge and the extractor.
 
-use crate::{library, Refusal, Residues, Settings};
+use crate::{library, Judgement, Refusal, Settings};
 
-/// Is `slack` times the commitment the sum of w_i·G_i modulo q, and no
-/// coefficient of w beyond (12·d²)^L·B? Refusals 3 to 8, 14, 15.
+/// The judge: is `slack` times the commitment the sum of w_i·G_i modulo q, and
+/// no coefficient of w beyond (12·d²)^L·B? The commitment has exactly
+/// [`Settings::element_len`] numbers, key and w [`Settings::table_len`].
+/// Refusals 7, 8, 14, 15.
+///
+/// ```
+/// use wovenrock::{judge, Refusal, Settings};
+///
+/// let settings = Settings::new(2, 1, 17, 1)?;
+/// let (commitment, key, w) = ([15, 4], [3, 5, 7, 2], [4, -4, 4, 0]);
+/// assert!(judge(settings, &commitment, 4, &key, &w)?.is_opening());
+/// assert!(!judge(settings, &commitment, 5, &key, &w)?.is_opening());
+/// assert_eq!(judge(settings, &commitment, 0, &key, &w), Err(Refusal::Slack));
+/// # Ok::<(), Refusal>(())
+/// ```
 pub fn judge(
     settings: Settings,
-    commitment: &Residues,
+    commitment: &[u32],
     slack: u32,
     key: &[u32],
     w: &[i64],
-) -> Result<bool, Refusal> {
+) -> Result<Judgement, Refusal> {
     let s = settings;
     let mut yes = 0;
     let number = unsafe {
         library::wovenrock_judge(
-            s.degree,
-            s.depth,
-            s.modulus,
-            s.bound,
+            s.degree(),
+            s.depth(),
+            s.modulus(),
+            s.bound(),
             commitment.as_ptr(),
             commitment.len(),
             slack,
@@ -29,19 +42,36 @@ pub fn judge(
             &mut yes,
         )
     };
-    Refusal::answer(number).map(|()| yes == 1)
+    Refusal::answer(number).map(|()| Judgement::said(yes))
 }
 
-/// From a full tree of accepted transcripts a vector w that opens 4^L times
-/// the commitment. The root is node 0, and the children of node k are 3k+1,
-/// 3k+2, 3k+3; behind the N = [`Settings::nodes`] branching nodes stand the
-/// leaves. Element 3k+j of `rounds` is c_j of node k, number 3k+j of
-/// `challenges` leads from node k to 3k+1+j, and `leaves` has the final
-/// elements. `w` has exactly [`Settings::cells`] numbers, and is written where
-/// nothing is refused. Refusals 3 to 8, 10, 12, 13, 14.
+/// The extractor: from a full tree of accepted transcripts a vector w that
+/// opens 4^L times the commitment ([`Settings::slack`]). The tree is numbered
+/// as [`Settings::nodes`] says. Element 3k+j of `rounds` is c_j of node k,
+/// number 3k+j of `challenges` leads from node k to node 3k+1+j, and `leaves`
+/// has the final elements. Lengths are exactly [`Settings::element_len`] for
+/// the commitment, [`Settings::table_len`] for key and w,
+/// [`Settings::tree_rounds_len`], [`Settings::tree_challenges_len`] and
+/// [`Settings::leaves_len`]. Where the call is refused w is as it was. Refusals
+/// 7, 8, 10, 12, 13, 14.
+///
+/// ```
+/// use wovenrock::{extract, Refusal, Settings};
+///
+/// let settings = Settings::new(2, 1, 17, 1)?;
+/// let (commitment, key, rounds) = ([15, 4], [3, 5, 7, 2], [4, 1, 6, 0, 12, 1]);
+/// let leaves = [2, -1, 1, 0, 0, -1];
+/// let mut w = [0; 4];
+/// extract(settings, &commitment, &key, &rounds, &[0, 1, 2], &leaves, &mut w)?;
+/// assert_eq!(w, [4, -4, 4, 0]);
+///
+/// let refused = extract(settings, &commitment, &key, &rounds, &[0, 1, 1], &leaves, &mut w);
+/// assert_eq!(refused, Err(Refusal::Twin));
+/// # Ok::<(), Refusal>(())
+/// ```
 pub fn extract(
     settings: Settings,
-    commitment: &Residues,
+    commitment: &[u32],
     key: &[u32],
     rounds: &[u32],
     challenges: &[u32],
@@ -51,10 +81,10 @@ pub fn extract(
     let s = settings;
     let number = unsafe {
         library::wovenrock_extract(
-            s.degree,
-            s.depth,
-            s.modulus,
-            s.bound,
+            s.degree(),
+            s.depth(),
+            s.modulus(),
+            s.bound(),
             commitment.as_ptr(),
             commitment.len(),
             key.as_ptr(),

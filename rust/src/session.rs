@@ -1,33 +1,64 @@
 //! The verifier's session.
 
-use crate::{library, Polynomial, Refusal, Residues, Settings, Verdict, Wholes, PLACES};
+use crate::{library, EndVerdict, Numbers, Polynomial, Refusal, Residues, RoundVerdict, Settings};
 
 /// A verifier's session: settings, rounds done, claim, challenges, and
-/// whether it is closed.
+/// whether it is closed. A rejection closes it, and so does an end.
+///
+/// ```
+/// use wovenrock::{Session, Settings};
+///
+/// let key = [3, 5, 7, 2];
+/// let mut session = Session::start(Settings::new(2, 1, 17, 1)?, &[15, 4])?;
+/// assert!(session.round(&[4, 1, 6, 0, 12, 1], 1)?.holds());
+/// assert!(session.end(&[1, 0], &key)?.is_accepted());
+/// # Ok::<(), wovenrock::Refusal>(())
+/// ```
 #[derive(Clone, Debug, PartialEq, Eq)]
 pub struct Session {
-    /// The record as the library has it: degree, depth, modulus, bound,
-    /// rounds done, closed, eight challenges, the claim.
-    record: [u32; RECORD],
+    record: [u32; Session::RECORD],
 }
 
-const RECORD: usize = 78;
+/// Places in a record; the settings are its first four numbers.
 const DONE: usize = 4;
 const CLOSED: usize = 5;
 const CHALLENGES: usize = 6;
 const CLAIM: usize = 14;
 
 impl Session {
-    /// A session starts at a commitment. Refusals 3 to 6, 8.
-    pub fn start(settings: Settings, commitment: &Residues) -> Result<Session, Refusal> {
+    /// Numbers of a saved session: degree, depth, modulus, bound, rounds done,
+    /// closed (0 or 1), eight challenges, 64 places of the claim.
+    ///
+    /// ```
+    /// use wovenrock::{Session, Settings};
+    ///
+    /// let session = Session::start(Settings::new(2, 1, 17, 1)?, &[15, 4])?;
+    /// assert_eq!(session.save().len(), Session::RECORD);
+    /// # Ok::<(), wovenrock::Refusal>(())
+    /// ```
+    pub const RECORD: usize = 78;
+
+    /// A session starts at a commitment, which has exactly
+    /// [`Settings::element_len`] numbers. Refusals 7, 8.
+    ///
+    /// ```
+    /// use wovenrock::{Refusal, Session, Settings};
+    ///
+    /// let settings = Settings::new(2, 1, 17, 1)?;
+    /// assert_eq!(Session::start(settings, &[15, 4])?.claim(), [15, 4]);
+    /// assert_eq!(Session::start(settings, &[15, 4, 0]), Err(Refusal::Size));
+    /// assert_eq!(Session::start(settings, &[15, 17]), Err(Refusal::Residue));
+    /// # Ok::<(), Refusal>(())
+    /// ```
+    pub fn start(settings: Settings, commitment: &[u32]) -> Result<Session, Refusal> {
         let s = settings;
-        let mut record = [0; RECORD];
+        let mut record = [0; Session::RECORD];
         let number = unsafe {
             library::wovenrock_session_start(
-                s.degree,
-                s.depth,
-                s.modulus,
-                s.bound,
+                s.degree(),
+                s.depth(),
+                s.modulus(),
+                s.bound(),
                 commitment.as_ptr(),
                 commitment.len(),
                 record.as_mut_ptr(),
@@ -39,10 +70,24 @@ impl Session {
 
     /// A round: does 2·(c0 + c2) equal the claim? Where it does, the round is
     /// counted, and the claim becomes c0 + r·c1 + r²·c2 with r = X^exponent;
-    /// else the session is closed. A refused round changes nothing. Refusals
-    /// 8, 10, 11.
-    pub fn round(&mut self, polynomial: &Polynomial, exponent: u32) -> Result<Verdict, Refusal> {
-        let polynomial = polynomial.as_flattened();
+    /// else the session is closed. The polynomial has exactly
+    /// [`Settings::polynomial_len`] numbers: what [`round`](crate::round)
+    /// answers, or a part of the table that [`open`](crate::open) wrote. A
+    /// refused round changes nothing. Refusals 7, 8, 10, 11.
+    ///
+    /// ```
+    /// use wovenrock::{Refusal, Session, Settings};
+    ///
+    /// let mut session = Session::start(Settings::new(2, 1, 17, 1)?, &[15, 4])?;
+    /// let polynomial = [4, 1, 6, 0, 12, 1];
+    /// assert_eq!(session.round(&polynomial[..5], 1), Err(Refusal::Size));
+    /// assert_eq!(session.round(&polynomial, 4), Err(Refusal::Challenge));
+    /// assert!(session.round(&polynomial, 1)?.holds());
+    /// assert_eq!(session.claim(), [9, 6]);
+    /// assert_eq!(session.round(&polynomial, 1), Err(Refusal::Turn));
+    /// # Ok::<(), Refusal>(())
+    /// ```
+    pub fn round(&mut self, polynomial: &[u32], exponent: u32) -> Result<RoundVerdict, Refusal> {
         let mut verdict = 0;
         let number = unsafe {
             library::wovenrock_session_round(
@@ -54,12 +99,23 @@ impl Session {
                 &mut verdict,
             )
         };
-        Refusal::answer(number).map(|()| Verdict::said(verdict))
+        Refusal::answer(number).map(|()| RoundVerdict::said(verdict))
     }
 
-    /// The end, with the final element and the unfolded key. It closes the
+    /// The end, with the final element ([`Settings::element_len`] numbers) and
+    /// the unfolded key ([`Settings::table_len`] numbers). It closes the
     /// session. A refused end changes nothing. Refusals 7, 8, 11.
-    pub fn end(&mut self, last: &Wholes, key: &[u32]) -> Result<Verdict, Refusal> {
+    ///
+    /// ```
+    /// use wovenrock::{Refusal, Session, Settings};
+    ///
+    /// let mut session = Session::start(Settings::new(2, 0, 17, 1)?, &[8, 2])?;
+    /// assert_eq!(session.end(&[1, -1], &[3, 5, 7]), Err(Refusal::Size));
+    /// assert!(session.end(&[1, -1], &[3, 5])?.is_accepted());
+    /// assert_eq!(session.end(&[1, -1], &[3, 5]), Err(Refusal::Turn));
+    /// # Ok::<(), Refusal>(())
+    /// ```
+    pub fn end(&mut self, last: &[i32], key: &[u32]) -> Result<EndVerdict, Refusal> {
         let mut verdict = 0;
         let number = unsafe {
             library::wovenrock_session_end(
@@ -72,34 +128,128 @@ impl Session {
                 &mut verdict,
             )
         };
-        Refusal::answer(number).map(|()| Verdict::said(verdict))
+        Refusal::answer(number).map(|()| EndVerdict::said(verdict))
     }
 
-    pub fn settings(&self) -> Settings {
-        let [degree, depth, modulus, bound, ..] = self.record;
-        Settings {
-            degree,
-            depth,
-            modulus,
-            bound,
+    /// The session's record, to be kept and given to [`Session::restore`].
+    ///
+    /// ```
+    /// use wovenrock::{Session, Settings};
+    ///
+    /// let session = Session::start(Settings::new(2, 1, 17, 1)?, &[15, 4])?;
+    /// assert_eq!(session.save()[..6], [2, 1, 17, 1, 0, 0]);
+    /// assert_eq!(session.save()[14..16], [15, 4]);
+    /// # Ok::<(), wovenrock::Refusal>(())
+    /// ```
+    pub fn save(&self) -> [u32; Session::RECORD] {
+        self.record
+    }
+
+    /// The session whose record was saved. The library tests the record, as
+    /// it does in every move. Refusals 7 where it has not
+    /// [`Session::RECORD`] numbers, then 3 to 6 for its settings, 7 where it
+    /// is neither open nor closed, 8 for its claim and 10 for its eight
+    /// challenges.
+    ///
+    /// ```
+    /// use wovenrock::{Refusal, Session, Settings};
+    ///
+    /// let mut session = Session::start(Settings::new(2, 1, 17, 1)?, &[15, 4])?;
+    /// let saved = session.save();
+    /// assert!(session.round(&[4, 1, 6, 0, 12, 1], 1)?.holds());
+    ///
+    /// let mut earlier = Session::restore(&saved)?;
+    /// assert_eq!(earlier.done(), 0);
+    /// assert!(earlier.round(&[4, 1, 6, 0, 12, 1], 1)?.holds());
+    /// assert_eq!(earlier, session);
+    /// assert_eq!(Session::restore(&saved[1..]), Err(Refusal::Size));
+    /// assert_eq!(Session::restore(&[0; Session::RECORD]), Err(Refusal::Degree));
+    /// # Ok::<(), Refusal>(())
+    /// ```
+    pub fn restore(record: &[u32]) -> Result<Session, Refusal> {
+        let record = record.try_into().map_err(|_| Refusal::Size)?;
+        let session = Session { record };
+        // A round by zeros, on a copy: it tests the whole record, and 11 is
+        // about the round alone.
+        let degree = (record[0] as usize).min(64);
+        match session.clone().round(&Polynomial::zeros(3 * degree), 0) {
+            Ok(_) | Err(Refusal::Turn) => Ok(session),
+            Err(refusal) => Err(refusal),
         }
     }
 
+    /// The settings that it was started with.
+    ///
+    /// ```
+    /// use wovenrock::{Session, Settings};
+    ///
+    /// let settings = Settings::new(2, 1, 17, 1)?;
+    /// assert_eq!(Session::start(settings, &[15, 4])?.settings(), settings);
+    /// # Ok::<(), wovenrock::Refusal>(())
+    /// ```
+    pub fn settings(&self) -> Settings {
+        let [degree, depth, modulus, bound, ..] = self.record;
+        Settings::tested([degree, depth, modulus, bound])
+    }
+
     /// Rounds that held.
+    ///
+    /// ```
+    /// use wovenrock::{Session, Settings};
+    ///
+    /// let mut session = Session::start(Settings::new(2, 1, 17, 1)?, &[15, 4])?;
+    /// assert_eq!(session.done(), 0);
+    /// assert!(session.round(&[4, 1, 6, 0, 12, 1], 1)?.holds());
+    /// assert_eq!(session.done(), 1);
+    /// # Ok::<(), wovenrock::Refusal>(())
+    /// ```
     pub fn done(&self) -> u32 {
         self.record[DONE]
     }
 
-    pub fn closed(&self) -> bool {
-        self.record[CLOSED] != 0
+    /// Whether it is closed, so that every move is refused. This does not say
+    /// what the verdict was.
+    ///
+    /// ```
+    /// use wovenrock::{Session, Settings};
+    ///
+    /// let mut session = Session::start(Settings::new(2, 0, 17, 1)?, &[8, 2])?;
+    /// assert!(!session.is_closed());
+    /// assert!(!session.end(&[1, 1], &[3, 5])?.is_accepted());
+    /// assert!(session.is_closed());
+    /// # Ok::<(), wovenrock::Refusal>(())
+    /// ```
+    pub fn is_closed(&self) -> bool {
+        self.record[CLOSED] == 1
     }
 
     /// The eight challenges, the unused ones 0.
+    ///
+    /// ```
+    /// use wovenrock::{Session, Settings};
+    ///
+    /// let mut session = Session::start(Settings::new(2, 1, 17, 1)?, &[15, 4])?;
+    /// assert!(session.round(&[4, 1, 6, 0, 12, 1], 3)?.holds());
+    /// assert_eq!(session.challenges(), [3, 0, 0, 0, 0, 0, 0, 0]);
+    /// # Ok::<(), wovenrock::Refusal>(())
+    /// ```
     pub fn challenges(&self) -> [u32; CLAIM - CHALLENGES] {
         core::array::from_fn(|k| self.record[CHALLENGES + k])
     }
 
+    /// The claim, [`Settings::element_len`] numbers.
+    ///
+    /// ```
+    /// use wovenrock::{Session, Settings};
+    ///
+    /// let session = Session::start(Settings::new(2, 1, 17, 1)?, &[15, 4])?;
+    /// assert_eq!(session.claim(), [15, 4]);
+    /// # Ok::<(), wovenrock::Refusal>(())
+    /// ```
     pub fn claim(&self) -> Residues {
-        core::array::from_fn::<u32, PLACES, _>(|k| self.record[CLAIM + k])
+        let mut claim = Numbers::zeros(self.settings().element_len());
+        let lent = claim.lent();
+        lent.copy_from_slice(&self.record[CLAIM..CLAIM + lent.len()]);
+        claim
     }
 }

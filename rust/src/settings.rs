@@ -2,58 +2,232 @@
 
 use crate::{library, Refusal};
 
-/// The settings d, L, q, B. Any numbers may stand here; every call tests
-/// them.
+/// Settings that are allowed: the degree d, the depth L, the modulus q and the
+/// bound B. From them follows the length of every table.
+///
+/// ```
+/// use wovenrock::{Refusal, Settings};
+///
+/// let settings = Settings::new(2, 1, 17, 1)?;
+/// assert_eq!(settings.table_len(), 4);
+/// # Ok::<(), Refusal>(())
+/// ```
 #[derive(Clone, Copy, Debug, PartialEq, Eq, Hash)]
 pub struct Settings {
-    /// d: 2, 4, 8, 16, 32 or 64.
-    pub degree: u32,
-    /// L: 0 to 8.
-    pub depth: u32,
-    /// q: odd, 3 to 2,147,483,647.
-    pub modulus: u32,
-    /// B: 1 to 127.
-    pub bound: u32,
+    degree: u32,
+    depth: u32,
+    modulus: u32,
+    bound: u32,
 }
 
 impl Settings {
-    /// Refusals 3 to 6.
-    pub fn test(self) -> Result<(), Refusal> {
-        let s = self;
-        let number = unsafe { library::wovenrock_settings(s.degree, s.depth, s.modulus, s.bound) };
-        Refusal::answer(number)
-    }
-
-    /// Numbers of a key, a message or an extracted vector: n·d.
+    /// The settings d (2, 4, 8, 16, 32 or 64), L (0 to 8), q (odd, 3 to
+    /// 2,147,483,647) and B (1 to 127). Refusals 3 to 6, and no other call
+    /// than this, [`look`](crate::look) and [`read`](crate::read) gives those.
     ///
-    /// The lengths are those of settings that are not refused; of others they
-    /// mean nothing.
-    pub fn cells(self) -> usize {
-        self.elements(1 << self.depth.min(8))
+    /// ```
+    /// use wovenrock::{Refusal, Settings};
+    ///
+    /// assert!(Settings::new(64, 8, 12_289, 127).is_ok());
+    /// assert_eq!(Settings::new(3, 8, 12_289, 127), Err(Refusal::Degree));
+    /// assert_eq!(Settings::new(64, 9, 12_289, 127), Err(Refusal::Depth));
+    /// assert_eq!(Settings::new(64, 8, 12_288, 127), Err(Refusal::Modulus));
+    /// assert_eq!(Settings::new(64, 8, 12_289, 128), Err(Refusal::Bound));
+    /// ```
+    pub fn new(degree: u32, depth: u32, modulus: u32, bound: u32) -> Result<Settings, Refusal> {
+        let number = unsafe { library::wovenrock_settings(degree, depth, modulus, bound) };
+        Refusal::answer(number).map(|()| Settings::tested([degree, depth, modulus, bound]))
     }
 
-    /// Numbers of a table of round elements: 3·L·d.
-    pub fn round_cells(self) -> usize {
-        self.elements(3 * self.depth.min(8) as usize)
+    /// Settings that the library has tested, in the order in which it writes
+    /// them.
+    pub(crate) fn tested(numbers: [u32; 4]) -> Settings {
+        let [degree, depth, modulus, bound] = numbers;
+        Settings {
+            degree,
+            depth,
+            modulus,
+            bound,
+        }
     }
 
-    /// Branching nodes of a full tree: (3^L − 1)/2. Its table of round
-    /// elements has 3·d numbers for each, its table of challenges 3.
+    /// The degree d: an element has d coefficients, that of X^0 first.
+    ///
+    /// ```
+    /// # use wovenrock::Settings;
+    /// assert_eq!(Settings::new(2, 1, 17, 3)?.degree(), 2);
+    /// # Ok::<(), wovenrock::Refusal>(())
+    /// ```
+    pub fn degree(self) -> u32 {
+        self.degree
+    }
+
+    /// The depth L: an opening has L rounds.
+    ///
+    /// ```
+    /// # use wovenrock::Settings;
+    /// assert_eq!(Settings::new(2, 1, 17, 3)?.depth(), 1);
+    /// # Ok::<(), wovenrock::Refusal>(())
+    /// ```
+    pub fn depth(self) -> u32 {
+        self.depth
+    }
+
+    /// The modulus q.
+    ///
+    /// ```
+    /// # use wovenrock::Settings;
+    /// assert_eq!(Settings::new(2, 1, 17, 3)?.modulus(), 17);
+    /// # Ok::<(), wovenrock::Refusal>(())
+    /// ```
+    pub fn modulus(self) -> u32 {
+        self.modulus
+    }
+
+    /// The bound B of a message's coefficients.
+    ///
+    /// ```
+    /// # use wovenrock::Settings;
+    /// assert_eq!(Settings::new(2, 1, 17, 3)?.bound(), 3);
+    /// # Ok::<(), wovenrock::Refusal>(())
+    /// ```
+    pub fn bound(self) -> u32 {
+        self.bound
+    }
+
+    /// Challenges are exponents below this, 2·d.
+    ///
+    /// ```
+    /// # use wovenrock::Settings;
+    /// assert_eq!(Settings::new(2, 1, 17, 3)?.exponents(), 4);
+    /// # Ok::<(), wovenrock::Refusal>(())
+    /// ```
+    pub fn exponents(self) -> u32 {
+        2 * self.degree
+    }
+
+    /// Numbers of an element, such as a commitment or a final element: d.
+    ///
+    /// ```
+    /// # use wovenrock::Settings;
+    /// assert_eq!(Settings::new(4, 2, 17, 3)?.element_len(), 4);
+    /// # Ok::<(), wovenrock::Refusal>(())
+    /// ```
+    pub fn element_len(self) -> usize {
+        self.degree as usize
+    }
+
+    /// Numbers of a round polynomial: 3·d, its elements c0, c1, c2 one after
+    /// the other.
+    ///
+    /// ```
+    /// # use wovenrock::Settings;
+    /// assert_eq!(Settings::new(4, 2, 17, 3)?.polynomial_len(), 12);
+    /// # Ok::<(), wovenrock::Refusal>(())
+    /// ```
+    pub fn polynomial_len(self) -> usize {
+        3 * self.element_len()
+    }
+
+    /// Numbers of a key, of a message and of an extracted vector: 2^L·d.
+    ///
+    /// ```
+    /// # use wovenrock::Settings;
+    /// assert_eq!(Settings::new(4, 2, 17, 3)?.table_len(), 16);
+    /// # Ok::<(), wovenrock::Refusal>(())
+    /// ```
+    pub fn table_len(self) -> usize {
+        self.element_len() << self.depth
+    }
+
+    /// Numbers of a transcript's round elements: 3·L·d. The polynomial of round
+    /// i is numbers 3·d·(i−1) to 3·d·i of them.
+    ///
+    /// ```
+    /// # use wovenrock::Settings;
+    /// assert_eq!(Settings::new(4, 2, 17, 3)?.rounds_len(), 24);
+    /// # Ok::<(), wovenrock::Refusal>(())
+    /// ```
+    pub fn rounds_len(self) -> usize {
+        self.challenges_len() * self.polynomial_len()
+    }
+
+    /// Challenges of a transcript: L.
+    ///
+    /// ```
+    /// # use wovenrock::Settings;
+    /// assert_eq!(Settings::new(4, 2, 17, 3)?.challenges_len(), 2);
+    /// # Ok::<(), wovenrock::Refusal>(())
+    /// ```
+    pub fn challenges_len(self) -> usize {
+        self.depth as usize
+    }
+
+    /// Leaves of a full tree: 3^L.
+    ///
+    /// ```
+    /// # use wovenrock::Settings;
+    /// assert_eq!(Settings::new(4, 2, 17, 3)?.leaves(), 9);
+    /// # Ok::<(), wovenrock::Refusal>(())
+    /// ```
+    pub fn leaves(self) -> usize {
+        3usize.pow(self.depth)
+    }
+
+    /// Branching nodes of a full tree: (3^L − 1)/2. They are numbered from the
+    /// root, 0, and the children of node k are 3k+1, 3k+2, 3k+3; number
+    /// `nodes()` + j is leaf j.
+    ///
+    /// ```
+    /// # use wovenrock::Settings;
+    /// assert_eq!(Settings::new(4, 2, 17, 3)?.nodes(), 4);
+    /// # Ok::<(), wovenrock::Refusal>(())
+    /// ```
     pub fn nodes(self) -> usize {
         (self.leaves() - 1) / 2
     }
 
-    /// Leaves of a full tree: 3^L, of d numbers each.
-    pub fn leaves(self) -> usize {
-        3usize.pow(self.depth.min(8))
+    /// Numbers of a full tree's round elements: 3·d for each branching node.
+    ///
+    /// ```
+    /// # use wovenrock::Settings;
+    /// assert_eq!(Settings::new(4, 2, 17, 3)?.tree_rounds_len(), 48);
+    /// # Ok::<(), wovenrock::Refusal>(())
+    /// ```
+    pub fn tree_rounds_len(self) -> usize {
+        self.nodes() * self.polynomial_len()
+    }
+
+    /// Challenges of a full tree: 3 for each branching node.
+    ///
+    /// ```
+    /// # use wovenrock::Settings;
+    /// assert_eq!(Settings::new(4, 2, 17, 3)?.tree_challenges_len(), 12);
+    /// # Ok::<(), wovenrock::Refusal>(())
+    /// ```
+    pub fn tree_challenges_len(self) -> usize {
+        3 * self.nodes()
+    }
+
+    /// Numbers of a full tree's leaves: d for each.
+    ///
+    /// ```
+    /// # use wovenrock::Settings;
+    /// assert_eq!(Settings::new(4, 2, 17, 3)?.leaves_len(), 36);
+    /// # Ok::<(), wovenrock::Refusal>(())
+    /// ```
+    pub fn leaves_len(self) -> usize {
+        self.leaves() * self.element_len()
     }
 
     /// The slack of an extracted opening: 4^L.
+    ///
+    /// ```
+    /// # use wovenrock::Settings;
+    /// assert_eq!(Settings::new(4, 2, 17, 3)?.slack(), 16);
+    /// # Ok::<(), wovenrock::Refusal>(())
+    /// ```
     pub fn slack(self) -> u32 {
-        4u32.pow(self.depth.min(8))
-    }
-
-    fn elements(self, count: usize) -> usize {
-        count * self.degree.min(64) as usize
+        4u32.pow(self.depth)
     }
 }

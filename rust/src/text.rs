@@ -1,71 +1,143 @@
 //! Tables as text.
 
-use crate::{library, Refusal, Settings, Verdict};
+use crate::{library, EndVerdict, Refusal, Settings};
 
-/// The longest text, in bytes.
+/// The longest text, in bytes; so much room is enough for every text that is
+/// written.
+///
+/// ```
+/// use wovenrock::{look, Refusal, LONGEST_TEXT};
+///
+/// assert_eq!(look(&[b' '; LONGEST_TEXT]), Err(Refusal::Text));
+/// assert_eq!(look(&[b' '; LONGEST_TEXT + 1]), Err(Refusal::Long));
+/// ```
 pub const LONGEST_TEXT: usize = 65_536;
 
-/// Tables that a text is read into; the table of a part that is not there has
-/// length 0. A table that belongs to a part that is there has exactly its
-/// length: [`Settings::cells`] for key and message, the degree for commitment
-/// and final element, [`Settings::round_cells`] for the rounds, and the depth
-/// for the challenges.
-#[derive(Default)]
+/// Tables that a text is read into, one for each part that is wanted. Each has
+/// exactly its length: [`Settings::table_len`] for key and message,
+/// [`Settings::element_len`] for commitment and final element,
+/// [`Settings::rounds_len`] for the round elements and
+/// [`Settings::challenges_len`] for the challenges. A later version may have
+/// more of them, so end the list by `..TablesMut::default()`.
+///
+/// ```
+/// use wovenrock::{read, TablesMut};
+///
+/// let text = b"part item place value
+/// 0 0 0 2
+/// 0 0 1 0
+/// 0 0 2 17
+/// 0 0 3 1
+/// 6 0 0 1
+/// 6 0 1 -1
+/// ";
+/// let mut last = [0; 2];
+/// read(text, TablesMut { last: Some(&mut last), ..TablesMut::default() })?;
+/// assert_eq!(last, [1, -1]);
+/// # Ok::<(), wovenrock::Refusal>(())
+/// ```
+#[derive(Debug, Default)]
 pub struct TablesMut<'a> {
+    /// Part 1.
     pub key: Option<&'a mut [u32]>,
+    /// Part 2.
     pub message: Option<&'a mut [i32]>,
+    /// Part 3.
     pub commitment: Option<&'a mut [u32]>,
+    /// Part 4: the round elements, c_j of round i as element 3·(i−1)+j.
     pub rounds: Option<&'a mut [u32]>,
+    /// Part 5.
     pub challenges: Option<&'a mut [u32]>,
+    /// Part 6: the final element.
     pub last: Option<&'a mut [i32]>,
 }
 
-/// Tables of which a text is written, of the same lengths.
-#[derive(Clone, Copy, Default)]
+/// Tables of which a text is written, one for each part that is to be there,
+/// of the same lengths as in [`TablesMut`]. A later version may have more of
+/// them, so end the list by `..Tables::default()`.
+///
+/// ```
+/// use wovenrock::{write, Settings, Tables};
+///
+/// let settings = Settings::new(2, 0, 17, 1)?;
+/// let mut out = [0; 100];
+/// let tables = Tables { last: Some(&[1, -1]), ..Tables::default() };
+/// let text = write(settings, tables, &mut out)?;
+/// assert!(text.ends_with(b"0 0 3 1\n6 0 0 1\n6 0 1 -1\n"));
+/// # Ok::<(), wovenrock::Refusal>(())
+/// ```
+#[derive(Clone, Copy, Debug, Default)]
 pub struct Tables<'a> {
+    /// Part 1.
     pub key: Option<&'a [u32]>,
+    /// Part 2.
     pub message: Option<&'a [i32]>,
+    /// Part 3.
     pub commitment: Option<&'a [u32]>,
+    /// Part 4: the round elements, c_j of round i as element 3·(i−1)+j.
     pub rounds: Option<&'a [u32]>,
+    /// Part 5.
     pub challenges: Option<&'a [u32]>,
+    /// Part 6: the final element.
     pub last: Option<&'a [i32]>,
 }
 
-/// The library's number for which parts are there.
+/// The library's number for which of parts 1 to 6 are there.
 fn parts(there: [bool; 6]) -> u32 {
     let bit = |i: usize| u32::from(there[i]) << i;
     (0..6).map(bit).sum()
 }
 
-fn settings_of(numbers: [u32; 4]) -> Settings {
-    let [degree, depth, modulus, bound] = numbers;
-    Settings {
-        degree,
-        depth,
-        modulus,
-        bound,
-    }
-}
-
 /// The settings of a text, from which the lengths of its tables are known.
-/// Refusals 1 to 6.
+/// Every line of the text is tested. Refusals 1 to 6.
+///
+/// ```
+/// use wovenrock::{look, Refusal, Settings};
+///
+/// let text = b"part item place value\n0 0 0 2\n0 0 1 1\n0 0 2 17\n0 0 3 1\n";
+/// assert_eq!(look(text)?, Settings::new(2, 1, 17, 1)?);
+/// assert_eq!(look(&text[1..]), Err(Refusal::Text));
+/// # Ok::<(), Refusal>(())
+/// ```
 pub fn look(text: &[u8]) -> Result<Settings, Refusal> {
-    let mut numbers = [0; 4];
+    let mut settings = [0; 4];
     let number = unsafe {
         library::wovenrock_look(
             text.as_ptr(),
             text.len(),
-            numbers.as_mut_ptr(),
-            numbers.len(),
+            settings.as_mut_ptr(),
+            settings.len(),
         )
     };
-    Refusal::answer(number).map(|()| settings_of(numbers))
+    Refusal::answer(number).map(|()| Settings::tested(settings))
 }
 
-/// Reads the parts for which a table is given. No table is written where
-/// the call is refused. Refusals 1 to 10.
+/// Reads the parts for which a table is given: these and no others must be in
+/// the text. No table is written where the call is refused. Refusals 1 to 10.
+///
+/// ```
+/// use wovenrock::{look, read, Refusal, TablesMut};
+///
+/// let text = b"part item place value
+/// 0 0 0 2
+/// 0 0 1 1
+/// 0 0 2 17
+/// 0 0 3 1
+/// 1 0 0 3
+/// 1 0 1 5
+/// 1 1 0 7
+/// 1 1 1 2
+/// ";
+/// let mut key = vec![0; look(text)?.table_len()];
+/// read(text, TablesMut { key: Some(&mut key), ..TablesMut::default() })?;
+/// assert_eq!(key, [3, 5, 7, 2]);
+///
+/// // a text with a part that is not wanted
+/// assert_eq!(read(text, TablesMut::default()), Err(Refusal::Size));
+/// # Ok::<(), Refusal>(())
+/// ```
 pub fn read(text: &[u8], tables: TablesMut<'_>) -> Result<Settings, Refusal> {
-    let mut numbers = [0; 4];
+    let mut settings = [0; 4];
     let parts = parts([
         tables.key.is_some(),
         tables.message.is_some(),
@@ -85,8 +157,8 @@ pub fn read(text: &[u8], tables: TablesMut<'_>) -> Result<Settings, Refusal> {
             parts,
             text.as_ptr(),
             text.len(),
-            numbers.as_mut_ptr(),
-            numbers.len(),
+            settings.as_mut_ptr(),
+            settings.len(),
             key.as_mut_ptr(),
             key.len(),
             message.as_mut_ptr(),
@@ -101,15 +173,34 @@ pub fn read(text: &[u8], tables: TablesMut<'_>) -> Result<Settings, Refusal> {
             last.len(),
         )
     };
-    Refusal::answer(number).map(|()| settings_of(numbers))
+    Refusal::answer(number).map(|()| Settings::tested(settings))
 }
 
 /// Writes the text of the tables that are given to the front of `out`, and
-/// answers its length; bytes behind it stay. Refusals 3 to 10, then 1 and 7
-/// for the text.
-pub fn write(settings: Settings, tables: Tables<'_>, out: &mut [u8]) -> Result<usize, Refusal> {
+/// answers that part of it; bytes behind it stay. Refusals 7 to 10, then 1 for
+/// a text that is too long, then 7 where `out` is shorter than the text.
+///
+/// ```
+/// use wovenrock::{write, Refusal, Settings, Tables};
+///
+/// let settings = Settings::new(2, 1, 17, 1)?;
+/// let tables = Tables { challenges: Some(&[3]), ..Tables::default() };
+/// let mut out = [0; 100];
+/// let text = write(settings, tables, &mut out)?;
+/// assert_eq!(
+///     text,
+///     b"part item place value\n0 0 0 2\n0 0 1 1\n0 0 2 17\n0 0 3 1\n5 0 0 3\n"
+/// );
+/// assert_eq!(write(settings, tables, &mut [0; 10]), Err(Refusal::Size));
+/// # Ok::<(), Refusal>(())
+/// ```
+pub fn write<'o>(
+    settings: Settings,
+    tables: Tables<'_>,
+    out: &'o mut [u8],
+) -> Result<&'o [u8], Refusal> {
     let s = settings;
-    let mut length = 0;
+    let mut count = 0;
     let parts = parts([
         tables.key.is_some(),
         tables.message.is_some(),
@@ -126,10 +217,10 @@ pub fn write(settings: Settings, tables: Tables<'_>, out: &mut [u8]) -> Result<u
     let last = tables.last.unwrap_or_default();
     let number = unsafe {
         library::wovenrock_write(
-            s.degree,
-            s.depth,
-            s.modulus,
-            s.bound,
+            s.degree(),
+            s.depth(),
+            s.modulus(),
+            s.bound(),
             parts,
             key.as_ptr(),
             key.len(),
@@ -145,34 +236,74 @@ pub fn write(settings: Settings, tables: Tables<'_>, out: &mut [u8]) -> Result<u
             last.len(),
             out.as_mut_ptr(),
             out.len(),
-            &mut length,
+            &mut count,
         )
     };
-    Refusal::answer(number).map(|()| length)
+    Refusal::answer(number).map(|()| &out[..count])
 }
 
-/// Opens the key and message in a text by its challenges, which are its
-/// three parts. The text of settings, commitment, rounds, challenges and
-/// final element goes to the front of `out`, for which [`LONGEST_TEXT`] bytes
-/// are always enough; the answer is its length. Refusals 1 to 10.
-pub fn prove(text: &[u8], out: &mut [u8]) -> Result<usize, Refusal> {
-    let mut length = 0;
+/// The program `prove` as a call: opens the key and message in a text by its
+/// challenges, which are its three parts. The text of settings, commitment,
+/// round elements, challenges and final element goes to the front of `out`,
+/// for which [`LONGEST_TEXT`] bytes are always enough, and is the answer.
+/// Refusals 1 to 10, then 1 and 7 as in [`write()`].
+///
+/// ```
+/// use wovenrock::{prove, LONGEST_TEXT};
+///
+/// let text = b"part item place value
+/// 0 0 0 2
+/// 0 0 1 0
+/// 0 0 2 17
+/// 0 0 3 1
+/// 1 0 0 3
+/// 1 0 1 5
+/// 2 0 0 1
+/// 2 0 1 -1
+/// ";
+/// let mut out = [0; LONGEST_TEXT];
+/// let listing = prove(text, &mut out)?;
+/// assert!(listing.ends_with(b"0 0 3 1\n3 0 0 8\n3 0 1 2\n6 0 0 1\n6 0 1 -1\n"));
+/// # Ok::<(), wovenrock::Refusal>(())
+/// ```
+pub fn prove<'o>(text: &[u8], out: &'o mut [u8]) -> Result<&'o [u8], Refusal> {
+    let mut count = 0;
     let number = unsafe {
         library::wovenrock_prove(
             text.as_ptr(),
             text.len(),
             out.as_mut_ptr(),
             out.len(),
-            &mut length,
+            &mut count,
         )
     };
-    Refusal::answer(number).map(|()| length)
+    Refusal::answer(number).map(|()| &out[..count])
 }
 
-/// Is the transcript in a text accepted? The text has settings, key,
-/// commitment, rounds, challenges and final element. Refusals 1 to 8, 10.
-pub fn verify(text: &[u8]) -> Result<Verdict, Refusal> {
+/// The program `verify` as a call: is the transcript in a text accepted? The
+/// text has settings, key, commitment, round elements, challenges and final
+/// element. Refusals 1 to 8, 10.
+///
+/// ```
+/// use wovenrock::verify;
+///
+/// let text = b"part item place value
+/// 0 0 0 2
+/// 0 0 1 0
+/// 0 0 2 17
+/// 0 0 3 1
+/// 1 0 0 3
+/// 1 0 1 5
+/// 3 0 0 8
+/// 3 0 1 2
+/// 6 0 0 1
+/// 6 0 1 -1
+/// ";
+/// assert!(verify(text)?.is_accepted());
+/// # Ok::<(), wovenrock::Refusal>(())
+/// ```
+pub fn verify(text: &[u8]) -> Result<EndVerdict, Refusal> {
     let mut verdict = 0;
     let number = unsafe { library::wovenrock_verify(text.as_ptr(), text.len(), &mut verdict) };
-    Refusal::answer(number).map(|()| Verdict::said(verdict))
+    Refusal::answer(number).map(|()| EndVerdict::said(verdict))
 }

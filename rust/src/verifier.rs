@@ -1,47 +1,39 @@
-//! The check of a transcript.
+//! The check of a whole transcript.
 
-use crate::{library, Refusal, Residues, Settings, Wholes};
-
-/// What a verifier says.
-#[derive(Clone, Copy, Debug, PartialEq, Eq, Hash)]
-pub enum Verdict {
-    /// A session's round holds.
-    Holds,
-    Accepted,
-    Rejected,
-}
-
-impl Verdict {
-    /// What the library's number says; a call that is not refused has one.
-    pub(crate) fn said(number: u32) -> Verdict {
-        match number {
-            1 => Verdict::Holds,
-            2 => Verdict::Accepted,
-            3 => Verdict::Rejected,
-            _ => unreachable!("a call that is not refused has a verdict"),
-        }
-    }
-}
+use crate::{library, EndVerdict, Refusal, Settings};
 
 /// The check of a transcript: is it accepted, with the claim started at the
-/// commitment? The table of round elements has c_j of round i as element
-/// 3·(i−1)+j. Refusals 3 to 8, 10.
+/// commitment? Commitment and final element have exactly
+/// [`Settings::element_len`] numbers, the unfolded key
+/// [`Settings::table_len`], the round elements [`Settings::rounds_len`], and
+/// there are L challenges. Refusals 7, 8, 10.
+///
+/// ```
+/// use wovenrock::{check, Settings};
+///
+/// let settings = Settings::new(2, 1, 17, 1)?;
+/// let (commitment, key, rounds) = ([15, 4], [3, 5, 7, 2], [4, 1, 6, 0, 12, 1]);
+/// let check = |last| check(settings, &commitment, last, &key, &rounds, &[1]);
+/// assert!(check(&[1, 0])?.is_accepted());
+/// assert!(!check(&[3, 0])?.is_accepted());
+/// # Ok::<(), wovenrock::Refusal>(())
+/// ```
 pub fn check(
     settings: Settings,
-    commitment: &Residues,
-    last: &Wholes,
+    commitment: &[u32],
+    last: &[i32],
     key: &[u32],
     rounds: &[u32],
     challenges: &[u32],
-) -> Result<Verdict, Refusal> {
+) -> Result<EndVerdict, Refusal> {
     let s = settings;
     let mut verdict = 0;
     let number = unsafe {
         library::wovenrock_check(
-            s.degree,
-            s.depth,
-            s.modulus,
-            s.bound,
+            s.degree(),
+            s.depth(),
+            s.modulus(),
+            s.bound(),
             commitment.as_ptr(),
             commitment.len(),
             last.as_ptr(),
@@ -55,5 +47,5 @@ pub fn check(
             &mut verdict,
         )
     };
-    Refusal::answer(number).map(|()| Verdict::said(verdict))
+    Refusal::answer(number).map(|()| EndVerdict::said(verdict))
 }

@@ -1,138 +1,204 @@
-//! The worked example through every call, and refusals with their words.
+//! The safe calls: moves beside the whole opening, refusals, and sessions that
+//! are saved and restored.
 
 use wovenrock::{
-    check, commit, end, extract, fold, judge, open, residues, round, wholes, Refusal, Session,
-    Settings, Verdict,
+    check, commit, end, extract, fold, judge, open, read, round, verify, write, EndVerdict,
+    Judgement, Refusal, RoundVerdict, Session, Settings, Tables, TablesMut, LONGEST_TEXT,
 };
 
-const SETTINGS: Settings = Settings {
-    degree: 2,
-    depth: 1,
-    modulus: 17,
-    bound: 1,
-};
 const KEY: [u32; 4] = [3, 5, 7, 2];
 const MESSAGE: [i32; 4] = [1, -1, 1, 0];
+const COMMITMENT: [u32; 2] = [15, 4];
 const ROUNDS: [u32; 6] = [4, 1, 6, 0, 12, 1];
+
+fn settings() -> Settings {
+    Settings::new(2, 1, 17, 1).expect("allowed settings")
+}
 
 #[test]
 fn moves_give_what_the_whole_opening_gives() -> Result<(), Refusal> {
-    let (mut key, mut message) = (KEY, MESSAGE);
-    let mut rounds = [0; 6];
-    let opened = open(SETTINGS, &mut key, &mut message, &[1], &mut rounds)?;
-    assert_eq!(rounds, ROUNDS);
+    let s = Settings::new(4, 3, 2_147_483_647, 2)?;
+    let key: Vec<u32> = (1..=32).map(|i| i * 66_000_000).collect();
+    let message: Vec<i32> = (0..32).map(|i| i % 5 - 2).collect();
+    let challenges = [7, 0, 5];
+    let (mut whole_key, mut whole_message) = (key.clone(), message.clone());
+    let mut rounds = vec![0; s.rounds_len()];
+    let opened = open(
+        s,
+        &mut whole_key,
+        &mut whole_message,
+        &challenges,
+        &mut rounds,
+    )?;
+    assert_eq!(opened.verdict, EndVerdict::Accepted);
 
-    let (mut moved_key, mut moved_message) = (KEY, MESSAGE);
-    let commitment = commit(SETTINGS, &moved_key, &moved_message)?;
-    let mut session = Session::start(SETTINGS, &commitment)?;
-    let polynomial = round(SETTINGS, 0, &moved_key, &moved_message)?;
-    assert_eq!(session.round(&polynomial, 1)?, Verdict::Holds);
-    fold(SETTINGS, 0, 1, &mut moved_key, &mut moved_message)?;
-    let last = end(SETTINGS, 1, &moved_message)?;
-    assert_eq!(session.end(&last, &KEY)?, opened.verdict);
-
-    assert_eq!((moved_key, moved_message), (key, message));
-    assert_eq!((commitment, last), (opened.commitment, opened.last));
-    assert!(session.closed());
-    assert_eq!((session.done(), session.challenges()[0]), (1, 1));
+    let (mut moved_key, mut moved_message) = (key.clone(), message.clone());
+    assert_eq!(commit(s, &key, &message)?, opened.commitment);
+    let mut session = Session::start(s, &opened.commitment)?;
+    for (done, &challenge) in (0..).zip(&challenges) {
+        let polynomial = round(s, done, &moved_key, &moved_message)?;
+        // a part of the whole opening's table is what a session's round takes
+        let part = &rounds[done as usize * s.polynomial_len()..][..s.polynomial_len()];
+        assert_eq!(polynomial, part);
+        assert_eq!(session.round(part, challenge)?, RoundVerdict::Holds);
+        fold(s, done, challenge, &mut moved_key, &mut moved_message)?;
+    }
+    let last = end(s, 3, &moved_message)?;
+    assert_eq!(session.end(&last, &key)?, EndVerdict::Accepted);
+    assert_eq!((moved_key, moved_message), (whole_key, whole_message));
+    assert_eq!(last, opened.last);
+    assert_eq!(session.challenges()[..3], challenges);
     Ok(())
 }
 
 #[test]
-fn final_elements_of_the_example() -> Result<(), Refusal> {
-    let commitment = residues(&[15, 4]);
-    let say = |last| check(SETTINGS, &commitment, &wholes(last), &KEY, &ROUNDS, &[1]);
-    assert_eq!(say(&[1, 0])?, Verdict::Accepted);
-    assert_eq!(say(&[2, 0])?, Verdict::Rejected);
-    assert_eq!(say(&[3, 0])?, Verdict::Rejected);
+fn verdicts_are_no_refusals() -> Result<(), Refusal> {
+    let s = settings();
+    let say = |last: &[i32]| check(s, &COMMITMENT, last, &KEY, &ROUNDS, &[1]);
+    assert_eq!(say(&[1, 0])?, EndVerdict::Accepted);
+    assert_eq!(say(&[2, 0])?, EndVerdict::Rejected);
+    assert_eq!(say(&[i32::MIN, 0])?, EndVerdict::Rejected);
+    let mut session = Session::start(s, &COMMITMENT)?;
+    assert_eq!(session.round(&[0; 6], 1)?, RoundVerdict::Rejected);
+    assert!(session.is_closed());
+    let judged = judge(s, &COMMITMENT, 4, &KEY, &[4, -4, 4, 1])?;
+    assert_eq!(judged, Judgement::DoesNot);
     Ok(())
 }
 
 #[test]
-fn depth_0() -> Result<(), Refusal> {
-    let settings = Settings {
-        depth: 0,
-        ..SETTINGS
-    };
-    let commitment = commit(settings, &[3, 5], &[1, -1])?;
-    assert_eq!(commitment[..2], [8, 2]);
-    let mut w = [0; 2];
-    extract(settings, &commitment, &[3, 5], &[], &[], &[1, -1], &mut w)?;
-    assert_eq!(w, [1, -1]);
-    assert!(judge(settings, &commitment, settings.slack(), &[3, 5], &w)?);
+fn wrong_lengths_are_refused_and_nothing_changes() -> Result<(), Refusal> {
+    let s = settings();
+    let (mut key, mut message, mut rounds) = (KEY, MESSAGE, [9; 6]);
+    assert_eq!(commit(s, &KEY[..3], &MESSAGE), Err(Refusal::Size));
+    assert_eq!(round(s, 0, &KEY, &MESSAGE[..3]), Err(Refusal::Size));
+    let folded = fold(s, 0, 1, &mut key[..3], &mut message);
+    assert_eq!(folded, Err(Refusal::Size));
+    assert_eq!(end(s, 1, &MESSAGE[..2]), Err(Refusal::Size));
+    let opened = open(s, &mut key, &mut message, &[1, 1], &mut rounds);
+    assert_eq!(opened, Err(Refusal::Size));
+    let opened = open(s, &mut key, &mut message, &[1], &mut rounds[..5]);
+    assert_eq!(opened, Err(Refusal::Size));
+    assert_eq!((key, message, rounds), (KEY, MESSAGE, [9; 6]));
+    let long = [15, 4, 0];
+    let checked = check(s, &long, &[1, 0], &KEY, &ROUNDS, &[1]);
+    assert_eq!(checked, Err(Refusal::Size));
+    let checked = check(s, &COMMITMENT, &[1, 0, 0], &KEY, &ROUNDS, &[1]);
+    assert_eq!(checked, Err(Refusal::Size));
+    assert_eq!(judge(s, &long, 4, &KEY, &[0; 4]), Err(Refusal::Size));
     Ok(())
 }
 
 #[test]
-fn a_refused_move_changes_nothing() -> Result<(), Refusal> {
-    let mut session = Session::start(SETTINGS, &residues(&[15, 4]))?;
-    let before = session.clone();
-    let zero = residues(&[]);
-    let polynomial = [zero, residues(&[17]), zero];
-    assert_eq!(session.round(&polynomial, 1), Err(Refusal::Residue));
-    assert_eq!(session.round(&[zero; 3], 4), Err(Refusal::Challenge));
-    assert_eq!(session.end(&wholes(&[]), &KEY[..3]), Err(Refusal::Size));
-    assert_eq!(session.end(&wholes(&[]), &KEY), Err(Refusal::Turn));
-    assert_eq!(session, before);
-    Ok(())
-}
-
-#[test]
-fn refusals_have_numbers_and_words() {
-    let bad = |settings: Settings| settings.test().unwrap_err().to_string();
-    assert_eq!(
-        bad(Settings {
-            degree: 3,
-            ..SETTINGS
-        }),
-        "refused 3: degree"
-    );
-    assert_eq!(
-        bad(Settings {
-            depth: 9,
-            ..SETTINGS
-        }),
-        "refused 4: depth"
-    );
-    assert_eq!(
-        bad(Settings {
-            modulus: 2,
-            ..SETTINGS
-        }),
-        "refused 5: modulus"
-    );
-    assert_eq!(
-        bad(Settings {
-            bound: 128,
-            ..SETTINGS
-        }),
-        "refused 6: bound"
-    );
-
-    let commitment = residues(&[15, 4]);
+fn a_refused_extraction_leaves_the_vector() {
     let leaves = [2, -1, 1, 0, 0, -1];
     let mut w = [7; 4];
     let mut refused = |challenges: &[u32], leaves: &[i32]| {
-        extract(
-            SETTINGS,
-            &commitment,
+        let extracted = extract(
+            settings(),
+            &COMMITMENT,
             &KEY,
             &ROUNDS,
             challenges,
             leaves,
             &mut w,
-        )
-        .unwrap_err()
+        );
+        extracted.unwrap_err()
     };
     assert_eq!(refused(&[0, 1, 4], &leaves), Refusal::Challenge);
     assert_eq!(refused(&[0, 1, 1], &leaves), Refusal::Twin);
     assert_eq!(refused(&[0, 1, 2], &[0; 6]), Refusal::Branch);
     assert_eq!(w, [7; 4]);
+}
+
+#[test]
+fn a_session_is_restored_as_it_was_saved() -> Result<(), Refusal> {
+    let mut session = Session::start(settings(), &COMMITMENT)?;
+    assert_eq!(Session::restore(&session.save())?, session);
+    assert!(session.round(&ROUNDS, 1)?.holds());
+    let mut restored = Session::restore(&session.save())?;
+    assert_eq!(restored, session);
+    assert!(restored.end(&[1, 0], &KEY)?.is_accepted());
+    assert_eq!(Session::restore(&restored.save())?, restored);
+    assert!(restored.is_closed() && !session.is_closed());
+    Ok(())
+}
+
+#[test]
+fn what_is_no_record_is_not_restored() -> Result<(), Refusal> {
+    let saved = Session::start(settings(), &COMMITMENT)?.save();
+    let changed = |place: usize, value: u32| {
+        let mut record = saved;
+        record[place] = value;
+        Session::restore(&record).map(|session| session.save() == record)
+    };
+    assert_eq!(changed(0, 3), Err(Refusal::Degree));
+    assert_eq!(changed(0, u32::MAX), Err(Refusal::Degree));
+    assert_eq!(changed(1, 9), Err(Refusal::Depth));
+    assert_eq!(changed(2, 16), Err(Refusal::Modulus));
+    assert_eq!(changed(3, 0), Err(Refusal::Bound));
+    assert_eq!(changed(5, 2), Err(Refusal::Size));
+    assert_eq!(changed(14, 17), Err(Refusal::Residue));
+    assert_eq!(changed(13, 4), Err(Refusal::Challenge));
+    // rounds done and a closed record are tested by a move
+    assert_eq!(changed(4, 1), Ok(true));
+    assert_eq!(changed(4, u32::MAX), Ok(true));
+    assert_eq!(changed(5, 1), Ok(true));
+    assert_eq!(Session::restore(&saved[..77]), Err(Refusal::Size));
     assert_eq!(
-        judge(SETTINGS, &commitment, 0, &KEY, &w),
-        Err(Refusal::Slack)
+        Session::restore(&[&saved[..], &[0]].concat()),
+        Err(Refusal::Size)
     );
-    for (place, refusal) in Refusal::ALL.iter().enumerate() {
-        assert_eq!(refusal.number() as usize, place + 1);
-    }
+    Ok(())
+}
+
+#[test]
+fn a_refused_move_changes_nothing() -> Result<(), Refusal> {
+    let mut session = Session::start(settings(), &COMMITMENT)?;
+    let before = session.clone();
+    assert_eq!(
+        session.round(&[17, 0, 0, 0, 0, 0], 1),
+        Err(Refusal::Residue)
+    );
+    assert_eq!(session.round(&[0; 6], 4), Err(Refusal::Challenge));
+    assert_eq!(session.round(&[0; 7], 1), Err(Refusal::Size));
+    assert_eq!(session.end(&[0, 0], &KEY[..3]), Err(Refusal::Size));
+    assert_eq!(session.end(&[0], &KEY), Err(Refusal::Size));
+    assert_eq!(session.end(&[0, 0], &KEY), Err(Refusal::Turn));
+    assert_eq!(session, before);
+    Ok(())
+}
+
+#[test]
+fn what_is_written_is_read_again() -> Result<(), Refusal> {
+    let s = settings();
+    let tables = Tables {
+        key: Some(&KEY),
+        commitment: Some(&COMMITMENT),
+        rounds: Some(&ROUNDS),
+        challenges: Some(&[1]),
+        last: Some(&[1, 0]),
+        ..Tables::default()
+    };
+    let mut out = vec![0; LONGEST_TEXT];
+    let text = write(s, tables, &mut out)?;
+    assert!(verify(text)?.is_accepted());
+
+    let (mut key, mut commitment, mut rounds) = ([0; 4], [0; 2], [0; 6]);
+    let (mut challenges, mut last) = ([0], [0; 2]);
+    let wanted = TablesMut {
+        key: Some(&mut key),
+        commitment: Some(&mut commitment),
+        rounds: Some(&mut rounds),
+        challenges: Some(&mut challenges),
+        last: Some(&mut last),
+        ..TablesMut::default()
+    };
+    assert_eq!(read(text, wanted)?, s);
+    assert_eq!((key, commitment, rounds), (KEY, COMMITMENT, ROUNDS));
+    assert_eq!((challenges, last), ([1], [1, 0]));
+
+    // a part that the text has is not left out in silence
+    assert_eq!(read(text, TablesMut::default()), Err(Refusal::Size));
+    Ok(())
 }

@@ -1,0 +1,83 @@
+"""The worked example through every call of the module, and refusals. WOVENROCK_SHARED names the shared object that the script `shared` makes."""
+
+import os
+import unittest
+
+from wovenrock import Library, Refused
+
+KEY, MESSAGE, COMMITMENT = [3, 5, 7, 2], [1, -1, 1, 0], [15, 4]
+ROUNDS, LAST = [4, 1, 6, 0, 12, 1], [1, 0]
+TRANSCRIPT = {"key": KEY, "commitment": COMMITMENT, "rounds": ROUNDS, "challenges": [1], "last": LAST}
+
+
+class WorkedExample(unittest.TestCase):
+    def setUp(self):
+        self.library = Library(os.environ["WOVENROCK_SHARED"])
+        self.settings = self.library.settings(2, 1, 17, 1)
+
+    def refused(self, number, call, *arguments):
+        with self.assertRaises(Refused) as caught:
+            call(*arguments)
+        self.assertEqual(caught.exception.number, number)
+
+    def test_settings(self):
+        self.refused(3, self.library.settings, 3, 1, 17, 1)
+        self.refused(6, self.library.settings, 2, 1, 17, 0)
+        self.assertRaises(ValueError, self.library.settings, 2**32 + 2, 1, 17, 1)
+
+    def test_moves(self):
+        library, settings = self.library, self.settings
+        self.assertEqual(library.commit(settings, KEY, MESSAGE), COMMITMENT)
+        self.assertEqual(library.round(settings, 0, KEY, MESSAGE), ROUNDS)
+        folded_key, folded_message = library.fold(settings, 0, 1, KEY, MESSAGE)
+        self.assertEqual((folded_key, folded_message), ([1, 12, 7, 2], [1, 0, 1, 0]))
+        self.assertEqual(library.end(settings, 1, folded_message), LAST)
+        record = library.start(settings, COMMITMENT)
+        after, holds = library.session_round(record, ROUNDS, 1)
+        self.assertTrue(holds)
+        self.assertEqual(library.session_end(after, LAST, KEY)[1], True)
+        closed, accepted = library.session_end(after, [2, 0], KEY)
+        self.assertFalse(accepted)
+        self.refused(11, library.session_end, closed, LAST, KEY)
+        self.assertFalse(library.session_round(record, [0] * 6, 1)[1])
+
+    def test_whole(self):
+        opened = self.library.open(self.settings, KEY, MESSAGE, [1])
+        self.assertEqual((opened.commitment, opened.rounds, opened.last), (COMMITMENT, ROUNDS, LAST))
+        self.assertTrue(opened.accepted)
+        self.assertEqual(opened.message, [1, 0, 1, 0])
+        self.assertTrue(self.library.check(self.settings, COMMITMENT, LAST, KEY, ROUNDS, [1]))
+        self.assertFalse(self.library.check(self.settings, COMMITMENT, [2, 0], KEY, ROUNDS, [1]))
+
+    def test_relaxed(self):
+        leaves = [2, -1, 1, 0, 0, -1]
+        w = self.library.extract(self.settings, COMMITMENT, KEY, ROUNDS, [0, 1, 2], leaves)
+        self.assertEqual(w, [4, -4, 4, 0])
+        self.assertTrue(self.library.judge(self.settings, COMMITMENT, 4, KEY, w))
+        self.assertFalse(self.library.judge(self.settings, COMMITMENT, 5, KEY, w))
+        self.refused(12, self.library.extract, self.settings, COMMITMENT, KEY, ROUNDS, [0, 1, 1], leaves)
+
+    def test_text(self):
+        text = self.library.write(self.settings, TRANSCRIPT)
+        self.assertEqual(self.library.look(text), self.settings)
+        self.assertEqual(self.library.read(text, TRANSCRIPT), (self.settings, TRANSCRIPT))
+        self.assertTrue(self.library.verify(text))
+        self.assertFalse(self.library.verify(text.replace(b"6 0 0 1\n", b"6 0 0 2\n")))
+        self.refused(2, self.library.verify, text[:-1])
+        self.refused(7, self.library.read, text, ["key"])
+        self.assertRaises(ValueError, self.library.read, text, ["keys"])
+        asked = self.library.write(self.settings, {"key": KEY, "message": MESSAGE, "challenges": [1]})
+        listing = {name: TRANSCRIPT[name] for name in ("commitment", "rounds", "challenges", "last")}
+        self.assertEqual(self.library.prove(asked), self.library.write(self.settings, listing))
+
+    def test_lengths(self):
+        self.refused(7, self.library.commit, self.settings, KEY + [0], MESSAGE)
+        self.refused(7, self.library.start, self.settings, [15])
+        self.refused(7, self.library.session_round, [0] * 77, ROUNDS, 1)
+        deep = self.library.settings(4, 2, 17, 1)
+        lengths = (deep.element, deep.polynomial, deep.table, deep.rounds, deep.challenges, deep.nodes, deep.leaves, deep.slack)
+        self.assertEqual(lengths, (4, 12, 16, 24, 2, 4, 9, 16))
+
+
+if __name__ == "__main__":
+    unittest.main()
