@@ -14,12 +14,17 @@
  *   modulus   q, odd, 3 to 2147483647: coefficients of key, commitment and round polynomials are 0 to q - 1
  *   bound     B, 1 to 127: coefficients of a message are from -B to B
  *
- * A table is flat: element i of it begins at number i*d, and it has exactly the length that is said here. A challenge is an exponent e from 0 to
- * 2d - 1 and stands for X^e.
+ * A challenge is an exponent e from 0 to 2d - 1 and stands for X^e.
  *
- * An element that is not in a table has 64 places in a slice of its own. A function that reads one takes the first 64 numbers of the slice; those
- * that the slice does not have count as 0, and places from d on are not read. A function that writes one fills all 64 places, those from d on
- * with 0, and the slice must have room for them; numbers behind them stay.
+ * Every slice has exactly the length that is said here, which the settings give. A slice of any other length is refusal 7.
+ *
+ *   element              d numbers
+ *   round polynomial     3*d numbers: its elements c0, c1, c2 one after the other
+ *   table                flat: element i of it begins at number i*d; n*d numbers where it has n elements
+ *   session record       78 numbers
+ *   settings             4 numbers
+ *
+ * A round polynomial is laid out as a round is in the table `rounds`: its numbers 3*d*(i-1) to 3*d*i - 1 are the polynomial of round i.
  *
  * Every function returns the number of the first refusal that applies, in the order of this table, and 0 where nothing is refused:
  *
@@ -29,7 +34,8 @@
  *     4  depth       L is over 8
  *     5  modulus     q is even or out of range
  *     6  bound       B is out of range
- *     7  size        a table has not exactly its length, value lines are not the required ones in order, or a slice is shorter than the text
+ *     7  size        a slice has not exactly its length, value lines are not the required ones in order, a slice for text is shorter than the text,
+ *                    a number of parts is not below 64, or a session record is neither open nor closed
  *     8  residue     a coefficient of a key, commitment, round polynomial or claim is not 0 to q - 1
  *     9  tall        a message coefficient is beyond its bound; in the writer, a final coefficient is -2147483648
  *    10  challenge   an exponent is not 0 to 2d - 1
@@ -38,18 +44,17 @@
  *    13  branch      a path of the tree that the verifier rejects
  *    14  growth      (12*d*d)^L * B is over 2^62
  *    15  slack       the slack is not 1 to 65536
- *   100              a slice that an element, a round polynomial, a record or settings are to be written to is too short; this is tested before all others
  *
- * A refused call writes nothing to the tables that it is lent; an element that it would have
- * written is 0 at all 64 places, and a verdict is 0. With 100 nothing at all is written.
+ * A refused call writes nothing to any slice, but for one: a refused start of a session writes the closed record of zeros. What a function answers behind
+ * a pointer to a single number (`verdict`, `yes`, `count`) is 0 where the call is refused.
  *
- * A session record has 78 places in a slice of its own; numbers behind them stay:
+ * A session record has 78 numbers:
  *
  *    0 to 3    degree, depth, modulus, bound
  *         4    rounds done
- *         5    closed: 0 says open, any other number closed; a function writes 0 or 1
+ *         5    closed: 0 says open, 1 closed; any other number is refusal 7
  *    6 to 13   the eight challenges, the unused ones 0
- *   14 to 77   the claim, 64 places
+ *   14 to 77   the claim, 64 numbers; those from d on are not read, and a start or a round that holds writes 0 there
  *
  * A text is a slice of bytes: the line "part item place value", and then a line of four numbers for each value, with single spaces between and a line
  * feed after every line. A number has no leading zero, no plus and no "-0", and its magnitude is at most 2147483647; only a value may be negative.
@@ -63,10 +68,9 @@
  *   part 5   challenges   item i-1: that of round i; place 0
  *   part 6   last         item 0: the final element
  *
- * Part 0 is always there. Which others are there is a number of six bits: WOVENROCK_KEY for part 1 to WOVENROCK_LAST for part 6, added up; other bits are
- * not read. A table that belongs to an absent part has length 0; each other one has exactly its length: key and message n*d, commitment and last d,
- * rounds 3*L*d, challenges L. Settings go to a slice with room for 4 numbers, in the order of part 0; numbers behind them stay, and a refused call writes
- * zeros there.
+ * Part 0 is always there. Which others are there is a number below 64: WOVENROCK_KEY for part 1 to WOVENROCK_LAST for part 6, added up. The slice
+ * that belongs to an absent part has length 0; each other one has exactly its length: key and message n*d, commitment and last d, rounds 3*L*d,
+ * challenges L. Settings go to a slice of 4 numbers, in the order of part 0.
  */
 #ifndef WOVENROCK_H
 #define WOVENROCK_H
@@ -78,16 +82,10 @@
 extern "C" {
 #endif
 
-/* Places of an element that is not in a table. */
-#define WOVENROCK_ELEMENT 64
-
-/* Places of a round polynomial. */
-#define WOVENROCK_POLYNOMIAL 192
-
-/* Places of a session record. */
+/* Numbers of a session record. */
 #define WOVENROCK_SESSION 78
 
-/* Places of settings. */
+/* Numbers of settings. */
 #define WOVENROCK_SETTINGS 4
 
 /* Bytes of the longest text. */
@@ -101,9 +99,6 @@ extern "C" {
 #define WOVENROCK_CHALLENGES 16
 #define WOVENROCK_LAST 32
 
-/* What is returned where a slice for an element, a record or settings is too short. */
-#define WOVENROCK_SHORT 100
-
 /* What a verifier says. */
 #define WOVENROCK_SILENT 0   /* nothing: the call was refused */
 #define WOVENROCK_HOLDS 1    /* a session's round holds */
@@ -113,16 +108,15 @@ extern "C" {
 /* Are these settings allowed: refusals 3 to 6. */
 uint32_t wovenrock_settings(uint32_t degree, uint32_t depth, uint32_t modulus, uint32_t bound);
 
-/* Commit: the sum of m_i*G_i modulo q over the n elements m_i of the message and G_i of the key, written to `commitment` (64 places).
- * Tables: key n*d, message n*d. Refusals 3 to 9. */
+/* Commit: the sum of m_i*G_i modulo q over the n elements m_i of the message and G_i of the key, written to `commitment`.
+ * Lengths: key n*d, message n*d, commitment d. Refusals 3 to 9. */
 uint32_t wovenrock_commit(uint32_t degree, uint32_t depth, uint32_t modulus, uint32_t bound,
                           const uint32_t *key, size_t key_length,
                           const int32_t *message, size_t message_length,
                           uint32_t *commitment, size_t commitment_length);
 
-/* The prover's round: the round polynomial of round done + 1, whose three elements c0, c1, c2 are written to `polynomial` (192 places: c0 at 0, c1 at
- * 64, c2 at 128). Tables: key n*d, message n*d, both folded `done` times. Refusals 3 to 9, 11; what is left of the message must lie within
- * 2^done * B. */
+/* The prover's round: the round polynomial of round done + 1 is written to `polynomial`. Both tables are folded `done` times.
+ * Lengths: key n*d, message n*d, polynomial 3*d. Refusals 3 to 9, 11; what is left of the message must lie within 2^done * B. */
 uint32_t wovenrock_round(uint32_t degree, uint32_t depth, uint32_t modulus, uint32_t bound,
                          uint32_t done,
                          const uint32_t *key, size_t key_length,
@@ -131,23 +125,22 @@ uint32_t wovenrock_round(uint32_t degree, uint32_t depth, uint32_t modulus, uint
 
 /* The fold of both tables by X^exponent, with `done` rounds done: of the n/2^done elements that are left, the first half becomes first half plus
  * X^exponent times second half, over whole numbers in the message and modulo q in the key. Every number behind it stays.
- * Tables: key n*d, message n*d. Refusals 3 to 11; what is left of the message must lie within 2^done * B. */
+ * Lengths: key n*d, message n*d. Refusals 3 to 11; what is left of the message must lie within 2^done * B. */
 uint32_t wovenrock_fold(uint32_t degree, uint32_t depth, uint32_t modulus, uint32_t bound,
                         uint32_t done, uint32_t exponent,
                         uint32_t *key, size_t key_length,
                         int32_t *message, size_t message_length);
 
-/* The prover's end: the first element of a message that was folded L times, written to `last` (64 places).
- * Tables: message n*d. Refusals 3 to 7, 9, 11. */
+/* The prover's end: the first element of a message that was folded L times, written to `last`.
+ * Lengths: message n*d, last d. Refusals 3 to 7, 9, 11. */
 uint32_t wovenrock_end(uint32_t degree, uint32_t depth, uint32_t modulus, uint32_t bound,
                        uint32_t done,
                        const int32_t *message, size_t message_length,
                        int32_t *last, size_t last_length);
 
 /* The whole opening: the prover and the verifier take turns in L rounds by the given challenges, the claim starting at the commitment. The commitment is
- * written to `commitment` and the final element to `last` (64 places each), the round elements to `rounds`, and both tables stay as L folds leave
- * them. `*verdict` becomes 2 or 3. Tables: key n*d, message n*d, challenges L, rounds 3*L*d (c_j of round i is element 3*(i-1)+j).
- * Refusals 3 to 10. */
+ * written to `commitment`, the round elements to `rounds`, the final element to `last`, and both tables stay as L folds leave them. `*verdict` becomes
+ * 2 or 3. Lengths: key n*d, message n*d, challenges L, rounds 3*L*d (c_j of round i is element 3*(i-1)+j), commitment d, last d. Refusals 3 to 10. */
 uint32_t wovenrock_open(uint32_t degree, uint32_t depth, uint32_t modulus, uint32_t bound,
                         uint32_t *key, size_t key_length,
                         int32_t *message, size_t message_length,
@@ -157,29 +150,32 @@ uint32_t wovenrock_open(uint32_t degree, uint32_t depth, uint32_t modulus, uint3
                         int32_t *last, size_t last_length,
                         uint32_t *verdict);
 
-/* A verifier's session starts at a commitment: its record is written to `session` (78 places), whatever was there. Where the start is refused, that
- * is a closed record of zeros. Refusals 3 to 6, 8. */
+/* A verifier's session starts at a commitment: its record is written to `session`, whatever was there. Where the start is refused, that is a closed
+ * record of zeros (number 5 is 1, all others are 0); where `session` has not 78 numbers, nothing is written.
+ * Lengths: commitment d, session 78. Refusals 3 to 8. */
 uint32_t wovenrock_session_start(uint32_t degree, uint32_t depth, uint32_t modulus, uint32_t bound,
                                  const uint32_t *commitment, size_t commitment_length,
                                  uint32_t *session, size_t session_length);
 
-/* A session's round, with the round polynomial (192 places: c0 at 0, c1 at 64, c2 at 128; the missing ones count as 0) and the challenge X^exponent. It
- * holds where 2*(c0 + c2) is the claim: `*verdict` becomes 1, and the record counts the round and stores the challenge and the next claim. Else `*verdict`
- * becomes 3, and the record is closed. A refused round leaves the record as it was. Refusals 3 to 6, 8, 10 (the record's eight challenges too), 11. */
+/* A session's round, with the round polynomial and the challenge X^exponent. It holds where 2*(c0 + c2) is the claim: `*verdict` becomes 1, and the
+ * record counts the round and stores the challenge and the next claim. Else `*verdict` becomes 3, and the record is closed. A refused round leaves the
+ * record as it was. Lengths: polynomial 3*d, session 78, d being the record's degree. Refusals 7 at once where `session` has not 78 numbers; then
+ * 3 to 6 for the record's settings, 7, 8, 10 (the record's eight challenges too), 11. */
 uint32_t wovenrock_session_round(const uint32_t *polynomial, size_t polynomial_length,
                                  uint32_t exponent,
                                  uint32_t *session, size_t session_length,
                                  uint32_t *verdict);
 
-/* A session's end, with the final element and the unfolded key (n*d): `*verdict` becomes 2 or 3, and the record is closed. A refused end leaves the
- * record as it was. Refusals 3 to 8, 10 (the record's eight challenges), 11. */
+/* A session's end, with the final element and the unfolded key: `*verdict` becomes 2 or 3, and the record is closed. A refused end leaves the record as
+ * it was. Lengths: last d, key n*d, session 78, d and n being those of the record's settings. Refusals 7 at once where `session` has not 78 numbers;
+ * then 3 to 6 for the record's settings, 7, 8, 10 (the record's eight challenges), 11. */
 uint32_t wovenrock_session_end(const int32_t *last, size_t last_length,
                                const uint32_t *key, size_t key_length,
                                uint32_t *session, size_t session_length,
                                uint32_t *verdict);
 
 /* The check of a transcript: is it accepted, with the claim started at the commitment? `*verdict` becomes 2 or 3.
- * Tables: key n*d (unfolded), rounds 3*L*d (c_j of round i is element 3*(i-1)+j), challenges L. Refusals 3 to 8, 10. */
+ * Lengths: commitment d, last d, key n*d (unfolded), rounds 3*L*d (c_j of round i is element 3*(i-1)+j), challenges L. Refusals 3 to 8, 10. */
 uint32_t wovenrock_check(uint32_t degree, uint32_t depth, uint32_t modulus, uint32_t bound,
                          const uint32_t *commitment, size_t commitment_length,
                          const int32_t *last, size_t last_length,
@@ -189,7 +185,7 @@ uint32_t wovenrock_check(uint32_t degree, uint32_t depth, uint32_t modulus, uint
                          uint32_t *verdict);
 
 /* The judge of relaxed openings: is `slack` times the commitment the sum of w_i*G_i modulo q, and no coefficient of w beyond (12*d*d)^L * B?
- * `*yes` becomes 1 or 0. Tables: key n*d, w n*d. Refusals 3 to 8, 14, 15. */
+ * `*yes` becomes 1 or 0. Lengths: commitment d, key n*d, w n*d. Refusals 3 to 8, 14, 15. */
 uint32_t wovenrock_judge(uint32_t degree, uint32_t depth, uint32_t modulus, uint32_t bound,
                          const uint32_t *commitment, size_t commitment_length,
                          uint32_t slack,
@@ -199,8 +195,8 @@ uint32_t wovenrock_judge(uint32_t degree, uint32_t depth, uint32_t modulus, uint
 
 /* The extractor: from a full tree of accepted transcripts a vector w that opens 4^L times the commitment, in the judge's sense with slack 4^L.
  * The root is node 0, and the children of node k are 3k+1, 3k+2, 3k+3. There are N = (3^L - 1)/2 branching nodes, and number N + j is leaf j.
- * Tables: key n*d, rounds 3*N*d (c_j of node k is element 3k+j), challenges 3*N (that to child 3k+1+j is number 3k+j), leaves 3^L*d (final elements),
- * w n*d, which is written where nothing is refused. Refusals 3 to 8, 10, 12, 13, 14. */
+ * The vector is written to `w`. Lengths: commitment d, key n*d, rounds 3*N*d (c_j of node k is element 3k+j), challenges 3*N (that to child 3k+1+j is
+ * number 3k+j), leaves 3^L*d (final elements), w n*d. Refusals 3 to 8, 10, 12, 13, 14. */
 uint32_t wovenrock_extract(uint32_t degree, uint32_t depth, uint32_t modulus, uint32_t bound,
                            const uint32_t *commitment, size_t commitment_length,
                            const uint32_t *key, size_t key_length,
@@ -209,13 +205,13 @@ uint32_t wovenrock_extract(uint32_t degree, uint32_t depth, uint32_t modulus, ui
                            const int32_t *leaves, size_t leaves_length,
                            int64_t *w, size_t w_length);
 
-/* A first look at a text: its settings are written to `settings` (4 places), from which a caller knows the lengths of the tables. Every line of the text is
- * tested. Refusals 1 to 6. */
+/* A first look at a text: its settings are written to `settings`, from which a caller knows the lengths of the tables. Every line of the text is
+ * tested. Lengths: settings 4. Refusals 1 to 6, then 7 (`settings`). */
 uint32_t wovenrock_look(const uint8_t *text, size_t text_length,
                         uint32_t *settings, size_t settings_length);
 
-/* The table reader: the settings of a text are written to `settings` (4 places), and the values of the parts that are there to their tables. No table is
- * written before the whole text has passed all tests. Refusals 1 to 10. */
+/* The table reader: the settings of a text are written to `settings`, and the values of the parts that are there to their tables. Nothing is written
+ * before the whole text has passed all tests. Lengths: settings 4, tables as above. Refusals 1 to 10. */
 uint32_t wovenrock_read(uint32_t parts,
                         const uint8_t *text, size_t text_length,
                         uint32_t *settings, size_t settings_length,
@@ -226,8 +222,8 @@ uint32_t wovenrock_read(uint32_t parts,
                         uint32_t *challenges, size_t challenges_length,
                         int32_t *last, size_t last_length);
 
-/* The table writer: the text of the parts that are there is written to `out`, and its length to `*length` (0 where the call is refused). Bytes behind the text
- * stay. Refusals 3 to 10, then 1 (the text is over 65536 bytes), then 7 (`out` is shorter than the text). */
+/* The table writer: the text of the parts that are there is written to `out`, and its length to `*count`. Bytes behind the text stay. Lengths: tables as
+ * above; `out` may be longer than the text. Refusals 3 to 10, then 1 (the text is over 65536 bytes), then 7 (`out` is shorter than the text). */
 uint32_t wovenrock_write(uint32_t degree, uint32_t depth, uint32_t modulus, uint32_t bound,
                          uint32_t parts,
                          const uint32_t *key, size_t key_length,
@@ -237,14 +233,14 @@ uint32_t wovenrock_write(uint32_t degree, uint32_t depth, uint32_t modulus, uint
                          const uint32_t *challenges, size_t challenges_length,
                          const int32_t *last, size_t last_length,
                          uint8_t *out, size_t out_length,
-                         size_t *length);
+                         size_t *count);
 
 /* The program `prove`: the whole opening of the key, message and challenges in a text of these three parts. The text of settings, commitment, rounds, challenges
- * and final element is written to `out`, and its length to `*length` (0 where the call is refused). Bytes behind it stay. Refusals 1 to 10, then 1 and 7 as
- * in the table writer; WOVENROCK_TEXT bytes are always enough. */
+ * and final element is written to `out`, and its length to `*count`. Bytes behind it stay. Refusals 1 to 10, then 1 and 7 as in the table writer;
+ * WOVENROCK_TEXT bytes are always enough. */
 uint32_t wovenrock_prove(const uint8_t *text, size_t text_length,
                          uint8_t *out, size_t out_length,
-                         size_t *length);
+                         size_t *count);
 
 /* The program `verify`: is the transcript in a text of settings, key, commitment, rounds, challenges and final element accepted? `*verdict` becomes 2 or 3.
  * Refusals 1 to 8, 10. */
