@@ -64,4 +64,4 @@ endOn f key rec = close (sessionOf rec) (paddedSigned (sessionOf rec .settings .
 pub record Answered (m : Moved) (rec : List ℕ) (r : ℕ) (rec′ : List ℕ) (verdict′ : ℕ) : Type 0 where
   pub number : r ≡ m .number
   pub record-exit : rec′ ≡ granted (m .number) (recordStored (m .next) rec) rec
-  pub verdict-exit : verdict′ ≡ verdictNumber (m .verdict)
+  pub verdict-exit : verdict′ ≡ granted (m .number) (verdictNumber (m .verdict)) 0

@@ -27,17 +27,19 @@ pub fn start(settings: Settings, commitment: &[u32], session: &mut [u32]) -> u32
     started.number
 }
 
-// Stores what a move answers: the record where it is not refused, and the verdict.
+// Stores what a move answers: the record and the verdict where it is not refused.
 fn answer(moved: Moved, session: &mut [u32], verdict: &mut u32) -> u32
     ensures { λ r. ⌜ Answered moved (now (session .entry)) r (now (session .exit)) (now (verdict .exit)) ⌝ }
 {
+    *verdict = 0;
+    if moved.number != 0 {
+        return moved.number;
+    }
     let said = moved.verdict;
     *verdict = slices::verdict_number(said);
-    if moved.number == 0 {
-        let next = moved.next;
-        records::store(next, session);
-    }
-    moved.number
+    let next = moved.next;
+    records::store(next, session);
+    0
 }
 
 // A round, with the polynomial in a slice and the challenge X^e.

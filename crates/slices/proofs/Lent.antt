@@ -11,6 +11,7 @@ use Rattle.protocol.specs.Inputs.{Valid}
 use Rattle.protocol.proofs.Tests.{first-zero, unless-zero, granted-zero, granted-refused}
 use Rattle.protocol.proofs.Refusals.{first-passes, first-only}
 use Rattle.protocol.proofs.Inputs.{settings-valid}
+use Rattle.sizes.proofs.Limits.{degree-most}
 use Rattle.slices.specs.Slices.{lent}
 
 -- ---- for the reader: 7 of the slices stands where 7 of the call's own tables stands
@@ -61,6 +62,9 @@ lent-fits S fits h = unless-zero 6 fits (first-zero _ _ (first-zero _ _ h .1) .0
 pub lent-valid : (S : Settings) (fits : Bool) → lent S fits 0 ≡ 0 → Valid S
 unfolding lent
 lent-valid S fits h = settings-valid S (first-zero _ _ h .0)
+
+pub lent-degree : (S : Settings) (fits : Bool) → lent S fits 0 ≡ 0 → S .degree ≤ 64
+lent-degree S fits h = degree-most S (lent-valid S fits h)
 
 -- what is granted where the slices are refused, where the call is, and where nothing is
 module _ {ℓ} {A : Type ℓ} (S : Settings) (fits : Bool) (N : ℕ) (x y : A) where

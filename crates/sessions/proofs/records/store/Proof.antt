@@ -1,54 +1,59 @@
+-- The loop keeps: the numbers below k are written, the others are as they were.
+use mathlib.Core.Path.{_≡_, ap, _∙_}
+use Prim.Native.Nat.{_-_, _≤_}
+use native.Mathlib.Omega.{arith}
+use lib.ListN.{length, set}
+use Rattle.arithmetic.proofs.Fill.{filled, filled-none, filled-more, filled-length}
+use Rattle.sessions.specs.Records.{numberOf}
+use Rattle.sessions.proofs.Stored.{stays, filled-stored}
+use borrow.Author.Needs.{needs}
 use Rattle.sessions.proofs.records.store.Statement.{statement}
 use Rattle.sessions.proofs.records.store.Tie as tie
-use Rattle.sessions.proofs.records.store.Reads as reads
-use Rattle.sessions.proofs.records.store.Lts as lts
-use Rattle.sessions.proofs.records.number.Reads as number-reads
 
 abbrev Inv-loop : tie.InvT-loop
-Inv-loop r t₀ k₀ t k = ?
+Inv-loop r t₀ k₀ t k = (k ≤ 78) × (length t₀ ≡ 78) × (t ≡ filled (numberOf r) k t₀)
 
 abbrev μ-loop : tie.MeasureT-loop
-μ-loop r t₀ k₀ t k = ?
+μ-loop r t₀ k₀ t k = 78 - k
 
--- src/records.rt:97:9
+long : (c : tie.At-loop Inv-loop μ-loop) → length (c .loop .t) ≡ length (c .before .before .before .args .t .now)
+long c = let a = c .before .before .before .args in ap length (c .loop .inv .2) ∙ filled-length (numberOf (a .r)) (c .loop .k) (a .t .now) (omega arith)
+
 returns : tie.Need-returns Inv-loop μ-loop
-returns c = ?
+returns c = let a = c .before .before .args in stays (a .r) (a .t .now) (c .if1 .taken)
 
--- src/records.rt:100:5
 loop-holds : tie.Need-loop-holds Inv-loop μ-loop
-loop-holds c = ?
+loop-holds c = (omega arith, c .if1 .left, filled-none _ _)
 
--- src/records.rt:101:16
 number-requires : tie.Need-number-requires Inv-loop μ-loop
-number-requires c κs = ?
+number-requires c κs = search needs
 
--- src/records.rt:101:9
 mul-t : tie.Need-mul-t Inv-loop μ-loop
-mul-t c = ?
+mul-t c = search needs
 
--- src/records.rt:101:9
 slice-write-t : tie.Need-slice-write-t Inv-loop μ-loop
-slice-write-t c = ?
+slice-write-t c = omega (arith, long (c .before .before))
 
--- src/records.rt:102:9
 add-k : tie.Need-add-k Inv-loop μ-loop
-add-k c = ?
+add-k c = search needs
 
--- src/records.rt:100:5
 loop-less : tie.Need-loop-less Inv-loop μ-loop
-loop-less c = ?
+loop-less c = search needs
 
--- src/records.rt:100:5
 loop-again : tie.Need-loop-again Inv-loop μ-loop
-loop-again c = ?
+loop-again c =
+    let l = c .before .before .loop in
+    let a = c .before .before .before .before .before .args in
+    (omega arith, l .inv .1, (λ i. set (l .inv .2 i) (l .k) (c .number .ensures i)) ∙ filled-more (numberOf (a .r)) (l .k) (a .t .now) (omega (arith, l .inv .1)))
 
--- src/records.rt:93:1
 same-length : tie.Need-same-length Inv-loop μ-loop
-same-length c = ?
+same-length c = long (c .before)
 
--- src/records.rt:93:1
 returns-2 : tie.Need-returns-2 Inv-loop μ-loop
-returns-2 c = ?
+returns-2 c =
+    let l = c .before .loop in
+    let a = c .before .before .before .before .args in
+    l .inv .2 ∙ filled-stored (a .r) (l .k) (a .t .now) (l .inv .1) (omega arith)
 
 pub store-spec : {M : Type 1} → statement M
 store-spec =
