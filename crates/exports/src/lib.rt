@@ -51,11 +51,11 @@ pub extern "C" fn wovenrock_commit(
     if refusal != 0 {
         return refusal;
     }
-    let answer = prover::commit(s, key, message);
-    if answer.number != 0 {
-        return answer.number;
+    let committed = prover::commit(s, key, message);
+    if committed.number != 0 {
+        return committed.number;
     }
-    let element = answer.commitment;
+    let element = committed.commitment;
     slices::store_residues(degree, element, commitment);
     0
 }
