@@ -1,3 +1,2 @@
 -- What the proofs of several functions use.
-mod Loops
-mod Openings
+pub mod Answers

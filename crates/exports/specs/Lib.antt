@@ -1,2 +1,2 @@
-pub mod Storing
+pub mod Border
 pub mod Promises

@@ -1,55 +1,50 @@
--- The promises of the calls that write a part of their answer to what they are lent. An element or a round polynomial goes to a slice: where that is long
--- enough the answer is the call's own, else it is `short`, and nothing is written. In a promise x is a slice at entry, and x′ the same slice at exit.
+-- The promises of the exported calls that take or give an element or a round polynomial, by the definitions of Border. In a promise x is a slice at entry,
+-- and x′ the same slice at exit; r is what is returned.
 --
 --   CommitStored   commit
 --   RoundStored    the prover's round
 --   EndStored      the prover's end
---   OpeningStored  the whole opening; both slices for elements must be long enough
+--   OpeningStored  the whole opening
 --   CheckStored    the check of a transcript; C and f are the slices for commitment and final element
 --   JudgeStored    the judge; C is the slice for the commitment
+--   ExtractStored  the extractor
 use mathlib.Core.Path.{_≡_}
-use mathlib.Core.Bool.{Bool, _&&_}
 use mathlib.Core.List.{List}
 use Prim.Native.Nat.{ℕ}
-use lib.Dec.{leb}
-use lib.ListN.{length}
-use lib.IntN.{ℤ, pos}
+use lib.IntN.{ℤ}
 use Rattle.protocol.specs.declared.Settings.{Settings}
-use Rattle.protocol.specs.Basic.{choose}
-use Rattle.protocol.specs.Element.{width}
-use Rattle.protocol.specs.Calls.{commitAnswer, roundAnswer, endAnswer, openingAnswer, openingKeyExit, openingMessageExit, openingRoundsExit, checkAnswer, judgeAnswer}
-use Rattle.slices.specs.Slices.{placed, verdictNumber, short}
-use Rattle.exports.specs.Storing.{stored, storedPolynomial}
+use Rattle.exports.specs.Border.{commitNumber, commitExit, roundNumber, roundExit, endNumber, endExit, checkNumber, checkVerdict, judgeNumber, judgeYes, extractNumber, extractExit}
+use Rattle.exports.specs.Border as Border
 
 pub record CommitStored (S : Settings) (key : List ℕ) (message : List ℤ) (commitment : List ℕ) (r : ℕ) (commitment′ : List ℕ) : Type 0 where
-  pub number : r ≡ choose (leb width (length commitment)) (commitAnswer S key message .number) short
-  pub commitment-exit : commitment′ ≡ choose (leb width (length commitment)) (stored 0 (commitAnswer S key message .commitment) commitment) commitment
+  pub number : r ≡ commitNumber S key message commitment
+  pub commitment-exit : commitment′ ≡ commitExit S key message commitment
 
 pub record RoundStored (S : Settings) (t : ℕ) (key : List ℕ) (message : List ℤ) (polynomial : List ℕ) (r : ℕ) (polynomial′ : List ℕ) : Type 0 where
-  pub number : r ≡ choose (leb 192 (length polynomial)) (roundAnswer S t key message .number) short
-  pub polynomial-exit : polynomial′ ≡ choose (leb 192 (length polynomial)) (storedPolynomial (roundAnswer S t key message .elements) polynomial) polynomial
+  pub number : r ≡ roundNumber S t key message polynomial
+  pub polynomial-exit : polynomial′ ≡ roundExit S t key message polynomial
 
 pub record EndStored (S : Settings) (t : ℕ) (message last : List ℤ) (r : ℕ) (last′ : List ℤ) : Type 0 where
-  pub number : r ≡ choose (leb width (length last)) (endAnswer S t message .number) short
-  pub last-exit : last′ ≡ choose (leb width (length last)) (stored (pos 0) (endAnswer S t message .last) last) last
+  pub number : r ≡ endNumber S t message last
+  pub last-exit : last′ ≡ endExit S t message last
 
--- are both slices for elements long enough
-unfoldable pub roomy : List ℕ → List ℤ → Bool
-roomy commitment last = leb width (length commitment) && leb width (length last)
-
-pub record OpeningStored (S : Settings) (key : List ℕ) (message : List ℤ) (E rounds commitment : List ℕ) (last : List ℤ) (verdict r : ℕ) (key′ : List ℕ) (message′ : List ℤ) (rounds′ commitment′ : List ℕ) (last′ : List ℤ) (verdict′ : ℕ) : Type 0 where
-  pub number : r ≡ choose (roomy commitment last) (openingAnswer S key message E rounds .number) short
-  pub key-exit : key′ ≡ choose (roomy commitment last) (openingKeyExit S key message E rounds) key
-  pub message-exit : message′ ≡ choose (roomy commitment last) (openingMessageExit S key message E rounds) message
-  pub rounds-exit : rounds′ ≡ choose (roomy commitment last) (openingRoundsExit S key message E rounds) rounds
-  pub commitment-exit : commitment′ ≡ choose (roomy commitment last) (stored 0 (openingAnswer S key message E rounds .commitment) commitment) commitment
-  pub last-exit : last′ ≡ choose (roomy commitment last) (stored (pos 0) (openingAnswer S key message E rounds .last) last) last
-  pub verdict-exit : verdict′ ≡ choose (roomy commitment last) (verdictNumber (openingAnswer S key message E rounds .verdict)) verdict
+pub record OpeningStored (S : Settings) (key : List ℕ) (message : List ℤ) (E rounds C : List ℕ) (f : List ℤ) (r : ℕ) (key′ : List ℕ) (message′ : List ℤ) (rounds′ C′ : List ℕ) (f′ : List ℤ) (verdict′ : ℕ) : Type 0 where
+  pub number : r ≡ Border.openNumber S key message E rounds C f
+  pub key-exit : key′ ≡ Border.openKeyExit S key message E rounds C f
+  pub message-exit : message′ ≡ Border.openMessageExit S key message E rounds C f
+  pub rounds-exit : rounds′ ≡ Border.openRoundsExit S key message E rounds C f
+  pub commitment-exit : C′ ≡ Border.openCommitmentExit S key message E rounds C f
+  pub last-exit : f′ ≡ Border.openLastExit S key message E rounds C f
+  pub verdict-exit : verdict′ ≡ Border.openVerdict S key message E rounds C f
 
 pub record CheckStored (S : Settings) (C : List ℕ) (f : List ℤ) (key rounds E : List ℕ) (r verdict′ : ℕ) : Type 0 where
-  pub number : r ≡ checkAnswer S (placed 0 C) (placed (pos 0) f) key rounds E .number
-  pub verdict-exit : verdict′ ≡ verdictNumber (checkAnswer S (placed 0 C) (placed (pos 0) f) key rounds E .verdict)
+  pub number : r ≡ checkNumber S C f key rounds E
+  pub verdict-exit : verdict′ ≡ checkVerdict S C f key rounds E
 
 pub record JudgeStored (S : Settings) (C : List ℕ) (c : ℕ) (key : List ℕ) (w : List ℤ) (r yes′ : ℕ) : Type 0 where
-  pub number : r ≡ judgeAnswer S (placed 0 C) c key w .number
-  pub yes-exit : yes′ ≡ choose (judgeAnswer S (placed 0 C) c key w .yes) 1 0
+  pub number : r ≡ judgeNumber S C c key w
+  pub yes-exit : yes′ ≡ judgeYes S C c key w
+
+pub record ExtractStored (S : Settings) (C key rounds E : List ℕ) (leaves w : List ℤ) (r : ℕ) (w′ : List ℤ) : Type 0 where
+  pub number : r ≡ extractNumber S C key rounds E leaves w
+  pub w-exit : w′ ≡ extractExit S C key rounds E leaves w

@@ -1,24 +1,18 @@
 // The calls for C and Rust programs: numbers and slices only. A slice is a pointer and a length. include/wovenrock.h says what each function does.
 //
-// Every function first answers 100 where a slice that it is to write an element, a record or settings to is too short, and then touches nothing. Otherwise it
-// answers the number of the refusal, 0 where nothing is refused.
-mod storing;
-
+// Every function answers the number of the first refusal, 0 where nothing is refused. Every slice has exactly its length, or is refused by 7. A refused call
+// writes nothing to a slice, but for the closed record of a refused start.
 use arithmetic::tests;
 use protocol::Settings;
 ghost use mathlib.Core.Path.{_≡_};
 ghost use Rattle.protocol.specs.Settings.{settingsRefusal};
-ghost use Rattle.protocol.specs.Session as moves;
-ghost use Rattle.protocol.specs.Promises.{Folded, Extracted};
-ghost use lib.IntN.{pos};
-ghost use Rattle.slices.specs.Slices.{given, placed, placedPolynomial};
-ghost use Rattle.sessions.specs.Records.{sessionOf};
-ghost use Rattle.sessions.specs.Promises.{StartStored, MoveStored};
+ghost use Rattle.protocol.specs.Promises.{Folded};
+ghost use Rattle.slices.specs.Slices.{given};
+ghost use Rattle.sessions.specs.Promises.{StartStored, MoveStored, polynomialFits, lastFits, roundOn, endOn};
 ghost use Rattle.shapes.specs.Parts.{six};
 ghost use Rattle.protocol.specs.Programs.{checked, verifyAnswer};
-ghost use Rattle.texts.specs.Texts.{partsOf};
 ghost use Rattle.texts.specs.Promises.{Looked, ReadStored, WroteStored, Verdicts, ProvedStored};
-ghost use Rattle.exports.specs.Promises.{CommitStored, RoundStored, EndStored, OpeningStored, CheckStored, JudgeStored};
+ghost use Rattle.exports.specs.Promises.{CommitStored, RoundStored, EndStored, OpeningStored, CheckStored, JudgeStored, ExtractStored};
 
 // Refusals 3 to 6.
 #[no_mangle]
@@ -47,22 +41,26 @@ pub extern "C" fn wovenrock_commit(
 ) -> u32
     ensures { λ r. ⌜ CommitStored (given degree depth modulus bound) (now (key .entry)) (now (message .entry)) (now (commitment .entry)) r (now (commitment .exit)) ⌝ }
 {
-    if commitment.len() < 64 {
-        return 100;
-    }
     let s = Settings {
         degree: degree,
         depth: depth,
         modulus: modulus,
         bound: bound,
     };
-    let answer = prover::commit(s, key, message);
-    let element = answer.commitment;
-    storing::store_residues(element, commitment);
-    answer.number
+    let refusal = slices::refusal(s, commitment.len() == degree as usize);
+    if refusal != 0 {
+        return refusal;
+    }
+    let committed = prover::commit(s, key, message);
+    if committed.number != 0 {
+        return committed.number;
+    }
+    let element = committed.commitment;
+    slices::store_residues(degree, element, commitment);
+    0
 }
 
-// The prover's round: the round polynomial of round done + 1 goes to the slice `polynomial`, 64 places for each of its three elements.
+// The prover's round: the round polynomial of round done + 1 goes to the slice `polynomial`.
 #[no_mangle]
 pub extern "C" fn wovenrock_round(
     degree: u32,
@@ -76,19 +74,23 @@ pub extern "C" fn wovenrock_round(
 ) -> u32
     ensures { λ r. ⌜ RoundStored (given degree depth modulus bound) done (now (key .entry)) (now (message .entry)) (now (polynomial .entry)) r (now (polynomial .exit)) ⌝ }
 {
-    if polynomial.len() < 192 {
-        return 100;
-    }
     let s = Settings {
         degree: degree,
         depth: depth,
         modulus: modulus,
         bound: bound,
     };
+    let refusal = slices::refusal(s, polynomial.len() == 3 * (degree as usize));
+    if refusal != 0 {
+        return refusal;
+    }
     let answer = prover::round(s, done, key, message);
+    if answer.number != 0 {
+        return answer.number;
+    }
     let elements = prover::elements_of(answer);
-    storing::store_polynomial(elements, polynomial);
-    answer.number
+    slices::store_polynomial(degree, elements, polynomial);
+    0
 }
 
 // The fold of both tables by X^e, with `done` rounds done.
@@ -127,19 +129,23 @@ pub extern "C" fn wovenrock_end(
 ) -> u32
     ensures { λ r. ⌜ EndStored (given degree depth modulus bound) done (now (message .entry)) (now (last .entry)) r (now (last .exit)) ⌝ }
 {
-    if last.len() < 64 {
-        return 100;
-    }
     let s = Settings {
         degree: degree,
         depth: depth,
         modulus: modulus,
         bound: bound,
     };
+    let refusal = slices::refusal(s, last.len() == degree as usize);
+    if refusal != 0 {
+        return refusal;
+    }
     let answer = prover::end(s, done, message);
+    if answer.number != 0 {
+        return answer.number;
+    }
     let element = answer.last;
-    storing::store_wholes(element, last);
-    answer.number
+    slices::store_wholes(degree, element, last);
+    0
 }
 
 // The whole opening: commitment, round elements, final element and verdict.
@@ -157,28 +163,31 @@ pub extern "C" fn wovenrock_open(
     last: &mut [i32],
     verdict: &mut u32,
 ) -> u32
-    ensures { λ r. ⌜ OpeningStored (given degree depth modulus bound) (now (key .entry)) (now (message .entry)) (now (challenges .entry)) (now (rounds .entry)) (now (commitment .entry)) (now (last .entry)) (now (verdict .entry)) r (now (key .exit)) (now (message .exit)) (now (rounds .exit)) (now (commitment .exit)) (now (last .exit)) (now (verdict .exit)) ⌝ }
+    ensures { λ r. ⌜ OpeningStored (given degree depth modulus bound) (now (key .entry)) (now (message .entry)) (now (challenges .entry)) (now (rounds .entry)) (now (commitment .entry)) (now (last .entry)) r (now (key .exit)) (now (message .exit)) (now (rounds .exit)) (now (commitment .exit)) (now (last .exit)) (now (verdict .exit)) ⌝ }
 {
-    if commitment.len() < 64 {
-        return 100;
-    }
-    if last.len() < 64 {
-        return 100;
-    }
+    *verdict = 0;
     let s = Settings {
         degree: degree,
         depth: depth,
         modulus: modulus,
         bound: bound,
     };
+    let n = degree as usize;
+    let refusal = slices::refusal(s, slices::both(commitment.len() == n, last.len() == n));
+    if refusal != 0 {
+        return refusal;
+    }
     let answer = opening::open(s, key, message, challenges, rounds);
+    if answer.number != 0 {
+        return answer.number;
+    }
     let first = answer.commitment;
-    storing::store_residues(first, commitment);
+    slices::store_residues(degree, first, commitment);
     let end = answer.last;
-    storing::store_wholes(end, last);
+    slices::store_wholes(degree, end, last);
     let said = answer.verdict;
     *verdict = slices::verdict_number(said);
-    answer.number
+    0
 }
 
 // A session's start at a commitment; the record goes to the slice `session`.
@@ -210,7 +219,7 @@ pub extern "C" fn wovenrock_session_round(
     session: &mut [u32],
     verdict: &mut u32,
 ) -> u32
-    ensures { λ r. ⌜ MoveStored (moves.move (sessionOf (now (session .entry))) (placedPolynomial (now (polynomial .entry))) exponent) (now (session .entry)) (now (verdict .entry)) r (now (session .exit)) (now (verdict .exit)) ⌝ }
+    ensures { λ r. ⌜ MoveStored (polynomialFits (now (polynomial .entry)) (now (session .entry))) (roundOn (now (polynomial .entry)) exponent (now (session .entry))) (now (session .entry)) r (now (session .exit)) (now (verdict .exit)) ⌝ }
 {
     sessions::round(polynomial, exponent, session, verdict)
 }
@@ -223,7 +232,7 @@ pub extern "C" fn wovenrock_session_end(
     session: &mut [u32],
     verdict: &mut u32,
 ) -> u32
-    ensures { λ r. ⌜ MoveStored (moves.close (sessionOf (now (session .entry))) (placed (pos 0) (now (last .entry))) (now (key .entry))) (now (session .entry)) (now (verdict .entry)) r (now (session .exit)) (now (verdict .exit)) ⌝ }
+    ensures { λ r. ⌜ MoveStored (lastFits (now (last .entry)) (now (session .entry))) (endOn (now (last .entry)) (now (key .entry)) (now (session .entry))) (now (session .entry)) r (now (session .exit)) (now (verdict .exit)) ⌝ }
 {
     sessions::end(last, key, session, verdict)
 }
@@ -250,8 +259,14 @@ pub extern "C" fn wovenrock_check(
         modulus: modulus,
         bound: bound,
     };
-    let c = slices::residues(commitment);
-    let f = slices::wholes(last);
+    *verdict = 0;
+    let n = degree as usize;
+    let refusal = slices::refusal(s, slices::both(commitment.len() == n, last.len() == n));
+    if refusal != 0 {
+        return refusal;
+    }
+    let c = slices::residues(degree, commitment);
+    let f = slices::wholes(degree, last);
     let answer = verification::check(s, c, f, key, rounds, challenges);
     let said = answer.verdict;
     *verdict = slices::verdict_number(said);
@@ -279,7 +294,12 @@ pub extern "C" fn wovenrock_judge(
         modulus: modulus,
         bound: bound,
     };
-    let c = slices::residues(commitment);
+    *yes = 0;
+    let refusal = slices::refusal(s, commitment.len() == degree as usize);
+    if refusal != 0 {
+        return refusal;
+    }
+    let c = slices::residues(degree, commitment);
     let answer = relaxed::judge(s, c, slack, key, w);
     *yes = answer.yes as u32;
     answer.number
@@ -299,7 +319,7 @@ pub extern "C" fn wovenrock_extract(
     leaves: &[i32],
     w: &mut [i64],
 ) -> u32
-    ensures { λ r. ⌜ Extracted (given degree depth modulus bound) (placed 0 (now (commitment .entry))) (now (key .entry)) (now (rounds .entry)) (now (challenges .entry)) (now (leaves .entry)) (now (w .entry)) r (now (w .exit)) ⌝ }
+    ensures { λ r. ⌜ ExtractStored (given degree depth modulus bound) (now (commitment .entry)) (now (key .entry)) (now (rounds .entry)) (now (challenges .entry)) (now (leaves .entry)) (now (w .entry)) r (now (w .exit)) ⌝ }
 {
     let s = Settings {
         degree: degree,
@@ -307,7 +327,11 @@ pub extern "C" fn wovenrock_extract(
         modulus: modulus,
         bound: bound,
     };
-    let c = slices::residues(commitment);
+    let refusal = slices::refusal(s, commitment.len() == degree as usize);
+    if refusal != 0 {
+        return refusal;
+    }
+    let c = slices::residues(degree, commitment);
     extraction::extract(s, c, key, rounds, challenges, leaves, w)
 }
 
@@ -332,7 +356,7 @@ pub extern "C" fn wovenrock_read(
     challenges: &mut [u32],
     last: &mut [i32],
 ) -> u32
-    ensures { λ r. ⌜ ReadStored (partsOf parts) (now (text .entry)) (now (settings .entry)) (six (now (key .entry)) (now (message .entry)) (now (commitment .entry)) (now (rounds .entry)) (now (challenges .entry)) (now (last .entry))) r (now (settings .exit)) (six (now (key .exit)) (now (message .exit)) (now (commitment .exit)) (now (rounds .exit)) (now (challenges .exit)) (now (last .exit))) ⌝ }
+    ensures { λ r. ⌜ ReadStored parts (now (text .entry)) (now (settings .entry)) (six (now (key .entry)) (now (message .entry)) (now (commitment .entry)) (now (rounds .entry)) (now (challenges .entry)) (now (last .entry))) r (now (settings .exit)) (six (now (key .exit)) (now (message .exit)) (now (commitment .exit)) (now (rounds .exit)) (now (challenges .exit)) (now (last .exit))) ⌝ }
 {
     texts::read(
         parts,
@@ -364,7 +388,7 @@ pub extern "C" fn wovenrock_write(
     out: &mut [u8],
     count: &mut usize,
 ) -> u32
-    ensures { λ r. ⌜ WroteStored (given degree depth modulus bound) (partsOf parts) (six (now (key .entry)) (now (message .entry)) (now (commitment .entry)) (now (rounds .entry)) (now (challenges .entry)) (now (last .entry))) (now (out .entry)) r (now (out .exit)) (now (count .exit)) ⌝ }
+    ensures { λ r. ⌜ WroteStored (given degree depth modulus bound) parts (six (now (key .entry)) (now (message .entry)) (now (commitment .entry)) (now (rounds .entry)) (now (challenges .entry)) (now (last .entry))) (now (out .entry)) r (now (out .exit)) (now (count .exit)) ⌝ }
 {
     let s = Settings {
         degree: degree,

@@ -1,53 +1,95 @@
 -- What the session's moves leave in a slice for a record, and what they answer.
 use mathlib.Core.Path.{_≡_, refl, sym, ap, _∙_}
 use mathlib.Core.Logic.{_≢_}
-use mathlib.Core.List.{List}
-use Prim.Native.Nat.{ℕ, _<_, _≤_}
+use mathlib.Core.Bool.{Bool, true, _&&_}
+use mathlib.Core.List.{List, [], _∷_}
+use Prim.Native.Nat.{ℕ, _≤_}
+use native.Mathlib.Omega.{arith}
+use borrow.Author.Tests.{eq-eqb, eqb-true, ne-eqb}
 use lib.ListN.{length}
 use Rattle.protocol.specs.declared.Settings.{Settings}
+use Rattle.protocol.specs.declared.Session.{Session}
 use Rattle.protocol.specs.declared.Started.{Started}
 use Rattle.protocol.specs.declared.Moved.{Moved}
-use Rattle.protocol.specs.Basic.{granted}
-use Rattle.protocol.specs.Session.{start}
-use Rattle.protocol.proofs.Tests.{granted-zero, granted-refused}
-use Rattle.slices.specs.Slices.{placed, verdictNumber, short}
-use Rattle.slices.proofs.Elements.{kept, written}
-use Rattle.sessions.specs.Records.{recordWidth, recordStored}
-use Rattle.sessions.specs.Promises.{StartStored, MoveStored, Answered}
+use Rattle.protocol.specs.Basic.{first, unless, granted}
+use Rattle.protocol.specs.Element.{padded}
+use Rattle.protocol.specs.Settings.{sized}
+use Rattle.protocol.specs.Session.{opened, blank, startRefusal, start}
+use Rattle.protocol.proofs.Tests.{and-split, granted-zero, granted-refused}
+use Rattle.protocol.proofs.Refusals.{first-fails, first-holds, first-only}
+use Rattle.slices.specs.Slices.{lent, verdictNumber}
+use Rattle.slices.proofs.Lent.{lent-stops, lent-passes, lent-fits, lent-degree, kept}
+use Rattle.sessions.specs.Records.{recordWidth, sessionOf, flagged, recordStored}
+use Rattle.sessions.specs.Promises.{startNumber, startExit, StartStored, moveNumber, moveExit, moveVerdict, MoveStored, Answered}
 
--- a slice that is too short
-module _ (t : List ℕ) (h : length t < 78) where
-  pub start-short : (S : Settings) (C : List ℕ) → StartStored S C t 100 t
-  unfolding short recordWidth
-  start-short S C = record { number = kept recordWidth t _ _ h; record-exit = kept recordWidth t _ _ h }
+-- ---- the start
 
-  pub move-short : (m : Moved) (v : ℕ) → MoveStored m t v 100 t v
-  unfolding short recordWidth
-  move-short m v = record { number = kept recordWidth t _ _ h; record-exit = kept recordWidth t _ _ h; verdict-exit = kept recordWidth t _ _ h }
-
--- a slice that is long enough
-module _ (t : List ℕ) (h : 78 ≤ length t) where
-  pub start-stored : (S : Settings) (C : List ℕ) (C′ : List ℕ) (r : Started) (t′ : List ℕ) → C′ ≡ placed 0 C → r ≡ start S C′ → t′ ≡ recordStored (r .next) t → StartStored S C t (r .number) t′
-  unfolding recordWidth
-  start-stored S C C′ r t′ c e p =
-      let answer = e ∙ ap (start S) c in
+module _ (S : Settings) (C rec : List ℕ) (n : ℕ) (e : n ≡ lent S (sized (S .degree) C && sized recordWidth rec) 0) where
+  pub start-refused : (none : Session) (rec′ : List ℕ) → n ≢ 0 → none ≡ blank → rec′ ≡ recordStored none rec → StartStored S C rec n rec′
+  unfolding startNumber startExit
+  start-refused none rec′ h b p =
+      let refused : lent S (sized (S .degree) C && sized recordWidth rec) 0 ≢ 0 = λ z. h (e ∙ z) in
       record {
-        number = ap (λ (x : Started). x .number) answer ∙ written recordWidth t _ _ h;
-        record-exit = p ∙ ap (λ (x : Started). recordStored (x .next) t) answer ∙ written recordWidth t _ _ h;
+        number = e ∙ lent-stops S _ _ refused;
+        record-exit = p ∙ ap (λ r. recordStored r rec) (b ∙ kept S _ _ _ _ refused);
       }
 
-  pub move-stored : (m m′ : Moved) (v r : ℕ) (t′ : List ℕ) (v′ : ℕ) → m′ ≡ m → Answered m′ t r t′ v′ → MoveStored m t v r t′ v′
-  unfolding recordWidth
-  move-stored m m′ v r t′ v′ e a = record {
-    number = a .number ∙ ap (λ (x : Moved). x .number) e ∙ written recordWidth t _ _ h;
-    record-exit = a .record-exit ∙ ap (λ (x : Moved). granted (x .number) (recordStored (x .next) t) t) e ∙ written recordWidth t _ _ h;
-    verdict-exit = a .verdict-exit ∙ ap (λ (x : Moved). verdictNumber (x .verdict)) e ∙ written recordWidth t _ _ h;
+  pub start-made : (c : List ℕ) (r : Started) (rec′ : List ℕ) → n ≡ 0 → (S .degree ≤ 64 → length C ≡ S .degree → c ≡ padded (S .degree) C) → r ≡ start S c → rec′ ≡ recordStored (r .next) rec → StartStored S C rec (r .number) rec′
+  unfolding startNumber startExit start sized
+  start-made c r rec′ h b q p =
+      let long = eqb-true _ _ (and-split (lent-fits S (sized (S .degree) C && sized recordWidth rec) (sym e ∙ h)) .0) in
+      let answer = q ∙ ap (start S) (b (lent-degree S _ (sym e ∙ h)) long) in
+      let same = lent-passes S _ (startRefusal S (padded (S .degree) C)) (sym e ∙ h) in
+      record {
+        number = ap (λ (x : Started). x .number) answer ∙ same;
+        record-exit = p ∙ ap (λ (x : Started). recordStored (x .next) rec) answer ∙ ap (λ k. recordStored (granted k (opened S (padded (S .degree) C)) blank) rec) same;
+      }
+
+-- ---- a move
+
+module _ (fits : Bool) (m : Moved) (rec : List ℕ) where
+  -- a slice that holds no record
+  pub move-nowhere : length rec ≢ 78 → MoveStored fits m rec 7 rec 0
+  unfolding moveExit moveVerdict
+  move-nowhere h = record {
+    number = seven;
+    record-exit = sym (granted-refused _ _ _ refused);
+    verdict-exit = sym (granted-refused _ _ _ refused);
   }
+    where
+      seven : 7 ≡ moveNumber fits m rec
+      seven = unfold moveNumber in unfold recordWidth in unfold sized in sym (first-fails 6 _ _ (ne-eqb _ _ h))
 
--- the answer of a move that is refused, and of one that is not
-module _ (m : Moved) (t : List ℕ) (v : ℕ) (e : v ≡ verdictNumber (m .verdict)) where
-  pub move-refused : m .number ≢ 0 → Answered m t (m .number) t v
-  move-refused h = record { number = refl; record-exit = sym (granted-refused _ _ _ h); verdict-exit = e }
+      refused : moveNumber fits m rec ≢ 0
+      refused z = let no : _≡_ {A = ℕ} 7 0 = seven ∙ z in omega arith
 
-  pub move-done : (t′ : List ℕ) → m .number ≡ 0 → t′ ≡ recordStored (m .next) t → Answered m t (m .number) t′ v
-  move-done t′ h p = record { number = refl; record-exit = p ∙ sym (granted-zero _ _ _ h); verdict-exit = e }
+  module _ (long : length rec ≡ 78) where
+    number-is : moveNumber fits m rec ≡ lent (sessionOf rec .settings) (fits && flagged rec) (m .number)
+    unfolding moveNumber recordWidth sized
+    number-is = first-holds 7 _ _ (eq-eqb _ _ long) ∙ first-only _
+
+    -- slices beside it that do not fit, or settings that are refused
+    pub move-refused : (n : ℕ) → n ≡ lent (sessionOf rec .settings) (fits && flagged rec) 0 → n ≢ 0 → MoveStored fits m rec n rec 0
+    unfolding moveExit moveVerdict
+    move-refused n e h =
+        let same = e ∙ lent-stops _ _ (m .number) (λ z. h (e ∙ z)) ∙ sym number-is in
+        let refused : moveNumber fits m rec ≢ 0 = λ z. h (same ∙ z) in
+        record { number = same; record-exit = sym (granted-refused _ _ _ refused); verdict-exit = sym (granted-refused _ _ _ refused) }
+
+    pub move-made : (n : ℕ) → n ≡ lent (sessionOf rec .settings) (fits && flagged rec) 0 → n ≡ 0 → (m′ : Moved) (r : ℕ) (rec′ : List ℕ) (v′ : ℕ) → m′ ≡ m → Answered m′ rec r rec′ v′ → MoveStored fits m rec r rec′ v′
+    unfolding moveExit moveVerdict
+    move-made n e h m′ r rec′ v′ q a =
+        let same = lent-passes _ _ (m .number) (sym e ∙ h) ∙ sym number-is in
+        record {
+          number = a .number ∙ ap (λ (x : Moved). x .number) q ∙ same;
+          record-exit = a .record-exit ∙ ap (λ (x : Moved). granted (x .number) (recordStored (x .next) rec) rec) q ∙ ap (λ k. granted k (recordStored (m .next) rec) rec) same;
+          verdict-exit = a .verdict-exit ∙ ap (λ (x : Moved). granted (x .number) (verdictNumber (x .verdict)) 0) q ∙ ap (λ k. granted k (verdictNumber (m .verdict)) 0) same;
+        }
+
+-- what a move answers that is refused, and one that is not
+module _ (m : Moved) (rec : List ℕ) where
+  pub answer-refused : m .number ≢ 0 → Answered m rec (m .number) rec 0
+  answer-refused h = record { number = refl; record-exit = sym (granted-refused _ _ _ h); verdict-exit = sym (granted-refused _ _ _ h) }
+
+  pub answer-made : (rec′ : List ℕ) (v′ : ℕ) → m .number ≡ 0 → rec′ ≡ recordStored (m .next) rec → v′ ≡ verdictNumber (m .verdict) → Answered m rec 0 rec′ v′
+  answer-made rec′ v′ h p v = record { number = sym h; record-exit = p ∙ sym (granted-zero _ _ _ h); verdict-exit = v ∙ sym (granted-zero _ _ _ h) }

@@ -1,2 +1,4 @@
--- What the proofs of several functions use.
-mod Answers
+-- What the proofs of several functions use, and the laws of records.
+pub mod Stored
+pub mod Answers
+pub mod Laws

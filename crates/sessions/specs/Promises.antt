@@ -1,31 +1,67 @@
--- The promises of the session's moves on a record in a slice. Where that is long enough the answer is the move's own, else it is `short`, and nothing is
--- written. In a promise x is a slice or a number at entry, and x′ the same at exit.
+-- The promises of the session's moves on a record in a slice of 78 numbers. In a promise x is a slice or a number at entry, and x′ the same at exit.
 --
---   StartStored   the start; C is the slice for the commitment
---   MoveStored    a round or an end, m being the move on the record that the slice holds
---   Answered      what a move leaves in a slice that is long enough: the next record where it is not refused, else what stood there
+--   startNumber, startExit   the start at the commitment in the slice C: its refusal, and the slice for the record at exit. A refused start writes the
+--                            closed record of zeros
+--   StartStored              the promise of the start
+--   moveNumber fits m rec    the refusal of the move m on the record in the slice rec, `fits` saying whether the slices lent beside it have their lengths.
+--                            A slice of another length than 78 holds no record, so nothing of it is tested: that is 7 at once
+--   moveExit, moveVerdict    the slice for the record, and the verdict's number, at exit: a refused move writes nothing and says nothing
+--   MoveStored               the promise of a move
+--   roundOn P e rec          the round with the polynomial in the slice P on the record in the slice rec
+--   endOn f key rec          the end with the final element in the slice f
+--   polynomialFits, lastFits have these slices their lengths, which the record's settings give
+--   Answered                 what a move leaves where nothing beside it is refused
 use mathlib.Core.Path.{_≡_}
-use mathlib.Core.List.{List}
-use Prim.Native.Nat.{ℕ}
-use lib.Dec.{leb}
-use lib.ListN.{length}
+use mathlib.Core.Bool.{Bool, _&&_}
+use mathlib.Core.List.{List, [], _∷_}
+use Prim.Native.Nat.{ℕ, _*_}
+use lib.IntN.{ℤ}
 use Rattle.protocol.specs.declared.Settings.{Settings}
 use Rattle.protocol.specs.declared.Moved.{Moved}
-use Rattle.protocol.specs.Basic.{choose, granted}
-use Rattle.protocol.specs.Session.{start}
-use Rattle.slices.specs.Slices.{placed, verdictNumber, short}
-use Rattle.sessions.specs.Records.{recordWidth, recordStored}
+use Rattle.protocol.specs.Basic.{first, unless, granted}
+use Rattle.protocol.specs.Element.{padded, paddedSigned}
+use Rattle.protocol.specs.Settings.{sized}
+use Rattle.protocol.specs.Session.{opened, blank, startRefusal, move, close}
+use Rattle.slices.specs.Slices.{lent, polynomialOf, verdictNumber}
+use Rattle.sessions.specs.Records.{recordWidth, sessionOf, flagged, recordStored}
+
+unfoldable pub startNumber : Settings → List ℕ → List ℕ → ℕ
+startNumber S C rec = lent S (sized (S .degree) C && sized recordWidth rec) (startRefusal S (padded (S .degree) C))
+
+unfoldable pub startExit : Settings → List ℕ → List ℕ → List ℕ
+startExit S C rec = recordStored (granted (startNumber S C rec) (opened S (padded (S .degree) C)) blank) rec
 
 pub record StartStored (S : Settings) (C rec : List ℕ) (r : ℕ) (rec′ : List ℕ) : Type 0 where
-  pub number : r ≡ choose (leb recordWidth (length rec)) (start S (placed 0 C) .number) short
-  pub record-exit : rec′ ≡ choose (leb recordWidth (length rec)) (recordStored (start S (placed 0 C) .next) rec) rec
+  pub number : r ≡ startNumber S C rec
+  pub record-exit : rec′ ≡ startExit S C rec
+
+unfoldable pub moveNumber : Bool → Moved → List ℕ → ℕ
+moveNumber fits m rec = first (unless 7 (sized recordWidth rec) ∷ lent (sessionOf rec .settings) (fits && flagged rec) (m .number) ∷ [])
+
+unfoldable pub moveExit : Bool → Moved → List ℕ → List ℕ
+moveExit fits m rec = granted (moveNumber fits m rec) (recordStored (m .next) rec) rec
+
+unfoldable pub moveVerdict : Bool → Moved → List ℕ → ℕ
+moveVerdict fits m rec = granted (moveNumber fits m rec) (verdictNumber (m .verdict)) 0
+
+pub record MoveStored (fits : Bool) (m : Moved) (rec : List ℕ) (r : ℕ) (rec′ : List ℕ) (verdict′ : ℕ) : Type 0 where
+  pub number : r ≡ moveNumber fits m rec
+  pub record-exit : rec′ ≡ moveExit fits m rec
+  pub verdict-exit : verdict′ ≡ moveVerdict fits m rec
+
+unfoldable pub polynomialFits : List ℕ → List ℕ → Bool
+polynomialFits P rec = sized (3 * sessionOf rec .settings .degree) P
+
+unfoldable pub roundOn : List ℕ → ℕ → List ℕ → Moved
+roundOn P e rec = move (sessionOf rec) (polynomialOf (sessionOf rec .settings .degree) P) e
+
+unfoldable pub lastFits : List ℤ → List ℕ → Bool
+lastFits f rec = sized (sessionOf rec .settings .degree) f
+
+unfoldable pub endOn : List ℤ → List ℕ → List ℕ → Moved
+endOn f key rec = close (sessionOf rec) (paddedSigned (sessionOf rec .settings .degree) f) key
 
 pub record Answered (m : Moved) (rec : List ℕ) (r : ℕ) (rec′ : List ℕ) (verdict′ : ℕ) : Type 0 where
   pub number : r ≡ m .number
   pub record-exit : rec′ ≡ granted (m .number) (recordStored (m .next) rec) rec
-  pub verdict-exit : verdict′ ≡ verdictNumber (m .verdict)
-
-pub record MoveStored (m : Moved) (rec : List ℕ) (verdict r : ℕ) (rec′ : List ℕ) (verdict′ : ℕ) : Type 0 where
-  pub number : r ≡ choose (leb recordWidth (length rec)) (m .number) short
-  pub record-exit : rec′ ≡ choose (leb recordWidth (length rec)) (granted (m .number) (recordStored (m .next) rec) rec) rec
-  pub verdict-exit : verdict′ ≡ choose (leb recordWidth (length rec)) (verdictNumber (m .verdict)) verdict
+  pub verdict-exit : verdict′ ≡ granted (m .number) (verdictNumber (m .verdict)) 0

@@ -1,17 +1,21 @@
 -- Session records in slices of 78 numbers: degree, depth, modulus, bound, rounds done, closed, the eight challenges, the 64 places of the claim.
 --
 --   recordWidth        78
---   sessionOf t        the record that the slice t holds; any number but 0 says that it is closed
+--   sessionOf t        the record that the slice t holds
+--   flagged t          is the number that says whether it is closed 0 or 1; any other is refusal 7
 --   numberOf r k       number k of the record r
---   recordStored r t   the slice t after the record r was written to its front
-use mathlib.Core.Bool.{not}
-use mathlib.Core.List.{List, _++_}
+--   numbersOf r        the numbers of the record r
+--   recordStored r t   the slice t after the record r was written to it: a slice of another length stays as it is
+use mathlib.Core.Bool.{Bool}
+use mathlib.Core.List.{List}
 use Prim.Native.Nat.{ℕ, _+_, _-_}
-use lib.Dec.{ltb, eqb}
-use lib.ListN.{getD, drop}
+use lib.Dec.{leb, ltb, eqb}
+use lib.ListN.{getD}
 use Rattle.protocol.specs.declared.Session.{Session}
 use Rattle.protocol.specs.Basic.{tabulate, choose}
-use Rattle.slices.specs.Slices.{given, placed}
+use Rattle.protocol.specs.Element.{width}
+use Rattle.protocol.specs.Settings.{sized}
+use Rattle.slices.specs.Slices.{given}
 
 unfoldable pub recordWidth : ℕ
 recordWidth = 78
@@ -19,14 +23,20 @@ recordWidth = 78
 unfoldable pub challengesOf : List ℕ → List ℕ
 challengesOf t = tabulate 8 (λ k. getD t (6 + k) 0)
 
+unfoldable pub claimOf : List ℕ → List ℕ
+claimOf t = tabulate width (λ k. getD t (14 + k) 0)
+
 unfoldable pub sessionOf : List ℕ → Session
 sessionOf t = record {
   settings = given (getD t 0 0) (getD t 1 0) (getD t 2 0) (getD t 3 0);
   done = getD t 4 0;
-  claim = placed 0 (drop 14 t);
+  claim = claimOf t;
   challenges = challengesOf t;
-  closed = not (eqb (getD t 5 0) 0);
+  closed = eqb (getD t 5 0) 1;
 }
+
+unfoldable pub flagged : List ℕ → Bool
+flagged t = leb (getD t 5 0) 1
 
 -- one of the first six numbers
 unfoldable pub headOf : Session → ℕ → ℕ
@@ -37,5 +47,8 @@ headOf r k =
 unfoldable pub numberOf : Session → ℕ → ℕ
 numberOf r k = choose (ltb k 6) (headOf r k) (choose (ltb k 14) (getD (r .challenges) (k - 6) 0) (getD (r .claim) (k - 14) 0))
 
+unfoldable pub numbersOf : Session → List ℕ
+numbersOf r = tabulate recordWidth (numberOf r)
+
 unfoldable pub recordStored : Session → List ℕ → List ℕ
-recordStored r t = tabulate recordWidth (numberOf r) ++ drop recordWidth t
+recordStored r t = choose (sized recordWidth t) (numbersOf r) t

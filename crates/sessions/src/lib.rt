@@ -1,35 +1,25 @@
-// The verifier's session on a record that stands in a lent slice of 78 numbers.
-//
-// Where that slice is too short the answer is 100, and nothing is written. Numbers behind the record stay.
+// The verifier's session on a record that stands in a lent slice of 78 numbers. A refused move writes nothing to it; a refused start writes the closed
+// record of zeros.
 mod records;
 
 use protocol::Moved;
-use protocol::Session;
 use protocol::Settings;
 use verifier::Verifier;
-ghost use Prim.Native.Nat.{_≤_};
-ghost use lib.ListN.{length};
-ghost use Rattle.protocol.specs.Session as moves;
-ghost use Rattle.slices.specs.Slices.{placed, placedPolynomial};
-ghost use Rattle.sessions.specs.Records.{sessionOf};
-ghost use Rattle.sessions.specs.Promises.{StartStored, MoveStored, Answered};
-ghost use lib.IntN.{pos};
+ghost use Rattle.sessions.specs.Promises.{StartStored, MoveStored, Answered, polynomialFits, lastFits, roundOn, endOn};
 
-// A session starts at the commitment that a slice stands for. A refused start stores the closed record of zeros.
+// A session starts at the commitment in a slice.
 pub fn start(settings: Settings, commitment: &[u32], session: &mut [u32]) -> u32
     ensures { λ r. ⌜ StartStored settings (now (commitment .entry)) (now (session .entry)) r (now (session .exit)) ⌝ }
 {
-    if session.len() < 78 {
-        return 100;
+    let none = records::blank();
+    let d = settings.degree;
+    let fits = slices::both(commitment.len() == d as usize, session.len() == 78);
+    let refusal = slices::refusal(settings, fits);
+    if refusal != 0 {
+        records::store(none, session);
+        return refusal;
     }
-    let c = slices::residues(commitment);
-    let none = Session {
-        settings: settings,
-        done: 0,
-        claim: c,
-        challenges: [0u32; 8],
-        closed: true,
-    };
+    let c = slices::residues(d, commitment);
     let verifier = Verifier(none);
     let started = verifier.start(settings, c);
     let next = started.next;
@@ -37,43 +27,60 @@ pub fn start(settings: Settings, commitment: &[u32], session: &mut [u32]) -> u32
     started.number
 }
 
-// Stores what a move answers: the record where it is not refused, and the verdict.
+// Stores what a move answers: the record and the verdict where it is not refused.
 fn answer(moved: Moved, session: &mut [u32], verdict: &mut u32) -> u32
-    requires { ⌜ 78 ≤ length (now session) ⌝ }
     ensures { λ r. ⌜ Answered moved (now (session .entry)) r (now (session .exit)) (now (verdict .exit)) ⌝ }
 {
+    *verdict = 0;
+    if moved.number != 0 {
+        return moved.number;
+    }
     let said = moved.verdict;
     *verdict = slices::verdict_number(said);
-    if moved.number == 0 {
-        let next = moved.next;
-        records::store(next, session);
-    }
-    moved.number
+    let next = moved.next;
+    records::store(next, session);
+    0
 }
 
-// A round, with the polynomial that a slice stands for and the challenge X^e.
+// A round, with the polynomial in a slice and the challenge X^e.
 pub fn round(polynomial: &[u32], e: u32, session: &mut [u32], verdict: &mut u32) -> u32
-    ensures { λ r. ⌜ MoveStored (moves.move (sessionOf (now (session .entry))) (placedPolynomial (now (polynomial .entry))) e) (now (session .entry)) (now (verdict .entry)) r (now (session .exit)) (now (verdict .exit)) ⌝ }
+    ensures { λ r. ⌜ MoveStored (polynomialFits (now (polynomial .entry)) (now (session .entry))) (roundOn (now (polynomial .entry)) e (now (session .entry))) (now (session .entry)) r (now (session .exit)) (now (verdict .exit)) ⌝ }
 {
-    if session.len() < 78 {
-        return 100;
+    *verdict = 0;
+    if session.len() != 78 {
+        return 7;
     }
     let before = records::load(session);
-    let p = slices::polynomial(polynomial);
+    let settings = before.settings;
+    let d = settings.degree;
+    let fits = slices::both(polynomial.len() == 3 * (d as usize), session[5] <= 1);
+    let refusal = slices::refusal(settings, fits);
+    if refusal != 0 {
+        return refusal;
+    }
+    let p = slices::polynomial(d, polynomial);
     let verifier = Verifier(before);
     let moved = verifier.round(p, e);
     answer(moved, session, verdict)
 }
 
-// The end, with the final element that a slice stands for and the unfolded key.
+// The end, with the final element in a slice and the unfolded key.
 pub fn end(last: &[i32], key: &[u32], session: &mut [u32], verdict: &mut u32) -> u32
-    ensures { λ r. ⌜ MoveStored (moves.close (sessionOf (now (session .entry))) (placed (pos 0) (now (last .entry))) (now (key .entry))) (now (session .entry)) (now (verdict .entry)) r (now (session .exit)) (now (verdict .exit)) ⌝ }
+    ensures { λ r. ⌜ MoveStored (lastFits (now (last .entry)) (now (session .entry))) (endOn (now (last .entry)) (now (key .entry)) (now (session .entry))) (now (session .entry)) r (now (session .exit)) (now (verdict .exit)) ⌝ }
 {
-    if session.len() < 78 {
-        return 100;
+    *verdict = 0;
+    if session.len() != 78 {
+        return 7;
     }
     let before = records::load(session);
-    let f = slices::wholes(last);
+    let settings = before.settings;
+    let d = settings.degree;
+    let fits = slices::both(last.len() == d as usize, session[5] <= 1);
+    let refusal = slices::refusal(settings, fits);
+    if refusal != 0 {
+        return refusal;
+    }
+    let f = slices::wholes(d, last);
     let verifier = Verifier(before);
     let moved = verifier.end(f, key);
     answer(moved, session, verdict)

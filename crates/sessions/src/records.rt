@@ -2,13 +2,32 @@
 use protocol::Session;
 use protocol::Settings;
 ghost use mathlib.Core.Path.{_≡_};
-ghost use Prim.Native.Nat.{_+_, _<_, _≤_};
-ghost use lib.ListN.{length, getD};
-ghost use Rattle.protocol.specs.Basic.{tabulate};
+ghost use Prim.Native.Nat.{_<_};
+ghost use lib.ListN.{length};
+ghost use Rattle.protocol.specs.Session as moves;
 ghost use Rattle.sessions.specs.Records.{challengesOf, sessionOf, headOf, numberOf, recordStored};
 
+// The closed record of zeros.
+pub fn blank() -> Session
+    ensures { λ r. ⌜ r ≡ moves.blank ⌝ }
+{
+    let settings = Settings {
+        degree: 0,
+        depth: 0,
+        modulus: 0,
+        bound: 0,
+    };
+    Session {
+        settings: settings,
+        done: 0,
+        claim: [0u32; 64],
+        challenges: [0u32; 8],
+        closed: true,
+    }
+}
+
 fn challenges(t: &[u32]) -> [u32; 8]
-    requires { ⌜ 78 ≤ length (now t) ⌝ }
+    requires { ⌜ length (now t) ≡ 78 ⌝ }
     ensures { λ r. ⌜ r ≡ challengesOf (now (t .entry)) ⌝ }
 {
     let mut e = [0u32; 8];
@@ -20,9 +39,9 @@ fn challenges(t: &[u32]) -> [u32; 8]
     e
 }
 
-// The record that a slice holds; any number but 0 says that it is closed.
+// The record that a slice holds.
 pub fn load(t: &[u32]) -> Session
-    requires { ⌜ 78 ≤ length (now t) ⌝ }
+    requires { ⌜ length (now t) ≡ 78 ⌝ }
     ensures { λ r. ⌜ r ≡ sessionOf (now (t .entry)) ⌝ }
 {
     let s = Settings {
@@ -31,14 +50,14 @@ pub fn load(t: &[u32]) -> Session
         modulus: t[2],
         bound: t[3],
     };
-    let claim = slices::residues(&t[14..]);
+    let claim = slices::residues(64, &t[14..]);
     let e = challenges(t);
     Session {
         settings: s,
         done: t[4],
         claim: claim,
         challenges: e,
-        closed: t[5] != 0,
+        closed: t[5] == 1,
     }
 }
 
@@ -70,11 +89,13 @@ fn number(r: Session, k: usize) -> u32
     r.claim[k - 14]
 }
 
-// Writes a record to the front of a slice.
+// Writes a record to a slice of 78 numbers; any other stays as it is.
 pub fn store(r: Session, t: &mut [u32])
-    requires { ⌜ 78 ≤ length (now t) ⌝ }
     ensures { λ _. ⌜ now (t .exit) ≡ recordStored r (now (t .entry)) ⌝ }
 {
+    if t.len() != 78 {
+        return;
+    }
     let mut k: usize = 0;
     while k < 78 {
         t[k] = number(r, k);

@@ -1,38 +1,94 @@
--- Elements by value that stand for slices, slices that are long enough or not, and tests as numbers.
+-- Elements by value that stand for slices, and slices that elements are written to.
 use mathlib.Core.Path.{_≡_, refl, sym, ap, _∙_}
 use mathlib.Core.Bool.{Bool, true, false}
-use mathlib.Core.List.{List, append-nil}
-use Prim.Native.Nat.{ℕ, _<_, _≤_}
+use mathlib.Core.List.{List, [], _++_, append-nil, append-assoc}
+use Prim.Native.Nat.{ℕ, _+_, _*_, _/_, _%_, _≤_}
 use native.Mathlib.Nat as Nat
-use borrow.Author.Tests.{le-leb, lt-leb}
+use native.Mathlib.Omega.{arith}
 use mir.Val.{boolByte}
-use lib.Dec.{leb}
 use lib.IntN.{ℤ, pos}
-use lib.ListN.{length, getD}
-use Rattle.protocol.specs.Basic.{choose}
-use Rattle.protocol.specs.Element.{width, zeros, signedZeros, padded, paddedSigned, coefficients, signedAt}
-use Rattle.protocol.proofs.Reading.{tabulate-ext}
+use lib.ListN.{length, getD, take, drop, length-append, length-drop}
+use lib.Seq.{take-at, drop-at, drop-length, getD-take, length-take-le}
+use Rattle.protocol.specs.Basic.{tabulate, flat, choose}
+use Rattle.protocol.specs.Element.{padded, paddedSigned, coefficients, signedAt}
+use Rattle.protocol.proofs.Reading.{tabulate-length, tabulate-ext, tabulate-own, flat-suc}
 use Rattle.arithmetic.specs.Elements.{elementAt}
-use Rattle.slices.specs.Slices.{placed}
+use Rattle.arithmetic.specs.Folds.{spliced}
+use Rattle.arithmetic.proofs.Fill.{filled}
 
--- element 0 of a table with a stride of 64
-pub whole : (t : List ℕ) → elementAt 64 t 0 ≡ placed 0 t
-unfolding elementAt placed padded zeros width
-whole t = append-nil _ ∙ tabulate-ext 64 (λ k h. ap (λ n. getD t n 0) (Nat.zero-add k))
+-- a slice of d numbers is the first element of a table
+pub whole : (d : ℕ) (t : List ℕ) → length t ≡ d → elementAt d t 0 ≡ padded d t
+unfolding elementAt
+whole d t e = ap (padded d) (tabulate-ext d (λ k h. ap (λ n. getD t (n + k) 0) (Nat.zero-mul d) ∙ ap (λ n. getD t n 0) (Nat.zero-add k)) ∙ tabulate-own d t 0 e)
 
-pub whole-signed : (t : List ℤ) → paddedSigned 64 (coefficients 64 (signedAt 64 t 0)) ≡ placed (pos 0) t
-unfolding placed paddedSigned coefficients signedAt signedZeros width
-whole-signed t = append-nil _ ∙ tabulate-ext 64 (λ k h. ap (λ n. getD t n (pos 0)) (Nat.zero-add k))
+pub whole-signed : (d : ℕ) (t : List ℤ) → length t ≡ d → paddedSigned d (coefficients d (signedAt d t 0)) ≡ paddedSigned d t
+unfolding coefficients signedAt
+whole-signed d t e = ap (paddedSigned d) (tabulate-ext d (λ k h. ap (λ n. getD t (n + k) (pos 0)) (Nat.zero-mul d) ∙ ap (λ n. getD t n (pos 0)) (Nat.zero-add k)) ∙ tabulate-own d t (pos 0) e)
 
--- where a slice t is long enough for n numbers, or not
-module _ {ℓ ℓ′} {A : Type ℓ} {B : Type ℓ′} (n : ℕ) (t : List A) (x y : B) where
-  pub kept : length t < n → y ≡ choose (leb n (length t)) x y
-  unfolding choose
-  kept h = sym (ap (λ b. choose b x y) (lt-leb _ _ h))
+drop-end {ℓ} : {A : Type ℓ} (n : ℕ) (l : List A) → length l ≡ n → drop n l ≡ []
+drop-end n l e = ap (λ k. drop k l) (sym e) ∙ drop-length l
 
-  pub written : n ≤ length t → x ≡ choose (leb n (length t)) x y
-  unfolding choose
-  written h = sym (ap (λ b. choose b x y) (le-leb _ _ h))
+-- the first n places of an element, one by one
+pub first-places {ℓ} : {A : Type ℓ} (n : ℕ) (a : List A) (z : A) → n ≤ length a → tabulate n (λ k. getD a k z) ≡ take n a
+first-places n a z h = tabulate-ext n (λ k l. sym (getD-take n a k z l)) ∙ tabulate-own n (take n a) z (length-take-le n a h)
+
+-- an element that is written over a whole slice
+pub filled-whole : (d k : ℕ) (a l : List ℤ) → d ≤ length a → length l ≡ d → k ≡ d → filled (λ j. getD a j (pos 0)) k l ≡ take d a
+unfolding filled
+filled-whole d k a l h e p =
+    ap (λ n. filled (λ j. getD a j (pos 0)) n l) p ∙ (λ i. first-places d a (pos 0) h i ++ drop-end d l e i) ∙ append-nil _
+
+pub stored-whole : (d : ℕ) (a l : List ℕ) → d ≤ length a → length l ≡ d → spliced (λ k. getD a k 0) 0 d l ≡ take d a
+unfolding spliced
+stored-whole d a l h e = (λ i. first-places d a 0 h i ++ drop-end d l e i) ∙ append-nil _
+
+-- three elements that are written one after the other
+module _ (d : ℕ) (f g h : ℕ → ℕ) (l : List ℕ) (e : length l ≡ 3 * d) where
+  X : List ℕ
+  X = tabulate d f
+
+  Y : List ℕ
+  Y = tabulate d g
+
+  Z : List ℕ
+  Z = tabulate d h
+
+  R : List ℕ
+  R = drop d (drop d l)
+
+  second : spliced g d d (spliced f 0 d l) ≡ (X ++ Y) ++ R
+  unfolding spliced X Y R
+  second =
+      (λ i. take-at X (drop d l) d (tabulate-length d f) i ++ (Y ++ drop d (drop-at X (drop d l) d (tabulate-length d f) i)))
+      ∙ sym (append-assoc X Y R)
+
+  both : length (X ++ Y) ≡ 2 * d
+  unfolding X Y
+  both = length-append X Y ∙ omega (arith, tabulate-length d f, tabulate-length d g)
+
+  rest : length R ≡ d
+  unfolding R
+  rest = omega (arith, length-drop d (drop d l), length-drop d l)
+
+  pub stored-three : spliced h (2 * d) d (spliced g d d (spliced f 0 d l)) ≡ tabulate d f ++ (tabulate d g ++ tabulate d h)
+  stored-three = ap (spliced h (2 * d) d) second ∙ third
+    where
+      third : spliced h (2 * d) d ((X ++ Y) ++ R) ≡ tabulate d f ++ (tabulate d g ++ tabulate d h)
+      third = unfold spliced in unfold X in unfold Y in
+          (λ i. take-at (X ++ Y) R (2 * d) both i ++ (tabulate d h ++ drop d (drop-at (X ++ Y) R (2 * d) both i)))
+          ∙ ap (λ t. (X ++ Y) ++ (tabulate d h ++ t)) (drop-end d R rest)
+          ∙ ap (λ t. (X ++ Y) ++ t) (append-nil (tabulate d h))
+          ∙ append-assoc X Y (tabulate d h)
+
+-- the three rows of a flat table
+pub three-rows {ℓ} : {A : Type ℓ} (d : ℕ) (F : ℕ → ℕ → A) → flat d 3 F ≡ tabulate d (F 0) ++ (tabulate d (F 1) ++ tabulate d (F 2))
+three-rows d F =
+    flat-suc d 2 F
+    ∙ ap (λ t. t ++ tabulate d (F 2)) (flat-suc d 1 F ∙ ap (λ t. t ++ tabulate d (F 1)) (flat-suc d 0 F ∙ ap (λ t. t ++ tabulate d (F 0)) none))
+    ∙ append-assoc (tabulate d (F 0)) (tabulate d (F 1)) (tabulate d (F 2))
+  where
+    none : flat d 0 F ≡ []
+    none = unfold flat in unfold tabulate in ap (λ n. tabulate n (λ p. F (p / d) (p % d))) (Nat.zero-mul d)
 
 -- a test as a number
 pub as-number : (b : Bool) → boolByte b ≡ choose b 1 0

@@ -1,2 +1,4 @@
--- What the proofs of several functions use.
+-- What the proofs of several functions use, and the laws of slices.
 pub mod Elements
+pub mod Lent
+pub mod Laws

@@ -1,34 +1,38 @@
--- How the calls for C and Rust read numbers and slices.
+-- How the calls for C and Rust take and give what is passed by value elsewhere: in slices of exactly their lengths. An element is d numbers, a round
+-- polynomial 3·d numbers, its three elements one after the other.
 --
---   given d L q B          the settings with these numbers
---   placed z t             the element by value that a slice stands for: its first 64 numbers, z for each that it does not have
---   placedPolynomial t     the round polynomial that a slice stands for: three elements, 64 places each, the missing ones 0
---   verdictNumber v        a verdict as a number: 0 none, 1 holds, 2 accepted, 3 rejected
---   short                  the answer where a slice for an element or a record is too short
+--   given d L q B      the settings with these numbers
+--   lent S fits N      the refusal of a call with the settings S that N refuses by itself, and that is lent slices beside, which have their lengths or
+--                      not: 7 stands behind 3 to 6 and before all others
+--   polynomialOf d t   the round polynomial by value that the slice t stands for; the element by value is `padded d t`
+--   laid d p           the numbers of the round polynomial p; those of an element a are `take d a`
+--   verdictNumber v    a verdict as a number: 0 none, 1 holds, 2 accepted, 3 rejected
+use mathlib.Core.Bool.{Bool}
 use mathlib.Core.List.{List, [], _∷_}
 use Prim.Native.Nat.{ℕ}
 use lib.ListN.{getD}
 use Rattle.protocol.specs.declared.Settings.{Settings}
 use Rattle.protocol.specs.declared.Verdict.{Verdict}
 use Rattle.protocol.specs.declared.Verdict.the-variants.{Silent, Holds, Accepted, Rejected}
-use Rattle.protocol.specs.Basic.{tabulate}
-use Rattle.protocol.specs.Element.{width}
+use Rattle.protocol.specs.Basic.{flat, first, unless}
+use Rattle.protocol.specs.Settings.{settingsRefusal}
+use Rattle.protocol.specs.Session.{part}
 use Rattle.arithmetic.specs.Elements.{elementAt}
 
 abbrev pub given : ℕ → ℕ → ℕ → ℕ → Settings
 given d L q B = record { degree = d; depth = L; modulus = q; bound = B }
 
-unfoldable pub placed {ℓ} : {A : Type ℓ} → A → List A → List A
-placed z t = tabulate width (λ k. getD t k z)
+unfoldable pub lent : Settings → Bool → ℕ → ℕ
+lent S fits N = first (settingsRefusal S ∷ unless 7 fits ∷ N ∷ [])
 
-unfoldable pub placedPolynomial : List ℕ → List (List ℕ)
-placedPolynomial t = elementAt width t 0 ∷ elementAt width t 1 ∷ elementAt width t 2 ∷ []
+unfoldable pub polynomialOf : ℕ → List ℕ → List (List ℕ)
+polynomialOf d t = elementAt d t 0 ∷ elementAt d t 1 ∷ elementAt d t 2 ∷ []
+
+unfoldable pub laid : ℕ → List (List ℕ) → List ℕ
+laid d p = flat d 3 (λ i k. getD (part p i) k 0)
 
 unfoldable pub verdictNumber : Verdict → ℕ
 verdictNumber Silent = 0
 verdictNumber Holds = 1
 verdictNumber Accepted = 2
 verdictNumber Rejected = 3
-
-unfoldable pub short : ℕ
-short = 100

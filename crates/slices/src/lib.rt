@@ -1,32 +1,122 @@
-// Elements by value that stand for slices, and verdicts as numbers: what the calls for C and Rust share.
+// Elements and round polynomials in slices of exactly their lengths, and verdicts as numbers: what the calls for C and Rust share. Each function is safe for
+// every input, and says what it gives for a degree of at most 64 and slices that have their lengths.
 use arithmetic::elements;
+use arithmetic::tests;
+use protocol::Settings;
 use protocol::Verdict;
 ghost use mathlib.Core.Path.{_≡_};
-ghost use lib.IntN.{pos};
-ghost use Rattle.slices.specs.Slices.{placed, placedPolynomial, verdictNumber};
+ghost use mathlib.Core.Bool.{_&&_};
+ghost use Prim.Native.Nat.{_+_, _*_, _≤_};
+ghost use lib.ListN.{length, getD, take};
+ghost use Rattle.arithmetic.specs.Folds.{spliced};
+ghost use Rattle.protocol.specs.Element.{padded, paddedSigned};
+ghost use Rattle.slices.specs.Slices.{lent, polynomialOf, laid, verdictNumber};
+
+// Refusals 3 to 6, then 7 where the slices that are lent beside have not their lengths.
+pub fn refusal(settings: Settings, fits: bool) -> u32
+    ensures { λ r. ⌜ r ≡ lent settings fits 0 ⌝ }
+{
+    let number = tests::settings_refusal(settings);
+    if number != 0 {
+        return number;
+    }
+    if !fits {
+        return 7;
+    }
+    0
+}
+
+// Do two tests pass.
+pub fn both(first: bool, second: bool) -> bool
+    ensures { λ r. ⌜ r ≡ (first && second) ⌝ }
+{
+    if first {
+        return second;
+    }
+    false
+}
 
 // An element of residues.
-pub fn residues(t: &[u32]) -> [u32; 64]
-    ensures { λ r. ⌜ r ≡ placed 0 (now (t .entry)) ⌝ }
+pub fn residues(d: u32, t: &[u32]) -> [u32; 64]
+    ensures { λ r. ⌜ (d ≤ 64 → length (now (t .entry)) ≡ d → r ≡ padded d (now (t .entry))) ⌝ }
 {
-    elements::element_at(64, t, 0)
+    elements::element_at(d, t, 0)
 }
 
 // An element of whole numbers.
-pub fn wholes(t: &[i32]) -> [i32; 64]
-    ensures { λ r. ⌜ r ≡ placed (pos 0) (now (t .entry)) ⌝ }
+pub fn wholes(d: u32, t: &[i32]) -> [i32; 64]
+    ensures { λ r. ⌜ (d ≤ 64 → length (now (t .entry)) ≡ d → r ≡ paddedSigned d (now (t .entry))) ⌝ }
 {
-    elements::signed_element_at(64, t, 0)
+    elements::signed_element_at(d, t, 0)
 }
 
-// The round polynomial that a slice stands for: three elements, 64 places each.
-pub fn polynomial(t: &[u32]) -> [[u32; 64]; 3]
-    ensures { λ r. ⌜ r ≡ placedPolynomial (now (t .entry)) ⌝ }
+// A round polynomial.
+pub fn polynomial(d: u32, t: &[u32]) -> [[u32; 64]; 3]
+    ensures { λ r. ⌜ (d ≤ 64 → r ≡ polynomialOf d (now (t .entry))) ⌝ }
 {
-    let c0 = elements::element_at(64, t, 0);
-    let c1 = elements::element_at(64, t, 1);
-    let c2 = elements::element_at(64, t, 2);
+    let c0 = elements::element_at(d, t, 0);
+    let c1 = elements::element_at(d, t, 1);
+    let c2 = elements::element_at(d, t, 2);
     [c0, c1, c2]
+}
+
+// Writes the first n places of an element to a slice from place `at` on.
+fn store_at(n: usize, a: [u32; 64], at: usize, out: &mut [u32])
+    requires { ⌜ (n ≤ 64) × (at + n ≤ length (now out)) ⌝ }
+    ensures { λ _. ⌜ now (out .exit) ≡ spliced (λ k. getD a k 0) at n (now (out .entry)) ⌝ }
+{
+    let mut k: usize = 0;
+    while k < n {
+        out[at + k] = a[k];
+        k += 1;
+    }
+}
+
+// Writes the first d places of an element to a slice of d numbers.
+pub fn store_residues(d: u32, a: [u32; 64], out: &mut [u32])
+    ensures { λ _. ⌜ (d ≤ 64 → length (now (out .entry)) ≡ d → now (out .exit) ≡ take d a) ⌝ }
+{
+    let n = d as usize;
+    if n > 64 {
+        return;
+    }
+    if out.len() != n {
+        return;
+    }
+    store_at(n, a, 0, out);
+}
+
+pub fn store_wholes(d: u32, a: [i32; 64], out: &mut [i32])
+    ensures { λ _. ⌜ (d ≤ 64 → length (now (out .entry)) ≡ d → now (out .exit) ≡ take d a) ⌝ }
+{
+    let n = d as usize;
+    if n > 64 {
+        return;
+    }
+    if out.len() != n {
+        return;
+    }
+    let mut k: usize = 0;
+    while k < n {
+        out[k] = a[k];
+        k += 1;
+    }
+}
+
+// Writes the three elements of a round polynomial one after the other to a slice of 3·d numbers.
+pub fn store_polynomial(d: u32, p: [[u32; 64]; 3], out: &mut [u32])
+    ensures { λ _. ⌜ (d ≤ 64 → length (now (out .entry)) ≡ 3 * d → now (out .exit) ≡ laid d p) ⌝ }
+{
+    let n = d as usize;
+    if n > 64 {
+        return;
+    }
+    if out.len() != 3 * n {
+        return;
+    }
+    store_at(n, p[0], 0, out);
+    store_at(n, p[1], n, out);
+    store_at(n, p[2], 2 * n, out);
 }
 
 // A verdict as a number.

@@ -1,11 +1,13 @@
 -- How the calls on text for C and Rust take and give what is not a number or a slice of its own.
 --
---   partsOf n            the parts that a number of six bits names
---   settingsStored S t   the slice t after the four settings were written to its front
-use mathlib.Core.List.{List, _∷_}
+--   partsOf n          the parts that a number below 64 names
+--   partsNamed n       is it one: a bit that names no part is refusal 7
+--   settingsWidth      4
+--   settingsNumbers S  the four settings
+use mathlib.Core.Bool.{Bool}
+use mathlib.Core.List.{List, [], _∷_}
 use Prim.Native.Nat.{ℕ, _/_, _%_}
-use lib.Dec.{eqb}
-use lib.ListN.{drop}
+use lib.Dec.{eqb, ltb}
 use Rattle.protocol.specs.declared.Settings.{Settings}
 use Rattle.protocol.specs.declared.Parts.{Parts}
 
@@ -19,5 +21,11 @@ partsOf n = record {
   last = eqb (n / 32 % 2) 1;
 }
 
-unfoldable pub settingsStored : Settings → List ℕ → List ℕ
-settingsStored S t = S .degree ∷ S .depth ∷ S .modulus ∷ S .bound ∷ drop 4 t
+unfoldable pub partsNamed : ℕ → Bool
+partsNamed n = ltb n 64
+
+unfoldable pub settingsWidth : ℕ
+settingsWidth = 4
+
+unfoldable pub settingsNumbers : Settings → List ℕ
+settingsNumbers S = S .degree ∷ S .depth ∷ S .modulus ∷ S .bound ∷ []

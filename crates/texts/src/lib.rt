@@ -1,7 +1,7 @@
 // The calls on text with numbers and slices only, for C and Rust.
 //
-// Settings go to a slice of four numbers: degree, depth, modulus, bound. Where that slice is too short the answer is 100, and nothing is written; numbers
-// behind them stay. Which of parts 1 to 6 are there is a number of six bits: bit 0 is the key, bit 5 the final element.
+// Settings go to a slice of four numbers: degree, depth, modulus, bound. Which of parts 1 to 6 are there is a number below 64: bit 0 is the key, bit 5 the
+// final element. A refused call writes nothing to a slice.
 mod settings;
 
 use protocol::Parts;
@@ -9,12 +9,15 @@ use protocol::Settings;
 use protocol::Verdict;
 use protocol::Verified;
 ghost use mathlib.Core.Path.{_≡_};
+ghost use mathlib.Core.List.{[], _∷_};
 ghost use Rattle.shapes.specs.Parts.{six};
+ghost use Rattle.protocol.specs.Basic.{first};
+ghost use Rattle.protocol.specs.Text.{lookRefusal};
 ghost use Rattle.protocol.specs.Programs.{checked, verifyAnswer};
 ghost use Rattle.texts.specs.Texts.{partsOf};
 ghost use Rattle.texts.specs.Promises.{Looked, ReadStored, WroteStored, Verdicts, ProvedStored};
 
-// The parts that a number names; bits from bit 6 on are not read.
+// The parts that a number names.
 fn parts_of(bits: u32) -> Parts
     ensures { λ r. ⌜ r ≡ partsOf bits ⌝ }
 {
@@ -32,12 +35,26 @@ fn parts_of(bits: u32) -> Parts
 pub fn look(text: &[u8], settings: &mut [u32]) -> u32
     ensures { λ r. ⌜ Looked (now (text .entry)) (now (settings .entry)) r (now (settings .exit)) ⌝ }
 {
-    if settings.len() < 4 {
-        return 100;
-    }
     let loaded = tables::look(text);
+    if loaded.number != 0 {
+        return loaded.number;
+    }
+    if settings.len() != 4 {
+        return 7;
+    }
     settings::store(loaded.settings, settings);
-    loaded.number
+    0
+}
+
+// The refusal of a text for which slices are lent that have not their lengths.
+fn refused(text: &[u8]) -> u32
+    ensures { λ r. ⌜ r ≡ first (lookRefusal (now (text .entry)) ∷ 7 ∷ []) ⌝ }
+{
+    let loaded = tables::look(text);
+    if loaded.number != 0 {
+        return loaded.number;
+    }
+    7
 }
 
 // The table reader.
@@ -52,10 +69,10 @@ pub fn read(
     challenges: &mut [u32],
     last: &mut [i32],
 ) -> u32
-    ensures { λ r. ⌜ ReadStored (partsOf parts) (now (text .entry)) (now (settings .entry)) (six (now (key .entry)) (now (message .entry)) (now (commitment .entry)) (now (rounds .entry)) (now (challenges .entry)) (now (last .entry))) r (now (settings .exit)) (six (now (key .exit)) (now (message .exit)) (now (commitment .exit)) (now (rounds .exit)) (now (challenges .exit)) (now (last .exit))) ⌝ }
+    ensures { λ r. ⌜ ReadStored parts (now (text .entry)) (now (settings .entry)) (six (now (key .entry)) (now (message .entry)) (now (commitment .entry)) (now (rounds .entry)) (now (challenges .entry)) (now (last .entry))) r (now (settings .exit)) (six (now (key .exit)) (now (message .exit)) (now (commitment .exit)) (now (rounds .exit)) (now (challenges .exit)) (now (last .exit))) ⌝ }
 {
-    if settings.len() < 4 {
-        return 100;
+    if !slices::both(settings.len() == 4, parts < 64) {
+        return refused(text);
     }
     let there = parts_of(parts);
     let loaded = reading::read(
@@ -68,8 +85,11 @@ pub fn read(
         challenges,
         last,
     );
+    if loaded.number != 0 {
+        return loaded.number;
+    }
     settings::store(loaded.settings, settings);
-    loaded.number
+    0
 }
 
 // The table writer. The length of the text goes to `count`.
@@ -85,8 +105,13 @@ pub fn write(
     out: &mut [u8],
     count: &mut usize,
 ) -> u32
-    ensures { λ r. ⌜ WroteStored settings (partsOf parts) (six (now (key .entry)) (now (message .entry)) (now (commitment .entry)) (now (rounds .entry)) (now (challenges .entry)) (now (last .entry))) (now (out .entry)) r (now (out .exit)) (now (count .exit)) ⌝ }
+    ensures { λ r. ⌜ WroteStored settings parts (six (now (key .entry)) (now (message .entry)) (now (commitment .entry)) (now (rounds .entry)) (now (challenges .entry)) (now (last .entry))) (now (out .entry)) r (now (out .exit)) (now (count .exit)) ⌝ }
 {
+    let refusal = slices::refusal(settings, parts < 64);
+    if refusal != 0 {
+        *count = 0;
+        return refusal;
+    }
     let there = parts_of(parts);
     let written = writing::write(
         settings,

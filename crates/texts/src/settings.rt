@@ -1,14 +1,13 @@
 // Settings that are written to slices.
 use protocol::Settings;
 ghost use mathlib.Core.Path.{_≡_};
-ghost use Prim.Native.Nat.{_≤_};
 ghost use lib.ListN.{length};
-ghost use Rattle.texts.specs.Texts.{settingsStored};
+ghost use Rattle.texts.specs.Texts.{settingsNumbers};
 
-// Writes the four numbers to the front of a slice.
+// Writes the four numbers to a slice.
 pub fn store(s: Settings, out: &mut [u32])
-    requires { ⌜ 4 ≤ length (now out) ⌝ }
-    ensures { λ _. ⌜ now (out .exit) ≡ settingsStored s (now (out .entry)) ⌝ }
+    requires { ⌜ length (now out) ≡ 4 ⌝ }
+    ensures { λ _. ⌜ now (out .exit) ≡ settingsNumbers s ⌝ }
 {
     out[0] = s.degree;
     out[1] = s.depth;

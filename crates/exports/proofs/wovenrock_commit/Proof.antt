@@ -1,19 +1,43 @@
-use mathlib.Core.Path.{ap, _∙_}
+use mathlib.Core.Path.{sym, ap, _∙_}
+use borrow.Author.Tests.{eqb-true}
+use lib.ListN.{take}
 use Rattle.protocol.specs.declared.Committed.{Committed}
-use Rattle.protocol.specs.Element.{width}
+use Rattle.protocol.specs.Settings.{sized}
+use Rattle.protocol.specs.Calls.{commitAnswer}
+use Rattle.slices.specs.Slices.{given}
+use Rattle.slices.proofs.Lent.{lent-fits, lent-degree}
+use Rattle.exports.specs.Border.{commitNumber, commitExit}
+use Rattle.exports.proofs.Answers.{unfit, refused, made}
 use borrow.Author.Needs.{needs}
-use Rattle.slices.specs.Slices.{short}
-use Rattle.exports.specs.Storing.{stored}
-use Rattle.slices.proofs.Elements.{kept, written}
 use Rattle.exports.proofs.wovenrock_commit.Statement.{statement}
 use Rattle.exports.proofs.wovenrock_commit.Tie as tie
 
+refusal-requires : tie.Need-refusal-requires
+refusal-requires c κs = search needs
+
 returns : tie.Need-returns
-unfolding short width
-returns c = let a = c .before .before .before .args in record { number = kept width (a .commitment .now) _ _ (c .if1 .taken); commitment-exit = kept width (a .commitment .now) _ _ (c .if1 .taken) }
+unfolding commitNumber commitExit sized
+returns c =
+    let a = c .before .before .before .before .args in
+    let S = given (a .degree) (a .depth) (a .modulus) (a .bound) in
+    let answer = commitAnswer S (a .key .now) (a .message .now) in
+    let (p, q) = unfit S (sized (a .degree) (a .commitment .now)) (answer .number) (take (a .degree) (answer .commitment)) (a .commitment .now) _ (c .before .refusal .ensures) (c .if1 .taken) in
+    record { number = p; commitment-exit = q }
 
 commit-requires : tie.Need-commit-requires
 commit-requires c κs = search needs
+
+returns-2 : tie.Need-returns-2
+unfolding commitNumber commitExit sized
+returns-2 c =
+    let a = c .before .before .before .before .before .before .before .args in
+    let S = given (a .degree) (a .depth) (a .modulus) (a .bound) in
+    let answer = commitAnswer S (a .key .now) (a .message .now) in
+    let same = ap (λ (r : Committed). r .number) (c .before .before .commit .ensures) in
+    let (p, q) =
+    refused S (sized (a .degree) (a .commitment .now)) (answer .number) (take (a .degree) (answer .commitment)) (a .commitment .now) _ (c .before .before .before .before .refusal .ensures) (c .before .before .before .if1 .left)
+    _ same (c .if2 .taken) in
+    record { number = p; commitment-exit = q }
 
 store-residues-requires : tie.Need-store-residues-requires
 store-residues-requires c κs = search needs
@@ -21,17 +45,30 @@ store-residues-requires c κs = search needs
 same-length : tie.Need-same-length
 same-length c = search needs
 
-returns-2 : tie.Need-returns-2
-unfolding width
-returns-2 c =
-    let e = c .before .before .before .before .before in
-    let t = e .before .before .before .before .args .commitment .now in
-    let long = e .before .if1 .left in
-    record {
-      number = ap (λ (r : Committed). r .number) (e .commit .ensures) ∙ written width t _ _ long;
-      commitment-exit = c .before .before .store-residues .ensures ∙ ap (λ (r : Committed). stored 0 (r .commitment) t) (e .commit .ensures) ∙ written width t _ _ long;
-    }
+returns-3 : tie.Need-returns-3
+unfolding commitNumber commitExit sized
+returns-3 c =
+    let a = c .before .before .before .before .before .before .before .before .before .before .before .before .args in
+    let S = given (a .degree) (a .depth) (a .modulus) (a .bound) in
+    let answer = commitAnswer S (a .key .now) (a .message .now) in
+    let given-answer = c .before .before .before .before .before .before .before .commit .ensures in
+    let border = c .before .before .before .before .before .before .before .before .before .refusal .ensures in
+    let nothing = c .before .before .before .before .before .before .before .before .if1 .left in
+    let passed = sym border ∙ nothing in
+    let stored = c .before .before .store-residues .ensures (lent-degree S _ passed) (eqb-true _ _ (lent-fits S _ passed)) in
+    let (p, q) =
+    made S (sized (a .degree) (a .commitment .now)) (answer .number) (take (a .degree) (answer .commitment)) (a .commitment .now) _ border nothing
+    _ (ap (λ (r : Committed). r .number) given-answer) (c .before .before .before .before .before .if2 .left) _ (stored ∙ ap (λ (r : Committed). take (a .degree) (r .commitment)) given-answer) in
+    record { number = p; commitment-exit = q }
 
 pub wovenrock-commit-spec : {M : Type 1} → statement M
 wovenrock-commit-spec =
-    tie.close (tie.spec returns commit-requires store-residues-requires same-length returns-2)
+    tie.close
+    (tie.spec
+    refusal-requires
+    returns
+    commit-requires
+    returns-2
+    store-residues-requires
+    same-length
+    returns-3)

@@ -1,20 +1,43 @@
-use mathlib.Core.Path.{ap, _∙_}
-use lib.IntN.{pos}
+use mathlib.Core.Path.{sym, ap, _∙_}
+use borrow.Author.Tests.{eqb-true}
+use lib.ListN.{take}
 use Rattle.protocol.specs.declared.Ended.{Ended}
-use Rattle.protocol.specs.Element.{width}
+use Rattle.protocol.specs.Settings.{sized}
+use Rattle.protocol.specs.Calls.{endAnswer}
+use Rattle.slices.specs.Slices.{given}
+use Rattle.slices.proofs.Lent.{lent-fits, lent-degree}
+use Rattle.exports.specs.Border.{endNumber, endExit}
+use Rattle.exports.proofs.Answers.{unfit, refused, made}
 use borrow.Author.Needs.{needs}
-use Rattle.slices.specs.Slices.{short}
-use Rattle.exports.specs.Storing.{stored}
-use Rattle.slices.proofs.Elements.{kept, written}
 use Rattle.exports.proofs.wovenrock_end.Statement.{statement}
 use Rattle.exports.proofs.wovenrock_end.Tie as tie
 
+refusal-requires : tie.Need-refusal-requires
+refusal-requires c κs = search needs
+
 returns : tie.Need-returns
-unfolding short width
-returns c = let a = c .before .args in record { number = kept width (a .last .now) _ _ (c .if1 .taken); last-exit = kept width (a .last .now) _ _ (c .if1 .taken) }
+unfolding endNumber endExit sized
+returns c =
+    let a = c .before .before .args in
+    let S = given (a .degree) (a .depth) (a .modulus) (a .bound) in
+    let answer = endAnswer S (a .done) (a .message .now) in
+    let (p, q) = unfit S (sized (a .degree) (a .last .now)) (answer .number) (take (a .degree) (answer .last)) (a .last .now) _ (c .before .refusal .ensures) (c .if1 .taken) in
+    record { number = p; last-exit = q }
 
 end-requires : tie.Need-end-requires
 end-requires c κs = search needs
+
+returns-2 : tie.Need-returns-2
+unfolding endNumber endExit sized
+returns-2 c =
+    let a = c .before .before .before .before .before .args in
+    let S = given (a .degree) (a .depth) (a .modulus) (a .bound) in
+    let answer = endAnswer S (a .done) (a .message .now) in
+    let same = ap (λ (r : Ended). r .number) (c .before .before .end .ensures) in
+    let (p, q) =
+    refused S (sized (a .degree) (a .last .now)) (answer .number) (take (a .degree) (answer .last)) (a .last .now) _ (c .before .before .before .before .refusal .ensures) (c .before .before .before .if1 .left)
+    _ same (c .if2 .taken) in
+    record { number = p; last-exit = q }
 
 store-wholes-requires : tie.Need-store-wholes-requires
 store-wholes-requires c κs = search needs
@@ -22,17 +45,30 @@ store-wholes-requires c κs = search needs
 same-length : tie.Need-same-length
 same-length c = search needs
 
-returns-2 : tie.Need-returns-2
-unfolding width
-returns-2 c =
-    let e = c .before .before .before .before in
-    let t = e .before .before .args .last .now in
-    let long = e .before .if1 .left in
-    record {
-      number = ap (λ (r : Ended). r .number) (e .end .ensures) ∙ written width t _ _ long;
-      last-exit = c .before .store-wholes .ensures ∙ ap (λ (r : Ended). stored (pos 0) (r .last) t) (e .end .ensures) ∙ written width t _ _ long;
-    }
+returns-3 : tie.Need-returns-3
+unfolding endNumber endExit sized
+returns-3 c =
+    let a = c .before .before .before .before .before .before .before .before .before .args in
+    let S = given (a .degree) (a .depth) (a .modulus) (a .bound) in
+    let answer = endAnswer S (a .done) (a .message .now) in
+    let given-answer = c .before .before .before .before .before .before .end .ensures in
+    let border = c .before .before .before .before .before .before .before .before .refusal .ensures in
+    let nothing = c .before .before .before .before .before .before .before .if1 .left in
+    let passed = sym border ∙ nothing in
+    let stored = c .before .store-wholes .ensures (lent-degree S _ passed) (eqb-true _ _ (lent-fits S _ passed)) in
+    let (p, q) =
+    made S (sized (a .degree) (a .last .now)) (answer .number) (take (a .degree) (answer .last)) (a .last .now) _ border nothing
+    _ (ap (λ (r : Ended). r .number) given-answer) (c .before .before .before .before .if2 .left) _ (stored ∙ ap (λ (r : Ended). take (a .degree) (r .last)) given-answer) in
+    record { number = p; last-exit = q }
 
 pub wovenrock-end-spec : {M : Type 1} → statement M
 wovenrock-end-spec =
-    tie.close (tie.spec returns end-requires store-wholes-requires same-length returns-2)
+    tie.close
+    (tie.spec
+    refusal-requires
+    returns
+    end-requires
+    returns-2
+    store-wholes-requires
+    same-length
+    returns-3)

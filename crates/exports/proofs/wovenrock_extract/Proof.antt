@@ -1,9 +1,29 @@
-use mathlib.Core.Path.{ap, _∙_}
-use Rattle.protocol.specs.Calls.{extractRefusal, extractExit}
+use mathlib.Core.Path.{sym, ap, _∙_}
+use borrow.Author.Tests.{eqb-true}
+use Rattle.protocol.specs.Element.{padded}
+use Rattle.protocol.specs.Settings.{sized}
+use Rattle.protocol.specs.Calls as Calls
 use Rattle.slices.specs.Slices.{given}
+use Rattle.slices.proofs.Lent.{lent-passes, lent-fits, lent-degree}
+use Rattle.exports.specs.Border.{extractNumber, extractExit}
+use Rattle.exports.proofs.Answers.{unfit, through}
 use borrow.Author.Needs.{needs}
 use Rattle.exports.proofs.wovenrock_extract.Statement.{statement}
 use Rattle.exports.proofs.wovenrock_extract.Tie as tie
+
+refusal-requires : tie.Need-refusal-requires
+refusal-requires c κs = search needs
+
+returns : tie.Need-returns
+unfolding extractNumber extractExit sized
+returns c =
+    let a = c .before .before .before .before .before .before .args in
+    let S = given (a .degree) (a .depth) (a .modulus) (a .bound) in
+    let C = padded (a .degree) (a .commitment .now) in
+    let N = Calls.extractRefusal S C (a .key .now) (a .rounds .now) (a .challenges .now) (a .leaves .now) (a .w .now) in
+    let exit = Calls.extractExit S C (a .key .now) (a .rounds .now) (a .challenges .now) (a .leaves .now) (a .w .now) in
+    let (p, q) = unfit S (sized (a .degree) (a .commitment .now)) N exit (a .w .now) _ (c .before .refusal .ensures) (c .if1 .taken) in
+    record { number = p; w-exit = q }
 
 residues-requires : tie.Need-residues-requires
 residues-requires c κs = search needs
@@ -14,17 +34,24 @@ extract-requires c κs = search needs
 same-length : tie.Need-same-length
 same-length c = search needs
 
-returns : tie.Need-returns
-returns c =
-    let a = c .before .before .before .before .before .before .before .before .args in
+returns-2 : tie.Need-returns-2
+unfolding extractNumber extractExit Calls.extractExit sized
+returns-2 c =
+    let a = c .before .before .before .before .before .before .before .before .before .before .args in
     let S = given (a .degree) (a .depth) (a .modulus) (a .bound) in
-    let commitment = c .before .before .before .residues .ensures in
+    let fits = sized (a .degree) (a .commitment .now) in
+    let border = c .before .before .before .before .before .refusal .ensures in
+    let nothing = c .before .before .before .before .if1 .left in
+    let passed = sym border ∙ nothing in
+    let commitment = c .before .before .before .residues .ensures (lent-degree S _ passed) (eqb-true _ _ (lent-fits S _ passed)) in
     let answer = c .before .extract .ensures in
+    let N = Calls.extractRefusal S (padded (a .degree) (a .commitment .now)) (a .key .now) (a .rounds .now) (a .challenges .now) (a .leaves .now) (a .w .now) in
     record {
-      number = answer .number ∙ ap (λ C. extractRefusal S C (a .key .now) (a .rounds .now) (a .challenges .now) (a .leaves .now) (a .w .now)) commitment;
-      w-exit = answer .w-exit ∙ ap (λ C. extractExit S C (a .key .now) (a .rounds .now) (a .challenges .now) (a .leaves .now) (a .w .now)) commitment;
+      number = answer .number ∙ ap (λ C. Calls.extractRefusal S C (a .key .now) (a .rounds .now) (a .challenges .now) (a .leaves .now) (a .w .now)) commitment ∙ lent-passes S fits N passed;
+      w-exit = answer .w-exit ∙ ap (λ C. Calls.extractExit S C (a .key .now) (a .rounds .now) (a .challenges .now) (a .leaves .now) (a .w .now)) commitment ∙ through S fits N _ _ _ border nothing;
     }
 
 pub wovenrock-extract-spec : {M : Type 1} → statement M
 wovenrock-extract-spec =
-    tie.close (tie.spec residues-requires extract-requires same-length returns)
+    tie.close
+    (tie.spec refusal-requires returns residues-requires extract-requires same-length returns-2)

@@ -1,12 +1,31 @@
-use mathlib.Core.Path.{ap, _∙_}
+use mathlib.Core.Path.{sym, ap, _∙_}
+use Prim.Native.Nat.{ℕ}
+use borrow.Author.Tests.{eqb-true}
 use Rattle.protocol.specs.declared.Judged.{Judged}
 use Rattle.protocol.specs.Basic.{choose}
-use Rattle.protocol.specs.Calls.{judgeAnswer}
+use Rattle.protocol.specs.Element.{padded}
+use Rattle.protocol.specs.Settings.{sized}
+use Rattle.protocol.specs.Calls.{judgeRefusal, judgeAnswer}
 use Rattle.slices.specs.Slices.{given}
 use Rattle.slices.proofs.Elements.{as-number}
+use Rattle.slices.proofs.Lent.{lent-passes, lent-fits, lent-degree}
+use Rattle.exports.specs.Border.{judgeNumber, judgeYes}
+use Rattle.exports.proofs.Answers.{unfit, agrees}
 use borrow.Author.Needs.{needs}
 use Rattle.exports.proofs.wovenrock_judge.Statement.{statement}
 use Rattle.exports.proofs.wovenrock_judge.Tie as tie
+
+refusal-requires : tie.Need-refusal-requires
+refusal-requires c κs = search needs
+
+returns : tie.Need-returns
+unfolding judgeNumber judgeYes sized
+returns c =
+    let a = c .before .before .before .before .args in
+    let S = given (a .degree) (a .depth) (a .modulus) (a .bound) in
+    let answer = judgeAnswer S (padded (a .degree) (a .commitment .now)) (a .slack) (a .key .now) (a .w .now) in
+    let (p, q) = unfit {A = ℕ} S (sized (a .degree) (a .commitment .now)) (answer .number) (choose (answer .yes) 1 0) 0 _ (c .before .refusal .ensures) (c .if1 .taken) in
+    record { number = p; yes-exit = q }
 
 residues-requires : tie.Need-residues-requires
 residues-requires c κs = search needs
@@ -17,16 +36,24 @@ judge-requires c κs = search needs
 cast-yes : tie.Need-cast-yes
 cast-yes c = search needs
 
-returns : tie.Need-returns
-returns c =
-    let a = c .before .before .before .before .before .args in
-    let answer =
-    c .before .judge .ensures
-    ∙ ap (λ C. judgeAnswer (given (a .degree) (a .depth) (a .modulus) (a .bound)) C (a .slack) (a .key .now) (a .w .now)) (c .before .before .residues .ensures) in
+returns-2 : tie.Need-returns-2
+unfolding judgeNumber judgeYes judgeAnswer sized
+returns-2 c =
+    let a = c .before .before .before .before .before .before .before .args in
+    let S = given (a .degree) (a .depth) (a .modulus) (a .bound) in
+    let fits = sized (a .degree) (a .commitment .now) in
+    let border = c .before .before .before .before .refusal .ensures in
+    let nothing = c .before .before .before .if1 .left in
+    let passed = sym border ∙ nothing in
+    let commitment = c .before .before .residues .ensures (lent-degree S _ passed) (eqb-true _ _ (lent-fits S _ passed)) in
+    let answer = c .before .judge .ensures ∙ ap (λ C. judgeAnswer S C (a .slack) (a .key .now) (a .w .now)) commitment in
+    let N = judgeRefusal S (padded (a .degree) (a .commitment .now)) (a .slack) (a .key .now) (a .w .now) in
     record {
-      number = ap (λ (r : Judged). r .number) answer;
-      yes-exit = as-number (c .before .judge .result .yes) ∙ ap (λ (r : Judged). choose (r .yes) 1 0) answer;
+      number = ap (λ (r : Judged). r .number) answer ∙ lent-passes S fits N passed;
+      yes-exit = as-number (c .before .judge .result .yes) ∙ ap (λ (r : Judged). choose (r .yes) 1 0) answer ∙ agrees S fits N _ _ border nothing;
     }
 
 pub wovenrock-judge-spec : {M : Type 1} → statement M
-wovenrock-judge-spec = tie.close (tie.spec residues-requires judge-requires cast-yes returns)
+wovenrock-judge-spec =
+    tie.close
+    (tie.spec refusal-requires returns residues-requires judge-requires cast-yes returns-2)

@@ -1,29 +1,29 @@
-use Rattle.exports.proofs.Openings.{first-short, second-short, both-long, opening-short, opening-stored}
+use mathlib.Core.Path.{sym, ap, _∙_}
+use borrow.Author.Tests.{eqb-true}
+use Rattle.protocol.specs.Settings.{sized}
+use Rattle.protocol.proofs.Tests.{and-split}
+use Rattle.slices.specs.Slices.{given, lent}
+use Rattle.slices.proofs.Lent.{lent-fits, lent-degree}
+use Rattle.exports.proofs.Answers.{open-unfit, open-refused, open-made}
 use borrow.Author.Needs.{needs}
 use Rattle.exports.proofs.wovenrock_open.Statement.{statement}
 use Rattle.exports.proofs.wovenrock_open.Tie as tie
 
-returns : tie.Need-returns
-returns c =
-    let a = c .before .before .before .before .before .args in
-    opening-short (a .commitment .now) (a .last .now) _ _ _ _ _ (a .verdict .now) (first-short (a .commitment .now) (a .last .now) (c .if1 .taken))
+both-requires : tie.Need-both-requires
+both-requires c κs = search needs
 
-returns-2 : tie.Need-returns-2
-returns-2 c =
-    let a = c .before .before .before .before .before .before .args in
-    opening-short (a .commitment .now) (a .last .now) _ _ _ _ _ (a .verdict .now) (second-short (a .commitment .now) (a .last .now) (c .before .if1 .left) (c .if2 .taken))
+refusal-requires : tie.Need-refusal-requires
+refusal-requires c κs = search needs
+
+returns : tie.Need-returns
+unfolding sized
+returns c =
+    let a = c .before .before .before .before .before .before .before .args in
+    let S = given (a .degree) (a .depth) (a .modulus) (a .bound) in
+    open-unfit S (a .key .now) (a .message .now) (a .challenges .now) (a .rounds .now) (a .commitment .now) (a .last .now) _ (c .before .refusal .ensures ∙ ap (λ b. lent S b 0) (c .before .before .both .ensures)) (c .if1 .taken)
 
 open-requires : tie.Need-open-requires
 open-requires c κs = search needs
-
-store-residues-requires : tie.Need-store-residues-requires
-store-residues-requires c κs = search needs
-
-store-wholes-requires : tie.Need-store-wholes-requires
-store-wholes-requires c κs = search needs
-
-verdict-number-requires : tie.Need-verdict-number-requires
-verdict-number-requires c κs = search needs
 
 same-length : tie.Need-same-length
 same-length c = search needs
@@ -34,33 +34,68 @@ same-length-2 c = search needs
 same-length-3 : tie.Need-same-length-3
 same-length-3 c = search needs
 
+returns-2 : tie.Need-returns-2
+unfolding sized
+returns-2 c =
+    let a = c .before .before .before .before .before .before .before .before .before .before .before .before .before .before .before .before .before .before .args in
+    let S = given (a .degree) (a .depth) (a .modulus) (a .bound) in
+    open-refused S (a .key .now) (a .message .now) (a .challenges .now) (a .rounds .now) (a .commitment .now) (a .last .now) _ (c .before .before .before .before .before .before .before .before .before .before .before .before .refusal .ensures ∙ ap (λ b. lent S b 0) (c .before .before .before .before .before .before .before .before .before .before .before .before .before .both .ensures)) (c .before .before .before .before .before .before .before .before .before .before .before .if1 .left) _ _ _ _ (c .before .before .before .before .before .before .before .«open» .ensures) (c .if2 .taken)
+
+store-residues-requires : tie.Need-store-residues-requires
+store-residues-requires c κs = search needs
+
+store-wholes-requires : tie.Need-store-wholes-requires
+store-wholes-requires c κs = search needs
+
+verdict-number-requires : tie.Need-verdict-number-requires
+verdict-number-requires c κs = search needs
+
 same-length-4 : tie.Need-same-length-4
 same-length-4 c = search needs
 
 same-length-5 : tie.Need-same-length-5
 same-length-5 c = search needs
 
+same-length-6 : tie.Need-same-length-6
+same-length-6 c = search needs
+
+same-length-7 : tie.Need-same-length-7
+same-length-7 c = search needs
+
+same-length-8 : tie.Need-same-length-8
+same-length-8 c = search needs
+
 returns-3 : tie.Need-returns-3
+unfolding sized
 returns-3 c =
-    let o = c .before .before .before .before .before .before .before .before .before .before .before .before .before .before .before in
-    let e = o .before .before .before .before in
-    let a = e .before .before .before .before .before .before .args in
-    opening-stored (a .commitment .now) (a .last .now) _ _ _ _ _ (a .verdict .now) (o .«open» .result) _ _ _ _ _ _
-    (both-long (a .commitment .now) (a .last .now) (e .before .if1 .left) (e .if2 .left)) (o .«open» .ensures) (c .before .before .before .before .before .before .before .store-residues .ensures) (c .before .before .store-wholes .ensures) (c .verdict-number .ensures)
+    let a = c .before .before .before .before .before .before .before .before .before .before .before .before .before .before .before .before .before .before .before .before .before .before .before .before .before .before .before .before .args in
+    let S = given (a .degree) (a .depth) (a .modulus) (a .bound) in
+    let border = c .before .before .before .before .before .before .before .before .before .before .before .before .before .before .before .before .before .before .before .before .before .before .refusal .ensures in
+    let both = c .before .before .before .before .before .before .before .before .before .before .before .before .before .before .before .before .before .before .before .before .before .before .before .both .ensures in
+    let nothing = c .before .before .before .before .before .before .before .before .before .before .before .before .before .before .before .before .before .before .before .before .before .if1 .left in
+    let small = lent-degree S _ (sym border ∙ nothing) in
+    let (c-long, f-long) = and-split (sym both ∙ lent-fits S _ (sym border ∙ nothing)) in
+    open-made S (a .key .now) (a .message .now) (a .challenges .now) (a .rounds .now) (a .commitment .now) (a .last .now) _ (border ∙ ap (λ b. lent S b 0) both) nothing _ _ _ _ (c .before .before .before .before .before .before .before .before .before .before .before .before .before .before .before .before .before .«open» .ensures) (c .before .before .before .before .before .before .before .before .before .before .if2 .left) _ _ _
+    (c .before .before .before .before .before .before .before .store-residues .ensures small (eqb-true _ _ c-long)) (c .before .before .store-wholes .ensures small (eqb-true _ _ f-long)) (c .verdict-number .ensures)
 
 pub wovenrock-open-spec : {M : Type 1} → statement M
 wovenrock-open-spec =
     tie.close
     (tie.spec
+    both-requires
+    refusal-requires
     returns
-    returns-2
     open-requires
-    store-residues-requires
-    store-wholes-requires
-    verdict-number-requires
     same-length
     same-length-2
     same-length-3
+    returns-2
+    store-residues-requires
+    store-wholes-requires
+    verdict-number-requires
     same-length-4
     same-length-5
+    same-length-6
+    same-length-7
+    same-length-8
     returns-3)

@@ -1,7 +1,10 @@
-use Rattle.sessions.proofs.Answers.{move-refused, move-done}
+use Rattle.sessions.proofs.Answers.{answer-refused, answer-made}
 use borrow.Author.Needs.{needs}
 use Rattle.sessions.proofs.answer.Statement.{statement}
 use Rattle.sessions.proofs.answer.Tie as tie
+
+returns : tie.Need-returns
+returns c = let a = c .before .before .before .args in answer-refused (a .moved) (a .session .now) (c .if1 .taken)
 
 verdict-number-requires : tie.Need-verdict-number-requires
 verdict-number-requires c κs = search needs
@@ -12,15 +15,11 @@ store-requires c κs = search needs
 same-length : tie.Need-same-length
 same-length c = search needs
 
-returns : tie.Need-returns
-returns c =
-    let v = c .before .before .before .before .before .before .before in
-    let a = v .before .before .args in
-    move-done (a .moved) (a .session .now) _ (v .verdict-number .ensures) _ (c .before .before .before .before .before .if1 .taken) (c .before .before .store .ensures)
-
 returns-2 : tie.Need-returns-2
-returns-2 c = let a = c .before .before .before .before .args in move-refused (a .moved) (a .session .now) _ (c .before .before .verdict-number .ensures) (c .if1 .left)
+returns-2 c =
+    let a = c .before .before .before .before .before .before .before .before .before .args in
+    answer-made (a .moved) (a .session .now) _ _ (c .before .before .before .before .before .before .if1 .left) (c .before .before .store .ensures) (c .before .before .before .before .before .verdict-number .ensures)
 
 pub answer-spec : {M : Type 1} → statement M
 answer-spec =
-    tie.close (tie.spec verdict-number-requires store-requires same-length returns returns-2)
+    tie.close (tie.spec returns verdict-number-requires store-requires same-length returns-2)

@@ -1,15 +1,52 @@
-use mathlib.Core.Path.{_∙_}
+use mathlib.Core.Path.{sym, ap, _∙_}
+use mathlib.Core.Bool.{_&&_}
+use borrow.Author.Tests.{eqb-true}
+use lib.Dec.{eqb, leb}
+use lib.ListN.{length, getD}
+use Rattle.protocol.specs.declared.Session.{Session}
+use Rattle.protocol.specs.Element.{paddedSigned}
+use Rattle.protocol.specs.Settings.{sized}
 use Rattle.protocol.specs.Session.{close}
-use Rattle.sessions.proofs.Answers.{move-short, move-stored}
+use Rattle.protocol.proofs.Tests.{and-split}
+use Rattle.slices.specs.Slices.{lent}
+use Rattle.slices.proofs.Lent.{lent-fits, lent-degree}
+use Rattle.sessions.specs.Records.{flagged}
+use Rattle.sessions.specs.Promises.{lastFits, endOn}
+use Rattle.sessions.proofs.Answers.{move-nowhere, move-refused, move-made}
 use borrow.Author.Needs.{needs}
 use Rattle.sessions.proofs.end.Statement.{statement}
 use Rattle.sessions.proofs.end.Tie as tie
 
 returns : tie.Need-returns
-returns c = let a = c .before .before .before .args in move-short (a .session .now) (c .if1 .taken) _ (a .verdict .now)
+returns c = move-nowhere _ _ (c .before .before .before .args .session .now) (c .if1 .taken)
 
 load-requires : tie.Need-load-requires
 load-requires c κs = search needs
+
+cast-both : tie.Need-cast-both
+cast-both c = search needs
+
+slice-read-both : tie.Need-slice-read-both
+slice-read-both c = search needs
+
+both-requires : tie.Need-both-requires
+both-requires c κs = search needs
+
+refusal-requires : tie.Need-refusal-requires
+refusal-requires c κs = search needs
+
+same-length : tie.Need-same-length
+same-length c = search needs
+
+returns-2 : tie.Need-returns-2
+unfolding lastFits flagged sized
+returns-2 c =
+    let a = c .before .before .before .before .before .before .before .before .before .before .args in
+    let loaded = c .before .before .before .before .before .load in
+    let lengths =
+    ap (λ b. lent (loaded .result .settings) b 0) (c .before .before .both .ensures)
+    ∙ ap (λ (s : Session). lent (s .settings) (eqb (length (a .last .now)) (s .settings .degree) && leb (getD (a .session .now) 5 0) 1) 0) (loaded .ensures) in
+    move-refused _ _ (a .session .now) (c .before .before .before .before .before .before .before .if1 .left) _ (c .before .refusal .ensures ∙ lengths) (c .if2 .taken)
 
 wholes-requires : tie.Need-wholes-requires
 wholes-requires c κs = search needs
@@ -20,16 +57,26 @@ end-requires c κs = search needs
 answer-requires : tie.Need-answer-requires
 answer-requires c κs = search needs
 
-same-length : tie.Need-same-length
-same-length c = search needs
+same-length-2 : tie.Need-same-length-2
+same-length-2 c = search needs
 
-returns-2 : tie.Need-returns-2
-returns-2 c =
-    let e = c .before .before .before .before .before in
-    let a = e .before .before .before .before .before .before .before .args in
-    let loaded = e .before .before .load .ensures in
-    let last = e .before .wholes .ensures in
-    move-stored (a .session .now) (e .before .before .before .before .if1 .left) _ _ (a .verdict .now) _ _ _ (e .end .ensures .0 ∙ (λ i. close (loaded i) (last i) (a .key .now))) (c .before .before .answer .ensures)
+returns-3 : tie.Need-returns-3
+unfolding lastFits endOn flagged sized
+returns-3 c =
+    let a = c .before .before .before .before .before .before .before .before .before .before .before .before .before .before .before .before .before .args in
+    let loaded = c .before .before .before .before .before .before .before .before .before .before .before .before .load in
+    let refusal = c .before .before .before .before .before .before .before .before .refusal in
+    let nothing = c .before .before .before .before .before .before .before .if2 .left in
+    let both = c .before .before .before .before .before .before .before .before .before .both in
+    let lengths =
+    ap (λ b. lent (loaded .result .settings) b 0) (both .ensures)
+    ∙ ap (λ (s : Session). lent (s .settings) (eqb (length (a .last .now)) (s .settings .degree) && leb (getD (a .session .now) 5 0) 1) 0) (loaded .ensures) in
+    let passed = sym (refusal .ensures) ∙ nothing in
+    let long = eqb-true _ _ (and-split (sym (both .ensures) ∙ lent-fits (loaded .result .settings) _ passed) .0) in
+    let element = c .before .before .before .before .before .before .wholes .ensures (lent-degree (loaded .result .settings) _ passed) long in
+    move-made _ _ (a .session .now) (c .before .before .before .before .before .before .before .before .before .before .before .before .before .before .if1 .left) _ (refusal .ensures ∙ lengths) nothing _ _ _ _
+    (c .before .before .before .before .before .end .ensures .0 ∙ ap (λ f. close (loaded .result) f (a .key .now)) element ∙ ap (λ (s : Session). close s (paddedSigned (s .settings .degree) (a .last .now)) (a .key .now)) (loaded .ensures))
+    (c .before .before .answer .ensures)
 
 pub end-spec : {M : Type 1} → statement M
 end-spec =
@@ -37,8 +84,14 @@ end-spec =
     (tie.spec
     returns
     load-requires
+    cast-both
+    slice-read-both
+    both-requires
+    refusal-requires
+    same-length
+    returns-2
     wholes-requires
     end-requires
     answer-requires
-    same-length
-    returns-2)
+    same-length-2
+    returns-3)

@@ -1,15 +1,53 @@
-use mathlib.Core.Path.{_∙_}
+use mathlib.Core.Path.{sym, ap, _∙_}
+use mathlib.Core.Bool.{_&&_}
+use Prim.Native.Nat.{_*_}
+use lib.Dec.{eqb, leb}
+use lib.ListN.{length, getD}
+use Rattle.protocol.specs.declared.Session.{Session}
+use Rattle.protocol.specs.Settings.{sized}
 use Rattle.protocol.specs.Session.{move}
-use Rattle.sessions.proofs.Answers.{move-short, move-stored}
+use Rattle.slices.specs.Slices.{lent, polynomialOf}
+use Rattle.slices.proofs.Lent.{lent-degree}
+use Rattle.sessions.specs.Records.{flagged}
+use Rattle.sessions.specs.Promises.{polynomialFits, roundOn}
+use Rattle.sessions.proofs.Answers.{move-nowhere, move-refused, move-made}
 use borrow.Author.Needs.{needs}
 use Rattle.sessions.proofs.round.Statement.{statement}
 use Rattle.sessions.proofs.round.Tie as tie
 
 returns : tie.Need-returns
-returns c = let a = c .before .before .before .args in move-short (a .session .now) (c .if1 .taken) _ (a .verdict .now)
+returns c = move-nowhere _ _ (c .before .before .before .args .session .now) (c .if1 .taken)
 
 load-requires : tie.Need-load-requires
 load-requires c κs = search needs
+
+cast-both : tie.Need-cast-both
+cast-both c = search needs
+
+mul-both : tie.Need-mul-both
+mul-both c = search needs
+
+slice-read-both : tie.Need-slice-read-both
+slice-read-both c = search needs
+
+both-requires : tie.Need-both-requires
+both-requires c κs = search needs
+
+refusal-requires : tie.Need-refusal-requires
+refusal-requires c κs = search needs
+
+same-length : tie.Need-same-length
+same-length c = search needs
+
+returns-2 : tie.Need-returns-2
+unfolding polynomialFits flagged sized
+returns-2 c =
+    let a = c .before .before .before .before .before .before .before .before .before .before .args in
+    let loaded = c .before .before .before .before .before .load in
+    let lengths =
+    ap (λ b. lent (loaded .result .settings) b 0) (c .before .before .both .ensures)
+    ∙ ap (λ (s : Session). lent (s .settings) (eqb (length (a .polynomial .now)) (3 * s .settings .degree) && leb (getD (a .session .now) 5 0) 1) 0) (loaded .ensures) in
+    move-refused _ _ (a .session .now) (c .before .before .before .before .before .before .before .if1 .left) _ (c .before .refusal .ensures ∙ lengths) (c .if2 .taken)
 
 polynomial-requires : tie.Need-polynomial-requires
 polynomial-requires c κs = search needs
@@ -20,16 +58,23 @@ round-requires c κs = search needs
 answer-requires : tie.Need-answer-requires
 answer-requires c κs = search needs
 
-same-length : tie.Need-same-length
-same-length c = search needs
+same-length-2 : tie.Need-same-length-2
+same-length-2 c = search needs
 
-returns-2 : tie.Need-returns-2
-returns-2 c =
-    let e = c .before .before .before .before .before in
-    let a = e .before .before .before .before .before .before .before .args in
-    let loaded = e .before .before .load .ensures in
-    let polynomial = e .before .polynomial .ensures in
-    move-stored (a .session .now) (e .before .before .before .before .if1 .left) _ _ (a .verdict .now) _ _ _ (e .round .ensures .0 ∙ (λ i. move (loaded i) (polynomial i) (a .e))) (c .before .before .answer .ensures)
+returns-3 : tie.Need-returns-3
+unfolding polynomialFits roundOn flagged sized
+returns-3 c =
+    let a = c .before .before .before .before .before .before .before .before .before .before .before .before .before .before .before .before .before .args in
+    let loaded = c .before .before .before .before .before .before .before .before .before .before .before .before .load in
+    let refusal = c .before .before .before .before .before .before .before .before .refusal in
+    let nothing = c .before .before .before .before .before .before .before .if2 .left in
+    let lengths =
+    ap (λ b. lent (loaded .result .settings) b 0) (c .before .before .before .before .before .before .before .before .before .both .ensures)
+    ∙ ap (λ (s : Session). lent (s .settings) (eqb (length (a .polynomial .now)) (3 * s .settings .degree) && leb (getD (a .session .now) 5 0) 1) 0) (loaded .ensures) in
+    let elements = c .before .before .before .before .before .before .polynomial .ensures (lent-degree (loaded .result .settings) _ (sym (refusal .ensures) ∙ nothing)) in
+    move-made _ _ (a .session .now) (c .before .before .before .before .before .before .before .before .before .before .before .before .before .before .if1 .left) _ (refusal .ensures ∙ lengths) nothing _ _ _ _
+    (c .before .before .before .before .before .round .ensures .0 ∙ ap (λ p. move (loaded .result) p (a .e)) elements ∙ ap (λ (s : Session). move s (polynomialOf (s .settings .degree) (a .polynomial .now)) (a .e)) (loaded .ensures))
+    (c .before .before .answer .ensures)
 
 pub round-spec : {M : Type 1} → statement M
 round-spec =
@@ -37,8 +82,15 @@ round-spec =
     (tie.spec
     returns
     load-requires
+    cast-both
+    mul-both
+    slice-read-both
+    both-requires
+    refusal-requires
+    same-length
+    returns-2
     polynomial-requires
     round-requires
     answer-requires
-    same-length
-    returns-2)
+    same-length-2
+    returns-3)

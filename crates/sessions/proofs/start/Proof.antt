@@ -1,16 +1,23 @@
-use Rattle.sessions.proofs.Answers.{start-short, start-stored}
+use mathlib.Core.Path.{ap, _∙_}
+use Rattle.protocol.specs.Settings.{sized}
+use Rattle.slices.specs.Slices.{lent}
+use Rattle.sessions.specs.Records.{recordWidth}
+use Rattle.sessions.proofs.Answers.{start-refused, start-made}
 use borrow.Author.Needs.{needs}
 use Rattle.sessions.proofs.start.Statement.{statement}
 use Rattle.sessions.proofs.start.Tie as tie
 
-returns : tie.Need-returns
-returns c = let a = c .before .before .before .args in start-short (a .session .now) (c .if1 .taken) (a .settings) (a .commitment .now)
+blank-requires : tie.Need-blank-requires
+blank-requires c κs = search needs
 
-residues-requires : tie.Need-residues-requires
-residues-requires c κs = search needs
+cast-both : tie.Need-cast-both
+cast-both c = search needs
 
-start-requires : tie.Need-start-requires
-start-requires c κs = search needs
+both-requires : tie.Need-both-requires
+both-requires c κs = search needs
+
+refusal-requires : tie.Need-refusal-requires
+refusal-requires c κs = search needs
 
 store-requires : tie.Need-store-requires
 store-requires c κs = search needs
@@ -18,13 +25,45 @@ store-requires c κs = search needs
 same-length : tie.Need-same-length
 same-length c = search needs
 
+returns : tie.Need-returns
+unfolding sized recordWidth
+returns c =
+    let a = c .before .before .before .before .before .before .before .before .before .before .args in
+    let lengths = ap (λ b. lent (a .settings) b 0) (c .before .before .before .before .before .before .both .ensures) in
+    start-refused (a .settings) (a .commitment .now) (a .session .now) _ (c .before .before .before .before .before .refusal .ensures ∙ lengths) _ _ (c .before .before .before .before .if1 .taken) (c .before .before .before .before .before .before .before .blank .ensures) (c .before .before .store .ensures)
+
+residues-requires : tie.Need-residues-requires
+residues-requires c κs = search needs
+
+start-requires : tie.Need-start-requires
+start-requires c κs = search needs
+
+store-requires-2 : tie.Need-store-requires-2
+store-requires-2 c κs = search needs
+
+same-length-2 : tie.Need-same-length-2
+same-length-2 c = search needs
+
 returns-2 : tie.Need-returns-2
+unfolding sized recordWidth
 returns-2 c =
-    let e = c .before .before .before .before .before in
-    let a = e .before .before .before .before .before .args in
-    start-stored (a .session .now) (e .before .before .if1 .left) (a .settings) (a .commitment .now) _ _ _ (e .before .residues .ensures) (e .start .ensures) (c .before .before .store .ensures)
+    let a = c .before .before .before .before .before .before .before .before .before .before .before .before .before .args in
+    let lengths = ap (λ b. lent (a .settings) b 0) (c .before .before .before .before .before .before .before .before .before .both .ensures) in
+    start-made (a .settings) (a .commitment .now) (a .session .now) _ (c .before .before .before .before .before .before .before .before .refusal .ensures ∙ lengths) _ _ _ (c .before .before .before .before .before .before .before .if1 .left) (c .before .before .before .before .before .before .residues .ensures) (c .before .before .before .before .before .start .ensures) (c .before .before .store2 .ensures)
 
 pub start-spec : {M : Type 1} → statement M
 start-spec =
     tie.close
-    (tie.spec returns residues-requires start-requires store-requires same-length returns-2)
+    (tie.spec
+    blank-requires
+    cast-both
+    both-requires
+    refusal-requires
+    store-requires
+    same-length
+    returns
+    residues-requires
+    start-requires
+    store-requires-2
+    same-length-2
+    returns-2)

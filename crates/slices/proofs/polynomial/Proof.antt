@@ -1,7 +1,5 @@
 use mathlib.Core.List.{[], _∷_}
-use native.Mathlib.Omega.{arith}
-use Rattle.protocol.specs.Element.{width}
-use Rattle.slices.specs.Slices.{placedPolynomial}
+use Rattle.slices.specs.Slices.{polynomialOf}
 use borrow.Author.Needs.{needs}
 use Rattle.slices.proofs.polynomial.Statement.{statement}
 use Rattle.slices.proofs.polynomial.Tie as tie
@@ -16,11 +14,11 @@ element-at-requires-3 : tie.Need-element-at-requires-3
 element-at-requires-3 c κs = search needs
 
 returns : tie.Need-returns
-unfolding placedPolynomial width
-returns c =
-    let c0 = c .before .before .element-at .ensures (omega arith) in
-    let c1 = c .before .element-at2 .ensures (omega arith) in
-    let c2 = c .element-at3 .ensures (omega arith) in
+unfolding polynomialOf
+returns c = λ h.
+    let c0 = c .before .before .element-at .ensures h in
+    let c1 = c .before .element-at2 .ensures h in
+    let c2 = c .element-at3 .ensures h in
     λ i. c0 i ∷ c1 i ∷ c2 i ∷ []
 
 pub polynomial-spec : {M : Type 1} → statement M

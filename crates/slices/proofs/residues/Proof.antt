@@ -1,4 +1,3 @@
-use native.Mathlib.Omega.{arith}
 use mathlib.Core.Path.{_∙_}
 use Rattle.slices.proofs.Elements.{whole}
 use borrow.Author.Needs.{needs}
@@ -9,7 +8,7 @@ element-at-requires : tie.Need-element-at-requires
 element-at-requires c κs = search needs
 
 returns : tie.Need-returns
-returns c = c .element-at .ensures (omega arith) ∙ whole (c .before .before .args .t .now)
+returns c = λ h e. c .element-at .ensures h ∙ whole _ (c .before .before .args .t .now) e
 
 pub residues-spec : {M : Type 1} → statement M
 residues-spec = tie.close (tie.spec element-at-requires returns)

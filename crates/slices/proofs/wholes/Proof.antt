@@ -1,4 +1,3 @@
-use native.Mathlib.Omega.{arith}
 use mathlib.Core.Path.{_∙_}
 use Rattle.slices.proofs.Elements.{whole-signed}
 use borrow.Author.Needs.{needs}
@@ -9,7 +8,7 @@ signed-element-at-requires : tie.Need-signed-element-at-requires
 signed-element-at-requires c κs = search needs
 
 returns : tie.Need-returns
-returns c = c .signed-element-at .ensures (omega arith) ∙ whole-signed (c .before .args .t .now)
+returns c = λ h e. c .signed-element-at .ensures h ∙ whole-signed _ (c .before .args .t .now) e
 
 pub wholes-spec : {M : Type 1} → statement M
 wholes-spec = tie.close (tie.spec signed-element-at-requires returns)

@@ -1,18 +1,16 @@
-use mathlib.Core.Path.{ap, _∙_}
-use Rattle.protocol.specs.declared.Loaded.{Loaded}
-use Rattle.slices.specs.Slices.{short}
-use Rattle.slices.proofs.Elements.{kept, written}
-use Rattle.texts.specs.Texts.{settingsStored}
+use Rattle.texts.proofs.Answers.{look-refused, look-unfit, look-made}
 use borrow.Author.Needs.{needs}
 use Rattle.texts.proofs.look.Statement.{statement}
 use Rattle.texts.proofs.look.Tie as tie
 
-returns : tie.Need-returns
-unfolding short
-returns c = let t = c .before .before .before .args .settings .now in record { number = kept 4 t _ _ (c .if1 .taken); settings-exit = kept 4 t _ _ (c .if1 .taken) }
-
 look-requires : tie.Need-look-requires
 look-requires c κs = search needs
+
+returns : tie.Need-returns
+returns c = let a = c .before .before .before .before .before .args in look-refused (a .text .now) _ (c .before .before .look .ensures) (a .settings .now) (c .if1 .taken)
+
+returns-2 : tie.Need-returns-2
+returns-2 c = let a = c .before .before .before .before .before .before .args in look-unfit (a .text .now) _ (c .before .before .before .look .ensures) (a .settings .now) (c .before .if1 .left) (c .if2 .taken)
 
 store-requires : tie.Need-store-requires
 store-requires c κs = search needs
@@ -20,15 +18,9 @@ store-requires c κs = search needs
 same-length : tie.Need-same-length
 same-length c = search needs
 
-returns-2 : tie.Need-returns-2
-returns-2 c =
-    let e = c .before .before .before .before in
-    let t = e .before .before .before .before .args .settings .now in
-    let long = e .before .if1 .left in
-    record {
-      number = ap (λ (r : Loaded). r .number) (e .look .ensures) ∙ written 4 t _ _ long;
-      settings-exit = c .before .before .store .ensures ∙ ap (λ (r : Loaded). settingsStored (r .settings) t) (e .look .ensures) ∙ written 4 t _ _ long;
-    }
+returns-3 : tie.Need-returns-3
+returns-3 c = let a = c .before .before .before .before .before .before .before .before .before .before .args in look-made (a .text .now) _ (c .before .before .before .before .before .before .before .look .ensures) (a .settings .now) (c .before .before .before .before .before .if1 .left) (c .before .before .before .before .if2 .left) _ (c .before .before .store .ensures)
 
 pub look-spec : {M : Type 1} → statement M
-look-spec = tie.close (tie.spec returns look-requires store-requires same-length returns-2)
+look-spec =
+    tie.close (tie.spec look-requires returns returns-2 store-requires same-length returns-3)

@@ -1,29 +1,32 @@
-use mathlib.Core.Path.{ap, _∙_}
-use Rattle.protocol.specs.declared.Loaded.{Loaded}
-use Rattle.protocol.specs.Text.{readAnswer, readExit}
+use mathlib.Core.Path.{_≡_, sym, _∙_}
+use borrow.Author.Tests.{not-true, not-false, eqb-true}
+use lib.ListN.{length}
+use Rattle.protocol.specs.Settings.{sized}
+use Rattle.protocol.proofs.Tests.{and-split}
 use Rattle.shapes.specs.Parts.{six}
-use Rattle.slices.specs.Slices.{short}
-use Rattle.slices.proofs.Elements.{kept, written}
-use Rattle.texts.specs.Texts.{settingsStored}
+use Rattle.texts.specs.Texts.{partsNamed, settingsWidth}
+use Rattle.texts.proofs.Answers.{read-unfit, read-refused, read-made}
 use borrow.Author.Needs.{needs}
 use Rattle.texts.proofs.read.Statement.{statement}
 use Rattle.texts.proofs.read.Tie as tie
 
+both-requires : tie.Need-both-requires
+both-requires c κs = search needs
+
+refused-requires : tie.Need-refused-requires
+refused-requires c κs = search needs
+
 returns : tie.Need-returns
-unfolding short
+unfolding sized settingsWidth partsNamed
 returns c =
-    let t = c .before .before .before .before .before .before .before .args .settings .now in
-    let small = c .if1 .taken in
-    record { number = kept 4 t _ _ small; settings-exit = kept 4 t _ _ small; tables-exit = kept 4 t _ _ small }
+    let a = c .before .before .before .before .before .before .before .before .before .args in
+    read-unfit (a .parts) (a .text .now) (a .settings .now) (six (a .key .now) (a .message .now) (a .commitment .now) (a .rounds .now) (a .challenges .now) (a .last .now)) _ (c .refused .ensures) (sym (c .before .before .both .ensures) ∙ not-true _ (c .before .if1 .taken))
 
 parts-of-requires : tie.Need-parts-of-requires
 parts-of-requires c κs = search needs
 
 read-requires : tie.Need-read-requires
 read-requires c κs = search needs
-
-store-requires : tie.Need-store-requires
-store-requires c κs = search needs
 
 same-length : tie.Need-same-length
 same-length c = search needs
@@ -43,37 +46,66 @@ same-length-5 c = search needs
 same-length-6 : tie.Need-same-length-6
 same-length-6 c = search needs
 
+returns-2 : tie.Need-returns-2
+unfolding sized settingsWidth partsNamed
+returns-2 c =
+    let a = c .before .before .before .before .before .before .before .before .before .before .before .before .before .before .before .before .before .before .before .before .before .before .before .before .before .before .before .before .args in
+    read-refused (a .parts) (a .text .now) (a .settings .now) (six (a .key .now) (a .message .now) (a .commitment .now) (a .rounds .now) (a .challenges .now) (a .last .now))
+    (sym (c .before .before .before .before .before .before .before .before .before .before .before .before .before .before .before .before .before .before .before .before .before .both .ensures) ∙ not-false _ (c .before .before .before .before .before .before .before .before .before .before .before .before .before .before .before .before .before .before .before .before .if1 .left)) _ (c .before .before .before .before .before .before .before .before .before .before .before .before .before .before .before .before .before .before .before .parts-of .ensures) _ _ (c .before .before .before .before .before .before .before .before .before .before .before .before .read .ensures) (c .if2 .taken)
+
+store-requires : tie.Need-store-requires
+store-requires c κs = eqb-true _ _ (and-split (sym (c .before .before .before .before .before .before .before .before .before .before .before .before .before .before .before .before .before .before .before .before .before .before .both .ensures) ∙ not-false _ (c .before .before .before .before .before .before .before .before .before .before .before .before .before .before .before .before .before .before .before .before .before .if1 .left)) .0)
+
 same-length-7 : tie.Need-same-length-7
 same-length-7 c = search needs
 
-returns-2 : tie.Need-returns-2
-returns-2 c =
-    let e = c .before .before .before .before .before .before .before .before .before .before .before .before .before .before in
-    let a = c .before .before .before .before .before .before .before .before .before .before .before .before .before .before .before .before .before .before .before .before .before .before .before .before .before .before .before .before .before .args in
-    let t = a .settings .now in
-    let tables = six (a .key .now) (a .message .now) (a .commitment .now) (a .rounds .now) (a .challenges .now) (a .last .now) in
-    let long = e .before .before .before .before .before .before .before .before .if1 .left in
-    let there = e .before .before .before .before .before .before .before .parts-of .ensures in
-    let answer = e .read .ensures .answer ∙ ap (λ P. readAnswer P (a .text .now) tables) there in
-    record {
-      number = ap (λ (r : Loaded). r .number) answer ∙ written 4 t _ _ long;
-      settings-exit = c .before .before .store .ensures ∙ ap (λ (r : Loaded). settingsStored (r .settings) t) answer ∙ written 4 t _ _ long;
-      tables-exit = e .read .ensures .tables-exit ∙ ap (λ P. readExit P (a .text .now) tables) there ∙ written 4 t _ _ long;
-    }
+same-length-8 : tie.Need-same-length-8
+same-length-8 c = search needs
+
+same-length-9 : tie.Need-same-length-9
+same-length-9 c = search needs
+
+same-length-10 : tie.Need-same-length-10
+same-length-10 c = search needs
+
+same-length-11 : tie.Need-same-length-11
+same-length-11 c = search needs
+
+same-length-12 : tie.Need-same-length-12
+same-length-12 c = search needs
+
+same-length-13 : tie.Need-same-length-13
+same-length-13 c = search needs
+
+returns-3 : tie.Need-returns-3
+unfolding sized settingsWidth partsNamed
+returns-3 c =
+    let a = c .before .before .before .before .before .before .before .before .before .before .before .before .before .before .before .before .before .before .before .before .before .before .before .before .before .before .before .before .before .before .before .before .args in
+    read-made (a .parts) (a .text .now) (a .settings .now) (six (a .key .now) (a .message .now) (a .commitment .now) (a .rounds .now) (a .challenges .now) (a .last .now))
+    (sym (c .before .before .before .before .before .before .before .before .before .before .before .before .before .before .before .before .before .before .before .before .before .before .before .before .before .both .ensures) ∙ not-false _ (c .before .before .before .before .before .before .before .before .before .before .before .before .before .before .before .before .before .before .before .before .before .before .before .before .if1 .left)) _ (c .before .before .before .before .before .before .before .before .before .before .before .before .before .before .before .before .before .before .before .before .before .before .before .parts-of .ensures) _ _ (c .before .before .before .before .before .before .before .before .before .before .before .before .before .before .before .before .read .ensures) (c .before .before .before .before .if2 .left) _ (c .before .before .store .ensures)
 
 pub read-spec : {M : Type 1} → statement M
 read-spec =
     tie.close
     (tie.spec
+    both-requires
+    refused-requires
     returns
     parts-of-requires
     read-requires
-    store-requires
     same-length
     same-length-2
     same-length-3
     same-length-4
     same-length-5
     same-length-6
+    returns-2
+    store-requires
     same-length-7
-    returns-2)
+    same-length-8
+    same-length-9
+    same-length-10
+    same-length-11
+    same-length-12
+    same-length-13
+    returns-3)

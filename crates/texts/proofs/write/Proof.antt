@@ -1,10 +1,18 @@
-use mathlib.Core.Path.{ap, _∙_}
-use Rattle.protocol.specs.declared.Written.{Written}
-use Rattle.protocol.specs.Text.{writeAnswer, writeExit}
 use Rattle.shapes.specs.Parts.{six}
+use Rattle.texts.specs.Texts.{partsNamed}
+use Rattle.texts.proofs.Answers.{write-unfit, write-made}
 use borrow.Author.Needs.{needs}
 use Rattle.texts.proofs.write.Statement.{statement}
 use Rattle.texts.proofs.write.Tie as tie
+
+refusal-requires : tie.Need-refusal-requires
+refusal-requires c κs = search needs
+
+returns : tie.Need-returns
+unfolding partsNamed
+returns c =
+    let a = c .before .before .before .before .before .before .before .args in
+    write-unfit (a .settings) (a .parts) (six (a .key .now) (a .message .now) (a .commitment .now) (a .rounds .now) (a .challenges .now) (a .last .now)) (a .out .now) _ (c .before .refusal .ensures) (c .if1 .taken)
 
 parts-of-requires : tie.Need-parts-of-requires
 parts-of-requires c κs = search needs
@@ -15,18 +23,13 @@ write-requires c κs = search needs
 same-length : tie.Need-same-length
 same-length c = search needs
 
-returns : tie.Need-returns
-returns c =
-    let e = c .before .before in
-    let a = e .before .before .before .before .before .before .before .before .args in
-    let there = e .before .before .parts-of .ensures in
-    let t = six (a .key .now) (a .message .now) (a .commitment .now) (a .rounds .now) (a .challenges .now) (a .last .now) in
-    let answer = e .write .ensures .answer ∙ ap (λ P. writeAnswer (a .settings) P t (a .out .now)) there in
-    record {
-      number = ap (λ (r : Written). r .number) answer;
-      out-exit = e .write .ensures .out-exit ∙ ap (λ P. writeExit (a .settings) P t (a .out .now)) there;
-      count-exit = ap (λ (r : Written). r .count) answer;
-    }
+returns-2 : tie.Need-returns-2
+unfolding partsNamed
+returns-2 c =
+    let a = c .before .before .before .before .before .before .before .before .before .before .before .before .args in
+    write-made (a .settings) (a .parts) (six (a .key .now) (a .message .now) (a .commitment .now) (a .rounds .now) (a .challenges .now) (a .last .now)) (a .out .now) _ (c .before .before .before .before .before .before .refusal .ensures) (c .before .before .before .before .before .if1 .left) _ (c .before .before .before .before .parts-of .ensures) _ _ (c .before .before .write .ensures)
 
 pub write-spec : {M : Type 1} → statement M
-write-spec = tie.close (tie.spec parts-of-requires write-requires same-length returns)
+write-spec =
+    tie.close
+    (tie.spec refusal-requires returns parts-of-requires write-requires same-length returns-2)

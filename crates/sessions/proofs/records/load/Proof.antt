@@ -1,19 +1,13 @@
-use mathlib.Core.Path.{_≡_, ap, _∙_}
-use mathlib.Core.Bool.{not}
-use mathlib.Core.List.{List}
-use Prim.Native.Nat.{ℕ, _-_}
+use mathlib.Core.Path.{_∙_}
 use native.Mathlib.Omega.{arith}
 use lib.Dec.{eqb}
-use lib.ListN.{length, getD, take, drop, length-drop}
-use lib.Seq.{take-all}
-use Rattle.slices.specs.Slices.{given, placed}
+use lib.ListN.{getD}
+use Rattle.slices.specs.Slices.{given}
 use Rattle.sessions.specs.Records.{sessionOf}
+use Rattle.sessions.proofs.Stored.{part-length, claim-read}
 use borrow.Author.Needs.{needs}
 use Rattle.sessions.proofs.records.load.Statement.{statement}
 use Rattle.sessions.proofs.records.load.Tie as tie
-
-rest : (t : List ℕ) → take (length t - 14) (drop 14 t) ≡ drop 14 t
-rest t = take-all (length t - 14) (drop 14 t) (omega (arith, length-drop 14 t))
 
 shared-slice-read-t6 : tie.Need-shared-slice-read-t6
 shared-slice-read-t6 c = search needs
@@ -52,14 +46,14 @@ returns : tie.Need-returns
 unfolding sessionOf
 returns c =
     let t = c .before .before .before .before .before .before .before .before .before .before .args .t .now in
-    let claim = c .before .before .before .residues .ensures ∙ ap (placed 0) (rest t) in
+    let claim = c .before .before .before .residues .ensures (omega arith) (omega (arith, part-length t)) ∙ claim-read t (omega arith) in
     let challenges = c .before .before .challenges .ensures in
     λ i. record {
       settings = given (getD t 0 0) (getD t 1 0) (getD t 2 0) (getD t 3 0);
       done = getD t 4 0;
       claim = claim i;
       challenges = challenges i;
-      closed = not (eqb (getD t 5 0) 0);
+      closed = eqb (getD t 5 0) 1;
     }
 
 pub load-spec : {M : Type 1} → statement M

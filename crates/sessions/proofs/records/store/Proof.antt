@@ -4,22 +4,26 @@ use Prim.Native.Nat.{_-_, _≤_}
 use native.Mathlib.Omega.{arith}
 use lib.ListN.{length, set}
 use Rattle.arithmetic.proofs.Fill.{filled, filled-none, filled-more, filled-length}
-use Rattle.sessions.specs.Records.{recordWidth, numberOf, recordStored}
+use Rattle.sessions.specs.Records.{numberOf}
+use Rattle.sessions.proofs.Stored.{stays, filled-stored}
 use borrow.Author.Needs.{needs}
 use Rattle.sessions.proofs.records.store.Statement.{statement}
 use Rattle.sessions.proofs.records.store.Tie as tie
 
 abbrev Inv-loop : tie.InvT-loop
-Inv-loop r t₀ k₀ t k = (k ≤ 78) × (78 ≤ length t₀) × (t ≡ filled (numberOf r) k t₀)
+Inv-loop r t₀ k₀ t k = (k ≤ 78) × (length t₀ ≡ 78) × (t ≡ filled (numberOf r) k t₀)
 
 abbrev μ-loop : tie.MeasureT-loop
 μ-loop r t₀ k₀ t k = 78 - k
 
-long : (c : tie.At-loop Inv-loop μ-loop) → length (c .loop .t) ≡ length (c .before .before .args .t .now)
-long c = ap length (c .loop .inv .2) ∙ filled-length (numberOf (c .before .before .args .r)) (c .loop .k) (c .before .before .args .t .now) (omega arith)
+long : (c : tie.At-loop Inv-loop μ-loop) → length (c .loop .t) ≡ length (c .before .before .before .args .t .now)
+long c = let a = c .before .before .before .args in ap length (c .loop .inv .2) ∙ filled-length (numberOf (a .r)) (c .loop .k) (a .t .now) (omega arith)
+
+returns : tie.Need-returns Inv-loop μ-loop
+returns c = let a = c .before .before .args in stays (a .r) (a .t .now) (c .if1 .taken)
 
 loop-holds : tie.Need-loop-holds Inv-loop μ-loop
-loop-holds c = (omega arith, omega arith, filled-none _ _)
+loop-holds c = (omega arith, c .if1 .left, filled-none _ _)
 
 number-requires : tie.Need-number-requires Inv-loop μ-loop
 number-requires c κs = search needs
@@ -39,18 +43,17 @@ loop-less c = search needs
 loop-again : tie.Need-loop-again Inv-loop μ-loop
 loop-again c =
     let l = c .before .before .loop in
-    let a = c .before .before .before .before .args in
-    (omega arith, omega arith, (λ i. set (l .inv .2 i) (l .k) (c .number .ensures i)) ∙ filled-more (numberOf (a .r)) (l .k) (a .t .now) (omega arith))
+    let a = c .before .before .before .before .before .args in
+    (omega arith, l .inv .1, (λ i. set (l .inv .2 i) (l .k) (c .number .ensures i)) ∙ filled-more (numberOf (a .r)) (l .k) (a .t .now) (omega (arith, l .inv .1)))
 
 same-length : tie.Need-same-length Inv-loop μ-loop
 same-length c = long (c .before)
 
-returns : tie.Need-returns Inv-loop μ-loop
-unfolding recordStored recordWidth filled
-returns c =
+returns-2 : tie.Need-returns-2 Inv-loop μ-loop
+returns-2 c =
     let l = c .before .loop in
-    let a = c .before .before .before .args in
-    l .inv .2 ∙ ap (λ n. filled (numberOf (a .r)) n (a .t .now)) (omega arith)
+    let a = c .before .before .before .before .args in
+    l .inv .2 ∙ filled-stored (a .r) (l .k) (a .t .now) (l .inv .1) (omega arith)
 
 pub store-spec : {M : Type 1} → statement M
 store-spec =
@@ -58,6 +61,7 @@ store-spec =
     (tie.spec
     Inv-loop
     μ-loop
+    returns
     loop-holds
     number-requires
     mul-t
@@ -66,4 +70,4 @@ store-spec =
     loop-less
     loop-again
     same-length
-    returns)
+    returns-2)

@@ -1,6 +1,6 @@
 use native.Mathlib.Omega.{arith}
 use lib.ListN.{length-set}
-use Rattle.texts.specs.Texts.{settingsStored}
+use Rattle.texts.specs.Texts.{settingsNumbers}
 use Rattle.texts.proofs.Front.{front}
 use borrow.Author.Needs.{needs}
 use Rattle.texts.proofs.settings.store.Statement.{statement}
@@ -22,7 +22,7 @@ same-length : tie.Need-same-length
 same-length c = search needs
 
 returns : tie.Need-returns
-unfolding settingsStored
+unfolding settingsNumbers
 returns c = let a = c .args in front (a .s .degree) (a .s .depth) (a .s .modulus) (a .s .bound) (a .out .now) (c .pre)
 
 pub store-spec : {M : Type 1} → statement M

@@ -3,27 +3,25 @@ use mathlib.Core.Path.{_≡_, ap, _∙_}
 use Prim.Native.Nat.{ℕ, _+_, _-_, _≤_}
 use native.Mathlib.Omega.{arith}
 use lib.ListN.{length, getD, set}
-use Rattle.protocol.specs.Element.{width}
 use Rattle.arithmetic.specs.Folds.{spliced}
 use Rattle.arithmetic.proofs.Splice.{spliced-none, spliced-more, spliced-length}
-use Rattle.exports.specs.Storing.{storedAt}
 use borrow.Author.Needs.{needs}
-use Rattle.exports.proofs.storing.store_at.Statement.{statement}
-use Rattle.exports.proofs.storing.store_at.Tie as tie
+use Rattle.slices.proofs.store_at.Statement.{statement}
+use Rattle.slices.proofs.store_at.Tie as tie
 
 abbrev Inv-loop : tie.InvT-loop
-Inv-loop at out₀ a k₀ out k = (k ≤ 64) × (at + 64 ≤ length out₀) × (out ≡ spliced (λ (j : ℕ). getD a j 0) at k out₀)
+Inv-loop n at out₀ a k₀ out k = (n ≤ 64) × (k ≤ n) × (at + n ≤ length out₀) × (out ≡ spliced (λ (j : ℕ). getD a j 0) at k out₀)
 
 abbrev μ-loop : tie.MeasureT-loop
-μ-loop at out₀ a k₀ out k = 64 - k
+μ-loop n at out₀ a k₀ out k = n - k
 
 long : (c : tie.At-loop Inv-loop μ-loop) → length (c .loop .out) ≡ length (c .before .args .out .now)
 long c =
     let a = c .before .args in
-    ap length (c .loop .inv .2) ∙ spliced-length (λ (j : ℕ). getD (a .t1) j 0) (a .at) (c .loop .k) (a .out .now) (omega arith) (omega arith)
+    ap length (c .loop .inv .3) ∙ spliced-length (λ (j : ℕ). getD (a .t2) j 0) (a .at) (c .loop .k) (a .out .now) (omega arith) (omega arith)
 
 loop-holds : tie.Need-loop-holds Inv-loop μ-loop
-loop-holds c = (omega arith, omega arith, spliced-none _ _ _)
+loop-holds c = (omega arith, omega arith, omega arith, spliced-none _ _ _)
 
 mul-out : tie.Need-mul-out Inv-loop μ-loop
 mul-out c = search needs
@@ -50,17 +48,16 @@ loop-again : tie.Need-loop-again Inv-loop μ-loop
 loop-again c =
     let l = c .before .loop in
     let a = c .before .before .args in
-    (omega arith, omega arith, ap (λ t. set t (a .at + l .k) (getD (a .t1) (l .k) 0)) (l .inv .2) ∙ spliced-more (λ (j : ℕ). getD (a .t1) j 0) (a .at) (l .k) (a .out .now) (omega arith) (omega arith))
+    (omega arith, omega arith, omega arith, ap (λ t. set t (a .at + l .k) (getD (a .t2) (l .k) 0)) (l .inv .3) ∙ spliced-more (λ (j : ℕ). getD (a .t2) j 0) (a .at) (l .k) (a .out .now) (omega arith) (omega arith))
 
 same-length : tie.Need-same-length Inv-loop μ-loop
 same-length c = long (c .before)
 
 returns : tie.Need-returns Inv-loop μ-loop
-unfolding storedAt width
 returns c =
     let l = c .before .loop in
     let a = c .before .before .args in
-    l .inv .2 ∙ ap (λ n. spliced (λ (j : ℕ). getD (a .t1) j 0) (a .at) n (a .out .now)) (omega arith)
+    l .inv .3 ∙ ap (λ n. spliced (λ (j : ℕ). getD (a .t2) j 0) (a .at) n (a .out .now)) (omega arith)
 
 pub store-at-spec : {M : Type 1} → statement M
 store-at-spec =

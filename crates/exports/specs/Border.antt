@@ -1,0 +1,85 @@
+-- The exported calls that take or give an element or a round polynomial in a slice: their refusals, and what each leaves in what it is lent. The names are
+-- those of the header. A refused call writes nothing to a slice, and what it answers beside its number is 0.
+--
+--   commitNumber, commitExit               commit, and the slice `commitment` at exit
+--   roundNumber, roundExit                 the prover's round, and the slice `polynomial`
+--   endNumber, endExit                     the prover's end, and the slice `last`
+--   openNumber, openKeyExit, ..            the whole opening, each slice that it writes, and the verdict
+--   checkNumber, checkVerdict              the check of a transcript
+--   judgeNumber, judgeYes                  the judge
+--   extractNumber, extractExit             the extractor, and the slice `w`
+-- The fold is `foldRefusal`, `foldKeyExit`, `foldMessageExit` of protocol as it stands; the session's moves are in sessions, the calls on text in texts.
+use mathlib.Core.Bool.{_&&_}
+use mathlib.Core.List.{List}
+use Prim.Native.Nat.{ℕ, _*_}
+use lib.IntN.{ℤ}
+use lib.ListN.{take}
+use Rattle.protocol.specs.declared.Settings.{Settings}
+use Rattle.protocol.specs.Basic.{choose, granted}
+use Rattle.protocol.specs.Element.{padded, paddedSigned}
+use Rattle.protocol.specs.Settings.{sized}
+use Rattle.protocol.specs.Calls as Calls
+use Rattle.slices.specs.Slices.{lent, laid, verdictNumber}
+
+unfoldable pub commitNumber : Settings → List ℕ → List ℤ → List ℕ → ℕ
+commitNumber S key message commitment = lent S (sized (S .degree) commitment) (Calls.commitAnswer S key message .number)
+
+unfoldable pub commitExit : Settings → List ℕ → List ℤ → List ℕ → List ℕ
+commitExit S key message commitment = granted (commitNumber S key message commitment) (take (S .degree) (Calls.commitAnswer S key message .commitment)) commitment
+
+unfoldable pub roundNumber : Settings → ℕ → List ℕ → List ℤ → List ℕ → ℕ
+roundNumber S t key message polynomial = lent S (sized (3 * S .degree) polynomial) (Calls.roundAnswer S t key message .number)
+
+unfoldable pub roundExit : Settings → ℕ → List ℕ → List ℤ → List ℕ → List ℕ
+roundExit S t key message polynomial = granted (roundNumber S t key message polynomial) (laid (S .degree) (Calls.roundAnswer S t key message .elements)) polynomial
+
+unfoldable pub endNumber : Settings → ℕ → List ℤ → List ℤ → ℕ
+endNumber S t message last = lent S (sized (S .degree) last) (Calls.endAnswer S t message .number)
+
+unfoldable pub endExit : Settings → ℕ → List ℤ → List ℤ → List ℤ
+endExit S t message last = granted (endNumber S t message last) (take (S .degree) (Calls.endAnswer S t message .last)) last
+
+-- C and f are the slices for commitment and final element
+module _ (S : Settings) (key : List ℕ) (message : List ℤ) (E rounds C : List ℕ) (f : List ℤ) where
+  unfoldable pub openNumber : ℕ
+  openNumber = lent S (sized (S .degree) C && sized (S .degree) f) (Calls.openingAnswer S key message E rounds .number)
+
+  unfoldable pub openKeyExit : List ℕ
+  openKeyExit = granted openNumber (Calls.openingKeyExit S key message E rounds) key
+
+  unfoldable pub openMessageExit : List ℤ
+  openMessageExit = granted openNumber (Calls.openingMessageExit S key message E rounds) message
+
+  unfoldable pub openRoundsExit : List ℕ
+  openRoundsExit = granted openNumber (Calls.openingRoundsExit S key message E rounds) rounds
+
+  unfoldable pub openCommitmentExit : List ℕ
+  openCommitmentExit = granted openNumber (take (S .degree) (Calls.openingAnswer S key message E rounds .commitment)) C
+
+  unfoldable pub openLastExit : List ℤ
+  openLastExit = granted openNumber (take (S .degree) (Calls.openingAnswer S key message E rounds .last)) f
+
+  unfoldable pub openVerdict : ℕ
+  openVerdict = granted openNumber (verdictNumber (Calls.openingAnswer S key message E rounds .verdict)) 0
+
+module _ (S : Settings) (C : List ℕ) (f : List ℤ) (key rounds E : List ℕ) where
+  unfoldable pub checkNumber : ℕ
+  checkNumber = lent S (sized (S .degree) C && sized (S .degree) f) (Calls.checkAnswer S (padded (S .degree) C) (paddedSigned (S .degree) f) key rounds E .number)
+
+  unfoldable pub checkVerdict : ℕ
+  checkVerdict = granted checkNumber (verdictNumber (Calls.checkAnswer S (padded (S .degree) C) (paddedSigned (S .degree) f) key rounds E .verdict)) 0
+
+-- c is the slack
+module _ (S : Settings) (C : List ℕ) (c : ℕ) (key : List ℕ) (w : List ℤ) where
+  unfoldable pub judgeNumber : ℕ
+  judgeNumber = lent S (sized (S .degree) C) (Calls.judgeAnswer S (padded (S .degree) C) c key w .number)
+
+  unfoldable pub judgeYes : ℕ
+  judgeYes = granted judgeNumber (choose (Calls.judgeAnswer S (padded (S .degree) C) c key w .yes) 1 0) 0
+
+module _ (S : Settings) (C key rounds E : List ℕ) (leaves w : List ℤ) where
+  unfoldable pub extractNumber : ℕ
+  extractNumber = lent S (sized (S .degree) C) (Calls.extractRefusal S (padded (S .degree) C) key rounds E leaves w)
+
+  unfoldable pub extractExit : List ℤ
+  extractExit = granted extractNumber (Calls.extractExit S (padded (S .degree) C) key rounds E leaves w) w
