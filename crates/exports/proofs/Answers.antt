@@ -15,7 +15,8 @@ use Rattle.protocol.specs.Basic.{choose, granted}
 use Rattle.protocol.specs.Settings.{sized}
 use Rattle.protocol.specs.Calls as Calls
 use Rattle.protocol.specs.Promises.{Opening}
-use Rattle.slices.specs.Slices.{lent, verdictNumber}
+use Rattle.slices.specs.Slices.{lent}
+use Rattle.protocol.specs.Session.{verdictNumber}
 use Rattle.slices.proofs.Lent.{lent-stops, lent-passes, kept, kept-by, done}
 use Rattle.exports.specs.Border as Border
 use Rattle.exports.specs.Promises.{OpeningStored}

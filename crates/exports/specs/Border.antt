@@ -19,7 +19,8 @@ use Rattle.protocol.specs.Basic.{choose, granted}
 use Rattle.protocol.specs.Element.{padded, paddedSigned}
 use Rattle.protocol.specs.Settings.{sized}
 use Rattle.protocol.specs.Calls as Calls
-use Rattle.slices.specs.Slices.{lent, laid, verdictNumber}
+use Rattle.slices.specs.Slices.{lent, laid}
+use Rattle.protocol.specs.Session.{verdictNumber}
 
 unfoldable pub commitNumber : Settings → List ℕ → List ℤ → List ℕ → ℕ
 commitNumber S key message commitment = lent S (sized (S .degree) commitment) (Calls.commitAnswer S key message .number)

@@ -17,7 +17,8 @@ use Rattle.protocol.specs.Settings.{sized}
 use Rattle.protocol.specs.Session.{opened, blank, startRefusal, start}
 use Rattle.protocol.proofs.Tests.{and-split, granted-zero, granted-refused}
 use Rattle.protocol.proofs.Refusals.{first-fails, first-holds, first-only}
-use Rattle.slices.specs.Slices.{lent, verdictNumber}
+use Rattle.slices.specs.Slices.{lent}
+use Rattle.protocol.specs.Session.{verdictNumber}
 use Rattle.slices.proofs.Lent.{lent-stops, lent-passes, lent-fits, lent-degree, kept}
 use Rattle.sessions.specs.Records.{recordWidth, sessionOf, flagged, recordStored}
 use Rattle.sessions.specs.Promises.{startNumber, startExit, StartStored, moveNumber, moveExit, moveVerdict, MoveStored, Answered}

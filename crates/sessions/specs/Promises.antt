@@ -21,8 +21,8 @@ use Rattle.protocol.specs.declared.Moved.{Moved}
 use Rattle.protocol.specs.Basic.{first, unless, granted}
 use Rattle.protocol.specs.Element.{padded, paddedSigned}
 use Rattle.protocol.specs.Settings.{sized}
-use Rattle.protocol.specs.Session.{opened, blank, startRefusal, move, close}
-use Rattle.slices.specs.Slices.{lent, polynomialOf, verdictNumber}
+use Rattle.protocol.specs.Session.{opened, blank, startRefusal, move, close, verdictNumber}
+use Rattle.slices.specs.Slices.{lent, polynomialOf}
 use Rattle.sessions.specs.Records.{recordWidth, sessionOf, flagged, recordStored}
 
 unfoldable pub startNumber : Settings → List ℕ → List ℕ → ℕ

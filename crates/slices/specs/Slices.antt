@@ -6,14 +6,11 @@
 --                      not: 7 stands behind 3 to 6 and before all others
 --   polynomialOf d t   the round polynomial by value that the slice t stands for; the element by value is `padded d t`
 --   laid d p           the numbers of the round polynomial p; those of an element a are `take d a`
---   verdictNumber v    a verdict as a number: 0 none, 1 holds, 2 accepted, 3 rejected
 use mathlib.Core.Bool.{Bool}
 use mathlib.Core.List.{List, [], _∷_}
 use Prim.Native.Nat.{ℕ}
 use lib.ListN.{getD}
 use Rattle.protocol.specs.declared.Settings.{Settings}
-use Rattle.protocol.specs.declared.Verdict.{Verdict}
-use Rattle.protocol.specs.declared.Verdict.the-variants.{Silent, Holds, Accepted, Rejected}
 use Rattle.protocol.specs.Basic.{flat, first, unless}
 use Rattle.protocol.specs.Settings.{settingsRefusal}
 use Rattle.protocol.specs.Session.{part}
@@ -31,8 +28,3 @@ polynomialOf d t = elementAt d t 0 ∷ elementAt d t 1 ∷ elementAt d t 2 ∷ [
 unfoldable pub laid : ℕ → List (List ℕ) → List ℕ
 laid d p = flat d 3 (λ i k. getD (part p i) k 0)
 
-unfoldable pub verdictNumber : Verdict → ℕ
-verdictNumber Silent = 0
-verdictNumber Holds = 1
-verdictNumber Accepted = 2
-verdictNumber Rejected = 3

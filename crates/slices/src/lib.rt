@@ -10,7 +10,8 @@ ghost use Prim.Native.Nat.{_+_, _*_, _≤_};
 ghost use lib.ListN.{length, getD, take};
 ghost use Rattle.arithmetic.specs.Folds.{spliced};
 ghost use Rattle.protocol.specs.Element.{padded, paddedSigned};
-ghost use Rattle.slices.specs.Slices.{lent, polynomialOf, laid, verdictNumber};
+ghost use Rattle.slices.specs.Slices.{lent, polynomialOf, laid};
+ghost use Rattle.protocol.specs.Session.{verdictNumber};
 
 // Refusals 3 to 6, then 7 where the slices that are lent beside have not their lengths.
 pub fn refusal(settings: Settings, fits: bool) -> u32

@@ -17,7 +17,8 @@ use Rattle.protocol.specs.Basic.{first, unless, granted}
 use Rattle.protocol.specs.Settings.{sized}
 use Rattle.protocol.specs.Text.{Tables, fits, linesOf, settingsIn, tablesIn, lookRefusal, textRefusal, textOf, writeRefusal, overwritten}
 use Rattle.protocol.specs.Programs.{proveAnswer, proveExit}
-use Rattle.slices.specs.Slices.{lent, verdictNumber}
+use Rattle.slices.specs.Slices.{lent}
+use Rattle.protocol.specs.Session.{verdictNumber}
 use Rattle.texts.specs.Texts.{partsOf, partsNamed, settingsWidth, settingsNumbers}
 
 unfoldable pub lookNumber : List ℕ → List ℕ → ℕ

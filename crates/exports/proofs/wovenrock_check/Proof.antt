@@ -6,7 +6,8 @@ use Rattle.protocol.specs.Element.{padded, paddedSigned}
 use Rattle.protocol.specs.Settings.{sized}
 use Rattle.protocol.specs.Calls.{checkRefusal, checkAnswer}
 use Rattle.protocol.proofs.Tests.{and-split}
-use Rattle.slices.specs.Slices.{given, lent, verdictNumber}
+use Rattle.slices.specs.Slices.{given, lent}
+use Rattle.protocol.specs.Session.{verdictNumber}
 use Rattle.slices.proofs.Lent.{lent-passes, lent-fits, lent-degree}
 use Rattle.exports.specs.Border.{checkNumber, checkVerdict}
 use Rattle.exports.proofs.Answers.{unfit, says}

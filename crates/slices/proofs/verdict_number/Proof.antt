@@ -1,4 +1,4 @@
-use Rattle.slices.specs.Slices.{verdictNumber}
+use Rattle.protocol.specs.Session.{verdictNumber}
 use borrow.Author.Needs.{needs}
 use Rattle.slices.proofs.verdict_number.Statement.{statement}
 use Rattle.slices.proofs.verdict_number.Tie as tie
