@@ -370,7 +370,7 @@ static void run(const struct scenario *scenario) {
     drop(&base);
 }
 
-/* The inputs: document 01's worked example, and others where it cannot reach a refusal. */
+/* The inputs: the worked example of the README, and others where it cannot reach a refusal. */
 
 #define KEY(use) U32("key", use, 3, 5, 7, 2)
 #define MESSAGE(use) I32("message", use, 1, -1, 1, 0)
