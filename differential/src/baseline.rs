@@ -82,17 +82,12 @@ impl Baseline {
 
 impl Prepared<'_> {
     /// Writes d coefficients; 0 says that nothing was refused.
-    pub fn commit(&mut self, commitment: &mut [u32; 64]) -> u32 {
+    pub fn commit(&mut self, commitment: &mut [u32]) -> u32 {
         unsafe { (self.baseline.commit)(self.tables, commitment.as_mut_ptr()) }
     }
 
     /// Writes 3·L·d coefficients of rounds, and d each of the others.
-    pub fn open(
-        &mut self,
-        rounds: &mut [u32],
-        commitment: &mut [u32; 64],
-        last: &mut [i32; 64],
-    ) -> u32 {
+    pub fn open(&mut self, rounds: &mut [u32], commitment: &mut [u32], last: &mut [i32]) -> u32 {
         let (rounds, commitment) = (rounds.as_mut_ptr(), commitment.as_mut_ptr());
         unsafe { (self.baseline.open)(self.tables, rounds, commitment, last.as_mut_ptr()) }
     }

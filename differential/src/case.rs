@@ -3,10 +3,13 @@
 
 use reference::cases::Page;
 use reference::draw::Limits;
+use reference::plain::refusals::{self, Lengths};
 use reference::random::Random;
+use reference::refuse::{self, Shape};
+use reference::types::Settings;
 
-/// What a call answered and left in every table that it was lent.
-#[derive(Clone, Debug, PartialEq, Eq)]
+/// What a call answered and left in every slice that it was lent.
+#[derive(Clone, Debug)]
 pub struct Outcome {
     pub number: u32,
     /// Each part of the answer and each lent table at exit, by name.
@@ -15,7 +18,7 @@ pub struct Outcome {
     /// those of each call.
     pub counted: Vec<u32>,
     /// For the counts: what was said where nothing was refused.
-    pub words: Vec<&'static str>,
+    pub words: Vec<String>,
 }
 
 impl Outcome {
@@ -38,11 +41,20 @@ impl Outcome {
     /// Adds a verdict, and the word of it that is counted.
     pub fn with_word(self, name: &'static str, value: u32, words: &[&'static str]) -> Outcome {
         let word = words.get(value as usize).copied().unwrap_or("?");
-        let said = if self.number == 0 { vec![word] } else { vec![] };
+        let said = if self.number == 0 {
+            vec![word.to_string()]
+        } else {
+            vec![]
+        };
         Outcome {
             words: said,
             ..self.with(name, &[value])
         }
+    }
+
+    /// Whether answer and slices are the same.
+    fn same(&self, other: &Outcome) -> bool {
+        self.number == other.number && self.parts == other.parts
     }
 
     /// Whether everything that is named here is the same there.
@@ -62,11 +74,12 @@ pub enum Author {
     Refusals,
 }
 
-/// A table of a case whose numbers may be put to 0 to make the case simpler.
+/// A slice of a case. Its numbers may be put to 0 to make the case simpler,
+/// and its length may be made a wrong one.
 pub enum Table<'a> {
-    Unsigned(&'a mut [u32]),
-    Signed(&'a mut [i32]),
-    Wide(&'a mut [i64]),
+    Unsigned(&'a mut Vec<u32>),
+    Signed(&'a mut Vec<i32>),
+    Wide(&'a mut Vec<i64>),
 }
 
 impl Table<'_> {
@@ -94,9 +107,17 @@ impl Table<'_> {
             Table::Wide(t) => zero(&mut t[range]),
         }
     }
+
+    fn resize(&mut self, length: usize) {
+        match self {
+            Table::Unsigned(t) => t.resize(length, 0),
+            Table::Signed(t) => t.resize(length, 0),
+            Table::Wide(t) => t.resize(length, 0),
+        }
+    }
 }
 
-/// An input of a call.
+/// An input of a call or of a list of calls.
 pub trait Case: Clone {
     /// The call's name.
     const NAME: &'static str;
@@ -104,14 +125,23 @@ pub trait Case: Clone {
     /// The numbers that it can answer, each of which must come up.
     const NUMBERS: &'static [u32];
 
-    /// What it can say where nothing is refused, each of which must come up.
+    /// What it can say where nothing is refused, and other things that must
+    /// come up.
     const WORDS: &'static [&'static str] = &[];
+
+    /// The slices that are lent to it and have exactly one length. For each,
+    /// one number too few and one too many must come up as the only reason
+    /// of a refusal by 7.
+    const SLICES: &'static [&'static str] = &[];
 
     /// How often each of these must come up.
     const LEAST: usize = 20;
 
     /// Draws a valid or a damaged input.
     fn draw(random: &mut Random, limits: &Limits) -> Self;
+
+    /// Gives a slice one number too few or too many.
+    fn disturb(&mut self, _random: &mut Random) {}
 
     /// What the simple reference answers.
     fn plain(&self) -> Outcome;
@@ -132,10 +162,244 @@ pub trait Case: Clone {
     fn verified(&self) -> Outcome;
 
     /// The tables that a simpler case may clear.
-    fn tables(&mut self) -> Vec<Table<'_>>;
+    fn tables(&mut self) -> Vec<Table<'_>> {
+        Vec::new()
+    }
 
-    /// Prints the case in the reference's format.
+    /// What is counted besides the words of the answer.
+    fn remarks(&self, _number: u32) -> Vec<String> {
+        Vec::new()
+    }
+
+    /// Prints the case.
     fn print(&self, page: &mut Page);
+}
+
+/// An input of a single exported call: numbers, and the slices that are lent
+/// to it. Both references take elements by value, so whether a slice has its
+/// length is decided here, once for each reference: by its own test of the
+/// settings and its own lengths. A refused call writes nothing.
+pub trait Call: Clone {
+    const NAME: &'static str;
+    const NUMBERS: &'static [u32];
+    const WORDS: &'static [&'static str] = &[];
+    const SLICES: &'static [&'static str];
+
+    /// Whether the fast reference has the call.
+    const FAST: bool = false;
+
+    fn draw(random: &mut Random, limits: &Limits) -> Self;
+
+    /// The settings that the slices' lengths go by; none where they are not
+    /// among the inputs.
+    fn settings(&self) -> Option<Settings>;
+
+    /// Found and wanted length of each of SLICES; behind them, other pairs
+    /// whose difference is refused by 7 too.
+    fn pairs(&self, lengths: &Lengths) -> Vec<(usize, usize)>;
+
+    /// The same where it can be said, for the counts.
+    fn known_pairs(&self) -> Option<Vec<(usize, usize)>> {
+        let s = self.settings()?;
+        (refusals::settings(s) == 0).then(|| self.pairs(&refusals::lengths(s)))
+    }
+
+    /// A refusal before all others.
+    fn at_once(&self) -> u32 {
+        0
+    }
+
+    /// Runs the call by the simple reference, settings and lengths being
+    /// right: the number, and the slices as it leaves them.
+    fn by_plain(&mut self) -> u32;
+
+    /// The same by the fast reference, which has the call where FAST says so.
+    fn by_fast(&mut self) -> u32 {
+        unreachable!("the fast reference has no such call")
+    }
+
+    /// The number by the fast reference's refusals, settings and lengths
+    /// being right, where it has no such call but its refusals.
+    fn by_admission(&self) -> Option<u32> {
+        None
+    }
+
+    /// Runs the call by the verified library.
+    fn by_verified(&mut self) -> u32;
+
+    /// What a refused call leaves: 0 in a number behind a pointer.
+    fn refuse(&mut self) {}
+
+    /// All slices, those of SLICES first.
+    fn slices(&mut self) -> Vec<Table<'_>>;
+
+    /// What stands in the slices and behind the pointers.
+    fn outcome(&self, number: u32) -> Outcome;
+
+    /// What is counted besides words and slices.
+    fn other_remarks(&self, _number: u32) -> Vec<String> {
+        Vec::new()
+    }
+
+    /// The numbers of its input that are no slices.
+    fn numbers(&self) -> Vec<u32>;
+
+    /// Prints numbers and slices, or what is easier to read.
+    fn show(&self, page: &mut Page) {
+        page.header(<Self as Call>::NAME);
+        page.numbers(self.numbers());
+        for slice in self.clone().slices() {
+            match slice {
+                Table::Unsigned(t) => page.table(t),
+                Table::Signed(t) => page.table(t),
+                Table::Wide(t) => page.table(t),
+            }
+        }
+    }
+}
+
+/// The simple reference's refusals 3 to 6, and 7 for the slices.
+fn plain_border<C: Call>(case: &C) -> u32 {
+    let Some(s) = case.settings() else {
+        return 0;
+    };
+    let number = refusals::settings(s);
+    if number != 0 {
+        return number;
+    }
+    let pairs = case.pairs(&refusals::lengths(s));
+    if pairs.iter().any(|(found, wanted)| found != wanted) {
+        return 7;
+    }
+    0
+}
+
+/// The same by the refusals that the fast reference uses.
+fn fast_border<C: Call>(case: &C) -> u32 {
+    let Some(s) = case.settings() else {
+        return 0;
+    };
+    let tested = refuse::settings(s).and_then(|shape| refuse::sizes(&case.pairs(&sizes(&shape))));
+    tested.err().unwrap_or(0)
+}
+
+/// Lengths by the fast reference's shape.
+fn sizes(shape: &Shape) -> Lengths {
+    Lengths {
+        element: shape.d,
+        table: shape.table(),
+        polynomial: 3 * shape.d,
+        rounds: shape.rounds(),
+        challenges: shape.l,
+        tree_rounds: 3 * shape.nodes() * shape.d,
+        tree_challenges: 3 * shape.nodes(),
+        leaves: shape.leaves() * shape.d,
+    }
+}
+
+/// The first number that is a refusal's.
+fn first(numbers: impl IntoIterator<Item = u32>) -> u32 {
+    numbers.into_iter().find(|&number| number != 0).unwrap_or(0)
+}
+
+/// What a call comes to: where it is refused the slices are as they were.
+fn settled<C: Call>(before: &C, after: C, number: u32) -> Outcome {
+    if number == 0 {
+        return after.outcome(0);
+    }
+    let mut refused = before.clone();
+    refused.refuse();
+    refused.outcome(number)
+}
+
+impl<C: Call> Case for C {
+    const NAME: &'static str = <C as Call>::NAME;
+    const NUMBERS: &'static [u32] = <C as Call>::NUMBERS;
+    const WORDS: &'static [&'static str] = <C as Call>::WORDS;
+    const SLICES: &'static [&'static str] = <C as Call>::SLICES;
+
+    fn draw(random: &mut Random, limits: &Limits) -> C {
+        <C as Call>::draw(random, limits)
+    }
+
+    fn disturb(&mut self, random: &mut Random) {
+        let count = <C as Call>::SLICES.len();
+        if count == 0 {
+            return;
+        }
+        let slice = &mut self.slices()[random.below(count)];
+        let length = slice.len();
+        slice.resize(match random.below(8) {
+            0 => random.pick(&[0, 1, 64, 78, 192]),
+            1..=3 => length.saturating_sub(1),
+            _ => length + 1,
+        });
+    }
+
+    fn plain(&self) -> Outcome {
+        let mut t = self.clone();
+        let border = first([self.at_once(), plain_border(self)]);
+        let number = if border == 0 { t.by_plain() } else { border };
+        settled(self, t, number)
+    }
+
+    fn fast(&self) -> Option<Outcome> {
+        if !C::FAST {
+            return None;
+        }
+        let mut t = self.clone();
+        let border = first([self.at_once(), fast_border(self)]);
+        let number = if border == 0 { t.by_fast() } else { border };
+        Some(settled(self, t, number))
+    }
+
+    fn admitted(&self) -> Option<u32> {
+        if C::FAST {
+            return None;
+        }
+        match first([self.at_once(), fast_border(self)]) {
+            0 => self.by_admission(),
+            number => Some(number),
+        }
+    }
+
+    fn verified(&self) -> Outcome {
+        let mut t = self.clone();
+        let number = t.by_verified();
+        t.outcome(number)
+    }
+
+    fn tables(&mut self) -> Vec<Table<'_>> {
+        self.slices()
+    }
+
+    /// Which slice is one number too short or too long, where that alone is
+    /// the reason of a refusal by 7.
+    fn remarks(&self, number: u32) -> Vec<String> {
+        let mut remarks = self.other_remarks(number);
+        let pairs = self.known_pairs().unwrap_or_default();
+        let wrong: Vec<usize> = (0..pairs.len())
+            .filter(|&i| pairs[i].0 != pairs[i].1)
+            .collect();
+        if let (7, [place]) = (number, &wrong[..]) {
+            let (found, wanted) = pairs[*place];
+            if let Some(name) = <C as Call>::SLICES.get(*place) {
+                if found + 1 == wanted {
+                    remarks.push(format!("{name} short"));
+                } else if found == wanted + 1 {
+                    remarks.push(format!("{name} long"));
+                }
+            }
+        }
+        remarks
+    }
+
+    fn print(&self, page: &mut Page) {
+        self.show(page);
+        let lengths: Vec<usize> = self.clone().slices().iter().map(Table::len).collect();
+        page.header("lengths of its slices:");
+        page.numbers(lengths);
+    }
 }
 
 /// Two answers to one input that are not the same.
@@ -148,7 +412,7 @@ pub struct Difference {
 pub fn run<C: Case>(case: &C) -> Result<(Outcome, Vec<Author>), (Outcome, Outcome)> {
     let verified = case.verified();
     let plain = case.plain();
-    if verified != plain {
+    if !verified.same(&plain) {
         return Err((plain, verified));
     }
     let mut authors = vec![Author::Simple];
@@ -164,7 +428,10 @@ pub fn run<C: Case>(case: &C) -> Result<(Outcome, Vec<Author>), (Outcome, Outcom
         }
         authors.push(Author::Refusals);
     }
-    Ok((verified, authors))
+    let mut outcome = verified;
+    let remarks = case.remarks(outcome.number);
+    outcome.words.extend(remarks);
+    Ok((outcome, authors))
 }
 
 /// The same, with the smallest differing case that is found.
@@ -188,7 +455,10 @@ fn redraw_smaller<C: Case>(case: &C) -> C {
             tree: usize::MAX,
         };
         for _ in 0..DRAWS {
-            let small = C::draw(&mut random, &limits);
+            let mut small = C::draw(&mut random, &limits);
+            if random.one_in(3) {
+                small.disturb(&mut random);
+            }
             if run(&small).is_err() {
                 return small;
             }

@@ -25,9 +25,20 @@ struct Run {
     report: Report,
 }
 
+/// What a call must say, and how its slices must be wrong.
+fn words<C: Case>() -> Vec<String> {
+    let said = C::WORDS.iter().map(|word| word.to_string());
+    let slices = C::SLICES.iter();
+    let wrong = slices.flat_map(|name| [format!("{name} short"), format!("{name} long")]);
+    said.chain(wrong).collect()
+}
+
 impl Run {
     fn one<C: Case>(&mut self, limits: &Limits) -> Result<(), Difference> {
-        let case = C::draw(&mut self.random, limits);
+        let mut case = C::draw(&mut self.random, limits);
+        if self.random.one_in(6) {
+            case.disturb(&mut self.random);
+        }
         let (outcome, authors) = case::check(&case)?;
         self.report.count(C::NAME, &outcome, &authors);
         Ok(())
@@ -42,13 +53,14 @@ impl Run {
             (small / 2, Limits::new(1024, 2000)),
             (large, Limits::new(16_384, 20_000)),
         ];
+        let words = words::<C>();
         for turn in 0..2 {
             for (count, limits) in &sizes {
                 for _ in 0..count * self.times {
                     self.one::<C>(limits)?;
                 }
             }
-            let rare = self.report.rare(C::NAME, C::NUMBERS, C::WORDS, C::LEAST);
+            let rare = self.report.rare(C::NAME, C::NUMBERS, &words, C::LEAST);
             if rare.is_empty() {
                 break;
             }
@@ -57,7 +69,7 @@ impl Run {
                 return Err(Difference { text });
             }
         }
-        let strange = self.report.strange(C::NAME, C::NUMBERS, C::WORDS);
+        let strange = self.report.strange(C::NAME, C::NUMBERS, &words);
         if !strange.is_empty() {
             let text = format!("{}: must not be answered: {}", C::NAME, strange.join(", "));
             return Err(Difference { text });

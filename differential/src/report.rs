@@ -8,7 +8,7 @@ use std::collections::BTreeMap;
 struct Counts {
     cases: usize,
     numbers: BTreeMap<u32, usize>,
-    words: BTreeMap<&'static str, usize>,
+    words: BTreeMap<String, usize>,
     simple: usize,
     fast: usize,
     refusals: usize,
@@ -31,8 +31,8 @@ impl Report {
         for &number in &outcome.counted {
             *counts.numbers.entry(number).or_default() += 1;
         }
-        for &word in &outcome.words {
-            *counts.words.entry(word).or_default() += 1;
+        for word in &outcome.words {
+            *counts.words.entry(word.clone()).or_default() += 1;
         }
         for author in authors {
             match author {
@@ -49,37 +49,27 @@ impl Report {
         &self,
         call: &'static str,
         numbers: &[u32],
-        words: &[&'static str],
+        words: &[String],
         least: usize,
     ) -> Vec<String> {
         let none = Counts::default();
         let counts = self.calls.get(call).unwrap_or(&none);
         let rare_number = |number: &&u32| counts.numbers.get(*number).copied().unwrap_or(0) < least;
-        let rare_word =
-            |word: &&&'static str| counts.words.get(**word).copied().unwrap_or(0) < least;
+        let rare_word = |word: &&String| counts.words.get(*word).copied().unwrap_or(0) < least;
         let numbers = numbers.iter().filter(rare_number).map(u32::to_string);
-        let words = words.iter().filter(rare_word).map(|word| word.to_string());
+        let words = words.iter().filter(rare_word).cloned();
         numbers.chain(words).collect()
     }
 
     /// The numbers and words that a call has answered and is not said to.
-    pub fn strange(
-        &self,
-        call: &'static str,
-        numbers: &[u32],
-        words: &[&'static str],
-    ) -> Vec<String> {
+    pub fn strange(&self, call: &'static str, numbers: &[u32], words: &[String]) -> Vec<String> {
         let Some(counts) = self.calls.get(call) else {
             return Vec::new();
         };
         let other = |number: &&u32| !numbers.contains(number);
         let numbers = counts.numbers.keys().filter(other).map(u32::to_string);
-        let other = |word: &&&'static str| !words.contains(word);
-        let words = counts
-            .words
-            .keys()
-            .filter(other)
-            .map(|word| word.to_string());
+        let other = |word: &&String| !words.contains(word);
+        let words = counts.words.keys().filter(other).cloned();
         numbers.chain(words).collect()
     }
 
@@ -109,7 +99,7 @@ impl Report {
                 .map(|(word, count)| format!("{word} {count}"))
                 .collect();
             if !words.is_empty() {
-                authors += &format!("; not refused: {}", words.join(", "));
+                authors += &format!("; {}", words.join(", "));
             }
             println!("{:<16}{:>8} with    {authors}", "", "");
         }

@@ -71,7 +71,7 @@ impl Table {
 
     fn commit(&self, s: Settings) {
         let OpeningInput { key, message, .. } = opening_at(&mut Random::new(7), s);
-        let mut out = [0; verified::ELEMENT];
+        let mut out = vec![0; s.degree as usize];
         self.row(
             &format!("commit, d = {}, L = {}", s.degree, s.depth),
             &mut || {
@@ -92,7 +92,8 @@ impl Table {
             &format!("check, d = {}, L = {}", s.degree, s.depth),
             &mut || {
                 let t = black_box(&t);
-                let (c, f) = (&t.commitment, &t.final_element);
+                let d = t.shape.d;
+                let (c, f) = (&t.commitment[..d], &t.final_element[..d]);
                 let mut verdict = 0;
                 let number =
                     verified::check(s, c, f, &t.key, &t.rounds, &t.challenges, &mut verdict);
@@ -116,8 +117,8 @@ impl Table {
             &format!("judge, d = {}, L = {}", s.degree, s.depth),
             &mut || {
                 let mut yes = 0;
-                let number =
-                    verified::judge(s, &commitment, 1, black_box(&key), black_box(&w), &mut yes);
+                let c = &commitment[..s.degree as usize];
+                let number = verified::judge(s, c, 1, black_box(&key), black_box(&w), &mut yes);
                 assert_eq!((number, yes), (0, 1));
             },
             &mut || {
@@ -130,7 +131,8 @@ impl Table {
     /// The whole opening; both tables are filled anew before each turn.
     fn open(&self, s: Settings) {
         let input = opening_at(&mut Random::new(7), s);
-        let (mut commitment, mut last) = ([0; verified::ELEMENT], [0; verified::ELEMENT]);
+        let d = s.degree as usize;
+        let (mut commitment, mut last) = (vec![0; d], vec![0; d]);
         self.turns(
             &format!("open, d = {}, L = {}", s.degree, s.depth),
             self.label,
@@ -170,7 +172,8 @@ impl Table {
             ..
         } = opening_at(&mut Random::new(7), s);
         let mut prepared = other.prepare(s, &key, &message, &challenges);
-        let (mut ours, mut theirs) = ([0; verified::ELEMENT], [0; verified::ELEMENT]);
+        let d = s.degree as usize;
+        let (mut ours, mut theirs) = (vec![0; d], vec![0; d]);
         self.turns(
             &format!("commit, d = {}, L = {}", s.degree, s.depth),
             &other.name,
@@ -190,7 +193,8 @@ impl Table {
     fn open_beside(&self, s: Settings, other: &Baseline) {
         let input = opening_at(&mut Random::new(7), s);
         let new = || {
-            let (c, f) = ([0; verified::ELEMENT], [0; verified::ELEMENT]);
+            let d = s.degree as usize;
+            let (c, f) = (vec![0; d], vec![0; d]);
             (vec![0; input.rounds.len()], c, f, 0)
         };
         let (mut ours, mut theirs) = (new(), new());
@@ -220,19 +224,18 @@ impl Table {
     fn session(&self, s: Settings) {
         let t = transcript::honest_at(&mut Random::new(7), s);
         let d = t.shape.d;
-        let polynomials: Vec<Vec<u32>> = t.rounds.chunks(3 * d).map(|c| spread(c, d)).collect();
         let (c, f) = (t.commitment, t.final_element);
         self.row(
             &format!("session, d = {}, L = {}", s.degree, s.depth),
             &mut || {
                 let mut session = [0; verified::SESSION];
                 let mut verdict = 0;
-                verified::session_start(s, black_box(&c), &mut session);
-                for (polynomial, &e) in polynomials.iter().zip(&t.challenges) {
+                verified::session_start(s, black_box(&c[..d]), &mut session);
+                for (polynomial, &e) in t.rounds.chunks(3 * d).zip(&t.challenges) {
                     verified::session_round(polynomial, e, &mut session, &mut verdict);
                     assert_eq!(verdict, HOLDS);
                 }
-                verified::session_end(&f, &t.key, &mut session, &mut verdict);
+                verified::session_end(&f[..d], &t.key, &mut session, &mut verdict);
                 assert_eq!(verdict, ACCEPTED);
             },
             &mut || {
@@ -409,20 +412,11 @@ fn text_rows(table: &Table) {
     table.programs(Settings::new(64, 4, 99_991, 127));
 }
 
-/// The three elements of a round polynomial, 64 places each.
-fn spread(c: &[u32], d: usize) -> Vec<u32> {
-    let mut out = vec![0; verified::POLYNOMIAL];
-    for (places, element) in out.chunks_mut(verified::ELEMENT).zip(c.chunks(d)) {
-        places[..d].copy_from_slice(element);
-    }
-    out
-}
-
 fn verified_extract(t: &Tree, w: &mut [i64]) -> u32 {
     let (key, rounds, leaves) = (&t.key, &t.rounds, &t.leaves);
     verified::extract(
         t.settings,
-        &t.commitment,
+        &t.commitment[..t.shape.d],
         key,
         rounds,
         &t.challenges,

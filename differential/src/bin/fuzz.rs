@@ -399,6 +399,15 @@ fn mutate_tables(random: &mut Random, seed: &mut Seed) {
     }
 }
 
+/// What stands in a slice for the settings that held the largest numbers.
+fn stored(answer: &ReadAnswer) -> [u32; 4] {
+    let s = answer.settings;
+    match answer.number {
+        0 => [s.degree, s.depth, s.modulus, s.bound],
+        _ => [u32::MAX; 4],
+    }
+}
+
 struct Fuzz {
     random: Random,
     counts: Counts,
@@ -428,9 +437,7 @@ impl Fuzz {
         let mut settings = [u32::MAX; 4];
         let number = verified::read(bits, text, &mut settings, &mut found);
         let s = answer.settings;
-        if (number, settings) != (answer.number, [s.degree, s.depth, s.modulus, s.bound])
-            || found != wanted
-        {
+        if (number, settings) != (answer.number, stored(&answer)) || found != wanted {
             return Err(format!("read: {} and {number}", answer.number));
         }
         self.counts.count("read", number);
@@ -449,8 +456,7 @@ impl Fuzz {
         let answer = plain::look(text);
         let mut settings = [u32::MAX; 4];
         let number = verified::look(text, &mut settings);
-        let s = answer.settings;
-        if (number, settings) != (answer.number, [s.degree, s.depth, s.modulus, s.bound]) {
+        if (number, settings) != (answer.number, stored(&answer)) {
             return Err(format!("look: {} and {number}", answer.number));
         }
         self.counts.count("look", number);

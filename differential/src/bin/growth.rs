@@ -29,7 +29,7 @@ fn line(call: &str, s: Settings, repetitions: usize, turn: &mut dyn FnMut() -> D
 
 fn commit(s: Settings, repetitions: usize) {
     let t = opening_at(&mut Random::new(7), s);
-    let mut out = [0; verified::ELEMENT];
+    let mut out = vec![0; s.degree as usize];
     line("commit", s, repetitions, &mut || {
         timed(|| {
             let (key, message) = (black_box(&t.key), black_box(&t.message));
@@ -40,7 +40,8 @@ fn commit(s: Settings, repetitions: usize) {
 
 fn open(s: Settings, repetitions: usize) {
     let input = opening_at(&mut Random::new(7), s);
-    let (mut commitment, mut last) = ([0; verified::ELEMENT], [0; verified::ELEMENT]);
+    let d = s.degree as usize;
+    let (mut commitment, mut last) = (vec![0; d], vec![0; d]);
     line("open", s, repetitions, &mut || {
         let mut t = input.clone();
         let mut verdict = 0;
@@ -60,7 +61,7 @@ fn extract(s: Settings, repetitions: usize) {
     let mut w = t.w.clone();
     let mut run = || {
         let t = black_box(&t);
-        let (c, key, rounds) = (&t.commitment, &t.key, &t.rounds);
+        let (c, key, rounds) = (&t.commitment[..t.shape.d], &t.key, &t.rounds);
         verified::extract(s, c, key, rounds, &t.challenges, &t.leaves, &mut w)
     };
     let number = run();

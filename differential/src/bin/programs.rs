@@ -336,6 +336,16 @@ fn main() -> ExitCode {
             run.both(&input.text());
         }
     }
+    if let Some(d) = run.smallest {
+        println!("{} on a text of {} bytes:", d.program, d.text.len());
+        println!(
+            "{}",
+            String::from_utf8_lossy(&d.text[..d.text.len().min(2_000)])
+        );
+        println!("prints: {}", String::from_utf8_lossy(&d.printed));
+        println!("wanted: {}", String::from_utf8_lossy(&d.wanted));
+        return ExitCode::FAILURE;
+    }
     let small = provable(&mut random, &Limits::small()).text();
     let (text, listing, record) = long_texts(&mut random);
     let accepted = b"accepted\n".to_vec();
@@ -371,20 +381,6 @@ fn main() -> ExitCode {
         println!("{program:8} {answer:12} {count}");
     }
     let texts: usize = run.counts.values().sum();
-    match run.smallest {
-        None => {
-            println!("programs: seed {seed}, {texts} runs, no difference");
-            ExitCode::SUCCESS
-        }
-        Some(d) => {
-            println!("{} on a text of {} bytes:", d.program, d.text.len());
-            println!(
-                "{}",
-                String::from_utf8_lossy(&d.text[..d.text.len().min(2_000)])
-            );
-            println!("prints: {}", String::from_utf8_lossy(&d.printed));
-            println!("wanted: {}", String::from_utf8_lossy(&d.wanted));
-            ExitCode::FAILURE
-        }
-    }
+    println!("programs: seed {seed}, {texts} runs, no difference");
+    ExitCode::SUCCESS
 }

@@ -68,6 +68,9 @@ fn used(mut call: Call) -> usize {
     STACK - untouched
 }
 
+/// Numbers of an element of the largest degree.
+const LARGEST: usize = 64;
+
 /// Every call at the largest settings that it does not refuse.
 fn calls() -> Vec<(&'static str, Call<'static>)> {
     let large = Settings::new(64, 8, 2_147_483_647, 127);
@@ -81,7 +84,7 @@ fn calls() -> Vec<(&'static str, Call<'static>)> {
         (
             "commit, d = 64, L = 8",
             Box::new(move || {
-                let mut out = [0; verified::ELEMENT];
+                let mut out = [0; LARGEST];
                 let number = verified::commit(large, &commit.key, &commit.message, &mut out);
                 assert_eq!(number, 0);
             }),
@@ -89,7 +92,7 @@ fn calls() -> Vec<(&'static str, Call<'static>)> {
         (
             "round, d = 64, L = 8",
             Box::new(move || {
-                let mut out = [0; verified::POLYNOMIAL];
+                let mut out = [0; 3 * LARGEST];
                 let number = verified::round(large, 0, &round.key, &round.message, &mut out);
                 assert_eq!(number, 0);
             }),
@@ -104,7 +107,7 @@ fn calls() -> Vec<(&'static str, Call<'static>)> {
         (
             "end, d = 64, L = 8",
             Box::new(move || {
-                let mut out = [0; verified::ELEMENT];
+                let mut out = [0; LARGEST];
                 let number = verified::end(large, 8, &end.message, &mut out);
                 assert_eq!(number, 0);
             }),
@@ -112,7 +115,10 @@ fn calls() -> Vec<(&'static str, Call<'static>)> {
         (
             "check, d = 64, L = 8",
             Box::new(move || {
-                let (c, f) = (&check.commitment, &check.final_element);
+                let (c, f) = (
+                    &check.commitment[..LARGEST],
+                    &check.final_element[..LARGEST],
+                );
                 let (rounds, challenges) = (&check.rounds, &check.challenges);
                 let mut verdict = 0;
                 let number =
@@ -125,7 +131,7 @@ fn calls() -> Vec<(&'static str, Call<'static>)> {
             Box::new(move || {
                 let w = vec![0; judge.key.len()];
                 let mut yes = 0;
-                let number = verified::judge(bounded, &[0; 64], 1, &judge.key, &w, &mut yes);
+                let number = verified::judge(bounded, &[0; 4], 1, &judge.key, &w, &mut yes);
                 assert_eq!((number, yes), (0, 1));
             }),
         ),
@@ -153,7 +159,7 @@ fn calls() -> Vec<(&'static str, Call<'static>)> {
 fn open(s: Settings) -> Call<'static> {
     let mut t = opening_at(&mut Random::new(7), s);
     Box::new(move || {
-        let (mut c, mut f) = ([0; verified::ELEMENT], [0; verified::ELEMENT]);
+        let (mut c, mut f) = ([0; LARGEST], [0; LARGEST]);
         let (key, message, rounds) = (&mut t.key, &mut t.message, &mut t.rounds);
         let mut verdict = 0;
         let (c, f) = (&mut c, &mut f);
@@ -168,9 +174,11 @@ fn session_end(s: Settings) -> Call<'static> {
     Box::new(move || {
         let mut session = [0; verified::SESSION];
         let mut verdict = 0;
-        verified::session_start(s, &t.commitment, &mut session);
+        let d = t.shape.d;
+        verified::session_start(s, &t.commitment[..d], &mut session);
         session[4] = s.depth;
-        let number = verified::session_end(&t.final_element, &t.key, &mut session, &mut verdict);
+        let number =
+            verified::session_end(&t.final_element[..d], &t.key, &mut session, &mut verdict);
         assert_eq!(number, 0);
     })
 }
@@ -180,7 +188,7 @@ fn extract(s: Settings, number: u32) -> Call<'static> {
     let mut t: Tree = free_at(&mut Random::new(7), s);
     Box::new(move || {
         let (key, rounds, leaves) = (&t.key, &t.rounds, &t.leaves);
-        let (c, e) = (&t.commitment, &t.challenges);
+        let (c, e) = (&t.commitment[..t.shape.d], &t.challenges);
         let found = verified::extract(s, c, key, rounds, e, leaves, &mut t.w);
         assert_eq!(found, number);
     })

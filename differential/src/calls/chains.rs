@@ -1,18 +1,18 @@
 //! Lists of calls, each on what the last one left, with refused calls
 //! between: a session, and an opening move by move.
 
+use super::lent::{flat, numbers, places, polynomial};
 use super::opening::all;
-use super::session::{numbers, polynomial};
 use super::VERDICTS;
 use crate::case::{Case, Outcome, Table};
-use crate::verified::{self, ELEMENT, POLYNOMIAL, SESSION};
+use crate::verified::{self, SESSION};
 use reference::cases::{chains, Page};
 use reference::draw::base::{damage_length, damage_settings};
 use reference::draw::session::{self, Move, Session};
 use reference::draw::tables::{self, OpeningInput};
 use reference::draw::{damage_some, Limits};
 use reference::random::Random;
-use reference::types::{Record, Settings, ZERO_POLYNOMIAL};
+use reference::types::{Record, Settings};
 use reference::{fast, plain};
 
 /// What was said in a list of calls: number and verdict of each.
@@ -28,7 +28,9 @@ fn played(said: &Said, records: &[u32], moves: &[(u32, u32)]) -> Outcome {
     let word = |verdict: u32| VERDICTS.get(verdict as usize).copied().unwrap_or("?");
     Outcome {
         counted: moves.iter().map(|(number, _)| *number).collect(),
-        words: granted.map(|(_, verdict)| word(*verdict)).collect(),
+        words: granted
+            .map(|(_, verdict)| word(*verdict).to_string())
+            .collect(),
         ..Outcome::new(0).with("said", said).with("records", records)
     }
 }
@@ -62,24 +64,22 @@ impl Case for Sessions {
 
     fn verified(&self) -> Outcome {
         let mut t = vec![u32::MAX; SESSION];
-        let number = verified::session_start(self.0.settings, &self.0.commitment, &mut t);
+        let d = self.0.settings.degree as usize;
+        let commitment = &self.0.commitment[..d];
+        let number = verified::session_start(self.0.settings, commitment, &mut t);
         let (mut said, mut records): (Said, Vec<u32>) = (vec![number], t.clone());
         let mut verdicts = Vec::new();
         for (step, _) in &self.0.moves {
             let mut verdict = u32::MAX;
             let number = match step {
-                Move::Round(c, e) => verified::session_round(&c.concat(), *e, &mut t, &mut verdict),
-                Move::End(f, key) => verified::session_end(f, key, &mut t, &mut verdict),
+                Move::Round(c, e) => verified::session_round(&flat(c, d), *e, &mut t, &mut verdict),
+                Move::End(f, key) => verified::session_end(&f[..d], key, &mut t, &mut verdict),
             };
             said.extend([number, verdict]);
             records.extend(&t);
             verdicts.push((number, verdict));
         }
         played(&said, &records, &verdicts)
-    }
-
-    fn tables(&mut self) -> Vec<Table<'_>> {
-        Vec::new()
     }
 
     fn print(&self, page: &mut Page) {
@@ -122,12 +122,13 @@ fn refused(random: &mut Random, input: &OpeningInput) -> Refused {
 }
 
 /// The calls of an opening, on tables and a record that are lent to them.
+/// What they are to write to stays as it was where they are refused.
 trait Calls {
     fn commit(&mut self, t: &OpeningInput) -> (u32, Vec<u32>);
     fn start(&mut self, s: Settings, commitment: &[u32]) -> u32;
     fn round(&mut self, s: Settings, t: u32, tables: &OpeningInput) -> (u32, Vec<u32>);
     fn fold(&mut self, s: Settings, t: u32, e: u32, tables: &mut OpeningInput) -> u32;
-    fn end(&mut self, s: Settings, t: u32, message: &[i32]) -> (u32, Vec<i32>);
+    fn end(&mut self, s: Settings, t: u32, tables: &OpeningInput) -> (u32, Vec<i32>);
     fn session_round(&mut self, c: &[u32], e: u32) -> (u32, u32);
     fn session_end(&mut self, last: &[i32], key: &[u32]) -> (u32, u32);
 }
@@ -137,7 +138,7 @@ struct Verified(Vec<u32>);
 
 impl Calls for Verified {
     fn commit(&mut self, t: &OpeningInput) -> (u32, Vec<u32>) {
-        let mut out = vec![u32::MAX; ELEMENT];
+        let mut out = vec![u32::MAX; t.shape.d];
         let number = verified::commit(t.settings, &t.key, &t.message, &mut out);
         (number, out)
     }
@@ -147,7 +148,7 @@ impl Calls for Verified {
     }
 
     fn round(&mut self, s: Settings, t: u32, tables: &OpeningInput) -> (u32, Vec<u32>) {
-        let mut out = vec![u32::MAX; POLYNOMIAL];
+        let mut out = vec![u32::MAX; 3 * tables.shape.d];
         let number = verified::round(s, t, &tables.key, &tables.message, &mut out);
         (number, out)
     }
@@ -156,9 +157,9 @@ impl Calls for Verified {
         verified::fold(s, t, e, &mut tables.key, &mut tables.message)
     }
 
-    fn end(&mut self, s: Settings, t: u32, message: &[i32]) -> (u32, Vec<i32>) {
-        let mut out = vec![i32::MIN; ELEMENT];
-        let number = verified::end(s, t, message, &mut out);
+    fn end(&mut self, s: Settings, t: u32, tables: &OpeningInput) -> (u32, Vec<i32>) {
+        let mut out = vec![i32::MIN; tables.shape.d];
+        let number = verified::end(s, t, &tables.message, &mut out);
         (number, out)
     }
 
@@ -178,31 +179,46 @@ impl Calls for Verified {
 /// The simple reference.
 struct Plain(Record);
 
+/// A slice after a call that is to write an answer to it: a refused one
+/// leaves it as it was.
+fn written<T: Copy>(number: u32, answer: &[T], before: T) -> Vec<T> {
+    if number == 0 {
+        answer.to_vec()
+    } else {
+        vec![before; answer.len()]
+    }
+}
+
 impl Calls for Plain {
     fn commit(&mut self, t: &OpeningInput) -> (u32, Vec<u32>) {
         let answer = plain::commit(t.settings, &t.key, &t.message);
-        (answer.number, answer.commitment.to_vec())
+        let d = t.shape.d;
+        (
+            answer.number,
+            written(answer.number, &answer.commitment[..d], u32::MAX),
+        )
     }
 
     fn start(&mut self, s: Settings, commitment: &[u32]) -> u32 {
-        let commitment = commitment.try_into().expect("an element");
-        let answer = plain::session_start(s, commitment);
+        let answer = plain::session_start(s, places(commitment));
         self.0 = answer.record;
         answer.number
     }
 
     fn round(&mut self, s: Settings, t: u32, tables: &OpeningInput) -> (u32, Vec<u32>) {
         let answer = plain::prover_round(s, t, &tables.key, &tables.message);
-        (answer.number, answer.polynomial.concat())
+        let c = flat(&answer.polynomial, tables.shape.d);
+        (answer.number, written(answer.number, &c, u32::MAX))
     }
 
     fn fold(&mut self, s: Settings, t: u32, e: u32, tables: &mut OpeningInput) -> u32 {
         plain::fold(s, t, e, &mut tables.key, &mut tables.message)
     }
 
-    fn end(&mut self, s: Settings, t: u32, message: &[i32]) -> (u32, Vec<i32>) {
-        let answer = plain::prover_end(s, t, message);
-        (answer.number, answer.final_element.to_vec())
+    fn end(&mut self, s: Settings, t: u32, tables: &OpeningInput) -> (u32, Vec<i32>) {
+        let answer = plain::prover_end(s, t, &tables.message);
+        let last = &answer.final_element[..tables.shape.d];
+        (answer.number, written(answer.number, last, i32::MIN))
     }
 
     fn session_round(&mut self, c: &[u32], e: u32) -> (u32, u32) {
@@ -212,8 +228,7 @@ impl Calls for Plain {
     }
 
     fn session_end(&mut self, last: &[i32], key: &[u32]) -> (u32, u32) {
-        let last = last.try_into().expect("an element");
-        let answer = plain::session_end(self.0, last, key);
+        let answer = plain::session_end(self.0, places(last), key);
         self.0 = answer.record;
         (answer.number, answer.verdict)
     }
@@ -232,7 +247,7 @@ pub struct Moves {
 impl Moves {
     fn play(&self, calls: &mut impl Calls) -> (Said, Outcome) {
         let mut t = self.input.clone();
-        let (s, d) = (t.settings, t.shape.d);
+        let s = t.settings;
         let (number, commitment) = calls.commit(&t);
         let mut said = vec![number, calls.start(s, &commitment)];
         let mut between = Vec::new();
@@ -244,12 +259,10 @@ impl Moves {
             let fold = calls.fold(s, done as u32, e, &mut t);
             said.extend([number, refusal, fold]);
             between.push(verdict);
-            for element in c.chunks(ELEMENT) {
-                rounds.extend(&element[..d]);
-            }
+            rounds.extend(c);
         }
         self.play_refused(calls, self.input.shape.l, &mut t, &mut between);
-        let (number, last) = calls.end(s, s.depth, &t.message);
+        let (number, last) = calls.end(s, s.depth, &t);
         let (refusal, verdict) = calls.session_end(&last, &self.input.key);
         said.extend([number, refusal]);
         t.rounds = rounds;
@@ -268,18 +281,19 @@ impl Moves {
         t: &mut OpeningInput,
         said: &mut Said,
     ) {
+        let d = t.shape.d;
         let calls_between = self.between.get(turn).into_iter().flatten();
         for &call in calls_between {
             let number = match call {
                 Refused::Round(s, done) => calls.round(s, done, t).0,
                 Refused::Fold(s, done, e) => calls.fold(s, done, e, t),
-                Refused::End(s, done) => calls.end(s, done, &t.message).0,
+                Refused::End(s, done) => calls.end(s, done, t).0,
                 Refused::SessionRound(x, e) => {
-                    let mut c = ZERO_POLYNOMIAL;
-                    c[1][0] = x;
-                    calls.session_round(&c.concat(), e).0
+                    let mut c = vec![0; 3 * d];
+                    c[d] = x;
+                    calls.session_round(&c, e).0
                 }
-                Refused::SessionEnd(length) => calls.session_end(&[0; ELEMENT], &vec![0; length]).0,
+                Refused::SessionEnd(length) => calls.session_end(&vec![0; d], &vec![0; length]).0,
             };
             said.push(number);
         }
@@ -320,8 +334,9 @@ impl Case for Moves {
         if answer.number != 0 {
             return None;
         }
-        let (c, f) = (answer.commitment, answer.final_element);
-        Some(all(0, &t, &c, &f, answer.verdict))
+        let d = t.shape.d;
+        let (c, f) = (&answer.commitment[..d], &answer.final_element[..d]);
+        Some(all(0, &t, c, f, answer.verdict))
     }
 
     fn verified(&self) -> Outcome {

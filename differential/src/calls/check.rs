@@ -1,33 +1,51 @@
 //! The check of a transcript.
 
-use super::lent::{lend, places, width};
+use super::lent::{four, places};
 use super::VERDICTS;
-use crate::case::{Case, Outcome, Table};
+use crate::case::{Call, Outcome, Table};
 use crate::verified;
-use reference::cases::{calls, Page};
 use reference::draw::session::any_transcript;
-use reference::draw::transcript::Transcript;
 use reference::draw::{damage_some, Limits};
+use reference::plain::refusals::Lengths;
 use reference::random::Random;
-use reference::types::CheckAnswer;
+use reference::types::{CheckAnswer, Residues, Settings, Wholes};
 use reference::{fast, plain};
 
 #[derive(Clone)]
 pub struct Check {
-    /// With the elements that the lent slices stand for.
-    input: Transcript,
+    settings: Settings,
     commitment: Vec<u32>,
     last: Vec<i32>,
+    key: Vec<u32>,
+    rounds: Vec<u32>,
+    challenges: Vec<u32>,
+    verdict: u32,
 }
 
-fn outcome(answer: CheckAnswer) -> Outcome {
-    Outcome::new(answer.number).with_word("verdict", answer.verdict, &VERDICTS)
+/// The check by one of the references.
+type Checker = fn(Settings, Residues, Wholes, &[u32], &[u32], &[u32]) -> CheckAnswer;
+
+impl Check {
+    fn check(&mut self, check: Checker) -> u32 {
+        let answer = check(
+            self.settings,
+            places(&self.commitment),
+            places(&self.last),
+            &self.key,
+            &self.rounds,
+            &self.challenges,
+        );
+        self.verdict = answer.verdict;
+        answer.number
+    }
 }
 
-impl Case for Check {
+impl Call for Check {
     const NAME: &'static str = "check";
     const NUMBERS: &'static [u32] = &[0, 3, 4, 5, 6, 7, 8, 10];
     const WORDS: &'static [&'static str] = &["accepted", "rejected"];
+    const SLICES: &'static [&'static str] = &["commitment", "last", "key", "rounds", "challenges"];
+    const FAST: bool = true;
 
     fn draw(random: &mut Random, limits: &Limits) -> Check {
         let (mut input, _) = any_transcript(random, limits);
@@ -35,73 +53,70 @@ impl Case for Check {
             damage_some(random, &mut input);
         }
         let d = input.shape.d;
-        let commitment = lend(&input.commitment, width(random, d), u32::MAX);
-        let last = lend(&input.final_element, width(random, d), i32::MIN);
-        input.commitment = places(&commitment);
-        input.final_element = places(&last);
         Check {
-            input,
-            commitment,
-            last,
+            settings: input.settings,
+            commitment: input.commitment[..d].to_vec(),
+            last: input.final_element[..d].to_vec(),
+            key: input.key,
+            rounds: input.rounds,
+            challenges: input.challenges,
+            verdict: u32::MAX,
         }
     }
 
-    fn plain(&self) -> Outcome {
-        let t = &self.input;
-        let (c, f) = (t.commitment, t.final_element);
-        outcome(plain::check(
-            t.settings,
-            c,
-            f,
-            &t.key,
-            &t.rounds,
-            &t.challenges,
-        ))
+    fn settings(&self) -> Option<Settings> {
+        Some(self.settings)
     }
 
-    fn fast(&self) -> Option<Outcome> {
-        let t = &self.input;
-        let (c, f) = (t.commitment, t.final_element);
-        Some(outcome(fast::check(
-            t.settings,
-            c,
-            f,
-            &t.key,
-            &t.rounds,
-            &t.challenges,
-        )))
-    }
-
-    fn verified(&self) -> Outcome {
-        let t = &self.input;
-        let (c, f) = (&self.commitment, &self.last);
-        let mut verdict = u32::MAX;
-        let number = verified::check(
-            t.settings,
-            c,
-            f,
-            &t.key,
-            &t.rounds,
-            &t.challenges,
-            &mut verdict,
-        );
-        outcome(CheckAnswer { number, verdict })
-    }
-
-    fn tables(&mut self) -> Vec<Table<'_>> {
+    fn pairs(&self, of: &Lengths) -> Vec<(usize, usize)> {
         vec![
-            Table::Unsigned(&mut self.input.key),
-            Table::Unsigned(&mut self.input.rounds),
-            Table::Unsigned(&mut self.input.challenges),
+            (self.commitment.len(), of.element),
+            (self.last.len(), of.element),
+            (self.key.len(), of.table),
+            (self.rounds.len(), of.rounds),
+            (self.challenges.len(), of.challenges),
         ]
     }
 
-    fn print(&self, page: &mut Page) {
-        calls::check(page, &self.input);
-        page.header(&format!(
-            "slices of {} and {}",
-            self.commitment.len(),
-            self.last.len()
-        ));
+    fn by_plain(&mut self) -> u32 {
+        self.check(plain::check)
+    }
+
+    fn by_fast(&mut self) -> u32 {
+        self.check(fast::check)
+    }
+
+    fn by_verified(&mut self) -> u32 {
+        verified::check(
+            self.settings,
+            &self.commitment,
+            &self.last,
+            &self.key,
+            &self.rounds,
+            &self.challenges,
+            &mut self.verdict,
+        )
+    }
+
+    fn refuse(&mut self) {
+        self.verdict = 0;
+    }
+
+    fn slices(&mut self) -> Vec<Table<'_>> {
+        vec![
+            Table::Unsigned(&mut self.commitment),
+            Table::Signed(&mut self.last),
+            Table::Unsigned(&mut self.key),
+            Table::Unsigned(&mut self.rounds),
+            Table::Unsigned(&mut self.challenges),
+        ]
+    }
+
+    fn outcome(&self, number: u32) -> Outcome {
+        Outcome::new(number).with_word("verdict", self.verdict, &VERDICTS)
+    }
+
+    fn numbers(&self) -> Vec<u32> {
+        four(self.settings).to_vec()
     }
 }

@@ -1,40 +1,36 @@
 //! Commit.
 
-use super::lent::{room, stored};
-use crate::case::{Case, Outcome, Table};
-use crate::verified::{self, ELEMENT, SHORT};
-use reference::cases::{calls, Page};
+use super::lent::four;
+use crate::case::{Call, Outcome, Table};
+use crate::verified;
 use reference::draw::tables::{self, CommitInput};
 use reference::draw::{damage_some, Limits};
+use reference::plain::refusals::Lengths;
 use reference::random::Random;
-use reference::types::CommitAnswer;
+use reference::types::{CommitAnswer, Settings};
 use reference::{fast, plain};
 
 #[derive(Clone)]
 pub struct Commit {
-    input: CommitInput,
-    /// Numbers of the slice for the commitment.
-    room: usize,
+    settings: Settings,
+    key: Vec<u32>,
+    message: Vec<i32>,
+    commitment: Vec<u32>,
 }
 
 impl Commit {
-    fn commitment(&self) -> Vec<u32> {
-        vec![u32::MAX; self.room]
-    }
-
-    /// What an answer of the reference comes to in the lent slice.
-    fn outcome(&self, answer: CommitAnswer) -> Outcome {
-        if self.room < ELEMENT {
-            return Outcome::new(SHORT).with("commitment", &self.commitment());
-        }
-        let after = stored(&self.commitment(), &answer.commitment);
-        Outcome::new(answer.number).with("commitment", &after)
+    fn store(&mut self, answer: CommitAnswer) -> u32 {
+        let d = self.commitment.len();
+        self.commitment.copy_from_slice(&answer.commitment[..d]);
+        answer.number
     }
 }
 
-impl Case for Commit {
+impl Call for Commit {
     const NAME: &'static str = "commit";
-    const NUMBERS: &'static [u32] = &[0, 3, 4, 5, 6, 7, 8, 9, 100];
+    const NUMBERS: &'static [u32] = &[0, 3, 4, 5, 6, 7, 8, 9];
+    const SLICES: &'static [&'static str] = &["key", "message", "commitment"];
+    const FAST: bool = true;
 
     fn draw(random: &mut Random, limits: &Limits) -> Commit {
         let mut input = CommitInput(tables::opening(random, limits));
@@ -42,37 +38,55 @@ impl Case for Commit {
             damage_some(random, &mut input);
         }
         Commit {
-            input,
-            room: room(random, ELEMENT),
+            commitment: vec![u32::MAX; input.0.shape.d],
+            settings: input.0.settings,
+            key: input.0.key,
+            message: input.0.message,
         }
     }
 
-    fn plain(&self) -> Outcome {
-        let input = &self.input.0;
-        self.outcome(plain::commit(input.settings, &input.key, &input.message))
+    fn settings(&self) -> Option<Settings> {
+        Some(self.settings)
     }
 
-    fn fast(&self) -> Option<Outcome> {
-        let input = &self.input.0;
-        Some(self.outcome(fast::commit(input.settings, &input.key, &input.message)))
-    }
-
-    fn verified(&self) -> Outcome {
-        let input = &self.input.0;
-        let mut commitment = self.commitment();
-        let number = verified::commit(input.settings, &input.key, &input.message, &mut commitment);
-        Outcome::new(number).with("commitment", &commitment)
-    }
-
-    fn tables(&mut self) -> Vec<Table<'_>> {
+    fn pairs(&self, of: &Lengths) -> Vec<(usize, usize)> {
         vec![
-            Table::Unsigned(&mut self.input.0.key),
-            Table::Signed(&mut self.input.0.message),
+            (self.key.len(), of.table),
+            (self.message.len(), of.table),
+            (self.commitment.len(), of.element),
         ]
     }
 
-    fn print(&self, page: &mut Page) {
-        calls::commit(page, &self.input.0);
-        page.header(&format!("a slice of {} for the commitment", self.room));
+    fn by_plain(&mut self) -> u32 {
+        self.store(plain::commit(self.settings, &self.key, &self.message))
+    }
+
+    fn by_fast(&mut self) -> u32 {
+        self.store(fast::commit(self.settings, &self.key, &self.message))
+    }
+
+    fn by_verified(&mut self) -> u32 {
+        verified::commit(
+            self.settings,
+            &self.key,
+            &self.message,
+            &mut self.commitment,
+        )
+    }
+
+    fn slices(&mut self) -> Vec<Table<'_>> {
+        vec![
+            Table::Unsigned(&mut self.key),
+            Table::Signed(&mut self.message),
+            Table::Unsigned(&mut self.commitment),
+        ]
+    }
+
+    fn outcome(&self, number: u32) -> Outcome {
+        Outcome::new(number).with("commitment", &self.commitment)
+    }
+
+    fn numbers(&self) -> Vec<u32> {
+        four(self.settings).to_vec()
     }
 }

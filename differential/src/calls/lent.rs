@@ -1,39 +1,54 @@
-//! Elements in lent slices.
+//! Elements and records as the exported calls take them, in slices of
+//! exactly their lengths.
 
-use crate::verified::ELEMENT;
-use reference::random::Random;
+use reference::types::{Polynomial, Record, Settings, PLACES};
 
-/// Numbers of a slice for an element: an element's own, fewer, or more.
-pub fn width(random: &mut Random, d: usize) -> usize {
-    random.pick(&[ELEMENT, ELEMENT, d, d, d + 1, ELEMENT + 6, d - 1])
-}
-
-/// Numbers of a slice that an element is written to: now and then too few.
-pub fn room(random: &mut Random, wanted: usize) -> usize {
-    match random.below(16) {
-        0 => random.below(wanted),
-        1 => wanted - 1,
-        2 => wanted + 6,
-        _ => wanted,
-    }
-}
-
-/// The slice that is lent for an element by value; numbers behind its places
-/// are not read.
-pub fn lend<T: Copy>(places: &[T; ELEMENT], width: usize, behind: T) -> Vec<T> {
-    let mut lent = places[..width.min(ELEMENT)].to_vec();
-    lent.resize(width, behind);
-    lent
-}
-
-/// The element by value that a slice stands for: missing places are 0.
-pub fn places<T: Copy + Default>(lent: &[T]) -> [T; ELEMENT] {
+/// The element by value that a slice of d numbers stands for.
+pub fn places<T: Copy + Default>(lent: &[T]) -> [T; PLACES] {
     std::array::from_fn(|k| lent.get(k).copied().unwrap_or_default())
 }
 
-/// A slice after an element was written to its front.
-pub fn stored<T: Copy>(out: &[T], places: &[T]) -> Vec<T> {
-    let mut after = out.to_vec();
-    after[..places.len()].copy_from_slice(places);
-    after
+/// The round polynomial that a slice of 3·d numbers stands for.
+pub fn polynomial(lent: &[u32]) -> Polynomial {
+    let d = lent.len() / 3;
+    std::array::from_fn(|j| places(&lent[j * d..(j + 1) * d]))
+}
+
+/// A round polynomial in a slice of 3·d numbers.
+pub fn flat(c: &Polynomial, d: usize) -> Vec<u32> {
+    c.iter()
+        .flat_map(|element| &element[..d])
+        .copied()
+        .collect()
+}
+
+/// A record as it stands in a slice of 78 numbers.
+pub fn numbers(r: &Record) -> Vec<u32> {
+    let s = r.settings;
+    let mut list = vec![s.degree, s.depth, s.modulus, s.bound, r.done];
+    list.push(u32::from(r.closed));
+    list.extend(r.challenges);
+    list.extend(r.claim);
+    list
+}
+
+/// The record that a slice of 78 numbers holds.
+pub fn record(t: &[u32]) -> Record {
+    Record {
+        settings: Settings::new(t[0], t[1], t[2], t[3]),
+        done: t[4],
+        closed: t[5] == 1,
+        challenges: std::array::from_fn(|k| t[6 + k]),
+        claim: places(&t[14..]),
+    }
+}
+
+/// The settings as numbers.
+pub fn four(s: Settings) -> [u32; 4] {
+    [s.degree, s.depth, s.modulus, s.bound]
+}
+
+/// The number of an admission by the refusals behind the fast reference.
+pub fn number_of<T>(admitted: Result<T, u32>) -> Option<u32> {
+    Some(admitted.err().unwrap_or(0))
 }

@@ -1,12 +1,12 @@
 //! The whole opening.
 
-use super::lent::{room, stored};
+use super::lent::four;
 use super::VERDICTS;
-use crate::case::{Case, Outcome, Table};
-use crate::verified::{self, ELEMENT, SHORT};
-use reference::cases::{calls, Page};
+use crate::case::{Call, Outcome, Table};
+use crate::verified;
 use reference::draw::tables::{self, OpeningInput};
 use reference::draw::{damage_some, Limits};
+use reference::plain::refusals::Lengths;
 use reference::random::Random;
 use reference::types::{OpeningAnswer, Settings};
 use reference::{fast, plain};
@@ -14,36 +14,29 @@ use reference::{fast, plain};
 #[derive(Clone)]
 pub struct Opening {
     input: OpeningInput,
-    /// Numbers of the slices for commitment and final element.
-    rooms: (usize, usize),
+    commitment: Vec<u32>,
+    last: Vec<i32>,
+    verdict: u32,
 }
 
 /// A whole opening by one of the references.
 type Open = fn(Settings, &mut [u32], &mut [i32], &[u32], &mut [u32]) -> OpeningAnswer;
 
 impl Opening {
-    fn commitment(&self) -> Vec<u32> {
-        vec![u32::MAX; self.rooms.0]
-    }
-
-    fn last(&self) -> Vec<i32> {
-        vec![i32::MIN; self.rooms.1]
-    }
-
-    /// What a reference answers, and leaves in the lent slices.
-    fn outcome(&self, open: Open) -> Outcome {
-        let mut t = self.input.clone();
-        let (mut commitment, mut last) = (self.commitment(), self.last());
-        let (mut number, mut verdict) = (SHORT, u32::MAX);
-        if self.rooms.0.min(self.rooms.1) >= ELEMENT {
-            let (key, message, rounds) = (&mut t.key, &mut t.message, &mut t.rounds);
-            let answer = open(t.settings, key, message, &t.challenges, rounds);
-            number = answer.number;
-            verdict = answer.verdict;
-            commitment = stored(&commitment, &answer.commitment);
-            last = stored(&last, &answer.final_element);
-        }
-        all(number, &t, &commitment, &last, verdict)
+    fn open(&mut self, open: Open) -> u32 {
+        let t = &mut self.input;
+        let answer = open(
+            t.settings,
+            &mut t.key,
+            &mut t.message,
+            &t.challenges,
+            &mut t.rounds,
+        );
+        let d = self.commitment.len();
+        self.commitment = answer.commitment[..d].to_vec();
+        self.last = answer.final_element[..d].to_vec();
+        self.verdict = answer.verdict;
+        answer.number
     }
 }
 
@@ -64,10 +57,19 @@ pub fn all(
         .with_word("verdict", verdict, &VERDICTS)
 }
 
-impl Case for Opening {
+impl Call for Opening {
     const NAME: &'static str = "open";
-    const NUMBERS: &'static [u32] = &[0, 3, 4, 5, 6, 7, 8, 9, 10, 100];
+    const NUMBERS: &'static [u32] = &[0, 3, 4, 5, 6, 7, 8, 9, 10];
     const WORDS: &'static [&'static str] = &["accepted"];
+    const SLICES: &'static [&'static str] = &[
+        "key",
+        "message",
+        "challenges",
+        "rounds",
+        "commitment",
+        "last",
+    ];
+    const FAST: bool = true;
 
     fn draw(random: &mut Random, limits: &Limits) -> Opening {
         let mut input = tables::opening(random, limits);
@@ -75,46 +77,77 @@ impl Case for Opening {
             damage_some(random, &mut input);
         }
         Opening {
+            commitment: vec![u32::MAX; input.shape.d],
+            last: vec![i32::MIN; input.shape.d],
+            verdict: u32::MAX,
             input,
-            rooms: (room(random, ELEMENT), room(random, ELEMENT)),
         }
     }
 
-    fn plain(&self) -> Outcome {
-        self.outcome(plain::whole_opening)
+    fn settings(&self) -> Option<Settings> {
+        Some(self.input.settings)
     }
 
-    fn fast(&self) -> Option<Outcome> {
-        Some(self.outcome(fast::whole_opening))
+    fn pairs(&self, of: &Lengths) -> Vec<(usize, usize)> {
+        let t = &self.input;
+        vec![
+            (t.key.len(), of.table),
+            (t.message.len(), of.table),
+            (t.challenges.len(), of.challenges),
+            (t.rounds.len(), of.rounds),
+            (self.commitment.len(), of.element),
+            (self.last.len(), of.element),
+        ]
     }
 
-    fn verified(&self) -> Outcome {
-        let mut t = self.input.clone();
-        let (mut commitment, mut last) = (self.commitment(), self.last());
-        let mut verdict = u32::MAX;
-        let number = verified::open(
+    fn by_plain(&mut self) -> u32 {
+        self.open(plain::whole_opening)
+    }
+
+    fn by_fast(&mut self) -> u32 {
+        self.open(fast::whole_opening)
+    }
+
+    fn by_verified(&mut self) -> u32 {
+        let t = &mut self.input;
+        verified::open(
             t.settings,
             &mut t.key,
             &mut t.message,
             &t.challenges,
             &mut t.rounds,
-            &mut commitment,
-            &mut last,
-            &mut verdict,
-        );
-        all(number, &t, &commitment, &last, verdict)
+            &mut self.commitment,
+            &mut self.last,
+            &mut self.verdict,
+        )
     }
 
-    fn tables(&mut self) -> Vec<Table<'_>> {
+    fn refuse(&mut self) {
+        self.verdict = 0;
+    }
+
+    fn slices(&mut self) -> Vec<Table<'_>> {
         vec![
             Table::Unsigned(&mut self.input.key),
             Table::Signed(&mut self.input.message),
             Table::Unsigned(&mut self.input.challenges),
+            Table::Unsigned(&mut self.input.rounds),
+            Table::Unsigned(&mut self.commitment),
+            Table::Signed(&mut self.last),
         ]
     }
 
-    fn print(&self, page: &mut Page) {
-        calls::opening(page, &self.input);
-        page.header(&format!("slices of {} and {}", self.rooms.0, self.rooms.1));
+    fn outcome(&self, number: u32) -> Outcome {
+        all(
+            number,
+            &self.input,
+            &self.commitment,
+            &self.last,
+            self.verdict,
+        )
+    }
+
+    fn numbers(&self) -> Vec<u32> {
+        four(self.input.settings).to_vec()
     }
 }

@@ -1,13 +1,14 @@
 //! The prover's calls on its tables.
 
-use super::lent::{room, stored};
-use crate::case::{Case, Outcome, Table};
-use crate::verified::{self, ELEMENT, POLYNOMIAL, SHORT};
-use reference::cases::{calls, Page};
+use super::lent::{flat, four, number_of};
+use crate::case::{Call, Outcome, Table};
+use crate::verified;
 use reference::draw::tables::{self, ProverCall, ProverInput};
 use reference::draw::{damage_some, Limits};
-use reference::plain;
+use reference::plain::refusals::Lengths;
 use reference::random::Random;
+use reference::types::Settings;
+use reference::{admit, plain};
 
 /// A drawn input of one of the prover's calls, damaged once in two times.
 fn drawn(random: &mut Random, limits: &Limits, call: ProverCall) -> ProverInput {
@@ -21,142 +22,183 @@ fn drawn(random: &mut Random, limits: &Limits, call: ProverCall) -> ProverInput 
 #[derive(Clone)]
 pub struct ProverRound {
     input: ProverInput,
-    /// Numbers of the slice for the round polynomial.
-    room: usize,
+    polynomial: Vec<u32>,
 }
 
-impl ProverRound {
-    fn polynomial(&self) -> Vec<u32> {
-        vec![u32::MAX; self.room]
-    }
-}
-
-impl Case for ProverRound {
+impl Call for ProverRound {
     const NAME: &'static str = "round";
-    const NUMBERS: &'static [u32] = &[0, 3, 4, 5, 6, 7, 8, 9, 11, 100];
+    const NUMBERS: &'static [u32] = &[0, 3, 4, 5, 6, 7, 8, 9, 11];
+    const SLICES: &'static [&'static str] = &["key", "message", "polynomial"];
 
     fn draw(random: &mut Random, limits: &Limits) -> ProverRound {
+        let input = drawn(random, limits, ProverCall::Round);
         ProverRound {
-            input: drawn(random, limits, ProverCall::Round),
-            room: room(random, POLYNOMIAL),
+            polynomial: vec![u32::MAX; 3 * input.shape.d],
+            input,
         }
     }
 
-    fn plain(&self) -> Outcome {
-        if self.room < POLYNOMIAL {
-            return Outcome::new(SHORT).with("polynomial", &self.polynomial());
-        }
-        let ProverInput { settings, t, .. } = self.input;
-        let answer = plain::prover_round(settings, t, &self.input.key, &self.input.message);
-        let after = stored(&self.polynomial(), &answer.polynomial.concat());
-        Outcome::new(answer.number).with("polynomial", &after)
+    fn settings(&self) -> Option<Settings> {
+        Some(self.input.settings)
     }
 
-    fn verified(&self) -> Outcome {
-        let ProverInput { settings, t, .. } = self.input;
-        let mut polynomial = self.polynomial();
-        let (key, message) = (&self.input.key, &self.input.message);
-        let number = verified::round(settings, t, key, message, &mut polynomial);
-        Outcome::new(number).with("polynomial", &polynomial)
-    }
-
-    fn tables(&mut self) -> Vec<Table<'_>> {
+    fn pairs(&self, of: &Lengths) -> Vec<(usize, usize)> {
         vec![
-            Table::Unsigned(&mut self.input.key),
-            Table::Signed(&mut self.input.message),
+            (self.input.key.len(), of.table),
+            (self.input.message.len(), of.table),
+            (self.polynomial.len(), of.polynomial),
         ]
     }
 
-    fn print(&self, page: &mut Page) {
-        calls::round(page, &self.input);
-        page.header(&format!("a slice of {} for the polynomial", self.room));
+    fn by_plain(&mut self) -> u32 {
+        let i = &self.input;
+        let answer = plain::prover_round(i.settings, i.t, &i.key, &i.message);
+        self.polynomial = flat(&answer.polynomial, i.settings.degree as usize);
+        answer.number
+    }
+
+    fn by_admission(&self) -> Option<u32> {
+        let i = &self.input;
+        number_of(admit::prover_round(i.settings, i.t, &i.key, &i.message))
+    }
+
+    fn by_verified(&mut self) -> u32 {
+        let i = &self.input;
+        verified::round(i.settings, i.t, &i.key, &i.message, &mut self.polynomial)
+    }
+
+    fn slices(&mut self) -> Vec<Table<'_>> {
+        vec![
+            Table::Unsigned(&mut self.input.key),
+            Table::Signed(&mut self.input.message),
+            Table::Unsigned(&mut self.polynomial),
+        ]
+    }
+
+    fn outcome(&self, number: u32) -> Outcome {
+        Outcome::new(number).with("polynomial", &self.polynomial)
+    }
+
+    fn numbers(&self) -> Vec<u32> {
+        [&four(self.input.settings)[..], &[self.input.t]].concat()
     }
 }
 
 #[derive(Clone)]
 pub struct Fold(ProverInput);
 
-impl Case for Fold {
+impl Call for Fold {
     const NAME: &'static str = "fold";
     const NUMBERS: &'static [u32] = &[0, 3, 4, 5, 6, 7, 8, 9, 10, 11];
+    const SLICES: &'static [&'static str] = &["key", "message"];
 
     fn draw(random: &mut Random, limits: &Limits) -> Fold {
         Fold(drawn(random, limits, ProverCall::Fold))
     }
 
-    fn plain(&self) -> Outcome {
-        let ProverInput { settings, t, e, .. } = self.0;
-        let (mut key, mut message) = (self.0.key.clone(), self.0.message.clone());
-        Outcome::new(plain::fold(settings, t, e, &mut key, &mut message))
-            .with("key", &key)
-            .with("message", &message)
+    fn settings(&self) -> Option<Settings> {
+        Some(self.0.settings)
     }
 
-    fn verified(&self) -> Outcome {
-        let ProverInput { settings, t, e, .. } = self.0;
-        let (mut key, mut message) = (self.0.key.clone(), self.0.message.clone());
-        Outcome::new(verified::fold(settings, t, e, &mut key, &mut message))
-            .with("key", &key)
-            .with("message", &message)
+    fn pairs(&self, of: &Lengths) -> Vec<(usize, usize)> {
+        vec![
+            (self.0.key.len(), of.table),
+            (self.0.message.len(), of.table),
+        ]
     }
 
-    fn tables(&mut self) -> Vec<Table<'_>> {
+    fn by_plain(&mut self) -> u32 {
+        let i = &mut self.0;
+        plain::fold(i.settings, i.t, i.e, &mut i.key, &mut i.message)
+    }
+
+    fn by_admission(&self) -> Option<u32> {
+        let i = &self.0;
+        number_of(admit::fold(i.settings, i.t, i.e, &i.key, &i.message))
+    }
+
+    fn by_verified(&mut self) -> u32 {
+        let i = &mut self.0;
+        verified::fold(i.settings, i.t, i.e, &mut i.key, &mut i.message)
+    }
+
+    fn slices(&mut self) -> Vec<Table<'_>> {
         vec![
             Table::Unsigned(&mut self.0.key),
             Table::Signed(&mut self.0.message),
         ]
     }
 
-    fn print(&self, page: &mut Page) {
-        calls::fold(page, &self.0);
+    fn outcome(&self, number: u32) -> Outcome {
+        Outcome::new(number)
+            .with("key", &self.0.key)
+            .with("message", &self.0.message)
+    }
+
+    fn numbers(&self) -> Vec<u32> {
+        [&four(self.0.settings)[..], &[self.0.t, self.0.e]].concat()
     }
 }
 
 #[derive(Clone)]
 pub struct End {
     input: ProverInput,
-    /// Numbers of the slice for the final element.
-    room: usize,
+    last: Vec<i32>,
 }
 
-impl End {
-    fn last(&self) -> Vec<i32> {
-        vec![i32::MIN; self.room]
-    }
-}
-
-impl Case for End {
+impl Call for End {
     const NAME: &'static str = "end";
-    const NUMBERS: &'static [u32] = &[0, 3, 4, 5, 6, 7, 9, 11, 100];
+    const NUMBERS: &'static [u32] = &[0, 3, 4, 5, 6, 7, 9, 11];
+    const SLICES: &'static [&'static str] = &["message", "last"];
 
     fn draw(random: &mut Random, limits: &Limits) -> End {
+        let input = drawn(random, limits, ProverCall::End);
         End {
-            input: drawn(random, limits, ProverCall::End),
-            room: room(random, ELEMENT),
+            last: vec![i32::MIN; input.shape.d],
+            input,
         }
     }
 
-    fn plain(&self) -> Outcome {
-        if self.room < ELEMENT {
-            return Outcome::new(SHORT).with("last", &self.last());
-        }
-        let ProverInput { settings, t, .. } = self.input;
-        let answer = plain::prover_end(settings, t, &self.input.message);
-        Outcome::new(answer.number).with("last", &stored(&self.last(), &answer.final_element))
+    fn settings(&self) -> Option<Settings> {
+        Some(self.input.settings)
     }
 
-    fn verified(&self) -> Outcome {
-        let ProverInput { settings, t, .. } = self.input;
-        let mut last = self.last();
-        Outcome::new(verified::end(settings, t, &self.input.message, &mut last)).with("last", &last)
+    fn pairs(&self, of: &Lengths) -> Vec<(usize, usize)> {
+        vec![
+            (self.input.message.len(), of.table),
+            (self.last.len(), of.element),
+        ]
     }
 
-    fn tables(&mut self) -> Vec<Table<'_>> {
-        vec![Table::Signed(&mut self.input.message)]
+    fn by_plain(&mut self) -> u32 {
+        let i = &self.input;
+        let answer = plain::prover_end(i.settings, i.t, &i.message);
+        self.last = answer.final_element[..self.last.len()].to_vec();
+        answer.number
     }
 
-    fn print(&self, page: &mut Page) {
-        calls::end(page, &self.input);
-        page.header(&format!("a slice of {} for the final element", self.room));
+    fn by_admission(&self) -> Option<u32> {
+        let i = &self.input;
+        number_of(admit::prover_end(i.settings, i.t, &i.message))
+    }
+
+    fn by_verified(&mut self) -> u32 {
+        let i = &self.input;
+        verified::end(i.settings, i.t, &i.message, &mut self.last)
+    }
+
+    fn slices(&mut self) -> Vec<Table<'_>> {
+        vec![
+            Table::Signed(&mut self.input.message),
+            Table::Signed(&mut self.last),
+        ]
+    }
+
+    fn outcome(&self, number: u32) -> Outcome {
+        Outcome::new(number).with("last", &self.last)
+    }
+
+    fn numbers(&self) -> Vec<u32> {
+        [&four(self.input.settings)[..], &[self.input.t]].concat()
     }
 }

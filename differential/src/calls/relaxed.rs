@@ -1,12 +1,13 @@
 //! The judge of relaxed openings.
 
-use super::lent::{lend, places, width};
-use crate::case::{Case, Outcome, Table};
+use super::lent::{four, places};
+use crate::case::{Call, Outcome, Table};
 use crate::verified;
-use reference::cases::{calls, Page};
-use reference::draw::tables::{self, JudgeInput};
+use reference::draw::tables;
 use reference::draw::{damage_some, Limits};
+use reference::plain::refusals::Lengths;
 use reference::random::Random;
+use reference::types::{JudgeAnswer, Residues, Settings};
 use reference::{fast, plain};
 
 /// What a judge that does not refuse says.
@@ -14,58 +15,96 @@ const JUDGED: [&str; 2] = ["no", "yes"];
 
 #[derive(Clone)]
 pub struct Judge {
-    /// With the commitment that the lent slice stands for.
-    input: JudgeInput,
+    settings: Settings,
     commitment: Vec<u32>,
+    slack: u32,
+    key: Vec<u32>,
+    w: Vec<i64>,
+    yes: u32,
 }
 
-impl Case for Judge {
+/// The judge by one of the references.
+type Judging = fn(Settings, Residues, u32, &[u32], &[i64]) -> JudgeAnswer;
+
+impl Judge {
+    fn judge(&mut self, judge: Judging) -> u32 {
+        let commitment = places(&self.commitment);
+        let answer = judge(self.settings, commitment, self.slack, &self.key, &self.w);
+        self.yes = u32::from(answer.yes);
+        answer.number
+    }
+}
+
+impl Call for Judge {
     const NAME: &'static str = "judge";
     const NUMBERS: &'static [u32] = &[0, 3, 4, 5, 6, 7, 8, 14, 15];
     const WORDS: &'static [&'static str] = &["no", "yes"];
+    const SLICES: &'static [&'static str] = &["commitment", "key", "w"];
+    const FAST: bool = true;
 
     fn draw(random: &mut Random, limits: &Limits) -> Judge {
         let (mut input, _) = tables::judge(random, limits);
         if random.one_in(2) {
             damage_some(random, &mut input);
         }
-        let width = width(random, input.shape.d);
-        let commitment = lend(&input.commitment, width, u32::MAX);
-        input.commitment = places(&commitment);
-        Judge { input, commitment }
+        Judge {
+            settings: input.settings,
+            commitment: input.commitment[..input.shape.d].to_vec(),
+            slack: input.c,
+            key: input.key,
+            w: input.w,
+            yes: u32::MAX,
+        }
     }
 
-    fn plain(&self) -> Outcome {
-        let JudgeInput { settings, c, .. } = self.input;
-        let (key, w) = (&self.input.key, &self.input.w);
-        let answer = plain::judge(settings, self.input.commitment, c, key, w);
-        Outcome::new(answer.number).with_word("yes", u32::from(answer.yes), &JUDGED)
+    fn settings(&self) -> Option<Settings> {
+        Some(self.settings)
     }
 
-    fn fast(&self) -> Option<Outcome> {
-        let JudgeInput { settings, c, .. } = self.input;
-        let (key, w) = (&self.input.key, &self.input.w);
-        let answer = fast::judge(settings, self.input.commitment, c, key, w);
-        Some(Outcome::new(answer.number).with_word("yes", u32::from(answer.yes), &JUDGED))
-    }
-
-    fn verified(&self) -> Outcome {
-        let JudgeInput { settings, c, .. } = self.input;
-        let (key, w) = (&self.input.key, &self.input.w);
-        let mut yes = u32::MAX;
-        let number = verified::judge(settings, &self.commitment, c, key, w, &mut yes);
-        Outcome::new(number).with_word("yes", yes, &JUDGED)
-    }
-
-    fn tables(&mut self) -> Vec<Table<'_>> {
+    fn pairs(&self, of: &Lengths) -> Vec<(usize, usize)> {
         vec![
-            Table::Unsigned(&mut self.input.key),
-            Table::Wide(&mut self.input.w),
+            (self.commitment.len(), of.element),
+            (self.key.len(), of.table),
+            (self.w.len(), of.table),
         ]
     }
 
-    fn print(&self, page: &mut Page) {
-        calls::judge(page, &self.input);
-        page.header(&format!("a slice of {}", self.commitment.len()));
+    fn by_plain(&mut self) -> u32 {
+        self.judge(plain::judge)
+    }
+
+    fn by_fast(&mut self) -> u32 {
+        self.judge(fast::judge)
+    }
+
+    fn by_verified(&mut self) -> u32 {
+        verified::judge(
+            self.settings,
+            &self.commitment,
+            self.slack,
+            &self.key,
+            &self.w,
+            &mut self.yes,
+        )
+    }
+
+    fn refuse(&mut self) {
+        self.yes = 0;
+    }
+
+    fn slices(&mut self) -> Vec<Table<'_>> {
+        vec![
+            Table::Unsigned(&mut self.commitment),
+            Table::Unsigned(&mut self.key),
+            Table::Wide(&mut self.w),
+        ]
+    }
+
+    fn outcome(&self, number: u32) -> Outcome {
+        Outcome::new(number).with_word("yes", self.yes, &JUDGED)
+    }
+
+    fn numbers(&self) -> Vec<u32> {
+        [&four(self.settings)[..], &[self.slack]].concat()
     }
 }

@@ -1,159 +1,152 @@
 //! The moves of a verifier's session, on records in lent slices.
 
-use super::lent::{lend, places, room, stored, width};
+use super::lent::{flat, four, number_of, numbers, places, polynomial, record};
 use super::VERDICTS;
-use crate::case::{Case, Outcome, Table};
-use crate::verified::{self, ELEMENT, POLYNOMIAL, SESSION, SHORT};
-use reference::cases::{calls, Page};
-use reference::draw::session::{self, StartInput};
+use crate::case::{Call, Outcome, Table};
+use crate::verified::{self, SESSION};
+use reference::draw::session;
 use reference::draw::{damage_some, Limits};
-use reference::plain;
+use reference::plain::refusals::Lengths;
 use reference::random::Random;
-use reference::types::{MoveAnswer, Polynomial, Record, Settings};
+use reference::types::{MoveAnswer, Record, Settings};
+use reference::{admit, plain};
 
-/// A record as it stands in a slice.
-pub fn numbers(r: &Record) -> Vec<u32> {
-    let s = r.settings;
-    let head = [s.degree, s.depth, s.modulus, s.bound, r.done];
-    let mut list = head.to_vec();
-    list.push(u32::from(r.closed));
-    list.extend(r.challenges);
-    list.extend(r.claim);
-    list
-}
-
-/// The record that a slice of enough numbers holds.
-fn record(t: &[u32]) -> Record {
-    Record {
-        settings: Settings::new(t[0], t[1], t[2], t[3]),
-        done: t[4],
-        closed: t[5] != 0,
-        challenges: std::array::from_fn(|k| t[6 + k]),
-        claim: places(&t[14..]),
-    }
-}
-
-/// The slice that is lent for a record: now and then too short, or longer,
-/// or with another number that says closed.
+/// The slice that is lent for a record: now and then with a number in place
+/// of closed that is neither 0 nor 1.
 fn lend_record(random: &mut Random, r: &Record) -> Vec<u32> {
     let mut t = numbers(r);
-    if r.closed && random.one_in(2) {
-        t[5] = random.pick(&[2, 256, u32::MAX]);
+    if random.one_in(12) {
+        t[5] = random.pick(&[2, 3, 256, u32::MAX]);
     }
-    t.resize(room(random, SESSION), u32::MAX);
     t
 }
 
-/// The slice that is lent for a round polynomial.
-fn lend_polynomial(random: &mut Random, c: &Polynomial, d: usize) -> Vec<u32> {
-    let mut t = c.concat();
-    let last = POLYNOMIAL - ELEMENT + d;
-    t.resize(
-        random.pick(&[POLYNOMIAL, POLYNOMIAL, last, POLYNOMIAL + 6, last - 1, d]),
-        u32::MAX,
-    );
-    t
+/// The settings of a record, where the slice holds one.
+fn settings_of(t: &[u32]) -> Option<Settings> {
+    (t.len() == SESSION).then(|| record(t).settings)
 }
 
-/// The round polynomial that a slice stands for.
-pub fn polynomial(t: &[u32]) -> Polynomial {
-    std::array::from_fn(|j| places(t.get(j * ELEMENT..).unwrap_or_default()))
-}
-
-/// What a move leaves in a slice, and its verdict; `before` is what the
-/// number for the verdict held.
-fn moved(t: &[u32], before: u32, play: impl Fn(Record) -> MoveAnswer) -> Outcome {
-    if t.len() < SESSION {
-        return outcome(SHORT, t, before);
+/// A slice of another length than 78 holds no record: 7 at once.
+fn no_record(t: &[u32]) -> u32 {
+    if t.len() == SESSION {
+        0
+    } else {
+        7
     }
-    let answer = play(record(t));
-    if answer.number != 0 {
-        return outcome(answer.number, t, answer.verdict);
-    }
-    let after = stored(t, &numbers(&answer.record));
-    outcome(0, &after, answer.verdict)
 }
 
-fn outcome(number: u32, t: &[u32], verdict: u32) -> Outcome {
-    Outcome::new(number)
-        .with("session", t)
-        .with_word("verdict", verdict, &VERDICTS)
+/// The number that says whether a record is closed, and the nearest one
+/// that it may be.
+fn closed(t: &[u32]) -> (usize, usize) {
+    (t[5] as usize, t[5].min(1) as usize)
+}
+
+/// The move was refused for the number of closed alone.
+fn closed_remark(t: &[u32], number: u32, lengths_right: bool) -> Vec<String> {
+    if number == 7 && lengths_right && t.len() == SESSION && t[5] > 1 {
+        return vec!["closed neither 0 nor 1".to_string()];
+    }
+    if number == 11 && t[5] == 1 {
+        return vec!["closed".to_string()];
+    }
+    Vec::new()
 }
 
 #[derive(Clone)]
 pub struct Start {
-    /// With the commitment that the lent slice stands for.
-    input: StartInput,
+    settings: Settings,
     commitment: Vec<u32>,
-    /// Numbers of the slice for the record.
-    room: usize,
+    session: Vec<u32>,
 }
 
-impl Start {
-    fn session(&self) -> Vec<u32> {
-        vec![u32::MAX; self.room]
-    }
-}
-
-impl Case for Start {
+impl Call for Start {
     const NAME: &'static str = "session start";
-    const NUMBERS: &'static [u32] = &[0, 3, 4, 5, 6, 8, 100];
+    const NUMBERS: &'static [u32] = &[0, 3, 4, 5, 6, 7, 8];
+    const SLICES: &'static [&'static str] = &["commitment", "session"];
 
     fn draw(random: &mut Random, limits: &Limits) -> Start {
         let mut input = session::start(random, limits);
         if random.one_in(2) {
             damage_some(random, &mut input);
         }
-        let commitment = lend(&input.commitment, width(random, input.shape.d), u32::MAX);
-        input.commitment = places(&commitment);
         Start {
-            input,
-            commitment,
-            room: room(random, SESSION),
+            settings: input.settings,
+            commitment: input.commitment[..input.shape.d].to_vec(),
+            session: vec![u32::MAX; SESSION],
         }
     }
 
-    fn plain(&self) -> Outcome {
-        let before = self.session();
-        if self.room < SESSION {
-            return Outcome::new(SHORT).with("session", &before);
+    fn settings(&self) -> Option<Settings> {
+        Some(self.settings)
+    }
+
+    fn pairs(&self, of: &Lengths) -> Vec<(usize, usize)> {
+        vec![
+            (self.commitment.len(), of.element),
+            (self.session.len(), SESSION),
+        ]
+    }
+
+    fn by_plain(&mut self) -> u32 {
+        let answer = plain::session_start(self.settings, places(&self.commitment));
+        self.session = numbers(&answer.record);
+        answer.number
+    }
+
+    fn by_admission(&self) -> Option<u32> {
+        let commitment = places(&self.commitment);
+        number_of(admit::session_start(self.settings, &commitment))
+    }
+
+    fn by_verified(&mut self) -> u32 {
+        verified::session_start(self.settings, &self.commitment, &mut self.session)
+    }
+
+    /// A refused start writes the closed record of zeros where it can.
+    fn refuse(&mut self) {
+        if self.session.len() == SESSION {
+            self.session = numbers(&Record::refused());
         }
-        let answer = plain::session_start(self.input.settings, self.input.commitment);
-        let after = stored(&before, &numbers(&answer.record));
-        Outcome::new(answer.number).with("session", &after)
     }
 
-    fn verified(&self) -> Outcome {
-        let mut t = self.session();
-        let number = verified::session_start(self.input.settings, &self.commitment, &mut t);
-        Outcome::new(number).with("session", &t)
+    fn slices(&mut self) -> Vec<Table<'_>> {
+        vec![
+            Table::Unsigned(&mut self.commitment),
+            Table::Unsigned(&mut self.session),
+        ]
     }
 
-    fn tables(&mut self) -> Vec<Table<'_>> {
-        Vec::new()
+    fn outcome(&self, number: u32) -> Outcome {
+        Outcome::new(number).with("session", &self.session)
     }
 
-    fn print(&self, page: &mut Page) {
-        calls::start(page, &self.input);
-        page.header(&format!(
-            "slices of {} and {}",
-            self.commitment.len(),
-            self.room
-        ));
+    fn numbers(&self) -> Vec<u32> {
+        four(self.settings).to_vec()
     }
 }
 
 #[derive(Clone)]
 pub struct SessionRound {
-    e: u32,
     polynomial: Vec<u32>,
     session: Vec<u32>,
+    e: u32,
+    verdict: u32,
 }
 
-impl Case for SessionRound {
+impl SessionRound {
+    fn store(&mut self, answer: MoveAnswer) -> u32 {
+        self.session = numbers(&answer.record);
+        self.verdict = answer.verdict;
+        answer.number
+    }
+}
+
+impl Call for SessionRound {
     const NAME: &'static str = "session round";
-    const NUMBERS: &'static [u32] = &[0, 3, 4, 5, 6, 8, 10, 11, 100];
-    const WORDS: &'static [&'static str] = &["holds", "rejected"];
+    const NUMBERS: &'static [u32] = &[0, 3, 4, 5, 6, 7, 8, 10, 11];
+    const WORDS: &'static [&'static str] =
+        &["holds", "rejected", "closed", "closed neither 0 nor 1"];
+    const SLICES: &'static [&'static str] = &["polynomial", "session"];
 
     fn draw(random: &mut Random, limits: &Limits) -> SessionRound {
         let (mut input, _) = session::round(random, limits);
@@ -161,38 +154,83 @@ impl Case for SessionRound {
             damage_some(random, &mut input);
         }
         SessionRound {
-            e: input.e,
-            polynomial: lend_polynomial(random, &input.polynomial, input.shape.d),
+            polynomial: flat(&input.polynomial, input.shape.d),
             session: lend_record(random, &input.record),
+            e: input.e,
+            verdict: u32::MAX,
         }
     }
 
-    fn plain(&self) -> Outcome {
+    fn settings(&self) -> Option<Settings> {
+        settings_of(&self.session)
+    }
+
+    fn at_once(&self) -> u32 {
+        no_record(&self.session)
+    }
+
+    fn pairs(&self, of: &Lengths) -> Vec<(usize, usize)> {
+        vec![
+            (self.polynomial.len(), of.polynomial),
+            (self.session.len(), SESSION),
+            closed(&self.session),
+        ]
+    }
+
+    /// Where the slice of the record has another length, nothing else is
+    /// tested.
+    fn known_pairs(&self) -> Option<Vec<(usize, usize)>> {
+        if self.at_once() != 0 {
+            return Some(vec![(0, 0), (self.session.len(), SESSION)]);
+        }
+        let s = self.settings()?;
+        (plain::refusals::settings(s) == 0).then(|| self.pairs(&plain::refusals::lengths(s)))
+    }
+
+    fn by_plain(&mut self) -> u32 {
         let c = polynomial(&self.polynomial);
-        moved(&self.session, u32::MAX, |r| {
-            plain::session_round(r, c, self.e)
-        })
+        self.store(plain::session_round(record(&self.session), c, self.e))
     }
 
-    fn verified(&self) -> Outcome {
-        let mut t = self.session.clone();
-        let mut verdict = u32::MAX;
-        let number = verified::session_round(&self.polynomial, self.e, &mut t, &mut verdict);
-        outcome(number, &t, verdict)
+    fn by_admission(&self) -> Option<u32> {
+        let c = polynomial(&self.polynomial);
+        number_of(admit::session_round(&record(&self.session), &c, self.e))
     }
 
-    fn tables(&mut self) -> Vec<Table<'_>> {
+    fn by_verified(&mut self) -> u32 {
+        verified::session_round(
+            &self.polynomial,
+            self.e,
+            &mut self.session,
+            &mut self.verdict,
+        )
+    }
+
+    fn refuse(&mut self) {
+        self.verdict = 0;
+    }
+
+    fn slices(&mut self) -> Vec<Table<'_>> {
         vec![
             Table::Unsigned(&mut self.polynomial),
             Table::Unsigned(&mut self.session),
         ]
     }
 
-    fn print(&self, page: &mut Page) {
-        page.header("session round: exponent, slice of the polynomial, slice of the record");
-        page.numbers([self.e]);
-        page.table(&self.polynomial);
-        page.table(&self.session);
+    fn outcome(&self, number: u32) -> Outcome {
+        Outcome::new(number)
+            .with("session", &self.session)
+            .with_word("verdict", self.verdict, &VERDICTS)
+    }
+
+    fn other_remarks(&self, number: u32) -> Vec<String> {
+        let pairs = self.known_pairs().unwrap_or_default();
+        let right = pairs.iter().take(2).all(|pair| pair.0 == pair.1);
+        closed_remark(&self.session, number, right)
+    }
+
+    fn numbers(&self) -> Vec<u32> {
+        vec![self.e]
     }
 }
 
@@ -201,41 +239,75 @@ pub struct SessionEnd {
     last: Vec<i32>,
     key: Vec<u32>,
     session: Vec<u32>,
+    verdict: u32,
 }
 
-impl Case for SessionEnd {
+impl Call for SessionEnd {
     const NAME: &'static str = "session end";
-    const NUMBERS: &'static [u32] = &[0, 3, 4, 5, 6, 7, 8, 10, 11, 100];
-    const WORDS: &'static [&'static str] = &["accepted", "rejected"];
+    const NUMBERS: &'static [u32] = &[0, 3, 4, 5, 6, 7, 8, 10, 11];
+    const WORDS: &'static [&'static str] =
+        &["accepted", "rejected", "closed", "closed neither 0 nor 1"];
+    const SLICES: &'static [&'static str] = &["last", "key", "session"];
 
     fn draw(random: &mut Random, limits: &Limits) -> SessionEnd {
         let (mut input, _) = session::end(random, limits);
         if random.one_in(2) {
             damage_some(random, &mut input);
         }
-        let width = width(random, input.shape.d);
         SessionEnd {
-            last: lend(&input.final_element, width, i32::MIN),
+            last: input.final_element[..input.shape.d].to_vec(),
             session: lend_record(random, &input.record),
             key: input.key,
+            verdict: u32::MAX,
         }
     }
 
-    fn plain(&self) -> Outcome {
-        let f = places(&self.last);
-        moved(&self.session, u32::MAX, |r| {
-            plain::session_end(r, f, &self.key)
-        })
+    fn settings(&self) -> Option<Settings> {
+        settings_of(&self.session)
     }
 
-    fn verified(&self) -> Outcome {
-        let mut t = self.session.clone();
-        let mut verdict = u32::MAX;
-        let number = verified::session_end(&self.last, &self.key, &mut t, &mut verdict);
-        outcome(number, &t, verdict)
+    fn at_once(&self) -> u32 {
+        no_record(&self.session)
     }
 
-    fn tables(&mut self) -> Vec<Table<'_>> {
+    fn pairs(&self, of: &Lengths) -> Vec<(usize, usize)> {
+        vec![
+            (self.last.len(), of.element),
+            (self.key.len(), of.table),
+            (self.session.len(), SESSION),
+            closed(&self.session),
+        ]
+    }
+
+    fn known_pairs(&self) -> Option<Vec<(usize, usize)>> {
+        if self.at_once() != 0 {
+            return Some(vec![(0, 0), (0, 0), (self.session.len(), SESSION)]);
+        }
+        let s = self.settings()?;
+        (plain::refusals::settings(s) == 0).then(|| self.pairs(&plain::refusals::lengths(s)))
+    }
+
+    fn by_plain(&mut self) -> u32 {
+        let before = record(&self.session);
+        let answer = plain::session_end(before, places(&self.last), &self.key);
+        self.session = numbers(&answer.record);
+        self.verdict = answer.verdict;
+        answer.number
+    }
+
+    fn by_admission(&self) -> Option<u32> {
+        number_of(admit::session_end(&record(&self.session), &self.key))
+    }
+
+    fn by_verified(&mut self) -> u32 {
+        verified::session_end(&self.last, &self.key, &mut self.session, &mut self.verdict)
+    }
+
+    fn refuse(&mut self) {
+        self.verdict = 0;
+    }
+
+    fn slices(&mut self) -> Vec<Table<'_>> {
         vec![
             Table::Signed(&mut self.last),
             Table::Unsigned(&mut self.key),
@@ -243,10 +315,19 @@ impl Case for SessionEnd {
         ]
     }
 
-    fn print(&self, page: &mut Page) {
-        page.header("session end: slice of the final element, key, slice of the record");
-        page.table(&self.last);
-        page.table(&self.key);
-        page.table(&self.session);
+    fn outcome(&self, number: u32) -> Outcome {
+        Outcome::new(number)
+            .with("session", &self.session)
+            .with_word("verdict", self.verdict, &VERDICTS)
+    }
+
+    fn other_remarks(&self, number: u32) -> Vec<String> {
+        let pairs = self.known_pairs().unwrap_or_default();
+        let right = pairs.iter().take(3).all(|pair| pair.0 == pair.1);
+        closed_remark(&self.session, number, right)
+    }
+
+    fn numbers(&self) -> Vec<u32> {
+        Vec::new()
     }
 }

@@ -1,6 +1,6 @@
 //! The test of settings.
 
-use crate::case::{Case, Outcome, Table};
+use crate::case::{Case, Outcome};
 use crate::verified;
 use reference::cases::Page;
 use reference::draw::base::{damage_settings, settings};
@@ -42,10 +42,6 @@ impl Case for SettingsCase {
 
     fn verified(&self) -> Outcome {
         Outcome::new(verified::settings(self.0))
-    }
-
-    fn tables(&mut self) -> Vec<Table<'_>> {
-        Vec::new()
     }
 
     fn print(&self, page: &mut Page) {

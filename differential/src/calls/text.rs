@@ -1,14 +1,15 @@
 //! The calls on text: a first look, the table reader, the table writer and
 //! the programs `prove` and `verify`.
 
-use super::lent::{room, stored};
+use super::lent::four;
 use super::stretch::stretch;
 use super::VERDICTS;
-use crate::case::{Case, Outcome, Table};
-use crate::verified::{self, SETTINGS, SHORT};
+use crate::case::{Call, Outcome, Table};
+use crate::verified::{self, SETTINGS};
 use reference::cases::{calls, Page};
 use reference::draw::text::{self, Tables, TextInput, WriteInput};
 use reference::draw::{damage_some, Limits};
+use reference::plain::refusals::{self, Lengths};
 use reference::random::Random;
 use reference::types::*;
 use reference::{fast, plain};
@@ -26,10 +27,35 @@ fn with_tables(outcome: Outcome, tables: &Tables) -> Outcome {
         .with("final element", &tables.final_element)
 }
 
-/// What settings come to in a slice of `room` numbers.
-fn settings_stored(room: usize, s: Settings) -> Vec<u32> {
-    let numbers = [s.degree, s.depth, s.modulus, s.bound];
-    stored(&vec![u32::MAX; room], &numbers)
+/// The bits of a number of parts that name no part: refused by 7.
+fn no_parts(bits: u32) -> usize {
+    (bits >> 6) as usize
+}
+
+/// Bits past those of the six parts, now and then.
+fn beyond(random: &mut Random) -> u32 {
+    if random.one_in(16) {
+        return random.pick(&[64, 128, 1 << 31, u32::MAX << 6]);
+    }
+    0
+}
+
+/// Found and wanted lengths of six tables.
+fn table_pairs(s: Settings, parts: Parts, tables: &Tables) -> Vec<(usize, usize)> {
+    let wanted = refusals::part_lengths(s, parts);
+    tables.lengths().into_iter().zip(wanted).collect()
+}
+
+/// The six tables' slices.
+fn table_slices(tables: &mut Tables) -> Vec<Table<'_>> {
+    vec![
+        Table::Unsigned(&mut tables.key),
+        Table::Signed(&mut tables.message),
+        Table::Unsigned(&mut tables.commitment),
+        Table::Unsigned(&mut tables.rounds),
+        Table::Unsigned(&mut tables.challenges),
+        Table::Signed(&mut tables.final_element),
+    ]
 }
 
 /// A text for the reader or for `verify`, valid or damaged.
@@ -84,42 +110,65 @@ fn lengths(input: &TextInput) -> [usize; 6] {
 #[derive(Clone)]
 pub struct Look {
     text: Vec<u8>,
-    room: usize,
+    settings: Vec<u32>,
 }
 
-impl Case for Look {
+/// The slice for the settings is tested after all that is in the text.
+fn stored_settings(answer: ReadAnswer, slice: &mut Vec<u32>) -> u32 {
+    if answer.number == 0 && slice.len() != SETTINGS {
+        return 7;
+    }
+    *slice = four(answer.settings).to_vec();
+    answer.number
+}
+
+impl Call for Look {
     const NAME: &'static str = "look";
-    const NUMBERS: &'static [u32] = &[0, 1, 2, 3, 4, 5, 6, 100];
+    const NUMBERS: &'static [u32] = &[0, 1, 2, 3, 4, 5, 6, 7];
+    const SLICES: &'static [&'static str] = &["settings"];
 
     fn draw(random: &mut Random, limits: &Limits) -> Look {
         Look {
             text: any_text(random, limits).text(),
-            room: room(random, SETTINGS),
+            settings: vec![u32::MAX; SETTINGS],
         }
     }
 
-    fn plain(&self) -> Outcome {
-        if self.room < SETTINGS {
-            return Outcome::new(SHORT).with("settings", &vec![u32::MAX; self.room]);
-        }
-        let answer = plain::look(&self.text);
-        Outcome::new(answer.number).with("settings", &settings_stored(self.room, answer.settings))
+    fn settings(&self) -> Option<Settings> {
+        None
     }
 
-    fn verified(&self) -> Outcome {
-        let mut settings = vec![u32::MAX; self.room];
-        let number = verified::look(&self.text, &mut settings);
-        Outcome::new(number).with("settings", &settings)
+    fn pairs(&self, _: &Lengths) -> Vec<(usize, usize)> {
+        vec![(self.settings.len(), SETTINGS)]
     }
 
-    fn tables(&mut self) -> Vec<Table<'_>> {
-        vec![]
+    fn known_pairs(&self) -> Option<Vec<(usize, usize)>> {
+        Some(vec![(self.settings.len(), SETTINGS)])
     }
 
-    fn print(&self, page: &mut Page) {
+    fn by_plain(&mut self) -> u32 {
+        stored_settings(plain::look(&self.text), &mut self.settings)
+    }
+
+    fn by_verified(&mut self) -> u32 {
+        verified::look(&self.text, &mut self.settings)
+    }
+
+    fn slices(&mut self) -> Vec<Table<'_>> {
+        vec![Table::Unsigned(&mut self.settings)]
+    }
+
+    fn outcome(&self, number: u32) -> Outcome {
+        Outcome::new(number).with("settings", &self.settings)
+    }
+
+    fn numbers(&self) -> Vec<u32> {
+        Vec::new()
+    }
+
+    fn show(&self, page: &mut Page) {
         page.header("look");
         page.table(&self.text);
-        page.header(&format!("a slice of {} for the settings", self.room));
     }
 }
 
@@ -128,91 +177,128 @@ impl Case for Look {
 pub struct Read {
     input: TextInput,
     text: Vec<u8>,
-    /// Bits of the parts' number that are not read.
-    unread: u32,
-    room: usize,
+    parts: u32,
+    settings: Vec<u32>,
+    tables: Tables,
 }
+
+/// The reader by one of the references.
+type Reader = fn(
+    Parts,
+    &[u8],
+    &mut [u32],
+    &mut [i32],
+    &mut [u32],
+    &mut [u32],
+    &mut [u32],
+    &mut [i32],
+) -> ReadAnswer;
 
 impl Read {
-    fn lent(&self) -> Tables {
-        Tables::to_be_written(lengths(&self.input))
-    }
-
-    /// What an answer of the reference and its tables come to.
-    fn outcome(&self, answer: ReadAnswer, tables: &Tables) -> Outcome {
-        if self.room < SETTINGS {
-            let settings = vec![u32::MAX; self.room];
-            return with_tables(
-                Outcome::new(SHORT).with("settings", &settings),
-                &self.lent(),
-            );
+    /// The number of parts and the slice for the settings are tested with
+    /// the lengths of the tables, after refusals 1 to 6.
+    fn read(&mut self, read: Reader) -> u32 {
+        let t = &mut self.tables;
+        let answer = read(
+            self.input.parts,
+            &self.text,
+            &mut t.key,
+            &mut t.message,
+            &mut t.commitment,
+            &mut t.rounds,
+            &mut t.challenges,
+            &mut t.final_element,
+        );
+        if (1..=6).contains(&answer.number) {
+            return answer.number;
         }
-        let settings = settings_stored(self.room, answer.settings);
-        with_tables(
-            Outcome::new(answer.number).with("settings", &settings),
-            tables,
-        )
+        if self.settings.len() != SETTINGS || no_parts(self.parts) != 0 {
+            return 7;
+        }
+        stored_settings(answer, &mut self.settings)
     }
 }
 
-impl Case for Read {
+impl Call for Read {
     const NAME: &'static str = "read";
-    const NUMBERS: &'static [u32] = &[0, 1, 2, 3, 4, 5, 6, 7, 8, 9, 10, 100];
+    const NUMBERS: &'static [u32] = &[0, 1, 2, 3, 4, 5, 6, 7, 8, 9, 10];
+    const WORDS: &'static [&'static str] = &["no such part"];
+    const SLICES: &'static [&'static str] = &[
+        "settings",
+        "key",
+        "message",
+        "commitment",
+        "rounds",
+        "challenges",
+        "last",
+    ];
+    const FAST: bool = true;
 
     fn draw(random: &mut Random, limits: &Limits) -> Read {
         let input = any_text(random, limits);
         Read {
             text: input.text(),
+            parts: verified::bits(input.parts) | beyond(random),
+            settings: vec![u32::MAX; SETTINGS],
+            tables: Tables::to_be_written(lengths(&input)),
             input,
-            unread: random.pick(&[0, 0, 0, 64, u32::MAX << 6]),
-            room: room(random, SETTINGS),
         }
     }
 
-    fn plain(&self) -> Outcome {
-        let mut t = self.lent();
-        let answer = plain::read(
-            self.input.parts,
-            &self.text,
-            &mut t.key,
-            &mut t.message,
-            &mut t.commitment,
-            &mut t.rounds,
-            &mut t.challenges,
-            &mut t.final_element,
-        );
-        self.outcome(answer, &t)
+    fn settings(&self) -> Option<Settings> {
+        None
     }
 
-    fn fast(&self) -> Option<Outcome> {
-        let mut t = self.lent();
-        let answer = fast::read(
-            self.input.parts,
-            &self.text,
-            &mut t.key,
-            &mut t.message,
-            &mut t.commitment,
-            &mut t.rounds,
-            &mut t.challenges,
-            &mut t.final_element,
-        );
-        Some(self.outcome(answer, &t))
+    fn pairs(&self, _: &Lengths) -> Vec<(usize, usize)> {
+        self.known_pairs().unwrap_or_default()
     }
 
-    fn verified(&self) -> Outcome {
-        let mut settings = vec![u32::MAX; self.room];
-        let mut tables = self.lent();
-        let parts = verified::bits(self.input.parts) | self.unread;
-        let number = verified::read(parts, &self.text, &mut settings, &mut tables);
-        with_tables(Outcome::new(number).with("settings", &settings), &tables)
+    fn known_pairs(&self) -> Option<Vec<(usize, usize)>> {
+        let looked = plain::look(&self.text);
+        if looked.number != 0 {
+            return None;
+        }
+        let mut pairs = vec![(self.settings.len(), SETTINGS)];
+        pairs.extend(table_pairs(looked.settings, self.input.parts, &self.tables));
+        pairs.push((no_parts(self.parts), 0));
+        Some(pairs)
     }
 
-    fn tables(&mut self) -> Vec<Table<'_>> {
-        vec![]
+    fn by_plain(&mut self) -> u32 {
+        self.read(plain::read)
     }
 
-    fn print(&self, page: &mut Page) {
-        let lengths = Some(lengths(&self.input));
+    fn by_fast(&mut self) -> u32 {
+        self.read(fast::read)
+    }
+
+    fn by_verified(&mut self) -> u32 {
+        verified::read(self.parts, &self.text, &mut self.settings, &mut self.tables)
+    }
+
+    fn slices(&mut self) -> Vec<Table<'_>> {
+        let mut slices = vec![Table::Unsigned(&mut self.settings)];
+        slices.extend(table_slices(&mut self.tables));
+        slices
+    }
+
+    fn outcome(&self, number: u32) -> Outcome {
+        with_tables(
+            Outcome::new(number).with("settings", &self.settings),
+            &self.tables,
+        )
+    }
+
+    fn other_remarks(&self, number: u32) -> Vec<String> {
+        no_such_part(number, self.parts, self.known_pairs())
+    }
+
+    fn numbers(&self) -> Vec<u32> {
+        vec![self.parts]
+    }
+
+    fn show(&self, page: &mut Page) {
+        let lengths = Some(self.tables.lengths());
         calls::read(
             page,
             &TextInput {
@@ -220,31 +306,66 @@ impl Case for Read {
                 ..self.input.clone()
             },
         );
-        page.header(&format!("a slice of {} for the settings", self.room));
+        page.header("number of parts:");
+        page.numbers(self.numbers());
     }
+}
+
+/// A bit past those of the parts is the only thing that is refused by 7.
+fn no_such_part(number: u32, parts: u32, pairs: Option<Vec<(usize, usize)>>) -> Vec<String> {
+    let wrong = pairs.unwrap_or_default();
+    let wrong = wrong.iter().filter(|pair| pair.0 != pair.1).count();
+    if number == 7 && no_parts(parts) != 0 && wrong == 1 {
+        return vec!["no such part".to_string()];
+    }
+    Vec::new()
 }
 
 /// The table writer.
 #[derive(Clone)]
 pub struct Write {
     input: WriteInput,
+    parts: u32,
+    out: Vec<u8>,
+    count: usize,
 }
 
-fn wrote(answer: WriteAnswer, out: &[u8]) -> Outcome {
-    Outcome::new(answer.number)
-        .with("length", &[answer.length as i64])
-        .with("out", out)
-}
+/// The writer by one of the references.
+type Writer =
+    fn(Settings, Parts, &[u32], &[i32], &[u32], &[u32], &[u32], &[i32], &mut [u8]) -> WriteAnswer;
 
 impl Write {
-    fn out(&self) -> Vec<u8> {
-        vec![FILL; self.input.room]
+    fn write(&mut self, write: Writer) -> u32 {
+        let (i, t) = (&self.input, &self.input.tables);
+        let answer = write(
+            i.settings,
+            i.parts,
+            &t.key,
+            &t.message,
+            &t.commitment,
+            &t.rounds,
+            &t.challenges,
+            &t.final_element,
+            &mut self.out,
+        );
+        self.count = answer.length;
+        answer.number
     }
 }
 
-impl Case for Write {
+impl Call for Write {
     const NAME: &'static str = "write";
     const NUMBERS: &'static [u32] = &[0, 1, 3, 4, 5, 6, 7, 8, 9, 10];
+    const WORDS: &'static [&'static str] = &["no such part", "out short", "out exact", "out long"];
+    const SLICES: &'static [&'static str] = &[
+        "key",
+        "message",
+        "commitment",
+        "rounds",
+        "challenges",
+        "last",
+    ];
+    const FAST: bool = true;
 
     fn draw(random: &mut Random, limits: &Limits) -> Write {
         let mut input = text::writable(random, limits).0;
@@ -262,66 +383,91 @@ impl Case for Write {
             }
             _ => (),
         }
-        Write { input }
+        Write {
+            parts: verified::bits(input.parts) | beyond(random),
+            out: vec![FILL; input.room],
+            count: usize::MAX,
+            input,
+        }
     }
 
-    fn plain(&self) -> Outcome {
-        let (i, t) = (&self.input, &self.input.tables);
-        let mut out = self.out();
-        let answer = plain::write(
+    fn settings(&self) -> Option<Settings> {
+        Some(self.input.settings)
+    }
+
+    fn pairs(&self, _: &Lengths) -> Vec<(usize, usize)> {
+        let i = &self.input;
+        let mut pairs = table_pairs(i.settings, i.parts, &i.tables);
+        pairs.push((no_parts(self.parts), 0));
+        pairs
+    }
+
+    fn by_plain(&mut self) -> u32 {
+        self.write(plain::write)
+    }
+
+    fn by_fast(&mut self) -> u32 {
+        self.write(fast::write)
+    }
+
+    fn by_verified(&mut self) -> u32 {
+        let i = &self.input;
+        verified::write(
             i.settings,
-            i.parts,
-            &t.key,
-            &t.message,
-            &t.commitment,
-            &t.rounds,
-            &t.challenges,
-            &t.final_element,
-            &mut out,
-        );
-        wrote(answer, &out)
+            self.parts,
+            &i.tables,
+            &mut self.out,
+            &mut self.count,
+        )
     }
 
-    fn fast(&self) -> Option<Outcome> {
-        let (i, t) = (&self.input, &self.input.tables);
-        let mut out = self.out();
-        let answer = fast::write(
-            i.settings,
-            i.parts,
-            &t.key,
-            &t.message,
-            &t.commitment,
-            &t.rounds,
-            &t.challenges,
-            &t.final_element,
-            &mut out,
-        );
-        Some(wrote(answer, &out))
+    fn refuse(&mut self) {
+        self.count = 0;
     }
 
-    fn verified(&self) -> Outcome {
-        let (i, t) = (&self.input, &self.input.tables);
-        let mut out = self.out();
-        let mut length = usize::MAX;
-        let parts = verified::bits(i.parts);
-        let number = verified::write(i.settings, parts, t, &mut out, &mut length);
-        wrote(WriteAnswer { number, length }, &out)
+    fn slices(&mut self) -> Vec<Table<'_>> {
+        table_slices(&mut self.input.tables)
     }
 
-    fn tables(&mut self) -> Vec<Table<'_>> {
-        let t = &mut self.input.tables;
-        vec![
-            Table::Unsigned(&mut t.key),
-            Table::Signed(&mut t.message),
-            Table::Unsigned(&mut t.commitment),
-            Table::Unsigned(&mut t.rounds),
-            Table::Unsigned(&mut t.challenges),
-            Table::Signed(&mut t.final_element),
-        ]
+    fn outcome(&self, number: u32) -> Outcome {
+        wrote(number, self.count, &self.out)
     }
 
-    fn print(&self, page: &mut Page) {
+    fn other_remarks(&self, number: u32) -> Vec<String> {
+        let mut remarks = no_such_part(number, self.parts, self.known_pairs());
+        let mut enough = self.clone();
+        enough.out = vec![FILL; LONGEST_TEXT];
+        if no_parts(self.parts) == 0 && enough.write(fast::write) == 0 {
+            remarks.extend(room_remark(number, self.out.len(), enough.count));
+        }
+        remarks
+    }
+
+    fn numbers(&self) -> Vec<u32> {
+        [&four(self.input.settings)[..], &[self.parts]].concat()
+    }
+
+    fn show(&self, page: &mut Page) {
         calls::write(page, &self.input);
+        page.header("number of parts:");
+        page.numbers([self.parts]);
+    }
+}
+
+/// What a call that writes a text leaves.
+fn wrote(number: u32, count: usize, out: &[u8]) -> Outcome {
+    Outcome::new(number)
+        .with("count", &[count as i64])
+        .with("out", out)
+}
+
+/// Whether the output slice is one byte too short, exact or longer.
+fn room_remark(number: u32, room: usize, length: usize) -> Option<String> {
+    match number {
+        7 if room + 1 == length => Some("out short".to_string()),
+        0 if room == length => Some("out exact".to_string()),
+        0 if room > length => Some("out long".to_string()),
+        _ => None,
     }
 }
 
@@ -329,18 +475,26 @@ impl Case for Write {
 #[derive(Clone)]
 pub struct Prove {
     text: Vec<u8>,
-    room: usize,
+    out: Vec<u8>,
+    count: usize,
+    /// Bytes of the listing, 0 where there is none.
+    length: usize,
 }
 
 impl Prove {
-    fn out(&self) -> Vec<u8> {
-        vec![FILL; self.room]
+    fn prove(&mut self, prove: fn(&[u8], &mut [u8]) -> WriteAnswer) -> u32 {
+        let answer = prove(&self.text, &mut self.out);
+        self.count = answer.length;
+        answer.number
     }
 }
 
-impl Case for Prove {
+impl Call for Prove {
     const NAME: &'static str = "prove";
     const NUMBERS: &'static [u32] = &[0, 1, 2, 3, 4, 5, 6, 7, 8, 9, 10];
+    const WORDS: &'static [&'static str] = &["out short", "out exact", "out long"];
+    const SLICES: &'static [&'static str] = &[];
+    const FAST: bool = true;
 
     fn draw(random: &mut Random, limits: &Limits) -> Prove {
         let input = match random.below(20) {
@@ -355,32 +509,57 @@ impl Case for Prove {
             1 => 0,
             _ => length + random.pick(&[0, 0, 1, 9]),
         };
-        Prove { text, room }
+        Prove {
+            text,
+            out: vec![FILL; room],
+            count: usize::MAX,
+            length,
+        }
     }
 
-    fn plain(&self) -> Outcome {
-        let mut out = self.out();
-        wrote(plain::prove(&self.text, &mut out), &out)
+    fn settings(&self) -> Option<Settings> {
+        None
     }
 
-    fn fast(&self) -> Option<Outcome> {
-        let mut out = self.out();
-        Some(wrote(fast::prove(&self.text, &mut out), &out))
+    fn pairs(&self, _: &Lengths) -> Vec<(usize, usize)> {
+        Vec::new()
     }
 
-    fn verified(&self) -> Outcome {
-        let mut out = self.out();
-        let mut length = usize::MAX;
-        let number = verified::prove(&self.text, &mut out, &mut length);
-        wrote(WriteAnswer { number, length }, &out)
+    fn by_plain(&mut self) -> u32 {
+        self.prove(plain::prove)
     }
 
-    fn tables(&mut self) -> Vec<Table<'_>> {
-        vec![]
+    fn by_fast(&mut self) -> u32 {
+        self.prove(fast::prove)
     }
 
-    fn print(&self, page: &mut Page) {
-        calls::prove(page, &self.text, self.room);
+    fn by_verified(&mut self) -> u32 {
+        verified::prove(&self.text, &mut self.out, &mut self.count)
+    }
+
+    fn refuse(&mut self) {
+        self.count = 0;
+    }
+
+    fn slices(&mut self) -> Vec<Table<'_>> {
+        Vec::new()
+    }
+
+    fn outcome(&self, number: u32) -> Outcome {
+        wrote(number, self.count, &self.out)
+    }
+
+    fn other_remarks(&self, number: u32) -> Vec<String> {
+        let remark = room_remark(number, self.out.len(), self.length);
+        remark.into_iter().collect()
+    }
+
+    fn numbers(&self) -> Vec<u32> {
+        Vec::new()
+    }
+
+    fn show(&self, page: &mut Page) {
+        calls::prove(page, &self.text, self.out.len());
     }
 }
 
@@ -388,47 +567,74 @@ impl Case for Prove {
 #[derive(Clone)]
 pub struct Verify {
     text: Vec<u8>,
+    verdict: u32,
 }
 
-fn said(answer: Verification) -> Outcome {
-    let (number, verdict) = match answer {
-        Verification::Accepted => (0, ACCEPTED),
-        Verification::Rejected => (0, REJECTED),
-        Verification::Refused(number) => (number, NONE),
-    };
-    Outcome::new(number).with_word("verdict", verdict, &VERDICTS)
+impl Verify {
+    fn said(&mut self, answer: Verification) -> u32 {
+        let (number, verdict) = match answer {
+            Verification::Accepted => (0, ACCEPTED),
+            Verification::Rejected => (0, REJECTED),
+            Verification::Refused(number) => (number, NONE),
+        };
+        self.verdict = verdict;
+        number
+    }
 }
 
-impl Case for Verify {
+impl Call for Verify {
     const NAME: &'static str = "verify";
     const NUMBERS: &'static [u32] = &[0, 1, 2, 3, 4, 5, 6, 7, 8, 10];
     const WORDS: &'static [&'static str] = &["accepted", "rejected"];
+    const SLICES: &'static [&'static str] = &[];
+    const FAST: bool = true;
 
     fn draw(random: &mut Random, limits: &Limits) -> Verify {
         Verify {
             text: any_text(random, limits).text(),
+            verdict: u32::MAX,
         }
     }
 
-    fn plain(&self) -> Outcome {
-        said(plain::verify(&self.text))
+    fn settings(&self) -> Option<Settings> {
+        None
     }
 
-    fn fast(&self) -> Option<Outcome> {
-        Some(said(fast::verify(&self.text)))
+    fn pairs(&self, _: &Lengths) -> Vec<(usize, usize)> {
+        Vec::new()
     }
 
-    fn verified(&self) -> Outcome {
-        let mut verdict = u32::MAX;
-        let number = verified::verify(&self.text, &mut verdict);
-        Outcome::new(number).with_word("verdict", verdict, &VERDICTS)
+    fn by_plain(&mut self) -> u32 {
+        let answer = plain::verify(&self.text);
+        self.said(answer)
     }
 
-    fn tables(&mut self) -> Vec<Table<'_>> {
-        vec![]
+    fn by_fast(&mut self) -> u32 {
+        let answer = fast::verify(&self.text);
+        self.said(answer)
     }
 
-    fn print(&self, page: &mut Page) {
+    fn by_verified(&mut self) -> u32 {
+        verified::verify(&self.text, &mut self.verdict)
+    }
+
+    fn refuse(&mut self) {
+        self.verdict = 0;
+    }
+
+    fn slices(&mut self) -> Vec<Table<'_>> {
+        Vec::new()
+    }
+
+    fn outcome(&self, number: u32) -> Outcome {
+        Outcome::new(number).with_word("verdict", self.verdict, &VERDICTS)
+    }
+
+    fn numbers(&self) -> Vec<u32> {
+        Vec::new()
+    }
+
+    fn show(&self, page: &mut Page) {
         calls::verify(page, &self.text);
     }
 }

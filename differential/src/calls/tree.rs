@@ -1,12 +1,13 @@
 //! The extractor.
 
-use super::lent::{lend, places, width};
-use crate::case::{Case, Outcome, Table};
+use super::lent::{four, places};
+use crate::case::{Call, Case, Outcome, Table};
 use crate::verified;
-use reference::cases::{calls, Page};
+use reference::cases::Page;
 use reference::draw::base;
 use reference::draw::tree::{self, Tree};
 use reference::draw::{damage_by, damage_some, Limits};
+use reference::plain::refusals::Lengths;
 use reference::random::Random;
 use reference::refuse::BRANCH;
 use reference::types::{Residues, Settings};
@@ -14,7 +15,6 @@ use reference::{fast, plain};
 
 #[derive(Clone)]
 pub struct Extract {
-    /// With the commitment that the lent slice stands for.
     tree: Tree,
     commitment: Vec<u32>,
 }
@@ -23,25 +23,22 @@ pub struct Extract {
 type Extractor = fn(Settings, Residues, &[u32], &[u32], &[u32], &[i32], &mut [i64]) -> u32;
 
 impl Extract {
-    fn new(random: &mut Random, mut tree: Tree) -> Extract {
-        let commitment = lend(&tree.commitment, width(random, tree.shape.d), u32::MAX);
-        tree.commitment = places(&commitment);
+    fn new(tree: Tree) -> Extract {
+        let commitment = tree.commitment[..tree.shape.d].to_vec();
         Extract { tree, commitment }
     }
 
-    fn outcome(&self, extract: Extractor) -> Outcome {
-        let t = &self.tree;
-        let mut w = t.w.clone();
-        let number = extract(
+    fn extract(&mut self, extract: Extractor) -> u32 {
+        let t = &mut self.tree;
+        extract(
             t.settings,
-            t.commitment,
+            places(&self.commitment),
             &t.key,
             &t.rounds,
             &t.challenges,
             &t.leaves,
-            &mut w,
-        );
-        Outcome::new(number).with("w", &w)
+            &mut t.w,
+        )
     }
 }
 
@@ -65,9 +62,12 @@ fn accepted(random: &mut Random, mut settings: Settings) -> Tree {
     }
 }
 
-impl Case for Extract {
+impl Call for Extract {
     const NAME: &'static str = "extract";
     const NUMBERS: &'static [u32] = &[0, 3, 4, 5, 6, 7, 8, 10, 12, 13, 14];
+    const SLICES: &'static [&'static str] =
+        &["commitment", "key", "rounds", "challenges", "leaves", "w"];
+    const FAST: bool = true;
 
     fn draw(random: &mut Random, limits: &Limits) -> Extract {
         let settings = if limits.tree > 10_000 && random.one_in(2) {
@@ -79,34 +79,49 @@ impl Case for Extract {
         if random.one_in(2) {
             damage_some(random, &mut tree);
         }
-        Extract::new(random, tree)
+        Extract::new(tree)
     }
 
-    fn plain(&self) -> Outcome {
-        self.outcome(plain::extract)
+    fn settings(&self) -> Option<Settings> {
+        Some(self.tree.settings)
     }
 
-    fn fast(&self) -> Option<Outcome> {
-        Some(self.outcome(fast::extract))
-    }
-
-    fn verified(&self) -> Outcome {
+    fn pairs(&self, of: &Lengths) -> Vec<(usize, usize)> {
         let t = &self.tree;
-        let mut w = t.w.clone();
-        let number = verified::extract(
+        vec![
+            (self.commitment.len(), of.element),
+            (t.key.len(), of.table),
+            (t.rounds.len(), of.tree_rounds),
+            (t.challenges.len(), of.tree_challenges),
+            (t.leaves.len(), of.leaves),
+            (t.w.len(), of.table),
+        ]
+    }
+
+    fn by_plain(&mut self) -> u32 {
+        self.extract(plain::extract)
+    }
+
+    fn by_fast(&mut self) -> u32 {
+        self.extract(fast::extract)
+    }
+
+    fn by_verified(&mut self) -> u32 {
+        let t = &mut self.tree;
+        verified::extract(
             t.settings,
             &self.commitment,
             &t.key,
             &t.rounds,
             &t.challenges,
             &t.leaves,
-            &mut w,
-        );
-        Outcome::new(number).with("w", &w)
+            &mut t.w,
+        )
     }
 
-    fn tables(&mut self) -> Vec<Table<'_>> {
+    fn slices(&mut self) -> Vec<Table<'_>> {
         vec![
+            Table::Unsigned(&mut self.commitment),
             Table::Unsigned(&mut self.tree.key),
             Table::Unsigned(&mut self.tree.rounds),
             Table::Unsigned(&mut self.tree.challenges),
@@ -115,9 +130,12 @@ impl Case for Extract {
         ]
     }
 
-    fn print(&self, page: &mut Page) {
-        calls::extract(page, &self.tree);
-        page.header(&format!("a slice of {}", self.commitment.len()));
+    fn outcome(&self, number: u32) -> Outcome {
+        Outcome::new(number).with("w", &self.tree.w)
+    }
+
+    fn numbers(&self) -> Vec<u32> {
+        four(self.tree.settings).to_vec()
     }
 }
 
@@ -134,7 +152,7 @@ pub struct Largest(Extract);
 /// `limits` have no size a smaller tree is wanted.
 fn sized(random: &mut Random, limits: &Limits, sizes: &[(u32, u32, u32)]) -> Extract {
     if limits.tree == usize::MAX {
-        return Extract::draw(random, limits);
+        return Call::draw(random, limits);
     }
     let (degree, depth, bound) = random.pick(sizes);
     let settings = Settings::new(degree, depth, base::modulus(random), bound);
@@ -142,7 +160,7 @@ fn sized(random: &mut Random, limits: &Limits, sizes: &[(u32, u32, u32)]) -> Ext
     if random.one_in(3) {
         damage_by(random, &mut tree, &[BRANCH]);
     }
-    Extract::new(random, tree)
+    Extract::new(tree)
 }
 
 /// Trees of some sizes are compared as any are.

@@ -21,16 +21,6 @@ pub use text::{bits, look, prove, read, verify, write};
 
 use reference::types::Settings;
 
-/// What is answered where a slice for an element, a record or settings is too
-/// short.
-pub const SHORT: u32 = 100;
-
-/// Numbers of an element in a lent slice.
-pub const ELEMENT: usize = 64;
-
-/// Numbers of a round polynomial in a lent slice.
-pub const POLYNOMIAL: usize = 3 * ELEMENT;
-
 /// Numbers of settings in a lent slice.
 pub const SETTINGS: usize = 4;
 

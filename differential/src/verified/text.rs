@@ -51,7 +51,7 @@ extern "C" {
         last_length: usize,
         out: *mut u8,
         out_length: usize,
-        length: *mut usize,
+        count: *mut usize,
     ) -> u32;
 
     fn wovenrock_prove(
@@ -59,7 +59,7 @@ extern "C" {
         text_length: usize,
         out: *mut u8,
         out_length: usize,
-        length: *mut usize,
+        count: *mut usize,
     ) -> u32;
 
     fn wovenrock_verify(text: *const u8, text_length: usize, verdict: *mut u32) -> u32;
@@ -110,7 +110,7 @@ pub fn read(parts: u32, text: &[u8], settings: &mut [u32], tables: &mut Tables) 
 }
 
 /// The table writer.
-pub fn write(s: Settings, parts: u32, tables: &Tables, out: &mut [u8], length: &mut usize) -> u32 {
+pub fn write(s: Settings, parts: u32, tables: &Tables, out: &mut [u8], count: &mut usize) -> u32 {
     unsafe {
         wovenrock_write(
             s.degree,
@@ -132,20 +132,20 @@ pub fn write(s: Settings, parts: u32, tables: &Tables, out: &mut [u8], length: &
             tables.final_element.len(),
             out.as_mut_ptr(),
             out.len(),
-            length,
+            count,
         )
     }
 }
 
 /// The program `prove` as a call on text.
-pub fn prove(text: &[u8], out: &mut [u8], length: &mut usize) -> u32 {
+pub fn prove(text: &[u8], out: &mut [u8], count: &mut usize) -> u32 {
     unsafe {
         wovenrock_prove(
             text.as_ptr(),
             text.len(),
             out.as_mut_ptr(),
             out.len(),
-            length,
+            count,
         )
     }
 }

@@ -118,6 +118,34 @@ impl Whole {
     }
 }
 
+/// The lengths of all that can be lent to a call.
+#[derive(Clone, Copy, Debug, PartialEq, Eq)]
+pub struct Lengths {
+    pub element: usize,
+    pub table: usize,
+    pub polynomial: usize,
+    pub rounds: usize,
+    pub challenges: usize,
+    pub tree_rounds: usize,
+    pub tree_challenges: usize,
+    pub leaves: usize,
+}
+
+/// The lengths for settings that are not refused.
+pub fn lengths(s: Settings) -> Lengths {
+    let w = Whole::of(s);
+    Lengths {
+        element: w.d as usize,
+        table: (w.n() * w.d) as usize,
+        polynomial: (3 * w.d) as usize,
+        rounds: (3 * w.l * w.d) as usize,
+        challenges: w.l as usize,
+        tree_rounds: (3 * w.nodes() * w.d) as usize,
+        tree_challenges: (3 * w.nodes()) as usize,
+        leaves: (w.leaves() * w.d) as usize,
+    }
+}
+
 /// Whether some length is not the wanted one.
 fn other(pairs: &[(usize, i128)]) -> bool {
     pairs.iter().any(|&(found, wanted)| found as i128 != wanted)
