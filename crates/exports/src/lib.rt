@@ -2,8 +2,8 @@
 //
 // Every function answers the number of the first refusal, 0 where nothing is refused. Every slice has exactly its length, or is refused by 7. A refused call
 // writes nothing to a slice, but for the closed record of a refused start.
-use arithmetic::tests;
 use protocol::Settings;
+use ranges::tests;
 ghost use mathlib.Core.Path.{_≡_};
 ghost use Rattle.protocol.specs.Settings.{settingsRefusal};
 ghost use Rattle.protocol.specs.Promises.{Folded};

@@ -13,6 +13,7 @@
 --   unless N b     the refusal N where the test b fails, 0 where it passes
 --   granted N x y  x where the refusal N is 0, else y
 --   Tested x N b r  the refusal is r where it was x before the test b, whose number is N
+--   Provided c p   the promise p of a function below the calls, owed where the condition c holds
 use mathlib.Core.Path.{_≡_}
 use mathlib.Core.Bool.{Bool, true, false, _&&_, _||_}
 use mathlib.Core.List.{List, [], _∷_}
@@ -70,3 +71,6 @@ granted (suc n) x y = y
 -- one test more: what was refused before it stands, and otherwise the test decides
 pub record Tested (x number : ℕ) (b : Bool) (r : ℕ) : Type 0 where
   pub is : r ≡ first (x ∷ unless number b ∷ [])
+
+abbrev pub Provided : Type 0 → Type 0 → Type 0
+Provided condition promise = condition → promise

@@ -1,6 +1,5 @@
 // Inner products of messages and keys. Products are summed as they are and reduced once.
 use crate::totals;
-use arithmetic::products;
 ghost use mathlib.Core.Path.{_≡_};
 ghost use Prim.Native.Nat.{_+_, _*_, _-_, _%_, _<_, _≤_};
 ghost use lib.ListN.{length, getD};
@@ -70,8 +69,8 @@ fn mixed(q: u32, d: u32, h: u32, s: u32, message: &[i32], key: &[u32]) -> [u32; 
     let half = (h as usize) * (d as usize);
     let mut m = [0i32; 8192];
     let mut g = [0u32; 8192];
-    totals::message_sums(half, message, &mut m);
-    totals::key_sums(q, half, key, &mut g);
+    totals::message_sums(half, message, &message[half..], &mut m);
+    totals::key_sums(q, half, key, &key[half..], &mut g);
     straight(q, d, h, s, &m, &g)
 }
 

@@ -1,8 +1,8 @@
 // All values of a text, gathered part after part before any of them is tested or stored.
 use crate::parts::read_parts;
-use arithmetic::tests::settings_refusal;
 use protocol::Loaded;
 use protocol::Parts;
+use ranges::tests::settings_refusal;
 use shapes::Lengths;
 use shapes::fits;
 use tables::Header;

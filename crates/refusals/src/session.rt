@@ -1,8 +1,8 @@
 // The refusals of the verifier's session.
 use crate::refuse;
-use arithmetic::tests;
 use protocol::Session;
 use protocol::Settings;
+use ranges::tests;
 ghost use mathlib.Core.Path.{_≡_};
 ghost use Rattle.protocol.specs.Session.{startRefusal, moveRefusal, closeRefusal};
 

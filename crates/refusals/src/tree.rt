@@ -1,6 +1,6 @@
 // The extractor's refusals before the verifier runs: 3 to 8, 10 and 12. 13 and 14 follow in the extractor.
 use crate::refuse;
-use arithmetic::tests;
+use ranges::tests;
 use protocol::Settings;
 ghost use mathlib.Core.Path.{_≡_};
 ghost use Prim.Native.Nat.{_+_, _*_, _≤_};

@@ -1,9 +1,9 @@
 // The judge of relaxed openings.
 mod combination;
 
-use arithmetic::tests;
 use protocol::Judged;
 use protocol::Settings;
+use ranges::tests;
 ghost use mathlib.Core.Path.{_≡_};
 ghost use Rattle.protocol.specs.Calls.{judgeAnswer};
 

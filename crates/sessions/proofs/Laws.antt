@@ -22,7 +22,7 @@ use Rattle.protocol.specs.Session.{slots, opened, blank, startRefusal, start, s
 use Rattle.protocol.proofs.Tests.{first-zero}
 use Rattle.protocol.proofs.Inputs.{settings-valid}
 use Rattle.protocol.proofs.Reading.{tabulate-length, tabulate-at, tabulate-ext, tabulate-own}
-use Rattle.arithmetic.proofs.Fill.{zeros-length}
+use Rattle.residues.proofs.Fill.{zeros-length}
 use Rattle.sizes.proofs.Limits.{degree-most}
 use Rattle.sessions.specs.Records.{recordWidth, challengesOf, claimOf, sessionOf, flagged, headOf, numberOf, numbersOf}
 use Rattle.sessions.proofs.Stored.{numbers-length}

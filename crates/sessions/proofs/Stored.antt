@@ -15,7 +15,7 @@ use Rattle.protocol.specs.Basic.{tabulate, choose}
 use Rattle.protocol.specs.Element.{width, zeros, padded}
 use Rattle.protocol.specs.Settings.{sized}
 use Rattle.protocol.proofs.Reading.{tabulate-length, tabulate-at, tabulate-ext, tabulate-own}
-use Rattle.arithmetic.proofs.Fill.{filled}
+use Rattle.residues.specs.Lists.{filled}
 use Rattle.slices.specs.Slices.{given}
 use Rattle.sessions.specs.Records.{recordWidth, challengesOf, claimOf, sessionOf, flagged, headOf, numberOf, numbersOf, recordStored}
 

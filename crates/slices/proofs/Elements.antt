@@ -12,9 +12,9 @@ use lib.Seq.{take-at, drop-at, drop-length, getD-take, length-take-le}
 use Rattle.protocol.specs.Basic.{tabulate, flat, choose}
 use Rattle.protocol.specs.Element.{padded, paddedSigned, coefficients, signedAt}
 use Rattle.protocol.proofs.Reading.{tabulate-length, tabulate-ext, tabulate-own, flat-suc}
-use Rattle.arithmetic.specs.Elements.{elementAt}
-use Rattle.arithmetic.specs.Folds.{spliced}
-use Rattle.arithmetic.proofs.Fill.{filled}
+use Rattle.residues.specs.Elements.{elementAt}
+use Rattle.residues.specs.Lists.{spliced}
+use Rattle.residues.specs.Lists.{filled}
 
 -- a slice of d numbers is the first element of a table
 pub whole : (d : ℕ) (t : List ℕ) → length t ≡ d → elementAt d t 0 ≡ padded d t

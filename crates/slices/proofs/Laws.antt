@@ -10,8 +10,8 @@ use Rattle.protocol.specs.Basic.{tabulate}
 use Rattle.protocol.specs.Element.{padded, paddedSigned}
 use Rattle.protocol.specs.Session.{part}
 use Rattle.protocol.proofs.Reading.{tabulate-ext, tabulate-own, flat-at, flat-ext, flat-own}
-use Rattle.arithmetic.specs.Elements.{elementAt}
-use Rattle.arithmetic.proofs.Padding.{padded-at}
+use Rattle.residues.specs.Elements.{elementAt}
+use Rattle.residues.proofs.Padding.{padded-at}
 use Rattle.slices.specs.Slices.{polynomialOf, laid}
 
 -- ---- elements

@@ -14,7 +14,7 @@ use Rattle.protocol.specs.declared.Settings.{Settings}
 use Rattle.protocol.specs.Basic.{flat, first, unless}
 use Rattle.protocol.specs.Settings.{settingsRefusal}
 use Rattle.protocol.specs.Session.{part}
-use Rattle.arithmetic.specs.Elements.{elementAt}
+use Rattle.residues.specs.Elements.{elementAt}
 
 abbrev pub given : ℕ → ℕ → ℕ → ℕ → Settings
 given d L q B = record { degree = d; depth = L; modulus = q; bound = B }

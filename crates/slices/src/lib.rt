@@ -1,14 +1,14 @@
 // Elements and round polynomials in slices of exactly their lengths, and verdicts as numbers: what the calls for C and Rust share. Each function is safe for
 // every input, and says what it gives for a degree of at most 64 and slices that have their lengths.
-use arithmetic::elements;
-use arithmetic::tests;
 use protocol::Settings;
 use protocol::Verdict;
+use ranges::tests;
+use residues::elements;
 ghost use mathlib.Core.Path.{_≡_};
 ghost use mathlib.Core.Bool.{_&&_};
 ghost use Prim.Native.Nat.{_+_, _*_, _≤_};
 ghost use lib.ListN.{length, getD, take};
-ghost use Rattle.arithmetic.specs.Folds.{spliced};
+ghost use Rattle.residues.specs.Lists.{spliced};
 ghost use Rattle.protocol.specs.Element.{padded, paddedSigned};
 ghost use Rattle.slices.specs.Slices.{lent, polynomialOf, laid};
 ghost use Rattle.protocol.specs.Session.{verdictNumber};

@@ -2,10 +2,10 @@
 use crate::lines::all_lines;
 use crate::lines::value_at;
 use crate::names::begins_with_names;
-use arithmetic::tests::settings_refusal;
 use protocol::Loaded;
 use protocol::Number;
 use protocol::Settings;
+use ranges::tests::settings_refusal;
 ghost use mathlib.Core.Path.{_≡_};
 ghost use mathlib.Core.Bool.{false};
 ghost use lib.ListN.{drop};

@@ -11,12 +11,15 @@ use Rattle.protocol.specs.declared.Checked.{Checked}
 use Rattle.protocol.specs.declared.Verdict.{Verdict}
 use Rattle.protocol.specs.declared.Verdict.the-variants.{Silent, Accepted, Rejected}
 use Rattle.protocol.specs.Basic.{choose}
-use Rattle.protocol.specs.Settings.{cells, sized}
+use Rattle.protocol.specs.Settings.{cells, sized, residues, residueElement}
+use Rattle.protocol.specs.Inputs.{Below}
 use Rattle.protocol.specs.Transcript.{accepted}
 use Rattle.protocol.specs.Session.{verdict, verdictNumber}
 use Rattle.protocol.specs.Calls.{checkRefusal, checkAnswer, checkNumber}
+use Rattle.protocol.specs.Layout.{roundCells}
 use Rattle.protocol.proofs.Answers.{check-number}
 use Rattle.protocol.proofs.Tests.{and-split, granted-zero, granted-refused}
+use Rattle.protocol.proofs.Inputs.{tested-below}
 use Rattle.protocol.proofs.Refusals.{none-refused}
 use Rattle.verification.specs.Replays.{Given}
 use Rattle.verification.proofs.Replaying.{whole}
@@ -24,15 +27,20 @@ use Rattle.verification.proofs.Replaying.{whole}
 module _ (S : Settings) (C key rounds E : List ℕ) where
   pub record Passed : Type 0 where
     pub tables : Given S rounds E
-    pub key-long : length key ≡ cells S
+    pub key-below : Below (S .modulus) (cells S) key
 
   pub passed : checkRefusal S C key rounds E ≡ 0 → Passed
-  unfolding checkRefusal sized
+  unfolding checkRefusal sized residues
   passed e =
-      let (settings, (sizes, _)) = none-refused ((6, _) ∷ (7, _) ∷ (9, _) ∷ []) e in
+      let (settings, (sizes, (numbers, _))) = none-refused ((6, _) ∷ (7, _) ∷ (9, _) ∷ []) e in
       let (left, challenges) = and-split sizes in
       let (keys, elements) = and-split left in
-      record { tables = record { settings = settings; rounds-long = eqb-true _ _ elements; challenges-long = eqb-true _ _ challenges }; key-long = eqb-true _ _ keys }
+      let (two, of-rounds) = and-split {a = residues S key && residueElement S C} {b = residues S rounds} numbers in
+      let (of-key, _) = and-split {a = residues S key} {b = residueElement S C} two in
+      record {
+        tables = record { settings = settings; rounds-below = tested-below (S .modulus) (roundCells S) rounds elements of-rounds; challenges-long = eqb-true _ _ challenges };
+        key-below = tested-below (S .modulus) (cells S) key keys of-key;
+      }
 
   module _ (f : List ℤ) where
     -- an answer, and the number of its verdict

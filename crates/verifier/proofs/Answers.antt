@@ -1,13 +1,14 @@
 -- The session's moves: what is known of their inputs with no refusal, and their answers with one and without.
 use mathlib.Core.Path.{_≡_, sym, ap, _∙_}
-use mathlib.Core.Bool.{Bool, true, false}
+use mathlib.Core.Bool.{Bool, true, false, _&&_}
 use mathlib.Core.List.{List, [], _∷_}
 use Prim.Native.Nat.{ℕ, _+_, _*_, _<_}
 use native.Mathlib.Omega.{arith}
 use native.Mathlib.Nat as Nat
-use borrow.Author.Tests.{eqb-true, ltb-true}
+use borrow.Author.Tests.{ltb-true}
+use lib.Dec.{ltb}
 use lib.IntN.{ℤ}
-use lib.ListN.{length, getD}
+use lib.ListN.{getD}
 use Rattle.protocol.specs.declared.Settings.{Settings}
 use Rattle.protocol.specs.declared.Session.{Session}
 use Rattle.protocol.specs.declared.Started.{Started}
@@ -15,14 +16,17 @@ use Rattle.protocol.specs.declared.Moved.{Moved}
 use Rattle.protocol.specs.declared.Verdict.the-variants.{Silent, Holds, Rejected}
 use Rattle.protocol.specs.Basic.{choose}
 use Rattle.protocol.specs.Element.{zeros, padded, residue}
-use Rattle.protocol.specs.Settings.{settingsRefusal, cells, sized}
+use Rattle.protocol.specs.Settings.{settingsRefusal, cells, residues, residueElement}
+use Rattle.protocol.specs.Inputs.{Below}
 use Rattle.protocol.specs.Transcript.{nextClaim}
 use Rattle.protocol.specs.Session.{slots, verdict, opened, blank, startRefusal, start, refusedMove, shut, part, moveRefusal, advanced, moveHolds, move, closeRefusal, closeHolds, close, verdictNumber, moveNumber, closeNumber}
 use Rattle.protocol.proofs.Answers.{move-number, close-number}
-use Rattle.protocol.proofs.Tests.{and-split, granted-zero, granted-refused}
+use Rattle.protocol.proofs.Inputs.{tested-below}
+use Rattle.protocol.proofs.Tests.{and-split, every-at, granted-zero, granted-refused}
 use Rattle.protocol.proofs.Refusals.{none-refused}
 use Rattle.protocol.proofs.Reading.{tabulate-ext}
-use Rattle.arithmetic.specs.Elements.{elementAt}
+use Rattle.residues.specs.Elements.{elementAt}
+use Rattle.equations.specs.Given.{Evaluable}
 use Rattle.verifier.specs.Records.{counted}
 
 -- ---- start
@@ -47,20 +51,31 @@ module _ (S : Settings) (C : List ℕ) where
 
 -- ---- round
 
+element-below : (S : Settings) (a : List ℕ) → residueElement S a ≡ true → (k : ℕ) → k < S .degree → getD a k 0 < S .modulus
+unfolding residueElement
+element-below S a t k l = ltb-true _ _ (every-at (S .degree) (λ j. ltb (getD a j 0) (S .modulus)) t k l)
+
 module _ (r : Session) (p : List (List ℕ)) (e : ℕ) where
   -- an answer, and the number of its verdict
   pub round-answered : (m : Moved) → m ≡ move r p e → (m ≡ move r p e) × (verdictNumber (m .verdict) ≡ moveNumber r p e)
   round-answered m is = (is, ap (λ x. verdictNumber (x .verdict)) is ∙ move-number r p e)
 
   pub record RoundGiven : Type 0 where
-    pub allowed : settingsRefusal (r .settings) ≡ 0
+    pub read : Evaluable (r .settings) (part p 0) (part p 1) (part p 2)
     pub turn : r .done < r .settings .depth
 
   pub round-given : moveRefusal r p e ≡ 0 → RoundGiven
   unfolding moveRefusal
   round-given z =
-      let (r6, (_, (_, (t11, _)))) = none-refused ((7, _) ∷ (9, _) ∷ (10, _) ∷ []) z in
-      record { allowed = r6; turn = ltb-true _ _ (and-split t11 .0) }
+      let (r6, (t8, (_, (t11, _)))) = none-refused ((7, _) ∷ (9, _) ∷ (10, _) ∷ []) z in
+      let S = r .settings in
+      let (three, last) = and-split {a = residueElement S (r .claim) && residueElement S (part p 0) && residueElement S (part p 1)} {b = residueElement S (part p 2)} t8 in
+      let (two, middle) = and-split {a = residueElement S (r .claim) && residueElement S (part p 0)} {b = residueElement S (part p 1)} three in
+      let (own, front) = and-split {a = residueElement S (r .claim)} {b = residueElement S (part p 0)} two in
+      record {
+        read = record { allowed = r6; first = element-below S (part p 0) front; second = element-below S (part p 1) middle; third = element-below S (part p 2) last };
+        turn = ltb-true _ _ (and-split t11 .0);
+      }
 
   pub round-refused : (n : ℕ) → n ≡ moveRefusal r p e → (n ≡ 0 → ⊥) → _≡_ {A = Moved} (record { number = n; verdict = Silent; next = r }) (move r p e)
   unfolding move refusedMove
@@ -88,13 +103,15 @@ module _ (r : Session) (f : List ℤ) (key : List ℕ) where
 
   pub record EndGiven : Type 0 where
     pub allowed : settingsRefusal (r .settings) ≡ 0
-    pub key-long : length key ≡ cells (r .settings)
+    pub key-below : Below (r .settings .modulus) (cells (r .settings)) key
 
   pub end-given : closeRefusal r key ≡ 0 → EndGiven
-  unfolding closeRefusal sized
+  unfolding closeRefusal residues
   end-given z =
-      let (r6, (t7, _)) = none-refused ((6, _) ∷ (7, _) ∷ (9, _) ∷ (10, _) ∷ []) z in
-      record { allowed = r6; key-long = eqb-true _ _ t7 }
+      let (r6, (t7, (t8, _))) = none-refused ((6, _) ∷ (7, _) ∷ (9, _) ∷ (10, _) ∷ []) z in
+      let S = r .settings in
+      let (of-key, of-claim) = and-split {a = residues S key} {b = residueElement S (r .claim)} t8 in
+      record { allowed = r6; key-below = tested-below (S .modulus) (cells S) key t7 of-key }
 
   pub end-refused : (n : ℕ) → n ≡ closeRefusal r key → (n ≡ 0 → ⊥) → _≡_ {A = Moved} (record { number = n; verdict = Silent; next = r }) (close r f key)
   unfolding close refusedMove

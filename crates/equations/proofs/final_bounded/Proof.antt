@@ -13,8 +13,8 @@ use Rattle.protocol.specs.Basic.{every, within}
 use Rattle.protocol.specs.Element.{signed}
 use Rattle.protocol.specs.Settings.{settingsRefusal, size}
 use Rattle.protocol.specs.Transcript.{finalBounded}
-use Rattle.arithmetic.proofs.Magnitude.{through-bits}
-use Rattle.arithmetic.proofs.Scan.{every-none, every-goes-on, every-fails, every-ends}
+use Rattle.ranges.proofs.Magnitude.{through-bits}
+use Rattle.ranges.proofs.Scan.{every-none, every-goes-on, every-fails, every-ends}
 use borrow.Author.Needs.{needs}
 use Rattle.equations.proofs.final_bounded.Statement.{statement}
 use Rattle.equations.proofs.final_bounded.Tie as tie
@@ -40,7 +40,7 @@ size-is c = sym (c .magnitude .ensures ∙ ap natAbs (through-bits w32 (coeffici
 
 limit-is : (c : tie.After-left-bound Inv-loop μ-loop) → let S = c .before .before .args .settings in settingsRefusal S ≡ 0 → c .left-bound .result ≡ size S * S .bound
 unfolding size
-limit-is c e = c .left-bound .ensures e (le-refl _)
+limit-is c e = c .left-bound .ensures (record { allowed = e; most = le-refl _ })
 
 loop-holds : tie.Need-loop-holds Inv-loop μ-loop
 loop-holds c = (omega arith, omega arith, every-none _)

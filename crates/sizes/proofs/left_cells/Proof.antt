@@ -19,7 +19,7 @@ mul-result : tie.Need-mul-result
 mul-result c = record { fits = product-fits (c .before .left .result) (c .before .before .args .settings .degree) (omega arith) (omega arith) }
 
 returns : tie.Need-returns
-returns c = λ e l. ap (λ n. n * c .before .before .args .settings .degree) (c .before .left .ensures e l)
+returns c = λ g. ap (λ n. n * c .before .before .args .settings .degree) (c .before .left .ensures g)
 
 pub left-cells-spec : {M : Type 1} → statement M
 left-cells-spec = tie.close (tie.spec left-requires cast-result cast-result-2 mul-result returns)

@@ -4,7 +4,7 @@ use Prim.Native.Nat.{ℕ, _*_}
 use native.Mathlib.Omega.{arith}
 use lib.ListN.{getD}
 use Rattle.protocol.specs.Session.{part}
-use Rattle.arithmetic.specs.Folds.{spliced}
+use Rattle.residues.specs.Lists.{spliced}
 use Rattle.slices.specs.Slices.{laid}
 use Rattle.slices.proofs.Elements.{stored-three, three-rows}
 use borrow.Author.Needs.{needs}

@@ -6,8 +6,9 @@ use native.Mathlib.Omega.{arith}
 use lib.IntN.{pos}
 use lib.ListN.{length, getD}
 use mir.Syntax.{w32}
-use Rattle.arithmetic.proofs.Fill.{filled, filled-none, filled-turn, filled-length}
-use Rattle.arithmetic.proofs.Magnitude.{through-bits}
+use Rattle.residues.specs.Lists.{filled}
+use Rattle.residues.proofs.Fill.{filled-none, filled-turn, filled-length}
+use Rattle.ranges.proofs.Magnitude.{through-bits}
 use Rattle.slices.proofs.Elements.{filled-whole}
 use Rattle.slices.proofs.store_wholes.Statement.{statement}
 use Rattle.slices.proofs.store_wholes.Tie as tie

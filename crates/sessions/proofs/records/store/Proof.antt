@@ -3,7 +3,8 @@ use mathlib.Core.Path.{_≡_, ap, _∙_}
 use Prim.Native.Nat.{_-_, _≤_}
 use native.Mathlib.Omega.{arith}
 use lib.ListN.{length, set}
-use Rattle.arithmetic.proofs.Fill.{filled, filled-none, filled-more, filled-length}
+use Rattle.residues.specs.Lists.{filled}
+use Rattle.residues.proofs.Fill.{filled-none, filled-more, filled-length}
 use Rattle.sessions.specs.Records.{numberOf}
 use Rattle.sessions.proofs.Stored.{stays, filled-stored}
 use borrow.Author.Needs.{needs}

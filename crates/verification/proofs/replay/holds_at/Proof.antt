@@ -5,7 +5,7 @@ use borrow.Author.Needs.{needs}
 use Rattle.protocol.specs.Element.{residue}
 use Rattle.protocol.specs.Transcript.{roundHolds}
 use Rattle.protocol.proofs.Inputs.{settings-valid}
-use Rattle.arithmetic.specs.Elements.{elementAt}
+use Rattle.residues.specs.Elements.{elementAt}
 use Rattle.sizes.proofs.Limits.{degree-most}
 use Rattle.verification.proofs.Replaying.{round-is}
 use Rattle.verification.proofs.replay.holds_at.Statement.{statement}

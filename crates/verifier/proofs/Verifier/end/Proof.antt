@@ -38,7 +38,7 @@ unfolding closeHolds
 met c =
     let one = c .before .before .before .before .before .before in
     let g = end-given _ (one .before .before .before .before .args .last) _ (passed one) in
-    c .end-met .ensures (g .allowed) (g .key-long) (omega (arith, settings-valid _ (g .allowed) .depth-most, eight (c .before)))
+    c .end-met .ensures (record { allowed = g .allowed; key-below = g .key-below; challenges-long = omega (arith, settings-valid _ (g .allowed) .depth-most, eight (c .before)) })
 
 end-met-requires : tie.Need-end-met-requires
 end-met-requires c κs = search needs

@@ -43,13 +43,13 @@ returns-2 c =
     let one = c .before .before .before .before .before .before .before .before in
     let a = one .before .before .before .args in
     round-answered (a .self .0) (a .t2) (a .e) _
-    (round-rejected (a .self .0) (a .t2) (a .e) (passed one) (sym (c .before .before .round-holds .ensures (given one .allowed)) ∙ not-true _ (c .before .if2 .taken)) _ (c .shut .ensures))
+    (round-rejected (a .self .0) (a .t2) (a .e) (passed one) (sym (c .before .before .round-holds .ensures (given one .read .allowed)) ∙ not-true _ (c .before .if2 .taken)) _ (c .shut .ensures))
 
 next-claim-requires : tie.Need-next-claim-requires
 next-claim-requires c κs = search needs
 
 counted-requires : tie.Need-counted-requires
-counted-requires c κs = let g = given (c .before .before .before .before .before .before .before .before) in omega (arith, g .turn, settings-valid _ (g .allowed) .depth-most)
+counted-requires c κs = let g = given (c .before .before .before .before .before .before .before .before) in omega (arith, g .turn, settings-valid _ (g .read .allowed) .depth-most)
 
 returns-3 : tie.Need-returns-3
 unfolding moveHolds part
@@ -57,7 +57,7 @@ returns-3 c =
     let one = c .before .before .before .before .before .before .before .before .before in
     let a = one .before .before .before .args in
     round-answered (a .self .0) (a .t2) (a .e) _
-    (round-counted (a .self .0) (a .t2) (a .e) (passed one) (sym (c .before .before .before .round-holds .ensures (given one .allowed)) ∙ not-false _ (c .before .before .if2 .left)) _ _ (c .counted .ensures) (c .before .next-claim .ensures (given one .allowed)))
+    (round-counted (a .self .0) (a .t2) (a .e) (passed one) (sym (c .before .before .before .round-holds .ensures (given one .read .allowed)) ∙ not-false _ (c .before .before .if2 .left)) _ _ (c .counted .ensures) (c .before .next-claim .ensures (given one .read)))
 
 pub round-spec : {M : Type 1} → statement M
 round-spec =
