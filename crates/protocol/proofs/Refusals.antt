@@ -1,5 +1,6 @@
 -- A call's refusal, one test after the other: the first number that is not 0 stands.
 use mathlib.Core.Path.{_≡_, refl, ap}
+use mathlib.Core.Logic.{_≢_}
 use mathlib.Core.Bool.{Bool, true, false, _&&_}
 use mathlib.Core.List.{List, [], _∷_, _++_}
 use Prim.Native.Nat.{ℕ, zero, suc, _<_, _≤_}
@@ -8,7 +9,9 @@ use borrow.Author.Tests.{le-leb, lt-leb, lt-ltb, le-ltb}
 use lib.IntN.{ℤ}
 use Rattle.protocol.specs.declared.Settings.{Settings}
 use Rattle.protocol.specs.Basic.{first, unless}
-use Rattle.protocol.specs.Calls.{leftSmall, movingSmall, endingSmall}
+use Rattle.protocol.specs.Tree.{rootVector}
+use Rattle.protocol.specs.Calls.{leftSmall, movingSmall, endingSmall, extractRefusal, extractExit}
+use Rattle.protocol.proofs.Tests.{granted-refused}
 
 pub first-stops : (x : ℕ) (rest : List ℕ) → (x ≡ 0 → ⊥) → first (x ∷ rest) ≡ x
 unfolding first
@@ -78,3 +81,9 @@ module _ (S : Settings) (t : ℕ) (message : List ℤ) where
   pub moving-over : S .depth ≤ t → movingSmall S t message ≡ true
   unfolding movingSmall
   moving-over h = ap (λ b. elim b as (λ _. Bool) [ true ↦ leftSmall S t message | false ↦ true ]) (le-ltb t (S .depth) h)
+
+-- ---- a refused extractor leaves w, whichever test refuses it
+
+pub extract-keeps : (S : Settings) (C key rounds E : List ℕ) (finals w : List ℤ) → extractRefusal S C key rounds E finals w ≢ 0 → extractExit S C key rounds E finals w ≡ w
+unfolding extractExit
+extract-keeps S C key rounds E finals w = granted-refused (extractRefusal S C key rounds E finals w) (rootVector S E finals) w
