@@ -16,7 +16,8 @@ use Rattle.protocol.specs.Inputs.{Valid, Below, Within}
 use Rattle.protocol.specs.Opening.{commitment, roundElement, roundTable, messageAfter, keyAfter}
 use Rattle.protocol.specs.Transcript.{transcriptOf, Accepted}
 use Rattle.protocol.specs.Tree.{parent, challenge, challengeTo, nodes, leaves, onPath, pathChallenges, pathRounds, leaf, path, foldTo}
-use Rattle.protocol.specs.Demand3.{State, Step, Gap, Run, step, begun, moves}
+use Rattle.protocol.specs.Demand3.{Held, Heard, State, Step, Gap, Run, step, begun, moves}
+use Rattle.protocol.specs.Performed.{Refusals, Performs, Performance}
 use Rattle.protocol.specs.HonestTree.{wayTo, answerAt, honestRounds, honestFinals, ThreeEach, HonestTree, NeverVacuous}
 use Rattle.protocol.proofs.Reading.{tabulate-length, tabulate-at, tabulate-ext, tabulate-own, flat-length, flat-at, flat-ext}
 use Rattle.claims.proofs.Tables.{key-challenges, message-challenges}
@@ -137,6 +138,23 @@ bare-run : (S : Settings) (E : List ℕ) (steps : List Step) (a : State) → (st
 bare-run S E [] a = (_, Run.stop Gap.none)
 bare-run S E (s ∷ rest) a = let (st, run) = bare-run S E rest (step S E s (a .held) (a .heard)) in (st, Run.go Gap.none run)
 
+-- every function may answer what its definition says
+some-step : (S : Settings) (E : List ℕ) (s : Step) (h : Held) (a : Heard) → Performs S E s h a (step S E s h a)
+unfolding step
+some-step S E Step.commits h a = Performs.commits _ refl
+some-step S E Step.starts h a = Performs.starts _ refl
+some-step S E Step.proves h a = Performs.proves _ refl
+some-step S E Step.checks h a = Performs.checks _ refl
+some-step S E Step.folds h a = Performs.folds _ _ _ (record { number = refl; key-exit = refl; message-exit = refl })
+some-step S E Step.ends h a = Performs.ends _ refl
+some-step S E Step.closes h a = Performs.closes _ refl
+
+bare-performance : (S : Settings) (E : List ℕ) (steps : List Step) (a : State) → (st : State) × Performance S E steps a st
+bare-performance S E [] a = (_, Performance.stop Refusals.none)
+bare-performance S E (s ∷ rest) a =
+    let (st, more) = bare-performance S E rest (step S E s (a .held) (a .heard)) in
+    (st, Performance.go Refusals.none (some-step S E s (a .held) (a .heard)) more)
+
 -- the exponents 0, 1, 2 at every node
 module _ (S : Settings) where
   abbrev counted : List ℕ
@@ -165,6 +183,7 @@ module _ (S : Settings) where
 pub never-vacuous : NeverVacuous
 never-vacuous = record {
   some-run = λ S G M E r. bare-run S E (moves (S .depth)) (begun M G r);
+  some-performance = λ S G M E r. bare-performance S E (moves (S .depth)) (begun M G r);
   honest-tree = honest-tree;
   some-challenges = λ S ok. (counted S, three-each S ok);
 }

@@ -4,6 +4,7 @@
 -- `first-known` puts the first answer there, `first-tested` each next one, and `first-only` ends the list; `first-stops` ends it at a refusal.
 -- Where nothing is refused, `none-refused` says that every test of a list passed; `passed-all` is the other way round.
 use mathlib.Core.Path.{_≡_, refl, sym, ap, _∙_}
+use mathlib.Core.Logic.{_≢_}
 use mathlib.Core.Bool.{Bool, true, false, _&&_}
 use mathlib.Core.List.{List, [], _∷_, _++_}
 use Prim.Native.Nat.{ℕ, zero, suc, _<_, _≤_}
@@ -12,8 +13,9 @@ use borrow.Author.Tests.{le-leb, lt-leb, lt-ltb, le-ltb}
 use lib.IntN.{ℤ}
 use Rattle.protocol.specs.declared.Settings.{Settings}
 use Rattle.protocol.specs.Basic.{first, unless, Tested}
-use Rattle.protocol.specs.Calls.{leftSmall, movingSmall, endingSmall}
-use Rattle.protocol.proofs.Tests.{first-nothing, first-zero, zero-first, unless-zero, zero-unless}
+use Rattle.protocol.specs.Tree.{rootVector}
+use Rattle.protocol.specs.Calls.{leftSmall, movingSmall, endingSmall, extractRefusal, extractExit}
+use Rattle.protocol.proofs.Tests.{first-nothing, first-zero, zero-first, unless-zero, zero-unless, granted-refused}
 
 pub first-stops : (x : ℕ) (rest : List ℕ) → (x ≡ 0 → ⊥) → first (x ∷ rest) ≡ x
 unfolding first
@@ -121,3 +123,9 @@ module _ (S : Settings) (t : ℕ) (message : List ℤ) where
   pub moving-over : S .depth ≤ t → movingSmall S t message ≡ true
   unfolding movingSmall
   moving-over h = ap (λ b. elim b as (λ _. Bool) [ true ↦ leftSmall S t message | false ↦ true ]) (le-ltb t (S .depth) h)
+
+-- ---- a refused extractor leaves w, whichever test refuses it
+
+pub extract-keeps : (S : Settings) (C key rounds E : List ℕ) (finals w : List ℤ) → extractRefusal S C key rounds E finals w ≢ 0 → extractExit S C key rounds E finals w ≡ w
+unfolding extractExit
+extract-keeps S C key rounds E finals w = granted-refused (extractRefusal S C key rounds E finals w) (rootVector S E finals) w

@@ -1,11 +1,12 @@
--- Demand 3 is never vacuous: there is a run of the moves for every message and every list of challenges, and a full tree for every choice of three different challenges at every node.
+-- Demand 3 is never vacuous: there is a run of the moves for every message and every list of challenges, of the definitions and of the functions, and a full tree for every choice of
+-- three different challenges at every node.
 --
 --   wayTo E h k                 the challenges that lead from the root to node k, h being at least its depth
 --   answerAt S E G M k j        c_j at node k as an honest prover gives it: both tables folded by the challenges that lead there
 --   honestRounds, honestFinals  the round elements and the final elements of the whole tree, flat
 --   ThreeEach S E               three different exponents at every branching node
 --   HonestTree S G M E          what is owed of that tree
---   NeverVacuous                both, and that there is such a choice of challenges, for all settings
+--   NeverVacuous                all of that, and that there is such a choice of challenges, for all settings
 use mathlib.Core.Logic.{_≢_}
 use mathlib.Core.List.{List, [], _∷_, _++_}
 use Prim.Native.Nat.{ℕ, zero, suc, _*_, _/_, _%_, _<_}
@@ -20,6 +21,7 @@ use Rattle.protocol.specs.Inputs.{Valid, Below, Within}
 use Rattle.protocol.specs.Opening.{commitment, roundElement, messageAfter, keyAfter}
 use Rattle.protocol.specs.Tree.{parent, challenge, challengeTo, nodes, leaves, foldTo}
 use Rattle.protocol.specs.Demand3.{State, Run, begun, moves, FullTree, FoldsOf}
+use Rattle.protocol.specs.Performed.{Performance}
 
 -- from the root on: those that lead to the node above, and the one that leads from there to node k
 unfoldable pub wayTo : List ℕ → ℕ → ℕ → List ℕ
@@ -50,5 +52,6 @@ pub record HonestTree (S : Settings) (G : List ℕ) (M : List ℤ) (E : List ℕ
 
 pub record NeverVacuous : Type 0 where
   pub some-run : (S : Settings) (G : List ℕ) (M : List ℤ) (E : List ℕ) (r : Session) → (st : State) × Run S E (moves (S .depth)) (begun M G r) st
+  pub some-performance : (S : Settings) (G : List ℕ) (M : List ℤ) (E : List ℕ) (r : Session) → (st : State) × Performance S E (moves (S .depth)) (begun M G r) st
   pub honest-tree : (S : Settings) (G : List ℕ) (M : List ℤ) (E : List ℕ) → Valid S → Below (S .modulus) (cells S) G → Within (S .bound) (cells S) M → ThreeEach S E → HonestTree S G M E
   pub some-challenges : (S : Settings) → Valid S → (E : List ℕ) × ThreeEach S E

@@ -15,6 +15,6 @@ pub mod Programs
 pub mod RoundTrip
 pub mod Promises
 pub mod Demand3
-pub mod HonestTree
 pub mod Performed
+pub mod HonestTree
 pub mod ProveVerify
