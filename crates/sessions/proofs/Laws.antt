@@ -7,7 +7,7 @@ use Prim.Native.Nat.{ℕ, zero, suc, _+_, _-_, _<_, _≤_}
 use native.Mathlib.Decide.{decLt}
 use native.Mathlib.Omega.{arith}
 use borrow.Author.Tests.{lt-ltb, le-ltb, leb-true}
-use lib.Dec.{eqb}
+use lib.Dec.{leb, eqb}
 use lib.IntN.{ℤ}
 use lib.ListN.{length, getD, length-append, length-set}
 use lib.Seq.{ext-getD}
@@ -61,6 +61,15 @@ module _ (r : Session) where
   unfolding choose
   flag true = refl
   flag false = refl
+
+  flag-small : (b : Bool) → leb (choose b 1 0) 1 ≡ true
+  unfolding choose
+  flag-small true = refl
+  flag-small false = refl
+
+  pub flagged-stored : flagged (numbersOf r) ≡ true
+  unfolding flagged headOf choose
+  flagged-stored = ap (λ n. leb n 1) (head-at 5 (omega arith)) ∙ flag-small (r .closed)
 
   pub load-stored : Whole r → sessionOf (numbersOf r) ≡ r
   unfolding sessionOf challengesOf claimOf width headOf choose

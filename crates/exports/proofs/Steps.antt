@@ -1,0 +1,204 @@
+-- The exported calls of an opening, on slices of their lengths: none is refused, and each leaves what its call of protocol answers, in its slice.
+use mathlib.Core.Path.{_≡_, refl, sym, ap, _∙_, subst}
+use mathlib.Core.Bool.{Bool, true, _&&_}
+use mathlib.Core.List.{List}
+use Prim.Native.Nat.{ℕ, zero, suc, _*_, _<_, _≤_}
+use native.Mathlib.Nat as Nat
+use native.Mathlib.Omega.{arith}
+use borrow.Author.Tests.{eq-eqb}
+use lib.IntN.{ℤ}
+use lib.ListN.{length, getD, take}
+use Rattle.protocol.specs.declared.Settings.{Settings}
+use Rattle.protocol.specs.declared.Session.{Session}
+use Rattle.protocol.specs.declared.Committed.{Committed}
+use Rattle.protocol.specs.declared.Polynomial.{Polynomial}
+use Rattle.protocol.specs.declared.Ended.{Ended}
+use Rattle.protocol.specs.declared.Started.{Started}
+use Rattle.protocol.specs.declared.Moved.{Moved}
+use Rattle.protocol.specs.declared.Verdict.the-variants.{Holds, Accepted}
+use Rattle.protocol.specs.Element.{padded, paddedSigned}
+use Rattle.protocol.specs.Settings.{sized}
+use Rattle.protocol.specs.Opening.{commitment, roundElement, messageAfter, keyAfter, finalElement}
+use Rattle.protocol.specs.Session.{opened, blank, startRefusal, start, shut, move, close}
+use Rattle.protocol.specs.Calls.{polynomial}
+use Rattle.protocol.specs.Inputs.{Valid}
+use Rattle.protocol.proofs.Tests.{and-intro, granted-zero}
+use Rattle.protocol.proofs.Refusals.{first-passes, first-holds, first-only}
+use Rattle.protocol.proofs.Inputs.{valid-settings}
+use Rattle.protocol.proofs.Reading.{flat-length}
+use Rattle.claims.proofs.Honest.{Given, degree-positive, modulus-positive}
+use Rattle.claims.proofs.Ranges.{commitment-below, round-below, last-length}
+use Rattle.claims.proofs.Prover.{commit-answer, round-answer, end-answer}
+use Rattle.claims.proofs.Sessions.{sessionAfter, start-answer, move-answer, close-answer}
+use Rattle.slices.specs.Slices.{lent, polynomialOf, laid, verdictNumber}
+use Rattle.slices.proofs.Laws.{element-back, whole-back, polynomial-there}
+use Rattle.sessions.specs.Records.{recordWidth, sessionOf, flagged, numbersOf, recordStored}
+use Rattle.sessions.specs.Promises.{startNumber, startExit, moveNumber, moveExit, moveVerdict, polynomialFits, roundOn, lastFits, endOn}
+use Rattle.sessions.proofs.Stored.{stored, numbers-length}
+use Rattle.sessions.proofs.Laws.{Whole, load-stored, flagged-stored, start-whole, move-whole}
+use Rattle.exports.specs.Border as Border
+
+-- where the settings are allowed and the slices beside have their lengths, the call's own refusal is all
+pub own : (S : Settings) → Valid S → (fits : Bool) (N : ℕ) → fits ≡ true → lent S fits N ≡ N
+unfolding lent
+own S v fits N e = first-passes _ _ (valid-settings S v) ∙ first-holds 7 _ _ e ∙ first-only N
+
+pub fit {ℓ} : {A : Type ℓ} (n : ℕ) (t : List A) → length t ≡ n → sized n t ≡ true
+unfolding sized
+fit n t e = eq-eqb _ _ e
+
+-- a move on a record in a slice
+module _ (S : Settings) (v : Valid S) (fits : Bool) (m : Moved) (r : Session) (e : sessionOf (numbersOf r) .settings ≡ S) (f : fits ≡ true) (z : m .number ≡ 0) where
+  pub move-number : moveNumber fits m (numbersOf r) ≡ 0
+  unfolding moveNumber recordWidth
+  move-number =
+      first-holds 7 _ _ (fit 78 (numbersOf r) (numbers-length r))
+      ∙ first-only _
+      ∙ ap (λ s. lent s (fits && flagged (numbersOf r)) (m .number)) e
+      ∙ own S v _ _ (and-intro f (flagged-stored r))
+      ∙ z
+
+  pub move-exit : moveExit fits m (numbersOf r) ≡ numbersOf (m .next)
+  unfolding moveExit
+  move-exit = granted-zero _ _ _ move-number ∙ stored (m .next) (numbersOf r) (numbers-length r)
+
+  pub move-verdict : moveVerdict fits m (numbersOf r) ≡ verdictNumber (m .verdict)
+  unfolding moveVerdict
+  move-verdict = granted-zero _ _ _ move-number
+
+module _ {S : Settings} {G : List ℕ} {M : List ℤ} {E : List ℕ} (ok : Given S G M E) where
+  open Settings S using (degree as d, depth as L)
+
+  abbrev session : ℕ → Session
+  session = sessionAfter S G M E
+
+  abbrev pub p : ℕ → List (List ℕ)
+  p t = polynomial S t (keyAfter S E t G) (messageAfter S E t M)
+
+  -- ---- commit and start
+
+  commitment-long : length (commitment S G M) ≡ d
+  commitment-long = commitment-below S (modulus-positive S (ok .settings)) G M .long
+
+  module _ (c : List ℕ) (long : length c ≡ d) where
+    pub commit-number : Border.commitNumber S G M c ≡ 0
+    unfolding Border.commitNumber
+    commit-number = own S (ok .settings) _ _ (fit d c long) ∙ ap (λ (r : Committed). r .number) (commit-answer ok)
+
+    pub commit-exit : Border.commitExit S G M c ≡ commitment S G M
+    unfolding Border.commitExit
+    commit-exit = granted-zero _ _ _ commit-number ∙ ap (λ (r : Committed). take d (r .commitment)) (commit-answer ok) ∙ element-back d (commitment S G M) commitment-long
+
+  module _ (r : List ℕ) (long : length r ≡ 78) where
+    start-granted : startRefusal S (padded d (commitment S G M)) ≡ 0
+    unfolding start
+    start-granted = ap (λ (x : Started). x .number) (start-answer ok)
+
+    pub start-number : startNumber S (commitment S G M) r ≡ 0
+    unfolding startNumber recordWidth
+    start-number = own S (ok .settings) _ _ (and-intro (fit d (commitment S G M) commitment-long) (fit 78 r long)) ∙ start-granted
+
+    pub start-exit : startExit S (commitment S G M) r ≡ numbersOf (session 0)
+    unfolding startExit start
+    start-exit =
+        ap (λ x. recordStored x r) (granted-zero _ _ _ start-number ∙ sym (granted-zero _ (opened S (padded d (commitment S G M))) blank start-granted) ∙ ap (λ (x : Started). x .next) (start-answer ok))
+        ∙ stored (session 0) r long
+
+  -- ---- the record after t rounds
+
+  whole : (t : ℕ) → t ≤ L → Whole (session t)
+  whole zero l = subst Whole (ap (λ (x : Started). x .next) (start-answer ok)) (start-whole S (padded d (commitment S G M)))
+  whole (suc t) l = subst Whole (ap (λ (x : Moved). x .next) (move-answer ok t l)) (move-whole (session t) (whole t (omega arith)) (p t) (getD E t 0))
+
+  module _ (t : ℕ) (l : t ≤ L) where
+    loaded : sessionOf (numbersOf (session t)) ≡ session t
+    loaded = load-stored (session t) (whole t l)
+
+    settings-are : sessionOf (numbersOf (session t)) .settings ≡ S
+    unfolding sessionAfter
+    settings-are = ap (λ (x : Session). x .settings) loaded
+
+  -- ---- a round
+
+  module _ (t : ℕ) (l : t < L) where
+    abbrev slice : List ℕ
+    slice = laid d (p t)
+
+    module _ (q : List ℕ) (long : length q ≡ 3 * d) where
+      pub round-number : Border.roundNumber S t (keyAfter S E t G) (messageAfter S E t M) q ≡ 0
+      unfolding Border.roundNumber
+      round-number = own S (ok .settings) _ _ (fit (3 * d) q long) ∙ ap (λ (r : Polynomial). r .number) (round-answer ok t l)
+
+      pub round-exit : Border.roundExit S t (keyAfter S E t G) (messageAfter S E t M) q ≡ slice
+      unfolding Border.roundExit
+      round-exit = granted-zero _ _ _ round-number ∙ ap (λ (r : Polynomial). laid d (r .elements)) (round-answer ok t l)
+
+    pub slice-long : length slice ≡ 3 * d
+    unfolding laid
+    slice-long = flat-length d 3 _
+
+    slice-read : polynomialOf d slice ≡ p t
+    unfolding polynomial
+    slice-read = polynomial-there d (roundElement S t (keyAfter S E t G) (messageAfter S E t M)) (λ j. round-below S (modulus-positive S (ok .settings)) t (keyAfter S E t G) (messageAfter S E t M) j .long)
+
+    slice-fits : polynomialFits slice (numbersOf (session t)) ≡ true
+    unfolding polynomialFits
+    slice-fits = ap (λ s. sized (3 * s .degree) slice) (settings-are t (omega arith)) ∙ fit (3 * d) slice slice-long
+
+    made : roundOn slice (getD E t 0) (numbersOf (session t)) ≡ record { number = 0; verdict = Holds; next = session (suc t) }
+    unfolding roundOn sessionAfter
+    made =
+        ap (λ (s : Session). move s (polynomialOf (s .settings .degree) slice) (getD E t 0)) (loaded t (omega arith))
+        ∙ ap (λ x. move (session t) x (getD E t 0)) slice-read
+        ∙ move-answer ok t l
+
+    abbrev m : Moved
+    m = roundOn slice (getD E t 0) (numbersOf (session t))
+
+    pub check-number : moveNumber (polynomialFits slice (numbersOf (session t))) m (numbersOf (session t)) ≡ 0
+    check-number = move-number S (ok .settings) _ m (session t) (settings-are t (omega arith)) slice-fits (ap (λ (x : Moved). x .number) made)
+
+    pub check-exit : moveExit (polynomialFits slice (numbersOf (session t))) m (numbersOf (session t)) ≡ numbersOf (session (suc t))
+    check-exit = move-exit S (ok .settings) _ m (session t) (settings-are t (omega arith)) slice-fits (ap (λ (x : Moved). x .number) made) ∙ ap (λ (x : Moved). numbersOf (x .next)) made
+
+    pub check-verdict : moveVerdict (polynomialFits slice (numbersOf (session t))) m (numbersOf (session t)) ≡ 1
+    unfolding verdictNumber
+    check-verdict = move-verdict S (ok .settings) _ m (session t) (settings-are t (omega arith)) slice-fits (ap (λ (x : Moved). x .number) made) ∙ ap (λ (x : Moved). verdictNumber (x .verdict)) made
+
+  -- ---- the end
+
+  abbrev pub final : List ℤ
+  final = finalElement S (messageAfter S E L M)
+
+  final-long : length final ≡ d
+  final-long = last-length S (messageAfter S E L M)
+
+  module _ (f : List ℤ) (long : length f ≡ d) where
+    pub end-number : Border.endNumber S L (messageAfter S E L M) f ≡ 0
+    unfolding Border.endNumber
+    end-number = own S (ok .settings) _ _ (fit d f long) ∙ ap (λ (r : Ended). r .number) (end-answer ok)
+
+    pub end-exit : Border.endExit S L (messageAfter S E L M) f ≡ final
+    unfolding Border.endExit
+    end-exit = granted-zero _ _ _ end-number ∙ ap (λ (r : Ended). take d (r .last)) (end-answer ok) ∙ whole-back d final final-long
+
+  final-fits : lastFits final (numbersOf (session L)) ≡ true
+  unfolding lastFits
+  final-fits = ap (λ s. sized (s .degree) final) (settings-are L (Nat.le-refl L)) ∙ fit d final final-long
+
+  closed : endOn final G (numbersOf (session L)) ≡ record { number = 0; verdict = Accepted; next = shut (session L) }
+  unfolding endOn sessionAfter
+  closed = ap (λ (s : Session). close s (paddedSigned (s .settings .degree) final) G) (loaded L (Nat.le-refl L)) ∙ close-answer ok
+
+  abbrev n : Moved
+  n = endOn final G (numbersOf (session L))
+
+  pub close-number : moveNumber (lastFits final (numbersOf (session L))) n (numbersOf (session L)) ≡ 0
+  close-number = move-number S (ok .settings) _ n (session L) (settings-are L (Nat.le-refl L)) final-fits (ap (λ (x : Moved). x .number) closed)
+
+  pub close-exit : moveExit (lastFits final (numbersOf (session L))) n (numbersOf (session L)) ≡ numbersOf (shut (session L))
+  close-exit = move-exit S (ok .settings) _ n (session L) (settings-are L (Nat.le-refl L)) final-fits (ap (λ (x : Moved). x .number) closed) ∙ ap (λ (x : Moved). numbersOf (x .next)) closed
+
+  pub close-verdict : moveVerdict (lastFits final (numbersOf (session L))) n (numbersOf (session L)) ≡ 2
+  unfolding verdictNumber
+  close-verdict = move-verdict S (ok .settings) _ n (session L) (settings-are L (Nat.le-refl L)) final-fits (ap (λ (x : Moved). x .number) closed) ∙ ap (λ (x : Moved). verdictNumber (x .verdict)) closed
