@@ -17,7 +17,8 @@ use Rattle.protocol.specs.declared.Checked.{Checked}
 use Rattle.protocol.specs.declared.Verdict.the-variants.{Silent, Holds, Rejected}
 use Rattle.protocol.specs.declared.Verified.the-variants as Verify
 use Rattle.protocol.specs.Basic.{choose, granted}
-use Rattle.protocol.specs.Session.{verdict, verdictNumber, roundNumber, endNumber, refusedMove, move, moveRefusal, moveHolds, moveNumber, close, closeRefusal, closeHolds, closeNumber, advanced, shut}
+use Rattle.protocol.specs.Session.{verdict, verdictNumber, roundNumber, endNumber, advanced, shut, refusedMove, move, moveRefusal, moveHolds, moveNumber}
+use Rattle.protocol.specs.Session.{close, closeRefusal, closeHolds, closeNumber}
 use Rattle.protocol.specs.Transcript.{accepted, transcriptOf}
 use Rattle.protocol.specs.Calls.{openingRefusal, openingAnswer, openingNumber, checkRefusal, checkAnswer, checkNumber}
 use Rattle.protocol.specs.Text.{Line, linesOf, settingsIn, tablesIn, reading, numberAnswer}
@@ -40,12 +41,17 @@ module _ (text : List ℕ) where
 -- ---- verdicts
 
 -- a round's, by its refusal and whether it holds
-round-says : (n : ℕ) (b : Bool) (held shut kept : Session)
-    → verdictNumber (granted n (choose b (record { number = 0; verdict = Holds; next = held }) (record { number = 0; verdict = Rejected; next = shut })) (refusedMove kept n) .verdict) ≡ roundNumber n b
+abbrev held : Session → Moved
+held r = record { number = 0; verdict = Holds; next = r }
+
+abbrev failed : Session → Moved
+failed r = record { number = 0; verdict = Rejected; next = r }
+
+round-says : (n : ℕ) (b : Bool) (after closed kept : Session) → verdictNumber (granted n (choose b (held after) (failed closed)) (refusedMove kept n) .verdict) ≡ roundNumber n b
 unfolding verdictNumber granted choose refusedMove roundNumber
-round-says zero true held shut kept = refl
-round-says zero false held shut kept = refl
-round-says (suc n) b held shut kept = refl
+round-says zero true after closed kept = refl
+round-says zero false after closed kept = refl
+round-says (suc n) b after closed kept = refl
 
 -- an end's, as a verdict beside its number and as a part of a move
 end-says : (n : ℕ) (b : Bool) → verdictNumber (granted n (verdict b) Silent) ≡ endNumber n b

@@ -65,7 +65,9 @@ returns c =
 refuses : (c : tie.After-known-told) → sameSpot (read c .spot) (wanted c) ≡ false
     → (Refused 2 ≡ numberAnswer (text c) (readValue (wanted c) (drop (at c) (text c)))) × (reading (Refused 2) ≡ givenNumber (text c) (readValue (wanted c) (drop (at c) (text c))))
 unfolding numberAnswer
-refuses c t = answer-both (text c) (readValue (wanted c) (drop (at c) (text c))) _ (sym (ap (numberAnswer (text c)) (value-elsewhere (wanted c) (drop (at c) (text c)) (read c) (drop (next c) (text c)) (got c .is) t)))
+refuses c t =
+    answer-both (text c) (readValue (wanted c) (drop (at c) (text c))) _
+    (sym (ap (numberAnswer (text c)) (value-elsewhere (wanted c) (drop (at c) (text c)) (read c) (drop (next c) (text c)) (got c .is) t)))
 
 returns-2 : tie.Need-returns-2
 returns-2 c = refuses (c .before) (other-part _ _ (c .if1 .taken))
