@@ -14,43 +14,37 @@ passed : (c : tie.Else1) → let a = c .before .before .before .args in judgeRef
 passed c = sym (c .before .judge .ensures) ∙ c .if1 .left
 
 given : (c : tie.Else1) → let a = c .before .before .before .args in JudgeGiven (a .settings) (a .key .now) (a .w .now)
-given c = let a = c .before .before .before .args in judge-given (a .settings) (a .commitment) (a .c) (a .key .now) (a .w .now) (passed c)
+given c = judge-given _ _ _ _ _ (passed c)
 
 -- the test of the bound is made with the growth itself
 tested : (c : tie.After-all-within-wide) → let a = c .before .before .before .before .before .args in c .all-within-wide .result ≡ small (growth (a .settings)) (a .w .now)
 tested c =
-    let a = c .before .before .before .before .before .args in let g = given (c .before .before) in
+    let a = c .before .before .before .before .before .args in
+    let g = given (c .before .before) in
     c .all-within-wide .ensures ∙ ap (λ n. small n (a .w .now)) (c .before .growth .ensures (g .allowed) ∙ growth-exact (a .settings) (g .allowed) (g .limited))
 
-judge-requires : tie.Need-judge-requires
-judge-requires c κs = search needs
-
 returns : tie.Need-returns
-returns c = judge-refused (c .before .before .before .args .settings) (c .before .before .before .args .commitment) (c .before .before .before .args .c) (c .before .before .before .args .key .now) (c .before .before .before .args .w .now) _ (c .before .judge .ensures) (c .if1 .taken)
-
-growth-requires : tie.Need-growth-requires
-growth-requires c κs = search needs
-
-all-within-wide-requires : tie.Need-all-within-wide-requires
-all-within-wide-requires c κs = search needs
+returns c = judge-refused _ _ _ _ _ _ (c .before .judge .ensures) (c .if1 .taken)
 
 returns-2 : tie.Need-returns-2
-returns-2 c = judge-done (c .before .before .before .before .before .before .args .settings) (c .before .before .before .before .before .before .args .commitment) (c .before .before .before .before .before .before .args .c) (c .before .before .before .before .before .before .args .key .now) (c .before .before .before .before .before .before .args .w .now) (passed (c .before .before .before)) false (beyond (c .before .before .before .before .before .before .args .settings) (c .before .before .before .before .before .before .args .commitment) (c .before .before .before .before .before .before .args .c) (c .before .before .before .before .before .before .args .key .now) (c .before .before .before .before .before .before .args .w .now) (sym (tested (c .before)) ∙ not-true _ (c .if2 .taken)))
+returns-2 c = judge-done _ _ _ _ _ (passed (c .before .before .before)) false (beyond _ _ _ _ _ (sym (tested (c .before)) ∙ not-true _ (c .if2 .taken)))
 
 opens-requires : tie.Need-opens-requires
 opens-requires c κs = let g = given (c .before .before .before) in (g .allowed, g .key-long, g .w-long)
 
 returns-3 : tie.Need-returns-3
-returns-3 c = judge-done (c .before .before .before .before .before .before .before .args .settings) (c .before .before .before .before .before .before .before .args .commitment) (c .before .before .before .before .before .before .before .args .c) (c .before .before .before .before .before .before .before .args .key .now) (c .before .before .before .before .before .before .before .args .w .now) (passed (c .before .before .before .before)) _ (within (c .before .before .before .before .before .before .before .args .settings) (c .before .before .before .before .before .before .before .args .commitment) (c .before .before .before .before .before .before .before .args .c) (c .before .before .before .before .before .before .before .args .key .now) (c .before .before .before .before .before .before .before .args .w .now) _ (sym (tested (c .before .before)) ∙ not-false _ (c .before .if2 .left)) (c .opens .ensures))
+returns-3 c =
+    let no = c .before in
+    judge-done _ _ _ _ _ (passed (no .before .before .before)) _ (within _ _ _ _ _ _ (sym (tested (no .before)) ∙ not-false _ (no .if2 .left)) (c .opens .ensures))
 
 pub judge-spec : {M : Type 1} → statement M
 judge-spec =
     tie.close
     (tie.spec
-    judge-requires
+    (λ c κs. search needs)
     returns
-    growth-requires
-    all-within-wide-requires
+    (λ c κs. search needs)
+    (λ c κs. search needs)
     returns-2
     opens-requires
     returns-3)

@@ -27,7 +27,7 @@ unfolding storedRound part
 returns-4 c = λ g.
     let e0 = c .before .before .before .before .before .before .before .before .before .before .before .before in
     let at = e0 .before .before .before .before in
-    let b = at .before .before .before in
+    let b = at .before .before .before .before in
     let p = b .args .t3 in
     let d = b .args .d in
     c .before .before .store-element3 .ensures
