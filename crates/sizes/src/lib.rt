@@ -2,7 +2,7 @@
 // Each function is safe for every input, and says what it gives for settings that are allowed.
 use protocol::Settings;
 ghost use mathlib.Core.Path.{_≡_};
-ghost use Prim.Native.Nat.{_*_, _^_, _≤_};
+ghost use Prim.Native.Nat.{_*_, _^_, _<_, _≤_};
 ghost use Rattle.protocol.specs.Basic.{Provided};
 ghost use Rattle.protocol.specs.Layout as layout;
 ghost use Rattle.protocol.specs.Layout.{leftCells, halfLeft, roundCells, itemOf, polynomialAt, treeChallenges, treeRoundCells, leafCells, exponentCount};
