@@ -1,5 +1,5 @@
 // What the extractor tests before the verifier runs: refusals 3 to 8, 10 and 12.
-use arithmetic::tests;
+use ranges::tests;
 use protocol::Settings;
 ghost use mathlib.Core.Path.{_≡_};
 ghost use Prim.Native.Nat.{_+_, _*_, _≤_};

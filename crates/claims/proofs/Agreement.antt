@@ -14,6 +14,7 @@ use Rattle.protocol.specs.Element.{Element, modulo, flips, around, rotate, prod
 use Rattle.protocol.specs.Opening.{foldResidues, foldKey}
 use Rattle.protocol.specs.Transcript.{doubled, roundHolds, nextClaim}
 use Rattle.protocol.proofs.Reading.{cell-inside, tabulate-ext, flat-front}
+pub use Rattle.claims.specs.Nodes.{Alike}
 use Rattle.claims.proofs.Paths.{halfLeft-height}
 
 pub sum-ext : (n : ℕ) {f g : ℕ → ℤ} → ((i : ℕ) → i < n → f i ≡ g i) → sum n f ≡ sum n g
@@ -52,11 +53,7 @@ module _ (S : Settings) {c0 c1 c2 g0 g1 g2 : Element} (s0 : Same (S .degree) c0 
 
 -- ---- keys
 
--- l and m have the same first n numbers
-abbrev pub Alike : ℕ → List ℕ → List ℕ → Type 0
-Alike n l m = (j : ℕ) → j < n → getD l j 0 ≡ getD m j 0
-
--- they have the same first n elements
+-- lists with the same first n·d numbers have the same first n elements
 pub alike-same : (d n : ℕ) (G H : List ℕ) → Alike (n * d) G H → (i : ℕ) → i < n → Same d (residueAt d G i) (residueAt d H i)
 unfolding residueAt
 alike-same d n G H s i l k lk = ap pos (s (i * d + k) (cell-inside d n i k l lk))

@@ -1,13 +1,13 @@
 -- How document 01 numbers the nodes of a tree: parents and children, the nodes of one depth, and the nodes below a node.
 --
---   before t     how many nodes are less deep than t, (3^t − 1)/2: the number of the first node of depth t
---   AtDepth t k  node k has depth t
 --   below h k i  the number of the i-th of the nodes that are h steps below node k
 use mathlib.Core.Path.{_≡_, refl, sym, ap, _∙_}
 use Prim.Native.Nat.{ℕ, zero, suc, _+_, _*_, _/_, _%_, _^_, _<_, _≤_}
 use native.Mathlib.Nat as Nat
 use native.Mathlib.Omega.{arith}
 use Rattle.protocol.specs.Tree.{child, parent, place, above}
+unfoldable pub use Rattle.claims.specs.Nodes.{before}
+pub use Rattle.claims.specs.Nodes.{AtDepth}
 
 -- ---- parents and children
 
@@ -30,10 +30,6 @@ child-parent k h = omega arith
 
 -- ---- the nodes of one depth
 
-unfoldable pub before : ℕ → ℕ
-before zero = 0
-before (suc t) = 3 * before t + 1
-
 -- 3^t = 2·N + 1
 pub before-power : (t : ℕ) → 3 ^ t ≡ 2 * before t + 1
 unfolding before
@@ -44,10 +40,6 @@ pub before-le : (t h : ℕ) → before t ≤ before (h + t)
 unfolding before
 before-le t zero = omega (arith, ap before (Nat.zero-add t))
 before-le t (suc h) = omega (arith, before-le t h, ap before (Nat.suc-add h t))
-
-pub record AtDepth (t k : ℕ) : Type 0 where
-  pub from : before t ≤ k
-  pub to : k < before (suc t)
 
 pub root-depth : AtDepth 0 0
 unfolding before

@@ -1,6 +1,4 @@
 -- The place of a node in a tree, and in a list that a recursion down the tree hands on: a node's own numbers are the second half of its part, and its children work in the first half.
---
---   AtNode S h k first space   node k is h steps above the leaves, `first` is the number of the first leaf, and a list of `space` numbers has room for 2^h elements and as many again
 use mathlib.Core.Path.{_≡_, sym, ap, _∙_, subst}
 use Prim.Native.Nat.{ℕ, suc, _+_, _*_, _-_, _/_, _^_, _<_, _≤_}
 use native.Mathlib.Nat as Nat
@@ -8,14 +6,10 @@ use native.Mathlib.Omega.{arith}
 use Rattle.protocol.specs.declared.Settings.{Settings}
 use Rattle.protocol.specs.Settings.{size, cells}
 use Rattle.protocol.specs.Tree.{child, nodes}
-use Rattle.claims.proofs.Numbering.{AtDepth, before, before-le, child-depth, root-depth}
+pub use Rattle.claims.specs.Nodes.{AtNode}
+use Rattle.claims.specs.Nodes.{AtDepth, before}
+use Rattle.claims.proofs.Numbering.{before-le, child-depth, root-depth}
 use Rattle.claims.proofs.Paths.{nodes-before, depth-branching}
-
-pub record AtNode (S : Settings) (h k first space : ℕ) : Type 0 where
-  pub height : h ≤ S .depth
-  pub at-depth : AtDepth (S .depth - h) k
-  pub first-is : first ≡ nodes S
-  pub space-is : space ≡ 2 * (2 ^ h * S .degree)
 
 module _ (S : Settings) where
   open Settings S using (degree as d, depth as L)

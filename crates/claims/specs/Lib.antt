@@ -1,2 +1,3 @@
 pub mod TreeCheck
 pub mod GrowthTest
+pub mod Nodes

@@ -17,10 +17,10 @@ use Rattle.protocol.specs.Transcript.{finalBounded, ending, endHolds}
 use Rattle.protocol.proofs.Modulo.{modulo-times, times-mod}
 use Rattle.protocol.proofs.Tests.{every-at}
 use Rattle.protocol.specs.Opening.{left, keyAfter}
-use Rattle.arithmetic.specs.Elements.{elementAt}
-use Rattle.arithmetic.specs.Products.{extension, start, addRows, total, term}
-use Rattle.arithmetic.proofs.Padding.{element-residue}
-use Rattle.arithmetic.proofs.Rows.{total-most, rows-at, extension-below, terms-residue}
+use Rattle.residues.specs.Elements.{elementAt}
+use Rattle.products.specs.Products.{extension, start, addRows, total, term}
+use Rattle.residues.proofs.Padding.{element-residue}
+use Rattle.products.proofs.Rows.{total-most, rows-at, extension-below, terms-residue}
 use Rattle.equations.specs.Ends.{quotientIs, equationMet, endMet}
 use Rattle.claims.proofs.Agreement.{every-ext, product-same}
 use Rattle.claims.proofs.Tables.{left-power}

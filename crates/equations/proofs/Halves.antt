@@ -7,7 +7,7 @@ use Rattle.protocol.specs.declared.Settings.{Settings}
 use Rattle.protocol.specs.Settings.{cells}
 use Rattle.protocol.specs.Opening.{left, halfLeft}
 use Rattle.claims.proofs.Tables.{left-power, halfLeft-power, left-inside, twice-power}
-use Rattle.arithmetic.specs.Folds.{Foldable}
+use Rattle.residues.specs.Folds.{Foldable}
 use Rattle.equations.proofs.Ready.{Ready}
 
 module _ (S : Settings) (ready : Ready S) (t : ℕ) (l : t < S .depth) where

@@ -5,7 +5,7 @@ ghost use Prim.Native.Nat.{_≤_};
 ghost use lib.ListN.{length};
 ghost use Rattle.protocol.specs.Settings.{settingsRefusal, cells};
 ghost use Rattle.protocol.specs.Opening.{keyAfter};
-ghost use Rattle.arithmetic.specs.Elements.{elementAt};
+ghost use Rattle.residues.specs.Elements.{elementAt};
 
 // Room for the largest key.
 fn room() -> [u32; 16384] {
@@ -27,7 +27,7 @@ pub fn fold_rounds(settings: Settings, challenges: &[u32], key: &mut [u32])
     while t < rounds {
         let h = sizes::half_left(settings, t);
         let e = challenges[t as usize];
-        arithmetic::tables::fold_residues(settings.modulus, settings.degree, h, e, key);
+        residues::tables::fold_residues(settings.modulus, settings.degree, h, e, key);
         t += 1;
     }
 }
@@ -41,7 +41,7 @@ pub fn folded_key(settings: Settings, key: &[u32], challenges: &[u32]) -> [u32; 
         return [0u32; 64];
     }
     let mut folded = room();
-    arithmetic::tables::copy(key, &mut folded);
+    residues::tables::copy(key, &mut folded);
     fold_rounds(settings, challenges, &mut folded[..n]);
-    arithmetic::elements::element_at(settings.degree, &folded, 0)
+    residues::elements::element_at(settings.degree, &folded, 0)
 }

@@ -96,7 +96,7 @@ pub fn next_claim(
     let q = settings.modulus;
     let d = settings.degree;
     let mut claim = [0u32; 64];
-    arithmetic::elements::value(q, d, e, &c0, &c1, &c2, &mut claim);
+    residues::elements::value(q, d, e, &c0, &c1, &c2, &mut claim);
     claim
 }
 
@@ -127,7 +127,7 @@ fn final_bounded(settings: Settings, f: &[i32]) -> bool
     let limit = sizes::left_bound(settings, settings.depth);
     let mut k: usize = 0;
     while k < d {
-        if arithmetic::tests::magnitude(f[k]) > limit {
+        if ranges::tests::magnitude(f[k]) > limit {
             return false;
         }
         k += 1;
@@ -177,9 +177,9 @@ fn equation_met(settings: Settings, claim: &[u32], f: &[i32], g: &[u32]) -> bool
         return false;
     }
     let mut x = [0u64; 192];
-    arithmetic::products::extend(q, settings.degree, g, &mut x);
+    products::extend(q, settings.degree, g, &mut x);
     let mut sums = [0u64; 64];
-    arithmetic::products::accumulate(settings.degree, f, &x, &mut sums);
+    products::accumulate(settings.degree, f, &x, &mut sums);
     quotients_are(q, d, sizes::left(settings, 0), &sums, claim)
 }
 

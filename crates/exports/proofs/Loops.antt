@@ -4,7 +4,7 @@ use mathlib.Core.List.{List}
 use Prim.Native.Nat.{ℕ, _+_, _<_, _≤_}
 use lib.ListN.{length, getD, set}
 use Rattle.protocol.specs.Element.{width}
-use Rattle.arithmetic.proofs.Fill.{filled, filled-more, filled-length}
+use Rattle.residues.proofs.Fill.{filled, filled-more, filled-length}
 use Rattle.slices.specs.Slices.{placed}
 use Rattle.exports.specs.Storing.{stored}
 

@@ -8,7 +8,7 @@ use Prim.Native.Nat.{ℕ}
 use lib.ListN.{getD, drop}
 use Rattle.protocol.specs.Element.{width}
 use Rattle.protocol.specs.Session.{part}
-use Rattle.arithmetic.specs.Folds.{spliced}
+use Rattle.residues.specs.Lists.{spliced}
 use Rattle.slices.specs.Slices.{placed}
 
 unfoldable pub stored {ℓ} : {A : Type ℓ} → A → List A → List A → List A

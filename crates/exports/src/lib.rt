@@ -4,7 +4,7 @@
 // answers the number of the refusal, 0 where nothing is refused.
 mod storing;
 
-use arithmetic::tests;
+use ranges::tests;
 use protocol::Settings;
 ghost use mathlib.Core.Path.{_≡_};
 ghost use Rattle.protocol.specs.Settings.{settingsRefusal};

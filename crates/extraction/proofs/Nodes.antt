@@ -29,10 +29,11 @@ use Rattle.claims.proofs.Vectors.{vector-length}
 use Rattle.claims.proofs.Weights.{signed-coefficients}
 use Rattle.claims.proofs.Growth.{heightBound, heightBound-suc, heightBound-le, vector-bounded}
 use Rattle.extraction.specs.Vectors.{withShare, Branching, branchAdded}
-use Rattle.extraction.specs.Nodes.{Extractable, AtNode}
-use Rattle.arithmetic.proofs.SignedFill.{signed-zeros-at, signed-zeros-length}
+use Rattle.claims.specs.Nodes.{AtNode}
+use Rattle.extraction.specs.Nodes.{Extractable}
+use Rattle.residues.proofs.SignedFill.{signed-zeros-at, signed-zeros-length}
 use Rattle.extraction.proofs.Shares.{by-cells, withShare-length, withShare-first, withShare-second}
-use Rattle.arithmetic.proofs.Folds.{row-inside}
+use Rattle.residues.proofs.Folds.{row-inside}
 use Rattle.extraction.proofs.Parts.{part-length}
 use Rattle.extraction.proofs.Splicing.{drop-put-end, put-end}
 

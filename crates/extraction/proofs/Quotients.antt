@@ -17,7 +17,7 @@ use Rattle.protocol.specs.Basic.{least}
 use Rattle.protocol.specs.Element.{Element, around, rotate, plus, signed}
 use Rattle.protocol.proofs.Tests.{least-first}
 use Rattle.claims.proofs.Bounds.{Bounded, rotate-bounded, plus-bounded}
-use Rattle.arithmetic.proofs.Fill.{filled, filled-at, filled-behind, filled-length, filled-ext, filled-again}
+use Rattle.residues.proofs.Fill.{filled, filled-at, filled-behind, filled-length, filled-ext, filled-again}
 use Rattle.relaxed.proofs.Products.{rotate-ext}
 use Rattle.extraction.specs.Bounds.{Summable, Doubling}
 use Rattle.extraction.specs.Steps.{rotatedAdded, summed, doublings, divided}

@@ -10,8 +10,8 @@ use lib.Seq.{length-take-le, take-at, drop-at, drop-drop, getD-take, getD-drop, 
 use borrow.Rule.Slice.PartMut.{putMid}
 use Rattle.protocol.specs.Basic.{tabulate, flat}
 use Rattle.protocol.proofs.Reading.{tabulate-ext, flat-length, flat-at, cell-inside, cell-element, cell-place}
-use Rattle.arithmetic.proofs.Folds.{tail-all}
-use Rattle.arithmetic.proofs.Fill.{filled}
+use Rattle.residues.proofs.Folds.{tail-all}
+use Rattle.residues.proofs.Fill.{filled}
 use Rattle.extraction.specs.Vectors.{spliced}
 
 module _ {A : Type 0} where

@@ -7,8 +7,8 @@ use lib.ListN.{length, getD}
 use lib.IntN.{ℤ, pos, natAbs, _+ℤ_}
 use Rattle.algebra.specs.Magnitude.{natAbs-add}
 use Rattle.protocol.specs.Element.{around, rotate, plus, signed}
-use Rattle.arithmetic.proofs.Around.{rotate-at}
-use Rattle.arithmetic.proofs.Fill.{filled-ext}
+use Rattle.residues.proofs.Around.{rotate-at}
+use Rattle.residues.proofs.Fill.{filled-ext}
 use Rattle.claims.proofs.Bounds.{rotate-bounded}
 use Rattle.extraction.specs.Bounds.{Spreadable, Addable, Summable}
 use Rattle.extraction.specs.Steps.{Spread, spreadAdded, rotatedAdded}

@@ -9,7 +9,7 @@ use lib.Pow as Pow
 use lib.IntN.{ℤ, pos, natAbs, _+ℤ_}
 use Rattle.protocol.specs.Element.{Element, rotate, plus, signed}
 use Rattle.claims.proofs.Bounds.{Bounded}
-use Rattle.arithmetic.proofs.Fill.{filled, filled-at, filled-length, filled-ext, filled-again}
+use Rattle.residues.proofs.Fill.{filled, filled-at, filled-length, filled-ext, filled-again}
 use Rattle.relaxed.proofs.Products.{rotate-ext}
 use Rattle.extraction.specs.Bounds.{Summable, Doubling, Factors, Weighable}
 use Rattle.extraction.specs.Steps.{rotatedAdded, summed, doublings, divided, weighted}

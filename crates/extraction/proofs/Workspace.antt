@@ -15,8 +15,9 @@ use Rattle.protocol.specs.Tree.{nodes}
 use Rattle.protocol.proofs.Reading.{tabulate-own}
 use Rattle.claims.proofs.GrowthTest.{growth-cells}
 use Rattle.claims.proofs.Numbering.{AtDepth, root-depth}
-use Rattle.arithmetic.proofs.Fill.{filled, filled-ext}
-use Rattle.extraction.specs.Nodes.{Extractable, AtNode}
+use Rattle.residues.proofs.Fill.{filled, filled-ext}
+use Rattle.claims.specs.Nodes.{AtNode}
+use Rattle.extraction.specs.Nodes.{Extractable}
 use Rattle.extraction.proofs.Parts.{part-entry}
 use Rattle.extraction.proofs.Splicing.{append-nil}
 

@@ -1,4 +1,4 @@
--- A tree whose vectors can be worked out in 64 bits, and the place of a node in it (AtNode, of claims).
+-- A tree whose vectors can be worked out in 64 bits.
 --
 --   Extractable S E finals     challenges E and leaves `finals` of a full tree: exponents, three different ones at each node, within n·B, and no growth over the limit
 use mathlib.Core.Logic.{_≢_}
@@ -9,7 +9,6 @@ use Rattle.protocol.specs.declared.Settings.{Settings}
 use Rattle.protocol.specs.Settings.{size}
 use Rattle.protocol.specs.Tree.{nodes, leaves, challenge, growth, growthLimit}
 use Rattle.protocol.specs.Inputs.{Valid, Below, Within}
-pub use Rattle.claims.proofs.Places.{AtNode}
 
 pub record Extractable (S : Settings) (E : List ℕ) (finals : List ℤ) : Type 0 where
   pub valid : Valid S

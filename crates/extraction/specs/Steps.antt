@@ -15,7 +15,7 @@ use lib.ListN.{getD}
 use lib.IntN.{ℤ, pos, _+ℤ_}
 use Rattle.protocol.specs.Basic.{least}
 use Rattle.protocol.specs.Element.{Element, around, rotate, plus, signed}
-use Rattle.arithmetic.proofs.Fill.{filled}
+use Rattle.residues.specs.Lists.{filled}
 
 pub record Spread (d : ℕ) (a x : List ℤ) : Type 0 where
   pub each : (j : ℕ) → j < 3 * d → getD x j (pos 0) ≡ around d (signed a) j

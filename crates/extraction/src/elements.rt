@@ -5,7 +5,7 @@ ghost use Prim.Native.Nat.{_+_, _*_, _-_, _%_, _^_, _<_, _≤_};
 ghost use lib.ListN.{length};
 ghost use lib.IntN.{natAbs, negℤ, _+ℤ_};
 ghost use Rattle.protocol.specs.Element.{signed};
-ghost use Rattle.arithmetic.proofs.Fill.{filled};
+ghost use Rattle.residues.specs.Lists.{filled};
 ghost use Rattle.extraction.specs.Bounds.{Spreadable, Addable, Summable, Doubling, Weighable};
 ghost use Rattle.extraction.specs.Steps.{Spread, spreadAdded, rotatedAdded, divided, weighted};
 

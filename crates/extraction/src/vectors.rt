@@ -9,9 +9,10 @@ ghost use Prim.Native.Nat.{_+_, _*_, _-_, _^_, _<_, _≤_};
 ghost use lib.ListN.{length, getD, take, drop};
 ghost use Rattle.protocol.specs.Element.{signed, signedAt, coefficients, signedZeros};
 ghost use Rattle.protocol.specs.Tree.{mu, vector};
-ghost use Rattle.arithmetic.proofs.Fill.{filled};
+ghost use Rattle.residues.specs.Lists.{filled};
 ghost use Rattle.extraction.specs.Vectors.{scaled, Scalable, turned, Turnable, withShare, Sharing, Branching, branchAdded};
-ghost use Rattle.extraction.specs.Nodes.{Extractable, AtNode};
+ghost use Rattle.claims.specs.Nodes.{AtNode};
+ghost use Rattle.extraction.specs.Nodes.{Extractable};
 
 // Multiplies each of the first n elements of v by X^(2a)·μ, from the exponents that μ's quotients and sum go by; x is room for one spread element.
 fn scale(d: usize, n: usize, k: usize, m: usize, e: usize, v: &mut [i64], x: &mut [i64])

@@ -19,7 +19,7 @@ use Rattle.protocol.proofs.Tests.{granted-zero, granted-refused}
 use Rattle.claims.proofs.Honest.{Given, modulus-positive, opening-commitment, opening-last, opening-key, opening-message, opening-rounds}
 use Rattle.claims.proofs.Prover.{commit-answer}
 use Rattle.sizes.proofs.Limits.{degree-most}
-use Rattle.arithmetic.specs.Elements.{elementAt}
+use Rattle.residues.specs.Elements.{elementAt}
 use Rattle.equations.specs.Ends.{endMet}
 use Rattle.opening.specs.declared.turns.State.{State}
 use Rattle.opening.specs.Turns.{TablesAt, CheckedAt, Finished, ProverTurn}

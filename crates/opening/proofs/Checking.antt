@@ -19,7 +19,7 @@ use Rattle.protocol.specs.Calls.{polynomial}
 use Rattle.claims.proofs.Tables.{round-at}
 use Rattle.claims.proofs.Ranges.{padded-at, padded-signed-at, reduced-below, commitment-below, round-below, last-length}
 use Rattle.claims.proofs.Agreement.{Same, every-ext, product-same, claim-same, round-same}
-use Rattle.arithmetic.specs.Elements.{elementAt}
+use Rattle.residues.specs.Elements.{elementAt}
 use Rattle.equations.specs.Ends.{endMet}
 use Rattle.equations.proofs.Ending.{end-by-key}
 use Rattle.opening.specs.declared.turns.State.{State}

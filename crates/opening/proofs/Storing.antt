@@ -16,7 +16,7 @@ use Rattle.protocol.specs.Calls.{polynomial}
 use Rattle.protocol.proofs.Reading.{tabulate-at, tabulate-length}
 use Rattle.claims.proofs.Tables.{round-at}
 use Rattle.claims.proofs.Ranges.{padded-at, round-below, rounds-below}
-use Rattle.arithmetic.specs.Folds.{spliced}
+use Rattle.residues.specs.Lists.{spliced}
 use Rattle.opening.specs.Turns.{storedRound}
 
 -- the first n numbers of X, then what R has from there on

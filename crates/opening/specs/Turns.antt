@@ -22,7 +22,7 @@ use Rattle.protocol.specs.Opening.{keyAfter, messageAfter, roundTable}
 use Rattle.protocol.specs.Transcript.{roundHolds, nextClaim, claimAfter, holdsAt, transcriptOf}
 use Rattle.protocol.specs.Session.{part}
 use Rattle.protocol.specs.Calls.{openingRefusal, polynomial}
-use Rattle.arithmetic.specs.Folds.{spliced}
+use Rattle.residues.specs.Lists.{spliced}
 use Rattle.opening.specs.declared.turns.State.{State}
 
 unfoldable pub storedRound : ℕ → ℕ → List (List ℕ) → List ℕ → List ℕ

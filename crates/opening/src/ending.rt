@@ -1,6 +1,6 @@
 // The verifier's end.
 use crate::turns::State;
-use arithmetic::elements;
+use residues::elements;
 use protocol::Settings;
 use protocol::Verdict;
 ghost use mathlib.Core.Path.{_≡_};
@@ -8,7 +8,7 @@ ghost use mathlib.Core.Bool.{_&&_};
 ghost use Rattle.protocol.specs.Element.{signed, residue};
 ghost use Rattle.protocol.specs.Settings.{settingsRefusal};
 ghost use Rattle.protocol.specs.Session as session;
-ghost use Rattle.arithmetic.specs.Elements.{elementAt};
+ghost use Rattle.residues.specs.Elements.{elementAt};
 ghost use Rattle.equations.specs.Ends.{endMet};
 
 // What the verifier says once all turns are done, the key being folded by all challenges.

@@ -5,7 +5,7 @@ mod storage;
 mod turns;
 
 use crate::turns::State;
-use arithmetic::elements;
+use residues::elements;
 use protocol::Opened;
 use protocol::Settings;
 use protocol::Verdict;

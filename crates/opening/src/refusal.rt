@@ -1,5 +1,5 @@
 // The refusals of the whole opening.
-use arithmetic::tests;
+use ranges::tests;
 use protocol::Settings;
 ghost use mathlib.Core.Path.{_≡_};
 ghost use mathlib.Core.Bool.{_&&_};

@@ -2,7 +2,7 @@
 ghost use mathlib.Core.Path.{_≡_};
 ghost use Prim.Native.Nat.{_+_, _*_, _<_, _≤_};
 ghost use lib.ListN.{length, getD};
-ghost use Rattle.arithmetic.specs.Folds.{spliced};
+ghost use Rattle.residues.specs.Lists.{spliced};
 ghost use Rattle.opening.specs.Turns.{storedRound};
 
 // Writes the first d places of an element from place `at` on.

@@ -1,6 +1,6 @@
 // The turns of a whole opening: the prover moves, then the verifier, while rounds are left.
 use crate::storage;
-use arithmetic::elements;
+use residues::elements;
 use protocol::Settings;
 ghost use mathlib.Core.Path.{_≡_};
 ghost use Prim.Native.Nat.{_+_, _<_};

@@ -12,6 +12,7 @@
 --   first l        the first of the numbers l that is not 0; 0 where there is none
 --   unless N b     the refusal N where the test b fails, 0 where it passes
 --   granted N x y  x where the refusal N is 0, else y
+--   Provided c p   the promise p of a function below the calls, owed where the condition c holds
 use mathlib.Core.Bool.{Bool, true, false, _&&_, _||_}
 use mathlib.Core.List.{List, [], _∷_}
 use Prim.Native.Nat.{ℕ, zero, suc, _*_, _/_, _%_}
@@ -64,3 +65,6 @@ unless number false = number
 unfoldable pub granted {ℓ} : {A : Type ℓ} → ℕ → A → A → A
 granted zero x y = x
 granted (suc n) x y = y
+
+abbrev pub Provided : Type 0 → Type 0 → Type 0
+Provided condition promise = condition → promise

@@ -19,9 +19,9 @@ use Rattle.protocol.proofs.Modulo.{modulo-lt, modulo-add, modulo-times}
 use Rattle.protocol.proofs.Reading.{cell-inside, tabulate-ext}
 use Rattle.claims.proofs.Agreement.{Same}
 use Rattle.claims.proofs.Readings.{readℤ-inj, readq-ext, readq-inj, read-ext, read-plus, read-inner}
-use Rattle.arithmetic.proofs.Fill.{filled, filled-at, filled-length, zeros-length}
-use Rattle.arithmetic.proofs.SignedFill.{signed-zeros-length}
-use Rattle.arithmetic.proofs.Padding.{padded-at}
+use Rattle.residues.proofs.Fill.{filled, filled-at, filled-length, zeros-length}
+use Rattle.residues.proofs.SignedFill.{signed-zeros-length}
+use Rattle.residues.proofs.Padding.{padded-at}
 use Rattle.prover.specs.Messages.{Tables, Halved}
 use Rattle.prover.specs.Sums.{scaled, mixed}
 

@@ -19,10 +19,10 @@ use Rattle.protocol.proofs.Modulo.{modulo-times, mod-times}
 use Rattle.protocol.proofs.Reading.{tabulate-ext}
 use Rattle.claims.proofs.Agreement.{Same, sum-ext, product-same}
 use Rattle.sizes.proofs.Limits.{degree-least, degree-most}
-use Rattle.arithmetic.specs.Products.{reducedSums}
-use Rattle.arithmetic.proofs.Sums.{SumIs, sum-none, sums-reduced}
-use Rattle.arithmetic.proofs.Folds.{tail-all}
-use Rattle.arithmetic.proofs.Padding.{padded-at}
+use Rattle.products.specs.Products.{reducedSums}
+use Rattle.products.proofs.Sums.{SumIs, sum-none, sums-reduced}
+use Rattle.residues.proofs.Folds.{tail-all}
+use Rattle.residues.proofs.Padding.{padded-at}
 use Rattle.refusals.proofs.Given.{CommitGiven}
 use Rattle.prover.specs.Messages.{Tables}
 use Rattle.prover.specs.Sums.{innerSums, scaled}

@@ -10,9 +10,9 @@ use lib.ListN.{drop}
 use lib.Seq.{getD-drop}
 use Rattle.protocol.specs.Element.{modulo, residueAt, signedAt}
 use Rattle.protocol.specs.Opening.{inner}
-use Rattle.arithmetic.specs.Products.{extension, addRows}
-use Rattle.arithmetic.proofs.Sums as Arithmetic
-use Rattle.arithmetic.proofs.Sums.{SumIs, elements-none, elements-more, sum-elements, signed-places, residue-places}
+use Rattle.products.specs.Products.{extension, addRows}
+use Rattle.products.proofs.Sums as Arithmetic
+use Rattle.products.proofs.Sums.{SumIs, elements-none, elements-more, sum-elements, signed-places, residue-places}
 use Rattle.prover.specs.Messages.{Small}
 use Rattle.prover.specs.Sums.{innerSums}
 

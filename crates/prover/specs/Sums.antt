@@ -9,7 +9,7 @@ use lib.IntN.{ℤ, pos}
 use lib.ListN.{drop}
 use Rattle.protocol.specs.Element.{Element, plus, times, reduced, padded}
 use Rattle.protocol.specs.Opening.{inner, second}
-use Rattle.arithmetic.specs.Products.{elementSums}
+use Rattle.products.specs.Products.{elementSums}
 
 unfoldable pub innerSums : ℕ → ℕ → List ℤ → List ℕ → ℕ → List ℕ → List ℕ
 innerSums q d m G n s = elementSums q d (λ i. drop (i * d) m) (λ i. drop (i * d) G) n s

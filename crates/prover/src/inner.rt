@@ -1,6 +1,5 @@
 // Inner products of messages and keys. Products are summed as they are and reduced once.
 use crate::totals;
-use arithmetic::products;
 ghost use mathlib.Core.Path.{_≡_};
 ghost use Prim.Native.Nat.{_+_, _*_, _-_, _%_, _<_, _≤_};
 ghost use lib.ListN.{length, getD};

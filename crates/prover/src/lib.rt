@@ -3,8 +3,7 @@ mod inner;
 mod messages;
 mod totals;
 
-use arithmetic::products;
-use arithmetic::tables;
+use residues::tables;
 use protocol::Committed;
 use protocol::Ended;
 use protocol::Polynomial;

@@ -10,7 +10,7 @@ use lib.Seq.{getD-take, getD-drop}
 use lib.IntN.{ℤ, pos}
 use Rattle.protocol.specs.Basic.{tabulate}
 use Rattle.protocol.proofs.Reading.{tabulate-ext, tabulate-own}
-use Rattle.arithmetic.proofs.Fill.{filled}
+use Rattle.residues.proofs.Fill.{filled}
 use Rattle.reading.specs.Cut.{cut}
 
 module _ {ℓ} {A : Type ℓ} where

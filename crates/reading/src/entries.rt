@@ -1,5 +1,5 @@
 // Refusals 8, 9 and 10 of the values of a text.
-use arithmetic::tests::all_within;
+use ranges::tests::all_within;
 use protocol::Settings;
 use shapes::Lengths;
 ghost use mathlib.Core.Path.{_≡_};

@@ -1,7 +1,7 @@
 // The refusals of the calls: each function answers with the number of the first that applies, and 0 where none does.
 pub mod session;
 
-use arithmetic::tests;
+use ranges::tests;
 use protocol::Settings;
 ghost use mathlib.Core.Path.{_≡_};
 ghost use mathlib.Core.Bool.{_&&_};

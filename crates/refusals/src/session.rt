@@ -1,5 +1,5 @@
 // The refusals of the verifier's session.
-use arithmetic::tests;
+use ranges::tests;
 use protocol::Session;
 use protocol::Settings;
 ghost use mathlib.Core.Path.{_≡_};

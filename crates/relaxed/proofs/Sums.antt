@@ -14,12 +14,12 @@ use Rattle.protocol.specs.Settings.{settingsRefusal, size, cells}
 use Rattle.protocol.specs.Opening.{inner, left}
 use Rattle.protocol.proofs.Inputs.{settings-valid}
 use Rattle.protocol.proofs.Reading.{tabulate-ext}
-use Rattle.arithmetic.specs.Folds.{spliced}
-use Rattle.arithmetic.specs.Residues.{turned}
-use Rattle.arithmetic.specs.Products.{extension, narrowed, addRows}
-use Rattle.arithmetic.proofs.Extension.{extension-rows}
-use Rattle.arithmetic.proofs.Folds.{tail-all, row-inside}
-use Rattle.arithmetic.proofs.Sums.{sum-none, elements-none, elements-more, sum-elements, signed-places, residue-places}
+use Rattle.residues.specs.Lists.{spliced}
+use Rattle.residues.specs.Residues.{turned}
+use Rattle.products.specs.Products.{extension, narrowed, addRows}
+use Rattle.products.proofs.Extension.{extension-rows}
+use Rattle.residues.proofs.Folds.{tail-all, row-inside}
+use Rattle.products.proofs.Sums.{sum-none, elements-none, elements-more, sum-elements, signed-places, residue-places}
 use Rattle.sizes.proofs.Limits.{degree-least, degree-most}
 use Rattle.relaxed.specs.Digits.{digitsOf, digitsIn, digitSums, joinedSums, Numbers, Elements}
 use Rattle.relaxed.proofs.Split.{residues-digits, digits-small, inner-split}

@@ -13,7 +13,7 @@ use lib.IntN.{ℤ, pos}
 use lib.ListN.{length, getD, drop}
 use Rattle.protocol.specs.Basic.{tabulate}
 use Rattle.protocol.specs.Element.{Element, modulo, signed, coefficients, padded, paddedSigned}
-use Rattle.arithmetic.specs.Products.{elementSums}
+use Rattle.products.specs.Products.{elementSums}
 
 unfoldable pub digit : ℕ → ℕ → ℤ → ℕ
 digit q base z = modulo q z / base % 65536

@@ -1,7 +1,6 @@
 // The sum of w_i·G_i modulo q. Each number of w is reduced, and its residue is split into two digits, which are small enough that the products of
 // all elements are summed as they are. The sums of each digit are reduced once, at the end.
-use arithmetic::products;
-use arithmetic::tests;
+use ranges::tests;
 use protocol::Settings;
 ghost use mathlib.Core.Path.{_≡_};
 ghost use Prim.Native.Nat.{_+_, _*_, _-_, _/_, _%_, _<_, _≤_};
@@ -12,7 +11,7 @@ ghost use Rattle.protocol.specs.Element.{modulo, signed, reduced, padded};
 ghost use Rattle.protocol.specs.Settings.{settingsRefusal, cells};
 ghost use Rattle.protocol.specs.Basic.{tabulate};
 ghost use Rattle.protocol.specs.Judge as of;
-ghost use Rattle.arithmetic.specs.Products.{narrowed, addRows, Rows};
+ghost use Rattle.products.specs.Products.{narrowed, addRows, Rows};
 ghost use Rattle.relaxed.specs.Digits.{digitsIn, digitSums, joinedSums, Numbers, Elements};
 
 // The negative of a residue.

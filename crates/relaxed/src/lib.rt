@@ -1,7 +1,7 @@
 // Relaxed openings: how large their numbers may become, and the judge.
 mod combination;
 
-use arithmetic::tests;
+use ranges::tests;
 use protocol::Judged;
 use protocol::Settings;
 ghost use mathlib.Core.Path.{_≡_};

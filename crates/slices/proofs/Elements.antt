@@ -12,7 +12,7 @@ use lib.ListN.{length, getD}
 use Rattle.protocol.specs.Basic.{choose}
 use Rattle.protocol.specs.Element.{width, zeros, signedZeros, padded, paddedSigned, coefficients, signedAt}
 use Rattle.protocol.proofs.Reading.{tabulate-ext}
-use Rattle.arithmetic.specs.Elements.{elementAt}
+use Rattle.residues.specs.Elements.{elementAt}
 use Rattle.slices.specs.Slices.{placed}
 
 -- element 0 of a table with a stride of 64

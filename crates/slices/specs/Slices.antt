@@ -13,7 +13,7 @@ use Rattle.protocol.specs.declared.Verdict.{Verdict}
 use Rattle.protocol.specs.declared.Verdict.the-variants.{Silent, Holds, Accepted, Rejected}
 use Rattle.protocol.specs.Basic.{tabulate}
 use Rattle.protocol.specs.Element.{width}
-use Rattle.arithmetic.specs.Elements.{elementAt}
+use Rattle.residues.specs.Elements.{elementAt}
 
 abbrev pub given : ℕ → ℕ → ℕ → ℕ → Settings
 given d L q B = record { degree = d; depth = L; modulus = q; bound = B }

@@ -1,5 +1,5 @@
 // Elements by value that stand for slices, and verdicts as numbers: what the calls for C and Rust share.
-use arithmetic::elements;
+use residues::elements;
 use protocol::Verdict;
 ghost use mathlib.Core.Path.{_≡_};
 ghost use lib.IntN.{pos};

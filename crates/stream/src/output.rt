@@ -1,5 +1,5 @@
 // Answers on standard output: a line of numbers with single spaces. `first` begins a line, `end` ends it.
-use arithmetic::tests;
+use ranges::tests;
 use protocol::Session;
 use protocol::Settings;
 use protocol::Verdict;

@@ -2,7 +2,7 @@
 use crate::lines::all_lines;
 use crate::names::begins_with_names;
 use crate::parts::read_part;
-use arithmetic::tests::settings_refusal;
+use ranges::tests::settings_refusal;
 use protocol::Loaded;
 use protocol::Settings;
 use shapes::settings_shape;

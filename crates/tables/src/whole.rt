@@ -4,7 +4,7 @@ use crate::header::look;
 use crate::header::read_header;
 use crate::header::refused;
 use crate::parts::read_parts;
-use arithmetic::tests::settings_refusal;
+use ranges::tests::settings_refusal;
 use protocol::Loaded;
 use protocol::Parts;
 use shapes::Lengths;

@@ -17,10 +17,10 @@ use Rattle.protocol.specs.Transcript.{roundHolds, nextClaim, finalBounded}
 use Rattle.protocol.specs.Tree.{challenge, nodes, leaves, leaf}
 use Rattle.protocol.proofs.Inputs.{settings-valid}
 use Rattle.protocol.proofs.Reading.{tabulate-at}
-use Rattle.arithmetic.specs.Elements.{valueAt}
-use Rattle.arithmetic.specs.Folds.{spliced}
-use Rattle.arithmetic.proofs.Folds.{tail-all}
-use Rattle.arithmetic.proofs.Splice.{spliced-inside}
+use Rattle.residues.specs.Elements.{valueAt}
+use Rattle.residues.specs.Lists.{spliced}
+use Rattle.residues.proofs.Folds.{tail-all}
+use Rattle.residues.proofs.Splice.{spliced-inside}
 use Rattle.equations.specs.Ends.{equationMet, endMet}
 use Rattle.claims.specs.TreeCheck.{nodeElement, foldedEnding, claimTo, nodeHolds, foldedEndHolds}
 use Rattle.claims.proofs.Agreement.{Same, Alike, every-ext, product-same, claim-same, round-same}

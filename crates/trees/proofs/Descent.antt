@@ -10,8 +10,8 @@ use lib.Seq.{length-take-le, drop-at}
 use Rattle.protocol.specs.declared.Settings.{Settings}
 use Rattle.protocol.specs.Opening.{foldResidues, foldKey}
 use Rattle.protocol.specs.Tree.{child, challenge}
-use Rattle.arithmetic.specs.Folds.{foldDown}
-use Rattle.arithmetic.proofs.Folds.{tail-all}
+use Rattle.residues.specs.Folds.{foldDown}
+use Rattle.residues.proofs.Folds.{tail-all}
 use Rattle.claims.specs.TreeCheck.{claimTo, nodeHolds, leafAccepted, treeAccepted}
 use Rattle.claims.proofs.Agreement.{Alike}
 use Rattle.claims.proofs.Paths.{halfLeft-height}

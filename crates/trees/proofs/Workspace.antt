@@ -12,7 +12,7 @@ use Rattle.protocol.specs.Opening.{halfLeft, foldResidues}
 use Rattle.protocol.proofs.Inputs.{settings-valid}
 use Rattle.protocol.proofs.Reading.{flat-length}
 use Rattle.sizes.proofs.Limits.{degree-least, degree-most}
-use Rattle.arithmetic.specs.Folds.{folded, Foldable, foldDown}
+use Rattle.residues.specs.Folds.{folded, Foldable, foldDown}
 use Rattle.claims.proofs.Agreement.{Alike}
 use Rattle.claims.proofs.Paths.{halfLeft-height}
 use Rattle.claims.proofs.Places.{twice-cells}

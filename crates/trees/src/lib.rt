@@ -22,7 +22,7 @@ pub fn every_path_accepted(
         → length (now (leaves .entry)) ≡ tree.leaves settings * settings .degree
         → r ≡ everyPath settings commitment (now (key .entry)) (now (rounds .entry)) (now (challenges .entry)) (now (leaves .entry))) ⌝ }
 {
-    if arithmetic::tests::settings_refusal(settings) != 0 {
+    if ranges::tests::settings_refusal(settings) != 0 {
         return false;
     }
     if key.len() != sizes::cells(settings) {

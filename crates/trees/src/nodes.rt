@@ -1,7 +1,7 @@
 // The check of a tree node by node. Each node hands its next claim and its folded key to its children, so that no fold is done twice.
 // All of them share one workspace: a node's key stands in the second half of its part, and its children work in the first half.
-use arithmetic::elements;
-use arithmetic::tables;
+use residues::elements;
+use residues::tables;
 use protocol::Settings;
 ghost use mathlib.Core.Path.{_≡_};
 ghost use Prim.Native.Nat.{_+_, _*_, _-_, _^_, _<_, _≤_};
@@ -9,10 +9,9 @@ ghost use lib.ListN.{length, drop};
 ghost use Rattle.protocol.specs.Settings.{settingsRefusal, cells};
 ghost use Rattle.protocol.specs.Tree as tree;
 ghost use Rattle.protocol.specs.Calls.{everyPath};
-ghost use Rattle.arithmetic.specs.Folds.{foldDown};
+ghost use Rattle.residues.specs.Folds.{foldDown};
 ghost use Rattle.claims.specs.TreeCheck.{claimTo, nodeHolds, treeAccepted};
-ghost use Rattle.claims.proofs.Agreement.{Alike};
-ghost use Rattle.claims.proofs.Places.{AtNode};
+ghost use Rattle.claims.specs.Nodes.{AtNode, Alike};
 ghost use Rattle.trees.specs.Nodes.{Folding, Tables, Round, leafMet, childAccepted};
 
 // Challenge j of node k.

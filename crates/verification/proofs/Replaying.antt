@@ -13,8 +13,8 @@ use Rattle.protocol.specs.Element.{Element, residue, residueAt, padded, reduced
 use Rattle.protocol.specs.Transcript.{Transcript, roundHolds, nextClaim, finalBounded, ending, endHolds, element, claimAfter, holdsAt, closes, accepted}
 use Rattle.protocol.proofs.Reading.{tabulate-length}
 use Rattle.claims.proofs.Agreement.{Same, claim-same, round-same, every-ext}
-use Rattle.arithmetic.specs.Elements.{elementAt}
-use Rattle.arithmetic.proofs.Padding.{element-residue}
+use Rattle.residues.specs.Elements.{elementAt}
+use Rattle.residues.proofs.Padding.{element-residue}
 use Rattle.verification.specs.Replays.{bare, claimAt}
 
 padded-front : (d : ℕ) (l : List ℕ) (k : ℕ) → k < length l → getD (padded d l) k 0 ≡ getD l k 0

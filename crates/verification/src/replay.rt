@@ -1,5 +1,5 @@
 // The rounds of a transcript.
-use arithmetic::elements;
+use residues::elements;
 use protocol::Settings;
 ghost use mathlib.Core.Path.{_≡_};
 ghost use Prim.Native.Nat.{_<_, _≤_};

@@ -20,7 +20,7 @@ use Rattle.protocol.specs.Transcript.{nextClaim}
 use Rattle.protocol.specs.Session.{slots, verdict, opened, blank, startRefusal, start, refusedMove, shut, part, moveRefusal, advanced, moveHolds, move, closeRefusal, closeHolds, close}
 use Rattle.protocol.proofs.Tests.{and-split, first-zero, unless-zero, granted-zero, granted-refused}
 use Rattle.protocol.proofs.Reading.{tabulate-ext}
-use Rattle.arithmetic.specs.Elements.{elementAt}
+use Rattle.residues.specs.Elements.{elementAt}
 use Rattle.verifier.specs.Records.{counted}
 
 -- ---- start

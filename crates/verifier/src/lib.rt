@@ -69,7 +69,7 @@ impl Verifier {
         let next = Session {
             settings: settings,
             done: 0,
-            claim: arithmetic::elements::element_at(settings.degree, &commitment, 0),
+            claim: residues::elements::element_at(settings.degree, &commitment, 0),
             challenges: [0u32; 8],
             closed: false,
         };

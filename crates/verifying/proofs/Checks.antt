@@ -33,8 +33,8 @@ use Rattle.protocol.proofs.Tests.{and-split, and-intro, every-intro, all-at, fi
 use Rattle.protocol.proofs.Inputs.{settings-valid}
 use Rattle.protocol.proofs.Reading.{tabulate-length, tabulate-at}
 use Rattle.claims.proofs.Agreement.{Same}
-use Rattle.arithmetic.specs.Elements.{elementAt}
-use Rattle.arithmetic.proofs.Padding.{padded-at}
+use Rattle.residues.specs.Elements.{elementAt}
+use Rattle.residues.proofs.Padding.{padded-at}
 use Rattle.sizes.proofs.Limits.{degree-least}
 use Rattle.shapes.specs.Parts.{partShape, lengthsOf, lengthsFit}
 use Rattle.shapes.proofs.Exactly.{lengths-fit}

@@ -1,5 +1,5 @@
 // The program `verify` as a call on text: its settings, its tables, and the check of its transcript.
-use arithmetic::elements;
+use residues::elements;
 use protocol::Parts;
 use protocol::Settings;
 use protocol::Verdict;

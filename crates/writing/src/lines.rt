@@ -1,6 +1,6 @@
 // Lines as text. A line has at most 45 bytes.
 use crate::numbers::put_field;
-use arithmetic::tests::magnitude;
+use ranges::tests::magnitude;
 use shapes::Cell;
 ghost use Prim.Native.Nat.{_+_, _≤_};
 ghost use lib.IntN.{pos};

@@ -1,7 +1,7 @@
 // What the writer refuses before it looks at the text: refusals 3 to 10.
-use arithmetic::tests::all_below;
-use arithmetic::tests::all_within;
-use arithmetic::tests::settings_refusal;
+use ranges::tests::all_below;
+use ranges::tests::all_within;
+use ranges::tests::settings_refusal;
 use protocol::Parts;
 use protocol::Settings;
 use shapes::Lengths;

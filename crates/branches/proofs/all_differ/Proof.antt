@@ -7,7 +7,7 @@ use borrow.Author.Needs.{needs}
 use borrow.Author.Tests.{not-true, not-false}
 use Rattle.protocol.specs.Basic.{every}
 use Rattle.protocol.specs.Tree.{apart}
-use Rattle.arithmetic.proofs.Scan.{every-none, every-goes-on, every-fails, every-ends}
+use Rattle.ranges.proofs.Scan.{every-none, every-goes-on, every-fails, every-ends}
 use Rattle.branches.proofs.all_differ.Statement.{statement}
 use Rattle.branches.proofs.all_differ.Tie as tie
 

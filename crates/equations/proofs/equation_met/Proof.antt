@@ -1,7 +1,7 @@
 use mathlib.Core.Path.{_∙_}
 use native.Mathlib.Omega.{arith}
 use lib.ListN.{replicate}
-use Rattle.arithmetic.proofs.Extension.{extension-rows}
+use Rattle.products.proofs.Extension.{extension-rows}
 use Rattle.equations.proofs.Ending.{equation-is}
 use Rattle.equations.proofs.Ready.{ready}
 use borrow.Author.Needs.{needs}

@@ -13,8 +13,8 @@ use Rattle.protocol.specs.Basic.{every, within}
 use Rattle.protocol.specs.Element.{signed}
 use Rattle.protocol.specs.Settings.{settingsRefusal, size}
 use Rattle.protocol.specs.Transcript.{finalBounded}
-use Rattle.arithmetic.proofs.Magnitude.{through-bits}
-use Rattle.arithmetic.proofs.Scan.{every-none, every-goes-on, every-fails, every-ends}
+use Rattle.ranges.proofs.Magnitude.{through-bits}
+use Rattle.ranges.proofs.Scan.{every-none, every-goes-on, every-fails, every-ends}
 use borrow.Author.Needs.{needs}
 use Rattle.equations.proofs.final_bounded.Statement.{statement}
 use Rattle.equations.proofs.final_bounded.Tie as tie

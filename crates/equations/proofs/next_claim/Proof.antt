@@ -2,8 +2,8 @@ use mathlib.Core.Path.{refl, _∙_}
 use native.Mathlib.Omega.{arith}
 use Rattle.protocol.specs.Element.{residue, reduced}
 use Rattle.protocol.specs.Transcript.{nextClaim}
-use Rattle.arithmetic.specs.Elements.{valueAt}
-use Rattle.arithmetic.proofs.Splice.{spliced-element}
+use Rattle.residues.specs.Elements.{valueAt}
+use Rattle.residues.proofs.Splice.{spliced-element}
 use Rattle.equations.proofs.Ready.{ready}
 use borrow.Author.Needs.{needs}
 use Rattle.equations.proofs.next_claim.Statement.{statement}

@@ -7,7 +7,7 @@ use borrow.Author.Tests.{not-true, not-false}
 use lib.ListN.{length, getD}
 use Rattle.protocol.specs.Basic.{every}
 use Rattle.equations.specs.Ends.{quotientIs}
-use Rattle.arithmetic.proofs.Scan.{every-none, every-goes-on, every-fails, every-ends}
+use Rattle.ranges.proofs.Scan.{every-none, every-goes-on, every-fails, every-ends}
 use borrow.Author.Needs.{needs}
 use Rattle.equations.proofs.quotients_are.Statement.{statement}
 use Rattle.equations.proofs.quotients_are.Tie as tie

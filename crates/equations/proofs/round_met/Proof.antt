@@ -9,7 +9,7 @@ use lib.ListN.{length, getD}
 use Rattle.protocol.specs.Basic.{every}
 use Rattle.protocol.specs.Element.{modulo, residue}
 use Rattle.protocol.specs.Transcript.{doubled, roundHolds}
-use Rattle.arithmetic.proofs.Scan.{every-none, every-goes-on, every-fails, every-ends}
+use Rattle.ranges.proofs.Scan.{every-none, every-goes-on, every-fails, every-ends}
 use borrow.Author.Needs.{needs}
 use Rattle.equations.proofs.Ready.{ready}
 use Rattle.equations.proofs.round_met.Statement.{statement}

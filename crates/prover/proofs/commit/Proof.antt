@@ -4,7 +4,7 @@ use Rattle.protocol.specs.Element.{width, zeros}
 use Rattle.protocol.specs.Opening.{left}
 use Rattle.protocol.specs.Calls.{commitRefusal}
 use Rattle.sizes.proofs.Limits.{degree-most}
-use Rattle.arithmetic.specs.Products.{reducedSums}
+use Rattle.products.specs.Products.{reducedSums}
 use Rattle.refusals.proofs.Given.{CommitGiven, commit-given}
 use Rattle.prover.specs.Sums.{innerSums}
 use Rattle.prover.proofs.Products.{commit-tables, commitment-is}

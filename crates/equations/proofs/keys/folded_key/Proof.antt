@@ -7,8 +7,8 @@ use Rattle.protocol.specs.Opening.{keyAfter}
 use Rattle.protocol.proofs.Inputs.{settings-valid}
 use Rattle.claims.proofs.Tables.{key-length}
 use Rattle.sizes.proofs.Limits.{cells-most, degree-most, degree-inside}
-use Rattle.arithmetic.specs.Elements.{elementAt}
-use Rattle.arithmetic.proofs.Padding.{element-front}
+use Rattle.residues.specs.Elements.{elementAt}
+use Rattle.residues.proofs.Padding.{element-front}
 use borrow.Author.Needs.{needs}
 use Rattle.equations.proofs.keys.folded_key.Statement.{statement}
 use Rattle.equations.proofs.keys.folded_key.Tie as tie

@@ -4,8 +4,8 @@ use Prim.Native.Nat.{ℕ, _+_, _-_, _≤_}
 use native.Mathlib.Omega.{arith}
 use lib.ListN.{length, getD, set}
 use Rattle.protocol.specs.Element.{width}
-use Rattle.arithmetic.specs.Folds.{spliced}
-use Rattle.arithmetic.proofs.Splice.{spliced-none, spliced-more, spliced-length}
+use Rattle.residues.specs.Lists.{spliced}
+use Rattle.residues.proofs.Splice.{spliced-none, spliced-more, spliced-length}
 use Rattle.exports.specs.Storing.{storedAt}
 use borrow.Author.Needs.{needs}
 use Rattle.exports.proofs.storing.store_at.Statement.{statement}

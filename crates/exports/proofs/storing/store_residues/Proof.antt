@@ -3,7 +3,7 @@ use mathlib.Core.Path.{_≡_, refl}
 use Prim.Native.Nat.{_-_, _≤_}
 use native.Mathlib.Omega.{arith}
 use lib.ListN.{length}
-use Rattle.arithmetic.proofs.Fill.{filled-none}
+use Rattle.residues.proofs.Fill.{filled-none}
 use Rattle.exports.proofs.Loops.{storing, storing-next, storing-length, storing-end}
 use borrow.Author.Needs.{needs}
 use Rattle.exports.proofs.storing.store_residues.Statement.{statement}

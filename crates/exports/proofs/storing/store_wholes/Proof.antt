@@ -4,8 +4,8 @@ use Prim.Native.Nat.{_-_, _≤_}
 use native.Mathlib.Omega.{arith}
 use lib.IntN.{pos}
 use lib.ListN.{length}
-use Rattle.arithmetic.proofs.Fill.{filled-none}
-use Rattle.arithmetic.proofs.Magnitude.{through-bits}
+use Rattle.residues.proofs.Fill.{filled-none}
+use Rattle.ranges.proofs.Magnitude.{through-bits}
 use mir.Syntax.{w32}
 use Rattle.exports.proofs.Loops.{storing, storing-next, storing-length, storing-end}
 use borrow.Author.Needs.{needs}

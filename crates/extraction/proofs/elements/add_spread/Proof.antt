@@ -9,8 +9,8 @@ use lib.IntN.{ℤ, pos, natAbs, _+ℤ_}
 use lib.Signed.{mag}
 use mir.Syntax.{w64}
 use mir.Val.{toZ, ofZ}
-use Rattle.arithmetic.proofs.Fill.{filled, filled-none, filled-turn, filled-end, filled-behind}
-use Rattle.arithmetic.proofs.Magnitude.{through-bits}
+use Rattle.residues.proofs.Fill.{filled, filled-none, filled-turn, filled-end, filled-behind}
+use Rattle.ranges.proofs.Magnitude.{through-bits}
 use Rattle.extraction.specs.Bounds.{Addable}
 use Rattle.extraction.specs.Steps.{spreadAdded}
 use Rattle.extraction.proofs.elements.add_spread.Statement.{statement}

@@ -11,7 +11,7 @@ use lib.Dec.{eqb}
 use lib.ListN.{length}
 use lib.Pow as Pow
 use Rattle.protocol.specs.Element.{signed}
-use Rattle.arithmetic.proofs.Fill.{filled}
+use Rattle.residues.proofs.Fill.{filled}
 use Rattle.extraction.specs.Steps.{summed, divided}
 use Rattle.extraction.proofs.Quotients as Q
 use Rattle.extraction.proofs.elements.divide.Statement.{statement}

@@ -12,7 +12,8 @@ use lib.ListN.{length, take, drop}
 use Rattle.protocol.specs.Element.{signedZeros}
 use Rattle.protocol.specs.Tree.{child, vector}
 use Rattle.extraction.specs.Vectors.{Branching, branchAdded}
-use Rattle.extraction.specs.Nodes.{Extractable, AtNode}
+use Rattle.claims.specs.Nodes.{AtNode}
+use Rattle.extraction.specs.Nodes.{Extractable}
 use Rattle.claims.proofs.Places as Places
 use Rattle.extraction.proofs.Nodes as N
 use Rattle.extraction.proofs.vectors.node.Reads as node

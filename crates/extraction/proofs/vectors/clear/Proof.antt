@@ -5,8 +5,8 @@ use native.Mathlib.Omega.{arith}
 use borrow.Author.Needs.{needs}
 use lib.ListN.{length, length-set}
 use lib.IntN.{pos}
-use Rattle.arithmetic.proofs.Fill.{filled, filled-none, filled-turn, filled-end}
-use Rattle.arithmetic.proofs.SignedFill.{filled-signed-zeros}
+use Rattle.residues.proofs.Fill.{filled, filled-none, filled-turn, filled-end}
+use Rattle.residues.proofs.SignedFill.{filled-signed-zeros}
 use Rattle.extraction.proofs.vectors.clear.Statement.{statement}
 use Rattle.extraction.proofs.vectors.clear.Tie as tie
 

@@ -11,9 +11,9 @@ use lib.ListN.{length, take, drop, length-drop, drop-of-length-le}
 use Rattle.protocol.specs.Basic.{tabulate}
 use Rattle.protocol.specs.Element.{signed, signedAt, coefficients}
 use Rattle.protocol.proofs.Reading.{tabulate-ext}
-use Rattle.arithmetic.proofs.Fill.{filled}
+use Rattle.residues.proofs.Fill.{filled}
 use Rattle.extraction.proofs.Parts.{part-signed}
-use Rattle.arithmetic.proofs.Folds.{tail-all}
+use Rattle.residues.proofs.Folds.{tail-all}
 use Rattle.extraction.proofs.Splicing.{append-nil, drop-put-end}
 use Rattle.extraction.proofs.vectors.leaf_vector.Statement.{statement}
 use Rattle.extraction.proofs.vectors.leaf_vector.Tie as tie

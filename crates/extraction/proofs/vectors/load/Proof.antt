@@ -6,9 +6,9 @@ use borrow.Author.Needs.{needs}
 use lib.ListN.{length, length-set}
 use mir.Facts.{toZ-ofZ}
 use Rattle.protocol.specs.Element.{signed}
-use Rattle.arithmetic.proofs.Fill.{filled, filled-none, filled-turn, filled-end}
+use Rattle.residues.proofs.Fill.{filled, filled-none, filled-turn, filled-end}
 use mir.Syntax.{w64}
-use Rattle.arithmetic.proofs.Magnitude.{through-bits}
+use Rattle.ranges.proofs.Magnitude.{through-bits}
 use Rattle.extraction.proofs.vectors.load.Statement.{statement}
 use Rattle.extraction.proofs.vectors.load.Tie as tie
 

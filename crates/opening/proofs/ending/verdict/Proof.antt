@@ -8,7 +8,7 @@ use Rattle.protocol.proofs.Inputs.{settings-valid}
 use Rattle.protocol.proofs.Refusals.{and-fails-left, and-fails-right}
 use Rattle.protocol.proofs.Tests.{and-intro}
 use Rattle.sizes.proofs.Limits.{degree-most}
-use Rattle.arithmetic.specs.Elements.{elementAt}
+use Rattle.residues.specs.Elements.{elementAt}
 use Rattle.equations.specs.Ends.{endMet}
 use borrow.Author.Needs.{needs}
 use Rattle.opening.proofs.ending.verdict.Statement.{statement}

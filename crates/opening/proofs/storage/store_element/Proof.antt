@@ -3,8 +3,8 @@ use mathlib.Core.Path.{_≡_, ap, _∙_}
 use Prim.Native.Nat.{ℕ, _+_, _-_, _≤_}
 use native.Mathlib.Omega.{arith}
 use lib.ListN.{length, getD, set}
-use Rattle.arithmetic.specs.Folds.{spliced}
-use Rattle.arithmetic.proofs.Splice.{spliced-none, spliced-more, spliced-length}
+use Rattle.residues.specs.Lists.{spliced}
+use Rattle.residues.proofs.Splice.{spliced-none, spliced-more, spliced-length}
 use borrow.Author.Needs.{needs}
 use Rattle.opening.proofs.storage.store_element.Statement.{statement}
 use Rattle.opening.proofs.storage.store_element.Tie as tie

@@ -5,7 +5,7 @@ use native.Mathlib.Nat.{add-mul, mul-le-mul}
 use native.Mathlib.Omega.{arith}
 use lib.ListN.{getD}
 use Rattle.protocol.specs.Session.{part}
-use Rattle.arithmetic.specs.Folds.{spliced}
+use Rattle.residues.specs.Lists.{spliced}
 use Rattle.opening.specs.Turns.{storedRound}
 use borrow.Author.Needs.{needs}
 use Rattle.opening.proofs.storage.store_round.Statement.{statement}

@@ -12,7 +12,7 @@ use Rattle.opening.proofs.turns.+prover_turn+verifier_turn.Lts-prover_t
 use Rattle.opening.proofs.turns.verifier_turn.Reads as verifier-turn
 use Rattle.opening.proofs.turns.verifier_turn.Kinds as verifier-turn-kinds
 use Rattle.opening.proofs.turns.+prover_turn+verifier_turn.Lts-verifier_turn as verifier-turn-lts
-use Rattle.arithmetic.proofs.elements.entry.Reads as entry-reads
+use Rattle.residues.proofs.elements.entry.Reads as entry-reads
 use Rattle.opening.proofs.turns.check_round.Reads as check-round-reads
 use Rattle.opening.proofs.turns.prove_round.Reads as prove-round-reads
 use Rattle.opening.proofs.turns.+prover_turn+verifier_turn.{statement}

@@ -4,9 +4,9 @@ use Prim.Native.Nat.{_+_, _*_, _-_, _≤_}
 use native.Mathlib.Omega.{arith}
 use borrow.Author.Needs.{needs}
 use lib.ListN.{length, take, drop, length-drop}
-use Rattle.arithmetic.specs.Products.{extension}
-use Rattle.arithmetic.proofs.Extension.{extension-rows}
-use Rattle.arithmetic.proofs.Folds.{tail-all, row-inside}
+use Rattle.products.specs.Products.{extension}
+use Rattle.products.proofs.Extension.{extension-rows}
+use Rattle.residues.proofs.Folds.{tail-all, row-inside}
 use Rattle.prover.specs.Sums.{innerSums}
 use Rattle.prover.proofs.Sums.{inner-none, inner-more}
 use Rattle.prover.proofs.inner.add_inner.Statement.{statement}

@@ -4,7 +4,7 @@ use Prim.Native.Nat.{_+_, _-_, _%_, _≤_}
 use native.Mathlib.Omega.{arith}
 use lib.ListN.{getD}
 use Rattle.protocol.specs.Element.{zeros}
-use Rattle.arithmetic.proofs.Fill.{filled, fill-none, fill-more, element-done}
+use Rattle.residues.proofs.Fill.{filled, fill-none, fill-more, element-done}
 use borrow.Author.Needs.{needs}
 use Rattle.prover.proofs.inner.difference.Statement.{statement}
 use Rattle.prover.proofs.inner.difference.Tie as tie

@@ -1,6 +1,6 @@
 use mathlib.Core.Path.{_∙_}
 use Rattle.protocol.specs.Element.{zeros, signedZeros}
-use Rattle.arithmetic.proofs.Fill.{filled}
+use Rattle.residues.proofs.Fill.{filled}
 use Rattle.prover.proofs.Mixing.{message-room, key-room, half-inside, sums-tables, sums-mixed}
 use borrow.Author.Needs.{needs}
 use Rattle.prover.proofs.inner.mixed.Statement.{statement}

@@ -5,7 +5,7 @@ use native.Mathlib.Omega.{arith}
 use borrow.Author.Needs.{needs}
 use lib.ListN.{getD}
 use Rattle.protocol.specs.Element.{zeros}
-use Rattle.arithmetic.proofs.Fill.{filled, fill-none, fill-more, element-done}
+use Rattle.residues.proofs.Fill.{filled, fill-none, fill-more, element-done}
 use Rattle.prover.proofs.inner.scaled.Statement.{statement}
 use Rattle.prover.proofs.inner.scaled.Tie as tie
 

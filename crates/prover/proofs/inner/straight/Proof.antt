@@ -2,7 +2,7 @@ use mathlib.Core.Path.{ap, _∙_}
 use native.Mathlib.Omega.{arith}
 use Rattle.protocol.specs.Element.{zeros, signedAt, residueAt}
 use Rattle.protocol.specs.Opening.{inner}
-use Rattle.arithmetic.specs.Products.{reducedSums}
+use Rattle.products.specs.Products.{reducedSums}
 use Rattle.prover.proofs.Products.{inner-reduced, scaled-is}
 use borrow.Author.Needs.{needs}
 use Rattle.prover.proofs.inner.straight.Statement.{statement}

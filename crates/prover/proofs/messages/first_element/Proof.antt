@@ -7,7 +7,7 @@ use lib.IntN.{pos}
 use lib.ListN.{getD, set}
 use mir.Syntax.{w32}
 use Rattle.protocol.specs.Element.{coefficients, signedAt}
-use Rattle.arithmetic.proofs.Magnitude.{through-bits}
+use Rattle.ranges.proofs.Magnitude.{through-bits}
 use Rattle.prover.proofs.Fill.{filled, fill-start, fill-next, fill-end}
 use Rattle.prover.proofs.messages.first_element.Statement.{statement}
 use Rattle.prover.proofs.messages.first_element.Tie as tie

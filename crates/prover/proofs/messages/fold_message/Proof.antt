@@ -6,7 +6,7 @@ use native.Mathlib.Omega.{arith}
 use borrow.Author.Needs.{needs}
 use lib.IntN.{ℤ, pos, natAbs}
 use lib.ListN.{length, getD, set, length-set}
-use Rattle.arithmetic.proofs.Fill.{filled, filled-none}
+use Rattle.residues.proofs.Fill.{filled, filled-none}
 use Rattle.prover.proofs.Folding.{cell, second-long, second-room, sum-room, turn-is, folding-done}
 use Rattle.prover.proofs.Words.{plus-fits, plus-is}
 use Rattle.prover.proofs.messages.fold_message.Statement.{statement}

@@ -3,7 +3,7 @@ use mathlib.Core.Path.{_≡_, refl}
 use Prim.Native.Nat.{ℕ, _+_, _-_, _%_, _≤_}
 use native.Mathlib.Omega.{arith}
 use lib.ListN.{length, getD, length-set}
-use Rattle.arithmetic.proofs.Fill.{filled, filled-none, filled-turn, filled-end}
+use Rattle.residues.proofs.Fill.{filled, filled-none, filled-turn, filled-end}
 use borrow.Author.Needs.{needs}
 use Rattle.prover.proofs.totals.key_sums.Statement.{statement}
 use Rattle.prover.proofs.totals.key_sums.Tie as tie

@@ -4,7 +4,7 @@ use Prim.Native.Nat.{ℕ, _+_, _-_, _^_, _<_, _≤_}
 use native.Mathlib.Omega.{arith}
 use lib.IntN.{pos, natAbs, _+ℤ_}
 use lib.ListN.{length, getD, length-set}
-use Rattle.arithmetic.proofs.Fill.{filled, filled-none, filled-turn, filled-end}
+use Rattle.residues.proofs.Fill.{filled, filled-none, filled-turn, filled-end}
 use borrow.Author.Needs.{needs}
 use Rattle.prover.proofs.Words.{read, read-small, plus-is}
 use Rattle.prover.proofs.totals.message_sums.Statement.{statement}

@@ -12,8 +12,8 @@ use mir.Syntax.{w32}
 use Rattle.protocol.specs.Basic.{all}
 use Rattle.protocol.specs.Text.{unsigned}
 use Rattle.protocol.proofs.Tests.{all-map}
-use Rattle.arithmetic.proofs.Magnitude.{through-bits}
-use Rattle.arithmetic.proofs.Scan.{all-goes-on, all-fails, all-ends}
+use Rattle.ranges.proofs.Magnitude.{through-bits}
+use Rattle.ranges.proofs.Scan.{all-goes-on, all-fails, all-ends}
 use Rattle.reading.proofs.entries.all_below.Statement.{statement}
 use Rattle.reading.proofs.entries.all_below.Tie as tie
 

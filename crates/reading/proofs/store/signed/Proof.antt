@@ -6,8 +6,8 @@ use borrow.Author.Needs.{needs}
 use lib.ListN.{length, getD, length-set}
 use lib.IntN.{pos}
 use mir.Syntax.{w32}
-use Rattle.arithmetic.proofs.Fill.{filled, filled-none, filled-turn}
-use Rattle.arithmetic.proofs.Magnitude.{through-bits}
+use Rattle.residues.proofs.Fill.{filled, filled-none, filled-turn}
+use Rattle.ranges.proofs.Magnitude.{through-bits}
 use Rattle.reading.proofs.Cuts.{cut-stored}
 use Rattle.reading.proofs.store.signed.Statement.{statement}
 use Rattle.reading.proofs.store.signed.Tie as tie

@@ -7,8 +7,8 @@ use lib.ListN.{length, getD, length-set}
 use lib.IntN.{pos}
 use mir.Syntax.{w32}
 use Rattle.protocol.specs.Text.{unsigned}
-use Rattle.arithmetic.proofs.Fill.{filled, filled-none, filled-turn}
-use Rattle.arithmetic.proofs.Magnitude.{through-bits}
+use Rattle.residues.proofs.Fill.{filled, filled-none, filled-turn}
+use Rattle.ranges.proofs.Magnitude.{through-bits}
 use Rattle.reading.proofs.Cuts.{cut-mapped}
 use Rattle.reading.proofs.store.unsigned.Statement.{statement}
 use Rattle.reading.proofs.store.unsigned.Tie as tie

@@ -1,7 +1,7 @@
 -- The digits have 64 places.
 use mathlib.Core.Path.{ap, _∙_}
 use native.Mathlib.Omega.{arith}
-use Rattle.arithmetic.specs.Products.{narrowed, addRows}
+use Rattle.products.specs.Products.{narrowed, addRows}
 use borrow.Author.Needs.{needs}
 use Rattle.relaxed.proofs.combination.add_digit.Statement.{statement}
 use Rattle.relaxed.proofs.combination.add_digit.Tie as tie

@@ -7,9 +7,9 @@ use lib.IntN.{pos}
 use lib.ListN.{getD}
 use mir.Syntax.{w32}
 use Rattle.protocol.specs.Element.{signedZeros, coefficients}
-use Rattle.arithmetic.proofs.Fill.{filled}
-use Rattle.arithmetic.proofs.Magnitude.{through-bits}
-use Rattle.arithmetic.proofs.SignedFill.{signed-fill-none, signed-fill-more, signed-element-done}
+use Rattle.residues.proofs.Fill.{filled}
+use Rattle.ranges.proofs.Magnitude.{through-bits}
+use Rattle.residues.proofs.SignedFill.{signed-fill-none, signed-fill-more, signed-element-done}
 use Rattle.relaxed.specs.Digits.{digitsIn}
 use Rattle.relaxed.proofs.combination.digits.Statement.{statement}
 use Rattle.relaxed.proofs.combination.digits.Tie as tie

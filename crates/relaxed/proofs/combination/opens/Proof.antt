@@ -15,7 +15,7 @@ use Rattle.protocol.specs.Element.{modulo, residue, times, padded}
 use Rattle.protocol.specs.Judge.{scaledCommitment, combination, opens}
 use Rattle.protocol.proofs.Inputs.{settings-valid}
 use Rattle.protocol.proofs.Reading.{tabulate-length, tabulate-at}
-use Rattle.arithmetic.proofs.Scan.{every-none, every-goes-on, every-fails, every-ends}
+use Rattle.ranges.proofs.Scan.{every-none, every-goes-on, every-fails, every-ends}
 use Rattle.sizes.proofs.Limits.{degree-most}
 use Rattle.claims.proofs.Agreement.{every-ext}
 use Rattle.relaxed.proofs.combination.opens.Statement.{statement}

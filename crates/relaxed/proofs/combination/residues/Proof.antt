@@ -5,8 +5,8 @@ use native.Mathlib.Omega.{arith}
 use borrow.Author.Needs.{needs}
 use mir.Syntax.{w64}
 use Rattle.protocol.specs.Element.{modulo, signed, reduced, zeros}
-use Rattle.arithmetic.proofs.Fill.{filled, fill-none, fill-more, element-done}
-use Rattle.arithmetic.proofs.Magnitude.{through-bits}
+use Rattle.residues.proofs.Fill.{filled, fill-none, fill-more, element-done}
+use Rattle.ranges.proofs.Magnitude.{through-bits}
 use Rattle.relaxed.proofs.combination.residues.Statement.{statement}
 use Rattle.relaxed.proofs.combination.residues.Tie as tie
 

@@ -5,7 +5,7 @@ use Prim.Native.Nat.{ℕ, _+_, _-_, _≤_}
 use native.Mathlib.Omega.{arith}
 use lib.ListN.{length, getD}
 use Rattle.protocol.specs.Element.{zeros}
-use Rattle.arithmetic.proofs.Fill.{filled, fill-none, fill-more, fill-done}
+use Rattle.residues.proofs.Fill.{filled, fill-none, fill-more, fill-done}
 use Rattle.sessions.specs.Records.{challengesOf}
 use borrow.Author.Needs.{needs}
 use Rattle.sessions.proofs.records.challenges.Statement.{statement}

@@ -3,7 +3,7 @@ use mathlib.Core.Path.{_≡_, ap, _∙_}
 use Prim.Native.Nat.{_-_, _≤_}
 use native.Mathlib.Omega.{arith}
 use lib.ListN.{length, set}
-use Rattle.arithmetic.proofs.Fill.{filled, filled-none, filled-more, filled-length}
+use Rattle.residues.proofs.Fill.{filled, filled-none, filled-more, filled-length}
 use Rattle.sessions.specs.Records.{recordWidth, numberOf, recordStored}
 use borrow.Author.Needs.{needs}
 use Rattle.sessions.proofs.records.store.Statement.{statement}

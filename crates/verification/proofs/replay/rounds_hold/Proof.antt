@@ -6,7 +6,7 @@ use native.Mathlib.Omega.{arith}
 use borrow.Author.Tests.{not-true, not-false}
 use Rattle.protocol.specs.Basic.{every}
 use Rattle.protocol.specs.Transcript.{holdsAt}
-use Rattle.arithmetic.proofs.Scan.{every-none, every-goes-on, every-fails, every-ends}
+use Rattle.ranges.proofs.Scan.{every-none, every-goes-on, every-fails, every-ends}
 use Rattle.verification.specs.Replays.{bare}
 use borrow.Author.Needs.{needs}
 use Rattle.verification.proofs.replay.rounds_hold.Statement.{statement}

@@ -8,7 +8,7 @@ use lib.ListN.{length, getD}
 use lib.IntN.{pos}
 use mir.Syntax.{w32}
 use mir.Val.{ofZ, toZ}
-use Rattle.arithmetic.proofs.Magnitude.{through-bits}
+use Rattle.ranges.proofs.Magnitude.{through-bits}
 use Rattle.protocol.specs.Text.{textLimit, shapeSize}
 use Rattle.protocol.specs.declared.Settings.{Settings}
 use Rattle.protocol.specs.declared.Parts.{Parts}

@@ -85,8 +85,8 @@ slice-aggregate-copy c = sym (front (c .before .before))
 copy-requires : tie.Need-copy-requires
 copy-requires c κs = omega (arith, front (c .before .before .before))
 
-same-count : tie.Need-same-count
-same-count c = search needs
+same-length : tie.Need-same-length
+same-length c = search needs
 
 returns-4 : tie.Need-returns-4
 unfolding textLimit
@@ -112,5 +112,5 @@ write-spec =
     array-share-prefix-text
     slice-aggregate-copy
     copy-requires
-    same-count
+    same-length
     returns-4)

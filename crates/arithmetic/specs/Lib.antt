@@ -1,4 +1,0 @@
-pub mod Elements
-pub mod Folds
-pub mod Products
-pub mod Residues

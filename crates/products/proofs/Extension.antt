@@ -1,0 +1,46 @@
+-- The extension of an element, as three rows that stand at the front of a room.
+use mathlib.Core.Path.{_≡_, sym, ap, _∙_}
+use mathlib.Core.List.{List}
+use Prim.Native.Nat.{ℕ, _+_, _*_, _-_, _%_, _^_, _<_, _≤_}
+use native.Mathlib.Nat as Nat
+use native.Mathlib.Omega.{arith}
+use lib.IntN.{ℤ, pos, negℤ}
+use lib.ListN.{length, getD}
+use Rattle.protocol.specs.Element.{modulo, around, residue}
+use Rattle.residues.specs.Lists.{spliced}
+use Rattle.residues.specs.Residues.{turned}
+use Rattle.residues.proofs.Around.{around-first, around-third}
+use Rattle.residues.proofs.Extension.{turned-lt, turned-first, turned-next}
+use Rattle.residues.proofs.Splice.{spliced-inside}
+use Rattle.products.specs.Products.{extension, narrowed, addRows}
+use Rattle.products.proofs.Rows.{narrowed-at, rows-front, extension-at}
+
+module _ (q d : ℕ) (p : 0 < q) (pd : 0 < d) (a : List ℕ) where
+  -- the rows at the front of a room x₀: sums over them are those over the extension, whatever stands behind them
+  module _ (w : q ≤ 2 ^ 32) (x₀ x : List ℕ) (e : x ≡ spliced (turned q d a) 0 (3 * d) x₀) where
+    front-at : (y : ℕ) → y < 3 * d → getD (narrowed x) y 0 ≡ getD (extension q d a) y 0
+    unfolding turned
+    front-at y h =
+        narrowed-at x y
+        ∙ ap (λ l. getD l y 0 % 2 ^ 32) e
+        ∙ ap (λ n. getD (spliced (turned q d a) 0 (3 * d) x₀) n 0 % 2 ^ 32) (sym (Nat.zero-add y))
+        ∙ ap (λ n. n % 2 ^ 32) (spliced-inside (turned q d a) 0 (3 * d) x₀ (omega arith) y h)
+        ∙ Nat.mod-eq-of-lt (omega (arith, turned-lt q d p pd a y))
+        ∙ sym (extension-at q d p pd a y h)
+
+    pub extension-rows : (f : List ℤ) (s : List ℕ) → addRows d f (narrowed x) d s ≡ addRows d f (extension q d a) d s
+    extension-rows f s = rows-front d f (narrowed x) (extension q d a) front-at d s
+
+  -- what stands at place k of each row, v being the residue
+  module _ (k v : ℕ) (h : k < d) (e : v ≡ getD a k 0 % q) where
+    pub place-first : v ≡ turned q d a k
+    place-first = e ∙ turned-first q d p pd a k h
+
+    pub place-second : modulo q (negℤ (pos v)) ≡ turned q d a (d + k)
+    place-second = ap (λ n. modulo q (negℤ (pos n))) place-first ∙ turned-next q d p pd a k ∙ ap (turned q d a) (Nat.add-comm k d)
+
+    pub place-third : v ≡ turned q d a (2 * d + k)
+    unfolding turned
+    place-third =
+        place-first
+        ∙ ap (modulo q) (around-first d (residue a) k h ∙ ap (residue a) {y = 2 * d + k - d - d} (omega arith) ∙ sym (around-third d (residue a) (2 * d + k) (omega arith) (omega arith)))

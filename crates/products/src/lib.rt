@@ -1,0 +1,225 @@
+// Products of an element of whole numbers with an element of residues. Products are summed as they are and reduced once. Residues stand in
+// 64 bits, and four rows are added at a time: so a row costs one product and one sum for each of its numbers.
+use ranges::tests;
+ghost use mathlib.Core.Path.{_≡_};
+ghost use mathlib.Core.List.{List};
+ghost use Prim.Native.Nat.{ℕ, _+_, _*_, _%_, _^_, _<_, _≤_};
+ghost use lib.ListN.{length};
+ghost use Rattle.residues.specs.Lists.{spliced};
+ghost use Rattle.residues.specs.Residues.{turned};
+ghost use Rattle.products.specs.Products.{narrowed, start, addRow, addRows, addFour, Rows, reducedSums};
+
+fn wide(x: u32) -> u64
+    ensures { λ r. ⌜ r ≡ x ⌝ }
+{
+    x as u64
+}
+
+// x modulo q; a residue is not divided.
+fn reduce(q: u32, x: u32) -> u32
+    requires { ⌜ 0 < q ⌝ }
+    ensures { λ r. ⌜ r ≡ x % q ⌝ }
+{
+    if x < q {
+        return x;
+    }
+    x % q
+}
+
+// The residues that stand at the places 0 to 3d − 1 of a, going round by X^d = −1, written to the front of y: each residue, its negative, and
+// the residue again.
+fn write_rows(q: u32, d: usize, a: &[u32], y: &mut [u64])
+    requires { ⌜ (0 < q) × (d ≤ 64) × (d ≤ length (now a)) × (3 * d ≤ length (now y)) ⌝ }
+    ensures { λ _. ⌜ now (y .exit) ≡ spliced (turned q d (now (a .entry))) 0 (3 * d) (now (y .entry)) ⌝ }
+{
+    for k in 0..d {
+        let x = reduce(q, a[k]);
+        y[k] = wide(x);
+        y[d + k] = wide(residues::negated(q, x));
+        y[2 * d + k] = wide(x);
+    }
+}
+
+// The extension of a, at the front of a lent room x. What stands behind it stays.
+pub fn extend(q: u32, d: u32, a: &[u32], x: &mut [u64])
+    ensures { λ _. ⌜ (0 < q → 0 < d → d ≤ 64 → d ≤ length (now (a .entry)) → 3 * d ≤ length (now (x .entry)) → now (x .exit) ≡ spliced (turned q d (now (a .entry))) 0 (3 * d) (now (x .entry))) ⌝ }
+{
+    let n = d as usize;
+    if q == 0 {
+        return;
+    }
+    if n > 64 {
+        return;
+    }
+    if a.len() < n {
+        return;
+    }
+    if x.len() < 3 * n {
+        return;
+    }
+    write_rows(q, n, a, x);
+}
+
+// m·y, y being below 2^32.
+fn scaled(m: u32, y: u64) -> u64
+    ensures { λ r. ⌜ r ≡ m * (y % 2 ^ 32) ⌝ }
+{
+    (m as u64) * (y % 4294967296)
+}
+
+// s + m·y modulo 2^64
+fn plus_scaled(s: u64, m: u32, y: u64) -> u64
+    ensures { λ r. ⌜ r ≡ (s + m * (y % 2 ^ 32)) % 2 ^ 64 ⌝ }
+{
+    std::num::wrapping_add_u64(s, scaled(m, y))
+}
+
+// One row: m times the d residues from place `at` on.
+fn add_row(d: usize, m: u32, at: usize, x: &[u64], sums: &mut [u64])
+    requires { ⌜ (at + d ≤ length (now x)) × (d ≤ length (now sums)) ⌝ }
+    ensures { λ _. ⌜ now (sums .exit) ≡ addRow d m at (narrowed (now (x .entry))) (now (sums .entry)) ⌝ }
+{
+    let mut k: usize = 0;
+    while k < d {
+        sums[k] = plus_scaled(sums[k], m, x[at + k]);
+        k += 1;
+    }
+}
+
+// Four rows at a time.
+fn add_four(
+    d: usize,
+    m0: u32,
+    at0: usize,
+    m1: u32,
+    at1: usize,
+    m2: u32,
+    at2: usize,
+    m3: u32,
+    at3: usize,
+    x: &[u64],
+    sums: &mut [u64],
+)
+    requires { ⌜ (at0 + d ≤ length (now x)) × (at1 + d ≤ length (now x)) × (at2 + d ≤ length (now x)) × (at3 + d ≤ length (now x)) × (d ≤ length (now sums)) ⌝ }
+    ensures { λ _. ⌜ now (sums .exit) ≡ addRow d m3 at3 (narrowed (now (x .entry))) (addRow d m2 at2 (narrowed (now (x .entry))) (addRow d m1 at1 (narrowed (now (x .entry))) (addRow d m0 at0 (narrowed (now (x .entry))) (now (sums .entry))))) ⌝ }
+{
+    let mut k: usize = 0;
+    while k < d {
+        let first = plus_scaled(sums[k], m0, x[at0 + k]);
+        let second = plus_scaled(first, m1, x[at1 + k]);
+        let third = plus_scaled(second, m2, x[at2 + k]);
+        sums[k] = plus_scaled(third, m3, x[at3 + k]);
+        k += 1;
+    }
+}
+
+// Where the row of coefficient j begins: a negative one takes the row d places before, which has the other sign.
+fn row_start(d: usize, c: i32, j: usize) -> usize
+    requires { ⌜ (d ≤ 64) × (j < d) ⌝ }
+    ensures { λ r. ⌜ r ≡ start d c j ⌝ }
+{
+    if c < 0 {
+        return d - j;
+    }
+    d + d - j
+}
+
+// The rows of the four coefficients from coefficient j on.
+fn add_block(d: usize, j: usize, f: &[i32], x: &[u64], sums: &mut [u64])
+    requires { ⌜ Rows d (length (now f)) (length (now x)) (length (now sums)) × (j + 4 ≤ d) ⌝ }
+    ensures { λ _. ⌜ now (sums .exit) ≡ addFour d (now (f .entry)) (narrowed (now (x .entry))) j (now (sums .entry)) ⌝ }
+{
+    let c0 = f[j];
+    let c1 = f[j + 1];
+    let c2 = f[j + 2];
+    let c3 = f[j + 3];
+    add_four(
+        d,
+        tests::magnitude(c0),
+        row_start(d, c0, j),
+        tests::magnitude(c1),
+        row_start(d, c1, j + 1),
+        tests::magnitude(c2),
+        row_start(d, c2, j + 2),
+        tests::magnitude(c3),
+        row_start(d, c3, j + 3),
+        x,
+        sums,
+    );
+}
+
+// The rows from coefficient `done` on, those before it being added.
+fn add_rest(d: usize, done: usize, f: &[i32], x: &[u64], sums: &mut [u64])
+    requires { ⌜ Rows d (length (now f)) (length (now x)) (length (now sums)) × (done ≤ d) ⌝ }
+    ensures { λ _. ⌜ ((s : List ℕ) → now (sums .entry) ≡ addRows d (now (f .entry)) (narrowed (now (x .entry))) done s → now (sums .exit) ≡ addRows d (now (f .entry)) (narrowed (now (x .entry))) d s) ⌝ }
+{
+    let mut j: usize = done;
+    while j < d {
+        let c = f[j];
+        add_row(d, tests::magnitude(c), row_start(d, c, j), x, sums);
+        j += 1;
+    }
+}
+
+// The rows of all coefficients of f.
+fn add_rows(d: usize, f: &[i32], x: &[u64], sums: &mut [u64])
+    requires { ⌜ Rows d (length (now f)) (length (now x)) (length (now sums)) ⌝ }
+    ensures { λ _. ⌜ now (sums .exit) ≡ addRows d (now (f .entry)) (narrowed (now (x .entry))) d (now (sums .entry)) ⌝ }
+{
+    let mut j: usize = 0;
+    while j + 4 <= d {
+        add_block(d, j, f, x, sums);
+        j += 4;
+    }
+    add_rest(d, j, f, x, sums);
+}
+
+// The product of f with the element whose extension stands at the front of x, added to the sums modulo 2^64.
+pub fn accumulate(d: u32, f: &[i32], x: &[u64], sums: &mut [u64])
+    ensures { λ _. ⌜ (Rows d (length (now (f .entry))) (length (now (x .entry))) (length (now (sums .entry))) → now (sums .exit) ≡ addRows d (now (f .entry)) (narrowed (now (x .entry))) d (now (sums .entry))) ⌝ }
+{
+    let n = d as usize;
+    if n > 64 {
+        return;
+    }
+    if f.len() < n {
+        return;
+    }
+    if x.len() < 3 * n {
+        return;
+    }
+    if sums.len() < n {
+        return;
+    }
+    add_rows(n, f, x, sums);
+}
+
+fn remainder(q: u32, s: u64) -> u32
+    requires { ⌜ 0 < q ⌝ }
+    ensures { λ r. ⌜ r ≡ s % q ⌝ }
+{
+    (s % (q as u64)) as u32
+}
+
+// The sums modulo q.
+pub fn reduced_sums(q: u32, d: u32, sums: &[u64]) -> [u32; 64]
+    ensures { λ r. ⌜ (0 < q → d ≤ 64 → d ≤ length (now (sums .entry)) → r ≡ reducedSums q d (now (sums .entry))) ⌝ }
+{
+    let mut a = [0u32; 64];
+    if q == 0 {
+        return a;
+    }
+    let n = d as usize;
+    if n > 64 {
+        return a;
+    }
+    if sums.len() < n {
+        return a;
+    }
+    let mut k: usize = 0;
+    while k < n {
+        a[k] = remainder(q, sums[k]);
+        k += 1;
+    }
+    a
+}

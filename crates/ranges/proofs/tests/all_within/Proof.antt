@@ -1,0 +1,68 @@
+-- The loop keeps: what is known, and the numbers that are left, decide.
+use mathlib.Core.Path.{_≡_, refl, ap, _∙_}
+use mathlib.Core.Bool.{_&&_}
+use Prim.Native.Nat.{_-_, _≤_}
+use native.Mathlib.Omega.{arith}
+use lib.IntN.{pos}
+use lib.ListN.{length, getD, drop}
+use mir.Syntax.{w32}
+use Rattle.protocol.specs.Basic.{all, within}
+use Rattle.protocol.specs.Settings.{small}
+use Rattle.ranges.proofs.Magnitude.{through-bits}
+use Rattle.ranges.proofs.Scan.{asked-goes-on, asked-ends}
+use borrow.Author.Needs.{needs}
+use Rattle.ranges.proofs.tests.all_within.Statement.{statement}
+use Rattle.ranges.proofs.tests.all_within.Tie as tie
+
+abbrev Inv-loop : tie.InvT-loop
+Inv-loop bound t good₀ i₀ i-end good i = (i ≤ length t) × (i-end ≡ length t) × (all (within bound) t ≡ (good && all (within bound) (drop i t)))
+
+abbrev μ-loop : tie.MeasureT-loop
+μ-loop bound t good₀ i₀ i-end good i = length t - i
+
+loop-holds : tie.Need-loop-holds Inv-loop μ-loop
+loop-holds c = (omega arith, refl, refl)
+
+mul-and-within : tie.Need-mul-and-within Inv-loop μ-loop
+mul-and-within c = search needs
+
+shared-slice-copy-out-and-within : tie.Need-shared-slice-copy-out-and-within Inv-loop μ-loop
+shared-slice-copy-out-and-within c = search needs
+
+and-within-requires : tie.Need-and-within-requires Inv-loop μ-loop
+and-within-requires c κs = search needs
+
+add-i : tie.Need-add-i Inv-loop μ-loop
+add-i c = search needs
+
+loop-less : tie.Need-loop-less Inv-loop μ-loop
+loop-less c = search needs
+
+loop-again : tie.Need-loop-again Inv-loop μ-loop
+loop-again c =
+    let a = c .before .before .before .before .args in
+    let l = c .before .before .before .loop in (
+      omega arith,
+      l .inv .1,
+      asked-goes-on _ (a .t .now) (pos 0) (l .i) (l .good) (l .inv .2) (omega arith)
+          (c .and-within .ensures ∙ ap (λ z. l .good && within (a .bound) z) (through-bits w32 (getD (a .t .now) (l .i) (pos 0)) (c .before .and-within-arg .given))),
+    )
+
+returns : tie.Need-returns Inv-loop μ-loop
+unfolding small
+returns c = let l = c .before .loop in asked-ends _ _ (pos 0) (l .i) (l .good) (l .inv .2) (omega arith)
+
+pub all-within-spec : {M : Type 1} → statement M
+all-within-spec =
+    tie.close
+    (tie.spec
+    Inv-loop
+    μ-loop
+    loop-holds
+    mul-and-within
+    shared-slice-copy-out-and-within
+    and-within-requires
+    add-i
+    loop-less
+    loop-again
+    returns)

@@ -1,0 +1,164 @@
+// The tests that refusals go by.
+use protocol::Settings;
+ghost use mathlib.Core.Path.{_≡_};
+ghost use mathlib.Core.Bool.{_&&_};
+ghost use Prim.Native.Nat.{_≤_};
+ghost use lib.Dec.{ltb};
+ghost use lib.IntN.{natAbs};
+ghost use lib.ListN.{getD};
+ghost use Rattle.protocol.specs.Basic.{every, all, within};
+ghost use Rattle.protocol.specs.Settings.{degreeAllowed, modulusAllowed, boundAllowed, settingsRefusal, small};
+
+// Refusal 3: is the degree allowed.
+fn degree_allowed(settings: Settings) -> bool
+    ensures { λ r. ⌜ r ≡ degreeAllowed settings ⌝ }
+{
+    let d = settings.degree;
+    match d {
+        2 | 4 | 8 | 16 | 32 | 64 => true,
+        _ => false,
+    }
+}
+
+// Refusal 5: is the modulus odd and in its range.
+fn modulus_allowed(settings: Settings) -> bool
+    ensures { λ r. ⌜ r ≡ modulusAllowed settings ⌝ }
+{
+    let q = settings.modulus;
+    if q % 2 != 1 {
+        return false;
+    }
+    if q < 3 {
+        return false;
+    }
+    q <= 2147483647
+}
+
+// Refusal 6: is the bound in its range.
+fn bound_allowed(settings: Settings) -> bool
+    ensures { λ r. ⌜ r ≡ boundAllowed settings ⌝ }
+{
+    let b = settings.bound;
+    if b < 1 {
+        return false;
+    }
+    b <= 127
+}
+
+// Refusals 3 to 6, the first that applies; 0 where the settings are allowed.
+pub fn settings_refusal(settings: Settings) -> u32
+    ensures { λ r. ⌜ r ≡ settingsRefusal settings ⌝ }
+{
+    if !degree_allowed(settings) {
+        return 3;
+    }
+    if settings.depth > 8 {
+        return 4;
+    }
+    if !modulus_allowed(settings) {
+        return 5;
+    }
+    if !bound_allowed(settings) {
+        return 6;
+    }
+    0
+}
+
+// One test more. The loops over tables ask all numbers, also after one that fails, so that the compiler takes several at a time.
+pub fn and_below(good: bool, limit: u32, x: u32) -> bool
+    ensures { λ r. ⌜ r ≡ (good && ltb x limit) ⌝ }
+{
+    if x < limit {
+        return good;
+    }
+    false
+}
+
+// Is every number of a table below the limit: refusal 8 at the modulus, refusal 10 at 2d.
+pub fn all_below(limit: u32, t: &[u32]) -> bool
+    ensures { λ r. ⌜ r ≡ all (λ x. ltb x limit) (now (t .entry)) ⌝ }
+{
+    let mut good = true;
+    for i in 0..t.len() {
+        good = and_below(good, limit, t[i]);
+    }
+    good
+}
+
+// The same for the first d places of an element.
+pub fn element_below(limit: u32, d: u32, a: [u32; 64]) -> bool
+    ensures { λ r. ⌜ (d ≤ 64 → r ≡ every d (λ k. ltb (getD a k 0) limit)) ⌝ }
+{
+    if d > 64 {
+        return false;
+    }
+    let n = d as usize;
+    let mut k: usize = 0;
+    while k < n {
+        if a[k] >= limit {
+            return false;
+        }
+        k += 1;
+    }
+    true
+}
+
+// The magnitude of a number. One is added before the sign changes: the least number of a width has a magnitude that is no number of that width.
+pub fn magnitude(x: i32) -> u32
+    ensures { λ r. ⌜ r ≡ natAbs x ⌝ }
+{
+    if x < 0 {
+        ((-(x + 1)) as u32) + 1
+    } else {
+        x as u32
+    }
+}
+
+pub fn magnitude_wide(x: i64) -> u64
+    ensures { λ r. ⌜ r ≡ natAbs x ⌝ }
+{
+    if x < 0 {
+        ((-(x + 1)) as u64) + 1
+    } else {
+        x as u64
+    }
+}
+
+fn and_within(good: bool, bound: u32, x: i32) -> bool
+    ensures { λ r. ⌜ r ≡ (good && within bound x) ⌝ }
+{
+    if magnitude(x) <= bound {
+        return good;
+    }
+    false
+}
+
+// Is every number of a table from −bound to bound.
+pub fn all_within(bound: u32, t: &[i32]) -> bool
+    ensures { λ r. ⌜ r ≡ small bound (now (t .entry)) ⌝ }
+{
+    let mut good = true;
+    for i in 0..t.len() {
+        good = and_within(good, bound, t[i]);
+    }
+    good
+}
+
+fn and_within_wide(good: bool, bound: u64, x: i64) -> bool
+    ensures { λ r. ⌜ r ≡ (good && within bound x) ⌝ }
+{
+    if magnitude_wide(x) <= bound {
+        return good;
+    }
+    false
+}
+
+pub fn all_within_wide(bound: u64, t: &[i64]) -> bool
+    ensures { λ r. ⌜ r ≡ small bound (now (t .entry)) ⌝ }
+{
+    let mut good = true;
+    for i in 0..t.len() {
+        good = and_within_wide(good, bound, t[i]);
+    }
+    good
+}

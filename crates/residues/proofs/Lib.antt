@@ -1,0 +1,10 @@
+pub mod Around
+pub mod Fill
+pub mod SignedFill
+pub mod Splice
+pub mod Folds
+pub mod Padding
+pub mod Signs
+pub mod Extension
+pub mod Turns
+pub mod Values

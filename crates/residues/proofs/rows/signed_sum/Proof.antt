@@ -1,0 +1,24 @@
+use mathlib.Core.Path.{sym, ap, _∙_}
+use lib.IntN.{pos, _+ℤ_}
+use Rattle.protocol.specs.Element.{modulo}
+use Rattle.residues.specs.Residues.{signed}
+use borrow.Author.Needs.{needs}
+use Rattle.residues.proofs.rows.signed_sum.Statement.{statement}
+use Rattle.residues.proofs.rows.signed_sum.Tie as tie
+
+minus-requires : tie.Need-minus-requires
+minus-requires c κs = search needs
+
+returns : tie.Need-returns
+unfolding signed
+returns c = let a = c .before .before .args in c .minus .ensures ∙ ap (λ b. modulo (a .q) (pos (a .x) +ℤ signed b (pos (a .y)))) (sym (c .before .if1 .taken))
+
+plus-requires : tie.Need-plus-requires
+plus-requires c κs = search needs
+
+returns-2 : tie.Need-returns-2
+unfolding signed modulo
+returns-2 c = let a = c .before .before .args in c .plus .ensures ∙ ap (λ b. modulo (a .q) (pos (a .x) +ℤ signed b (pos (a .y)))) (sym (c .before .if1 .left))
+
+pub signed-sum-spec : {M : Type 1} → statement M
+signed-sum-spec = tie.close (tie.spec minus-requires returns plus-requires returns-2)
