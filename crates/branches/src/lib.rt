@@ -1,6 +1,6 @@
 // What the extractor tests before the verifier runs: refusals 3 to 8, 10 and 12.
-use ranges::tests;
 use protocol::Settings;
+use ranges::tests;
 ghost use mathlib.Core.Path.{_≡_};
 ghost use Prim.Native.Nat.{_+_, _*_, _≤_};
 ghost use lib.ListN.{length};

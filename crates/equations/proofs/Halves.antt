@@ -1,11 +1,14 @@
 -- A key of allowed settings may be folded in each of its rounds.
 use mathlib.Core.Path.{_≡_, sym, ap, _∙_}
+use mathlib.Core.List.{List}
 use Prim.Native.Nat.{ℕ, suc, _*_, _-_, _<_, _≤_}
 use native.Mathlib.Nat as Nat
 use native.Mathlib.Omega.{arith}
+use lib.ListN.{getD}
 use Rattle.protocol.specs.declared.Settings.{Settings}
 use Rattle.protocol.specs.Settings.{cells}
 use Rattle.protocol.specs.Opening.{left, halfLeft}
+use Rattle.protocol.specs.Inputs.{Below}
 use Rattle.claims.proofs.Tables.{left-power, halfLeft-power, left-inside, twice-power}
 use Rattle.residues.specs.Folds.{Foldable}
 use Rattle.equations.proofs.Ready.{Ready}
@@ -20,12 +23,11 @@ module _ (S : Settings) (ready : Ready S) (t : ℕ) (l : t < S .depth) where
       twice : left S t ≡ 2 * halfLeft S t
       twice = left-power S t (omega arith) ∙ twice-power (S .depth) t l ∙ omega (arith, halfLeft-power S t l)
 
-  pub key-foldable : (h n : ℕ) → h ≡ halfLeft S t → n ≡ cells S → Foldable (S .modulus) (S .degree) h 0 0 n
-  key-foldable h n eh en = rw (eh, en) (record {
-    modulus = omega arith;
+  pub key-foldable : (h : ℕ) (key : List ℕ) → h ≡ halfLeft S t → Below (S .modulus) (cells S) key → Foldable (S .modulus) (S .degree) h 0 0 key
+  key-foldable h key eh b = rw eh (record {
     degree = omega arith;
     degree-most = omega arith;
     elements = half-most;
     down = omega arith;
-    inside = omega (arith, both-halves);
+    residues = record { long = omega (arith, both-halves, b .long); each = λ k m. omega (arith, ap (λ j. getD key j 0) (Nat.zero-add k), b .each k (omega (arith, both-halves))) };
   })

@@ -1,11 +1,10 @@
 // The key folded by all challenges.
 use protocol::Settings;
 ghost use mathlib.Core.Path.{_≡_};
-ghost use Prim.Native.Nat.{_≤_};
-ghost use lib.ListN.{length};
-ghost use Rattle.protocol.specs.Settings.{settingsRefusal, cells};
+ghost use Rattle.protocol.specs.Basic.{Provided};
 ghost use Rattle.protocol.specs.Opening.{keyAfter};
 ghost use Rattle.residues.specs.Elements.{elementAt};
+ghost use Rattle.equations.specs.Given.{KeyGiven};
 
 // Room for the largest key.
 fn room() -> [u32; 16384] {
@@ -14,7 +13,7 @@ fn room() -> [u32; 16384] {
 
 // The folds of a key by the challenges of all rounds, in place.
 pub fn fold_rounds(settings: Settings, challenges: &[u32], key: &mut [u32])
-    ensures { λ _. ⌜ (settingsRefusal settings ≡ 0 → length (now (key .entry)) ≡ cells settings → settings .depth ≤ length (now (challenges .entry)) → now (key .exit) ≡ keyAfter settings (now (challenges .entry)) (settings .depth) (now (key .entry))) ⌝ }
+    ensures { λ _. ⌜ Provided (KeyGiven settings (now (key .entry)) (now (challenges .entry))) (now (key .exit) ≡ keyAfter settings (now (challenges .entry)) (settings .depth) (now (key .entry))) ⌝ }
 {
     let rounds = settings.depth;
     if rounds > 8 {
@@ -34,7 +33,7 @@ pub fn fold_rounds(settings: Settings, challenges: &[u32], key: &mut [u32])
 
 // The first element of the folded key. The key itself stays.
 pub fn folded_key(settings: Settings, key: &[u32], challenges: &[u32]) -> [u32; 64]
-    ensures { λ r. ⌜ (settingsRefusal settings ≡ 0 → length (now (key .entry)) ≡ cells settings → settings .depth ≤ length (now (challenges .entry)) → r ≡ elementAt (settings .degree) (keyAfter settings (now (challenges .entry)) (settings .depth) (now (key .entry))) 0) ⌝ }
+    ensures { λ r. ⌜ Provided (KeyGiven settings (now (key .entry)) (now (challenges .entry))) (r ≡ elementAt (settings .degree) (keyAfter settings (now (challenges .entry)) (settings .depth) (now (key .entry))) 0) ⌝ }
 {
     let n = key.len();
     if n > 16384 {

@@ -4,14 +4,15 @@ pub mod keys;
 
 use protocol::Settings;
 ghost use mathlib.Core.Path.{_≡_};
-ghost use mathlib.Core.Bool.{true, _&&_};
+ghost use mathlib.Core.Bool.{_&&_};
 ghost use Prim.Native.Nat.{_+_, _*_, _/_, _%_, _^_, _<_, _≤_};
 ghost use lib.Dec.{eqb};
 ghost use lib.ListN.{length, getD};
-ghost use Rattle.protocol.specs.Basic.{every};
+ghost use Rattle.protocol.specs.Basic.{every, Provided};
 ghost use Rattle.protocol.specs.Element.{padded, residue, signed};
 ghost use Rattle.protocol.specs.Transcript.{roundHolds, nextClaim, finalBounded, endHolds};
-ghost use Rattle.protocol.specs.Settings.{settingsRefusal, cells};
+ghost use Rattle.protocol.specs.Settings.{settingsRefusal};
+ghost use Rattle.equations.specs.Given.{Evaluable, ElementsGiven, FinalGiven, KeyGiven};
 ghost use Rattle.equations.specs.Ends.{quotientIs, equationMet, endMet};
 
 // s modulo m, s being below 2m.
@@ -49,8 +50,7 @@ fn doubled_is(q: u32, x: u32, y: u32, z: u32) -> bool
 
 // Does a round hold.
 pub fn round_met(settings: Settings, claim: &[u32], c0: &[u32], c2: &[u32]) -> bool
-    ensures { λ r. ⌜ (settingsRefusal settings ≡ 0 → settings .degree ≤ length (now (claim .entry)) → settings .degree ≤ length (now (c0 .entry)) → settings .degree ≤ length (now (c2 .entry))
-        → r ≡ roundHolds settings (now (claim .entry)) (residue (now (c0 .entry))) (residue (now (c2 .entry)))) ⌝ }
+    ensures { λ r. ⌜ Provided (ElementsGiven settings (length (now (claim .entry))) (length (now (c0 .entry))) (length (now (c2 .entry)))) (r ≡ roundHolds settings (now (claim .entry)) (residue (now (c0 .entry))) (residue (now (c2 .entry)))) ⌝ }
 {
     let q = settings.modulus;
     let d = settings.degree as usize;
@@ -78,7 +78,7 @@ pub fn round_met(settings: Settings, claim: &[u32], c0: &[u32], c2: &[u32]) -> b
 
 // The same for elements that are passed by value.
 pub fn round_holds(settings: Settings, claim: [u32; 64], c0: [u32; 64], c2: [u32; 64]) -> bool
-    ensures { λ r. ⌜ (settingsRefusal settings ≡ 0 → r ≡ roundHolds settings claim (residue c0) (residue c2)) ⌝ }
+    ensures { λ r. ⌜ Provided (settingsRefusal settings ≡ 0) (r ≡ roundHolds settings claim (residue c0) (residue c2)) ⌝ }
 {
     round_met(settings, &claim, &c0, &c2)
 }
@@ -91,7 +91,7 @@ pub fn next_claim(
     c1: [u32; 64],
     c2: [u32; 64],
 ) -> [u32; 64]
-    ensures { λ r. ⌜ (settingsRefusal settings ≡ 0 → r ≡ padded (settings .degree) (nextClaim settings e (residue c0) (residue c1) (residue c2))) ⌝ }
+    ensures { λ r. ⌜ Provided (Evaluable settings c0 c1 c2) (r ≡ padded (settings .degree) (nextClaim settings e (residue c0) (residue c1) (residue c2))) ⌝ }
 {
     let q = settings.modulus;
     let d = settings.degree;
@@ -102,7 +102,7 @@ pub fn next_claim(
 
 // A power of half, the inverse of 2 modulo q.
 pub fn half_power(q: u32, exponent: u32) -> u32
-    ensures { λ r. ⌜ (0 < q → r ≡ ((q + 1) / 2) ^ exponent % q) ⌝ }
+    ensures { λ r. ⌜ Provided (0 < q) (r ≡ ((q + 1) / 2) ^ exponent % q) ⌝ }
 {
     if q == 0 {
         return 0;
@@ -121,7 +121,7 @@ pub fn half_power(q: u32, exponent: u32) -> u32
 // Has the final element no coefficient beyond ±n·B.
 fn final_bounded(settings: Settings, f: &[i32]) -> bool
     requires { ⌜ settings .degree ≤ length (now f) ⌝ }
-    ensures { λ r. ⌜ (settingsRefusal settings ≡ 0 → r ≡ finalBounded settings (signed (now (f .entry)))) ⌝ }
+    ensures { λ r. ⌜ Provided (settingsRefusal settings ≡ 0) (r ≡ finalBounded settings (signed (now (f .entry)))) ⌝ }
 {
     let d = settings.degree as usize;
     let limit = sizes::left_bound(settings, settings.depth);
@@ -166,7 +166,7 @@ fn quotients_are(q: u32, d: usize, n: u32, sums: &[u64], claim: &[u32]) -> bool
 // Is the claim half^L·f·g, where f has no coefficient beyond ±n·B. The product stays as sums that are not reduced: half^L is 1/2^L.
 fn equation_met(settings: Settings, claim: &[u32], f: &[i32], g: &[u32]) -> bool
     requires { ⌜ (settings .degree ≤ length (now claim)) × (settings .degree ≤ length (now f)) × (settings .degree ≤ length (now g)) ⌝ }
-    ensures { λ r. ⌜ (settingsRefusal settings ≡ 0 → finalBounded settings (signed (now (f .entry))) ≡ true → r ≡ equationMet settings (now (claim .entry)) (signed (now (f .entry))) (residue (now (g .entry)))) ⌝ }
+    ensures { λ r. ⌜ Provided (FinalGiven settings (signed (now (f .entry)))) (r ≡ equationMet settings (now (claim .entry)) (signed (now (f .entry))) (residue (now (g .entry)))) ⌝ }
 {
     let q = settings.modulus;
     let d = settings.degree as usize;
@@ -185,8 +185,7 @@ fn equation_met(settings: Settings, claim: &[u32], f: &[i32], g: &[u32]) -> bool
 
 // Is the end met: the bound first, then the equation.
 pub fn ending_met(settings: Settings, claim: &[u32], f: &[i32], g: &[u32]) -> bool
-    ensures { λ r. ⌜ (settingsRefusal settings ≡ 0 → settings .degree ≤ length (now (claim .entry)) → settings .degree ≤ length (now (f .entry)) → settings .degree ≤ length (now (g .entry))
-        → r ≡ endMet settings (now (claim .entry)) (signed (now (f .entry))) (residue (now (g .entry)))) ⌝ }
+    ensures { λ r. ⌜ Provided (ElementsGiven settings (length (now (claim .entry))) (length (now (f .entry))) (length (now (g .entry)))) (r ≡ endMet settings (now (claim .entry)) (signed (now (f .entry))) (residue (now (g .entry)))) ⌝ }
 {
     let d = settings.degree as usize;
     if claim.len() < d {
@@ -206,7 +205,7 @@ pub fn ending_met(settings: Settings, claim: &[u32], f: &[i32], g: &[u32]) -> bo
 
 // The same for elements that are passed by value.
 pub fn end_holds(settings: Settings, claim: [u32; 64], f: [i32; 64], g: [u32; 64]) -> bool
-    ensures { λ r. ⌜ (settingsRefusal settings ≡ 0 → r ≡ endMet settings claim (signed f) (residue g)) ⌝ }
+    ensures { λ r. ⌜ Provided (settingsRefusal settings ≡ 0) (r ≡ endMet settings claim (signed f) (residue g)) ⌝ }
 {
     ending_met(settings, &claim, &f, &g)
 }
@@ -219,7 +218,7 @@ pub fn end_met(
     key: &[u32],
     challenges: &[u32],
 ) -> bool
-    ensures { λ r. ⌜ (settingsRefusal settings ≡ 0 → length (now (key .entry)) ≡ cells settings → settings .depth ≤ length (now (challenges .entry)) → r ≡ (finalBounded settings (signed f) && endHolds settings (now (key .entry)) (now (challenges .entry)) claim (signed f))) ⌝ }
+    ensures { λ r. ⌜ Provided (KeyGiven settings (now (key .entry)) (now (challenges .entry))) (r ≡ (finalBounded settings (signed f) && endHolds settings (now (key .entry)) (now (challenges .entry)) claim (signed f))) ⌝ }
 {
     let g = keys::folded_key(settings, key, challenges);
     end_holds(settings, claim, f, g)

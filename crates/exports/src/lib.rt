@@ -4,8 +4,8 @@
 // answers the number of the refusal, 0 where nothing is refused.
 mod storing;
 
-use ranges::tests;
 use protocol::Settings;
+use ranges::tests;
 ghost use mathlib.Core.Path.{_≡_};
 ghost use Rattle.protocol.specs.Settings.{settingsRefusal};
 ghost use Rattle.protocol.specs.Session as moves;

@@ -19,6 +19,7 @@ use Rattle.protocol.proofs.Tests.{least-first}
 use Rattle.claims.proofs.Bounds.{Bounded, rotate-bounded, plus-bounded}
 use Rattle.residues.proofs.Fill.{filled, filled-at, filled-behind, filled-length, filled-ext, filled-again}
 use Rattle.relaxed.proofs.Products.{rotate-ext}
+use Rattle.residues.proofs.Around.{rotate-mod}
 use Rattle.extraction.specs.Bounds.{Summable, Doubling}
 use Rattle.extraction.specs.Steps.{rotatedAdded, summed, doublings, divided}
 
@@ -128,10 +129,6 @@ module _ (d k D : ℕ) (is : d ≡ 2 ^ D) (p : 0 < k) (l : k < 2 * d) where
   ]
 
 -- ---- the sums
-
-pub rotate-mod : (d e : ℕ) (a : Element) (k : ℕ) → rotate d (e % (2 * d)) a k ≡ rotate d e a k
-unfolding rotate
-rotate-mod d e a k = ap (λ x. around d a (k + (2 * d - x))) (Nat.mod-mod e (2 * d))
 
 pub summed-bounded : (d k : ℕ) → 0 < d → (B : ℕ) (a : Element) → Bounded d B a → (j : ℕ) → Bounded d (2 ^ j * B) (summed d k j a)
 unfolding summed

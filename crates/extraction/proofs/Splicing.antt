@@ -10,7 +10,7 @@ use lib.Seq.{length-take-le, take-at, drop-at, drop-drop, getD-take, getD-drop, 
 use borrow.Rule.Slice.PartMut.{putMid}
 use Rattle.protocol.specs.Basic.{tabulate, flat}
 use Rattle.protocol.proofs.Reading.{tabulate-ext, flat-length, flat-at, cell-inside, cell-element, cell-place}
-use Rattle.residues.proofs.Folds.{tail-all}
+use Rattle.residues.proofs.Parts.{tail-all}
 use Rattle.residues.proofs.Fill.{filled}
 use Rattle.extraction.specs.Vectors.{spliced}
 

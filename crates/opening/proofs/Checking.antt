@@ -1,7 +1,7 @@
 -- The verifier's turns: the claim and the verdict so far, one round after the other, and the verdict at the end.
-use mathlib.Core.Path.{_≡_, refl, sym, ap, ap₂, _∙_}
+use mathlib.Core.Path.{_≡_, refl, sym, ap, ap₂, _∙_, subst}
 use mathlib.Core.Bool.{true, _&&_}
-use mathlib.Core.List.{List}
+use mathlib.Core.List.{List, []}
 use Prim.Native.Nat.{ℕ, zero, suc, _*_, _^_, _<_}
 use native.Mathlib.Numerals.{add-one}
 use native.Mathlib.Omega.{arith}
@@ -11,15 +11,17 @@ use lib.ListN.{length, getD}
 use Rattle.protocol.specs.declared.Settings.{Settings}
 use Rattle.protocol.specs.Basic.{tabulate, every, within}
 use Rattle.protocol.specs.Element.{modulo, padded, residue, residueAt, signed, paddedSigned}
-use Rattle.protocol.specs.Settings.{size, half}
+use Rattle.protocol.specs.Settings.{settingsRefusal, size, half}
 use Rattle.protocol.specs.Opening.{roundElement, keyAfter, messageAfter, finalElement}
 use Rattle.protocol.specs.Transcript.{Transcript, element, roundHolds, nextClaim, finalBounded, endHolds, ending, claimAfter, holdsAt, closes, accepted, transcriptOf}
 use Rattle.protocol.specs.Session.{part}
 use Rattle.protocol.specs.Calls.{polynomial}
+use Rattle.protocol.proofs.Reading.{tabulate-at}
 use Rattle.claims.proofs.Tables.{round-at}
 use Rattle.claims.proofs.Ranges.{padded-at, padded-signed-at, reduced-below, commitment-below, round-below, last-length}
 use Rattle.claims.proofs.Agreement.{Same, every-ext, product-same, claim-same, round-same}
 use Rattle.residues.specs.Elements.{elementAt}
+use Rattle.equations.specs.Given.{Evaluable}
 use Rattle.equations.specs.Ends.{endMet}
 use Rattle.equations.proofs.Ending.{end-by-key}
 use Rattle.opening.specs.declared.turns.State.{State}
@@ -28,6 +30,19 @@ use Rattle.opening.specs.Turns.{tested, CheckedAt}
 pub tested-done : (S : Settings) (s : State) (p : List (List ℕ)) (e : ℕ) → tested S s p e .done ≡ suc (s .done)
 unfolding tested
 tested-done S s p e = add-one (s .done)
+
+-- the prover's polynomial is residues
+module _ (S : Settings) (pq : 0 < S .modulus) (allowed : settingsRefusal S ≡ 0) (t : ℕ) (key : List ℕ) (message : List ℤ) (p : List (List ℕ)) (is : p ≡ polynomial S t key message) where
+  part-read : (j : ℕ) → j < 3 → (k : ℕ) → k < S .degree → getD (part p j) k 0 < S .modulus
+  unfolding part polynomial
+  part-read j l k h =
+      let c = round-below S pq t key message j in
+      subst (λ x. x < S .modulus)
+      (sym (ap (λ a. getD (getD a j []) k 0) is ∙ ap (λ a. getD a k 0) (tabulate-at 3 (λ i. padded (S .degree) (roundElement S t key message i)) [] j l) ∙ padded-at (S .degree) (roundElement S t key message j) k (omega (arith, c .long))))
+      (c .each k h)
+
+  pub polynomial-read : Evaluable S (part p 0) (part p 1) (part p 2)
+  polynomial-read = record { allowed = allowed; first = part-read 0 (omega arith); second = part-read 1 (omega arith); third = part-read 2 (omega arith) }
 
 module _ (S : Settings) (pq : 0 < S .modulus) (G : List ℕ) (M : List ℤ) (E R : List ℕ) where
   open Settings S using (degree as d, depth as L, modulus as q)

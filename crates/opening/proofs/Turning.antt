@@ -7,25 +7,26 @@ use native.Mathlib.Omega.{arith}
 use lib.IntN.{ℤ}
 use lib.ListN.{length, getD}
 use Rattle.protocol.specs.declared.Settings.{Settings}
-use Rattle.protocol.specs.Settings.{settingsRefusal}
 use Rattle.protocol.specs.Opening.{keyAfter, messageAfter}
 use Rattle.protocol.specs.Calls.{openingRefusal, roundAnswer, polynomial, foldKeyExit, foldMessageExit}
+use Rattle.protocol.specs.Session.{part}
 use Rattle.protocol.specs.Promises.{Folded}
 use Rattle.claims.proofs.Honest.{Given, modulus-positive}
 use Rattle.claims.proofs.Prover.{round-answer, fold-key, fold-message}
 use Rattle.sizes.proofs.Limits.{degree-most}
 use Rattle.opening.specs.declared.turns.State.{State}
-use Rattle.opening.specs.Turns.{storedRound, tested, TablesAt, CheckedAt, ProverMove, ProverTurn, VerifierTurn}
+use Rattle.opening.specs.Turns.{storedRound, Storable, tested, TablesAt, CheckedAt, ProverMove, ProverTurn, VerifierTurn}
 use Rattle.opening.proofs.Inputs.{lent}
 use Rattle.opening.proofs.Storing.{front-length, front-round}
-use Rattle.opening.proofs.Checking.{tested-done, checked-more}
+use Rattle.equations.specs.Given.{Evaluable}
+use Rattle.opening.proofs.Checking.{tested-done, polynomial-read, checked-more}
 
 -- ---- the prover's move, from its round, its fold and its storing
 
 module _ (S : Settings) (t e : ℕ) (key : List ℕ) (message : List ℤ) (rounds : List ℕ) (p : List (List ℕ)) (number : ℕ) (key′ : List ℕ) (message′ : List ℤ) (rounds′ : List ℕ)
     (polynomial-is : p ≡ roundAnswer S t key message .elements)
     (folds : Folded S t e key message number key′ message′)
-    (stores : S .degree ≤ 64 → t < 8 → (3 * t + 3) * S .degree ≤ length rounds → rounds′ ≡ storedRound (S .degree) t p rounds) where
+    (stores : Storable (S .degree) t (length rounds) → rounds′ ≡ storedRound (S .degree) t p rounds) where
   open Settings S using (degree as d, depth as L)
 
   module _ (G : List ℕ) (M : List ℤ) (E R : List ℕ) (passed : openingRefusal S G M E R ≡ 0) (l : t < L) (e-is : e ≡ getD E t 0) (at : TablesAt S G M E R t key message rounds) where
@@ -54,7 +55,7 @@ module _ (S : Settings) (t e : ℕ) (key : List ℕ) (message : List ℤ) (round
       done-most = omega arith;
       key-is = folds .key-exit ∙ (λ i. foldKeyExit S t (e-is i) (at .key-is i) (at .message-is i)) ∙ fold-key ok t l;
       message-is = folds .message-exit ∙ (λ i. foldMessageExit S t (e-is i) (at .key-is i) (at .message-is i)) ∙ fold-message ok t l;
-      rounds-is = stores (degree-most S (ok .settings)) (omega (arith, ok .settings .depth-most)) room
+      rounds-is = stores (record { degree-most = degree-most S (ok .settings); turn = omega (arith, ok .settings .depth-most); inside = room })
           ∙ (λ i. storedRound d t (given-polynomial i) (at .rounds-is i)) ∙ front-round S (modulus-positive S (ok .settings)) G M E R long t l;
     }
 
@@ -78,12 +79,12 @@ module _ (S : Settings) (E : List ℕ) (s : State) (key : List ℕ) (message : L
       turns = λ G M R passed at ch. let (p-is, next) = move .moves G M E R passed l e-is at in rest .turns G M R passed e-is p-is next ch;
     }
 
-    pub verifier-goes : (next : State) → (settingsRefusal S ≡ 0 → next ≡ tested S s p e) → ProverTurn S E next key message rounds r key′ message′ rounds′
+    pub verifier-goes : (next : State) → (Evaluable S (part p 0) (part p 1) (part p 2) → next ≡ tested S s p e) → ProverTurn S E next key message rounds r key′ message′ rounds′
         → VerifierTurn S E s key message rounds r key′ message′ rounds′ p e
     verifier-goes next next-is rest = record {
       turns = λ G M R passed e-is p-is at ch.
           let given = lent S G M E R passed in
-          let is : next ≡ tested S s (polynomial S (s .done) (keyAfter S E (s .done) G) (messageAfter S E (s .done) M)) (getD E (s .done) 0) = next-is (given .allowed) ∙ λ i. tested S s (p-is i) (e-is i) in
+          let is : next ≡ tested S s (polynomial S (s .done) (keyAfter S E (s .done) G) (messageAfter S E (s .done) M)) (getD E (s .done) 0) = next-is (polynomial-read S (modulus-positive S (given .given .settings)) (given .allowed) (s .done) _ _ p p-is) ∙ λ i. tested S s (p-is i) (e-is i) in
           let done-is : suc (s .done) ≡ next .done = sym (ap (λ n. n .done) is ∙ tested-done S s _ _) in
           rest .turns G M R passed
           (subst (λ t. TablesAt S G M E R t key message rounds) done-is at)

@@ -2,6 +2,7 @@
 -- G, M and R are the key, the message and the table for the round elements as they were lent, E the challenges.
 --
 --   storedRound d t p l    the table l in which the three elements of the polynomial p stand as those of round t + 1
+--   Storable d t n         a table of n numbers has room for the elements of round t + 1
 --   tested S s p e         where an opening stands once the verifier took the polynomial p and the challenge X^e, s being where it stood
 --   TablesAt .. t ..       the three tables after t rounds
 --   CheckedAt .. t ..      the verifier's claim and whether every round so far held, after t rounds
@@ -27,6 +28,11 @@ use Rattle.opening.specs.declared.turns.State.{State}
 
 unfoldable pub storedRound : ℕ → ℕ → List (List ℕ) → List ℕ → List ℕ
 storedRound d t p l = spliced (λ k. getD (part p 2) k 0) (3 * t * d + 2 * d) d (spliced (λ k. getD (part p 1) k 0) (3 * t * d + d) d (spliced (λ k. getD (part p 0) k 0) (3 * t * d) d l))
+
+pub record Storable (d t n : ℕ) : Type 0 where
+  pub degree-most : d ≤ 64
+  pub turn : t < 8
+  pub inside : (3 * t + 3) * d ≤ n
 
 unfoldable pub tested : Settings → State → List (List ℕ) → ℕ → State
 tested S s p e = record {

@@ -1,10 +1,11 @@
 // The verifier's end.
 use crate::turns::State;
-use residues::elements;
 use protocol::Settings;
 use protocol::Verdict;
+use residues::elements;
 ghost use mathlib.Core.Path.{_≡_};
 ghost use mathlib.Core.Bool.{_&&_};
+ghost use Rattle.protocol.specs.Basic.{Provided};
 ghost use Rattle.protocol.specs.Element.{signed, residue};
 ghost use Rattle.protocol.specs.Settings.{settingsRefusal};
 ghost use Rattle.protocol.specs.Session as session;
@@ -13,7 +14,7 @@ ghost use Rattle.equations.specs.Ends.{endMet};
 
 // What the verifier says once all turns are done, the key being folded by all challenges.
 pub fn verdict(settings: Settings, ended: State, last: [i32; 64], key: &[u32]) -> Verdict
-    ensures { λ r. ⌜ (settingsRefusal settings ≡ 0 → r ≡ session.verdict (ended .holds && endMet settings (ended .claim) (signed last) (residue (elementAt (settings .degree) (now (key .entry)) 0)))) ⌝ }
+    ensures { λ r. ⌜ Provided (settingsRefusal settings ≡ 0) (r ≡ session.verdict (ended .holds && endMet settings (ended .claim) (signed last) (residue (elementAt (settings .degree) (now (key .entry)) 0)))) ⌝ }
 {
     if !ended.holds {
         return Verdict::Rejected;

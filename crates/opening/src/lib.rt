@@ -5,10 +5,10 @@ mod storage;
 mod turns;
 
 use crate::turns::State;
-use residues::elements;
 use protocol::Opened;
 use protocol::Settings;
 use protocol::Verdict;
+use residues::elements;
 ghost use Rattle.protocol.specs.Promises.{Opening};
 
 // The commitment, the round elements, the final element and the verdict. Both tables stay as all folds leave them.

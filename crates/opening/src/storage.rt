@@ -1,9 +1,10 @@
 // Where the round elements of a whole opening are stored: element 3t + j of the table is c_j of round t + 1.
 ghost use mathlib.Core.Path.{_≡_};
-ghost use Prim.Native.Nat.{_+_, _*_, _<_, _≤_};
+ghost use Prim.Native.Nat.{_+_, _≤_};
+ghost use Rattle.protocol.specs.Basic.{Provided};
 ghost use lib.ListN.{length, getD};
 ghost use Rattle.residues.specs.Lists.{spliced};
-ghost use Rattle.opening.specs.Turns.{storedRound};
+ghost use Rattle.opening.specs.Turns.{storedRound, Storable};
 
 // Writes the first d places of an element from place `at` on.
 fn store_element(d: usize, a: [u32; 64], at: usize, out: &mut [u32])
@@ -17,9 +18,9 @@ fn store_element(d: usize, a: [u32; 64], at: usize, out: &mut [u32])
     }
 }
 
-// Writes the three elements of round t + 1. A table without room for them stays as it is.
+// Writes the three elements of round t + 1.
 pub fn store_round(d: u32, t: u32, polynomial: [[u32; 64]; 3], out: &mut [u32])
-    ensures { λ _. ⌜ (d ≤ 64 → t < 8 → (3 * t + 3) * d ≤ length (now (out .entry)) → now (out .exit) ≡ storedRound d t polynomial (now (out .entry))) ⌝ }
+    ensures { λ _. ⌜ Provided (Storable d t (length (now (out .entry)))) (now (out .exit) ≡ storedRound d t polynomial (now (out .entry))) ⌝ }
 {
     if d > 64 {
         return;

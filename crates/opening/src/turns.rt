@@ -1,10 +1,12 @@
 // The turns of a whole opening: the prover moves, then the verifier, while rounds are left.
 use crate::storage;
-use residues::elements;
 use protocol::Settings;
+use residues::elements;
 ghost use mathlib.Core.Path.{_≡_};
 ghost use Prim.Native.Nat.{_+_, _<_};
-ghost use Rattle.protocol.specs.Settings.{settingsRefusal};
+ghost use Rattle.protocol.specs.Basic.{Provided};
+ghost use Rattle.protocol.specs.Session.{part};
+ghost use Rattle.equations.specs.Given.{Evaluable};
 ghost use Rattle.opening.specs.Turns.{tested, ProverMove, ProverTurn, VerifierTurn};
 
 // Where an opening stands: the rounds done, the verifier's claim, and whether every round so far held.
@@ -34,7 +36,7 @@ fn prove_round(
 // The verifier's move: the round's equation, and the next claim.
 fn check_round(settings: Settings, state: State, polynomial: [[u32; 64]; 3], e: u32) -> State
     requires { ⌜ state .done < settings .depth ⌝ }
-    ensures { λ r. ⌜ ((r .done ≡ state .done + 1) × (settingsRefusal settings ≡ 0 → r ≡ tested settings state polynomial e)) ⌝ }
+    ensures { λ r. ⌜ ((r .done ≡ state .done + 1) × Provided (Evaluable settings (part polynomial 0) (part polynomial 1) (part polynomial 2)) (r ≡ tested settings state polynomial e)) ⌝ }
 {
     let c0 = polynomial[0];
     let c1 = polynomial[1];

@@ -8,14 +8,26 @@ use lib.IntN.{ℤ, pos, negℤ}
 use lib.ListN.{length, getD}
 use Rattle.protocol.specs.Element.{modulo, around, residue}
 use Rattle.residues.specs.Lists.{spliced}
-use Rattle.residues.specs.Residues.{turned}
-use Rattle.residues.proofs.Around.{around-first, around-third}
-use Rattle.residues.proofs.Extension.{turned-lt, turned-first, turned-next}
+use Rattle.protocol.proofs.Modulo.{modulo-lt}
+use Rattle.residues.proofs.Around.{around-first, around-third, around-next}
+use Rattle.residues.proofs.Signs.{negative-again}
 use Rattle.residues.proofs.Splice.{spliced-inside}
-use Rattle.products.specs.Products.{extension, narrowed, addRows}
+use Rattle.products.specs.Products.{turned, extension, narrowed, addRows}
 use Rattle.products.proofs.Rows.{narrowed-at, rows-front, extension-at}
 
 module _ (q d : ℕ) (p : 0 < q) (pd : 0 < d) (a : List ℕ) where
+  turned-lt : (y : ℕ) → turned q d a y < q
+  unfolding turned
+  turned-lt y = modulo-lt q p (around d (residue a) y)
+
+  turned-first : (k : ℕ) → k < d → getD a k 0 % q ≡ turned q d a k
+  unfolding turned modulo residue
+  turned-first k h = sym (ap (modulo q) (around-first d (residue a) k h))
+
+  turned-next : (y : ℕ) → modulo q (negℤ (pos (turned q d a y))) ≡ turned q d a (y + d)
+  unfolding turned
+  turned-next y = negative-again q p (around d (residue a) y) ∙ sym (ap (modulo q) (around-next d (residue a) y pd))
+
   -- the rows at the front of a room x₀: sums over them are those over the extension, whatever stands behind them
   module _ (w : q ≤ 2 ^ 32) (x₀ x : List ℕ) (e : x ≡ spliced (turned q d a) 0 (3 * d) x₀) where
     front-at : (y : ℕ) → y < 3 * d → getD (narrowed x) y 0 ≡ getD (extension q d a) y 0
@@ -25,7 +37,7 @@ module _ (q d : ℕ) (p : 0 < q) (pd : 0 < d) (a : List ℕ) where
         ∙ ap (λ l. getD l y 0 % 2 ^ 32) e
         ∙ ap (λ n. getD (spliced (turned q d a) 0 (3 * d) x₀) n 0 % 2 ^ 32) (sym (Nat.zero-add y))
         ∙ ap (λ n. n % 2 ^ 32) (spliced-inside (turned q d a) 0 (3 * d) x₀ (omega arith) y h)
-        ∙ Nat.mod-eq-of-lt (omega (arith, turned-lt q d p pd a y))
+        ∙ Nat.mod-eq-of-lt (omega (arith, turned-lt y))
         ∙ sym (extension-at q d p pd a y h)
 
     pub extension-rows : (f : List ℤ) (s : List ℕ) → addRows d f (narrowed x) d s ≡ addRows d f (extension q d a) d s
@@ -34,10 +46,10 @@ module _ (q d : ℕ) (p : 0 < q) (pd : 0 < d) (a : List ℕ) where
   -- what stands at place k of each row, v being the residue
   module _ (k v : ℕ) (h : k < d) (e : v ≡ getD a k 0 % q) where
     pub place-first : v ≡ turned q d a k
-    place-first = e ∙ turned-first q d p pd a k h
+    place-first = e ∙ turned-first k h
 
     pub place-second : modulo q (negℤ (pos v)) ≡ turned q d a (d + k)
-    place-second = ap (λ n. modulo q (negℤ (pos n))) place-first ∙ turned-next q d p pd a k ∙ ap (turned q d a) (Nat.add-comm k d)
+    place-second = ap (λ n. modulo q (negℤ (pos n))) place-first ∙ turned-next k ∙ ap (turned q d a) (Nat.add-comm k d)
 
     pub place-third : v ≡ turned q d a (2 * d + k)
     unfolding turned

@@ -1,6 +1,7 @@
 -- The product of an element of whole numbers with an element of residues, by rows of sums that are reduced once, at the end.
 --
---   extension q d a   the residues at the places 0 to 3d − 1 of a, going round by X^d = −1: each rotation of a, and its negative, is d of them in a row
+--   turned q d a y    what stands at place y of the element a, going round by X^d = −1, modulo q
+--   extension q d a   that at the places 0 to 3d − 1: each rotation of a, and its negative, is d of them in a row
 --   start d z j       where X^j·a, or for a negative z its negative, begins among them
 --   addRow d m at ..  the sums s with m times the d residues from place `at` on added, modulo 2^64
 --   nextRow d f x j s the sums s with row j added, which is f_j·X^j·a
@@ -11,13 +12,18 @@
 --   total n f         f 0 + f 1 + … + f (n − 1)
 --   term d f x k j    what row j adds to sum k
 --   reducedSums q d s the sums modulo q, an element
---   Rows d ..         are the tables long enough
+--   Extendable q d ..  may an element of a length be extended in a room of another
+--   Rows d ..          are the tables of a product long enough
+--   Reducible q d ..   are there sums to reduce
 use mathlib.Core.List.{List, _++_, map}
-use Prim.Native.Nat.{ℕ, zero, suc, _+_, _*_, _-_, _%_, _^_, _≤_}
+use Prim.Native.Nat.{ℕ, zero, suc, _+_, _*_, _-_, _%_, _^_, _<_, _≤_}
 use lib.IntN.{ℤ, pos, negsuc, natAbs}
 use lib.ListN.{getD, drop}
 use Rattle.protocol.specs.Basic.{tabulate}
 use Rattle.protocol.specs.Element.{modulo, around, residue, zeros, padded}
+
+unfoldable pub turned : ℕ → ℕ → List ℕ → ℕ → ℕ
+turned q d a y = modulo q (around d (residue a) y)
 
 unfoldable pub extension : ℕ → ℕ → List ℕ → List ℕ
 extension q d a = tabulate (3 * d) (λ y. modulo q (around d (residue a) y)) ++ zeros (192 - 3 * d)
@@ -58,6 +64,18 @@ pub record Rows (d f x s : ℕ) : Type 0 where
   pub degree : d ≤ 64
   pub coefficients : d ≤ f
   pub residues : 3 * d ≤ x
+  pub sums : d ≤ s
+
+pub record Extendable (q d a room : ℕ) : Type 0 where
+  pub modulus : 0 < q
+  pub degree : 0 < d
+  pub degree-most : d ≤ 64
+  pub coefficients : d ≤ a
+  pub places : 3 * d ≤ room
+
+pub record Reducible (q d s : ℕ) : Type 0 where
+  pub modulus : 0 < q
+  pub degree-most : d ≤ 64
   pub sums : d ≤ s
 
 -- the first d sums, modulo q, as an element that is passed by value

@@ -5,9 +5,9 @@ ghost use mathlib.Core.Path.{_≡_};
 ghost use mathlib.Core.List.{List};
 ghost use Prim.Native.Nat.{ℕ, _+_, _*_, _%_, _^_, _<_, _≤_};
 ghost use lib.ListN.{length};
+ghost use Rattle.protocol.specs.Basic.{Provided};
 ghost use Rattle.residues.specs.Lists.{spliced};
-ghost use Rattle.residues.specs.Residues.{turned};
-ghost use Rattle.products.specs.Products.{narrowed, start, addRow, addRows, addFour, Rows, reducedSums};
+ghost use Rattle.products.specs.Products.{turned, narrowed, start, addRow, addRows, addFour, Extendable, Rows, Reducible, reducedSums};
 
 fn wide(x: u32) -> u64
     ensures { λ r. ⌜ r ≡ x ⌝ }
@@ -42,7 +42,7 @@ fn write_rows(q: u32, d: usize, a: &[u32], y: &mut [u64])
 
 // The extension of a, at the front of a lent room x. What stands behind it stays.
 pub fn extend(q: u32, d: u32, a: &[u32], x: &mut [u64])
-    ensures { λ _. ⌜ (0 < q → 0 < d → d ≤ 64 → d ≤ length (now (a .entry)) → 3 * d ≤ length (now (x .entry)) → now (x .exit) ≡ spliced (turned q d (now (a .entry))) 0 (3 * d) (now (x .entry))) ⌝ }
+    ensures { λ _. ⌜ Provided (Extendable q d (length (now (a .entry))) (length (now (x .entry)))) (now (x .exit) ≡ spliced (turned q d (now (a .entry))) 0 (3 * d) (now (x .entry))) ⌝ }
 {
     let n = d as usize;
     if q == 0 {
@@ -176,7 +176,7 @@ fn add_rows(d: usize, f: &[i32], x: &[u64], sums: &mut [u64])
 
 // The product of f with the element whose extension stands at the front of x, added to the sums modulo 2^64.
 pub fn accumulate(d: u32, f: &[i32], x: &[u64], sums: &mut [u64])
-    ensures { λ _. ⌜ (Rows d (length (now (f .entry))) (length (now (x .entry))) (length (now (sums .entry))) → now (sums .exit) ≡ addRows d (now (f .entry)) (narrowed (now (x .entry))) d (now (sums .entry))) ⌝ }
+    ensures { λ _. ⌜ Provided (Rows d (length (now (f .entry))) (length (now (x .entry))) (length (now (sums .entry)))) (now (sums .exit) ≡ addRows d (now (f .entry)) (narrowed (now (x .entry))) d (now (sums .entry))) ⌝ }
 {
     let n = d as usize;
     if n > 64 {
@@ -203,7 +203,7 @@ fn remainder(q: u32, s: u64) -> u32
 
 // The sums modulo q.
 pub fn reduced_sums(q: u32, d: u32, sums: &[u64]) -> [u32; 64]
-    ensures { λ r. ⌜ (0 < q → d ≤ 64 → d ≤ length (now (sums .entry)) → r ≡ reducedSums q d (now (sums .entry))) ⌝ }
+    ensures { λ r. ⌜ Provided (Reducible q d (length (now (sums .entry)))) (r ≡ reducedSums q d (now (sums .entry))) ⌝ }
 {
     let mut a = [0u32; 64];
     if q == 0 {

@@ -7,7 +7,7 @@ fn refused(number: u32) {
 
 // The first bytes of a slice.
 fn print(out: &[u8], count: usize) {
-    if length <= out.len() {
+    if count <= out.len() {
         io::write_all(1, &out[..count]);
     }
 }

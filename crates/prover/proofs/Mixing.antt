@@ -5,7 +5,7 @@ use Prim.Native.Nat.{ℕ, _+_, _*_, _-_, _%_, _^_, _<_, _≤_}
 use native.Mathlib.Nat as Nat
 use native.Mathlib.Omega.{arith}
 use lib.IntN.{ℤ, pos, natAbs, _+ℤ_, _*ℤ_}
-use lib.ListN.{length, getD}
+use lib.ListN.{length, getD, take, drop}
 use Rattle.algebra.specs.Ring.{CommRing}
 use Rattle.algebra.specs.Integers.{ℤ-ring}
 use Rattle.algebra.specs.Residues.{Zmod}
@@ -19,10 +19,12 @@ use Rattle.protocol.proofs.Modulo.{modulo-lt, modulo-add, modulo-times}
 use Rattle.protocol.proofs.Reading.{cell-inside, tabulate-ext}
 use Rattle.claims.proofs.Agreement.{Same}
 use Rattle.claims.proofs.Readings.{readℤ-inj, readq-ext, readq-inj, read-ext, read-plus, read-inner}
-use Rattle.residues.proofs.Fill.{filled, filled-at, filled-length, zeros-length}
+use Rattle.residues.specs.Residues.{Residues}
+use Rattle.residues.proofs.Parts.{tail-at, tail-length}
+use Rattle.residues.proofs.Fill.{filled, filled-ext, filled-at, filled-length, zeros-length}
 use Rattle.residues.proofs.SignedFill.{signed-zeros-length}
 use Rattle.residues.proofs.Padding.{padded-at}
-use Rattle.prover.specs.Messages.{Tables, Halved}
+use Rattle.prover.specs.Messages.{SmallHalf, Tables, Halved}
 use Rattle.prover.specs.Sums.{scaled, mixed}
 
 -- ---- the sums of the halves, as the code writes them to the front of a table
@@ -40,11 +42,43 @@ module _ (q d h : ℕ) (m : List ℤ) (G : List ℕ) (t : Halved q d h m G) wher
   pub key-room : 2 * (h * d) ≤ length G
   key-room = omega (arith, t .tables .key-long, twice)
 
+  -- the second halves, as the code hands them on
+  abbrev secondMessage : List ℤ
+  secondMessage = take (length m - h * d) (drop (h * d) m)
+
+  abbrev secondKey : List ℕ
+  secondKey = take (length G - h * d) (drop (h * d) G)
+
+  pub first-small : SmallHalf (h * d) m
+  first-small = record { long = omega (arith, message-room); each = λ j l. t .message-half j (omega arith) }
+
+  pub second-small : SmallHalf (h * d) secondMessage
+  second-small = record {
+    long = omega (arith, tail-length (h * d) m, message-room);
+    each = λ j l. subst (λ z. natAbs z ≤ 2 ^ 14) (sym (tail-at (h * d) m j (pos 0))) (t .message-half (h * d + j) (omega arith));
+  }
+
+  pub first-residues : Residues q (h * d) 0 G
+  first-residues = record { long = omega (arith, key-room); each = λ j l. t .key-residues (0 + j) (omega arith) }
+
+  pub second-residues : Residues q (h * d) 0 secondKey
+  second-residues = record {
+    long = omega (arith, tail-length (h * d) G, key-room);
+    each = λ j l. subst (λ x. x < q) (sym (tail-at (h * d) G (0 + j) 0)) (t .key-residues (h * d + (0 + j)) (omega arith));
+  }
+
   abbrev messageSum : ℕ → ℤ
   messageSum p = getD m p (pos 0) +ℤ getD m (h * d + p) (pos 0)
 
   abbrev keySum : ℕ → ℕ
   keySum p = (getD G p 0 + getD G (h * d + p) 0) % q
+
+  -- the sums as the code works them out
+  pub message-sums : (f z : List ℤ) → f ≡ filled (λ p. getD m p (pos 0) +ℤ getD secondMessage p (pos 0)) (h * d) z → f ≡ filled messageSum (h * d) z
+  message-sums f z e = e ∙ filled-ext _ messageSum (h * d) z (λ p _. ap (λ y. getD m p (pos 0) +ℤ y) (tail-at (h * d) m p (pos 0)))
+
+  pub key-sums : (g z : List ℕ) → g ≡ filled (λ p. (getD G p 0 + getD secondKey p 0) % q) (h * d) z → g ≡ filled keySum (h * d) z
+  key-sums g z e = e ∙ filled-ext _ keySum (h * d) z (λ p _. ap (λ y. (getD G p 0 + y) % q) (tail-at (h * d) G p 0))
 
   long {ℓ} : {A : Type ℓ} (F : ℕ → A) (l z : List A) → l ≡ filled F (h * d) z → length z ≡ 8192 → h * d ≤ length l
   long F l z e n = omega (arith, half-inside, n, ap length e, filled-length F (h * d) z (omega (arith, half-inside, n)))

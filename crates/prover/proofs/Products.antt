@@ -21,7 +21,7 @@ use Rattle.claims.proofs.Agreement.{Same, sum-ext, product-same}
 use Rattle.sizes.proofs.Limits.{degree-least, degree-most}
 use Rattle.products.specs.Products.{reducedSums}
 use Rattle.products.proofs.Sums.{SumIs, sum-none, sums-reduced}
-use Rattle.residues.proofs.Folds.{tail-all}
+use Rattle.residues.proofs.Parts.{tail-all}
 use Rattle.residues.proofs.Padding.{padded-at}
 use Rattle.refusals.proofs.Given.{CommitGiven}
 use Rattle.prover.specs.Messages.{Tables}

@@ -3,6 +3,7 @@
 --   from l p           the element whose coefficients stand from place p of the table l on
 --   Room n l           the first n numbers of l are small enough that the sum of two of them is a signed number of 32 bits
 --   Small n l          they are small enough for inner products
+--   SmallHalf n l      l has n numbers, small enough that sums of two of them are small enough for inner products
 --   Tables q d n ..    both have n elements, for inner products modulo q
 --   Halved q d h ..    both have two halves of h elements, for inner products of the halves' sums
 use mathlib.Core.List.{List}
@@ -19,6 +20,10 @@ pub record Room (n : ℕ) (l : List ℤ) : Type 0 where
 
 abbrev pub Small : ℕ → List ℤ → Type 0
 Small n l = (j : ℕ) → j < n → natAbs (getD l j (pos 0)) ≤ 2 ^ 15
+
+pub record SmallHalf (n : ℕ) (l : List ℤ) : Type 0 where
+  pub long : n ≤ length l
+  pub each : (j : ℕ) → j < n → natAbs (getD l j (pos 0)) ≤ 2 ^ 14
 
 pub record Tables (q d n : ℕ) (message : List ℤ) (key : List ℕ) : Type 0 where
   pub modulus : 0 < q

@@ -69,8 +69,8 @@ fn mixed(q: u32, d: u32, h: u32, s: u32, message: &[i32], key: &[u32]) -> [u32; 
     let half = (h as usize) * (d as usize);
     let mut m = [0i32; 8192];
     let mut g = [0u32; 8192];
-    totals::message_sums(half, message, &mut m);
-    totals::key_sums(q, half, key, &mut g);
+    totals::message_sums(half, message, &message[half..], &mut m);
+    totals::key_sums(q, half, key, &key[half..], &mut g);
     straight(q, d, h, s, &m, &g)
 }
 

@@ -3,11 +3,12 @@ mod inner;
 mod messages;
 mod totals;
 
-use residues::tables;
 use protocol::Committed;
 use protocol::Ended;
 use protocol::Polynomial;
 use protocol::Settings;
+use residues::elements;
+use residues::tables;
 ghost use mathlib.Core.Path.{_≡_};
 ghost use Rattle.protocol.specs.Calls.{commitAnswer, roundAnswer, endAnswer};
 ghost use Rattle.protocol.specs.Promises.{Folded};
@@ -92,8 +93,7 @@ pub fn end(settings: Settings, done: u32, message: &[i32]) -> Ended
             last: [0i32; 64],
         };
     }
-    let d = settings.degree as usize;
-    let last = messages::first_element(d, message);
+    let last = elements::signed_element_at(settings.degree, message, 0);
     Ended {
         number: 0,
         last: last,

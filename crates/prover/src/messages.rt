@@ -1,24 +1,10 @@
-// Elements and folds of messages, over whole numbers.
+// The fold of a message, over whole numbers.
 ghost use mathlib.Core.Path.{_≡_};
 ghost use Prim.Native.Nat.{_+_, _*_, _<_, _≤_};
 ghost use lib.ListN.{length};
-ghost use Rattle.protocol.specs.Element.{paddedSigned, coefficients, signedAt, rotate};
+ghost use Rattle.protocol.specs.Element.{rotate};
 ghost use Rattle.protocol.specs.Opening.{foldSigned};
 ghost use Rattle.prover.specs.Messages.{from, Room};
-
-// The first element of a message, by value.
-pub fn first_element(d: usize, message: &[i32]) -> [i32; 64]
-    requires { ⌜ (d ≤ 64) × (d ≤ length (now message)) ⌝ }
-    ensures { λ r. ⌜ r ≡ paddedSigned d (coefficients d (signedAt d (now (message .entry)) 0)) ⌝ }
-{
-    let mut a = [0i32; 64];
-    let mut k: usize = 0;
-    while k < d {
-        a[k] = message[k];
-        k += 1;
-    }
-    a
-}
 
 // Coefficient k of X^e·a, a being the element that stands from place `row` on: plus, minus and plus again as k counts back over places 0 and −d.
 fn rotated(d: usize, e: usize, t: &[i32], row: usize, k: usize) -> i32

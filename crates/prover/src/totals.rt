@@ -1,10 +1,11 @@
-// The sums of the two halves of a table, number by number.
+// The sums of the two halves of a table, number by number. The second half comes as a part of the table.
 ghost use mathlib.Core.Path.{_≡_};
-ghost use mathlib.Core.List.{_++_};
-ghost use Prim.Native.Nat.{ℕ, _+_, _*_, _%_, _^_, _<_, _≤_};
+ghost use Prim.Native.Nat.{_+_, _%_, _^_, _≤_};
 ghost use lib.IntN.{pos, natAbs, _+ℤ_};
-ghost use lib.ListN.{length, getD, drop};
-ghost use Rattle.protocol.specs.Basic.{tabulate};
+ghost use lib.ListN.{length, getD};
+ghost use Rattle.residues.specs.Lists.{filled};
+ghost use Rattle.residues.specs.Residues.{Residues};
+ghost use Rattle.prover.specs.Messages.{SmallHalf};
 
 fn whole_sum(x: i32, y: i32) -> i32
     requires { ⌜ (natAbs x ≤ 2 ^ 14) × (natAbs y ≤ 2 ^ 14) ⌝ }
@@ -14,33 +15,21 @@ fn whole_sum(x: i32, y: i32) -> i32
 }
 
 // Of a message, whose halves have n numbers.
-pub fn message_sums(n: usize, message: &[i32], sums: &mut [i32])
-    requires { ⌜ (2 * n ≤ length (now message)) × (n ≤ length (now sums)) × ((j : ℕ) → j < 2 * n → natAbs (getD (now message) j (pos 0)) ≤ 2 ^ 14) ⌝ }
-    ensures { λ _. ⌜ now (sums .exit) ≡ tabulate n (λ p. getD (now (message .entry)) p (pos 0) +ℤ getD (now (message .entry)) (n + p) (pos 0)) ++ drop n (now (sums .entry)) ⌝ }
+pub fn message_sums(n: usize, first: &[i32], second: &[i32], sums: &mut [i32])
+    requires { ⌜ SmallHalf n (now first) × SmallHalf n (now second) × (n ≤ length (now sums)) ⌝ }
+    ensures { λ _. ⌜ now (sums .exit) ≡ filled (λ p. getD (now (first .entry)) p (pos 0) +ℤ getD (now (second .entry)) p (pos 0)) n (now (sums .entry)) ⌝ }
 {
     for p in 0..n {
-        sums[p] = whole_sum(message[p], message[n + p]);
+        sums[p] = whole_sum(first[p], second[p]);
     }
-}
-
-// x + y modulo q
-fn residue_sum(q: u32, x: u32, y: u32) -> u32
-    requires { ⌜ (q ≤ 2 ^ 31) × (x < q) × (y < q) ⌝ }
-    ensures { λ r. ⌜ r ≡ (x + y) % q ⌝ }
-{
-    let z = x + y;
-    if z < q {
-        return z;
-    }
-    z - q
 }
 
 // Of a key, modulo q.
-pub fn key_sums(q: u32, n: usize, key: &[u32], sums: &mut [u32])
-    requires { ⌜ (q ≤ 2 ^ 31) × (2 * n ≤ length (now key)) × (n ≤ length (now sums)) × ((j : ℕ) → j < 2 * n → getD (now key) j 0 < q) ⌝ }
-    ensures { λ _. ⌜ now (sums .exit) ≡ tabulate n (λ p. (getD (now (key .entry)) p 0 + getD (now (key .entry)) (n + p) 0) % q) ++ drop n (now (sums .entry)) ⌝ }
+pub fn key_sums(q: u32, n: usize, first: &[u32], second: &[u32], sums: &mut [u32])
+    requires { ⌜ Residues q n 0 (now first) × Residues q n 0 (now second) × (n ≤ length (now sums)) ⌝ }
+    ensures { λ _. ⌜ now (sums .exit) ≡ filled (λ p. (getD (now (first .entry)) p 0 + getD (now (second .entry)) p 0) % q) n (now (sums .entry)) ⌝ }
 {
     for p in 0..n {
-        sums[p] = residue_sum(q, key[p], key[n + p]);
+        sums[p] = residues::plus(q, first[p], second[p]);
     }
 }

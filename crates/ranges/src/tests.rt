@@ -6,7 +6,7 @@ ghost use Prim.Native.Nat.{_≤_};
 ghost use lib.Dec.{ltb};
 ghost use lib.IntN.{natAbs};
 ghost use lib.ListN.{getD};
-ghost use Rattle.protocol.specs.Basic.{every, all, within};
+ghost use Rattle.protocol.specs.Basic.{every, all, within, Provided};
 ghost use Rattle.protocol.specs.Settings.{degreeAllowed, modulusAllowed, boundAllowed, settingsRefusal, small};
 
 // Refusal 3: is the degree allowed.
@@ -87,7 +87,7 @@ pub fn all_below(limit: u32, t: &[u32]) -> bool
 
 // The same for the first d places of an element.
 pub fn element_below(limit: u32, d: u32, a: [u32; 64]) -> bool
-    ensures { λ r. ⌜ (d ≤ 64 → r ≡ every d (λ k. ltb (getD a k 0) limit)) ⌝ }
+    ensures { λ r. ⌜ Provided (d ≤ 64) (r ≡ every d (λ k. ltb (getD a k 0) limit)) ⌝ }
 {
     if d > 64 {
         return false;

@@ -1,6 +1,6 @@
 // Refusals 8, 9 and 10 of the values of a text.
-use ranges::tests::all_within;
 use protocol::Settings;
+use ranges::tests::all_within;
 use shapes::Lengths;
 ghost use mathlib.Core.Path.{_≡_};
 ghost use mathlib.Core.Bool.{true};

@@ -1,12 +1,13 @@
 // The refusals of the calls: each function answers with the number of the first that applies, and 0 where none does.
 pub mod session;
 
-use ranges::tests;
 use protocol::Settings;
+use ranges::tests;
 ghost use mathlib.Core.Path.{_≡_};
 ghost use mathlib.Core.Bool.{_&&_};
 ghost use Prim.Native.Nat.{_≤_};
 ghost use lib.ListN.{length};
+ghost use Rattle.protocol.specs.Basic.{Provided};
 ghost use Rattle.protocol.specs.Settings.{settingsRefusal, cells, residues, residueElement};
 ghost use Rattle.protocol.specs.Calls.{leftSmall, movingSmall, commitRefusal, roundRefusal, foldRefusal, endRefusal};
 ghost use Rattle.refusals.specs.Tables.{tablesRefusal};
@@ -34,7 +35,7 @@ fn tables(settings: Settings, key: &[u32], message: &[i32]) -> u32
 
 // 8 of a check by the verifier: are the numbers of key, commitment and round elements residues.
 pub fn all_residues(settings: Settings, commitment: [u32; 64], key: &[u32], rounds: &[u32]) -> bool
-    ensures { λ r. ⌜ (settings .degree ≤ 64 → r ≡ (residues settings (now (key .entry)) && residueElement settings commitment && residues settings (now (rounds .entry)))) ⌝ }
+    ensures { λ r. ⌜ Provided (settings .degree ≤ 64) (r ≡ (residues settings (now (key .entry)) && residueElement settings commitment && residues settings (now (rounds .entry)))) ⌝ }
 {
     if !tests::all_below(settings.modulus, key) {
         return false;

@@ -1,7 +1,7 @@
 // The refusals of the verifier's session.
-use ranges::tests;
 use protocol::Session;
 use protocol::Settings;
+use ranges::tests;
 ghost use mathlib.Core.Path.{_≡_};
 ghost use mathlib.Core.Bool.{_&&_};
 ghost use Prim.Native.Nat.{_≤_};

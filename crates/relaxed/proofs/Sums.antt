@@ -15,10 +15,10 @@ use Rattle.protocol.specs.Opening.{inner, left}
 use Rattle.protocol.proofs.Inputs.{settings-valid}
 use Rattle.protocol.proofs.Reading.{tabulate-ext}
 use Rattle.residues.specs.Lists.{spliced}
-use Rattle.residues.specs.Residues.{turned}
-use Rattle.products.specs.Products.{extension, narrowed, addRows}
+use Rattle.products.specs.Products.{turned, extension, narrowed, addRows}
 use Rattle.products.proofs.Extension.{extension-rows}
-use Rattle.residues.proofs.Folds.{tail-all, row-inside}
+use Rattle.residues.proofs.Parts.{tail-all}
+use Rattle.residues.proofs.Folds.{row-inside}
 use Rattle.products.proofs.Sums.{sum-none, elements-none, elements-more, sum-elements, signed-places, residue-places}
 use Rattle.sizes.proofs.Limits.{degree-least, degree-most}
 use Rattle.relaxed.specs.Digits.{digitsOf, digitsIn, digitSums, joinedSums, Numbers, Elements}

@@ -1,7 +1,7 @@
 // The sum of w_i·G_i modulo q. Each number of w is reduced, and its residue is split into two digits, which are small enough that the products of
 // all elements are summed as they are. The sums of each digit are reduced once, at the end.
-use ranges::tests;
 use protocol::Settings;
+use ranges::tests;
 ghost use mathlib.Core.Path.{_≡_};
 ghost use Prim.Native.Nat.{_+_, _*_, _-_, _/_, _%_, _<_, _≤_};
 ghost use lib.Dec.{eqb};
@@ -14,17 +14,6 @@ ghost use Rattle.protocol.specs.Judge as of;
 ghost use Rattle.products.specs.Products.{narrowed, addRows, Rows};
 ghost use Rattle.relaxed.specs.Digits.{digitsIn, digitSums, joinedSums, Numbers, Elements};
 
-// The negative of a residue.
-fn negated(q: u32, m: u32) -> u32
-    requires { ⌜ m < q ⌝ }
-    ensures { λ r. ⌜ r ≡ (q - m) % q ⌝ }
-{
-    if m == 0 {
-        return 0;
-    }
-    q - m
-}
-
 // x modulo q
 fn residue(q: u32, x: i64) -> u32
     requires { ⌜ 0 < q ⌝ }
@@ -32,7 +21,7 @@ fn residue(q: u32, x: i64) -> u32
 {
     let m = (tests::magnitude_wide(x) % (q as u64)) as u32;
     if x < 0 {
-        return negated(q, m);
+        return residues::negated(q, m);
     }
     m
 }

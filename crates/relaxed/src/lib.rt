@@ -1,11 +1,12 @@
 // Relaxed openings: how large their numbers may become, and the judge.
 mod combination;
 
-use ranges::tests;
 use protocol::Judged;
 use protocol::Settings;
+use ranges::tests;
 ghost use mathlib.Core.Path.{_≡_};
 ghost use Prim.Native.Nat.{_<_};
+ghost use Rattle.protocol.specs.Basic.{Provided};
 ghost use Rattle.protocol.specs.Settings.{settingsRefusal};
 ghost use Rattle.protocol.specs.Tree.{growthLimit, grows};
 ghost use Rattle.protocol.specs.Judge as of;
@@ -25,7 +26,7 @@ fn capped_times(factor: u64, g: u64) -> u64
 
 // (12·d²)^L·B, held at one past 2^62 as soon as it is past it.
 pub fn growth(settings: Settings) -> u64
-    ensures { λ r. ⌜ (settingsRefusal settings ≡ 0 → r ≡ cappedGrowth settings) ⌝ }
+    ensures { λ r. ⌜ Provided (settingsRefusal settings ≡ 0) (r ≡ cappedGrowth settings) ⌝ }
 {
     let d = settings.degree as u64;
     if d == 0 {
@@ -44,7 +45,7 @@ pub fn growth(settings: Settings) -> u64
 
 // Refusal 14: is the growth at most 2^62.
 pub fn growth_allowed(settings: Settings) -> bool
-    ensures { λ r. ⌜ (settingsRefusal settings ≡ 0 → r ≡ grows settings) ⌝ }
+    ensures { λ r. ⌜ Provided (settingsRefusal settings ≡ 0) (r ≡ grows settings) ⌝ }
 {
     growth(settings) <= 4611686018427387904
 }

@@ -49,10 +49,10 @@ module _ {ℓ} {A : Type ℓ} where
   unfolding filled
   filled-again f g k z = ap (λ t. tabulate k g ++ t) (drop-at (tabulate k f) (drop k z) k (tabulate-length k f))
 
-drop-zeros : (n m : ℕ) → drop {A = ℕ} n (replicate m 0) ≡ replicate (m - n) 0
-drop-zeros zero m = ap (λ k. replicate k 0) (sym (Nat.sub-zero m))
-drop-zeros (suc n) zero = ap (λ k. replicate k 0) (sym (Nat.zero-sub (suc n)))
-drop-zeros (suc n) (suc m) = drop-zeros n m ∙ ap (λ k. replicate k 0) (sym (Nat.suc-sub-suc m n))
+pub drop-replicate {ℓ} : {A : Type ℓ} (z : A) (n m : ℕ) → drop n (replicate m z) ≡ replicate (m - n) z
+drop-replicate z zero m = ap (λ k. replicate k z) (sym (Nat.sub-zero m))
+drop-replicate z (suc n) zero = ap (λ k. replicate k z) (sym (Nat.zero-sub (suc n)))
+drop-replicate z (suc n) (suc m) = drop-replicate z n m ∙ ap (λ k. replicate k z) (sym (Nat.suc-sub-suc m n))
 
 -- ---- over zeros, which stay shut
 
@@ -75,7 +75,7 @@ fill-more n f k x a e h v = (λ i. set (e i) k (v i)) ∙ filled-more f k (zeros
 
 pub fill-done : (n : ℕ) (f : ℕ → ℕ) (k d : ℕ) (a : List ℕ) → a ≡ filled f k (zeros n) → k ≡ d → a ≡ tabulate d f ++ zeros (n - d)
 unfolding filled zeros
-fill-done n f k d a e p = e ∙ ap (λ m. filled f m (zeros n)) p ∙ ap (λ l. tabulate d f ++ l) (drop-zeros d n)
+fill-done n f k d a e p = e ∙ ap (λ m. filled f m (zeros n)) p ∙ ap (λ l. tabulate d f ++ l) (drop-replicate 0 d n)
 
 -- an element that is passed by value
 pub element-done : (f : ℕ → ℕ) (k d : ℕ) (a : List ℕ) → a ≡ filled f k (zeros 64) → k ≡ d → a ≡ padded d (tabulate d f)

@@ -2,9 +2,8 @@ pub mod Around
 pub mod Fill
 pub mod SignedFill
 pub mod Splice
+pub mod Parts
 pub mod Folds
 pub mod Padding
 pub mod Signs
-pub mod Extension
-pub mod Turns
 pub mod Values

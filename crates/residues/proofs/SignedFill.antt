@@ -1,15 +1,15 @@
 -- The laws of Fill over zeros that are whole numbers: elements of whole numbers that are passed by value.
 use mathlib.Core.Path.{_≡_, refl, sym, ap, _∙_}
 use mathlib.Core.List.{List, _++_}
-use Prim.Native.Nat.{ℕ, zero, suc, _+_, _-_, _<_}
+use Prim.Native.Nat.{ℕ, zero, suc, _+_, _<_}
 use native.Mathlib.Nat as Nat
 use native.Mathlib.Omega.{arith}
 use lib.Seq.{ext-getD}
 use lib.IntN.{ℤ, pos}
-use lib.ListN.{length, getD, drop, set, replicate, length-replicate}
+use lib.ListN.{length, getD, set, replicate, length-replicate}
 use Rattle.protocol.specs.Basic.{tabulate}
 use Rattle.protocol.specs.Element.{width, signedZeros, paddedSigned}
-use Rattle.residues.proofs.Fill.{filled, filled-none, filled-more, filled-at, filled-length}
+use Rattle.residues.proofs.Fill.{filled, drop-replicate, filled-none, filled-more, filled-at, filled-length}
 
 pub signed-zeros-length : (n : ℕ) → length (signedZeros n) ≡ n
 unfolding signedZeros
@@ -21,11 +21,6 @@ signed-zeros-at zero k = refl
 signed-zeros-at (suc n) zero = refl
 signed-zeros-at (suc n) (suc k) = signed-zeros-at n k
 
-drop-zeros : (n m : ℕ) → drop n (replicate m (pos 0)) ≡ replicate (m - n) (pos 0)
-drop-zeros zero m = ap (λ k. replicate k (pos 0)) (sym (Nat.sub-zero m))
-drop-zeros (suc n) zero = ap (λ k. replicate k (pos 0)) (sym (Nat.zero-sub (suc n)))
-drop-zeros (suc n) (suc m) = drop-zeros n m ∙ ap (λ k. replicate k (pos 0)) (sym (Nat.suc-sub-suc m n))
-
 pub signed-fill-none : (n : ℕ) (f : ℕ → ℤ) → replicate n (pos 0) ≡ filled f 0 (signedZeros n)
 unfolding signedZeros
 signed-fill-none n f = filled-none f (replicate n (pos 0))
@@ -36,7 +31,7 @@ signed-fill-more n f k x a e h v = (λ i. set (e i) k (v i)) ∙ filled-more f k
 -- an element that is passed by value
 pub padded-filled : (d : ℕ) (f : ℕ → ℤ) → paddedSigned d (tabulate d f) ≡ filled f d (signedZeros 64)
 unfolding paddedSigned width filled signedZeros
-padded-filled d f = ap (λ t. tabulate d f ++ t) (sym (drop-zeros d 64))
+padded-filled d f = ap (λ t. tabulate d f ++ t) (sym (drop-replicate (pos 0) d 64))
 
 pub signed-element-done : (f : ℕ → ℤ) (k d : ℕ) (a : List ℤ) → a ≡ filled f k (signedZeros 64) → k ≡ d → a ≡ paddedSigned d (tabulate d f)
 signed-element-done f k d a e h = e ∙ ap (λ n. filled f n (signedZeros 64)) h ∙ sym (padded-filled d f)

@@ -44,4 +44,3 @@ module _ (q : ℕ) (p : 0 < q) where
       ∙ Nat.mod-eq-sub-mod {n = x + (q - suc y)} {m = q} (omega arith)
       ∙ Nat.mod-eq-of-lt (omega arith)
       ∙ omega arith)
-

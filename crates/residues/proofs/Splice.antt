@@ -1,12 +1,12 @@
 -- A part of a list that is overwritten from its front on.
 use mathlib.Core.Path.{_≡_, refl, sym, ap, _∙_}
-use mathlib.Core.List.{List, [], _∷_, _++_}
+use mathlib.Core.List.{List, [], _∷_, _++_, append-assoc}
 use Prim.Native.Nat.{ℕ, _+_, _-_, _<_, _≤_}
 use native.Mathlib.Nat as Nat
 use native.Mathlib.Decide.{decLt}
 use native.Mathlib.Omega.{arith}
 use lib.ListN.{length, getD, take, drop, set, replicate, length-append, length-drop, take-append-drop, List·getD-append}
-use lib.Seq.{length-take-le, getD-append-add, getD-drop, getD-take, ext-getD}
+use lib.Seq.{length-take-le, getD-append-add, getD-drop, getD-take, ext-getD, take-at, drop-at, take-append-le, drop-append-le}
 use Rattle.protocol.specs.Basic.{tabulate}
 use Rattle.protocol.specs.Element.{zeros, padded}
 use Rattle.protocol.proofs.Reading.{tabulate-at, tabulate-length, tabulate-ext}
@@ -74,6 +74,40 @@ spliced-ext f g at n l e = ap (λ s. take at l ++ (s ++ drop n (drop at l))) (ta
 pub spliced-again : (f g : ℕ → ℕ) (n : ℕ) (l : List ℕ) → spliced g 0 n (spliced f 0 n l) ≡ spliced g 0 n l
 unfolding spliced filled
 spliced-again f g n l = filled-again f g n l
+
+-- a part that is overwritten twice
+pub spliced-over : (f g : ℕ → ℕ) (at n : ℕ) (l : List ℕ) → at ≤ length l → spliced g at n (spliced f at n l) ≡ spliced g at n l
+unfolding spliced filled
+spliced-over f g at n l h =
+    (λ i. take-at (take at l) (filled f n (drop at l)) at (length-take-le at l h) i ++ filled g n (drop-at (take at l) (filled f n (drop at l)) at (length-take-le at l h) i))
+    ∙ ap (λ x. take at l ++ x) (filled-again f g n (drop at l))
+
+-- what is written as it was
+pub spliced-same : (at n : ℕ) (l : List ℕ) → at + n ≤ length l → l ≡ spliced (λ k. getD l (at + k) 0) at n l
+spliced-same at n l h =
+    ext-getD 0 l (spliced f at n l) (sym (spliced-length f at n l (omega arith) h)) (λ j _. elim (decLt j at) [
+      | yes before ↦ sym (spliced-before f at n l (omega arith) j before)
+      | no after ↦ elim (decLt j (at + n)) [
+        | yes inside ↦
+            ap (λ x. getD l x 0) {y = at + (j - at)} (omega arith)
+            ∙ sym (ap (λ x. getD (spliced f at n l) x 0) {y = at + (j - at)} (omega arith) ∙ spliced-inside f at n l (omega arith) (j - at) (omega arith))
+        | no behind ↦ sym (spliced-behind f at n l (omega arith) j (omega arith))
+      ]
+    ])
+  where
+    f : ℕ → ℕ
+    f = λ k. getD l (at + k) 0
+
+-- the front of a list, lent and handed back
+pub spliced-append : (f : ℕ → ℕ) (at n : ℕ) (xs ys : List ℕ) → at + n ≤ length xs → spliced f at n xs ++ ys ≡ spliced f at n (xs ++ ys)
+unfolding spliced
+spliced-append f at n xs ys h =
+    append-assoc (take at xs) (tabulate n f ++ drop n (drop at xs)) ys
+    ∙ ap (λ l. take at xs ++ l) (append-assoc (tabulate n f) (drop n (drop at xs)) ys)
+    ∙ sym (λ i. take-append-le at xs ys (omega arith) i ++ (tabulate n f ++ rest i))
+  where
+    rest : drop n (drop at (xs ++ ys)) ≡ drop n (drop at xs) ++ ys
+    rest = ap (drop n) (drop-append-le at xs ys (omega arith)) ∙ drop-append-le n (drop at xs) ys (omega (arith, length-drop at xs))
 
 -- over zeros; in particular an element that is passed by value
 spliced-zeros : (f : ℕ → ℕ) (n d : ℕ) → spliced f 0 d (replicate n 0) ≡ filled f d (zeros n)

@@ -1,11 +1,12 @@
 // Elements of residues, passed by value or as the fronts of slices.
 use crate::rows;
 ghost use mathlib.Core.Path.{_≡_};
-ghost use Prim.Native.Nat.{_<_, _≤_};
+ghost use Prim.Native.Nat.{_≤_};
 ghost use lib.IntN.{pos};
-ghost use lib.ListN.{length, getD};
+ghost use lib.ListN.{getD};
+ghost use Rattle.protocol.specs.Basic.{Provided};
 ghost use Rattle.protocol.specs.Element.{residue, coefficients, paddedSigned, signedAt};
-ghost use Rattle.residues.specs.Elements.{elementAt, valueAt};
+ghost use Rattle.residues.specs.Elements.{elementAt, valueAt, Valuable};
 ghost use Rattle.residues.specs.Lists.{spliced};
 
 // Number p of a table; 0 where it has none.
@@ -20,7 +21,7 @@ pub fn entry(t: &[u32], p: usize) -> u32
 
 // Element i of a flat table; coefficients that the table does not have are 0.
 pub fn element_at(d: u32, t: &[u32], i: u32) -> [u32; 64]
-    ensures { λ r. ⌜ (d ≤ 64 → r ≡ elementAt d (now (t .entry)) i) ⌝ }
+    ensures { λ r. ⌜ Provided (d ≤ 64) (r ≡ elementAt d (now (t .entry)) i) ⌝ }
 {
     let mut a = [0u32; 64];
     if d > 64 {
@@ -51,7 +52,7 @@ pub fn signed_entry(t: &[i32], p: usize) -> i32
 }
 
 pub fn signed_element_at(d: u32, t: &[i32], i: u32) -> [i32; 64]
-    ensures { λ r. ⌜ (d ≤ 64 → r ≡ paddedSigned d (coefficients d (signedAt d (now (t .entry)) i))) ⌝ }
+    ensures { λ r. ⌜ Provided (d ≤ 64) (r ≡ paddedSigned d (coefficients d (signedAt d (now (t .entry)) i))) ⌝ }
 {
     let mut a = [0i32; 64];
     if d > 64 {
@@ -69,11 +70,8 @@ pub fn signed_element_at(d: u32, t: &[i32], i: u32) -> [i32; 64]
 
 // The value at X^e of the polynomial with the coefficients c0, c1, c2, modulo q, written to the front of out.
 pub fn value(q: u32, d: u32, e: u32, c0: &[u32], c1: &[u32], c2: &[u32], out: &mut [u32])
-    ensures { λ _. ⌜ (0 < q → 0 < d → d ≤ 64 → d ≤ length (now (c0 .entry)) → d ≤ length (now (c1 .entry)) → d ≤ length (now (c2 .entry)) → d ≤ length (now (out .entry)) → now (out .exit) ≡ spliced (valueAt q d e (residue (now (c0 .entry))) (residue (now (c1 .entry))) (residue (now (c2 .entry)))) 0 d (now (out .entry))) ⌝ }
+    ensures { λ _. ⌜ Provided (Valuable q d (now (c0 .entry)) (now (c1 .entry)) (now (c2 .entry)) (now (out .entry))) (now (out .exit) ≡ spliced (valueAt q d e (residue (now (c0 .entry))) (residue (now (c1 .entry))) (residue (now (c2 .entry)))) 0 d (now (out .entry))) ⌝ }
 {
-    if q == 0 {
-        return;
-    }
     if d == 0 {
         return;
     }

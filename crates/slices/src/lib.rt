@@ -1,6 +1,6 @@
 // Elements by value that stand for slices, and verdicts as numbers: what the calls for C and Rust share.
-use residues::elements;
 use protocol::Verdict;
+use residues::elements;
 ghost use mathlib.Core.Path.{_≡_};
 ghost use lib.IntN.{pos};
 ghost use Rattle.slices.specs.Slices.{placed, placedPolynomial, verdictNumber};

@@ -1,8 +1,8 @@
 // Answers on standard output: a line of numbers with single spaces. `first` begins a line, `end` ends it.
-use ranges::tests;
 use protocol::Session;
 use protocol::Settings;
 use protocol::Verdict;
+use ranges::tests;
 ghost use Prim.Native.Nat.{_≤_};
 
 pub fn first(x: u32) {

@@ -2,9 +2,9 @@
 use crate::lines::all_lines;
 use crate::names::begins_with_names;
 use crate::parts::read_part;
-use ranges::tests::settings_refusal;
 use protocol::Loaded;
 use protocol::Settings;
+use ranges::tests::settings_refusal;
 use shapes::settings_shape;
 ghost use mathlib.Core.Path.{_≡_};
 ghost use mathlib.Core.Bool.{false};

@@ -1,5 +1,5 @@
 -- The tests at a node and at a leaf, from elements that are parts of the tree's tables; and that those parts stand in the tables of a full tree.
-use mathlib.Core.Path.{_≡_, refl, sym, ap, ap₂, _∙_}
+use mathlib.Core.Path.{_≡_, refl, sym, ap, ap₂, _∙_, subst}
 use mathlib.Core.Bool.{_&&_}
 use mathlib.Core.List.{List}
 use Prim.Native.Nat.{ℕ, _+_, _*_, _-_, _^_, _<_, _≤_}
@@ -19,7 +19,8 @@ use Rattle.protocol.proofs.Inputs.{settings-valid}
 use Rattle.protocol.proofs.Reading.{tabulate-at}
 use Rattle.residues.specs.Elements.{valueAt}
 use Rattle.residues.specs.Lists.{spliced}
-use Rattle.residues.proofs.Folds.{tail-all}
+use Rattle.residues.specs.Residues.{Residues}
+use Rattle.residues.proofs.Parts.{tail-all, tail-at}
 use Rattle.residues.proofs.Splice.{spliced-inside}
 use Rattle.equations.specs.Ends.{equationMet, endMet}
 use Rattle.claims.specs.TreeCheck.{nodeElement, foldedEnding, claimTo, nodeHolds, foldedEndHolds}
@@ -36,6 +37,9 @@ part at t = take (length t - at) (drop at t)
 
 pub part-long {ℓ} : {A : Type ℓ} (at n : ℕ) (t : List A) → at + n ≤ length t → n ≤ length (part at t)
 part-long at n t h = omega (arith, ap length (tail-all at t), length-drop at t)
+
+pub part-residues : (q at n : ℕ) (t : List ℕ) → at + n ≤ length t → ((j : ℕ) → getD t j 0 < q) → Residues q n 0 (part at t)
+part-residues q at n t h below = record { long = omega (arith, part-long at n t h); each = λ k _. subst (λ x. x < q) (sym (tail-at at t (0 + k) 0)) (below (at + (0 + k))) }
 
 module _ (S : Settings) where
   open Settings S using (degree as d, depth as L, modulus as q, bound as B)

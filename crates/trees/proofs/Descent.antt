@@ -1,5 +1,5 @@
 -- From a node of the check to its children: the claim and the key that a child gets are the ones that the check hands down.
-use mathlib.Core.Path.{_≡_, sym, ap, _∙_}
+use mathlib.Core.Path.{_≡_, sym, ap, _∙_, subst}
 use mathlib.Core.Bool.{_&&_}
 use mathlib.Core.List.{List, _++_}
 use Prim.Native.Nat.{ℕ, suc, _+_, _*_, _-_, _^_, _<_, _≤_}
@@ -11,14 +11,14 @@ use Rattle.protocol.specs.declared.Settings.{Settings}
 use Rattle.protocol.specs.Opening.{foldResidues, foldKey}
 use Rattle.protocol.specs.Tree.{child, challenge}
 use Rattle.residues.specs.Folds.{foldDown}
-use Rattle.residues.proofs.Folds.{tail-all}
+use Rattle.residues.proofs.Parts.{tail-all}
 use Rattle.claims.specs.TreeCheck.{claimTo, nodeHolds, leafAccepted, treeAccepted}
 use Rattle.claims.proofs.Agreement.{Alike}
 use Rattle.claims.proofs.Paths.{halfLeft-height}
 use Rattle.claims.proofs.TreeKeys.{tree-alike}
 use Rattle.claims.proofs.Places.{AtNode, leaf-cells, twice-cells, height-is, deeper}
 use Rattle.trees.specs.Nodes.{leafMet, childAccepted}
-use Rattle.trees.proofs.Workspace.{fold-kept, child-alike}
+use Rattle.trees.proofs.Workspace.{fold-kept, child-below, child-alike}
 
 module _ (S : Settings) (rounds E : List ℕ) (finals : List ℤ) (h k first space : ℕ) (A : AtNode S h k first space) where
   open Settings S using (degree as d, depth as L, modulus as q)
@@ -65,6 +65,9 @@ module _ (S : Settings) (rounds E : List ℕ) (finals : List ℤ) (h k first spa
       child-tests claim alike =
           ap (λ t. treeAccepted S rounds E finals (h - 1) (child k j) t claim (drop (n * d) (take half U))) (sym (deeper S h k first space A up))
           ∙ tree-alike S rounds E finals (h - 1) (child k j) (suc (L - h)) claim (claimTo S rounds E k j) _ _ (omega (arith, A .height)) alike key-alike
+
+      pub child-read : 0 < q → (i : ℕ) → getD (drop (n * d) (take half U)) i 0 < q
+      child-read p i = subst (λ l. getD l i 0 < q) (sym (λ x. drop (n * d) (take ((is-half ∙ twice) x) (folded-is x)))) (child-below q d n (challenge E k j) W room p i)
 
       -- the node's own key
       pub key-kept : (last : List ℕ) → length last ≡ length (take half U) → half ≤ length U → drop (2 ^ h * d) (last ++ drop half U) ≡ drop (2 ^ h * d) W

@@ -1,5 +1,5 @@
 -- The workspace as the root gets it: the key is copied to where its second half will begin.
-use mathlib.Core.Path.{_≡_, sym, ap, _∙_}
+use mathlib.Core.Path.{_≡_, sym, ap, _∙_, subst}
 use mathlib.Core.List.{List, _++_, append-assoc}
 use Prim.Native.Nat.{ℕ, _+_, _*_, _-_, _^_, _≤_}
 use native.Mathlib.Nat as Nat
@@ -13,6 +13,7 @@ use Rattle.protocol.specs.Settings.{size, cells}
 use Rattle.protocol.specs.Calls.{everyPath}
 use Rattle.claims.specs.TreeCheck.{treeAccepted}
 use Rattle.claims.proofs.TreeCheck.{every-path-tree}
+use Rattle.trees.specs.Nodes.{Reduced}
 
 module _ (n k : ℕ) (z p key tail : List ℕ) (inside : n ≤ length z) (long : length key ≡ n) (is : p ≡ key ++ tail) where
   front : List ℕ
@@ -39,3 +40,8 @@ unfolding cells size
 root-tests S rounds E finals C key ws n long is =
     (λ i. treeAccepted S rounds E finals (S .depth) 0 (Nat.sub-self (S .depth) i) C ((ap (λ x. drop x ws) (sym long) ∙ is) i))
     ∙ sym (every-path-tree S rounds E finals C key)
+
+-- and its key is residues
+pub root-read : (S : Settings) (key ws : List ℕ) (n : ℕ) → n ≡ cells S → drop n ws ≡ key → Reduced S key → Reduced S (drop (2 ^ S .depth * S .degree) ws)
+unfolding cells size
+root-read S key ws n long is below = subst (Reduced S) (sym (ap (λ x. drop x ws) (sym long) ∙ is)) below

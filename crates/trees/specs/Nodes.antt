@@ -3,6 +3,9 @@
 --   Folding S h space          the key of a node that is h steps above the leaves can be folded in a list of `space` numbers
 --   Tables S rounds finals     a full tree has so many numbers in its tables of rounds and of final elements
 --   Round S k rounds           node k has a round, which stands in a table of `rounds` numbers
+--   Reduced S l                every number of the list l is a residue
+--   Read S h rounds ws         so is every number of the rounds, and of the key of a node that is h steps above the leaves: the second half of ws
+--   TreeGiven S key ..         the settings are allowed, key and rounds are residues, and all tables have their lengths
 --   leafMet S finals j ..      is the end met at leaf j, with its claim and the folded key
 --   childAccepted S .. h k j   is every path accepted that goes from node k, h steps above the leaves and with this key, to its child j
 use mathlib.Core.Path.{_≡_}
@@ -10,10 +13,12 @@ use mathlib.Core.Bool.{Bool, _&&_}
 use mathlib.Core.List.{List}
 use Prim.Native.Nat.{ℕ, suc, _+_, _*_, _-_, _^_, _<_, _≤_}
 use lib.IntN.{ℤ}
+use lib.ListN.{length, getD, drop}
 use Rattle.protocol.specs.declared.Settings.{Settings}
 use Rattle.protocol.specs.Element.{signed}
-use Rattle.protocol.specs.Settings.{settingsRefusal}
+use Rattle.protocol.specs.Settings.{settingsRefusal, cells}
 use Rattle.protocol.specs.Opening.{foldKey}
+use Rattle.protocol.specs.Inputs.{Below}
 use Rattle.protocol.specs.Transcript.{finalBounded}
 use Rattle.protocol.specs.Tree.{child, challenge, nodes, leaves, leaf}
 use Rattle.claims.specs.TreeCheck.{claimTo, foldedEndHolds, treeAccepted}
@@ -33,6 +38,19 @@ pub record Round (S : Settings) (k rounds : ℕ) : Type 0 where
   pub allowed : settingsRefusal S ≡ 0
   pub number : k ≤ 3280
   pub inside : 3 * k * S .degree + 3 * S .degree ≤ rounds
+
+abbrev pub Reduced : Settings → List ℕ → Type 0
+Reduced S l = (j : ℕ) → getD l j 0 < S .modulus
+
+pub record Read (S : Settings) (h : ℕ) (rounds ws : List ℕ) : Type 0 where
+  pub rounds-below : Reduced S rounds
+  pub key-below : Reduced S (drop (2 ^ h * S .degree) ws)
+
+pub record TreeGiven (S : Settings) (key rounds : List ℕ) (finals : List ℤ) : Type 0 where
+  pub allowed : settingsRefusal S ≡ 0
+  pub key-below : Below (S .modulus) (cells S) key
+  pub rounds-below : Below (S .modulus) (3 * nodes S * S .degree) rounds
+  pub finals-long : length finals ≡ leaves S * S .degree
 
 module _ (S : Settings) where
   unfoldable pub leafMet : List ℤ → ℕ → List ℕ → List ℕ → Bool

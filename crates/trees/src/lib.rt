@@ -3,11 +3,9 @@ mod nodes;
 
 use protocol::Settings;
 ghost use mathlib.Core.Path.{_≡_};
-ghost use Prim.Native.Nat.{_*_};
-ghost use lib.ListN.{length};
-ghost use Rattle.protocol.specs.Settings.{settingsRefusal, cells};
-ghost use Rattle.protocol.specs.Tree as tree;
+ghost use Rattle.protocol.specs.Basic.{Provided};
 ghost use Rattle.protocol.specs.Calls.{everyPath};
+ghost use Rattle.trees.specs.Nodes.{TreeGiven};
 
 // Is every path of a tree accepted. The key and the tree's tables stay as they are.
 pub fn every_path_accepted(
@@ -18,9 +16,7 @@ pub fn every_path_accepted(
     challenges: &[u32],
     leaves: &[i32],
 ) -> bool
-    ensures { λ r. ⌜ (settingsRefusal settings ≡ 0 → length (now (key .entry)) ≡ cells settings → length (now (rounds .entry)) ≡ 3 * tree.nodes settings * settings .degree
-        → length (now (leaves .entry)) ≡ tree.leaves settings * settings .degree
-        → r ≡ everyPath settings commitment (now (key .entry)) (now (rounds .entry)) (now (challenges .entry)) (now (leaves .entry))) ⌝ }
+    ensures { λ r. ⌜ Provided (TreeGiven settings (now (key .entry)) (now (rounds .entry)) (now (leaves .entry))) (r ≡ everyPath settings commitment (now (key .entry)) (now (rounds .entry)) (now (challenges .entry)) (now (leaves .entry))) ⌝ }
 {
     if ranges::tests::settings_refusal(settings) != 0 {
         return false;

@@ -1,18 +1,19 @@
 // The check of a tree node by node. Each node hands its next claim and its folded key to its children, so that no fold is done twice.
 // All of them share one workspace: a node's key stands in the second half of its part, and its children work in the first half.
+use protocol::Settings;
 use residues::elements;
 use residues::tables;
-use protocol::Settings;
 ghost use mathlib.Core.Path.{_≡_};
 ghost use Prim.Native.Nat.{_+_, _*_, _-_, _^_, _<_, _≤_};
 ghost use lib.ListN.{length, drop};
+ghost use Rattle.protocol.specs.Basic.{Provided};
 ghost use Rattle.protocol.specs.Settings.{settingsRefusal, cells};
 ghost use Rattle.protocol.specs.Tree as tree;
 ghost use Rattle.protocol.specs.Calls.{everyPath};
 ghost use Rattle.residues.specs.Folds.{foldDown};
 ghost use Rattle.claims.specs.TreeCheck.{claimTo, nodeHolds, treeAccepted};
 ghost use Rattle.claims.specs.Nodes.{AtNode, Alike};
-ghost use Rattle.trees.specs.Nodes.{Folding, Tables, Round, leafMet, childAccepted};
+ghost use Rattle.trees.specs.Nodes.{Folding, Tables, Round, Reduced, Read, TreeGiven, leafMet, childAccepted};
 
 // Challenge j of node k.
 fn challenge(challenges: &[u32], k: u32, j: u32) -> u32
@@ -43,7 +44,7 @@ fn claim_to(
     claim: &mut [u32],
 )
     requires { ⌜ Round settings k (length (now rounds)) × (j < 3) × (settings .degree ≤ length (now claim)) ⌝ }
-    ensures { λ _. ⌜ Alike (settings .degree) (now (claim .exit)) (claimTo settings (now (rounds .entry)) (now (challenges .entry)) k j) ⌝ }
+    ensures { λ _. ⌜ Provided (Reduced settings (now (rounds .entry))) (Alike (settings .degree) (now (claim .exit)) (claimTo settings (now (rounds .entry)) (now (challenges .entry)) k j)) ⌝ }
 {
     let e = challenge(challenges, k, j);
     let d = settings.degree as usize;
@@ -73,7 +74,7 @@ fn leaf_accepted(settings: Settings, j: u32, claim: &[u32], leaves: &[i32], fold
 // Folds the key of a node that is h steps above the leaves by X^e, to where its child's key stands.
 fn fold_key(settings: Settings, h: u32, e: u32, ws: &mut [u32])
     requires { ⌜ Folding settings h (length (now ws)) ⌝ }
-    ensures { λ _. ⌜ now (ws .exit) ≡ foldDown (settings .modulus) (settings .degree) (2 ^ (h - 1)) e (2 ^ h * settings .degree) (2 ^ (h - 1) * settings .degree) (now (ws .entry)) ⌝ }
+    ensures { λ _. ⌜ Provided (Reduced settings (drop (2 ^ h * settings .degree) (now (ws .entry)))) (now (ws .exit) ≡ foldDown (settings .modulus) (settings .degree) (2 ^ (h - 1)) e (2 ^ h * settings .degree) (2 ^ (h - 1) * settings .degree) (now (ws .entry))) ⌝ }
 {
     let d = settings.degree;
     let n = sizes::half_left(settings, settings.depth - h);
@@ -95,7 +96,7 @@ fn child_accepted(
 ) -> bool
     requires { ⌜ Tables settings (length (now rounds)) (length (now leaves)) × (0 < h) × (j < 3) ⌝ }
     requires { ⌜ AtNode settings h k first (length (now ws)) ⌝ }
-    ensures { λ r. ⌜ (r ≡ childAccepted settings (now (rounds .entry)) (now (challenges .entry)) (now (leaves .entry)) h k (drop (2 ^ h * settings .degree) (now (ws .entry))) j) × (drop (2 ^ h * settings .degree) (now (ws .exit)) ≡ drop (2 ^ h * settings .degree) (now (ws .entry))) ⌝ }
+    ensures { λ r. ⌜ Provided (Read settings h (now (rounds .entry)) (now (ws .entry))) ((r ≡ childAccepted settings (now (rounds .entry)) (now (challenges .entry)) (now (leaves .entry)) h k (drop (2 ^ h * settings .degree) (now (ws .entry))) j) × (drop (2 ^ h * settings .degree) (now (ws .exit)) ≡ drop (2 ^ h * settings .degree) (now (ws .entry)))) ⌝ }
 {
     let mut claim = [0u32; 64];
     claim_to(settings, k, j, rounds, challenges, &mut claim);
@@ -128,7 +129,7 @@ fn subtree_accepted(
 ) -> bool
     requires { ⌜ Tables settings (length (now rounds)) (length (now leaves)) × (settings .degree ≤ length (now claim)) ⌝ }
     requires { ⌜ AtNode settings h k first (length (now ws)) ⌝ }
-    ensures { λ r. ⌜ r ≡ treeAccepted settings (now (rounds .entry)) (now (challenges .entry)) (now (leaves .entry)) h k (settings .depth - h) (now (claim .entry)) (drop (2 ^ h * settings .degree) (now (ws .entry))) ⌝ }
+    ensures { λ r. ⌜ Provided (Read settings h (now (rounds .entry)) (now (ws .entry))) (r ≡ treeAccepted settings (now (rounds .entry)) (now (challenges .entry)) (now (leaves .entry)) h k (settings .depth - h) (now (claim .entry)) (drop (2 ^ h * settings .degree) (now (ws .entry)))) ⌝ }
 {
     if h == 0 {
         let d = settings.degree as usize;
@@ -161,7 +162,7 @@ pub(crate) fn root_accepted(
     leaves: &[i32],
 ) -> bool
     requires { ⌜ Tables settings (length (now rounds)) (length (now leaves)) × (length (now key) ≡ cells settings) ⌝ }
-    ensures { λ r. ⌜ r ≡ everyPath settings commitment (now (key .entry)) (now (rounds .entry)) (now (challenges .entry)) (now (leaves .entry)) ⌝ }
+    ensures { λ r. ⌜ Provided (TreeGiven settings (now (key .entry)) (now (rounds .entry)) (now (leaves .entry))) (r ≡ everyPath settings commitment (now (key .entry)) (now (rounds .entry)) (now (challenges .entry)) (now (leaves .entry))) ⌝ }
 {
     let n = key.len();
     let all = 2 * n;

@@ -1,5 +1,5 @@
 -- The rounds of a transcript, from elements that are passed by value.
-use mathlib.Core.Path.{_≡_, refl, sym, ap, ap₂, _∙_}
+use mathlib.Core.Path.{_≡_, refl, sym, ap, ap₂, _∙_, subst}
 use mathlib.Core.Bool.{_&&_}
 use mathlib.Core.List.{List}
 use Prim.Native.Nat.{ℕ, zero, suc, _+_, _*_, _<_}
@@ -11,11 +11,11 @@ use Rattle.protocol.specs.declared.Settings.{Settings}
 use Rattle.protocol.specs.Basic.{every}
 use Rattle.protocol.specs.Element.{Element, residue, residueAt, padded, reduced, signed}
 use Rattle.protocol.specs.Transcript.{Transcript, roundHolds, nextClaim, finalBounded, ending, endHolds, element, claimAfter, holdsAt, closes, accepted}
-use Rattle.protocol.proofs.Reading.{tabulate-length}
+use Rattle.protocol.proofs.Reading.{tabulate-length, cell-inside}
 use Rattle.claims.proofs.Agreement.{Same, claim-same, round-same, every-ext}
 use Rattle.residues.specs.Elements.{elementAt}
-use Rattle.residues.proofs.Padding.{element-residue}
-use Rattle.verification.specs.Replays.{bare, claimAt}
+use Rattle.residues.proofs.Padding.{padded-at, element-residue}
+use Rattle.verification.specs.Replays.{bare, claimAt, Given}
 
 padded-front : (d : ℕ) (l : List ℕ) (k : ℕ) → k < length l → getD (padded d l) k 0 ≡ getD l k 0
 unfolding padded
@@ -37,6 +37,11 @@ module _ (S : Settings) (C rounds E : List ℕ) where
 
   first-same : (t : ℕ) → Same d (residue (elementAt d rounds (3 * t))) (element S T t 0)
   first-same t k l = ap (λ i. residue (elementAt d rounds i) k) {y = 3 * t + 0} (omega arith) ∙ element-same t 0 k l
+
+  -- a round's elements are residues
+  pub element-below : Given S rounds E → (i : ℕ) → i < 3 * S .depth → (a : List ℕ) → a ≡ elementAt d rounds i → (k : ℕ) → k < d → getD a k 0 < S .modulus
+  unfolding elementAt
+  element-below g i li a is k lk = subst (λ x. x < S .modulus) (sym (ap (λ l. getD l k 0) is ∙ padded-at d (λ j. getD rounds (i * d + j) 0) k lk)) (g .rounds-below .each (i * d + k) (cell-inside d (3 * S .depth) i k li lk))
 
   pub claim-next : (t : ℕ) → padded d (nextClaim S (getD E t 0) (residue (elementAt d rounds (3 * t))) (residue (elementAt d rounds (3 * t + 1))) (residue (elementAt d rounds (3 * t + 2))))
       ≡ claimAt S C rounds E (suc t)

@@ -2,7 +2,7 @@
 --
 --   bare C rounds E        the transcript of these, with no final element: no round reads it
 --   claimAt S C rounds E t the claim after t rounds, as it is passed by value
---   Given S rounds E       the settings are allowed, and the rounds and challenges have their lengths
+--   Given S rounds E       the settings are allowed, the rounds are residues, and both tables have their lengths
 use mathlib.Core.List.{List, []}
 use mathlib.Core.Path.{_≡_}
 use Prim.Native.Nat.{ℕ, zero, suc, _*_}
@@ -10,6 +10,7 @@ use lib.ListN.{length, getD}
 use Rattle.protocol.specs.declared.Settings.{Settings}
 use Rattle.protocol.specs.Element.{padded}
 use Rattle.protocol.specs.Settings.{settingsRefusal}
+use Rattle.protocol.specs.Inputs.{Below}
 use Rattle.protocol.specs.Transcript.{Transcript, nextClaim, element}
 
 unfoldable pub bare : List ℕ → List ℕ → List ℕ → Transcript
@@ -22,5 +23,5 @@ claimAt S C rounds E (suc t) =
 
 pub record Given (S : Settings) (rounds E : List ℕ) : Type 0 where
   pub settings : settingsRefusal S ≡ 0
-  pub rounds-long : length rounds ≡ 3 * S .depth * S .degree
+  pub rounds-below : Below (S .modulus) (3 * S .depth * S .degree) rounds
   pub challenges-long : length E ≡ S .depth

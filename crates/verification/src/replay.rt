@@ -1,6 +1,6 @@
 // The rounds of a transcript.
-use residues::elements;
 use protocol::Settings;
+use residues::elements;
 ghost use mathlib.Core.Path.{_≡_};
 ghost use Prim.Native.Nat.{_<_, _≤_};
 ghost use Rattle.protocol.specs.Basic.{every};

@@ -1,13 +1,14 @@
 -- The session's moves: what is known of their inputs with no refusal, and their answers with one and without.
 use mathlib.Core.Path.{_≡_, sym, ap, _∙_}
-use mathlib.Core.Bool.{Bool, true, false}
+use mathlib.Core.Bool.{Bool, true, false, _&&_}
 use mathlib.Core.List.{List}
 use Prim.Native.Nat.{ℕ, _+_, _*_, _<_}
 use native.Mathlib.Omega.{arith}
 use native.Mathlib.Nat as Nat
-use borrow.Author.Tests.{eqb-true, ltb-true}
+use borrow.Author.Tests.{ltb-true}
+use lib.Dec.{ltb}
 use lib.IntN.{ℤ}
-use lib.ListN.{length, getD}
+use lib.ListN.{getD}
 use Rattle.protocol.specs.declared.Settings.{Settings}
 use Rattle.protocol.specs.declared.Session.{Session}
 use Rattle.protocol.specs.declared.Started.{Started}
@@ -15,12 +16,15 @@ use Rattle.protocol.specs.declared.Moved.{Moved}
 use Rattle.protocol.specs.declared.Verdict.the-variants.{Silent, Holds, Rejected}
 use Rattle.protocol.specs.Basic.{choose}
 use Rattle.protocol.specs.Element.{zeros, padded, residue}
-use Rattle.protocol.specs.Settings.{settingsRefusal, cells, sized}
+use Rattle.protocol.specs.Settings.{settingsRefusal, cells, residues, residueElement}
+use Rattle.protocol.specs.Inputs.{Below}
 use Rattle.protocol.specs.Transcript.{nextClaim}
 use Rattle.protocol.specs.Session.{slots, verdict, opened, blank, startRefusal, start, refusedMove, shut, part, moveRefusal, advanced, moveHolds, move, closeRefusal, closeHolds, close}
-use Rattle.protocol.proofs.Tests.{and-split, first-zero, unless-zero, granted-zero, granted-refused}
+use Rattle.protocol.proofs.Inputs.{tested-below}
+use Rattle.protocol.proofs.Tests.{and-split, every-at, first-zero, unless-zero, granted-zero, granted-refused}
 use Rattle.protocol.proofs.Reading.{tabulate-ext}
 use Rattle.residues.specs.Elements.{elementAt}
+use Rattle.equations.specs.Given.{Evaluable}
 use Rattle.verifier.specs.Records.{counted}
 
 -- ---- start
@@ -45,9 +49,13 @@ module _ (S : Settings) (C : List ℕ) where
 
 -- ---- round
 
+element-below : (S : Settings) (a : List ℕ) → residueElement S a ≡ true → (k : ℕ) → k < S .degree → getD a k 0 < S .modulus
+unfolding residueElement
+element-below S a t k l = ltb-true _ _ (every-at (S .degree) (λ j. ltb (getD a j 0) (S .modulus)) t k l)
+
 module _ (r : Session) (p : List (List ℕ)) (e : ℕ) where
   pub record RoundGiven : Type 0 where
-    pub allowed : settingsRefusal (r .settings) ≡ 0
+    pub read : Evaluable (r .settings) (part p 0) (part p 1) (part p 2)
     pub turn : r .done < r .settings .depth
 
   pub round-given : moveRefusal r p e ≡ 0 → RoundGiven
@@ -57,7 +65,14 @@ module _ (r : Session) (p : List (List ℕ)) (e : ℕ) where
       let (r8, e10) = first-zero _ _ e8 in
       let (r10, e11) = first-zero _ _ e10 in
       let (r11, rest) = first-zero _ _ e11 in
-      record { allowed = r6; turn = ltb-true _ _ (and-split (unless-zero 10 _ r11) .0) }
+      let S = r .settings in
+      let (three, last) = and-split {a = residueElement S (r .claim) && residueElement S (part p 0) && residueElement S (part p 1)} {b = residueElement S (part p 2)} (unless-zero 7 _ r8) in
+      let (two, middle) = and-split {a = residueElement S (r .claim) && residueElement S (part p 0)} {b = residueElement S (part p 1)} three in
+      let (own, front) = and-split {a = residueElement S (r .claim)} {b = residueElement S (part p 0)} two in
+      record {
+        read = record { allowed = r6; first = element-below S (part p 0) front; second = element-below S (part p 1) middle; third = element-below S (part p 2) last };
+        turn = ltb-true _ _ (and-split (unless-zero 10 _ r11) .0);
+      }
 
   pub round-refused : (n : ℕ) → n ≡ moveRefusal r p e → (n ≡ 0 → ⊥) → _≡_ {A = Moved} (record { number = n; verdict = Silent; next = r }) (move r p e)
   unfolding move refusedMove
@@ -81,14 +96,17 @@ module _ (r : Session) (p : List (List ℕ)) (e : ℕ) where
 module _ (r : Session) (f : List ℤ) (key : List ℕ) where
   pub record EndGiven : Type 0 where
     pub allowed : settingsRefusal (r .settings) ≡ 0
-    pub key-long : length key ≡ cells (r .settings)
+    pub key-below : Below (r .settings .modulus) (cells (r .settings)) key
 
   pub end-given : closeRefusal r key ≡ 0 → EndGiven
-  unfolding closeRefusal sized
+  unfolding closeRefusal residues
   end-given z =
       let (r6, e7) = first-zero _ _ z in
       let (r7, e8) = first-zero _ _ e7 in
-      record { allowed = r6; key-long = eqb-true _ _ (unless-zero 6 _ r7) }
+      let S = r .settings in
+      let (r8, rest) = first-zero _ _ e8 in
+      let (of-key, of-claim) = and-split {a = residues S key} {b = residueElement S (r .claim)} (unless-zero 7 _ r8) in
+      record { allowed = r6; key-below = tested-below (S .modulus) (cells S) key (unless-zero 6 _ r7) of-key }
 
   pub end-refused : (n : ℕ) → n ≡ closeRefusal r key → (n ≡ 0 → ⊥) → _≡_ {A = Moved} (record { number = n; verdict = Silent; next = r }) (close r f key)
   unfolding close refusedMove

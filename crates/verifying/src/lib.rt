@@ -1,9 +1,9 @@
 // The program `verify` as a call on text: its settings, its tables, and the check of its transcript.
-use residues::elements;
 use protocol::Parts;
 use protocol::Settings;
 use protocol::Verdict;
 use protocol::Verified;
+use residues::elements;
 ghost use mathlib.Core.Path.{_≡_};
 ghost use mathlib.Core.Bool.{true};
 ghost use mathlib.Core.List.{[]};

@@ -1,9 +1,9 @@
 // What the writer refuses before it looks at the text: refusals 3 to 10.
+use protocol::Parts;
+use protocol::Settings;
 use ranges::tests::all_below;
 use ranges::tests::all_within;
 use ranges::tests::settings_refusal;
-use protocol::Parts;
-use protocol::Settings;
 use shapes::Lengths;
 use shapes::fits;
 ghost use mathlib.Core.Path.{_≡_};

@@ -17,7 +17,7 @@ ending-met-requires : tie.Need-ending-met-requires
 ending-met-requires c κs = search needs
 
 returns : tie.Need-returns
-returns c = λ e. let r = ready _ e in c .ending-met .ensures e (omega arith) (omega arith) (omega arith)
+returns c = λ e. let r = ready _ e in c .ending-met .ensures (record { allowed = e; first = omega arith; second = omega arith; third = omega arith })
 
 pub end-holds-spec : {M : Type 1} → statement M
 end-holds-spec =

@@ -13,10 +13,10 @@ end-holds-requires : tie.Need-end-holds-requires
 end-holds-requires c κs = search needs
 
 returns : tie.Need-returns
-returns c = λ e l m.
+returns c = λ g.
     let a = c .before .before .before .before .args in
-    c .end-holds .ensures e
-    ∙ ap (λ g. endMet (a .settings) (a .claim) (signed (a .f)) (residue g)) (c .before .folded-key .ensures e l m)
+    c .end-holds .ensures (g .allowed)
+    ∙ ap (λ x. endMet (a .settings) (a .claim) (signed (a .f)) (residue x)) (c .before .folded-key .ensures g)
     ∙ end-by-key (a .settings) (a .key .now) (a .challenges .now) (a .claim) (signed (a .f))
 
 pub end-met-spec : {M : Type 1} → statement M

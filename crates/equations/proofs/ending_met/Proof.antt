@@ -12,30 +12,30 @@ cast-d : tie.Need-cast-d
 cast-d c = search needs
 
 returns : tie.Need-returns
-returns c = λ e h0 h1 h2. absurd (omega arith)
+returns c = λ g. absurd (omega arith)
 
 returns-2 : tie.Need-returns-2
-returns-2 c = λ e h0 h1 h2. absurd (omega arith)
+returns-2 c = λ g. absurd (omega arith)
 
 returns-3 : tie.Need-returns-3
-returns-3 c = λ e h0 h1 h2. absurd (omega arith)
+returns-3 c = λ g. absurd (omega arith)
 
 final-bounded-requires : tie.Need-final-bounded-requires
 final-bounded-requires c κs = search needs
 
 returns-4 : tie.Need-returns-4
 unfolding endMet
-returns-4 c = λ e h0 h1 h2. let a = c .before .before .before .before .before .before .before .before .args in sym (ap (λ b. b && equationMet (a .settings) (a .claim .now) (signed (a .f .now)) (residue (a .g .now))) (sym (c .before .final-bounded .ensures e) ∙ not-true _ (c .if4 .taken)))
+returns-4 c = λ g. let a = c .before .before .before .before .before .before .before .before .args in sym (ap (λ b. b && equationMet (a .settings) (a .claim .now) (signed (a .f .now)) (residue (a .g .now))) (sym (c .before .final-bounded .ensures (g .allowed)) ∙ not-true _ (c .if4 .taken)))
 
 equation-met-requires : tie.Need-equation-met-requires
 equation-met-requires c κs = search needs
 
 returns-5 : tie.Need-returns-5
 unfolding endMet
-returns-5 c = λ e h0 h1 h2.
+returns-5 c = λ g.
     let a = c .before .before .before .before .before .before .before .before .before .args in
-    let t = sym (c .before .before .final-bounded .ensures e) ∙ not-false _ (c .before .if4 .left) in
-    c .equation-met .ensures e t ∙ sym (ap (λ b. b && equationMet (a .settings) (a .claim .now) (signed (a .f .now)) (residue (a .g .now))) t)
+    let t = sym (c .before .before .final-bounded .ensures (g .allowed)) ∙ not-false _ (c .before .if4 .left) in
+    c .equation-met .ensures (record { allowed = g .allowed; bounded = t }) ∙ sym (ap (λ b. b && equationMet (a .settings) (a .claim .now) (signed (a .f .now)) (residue (a .g .now))) t)
 
 pub ending-met-spec : {M : Type 1} → statement M
 ending-met-spec =

@@ -12,10 +12,10 @@ cast-d : tie.Need-cast-d
 cast-d c = search needs
 
 returns : tie.Need-returns
-returns c = λ e t. absurd (let r = ready _ e in omega arith)
+returns c = λ g. absurd (let r = ready _ (g .allowed) in omega arith)
 
 returns-2 : tie.Need-returns-2
-returns-2 c = λ e t. absurd (let r = ready _ e in omega arith)
+returns-2 c = λ g. absurd (let r = ready _ (g .allowed) in omega arith)
 
 slice-aggregate-extend : tie.Need-slice-aggregate-extend
 slice-aggregate-extend c = search needs
@@ -42,16 +42,16 @@ quotients-are-requires : tie.Need-quotients-are-requires
 quotients-are-requires c κs = search needs
 
 returns-3 : tie.Need-returns-3
-returns-3 c = λ e t.
+returns-3 c = λ g.
     let x = c .before .before .before .before .before .before .before .before in
     let a = x .before .before .before .before .before .before .before .args in
     let S = a .settings in
-    let r = ready S e in
+    let r = ready S (g .allowed) in
     let s = c .before .before .before .before .accumulate in
     c .quotients-are .ensures
-    ∙ equation-is S r (a .f .now) t (a .g .now) (a .claim .now) _ _ (c .before .before .left .ensures e (omega arith))
+    ∙ equation-is S r (a .f .now) (g .bounded) (a .g .now) (a .claim .now) _ _ (c .before .before .left .ensures (record { allowed = g .allowed; most = omega arith }))
     (s .ensures (record { degree = r .degree-most; coefficients = omega arith; residues = omega arith; sums = omega arith })
-    ∙ extension-rows (S .modulus) (S .degree) (omega arith) (omega arith) (a .g .now) (omega arith) (replicate 192 0) _ (x .extend .ensures (omega arith) (omega arith) (r .degree-most) (omega arith) (omega arith)) (a .f .now) (replicate 64 0))
+    ∙ extension-rows (S .modulus) (S .degree) (omega arith) (omega arith) (a .g .now) (omega arith) (replicate 192 0) _ (x .extend .ensures (record { modulus = omega arith; degree = omega arith; degree-most = r .degree-most; coefficients = omega arith; places = omega arith })) (a .f .now) (replicate 64 0))
 
 pub equation-met-spec : {M : Type 1} → statement M
 equation-met-spec =

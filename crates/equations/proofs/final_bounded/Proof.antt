@@ -40,7 +40,7 @@ size-is c = sym (c .magnitude .ensures ∙ ap natAbs (through-bits w32 (coeffici
 
 limit-is : (c : tie.After-left-bound Inv-loop μ-loop) → let S = c .before .before .args .settings in settingsRefusal S ≡ 0 → c .left-bound .result ≡ size S * S .bound
 unfolding size
-limit-is c e = c .left-bound .ensures e (le-refl _)
+limit-is c e = c .left-bound .ensures (record { allowed = e; most = le-refl _ })
 
 loop-holds : tie.Need-loop-holds Inv-loop μ-loop
 loop-holds c = (omega arith, omega arith, every-none _)

@@ -1,7 +1,12 @@
-use mathlib.Core.Path.{refl, _∙_}
+use mathlib.Core.Path.{refl, ap, _∙_}
+use mathlib.Core.List.{List}
+use Prim.Native.Nat.{ℕ, _<_, _≤_}
+use native.Mathlib.Nat.{zero-add}
+use lib.ListN.{length, getD}
 use native.Mathlib.Omega.{arith}
 use Rattle.protocol.specs.Element.{residue, reduced}
 use Rattle.protocol.specs.Transcript.{nextClaim}
+use Rattle.residues.specs.Residues.{Residues}
 use Rattle.residues.specs.Elements.{valueAt}
 use Rattle.residues.proofs.Splice.{spliced-element}
 use Rattle.equations.proofs.Ready.{ready}
@@ -26,11 +31,18 @@ value-requires c κs = search needs
 
 returns : tie.Need-returns
 unfolding nextClaim reduced valueAt
-returns c = λ e.
+returns c = λ g.
     let a = c .before .before .before .before .before .before .args in
     let S = a .settings in
-    let r = ready S e in
-    c .before .value .ensures (omega arith) (omega arith) (omega arith) (omega arith) (omega arith) (omega arith) (omega arith)
+    let r = ready S (g .allowed) in
+    let row : (l : List ℕ) → S .degree ≤ length l → ((k : ℕ) → k < S .degree → getD l k 0 < S .modulus) → Residues (S .modulus) (S .degree) 0 l =
+    λ l long each. record { long = omega arith; each = λ k m. omega (arith, ap (λ j. getD l j 0) (zero-add k), each k m) } in
+    c .before .value .ensures (record {
+      degree = omega arith;
+      degree-most = omega arith;
+      coefficients = record { modulus = omega arith; first = row (a .t3) (omega arith) (g .first); second = row (a .t4) (omega arith) (g .second); third = row (a .t5) (omega arith) (g .third) };
+      room = omega arith;
+    })
     ∙ spliced-element _ (valueAt (S .modulus) (S .degree) (a .e) (residue (a .t3)) (residue (a .t4)) (residue (a .t5))) (S .degree) (λ k l. refl)
 
 pub next-claim-spec : {M : Type 1} → statement M

@@ -17,7 +17,7 @@ round-met-requires : tie.Need-round-met-requires
 round-met-requires c κs = search needs
 
 returns : tie.Need-returns
-returns c = λ e. let r = ready _ e in c .round-met .ensures e (omega arith) (omega arith) (omega arith)
+returns c = λ e. let r = ready _ e in c .round-met .ensures (record { allowed = e; first = omega arith; second = omega arith; third = omega arith })
 
 pub round-holds-spec : {M : Type 1} → statement M
 round-holds-spec =

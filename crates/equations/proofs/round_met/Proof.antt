@@ -25,16 +25,16 @@ cast-d : tie.Need-cast-d Inv-loop μ-loop
 cast-d c = search needs
 
 returns : tie.Need-returns Inv-loop μ-loop
-returns c = λ e h0 h1 h2. absurd (let r = ready _ e in omega arith)
+returns c = λ g. absurd (let r = ready _ (g .allowed) in omega arith)
 
 returns-2 : tie.Need-returns-2 Inv-loop μ-loop
-returns-2 c = λ e h0 h1 h2. absurd (omega arith)
+returns-2 c = λ g. absurd (omega arith)
 
 returns-3 : tie.Need-returns-3 Inv-loop μ-loop
-returns-3 c = λ e h0 h1 h2. absurd (omega arith)
+returns-3 c = λ g. absurd (omega arith)
 
 returns-4 : tie.Need-returns-4 Inv-loop μ-loop
-returns-4 c = λ e h0 h1 h2. absurd (omega arith)
+returns-4 c = λ g. absurd (omega arith)
 
 loop-holds : tie.Need-loop-holds Inv-loop μ-loop
 loop-holds c = (omega arith, omega arith, omega arith, omega arith, omega arith, every-none _)
@@ -62,7 +62,7 @@ doubled-is-requires c κs = search needs
 
 returns-5 : tie.Need-returns-5 Inv-loop μ-loop
 unfolding roundHolds doubled modulo residue
-returns-5 c = λ e h0 h1 h2. let l = c .before .before .before .before .before .before .loop in every-fails _ _ (l .k) (omega arith) (sym (c .before .doubled-is .ensures) ∙ not-true _ (c .if5 .taken))
+returns-5 c = λ g. let l = c .before .before .before .before .before .before .loop in every-fails _ _ (l .k) (omega arith) (sym (c .before .doubled-is .ensures) ∙ not-true _ (c .if5 .taken))
 
 add-k : tie.Need-add-k Inv-loop μ-loop
 add-k c = search needs
@@ -75,7 +75,7 @@ loop-again c = let l = c .before .before .before .before .before .before .loop i
 
 returns-6 : tie.Need-returns-6 Inv-loop μ-loop
 unfolding roundHolds doubled modulo residue
-returns-6 c = λ e h0 h1 h2. let l = c .before .loop in every-ends _ _ (l .k) (l .inv .5) (omega arith)
+returns-6 c = λ g. let l = c .before .loop in every-ends _ _ (l .k) (l .inv .5) (omega arith)
 
 pub round-met-spec : {M : Type 1} → statement M
 round-met-spec =

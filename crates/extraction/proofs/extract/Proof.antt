@@ -20,7 +20,7 @@ given : (c : tie.Else1) → let a = c .before .before .before .before .before .b
 given c = let a = c .before .before .before .before .before .before .args in early-given (a .settings) (a .commitment) (a .key .now) (a .rounds .now) (a .challenges .now) (a .leaves .now) (a .w .now) (early c)
 
 paths-are : (c : tie.After-every-path-accepted) → let a = c .before .before .before .before .before .before .before .args in c .every-path-accepted .result ≡ everyPath (a .settings) (a .commitment) (a .key .now) (a .rounds .now) (a .challenges .now) (a .leaves .now)
-paths-are c = let g = given (c .before) in c .every-path-accepted .ensures (g .allowed) (g .lengths .key-long) (g .lengths .rounds-long) (g .lengths .finals-long)
+paths-are c = let g = given (c .before) in c .every-path-accepted .ensures (record { allowed = g .allowed; key-below = g .key-below; rounds-below = g .rounds-below; finals-long = g .lengths .finals-long })
 
 accepted : (c : tie.Else2) → let a = c .before .before .before .before .before .before .before .before .args in everyPath (a .settings) (a .commitment) (a .key .now) (a .rounds .now) (a .challenges .now) (a .leaves .now) ≡ true
 accepted c = sym (paths-are (c .before)) ∙ not-false _ (c .if2 .left)

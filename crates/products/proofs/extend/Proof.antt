@@ -4,19 +4,19 @@ use Rattle.products.proofs.extend.Statement.{statement}
 use Rattle.products.proofs.extend.Tie as tie
 
 returns : tie.Need-returns
-returns c = λ hq hd h l r. absurd (omega arith)
+returns c = λ g. absurd (omega arith)
 
 returns-2 : tie.Need-returns-2
-returns-2 c = λ hq hd h l r. absurd (omega arith)
+returns-2 c = λ g. absurd (omega arith)
 
 returns-3 : tie.Need-returns-3
-returns-3 c = λ hq hd h l r. absurd (omega arith)
+returns-3 c = λ g. absurd (omega arith)
 
 mul-if4 : tie.Need-mul-if4
 mul-if4 c = search needs
 
 returns-4 : tie.Need-returns-4
-returns-4 c = λ hq hd h l r. absurd (omega arith)
+returns-4 c = λ g. absurd (omega arith)
 
 write-rows-requires : tie.Need-write-rows-requires
 write-rows-requires c κs = search needs

@@ -17,13 +17,13 @@ abbrev μ-loop : tie.MeasureT-loop
 μ-loop q d sums a₀ n k₀ a k = d - k
 
 returns : tie.Need-returns Inv-loop μ-loop
-returns c = λ hq hd h. absurd (omega arith)
+returns c = λ g. absurd (omega arith)
 
 returns-2 : tie.Need-returns-2 Inv-loop μ-loop
-returns-2 c = λ hq hd h. absurd (omega arith)
+returns-2 c = λ g. absurd (omega arith)
 
 returns-3 : tie.Need-returns-3 Inv-loop μ-loop
-returns-3 c = λ hq hd h. absurd (omega arith)
+returns-3 c = λ g. absurd (omega arith)
 
 loop-holds : tie.Need-loop-holds Inv-loop μ-loop
 loop-holds c = (omega arith, omega arith, omega arith, omega arith, fill-none 64 _)
@@ -56,7 +56,7 @@ loop-again c =
 
 returns-4 : tie.Need-returns-4 Inv-loop μ-loop
 unfolding reducedSums
-returns-4 c = λ hq hd h. let l = c .before .loop in element-done _ (l .k) _ (l .a) (l .inv .4) (omega arith)
+returns-4 c = λ g. let l = c .before .loop in element-done _ (l .k) _ (l .a) (l .inv .4) (omega arith)
 
 pub reduced-sums-spec : {M : Type 1} → statement M
 reduced-sums-spec =

@@ -4,7 +4,7 @@ use Prim.Native.Nat.{_+_, _-_, _<_, _≤_}
 use native.Mathlib.Nat.{mod-lt}
 use native.Mathlib.Omega.{arith}
 use lib.ListN.{length, getD, length-set}
-use Rattle.residues.specs.Residues.{turned}
+use Rattle.products.specs.Products.{turned}
 use Rattle.products.proofs.Extension.{place-first, place-second, place-third}
 use Rattle.products.proofs.ThreeRows.{ThreeRows, three-none, three-turn, three-done}
 use borrow.Author.Needs.{needs}

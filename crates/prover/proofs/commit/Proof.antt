@@ -20,7 +20,7 @@ given : (c : tie.Else1) → let a = c .before .before .before .args in CommitGiv
 given c = commit-given _ _ _ (passed c)
 
 all : (c : tie.After-left) → c .left .result ≡ left (c .before .before .before .before .args .settings) 0
-all c = c .left .ensures (given (c .before) .tables .allowed) (omega arith)
+all c = c .left .ensures (record { allowed = given (c .before) .tables .allowed; most = omega arith })
 
 commit-requires : tie.Need-commit-requires
 commit-requires c κs = search needs
@@ -64,7 +64,7 @@ returns-2 c =
     let g = given (n .before) in
     let ok = g .tables .settings in
     commit-done S (a .key .now) (a .message .now) (passed (n .before)) _
-    (c .reduced-sums .ensures (omega (arith, ok .modulus-least)) (degree-most S ok) (omega (arith, degree-most S ok, c .before .before .before .add-inner .kept .1 .1 .1 .1 .1 .0))
+    (c .reduced-sums .ensures (record { modulus = omega (arith, ok .modulus-least); degree-most = degree-most S ok; sums = omega (arith, degree-most S ok, c .before .before .before .add-inner .kept .1 .1 .1 .1 .1 .0) })
     ∙ ap (reducedSums (S .modulus) (S .degree)) (c .before .before .before .add-inner .ensures ∙ ap (λ x. innerSums (S .modulus) (S .degree) (a .message .now) (a .key .now) x (zeros 64)) (all n))
     ∙ commitment-is S (a .key .now) (a .message .now) g)
 

@@ -1,10 +1,9 @@
 use mathlib.Core.Path.{_≡_, sym, _∙_}
-use native.Mathlib.Omega.{arith}
 use borrow.Author.Needs.{needs}
 use Rattle.protocol.specs.Element.{width, signedZeros}
 use Rattle.protocol.specs.Opening.{finalElement}
 use Rattle.protocol.specs.Calls.{endRefusal}
-use Rattle.sizes.proofs.Limits.{degree-most, degree-inside}
+use Rattle.sizes.proofs.Limits.{degree-most}
 use Rattle.refusals.proofs.Given.{end-given}
 use Rattle.prover.proofs.Answers.{end-refused, end-done}
 use Rattle.prover.proofs.end.Statement.{statement}
@@ -20,19 +19,16 @@ returns : tie.Need-returns
 unfolding signedZeros width
 returns c = let a = c .before .before .args in end-refused (a .settings) (a .done) (a .message .now) _ (c .before .end .ensures) (c .if1 .taken)
 
-cast-d : tie.Need-cast-d
-cast-d c = search needs
-
-first-element-requires : tie.Need-first-element-requires
-first-element-requires c κs =
-    let a = c .before .before .before .args in
-    let (ok, long) = end-given (a .settings) (a .done) (a .message .now) (passed (c .before)) in
-    (degree-most (a .settings) ok, omega (arith, degree-inside (a .settings) ok))
+signed-element-at-requires : tie.Need-signed-element-at-requires
+signed-element-at-requires c κs = search needs
 
 returns-2 : tie.Need-returns-2
 unfolding finalElement
-returns-2 c = let a = c .before .before .before .before .args in end-done (a .settings) (a .done) (a .message .now) (passed (c .before .before)) _ (c .first-element .ensures)
+returns-2 c =
+    let a = c .before .before .before .args in
+    let (ok, long) = end-given (a .settings) (a .done) (a .message .now) (passed (c .before)) in
+    end-done (a .settings) (a .done) (a .message .now) (passed (c .before)) _ (c .signed-element-at .ensures (degree-most (a .settings) ok))
 
 pub end-spec : {M : Type 1} → statement M
 end-spec =
-    tie.close (tie.spec end-requires returns cast-d first-element-requires returns-2)
+    tie.close (tie.spec end-requires returns signed-element-at-requires returns-2)

@@ -1,6 +1,6 @@
 use mathlib.Core.Path.{_≡_, sym, ap, _∙_}
+use Prim.Native.Nat.{_+_}
 use native.Mathlib.Omega.{arith}
-use lib.ListN.{length}
 use Rattle.protocol.specs.Opening.{halfLeft, foldSigned, foldResidues}
 use Rattle.protocol.specs.Calls.{foldRefusal}
 use Rattle.sizes.proofs.Limits.{degree-least, degree-most}
@@ -19,55 +19,49 @@ given : (c : tie.Else1) → let a = c .before .before .before .before .before .a
 given c = fold-given _ _ _ _ _ (passed c)
 
 half-is : (c : tie.After-half-left) → let a = c .before .before .before .before .before .before .args in c .half-left .result ≡ halfLeft (a .settings) (a .done)
-half-is c = c .half-left .ensures (given (c .before) .tables .allowed) (given (c .before) .turn)
+half-is c = c .half-left .ensures (record { allowed = given (c .before) .tables .allowed; turn = given (c .before) .turn })
 
-foldable : (c : tie.After-half-left) → let a = c .before .before .before .before .before .before .args in Foldable (a .settings .modulus) (a .settings .degree) (c .half-left .result) 0 0 (length (a .key .now))
+foldable : (c : tie.After-half-left) → let a = c .before .before .before .before .before .before .args in Foldable (a .settings .modulus) (a .settings .degree) (c .half-left .result) 0 0 (a .key .now)
 foldable c =
     let a = c .before .before .before .before .before .before .args in
     let g = given (c .before) in
     let S = a .settings in
     let ok = g .tables .settings in
     rw (half-is c) (record {
-      modulus = omega (arith, ok .modulus-least);
       degree = omega (arith, degree-least S ok);
       degree-most = degree-most S ok;
       elements = half-most S ok (a .done) (g .turn);
       down = omega arith;
-      inside = omega (arith, halves-inside S ok (a .done) (g .turn), g .tables .key-given .long);
+      residues = record {
+        long = omega (arith, halves-inside S ok (a .done) (g .turn), g .tables .key-given .long);
+        each = λ k m. g .tables .key-given .each (0 + k) (omega (arith, halves-inside S ok (a .done) (g .turn)));
+      };
     })
 
 fold-requires : tie.Need-fold-requires
 fold-requires c κs = search needs
 
--- src/lib.rt:18:9
 same-length : tie.Need-same-length
 same-length c = search needs
 
--- src/lib.rt:18:9
 same-length-2 : tie.Need-same-length-2
 same-length-2 c = search needs
 
--- src/lib.rt:18:9
 returns : tie.Need-returns
 returns c = let a = c .before .before .before .before .before .args in fold-refused (a .settings) (a .done) (a .e) (a .key .now) (a .message .now) _ (c .before .fold .ensures) (c .if1 .taken)
 
--- src/lib.rt:21:9
 half-left-requires : tie.Need-half-left-requires
 half-left-requires c κs = search needs
 
--- src/lib.rt:22:5
 fold-residues-requires : tie.Need-fold-residues-requires
 fold-residues-requires c κs = search needs
 
--- src/lib.rt:23:28
 cast-fold-message : tie.Need-cast-fold-message
 cast-fold-message c = search needs
 
--- src/lib.rt:23:40
 cast-fold-message-2 : tie.Need-cast-fold-message-2
 cast-fold-message-2 c = search needs
 
--- src/lib.rt:23:5
 fold-message-requires : tie.Need-fold-message-requires
 fold-message-requires c κs =
     let h = c .before .before .before .before .before in
@@ -79,15 +73,12 @@ fold-message-requires c κs =
       rw (half-is h) (omega (arith, halves-inside S ok (a .done) (g .turn), g .tables .message-long), left-room S ok (a .done) (g .turn) (a .message .now) (g .small-left)),
     )
 
--- src/lib.rt:13:1
 same-length-3 : tie.Need-same-length-3
 same-length-3 c = search needs
 
--- src/lib.rt:13:1
 same-length-4 : tie.Need-same-length-4
 same-length-4 c = search needs
 
--- src/lib.rt:13:1
 returns-2 : tie.Need-returns-2
 returns-2 c =
     let h = c .before .before .before .before .before .before .before in

@@ -20,7 +20,7 @@ given : (c : tie.Else1) → let a = c .before .before .before .args in RoundGive
 given c = round-given _ _ _ _ (passed c)
 
 half-is : (c : tie.After-half-left) → let a = c .before .before .before .before .args in c .half-left .result ≡ halfLeft (a .settings) (a .done)
-half-is c = c .half-left .ensures (given (c .before) .tables .allowed) (given (c .before) .turn)
+half-is c = c .half-left .ensures (record { allowed = given (c .before) .tables .allowed; turn = given (c .before) .turn })
 
 round-requires : tie.Need-round-requires
 round-requires c κs = search needs

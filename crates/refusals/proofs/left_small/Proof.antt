@@ -12,7 +12,7 @@ use Rattle.refusals.proofs.left_small.Statement.{statement}
 use Rattle.refusals.proofs.left_small.Tie as tie
 
 part : (c : tie.After-left-cells) → c .left-cells .result ≡ left (c .before .args .settings) (c .before .args .t) * c .before .args .settings .degree
-part c = c .left-cells .ensures (c .before .pre .0) (c .before .pre .1)
+part c = c .left-cells .ensures (record { allowed = c .before .pre .0; most = c .before .pre .1 })
 
 inside : (c : tie.After-left-cells) → c .left-cells .result ≤ length (c .before .args .message .now)
 inside c = omega (arith, part c, left-inside (c .before .args .settings) (c .before .args .t), c .before .pre .2)
@@ -34,7 +34,7 @@ unfolding leftSmall
 returns c =
     let a = c .before .before .before .before .args in
     c .all-within .ensures
-    ∙ (λ i. small (c .before .before .left-bound .ensures (c .before .before .before .before .pre .0) (c .before .before .before .before .pre .1) i) (take (part (c .before .before .before) i) (a .message .now)))
+    ∙ (λ i. small (c .before .before .left-bound .ensures (record { allowed = c .before .before .before .before .pre .0; most = c .before .before .before .before .pre .1 }) i) (take (part (c .before .before .before) i) (a .message .now)))
 
 pub left-small-spec : {M : Type 1} → statement M
 left-small-spec =

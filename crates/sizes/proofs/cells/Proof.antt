@@ -13,7 +13,7 @@ left-cells-requires c κs = search needs
 
 returns : tie.Need-returns
 unfolding cells left
-returns c = λ e. let S = c .before .args .settings in c .left-cells .ensures e (omega arith) ∙ ap (λ n. n * S .degree) (Nat.div-one (size S))
+returns c = λ e. let S = c .before .args .settings in c .left-cells .ensures (record { allowed = e; most = omega arith }) ∙ ap (λ n. n * S .degree) (Nat.div-one (size S))
 
 pub cells-spec : {M : Type 1} → statement M
 cells-spec = tie.close (tie.spec left-cells-requires returns)

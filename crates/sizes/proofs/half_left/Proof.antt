@@ -4,22 +4,18 @@ use borrow.Author.Needs.{needs}
 use Rattle.sizes.proofs.half_left.Statement.{statement}
 use Rattle.sizes.proofs.half_left.Tie as tie
 
--- src/lib.rt:48:9
 returns : tie.Need-returns
-returns c = search needs
+returns c = λ g. absurd (omega arith)
 
--- src/lib.rt:50:20
 add-left : tie.Need-add-left
 add-left c = search needs
 
--- src/lib.rt:50:5
 left-requires : tie.Need-left-requires
 left-requires c κs = search needs
 
--- src/lib.rt:44:1
 returns-2 : tie.Need-returns-2
 unfolding left halfLeft
-returns-2 c = λ e l. c .left .ensures e (omega arith)
+returns-2 c = λ g. c .left .ensures (record { allowed = g .allowed; most = omega (arith, g .turn) })
 
 pub half-left-spec : {M : Type 1} → statement M
 half-left-spec = tie.close (tie.spec returns add-left left-requires returns-2)

@@ -7,21 +7,17 @@ use borrow.Author.Needs.{needs}
 use Rattle.sizes.proofs.left.Statement.{statement}
 use Rattle.sizes.proofs.left.Tie as tie
 
--- src/lib.rt:36:9
 returns : tie.Need-returns
-returns c = λ e. absurd (omega (arith, settings-valid _ e .depth-most))
+returns c = λ g. absurd (omega (arith, settings-valid _ (g .allowed) .depth-most))
 
--- src/lib.rt:39:9
 returns-2 : tie.Need-returns-2
-returns-2 c = search needs
+returns-2 c = λ g. absurd (omega arith)
 
--- src/lib.rt:41:5
 shl-result : tie.Need-shl-result
 shl-result c = search needs
 
--- src/lib.rt:32:1
 returns-3 : tie.Need-returns-3
-returns-3 c = λ e l. shifted 32 _ (omega arith) ∙ sym (left-power _ _ l)
+returns-3 c = λ g. shifted 32 _ (omega arith) ∙ sym (left-power _ _ (g .most))
 
 pub left-spec : {M : Type 1} → statement M
 left-spec = tie.close (tie.spec returns returns-2 shl-result returns-3)

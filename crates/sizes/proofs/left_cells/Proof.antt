@@ -6,25 +6,20 @@ use borrow.Author.Needs.{needs}
 use Rattle.sizes.proofs.left_cells.Statement.{statement}
 use Rattle.sizes.proofs.left_cells.Tie as tie
 
--- src/lib.rt:44:6
 left-requires : tie.Need-left-requires
 left-requires c κs = search needs
 
--- src/lib.rt:44:6
 cast-result : tie.Need-cast-result
 cast-result c = search needs
 
--- src/lib.rt:44:37
 cast-result-2 : tie.Need-cast-result-2
 cast-result-2 c = search needs
 
--- src/lib.rt:44:5
 mul-result : tie.Need-mul-result
 mul-result c = record { fits = product-fits (c .before .left .result) (c .before .before .args .settings .degree) (omega arith) (omega arith) }
 
--- src/lib.rt:41:1
 returns : tie.Need-returns
-returns c = λ e l. ap (λ n. n * c .before .before .args .settings .degree) (c .before .left .ensures e l)
+returns c = λ g. ap (λ n. n * c .before .before .args .settings .degree) (c .before .left .ensures g)
 
 pub left-cells-spec : {M : Type 1} → statement M
 left-cells-spec = tie.close (tie.spec left-requires cast-result cast-result-2 mul-result returns)

@@ -19,13 +19,13 @@ settings-refusal-requires : tie.Need-settings-refusal-requires
 settings-refusal-requires c κs = search needs
 
 returns : tie.Need-returns
-returns c = λ e l m n. absurd (c .if1 .taken (c .before .settings-refusal .ensures ∙ e))
+returns c = λ g. absurd (c .if1 .taken (c .before .settings-refusal .ensures ∙ g .allowed))
 
 cells-requires : tie.Need-cells-requires
 cells-requires c κs = search needs
 
 returns-2 : tie.Need-returns-2
-returns-2 c = λ e l m n. absurd (c .if2 .taken (l ∙ sym (c .before .cells .ensures e)))
+returns-2 c = λ g. absurd (c .if2 .taken (g .key-below .long ∙ sym (c .before .cells .ensures (g .allowed))))
 
 cast-d : tie.Need-cast-d
 cast-d c = search needs
@@ -40,7 +40,7 @@ mul-if3-2 : tie.Need-mul-if3-2
 mul-if3-2 c = omega (arith, mul-le-mul {n₁ = 3 * c .nodes .result} {n₂ = 9840} {m₂ = 64} (omega (arith, c .nodes .ensures .1)) (small (c .before .before .before .before)))
 
 returns-3 : tie.Need-returns-3
-returns-3 c = λ e l m n. absurd (c .if3 .taken (m ∙ ap (λ x. 3 * x * c .before .before .before .before .before .before .before .before .before .before .args .settings .degree) (sym (c .before .nodes .ensures .0 e))))
+returns-3 c = λ g. absurd (c .if3 .taken (g .rounds-below .long ∙ ap (λ x. 3 * x * c .before .before .before .before .before .before .before .before .before .before .args .settings .degree) (sym (c .before .nodes .ensures .0 (g .allowed)))))
 
 leaves-requires : tie.Need-leaves-requires
 leaves-requires c κs = search needs
@@ -49,7 +49,7 @@ mul-if4 : tie.Need-mul-if4
 mul-if4 c = omega (arith, mul-le-mul {n₁ = c .leaves .result} {n₂ = 6561} {m₂ = 64} (c .leaves .ensures .2) (small (c .before .before .before .before .before .before)))
 
 returns-4 : tie.Need-returns-4
-returns-4 c = λ e l m n. absurd (c .if4 .taken (n ∙ ap (λ x. x * c .before .before .before .before .before .before .before .before .before .before .before .before .args .settings .degree) (sym (c .before .leaves .ensures .0 e))))
+returns-4 c = λ g. absurd (c .if4 .taken (g .finals-long ∙ ap (λ x. x * c .before .before .before .before .before .before .before .before .before .before .before .before .args .settings .degree) (sym (c .before .leaves .ensures .0 (g .allowed)))))
 
 root-accepted-requires : tie.Need-root-accepted-requires
 root-accepted-requires c κs =
@@ -65,7 +65,7 @@ root-accepted-requires c κs =
     )
 
 returns-5 : tie.Need-returns-5
-returns-5 c = λ e l m n. c .root-accepted .ensures
+returns-5 c = λ g. c .root-accepted .ensures g
 
 pub every-path-accepted-spec : {M : Type 1} → statement M
 every-path-accepted-spec =

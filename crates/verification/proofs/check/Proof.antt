@@ -28,7 +28,7 @@ end-is : (c : tie.After-end-met) → let a = c .before .before .before .before .
 end-is c =
     let a = c .before .before .before .before .before .before .before .before .before .args in
     let p = tables (c .before .before .before .before) in
-    c .end-met .ensures (p .tables .settings) (p .key-long) (le-of-eq (sym (p .tables .challenges-long)))
+    c .end-met .ensures (record { allowed = p .tables .settings; key-below = p .key-below; challenges-long = le-of-eq (sym (p .tables .challenges-long)) })
     ∙ ap (λ claim. finalBounded (a .settings) (signed (a .last)) && endHolds (a .settings) (a .key .now) (a .challenges .now) claim (signed (a .last))) (c .before .claim-at .ensures)
 
 check-requires : tie.Need-check-requires

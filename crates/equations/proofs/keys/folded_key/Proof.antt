@@ -1,9 +1,11 @@
-use mathlib.Core.Path.{_≡_, refl, sym, ap, _∙_}
+use mathlib.Core.Path.{_≡_, refl, sym, ap, subst, _∙_}
 use mathlib.Core.List.{_++_}
 use native.Mathlib.Omega.{arith}
 use lib.ListN.{length, take, drop}
 use lib.Seq.{length-take-le, length-front, take-at}
+use Rattle.protocol.specs.Settings.{cells}
 use Rattle.protocol.specs.Opening.{keyAfter}
+use Rattle.protocol.specs.Inputs.{Below}
 use Rattle.protocol.proofs.Inputs.{settings-valid}
 use Rattle.claims.proofs.Tables.{key-length}
 use Rattle.sizes.proofs.Limits.{cells-most, degree-most, degree-inside}
@@ -14,7 +16,7 @@ use Rattle.equations.proofs.keys.folded_key.Statement.{statement}
 use Rattle.equations.proofs.keys.folded_key.Tie as tie
 
 returns : tie.Need-returns
-returns c = λ e l m. absurd (omega (arith, cells-most _ (settings-valid _ e)))
+returns c = λ g. absurd (omega (arith, g .key-below .long, cells-most _ (settings-valid _ (g .allowed))))
 
 room-requires : tie.Need-room-requires
 room-requires c κs = search needs
@@ -44,19 +46,19 @@ element-at-requires : tie.Need-element-at-requires
 element-at-requires c κs = search needs
 
 returns-2 : tie.Need-returns-2
-returns-2 c = λ e l m.
+returns-2 c = λ g.
     let f = c .before .before .before .fold-rounds in
     let w = c .before .before .before .before .before .before .copy in
     let a = c .before .before .before .before .before .before .before .before .before .before .before .before .args in
     let S = a .settings in
-    let ok = settings-valid S e in
+    let ok = settings-valid S (g .allowed) in
     let key = a .key .now in
     let K = keyAfter S (a .challenges .now) (S .depth) key in
     let own : take (length key) (w .last .1 .0) ≡ key = ap (take (length key)) (w .ensures (omega arith)) ∙ take-at key _ (length key) refl in
-    let folded : f .last .1 .1 .0 ≡ K = f .ensures e (ap length own ∙ l) m ∙ ap (keyAfter S (a .challenges .now) (S .depth)) own in
+    let folded : f .last .1 .1 .0 ≡ K = f .ensures (record { allowed = g .allowed; key-below = subst (Below (S .modulus) (cells S)) (sym own) (g .key-below); challenges-long = g .challenges-long }) ∙ ap (keyAfter S (a .challenges .now) (S .depth)) own in
     c .element-at .ensures (degree-most S ok)
     ∙ ap (λ s. elementAt (S .degree) (s ++ drop (length key) (w .last .1 .0)) 0) folded
-    ∙ element-front (S .degree) K (drop (length key) (w .last .1 .0)) (omega (arith, key-length S (a .challenges .now) (S .depth) key l, degree-inside S ok))
+    ∙ element-front (S .degree) K (drop (length key) (w .last .1 .0)) (omega (arith, key-length S (a .challenges .now) (S .depth) key (g .key-below .long), degree-inside S ok))
 
 pub folded-key-spec : {M : Type 1} → statement M
 folded-key-spec =

@@ -9,7 +9,7 @@ use lib.IntN.{ℤ}
 use lib.ListN.{length, getD, take, drop}
 use Rattle.protocol.specs.Tree.{challenge, mu}
 use Rattle.extraction.specs.Vectors.{withShare, Sharing, Branching, branchAdded}
-use Rattle.residues.proofs.Folds.{tail-all}
+use Rattle.residues.proofs.Parts.{tail-all}
 use Rattle.extraction.proofs.Splicing.{drop-put-end}
 use Rattle.extraction.proofs.vectors.add_branch.Statement.{statement}
 use Rattle.extraction.proofs.vectors.add_branch.Tie as tie

@@ -13,7 +13,7 @@ use Rattle.protocol.specs.Element.{signed, signedAt, coefficients}
 use Rattle.protocol.proofs.Reading.{tabulate-ext}
 use Rattle.residues.proofs.Fill.{filled}
 use Rattle.extraction.proofs.Parts.{part-signed}
-use Rattle.residues.proofs.Folds.{tail-all}
+use Rattle.residues.proofs.Parts.{tail-all}
 use Rattle.extraction.proofs.Splicing.{append-nil, drop-put-end}
 use Rattle.extraction.proofs.vectors.leaf_vector.Statement.{statement}
 use Rattle.extraction.proofs.vectors.leaf_vector.Tie as tie

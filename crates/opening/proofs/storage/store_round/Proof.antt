@@ -12,10 +12,10 @@ use Rattle.opening.proofs.storage.store_round.Statement.{statement}
 use Rattle.opening.proofs.storage.store_round.Tie as tie
 
 returns : tie.Need-returns
-returns c = λ d-most few room. absurd (omega arith)
+returns c = λ g. absurd (omega arith)
 
 returns-2 : tie.Need-returns-2
-returns-2 c = λ d-most few room. absurd (omega arith)
+returns-2 c = λ g. absurd (omega arith)
 
 mul-at : tie.Need-mul-at
 mul-at c = search needs
@@ -30,7 +30,7 @@ add-if3 : tie.Need-add-if3
 add-if3 c = let a = c .before .before .before .args in omega (arith, mul-le-mul {n₁ = 3 * a .t} {m₁ = a .d} {n₂ = 24} {m₂ = 64} (omega arith) (omega arith))
 
 returns-3 : tie.Need-returns-3
-returns-3 c = λ d-most few room. let a = c .before .before .before .before .args in absurd (omega (arith, add-mul (3 * a .t) 3 (a .d)))
+returns-3 c = λ g. let a = c .before .before .before .before .args in absurd (omega (arith, g .inside, add-mul (3 * a .t) 3 (a .d)))
 
 array-copy-out-store-element : tie.Need-array-copy-out-store-element
 array-copy-out-store-element c = search needs
@@ -64,7 +64,7 @@ same-length c = search needs
 
 returns-4 : tie.Need-returns-4
 unfolding storedRound part
-returns-4 c = λ d-most few room.
+returns-4 c = λ g.
     let b = c .before .before .before .before .before .before .before .before .before .before .before .before .before .before .before .before .before .before .before in
     let p = b .args .t3 in
     let d = b .args .d in

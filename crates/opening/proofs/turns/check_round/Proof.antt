@@ -29,7 +29,7 @@ returns : tie.Need-returns
 unfolding tested part
 returns c =
     let a = c .before .before .before .before .before .before .before .before .args in
-    (refl, λ e i. record { done = a .state .done + 1; claim = c .before .before .next-claim .ensures e i; holds = a .state .holds && c .before .before .before .round-holds .ensures e i })
+    (refl, λ g i. record { done = a .state .done + 1; claim = c .before .before .next-claim .ensures g i; holds = a .state .holds && c .before .before .before .round-holds .ensures (g .allowed) i })
 
 pub check-round-spec : {M : Type 1} → statement M
 check-round-spec = tie.close (tie.spec array-copy-out-c0 array-copy-out-c1 array-copy-out-c2 round-holds-requires next-claim-requires add-t19 returns)

@@ -6,7 +6,8 @@ use borrow.Author.Needs.{needs}
 use lib.ListN.{length, take, drop, length-drop}
 use Rattle.products.specs.Products.{extension}
 use Rattle.products.proofs.Extension.{extension-rows}
-use Rattle.residues.proofs.Folds.{tail-all, row-inside}
+use Rattle.residues.proofs.Parts.{tail-all}
+use Rattle.residues.proofs.Folds.{row-inside}
 use Rattle.prover.specs.Sums.{innerSums}
 use Rattle.prover.proofs.Sums.{inner-none, inner-more}
 use Rattle.prover.proofs.inner.add_inner.Statement.{statement}
@@ -85,7 +86,7 @@ loop-again c =
     let message-long : a .d ≤ length message-at = omega (arith, inside t, ap length (tail-all at (a .message .now)), length-drop at (a .message .now)) in (
       omega arith,
       c .before .before .accumulate .ensures (record { degree = g .degree-most; coefficients = message-long; residues = omega arith; sums = omega arith })
-          ∙ extension-rows (a .q) (a .d) (g .modulus) (g .degree) key-at (omega (arith, g .modulus-most)) (l .x) _ (e .extend .ensures (g .modulus) (g .degree) (g .degree-most) key-long (omega arith)) message-at (l .sums)
+          ∙ extension-rows (a .q) (a .d) (g .modulus) (g .degree) key-at (omega (arith, g .modulus-most)) (l .x) _ (e .extend .ensures (record { modulus = g .modulus; degree = g .degree; degree-most = g .degree-most; coefficients = key-long; places = omega arith })) message-at (l .sums)
           ∙ inner-more (a .q) (a .d) (a .message .now) (a .key .now) (a .sums .now) (l .i) _ _ _ (tail-all at (a .message .now)) (ap (extension (a .q) (a .d)) (tail-all at (a .key .now))) (l .inv .1),
       c .before .before .accumulate .kept .1 .1 .1 .0 ∙ l .inv .2,
       search needs,

@@ -38,7 +38,7 @@ returns c =
     let sums = c .before .before .before .before .add-inner in
     c .scaled .ensures
     ∙ scaled-is (a .q) (a .d) (a .s) (t .modulus) (inner (a .d) (a .h) (signedAt (a .d) (a .message .now)) (residueAt (a .d) (a .key .now))) _
-    (c .before .reduced-sums .ensures (t .modulus) (t .degree-most) (omega (arith, sums .kept .1 .1 .1 .1 .1 .0)) ∙ ap (reducedSums (a .q) (a .d)) (sums .ensures) ∙ inner-reduced (a .q) (a .d) (a .h) (a .message .now) (a .key .now) t)
+    (c .before .reduced-sums .ensures (record { modulus = t .modulus; degree-most = t .degree-most; sums = omega (arith, sums .kept .1 .1 .1 .1 .1 .0) }) ∙ ap (reducedSums (a .q) (a .d)) (sums .ensures) ∙ inner-reduced (a .q) (a .d) (a .h) (a .message .now) (a .key .now) t)
 
 pub straight-spec : {M : Type 1} → statement M
 straight-spec =

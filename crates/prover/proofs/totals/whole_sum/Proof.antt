@@ -3,11 +3,9 @@ use Rattle.prover.proofs.Words.{plus-fits, plus-is}
 use Rattle.prover.proofs.totals.whole_sum.Statement.{statement}
 use Rattle.prover.proofs.totals.whole_sum.Tie as tie
 
--- src/totals.rt:13:5
 add-result : tie.Need-add-result
 add-result c = plus-fits (c .args .x) (c .args .y) (omega arith)
 
--- src/totals.rt:9:1
 returns : tie.Need-returns
 returns c = plus-is (c .args .x) (c .args .y) (omega arith)
 

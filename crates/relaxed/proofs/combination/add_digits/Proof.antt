@@ -103,7 +103,7 @@ loop-again c =
     let a = t .before .before .before .before .before .args in
     let E = t .before .before .before .before .before .pre .0 in
     let turn = digits-more (a .q) (a .d) (E .modulus) (E .modulus-most) (E .degree) (a .w .now) (a .key .now) (l .i) (l .x) _
-    (e .extend .ensures (E .modulus) (E .degree) (E .degree-most) (key-part (a .q) (a .d) (a .n) (a .key .now) (a .w .now) E (l .i) (t .loop-test .taken)) (omega arith))
+    (e .extend .ensures (record { modulus = E .modulus; degree = E .degree; degree-most = E .degree-most; coefficients = key-part (a .q) (a .d) (a .n) (a .key .now) (a .w .now) E (l .i) (t .loop-test .taken); places = omega arith }))
     _ (m .residues .ensures) in (
       omega arith,
       turn 1 (a .low .now) (l .low) _ (l .inv .1) (first .add-digit .ensures),

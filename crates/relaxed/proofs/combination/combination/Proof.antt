@@ -14,7 +14,7 @@ use Rattle.relaxed.proofs.combination.combination.Tie as tie
 
 -- as many elements as the settings say
 count : (c : tie.After-left) → c .left .result ≡ size (c .before .before .args .settings)
-count c = let s = c .before .before in c .left .ensures (s .pre .0) (omega arith) ∙ left-none (s .args .settings)
+count c = let s = c .before .before in c .left .ensures (record { allowed = s .pre .0; most = omega arith }) ∙ left-none (s .args .settings)
 
 elements : (c : tie.After-left) → let a = c .before .before .args in Elements (a .settings .modulus) (a .settings .degree) (c .left .result) (a .key .now) (a .w .now)
 elements c = let s = c .before .before in settings-elements (s .args .settings) _ (s .args .key .now) (s .args .w .now) (s .pre .0) (count c) (s .pre .1) (s .pre .2)

@@ -1,12 +1,14 @@
 -- The magnitude's residue, or its negative.
 use mathlib.Core.Path.{_≡_, sym, ap, _∙_}
 use Prim.Native.Nat.{_-_, _%_, _<_}
-use native.Mathlib.Nat.{mod-lt}
+use native.Mathlib.Nat.{mod-lt, mod-mod}
 use native.Mathlib.Omega.{arith}
 use borrow.Author.Needs.{needs}
 use lib.IntN.{pos, natAbs}
 use lib.Signed.{ltZ}
 use mir.Facts.{toZ-ofZ}
+use Rattle.protocol.specs.Element.{modulo}
+use Rattle.protocol.proofs.Modulo.{modulo-neg}
 use Rattle.relaxed.proofs.Signs.{residue-below, residue-above}
 use Rattle.relaxed.proofs.combination.residue.Statement.{statement}
 use Rattle.relaxed.proofs.combination.residue.Tie as tie
@@ -28,12 +30,16 @@ cast-m : tie.Need-cast-m
 cast-m c = omega (arith, small c)
 
 negated-requires : tie.Need-negated-requires
-negated-requires c κs = small (c .before)
+negated-requires c κs = search needs
 
 returns : tie.Need-returns
+unfolding modulo
 returns c =
     let a = c .before .before .before .args in
-    c .negated .ensures
+    let M = c .before .before .magnitude-wide .result in
+    c .negated .ensures (small (c .before .before))
+    ∙ modulo-neg (a .q) (c .before .before .before .pre) (pos (M % a .q))
+    ∙ ap (λ y. (a .q - y) % a .q) (mod-mod M (a .q))
     ∙ ap (λ m. (a .q - m % a .q) % a .q) (magnitude-is (c .before .before))
     ∙ residue-below (a .q) (c .before .before .before .pre) (a .x) (sym (ap (λ z. ltZ z (pos 0)) (toZ-ofZ (c .before .before .before .fits .x))) ∙ c .before .if1 .taken)
 

@@ -4,25 +4,22 @@ use Rattle.residues.proofs.elements.value.Statement.{statement}
 use Rattle.residues.proofs.elements.value.Tie as tie
 
 returns : tie.Need-returns
-returns c = λ hq hd h h0 h1 h2 l. absurd (omega arith)
+returns c = λ f. absurd (omega arith)
 
 returns-2 : tie.Need-returns-2
-returns-2 c = λ hq hd h h0 h1 h2 l. absurd (omega arith)
+returns-2 c = λ f. absurd (omega arith)
 
 returns-3 : tie.Need-returns-3
-returns-3 c = λ hq hd h h0 h1 h2 l. absurd (omega arith)
+returns-3 c = λ f. absurd (omega arith)
 
 returns-4 : tie.Need-returns-4
-returns-4 c = λ hq hd h h0 h1 h2 l. absurd (omega arith)
+returns-4 c = λ f. absurd (omega arith)
 
 returns-5 : tie.Need-returns-5
-returns-5 c = λ hq hd h h0 h1 h2 l. absurd (omega arith)
+returns-5 c = λ f. absurd (omega arith)
 
 returns-6 : tie.Need-returns-6
-returns-6 c = λ hq hd h h0 h1 h2 l. absurd (omega arith)
-
-returns-7 : tie.Need-returns-7
-returns-7 c = λ hq hd h h0 h1 h2 l. absurd (omega arith)
+returns-6 c = λ f. absurd (omega arith)
 
 value-requires : tie.Need-value-requires
 value-requires c κs = search needs
@@ -30,8 +27,8 @@ value-requires c κs = search needs
 same-length : tie.Need-same-length
 same-length c = search needs
 
-returns-8 : tie.Need-returns-8
-returns-8 c = search needs
+returns-7 : tie.Need-returns-7
+returns-7 c = λ f. c .before .before .value .ensures (f .coefficients)
 
 pub value-spec : {M : Type 1} → statement M
 value-spec =
@@ -43,7 +40,6 @@ value-spec =
     returns-4
     returns-5
     returns-6
-    returns-7
     value-requires
     same-length
-    returns-8)
+    returns-7)

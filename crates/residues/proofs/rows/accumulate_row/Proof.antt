@@ -4,30 +4,31 @@ use Prim.Native.Nat.{ℕ, _+_, _-_, _≤_}
 use native.Mathlib.Omega.{arith}
 use lib.IntN.{pos, _+ℤ_}
 use lib.ListN.{length, getD, length-set}
+use Rattle.protocol.specs.Basic.{Provided}
 use Rattle.protocol.specs.Element.{modulo}
 use Rattle.residues.specs.Lists.{spliced}
-use Rattle.residues.specs.Residues.{signed}
+use Rattle.residues.specs.Residues.{Summands, signed}
 use Rattle.residues.proofs.Splice.{spliced-none, spliced-turn, spliced-end, spliced-behind}
 use borrow.Author.Needs.{needs}
 use Rattle.residues.proofs.rows.accumulate_row.Statement.{statement}
 use Rattle.residues.proofs.rows.accumulate_row.Tie as tie
 
 abbrev Inv-loop : tie.InvT-loop
-Inv-loop q n negative a from out₀ to k₀ out k = (k ≤ n) × (out ≡ spliced (λ (j : ℕ). modulo q (pos (getD out₀ (to + j) 0) +ℤ signed negative (pos (getD a (from + j) 0)))) to k out₀) × (length out ≡ length out₀)
+Inv-loop q n negative a from out₀ to k₀ out k = (k ≤ n) × Provided (Summands q n from a to out₀) (out ≡ spliced (λ (j : ℕ). modulo q (pos (getD out₀ (to + j) 0) +ℤ signed negative (pos (getD a (from + j) 0)))) to k out₀) × (length out ≡ length out₀)
 
 abbrev μ-loop : tie.MeasureT-loop
 μ-loop q n negative a from out₀ to k₀ out k = n - k
 
 -- what is read has not been written
-as-was : (c : tie.In-loop Inv-loop μ-loop) → let a = c .before .before .before .before .args in getD (c .before .loop .out) (a .to + c .before .loop .k) 0 ≡ getD (a .out .now) (a .to + c .before .loop .k) 0
-as-was c =
+as-was : (c : tie.In-loop Inv-loop μ-loop) → let a = c .before .before .before .before .args in Summands (a .q) (a .n) (a .from) (a .a .now) (a .to) (a .out .now) → getD (c .before .loop .out) (a .to + c .before .loop .k) 0 ≡ getD (a .out .now) (a .to + c .before .loop .k) 0
+as-was c h =
     let s = c .before .before .before .before in
     let a = s .args in
     let l = c .before .loop in
-    ap (λ t. getD t (a .to + l .k) 0) (l .inv .1) ∙ spliced-behind _ (a .to) (l .k) (a .out .now) (omega (arith, s .pre .1 .long)) (a .to + l .k) (omega arith)
+    ap (λ t. getD t (a .to + l .k) 0) (l .inv .1 h) ∙ spliced-behind _ (a .to) (l .k) (a .out .now) (omega arith) (a .to + l .k) (omega arith)
 
 loop-holds : tie.Need-loop-holds Inv-loop μ-loop
-loop-holds c = (omega arith, spliced-none _ _ _, refl)
+loop-holds c = (omega arith, (λ h. spliced-none _ _ _), refl)
 
 add-y : tie.Need-add-y Inv-loop μ-loop
 add-y c = search needs
@@ -48,10 +49,7 @@ shared-slice-read-signed-sum : tie.Need-shared-slice-read-signed-sum Inv-loop μ
 shared-slice-read-signed-sum c = search needs
 
 signed-sum-requires : tie.Need-signed-sum-requires Inv-loop μ-loop
-signed-sum-requires c κs =
-    let s = c .before .before .before .before .before .before in
-    let k = c .before .before .before .loop .k in
-    (omega (arith, as-was (c .before .before), s .pre .1 .each k (omega arith)), s .pre .0 .each k (omega arith))
+signed-sum-requires c κs = search needs
 
 add-out : tie.Need-add-out Inv-loop μ-loop
 add-out c = search needs
@@ -74,8 +72,9 @@ loop-again c =
     let a = s .args in
     let l = c .before .before .before .before .loop in (
       omega arith,
-      spliced-turn _ _ (l .k) _ (l .inv .1)
-          (c .signed-sum .ensures ∙ ap (λ y. modulo (a .q) (pos y +ℤ signed (a .negative) (pos (getD (a .a .now) (a .from + l .k) 0)))) (as-was (c .before .before .before))) (omega (arith, s .pre .1 .long)),
+      (λ h.
+          let was = as-was (c .before .before .before) h in
+          spliced-turn _ _ (l .k) _ (l .inv .1 h) (c .signed-sum .ensures (record { left = omega (arith, was, h .own .each (l .k) (omega arith)); right = h .added .each (l .k) (omega arith) }) ∙ ap (λ y. modulo (a .q) (pos y +ℤ signed (a .negative) (pos (getD (a .a .now) (a .from + l .k) 0)))) was) (omega arith)),
       simp length-set (omega arith),
     )
 
@@ -83,7 +82,7 @@ same-length : tie.Need-same-length Inv-loop μ-loop
 same-length c = search needs
 
 returns : tie.Need-returns Inv-loop μ-loop
-returns c = spliced-end _ _ _ (c .before .loop .inv .1) (omega arith)
+returns c = λ h. spliced-end _ _ _ (c .before .loop .inv .1 h) (omega arith)
 
 pub accumulate-row-spec : {M : Type 1} → statement M
 accumulate-row-spec =

@@ -11,14 +11,14 @@ minus-requires c κs = search needs
 
 returns : tie.Need-returns
 unfolding signed
-returns c = let a = c .before .before .args in c .minus .ensures ∙ ap (λ b. modulo (a .q) (pos (a .x) +ℤ signed b (pos (a .y)))) (sym (c .before .if1 .taken))
+returns c = λ h. let a = c .before .before .args in c .minus .ensures h ∙ ap (λ b. modulo (a .q) (pos (a .x) +ℤ signed b (pos (a .y)))) (sym (c .before .if1 .taken))
 
 plus-requires : tie.Need-plus-requires
 plus-requires c κs = search needs
 
 returns-2 : tie.Need-returns-2
 unfolding signed modulo
-returns-2 c = let a = c .before .before .args in c .plus .ensures ∙ ap (λ b. modulo (a .q) (pos (a .x) +ℤ signed b (pos (a .y)))) (sym (c .before .if1 .left))
+returns-2 c = λ h. let a = c .before .before .args in c .plus .ensures h ∙ ap (λ b. modulo (a .q) (pos (a .x) +ℤ signed b (pos (a .y)))) (sym (c .before .if1 .left))
 
 pub signed-sum-spec : {M : Type 1} → statement M
 signed-sum-spec = tie.close (tie.spec minus-requires returns plus-requires returns-2)

@@ -2,7 +2,7 @@ use mathlib.Core.Path.{_∙_}
 use Prim.Native.Nat.{_+_, _*_, _<_}
 use native.Mathlib.Nat.{mod-lt}
 use native.Mathlib.Omega.{arith}
-use Rattle.residues.proofs.Values.{divided-residues, sum-residues, value-done}
+use Rattle.residues.proofs.Values.{first-summands, second-summands, value-done}
 use borrow.Author.Needs.{needs}
 use Rattle.residues.proofs.rows.value.Statement.{statement}
 use Rattle.residues.proofs.rows.value.Tie as tie
@@ -20,43 +20,32 @@ add-on-circle c = omega (arith, once-small c)
 on-circle-requires-2 : tie.Need-on-circle-requires-2
 on-circle-requires-2 c κs = search needs
 
-reduce-row-requires : tie.Need-reduce-row-requires
-reduce-row-requires c κs = search needs
+copy-row-requires : tie.Need-copy-row-requires
+copy-row-requires c κs = search needs
 
-accumulate-requires : tie.Need-accumulate-requires
-accumulate-requires c κs =
-    let a = c .before .before .before .before .before .before .before .before .before .before .before .args in (
-      omega arith,
-      omega arith,
-      once-small (c .before .before .before .before .before .before),
-      search needs,
-      divided-residues (a .q) (omega arith) (a .d) (a .c0 .now) _ (a .out .now) (omega arith) (c .before .before .before .reduce-row .ensures),
-    )
+accumulate-turned-requires : tie.Need-accumulate-turned-requires
+accumulate-turned-requires c κs = (omega arith, once-small (c .before .before .before .before .before .before), omega arith, search needs)
 
-accumulate-requires-2 : tie.Need-accumulate-requires-2
-accumulate-requires-2 c κs =
+accumulate-turned-requires-2 : tie.Need-accumulate-turned-requires-2
+accumulate-turned-requires-2 c κs =
     let a = c .before .before .before .before .before .before .before .before .before .before .before .before .before .before .before .args in
     let once = c .before .before .before .before .before .before .before .before .before .before .on-circle in
-    let twice = c .before .before .before .before .before .before .before .before .before .on-circle2 in (
-      omega arith,
-      omega arith,
-      omega (arith, twice .ensures, mod-lt (once .result + once .result) {m = 2 * a .d} (omega arith)),
-      search needs,
-      sum-residues (a .q) (a .d) (a .e) (omega arith) (omega arith) (a .c0 .now) (a .c1 .now) (a .c2 .now) (a .out .now) _ _ (once .result) (twice .result) (omega arith)
-          (once .ensures) (twice .ensures) (c .before .before .before .before .before .before .before .reduce-row .ensures) (c .before .before .before .accumulate .ensures),
-    )
+    (omega arith, omega (arith, c .before .before .before .before .before .before .before .before .before .on-circle2 .ensures, mod-lt (once .result + once .result) {m = 2 * a .d} (omega arith)), omega arith, search needs)
 
 same-length : tie.Need-same-length
 same-length c = search needs
 
 returns : tie.Need-returns
-returns c =
+returns c = λ h.
     let a = c .before .before .before .before .before .before .before .before .before .before .before .before .before .before .before .before .before .before .args in
     let once = c .before .before .before .before .before .before .before .before .before .before .before .before .before .on-circle in
     let twice = c .before .before .before .before .before .before .before .before .before .before .before .before .on-circle2 in
-    c .before .before .accumulate2 .ensures
-    ∙ value-done (a .q) (a .d) (a .e) (omega arith) (omega arith) (a .c0 .now) (a .c1 .now) (a .c2 .now) (a .out .now) _ _ (once .result) (twice .result) (omega arith)
-    (once .ensures) (twice .ensures) (c .before .before .before .before .before .before .before .before .before .before .reduce-row .ensures) (c .before .before .before .before .before .before .accumulate .ensures)
+    let copied = c .before .before .before .before .before .before .before .before .before .before .copy-row .ensures in
+    let first = c .before .before .before .before .before .before .accumulate-turned .ensures
+    (first-summands (a .q) (a .d) (a .e) (omega arith) (a .c0 .now) (a .c1 .now) (a .c2 .now) (a .out .now) _ (a .out .now) h (once .result) (twice .result) (omega arith) (once .ensures) (twice .ensures) copied) in
+    c .before .before .accumulate-turned2 .ensures
+    (second-summands (a .q) (a .d) (a .e) (omega arith) (a .c0 .now) (a .c1 .now) (a .c2 .now) (a .out .now) _ _ h (once .result) (twice .result) (omega arith) (once .ensures) (twice .ensures) copied first)
+    ∙ value-done (a .q) (a .d) (a .e) (omega arith) (a .c0 .now) (a .c1 .now) (a .c2 .now) (a .out .now) _ _ h (once .result) (twice .result) (omega arith) (once .ensures) (twice .ensures) copied first
 
 pub value-spec : {M : Type 1} → statement M
 value-spec =
@@ -65,8 +54,8 @@ value-spec =
     on-circle-requires
     add-on-circle
     on-circle-requires-2
-    reduce-row-requires
-    accumulate-requires
-    accumulate-requires-2
+    copy-row-requires
+    accumulate-turned-requires
+    accumulate-turned-requires-2
     same-length
     returns)

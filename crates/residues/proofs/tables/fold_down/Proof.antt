@@ -5,8 +5,8 @@ use borrow.Author.Needs.{needs}
 use Rattle.residues.proofs.tables.fold_down.Statement.{statement}
 use Rattle.residues.proofs.tables.fold_down.Tie as tie
 
-half-small : (c : tie.Else5) → let a = c .before .before .before .before .before .before .args in a .h * a .d ≤ 128 * 64
-half-small c = let a = c .before .before .before .before .before .before .args in few (a .d) (a .h) (omega arith) (omega arith)
+half-small : (c : tie.Else4) → let a = c .before .before .before .before .before .args in a .h * a .d ≤ 128 * 64
+half-small c = let a = c .before .before .before .before .before .args in few (a .d) (a .h) (omega arith) (omega arith)
 
 returns : tie.Need-returns
 returns c = λ f. absurd (omega arith)
@@ -20,20 +20,17 @@ returns-3 c = λ f. absurd (omega arith)
 returns-4 : tie.Need-returns-4
 returns-4 c = λ f. absurd (omega arith)
 
+mul-if5 : tie.Need-mul-if5
+mul-if5 c = omega (arith, half-small c)
+
+mul-if5-2 : tie.Need-mul-if5-2
+mul-if5-2 c = omega (arith, half-small c)
+
+add-if5 : tie.Need-add-if5
+add-if5 c = omega (arith, half-small c)
+
 returns-5 : tie.Need-returns-5
-returns-5 c = λ f. absurd (omega arith)
-
-mul-if6 : tie.Need-mul-if6
-mul-if6 c = omega (arith, half-small c)
-
-mul-if6-2 : tie.Need-mul-if6-2
-mul-if6-2 c = omega (arith, half-small c)
-
-add-if6 : tie.Need-add-if6
-add-if6 c = omega (arith, half-small c)
-
-returns-6 : tie.Need-returns-6
-returns-6 c = λ f. absurd (omega arith)
+returns-5 c = λ f. absurd (omega (arith, f .residues .long))
 
 fold-elements-requires : tie.Need-fold-elements-requires
 fold-elements-requires c κs = search needs
@@ -41,8 +38,8 @@ fold-elements-requires c κs = search needs
 same-length : tie.Need-same-length
 same-length c = search needs
 
-returns-7 : tie.Need-returns-7
-returns-7 c = search needs
+returns-6 : tie.Need-returns-6
+returns-6 c = search needs
 
 pub fold-down-spec : {M : Type 1} → statement M
 fold-down-spec =
@@ -52,11 +49,10 @@ fold-down-spec =
     returns-2
     returns-3
     returns-4
+    mul-if5
+    mul-if5-2
+    add-if5
     returns-5
-    mul-if6
-    mul-if6-2
-    add-if6
-    returns-6
     fold-elements-requires
     same-length
-    returns-7)
+    returns-6)

@@ -1,21 +1,25 @@
 -- The loop keeps: j elements are folded, and everything from there on is as it was.
-use mathlib.Core.Path.{_≡_, refl, ap, _∙_}
+use mathlib.Core.Path.{_≡_, refl, sym, ap, _∙_}
 use Prim.Native.Nat.{_+_, _*_, _-_, _≤_}
 use native.Mathlib.Nat.{mod-lt}
 use native.Mathlib.Omega.{arith}
-use lib.ListN.{length}
+use lib.ListN.{length, take}
+use lib.Seq.{length-take-le, length-front}
+use Rattle.protocol.specs.Basic.{Provided}
 use Rattle.residues.specs.Lists.{spliced}
-use Rattle.residues.proofs.Folds.{foldedFlat, few, row-inside, rows-none, rows-done, row-turn}
-use Rattle.residues.proofs.Turns.{residues-part, residues-kept}
+use Rattle.residues.specs.Residues.{Summands}
+use Rattle.residues.specs.Folds.{foldedAt, foldHalves}
+use Rattle.residues.proofs.Folds.{few, row-inside, rows-none, row-summands, row-turn}
+use Rattle.residues.proofs.Parts.{tail-length}
 use borrow.Author.Needs.{needs}
 use Rattle.residues.proofs.tables.fold_each.Statement.{statement}
 use Rattle.residues.proofs.tables.fold_each.Tie as tie
 
 abbrev Inv-loop : tie.InvT-loop
-Inv-loop small q d h e from to t₀ x₀ half back j₀ t x j = (j ≤ h) × (t ≡ spliced (foldedFlat q d h e from t₀) to (j * d) t₀) × (length t ≡ length t₀) × (length x ≡ length x₀)
+Inv-loop q d h e to second t₀ x₀ once j₀ t x j = (j ≤ h) × Provided (Summands q (h * d) second t₀ to t₀) (t ≡ spliced (foldedAt q d e to second t₀) to (j * d) t₀) × (length t ≡ length t₀) × (length x ≡ length x₀)
 
 abbrev μ-loop : tie.MeasureT-loop
-μ-loop small q d h e from to t₀ x₀ half back j₀ t x j = h - j
+μ-loop q d h e to second t₀ x₀ once j₀ t x j = h - j
 
 half-small : (c : tie.Start Inv-loop μ-loop) → c .args .h * c .args .d ≤ 128 * 64
 half-small c = few (c .args .d) (c .args .h) (omega arith) (omega arith)
@@ -23,52 +27,51 @@ half-small c = few (c .args .d) (c .args .h) (omega arith) (omega arith)
 inside : (c : tie.In-loop Inv-loop μ-loop) → let a = c .before .before .before .before .before .args in c .before .loop .j * a .d + a .d ≤ a .h * a .d
 inside c = let a = c .before .before .before .before .before .args in row-inside (a .d) (a .h) (c .before .loop .j) (c .loop-test .taken)
 
-mul-half : tie.Need-mul-half Inv-loop μ-loop
-mul-half c = omega (arith, half-small (c .before .before))
-
-mul-back : tie.Need-mul-back Inv-loop μ-loop
-mul-back c = search needs
+-- the first part, as it is lent
+front-long : (c : tie.In-loop Inv-loop μ-loop) → let a = c .before .before .before .before .before .args in length (take (a .second) (c .before .loop .t)) ≡ a .second
+front-long c = let a = c .before .before .before .before .before .args in length-take-le (a .second) (c .before .loop .t) (omega arith)
 
 on-circle-requires : tie.Need-on-circle-requires Inv-loop μ-loop
 on-circle-requires c κs = search needs
 
-sub-back : tie.Need-sub-back Inv-loop μ-loop
-sub-back c = let a = c .before .before .before .args in omega (arith, c .on-circle .ensures, mod-lt (a .e) {m = 2 * a .d} (omega arith))
-
 loop-holds : tie.Need-loop-holds Inv-loop μ-loop
-loop-holds c = let a = c .before .before .before .args in (omega arith, rows-none (a .q) (a .d) (a .h) (a .e) (a .from) (a .to) (a .t .now) (omega arith), refl, refl)
+loop-holds c = let a = c .before .before .before .args in (omega arith, (λ s. rows-none (a .q) (a .d) (a .h) (a .e) (a .to) (a .second) (a .t .now) (omega arith) (omega arith) (omega arith)), refl, refl)
 
 mul-at : tie.Need-mul-at Inv-loop μ-loop
 mul-at c = omega (arith, half-small (c .before .before .before .before .before), inside c)
 
-add-fold-either : tie.Need-add-fold-either Inv-loop μ-loop
-add-fold-either c = omega (arith, half-small (c .before .before .before .before .before), inside c)
+mul-copy-row : tie.Need-mul-copy-row Inv-loop μ-loop
+mul-copy-row c = search needs
 
-add-fold-either-2 : tie.Need-add-fold-either-2 Inv-loop μ-loop
-add-fold-either-2 c = omega (arith, half-small (c .before .before .before .before .before), inside c)
+sub-copy-row : tie.Need-sub-copy-row Inv-loop μ-loop
+sub-copy-row c = search needs
 
-add-fold-either-3 : tie.Need-add-fold-either-3 Inv-loop μ-loop
-add-fold-either-3 c = omega (arith, half-small (c .before .before .before .before .before), inside c)
+part-copy-row-start : tie.Need-part-copy-row-start Inv-loop μ-loop
+part-copy-row-start c = search needs
 
-add-fold-either-4 : tie.Need-add-fold-either-4 Inv-loop μ-loop
-add-fold-either-4 c = omega (arith, half-small (c .before .before .before .before .before), inside c)
+part-copy-row-end : tie.Need-part-copy-row-end Inv-loop μ-loop
+part-copy-row-end c = search needs
 
-fold-either-requires : tie.Need-fold-either-requires Inv-loop μ-loop
-fold-either-requires c κs =
-    let s = c .before .before .before .before .before .before .before in
-    let a = s .args in
-    let l = c .before .before .before .loop in
-    let up = inside (c .before .before) in (
-      (omega arith, omega arith, omega arith, omega arith, omega arith, λ g. omega (arith, s .pre .0 .2 g, l .inv .3)),
-      (
-        omega (arith, up),
-        λ g.
-            let all = s .pre .1 g in
-            let kept = residues-kept _ (a .to) (l .j * a .d) (a .t .now) (l .t) (omega (arith, up)) (l .inv .1) (a .q) (a .d) in (
-              kept (a .from + l .j * a .d) (residues-part (a .q) (2 * (a .h * a .d)) (a .from) (a .d) (a .from + l .j * a .d) all (omega arith) (omega (arith, up))) (omega arith),
-              kept (a .from + a .h * a .d + l .j * a .d) (residues-part (a .q) (2 * (a .h * a .d)) (a .from) (a .d) (a .from + a .h * a .d + l .j * a .d) all (omega arith) (omega (arith, up))) (omega (arith, up)),
-            ),
-      ),
+copy-row-requires : tie.Need-copy-row-requires Inv-loop μ-loop
+copy-row-requires c κs = let a = c .before .before .before .before .before .before .before .before .args in (omega (arith, tail-length (a .second) (c .before .before .before .before .loop .t), inside (c .before .before .before)), omega arith)
+
+slice-relend-prefix-accumulate-turned :
+    tie.Need-slice-relend-prefix-accumulate-turned Inv-loop μ-loop
+slice-relend-prefix-accumulate-turned c = search needs
+
+slice-aggregate-accumulate-turned : tie.Need-slice-aggregate-accumulate-turned Inv-loop μ-loop
+slice-aggregate-accumulate-turned c = sym (front-long (c .before .before .before .before .before .before .before .before))
+
+add-accumulate-turned : tie.Need-add-accumulate-turned Inv-loop μ-loop
+add-accumulate-turned c = omega (arith, half-small (c .before .before .before .before .before .before .before .before .before .before .before .before .before), inside (c .before .before .before .before .before .before .before .before))
+
+accumulate-turned-requires : tie.Need-accumulate-turned-requires Inv-loop μ-loop
+accumulate-turned-requires c κs =
+    let a = c .before .before .before .before .before .before .before .before .before .before .before .before .before .args in (
+      omega arith,
+      omega (arith, c .before .before .before .before .before .before .before .before .before .before .on-circle .ensures, mod-lt (a .e) {m = 2 * a .d} (omega arith)),
+      omega (arith, c .before .before .before .before .copy-row .kept .1 .1 .1 .0),
+      omega (arith, front-long (c .before .before .before .before .before .before .before .before), inside (c .before .before .before .before .before .before .before .before)),
     )
 
 add-j : tie.Need-add-j Inv-loop μ-loop
@@ -79,15 +82,17 @@ loop-less c = search needs
 
 loop-again : tie.Need-loop-again Inv-loop μ-loop
 loop-again c =
-    let a = c .before .before .before .before .before .before .before .before .before .before .before .before .args in
-    let l = c .before .before .before .before .before .before .before .before .loop in
-    let f = c .before .before .before .before .fold-either in (
+    let a = c .before .before .before .before .before .before .before .before .before .before .before .before .before .before .before .before .args in
+    let l = c .before .before .before .before .before .before .before .before .before .before .before .before .loop in
+    let once = c .before .before .before .before .before .before .before .before .before .before .before .before .before .on-circle in
+    let copied = c .before .before .before .before .before .before .before .copy-row in
+    let added = c .before .before .accumulate-turned in (
       omega arith,
-      f .ensures
-          ∙ row-turn (a .q) (a .d) (a .h) (a .e) (a .from) (a .to) (a .t .now) (omega arith) (l .t) (l .j) (l .inv .1) (omega arith) (omega arith) (omega arith) _
-          (ap (λ n. 2 * a .d - n) (c .before .before .before .before .before .before .before .before .before .on-circle .ensures)),
-      f .kept .1 .1 .1 .1 .1 .1 .1 .0 ∙ l .inv .2,
-      f .kept .1 .1 .1 .1 .1 .1 .1 .1 .0 ∙ l .inv .3,
+      (λ s. row-turn (a .q) (a .d) (a .h) (a .e) (a .to) (a .second) (a .t .now) (omega arith) (omega arith) (omega arith) (l .t) (l .j) (l .inv .1 s) (omega arith)
+          _ (l .x) (omega arith) (copied .ensures) (once .result) (once .ensures) _
+          (added .ensures (row-summands (a .q) (a .d) (a .h) (a .e) (a .to) (a .second) (a .t .now) (omega arith) (omega arith) (omega arith) (l .t) (l .j) (l .inv .1 s) (omega arith) _ (l .x) (omega arith) (copied .ensures) s))),
+      length-front (l .t) (added .last .1 .1 .1 .1 .0) (a .second) (added .kept .1 .1 .1 .1 .0) ∙ l .inv .2,
+      copied .kept .1 .1 .1 .0 ∙ l .inv .3,
     )
 
 same-length : tie.Need-same-length Inv-loop μ-loop
@@ -97,11 +102,10 @@ same-length-2 : tie.Need-same-length-2 Inv-loop μ-loop
 same-length-2 c = search needs
 
 returns : tie.Need-returns Inv-loop μ-loop
-returns c =
+unfolding foldHalves
+returns c = λ s.
     let a = c .before .before .before .before .before .args in
-    c .before .loop .inv .1
-    ∙ ap (λ n. spliced (foldedFlat (a .q) (a .d) (a .h) (a .e) (a .from) (a .t .now)) (a .to) (n * a .d) (a .t .now)) (omega arith)
-    ∙ rows-done (a .q) (a .d) (a .h) (a .e) (a .from) (a .to) (a .t .now) (omega arith)
+    c .before .loop .inv .1 s ∙ ap (λ n. spliced (foldedAt (a .q) (a .d) (a .e) (a .to) (a .second) (a .t .now)) (a .to) (n * a .d) (a .t .now)) (omega arith)
 
 pub fold-each-spec : {M : Type 1} → statement M
 fold-each-spec =
@@ -109,17 +113,18 @@ fold-each-spec =
     (tie.spec
     Inv-loop
     μ-loop
-    mul-half
-    mul-back
     on-circle-requires
-    sub-back
     loop-holds
     mul-at
-    add-fold-either
-    add-fold-either-2
-    add-fold-either-3
-    add-fold-either-4
-    fold-either-requires
+    mul-copy-row
+    sub-copy-row
+    part-copy-row-start
+    part-copy-row-end
+    copy-row-requires
+    slice-relend-prefix-accumulate-turned
+    slice-aggregate-accumulate-turned
+    add-accumulate-turned
+    accumulate-turned-requires
     add-j
     loop-less
     loop-again

@@ -4,7 +4,7 @@ use mathlib.Core.Path.{_≡_, sym, ap, _∙_, subst}
 use mathlib.Core.List.{List}
 use Prim.Native.Nat.{ℕ, _+_, _*_, _-_, _/_, _^_, _<_, _≤_}
 use native.Mathlib.Omega.{arith}
-use lib.ListN.{length, take}
+use lib.ListN.{length, take, drop}
 use lib.Seq.{length-take-le, length-front}
 use borrow.Author.Needs.{needs}
 use borrow.Author.Tests.{not-true, not-false}
@@ -15,7 +15,7 @@ use Rattle.sizes.proofs.Limits.{degree-most}
 use Rattle.residues.specs.Folds.{foldDown}
 use Rattle.claims.proofs.Places as Places
 use Rattle.claims.proofs.Places.{AtNode}
-use Rattle.trees.specs.Nodes.{Round}
+use Rattle.trees.specs.Nodes.{Round, Reduced, Read}
 use Rattle.trees.proofs.Checks as Checks
 use Rattle.trees.proofs.Descent as Descent
 use Rattle.trees.proofs.Stages as Stages
@@ -116,11 +116,12 @@ abbrev after : (t : ℕ) → child-accepted-lts.After-slice-known2 (child-calls 
 after t c = c .before .before .fold-key .last .1 .1 .1 .0
 
 folded-is : (t : ℕ) (c : child-accepted-lts.After-slice-known2 (child-calls t) (child-accepted-at t) child-accepted.Post) → let a = c .before .before .before .before .before .before .before .before .before .before .before .args in
-    after t c
+    Reduced (a .settings) (drop (2 ^ a .h * a .settings .degree) (a .ws .now))
+    → after t c
     ≡ foldDown (a .settings .modulus) (a .settings .degree) (2 ^ (a .h - 1)) (challenge (a .challenges .now) (a .k) (a .j)) (2 ^ a .h * a .settings .degree) (2 ^ (a .h - 1) * a .settings .degree) (a .ws .now)
-folded-is t c =
+folded-is t c below =
     let a = c .before .before .before .before .before .before .before .before .before .before .before .args in
-    c .before .before .fold-key .ensures
+    c .before .before .fold-key .ensures below
     ∙ ap (λ e. foldDown (a .settings .modulus) (a .settings .degree) (2 ^ (a .h - 1)) e (2 ^ a .h * a .settings .degree) (2 ^ (a .h - 1) * a .settings .degree) (a .ws .now)) (c .before .before .before .before .challenge .ensures)
 
 folded-long : (t : ℕ) (c : child-accepted-lts.After-slice-known2 (child-calls t) (child-accepted-at t) child-accepted.Post) → length (after t c) ≡ length (c .before .before .before .before .before .before .before .before .before .before .before .args .ws .now)
@@ -176,15 +177,18 @@ child-accepted-same-length : (t : ℕ) → child-accepted-lts.Need-same-length (
 child-accepted-same-length t c = let U = after t (c .before .before .before .before .before) in length-front U (c .before .before .subtree-accepted .last .1 .1 .1 .1 .1 .1 .1 .1 .0) (length U / 2) (c .before .before .subtree-accepted .kept .1 .1 .1 .1 .1 .1 .1 .1 .0) ∙ folded-long t (c .before .before .before .before .before)
 
 child-accepted-returns : (t : ℕ) → child-accepted-lts.Need-returns (child-calls t) (child-accepted-at t) child-accepted.Post
-child-accepted-returns t c =
+child-accepted-returns t c = λ read.
     let g = c .before .before .before .before .before .before .before .before .before .before .before .before .before .before .before .before in
     let a = g .args in
     let b = c .before .before .before .before .before in
     let U = after t b in
     let half = half-is t g U (folded-long t b) in
+    let folded = folded-is t b (read .key-below) in
+    let pq : 0 < a .settings .modulus = omega (arith, settings-valid (a .settings) (allowed t g) .modulus-least) in
+    let down = Descent.child-read (a .settings) (a .rounds .now) (a .challenges .now) (a .leaves .now) (a .h) (a .k) (a .first) (space t g) (place t g) (higher t g) (a .j) (length U / 2) (a .ws .now) U (λ _. space t g) half folded pq in
     let f = c .before .before .subtree-accepted in (
-      f .ensures ∙ Descent.child-tests (a .settings) (a .rounds .now) (a .challenges .now) (a .leaves .now) (a .h) (a .k) (a .first) (space t g) (place t g) (higher t g) (a .j) (length U / 2) (a .ws .now) U (λ _. space t g) half (folded-is t b) _ (b .before .before .before .before .before .before .claim-to .ensures),
-      Descent.key-kept (a .settings) (a .rounds .now) (a .challenges .now) (a .leaves .now) (a .h) (a .k) (a .first) (space t g) (place t g) (higher t g) (a .j) (length U / 2) (a .ws .now) U (λ _. space t g) half (folded-is t b) (f .last .1 .1 .1 .1 .1 .1 .1 .1 .0) (f .kept .1 .1 .1 .1 .1 .1 .1 .1 .0) (omega arith),
+      f .ensures (record { rounds-below = read .rounds-below; key-below = down }) ∙ Descent.child-tests (a .settings) (a .rounds .now) (a .challenges .now) (a .leaves .now) (a .h) (a .k) (a .first) (space t g) (place t g) (higher t g) (a .j) (length U / 2) (a .ws .now) U (λ _. space t g) half folded _ (b .before .before .before .before .before .before .claim-to .ensures (read .rounds-below)),
+      Descent.key-kept (a .settings) (a .rounds .now) (a .challenges .now) (a .leaves .now) (a .h) (a .k) (a .first) (space t g) (place t g) (higher t g) (a .j) (length U / 2) (a .ws .now) U (λ _. space t g) half folded (f .last .1 .1 .1 .1 .1 .1 .1 .1 .0) (f .kept .1 .1 .1 .1 .1 .1 .1 .1 .0) (omega arith),
     )
 
 -- ---- a node's facts
@@ -209,11 +213,18 @@ module _ (t : ℕ) (g : subtree-accepted-lts.Start (subtree-calls t) (subtree-ac
   leaf-room : g .args .h ≡ 0 → g .args .settings .degree ≤ length (g .args .ws .now)
   leaf-room low = omega (arith, leaf-twice low)
 
+  abbrev Reading : Type 0
+  Reading = Read (g .args .settings) (g .args .h) (g .args .rounds .now) (g .args .ws .now)
+
   abbrev Stage : ℕ → List ℕ → Type 0
   Stage = Stages.Stage (g .args .settings) (g .args .rounds .now) (g .args .challenges .now) (g .args .leaves .now) (g .args .h) (g .args .k) (g .args .first) (g .args .claim .now) (g .args .ws .now)
 
-  stays : (j : ℕ) {W : List ℕ} → Stage j W → AtNode (g .args .settings) (g .args .h) (g .args .k) (g .args .first) (length W)
-  stays j st = subst (AtNode (g .args .settings) (g .args .h) (g .args .k) (g .args .first)) (sym (st .long)) position
+  stays : {n : ℕ} → n ≡ length (g .args .ws .now) → AtNode (g .args .settings) (g .args .h) (g .args .k) (g .args .first) n
+  stays long = subst (AtNode (g .args .settings) (g .args .h) (g .args .k) (g .args .first)) (sym long) position
+
+  -- the key is the same at every stage
+  again : {j : ℕ} {W : List ℕ} → Stage j W → Read (g .args .settings) (g .args .h) (g .args .rounds .now) (g .args .ws .now) → Read (g .args .settings) (g .args .h) (g .args .rounds .now) W
+  again st read = record { rounds-below = read .rounds-below; key-below = subst (Reduced (g .args .settings)) (sym (st .key)) (read .key-below) }
 
 module _ (t : ℕ) where
   upper : (c : subtree-accepted-lts.Else1 (subtree-calls t) (subtree-accepted-at t) subtree-accepted.Post) → 0 < c .before .before .before .before .before .args .h
@@ -225,17 +236,25 @@ module _ (t : ℕ) where
       let a = g .args in
       Stages.stage-first (a .settings) (a .rounds .now) (a .challenges .now) (a .leaves .now) (a .h) (a .k) (a .first) (a .claim .now) (a .ws .now) (position t g) (upper (c .before .before)) (sym (c .before .node-holds .ensures) ∙ not-false _ (c .if2 .left))
 
-  stage-1 : (c : subtree-accepted-lts.Else3 (subtree-calls t) (subtree-accepted-at t) subtree-accepted.Post) → Stage t (c .before .before .before .before .before .before .before .before .before .before .before .before) 1 (c .before .before .before .child-accepted .last .1 .1 .1 .1 .1 .1 .1 .1 .0)
-  stage-1 c =
+  long-1 : (c : subtree-accepted-lts.Else3 (subtree-calls t) (subtree-accepted-at t) subtree-accepted.Post) → length (c .before .before .before .child-accepted .last .1 .1 .1 .1 .1 .1 .1 .1 .0) ≡ length (c .before .before .before .before .before .before .before .before .before .before .before .before .args .ws .now)
+  long-1 c = c .before .before .before .child-accepted .kept .1 .1 .1 .1 .1 .1 .1 .1 .0
+
+  long-2 : (c : subtree-accepted-lts.Else4 (subtree-calls t) (subtree-accepted-at t) subtree-accepted.Post) → length (c .before .before .before .child-accepted2 .last .1 .1 .1 .1 .1 .1 .1 .1 .0) ≡ length (c .before .before .before .before .before .before .before .before .before .before .before .before .before .before .before .before .before .args .ws .now)
+  long-2 c = c .before .before .before .child-accepted2 .kept .1 .1 .1 .1 .1 .1 .1 .1 .0 ∙ long-1 (c .before .before .before .before .before)
+
+  stage-1 : (c : subtree-accepted-lts.Else3 (subtree-calls t) (subtree-accepted-at t) subtree-accepted.Post) → Reading t (c .before .before .before .before .before .before .before .before .before .before .before .before) → Stage t (c .before .before .before .before .before .before .before .before .before .before .before .before) 1 (c .before .before .before .child-accepted .last .1 .1 .1 .1 .1 .1 .1 .1 .0)
+  stage-1 c read =
       let a = c .before .before .before .before .before .before .before .before .before .before .before .before .args in
       let f = c .before .before .before .child-accepted in
-      Stages.stage-next (a .settings) (a .rounds .now) (a .challenges .now) (a .leaves .now) (a .h) (a .k) (a .first) (a .claim .now) (a .ws .now) 0 (stage-0 (c .before .before .before .before .before)) (f .ensures .0) (omega arith) (not-false _ (c .if3 .left)) _ (f .ensures .1) (f .kept .1 .1 .1 .1 .1 .1 .1 .1 .0)
+      Stages.stage-next (a .settings) (a .rounds .now) (a .challenges .now) (a .leaves .now) (a .h) (a .k) (a .first) (a .claim .now) (a .ws .now) 0 (stage-0 (c .before .before .before .before .before)) (f .ensures read .0) (omega arith) (not-false _ (c .if3 .left)) _ (f .ensures read .1) (f .kept .1 .1 .1 .1 .1 .1 .1 .1 .0)
 
-  stage-2 : (c : subtree-accepted-lts.Else4 (subtree-calls t) (subtree-accepted-at t) subtree-accepted.Post) → Stage t (c .before .before .before .before .before .before .before .before .before .before .before .before .before .before .before .before .before) 2 (c .before .before .before .child-accepted2 .last .1 .1 .1 .1 .1 .1 .1 .1 .0)
-  stage-2 c =
+  stage-2 : (c : subtree-accepted-lts.Else4 (subtree-calls t) (subtree-accepted-at t) subtree-accepted.Post) → Reading t (c .before .before .before .before .before .before .before .before .before .before .before .before .before .before .before .before .before) → Stage t (c .before .before .before .before .before .before .before .before .before .before .before .before .before .before .before .before .before) 2 (c .before .before .before .child-accepted2 .last .1 .1 .1 .1 .1 .1 .1 .1 .0)
+  stage-2 c read =
       let a = c .before .before .before .before .before .before .before .before .before .before .before .before .before .before .before .before .before .args in
       let f = c .before .before .before .child-accepted2 in
-      Stages.stage-next (a .settings) (a .rounds .now) (a .challenges .now) (a .leaves .now) (a .h) (a .k) (a .first) (a .claim .now) (a .ws .now) 1 (stage-1 (c .before .before .before .before .before)) (f .ensures .0) (omega arith) (not-false _ (c .if4 .left)) _ (f .ensures .1) (f .kept .1 .1 .1 .1 .1 .1 .1 .1 .0)
+      let one = stage-1 (c .before .before .before .before .before) read in
+      let same = again t (c .before .before .before .before .before .before .before .before .before .before .before .before .before .before .before .before .before) one read in
+      Stages.stage-next (a .settings) (a .rounds .now) (a .challenges .now) (a .leaves .now) (a .h) (a .k) (a .first) (a .claim .now) (a .ws .now) 1 one (f .ensures same .0) (omega arith) (not-false _ (c .if4 .left)) _ (f .ensures same .1) (f .kept .1 .1 .1 .1 .1 .1 .1 .1 .0)
 
 subtree-accepted-cast-d : (t : ℕ) → subtree-accepted-lts.Need-cast-d (subtree-calls t) (subtree-accepted-at t) subtree-accepted.Post
 subtree-accepted-cast-d t c = search needs
@@ -268,7 +287,7 @@ subtree-accepted-same-length : (t : ℕ) → subtree-accepted-lts.Need-same-leng
 subtree-accepted-same-length t c = search needs
 
 subtree-accepted-returns : (t : ℕ) → subtree-accepted-lts.Need-returns (subtree-calls t) (subtree-accepted-at t) subtree-accepted.Post
-subtree-accepted-returns t c =
+subtree-accepted-returns t c = λ read.
     let g = c .before .before .before .before .before .before .before .before .before in
     let a = g .args in
     c .leaf-accepted .ensures ∙ Descent.leaf-tests (a .settings) (a .rounds .now) (a .challenges .now) (a .leaves .now) (a .h) (a .k) (a .first) _ (position t g) (omega arith) (a .claim .now) (a .ws .now)
@@ -277,46 +296,48 @@ subtree-accepted-node-holds-requires : (t : ℕ) → subtree-accepted-lts.Need-n
 subtree-accepted-node-holds-requires t c κs = let g = c .before .before .before .before .before in let a = g .args in (Checks.round-inside (a .settings) (a .h) (a .k) (a .first) _ (rounds-many t g) (finals-many t g) (position t g) (g .pre .1 .0 .0) (upper t c), g .pre .1 .0 .1)
 
 subtree-accepted-returns-2 : (t : ℕ) → subtree-accepted-lts.Need-returns-2 (subtree-calls t) (subtree-accepted-at t) subtree-accepted.Post
-subtree-accepted-returns-2 t c =
+subtree-accepted-returns-2 t c = λ read.
     let g = c .before .before .before .before .before .before .before in
     let a = g .args in
     Stages.node-stops (a .settings) (a .rounds .now) (a .challenges .now) (a .leaves .now) (a .h) (a .k) (a .first) (a .claim .now) (a .ws .now) (position t g) (upper t (c .before .before)) (sym (c .before .node-holds .ensures) ∙ not-true _ (c .if2 .taken))
 
 subtree-accepted-child-accepted-requires :
     (t : ℕ) → subtree-accepted-lts.Need-child-accepted-requires (subtree-calls t) (subtree-accepted-at t) subtree-accepted.Post
-subtree-accepted-child-accepted-requires t c κs = let g = c .before .before .before .before .before .before .before .before in (omega arith, ((g .pre .1 .0 .0, upper t (c .before .before .before), omega arith), stays t g 0 (stage-0 t (c .before))))
+subtree-accepted-child-accepted-requires t c κs = let g = c .before .before .before .before .before .before .before .before in (omega arith, ((g .pre .1 .0 .0, upper t (c .before .before .before), omega arith), position t g))
 
 subtree-accepted-same-length-2 : (t : ℕ) → subtree-accepted-lts.Need-same-length-2 (subtree-calls t) (subtree-accepted-at t) subtree-accepted.Post
 subtree-accepted-same-length-2 t c = search needs
 
 subtree-accepted-returns-3 : (t : ℕ) → subtree-accepted-lts.Need-returns-3 (subtree-calls t) (subtree-accepted-at t) subtree-accepted.Post
-subtree-accepted-returns-3 t c =
+subtree-accepted-returns-3 t c = λ read.
     let a = c .before .before .before .before .before .before .before .before .before .before .before .before .args in
-    Stages.stage-stops (a .settings) (a .rounds .now) (a .challenges .now) (a .leaves .now) (a .h) (a .k) (a .first) (a .claim .now) (a .ws .now) 0 (stage-0 t (c .before .before .before .before .before)) (c .before .before .before .child-accepted .ensures .0) (omega arith) (not-true _ (c .if3 .taken))
+    Stages.stage-stops (a .settings) (a .rounds .now) (a .challenges .now) (a .leaves .now) (a .h) (a .k) (a .first) (a .claim .now) (a .ws .now) 0 (stage-0 t (c .before .before .before .before .before)) (c .before .before .before .child-accepted .ensures read .0) (omega arith) (not-true _ (c .if3 .taken))
 
 subtree-accepted-child-accepted-requires-2 :
     (t : ℕ) → subtree-accepted-lts.Need-child-accepted-requires-2 (subtree-calls t) (subtree-accepted-at t) subtree-accepted.Post
-subtree-accepted-child-accepted-requires-2 t c κs = let g = c .before .before .before .before .before .before .before .before .before .before .before .before .before in (omega arith, ((g .pre .1 .0 .0, upper t (c .before .before .before .before .before .before .before .before), omega arith), stays t g 1 (stage-1 t (c .before))))
+subtree-accepted-child-accepted-requires-2 t c κs = let g = c .before .before .before .before .before .before .before .before .before .before .before .before .before in (omega arith, ((g .pre .1 .0 .0, upper t (c .before .before .before .before .before .before .before .before), omega arith), stays t g (long-1 t (c .before))))
 
 subtree-accepted-same-length-3 : (t : ℕ) → subtree-accepted-lts.Need-same-length-3 (subtree-calls t) (subtree-accepted-at t) subtree-accepted.Post
-subtree-accepted-same-length-3 t c = c .before .before .before .child-accepted2 .kept .1 .1 .1 .1 .1 .1 .1 .1 .0 ∙ stage-1 t (c .before .before .before .before .before) .long
+subtree-accepted-same-length-3 t c = c .before .before .before .child-accepted2 .kept .1 .1 .1 .1 .1 .1 .1 .1 .0 ∙ long-1 t (c .before .before .before .before .before)
 
 subtree-accepted-returns-4 : (t : ℕ) → subtree-accepted-lts.Need-returns-4 (subtree-calls t) (subtree-accepted-at t) subtree-accepted.Post
-subtree-accepted-returns-4 t c =
+subtree-accepted-returns-4 t c = λ read.
     let a = c .before .before .before .before .before .before .before .before .before .before .before .before .before .before .before .before .before .args in
-    Stages.stage-stops (a .settings) (a .rounds .now) (a .challenges .now) (a .leaves .now) (a .h) (a .k) (a .first) (a .claim .now) (a .ws .now) 1 (stage-1 t (c .before .before .before .before .before)) (c .before .before .before .child-accepted2 .ensures .0) (omega arith) (not-true _ (c .if4 .taken))
+    let one = stage-1 t (c .before .before .before .before .before) read in
+    Stages.stage-stops (a .settings) (a .rounds .now) (a .challenges .now) (a .leaves .now) (a .h) (a .k) (a .first) (a .claim .now) (a .ws .now) 1 one (c .before .before .before .child-accepted2 .ensures (again t (c .before .before .before .before .before .before .before .before .before .before .before .before .before .before .before .before .before) one read) .0) (omega arith) (not-true _ (c .if4 .taken))
 
 subtree-accepted-child-accepted-requires-3 :
     (t : ℕ) → subtree-accepted-lts.Need-child-accepted-requires-3 (subtree-calls t) (subtree-accepted-at t) subtree-accepted.Post
-subtree-accepted-child-accepted-requires-3 t c κs = let g = c .before .before .before .before .before .before .before .before .before .before .before .before .before .before .before .before .before .before in (omega arith, ((g .pre .1 .0 .0, upper t (c .before .before .before .before .before .before .before .before .before .before .before .before .before), omega arith), stays t g 2 (stage-2 t (c .before))))
+subtree-accepted-child-accepted-requires-3 t c κs = let g = c .before .before .before .before .before .before .before .before .before .before .before .before .before .before .before .before .before .before in (omega arith, ((g .pre .1 .0 .0, upper t (c .before .before .before .before .before .before .before .before .before .before .before .before .before), omega arith), stays t g (long-2 t (c .before))))
 
 subtree-accepted-same-length-4 : (t : ℕ) → subtree-accepted-lts.Need-same-length-4 (subtree-calls t) (subtree-accepted-at t) subtree-accepted.Post
-subtree-accepted-same-length-4 t c = c .before .before .child-accepted3 .kept .1 .1 .1 .1 .1 .1 .1 .1 .0 ∙ stage-2 t (c .before .before .before .before) .long
+subtree-accepted-same-length-4 t c = c .before .before .child-accepted3 .kept .1 .1 .1 .1 .1 .1 .1 .1 .0 ∙ long-2 t (c .before .before .before .before)
 
 subtree-accepted-returns-5 : (t : ℕ) → subtree-accepted-lts.Need-returns-5 (subtree-calls t) (subtree-accepted-at t) subtree-accepted.Post
-subtree-accepted-returns-5 t c =
+subtree-accepted-returns-5 t c = λ read.
     let a = c .before .before .before .before .before .before .before .before .before .before .before .before .before .before .before .before .before .before .before .before .before .args in
-    Stages.stage-last (a .settings) (a .rounds .now) (a .challenges .now) (a .leaves .now) (a .h) (a .k) (a .first) (a .claim .now) (a .ws .now) (stage-2 t (c .before .before .before .before)) (c .before .before .child-accepted3 .ensures .0)
+    let two = stage-2 t (c .before .before .before .before) read in
+    Stages.stage-last (a .settings) (a .rounds .now) (a .challenges .now) (a .leaves .now) (a .h) (a .k) (a .first) (a .claim .now) (a .ws .now) two (c .before .before .child-accepted3 .ensures (again t (c .before .before .before .before .before .before .before .before .before .before .before .before .before .before .before .before .before .before .before .before .before) two read) .0)
 
 pub +child-accepted+subtree-accepted-spec : {M : Type 1} → statement M
 +child-accepted+subtree-accepted-spec =

@@ -1,6 +1,6 @@
 use mathlib.Core.Path.{_≡_, sym, ap, _∙_}
 use mathlib.Core.List.{List, _++_}
-use Prim.Native.Nat.{ℕ, _*_, _-_, _≤_}
+use Prim.Native.Nat.{ℕ, _*_, _-_, _<_, _≤_}
 use native.Mathlib.Omega.{arith}
 use lib.ListN.{length, take, drop}
 use lib.Seq.{length-take-le}
@@ -8,7 +8,8 @@ use borrow.Rule.Slice.PartMut.{putMid, mid-len}
 use Rattle.protocol.proofs.Inputs.{settings-valid}
 use Rattle.sizes.proofs.Limits.{degree-most, cells-most}
 use Rattle.claims.proofs.Places.{at-root}
-use Rattle.trees.proofs.Root.{root-room, root-key, root-tests}
+use Rattle.claims.proofs.Ranges.{below-everywhere}
+use Rattle.trees.proofs.Root.{root-room, root-key, root-tests, root-read}
 use borrow.Author.Needs.{needs}
 use Rattle.trees.proofs.nodes.root_accepted.Statement.{statement}
 use Rattle.trees.proofs.nodes.root_accepted.Tie as tie
@@ -95,10 +96,15 @@ subtree-accepted-requires c κs =
     ((T, omega (arith, degree-most S (settings-valid S (T .allowed)))), at-root S _ _ (c .before .before .before .before .before .before .nodes .ensures .0 (T .allowed)) (lent (c .before .before) ∙ ap (λ x. 2 * x) (s .pre .1)))
 
 returns : tie.Need-returns
-returns c =
+returns c = λ g.
     let s = c .before .before .before .before .before .before .before .before .before .before .before .before in
     let a = s .args in
-    c .before .subtree-accepted .ensures
+    let S = a .settings in
+    let pq : 0 < S .modulus = omega (arith, settings-valid S (g .allowed) .modulus-least) in
+    c .before .subtree-accepted .ensures (record {
+      rounds-below = below-everywhere (S .modulus) _ (a .rounds .now) pq (g .rounds-below);
+      key-below = root-read S (a .key .now) _ (length (a .key .now)) (s .pre .1) (has-key (c .before .before .before .before)) (below-everywhere (S .modulus) _ (a .key .now) pq (g .key-below));
+    })
     ∙ root-tests (a .settings) (a .rounds .now) (a .challenges .now) (a .leaves .now) (a .t2) (a .key .now) (take (2 * length (a .key .now)) (ws (c .before .before .before .before))) (length (a .key .now)) (s .pre .1) (has-key (c .before .before .before .before))
 
 pub root-accepted-spec : {M : Type 1} → statement M

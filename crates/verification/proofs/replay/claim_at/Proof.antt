@@ -1,5 +1,5 @@
 use mathlib.Core.Path.{_≡_, sym, ap, _∙_}
-use Prim.Native.Nat.{suc, _-_}
+use Prim.Native.Nat.{suc, _+_, _*_, _-_}
 use native.Mathlib.Omega.{arith}
 use lib.ListN.{getD}
 use Rattle.protocol.specs.Element.{residue, padded}
@@ -7,7 +7,7 @@ use Rattle.protocol.specs.Transcript.{nextClaim}
 use Rattle.protocol.proofs.Inputs.{settings-valid}
 use Rattle.sizes.proofs.Limits.{degree-most}
 use Rattle.verification.specs.Replays.{claimAt}
-use Rattle.verification.proofs.Replaying.{claim-next}
+use Rattle.verification.proofs.Replaying.{element-below, claim-next}
 use borrow.Author.Needs.{needs}
 use Rattle.verification.proofs.replay.claim_at.Statement.{statement}
 use Rattle.verification.proofs.replay.claim_at.Tie as tie
@@ -63,7 +63,13 @@ returns-2 c =
     let e = s .pre .0 .settings in
     let w = degree-most S (settings-valid S e) in
     let n : suc (a .t - 1) ≡ a .t = omega arith in
-    c .next-claim .ensures e
+    let read = element-below S (a .commitment) (a .rounds .now) (a .challenges .now) (s .pre .0) in
+    c .next-claim .ensures (record {
+      allowed = e;
+      first = read (3 * (a .t - 1)) (omega arith) _ (c .before .before .before .before .element-at .ensures w);
+      second = read (3 * (a .t - 1) + 1) (omega arith) _ (c .before .before .before .element-at2 .ensures w);
+      third = read (3 * (a .t - 1) + 2) (omega arith) _ (c .before .before .element-at3 .ensures w);
+    })
     ∙ (λ i. padded (S .degree) (nextClaim S (getD (a .challenges .now) (a .t - 1) 0) (residue (c .before .before .before .before .element-at .ensures w i)) (residue (c .before .before .before .element-at2 .ensures w i)) (residue (c .before .before .element-at3 .ensures w i))))
     ∙ claim-next S (a .commitment) (a .rounds .now) (a .challenges .now) (a .t - 1)
     ∙ ap (claimAt S (a .commitment) (a .rounds .now) (a .challenges .now)) n

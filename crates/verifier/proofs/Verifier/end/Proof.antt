@@ -14,19 +14,15 @@ use Rattle.verifier.proofs.Verifier.end.Tie as tie
 passed : (c : tie.Else1) → let a = c .before .before .before .before .args in closeRefusal (a .self .0) (a .key .now) ≡ 0
 passed c = sym (c .before .end .ensures) ∙ c .if1 .left
 
--- src/lib.rt:121:13
 end-requires : tie.Need-end-requires
 end-requires c κs = search needs
 
--- src/lib.rt:123:13
 returns : tie.Need-returns
 returns c = let a = c .before .before .before .before .args in end-refused (a .self .0) (a .last) (a .key .now) _ (c .before .end .ensures) (c .if1 .taken)
 
--- src/lib.rt:132:13
 shut-requires : tie.Need-shut-requires
 shut-requires c κs = search needs
 
--- src/lib.rt:133:59
 slice-aggregate-end-met : tie.Need-slice-aggregate-end-met
 slice-aggregate-end-met c = search needs
 
@@ -40,13 +36,11 @@ unfolding closeHolds
 met c =
     let one = c .before .before .before .before .before .before in
     let g = end-given _ (one .before .before .before .before .args .last) _ (passed one) in
-    c .end-met .ensures (g .allowed) (g .key-long) (omega (arith, settings-valid _ (g .allowed) .depth-most, eight (c .before)))
+    c .end-met .ensures (record { allowed = g .allowed; key-below = g .key-below; challenges-long = omega (arith, settings-valid _ (g .allowed) .depth-most, eight (c .before)) })
 
--- src/lib.rt:133:12
 end-met-requires : tie.Need-end-met-requires
 end-met-requires c κs = search needs
 
--- src/lib.rt:134:13
 returns-2 : tie.Need-returns-2
 unfolding verdict choose
 returns-2 c =
@@ -54,7 +48,6 @@ returns-2 c =
     let a = one .before .before .before .before .args in
     end-done (a .self .0) (a .last) (a .key .now) (passed one) true (sym (met (c .before)) ∙ c .if2 .taken) _ (c .before .before .before .shut .ensures)
 
--- src/lib.rt:117:5
 returns-3 : tie.Need-returns-3
 unfolding verdict choose
 returns-3 c =

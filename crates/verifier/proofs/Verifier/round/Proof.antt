@@ -14,57 +14,46 @@ passed c = sym (c .before .round .ensures) ∙ c .if1 .left
 given : (c : tie.Else1) → let a = c .before .before .before .args in RoundGiven (a .self .0) (a .t2) (a .e)
 given c = round-given _ _ _ (passed c)
 
--- src/lib.rt:87:13
 round-requires : tie.Need-round-requires
 round-requires c κs = search needs
 
--- src/lib.rt:89:13
 returns : tie.Need-returns
 returns c = let a = c .before .before .before .args in round-refused (a .self .0) (a .t2) (a .e) _ (c .before .round .ensures) (c .if1 .taken)
 
--- src/lib.rt:97:18
 array-copy-out-c0 : tie.Need-array-copy-out-c0
 array-copy-out-c0 c = search needs
 
--- src/lib.rt:98:18
 array-copy-out-c1 : tie.Need-array-copy-out-c1
 array-copy-out-c1 c = search needs
 
--- src/lib.rt:99:18
 array-copy-out-c2 : tie.Need-array-copy-out-c2
 array-copy-out-c2 c = search needs
 
--- src/lib.rt:100:13
 round-holds-requires : tie.Need-round-holds-requires
 round-holds-requires c κs = search needs
 
--- src/lib.rt:101:17
 shut-requires : tie.Need-shut-requires
 shut-requires c κs = search needs
 
--- src/lib.rt:102:13
 returns-2 : tie.Need-returns-2
 unfolding moveHolds part
 returns-2 c =
     let one = c .before .before .before .before .before .before .before .before in
     let a = one .before .before .before .args in
-    round-rejected (a .self .0) (a .t2) (a .e) (passed one) (sym (c .before .before .round-holds .ensures (given one .allowed)) ∙ not-true _ (c .before .if2 .taken)) _ (c .shut .ensures)
+    round-rejected (a .self .0) (a .t2) (a .e) (passed one) (sym (c .before .before .round-holds .ensures (given one .read .allowed)) ∙ not-true _ (c .before .if2 .taken)) _ (c .shut .ensures)
 
--- src/lib.rt:108:40
 next-claim-requires : tie.Need-next-claim-requires
 next-claim-requires c κs = search needs
 
--- src/lib.rt:108:13
 counted-requires : tie.Need-counted-requires
-counted-requires c κs = let g = given (c .before .before .before .before .before .before .before .before) in omega (arith, g .turn, settings-valid _ (g .allowed) .depth-most)
+counted-requires c κs = let g = given (c .before .before .before .before .before .before .before .before) in omega (arith, g .turn, settings-valid _ (g .read .allowed) .depth-most)
 
--- src/lib.rt:83:5
 returns-3 : tie.Need-returns-3
 unfolding moveHolds part
 returns-3 c =
     let one = c .before .before .before .before .before .before .before .before .before in
     let a = one .before .before .before .args in
-    round-counted (a .self .0) (a .t2) (a .e) (passed one) (sym (c .before .before .before .round-holds .ensures (given one .allowed)) ∙ not-false _ (c .before .before .if2 .left)) _ _ (c .counted .ensures) (c .before .next-claim .ensures (given one .allowed))
+    round-counted (a .self .0) (a .t2) (a .e) (passed one) (sym (c .before .before .before .round-holds .ensures (given one .read .allowed)) ∙ not-false _ (c .before .before .if2 .left)) _ _ (c .counted .ensures) (c .before .next-claim .ensures (given one .read))
 
 pub round-spec : {M : Type 1} → statement M
 round-spec =

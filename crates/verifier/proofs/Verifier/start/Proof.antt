@@ -11,27 +11,21 @@ use Rattle.verifier.proofs.Verifier.start.Tie as tie
 passed : (c : tie.Else1) → startRefusal (c .before .before .args .settings) (c .before .before .args .t3) ≡ 0
 passed c = sym (c .before .start .ensures) ∙ c .if1 .left
 
--- src/lib.rt:61:13
 start-requires : tie.Need-start-requires
 start-requires c κs = search needs
 
--- src/lib.rt:63:17
 blank-requires : tie.Need-blank-requires
 blank-requires c κs = search needs
 
--- src/lib.rt:64:13
 returns : tie.Need-returns
 returns c = let a = c .before .before .before .args in start-refused (a .settings) (a .t3) _ _ (c .before .before .start .ensures) (c .before .if1 .taken) (c .blank .ensures)
 
--- src/lib.rt:72:70
 slice-aggregate-element-at : tie.Need-slice-aggregate-element-at
 slice-aggregate-element-at c = search needs
 
--- src/lib.rt:72:20
 element-at-requires : tie.Need-element-at-requires
 element-at-requires c κs = search needs
 
--- src/lib.rt:58:5
 returns-2 : tie.Need-returns-2
 unfolding zeros slots
 returns-2 c =

@@ -1,0 +1,29 @@
+use mathlib.Core.Path.{_≡_, sym, _∙_}
+use Prim.Native.Nat.{_+_, _-_}
+use native.Mathlib.Nat.{mod-eq-of-lt, mod-eq-sub-mod}
+use native.Mathlib.Omega.{arith}
+use borrow.Author.Needs.{needs}
+use Rattle.residues.proofs.plus.Statement.{statement}
+use Rattle.residues.proofs.plus.Tie as tie
+
+wrapping-sub-u32-requires : tie.Need-wrapping-sub-u32-requires
+wrapping-sub-u32-requires c κs = search needs
+
+wrapping-add-u32-requires : tie.Need-wrapping-add-u32-requires
+wrapping-add-u32-requires c κs = search needs
+
+returns : tie.Need-returns
+returns c = λ h.
+    let a = c .before .before .before .args in
+    let is : c .wrapping-add-u32 .result ≡ a .x + a .y = omega (arith, c .wrapping-add-u32 .ensures, c .before .before .wrapping-sub-u32 .ensures) in
+    is ∙ sym (mod-eq-of-lt (omega (arith, c .before .before .wrapping-sub-u32 .ensures)))
+
+returns-2 : tie.Need-returns-2
+returns-2 c = λ h.
+    let a = c .before .before .args in
+    let z = c .before .wrapping-sub-u32 in
+    let is : a .x - z .result ≡ (a .x + a .y) - a .q = omega (arith, z .ensures) in
+    is ∙ sym (mod-eq-sub-mod (omega (arith, z .ensures)) ∙ mod-eq-of-lt (omega arith))
+
+pub plus-spec : {M : Type 1} → statement M
+plus-spec = tie.close (tie.spec wrapping-sub-u32-requires wrapping-add-u32-requires returns returns-2)
