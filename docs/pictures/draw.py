@@ -46,7 +46,7 @@ def layers():
     p.box(20, 330, 220, 80, MATH, 'algebra', ['rings, residues, norms, s(a,b)', 'no protocol in it'])
     p.box(270, 330, 220, 80, BELIEVE, 'protocol', ['the definitions of document 01:', 'what a reader must believe'])
     p.box(20, 210, 220, 80, MATH, 'claims', ['completeness, extraction,', 'demand 3 as one claim'])
-    p.box(270, 210, 220, 80, CODE, 'arithmetic', ['residues, elements, folds,', 'the tests of refusals'])
+    p.box(270, 210, 220, 80, CODE, 'residues, products', ['elements, folds, sums;', 'ranges: the tests of refusals'])
     p.box(270, 115, 105, 60, CODE, 'opening', ['prover, session'])
     p.box(385, 115, 105, 60, CODE, 'extraction', ['tree, judge'])
     p.box(520, 115, 105, 60, CODE, 'tables', ['text'])
