@@ -36,7 +36,7 @@ fn words<C: Case>() -> Vec<String> {
 impl Run {
     fn one<C: Case>(&mut self, limits: &Limits) -> Result<(), Difference> {
         let mut case = C::draw(&mut self.random, limits);
-        if self.random.one_in(6) {
+        if self.random.one_in(4) {
             case.disturb(&mut self.random);
         }
         let (outcome, authors) = case::check(&case)?;

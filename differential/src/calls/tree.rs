@@ -148,7 +148,7 @@ pub struct Large(Extract);
 #[derive(Clone)]
 pub struct Largest(Extract);
 
-/// An accepted tree, or once in three times one with a damaged path. Where
+/// An accepted tree, or once in two times one with a damaged path. Where
 /// `limits` have no size a smaller tree is wanted.
 fn sized(random: &mut Random, limits: &Limits, sizes: &[(u32, u32, u32)]) -> Extract {
     if limits.tree == usize::MAX {
@@ -157,7 +157,7 @@ fn sized(random: &mut Random, limits: &Limits, sizes: &[(u32, u32, u32)]) -> Ext
     let (degree, depth, bound) = random.pick(sizes);
     let settings = Settings::new(degree, depth, base::modulus(random), bound);
     let mut tree = accepted(random, settings);
-    if random.one_in(3) {
+    if random.one_in(2) {
         damage_by(random, &mut tree, &[BRANCH]);
     }
     Extract::new(tree)
