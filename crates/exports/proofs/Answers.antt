@@ -98,7 +98,8 @@ module _ (S : Settings) (key : List ℕ) (message : List ℤ) (E rounds C : List
       verdict-exit = refused {A = ℕ} S fits N _ 0 n e h (r .number) number-is q .1;
     }
 
-    pub open-made : r .number ≡ 0 → (C′ : List ℕ) (f′ : List ℤ) (v : ℕ) → C′ ≡ take (S .degree) (r .commitment) → f′ ≡ take (S .degree) (r .last) → v ≡ verdictNumber (r .verdict) → OpeningStored S key message E rounds C f 0 key′ message′ rounds′ C′ f′ v
+    pub open-made : r .number ≡ 0 → (C′ : List ℕ) (f′ : List ℤ) (v : ℕ) → C′ ≡ take (S .degree) (r .commitment) → f′ ≡ take (S .degree) (r .last)
+        → v ≡ verdictNumber (r .verdict) → OpeningStored S key message E rounds C f 0 key′ message′ rounds′ C′ f′ v
     unfolding Border.openNumber Border.openKeyExit Border.openMessageExit Border.openRoundsExit Border.openCommitmentExit Border.openLastExit Border.openVerdict Calls.openingAnswer Calls.openingKeyExit Calls.openingMessageExit Calls.openingRoundsExit
     open-made q C′ f′ v c l s = record {
       number = made S fits N key key n e h (r .number) number-is q key refl .0;

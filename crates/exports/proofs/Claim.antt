@@ -1,7 +1,6 @@
 -- Demand 3 for the exported calls, proved: a corollary of the one claim. The opening's answers, and the whole of the extraction, are those of `demand3`; what is
 -- added is that exact slices lose nothing of what is passed by value elsewhere.
 use mathlib.Core.Path.{_≡_, refl, sym, ap, _∙_, subst}
-use mathlib.Core.Bool.{true}
 use mathlib.Core.List.{List}
 use Prim.Native.Nat.{ℕ, zero, suc, _*_, _<_, _≤_}
 use native.Mathlib.Omega.{arith}
@@ -15,7 +14,7 @@ use Rattle.protocol.specs.Settings.{cells}
 use Rattle.protocol.specs.Opening.{commitment, messageAfter, roundTable}
 use Rattle.protocol.specs.Transcript.{element, claimAfter, Accepted}
 use Rattle.protocol.specs.Inputs.{Valid, Below, Within}
-use Rattle.protocol.specs.Tree.{path, rootVector, growth, growthLimit}
+use Rattle.protocol.specs.Tree.{path, growth, growthLimit}
 use Rattle.protocol.specs.Judge.{slack, scaledCommitment, Opens}
 use Rattle.protocol.specs.Calls as Calls
 use Rattle.protocol.specs.Demand3.{FullTree}
@@ -51,9 +50,14 @@ module _ {S : Settings} {G : List ℕ} {M : List ℤ} {E : List ℕ} (ok : Given
   unfolding finished roundsAfter roundTable Border.openCommitmentExit Border.openRoundsExit Border.openLastExit Border.openMessageExit Border.openKeyExit
   same q st e = record {
     no-refusal = ap (λ (a : State). a .heard .numbers) e;
-    same-commitment = ap (λ (a : State). a .held .commitment) e ∙ sym (granted-zero _ _ _ granted-opening ∙ ap (take (S .degree)) (opening-commitment ok rounds rounds-long) ∙ element-back (S .degree) _ (commitment-below S (modulus-positive S (ok .settings)) G M .long));
+    same-commitment =
+        ap (λ (a : State). a .held .commitment) e
+        ∙ sym (granted-zero _ _ _ granted-opening ∙ ap (take (S .degree)) (opening-commitment ok rounds rounds-long)
+        ∙ element-back (S .degree) _ (commitment-below S (modulus-positive S (ok .settings)) G M .long));
     same-rounds = ap (λ (a : State). a .heard .rounds) e ∙ sym (granted-zero _ _ _ granted-opening ∙ opening-rounds ok rounds rounds-long);
-    same-last = ap (λ (a : State). a .held .last) e ∙ sym (granted-zero _ _ _ granted-opening ∙ ap (take (S .degree)) (opening-last ok rounds rounds-long) ∙ whole-back (S .degree) _ (last-length S (messageAfter S E (S .depth) M)));
+    same-last =
+        ap (λ (a : State). a .held .last) e
+        ∙ sym (granted-zero _ _ _ granted-opening ∙ ap (take (S .degree)) (opening-last ok rounds rounds-long) ∙ whole-back (S .degree) _ (last-length S (messageAfter S E (S .depth) M)));
     same-verdict = ap (λ (a : State). a .heard .verdict) e ∙ sym said;
     same-message = ap (λ (a : State). a .held .message) e ∙ sym (granted-zero _ _ _ granted-opening ∙ opening-message ok rounds rounds-long);
     same-key = ap (λ (a : State). a .held .key) e ∙ sym (granted-zero _ _ _ granted-opening ∙ opening-key ok rounds rounds-long);

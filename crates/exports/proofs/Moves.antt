@@ -2,7 +2,7 @@
 -- and the commitment, and what was heard is no refusal and the elements of t rounds.
 --   stateAfter S G M E t q f v   what is held and was heard then, q, f and v being the slices for polynomial and final element and the last verdict
 --   finished S G M E q           the same at the end
-use mathlib.Core.Path.{_≡_, refl, sym, ap, _∙_}
+use mathlib.Core.Path.{_≡_, sym, ap, _∙_}
 use mathlib.Core.List.{List, [], _∷_, _++_, append-assoc}
 use Prim.Native.Nat.{ℕ, zero, suc, _+_, _*_, _/_, _%_, _<_}
 use native.Mathlib.Nat as Nat
@@ -26,9 +26,10 @@ use Rattle.claims.proofs.Moves.{roundsAfter}
 use Rattle.slices.specs.Slices.{laid}
 use Rattle.slices.proofs.Elements.{three-rows}
 use Rattle.sessions.specs.Records.{numbersOf}
-use Rattle.exports.specs.Claim.{State, Lengths, Words, Wholes, putWords, putWholes, hear, hearRound, hearVerdict, step, begun, Run}
+use Rattle.exports.specs.Claim.{State, Lengths, putWords, putWholes, hear, hearRound, hearVerdict, step, begun, Run}
 use Rattle.exports.proofs.Refused.{runs, run-steps}
-use Rattle.exports.proofs.Steps.{p, final, commit-number, commit-exit, start-number, start-exit, round-number, round-exit, slice-long, check-number, check-exit, check-verdict, end-number, end-exit, close-number, close-exit, close-verdict}
+use Rattle.exports.proofs.Steps.{p, final, commit-number, commit-exit, start-number, start-exit, round-number, round-exit, slice-long}
+use Rattle.exports.proofs.Steps.{check-number, check-exit, check-verdict, end-number, end-exit, close-number, close-exit, close-verdict}
 
 module _ (S : Settings) (G : List ℕ) (M : List ℤ) (E : List ℕ) where
   unfoldable pub stateAfter : ℕ → List ℕ → List ℤ → ℕ → State

@@ -21,17 +21,24 @@ use Rattle.exports.specs.Claim.{Held, State, Words, Wholes, Call, words,
 
 back-words : (s : Words) {h x : Held} {t : List ℕ} → t ≡ words h s → x ≡ h → putWords s t x ≡ h
 unfolding putWords words
-back-words Words.key e f = λ i. record { message = f i .message; key = e i; copy = f i .copy; session = f i .session; commitment = f i .commitment; polynomial = f i .polynomial; last = f i .last; folds = f i .folds }
-back-words Words.copy e f = λ i. record { message = f i .message; key = f i .key; copy = e i; session = f i .session; commitment = f i .commitment; polynomial = f i .polynomial; last = f i .last; folds = f i .folds }
-back-words Words.session e f = λ i. record { message = f i .message; key = f i .key; copy = f i .copy; session = e i; commitment = f i .commitment; polynomial = f i .polynomial; last = f i .last; folds = f i .folds }
-back-words Words.commitment e f = λ i. record { message = f i .message; key = f i .key; copy = f i .copy; session = f i .session; commitment = e i; polynomial = f i .polynomial; last = f i .last; folds = f i .folds }
-back-words Words.polynomial e f = λ i. record { message = f i .message; key = f i .key; copy = f i .copy; session = f i .session; commitment = f i .commitment; polynomial = e i; last = f i .last; folds = f i .folds }
+back-words Words.key e f = λ i.
+    record { message = f i .message; key = e i; copy = f i .copy; session = f i .session; commitment = f i .commitment; polynomial = f i .polynomial; last = f i .last; folds = f i .folds }
+back-words Words.copy e f = λ i.
+    record { message = f i .message; key = f i .key; copy = e i; session = f i .session; commitment = f i .commitment; polynomial = f i .polynomial; last = f i .last; folds = f i .folds }
+back-words Words.session e f = λ i.
+    record { message = f i .message; key = f i .key; copy = f i .copy; session = e i; commitment = f i .commitment; polynomial = f i .polynomial; last = f i .last; folds = f i .folds }
+back-words Words.commitment e f = λ i.
+    record { message = f i .message; key = f i .key; copy = f i .copy; session = f i .session; commitment = e i; polynomial = f i .polynomial; last = f i .last; folds = f i .folds }
+back-words Words.polynomial e f = λ i.
+    record { message = f i .message; key = f i .key; copy = f i .copy; session = f i .session; commitment = f i .commitment; polynomial = e i; last = f i .last; folds = f i .folds }
 back-words (Words.other t) e f = f
 
 back-wholes : (s : Wholes) {h x : Held} {t : List ℤ} → t ≡ wholes h s → x ≡ h → putWholes s t x ≡ h
 unfolding putWholes wholes
-back-wholes Wholes.message e f = λ i. record { message = e i; key = f i .key; copy = f i .copy; session = f i .session; commitment = f i .commitment; polynomial = f i .polynomial; last = f i .last; folds = f i .folds }
-back-wholes Wholes.last e f = λ i. record { message = f i .message; key = f i .key; copy = f i .copy; session = f i .session; commitment = f i .commitment; polynomial = f i .polynomial; last = e i; folds = f i .folds }
+back-wholes Wholes.message e f = λ i.
+    record { message = e i; key = f i .key; copy = f i .copy; session = f i .session; commitment = f i .commitment; polynomial = f i .polynomial; last = f i .last; folds = f i .folds }
+back-wholes Wholes.last e f = λ i.
+    record { message = f i .message; key = f i .key; copy = f i .copy; session = f i .session; commitment = f i .commitment; polynomial = f i .polynomial; last = e i; folds = f i .folds }
 back-wholes (Wholes.other t) e f = f
 
 -- ---- every call

@@ -1,5 +1,5 @@
 -- The exported calls of an opening, on slices of their lengths: none is refused, and each leaves what its call of protocol answers, in its slice.
-use mathlib.Core.Path.{_≡_, refl, sym, ap, _∙_, subst}
+use mathlib.Core.Path.{_≡_, sym, ap, _∙_, subst}
 use mathlib.Core.Bool.{Bool, true, _&&_}
 use mathlib.Core.List.{List}
 use Prim.Native.Nat.{ℕ, zero, suc, _*_, _<_, _≤_}
@@ -26,7 +26,7 @@ use Rattle.protocol.proofs.Tests.{and-intro, granted-zero}
 use Rattle.protocol.proofs.Refusals.{first-passes, first-holds, first-only}
 use Rattle.protocol.proofs.Inputs.{valid-settings}
 use Rattle.protocol.proofs.Reading.{flat-length}
-use Rattle.claims.proofs.Honest.{Given, degree-positive, modulus-positive}
+use Rattle.claims.proofs.Honest.{Given, modulus-positive}
 use Rattle.claims.proofs.Ranges.{commitment-below, round-below, last-length}
 use Rattle.claims.proofs.Prover.{commit-answer, round-answer, end-answer}
 use Rattle.claims.proofs.Sessions.{sessionAfter, start-answer, move-answer, close-answer}
@@ -101,7 +101,8 @@ module _ {S : Settings} {G : List ℕ} {M : List ℤ} {E : List ℕ} (ok : Given
     pub start-exit : startExit S (commitment S G M) r ≡ numbersOf (session 0)
     unfolding startExit start
     start-exit =
-        ap (λ x. recordStored x r) (granted-zero _ _ _ start-number ∙ sym (granted-zero _ (opened S (padded d (commitment S G M))) blank start-granted) ∙ ap (λ (x : Started). x .next) (start-answer ok))
+        ap (λ x. recordStored x r)
+        (granted-zero _ _ _ start-number ∙ sym (granted-zero _ (opened S (padded d (commitment S G M))) blank start-granted) ∙ ap (λ (x : Started). x .next) (start-answer ok))
         ∙ stored (session 0) r long
 
   -- ---- the record after t rounds
@@ -139,7 +140,8 @@ module _ {S : Settings} {G : List ℕ} {M : List ℤ} {E : List ℕ} (ok : Given
 
     slice-read : polynomialOf d slice ≡ p t
     unfolding polynomial
-    slice-read = polynomial-there d (roundElement S t (keyAfter S E t G) (messageAfter S E t M)) (λ j. round-below S (modulus-positive S (ok .settings)) t (keyAfter S E t G) (messageAfter S E t M) j .long)
+    slice-read =
+        polynomial-there d (roundElement S t (keyAfter S E t G) (messageAfter S E t M)) (λ j. round-below S (modulus-positive S (ok .settings)) t (keyAfter S E t G) (messageAfter S E t M) j .long)
 
     slice-fits : polynomialFits slice (numbersOf (session t)) ≡ true
     unfolding polynomialFits
@@ -201,4 +203,6 @@ module _ {S : Settings} {G : List ℕ} {M : List ℤ} {E : List ℕ} (ok : Given
 
   pub close-verdict : moveVerdict (lastFits final (numbersOf (session L))) n (numbersOf (session L)) ≡ 2
   unfolding verdictNumber
-  close-verdict = move-verdict S (ok .settings) _ n (session L) (settings-are L (Nat.le-refl L)) final-fits (ap (λ (x : Moved). x .number) closed) ∙ ap (λ (x : Moved). verdictNumber (x .verdict)) closed
+  close-verdict =
+      move-verdict S (ok .settings) _ n (session L) (settings-are L (Nat.le-refl L)) final-fits (ap (λ (x : Moved). x .number) closed)
+      ∙ ap (λ (x : Moved). verdictNumber (x .verdict)) closed

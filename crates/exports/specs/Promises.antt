@@ -28,7 +28,8 @@ pub record EndStored (S : Settings) (t : ℕ) (message last : List ℤ) (r : ℕ
   pub number : r ≡ endNumber S t message last
   pub last-exit : last′ ≡ endExit S t message last
 
-pub record OpeningStored (S : Settings) (key : List ℕ) (message : List ℤ) (E rounds C : List ℕ) (f : List ℤ) (r : ℕ) (key′ : List ℕ) (message′ : List ℤ) (rounds′ C′ : List ℕ) (f′ : List ℤ) (verdict′ : ℕ) : Type 0 where
+pub record OpeningStored (S : Settings) (key : List ℕ) (message : List ℤ) (E rounds C : List ℕ) (f : List ℤ)
+    (r : ℕ) (key′ : List ℕ) (message′ : List ℤ) (rounds′ C′ : List ℕ) (f′ : List ℤ) (verdict′ : ℕ) : Type 0 where
   pub number : r ≡ Border.openNumber S key message E rounds C f
   pub key-exit : key′ ≡ Border.openKeyExit S key message E rounds C f
   pub message-exit : message′ ≡ Border.openMessageExit S key message E rounds C f

@@ -1,8 +1,8 @@
 -- What the session's moves leave in a slice for a record, and what they answer.
 use mathlib.Core.Path.{_≡_, refl, sym, ap, _∙_}
 use mathlib.Core.Logic.{_≢_}
-use mathlib.Core.Bool.{Bool, true, _&&_}
-use mathlib.Core.List.{List, [], _∷_}
+use mathlib.Core.Bool.{Bool, _&&_}
+use mathlib.Core.List.{List}
 use Prim.Native.Nat.{ℕ, _≤_}
 use native.Mathlib.Omega.{arith}
 use borrow.Author.Tests.{eq-eqb, eqb-true, ne-eqb}
@@ -11,7 +11,7 @@ use Rattle.protocol.specs.declared.Settings.{Settings}
 use Rattle.protocol.specs.declared.Session.{Session}
 use Rattle.protocol.specs.declared.Started.{Started}
 use Rattle.protocol.specs.declared.Moved.{Moved}
-use Rattle.protocol.specs.Basic.{first, unless, granted}
+use Rattle.protocol.specs.Basic.{granted}
 use Rattle.protocol.specs.Element.{padded}
 use Rattle.protocol.specs.Settings.{sized}
 use Rattle.protocol.specs.Session.{opened, blank, startRefusal, start}
@@ -35,7 +35,8 @@ module _ (S : Settings) (C rec : List ℕ) (n : ℕ) (e : n ≡ lent S (sized (S
         record-exit = p ∙ ap (λ r. recordStored r rec) (b ∙ kept S _ _ _ _ refused);
       }
 
-  pub start-made : (c : List ℕ) (r : Started) (rec′ : List ℕ) → n ≡ 0 → (S .degree ≤ 64 → length C ≡ S .degree → c ≡ padded (S .degree) C) → r ≡ start S c → rec′ ≡ recordStored (r .next) rec → StartStored S C rec (r .number) rec′
+  pub start-made : (c : List ℕ) (r : Started) (rec′ : List ℕ) → n ≡ 0 → (S .degree ≤ 64 → length C ≡ S .degree → c ≡ padded (S .degree) C) → r ≡ start S c
+      → rec′ ≡ recordStored (r .next) rec → StartStored S C rec (r .number) rec′
   unfolding startNumber startExit start sized
   start-made c r rec′ h b q p =
       let long = eqb-true _ _ (and-split (lent-fits S (sized (S .degree) C && sized recordWidth rec) (sym e ∙ h)) .0) in
@@ -77,7 +78,8 @@ module _ (fits : Bool) (m : Moved) (rec : List ℕ) where
         let refused : moveNumber fits m rec ≢ 0 = λ z. h (same ∙ z) in
         record { number = same; record-exit = sym (granted-refused _ _ _ refused); verdict-exit = sym (granted-refused _ _ _ refused) }
 
-    pub move-made : (n : ℕ) → n ≡ lent (sessionOf rec .settings) (fits && flagged rec) 0 → n ≡ 0 → (m′ : Moved) (r : ℕ) (rec′ : List ℕ) (v′ : ℕ) → m′ ≡ m → Answered m′ rec r rec′ v′ → MoveStored fits m rec r rec′ v′
+    pub move-made : (n : ℕ) → n ≡ lent (sessionOf rec .settings) (fits && flagged rec) 0 → n ≡ 0
+        → (m′ : Moved) (r : ℕ) (rec′ : List ℕ) (v′ : ℕ) → m′ ≡ m → Answered m′ rec r rec′ v′ → MoveStored fits m rec r rec′ v′
     unfolding moveExit moveVerdict
     move-made n e h m′ r rec′ v′ q a =
         let same = lent-passes _ _ (m .number) (sym e ∙ h) ∙ sym number-is in

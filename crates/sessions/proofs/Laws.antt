@@ -14,7 +14,7 @@ use lib.Seq.{ext-getD}
 use Rattle.protocol.specs.declared.Settings.{Settings}
 use Rattle.protocol.specs.declared.Session.{Session}
 use Rattle.protocol.specs.declared.Verdict.the-variants.{Holds, Rejected}
-use Rattle.protocol.specs.Basic.{tabulate, choose, granted}
+use Rattle.protocol.specs.Basic.{choose, granted}
 use Rattle.protocol.specs.Element.{width, zeros, padded, reduced}
 use Rattle.protocol.specs.Settings.{settingsRefusal}
 use Rattle.protocol.specs.Transcript.{nextClaim}
@@ -25,7 +25,6 @@ use Rattle.protocol.proofs.Reading.{tabulate-length, tabulate-at, tabulate-ext,
 use Rattle.residues.proofs.Fill.{zeros-length}
 use Rattle.sizes.proofs.Limits.{degree-most}
 use Rattle.sessions.specs.Records.{recordWidth, challengesOf, claimOf, sessionOf, flagged, headOf, numberOf, numbersOf}
-use Rattle.sessions.proofs.Stored.{numbers-length}
 
 -- a record whose arrays have their lengths, as every record has that is passed by value
 pub record Whole (r : Session) : Type 0 where

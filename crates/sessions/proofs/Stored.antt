@@ -1,23 +1,19 @@
 -- Records in slices: what a slice holds after a record was written to it, and the way back.
-use mathlib.Core.Path.{_≡_, refl, sym, ap, _∙_}
+use mathlib.Core.Path.{_≡_, sym, ap, _∙_}
 use mathlib.Core.Logic.{_≢_}
-use mathlib.Core.Bool.{Bool, true, false}
 use mathlib.Core.List.{List, _++_, append-nil}
-use Prim.Native.Nat.{ℕ, zero, suc, _+_, _-_, _<_, _≤_}
-use native.Mathlib.Decide.{decLt}
+use Prim.Native.Nat.{ℕ, _+_, _-_}
 use native.Mathlib.Omega.{arith}
-use borrow.Author.Tests.{eq-eqb, ne-eqb, lt-ltb, le-ltb, leb-true}
-use lib.Dec.{eqb}
-use lib.ListN.{length, getD, take, drop, length-drop}
-use lib.Seq.{take-all, drop-length, getD-drop, ext-getD}
+use borrow.Author.Tests.{eq-eqb, ne-eqb}
+use lib.ListN.{length, take, drop, length-drop}
+use lib.Seq.{take-all, drop-length, getD-drop}
 use Rattle.protocol.specs.declared.Session.{Session}
 use Rattle.protocol.specs.Basic.{tabulate, choose}
 use Rattle.protocol.specs.Element.{width, zeros, padded}
 use Rattle.protocol.specs.Settings.{sized}
-use Rattle.protocol.proofs.Reading.{tabulate-length, tabulate-at, tabulate-ext, tabulate-own}
+use Rattle.protocol.proofs.Reading.{tabulate-length, tabulate-ext, tabulate-own}
 use Rattle.residues.specs.Lists.{filled}
-use Rattle.slices.specs.Slices.{given}
-use Rattle.sessions.specs.Records.{recordWidth, challengesOf, claimOf, sessionOf, flagged, headOf, numberOf, numbersOf, recordStored}
+use Rattle.sessions.specs.Records.{recordWidth, claimOf, numberOf, numbersOf, recordStored}
 
 -- ---- writing
 

@@ -1,5 +1,5 @@
 -- The laws of elements and round polynomials in slices, for a reader: what was written to a slice and is read again is what it was, and the other way round.
-use mathlib.Core.Path.{_≡_, refl, ap, _∙_}
+use mathlib.Core.Path.{_≡_, ap, _∙_}
 use mathlib.Core.List.{List, [], _∷_}
 use Prim.Native.Nat.{ℕ, zero, suc, _+_, _*_, _<_}
 use native.Mathlib.Omega.{arith}

@@ -2,21 +2,22 @@
 use mathlib.Core.Path.{_≡_, refl, sym, ap, _∙_}
 use mathlib.Core.Logic.{_≢_}
 use mathlib.Core.Bool.{Bool, true, false, _&&_}
-use mathlib.Core.List.{List, [], _∷_, _++_}
+use mathlib.Core.List.{List, [], _∷_}
 use Prim.Native.Nat.{ℕ, zero, suc}
 use native.Mathlib.Omega.{arith}
 use borrow.Author.Tests.{eq-eqb, ne-eqb}
-use lib.ListN.{length, drop}
+use lib.ListN.{length}
 use Rattle.protocol.specs.declared.Settings.{Settings}
 use Rattle.protocol.specs.declared.Parts.{Parts}
 use Rattle.protocol.specs.declared.Loaded.{Loaded}
 use Rattle.protocol.specs.declared.Written.{Written}
 use Rattle.protocol.specs.Basic.{first, unless, granted}
 use Rattle.protocol.specs.Settings.{sized}
-use Rattle.protocol.specs.Text.{Tables, wanted, fits, linesOf, spotsOf, sameSpots, entriesRefusal, settingsIn, tablesIn, noSettings, loaded, lookRefusal, lookAnswer, textRefusal, readRefusal, readAnswer, readExit, textOf, written, overwritten, writeRefusal, writeAnswer, writeExit}
+use Rattle.protocol.specs.Text.{Tables, wanted, fits, linesOf, spotsOf, sameSpots, entriesRefusal, settingsIn, tablesIn, loaded, lookRefusal}
+use Rattle.protocol.specs.Text.{lookAnswer, textRefusal, readRefusal, readAnswer, readExit, textOf, written, overwritten, writeRefusal, writeAnswer, writeExit}
 use Rattle.protocol.specs.Promises.{Read, Wrote}
 use Rattle.protocol.proofs.Tests.{granted-zero, granted-refused}
-use Rattle.protocol.proofs.Refusals.{first-stops, first-passes, first-fails, first-holds, first-only, and-fails-right}
+use Rattle.protocol.proofs.Refusals.{first-stops, first-passes, first-fails, first-holds, and-fails-right}
 use Rattle.slices.specs.Slices.{lent}
 use Rattle.slices.proofs.Lent.{lent-stops, lent-passes}
 use Rattle.texts.specs.Texts.{partsOf, partsNamed, settingsWidth, settingsNumbers}

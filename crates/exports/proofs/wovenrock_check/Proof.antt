@@ -24,11 +24,13 @@ refusal-requires c κs = search needs
 returns : tie.Need-returns
 unfolding checkNumber checkVerdict sized
 returns c =
-    let a = c .before .before .before .before .before .before .before .args in
+    let at-refusal = c .before in
+    let at-both = at-refusal .before in
+    let a = at-both .before .before .before .before .before .args in
     let S = given (a .degree) (a .depth) (a .modulus) (a .bound) in
     let answer = checkAnswer S (padded (a .degree) (a .commitment .now)) (paddedSigned (a .degree) (a .last .now)) (a .key .now) (a .rounds .now) (a .challenges .now) in
     let fits = sized (a .degree) (a .commitment .now) && sized (a .degree) (a .last .now) in
-    let (p, q) = unfit S fits (answer .number) (verdictNumber (answer .verdict)) 0 _ (c .before .refusal .ensures ∙ ap (λ b. lent S b 0) (c .before .before .both .ensures)) (c .if1 .taken) in
+    let (p, q) = unfit S fits (answer .number) (verdictNumber (answer .verdict)) 0 _ (at-refusal .refusal .ensures ∙ ap (λ b. lent S b 0) (at-both .both .ensures)) (c .if1 .taken) in
     record { number = p; verdict-exit = q }
 
 residues-requires : tie.Need-residues-requires

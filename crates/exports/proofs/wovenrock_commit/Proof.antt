@@ -18,10 +18,11 @@ refusal-requires c κs = search needs
 returns : tie.Need-returns
 unfolding commitNumber commitExit sized
 returns c =
-    let a = c .before .before .before .before .args in
+    let at-refusal = c .before in
+    let a = at-refusal .before .before .before .args in
     let S = given (a .degree) (a .depth) (a .modulus) (a .bound) in
     let answer = commitAnswer S (a .key .now) (a .message .now) in
-    let (p, q) = unfit S (sized (a .degree) (a .commitment .now)) (answer .number) (take (a .degree) (answer .commitment)) (a .commitment .now) _ (c .before .refusal .ensures) (c .if1 .taken) in
+    let (p, q) = unfit S (sized (a .degree) (a .commitment .now)) (answer .number) (take (a .degree) (answer .commitment)) (a .commitment .now) _ (at-refusal .refusal .ensures) (c .if1 .taken) in
     record { number = p; commitment-exit = q }
 
 commit-requires : tie.Need-commit-requires
@@ -30,12 +31,16 @@ commit-requires c κs = search needs
 returns-2 : tie.Need-returns-2
 unfolding commitNumber commitExit sized
 returns-2 c =
-    let a = c .before .before .before .before .before .before .before .args in
+    let at-commit = c .before .before in
+    let at-if1 = at-commit .before in
+    let at-refusal = at-if1 .before in
+    let a = at-refusal .before .before .before .args in
     let S = given (a .degree) (a .depth) (a .modulus) (a .bound) in
     let answer = commitAnswer S (a .key .now) (a .message .now) in
-    let same = ap (λ (r : Committed). r .number) (c .before .before .commit .ensures) in
+    let same = ap (λ (r : Committed). r .number) (at-commit .commit .ensures) in
     let (p, q) =
-    refused S (sized (a .degree) (a .commitment .now)) (answer .number) (take (a .degree) (answer .commitment)) (a .commitment .now) _ (c .before .before .before .before .refusal .ensures) (c .before .before .before .if1 .left)
+    refused S (sized (a .degree) (a .commitment .now)) (answer .number) (take (a .degree) (answer .commitment)) (a .commitment .now) _ (at-refusal .refusal .ensures)
+    (at-if1 .if1 .left)
     _ same (c .if2 .taken) in
     record { number = p; commitment-exit = q }
 
@@ -48,17 +53,22 @@ same-length c = search needs
 returns-3 : tie.Need-returns-3
 unfolding commitNumber commitExit sized
 returns-3 c =
-    let a = c .before .before .before .before .before .before .before .before .before .before .before .before .args in
+    let at-store-residues = c .before .before in
+    let at-if2 = at-store-residues .before .before .before in
+    let at-commit = at-if2 .before .before in
+    let at-if1 = at-commit .before in
+    let at-refusal = at-if1 .before in
+    let a = at-refusal .before .before .before .args in
     let S = given (a .degree) (a .depth) (a .modulus) (a .bound) in
     let answer = commitAnswer S (a .key .now) (a .message .now) in
-    let given-answer = c .before .before .before .before .before .before .before .commit .ensures in
-    let border = c .before .before .before .before .before .before .before .before .before .refusal .ensures in
-    let nothing = c .before .before .before .before .before .before .before .before .if1 .left in
+    let given-answer = at-commit .commit .ensures in
+    let border = at-refusal .refusal .ensures in
+    let nothing = at-if1 .if1 .left in
     let passed = sym border ∙ nothing in
-    let stored = c .before .before .store-residues .ensures (lent-degree S _ passed) (eqb-true _ _ (lent-fits S _ passed)) in
+    let stored = at-store-residues .store-residues .ensures (lent-degree S _ passed) (eqb-true _ _ (lent-fits S _ passed)) in
     let (p, q) =
     made S (sized (a .degree) (a .commitment .now)) (answer .number) (take (a .degree) (answer .commitment)) (a .commitment .now) _ border nothing
-    _ (ap (λ (r : Committed). r .number) given-answer) (c .before .before .before .before .before .if2 .left) _ (stored ∙ ap (λ (r : Committed). take (a .degree) (r .commitment)) given-answer) in
+    _ (ap (λ (r : Committed). r .number) given-answer) (at-if2 .if2 .left) _ (stored ∙ ap (λ (r : Committed). take (a .degree) (r .commitment)) given-answer) in
     record { number = p; commitment-exit = q }
 
 pub wovenrock-commit-spec : {M : Type 1} → statement M

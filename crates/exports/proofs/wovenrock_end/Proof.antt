@@ -30,12 +30,15 @@ end-requires c κs = search needs
 returns-2 : tie.Need-returns-2
 unfolding endNumber endExit sized
 returns-2 c =
-    let a = c .before .before .before .before .before .args in
+    let at-end = c .before .before in
+    let at-if1 = at-end .before in
+    let at-refusal = at-if1 .before in
+    let a = at-refusal .before .args in
     let S = given (a .degree) (a .depth) (a .modulus) (a .bound) in
     let answer = endAnswer S (a .done) (a .message .now) in
-    let same = ap (λ (r : Ended). r .number) (c .before .before .end .ensures) in
+    let same = ap (λ (r : Ended). r .number) (at-end .end .ensures) in
     let (p, q) =
-    refused S (sized (a .degree) (a .last .now)) (answer .number) (take (a .degree) (answer .last)) (a .last .now) _ (c .before .before .before .before .refusal .ensures) (c .before .before .before .if1 .left)
+    refused S (sized (a .degree) (a .last .now)) (answer .number) (take (a .degree) (answer .last)) (a .last .now) _ (at-refusal .refusal .ensures) (at-if1 .if1 .left)
     _ same (c .if2 .taken) in
     record { number = p; last-exit = q }
 

@@ -37,14 +37,18 @@ same-length c = search needs
 returns-2 : tie.Need-returns-2
 unfolding extractNumber extractExit Calls.extractExit sized
 returns-2 c =
-    let a = c .before .before .before .before .before .before .before .before .before .before .args in
+    let at-extract = c .before in
+    let at-residues = at-extract .before .before in
+    let at-if1 = at-residues .before in
+    let at-refusal = at-if1 .before in
+    let a = at-refusal .before .before .before .before .before .args in
     let S = given (a .degree) (a .depth) (a .modulus) (a .bound) in
     let fits = sized (a .degree) (a .commitment .now) in
-    let border = c .before .before .before .before .before .refusal .ensures in
-    let nothing = c .before .before .before .before .if1 .left in
+    let border = at-refusal .refusal .ensures in
+    let nothing = at-if1 .if1 .left in
     let passed = sym border ∙ nothing in
-    let commitment = c .before .before .before .residues .ensures (lent-degree S _ passed) (eqb-true _ _ (lent-fits S _ passed)) in
-    let answer = c .before .extract .ensures in
+    let commitment = at-residues .residues .ensures (lent-degree S _ passed) (eqb-true _ _ (lent-fits S _ passed)) in
+    let answer = at-extract .extract .ensures in
     let N = Calls.extractRefusal S (padded (a .degree) (a .commitment .now)) (a .key .now) (a .rounds .now) (a .challenges .now) (a .leaves .now) (a .w .now) in
     record {
       number = answer .number ∙ ap (λ C. Calls.extractRefusal S C (a .key .now) (a .rounds .now) (a .challenges .now) (a .leaves .now) (a .w .now)) commitment ∙ lent-passes S fits N passed;

@@ -18,9 +18,12 @@ refusal-requires c κs = search needs
 returns : tie.Need-returns
 unfolding sized
 returns c =
-    let a = c .before .before .before .before .before .before .before .args in
+    let at-refusal = c .before in
+    let at-both = at-refusal .before in
+    let a = at-both .before .before .before .before .before .args in
     let S = given (a .degree) (a .depth) (a .modulus) (a .bound) in
-    open-unfit S (a .key .now) (a .message .now) (a .challenges .now) (a .rounds .now) (a .commitment .now) (a .last .now) _ (c .before .refusal .ensures ∙ ap (λ b. lent S b 0) (c .before .before .both .ensures)) (c .if1 .taken)
+    open-unfit S (a .key .now) (a .message .now) (a .challenges .now) (a .rounds .now) (a .commitment .now) (a .last .now) _
+    (at-refusal .refusal .ensures ∙ ap (λ b. lent S b 0) (at-both .both .ensures)) (c .if1 .taken)
 
 open-requires : tie.Need-open-requires
 open-requires c κs = search needs
@@ -37,9 +40,14 @@ same-length-3 c = search needs
 returns-2 : tie.Need-returns-2
 unfolding sized
 returns-2 c =
-    let a = c .before .before .before .before .before .before .before .before .before .before .before .before .before .before .before .before .before .before .args in
+    let at-open = c .before .before .before .before .before .before .before in
+    let at-if1 = at-open .before .before .before .before in
+    let at-refusal = at-if1 .before in
+    let at-both = at-refusal .before in
+    let a = at-both .before .before .before .before .before .args in
     let S = given (a .degree) (a .depth) (a .modulus) (a .bound) in
-    open-refused S (a .key .now) (a .message .now) (a .challenges .now) (a .rounds .now) (a .commitment .now) (a .last .now) _ (c .before .before .before .before .before .before .before .before .before .before .before .before .refusal .ensures ∙ ap (λ b. lent S b 0) (c .before .before .before .before .before .before .before .before .before .before .before .before .before .both .ensures)) (c .before .before .before .before .before .before .before .before .before .before .before .if1 .left) _ _ _ _ (c .before .before .before .before .before .before .before .«open» .ensures) (c .if2 .taken)
+    open-refused S (a .key .now) (a .message .now) (a .challenges .now) (a .rounds .now) (a .commitment .now) (a .last .now) _
+    (at-refusal .refusal .ensures ∙ ap (λ b. lent S b 0) (at-both .both .ensures)) (at-if1 .if1 .left) _ _ _ _ (at-open .«open» .ensures) (c .if2 .taken)
 
 store-residues-requires : tie.Need-store-residues-requires
 store-residues-requires c κs = search needs
@@ -68,15 +76,23 @@ same-length-8 c = search needs
 returns-3 : tie.Need-returns-3
 unfolding sized
 returns-3 c =
-    let a = c .before .before .before .before .before .before .before .before .before .before .before .before .before .before .before .before .before .before .before .before .before .before .before .before .before .before .before .before .args in
+    let at-store-wholes = c .before .before in
+    let at-store-residues = at-store-wholes .before .before .before .before .before in
+    let at-if2 = at-store-residues .before .before .before in
+    let at-open = at-if2 .before .before .before .before .before .before .before in
+    let at-if1 = at-open .before .before .before .before in
+    let at-refusal = at-if1 .before in
+    let at-both = at-refusal .before in
+    let a = at-both .before .before .before .before .before .args in
     let S = given (a .degree) (a .depth) (a .modulus) (a .bound) in
-    let border = c .before .before .before .before .before .before .before .before .before .before .before .before .before .before .before .before .before .before .before .before .before .before .refusal .ensures in
-    let both = c .before .before .before .before .before .before .before .before .before .before .before .before .before .before .before .before .before .before .before .before .before .before .before .both .ensures in
-    let nothing = c .before .before .before .before .before .before .before .before .before .before .before .before .before .before .before .before .before .before .before .before .before .if1 .left in
+    let border = at-refusal .refusal .ensures in
+    let both = at-both .both .ensures in
+    let nothing = at-if1 .if1 .left in
     let small = lent-degree S _ (sym border ∙ nothing) in
     let (c-long, f-long) = and-split (sym both ∙ lent-fits S _ (sym border ∙ nothing)) in
-    open-made S (a .key .now) (a .message .now) (a .challenges .now) (a .rounds .now) (a .commitment .now) (a .last .now) _ (border ∙ ap (λ b. lent S b 0) both) nothing _ _ _ _ (c .before .before .before .before .before .before .before .before .before .before .before .before .before .before .before .before .before .«open» .ensures) (c .before .before .before .before .before .before .before .before .before .before .if2 .left) _ _ _
-    (c .before .before .before .before .before .before .before .store-residues .ensures small (eqb-true _ _ c-long)) (c .before .before .store-wholes .ensures small (eqb-true _ _ f-long)) (c .verdict-number .ensures)
+    open-made S (a .key .now) (a .message .now) (a .challenges .now) (a .rounds .now) (a .commitment .now) (a .last .now) _ (border ∙ ap (λ b. lent S b 0) both) nothing _ _ _ _
+    (at-open .«open» .ensures) (at-if2 .if2 .left) _ _ _
+    (at-store-residues .store-residues .ensures small (eqb-true _ _ c-long)) (at-store-wholes .store-wholes .ensures small (eqb-true _ _ f-long)) (c .verdict-number .ensures)
 
 pub wovenrock-open-spec : {M : Type 1} → statement M
 wovenrock-open-spec =

@@ -21,10 +21,11 @@ refusal-requires c κs = search needs
 returns : tie.Need-returns
 unfolding roundNumber roundExit sized
 returns c =
-    let a = c .before .before .before .before .args in
+    let at-refusal = c .before in
+    let a = at-refusal .before .before .before .args in
     let S = given (a .degree) (a .depth) (a .modulus) (a .bound) in
     let answer = roundAnswer S (a .done) (a .key .now) (a .message .now) in
-    let (p, q) = unfit S (sized (3 * a .degree) (a .polynomial .now)) (answer .number) (laid (a .degree) (answer .elements)) (a .polynomial .now) _ (c .before .refusal .ensures) (c .if1 .taken) in
+    let (p, q) = unfit S (sized (3 * a .degree) (a .polynomial .now)) (answer .number) (laid (a .degree) (answer .elements)) (a .polynomial .now) _ (at-refusal .refusal .ensures) (c .if1 .taken) in
     record { number = p; polynomial-exit = q }
 
 round-requires : tie.Need-round-requires
@@ -33,12 +34,16 @@ round-requires c κs = search needs
 returns-2 : tie.Need-returns-2
 unfolding roundNumber roundExit sized
 returns-2 c =
-    let a = c .before .before .before .before .before .before .before .args in
+    let at-round = c .before .before in
+    let at-if1 = at-round .before in
+    let at-refusal = at-if1 .before in
+    let a = at-refusal .before .before .before .args in
     let S = given (a .degree) (a .depth) (a .modulus) (a .bound) in
     let answer = roundAnswer S (a .done) (a .key .now) (a .message .now) in
-    let same = ap (λ (r : Polynomial). r .number) (c .before .before .round .ensures) in
+    let same = ap (λ (r : Polynomial). r .number) (at-round .round .ensures) in
     let (p, q) =
-    refused S (sized (3 * a .degree) (a .polynomial .now)) (answer .number) (laid (a .degree) (answer .elements)) (a .polynomial .now) _ (c .before .before .before .before .refusal .ensures) (c .before .before .before .if1 .left)
+    refused S (sized (3 * a .degree) (a .polynomial .now)) (answer .number) (laid (a .degree) (answer .elements)) (a .polynomial .now) _ (at-refusal .refusal .ensures)
+    (at-if1 .if1 .left)
     _ same (c .if2 .taken) in
     record { number = p; polynomial-exit = q }
 
@@ -54,17 +59,24 @@ same-length c = search needs
 returns-3 : tie.Need-returns-3
 unfolding roundNumber roundExit sized
 returns-3 c =
-    let a = c .before .before .before .before .before .before .before .before .before .before .before .before .args in
+    let at-store-polynomial = c .before .before in
+    let at-elements-of = at-store-polynomial .before .before in
+    let at-if2 = at-elements-of .before in
+    let at-round = at-if2 .before .before in
+    let at-if1 = at-round .before in
+    let at-refusal = at-if1 .before in
+    let a = at-refusal .before .before .before .args in
     let S = given (a .degree) (a .depth) (a .modulus) (a .bound) in
     let answer = roundAnswer S (a .done) (a .key .now) (a .message .now) in
-    let given-answer = c .before .before .before .before .before .before .before .round .ensures in
-    let border = c .before .before .before .before .before .before .before .before .before .refusal .ensures in
-    let nothing = c .before .before .before .before .before .before .before .before .if1 .left in
+    let given-answer = at-round .round .ensures in
+    let border = at-refusal .refusal .ensures in
+    let nothing = at-if1 .if1 .left in
     let passed = sym border ∙ nothing in
-    let stored = c .before .before .store-polynomial .ensures (lent-degree S _ passed) (eqb-true _ _ (lent-fits S _ passed)) in
+    let stored = at-store-polynomial .store-polynomial .ensures (lent-degree S _ passed) (eqb-true _ _ (lent-fits S _ passed)) in
     let (p, q) =
     made S (sized (3 * a .degree) (a .polynomial .now)) (answer .number) (laid (a .degree) (answer .elements)) (a .polynomial .now) _ border nothing
-    _ (ap (λ (r : Polynomial). r .number) given-answer) (c .before .before .before .before .before .if2 .left) _ (stored ∙ ap (laid (a .degree)) (c .before .before .before .before .elements-of .ensures ∙ ap (λ (r : Polynomial). r .elements) given-answer)) in
+    _ (ap (λ (r : Polynomial). r .number) given-answer) (at-if2 .if2 .left) _
+    (stored ∙ ap (laid (a .degree)) (at-elements-of .elements-of .ensures ∙ ap (λ (r : Polynomial). r .elements) given-answer)) in
     record { number = p; polynomial-exit = q }
 
 pub wovenrock-round-spec : {M : Type 1} → statement M

@@ -17,8 +17,11 @@ same-length c = search needs
 
 returns-2 : tie.Need-returns-2
 returns-2 c =
-    let a = c .before .before .before .before .before .before .before .before .before .args in
-    answer-made (a .moved) (a .session .now) _ _ (c .before .before .before .before .before .before .if1 .left) (c .before .before .store .ensures) (c .before .before .before .before .before .verdict-number .ensures)
+    let at-store = c .before .before in
+    let at-verdict-number = at-store .before .before .before in
+    let at-if1 = at-verdict-number .before in
+    let a = at-if1 .before .before .before .args in
+    answer-made (a .moved) (a .session .now) _ _ (at-if1 .if1 .left) (at-store .store .ensures) (at-verdict-number .verdict-number .ensures)
 
 pub answer-spec : {M : Type 1} → statement M
 answer-spec =

@@ -63,20 +63,28 @@ same-length-2 c = search needs
 returns-3 : tie.Need-returns-3
 unfolding lastFits endOn flagged sized
 returns-3 c =
-    let a = c .before .before .before .before .before .before .before .before .before .before .before .before .before .before .before .before .before .args in
-    let loaded = c .before .before .before .before .before .before .before .before .before .before .before .before .load in
-    let refusal = c .before .before .before .before .before .before .before .before .refusal in
-    let nothing = c .before .before .before .before .before .before .before .if2 .left in
-    let both = c .before .before .before .before .before .before .before .before .before .both in
+    let at-answer = c .before .before in
+    let at-end = at-answer .before .before .before in
+    let at-wholes = at-end .before in
+    let at-if2 = at-wholes .before in
+    let at-refusal = at-if2 .before in
+    let at-both = at-refusal .before in
+    let at-load = at-both .before .before .before in
+    let at-if1 = at-load .before .before in
+    let a = at-if1 .before .before .before .args in
+    let loaded = at-load .load in
+    let refusal = at-refusal .refusal in
+    let nothing = at-if2 .if2 .left in
+    let both = at-both .both in
     let lengths =
     ap (λ b. lent (loaded .result .settings) b 0) (both .ensures)
     ∙ ap (λ (s : Session). lent (s .settings) (eqb (length (a .last .now)) (s .settings .degree) && leb (getD (a .session .now) 5 0) 1) 0) (loaded .ensures) in
     let passed = sym (refusal .ensures) ∙ nothing in
     let long = eqb-true _ _ (and-split (sym (both .ensures) ∙ lent-fits (loaded .result .settings) _ passed) .0) in
-    let element = c .before .before .before .before .before .before .wholes .ensures (lent-degree (loaded .result .settings) _ passed) long in
-    move-made _ _ (a .session .now) (c .before .before .before .before .before .before .before .before .before .before .before .before .before .before .if1 .left) _ (refusal .ensures ∙ lengths) nothing _ _ _ _
-    (c .before .before .before .before .before .end .ensures .0 ∙ ap (λ f. close (loaded .result) f (a .key .now)) element ∙ ap (λ (s : Session). close s (paddedSigned (s .settings .degree) (a .last .now)) (a .key .now)) (loaded .ensures))
-    (c .before .before .answer .ensures)
+    let element = at-wholes .wholes .ensures (lent-degree (loaded .result .settings) _ passed) long in
+    move-made _ _ (a .session .now) (at-if1 .if1 .left) _ (refusal .ensures ∙ lengths) nothing _ _ _ _
+    (at-end .end .ensures .0 ∙ ap (λ f. close (loaded .result) f (a .key .now)) element ∙ ap (λ (s : Session). close s (paddedSigned (s .settings .degree) (a .last .now)) (a .key .now)) (loaded .ensures))
+    (at-answer .answer .ensures)
 
 pub end-spec : {M : Type 1} → statement M
 end-spec =

@@ -64,17 +64,25 @@ same-length-2 c = search needs
 returns-3 : tie.Need-returns-3
 unfolding polynomialFits roundOn flagged sized
 returns-3 c =
-    let a = c .before .before .before .before .before .before .before .before .before .before .before .before .before .before .before .before .before .args in
-    let loaded = c .before .before .before .before .before .before .before .before .before .before .before .before .load in
-    let refusal = c .before .before .before .before .before .before .before .before .refusal in
-    let nothing = c .before .before .before .before .before .before .before .if2 .left in
+    let at-answer = c .before .before in
+    let at-round = at-answer .before .before .before in
+    let at-polynomial = at-round .before in
+    let at-if2 = at-polynomial .before in
+    let at-refusal = at-if2 .before in
+    let at-both = at-refusal .before in
+    let at-load = at-both .before .before .before in
+    let at-if1 = at-load .before .before in
+    let a = at-if1 .before .before .before .args in
+    let loaded = at-load .load in
+    let refusal = at-refusal .refusal in
+    let nothing = at-if2 .if2 .left in
     let lengths =
-    ap (λ b. lent (loaded .result .settings) b 0) (c .before .before .before .before .before .before .before .before .before .both .ensures)
+    ap (λ b. lent (loaded .result .settings) b 0) (at-both .both .ensures)
     ∙ ap (λ (s : Session). lent (s .settings) (eqb (length (a .polynomial .now)) (3 * s .settings .degree) && leb (getD (a .session .now) 5 0) 1) 0) (loaded .ensures) in
-    let elements = c .before .before .before .before .before .before .polynomial .ensures (lent-degree (loaded .result .settings) _ (sym (refusal .ensures) ∙ nothing)) in
-    move-made _ _ (a .session .now) (c .before .before .before .before .before .before .before .before .before .before .before .before .before .before .if1 .left) _ (refusal .ensures ∙ lengths) nothing _ _ _ _
-    (c .before .before .before .before .before .round .ensures .0 ∙ ap (λ p. move (loaded .result) p (a .e)) elements ∙ ap (λ (s : Session). move s (polynomialOf (s .settings .degree) (a .polynomial .now)) (a .e)) (loaded .ensures))
-    (c .before .before .answer .ensures)
+    let elements = at-polynomial .polynomial .ensures (lent-degree (loaded .result .settings) _ (sym (refusal .ensures) ∙ nothing)) in
+    move-made _ _ (a .session .now) (at-if1 .if1 .left) _ (refusal .ensures ∙ lengths) nothing _ _ _ _
+    (at-round .round .ensures .0 ∙ ap (λ p. move (loaded .result) p (a .e)) elements ∙ ap (λ (s : Session). move s (polynomialOf (s .settings .degree) (a .polynomial .now)) (a .e)) (loaded .ensures))
+    (at-answer .answer .ensures)
 
 pub round-spec : {M : Type 1} → statement M
 round-spec =

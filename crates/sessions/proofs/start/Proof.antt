@@ -28,9 +28,15 @@ same-length c = search needs
 returns : tie.Need-returns
 unfolding sized recordWidth
 returns c =
-    let a = c .before .before .before .before .before .before .before .before .before .before .args in
-    let lengths = ap (λ b. lent (a .settings) b 0) (c .before .before .before .before .before .before .both .ensures) in
-    start-refused (a .settings) (a .commitment .now) (a .session .now) _ (c .before .before .before .before .before .refusal .ensures ∙ lengths) _ _ (c .before .before .before .before .if1 .taken) (c .before .before .before .before .before .before .before .blank .ensures) (c .before .before .store .ensures)
+    let at-store = c .before .before in
+    let at-if1 = at-store .before .before in
+    let at-refusal = at-if1 .before in
+    let at-both = at-refusal .before in
+    let at-blank = at-both .before in
+    let a = at-blank .before .before .before .args in
+    let lengths = ap (λ b. lent (a .settings) b 0) (at-both .both .ensures) in
+    start-refused (a .settings) (a .commitment .now) (a .session .now) _ (at-refusal .refusal .ensures ∙ lengths) _ _ (at-if1 .if1 .taken) (at-blank .blank .ensures)
+    (at-store .store .ensures)
 
 residues-requires : tie.Need-residues-requires
 residues-requires c κs = search needs
@@ -47,9 +53,16 @@ same-length-2 c = search needs
 returns-2 : tie.Need-returns-2
 unfolding sized recordWidth
 returns-2 c =
-    let a = c .before .before .before .before .before .before .before .before .before .before .before .before .before .args in
-    let lengths = ap (λ b. lent (a .settings) b 0) (c .before .before .before .before .before .before .before .before .before .both .ensures) in
-    start-made (a .settings) (a .commitment .now) (a .session .now) _ (c .before .before .before .before .before .before .before .before .refusal .ensures ∙ lengths) _ _ _ (c .before .before .before .before .before .before .before .if1 .left) (c .before .before .before .before .before .before .residues .ensures) (c .before .before .before .before .before .start .ensures) (c .before .before .store2 .ensures)
+    let at-store2 = c .before .before in
+    let at-start = at-store2 .before .before .before in
+    let at-residues = at-start .before in
+    let at-if1 = at-residues .before in
+    let at-refusal = at-if1 .before in
+    let at-both = at-refusal .before in
+    let a = at-both .before .before .before .before .args in
+    let lengths = ap (λ b. lent (a .settings) b 0) (at-both .both .ensures) in
+    start-made (a .settings) (a .commitment .now) (a .session .now) _ (at-refusal .refusal .ensures ∙ lengths) _ _ _ (at-if1 .if1 .left) (at-residues .residues .ensures)
+    (at-start .start .ensures) (at-store2 .store2 .ensures)
 
 pub start-spec : {M : Type 1} → statement M
 start-spec =

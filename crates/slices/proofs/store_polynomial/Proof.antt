@@ -46,12 +46,16 @@ same-length c = search needs
 
 returns-3 : tie.Need-returns-3
 unfolding laid part
-returns-3 c = λ h e.
-    let x = c .before .before .before .before .before .before .before .before .before .before .before .before .before .before .before .before .before .before .args in
+returns-3 c =
+    let at-store-at3 = c .before .before in
+    let at-store-at2 = at-store-at3 .before .before .before .before .before in
+    let at-store-at = at-store-at2 .before .before .before .before .before in
+    λ h e.
+    let x = at-store-at .before .before .before .before .before .before .args in
     let d = x .d in
     let f : ℕ → ℕ → ℕ = λ j k. getD (getD (x .t2) j []) k 0 in
-    c .before .before .store-at3 .ensures
-    ∙ ap (spliced (f 2) (2 * d) d) (c .before .before .before .before .before .before .before .store-at2 .ensures ∙ ap (spliced (f 1) d d) (c .before .before .before .before .before .before .before .before .before .before .before .before .store-at .ensures))
+    at-store-at3 .store-at3 .ensures
+    ∙ ap (spliced (f 2) (2 * d) d) (at-store-at2 .store-at2 .ensures ∙ ap (spliced (f 1) d d) (at-store-at .store-at .ensures))
     ∙ stored-three d (f 0) (f 1) (f 2) (x .out .now) e
     ∙ sym (three-rows d f)
 

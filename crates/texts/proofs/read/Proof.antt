@@ -1,6 +1,5 @@
-use mathlib.Core.Path.{_≡_, sym, _∙_}
+use mathlib.Core.Path.{sym, _∙_}
 use borrow.Author.Tests.{not-true, not-false, eqb-true}
-use lib.ListN.{length}
 use Rattle.protocol.specs.Settings.{sized}
 use Rattle.protocol.proofs.Tests.{and-split}
 use Rattle.shapes.specs.Parts.{six}
@@ -19,8 +18,11 @@ refused-requires c κs = search needs
 returns : tie.Need-returns
 unfolding sized settingsWidth partsNamed
 returns c =
-    let a = c .before .before .before .before .before .before .before .before .before .args in
-    read-unfit (a .parts) (a .text .now) (a .settings .now) (six (a .key .now) (a .message .now) (a .commitment .now) (a .rounds .now) (a .challenges .now) (a .last .now)) _ (c .refused .ensures) (sym (c .before .before .both .ensures) ∙ not-true _ (c .before .if1 .taken))
+    let at-if1 = c .before in
+    let at-both = at-if1 .before in
+    let a = at-both .before .before .before .before .before .before .before .args in
+    read-unfit (a .parts) (a .text .now) (a .settings .now) (six (a .key .now) (a .message .now) (a .commitment .now) (a .rounds .now) (a .challenges .now) (a .last .now)) _
+    (c .refused .ensures) (sym (at-both .both .ensures) ∙ not-true _ (at-if1 .if1 .taken))
 
 parts-of-requires : tie.Need-parts-of-requires
 parts-of-requires c κs = search needs
@@ -49,12 +51,19 @@ same-length-6 c = search needs
 returns-2 : tie.Need-returns-2
 unfolding sized settingsWidth partsNamed
 returns-2 c =
-    let a = c .before .before .before .before .before .before .before .before .before .before .before .before .before .before .before .before .before .before .before .before .before .before .before .before .before .before .before .before .args in
+    let at-read = c .before .before .before .before .before .before .before .before .before .before .before .before in
+    let at-parts-of = at-read .before .before .before .before .before .before .before in
+    let at-if1 = at-parts-of .before in
+    let at-both = at-if1 .before in
+    let a = at-both .before .before .before .before .before .before .before .args in
     read-refused (a .parts) (a .text .now) (a .settings .now) (six (a .key .now) (a .message .now) (a .commitment .now) (a .rounds .now) (a .challenges .now) (a .last .now))
-    (sym (c .before .before .before .before .before .before .before .before .before .before .before .before .before .before .before .before .before .before .before .before .before .both .ensures) ∙ not-false _ (c .before .before .before .before .before .before .before .before .before .before .before .before .before .before .before .before .before .before .before .before .if1 .left)) _ (c .before .before .before .before .before .before .before .before .before .before .before .before .before .before .before .before .before .before .before .parts-of .ensures) _ _ (c .before .before .before .before .before .before .before .before .before .before .before .before .read .ensures) (c .if2 .taken)
+    (sym (at-both .both .ensures) ∙ not-false _ (at-if1 .if1 .left)) _ (at-parts-of .parts-of .ensures) _ _ (at-read .read .ensures) (c .if2 .taken)
 
 store-requires : tie.Need-store-requires
-store-requires c κs = eqb-true _ _ (and-split (sym (c .before .before .before .before .before .before .before .before .before .before .before .before .before .before .before .before .before .before .before .before .before .before .both .ensures) ∙ not-false _ (c .before .before .before .before .before .before .before .before .before .before .before .before .before .before .before .before .before .before .before .before .before .if1 .left)) .0)
+store-requires c κs =
+    let at-if1 = c .before .before .before .before .before .before .before .before .before .before .before .before .before .before .before .before .before .before .before .before .before in
+    let at-both = at-if1 .before in
+    eqb-true _ _ (and-split (sym (at-both .both .ensures) ∙ not-false _ (at-if1 .if1 .left)) .0)
 
 same-length-7 : tie.Need-same-length-7
 same-length-7 c = search needs
@@ -80,9 +89,16 @@ same-length-13 c = search needs
 returns-3 : tie.Need-returns-3
 unfolding sized settingsWidth partsNamed
 returns-3 c =
-    let a = c .before .before .before .before .before .before .before .before .before .before .before .before .before .before .before .before .before .before .before .before .before .before .before .before .before .before .before .before .before .before .before .before .args in
+    let at-store = c .before .before in
+    let at-if2 = at-store .before .before in
+    let at-read = at-if2 .before .before .before .before .before .before .before .before .before .before .before .before in
+    let at-parts-of = at-read .before .before .before .before .before .before .before in
+    let at-if1 = at-parts-of .before in
+    let at-both = at-if1 .before in
+    let a = at-both .before .before .before .before .before .before .before .args in
     read-made (a .parts) (a .text .now) (a .settings .now) (six (a .key .now) (a .message .now) (a .commitment .now) (a .rounds .now) (a .challenges .now) (a .last .now))
-    (sym (c .before .before .before .before .before .before .before .before .before .before .before .before .before .before .before .before .before .before .before .before .before .before .before .before .before .both .ensures) ∙ not-false _ (c .before .before .before .before .before .before .before .before .before .before .before .before .before .before .before .before .before .before .before .before .before .before .before .before .if1 .left)) _ (c .before .before .before .before .before .before .before .before .before .before .before .before .before .before .before .before .before .before .before .before .before .before .before .parts-of .ensures) _ _ (c .before .before .before .before .before .before .before .before .before .before .before .before .before .before .before .before .read .ensures) (c .before .before .before .before .if2 .left) _ (c .before .before .store .ensures)
+    (sym (at-both .both .ensures) ∙ not-false _ (at-if1 .if1 .left)) _ (at-parts-of .parts-of .ensures) _ _ (at-read .read .ensures) (at-if2 .if2 .left) _
+    (at-store .store .ensures)
 
 pub read-spec : {M : Type 1} → statement M
 read-spec =

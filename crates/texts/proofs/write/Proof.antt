@@ -11,8 +11,10 @@ refusal-requires c κs = search needs
 returns : tie.Need-returns
 unfolding partsNamed
 returns c =
-    let a = c .before .before .before .before .before .before .before .args in
-    write-unfit (a .settings) (a .parts) (six (a .key .now) (a .message .now) (a .commitment .now) (a .rounds .now) (a .challenges .now) (a .last .now)) (a .out .now) _ (c .before .refusal .ensures) (c .if1 .taken)
+    let at-refusal = c .before in
+    let a = at-refusal .before .before .before .before .before .before .args in
+    write-unfit (a .settings) (a .parts) (six (a .key .now) (a .message .now) (a .commitment .now) (a .rounds .now) (a .challenges .now) (a .last .now)) (a .out .now) _
+    (at-refusal .refusal .ensures) (c .if1 .taken)
 
 parts-of-requires : tie.Need-parts-of-requires
 parts-of-requires c κs = search needs
@@ -26,8 +28,13 @@ same-length c = search needs
 returns-2 : tie.Need-returns-2
 unfolding partsNamed
 returns-2 c =
-    let a = c .before .before .before .before .before .before .before .before .before .before .before .before .args in
-    write-made (a .settings) (a .parts) (six (a .key .now) (a .message .now) (a .commitment .now) (a .rounds .now) (a .challenges .now) (a .last .now)) (a .out .now) _ (c .before .before .before .before .before .before .refusal .ensures) (c .before .before .before .before .before .if1 .left) _ (c .before .before .before .before .parts-of .ensures) _ _ (c .before .before .write .ensures)
+    let at-write = c .before .before in
+    let at-parts-of = at-write .before .before in
+    let at-if1 = at-parts-of .before in
+    let at-refusal = at-if1 .before in
+    let a = at-refusal .before .before .before .before .before .before .args in
+    write-made (a .settings) (a .parts) (six (a .key .now) (a .message .now) (a .commitment .now) (a .rounds .now) (a .challenges .now) (a .last .now)) (a .out .now) _
+    (at-refusal .refusal .ensures) (at-if1 .if1 .left) _ (at-parts-of .parts-of .ensures) _ _ (at-write .write .ensures)
 
 pub write-spec : {M : Type 1} → statement M
 write-spec =
