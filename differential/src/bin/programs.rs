@@ -381,6 +381,6 @@ fn main() -> ExitCode {
         println!("{program:8} {answer:12} {count}");
     }
     let texts: usize = run.counts.values().sum();
-    println!("programs: seed {seed}, {texts} runs, no difference");
+    println!("programs: seed {seed}, {texts} runs beside the simple reference, no difference");
     ExitCode::SUCCESS
 }
