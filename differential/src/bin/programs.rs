@@ -24,6 +24,9 @@ use std::os::fd::AsRawFd;
 use std::path::{Path, PathBuf};
 use std::process::{Child, Command, ExitCode, Stdio};
 
+/// Drawn texts from which on every answer must come up.
+const ENOUGH: u64 = 300;
+
 const NAMES: &[u8] = b"part item place value\n";
 
 struct Difference {
@@ -309,7 +312,7 @@ fn main() -> ExitCode {
     let mut words = std::env::args()
         .skip(1)
         .map(|word| word.parse().expect("a number"));
-    let drawn = words.next().unwrap_or(300);
+    let drawn = words.next().unwrap_or(ENOUGH);
     let seed = words.next().unwrap_or(1);
     let folder = Path::new(env!("CARGO_MANIFEST_DIR")).join("../target/bin");
     let mut run = Run {
@@ -373,7 +376,7 @@ fn main() -> ExitCode {
         return ExitCode::FAILURE;
     }
     let missing = run.missing();
-    if !missing.is_empty() {
+    if drawn >= ENOUGH && !missing.is_empty() {
         println!("programs: FAILED: never printed: {}", missing.join(", "));
         return ExitCode::FAILURE;
     }
@@ -381,6 +384,6 @@ fn main() -> ExitCode {
         println!("{program:8} {answer:12} {count}");
     }
     let texts: usize = run.counts.values().sum();
-    println!("programs: seed {seed}, {texts} runs, no difference");
+    println!("programs: seed {seed}, {texts} runs beside the simple reference, no difference");
     ExitCode::SUCCESS
 }
