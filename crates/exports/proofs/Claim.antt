@@ -24,7 +24,7 @@ use Rattle.claims.proofs.Honest.{Given, modulus-positive, opening-commitment, o
 use Rattle.claims.proofs.Ranges.{padded-at, commitment-below, last-length}
 use Rattle.claims.proofs.Moves.{roundsAfter}
 use Rattle.claims.proofs.Demand3.{demand3}
-use Rattle.slices.specs.Slices.{verdictNumber}
+use Rattle.protocol.specs.Session.{verdictNumber}
 use Rattle.slices.proofs.Laws.{element-back, whole-back}
 use Rattle.exports.specs.Border as Border
 use Rattle.exports.specs.Claim.{State, SameAsWhole, OpeningClaim, ExtractionClaim, ExportedDemand3}
@@ -94,7 +94,6 @@ module _ (S : Settings) (C : List ℕ) (long : length C ≡ S .degree) where
 
     tree-same : FullTree S G C rounds E finals → FullTree S G (padded (S .degree) C) rounds E finals
     tree-same tree = record {
-      commitment-below = λ k h. subst (λ x. x < S .modulus) (sym (place k h)) (tree .commitment-below k h);
       rounds-below = tree .rounds-below;
       challenges-below = tree .challenges-below;
       finals-long = tree .finals-long;
