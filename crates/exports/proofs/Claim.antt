@@ -5,13 +5,13 @@ use mathlib.Core.List.{List}
 use Prim.Native.Nat.{ℕ, zero, suc, _*_, _<_, _≤_}
 use native.Mathlib.Omega.{arith}
 use lib.IntN.{ℤ, pos, _*ℤ_}
-use lib.ListN.{length, getD, take}
+use lib.ListN.{length, getD, take, drop}
 use Rattle.protocol.specs.declared.Settings.{Settings}
 use Rattle.protocol.specs.declared.Judged.{Judged}
 use Rattle.protocol.specs.Basic.{choose}
 use Rattle.protocol.specs.Element.{modulo, padded, times, residue}
 use Rattle.protocol.specs.Settings.{cells}
-use Rattle.protocol.specs.Opening.{commitment, messageAfter, roundTable}
+use Rattle.protocol.specs.Opening.{keyAfter, messageAfter, roundTable}
 use Rattle.protocol.specs.Transcript.{element, claimAfter, Accepted}
 use Rattle.protocol.specs.Inputs.{Valid, Below, Within}
 use Rattle.protocol.specs.Tree.{path, growth, growthLimit}
@@ -28,8 +28,8 @@ use Rattle.slices.specs.Slices.{verdictNumber}
 use Rattle.slices.proofs.Laws.{element-back, whole-back}
 use Rattle.exports.specs.Border as Border
 use Rattle.exports.specs.Claim.{State, SameAsWhole, OpeningClaim, ExtractionClaim, ExportedDemand3}
-use Rattle.exports.proofs.Steps.{own, fit, final}
-use Rattle.exports.proofs.Moves.{finished, run-finished}
+use Rattle.exports.proofs.Steps.{own, fit, final, round-exit}
+use Rattle.exports.proofs.Moves.{finished, round-part, run-finished}
 
 -- ---- an opening
 
@@ -64,10 +64,18 @@ module _ {S : Settings} {G : List ℕ} {M : List ℤ} {E : List ℕ} (ok : Given
     copy-kept = ap (λ (a : State). a .held .copy) e;
   }
 
+  layout : (t : ℕ) → t < S .depth → (q : List ℕ) → length q ≡ 3 * S .degree
+      → take (3 * S .degree) (drop (3 * t * S .degree) (Border.openRoundsExit S G M E rounds C F)) ≡ Border.roundExit S t (keyAfter S E t G) (messageAfter S E t M) q
+  layout t l q long = ap (λ x. take (3 * S .degree) (drop (3 * t * S .degree) x)) table ∙ round-part ok t l ∙ sym (round-exit ok t l q long)
+    where
+      table : Border.openRoundsExit S G M E rounds C F ≡ roundsAfter S G M E (S .depth)
+      table = unfold Border.openRoundsExit in unfold roundsAfter in unfold roundTable in granted-zero _ _ _ granted-opening ∙ opening-rounds ok rounds rounds-long
+
   exported-opening : OpeningClaim S G M E rounds C F
   exported-opening = record {
     not-refused = granted-opening;
     says-accepted = said;
+    one-layout = layout;
     by-moves = λ r c q f l st run. let (q′, e) = run-finished ok r c q f l st run in same q′ st e;
   }
 
