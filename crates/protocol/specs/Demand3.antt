@@ -30,6 +30,7 @@ use Rattle.protocol.specs.declared.Session.{Session}
 use Rattle.protocol.specs.declared.Parts.{Parts}
 use Rattle.protocol.specs.declared.Verdict.{Verdict}
 use Rattle.protocol.specs.declared.Verdict.the-variants as Says
+use Rattle.protocol.specs.Layout.{roundCells, treeRoundCells, treeChallenges, leafCells, exponentCount}
 use Rattle.protocol.specs.Inputs.{Valid, Below, Within}
 use Rattle.protocol.specs.Settings.{cells}
 use Rattle.protocol.specs.Transcript.{Accepted}
@@ -279,9 +280,9 @@ pub record OpeningClaim (S : Settings) (G : List ℕ) (M : List ℤ) (E rounds :
 -- PROTOCOL 5.2: a full tree has all its branching nodes and leaves, whatever was answered in it, with three different challenges at every node and every path accepted.
 -- Nothing is asked of the commitment: that it is residues follows (claims/proofs/Ranges, accepted-commitment)
 pub record FullTree (S : Settings) (G C rounds E : List ℕ) (finals : List ℤ) : Type 0 where
-  pub rounds-below : Below (S .modulus) (3 * nodes S * S .degree) rounds
-  pub challenges-below : Below (2 * S .degree) (3 * nodes S) E
-  pub finals-long : length finals ≡ leaves S * S .degree
+  pub rounds-below : Below (S .modulus) (treeRoundCells S) rounds
+  pub challenges-below : Below (exponentCount S) (treeChallenges S) E
+  pub finals-long : length finals ≡ leafCells S
   pub different : (k : ℕ) → k < nodes S → (challenge E k 0 ≢ challenge E k 1) × (challenge E k 0 ≢ challenge E k 2) × (challenge E k 1 ≢ challenge E k 2)
   pub accepted : (j : ℕ) → j < leaves S → Accepted S G (path S C rounds E finals j)
 
@@ -302,7 +303,7 @@ pub record ExtractionClaim (S : Settings) (G C rounds E : List ℕ) (finals w : 
 -- ════ the claim
 
 pub record Claim (S : Settings) (G : List ℕ) : Type 0 where
-  pub opening : (M : List ℤ) (E rounds : List ℕ) → Within (S .bound) (cells S) M → Below (2 * S .degree) (S .depth) E → length rounds ≡ 3 * S .depth * S .degree
+  pub opening : (M : List ℤ) (E rounds : List ℕ) → Within (S .bound) (cells S) M → Below (exponentCount S) (S .depth) E → length rounds ≡ roundCells S
       → OpeningClaim S G M E rounds
   pub extraction : (C rounds E : List ℕ) (finals w : List ℤ) → FullTree S G C rounds E finals → growth S ≤ growthLimit → length w ≡ cells S
       → ExtractionClaim S G C rounds E finals w

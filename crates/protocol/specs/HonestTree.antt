@@ -9,11 +9,12 @@
 --   NeverVacuous                all of that, and that there is such a choice of challenges, for all settings
 use mathlib.Core.Logic.{_≢_}
 use mathlib.Core.List.{List, [], _∷_, _++_}
-use Prim.Native.Nat.{ℕ, zero, suc, _*_, _/_, _%_, _<_}
+use Prim.Native.Nat.{ℕ, zero, suc, _/_, _%_, _<_}
 use lib.ListN.{length, getD}
 use lib.IntN.{ℤ}
 use Rattle.protocol.specs.declared.Settings.{Settings}
 use Rattle.protocol.specs.declared.Session.{Session}
+use Rattle.protocol.specs.Layout.{treeChallenges, exponentCount}
 use Rattle.protocol.specs.Basic.{flat}
 use Rattle.protocol.specs.Element.{signed}
 use Rattle.protocol.specs.Settings.{cells}
@@ -36,14 +37,14 @@ module _ (S : Settings) (E G : List ℕ) (M : List ℤ) where
       roundElement S (length way) (keyAfter S way (length way) G) (messageAfter S way (length way) M) j
 
   unfoldable pub honestRounds : List ℕ
-  honestRounds = flat (S .degree) (3 * nodes S) (λ i k. getD (answerAt (i / 3) (i % 3)) k 0)
+  honestRounds = flat (S .degree) (treeChallenges S) (λ i k. getD (answerAt (i / 3) (i % 3)) k 0)
 
 -- leaf j is what L folds of M by its path's challenges give
 unfoldable pub honestFinals : Settings → List ℕ → List ℤ → List ℤ
 honestFinals S E M = flat (S .degree) (leaves S) (λ j k. signed (foldTo S E j M) k)
 
 pub record ThreeEach (S : Settings) (E : List ℕ) : Type 0 where
-  pub below : Below (2 * S .degree) (3 * nodes S) E
+  pub below : Below (exponentCount S) (treeChallenges S) E
   pub different : (k : ℕ) → k < nodes S → (challenge E k 0 ≢ challenge E k 1) × (challenge E k 0 ≢ challenge E k 2) × (challenge E k 1 ≢ challenge E k 2)
 
 pub record HonestTree (S : Settings) (G : List ℕ) (M : List ℤ) (E : List ℕ) : Type 0 where

@@ -30,6 +30,7 @@ use Rattle.protocol.specs.declared.Judged.{Judged}
 use Rattle.protocol.specs.declared.Loaded.{Loaded}
 use Rattle.protocol.specs.declared.Written.{Written}
 use Rattle.protocol.specs.declared.Verdict.the-variants as Says
+use Rattle.protocol.specs.Layout.{roundCells, exponentCount}
 use Rattle.protocol.specs.Inputs.{Valid, Below, Within}
 use Rattle.protocol.specs.Settings.{cells}
 use Rattle.protocol.specs.Transcript.{Accepted}
@@ -146,7 +147,7 @@ pub record ExtractionPerformed (S : Settings) (G C E : List ℕ) (finals : List 
   pub exact : (m : List ℤ) → FoldsOf S E finals m → w′ ≡ map (λ x. pos (slack S) *ℤ x) m
 
 pub record PerformedClaim (S : Settings) (G : List ℕ) : Type 0 where
-  pub opening : (M : List ℤ) (E rounds : List ℕ) → Within (S .bound) (cells S) M → Below (2 * S .degree) (S .depth) E → length rounds ≡ 3 * S .depth * S .degree
+  pub opening : (M : List ℤ) (E rounds : List ℕ) → Within (S .bound) (cells S) M → Below (exponentCount S) (S .depth) E → length rounds ≡ roundCells S
       → (r : Opened) (key′ : List ℕ) (message′ : List ℤ) (rounds′ : List ℕ) → Opening S G M E rounds r key′ message′ rounds′
       → OpeningPerformed S G M E r key′ message′ rounds′
   pub extraction : (C rounds E : List ℕ) (finals w : List ℤ) → FullTree S G C rounds E finals → growth S ≤ growthLimit → length w ≡ cells S

@@ -69,6 +69,7 @@ use Rattle.protocol.specs.declared.Loaded.{Loaded}
 use Rattle.protocol.specs.declared.Written.{Written}
 use Rattle.protocol.specs.declared.Number.{Number}
 use Rattle.protocol.specs.declared.Number.the-variants.{Value, Refused}
+use Rattle.protocol.specs.Layout.{roundItems}
 use Rattle.protocol.specs.Basic.{least, tabulate, all, choose, within, first, unless, granted}
 use Rattle.protocol.specs.Settings.{settingsRefusal, size, sized, residues, exponents, small}
 
@@ -168,7 +169,7 @@ shapes S P =
     ∷ shape 1 (P .key) (size S) (S .degree)
     ∷ shape 2 (P .message) (size S) (S .degree)
     ∷ shape 3 (P .commitment) 1 (S .degree)
-    ∷ shape 4 (P .round) (3 * S .depth) (S .degree)
+    ∷ shape 4 (P .round) (roundItems S) (S .degree)
     ∷ shape 5 (P .challenge) (S .depth) 1
     ∷ shape 6 (P .last) 1 (S .degree)
     ∷ []

@@ -5,11 +5,12 @@
 --   Printed                   what is answered and stored where the text is all that can be refused
 use mathlib.Core.Path.{_≡_}
 use mathlib.Core.List.{List}
-use Prim.Native.Nat.{ℕ, _*_}
+use Prim.Native.Nat.{ℕ}
 use lib.ListN.{length}
 use lib.IntN.{ℤ}
 use Rattle.protocol.specs.declared.Settings.{Settings}
 use Rattle.protocol.specs.declared.Written.{Written}
+use Rattle.protocol.specs.Layout.{roundCells, exponentCount}
 use Rattle.protocol.specs.Settings.{cells}
 use Rattle.protocol.specs.Inputs.{Valid, Below, Within}
 use Rattle.protocol.specs.Transcript.{transcriptOf}
@@ -20,8 +21,8 @@ pub record Openable (S : Settings) (G : List ℕ) (M : List ℤ) (E rounds : Lis
   pub settings : Valid S
   pub key : Below (S .modulus) (cells S) G
   pub message : Within (S .bound) (cells S) M
-  pub challenges : Below (2 * S .degree) (S .depth) E
-  pub rounds-long : length rounds ≡ 3 * S .depth * S .degree
+  pub challenges : Below (exponentCount S) (S .depth) E
+  pub rounds-long : length rounds ≡ roundCells S
 
 abbrev pub proof : Settings → List ℕ → List ℤ → List ℕ → List ℕ
 proof S G M E = textOf S provePrints (printed (transcriptOf S G M E))

@@ -1,8 +1,9 @@
 // The refusals of the judge.
 use crate::refuse;
-use ranges::tests;
 use protocol::Settings;
+use ranges::tests;
 ghost use mathlib.Core.Path.{_≡_};
+ghost use Rattle.protocol.specs.Basic.{Provided};
 ghost use Rattle.protocol.specs.Settings.{settingsRefusal};
 ghost use Rattle.protocol.specs.Tree.{grows};
 ghost use Rattle.protocol.specs.Judge as of;
@@ -10,7 +11,7 @@ ghost use Rattle.protocol.specs.Calls.{judgeRefusal};
 
 // 14, here and in the extractor: is the growth at most 2^62.
 pub fn growth_allowed(settings: Settings) -> bool
-    ensures { λ r. ⌜ (settingsRefusal settings ≡ 0 → r ≡ grows settings) ⌝ }
+    ensures { λ r. ⌜ Provided (settingsRefusal settings ≡ 0) (r ≡ grows settings) ⌝ }
 {
     sizes::growth(settings) <= 4611686018427387904
 }

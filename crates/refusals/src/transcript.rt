@@ -1,7 +1,7 @@
 // The refusals of the check of a transcript.
 use crate::refuse;
-use ranges::tests;
 use protocol::Settings;
+use ranges::tests;
 ghost use mathlib.Core.Path.{_≡_};
 ghost use Rattle.protocol.specs.Calls.{checkRefusal};
 

@@ -1,7 +1,7 @@
 // The extractor's refusals before the verifier runs: 3 to 8, 10 and 12. 13 and 14 follow in the extractor.
 use crate::refuse;
-use ranges::tests;
 use protocol::Settings;
+use ranges::tests;
 ghost use mathlib.Core.Path.{_≡_};
 ghost use Prim.Native.Nat.{_+_, _*_, _≤_};
 ghost use lib.ListN.{length};

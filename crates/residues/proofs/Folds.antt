@@ -100,7 +100,9 @@ module _ (q d h e to second : ℕ) (t₀ : List ℕ) (pd : 0 < d) (apart : to + 
         row-is : (k : ℕ) → k < d → cell k ≡ F (j * d + k)
         row-is k m =
             (λ i. modulo q (first-is k m i +ℤ turn-is k i))
-            ∙ sym (λ i. modulo q (residueAt d (drop to t₀) (cell-element d j k m i) (cell-place d j k m i) +ℤ rotate d e (residueAt d (drop second t₀) (cell-element d j k m i)) (cell-place d j k m i)))
+            ∙ sym (λ i. modulo q (
+            residueAt d (drop to t₀) (cell-element d j k m i) (cell-place d j k m i)
+            +ℤ rotate d e (residueAt d (drop second t₀) (cell-element d j k m i)) (cell-place d j k m i)))
 
         pub row-turn : (last : List ℕ) → last ≡ spliced cell (to + j * d) d front → last ++ drop second t ≡ spliced F to ((j + 1) * d) t₀
         row-turn last is =
@@ -124,8 +126,11 @@ module _ (q d h e from to : ℕ) (t t₁ : List ℕ) (f : Foldable q d h from to
 
   pub half-summands : Summands q (h * d) (from + h * d) t₁ to t₁
   half-summands = record {
-    added = residues-kept _ to (h * d) t t₁ (omega (arith, f .down, all-inside)) is q (h * d) (from + h * d) (residues-part q (2 * (h * d)) from (h * d) (from + h * d) (f .residues) (omega arith) (omega arith)) (omega (arith, f .down));
-    own = residues-alike q (h * d) from to (residues-part q (2 * (h * d)) from (h * d) from (f .residues) (omega arith) (omega arith)) (omega (arith, f .down, all-inside, same-long _ to (h * d) t t₁ (omega (arith, f .down, all-inside)) is)) moved-at;
+    added = residues-kept _ to (h * d) t t₁ (omega (arith, f .down, all-inside)) is q (h * d) (from + h * d)
+        (residues-part q (2 * (h * d)) from (h * d) (from + h * d) (f .residues) (omega arith) (omega arith)) (omega (arith, f .down));
+    own = residues-alike q (h * d) from to (residues-part q (2 * (h * d)) from (h * d) from (f .residues) (omega arith) (omega arith))
+        (omega (arith, f .down, all-inside, same-long _ to (h * d) t t₁ (omega (arith, f .down, all-inside)) is))
+        moved-at;
   }
 
   -- number p of the folded elements

@@ -83,7 +83,7 @@ pub fn nodes(settings: Settings) -> usize
 
 // The exponents that a challenge may be: 2·d.
 pub fn exponent_count(settings: Settings) -> u32
-    ensures { λ r. ⌜ (settingsRefusal settings ≡ 0 → r ≡ exponentCount settings) ⌝ }
+    ensures { λ r. ⌜ Provided (settingsRefusal settings ≡ 0) (r ≡ exponentCount settings) ⌝ }
 {
     if settings.degree > 64 {
         return 0;
@@ -93,7 +93,7 @@ pub fn exponent_count(settings: Settings) -> u32
 
 // The numbers of a transcript's round polynomials: 3·L elements of d.
 pub fn round_cells(settings: Settings) -> usize
-    ensures { λ r. ⌜ (settingsRefusal settings ≡ 0 → r ≡ roundCells settings) ⌝ }
+    ensures { λ r. ⌜ Provided (settingsRefusal settings ≡ 0) (r ≡ roundCells settings) ⌝ }
 {
     if settings.depth > 8 {
         return 0;
@@ -103,7 +103,7 @@ pub fn round_cells(settings: Settings) -> usize
 
 // The item of c_j of round k + 1 or of node k, and of challenge j of node k. No tree has more than 3,280 branching nodes.
 pub fn item_of(k: u32, j: u32) -> u32
-    ensures { λ r. ⌜ (k ≤ 3280 → j < 3 → r ≡ itemOf k j) ⌝ }
+    ensures { λ r. ⌜ Provided (k ≤ 3280) (Provided (j < 3) (r ≡ itemOf k j)) ⌝ }
 {
     if k > 3280 {
         return 0;
@@ -116,7 +116,7 @@ pub fn item_of(k: u32, j: u32) -> u32
 
 // Where the polynomial of round k + 1, or of node k, begins.
 pub fn polynomial_at(d: u32, k: u32) -> usize
-    ensures { λ r. ⌜ ((d ≤ 64 → k ≤ 3280 → r ≡ polynomialAt d k) × (r ≤ 629760)) ⌝ }
+    ensures { λ r. ⌜ (Provided (d ≤ 64) (Provided (k ≤ 3280) (r ≡ polynomialAt d k)) × (r ≤ 629760)) ⌝ }
 {
     if d > 64 {
         return 0;
@@ -129,19 +129,19 @@ pub fn polynomial_at(d: u32, k: u32) -> usize
 
 // The challenges of a tree, three to a branching node, and the numbers of its round polynomials and of its leaves.
 pub fn tree_challenges(settings: Settings) -> usize
-    ensures { λ r. ⌜ ((settingsRefusal settings ≡ 0 → r ≡ treeChallenges settings) × (r ≤ 9840)) ⌝ }
+    ensures { λ r. ⌜ (Provided (settingsRefusal settings ≡ 0) (r ≡ treeChallenges settings) × (r ≤ 9840)) ⌝ }
 {
     3 * nodes(settings)
 }
 
 pub fn tree_round_cells(settings: Settings) -> usize
-    ensures { λ r. ⌜ (settingsRefusal settings ≡ 0 → r ≡ treeRoundCells settings) ⌝ }
+    ensures { λ r. ⌜ Provided (settingsRefusal settings ≡ 0) (r ≡ treeRoundCells settings) ⌝ }
 {
     tree_challenges(settings) * (settings.degree as usize)
 }
 
 pub fn leaf_cells(settings: Settings) -> usize
-    ensures { λ r. ⌜ (settingsRefusal settings ≡ 0 → r ≡ leafCells settings) ⌝ }
+    ensures { λ r. ⌜ Provided (settingsRefusal settings ≡ 0) (r ≡ leafCells settings) ⌝ }
 {
     leaves(settings) * (settings.degree as usize)
 }
@@ -159,7 +159,7 @@ fn capped_times(factor: u64, g: u64) -> u64
 
 // (12·d²)^L·B, held at one past 2^62 as soon as it is past it.
 pub fn growth(settings: Settings) -> u64
-    ensures { λ r. ⌜ (settingsRefusal settings ≡ 0 → r ≡ cappedGrowth settings) ⌝ }
+    ensures { λ r. ⌜ Provided (settingsRefusal settings ≡ 0) (r ≡ cappedGrowth settings) ⌝ }
 {
     let d = settings.degree as u64;
     if d == 0 {

@@ -27,4 +27,3 @@ polynomialOf d t = elementAt d t 0 ∷ elementAt d t 1 ∷ elementAt d t 2 ∷ [
 
 unfoldable pub laid : ℕ → List (List ℕ) → List ℕ
 laid d p = flat d 3 (λ i k. getD (part p i) k 0)
-

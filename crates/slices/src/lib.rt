@@ -9,6 +9,7 @@ ghost use mathlib.Core.Bool.{_&&_};
 ghost use Prim.Native.Nat.{_+_, _*_, _≤_};
 ghost use lib.ListN.{length, getD, take};
 ghost use Rattle.residues.specs.Lists.{spliced};
+ghost use Rattle.protocol.specs.Basic.{Provided};
 ghost use Rattle.protocol.specs.Element.{padded, paddedSigned};
 ghost use Rattle.slices.specs.Slices.{lent, polynomialOf, laid};
 ghost use Rattle.protocol.specs.Session.{verdictNumber};
@@ -39,21 +40,21 @@ pub fn both(first: bool, second: bool) -> bool
 
 // An element of residues.
 pub fn residues(d: u32, t: &[u32]) -> [u32; 64]
-    ensures { λ r. ⌜ (d ≤ 64 → length (now (t .entry)) ≡ d → r ≡ padded d (now (t .entry))) ⌝ }
+    ensures { λ r. ⌜ Provided (d ≤ 64) (Provided (length (now (t .entry)) ≡ d) (r ≡ padded d (now (t .entry)))) ⌝ }
 {
     elements::element_at(d, t, 0)
 }
 
 // An element of whole numbers.
 pub fn wholes(d: u32, t: &[i32]) -> [i32; 64]
-    ensures { λ r. ⌜ (d ≤ 64 → length (now (t .entry)) ≡ d → r ≡ paddedSigned d (now (t .entry))) ⌝ }
+    ensures { λ r. ⌜ Provided (d ≤ 64) (Provided (length (now (t .entry)) ≡ d) (r ≡ paddedSigned d (now (t .entry)))) ⌝ }
 {
     elements::signed_element_at(d, t, 0)
 }
 
 // A round polynomial.
 pub fn polynomial(d: u32, t: &[u32]) -> [[u32; 64]; 3]
-    ensures { λ r. ⌜ (d ≤ 64 → r ≡ polynomialOf d (now (t .entry))) ⌝ }
+    ensures { λ r. ⌜ Provided (d ≤ 64) (r ≡ polynomialOf d (now (t .entry))) ⌝ }
 {
     let c0 = elements::element_at(d, t, 0);
     let c1 = elements::element_at(d, t, 1);
@@ -75,7 +76,7 @@ fn store_at(n: usize, a: [u32; 64], at: usize, out: &mut [u32])
 
 // Writes the first d places of an element to a slice of d numbers.
 pub fn store_residues(d: u32, a: [u32; 64], out: &mut [u32])
-    ensures { λ _. ⌜ (d ≤ 64 → length (now (out .entry)) ≡ d → now (out .exit) ≡ take d a) ⌝ }
+    ensures { λ _. ⌜ Provided (d ≤ 64) (Provided (length (now (out .entry)) ≡ d) (now (out .exit) ≡ take d a)) ⌝ }
 {
     let n = d as usize;
     if n > 64 {
@@ -88,7 +89,7 @@ pub fn store_residues(d: u32, a: [u32; 64], out: &mut [u32])
 }
 
 pub fn store_wholes(d: u32, a: [i32; 64], out: &mut [i32])
-    ensures { λ _. ⌜ (d ≤ 64 → length (now (out .entry)) ≡ d → now (out .exit) ≡ take d a) ⌝ }
+    ensures { λ _. ⌜ Provided (d ≤ 64) (Provided (length (now (out .entry)) ≡ d) (now (out .exit) ≡ take d a)) ⌝ }
 {
     let n = d as usize;
     if n > 64 {
@@ -106,7 +107,7 @@ pub fn store_wholes(d: u32, a: [i32; 64], out: &mut [i32])
 
 // Writes the three elements of a round polynomial one after the other to a slice of 3·d numbers.
 pub fn store_polynomial(d: u32, p: [[u32; 64]; 3], out: &mut [u32])
-    ensures { λ _. ⌜ (d ≤ 64 → length (now (out .entry)) ≡ 3 * d → now (out .exit) ≡ laid d p) ⌝ }
+    ensures { λ _. ⌜ Provided (d ≤ 64) (Provided (length (now (out .entry)) ≡ 3 * d) (now (out .exit) ≡ laid d p)) ⌝ }
 {
     let n = d as usize;
     if n > 64 {

@@ -25,20 +25,16 @@ all c = c .left .ensures (record { allowed = given (c .before) .tables .allowed;
 commit-requires : tie.Need-commit-requires
 commit-requires c κs = search needs
 
--- src/lib.rt:20:9
 returns : tie.Need-returns
 unfolding zeros width
 returns c = let a = c .before .before .before .args in commit-refused (a .settings) (a .key .now) (a .message .now) _ (c .before .commit .ensures) (c .if1 .taken)
 
--- src/lib.rt:27:9
 left-requires : tie.Need-left-requires
 left-requires c κs = search needs
 
--- src/lib.rt:29:45
 slice-aggregate-add-inner : tie.Need-slice-aggregate-add-inner
 slice-aggregate-add-inner c = search needs
 
--- src/lib.rt:29:5
 add-inner-requires : tie.Need-add-inner-requires
 add-inner-requires c κs =
     let n = c .before in
@@ -46,15 +42,12 @@ add-inner-requires c κs =
     let g = given (n .before) in
     (rw (all n) (commit-tables (a .settings) (a .key .now) (a .message .now) g), omega (arith, degree-most (a .settings) (g .tables .settings)))
 
--- src/lib.rt:30:51
 slice-aggregate-reduced-sums : tie.Need-slice-aggregate-reduced-sums
 slice-aggregate-reduced-sums c = search needs
 
--- src/lib.rt:30:9
 reduced-sums-requires : tie.Need-reduced-sums-requires
 reduced-sums-requires c κs = search needs
 
--- src/lib.rt:15:1
 returns-2 : tie.Need-returns-2
 unfolding zeros
 returns-2 c =

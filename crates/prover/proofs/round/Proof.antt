@@ -25,36 +25,28 @@ half-is c = c .half-left .ensures (record { allowed = given (c .before) .tables 
 round-requires : tie.Need-round-requires
 round-requires c κs = search needs
 
--- src/lib.rt:59:9
 polynomial-of-requires : tie.Need-polynomial-of-requires
 polynomial-of-requires c κs = search needs
 
--- src/lib.rt:59:9
 returns : tie.Need-returns
 unfolding noPolynomial tabulate zeros width
 returns c = let a = c .before .before .before .before .args in round-refused (a .settings) (a .done) (a .key .now) (a .message .now) _ _ (c .before .before .round .ensures) (c .before .if1 .taken) (c .polynomial-of .ensures .0) (c .polynomial-of .ensures .1)
 
--- src/lib.rt:63:9
 half-left-requires : tie.Need-half-left-requires
 half-left-requires c κs = search needs
 
--- src/lib.rt:64:38
 add-half-power : tie.Need-add-half-power
 add-half-power c = let g = given (c .before) in omega (arith, g .turn, g .tables .settings .depth-most)
 
--- src/lib.rt:64:9
 half-power-requires : tie.Need-half-power-requires
 half-power-requires c κs = search needs
 
--- src/lib.rt:65:9
 polynomial-requires : tie.Need-polynomial-requires
 polynomial-requires c κs = let h = c .before in let a = h .before .before .before .before .args in rw (half-is h) (round-tables (a .settings) (a .done) (a .key .now) (a .message .now) (given (h .before)))
 
--- src/lib.rt:66:5
 polynomial-of-requires-2 : tie.Need-polynomial-of-requires-2
 polynomial-of-requires-2 c κs = search needs
 
--- src/lib.rt:53:1
 returns-2 : tie.Need-returns-2
 returns-2 c =
     let h = c .before .before .before in

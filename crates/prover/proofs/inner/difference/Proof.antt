@@ -15,59 +15,45 @@ Inv-loop q d x a b r₀ n k₀ r k = (k ≤ d) × (r ≡ filled (λ j. (getD x j
 abbrev μ-loop : tie.MeasureT-loop
 μ-loop q d x a b r₀ n k₀ r k = d - k
 
--- src/inner.rt:93:5
 loop-holds : tie.Need-loop-holds Inv-loop μ-loop
 loop-holds c = (omega arith, fill-none _ _)
 
--- src/inner.rt:94:24
 mul-less : tie.Need-mul-less Inv-loop μ-loop
 mul-less c = search needs
 
--- src/inner.rt:94:24
 array-read-less : tie.Need-array-read-less Inv-loop μ-loop
 array-read-less c = search needs
 
--- src/inner.rt:94:30
 mul-less-2 : tie.Need-mul-less-2 Inv-loop μ-loop
 mul-less-2 c = search needs
 
--- src/inner.rt:94:30
 array-read-less-2 : tie.Need-array-read-less-2 Inv-loop μ-loop
 array-read-less-2 c = search needs
 
--- src/inner.rt:94:36
 mul-less-3 : tie.Need-mul-less-3 Inv-loop μ-loop
 mul-less-3 c = search needs
 
--- src/inner.rt:94:36
 array-read-less-3 : tie.Need-array-read-less-3 Inv-loop μ-loop
 array-read-less-3 c = search needs
 
--- src/inner.rt:94:16
 less-requires : tie.Need-less-requires Inv-loop μ-loop
 less-requires c κs = search needs
 
--- src/inner.rt:94:9
 mul-r : tie.Need-mul-r Inv-loop μ-loop
 mul-r c = search needs
 
--- src/inner.rt:94:9
 array-write-r : tie.Need-array-write-r Inv-loop μ-loop
 array-write-r c = search needs
 
--- src/inner.rt:95:9
 add-k : tie.Need-add-k Inv-loop μ-loop
 add-k c = search needs
 
--- src/inner.rt:93:5
 loop-less : tie.Need-loop-less Inv-loop μ-loop
 loop-less c = search needs
 
--- src/inner.rt:93:5
 loop-again : tie.Need-loop-again Inv-loop μ-loop
 loop-again c = let l = c .before .before .loop in (omega arith, fill-more 64 _ (l .k) _ (l .r) (l .inv .1) (omega arith) (c .less .ensures))
 
--- src/inner.rt:86:1
 returns : tie.Need-returns Inv-loop μ-loop
 returns c = let l = c .before .loop in element-done _ (l .k) _ (l .r) (l .inv .1) (omega arith)
 

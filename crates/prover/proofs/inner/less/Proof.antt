@@ -5,47 +5,36 @@ use borrow.Author.Needs.{needs}
 use Rattle.prover.proofs.inner.less.Statement.{statement}
 use Rattle.prover.proofs.inner.less.Tie as tie
 
--- src/inner.rt:82:26
 rem-result : tie.Need-rem-result
 rem-result c = search needs
 
--- src/inner.rt:82:22
 sub-result : tie.Need-sub-result
 sub-result c = omega (arith, mod-lt (c .args .a) {m = c .args .q} (c .pre))
 
--- src/inner.rt:82:21
 cast-result : tie.Need-cast-result
 cast-result c = search needs
 
--- src/inner.rt:82:7
 add-result : tie.Need-add-result
 add-result c = search needs
 
--- src/inner.rt:82:49
 rem-result-2 : tie.Need-rem-result-2
 rem-result-2 c = search needs
 
--- src/inner.rt:82:45
 sub-result-2 : tie.Need-sub-result-2
 sub-result-2 c = omega (arith, mod-lt (c .args .b) {m = c .args .q} (c .pre))
 
--- src/inner.rt:82:44
 cast-result-2 : tie.Need-cast-result-2
 cast-result-2 c = search needs
 
--- src/inner.rt:82:7
 add-result-2 : tie.Need-add-result-2
 add-result-2 c = search needs
 
--- src/inner.rt:82:6
 rem-result-3 : tie.Need-rem-result-3
 rem-result-3 c = search needs
 
--- src/inner.rt:82:5
 cast-result-3 : tie.Need-cast-result-3
 cast-result-3 c = let a = c .args in omega (arith, mod-lt (a .x + (a .q - a .a % a .q) + (a .q - a .b % a .q)) {m = a .q} (c .pre))
 
--- src/inner.rt:78:1
 returns : tie.Need-returns
 returns c = search needs
 

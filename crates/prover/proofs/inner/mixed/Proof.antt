@@ -24,7 +24,13 @@ slice-aggregate-message-sums : tie.Need-slice-aggregate-message-sums
 slice-aggregate-message-sums c = search needs
 
 message-sums-requires : tie.Need-message-sums-requires
-message-sums-requires c κs = let s = c .before .before .before in let a = s .args in (first-small (a .q) (a .d) (a .h) (a .message .now) (a .key .now) (s .pre), second-small (a .q) (a .d) (a .h) (a .message .now) (a .key .now) (s .pre), half-inside (a .q) (a .d) (a .h) (a .message .now) (a .key .now) (s .pre))
+message-sums-requires c κs =
+    let s = c .before .before .before in
+    let a = s .args in (
+      first-small (a .q) (a .d) (a .h) (a .message .now) (a .key .now) (s .pre),
+      second-small (a .q) (a .d) (a .h) (a .message .now) (a .key .now) (s .pre),
+      half-inside (a .q) (a .d) (a .h) (a .message .now) (a .key .now) (s .pre),
+    )
 
 mul-key-sums : tie.Need-mul-key-sums
 mul-key-sums c = search needs
@@ -42,7 +48,13 @@ slice-aggregate-key-sums : tie.Need-slice-aggregate-key-sums
 slice-aggregate-key-sums c = search needs
 
 key-sums-requires : tie.Need-key-sums-requires
-key-sums-requires c κs = let s = c .before .before .before .before .before .before .before in let a = s .args in (first-residues (a .q) (a .d) (a .h) (a .message .now) (a .key .now) (s .pre), second-residues (a .q) (a .d) (a .h) (a .message .now) (a .key .now) (s .pre), half-inside (a .q) (a .d) (a .h) (a .message .now) (a .key .now) (s .pre))
+key-sums-requires c κs =
+    let s = c .before .before .before .before .before .before .before in
+    let a = s .args in (
+      first-residues (a .q) (a .d) (a .h) (a .message .now) (a .key .now) (s .pre),
+      second-residues (a .q) (a .d) (a .h) (a .message .now) (a .key .now) (s .pre),
+      half-inside (a .q) (a .d) (a .h) (a .message .now) (a .key .now) (s .pre),
+    )
 
 slice-aggregate-straight : tie.Need-slice-aggregate-straight
 slice-aggregate-straight c = search needs
@@ -55,14 +67,20 @@ unfolding zeros signedZeros
 straight-requires c κs =
     let s = c .before .before .before .before .before .before .before .before .before .before .before in
     let a = s .args in
-    sums-tables (a .q) (a .d) (a .h) (a .message .now) (a .key .now) (s .pre) _ _ (message-sums (a .q) (a .d) (a .h) (a .message .now) (a .key .now) (s .pre) _ _ (c .before .before .before .before .before .before .before .message-sums .ensures)) (key-sums (a .q) (a .d) (a .h) (a .message .now) (a .key .now) (s .pre) _ _ (c .before .before .before .key-sums .ensures))
+    sums-tables (a .q) (a .d) (a .h) (a .message .now) (a .key .now) (s .pre) _ _
+    (message-sums (a .q) (a .d) (a .h) (a .message .now) (a .key .now) (s .pre) _ _ (c .before .before .before .before .before .before .before .message-sums .ensures))
+    (key-sums (a .q) (a .d) (a .h) (a .message .now) (a .key .now) (s .pre) _ _ (c .before .before .before .key-sums .ensures))
 
 returns : tie.Need-returns
 unfolding zeros signedZeros
 returns c =
     let s = c .before .before .before .before .before .before .before .before .before .before .before .before in
     let a = s .args in
-    c .straight .ensures ∙ sums-mixed (a .q) (a .d) (a .h) (a .message .now) (a .key .now) (s .pre) _ _ (message-sums (a .q) (a .d) (a .h) (a .message .now) (a .key .now) (s .pre) _ _ (c .before .before .before .before .before .before .before .before .message-sums .ensures)) (key-sums (a .q) (a .d) (a .h) (a .message .now) (a .key .now) (s .pre) _ _ (c .before .before .before .before .key-sums .ensures)) (a .s)
+    c .straight .ensures
+    ∙ sums-mixed (a .q) (a .d) (a .h) (a .message .now) (a .key .now) (s .pre) _ _
+    (message-sums (a .q) (a .d) (a .h) (a .message .now) (a .key .now) (s .pre) _ _ (c .before .before .before .before .before .before .before .before .message-sums .ensures))
+    (key-sums (a .q) (a .d) (a .h) (a .message .now) (a .key .now) (s .pre) _ _ (c .before .before .before .before .key-sums .ensures))
+    (a .s)
 
 pub mixed-spec : {M : Type 1} → statement M
 mixed-spec =

@@ -6,19 +6,15 @@ use borrow.Author.Needs.{needs}
 use Rattle.prover.proofs.inner.multiple.Statement.{statement}
 use Rattle.prover.proofs.inner.multiple.Tie as tie
 
--- src/inner.rt:36:6
 mul-result : tie.Need-mul-result
 mul-result c = record { fits = product-fits (c .args .x) (c .args .y) (omega arith) (omega arith) }
 
--- src/inner.rt:36:6
 rem-result : tie.Need-rem-result
 rem-result c = search needs
 
--- src/inner.rt:36:5
 cast-result : tie.Need-cast-result
 cast-result c = omega (arith, mod-lt (c .args .x * c .args .y) {m = c .args .q} (c .pre))
 
--- src/inner.rt:32:1
 returns : tie.Need-returns
 returns c = search needs
 

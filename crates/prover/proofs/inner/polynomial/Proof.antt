@@ -9,59 +9,45 @@ use borrow.Author.Needs.{needs}
 use Rattle.prover.proofs.inner.polynomial.Statement.{statement}
 use Rattle.prover.proofs.inner.polynomial.Tie as tie
 
--- src/inner.rt:106:16
 mul-half : tie.Need-mul-half
 mul-half c = search needs
 
--- src/inner.rt:107:9
 straight-requires : tie.Need-straight-requires
 straight-requires c κs = let a = c .before .args in first-halves (a .q) (a .d) (a .h) (a .message .now) (a .key .now) (c .before .pre .tables)
 
--- src/inner.rt:108:35
 mul-straight : tie.Need-mul-straight
 mul-straight c = search needs
 
--- src/inner.rt:108:35
 sub-straight : tie.Need-sub-straight
 sub-straight c = search needs
 
--- src/inner.rt:108:35
 part-straight-start : tie.Need-part-straight-start
 part-straight-start c = search needs
 
--- src/inner.rt:108:35
 part-straight-end : tie.Need-part-straight-end
 part-straight-end c = search needs
 
--- src/inner.rt:108:53
 mul-straight-2 : tie.Need-mul-straight-2
 mul-straight-2 c = search needs
 
--- src/inner.rt:108:53
 sub-straight-2 : tie.Need-sub-straight-2
 sub-straight-2 c = search needs
 
--- src/inner.rt:108:53
 part-straight-start-2 : tie.Need-part-straight-start-2
 part-straight-start-2 c = search needs
 
--- src/inner.rt:108:53
 part-straight-end-2 : tie.Need-part-straight-end-2
 part-straight-end-2 c = search needs
 
--- src/inner.rt:108:9
 straight-requires-2 : tie.Need-straight-requires-2
 straight-requires-2 c κs = let s = c .before .before .before .before in let a = s .args in second-halves (a .q) (a .d) (a .h) (a .message .now) (a .key .now) (s .pre .tables)
 
--- src/inner.rt:109:9
 mixed-requires : tie.Need-mixed-requires
 mixed-requires c κs = search needs
 
--- src/inner.rt:110:9
 difference-requires : tie.Need-difference-requires
 difference-requires c κs = search needs
 
--- src/inner.rt:102:1
 returns : tie.Need-returns
 unfolding tabulate
 returns c =

@@ -15,43 +15,33 @@ Inv-loop q d s a r₀ n k₀ r k = (k ≤ d) × (r ≡ filled (λ j. s * getD a 
 abbrev μ-loop : tie.MeasureT-loop
 μ-loop q d s a r₀ n k₀ r k = d - k
 
--- src/inner.rt:47:5
 loop-holds : tie.Need-loop-holds Inv-loop μ-loop
 loop-holds c = (omega arith, fill-none _ _)
 
--- src/inner.rt:48:31
 mul-multiple : tie.Need-mul-multiple Inv-loop μ-loop
 mul-multiple c = search needs
 
--- src/inner.rt:48:31
 array-read-multiple : tie.Need-array-read-multiple Inv-loop μ-loop
 array-read-multiple c = search needs
 
--- src/inner.rt:48:16
 multiple-requires : tie.Need-multiple-requires Inv-loop μ-loop
 multiple-requires c κs = search needs
 
--- src/inner.rt:48:9
 mul-r : tie.Need-mul-r Inv-loop μ-loop
 mul-r c = search needs
 
--- src/inner.rt:48:9
 array-write-r : tie.Need-array-write-r Inv-loop μ-loop
 array-write-r c = search needs
 
--- src/inner.rt:49:9
 add-k : tie.Need-add-k Inv-loop μ-loop
 add-k c = search needs
 
--- src/inner.rt:47:5
 loop-less : tie.Need-loop-less Inv-loop μ-loop
 loop-less c = search needs
 
--- src/inner.rt:47:5
 loop-again : tie.Need-loop-again Inv-loop μ-loop
 loop-again c = let l = c .before .before .loop in (omega arith, fill-more 64 _ (l .k) _ (l .r) (l .inv .1) (omega arith) (c .multiple .ensures))
 
--- src/inner.rt:40:1
 returns : tie.Need-returns Inv-loop μ-loop
 returns c = let l = c .before .loop in element-done _ (l .k) _ (l .r) (l .inv .1) (omega arith)
 

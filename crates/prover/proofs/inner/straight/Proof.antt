@@ -8,27 +8,21 @@ use borrow.Author.Needs.{needs}
 use Rattle.prover.proofs.inner.straight.Statement.{statement}
 use Rattle.prover.proofs.inner.straight.Tie as tie
 
--- src/inner.rt:59:38
 slice-aggregate-add-inner : tie.Need-slice-aggregate-add-inner
 slice-aggregate-add-inner c = search needs
 
--- src/inner.rt:59:5
 add-inner-requires : tie.Need-add-inner-requires
 add-inner-requires c κs = search needs
 
--- src/inner.rt:60:50
 slice-aggregate-reduced-sums : tie.Need-slice-aggregate-reduced-sums
 slice-aggregate-reduced-sums c = search needs
 
--- src/inner.rt:60:21
 reduced-sums-requires : tie.Need-reduced-sums-requires
 reduced-sums-requires c κs = search needs
 
--- src/inner.rt:60:5
 scaled-requires : tie.Need-scaled-requires
 scaled-requires c κs = search needs
 
--- src/inner.rt:54:1
 returns : tie.Need-returns
 unfolding zeros
 returns c =
@@ -38,7 +32,9 @@ returns c =
     let sums = c .before .before .before .before .add-inner in
     c .scaled .ensures
     ∙ scaled-is (a .q) (a .d) (a .s) (t .modulus) (inner (a .d) (a .h) (signedAt (a .d) (a .message .now)) (residueAt (a .d) (a .key .now))) _
-    (c .before .reduced-sums .ensures (record { modulus = t .modulus; degree-most = t .degree-most; sums = omega (arith, sums .kept .1 .1 .1 .1 .1 .0) }) ∙ ap (reducedSums (a .q) (a .d)) (sums .ensures) ∙ inner-reduced (a .q) (a .d) (a .h) (a .message .now) (a .key .now) t)
+    (c .before .reduced-sums .ensures (record { modulus = t .modulus; degree-most = t .degree-most; sums = omega (arith, sums .kept .1 .1 .1 .1 .1 .0) })
+    ∙ ap (reducedSums (a .q) (a .d)) (sums .ensures)
+    ∙ inner-reduced (a .q) (a .d) (a .h) (a .message .now) (a .key .now) t)
 
 pub straight-spec : {M : Type 1} → statement M
 straight-spec =

@@ -24,35 +24,27 @@ few c = mul-le-mul {n₂ = 128} {m₂ = 64} (omega arith) (omega arith)
 mul-half : tie.Need-mul-half Inv-loop μ-loop
 mul-half c = omega (arith, few c)
 
--- src/messages.rt:45:5
 loop-holds : tie.Need-loop-holds Inv-loop μ-loop
 loop-holds c = (omega arith, filled-none _ _, search needs)
 
--- src/messages.rt:46:17
 rem-k : tie.Need-rem-k Inv-loop μ-loop
 rem-k c = search needs
 
--- src/messages.rt:47:31
 mul-rotated : tie.Need-mul-rotated Inv-loop μ-loop
 mul-rotated c = search needs
 
--- src/messages.rt:47:31
 sub-rotated : tie.Need-sub-rotated Inv-loop μ-loop
 sub-rotated c = search needs
 
--- src/messages.rt:47:31
 part-rotated-start : tie.Need-part-rotated-start Inv-loop μ-loop
 part-rotated-start c = search needs
 
--- src/messages.rt:47:31
 part-rotated-end : tie.Need-part-rotated-end Inv-loop μ-loop
 part-rotated-end c = search needs
 
--- src/messages.rt:47:49
 sub-rotated-2 : tie.Need-sub-rotated-2 Inv-loop μ-loop
 sub-rotated-2 c = let s = c .before .before .before in omega (arith, mod-le (s .loop .p) (s .before .args .d))
 
--- src/messages.rt:47:13
 rotated-requires : tie.Need-rotated-requires Inv-loop μ-loop
 rotated-requires c κs =
     let l = c .before .before .before .loop in
@@ -65,11 +57,9 @@ rotated-requires c κs =
       second-room (a .d) (a .h) (a .e) (a .message .now) (s .pre .0 .0) (s .pre .1 .0) (s .pre .1 .1) (l .p) (l .message) (l .inv .1) (omega arith),
     )
 
--- src/messages.rt:48:17
 mul-x : tie.Need-mul-x Inv-loop μ-loop
 mul-x c = search needs
 
--- src/messages.rt:48:17
 slice-copy-out-x : tie.Need-slice-copy-out-x Inv-loop μ-loop
 slice-copy-out-x c = search needs
 
@@ -87,23 +77,18 @@ room c =
 add-message : tie.Need-add-message Inv-loop μ-loop
 add-message c = plus-fits (old c) (c .before .rotated .result) (room c)
 
--- src/messages.rt:49:9
 mul-t16 : tie.Need-mul-t16 Inv-loop μ-loop
 mul-t16 c = search needs
 
--- src/messages.rt:49:9
 slice-set-from-message : tie.Need-slice-set-from-message Inv-loop μ-loop
 slice-set-from-message c = search needs
 
--- src/messages.rt:50:9
 add-p : tie.Need-add-p Inv-loop μ-loop
 add-p c = search needs
 
--- src/messages.rt:45:5
 loop-less : tie.Need-loop-less Inv-loop μ-loop
 loop-less c = search needs
 
--- src/messages.rt:45:5
 loop-again : tie.Need-loop-again Inv-loop μ-loop
 loop-again c =
     let l = c .before .before .before .before .before .loop in
@@ -115,11 +100,9 @@ loop-again c =
       simp length-set (omega arith),
     )
 
--- src/messages.rt:38:1
 same-length : tie.Need-same-length Inv-loop μ-loop
 same-length c = search needs
 
--- src/messages.rt:38:1
 returns : tie.Need-returns Inv-loop μ-loop
 returns c =
     let l = c .before .loop in

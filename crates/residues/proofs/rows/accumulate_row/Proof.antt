@@ -14,13 +14,18 @@ use Rattle.residues.proofs.rows.accumulate_row.Statement.{statement}
 use Rattle.residues.proofs.rows.accumulate_row.Tie as tie
 
 abbrev Inv-loop : tie.InvT-loop
-Inv-loop q n negative a from out₀ to k₀ out k = (k ≤ n) × Provided (Summands q n from a to out₀) (out ≡ spliced (λ (j : ℕ). modulo q (pos (getD out₀ (to + j) 0) +ℤ signed negative (pos (getD a (from + j) 0)))) to k out₀) × (length out ≡ length out₀)
+Inv-loop q n negative a from out₀ to k₀ out k =
+    (k ≤ n)
+    × Provided (Summands q n from a to out₀) (out ≡ spliced (λ (j : ℕ). modulo q (pos (getD out₀ (to + j) 0) +ℤ signed negative (pos (getD a (from + j) 0)))) to k out₀)
+    × (length out ≡ length out₀)
 
 abbrev μ-loop : tie.MeasureT-loop
 μ-loop q n negative a from out₀ to k₀ out k = n - k
 
 -- what is read has not been written
-as-was : (c : tie.In-loop Inv-loop μ-loop) → let a = c .before .before .before .before .args in Summands (a .q) (a .n) (a .from) (a .a .now) (a .to) (a .out .now) → getD (c .before .loop .out) (a .to + c .before .loop .k) 0 ≡ getD (a .out .now) (a .to + c .before .loop .k) 0
+as-was : (c : tie.In-loop Inv-loop μ-loop) → let a = c .before .before .before .before .args in
+    Summands (a .q) (a .n) (a .from) (a .a .now) (a .to) (a .out .now)
+    → getD (c .before .loop .out) (a .to + c .before .loop .k) 0 ≡ getD (a .out .now) (a .to + c .before .loop .k) 0
 as-was c h =
     let s = c .before .before .before .before in
     let a = s .args in
@@ -74,7 +79,10 @@ loop-again c =
       omega arith,
       (λ h.
           let was = as-was (c .before .before .before) h in
-          spliced-turn _ _ (l .k) _ (l .inv .1 h) (c .signed-sum .ensures (record { left = omega (arith, was, h .own .each (l .k) (omega arith)); right = h .added .each (l .k) (omega arith) }) ∙ ap (λ y. modulo (a .q) (pos y +ℤ signed (a .negative) (pos (getD (a .a .now) (a .from + l .k) 0)))) was) (omega arith)),
+          spliced-turn _ _ (l .k) _ (l .inv .1 h)
+          (c .signed-sum .ensures (record { left = omega (arith, was, h .own .each (l .k) (omega arith)); right = h .added .each (l .k) (omega arith) })
+          ∙ ap (λ y. modulo (a .q) (pos y +ℤ signed (a .negative) (pos (getD (a .a .now) (a .from + l .k) 0)))) was)
+          (omega arith)),
       simp length-set (omega arith),
     )
 

@@ -28,8 +28,10 @@ returns : tie.Need-returns
 returns c = λ h.
     let a = c .before .before .before .before .before .before .before .before .before .before .before .args in
     let r = c .before .before .before .before .before .before .before .before .row-start in
-    let first = c .before .before .before .before .before .before .accumulate-row .ensures (front-summands (a .q) (a .d) (a .e) (r .result) (a .to) (omega arith) (r .ensures .0) (r .ensures .1) (r .ensures .2) (a .a .now) (a .out .now) h) in
-    c .before .before .accumulate-row2 .ensures (back-summands (a .q) (a .d) (a .e) (r .result) (a .to) (omega arith) (r .ensures .0) (r .ensures .1) (r .ensures .2) (a .a .now) (a .out .now) h _ first)
+    let first = c .before .before .before .before .before .before .accumulate-row .ensures
+    (front-summands (a .q) (a .d) (a .e) (r .result) (a .to) (omega arith) (r .ensures .0) (r .ensures .1) (r .ensures .2) (a .a .now) (a .out .now) h) in
+    c .before .before .accumulate-row2 .ensures
+    (back-summands (a .q) (a .d) (a .e) (r .result) (a .to) (omega arith) (r .ensures .0) (r .ensures .1) (r .ensures .2) (a .a .now) (a .out .now) h _ first)
     ∙ turned-done (a .q) (a .d) (a .e) (r .result) (a .to) (omega arith) (r .ensures .0) (r .ensures .1) (r .ensures .2) (a .a .now) (a .out .now) h _ first
 
 pub accumulate-turned-spec : {M : Type 1} → statement M

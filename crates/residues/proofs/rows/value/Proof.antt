@@ -30,7 +30,8 @@ accumulate-turned-requires-2 : tie.Need-accumulate-turned-requires-2
 accumulate-turned-requires-2 c κs =
     let a = c .before .before .before .before .before .before .before .before .before .before .before .before .before .before .before .args in
     let once = c .before .before .before .before .before .before .before .before .before .before .on-circle in
-    (omega arith, omega (arith, c .before .before .before .before .before .before .before .before .before .on-circle2 .ensures, mod-lt (once .result + once .result) {m = 2 * a .d} (omega arith)), omega arith, search needs)
+    let twice = c .before .before .before .before .before .before .before .before .before .on-circle2 in
+    (omega arith, omega (arith, twice .ensures, mod-lt (once .result + once .result) {m = 2 * a .d} (omega arith)), omega arith, search needs)
 
 same-length : tie.Need-same-length
 same-length c = search needs
@@ -42,10 +43,13 @@ returns c = λ h.
     let twice = c .before .before .before .before .before .before .before .before .before .before .before .before .on-circle2 in
     let copied = c .before .before .before .before .before .before .before .before .before .before .copy-row .ensures in
     let first = c .before .before .before .before .before .before .accumulate-turned .ensures
-    (first-summands (a .q) (a .d) (a .e) (omega arith) (a .c0 .now) (a .c1 .now) (a .c2 .now) (a .out .now) _ (a .out .now) h (once .result) (twice .result) (omega arith) (once .ensures) (twice .ensures) copied) in
+    (first-summands (a .q) (a .d) (a .e) (omega arith) (a .c0 .now) (a .c1 .now) (a .c2 .now) (a .out .now) _ (a .out .now) h
+    (once .result) (twice .result) (omega arith) (once .ensures) (twice .ensures) copied) in
     c .before .before .accumulate-turned2 .ensures
-    (second-summands (a .q) (a .d) (a .e) (omega arith) (a .c0 .now) (a .c1 .now) (a .c2 .now) (a .out .now) _ _ h (once .result) (twice .result) (omega arith) (once .ensures) (twice .ensures) copied first)
-    ∙ value-done (a .q) (a .d) (a .e) (omega arith) (a .c0 .now) (a .c1 .now) (a .c2 .now) (a .out .now) _ _ h (once .result) (twice .result) (omega arith) (once .ensures) (twice .ensures) copied first
+    (second-summands (a .q) (a .d) (a .e) (omega arith) (a .c0 .now) (a .c1 .now) (a .c2 .now) (a .out .now) _ _ h
+    (once .result) (twice .result) (omega arith) (once .ensures) (twice .ensures) copied first)
+    ∙ value-done (a .q) (a .d) (a .e) (omega arith) (a .c0 .now) (a .c1 .now) (a .c2 .now) (a .out .now) _ _ h
+    (once .result) (twice .result) (omega arith) (once .ensures) (twice .ensures) copied first
 
 pub value-spec : {M : Type 1} → statement M
 value-spec =

@@ -16,7 +16,8 @@ use Rattle.residues.proofs.tables.fold_each.Statement.{statement}
 use Rattle.residues.proofs.tables.fold_each.Tie as tie
 
 abbrev Inv-loop : tie.InvT-loop
-Inv-loop q d h e to second t₀ x₀ once j₀ t x j = (j ≤ h) × Provided (Summands q (h * d) second t₀ to t₀) (t ≡ spliced (foldedAt q d e to second t₀) to (j * d) t₀) × (length t ≡ length t₀) × (length x ≡ length x₀)
+Inv-loop q d h e to second t₀ x₀ once j₀ t x j =
+    (j ≤ h) × Provided (Summands q (h * d) second t₀ to t₀) (t ≡ spliced (foldedAt q d e to second t₀) to (j * d) t₀) × (length t ≡ length t₀) × (length x ≡ length x₀)
 
 abbrev μ-loop : tie.MeasureT-loop
 μ-loop q d h e to second t₀ x₀ once j₀ t x j = h - j
@@ -35,7 +36,9 @@ on-circle-requires : tie.Need-on-circle-requires Inv-loop μ-loop
 on-circle-requires c κs = search needs
 
 loop-holds : tie.Need-loop-holds Inv-loop μ-loop
-loop-holds c = let a = c .before .before .before .args in (omega arith, (λ s. rows-none (a .q) (a .d) (a .h) (a .e) (a .to) (a .second) (a .t .now) (omega arith) (omega arith) (omega arith)), refl, refl)
+loop-holds c =
+    let a = c .before .before .before .args in
+    (omega arith, (λ s. rows-none (a .q) (a .d) (a .h) (a .e) (a .to) (a .second) (a .t .now) (omega arith) (omega arith) (omega arith)), refl, refl)
 
 mul-at : tie.Need-mul-at Inv-loop μ-loop
 mul-at c = omega (arith, half-small (c .before .before .before .before .before), inside c)
@@ -53,7 +56,9 @@ part-copy-row-end : tie.Need-part-copy-row-end Inv-loop μ-loop
 part-copy-row-end c = search needs
 
 copy-row-requires : tie.Need-copy-row-requires Inv-loop μ-loop
-copy-row-requires c κs = let a = c .before .before .before .before .before .before .before .before .args in (omega (arith, tail-length (a .second) (c .before .before .before .before .loop .t), inside (c .before .before .before)), omega arith)
+copy-row-requires c κs =
+    let a = c .before .before .before .before .before .before .before .before .args in
+    (omega (arith, tail-length (a .second) (c .before .before .before .before .loop .t), inside (c .before .before .before)), omega arith)
 
 slice-relend-prefix-accumulate-turned :
     tie.Need-slice-relend-prefix-accumulate-turned Inv-loop μ-loop
@@ -63,7 +68,8 @@ slice-aggregate-accumulate-turned : tie.Need-slice-aggregate-accumulate-turned I
 slice-aggregate-accumulate-turned c = sym (front-long (c .before .before .before .before .before .before .before .before))
 
 add-accumulate-turned : tie.Need-add-accumulate-turned Inv-loop μ-loop
-add-accumulate-turned c = omega (arith, half-small (c .before .before .before .before .before .before .before .before .before .before .before .before .before), inside (c .before .before .before .before .before .before .before .before))
+add-accumulate-turned c =
+    omega (arith, half-small (c .before .before .before .before .before .before .before .before .before .before .before .before .before), inside (c .before .before .before .before .before .before .before .before))
 
 accumulate-turned-requires : tie.Need-accumulate-turned-requires Inv-loop μ-loop
 accumulate-turned-requires c κs =
@@ -90,7 +96,8 @@ loop-again c =
       omega arith,
       (λ s. row-turn (a .q) (a .d) (a .h) (a .e) (a .to) (a .second) (a .t .now) (omega arith) (omega arith) (omega arith) (l .t) (l .j) (l .inv .1 s) (omega arith)
           _ (l .x) (omega arith) (copied .ensures) (once .result) (once .ensures) _
-          (added .ensures (row-summands (a .q) (a .d) (a .h) (a .e) (a .to) (a .second) (a .t .now) (omega arith) (omega arith) (omega arith) (l .t) (l .j) (l .inv .1 s) (omega arith) _ (l .x) (omega arith) (copied .ensures) s))),
+          (added .ensures (row-summands (a .q) (a .d) (a .h) (a .e) (a .to) (a .second) (a .t .now) (omega arith) (omega arith) (omega arith) (l .t) (l .j) (l .inv .1 s) (omega arith)
+          _ (l .x) (omega arith) (copied .ensures) s))),
       length-front (l .t) (added .last .1 .1 .1 .1 .0) (a .second) (added .kept .1 .1 .1 .1 .0) ∙ l .inv .2,
       copied .kept .1 .1 .1 .0 ∙ l .inv .3,
     )
