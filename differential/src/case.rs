@@ -409,22 +409,22 @@ pub struct Difference {
 
 /// Runs a case; answers what was said and who says the same, or the
 /// difference.
-pub fn run<C: Case>(case: &C) -> Result<(Outcome, Vec<Author>), (Outcome, Outcome)> {
+pub fn run<C: Case>(case: &C) -> Result<(Outcome, Vec<Author>), Box<(Outcome, Outcome)>> {
     let verified = case.verified();
     let plain = case.plain();
     if !verified.same(&plain) {
-        return Err((plain, verified));
+        return Err(Box::new((plain, verified)));
     }
     let mut authors = vec![Author::Simple];
     if let Some(fast) = case.fast() {
         if !fast.agrees(&verified) {
-            return Err((fast, verified));
+            return Err(Box::new((fast, verified)));
         }
         authors.push(Author::Fast);
     }
     if let Some(number) = case.admitted() {
         if number != verified.number {
-            return Err((Outcome::new(number), verified));
+            return Err(Box::new((Outcome::new(number), verified)));
         }
         authors.push(Author::Refusals);
     }
@@ -500,7 +500,8 @@ fn describe<C: Case>(case: &C) -> Difference {
     let mut text = format!("{}: the answers differ\n", C::NAME);
     text.push_str("the case, with what the reference answers:\n");
     text.push_str(&page.text);
-    if let Err((wanted, found)) = run(case) {
+    if let Err(both) = run(case) {
+        let (wanted, found) = *both;
         text.push_str(&format!("number: {} and {}\n", wanted.number, found.number));
         for (name, a) in &wanted.parts {
             let Some((_, b)) = found.parts.iter().find(|part| part.0 == *name) else {

@@ -1,41 +1,50 @@
--- Demand 3 for the exported calls, proved: a corollary of the one claim. The opening's answers, and the whole of the extraction, are those of `demand3`; what is
--- added is that exact slices lose nothing of what is passed by value elsewhere.
+-- Demand 3 for the exported calls, proved as a corollary of the one claim. What is added to `demand3`: the exported list of calls ends with slices that hold what
+-- the list of calls by value ends with (Steps, Moves), refused exported calls change no slice (Refused), and of a commitment only the first d places are read.
 use mathlib.Core.Path.{_≡_, refl, sym, ap, _∙_, subst}
-use mathlib.Core.List.{List}
+use mathlib.Core.List.{List, [], _∷_}
 use Prim.Native.Nat.{ℕ, zero, suc, _*_, _<_, _≤_}
 use native.Mathlib.Omega.{arith}
 use lib.IntN.{ℤ, pos, _*ℤ_}
-use lib.ListN.{length, getD, take}
+use lib.ListN.{length, getD, take, drop}
 use Rattle.protocol.specs.declared.Settings.{Settings}
 use Rattle.protocol.specs.declared.Judged.{Judged}
 use Rattle.protocol.specs.Basic.{choose}
 use Rattle.protocol.specs.Element.{modulo, padded, times, residue}
 use Rattle.protocol.specs.Settings.{cells}
-use Rattle.protocol.specs.Opening.{commitment, messageAfter, roundTable}
+use Rattle.protocol.specs.Opening.{keyAfter, messageAfter, roundTable}
 use Rattle.protocol.specs.Transcript.{element, claimAfter, Accepted}
 use Rattle.protocol.specs.Inputs.{Valid, Below, Within}
 use Rattle.protocol.specs.Tree.{path, growth, growthLimit}
 use Rattle.protocol.specs.Judge.{slack, scaledCommitment, Opens}
 use Rattle.protocol.specs.Calls as Calls
-use Rattle.protocol.specs.Demand3.{FullTree}
-use Rattle.protocol.specs.Demand3 as Whole
+use Rattle.protocol.specs.Session.{blank}
+use Rattle.protocol.specs.Demand3.{Step, moves, FullTree}
+use Rattle.protocol.specs.Demand3 as Demand
 use Rattle.protocol.proofs.Tests.{and-intro, granted-zero}
-use Rattle.claims.proofs.Honest.{Given, modulus-positive, opening-commitment, opening-rounds, opening-last, opening-key, opening-message}
+use Rattle.claims.proofs.Honest.{Given, modulus-positive, opening-rounds}
 use Rattle.claims.proofs.Ranges.{padded-at, commitment-below, last-length}
+use Rattle.claims.proofs.Refused as Steps
 use Rattle.claims.proofs.Moves.{roundsAfter}
+use Rattle.claims.proofs.Moves as Value
 use Rattle.claims.proofs.Demand3.{demand3}
-use Rattle.slices.specs.Slices.{verdictNumber}
+use Rattle.protocol.specs.Session.{verdictNumber}
 use Rattle.slices.proofs.Laws.{element-back, whole-back}
 use Rattle.exports.specs.Border as Border
 use Rattle.exports.specs.Claim.{State, SameAsWhole, OpeningClaim, ExtractionClaim, ExportedDemand3}
-use Rattle.exports.proofs.Steps.{own, fit, final}
-use Rattle.exports.proofs.Moves.{finished, run-finished}
+use Rattle.exports.proofs.Steps.{own, fit, final, round-exit}
+use Rattle.exports.proofs.Moves.{finished, round-part, run-finished}
+
+-- a run with no refused call
+steps-alone : (S : Settings) (E : List ℕ) (steps : List Step) (a : Demand.State) → Demand.Run S E steps a (Steps.runs S E steps a)
+unfolding Steps.runs
+steps-alone S E [] a = Demand.stop Demand.none
+steps-alone S E (s ∷ steps) a = Demand.go Demand.none (steps-alone S E steps (Demand.step S E s (a .held) (a .heard)))
 
 -- ---- an opening
 
 module _ {S : Settings} {G : List ℕ} {M : List ℤ} {E : List ℕ} (ok : Given S G M E) (rounds C : List ℕ) (F : List ℤ)
     (rounds-long : length rounds ≡ 3 * S .depth * S .degree) (C-long : length C ≡ S .degree) (F-long : length F ≡ S .degree) where
-  whole : Whole.OpeningClaim S G M E rounds
+  whole : Demand.OpeningClaim S G M E rounds
   whole = demand3 S G (ok .settings) (ok .key) .opening M E rounds (ok .message) (ok .challenges) rounds-long
 
   granted-opening : Border.openNumber S G M E rounds C F ≡ 0
@@ -46,28 +55,48 @@ module _ {S : Settings} {G : List ℕ} {M : List ℤ} {E : List ℕ} (ok : Given
   unfolding Border.openVerdict verdictNumber
   said = granted-zero _ _ _ granted-opening ∙ ap verdictNumber (whole .says-accepted)
 
+  -- the list of calls by value, with no refused call: what it ends with
+  by-value : Demand.State
+  by-value = Steps.runs S E (moves (S .depth)) (Demand.begun M G blank)
+
+  value-same : Demand.SameAsWhole S G M E rounds by-value
+  unfolding by-value
+  value-same = whole .by-moves blank by-value (steps-alone S E (moves (S .depth)) (Demand.begun M G blank))
+
+  -- the exported list of calls ends with the same, in slices
   same : (q : List ℕ) (st : State) → st ≡ finished S G M E q (final ok) → SameAsWhole S G M E rounds C F st
-  unfolding finished roundsAfter roundTable Border.openCommitmentExit Border.openRoundsExit Border.openLastExit Border.openMessageExit Border.openKeyExit
-  same q st e = record {
-    no-refusal = ap (λ (a : State). a .heard .numbers) e;
-    same-commitment =
-        ap (λ (a : State). a .held .commitment) e
-        ∙ sym (granted-zero _ _ _ granted-opening ∙ ap (take (S .degree)) (opening-commitment ok rounds rounds-long)
-        ∙ element-back (S .degree) _ (commitment-below S (modulus-positive S (ok .settings)) G M .long));
-    same-rounds = ap (λ (a : State). a .heard .rounds) e ∙ sym (granted-zero _ _ _ granted-opening ∙ opening-rounds ok rounds rounds-long);
-    same-last =
-        ap (λ (a : State). a .held .last) e
-        ∙ sym (granted-zero _ _ _ granted-opening ∙ ap (take (S .degree)) (opening-last ok rounds rounds-long) ∙ whole-back (S .degree) _ (last-length S (messageAfter S E (S .depth) M)));
-    same-verdict = ap (λ (a : State). a .heard .verdict) e ∙ sym said;
-    same-message = ap (λ (a : State). a .held .message) e ∙ sym (granted-zero _ _ _ granted-opening ∙ opening-message ok rounds rounds-long);
-    same-key = ap (λ (a : State). a .held .key) e ∙ sym (granted-zero _ _ _ granted-opening ∙ opening-key ok rounds rounds-long);
-    copy-kept = ap (λ (a : State). a .held .copy) e;
-  }
+  unfolding finished by-value Value.finished Border.openCommitmentExit Border.openRoundsExit Border.openLastExit Border.openMessageExit Border.openKeyExit
+  same q st e =
+      let (p, f) = Value.run-finished ok blank by-value (steps-alone S E (moves (S .depth)) (Demand.begun M G blank)) in
+      record {
+        no-refusal = ap (λ (a : State). a .heard .numbers) e;
+        same-commitment =
+            ap (λ (a : State). a .held .commitment) e
+            ∙ sym (granted-zero _ _ _ granted-opening ∙ ap (take (S .degree)) (sym (value-same .same-commitment) ∙ ap (λ (a : Demand.State). a .heard .commitment) f)
+            ∙ element-back (S .degree) _ (commitment-below S (modulus-positive S (ok .settings)) G M .long));
+        same-rounds = ap (λ (a : State). a .heard .rounds) e ∙ sym (granted-zero _ _ _ granted-opening ∙ sym (value-same .same-rounds) ∙ ap (λ (a : Demand.State). a .heard .rounds) f);
+        same-last =
+            ap (λ (a : State). a .held .last) e
+            ∙ sym (granted-zero _ _ _ granted-opening ∙ ap (take (S .degree)) (sym (value-same .same-last) ∙ ap (λ (a : Demand.State). a .heard .last) f)
+            ∙ whole-back (S .degree) _ (last-length S (messageAfter S E (S .depth) M)));
+        same-verdict = ap (λ (a : State). a .heard .verdict) e ∙ sym said;
+        same-message = ap (λ (a : State). a .held .message) e ∙ sym (granted-zero _ _ _ granted-opening ∙ sym (value-same .same-message) ∙ ap (λ (a : Demand.State). a .held .message) f);
+        same-key = ap (λ (a : State). a .held .key) e ∙ sym (granted-zero _ _ _ granted-opening ∙ sym (value-same .same-key) ∙ ap (λ (a : Demand.State). a .held .key) f);
+        copy-kept = ap (λ (a : State). a .held .copy) e;
+      }
+
+  layout : (t : ℕ) → t < S .depth → (q : List ℕ) → length q ≡ 3 * S .degree
+      → take (3 * S .degree) (drop (3 * t * S .degree) (Border.openRoundsExit S G M E rounds C F)) ≡ Border.roundExit S t (keyAfter S E t G) (messageAfter S E t M) q
+  layout t l q long = ap (λ x. take (3 * S .degree) (drop (3 * t * S .degree) x)) table ∙ round-part ok t l ∙ sym (round-exit ok t l q long)
+    where
+      table : Border.openRoundsExit S G M E rounds C F ≡ roundsAfter S G M E (S .depth)
+      table = unfold Border.openRoundsExit in unfold roundsAfter in unfold roundTable in granted-zero _ _ _ granted-opening ∙ opening-rounds ok rounds rounds-long
 
   exported-opening : OpeningClaim S G M E rounds C F
   exported-opening = record {
     not-refused = granted-opening;
     says-accepted = said;
+    one-layout = layout;
     by-moves = λ r c q f l st run. let (q′, e) = run-finished ok r c q f l st run in same q′ st e;
   }
 
@@ -94,7 +123,6 @@ module _ (S : Settings) (C : List ℕ) (long : length C ≡ S .degree) where
 
     tree-same : FullTree S G C rounds E finals → FullTree S G (padded (S .degree) C) rounds E finals
     tree-same tree = record {
-      commitment-below = λ k h. subst (λ x. x < S .modulus) (sym (place k h)) (tree .commitment-below k h);
       rounds-below = tree .rounds-below;
       challenges-below = tree .challenges-below;
       finals-long = tree .finals-long;
@@ -118,7 +146,7 @@ module _ (S : Settings) (C : List ℕ) (long : length C ≡ S .degree) where
     exact = λ m folds. vector ∙ claim .exact m folds;
   }
     where
-      claim : Whole.ExtractionClaim S G (padded (S .degree) C) rounds E finals w
+      claim : Demand.ExtractionClaim S G (padded (S .degree) C) rounds E finals w
       claim = demand3 S G ok key .extraction (padded (S .degree) C) rounds E finals w (tree-same G rounds E finals tree) room w-long
 
       not-refused : Border.extractNumber S C G rounds E finals w ≡ 0

@@ -3,13 +3,14 @@
 --   stateAfter S G M E t q f v   what is held and was heard then, q, f and v being the slices for polynomial and final element and the last verdict
 --   finished S G M E q           the same at the end
 use mathlib.Core.Path.{_≡_, sym, ap, _∙_}
-use mathlib.Core.List.{List, [], _∷_, _++_, append-assoc}
-use Prim.Native.Nat.{ℕ, zero, suc, _+_, _*_, _/_, _%_, _<_}
+use mathlib.Core.List.{List, [], _∷_, _++_, append-nil, append-assoc}
+use Prim.Native.Nat.{ℕ, zero, suc, _+_, _*_, _-_, _/_, _%_, _<_}
 use native.Mathlib.Nat as Nat
 use native.Mathlib.Numerals.{add-one}
 use native.Mathlib.Omega.{arith}
 use lib.IntN.{ℤ}
-use lib.ListN.{length, getD, replicate, replicate-append-replicate}
+use lib.ListN.{length, getD, take, drop, replicate, replicate-append-replicate}
+use lib.Seq.{take-at, drop-at}
 use Rattle.protocol.specs.declared.Settings.{Settings}
 use Rattle.protocol.specs.Basic.{tabulate, flat}
 use Rattle.protocol.specs.Element.{padded}
@@ -17,7 +18,7 @@ use Rattle.protocol.specs.Opening.{commitment, roundElement, messageAfter, keyA
 use Rattle.protocol.specs.Session.{part, shut}
 use Rattle.protocol.specs.Calls.{polynomial}
 use Rattle.protocol.specs.Demand3.{Step, turns, moves}
-use Rattle.protocol.proofs.Reading.{tabulate-ext, flat-suc}
+use Rattle.protocol.proofs.Reading.{tabulate-ext, flat-length, flat-suc}
 use Rattle.claims.proofs.Honest.{Given, modulus-positive}
 use Rattle.claims.proofs.Ranges.{padded-at, round-below}
 use Rattle.claims.proofs.Prover.{fold-granted, fold-key, fold-message}
@@ -114,6 +115,25 @@ module _ {S : Settings} {G : List ℕ} {M : List ℤ} {E : List ℕ} (ok : Given
           ∙ ap (λ x. x ++ X 2) (append-assoc (flat d (3 * t) entry) (X 0) (X 1))
           ∙ append-assoc (flat d (3 * t) entry) (X 0 ++ X 1) (X 2)
           ∙ ap (λ x. flat d (3 * t) entry ++ x) (append-assoc (X 0) (X 1) (X 2))
+
+  rounds-front : (n t : ℕ) → (rest : List ℕ) × (roundsAfter S G M E (t + n) ≡ roundsAfter S G M E t ++ rest)
+  rounds-front zero t = ([], ap (roundsAfter S G M E) (Nat.add-zero t) ∙ sym (append-nil (roundsAfter S G M E t)))
+  rounds-front (suc n) t =
+      let (rest, e) = rounds-front n (suc t) in
+      (laid d (p ok t) ++ rest, ap (roundsAfter S G M E) {y = suc t + n} (omega arith) ∙ e ∙ ap (λ x. x ++ rest) (sym (rounds-suc t)) ∙ append-assoc (roundsAfter S G M E t) (laid d (p ok t)) rest)
+
+  rounds-long : (t : ℕ) → length (roundsAfter S G M E t) ≡ 3 * t * d
+  unfolding roundsAfter
+  rounds-long t = flat-length d (3 * t) _
+
+  -- the polynomial of round t + 1 in the table of all rounds
+  pub round-part : (t : ℕ) → t < L → take (3 * d) (drop (3 * t * d) (roundsAfter S G M E L)) ≡ laid d (p ok t)
+  round-part t l =
+      let (rest, e) = rounds-front (L - suc t) (suc t) in
+      ap (λ x. take (3 * d) (drop (3 * t * d) x))
+      (ap (roundsAfter S G M E) {y = suc t + (L - suc t)} (omega arith) ∙ e ∙ ap (λ x. x ++ rest) (sym (rounds-suc t)) ∙ append-assoc (roundsAfter S G M E t) (laid d (p ok t)) rest)
+      ∙ ap (take (3 * d)) (drop-at (roundsAfter S G M E t) (laid d (p ok t) ++ rest) (3 * t * d) (rounds-long t))
+      ∙ take-at (laid d (p ok t)) rest (3 * d) (slice-long ok t l)
 
   -- ---- the steps
 

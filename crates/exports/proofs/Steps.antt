@@ -30,7 +30,8 @@ use Rattle.claims.proofs.Honest.{Given, modulus-positive}
 use Rattle.claims.proofs.Ranges.{commitment-below, round-below, last-length}
 use Rattle.claims.proofs.Prover.{commit-answer, round-answer, end-answer}
 use Rattle.claims.proofs.Sessions.{sessionAfter, start-answer, move-answer, close-answer}
-use Rattle.slices.specs.Slices.{lent, polynomialOf, laid, verdictNumber}
+use Rattle.slices.specs.Slices.{lent, polynomialOf, laid}
+use Rattle.protocol.specs.Session.{verdictNumber}
 use Rattle.slices.proofs.Laws.{element-back, whole-back, polynomial-there}
 use Rattle.sessions.specs.Records.{recordWidth, sessionOf, flagged, numbersOf, recordStored}
 use Rattle.sessions.specs.Promises.{startNumber, startExit, moveNumber, moveExit, moveVerdict, polynomialFits, roundOn, lastFits, endOn}

@@ -20,13 +20,14 @@
 use mathlib.Core.Path.{_≡_}
 use mathlib.Core.Logic.{_≢_}
 use mathlib.Core.List.{List, [], _∷_, _++_, map}
-use Prim.Native.Nat.{ℕ, _+_, _*_, _≤_}
-use lib.ListN.{length, getD, replicate}
+use Prim.Native.Nat.{ℕ, _+_, _*_, _<_, _≤_}
+use lib.ListN.{length, getD, take, drop, replicate}
 use lib.IntN.{ℤ, pos, _*ℤ_}
 use Rattle.protocol.specs.declared.Settings.{Settings}
 use Rattle.protocol.specs.Basic.{granted}
 use Rattle.protocol.specs.Inputs.{Valid, Below, Within}
 use Rattle.protocol.specs.Settings.{cells}
+use Rattle.protocol.specs.Opening.{messageAfter, keyAfter}
 use Rattle.protocol.specs.Tree.{rootVector, growth, growthLimit}
 use Rattle.protocol.specs.Judge.{slack, Opens}
 use Rattle.protocol.specs.Calls.{foldRefusal, foldKeyExit, foldMessageExit}
@@ -242,9 +243,12 @@ module _ (S : Settings) (G : List ℕ) (M : List ℤ) (E rounds C : List ℕ) (F
     pub same-key : st .held .key ≡ Border.openKeyExit S G M E rounds C F
     pub copy-kept : st .held .copy ≡ G
 
+  -- part t of the table of rounds is what the prover's round writes in round t + 1, whatever stood in its slice: so a session's round takes that part
   pub record OpeningClaim : Type 0 where
     pub not-refused : Border.openNumber S G M E rounds C F ≡ 0
     pub says-accepted : Border.openVerdict S G M E rounds C F ≡ 2
+    pub one-layout : (t : ℕ) → t < S .depth → (p : List ℕ) → length p ≡ 3 * S .degree
+        → take (3 * S .degree) (drop (3 * t * S .degree) (Border.openRoundsExit S G M E rounds C F)) ≡ Border.roundExit S t (keyAfter S E t G) (messageAfter S E t M) p
     pub by-moves : (r c p : List ℕ) (f : List ℤ) → Lengths S r c p f → (st : State) → Run S E (moves (S .depth)) (begun M G r c p f) st → SameAsWhole st
 
 -- ════ a tree

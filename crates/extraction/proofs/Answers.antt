@@ -40,7 +40,13 @@ module _ (S : Settings) (C key rounds E : List ℕ) (finals w : List ℤ) where
 
   pub extractable : extractRefusal S C key rounds E finals w ≡ 0 → Extractable S E finals
   unfolding path leaf signedAt
-  extractable z = record { valid = g .settings; challenges = g .tree .challenges-below; different = g .tree .different; within = record { long = g .tree .finals-long; each = small }; limited = g .room }
+  extractable z = record {
+    valid = g .settings;
+    challenges = g .tree .challenges-below;
+    different = g .tree .different;
+    within = record { long = g .tree .finals-long; each = small };
+    limited = g .room;
+  }
     where
       g : ExtractGiven S C key rounds E finals w
       g = extract-given S C key rounds E finals w z

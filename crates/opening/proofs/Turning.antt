@@ -7,6 +7,7 @@ use native.Mathlib.Omega.{arith}
 use lib.IntN.{ℤ}
 use lib.ListN.{length, getD}
 use Rattle.protocol.specs.declared.Settings.{Settings}
+use Rattle.protocol.specs.Layout.{polynomialCells, polynomialAt, roundCells}
 use Rattle.protocol.specs.Opening.{keyAfter, messageAfter}
 use Rattle.protocol.specs.Calls.{openingRefusal, roundAnswer, polynomial, foldKeyExit, foldMessageExit}
 use Rattle.protocol.specs.Session.{part}

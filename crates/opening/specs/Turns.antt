@@ -18,7 +18,7 @@ use lib.IntN.{ℤ}
 use lib.ListN.{getD, take, drop}
 use Rattle.protocol.specs.declared.Settings.{Settings}
 use Rattle.protocol.specs.Basic.{every}
-use Rattle.protocol.specs.Layout.{polynomialAt}
+use Rattle.protocol.specs.Layout.{polynomialAt, polynomialCells}
 use Rattle.protocol.specs.Element.{residue, padded}
 use Rattle.protocol.specs.Opening.{keyAfter, messageAfter, roundTable}
 use Rattle.protocol.specs.Transcript.{roundHolds, nextClaim, claimAfter, holdsAt, transcriptOf}

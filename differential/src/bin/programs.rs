@@ -124,7 +124,7 @@ impl Run {
         });
         *self.counts.entry((program, kind.into_owned())).or_default() += 1;
         let shorter = |d: &Difference| text.len() < d.text.len();
-        if printed != wanted && self.smallest.as_ref().map_or(true, shorter) {
+        if printed != wanted && self.smallest.as_ref().is_none_or(shorter) {
             let (text, printed) = (text.to_vec(), printed.clone());
             self.smallest = Some(Difference {
                 program,

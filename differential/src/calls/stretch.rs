@@ -45,6 +45,6 @@ fn many_digits(random: &mut Random, lines: &mut [Vec<u8>]) {
     let place = random.below(lines.len());
     let line = &mut lines[place];
     let at = random.below(line.len().max(1));
-    let digit = random.pick(&[b'0', b'1', b'9']);
+    let digit = random.pick(b"019");
     line.splice(at..at, vec![digit; 60_000]);
 }

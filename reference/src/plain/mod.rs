@@ -15,18 +15,33 @@ pub use relaxed::{extract, judge};
 pub use text::{look, prove, read, verify, write};
 pub use verifier::{check, check_cause, session_end, session_round, session_start};
 
-use crate::refuse::Shape;
 use crate::types::{Residues, Settings, PLACES};
 use ring::Element;
 
-/// The sizes of settings that are not refused.
+/// Settings that are not refused, with what follows from them.
+struct Shape {
+    d: usize,
+    l: usize,
+    /// Elements of a table.
+    n: usize,
+    q: u32,
+    b: i128,
+    /// Leaves of a tree.
+    leaves: usize,
+    /// Branching nodes of a tree, all that come before its first leaf.
+    nodes: usize,
+}
+
 fn shape(s: Settings) -> Shape {
+    let level = |i: u32| 3usize.pow(i);
     Shape {
         d: s.degree as usize,
         l: s.depth as usize,
         n: 2usize.pow(s.depth),
         q: s.modulus,
-        b: i64::from(s.bound),
+        b: i128::from(s.bound),
+        leaves: level(s.depth),
+        nodes: (0..s.depth).map(level).sum(),
     }
 }
 

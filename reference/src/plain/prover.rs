@@ -2,8 +2,7 @@
 
 use super::ring::{add, element, elements, half_power, inner_product, reduce, rotate, scale};
 use super::ring::{zero, Element};
-use super::{by_value, refusals, shape, verifier};
-use crate::refuse::Shape;
+use super::{by_value, refusals, shape, verifier, Shape};
 use crate::types::*;
 
 /// Call 1: the sum of m_i·G_i modulo q.

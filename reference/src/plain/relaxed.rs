@@ -3,8 +3,7 @@
 use super::ring::{add, doubled_inverse, element, elements, inner_product, multiply, power};
 use super::ring::{reduce, rotate, scale, zero, Element};
 use super::verifier::transcript_cause;
-use super::{refusals, shape};
-use crate::refuse::Shape;
+use super::{refusals, shape, Shape};
 use crate::types::*;
 
 /// Call 10: whether w opens c times the commitment within the bound.
@@ -22,7 +21,7 @@ pub fn judge(s: Settings, commitment: Residues, c: u32, key: &[u32], w: &[i64]) 
 
 /// (12·d²)^L·B.
 fn vector_bound(shape: &Shape) -> i128 {
-    (12 * (shape.d * shape.d) as i128).pow(shape.l as u32) * i128::from(shape.b)
+    (12 * (shape.d * shape.d) as i128).pow(shape.l as u32) * shape.b
 }
 
 fn opens(shape: &Shape, commitment: &Residues, c: u32, key: &[u32], w: &[i64]) -> bool {
@@ -57,7 +56,7 @@ pub fn extract(
         let tree = Tree::new(&shape, rounds, challenges, leaves);
         let commitment = element(&commitment[..shape.d]);
         let key = elements(key, shape.d);
-        (0..shape.leaves()).any(|leaf| !tree.path_accepted(&commitment, &key, leaf))
+        (0..shape.leaves).any(|leaf| !tree.path_accepted(&commitment, &key, leaf))
     };
     let number = refusals::extract(&lent, &rejected);
     if number == 0 {
@@ -92,7 +91,7 @@ impl<'a> Tree<'a> {
     /// 2) of the challenge taken there.
     fn path(&self, leaf: usize) -> Vec<(usize, usize)> {
         let mut steps = Vec::new();
-        let mut node = self.shape.nodes() + leaf;
+        let mut node = self.shape.nodes + leaf;
         while node != 0 {
             let parent = (node - 1) / 3;
             steps.push((parent, node - (3 * parent + 1)));
@@ -118,7 +117,7 @@ impl<'a> Tree<'a> {
     /// The vector of a node with `depth` rounds below it.
     fn vector(&self, node: usize, depth: usize) -> Vec<Element> {
         if depth == 0 {
-            return vec![self.leaves[node - self.shape.nodes()].clone()];
+            return vec![self.leaves[node - self.shape.nodes].clone()];
         }
         let r: Vec<usize> = (0..3)
             .map(|j| self.challenges[3 * node + j] as usize)

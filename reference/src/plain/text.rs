@@ -1,8 +1,7 @@
 //! Text tables: reader, writer, and the two programs as calls on text.
 
 use super::refusals::{self, first};
-use super::{check, shape, whole_opening};
-use crate::refuse::Shape;
+use super::{check, shape, whole_opening, Shape};
 use crate::types::*;
 
 /// What is asked for, or the number of a refusal.

@@ -2,8 +2,7 @@
 
 use super::prover::folded_key;
 use super::ring::{add, element, elements, half_power, multiply, reduce, rotate, scale, Element};
-use super::{by_value, refusals, shape};
-use crate::refuse::Shape;
+use super::{by_value, refusals, shape, Shape};
 use crate::types::*;
 
 /// Whether 2·(c0+c2) equals the claim.
@@ -26,7 +25,7 @@ fn end_cause(
     final_element: &Element,
     key: &[Element],
 ) -> Option<Cause> {
-    let bound = i128::from(shape.final_bound());
+    let bound = shape.n as i128 * shape.b;
     if final_element.iter().any(|x| x.abs() > bound) {
         return Some(Cause::Bound);
     }

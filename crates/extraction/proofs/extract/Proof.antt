@@ -8,7 +8,8 @@ use Rattle.extraction.proofs.Answers.{tree-joined, refused, extracted, 
 use Rattle.extraction.proofs.extract.Statement.{statement}
 use Rattle.extraction.proofs.extract.Tie as tie
 
-given : (c : tie.Else1) → let a = c .before .before .before .before .before .before .args in TreeGiven (a .settings) (a .commitment) (a .key .now) (a .rounds .now) (a .challenges .now) (a .leaves .now) (a .w .now)
+given : (c : tie.Else1) → let a = c .before .before .before .before .before .before .args in
+    TreeGiven (a .settings) (a .commitment) (a .key .now) (a .rounds .now) (a .challenges .now) (a .leaves .now) (a .w .now)
 given c = tree-given _ _ _ _ _ _ _ (sym (c .before .extract .ensures) ∙ c .if1 .left)
 
 -- 13 and 14 after the others

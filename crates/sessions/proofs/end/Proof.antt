@@ -83,7 +83,9 @@ returns-3 c =
     let long = eqb-true _ _ (and-split (sym (both .ensures) ∙ lent-fits (loaded .result .settings) _ passed) .0) in
     let element = at-wholes .wholes .ensures (lent-degree (loaded .result .settings) _ passed) long in
     move-made _ _ (a .session .now) (at-if1 .if1 .left) _ (refusal .ensures ∙ lengths) nothing _ _ _ _
-    (at-end .end .ensures .0 ∙ ap (λ f. close (loaded .result) f (a .key .now)) element ∙ ap (λ (s : Session). close s (paddedSigned (s .settings .degree) (a .last .now)) (a .key .now)) (loaded .ensures))
+    (at-end .end .ensures .0
+    ∙ ap (λ f. close (loaded .result) f (a .key .now)) element
+    ∙ ap (λ (s : Session). close s (paddedSigned (s .settings .degree) (a .last .now)) (a .key .now)) (loaded .ensures))
     (at-answer .answer .ensures)
 
 pub end-spec : {M : Type 1} → statement M

@@ -48,7 +48,8 @@ loop-again : tie.Need-loop-again Inv-loop μ-loop
 loop-again c =
     let l = c .before .loop in
     let a = c .before .before .args in
-    (omega arith, omega arith, omega arith, ap (λ t. set t (a .at + l .k) (getD (a .t2) (l .k) 0)) (l .inv .3) ∙ spliced-more (λ (j : ℕ). getD (a .t2) j 0) (a .at) (l .k) (a .out .now) (omega arith) (omega arith))
+    let written = ap (λ t. set t (a .at + l .k) (getD (a .t2) (l .k) 0)) (l .inv .3) in
+    (omega arith, omega arith, omega arith, written ∙ spliced-more (λ (j : ℕ). getD (a .t2) j 0) (a .at) (l .k) (a .out .now) (omega arith) (omega arith))
 
 same-length : tie.Need-same-length Inv-loop μ-loop
 same-length c = long (c .before)

@@ -1,5 +1,5 @@
 use mathlib.Core.Path.{ap, _∙_}
-use mathlib.Core.List.{[]}
+use mathlib.Core.List.{List, []}
 use Prim.Native.Nat.{ℕ, _+_, _*_}
 use native.Mathlib.Omega.{arith}
 use borrow.Author.Needs.{needs}
@@ -25,15 +25,16 @@ returns-3 c = λ g. absurd (omega (arith, g .inside, c .before .polynomial-at .e
 returns-4 : tie.Need-returns-4
 unfolding storedRound part
 returns-4 c = λ g.
-    let e0 = c .before .before .before .before .before .before .before .before .before .before .before .before in
+    let e1 = c .before .before .before .before .before .before .before in
+    let e0 = e1 .before .before .before .before .before in
     let at = e0 .before .before .before .before in
     let b = at .before .before .before .before in
     let p = b .args .t3 in
     let d = b .args .d in
+    let stored : ℕ → ℕ → List ℕ → List ℕ = λ j n l. spliced (λ (k : ℕ). getD (getD p j []) k 0) n d l in
     c .before .before .store-element3 .ensures
-    ∙ ap (spliced (λ (k : ℕ). getD (getD p 2 []) k 0) (at .polynomial-at .result + 2 * d) d)
-    (c .before .before .before .before .before .before .before .store-element2 .ensures ∙ ap (spliced (λ (k : ℕ). getD (getD p 1 []) k 0) (at .polynomial-at .result + d) d) (e0 .store-element .ensures))
-    ∙ ap (λ n. spliced (λ (k : ℕ). getD (getD p 2 []) k 0) (n + 2 * d) d (spliced (λ (k : ℕ). getD (getD p 1 []) k 0) (n + d) d (spliced (λ (k : ℕ). getD (getD p 0 []) k 0) n d (b .args .out .now)))) (at .polynomial-at .ensures .0 (g .degree-most) (omega arith))
+    ∙ ap (stored 2 (at .polynomial-at .result + 2 * d)) (e1 .store-element2 .ensures ∙ ap (stored 1 (at .polynomial-at .result + d)) (e0 .store-element .ensures))
+    ∙ ap (λ n. stored 2 (n + 2 * d) (stored 1 (n + d) (stored 0 n (b .args .out .now)))) (at .polynomial-at .ensures .0 (g .degree-most) (omega arith))
 
 pub store-round-spec : {M : Type 1} → statement M
 store-round-spec =

@@ -20,10 +20,18 @@ returns c =
     let c10 = c .before .before .before .before in
     let c8 = c10 .before .before .before in
     let e2 = c8 .before in
-    let c6 = e2 .before .before .before .before in
+    let e1 = e2 .before in
+    let e0 = e1 .before in
+    let e = e0 .before in
+    let c6 = e .before in
     let small : (c6 .settings-refusal .result ≡ 0) → _ = λ z. degree-most _ (settings-valid _ (allowed c6 z)) in
     sym (first-known _ _ (c6 .settings-refusal .ensures)
-    ∙ first-tested _ _ (c8 .refuse .ensures) (λ z. rw (e2 .before .before .before .element-below .ensures (small z), e2 .before .before .element-below2 .ensures (small z), e2 .before .element-below3 .ensures (small z), e2 .element-below4 .ensures (small z)))
+    ∙ first-tested _ _ (c8 .refuse .ensures) (λ z. rw (
+      e .element-below .ensures (small z),
+      e0 .element-below2 .ensures (small z),
+      e1 .element-below3 .ensures (small z),
+      e2 .element-below4 .ensures (small z),
+    ))
     ∙ first-tested _ _ (c10 .refuse2 .ensures) (λ z. rw (c10 .before .all-below .ensures, c6 .before .exponent-count .ensures (allowed c6 (tested-before (c8 .refuse .ensures) z))))
     ∙ first-tested _ _ (c .refuse3 .ensures) (λ z. refl)
     ∙ first-only _)

@@ -34,7 +34,11 @@ returns-2 c =
     let ok = allowed c6 (tested-before (c7 .refuse .ensures) (no .if1 .left)) in
     sym (first-known _ _ (c6 .settings-refusal .ensures)
     ∙ first-tested _ _ (c7 .refuse .ensures) (λ z. rw (rounds .before .cells .ensures (allowed c6 z), rounds .round-cells .ensures (allowed c6 z)))
-    ∙ first-tested _ _ (c8 .refuse2 .ensures) (λ z. rw (c8 .before .before .before .all-below .ensures, c8 .before .before .element-below .ensures (degree-most _ (settings-valid _ ok)), c8 .before .all-below2 .ensures))
+    ∙ first-tested _ _ (c8 .refuse2 .ensures) (λ z. rw (
+      c8 .before .before .before .all-below .ensures,
+      c8 .before .before .element-below .ensures (degree-most _ (settings-valid _ ok)),
+      c8 .before .all-below2 .ensures,
+    ))
     ∙ first-tested _ _ (c .refuse3 .ensures) (λ z. rw (c .before .all-below3 .ensures, c .before .before .exponent-count .ensures ok))
     ∙ first-only _)
 

@@ -20,9 +20,15 @@ unfolding sized
 lengths c =
     let s = c .before in
     let c6 = s .before .before .before in
+    let allowed : (c6 .settings-refusal .result ≡ 0) → _ = λ z. sym (c6 .settings-refusal .ensures) ∙ z in
     record {
       is = sym (first-known _ _ (c6 .settings-refusal .ensures)
-          ∙ first-tested _ _ (c .refuse .ensures) (λ z. let ok = sym (c6 .settings-refusal .ensures) ∙ z in rw (c6 .before .cells .ensures ok, s .before .before .tree-round-cells .ensures ok, s .before .tree-challenges .ensures .0 ok, s .leaf-cells .ensures ok))
+          ∙ first-tested _ _ (c .refuse .ensures) (λ z. rw (
+            c6 .before .cells .ensures (allowed z),
+            s .before .before .tree-round-cells .ensures (allowed z),
+            s .before .tree-challenges .ensures .0 (allowed z),
+            s .leaf-cells .ensures (allowed z),
+          ))
           ∙ first-only _);
     }
 
@@ -44,7 +50,11 @@ returns-2 c =
     let no = c8 .before .before .before .before in
     let ok = tested-before (lengths (no .before)) (no .if1 .left) in
     sym (first-tested _ _ (lengths (no .before)) (λ z. refl)
-    ∙ first-tested _ _ (c8 .refuse2 .ensures) (λ z. rw (c8 .before .before .before .all-below .ensures, c8 .before .before .element-below .ensures (degree-most _ (settings-valid _ ok)), c8 .before .all-below2 .ensures))
+    ∙ first-tested _ _ (c8 .refuse2 .ensures) (λ z. rw (
+      c8 .before .before .before .all-below .ensures,
+      c8 .before .before .element-below .ensures (degree-most _ (settings-valid _ ok)),
+      c8 .before .all-below2 .ensures,
+    ))
     ∙ first-tested _ _ (c10 .refuse3 .ensures) (λ z. rw (c10 .before .all-below3 .ensures, c10 .before .before .exponent-count .ensures ok))
     ∙ first-tested _ _ (c .refuse4 .ensures) (λ z. rw (c .before .all-differ .ensures, c .before .before .nodes .ensures .0 ok))
     ∙ first-only _)
