@@ -11,7 +11,7 @@ ghost use Rattle.protocol.specs.Text.{fits, linesOf, settingsIn, lookRefusal};
 ghost use Rattle.protocol.specs.Programs.{proveReads, provePrints, proveOutput};
 ghost use Rattle.protocol.specs.Promises.{Proved};
 ghost use Rattle.shapes.specs.Parts.{six};
-ghost use Rattle.writing.specs.Shown.{Shown};
+ghost use Rattle.writing.specs.Shown.{Shown, Within};
 ghost use Rattle.proving.specs.Printed.{Openable, Printed};
 
 // The parts that the program reads, and those that it prints.
@@ -156,7 +156,8 @@ pub fn prove(text: &[u8], out: &mut [u8]) -> Written
 
 // What the program prints, at the front of a slice that has room for it.
 pub fn print(text: &[u8], out: &mut [u8]) -> usize
-    ensures { λ r. ⌜ Shown (proveOutput (now (text .entry))) (now (out .entry)) r (now (out .exit)) ⌝ }
+    ensures output { λ r. ⌜ Shown (proveOutput (now (text .entry))) (now (out .entry)) r (now (out .exit)) ⌝ }
+    ensures within { λ r. ⌜ Within r (now (out .exit)) ⌝ }
 {
     let mut listing = [0u8; 65536];
     let written = prove(text, &mut listing);

@@ -13,7 +13,7 @@ ghost use Rattle.protocol.specs.Basic.{choose};
 ghost use Rattle.protocol.specs.Text.{fits, linesOf, settingsIn, lookRefusal};
 ghost use Rattle.protocol.specs.Programs.{verifyReads, tablesAccepted, verifyAnswer, checked, verifyGives, verdictLine, verifyOutput};
 ghost use Rattle.shapes.specs.Parts.{six};
-ghost use Rattle.writing.specs.Shown.{Shown};
+ghost use Rattle.writing.specs.Shown.{Shown, Within};
 ghost use Rattle.verifying.specs.Given.{Given};
 
 // The parts that the program reads.
@@ -149,7 +149,8 @@ fn show_verdict(answer: Verified, out: &mut [u8]) -> usize
 
 // What the program prints, at the front of a slice that has room for it. A line has at most 19 bytes.
 pub fn print(text: &[u8], out: &mut [u8]) -> usize
-    ensures { λ r. ⌜ Shown (verifyOutput (now (text .entry))) (now (out .entry)) r (now (out .exit)) ⌝ }
+    ensures output { λ r. ⌜ Shown (verifyOutput (now (text .entry))) (now (out .entry)) r (now (out .exit)) ⌝ }
+    ensures within { λ r. ⌜ Within r (now (out .exit)) ⌝ }
 {
     show_verdict(verify(text), out)
 }

@@ -2,7 +2,7 @@
 --
 --   shown-all, shown-none   there is room for them, and there is not
 --   shown-as                bytes that are others
---   shown-within            what was put lies within the slice
+--   shown-told              what was put stands at the front of the slice
 use mathlib.Core.Path.{_≡_, sym, ap, subst, _∙_}
 use mathlib.Core.Bool.{Bool, true, false}
 use mathlib.Core.List.{List, _++_}
@@ -11,8 +11,9 @@ use native.Mathlib.Omega.{arith}
 use borrow.Author.Tests.{le-leb, lt-leb}
 use lib.Dec.{leb}
 use lib.ListN.{length, drop, length-append}
+use lib.Seq.{length-take-le}
 use Rattle.protocol.specs.Basic.{choose}
-use Rattle.writing.specs.Shown.{Shown}
+use Rattle.writing.specs.Shown.{Shown, Within}
 
 pub shown-all : (bytes out out′ : List ℕ) → length bytes ≤ length out → out′ ≡ bytes ++ drop (length bytes) out → Shown bytes out (length bytes) out′
 unfolding choose
@@ -36,5 +37,8 @@ unfolding choose
 counted true bytes out = omega (arith, length-append bytes (drop (length bytes) out))
 counted false bytes out = omega arith
 
-pub shown-within : {bytes out out′ : List ℕ} {r : ℕ} → Shown bytes out r out′ → r ≤ length out′
-shown-within {bytes} {out} {out′} {r} p = omega (arith, p .count, ap length (p .out-exit), counted (leb (length bytes) (length out)) bytes out)
+within : {bytes out out′ : List ℕ} {r : ℕ} → Shown bytes out r out′ → r ≤ length out′
+within {bytes} {out} {out′} {r} p = omega (arith, p .count, ap length (p .out-exit), counted (leb (length bytes) (length out)) bytes out)
+
+pub shown-told : {bytes out out′ : List ℕ} {r : ℕ} → Shown bytes out r out′ → Shown bytes out r out′ × Within r out′
+shown-told {out′ = out′} {r = r} p = (p, (within p, sym (length-take-le r out′ (within p))))

@@ -5,7 +5,7 @@ use borrow.Author.Needs.{needs}
 use lib.ListN.{length}
 use lib.Seq.{length-take-le}
 use Rattle.protocol.specs.Text.{textLimit}
-use Rattle.writing.proofs.Shows.{shown-as}
+use Rattle.writing.proofs.Shows.{shown-as, shown-told}
 use Rattle.proving.proofs.Output.{prints-refusal, listing-within, prints-listing}
 use Rattle.proving.proofs.print.Statement.{statement}
 use Rattle.proving.proofs.print.Tie as tie
@@ -32,7 +32,7 @@ returns c =
     let s = c .before .before in
     let t = s .before .before in
     let p = t .before .before in
-    shown-as (prints-refusal _ _ _ (p .prove .result) (p .prove .ensures) (search needs) (t .if1 .taken)) (s .show-refusal .ensures)
+    shown-told (shown-as (prints-refusal _ _ _ (p .prove .result) (p .prove .ensures) (search needs) (t .if1 .taken)) (s .show-refusal .ensures))
 
 array-share-prefix-listing : tie.Need-array-share-prefix-listing
 array-share-prefix-listing c = within c
@@ -52,7 +52,7 @@ returns-2 c =
     let s = c .before .before in
     let e = s .before .before .before in
     let p = e .before .before in
-    shown-as (prints-listing _ _ _ (p .prove .result) (p .prove .ensures) (search needs) (e .if1 .left)) (s .show .ensures)
+    shown-told (shown-as (prints-listing _ _ _ (p .prove .result) (p .prove .ensures) (search needs) (e .if1 .left)) (s .show .ensures))
 
 pub print-spec : {M : Type 1} → statement M
 print-spec =
