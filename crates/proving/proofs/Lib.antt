@@ -1,2 +1,3 @@
 pub mod Honest
 pub mod Proves
+pub mod Output

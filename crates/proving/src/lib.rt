@@ -8,9 +8,10 @@ ghost use mathlib.Core.List.{[]};
 ghost use Prim.Native.Nat.{_*_, _≤_};
 ghost use lib.ListN.{length};
 ghost use Rattle.protocol.specs.Text.{fits, linesOf, settingsIn, lookRefusal};
-ghost use Rattle.protocol.specs.Programs.{proveReads, provePrints};
+ghost use Rattle.protocol.specs.Programs.{proveReads, provePrints, proveOutput};
 ghost use Rattle.protocol.specs.Promises.{Proved};
 ghost use Rattle.shapes.specs.Parts.{six};
+ghost use Rattle.writing.specs.Shown.{Shown, Within};
 ghost use Rattle.proving.specs.Printed.{Openable, Printed};
 
 // The parts that the program reads, and those that it prints.
@@ -151,4 +152,19 @@ pub fn prove(text: &[u8], out: &mut [u8]) -> Written
         &mut rounds,
         out,
     )
+}
+
+// What the program prints, at the front of a slice that has room for it.
+pub fn print(text: &[u8], out: &mut [u8]) -> usize
+    ensures output { λ r. ⌜ Shown (proveOutput (now (text .entry))) (now (out .entry)) r (now (out .exit)) ⌝ }
+    ensures within { λ r. ⌜ Within r (now (out .exit)) ⌝ }
+{
+    let mut listing = [0u8; 65536];
+    let written = prove(text, &mut listing);
+    let number = written.number;
+    if number != 0 {
+        return writing::show_refusal(number, out);
+    }
+    let count = written.count;
+    writing::show(&listing[..count], out)
 }

@@ -1,24 +1,17 @@
 // The program `verify`: reads a text from standard input and prints one line, what the verifier says of it.
-use protocol::Verified;
-
-fn refused(number: u32) {
-    io::write_all(1, b"refused ");
-    io::print_decimal(1, number as u64);
-    io::write_all(1, b"\n");
-}
 
 // One byte more than the longest text has is read, so that a longer one is seen to be longer.
 fn main() {
     let mut text = [0u8; 65537];
-    let n = io::read_full(0, &mut text);
-    let answer = verifying::verify(&text[..n]);
-    match answer {
-        Verified::Accepted => {
-            io::write_all(1, b"accepted\n");
-        }
-        Verified::Rejected => {
-            io::write_all(1, b"rejected\n");
-        }
-        Verified::Refused(number) => refused(number),
+    let input = streams::read(&mut text);
+    if input.failed {
+        io::write_all(2, b"verify: cannot read standard input\n");
+        return;
+    }
+    let n = input.count;
+    let mut out = [0u8; 19];
+    let count = verifying::print(&text[..n], &mut out);
+    if !io::write_all(1, &out[..count]) {
+        io::write_all(2, b"verify: cannot write standard output\n");
     }
 }

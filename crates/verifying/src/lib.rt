@@ -11,8 +11,9 @@ ghost use Prim.Native.Nat.{_≤_};
 ghost use lib.ListN.{length};
 ghost use Rattle.protocol.specs.Basic.{choose};
 ghost use Rattle.protocol.specs.Text.{fits, linesOf, settingsIn, lookRefusal};
-ghost use Rattle.protocol.specs.Programs.{verifyReads, tablesAccepted, verifyAnswer, checked, verifyGives};
+ghost use Rattle.protocol.specs.Programs.{verifyReads, tablesAccepted, verifyAnswer, checked, verifyGives, verdictLine, verifyOutput};
 ghost use Rattle.shapes.specs.Parts.{six};
+ghost use Rattle.writing.specs.Shown.{Shown, Within};
 ghost use Rattle.verifying.specs.Given.{Given};
 
 // The parts that the program reads.
@@ -133,4 +134,23 @@ pub fn verify(text: &[u8]) -> Verified
         &mut challenges,
         &mut last,
     )
+}
+
+// The line for an answer.
+fn show_verdict(answer: Verified, out: &mut [u8]) -> usize
+    ensures { λ r. ⌜ Shown (verdictLine answer) (now (out .entry)) r (now (out .exit)) ⌝ }
+{
+    match answer {
+        Verified::Accepted => writing::show(b"accepted\n", out),
+        Verified::Rejected => writing::show(b"rejected\n", out),
+        Verified::Refused(number) => writing::show_refusal(number, out),
+    }
+}
+
+// What the program prints, at the front of a slice that has room for it. A line has at most 19 bytes.
+pub fn print(text: &[u8], out: &mut [u8]) -> usize
+    ensures output { λ r. ⌜ Shown (verifyOutput (now (text .entry))) (now (out .entry)) r (now (out .exit)) ⌝ }
+    ensures within { λ r. ⌜ Within r (now (out .exit)) ⌝ }
+{
+    show_verdict(verify(text), out)
 }

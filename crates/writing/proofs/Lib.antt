@@ -5,3 +5,4 @@ pub mod PartTexts
 pub mod WholeText
 pub mod Entries
 pub mod Answers
+pub mod Shows

@@ -4,7 +4,10 @@ mod lines;
 mod numbers;
 mod parts;
 mod refusal;
+mod shown;
 mod text;
 mod whole;
 
+pub use shown::show;
+pub use shown::show_refusal;
 pub use whole::write;

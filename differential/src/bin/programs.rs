@@ -7,7 +7,7 @@
 //! valid and damaged, and a few of the largest sizes. What `prove` prints
 //! goes to `verify` with the key, which must accept it. A difference prints
 //! the shortest text that shows it, and every run must leave with status 0.
-//! Then input and output misbehave: closed, endless, one byte at a time, a full
+//! Then input and output misbehave: closed, a folder, stopped in the middle, endless, one byte at a time, a full
 //! disk, a disk that is full in the middle of a listing, a narrow pipe, a pipe
 //! that nobody reads. Every answer that a program can give must come up.
 
@@ -229,20 +229,29 @@ fn fault(folder: &Path, work: &Path, line: &str) -> String {
 
 /// Each line with what it must print. NAME is a program, and the file NAME.in a text that `prove` makes a listing of and `verify` accepts.
 const FAULTS: &[(&str, &str)] = &[
-    ("timeout 10 \"$P/NAME\" <&-; echo $?", "refused 2\n0\n"),
+    // A failed read is said and has no answer: closed input, and a folder.
+    ("timeout 10 \"$P/NAME\" <&- 2>said; echo $?; cat said", "0\nNAME: cannot read standard input\n"),
+    ("timeout 10 \"$P/NAME\" <. 2>said; echo $?; cat said", "0\nNAME: cannot read standard input\n"),
+    // A program that is stopped in the middle of a read and goes on reads on.
+    (
+        "rm -f slow; mkfifo slow; \"$P/NAME\" <slow >got 2>said & p=$!; exec 3>slow; head -c 100 NAME.in >&3; sleep 0.1; kill -STOP $p; sleep 0.1; kill -CONT $p; sleep 0.1; tail -c +101 NAME.in >&3; exec 3>&-; wait $p; echo $?; cat said; cmp got NAME.out && echo all",
+        "0\nall\n",
+    ),
     ("timeout 10 \"$P/NAME\" </dev/null; echo $?", "refused 2\n0\n"),
     ("yes | timeout 10 \"$P/NAME\"; echo $?", "refused 1\n0\n"),
     ("printf 'part item' | timeout 10 \"$P/NAME\"; echo $?", "refused 2\n0\n"),
     ("(printf 'part item '; sleep 0.1; printf 'place value\\n'; sleep 0.1; printf '0 0 0 3\\n0 0 1 1\\n0 0 2 17\\n0 0 3 1\\n') | timeout 10 \"$P/NAME\"; echo $?", "refused 3\n0\n"),
-    // A full disk and a closed output: the program gives up and ends.
-    ("timeout 10 \"$P/NAME\" </dev/null >/dev/full; echo $?", "0\n"),
-    ("timeout 10 \"$P/NAME\" <NAME.in >/dev/full; echo $?", "0\n"),
-    ("timeout 10 \"$P/NAME\" <NAME.in >&-; echo $?", "0\n"),
+    // A full disk and a closed output: the program says so and ends.
+    ("timeout 10 \"$P/NAME\" </dev/null 2>said >/dev/full; echo $?; cat said", "0\nNAME: cannot write standard output\n"),
+    ("timeout 10 \"$P/NAME\" <NAME.in 2>said >/dev/full; echo $?; cat said", "0\nNAME: cannot write standard output\n"),
+    ("timeout 10 \"$P/NAME\" <NAME.in 2>said >&-; echo $?; cat said", "0\nNAME: cannot write standard output\n"),
+    // Nowhere to say it: the program ends all the same.
+    ("timeout 10 \"$P/NAME\" <NAME.in >&- 2>&-; echo $?", "0\n"),
     // A pipe that nobody reads any more: the signal ends the program (13), or the program gives up where the signal is ignored.
     ("(sleep 0.2; timeout 10 \"$P/NAME\" <NAME.in; echo $? >status) | true; cat status", "141\n"),
     ("(trap '' PIPE; sleep 0.2; timeout 10 \"$P/NAME\" <NAME.in; echo $? >status) | true; cat status", "0\n"),
     // A disk that becomes full in the middle of the output: what was written is the front of it.
-    ("(trap '' XFSZ; ulimit -f 1; timeout 10 \"$P/NAME\" <NAME.in >part; echo $?); cmp -n $(wc -c <part) part NAME.out && test -s part && echo front", "0\nfront\n"),
+    ("(trap '' XFSZ; ulimit -f 1; timeout 10 \"$P/NAME\" <NAME.in 2>/dev/null >part; echo $?); cmp -n $(wc -c <part) part NAME.out && test -s part && echo front", "0\nfront\n"),
     // A reader that is late.
     ("timeout 10 \"$P/NAME\" <NAME.in | (sleep 0.2; cmp - NAME.out) && echo all", "all\n"),
 ];
@@ -252,8 +261,9 @@ fn faults(folder: &Path, work: &Path) -> bool {
     for program in ["prove", "verify"] {
         for (line, wanted) in FAULTS {
             let line = line.replace("NAME", program);
+            let wanted = wanted.replace("NAME", program);
             let printed = fault(folder, work, &line);
-            if printed != *wanted {
+            if printed != wanted {
                 println!("{line}\nprints: {printed}\nwanted: {wanted}");
                 good = false;
             }

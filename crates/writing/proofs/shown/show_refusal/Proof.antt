@@ -1,0 +1,87 @@
+-- `show_refusal`: the line is made in a place of its own, of 19 bytes.
+use mathlib.Core.Path.{_≡_, sym, ap, _∙_}
+use mathlib.Core.List.{List, _++_}
+use Prim.Native.Nat.{ℕ, _≤_}
+use native.Mathlib.Omega.{arith}
+use borrow.Author.Needs.{needs}
+use lib.ListN.{length, take}
+use lib.Seq.{length-take-le, take-append-seam}
+use Rattle.protocol.specs.Text.{bytes}
+use Rattle.protocol.specs.Programs.{refusedLine}
+use Rattle.writing.specs.Put.{field, Put}
+use Rattle.writing.proofs.Digits.{digits-most, field-length}
+use Rattle.writing.proofs.Shows.{shown-as}
+use Rattle.writing.proofs.shown.show_refusal.Statement.{statement}
+use Rattle.writing.proofs.shown.show_refusal.Tie as tie
+
+fronted : (line rest : List ℕ) → line ≡ bytes "refused " ++ rest → take 8 line ≡ bytes "refused "
+unfolding bytes
+fronted line rest e = ap (take 8) e ∙ take-append-seam (bytes "refused ") rest
+
+-- the whole line
+module _ (c : tie.After-put-field) where
+  abbrev number : ℕ
+  number = c .before .before .before .before .before .before .before .args .number
+
+  abbrev before : List ℕ
+  before = c .before .before .before .copy .last .1 .0
+
+  abbrev after : List ℕ
+  after = c .put-field .last .1 .1 .1 .0
+
+  put : Put before 8 (field number 10) (c .put-field .result) after
+  put = c .put-field .ensures
+
+  within : c .put-field .result ≤ length after
+  within =
+      let same : length after ≡ 19 = search needs in
+      omega (arith, put .next, field-length number 10, digits-most number)
+
+  whole : take (c .put-field .result) after ≡ refusedLine number
+  unfolding refusedLine field bytes
+  whole = put .front ∙ ap (λ l. l ++ field number 10) (fronted before _ (c .before .before .before .copy .ensures))
+
+slice-aggregate-copy : tie.Need-slice-aggregate-copy
+slice-aggregate-copy c = search needs
+
+slice-aggregate-copy-2 : tie.Need-slice-aggregate-copy-2
+slice-aggregate-copy-2 c = search needs
+
+copy-requires : tie.Need-copy-requires
+copy-requires c κs = search needs
+
+slice-aggregate-put-field : tie.Need-slice-aggregate-put-field
+slice-aggregate-put-field c = search needs
+
+put-field-requires : tie.Need-put-field-requires
+put-field-requires c κs = search needs
+
+array-share-prefix-line : tie.Need-array-share-prefix-line
+array-share-prefix-line c = within (c .before)
+
+slice-aggregate-show : tie.Need-slice-aggregate-show
+slice-aggregate-show c = sym (length-take-le _ _ (within (c .before .before)))
+
+show-requires : tie.Need-show-requires
+show-requires c κs = search needs
+
+same-length : tie.Need-same-length
+same-length c = search needs
+
+returns : tie.Need-returns
+returns c = let s = c .before .before in shown-as (whole (s .before .before .before .before)) (s .show .ensures)
+
+pub show-refusal-spec : {M : Type 1} → statement M
+show-refusal-spec =
+    tie.close
+    (tie.spec
+    slice-aggregate-copy
+    slice-aggregate-copy-2
+    copy-requires
+    slice-aggregate-put-field
+    put-field-requires
+    array-share-prefix-line
+    slice-aggregate-show
+    show-requires
+    same-length
+    returns)
