@@ -1,4 +1,5 @@
--- The layout: how many elements, numbers, challenges and nodes there are, and which item of a table is which. No other file works out such a number.
+-- The layout: how many elements, numbers, challenges and nodes there are, and which item of a table is which: one name for each.
+-- The crate `sizes` gives the same in code.
 -- Tables are flat, d numbers to an element. A round polynomial is three elements, and a branching node has one round polynomial and three challenges.
 --
 --   size S, cells S             n = 2^L elements, and n·d numbers: a key, a message, the extractor's w
