@@ -25,7 +25,7 @@ stored E (suc t) = set (stored E t) t (getD E t 0)
 
 stored-length : (E : List ℕ) (t : ℕ) → length (stored E t) ≡ slots
 unfolding stored zeros
-stored-length E zero = length-replicate slots 0
+stored-length E zero = length-replicate {A = ℕ} slots 0
 stored-length E (suc t) = length-set (stored E t) t _ ∙ stored-length E t
 
 stored-at : (E : List ℕ) (t i : ℕ) → i < t → t ≤ slots → getD (stored E t) i 0 ≡ getD E i 0

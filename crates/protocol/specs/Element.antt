@@ -14,7 +14,7 @@
 --   residueAt d t i         element i of the flat table t of residues
 --   coefficients d a        the d coefficients of a
 --   reduced q d a           the d coefficients of a, modulo q
---   width                   how many places an element has that is passed by value
+--   width                   passed on from Layout
 --   zeros n, signedZeros n  n zeros
 --   padded, paddedSigned    an element that is passed by value: its coefficients, then zeros
 use mathlib.Core.List.{List, _++_}
@@ -22,6 +22,7 @@ use Prim.Native.Nat.{ℕ, zero, suc, _+_, _*_, _-_, _/_, _%_}
 use lib.ListN.{getD, replicate}
 use lib.IntN.{ℤ, pos, negsuc, negℤ, _+ℤ_, _*ℤ_}
 use Rattle.protocol.specs.Basic.{sum, tabulate}
+unfoldable pub use Rattle.protocol.specs.Layout.{width}
 
 -- PROTOCOL 1.2: place k has the coefficient of X^k
 abbrev pub Element : Type 0
@@ -79,9 +80,6 @@ coefficients d a = tabulate d a
 
 unfoldable pub reduced : ℕ → ℕ → Element → List ℕ
 reduced q d a = tabulate d (λ k. modulo q (a k))
-
-unfoldable pub width : ℕ
-width = 64
 
 unfoldable pub zeros : ℕ → List ℕ
 zeros n = replicate n 0

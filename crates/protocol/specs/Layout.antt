@@ -2,6 +2,8 @@
 -- The crate `sizes` gives the same in code.
 -- Tables are flat, d numbers to an element. A round polynomial is three elements, and a branching node has one round polynomial and three challenges.
 --
+--   width                       64: how many places an element has that is passed by value
+--   slots                       8: how many challenges a record holds, one for each round that there can be
 --   size S, cells S             n = 2^L elements, and n·d numbers: a key, a message, the extractor's w
 --   left S t, leftCells S t     the elements that are left after t rounds, n/2^t, and their numbers
 --   halfLeft S t                the elements of a half of what is left after t rounds
@@ -17,6 +19,16 @@
 --   itemOf k j                  3·k + j: c_j of round k + 1 among the elements of a transcript, c_j of node k among those of a tree, challenge j of node k
 use Prim.Native.Nat.{ℕ, _+_, _*_, _-_, _/_, _^_}
 use Rattle.protocol.specs.declared.Settings.{Settings}
+
+-- ---- what is passed by value
+
+-- PROTOCOL 8.1: the largest degree
+abbrev pub width : ℕ
+width = 64
+
+-- PROTOCOL 4.1
+abbrev pub slots : ℕ
+slots = 8
 
 -- ---- key and message
 

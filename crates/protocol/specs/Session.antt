@@ -25,13 +25,10 @@ use Rattle.protocol.specs.declared.Moved.{Moved}
 use Rattle.protocol.specs.declared.Verdict.{Verdict}
 use Rattle.protocol.specs.declared.Verdict.the-variants.{Silent, Holds, Accepted, Rejected}
 use Rattle.protocol.specs.Basic.{tabulate, choose, first, unless, granted}
+unfoldable pub use Rattle.protocol.specs.Layout.{slots}
 use Rattle.protocol.specs.Element.{width, zeros, padded, signed, residue}
 use Rattle.protocol.specs.Settings.{settingsRefusal, cells, sized, residues, residueElement, exponent, exponents}
 use Rattle.protocol.specs.Transcript.{roundHolds, nextClaim, finalBounded, endHolds}
-
--- PROTOCOL 4.1: one for each round that the largest depth has
-unfoldable pub slots : ℕ
-slots = 8
 
 -- what a verifier says of a transcript, or of its end
 unfoldable pub verdict : Bool → Verdict

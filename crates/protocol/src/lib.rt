@@ -1,4 +1,17 @@
-// The declared types of the public calls (PROTOCOL 8.1, by value). No function stands here.
+// The declared types of the public calls (PROTOCOL 8.1, by value), and the numbers that their sizes go by. No function stands here.
+
+// How many places an element has that is passed by value: `width` of the definitions.
+pub const WIDTH: usize = 64;
+
+// How many challenges a record holds, one for each round that there can be: `slots` of the definitions.
+pub const SLOTS: usize = 8;
+
+// The longest text, and the largest magnitude of a number in it: `textLimit` and `valueLimit` of the definitions.
+pub const TEXT_LIMIT: usize = 65536;
+pub const VALUE_LIMIT: u32 = 2147483647;
+
+// The residues of a key, a commitment, a round polynomial or a claim.
+pub type Residue = u32;
 
 // PROTOCOL 1.1.
 pub struct Settings {
@@ -20,8 +33,8 @@ pub enum Verdict {
 pub struct Session {
     pub settings: Settings,
     pub done: u32,
-    pub claim: [u32; 64],
-    pub challenges: [u32; 8],
+    pub claim: [Residue; WIDTH],
+    pub challenges: [u32; SLOTS],
     pub closed: bool,
 }
 
@@ -30,26 +43,26 @@ pub struct Session {
 // Commit.
 pub struct Committed {
     pub number: u32,
-    pub commitment: [u32; 64],
+    pub commitment: [Residue; WIDTH],
 }
 
 // The prover's round (PROTOCOL 8.4): c0, c1 and c2.
 pub struct Polynomial {
     pub number: u32,
-    pub elements: [[u32; 64]; 3],
+    pub elements: [[Residue; WIDTH]; 3],
 }
 
 // The prover's end.
 pub struct Ended {
     pub number: u32,
-    pub last: [i32; 64],
+    pub last: [i32; WIDTH],
 }
 
 // The whole opening; its round elements are in the table lent for them.
 pub struct Opened {
     pub number: u32,
-    pub commitment: [u32; 64],
-    pub last: [i32; 64],
+    pub commitment: [Residue; WIDTH],
+    pub last: [i32; WIDTH],
     pub verdict: Verdict,
 }
 

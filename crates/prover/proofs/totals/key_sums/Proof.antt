@@ -19,33 +19,6 @@ abbrev μ-loop : tie.MeasureT-loop
 loop-holds : tie.Need-loop-holds Inv-loop μ-loop
 loop-holds c = (omega arith, filled-none _ _, refl)
 
-mul-plus : tie.Need-mul-plus Inv-loop μ-loop
-mul-plus c = search needs
-
-shared-slice-read-plus : tie.Need-shared-slice-read-plus Inv-loop μ-loop
-shared-slice-read-plus c = search needs
-
-mul-plus-2 : tie.Need-mul-plus-2 Inv-loop μ-loop
-mul-plus-2 c = search needs
-
-shared-slice-read-plus-2 : tie.Need-shared-slice-read-plus-2 Inv-loop μ-loop
-shared-slice-read-plus-2 c = search needs
-
-plus-requires : tie.Need-plus-requires Inv-loop μ-loop
-plus-requires c κs = search needs
-
-mul-sums : tie.Need-mul-sums Inv-loop μ-loop
-mul-sums c = search needs
-
-slice-write-sums : tie.Need-slice-write-sums Inv-loop μ-loop
-slice-write-sums c = search needs
-
-add-p : tie.Need-add-p Inv-loop μ-loop
-add-p c = search needs
-
-loop-less : tie.Need-loop-less Inv-loop μ-loop
-loop-less c = search needs
-
 loop-again : tie.Need-loop-again Inv-loop μ-loop
 loop-again c =
     let s = c .before .before .before .before .before .before .before .before in
@@ -55,9 +28,6 @@ loop-again c =
     let small : BothBelow (s .args .q) (getD (s .args .first .now) (l .p) 0) (getD (s .args .second .now) (l .p) 0) =
     record { left = omega (arith, one, s .pre .0 .each (l .p) (omega arith)); right = omega (arith, two, s .pre .1 .each (l .p) (omega arith)) } in
     (omega arith, filled-turn _ (l .p) _ (l .inv .1) (c .plus .ensures small) (omega arith), simp length-set (omega arith))
-
-same-length : tie.Need-same-length Inv-loop μ-loop
-same-length c = search needs
 
 returns : tie.Need-returns Inv-loop μ-loop
 returns c = filled-end _ _ (c .before .loop .inv .1) (omega arith)
@@ -69,15 +39,15 @@ key-sums-spec =
     Inv-loop
     μ-loop
     loop-holds
-    mul-plus
-    shared-slice-read-plus
-    mul-plus-2
-    shared-slice-read-plus-2
-    plus-requires
-    mul-sums
-    slice-write-sums
-    add-p
-    loop-less
+    (λ c. search needs)
+    (λ c. search needs)
+    (λ c. search needs)
+    (λ c. search needs)
+    (λ c κs. search needs)
+    (λ c. search needs)
+    (λ c. search needs)
+    (λ c. search needs)
+    (λ c. search needs)
     loop-again
-    same-length
+    (λ c. search needs)
     returns)
