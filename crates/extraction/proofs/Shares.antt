@@ -16,10 +16,11 @@ use Rattle.protocol.proofs.Rotation.{rotate-plus}
 use Rattle.claims.proofs.Bounds.{Bounded, rotate-bounded}
 use Rattle.claims.proofs.Norms.{product-bounded, weight-mu}
 use Rattle.extraction.specs.Steps.{weighted}
-use Rattle.extraction.specs.Vectors.{scaled, Scalable, turned, Turnable, withShare, Sharing}
+use Rattle.extraction.specs.Vectors.{scaled, Scalable, turnedRow, turned, Turnable, withShare, Sharing}
 use Rattle.relaxed.proofs.Products.{rotate-ext}
 use Rattle.extraction.proofs.Mu.{gap-some, gap-below, weighted-mu, rotate-rotate}
-use Rattle.extraction.proofs.Splicing.{spliced-length, spliced-low, spliced-behind, spliced-at}
+use Rattle.residues.proofs.Splice.{spliced-length, entry-before, entry-behind}
+use Rattle.extraction.proofs.Splicing.{rows-at}
 
 -- ---- lists of 2n elements
 
@@ -183,7 +184,7 @@ module _ (d n a b c : ℕ) (l : List ℤ) (T : Sharing d n a b c l) where
 
     s-length : length s ≡ n * d
     unfolding scaled
-    s-length = ap length is-s ∙ spliced-length 0 d _ v n (omega (arith, v-length)) ∙ v-length
+    s-length = ap length is-s ∙ spliced-length _ 0 (n * d) v (omega arith) (omega (arith, v-length)) ∙ v-length
 
     first-length : length (s ++ R) ≡ 3 * (n * d)
     first-length = length-append s R ∙ omega (arith, s-length, length-drop (n * d) l, T .long)
@@ -193,7 +194,7 @@ module _ (d n a b c : ℕ) (l : List ℤ) (T : Sharing d n a b c l) where
     first-low i k li lk =
         List·getD-append s R (pos 0) (i * d + k) (omega (arith, s-length, cell-inside d n i k li lk))
         ∙ (λ j. getD (is-s j) (sym (Nat.zero-add (i * d + k)) j) (pos 0))
-        ∙ spliced-at 0 d (λ i. weighted d k₁ k₂ e (signedAt d v i)) v n (omega (arith, v-length)) (pos 0) i k li lk
+        ∙ rows-at (λ i. weighted d k₁ k₂ e (signedAt d v i)) 0 d v n (omega (arith, v-length)) (pos 0) i k li lk
         ∙ products-are i k lk
 
     first-high : (j : ℕ) → n * d ≤ j → getD (s ++ R) j (pos 0) ≡ getD l j (pos 0)
@@ -228,22 +229,22 @@ module _ (d n a b c : ℕ) (l : List ℤ) (T : Sharing d n a b c l) where
 
       t-length : length t ≡ 3 * (n * d)
       unfolding turned
-      t-length = ap length is-t ∙ spliced-length (n * d) d _ (s ++ R) n room-t ∙ first-length
+      t-length = ap length is-t ∙ spliced-length _ (n * d) (n * d) (s ++ R) (omega (arith, room-t)) room-t ∙ first-length
 
       t-low : (j : ℕ) → j < n * d → getD t j (pos 0) ≡ getD (s ++ R) j (pos 0)
       unfolding turned
-      t-low j h = ap (λ x. getD x j (pos 0)) is-t ∙ spliced-low (n * d) d _ (s ++ R) n room-t (pos 0) j h
+      t-low j h = ap (λ x. getD x j (pos 0)) is-t ∙ entry-before _ (n * d) (n * d) (s ++ R) (omega (arith, room-t)) (pos 0) j h
 
       t-mid : (i k : ℕ) → i < n → k < d → getD t (n * d + (i * d + k)) (pos 0) ≡ signedAt d R i k +ℤ share d M v i k
       unfolding turned signedAt
       t-mid i k li lk =
           ap (λ x. getD x (n * d + (i * d + k)) (pos 0)) is-t
-          ∙ spliced-at (n * d) d _ (s ++ R) n room-t (pos 0) i k li lk
+          ∙ rows-at (turnedRow d twice (n * d) (s ++ R)) (n * d) d (s ++ R) n room-t (pos 0) i k li lk
           ∙ λ j. (first-high (n * d + (i * d + k)) (omega arith) ∙ sym (R-at i k)) j +ℤ (rotate-ext d twice k (T .some) (λ y ly. first-low i y li ly) ∙ turned-twice i k lk) j
 
       t-high : (j : ℕ) → 2 * (n * d) ≤ j → getD t j (pos 0) ≡ getD l j (pos 0)
       unfolding turned
-      t-high j h = ap (λ x. getD x j (pos 0)) is-t ∙ spliced-behind (n * d) d _ (s ++ R) n room-t (pos 0) j (omega arith) ∙ first-high j (omega arith)
+      t-high j h = ap (λ x. getD x j (pos 0)) is-t ∙ entry-behind _ (n * d) (n * d) (s ++ R) (omega (arith, room-t)) (pos 0) j (omega arith) ∙ first-high j (omega arith)
 
       pub second-turnable : Turnable d n once (2 * (n * d)) t
       unfolding backOnce
@@ -270,13 +271,13 @@ module _ (d n a b c : ℕ) (l : List ℤ) (T : Sharing d n a b c l) where
         share-added = two-ext d n _ _ (T .some) (drop (n * d) w) long low high
           where
             long : length (drop (n * d) w) ≡ 2 * (n * d)
-            long = unfold turned in (length-drop (n * d) w ∙ omega (arith, ap length is-w ∙ spliced-length (2 * (n * d)) d _ t n room-w ∙ t-length))
+            long = unfold turned in (length-drop (n * d) w ∙ omega (arith, ap length is-w ∙ spliced-length _ (2 * (n * d)) (n * d) t (omega (arith, room-w)) room-w ∙ t-length))
 
             low : (i k : ℕ) → i < n → k < d → getD (drop (n * d) w) (i * d + k) (pos 0) ≡ signedAt d R i k +ℤ share d M v i k
             low i k li lk = unfold turned in (
                 getD-drop (n * d) w (i * d + k) (pos 0)
                 ∙ ap (λ x. getD x (n * d + (i * d + k)) (pos 0)) is-w
-                ∙ spliced-low (2 * (n * d)) d _ t n room-w (pos 0) (n * d + (i * d + k)) (omega (arith, cell-inside d n i k li lk))
+                ∙ entry-before _ (2 * (n * d)) (n * d) t (omega (arith, room-w)) (pos 0) (n * d + (i * d + k)) (omega (arith, cell-inside d n i k li lk))
                 ∙ t-mid i k li lk
                 )
 
@@ -284,7 +285,7 @@ module _ (d n a b c : ℕ) (l : List ℤ) (T : Sharing d n a b c l) where
             high i k li lk = unfold turned in (
                 getD-drop (n * d) w (n * d + (i * d + k)) (pos 0)
                 ∙ (λ j. getD (is-w j) (same j) (pos 0))
-                ∙ spliced-at (2 * (n * d)) d _ t n room-w (pos 0) i k li lk
+                ∙ rows-at (turnedRow d once (2 * (n * d)) t) (2 * (n * d)) d t n room-w (pos 0) i k li lk
                 ∙ λ j. (t-high (2 * (n * d) + (i * d + k)) (omega arith) ∙ sym there) j +ℤ alike j
                 )
               where

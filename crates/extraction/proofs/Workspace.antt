@@ -1,6 +1,6 @@
 -- The root's vector in a local list of 2,048 numbers: there is room for it, and its second half, copied, is the vector.
 use mathlib.Core.Path.{_≡_, sym, ap, _∙_, subst}
-use mathlib.Core.List.{List, _++_}
+use mathlib.Core.List.{List, _++_, append-nil}
 use Prim.Native.Nat.{ℕ, _+_, _*_, _-_, _<_, _≤_}
 use native.Mathlib.Nat as Nat
 use native.Mathlib.Omega.{arith}
@@ -19,7 +19,6 @@ use Rattle.residues.proofs.Fill.{filled, filled-ext}
 use Rattle.claims.specs.Nodes.{AtNode}
 use Rattle.extraction.specs.Nodes.{Extractable}
 use Rattle.extraction.proofs.Parts.{part-entry}
-use Rattle.extraction.proofs.Splicing.{append-nil}
 
 -- l is what a list of 2,048 numbers, z, holds in its first 2·n places after the call
 module _ (n : ℕ) (l z : List ℤ) (room : n ≤ 1024) (lent : length l ≡ 2 * n) (all : length z ≡ 2048) where

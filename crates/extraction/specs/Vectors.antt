@@ -1,8 +1,8 @@
 -- What the steps on a node's vector leave.
 --
---   spliced at d n F l    the list l with n elements of d numbers from place `at` on replaced: number k of element i by F i k
 --   scaled d n k m e v    v with each of its first n elements `weighted`, which is multiplied by X^(2a)·μ (Mu)
 --   Scalable d n k m e v  the places are there, and the numbers are small enough
+--   turnedRow d e to l i  the element i places behind place `to`, with X^e times element i added
 --   turned d n e to l     l with X^e times each of its first n elements added to those from place `to` on
 --   Turnable d n e to l   the places are there, and the sums fit
 --   withShare d n e m v R a node's vector R, of 2n elements, with μ·v added to its first half and X^e·μ·v to its second, μ being m
@@ -16,16 +16,14 @@ use Prim.Native.Nat.{ℕ, _+_, _*_, _-_, _^_, _<_, _≤_}
 use lib.ListN.{length, getD, take, drop}
 use lib.IntN.{ℤ, pos, natAbs, _+ℤ_}
 use Rattle.protocol.specs.Basic.{flat}
-use Rattle.protocol.specs.Element.{rotate, signedAt}
+use Rattle.protocol.specs.Element.{Element, rotate, signedAt}
 use Rattle.protocol.specs.Tree.{challenge, mu, share}
+use Rattle.residues.specs.Lists.{splicedRows}
 use Rattle.extraction.specs.Bounds.{Factors}
 use Rattle.extraction.specs.Steps.{weighted}
 
-unfoldable pub spliced {ℓ} : {A : Type ℓ} → ℕ → ℕ → ℕ → (ℕ → ℕ → A) → List A → List A
-spliced at d n F l = take at l ++ (flat d n F ++ drop (at + n * d) l)
-
 unfoldable pub scaled : ℕ → ℕ → ℕ → ℕ → ℕ → List ℤ → List ℤ
-scaled d n k m e v = spliced 0 d n (λ i. weighted d k m e (signedAt d v i)) v
+scaled d n k m e v = splicedRows (λ i. weighted d k m e (signedAt d v i)) 0 d n v
 
 pub record Scalable (d n k m e : ℕ) (v : List ℤ) : Type 0 where
   pub long : n * d ≤ length v
@@ -33,8 +31,11 @@ pub record Scalable (d n k m e : ℕ) (v : List ℤ) : Type 0 where
   pub factors : Factors d k m e bound
   pub within : (j : ℕ) → j < n * d → natAbs (getD v j (pos 0)) ≤ bound
 
+abbrev pub turnedRow : ℕ → ℕ → ℕ → List ℤ → ℕ → Element
+turnedRow d e to l i k = getD l (to + (i * d + k)) (pos 0) +ℤ rotate d e (signedAt d l i) k
+
 unfoldable pub turned : ℕ → ℕ → ℕ → ℕ → List ℤ → List ℤ
-turned d n e to l = spliced to d n (λ i k. getD l (to + (i * d + k)) (pos 0) +ℤ rotate d e (signedAt d l i) k) l
+turned d n e to l = splicedRows (turnedRow d e to l) to d n l
 
 pub record Turnable (d n e to : ℕ) (l : List ℤ) : Type 0 where
   pub some : 0 < d

@@ -25,28 +25,16 @@ fn scale(d: usize, n: usize, k: usize, m: usize, e: usize, v: &mut [i64], x: &mu
     }
 }
 
-// Adds each of the first n elements twice: X^e1 times to those from place to1 on, X^e2 times to those from place to2 on; x is room for one spread element.
-fn add_turned(
-    d: usize,
-    n: usize,
-    e1: usize,
-    to1: usize,
-    e2: usize,
-    to2: usize,
-    l: &mut [i64],
-    x: &mut [i64],
-)
-    requires { ⌜ (3 * d ≤ length (now x)) × (to1 + n * d ≤ to2) ⌝ }
-    requires { ⌜ Turnable d n e1 to1 (now l) × Turnable d n e2 to2 (turned d n e1 to1 (now l)) ⌝ }
-    ensures { λ _. ⌜ now (l .exit) ≡ turned d n e2 to2 (turned d n e1 to1 (now (l .entry))) ⌝ }
+// Adds X^e times each of the first n elements to those from place `to` on; x is room for one spread element.
+fn add_turned(d: usize, n: usize, e: usize, to: usize, l: &mut [i64], x: &mut [i64])
+    requires { ⌜ (3 * d ≤ length (now x)) × Turnable d n e to (now l) ⌝ }
+    ensures { λ _. ⌜ now (l .exit) ≡ turned d n e to (now (l .entry)) ⌝ }
 {
     for i in 0..n {
         let at = i * d;
         spread(d, &l[at..], x);
-        let first = to1 + at;
-        add_spread(d, e1, x, &mut l[first..]);
-        let second = to2 + at;
-        add_spread(d, e2, x, &mut l[second..]);
+        let place = to + at;
+        add_spread(d, e, x, &mut l[place..]);
     }
 }
 
@@ -65,7 +53,8 @@ fn add_share(d: usize, n: usize, a: usize, b: usize, c: usize, l: &mut [i64])
     scale(d, n, k, m, e, &mut l[..cells], &mut x);
     let once = on_circle(d, back);
     let twice = on_circle(d, 2 * once);
-    add_turned(d, n, twice, cells, once, 2 * cells, l, &mut x);
+    add_turned(d, n, twice, cells, l, &mut x);
+    add_turned(d, n, once, 2 * cells, l, &mut x);
 }
 
 fn clear(l: &mut [i64])

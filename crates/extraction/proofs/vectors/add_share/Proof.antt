@@ -4,9 +4,10 @@ use Prim.Native.Nat.{_+_, _*_, _-_, _%_, _<_, _≤_}
 use native.Mathlib.Nat as Nat
 use native.Mathlib.Omega.{arith}
 use borrow.Author.Needs.{needs}
+use lib.IntN.{ℤ}
 use lib.ListN.{length, take, drop}
 use lib.Seq.{length-take-le}
-use mathlib.Core.List.{_++_}
+use mathlib.Core.List.{List, _++_}
 use Rattle.protocol.specs.Tree.{gap}
 use Rattle.extraction.specs.Vectors.{scaled, turned}
 use Rattle.extraction.proofs.Shares.{backOnce, backTwice, share-scalable, first-turnable, second-turnable, share-added}
@@ -22,25 +23,48 @@ second : (c : tie.After-on-circle2) → let a = c .before .before .args in c .on
 unfolding gap
 second c = c .on-circle2 .ensures
 
-once : (c : tie.After-on-circle4) → let g = c .before .before .before .before .before .before .before .before .before in let a = g .args in c .on-circle4 .result ≡ backOnce (a .d) (a .a)
+-- where the function began
+abbrev at-scale : (c : tie.After-scale) → tie.Start
+at-scale c = c .before .before .before .before .before .before
+
+abbrev at-once : (c : tie.After-on-circle4) → tie.Start
+at-once c = at-scale (c .before .before .before)
+
+once : (c : tie.After-on-circle4) → let a = at-once c .args in c .on-circle4 .result ≡ backOnce (a .d) (a .a)
 unfolding backOnce
 once c = c .on-circle4 .ensures
 
-once-small : (c : tie.After-on-circle4) → c .on-circle4 .result < 2 * c .before .before .before .before .before .before .before .before .before .args .d
-once-small c = let g = c .before .before .before .before .before .before .before .before .before in let p : 0 < 2 * g .args .d = omega (arith, g .pre .some) in omega (arith, c .on-circle4 .ensures, Nat.mod-lt (2 * g .args .d - g .args .a) p)
+once-small : (c : tie.After-on-circle4) → c .on-circle4 .result < 2 * at-once c .args .d
+once-small c = let g = at-once c in let p : 0 < 2 * g .args .d = omega (arith, g .pre .some) in omega (arith, c .on-circle4 .ensures, Nat.mod-lt (2 * g .args .d - g .args .a) p)
 
-twice : (c : tie.After-on-circle5) → let g = c .before .before .before .before .before .before .before .before .before .before in let a = g .args in c .on-circle5 .result ≡ backTwice (a .d) (a .a)
+twice : (c : tie.After-on-circle5) → let a = at-once (c .before) .args in c .on-circle5 .result ≡ backTwice (a .d) (a .a)
 unfolding backTwice
-twice c = c .on-circle5 .ensures ∙ ap (λ x. 2 * x % (2 * c .before .before .before .before .before .before .before .before .before .before .args .d)) (once (c .before))
+twice c = c .on-circle5 .ensures ∙ ap (λ x. 2 * x % (2 * at-once (c .before) .args .d)) (once (c .before))
 
--- the products
-products : (c : tie.After-scale) → let a = c .before .before .before .before .before .before .args in
+-- the products, and the node's vector behind them
+products : (c : tie.After-scale) → let a = at-scale c .args in
     c .scale .last .1 .1 .1 .1 .1 .0 ≡ scaled (a .d) (a .n) (gap (a .d) (a .a) (a .b)) (gap (a .d) (a .a) (a .c)) ((a .b + a .c) % (2 * a .d)) (take (a .n * a .d) (a .l .now))
-products c = let a = c .before .before .before .before .before .before .args in c .scale .ensures ∙ (λ i. scaled (a .d) (a .n) (first (c .before .before .before .before .before) i) (second (c .before .before .before .before) i) (c .before .before .before .on-circle3 .ensures i) (take (a .n * a .d) (a .l .now)))
+products c =
+    let a = at-scale c .args in
+    let at = c .before .before .before in
+    c .scale .ensures ∙ (λ i. scaled (a .d) (a .n) (first (at .before .before) i) (second (at .before) i) (at .on-circle3 .ensures i) (take (a .n * a .d) (a .l .now)))
+
+abbrev whole : (c : tie.After-scale) → List ℤ
+whole c = c .scale .last .1 .1 .1 .1 .1 .0 ++ drop (at-scale c .args .n * at-scale c .args .d) (at-scale c .args .l .now)
 
 -- the room for a spread element keeps its length
-room : (c : tie.After-scale) → 3 * c .before .before .before .before .before .before .args .d ≤ length (c .scale .last .1 .1 .1 .1 .1 .1 .0)
-room c = omega (arith, c .before .before .before .before .before .before .pre .small, c .scale .kept .1 .1 .1 .1 .1 .1 .0)
+room : (c : tie.After-scale) → 3 * at-scale c .args .d ≤ length (c .scale .last .1 .1 .1 .1 .1 .1 .0)
+room c = omega (arith, at-scale c .pre .small, c .scale .kept .1 .1 .1 .1 .1 .1 .0)
+
+-- the first sums
+abbrev before-sums : (c : tie.After-add-turned) → tie.After-on-circle5
+before-sums c = c .before .before .before
+
+abbrev at-sums : (c : tie.After-add-turned) → tie.After-scale
+at-sums c = before-sums c .before .before .before .before
+
+first-sums : (c : tie.After-add-turned) → let a = at-scale (at-sums c) .args in c .add-turned .last .1 .1 .1 .1 .0 ≡ turned (a .d) (a .n) (backTwice (a .d) (a .a)) (a .n * a .d) (whole (at-sums c))
+first-sums c = let a = at-scale (at-sums c) .args in c .add-turned .ensures ∙ (λ i. turned (a .d) (a .n) (twice (before-sums c) i) (a .n * a .d) (whole (at-sums c)))
 
 mul-back : tie.Need-mul-back
 mul-back c = omega (arith, c .pre .small)
@@ -82,33 +106,41 @@ scale-requires : tie.Need-scale-requires
 scale-requires c κs = let g = c .before .before .before .before .before in let a = g .args in (omega (arith, g .pre .small), rw (first (c .before .before .before .before), second (c .before .before .before), c .before .before .on-circle3 .ensures) (share-scalable (a .d) (a .n) (a .a) (a .b) (a .c) (a .l .now) (g .pre)))
 
 on-circle-requires-4 : tie.Need-on-circle-requires-4
-on-circle-requires-4 c κs = let g = c .before .before .before .before .before .before .before .before in (g .pre .small, omega (arith, g .pre .some))
+on-circle-requires-4 c κs = let g = at-scale (c .before .before) in (g .pre .small, omega (arith, g .pre .some))
 
 mul-on-circle : tie.Need-mul-on-circle
-mul-on-circle c = omega (arith, once-small c, c .before .before .before .before .before .before .before .before .before .pre .small)
+mul-on-circle c = omega (arith, once-small c, at-once c .pre .small)
 
 on-circle-requires-5 : tie.Need-on-circle-requires-5
-on-circle-requires-5 c κs = (c .before .before .before .before .before .before .before .before .before .pre .small, omega (arith, once-small c))
-
-mul-add-turned : tie.Need-mul-add-turned
-mul-add-turned c = search needs
+on-circle-requires-5 c κs = (at-once c .pre .small, omega (arith, once-small c))
 
 slice-aggregate-add-turned : tie.Need-slice-aggregate-add-turned
 slice-aggregate-add-turned c = search needs
 
 add-turned-requires : tie.Need-add-turned-requires
 add-turned-requires c κs =
-    let g = c .before .before .before .before .before .before .before .before .before .before .before .before in let a = g .args in let is-s = products (c .before .before .before .before .before .before) in
-    ((room (c .before .before .before .before .before .before), omega arith), rw (twice (c .before .before), once (c .before .before .before)) (first-turnable (a .d) (a .n) (a .a) (a .b) (a .c) (a .l .now) (g .pre) is-s, second-turnable (a .d) (a .n) (a .a) (a .b) (a .c) (a .l .now) (g .pre) is-s refl))
+    let at = c .before .before in let s = at .before .before .before .before in let g = at-scale s in let a = g .args in
+    (room s, rw (twice at) (first-turnable (a .d) (a .n) (a .a) (a .b) (a .c) (a .l .now) (g .pre) (products s)))
+
+mul-add-turned : tie.Need-mul-add-turned
+mul-add-turned c = search needs
+
+slice-aggregate-add-turned-2 : tie.Need-slice-aggregate-add-turned-2
+slice-aggregate-add-turned-2 c = search needs
+
+add-turned-requires-2 : tie.Need-add-turned-requires-2
+add-turned-requires-2 c κs =
+    let t = c .before .before .before .before in let s = at-sums t in let g = at-scale s in let a = g .args in
+    (omega (arith, room s, t .add-turned .kept .1 .1 .1 .1 .1 .0), rw (once (before-sums t .before)) (second-turnable (a .d) (a .n) (a .a) (a .b) (a .c) (a .l .now) (g .pre) (products s) (first-sums t)))
 
 same-length : tie.Need-same-length
 same-length c = search needs
 
 returns : tie.Need-returns
 returns c =
-    let g = c .before .before .before .before .before .before .before .before .before .before .before .before .before .before .before in let a = g .args in let s = c .before .before .before .before .before .before .before .before .before .scale .last .1 .1 .1 .1 .1 .0 ++ drop (a .n * a .d) (a .l .now) in
-    share-added (a .d) (a .n) (a .a) (a .b) (a .c) (a .l .now) (g .pre) (products (c .before .before .before .before .before .before .before .before .before)) refl
-    (c .before .before .add-turned .ensures ∙ (λ i. turned (a .d) (a .n) (once (c .before .before .before .before .before .before) i) (2 * (a .n * a .d)) (turned (a .d) (a .n) (twice (c .before .before .before .before .before) i) (a .n * a .d) s)))
+    let w = c .before .before in let t = w .before .before .before .before .before in let s = at-sums t in let g = at-scale s in let a = g .args in
+    share-added (a .d) (a .n) (a .a) (a .b) (a .c) (a .l .now) (g .pre) (products s) (first-sums t)
+    (w .add-turned2 .ensures ∙ (λ i. turned (a .d) (a .n) (once (before-sums t .before) i) (2 * (a .n * a .d)) (t .add-turned .last .1 .1 .1 .1 .0)))
 
 pub add-share-spec : {M : Type 1} → statement M
 add-share-spec =
@@ -130,8 +162,10 @@ add-share-spec =
     on-circle-requires-4
     mul-on-circle
     on-circle-requires-5
-    mul-add-turned
     slice-aggregate-add-turned
     add-turned-requires
+    mul-add-turned
+    slice-aggregate-add-turned-2
+    add-turned-requires-2
     same-length
     returns)

@@ -1,6 +1,6 @@
 -- The second half is filled to its end.
 use mathlib.Core.Path.{_≡_, refl, sym, ap, _∙_}
-use mathlib.Core.List.{List, _++_}
+use mathlib.Core.List.{List, _++_, append-nil}
 use Prim.Native.Nat.{ℕ, _+_, _*_, _-_, _≤_}
 use native.Mathlib.Nat as Nat
 use native.Mathlib.Omega.{arith}
@@ -14,7 +14,7 @@ use Rattle.protocol.proofs.Reading.{tabulate-ext}
 use Rattle.residues.proofs.Fill.{filled}
 use Rattle.extraction.proofs.Parts.{part-signed}
 use Rattle.residues.proofs.Parts.{tail-all}
-use Rattle.extraction.proofs.Splicing.{append-nil, drop-put-end}
+use Rattle.extraction.proofs.Splicing.{drop-put-end}
 use Rattle.extraction.proofs.vectors.leaf_vector.Statement.{statement}
 use Rattle.extraction.proofs.vectors.leaf_vector.Tie as tie
 
