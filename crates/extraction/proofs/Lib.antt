@@ -5,6 +5,7 @@ pub mod Quotients
 pub mod Mu
 pub mod Weighing
 pub mod Shares
+pub mod ThreeShares
 pub mod Nodes
 pub mod Workspace
 pub mod Answers

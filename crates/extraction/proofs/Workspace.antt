@@ -1,4 +1,4 @@
--- The root's vector in a local list of 2,048 numbers: there is room for it, and its second half, copied, is the vector.
+-- The root's vector in a local list with room for two vectors: there is room for it, and its second half, copied, is the vector.
 use mathlib.Core.Path.{_≡_, sym, ap, _∙_, subst}
 use mathlib.Core.List.{List, _++_, append-nil}
 use Prim.Native.Nat.{ℕ, _+_, _*_, _-_, _<_, _≤_}
@@ -17,16 +17,16 @@ use Rattle.claims.proofs.GrowthTest.{growth-cells}
 use Rattle.claims.proofs.Numbering.{AtDepth, root-depth}
 use Rattle.residues.proofs.Fill.{filled, filled-ext}
 use Rattle.claims.specs.Nodes.{AtNode}
-use Rattle.extraction.specs.Nodes.{Extractable}
+use Rattle.extraction.specs.Nodes.{vectorRoom, Extractable}
 use Rattle.extraction.proofs.Parts.{part-entry}
 
--- l is what a list of 2,048 numbers, z, holds in its first 2·n places after the call
-module _ (n : ℕ) (l z : List ℤ) (room : n ≤ 1024) (lent : length l ≡ 2 * n) (all : length z ≡ 2048) where
-  pub kept-long : length (l ++ drop (2 * n) z) ≡ 2048
+-- l is what such a list, z, holds in its first 2·n places after the call
+module _ (n : ℕ) (l z : List ℤ) (room : n ≤ vectorRoom) (lent : length l ≡ 2 * n) (all : length z ≡ 2 * vectorRoom) where
+  pub kept-long : length (l ++ drop (2 * n) z) ≡ 2 * vectorRoom
   kept-long = length-append l (drop (2 * n) z) ∙ omega (arith, length-drop (2 * n) z)
 
   abbrev part : List ℤ
-  part = take (2048 - n) (drop n (l ++ drop (2 * n) z))
+  part = take (2 * vectorRoom - n) (drop n (l ++ drop (2 * n) z))
 
   pub part-room : n ≤ length part
   part-room = simp (length-take, length-drop) (omega (arith, kept-long))
@@ -34,7 +34,7 @@ module _ (n : ℕ) (l z : List ℤ) (room : n ≤ 1024) (lent : length l ≡ 2 *
   part-at : (k : ℕ) → k < n → signed part k ≡ getD (drop n l) k (pos 0)
   unfolding signed
   part-at k h =
-      part-entry n (2048 - n) (l ++ drop (2 * n) z) k (omega arith)
+      part-entry n (2 * vectorRoom - n) (l ++ drop (2 * n) z) k (omega arith)
       ∙ List·getD-append l (drop (2 * n) z) (pos 0) (n + k) (omega arith)
       ∙ sym (getD-drop n l k (pos 0))
 
@@ -48,11 +48,11 @@ module _ (n : ℕ) (l z : List ℤ) (room : n ≤ 1024) (lent : length l ≡ 2 *
       ∙ tabulate-own n (drop n l) (pos 0) (length-drop n l ∙ omega arith)
 
 module _ (S : Settings) (E : List ℕ) (finals : List ℤ) (tree : Extractable S E finals) where
-  pub root-room : cells S ≤ 1024
+  pub root-room : cells S ≤ vectorRoom
   root-room = growth-cells S (tree .valid) (tree .limited)
 
   -- the root is a node with all steps below it
-  pub root-at : (first n : ℕ) (z : List ℤ) → first ≡ nodes S → n ≡ cells S → length z ≡ 2048 → AtNode S (S .depth) 0 first (length (take (2 * n) z))
+  pub root-at : (first n : ℕ) (z : List ℤ) → first ≡ nodes S → n ≡ cells S → length z ≡ 2 * vectorRoom → AtNode S (S .depth) 0 first (length (take (2 * n) z))
   unfolding cells size
   root-at first n z f e all = record {
     height = Nat.le-refl (S .depth);

@@ -1,5 +1,6 @@
 -- A tree whose vectors can be worked out in 64 bits.
 --
+--   vectorRoom                 1,024: the most numbers of a vector where the growth is within its limit (GrowthTest)
 --   Extractable S E finals     challenges E and leaves `finals` of a full tree: exponents, three different ones at each node, within n·B, and no growth over the limit
 use mathlib.Core.Logic.{_≢_}
 use mathlib.Core.List.{List}
@@ -10,6 +11,9 @@ use Rattle.protocol.specs.Settings.{size}
 use Rattle.protocol.specs.Layout.{nodes, treeChallenges, leafCells, exponentCount}
 use Rattle.protocol.specs.Tree.{challenge, growth, growthLimit}
 use Rattle.protocol.specs.Inputs.{Valid, Below, Within}
+
+abbrev pub vectorRoom : ℕ
+vectorRoom = 1024
 
 pub record Extractable (S : Settings) (E : List ℕ) (finals : List ℤ) : Type 0 where
   pub valid : Valid S

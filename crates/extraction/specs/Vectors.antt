@@ -16,6 +16,7 @@ use Prim.Native.Nat.{ℕ, _+_, _*_, _-_, _^_, _<_, _≤_}
 use lib.ListN.{length, getD, take, drop}
 use lib.IntN.{ℤ, pos, natAbs, _+ℤ_}
 use Rattle.protocol.specs.Basic.{flat}
+use Rattle.protocol.specs.Layout.{width}
 use Rattle.protocol.specs.Element.{Element, rotate, signedAt}
 use Rattle.protocol.specs.Tree.{challenge, mu, share}
 use Rattle.residues.specs.Lists.{splicedRows}
@@ -39,7 +40,7 @@ turned d n e to l = splicedRows (turnedRow d e to l) to d n l
 
 pub record Turnable (d n e to : ℕ) (l : List ℤ) : Type 0 where
   pub some : 0 < d
-  pub small : d ≤ 64
+  pub small : d ≤ width
   pub exponent : e < 2 * d
   pub apart : n * d ≤ to
   pub inside : to + n * d ≤ length l
@@ -58,7 +59,7 @@ pub record Sharing (d n a b c : ℕ) (l : List ℤ) : Type 0 where
   pub log-most : log ≤ 6
   pub degree-is : d ≡ 2 ^ log
   pub some : 0 < d
-  pub small : d ≤ 64
+  pub small : d ≤ width
   pub exponent : a < 2 * d
   pub others : (b < 2 * d) × (c < 2 * d)
   pub different : (a ≢ b) × (a ≢ c)

@@ -1,10 +1,12 @@
 // Elements over whole numbers, in signed 64-bit numbers and in place: sums with rotations, and the quotients that multiplication by μ is made of.
 // What a function asks of magnitudes leaves room for all its sums.
+use residues::on_circle;
 ghost use mathlib.Core.Path.{_≡_};
-ghost use Prim.Native.Nat.{_+_, _*_, _-_, _%_, _^_, _<_, _≤_};
+ghost use Prim.Native.Nat.{_+_, _*_, _-_, _^_, _<_, _≤_};
 ghost use lib.ListN.{length};
 ghost use lib.IntN.{natAbs, negℤ, _+ℤ_};
 ghost use Rattle.protocol.specs.Element.{signed};
+ghost use Rattle.protocol.specs.Layout.{width};
 ghost use Rattle.residues.specs.Lists.{filled};
 ghost use Rattle.extraction.specs.Bounds.{Spreadable, Addable, Summable, Doubling, Weighable};
 ghost use Rattle.extraction.specs.Steps.{Spread, spreadAdded, rotatedAdded, divided, weighted};
@@ -48,7 +50,7 @@ pub(crate) fn spread(d: usize, a: &[i64], x: &mut [i64])
 
 // Adds X^e·a to the first d numbers of `out`, a being spread over x.
 pub(crate) fn add_spread(d: usize, e: usize, x: &[i64], out: &mut [i64])
-    requires { ⌜ (d ≤ 64) × (e ≤ 2 * d) × Addable d (2 * d - e) (now x) (now out) ⌝ }
+    requires { ⌜ (d ≤ width) × (e ≤ 2 * d) × Addable d (2 * d - e) (now x) (now out) ⌝ }
     ensures { λ _. ⌜ now (out .exit) ≡ spreadAdded d (2 * d - e) (now (x .entry)) (now (out .entry)) ⌝ }
 {
     let from = 2 * d - e;
@@ -59,22 +61,11 @@ pub(crate) fn add_spread(d: usize, e: usize, x: &[i64], out: &mut [i64])
 
 // a + X^e·a in place of a; x is room for the spread a.
 fn add_own(d: usize, e: usize, a: &mut [i64], x: &mut [i64])
-    requires { ⌜ (0 < d) × (d ≤ 64) × (e < 2 * d) × (3 * d ≤ length (now x)) × Summable d (now a) (now a) ⌝ }
+    requires { ⌜ (0 < d) × (d ≤ width) × (e < 2 * d) × (3 * d ≤ length (now x)) × Summable d (now a) (now a) ⌝ }
     ensures { λ _. ⌜ now (a .exit) ≡ rotatedAdded d e (now (a .entry)) (now (a .entry)) ⌝ }
 {
     spread(d, a, x);
     add_spread(d, e, x, a);
-}
-
-// x on the circle of 2d exponents.
-pub(crate) fn on_circle(d: usize, x: usize) -> usize
-    requires { ⌜ (d ≤ 64) × (x < 4 * d) ⌝ }
-    ensures { λ r. ⌜ r ≡ x % (2 * d) ⌝ }
-{
-    if x < 2 * d {
-        return x;
-    }
-    x - 2 * d
 }
 
 // 2·a divided by 1 − X^k, in place of a: a·(1 + X^k)·(1 + X^2k)·(1 + X^4k) and so on, until the next power is X^d, which is −1.

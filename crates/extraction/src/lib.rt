@@ -3,16 +3,18 @@ mod elements;
 mod root;
 mod vectors;
 
+use protocol::Residue;
 use protocol::Settings;
+use protocol::WIDTH;
 use refusals::refuse;
 ghost use Rattle.protocol.specs.Promises.{Extracted};
 
 // The vector of the root of a full tree, every path of which the verifier accepts. Nothing is written before the last test.
 pub fn extract(
     settings: Settings,
-    commitment: [u32; 64],
-    key: &[u32],
-    rounds: &[u32],
+    commitment: [Residue; WIDTH],
+    key: &[Residue],
+    rounds: &[Residue],
     challenges: &[u32],
     leaves: &[i32],
     w: &mut [i64],

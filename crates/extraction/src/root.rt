@@ -3,19 +3,24 @@ use crate::elements::store;
 use crate::vectors::node;
 use protocol::Settings;
 ghost use mathlib.Core.Path.{_≡_};
+ghost use Prim.Native.Nat.{_*_};
 ghost use lib.ListN.{length};
 ghost use Rattle.protocol.specs.Settings.{cells};
 ghost use Rattle.protocol.specs.Tree.{rootVector};
-ghost use Rattle.extraction.specs.Nodes.{Extractable};
+ghost use Rattle.extraction.specs.Nodes.{vectorRoom, Extractable};
 
-// Room for the vectors of two nodes.
-fn workspace() -> [i64; 2048]
-    ensures { λ r. ⌜ length r ≡ 2048 ⌝ }
+// The most numbers of a vector where the growth is within its limit (16 elements at d = 64), and room for two vectors: a node's own and its children's work.
+const VECTOR: usize = 1024;
+
+const WORKSPACE: usize = 2 * VECTOR;
+
+fn workspace() -> [i64; WORKSPACE]
+    ensures { λ r. ⌜ length r ≡ 2 * vectorRoom ⌝ }
 {
-    [0i64; 2048]
+    [0i64; WORKSPACE]
 }
 
-// Where the growth is within its limit a vector has at most 1,024 numbers, so that the nodes' vectors fit in a local list.
+// The nodes' vectors are worked out in a local list.
 pub(crate) fn root(settings: Settings, challenges: &[u32], leaves: &[i32], w: &mut [i64])
     requires { ⌜ Extractable settings (now challenges) (now leaves) ⌝ }
     requires { ⌜ length (now w) ≡ cells settings ⌝ }

@@ -1,18 +1,23 @@
 // The vectors of a tree's nodes, over whole numbers: flat lists of elements, d numbers each.
 use crate::elements::add_spread;
-use crate::elements::on_circle;
 use crate::elements::spread;
 use crate::elements::weigh;
 use protocol::Settings;
+use protocol::WIDTH;
+use residues::on_circle;
 ghost use mathlib.Core.Path.{_≡_};
 ghost use Prim.Native.Nat.{_+_, _*_, _-_, _^_, _<_, _≤_};
 ghost use lib.ListN.{length, getD, take, drop};
 ghost use Rattle.protocol.specs.Element.{signed, signedAt, coefficients, signedZeros};
-ghost use Rattle.protocol.specs.Tree.{mu, vector};
+ghost use Rattle.protocol.specs.Layout.{width, itemOf};
+ghost use Rattle.protocol.specs.Tree.{child, challenge, mu, vector};
 ghost use Rattle.residues.specs.Lists.{filled};
 ghost use Rattle.extraction.specs.Vectors.{scaled, Scalable, turned, Turnable, withShare, Sharing, Branching, branchAdded};
 ghost use Rattle.claims.specs.Nodes.{AtNode};
 ghost use Rattle.extraction.specs.Nodes.{Extractable};
+
+// Room for an element that is spread over three times as many places.
+const SPREAD: usize = 3 * WIDTH;
 
 // Multiplies each of the first n elements of v by X^(2a)·μ, from the exponents that μ's quotients and sum go by; x is room for one spread element.
 fn scale(d: usize, n: usize, k: usize, m: usize, e: usize, v: &mut [i64], x: &mut [i64])
@@ -49,7 +54,7 @@ fn add_share(d: usize, n: usize, a: usize, b: usize, c: usize, l: &mut [i64])
     let m = on_circle(d, c + back);
     let e = on_circle(d, b + c);
     let cells = n * d;
-    let mut x = [0i64; 192];
+    let mut x = [0i64; SPREAD];
     scale(d, n, k, m, e, &mut l[..cells], &mut x);
     let once = on_circle(d, back);
     let twice = on_circle(d, 2 * once);
@@ -75,7 +80,7 @@ fn widen(x: i32) -> i64
 
 // Copies the first d numbers of a final element.
 fn load(d: usize, f: &[i32], out: &mut [i64])
-    requires { ⌜ (d ≤ 64) × (d ≤ length (now f)) × (d ≤ length (now out)) ⌝ }
+    requires { ⌜ (d ≤ width) × (d ≤ length (now f)) × (d ≤ length (now out)) ⌝ }
     ensures { λ _. ⌜ now (out .exit) ≡ filled (signed (now (f .entry))) d (now (out .entry)) ⌝ }
 {
     for k in 0..d {
@@ -83,12 +88,20 @@ fn load(d: usize, f: &[i32], out: &mut [i64])
     }
 }
 
-// A challenge, as an exponent.
-fn exponent(challenges: &[u32], i: usize) -> usize
-    requires { ⌜ i < length (now challenges) ⌝ }
-    ensures { λ r. ⌜ r ≡ getD (now (challenges .entry)) i 0 ⌝ }
+// Challenge j of node k, as an exponent.
+fn challenge_of(challenges: &[u32], k: usize, j: usize) -> usize
+    requires { ⌜ itemOf k j < length (now challenges) ⌝ }
+    ensures { λ r. ⌜ r ≡ challenge (now (challenges .entry)) k j ⌝ }
 {
-    challenges[i] as usize
+    challenges[3 * k + j] as usize
+}
+
+// The number of child j of node k.
+fn child_of(k: usize, j: usize) -> usize
+    requires { ⌜ 3 * k + 1 + j < 2 ^ 64 ⌝ }
+    ensures { λ r. ⌜ r ≡ child k j ⌝ }
+{
+    3 * k + 1 + j
 }
 
 // The share of child j at node k, x and y being the other two children: the child's vector, n elements, stands in the second quarter of ws, the node's in its second half.
@@ -105,17 +118,16 @@ fn add_branch(
     requires { ⌜ Branching d n k j x y (now challenges) (now ws) ⌝ }
     ensures { λ _. ⌜ drop (2 * (n * d)) (now (ws .exit)) ≡ branchAdded d n k j x y (now (challenges .entry)) (now (ws .entry)) ⌝ }
 {
-    let i = 3 * k;
-    let a = exponent(challenges, i + j);
-    let b = exponent(challenges, i + x);
-    let c = exponent(challenges, i + y);
+    let a = challenge_of(challenges, k, j);
+    let b = challenge_of(challenges, k, x);
+    let c = challenge_of(challenges, k, y);
     let cells = n * d;
     add_share(d, n, a, b, c, &mut ws[cells..]);
 }
 
 // The vector of leaf j, in the second half of ws.
 fn leaf_vector(d: usize, j: usize, leaves: &[i32], ws: &mut [i64])
-    requires { ⌜ (d ≤ 64) × (j * d + d ≤ length (now leaves)) × (length (now ws) ≡ 2 * d) ⌝ }
+    requires { ⌜ (d ≤ width) × (j * d + d ≤ length (now leaves)) × (length (now ws) ≡ 2 * d) ⌝ }
     ensures { λ _. ⌜ drop d (now (ws .exit)) ≡ coefficients d (signedAt d (now (leaves .entry)) j) ⌝ }
 {
     let at = j * d;
@@ -144,11 +156,10 @@ pub(crate) fn node(
     let half = ws.len() / 2;
     let n = half / 2 / d;
     clear(&mut ws[half..]);
-    let i = 3 * k;
     node(
         settings,
         h - 1,
-        i + 1,
+        child_of(k, 0),
         first,
         challenges,
         leaves,
@@ -158,7 +169,7 @@ pub(crate) fn node(
     node(
         settings,
         h - 1,
-        i + 2,
+        child_of(k, 1),
         first,
         challenges,
         leaves,
@@ -168,7 +179,7 @@ pub(crate) fn node(
     node(
         settings,
         h - 1,
-        i + 3,
+        child_of(k, 2),
         first,
         challenges,
         leaves,

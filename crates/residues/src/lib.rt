@@ -4,11 +4,13 @@ pub mod elements;
 mod rows;
 pub mod tables;
 
+use protocol::WIDTH;
 ghost use mathlib.Core.Path.{_≡_};
-ghost use Prim.Native.Nat.{_+_, _%_, _<_};
+ghost use Prim.Native.Nat.{_+_, _*_, _%_, _<_, _≤_};
 ghost use lib.IntN.{pos, negℤ};
 ghost use Rattle.protocol.specs.Basic.{Provided};
 ghost use Rattle.protocol.specs.Element.{modulo};
+ghost use Rattle.protocol.specs.Layout.{width};
 ghost use Rattle.residues.specs.Residues.{BothBelow};
 
 // x + y modulo q, of residues.
@@ -30,4 +32,17 @@ pub fn negated(q: u32, y: u32) -> u32
         return 0;
     }
     std::num::wrapping_sub_u32(q, y)
+}
+
+// An exponent of X on the circle of 2d places.
+pub fn on_circle(d: usize, e: usize) -> usize
+    ensures { λ r. ⌜ Provided ((0 < d) × (d ≤ width)) (r ≡ e % (2 * d)) ⌝ }
+{
+    if d == 0 {
+        return 0;
+    }
+    if d > WIDTH {
+        return 0;
+    }
+    rows::on_circle(d, e)
 }

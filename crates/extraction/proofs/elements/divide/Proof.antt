@@ -75,7 +75,7 @@ mul-on-circle : tie.Need-mul-on-circle Inv-loop μ-loop
 mul-on-circle c = let g = c .before .before .before .before .before .before .before .before in let l = c .before .before .before .before .before .before .before .loop in omega (arith, small g, turn-exponent g (l .j) (l .e) (l .inv .1))
 
 on-circle-requires : tie.Need-on-circle-requires Inv-loop μ-loop
-on-circle-requires c κs = let g = c .before .before .before .before .before .before .before .before in let l = c .before .before .before .before .before .before .before .loop in (small g, omega (arith, turn-exponent g (l .j) (l .e) (l .inv .1)))
+on-circle-requires c κs = search needs
 
 add-j : tie.Need-add-j Inv-loop μ-loop
 add-j c = search needs
@@ -87,7 +87,7 @@ loop-again : tie.Need-loop-again Inv-loop μ-loop
 loop-again c =
     let g = c .before .before .before .before .before .before .before .before .before in let l = c .before .before .before .before .before .before .before .before .loop in let a = g .args in (
       omega arith,
-      c .on-circle .ensures ∙ ap (λ n. 2 * n % (2 * a .d)) (l .inv .1) ∙ Q.next-exponent (a .d) (a .k) (l .j),
+      c .on-circle .ensures (some g, small g) ∙ ap (λ n. 2 * n % (2 * a .d)) (l .inv .1) ∙ Q.next-exponent (a .d) (a .k) (l .j),
       Q.next-sum (a .d) (a .k) (some g) (a .a .now) (l .a) (l .j) (l .inv .2) (l .e) (l .inv .1) _ (c .before .before .before .add-own .ensures),
       c .before .before .before .add-own .kept .1 .1 .0 ∙ l .inv .3,
       c .before .before .before .add-own .kept .1 .1 .1 .0 ∙ l .inv .4,

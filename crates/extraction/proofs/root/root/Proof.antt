@@ -10,6 +10,7 @@ use lib.IntN.{ℤ}
 use Rattle.protocol.specs.Settings.{size, cells}
 use Rattle.protocol.specs.Tree.{nodes, rootVector}
 use Rattle.protocol.proofs.Inputs.{valid-settings}
+use Rattle.extraction.specs.Nodes.{vectorRoom}
 use Rattle.extraction.proofs.Workspace.{kept-long, part-room, copied, root-room, root-at}
 use Rattle.extraction.proofs.root.root.Statement.{statement}
 use Rattle.extraction.proofs.root.root.Tie as tie
@@ -17,7 +18,7 @@ use Rattle.extraction.proofs.root.root.Tie as tie
 cells-are : (c : tie.After-cells) → c .cells .result ≡ cells (c .before .before .args .settings)
 cells-are c = let g = c .before .before in c .cells .ensures (valid-settings (g .args .settings) (g .pre .0 .valid))
 
-room : (c : tie.After-cells) → c .cells .result ≤ 1024
+room : (c : tie.After-cells) → c .cells .result ≤ vectorRoom
 room c = omega (arith, cells-are c, root-room _ _ _ (c .before .before .pre .0))
 
 nodes-are : (c : tie.After-nodes) → c .nodes .result ≡ nodes (c .before .before .before .args .settings)

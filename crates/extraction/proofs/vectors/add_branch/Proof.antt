@@ -6,7 +6,7 @@ use native.Mathlib.Omega.{arith}
 use borrow.Author.Needs.{needs}
 use borrow.Rule.Slice.PartMut.{putMid}
 use lib.IntN.{ℤ}
-use lib.ListN.{length, getD, take, drop}
+use lib.ListN.{length, take, drop}
 use Rattle.protocol.specs.Tree.{challenge, mu}
 use Rattle.extraction.specs.Vectors.{withShare, Sharing, Branching, branchAdded}
 use Rattle.residues.proofs.Parts.{tail-all}
@@ -14,15 +14,15 @@ use Rattle.extraction.proofs.Splicing.{drop-put-end}
 use Rattle.extraction.proofs.vectors.add_branch.Statement.{statement}
 use Rattle.extraction.proofs.vectors.add_branch.Tie as tie
 
-module _ (d n k j x y : ℕ) (E : List ℕ) (ws : List ℤ) (B : Branching d n k j x y E ws) {a b c : ℕ} (is-a : a ≡ getD E (3 * k + j) 0) (is-b : b ≡ getD E (3 * k + x) 0) (is-c : c ≡ getD E (3 * k + y) 0) where
+module _ (d n k j x y : ℕ) (E : List ℕ) (ws : List ℤ) (B : Branching d n k j x y E ws) {a b c : ℕ}
+    (is-a : a ≡ challenge E k j) (is-b : b ≡ challenge E k x) (is-c : c ≡ challenge E k y) where
   sharing : Sharing d n a b c (take (length ws - n * d) (drop (n * d) ws))
-  unfolding challenge
   sharing = rw (is-a, is-b, is-c, tail-all (n * d) ws) (B .sharing)
 
   added : (q : List ℤ)
       → drop (n * d) q ≡ withShare d n a (mu d a b c) (take (n * d) (take (length ws - n * d) (drop (n * d) ws))) (drop (n * d) (take (length ws - n * d) (drop (n * d) ws)))
       → drop (2 * (n * d)) (putMid (n * d) (length ws - n * d) ws q) ≡ branchAdded d n k j x y E ws
-  unfolding branchAdded challenge
+  unfolding branchAdded
   added q e =
       let two : 2 * (n * d) ≡ n * d + n * d = omega arith in
       ap (λ z. drop z (putMid (n * d) (length ws - n * d) ws q)) two
@@ -30,26 +30,14 @@ module _ (d n k j x y : ℕ) (E : List ℕ) (ws : List ℤ) (B : Branching d n k
       ∙ e
       ∙ λ i. withShare d n (is-a i) (mu d (is-a i) (is-b i) (is-c i)) (take (n * d) (tail-all (n * d) ws i)) (drop (n * d) (tail-all (n * d) ws i))
 
-mul-i : tie.Need-mul-i
-mul-i c = search needs
+challenge-of-requires : tie.Need-challenge-of-requires
+challenge-of-requires c κs = search needs
 
-add-exponent : tie.Need-add-exponent
-add-exponent c = search needs
+challenge-of-requires-2 : tie.Need-challenge-of-requires-2
+challenge-of-requires-2 c κs = search needs
 
-exponent-requires : tie.Need-exponent-requires
-exponent-requires c κs = search needs
-
-add-exponent-2 : tie.Need-add-exponent-2
-add-exponent-2 c = search needs
-
-exponent-requires-2 : tie.Need-exponent-requires-2
-exponent-requires-2 c κs = search needs
-
-add-exponent-3 : tie.Need-add-exponent-3
-add-exponent-3 c = search needs
-
-exponent-requires-3 : tie.Need-exponent-requires-3
-exponent-requires-3 c κs = search needs
+challenge-of-requires-3 : tie.Need-challenge-of-requires-3
+challenge-of-requires-3 c κs = search needs
 
 mul-cells : tie.Need-mul-cells
 mul-cells c = search needs
@@ -69,27 +57,26 @@ part-add-share-end c = search needs
 add-share-requires : tie.Need-add-share-requires
 add-share-requires c κs =
     let g = c .before .before .before .before .before in let a = g .args in
-    sharing (a .d) (a .n) (a .k) (a .j) (a .x) (a .y) (a .challenges .now) (a .ws .now) (g .pre) (c .before .before .before .exponent .ensures) (c .before .before .exponent2 .ensures) (c .before .exponent3 .ensures)
+    sharing (a .d) (a .n) (a .k) (a .j) (a .x) (a .y) (a .challenges .now) (a .ws .now) (g .pre)
+    (c .before .before .before .challenge-of .ensures) (c .before .before .challenge-of2 .ensures) (c .before .challenge-of3 .ensures)
 
 same-length : tie.Need-same-length
 same-length c = search needs
 
 returns : tie.Need-returns
 returns c =
-    let g = c .before .before .before .before .before .before .before in let a = g .args in
-    added (a .d) (a .n) (a .k) (a .j) (a .x) (a .y) (a .challenges .now) (a .ws .now) (g .pre) (c .before .before .before .before .before .exponent .ensures) (c .before .before .before .before .exponent2 .ensures) (c .before .before .before .exponent3 .ensures) _ (c .before .add-share .ensures)
+    let h = c .before .before in
+    let g = h .before .before .before .before .before in let a = g .args in
+    added (a .d) (a .n) (a .k) (a .j) (a .x) (a .y) (a .challenges .now) (a .ws .now) (g .pre)
+    (h .before .before .before .challenge-of .ensures) (h .before .before .challenge-of2 .ensures) (h .before .challenge-of3 .ensures) _ (c .before .add-share .ensures)
 
 pub add-branch-spec : {M : Type 1} → statement M
 add-branch-spec =
     tie.close
     (tie.spec
-    mul-i
-    add-exponent
-    exponent-requires
-    add-exponent-2
-    exponent-requires-2
-    add-exponent-3
-    exponent-requires-3
+    challenge-of-requires
+    challenge-of-requires-2
+    challenge-of-requires-3
     mul-cells
     mul-add-share
     sub-add-share

@@ -14,14 +14,18 @@ use Rattle.extraction.proofs.Shares.{backOnce, backTwice, share-scalabl
 use Rattle.extraction.proofs.vectors.add_share.Statement.{statement}
 use Rattle.extraction.proofs.vectors.add_share.Tie as tie
 
+-- the degree is one, so that exponents go round
+circle : (g : tie.Start) → (0 < g .args .d) × (g .args .d ≤ 64)
+circle g = (g .pre .some, g .pre .small)
+
 -- the exponents
 first : (c : tie.After-on-circle) → let a = c .before .args in c .on-circle .result ≡ gap (a .d) (a .a) (a .b)
 unfolding gap
-first c = c .on-circle .ensures
+first c = c .on-circle .ensures (circle (c .before))
 
 second : (c : tie.After-on-circle2) → let a = c .before .before .args in c .on-circle2 .result ≡ gap (a .d) (a .a) (a .c)
 unfolding gap
-second c = c .on-circle2 .ensures
+second c = c .on-circle2 .ensures (circle (c .before .before))
 
 -- where the function began
 abbrev at-scale : (c : tie.After-scale) → tie.Start
@@ -32,14 +36,14 @@ at-once c = at-scale (c .before .before .before)
 
 once : (c : tie.After-on-circle4) → let a = at-once c .args in c .on-circle4 .result ≡ backOnce (a .d) (a .a)
 unfolding backOnce
-once c = c .on-circle4 .ensures
+once c = c .on-circle4 .ensures (circle (at-once c))
 
 once-small : (c : tie.After-on-circle4) → c .on-circle4 .result < 2 * at-once c .args .d
-once-small c = let g = at-once c in let p : 0 < 2 * g .args .d = omega (arith, g .pre .some) in omega (arith, c .on-circle4 .ensures, Nat.mod-lt (2 * g .args .d - g .args .a) p)
+once-small c = let g = at-once c in let p : 0 < 2 * g .args .d = omega (arith, g .pre .some) in omega (arith, c .on-circle4 .ensures (circle g), Nat.mod-lt (2 * g .args .d - g .args .a) p)
 
 twice : (c : tie.After-on-circle5) → let a = at-once (c .before) .args in c .on-circle5 .result ≡ backTwice (a .d) (a .a)
 unfolding backTwice
-twice c = c .on-circle5 .ensures ∙ ap (λ x. 2 * x % (2 * at-once (c .before) .args .d)) (once (c .before))
+twice c = c .on-circle5 .ensures (circle (at-once (c .before))) ∙ ap (λ x. 2 * x % (2 * at-once (c .before) .args .d)) (once (c .before))
 
 -- the products, and the node's vector behind them
 products : (c : tie.After-scale) → let a = at-scale c .args in
@@ -47,7 +51,7 @@ products : (c : tie.After-scale) → let a = at-scale c .args in
 products c =
     let a = at-scale c .args in
     let at = c .before .before .before in
-    c .scale .ensures ∙ (λ i. scaled (a .d) (a .n) (first (at .before .before) i) (second (at .before) i) (at .on-circle3 .ensures i) (take (a .n * a .d) (a .l .now)))
+    c .scale .ensures ∙ (λ i. scaled (a .d) (a .n) (first (at .before .before) i) (second (at .before) i) (at .on-circle3 .ensures (circle (at-scale c)) i) (take (a .n * a .d) (a .l .now)))
 
 abbrev whole : (c : tie.After-scale) → List ℤ
 whole c = c .scale .last .1 .1 .1 .1 .1 .0 ++ drop (at-scale c .args .n * at-scale c .args .d) (at-scale c .args .l .now)
@@ -76,19 +80,19 @@ add-on-circle : tie.Need-add-on-circle
 add-on-circle c = omega (arith, c .pre .small, c .pre .others .0)
 
 on-circle-requires : tie.Need-on-circle-requires
-on-circle-requires c κs = (c .pre .small, omega (arith, c .pre .some, c .pre .others .0))
+on-circle-requires c κs = search needs
 
 add-on-circle-2 : tie.Need-add-on-circle-2
 add-on-circle-2 c = omega (arith, c .before .pre .small, c .before .pre .others .1)
 
 on-circle-requires-2 : tie.Need-on-circle-requires-2
-on-circle-requires-2 c κs = (c .before .pre .small, omega (arith, c .before .pre .some, c .before .pre .others .1))
+on-circle-requires-2 c κs = search needs
 
 add-on-circle-3 : tie.Need-add-on-circle-3
 add-on-circle-3 c = let g = c .before .before in omega (arith, g .pre .small, g .pre .others .0, g .pre .others .1)
 
 on-circle-requires-3 : tie.Need-on-circle-requires-3
-on-circle-requires-3 c κs = let g = c .before .before in (g .pre .small, omega (arith, g .pre .others .0, g .pre .others .1))
+on-circle-requires-3 c κs = search needs
 
 mul-cells : tie.Need-mul-cells
 mul-cells c = search needs
@@ -103,16 +107,19 @@ slice-aggregate-scale-2 : tie.Need-slice-aggregate-scale-2
 slice-aggregate-scale-2 c = search needs
 
 scale-requires : tie.Need-scale-requires
-scale-requires c κs = let g = c .before .before .before .before .before in let a = g .args in (omega (arith, g .pre .small), rw (first (c .before .before .before .before), second (c .before .before .before), c .before .before .on-circle3 .ensures) (share-scalable (a .d) (a .n) (a .a) (a .b) (a .c) (a .l .now) (g .pre)))
+scale-requires c κs =
+    let g = c .before .before .before .before .before in let a = g .args in
+    let is-e = c .before .before .on-circle3 .ensures (circle g) in
+    (omega (arith, g .pre .small), rw (first (c .before .before .before .before), second (c .before .before .before), is-e) (share-scalable (a .d) (a .n) (a .a) (a .b) (a .c) (a .l .now) (g .pre)))
 
 on-circle-requires-4 : tie.Need-on-circle-requires-4
-on-circle-requires-4 c κs = let g = at-scale (c .before .before) in (g .pre .small, omega (arith, g .pre .some))
+on-circle-requires-4 c κs = search needs
 
 mul-on-circle : tie.Need-mul-on-circle
 mul-on-circle c = omega (arith, once-small c, at-once c .pre .small)
 
 on-circle-requires-5 : tie.Need-on-circle-requires-5
-on-circle-requires-5 c κs = (at-once c .pre .small, omega (arith, once-small c))
+on-circle-requires-5 c κs = search needs
 
 slice-aggregate-add-turned : tie.Need-slice-aggregate-add-turned
 slice-aggregate-add-turned c = search needs
