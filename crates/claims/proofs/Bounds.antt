@@ -15,7 +15,7 @@ use Rattle.protocol.specs.Settings.{size, cells}
 use Rattle.protocol.specs.Opening.{left, halfLeft, messageAfter}
 use Rattle.protocol.specs.Inputs.{Within}
 use Rattle.protocol.proofs.Reading.{cell-inside}
-use Rattle.claims.proofs.Tables.{folded, signed-fold, message-suc, message-length, left-inside, left-power, halfLeft-power, twice-power}
+use Rattle.protocol.proofs.OpeningLaws.{folded, signed-fold, message-suc, message-length, left-inside, left-power, halfLeft-power, twice-power}
 
 -- the places of an element below d lie within B
 abbrev pub Bounded : ℕ → ℕ → Element → Type 0

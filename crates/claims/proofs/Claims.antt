@@ -21,8 +21,10 @@ use Rattle.protocol.specs.Element.{Element, times, signedAt, residue, residueAt
 use Rattle.protocol.specs.Settings.{size, half}
 use Rattle.protocol.specs.Opening.{inner, roundTable, second, cross, halfLeft, commitment, roundElement, messageAfter, keyAfter}
 use Rattle.protocol.specs.Transcript.{Transcript, element, claimAfter}
-use Rattle.claims.proofs.Readings.{read-plus, read-times, read-inner, reduced-at, readq-modulo, readq-entries}
-use Rattle.claims.proofs.Tables.{message-folds, key-folds, halfLeft-power, twice-power, round-at}
+use Rattle.protocol.proofs.Modulo.{reduced-at}
+use Rattle.claims.proofs.Readings.{read-plus, read-times, read-inner, readq-modulo, readq-entries}
+use Rattle.protocol.proofs.OpeningLaws.{halfLeft-power, twice-power, round-at}
+use Rattle.claims.proofs.Tables.{message-folds, key-folds}
 use Rattle.claims.proofs.Checks.{Q, readS, X^S, two-half, half-power-suc, read-nextClaim}
 
 -- what an opening sends, with a commitment C and a final element f

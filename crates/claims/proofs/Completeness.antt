@@ -16,7 +16,7 @@ use Rattle.protocol.specs.Opening.{inner, commitment, messageAfter, keyAfter}
 use Rattle.protocol.specs.Transcript.{Transcript, doubled, ending, element, claimAfter, transcriptOf, Accepted}
 use Rattle.claims.proofs.Readings.{read-ext}
 use Rattle.claims.proofs.Bounds.{last-bound}
-use Rattle.claims.proofs.Ranges.{reduced-below, claim-below, last-at}
+use Rattle.protocol.proofs.Ranges.{reduced-below, claim-below, last-at}
 use Rattle.claims.proofs.Claims.{sent, doubled-honest, claim-honest}
 use Rattle.claims.proofs.Checks.{Q, readS, equation-round, equation-end}
 

@@ -21,9 +21,9 @@ use Rattle.protocol.specs.Judge.{slack}
 use Rattle.protocol.proofs.Reading.{flat-own, flat-ext}
 use Rattle.claims.proofs.Readings.{read-ext, read-times, readℤ, readℤ-inj}
 use Rattle.claims.proofs.Tables.{signed-folds}
-use Rattle.claims.proofs.Numbering.{AtDepth, root-depth, child-depth}
-use Rattle.claims.proofs.Paths.{depth-branching, halfLeft-height, below-root, path-challenge}
-use Rattle.claims.proofs.Walk.{stateOn, Walk, Visits, visits-walk}
+use Rattle.protocol.proofs.Numbering.{AtDepth, root-depth, child-depth}
+use Rattle.protocol.proofs.Paths.{depth-branching, halfLeft-height, below-root, path-challenge}
+use Rattle.protocol.proofs.Walk.{stateOn, Walk, Visits, visits-walk}
 use Rattle.claims.proofs.Weights.{Triple, signed-coefficients, balanced}
 use Rattle.claims.proofs.Combination.{four-power, Balanced, unfold-low, unfold-high}
 use Rattle.claims.proofs.Vectors.{halves, vec, vec-leaf, vec-low, vec-high, e^, μ₁, μ₂, μ₃, vector-length}

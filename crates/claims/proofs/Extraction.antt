@@ -27,16 +27,16 @@ use Rattle.protocol.specs.Tree.{child, challenge, nodes, leaf, rootVector}
 use Rattle.protocol.specs.Judge.{slack, scaledCommitment, combination, Opens}
 use Rattle.protocol.specs.Calls.{everyPath}
 use Rattle.protocol.proofs.Tests.{and-split, every-at}
-use Rattle.claims.specs.TreeCheck.{nodeElement, foldedEnding, claimTo, nodeHolds, foldedEndHolds, leafAccepted, treeAccepted}
+use Rattle.protocol.specs.TreeCheck.{nodeElement, foldedEnding, claimTo, nodeHolds, foldedEndHolds, leafAccepted, treeAccepted}
 use Rattle.claims.proofs.Readings.{read-times, read-product, read-inner, readq-entries, readq-inj}
 use Rattle.claims.proofs.Tables.{residue-folds}
 use Rattle.claims.proofs.Checks.{Q, readS, X^S, two-half, half-power-suc, read-nextClaim, round-equation}
-use Rattle.claims.proofs.Numbering.{AtDepth, root-depth, child-depth}
-use Rattle.claims.proofs.Paths.{depth-branching, halfLeft-height}
+use Rattle.protocol.proofs.Numbering.{AtDepth, root-depth, child-depth}
+use Rattle.protocol.proofs.Paths.{depth-branching, halfLeft-height}
 use Rattle.claims.proofs.Weights.{Triple, balanced}
 use Rattle.claims.proofs.Combination.{four-power, inner-mixed, climb}
 use Rattle.claims.proofs.Vectors.{vec, vec-leaf, vec-low, vec-high, e^, μ₁, μ₂, μ₃}
-use Rattle.claims.proofs.TreeCheck.{tree-split, every-path-tree}
+use Rattle.protocol.proofs.TreeCheck.{tree-split, every-path-tree}
 
 module _ (S : Settings) (p : 0 < S .degree) (pq : 0 < S .modulus) (rounds E : List ℕ) (finals : List ℤ) where
   open Settings S using (degree as d, depth as L, modulus as q)

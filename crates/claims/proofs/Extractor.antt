@@ -16,7 +16,7 @@ use Rattle.protocol.specs.Basic.{every, first, unless, granted}
 use Rattle.protocol.specs.Element.{signed}
 use Rattle.protocol.specs.Settings.{size, cells, sized, residues, residueElement, exponent, exponents}
 use Rattle.protocol.specs.Transcript.{accepted}
-use Rattle.protocol.specs.Tree.{nodes, leaves, leaf, path, challenge, apart, rootVector, growth, growthLimit, grows}
+use Rattle.protocol.specs.Tree.{nodes, leaves, leaf, path, challenge, apart, rootVector, growth, growthLimit, growthAllowed}
 use Rattle.protocol.specs.Judge.{slack, slackAllowed, opens, judged, Opens}
 use Rattle.protocol.specs.Calls.{everyPath, extractRefusal, extractExit, judgeRefusal, judgeAnswer}
 use Rattle.protocol.specs.Inputs.{Valid, Below, Within}
@@ -26,7 +26,7 @@ use Rattle.protocol.proofs.Refusals.{first-passes, first-holds, first-fails}
 use Rattle.protocol.proofs.Inputs.{valid-settings, below-tested, below-sized, within-tested}
 use Rattle.protocol.proofs.Acceptance.{accepted-test}
 use Rattle.claims.proofs.Bounds.{Bounded}
-use Rattle.claims.proofs.Ranges.{accepted-commitment}
+use Rattle.protocol.proofs.Ranges.{accepted-commitment}
 use Rattle.claims.proofs.Honest.{degree-positive, modulus-positive}
 use Rattle.claims.proofs.Weights.{Triple, node-triple}
 use Rattle.claims.proofs.Extraction.{extracts}
@@ -81,14 +81,14 @@ module _ (S : Settings) (ok : Valid S) (G C rounds E : List ℕ) (finals : List 
   -- ---- the tests before 14 pass
 
   module _ (w : List ℤ) (long : length w ≡ cells S) where
-    pub judge-tests : (c : ℕ) → judgeRefusal S C c G w ≡ first (unless 14 (grows S) ∷ unless 15 (slackAllowed S c) ∷ [])
+    pub judge-tests : (c : ℕ) → judgeRefusal S C c G w ≡ first (unless 14 (growthAllowed S) ∷ unless 15 (slackAllowed S c) ∷ [])
     unfolding judgeRefusal residues sized
     judge-tests c =
         first-passes _ _ (valid-settings S ok)
         ∙ first-holds 7 _ _ (and-intro (below-sized q (cells S) G key-ok) (eq-eqb _ _ long))
         ∙ first-holds 8 _ _ (and-intro (below-tested q (cells S) G key-ok) commitment-tested)
 
-    pub extract-tests : extractRefusal S C G rounds E finals w ≡ first (unless 14 (grows S) ∷ [])
+    pub extract-tests : extractRefusal S C G rounds E finals w ≡ first (unless 14 (growthAllowed S) ∷ [])
     unfolding extractRefusal residues exponents exponent sized
     extract-tests =
         first-passes _ _ (valid-settings S ok)
@@ -105,14 +105,14 @@ module _ (S : Settings) (ok : Valid S) (G C rounds E : List ℕ) (finals : List 
 
     -- beyond 2^62 judge and extractor refuse every full tree by 14, whatever the slack
     pub growth-refused : growthLimit < growth S → ((c : ℕ) → judgeRefusal S C c G w ≡ 14) × (extractRefusal S C G rounds E finals w ≡ 14)
-    unfolding grows
-    growth-refused over = let past : grows S ≡ false = lt-leb _ _ over in (λ c. judge-tests c ∙ first-fails 13 _ _ past, extract-tests ∙ first-fails 13 _ _ past)
+    unfolding growthAllowed
+    growth-refused over = let past : growthAllowed S ≡ false = lt-leb _ _ over in (λ c. judge-tests c ∙ first-fails 13 _ _ past, extract-tests ∙ first-fails 13 _ _ past)
 
     -- up to 2^62 they refuse none
     pub growth-passed : growth S ≤ growthLimit → ((c : ℕ) → slackAllowed S c ≡ true → judgeRefusal S C c G w ≡ 0) × (extractRefusal S C G rounds E finals w ≡ 0)
-    unfolding grows
+    unfolding growthAllowed
     growth-passed room =
-        let small : grows S ≡ true = le-leb _ _ room in
+        let small : growthAllowed S ≡ true = le-leb _ _ room in
         (λ c a. judge-tests c ∙ first-holds 14 _ _ small ∙ first-holds 15 _ _ a ∙ first-nothing, extract-tests ∙ first-holds 14 _ _ small ∙ first-nothing)
 
   -- ---- within 2^62

@@ -13,16 +13,14 @@ use Rattle.protocol.specs.Element.{Element, rotate, plus, signed, signedAt}
 use Rattle.protocol.specs.Settings.{size, cells}
 use Rattle.protocol.specs.Tree.{child, challenge, mu, share, joined, combined, nodes, leaves, leaf, vector, rootVector, growthFactor, growth}
 use Rattle.protocol.specs.Inputs.{Within}
+use Rattle.protocol.proofs.GrowthTest.{square}
 use Rattle.claims.proofs.Bounds.{Bounded, rotate-bounded}
-use Rattle.claims.proofs.Numbering.{AtDepth, root-depth, child-depth}
-use Rattle.claims.proofs.Paths.{depth-leaf}
+use Rattle.protocol.proofs.Numbering.{AtDepth, root-depth, child-depth}
+use Rattle.protocol.proofs.Paths.{depth-leaf}
 use Rattle.claims.proofs.Vectors.{halves, signed-first, joined-low, joined-high, vector-length}
 use Rattle.claims.proofs.Norms.{running, running-bounded, product-bounded, weight-mu}
 
 -- ---- the bound at a height
-
-pub square : (d : ℕ) → d ^ 2 ≡ d * d
-square d = rw (Nat.pow-suc d 1, Nat.pow-suc d 0, Nat.pow-zero d) (omega arith)
 
 mul-power : (x y h : ℕ) → x ^ h * y ^ h ≡ (x * y) ^ h
 mul-power x y zero = simp Nat.pow-zero

@@ -21,7 +21,7 @@ use Rattle.protocol.specs.Inputs.{Valid, Below, Within}
 use Rattle.protocol.proofs.Tests.{and-intro, first-nothing, zero-first, zero-unless, granted-zero}
 use Rattle.protocol.proofs.Inputs.{valid-settings, below-tested, below-sized, within-tested, within-sized}
 use Rattle.protocol.proofs.Acceptance.{accepted-test}
-use Rattle.claims.proofs.Ranges.{padded-at, commitment-below, last-padded-at}
+use Rattle.protocol.proofs.Ranges.{padded-at, commitment-below, last-padded-at}
 use Rattle.claims.proofs.Completeness.{complete, complete-beyond}
 
 pub degree-positive : (S : Settings) → Valid S → 0 < S .degree

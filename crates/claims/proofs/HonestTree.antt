@@ -20,10 +20,10 @@ use Rattle.protocol.specs.Demand3.{Held, Heard, State, Step, Gap, Run, step, be
 use Rattle.protocol.specs.Performed.{Refusals, Performs, Performance}
 use Rattle.protocol.specs.HonestTree.{wayTo, answerAt, honestRounds, honestFinals, ThreeEach, HonestTree, NeverVacuous}
 use Rattle.protocol.proofs.Reading.{tabulate-length, tabulate-at, tabulate-ext, tabulate-own, flat-length, flat-at, flat-ext}
-use Rattle.claims.proofs.Tables.{key-challenges, message-challenges}
-use Rattle.claims.proofs.Ranges.{below-everywhere, round-below, last-length}
-use Rattle.claims.proofs.Numbering.{before}
-use Rattle.claims.proofs.Paths.{path-root, path-parent, path-depth, depth-branching}
+use Rattle.protocol.proofs.OpeningLaws.{key-challenges, message-challenges}
+use Rattle.protocol.proofs.Ranges.{below-everywhere, round-below, last-length}
+use Rattle.protocol.proofs.Numbering.{before}
+use Rattle.protocol.proofs.Paths.{path-root, path-parent, path-depth, depth-branching}
 use Rattle.claims.proofs.Completeness.{complete}
 use Rattle.claims.proofs.Honest.{degree-positive, modulus-positive}
 

@@ -23,7 +23,7 @@ use Rattle.protocol.specs.Session.{shut}
 use Rattle.protocol.specs.Calls.{polynomial}
 use Rattle.protocol.specs.Demand3.{State, Step, turns, moves, hear, hearCommitment, hearPolynomial, hearLast, hearVerdict, step, begun, backRecord, Run}
 use Rattle.protocol.proofs.Reading.{tabulate-own, flat-suc}
-use Rattle.claims.proofs.Ranges.{round-below}
+use Rattle.protocol.proofs.Ranges.{round-below}
 use Rattle.claims.proofs.Honest.{Given, modulus-positive}
 use Rattle.claims.proofs.Refused.{runs, run-steps}
 use Rattle.claims.proofs.Prover.{commit-answer, round-answer, fold-granted, fold-key, fold-message, end-answer}

@@ -28,10 +28,10 @@ use Rattle.protocol.proofs.Inputs.{settings-valid, valid-settings, tested-below
 use Rattle.protocol.proofs.Acceptance.{accepted-test}
 use Rattle.protocol.proofs.LineLaws.{lines-append}
 use Rattle.protocol.proofs.TableLaws.{Fit}
-use Rattle.claims.proofs.Ranges.{commitment-below, rounds-below, last-length}
+use Rattle.protocol.proofs.Ranges.{commitment-below, rounds-below, last-length}
 use Rattle.claims.proofs.Completeness.{complete}
 use Rattle.claims.proofs.Honest.{Given, degree-positive, modulus-positive}
-use Rattle.claims.proofs.TextLimits.{allowed, size-le, Passed}
+use Rattle.protocol.proofs.TextLimits.{allowed, size-le, Passed}
 use Rattle.claims.proofs.RoundTrip.{readable-tables, tables-readable}
 
 -- ---- the tables

@@ -18,8 +18,8 @@ use Rattle.protocol.specs.Calls.{commitRefusal, commitAnswer, leftSmall, moving
 use Rattle.protocol.specs.Inputs.{Below}
 use Rattle.protocol.proofs.Tests.{and-intro, first-nothing, zero-first, zero-unless}
 use Rattle.protocol.proofs.Inputs.{valid-settings, below-tested, below-sized, within-tested}
-use Rattle.claims.proofs.Tables.{message-length}
-use Rattle.claims.proofs.Ranges.{key-residues}
+use Rattle.protocol.proofs.OpeningLaws.{message-length}
+use Rattle.protocol.proofs.Ranges.{key-residues}
 use Rattle.claims.proofs.Bounds.{left-within}
 use Rattle.claims.proofs.Honest.{Given, degree-positive, modulus-positive}
 

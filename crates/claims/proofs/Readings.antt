@@ -24,7 +24,7 @@ use Rattle.algebra.specs.Inner as I
 use Rattle.protocol.specs.Basic as B
 use Rattle.protocol.specs.Element.{Element, modulo, flips, around, rotate, product, one, power, plus, times, residue, reduced}
 use Rattle.protocol.specs.Opening.{inner}
-use Rattle.protocol.proofs.Reading.{tabulate-at}
+use Rattle.protocol.proofs.Modulo.{reduced-at, modulo-lt, modulo-residue}
 
 module _ (K : CommRing) (d : ℕ) (p : 0 < d) where
   abbrev KX : CommRing
@@ -138,27 +138,14 @@ module _ (d : ℕ) (p : 0 < d) where
 
 -- ---- over ℤ/q
 
-pub reduced-at : (q d : ℕ) (a : Element) (k : ℕ) → k < d → getD (reduced q d a) k 0 ≡ modulo q (a k)
-unfolding reduced
-reduced-at q d a k l = tabulate-at d (λ k. modulo q (a k)) 0 k l
-
 module _ (q : ℕ) (pq : 0 < q) where
-  pub modulo-lt : (z : ℤ) → modulo q z < q
-  unfolding modulo
-  modulo-lt (pos n) = Nat.mod-lt n pq
-  modulo-lt (negsuc n) = omega (arith, Nat.mod-lt n pq)
-
-  pub modulo-residue : (n : ℕ) → n < q → modulo q (pos n) ≡ n
-  unfolding modulo
-  modulo-residue n l = Nat.mod-eq-of-lt l
-
   ofℤ-modulo : (z : ℤ) → ofℤ (Zmod q pq) z ≡ res q pq (modulo q z)
   unfolding modulo
   ofℤ-modulo (pos n) = ofℤ-pos q pq n
   ofℤ-modulo (negsuc n) = ofℤ-negsuc q pq n
 
   rep-ofℤ : (z : ℤ) → rep q pq (ofℤ (Zmod q pq) z) ≡ modulo q z
-  rep-ofℤ z = ap (rep q pq) (ofℤ-modulo z) ∙ rep-res q pq (modulo q z) ∙ Nat.mod-eq-of-lt (modulo-lt z)
+  rep-ofℤ z = ap (rep q pq) (ofℤ-modulo z) ∙ rep-res q pq (modulo q z) ∙ Nat.mod-eq-of-lt (modulo-lt q pq z)
 
   module _ (d : ℕ) (p : 0 < d) where
     abbrev pub readq : Element → negacyclic (Zmod q pq) d p .C
@@ -173,7 +160,7 @@ module _ (q : ℕ) (pq : 0 < q) where
 
     -- what is reduced place by place is the same element
     pub readq-modulo : (a : Element) {b : Element} → ((k : ℕ) → k < d → b k ≡ pos (modulo q (a k))) → readq b ≡ readq a
-    readq-modulo a {b} e = readq-ext b a (λ k l. ap (modulo q) (e k l) ∙ modulo-residue (modulo q (a k)) (modulo-lt (a k)))
+    readq-modulo a {b} e = readq-ext b a (λ k l. ap (modulo q) (e k l) ∙ modulo-residue q pq (modulo q (a k)) (modulo-lt q pq (a k)))
 
     -- a list of residues is a, reduced, exactly when its first d entries are a's places modulo q
     pub readq-entries : (a : Element) (l : List ℕ) → ((k : ℕ) → k < d → getD l k 0 ≡ modulo q (a k)) → readq (residue l) ≡ readq a
@@ -182,7 +169,7 @@ module _ (q : ℕ) (pq : 0 < q) where
 
     pub entries-readq : (a : Element) (l : List ℕ) → ((k : ℕ) → k < d → getD l k 0 < q) → readq (residue l) ≡ readq a → (k : ℕ) → k < d → getD l k 0 ≡ modulo q (a k)
     unfolding residue
-    entries-readq a l r e k h = sym (modulo-residue (getD l k 0) (r k h)) ∙ readq-inj (residue l) a e k h
+    entries-readq a l r e k h = sym (modulo-residue q pq (getD l k 0) (r k h)) ∙ readq-inj (residue l) a e k h
 
     pub readq-reduced : (a : Element) → readq (residue (reduced q d a)) ≡ readq a
     readq-reduced a = readq-entries a (reduced q d a) (reduced-at q d a)

@@ -26,7 +26,7 @@ use Rattle.protocol.proofs.Tests.{first-zero, unless-zero, and-intro}
 use Rattle.protocol.proofs.LineLaws.{AllLimited, linesOf-written, parsed-text}
 use Rattle.protocol.proofs.TableLaws.{Rising, Fit, parts, columns, written-spots, written-columns, blockLines-values, read-lines, read-fit}
 use Rattle.protocol.proofs.TableLaws.{Split, split}
-use Rattle.claims.proofs.TextLimits.{Allowed, allowed, Passed, passed, unrefused, lines-limited, contents-limited, below-limited, exponent-le}
+use Rattle.protocol.proofs.TextLimits.{Allowed, allowed, Passed, passed, unrefused, lines-limited, contents-limited, below-limited, exponent-le}
 
 -- ---- The parts
 

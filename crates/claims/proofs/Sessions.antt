@@ -25,9 +25,9 @@ use Rattle.protocol.specs.Inputs.{Below}
 use Rattle.protocol.proofs.Tests.{and-intro, every-intro, first-nothing, zero-first, zero-unless}
 use Rattle.protocol.proofs.Reading.{tabulate-ext, tabulate-own}
 use Rattle.protocol.proofs.Inputs.{valid-settings, below-tested, below-sized}
-use Rattle.claims.proofs.Tables.{round-at}
-use Rattle.claims.proofs.Ranges.{padded-at, reduced-below, commitment-below, round-below, last-padded-at}
-use Rattle.claims.proofs.Agreement.{Same, claim-same, round-same}
+use Rattle.protocol.proofs.OpeningLaws.{round-at}
+use Rattle.protocol.proofs.Ranges.{padded-at, reduced-below, commitment-below, round-below, last-padded-at}
+use Rattle.protocol.proofs.Agreement.{Same, claim-same, round-same}
 use Rattle.claims.proofs.Claims.{sent}
 use Rattle.claims.proofs.Completeness.{complete-beyond}
 use Rattle.claims.proofs.Honest.{Given, degree-positive, modulus-positive}

@@ -16,7 +16,7 @@ use Rattle.protocol.specs.Settings.{exponent, exponents}
 use Rattle.protocol.specs.Transcript.{ending}
 use Rattle.protocol.specs.Session.{slots}
 use Rattle.protocol.proofs.Tests.{and-split, and-intro}
-use Rattle.claims.proofs.Tables.{key-challenges}
+use Rattle.protocol.proofs.OpeningLaws.{key-challenges}
 
 -- PROTOCOL 4.3: the new challenge is in its slot, and the slots behind it are still 0
 unfoldable pub stored : List ℕ → ℕ → List ℕ

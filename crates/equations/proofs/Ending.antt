@@ -22,8 +22,8 @@ use Rattle.products.specs.Products.{extension, start, addRows, total, term}
 use Rattle.residues.proofs.Padding.{element-residue}
 use Rattle.products.proofs.Rows.{total-most, rows-at, extension-below, terms-residue}
 use Rattle.equations.specs.Ends.{quotientIs, equationMet, endMet}
-use Rattle.claims.proofs.Agreement.{every-ext, product-same}
-use Rattle.claims.proofs.Tables.{left-power}
+use Rattle.protocol.proofs.Agreement.{every-ext, product-same}
+use Rattle.protocol.proofs.OpeningLaws.{left-power}
 use Rattle.equations.proofs.Ready.{Ready}
 use Rattle.equations.proofs.Quotients.{quotient-test, half-inverse}
 

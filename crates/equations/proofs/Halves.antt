@@ -9,7 +9,7 @@ use Rattle.protocol.specs.declared.Settings.{Settings}
 use Rattle.protocol.specs.Settings.{cells}
 use Rattle.protocol.specs.Opening.{left, halfLeft}
 use Rattle.protocol.specs.Inputs.{Below}
-use Rattle.claims.proofs.Tables.{left-power, halfLeft-power, left-inside, twice-power}
+use Rattle.protocol.proofs.OpeningLaws.{left-power, halfLeft-power, left-inside, twice-power}
 use Rattle.residues.specs.Folds.{Foldable}
 use Rattle.equations.proofs.Ready.{Ready}
 

@@ -22,7 +22,7 @@ use Rattle.protocol.specs.Demand3.{Step, moves, FullTree}
 use Rattle.protocol.specs.Demand3 as Demand
 use Rattle.protocol.proofs.Tests.{and-intro, granted-zero}
 use Rattle.claims.proofs.Honest.{Given, modulus-positive, opening-rounds}
-use Rattle.claims.proofs.Ranges.{padded-at, commitment-below, last-length}
+use Rattle.protocol.proofs.Ranges.{padded-at, commitment-below, last-length}
 use Rattle.claims.proofs.Refused as Steps
 use Rattle.claims.proofs.Moves.{roundsAfter}
 use Rattle.claims.proofs.Moves as Value

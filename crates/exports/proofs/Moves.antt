@@ -20,7 +20,7 @@ use Rattle.protocol.specs.Calls.{polynomial}
 use Rattle.protocol.specs.Demand3.{Step, turns, moves}
 use Rattle.protocol.proofs.Reading.{tabulate-ext, flat-length, flat-suc}
 use Rattle.claims.proofs.Honest.{Given, modulus-positive}
-use Rattle.claims.proofs.Ranges.{padded-at, round-below}
+use Rattle.protocol.proofs.Ranges.{padded-at, round-below}
 use Rattle.claims.proofs.Prover.{fold-granted, fold-key, fold-message}
 use Rattle.claims.proofs.Sessions.{sessionAfter}
 use Rattle.claims.proofs.Moves.{roundsAfter}

@@ -27,7 +27,7 @@ use Rattle.protocol.proofs.Refusals.{first-passes, first-holds, first-only}
 use Rattle.protocol.proofs.Inputs.{valid-settings}
 use Rattle.protocol.proofs.Reading.{flat-length}
 use Rattle.claims.proofs.Honest.{Given, modulus-positive}
-use Rattle.claims.proofs.Ranges.{commitment-below, round-below, last-length}
+use Rattle.protocol.proofs.Ranges.{commitment-below, round-below, last-length}
 use Rattle.claims.proofs.Prover.{commit-answer, round-answer, end-answer}
 use Rattle.claims.proofs.Sessions.{sessionAfter, start-answer, move-answer, close-answer}
 use Rattle.slices.specs.Slices.{lent, polynomialOf, laid}

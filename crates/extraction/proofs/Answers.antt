@@ -10,7 +10,7 @@ use Rattle.protocol.specs.Basic.{first, unless}
 use Rattle.protocol.specs.Element.{signedAt}
 use Rattle.protocol.specs.Settings.{size}
 use Rattle.protocol.specs.Layout.{leaves, leafCells}
-use Rattle.protocol.specs.Tree.{leaf, path, rootVector, grows}
+use Rattle.protocol.specs.Tree.{leaf, path, rootVector, growthAllowed}
 use Rattle.protocol.specs.Calls.{everyPath, treeTests, treeRefusal, extractRefusal, extractExit}
 use Rattle.protocol.specs.Promises.{Extracted}
 use Rattle.protocol.proofs.Tests.{granted-zero, granted-refused}
@@ -22,7 +22,7 @@ use Rattle.extraction.specs.Nodes.{Extractable}
 
 module _ (S : Settings) (C key rounds E : List ℕ) (finals w : List ℤ) where
   -- what is tested before the verifier runs stands at the head of the list; then 13, then 14
-  pub tree-joined : extractRefusal S C key rounds E finals w ≡ first (treeRefusal S C key rounds E finals w ∷ unless 13 (everyPath S C key rounds E finals) ∷ unless 14 (grows S) ∷ [])
+  pub tree-joined : extractRefusal S C key rounds E finals w ≡ first (treeRefusal S C key rounds E finals w ∷ unless 13 (everyPath S C key rounds E finals) ∷ unless 14 (growthAllowed S) ∷ [])
   unfolding extractRefusal treeRefusal
   tree-joined = front-joined (treeTests S C key rounds E finals w) _
 

@@ -108,14 +108,3 @@ module _ (d : ℕ) (p : 0 < d) where
           ∙ ring RZ (ints RZ) 5 (λ A S T v E. A :* (T :* (A :* (S :* v))) :+ E :* (A :* (T :* (A :* (S :* v)))) ≐ A :* A :* (S :* T :* (con (pos 1) :+ E) :* v)) tt (x^ a) (r (s d a b)) (r (s d a c)) (r v) (x^ (b + c))
           ∙ sym (turned-read v)
           )
-
-  -- ---- rotations after one another
-
-  pub rotate-rotate : (e f g : ℕ) → (e + f) % (2 * d) ≡ g % (2 * d) → (v : Element) (k : ℕ) → k < d → rotate d e (rotate d f v) k ≡ rotate d g v k
-  rotate-rotate e f g h v = readℤ-inj d p _ _ (
-      read-rotate ℤ-ring d p e (rotate d f v)
-      ∙ ap (λ t. x^ e ⊗ t) (read-rotate ℤ-ring d p f v)
-      ∙ sym (RZ .mul-assoc (x^ e) (x^ f) (r v))
-      ∙ ap (λ t. t ⊗ r v) (X^-add ℤ-ring d p e f ∙ sym (X^-mod ℤ-ring d p (e + f)) ∙ ap x^ h ∙ X^-mod ℤ-ring d p g)
-      ∙ sym (read-rotate ℤ-ring d p g v)
-      )

@@ -19,21 +19,20 @@ use Rattle.protocol.specs.Element.{signed, signedAt, signedZeros, coefficients}
 use Rattle.protocol.specs.Layout.{width}
 use Rattle.protocol.specs.Settings.{size}
 use Rattle.protocol.specs.Tree.{child, challenge, mu, joined, combined, nodes, leaves, leaf, vector, growth, growthLimit}
-use Rattle.protocol.proofs.Reading.{cell-inside}
+use Rattle.protocol.proofs.Reading.{by-cells, row-inside, cell-inside}
 use Rattle.claims.proofs.Bounds.{Bounded}
-use Rattle.claims.proofs.Numbering.{AtDepth, child-depth}
-use Rattle.claims.proofs.Paths.{depth-leaf}
-use Rattle.claims.proofs.Places as Places
+use Rattle.protocol.proofs.Numbering.{AtDepth, child-depth}
+use Rattle.protocol.proofs.Paths.{depth-leaf}
+use Rattle.protocol.proofs.Places as Places
 use Rattle.claims.proofs.Vectors.{vector-length}
 use Rattle.claims.proofs.Weights.{signed-coefficients}
 use Rattle.claims.proofs.Growth.{heightBound, heightBound-suc, heightBound-le, vector-bounded}
 use Rattle.extraction.specs.Vectors.{withShare, Branching, branchAdded}
-use Rattle.claims.specs.Nodes.{AtNode}
+use Rattle.protocol.specs.Nodes.{AtNode}
 use Rattle.extraction.specs.Nodes.{Extractable}
 use Rattle.residues.proofs.SignedFill.{signed-zeros-at, signed-zeros-length}
-use Rattle.extraction.proofs.Shares.{by-cells, withShare-length}
+use Rattle.extraction.proofs.Shares.{withShare-length}
 use Rattle.extraction.proofs.ThreeShares.{three-shares, shared-within}
-use Rattle.residues.proofs.Folds.{row-inside}
 use Rattle.residues.proofs.Parts.{tail-length}
 use Rattle.extraction.proofs.Splicing.{drop-put-end, put-end}
 

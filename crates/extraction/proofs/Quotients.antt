@@ -15,11 +15,11 @@ use lib.Pow as Pow
 use lib.IntN.{ℤ, pos, natAbs, _+ℤ_}
 use Rattle.protocol.specs.Basic.{least}
 use Rattle.protocol.specs.Element.{Element, around, rotate, plus, signed}
-use Rattle.protocol.proofs.Tests.{least-first}
+use Rattle.protocol.proofs.Tests.{least-first, least-is}
 use Rattle.claims.proofs.Bounds.{Bounded, rotate-bounded, plus-bounded}
 use Rattle.residues.proofs.Fill.{filled, filled-at, filled-behind, filled-length, filled-ext, filled-again}
 use Rattle.relaxed.proofs.Products.{rotate-ext}
-use Rattle.residues.proofs.Around.{rotate-mod}
+use Rattle.protocol.proofs.Rotation.{rotate-mod}
 use Rattle.extraction.specs.Bounds.{Summable, Doubling}
 use Rattle.extraction.specs.Steps.{rotatedAdded, summed, doublings, divided}
 
@@ -83,22 +83,12 @@ met (suc D) k p l = elim (ℕ-discrete (k % 2) 0) [
   | no ne ↦ met-odd (suc D) k (omega arith)
 ]
 
--- the first place at which f holds is the only such place
-least-is : (n : ℕ) (f : ℕ → Bool) (m : ℕ) → m ≤ n → (m < n → f m ≡ true) → ((i : ℕ) → i < m → f i ≡ false) → least n f ≡ m
-least-is n f m h t none = elim (decLt m (least n f)) [
-  | yes l ↦ absurd (false≢true (sym (least-first n f .none-before m l) ∙ t (omega (arith, least-first n f .at-most))))
-  | no g ↦ elim (decLt (least n f) m) [
-    | yes l ↦ absurd (false≢true (sym (none (least n f) l) ∙ least-first n f .holds (omega arith)))
-    | no k ↦ omega arith
-  ]
-]
-
 abbrev meets : ℕ → ℕ → ℕ → Bool
 meets d k j = eqb (k * 2 ^ j % (2 * d)) d
 
 pub doublings-are : (d k j : ℕ) → j ≤ 7 → (j < 7 → k * 2 ^ j % (2 * d) ≡ d) → ((i : ℕ) → i < j → meets d k i ≡ false) → doublings d k ≡ j
 unfolding doublings
-doublings-are d k j h t none = least-is 7 (meets d k) j h (λ l. eq-eqb _ _ (t l)) none
+doublings-are d k j h t none = least-is 7 (meets d k) j (record { at-most = h; holds = λ l. eq-eqb _ _ (t l); none-before = none })
 
 module _ (d k D : ℕ) (is : d ≡ 2 ^ D) (p : 0 < k) (l : k < 2 * d) where
   M : Met D k

@@ -11,22 +11,18 @@ use lib.IntN.{ℤ, pos, natAbs, _+ℤ_}
 use Rattle.protocol.specs.Basic.{flat}
 use Rattle.protocol.specs.Element.{Element, rotate, signed, signedAt}
 use Rattle.protocol.specs.Tree.{gap, mu, share}
-use Rattle.protocol.proofs.Reading.{flat-length, flat-at, flat-front, cell-inside}
-use Rattle.protocol.proofs.Rotation.{rotate-plus}
+use Rattle.protocol.proofs.Reading.{by-cells, flat-length, flat-at, flat-front, cell-inside}
+use Rattle.protocol.proofs.Rotation.{rotate-plus, rotate-add}
 use Rattle.claims.proofs.Bounds.{Bounded, rotate-bounded}
 use Rattle.claims.proofs.Norms.{product-bounded, weight-mu}
 use Rattle.extraction.specs.Steps.{weighted}
 use Rattle.extraction.specs.Vectors.{scaled, Scalable, turnedRow, turned, Turnable, withShare, Sharing}
 use Rattle.relaxed.proofs.Products.{rotate-ext}
-use Rattle.extraction.proofs.Mu.{gap-some, gap-below, weighted-mu, rotate-rotate}
+use Rattle.extraction.proofs.Mu.{gap-some, gap-below, weighted-mu}
 use Rattle.residues.proofs.Splice.{spliced-length, entry-before, entry-behind}
 use Rattle.extraction.proofs.Splicing.{rows-at}
 
 -- ---- lists of 2n elements
-
--- a place below n·d is a place of an element
-pub by-cells : (d n : ℕ) → 0 < d → (P : ℕ → Type 0) → ((i k : ℕ) → i < n → k < d → P (i * d + k)) → (j : ℕ) → j < n * d → P j
-by-cells d n p P h j l = subst P (Nat.div-add-mod' j d) (h (j / d) (j % d) (Nat.div-lt-iff-lt-mul p .1 l) (Nat.mod-lt j p))
 
 module _ (d n : ℕ) (F G : ℕ → ℕ → ℤ) where
   pub two-length : length (flat d n F ++ flat d n G) ≡ 2 * (n * d)
@@ -142,10 +138,10 @@ module _ (d n a b c : ℕ) (l : List ℤ) (T : Sharing d n a b c l) where
           ∙ Nat.mod-self (2 * d)
 
   turned-once : (i k : ℕ) → k < d → rotate d once (ahead i) k ≡ rotate d a (share d M v i) k
-  turned-once i k lk = rotate-rotate d (T .some) once (2 * a) a once-whole (share d M v i) k lk
+  turned-once i k lk = rotate-add d (T .some) once (2 * a) a once-whole (share d M v i) k
 
   turned-twice : (i k : ℕ) → k < d → rotate d twice (ahead i) k ≡ share d M v i k
-  turned-twice i k lk = rotate-rotate d (T .some) twice (2 * a) 0 twice-whole (share d M v i) k lk ∙ rotate-none d (share d M v i) k lk
+  turned-twice i k lk = rotate-add d (T .some) twice (2 * a) 0 twice-whole (share d M v i) k ∙ rotate-none d (share d M v i) k lk
 
   -- the exponents that the products go by
   abbrev k₁ : ℕ

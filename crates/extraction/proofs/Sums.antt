@@ -7,7 +7,7 @@ use lib.ListN.{length, getD}
 use lib.IntN.{ℤ, pos, natAbs, _+ℤ_}
 use Rattle.algebra.specs.Magnitude.{natAbs-add}
 use Rattle.protocol.specs.Element.{around, rotate, plus, signed}
-use Rattle.residues.proofs.Around.{rotate-at}
+use Rattle.protocol.proofs.Rotation.{rotate-at}
 use Rattle.residues.proofs.Fill.{filled-ext}
 use Rattle.claims.proofs.Bounds.{rotate-bounded}
 use Rattle.extraction.specs.Bounds.{Spreadable, Addable, Summable}

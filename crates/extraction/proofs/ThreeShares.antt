@@ -11,12 +11,12 @@ use Rattle.algebra.specs.Magnitude.{natAbs-add}
 use Rattle.protocol.specs.Basic.{flat}
 use Rattle.protocol.specs.Element.{Element, rotate, signed, signedAt, signedZeros}
 use Rattle.protocol.specs.Tree.{mu, share, joined}
-use Rattle.protocol.proofs.Reading.{flat-ext}
+use Rattle.protocol.proofs.Reading.{by-cells, flat-ext}
 use Rattle.claims.proofs.Bounds.{Bounded, rotate-bounded}
 use Rattle.claims.proofs.Norms.{product-bounded, weight-mu}
 use Rattle.extraction.specs.Vectors.{withShare}
 use Rattle.residues.proofs.SignedFill.{signed-zeros-at}
-use Rattle.extraction.proofs.Shares.{by-cells, withShare-length, withShare-first, withShare-second}
+use Rattle.extraction.proofs.Shares.{withShare-length, withShare-first, withShare-second}
 
 module _ (d n : ℕ) (p : 0 < d) where
   -- the two halves of a node's vector, at their places

@@ -13,10 +13,10 @@ use Rattle.protocol.specs.Element.{signed}
 use Rattle.protocol.specs.Settings.{size, cells}
 use Rattle.protocol.specs.Tree.{nodes}
 use Rattle.protocol.proofs.Reading.{tabulate-own}
-use Rattle.claims.proofs.GrowthTest.{growth-cells}
-use Rattle.claims.proofs.Numbering.{AtDepth, root-depth}
+use Rattle.protocol.proofs.GrowthTest.{growth-cells}
+use Rattle.protocol.proofs.Numbering.{AtDepth, root-depth}
 use Rattle.residues.proofs.Fill.{filled, filled-ext}
-use Rattle.claims.specs.Nodes.{AtNode}
+use Rattle.protocol.specs.Nodes.{AtNode}
 use Rattle.extraction.specs.Nodes.{vectorRoom, Extractable}
 use Rattle.extraction.proofs.Parts.{part-entry}
 

@@ -13,7 +13,7 @@ ghost use Rattle.protocol.specs.Layout.{width, itemOf};
 ghost use Rattle.protocol.specs.Tree.{child, challenge, mu, vector};
 ghost use Rattle.residues.specs.Lists.{filled};
 ghost use Rattle.extraction.specs.Vectors.{scaled, Scalable, turned, Turnable, withShare, Sharing, Branching, branchAdded};
-ghost use Rattle.claims.specs.Nodes.{AtNode};
+ghost use Rattle.protocol.specs.Nodes.{AtNode};
 ghost use Rattle.extraction.specs.Nodes.{Extractable};
 
 // Room for an element that is spread over three times as many places.

@@ -17,9 +17,9 @@ use Rattle.protocol.specs.Transcript.{Transcript, element, roundHolds, nextClai
 use Rattle.protocol.specs.Session.{part}
 use Rattle.protocol.specs.Calls.{polynomial}
 use Rattle.protocol.proofs.Reading.{tabulate-at}
-use Rattle.claims.proofs.Tables.{round-at}
-use Rattle.claims.proofs.Ranges.{padded-at, padded-signed-at, reduced-below, commitment-below, round-below, last-length}
-use Rattle.claims.proofs.Agreement.{Same, every-ext, product-same, claim-same, round-same}
+use Rattle.protocol.proofs.OpeningLaws.{round-at}
+use Rattle.protocol.proofs.Ranges.{padded-at, padded-signed-at, reduced-below, commitment-below, round-below, last-length}
+use Rattle.protocol.proofs.Agreement.{Same, every-ext, product-same, claim-same, round-same}
 use Rattle.residues.specs.Elements.{elementAt}
 use Rattle.equations.specs.Given.{Evaluable}
 use Rattle.equations.specs.Ends.{endMet}

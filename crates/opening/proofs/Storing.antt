@@ -15,8 +15,8 @@ use Rattle.protocol.specs.Opening.{roundElement, roundTable, keyAfter, messageA
 use Rattle.protocol.specs.Session.{part}
 use Rattle.protocol.specs.Calls.{polynomial}
 use Rattle.protocol.proofs.Reading.{tabulate-at, tabulate-length}
-use Rattle.claims.proofs.Tables.{round-at}
-use Rattle.claims.proofs.Ranges.{padded-at, round-below, rounds-below}
+use Rattle.protocol.proofs.OpeningLaws.{round-at}
+use Rattle.protocol.proofs.Ranges.{padded-at, round-below, rounds-below}
 use Rattle.residues.specs.Lists.{spliced}
 use Rattle.opening.specs.Turns.{storedRound}
 

@@ -5,7 +5,7 @@ use Rattle.protocol.specs.Settings.{degreeAllowed, depthAllowed, modulus
 use Rattle.protocol.specs.Opening.{inner, second, cross, foldSigned, foldResidues, commitment, left, halfLeft, roundElement, foldMessage, foldKey, messageAfter, keyAfter, finalElement, roundTable}
 use Rattle.protocol.specs.Transcript.{endCause, doubled, roundHolds, nextClaim, finalBounded, ending, endHolds, element, claimAfter, holdsAt, closes, accepted, held, cause, transcriptOf}
 use Rattle.protocol.specs.Session.{slots, verdict, opened, blank, startRefusal, start, refusedMove, shut, part, moveRefusal, advanced, moveHolds, move, closeRefusal, closeHolds, close}
-use Rattle.protocol.specs.Tree.{child, parent, place, above, challenge, challengeTo, apart, gap, steps, s, difference, mu, share, joined, combined, growthFactor, growthLimit, nodes, leaves, onPath, pathChallenges, pathRounds, leaf, path, foldTo, vector, rootVector, growth, grows}
+use Rattle.protocol.specs.Tree.{child, parent, place, above, challenge, challengeTo, apart, gap, steps, s, difference, mu, share, joined, combined, growthFactor, growthLimit, nodes, leaves, onPath, pathChallenges, pathRounds, leaf, path, foldTo, vector, rootVector, growth, growthAllowed}
 use Rattle.protocol.specs.Judge.{slackAllowed, slack, scaledCommitment, combination, opens, judged}
 use Rattle.protocol.specs.Calls.{commitRefusal, commitAnswer, leftSmall, movingSmall, roundRefusal, polynomial, noPolynomial, roundAnswer, foldRefusal, foldKeyExit, foldMessageExit, endingSmall, endRefusal, endAnswer, openingRefusal, openingAnswer, openingKeyExit, openingMessageExit, openingRoundsExit, checkRefusal, checkAnswer, judgeRefusal, judgeAnswer, everyPath, extractRefusal, extractExit}
 use Rattle.protocol.specs.HonestTree.{wayTo, answerAt, honestRounds, honestFinals}
@@ -18,7 +18,7 @@ unfolding
     inner second cross foldSigned foldResidues commitment left halfLeft roundElement foldMessage foldKey messageAfter keyAfter finalElement roundTable
     endCause doubled roundHolds nextClaim finalBounded ending endHolds element claimAfter holdsAt closes accepted held cause transcriptOf
     slots verdict opened blank startRefusal start refusedMove shut part moveRefusal advanced moveHolds move closeRefusal closeHolds close
-    child parent place above challenge challengeTo apart gap steps s difference mu share joined combined growthFactor growthLimit nodes leaves onPath pathChallenges pathRounds leaf path foldTo vector rootVector growth grows
+    child parent place above challenge challengeTo apart gap steps s difference mu share joined combined growthFactor growthLimit nodes leaves onPath pathChallenges pathRounds leaf path foldTo vector rootVector growth growthAllowed
     slackAllowed slack scaledCommitment combination opens judged
     commitRefusal commitAnswer leftSmall movingSmall roundRefusal polynomial noPolynomial roundAnswer foldRefusal foldKeyExit foldMessageExit endingSmall endRefusal endAnswer openingRefusal openingAnswer openingKeyExit openingMessageExit openingRoundsExit checkRefusal checkAnswer judgeRefusal judgeAnswer everyPath extractRefusal extractExit
     wayTo answerAt honestRounds honestFinals

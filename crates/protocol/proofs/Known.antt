@@ -9,7 +9,7 @@ use Rattle.protocol.specs.Basic.{all}
 use Rattle.protocol.specs.Element.{power, product, coefficients}
 use Rattle.protocol.specs.Opening.{commitment}
 use Rattle.protocol.specs.Transcript.{Transcript, claimAfter, cause, transcriptOf}
-use Rattle.protocol.specs.Tree.{s, rootVector, grows}
+use Rattle.protocol.specs.Tree.{s, rootVector, growthAllowed}
 use Rattle.protocol.specs.Calls.{judgeRefusal, extractRefusal, extractExit}
 use Rattle.protocol.specs.HonestTree.{honestRounds, honestFinals}
 use Rattle.protocol.proofs.Compute.{computed}
@@ -59,8 +59,8 @@ examples =
     ∷ record { given = map pos (commitment S₀ (3 ∷ 5 ∷ []) message₀); wanted = pos 8 ∷ pos 2 ∷ [] }
     ∷ record { given = extractExit S₀ (8 ∷ 2 ∷ []) (3 ∷ 5 ∷ []) [] [] message₀ (pos 0 ∷ pos 0 ∷ []); wanted = message₀ }
     -- PROTOCOL 12.6: growth on both sides of its limit
-    ∷ record { given = asNumber (grows (set 32 4 17 127)); wanted = pos 1 ∷ [] }
-    ∷ record { given = asNumber (grows (set 64 4 17 1)); wanted = pos 0 ∷ [] }
+    ∷ record { given = asNumber (growthAllowed (set 32 4 17 127)); wanted = pos 1 ∷ [] }
+    ∷ record { given = asNumber (growthAllowed (set 64 4 17 1)); wanted = pos 0 ∷ [] }
     -- the same as the judge's refusal 14, at tables of zeros; as the judge's and the extractor's at every full tree, in claims/proofs/GrowthCases
     ∷ record { given = pos (judgeRefusal (set 32 4 17 127) (replicate 32 0) 256 (replicate 512 0) (replicate 512 (pos 0))) ∷ []; wanted = pos 0 ∷ [] }
     ∷ record { given = pos (judgeRefusal (set 64 4 17 1) (replicate 64 0) 256 (replicate 1024 0) (replicate 1024 (pos 0))) ∷ []; wanted = pos 14 ∷ [] }

@@ -1,6 +1,17 @@
 pub mod Tests
 pub mod Reading
 pub mod Rotation
+pub mod Modulo
+pub mod OpeningLaws
+pub mod Ranges
+pub mod Numbering
+pub mod Paths
+pub mod Places
+pub mod Agreement
+pub mod Walk
+pub mod TreeCheck
+pub mod TreeKeys
+pub mod GrowthTest
 pub mod Acceptance
 pub mod Inputs
 pub mod Compute
@@ -11,7 +22,6 @@ pub mod Traps
 pub mod ComputeText
 pub mod KnownTexts
 pub mod NumeralLaws
-pub mod Modulo
 pub mod LineLaws
 pub mod PlaceLaws
 pub mod ReaderLaws
@@ -20,3 +30,4 @@ pub mod Trial
 pub mod TrialTree
 pub mod Refusals
 pub mod Answers
+pub mod TextLimits

@@ -8,7 +8,14 @@ use native.Mathlib.Omega.{arith}
 use borrow.Author.Tests.{ltb-false, le-ltb}
 use lib.Dec.{ltb}
 use lib.IntN.{ℤ, pos, negsuc, negℤ, _+ℤ_, _*ℤ_, pos-ne-negsuc, +ℤ-assoc, +ℤ-comm, +ℤ-invr, sucℤ-*ℤ, zero-*ℤ}
-use Rattle.protocol.specs.Element.{modulo}
+use lib.ListN.{getD}
+use Rattle.protocol.specs.Element.{Element, modulo, reduced}
+use Rattle.protocol.proofs.Reading.{tabulate-at}
+
+-- an element that is reduced place by place
+pub reduced-at : (q d : ℕ) (a : Element) (k : ℕ) → k < d → getD (reduced q d a) k 0 ≡ modulo q (a k)
+unfolding reduced
+reduced-at q d a k l = tabulate-at d (λ k. modulo q (a k)) 0 k l
 
 module _ (q : ℕ) (p : 0 < q) where
   -- z plus m times q is the number x
@@ -98,12 +105,12 @@ module _ (q : ℕ) (p : 0 < q) where
       ∙ ap (λ x. x % q) (sym (Nat.suc-mul n (modulo q a)))
 
   -- to reduce once more, or before, changes nothing
-  reduced-again : (n : ℕ) → n < q → modulo q (pos n) ≡ n
+  pub modulo-residue : (n : ℕ) → n < q → modulo q (pos n) ≡ n
   unfolding modulo
-  reduced-again n h = Nat.mod-eq-of-lt h
+  modulo-residue n h = Nat.mod-eq-of-lt h
 
   pub modulo-again : (a b : ℤ) → modulo q (pos (modulo q a) +ℤ b) ≡ modulo q (a +ℤ b)
-  modulo-again a b = modulo-add (pos (modulo q a)) b ∙ ap (λ x. (x + modulo q b) % q) (reduced-again (modulo q a) (modulo-lt a)) ∙ sym (modulo-add a b)
+  modulo-again a b = modulo-add (pos (modulo q a)) b ∙ ap (λ x. (x + modulo q b) % q) (modulo-residue (modulo q a) (modulo-lt a)) ∙ sym (modulo-add a b)
 
   pub times-mod : (a b : ℕ) → a * (b % q) % q ≡ a * b % q
   unfolding modulo

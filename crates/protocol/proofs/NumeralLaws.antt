@@ -17,6 +17,7 @@ use borrow.Author.Tests.{le-leb, lt-ltb, le-ltb, ltb-true, ltb-false, leb-true, 
 use Rattle.protocol.specs.Basic.{least}
 use Rattle.protocol.specs.Text.{valueLimit, digitCount, lowDigits, decimal, numeral, keep, digit, digitRun, digitFirst, properDigits, readCount}
 use Rattle.protocol.specs.Text.{plain, negative, readNumber}
+use Rattle.protocol.proofs.Tests.{First, least-first, least-is}
 
 -- ---- Digits
 
@@ -86,48 +87,6 @@ lowDigits-cons (suc k) n =
 
 -- ---- How many digits
 
-least-yes : (m : ℕ) (f : ℕ → Bool) → f 0 ≡ true → least (suc m) f ≡ 0
-unfolding least
-least-yes m f h = rw (h, least)
-
-least-no : (m : ℕ) (f : ℕ → Bool) → f 0 ≡ false → least (suc m) f ≡ suc (least m (λ i. f (suc i)))
-unfolding least
-least-no m f h = rw (h, least)
-
--- j is the first place below m at which f holds, or m where there is none
-record First (m : ℕ) (f : ℕ → Bool) (j : ℕ) : Type 0 where
-  inside : j ≤ m
-  here : j < m → f j ≡ true
-  before : (i : ℕ) → i < j → f i ≡ false
-
-first-zero : (m : ℕ) (f : ℕ → Bool) → f 0 ≡ true → First (suc m) f 0
-first-zero m f h = record { inside = omega arith; here = λ l. h; before = λ i l. absurd (omega arith) }
-
-first-suc : (m : ℕ) (f : ℕ → Bool) (j : ℕ) → f 0 ≡ false → First m (λ i. f (suc i)) j → First (suc m) f (suc j)
-first-suc m f j h r = record { inside = omega arith; here = λ l. r .here (omega arith); before = go }
-  where
-    go : (i : ℕ) → i < suc j → f i ≡ false
-    go zero l = h
-    go (suc i) l = r .before i (omega arith)
-
-first-pred : (m : ℕ) (f : ℕ → Bool) (j : ℕ) → First (suc m) f (suc j) → First m (λ i. f (suc i)) j
-first-pred m f j r = record { inside = omega arith; here = λ l. r .here (omega arith); before = λ i l. r .before (suc i) (omega arith) }
-
-least-first : (m : ℕ) (f : ℕ → Bool) → First m f (least m f)
-least-first zero f = unfold least in (record { inside = omega arith; here = λ l. absurd (omega arith); before = λ i l. absurd (omega arith) })
-least-first (suc m) f = go (f 0) refl (least-first m (λ i. f (suc i)))
-  where
-    go : (b : Bool) → f 0 ≡ b → First m (λ i. f (suc i)) (least m (λ i. f (suc i))) → First (suc m) f (least (suc m) f)
-    go true h r = rw (least-yes m f h) (first-zero m f h)
-    go false h r = rw (least-no m f h) (first-suc m f (least m (λ i. f (suc i))) h r)
-
-least-is : (m : ℕ) (f : ℕ → Bool) (j : ℕ) → First m f j → least m f ≡ j
-least-is zero f j r = unfold least in (omega arith)
-least-is (suc m) f zero r = least-yes m f (r .here (omega arith))
-least-is (suc m) f (suc j) r =
-    least-no m f (r .before 0 (omega arith))
-    ∙ ap suc (least-is m (λ i. f (suc i)) j (first-pred m f j r))
-
 -- a number of k digits: 10^(k−1) ≤ n < 10^k, and one digit for 0
 pub record Digits (n k : ℕ) : Type 0 where
   pub some-digit : 0 < k
@@ -149,8 +108,8 @@ digitCount-digits n h = go (least 9 (λ k. ltb n (10 ^ suc k))) (least-first 9 (
     go j r = record {
       some-digit = omega arith;
       at-most = omega arith;
-      under = top j (r .inside) (λ l. ltb-true n (10 ^ suc j) (r .here l));
-      over = λ i l. ltb-false n (10 ^ suc i) (r .before i (omega arith));
+      under = top j (r .at-most) (λ l. ltb-true n (10 ^ suc j) (r .holds l));
+      over = λ i l. ltb-false n (10 ^ suc i) (r .none-before i (omega arith));
     }
 
 pub digits-count : (n k : ℕ) → Digits n k → digitCount n ≡ k
@@ -161,9 +120,9 @@ digits-count n (suc j) r =
     suc
     (least-is 9 (λ k. ltb n (10 ^ suc k)) j
     (record {
-      inside = omega arith;
-      here = λ l. lt-ltb n (10 ^ suc j) (r .under);
-      before = λ i l. le-ltb n (10 ^ suc i) (r .over i (omega arith));
+      at-most = omega (arith, r .at-most);
+      holds = λ l. lt-ltb n (10 ^ suc j) (r .under);
+      none-before = λ i l. le-ltb n (10 ^ suc i) (r .over i (omega arith));
     }))
 
 -- ---- A number that was written is read back

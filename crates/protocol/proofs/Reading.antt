@@ -1,5 +1,5 @@
 -- How tabulated lists are read: lengths, entries, a loop that stores one entry after the other, and the entries of a flat table.
-use mathlib.Core.Path.{_≡_, refl, sym, ap, _∙_}
+use mathlib.Core.Path.{_≡_, refl, sym, ap, _∙_, subst}
 use mathlib.Core.List.{List, [], _∷_, _++_}
 use Prim.Native.Nat.{ℕ, zero, suc, _+_, _*_, _-_, _/_, _%_, _<_, _≤_}
 use native.Mathlib.Nat as Nat
@@ -12,11 +12,19 @@ use Rattle.protocol.specs.Basic.{tabulate, flat}
 pub cell-inside : (d n i k : ℕ) → i < n → k < d → i * d + k < n * d
 cell-inside d n i k hi hk = omega (arith, Nat.mul-le-mul-right d hi, Nat.suc-mul i d)
 
+-- element i stands inside a table of n elements
+pub row-inside : (d n i : ℕ) → i < n → i * d + d ≤ n * d
+row-inside d n i h = omega (arith, Nat.mul-le-mul-right d h, Nat.suc-mul i d)
+
 pub cell-element : (d i k : ℕ) → k < d → (i * d + k) / d ≡ i
 cell-element d i k h = Nat.mul-add-div-right {m = d} (omega arith) i k ∙ ap (λ x. i + x) (Nat.div-eq-of-lt h) ∙ Nat.add-zero i
 
 pub cell-place : (d i k : ℕ) → k < d → (i * d + k) % d ≡ k
 cell-place d i k h = Nat.mul-add-mod-self-right i d k ∙ Nat.mod-eq-of-lt h
+
+-- a place below n·d is a place of an element
+pub by-cells : (d n : ℕ) → 0 < d → (P : ℕ → Type 0) → ((i k : ℕ) → i < n → k < d → P (i * d + k)) → (j : ℕ) → j < n * d → P j
+by-cells d n p P h j l = subst P (Nat.div-add-mod' j d) (h (j / d) (j % d) (Nat.div-lt-iff-lt-mul p .1 l) (Nat.mod-lt j p))
 
 module _ {ℓ} {A : Type ℓ} where
   pub tabulate-length : (n : ℕ) (f : ℕ → A) → length (tabulate n f) ≡ n

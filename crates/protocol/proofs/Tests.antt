@@ -1,10 +1,10 @@
 -- Tests and what they say: conjunctions, `every`, `all`, `least`, `among`, and refusals.
-use mathlib.Core.Path.{_≡_, refl, sym, ap, subst}
+use mathlib.Core.Path.{_≡_, refl, sym, ap, subst, _∙_}
 use mathlib.Core.Logic.{_≢_}
 use mathlib.Core.Bool.{Bool, true, false, _&&_, _||_, false≢true}
 use mathlib.Core.List.{List, [], _∷_, map}
 use Prim.Native.Nat.{ℕ, zero, suc, _<_, _≤_}
-use native.Mathlib.Decide.{ℕ-discrete}
+use native.Mathlib.Decide.{ℕ-discrete, decLt}
 use native.Mathlib.Omega.{arith}
 use borrow.Author.Tests.{leb-true, eqb-true}
 use lib.Dec.{leb, eqb}
@@ -92,6 +92,16 @@ pub least-first : (n : ℕ) (f : ℕ → Bool) → First n f (least n f)
 unfolding least
 least-first zero f = record { at-most = omega arith; holds = λ h. absurd (omega arith); none-before = λ i h. absurd (omega arith) }
 least-first (suc n) f = later n f (least n (λ i. f (suc i))) (least-first n (λ i. f (suc i))) (f 0) refl
+
+-- there is one such place
+pub least-is : (n : ℕ) (f : ℕ → Bool) (m : ℕ) → First n f m → least n f ≡ m
+least-is n f m F = elim (decLt m (least n f)) [
+  | yes l ↦ absurd (false≢true (sym (least-first n f .none-before m l) ∙ F .holds (omega (arith, least-first n f .at-most))))
+  | no g ↦ elim (decLt (least n f) m) [
+    | yes l ↦ absurd (false≢true (sym (F .none-before (least n f) l) ∙ least-first n f .holds (omega (arith, F .at-most))))
+    | no k ↦ omega arith
+  ]
+]
 
 -- ---- among
 

@@ -33,7 +33,7 @@ use Rattle.protocol.specs.Layout.{leftCells, roundCells, nodes, leaves, 
 use Rattle.protocol.specs.Opening.{commitment, roundElement, foldMessage, foldKey, messageAfter, keyAfter, finalElement, roundTable}
 use Rattle.protocol.specs.Transcript.{accepted, transcriptOf}
 use Rattle.protocol.specs.Session.{verdict, endNumber}
-use Rattle.protocol.specs.Tree.{path, apart, rootVector, grows}
+use Rattle.protocol.specs.Tree.{path, apart, rootVector, growthAllowed}
 use Rattle.protocol.specs.Judge.{slackAllowed, judged}
 
 -- ---- 1 commit
@@ -193,7 +193,7 @@ judgeRefusal S C c key w =
     (settingsRefusal S
     ∷ unless 7 (sized (cells S) key && sized (cells S) w)
     ∷ unless 8 (residues S key && residueElement S C)
-    ∷ unless 14 (grows S)
+    ∷ unless 14 (growthAllowed S)
     ∷ unless 15 (slackAllowed S c)
     ∷ [])
 
@@ -227,7 +227,7 @@ extractRefusal S C key rounds E finals w =
     first
     (treeTests S C key rounds E finals w
     ++ unless 13 (everyPath S C key rounds E finals)
-    ∷ unless 14 (grows S)
+    ∷ unless 14 (growthAllowed S)
     ∷ [])
 
 -- PROTOCOL 8.13

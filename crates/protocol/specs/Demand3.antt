@@ -278,7 +278,7 @@ pub record OpeningClaim (S : Settings) (G : List ℕ) (M : List ℤ) (E rounds :
 -- ════ a tree
 
 -- PROTOCOL 5.2: a full tree has all its branching nodes and leaves, whatever was answered in it, with three different challenges at every node and every path accepted.
--- Nothing is asked of the commitment: that it is residues follows (claims/proofs/Ranges, accepted-commitment)
+-- Nothing is asked of the commitment: that it is residues follows (proofs/Ranges, accepted-commitment)
 pub record FullTree (S : Settings) (G C rounds E : List ℕ) (finals : List ℤ) : Type 0 where
   pub rounds-below : Below (S .modulus) (treeRoundCells S) rounds
   pub challenges-below : Below (exponentCount S) (treeChallenges S) E

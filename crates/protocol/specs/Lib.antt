@@ -6,6 +6,9 @@ pub mod Opening
 pub mod Transcript
 pub mod Session
 pub mod Tree
+pub mod Nodes
+pub mod TreeCheck
+pub mod GrowthTest
 pub mod Judge
 pub mod Calls
 pub mod Inputs

@@ -17,7 +17,7 @@
 --   path S ..                   the path to leaf j, a transcript
 --   leaf S finals j             the final element of leaf j; foldTo S E j m: what L folds of m by its path's challenges give
 --   vector S .. h k             the vector of node k, h steps above the leaves; rootVector S ..: that of the root
---   growth S, grows S           (12·d²)^L·B, and is it at most 2^62 (refusal 14)
+--   growth S, growthAllowed S   (12·d²)^L·B, and is it at most 2^62 (refusal 14)
 use mathlib.Core.Path.{_≡_}
 use mathlib.Core.Bool.{Bool, _&&_, not}
 use mathlib.Core.List.{List, _++_}
@@ -156,5 +156,5 @@ module _ (S : Settings) where
   unfoldable pub growth : ℕ
   growth = growthFactor d ^ L * B
 
-  unfoldable pub grows : Bool
-  grows = leb growth growthLimit
+  unfoldable pub growthAllowed : Bool
+  growthAllowed = leb growth growthLimit

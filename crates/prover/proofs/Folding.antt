@@ -11,7 +11,7 @@ use Rattle.protocol.specs.Basic.{flat}
 use Rattle.protocol.specs.Element.{rotate, signedAt}
 use Rattle.protocol.specs.Opening.{foldSigned}
 use Rattle.claims.proofs.Bounds.{rotate-bounded}
-use Rattle.claims.proofs.Agreement.{rotate-same}
+use Rattle.protocol.proofs.Agreement.{rotate-same}
 use Rattle.residues.proofs.Fill.{filled, filled-more, filled-behind, filled-length}
 use Rattle.residues.proofs.Parts.{tail-all}
 use Rattle.prover.specs.Messages.{from, Room}

@@ -11,7 +11,7 @@ use Rattle.protocol.specs.declared.Settings.{Settings}
 use Rattle.protocol.specs.Settings.{cells}
 use Rattle.protocol.specs.Opening.{left, halfLeft}
 use Rattle.protocol.specs.Inputs.{Valid}
-use Rattle.claims.proofs.Tables.{left-power, halfLeft-power, twice-power, left-inside}
+use Rattle.protocol.proofs.OpeningLaws.{left-power, halfLeft-power, twice-power, left-inside}
 use Rattle.sizes.proofs.Limits.{degree-least, degree-most}
 use Rattle.refusals.proofs.Given.{SmallLeft, RoundGiven}
 use Rattle.prover.specs.Messages.{Room, Halved}

@@ -17,7 +17,7 @@ use Rattle.protocol.specs.Element.{Element, modulo, plus, times, padded, reduce
 use Rattle.protocol.specs.Opening.{inner, second, cross}
 use Rattle.protocol.proofs.Modulo.{modulo-lt, modulo-add, modulo-times}
 use Rattle.protocol.proofs.Reading.{cell-inside, tabulate-ext}
-use Rattle.claims.proofs.Agreement.{Same}
+use Rattle.protocol.proofs.Agreement.{Same}
 use Rattle.claims.proofs.Readings.{readℤ-inj, readq-ext, readq-inj, read-ext, read-plus, read-inner}
 use Rattle.residues.specs.Residues.{Residues}
 use Rattle.residues.proofs.Parts.{tail-at, tail-length}

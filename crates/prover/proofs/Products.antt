@@ -17,7 +17,7 @@ use Rattle.protocol.specs.Calls.{polynomial}
 use Rattle.protocol.specs.Inputs.{Valid}
 use Rattle.protocol.proofs.Modulo.{modulo-times, mod-times}
 use Rattle.protocol.proofs.Reading.{tabulate-ext}
-use Rattle.claims.proofs.Agreement.{Same, sum-ext, product-same}
+use Rattle.protocol.proofs.Agreement.{Same, sum-ext, product-same}
 use Rattle.sizes.proofs.Limits.{degree-least, degree-most}
 use Rattle.products.specs.Products.{reducedSums}
 use Rattle.products.proofs.Sums.{SumIs, sum-none, sums-reduced}

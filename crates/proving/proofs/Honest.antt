@@ -26,9 +26,9 @@ use Rattle.protocol.specs.Programs.{provePrints, printed}
 use Rattle.protocol.specs.Promises.{Wrote}
 use Rattle.protocol.proofs.Tests.{and-intro, zero-first, zero-unless, first-nothing}
 use Rattle.protocol.proofs.Inputs.{valid-settings, below-tested, within-tested}
-use Rattle.claims.proofs.TextLimits.{Passed, unrefused}
+use Rattle.protocol.proofs.TextLimits.{Passed, unrefused}
 use Rattle.claims.proofs.Honest.{Given, modulus-positive}
-use Rattle.claims.proofs.Ranges.{commitment-below, rounds-below, last-length}
+use Rattle.protocol.proofs.Ranges.{commitment-below, rounds-below, last-length}
 use Rattle.claims.proofs.ProveVerify.{last-within}
 use Rattle.shapes.specs.Parts.{partShape, lengthsOf, lengthsFit}
 use Rattle.shapes.proofs.Exactly.{lengths-fit}

@@ -22,7 +22,7 @@ use Rattle.protocol.specs.Inputs.{Valid, Below, Within}
 use Rattle.protocol.proofs.Tests.{and-split, all-at}
 use Rattle.protocol.proofs.Inputs.{settings-valid, tested-below, tested-within}
 use Rattle.protocol.proofs.Refusals.{tested-before, tested-passed, none-refused, moving-tested}
-use Rattle.claims.proofs.Tables.{left-inside}
+use Rattle.protocol.proofs.OpeningLaws.{left-inside}
 
 pub record TablesGiven (S : Settings) (key : List ℕ) (message : List ℤ) : Type 0 where
   pub allowed : settingsRefusal S ≡ 0

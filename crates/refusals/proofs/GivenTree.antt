@@ -17,7 +17,7 @@ use Rattle.protocol.specs.Basic.{Tested}
 use Rattle.protocol.specs.Settings.{settingsRefusal, cells, sized, residues, residueElement, exponent, exponents}
 use Rattle.protocol.specs.Layout.{nodes, leaves, treeRoundCells, treeChallenges, leafCells, exponentCount}
 use Rattle.protocol.specs.Transcript.{accepted}
-use Rattle.protocol.specs.Tree.{path, challenge, apart, growth, growthLimit, grows}
+use Rattle.protocol.specs.Tree.{path, challenge, apart, growth, growthLimit, growthAllowed}
 use Rattle.protocol.specs.Calls.{everyPath, treeTests, treeRefusal, extractRefusal}
 use Rattle.protocol.specs.Inputs.{Valid, Below}
 use Rattle.protocol.specs.Demand3.{FullTree}
@@ -97,7 +97,7 @@ module _ (S : Settings) (C key rounds E : List ℕ) (finals w : List ℤ) where
       }
 
   pub extract-given : extractRefusal S C key rounds E finals w ≡ 0 → ExtractGiven S C key rounds E finals w
-  unfolding extractRefusal treeRefusal everyPath grows
+  unfolding extractRefusal treeRefusal everyPath growthAllowed
   extract-given z =
       let (early, (t13, (t14, _))) = none-refused ((12, _) ∷ (13, _) ∷ []) (sym (front-joined (treeTests S C key rounds E finals w) _) ∙ z) in
       let g = tree-given early in

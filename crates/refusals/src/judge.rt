@@ -5,13 +5,13 @@ use ranges::tests;
 ghost use mathlib.Core.Path.{_≡_};
 ghost use Rattle.protocol.specs.Basic.{Provided};
 ghost use Rattle.protocol.specs.Settings.{settingsRefusal};
-ghost use Rattle.protocol.specs.Tree.{grows};
+ghost use Rattle.protocol.specs.Tree.{growthAllowed};
 ghost use Rattle.protocol.specs.Judge as of;
 ghost use Rattle.protocol.specs.Calls.{judgeRefusal};
 
 // 14, here and in the extractor: is the growth at most 2^62.
 pub fn growth_allowed(settings: Settings) -> bool
-    ensures { λ r. ⌜ Provided (settingsRefusal settings ≡ 0) (r ≡ grows settings) ⌝ }
+    ensures { λ r. ⌜ Provided (settingsRefusal settings ≡ 0) (r ≡ growthAllowed settings) ⌝ }
 {
     sizes::growth(settings) <= 4611686018427387904
 }

@@ -11,19 +11,19 @@ use lib.ListN.{length}
 use Rattle.protocol.specs.declared.Settings.{Settings}
 use Rattle.protocol.specs.declared.Judged.{Judged}
 use Rattle.protocol.specs.Settings.{settingsRefusal, cells, sized, small}
-use Rattle.protocol.specs.Tree.{growthFactor, growthLimit, growth, grows}
+use Rattle.protocol.specs.Tree.{growthFactor, growthLimit, growth, growthAllowed}
 use Rattle.protocol.specs.Judge.{opens, judged}
 use Rattle.protocol.specs.Calls.{judgeRefusal, judgeAnswer}
 use Rattle.protocol.proofs.Inputs.{settings-valid}
 use Rattle.protocol.proofs.Tests.{and-split, granted-zero, granted-refused}
 use Rattle.protocol.proofs.Refusals.{none-refused, and-fails-right}
-use Rattle.claims.specs.GrowthTest.{cappedGrowth}
-use Rattle.claims.proofs.GrowthTest.{power-exact}
+use Rattle.protocol.specs.GrowthTest.{cappedGrowth}
+use Rattle.protocol.proofs.GrowthTest.{power-exact}
 use Rattle.sizes.proofs.Limits.{degree-least}
 
 -- where nothing is past the limit, the capped number is the number
-pub growth-exact : (S : Settings) → settingsRefusal S ≡ 0 → grows S ≡ true → cappedGrowth S ≡ growth S
-unfolding cappedGrowth grows growth growthFactor
+pub growth-exact : (S : Settings) → settingsRefusal S ≡ 0 → growthAllowed S ≡ true → cappedGrowth S ≡ growth S
+unfolding cappedGrowth growthAllowed growth growthFactor
 growth-exact S e t =
     power-exact growthLimit (growthFactor (S .degree)) (Nat.mul-pos (omega arith) (Nat.one-le-pow 2 (S .degree) (omega (arith, degree-least S (settings-valid S e))))) (S .bound) (S .depth) (leb-true _ _ t)
 
@@ -32,7 +32,7 @@ pub record JudgeGiven (S : Settings) (key : List ℕ) (w : List ℤ) : Type 0 wh
   pub allowed : settingsRefusal S ≡ 0
   pub key-long : length key ≡ cells S
   pub w-long : length w ≡ cells S
-  pub limited : grows S ≡ true
+  pub limited : growthAllowed S ≡ true
 
 module _ (S : Settings) (C : List ℕ) (c : ℕ) (key : List ℕ) (w : List ℤ) where
   pub judge-given : judgeRefusal S C c key w ≡ 0 → JudgeGiven S key w

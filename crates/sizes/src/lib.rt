@@ -8,7 +8,7 @@ ghost use Rattle.protocol.specs.Layout as layout;
 ghost use Rattle.protocol.specs.Layout.{leftCells, halfLeft, roundCells, itemOf, polynomialAt, treeChallenges, treeRoundCells, leafCells, exponentCount};
 ghost use Rattle.protocol.specs.Settings.{settingsRefusal};
 ghost use Rattle.protocol.specs.Tree.{growthLimit};
-ghost use Rattle.claims.specs.GrowthTest.{cappedTimes, cappedGrowth};
+ghost use Rattle.protocol.specs.GrowthTest.{cappedTimes, cappedGrowth};
 ghost use Rattle.sizes.specs.Rounds.{RoundsDone, RoundLeft};
 
 // The elements that are left, n/2^t, and those of a half of them.

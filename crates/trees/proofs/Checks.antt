@@ -23,12 +23,12 @@ use Rattle.residues.specs.Residues.{Residues}
 use Rattle.residues.proofs.Parts.{tail-all, tail-at}
 use Rattle.residues.proofs.Splice.{spliced-inside}
 use Rattle.equations.specs.Ends.{equationMet, endMet}
-use Rattle.claims.specs.TreeCheck.{nodeElement, foldedEnding, claimTo, nodeHolds, foldedEndHolds}
-use Rattle.claims.proofs.Agreement.{Same, Alike, every-ext, product-same, claim-same, round-same}
-use Rattle.claims.proofs.Numbering.{before, before-power}
-use Rattle.claims.proofs.Paths.{nodes-before}
-use Rattle.claims.proofs.Places as Places
-use Rattle.claims.proofs.Places.{AtNode}
+use Rattle.protocol.specs.TreeCheck.{nodeElement, foldedEnding, claimTo, nodeHolds, foldedEndHolds}
+use Rattle.protocol.proofs.Agreement.{Same, Alike, every-ext, product-same, claim-same, round-same}
+use Rattle.protocol.proofs.Numbering.{before, before-power}
+use Rattle.protocol.proofs.Paths.{nodes-before}
+use Rattle.protocol.proofs.Places as Places
+use Rattle.protocol.proofs.Places.{AtNode}
 use Rattle.trees.specs.Nodes.{Tables, Round, leafMet}
 
 -- a table from place `at` on

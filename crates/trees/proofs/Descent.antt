@@ -12,11 +12,11 @@ use Rattle.protocol.specs.Opening.{foldResidues, foldKey}
 use Rattle.protocol.specs.Tree.{child, challenge}
 use Rattle.residues.specs.Folds.{foldDown}
 use Rattle.residues.proofs.Parts.{tail-all}
-use Rattle.claims.specs.TreeCheck.{claimTo, nodeHolds, leafAccepted, treeAccepted}
-use Rattle.claims.proofs.Agreement.{Alike}
-use Rattle.claims.proofs.Paths.{halfLeft-height}
-use Rattle.claims.proofs.TreeKeys.{tree-alike}
-use Rattle.claims.proofs.Places.{AtNode, leaf-cells, twice-cells, height-is, deeper}
+use Rattle.protocol.specs.TreeCheck.{claimTo, nodeHolds, leafAccepted, treeAccepted}
+use Rattle.protocol.proofs.Agreement.{Alike}
+use Rattle.protocol.proofs.Paths.{halfLeft-height}
+use Rattle.protocol.proofs.TreeKeys.{tree-alike}
+use Rattle.protocol.proofs.Places.{AtNode, leaf-cells, twice-cells, height-is, deeper}
 use Rattle.trees.specs.Nodes.{leafMet, childAccepted}
 use Rattle.trees.proofs.Workspace.{fold-kept, child-below, child-alike}
 

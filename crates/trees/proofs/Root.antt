@@ -11,8 +11,8 @@ use borrow.Rule.Slice.PartMut.{putMid}
 use Rattle.protocol.specs.declared.Settings.{Settings}
 use Rattle.protocol.specs.Settings.{size, cells}
 use Rattle.protocol.specs.Calls.{everyPath}
-use Rattle.claims.specs.TreeCheck.{treeAccepted}
-use Rattle.claims.proofs.TreeCheck.{every-path-tree}
+use Rattle.protocol.specs.TreeCheck.{treeAccepted}
+use Rattle.protocol.proofs.TreeCheck.{every-path-tree}
 use Rattle.trees.specs.Nodes.{Reduced}
 
 module _ (n k : ℕ) (z p key tail : List ℕ) (inside : n ≤ length z) (long : length key ≡ n) (is : p ≡ key ++ tail) where

@@ -10,8 +10,8 @@ use lib.IntN.{ℤ}
 use lib.ListN.{length, drop}
 use Rattle.protocol.specs.declared.Settings.{Settings}
 use Rattle.protocol.proofs.Refusals.{and-fails-left}
-use Rattle.claims.specs.TreeCheck.{nodeHolds, treeAccepted}
-use Rattle.claims.proofs.Places.{AtNode}
+use Rattle.protocol.specs.TreeCheck.{nodeHolds, treeAccepted}
+use Rattle.protocol.proofs.Places.{AtNode}
 use Rattle.trees.specs.Nodes.{childAccepted}
 use Rattle.trees.proofs.Descent.{node-tests}
 

@@ -15,9 +15,9 @@ use Rattle.protocol.proofs.Modulo.{modulo-lt}
 use Rattle.protocol.proofs.Reading.{tabulate-at, flat-length}
 use Rattle.sizes.proofs.Limits.{degree-least, degree-most}
 use Rattle.residues.specs.Folds.{folded, Foldable, foldDown}
-use Rattle.claims.proofs.Agreement.{Alike}
-use Rattle.claims.proofs.Paths.{halfLeft-height}
-use Rattle.claims.proofs.Places.{twice-cells}
+use Rattle.protocol.proofs.Agreement.{Alike}
+use Rattle.protocol.proofs.Paths.{halfLeft-height}
+use Rattle.protocol.proofs.Places.{twice-cells}
 use Rattle.trees.specs.Nodes.{Folding, Reduced}
 
 module _ (q d n e : ℕ) (W : List ℕ) (long : n * d ≤ length W) where

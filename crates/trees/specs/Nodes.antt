@@ -21,7 +21,7 @@ use Rattle.protocol.specs.Opening.{foldKey}
 use Rattle.protocol.specs.Inputs.{Below}
 use Rattle.protocol.specs.Transcript.{finalBounded}
 use Rattle.protocol.specs.Tree.{child, challenge, nodes, leaves, leaf}
-use Rattle.claims.specs.TreeCheck.{claimTo, foldedEndHolds, treeAccepted}
+use Rattle.protocol.specs.TreeCheck.{claimTo, foldedEndHolds, treeAccepted}
 
 pub record Folding (S : Settings) (h space : ℕ) : Type 0 where
   pub allowed : settingsRefusal S ≡ 0

@@ -11,8 +11,8 @@ ghost use Rattle.protocol.specs.Settings.{settingsRefusal, cells};
 ghost use Rattle.protocol.specs.Tree as tree;
 ghost use Rattle.protocol.specs.Calls.{everyPath};
 ghost use Rattle.residues.specs.Folds.{foldDown};
-ghost use Rattle.claims.specs.TreeCheck.{claimTo, nodeHolds, treeAccepted};
-ghost use Rattle.claims.specs.Nodes.{AtNode, Alike};
+ghost use Rattle.protocol.specs.TreeCheck.{claimTo, nodeHolds, treeAccepted};
+ghost use Rattle.protocol.specs.Nodes.{AtNode, Alike};
 ghost use Rattle.trees.specs.Nodes.{Folding, Tables, Round, Reduced, Read, TreeGiven, leafMet, childAccepted};
 
 // Challenge j of node k.

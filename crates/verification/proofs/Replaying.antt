@@ -13,7 +13,7 @@ use Rattle.protocol.specs.Layout.{itemOf}
 use Rattle.protocol.specs.Element.{Element, residue, residueAt, padded, reduced, signed}
 use Rattle.protocol.specs.Transcript.{Transcript, roundHolds, nextClaim, finalBounded, ending, endHolds, element, claimAfter, holdsAt, closes, accepted}
 use Rattle.protocol.proofs.Reading.{tabulate-length, cell-inside}
-use Rattle.claims.proofs.Agreement.{Same, claim-same, round-same, every-ext}
+use Rattle.protocol.proofs.Agreement.{Same, claim-same, round-same, every-ext}
 use Rattle.residues.specs.Elements.{elementAt}
 use Rattle.residues.proofs.Padding.{padded-at, element-residue}
 use Rattle.verification.specs.Replays.{bare, claimAt, Given}

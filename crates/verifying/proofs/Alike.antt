@@ -11,7 +11,7 @@ use Rattle.protocol.specs.Basic.{within}
 use Rattle.protocol.specs.Element.{modulo, signed}
 use Rattle.protocol.specs.Settings.{size, half}
 use Rattle.protocol.specs.Transcript.{Transcript, finalBounded, ending, endHolds, element, claimAfter, holdsAt, closes, accepted}
-use Rattle.claims.proofs.Agreement.{Same, every-ext, round-same, product-same}
+use Rattle.protocol.proofs.Agreement.{Same, every-ext, round-same, product-same}
 
 module _ (S : Settings) (p : 0 < S .degree) (key rounds E C C′ : List ℕ) (f f′ : List ℤ) (same : (k : ℕ) → k < S .degree → getD C k 0 ≡ getD C′ k 0) (ends : Same (S .degree) (signed f) (signed f′)) where
   abbrev T : Transcript

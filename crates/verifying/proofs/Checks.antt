@@ -32,7 +32,7 @@ use Rattle.protocol.specs.Programs.{verifyReads, transcriptIn, tablesAccepted}
 use Rattle.protocol.proofs.Tests.{and-split, and-intro, every-intro, all-at, first-zero, zero-first, first-nothing, unless-zero, zero-unless, granted-zero}
 use Rattle.protocol.proofs.Inputs.{settings-valid}
 use Rattle.protocol.proofs.Reading.{tabulate-length, tabulate-at}
-use Rattle.claims.proofs.Agreement.{Same}
+use Rattle.protocol.proofs.Agreement.{Same}
 use Rattle.residues.specs.Elements.{elementAt}
 use Rattle.residues.proofs.Padding.{padded-at}
 use Rattle.sizes.proofs.Limits.{degree-least}

@@ -20,7 +20,7 @@ use Rattle.protocol.specs.Text.{Tables, textLimit, textOf, outputRefusal, write
 use Rattle.protocol.specs.Promises.{Wrote}
 use Rattle.protocol.proofs.Tests.{first-nothing, first-zero, unless-zero}
 use Rattle.protocol.proofs.Refusals.{first-only, first-fails, first-holds, front-stops, front-passes}
-use Rattle.claims.proofs.TextLimits.{allowed}
+use Rattle.protocol.proofs.TextLimits.{allowed}
 use Rattle.shapes.specs.Parts.{Exact}
 use Rattle.shapes.proofs.Exactly.{fits-exact}
 use Rattle.writing.specs.Tables.{tablesRefusal}

@@ -7,7 +7,7 @@ use borrow.Author.Needs.{needs}
 use borrow.Author.Tests.{le-leb, lt-leb}
 use Rattle.protocol.specs.Basic.{choose}
 use Rattle.protocol.specs.Tree.{growthLimit}
-use Rattle.claims.specs.GrowthTest.{cappedTimes}
+use Rattle.protocol.specs.GrowthTest.{cappedTimes}
 use Rattle.sizes.proofs.capped_times.Statement.{statement}
 use Rattle.sizes.proofs.capped_times.Tie as tie
 

@@ -7,8 +7,8 @@ use native.Mathlib.Omega.{arith}
 use borrow.Author.Needs.{needs}
 use Rattle.protocol.specs.Tree.{growthFactor, growthLimit}
 use Rattle.protocol.proofs.Inputs.{settings-valid}
-use Rattle.claims.specs.GrowthTest.{cappedTimes, cappedPower, cappedGrowth}
-use Rattle.claims.proofs.Growth.{square}
+use Rattle.protocol.specs.GrowthTest.{cappedTimes, cappedPower, cappedGrowth}
+use Rattle.protocol.proofs.GrowthTest.{square}
 use Rattle.sizes.proofs.Limits.{degree-least, degree-most}
 use Rattle.sizes.proofs.growth.Statement.{statement}
 use Rattle.sizes.proofs.growth.Tie as tie

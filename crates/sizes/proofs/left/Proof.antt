@@ -1,7 +1,7 @@
 use mathlib.Core.Path.{sym, _∙_}
 use native.Mathlib.Omega.{arith}
 use Rattle.protocol.proofs.Inputs.{settings-valid}
-use Rattle.claims.proofs.Tables.{left-power}
+use Rattle.protocol.proofs.OpeningLaws.{left-power}
 use Rattle.sizes.proofs.Shift.{shifted}
 use borrow.Author.Needs.{needs}
 use Rattle.sizes.proofs.left.Statement.{statement}

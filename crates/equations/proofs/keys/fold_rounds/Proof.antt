@@ -8,7 +8,7 @@ use Rattle.protocol.specs.Basic.{Provided}
 use Rattle.protocol.specs.Settings.{cells}
 use Rattle.protocol.specs.Inputs.{Below}
 use Rattle.protocol.specs.Opening.{foldResidues, keyAfter, foldKey}
-use Rattle.claims.proofs.Ranges.{key-residues}
+use Rattle.protocol.proofs.Ranges.{key-residues}
 use Rattle.equations.specs.Given.{KeyGiven}
 use Rattle.equations.proofs.Halves.{key-foldable}
 use Rattle.equations.proofs.Ready.{ready}

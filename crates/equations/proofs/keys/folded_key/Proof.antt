@@ -7,7 +7,7 @@ use Rattle.protocol.specs.Settings.{cells}
 use Rattle.protocol.specs.Opening.{keyAfter}
 use Rattle.protocol.specs.Inputs.{Below}
 use Rattle.protocol.proofs.Inputs.{settings-valid}
-use Rattle.claims.proofs.Tables.{key-length}
+use Rattle.protocol.proofs.OpeningLaws.{key-length}
 use Rattle.sizes.proofs.Limits.{cells-most, degree-most, degree-inside}
 use Rattle.residues.specs.Elements.{elementAt}
 use Rattle.residues.proofs.Padding.{element-front}

@@ -10,7 +10,7 @@ use lib.Seq.{getD-set-same, getD-set-other}
 use lib.IntN.{ℤ, pos, negℤ}
 use mir.Syntax.{w64}
 use Rattle.protocol.specs.Element.{signed}
-use Rattle.residues.proofs.Around.{around-first, around-second, around-third}
+use Rattle.protocol.proofs.Rotation.{around-first, around-second, around-third}
 use Rattle.ranges.proofs.Magnitude.{through-bits}
 use Rattle.extraction.specs.Steps.{Spread}
 use Rattle.extraction.proofs.elements.spread.Statement.{statement}

@@ -14,7 +14,7 @@ use Rattle.extraction.specs.Steps.{Spread, spreadAdded, rotatedAdded}
 use Rattle.extraction.specs.Vectors.{turnedRow, turned, Turnable}
 use Rattle.residues.specs.Lists.{splicedRows}
 use Rattle.residues.proofs.Fill.{filled, filled-ext}
-use Rattle.residues.proofs.Folds.{row-inside}
+use Rattle.protocol.proofs.Reading.{row-inside}
 use Rattle.residues.proofs.Parts.{tail-at, tail-length}
 use Rattle.residues.proofs.Splice.{spliced-length, entry-before}
 use Rattle.relaxed.proofs.Products.{rotate-ext}

@@ -14,7 +14,7 @@ use Rattle.extraction.specs.Steps.{weighted}
 use Rattle.extraction.specs.Vectors.{scaled, Scalable}
 use Rattle.residues.specs.Lists.{splicedRows}
 use Rattle.residues.proofs.Fill.{filled, filled-ext}
-use Rattle.residues.proofs.Folds.{row-inside}
+use Rattle.protocol.proofs.Reading.{row-inside}
 use Rattle.residues.proofs.Parts.{tail-length}
 use Rattle.residues.proofs.Splice.{spliced-length}
 use Rattle.extraction.proofs.Splicing.{rows-none, lent-at, rows-turn}

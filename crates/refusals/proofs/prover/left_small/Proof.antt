@@ -6,7 +6,7 @@ use lib.Seq.{length-take-le}
 use Rattle.protocol.specs.Settings.{small}
 use Rattle.protocol.specs.Layout.{leftCells}
 use Rattle.protocol.specs.Calls.{leftSmall}
-use Rattle.claims.proofs.Tables.{left-inside}
+use Rattle.protocol.proofs.OpeningLaws.{left-inside}
 use Rattle.refusals.proofs.prover.left_small.Statement.{statement}
 use Rattle.refusals.proofs.prover.left_small.Tie as tie
 

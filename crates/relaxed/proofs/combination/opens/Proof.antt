@@ -17,7 +17,7 @@ use Rattle.protocol.proofs.Inputs.{settings-valid}
 use Rattle.protocol.proofs.Reading.{tabulate-length, tabulate-at}
 use Rattle.ranges.proofs.Scan.{every-none, every-goes-on, every-fails, every-ends}
 use Rattle.sizes.proofs.Limits.{degree-most}
-use Rattle.claims.proofs.Agreement.{every-ext}
+use Rattle.protocol.proofs.Agreement.{every-ext}
 use Rattle.relaxed.proofs.combination.opens.Statement.{statement}
 use Rattle.relaxed.proofs.combination.opens.Tie as tie
 

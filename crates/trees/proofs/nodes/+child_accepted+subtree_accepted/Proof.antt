@@ -13,8 +13,8 @@ use Rattle.protocol.specs.Tree.{child, challenge}
 use Rattle.protocol.proofs.Inputs.{settings-valid}
 use Rattle.sizes.proofs.Limits.{degree-most}
 use Rattle.residues.specs.Folds.{foldDown}
-use Rattle.claims.proofs.Places as Places
-use Rattle.claims.proofs.Places.{AtNode}
+use Rattle.protocol.proofs.Places as Places
+use Rattle.protocol.proofs.Places.{AtNode}
 use Rattle.trees.specs.Nodes.{Round, Reduced, Read}
 use Rattle.trees.proofs.Checks as Checks
 use Rattle.trees.proofs.Descent as Descent

@@ -7,8 +7,8 @@ use lib.Seq.{length-take-le}
 use borrow.Rule.Slice.PartMut.{putMid, mid-len}
 use Rattle.protocol.proofs.Inputs.{settings-valid}
 use Rattle.sizes.proofs.Limits.{degree-most, cells-most}
-use Rattle.claims.proofs.Places.{at-root}
-use Rattle.claims.proofs.Ranges.{below-everywhere}
+use Rattle.protocol.proofs.Places.{at-root}
+use Rattle.protocol.proofs.Ranges.{below-everywhere}
 use Rattle.trees.proofs.Root.{root-room, root-key, root-tests, root-read}
 use borrow.Author.Needs.{needs}
 use Rattle.trees.proofs.nodes.root_accepted.Statement.{statement}

@@ -5,7 +5,7 @@ use borrow.Author.Tests.{not-true, not-false}
 use Rattle.protocol.specs.Settings.{settingsRefusal}
 use Rattle.protocol.specs.Text.{fits}
 use Rattle.protocol.proofs.Refusals.{first-only, first-stops, first-passes, first-fails, first-holds}
-use Rattle.claims.proofs.TextLimits.{allowed}
+use Rattle.protocol.proofs.TextLimits.{allowed}
 use Rattle.shapes.specs.Parts.{six, lengthsOf}
 use Rattle.shapes.proofs.Exactly.{lengths-fit}
 use Rattle.shapes.proofs.Shallow.{lengths-shallow}

@@ -8,14 +8,13 @@ use native.Mathlib.Omega.{arith}
 use borrow.Author.Tests.{leb-true, le-leb}
 use lib.Dec.{leb}
 use lib.Pow as Pow
 use Rattle.protocol.specs.declared.Settings.{Settings}
 use Rattle.protocol.specs.Basic.{choose}
 use Rattle.protocol.specs.Settings.{size, cells}
-use Rattle.protocol.specs.Tree.{growthFactor, growthLimit, growth, grows}
+use Rattle.protocol.specs.Tree.{growthFactor, growthLimit, growth, growthAllowed}
 use Rattle.protocol.specs.Inputs.{Valid}
 use Rattle.protocol.proofs.Tests.{same-test}
-use Rattle.claims.specs.GrowthTest.{cappedTimes, cappedPower, cappedGrowth}
-use Rattle.claims.proofs.Growth.{square}
+use Rattle.protocol.specs.GrowthTest.{cappedTimes, cappedPower, cappedGrowth}
 
 -- ---- the test in small numbers
 
@@ -63,9 +62,9 @@ module _ (c f : ℕ) (p : 0 < f) where
       (λ t. le-leb _ _ (subst (λ m. m ≤ c) (power-within b n (leb-true _ _ t)) (leb-true _ _ t)))
       (λ t. le-leb _ _ (subst (λ m. m ≤ c) (sym (power-exact b n (leb-true _ _ t))) (leb-true _ _ t)))
 
-pub grows-capped : (S : Settings) → 0 < S .degree → leb (cappedGrowth S) growthLimit ≡ grows S
-unfolding cappedGrowth grows growth growthFactor
-grows-capped S p = capped-test growthLimit (growthFactor (S .degree)) (Nat.mul-pos (omega arith) (Nat.one-le-pow 2 (S .degree) p)) (S .bound) (S .depth)
+pub growth-capped : (S : Settings) → 0 < S .degree → leb (cappedGrowth S) growthLimit ≡ growthAllowed S
+unfolding cappedGrowth growthAllowed growth growthFactor
+growth-capped S p = capped-test growthLimit (growthFactor (S .degree)) (Nat.mul-pos (omega arith) (Nat.one-le-pow 2 (S .degree) p)) (S .bound) (S .depth)
 
 -- ---- how many numbers a vector then has
 
@@ -75,6 +74,9 @@ power-power a (suc n) = Nat.pow-suc (2 ^ a) n ∙ ap (λ m. m * 2 ^ a) (power-po
 
 power-cancel : (a b : ℕ) → 2 ^ a ≤ 2 ^ b → a ≤ b
 power-cancel a b l = elim (decLe a b) [ yes h ↦ h | no h ↦ absurd (omega (arith, Pow.pow-lt {i = b} {j = a} (omega arith))) ]
+
+pub square : (d : ℕ) → d ^ 2 ≡ d * d
+square d = rw (Nat.pow-suc d 1, Nat.pow-suc d 0, Nat.pow-zero d) (omega arith)
 
 -- 2^(3 + 2·D) ≤ 12·d²
 factor-least : (D d : ℕ) → d ≡ 2 ^ D → 2 ^ (3 + (D + D)) ≤ growthFactor d

@@ -6,16 +6,16 @@ use native.Mathlib.Decide.{decLt}
 use native.Mathlib.Omega.{arith}
 use lib.ListN.{length, getD, List·getD-eq-default, List·getD-append}
 use lib.IntN.{ℤ, pos}
 use Rattle.protocol.specs.declared.Settings.{Settings}
 use Rattle.protocol.specs.Basic.{flat}
 use Rattle.protocol.specs.Element.{Element, signed, signedAt, coefficients, reduced, padded, paddedSigned}
 use Rattle.protocol.specs.Settings.{cells}
 use Rattle.protocol.specs.Opening.{commitment, roundElement, roundTable, messageAfter, keyAfter, finalElement}
 use Rattle.protocol.specs.Transcript.{Transcript, doubled, ending, nextClaim, claimAfter, Accepted}
 use Rattle.protocol.specs.Inputs.{Below}
 use Rattle.protocol.proofs.Reading.{tabulate-length, tabulate-at}
-use Rattle.claims.proofs.Readings.{reduced-at, modulo-lt}
-use Rattle.claims.proofs.Tables.{key-length, key-below}
+use Rattle.protocol.proofs.Modulo.{reduced-at, modulo-lt}
+use Rattle.protocol.proofs.OpeningLaws.{key-length, key-below}
 
 pub below-everywhere : (m n : ℕ) (t : List ℕ) → 0 < m → Below m n t → (j : ℕ) → getD t j 0 < m
 below-everywhere m n t pm b j = elim (decLt j n) [

@@ -6,14 +6,14 @@ use Prim.Native.Nat.{ℕ, zero, suc, _+_, _*_, _-_, _^_}
 use native.Mathlib.Omega.{arith}
 use lib.Dec.{eqb}
 use lib.IntN.{ℤ, pos, _*ℤ_}
 use Rattle.protocol.specs.declared.Settings.{Settings}
 use Rattle.protocol.specs.Element.{modulo, signed}
 use Rattle.protocol.specs.Settings.{half}
 use Rattle.protocol.specs.Opening.{foldKey}
 use Rattle.protocol.specs.Transcript.{finalBounded}
 use Rattle.protocol.specs.Tree.{child, challenge, nodes, leaf}
-use Rattle.claims.specs.TreeCheck.{nodeElement, foldedEnding, claimTo, nodeHolds, foldedEndHolds, leafAccepted, treeAccepted}
-use Rattle.claims.proofs.Agreement.{every-ext, product-same, round-same, Alike, alike-same, key-alike}
+use Rattle.protocol.specs.TreeCheck.{nodeElement, foldedEnding, claimTo, nodeHolds, foldedEndHolds, leafAccepted, treeAccepted}
+use Rattle.protocol.proofs.Agreement.{every-ext, product-same, round-same, Alike, alike-same, key-alike}
 
 module _ (S : Settings) (rounds E : List ℕ) (finals : List ℤ) where
   abbrev L : ℕ

@@ -3,13 +3,13 @@ use mathlib.Core.Path.{_≡_, sym, ap, _∙_, subst}
 use Prim.Native.Nat.{ℕ, suc, _+_, _*_, _-_, _/_, _^_, _<_, _≤_}
 use native.Mathlib.Nat as Nat
 use native.Mathlib.Omega.{arith}
 use Rattle.protocol.specs.declared.Settings.{Settings}
 use Rattle.protocol.specs.Settings.{size, cells}
 use Rattle.protocol.specs.Tree.{child, nodes}
-pub use Rattle.claims.specs.Nodes.{AtNode}
-use Rattle.claims.specs.Nodes.{AtDepth, before}
-use Rattle.claims.proofs.Numbering.{before-le, child-depth, root-depth}
-use Rattle.claims.proofs.Paths.{nodes-before, depth-branching}
+pub use Rattle.protocol.specs.Nodes.{AtNode}
+use Rattle.protocol.specs.Nodes.{AtDepth, before}
+use Rattle.protocol.proofs.Numbering.{before-le, child-depth, root-depth}
+use Rattle.protocol.proofs.Paths.{nodes-before, depth-branching}
 
 module _ (S : Settings) where
   open Settings S using (degree as d, depth as L)

@@ -5,12 +5,12 @@ use Prim.Native.Nat.{ℕ, zero, suc, _+_, _*_, _-_, _^_, _<_, _≤_}
 use native.Mathlib.Nat as Nat
 use native.Mathlib.Omega.{arith}
 use lib.ListN.{getD}
 use Rattle.protocol.specs.declared.Settings.{Settings}
 use Rattle.protocol.specs.Tree.{child, parent, place, above, challenge, challengeTo, nodes, leaves, onPath, pathChallenges}
 use Rattle.protocol.specs.Opening.{halfLeft}
 use Rattle.protocol.proofs.Reading.{tabulate-at}
-use Rattle.claims.proofs.Tables.{halfLeft-power}
-use Rattle.claims.proofs.Numbering.{child-parent, before, before-power, before-le, before-add, AtDepth, parent-depth, below, above-below}
+use Rattle.protocol.proofs.OpeningLaws.{halfLeft-power}
+use Rattle.protocol.proofs.Numbering.{child-parent, before, before-power, before-le, before-add, AtDepth, parent-depth, below, above-below}
 
 module _ (S : Settings) where
   abbrev L : ℕ

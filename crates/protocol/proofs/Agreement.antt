@@ -8,14 +8,14 @@ use native.Mathlib.Omega.{arith}
 use lib.Dec.{eqb}
 use lib.ListN.{getD}
 use lib.IntN.{ℤ, pos, _+ℤ_, _*ℤ_}
 use Rattle.protocol.specs.declared.Settings.{Settings}
 use Rattle.protocol.specs.Basic.{sum, every}
 use Rattle.protocol.specs.Element.{Element, modulo, flips, around, rotate, product, residueAt, reduced}
 use Rattle.protocol.specs.Opening.{foldResidues, foldKey}
 use Rattle.protocol.specs.Transcript.{doubled, roundHolds, nextClaim}
 use Rattle.protocol.proofs.Reading.{cell-inside, tabulate-ext, flat-front}
-pub use Rattle.claims.specs.Nodes.{Alike}
-use Rattle.claims.proofs.Paths.{halfLeft-height}
+pub use Rattle.protocol.specs.Nodes.{Alike}
+use Rattle.protocol.proofs.Paths.{halfLeft-height}
 
 pub sum-ext : (n : ℕ) {f g : ℕ → ℤ} → ((i : ℕ) → i < n → f i ≡ g i) → sum n f ≡ sum n g
 unfolding sum

@@ -7,19 +7,19 @@ use native.Mathlib.Nat as Nat
 use native.Mathlib.Omega.{arith}
 use lib.ListN.{getD}
 use lib.IntN.{ℤ, pos}
 use Rattle.protocol.specs.declared.Settings.{Settings}
 use Rattle.protocol.specs.Basic.{every}
 use Rattle.protocol.specs.Element.{signed, residueAt}
 use Rattle.protocol.specs.Opening.{foldKey, keyAfter}
 use Rattle.protocol.specs.Transcript.{Transcript, nextClaim, finalBounded, ending, endHolds, element, claimAfter, holdsAt, closes, accepted}
 use Rattle.protocol.specs.Tree.{child, challenge, place, nodes, leaves, onPath, pathRounds, leaf, path}
 use Rattle.protocol.specs.Calls.{everyPath}
 use Rattle.protocol.proofs.Tests.{and-split, and-intro, same-test, every-at, every-intro}
 use Rattle.protocol.proofs.Reading.{flat-at}
-use Rattle.claims.specs.TreeCheck.{nodeElement, foldedEnding, claimTo, nodeHolds, foldedEndHolds, leafAccepted, treeAccepted}
-use Rattle.claims.proofs.Agreement.{Same, claim-same, round-same}
-use Rattle.claims.proofs.Paths.{below-root, path-challenge}
-use Rattle.claims.proofs.Walk.{three, stateOn, Walk, Visits, walk-visits, visits-walk}
+use Rattle.protocol.specs.TreeCheck.{nodeElement, foldedEnding, claimTo, nodeHolds, foldedEndHolds, leafAccepted, treeAccepted}
+use Rattle.protocol.proofs.Agreement.{Same, claim-same, round-same}
+use Rattle.protocol.proofs.Paths.{below-root, path-challenge}
+use Rattle.protocol.proofs.Walk.{three, stateOn, Walk, Visits, walk-visits, visits-walk}
 
 four-split : (a b c d : Bool) → (a && (b && (c && d))) ≡ true → (a ≡ true) × (b ≡ true) × (c ≡ true) × (d ≡ true)
 four-split a b c d t = let u = and-split {a = a} t in let v = and-split {a = b} (u .1) in let w = and-split {a = c} (v .1) in (u .0, v .0, w .0, w .1)

@@ -5,9 +5,9 @@ use mathlib.Core.Path.{_≡_, refl, sym, ap, _∙_}
 use Prim.Native.Nat.{ℕ, zero, suc, _+_, _*_, _/_, _%_, _^_, _<_, _≤_}
 use native.Mathlib.Nat as Nat
 use native.Mathlib.Omega.{arith}
 use Rattle.protocol.specs.Tree.{child, parent, place, above}
-unfoldable pub use Rattle.claims.specs.Nodes.{before}
-pub use Rattle.claims.specs.Nodes.{AtDepth}
+unfoldable pub use Rattle.protocol.specs.Nodes.{before}
+pub use Rattle.protocol.specs.Nodes.{AtDepth}
 
 -- ---- parents and children
 

@@ -1,3 +1,0 @@
-pub mod TreeCheck
-pub mod GrowthTest
-pub mod Nodes
