@@ -4,6 +4,7 @@
 Usage: to-antt.py < small.txt > ../../crates/drawn/proofs/Drawn.antt
 Each case becomes one row: what the definitions give for its inputs, and the outputs that the reference gave."""
 import sys
+import textwrap
 
 lines = [line.split() for line in sys.stdin.read().split('\n')]
 at = 0
@@ -142,12 +143,14 @@ use Rattle.protocol.specs.Transcript.{Cause}
 use Rattle.protocol.proofs.Examples.{Example, agree, agreeing}
 use Rattle.protocol.proofs.Compute.{computed}
 use Rattle.protocol.proofs.ComputeText.{computedText}
-use Rattle.drawn.proofs.Rows.{rowsUnfolded, set, session, full, fullSigned, sixTables, sixParts, commitRow, roundRow, foldRow, endRow, openingRow, startRow, moveRow, closeRow, checkRow, judgeRow, extractRow, readRow, writeRow, proveRow, verifyRow}
+use Rattle.drawn.proofs.Rows.{rowsUnfolded, set, session, full, fullSigned, sixTables, sixParts, commitRow, roundRow, foldRow, endRow, openingRow}
+use Rattle.drawn.proofs.Rows.{startRow, moveRow, closeRow, checkRow, judgeRow, extractRow, readRow, writeRow, proveRow, verifyRow}
 
 unfoldable pub drawn : List Example
 drawn =''')
 for row in rows:
-    print('    %s' % ('' if row is rows[0] else '∷ ') + row)
+    head = '    ' if row is rows[0] else '    ∷ '
+    print(textwrap.fill(row, width=180, initial_indent=head, subsequent_indent='    ', break_long_words=False, break_on_hyphens=False))
 print('''    ∷ []
 
 -- the definitions give what the reference gave

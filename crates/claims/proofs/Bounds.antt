@@ -50,7 +50,9 @@ module _ (S : Settings) (p : 0 < S .degree) (E : List ℕ) (message : List ℤ) 
 
   -- one fold more
   fold-step : (t b : ℕ) → t < L → ((i : ℕ) → i < 2 ^ (L - t) → Bounded d b (m t i)) → (i : ℕ) → i < 2 ^ (L - suc t) → Bounded d (b + b) (m (suc t) i)
-  fold-step t b l w i h k lk = subst (λ z. natAbs z ≤ b + b) (sym step) (folded-bounded d p (halfLeft S t) (getD E t 0) b (m t) i (w i (omega (arith, twice-power L t l))) (w (halfLeft S t + i) (omega (arith, twice-power L t l, halfLeft-power S t l))) k lk)
+  fold-step t b l w i h k lk =
+      subst (λ z. natAbs z ≤ b + b) (sym step)
+      (folded-bounded d p (halfLeft S t) (getD E t 0) b (m t) i (w i (omega (arith, twice-power L t l))) (w (halfLeft S t + i) (omega (arith, twice-power L t l, halfLeft-power S t l))) k lk)
     where
       step : m (suc t) i k ≡ folded d (halfLeft S t) (getD E t 0) (m t) i k
       step = ap (λ l. signedAt d l i k) (message-suc S E t message) ∙ signed-fold d (halfLeft S t) (getD E t 0) (messageAfter S E t message) i k (omega (arith, halfLeft-power S t l)) lk
@@ -58,7 +60,8 @@ module _ (S : Settings) (p : 0 < S .degree) (E : List ℕ) (message : List ℤ) 
   pub fold-bound : (t : ℕ) → t ≤ L → (i : ℕ) → i < 2 ^ (L - t) → Bounded d (2 ^ t * B) (m t i)
   unfolding messageAfter signedAt size cells
   fold-bound zero l i h k lk = omega (arith, small (i * d + k) (cell-inside d (2 ^ L) i k (omega (arith, ap (λ n. 2 ^ n) (Nat.sub-zero L))) lk))
-  fold-bound (suc t) l i h k lk = subst (λ n. natAbs (m (suc t) i k) ≤ n) (sym (ap (λ n. n * B) (Nat.two-pow-succ t) ∙ Nat.add-mul (2 ^ t) (2 ^ t) B)) (fold-step t (2 ^ t * B) l (fold-bound t (omega arith)) i h k lk)
+  fold-bound (suc t) l i h k lk =
+      subst (λ n. natAbs (m (suc t) i k) ≤ n) (sym (ap (λ n. n * B) (Nat.two-pow-succ t) ∙ Nat.add-mul (2 ^ t) (2 ^ t) B)) (fold-step t (2 ^ t * B) l (fold-bound t (omega arith)) i h k lk)
 
   -- of the element that is left at the end
   pub last-bound : Bounded d (size S * B) (m L 0)
@@ -71,7 +74,9 @@ pub left-within : (S : Settings) → 0 < S .degree → (E : List ℕ) (message :
 unfolding signedAt
 left-within S p E message w t l = record {
   long = length-take-le (left S t * d) _ (omega (arith, message-length S E t message (w .long), left-inside S t));
-  each = λ j h. subst (λ z. natAbs z ≤ 2 ^ t * S .bound) (ap (λ n. getD (messageAfter S E t message) n (pos 0)) (Nat.div-add-mod' j d) ∙ sym (getD-take (left S t * d) (messageAfter S E t message) j (pos 0) h))
+  each =
+      λ j h. subst (λ z. natAbs z ≤ 2 ^ t * S .bound)
+      (ap (λ n. getD (messageAfter S E t message) n (pos 0)) (Nat.div-add-mod' j d) ∙ sym (getD-take (left S t * d) (messageAfter S E t message) j (pos 0) h))
       (fold-bound S p E message (w .each) t l (j / d) (subst (λ n. j / d < n) (left-power S t l) (Nat.div-lt-iff-lt-mul p .1 h)) (j % d) (Nat.mod-lt j p));
 }
   where

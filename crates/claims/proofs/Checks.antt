@@ -85,6 +85,7 @@ module _ (S : Settings) (p : 0 < S .degree) (pq : 0 < S .modulus) where
       unfolding ending ended times
       end-equation e = readq-entries q pq d p ended claim e ∙ ending-read
 
-      pub equation-end : ((k : ℕ) → k < d → getD claim k 0 < q) → readS (residue claim) ≡ ofℕ Q (half S ^ L) ⊗ (readS f ⊗ readS (residueAt d (keyAfter S E L key) 0)) → (k : ℕ) → k < d → getD claim k 0 ≡ ending S key E f k
+      pub equation-end : ((k : ℕ) → k < d → getD claim k 0 < q) → readS (residue claim) ≡ ofℕ Q (half S ^ L) ⊗ (readS f ⊗ readS (residueAt d (keyAfter S E L key) 0)) → (k : ℕ) → k < d
+          → getD claim k 0 ≡ ending S key E f k
       unfolding ending ended times
       equation-end below e k l = entries-readq q pq d p ended claim below (e ∙ sym ending-read) k l

@@ -93,7 +93,8 @@ module _ (S : Settings) (p : 0 < S .degree) (pq : 0 < S .modulus) (key : List �
     unfolding claimAfter
     next-honest =
         read-nextClaim S p pq e (element S T t 0) (element S T t 1) (element S T t 2)
-        ∙ combine RQ (ints RQ) 8 (λ P r A B D c0 c1 c2. c0 :+ r :* c1 :+ r :* (r :* c2) ≐ P :* (A :+ r :* B :+ r :* r :* D) ⇐ con (pos 1) ·⟨ c0 ≐ P :* A ⟩ r ·⟨ c1 ≐ P :* B ⟩ (r :* r) ·⟨ c2 ≐ P :* D ⟩ done) tt
+        ∙ combine RQ (ints RQ) 8
+        (λ P r A B D c0 c1 c2. c0 :+ r :* c1 :+ r :* (r :* c2) ≐ P :* (A :+ r :* B :+ r :* r :* D) ⇐ con (pos 1) ·⟨ c0 ≐ P :* A ⟩ r ·⟨ c1 ≐ P :* B ⟩ (r :* r) ·⟨ c2 ≐ P :* D ⟩ done) tt
         (half^ (suc t)) (X^S S p pq e) _ _ _ _ _ _ c0-honest c1-honest c2-honest
         ∙ ap (λ x. half^ (suc t) ⊗ x)
         (sym (I.inner-fold RQ (n t) (X^S S p pq e) (u t) (λ i. u t (n t + i)) (v t) (λ i. v t (n t + i)))
@@ -105,7 +106,8 @@ module _ (S : Settings) (p : 0 < S .degree) (pq : 0 < S .modulus) (key : List �
     -- 2·(c0 + c2) is half^t·⟨m, G⟩
     pub doubled-honest : q % 2 ≡ 1 → ofℕ RQ 2 ⊗ (rd (element S T t 0) ⊕ rd (element S T t 2)) ≡ half^ t ⊗ I.inner RQ (2 ^ (L - t)) (u t) (v t)
     doubled-honest odd =
-        combine RQ (ints RQ) 8 (λ W P H P′ A D c0 c2. W :* (c0 :+ c2) ≐ P :* (A :+ D) ⇐ W ·⟨ c0 ≐ P′ :* A ⟩ W ·⟨ c2 ≐ P′ :* D ⟩ (W :* (A :+ D)) ·⟨ P′ ≐ P :* H ⟩ (P :* (A :+ D)) ·⟨ W :* H ≐ con (pos 1) ⟩ done) tt
+        combine RQ (ints RQ) 8
+        (λ W P H P′ A D c0 c2. W :* (c0 :+ c2) ≐ P :* (A :+ D) ⇐ W ·⟨ c0 ≐ P′ :* A ⟩ W ·⟨ c2 ≐ P′ :* D ⟩ (W :* (A :+ D)) ·⟨ P′ ≐ P :* H ⟩ (P :* (A :+ D)) ·⟨ W :* H ≐ con (pos 1) ⟩ done) tt
         (ofℕ RQ 2) (half^ t) (ofℕ RQ (half S)) (half^ (suc t)) _ _ _ _ c0-honest c2-honest (half-power-suc S p pq t) (two-half S p pq odd)
         ∙ ap (λ x. half^ t ⊗ x) (sym (ap (λ m. I.inner RQ m (u t) (v t)) (twice-power L t lt) ∙ I.inner-split RQ (n t) (n t) (u t) (v t)))
 
@@ -113,7 +115,10 @@ module _ (S : Settings) (p : 0 < S .degree) (pq : 0 < S .modulus) (key : List �
 
   start-honest : ((k : ℕ) → k < d → getD C k 0 ≡ getD (commitment S key message) k 0) → rd (residue (claimAfter S T 0)) ≡ half^ 0 ⊗ I.inner RQ (2 ^ (L - 0)) (u 0) (v 0)
   unfolding claimAfter commitment size messageAfter keyAfter
-  start-honest same = readq-entries q pq d p whole C (λ k l. same k l ∙ reduced-at q d whole k l) ∙ read-inner K d p (2 ^ L) _ _ ∙ sym (ap₂ _⊗_ (ap (ofℕ RQ) (Nat.pow-zero (half S)) ∙ fromℤ RQ .on-one) (ap (λ m. I.inner RQ (2 ^ m) (u 0) (v 0)) (Nat.sub-zero L)) ∙ R.one-mul RQ _)
+  start-honest same =
+      readq-entries q pq d p whole C (λ k l. same k l ∙ reduced-at q d whole k l)
+      ∙ read-inner K d p (2 ^ L) _ _
+      ∙ sym (ap₂ _⊗_ (ap (ofℕ RQ) (Nat.pow-zero (half S)) ∙ fromℤ RQ .on-one) (ap (λ m. I.inner RQ (2 ^ m) (u 0) (v 0)) (Nat.sub-zero L)) ∙ R.one-mul RQ _)
     where
       whole : Element
       whole = inner d (2 ^ L) (signedAt d message) (residueAt d key)

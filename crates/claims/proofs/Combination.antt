@@ -42,7 +42,9 @@ module _ (K : CommRing) where
         ≡ m₁ ⊗ inner K n u (λ i. G i ⊕ r₁ ⊗ H i) ⊕ m₂ ⊗ inner K n v (λ i. G i ⊕ r₂ ⊗ H i) ⊕ m₃ ⊗ inner K n w (λ i. G i ⊕ r₃ ⊗ H i)
     inner-mixed =
         ap₂ _⊕_ (inner-three n m₁ m₂ m₃ u v w G) (inner-three n r₁ r₂ r₃ _ _ _ H ∙ λ i. r₁ ⊗ mul-inner K n m₁ u H i ⊕ r₂ ⊗ mul-inner K n m₂ v H i ⊕ r₃ ⊗ mul-inner K n m₃ w H i)
-        ∙ ring K (ints K) 12 (λ m₁ m₂ m₃ r₁ r₂ r₃ a b c d e f. m₁ :* a :+ m₂ :* b :+ m₃ :* c :+ (r₁ :* (m₁ :* d) :+ r₂ :* (m₂ :* e) :+ r₃ :* (m₃ :* f)) ≐ m₁ :* (a :+ r₁ :* d) :+ m₂ :* (b :+ r₂ :* e) :+ m₃ :* (c :+ r₃ :* f)) tt
+        ∙ ring K (ints K) 12
+        (λ m₁ m₂ m₃ r₁ r₂ r₃ a b c d e f. m₁ :* a :+ m₂ :* b :+ m₃ :* c :+ (r₁ :* (m₁ :* d) :+ r₂ :* (m₂ :* e) :+ r₃ :* (m₃ :* f))
+        ≐ m₁ :* (a :+ r₁ :* d) :+ m₂ :* (b :+ r₂ :* e) :+ m₃ :* (c :+ r₃ :* f)) tt
         m₁ m₂ m₃ r₁ r₂ r₃ _ _ _ _ _ _
         ∙ λ i. m₁ ⊗ sym (inner-folded n r₁ u G H) i ⊕ m₂ ⊗ sym (inner-folded n r₂ v G H) i ⊕ m₃ ⊗ sym (inner-folded n r₃ w G H) i
 

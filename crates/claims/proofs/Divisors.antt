@@ -62,7 +62,13 @@ module _ (D a b : ℕ) (la : a < 2 * 2 ^ D) (lb : b < 2 * 2 ^ D) (ne : a ≢ b) 
 
   divisor-power : Divisor (2 ^ D) a b
   divisor-power = record {
-    divides = readℤ-inj (2 ^ D) q _ _ (read-product ℤ-ring (2 ^ D) q _ _ ∙ ap₂ (negacyclic ℤ-ring (2 ^ D) q .mul) (read-s (2 ^ D) q a b) (read-difference ℤ-ring (2 ^ D) q a b) ∙ A′.s-two D a b la lb ne ∙ sym (read-two ℤ-ring (2 ^ D) q));
+    divides =
+        readℤ-inj (2 ^ D) q _ _ (
+        read-product ℤ-ring (2 ^ D) q _ _
+        ∙ ap₂ (negacyclic ℤ-ring (2 ^ D) q .mul) (read-s (2 ^ D) q a b) (read-difference ℤ-ring (2 ^ D) q a b)
+        ∙ A′.s-two D a b la lb ne
+        ∙ sym (read-two ℤ-ring (2 ^ D) q)
+        );
     ternary = λ k l. subst (λ z. natAbs z ≤ 1) (ap (λ x. coef ℤ-ring (2 ^ D) q x k) (sym (read-s (2 ^ D) q a b)) ∙ coef-readℤ (2 ^ D) q (s (2 ^ D) a b) k l) (A′.bound-s D a b la lb ne k);
     only = λ x h. readℤ-inj (2 ^ D) q _ _ (A′.s-only D a b la lb ne _ (read-divides ℤ-ring (2 ^ D) q a b x h) ∙ sym (read-s (2 ^ D) q a b));
   }

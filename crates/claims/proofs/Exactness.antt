@@ -97,8 +97,12 @@ module _ (S : Settings) (E : List ℕ) (finals : List ℤ) where
 
       node-exact : (i : ℕ) → i < 2 ^ suc h → v (suc h) k i ≡ ofℕ RZ (4 ^ suc h) ⊗ at (x .1) i
       node-exact i l = halves (λ i. v (suc h) k i ≡ ofℕ RZ (4 ^ suc h) ⊗ at (x .1) i) (2 ^ h)
-          (λ i l. vec-low S E finals ℤ-ring p h k i l ∙ unfold-low RZ B _ _ _ _ _ _ (child-exact 0 (omega arith) i l) (child-exact 1 (omega arith) i l) (child-exact 2 (omega arith) i l) ∙ ap (λ y. y ⊗ at (x .1) i) (sym (four-power RZ h)))
-          (λ i l. vec-high S E finals ℤ-ring p h k i l ∙ unfold-high RZ B _ _ _ _ _ _ (child-exact 0 (omega arith) i l) (child-exact 1 (omega arith) i l) (child-exact 2 (omega arith) i l) ∙ ap (λ y. y ⊗ at (x .1) (2 ^ h + i)) (sym (four-power RZ h)))
+          (λ i l. vec-low S E finals ℤ-ring p h k i l
+          ∙ unfold-low RZ B _ _ _ _ _ _ (child-exact 0 (omega arith) i l) (child-exact 1 (omega arith) i l) (child-exact 2 (omega arith) i l)
+          ∙ ap (λ y. y ⊗ at (x .1) i) (sym (four-power RZ h)))
+          (λ i l. vec-high S E finals ℤ-ring p h k i l
+          ∙ unfold-high RZ B _ _ _ _ _ _ (child-exact 0 (omega arith) i l) (child-exact 1 (omega arith) i l) (child-exact 2 (omega arith) i l)
+          ∙ ap (λ y. y ⊗ at (x .1) (2 ^ h + i)) (sym (four-power RZ h)))
           i (omega (arith, Nat.two-pow-succ h))
 
     module _ (D : ℕ) (power : 2 ^ D ≡ d) (triples : (k : ℕ) → k < nodes S → Triple d (challenge E k 0) (challenge E k 1) (challenge E k 2)) where
@@ -124,7 +128,8 @@ pub exact : (S : Settings) (D : ℕ) → 2 ^ D ≡ S .degree → (E : List ℕ) 
 unfolding signedAt slack cells size rootVector
 exact S D power E finals m triples n e =
     sym (flat-own d (2 ^ L) (rootVector S E finals) (pos 0) p (vector-length S E finals L 0))
-    ∙ flat-ext d (2 ^ L) p (λ i k li lk. root-exact S E finals p D power triples m e i k li lk ∙ sym (ap (getD (map scaled m) (i * d + k)) (ap pos (sym (Nat.mul-zero (4 ^ L)))) ∙ List·getD-map scaled m (i * d + k) (pos 0)))
+    ∙ flat-ext d (2 ^ L) p
+    (λ i k li lk. root-exact S E finals p D power triples m e i k li lk ∙ sym (ap (getD (map scaled m) (i * d + k)) (ap pos (sym (Nat.mul-zero (4 ^ L)))) ∙ List·getD-map scaled m (i * d + k) (pos 0)))
     ∙ flat-own d (2 ^ L) (map scaled m) (pos 0) p (length-map m scaled ∙ n)
   where
     d : ℕ

@@ -68,7 +68,8 @@ module _ (S : Settings) (p : 0 < S .degree) (pq : 0 < S .modulus) (rounds E : Li
   leaf-end : (k : ℕ) (claim key : List ℕ) → leafAccepted S finals k claim key ≡ true → rd (residue claim) ≡ ofℕ RQ (half S ^ L) ⊗ (rd (signed (leaf S finals (k - nodes S))) ⊗ G key 0)
   unfolding leafAccepted foldedEndHolds foldedEnding times
   leaf-end k claim key a =
-      readq-entries q pq d p (times (pos (half S ^ L)) (product d f (residueAt d key 0))) claim (λ i l. eqb-true _ _ (every-at d (λ i. eqb (getD claim i 0) (foldedEnding S key f i)) (and-split {a = finalBounded S f} a .1) i l))
+      readq-entries q pq d p (times (pos (half S ^ L)) (product d f (residueAt d key 0))) claim
+      (λ i l. eqb-true _ _ (every-at d (λ i. eqb (getD claim i 0) (foldedEnding S key f i)) (and-split {a = finalBounded S f} a .1) i l))
       ∙ read-times K d p _ _ ∙ ap (λ x. ofℕ RQ (half S ^ L) ⊗ x) (read-product K d p f _)
     where
       f : Element
@@ -104,7 +105,8 @@ module _ (S : Settings) (p : 0 < S .degree) (pq : 0 < S .modulus) (rounds E : Li
 
     -- the children's equations, in the shape of `climb`
     child-opened : (j : ℕ) → Opened h (child k j) (suc t) (claimTo S rounds E k j) (foldKey S t (challenge E k j) key)
-        → ofℕ RQ (4 ^ h) ⊗ (rd (nodeElement S rounds k 0) ⊕ X^S S p pq (challenge E k j) ⊗ rd (nodeElement S rounds k 1) ⊕ X^S S p pq (challenge E k j) ⊗ (X^S S p pq (challenge E k j) ⊗ rd (nodeElement S rounds k 2)))
+        → ofℕ RQ (4 ^ h) ⊗
+        (rd (nodeElement S rounds k 0) ⊕ X^S S p pq (challenge E k j) ⊗ rd (nodeElement S rounds k 1) ⊕ X^S S p pq (challenge E k j) ⊗ (X^S S p pq (challenge E k j) ⊗ rd (nodeElement S rounds k 2)))
         ≡ ofℕ RQ (half S ^ t) ⊗ ofℕ RQ (half S) ⊗ branch j
     unfolding claimTo
     child-opened j o = ap (λ x. ofℕ RQ (4 ^ h) ⊗ x) (sym (read-nextClaim S p pq (challenge E k j) _ _ _)) ∙ o ∙ ap (λ x. x ⊗ branch j) (half-power-suc S p pq t)
@@ -112,7 +114,8 @@ module _ (S : Settings) (p : 0 < S .degree) (pq : 0 < S .modulus) (rounds E : Li
     node-round : (claim : List ℕ) → nodeHolds S rounds k claim ≡ true → two RQ ⊗ (rd (nodeElement S rounds k 0) ⊕ rd (nodeElement S rounds k 2)) ≡ rd (residue claim)
     unfolding nodeHolds roundHolds
     node-round claim a = ap (λ x. x ⊗ (rd (nodeElement S rounds k 0) ⊕ rd (nodeElement S rounds k 2))) (sym (ofℕ-two RQ))
-        ∙ round-equation S p pq claim (nodeElement S rounds k 0) (nodeElement S rounds k 2) (λ i l. eqb-true _ _ (every-at d (λ i. eqb (doubled S (nodeElement S rounds k 0) (nodeElement S rounds k 2) i) (getD claim i 0)) a i l))
+        ∙ round-equation S p pq claim (nodeElement S rounds k 0) (nodeElement S rounds k 2)
+        (λ i l. eqb-true _ _ (every-at d (λ i. eqb (doubled S (nodeElement S rounds k 0) (nodeElement S rounds k 2) i) (getD claim i 0)) a i l))
 
     node-opened : (D : ℕ) → 2 ^ D ≡ d → q % 2 ≡ 1 → Triple d (challenge E k 0) (challenge E k 1) (challenge E k 2) → (claim : List ℕ) → nodeHolds S rounds k claim ≡ true
         → ((j : ℕ) → j < 3 → Opened h (child k j) (suc t) (claimTo S rounds E k j) (foldKey S t (challenge E k j) key)) → Opened (suc h) k t claim key
@@ -135,7 +138,8 @@ module _ (S : Settings) (p : 0 < S .degree) (pq : 0 < S .modulus) (rounds E : Li
         node-opened h k t l key D power odd (triples k (depth-branching S t h k l at)) claim (f .0)
         (λ j lj. tree-opened h (child k j) (suc t) (claimTo S rounds E k j) (foldKey S t (challenge E k j) key) m (child-depth t k j lj at) (f .1 j lj))
 
-    root-opened : (C key : List ℕ) → treeAccepted S rounds E finals L 0 0 C key ≡ true → rd (times (pos (4 ^ L)) (residue C)) ≡ rd (inner d (2 ^ L) (signedAt d (rootVector S E finals)) (residueAt d key))
+    root-opened : (C key : List ℕ) → treeAccepted S rounds E finals L 0 0 C key ≡ true
+        → rd (times (pos (4 ^ L)) (residue C)) ≡ rd (inner d (2 ^ L) (signedAt d (rootVector S E finals)) (residueAt d key))
     unfolding rootVector
     root-opened C key a =
         read-times K d p (pos (4 ^ L)) (residue C)

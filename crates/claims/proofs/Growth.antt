@@ -49,7 +49,8 @@ module _ (S : Settings) where
       factor = omega (arith, square d)
 
   pub heightBound-le : 0 < d → (h : ℕ) → h ≤ L → heightBound h ≤ growth S
-  heightBound-le p h l = subst (λ n. heightBound h ≤ n) heightBound-root (unfold heightBound in Nat.mul-le-mul-right (size S * B) (Nat.pow-le-pow-right (Nat.mul-pos (Nat.mul-pos p p) (omega arith)) l))
+  heightBound-le p h l =
+      subst (λ n. heightBound h ≤ n) heightBound-root (unfold heightBound in Nat.mul-le-mul-right (size S * B) (Nat.pow-le-pow-right (Nat.mul-pos (Nat.mul-pos p p) (omega arith)) l))
 
   heightBound-pos : 0 < d → 0 < B → (h : ℕ) → 0 < heightBound h
   unfolding heightBound size
@@ -88,9 +89,11 @@ module _ (d : ℕ) (p : 0 < d) (n a b c M : ℕ) (m₁ m₂ m₃ v₁ v₂ v₃ 
   joined-bounded : (i : ℕ) → i < n + n → Bounded d (3 * (d * d * 2 * M)) (signedAt d (joined d n a b c m₁ m₂ m₃ v₁ v₂ v₃) i)
   joined-bounded = halves (λ i. Bounded d (3 * (d * d * 2 * M)) (signedAt d (joined d n a b c m₁ m₂ m₃ v₁ v₂ v₃) i)) n
       (λ i l k lk. subst (λ z. natAbs z ≤ 3 * (d * d * 2 * M)) (sym (joined-low d n a b c m₁ m₂ m₃ v₁ v₂ v₃ i k l lk))
-      (three-bounded d _ (share d m₁ v₁ i) (share d m₂ v₂ i) (share d m₃ v₃ i) (share-bounded d p M m₁ v₁ i w₁ (b₁ i l)) (share-bounded d p M m₂ v₂ i w₂ (b₂ i l)) (share-bounded d p M m₃ v₃ i w₃ (b₃ i l)) k lk))
+      (three-bounded d _ (share d m₁ v₁ i) (share d m₂ v₂ i) (share d m₃ v₃ i)
+      (share-bounded d p M m₁ v₁ i w₁ (b₁ i l)) (share-bounded d p M m₂ v₂ i w₂ (b₂ i l)) (share-bounded d p M m₃ v₃ i w₃ (b₃ i l)) k lk))
       (λ i l k lk. subst (λ z. natAbs z ≤ 3 * (d * d * 2 * M)) (sym (joined-high d n a b c m₁ m₂ m₃ v₁ v₂ v₃ i k l lk))
-      (three-bounded d _ (rotate d a (share d m₁ v₁ i)) (rotate d b (share d m₂ v₂ i)) (rotate d c (share d m₃ v₃ i)) (share-turned d p M m₁ v₁ i w₁ (b₁ i l) a) (share-turned d p M m₂ v₂ i w₂ (b₂ i l) b) (share-turned d p M m₃ v₃ i w₃ (b₃ i l) c) k lk))
+      (three-bounded d _ (rotate d a (share d m₁ v₁ i)) (rotate d b (share d m₂ v₂ i)) (rotate d c (share d m₃ v₃ i))
+      (share-turned d p M m₁ v₁ i w₁ (b₁ i l) a) (share-turned d p M m₂ v₂ i w₂ (b₂ i l) b) (share-turned d p M m₃ v₃ i w₃ (b₃ i l) c) k lk))
 
 -- ---- the vectors of a tree whose leaves are within n·B
 
@@ -152,4 +155,6 @@ module _ (S : Settings) (p : 0 < S .degree) (E : List ℕ) (finals : List ℤ) (
 
     pub node-three : (n₁ n₂ n₃ : ℕ) → n₁ ≤ d → n₂ ≤ d → n₃ ≤ d → natAbs (r₁ n₁ +ℤ r₂ n₂ +ℤ r₃ n₃) ≤ growth S
     node-three n₁ n₂ n₃ l₁ l₂ l₃ =
-        Nat.le-trans (three-add _ (r₁ n₁) (r₂ n₂) (r₃ n₃) (node-running 0 (omega arith) (c 0) (c 1) (c 2) n₁ l₁) (node-running 1 (omega arith) (c 1) (c 0) (c 2) n₂ l₂) (node-running 2 (omega arith) (c 2) (c 0) (c 1) n₃ l₃)) (share-room S p h (omega arith))
+        Nat.le-trans (three-add _ (r₁ n₁) (r₂ n₂) (r₃ n₃)
+        (node-running 0 (omega arith) (c 0) (c 1) (c 2) n₁ l₁) (node-running 1 (omega arith) (c 1) (c 0) (c 2) n₂ l₂)
+        (node-running 2 (omega arith) (c 2) (c 0) (c 1) n₃ l₃)) (share-room S p h (omega arith))

@@ -43,7 +43,8 @@ module _ {S : Settings} {G : List ℕ} {M : List ℤ} {E : List ℕ} (ok : Given
   unfolding openingRefusal residues exponents exponent sized
   opening-granted =
       zero-first _ _ (valid-settings S (ok .settings))
-      (zero-first _ _ (zero-unless 7 _ (and-intro (and-intro (and-intro (below-sized q (cells S) G (ok .key)) (within-sized B (cells S) M (ok .message))) (below-sized (2 * d) L E (ok .challenges))) (eq-eqb _ _ rounds-long)))
+      (zero-first _ _ (zero-unless 7 _
+      (and-intro (and-intro (and-intro (below-sized q (cells S) G (ok .key)) (within-sized B (cells S) M (ok .message))) (below-sized (2 * d) L E (ok .challenges))) (eq-eqb _ _ rounds-long)))
       (zero-first _ _ (zero-unless 8 _ (below-tested q (cells S) G (ok .key)))
       (zero-first _ _ (zero-unless 9 _ (within-tested B (cells S) M (ok .message)))
       (zero-first _ _ (zero-unless 10 _ (below-tested (2 * d) L E (ok .challenges))) first-nothing))))

@@ -60,7 +60,8 @@ running-whole d a b k = refl
 module _ (d : ℕ) (p : 0 < d) where
   pub running-bounded : (B W : ℕ) (a b : Element) → weight d a ≤ W → Bounded d B b → (k n : ℕ) → k < d → n ≤ d → natAbs (running d a b k n) ≤ W * B
   unfolding running
-  running-bounded B W a b w h k n lk ln = Nat.le-trans (products-bounded n B a (λ i. rotate d i b k) (λ i l. rotate-bounded d p B i b h k lk)) (Nat.mul-le-mul-right B (Nat.le-trans (weight-le n d a ln) w))
+  running-bounded B W a b w h k n lk ln =
+      Nat.le-trans (products-bounded n B a (λ i. rotate d i b k) (λ i l. rotate-bounded d p B i b h k lk)) (Nat.mul-le-mul-right B (Nat.le-trans (weight-le n d a ln) w))
 
   pub product-bounded : (B W : ℕ) (a b : Element) → weight d a ≤ W → Bounded d B b → Bounded d (W * B) (product d a b)
   product-bounded B W a b w h k l = subst (λ z. natAbs z ≤ W * B) (running-whole d a b k) (running-bounded B W a b w h k d l (Nat.le-refl d))

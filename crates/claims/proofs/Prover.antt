@@ -14,7 +14,8 @@ use Rattle.protocol.specs.Basic.{first, unless, granted}
 use Rattle.protocol.specs.Element.{padded, paddedSigned}
 use Rattle.protocol.specs.Settings.{settingsRefusal, cells, sized, residues, exponent}
 use Rattle.protocol.specs.Opening.{commitment, left, messageAfter, keyAfter, finalElement}
-use Rattle.protocol.specs.Calls.{commitRefusal, commitAnswer, leftSmall, movingSmall, roundRefusal, polynomial, roundAnswer, foldRefusal, foldKeyExit, foldMessageExit, endingSmall, endRefusal, endAnswer}
+use Rattle.protocol.specs.Calls.{commitRefusal, commitAnswer, leftSmall, movingSmall, roundRefusal, polynomial, roundAnswer, foldRefusal, foldKeyExit, foldMessageExit, endingSmall}
+use Rattle.protocol.specs.Calls.{endRefusal, endAnswer}
 use Rattle.protocol.specs.Inputs.{Below}
 use Rattle.protocol.proofs.Tests.{and-intro, first-nothing, zero-first, zero-unless}
 use Rattle.protocol.proofs.Inputs.{valid-settings, below-tested, below-sized, within-tested}

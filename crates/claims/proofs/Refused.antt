@@ -14,7 +14,8 @@ use Rattle.protocol.specs.Session as Verifier
 use Rattle.protocol.specs.Session.{refusedMove}
 use Rattle.protocol.specs.Calls as Calls
 use Rattle.protocol.specs.Text as Text
-use Rattle.protocol.specs.Demand3.{Held, State, KeyTable, MessageTable, Record, Call, Step, lentKey, lentMessage, handed, tables, refusal, backKey, backMessage, backRecord, after, step, Gap, none, refused, Run, stop, go}
+use Rattle.protocol.specs.Demand3.{Held, State, KeyTable, MessageTable, Record, Call, Step, lentKey, lentMessage, handed, tables, refusal, backKey, backMessage, backRecord, after}
+use Rattle.protocol.specs.Demand3.{step, Gap, none, refused, Run, stop, go}
 use Rattle.protocol.proofs.Tests.{granted-refused}
 
 -- ---- what comes back as it was lent, to what is as it was
@@ -51,7 +52,8 @@ choose-number false x y ex ey = ey
 -- ---- every call
 
 pub refused-keeps : (c : Call) (h : Held) → refusal h c ≢ 0 → after c h ≡ h
-unfolding after refusal Calls.foldKeyExit Calls.foldMessageExit Calls.openingAnswer Calls.openingKeyExit Calls.openingMessageExit Calls.openingRoundsExit Verifier.move Verifier.close Text.readAnswer Text.loaded Text.readExit tables
+unfolding after refusal Calls.foldKeyExit Calls.foldMessageExit Calls.openingAnswer Calls.openingKeyExit Calls.openingMessageExit Calls.openingRoundsExit Verifier.move Verifier.close
+    Text.readAnswer Text.loaded Text.readExit tables
 refused-keeps (Call.commit S k m) h r = refl
 refused-keeps (Call.round S t k m) h r = refl
 refused-keeps (Call.fold S t e k m) h r = back-key k (granted-refused _ _ _ r) (back-message m (granted-refused _ _ _ r) refl)

@@ -110,7 +110,8 @@ module _ {S : Settings} {G : List ℕ} {M : List ℤ} {E : List ℕ} (ok : Given
   unfolding moveRefusal sessionAfter part polynomial tabulate
   move-granted t l =
       zero-first _ _ (valid-settings S (ok .settings))
-      (zero-first _ _ (zero-unless 8 _ (and-intro (and-intro (and-intro (padded-tested S _ (claim-given t)) (padded-tested S _ (c-given t 0))) (padded-tested S _ (c-given t 1))) (padded-tested S _ (c-given t 2))))
+      (zero-first _ _ (zero-unless 8 _
+      (and-intro (and-intro (and-intro (padded-tested S _ (claim-given t)) (padded-tested S _ (c-given t 0))) (padded-tested S _ (c-given t 1))) (padded-tested S _ (c-given t 2))))
       (zero-first _ _ (zero-unless 10 _ (and-intro (stored-tested t (omega arith)) (challenge-tested ok t l)))
       (zero-first _ _ (zero-unless 11 _ (and-intro (lt-ltb _ _ l) refl)) first-nothing)))
 

@@ -96,6 +96,9 @@ module _ (K : CommRing) (d : ℕ) (p : 0 < d) where
     pub balanced : Balanced (negacyclic K d p) (weight a b c) (weight b a c) (weight c a b) (x^ a) (x^ b) (x^ c)
     balanced = record {
       sum-four = (λ i. weight-is a b c i ⊕ weight-is b a c i ⊕ weight-is c a b i) ∙ M.mu-sum (negacyclic K d p) cancelX (x^ a) (x^ b) (x^ c) _ _ _ _ _ _ e-ab e-ac e-ba e-bc e-ca e-cb;
-      lin-zero = (λ i. weight-is a b c i ⊗ x^ a ⊕ weight-is b a c i ⊗ x^ b ⊕ weight-is c a b i ⊗ x^ c) ∙ M.mu-lin (negacyclic K d p) cancelX (x^ a) (x^ b) (x^ c) _ _ _ _ _ _ e-ab e-ac e-ba e-bc e-ca e-cb;
-      quad-four = (λ i. weight-is a b c i ⊗ (x^ a ⊗ x^ a) ⊕ weight-is b a c i ⊗ (x^ b ⊗ x^ b) ⊕ weight-is c a b i ⊗ (x^ c ⊗ x^ c)) ∙ M.mu-quad (negacyclic K d p) cancelX (x^ a) (x^ b) (x^ c) _ _ _ _ _ _ e-ab e-ac e-ba e-bc e-ca e-cb;
+      lin-zero =
+          (λ i. weight-is a b c i ⊗ x^ a ⊕ weight-is b a c i ⊗ x^ b ⊕ weight-is c a b i ⊗ x^ c) ∙ M.mu-lin (negacyclic K d p) cancelX (x^ a) (x^ b) (x^ c) _ _ _ _ _ _ e-ab e-ac e-ba e-bc e-ca e-cb;
+      quad-four =
+          (λ i. weight-is a b c i ⊗ (x^ a ⊗ x^ a) ⊕ weight-is b a c i ⊗ (x^ b ⊗ x^ b) ⊕ weight-is c a b i ⊗ (x^ c ⊗ x^ c))
+          ∙ M.mu-quad (negacyclic K d p) cancelX (x^ a) (x^ b) (x^ c) _ _ _ _ _ _ e-ab e-ac e-ba e-bc e-ca e-cb;
     }

@@ -10,7 +10,8 @@ use Rattle.protocol.specs.declared.Parts.{Parts}
 use Rattle.protocol.specs.declared.Verdict.{Verdict}
 use Rattle.protocol.specs.Transcript.{Transcript, Cause, cause}
 use Rattle.protocol.specs.Session.{start, move, close}
-use Rattle.protocol.specs.Calls.{commitAnswer, roundAnswer, foldRefusal, foldKeyExit, foldMessageExit, endAnswer, openingAnswer, openingKeyExit, openingMessageExit, openingRoundsExit, checkAnswer, judgeAnswer, extractRefusal, extractExit}
+use Rattle.protocol.specs.Calls.{commitAnswer, roundAnswer, foldRefusal, foldKeyExit, foldMessageExit, endAnswer, openingAnswer, openingKeyExit, openingMessageExit}
+use Rattle.protocol.specs.Calls.{openingRoundsExit, checkAnswer, judgeAnswer, extractRefusal, extractExit}
 use Rattle.protocol.specs.Text.{Tables, readAnswer, readExit, writeAnswer, writeExit}
 use Rattle.protocol.specs.Programs.{proveAnswer, proveExit, verifyAnswer, checked}
 use Rattle.protocol.proofs.Examples.{Example, asNumber, causeNumber, verdictAsNumber, recordNumbers, moveNumbers}

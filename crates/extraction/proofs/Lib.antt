@@ -4,9 +4,11 @@ pub mod Sums
 pub mod Quotients
 pub mod Mu
 pub mod Weighing
+pub mod Halves
 pub mod Shares
 pub mod ThreeShares
 pub mod Nodes
+pub mod Branches
 pub mod Workspace
 pub mod Answers
 pub mod Opening

@@ -40,7 +40,8 @@ module _ (d : ℕ) (p : 0 < d) where
   unfolding summed
   summed-read k zero a = ap (λ n. (1# ⊕ ⊖ x^ n) ⊗ r a) (sym (ap (λ n. k * n) (Nat.pow-zero 2) ∙ Nat.mul-one k))
   summed-read k (suc j) a =
-      ap (λ t. (1# ⊕ ⊖ x^ k) ⊗ t) (read-plus ℤ-ring d p (summed d k j a) (rotate d (k * 2 ^ j) (summed d k j a)) ∙ ap (λ t. r (summed d k j a) ⊕ t) (read-rotate ℤ-ring d p (k * 2 ^ j) (summed d k j a)))
+      ap (λ t. (1# ⊕ ⊖ x^ k) ⊗ t)
+      (read-plus ℤ-ring d p (summed d k j a) (rotate d (k * 2 ^ j) (summed d k j a)) ∙ ap (λ t. r (summed d k j a) ⊕ t) (read-rotate ℤ-ring d p (k * 2 ^ j) (summed d k j a)))
       ∙ combine RZ (ints RZ) 5 (λ x K S a Z. (con (pos 1) :+ neg x) :* (S :+ K :* S) ≐ (con (pos 1) :+ neg Z) :* a
       ⇐ (con (pos 1) :+ K) ·⟨ (con (pos 1) :+ neg x) :* S ≐ (con (pos 1) :+ neg K) :* a ⟩ neg a ·⟨ K :* K ≐ Z ⟩ done) tt
       (x^ k) (x^ (k * 2 ^ j)) (r (summed d k j a)) (r a) (x^ (k * 2 ^ suc j)) (summed-read k j a) (X^-add ℤ-ring d p (k * 2 ^ j) (k * 2 ^ j) ∙ ap x^ twice)
@@ -67,7 +68,11 @@ module _ (d : ℕ) (p : 0 < d) where
 
       ahead : x^ a ⊗ x^ (gap d a b) ≡ x^ b
       unfolding gap
-      ahead = ap (λ t. x^ a ⊗ t) (X^-mod ℤ-ring d p (b + (2 * d - a))) ∙ X^-add ℤ-ring d p a (b + (2 * d - a)) ∙ ap x^ (let whole : a + (b + (2 * d - a)) ≡ b + 1 * (2 * d) = omega arith in whole) ∙ X^-whole ℤ-ring d p b 1
+      ahead =
+          ap (λ t. x^ a ⊗ t) (X^-mod ℤ-ring d p (b + (2 * d - a)))
+          ∙ X^-add ℤ-ring d p a (b + (2 * d - a))
+          ∙ ap x^ (let whole : a + (b + (2 * d - a)) ≡ b + 1 * (2 * d) = omega arith in whole)
+          ∙ X^-whole ℤ-ring d p b 1
 
       divided-s : (v : Element) → r (divided d (gap d a b) v) ≡ x^ a ⊗ (r (s d a b) ⊗ r v)
       unfolding two
@@ -86,7 +91,8 @@ module _ (d : ℕ) (p : 0 < d) where
 
       weighted-read : (v : Element) → r (weighted d (gap d a b) (gap d a c) ((b + c) % (2 * d)) v) ≡ r (u v) ⊕ x^ (b + c) ⊗ r (u v)
       unfolding weighted
-      weighted-read v = read-plus ℤ-ring d p (u v) (rotate d ((b + c) % (2 * d)) (u v)) ∙ ap (λ t. r (u v) ⊕ t) (read-rotate ℤ-ring d p ((b + c) % (2 * d)) (u v) ∙ ap (λ t. t ⊗ r (u v)) (X^-mod ℤ-ring d p (b + c)))
+      weighted-read v =
+          read-plus ℤ-ring d p (u v) (rotate d ((b + c) % (2 * d)) (u v)) ∙ ap (λ t. r (u v) ⊕ t) (read-rotate ℤ-ring d p ((b + c) % (2 * d)) (u v) ∙ ap (λ t. t ⊗ r (u v)) (X^-mod ℤ-ring d p (b + c)))
 
       mu-read : r (signed (mu d a b c)) ≡ r (s d a b) ⊗ r (s d a c) ⊗ (1# ⊕ x^ (b + c))
       unfolding mu
@@ -105,6 +111,7 @@ module _ (d : ℕ) (p : 0 < d) where
       weighted-mu v = readℤ-inj d p _ _ (
           weighted-read v
           ∙ (λ i. u-read v i ⊕ x^ (b + c) ⊗ u-read v i)
-          ∙ ring RZ (ints RZ) 5 (λ A S T v E. A :* (T :* (A :* (S :* v))) :+ E :* (A :* (T :* (A :* (S :* v)))) ≐ A :* A :* (S :* T :* (con (pos 1) :+ E) :* v)) tt (x^ a) (r (s d a b)) (r (s d a c)) (r v) (x^ (b + c))
+          ∙ ring RZ (ints RZ) 5
+          (λ A S T v E. A :* (T :* (A :* (S :* v))) :+ E :* (A :* (T :* (A :* (S :* v)))) ≐ A :* A :* (S :* T :* (con (pos 1) :+ E) :* v)) tt (x^ a) (r (s d a b)) (r (s d a c)) (r v) (x^ (b + c))
           ∙ sym (turned-read v)
           )

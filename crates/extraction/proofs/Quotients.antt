@@ -18,7 +18,7 @@ use Rattle.protocol.specs.Element.{Element, around, rotate, plus, signed}
 use Rattle.protocol.proofs.Tests.{least-first, least-is}
 use Rattle.claims.proofs.Bounds.{Bounded, rotate-bounded, plus-bounded}
 use Rattle.residues.proofs.Fill.{filled, filled-at, filled-behind, filled-length, filled-ext, filled-again}
-use Rattle.relaxed.proofs.Products.{rotate-ext}
+use Rattle.protocol.proofs.Agreement.{rotate-same}
 use Rattle.protocol.proofs.Rotation.{rotate-mod}
 use Rattle.extraction.specs.Bounds.{Summable, Doubling}
 use Rattle.extraction.specs.Steps.{rotatedAdded, summed, doublings, divided}
@@ -54,7 +54,12 @@ met-even : (D k : ℕ) → k % 2 ≡ 0 → Met D (k / 2) → Met (suc D) k
 met-even D k e m = record {
   after = m .after;
   at-most = omega (arith, m .at-most);
-  is = ap (λ n. k * 2 ^ m .after % (2 * n)) twice ∙ ap (λ n. n % (2 * (2 * 2 ^ D))) even ∙ mod-double (k / 2 * 2 ^ m .after) (2 * 2 ^ D) (omega (arith, Pow.pow-pos D)) ∙ ap (λ n. 2 * n) (m .is) ∙ sym twice;
+  is =
+      ap (λ n. k * 2 ^ m .after % (2 * n)) twice
+      ∙ ap (λ n. n % (2 * (2 * 2 ^ D))) even
+      ∙ mod-double (k / 2 * 2 ^ m .after) (2 * 2 ^ D) (omega (arith, Pow.pow-pos D))
+      ∙ ap (λ n. 2 * n) (m .is)
+      ∙ sym twice;
 }
   where
     twice : 2 ^ suc D ≡ 2 * 2 ^ D
@@ -124,7 +129,10 @@ pub summed-bounded : (d k : ℕ) → 0 < d → (B : ℕ) (a : Element) → Bound
 unfolding summed
 summed-bounded d k p B a w zero x l = omega (arith, w x l, ap (λ n. n * B) (Nat.pow-zero 2), Nat.one-mul B)
 summed-bounded d k p B a w (suc j) x l =
-    omega (arith, plus-bounded d p (2 ^ j * B) (2 ^ j * B) (summed d k j a) (rotate d (k * 2 ^ j) (summed d k j a)) (summed-bounded d k p B a w j) (rotate-bounded d p (2 ^ j * B) (k * 2 ^ j) (summed d k j a) (summed-bounded d k p B a w j)) x l, ap (λ n. n * B) (Nat.two-pow-succ j), Nat.add-mul (2 ^ j) (2 ^ j) B)
+    let so-far = summed-bounded d k p B a w j in
+    let turned = rotate-bounded d p (2 ^ j * B) (k * 2 ^ j) (summed d k j a) so-far in
+    let both = plus-bounded d p (2 ^ j * B) (2 ^ j * B) (summed d k j a) (rotate d (k * 2 ^ j) (summed d k j a)) so-far turned x l in
+    omega (arith, both, ap (λ n. n * B) (Nat.two-pow-succ j), Nat.add-mul (2 ^ j) (2 ^ j) B)
 
 pub divided-bounded : (d k D : ℕ) → d ≡ 2 ^ D → 0 < k → k < 2 * d → (B : ℕ) (a : Element) → Bounded d B a → Bounded d (d * B) (divided d k a)
 unfolding divided
@@ -155,14 +163,17 @@ module _ (d k : ℕ) (p : 0 < d) (l w : List ℤ) (j : ℕ) (is : w ≡ filled (
       ∙ ap (λ n. filled (summed d k n (signed l)) d l) (sym (add-one j))
     where
       turned : (x : ℕ) → rotate d e (signed w) x ≡ rotate d (k * 2 ^ j) (summed d k j (signed l)) x
-      turned x = rotate-ext d e x p w-at ∙ ap (λ n. rotate d n (summed d k j (signed l)) x) is-e ∙ rotate-mod d (k * 2 ^ j) (summed d k j (signed l)) x
+      turned x = rotate-same p e w-at x ∙ ap (λ n. rotate d n (summed d k j (signed l)) x) is-e ∙ rotate-mod d (k * 2 ^ j) (summed d k j (signed l)) x
 
   pub sum-summable : Doubling d k l → length w ≡ length l → ((i : ℕ) → i ≤ j → meets d k i ≡ false) → Summable d w w
   unfolding signed
-  sum-summable T same none = record { long = omega (arith, T .long); long-to = omega (arith, T .long); bound = 2 ^ j * T .bound; bound-to = 2 ^ j * T .bound; within = small; within-to = small; room = room }
+  sum-summable T same none =
+      record { long = omega (arith, T .long); long-to = omega (arith, T .long); bound = 2 ^ j * T .bound; bound-to = 2 ^ j * T .bound; within = small; within-to = small; room = room }
     where
       small : (x : ℕ) → x < d → natAbs (getD w x (pos 0)) ≤ 2 ^ j * T .bound
       small x h = subst (λ z. natAbs z ≤ 2 ^ j * T .bound) (sym (w-at x h)) (summed-bounded d k p (T .bound) (signed l) (T .within) j x h)
 
       room : 2 ^ j * T .bound + 2 ^ j * T .bound ≤ 2 ^ 62
-      room = omega (arith, T .room, Nat.mul-le-mul-right (T .bound) (not-met d k (T .log) (T .degree-is) (T .some) (T .exponent) j none), ap (λ n. n * T .bound) (ap (λ n. 2 ^ n) (add-one j) ∙ Nat.two-pow-succ j), Nat.add-mul (2 ^ j) (2 ^ j) (T .bound))
+      room =
+          let within-d = Nat.mul-le-mul-right (T .bound) (not-met d k (T .log) (T .degree-is) (T .some) (T .exponent) j none) in
+          omega (arith, T .room, within-d, ap (λ n. n * T .bound) (ap (λ n. 2 ^ n) (add-one j) ∙ Nat.two-pow-succ j), Nat.add-mul (2 ^ j) (2 ^ j) (T .bound))

@@ -1,5 +1,6 @@
 -- One child's share: what it adds to a node's vector, and how large the numbers are meanwhile.
 use mathlib.Core.Path.{_≡_, sym, ap, _∙_, subst}
+use mathlib.Core.Logic.{_≢_}
 use mathlib.Core.List.{List, _++_}
 use Prim.Native.Nat.{ℕ, _+_, _*_, _-_, _/_, _%_, _<_, _≤_}
 use native.Mathlib.Nat as Nat
@@ -17,55 +18,11 @@ use Rattle.claims.proofs.Bounds.{Bounded, rotate-bounded}
 use Rattle.claims.proofs.Norms.{product-bounded, weight-mu}
 use Rattle.extraction.specs.Steps.{weighted}
 use Rattle.extraction.specs.Vectors.{scaled, Scalable, turnedRow, turned, Turnable, withShare, Sharing}
-use Rattle.relaxed.proofs.Products.{rotate-ext}
+use Rattle.protocol.proofs.Agreement.{rotate-same}
 use Rattle.extraction.proofs.Mu.{gap-some, gap-below, weighted-mu}
 use Rattle.residues.proofs.Splice.{spliced-length, entry-before, entry-behind}
 use Rattle.extraction.proofs.Splicing.{rows-at}
-
--- ---- lists of 2n elements
-
-module _ (d n : ℕ) (F G : ℕ → ℕ → ℤ) where
-  pub two-length : length (flat d n F ++ flat d n G) ≡ 2 * (n * d)
-  two-length = length-append (flat d n F) (flat d n G) ∙ omega (arith, flat-length d n F, flat-length d n G)
-
-  pub two-first : (i k : ℕ) → i < n → k < d → getD (flat d n F ++ flat d n G) (i * d + k) (pos 0) ≡ F i k
-  two-first i k li lk = flat-front d n F (flat d n G) (pos 0) i k li lk
-
-  pub two-second : (i k : ℕ) → i < n → k < d → getD (flat d n F ++ flat d n G) (n * d + (i * d + k)) (pos 0) ≡ G i k
-  two-second i k li lk =
-      ap (λ x. getD (flat d n F ++ flat d n G) (x + (i * d + k)) (pos 0)) (sym (flat-length d n F))
-      ∙ getD-append-add (flat d n F) (flat d n G) (i * d + k) (pos 0)
-      ∙ flat-at d n G (pos 0) i k li lk
-
-  -- they are known by their places
-  pub two-ext : 0 < d → (x : List ℤ) → length x ≡ 2 * (n * d) → ((i k : ℕ) → i < n → k < d → getD x (i * d + k) (pos 0) ≡ F i k)
-      → ((i k : ℕ) → i < n → k < d → getD x (n * d + (i * d + k)) (pos 0) ≡ G i k) → x ≡ flat d n F ++ flat d n G
-  two-ext p x long f g = ext-getD (pos 0) x _ (long ∙ sym two-length) (λ j l. same j (omega (arith, long)))
-    where
-      Same : ℕ → Type 0
-      Same j = getD x j (pos 0) ≡ getD (flat d n F ++ flat d n G) j (pos 0)
-
-      same : (j : ℕ) → j < 2 * (n * d) → getD x j (pos 0) ≡ getD (flat d n F ++ flat d n G) j (pos 0)
-      same j l = elim (decLt j (n * d)) [
-        | yes h ↦ by-cells d n p Same (λ i k li lk. f i k li lk ∙ sym (two-first i k li lk)) j h
-        | no h ↦ subst Same (omega arith) (by-cells d n p (λ y. Same (n * d + y)) (λ i k li lk. g i k li lk ∙ sym (two-second i k li lk)) (j - n * d) (omega arith))
-      ]
-
--- ---- what a share adds
-
--- a node's vector, at its places
-module _ (d n e : ℕ) (m v R : List ℤ) where
-  pub withShare-length : length (withShare d n e m v R) ≡ 2 * (n * d)
-  unfolding withShare
-  withShare-length = two-length d n _ _
-
-  pub withShare-first : (i k : ℕ) → i < n → k < d → getD (withShare d n e m v R) (i * d + k) (pos 0) ≡ signedAt d R i k +ℤ share d m v i k
-  unfolding withShare
-  withShare-first = two-first d n _ _
-
-  pub withShare-second : (i k : ℕ) → i < n → k < d → getD (withShare d n e m v R) (n * d + (i * d + k)) (pos 0) ≡ signedAt d R (n + i) k +ℤ rotate d e (share d m v i) k
-  unfolding withShare
-  withShare-second = two-second d n _ _
+use Rattle.extraction.proofs.Halves.{two-ext}
 
 rotate-none : (d : ℕ) (a : Element) (k : ℕ) → k < d → rotate d 0 a k ≡ a k
 rotate-none d a k l = rotate-plus d 0 a k (omega arith) l (omega arith) ∙ ap a (Nat.sub-zero k)
@@ -157,6 +114,10 @@ module _ (d n a b c : ℕ) (l : List ℤ) (T : Sharing d n a b c l) where
   unfolding share
   products-are i k lk = weighted-mu d (T .some) (T .log) (T .degree-is) (T .log-most) a b c (T .exponent) (T .others .0) (T .others .1) (T .different .0) (T .different .1) (signedAt d v i) k lk
 
+  gap-inside : (x : ℕ) → x < 2 * d → (a ≢ x) → (0 < gap d a x) × (gap d a x < 2 * d)
+  gap-inside x l ne =
+      (gap-some d (T .some) (T .log) (T .degree-is) (T .log-most) a x (T .exponent) l ne, gap-below d (T .some) (T .log) (T .degree-is) (T .log-most) a x (T .exponent) l ne)
+
   pub share-scalable : Scalable d n k₁ k₂ e v
   share-scalable = record {
     long = Nat.le-of-eq (sym (length-take-le (n * d) l (omega (arith, T .long))));
@@ -165,8 +126,8 @@ module _ (d n a b c : ℕ) (l : List ℤ) (T : Sharing d n a b c l) where
       log = T .log;
       log-most = T .log-most;
       degree-is = T .degree-is;
-      first = (gap-some d (T .some) (T .log) (T .degree-is) (T .log-most) a b (T .exponent) (T .others .0) (T .different .0), gap-below d (T .some) (T .log) (T .degree-is) (T .log-most) a b (T .exponent) (T .others .0) (T .different .0));
-      second = (gap-some d (T .some) (T .log) (T .degree-is) (T .log-most) a c (T .exponent) (T .others .1) (T .different .1), gap-below d (T .some) (T .log) (T .degree-is) (T .log-most) a c (T .exponent) (T .others .1) (T .different .1));
+      first = gap-inside b (T .others .0) (T .different .0);
+      second = gap-inside c (T .others .1) (T .different .1);
       exponent = Nat.mod-lt (b + c) (omega (arith, T .some));
       room = omega (arith, T .room, Nat.mul-assoc d d (T .bound), Nat.mul-assoc (d * d) 2 (T .bound), Nat.mul-assoc d d (2 * T .bound));
     };
@@ -201,7 +162,9 @@ module _ (d n a b c : ℕ) (l : List ℤ) (T : Sharing d n a b c l) where
         ∙ ap (λ x. getD l x (pos 0)) (omega arith)
 
     first-within : (j : ℕ) → j < n * d → natAbs (getD (s ++ R) j (pos 0)) ≤ d * d * 2 * T .bound
-    first-within = by-cells d n (T .some) (λ j. natAbs (getD (s ++ R) j (pos 0)) ≤ d * d * 2 * T .bound) (λ i k li lk. subst (λ z. natAbs z ≤ d * d * 2 * T .bound) (sym (first-low i k li lk)) (ahead-bounded i li k lk))
+    first-within =
+        by-cells d n (T .some) (λ j. natAbs (getD (s ++ R) j (pos 0)) ≤ d * d * 2 * T .bound)
+        (λ i k li lk. subst (λ z. natAbs z ≤ d * d * 2 * T .bound) (sym (first-low i k li lk)) (ahead-bounded i li k lk))
 
     pub first-turnable : Turnable d n twice (n * d) (s ++ R)
     unfolding backTwice
@@ -236,7 +199,7 @@ module _ (d n a b c : ℕ) (l : List ℤ) (T : Sharing d n a b c l) where
       t-mid i k li lk =
           ap (λ x. getD x (n * d + (i * d + k)) (pos 0)) is-t
           ∙ rows-at (turnedRow d twice (n * d) (s ++ R)) (n * d) d (s ++ R) n room-t (pos 0) i k li lk
-          ∙ λ j. (first-high (n * d + (i * d + k)) (omega arith) ∙ sym (R-at i k)) j +ℤ (rotate-ext d twice k (T .some) (λ y ly. first-low i y li ly) ∙ turned-twice i k lk) j
+          ∙ λ j. (first-high (n * d + (i * d + k)) (omega arith) ∙ sym (R-at i k)) j +ℤ (rotate-same (T .some) twice {b = ahead i} (λ y ly. first-low i y li ly) k ∙ turned-twice i k lk) j
 
       t-high : (j : ℕ) → 2 * (n * d) ≤ j → getD t j (pos 0) ≡ getD l j (pos 0)
       unfolding turned
@@ -286,7 +249,7 @@ module _ (d n a b c : ℕ) (l : List ℤ) (T : Sharing d n a b c l) where
                 )
               where
                 alike : rotate d once (signedAt d t i) k ≡ rotate d a (share d M v i) k
-                alike = rotate-ext d once {b = ahead i} k (T .some) (λ y ly. unfold signedAt in (t-low (i * d + y) (cell-inside d n i y li ly) ∙ first-low i y li ly)) ∙ turned-once i k lk
+                alike = rotate-same (T .some) once {b = ahead i} (λ y ly. unfold signedAt in (t-low (i * d + y) (cell-inside d n i y li ly) ∙ first-low i y li ly)) k ∙ turned-once i k lk
 
                 same : n * d + (n * d + (i * d + k)) ≡ 2 * (n * d) + (i * d + k)
                 same = omega arith

@@ -25,7 +25,10 @@ module _ (d : ℕ) (a l : List ℤ) (S : Summable d a l) (x : List ℤ) (long : 
     addable = record {
       long = omega arith;
       long-to = S .long-to;
-      within = λ k h. omega (arith, natAbs-add (getD l k (pos 0)) (getD x (2 * d - e + k) (pos 0)), S .within-to k h, ap natAbs (turned-at k h), rotate-bounded d p (S .bound) e (signed a) (unfold signed in S .within) k h, S .room);
+      within =
+          λ k h.
+          let turned = rotate-bounded d p (S .bound) e (signed a) (unfold signed in S .within) k h in
+          omega (arith, natAbs-add (getD l k (pos 0)) (getD x (2 * d - e + k) (pos 0)), S .within-to k h, ap natAbs (turned-at k h), turned, S .room);
     }
 
     pub spread-rotated : spreadAdded d (2 * d - e) x l ≡ rotatedAdded d e a l

@@ -16,7 +16,7 @@ use Rattle.claims.proofs.Bounds.{Bounded, rotate-bounded}
 use Rattle.claims.proofs.Norms.{product-bounded, weight-mu}
 use Rattle.extraction.specs.Vectors.{withShare}
 use Rattle.residues.proofs.SignedFill.{signed-zeros-at}
-use Rattle.extraction.proofs.Shares.{withShare-length, withShare-first, withShare-second}
+use Rattle.extraction.proofs.Halves.{withShare-length, withShare-first, withShare-second}
 
 module _ (d n : ℕ) (p : 0 < d) where
   -- the two halves of a node's vector, at their places

@@ -7,10 +7,11 @@ use native.Mathlib.Omega.{arith}
 use lib.ListN.{length, getD}
 use lib.Pow as Pow
 use lib.IntN.{ℤ, pos, natAbs, _+ℤ_}
+use Rattle.protocol.specs.Layout.{width}
 use Rattle.protocol.specs.Element.{Element, rotate, plus, signed}
 use Rattle.claims.proofs.Bounds.{Bounded}
 use Rattle.residues.proofs.Fill.{filled, filled-at, filled-length, filled-ext, filled-again}
-use Rattle.relaxed.proofs.Products.{rotate-ext}
+use Rattle.protocol.proofs.Agreement.{rotate-same}
 use Rattle.extraction.specs.Bounds.{Summable, Doubling, Factors, Weighable}
 use Rattle.extraction.specs.Steps.{rotatedAdded, summed, doublings, divided, weighted}
 use Rattle.extraction.proofs.Quotients.{divided-bounded}
@@ -19,7 +20,7 @@ use Rattle.extraction.proofs.Quotients.{divided-bounded}
 summed-ext : (d k : ℕ) → 0 < d → {a b : Element} → ((x : ℕ) → x < d → a x ≡ b x) → (j x : ℕ) → x < d → summed d k j a x ≡ summed d k j b x
 unfolding summed plus
 summed-ext d k p h zero x l = h x l
-summed-ext d k p h (suc j) x l = λ i. summed-ext d k p h j x l i +ℤ rotate-ext d (k * 2 ^ j) x p (summed-ext d k p h j) i
+summed-ext d k p h (suc j) x l = λ i. summed-ext d k p h j x l i +ℤ rotate-same p (k * 2 ^ j) (summed-ext d k p h j) x i
 
 divided-ext : (d k : ℕ) → 0 < d → {a b : Element} → ((x : ℕ) → x < d → a x ≡ b x) → (x : ℕ) → x < d → divided d k a x ≡ divided d k b x
 unfolding divided
@@ -35,14 +36,25 @@ module _ (d k m e : ℕ) (a : List ℤ) (W : Weighable d k m e a) where
   pub some : 0 < d
   some = omega (arith, F .degree-is, Pow.pow-pos (F .log))
 
-  pub small : d ≤ 64
+  pub small : d ≤ width
   small = omega (arith, F .degree-is, Pow.pow-mono {i = F .log} {j = 6} (F .log-most))
 
   once : d * B ≤ d * (d * B)
   once = omega (arith, Nat.mul-le-mul-right (d * B) some, Nat.one-mul (d * B))
 
   pub first-doubling : Doubling d k a
-  first-doubling = record { log = F .log; log-most = F .log-most; degree-is = F .degree-is; some = F .first .0; exponent = F .first .1; long = W .long; bound = B; within = W .within; room = omega (arith, F .room, once) }
+  first-doubling =
+      record {
+        log = F .log;
+        log-most = F .log-most;
+        degree-is = F .degree-is;
+        some = F .first .0;
+        exponent = F .first .1;
+        long = W .long;
+        bound = B;
+        within = W .within;
+        room = omega (arith, F .room, once);
+      }
 
   module _ (b : List ℤ) (is-b : b ≡ filled (divided d k (signed a)) d a) where
     b-at : (x : ℕ) → x < d → signed b x ≡ divided d k (signed a) x
@@ -57,7 +69,18 @@ module _ (d k m e : ℕ) (a : List ℤ) (W : Weighable d k m e a) where
 
     pub second-doubling : Doubling d m b
     unfolding signed
-    second-doubling = record { log = F .log; log-most = F .log-most; degree-is = F .degree-is; some = F .second .0; exponent = F .second .1; long = b-long; bound = d * B; within = b-within; room = omega (arith, F .room) }
+    second-doubling =
+        record {
+          log = F .log;
+          log-most = F .log-most;
+          degree-is = F .degree-is;
+          some = F .second .0;
+          exponent = F .second .1;
+          long = b-long;
+          bound = d * B;
+          within = b-within;
+          room = omega (arith, F .room);
+        }
 
     module _ (c : List ℤ) (is-c : c ≡ filled (divided d m (signed b)) d b) where
       abbrev both : Element
@@ -69,7 +92,9 @@ module _ (d k m e : ℕ) (a : List ℤ) (W : Weighable d k m e a) where
 
       c-within : (x : ℕ) → x < d → natAbs (getD c x (pos 0)) ≤ d * (d * B)
       unfolding signed
-      c-within x h = subst (λ z. natAbs z ≤ d * (d * B)) (sym (ap (λ t. getD t x (pos 0)) is-c ∙ filled-at _ d b (pos 0) x h)) (divided-bounded d m (F .log) (F .degree-is) (F .second .0) (F .second .1) (d * B) (signed b) b-within x h)
+      c-within x h =
+          subst (λ z. natAbs z ≤ d * (d * B)) (sym (ap (λ t. getD t x (pos 0)) is-c ∙ filled-at _ d b (pos 0) x h))
+          (divided-bounded d m (F .log) (F .degree-is) (F .second .0) (F .second .1) (d * B) (signed b) b-within x h)
 
       c-long : d ≤ length c
       c-long = omega (arith, b-long, ap length is-c, filled-length (divided d m (signed b)) d b b-long)
@@ -83,11 +108,11 @@ module _ (d k m e : ℕ) (a : List ℤ) (W : Weighable d k m e a) where
           is-q
           ∙ ap (λ t. filled now d t) (is-c ∙ ap (λ t. filled (divided d m (signed b)) d t) is-b ∙ filled-again _ _ d a)
           ∙ filled-again _ _ d a
-          ∙ filled-ext now (λ x. both x +ℤ rotate d e both x) d a (λ x h i. c-at x h i +ℤ rotate-ext d e x some c-at i)
+          ∙ filled-ext now (λ x. both x +ℤ rotate d e both x) d a (λ x h i. c-at x h i +ℤ rotate-same some e c-at x i)
         where
           now : ℕ → ℤ
           now x = signed c x +ℤ rotate d e (signed c) x
 
 pub weighted-ext : (d k m e : ℕ) → 0 < d → {a b : Element} → ((x : ℕ) → x < d → a x ≡ b x) → (x : ℕ) → x < d → weighted d k m e a x ≡ weighted d k m e b x
 unfolding weighted plus
-weighted-ext d k m e p h x l = let same = divided-ext d m p (divided-ext d k p h) in λ i. same x l i +ℤ rotate-ext d e x p same i
+weighted-ext d k m e p h x l = let same = divided-ext d m p (divided-ext d k p h) in λ i. same x l i +ℤ rotate-same p e same x i

@@ -1,13 +1,18 @@
 -- Whoever unfolds `computed` unfolds every definition on tables, so that closed examples compute.
 use Rattle.protocol.specs.Basic.{sum, every, least, tabulate, flat, all, among, within, choose, first, unless, granted}
-use Rattle.protocol.specs.Element.{modulo, flips, around, rotate, product, one, power, plus, times, signed, residue, signedAt, residueAt, coefficients, reduced, width, zeros, signedZeros, padded, paddedSigned}
+use Rattle.protocol.specs.Element.{modulo, flips, around, rotate, product, one, power, plus, times, signed, residue, signedAt, residueAt, coefficients, reduced, width, zeros}
+use Rattle.protocol.specs.Element.{signedZeros, padded, paddedSigned}
 use Rattle.protocol.specs.Settings.{degreeAllowed, depthAllowed, modulusAllowed, boundAllowed, settingsRefusal, size, cells, half, sized, residues, residueElement, small, exponent, exponents}
-use Rattle.protocol.specs.Opening.{inner, second, cross, foldSigned, foldResidues, commitment, left, halfLeft, roundElement, foldMessage, foldKey, messageAfter, keyAfter, finalElement, roundTable}
+use Rattle.protocol.specs.Opening.{inner, second, cross, foldSigned, foldResidues, commitment, left, halfLeft, roundElement, foldMessage, foldKey, messageAfter, keyAfter}
+use Rattle.protocol.specs.Opening.{finalElement, roundTable}
 use Rattle.protocol.specs.Transcript.{endCause, doubled, roundHolds, nextClaim, finalBounded, ending, endHolds, element, claimAfter, holdsAt, closes, accepted, held, cause, transcriptOf}
 use Rattle.protocol.specs.Session.{slots, verdict, opened, blank, startRefusal, start, refusedMove, shut, part, moveRefusal, advanced, moveHolds, move, closeRefusal, closeHolds, close}
-use Rattle.protocol.specs.Tree.{child, parent, place, above, challenge, challengeTo, apart, gap, steps, s, difference, mu, share, joined, combined, growthFactor, growthLimit, nodes, leaves, onPath, pathChallenges, pathRounds, leaf, path, foldTo, vector, rootVector, growth, growthAllowed}
+use Rattle.protocol.specs.Tree.{child, parent, place, above, challenge, challengeTo, apart, gap, steps, s, difference, mu, share, joined, combined, growthFactor, growthLimit}
+use Rattle.protocol.specs.Tree.{nodes, leaves, onPath, pathChallenges, pathRounds, leaf, path, foldTo, vector, rootVector, growth, growthAllowed}
 use Rattle.protocol.specs.Judge.{slackAllowed, slack, scaledCommitment, combination, opens, judged}
-use Rattle.protocol.specs.Calls.{commitRefusal, commitAnswer, leftSmall, movingSmall, roundRefusal, polynomial, noPolynomial, roundAnswer, foldRefusal, foldKeyExit, foldMessageExit, endingSmall, endRefusal, endAnswer, openingRefusal, openingAnswer, openingKeyExit, openingMessageExit, openingRoundsExit, checkRefusal, checkAnswer, judgeRefusal, judgeAnswer, everyPath, extractRefusal, extractExit}
+use Rattle.protocol.specs.Calls.{commitRefusal, commitAnswer, leftSmall, movingSmall, roundRefusal, polynomial, noPolynomial, roundAnswer, foldRefusal, foldKeyExit}
+use Rattle.protocol.specs.Calls.{foldMessageExit, endingSmall, endRefusal, endAnswer, openingRefusal, openingAnswer, openingKeyExit, openingMessageExit, openingRoundsExit}
+use Rattle.protocol.specs.Calls.{checkRefusal, checkAnswer, judgeRefusal, judgeAnswer, everyPath, extractRefusal, extractExit}
 use Rattle.protocol.specs.HonestTree.{wayTo, answerAt, honestRounds, honestFinals}
 
 unfoldable pub computed : Unit {0}
@@ -18,8 +23,10 @@ unfolding
     inner second cross foldSigned foldResidues commitment left halfLeft roundElement foldMessage foldKey messageAfter keyAfter finalElement roundTable
     endCause doubled roundHolds nextClaim finalBounded ending endHolds element claimAfter holdsAt closes accepted held cause transcriptOf
     slots verdict opened blank startRefusal start refusedMove shut part moveRefusal advanced moveHolds move closeRefusal closeHolds close
-    child parent place above challenge challengeTo apart gap steps s difference mu share joined combined growthFactor growthLimit nodes leaves onPath pathChallenges pathRounds leaf path foldTo vector rootVector growth growthAllowed
+    child parent place above challenge challengeTo apart gap steps s difference mu share joined combined growthFactor growthLimit nodes leaves onPath pathChallenges pathRounds leaf path foldTo
+    vector rootVector growth growthAllowed
     slackAllowed slack scaledCommitment combination opens judged
-    commitRefusal commitAnswer leftSmall movingSmall roundRefusal polynomial noPolynomial roundAnswer foldRefusal foldKeyExit foldMessageExit endingSmall endRefusal endAnswer openingRefusal openingAnswer openingKeyExit openingMessageExit openingRoundsExit checkRefusal checkAnswer judgeRefusal judgeAnswer everyPath extractRefusal extractExit
+    commitRefusal commitAnswer leftSmall movingSmall roundRefusal polynomial noPolynomial roundAnswer foldRefusal foldKeyExit foldMessageExit endingSmall endRefusal endAnswer openingRefusal
+    openingAnswer openingKeyExit openingMessageExit openingRoundsExit checkRefusal checkAnswer judgeRefusal judgeAnswer everyPath extractRefusal extractExit
     wayTo answerAt honestRounds honestFinals
 computed = tt

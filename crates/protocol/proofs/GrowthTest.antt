@@ -95,7 +95,8 @@ few L D l m h = elim (decLe 3 D) [
 pub growth-cells : (S : Settings) → Valid S → growth S ≤ growthLimit → cells S ≤ 1024
 unfolding growth growthLimit cells size
 growth-cells S v l =
-    Nat.le-trans (Nat.le-of-eq (ap (λ d. 2 ^ S .depth * d) (v .degree-is) ∙ sym (Pow.pow-add 2 (S .depth) (v .log)))) (Pow.pow-mono (few (S .depth) (v .log) (v .depth-most) (v .log-most) (power-cancel _ 62 least)))
+    Nat.le-trans (Nat.le-of-eq (ap (λ d. 2 ^ S .depth * d) (v .degree-is) ∙ sym (Pow.pow-add 2 (S .depth) (v .log))))
+    (Pow.pow-mono (few (S .depth) (v .log) (v .depth-most) (v .log-most) (power-cancel _ 62 least)))
   where
     least : 2 ^ ((3 + (v .log + v .log)) * S .depth) ≤ 2 ^ 62
     least = Nat.le-trans

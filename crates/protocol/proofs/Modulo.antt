@@ -59,7 +59,8 @@ module _ (q : ℕ) (p : 0 < q) where
   lift : (z : ℤ) → Lift z
   unfolding Lifts
   lift (pos n) = record { times = 0; value = n; lifts = ap pos (omega (arith, Nat.zero-mul q)) }
-  lift (negsuc n) = record { times = suc n; value = suc n * q - suc n; lifts = ap (λ b. cond b (negsuc (suc n - suc (suc n * q))) (pos (suc n * q - suc n))) (le-ltb _ _ (Nat.le-mul-of-pos-right (suc n) p)) }
+  lift (negsuc n) =
+      record { times = suc n; value = suc n * q - suc n; lifts = ap (λ b. cond b (negsuc (suc n - suc (suc n * q))) (pos (suc n * q - suc n))) (le-ltb _ _ (Nat.le-mul-of-pos-right (suc n) p)) }
 
   pub modulo-add : (a b : ℤ) → modulo q (a +ℤ b) ≡ (modulo q a + modulo q b) % q
   unfolding Lifts
@@ -78,7 +79,8 @@ module _ (q : ℕ) (p : 0 < q) where
       both =
           ap (λ x. (a +ℤ b) +ℤ pos x) (Nat.add-mul (A .times) (B .times) q)
           ∙ +ℤ-assoc a b (pos (A .times * q) +ℤ pos (B .times * q))
-          ∙ ap (λ x. a +ℤ x) (sym (+ℤ-assoc b (pos (A .times * q)) (pos (B .times * q))) ∙ ap (λ x. x +ℤ pos (B .times * q)) (+ℤ-comm b (pos (A .times * q))) ∙ +ℤ-assoc (pos (A .times * q)) b (pos (B .times * q)))
+          ∙ ap (λ x. a +ℤ x)
+          (sym (+ℤ-assoc b (pos (A .times * q)) (pos (B .times * q))) ∙ ap (λ x. x +ℤ pos (B .times * q)) (+ℤ-comm b (pos (A .times * q))) ∙ +ℤ-assoc (pos (A .times * q)) b (pos (B .times * q)))
           ∙ sym (+ℤ-assoc a (pos (A .times * q)) (b +ℤ pos (B .times * q)))
           ∙ (λ i. A .lifts i +ℤ B .lifts i)
 
@@ -92,7 +94,9 @@ module _ (q : ℕ) (p : 0 < q) where
       opposite zero y l m e = sym (Nat.mod-eq-of-lt m) ∙ ap (λ z. z % q) (sym (Nat.zero-add y)) ∙ e ∙ sym (ap (λ z. z % q) (Nat.sub-zero q) ∙ Nat.mod-self q)
       opposite (suc x) y l m e = elim (decLt (suc x + y) q) [
         | yes h ↦ absurd (omega (arith, sym (Nat.mod-eq-of-lt h) ∙ e))
-        | no h ↦ omega (arith, sym (Nat.mod-eq-of-lt {n = suc x + y - q} (omega arith)) ∙ sym (Nat.mod-eq-sub-mod {n = suc x + y} {m = q} (omega arith)) ∙ e, Nat.mod-eq-of-lt {n = q - suc x} {m = q} (omega arith))
+        | no h ↦
+            let f = sym (Nat.mod-eq-of-lt {n = suc x + y - q} (omega arith)) ∙ sym (Nat.mod-eq-sub-mod {n = suc x + y} {m = q} (omega arith)) ∙ e in
+            omega (arith, f, Nat.mod-eq-of-lt {n = q - suc x} {m = q} (omega arith))
       ]
 
   pub modulo-times : (n : ℕ) (a : ℤ) → modulo q (pos n *ℤ a) ≡ n * modulo q a % q

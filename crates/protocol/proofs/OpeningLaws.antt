@@ -119,7 +119,8 @@ module _ (S : Settings) where
   module _ (E : List ℕ) where
     pub message-length : (t : ℕ) (message : List ℤ) → length message ≡ cells S → length (messageAfter S E t message) ≡ cells S
     message-length zero message n = unfold messageAfter in n
-    message-length (suc t) message n = ap length (message-suc E t message) ∙ signed-fold-length d (halfLeft S t) (getD E t 0) _ (omega (arith, halfLeft-inside t, message-length t message n)) ∙ message-length t message n
+    message-length (suc t) message n =
+        ap length (message-suc E t message) ∙ signed-fold-length d (halfLeft S t) (getD E t 0) _ (omega (arith, halfLeft-inside t, message-length t message n)) ∙ message-length t message n
 
     pub key-length : (t : ℕ) (key : List ℕ) → length key ≡ cells S → length (keyAfter S E t key) ≡ cells S
     key-length zero key n = unfold keyAfter in n
@@ -145,7 +146,8 @@ module _ (S : Settings) where
   pub round-at : (E key : List ℕ) (message : List ℤ) (t j k : ℕ) → t < L → j < 3 → k < d
       → getD (roundTable S E key message) ((3 * t + j) * d + k) 0 ≡ getD (roundElement S t (keyAfter S E t key) (messageAfter S E t message) j) k 0
   unfolding roundTable
-  round-at E key message t j k lt lj lk = flat-at d (3 * L) _ 0 (3 * t + j) k (omega arith) lk ∙ (λ i. getD (roundElement S (round i) (keyAfter S E (round i) key) (messageAfter S E (round i) message) (which i)) k 0)
+  round-at E key message t j k lt lj lk =
+      flat-at d (3 * L) _ 0 (3 * t + j) k (omega arith) lk ∙ (λ i. getD (roundElement S (round i) (keyAfter S E (round i) key) (messageAfter S E (round i) message) (which i)) k 0)
     where
       round : (3 * t + j) / 3 ≡ t
       round = omega arith

@@ -51,7 +51,9 @@ module _ (S : Settings) (pq : 0 < S .modulus) where
   unfolding roundTable flat
   rounds-below E key message = record {
     long = tabulate-length (3 * L * d) _;
-    each = λ i l. subst (λ x. x < q) (sym (tabulate-at (3 * L * d) _ 0 i l)) (below-everywhere q d _ pq (round-below (i / d / 3) (keyAfter S E (i / d / 3) key) (messageAfter S E (i / d / 3) message) (i / d % 3)) (i % d));
+    each =
+        λ i l. subst (λ x. x < q) (sym (tabulate-at (3 * L * d) _ 0 i l))
+        (below-everywhere q d _ pq (round-below (i / d / 3) (keyAfter S E (i / d / 3) key) (messageAfter S E (i / d / 3) message) (i / d % 3)) (i % d));
   }
 
   pub claim-below : (T : Transcript) → ((k : ℕ) → k < d → getD (T .commitment) k 0 < q) → (t k : ℕ) → k < d → getD (claimAfter S T t) k 0 < q

@@ -50,7 +50,8 @@ module _ {ℓ} {A : Type ℓ} where
   pub tabulate-add : (n m : ℕ) (f : ℕ → A) → tabulate (n + m) f ≡ tabulate n f ++ tabulate m (λ i. f (n + i))
   unfolding tabulate
   tabulate-add zero m f = λ j. tabulate (Nat.zero-add m j) (λ i. f (sym (Nat.zero-add i) j))
-  tabulate-add (suc n) m f = ap (λ k. tabulate k f) (Nat.suc-add n m) ∙ ap (λ l. f 0 ∷ l) (tabulate-add n m (λ i. f (suc i))) ∙ λ j. f 0 ∷ (tabulate n (λ i. f (suc i)) ++ tabulate m (λ i. f (sym (Nat.suc-add n i) j)))
+  tabulate-add (suc n) m f =
+      ap (λ k. tabulate k f) (Nat.suc-add n m) ∙ ap (λ l. f 0 ∷ l) (tabulate-add n m (λ i. f (suc i))) ∙ λ j. f 0 ∷ (tabulate n (λ i. f (suc i)) ++ tabulate m (λ i. f (sym (Nat.suc-add n i) j)))
 
   -- a loop that stores f 0, f 1, … over the list l: one turn more
   pub store-next : (p : ℕ) (f : ℕ → A) (l : List A) → p < length l → set (tabulate p f ++ drop p l) p (f p) ≡ tabulate (suc p) f ++ drop (suc p) l

@@ -14,7 +14,8 @@ use Rattle.protocol.specs.Opening.{foldMessage, messageAfter, keyAfter}
 use Rattle.protocol.specs.Transcript.{cause}
 use Rattle.protocol.specs.Session.{blank, shut, start, move, close}
 use Rattle.protocol.specs.Judge.{slack}
-use Rattle.protocol.specs.Calls.{commitRefusal, commitAnswer, roundRefusal, foldRefusal, foldMessageExit, endRefusal, openingAnswer, openingRoundsExit, checkRefusal, judgeRefusal, judgeAnswer, extractRefusal, extractExit}
+use Rattle.protocol.specs.Calls.{commitRefusal, commitAnswer, roundRefusal, foldRefusal, foldMessageExit, endRefusal, openingAnswer, openingRoundsExit, checkRefusal}
+use Rattle.protocol.specs.Calls.{judgeRefusal, judgeAnswer, extractRefusal, extractExit}
 use Rattle.protocol.proofs.Compute.{computed}
 use Rattle.protocol.proofs.Listing.{set, S₁, key₁, message₁, rounds₁, leaves₁, S₀}
 use Rattle.protocol.proofs.Examples.{Example, agree, agreeing, asNumber, causeNumber, moveNumbers, recordNumbers, verdictAsNumber}

@@ -105,7 +105,9 @@ module _ (S : Settings) (rounds E : List ℕ) (finals : List ℤ) where
 
     path-end : (finalBounded S (signed (T .last)) && closes S key T) ≡ leafAccepted S finals (nodes S + j) (claimAfter S T L) (keyAfter S (T .challenges) L key)
     unfolding path closes endHolds ending leafAccepted foldedEndHolds foldedEnding
-    path-end = ap (λ i. finalBounded S (signed (leaf S finals i)) && foldedEndHolds S (keyAfter S (T .challenges) L key) (claimAfter S T L) (signed (leaf S finals i))) (sym (Nat.add-sub-cancel-left (nodes S) j))
+    path-end =
+        ap (λ i. finalBounded S (signed (leaf S finals i)) && foldedEndHolds S (keyAfter S (T .challenges) L key) (claimAfter S T L) (signed (leaf S finals i)))
+        (sym (Nat.add-sub-cancel-left (nodes S) j))
 
     path-visits : accepted S key T ≡ true → Visits hand Node Leaf L (nodes S + j) (0, C, key)
     unfolding accepted onPath

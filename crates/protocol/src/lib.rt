@@ -8,6 +8,7 @@ pub const SLOTS: usize = 8;
 
 // The longest text, and the largest magnitude of a number in it: `textLimit` and `valueLimit` of the definitions.
 pub const TEXT_LIMIT: usize = 65536;
+
 pub const VALUE_LIMIT: u32 = 2147483647;
 
 // The residues of a key, a commitment, a round polynomial or a claim.

@@ -21,7 +21,8 @@ number c =
     let g = given no in
     sym (tree-joined _ _ _ _ _ _ _
     ∙ first-known _ _ (no .before .extract .ensures)
-    ∙ first-tested _ _ (c13 .refuse .ensures) (λ z. c13 .before .every-path-accepted .ensures (record { allowed = g .allowed; key-below = g .key-below; rounds-below = g .rounds-below; finals-long = g .lengths .finals-long }))
+    ∙ first-tested _ _ (c13 .refuse .ensures)
+    (λ z. c13 .before .every-path-accepted .ensures (record { allowed = g .allowed; key-below = g .key-below; rounds-below = g .rounds-below; finals-long = g .lengths .finals-long }))
     ∙ first-tested _ _ (c .refuse2 .ensures) (λ z. c .before .growth-allowed .ensures (g .allowed))
     ∙ first-only _)
 

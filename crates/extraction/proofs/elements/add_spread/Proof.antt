@@ -82,7 +82,9 @@ loop-less c = search needs
 loop-again : tie.Need-loop-again Inv-loop μ-loop
 loop-again c =
     let g = c .before .before .before .before .before in let l = c .before .before .before .before .loop in let a = g .args in
-    (search needs, turn (2 * a .d - a .e) (a .x .now) (a .out .now) (l .k) (l .out) (l .inv .1) (c .before .before .plus-arg .given) (c .before .plus-arg2 .given) (c .plus .result) (c .plus .ok) (c .plus .ensures) (omega (arith, g .pre .2 .long-to)), simp length-set (search needs))
+    let next = turn (2 * a .d - a .e) (a .x .now) (a .out .now) (l .k) (l .out) (l .inv .1) (c .before .before .plus-arg .given) (c .before .plus-arg2 .given)
+        (c .plus .result) (c .plus .ok) (c .plus .ensures) (omega (arith, g .pre .2 .long-to)) in
+    (search needs, next, simp length-set (search needs))
 
 same-length : tie.Need-same-length Inv-loop μ-loop
 same-length c = search needs

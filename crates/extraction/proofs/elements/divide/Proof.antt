@@ -11,6 +11,7 @@ use lib.Dec.{eqb}
 use lib.ListN.{length}
 use lib.Pow as Pow
 use Rattle.protocol.specs.Element.{signed}
+use Rattle.protocol.specs.Layout.{width}
 use Rattle.residues.proofs.Fill.{filled}
 use Rattle.extraction.specs.Steps.{summed, divided}
 use Rattle.extraction.proofs.Quotients as Q
@@ -31,7 +32,7 @@ abbrev μ-loop : tie.MeasureT-loop
 some : (c : tie.Start Inv-loop μ-loop) → 0 < c .args .d
 some c = omega (arith, c .pre .1 .degree-is, Pow.pow-pos (c .pre .1 .log))
 
-small : (c : tie.Start Inv-loop μ-loop) → c .args .d ≤ 64
+small : (c : tie.Start Inv-loop μ-loop) → c .args .d ≤ width
 small c = omega (arith, c .pre .1 .degree-is, Pow.pow-mono {i = c .pre .1 .log} {j = 6} (c .pre .1 .log-most))
 
 -- where it is not met now either
@@ -49,7 +50,15 @@ turn-exponent : (g : tie.Start Inv-loop μ-loop) (j e : ℕ) → e ≡ g .args .
 turn-exponent g j e is = let p : 0 < 2 * g .args .d = omega (arith, some g) in omega (arith, Nat.mod-lt (g .args .k * 2 ^ j) p)
 
 loop-holds : tie.Need-loop-holds Inv-loop μ-loop
-loop-holds c = (omega arith, sym (ap (λ n. n % (2 * c .args .d)) (ap (λ n. c .args .k * n) (Nat.pow-zero 2) ∙ Nat.mul-one (c .args .k)) ∙ Nat.mod-eq-of-lt (c .pre .1 .exponent)), unfold summed in Q.filled-own (c .args .d) (c .args .a .now) (c .pre .1 .long), refl, refl, λ i h. absurd (omega arith))
+loop-holds c =
+    (
+      omega arith,
+      sym (ap (λ n. n % (2 * c .args .d)) (ap (λ n. c .args .k * n) (Nat.pow-zero 2) ∙ Nat.mul-one (c .args .k)) ∙ Nat.mod-eq-of-lt (c .pre .1 .exponent)),
+      unfold summed in Q.filled-own (c .args .d) (c .args .a .now) (c .pre .1 .long),
+      refl,
+      refl,
+      λ i h. absurd (omega arith),
+    )
 
 same-length : tie.Need-same-length Inv-loop μ-loop
 same-length c = c .before .before .loop .inv .3
@@ -58,7 +67,9 @@ same-length-2 : tie.Need-same-length-2 Inv-loop μ-loop
 same-length-2 c = c .before .before .loop .inv .4
 
 returns : tie.Need-returns Inv-loop μ-loop
-returns c = let g = c .before .before .before in let l = c .before .before .loop in l .inv .2 ∙ ap (λ f. filled (f (signed (g .args .a .now))) (g .args .d) (g .args .a .now)) (done (g .args .d) (g .args .k) (l .j) (l .inv .0) (λ _. sym (l .inv .1) ∙ c .if1 .taken) (l .inv .5))
+returns c =
+    let g = c .before .before .before in let l = c .before .before .loop in
+    l .inv .2 ∙ ap (λ f. filled (f (signed (g .args .a .now))) (g .args .d) (g .args .a .now)) (done (g .args .d) (g .args .k) (l .j) (l .inv .0) (λ _. sym (l .inv .1) ∙ c .if1 .taken) (l .inv .5))
 
 add-own-requires : tie.Need-add-own-requires Inv-loop μ-loop
 add-own-requires c κs =
@@ -72,7 +83,9 @@ add-own-requires c κs =
     )
 
 mul-on-circle : tie.Need-mul-on-circle Inv-loop μ-loop
-mul-on-circle c = let g = c .before .before .before .before .before .before .before .before in let l = c .before .before .before .before .before .before .before .loop in omega (arith, small g, turn-exponent g (l .j) (l .e) (l .inv .1))
+mul-on-circle c =
+    let g = c .before .before .before .before .before .before .before .before in let l = c .before .before .before .before .before .before .before .loop in
+    omega (arith, small g, turn-exponent g (l .j) (l .e) (l .inv .1))
 
 on-circle-requires : tie.Need-on-circle-requires Inv-loop μ-loop
 on-circle-requires c κs = search needs
@@ -101,7 +114,9 @@ same-length-4 : tie.Need-same-length-4 Inv-loop μ-loop
 same-length-4 c = c .before .loop .inv .4
 
 returns-2 : tie.Need-returns-2 Inv-loop μ-loop
-returns-2 c = let g = c .before .before in let l = c .before .loop in l .inv .2 ∙ ap (λ f. filled (f (signed (g .args .a .now))) (g .args .d) (g .args .a .now)) (done (g .args .d) (g .args .k) (l .j) (l .inv .0) (λ h. absurd (omega arith)) (l .inv .5))
+returns-2 c =
+    let g = c .before .before in let l = c .before .loop in
+    l .inv .2 ∙ ap (λ f. filled (f (signed (g .args .a .now))) (g .args .d) (g .args .a .now)) (done (g .args .d) (g .args .k) (l .j) (l .inv .0) (λ h. absurd (omega arith)) (l .inv .5))
 
 pub divide-spec : {M : Type 1} → statement M
 divide-spec =

@@ -62,7 +62,11 @@ module _ (d : ℕ) (x : List ℤ) (k : ℕ) (lt : k < d) (long : 3 * d ≤ lengt
     | yes e ↦ subst (Rounds d a three) (sym e) (first ∙ ey, second ∙ ez, third ∙ ey)
     | no n ↦
         let old = h j (omega arith) in
-        (other j n (λ e. omega arith) (λ e. omega arith) ∙ old .0, other (d + j) (λ e. omega arith) (λ e. omega arith) (λ e. omega arith) ∙ old .1, other (2 * d + j) (λ e. omega arith) (λ e. omega arith) (λ e. omega arith) ∙ old .2)
+        (
+          other j n (λ e. omega arith) (λ e. omega arith) ∙ old .0,
+          other (d + j) (λ e. omega arith) (λ e. omega arith) (λ e. omega arith) ∙ old .1,
+          other (2 * d + j) (λ e. omega arith) (λ e. omega arith) (λ e. omega arith) ∙ old .2,
+        )
   ]
 
 -- the three rounds are all
@@ -128,7 +132,8 @@ loop-again c =
     let g = c .before .before .before .before in let l = c .before .before .before .loop in let a = g .args in
     let long : 3 * a .d ≤ length (l .x) = omega (arith, g .pre .long-to, l .inv .1) in
     let here = through-bits w64 (getD (a .a .now) (l .k) (pos 0)) (c .before .y .given) in
-    (omega arith, simp length-set (search needs), turn (a .d) (l .x) (l .k) (omega arith) long _ _ (a .a .now) here (through-bits w64 (c .minus .result) (c .minus .ok) ∙ c .minus .ensures ∙ ap negℤ here) (l .inv .2))
+    (omega arith, simp length-set (search needs), turn (a .d) (l .x) (l .k) (omega arith) long _ _ (a .a .now) here
+    (through-bits w64 (c .minus .result) (c .minus .ok) ∙ c .minus .ensures ∙ ap negℤ here) (l .inv .2))
 
 same-length : tie.Need-same-length Inv-loop μ-loop
 same-length c = search needs

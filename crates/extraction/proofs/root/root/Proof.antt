@@ -53,7 +53,10 @@ slice-aggregate-node : tie.Need-slice-aggregate-node
 slice-aggregate-node c = sym (length-take-le _ _ (omega (arith, room (c .before .before .before), c .before .workspace .ensures)))
 
 node-requires : tie.Need-node-requires
-node-requires c κs = let g = c .before .before .before .before .before in let z = c .before .workspace in (g .pre .0, root-at (g .args .settings) (g .args .challenges .now) (g .args .leaves .now) (g .pre .0) _ _ (z .result) (nodes-are (c .before .before)) (cells-are (c .before .before .before)) (z .ensures))
+node-requires c κs =
+    let g = c .before .before .before .before .before in let z = c .before .workspace in
+    (g .pre .0, root-at (g .args .settings) (g .args .challenges .now) (g .args .leaves .now) (g .pre .0) _ _ (z .result)
+    (nodes-are (c .before .before)) (cells-are (c .before .before .before)) (z .ensures))
 
 mul-store : tie.Need-mul-store
 mul-store c = omega (arith, room (c .before .before .before .before .before))
@@ -68,7 +71,9 @@ part-store-end : tie.Need-part-store-end
 part-store-end c = let n = c .before .before in omega (arith, kept-long _ (left n) (given n) (room (n .before .before .before .before)) (lent n) (n .before .before .workspace .ensures))
 
 store-requires : tie.Need-store-requires
-store-requires c κs = let n = c .before .before .before .before in let g = c .before .before .before .before .before .before .before .before .before .before in (omega (arith, part-room _ (left n) (given n) (room (n .before .before .before .before)) (lent n) (n .before .before .workspace .ensures)), omega (arith, g .pre .1, cells-are (c .before .before .before .before .before .before .before .before)))
+store-requires c κs =
+    let n = c .before .before .before .before in let k = n .before .before .before .before in let g = k .before .before in
+    (omega (arith, part-room _ (left n) (given n) (room k) (lent n) (n .before .before .workspace .ensures)), omega (arith, g .pre .1, cells-are k))
 
 same-length : tie.Need-same-length
 same-length c = search needs
@@ -76,7 +81,7 @@ same-length c = search needs
 returns : tie.Need-returns
 unfolding rootVector cells size
 returns c =
-    let n = c .before .before .before .before .before .before in let g = c .before .before .before .before .before .before .before .before .before .before .before .before in let k = c .before .before .before .before .before .before .before .before .before .before in
+    let n = c .before .before .before .before .before .before in let k = n .before .before .before .before in let g = k .before .before in
     copied (k .cells .result) (left n) (given n) (room k) (lent n) (n .before .before .workspace .ensures) (g .args .w .now) _ (g .pre .1 ∙ sym (cells-are k)) (c .before .store .ensures)
     ∙ ap (λ m. drop m (left n)) (cells-are k)
     ∙ n .node .ensures

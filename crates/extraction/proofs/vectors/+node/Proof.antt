@@ -7,7 +7,8 @@ use borrow.Fn.Kinds.{In}
 use borrow.Fn.PlainCycle.{Measures, is, falls, and}
 use borrow.Rule.Slice.PartMut.{putMid}
 use lib.ListN.{length}
-use Rattle.extraction.proofs.Nodes as N
+use Rattle.extraction.proofs.Nodes as L
+use Rattle.extraction.proofs.Branches as N
 use Rattle.extraction.proofs.vectors.node.Reads as node
 use Rattle.extraction.proofs.vectors.node.Kinds as node-kinds
 use Rattle.extraction.proofs.vectors.+node.Lts-node as node-lts
@@ -111,25 +112,25 @@ module _ (t : ℕ) where
       (child .node3 .kept .1 .1 .1 .1 .1 .1 .0) (child .node3 .ensures) (c .before .add-branch3 .ensures) (c .before .add-branch3 .kept .1 .1 .1 .1 .1 .1 .1 .0)
 
   node-cast-d : node-lts.Need-cast-d (calls t) (node-at t) node.Post
-  node-cast-d c = omega (arith, N.small (c .before .before .pre .1 .0))
+  node-cast-d c = omega (arith, L.small (c .before .before .pre .1 .0))
 
   node-sub-leaf-vector : node-lts.Need-sub-leaf-vector (calls t) (node-at t) node.Post
-  node-sub-leaf-vector c = let g = c .before .before .before in N.leaf-number (g .pre .1 .0) (g .pre .1 .1) (omega arith)
+  node-sub-leaf-vector c = let g = c .before .before .before in L.leaf-number (g .pre .1 .0) (g .pre .1 .1) (omega arith)
 
   node-leaf-vector-requires : node-lts.Need-leaf-vector-requires (calls t) (node-at t) node.Post
   node-leaf-vector-requires c κs =
       let g = c .before .before .before .before in let tree = g .pre .1 .0 in
-      (N.small tree, N.leaf-inside tree (g .pre .1 .1) (omega arith), N.leaf-space tree (g .pre .1 .1) (omega arith))
+      (L.small tree, L.leaf-inside tree (g .pre .1 .1) (omega arith), L.leaf-space tree (g .pre .1 .1) (omega arith))
 
   node-same-length : node-lts.Need-same-length (calls t) (node-at t) node.Post
   node-same-length c = search needs
 
   node-returns : node-lts.Need-returns (calls t) (node-at t) node.Post
   node-returns c =
-      let g = c .before .before .before .before .before .before in N.leaf-is (g .pre .1 .0) (g .pre .1 .1) (omega arith) _ (c .before .leaf-vector .ensures)
+      let g = c .before .before .before .before .before .before in L.leaf-is (g .pre .1 .0) (g .pre .1 .1) (omega arith) _ (c .before .leaf-vector .ensures)
 
   node-div-n : node-lts.Need-div-n (calls t) (node-at t) node.Post
-  node-div-n c = N.some (start c .pre .1 .0)
+  node-div-n c = L.some (start c .pre .1 .0)
 
   node-mul-clear : node-lts.Need-mul-clear (calls t) (node-at t) node.Post
   node-mul-clear c = search needs
@@ -202,7 +203,8 @@ module _ (t : ℕ) where
 
   node-node-requires-3 : node-lts.Need-node-requires-3 (calls t) (node-at t) node.Post
   node-node-requires-3 c κs =
-      let at = c .before .before in let b = branch (above (zeros (first at))) in (lower (above (zeros (first at))), (b .tree, N.child-place b 2 (omega arith) (c .before .child-of3 .ensures) (stage-2 at)))
+      let at =
+      c .before .before in let b = branch (above (zeros (first at))) in (lower (above (zeros (first at))), (b .tree, N.child-place b 2 (omega arith) (c .before .child-of3 .ensures) (stage-2 at)))
 
   node-add-branch-requires-3 : node-lts.Need-add-branch-requires-3 (calls t) (node-at t) node.Post
   node-add-branch-requires-3 c κs =

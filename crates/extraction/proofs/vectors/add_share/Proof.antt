@@ -9,13 +9,14 @@ use lib.ListN.{length, take, drop}
 use lib.Seq.{length-take-le}
 use mathlib.Core.List.{List, _++_}
 use Rattle.protocol.specs.Tree.{gap}
+use Rattle.protocol.specs.Layout.{width}
 use Rattle.extraction.specs.Vectors.{scaled, turned}
 use Rattle.extraction.proofs.Shares.{backOnce, backTwice, share-scalable, first-turnable, second-turnable, share-added}
 use Rattle.extraction.proofs.vectors.add_share.Statement.{statement}
 use Rattle.extraction.proofs.vectors.add_share.Tie as tie
 
 -- the degree is one, so that exponents go round
-circle : (g : tie.Start) → (0 < g .args .d) × (g .args .d ≤ 64)
+circle : (g : tie.Start) → (0 < g .args .d) × (g .args .d ≤ width)
 circle g = (g .pre .some, g .pre .small)
 
 -- the exponents
@@ -138,7 +139,8 @@ slice-aggregate-add-turned-2 c = search needs
 add-turned-requires-2 : tie.Need-add-turned-requires-2
 add-turned-requires-2 c κs =
     let t = c .before .before .before .before in let s = at-sums t in let g = at-scale s in let a = g .args in
-    (omega (arith, room s, t .add-turned .kept .1 .1 .1 .1 .1 .0), rw (once (before-sums t .before)) (second-turnable (a .d) (a .n) (a .a) (a .b) (a .c) (a .l .now) (g .pre) (products s) (first-sums t)))
+    (omega (arith, room s, t .add-turned .kept .1 .1 .1 .1 .1 .0), rw (once (before-sums t .before))
+    (second-turnable (a .d) (a .n) (a .a) (a .b) (a .c) (a .l .now) (g .pre) (products s) (first-sums t)))
 
 same-length : tie.Need-same-length
 same-length c = search needs

@@ -9,6 +9,7 @@ use borrow.Rule.Slice.PartMut.{putMid}
 use lib.ListN.{length, getD, take, drop}
 use lib.IntN.{ℤ, pos, natAbs, _+ℤ_}
 use Rattle.protocol.specs.Element.{rotate, plus, signed, signedAt}
+use Rattle.protocol.specs.Layout.{width}
 use Rattle.extraction.specs.Bounds.{Spreadable, Addable, Summable}
 use Rattle.extraction.specs.Steps.{Spread, spreadAdded, rotatedAdded}
 use Rattle.extraction.specs.Vectors.{turnedRow, turned, Turnable}
@@ -17,7 +18,7 @@ use Rattle.residues.proofs.Fill.{filled, filled-ext}
 use Rattle.protocol.proofs.Reading.{row-inside}
 use Rattle.residues.proofs.Parts.{tail-at, tail-length}
 use Rattle.residues.proofs.Splice.{spliced-length, entry-before}
-use Rattle.relaxed.proofs.Products.{rotate-ext}
+use Rattle.protocol.proofs.Agreement.{rotate-same}
 use Rattle.extraction.proofs.Splicing.{rows-none, lent-at, rows-turn}
 use Rattle.extraction.proofs.Sums.{spreadable, addable, spread-rotated}
 use Rattle.extraction.proofs.vectors.add_turned.Statement.{statement}
@@ -68,7 +69,7 @@ module _ (d n e to : ℕ) (l : List ℤ) (T : Turnable d n e to l) (i : ℕ) (lt
       can-spread = spreadable d source target summable x room
 
       module _ (spread : Spread d source x) where
-        can-add : (d ≤ 64) × (e ≤ 2 * d) × Addable d (2 * d - e) x target
+        can-add : (d ≤ width) × (e ≤ 2 * d) × Addable d (2 * d - e) x target
         can-add = (T .small, omega (arith, T .exponent), addable d source target summable x room (T .some) e (T .exponent) spread)
 
         next : {q : List ℤ} → q ≡ spreadAdded d (2 * d - e) x target → putMid (to + i * d) (length w - (to + i * d)) w q ≡ splicedRows (turnedRow d e to l) to d (i + 1) l
@@ -76,7 +77,7 @@ module _ (d n e to : ℕ) (l : List ℤ) (T : Turnable d n e to l) (i : ℕ) (lt
         next eq = rows-turn (turnedRow d e to l) to d l i (to + i * d) refl (fits-in .1) is (
             eq
             ∙ spread-rotated d source target summable x room (T .some) e (T .exponent) spread
-            ∙ filled-ext (λ k. signed target k +ℤ rotate d e (signed source) k) (turnedRow d e to l i) d target (λ k lk j. adds k lk j +ℤ rotate-ext d e k (T .some) reads j)
+            ∙ filled-ext (λ k. signed target k +ℤ rotate d e (signed source) k) (turnedRow d e to l i) d target (λ k lk j. adds k lk j +ℤ rotate-same (T .some) e {b = signedAt d l i} reads k j)
             )
 
 -- an element's place
@@ -138,7 +139,8 @@ loop-again c =
     let g = c .before .before .before .before .before .before .before .before .before .before .before in
     let l = c .before .before .before .before .before .before .before .before .before .before .loop in
     let a = g .args in let s = c .before .before .before .before .before .spread in
-    let same = next (a .d) (a .n) (a .e) (a .to) (a .l .now) (g .pre .1) (l .i) (omega arith) (l .inv .1) (l .inv .2) _ (omega (arith, g .pre .0, l .inv .3, s .kept .1 .1 .0)) (s .ensures) (c .before .add-spread .ensures) in
+    let same = next (a .d) (a .n) (a .e) (a .to) (a .l .now) (g .pre .1) (l .i) (omega arith) (l .inv .1) (l .inv .2) _
+        (omega (arith, g .pre .0, l .inv .3, s .kept .1 .1 .0)) (s .ensures) (c .before .add-spread .ensures) in
     let h = here (c .before .before .before .before .before .before .before .before .before) in (
       omega arith,
       same,

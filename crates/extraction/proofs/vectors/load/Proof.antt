@@ -47,7 +47,8 @@ unfolding signed
 loop-again c =
     let g = c .before .before .before .before in let l = c .before .before .before .loop in (
       search needs,
-      filled-turn (signed (g .args .f .now)) (l .k) (g .args .out .now) (l .inv .1) (through-bits w64 _ (c .widen .ok) ∙ c .widen .ensures ∙ toZ-ofZ (record { sfits = c .before .widen-arg .given })) (omega arith),
+      filled-turn (signed (g .args .f .now)) (l .k) (g .args .out .now) (l .inv .1)
+      (through-bits w64 _ (c .widen .ok) ∙ c .widen .ensures ∙ toZ-ofZ (record { sfits = c .before .widen-arg .given })) (omega arith),
       simp length-set (search needs),
     )
 
