@@ -77,12 +77,6 @@ mul-on-circle c = let g = c .before .before .before .before .before .before .bef
 on-circle-requires : tie.Need-on-circle-requires Inv-loop μ-loop
 on-circle-requires c κs = let g = c .before .before .before .before .before .before .before .before in let l = c .before .before .before .before .before .before .before .loop in (small g, omega (arith, turn-exponent g (l .j) (l .e) (l .inv .1)))
 
-add-j : tie.Need-add-j Inv-loop μ-loop
-add-j c = search needs
-
-loop-less : tie.Need-loop-less Inv-loop μ-loop
-loop-less c = search needs
-
 loop-again : tie.Need-loop-again Inv-loop μ-loop
 loop-again c =
     let g = c .before .before .before .before .before .before .before .before .before in let l = c .before .before .before .before .before .before .before .before .loop in let a = g .args in (
@@ -116,8 +110,8 @@ divide-spec =
     add-own-requires
     mul-on-circle
     on-circle-requires
-    add-j
-    loop-less
+    (λ c. search needs)
+    (λ c. search needs)
     loop-again
     same-length-3
     same-length-4

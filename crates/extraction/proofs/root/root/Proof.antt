@@ -33,17 +33,8 @@ given c = c .before .before .workspace .result
 lent : (c : tie.After-node) → length (left c) ≡ 2 * c .before .before .before .before .cells .result
 lent c = c .node .kept .1 .1 .1 .1 .1 .1 .0 ∙ length-take-le _ (given c) (omega (arith, room (c .before .before .before .before), c .before .before .workspace .ensures))
 
-cells-requires : tie.Need-cells-requires
-cells-requires c κs = search needs
-
-nodes-requires : tie.Need-nodes-requires
-nodes-requires c κs = search needs
-
 mul-end : tie.Need-mul-end
 mul-end c = omega (arith, room (c .before))
-
-workspace-requires : tie.Need-workspace-requires
-workspace-requires c κs = search needs
 
 array-borrow-prefix-ws : tie.Need-array-borrow-prefix-ws
 array-borrow-prefix-ws c = omega (arith, room (c .before .before), c .workspace .ensures)
@@ -69,9 +60,6 @@ part-store-end c = let n = c .before .before in omega (arith, kept-long _ (left 
 store-requires : tie.Need-store-requires
 store-requires c κs = let n = c .before .before .before .before in let g = c .before .before .before .before .before .before .before .before .before .before in (omega (arith, part-room _ (left n) (given n) (room (n .before .before .before .before)) (lent n) (n .before .before .workspace .ensures)), omega (arith, g .pre .1, cells-are (c .before .before .before .before .before .before .before .before)))
 
-same-length : tie.Need-same-length
-same-length c = search needs
-
 returns : tie.Need-returns
 unfolding rootVector cells size
 returns c =
@@ -84,10 +72,10 @@ pub root-spec : {M : Type 1} → statement M
 root-spec =
     tie.close
     (tie.spec
-    cells-requires
-    nodes-requires
+    (λ c κs. search needs)
+    (λ c κs. search needs)
     mul-end
-    workspace-requires
+    (λ c κs. search needs)
     array-borrow-prefix-ws
     slice-aggregate-node
     node-requires
@@ -96,5 +84,5 @@ root-spec =
     part-store-start
     part-store-end
     store-requires
-    same-length
+    (λ c. search needs)
     returns)

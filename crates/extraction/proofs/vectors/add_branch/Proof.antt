@@ -30,49 +30,10 @@ module _ (d n k j x y : ℕ) (E : List ℕ) (ws : List ℤ) (B : Branching d n k
       ∙ e
       ∙ λ i. withShare d n (is-a i) (mu d (is-a i) (is-b i) (is-c i)) (take (n * d) (tail-all (n * d) ws i)) (drop (n * d) (tail-all (n * d) ws i))
 
-mul-i : tie.Need-mul-i
-mul-i c = search needs
-
-add-exponent : tie.Need-add-exponent
-add-exponent c = search needs
-
-exponent-requires : tie.Need-exponent-requires
-exponent-requires c κs = search needs
-
-add-exponent-2 : tie.Need-add-exponent-2
-add-exponent-2 c = search needs
-
-exponent-requires-2 : tie.Need-exponent-requires-2
-exponent-requires-2 c κs = search needs
-
-add-exponent-3 : tie.Need-add-exponent-3
-add-exponent-3 c = search needs
-
-exponent-requires-3 : tie.Need-exponent-requires-3
-exponent-requires-3 c κs = search needs
-
-mul-cells : tie.Need-mul-cells
-mul-cells c = search needs
-
-mul-add-share : tie.Need-mul-add-share
-mul-add-share c = search needs
-
-sub-add-share : tie.Need-sub-add-share
-sub-add-share c = search needs
-
-part-add-share-start : tie.Need-part-add-share-start
-part-add-share-start c = search needs
-
-part-add-share-end : tie.Need-part-add-share-end
-part-add-share-end c = search needs
-
 add-share-requires : tie.Need-add-share-requires
 add-share-requires c κs =
     let g = c .before .before .before .before .before in let a = g .args in
     sharing (a .d) (a .n) (a .k) (a .j) (a .x) (a .y) (a .challenges .now) (a .ws .now) (g .pre) (c .before .before .before .exponent .ensures) (c .before .before .exponent2 .ensures) (c .before .exponent3 .ensures)
-
-same-length : tie.Need-same-length
-same-length c = search needs
 
 returns : tie.Need-returns
 returns c =
@@ -83,18 +44,18 @@ pub add-branch-spec : {M : Type 1} → statement M
 add-branch-spec =
     tie.close
     (tie.spec
-    mul-i
-    add-exponent
-    exponent-requires
-    add-exponent-2
-    exponent-requires-2
-    add-exponent-3
-    exponent-requires-3
-    mul-cells
-    mul-add-share
-    sub-add-share
-    part-add-share-start
-    part-add-share-end
+    (λ c. search needs)
+    (λ c. search needs)
+    (λ c κs. search needs)
+    (λ c. search needs)
+    (λ c κs. search needs)
+    (λ c. search needs)
+    (λ c κs. search needs)
+    (λ c. search needs)
+    (λ c. search needs)
+    (λ c. search needs)
+    (λ c. search needs)
+    (λ c. search needs)
     add-share-requires
-    same-length
+    (λ c. search needs)
     returns)

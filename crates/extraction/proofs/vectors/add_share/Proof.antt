@@ -45,9 +45,6 @@ room c = omega (arith, c .before .before .before .before .before .before .pre .s
 mul-back : tie.Need-mul-back
 mul-back c = omega (arith, c .pre .small)
 
-sub-back : tie.Need-sub-back
-sub-back c = search needs
-
 add-on-circle : tie.Need-add-on-circle
 add-on-circle c = omega (arith, c .pre .small, c .pre .others .0)
 
@@ -66,17 +63,8 @@ add-on-circle-3 c = let g = c .before .before in omega (arith, g .pre .small, g 
 on-circle-requires-3 : tie.Need-on-circle-requires-3
 on-circle-requires-3 c κs = let g = c .before .before in (g .pre .small, omega (arith, g .pre .others .0, g .pre .others .1))
 
-mul-cells : tie.Need-mul-cells
-mul-cells c = search needs
-
-slice-relend-prefix-scale : tie.Need-slice-relend-prefix-scale
-slice-relend-prefix-scale c = search needs
-
 slice-aggregate-scale : tie.Need-slice-aggregate-scale
 slice-aggregate-scale c = let g = c .before .before .before .before in sym (length-take-le _ _ (omega (arith, g .pre .long)))
-
-slice-aggregate-scale-2 : tie.Need-slice-aggregate-scale-2
-slice-aggregate-scale-2 c = search needs
 
 scale-requires : tie.Need-scale-requires
 scale-requires c κs = let g = c .before .before .before .before .before in let a = g .args in (omega (arith, g .pre .small), rw (first (c .before .before .before .before), second (c .before .before .before), c .before .before .on-circle3 .ensures) (share-scalable (a .d) (a .n) (a .a) (a .b) (a .c) (a .l .now) (g .pre)))
@@ -90,19 +78,10 @@ mul-on-circle c = omega (arith, once-small c, c .before .before .before .before 
 on-circle-requires-5 : tie.Need-on-circle-requires-5
 on-circle-requires-5 c κs = (c .before .before .before .before .before .before .before .before .before .pre .small, omega (arith, once-small c))
 
-mul-add-turned : tie.Need-mul-add-turned
-mul-add-turned c = search needs
-
-slice-aggregate-add-turned : tie.Need-slice-aggregate-add-turned
-slice-aggregate-add-turned c = search needs
-
 add-turned-requires : tie.Need-add-turned-requires
 add-turned-requires c κs =
     let g = c .before .before .before .before .before .before .before .before .before .before .before .before in let a = g .args in let is-s = products (c .before .before .before .before .before .before) in
     ((room (c .before .before .before .before .before .before), omega arith), rw (twice (c .before .before), once (c .before .before .before)) (first-turnable (a .d) (a .n) (a .a) (a .b) (a .c) (a .l .now) (g .pre) is-s, second-turnable (a .d) (a .n) (a .a) (a .b) (a .c) (a .l .now) (g .pre) is-s refl))
-
-same-length : tie.Need-same-length
-same-length c = search needs
 
 returns : tie.Need-returns
 returns c =
@@ -115,23 +94,23 @@ add-share-spec =
     tie.close
     (tie.spec
     mul-back
-    sub-back
+    (λ c. search needs)
     add-on-circle
     on-circle-requires
     add-on-circle-2
     on-circle-requires-2
     add-on-circle-3
     on-circle-requires-3
-    mul-cells
-    slice-relend-prefix-scale
+    (λ c. search needs)
+    (λ c. search needs)
     slice-aggregate-scale
-    slice-aggregate-scale-2
+    (λ c. search needs)
     scale-requires
     on-circle-requires-4
     mul-on-circle
     on-circle-requires-5
-    mul-add-turned
-    slice-aggregate-add-turned
+    (λ c. search needs)
+    (λ c. search needs)
     add-turned-requires
-    same-length
+    (λ c. search needs)
     returns)

@@ -225,9 +225,6 @@ sub-spread c = let h = here c in omega arith
 part-spread-start : tie.Need-part-spread-start Inv-loop μ-loop
 part-spread-start c = let h = here (c .before) in omega arith
 
-part-spread-end : tie.Need-part-spread-end Inv-loop μ-loop
-part-spread-end c = search needs
-
 spread-requires : tie.Need-spread-requires Inv-loop μ-loop
 spread-requires c κs = let g = c .before .before .before .before .before in let l = c .before .before .before .before .loop in let a = g .args in can-spread (a .d) (a .n) (a .e1) (a .to1) (a .e2) (a .to2) (a .l .now) (g .pre .0 .1) (g .pre .1 .0) (g .pre .1 .1) (l .i) (omega arith) (l .inv .1) (l .x) (omega (arith, g .pre .0 .0, l .inv .3))
 
@@ -242,9 +239,6 @@ sub-add-spread c = let h = here (c .before .before .before .before .before .befo
 
 part-add-spread-start : tie.Need-part-add-spread-start Inv-loop μ-loop
 part-add-spread-start c = let h = here (c .before .before .before .before .before .before) in omega arith
-
-part-add-spread-end : tie.Need-part-add-spread-end Inv-loop μ-loop
-part-add-spread-end c = search needs
 
 add-spread-requires : tie.Need-add-spread-requires Inv-loop μ-loop
 add-spread-requires c κs = let g = c .before .before .before .before .before .before .before .before .before in let l = c .before .before .before .before .before .before .before .before .loop in let a = g .args in let s = c .before .before .before .spread in can-add-first (a .d) (a .n) (a .e1) (a .to1) (a .e2) (a .to2) (a .l .now) (g .pre .0 .1) (g .pre .1 .0) (g .pre .1 .1) (l .i) (omega arith) (l .inv .1) _ (omega (arith, g .pre .0 .0, l .inv .3, s .kept .1 .1 .0)) (s .ensures)
@@ -261,29 +255,14 @@ sub-add-spread-2 c = let h = here (c .before .before .before .before .before .be
 part-add-spread-start-2 : tie.Need-part-add-spread-start-2 Inv-loop μ-loop
 part-add-spread-start-2 c = let h = here (c .before .before .before .before .before .before .before .before .before .before) in omega arith
 
-part-add-spread-end-2 : tie.Need-part-add-spread-end-2 Inv-loop μ-loop
-part-add-spread-end-2 c = search needs
-
 add-spread-requires-2 : tie.Need-add-spread-requires-2 Inv-loop μ-loop
 add-spread-requires-2 c κs = let g = c .before .before .before .before .before .before .before .before .before .before .before .before .before in let l = c .before .before .before .before .before .before .before .before .before .before .before .before .loop in let a = g .args in let s = c .before .before .before .before .before .before .before .spread in can-add-second (a .d) (a .n) (a .e1) (a .to1) (a .e2) (a .to2) (a .l .now) (g .pre .0 .1) (g .pre .1 .0) (g .pre .1 .1) (l .i) (omega arith) (l .inv .1) _ (omega (arith, g .pre .0 .0, l .inv .3, s .kept .1 .1 .0)) (s .ensures) (c .before .before .before .add-spread .ensures)
-
-add-i : tie.Need-add-i Inv-loop μ-loop
-add-i c = search needs
-
-loop-less : tie.Need-loop-less Inv-loop μ-loop
-loop-less c = search needs
 
 loop-again : tie.Need-loop-again Inv-loop μ-loop
 loop-again c =
     let g = c .before .before .before .before .before .before .before .before .before .before .before .before .before .before .before in let l = c .before .before .before .before .before .before .before .before .before .before .before .before .before .before .loop in let a = g .args in let s = c .before .before .before .before .before .before .before .before .before .spread in
     let next = second-next (a .d) (a .n) (a .e1) (a .to1) (a .e2) (a .to2) (a .l .now) (g .pre .0 .1) (g .pre .1 .0) (g .pre .1 .1) (l .i) (omega arith) (l .inv .1) _ (omega (arith, g .pre .0 .0, l .inv .3, s .kept .1 .1 .0)) (s .ensures) (c .before .before .before .before .before .add-spread .ensures) (c .before .add-spread2 .ensures) in
     (omega arith, next, ap length next ∙ both-length (a .d) (a .n) (a .e1) (a .to1) (a .e2) (a .to2) (a .l .now) (g .pre .0 .1) (g .pre .1 .0) (g .pre .1 .1) (l .i + 1) (l .i + 1) (omega arith) (omega arith), s .kept .1 .1 .0 ∙ l .inv .3)
-
-same-length : tie.Need-same-length Inv-loop μ-loop
-same-length c = search needs
-
-same-length-2 : tie.Need-same-length-2 Inv-loop μ-loop
-same-length-2 c = search needs
 
 returns : tie.Need-returns Inv-loop μ-loop
 unfolding turned
@@ -300,23 +279,23 @@ add-turned-spec =
     mul-spread
     sub-spread
     part-spread-start
-    part-spread-end
+    (λ c. search needs)
     spread-requires
     add-first
     mul-add-spread
     sub-add-spread
     part-add-spread-start
-    part-add-spread-end
+    (λ c. search needs)
     add-spread-requires
     add-second
     mul-add-spread-2
     sub-add-spread-2
     part-add-spread-start-2
-    part-add-spread-end-2
+    (λ c. search needs)
     add-spread-requires-2
-    add-i
-    loop-less
+    (λ c. search needs)
+    (λ c. search needs)
     loop-again
-    same-length
-    same-length-2
+    (λ c. search needs)
+    (λ c. search needs)
     returns)

@@ -76,29 +76,14 @@ sub-weigh c = omega (arith, here c)
 part-weigh-start : tie.Need-part-weigh-start Inv-loop μ-loop
 part-weigh-start c = omega (arith, here c)
 
-part-weigh-end : tie.Need-part-weigh-end Inv-loop μ-loop
-part-weigh-end c = search needs
-
 weigh-requires : tie.Need-weigh-requires Inv-loop μ-loop
 weigh-requires c κs = let g = c .before .before .before .before in let l = c .before .before .before .loop in let a = g .args in let x = weighable (a .d) (a .n) (a .k) (a .m) (a .e) (a .v .now) (g .pre .1) (l .i) (omega arith) (l .v) (l .inv .1) (l .inv .2) in (omega (arith, g .pre .0, l .inv .3), x)
-
-add-i : tie.Need-add-i Inv-loop μ-loop
-add-i c = search needs
-
-loop-less : tie.Need-loop-less Inv-loop μ-loop
-loop-less c = search needs
 
 loop-again : tie.Need-loop-again Inv-loop μ-loop
 loop-again c =
     let g = c .before .before .before .before .before .before .before in let l = c .before .before .before .before .before .before .loop in let a = g .args in
     let next = turn (a .d) (a .n) (a .k) (a .m) (a .e) (a .v .now) (g .pre .1) (l .i) (omega arith) (l .v) (l .inv .1) (l .inv .2) _ (c .before .before .weigh .ensures) in
     (omega arith, next, ap length next ∙ spliced-length 0 (a .d) (products (a .d) (a .k) (a .m) (a .e) (a .v .now)) (a .v .now) (l .i + 1) (omega (arith, here (c .before .before .before .before .before), Nat.add-mul (l .i) 1 (a .d))), c .before .before .weigh .kept .1 .1 .1 .1 .1 .0 ∙ l .inv .3)
-
-same-length : tie.Need-same-length Inv-loop μ-loop
-same-length c = search needs
-
-same-length-2 : tie.Need-same-length-2 Inv-loop μ-loop
-same-length-2 c = search needs
 
 returns : tie.Need-returns Inv-loop μ-loop
 unfolding scaled
@@ -115,11 +100,11 @@ scale-spec =
     mul-weigh
     sub-weigh
     part-weigh-start
-    part-weigh-end
+    (λ c. search needs)
     weigh-requires
-    add-i
-    loop-less
+    (λ c. search needs)
+    (λ c. search needs)
     loop-again
-    same-length
-    same-length-2
+    (λ c. search needs)
+    (λ c. search needs)
     returns)
