@@ -11,15 +11,6 @@ use Rattle.equations.proofs.doubled.Tie as tie
 small : (q s t : ℕ) → 0 < q → t ≡ s % q → t < q
 small q s t p e = omega (arith, Nat.mod-lt s p)
 
-add-s : tie.Need-add-s
-add-s c = search needs
-
-mul-if1 : tie.Need-mul-if1
-mul-if1 c = search needs
-
-less-once-requires : tie.Need-less-once-requires
-less-once-requires c κs = search needs
-
 mul-less-once : tie.Need-mul-less-once
 mul-less-once c = let a = c .before .before in omega (arith, small (a .args .q) (a .args .x + a .args .y) _ (a .pre) (c .less-once .ensures))
 
@@ -31,25 +22,16 @@ returns c =
     let a = c .before .before .before .args in
     c .less-once2 .ensures ∙ ap (λ t. 2 * t % a .q) (c .before .less-once .ensures) ∙ times-mod (a .q) (c .before .before .before .pre) 2 (a .x + a .y)
 
-mul-result : tie.Need-mul-result
-mul-result c = search needs
-
-rem-result : tie.Need-rem-result
-rem-result c = search needs
-
-returns-2 : tie.Need-returns-2
-returns-2 c = search needs
-
 pub doubled-spec : {M : Type 1} → statement M
 doubled-spec =
     tie.close
     (tie.spec
-    add-s
-    mul-if1
-    less-once-requires
+    (λ c. search needs)
+    (λ c. search needs)
+    (λ c κs. search needs)
     mul-less-once
     less-once-requires-2
     returns
-    mul-result
-    rem-result
-    returns-2)
+    (λ c. search needs)
+    (λ c. search needs)
+    (λ c. search needs))

@@ -8,9 +8,6 @@ use borrow.Author.Needs.{needs}
 use Rattle.equations.proofs.ending_met.Statement.{statement}
 use Rattle.equations.proofs.ending_met.Tie as tie
 
-cast-d : tie.Need-cast-d
-cast-d c = search needs
-
 returns : tie.Need-returns
 returns c = λ g. absurd (omega arith)
 
@@ -20,15 +17,9 @@ returns-2 c = λ g. absurd (omega arith)
 returns-3 : tie.Need-returns-3
 returns-3 c = λ g. absurd (omega arith)
 
-final-bounded-requires : tie.Need-final-bounded-requires
-final-bounded-requires c κs = search needs
-
 returns-4 : tie.Need-returns-4
 unfolding endMet
 returns-4 c = λ g. let a = c .before .before .before .before .before .before .before .before .args in sym (ap (λ b. b && equationMet (a .settings) (a .claim .now) (signed (a .f .now)) (residue (a .g .now))) (sym (c .before .final-bounded .ensures (g .allowed)) ∙ not-true _ (c .if4 .taken)))
-
-equation-met-requires : tie.Need-equation-met-requires
-equation-met-requires c κs = search needs
 
 returns-5 : tie.Need-returns-5
 unfolding endMet
@@ -41,11 +32,11 @@ pub ending-met-spec : {M : Type 1} → statement M
 ending-met-spec =
     tie.close
     (tie.spec
-    cast-d
+    (λ c. search needs)
     returns
     returns-2
     returns-3
-    final-bounded-requires
+    (λ c κs. search needs)
     returns-4
-    equation-met-requires
+    (λ c κs. search needs)
     returns-5)

@@ -8,38 +8,11 @@ use borrow.Author.Needs.{needs}
 use Rattle.equations.proofs.equation_met.Statement.{statement}
 use Rattle.equations.proofs.equation_met.Tie as tie
 
-cast-d : tie.Need-cast-d
-cast-d c = search needs
-
 returns : tie.Need-returns
 returns c = λ g. absurd (let r = ready _ (g .allowed) in omega arith)
 
 returns-2 : tie.Need-returns-2
 returns-2 c = λ g. absurd (let r = ready _ (g .allowed) in omega arith)
-
-slice-aggregate-extend : tie.Need-slice-aggregate-extend
-slice-aggregate-extend c = search needs
-
-extend-requires : tie.Need-extend-requires
-extend-requires c κs = search needs
-
-slice-aggregate-accumulate : tie.Need-slice-aggregate-accumulate
-slice-aggregate-accumulate c = search needs
-
-slice-aggregate-accumulate-2 : tie.Need-slice-aggregate-accumulate-2
-slice-aggregate-accumulate-2 c = search needs
-
-accumulate-requires : tie.Need-accumulate-requires
-accumulate-requires c κs = search needs
-
-left-requires : tie.Need-left-requires
-left-requires c κs = search needs
-
-slice-aggregate-quotients-are : tie.Need-slice-aggregate-quotients-are
-slice-aggregate-quotients-are c = search needs
-
-quotients-are-requires : tie.Need-quotients-are-requires
-quotients-are-requires c κs = search needs
 
 returns-3 : tie.Need-returns-3
 returns-3 c = λ g.
@@ -57,15 +30,15 @@ pub equation-met-spec : {M : Type 1} → statement M
 equation-met-spec =
     tie.close
     (tie.spec
-    cast-d
+    (λ c. search needs)
     returns
     returns-2
-    slice-aggregate-extend
-    extend-requires
-    slice-aggregate-accumulate
-    slice-aggregate-accumulate-2
-    accumulate-requires
-    left-requires
-    slice-aggregate-quotients-are
-    quotients-are-requires
+    (λ c. search needs)
+    (λ c κs. search needs)
+    (λ c. search needs)
+    (λ c. search needs)
+    (λ c κs. search needs)
+    (λ c κs. search needs)
+    (λ c. search needs)
+    (λ c κs. search needs)
     returns-3)

@@ -25,12 +25,6 @@ Inv-loop f d limit k₀ k = (k ≤ d) × (d ≤ length f) × (every k (λ (j : �
 abbrev μ-loop : tie.MeasureT-loop
 μ-loop f d limit k₀ k = d - k
 
-cast-d : tie.Need-cast-d Inv-loop μ-loop
-cast-d c = search needs
-
-left-bound-requires : tie.Need-left-bound-requires Inv-loop μ-loop
-left-bound-requires c κs = search needs
-
 -- the coefficient that the turn looks at
 abbrev coefficient : tie.In-loop Inv-loop μ-loop → ℤ
 coefficient c = getD (c .before .before .before .before .args .f .now) (c .before .loop .k) (pos 0)
@@ -45,15 +39,6 @@ limit-is c e = c .left-bound .ensures (record { allowed = e; most = le-refl _ })
 loop-holds : tie.Need-loop-holds Inv-loop μ-loop
 loop-holds c = (omega arith, omega arith, every-none _)
 
-mul-magnitude : tie.Need-mul-magnitude Inv-loop μ-loop
-mul-magnitude c = search needs
-
-shared-slice-copy-out-magnitude : tie.Need-shared-slice-copy-out-magnitude Inv-loop μ-loop
-shared-slice-copy-out-magnitude c = search needs
-
-magnitude-requires : tie.Need-magnitude-requires Inv-loop μ-loop
-magnitude-requires c κs = search needs
-
 returns : tie.Need-returns Inv-loop μ-loop
 unfolding finalBounded within signed
 returns c = λ e.
@@ -62,12 +47,6 @@ returns c = λ e.
     every-fails (λ j. within (w .left-bound .result) (signed (a .f .now) j)) (a .settings .degree) (c .before .before .before .before .loop .k) (omega arith)
     (ap (λ m. leb m (w .left-bound .result)) (size-is (c .before)) ∙ lt-leb _ _ (c .if1 .taken))
     ∙ ap (λ n. every (a .settings .degree) (λ j. within n (signed (a .f .now) j))) (limit-is w e)
-
-add-k : tie.Need-add-k Inv-loop μ-loop
-add-k c = search needs
-
-loop-less : tie.Need-loop-less Inv-loop μ-loop
-loop-less c = search needs
 
 loop-again : tie.Need-loop-again Inv-loop μ-loop
 unfolding within signed
@@ -93,14 +72,14 @@ final-bounded-spec =
     (tie.spec
     Inv-loop
     μ-loop
-    cast-d
-    left-bound-requires
+    (λ c. search needs)
+    (λ c κs. search needs)
     loop-holds
-    mul-magnitude
-    shared-slice-copy-out-magnitude
-    magnitude-requires
+    (λ c. search needs)
+    (λ c. search needs)
+    (λ c κs. search needs)
     returns
-    add-k
-    loop-less
+    (λ c. search needs)
+    (λ c. search needs)
     loop-again
     returns-2)

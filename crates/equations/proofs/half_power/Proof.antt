@@ -17,32 +17,14 @@ abbrev μ-loop : tie.MeasureT-loop
 returns : tie.Need-returns Inv-loop μ-loop
 returns c = λ h. absurd (omega arith)
 
-add-half : tie.Need-add-half Inv-loop μ-loop
-add-half c = search needs
-
-rem-power : tie.Need-rem-power Inv-loop μ-loop
-rem-power c = search needs
-
 loop-holds : tie.Need-loop-holds Inv-loop μ-loop
 loop-holds c = (omega arith, omega arith, mod-lt 1 (omega arith), ap (λ y. y % c .before .args .q) (sym (pow-zero ((c .before .args .q + 1) / 2))))
 
 mul-power : tie.Need-mul-power Inv-loop μ-loop
 mul-power c = omega (arith, mul-le-mul {n₁ = c .before .loop .power} {m₁ = (c .before .before .before .args .q + 1) / 2} {n₂ = 4294967295} {m₂ = 4294967295} (omega arith) (omega arith))
 
-rem-power-2 : tie.Need-rem-power-2 Inv-loop μ-loop
-rem-power-2 c = search needs
-
-add-i : tie.Need-add-i Inv-loop μ-loop
-add-i c = search needs
-
-loop-less : tie.Need-loop-less Inv-loop μ-loop
-loop-less c = search needs
-
 loop-again : tie.Need-loop-again Inv-loop μ-loop
 loop-again c = let l = c .before .loop in let a = c .before .before .before .args in (omega arith, omega arith, mod-lt _ (omega arith), power-next (a .q) ((a .q + 1) / 2) (l .power) (l .i) (omega arith) (l .inv .3))
-
-cast-result : tie.Need-cast-result Inv-loop μ-loop
-cast-result c = search needs
 
 returns-2 : tie.Need-returns-2 Inv-loop μ-loop
 returns-2 c = λ h. let l = c .before .loop in let a = c .before .before .before .args in l .inv .3 ∙ ap (λ n. ((a .q + 1) / 2) ^ n % a .q) (omega arith)
@@ -54,13 +36,13 @@ half-power-spec =
     Inv-loop
     μ-loop
     returns
-    add-half
-    rem-power
+    (λ c. search needs)
+    (λ c. search needs)
     loop-holds
     mul-power
-    rem-power-2
-    add-i
-    loop-less
+    (λ c. search needs)
+    (λ c. search needs)
+    (λ c. search needs)
     loop-again
-    cast-result
+    (λ c. search needs)
     returns-2)

@@ -14,21 +14,6 @@ use borrow.Author.Needs.{needs}
 use Rattle.equations.proofs.next_claim.Statement.{statement}
 use Rattle.equations.proofs.next_claim.Tie as tie
 
-slice-aggregate-value : tie.Need-slice-aggregate-value
-slice-aggregate-value c = search needs
-
-slice-aggregate-value-2 : tie.Need-slice-aggregate-value-2
-slice-aggregate-value-2 c = search needs
-
-slice-aggregate-value-3 : tie.Need-slice-aggregate-value-3
-slice-aggregate-value-3 c = search needs
-
-slice-aggregate-value-4 : tie.Need-slice-aggregate-value-4
-slice-aggregate-value-4 c = search needs
-
-value-requires : tie.Need-value-requires
-value-requires c κs = search needs
-
 returns : tie.Need-returns
 unfolding nextClaim reduced valueAt
 returns c = λ g.
@@ -49,9 +34,9 @@ pub next-claim-spec : {M : Type 1} → statement M
 next-claim-spec =
     tie.close
     (tie.spec
-    slice-aggregate-value
-    slice-aggregate-value-2
-    slice-aggregate-value-3
-    slice-aggregate-value-4
-    value-requires
+    (λ c. search needs)
+    (λ c. search needs)
+    (λ c. search needs)
+    (λ c. search needs)
+    (λ c κs. search needs)
     returns)

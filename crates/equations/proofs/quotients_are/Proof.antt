@@ -21,29 +21,8 @@ abbrev μ-loop : tie.MeasureT-loop
 loop-holds : tie.Need-loop-holds Inv-loop μ-loop
 loop-holds c = (omega arith, omega arith, omega arith, omega arith, every-none _)
 
-mul-quotient-is : tie.Need-mul-quotient-is Inv-loop μ-loop
-mul-quotient-is c = search needs
-
-shared-slice-read-quotient-is : tie.Need-shared-slice-read-quotient-is Inv-loop μ-loop
-shared-slice-read-quotient-is c = search needs
-
-mul-quotient-is-2 : tie.Need-mul-quotient-is-2 Inv-loop μ-loop
-mul-quotient-is-2 c = search needs
-
-shared-slice-read-quotient-is-2 : tie.Need-shared-slice-read-quotient-is-2 Inv-loop μ-loop
-shared-slice-read-quotient-is-2 c = search needs
-
-quotient-is-requires : tie.Need-quotient-is-requires Inv-loop μ-loop
-quotient-is-requires c κs = search needs
-
 returns : tie.Need-returns Inv-loop μ-loop
 returns c = let l = c .before .before .before .before .before .loop in every-fails _ _ (l .k) (omega arith) (sym (c .before .quotient-is .ensures) ∙ not-true _ (c .if1 .taken))
-
-add-k : tie.Need-add-k Inv-loop μ-loop
-add-k c = search needs
-
-loop-less : tie.Need-loop-less Inv-loop μ-loop
-loop-less c = search needs
 
 loop-again : tie.Need-loop-again Inv-loop μ-loop
 loop-again c = let l = c .before .before .before .before .before .loop in (omega arith, omega arith, omega arith, omega arith, every-goes-on _ (l .k) (l .inv .4) (sym (c .before .quotient-is .ensures) ∙ not-false _ (c .if1 .left)))
@@ -58,13 +37,13 @@ quotients-are-spec =
     Inv-loop
     μ-loop
     loop-holds
-    mul-quotient-is
-    shared-slice-read-quotient-is
-    mul-quotient-is-2
-    shared-slice-read-quotient-is-2
-    quotient-is-requires
+    (λ c. search needs)
+    (λ c. search needs)
+    (λ c. search needs)
+    (λ c. search needs)
+    (λ c κs. search needs)
     returns
-    add-k
-    loop-less
+    (λ c. search needs)
+    (λ c. search needs)
     loop-again
     returns-2)

@@ -21,9 +21,6 @@ Inv-loop claim c0 c2 q d k₀ k = (k ≤ d) × (d ≤ length claim) × (d ≤ le
 abbrev μ-loop : tie.MeasureT-loop
 μ-loop claim c0 c2 q d k₀ k = d - k
 
-cast-d : tie.Need-cast-d Inv-loop μ-loop
-cast-d c = search needs
-
 returns : tie.Need-returns Inv-loop μ-loop
 returns c = λ g. absurd (let r = ready _ (g .allowed) in omega arith)
 
@@ -39,36 +36,9 @@ returns-4 c = λ g. absurd (omega arith)
 loop-holds : tie.Need-loop-holds Inv-loop μ-loop
 loop-holds c = (omega arith, omega arith, omega arith, omega arith, omega arith, every-none _)
 
-mul-doubled-is : tie.Need-mul-doubled-is Inv-loop μ-loop
-mul-doubled-is c = search needs
-
-shared-slice-read-doubled-is : tie.Need-shared-slice-read-doubled-is Inv-loop μ-loop
-shared-slice-read-doubled-is c = search needs
-
-mul-doubled-is-2 : tie.Need-mul-doubled-is-2 Inv-loop μ-loop
-mul-doubled-is-2 c = search needs
-
-shared-slice-read-doubled-is-2 : tie.Need-shared-slice-read-doubled-is-2 Inv-loop μ-loop
-shared-slice-read-doubled-is-2 c = search needs
-
-mul-doubled-is-3 : tie.Need-mul-doubled-is-3 Inv-loop μ-loop
-mul-doubled-is-3 c = search needs
-
-shared-slice-read-doubled-is-3 : tie.Need-shared-slice-read-doubled-is-3 Inv-loop μ-loop
-shared-slice-read-doubled-is-3 c = search needs
-
-doubled-is-requires : tie.Need-doubled-is-requires Inv-loop μ-loop
-doubled-is-requires c κs = search needs
-
 returns-5 : tie.Need-returns-5 Inv-loop μ-loop
 unfolding roundHolds doubled modulo residue
 returns-5 c = λ g. let l = c .before .before .before .before .before .before .loop in every-fails _ _ (l .k) (omega arith) (sym (c .before .doubled-is .ensures) ∙ not-true _ (c .if5 .taken))
-
-add-k : tie.Need-add-k Inv-loop μ-loop
-add-k c = search needs
-
-loop-less : tie.Need-loop-less Inv-loop μ-loop
-loop-less c = search needs
 
 loop-again : tie.Need-loop-again Inv-loop μ-loop
 loop-again c = let l = c .before .before .before .before .before .before .loop in (omega arith, omega arith, omega arith, omega arith, omega arith, every-goes-on _ (l .k) (l .inv .5) (sym (c .before .doubled-is .ensures) ∙ not-false _ (c .if5 .left)))
@@ -83,21 +53,21 @@ round-met-spec =
     (tie.spec
     Inv-loop
     μ-loop
-    cast-d
+    (λ c. search needs)
     returns
     returns-2
     returns-3
     returns-4
     loop-holds
-    mul-doubled-is
-    shared-slice-read-doubled-is
-    mul-doubled-is-2
-    shared-slice-read-doubled-is-2
-    mul-doubled-is-3
-    shared-slice-read-doubled-is-3
-    doubled-is-requires
+    (λ c. search needs)
+    (λ c. search needs)
+    (λ c. search needs)
+    (λ c. search needs)
+    (λ c. search needs)
+    (λ c. search needs)
+    (λ c κs. search needs)
     returns-5
-    add-k
-    loop-less
+    (λ c. search needs)
+    (λ c. search needs)
     loop-again
     returns-6)

@@ -15,12 +15,6 @@ use borrow.Author.Needs.{needs}
 use Rattle.exports.proofs.wovenrock_check.Statement.{statement}
 use Rattle.exports.proofs.wovenrock_check.Tie as tie
 
-both-requires : tie.Need-both-requires
-both-requires c κs = search needs
-
-refusal-requires : tie.Need-refusal-requires
-refusal-requires c κs = search needs
-
 returns : tie.Need-returns
 unfolding checkNumber checkVerdict sized
 returns c =
@@ -32,18 +26,6 @@ returns c =
     let fits = sized (a .degree) (a .commitment .now) && sized (a .degree) (a .last .now) in
     let (p, q) = unfit S fits (answer .number) (verdictNumber (answer .verdict)) 0 _ (at-refusal .refusal .ensures ∙ ap (λ b. lent S b 0) (at-both .both .ensures)) (c .if1 .taken) in
     record { number = p; verdict-exit = q }
-
-residues-requires : tie.Need-residues-requires
-residues-requires c κs = search needs
-
-wholes-requires : tie.Need-wholes-requires
-wholes-requires c κs = search needs
-
-check-requires : tie.Need-check-requires
-check-requires c κs = search needs
-
-verdict-number-requires : tie.Need-verdict-number-requires
-verdict-number-requires c κs = search needs
 
 returns-2 : tie.Need-returns-2
 unfolding checkNumber checkVerdict checkAnswer sized
@@ -70,11 +52,11 @@ pub wovenrock-check-spec : {M : Type 1} → statement M
 wovenrock-check-spec =
     tie.close
     (tie.spec
-    both-requires
-    refusal-requires
+    (λ c κs. search needs)
+    (λ c κs. search needs)
     returns
-    residues-requires
-    wholes-requires
-    check-requires
-    verdict-number-requires
+    (λ c κs. search needs)
+    (λ c κs. search needs)
+    (λ c κs. search needs)
+    (λ c κs. search needs)
     returns-2)

@@ -12,9 +12,6 @@ use borrow.Author.Needs.{needs}
 use Rattle.exports.proofs.wovenrock_commit.Statement.{statement}
 use Rattle.exports.proofs.wovenrock_commit.Tie as tie
 
-refusal-requires : tie.Need-refusal-requires
-refusal-requires c κs = search needs
-
 returns : tie.Need-returns
 unfolding commitNumber commitExit sized
 returns c =
@@ -24,9 +21,6 @@ returns c =
     let answer = commitAnswer S (a .key .now) (a .message .now) in
     let (p, q) = unfit S (sized (a .degree) (a .commitment .now)) (answer .number) (take (a .degree) (answer .commitment)) (a .commitment .now) _ (at-refusal .refusal .ensures) (c .if1 .taken) in
     record { number = p; commitment-exit = q }
-
-commit-requires : tie.Need-commit-requires
-commit-requires c κs = search needs
 
 returns-2 : tie.Need-returns-2
 unfolding commitNumber commitExit sized
@@ -43,12 +37,6 @@ returns-2 c =
     (at-if1 .if1 .left)
     _ same (c .if2 .taken) in
     record { number = p; commitment-exit = q }
-
-store-residues-requires : tie.Need-store-residues-requires
-store-residues-requires c κs = search needs
-
-same-length : tie.Need-same-length
-same-length c = search needs
 
 returns-3 : tie.Need-returns-3
 unfolding commitNumber commitExit sized
@@ -75,10 +63,10 @@ pub wovenrock-commit-spec : {M : Type 1} → statement M
 wovenrock-commit-spec =
     tie.close
     (tie.spec
-    refusal-requires
+    (λ c κs. search needs)
     returns
-    commit-requires
+    (λ c κs. search needs)
     returns-2
-    store-residues-requires
-    same-length
+    (λ c κs. search needs)
+    (λ c. search needs)
     returns-3)

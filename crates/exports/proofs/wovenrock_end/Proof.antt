@@ -12,9 +12,6 @@ use borrow.Author.Needs.{needs}
 use Rattle.exports.proofs.wovenrock_end.Statement.{statement}
 use Rattle.exports.proofs.wovenrock_end.Tie as tie
 
-refusal-requires : tie.Need-refusal-requires
-refusal-requires c κs = search needs
-
 returns : tie.Need-returns
 unfolding endNumber endExit sized
 returns c =
@@ -23,9 +20,6 @@ returns c =
     let answer = endAnswer S (a .done) (a .message .now) in
     let (p, q) = unfit S (sized (a .degree) (a .last .now)) (answer .number) (take (a .degree) (answer .last)) (a .last .now) _ (c .before .refusal .ensures) (c .if1 .taken) in
     record { number = p; last-exit = q }
-
-end-requires : tie.Need-end-requires
-end-requires c κs = search needs
 
 returns-2 : tie.Need-returns-2
 unfolding endNumber endExit sized
@@ -41,12 +35,6 @@ returns-2 c =
     refused S (sized (a .degree) (a .last .now)) (answer .number) (take (a .degree) (answer .last)) (a .last .now) _ (at-refusal .refusal .ensures) (at-if1 .if1 .left)
     _ same (c .if2 .taken) in
     record { number = p; last-exit = q }
-
-store-wholes-requires : tie.Need-store-wholes-requires
-store-wholes-requires c κs = search needs
-
-same-length : tie.Need-same-length
-same-length c = search needs
 
 returns-3 : tie.Need-returns-3
 unfolding endNumber endExit sized
@@ -68,10 +56,10 @@ pub wovenrock-end-spec : {M : Type 1} → statement M
 wovenrock-end-spec =
     tie.close
     (tie.spec
-    refusal-requires
+    (λ c κs. search needs)
     returns
-    end-requires
+    (λ c κs. search needs)
     returns-2
-    store-wholes-requires
-    same-length
+    (λ c κs. search needs)
+    (λ c. search needs)
     returns-3)

@@ -12,12 +12,6 @@ use borrow.Author.Needs.{needs}
 use Rattle.exports.proofs.wovenrock_round.Statement.{statement}
 use Rattle.exports.proofs.wovenrock_round.Tie as tie
 
-mul-refusal : tie.Need-mul-refusal
-mul-refusal c = search needs
-
-refusal-requires : tie.Need-refusal-requires
-refusal-requires c κs = search needs
-
 returns : tie.Need-returns
 unfolding roundNumber roundExit sized
 returns c =
@@ -27,9 +21,6 @@ returns c =
     let answer = roundAnswer S (a .done) (a .key .now) (a .message .now) in
     let (p, q) = unfit S (sized (3 * a .degree) (a .polynomial .now)) (answer .number) (laid (a .degree) (answer .elements)) (a .polynomial .now) _ (at-refusal .refusal .ensures) (c .if1 .taken) in
     record { number = p; polynomial-exit = q }
-
-round-requires : tie.Need-round-requires
-round-requires c κs = search needs
 
 returns-2 : tie.Need-returns-2
 unfolding roundNumber roundExit sized
@@ -46,15 +37,6 @@ returns-2 c =
     (at-if1 .if1 .left)
     _ same (c .if2 .taken) in
     record { number = p; polynomial-exit = q }
-
-elements-of-requires : tie.Need-elements-of-requires
-elements-of-requires c κs = search needs
-
-store-polynomial-requires : tie.Need-store-polynomial-requires
-store-polynomial-requires c κs = search needs
-
-same-length : tie.Need-same-length
-same-length c = search needs
 
 returns-3 : tie.Need-returns-3
 unfolding roundNumber roundExit sized
@@ -83,12 +65,12 @@ pub wovenrock-round-spec : {M : Type 1} → statement M
 wovenrock-round-spec =
     tie.close
     (tie.spec
-    mul-refusal
-    refusal-requires
+    (λ c. search needs)
+    (λ c κs. search needs)
     returns
-    round-requires
+    (λ c κs. search needs)
     returns-2
-    elements-of-requires
-    store-polynomial-requires
-    same-length
+    (λ c κs. search needs)
+    (λ c κs. search needs)
+    (λ c. search needs)
     returns-3)

@@ -45,72 +45,6 @@ size3 c = let a = c .before .before .before .before .before .before .before .bef
 begin3 : (c : tie.After-row-start4) → let a = c .before .before .before .before .before .before .before .before .before .before .before .before .before .before .args in c .row-start4 .result ≡ start (a .d) (getD (a .f .now) (a .j + 3) (pos 0)) (a .j + 3)
 begin3 c = let a = c .before .before .before .before .before .before .before .before .before .before .before .before .before .before .args in begin (getD (a .f .now) (a .j + 3) (pos 0)) (c .before .before .before .before .before .before .before .before .c3 .given) (a .d) (a .j + 3) (c .row-start4 .ensures)
 
-mul-c0 : tie.Need-mul-c0
-mul-c0 c = search needs
-
-shared-slice-copy-out-c0 : tie.Need-shared-slice-copy-out-c0
-shared-slice-copy-out-c0 c = search needs
-
-add-c1 : tie.Need-add-c1
-add-c1 c = search needs
-
-mul-c1 : tie.Need-mul-c1
-mul-c1 c = search needs
-
-shared-slice-copy-out-c1 : tie.Need-shared-slice-copy-out-c1
-shared-slice-copy-out-c1 c = search needs
-
-add-c2 : tie.Need-add-c2
-add-c2 c = search needs
-
-mul-c2 : tie.Need-mul-c2
-mul-c2 c = search needs
-
-shared-slice-copy-out-c2 : tie.Need-shared-slice-copy-out-c2
-shared-slice-copy-out-c2 c = search needs
-
-add-c3 : tie.Need-add-c3
-add-c3 c = search needs
-
-mul-c3 : tie.Need-mul-c3
-mul-c3 c = search needs
-
-shared-slice-copy-out-c3 : tie.Need-shared-slice-copy-out-c3
-shared-slice-copy-out-c3 c = search needs
-
-magnitude-requires : tie.Need-magnitude-requires
-magnitude-requires c κs = search needs
-
-row-start-requires : tie.Need-row-start-requires
-row-start-requires c κs = search needs
-
-magnitude-requires-2 : tie.Need-magnitude-requires-2
-magnitude-requires-2 c κs = search needs
-
-add-row-start : tie.Need-add-row-start
-add-row-start c = search needs
-
-row-start-requires-2 : tie.Need-row-start-requires-2
-row-start-requires-2 c κs = search needs
-
-magnitude-requires-3 : tie.Need-magnitude-requires-3
-magnitude-requires-3 c κs = search needs
-
-add-row-start-2 : tie.Need-add-row-start-2
-add-row-start-2 c = search needs
-
-row-start-requires-3 : tie.Need-row-start-requires-3
-row-start-requires-3 c κs = search needs
-
-magnitude-requires-4 : tie.Need-magnitude-requires-4
-magnitude-requires-4 c κs = search needs
-
-add-row-start-3 : tie.Need-add-row-start-3
-add-row-start-3 c = search needs
-
-row-start-requires-4 : tie.Need-row-start-requires-4
-row-start-requires-4 c κs = search needs
-
 add-four-requires : tie.Need-add-four-requires
 add-four-requires c κs =
     let a = c .before .before .before .before .before .before .before .before .before .before .before .before .before .before .before .args in (
@@ -120,9 +54,6 @@ add-four-requires c κs =
       omega (arith, begin3 (c .before), start-most (a .d) (a .j + 3) (getD (a .f .now) (a .j + 3) (pos 0))),
       omega arith,
     )
-
-same-length : tie.Need-same-length
-same-length c = search needs
 
 returns : tie.Need-returns
 unfolding addFour
@@ -139,28 +70,28 @@ pub add-block-spec : {M : Type 1} → statement M
 add-block-spec =
     tie.close
     (tie.spec
-    mul-c0
-    shared-slice-copy-out-c0
-    add-c1
-    mul-c1
-    shared-slice-copy-out-c1
-    add-c2
-    mul-c2
-    shared-slice-copy-out-c2
-    add-c3
-    mul-c3
-    shared-slice-copy-out-c3
-    magnitude-requires
-    row-start-requires
-    magnitude-requires-2
-    add-row-start
-    row-start-requires-2
-    magnitude-requires-3
-    add-row-start-2
-    row-start-requires-3
-    magnitude-requires-4
-    add-row-start-3
-    row-start-requires-4
+    (λ c. search needs)
+    (λ c. search needs)
+    (λ c. search needs)
+    (λ c. search needs)
+    (λ c. search needs)
+    (λ c. search needs)
+    (λ c. search needs)
+    (λ c. search needs)
+    (λ c. search needs)
+    (λ c. search needs)
+    (λ c. search needs)
+    (λ c κs. search needs)
+    (λ c κs. search needs)
+    (λ c κs. search needs)
+    (λ c. search needs)
+    (λ c κs. search needs)
+    (λ c κs. search needs)
+    (λ c. search needs)
+    (λ c κs. search needs)
+    (λ c κs. search needs)
+    (λ c. search needs)
+    (λ c κs. search needs)
     add-four-requires
-    same-length
+    (λ c. search needs)
     returns)

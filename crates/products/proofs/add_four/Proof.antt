@@ -19,72 +19,6 @@ abbrev μ-loop : tie.MeasureT-loop
 loop-holds : tie.Need-loop-holds Inv-loop μ-loop
 loop-holds c = (omega arith, filled-none _ _, search needs)
 
-mul-plus-scaled : tie.Need-mul-plus-scaled Inv-loop μ-loop
-mul-plus-scaled c = search needs
-
-slice-read-plus-scaled : tie.Need-slice-read-plus-scaled Inv-loop μ-loop
-slice-read-plus-scaled c = search needs
-
-add-plus-scaled : tie.Need-add-plus-scaled Inv-loop μ-loop
-add-plus-scaled c = search needs
-
-mul-plus-scaled-2 : tie.Need-mul-plus-scaled-2 Inv-loop μ-loop
-mul-plus-scaled-2 c = search needs
-
-shared-slice-read-plus-scaled : tie.Need-shared-slice-read-plus-scaled Inv-loop μ-loop
-shared-slice-read-plus-scaled c = search needs
-
-plus-scaled-requires : tie.Need-plus-scaled-requires Inv-loop μ-loop
-plus-scaled-requires c κs = search needs
-
-add-plus-scaled-2 : tie.Need-add-plus-scaled-2 Inv-loop μ-loop
-add-plus-scaled-2 c = search needs
-
-mul-plus-scaled-3 : tie.Need-mul-plus-scaled-3 Inv-loop μ-loop
-mul-plus-scaled-3 c = search needs
-
-shared-slice-read-plus-scaled-2 : tie.Need-shared-slice-read-plus-scaled-2 Inv-loop μ-loop
-shared-slice-read-plus-scaled-2 c = search needs
-
-plus-scaled-requires-2 : tie.Need-plus-scaled-requires-2 Inv-loop μ-loop
-plus-scaled-requires-2 c κs = search needs
-
-add-plus-scaled-3 : tie.Need-add-plus-scaled-3 Inv-loop μ-loop
-add-plus-scaled-3 c = search needs
-
-mul-plus-scaled-4 : tie.Need-mul-plus-scaled-4 Inv-loop μ-loop
-mul-plus-scaled-4 c = search needs
-
-shared-slice-read-plus-scaled-3 : tie.Need-shared-slice-read-plus-scaled-3 Inv-loop μ-loop
-shared-slice-read-plus-scaled-3 c = search needs
-
-plus-scaled-requires-3 : tie.Need-plus-scaled-requires-3 Inv-loop μ-loop
-plus-scaled-requires-3 c κs = search needs
-
-add-plus-scaled-4 : tie.Need-add-plus-scaled-4 Inv-loop μ-loop
-add-plus-scaled-4 c = search needs
-
-mul-plus-scaled-5 : tie.Need-mul-plus-scaled-5 Inv-loop μ-loop
-mul-plus-scaled-5 c = search needs
-
-shared-slice-read-plus-scaled-4 : tie.Need-shared-slice-read-plus-scaled-4 Inv-loop μ-loop
-shared-slice-read-plus-scaled-4 c = search needs
-
-plus-scaled-requires-4 : tie.Need-plus-scaled-requires-4 Inv-loop μ-loop
-plus-scaled-requires-4 c κs = search needs
-
-mul-sums : tie.Need-mul-sums Inv-loop μ-loop
-mul-sums c = search needs
-
-slice-write-sums : tie.Need-slice-write-sums Inv-loop μ-loop
-slice-write-sums c = search needs
-
-add-k : tie.Need-add-k Inv-loop μ-loop
-add-k c = search needs
-
-loop-less : tie.Need-loop-less Inv-loop μ-loop
-loop-less c = search needs
-
 loop-again : tie.Need-loop-again Inv-loop μ-loop
 loop-again c =
     let l = c .before .before .before .before .before .before .before .before .before .before .loop in
@@ -94,9 +28,6 @@ loop-again c =
           (c .before .before .before .before .before .before .plus-scaled .ensures) (c .before .before .before .before .plus-scaled2 .ensures) (c .before .before .plus-scaled3 .ensures) (c .plus-scaled4 .ensures),
       simp length-set (omega arith),
     )
-
-same-length : tie.Need-same-length Inv-loop μ-loop
-same-length c = search needs
 
 returns : tie.Need-returns Inv-loop μ-loop
 returns c =
@@ -112,28 +43,28 @@ add-four-spec =
     Inv-loop
     μ-loop
     loop-holds
-    mul-plus-scaled
-    slice-read-plus-scaled
-    add-plus-scaled
-    mul-plus-scaled-2
-    shared-slice-read-plus-scaled
-    plus-scaled-requires
-    add-plus-scaled-2
-    mul-plus-scaled-3
-    shared-slice-read-plus-scaled-2
-    plus-scaled-requires-2
-    add-plus-scaled-3
-    mul-plus-scaled-4
-    shared-slice-read-plus-scaled-3
-    plus-scaled-requires-3
-    add-plus-scaled-4
-    mul-plus-scaled-5
-    shared-slice-read-plus-scaled-4
-    plus-scaled-requires-4
-    mul-sums
-    slice-write-sums
-    add-k
-    loop-less
+    (λ c. search needs)
+    (λ c. search needs)
+    (λ c. search needs)
+    (λ c. search needs)
+    (λ c. search needs)
+    (λ c κs. search needs)
+    (λ c. search needs)
+    (λ c. search needs)
+    (λ c. search needs)
+    (λ c κs. search needs)
+    (λ c. search needs)
+    (λ c. search needs)
+    (λ c. search needs)
+    (λ c κs. search needs)
+    (λ c. search needs)
+    (λ c. search needs)
+    (λ c. search needs)
+    (λ c κs. search needs)
+    (λ c. search needs)
+    (λ c. search needs)
+    (λ c. search needs)
+    (λ c. search needs)
     loop-again
-    same-length
+    (λ c. search needs)
     returns)

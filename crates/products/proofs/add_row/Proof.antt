@@ -19,36 +19,6 @@ abbrev μ-loop : tie.MeasureT-loop
 loop-holds : tie.Need-loop-holds Inv-loop μ-loop
 loop-holds c = (omega arith, filled-none _ _, search needs)
 
-mul-plus-scaled : tie.Need-mul-plus-scaled Inv-loop μ-loop
-mul-plus-scaled c = search needs
-
-slice-read-plus-scaled : tie.Need-slice-read-plus-scaled Inv-loop μ-loop
-slice-read-plus-scaled c = search needs
-
-add-plus-scaled : tie.Need-add-plus-scaled Inv-loop μ-loop
-add-plus-scaled c = search needs
-
-mul-plus-scaled-2 : tie.Need-mul-plus-scaled-2 Inv-loop μ-loop
-mul-plus-scaled-2 c = search needs
-
-shared-slice-read-plus-scaled : tie.Need-shared-slice-read-plus-scaled Inv-loop μ-loop
-shared-slice-read-plus-scaled c = search needs
-
-plus-scaled-requires : tie.Need-plus-scaled-requires Inv-loop μ-loop
-plus-scaled-requires c κs = search needs
-
-mul-sums : tie.Need-mul-sums Inv-loop μ-loop
-mul-sums c = search needs
-
-slice-write-sums : tie.Need-slice-write-sums Inv-loop μ-loop
-slice-write-sums c = search needs
-
-add-k : tie.Need-add-k Inv-loop μ-loop
-add-k c = search needs
-
-loop-less : tie.Need-loop-less Inv-loop μ-loop
-loop-less c = search needs
-
 loop-again : tie.Need-loop-again Inv-loop μ-loop
 loop-again c =
     let l = c .before .before .before .before .loop in
@@ -57,9 +27,6 @@ loop-again c =
       row-turn (a .m) (a .at) (narrowed (a .x .now)) (a .sums .now) (l .sums) (l .k) _ (l .inv .1) (omega arith) (c .plus-scaled .ensures ∙ cell-narrowed (getD (l .sums) (l .k) 0) (a .m) (a .at) (a .x .now) (l .k)),
       simp length-set (omega arith),
     )
-
-same-length : tie.Need-same-length Inv-loop μ-loop
-same-length c = search needs
 
 returns : tie.Need-returns Inv-loop μ-loop
 returns c =
@@ -75,16 +42,16 @@ add-row-spec =
     Inv-loop
     μ-loop
     loop-holds
-    mul-plus-scaled
-    slice-read-plus-scaled
-    add-plus-scaled
-    mul-plus-scaled-2
-    shared-slice-read-plus-scaled
-    plus-scaled-requires
-    mul-sums
-    slice-write-sums
-    add-k
-    loop-less
+    (λ c. search needs)
+    (λ c. search needs)
+    (λ c. search needs)
+    (λ c. search needs)
+    (λ c. search needs)
+    (λ c κs. search needs)
+    (λ c. search needs)
+    (λ c. search needs)
+    (λ c. search needs)
+    (λ c. search needs)
     loop-again
-    same-length
+    (λ c. search needs)
     returns)

@@ -19,18 +19,6 @@ loop-holds : tie.Need-loop-holds Inv-loop μ-loop
 unfolding addRows
 loop-holds c = (omega arith, refl, search needs)
 
-add-loop : tie.Need-add-loop Inv-loop μ-loop
-add-loop c = search needs
-
-add-block-requires : tie.Need-add-block-requires Inv-loop μ-loop
-add-block-requires c κs = search needs
-
-add-j : tie.Need-add-j Inv-loop μ-loop
-add-j c = search needs
-
-loop-less : tie.Need-loop-less Inv-loop μ-loop
-loop-less c = search needs
-
 loop-again : tie.Need-loop-again Inv-loop μ-loop
 loop-again c =
     let l = c .before .before .before .before .before .loop in
@@ -39,12 +27,6 @@ loop-again c =
       c .before .before .add-block .ensures ∙ ap (addFour (a .d) (a .f .now) (narrowed (a .x .now)) (l .j)) (l .inv .1) ∙ four-more (a .d) (a .f .now) (narrowed (a .x .now)) (l .j) (a .sums .now),
       c .before .before .add-block .kept .1 .1 .1 .1 .0 ∙ l .inv .2,
     )
-
-add-rest-requires : tie.Need-add-rest-requires Inv-loop μ-loop
-add-rest-requires c κs = search needs
-
-same-length : tie.Need-same-length Inv-loop μ-loop
-same-length c = search needs
 
 returns : tie.Need-returns Inv-loop μ-loop
 returns c = c .before .before .add-rest .ensures _ (c .before .before .before .before .before .loop .inv .1)
@@ -56,11 +38,11 @@ add-rows-spec =
     Inv-loop
     μ-loop
     loop-holds
-    add-loop
-    add-block-requires
-    add-j
-    loop-less
+    (λ c. search needs)
+    (λ c κs. search needs)
+    (λ c. search needs)
+    (λ c. search needs)
     loop-again
-    add-rest-requires
-    same-length
+    (λ c κs. search needs)
+    (λ c. search needs)
     returns)

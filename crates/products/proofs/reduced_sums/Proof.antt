@@ -28,27 +28,6 @@ returns-3 c = λ g. absurd (omega arith)
 loop-holds : tie.Need-loop-holds Inv-loop μ-loop
 loop-holds c = (omega arith, omega arith, omega arith, omega arith, fill-none 64 _)
 
-mul-remainder : tie.Need-mul-remainder Inv-loop μ-loop
-mul-remainder c = search needs
-
-shared-slice-read-remainder : tie.Need-shared-slice-read-remainder Inv-loop μ-loop
-shared-slice-read-remainder c = search needs
-
-remainder-requires : tie.Need-remainder-requires Inv-loop μ-loop
-remainder-requires c κs = search needs
-
-mul-a : tie.Need-mul-a Inv-loop μ-loop
-mul-a c = search needs
-
-array-write-a : tie.Need-array-write-a Inv-loop μ-loop
-array-write-a c = search needs
-
-add-k : tie.Need-add-k Inv-loop μ-loop
-add-k c = search needs
-
-loop-less : tie.Need-loop-less Inv-loop μ-loop
-loop-less c = search needs
-
 loop-again : tie.Need-loop-again Inv-loop μ-loop
 loop-again c =
     let l = c .before .before .before .loop in
@@ -68,12 +47,12 @@ reduced-sums-spec =
     returns-2
     returns-3
     loop-holds
-    mul-remainder
-    shared-slice-read-remainder
-    remainder-requires
-    mul-a
-    array-write-a
-    add-k
-    loop-less
+    (λ c. search needs)
+    (λ c. search needs)
+    (λ c κs. search needs)
+    (λ c. search needs)
+    (λ c. search needs)
+    (λ c. search needs)
+    (λ c. search needs)
     loop-again
     returns-4)

@@ -22,18 +22,9 @@ given c = commit-given _ _ _ (passed c)
 all : (c : tie.After-left) → c .left .result ≡ left (c .before .before .before .before .args .settings) 0
 all c = c .left .ensures (record { allowed = given (c .before) .tables .allowed; most = omega arith })
 
-commit-requires : tie.Need-commit-requires
-commit-requires c κs = search needs
-
 returns : tie.Need-returns
 unfolding zeros width
 returns c = let a = c .before .before .before .args in commit-refused (a .settings) (a .key .now) (a .message .now) _ (c .before .commit .ensures) (c .if1 .taken)
-
-left-requires : tie.Need-left-requires
-left-requires c κs = search needs
-
-slice-aggregate-add-inner : tie.Need-slice-aggregate-add-inner
-slice-aggregate-add-inner c = search needs
 
 add-inner-requires : tie.Need-add-inner-requires
 add-inner-requires c κs =
@@ -41,12 +32,6 @@ add-inner-requires c κs =
     let a = n .before .before .before .before .args in
     let g = given (n .before) in
     (rw (all n) (commit-tables (a .settings) (a .key .now) (a .message .now) g), omega (arith, degree-most (a .settings) (g .tables .settings)))
-
-slice-aggregate-reduced-sums : tie.Need-slice-aggregate-reduced-sums
-slice-aggregate-reduced-sums c = search needs
-
-reduced-sums-requires : tie.Need-reduced-sums-requires
-reduced-sums-requires c κs = search needs
 
 returns-2 : tie.Need-returns-2
 unfolding zeros
@@ -65,11 +50,11 @@ pub commit-spec : {M : Type 1} → statement M
 commit-spec =
     tie.close
     (tie.spec
-    commit-requires
+    (λ c κs. search needs)
     returns
-    left-requires
-    slice-aggregate-add-inner
+    (λ c κs. search needs)
+    (λ c. search needs)
     add-inner-requires
-    slice-aggregate-reduced-sums
-    reduced-sums-requires
+    (λ c. search needs)
+    (λ c κs. search needs)
     returns-2)

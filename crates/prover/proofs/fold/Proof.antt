@@ -38,29 +38,8 @@ foldable c =
       };
     })
 
-fold-requires : tie.Need-fold-requires
-fold-requires c κs = search needs
-
-same-length : tie.Need-same-length
-same-length c = search needs
-
-same-length-2 : tie.Need-same-length-2
-same-length-2 c = search needs
-
 returns : tie.Need-returns
 returns c = let a = c .before .before .before .before .before .args in fold-refused (a .settings) (a .done) (a .e) (a .key .now) (a .message .now) _ (c .before .fold .ensures) (c .if1 .taken)
-
-half-left-requires : tie.Need-half-left-requires
-half-left-requires c κs = search needs
-
-fold-residues-requires : tie.Need-fold-residues-requires
-fold-residues-requires c κs = search needs
-
-cast-fold-message : tie.Need-cast-fold-message
-cast-fold-message c = search needs
-
-cast-fold-message-2 : tie.Need-cast-fold-message-2
-cast-fold-message-2 c = search needs
 
 fold-message-requires : tie.Need-fold-message-requires
 fold-message-requires c κs =
@@ -72,12 +51,6 @@ fold-message-requires c κs =
       (omega (arith, degree-least S ok), degree-most S ok, omega (arith, half-is h, half-most S ok (a .done) (g .turn)), g .exponent-below),
       rw (half-is h) (omega (arith, halves-inside S ok (a .done) (g .turn), g .tables .message-long), left-room S ok (a .done) (g .turn) (a .message .now) (g .small-left)),
     )
-
-same-length-3 : tie.Need-same-length-3
-same-length-3 c = search needs
-
-same-length-4 : tie.Need-same-length-4
-same-length-4 c = search needs
 
 returns-2 : tie.Need-returns-2
 returns-2 c =
@@ -91,15 +64,15 @@ pub fold-spec : {M : Type 1} → statement M
 fold-spec =
     tie.close
     (tie.spec
-    fold-requires
-    same-length
-    same-length-2
+    (λ c κs. search needs)
+    (λ c. search needs)
+    (λ c. search needs)
     returns
-    half-left-requires
-    fold-residues-requires
-    cast-fold-message
-    cast-fold-message-2
+    (λ c κs. search needs)
+    (λ c κs. search needs)
+    (λ c. search needs)
+    (λ c. search needs)
     fold-message-requires
-    same-length-3
-    same-length-4
+    (λ c. search needs)
+    (λ c. search needs)
     returns-2)

@@ -22,30 +22,15 @@ given c = round-given _ _ _ _ (passed c)
 half-is : (c : tie.After-half-left) → let a = c .before .before .before .before .args in c .half-left .result ≡ halfLeft (a .settings) (a .done)
 half-is c = c .half-left .ensures (record { allowed = given (c .before) .tables .allowed; turn = given (c .before) .turn })
 
-round-requires : tie.Need-round-requires
-round-requires c κs = search needs
-
-polynomial-of-requires : tie.Need-polynomial-of-requires
-polynomial-of-requires c κs = search needs
-
 returns : tie.Need-returns
 unfolding noPolynomial tabulate zeros width
 returns c = let a = c .before .before .before .before .args in round-refused (a .settings) (a .done) (a .key .now) (a .message .now) _ _ (c .before .before .round .ensures) (c .before .if1 .taken) (c .polynomial-of .ensures .0) (c .polynomial-of .ensures .1)
 
-half-left-requires : tie.Need-half-left-requires
-half-left-requires c κs = search needs
-
 add-half-power : tie.Need-add-half-power
 add-half-power c = let g = given (c .before) in omega (arith, g .turn, g .tables .settings .depth-most)
 
-half-power-requires : tie.Need-half-power-requires
-half-power-requires c κs = search needs
-
 polynomial-requires : tie.Need-polynomial-requires
 polynomial-requires c κs = let h = c .before in let a = h .before .before .before .before .args in rw (half-is h) (round-tables (a .settings) (a .done) (a .key .now) (a .message .now) (given (h .before)))
-
-polynomial-of-requires-2 : tie.Need-polynomial-of-requires-2
-polynomial-of-requires-2 c κs = search needs
 
 returns-2 : tie.Need-returns-2
 returns-2 c =
@@ -63,12 +48,12 @@ pub round-spec : {M : Type 1} → statement M
 round-spec =
     tie.close
     (tie.spec
-    round-requires
-    polynomial-of-requires
+    (λ c κs. search needs)
+    (λ c κs. search needs)
     returns
-    half-left-requires
+    (λ c κs. search needs)
     add-half-power
-    half-power-requires
+    (λ c κs. search needs)
     polynomial-requires
-    polynomial-of-requires-2
+    (λ c κs. search needs)
     returns-2)

@@ -14,18 +14,6 @@ within : (c : tie.Else1) → c .before .before .prove .result .count ≤ length 
 unfolding textLimit
 within c = let p = c .before .before in listing-within _ _ _ (p .prove .result) (p .prove .ensures) (search needs) (c .if1 .left)
 
-slice-aggregate-prove : tie.Need-slice-aggregate-prove
-slice-aggregate-prove c = search needs
-
-prove-requires : tie.Need-prove-requires
-prove-requires c κs = search needs
-
-show-refusal-requires : tie.Need-show-refusal-requires
-show-refusal-requires c κs = search needs
-
-same-length : tie.Need-same-length
-same-length c = search needs
-
 returns : tie.Need-returns
 unfolding textLimit
 returns c =
@@ -40,12 +28,6 @@ array-share-prefix-listing c = within c
 slice-aggregate-show : tie.Need-slice-aggregate-show
 slice-aggregate-show c = sym (length-take-le _ _ (within (c .before)))
 
-show-requires : tie.Need-show-requires
-show-requires c κs = search needs
-
-same-length-2 : tie.Need-same-length-2
-same-length-2 c = search needs
-
 returns-2 : tie.Need-returns-2
 unfolding textLimit
 returns-2 c =
@@ -58,13 +40,13 @@ pub print-spec : {M : Type 1} → statement M
 print-spec =
     tie.close
     (tie.spec
-    slice-aggregate-prove
-    prove-requires
-    show-refusal-requires
-    same-length
+    (λ c. search needs)
+    (λ c κs. search needs)
+    (λ c κs. search needs)
+    (λ c. search needs)
     returns
     array-share-prefix-listing
     slice-aggregate-show
-    show-requires
-    same-length-2
+    (λ c κs. search needs)
+    (λ c. search needs)
     returns-2)

@@ -50,27 +50,6 @@ module _ (c : tie.After-open) where
   rounds-given : c .«open» .last .1 .1 .1 .1 .0 ≡ roundTable S E G M
   rounds-given = c .«open» .ensures .rounds-exit ∙ opening-rounds (given S G M E R ok) R (ok .rounds-long)
 
-open-requires : tie.Need-open-requires
-open-requires c κs = search needs
-
-cast-degree : tie.Need-cast-degree
-cast-degree c = search needs
-
-prints-requires : tie.Need-prints-requires
-prints-requires c κs = search needs
-
-array-share-prefix-no-key : tie.Need-array-share-prefix-no-key
-array-share-prefix-no-key c = search needs
-
-slice-aggregate-write : tie.Need-slice-aggregate-write
-slice-aggregate-write c = search needs
-
-array-share-prefix-no-message : tie.Need-array-share-prefix-no-message
-array-share-prefix-no-message c = search needs
-
-slice-aggregate-write-2 : tie.Need-slice-aggregate-write-2
-slice-aggregate-write-2 c = search needs
-
 array-share-prefix-commitment : tie.Need-array-share-prefix-commitment
 array-share-prefix-commitment c = commitment-given (c .before .before .before .before .before .before .before .before .before .before .before) .0
 
@@ -82,21 +61,6 @@ array-share-prefix-last c = last-given (c .before .before .before .before .befor
 
 slice-aggregate-write-4 : tie.Need-slice-aggregate-write-4
 slice-aggregate-write-4 c = sym (length-take-le _ _ (last-given (c .before .before .before .before .before .before .before .before .before .before .before .before .before .before) .0))
-
-write-requires : tie.Need-write-requires
-write-requires c κs = search needs
-
-same-length : tie.Need-same-length
-same-length c = search needs
-
-same-length-2 : tie.Need-same-length-2
-same-length-2 c = search needs
-
-same-length-3 : tie.Need-same-length-3
-same-length-3 c = search needs
-
-same-length-4 : tie.Need-same-length-4
-same-length-4 c = search needs
 
 returns : tie.Need-returns
 unfolding printed transcriptOf
@@ -115,20 +79,20 @@ pub print-opening-spec : {M : Type 1} → statement M
 print-opening-spec =
     tie.close
     (tie.spec
-    open-requires
-    cast-degree
-    prints-requires
-    array-share-prefix-no-key
-    slice-aggregate-write
-    array-share-prefix-no-message
-    slice-aggregate-write-2
+    (λ c κs. search needs)
+    (λ c. search needs)
+    (λ c κs. search needs)
+    (λ c. search needs)
+    (λ c. search needs)
+    (λ c. search needs)
+    (λ c. search needs)
     array-share-prefix-commitment
     slice-aggregate-write-3
     array-share-prefix-last
     slice-aggregate-write-4
-    write-requires
-    same-length
-    same-length-2
-    same-length-3
-    same-length-4
+    (λ c κs. search needs)
+    (λ c. search needs)
+    (λ c. search needs)
+    (λ c. search needs)
+    (λ c. search needs)
     returns)

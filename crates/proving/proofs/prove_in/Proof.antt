@@ -57,39 +57,6 @@ module _ (c : tie.Else1) where
       let last : length (t′ got .last) ≡ 0 = search needs in
       λ j. record { key = key j; message = message j; commitment = commitment j; rounds = rounds j; challenges = challenges j; last = last j }
 
-reads-requires : tie.Need-reads-requires
-reads-requires c κs = search needs
-
-array-borrow-prefix-no-commitment : tie.Need-array-borrow-prefix-no-commitment
-array-borrow-prefix-no-commitment c = search needs
-
-slice-aggregate-read : tie.Need-slice-aggregate-read
-slice-aggregate-read c = search needs
-
-array-borrow-prefix-no-rounds : tie.Need-array-borrow-prefix-no-rounds
-array-borrow-prefix-no-rounds c = search needs
-
-slice-aggregate-read-2 : tie.Need-slice-aggregate-read-2
-slice-aggregate-read-2 c = search needs
-
-array-borrow-prefix-no-last : tie.Need-array-borrow-prefix-no-last
-array-borrow-prefix-no-last c = search needs
-
-slice-aggregate-read-3 : tie.Need-slice-aggregate-read-3
-slice-aggregate-read-3 c = search needs
-
-read-requires : tie.Need-read-requires
-read-requires c κs = search needs
-
-same-length : tie.Need-same-length
-same-length c = search needs
-
-same-length-2 : tie.Need-same-length-2
-same-length-2 c = search needs
-
-same-length-3 : tie.Need-same-length-3
-same-length-3 c = search needs
-
 returns : tie.Need-returns
 returns c =
     let r = c .before .before .before .before .before .before .before .before .before in
@@ -105,21 +72,6 @@ print-opening-requires c κs =
     (entries-passed (text r) proveReads (t r) (t′ r) (fit r) (r .read .result) (promise r) (e .if1 .left))
     (start r .pre .1 (settings-unrefused (text r) proveReads (t r) (t′ r) (fit r) (r .read .result) (promise r) (e .if1 .left)) ∙ sym (ap (λ (x : Settings). 3 * x .depth * x .degree) (same-settings e)))
 
-same-length-4 : tie.Need-same-length-4
-same-length-4 c = search needs
-
-same-length-5 : tie.Need-same-length-5
-same-length-5 c = search needs
-
-same-length-6 : tie.Need-same-length-6
-same-length-6 c = search needs
-
-same-length-7 : tie.Need-same-length-7
-same-length-7 c = search needs
-
-same-length-8 : tie.Need-same-length-8
-same-length-8 c = search needs
-
 returns-2 : tie.Need-returns-2
 returns-2 c =
     let p = c .before .before .before .before .before .before .before in
@@ -134,22 +86,22 @@ pub prove-in-spec : {M : Type 1} → statement M
 prove-in-spec =
     tie.close
     (tie.spec
-    reads-requires
-    array-borrow-prefix-no-commitment
-    slice-aggregate-read
-    array-borrow-prefix-no-rounds
-    slice-aggregate-read-2
-    array-borrow-prefix-no-last
-    slice-aggregate-read-3
-    read-requires
-    same-length
-    same-length-2
-    same-length-3
+    (λ c κs. search needs)
+    (λ c. search needs)
+    (λ c. search needs)
+    (λ c. search needs)
+    (λ c. search needs)
+    (λ c. search needs)
+    (λ c. search needs)
+    (λ c κs. search needs)
+    (λ c. search needs)
+    (λ c. search needs)
+    (λ c. search needs)
     returns
     print-opening-requires
-    same-length-4
-    same-length-5
-    same-length-6
-    same-length-7
-    same-length-8
+    (λ c. search needs)
+    (λ c. search needs)
+    (λ c. search needs)
+    (λ c. search needs)
+    (λ c. search needs)
     returns-2)

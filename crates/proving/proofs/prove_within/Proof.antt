@@ -69,9 +69,6 @@ module _ (c : tie.After-cells) where
   rounds-room : 3 * S .depth * S .degree ≤ length (start .args .rounds .now)
   rounds-room = omega (arith, rounds-most, start .pre .3)
 
-allowed-settings-requires : tie.Need-allowed-settings-requires
-allowed-settings-requires c κs = search needs
-
 returns : tie.Need-returns
 returns c =
     let l = c .before in
@@ -79,18 +76,6 @@ returns c =
     let r = l .allowed-settings .result in
     prove-refused (a .text .now) (a .out .now) (r .number) (c .if1 .taken)
     (look-refusal (a .text .now) r (begun (a .text .now) r (l .allowed-settings .ensures) .refused (c .if1 .taken)) proveReads (c .if1 .taken))
-
-cast-degree : tie.Need-cast-degree
-cast-degree c = search needs
-
-cast-depth : tie.Need-cast-depth
-cast-depth c = search needs
-
-cells-requires : tie.Need-cells-requires
-cells-requires c κs = search needs
-
-mul-elements : tie.Need-mul-elements
-mul-elements c = search needs
 
 mul-elements-2 : tie.Need-mul-elements-2
 mul-elements-2 c = record { fits = omega (arith, rounds-most c) }
@@ -131,34 +116,16 @@ prove-in-requires c κs =
       λ e. length-take-le _ _ (rounds-room k) ∙ ap (λ (x : Settings). 3 * x .depth * x .degree) (same-settings k e),
     )
 
-same-length : tie.Need-same-length
-same-length c = search needs
-
-same-length-2 : tie.Need-same-length-2
-same-length-2 c = search needs
-
-same-length-3 : tie.Need-same-length-3
-same-length-3 c = search needs
-
-same-length-4 : tie.Need-same-length-4
-same-length-4 c = search needs
-
-same-length-5 : tie.Need-same-length-5
-same-length-5 c = search needs
-
-returns-2 : tie.Need-returns-2
-returns-2 c = search needs
-
 pub prove-within-spec : {M : Type 1} → statement M
 prove-within-spec =
     tie.close
     (tie.spec
-    allowed-settings-requires
+    (λ c κs. search needs)
     returns
-    cast-degree
-    cast-depth
-    cells-requires
-    mul-elements
+    (λ c. search needs)
+    (λ c. search needs)
+    (λ c κs. search needs)
+    (λ c. search needs)
     mul-elements-2
     slice-relend-prefix-prove-in
     slice-aggregate-prove-in
@@ -169,9 +136,9 @@ prove-within-spec =
     slice-relend-prefix-prove-in-4
     slice-aggregate-prove-in-4
     prove-in-requires
-    same-length
-    same-length-2
-    same-length-3
-    same-length-4
-    same-length-5
-    returns-2)
+    (λ c. search needs)
+    (λ c. search needs)
+    (λ c. search needs)
+    (λ c. search needs)
+    (λ c. search needs)
+    (λ c. search needs))

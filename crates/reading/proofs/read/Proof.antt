@@ -32,17 +32,8 @@ module _ (c : tie.After-gather) where
   unfolding lengthsOf
   gathered = c .gather .ensures
 
-slice-aggregate-gather : tie.Need-slice-aggregate-gather
-slice-aggregate-gather c = search needs
-
-gather-requires : tie.Need-gather-requires
-gather-requires c κs = search needs
-
 returns : tie.Need-returns
 returns c = let g = c .before .before .before in read-refused (P g) (text g) (t g) (g .gather .result) (values g) (gathered g) (c .if1 .taken)
-
-slice-aggregate-refusal : tie.Need-slice-aggregate-refusal
-slice-aggregate-refusal c = search needs
 
 refusal-requires : tie.Need-refusal-requires
 unfolding lengthsOf
@@ -52,9 +43,6 @@ refusal-requires c κs =
     let none = c .before .if1 .left in
     (read-allowed (P g) (text g) (t g) r (values g) (gathered g) none, read-room (P g) (text g) (t g) r (values g) (gathered g) none)
 
-refused-requires : tie.Need-refused-requires
-refused-requires c κs = search needs
-
 returns-2 : tie.Need-returns-2
 unfolding lengthsOf
 returns-2 c =
@@ -63,33 +51,12 @@ returns-2 c =
     read-refused-entries (P g) (text g) (t g) (g .gather .result) (values g) (gathered g) (f .before .before .if1 .left) (f .refusal .result) (f .refusal .ensures) (c .refused .result) (c .refused .ensures)
     (c .before .if2 .taken)
 
-slice-aggregate-all : tie.Need-slice-aggregate-all
-slice-aggregate-all c = search needs
-
 all-requires : tie.Need-all-requires
 unfolding lengthsOf
 all-requires c κs =
     let f = c .before .before .before .before .before .before .before .before in
     let g = f .before .before .before .before .before in
     read-room (P g) (text g) (t g) (g .gather .result) (values g) (gathered g) (f .before .before .if1 .left)
-
-same-length : tie.Need-same-length
-same-length c = search needs
-
-same-length-2 : tie.Need-same-length-2
-same-length-2 c = search needs
-
-same-length-3 : tie.Need-same-length-3
-same-length-3 c = search needs
-
-same-length-4 : tie.Need-same-length-4
-same-length-4 c = search needs
-
-same-length-5 : tie.Need-same-length-5
-same-length-5 c = search needs
-
-same-length-6 : tie.Need-same-length-6
-same-length-6 c = search needs
 
 returns-3 : tie.Need-returns-3
 unfolding lengthsOf
@@ -104,19 +71,19 @@ pub read-spec : {M : Type 1} → statement M
 read-spec =
     tie.close
     (tie.spec
-    slice-aggregate-gather
-    gather-requires
+    (λ c. search needs)
+    (λ c κs. search needs)
     returns
-    slice-aggregate-refusal
+    (λ c. search needs)
     refusal-requires
-    refused-requires
+    (λ c κs. search needs)
     returns-2
-    slice-aggregate-all
+    (λ c. search needs)
     all-requires
-    same-length
-    same-length-2
-    same-length-3
-    same-length-4
-    same-length-5
-    same-length-6
+    (λ c. search needs)
+    (λ c. search needs)
+    (λ c. search needs)
+    (λ c. search needs)
+    (λ c. search needs)
+    (λ c. search needs)
     returns-3)

@@ -20,24 +20,6 @@ use Rattle.sessions.proofs.end.Tie as tie
 returns : tie.Need-returns
 returns c = move-nowhere _ _ (c .before .before .before .args .session .now) (c .if1 .taken)
 
-load-requires : tie.Need-load-requires
-load-requires c κs = search needs
-
-cast-both : tie.Need-cast-both
-cast-both c = search needs
-
-slice-read-both : tie.Need-slice-read-both
-slice-read-both c = search needs
-
-both-requires : tie.Need-both-requires
-both-requires c κs = search needs
-
-refusal-requires : tie.Need-refusal-requires
-refusal-requires c κs = search needs
-
-same-length : tie.Need-same-length
-same-length c = search needs
-
 returns-2 : tie.Need-returns-2
 unfolding lastFits flagged sized
 returns-2 c =
@@ -47,18 +29,6 @@ returns-2 c =
     ap (λ b. lent (loaded .result .settings) b 0) (c .before .before .both .ensures)
     ∙ ap (λ (s : Session). lent (s .settings) (eqb (length (a .last .now)) (s .settings .degree) && leb (getD (a .session .now) 5 0) 1) 0) (loaded .ensures) in
     move-refused _ _ (a .session .now) (c .before .before .before .before .before .before .before .if1 .left) _ (c .before .refusal .ensures ∙ lengths) (c .if2 .taken)
-
-wholes-requires : tie.Need-wholes-requires
-wholes-requires c κs = search needs
-
-end-requires : tie.Need-end-requires
-end-requires c κs = search needs
-
-answer-requires : tie.Need-answer-requires
-answer-requires c κs = search needs
-
-same-length-2 : tie.Need-same-length-2
-same-length-2 c = search needs
 
 returns-3 : tie.Need-returns-3
 unfolding lastFits endOn flagged sized
@@ -93,15 +63,15 @@ end-spec =
     tie.close
     (tie.spec
     returns
-    load-requires
-    cast-both
-    slice-read-both
-    both-requires
-    refusal-requires
-    same-length
+    (λ c κs. search needs)
+    (λ c. search needs)
+    (λ c. search needs)
+    (λ c κs. search needs)
+    (λ c κs. search needs)
+    (λ c. search needs)
     returns-2
-    wholes-requires
-    end-requires
-    answer-requires
-    same-length-2
+    (λ c κs. search needs)
+    (λ c κs. search needs)
+    (λ c κs. search needs)
+    (λ c. search needs)
     returns-3)

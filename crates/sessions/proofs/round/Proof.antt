@@ -18,27 +18,6 @@ use Rattle.sessions.proofs.round.Tie as tie
 returns : tie.Need-returns
 returns c = move-nowhere _ _ (c .before .before .before .args .session .now) (c .if1 .taken)
 
-load-requires : tie.Need-load-requires
-load-requires c κs = search needs
-
-cast-both : tie.Need-cast-both
-cast-both c = search needs
-
-mul-both : tie.Need-mul-both
-mul-both c = search needs
-
-slice-read-both : tie.Need-slice-read-both
-slice-read-both c = search needs
-
-both-requires : tie.Need-both-requires
-both-requires c κs = search needs
-
-refusal-requires : tie.Need-refusal-requires
-refusal-requires c κs = search needs
-
-same-length : tie.Need-same-length
-same-length c = search needs
-
 returns-2 : tie.Need-returns-2
 unfolding polynomialFits flagged sized
 returns-2 c =
@@ -48,18 +27,6 @@ returns-2 c =
     ap (λ b. lent (loaded .result .settings) b 0) (c .before .before .both .ensures)
     ∙ ap (λ (s : Session). lent (s .settings) (eqb (length (a .polynomial .now)) (3 * s .settings .degree) && leb (getD (a .session .now) 5 0) 1) 0) (loaded .ensures) in
     move-refused _ _ (a .session .now) (c .before .before .before .before .before .before .before .if1 .left) _ (c .before .refusal .ensures ∙ lengths) (c .if2 .taken)
-
-polynomial-requires : tie.Need-polynomial-requires
-polynomial-requires c κs = search needs
-
-round-requires : tie.Need-round-requires
-round-requires c κs = search needs
-
-answer-requires : tie.Need-answer-requires
-answer-requires c κs = search needs
-
-same-length-2 : tie.Need-same-length-2
-same-length-2 c = search needs
 
 returns-3 : tie.Need-returns-3
 unfolding polynomialFits roundOn flagged sized
@@ -89,16 +56,16 @@ round-spec =
     tie.close
     (tie.spec
     returns
-    load-requires
-    cast-both
-    mul-both
-    slice-read-both
-    both-requires
-    refusal-requires
-    same-length
+    (λ c κs. search needs)
+    (λ c. search needs)
+    (λ c. search needs)
+    (λ c. search needs)
+    (λ c κs. search needs)
+    (λ c κs. search needs)
+    (λ c. search needs)
     returns-2
-    polynomial-requires
-    round-requires
-    answer-requires
-    same-length-2
+    (λ c κs. search needs)
+    (λ c κs. search needs)
+    (λ c κs. search needs)
+    (λ c. search needs)
     returns-3)

@@ -7,24 +7,6 @@ use borrow.Author.Needs.{needs}
 use Rattle.sessions.proofs.start.Statement.{statement}
 use Rattle.sessions.proofs.start.Tie as tie
 
-blank-requires : tie.Need-blank-requires
-blank-requires c κs = search needs
-
-cast-both : tie.Need-cast-both
-cast-both c = search needs
-
-both-requires : tie.Need-both-requires
-both-requires c κs = search needs
-
-refusal-requires : tie.Need-refusal-requires
-refusal-requires c κs = search needs
-
-store-requires : tie.Need-store-requires
-store-requires c κs = search needs
-
-same-length : tie.Need-same-length
-same-length c = search needs
-
 returns : tie.Need-returns
 unfolding sized recordWidth
 returns c =
@@ -37,18 +19,6 @@ returns c =
     let lengths = ap (λ b. lent (a .settings) b 0) (at-both .both .ensures) in
     start-refused (a .settings) (a .commitment .now) (a .session .now) _ (at-refusal .refusal .ensures ∙ lengths) _ _ (at-if1 .if1 .taken) (at-blank .blank .ensures)
     (at-store .store .ensures)
-
-residues-requires : tie.Need-residues-requires
-residues-requires c κs = search needs
-
-start-requires : tie.Need-start-requires
-start-requires c κs = search needs
-
-store-requires-2 : tie.Need-store-requires-2
-store-requires-2 c κs = search needs
-
-same-length-2 : tie.Need-same-length-2
-same-length-2 c = search needs
 
 returns-2 : tie.Need-returns-2
 unfolding sized recordWidth
@@ -68,15 +38,15 @@ pub start-spec : {M : Type 1} → statement M
 start-spec =
     tie.close
     (tie.spec
-    blank-requires
-    cast-both
-    both-requires
-    refusal-requires
-    store-requires
-    same-length
+    (λ c κs. search needs)
+    (λ c. search needs)
+    (λ c κs. search needs)
+    (λ c κs. search needs)
+    (λ c κs. search needs)
+    (λ c. search needs)
     returns
-    residues-requires
-    start-requires
-    store-requires-2
-    same-length-2
+    (λ c κs. search needs)
+    (λ c κs. search needs)
+    (λ c κs. search needs)
+    (λ c. search needs)
     returns-2)

@@ -54,38 +54,20 @@ after₄ c = after₃ (c .before .before .before) ∙ passes _ _ _ _ (c .before 
 after₅ : (c : tie.Else5) → let a = c .before .before .before .before .before .before .before .before .before .before .before .before .before .before .before .args in lengthsAre (partOf (a .settings) (a .parts)) (a .lengths) ≡ from₆ (a .settings) (a .parts) (a .lengths)
 after₅ c = after₄ (c .before .before .before) ∙ passes _ _ _ _ (c .before .before .part-size5 .ensures) (c .if5 .left)
 
-part-size-requires : tie.Need-part-size-requires
-part-size-requires c κs = search needs
-
 returns : tie.Need-returns
 returns c = sym (fails _ _ _ _ (c .before .before .part-size .ensures) (c .if1 .taken))
-
-part-size-requires-2 : tie.Need-part-size-requires-2
-part-size-requires-2 c κs = search needs
 
 returns-2 : tie.Need-returns-2
 returns-2 c = sym (after₁ (c .before .before .before) ∙ fails _ _ _ _ (c .before .before .part-size2 .ensures) (c .if2 .taken))
 
-part-size-requires-3 : tie.Need-part-size-requires-3
-part-size-requires-3 c κs = search needs
-
 returns-3 : tie.Need-returns-3
 returns-3 c = sym (after₂ (c .before .before .before) ∙ fails _ _ _ _ (c .before .before .part-size3 .ensures) (c .if3 .taken))
-
-part-size-requires-4 : tie.Need-part-size-requires-4
-part-size-requires-4 c κs = search needs
 
 returns-4 : tie.Need-returns-4
 returns-4 c = sym (after₃ (c .before .before .before) ∙ fails _ _ _ _ (c .before .before .part-size4 .ensures) (c .if4 .taken))
 
-part-size-requires-5 : tie.Need-part-size-requires-5
-part-size-requires-5 c κs = search needs
-
 returns-5 : tie.Need-returns-5
 returns-5 c = sym (after₄ (c .before .before .before) ∙ fails _ _ _ _ (c .before .before .part-size5 .ensures) (c .if5 .taken))
-
-part-size-requires-6 : tie.Need-part-size-requires-6
-part-size-requires-6 c κs = search needs
 
 returns-6 : tie.Need-returns-6
 returns-6 c = let a = c .before .before .before .before .before .before .before .before .before .before .before .before .before .before .before .before .before .args in ap (eqb (a .lengths .last)) (c .before .part-size6 .ensures) ∙ sym (after₅ (c .before .before))
@@ -94,15 +76,15 @@ pub fits-spec : {M : Type 1} → statement M
 fits-spec =
     tie.close
     (tie.spec
-    part-size-requires
+    (λ c κs. search needs)
     returns
-    part-size-requires-2
+    (λ c κs. search needs)
     returns-2
-    part-size-requires-3
+    (λ c κs. search needs)
     returns-3
-    part-size-requires-4
+    (λ c κs. search needs)
     returns-4
-    part-size-requires-5
+    (λ c κs. search needs)
     returns-5
-    part-size-requires-6
+    (λ c κs. search needs)
     returns-6)

@@ -30,41 +30,8 @@ none-such S P (suc (suc (suc (suc (suc zero))))) h = absurd (omega (arith, h (om
 none-such S P (suc (suc (suc (suc (suc (suc zero)))))) h = absurd (omega (arith, h (omega arith)))
 none-such S P (suc (suc (suc (suc (suc (suc (suc k))))))) h = refl
 
-settings-shape-requires : tie.Need-settings-shape-requires
-settings-shape-requires c κs = search needs
-
 returns : tie.Need-returns
 returns c = let a = c .before .before .args in c .settings-shape .ensures ∙ sym (part-of-deep (a .settings) (a .parts) (a .part) (omega arith))
-
-shl-part-of : tie.Need-shl-part-of
-shl-part-of c = search needs
-
-part-of-requires : tie.Need-part-of-requires
-part-of-requires c κs = search needs
-
-shl-part-of-2 : tie.Need-shl-part-of-2
-shl-part-of-2 c = search needs
-
-part-of-requires-2 : tie.Need-part-of-requires-2
-part-of-requires-2 c κs = search needs
-
-part-of-requires-3 : tie.Need-part-of-requires-3
-part-of-requires-3 c κs = search needs
-
-mul-part-of : tie.Need-mul-part-of
-mul-part-of c = search needs
-
-part-of-requires-4 : tie.Need-part-of-requires-4
-part-of-requires-4 c κs = search needs
-
-part-of-requires-5 : tie.Need-part-of-requires-5
-part-of-requires-5 c κs = search needs
-
-part-of-requires-6 : tie.Need-part-of-requires-6
-part-of-requires-6 c κs = search needs
-
-settings-shape-requires-2 : tie.Need-settings-shape-requires-2
-settings-shape-requires-2 c κs = search needs
 
 returns-2 : tie.Need-returns-2
 unfolding partShape shapes size
@@ -118,18 +85,18 @@ pub shape-of-spec : {M : Type 1} → statement M
 shape-of-spec =
     tie.close
     (tie.spec
-    settings-shape-requires
+    (λ c κs. search needs)
     returns
-    shl-part-of
-    part-of-requires
-    shl-part-of-2
-    part-of-requires-2
-    part-of-requires-3
-    mul-part-of
-    part-of-requires-4
-    part-of-requires-5
-    part-of-requires-6
-    settings-shape-requires-2
+    (λ c. search needs)
+    (λ c κs. search needs)
+    (λ c. search needs)
+    (λ c κs. search needs)
+    (λ c κs. search needs)
+    (λ c. search needs)
+    (λ c κs. search needs)
+    (λ c κs. search needs)
+    (λ c κs. search needs)
+    (λ c κs. search needs)
     returns-2
     returns-3
     returns-4

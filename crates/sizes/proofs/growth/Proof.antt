@@ -30,23 +30,14 @@ Inv-loop d factor g₀ i₀ i-end g i = (i ≤ i-end) × (0 < factor) × (g ≡ 
 abbrev μ-loop : tie.MeasureT-loop
 μ-loop d factor g₀ i₀ i-end g i = i-end - i
 
-cast-d : tie.Need-cast-d Inv-loop μ-loop
-cast-d c = search needs
-
 returns : tie.Need-returns Inv-loop μ-loop
 returns c e = absurd (omega (arith, degree-least (c .before .before .args .settings) (settings-valid (c .before .before .args .settings) e)))
 
 returns-2 : tie.Need-returns-2 Inv-loop μ-loop
 returns-2 c e = absurd (omega (arith, degree-most (c .before .before .before .args .settings) (settings-valid (c .before .before .before .args .settings) e)))
 
-mul-factor : tie.Need-mul-factor Inv-loop μ-loop
-mul-factor c = search needs
-
 mul-factor-2 : tie.Need-mul-factor-2 Inv-loop μ-loop
 mul-factor-2 c = record { fits = omega (arith, factor-most (c .before .before .before .args .settings .degree) (omega arith)) }
-
-cast-g : tie.Need-cast-g Inv-loop μ-loop
-cast-g c = search needs
 
 loop-holds : tie.Need-loop-holds Inv-loop μ-loop
 unfolding cappedPower
@@ -54,15 +45,6 @@ loop-holds c =
     let d = c .before .before .before .before .args .settings .degree in
     let some : 0 < d = omega arith in
     (omega arith, Nat.mul-pos {m = 12 * d} {n = d} (omega arith) some, refl)
-
-capped-times-requires : tie.Need-capped-times-requires Inv-loop μ-loop
-capped-times-requires c κs = search needs
-
-add-i : tie.Need-add-i Inv-loop μ-loop
-add-i c = search needs
-
-loop-less : tie.Need-loop-less Inv-loop μ-loop
-loop-less c = search needs
 
 loop-again : tie.Need-loop-again Inv-loop μ-loop
 unfolding cappedPower
@@ -83,15 +65,15 @@ growth-spec =
     (tie.spec
     Inv-loop
     μ-loop
-    cast-d
+    (λ c. search needs)
     returns
     returns-2
-    mul-factor
+    (λ c. search needs)
     mul-factor-2
-    cast-g
+    (λ c. search needs)
     loop-holds
-    capped-times-requires
-    add-i
-    loop-less
+    (λ c κs. search needs)
+    (λ c. search needs)
+    (λ c. search needs)
     loop-again
     returns-3)

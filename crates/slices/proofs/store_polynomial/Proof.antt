@@ -14,35 +14,8 @@ use Rattle.slices.proofs.store_polynomial.Tie as tie
 returns : tie.Need-returns
 returns c = λ h e. absurd (omega arith)
 
-mul-if2 : tie.Need-mul-if2
-mul-if2 c = search needs
-
 returns-2 : tie.Need-returns-2
 returns-2 c = λ h e. absurd (c .if2 .taken e)
-
-array-copy-out-store-at : tie.Need-array-copy-out-store-at
-array-copy-out-store-at c = search needs
-
-store-at-requires : tie.Need-store-at-requires
-store-at-requires c κs = search needs
-
-array-copy-out-store-at-2 : tie.Need-array-copy-out-store-at-2
-array-copy-out-store-at-2 c = search needs
-
-store-at-requires-2 : tie.Need-store-at-requires-2
-store-at-requires-2 c κs = search needs
-
-array-copy-out-store-at-3 : tie.Need-array-copy-out-store-at-3
-array-copy-out-store-at-3 c = search needs
-
-mul-store-at : tie.Need-mul-store-at
-mul-store-at c = search needs
-
-store-at-requires-3 : tie.Need-store-at-requires-3
-store-at-requires-3 c κs = search needs
-
-same-length : tie.Need-same-length
-same-length c = search needs
 
 returns-3 : tie.Need-returns-3
 unfolding laid part
@@ -64,14 +37,14 @@ store-polynomial-spec =
     tie.close
     (tie.spec
     returns
-    mul-if2
+    (λ c. search needs)
     returns-2
-    array-copy-out-store-at
-    store-at-requires
-    array-copy-out-store-at-2
-    store-at-requires-2
-    array-copy-out-store-at-3
-    mul-store-at
-    store-at-requires-3
-    same-length
+    (λ c. search needs)
+    (λ c κs. search needs)
+    (λ c. search needs)
+    (λ c κs. search needs)
+    (λ c. search needs)
+    (λ c. search needs)
+    (λ c κs. search needs)
+    (λ c. search needs)
     returns-3)

@@ -6,24 +6,6 @@ use borrow.Author.Needs.{needs}
 use Rattle.texts.proofs.verdict_of.Statement.{statement}
 use Rattle.texts.proofs.verdict_of.Tie as tie
 
-enum-told : tie.Need-enum-told
-enum-told c = search needs
-
-verdict-number-requires : tie.Need-verdict-number-requires
-verdict-number-requires c κs = search needs
-
-enum-told-2 : tie.Need-enum-told-2
-enum-told-2 c = search needs
-
-verdict-number-requires-2 : tie.Need-verdict-number-requires-2
-verdict-number-requires-2 c κs = search needs
-
-enum-known-verified : tie.Need-enum-known-verified
-enum-known-verified c = search needs
-
-verdict-number-requires-3 : tie.Need-verdict-number-requires-3
-verdict-number-requires-3 c κs = search needs
-
 returns : tie.Need-returns
 unfolding checked
 returns c =
@@ -55,12 +37,12 @@ pub verdict-of-spec : {M : Type 1} → statement M
 verdict-of-spec =
     tie.close
     (tie.spec
-    enum-told
-    verdict-number-requires
-    enum-told-2
-    verdict-number-requires-2
-    enum-known-verified
-    verdict-number-requires-3
+    (λ c. search needs)
+    (λ c κs. search needs)
+    (λ c. search needs)
+    (λ c κs. search needs)
+    (λ c. search needs)
+    (λ c κs. search needs)
     returns
     returns-2
     returns-3)

@@ -15,35 +15,17 @@ allowed c = sym (c .before .settings-refusal .ensures) ∙ c .if1 .left
 small : (c : tie.Else1) → c .before .before .before .before .before .args .settings .degree ≤ 64
 small c = degree-most (c .before .before .before .before .before .args .settings) (settings-valid (c .before .before .before .before .before .args .settings) (allowed c))
 
-settings-refusal-requires : tie.Need-settings-refusal-requires
-settings-refusal-requires c κs = search needs
-
 returns : tie.Need-returns
 returns c = λ g. absurd (c .if1 .taken (c .before .settings-refusal .ensures ∙ g .allowed))
 
-cells-requires : tie.Need-cells-requires
-cells-requires c κs = search needs
-
 returns-2 : tie.Need-returns-2
 returns-2 c = λ g. absurd (c .if2 .taken (g .key-below .long ∙ sym (c .before .cells .ensures (g .allowed))))
-
-cast-d : tie.Need-cast-d
-cast-d c = search needs
-
-nodes-requires : tie.Need-nodes-requires
-nodes-requires c κs = search needs
-
-mul-if3 : tie.Need-mul-if3
-mul-if3 c = search needs
 
 mul-if3-2 : tie.Need-mul-if3-2
 mul-if3-2 c = omega (arith, mul-le-mul {n₁ = 3 * c .nodes .result} {n₂ = 9840} {m₂ = 64} (omega (arith, c .nodes .ensures .1)) (small (c .before .before .before .before)))
 
 returns-3 : tie.Need-returns-3
 returns-3 c = λ g. absurd (c .if3 .taken (g .rounds-below .long ∙ ap (λ x. 3 * x * c .before .before .before .before .before .before .before .before .before .before .args .settings .degree) (sym (c .before .nodes .ensures .0 (g .allowed)))))
-
-leaves-requires : tie.Need-leaves-requires
-leaves-requires c κs = search needs
 
 mul-if4 : tie.Need-mul-if4
 mul-if4 c = omega (arith, mul-le-mul {n₁ = c .leaves .result} {n₂ = 6561} {m₂ = 64} (c .leaves .ensures .2) (small (c .before .before .before .before .before .before)))
@@ -71,16 +53,16 @@ pub every-path-accepted-spec : {M : Type 1} → statement M
 every-path-accepted-spec =
     tie.close
     (tie.spec
-    settings-refusal-requires
+    (λ c κs. search needs)
     returns
-    cells-requires
+    (λ c κs. search needs)
     returns-2
-    cast-d
-    nodes-requires
-    mul-if3
+    (λ c. search needs)
+    (λ c κs. search needs)
+    (λ c. search needs)
     mul-if3-2
     returns-3
-    leaves-requires
+    (λ c κs. search needs)
     mul-if4
     returns-4
     root-accepted-requires

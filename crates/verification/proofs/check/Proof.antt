@@ -31,9 +31,6 @@ end-is c =
     c .end-met .ensures (record { allowed = p .tables .settings; key-below = p .key-below; challenges-long = le-of-eq (sym (p .tables .challenges-long)) })
     ∙ ap (λ claim. finalBounded (a .settings) (signed (a .last)) && endHolds (a .settings) (a .key .now) (a .challenges .now) claim (signed (a .last))) (c .before .claim-at .ensures)
 
-check-requires : tie.Need-check-requires
-check-requires c κs = search needs
-
 returns : tie.Need-returns
 returns c =
     let a = c .before .before .before .before .before .args in
@@ -53,9 +50,6 @@ returns-2 c =
 claim-at-requires : tie.Need-claim-at-requires
 claim-at-requires c κs = (tables (c .before .before) .tables, le-refl _)
 
-end-met-requires : tie.Need-end-met-requires
-end-met-requires c κs = search needs
-
 returns-3 : tie.Need-returns-3
 returns-3 c =
     let a = c .before .before .before .before .before .before .before .before .before .before .args in
@@ -74,11 +68,11 @@ pub check-spec : {M : Type 1} → statement M
 check-spec =
     tie.close
     (tie.spec
-    check-requires
+    (λ c κs. search needs)
     returns
     rounds-hold-requires
     returns-2
     claim-at-requires
-    end-met-requires
+    (λ c κs. search needs)
     returns-3
     returns-4)

@@ -45,18 +45,6 @@ other (inl e) = omega arith
 other (inr (inl e)) = omega arith
 other (inr (inr e)) = omega arith
 
-element-at-requires : tie.Need-element-at-requires
-element-at-requires c κs = search needs
-
-signed-element-at-requires : tie.Need-signed-element-at-requires
-signed-element-at-requires c κs = search needs
-
-check-requires : tie.Need-check-requires
-check-requires c κs = search needs
-
-enum-told : tie.Need-enum-told
-enum-told c = search needs
-
 returns : tie.Need-returns
 returns c = let k = c .before .before in says-accepted (tablesAccepted (S k) (t k)) (k .check .result .verdict) (says k) (c .enum-told .given .1)
 
@@ -67,9 +55,9 @@ pub answer-spec : {M : Type 1} → statement M
 answer-spec =
     tie.close
     (tie.spec
-    element-at-requires
-    signed-element-at-requires
-    check-requires
-    enum-told
+    (λ c κs. search needs)
+    (λ c κs. search needs)
+    (λ c κs. search needs)
+    (λ c. search needs)
     returns
     returns-2)

@@ -12,27 +12,6 @@ use Rattle.verifying.proofs.verify.Tie as tie
 told : (text : List ℕ) (r : Verified) → r ≡ verifyAnswer text → (r ≡ verifyAnswer text) × (checked r ≡ verifyGives text)
 told text r e = (e, ap checked e ∙ verify-given text)
 
-slice-aggregate-verify-within : tie.Need-slice-aggregate-verify-within
-slice-aggregate-verify-within c = search needs
-
-slice-aggregate-verify-within-2 : tie.Need-slice-aggregate-verify-within-2
-slice-aggregate-verify-within-2 c = search needs
-
-slice-aggregate-verify-within-3 : tie.Need-slice-aggregate-verify-within-3
-slice-aggregate-verify-within-3 c = search needs
-
-slice-aggregate-verify-within-4 : tie.Need-slice-aggregate-verify-within-4
-slice-aggregate-verify-within-4 c = search needs
-
-slice-aggregate-verify-within-5 : tie.Need-slice-aggregate-verify-within-5
-slice-aggregate-verify-within-5 c = search needs
-
-slice-aggregate-verify-within-6 : tie.Need-slice-aggregate-verify-within-6
-slice-aggregate-verify-within-6 c = search needs
-
-verify-within-requires : tie.Need-verify-within-requires
-verify-within-requires c κs = search needs
-
 returns : tie.Need-returns
 returns c = told _ _ (search needs)
 
@@ -40,11 +19,11 @@ pub verify-spec : {M : Type 1} → statement M
 verify-spec =
     tie.close
     (tie.spec
-    slice-aggregate-verify-within
-    slice-aggregate-verify-within-2
-    slice-aggregate-verify-within-3
-    slice-aggregate-verify-within-4
-    slice-aggregate-verify-within-5
-    slice-aggregate-verify-within-6
-    verify-within-requires
+    (λ c. search needs)
+    (λ c. search needs)
+    (λ c. search needs)
+    (λ c. search needs)
+    (λ c. search needs)
+    (λ c. search needs)
+    (λ c κs. search needs)
     returns)

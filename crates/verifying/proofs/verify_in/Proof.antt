@@ -46,30 +46,6 @@ lengths c =
     let last : length (t′ r .last) ≡ length (a .last .now) = search needs in
     λ j. record { key = key j; message = message j; commitment = commitment j; rounds = rounds j; challenges = challenges j; last = last j }
 
-reads-requires : tie.Need-reads-requires
-reads-requires c κs = search needs
-
-read-requires : tie.Need-read-requires
-read-requires c κs = search needs
-
-same-length : tie.Need-same-length
-same-length c = search needs
-
-same-length-2 : tie.Need-same-length-2
-same-length-2 c = search needs
-
-same-length-3 : tie.Need-same-length-3
-same-length-3 c = search needs
-
-same-length-4 : tie.Need-same-length-4
-same-length-4 c = search needs
-
-same-length-5 : tie.Need-same-length-5
-same-length-5 c = search needs
-
-same-length-6 : tie.Need-same-length-6
-same-length-6 c = search needs
-
 returns : tie.Need-returns
 returns c = let r = c .before .before .before .before .before .before .before .before .before .before .before .before in verify-refused (text r) (t r) (t′ r) (fit r) (r .read .result) (promise r) (c .if1 .taken)
 
@@ -79,24 +55,6 @@ answer-requires c κs =
     let l = e .before .before in
     let r = l .before .before .before .before .before .before .before .before .before .before in
     given-bare _ _ (verify-given (text r) (t r) (t′ r) (fit r) (r .read .result) (promise r) (e .if1 .left) (lengths l))
-
-same-length-7 : tie.Need-same-length-7
-same-length-7 c = search needs
-
-same-length-8 : tie.Need-same-length-8
-same-length-8 c = search needs
-
-same-length-9 : tie.Need-same-length-9
-same-length-9 c = search needs
-
-same-length-10 : tie.Need-same-length-10
-same-length-10 c = search needs
-
-same-length-11 : tie.Need-same-length-11
-same-length-11 c = search needs
-
-same-length-12 : tie.Need-same-length-12
-same-length-12 c = search needs
 
 returns-2 : tie.Need-returns-2
 unfolding tablesAccepted transcriptIn
@@ -109,20 +67,20 @@ pub verify-in-spec : {M : Type 1} → statement M
 verify-in-spec =
     tie.close
     (tie.spec
-    reads-requires
-    read-requires
-    same-length
-    same-length-2
-    same-length-3
-    same-length-4
-    same-length-5
-    same-length-6
+    (λ c κs. search needs)
+    (λ c κs. search needs)
+    (λ c. search needs)
+    (λ c. search needs)
+    (λ c. search needs)
+    (λ c. search needs)
+    (λ c. search needs)
+    (λ c. search needs)
     returns
     answer-requires
-    same-length-7
-    same-length-8
-    same-length-9
-    same-length-10
-    same-length-11
-    same-length-12
+    (λ c. search needs)
+    (λ c. search needs)
+    (λ c. search needs)
+    (λ c. search needs)
+    (λ c. search needs)
+    (λ c. search needs)
     returns-2)

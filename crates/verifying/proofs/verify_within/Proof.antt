@@ -83,27 +83,12 @@ module _ (c : tie.After-cells) where
     last = length-take-le _ _ last-room;
   }
 
-allowed-settings-requires : tie.Need-allowed-settings-requires
-allowed-settings-requires c κs = search needs
-
 returns : tie.Need-returns
 returns c =
     let l = c .before .before in
     let t = l .before .before .before .before .before .before .args .text .now in
     let r = l .allowed-settings .result in
     verify-stops t r (begun t r (l .allowed-settings .ensures) .refused (c .if1 .taken)) (c .if1 .taken)
-
-cast-degree : tie.Need-cast-degree
-cast-degree c = search needs
-
-cast-depth : tie.Need-cast-depth
-cast-depth c = search needs
-
-cells-requires : tie.Need-cells-requires
-cells-requires c κs = search needs
-
-mul-elements : tie.Need-mul-elements
-mul-elements c = search needs
 
 mul-elements-2 : tie.Need-mul-elements-2
 mul-elements-2 c = record { fits = omega (arith, rounds-most c) }
@@ -113,12 +98,6 @@ slice-relend-prefix-verify-in c = key-room c
 
 slice-aggregate-verify-in : tie.Need-slice-aggregate-verify-in
 slice-aggregate-verify-in c = sym (length-take-le _ _ (key-room (c .before)))
-
-slice-relend-prefix-verify-in-2 : tie.Need-slice-relend-prefix-verify-in-2
-slice-relend-prefix-verify-in-2 c = search needs
-
-slice-aggregate-verify-in-2 : tie.Need-slice-aggregate-verify-in-2
-slice-aggregate-verify-in-2 c = search needs
 
 slice-relend-prefix-verify-in-3 : tie.Need-slice-relend-prefix-verify-in-3
 slice-relend-prefix-verify-in-3 c = commitment-room (c .before .before)
@@ -149,42 +128,21 @@ verify-in-requires c κs =
     let k = c .before .before .before .before .before .before in
     λ e. ap (λ x. fits x verifyReads (t k)) (sym (known k .settings-are e)) ∙ lent-fitting (S k) (t k) (long k)
 
-same-length : tie.Need-same-length
-same-length c = search needs
-
-same-length-2 : tie.Need-same-length-2
-same-length-2 c = search needs
-
-same-length-3 : tie.Need-same-length-3
-same-length-3 c = search needs
-
-same-length-4 : tie.Need-same-length-4
-same-length-4 c = search needs
-
-same-length-5 : tie.Need-same-length-5
-same-length-5 c = search needs
-
-same-length-6 : tie.Need-same-length-6
-same-length-6 c = search needs
-
-returns-2 : tie.Need-returns-2
-returns-2 c = search needs
-
 pub verify-within-spec : {M : Type 1} → statement M
 verify-within-spec =
     tie.close
     (tie.spec
-    allowed-settings-requires
+    (λ c κs. search needs)
     returns
-    cast-degree
-    cast-depth
-    cells-requires
-    mul-elements
+    (λ c. search needs)
+    (λ c. search needs)
+    (λ c κs. search needs)
+    (λ c. search needs)
     mul-elements-2
     slice-relend-prefix-verify-in
     slice-aggregate-verify-in
-    slice-relend-prefix-verify-in-2
-    slice-aggregate-verify-in-2
+    (λ c. search needs)
+    (λ c. search needs)
     slice-relend-prefix-verify-in-3
     slice-aggregate-verify-in-3
     slice-relend-prefix-verify-in-4
@@ -194,10 +152,10 @@ verify-within-spec =
     slice-relend-prefix-verify-in-6
     slice-aggregate-verify-in-6
     verify-in-requires
-    same-length
-    same-length-2
-    same-length-3
-    same-length-4
-    same-length-5
-    same-length-6
-    returns-2)
+    (λ c. search needs)
+    (λ c. search needs)
+    (λ c. search needs)
+    (λ c. search needs)
+    (λ c. search needs)
+    (λ c. search needs)
+    (λ c. search needs))

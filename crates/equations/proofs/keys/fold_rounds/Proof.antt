@@ -25,36 +25,12 @@ abbrev μ-loop : tie.MeasureT-loop
 returns : tie.Need-returns Inv-loop μ-loop
 returns c = λ g. absurd (let r = ready _ (g .allowed) in omega arith)
 
-cast-if2 : tie.Need-cast-if2 Inv-loop μ-loop
-cast-if2 c = search needs
-
 returns-2 : tie.Need-returns-2 Inv-loop μ-loop
 returns-2 c = λ g. absurd (omega (arith, g .challenges-long))
 
 loop-holds : tie.Need-loop-holds Inv-loop μ-loop
 unfolding keyAfter
 loop-holds c = (omega arith, omega arith, omega arith, (λ g. refl), search needs)
-
-half-left-requires : tie.Need-half-left-requires Inv-loop μ-loop
-half-left-requires c κs = search needs
-
-cast-e : tie.Need-cast-e Inv-loop μ-loop
-cast-e c = search needs
-
-mul-e : tie.Need-mul-e Inv-loop μ-loop
-mul-e c = search needs
-
-shared-slice-read-e : tie.Need-shared-slice-read-e Inv-loop μ-loop
-shared-slice-read-e c = search needs
-
-fold-residues-requires : tie.Need-fold-residues-requires Inv-loop μ-loop
-fold-residues-requires c κs = search needs
-
-add-t : tie.Need-add-t Inv-loop μ-loop
-add-t c = search needs
-
-loop-less : tie.Need-loop-less Inv-loop μ-loop
-loop-less c = search needs
 
 loop-again : tie.Need-loop-again Inv-loop μ-loop
 unfolding keyAfter foldKey
@@ -78,9 +54,6 @@ loop-again c =
       f .kept .1 .1 .1 .1 .0 ∙ l .inv .4,
     )
 
-same-length : tie.Need-same-length Inv-loop μ-loop
-same-length c = search needs
-
 returns-3 : tie.Need-returns-3 Inv-loop μ-loop
 returns-3 c = λ g.
     let l = c .before .loop in
@@ -94,16 +67,16 @@ fold-rounds-spec =
     Inv-loop
     μ-loop
     returns
-    cast-if2
+    (λ c. search needs)
     returns-2
     loop-holds
-    half-left-requires
-    cast-e
-    mul-e
-    shared-slice-read-e
-    fold-residues-requires
-    add-t
-    loop-less
+    (λ c κs. search needs)
+    (λ c. search needs)
+    (λ c. search needs)
+    (λ c. search needs)
+    (λ c κs. search needs)
+    (λ c. search needs)
+    (λ c. search needs)
     loop-again
-    same-length
+    (λ c. search needs)
     returns-3)

@@ -18,32 +18,14 @@ use Rattle.equations.proofs.keys.folded_key.Tie as tie
 returns : tie.Need-returns
 returns c = λ g. absurd (omega (arith, g .key-below .long, cells-most _ (settings-valid _ (g .allowed))))
 
-room-requires : tie.Need-room-requires
-room-requires c κs = search needs
-
-slice-aggregate-copy : tie.Need-slice-aggregate-copy
-slice-aggregate-copy c = search needs
-
-copy-requires : tie.Need-copy-requires
-copy-requires c κs = search needs
-
-array-borrow-prefix-folded : tie.Need-array-borrow-prefix-folded
-array-borrow-prefix-folded c = search needs
-
 slice-aggregate-fold-rounds : tie.Need-slice-aggregate-fold-rounds
 slice-aggregate-fold-rounds c = sym (length-take-le _ _ (omega (arith, c .before .before .copy .kept .1 .0)))
-
-fold-rounds-requires : tie.Need-fold-rounds-requires
-fold-rounds-requires c κs = search needs
 
 slice-aggregate-element-at : tie.Need-slice-aggregate-element-at
 slice-aggregate-element-at c =
     let f = c .before .before .fold-rounds in
     let m = c .before .before .before .before .before .copy in
     sym (length-front (m .last .1 .0) (f .last .1 .1 .0) (length (c .before .before .before .before .before .before .before .before .before .before .before .args .key .now)) (f .kept .1 .1 .0) ∙ m .kept .1 .0 ∙ omega arith)
-
-element-at-requires : tie.Need-element-at-requires
-element-at-requires c κs = search needs
 
 returns-2 : tie.Need-returns-2
 returns-2 c = λ g.
@@ -65,12 +47,12 @@ folded-key-spec =
     tie.close
     (tie.spec
     returns
-    room-requires
-    slice-aggregate-copy
-    copy-requires
-    array-borrow-prefix-folded
+    (λ c κs. search needs)
+    (λ c. search needs)
+    (λ c κs. search needs)
+    (λ c. search needs)
     slice-aggregate-fold-rounds
-    fold-rounds-requires
+    (λ c κs. search needs)
     slice-aggregate-element-at
-    element-at-requires
+    (λ c κs. search needs)
     returns-2)

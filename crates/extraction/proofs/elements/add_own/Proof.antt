@@ -11,18 +11,11 @@ spread-requires c κs = let g = c .before .before in spreadable (g .args .d) (g 
 
 add-spread-requires : tie.Need-add-spread-requires
 add-spread-requires c κs =
-    let g = c .before .before .before .before .before .before in let s = c .before .before .before .spread in
-    (
+    let g = c .before .before .before .before .before .before in let s = c .before .before .before .spread in (
       g .pre .1,
       omega (arith, g .pre .2),
       addable (g .args .d) (g .args .a .now) (g .args .a .now) (g .pre .4) _ (omega (arith, g .pre .3, s .kept .1 .1 .0)) (g .pre .0) (g .args .e) (g .pre .2) (s .ensures),
     )
-
-same-length : tie.Need-same-length
-same-length c = search needs
-
-same-length-2 : tie.Need-same-length-2
-same-length-2 c = search needs
 
 returns : tie.Need-returns
 returns c =
@@ -32,4 +25,4 @@ returns c =
 
 pub add-own-spec : {M : Type 1} → statement M
 add-own-spec =
-    tie.close (tie.spec spread-requires add-spread-requires same-length same-length-2 returns)
+    tie.close (tie.spec spread-requires add-spread-requires (λ c. search needs) (λ c. search needs) returns)

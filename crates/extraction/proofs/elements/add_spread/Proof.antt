@@ -38,56 +38,20 @@ module _ (i : ℕ) (x l : List ℤ) (k : ℕ) (m : List ℤ) (e : m ≡ filled (
       → set m k (toZ w64 (ofZ w64 r)) ≡ filled (sums i x l) (k + 1) l
   turn r fr h lt = filled-turn _ k l e (through-bits w64 r fr ∙ h ∙ both) lt
 
-mul-from : tie.Need-mul-from Inv-loop μ-loop
-mul-from c = search needs
-
-sub-from : tie.Need-sub-from Inv-loop μ-loop
-sub-from c = search needs
-
 loop-holds : tie.Need-loop-holds Inv-loop μ-loop
 loop-holds c = (omega arith, filled-none _ _, refl)
-
-mul-plus : tie.Need-mul-plus Inv-loop μ-loop
-mul-plus c = search needs
-
-slice-copy-out-plus : tie.Need-slice-copy-out-plus Inv-loop μ-loop
-slice-copy-out-plus c = search needs
-
-add-plus : tie.Need-add-plus Inv-loop μ-loop
-add-plus c = search needs
-
-mul-plus-2 : tie.Need-mul-plus-2 Inv-loop μ-loop
-mul-plus-2 c = search needs
-
-shared-slice-copy-out-plus : tie.Need-shared-slice-copy-out-plus Inv-loop μ-loop
-shared-slice-copy-out-plus c = search needs
 
 plus-requires : tie.Need-plus-requires Inv-loop μ-loop
 plus-requires c κs =
     let g = c .before .before .before .before in let l = c .before .before .before .loop in let a = g .args in
     room (2 * a .d - a .e) (a .x .now) (a .out .now) (l .k) (l .out) (l .inv .1) (c .before .plus-arg .given) (c .plus-arg2 .given) (a .d) (g .pre .2) (omega arith)
 
-mul-t17 : tie.Need-mul-t17 Inv-loop μ-loop
-mul-t17 c = search needs
-
-slice-set-from-out : tie.Need-slice-set-from-out Inv-loop μ-loop
-slice-set-from-out c = search needs
-
-add-k : tie.Need-add-k Inv-loop μ-loop
-add-k c = search needs
-
-loop-less : tie.Need-loop-less Inv-loop μ-loop
-loop-less c = search needs
-
 loop-again : tie.Need-loop-again Inv-loop μ-loop
 loop-again c =
     let g = c .before .before .before .before .before in let l = c .before .before .before .before .loop in let a = g .args in
     let next = turn (2 * a .d - a .e) (a .x .now) (a .out .now) (l .k) (l .out) (l .inv .1) (c .before .before .plus-arg .given) (c .before .plus-arg2 .given)
-        (c .plus .result) (c .plus .ok) (c .plus .ensures) (omega (arith, g .pre .2 .long-to)) in
+    (c .plus .result) (c .plus .ok) (c .plus .ensures) (omega (arith, g .pre .2 .long-to)) in
     (search needs, next, simp length-set (search needs))
-
-same-length : tie.Need-same-length Inv-loop μ-loop
-same-length c = search needs
 
 returns : tie.Need-returns Inv-loop μ-loop
 unfolding spreadAdded
@@ -99,19 +63,19 @@ add-spread-spec =
     (tie.spec
     Inv-loop
     μ-loop
-    mul-from
-    sub-from
+    (λ c. search needs)
+    (λ c. search needs)
     loop-holds
-    mul-plus
-    slice-copy-out-plus
-    add-plus
-    mul-plus-2
-    shared-slice-copy-out-plus
+    (λ c. search needs)
+    (λ c. search needs)
+    (λ c. search needs)
+    (λ c. search needs)
+    (λ c. search needs)
     plus-requires
-    mul-t17
-    slice-set-from-out
-    add-k
-    loop-less
+    (λ c. search needs)
+    (λ c. search needs)
+    (λ c. search needs)
+    (λ c. search needs)
     loop-again
-    same-length
+    (λ c. search needs)
     returns)

@@ -50,15 +50,14 @@ turn-exponent : (g : tie.Start Inv-loop μ-loop) (j e : ℕ) → e ≡ g .args .
 turn-exponent g j e is = let p : 0 < 2 * g .args .d = omega (arith, some g) in omega (arith, Nat.mod-lt (g .args .k * 2 ^ j) p)
 
 loop-holds : tie.Need-loop-holds Inv-loop μ-loop
-loop-holds c =
-    (
-      omega arith,
-      sym (ap (λ n. n % (2 * c .args .d)) (ap (λ n. c .args .k * n) (Nat.pow-zero 2) ∙ Nat.mul-one (c .args .k)) ∙ Nat.mod-eq-of-lt (c .pre .1 .exponent)),
-      unfold summed in Q.filled-own (c .args .d) (c .args .a .now) (c .pre .1 .long),
-      refl,
-      refl,
-      λ i h. absurd (omega arith),
-    )
+loop-holds c = (
+  omega arith,
+  sym (ap (λ n. n % (2 * c .args .d)) (ap (λ n. c .args .k * n) (Nat.pow-zero 2) ∙ Nat.mul-one (c .args .k)) ∙ Nat.mod-eq-of-lt (c .pre .1 .exponent)),
+  unfold summed in Q.filled-own (c .args .d) (c .args .a .now) (c .pre .1 .long),
+  refl,
+  refl,
+  λ i h. absurd (omega arith),
+)
 
 same-length : tie.Need-same-length Inv-loop μ-loop
 same-length c = c .before .before .loop .inv .3
@@ -86,15 +85,6 @@ mul-on-circle : tie.Need-mul-on-circle Inv-loop μ-loop
 mul-on-circle c =
     let g = c .before .before .before .before .before .before .before .before in let l = c .before .before .before .before .before .before .before .loop in
     omega (arith, small g, turn-exponent g (l .j) (l .e) (l .inv .1))
-
-on-circle-requires : tie.Need-on-circle-requires Inv-loop μ-loop
-on-circle-requires c κs = search needs
-
-add-j : tie.Need-add-j Inv-loop μ-loop
-add-j c = search needs
-
-loop-less : tie.Need-loop-less Inv-loop μ-loop
-loop-less c = search needs
 
 loop-again : tie.Need-loop-again Inv-loop μ-loop
 loop-again c =
@@ -130,9 +120,9 @@ divide-spec =
     returns
     add-own-requires
     mul-on-circle
-    on-circle-requires
-    add-j
-    loop-less
+    (λ c κs. search needs)
+    (λ c. search needs)
+    (λ c. search needs)
     loop-again
     same-length-3
     same-length-4

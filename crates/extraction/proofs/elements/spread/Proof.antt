@@ -61,8 +61,7 @@ module _ (d : ℕ) (x : List ℤ) (k : ℕ) (lt : k < d) (long : 3 * d ≤ lengt
   turn a ey ez h j l = elim (ℕ-discrete j k) [
     | yes e ↦ subst (Rounds d a three) (sym e) (first ∙ ey, second ∙ ez, third ∙ ey)
     | no n ↦
-        let old = h j (omega arith) in
-        (
+        let old = h j (omega arith) in (
           other j n (λ e. omega arith) (λ e. omega arith) ∙ old .0,
           other (d + j) (λ e. omega arith) (λ e. omega arith) (λ e. omega arith) ∙ old .1,
           other (2 * d + j) (λ e. omega arith) (λ e. omega arith) (λ e. omega arith) ∙ old .2,
@@ -85,58 +84,25 @@ done d a x h = record {
 loop-holds : tie.Need-loop-holds Inv-loop μ-loop
 loop-holds c = (omega arith, refl, λ j h. absurd (omega arith))
 
-mul-y : tie.Need-mul-y Inv-loop μ-loop
-mul-y c = search needs
-
-shared-slice-copy-out-y : tie.Need-shared-slice-copy-out-y Inv-loop μ-loop
-shared-slice-copy-out-y c = search needs
-
-mul-y-2 : tie.Need-mul-y-2 Inv-loop μ-loop
-mul-y-2 c = search needs
-
-slice-set-from-y : tie.Need-slice-set-from-y Inv-loop μ-loop
-slice-set-from-y c = search needs
-
 minus-requires : tie.Need-minus-requires Inv-loop μ-loop
 minus-requires c κs = let g = c .before .before .before in let k = c .before .before .loop .k in rw (through-bits w64 (getD (g .args .a .now) k (pos 0)) (c .y .given)) (g .pre .within k (omega arith))
-
-add-t7 : tie.Need-add-t7 Inv-loop μ-loop
-add-t7 c = search needs
-
-mul-t11 : tie.Need-mul-t11 Inv-loop μ-loop
-mul-t11 c = search needs
 
 slice-set-from-x : tie.Need-slice-set-from-x Inv-loop μ-loop
 slice-set-from-x c = simp length-set (search needs)
 
-mul-y-3 : tie.Need-mul-y-3 Inv-loop μ-loop
-mul-y-3 c = search needs
-
-add-y : tie.Need-add-y Inv-loop μ-loop
-add-y c = search needs
-
-mul-y-4 : tie.Need-mul-y-4 Inv-loop μ-loop
-mul-y-4 c = search needs
-
 slice-set-from-y-2 : tie.Need-slice-set-from-y-2 Inv-loop μ-loop
 slice-set-from-y-2 c = simp length-set (search needs)
-
-add-k : tie.Need-add-k Inv-loop μ-loop
-add-k c = search needs
-
-loop-less : tie.Need-loop-less Inv-loop μ-loop
-loop-less c = search needs
 
 loop-again : tie.Need-loop-again Inv-loop μ-loop
 loop-again c =
     let g = c .before .before .before .before in let l = c .before .before .before .loop in let a = g .args in
     let long : 3 * a .d ≤ length (l .x) = omega (arith, g .pre .long-to, l .inv .1) in
-    let here = through-bits w64 (getD (a .a .now) (l .k) (pos 0)) (c .before .y .given) in
-    (omega arith, simp length-set (search needs), turn (a .d) (l .x) (l .k) (omega arith) long _ _ (a .a .now) here
-    (through-bits w64 (c .minus .result) (c .minus .ok) ∙ c .minus .ensures ∙ ap negℤ here) (l .inv .2))
-
-same-length : tie.Need-same-length Inv-loop μ-loop
-same-length c = search needs
+    let here = through-bits w64 (getD (a .a .now) (l .k) (pos 0)) (c .before .y .given) in (
+      omega arith,
+      simp length-set (search needs),
+      turn (a .d) (l .x) (l .k) (omega arith) long _ _ (a .a .now) here
+          (through-bits w64 (c .minus .result) (c .minus .ok) ∙ c .minus .ensures ∙ ap negℤ here) (l .inv .2),
+    )
 
 returns : tie.Need-returns Inv-loop μ-loop
 returns c = let g = c .before .before in let l = c .before .loop in done (g .args .d) (g .args .a .now) (l .x) (λ j h. l .inv .2 j (omega arith))
@@ -148,20 +114,20 @@ spread-spec =
     Inv-loop
     μ-loop
     loop-holds
-    mul-y
-    shared-slice-copy-out-y
-    mul-y-2
-    slice-set-from-y
+    (λ c. search needs)
+    (λ c. search needs)
+    (λ c. search needs)
+    (λ c. search needs)
     minus-requires
-    add-t7
-    mul-t11
+    (λ c. search needs)
+    (λ c. search needs)
     slice-set-from-x
-    mul-y-3
-    add-y
-    mul-y-4
+    (λ c. search needs)
+    (λ c. search needs)
+    (λ c. search needs)
     slice-set-from-y-2
-    add-k
-    loop-less
+    (λ c. search needs)
+    (λ c. search needs)
     loop-again
-    same-length
+    (λ c. search needs)
     returns)

@@ -23,12 +23,6 @@ add-own-requires c κs =
       W.both-summable (a .d) (a .k) (a .m) (a .e) (a .a .now) (g .pre .1) _ (one .divide .ensures) _ (two .divide2 .ensures),
     )
 
-same-length : tie.Need-same-length
-same-length c = search needs
-
-same-length-2 : tie.Need-same-length-2
-same-length-2 c = search needs
-
 returns : tie.Need-returns
 returns c =
     let g = c .before .before .before .before .before .before .before .before .before .before .before .before .before .before .before in let a = g .args in
@@ -39,4 +33,4 @@ returns c =
 pub weigh-spec : {M : Type 1} → statement M
 weigh-spec =
     tie.close
-    (tie.spec divide-requires divide-requires-2 add-own-requires same-length same-length-2 returns)
+    (tie.spec divide-requires divide-requires-2 add-own-requires (λ c. search needs) (λ c. search needs) returns)

@@ -34,17 +34,8 @@ given c = c .before .before .workspace .result
 lent : (c : tie.After-node) → length (left c) ≡ 2 * c .before .before .before .before .cells .result
 lent c = c .node .kept .1 .1 .1 .1 .1 .1 .0 ∙ length-take-le _ (given c) (omega (arith, room (c .before .before .before .before), c .before .before .workspace .ensures))
 
-cells-requires : tie.Need-cells-requires
-cells-requires c κs = search needs
-
-nodes-requires : tie.Need-nodes-requires
-nodes-requires c κs = search needs
-
 mul-end : tie.Need-mul-end
 mul-end c = omega (arith, room (c .before))
-
-workspace-requires : tie.Need-workspace-requires
-workspace-requires c κs = search needs
 
 array-borrow-prefix-ws : tie.Need-array-borrow-prefix-ws
 array-borrow-prefix-ws c = omega (arith, room (c .before .before), c .workspace .ensures)
@@ -54,9 +45,11 @@ slice-aggregate-node c = sym (length-take-le _ _ (omega (arith, room (c .before 
 
 node-requires : tie.Need-node-requires
 node-requires c κs =
-    let g = c .before .before .before .before .before in let z = c .before .workspace in
-    (g .pre .0, root-at (g .args .settings) (g .args .challenges .now) (g .args .leaves .now) (g .pre .0) _ _ (z .result)
-    (nodes-are (c .before .before)) (cells-are (c .before .before .before)) (z .ensures))
+    let g = c .before .before .before .before .before in let z = c .before .workspace in (
+      g .pre .0,
+      root-at (g .args .settings) (g .args .challenges .now) (g .args .leaves .now) (g .pre .0) _ _ (z .result)
+          (nodes-are (c .before .before)) (cells-are (c .before .before .before)) (z .ensures),
+    )
 
 mul-store : tie.Need-mul-store
 mul-store c = omega (arith, room (c .before .before .before .before .before))
@@ -75,9 +68,6 @@ store-requires c κs =
     let n = c .before .before .before .before in let k = n .before .before .before .before in let g = k .before .before in
     (omega (arith, part-room _ (left n) (given n) (room k) (lent n) (n .before .before .workspace .ensures)), omega (arith, g .pre .1, cells-are k))
 
-same-length : tie.Need-same-length
-same-length c = search needs
-
 returns : tie.Need-returns
 unfolding rootVector cells size
 returns c =
@@ -90,10 +80,10 @@ pub root-spec : {M : Type 1} → statement M
 root-spec =
     tie.close
     (tie.spec
-    cells-requires
-    nodes-requires
+    (λ c κs. search needs)
+    (λ c κs. search needs)
     mul-end
-    workspace-requires
+    (λ c κs. search needs)
     array-borrow-prefix-ws
     slice-aggregate-node
     node-requires
@@ -102,5 +92,5 @@ root-spec =
     part-store-start
     part-store-end
     store-requires
-    same-length
+    (λ c. search needs)
     returns)

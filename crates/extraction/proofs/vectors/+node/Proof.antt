@@ -122,9 +122,6 @@ module _ (t : ℕ) where
       let g = c .before .before .before .before in let tree = g .pre .1 .0 in
       (L.small tree, L.leaf-inside tree (g .pre .1 .1) (omega arith), L.leaf-space tree (g .pre .1 .1) (omega arith))
 
-  node-same-length : node-lts.Need-same-length (calls t) (node-at t) node.Post
-  node-same-length c = search needs
-
   node-returns : node-lts.Need-returns (calls t) (node-at t) node.Post
   node-returns c =
       let g = c .before .before .before .before .before .before in L.leaf-is (g .pre .1 .0) (g .pre .1 .1) (omega arith) _ (c .before .leaf-vector .ensures)
@@ -132,29 +129,8 @@ module _ (t : ℕ) where
   node-div-n : node-lts.Need-div-n (calls t) (node-at t) node.Post
   node-div-n c = L.some (start c .pre .1 .0)
 
-  node-mul-clear : node-lts.Need-mul-clear (calls t) (node-at t) node.Post
-  node-mul-clear c = search needs
-
-  node-sub-clear : node-lts.Need-sub-clear (calls t) (node-at t) node.Post
-  node-sub-clear c = search needs
-
-  node-part-clear-start : node-lts.Need-part-clear-start (calls t) (node-at t) node.Post
-  node-part-clear-start c = search needs
-
-  node-part-clear-end : node-lts.Need-part-clear-end (calls t) (node-at t) node.Post
-  node-part-clear-end c = search needs
-
-  node-clear-requires : node-lts.Need-clear-requires (calls t) (node-at t) node.Post
-  node-clear-requires c κs = search needs
-
-  node-sub-node : node-lts.Need-sub-node (calls t) (node-at t) node.Post
-  node-sub-node c = search needs
-
   node-child-of-requires : node-lts.Need-child-of-requires (calls t) (node-at t) node.Post
   node-child-of-requires c κs = omega (arith, inner (above c))
-
-  node-slice-relend-prefix-node : node-lts.Need-slice-relend-prefix-node (calls t) (node-at t) node.Post
-  node-slice-relend-prefix-node c = search needs
 
   node-slice-aggregate-node : node-lts.Need-slice-aggregate-node (calls t) (node-at t) node.Post
   node-slice-aggregate-node c = let at = c .before .before in N.lent (branch (above at)) 0 (stage-0 at)
@@ -168,14 +144,8 @@ module _ (t : ℕ) where
       let child = c .before .before in let at = child .before .before .before in
       N.stage-branching (branch (above at)) 0 (omega arith) _ (stage-0 at) (child .before .before .child-of .ensures) (child .node .kept .1 .1 .1 .1 .1 .1 .0) (child .node .ensures)
 
-  node-sub-node-2 : node-lts.Need-sub-node-2 (calls t) (node-at t) node.Post
-  node-sub-node-2 c = search needs
-
   node-child-of-requires-2 : node-lts.Need-child-of-requires-2 (calls t) (node-at t) node.Post
   node-child-of-requires-2 c κs = omega (arith, inner (above (zeros c)))
-
-  node-slice-relend-prefix-node-2 : node-lts.Need-slice-relend-prefix-node-2 (calls t) (node-at t) node.Post
-  node-slice-relend-prefix-node-2 c = search needs
 
   node-slice-aggregate-node-2 : node-lts.Need-slice-aggregate-node-2 (calls t) (node-at t) node.Post
   node-slice-aggregate-node-2 c = let at = c .before .before in N.lent (branch (above (zeros at))) 1 (stage-1 at)
@@ -189,22 +159,16 @@ module _ (t : ℕ) where
       let child = c .before .before in let at = child .before .before .before in
       N.stage-branching (branch (above (zeros at))) 1 (omega arith) _ (stage-1 at) (child .before .before .child-of2 .ensures) (child .node2 .kept .1 .1 .1 .1 .1 .1 .0) (child .node2 .ensures)
 
-  node-sub-node-3 : node-lts.Need-sub-node-3 (calls t) (node-at t) node.Post
-  node-sub-node-3 c = search needs
-
   node-child-of-requires-3 : node-lts.Need-child-of-requires-3 (calls t) (node-at t) node.Post
   node-child-of-requires-3 c κs = omega (arith, inner (above (zeros (first c))))
-
-  node-slice-relend-prefix-node-3 : node-lts.Need-slice-relend-prefix-node-3 (calls t) (node-at t) node.Post
-  node-slice-relend-prefix-node-3 c = search needs
 
   node-slice-aggregate-node-3 : node-lts.Need-slice-aggregate-node-3 (calls t) (node-at t) node.Post
   node-slice-aggregate-node-3 c = let at = c .before .before in N.lent (branch (above (zeros (first at)))) 2 (stage-2 at)
 
   node-node-requires-3 : node-lts.Need-node-requires-3 (calls t) (node-at t) node.Post
   node-node-requires-3 c κs =
-      let at =
-      c .before .before in let b = branch (above (zeros (first at))) in (lower (above (zeros (first at))), (b .tree, N.child-place b 2 (omega arith) (c .before .child-of3 .ensures) (stage-2 at)))
+      let at = c .before .before in let b = branch (above (zeros (first at))) in
+      (lower (above (zeros (first at))), (b .tree, N.child-place b 2 (omega arith) (c .before .child-of3 .ensures) (stage-2 at)))
 
   node-add-branch-requires-3 : node-lts.Need-add-branch-requires-3 (calls t) (node-at t) node.Post
   node-add-branch-requires-3 c κs =
@@ -224,29 +188,29 @@ pub +node-spec : {M : Type 1} → statement M
     (node-cast-d t)
     (node-sub-leaf-vector t)
     (node-leaf-vector-requires t)
-    (node-same-length t)
+    (λ c. search needs)
     (node-returns t)
     (node-div-n t)
-    (node-mul-clear t)
-    (node-sub-clear t)
-    (node-part-clear-start t)
-    (node-part-clear-end t)
-    (node-clear-requires t)
-    (node-sub-node t)
+    (λ c. search needs)
+    (λ c. search needs)
+    (λ c. search needs)
+    (λ c. search needs)
+    (λ c κs. search needs)
+    (λ c. search needs)
     (node-child-of-requires t)
-    (node-slice-relend-prefix-node t)
+    (λ c. search needs)
     (node-slice-aggregate-node t)
     (node-node-requires t)
     (node-add-branch-requires t)
-    (node-sub-node-2 t)
+    (λ c. search needs)
     (node-child-of-requires-2 t)
-    (node-slice-relend-prefix-node-2 t)
+    (λ c. search needs)
     (node-slice-aggregate-node-2 t)
     (node-node-requires-2 t)
     (node-add-branch-requires-2 t)
-    (node-sub-node-3 t)
+    (λ c. search needs)
     (node-child-of-requires-3 t)
-    (node-slice-relend-prefix-node-3 t)
+    (λ c. search needs)
     (node-slice-aggregate-node-3 t)
     (node-node-requires-3 t)
     (node-add-branch-requires-3 t)

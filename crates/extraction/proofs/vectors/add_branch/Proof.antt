@@ -30,38 +30,11 @@ module _ (d n k j x y : ℕ) (E : List ℕ) (ws : List ℤ) (B : Branching d n k
       ∙ e
       ∙ λ i. withShare d n (is-a i) (mu d (is-a i) (is-b i) (is-c i)) (take (n * d) (tail-all (n * d) ws i)) (drop (n * d) (tail-all (n * d) ws i))
 
-challenge-of-requires : tie.Need-challenge-of-requires
-challenge-of-requires c κs = search needs
-
-challenge-of-requires-2 : tie.Need-challenge-of-requires-2
-challenge-of-requires-2 c κs = search needs
-
-challenge-of-requires-3 : tie.Need-challenge-of-requires-3
-challenge-of-requires-3 c κs = search needs
-
-mul-cells : tie.Need-mul-cells
-mul-cells c = search needs
-
-mul-add-share : tie.Need-mul-add-share
-mul-add-share c = search needs
-
-sub-add-share : tie.Need-sub-add-share
-sub-add-share c = search needs
-
-part-add-share-start : tie.Need-part-add-share-start
-part-add-share-start c = search needs
-
-part-add-share-end : tie.Need-part-add-share-end
-part-add-share-end c = search needs
-
 add-share-requires : tie.Need-add-share-requires
 add-share-requires c κs =
     let g = c .before .before .before .before .before in let a = g .args in
     sharing (a .d) (a .n) (a .k) (a .j) (a .x) (a .y) (a .challenges .now) (a .ws .now) (g .pre)
     (c .before .before .before .challenge-of .ensures) (c .before .before .challenge-of2 .ensures) (c .before .challenge-of3 .ensures)
-
-same-length : tie.Need-same-length
-same-length c = search needs
 
 returns : tie.Need-returns
 returns c =
@@ -74,14 +47,14 @@ pub add-branch-spec : {M : Type 1} → statement M
 add-branch-spec =
     tie.close
     (tie.spec
-    challenge-of-requires
-    challenge-of-requires-2
-    challenge-of-requires-3
-    mul-cells
-    mul-add-share
-    sub-add-share
-    part-add-share-start
-    part-add-share-end
+    (λ c κs. search needs)
+    (λ c κs. search needs)
+    (λ c κs. search needs)
+    (λ c. search needs)
+    (λ c. search needs)
+    (λ c. search needs)
+    (λ c. search needs)
+    (λ c. search needs)
     add-share-requires
-    same-length
+    (λ c. search needs)
     returns)

@@ -74,38 +74,17 @@ first-sums c = let a = at-scale (at-sums c) .args in c .add-turned .ensures ∙ 
 mul-back : tie.Need-mul-back
 mul-back c = omega (arith, c .pre .small)
 
-sub-back : tie.Need-sub-back
-sub-back c = search needs
-
 add-on-circle : tie.Need-add-on-circle
 add-on-circle c = omega (arith, c .pre .small, c .pre .others .0)
-
-on-circle-requires : tie.Need-on-circle-requires
-on-circle-requires c κs = search needs
 
 add-on-circle-2 : tie.Need-add-on-circle-2
 add-on-circle-2 c = omega (arith, c .before .pre .small, c .before .pre .others .1)
 
-on-circle-requires-2 : tie.Need-on-circle-requires-2
-on-circle-requires-2 c κs = search needs
-
 add-on-circle-3 : tie.Need-add-on-circle-3
 add-on-circle-3 c = let g = c .before .before in omega (arith, g .pre .small, g .pre .others .0, g .pre .others .1)
 
-on-circle-requires-3 : tie.Need-on-circle-requires-3
-on-circle-requires-3 c κs = search needs
-
-mul-cells : tie.Need-mul-cells
-mul-cells c = search needs
-
-slice-relend-prefix-scale : tie.Need-slice-relend-prefix-scale
-slice-relend-prefix-scale c = search needs
-
 slice-aggregate-scale : tie.Need-slice-aggregate-scale
 slice-aggregate-scale c = let g = c .before .before .before .before in sym (length-take-le _ _ (omega (arith, g .pre .long)))
-
-slice-aggregate-scale-2 : tie.Need-slice-aggregate-scale-2
-slice-aggregate-scale-2 c = search needs
 
 scale-requires : tie.Need-scale-requires
 scale-requires c κs =
@@ -113,37 +92,21 @@ scale-requires c κs =
     let is-e = c .before .before .on-circle3 .ensures (circle g) in
     (omega (arith, g .pre .small), rw (first (c .before .before .before .before), second (c .before .before .before), is-e) (share-scalable (a .d) (a .n) (a .a) (a .b) (a .c) (a .l .now) (g .pre)))
 
-on-circle-requires-4 : tie.Need-on-circle-requires-4
-on-circle-requires-4 c κs = search needs
-
 mul-on-circle : tie.Need-mul-on-circle
 mul-on-circle c = omega (arith, once-small c, at-once c .pre .small)
-
-on-circle-requires-5 : tie.Need-on-circle-requires-5
-on-circle-requires-5 c κs = search needs
-
-slice-aggregate-add-turned : tie.Need-slice-aggregate-add-turned
-slice-aggregate-add-turned c = search needs
 
 add-turned-requires : tie.Need-add-turned-requires
 add-turned-requires c κs =
     let at = c .before .before in let s = at .before .before .before .before in let g = at-scale s in let a = g .args in
     (room s, rw (twice at) (first-turnable (a .d) (a .n) (a .a) (a .b) (a .c) (a .l .now) (g .pre) (products s)))
 
-mul-add-turned : tie.Need-mul-add-turned
-mul-add-turned c = search needs
-
-slice-aggregate-add-turned-2 : tie.Need-slice-aggregate-add-turned-2
-slice-aggregate-add-turned-2 c = search needs
-
 add-turned-requires-2 : tie.Need-add-turned-requires-2
 add-turned-requires-2 c κs =
-    let t = c .before .before .before .before in let s = at-sums t in let g = at-scale s in let a = g .args in
-    (omega (arith, room s, t .add-turned .kept .1 .1 .1 .1 .1 .0), rw (once (before-sums t .before))
-    (second-turnable (a .d) (a .n) (a .a) (a .b) (a .c) (a .l .now) (g .pre) (products s) (first-sums t)))
-
-same-length : tie.Need-same-length
-same-length c = search needs
+    let t = c .before .before .before .before in let s = at-sums t in let g = at-scale s in let a = g .args in (
+      omega (arith, room s, t .add-turned .kept .1 .1 .1 .1 .1 .0),
+      rw (once (before-sums t .before))
+          (second-turnable (a .d) (a .n) (a .a) (a .b) (a .c) (a .l .now) (g .pre) (products s) (first-sums t)),
+    )
 
 returns : tie.Need-returns
 returns c =
@@ -156,25 +119,25 @@ add-share-spec =
     tie.close
     (tie.spec
     mul-back
-    sub-back
+    (λ c. search needs)
     add-on-circle
-    on-circle-requires
+    (λ c κs. search needs)
     add-on-circle-2
-    on-circle-requires-2
+    (λ c κs. search needs)
     add-on-circle-3
-    on-circle-requires-3
-    mul-cells
-    slice-relend-prefix-scale
+    (λ c κs. search needs)
+    (λ c. search needs)
+    (λ c. search needs)
     slice-aggregate-scale
-    slice-aggregate-scale-2
+    (λ c. search needs)
     scale-requires
-    on-circle-requires-4
+    (λ c κs. search needs)
     mul-on-circle
-    on-circle-requires-5
-    slice-aggregate-add-turned
+    (λ c κs. search needs)
+    (λ c. search needs)
     add-turned-requires
-    mul-add-turned
-    slice-aggregate-add-turned-2
+    (λ c. search needs)
+    (λ c. search needs)
     add-turned-requires-2
-    same-length
+    (λ c. search needs)
     returns)

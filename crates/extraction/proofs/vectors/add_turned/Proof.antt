@@ -99,9 +99,6 @@ sub-spread c = let h = here c in omega arith
 part-spread-start : tie.Need-part-spread-start Inv-loop μ-loop
 part-spread-start c = let h = here (c .before) in omega arith
 
-part-spread-end : tie.Need-part-spread-end Inv-loop μ-loop
-part-spread-end c = search needs
-
 spread-requires : tie.Need-spread-requires Inv-loop μ-loop
 spread-requires c κs =
     let g = c .before .before .before .before .before in let l = c .before .before .before .before .loop in let a = g .args in
@@ -119,20 +116,11 @@ sub-add-spread c = let h = here (c .before .before .before .before .before .befo
 part-add-spread-start : tie.Need-part-add-spread-start Inv-loop μ-loop
 part-add-spread-start c = let h = here (c .before .before .before .before .before .before) in omega arith
 
-part-add-spread-end : tie.Need-part-add-spread-end Inv-loop μ-loop
-part-add-spread-end c = search needs
-
 add-spread-requires : tie.Need-add-spread-requires Inv-loop μ-loop
 add-spread-requires c κs =
     let g = c .before .before .before .before .before .before .before .before .before in let l = c .before .before .before .before .before .before .before .before .loop in
     let a = g .args in let s = c .before .before .before .spread in
     can-add (a .d) (a .n) (a .e) (a .to) (a .l .now) (g .pre .1) (l .i) (omega arith) (l .inv .1) (l .inv .2) _ (omega (arith, g .pre .0, l .inv .3, s .kept .1 .1 .0)) (s .ensures)
-
-add-i : tie.Need-add-i Inv-loop μ-loop
-add-i c = search needs
-
-loop-less : tie.Need-loop-less Inv-loop μ-loop
-loop-less c = search needs
 
 loop-again : tie.Need-loop-again Inv-loop μ-loop
 loop-again c =
@@ -140,19 +128,13 @@ loop-again c =
     let l = c .before .before .before .before .before .before .before .before .before .before .loop in
     let a = g .args in let s = c .before .before .before .before .before .spread in
     let same = next (a .d) (a .n) (a .e) (a .to) (a .l .now) (g .pre .1) (l .i) (omega arith) (l .inv .1) (l .inv .2) _
-        (omega (arith, g .pre .0, l .inv .3, s .kept .1 .1 .0)) (s .ensures) (c .before .add-spread .ensures) in
+    (omega (arith, g .pre .0, l .inv .3, s .kept .1 .1 .0)) (s .ensures) (c .before .add-spread .ensures) in
     let h = here (c .before .before .before .before .before .before .before .before .before) in (
       omega arith,
       same,
       ap length same ∙ spliced-length _ (a .to) ((l .i + 1) * a .d) (a .l .now) (omega arith) (omega (arith, Nat.add-mul (l .i) 1 (a .d))),
       s .kept .1 .1 .0 ∙ l .inv .3,
     )
-
-same-length : tie.Need-same-length Inv-loop μ-loop
-same-length c = search needs
-
-same-length-2 : tie.Need-same-length-2 Inv-loop μ-loop
-same-length-2 c = search needs
 
 returns : tie.Need-returns Inv-loop μ-loop
 unfolding turned
@@ -171,17 +153,17 @@ add-turned-spec =
     mul-spread
     sub-spread
     part-spread-start
-    part-spread-end
+    (λ c. search needs)
     spread-requires
     add-place
     mul-add-spread
     sub-add-spread
     part-add-spread-start
-    part-add-spread-end
+    (λ c. search needs)
     add-spread-requires
-    add-i
-    loop-less
+    (λ c. search needs)
+    (λ c. search needs)
     loop-again
-    same-length
-    same-length-2
+    (λ c. search needs)
+    (λ c. search needs)
     returns)

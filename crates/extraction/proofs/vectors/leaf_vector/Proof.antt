@@ -31,39 +31,6 @@ loaded d j finals ws q inside long e =
     ∙ append-nil _
     ∙ tabulate-ext d (part-signed (j * d) (length finals - j * d) finals d j refl (omega arith))
 
-mul-at : tie.Need-mul-at
-mul-at c = search needs
-
-mul-load : tie.Need-mul-load
-mul-load c = search needs
-
-sub-load : tie.Need-sub-load
-sub-load c = search needs
-
-part-load-start : tie.Need-part-load-start
-part-load-start c = search needs
-
-part-load-end : tie.Need-part-load-end
-part-load-end c = search needs
-
-mul-load-2 : tie.Need-mul-load-2
-mul-load-2 c = search needs
-
-sub-load-2 : tie.Need-sub-load-2
-sub-load-2 c = search needs
-
-part-load-start-2 : tie.Need-part-load-start-2
-part-load-start-2 c = search needs
-
-part-load-end-2 : tie.Need-part-load-end-2
-part-load-end-2 c = search needs
-
-load-requires : tie.Need-load-requires
-load-requires c κs = search needs
-
-same-length : tie.Need-same-length
-same-length c = search needs
-
 returns : tie.Need-returns
 returns c = let g = c .before .before .before .before in loaded (g .args .d) (g .args .j) (g .args .leaves .now) (g .args .ws .now) _ (g .pre .1) (g .pre .2) (c .before .load .ensures)
 
@@ -71,15 +38,15 @@ pub leaf-vector-spec : {M : Type 1} → statement M
 leaf-vector-spec =
     tie.close
     (tie.spec
-    mul-at
-    mul-load
-    sub-load
-    part-load-start
-    part-load-end
-    mul-load-2
-    sub-load-2
-    part-load-start-2
-    part-load-end-2
-    load-requires
-    same-length
+    (λ c. search needs)
+    (λ c. search needs)
+    (λ c. search needs)
+    (λ c. search needs)
+    (λ c. search needs)
+    (λ c. search needs)
+    (λ c. search needs)
+    (λ c. search needs)
+    (λ c. search needs)
+    (λ c κs. search needs)
+    (λ c. search needs)
     returns)

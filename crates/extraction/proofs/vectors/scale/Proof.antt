@@ -77,19 +77,10 @@ sub-weigh c = omega (arith, here c)
 part-weigh-start : tie.Need-part-weigh-start Inv-loop μ-loop
 part-weigh-start c = omega (arith, here c)
 
-part-weigh-end : tie.Need-part-weigh-end Inv-loop μ-loop
-part-weigh-end c = search needs
-
 weigh-requires : tie.Need-weigh-requires Inv-loop μ-loop
 weigh-requires c κs =
     let g = c .before .before .before .before in let l = c .before .before .before .loop in let a = g .args in
     (omega (arith, g .pre .0, l .inv .3), weighable (a .d) (a .n) (a .k) (a .m) (a .e) (a .v .now) (g .pre .1) (l .i) (omega arith) (l .v) (l .inv .1) (l .inv .2))
-
-add-i : tie.Need-add-i Inv-loop μ-loop
-add-i c = search needs
-
-loop-less : tie.Need-loop-less Inv-loop μ-loop
-loop-less c = search needs
 
 loop-again : tie.Need-loop-again Inv-loop μ-loop
 loop-again c =
@@ -100,12 +91,6 @@ loop-again c =
       ap length next ∙ spliced-length _ 0 ((l .i + 1) * a .d) (a .v .now) (omega arith) (omega (arith, here (c .before .before .before .before .before), Nat.add-mul (l .i) 1 (a .d))),
       c .before .before .weigh .kept .1 .1 .1 .1 .1 .0 ∙ l .inv .3,
     )
-
-same-length : tie.Need-same-length Inv-loop μ-loop
-same-length c = search needs
-
-same-length-2 : tie.Need-same-length-2 Inv-loop μ-loop
-same-length-2 c = search needs
 
 returns : tie.Need-returns Inv-loop μ-loop
 unfolding scaled
@@ -124,11 +109,11 @@ scale-spec =
     mul-weigh
     sub-weigh
     part-weigh-start
-    part-weigh-end
+    (λ c. search needs)
     weigh-requires
-    add-i
-    loop-less
+    (λ c. search needs)
+    (λ c. search needs)
     loop-again
-    same-length
-    same-length-2
+    (λ c. search needs)
+    (λ c. search needs)
     returns)

@@ -4,27 +4,6 @@ use borrow.Author.Needs.{needs}
 use Rattle.opening.proofs.turns.prove_round.Statement.{statement}
 use Rattle.opening.proofs.turns.prove_round.Tie as tie
 
-round-requires : tie.Need-round-requires
-round-requires c κs = search needs
-
-elements-of-requires : tie.Need-elements-of-requires
-elements-of-requires c κs = search needs
-
-fold-requires : tie.Need-fold-requires
-fold-requires c κs = search needs
-
-store-round-requires : tie.Need-store-round-requires
-store-round-requires c κs = search needs
-
-same-length : tie.Need-same-length
-same-length c = search needs
-
-same-length-2 : tie.Need-same-length-2
-same-length-2 c = search needs
-
-same-length-3 : tie.Need-same-length-3
-same-length-3 c = search needs
-
 returns : tie.Need-returns
 returns c =
     let a = c .before .before .before .before .before .before .before .before .before .before .before .before .before .before .before .before .args in
@@ -35,11 +14,11 @@ pub prove-round-spec : {M : Type 1} → statement M
 prove-round-spec =
     tie.close
     (tie.spec
-    round-requires
-    elements-of-requires
-    fold-requires
-    store-round-requires
-    same-length
-    same-length-2
-    same-length-3
+    (λ c κs. search needs)
+    (λ c κs. search needs)
+    (λ c κs. search needs)
+    (λ c κs. search needs)
+    (λ c. search needs)
+    (λ c. search needs)
+    (λ c. search needs)
     returns)

@@ -38,15 +38,6 @@ sub-extend c = omega (arith, inside c)
 part-extend-start : tie.Need-part-extend-start Inv-loop μ-loop
 part-extend-start c = omega (arith, inside c)
 
-part-extend-end : tie.Need-part-extend-end Inv-loop μ-loop
-part-extend-end c = search needs
-
-slice-aggregate-extend : tie.Need-slice-aggregate-extend Inv-loop μ-loop
-slice-aggregate-extend c = search needs
-
-extend-requires : tie.Need-extend-requires Inv-loop μ-loop
-extend-requires c κs = search needs
-
 mul-accumulate : tie.Need-mul-accumulate Inv-loop μ-loop
 mul-accumulate c = omega (arith, inside (c .before .before .before .before))
 
@@ -55,21 +46,6 @@ sub-accumulate c = omega (arith, inside (c .before .before .before .before))
 
 part-accumulate-start : tie.Need-part-accumulate-start Inv-loop μ-loop
 part-accumulate-start c = omega (arith, inside (c .before .before .before .before))
-
-part-accumulate-end : tie.Need-part-accumulate-end Inv-loop μ-loop
-part-accumulate-end c = search needs
-
-slice-aggregate-accumulate : tie.Need-slice-aggregate-accumulate Inv-loop μ-loop
-slice-aggregate-accumulate c = search needs
-
-accumulate-requires : tie.Need-accumulate-requires Inv-loop μ-loop
-accumulate-requires c κs = search needs
-
-add-i : tie.Need-add-i Inv-loop μ-loop
-add-i c = search needs
-
-loop-less : tie.Need-loop-less Inv-loop μ-loop
-loop-less c = search needs
 
 loop-again : tie.Need-loop-again Inv-loop μ-loop
 loop-again c =
@@ -92,9 +68,6 @@ loop-again c =
       search needs,
     )
 
-same-length : tie.Need-same-length Inv-loop μ-loop
-same-length c = search needs
-
 returns : tie.Need-returns Inv-loop μ-loop
 returns c = let a = c .before .before .before .before .args in c .before .loop .inv .1 ∙ ap (λ n. innerSums (a .q) (a .d) (a .message .now) (a .key .now) n (a .sums .now)) (omega arith)
 
@@ -109,17 +82,17 @@ add-inner-spec =
     mul-extend
     sub-extend
     part-extend-start
-    part-extend-end
-    slice-aggregate-extend
-    extend-requires
+    (λ c. search needs)
+    (λ c. search needs)
+    (λ c κs. search needs)
     mul-accumulate
     sub-accumulate
     part-accumulate-start
-    part-accumulate-end
-    slice-aggregate-accumulate
-    accumulate-requires
-    add-i
-    loop-less
+    (λ c. search needs)
+    (λ c. search needs)
+    (λ c κs. search needs)
+    (λ c. search needs)
+    (λ c. search needs)
     loop-again
-    same-length
+    (λ c. search needs)
     returns)

@@ -9,44 +9,11 @@ use borrow.Author.Needs.{needs}
 use Rattle.prover.proofs.inner.polynomial.Statement.{statement}
 use Rattle.prover.proofs.inner.polynomial.Tie as tie
 
-mul-half : tie.Need-mul-half
-mul-half c = search needs
-
 straight-requires : tie.Need-straight-requires
 straight-requires c κs = let a = c .before .args in first-halves (a .q) (a .d) (a .h) (a .message .now) (a .key .now) (c .before .pre .tables)
 
-mul-straight : tie.Need-mul-straight
-mul-straight c = search needs
-
-sub-straight : tie.Need-sub-straight
-sub-straight c = search needs
-
-part-straight-start : tie.Need-part-straight-start
-part-straight-start c = search needs
-
-part-straight-end : tie.Need-part-straight-end
-part-straight-end c = search needs
-
-mul-straight-2 : tie.Need-mul-straight-2
-mul-straight-2 c = search needs
-
-sub-straight-2 : tie.Need-sub-straight-2
-sub-straight-2 c = search needs
-
-part-straight-start-2 : tie.Need-part-straight-start-2
-part-straight-start-2 c = search needs
-
-part-straight-end-2 : tie.Need-part-straight-end-2
-part-straight-end-2 c = search needs
-
 straight-requires-2 : tie.Need-straight-requires-2
 straight-requires-2 c κs = let s = c .before .before .before .before in let a = s .args in second-halves (a .q) (a .d) (a .h) (a .message .now) (a .key .now) (s .pre .tables)
-
-mixed-requires : tie.Need-mixed-requires
-mixed-requires c κs = search needs
-
-difference-requires : tie.Need-difference-requires
-difference-requires c κs = search needs
 
 returns : tie.Need-returns
 unfolding tabulate
@@ -63,17 +30,17 @@ pub polynomial-spec : {M : Type 1} → statement M
 polynomial-spec =
     tie.close
     (tie.spec
-    mul-half
+    (λ c. search needs)
     straight-requires
-    mul-straight
-    sub-straight
-    part-straight-start
-    part-straight-end
-    mul-straight-2
-    sub-straight-2
-    part-straight-start-2
-    part-straight-end-2
+    (λ c. search needs)
+    (λ c. search needs)
+    (λ c. search needs)
+    (λ c. search needs)
+    (λ c. search needs)
+    (λ c. search needs)
+    (λ c. search needs)
+    (λ c. search needs)
     straight-requires-2
-    mixed-requires
-    difference-requires
+    (λ c κs. search needs)
+    (λ c κs. search needs)
     returns)

@@ -18,27 +18,6 @@ abbrev μ-loop : tie.MeasureT-loop
 loop-holds : tie.Need-loop-holds Inv-loop μ-loop
 loop-holds c = (omega arith, fill-none _ _)
 
-mul-multiple : tie.Need-mul-multiple Inv-loop μ-loop
-mul-multiple c = search needs
-
-array-read-multiple : tie.Need-array-read-multiple Inv-loop μ-loop
-array-read-multiple c = search needs
-
-multiple-requires : tie.Need-multiple-requires Inv-loop μ-loop
-multiple-requires c κs = search needs
-
-mul-r : tie.Need-mul-r Inv-loop μ-loop
-mul-r c = search needs
-
-array-write-r : tie.Need-array-write-r Inv-loop μ-loop
-array-write-r c = search needs
-
-add-k : tie.Need-add-k Inv-loop μ-loop
-add-k c = search needs
-
-loop-less : tie.Need-loop-less Inv-loop μ-loop
-loop-less c = search needs
-
 loop-again : tie.Need-loop-again Inv-loop μ-loop
 loop-again c = let l = c .before .before .loop in (omega arith, fill-more 64 _ (l .k) _ (l .r) (l .inv .1) (omega arith) (c .multiple .ensures))
 
@@ -52,12 +31,12 @@ scaled-spec =
     Inv-loop
     μ-loop
     loop-holds
-    mul-multiple
-    array-read-multiple
-    multiple-requires
-    mul-r
-    array-write-r
-    add-k
-    loop-less
+    (λ c. search needs)
+    (λ c. search needs)
+    (λ c κs. search needs)
+    (λ c. search needs)
+    (λ c. search needs)
+    (λ c. search needs)
+    (λ c. search needs)
     loop-again
     returns)

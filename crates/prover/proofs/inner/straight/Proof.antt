@@ -8,21 +8,6 @@ use borrow.Author.Needs.{needs}
 use Rattle.prover.proofs.inner.straight.Statement.{statement}
 use Rattle.prover.proofs.inner.straight.Tie as tie
 
-slice-aggregate-add-inner : tie.Need-slice-aggregate-add-inner
-slice-aggregate-add-inner c = search needs
-
-add-inner-requires : tie.Need-add-inner-requires
-add-inner-requires c κs = search needs
-
-slice-aggregate-reduced-sums : tie.Need-slice-aggregate-reduced-sums
-slice-aggregate-reduced-sums c = search needs
-
-reduced-sums-requires : tie.Need-reduced-sums-requires
-reduced-sums-requires c κs = search needs
-
-scaled-requires : tie.Need-scaled-requires
-scaled-requires c κs = search needs
-
 returns : tie.Need-returns
 unfolding zeros
 returns c =
@@ -40,9 +25,9 @@ pub straight-spec : {M : Type 1} → statement M
 straight-spec =
     tie.close
     (tie.spec
-    slice-aggregate-add-inner
-    add-inner-requires
-    slice-aggregate-reduced-sums
-    reduced-sums-requires
-    scaled-requires
+    (λ c. search needs)
+    (λ c κs. search needs)
+    (λ c. search needs)
+    (λ c κs. search needs)
+    (λ c κs. search needs)
     returns)

@@ -27,21 +27,6 @@ mul-half c = omega (arith, few c)
 loop-holds : tie.Need-loop-holds Inv-loop μ-loop
 loop-holds c = (omega arith, filled-none _ _, search needs)
 
-rem-k : tie.Need-rem-k Inv-loop μ-loop
-rem-k c = search needs
-
-mul-rotated : tie.Need-mul-rotated Inv-loop μ-loop
-mul-rotated c = search needs
-
-sub-rotated : tie.Need-sub-rotated Inv-loop μ-loop
-sub-rotated c = search needs
-
-part-rotated-start : tie.Need-part-rotated-start Inv-loop μ-loop
-part-rotated-start c = search needs
-
-part-rotated-end : tie.Need-part-rotated-end Inv-loop μ-loop
-part-rotated-end c = search needs
-
 sub-rotated-2 : tie.Need-sub-rotated-2 Inv-loop μ-loop
 sub-rotated-2 c = let s = c .before .before .before in omega (arith, mod-le (s .loop .p) (s .before .args .d))
 
@@ -57,12 +42,6 @@ rotated-requires c κs =
       second-room (a .d) (a .h) (a .e) (a .message .now) (s .pre .0 .0) (s .pre .1 .0) (s .pre .1 .1) (l .p) (l .message) (l .inv .1) (omega arith),
     )
 
-mul-x : tie.Need-mul-x Inv-loop μ-loop
-mul-x c = search needs
-
-slice-copy-out-x : tie.Need-slice-copy-out-x Inv-loop μ-loop
-slice-copy-out-x c = search needs
-
 -- the number of the first half
 abbrev old : tie.After-x Inv-loop μ-loop → ℤ
 old c = let l = c .before .before .before .before .before .loop in getD (l .message) (l .p) (pos 0)
@@ -77,18 +56,6 @@ room c =
 add-message : tie.Need-add-message Inv-loop μ-loop
 add-message c = plus-fits (old c) (c .before .rotated .result) (room c)
 
-mul-t16 : tie.Need-mul-t16 Inv-loop μ-loop
-mul-t16 c = search needs
-
-slice-set-from-message : tie.Need-slice-set-from-message Inv-loop μ-loop
-slice-set-from-message c = search needs
-
-add-p : tie.Need-add-p Inv-loop μ-loop
-add-p c = search needs
-
-loop-less : tie.Need-loop-less Inv-loop μ-loop
-loop-less c = search needs
-
 loop-again : tie.Need-loop-again Inv-loop μ-loop
 loop-again c =
     let l = c .before .before .before .before .before .loop in
@@ -99,9 +66,6 @@ loop-again c =
           ∙ turn-is (a .d) (a .h) (a .e) (a .message .now) (s .pre .0 .0) (s .pre .1 .0) (s .pre .1 .1) (l .p) (l .message) (l .inv .1) (omega arith) _ (c .before .rotated .ensures),
       simp length-set (omega arith),
     )
-
-same-length : tie.Need-same-length Inv-loop μ-loop
-same-length c = search needs
 
 returns : tie.Need-returns Inv-loop μ-loop
 returns c =
@@ -118,20 +82,20 @@ fold-message-spec =
     μ-loop
     mul-half
     loop-holds
-    rem-k
-    mul-rotated
-    sub-rotated
-    part-rotated-start
-    part-rotated-end
+    (λ c. search needs)
+    (λ c. search needs)
+    (λ c. search needs)
+    (λ c. search needs)
+    (λ c. search needs)
     sub-rotated-2
     rotated-requires
-    mul-x
-    slice-copy-out-x
+    (λ c. search needs)
+    (λ c. search needs)
     add-message
-    mul-t16
-    slice-set-from-message
-    add-p
-    loop-less
+    (λ c. search needs)
+    (λ c. search needs)
+    (λ c. search needs)
+    (λ c. search needs)
     loop-again
-    same-length
+    (λ c. search needs)
     returns)

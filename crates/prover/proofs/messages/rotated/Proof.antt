@@ -14,37 +14,10 @@ use Rattle.prover.proofs.messages.rotated.Tie as tie
 small : (c : tie.Start) (j : ℕ) → j < c .args .d → natAbs (getD (c .args .t .now) (c .args .row + j) (pos 0)) < 2 ^ 31
 small c j l = omega (arith, c .pre .4 .each (c .args .row + j) (omega arith))
 
-add-result : tie.Need-add-result
-add-result c = search needs
-
-mul-result : tie.Need-mul-result
-mul-result c = search needs
-
-shared-slice-copy-out-result : tie.Need-shared-slice-copy-out-result
-shared-slice-copy-out-result c = search needs
-
 returns : tie.Need-returns
 returns c =
     let s = c .before .before in
     read-is _ (small s (s .args .k - s .args .e) (omega arith)) ∙ sym (rotate-plus _ _ (from (s .args .t .now) (s .args .row)) _ (s .pre .1) (s .pre .0) (c .before .if1 .taken))
-
-add-if2 : tie.Need-add-if2
-add-if2 c = search needs
-
-add-result-2 : tie.Need-add-result-2
-add-result-2 c = search needs
-
-sub-result : tie.Need-sub-result
-sub-result c = search needs
-
-add-result-3 : tie.Need-add-result-3
-add-result-3 c = search needs
-
-mul-result-2 : tie.Need-mul-result-2
-mul-result-2 c = search needs
-
-shared-slice-copy-out-result-2 : tie.Need-shared-slice-copy-out-result-2
-shared-slice-copy-out-result-2 c = search needs
 
 sub-result-2 : tie.Need-sub-result-2
 sub-result-2 c = let s = c .before .before .before in minus-fits (from (s .args .t .now) (s .args .row) (s .args .k + s .args .d - s .args .e)) (small s (s .args .k + s .args .d - s .args .e) (omega arith))
@@ -53,24 +26,6 @@ returns-2 : tie.Need-returns-2
 returns-2 c =
     let s = c .before .before .before in
     minus-is (from (s .args .t .now) (s .args .row) (s .args .k + s .args .d - s .args .e)) (small s (s .args .k + s .args .d - s .args .e) (omega arith)) ∙ sym (rotate-minus _ _ (from (s .args .t .now) (s .args .row)) _ (s .pre .1) (s .pre .0) (c .before .before .if1 .left) (c .before .if2 .taken))
-
-add-result-4 : tie.Need-add-result-4
-add-result-4 c = search needs
-
-add-result-5 : tie.Need-add-result-5
-add-result-5 c = search needs
-
-sub-result-3 : tie.Need-sub-result-3
-sub-result-3 c = search needs
-
-add-result-6 : tie.Need-add-result-6
-add-result-6 c = search needs
-
-mul-result-3 : tie.Need-mul-result-3
-mul-result-3 c = search needs
-
-shared-slice-copy-out-result-3 : tie.Need-shared-slice-copy-out-result-3
-shared-slice-copy-out-result-3 c = search needs
 
 returns-3 : tie.Need-returns-3
 returns-3 c =
@@ -81,22 +36,22 @@ pub rotated-spec : {M : Type 1} → statement M
 rotated-spec =
     tie.close
     (tie.spec
-    add-result
-    mul-result
-    shared-slice-copy-out-result
+    (λ c. search needs)
+    (λ c. search needs)
+    (λ c. search needs)
     returns
-    add-if2
-    add-result-2
-    sub-result
-    add-result-3
-    mul-result-2
-    shared-slice-copy-out-result-2
+    (λ c. search needs)
+    (λ c. search needs)
+    (λ c. search needs)
+    (λ c. search needs)
+    (λ c. search needs)
+    (λ c. search needs)
     sub-result-2
     returns-2
-    add-result-4
-    add-result-5
-    sub-result-3
-    add-result-6
-    mul-result-3
-    shared-slice-copy-out-result-3
+    (λ c. search needs)
+    (λ c. search needs)
+    (λ c. search needs)
+    (λ c. search needs)
+    (λ c. search needs)
+    (λ c. search needs)
     returns-3)

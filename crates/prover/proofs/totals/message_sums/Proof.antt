@@ -19,35 +19,11 @@ abbrev μ-loop : tie.MeasureT-loop
 loop-holds : tie.Need-loop-holds Inv-loop μ-loop
 loop-holds c = (omega arith, filled-none _ _, refl)
 
-mul-whole-sum : tie.Need-mul-whole-sum Inv-loop μ-loop
-mul-whole-sum c = search needs
-
-shared-slice-copy-out-whole-sum : tie.Need-shared-slice-copy-out-whole-sum Inv-loop μ-loop
-shared-slice-copy-out-whole-sum c = search needs
-
-mul-whole-sum-2 : tie.Need-mul-whole-sum-2 Inv-loop μ-loop
-mul-whole-sum-2 c = search needs
-
-shared-slice-copy-out-whole-sum-2 : tie.Need-shared-slice-copy-out-whole-sum-2 Inv-loop μ-loop
-shared-slice-copy-out-whole-sum-2 c = search needs
-
 whole-sum-requires : tie.Need-whole-sum-requires Inv-loop μ-loop
 whole-sum-requires c κs =
     let s = c .before .before .before .before in
     let l = c .before .before .before .loop in
     (read-small (getD (s .args .first .now) (l .p) (pos 0)) (s .pre .0 .each (l .p) (omega arith)), read-small (getD (s .args .second .now) (l .p) (pos 0)) (s .pre .1 .each (l .p) (omega arith)))
-
-mul-t14 : tie.Need-mul-t14 Inv-loop μ-loop
-mul-t14 c = search needs
-
-slice-set-from-sums : tie.Need-slice-set-from-sums Inv-loop μ-loop
-slice-set-from-sums c = search needs
-
-add-p : tie.Need-add-p Inv-loop μ-loop
-add-p c = search needs
-
-loop-less : tie.Need-loop-less Inv-loop μ-loop
-loop-less c = search needs
 
 loop-again : tie.Need-loop-again Inv-loop μ-loop
 loop-again c =
@@ -57,9 +33,6 @@ loop-again c =
     let y = getD (s .args .second .now) (l .p) (pos 0) in
     let room : natAbs x + natAbs y < 2 ^ 31 = omega (arith, s .pre .0 .each (l .p) (omega arith), s .pre .1 .each (l .p) (omega arith)) in
     (omega arith, filled-turn _ (l .p) _ (l .inv .1) (ap read (c .whole-sum .ensures) ∙ plus-is x y room) (omega arith), simp length-set (omega arith))
-
-same-length : tie.Need-same-length Inv-loop μ-loop
-same-length c = search needs
 
 returns : tie.Need-returns Inv-loop μ-loop
 returns c = filled-end _ _ (c .before .loop .inv .1) (omega arith)
@@ -71,15 +44,15 @@ message-sums-spec =
     Inv-loop
     μ-loop
     loop-holds
-    mul-whole-sum
-    shared-slice-copy-out-whole-sum
-    mul-whole-sum-2
-    shared-slice-copy-out-whole-sum-2
+    (λ c. search needs)
+    (λ c. search needs)
+    (λ c. search needs)
+    (λ c. search needs)
     whole-sum-requires
-    mul-t14
-    slice-set-from-sums
-    add-p
-    loop-less
+    (λ c. search needs)
+    (λ c. search needs)
+    (λ c. search needs)
+    (λ c. search needs)
     loop-again
-    same-length
+    (λ c. search needs)
     returns)

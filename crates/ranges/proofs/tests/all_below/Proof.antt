@@ -20,21 +20,6 @@ abbrev μ-loop : tie.MeasureT-loop
 loop-holds : tie.Need-loop-holds Inv-loop μ-loop
 loop-holds c = (omega arith, refl, refl)
 
-mul-and-below : tie.Need-mul-and-below Inv-loop μ-loop
-mul-and-below c = search needs
-
-shared-slice-read-and-below : tie.Need-shared-slice-read-and-below Inv-loop μ-loop
-shared-slice-read-and-below c = search needs
-
-and-below-requires : tie.Need-and-below-requires Inv-loop μ-loop
-and-below-requires c κs = search needs
-
-add-i : tie.Need-add-i Inv-loop μ-loop
-add-i c = search needs
-
-loop-less : tie.Need-loop-less Inv-loop μ-loop
-loop-less c = search needs
-
 loop-again : tie.Need-loop-again Inv-loop μ-loop
 loop-again c = let l = c .before .before .before .loop in (omega arith, l .inv .1, asked-goes-on _ _ 0 (l .i) (l .good) (l .inv .2) (omega arith) (c .and-below .ensures))
 
@@ -48,10 +33,10 @@ all-below-spec =
     Inv-loop
     μ-loop
     loop-holds
-    mul-and-below
-    shared-slice-read-and-below
-    and-below-requires
-    add-i
-    loop-less
+    (λ c. search needs)
+    (λ c. search needs)
+    (λ c κs. search needs)
+    (λ c. search needs)
+    (λ c. search needs)
     loop-again
     returns)

@@ -23,21 +23,6 @@ abbrev μ-loop : tie.MeasureT-loop
 loop-holds : tie.Need-loop-holds Inv-loop μ-loop
 loop-holds c = (omega arith, refl, refl)
 
-mul-and-within : tie.Need-mul-and-within Inv-loop μ-loop
-mul-and-within c = search needs
-
-shared-slice-copy-out-and-within : tie.Need-shared-slice-copy-out-and-within Inv-loop μ-loop
-shared-slice-copy-out-and-within c = search needs
-
-and-within-requires : tie.Need-and-within-requires Inv-loop μ-loop
-and-within-requires c κs = search needs
-
-add-i : tie.Need-add-i Inv-loop μ-loop
-add-i c = search needs
-
-loop-less : tie.Need-loop-less Inv-loop μ-loop
-loop-less c = search needs
-
 loop-again : tie.Need-loop-again Inv-loop μ-loop
 loop-again c =
     let a = c .before .before .before .before .args in
@@ -59,10 +44,10 @@ all-within-spec =
     Inv-loop
     μ-loop
     loop-holds
-    mul-and-within
-    shared-slice-copy-out-and-within
-    and-within-requires
-    add-i
-    loop-less
+    (λ c. search needs)
+    (λ c. search needs)
+    (λ c κs. search needs)
+    (λ c. search needs)
+    (λ c. search needs)
     loop-again
     returns)

@@ -23,21 +23,9 @@ abbrev μ-loop : tie.MeasureT-loop
 loop-holds : tie.Need-loop-holds Inv-loop μ-loop
 loop-holds c = (omega arith, refl, refl)
 
-mul-and-within-wide : tie.Need-mul-and-within-wide Inv-loop μ-loop
-mul-and-within-wide c = search needs
-
 shared-slice-copy-out-and-within-wide :
     tie.Need-shared-slice-copy-out-and-within-wide Inv-loop μ-loop
 shared-slice-copy-out-and-within-wide c = search needs
-
-and-within-wide-requires : tie.Need-and-within-wide-requires Inv-loop μ-loop
-and-within-wide-requires c κs = search needs
-
-add-i : tie.Need-add-i Inv-loop μ-loop
-add-i c = search needs
-
-loop-less : tie.Need-loop-less Inv-loop μ-loop
-loop-less c = search needs
 
 loop-again : tie.Need-loop-again Inv-loop μ-loop
 loop-again c =
@@ -60,10 +48,10 @@ all-within-wide-spec =
     Inv-loop
     μ-loop
     loop-holds
-    mul-and-within-wide
+    (λ c. search needs)
     shared-slice-copy-out-and-within-wide
-    and-within-wide-requires
-    add-i
-    loop-less
+    (λ c κs. search needs)
+    (λ c. search needs)
+    (λ c. search needs)
     loop-again
     returns)

@@ -17,9 +17,6 @@ depth c = le-leb _ _ (c .if2 .left)
 modulus : (c : tie.Else3) → modulusAllowed (c .before .before .before .before .before .before .args .settings) ≡ true
 modulus c = sym (c .before .modulus-allowed .ensures) ∙ not-false _ (c .if3 .left)
 
-degree-allowed-requires : tie.Need-degree-allowed-requires
-degree-allowed-requires c κs = search needs
-
 returns : tie.Need-returns
 unfolding settingsRefusal first unless
 returns c = simp (sym (c .before .degree-allowed .ensures) ∙ not-true _ (c .if1 .taken))
@@ -28,15 +25,9 @@ returns-2 : tie.Need-returns-2
 unfolding settingsRefusal first unless depthAllowed
 returns-2 c = simp (degree (c .before .before), lt-leb _ _ (c .if2 .taken))
 
-modulus-allowed-requires : tie.Need-modulus-allowed-requires
-modulus-allowed-requires c κs = search needs
-
 returns-3 : tie.Need-returns-3
 unfolding settingsRefusal first unless
 returns-3 c = simp (degree (c .before .before .before .before), depth (c .before .before), sym (c .before .modulus-allowed .ensures) ∙ not-true _ (c .if3 .taken))
-
-bound-allowed-requires : tie.Need-bound-allowed-requires
-bound-allowed-requires c κs = search needs
 
 returns-4 : tie.Need-returns-4
 unfolding settingsRefusal first unless
@@ -52,11 +43,11 @@ pub settings-refusal-spec : {M : Type 1} → statement M
 settings-refusal-spec =
     tie.close
     (tie.spec
-    degree-allowed-requires
+    (λ c κs. search needs)
     returns
     returns-2
-    modulus-allowed-requires
+    (λ c κs. search needs)
     returns-3
-    bound-allowed-requires
+    (λ c κs. search needs)
     returns-4
     returns-5)

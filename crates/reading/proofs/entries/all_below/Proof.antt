@@ -36,27 +36,12 @@ value c = sym (c .unsigned .ensures ∙ ap unsigned (through-bits w32 (entry (c 
 loop-holds : tie.Need-loop-holds Inv-loop μ-loop
 loop-holds c = (omega arith, refl)
 
-mul-unsigned : tie.Need-mul-unsigned Inv-loop μ-loop
-mul-unsigned c = search needs
-
-shared-slice-copy-out-unsigned : tie.Need-shared-slice-copy-out-unsigned Inv-loop μ-loop
-shared-slice-copy-out-unsigned c = search needs
-
-unsigned-requires : tie.Need-unsigned-requires Inv-loop μ-loop
-unsigned-requires c κs = search needs
-
 returns : tie.Need-returns Inv-loop μ-loop
 returns c =
     let l = c .before .before .before .before .loop in
     let a = c .before .before .before .before .before .args in
     all-fails (below (a .limit)) (a .values .now) (pos 0) (l .i) (l .inv .1) (omega arith) (ap (λ n. ltb n (a .limit)) (value (c .before)) ∙ le-ltb _ _ (c .if1 .taken))
     ∙ sym (all-map (λ x. ltb x (a .limit)) unsigned (a .values .now))
-
-add-i : tie.Need-add-i Inv-loop μ-loop
-add-i c = search needs
-
-loop-less : tie.Need-loop-less Inv-loop μ-loop
-loop-less c = search needs
 
 loop-again : tie.Need-loop-again Inv-loop μ-loop
 loop-again c =
@@ -77,11 +62,11 @@ all-below-spec =
     Inv-loop
     μ-loop
     loop-holds
-    mul-unsigned
-    shared-slice-copy-out-unsigned
-    unsigned-requires
+    (λ c. search needs)
+    (λ c. search needs)
+    (λ c κs. search needs)
     returns
-    add-i
-    loop-less
+    (λ c. search needs)
+    (λ c. search needs)
     loop-again
     returns-2)

@@ -81,81 +81,21 @@ residues-hold c =
 small-holds : (c : tie.Else4) → let s = c .before .before .before .before .before .before .before .before .before .before .before .before in small (S s .bound) (t s .message) ≡ true
 small-holds c = sym (message-is (c .before)) ∙ not-false _ (c .if4 .left)
 
-add-commitment : tie.Need-add-commitment
-add-commitment c = omega arith
-
-add-rounds : tie.Need-add-rounds
-add-rounds c = omega arith
-
-add-challenges : tie.Need-add-challenges
-add-challenges c = omega arith
-
-add-last : tie.Need-add-last
-add-last c = omega arith
-
 slice-aggregate-all-below : tie.Need-slice-aggregate-all-below
 slice-aggregate-all-below c = simp length-take (omega arith)
 
-all-below-requires : tie.Need-all-below-requires
-all-below-requires c κs = search needs
-
 returns : tie.Need-returns
 returns c = let s = c .before .before .before in refuses-8 (S s) (t s) (and-fails-left (keys s) (commitments s && elements s) (sym (key-is (c .before)) ∙ not-true _ (c .if1 .taken)))
-
-mul-all-below : tie.Need-mul-all-below
-mul-all-below c = omega arith
-
-sub-all-below : tie.Need-sub-all-below
-sub-all-below c = omega arith
-
-part-all-below-start : tie.Need-part-all-below-start
-part-all-below-start c = omega arith
-
-part-all-below-end : tie.Need-part-all-below-end
-part-all-below-end c = omega arith
-
-all-below-requires-2 : tie.Need-all-below-requires-2
-all-below-requires-2 c κs = search needs
 
 returns-2 : tie.Need-returns-2
 returns-2 c =
     let s = c .before .before .before .before .before .before in
     refuses-8 (S s) (t s) (and-fails-right (keys s) (commitments s && elements s) (and-fails-left (commitments s) (elements s) (sym (commitment-is (c .before)) ∙ not-true _ (c .if2 .taken))))
 
-mul-all-below-2 : tie.Need-mul-all-below-2
-mul-all-below-2 c = omega arith
-
-sub-all-below-2 : tie.Need-sub-all-below-2
-sub-all-below-2 c = omega arith
-
-part-all-below-start-2 : tie.Need-part-all-below-start-2
-part-all-below-start-2 c = omega arith
-
-part-all-below-end-2 : tie.Need-part-all-below-end-2
-part-all-below-end-2 c = omega arith
-
-all-below-requires-3 : tie.Need-all-below-requires-3
-all-below-requires-3 c κs = search needs
-
 returns-3 : tie.Need-returns-3
 returns-3 c =
     let s = c .before .before .before .before .before .before .before .before .before in
     refuses-8 (S s) (t s) (and-fails-right (keys s) (commitments s && elements s) (and-fails-right (commitments s) (elements s) (sym (rounds-is (c .before)) ∙ not-true _ (c .if3 .taken))))
-
-mul-all-within : tie.Need-mul-all-within
-mul-all-within c = omega arith
-
-sub-all-within : tie.Need-sub-all-within
-sub-all-within c = omega arith
-
-part-all-within-start : tie.Need-part-all-within-start
-part-all-within-start c = omega arith
-
-part-all-within-end : tie.Need-part-all-within-end
-part-all-within-end c = omega arith
-
-all-within-requires : tie.Need-all-within-requires
-all-within-requires c κs = search needs
 
 returns-4 : tie.Need-returns-4
 returns-4 c =
@@ -167,21 +107,6 @@ mul-all-below-3 : tie.Need-mul-all-below-3
 mul-all-below-3 c =
     let s = c .before .before .before .before .before .before .before .before .before .before .before .before .before in
     record { fits = omega (arith, degree-most (S s) (settings-valid (S s) (s .before .before .before .before .pre .0))) }
-
-mul-all-below-4 : tie.Need-mul-all-below-4
-mul-all-below-4 c = omega arith
-
-sub-all-below-3 : tie.Need-sub-all-below-3
-sub-all-below-3 c = omega arith
-
-part-all-below-start-3 : tie.Need-part-all-below-start-3
-part-all-below-start-3 c = omega arith
-
-part-all-below-end-3 : tie.Need-part-all-below-end-3
-part-all-below-end-3 c = omega arith
-
-all-below-requires-4 : tie.Need-all-below-requires-4
-all-below-requires-4 c κs = search needs
 
 returns-5 : tie.Need-returns-5
 returns-5 c =
@@ -201,36 +126,36 @@ pub refusal-spec : {M : Type 1} → statement M
 refusal-spec =
     tie.close
     (tie.spec
-    add-commitment
-    add-rounds
-    add-challenges
-    add-last
+    (λ c. omega arith)
+    (λ c. omega arith)
+    (λ c. omega arith)
+    (λ c. omega arith)
     slice-aggregate-all-below
-    all-below-requires
+    (λ c κs. search needs)
     returns
-    mul-all-below
-    sub-all-below
-    part-all-below-start
-    part-all-below-end
-    all-below-requires-2
+    (λ c. omega arith)
+    (λ c. omega arith)
+    (λ c. omega arith)
+    (λ c. omega arith)
+    (λ c κs. search needs)
     returns-2
-    mul-all-below-2
-    sub-all-below-2
-    part-all-below-start-2
-    part-all-below-end-2
-    all-below-requires-3
+    (λ c. omega arith)
+    (λ c. omega arith)
+    (λ c. omega arith)
+    (λ c. omega arith)
+    (λ c κs. search needs)
     returns-3
-    mul-all-within
-    sub-all-within
-    part-all-within-start
-    part-all-within-end
-    all-within-requires
+    (λ c. omega arith)
+    (λ c. omega arith)
+    (λ c. omega arith)
+    (λ c. omega arith)
+    (λ c κs. search needs)
     returns-4
     mul-all-below-3
-    mul-all-below-4
-    sub-all-below-3
-    part-all-below-start-3
-    part-all-below-end-3
-    all-below-requires-4
+    (λ c. omega arith)
+    (λ c. omega arith)
+    (λ c. omega arith)
+    (λ c. omega arith)
+    (λ c κs. search needs)
     returns-5
     returns-6)

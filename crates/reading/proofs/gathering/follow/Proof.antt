@@ -36,9 +36,6 @@ returns-2 c =
     let s = c .before .before .before .before in
     followed-unbegun (s .args .text .now) (s .args .parts) (s .args .header) (s .pre .0) _ (not-true _ (c .if2 .taken))
 
-settings-refusal-requires : tie.Need-settings-refusal-requires
-settings-refusal-requires c κs = search needs
-
 returns-3 : tie.Need-returns-3
 returns-3 c =
     let s = c .before .before .before .before .before .before .before in
@@ -53,17 +50,11 @@ read-parts-requires c κs =
       omega (arith, short (c .before), s .pre .1),
     )
 
-same-length : tie.Need-same-length
-same-length c = search needs
-
 returns-4 : tie.Need-returns-4
 returns-4 c =
     let p = c .before .before .before in
     let s = start (p .before .before) in
     followed-missed (s .args .text .now) (s .args .parts) (s .args .header) (s .pre .0) _ (p .read-parts .result) (p .read-parts .ensures) (not-true _ (c .if4 .taken))
-
-same-length-2 : tie.Need-same-length-2
-same-length-2 c = search needs
 
 returns-5 : tie.Need-returns-5
 returns-5 c =
@@ -79,10 +70,10 @@ follow-spec =
     (tie.spec
     returns
     returns-2
-    settings-refusal-requires
+    (λ c κs. search needs)
     returns-3
     read-parts-requires
-    same-length
+    (λ c. search needs)
     returns-4
-    same-length-2
+    (λ c. search needs)
     returns-5)

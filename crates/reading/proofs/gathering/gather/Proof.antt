@@ -80,26 +80,8 @@ module _ (c : tie.After-fits2) where
       ∙ lengths-shallow (header followed .settings) (parts followed) (lengths followed) (shallow followed reached)
       ∙ ap (λ S. lengthsFit S (parts followed) (lengths followed)) (sym (settings-are followed reached))
 
-read-header-requires : tie.Need-read-header-requires
-read-header-requires c κs = search needs
-
-follow-requires : tie.Need-follow-requires
-follow-requires c κs = search needs
-
-look-requires : tie.Need-look-requires
-look-requires c κs = search needs
-
-same-length : tie.Need-same-length
-same-length c = search needs
-
 returns : tie.Need-returns
 returns c = gathered-look _ _ _ (c .before .before .look .result) (c .before .before .look .ensures) _ (c .if2 .taken)
-
-refused-requires : tie.Need-refused-requires
-refused-requires c κs = search needs
-
-same-length-2 : tie.Need-same-length-2
-same-length-2 c = search needs
 
 returns-2 : tie.Need-returns-2
 returns-2 c =
@@ -109,24 +91,12 @@ returns-2 c =
     gathered-refused (parts v) (lengths v) (text v) (seen .look .result) (seen .look .ensures) _ (c .before .if2 .left) (c .refused .result) (c .refused .ensures)
     (and-fails-left (ordered v) (fitting v) (sym (v .before .follow .ensures .answer unrefused) ∙ not-true _ (seen .before .if1 .taken)))
 
-fits-requires : tie.Need-fits-requires
-fits-requires c κs = search needs
-
-refused-requires-2 : tie.Need-refused-requires-2
-refused-requires-2 c κs = search needs
-
-same-length-3 : tie.Need-same-length-3
-same-length-3 c = search needs
-
 returns-3 : tie.Need-returns-3
 returns-3 c =
     let f = c .before .before in
     let v = followed f in
     gathered-refused (parts v) (lengths v) (text v) (answer v (reached f)) (looks v (reached f)) _ refl (c .refused2 .result) (c .refused2 .ensures)
     (and-fails-right (ordered v) (fitting v) (sym (fitted f) ∙ not-true _ (c .before .if3 .taken)))
-
-same-length-4 : tie.Need-same-length-4
-same-length-4 c = search needs
 
 returns-4 : tie.Need-returns-4
 returns-4 c =
@@ -140,17 +110,17 @@ pub gather-spec : {M : Type 1} → statement M
 gather-spec =
     tie.close
     (tie.spec
-    read-header-requires
-    follow-requires
-    look-requires
-    same-length
+    (λ c κs. search needs)
+    (λ c κs. search needs)
+    (λ c κs. search needs)
+    (λ c. search needs)
     returns
-    refused-requires
-    same-length-2
+    (λ c κs. search needs)
+    (λ c. search needs)
     returns-2
-    fits-requires
-    refused-requires-2
-    same-length-3
+    (λ c κs. search needs)
+    (λ c κs. search needs)
+    (λ c. search needs)
     returns-3
-    same-length-4
+    (λ c. search needs)
     returns-4)

@@ -31,9 +31,6 @@ Inv-loop text from shape values₀ size at₀ cell₀ p₀ values at cell p =
 abbrev μ-loop : tie.MeasureT-loop
 μ-loop text from shape values₀ size at₀ cell₀ p₀ values at cell p = size - p
 
-size-of-requires : tie.Need-size-of-requires Inv-loop μ-loop
-size-of-requires c κs = search needs
-
 -- one line more
 module _ (text : List ℕ) (from : ℕ) (b : Shape) where
   abbrev all-of : Option (List ℤ × List ℕ)
@@ -112,15 +109,6 @@ module _ (c : tie.After-known-told Inv-loop μ-loop) where
 loop-holds : tie.Need-loop-holds Inv-loop μ-loop
 loop-holds c = (search needs, c .size-of .ensures, search needs, refl, sym (cell-first _), sym (prefix-nothing _))
 
-value-at-requires : tie.Need-value-at-requires Inv-loop μ-loop
-value-at-requires c κs = search needs
-
-enum-known-value : tie.Need-enum-known-value Inv-loop μ-loop
-enum-known-value c = search needs
-
-enum-told : tie.Need-enum-told Inv-loop μ-loop
-enum-told c = search needs
-
 same-length : tie.Need-same-length Inv-loop μ-loop
 same-length c = c .before .before .before .before .loop .inv .3
 
@@ -133,20 +121,8 @@ returns c =
     (stop (text d) (from d) b (values d) (now-at d) (line d) (inside d) (d .before .loop .inv .5)
     (subst (λ s. readValue s (drop (now-at d) (text d)) ≡ none) (wanted d) none-here))
 
-mul-value : tie.Need-mul-value Inv-loop μ-loop
-mul-value c = search needs
-
 slice-set-from-value : tie.Need-slice-set-from-value Inv-loop μ-loop
 slice-set-from-value c = room (turn c)
-
-next-cell-requires : tie.Need-next-cell-requires Inv-loop μ-loop
-next-cell-requires c κs = search needs
-
-add-p : tie.Need-add-p Inv-loop μ-loop
-add-p c = search needs
-
-loop-less : tie.Need-loop-less Inv-loop μ-loop
-loop-less c = search needs
 
 loop-again : tie.Need-loop-again Inv-loop μ-loop
 loop-again c =
@@ -179,18 +155,18 @@ read-part-spec =
     (tie.spec
     Inv-loop
     μ-loop
-    size-of-requires
+    (λ c κs. search needs)
     loop-holds
-    value-at-requires
-    enum-known-value
-    enum-told
+    (λ c κs. search needs)
+    (λ c. search needs)
+    (λ c. search needs)
     same-length
     returns
-    mul-value
+    (λ c. search needs)
     slice-set-from-value
-    next-cell-requires
-    add-p
-    loop-less
+    (λ c κs. search needs)
+    (λ c. search needs)
+    (λ c. search needs)
     loop-again
     same-length-2
     returns-2)

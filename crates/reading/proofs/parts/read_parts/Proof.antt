@@ -129,32 +129,11 @@ loop-holds c =
       ap (λ ss. readValues ss (drop (a .from) (a .text .now))) one ∙ sym (prefix-nothing _),
     )
 
-shape-of-requires : tie.Need-shape-of-requires Inv-loop μ-loop
-shape-of-requires c κs = search needs
-
-size-of-requires : tie.Need-size-of-requires Inv-loop μ-loop
-size-of-requires c κs = search needs
-
-sub-if1 : tie.Need-sub-if1 Inv-loop μ-loop
-sub-if1 c = search needs
-
 same-length : tie.Need-same-length Inv-loop μ-loop
 same-length c = c .before .before .before .before .loop .inv .4
 
 returns : tie.Need-returns Inv-loop μ-loop
 returns c = let d = c .before in took-missed (text d) (from d) _ _ (crowded d (omega arith))
-
-mul-read-part : tie.Need-mul-read-part Inv-loop μ-loop
-mul-read-part c = search needs
-
-sub-read-part : tie.Need-sub-read-part Inv-loop μ-loop
-sub-read-part c = search needs
-
-part-read-part-start : tie.Need-part-read-part-start Inv-loop μ-loop
-part-read-part-start c = search needs
-
-part-read-part-end : tie.Need-part-read-part-end Inv-loop μ-loop
-part-read-part-end c = search needs
 
 read-part-requires : tie.Need-read-part-requires Inv-loop μ-loop
 read-part-requires c κs = (search needs, simp (length-take, length-drop) (omega (arith, c .before .before .size-of .ensures)))
@@ -172,12 +151,6 @@ returns-2 c =
 
 add-start : tie.Need-add-start Inv-loop μ-loop
 add-start c = record { fits = omega (arith, room (c .before .before)) }
-
-add-part : tie.Need-add-part Inv-loop μ-loop
-add-part c = search needs
-
-loop-less : tie.Need-loop-less Inv-loop μ-loop
-loop-less c = search needs
 
 loop-again : tie.Need-loop-again Inv-loop μ-loop
 loop-again c =
@@ -222,21 +195,21 @@ read-parts-spec =
     Inv-loop
     μ-loop
     loop-holds
-    shape-of-requires
-    size-of-requires
-    sub-if1
+    (λ c κs. search needs)
+    (λ c κs. search needs)
+    (λ c. search needs)
     same-length
     returns
-    mul-read-part
-    sub-read-part
-    part-read-part-start
-    part-read-part-end
+    (λ c. search needs)
+    (λ c. search needs)
+    (λ c. search needs)
+    (λ c. search needs)
     read-part-requires
     same-length-2
     returns-2
     add-start
-    add-part
-    loop-less
+    (λ c. search needs)
+    (λ c. search needs)
     loop-again
     same-length-3
     returns-3)

@@ -84,24 +84,6 @@ signed-requires-2 : tie.Need-signed-requires-2
 unfolding at-challenges at-rounds at-commitment at-message at-key lengthsOf
 signed-requires-2 c κs = let h = c .before .before .before in omega (arith, room (at-challenges h), challenges-end h)
 
-same-length : tie.Need-same-length
-same-length c = search needs
-
-same-length-2 : tie.Need-same-length-2
-same-length-2 c = search needs
-
-same-length-3 : tie.Need-same-length-3
-same-length-3 c = search needs
-
-same-length-4 : tie.Need-same-length-4
-same-length-4 c = search needs
-
-same-length-5 : tie.Need-same-length-5
-same-length-5 c = search needs
-
-same-length-6 : tie.Need-same-length-6
-same-length-6 c = search needs
-
 returns : tie.Need-returns
 unfolding at-challenges at-rounds at-commitment at-message at-key tablesOf lengthsOf
 returns c =
@@ -130,10 +112,10 @@ all-spec =
     unsigned-requires-3
     unsigned-requires-4
     signed-requires-2
-    same-length
-    same-length-2
-    same-length-3
-    same-length-4
-    same-length-5
-    same-length-6
+    (λ c. search needs)
+    (λ c. search needs)
+    (λ c. search needs)
+    (λ c. search needs)
+    (λ c. search needs)
+    (λ c. search needs)
     returns)

@@ -20,17 +20,8 @@ abbrev μ-loop : tie.MeasureT-loop
 loop-holds : tie.Need-loop-holds Inv-loop μ-loop
 loop-holds c = (omega arith, every-none _)
 
-differ-requires : tie.Need-differ-requires Inv-loop μ-loop
-differ-requires c κs = omega arith
-
 returns : tie.Need-returns Inv-loop μ-loop
 returns c = every-fails _ _ (c .before .before .before .loop .k) (omega arith) (sym (c .before .differ .ensures) ∙ not-true _ (c .if1 .taken))
-
-add-k : tie.Need-add-k Inv-loop μ-loop
-add-k c = search needs
-
-loop-less : tie.Need-loop-less Inv-loop μ-loop
-loop-less c = search needs
 
 loop-again : tie.Need-loop-again Inv-loop μ-loop
 loop-again c = let l = c .before .before .before .loop in (omega arith, every-goes-on _ (l .k) (l .inv .1) (sym (c .before .differ .ensures) ∙ not-false _ (c .if1 .left)))
@@ -45,9 +36,9 @@ all-differ-spec =
     Inv-loop
     μ-loop
     loop-holds
-    differ-requires
+    (λ c κs. omega arith)
     returns
-    add-k
-    loop-less
+    (λ c. search needs)
+    (λ c. search needs)
     loop-again
     returns-2)

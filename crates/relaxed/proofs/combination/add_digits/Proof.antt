@@ -30,9 +30,6 @@ numbers c = let s = c .before .before .before .before .before in part-numbers (s
 loop-holds : tie.Need-loop-holds Inv-loop μ-loop
 loop-holds c = (omega arith, digits-none _ _ _ _ _ _, digits-none _ _ _ _ _ _, search needs, search needs, search needs)
 
-cast-at : tie.Need-cast-at Inv-loop μ-loop
-cast-at c = search needs
-
 mul-at : tie.Need-mul-at Inv-loop μ-loop
 mul-at c = omega (arith, inside c, few c)
 
@@ -44,9 +41,6 @@ sub-residues c = omega (arith, inside c, few c)
 
 part-residues-start : tie.Need-part-residues-start Inv-loop μ-loop
 part-residues-start c = omega (arith, inside c, few c)
-
-part-residues-end : tie.Need-part-residues-end Inv-loop μ-loop
-part-residues-end c = search needs
 
 residues-requires : tie.Need-residues-requires Inv-loop μ-loop
 residues-requires c κs = numbers (c .before)
@@ -60,38 +54,11 @@ sub-extend c = omega (arith, inside (c .before .before), few (c .before .before)
 part-extend-start : tie.Need-part-extend-start Inv-loop μ-loop
 part-extend-start c = omega (arith, inside (c .before .before), few (c .before .before))
 
-part-extend-end : tie.Need-part-extend-end Inv-loop μ-loop
-part-extend-end c = search needs
-
-slice-aggregate-extend : tie.Need-slice-aggregate-extend Inv-loop μ-loop
-slice-aggregate-extend c = search needs
-
-extend-requires : tie.Need-extend-requires Inv-loop μ-loop
-extend-requires c κs = search needs
-
-slice-aggregate-add-digit : tie.Need-slice-aggregate-add-digit Inv-loop μ-loop
-slice-aggregate-add-digit c = search needs
-
-slice-aggregate-add-digit-2 : tie.Need-slice-aggregate-add-digit-2 Inv-loop μ-loop
-slice-aggregate-add-digit-2 c = search needs
-
 add-digit-requires : tie.Need-add-digit-requires Inv-loop μ-loop
 add-digit-requires c κs = let E = c .before .before .before .before .before .before .before .before .before .before .before .before .before .before .pre .0 in (record { degree = E .degree-most; coefficients = omega (arith, E .degree-most); residues = omega (arith, E .degree-most); sums = omega arith }, omega arith)
 
-slice-aggregate-add-digit-3 : tie.Need-slice-aggregate-add-digit-3 Inv-loop μ-loop
-slice-aggregate-add-digit-3 c = search needs
-
-slice-aggregate-add-digit-4 : tie.Need-slice-aggregate-add-digit-4 Inv-loop μ-loop
-slice-aggregate-add-digit-4 c = search needs
-
 add-digit-requires-2 : tie.Need-add-digit-requires-2 Inv-loop μ-loop
 add-digit-requires-2 c κs = let E = c .before .before .before .before .before .before .before .before .before .before .before .before .before .before .before .before .before .before .before .before .pre .0 in (record { degree = E .degree-most; coefficients = omega (arith, E .degree-most); residues = omega (arith, E .degree-most); sums = omega arith }, omega arith)
-
-add-i : tie.Need-add-i Inv-loop μ-loop
-add-i c = search needs
-
-loop-less : tie.Need-loop-less Inv-loop μ-loop
-loop-less c = search needs
 
 loop-again : tie.Need-loop-again Inv-loop μ-loop
 loop-again c =
@@ -113,12 +80,6 @@ loop-again c =
       search needs,
     )
 
-same-length : tie.Need-same-length Inv-loop μ-loop
-same-length c = search needs
-
-same-length-2 : tie.Need-same-length-2 Inv-loop μ-loop
-same-length-2 c = search needs
-
 returns : tie.Need-returns Inv-loop μ-loop
 returns c =
     let a = c .before .before .before .before .before .args in
@@ -135,28 +96,28 @@ add-digits-spec =
     Inv-loop
     μ-loop
     loop-holds
-    cast-at
+    (λ c. search needs)
     mul-at
     mul-residues
     sub-residues
     part-residues-start
-    part-residues-end
+    (λ c. search needs)
     residues-requires
     mul-extend
     sub-extend
     part-extend-start
-    part-extend-end
-    slice-aggregate-extend
-    extend-requires
-    slice-aggregate-add-digit
-    slice-aggregate-add-digit-2
+    (λ c. search needs)
+    (λ c. search needs)
+    (λ c κs. search needs)
+    (λ c. search needs)
+    (λ c. search needs)
     add-digit-requires
-    slice-aggregate-add-digit-3
-    slice-aggregate-add-digit-4
+    (λ c. search needs)
+    (λ c. search needs)
     add-digit-requires-2
-    add-i
-    loop-less
+    (λ c. search needs)
+    (λ c. search needs)
     loop-again
-    same-length
-    same-length-2
+    (λ c. search needs)
+    (λ c. search needs)
     returns)

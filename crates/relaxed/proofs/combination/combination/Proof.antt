@@ -19,26 +19,8 @@ count c = let s = c .before .before in c .left .ensures (record { allowed = s .p
 elements : (c : tie.After-left) → let a = c .before .before .args in Elements (a .settings .modulus) (a .settings .degree) (c .left .result) (a .key .now) (a .w .now)
 elements c = let s = c .before .before in settings-elements (s .args .settings) _ (s .args .key .now) (s .args .w .now) (s .pre .0) (count c) (s .pre .1) (s .pre .2)
 
-left-requires : tie.Need-left-requires
-left-requires c κs = search needs
-
-slice-aggregate-add-digits : tie.Need-slice-aggregate-add-digits
-slice-aggregate-add-digits c = search needs
-
-slice-aggregate-add-digits-2 : tie.Need-slice-aggregate-add-digits-2
-slice-aggregate-add-digits-2 c = search needs
-
 add-digits-requires : tie.Need-add-digits-requires
 add-digits-requires c κs = let E = elements (c .before .before) in (E, E .degree-most, E .degree-most)
-
-cast-joined-sums : tie.Need-cast-joined-sums
-cast-joined-sums c = search needs
-
-slice-aggregate-joined-sums : tie.Need-slice-aggregate-joined-sums
-slice-aggregate-joined-sums c = search needs
-
-slice-aggregate-joined-sums-2 : tie.Need-slice-aggregate-joined-sums-2
-slice-aggregate-joined-sums-2 c = search needs
 
 joined-sums-requires : tie.Need-joined-sums-requires
 joined-sums-requires c κs =
@@ -62,12 +44,12 @@ pub combination-spec : {M : Type 1} → statement M
 combination-spec =
     tie.close
     (tie.spec
-    left-requires
-    slice-aggregate-add-digits
-    slice-aggregate-add-digits-2
+    (λ c κs. search needs)
+    (λ c. search needs)
+    (λ c. search needs)
     add-digits-requires
-    cast-joined-sums
-    slice-aggregate-joined-sums
-    slice-aggregate-joined-sums-2
+    (λ c. search needs)
+    (λ c. search needs)
+    (λ c. search needs)
     joined-sums-requires
     returns)

@@ -23,27 +23,6 @@ abbrev μ-loop : tie.MeasureT-loop
 loop-holds : tie.Need-loop-holds Inv-loop μ-loop
 loop-holds c = (omega arith, signed-fill-none 64 _)
 
-mul-digit-of : tie.Need-mul-digit-of Inv-loop μ-loop
-mul-digit-of c = search needs
-
-shared-slice-read-digit-of : tie.Need-shared-slice-read-digit-of Inv-loop μ-loop
-shared-slice-read-digit-of c = search needs
-
-digit-of-requires : tie.Need-digit-of-requires Inv-loop μ-loop
-digit-of-requires c κs = search needs
-
-mul-f : tie.Need-mul-f Inv-loop μ-loop
-mul-f c = search needs
-
-array-set-from-f : tie.Need-array-set-from-f Inv-loop μ-loop
-array-set-from-f c = search needs
-
-add-k : tie.Need-add-k Inv-loop μ-loop
-add-k c = search needs
-
-loop-less : tie.Need-loop-less Inv-loop μ-loop
-loop-less c = search needs
-
 loop-again : tie.Need-loop-again Inv-loop μ-loop
 loop-again c =
     let g = c .before .before .before .before .before in let l = c .before .before .before .loop in let a = g .args in (
@@ -62,12 +41,12 @@ digits-spec =
     Inv-loop
     μ-loop
     loop-holds
-    mul-digit-of
-    shared-slice-read-digit-of
-    digit-of-requires
-    mul-f
-    array-set-from-f
-    add-k
-    loop-less
+    (λ c. search needs)
+    (λ c. search needs)
+    (λ c κs. search needs)
+    (λ c. search needs)
+    (λ c. search needs)
+    (λ c. search needs)
+    (λ c. search needs)
     loop-again
     returns)

@@ -42,12 +42,6 @@ Inv-loop c key w commitment sums q d k₀ k = (k ≤ d) × (every k (same q c co
 abbrev μ-loop : tie.MeasureT-loop
 μ-loop c key w commitment sums q d k₀ k = d - k
 
-combination-requires : tie.Need-combination-requires Inv-loop μ-loop
-combination-requires c κs = search needs
-
-cast-d : tie.Need-cast-d Inv-loop μ-loop
-cast-d c = search needs
-
 -- places are small
 small : (c : tie.In-loop Inv-loop μ-loop) → c .before .loop .k < 64
 small c = let g = c .before .before .before .before .before in omega (arith, degree-most (g .args .settings) (settings-valid (g .args .settings) (g .pre .0)))
@@ -55,14 +49,8 @@ small c = let g = c .before .before .before .before .before in omega (arith, deg
 loop-holds : tie.Need-loop-holds Inv-loop μ-loop
 loop-holds c = (omega arith, every-none _)
 
-mul-scaled-is : tie.Need-mul-scaled-is Inv-loop μ-loop
-mul-scaled-is c = search needs
-
 array-read-scaled-is : tie.Need-array-read-scaled-is Inv-loop μ-loop
 array-read-scaled-is c = small c
-
-mul-scaled-is-2 : tie.Need-mul-scaled-is-2 Inv-loop μ-loop
-mul-scaled-is-2 c = search needs
 
 array-read-scaled-is-2 : tie.Need-array-read-scaled-is-2 Inv-loop μ-loop
 array-read-scaled-is-2 c = small c
@@ -75,12 +63,6 @@ returns c =
     let g = c .before .before .before .before .before .before .before in let a = g .args in let l = c .before .before .before .loop in
     every-fails (same (a .settings .modulus) (a .c) (a .t2) (c .before .before .before .before .before .combination .result)) (a .settings .degree) (l .k) (omega arith) (sym (c .before .scaled-is .ensures) ∙ not-true _ (c .if1 .taken))
     ∙ same-is (a .settings) (a .key .now) (a .t2) (a .c) (a .w .now) _ (c .before .before .before .before .before .combination .ensures)
-
-add-k : tie.Need-add-k Inv-loop μ-loop
-add-k c = search needs
-
-loop-less : tie.Need-loop-less Inv-loop μ-loop
-loop-less c = search needs
 
 loop-again : tie.Need-loop-again Inv-loop μ-loop
 loop-again c = let l = c .before .before .before .loop in (omega arith, every-goes-on _ (l .k) (l .inv .1) (sym (c .before .scaled-is .ensures) ∙ not-false _ (c .if1 .left)))
@@ -97,16 +79,16 @@ opens-spec =
     (tie.spec
     Inv-loop
     μ-loop
-    combination-requires
-    cast-d
+    (λ c κs. search needs)
+    (λ c. search needs)
     loop-holds
-    mul-scaled-is
+    (λ c. search needs)
     array-read-scaled-is
-    mul-scaled-is-2
+    (λ c. search needs)
     array-read-scaled-is-2
     scaled-is-requires
     returns
-    add-k
-    loop-less
+    (λ c. search needs)
+    (λ c. search needs)
     loop-again
     returns-2)

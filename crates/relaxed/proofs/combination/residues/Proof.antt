@@ -19,26 +19,8 @@ abbrev μ-loop : tie.MeasureT-loop
 loop-holds : tie.Need-loop-holds Inv-loop μ-loop
 loop-holds c = (omega arith, fill-none _ _)
 
-mul-residue : tie.Need-mul-residue Inv-loop μ-loop
-mul-residue c = search needs
-
-shared-slice-copy-out-residue : tie.Need-shared-slice-copy-out-residue Inv-loop μ-loop
-shared-slice-copy-out-residue c = search needs
-
 residue-requires : tie.Need-residue-requires Inv-loop μ-loop
 residue-requires c κs = c .before .before .before .pre .modulus
-
-mul-r : tie.Need-mul-r Inv-loop μ-loop
-mul-r c = search needs
-
-array-write-r : tie.Need-array-write-r Inv-loop μ-loop
-array-write-r c = search needs
-
-add-k : tie.Need-add-k Inv-loop μ-loop
-add-k c = search needs
-
-loop-less : tie.Need-loop-less Inv-loop μ-loop
-loop-less c = search needs
 
 loop-again : tie.Need-loop-again Inv-loop μ-loop
 unfolding signed
@@ -59,12 +41,12 @@ residues-spec =
     Inv-loop
     μ-loop
     loop-holds
-    mul-residue
-    shared-slice-copy-out-residue
+    (λ c. search needs)
+    (λ c. search needs)
     residue-requires
-    mul-r
-    array-write-r
-    add-k
-    loop-less
+    (λ c. search needs)
+    (λ c. search needs)
+    (λ c. search needs)
+    (λ c. search needs)
     loop-again
     returns)

@@ -30,12 +30,6 @@ mul-at c = omega (arith, offset c)
 add-if2 : tie.Need-add-if2 Inv-loop μ-loop
 add-if2 c = omega (arith, offset c)
 
-slice-aggregate-copy-row : tie.Need-slice-aggregate-copy-row Inv-loop μ-loop
-slice-aggregate-copy-row c = search needs
-
-copy-row-requires : tie.Need-copy-row-requires Inv-loop μ-loop
-copy-row-requires c κs = search needs
-
 returns-2 : tie.Need-returns-2 Inv-loop μ-loop
 unfolding elementAt
 returns-2 c = λ h. let a = c .before .before .before .before .before .before .args in c .before .copy-row .ensures ∙ spliced-element (λ k. getD (a .t .now) (a .i * a .d + k) 0) (λ k. getD (a .t .now) (a .i * a .d + k) 0) (a .d) (λ k _. refl)
@@ -45,21 +39,6 @@ loop-holds c = (omega arith, omega arith, fill-none 64 _)
 
 add-entry : tie.Need-add-entry Inv-loop μ-loop
 add-entry c = omega (arith, offset (c .before .before .before))
-
-entry-requires : tie.Need-entry-requires Inv-loop μ-loop
-entry-requires c κs = search needs
-
-mul-a : tie.Need-mul-a Inv-loop μ-loop
-mul-a c = search needs
-
-array-write-a : tie.Need-array-write-a Inv-loop μ-loop
-array-write-a c = search needs
-
-add-k : tie.Need-add-k Inv-loop μ-loop
-add-k c = search needs
-
-loop-less : tie.Need-loop-less Inv-loop μ-loop
-loop-less c = search needs
 
 loop-again : tie.Need-loop-again Inv-loop μ-loop
 loop-again c = let l = c .before .before .loop in (omega arith, omega arith, fill-more 64 _ (l .k) _ (l .a) (l .inv .2) (omega arith) (c .entry .ensures))
@@ -77,15 +56,15 @@ element-at-spec =
     returns
     mul-at
     add-if2
-    slice-aggregate-copy-row
-    copy-row-requires
+    (λ c. search needs)
+    (λ c κs. search needs)
     returns-2
     loop-holds
     add-entry
-    entry-requires
-    mul-a
-    array-write-a
-    add-k
-    loop-less
+    (λ c κs. search needs)
+    (λ c. search needs)
+    (λ c. search needs)
+    (λ c. search needs)
+    (λ c. search needs)
     loop-again
     returns-3)

@@ -33,21 +33,6 @@ loop-holds c = (omega arith, omega arith, signed-fill-none 64 _)
 add-signed-entry : tie.Need-add-signed-entry Inv-loop μ-loop
 add-signed-entry c = omega (arith, offset (c .before .before))
 
-signed-entry-requires : tie.Need-signed-entry-requires Inv-loop μ-loop
-signed-entry-requires c κs = search needs
-
-mul-a : tie.Need-mul-a Inv-loop μ-loop
-mul-a c = search needs
-
-array-set-from-a : tie.Need-array-set-from-a Inv-loop μ-loop
-array-set-from-a c = search needs
-
-add-k : tie.Need-add-k Inv-loop μ-loop
-add-k c = search needs
-
-loop-less : tie.Need-loop-less Inv-loop μ-loop
-loop-less c = search needs
-
 loop-again : tie.Need-loop-again Inv-loop μ-loop
 unfolding signedAt
 loop-again c =
@@ -68,10 +53,10 @@ signed-element-at-spec =
     mul-at
     loop-holds
     add-signed-entry
-    signed-entry-requires
-    mul-a
-    array-set-from-a
-    add-k
-    loop-less
+    (λ c κs. search needs)
+    (λ c. search needs)
+    (λ c. search needs)
+    (λ c. search needs)
+    (λ c. search needs)
     loop-again
     returns-2)

@@ -21,12 +21,6 @@ returns-5 c = λ f. absurd (omega arith)
 returns-6 : tie.Need-returns-6
 returns-6 c = λ f. absurd (omega arith)
 
-value-requires : tie.Need-value-requires
-value-requires c κs = search needs
-
-same-length : tie.Need-same-length
-same-length c = search needs
-
 returns-7 : tie.Need-returns-7
 returns-7 c = λ f. c .before .before .value .ensures (f .coefficients)
 
@@ -40,6 +34,6 @@ value-spec =
     returns-4
     returns-5
     returns-6
-    value-requires
-    same-length
+    (λ c κs. search needs)
+    (λ c. search needs)
     returns-7)

@@ -35,42 +35,6 @@ as-was c h =
 loop-holds : tie.Need-loop-holds Inv-loop μ-loop
 loop-holds c = (omega arith, (λ h. spliced-none _ _ _), refl)
 
-add-y : tie.Need-add-y Inv-loop μ-loop
-add-y c = search needs
-
-mul-y : tie.Need-mul-y Inv-loop μ-loop
-mul-y c = search needs
-
-slice-read-y : tie.Need-slice-read-y Inv-loop μ-loop
-slice-read-y c = search needs
-
-add-signed-sum : tie.Need-add-signed-sum Inv-loop μ-loop
-add-signed-sum c = search needs
-
-mul-signed-sum : tie.Need-mul-signed-sum Inv-loop μ-loop
-mul-signed-sum c = search needs
-
-shared-slice-read-signed-sum : tie.Need-shared-slice-read-signed-sum Inv-loop μ-loop
-shared-slice-read-signed-sum c = search needs
-
-signed-sum-requires : tie.Need-signed-sum-requires Inv-loop μ-loop
-signed-sum-requires c κs = search needs
-
-add-out : tie.Need-add-out Inv-loop μ-loop
-add-out c = search needs
-
-mul-out : tie.Need-mul-out Inv-loop μ-loop
-mul-out c = search needs
-
-slice-write-out : tie.Need-slice-write-out Inv-loop μ-loop
-slice-write-out c = search needs
-
-add-k : tie.Need-add-k Inv-loop μ-loop
-add-k c = search needs
-
-loop-less : tie.Need-loop-less Inv-loop μ-loop
-loop-less c = search needs
-
 loop-again : tie.Need-loop-again Inv-loop μ-loop
 loop-again c =
     let s = c .before .before .before .before .before .before .before in
@@ -86,9 +50,6 @@ loop-again c =
       simp length-set (omega arith),
     )
 
-same-length : tie.Need-same-length Inv-loop μ-loop
-same-length c = search needs
-
 returns : tie.Need-returns Inv-loop μ-loop
 returns c = λ h. spliced-end _ _ _ (c .before .loop .inv .1 h) (omega arith)
 
@@ -99,18 +60,18 @@ accumulate-row-spec =
     Inv-loop
     μ-loop
     loop-holds
-    add-y
-    mul-y
-    slice-read-y
-    add-signed-sum
-    mul-signed-sum
-    shared-slice-read-signed-sum
-    signed-sum-requires
-    add-out
-    mul-out
-    slice-write-out
-    add-k
-    loop-less
+    (λ c. search needs)
+    (λ c. search needs)
+    (λ c. search needs)
+    (λ c. search needs)
+    (λ c. search needs)
+    (λ c. search needs)
+    (λ c κs. search needs)
+    (λ c. search needs)
+    (λ c. search needs)
+    (λ c. search needs)
+    (λ c. search needs)
+    (λ c. search needs)
     loop-again
-    same-length
+    (λ c. search needs)
     returns)

@@ -6,24 +6,6 @@ use borrow.Author.Needs.{needs}
 use Rattle.residues.proofs.rows.accumulate_turned.Statement.{statement}
 use Rattle.residues.proofs.rows.accumulate_turned.Tie as tie
 
-row-start-requires : tie.Need-row-start-requires
-row-start-requires c κs = search needs
-
-sub-n : tie.Need-sub-n
-sub-n c = search needs
-
-accumulate-row-requires : tie.Need-accumulate-row-requires
-accumulate-row-requires c κs = search needs
-
-add-accumulate-row : tie.Need-add-accumulate-row
-add-accumulate-row c = search needs
-
-accumulate-row-requires-2 : tie.Need-accumulate-row-requires-2
-accumulate-row-requires-2 c κs = search needs
-
-same-length : tie.Need-same-length
-same-length c = search needs
-
 returns : tie.Need-returns
 returns c = λ h.
     let a = c .before .before .before .before .before .before .before .before .before .before .before .args in
@@ -38,10 +20,10 @@ pub accumulate-turned-spec : {M : Type 1} → statement M
 accumulate-turned-spec =
     tie.close
     (tie.spec
-    row-start-requires
-    sub-n
-    accumulate-row-requires
-    add-accumulate-row
-    accumulate-row-requires-2
-    same-length
+    (λ c κs. search needs)
+    (λ c. search needs)
+    (λ c κs. search needs)
+    (λ c. search needs)
+    (λ c κs. search needs)
+    (λ c. search needs)
     returns)

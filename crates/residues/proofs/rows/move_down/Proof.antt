@@ -21,39 +21,12 @@ returns c = let a = c .before .args in spliced-same (a .to) (a .n) (a .t .now) (
 loop-holds : tie.Need-loop-holds Inv-loop μ-loop
 loop-holds c = (omega arith, spliced-none _ _ _, refl)
 
-add-y : tie.Need-add-y Inv-loop μ-loop
-add-y c = search needs
-
-mul-y : tie.Need-mul-y Inv-loop μ-loop
-mul-y c = search needs
-
-slice-read-y : tie.Need-slice-read-y Inv-loop μ-loop
-slice-read-y c = search needs
-
-add-t : tie.Need-add-t Inv-loop μ-loop
-add-t c = search needs
-
-mul-t : tie.Need-mul-t Inv-loop μ-loop
-mul-t c = search needs
-
-slice-write-t : tie.Need-slice-write-t Inv-loop μ-loop
-slice-write-t c = search needs
-
-add-k : tie.Need-add-k Inv-loop μ-loop
-add-k c = search needs
-
-loop-less : tie.Need-loop-less Inv-loop μ-loop
-loop-less c = search needs
-
 loop-again : tie.Need-loop-again Inv-loop μ-loop
 loop-again c =
     let a = c .before .before .before .before .args in
     let l = c .before .before .loop in
     let was = ap (λ s. getD s (a .from + l .k) 0) (l .inv .1) ∙ spliced-behind _ (a .to) (l .k) (a .t .now) (omega arith) (a .from + l .k) (omega arith) in
     (omega arith, spliced-turn _ _ (l .k) _ (l .inv .1) was (omega arith), simp length-set (omega arith))
-
-same-length : tie.Need-same-length Inv-loop μ-loop
-same-length c = search needs
 
 returns-2 : tie.Need-returns-2 Inv-loop μ-loop
 returns-2 c = spliced-end _ _ _ (c .before .loop .inv .1) (omega arith)
@@ -66,14 +39,14 @@ move-down-spec =
     μ-loop
     returns
     loop-holds
-    add-y
-    mul-y
-    slice-read-y
-    add-t
-    mul-t
-    slice-write-t
-    add-k
-    loop-less
+    (λ c. search needs)
+    (λ c. search needs)
+    (λ c. search needs)
+    (λ c. search needs)
+    (λ c. search needs)
+    (λ c. search needs)
+    (λ c. search needs)
+    (λ c. search needs)
     loop-again
-    same-length
+    (λ c. search needs)
     returns-2)

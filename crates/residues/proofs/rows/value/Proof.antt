@@ -11,17 +11,8 @@ use Rattle.residues.proofs.rows.value.Tie as tie
 once-small : (c : tie.After-on-circle) → c .on-circle .result < 2 * c .before .before .before .before .before .args .d
 once-small c = let a = c .before .before .before .before .before .args in omega (arith, c .on-circle .ensures, mod-lt (a .e) {m = 2 * a .d} (omega arith))
 
-on-circle-requires : tie.Need-on-circle-requires
-on-circle-requires c κs = search needs
-
 add-on-circle : tie.Need-add-on-circle
 add-on-circle c = omega (arith, once-small c)
-
-on-circle-requires-2 : tie.Need-on-circle-requires-2
-on-circle-requires-2 c κs = search needs
-
-copy-row-requires : tie.Need-copy-row-requires
-copy-row-requires c κs = search needs
 
 accumulate-turned-requires : tie.Need-accumulate-turned-requires
 accumulate-turned-requires c κs = (omega arith, once-small (c .before .before .before .before .before .before), omega arith, search needs)
@@ -32,9 +23,6 @@ accumulate-turned-requires-2 c κs =
     let once = c .before .before .before .before .before .before .before .before .before .before .on-circle in
     let twice = c .before .before .before .before .before .before .before .before .before .on-circle2 in
     (omega arith, omega (arith, twice .ensures, mod-lt (once .result + once .result) {m = 2 * a .d} (omega arith)), omega arith, search needs)
-
-same-length : tie.Need-same-length
-same-length c = search needs
 
 returns : tie.Need-returns
 returns c = λ h.
@@ -55,11 +43,11 @@ pub value-spec : {M : Type 1} → statement M
 value-spec =
     tie.close
     (tie.spec
-    on-circle-requires
+    (λ c κs. search needs)
     add-on-circle
-    on-circle-requires-2
-    copy-row-requires
+    (λ c κs. search needs)
+    (λ c κs. search needs)
     accumulate-turned-requires
     accumulate-turned-requires-2
-    same-length
+    (λ c. search needs)
     returns)

@@ -32,15 +32,6 @@ add-if5 c = omega (arith, half-small c)
 returns-5 : tie.Need-returns-5
 returns-5 c = λ f. absurd (omega (arith, f .residues .long))
 
-fold-elements-requires : tie.Need-fold-elements-requires
-fold-elements-requires c κs = search needs
-
-same-length : tie.Need-same-length
-same-length c = search needs
-
-returns-6 : tie.Need-returns-6
-returns-6 c = search needs
-
 pub fold-down-spec : {M : Type 1} → statement M
 fold-down-spec =
     tie.close
@@ -53,6 +44,6 @@ fold-down-spec =
     mul-if5-2
     add-if5
     returns-5
-    fold-elements-requires
-    same-length
-    returns-6)
+    (λ c κs. search needs)
+    (λ c. search needs)
+    (λ c. search needs))

@@ -32,9 +32,6 @@ inside c = let a = c .before .before .before .before .before .args in row-inside
 front-long : (c : tie.In-loop Inv-loop μ-loop) → let a = c .before .before .before .before .before .args in length (take (a .second) (c .before .loop .t)) ≡ a .second
 front-long c = let a = c .before .before .before .before .before .args in length-take-le (a .second) (c .before .loop .t) (omega arith)
 
-on-circle-requires : tie.Need-on-circle-requires Inv-loop μ-loop
-on-circle-requires c κs = search needs
-
 loop-holds : tie.Need-loop-holds Inv-loop μ-loop
 loop-holds c =
     let a = c .before .before .before .args in
@@ -42,18 +39,6 @@ loop-holds c =
 
 mul-at : tie.Need-mul-at Inv-loop μ-loop
 mul-at c = omega (arith, half-small (c .before .before .before .before .before), inside c)
-
-mul-copy-row : tie.Need-mul-copy-row Inv-loop μ-loop
-mul-copy-row c = search needs
-
-sub-copy-row : tie.Need-sub-copy-row Inv-loop μ-loop
-sub-copy-row c = search needs
-
-part-copy-row-start : tie.Need-part-copy-row-start Inv-loop μ-loop
-part-copy-row-start c = search needs
-
-part-copy-row-end : tie.Need-part-copy-row-end Inv-loop μ-loop
-part-copy-row-end c = search needs
 
 copy-row-requires : tie.Need-copy-row-requires Inv-loop μ-loop
 copy-row-requires c κs =
@@ -80,12 +65,6 @@ accumulate-turned-requires c κs =
       omega (arith, front-long (c .before .before .before .before .before .before .before .before), inside (c .before .before .before .before .before .before .before .before)),
     )
 
-add-j : tie.Need-add-j Inv-loop μ-loop
-add-j c = search needs
-
-loop-less : tie.Need-loop-less Inv-loop μ-loop
-loop-less c = search needs
-
 loop-again : tie.Need-loop-again Inv-loop μ-loop
 loop-again c =
     let a = c .before .before .before .before .before .before .before .before .before .before .before .before .before .before .before .before .args in
@@ -102,12 +81,6 @@ loop-again c =
       copied .kept .1 .1 .1 .0 ∙ l .inv .3,
     )
 
-same-length : tie.Need-same-length Inv-loop μ-loop
-same-length c = search needs
-
-same-length-2 : tie.Need-same-length-2 Inv-loop μ-loop
-same-length-2 c = search needs
-
 returns : tie.Need-returns Inv-loop μ-loop
 unfolding foldHalves
 returns c = λ s.
@@ -120,21 +93,21 @@ fold-each-spec =
     (tie.spec
     Inv-loop
     μ-loop
-    on-circle-requires
+    (λ c κs. search needs)
     loop-holds
     mul-at
-    mul-copy-row
-    sub-copy-row
-    part-copy-row-start
-    part-copy-row-end
+    (λ c. search needs)
+    (λ c. search needs)
+    (λ c. search needs)
+    (λ c. search needs)
     copy-row-requires
     slice-relend-prefix-accumulate-turned
     slice-aggregate-accumulate-turned
     add-accumulate-turned
     accumulate-turned-requires
-    add-j
-    loop-less
+    (λ c. search needs)
+    (λ c. search needs)
     loop-again
-    same-length
-    same-length-2
+    (λ c. search needs)
+    (λ c. search needs)
     returns)

@@ -4,24 +4,6 @@ use borrow.Author.Needs.{needs}
 use Rattle.residues.proofs.tables.fold_elements.Statement.{statement}
 use Rattle.residues.proofs.tables.fold_elements.Tie as tie
 
-mul-half : tie.Need-mul-half
-mul-half c = search needs
-
-move-down-requires : tie.Need-move-down-requires
-move-down-requires c κs = search needs
-
-add-fold-each : tie.Need-add-fold-each
-add-fold-each c = search needs
-
-slice-aggregate-fold-each : tie.Need-slice-aggregate-fold-each
-slice-aggregate-fold-each c = search needs
-
-fold-each-requires : tie.Need-fold-each-requires
-fold-each-requires c κs = search needs
-
-same-length : tie.Need-same-length
-same-length c = search needs
-
 returns : tie.Need-returns
 returns c = λ f.
     let a = c .before .before .before .before .before .before .before .before .before .before .before .args in
@@ -33,10 +15,10 @@ pub fold-elements-spec : {M : Type 1} → statement M
 fold-elements-spec =
     tie.close
     (tie.spec
-    mul-half
-    move-down-requires
-    add-fold-each
-    slice-aggregate-fold-each
-    fold-each-requires
-    same-length
+    (λ c. search needs)
+    (λ c κs. search needs)
+    (λ c. search needs)
+    (λ c. search needs)
+    (λ c κs. search needs)
+    (λ c. search needs)
     returns)

@@ -9,39 +9,6 @@ use borrow.Author.Needs.{needs}
 use Rattle.sessions.proofs.records.load.Statement.{statement}
 use Rattle.sessions.proofs.records.load.Tie as tie
 
-shared-slice-read-t6 : tie.Need-shared-slice-read-t6
-shared-slice-read-t6 c = search needs
-
-shared-slice-read-t8 : tie.Need-shared-slice-read-t8
-shared-slice-read-t8 c = search needs
-
-shared-slice-read-t10 : tie.Need-shared-slice-read-t10
-shared-slice-read-t10 c = search needs
-
-shared-slice-read-t12 : tie.Need-shared-slice-read-t12
-shared-slice-read-t12 c = search needs
-
-sub-residues : tie.Need-sub-residues
-sub-residues c = search needs
-
-part-residues-start : tie.Need-part-residues-start
-part-residues-start c = search needs
-
-part-residues-end : tie.Need-part-residues-end
-part-residues-end c = search needs
-
-residues-requires : tie.Need-residues-requires
-residues-requires c κs = search needs
-
-challenges-requires : tie.Need-challenges-requires
-challenges-requires c κs = search needs
-
-shared-slice-read-t6-2 : tie.Need-shared-slice-read-t6-2
-shared-slice-read-t6-2 c = search needs
-
-shared-slice-read-t8-2 : tie.Need-shared-slice-read-t8-2
-shared-slice-read-t8-2 c = search needs
-
 returns : tie.Need-returns
 unfolding sessionOf
 returns c =
@@ -60,15 +27,15 @@ pub load-spec : {M : Type 1} → statement M
 load-spec =
     tie.close
     (tie.spec
-    shared-slice-read-t6
-    shared-slice-read-t8
-    shared-slice-read-t10
-    shared-slice-read-t12
-    sub-residues
-    part-residues-start
-    part-residues-end
-    residues-requires
-    challenges-requires
-    shared-slice-read-t6-2
-    shared-slice-read-t8-2
+    (λ c. search needs)
+    (λ c. search needs)
+    (λ c. search needs)
+    (λ c. search needs)
+    (λ c. search needs)
+    (λ c. search needs)
+    (λ c. search needs)
+    (λ c κs. search needs)
+    (λ c κs. search needs)
+    (λ c. search needs)
+    (λ c. search needs)
     returns)

@@ -38,20 +38,11 @@ module _ (c : tie.After-or-malformed) where
   refusal : lookRefusal text ≡ c .or-malformed .result
   refusal = settled-look text (found .0) (found .1) (found .2) short ∙ sym number
 
-refused-requires : tie.Need-refused-requires
-refused-requires c κs = search needs
-
 returns : tie.Need-returns
 unfolding lookAnswer textLimit
 returns c =
     let t = c .before .before .before .args .text .now in
     loaded-refused t _ 1 (lookRefusal t) (c .refused .ensures) (look-long t (c .before .if1 .taken)) (λ z. absurd (omega arith))
-
-read-header-requires : tie.Need-read-header-requires
-read-header-requires c κs = search needs
-
-refused-requires-2 : tie.Need-refused-requires-2
-refused-requires-2 c κs = search needs
 
 returns-2 : tie.Need-returns-2
 unfolding lookAnswer textLimit
@@ -60,15 +51,6 @@ returns-2 c =
     let t = h .before .before .before .args .text .now in
     let missing = header-unfound t (h .read-header .result) (h .read-header .ensures) (not-true _ (c .before .if2 .taken)) in
     loaded-refused t _ 2 (lookRefusal t) (c .refused2 .ensures) (look-missing t (omega arith) missing) (λ z. absurd (omega arith))
-
-settings-refusal-requires : tie.Need-settings-refusal-requires
-settings-refusal-requires c κs = search needs
-
-or-malformed-requires : tie.Need-or-malformed-requires
-or-malformed-requires c κs = search needs
-
-refused-requires-3 : tie.Need-refused-requires-3
-refused-requires-3 c κs = search needs
 
 returns-3 : tie.Need-returns-3
 unfolding lookAnswer
@@ -87,13 +69,13 @@ pub look-spec : {M : Type 1} → statement M
 look-spec =
     tie.close
     (tie.spec
-    refused-requires
+    (λ c κs. search needs)
     returns
-    read-header-requires
-    refused-requires-2
+    (λ c κs. search needs)
+    (λ c κs. search needs)
     returns-2
-    settings-refusal-requires
-    or-malformed-requires
-    refused-requires-3
+    (λ c κs. search needs)
+    (λ c κs. search needs)
+    (λ c κs. search needs)
     returns-3
     returns-4)

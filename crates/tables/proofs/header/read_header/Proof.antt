@@ -140,46 +140,16 @@ refuses : (text : List ℕ) (r : Header) → r ≡ record { found = false; setti
 unfolding headerAnswer
 refuses text r e o = e ∙ sym (ap (headerAnswer text) o)
 
-begins-with-names-requires : tie.Need-begins-with-names-requires
-begins-with-names-requires c κs = search needs
-
-no-header-requires : tie.Need-no-header-requires
-no-header-requires c κs = search needs
-
 returns : tie.Need-returns
 returns c =
     let t = c .before .before .before .before .args .text .now in
     refuses t _ (c .no-header .ensures) (settings-unnamed t (sym (c .before .before .begins-with-names .ensures) ∙ not-true _ (c .before .if1 .taken)))
-
-value-at-requires : tie.Need-value-at-requires
-value-at-requires c κs = search needs
-
-enum-known-degree : tie.Need-enum-known-degree
-enum-known-degree c = search needs
-
-enum-told : tie.Need-enum-told
-enum-told c = search needs
-
-no-header-requires-2 : tie.Need-no-header-requires-2
-no-header-requires-2 c κs = search needs
 
 returns-2 : tie.Need-returns-2
 returns-2 c =
     let d = c .before .before .before .before in
     let missed = unvalued (text d) (at-place 0) 22 _ (sym (c .before .before .before .value-at .ensures .0) ∙ c .before .enum-told .given .1) in
     refuses (text d) _ (c .no-header2 .ensures) (values-over _ [] (at-place 0) _ _ (left₀ d) missed)
-
-value-at-requires-2 : tie.Need-value-at-requires-2
-value-at-requires-2 c κs = search needs
-
-enum-known-depth : tie.Need-enum-known-depth
-enum-known-depth c = search needs
-
-enum-told-2 : tie.Need-enum-told-2
-enum-told-2 c = search needs
-
-no-header-requires-3 : tie.Need-no-header-requires-3
-no-header-requires-3 c κs = search needs
 
 returns-3 : tie.Need-returns-3
 returns-3 c =
@@ -188,18 +158,6 @@ returns-3 c =
     let missed = unvalued t (at-place 1) (on₁ d) _ (sym (c .before .before .before .value-at2 .ensures .0) ∙ c .before .enum-told2 .given .1) in
     refuses t _ (c .no-header3 .ensures) (values-over _ (v₁ d ∷ []) (at-place 1) _ _ (left₁ d) missed)
 
-value-at-requires-3 : tie.Need-value-at-requires-3
-value-at-requires-3 c κs = search needs
-
-enum-known-modulus : tie.Need-enum-known-modulus
-enum-known-modulus c = search needs
-
-enum-told-3 : tie.Need-enum-told-3
-enum-told-3 c = search needs
-
-no-header-requires-4 : tie.Need-no-header-requires-4
-no-header-requires-4 c κs = search needs
-
 returns-4 : tie.Need-returns-4
 returns-4 c =
     let d = c .before .before .before .before in
@@ -207,36 +165,12 @@ returns-4 c =
     let missed = unvalued t (at-place 2) (on₂ d) _ (sym (c .before .before .before .value-at3 .ensures .0) ∙ c .before .enum-told3 .given .1) in
     refuses t _ (c .no-header4 .ensures) (values-over _ (v₁ (from₁ d) ∷ v₂ d ∷ []) (at-place 2) _ _ (left₂ d) missed)
 
-value-at-requires-4 : tie.Need-value-at-requires-4
-value-at-requires-4 c κs = search needs
-
-enum-known-bound : tie.Need-enum-known-bound
-enum-known-bound c = search needs
-
-enum-told-4 : tie.Need-enum-told-4
-enum-told-4 c = search needs
-
-no-header-requires-5 : tie.Need-no-header-requires-5
-no-header-requires-5 c κs = search needs
-
 returns-5 : tie.Need-returns-5
 returns-5 c =
     let d = c .before .before .before .before in
     let t = text₂ d in
     let missed = unvalued t (at-place 3) (on₃ d) _ (sym (c .before .before .before .value-at4 .ensures .0) ∙ c .before .enum-told4 .given .1) in
     refuses t _ (c .no-header5 .ensures) (values-over _ (v₁ (from₁ (from₂ d)) ∷ v₂ (from₂ d) ∷ v₃ d ∷ []) (at-place 3) [] _ (left₃ d) missed)
-
-unsigned-requires : tie.Need-unsigned-requires
-unsigned-requires c κs = search needs
-
-unsigned-requires-2 : tie.Need-unsigned-requires-2
-unsigned-requires-2 c κs = search needs
-
-unsigned-requires-3 : tie.Need-unsigned-requires-3
-unsigned-requires-3 c κs = search needs
-
-unsigned-requires-4 : tie.Need-unsigned-requires-4
-unsigned-requires-4 c κs = search needs
 
 returns-6 : tie.Need-returns-6
 unfolding headerAnswer settingsOf
@@ -258,31 +192,31 @@ pub read-header-spec : {M : Type 1} → statement M
 read-header-spec =
     tie.close
     (tie.spec
-    begins-with-names-requires
-    no-header-requires
+    (λ c κs. search needs)
+    (λ c κs. search needs)
     returns
-    value-at-requires
-    enum-known-degree
-    enum-told
-    no-header-requires-2
+    (λ c κs. search needs)
+    (λ c. search needs)
+    (λ c. search needs)
+    (λ c κs. search needs)
     returns-2
-    value-at-requires-2
-    enum-known-depth
-    enum-told-2
-    no-header-requires-3
+    (λ c κs. search needs)
+    (λ c. search needs)
+    (λ c. search needs)
+    (λ c κs. search needs)
     returns-3
-    value-at-requires-3
-    enum-known-modulus
-    enum-told-3
-    no-header-requires-4
+    (λ c κs. search needs)
+    (λ c. search needs)
+    (λ c. search needs)
+    (λ c κs. search needs)
     returns-4
-    value-at-requires-4
-    enum-known-bound
-    enum-told-4
-    no-header-requires-5
+    (λ c κs. search needs)
+    (λ c. search needs)
+    (λ c. search needs)
+    (λ c κs. search needs)
     returns-5
-    unsigned-requires
-    unsigned-requires-2
-    unsigned-requires-3
-    unsigned-requires-4
+    (λ c κs. search needs)
+    (λ c κs. search needs)
+    (λ c κs. search needs)
+    (λ c κs. search needs)
     returns-6)

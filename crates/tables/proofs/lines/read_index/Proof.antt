@@ -43,24 +43,12 @@ module _ (c : tie.After-known-told) where
 stands : (c : tie.Else1) → present (byte space (drop (next (c .before .before)) (text (c .before .before)))) ≡ true
 stands c = sym (c .before .stands .ensures) ∙ not-false _ (c .if1 .left)
 
-read-count-requires : tie.Need-read-count-requires
-read-count-requires c κs = search needs
-
-enum-known-value : tie.Need-enum-known-value
-enum-known-value c = search needs
-
-enum-told : tie.Need-enum-told
-enum-told c = search needs
-
 returns : tie.Need-returns
 unfolding readIndexAt numberAnswer plain bind
 returns c =
     let a = c .before .before .before .before .args in
     let missed = uncounted (a .text .now) (a .at) _ (sym (c .before .before .read-count .ensures .0) ∙ c .enum-told .given .1) in
     index-both (a .text .now) (a .at) _ (sym (ap (λ o. numberAnswer (a .text .now) (plain o)) (column-uncounted (drop (a .at) (a .text .now)) missed)))
-
-stands-requires : tie.Need-stands-requires
-stands-requires c κs = search needs
 
 returns-2 : tie.Need-returns-2
 unfolding readIndexAt numberAnswer plain bind
@@ -87,11 +75,11 @@ pub read-index-spec : {M : Type 1} → statement M
 read-index-spec =
     tie.close
     (tie.spec
-    read-count-requires
-    enum-known-value
-    enum-told
+    (λ c κs. search needs)
+    (λ c. search needs)
+    (λ c. search needs)
     returns
-    stands-requires
+    (λ c κs. search needs)
     returns-2
     add-t8
     returns-3)

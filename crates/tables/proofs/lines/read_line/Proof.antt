@@ -135,30 +135,12 @@ module _ (c : tie.After-known-told4) where
 ends : (c : tie.Else1) → present (byte lineFeed (drop (on₄ (c .before .before)) (text₃ (c .before .before)))) ≡ true
 ends c = sym (c .before .stands .ensures) ∙ not-false _ (c .if1 .left)
 
-read-index-requires : tie.Need-read-index-requires
-read-index-requires c κs = search needs
-
-enum-known-part : tie.Need-enum-known-part
-enum-known-part c = search needs
-
-enum-told : tie.Need-enum-told
-enum-told c = search needs
-
 returns : tie.Need-returns
 unfolding readLineAt lineAnswer
 returns c =
     let a = c .before .before .before .before .args in
     let missed = uncolumned (a .text .now) (a .at) _ (sym (c .before .before .read-index .ensures .0) ∙ c .enum-told .given .1) in
     line-both (a .text .now) (a .at) _ (sym (ap (lineAnswer (a .text .now)) (line-columns (drop (a .at) (a .text .now)) ∙ bind-none _ line₁ missed)))
-
-read-index-requires-2 : tie.Need-read-index-requires-2
-read-index-requires-2 c κs = search needs
-
-enum-known-item : tie.Need-enum-known-item
-enum-known-item c = search needs
-
-enum-told-2 : tie.Need-enum-told-2
-enum-told-2 c = search needs
 
 returns-2 : tie.Need-returns-2
 unfolding readLineAt lineAnswer line₁
@@ -167,15 +149,6 @@ returns-2 c =
     let missed = uncolumned (text d) (on₁ d) _ (sym (c .before .before .read-index2 .ensures .0) ∙ c .enum-told2 .given .1) in
     line-both (text d) (at d) _ (sym (ap (lineAnswer (text d)) (left₁ d ∙ bind-none _ (line₂ (part d .0)) missed)))
 
-read-index-requires-3 : tie.Need-read-index-requires-3
-read-index-requires-3 c κs = search needs
-
-enum-known-place : tie.Need-enum-known-place
-enum-known-place c = search needs
-
-enum-told-3 : tie.Need-enum-told-3
-enum-told-3 c = search needs
-
 returns-3 : tie.Need-returns-3
 unfolding readLineAt lineAnswer line₂
 returns-3 c =
@@ -183,24 +156,12 @@ returns-3 c =
     let missed = uncolumned (text (from₁ d)) (on₂ d) _ (sym (c .before .before .read-index3 .ensures .0) ∙ c .enum-told3 .given .1) in
     line-both (text (from₁ d)) (at (from₁ d)) _ (sym (ap (lineAnswer (text (from₁ d))) (left₂ d ∙ bind-none _ (line₃ (part (from₁ d) .0) (item d .0)) missed)))
 
-read-number-requires : tie.Need-read-number-requires
-read-number-requires c κs = search needs
-
-enum-known-value : tie.Need-enum-known-value
-enum-known-value c = search needs
-
-enum-told-4 : tie.Need-enum-told-4
-enum-told-4 c = search needs
-
 returns-4 : tie.Need-returns-4
 unfolding readLineAt lineAnswer line₃
 returns-4 c =
     let d = c .before .before .before in
     let missed = unnumbered (text₂ d) (on₃ d) _ (sym (c .before .before .read-number .ensures .0) ∙ c .enum-told4 .given .1) in
     line-both (text₂ d) (at (from₁ (from₂ d))) _ (sym (ap (lineAnswer (text₂ d)) (left₃ d ∙ bind-none _ (line₄ (part (from₁ (from₂ d)) .0) (item (from₂ d) .0) (place d .0)) missed)))
-
-stands-requires : tie.Need-stands-requires
-stands-requires c κs = search needs
 
 returns-5 : tie.Need-returns-5
 unfolding readLineAt lineAnswer line₄
@@ -234,23 +195,23 @@ pub read-line-spec : {M : Type 1} → statement M
 read-line-spec =
     tie.close
     (tie.spec
-    read-index-requires
-    enum-known-part
-    enum-told
+    (λ c κs. search needs)
+    (λ c. search needs)
+    (λ c. search needs)
     returns
-    read-index-requires-2
-    enum-known-item
-    enum-told-2
+    (λ c κs. search needs)
+    (λ c. search needs)
+    (λ c. search needs)
     returns-2
-    read-index-requires-3
-    enum-known-place
-    enum-told-3
+    (λ c κs. search needs)
+    (λ c. search needs)
+    (λ c. search needs)
     returns-3
-    read-number-requires
-    enum-known-value
-    enum-told-4
+    (λ c κs. search needs)
+    (λ c. search needs)
+    (λ c. search needs)
     returns-4
-    stands-requires
+    (λ c κs. search needs)
     returns-5
     cast-t17
     cast-t18

@@ -60,12 +60,6 @@ whole text at value i inv none =
 loop-holds : tie.Need-loop-holds Inv-loop μ-loop
 loop-holds c = (search needs, search needs, refl)
 
-digit-at-requires : tie.Need-digit-at-requires Inv-loop μ-loop
-digit-at-requires c κs = search needs
-
-mul-value : tie.Need-mul-value Inv-loop μ-loop
-mul-value c = search needs
-
 shared-slice-read-value : tie.Need-shared-slice-read-value Inv-loop μ-loop
 shared-slice-read-value c = inside (c .before)
 
@@ -108,8 +102,8 @@ digit-run-spec =
     Inv-loop
     μ-loop
     loop-holds
-    digit-at-requires
-    mul-value
+    (λ c κs. search needs)
+    (λ c. search needs)
     shared-slice-read-value
     sub-value
     cast-value

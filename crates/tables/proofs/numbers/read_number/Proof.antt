@@ -54,30 +54,12 @@ returns c =
     let a = c .before .before .args in
     number-both (a .text .now) (a .at) _ (sym (ap (numberAnswer (a .text .now)) (number-outside (a .text .now) (a .at) (c .if1 .taken))))
 
-shared-slice-read-if2 : tie.Need-shared-slice-read-if2
-shared-slice-read-if2 c = search needs
-
-read-count-requires : tie.Need-read-count-requires
-read-count-requires c κs = search needs
-
 returns-2 : tie.Need-returns-2
 unfolding readNumberAt readCountAt
 returns-2 c =
     let a = c .before .before .before .before .before .args in
     number-both (a .text .now) (a .at) _
     (c .read-count .ensures .0 ∙ sym (ap (numberAnswer (a .text .now)) (number-plain (a .text .now) (a .at) (search needs) (c .before .if2 .taken))))
-
-add-read-count : tie.Need-add-read-count
-add-read-count c = search needs
-
-read-count-requires-2 : tie.Need-read-count-requires-2
-read-count-requires-2 c κs = search needs
-
-enum-known-value : tie.Need-enum-known-value
-enum-known-value c = search needs
-
-enum-told : tie.Need-enum-told
-enum-told c = search needs
 
 returns-3 : tie.Need-returns-3
 unfolding readNumberAt numberAnswer
@@ -114,13 +96,13 @@ read-number-spec =
     tie.close
     (tie.spec
     returns
-    shared-slice-read-if2
-    read-count-requires
+    (λ c. search needs)
+    (λ c κs. search needs)
     returns-2
-    add-read-count
-    read-count-requires-2
-    enum-known-value
-    enum-told
+    (λ c. search needs)
+    (λ c κs. search needs)
+    (λ c. search needs)
+    (λ c. search needs)
     returns-3
     returns-4
     sub-t10

@@ -6,20 +6,11 @@ use borrow.Author.Needs.{needs}
 use Rattle.texts.proofs.settings.store.Statement.{statement}
 use Rattle.texts.proofs.settings.store.Tie as tie
 
-slice-write-out : tie.Need-slice-write-out
-slice-write-out c = search needs
-
 slice-write-out-2 : tie.Need-slice-write-out-2
 slice-write-out-2 c = simp length-set (omega arith)
 
 slice-write-out-3 : tie.Need-slice-write-out-3
 slice-write-out-3 c = simp length-set (omega arith)
-
-slice-write-out-4 : tie.Need-slice-write-out-4
-slice-write-out-4 c = search needs
-
-same-length : tie.Need-same-length
-same-length c = search needs
 
 returns : tie.Need-returns
 unfolding settingsNumbers
@@ -29,9 +20,9 @@ pub store-spec : {M : Type 1} → statement M
 store-spec =
     tie.close
     (tie.spec
-    slice-write-out
+    (λ c. search needs)
     slice-write-out-2
     slice-write-out-3
-    slice-write-out-4
-    same-length
+    (λ c. search needs)
+    (λ c. search needs)
     returns)

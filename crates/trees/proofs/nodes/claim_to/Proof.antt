@@ -8,69 +8,6 @@ use borrow.Author.Needs.{needs}
 use Rattle.trees.proofs.nodes.claim_to.Statement.{statement}
 use Rattle.trees.proofs.nodes.claim_to.Tie as tie
 
-challenge-requires : tie.Need-challenge-requires
-challenge-requires c κs = search needs
-
-cast-d : tie.Need-cast-d
-cast-d c = search needs
-
-mul-at : tie.Need-mul-at
-mul-at c = search needs
-
-mul-at-2 : tie.Need-mul-at-2
-mul-at-2 c = search needs
-
-add-second : tie.Need-add-second
-add-second c = search needs
-
-mul-third : tie.Need-mul-third
-mul-third c = search needs
-
-add-third : tie.Need-add-third
-add-third c = search needs
-
-mul-value : tie.Need-mul-value
-mul-value c = search needs
-
-sub-value : tie.Need-sub-value
-sub-value c = search needs
-
-part-value-start : tie.Need-part-value-start
-part-value-start c = search needs
-
-part-value-end : tie.Need-part-value-end
-part-value-end c = search needs
-
-mul-value-2 : tie.Need-mul-value-2
-mul-value-2 c = search needs
-
-sub-value-2 : tie.Need-sub-value-2
-sub-value-2 c = search needs
-
-part-value-start-2 : tie.Need-part-value-start-2
-part-value-start-2 c = search needs
-
-part-value-end-2 : tie.Need-part-value-end-2
-part-value-end-2 c = search needs
-
-mul-value-3 : tie.Need-mul-value-3
-mul-value-3 c = search needs
-
-sub-value-3 : tie.Need-sub-value-3
-sub-value-3 c = search needs
-
-part-value-start-3 : tie.Need-part-value-start-3
-part-value-start-3 c = search needs
-
-part-value-end-3 : tie.Need-part-value-end-3
-part-value-end-3 c = search needs
-
-value-requires : tie.Need-value-requires
-value-requires c κs = search needs
-
-same-length : tie.Need-same-length
-same-length c = search needs
-
 returns : tie.Need-returns
 returns c = λ below.
     let s = c .before .before .before .before .before .before .before .before .before .before .before .before in
@@ -97,25 +34,25 @@ pub claim-to-spec : {M : Type 1} → statement M
 claim-to-spec =
     tie.close
     (tie.spec
-    challenge-requires
-    cast-d
-    mul-at
-    mul-at-2
-    add-second
-    mul-third
-    add-third
-    mul-value
-    sub-value
-    part-value-start
-    part-value-end
-    mul-value-2
-    sub-value-2
-    part-value-start-2
-    part-value-end-2
-    mul-value-3
-    sub-value-3
-    part-value-start-3
-    part-value-end-3
-    value-requires
-    same-length
+    (λ c κs. search needs)
+    (λ c. search needs)
+    (λ c. search needs)
+    (λ c. search needs)
+    (λ c. search needs)
+    (λ c. search needs)
+    (λ c. search needs)
+    (λ c. search needs)
+    (λ c. search needs)
+    (λ c. search needs)
+    (λ c. search needs)
+    (λ c. search needs)
+    (λ c. search needs)
+    (λ c. search needs)
+    (λ c. search needs)
+    (λ c. search needs)
+    (λ c. search needs)
+    (λ c. search needs)
+    (λ c. search needs)
+    (λ c κs. search needs)
+    (λ c. search needs)
     returns)

@@ -8,12 +8,6 @@ use borrow.Author.Needs.{needs}
 use Rattle.trees.proofs.nodes.fold_key.Statement.{statement}
 use Rattle.trees.proofs.nodes.fold_key.Tie as tie
 
-sub-half-left : tie.Need-sub-half-left
-sub-half-left c = search needs
-
-half-left-requires : tie.Need-half-left-requires
-half-left-requires c κs = search needs
-
 half : (c : tie.After-half-left) → let a = c .before .before .before .args in c .half-left .result ≡ halfLeft (a .settings) (a .settings .depth - a .h)
 half c = let s = c .before .before .before in c .half-left .ensures (record { allowed = s .pre .allowed; turn = omega (arith, s .pre .up, s .pre .height) })
 
@@ -22,12 +16,6 @@ mul-to c = let s = c .before .before .before in omega (arith, Workspace.cells-fe
 
 mul-fold-down : tie.Need-mul-fold-down
 mul-fold-down c = let s = c .before .before .before in omega (arith, Workspace.cells-few (s .args .settings) (s .args .h) _ (s .pre) (half c))
-
-fold-down-requires : tie.Need-fold-down-requires
-fold-down-requires c κs = search needs
-
-same-length : tie.Need-same-length
-same-length c = search needs
 
 returns : tie.Need-returns
 returns c = λ below.
@@ -43,10 +31,10 @@ pub fold-key-spec : {M : Type 1} → statement M
 fold-key-spec =
     tie.close
     (tie.spec
-    sub-half-left
-    half-left-requires
+    (λ c. search needs)
+    (λ c κs. search needs)
     mul-to
     mul-fold-down
-    fold-down-requires
-    same-length
+    (λ c κs. search needs)
+    (λ c. search needs)
     returns)

@@ -5,27 +5,6 @@ use borrow.Author.Needs.{needs}
 use Rattle.trees.proofs.nodes.leaf_accepted.Statement.{statement}
 use Rattle.trees.proofs.nodes.leaf_accepted.Tie as tie
 
-cast-at : tie.Need-cast-at
-cast-at c = search needs
-
-mul-at : tie.Need-mul-at
-mul-at c = search needs
-
-mul-ending-met : tie.Need-mul-ending-met
-mul-ending-met c = search needs
-
-sub-ending-met : tie.Need-sub-ending-met
-sub-ending-met c = search needs
-
-part-ending-met-start : tie.Need-part-ending-met-start
-part-ending-met-start c = search needs
-
-part-ending-met-end : tie.Need-part-ending-met-end
-part-ending-met-end c = search needs
-
-ending-met-requires : tie.Need-ending-met-requires
-ending-met-requires c κs = search needs
-
 returns : tie.Need-returns
 returns c =
     let s = c .before .before .before .before .before in
@@ -38,11 +17,11 @@ pub leaf-accepted-spec : {M : Type 1} → statement M
 leaf-accepted-spec =
     tie.close
     (tie.spec
-    cast-at
-    mul-at
-    mul-ending-met
-    sub-ending-met
-    part-ending-met-start
-    part-ending-met-end
-    ending-met-requires
+    (λ c. search needs)
+    (λ c. search needs)
+    (λ c. search needs)
+    (λ c. search needs)
+    (λ c. search needs)
+    (λ c. search needs)
+    (λ c κs. search needs)
     returns)

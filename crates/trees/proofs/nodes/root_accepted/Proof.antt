@@ -52,35 +52,11 @@ module _ (c : tie.After-ws2) where
   has-key : drop n (take (2 * n) ws) ≡ key
   has-key = root-key n (32768 - n) zeros copied key (drop n part) inside (λ _. n) is-copied
 
-mul-all : tie.Need-mul-all
-mul-all c = search needs
-
-nodes-requires : tie.Need-nodes-requires
-nodes-requires c κs = search needs
-
-cast-first : tie.Need-cast-first
-cast-first c = search needs
-
-room-requires : tie.Need-room-requires
-room-requires c κs = search needs
-
-mul-ws : tie.Need-mul-ws
-mul-ws c = search needs
-
 sub-copy : tie.Need-sub-copy
 sub-copy c = omega (arith, few (c .before .before .before .before .before))
 
 part-ws-start : tie.Need-part-ws-start
 part-ws-start c = omega (arith, few (c .before .before .before .before .before))
-
-part-ws-end : tie.Need-part-ws-end
-part-ws-end c = search needs
-
-copy-requires : tie.Need-copy-requires
-copy-requires c κs = search needs
-
-slice-aggregate-subtree-accepted : tie.Need-slice-aggregate-subtree-accepted
-slice-aggregate-subtree-accepted c = search needs
 
 array-borrow-prefix-ws : tie.Need-array-borrow-prefix-ws
 array-borrow-prefix-ws c = room-enough (c .before)
@@ -111,16 +87,16 @@ pub root-accepted-spec : {M : Type 1} → statement M
 root-accepted-spec =
     tie.close
     (tie.spec
-    mul-all
-    nodes-requires
-    cast-first
-    room-requires
-    mul-ws
+    (λ c. search needs)
+    (λ c κs. search needs)
+    (λ c. search needs)
+    (λ c κs. search needs)
+    (λ c. search needs)
     sub-copy
     part-ws-start
-    part-ws-end
-    copy-requires
-    slice-aggregate-subtree-accepted
+    (λ c. search needs)
+    (λ c κs. search needs)
+    (λ c. search needs)
     array-borrow-prefix-ws
     slice-aggregate-subtree-accepted-2
     subtree-accepted-requires

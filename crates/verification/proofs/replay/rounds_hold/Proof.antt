@@ -27,12 +27,6 @@ holds-at-requires c κs = (c .before .before .before .before .pre, omega arith)
 returns : tie.Need-returns Inv-loop μ-loop
 returns c = every-fails _ _ (c .before .before .before .loop .t) (omega arith) (sym (c .before .holds-at .ensures) ∙ not-true _ (c .if1 .taken))
 
-add-t : tie.Need-add-t Inv-loop μ-loop
-add-t c = search needs
-
-loop-less : tie.Need-loop-less Inv-loop μ-loop
-loop-less c = search needs
-
 loop-again : tie.Need-loop-again Inv-loop μ-loop
 loop-again c = let l = c .before .before .before .loop in (omega arith, every-goes-on _ (l .t) (l .inv .1) (sym (c .before .holds-at .ensures) ∙ not-false _ (c .if1 .left)))
 
@@ -48,7 +42,7 @@ rounds-hold-spec =
     loop-holds
     holds-at-requires
     returns
-    add-t
-    loop-less
+    (λ c. search needs)
+    (λ c. search needs)
     loop-again
     returns-2)

@@ -14,16 +14,10 @@ use Rattle.verifier.proofs.Verifier.end.Tie as tie
 passed : (c : tie.Else1) → let a = c .before .before .before .before .args in closeRefusal (a .self .0) (a .key .now) ≡ 0
 passed c = sym (c .before .end .ensures) ∙ c .if1 .left
 
-end-requires : tie.Need-end-requires
-end-requires c κs = search needs
-
 returns : tie.Need-returns
 returns c =
     let a = c .before .before .before .before .args in
     end-answered (a .self .0) (a .last) (a .key .now) _ (end-refused (a .self .0) (a .last) (a .key .now) _ (c .before .end .ensures) (c .if1 .taken))
-
-shut-requires : tie.Need-shut-requires
-shut-requires c κs = search needs
 
 slice-aggregate-end-met : tie.Need-slice-aggregate-end-met
 slice-aggregate-end-met c = search needs
@@ -39,9 +33,6 @@ met c =
     let one = c .before .before .before .before .before .before in
     let g = end-given _ (one .before .before .before .before .args .last) _ (passed one) in
     c .end-met .ensures (record { allowed = g .allowed; key-below = g .key-below; challenges-long = omega (arith, settings-valid _ (g .allowed) .depth-most, eight (c .before)) })
-
-end-met-requires : tie.Need-end-met-requires
-end-met-requires c κs = search needs
 
 returns-2 : tie.Need-returns-2
 unfolding verdict choose
@@ -63,10 +54,10 @@ pub end-spec : {M : Type 1} → statement M
 end-spec =
     tie.close
     (tie.spec
-    end-requires
+    (λ c κs. search needs)
     returns
-    shut-requires
+    (λ c κs. search needs)
     slice-aggregate-end-met
-    end-met-requires
+    (λ c κs. search needs)
     returns-2
     returns-3)

@@ -14,28 +14,10 @@ passed c = sym (c .before .round .ensures) ∙ c .if1 .left
 given : (c : tie.Else1) → let a = c .before .before .before .args in RoundGiven (a .self .0) (a .t2) (a .e)
 given c = round-given _ _ _ (passed c)
 
-round-requires : tie.Need-round-requires
-round-requires c κs = search needs
-
 returns : tie.Need-returns
 returns c =
     let a = c .before .before .before .args in
     round-answered (a .self .0) (a .t2) (a .e) _ (round-refused (a .self .0) (a .t2) (a .e) _ (c .before .round .ensures) (c .if1 .taken))
-
-array-copy-out-c0 : tie.Need-array-copy-out-c0
-array-copy-out-c0 c = search needs
-
-array-copy-out-c1 : tie.Need-array-copy-out-c1
-array-copy-out-c1 c = search needs
-
-array-copy-out-c2 : tie.Need-array-copy-out-c2
-array-copy-out-c2 c = search needs
-
-round-holds-requires : tie.Need-round-holds-requires
-round-holds-requires c κs = search needs
-
-shut-requires : tie.Need-shut-requires
-shut-requires c κs = search needs
 
 returns-2 : tie.Need-returns-2
 unfolding moveHolds part
@@ -44,9 +26,6 @@ returns-2 c =
     let a = one .before .before .before .args in
     round-answered (a .self .0) (a .t2) (a .e) _
     (round-rejected (a .self .0) (a .t2) (a .e) (passed one) (sym (c .before .before .round-holds .ensures (given one .read .allowed)) ∙ not-true _ (c .before .if2 .taken)) _ (c .shut .ensures))
-
-next-claim-requires : tie.Need-next-claim-requires
-next-claim-requires c κs = search needs
 
 counted-requires : tie.Need-counted-requires
 counted-requires c κs = let g = given (c .before .before .before .before .before .before .before .before) in omega (arith, g .turn, settings-valid _ (g .read .allowed) .depth-most)
@@ -63,14 +42,14 @@ pub round-spec : {M : Type 1} → statement M
 round-spec =
     tie.close
     (tie.spec
-    round-requires
+    (λ c κs. search needs)
     returns
-    array-copy-out-c0
-    array-copy-out-c1
-    array-copy-out-c2
-    round-holds-requires
-    shut-requires
+    (λ c. search needs)
+    (λ c. search needs)
+    (λ c. search needs)
+    (λ c κs. search needs)
+    (λ c κs. search needs)
     returns-2
-    next-claim-requires
+    (λ c κs. search needs)
     counted-requires
     returns-3)

@@ -11,20 +11,8 @@ use Rattle.verifier.proofs.Verifier.start.Tie as tie
 passed : (c : tie.Else1) → startRefusal (c .before .before .args .settings) (c .before .before .args .t3) ≡ 0
 passed c = sym (c .before .start .ensures) ∙ c .if1 .left
 
-start-requires : tie.Need-start-requires
-start-requires c κs = search needs
-
-blank-requires : tie.Need-blank-requires
-blank-requires c κs = search needs
-
 returns : tie.Need-returns
 returns c = let a = c .before .before .before .args in start-refused (a .settings) (a .t3) _ _ (c .before .before .start .ensures) (c .before .if1 .taken) (c .blank .ensures)
-
-slice-aggregate-element-at : tie.Need-slice-aggregate-element-at
-slice-aggregate-element-at c = search needs
-
-element-at-requires : tie.Need-element-at-requires
-element-at-requires c κs = search needs
 
 returns-2 : tie.Need-returns-2
 unfolding zeros slots
@@ -37,9 +25,9 @@ pub start-spec : {M : Type 1} → statement M
 start-spec =
     tie.close
     (tie.spec
-    start-requires
-    blank-requires
+    (λ c κs. search needs)
+    (λ c κs. search needs)
     returns
-    slice-aggregate-element-at
-    element-at-requires
+    (λ c. search needs)
+    (λ c κs. search needs)
     returns-2)

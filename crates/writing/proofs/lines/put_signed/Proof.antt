@@ -24,14 +24,8 @@ module _ (c : tie.After-put-spot) where
       let same : length after ≡ length (a .out .now) = search needs in
       omega (arith, c .put-spot .ensures .next, spot-most (a .part) (a .cell))
 
-put-spot-requires : tie.Need-put-spot-requires
-put-spot-requires c κs = search needs
-
 slice-write-out : tie.Need-slice-write-out
 slice-write-out c = omega (arith, room (c .before .before .before))
-
-magnitude-requires : tie.Need-magnitude-requires
-magnitude-requires c κs = search needs
 
 add-put-field : tie.Need-add-put-field
 add-put-field c = record { fits = omega (arith, room (c .before .before .before .before)) }
@@ -61,14 +55,8 @@ returns c =
     ∙ line-spot (a .part) (a .cell) (a .value))
     (put-then (s .put-spot .ensures) (put-then (put-byte (after s) (s .put-spot .result) 45 (omega (arith, room s))) (f .put-field .ensures)))
 
-magnitude-requires-2 : tie.Need-magnitude-requires-2
-magnitude-requires-2 c κs = search needs
-
 put-field-requires-2 : tie.Need-put-field-requires-2
 put-field-requires-2 c κs = omega (arith, room (c .before .before .before .before .before))
-
-same-length-2 : tie.Need-same-length-2
-same-length-2 c = search needs
 
 returns-2 : tie.Need-returns-2
 returns-2 c =
@@ -88,14 +76,14 @@ pub put-signed-spec : {M : Type 1} → statement M
 put-signed-spec =
     tie.close
     (tie.spec
-    put-spot-requires
+    (λ c κs. search needs)
     slice-write-out
-    magnitude-requires
+    (λ c κs. search needs)
     add-put-field
     put-field-requires
     same-length
     returns
-    magnitude-requires-2
+    (λ c κs. search needs)
     put-field-requires-2
-    same-length-2
+    (λ c. search needs)
     returns-2)

@@ -29,24 +29,6 @@ loop-holds c =
       ap (λ n. lowDigits (a .count) (a .n) ++ take n (drop (a .at + a .count) (a .out .now))) (Nat.sub-self (a .count)) ∙ append-nil _,
     )
 
-sub-k : tie.Need-sub-k Inv-loop μ-loop
-sub-k c = search needs
-
-cast-out : tie.Need-cast-out Inv-loop μ-loop
-cast-out c = search needs
-
-add-out : tie.Need-add-out Inv-loop μ-loop
-add-out c = search needs
-
-add-out-2 : tie.Need-add-out-2 Inv-loop μ-loop
-add-out-2 c = search needs
-
-slice-write-out : tie.Need-slice-write-out Inv-loop μ-loop
-slice-write-out c = search needs
-
-loop-less : tie.Need-loop-less Inv-loop μ-loop
-loop-less c = search needs
-
 loop-again : tie.Need-loop-again Inv-loop μ-loop
 loop-again c =
     let l = c .before .loop in
@@ -56,12 +38,6 @@ loop-again c =
       take-set-le (a .at) (l .out) (a .at + (l .k - 1)) _ (omega arith) ∙ l .inv .2,
       sym (digit-step (l .rest) (a .count) (a .at) (l .k - 1) (l .k) (omega arith) (l .out) (l .inv .0) (omega (arith, l .inv .1))) ∙ l .inv .3,
     )
-
-add-result : tie.Need-add-result Inv-loop μ-loop
-add-result c = search needs
-
-same-length : tie.Need-same-length Inv-loop μ-loop
-same-length c = search needs
 
 returns : tie.Need-returns Inv-loop μ-loop
 returns c =
@@ -81,13 +57,13 @@ put-digits-spec =
     Inv-loop
     μ-loop
     loop-holds
-    sub-k
-    cast-out
-    add-out
-    add-out-2
-    slice-write-out
-    loop-less
+    (λ c. search needs)
+    (λ c. search needs)
+    (λ c. search needs)
+    (λ c. search needs)
+    (λ c. search needs)
+    (λ c. search needs)
     loop-again
-    add-result
-    same-length
+    (λ c. search needs)
+    (λ c. search needs)
     returns)

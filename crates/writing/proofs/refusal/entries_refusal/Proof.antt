@@ -16,29 +16,17 @@ failed r e t = sym e ∙ not-true r t
 passed : (r : Bool) {b : Bool} → r ≡ b → not r ≡ false → b ≡ true
 passed r e t = sym e ∙ not-false r t
 
-all-below-requires : tie.Need-all-below-requires
-all-below-requires c κs = search needs
-
 returns : tie.Need-returns
 unfolding residues
 returns c = fails₁ _ _ _ (failed _ (c .before .all-below .ensures) (c .if1 .taken))
-
-all-below-requires-2 : tie.Need-all-below-requires-2
-all-below-requires-2 c κs = search needs
 
 returns-2 : tie.Need-returns-2
 unfolding residues
 returns-2 c = fails₂ _ _ _ (failed _ (c .before .all-below2 .ensures) (c .if2 .taken))
 
-all-below-requires-3 : tie.Need-all-below-requires-3
-all-below-requires-3 c κs = search needs
-
 returns-3 : tie.Need-returns-3
 unfolding residues
 returns-3 c = fails₃ _ _ _ (failed _ (c .before .all-below3 .ensures) (c .if3 .taken))
-
-all-within-requires : tie.Need-all-within-requires
-all-within-requires c κs = search needs
 
 returns-4 : tie.Need-returns-4
 unfolding residues small
@@ -48,9 +36,6 @@ returns-4 c =
     let e₁ = e₂ .before .before in
     fails₄ _ _ _ (passed _ (e₁ .before .all-below .ensures) (e₁ .if1 .left)) (passed _ (e₂ .before .all-below2 .ensures) (e₂ .if2 .left)) (passed _ (e₃ .before .all-below3 .ensures) (e₃ .if3 .left)) (failed _ (c .before .all-within .ensures) (c .if4 .taken))
 
-all-within-requires-2 : tie.Need-all-within-requires-2
-all-within-requires-2 c κs = search needs
-
 returns-5 : tie.Need-returns-5
 unfolding residues small valueLimit
 returns-5 c =
@@ -59,12 +44,6 @@ returns-5 c =
     let e₂ = e₃ .before .before in
     let e₁ = e₂ .before .before in
     fails₅ _ _ _ (passed _ (e₁ .before .all-below .ensures) (e₁ .if1 .left)) (passed _ (e₂ .before .all-below2 .ensures) (e₂ .if2 .left)) (passed _ (e₃ .before .all-below3 .ensures) (e₃ .if3 .left)) (failed _ (c .before .all-within2 .ensures) (c .if5 .taken))
-
-mul-all-below : tie.Need-mul-all-below
-mul-all-below c = search needs
-
-all-below-requires-4 : tie.Need-all-below-requires-4
-all-below-requires-4 c κs = search needs
 
 returns-6 : tie.Need-returns-6
 unfolding residues small valueLimit exponents exponent
@@ -90,17 +69,17 @@ pub entries-refusal-spec : {M : Type 1} → statement M
 entries-refusal-spec =
     tie.close
     (tie.spec
-    all-below-requires
+    (λ c κs. search needs)
     returns
-    all-below-requires-2
+    (λ c κs. search needs)
     returns-2
-    all-below-requires-3
+    (λ c κs. search needs)
     returns-3
-    all-within-requires
+    (λ c κs. search needs)
     returns-4
-    all-within-requires-2
+    (λ c κs. search needs)
     returns-5
-    mul-all-below
-    all-below-requires-4
+    (λ c. search needs)
+    (λ c κs. search needs)
     returns-6
     returns-7)

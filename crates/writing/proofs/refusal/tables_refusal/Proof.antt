@@ -25,15 +25,9 @@ sized c =
     let a = c .before .before .before .before .before .before .before .args in
     c .fits2 .ensures ∙ lengths-shallow (a .settings) (a .parts) _ (allowed (a .settings) (granted (c .before)) .depth) ∙ lengths-fit (a .settings) (a .parts) _
 
-settings-refusal-requires : tie.Need-settings-refusal-requires
-settings-refusal-requires c κs = search needs
-
 returns : tie.Need-returns
 unfolding tablesRefusal
 returns c = let s = c .before .settings-refusal in s .ensures ∙ sym (first-stops _ _ (λ e. c .if1 .taken (s .ensures ∙ e)))
-
-fits-requires : tie.Need-fits-requires
-fits-requires c κs = search needs
 
 returns-2 : tie.Need-returns-2
 unfolding tablesRefusal
@@ -52,9 +46,9 @@ pub tables-refusal-spec : {M : Type 1} → statement M
 tables-refusal-spec =
     tie.close
     (tie.spec
-    settings-refusal-requires
+    (λ c κs. search needs)
     returns
-    fits-requires
+    (λ c κs. search needs)
     returns-2
     entries-refusal-requires
     returns-3)

@@ -41,32 +41,11 @@ module _ (c : tie.After-put-field) where
   unfolding refusedLine field bytes
   whole = put .front ∙ ap (λ l. l ++ field number 10) (fronted before _ (c .before .before .before .copy .ensures))
 
-slice-aggregate-copy : tie.Need-slice-aggregate-copy
-slice-aggregate-copy c = search needs
-
-slice-aggregate-copy-2 : tie.Need-slice-aggregate-copy-2
-slice-aggregate-copy-2 c = search needs
-
-copy-requires : tie.Need-copy-requires
-copy-requires c κs = search needs
-
-slice-aggregate-put-field : tie.Need-slice-aggregate-put-field
-slice-aggregate-put-field c = search needs
-
-put-field-requires : tie.Need-put-field-requires
-put-field-requires c κs = search needs
-
 array-share-prefix-line : tie.Need-array-share-prefix-line
 array-share-prefix-line c = within (c .before)
 
 slice-aggregate-show : tie.Need-slice-aggregate-show
 slice-aggregate-show c = sym (length-take-le _ _ (within (c .before .before)))
-
-show-requires : tie.Need-show-requires
-show-requires c κs = search needs
-
-same-length : tie.Need-same-length
-same-length c = search needs
 
 returns : tie.Need-returns
 returns c = let s = c .before .before in shown-as (whole (s .before .before .before .before)) (s .show .ensures)
@@ -75,13 +54,13 @@ pub show-refusal-spec : {M : Type 1} → statement M
 show-refusal-spec =
     tie.close
     (tie.spec
-    slice-aggregate-copy
-    slice-aggregate-copy-2
-    copy-requires
-    slice-aggregate-put-field
-    put-field-requires
+    (λ c. search needs)
+    (λ c. search needs)
+    (λ c κs. search needs)
+    (λ c. search needs)
+    (λ c κs. search needs)
     array-share-prefix-line
     slice-aggregate-show
-    show-requires
-    same-length
+    (λ c κs. search needs)
+    (λ c. search needs)
     returns)

@@ -19,21 +19,9 @@ named : (out : List ℕ) → Held names 22 (names ++ drop 22 out)
 unfolding names bytes textLimit
 named out = record { kept = λ _. (refl, take-append-seam names (drop 22 out)); over = λ h. absurd (omega arith) }
 
-slice-aggregate-copy : tie.Need-slice-aggregate-copy
-slice-aggregate-copy c = search needs
-
-copy-requires : tie.Need-copy-requires
-copy-requires c κs = search needs
-
-slice-aggregate-put-unsigned-part : tie.Need-slice-aggregate-put-unsigned-part
-slice-aggregate-put-unsigned-part c = search needs
-
 put-unsigned-part-requires : tie.Need-put-unsigned-part-requires
 unfolding partShape shapes settingsShape shape choose shapeSize
 put-unsigned-part-requires c κs = (search needs, search needs, refl)
-
-same-length : tie.Need-same-length
-same-length c = search needs
 
 returns : tie.Need-returns
 unfolding settingsText names bytes
@@ -47,9 +35,9 @@ pub put-settings-spec : {M : Type 1} → statement M
 put-settings-spec =
     tie.close
     (tie.spec
-    slice-aggregate-copy
-    copy-requires
-    slice-aggregate-put-unsigned-part
+    (λ c. search needs)
+    (λ c κs. search needs)
+    (λ c. search needs)
     put-unsigned-part-requires
-    same-length
+    (λ c. search needs)
     returns)

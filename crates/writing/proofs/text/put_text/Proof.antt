@@ -7,24 +7,6 @@ use Rattle.writing.proofs.WholeText.{text-parts}
 use Rattle.writing.proofs.text.put_text.Statement.{statement}
 use Rattle.writing.proofs.text.put_text.Tie as tie
 
-put-settings-requires : tie.Need-put-settings-requires
-put-settings-requires c κs = search needs
-
-put-mixed-requires : tie.Need-put-mixed-requires
-put-mixed-requires c κs = search needs
-
-put-unsigned-part-requires : tie.Need-put-unsigned-part-requires
-put-unsigned-part-requires c κs = search needs
-
-put-unsigned-part-requires-2 : tie.Need-put-unsigned-part-requires-2
-put-unsigned-part-requires-2 c κs = search needs
-
-put-mixed-requires-2 : tie.Need-put-mixed-requires-2
-put-mixed-requires-2 c κs = search needs
-
-same-length : tie.Need-same-length
-same-length c = search needs
-
 returns : tie.Need-returns
 returns c =
     let m₂ = c .before .before in
@@ -40,10 +22,10 @@ pub put-text-spec : {M : Type 1} → statement M
 put-text-spec =
     tie.close
     (tie.spec
-    put-settings-requires
-    put-mixed-requires
-    put-unsigned-part-requires
-    put-unsigned-part-requires-2
-    put-mixed-requires-2
-    same-length
+    (λ c κs. search needs)
+    (λ c κs. search needs)
+    (λ c κs. search needs)
+    (λ c κs. search needs)
+    (λ c κs. search needs)
+    (λ c. search needs)
     returns)

@@ -52,14 +52,8 @@ module _ (c : tie.Else2) where
   front : length (take (put .put-text .result) (place put)) ≡ put .put-text .result
   front = ap length (kept .1) ∙ sym (kept .0)
 
-tables-refusal-requires : tie.Need-tables-refusal-requires
-tables-refusal-requires c κs = search needs
-
 returns : tie.Need-returns
 returns c = stopped _ _ _ _ _ (c .before .tables-refusal .ensures) (c .if1 .taken)
-
-slice-aggregate-put-text : tie.Need-slice-aggregate-put-text
-slice-aggregate-put-text c = search needs
 
 put-text-requires : tie.Need-put-text-requires
 put-text-requires c κs = let e = c .before in ((passed-depth (S e) (P e) (t e) (fine e), search needs), passed-exact (S e) (P e) (t e) (fine e))
@@ -76,17 +70,11 @@ returns-3 c =
     let long = kept (c .before) .0 in
     cramped (S e₀) (P e₀) (t e₀) _ (fine e₀) (omega arith) (omega arith)
 
-array-share-prefix-text : tie.Need-array-share-prefix-text
-array-share-prefix-text c = search needs
-
 slice-aggregate-copy : tie.Need-slice-aggregate-copy
 slice-aggregate-copy c = sym (front (c .before .before))
 
 copy-requires : tie.Need-copy-requires
 copy-requires c κs = omega (arith, front (c .before .before .before))
-
-same-length : tie.Need-same-length
-same-length c = search needs
 
 returns-4 : tie.Need-returns-4
 unfolding textLimit
@@ -103,14 +91,14 @@ pub write-spec : {M : Type 1} → statement M
 write-spec =
     tie.close
     (tie.spec
-    tables-refusal-requires
+    (λ c κs. search needs)
     returns
-    slice-aggregate-put-text
+    (λ c. search needs)
     put-text-requires
     returns-2
     returns-3
-    array-share-prefix-text
+    (λ c. search needs)
     slice-aggregate-copy
     copy-requires
-    same-length
+    (λ c. search needs)
     returns-4)
