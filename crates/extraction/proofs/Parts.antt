@@ -3,15 +3,12 @@ use mathlib.Core.Path.{_≡_, ap, _∙_}
 use mathlib.Core.List.{List}
 use Prim.Native.Nat.{ℕ, _+_, _*_, _-_, _<_, _≤_}
 use native.Mathlib.Omega.{arith}
-use lib.ListN.{length, getD, take, drop, length-take, length-drop}
+use lib.ListN.{getD, take, drop}
 use lib.Seq.{getD-take, getD-drop}
 use lib.IntN.{ℤ, pos}
 use Rattle.protocol.specs.Element.{signed, signedAt}
 
 module _ (x k : ℕ) (m : List ℤ) where
-  pub part-length : x + k ≤ length m → length (take k (drop x m)) ≡ k
-  part-length h = simp (length-take, length-drop) (omega arith)
-
   pub part-entry : (j : ℕ) → j < k → getD (take k (drop x m)) j (pos 0) ≡ getD m (x + j) (pos 0)
   part-entry j h = getD-take k (drop x m) j (pos 0) h ∙ getD-drop x m j (pos 0)
 

@@ -248,8 +248,11 @@ module _ (d n a b c : ℕ) (l : List ℤ) (T : Sharing d n a b c l) where
                 ∙ λ j. (t-high (2 * (n * d) + (i * d + k)) (omega arith) ∙ sym there) j +ℤ alike j
                 )
               where
+                read : (y : ℕ) → y < d → signedAt d t i y ≡ ahead i y
+                read y ly = unfold signedAt in (t-low (i * d + y) (cell-inside d n i y li ly) ∙ first-low i y li ly)
+
                 alike : rotate d once (signedAt d t i) k ≡ rotate d a (share d M v i) k
-                alike = rotate-same (T .some) once {b = ahead i} (λ y ly. unfold signedAt in (t-low (i * d + y) (cell-inside d n i y li ly) ∙ first-low i y li ly)) k ∙ turned-once i k lk
+                alike = rotate-same (T .some) once read k ∙ turned-once i k lk
 
                 same : n * d + (n * d + (i * d + k)) ≡ 2 * (n * d) + (i * d + k)
                 same = omega arith
