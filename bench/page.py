@@ -32,7 +32,7 @@ GOALS += [('tree check, ' + LARGE, FAST, 1.5), ('tree check, ' + LARGE, PATHS, 0
 
 def origin(names):
     lines = (RUNS / 'from.txt').read_text(encoding='utf-8').splitlines()
-    rows = [line.split(' ', 1) for line in lines] + [['runs', str(len(names))]]
+    rows = [line.split(': ', 1) for line in lines] + [['runs', str(len(names))]]
     return '\n'.join(['| | |', '|---|---|'] + ['| %s | %s |' % tuple(row) for row in rows])
 
 
@@ -51,7 +51,7 @@ def goals(rows):
         if (call, beside) in rows:
             row = rows[call, beside]
             word = 'met' if row.high <= most else 'met by the median' if row.ratio <= most else 'not met'
-            lines.append('| %s | %s | %.2f | %.2f | %.2f to %.2f | %s |' % (call, beside, most, row.ratio, row.low, row.high, word))
+            lines.append('| %s | %s | %.2f | %.3f | %.3f to %.3f | %s |' % (call, beside, most, row.ratio, row.low, row.high, word))
         else:
             lines.append('| %s | %s | %.2f | | | not measured |' % (call, beside, most))
     return '\n'.join(lines)

@@ -56,7 +56,7 @@ impl Table {
         }
         let (ours, theirs) = (median(ours), median(theirs));
         println!(
-            "{name:<44} {label:<24} {:>11.1} {:>11.1} {:>7.2}",
+            "{name:<44} {label:<24} {:>11.1} {:>11.1} {:>7.3}",
             ours,
             theirs,
             ours / theirs
