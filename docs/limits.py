@@ -25,6 +25,7 @@ ROOT = pathlib.Path(__file__).resolve().parent.parent
 PYTHON = ROOT / "examples" / "python"
 sys.dont_write_bytecode = True
 sys.path.insert(0, str(PYTHON))
+from marked import place  # noqa: E402
 from wovenrock import PARTS, Library, Refused  # noqa: E402
 
 DEGREES = (2, 4, 8, 16, 32, 64)
@@ -153,20 +154,6 @@ def sizes_table(library):
     return "\n".join(lines) + "\n"
 
 
-def place(page, name, table, check):
-    """Puts a table between its markers; whether it stood there already."""
-    first, last = f"<!-- {name}: written by docs/limits.py -->\n", f"<!-- end of {name} -->\n"
-    old = page.read_text(encoding="utf-8")
-    if old.count(first) != 1 or old.count(last) != 1:
-        raise SystemExit(f"limits: {page.relative_to(ROOT)} has not the two marker lines of '{name}'")
-    head, rest = old.split(first)
-    _, tail = rest.split(last)
-    new = f"{head}{first}\n{table}\n{last}{tail}"
-    if not check and new != old:
-        page.write_text(new, encoding="utf-8")
-    return new == old
-
-
 def main():
     arguments = argparse.ArgumentParser(description="writes or checks the tables of limits and sizes")
     arguments.add_argument("--check", action="store_true", help="write nothing, fail where a table differs")
@@ -178,7 +165,7 @@ def main():
             raise SystemExit("limits: there is no library to ask")
         library = Library(shared.stdout.strip())
         tables = (("limits", ROOT / "README.md", limits_table(library)), ("sizes", ROOT / "docs" / "BENCHMARKS.md", sizes_table(library)))
-    differ = [str(page.relative_to(ROOT)) for name, page, table in tables if not place(page, name, table, given.check)]
+    differ = [str(page.relative_to(ROOT)) for name, page, table in tables if not place(page, name, "docs/limits.py", table, given.check)]
     if given.check and differ:
         raise SystemExit("limits: not what docs/limits.py gives: " + ", ".join(differ))
     print("limits: " + (f"written: {', '.join(differ)}" if differ else "both tables are what the library gives"))

@@ -78,30 +78,47 @@ impl Report {
         self.calls.values().map(|counts| counts.cases).sum()
     }
 
-    /// Two lines for each call: the cases and those of each number; who they
-    /// were compared with, and what was said.
+    /// Two lines for each call: the cases, those of each number and what was
+    /// said; who they were compared with, and how often each slice was one
+    /// number too long and one too short.
     pub fn print(&self) {
         for call in &self.order {
             let counts = &self.calls[call];
-            let numbers = counts.numbers.iter();
-            let numbers: Vec<String> = numbers.map(|(n, count)| format!("{n}:{count}")).collect();
+            let numbers = counts
+                .numbers
+                .iter()
+                .map(|(n, count)| format!("{n}:{count}"));
+            let sliced = |word: &str| word.ends_with(" long") || word.ends_with(" short");
+            let said = counts.words.iter().filter(|(word, _)| !sliced(word));
+            let said = said.map(|(word, count)| format!("{word}:{count}"));
+            let answers: Vec<String> = numbers.chain(said).collect();
             println!(
                 "{call:<16}{:>8} cases   {}",
                 counts.cases,
-                numbers.join(" ")
+                answers.join(" ")
             );
             let mut authors = format!("simple {}, fast {}", counts.simple, counts.fast);
             if counts.refusals > 0 {
                 authors += &format!(", fast's refusals {}", counts.refusals);
             }
-            let words = counts.words.iter();
-            let words: Vec<String> = words
-                .map(|(word, count)| format!("{word} {count}"))
-                .collect();
-            if !words.is_empty() {
-                authors += &format!("; {}", words.join(", "));
+            let slices: Vec<String> = counts.slices();
+            if !slices.is_empty() {
+                authors += &format!("; long/short: {}", slices.join(" "));
             }
             println!("{:<16}{:>8} with    {authors}", "", "");
         }
+    }
+}
+
+impl Counts {
+    /// Each slice with how often it was too long and too short.
+    fn slices(&self) -> Vec<String> {
+        let long = self.words.iter();
+        let long = long.filter_map(|(word, count)| Some((word.strip_suffix(" long")?, count)));
+        long.map(|(name, count)| {
+            let short = self.words.get(&format!("{name} short")).unwrap_or(&0);
+            format!("{name}:{count}/{short}")
+        })
+        .collect()
     }
 }

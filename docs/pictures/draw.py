@@ -6,6 +6,8 @@ They go to FOLDER, or to the folder that this file is in. The layers are those o
 import os
 import sys
 
+from layers import placed
+
 HERE = os.path.dirname(os.path.abspath(__file__))
 CRATES = os.path.join(HERE, '..', '..', 'crates.txt')
 
@@ -25,18 +27,22 @@ class Picture:
                       '<rect width="100%" height="100%" fill="#ffffff"/>',
                       '<defs><marker id="tip" viewBox="0 0 8 8" refX="7" refY="4" markerWidth="7" markerHeight="7" orient="auto"><path d="M0,0 L8,4 L0,8 z" fill="%s"/></marker></defs>' % SOFT]
 
-    def box(self, x, y, w, h, fill, title, lines=()):
-        self.parts.append('<rect x="%d" y="%d" width="%d" height="%d" rx="6" fill="%s" stroke="%s"/>' % (x, y, w, h, fill, LINE))
-        top = y + 20
-        self.text(x + 10, top, title, 14, INK, 'bold')
-        for i, line in enumerate(lines):
-            self.text(x + 10, top + 18 * (i + 1), line, 12, SOFT)
+    def box(self, x, y, w, h, fill):
+        self.parts.append('<rect x="%d" y="%d" width="%d" height="%d" rx="%d" fill="%s" stroke="%s"/>' % (x, y, w, h, h / 5, fill, LINE))
 
     def text(self, x, y, words, size=12, colour=INK, weight='normal', anchor='start'):
-        self.parts.append('<text x="%d" y="%d" %s font-size="%d" fill="%s" font-weight="%s" text-anchor="%s">%s</text>' % (x, y, FONT, size, colour, weight, anchor, words.replace('&', '&amp;').replace('<', '&lt;')))
+        how = '%s font-size="%d" fill="%s" font-weight="%s" text-anchor="%s"' % (FONT, size, colour, weight, anchor)
+        self.parts.append('<text x="%d" y="%d" %s>%s</text>' % (x, y, how, words.replace('&', '&amp;').replace('<', '&lt;')))
 
     def arrow(self, x1, y1, x2, y2, colour=SOFT):
         self.parts.append('<line x1="%d" y1="%d" x2="%d" y2="%d" stroke="%s" stroke-width="1.4" marker-end="url(#tip)"/>' % (x1, y1, x2, y2, colour))
+
+    def link(self, x1, y1, x2, y2, high, tip):
+        """From the lower edge of the row at y1 down to the row at y2, through that row where there is no tip."""
+        start, middle = y1 + high, (y1 + high + y2) / 2
+        way = 'M%d,%d C%d,%d %d,%d %d,%d' % (x1, start, x1, middle, x2, middle, x2, y2)
+        way, end = (way, ' marker-end="url(#tip)"') if tip else ('%s V%d' % (way, y2 + high), '')
+        self.parts.append('<path d="%s" fill="none" stroke="%s" stroke-width="1.4"%s/>' % (way, LINE, end))
 
     def line(self, x1, y1, x2, y2):
         self.parts.append('<line x1="%d" y1="%d" x2="%d" y2="%d" stroke="%s"/>' % (x1, y1, x2, y2, LINE))
@@ -68,43 +74,31 @@ def crates():
     return {name: [other for other in others if other in rests] for name, others in rests.items()}, headings
 
 
-def below(rests, name):
-    """All that a crate rests on, through others too."""
-    return set(rests[name]).union(*(below(rests, other) for other in rests[name]))
-
-
 def layers():
     rests, headings = crates()
-    level = {}
-
-    def height(name):
-        if name not in level:
-            level[name] = 1 + max((height(other) for other in rests[name]), default=-1)
-        return level[name]
-
-    # Of what a crate rests on, that which it does not rest on through another one too.
-    near = {name: [other for other in others if not any(other in below(rests, third) for third in others if third != other)] for name, others in rests.items()}
-    rows = [[name for name in rests if height(name) == i] for i in range(1 + max(map(height, rests)))]
-    wide, high, gap = 104, 30, 44
-    width = 40 + (wide + 20) * max(len(row) for row in rows)
-    bottom = 70 + (high + gap) * len(rows)
-    place = {}
-    for i, row in enumerate(rows):
-        # A crate stands near the middle of what it rests on.
-        row.sort(key=lambda name: (sum(place[other][0] for other in near[name]) / len(near[name]) if near[name] else 0, name))
-        left = (width - (wide + 20) * len(row) + 20) // 2
-        for j, name in enumerate(row):
-            place[name] = (left + (wide + 20) * j, bottom - (high + gap) * (i + 1))
-    p = Picture(width, bottom, 'The layers: what rests on what')
-    for name in rests:
-        for other in near[name]:
-            p.arrow(place[name][0] + wide // 2, place[name][1] + high, place[other][0] + wide // 2, place[other][1], LINE)
-    colours = {'mathematics, and the definitions': MATH, 'code': CODE, 'programs': PROGRAM}
-    for name in rests:
-        fill = BELIEVE if name == 'protocol' else colours.get(headings[name], CODE)
-        p.box(place[name][0], place[name][1], wide, high, fill, name)
-    p.text(20, 24, 'A line leads down to what a crate rests on; what it rests on through another one is left out.', 12, SOFT)
-    p.text(20, 42, 'yellow: definitions; green: mathematics alone; blue: proved code; violet: programs', 12, SOFT)
+    names = list(rests)
+    wide, high, gap, top = 24 + 9 * max(map(len, names)), 30, 46, 76
+    rows, down, middle = placed(rests, wide)
+    caption = 'A line leads down to what a crate rests on; what it rests on through another one is left out.'
+    legend = [(BELIEVE, 'definitions'), (MATH, 'mathematics alone'), (CODE, 'proved code'), (PROGRAM, 'programs')]
+    width = int(max(40 + max(x + (wide / 2 if node in rests else 0) for node, x in middle.items()), 40 + 7 * len(caption)))
+    p = Picture(width, top + (high + gap) * len(rows) - gap + 20, 'The layers: what rests on what')
+    at = {node: (20 + middle[node], top + (high + gap) * (len(rows) - 1 - i)) for i, row in enumerate(rows) for node in row}
+    for node in down:
+        for end in down[node]:
+            p.link(*at[node], *at[end], high, end in rests)
+    definitions = max(names, key=lambda name: sum(name in others for others in rests.values()))
+    for name in names:
+        heading = headings[name]
+        fill = BELIEVE if name == definitions else MATH if 'mathematics' in heading else PROGRAM if 'program' in heading else CODE
+        p.box(at[name][0] - wide / 2, at[name][1], wide, high, fill)
+        p.text(at[name][0], at[name][1] + 20, name, 14, INK, 'bold', 'middle')
+    p.text(20, 24, caption, 12, SOFT)
+    left = 20
+    for fill, words in legend:
+        p.box(left, 36, 16, 16, fill)
+        p.text(left + 22, 48, words, 12, SOFT)
+        left += 50 + 7 * len(words)
     p.save('layers.svg')
 
 

@@ -10,6 +10,7 @@
 //! heading: for a reference that is built for this machine.
 
 use differential::baseline::Baseline;
+use differential::honest;
 use differential::timing::{median, timed};
 use differential::verified;
 use reference::draw::base::shape;
@@ -20,7 +21,7 @@ use reference::draw::tree::{honest_at, Tree};
 use reference::fast;
 use reference::random::Random;
 use reference::refuse::GROWTH;
-use reference::types::{Parts, Settings, Verification, ACCEPTED, HOLDS, LONGEST_TEXT};
+use reference::types::{Parts, Settings, Verification, ACCEPTED, LONGEST_TEXT};
 use std::hint::black_box;
 use std::time::Duration;
 
@@ -55,7 +56,7 @@ impl Table {
         }
         let (ours, theirs) = (median(ours), median(theirs));
         println!(
-            "{name:<44} {label:<24} {:>11.1} {:>11.1} {:>7.2}",
+            "{name:<44} {label:<24} {:>11.1} {:>11.1} {:>7.3}",
             ours,
             theirs,
             ours / theirs
@@ -90,15 +91,7 @@ impl Table {
         let t = transcript::honest_at(&mut Random::new(7), s);
         self.row(
             &format!("check, d = {}, L = {}", s.degree, s.depth),
-            &mut || {
-                let t = black_box(&t);
-                let d = t.shape.d;
-                let (c, f) = (&t.commitment[..d], &t.final_element[..d]);
-                let mut verdict = 0;
-                let number =
-                    verified::check(s, c, f, &t.key, &t.rounds, &t.challenges, &mut verdict);
-                assert_eq!((number, verdict), (0, ACCEPTED));
-            },
+            &mut || honest::check(black_box(&t)),
             &mut || {
                 let t = black_box(&t);
                 let (c, f) = (t.commitment, t.final_element);
@@ -223,21 +216,10 @@ impl Table {
     /// transcript.
     fn session(&self, s: Settings) {
         let t = transcript::honest_at(&mut Random::new(7), s);
-        let d = t.shape.d;
         let (c, f) = (t.commitment, t.final_element);
         self.row(
             &format!("session, d = {}, L = {}", s.degree, s.depth),
-            &mut || {
-                let mut session = [0; verified::SESSION];
-                let mut verdict = 0;
-                verified::session_start(s, black_box(&c[..d]), &mut session);
-                for (polynomial, &e) in t.rounds.chunks(3 * d).zip(&t.challenges) {
-                    verified::session_round(polynomial, e, &mut session, &mut verdict);
-                    assert_eq!(verdict, HOLDS);
-                }
-                verified::session_end(&f[..d], &t.key, &mut session, &mut verdict);
-                assert_eq!(verdict, ACCEPTED);
-            },
+            &mut || honest::session(black_box(&t)),
             &mut || {
                 let answer = fast::check(s, black_box(c), f, &t.key, &t.rounds, &t.challenges);
                 assert_eq!(answer.verdict, ACCEPTED);

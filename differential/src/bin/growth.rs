@@ -6,9 +6,11 @@
 //!
 //! `docs/pictures/growth.py` makes tables and a picture of it.
 
+use differential::honest;
 use differential::timing::timed;
 use differential::verified;
 use reference::draw::tables::opening_at;
+use reference::draw::transcript;
 use reference::draw::tree::honest_at;
 use reference::random::Random;
 use reference::refuse::GROWTH;
@@ -55,6 +57,17 @@ fn open(s: Settings, repetitions: usize) {
     });
 }
 
+/// The check of a transcript, and a session of it.
+fn verify(s: Settings, repetitions: usize) {
+    let t = transcript::honest_at(&mut Random::new(7), s);
+    line("check", s, repetitions, &mut || {
+        timed(|| honest::check(black_box(&t)))
+    });
+    line("session", s, repetitions, &mut || {
+        timed(|| honest::session(black_box(&t)))
+    });
+}
+
 /// The extraction of a tree, or its check alone where the bound grows too far.
 fn extract(s: Settings, repetitions: usize) {
     let (t, _) = honest_at(&mut Random::new(7), s);
@@ -87,6 +100,7 @@ fn main() {
             let s = Settings::new(d, l, Q, 127);
             commit(s, repetitions);
             open(s, repetitions);
+            verify(s, repetitions);
             extract(Settings::new(d, l, Q, 2), repetitions);
         }
     }

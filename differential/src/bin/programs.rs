@@ -234,7 +234,9 @@ const FAULTS: &[(&str, &str)] = &[
     ("timeout 10 \"$P/NAME\" <. 2>said; echo $?; cat said", "0\nNAME: cannot read standard input\n"),
     // A program that is stopped in the middle of a read and goes on reads on.
     (
-        "rm -f slow; mkfifo slow; \"$P/NAME\" <slow >got 2>said & p=$!; exec 3>slow; head -c 100 NAME.in >&3; sleep 0.1; kill -STOP $p; sleep 0.1; kill -CONT $p; sleep 0.1; tail -c +101 NAME.in >&3; exec 3>&-; wait $p; echo $?; cat said; cmp got NAME.out && echo all",
+        "rm -f slow; mkfifo slow; \"$P/NAME\" <slow >got 2>said & p=$!; exec 3>slow; head -c 100 NAME.in >&3; sleep 0.1; \
+         kill -STOP $p; sleep 0.1; kill -CONT $p; sleep 0.1; tail -c +101 NAME.in >&3; exec 3>&-; \
+         wait $p; echo $?; cat said; cmp got NAME.out && echo all",
         "0\nall\n",
     ),
     ("timeout 10 \"$P/NAME\" </dev/null; echo $?", "refused 2\n0\n"),
@@ -390,8 +392,11 @@ fn main() -> ExitCode {
         println!("programs: FAILED: never printed: {}", missing.join(", "));
         return ExitCode::FAILURE;
     }
-    for ((program, answer), count) in &run.counts {
-        println!("{program:8} {answer:12} {count}");
+    for (program, answers) in PRINTED {
+        let count = |answer: &&str| run.counts.get(&(program, answer.to_string()));
+        let line = |answer: &&str| format!("{answer}:{}", count(answer).unwrap_or(&0));
+        let line: Vec<String> = answers.iter().map(|answer| line(answer)).collect();
+        println!("{program:<9}{}", line.join(" ").replace("refused ", ""));
     }
     let texts: usize = run.counts.values().sum();
     println!("programs: seed {seed}, {texts} runs beside the simple reference, no difference");

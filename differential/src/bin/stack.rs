@@ -5,6 +5,7 @@
 //! What an empty call uses is taken off. It leaves with 1 where a call uses
 //! more than is allowed.
 
+use differential::honest;
 use differential::verified;
 use reference::draw::tables::opening_at;
 use reference::draw::text::{lines, tables_of_length, Tables};
@@ -79,6 +80,7 @@ fn calls() -> Vec<(&'static str, Call<'static>)> {
     let (commit, round, mut fold, end) =
         (input.clone(), input.clone(), input.clone(), input.clone());
     let check = transcript::honest_at(&mut Random::new(7), large);
+    let session = check.clone();
     let judge = opening_at(&mut Random::new(7), bounded);
     vec![
         (
@@ -114,17 +116,11 @@ fn calls() -> Vec<(&'static str, Call<'static>)> {
         ),
         (
             "check, d = 64, L = 8",
-            Box::new(move || {
-                let (c, f) = (
-                    &check.commitment[..LARGEST],
-                    &check.final_element[..LARGEST],
-                );
-                let (rounds, challenges) = (&check.rounds, &check.challenges);
-                let mut verdict = 0;
-                let number =
-                    verified::check(large, c, f, &check.key, rounds, challenges, &mut verdict);
-                assert_eq!((number, verdict), (0, ACCEPTED));
-            }),
+            Box::new(move || honest::check(&check)),
+        ),
+        (
+            "session, d = 64, L = 8",
+            Box::new(move || honest::session(&session)),
         ),
         (
             "judge, d = 4, L = 8",
@@ -136,7 +132,6 @@ fn calls() -> Vec<(&'static str, Call<'static>)> {
             }),
         ),
         ("open, d = 64, L = 8", open(large)),
-        ("session end, d = 64, L = 8", session_end(large)),
         (
             "extract, d = 64, L = 3",
             extract(Settings::new(64, 3, 9, 127), 0),
@@ -165,21 +160,6 @@ fn open(s: Settings) -> Call<'static> {
         let (c, f) = (&mut c, &mut f);
         verified::open(s, key, message, &t.challenges, rounds, c, f, &mut verdict);
         assert_eq!(verdict, ACCEPTED);
-    })
-}
-
-/// An end of a session that has the rounds behind it.
-fn session_end(s: Settings) -> Call<'static> {
-    let t = transcript::honest_at(&mut Random::new(7), s);
-    Box::new(move || {
-        let mut session = [0; verified::SESSION];
-        let mut verdict = 0;
-        let d = t.shape.d;
-        verified::session_start(s, &t.commitment[..d], &mut session);
-        session[4] = s.depth;
-        let number =
-            verified::session_end(&t.final_element[..d], &t.key, &mut session, &mut verdict);
-        assert_eq!(number, 0);
     })
 }
 
