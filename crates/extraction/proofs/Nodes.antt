@@ -33,7 +33,7 @@ use Rattle.claims.specs.Nodes.{AtNode}
 use Rattle.extraction.specs.Nodes.{Extractable}
 use Rattle.residues.proofs.SignedFill.{signed-zeros-at, signed-zeros-length}
 use Rattle.extraction.proofs.Shares.{by-cells, withShare-length, withShare-first, withShare-second}
-use Rattle.residues.proofs.Folds.{row-inside}
+use Rattle.residues.proofs.Parts.{row-inside}
 use Rattle.extraction.proofs.Parts.{part-length}
 use Rattle.extraction.proofs.Splicing.{drop-put-end, put-end}
 

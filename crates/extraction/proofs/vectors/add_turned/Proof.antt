@@ -13,7 +13,7 @@ use Rattle.extraction.specs.Bounds.{Spreadable, Addable, Summable}
 use Rattle.extraction.specs.Steps.{Spread, spreadAdded, rotatedAdded}
 use Rattle.extraction.specs.Vectors.{spliced, turned, Turnable}
 use Rattle.residues.proofs.Fill.{filled, filled-ext}
-use Rattle.residues.proofs.Folds.{row-inside}
+use Rattle.residues.proofs.Parts.{row-inside}
 use Rattle.relaxed.proofs.Products.{rotate-ext}
 use Rattle.extraction.proofs.Parts.{part-length, part-entry}
 use Rattle.extraction.proofs.Splicing.{spliced-none, spliced-turn, spliced-length, spliced-low, spliced-behind, spliced-apart}

@@ -13,7 +13,7 @@ use Rattle.extraction.specs.Bounds.{Weighable}
 use Rattle.extraction.specs.Steps.{weighted}
 use Rattle.extraction.specs.Vectors.{spliced, scaled, Scalable}
 use Rattle.residues.proofs.Fill.{filled, filled-ext}
-use Rattle.residues.proofs.Folds.{row-inside}
+use Rattle.residues.proofs.Parts.{row-inside}
 use Rattle.extraction.proofs.Parts.{part-length, part-entry}
 use Rattle.extraction.proofs.Splicing.{spliced-none, spliced-turn, spliced-length, spliced-behind}
 use Rattle.extraction.proofs.Weighing as W
