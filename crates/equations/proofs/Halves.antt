@@ -10,7 +10,7 @@ use Rattle.protocol.specs.Settings.{cells}
 use Rattle.protocol.specs.Opening.{left, halfLeft}
 use Rattle.protocol.specs.Inputs.{Below}
 use Rattle.protocol.proofs.OpeningLaws.{left-power, halfLeft-power, left-inside, twice-power}
-use Rattle.residues.specs.Folds.{Foldable}
+use Rattle.folds.specs.Folds.{Foldable}
 use Rattle.equations.proofs.Ready.{Ready}
 
 module _ (S : Settings) (ready : Ready S) (t : ℕ) (l : t < S .depth) where

@@ -26,7 +26,7 @@ pub fn fold_rounds(settings: Settings, challenges: &[u32], key: &mut [u32])
     while t < rounds {
         let h = sizes::half_left(settings, t);
         let e = challenges[t as usize];
-        residues::tables::fold_residues(settings.modulus, settings.degree, h, e, key);
+        folds::fold_residues(settings.modulus, settings.degree, h, e, key);
         t += 1;
     }
 }
@@ -40,7 +40,7 @@ pub fn folded_key(settings: Settings, key: &[u32], challenges: &[u32]) -> [u32; 
         return [0u32; 64];
     }
     let mut folded = room();
-    residues::tables::copy(key, &mut folded);
+    residues::copy(key, &mut folded);
     fold_rounds(settings, challenges, &mut folded[..n]);
     residues::elements::element_at(settings.degree, &folded, 0)
 }

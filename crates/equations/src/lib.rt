@@ -96,7 +96,7 @@ pub fn next_claim(
     let q = settings.modulus;
     let d = settings.degree;
     let mut claim = [0u32; 64];
-    residues::elements::value(q, d, e, &c0, &c1, &c2, &mut claim);
+    rotations::value(q, d, e, &c0, &c1, &c2, &mut claim);
     claim
 }
 

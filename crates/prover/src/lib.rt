@@ -8,7 +8,6 @@ use protocol::Ended;
 use protocol::Polynomial;
 use protocol::Settings;
 use residues::elements;
-use residues::tables;
 ghost use mathlib.Core.Path.{_≡_};
 ghost use Rattle.protocol.specs.Calls.{commitAnswer, roundAnswer, endAnswer};
 ghost use Rattle.protocol.specs.Promises.{Folded};
@@ -77,7 +76,7 @@ pub fn fold(settings: Settings, done: u32, e: u32, key: &mut [u32], message: &mu
     }
     let d = settings.degree;
     let h = sizes::half_left(settings, done);
-    tables::fold_residues(settings.modulus, d, h, e, key);
+    folds::fold_residues(settings.modulus, d, h, e, key);
     messages::fold_message(d as usize, h as usize, e as usize, message);
     0
 }

@@ -2,11 +2,19 @@
 use mathlib.Core.Path.{_≡_, refl, sym, ap, _∙_}
 use mathlib.Core.Bool.{Bool, true, false, _&&_}
 use mathlib.Core.List.{List}
-use Prim.Native.Nat.{ℕ, suc, _+_, _<_, _≤_}
+use Prim.Native.Nat.{ℕ, suc, _+_, _^_, _<_, _≤_}
 use native.Mathlib.Numerals.{add-one}
+use borrow.Author.Tests.{le-leb, lt-leb}
+use lib.Dec.{leb}
+use lib.IntN.{ℤ, pos, natAbs}
+use lib.Signed.{mag}
+use mir.Syntax.{Width}
+use mir.Val.{SFits, hbits, toZ, ofZ}
+use mir.Facts.{toZ-ofZ}
 use lib.ListN.{length, getD, drop, drop-of-length-le}
 use lib.Seq.{drop-cons}
-use Rattle.protocol.specs.Basic.{every, all}
+use Rattle.protocol.specs.Basic.{every, all, within}
+use Rattle.ranges.proofs.Magnitude.{through-bits}
 use Rattle.protocol.proofs.Tests.{and-intro, every-at}
 
 -- ---- over a table, in a loop that stops at the first that fails: what is left decides
@@ -52,6 +60,23 @@ module _ {ℓ} {A : Type ℓ} (f : A → Bool) (t : List A) (z : A) (i : ℕ) (g
   pub asked-ends : length t ≤ i → good ≡ all f t
   unfolding all
   asked-ends h = sym (e ∙ ap (λ l. good && all f l) (drop-of-length-le t h) ∙ and-true good)
+
+-- the same of a signed number, which is read as its bits
+module _ (w : Width) (f : ℤ → Bool) (t : List ℤ) (i : ℕ) (good : Bool) (e : all f t ≡ (good && all f (drop i t))) where
+  pub number-goes-on : i < length t → mag (getD t i (pos 0)) < 2 ^ hbits w → {next : Bool} → next ≡ (good && f (toZ w (ofZ w (getD t i (pos 0))))) → all f t ≡ (next && all f (drop (i + 1) t))
+  number-goes-on h fits n = asked-goes-on f t (pos 0) i good e h (n ∙ ap (λ z. good && f z) (through-bits w _ fits))
+
+-- one number more, by its magnitude
+module _ (w : Width) (good : Bool) (bound : ℕ) (x : ℤ) (fits : SFits w x) (m : ℕ) (is : m ≡ natAbs (toZ w (ofZ w x))) where
+  within-is : {b : Bool} → leb m bound ≡ b → (good && within bound x) ≡ (good && b)
+  unfolding within
+  within-is e = ap (λ b. good && b) (ap (λ n. leb n bound) (sym (is ∙ ap natAbs (toZ-ofZ fits))) ∙ e)
+
+  pub within-holds : m ≤ bound → good ≡ (good && within bound x)
+  within-holds h = sym (within-is (le-leb m bound h) ∙ and-true good)
+
+  pub within-fails : bound < m → false ≡ (good && within bound x)
+  within-fails h = sym (within-is (lt-leb m bound h) ∙ and-false good)
 
 -- ---- over the places below n: those that are passed hold
 

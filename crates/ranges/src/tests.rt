@@ -1,13 +1,37 @@
 // The tests that refusals go by.
+use protocol::Residue;
 use protocol::Settings;
+use protocol::WIDTH;
 ghost use mathlib.Core.Path.{_≡_};
 ghost use mathlib.Core.Bool.{_&&_};
 ghost use Prim.Native.Nat.{_≤_};
 ghost use lib.Dec.{ltb};
 ghost use lib.IntN.{natAbs};
 ghost use lib.ListN.{getD};
-ghost use Rattle.protocol.specs.Basic.{every, all, within, Provided};
+ghost use Rattle.protocol.specs.Basic.{every, all, within, Provided, Tested};
+ghost use Rattle.protocol.specs.Layout.{width};
 ghost use Rattle.protocol.specs.Settings.{degreeAllowed, modulusAllowed, boundAllowed, settingsRefusal, small};
+
+// The largest depth, one round for each slot of a record, the largest modulus and the largest bound (PROTOCOL 1.1): as `depthAllowed`, `modulusAllowed` and
+// `boundAllowed` have them.
+pub const DEPTH_MOST: u32 = 8;
+
+const MODULUS_MOST: u32 = 2147483647;
+
+pub const BOUND_MOST: u32 = 127;
+
+// One test more: an earlier refusal stands, and otherwise the number is given unless the test holds.
+pub fn refuse(earlier: u32, number: u32, holds: bool) -> u32
+    ensures { λ r. ⌜ Tested earlier number holds r ⌝ }
+{
+    if earlier != 0 {
+        return earlier;
+    }
+    if holds {
+        return 0;
+    }
+    number
+}
 
 // Refusal 3: is the degree allowed.
 fn degree_allowed(settings: Settings) -> bool
@@ -25,13 +49,7 @@ fn modulus_allowed(settings: Settings) -> bool
     ensures { λ r. ⌜ r ≡ modulusAllowed settings ⌝ }
 {
     let q = settings.modulus;
-    if q % 2 != 1 {
-        return false;
-    }
-    if q < 3 {
-        return false;
-    }
-    q <= 2147483647
+    (q % 2 == 1) & (3 <= q) & (q <= MODULUS_MOST)
 }
 
 // Refusal 6: is the bound in its range.
@@ -39,29 +57,17 @@ fn bound_allowed(settings: Settings) -> bool
     ensures { λ r. ⌜ r ≡ boundAllowed settings ⌝ }
 {
     let b = settings.bound;
-    if b < 1 {
-        return false;
-    }
-    b <= 127
+    (1 <= b) & (b <= BOUND_MOST)
 }
 
 // Refusals 3 to 6, the first that applies; 0 where the settings are allowed.
 pub fn settings_refusal(settings: Settings) -> u32
     ensures { λ r. ⌜ r ≡ settingsRefusal settings ⌝ }
 {
-    if !degree_allowed(settings) {
-        return 3;
-    }
-    if settings.depth > 8 {
-        return 4;
-    }
-    if !modulus_allowed(settings) {
-        return 5;
-    }
-    if !bound_allowed(settings) {
-        return 6;
-    }
-    0
+    let r3 = refuse(0, 3, degree_allowed(settings));
+    let r4 = refuse(r3, 4, settings.depth <= DEPTH_MOST);
+    let r5 = refuse(r4, 5, modulus_allowed(settings));
+    refuse(r5, 6, bound_allowed(settings))
 }
 
 // One test more. The loops over tables ask all numbers, also after one that fails, so that the compiler takes several at a time.
@@ -86,13 +92,13 @@ pub fn all_below(limit: u32, t: &[u32]) -> bool
 }
 
 // The same for the first d places of an element.
-pub fn element_below(limit: u32, d: u32, a: [u32; 64]) -> bool
-    ensures { λ r. ⌜ Provided (d ≤ 64) (r ≡ every d (λ k. ltb (getD a k 0) limit)) ⌝ }
+pub fn element_below(limit: Residue, d: u32, a: [Residue; WIDTH]) -> bool
+    ensures { λ r. ⌜ Provided (d ≤ width) (r ≡ every d (λ k. ltb (getD a k 0) limit)) ⌝ }
 {
-    if d > 64 {
+    let n = d as usize;
+    if n > WIDTH {
         return false;
     }
-    let n = d as usize;
     let mut k: usize = 0;
     while k < n {
         if a[k] >= limit {

@@ -1,2 +1,3 @@
+mod Lengths
 pub mod Given
 pub mod GivenTree

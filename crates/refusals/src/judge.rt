@@ -1,6 +1,8 @@
 // The refusals of the judge.
 use crate::refuse;
+use protocol::Residue;
 use protocol::Settings;
+use protocol::WIDTH;
 use ranges::tests;
 ghost use mathlib.Core.Path.{_≡_};
 ghost use Rattle.protocol.specs.Basic.{Provided};
@@ -9,21 +11,30 @@ ghost use Rattle.protocol.specs.Tree.{growthAllowed};
 ghost use Rattle.protocol.specs.Judge as of;
 ghost use Rattle.protocol.specs.Calls.{judgeRefusal};
 
+// The largest slack, 4^8: as `slackAllowed` has it.
+const SLACK_MOST: u32 = 65536;
+
 // 14, here and in the extractor: is the growth at most 2^62.
 pub fn growth_allowed(settings: Settings) -> bool
     ensures { λ r. ⌜ Provided (settingsRefusal settings ≡ 0) (r ≡ growthAllowed settings) ⌝ }
 {
-    sizes::growth(settings) <= 4611686018427387904
+    sizes::growth(settings) <= sizes::GROWTH_LIMIT
 }
 
 // 15: is the slack in its range.
 fn slack_allowed(settings: Settings, c: u32) -> bool
     ensures { λ r. ⌜ r ≡ of.slackAllowed settings c ⌝ }
 {
-    (1 <= c) & (c <= 65536)
+    (1 <= c) & (c <= SLACK_MOST)
 }
 
-pub fn judge(settings: Settings, commitment: [u32; 64], c: u32, key: &[u32], w: &[i64]) -> u32
+pub fn judge(
+    settings: Settings,
+    commitment: [Residue; WIDTH],
+    c: u32,
+    key: &[Residue],
+    w: &[i64],
+) -> u32
     ensures { λ r. ⌜ r ≡ judgeRefusal settings commitment c (now (key .entry)) (now (w .entry)) ⌝ }
 {
     let cells = sizes::cells(settings);

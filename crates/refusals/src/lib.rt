@@ -8,17 +8,4 @@ pub mod session;
 pub mod transcript;
 pub mod tree;
 
-ghost use Rattle.protocol.specs.Basic.{Tested};
-
-// One test more: an earlier refusal stands, and otherwise the number is given unless the test holds.
-pub fn refuse(earlier: u32, number: u32, holds: bool) -> u32
-    ensures { λ r. ⌜ Tested earlier number holds r ⌝ }
-{
-    if earlier != 0 {
-        return earlier;
-    }
-    if holds {
-        return 0;
-    }
-    number
-}
+pub use ranges::tests::refuse;

@@ -1,5 +1,6 @@
 // The refusals of the whole opening.
 use crate::refuse;
+use protocol::Residue;
 use protocol::Settings;
 use ranges::tests;
 ghost use mathlib.Core.Path.{_≡_};
@@ -7,10 +8,10 @@ ghost use Rattle.protocol.specs.Calls.{openingRefusal};
 
 pub fn open(
     settings: Settings,
-    key: &[u32],
+    key: &[Residue],
     message: &[i32],
     challenges: &[u32],
-    rounds: &[u32],
+    rounds: &[Residue],
 ) -> u32
     ensures { λ r. ⌜ r ≡ openingRefusal settings (now (key .entry)) (now (message .entry)) (now (challenges .entry)) (now (rounds .entry)) ⌝ }
 {

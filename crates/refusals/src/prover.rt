@@ -1,5 +1,6 @@
 // The refusals of the prover's calls.
 use crate::refuse;
+use protocol::Residue;
 use protocol::Settings;
 use ranges::tests;
 ghost use mathlib.Core.Path.{_≡_};
@@ -11,7 +12,7 @@ ghost use Rattle.protocol.specs.Settings.{settingsRefusal, cells, sized};
 ghost use Rattle.protocol.specs.Calls.{leftSmall, movingSmall, endingSmall, commitRefusal, roundRefusal, foldRefusal, endRefusal};
 
 // 3 to 7 of a call on both tables.
-fn lengths(settings: Settings, key: &[u32], message: &[i32]) -> u32
+fn lengths(settings: Settings, key: &[Residue], message: &[i32]) -> u32
     ensures { λ r. ⌜ Tested (settingsRefusal settings) 7 (sized (cells settings) (now (key .entry)) && sized (cells settings) (now (message .entry))) r ⌝ }
 {
     let cells = sizes::cells(settings);
@@ -51,7 +52,7 @@ fn ending_small(settings: Settings, t: u32, message: &[i32]) -> bool
     left_small(settings, t, message)
 }
 
-pub fn commit(settings: Settings, key: &[u32], message: &[i32]) -> u32
+pub fn commit(settings: Settings, key: &[Residue], message: &[i32]) -> u32
     ensures { λ r. ⌜ r ≡ commitRefusal settings (now (key .entry)) (now (message .entry)) ⌝ }
 {
     let r7 = lengths(settings, key, message);
@@ -62,7 +63,7 @@ pub fn commit(settings: Settings, key: &[u32], message: &[i32]) -> u32
     refuse(r8, 9, tests::all_within(settings.bound, message))
 }
 
-pub fn round(settings: Settings, t: u32, key: &[u32], message: &[i32]) -> u32
+pub fn round(settings: Settings, t: u32, key: &[Residue], message: &[i32]) -> u32
     ensures { λ r. ⌜ r ≡ roundRefusal settings t (now (key .entry)) (now (message .entry)) ⌝ }
 {
     let r7 = lengths(settings, key, message);
@@ -74,7 +75,7 @@ pub fn round(settings: Settings, t: u32, key: &[u32], message: &[i32]) -> u32
     refuse(r9, 11, t < settings.depth)
 }
 
-pub fn fold(settings: Settings, t: u32, e: u32, key: &[u32], message: &[i32]) -> u32
+pub fn fold(settings: Settings, t: u32, e: u32, key: &[Residue], message: &[i32]) -> u32
     ensures { λ r. ⌜ r ≡ foldRefusal settings t e (now (key .entry)) (now (message .entry)) ⌝ }
 {
     let r7 = lengths(settings, key, message);

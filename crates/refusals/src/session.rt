@@ -1,12 +1,14 @@
 // The refusals of the verifier's session.
 use crate::refuse;
+use protocol::Residue;
 use protocol::Session;
 use protocol::Settings;
+use protocol::WIDTH;
 use ranges::tests;
 ghost use mathlib.Core.Path.{_≡_};
 ghost use Rattle.protocol.specs.Session.{startRefusal, moveRefusal, closeRefusal};
 
-pub fn start(settings: Settings, commitment: [u32; 64]) -> u32
+pub fn start(settings: Settings, commitment: [Residue; WIDTH]) -> u32
     ensures { λ r. ⌜ r ≡ startRefusal settings commitment ⌝ }
 {
     let q = settings.modulus;
@@ -15,7 +17,7 @@ pub fn start(settings: Settings, commitment: [u32; 64]) -> u32
     refuse(r6, 8, tests::element_below(q, d, commitment))
 }
 
-pub fn round(session: Session, polynomial: [[u32; 64]; 3], e: u32) -> u32
+pub fn round(session: Session, polynomial: [[Residue; WIDTH]; 3], e: u32) -> u32
     ensures { λ r. ⌜ r ≡ moveRefusal session polynomial e ⌝ }
 {
     let settings = session.settings;
@@ -40,7 +42,7 @@ pub fn round(session: Session, polynomial: [[u32; 64]; 3], e: u32) -> u32
     refuse(r10, 11, (session.done < settings.depth) & !session.closed)
 }
 
-pub fn end(session: Session, key: &[u32]) -> u32
+pub fn end(session: Session, key: &[Residue]) -> u32
     ensures { λ r. ⌜ r ≡ closeRefusal session (now (key .entry)) ⌝ }
 {
     let settings = session.settings;

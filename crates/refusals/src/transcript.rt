@@ -1,15 +1,17 @@
 // The refusals of the check of a transcript.
 use crate::refuse;
+use protocol::Residue;
 use protocol::Settings;
+use protocol::WIDTH;
 use ranges::tests;
 ghost use mathlib.Core.Path.{_≡_};
 ghost use Rattle.protocol.specs.Calls.{checkRefusal};
 
 pub fn check(
     settings: Settings,
-    commitment: [u32; 64],
-    key: &[u32],
-    rounds: &[u32],
+    commitment: [Residue; WIDTH],
+    key: &[Residue],
+    rounds: &[Residue],
     challenges: &[u32],
 ) -> u32
     ensures { λ r. ⌜ r ≡ checkRefusal settings commitment (now (key .entry)) (now (rounds .entry)) (now (challenges .entry)) ⌝ }

@@ -1,6 +1,8 @@
 // The extractor's refusals before the verifier runs: 3 to 8, 10 and 12. 13 and 14 follow in the extractor.
 use crate::refuse;
+use protocol::Residue;
 use protocol::Settings;
+use protocol::WIDTH;
 use ranges::tests;
 ghost use mathlib.Core.Path.{_≡_};
 ghost use Prim.Native.Nat.{_+_, _*_, _≤_};
@@ -37,9 +39,9 @@ fn all_differ(nodes: usize, challenges: &[u32]) -> bool
 
 pub fn extract(
     settings: Settings,
-    commitment: [u32; 64],
-    key: &[u32],
-    rounds: &[u32],
+    commitment: [Residue; WIDTH],
+    key: &[Residue],
+    rounds: &[Residue],
     challenges: &[u32],
     leaves: &[i32],
     w: &[i64],

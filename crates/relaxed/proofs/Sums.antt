@@ -18,7 +18,7 @@ use Rattle.residues.specs.Lists.{spliced}
 use Rattle.products.specs.Products.{turned, extension, narrowed, addRows}
 use Rattle.products.proofs.Extension.{extension-rows}
 use Rattle.residues.proofs.Parts.{tail-all}
-use Rattle.residues.proofs.Folds.{row-inside}
+use Rattle.residues.proofs.Parts.{row-inside}
 use Rattle.products.proofs.Sums.{sum-none, elements-none, elements-more, sum-elements, signed-places, residue-places}
 use Rattle.sizes.proofs.Limits.{degree-least, degree-most}
 use Rattle.relaxed.specs.Digits.{digitsOf, digitsIn, digitSums, joinedSums, Numbers, Elements}

@@ -3,10 +3,11 @@ use mathlib.Core.Path.{_≡_, refl, sym, ap, _∙_}
 use mathlib.Core.List.{List, _++_}
 use Prim.Native.Nat.{ℕ, zero, suc, _+_, _-_, _<_, _≤_}
 use native.Mathlib.Nat as Nat
+use native.Mathlib.Decide.{decLt}
 use native.Mathlib.Numerals.{add-one}
 use native.Mathlib.Omega.{arith}
 use lib.ListN.{length, getD, drop, set, replicate, length-append, length-drop, length-replicate, List·getD-append}
-use lib.Seq.{drop-at}
+use lib.Seq.{drop-at, ext-getD}
 use Rattle.protocol.specs.Basic.{tabulate}
 use Rattle.protocol.specs.Element.{width, zeros, padded}
 unfoldable pub use Rattle.residues.specs.Lists.{filled}
@@ -49,10 +50,33 @@ module _ {ℓ} {A : Type ℓ} where
   unfolding filled
   filled-again f g k z = ap (λ t. tabulate k g ++ t) (drop-at (tabulate k f) (drop k z) k (tabulate-length k f))
 
-pub drop-replicate {ℓ} : {A : Type ℓ} (z : A) (n m : ℕ) → drop n (replicate m z) ≡ replicate (m - n) z
-drop-replicate z zero m = ap (λ k. replicate k z) (sym (Nat.sub-zero m))
-drop-replicate z (suc n) zero = ap (λ k. replicate k z) (sym (Nat.zero-sub (suc n)))
-drop-replicate z (suc n) (suc m) = drop-replicate z n m ∙ ap (λ k. replicate k z) (sym (Nat.suc-sub-suc m n))
+  -- filled further with what stood there
+  pub filled-further : (f : ℕ → A) (m n : ℕ) (l : List A) (z : A) → m ≤ n → n ≤ length l → ((k : ℕ) → m ≤ k → k < n → f k ≡ getD l k z) → filled f m l ≡ filled f n l
+  filled-further f m n l z less room same =
+      ext-getD z (filled f m l) (filled f n l) (filled-length f m l (omega arith) ∙ sym (filled-length f n l room)) (λ j _. elim (decLt j n) [
+        | no past ↦ filled-behind f m l z j (omega arith) ∙ sym (filled-behind f n l z j (omega arith))
+        | yes inside ↦ elim (decLt j m) [
+          | yes first ↦ filled-at f m l z j first ∙ sym (filled-at f n l z j inside)
+          | no second ↦ filled-behind f m l z j (omega arith) ∙ sym (same j (omega arith) inside) ∙ sym (filled-at f n l z j inside)
+        ]
+      ])
+
+-- ---- over n times z
+
+module _ {ℓ} {A : Type ℓ} (z : A) where
+  pub replicate-at : (n j : ℕ) → getD (replicate n z) j z ≡ z
+  replicate-at zero j = refl
+  replicate-at (suc n) zero = refl
+  replicate-at (suc n) (suc j) = replicate-at n j
+
+  pub drop-replicate : (n m : ℕ) → drop n (replicate m z) ≡ replicate (m - n) z
+  drop-replicate zero m = ap (λ k. replicate k z) (sym (Nat.sub-zero m))
+  drop-replicate (suc n) zero = ap (λ k. replicate k z) (sym (Nat.zero-sub (suc n)))
+  drop-replicate (suc n) (suc m) = drop-replicate n m ∙ ap (λ k. replicate k z) (sym (Nat.suc-sub-suc m n))
+
+  pub filled-replicate : (f : ℕ → A) (n d : ℕ) → filled f d (replicate n z) ≡ tabulate d f ++ replicate (n - d) z
+  unfolding filled
+  filled-replicate f n d = ap (λ t. tabulate d f ++ t) (drop-replicate d n)
 
 -- ---- over zeros, which stay shut
 
@@ -62,22 +86,20 @@ zeros-length n = length-replicate n 0
 
 pub zeros-at : (n j : ℕ) → getD (zeros n) j 0 ≡ 0
 unfolding zeros
-zeros-at zero j = refl
-zeros-at (suc n) zero = refl
-zeros-at (suc n) (suc j) = zeros-at n j
+zeros-at n j = replicate-at 0 n j
 
 pub fill-none : (n : ℕ) (f : ℕ → ℕ) → replicate n 0 ≡ filled f 0 (zeros n)
 unfolding zeros
 fill-none n f = filled-none f (replicate n 0)
 
 pub fill-more : (n : ℕ) (f : ℕ → ℕ) (k x : ℕ) (a : List ℕ) → a ≡ filled f k (zeros n) → k < n → x ≡ f k → set a k x ≡ filled f (k + 1) (zeros n)
-fill-more n f k x a e h v = (λ i. set (e i) k (v i)) ∙ filled-more f k (zeros n) (omega (arith, zeros-length n))
+fill-more n f k x a e h v = filled-turn f k (zeros n) e v (omega (arith, zeros-length n))
 
 pub fill-done : (n : ℕ) (f : ℕ → ℕ) (k d : ℕ) (a : List ℕ) → a ≡ filled f k (zeros n) → k ≡ d → a ≡ tabulate d f ++ zeros (n - d)
-unfolding filled zeros
-fill-done n f k d a e p = e ∙ ap (λ m. filled f m (zeros n)) p ∙ ap (λ l. tabulate d f ++ l) (drop-replicate 0 d n)
+unfolding zeros
+fill-done n f k d a e p = filled-end f (zeros n) e p ∙ filled-replicate 0 f n d
 
 -- an element that is passed by value
-pub element-done : (f : ℕ → ℕ) (k d : ℕ) (a : List ℕ) → a ≡ filled f k (zeros 64) → k ≡ d → a ≡ padded d (tabulate d f)
-unfolding padded width
-element-done f k d a e p = fill-done 64 f k d a e p
+pub element-done : (f : ℕ → ℕ) (k d : ℕ) (a : List ℕ) → a ≡ filled f k (zeros width) → k ≡ d → a ≡ padded d (tabulate d f)
+unfolding padded
+element-done f k d a e p = fill-done width f k d a e p

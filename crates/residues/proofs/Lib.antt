@@ -3,7 +3,5 @@ pub mod Fill
 pub mod SignedFill
 pub mod Splice
 pub mod Parts
-pub mod Folds
 pub mod Padding
 pub mod Signs
-pub mod Values

@@ -9,7 +9,7 @@ use lib.IntN.{ℤ, pos}
 use lib.ListN.{length, getD, set, replicate, length-replicate}
 use Rattle.protocol.specs.Basic.{tabulate}
 use Rattle.protocol.specs.Element.{width, signedZeros, paddedSigned}
-use Rattle.residues.proofs.Fill.{filled, drop-replicate, filled-none, filled-more, filled-at, filled-length}
+use Rattle.residues.proofs.Fill.{filled, filled-none, filled-turn, filled-end, filled-at, filled-length, replicate-at, filled-replicate}
 
 pub signed-zeros-length : (n : ℕ) → length (signedZeros n) ≡ n
 unfolding signedZeros
@@ -17,24 +17,22 @@ signed-zeros-length n = length-replicate n (pos 0)
 
 pub signed-zeros-at : (n k : ℕ) → getD (signedZeros n) k (pos 0) ≡ pos 0
 unfolding signedZeros
-signed-zeros-at zero k = refl
-signed-zeros-at (suc n) zero = refl
-signed-zeros-at (suc n) (suc k) = signed-zeros-at n k
+signed-zeros-at n k = replicate-at (pos 0) n k
 
 pub signed-fill-none : (n : ℕ) (f : ℕ → ℤ) → replicate n (pos 0) ≡ filled f 0 (signedZeros n)
 unfolding signedZeros
 signed-fill-none n f = filled-none f (replicate n (pos 0))
 
 pub signed-fill-more : (n : ℕ) (f : ℕ → ℤ) (k : ℕ) (x : ℤ) (a : List ℤ) → a ≡ filled f k (signedZeros n) → k < n → x ≡ f k → set a k x ≡ filled f (k + 1) (signedZeros n)
-signed-fill-more n f k x a e h v = (λ i. set (e i) k (v i)) ∙ filled-more f k (signedZeros n) (omega (arith, signed-zeros-length n))
+signed-fill-more n f k x a e h v = filled-turn f k (signedZeros n) e v (omega (arith, signed-zeros-length n))
 
 -- an element that is passed by value
-pub padded-filled : (d : ℕ) (f : ℕ → ℤ) → paddedSigned d (tabulate d f) ≡ filled f d (signedZeros 64)
-unfolding paddedSigned width filled signedZeros
-padded-filled d f = ap (λ t. tabulate d f ++ t) (sym (drop-replicate (pos 0) d 64))
+pub padded-filled : (d : ℕ) (f : ℕ → ℤ) → paddedSigned d (tabulate d f) ≡ filled f d (signedZeros width)
+unfolding paddedSigned signedZeros
+padded-filled d f = sym (filled-replicate (pos 0) f width d)
 
-pub signed-element-done : (f : ℕ → ℤ) (k d : ℕ) (a : List ℤ) → a ≡ filled f k (signedZeros 64) → k ≡ d → a ≡ paddedSigned d (tabulate d f)
-signed-element-done f k d a e h = e ∙ ap (λ n. filled f n (signedZeros 64)) h ∙ sym (padded-filled d f)
+pub signed-element-done : (f : ℕ → ℤ) (k d : ℕ) (a : List ℤ) → a ≡ filled f k (signedZeros width) → k ≡ d → a ≡ paddedSigned d (tabulate d f)
+signed-element-done f k d a e h = filled-end f (signedZeros width) e h ∙ sym (padded-filled d f)
 
 -- ---- zeros
 

@@ -1,16 +1,19 @@
-// Elements of residues, passed by value or as the fronts of slices.
-use crate::rows;
+// Numbers and elements of flat tables.
+use crate::store;
+use protocol::Residue;
+use protocol::WIDTH;
 ghost use mathlib.Core.Path.{_≡_};
 ghost use Prim.Native.Nat.{_≤_};
 ghost use lib.IntN.{pos};
 ghost use lib.ListN.{getD};
 ghost use Rattle.protocol.specs.Basic.{Provided};
-ghost use Rattle.protocol.specs.Element.{residue, coefficients, paddedSigned, signedAt};
-ghost use Rattle.residues.specs.Elements.{elementAt, valueAt, Valuable};
-ghost use Rattle.residues.specs.Lists.{spliced};
+ghost use Rattle.protocol.specs.Element.{width, coefficients, paddedSigned, signedAt};
+ghost use Rattle.residues.specs.Elements.{elementAt};
+ghost use Rattle.residues.specs.Lists.{filled};
+ghost use Rattle.residues.specs.Residues.{Copyable};
 
 // Number p of a table; 0 where it has none.
-pub fn entry(t: &[u32], p: usize) -> u32
+pub fn entry(t: &[Residue], p: usize) -> Residue
     ensures { λ r. ⌜ r ≡ getD (now (t .entry)) p 0 ⌝ }
 {
     if p < t.len() {
@@ -20,24 +23,23 @@ pub fn entry(t: &[u32], p: usize) -> u32
 }
 
 // Element i of a flat table; coefficients that the table does not have are 0.
-pub fn element_at(d: u32, t: &[u32], i: u32) -> [u32; 64]
-    ensures { λ r. ⌜ Provided (d ≤ 64) (r ≡ elementAt d (now (t .entry)) i) ⌝ }
+pub fn element_at(d: u32, t: &[Residue], i: u32) -> [Residue; WIDTH]
+    ensures { λ r. ⌜ Provided (d ≤ width) (r ≡ elementAt d (now (t .entry)) i) ⌝ }
 {
-    let mut a = [0u32; 64];
-    if d > 64 {
-        return a;
-    }
+    let mut a: [Residue; WIDTH] = [0; WIDTH];
     let n = d as usize;
-    let at = (i as usize) * n;
-    if at + n <= t.len() {
-        rows::copy_row(n, t, at, &mut a, 0);
+    if n > WIDTH {
         return a;
     }
-    let mut k: usize = 0;
-    while k < n {
-        a[k] = entry(t, at + k);
-        k += 1;
+    let at = (i as usize) * n;
+    if at > t.len() {
+        return a;
     }
+    let mut there = t.len() - at;
+    if there > n {
+        there = n;
+    }
+    store(there, &t[at..], 0, &mut a);
     a
 }
 
@@ -51,45 +53,37 @@ pub fn signed_entry(t: &[i32], p: usize) -> i32
     0
 }
 
-pub fn signed_element_at(d: u32, t: &[i32], i: u32) -> [i32; 64]
-    ensures { λ r. ⌜ Provided (d ≤ 64) (r ≡ paddedSigned d (coefficients d (signedAt d (now (t .entry)) i))) ⌝ }
+// The first n numbers of a row, written to the front of a table. The table stays as it is where they do not stand in the row, or have no room.
+pub fn store_signed(n: usize, row: &[i32], out: &mut [i32])
+    ensures { λ _. ⌜ Provided (Copyable n (now (row .entry)) 0 (now (out .entry))) (now (out .exit) ≡ filled (λ k. getD (now (row .entry)) k (pos 0)) n (now (out .entry))) ⌝ }
 {
-    let mut a = [0i32; 64];
-    if d > 64 {
-        return a;
-    }
-    let n = d as usize;
-    let at = (i as usize) * n;
-    let mut k: usize = 0;
-    while k < n {
-        a[k] = signed_entry(t, at + k);
-        k += 1;
-    }
-    a
-}
-
-// The value at X^e of the polynomial with the coefficients c0, c1, c2, modulo q, written to the front of out.
-pub fn value(q: u32, d: u32, e: u32, c0: &[u32], c1: &[u32], c2: &[u32], out: &mut [u32])
-    ensures { λ _. ⌜ Provided (Valuable q d (now (c0 .entry)) (now (c1 .entry)) (now (c2 .entry)) (now (out .entry))) (now (out .exit) ≡ spliced (valueAt q d e (residue (now (c0 .entry))) (residue (now (c1 .entry))) (residue (now (c2 .entry)))) 0 d (now (out .entry))) ⌝ }
-{
-    if d == 0 {
-        return;
-    }
-    if d > 64 {
-        return;
-    }
-    let n = d as usize;
-    if c0.len() < n {
-        return;
-    }
-    if c1.len() < n {
-        return;
-    }
-    if c2.len() < n {
+    if row.len() < n {
         return;
     }
     if out.len() < n {
         return;
     }
-    rows::value(q, n, e as usize, c0, c1, c2, out);
+    for k in 0..n {
+        out[k] = row[k];
+    }
+}
+
+pub fn signed_element_at(d: u32, t: &[i32], i: u32) -> [i32; WIDTH]
+    ensures { λ r. ⌜ Provided (d ≤ width) (r ≡ paddedSigned d (coefficients d (signedAt d (now (t .entry)) i))) ⌝ }
+{
+    let mut a = [0i32; WIDTH];
+    let n = d as usize;
+    if n > WIDTH {
+        return a;
+    }
+    let at = (i as usize) * n;
+    if at > t.len() {
+        return a;
+    }
+    let mut there = t.len() - at;
+    if there > n {
+        there = n;
+    }
+    store_signed(there, &t[at..], &mut a);
+    a
 }

@@ -1,20 +1,21 @@
-// Residues modulo q: single ones, rows, elements, and folds of tables of them. Every public function is safe for every input; what it gives is said by a
-// definition, where needed under a condition that the refusals ensure. Nothing is divided, and no branch depends on a residue but by its order.
+// Residues modulo q: single ones, exponents of X, rows that are copied, and elements. Every public function is safe for every input; what it gives is said by
+// a definition, where needed under a condition that the refusals ensure. No residue is divided, and no branch depends on one but by its order.
 pub mod elements;
-mod rows;
-pub mod tables;
 
+use protocol::Residue;
 use protocol::WIDTH;
 ghost use mathlib.Core.Path.{_≡_};
+ghost use mathlib.Core.List.{_++_};
 ghost use Prim.Native.Nat.{_+_, _*_, _%_, _<_, _≤_};
-ghost use lib.IntN.{pos, negℤ};
+ghost use lib.IntN.{pos, negℤ, _+ℤ_};
+ghost use lib.ListN.{length, getD, drop};
 ghost use Rattle.protocol.specs.Basic.{Provided};
-ghost use Rattle.protocol.specs.Element.{modulo};
-ghost use Rattle.protocol.specs.Layout.{width};
-ghost use Rattle.residues.specs.Residues.{BothBelow};
+ghost use Rattle.protocol.specs.Element.{width, modulo};
+ghost use Rattle.residues.specs.Lists.{spliced};
+ghost use Rattle.residues.specs.Residues.{BothBelow, Copyable, signed};
 
 // x + y modulo q, of residues.
-pub fn plus(q: u32, x: u32, y: u32) -> u32
+pub fn plus(q: Residue, x: Residue, y: Residue) -> Residue
     ensures { λ r. ⌜ Provided (BothBelow q x y) (r ≡ (x + y) % q) ⌝ }
 {
     let z = std::num::wrapping_sub_u32(q, y);
@@ -24,8 +25,18 @@ pub fn plus(q: u32, x: u32, y: u32) -> u32
     x - z
 }
 
+// x − y modulo q, of residues.
+pub fn minus(q: Residue, x: Residue, y: Residue) -> Residue
+    ensures { λ r. ⌜ Provided (BothBelow q x y) (r ≡ modulo q (pos x +ℤ negℤ (pos y))) ⌝ }
+{
+    if x < y {
+        return std::num::wrapping_add_u32(x, std::num::wrapping_sub_u32(q, y));
+    }
+    x - y
+}
+
 // −y modulo q, of a residue.
-pub fn negated(q: u32, y: u32) -> u32
+pub fn negated(q: Residue, y: Residue) -> Residue
     ensures { λ r. ⌜ Provided (y < q) (r ≡ modulo q (negℤ (pos y))) ⌝ }
 {
     if y == 0 {
@@ -34,9 +45,19 @@ pub fn negated(q: u32, y: u32) -> u32
     std::num::wrapping_sub_u32(q, y)
 }
 
-// An exponent of X on the circle of 2d places.
+// x + y modulo q, or x − y.
+pub fn signed_sum(q: Residue, negative: bool, x: Residue, y: Residue) -> Residue
+    ensures { λ r. ⌜ Provided (BothBelow q x y) (r ≡ modulo q (pos x +ℤ signed negative (pos y))) ⌝ }
+{
+    if negative {
+        return minus(q, x, y);
+    }
+    plus(q, x, y)
+}
+
+// An exponent of X on the circle of 2d places, which is below 2·WIDTH for every d.
 pub fn on_circle(d: usize, e: usize) -> usize
-    ensures { λ r. ⌜ Provided ((0 < d) × (d ≤ width)) (r ≡ e % (2 * d)) ⌝ }
+    ensures { λ r. ⌜ Provided ((0 < d) × (d ≤ width)) (r ≡ e % (2 * d)) × (r < 2 * width) ⌝ }
 {
     if d == 0 {
         return 0;
@@ -44,5 +65,33 @@ pub fn on_circle(d: usize, e: usize) -> usize
     if d > WIDTH {
         return 0;
     }
-    rows::on_circle(d, e)
+    if e < 2 * d {
+        return e;
+    }
+    e % (2 * d)
+}
+
+// The first n numbers of a row, written to a table from a place on. The table stays as it is where they do not stand in the row, or have no room.
+pub fn store(n: usize, row: &[Residue], at: usize, out: &mut [Residue])
+    ensures { λ _. ⌜ Provided (Copyable n (now (row .entry)) at (now (out .entry))) (now (out .exit) ≡ spliced (λ k. getD (now (row .entry)) k 0) at n (now (out .entry))) ⌝ }
+{
+    if row.len() < n {
+        return;
+    }
+    if out.len() < n {
+        return;
+    }
+    if out.len() - n < at {
+        return;
+    }
+    for k in 0..n {
+        out[at + k] = row[k];
+    }
+}
+
+// A table copied to the front of one that is not shorter.
+pub fn copy(table: &[Residue], to: &mut [Residue])
+    ensures { λ _. ⌜ Provided (length (now (table .entry)) ≤ length (now (to .entry))) (now (to .exit) ≡ now (table .entry) ++ drop (length (now (table .entry))) (now (to .entry))) ⌝ }
+{
+    store(table.len(), table, 0, to);
 }

@@ -1,10 +1,10 @@
--- The promises of the session's moves on a record in a slice of 78 numbers. In a promise x is a slice or a number at entry, and x′ the same at exit.
+-- The promises of the session's moves on a record in a slice of `recordWidth` numbers. In a promise x is a slice or a number at entry, and x′ the same at exit.
 --
 --   startNumber, startExit   the start at the commitment in the slice C: its refusal, and the slice for the record at exit. A refused start writes the
 --                            closed record of zeros
 --   StartStored              the promise of the start
 --   moveNumber fits m rec    the refusal of the move m on the record in the slice rec, `fits` saying whether the slices lent beside it have their lengths.
---                            A slice of another length than 78 holds no record, so nothing of it is tested: that is 7 at once
+--                            A slice of another length holds no record, so nothing of it is tested: that is 7 at once
 --   moveExit, moveVerdict    the slice for the record, and the verdict's number, at exit: a refused move writes nothing and says nothing
 --   MoveStored               the promise of a move
 --   roundOn P e rec          the round with the polynomial in the slice P on the record in the slice rec

@@ -1,6 +1,9 @@
--- Session records in slices of 78 numbers: degree, depth, modulus, bound, rounds done, closed, the eight challenges, the 64 places of the claim.
+-- Session records in slices of `recordWidth` numbers: degree, depth, modulus, bound, rounds done, closed, then a challenge for each slot, then the places of
+-- the claim.
 --
---   recordWidth        78
+--   headWidth          6: the numbers before the challenges
+--   claimAt            14: where the claim begins
+--   recordWidth        78: all numbers
 --   sessionOf t        the record that the slice t holds
 --   flagged t          is the number that says whether it is closed 0 or 1; any other is refusal 7
 --   numberOf r k       number k of the record r
@@ -13,18 +16,24 @@ use lib.Dec.{leb, ltb, eqb}
 use lib.ListN.{getD}
 use Rattle.protocol.specs.declared.Session.{Session}
 use Rattle.protocol.specs.Basic.{tabulate, choose}
-use Rattle.protocol.specs.Element.{width}
+use Rattle.protocol.specs.Layout.{width, slots}
 use Rattle.protocol.specs.Settings.{sized}
 use Rattle.slices.specs.Slices.{given}
 
-unfoldable pub recordWidth : ℕ
-recordWidth = 78
+abbrev pub headWidth : ℕ
+headWidth = 6
+
+abbrev pub claimAt : ℕ
+claimAt = headWidth + slots
+
+abbrev pub recordWidth : ℕ
+recordWidth = claimAt + width
 
 unfoldable pub challengesOf : List ℕ → List ℕ
-challengesOf t = tabulate 8 (λ k. getD t (6 + k) 0)
+challengesOf t = tabulate slots (λ k. getD t (headWidth + k) 0)
 
 unfoldable pub claimOf : List ℕ → List ℕ
-claimOf t = tabulate width (λ k. getD t (14 + k) 0)
+claimOf t = tabulate width (λ k. getD t (claimAt + k) 0)
 
 unfoldable pub sessionOf : List ℕ → Session
 sessionOf t = record {
@@ -45,7 +54,7 @@ headOf r k =
     choose (eqb k 0) (S .degree) (choose (eqb k 1) (S .depth) (choose (eqb k 2) (S .modulus) (choose (eqb k 3) (S .bound) (choose (eqb k 4) (r .done) (choose (r .closed) 1 0)))))
 
 unfoldable pub numberOf : Session → ℕ → ℕ
-numberOf r k = choose (ltb k 6) (headOf r k) (choose (ltb k 14) (getD (r .challenges) (k - 6) 0) (getD (r .claim) (k - 14) 0))
+numberOf r k = choose (ltb k headWidth) (headOf r k) (choose (ltb k claimAt) (getD (r .challenges) (k - headWidth) 0) (getD (r .claim) (k - claimAt) 0))
 
 unfoldable pub numbersOf : Session → List ℕ
 numbersOf r = tabulate recordWidth (numberOf r)

@@ -1,19 +1,21 @@
-// The verifier's session on a record that stands in a lent slice of 78 numbers. A refused move writes nothing to it; a refused start writes the closed
+// The verifier's session on a record that stands in a lent slice of RECORD numbers. A refused move writes nothing to it; a refused start writes the closed
 // record of zeros.
 mod records;
 
+use crate::records::RECORD;
 use protocol::Moved;
+use protocol::Residue;
 use protocol::Settings;
 use verifier::Verifier;
 ghost use Rattle.sessions.specs.Promises.{StartStored, MoveStored, Answered, polynomialFits, lastFits, roundOn, endOn};
 
 // A session starts at the commitment in a slice.
-pub fn start(settings: Settings, commitment: &[u32], session: &mut [u32]) -> u32
+pub fn start(settings: Settings, commitment: &[Residue], session: &mut [u32]) -> u32
     ensures { λ r. ⌜ StartStored settings (now (commitment .entry)) (now (session .entry)) r (now (session .exit)) ⌝ }
 {
     let none = records::blank();
     let d = settings.degree;
-    let fits = slices::both(commitment.len() == d as usize, session.len() == 78);
+    let fits = slices::both(commitment.len() == d as usize, session.len() == RECORD);
     let refusal = slices::refusal(settings, fits);
     if refusal != 0 {
         records::store(none, session);
@@ -43,11 +45,11 @@ fn answer(moved: Moved, session: &mut [u32], verdict: &mut u32) -> u32
 }
 
 // A round, with the polynomial in a slice and the challenge X^e.
-pub fn round(polynomial: &[u32], e: u32, session: &mut [u32], verdict: &mut u32) -> u32
+pub fn round(polynomial: &[Residue], e: u32, session: &mut [u32], verdict: &mut u32) -> u32
     ensures { λ r. ⌜ MoveStored (polynomialFits (now (polynomial .entry)) (now (session .entry))) (roundOn (now (polynomial .entry)) e (now (session .entry))) (now (session .entry)) r (now (session .exit)) (now (verdict .exit)) ⌝ }
 {
     *verdict = 0;
-    if session.len() != 78 {
+    if session.len() != RECORD {
         return 7;
     }
     let before = records::load(session);
@@ -65,11 +67,11 @@ pub fn round(polynomial: &[u32], e: u32, session: &mut [u32], verdict: &mut u32)
 }
 
 // The end, with the final element in a slice and the unfolded key.
-pub fn end(last: &[i32], key: &[u32], session: &mut [u32], verdict: &mut u32) -> u32
+pub fn end(last: &[i32], key: &[Residue], session: &mut [u32], verdict: &mut u32) -> u32
     ensures { λ r. ⌜ MoveStored (lastFits (now (last .entry)) (now (session .entry))) (endOn (now (last .entry)) (now (key .entry)) (now (session .entry))) (now (session .entry)) r (now (session .exit)) (now (verdict .exit)) ⌝ }
 {
     *verdict = 0;
-    if session.len() != 78 {
+    if session.len() != RECORD {
         return 7;
     }
     let before = records::load(session);

@@ -1,11 +1,20 @@
-// Session records in slices of 78 numbers: degree, depth, modulus, bound, rounds done, closed, the eight challenges, the 64 places of the claim.
+// Session records in slices of RECORD numbers: degree, depth, modulus, bound, rounds done, closed, then the challenges, then the places of the claim.
+use protocol::SLOTS;
 use protocol::Session;
 use protocol::Settings;
+use protocol::WIDTH;
 ghost use mathlib.Core.Path.{_≡_};
 ghost use Prim.Native.Nat.{_<_};
 ghost use lib.ListN.{length};
 ghost use Rattle.protocol.specs.Session as moves;
-ghost use Rattle.sessions.specs.Records.{challengesOf, sessionOf, headOf, numberOf, recordStored};
+ghost use Rattle.sessions.specs.Records.{recordWidth, challengesOf, sessionOf, headOf, numberOf, recordStored};
+
+// The numbers before the challenges, where the claim begins, and all numbers: `headWidth`, `claimAt` and `recordWidth` of the definitions.
+const HEAD: usize = 6;
+
+const CLAIM_AT: usize = HEAD + SLOTS;
+
+pub const RECORD: usize = CLAIM_AT + WIDTH;
 
 // The closed record of zeros.
 pub fn blank() -> Session
@@ -20,20 +29,20 @@ pub fn blank() -> Session
     Session {
         settings: settings,
         done: 0,
-        claim: [0u32; 64],
-        challenges: [0u32; 8],
+        claim: [0; WIDTH],
+        challenges: [0u32; SLOTS],
         closed: true,
     }
 }
 
-fn challenges(t: &[u32]) -> [u32; 8]
-    requires { ⌜ length (now t) ≡ 78 ⌝ }
+fn challenges(t: &[u32]) -> [u32; SLOTS]
+    requires { ⌜ length (now t) ≡ recordWidth ⌝ }
     ensures { λ r. ⌜ r ≡ challengesOf (now (t .entry)) ⌝ }
 {
-    let mut e = [0u32; 8];
+    let mut e = [0u32; SLOTS];
     let mut k: usize = 0;
-    while k < 8 {
-        e[k] = t[6 + k];
+    while k < SLOTS {
+        e[k] = t[HEAD + k];
         k += 1;
     }
     e
@@ -41,7 +50,7 @@ fn challenges(t: &[u32]) -> [u32; 8]
 
 // The record that a slice holds.
 pub fn load(t: &[u32]) -> Session
-    requires { ⌜ length (now t) ≡ 78 ⌝ }
+    requires { ⌜ length (now t) ≡ recordWidth ⌝ }
     ensures { λ r. ⌜ r ≡ sessionOf (now (t .entry)) ⌝ }
 {
     let s = Settings {
@@ -50,7 +59,7 @@ pub fn load(t: &[u32]) -> Session
         modulus: t[2],
         bound: t[3],
     };
-    let claim = slices::residues(64, &t[14..]);
+    let claim = slices::residues(64, &t[CLAIM_AT..]);
     let e = challenges(t);
     Session {
         settings: s,
@@ -77,27 +86,27 @@ fn head(r: Session, k: usize) -> u32
 }
 
 fn number(r: Session, k: usize) -> u32
-    requires { ⌜ k < 78 ⌝ }
+    requires { ⌜ k < recordWidth ⌝ }
     ensures { λ x. ⌜ x ≡ numberOf r k ⌝ }
 {
-    if k < 6 {
+    if k < HEAD {
         return head(r, k);
     }
-    if k < 14 {
-        return r.challenges[k - 6];
+    if k < CLAIM_AT {
+        return r.challenges[k - HEAD];
     }
-    r.claim[k - 14]
+    r.claim[k - CLAIM_AT]
 }
 
-// Writes a record to a slice of 78 numbers; any other stays as it is.
+// Writes a record to a slice of RECORD numbers; any other stays as it is.
 pub fn store(r: Session, t: &mut [u32])
     ensures { λ _. ⌜ now (t .exit) ≡ recordStored r (now (t .entry)) ⌝ }
 {
-    if t.len() != 78 {
+    if t.len() != RECORD {
         return;
     }
     let mut k: usize = 0;
-    while k < 78 {
+    while k < RECORD {
         t[k] = number(r, k);
         k += 1;
     }

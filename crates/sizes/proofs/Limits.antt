@@ -6,18 +6,20 @@ use native.Mathlib.Omega.{arith}
 use lib.Pow as Pow
 use Rattle.protocol.specs.declared.Settings.{Settings}
 use Rattle.protocol.specs.Settings.{size, cells}
+use Rattle.protocol.specs.Layout.{width}
+use Rattle.sizes.specs.Most.{elementsMost, cellsMost}
 use Rattle.protocol.specs.Inputs.{Valid}
 
 module _ (S : Settings) (ok : Valid S) where
   pub degree-least : 2 ≤ S .degree
   degree-least = subst (λ n. 2 ≤ n) (sym (ok .degree-is)) (Pow.pow-mono {i = 1} (ok .log-least))
 
-  pub degree-most : S .degree ≤ 64
-  degree-most = subst (λ n. n ≤ 64) (sym (ok .degree-is)) (Pow.pow-mono {j = 6} (ok .log-most))
+  pub degree-most : S .degree ≤ width
+  degree-most = subst (λ n. n ≤ width) (sym (ok .degree-is)) (Pow.pow-mono {j = 6} (ok .log-most))
 
-  pub cells-most : cells S ≤ 16384
+  pub cells-most : cells S ≤ cellsMost
   unfolding cells size
-  cells-most = Nat.mul-le-mul {n₂ = 256} {m₂ = 64} (Pow.pow-mono {j = 8} (ok .depth-most)) degree-most
+  cells-most = Nat.mul-le-mul {n₂ = elementsMost} {m₂ = width} (Pow.pow-mono {j = 8} (ok .depth-most)) degree-most
 
   -- a table has a first element
   pub degree-inside : S .degree ≤ cells S

@@ -1,21 +1,34 @@
 // The layout in code: how many elements, numbers, challenges and nodes there are, how many of them are left after t rounds, and how large numbers become.
 // Each function is safe for every input, and says what it gives for settings that are allowed.
 use protocol::Settings;
+use protocol::WIDTH;
+use ranges::tests::BOUND_MOST;
+use ranges::tests::DEPTH_MOST;
 ghost use mathlib.Core.Path.{_≡_};
 ghost use Prim.Native.Nat.{_*_, _^_, _<_, _≤_};
 ghost use Rattle.protocol.specs.Basic.{Provided};
 ghost use Rattle.protocol.specs.Layout as layout;
-ghost use Rattle.protocol.specs.Layout.{leftCells, halfLeft, roundCells, itemOf, polynomialAt, treeChallenges, treeRoundCells, leafCells, exponentCount};
+ghost use Rattle.protocol.specs.Layout.{width, leftCells, halfLeft, roundCells, itemOf, polynomialAt, treeChallenges, treeRoundCells, leafCells, exponentCount};
 ghost use Rattle.protocol.specs.Settings.{settingsRefusal};
 ghost use Rattle.protocol.specs.Tree.{growthLimit};
 ghost use Rattle.protocol.specs.GrowthTest.{cappedTimes, cappedGrowth};
+ghost use Rattle.sizes.specs.Most.{leavesMost, nodesMost, treeChallengesMost, polynomialAtMost};
 ghost use Rattle.sizes.specs.Rounds.{RoundsDone, RoundLeft};
+
+// The most branching nodes of a tree: `nodesMost` of the definitions.
+const NODES_MOST: u32 = 3280;
+
+// 2^62: `growthLimit` of the definitions.
+pub const GROWTH_LIMIT: u64 = 4611686018427387904;
+
+// Where a growth past the limit is held.
+const BEYOND: u64 = GROWTH_LIMIT + 1;
 
 // The elements that are left, n/2^t, and those of a half of them.
 pub fn left(settings: Settings, t: u32) -> u32
     ensures { λ r. ⌜ Provided (RoundsDone settings t) (r ≡ layout.left settings t) ⌝ }
 {
-    if settings.depth > 8 {
+    if settings.depth > DEPTH_MOST {
         return 0;
     }
     if t > settings.depth {
@@ -51,10 +64,10 @@ pub fn left_cells(settings: Settings, t: u32) -> usize
 pub fn left_bound(settings: Settings, t: u32) -> u32
     ensures { λ r. ⌜ Provided (RoundsDone settings t) (r ≡ 2 ^ t * settings .bound) ⌝ }
 {
-    if settings.bound > 127 {
+    if settings.bound > BOUND_MOST {
         return 0;
     }
-    if t > 8 {
+    if t > DEPTH_MOST {
         return 0;
     }
     (1u32 << t) * settings.bound
@@ -62,10 +75,10 @@ pub fn left_bound(settings: Settings, t: u32) -> u32
 
 // The leaves of a full tree, 3^L, and its branching nodes.
 pub fn leaves(settings: Settings) -> usize
-    ensures { λ r. ⌜ (Provided (settingsRefusal settings ≡ 0) (r ≡ layout.leaves settings) × (1 ≤ r) × (r ≤ 6561)) ⌝ }
+    ensures { λ r. ⌜ (Provided (settingsRefusal settings ≡ 0) (r ≡ layout.leaves settings) × (1 ≤ r) × (r ≤ leavesMost)) ⌝ }
 {
     let depth = settings.depth;
-    if depth > 8 {
+    if depth > DEPTH_MOST {
         return 1;
     }
     let mut power: usize = 1;
@@ -76,7 +89,7 @@ pub fn leaves(settings: Settings) -> usize
 }
 
 pub fn nodes(settings: Settings) -> usize
-    ensures { λ r. ⌜ (Provided (settingsRefusal settings ≡ 0) (r ≡ layout.nodes settings) × (r ≤ 3280)) ⌝ }
+    ensures { λ r. ⌜ (Provided (settingsRefusal settings ≡ 0) (r ≡ layout.nodes settings) × (r ≤ nodesMost)) ⌝ }
 {
     (leaves(settings) - 1) / 2
 }
@@ -85,7 +98,7 @@ pub fn nodes(settings: Settings) -> usize
 pub fn exponent_count(settings: Settings) -> u32
     ensures { λ r. ⌜ Provided (settingsRefusal settings ≡ 0) (r ≡ exponentCount settings) ⌝ }
 {
-    if settings.degree > 64 {
+    if (settings.degree as usize) > WIDTH {
         return 0;
     }
     2 * settings.degree
@@ -95,17 +108,17 @@ pub fn exponent_count(settings: Settings) -> u32
 pub fn round_cells(settings: Settings) -> usize
     ensures { λ r. ⌜ Provided (settingsRefusal settings ≡ 0) (r ≡ roundCells settings) ⌝ }
 {
-    if settings.depth > 8 {
+    if settings.depth > DEPTH_MOST {
         return 0;
     }
     3 * (settings.depth as usize) * (settings.degree as usize)
 }
 
-// The item of c_j of round k + 1 or of node k, and of challenge j of node k. No tree has more than 3,280 branching nodes.
+// The item of c_j of round k + 1 or of node k, and of challenge j of node k. No tree has more than `nodesMost` branching nodes.
 pub fn item_of(k: u32, j: u32) -> u32
-    ensures { λ r. ⌜ Provided (k ≤ 3280) (Provided (j < 3) (r ≡ itemOf k j)) ⌝ }
+    ensures { λ r. ⌜ Provided (k ≤ nodesMost) (Provided (j < 3) (r ≡ itemOf k j)) ⌝ }
 {
-    if k > 3280 {
+    if k > NODES_MOST {
         return 0;
     }
     if j > 2 {
@@ -116,20 +129,21 @@ pub fn item_of(k: u32, j: u32) -> u32
 
 // Where the polynomial of round k + 1, or of node k, begins.
 pub fn polynomial_at(d: u32, k: u32) -> usize
-    ensures { λ r. ⌜ (Provided (d ≤ 64) (Provided (k ≤ 3280) (r ≡ polynomialAt d k)) × (r ≤ 629760)) ⌝ }
+    ensures { λ r. ⌜ (Provided (d ≤ width) (Provided (k ≤ nodesMost) (r ≡ polynomialAt d k)) × (r ≤ polynomialAtMost)) ⌝ }
 {
-    if d > 64 {
+    let n = d as usize;
+    if n > WIDTH {
         return 0;
     }
-    if k > 3280 {
+    if k > NODES_MOST {
         return 0;
     }
-    3 * (k as usize) * (d as usize)
+    3 * (k as usize) * n
 }
 
 // The challenges of a tree, three to a branching node, and the numbers of its round polynomials and of its leaves.
 pub fn tree_challenges(settings: Settings) -> usize
-    ensures { λ r. ⌜ (Provided (settingsRefusal settings ≡ 0) (r ≡ treeChallenges settings) × (r ≤ 9840)) ⌝ }
+    ensures { λ r. ⌜ (Provided (settingsRefusal settings ≡ 0) (r ≡ treeChallenges settings) × (r ≤ treeChallengesMost)) ⌝ }
 {
     3 * nodes(settings)
 }
@@ -151,8 +165,8 @@ fn capped_times(factor: u64, g: u64) -> u64
     requires { ⌜ 0 < factor ⌝ }
     ensures { λ r. ⌜ r ≡ cappedTimes growthLimit factor g ⌝ }
 {
-    if g > 4611686018427387904 / factor {
-        return 4611686018427387905;
+    if g > GROWTH_LIMIT / factor {
+        return BEYOND;
     }
     g * factor
 }
@@ -165,7 +179,7 @@ pub fn growth(settings: Settings) -> u64
     if d == 0 {
         return 0;
     }
-    if d > 64 {
+    if (d as usize) > WIDTH {
         return 0;
     }
     let factor = 12 * d * d;

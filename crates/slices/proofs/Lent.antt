@@ -7,6 +7,7 @@ use Prim.Native.Nat.{ℕ, zero, suc, _≤_}
 use Rattle.protocol.specs.declared.Settings.{Settings}
 use Rattle.protocol.specs.Basic.{first, unless, granted}
 use Rattle.protocol.specs.Settings.{settingsRefusal}
+use Rattle.protocol.specs.Layout.{width}
 use Rattle.protocol.specs.Inputs.{Valid}
 use Rattle.protocol.proofs.Tests.{first-zero, unless-zero, granted-zero, granted-refused}
 use Rattle.protocol.proofs.Refusals.{first-passes, first-only}
@@ -63,7 +64,7 @@ pub lent-valid : (S : Settings) (fits : Bool) → lent S fits 0 ≡ 0 → Valid 
 unfolding lent
 lent-valid S fits h = settings-valid S (first-zero _ _ h .0)
 
-pub lent-degree : (S : Settings) (fits : Bool) → lent S fits 0 ≡ 0 → S .degree ≤ 64
+pub lent-degree : (S : Settings) (fits : Bool) → lent S fits 0 ≡ 0 → S .degree ≤ width
 lent-degree S fits h = degree-most S (lent-valid S fits h)
 
 -- what is granted where the slices are refused, where the call is, and where nothing is

@@ -1,16 +1,18 @@
 // Elements and round polynomials in slices of exactly their lengths, and verdicts as numbers: what the calls for C and Rust share. Each function is safe for
-// every input, and says what it gives for a degree of at most 64 and slices that have their lengths.
+// every input, and says what it gives for a degree of at most `width` and slices that have their lengths.
+use protocol::Residue;
 use protocol::Settings;
 use protocol::Verdict;
+use protocol::WIDTH;
 use ranges::tests;
 use residues::elements;
 ghost use mathlib.Core.Path.{_≡_};
 ghost use mathlib.Core.Bool.{_&&_};
 ghost use Prim.Native.Nat.{_+_, _*_, _≤_};
 ghost use lib.ListN.{length, getD, take};
-ghost use Rattle.residues.specs.Lists.{spliced};
 ghost use Rattle.protocol.specs.Basic.{Provided};
-ghost use Rattle.protocol.specs.Element.{padded, paddedSigned};
+ghost use Rattle.protocol.specs.Element.{width, padded, paddedSigned};
+ghost use Rattle.residues.specs.Lists.{spliced};
 ghost use Rattle.slices.specs.Slices.{lent, polynomialOf, laid};
 ghost use Rattle.protocol.specs.Session.{verdictNumber};
 
@@ -18,14 +20,7 @@ ghost use Rattle.protocol.specs.Session.{verdictNumber};
 pub fn refusal(settings: Settings, fits: bool) -> u32
     ensures { λ r. ⌜ r ≡ lent settings fits 0 ⌝ }
 {
-    let number = tests::settings_refusal(settings);
-    if number != 0 {
-        return number;
-    }
-    if !fits {
-        return 7;
-    }
-    0
+    tests::refuse(tests::settings_refusal(settings), 7, fits)
 }
 
 // Do two tests pass.
@@ -39,22 +34,22 @@ pub fn both(first: bool, second: bool) -> bool
 }
 
 // An element of residues.
-pub fn residues(d: u32, t: &[u32]) -> [u32; 64]
-    ensures { λ r. ⌜ Provided (d ≤ 64) (Provided (length (now (t .entry)) ≡ d) (r ≡ padded d (now (t .entry)))) ⌝ }
+pub fn residues(d: u32, t: &[Residue]) -> [Residue; WIDTH]
+    ensures { λ r. ⌜ Provided (d ≤ width) (Provided (length (now (t .entry)) ≡ d) (r ≡ padded d (now (t .entry)))) ⌝ }
 {
     elements::element_at(d, t, 0)
 }
 
 // An element of whole numbers.
-pub fn wholes(d: u32, t: &[i32]) -> [i32; 64]
-    ensures { λ r. ⌜ Provided (d ≤ 64) (Provided (length (now (t .entry)) ≡ d) (r ≡ paddedSigned d (now (t .entry)))) ⌝ }
+pub fn wholes(d: u32, t: &[i32]) -> [i32; WIDTH]
+    ensures { λ r. ⌜ Provided (d ≤ width) (Provided (length (now (t .entry)) ≡ d) (r ≡ paddedSigned d (now (t .entry)))) ⌝ }
 {
     elements::signed_element_at(d, t, 0)
 }
 
 // A round polynomial.
-pub fn polynomial(d: u32, t: &[u32]) -> [[u32; 64]; 3]
-    ensures { λ r. ⌜ Provided (d ≤ 64) (r ≡ polynomialOf d (now (t .entry))) ⌝ }
+pub fn polynomial(d: u32, t: &[Residue]) -> [[Residue; WIDTH]; 3]
+    ensures { λ r. ⌜ Provided (d ≤ width) (r ≡ polynomialOf d (now (t .entry))) ⌝ }
 {
     let c0 = elements::element_at(d, t, 0);
     let c1 = elements::element_at(d, t, 1);
@@ -63,59 +58,30 @@ pub fn polynomial(d: u32, t: &[u32]) -> [[u32; 64]; 3]
 }
 
 // Writes the first n places of an element to a slice from place `at` on.
-fn store_at(n: usize, a: [u32; 64], at: usize, out: &mut [u32])
-    requires { ⌜ (n ≤ 64) × (at + n ≤ length (now out)) ⌝ }
-    ensures { λ _. ⌜ now (out .exit) ≡ spliced (λ k. getD a k 0) at n (now (out .entry)) ⌝ }
+fn store_at(n: usize, a: [Residue; WIDTH], at: usize, out: &mut [Residue])
+    ensures { λ _. ⌜ Provided ((n ≤ width) × (at + n ≤ length (now (out .entry)))) (now (out .exit) ≡ spliced (λ k. getD a k 0) at n (now (out .entry))) ⌝ }
 {
-    let mut k: usize = 0;
-    while k < n {
-        out[at + k] = a[k];
-        k += 1;
-    }
+    residues::store(n, &a, at, out);
 }
 
 // Writes the first d places of an element to a slice of d numbers.
-pub fn store_residues(d: u32, a: [u32; 64], out: &mut [u32])
-    ensures { λ _. ⌜ Provided (d ≤ 64) (Provided (length (now (out .entry)) ≡ d) (now (out .exit) ≡ take d a)) ⌝ }
+pub fn store_residues(d: u32, a: [Residue; WIDTH], out: &mut [Residue])
+    ensures { λ _. ⌜ Provided (d ≤ width) (Provided (length (now (out .entry)) ≡ d) (now (out .exit) ≡ take d a)) ⌝ }
 {
-    let n = d as usize;
-    if n > 64 {
-        return;
-    }
-    if out.len() != n {
-        return;
-    }
-    store_at(n, a, 0, out);
+    store_at(d as usize, a, 0, out);
 }
 
-pub fn store_wholes(d: u32, a: [i32; 64], out: &mut [i32])
-    ensures { λ _. ⌜ Provided (d ≤ 64) (Provided (length (now (out .entry)) ≡ d) (now (out .exit) ≡ take d a)) ⌝ }
+pub fn store_wholes(d: u32, a: [i32; WIDTH], out: &mut [i32])
+    ensures { λ _. ⌜ Provided (d ≤ width) (Provided (length (now (out .entry)) ≡ d) (now (out .exit) ≡ take d a)) ⌝ }
 {
-    let n = d as usize;
-    if n > 64 {
-        return;
-    }
-    if out.len() != n {
-        return;
-    }
-    let mut k: usize = 0;
-    while k < n {
-        out[k] = a[k];
-        k += 1;
-    }
+    elements::store_signed(d as usize, &a, out);
 }
 
 // Writes the three elements of a round polynomial one after the other to a slice of 3·d numbers.
-pub fn store_polynomial(d: u32, p: [[u32; 64]; 3], out: &mut [u32])
-    ensures { λ _. ⌜ Provided (d ≤ 64) (Provided (length (now (out .entry)) ≡ 3 * d) (now (out .exit) ≡ laid d p)) ⌝ }
+pub fn store_polynomial(d: u32, p: [[Residue; WIDTH]; 3], out: &mut [Residue])
+    ensures { λ _. ⌜ Provided (d ≤ width) (Provided (length (now (out .entry)) ≡ 3 * d) (now (out .exit) ≡ laid d p)) ⌝ }
 {
     let n = d as usize;
-    if n > 64 {
-        return;
-    }
-    if out.len() != 3 * n {
-        return;
-    }
     store_at(n, p[0], 0, out);
     store_at(n, p[1], n, out);
     store_at(n, p[2], 2 * n, out);

@@ -17,7 +17,7 @@ use Rattle.protocol.specs.Transcript.{roundHolds, nextClaim, finalBounded}
 use Rattle.protocol.specs.Tree.{challenge, nodes, leaves, leaf}
 use Rattle.protocol.proofs.Inputs.{settings-valid}
 use Rattle.protocol.proofs.Reading.{tabulate-at}
-use Rattle.residues.specs.Elements.{valueAt}
+use Rattle.rotations.specs.Values.{valueAt}
 use Rattle.residues.specs.Lists.{spliced}
 use Rattle.residues.specs.Residues.{Residues}
 use Rattle.residues.proofs.Parts.{tail-all, tail-at}

@@ -10,7 +10,7 @@ use lib.Seq.{length-take-le, drop-at}
 use Rattle.protocol.specs.declared.Settings.{Settings}
 use Rattle.protocol.specs.Opening.{foldResidues, foldKey}
 use Rattle.protocol.specs.Tree.{child, challenge}
-use Rattle.residues.specs.Folds.{foldDown}
+use Rattle.folds.specs.Folds.{foldDown}
 use Rattle.residues.proofs.Parts.{tail-all}
 use Rattle.protocol.specs.TreeCheck.{claimTo, nodeHolds, leafAccepted, treeAccepted}
 use Rattle.protocol.proofs.Agreement.{Alike}

@@ -14,7 +14,7 @@ use Rattle.protocol.proofs.Inputs.{settings-valid}
 use Rattle.protocol.proofs.Modulo.{modulo-lt}
 use Rattle.protocol.proofs.Reading.{tabulate-at, flat-length}
 use Rattle.sizes.proofs.Limits.{degree-least, degree-most}
-use Rattle.residues.specs.Folds.{folded, Foldable, foldDown}
+use Rattle.folds.specs.Folds.{folded, Foldable, foldDown}
 use Rattle.protocol.proofs.Agreement.{Alike}
 use Rattle.protocol.proofs.Paths.{halfLeft-height}
 use Rattle.protocol.proofs.Places.{twice-cells}

@@ -2,7 +2,6 @@
 // All of them share one workspace: a node's key stands in the second half of its part, and its children work in the first half.
 use protocol::Settings;
 use residues::elements;
-use residues::tables;
 ghost use mathlib.Core.Path.{_≡_};
 ghost use Prim.Native.Nat.{_+_, _*_, _-_, _^_, _<_, _≤_};
 ghost use lib.ListN.{length, drop};
@@ -10,7 +9,7 @@ ghost use Rattle.protocol.specs.Basic.{Provided};
 ghost use Rattle.protocol.specs.Settings.{settingsRefusal, cells};
 ghost use Rattle.protocol.specs.Tree as tree;
 ghost use Rattle.protocol.specs.Calls.{everyPath};
-ghost use Rattle.residues.specs.Folds.{foldDown};
+ghost use Rattle.folds.specs.Folds.{foldDown};
 ghost use Rattle.protocol.specs.TreeCheck.{claimTo, nodeHolds, treeAccepted};
 ghost use Rattle.protocol.specs.Nodes.{AtNode, Alike};
 ghost use Rattle.trees.specs.Nodes.{Folding, Tables, Round, Reduced, Read, TreeGiven, leafMet, childAccepted};
@@ -51,7 +50,7 @@ fn claim_to(
     let at = 3 * (k as usize) * d;
     let second = at + d;
     let third = at + 2 * d;
-    elements::value(
+    rotations::value(
         settings.modulus,
         settings.degree,
         e,
@@ -79,7 +78,7 @@ fn fold_key(settings: Settings, h: u32, e: u32, ws: &mut [u32])
     let d = settings.degree;
     let n = sizes::half_left(settings, settings.depth - h);
     let to = n * d;
-    tables::fold_down(settings.modulus, d, n, e, 2 * to, to, ws);
+    folds::fold_down(settings.modulus, d, n, e, 2 * to, to, ws);
 }
 
 // Is every path accepted that goes from node k, h steps above the leaves, to its child j. The node's key stays.
@@ -168,7 +167,7 @@ pub(crate) fn root_accepted(
     let all = 2 * n;
     let first = sizes::nodes(settings) as u32;
     let mut ws = room();
-    tables::copy(key, &mut ws[n..]);
+    residues::copy(key, &mut ws[n..]);
     subtree_accepted(
         settings,
         settings.depth,

@@ -7,7 +7,7 @@ use native.Mathlib.Omega.{arith}
 use Rattle.protocol.specs.Element.{residue, reduced}
 use Rattle.protocol.specs.Transcript.{nextClaim}
 use Rattle.residues.specs.Residues.{Residues}
-use Rattle.residues.specs.Elements.{valueAt}
+use Rattle.rotations.specs.Values.{valueAt}
 use Rattle.residues.proofs.Splice.{spliced-element}
 use Rattle.equations.proofs.Ready.{ready}
 use borrow.Author.Needs.{needs}

@@ -4,7 +4,7 @@ use native.Mathlib.Omega.{arith}
 use Rattle.protocol.specs.Opening.{halfLeft, foldSigned, foldResidues}
 use Rattle.protocol.specs.Calls.{foldRefusal}
 use Rattle.sizes.proofs.Limits.{degree-least, degree-most}
-use Rattle.residues.specs.Folds.{Foldable}
+use Rattle.folds.specs.Folds.{Foldable}
 use Rattle.refusals.proofs.Given.{FoldGiven, fold-given}
 use Rattle.prover.proofs.Halves.{halves-inside, half-most, left-room}
 use Rattle.prover.proofs.Answers.{fold-refused, fold-done}

@@ -11,13 +11,10 @@ use Rattle.residues.proofs.negated.Tie as tie
 returns : tie.Need-returns
 returns c = λ h. let a = c .before .args in negative-none (a .q) (omega arith) ∙ ap (λ y. modulo (a .q) (negℤ (pos y))) (sym (c .if1 .taken))
 
-wrapping-sub-u32-requires : tie.Need-wrapping-sub-u32-requires
-wrapping-sub-u32-requires c κs = search needs
-
 returns-2 : tie.Need-returns-2
 returns-2 c = λ h. let a = c .before .before .args in
     let is : c .wrapping-sub-u32 .result ≡ a .q - a .y = omega (arith, c .wrapping-sub-u32 .ensures) in
     is ∙ negative-residue (a .q) (omega arith) (a .y) (omega arith) h
 
 pub negated-spec : {M : Type 1} → statement M
-negated-spec = tie.close (tie.spec returns wrapping-sub-u32-requires returns-2)
+negated-spec = tie.close (tie.spec returns (λ c κs. search needs) returns-2)

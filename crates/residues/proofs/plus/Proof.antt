@@ -6,12 +6,6 @@ use borrow.Author.Needs.{needs}
 use Rattle.residues.proofs.plus.Statement.{statement}
 use Rattle.residues.proofs.plus.Tie as tie
 
-wrapping-sub-u32-requires : tie.Need-wrapping-sub-u32-requires
-wrapping-sub-u32-requires c κs = search needs
-
-wrapping-add-u32-requires : tie.Need-wrapping-add-u32-requires
-wrapping-add-u32-requires c κs = search needs
-
 returns : tie.Need-returns
 returns c = λ h.
     let a = c .before .before .before .args in
@@ -26,4 +20,4 @@ returns-2 c = λ h.
     is ∙ sym (mod-eq-sub-mod (omega (arith, z .ensures)) ∙ mod-eq-of-lt (omega arith))
 
 pub plus-spec : {M : Type 1} → statement M
-plus-spec = tie.close (tie.spec wrapping-sub-u32-requires wrapping-add-u32-requires returns returns-2)
+plus-spec = tie.close (tie.spec (λ c κs. search needs) (λ c κs. search needs) returns returns-2)

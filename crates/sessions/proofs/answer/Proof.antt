@@ -6,15 +6,6 @@ use Rattle.sessions.proofs.answer.Tie as tie
 returns : tie.Need-returns
 returns c = let a = c .before .before .before .args in answer-refused (a .moved) (a .session .now) (c .if1 .taken)
 
-verdict-number-requires : tie.Need-verdict-number-requires
-verdict-number-requires c κs = search needs
-
-store-requires : tie.Need-store-requires
-store-requires c κs = search needs
-
-same-length : tie.Need-same-length
-same-length c = search needs
-
 returns-2 : tie.Need-returns-2
 returns-2 c =
     let at-store = c .before .before in
@@ -25,4 +16,4 @@ returns-2 c =
 
 pub answer-spec : {M : Type 1} → statement M
 answer-spec =
-    tie.close (tie.spec returns verdict-number-requires store-requires same-length returns-2)
+    tie.close (tie.spec returns (λ c κs. search needs) (λ c κs. search needs) (λ c. search needs) returns-2)

@@ -11,9 +11,6 @@ use Rattle.protocol.specs.GrowthTest.{cappedTimes}
 use Rattle.sizes.proofs.capped_times.Statement.{statement}
 use Rattle.sizes.proofs.capped_times.Tie as tie
 
-div-if1 : tie.Need-div-if1
-div-if1 c = search needs
-
 returns : tie.Need-returns
 unfolding cappedTimes growthLimit choose
 returns c = let a = c .before .args in sym (ap (λ b. choose b (a .g * a .factor) 4611686018427387905) (lt-leb (a .g) (4611686018427387904 / a .factor) (c .if1 .taken)))
@@ -29,4 +26,4 @@ unfolding cappedTimes growthLimit choose
 returns-2 c = let a = c .before .args in sym (ap (λ b. choose b (a .g * a .factor) 4611686018427387905) (le-leb (a .g) (4611686018427387904 / a .factor) (c .if1 .left)))
 
 pub capped-times-spec : {M : Type 1} → statement M
-capped-times-spec = tie.close (tie.spec div-if1 returns mul-result returns-2)
+capped-times-spec = tie.close (tie.spec (λ c. search needs) returns mul-result returns-2)

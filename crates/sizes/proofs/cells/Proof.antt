@@ -8,12 +8,9 @@ use Rattle.protocol.specs.Opening.{left}
 use Rattle.sizes.proofs.cells.Statement.{statement}
 use Rattle.sizes.proofs.cells.Tie as tie
 
-left-cells-requires : tie.Need-left-cells-requires
-left-cells-requires c κs = search needs
-
 returns : tie.Need-returns
 unfolding cells left
 returns c = λ e. let S = c .before .args .settings in c .left-cells .ensures (record { allowed = e; most = omega arith }) ∙ ap (λ n. n * S .degree) (Nat.div-one (size S))
 
 pub cells-spec : {M : Type 1} → statement M
-cells-spec = tie.close (tie.spec left-cells-requires returns)
+cells-spec = tie.close (tie.spec (λ c κs. search needs) returns)

@@ -9,4 +9,4 @@ returns : tie.Need-returns
 returns c e = absurd (omega (arith, degree-most _ (settings-valid _ e), c .if1 .taken))
 
 pub exponent-count-spec : {M : Type 1} → statement M
-exponent-count-spec = tie.close (tie.spec returns (λ c. search needs) (λ c. search needs))
+exponent-count-spec = tie.close (tie.spec (λ c. search needs) returns (λ c. search needs) (λ c. search needs))

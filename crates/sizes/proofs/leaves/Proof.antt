@@ -31,12 +31,6 @@ loop-holds c = (omega arith, refl)
 mul-power : tie.Need-mul-power Inv-loop μ-loop
 mul-power c = let l = c .before .loop in record { fits = omega (arith, l .inv .1, power-most (l .i) 8 (omega arith) (omega arith) .1) }
 
-add-i : tie.Need-add-i Inv-loop μ-loop
-add-i c = search needs
-
-loop-less : tie.Need-loop-less Inv-loop μ-loop
-loop-less c = search needs
-
 loop-again : tie.Need-loop-again Inv-loop μ-loop
 loop-again c = let l = c .before .loop in (omega arith, ap (λ p. 3 * p) (l .inv .1) ∙ power-next (l .i))
 
@@ -48,4 +42,4 @@ returns-2 c =
     (λ e. l .inv .1 ∙ ap (λ n. 3 ^ n) done, omega (arith, l .inv .1, most .0), omega (arith, l .inv .1, most .1))
 
 pub leaves-spec : {M : Type 1} → statement M
-leaves-spec = tie.close (tie.spec Inv-loop μ-loop returns loop-holds mul-power add-i loop-less loop-again returns-2)
+leaves-spec = tie.close (tie.spec Inv-loop μ-loop returns loop-holds mul-power (λ c. search needs) (λ c. search needs) loop-again returns-2)

@@ -13,11 +13,8 @@ returns c = λ g. absurd (omega (arith, settings-valid _ (g .allowed) .depth-mos
 returns-2 : tie.Need-returns-2
 returns-2 c = λ g. absurd (omega arith)
 
-shl-result : tie.Need-shl-result
-shl-result c = search needs
-
 returns-3 : tie.Need-returns-3
 returns-3 c = λ g. shifted 32 _ (omega arith) ∙ sym (left-power _ _ (g .most))
 
 pub left-spec : {M : Type 1} → statement M
-left-spec = tie.close (tie.spec returns returns-2 shl-result returns-3)
+left-spec = tie.close (tie.spec returns returns-2 (λ c. search needs) returns-3)

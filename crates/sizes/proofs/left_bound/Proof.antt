@@ -13,9 +13,6 @@ returns c = λ g. absurd (omega (arith, settings-valid _ (g .allowed) .bound-mos
 returns-2 : tie.Need-returns-2
 returns-2 c = λ g. absurd (omega (arith, settings-valid _ (g .allowed) .depth-most))
 
-shl-result : tie.Need-shl-result
-shl-result c = search needs
-
 mul-result : tie.Need-mul-result
 mul-result c = let a = c .before .before .before .before .args in omega (arith, shifted-times 32 (a .t) (a .settings .bound) (omega arith) (omega arith))
 
@@ -23,4 +20,4 @@ returns-3 : tie.Need-returns-3
 returns-3 c = λ g. let a = c .before .before .before .before .args in ap (λ n. n * a .settings .bound) (shifted 32 _ (omega arith))
 
 pub left-bound-spec : {M : Type 1} → statement M
-left-bound-spec = tie.close (tie.spec returns returns-2 shl-result mul-result returns-3)
+left-bound-spec = tie.close (tie.spec returns returns-2 (λ c. search needs) mul-result returns-3)

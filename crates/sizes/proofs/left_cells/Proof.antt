@@ -6,15 +6,6 @@ use borrow.Author.Needs.{needs}
 use Rattle.sizes.proofs.left_cells.Statement.{statement}
 use Rattle.sizes.proofs.left_cells.Tie as tie
 
-left-requires : tie.Need-left-requires
-left-requires c κs = search needs
-
-cast-result : tie.Need-cast-result
-cast-result c = search needs
-
-cast-result-2 : tie.Need-cast-result-2
-cast-result-2 c = search needs
-
 mul-result : tie.Need-mul-result
 mul-result c = record { fits = product-fits (c .before .left .result) (c .before .before .args .settings .degree) (omega arith) (omega arith) }
 
@@ -22,4 +13,4 @@ returns : tie.Need-returns
 returns c = λ g. ap (λ n. n * c .before .before .args .settings .degree) (c .before .left .ensures g)
 
 pub left-cells-spec : {M : Type 1} → statement M
-left-cells-spec = tie.close (tie.spec left-requires cast-result cast-result-2 mul-result returns)
+left-cells-spec = tie.close (tie.spec (λ c κs. search needs) (λ c. search needs) (λ c. search needs) mul-result returns)

@@ -4,15 +4,6 @@ use borrow.Author.Needs.{needs}
 use Rattle.slices.proofs.polynomial.Statement.{statement}
 use Rattle.slices.proofs.polynomial.Tie as tie
 
-element-at-requires : tie.Need-element-at-requires
-element-at-requires c κs = search needs
-
-element-at-requires-2 : tie.Need-element-at-requires-2
-element-at-requires-2 c κs = search needs
-
-element-at-requires-3 : tie.Need-element-at-requires-3
-element-at-requires-3 c κs = search needs
-
 returns : tie.Need-returns
 unfolding polynomialOf
 returns c = λ h.
@@ -23,4 +14,4 @@ returns c = λ h.
 
 pub polynomial-spec : {M : Type 1} → statement M
 polynomial-spec =
-    tie.close (tie.spec element-at-requires element-at-requires-2 element-at-requires-3 returns)
+    tie.close (tie.spec (λ c κs. search needs) (λ c κs. search needs) (λ c κs. search needs) returns)

@@ -4,11 +4,8 @@ use borrow.Author.Needs.{needs}
 use Rattle.slices.proofs.residues.Statement.{statement}
 use Rattle.slices.proofs.residues.Tie as tie
 
-element-at-requires : tie.Need-element-at-requires
-element-at-requires c κs = search needs
-
 returns : tie.Need-returns
 returns c = λ h e. c .element-at .ensures h ∙ whole _ (c .before .before .args .t .now) e
 
 pub residues-spec : {M : Type 1} → statement M
-residues-spec = tie.close (tie.spec element-at-requires returns)
+residues-spec = tie.close (tie.spec (λ c κs. search needs) returns)

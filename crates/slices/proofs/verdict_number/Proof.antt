@@ -3,18 +3,6 @@ use borrow.Author.Needs.{needs}
 use Rattle.slices.proofs.verdict_number.Statement.{statement}
 use Rattle.slices.proofs.verdict_number.Tie as tie
 
-enum-told : tie.Need-enum-told
-enum-told c = search needs
-
-enum-told-2 : tie.Need-enum-told-2
-enum-told-2 c = search needs
-
-enum-told-3 : tie.Need-enum-told-3
-enum-told-3 c = search needs
-
-enum-told-4 : tie.Need-enum-told-4
-enum-told-4 c = search needs
-
 returns : tie.Need-returns
 unfolding verdictNumber
 returns c = rw (c .enum-told .given .1)
@@ -34,4 +22,4 @@ returns-4 c = rw (c .enum-told4 .given .1)
 pub verdict-number-spec : {M : Type 1} → statement M
 verdict-number-spec =
     tie.close
-    (tie.spec enum-told enum-told-2 enum-told-3 enum-told-4 returns returns-2 returns-3 returns-4)
+    (tie.spec (λ c. search needs) (λ c. search needs) (λ c. search needs) (λ c. search needs) returns returns-2 returns-3 returns-4)

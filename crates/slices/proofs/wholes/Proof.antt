@@ -4,11 +4,8 @@ use borrow.Author.Needs.{needs}
 use Rattle.slices.proofs.wholes.Statement.{statement}
 use Rattle.slices.proofs.wholes.Tie as tie
 
-signed-element-at-requires : tie.Need-signed-element-at-requires
-signed-element-at-requires c κs = search needs
-
 returns : tie.Need-returns
 returns c = λ h e. c .signed-element-at .ensures h ∙ whole-signed _ (c .before .args .t .now) e
 
 pub wholes-spec : {M : Type 1} → statement M
-wholes-spec = tie.close (tie.spec signed-element-at-requires returns)
+wholes-spec = tie.close (tie.spec (λ c κs. search needs) returns)

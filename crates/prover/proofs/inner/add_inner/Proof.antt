@@ -7,7 +7,7 @@ use lib.ListN.{length, take, drop, length-drop}
 use Rattle.products.specs.Products.{extension}
 use Rattle.products.proofs.Extension.{extension-rows}
 use Rattle.residues.proofs.Parts.{tail-all}
-use Rattle.residues.proofs.Folds.{row-inside}
+use Rattle.residues.proofs.Parts.{row-inside}
 use Rattle.prover.specs.Sums.{innerSums}
 use Rattle.prover.proofs.Sums.{inner-none, inner-more}
 use Rattle.prover.proofs.inner.add_inner.Statement.{statement}

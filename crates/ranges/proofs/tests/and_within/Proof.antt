@@ -1,29 +1,14 @@
-use mathlib.Core.Path.{_≡_, sym, ap, _∙_}
-use mathlib.Core.Bool.{_&&_}
-use borrow.Author.Tests.{le-leb, lt-leb}
-use lib.Dec.{leb}
-use lib.IntN.{natAbs}
-use mir.Facts.{toZ-ofZ}
-use Rattle.protocol.specs.Basic.{within}
-use Rattle.ranges.proofs.Scan.{and-true, and-false}
 use borrow.Author.Needs.{needs}
+use mir.Syntax.{w32}
+use Rattle.ranges.proofs.Scan.{within-holds, within-fails}
 use Rattle.ranges.proofs.tests.and_within.Statement.{statement}
 use Rattle.ranges.proofs.tests.and_within.Tie as tie
 
--- the test of the magnitude is that of the number
-size : (c : tie.After-magnitude) → natAbs (c .before .args .x) ≡ c .magnitude .result
-size c = sym (c .magnitude .ensures ∙ ap natAbs (toZ-ofZ (c .before .fits .x)))
-
-magnitude-requires : tie.Need-magnitude-requires
-magnitude-requires c κs = search needs
-
 returns : tie.Need-returns
-unfolding within
-returns c = let a = c .before .before .args in sym (ap (λ b. a .good && b) (ap (λ m. leb m (a .bound)) (size (c .before)) ∙ le-leb _ _ (c .if1 .taken)) ∙ and-true (a .good))
+returns c = let s = c .before .before in within-holds w32 (s .args .good) (s .args .bound) (s .args .x) (s .fits .x) _ (c .before .magnitude .ensures) (c .if1 .taken)
 
 returns-2 : tie.Need-returns-2
-unfolding within
-returns-2 c = let a = c .before .before .args in sym (ap (λ b. a .good && b) (ap (λ m. leb m (a .bound)) (size (c .before)) ∙ lt-leb _ _ (c .if1 .left)) ∙ and-false (a .good))
+returns-2 c = let s = c .before .before in within-fails w32 (s .args .good) (s .args .bound) (s .args .x) (s .fits .x) _ (c .before .magnitude .ensures) (c .if1 .left)
 
 pub and-within-spec : {M : Type 1} → statement M
-and-within-spec = tie.close (tie.spec magnitude-requires returns returns-2)
+and-within-spec = tie.close (tie.spec (λ c κs. search needs) returns returns-2)

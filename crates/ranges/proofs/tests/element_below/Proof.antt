@@ -8,12 +8,13 @@ use borrow.Author.Tests.{lt-ltb, le-ltb}
 use lib.Dec.{ltb}
 use lib.ListN.{getD}
 use Rattle.protocol.specs.Basic.{every}
+use Rattle.protocol.specs.Layout.{width}
 use Rattle.ranges.proofs.Scan.{every-none, every-goes-on, every-fails, every-ends}
 use Rattle.ranges.proofs.tests.element_below.Statement.{statement}
 use Rattle.ranges.proofs.tests.element_below.Tie as tie
 
 abbrev Inv-loop : tie.InvT-loop
-Inv-loop limit d a n k₀ k = (k ≤ d) × (n ≡ d) × (d ≤ 64) × (every k (λ j. ltb (getD a j 0) limit) ≡ true)
+Inv-loop limit d a n k₀ k = (k ≤ d) × (n ≡ d) × (d ≤ width) × (every k (λ j. ltb (getD a j 0) limit) ≡ true)
 
 abbrev μ-loop : tie.MeasureT-loop
 μ-loop limit d a n k₀ k = d - k

@@ -1,14 +1,15 @@
 -- Each test in its turn.
 use mathlib.Core.Bool.{_&&_}
-use mathlib.Core.Path.{_≡_, refl, sym, ap, _∙_}
+use mathlib.Core.Path.{refl, sym, ap, _∙_}
 use Prim.Native.Nat.{_*_}
 use borrow.Author.Needs.{needs}
 use Rattle.protocol.specs.Basic.{Tested}
 use Rattle.protocol.specs.Calls.{treeRefusal}
 use Rattle.protocol.specs.Settings.{settingsRefusal, sized, residues, residueElement, exponent, exponents}
 use Rattle.protocol.proofs.Inputs.{settings-valid}
-use Rattle.protocol.proofs.Refusals.{first-stops, first-known, first-tested, tested-before, first-only}
+use Rattle.protocol.proofs.Refusals.{first-stops, first-tested, tested-before, first-only}
 use Rattle.sizes.proofs.Limits.{degree-most}
+use Rattle.refusals.proofs.Lengths.{lengths-tested}
 use Rattle.refusals.proofs.GivenTree.{treeSized, lengths-given}
 use Rattle.refusals.proofs.tree.extract.Statement.{statement}
 use Rattle.refusals.proofs.tree.extract.Tie as tie
@@ -20,17 +21,12 @@ unfolding sized
 lengths c =
     let s = c .before in
     let c6 = s .before .before .before in
-    let allowed : (c6 .settings-refusal .result ≡ 0) → _ = λ z. sym (c6 .settings-refusal .ensures) ∙ z in
-    record {
-      is = sym (first-known _ _ (c6 .settings-refusal .ensures)
-          ∙ first-tested _ _ (c .refuse .ensures) (λ z. rw (
-            c6 .before .cells .ensures (allowed z),
-            s .before .before .tree-round-cells .ensures (allowed z),
-            s .before .tree-challenges .ensures .0 (allowed z),
-            s .leaf-cells .ensures (allowed z),
-          ))
-          ∙ first-only _);
-    }
+    lengths-tested _ (c6 .settings-refusal .ensures) (c .refuse .ensures) (λ z. rw (
+      c6 .before .cells .ensures z,
+      s .before .before .tree-round-cells .ensures z,
+      s .before .tree-challenges .ensures .0 z,
+      s .leaf-cells .ensures z,
+    ))
 
 returns : tie.Need-returns
 unfolding treeRefusal

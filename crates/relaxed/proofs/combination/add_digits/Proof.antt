@@ -5,7 +5,7 @@ use native.Mathlib.Nat as Nat
 use native.Mathlib.Omega.{arith}
 use borrow.Author.Needs.{needs}
 use lib.ListN.{length, take, drop}
-use Rattle.residues.proofs.Folds.{row-inside}
+use Rattle.residues.proofs.Parts.{row-inside}
 use Rattle.relaxed.specs.Digits.{Numbers, digitSums}
 use Rattle.relaxed.proofs.Sums.{digits-none, digits-more, key-part, part-numbers}
 use Rattle.relaxed.proofs.combination.add_digits.Statement.{statement}

@@ -5,17 +5,8 @@ use borrow.Author.Needs.{needs}
 use Rattle.residues.proofs.elements.signed_entry.Statement.{statement}
 use Rattle.residues.proofs.elements.signed_entry.Tie as tie
 
-mul-result : tie.Need-mul-result
-mul-result c = search needs
-
-shared-slice-copy-out-result : tie.Need-shared-slice-copy-out-result
-shared-slice-copy-out-result c = search needs
-
-returns : tie.Need-returns
-returns c = search needs
-
 returns-2 : tie.Need-returns-2
 returns-2 c = sym (List·getD-eq-default (c .before .args .t .now) (pos 0) (c .if1 .left))
 
 pub signed-entry-spec : {M : Type 1} → statement M
-signed-entry-spec = tie.close (tie.spec mul-result shared-slice-copy-out-result returns returns-2)
+signed-entry-spec = tie.close (tie.spec (λ c. search needs) (λ c. search needs) (λ c. search needs) returns-2)

@@ -7,9 +7,6 @@ use borrow.Author.Needs.{needs}
 use Rattle.sessions.proofs.records.head.Statement.{statement}
 use Rattle.sessions.proofs.records.head.Tie as tie
 
-cast-result : tie.Need-cast-result
-cast-result c = search needs
-
 returns : tie.Need-returns
 unfolding headOf choose
 returns c = rw (c .match .keys1)
@@ -38,4 +35,4 @@ returns-6 c =
 
 pub head-spec : {M : Type 1} → statement M
 head-spec =
-    tie.close (tie.spec cast-result returns returns-2 returns-3 returns-4 returns-5 returns-6)
+    tie.close (tie.spec (λ c. search needs) returns returns-2 returns-3 returns-4 returns-5 returns-6)

@@ -12,7 +12,7 @@ use Rattle.protocol.specs.Settings.{settingsRefusal}
 use Rattle.protocol.specs.Tree.{child, challenge}
 use Rattle.protocol.proofs.Inputs.{settings-valid}
 use Rattle.sizes.proofs.Limits.{degree-most}
-use Rattle.residues.specs.Folds.{foldDown}
+use Rattle.folds.specs.Folds.{foldDown}
 use Rattle.protocol.proofs.Places as Places
 use Rattle.protocol.proofs.Places.{AtNode}
 use Rattle.trees.specs.Nodes.{Round, Reduced, Read}

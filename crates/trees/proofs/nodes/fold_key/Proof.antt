@@ -2,7 +2,7 @@ use mathlib.Core.Path.{_≡_, refl, _∙_}
 use Prim.Native.Nat.{_*_, _-_}
 use native.Mathlib.Omega.{arith}
 use Rattle.protocol.specs.Opening.{halfLeft}
-use Rattle.residues.specs.Folds.{foldDown}
+use Rattle.folds.specs.Folds.{foldDown}
 use Rattle.trees.proofs.Workspace as Workspace
 use borrow.Author.Needs.{needs}
 use Rattle.trees.proofs.nodes.fold_key.Statement.{statement}

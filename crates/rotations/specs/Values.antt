@@ -1,0 +1,40 @@
+-- Multiples X^e·a that are added, and the values of polynomials at X^e.
+--
+--   Summands q n from ..      n numbers of a list that is added and n of the list that it is added to are there, and are residues
+--   Addable q d e ..          may X^e·a be added so: such numbers, and an exponent below 2d
+--   plusTurned q d e ..       coefficient k of the element at a place of a list, with X^e·a added, modulo q
+--   valueAt q d e c0 c1 c2 k  coefficient k of c0 + X^e·c1 + X^2e·c2, modulo q
+--   Coefficients q d ..       three elements of residues
+--   Valuable q d ..           such three of a degree that there is, with room for an element
+use mathlib.Core.List.{List}
+use Prim.Native.Nat.{ℕ, _+_, _*_, _<_, _≤_}
+use lib.ListN.{length, getD}
+use lib.IntN.{pos, _+ℤ_}
+use Rattle.protocol.specs.Element.{Element, width, modulo, rotate, residue}
+use Rattle.residues.specs.Residues.{Residues}
+
+pub record Summands (q n from : ℕ) (a : List ℕ) (to : ℕ) (out : List ℕ) : Type 0 where
+  pub added : Residues q n from a
+  pub own : Residues q n to out
+
+pub record Addable (q d e : ℕ) (a : List ℕ) (to : ℕ) (out : List ℕ) : Type 0 where
+  pub exponent : e < 2 * d
+  pub summands : Summands q d 0 a to out
+
+abbrev pub plusTurned : ℕ → ℕ → ℕ → List ℕ → ℕ → List ℕ → ℕ → ℕ
+plusTurned q d e a at out k = modulo q (pos (getD out (at + k) 0) +ℤ rotate d e (residue a) k)
+
+unfoldable pub valueAt : ℕ → ℕ → ℕ → Element → Element → Element → ℕ → ℕ
+valueAt q d e c0 c1 c2 k = modulo q (c0 k +ℤ rotate d e c1 k +ℤ rotate d e (rotate d e c2) k)
+
+pub record Coefficients (q d : ℕ) (c0 c1 c2 : List ℕ) : Type 0 where
+  pub modulus : 0 < q
+  pub first : Residues q d 0 c0
+  pub second : Residues q d 0 c1
+  pub third : Residues q d 0 c2
+
+pub record Valuable (q d : ℕ) (c0 c1 c2 out : List ℕ) : Type 0 where
+  pub degree : 0 < d
+  pub degree-most : d ≤ width
+  pub coefficients : Coefficients q d c0 c1 c2
+  pub room : d ≤ length out

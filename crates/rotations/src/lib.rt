@@ -1,0 +1,95 @@
+// Multiples X^e·a, which are rotations with signs, and the value of a polynomial at X^e. Every public function is safe for every input; what it gives is said
+// by a definition under a condition that the refusals ensure. No residue is divided and no branch depends on one but by its order, so that the compiler takes
+// several at a time.
+use protocol::Residue;
+use residues::signed_sum;
+ghost use mathlib.Core.Path.{_≡_};
+ghost use Prim.Native.Nat.{_+_, _*_, _-_, _<_, _≤_};
+ghost use lib.IntN.{pos, _+ℤ_};
+ghost use lib.ListN.{length, getD};
+ghost use Rattle.protocol.specs.Basic.{Provided};
+ghost use Rattle.protocol.specs.Element.{modulo, residue};
+ghost use Rattle.residues.specs.Lists.{spliced};
+ghost use Rattle.residues.specs.Residues.{signed};
+ghost use Rattle.rotations.specs.Values.{Addable, Summands, Valuable, plusTurned, valueAt};
+
+// Where the first of the two rows ends that X^e·a is made of.
+fn row_start(d: usize, e: usize) -> usize
+    requires { ⌜ e < 2 * d ⌝ }
+    ensures { λ r. ⌜ (r ≤ d) × (e < d → r ≡ e) × (d ≤ e → r ≡ e - d) ⌝ }
+{
+    if e < d {
+        return e;
+    }
+    e - d
+}
+
+// Adds a row of a to a row of out, or takes it away, modulo q.
+fn accumulate_row(
+    q: Residue,
+    n: usize,
+    negative: bool,
+    a: &[Residue],
+    from: usize,
+    out: &mut [Residue],
+    to: usize,
+)
+    requires { ⌜ (from + n ≤ length (now a)) × (to + n ≤ length (now out)) ⌝ }
+    ensures { λ _. ⌜ Provided (Summands q n from (now (a .entry)) to (now (out .entry))) (now (out .exit) ≡ spliced (λ k. modulo q (pos (getD (now (out .entry)) (to + k) 0) +ℤ signed negative (pos (getD (now (a .entry)) (from + k) 0)))) to n (now (out .entry))) ⌝ }
+{
+    for k in 0..n {
+        let y = out[to + k];
+        out[to + k] = signed_sum(q, negative, y, a[from + k]);
+    }
+}
+
+// Adds X^e·a to the element at a place of out: X^e·a is two rows of a, with different signs. The table stays as it is where there is no such exponent or
+// element.
+pub fn accumulate_turned(
+    q: Residue,
+    d: usize,
+    e: usize,
+    a: &[Residue],
+    out: &mut [Residue],
+    to: usize,
+)
+    ensures { λ _. ⌜ Provided (Addable q d e (now (a .entry)) to (now (out .entry))) (now (out .exit) ≡ spliced (plusTurned q d e (now (a .entry)) to (now (out .entry))) to d (now (out .entry))) ⌝ }
+{
+    if a.len() < d {
+        return;
+    }
+    if out.len() < d {
+        return;
+    }
+    if out.len() - d < to {
+        return;
+    }
+    if e >= 2 * d {
+        return;
+    }
+    let low = e < d;
+    let s = row_start(d, e);
+    let n = d - s;
+    accumulate_row(q, s, low, a, n, out, to);
+    accumulate_row(q, n, !low, a, 0, out, to + s);
+}
+
+// The value at X^e of the polynomial with the coefficients c0, c1, c2, modulo q, written to the front of out.
+pub fn value(
+    q: Residue,
+    d: u32,
+    e: u32,
+    c0: &[Residue],
+    c1: &[Residue],
+    c2: &[Residue],
+    out: &mut [Residue],
+)
+    ensures { λ _. ⌜ Provided (Valuable q d (now (c0 .entry)) (now (c1 .entry)) (now (c2 .entry)) (now (out .entry))) (now (out .exit) ≡ spliced (valueAt q d e (residue (now (c0 .entry))) (residue (now (c1 .entry))) (residue (now (c2 .entry)))) 0 d (now (out .entry))) ⌝ }
+{
+    let n = d as usize;
+    let once = residues::on_circle(n, e as usize);
+    let twice = residues::on_circle(n, once + once);
+    residues::store(n, c0, 0, out);
+    accumulate_turned(q, n, once, c1, out, 0);
+    accumulate_turned(q, n, twice, c2, out, 0);
+}
