@@ -3,7 +3,7 @@
 --   Sum q z count s        the number s of 64 bits stands for z modulo q, and at most `count` products of a coefficient were added to it
 --   Stands q d F count s   the first d numbers of s stand for the element F so
 --   capacity               how many products of a coefficient a sum has room for: those of the largest table
---   elementSums ..         the sums s with the products of the first n elements of f and g added
+--   elementSums add ..     the sums s with the products of the first n elements of f and g added, each by `add`
 --   offset q               a multiple of q that is larger than every sum is below zero
 --   reducedSum q s         what a sum stands for
 --   sumIs q c s a          does a sum stand for c·a modulo q, a being a residue: q divides it and c·(q − a)
@@ -19,7 +19,6 @@ use lib.Dec.{eqb, ltb}
 use lib.IntN.{ℤ, pos, natAbs}
 use lib.ListN.{length, getD, drop}
 use Rattle.protocol.specs.Element.{Element, width, modulo}
-use Rattle.rows.specs.Rows.{addProduct}
 
 -- 256 elements of 64 coefficients
 abbrev pub capacity : ℕ
@@ -35,9 +34,9 @@ pub record Sum (q : ℕ) (z : ℤ) (count s : ℕ) : Type 0 where
 pub record Stands (q d : ℕ) (F : Element) (count : ℕ) (s : List ℕ) : Type 0 where
   pub each : (k : ℕ) → k < d → Sum q (F k) count (getD s k 0)
 
-unfoldable pub elementSums : ℕ → ℕ → List ℤ → List ℕ → ℕ → List ℕ → List ℕ
-elementSums q d f g zero s = s
-elementSums q d f g (suc n) s = addProduct q d (drop (n * d) f) (drop (n * d) g) (elementSums q d f g n s)
+unfoldable pub elementSums : (List ℤ → List ℕ → List ℕ → List ℕ) → ℕ → List ℤ → List ℕ → ℕ → List ℕ → List ℕ
+elementSums add d f g zero s = s
+elementSums add d f g (suc n) s = add (drop (n * d) f) (drop (n * d) g) (elementSums add d f g n s)
 
 unfoldable pub offset : ℕ → ℕ
 offset q = 2 ^ 63 - 2 ^ 63 % q

@@ -11,16 +11,18 @@ ghost use lib.ListN.{length, getD};
 ghost use Rattle.protocol.specs.Basic.{every, tabulate, Provided};
 ghost use Rattle.protocol.specs.Element.{width, reduced, padded, product, signed, residue, signedAt, residueAt};
 ghost use Rattle.protocol.specs.Opening as opening;
+ghost use Rattle.rows.specs.Rows.{addProduct};
+ghost use Rattle.columns.specs.Columns.{addColumns};
 ghost use Rattle.products.specs.Sums.{Stands, elementSums, reducedSum, sumIs, multipleIs, Elements, Small, Summable};
 ghost use Rattle.products.specs.Sums as sums;
 
 // A sum of products, modulo 2^64.
 type Sum = u64;
 
-// Adds the products of the first n elements, one after the other.
-fn add_elements(q: u32, d: u32, n: u32, f: &[i32], g: &[Residue], sums: &mut [Sum])
+// Adds the products of the first n elements, one after the other, by rows.
+fn add_by_rows(q: u32, d: u32, n: u32, f: &[i32], g: &[Residue], sums: &mut [Sum])
     requires { ⌜ Elements q d n (length (now f)) (length (now g)) × (d ≤ length (now sums)) ⌝ }
-    ensures { λ _. ⌜ now (sums .exit) ≡ elementSums q d (now (f .entry)) (now (g .entry)) n (now (sums .entry)) ⌝ }
+    ensures { λ _. ⌜ now (sums .exit) ≡ elementSums (addProduct q d) d (now (f .entry)) (now (g .entry)) n (now (sums .entry)) ⌝ }
 {
     let mut x = [0u64; ROOM];
     for i in 0..n {
@@ -30,13 +32,28 @@ fn add_elements(q: u32, d: u32, n: u32, f: &[i32], g: &[Residue], sums: &mut [Su
     }
 }
 
-// The sums of the products of the first n elements.
+// The same, coefficient by coefficient.
+fn add_by_columns(d: u32, n: u32, f: &[i32], g: &[Residue], sums: &mut [Sum])
+    requires { ⌜ (d ≤ width) × (n * d ≤ length (now f)) × (n * d ≤ length (now g)) × (d ≤ length (now sums)) ⌝ }
+    ensures { λ _. ⌜ now (sums .exit) ≡ elementSums (addColumns d) d (now (f .entry)) (now (g .entry)) n (now (sums .entry)) ⌝ }
+{
+    for i in 0..n {
+        let at = (i as usize) * (d as usize);
+        columns::add_product(d, &f[at..], &g[at..], sums);
+    }
+}
+
+// The sums of the products of the first n elements. At degree 4 rows are not worth preparing; that it stands here as a number lets the compiler unroll the columns.
 fn inner_sums(q: u32, d: u32, n: u32, f: &[i32], g: &[Residue]) -> [Sum; WIDTH]
     requires { ⌜ Elements q d n (length (now f)) (length (now g)) ⌝ }
     ensures { λ r. ⌜ Provided (Small (n * d) (now (f .entry))) (Stands q d (opening.inner d n (signedAt d (now (f .entry))) (residueAt d (now (g .entry)))) (n * d) r) ⌝ }
 {
     let mut sums = [0u64; WIDTH];
-    add_elements(q, d, n, f, g, &mut sums);
+    if d == 4 {
+        add_by_columns(4, n, f, g, &mut sums);
+        return sums;
+    }
+    add_by_rows(q, d, n, f, g, &mut sums);
     sums
 }
 

@@ -5,14 +5,15 @@ use native.Mathlib.Omega.{arith}
 use lib.ListN.{length, take, drop, length-drop}
 use Rattle.residues.proofs.Parts.{tail-all}
 use Rattle.residues.proofs.Folds.{row-inside}
+use Rattle.rows.specs.Rows.{addProduct}
 use Rattle.products.specs.Sums.{elementSums}
 use Rattle.products.proofs.Standing.{elements-none, elements-more}
 use borrow.Author.Needs.{needs}
-use Rattle.products.proofs.add_elements.Statement.{statement}
-use Rattle.products.proofs.add_elements.Tie as tie
+use Rattle.products.proofs.add_by_rows.Statement.{statement}
+use Rattle.products.proofs.add_by_rows.Tie as tie
 
 abbrev Inv-loop : tie.InvT-loop
-Inv-loop q d n f g sums₀ x₀ i₀ sums x i = (i ≤ n) × (sums ≡ elementSums q d f g i sums₀) × (length sums ≡ length sums₀) × (length x ≡ 192)
+Inv-loop q d n f g sums₀ x₀ i₀ sums x i = (i ≤ n) × (sums ≡ elementSums (addProduct q d) d f g i sums₀) × (length sums ≡ length sums₀) × (length x ≡ 192)
 
 abbrev μ-loop : tie.MeasureT-loop
 μ-loop q d n f g sums₀ x₀ i₀ sums x i = n - i
@@ -61,16 +62,16 @@ loop-again c =
     let ready = e .prepare .ensures (record { modulus = ok .modulus; degree = ok .degree; degree-most = ok .degree-most; coefficients = g-long; places = omega arith }) in (
       omega arith,
       c .before .before .add-product .ensures (a .q) g-at (record { degree = ok .degree-most; coefficients = f-long; prepared = ready; sums = omega arith })
-          ∙ elements-more (a .q) (a .d) (a .f .now) (a .g .now) (a .sums .now) (l .i) _ _ _ (tail-all at (a .f .now)) (tail-all at (a .g .now)) (l .inv .1),
+          ∙ elements-more (addProduct (a .q) (a .d)) (a .d) (a .f .now) (a .g .now) (a .sums .now) (l .i) _ _ _ (tail-all at (a .f .now)) (tail-all at (a .g .now)) (l .inv .1),
       c .before .before .add-product .kept .1 .1 .1 .0 ∙ l .inv .2,
       search needs,
     )
 
 returns : tie.Need-returns Inv-loop μ-loop
-returns c = let a = c .before .before .before .before .args in c .before .loop .inv .1 ∙ ap (λ n. elementSums (a .q) (a .d) (a .f .now) (a .g .now) n (a .sums .now)) (omega arith)
+returns c = let a = c .before .before .before .before .args in c .before .loop .inv .1 ∙ ap (λ n. elementSums (addProduct (a .q) (a .d)) (a .d) (a .f .now) (a .g .now) n (a .sums .now)) (omega arith)
 
-pub add-elements-spec : {M : Type 1} → statement M
-add-elements-spec =
+pub add-by-rows-spec : {M : Type 1} → statement M
+add-by-rows-spec =
     tie.close
     (tie.spec
     Inv-loop
