@@ -1,12 +1,11 @@
 -- The end of a transcript, by the first element of the folded key.
 --
---   quotientIs q n s z        is z the number s/n modulo q: z is below q, and q divides s + n·(q − z), which is worked out modulo 2^64
 --   equationMet S claim f G   is the claim half^L·f·G
 --   endMet S claim f G        is it, and has f no coefficient beyond ±n·B
 use mathlib.Core.Bool.{Bool, _&&_}
 use mathlib.Core.List.{List}
-use Prim.Native.Nat.{ℕ, _+_, _*_, _-_, _%_, _^_}
-use lib.Dec.{eqb, ltb}
+use Prim.Native.Nat.{ℕ, _^_}
+use lib.Dec.{eqb}
 use lib.IntN.{pos, _*ℤ_}
 use lib.ListN.{getD}
 use Rattle.protocol.specs.declared.Settings.{Settings}
@@ -14,9 +13,6 @@ use Rattle.protocol.specs.Basic.{every}
 use Rattle.protocol.specs.Element.{Element, modulo, product}
 use Rattle.protocol.specs.Settings.{half}
 use Rattle.protocol.specs.Transcript.{finalBounded}
-
-unfoldable pub quotientIs : ℕ → ℕ → ℕ → ℕ → Bool
-quotientIs q n s z = ltb z q && eqb ((s + n * (q - z)) % 2 ^ 64 % q) 0
 
 unfoldable pub equationMet : Settings → List ℕ → Element → Element → Bool
 equationMet S claim f G = every (S .degree) (λ k. eqb (getD claim k 0) (modulo (S .modulus) (pos (half S ^ S .depth) *ℤ product (S .degree) f G k)))

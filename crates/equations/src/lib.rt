@@ -7,13 +7,13 @@ ghost use mathlib.Core.Path.{_≡_};
 ghost use mathlib.Core.Bool.{_&&_};
 ghost use Prim.Native.Nat.{_+_, _*_, _/_, _%_, _^_, _<_, _≤_};
 ghost use lib.Dec.{eqb};
-ghost use lib.ListN.{length, getD};
-ghost use Rattle.protocol.specs.Basic.{every, Provided};
+ghost use lib.ListN.{length};
+ghost use Rattle.protocol.specs.Basic.{Provided};
 ghost use Rattle.protocol.specs.Element.{padded, residue, signed};
 ghost use Rattle.protocol.specs.Transcript.{roundHolds, nextClaim, finalBounded, endHolds};
 ghost use Rattle.protocol.specs.Settings.{settingsRefusal};
 ghost use Rattle.equations.specs.Given.{Evaluable, ElementsGiven, FinalGiven, KeyGiven};
-ghost use Rattle.equations.specs.Ends.{quotientIs, equationMet, endMet};
+ghost use Rattle.equations.specs.Ends.{equationMet, endMet};
 
 // s modulo m, s being below 2m.
 fn less_once(m: u64, s: u64) -> u64
@@ -135,52 +135,13 @@ fn final_bounded(settings: Settings, f: &[i32]) -> bool
     true
 }
 
-// Is z the number s/n modulo q: z is below q, and q divides s + n·(q − z).
-fn quotient_is(q: u32, n: u32, s: u64, z: u32) -> bool
-    requires { ⌜ 0 < q ⌝ }
-    ensures { λ r. ⌜ r ≡ quotientIs q n s z ⌝ }
-{
-    if z >= q {
-        return false;
-    }
-    let m = q as u64;
-    let rest = (n as u64) * (m - (z as u64));
-    std::num::wrapping_add_u64(s, rest) % m == 0
-}
-
-// The same for each of the first d sums.
-fn quotients_are(q: u32, d: usize, n: u32, sums: &[u64], claim: &[u32]) -> bool
-    requires { ⌜ (0 < q) × (d ≤ length (now sums)) × (d ≤ length (now claim)) ⌝ }
-    ensures { λ r. ⌜ r ≡ every d (λ k. quotientIs q n (getD (now (sums .entry)) k 0) (getD (now (claim .entry)) k 0)) ⌝ }
-{
-    let mut k: usize = 0;
-    while k < d {
-        if !quotient_is(q, n, sums[k], claim[k]) {
-            return false;
-        }
-        k += 1;
-    }
-    true
-}
-
-// Is the claim half^L·f·g, where f has no coefficient beyond ±n·B. The product stays as sums that are not reduced: half^L is 1/2^L.
+// Is the claim half^L·f·g, where f has no coefficient beyond ±n·B: half^L is 1/2^L.
 fn equation_met(settings: Settings, claim: &[u32], f: &[i32], g: &[u32]) -> bool
     requires { ⌜ (settings .degree ≤ length (now claim)) × (settings .degree ≤ length (now f)) × (settings .degree ≤ length (now g)) ⌝ }
     ensures { λ r. ⌜ Provided (FinalGiven settings (signed (now (f .entry)))) (r ≡ equationMet settings (now (claim .entry)) (signed (now (f .entry))) (residue (now (g .entry)))) ⌝ }
 {
-    let q = settings.modulus;
-    let d = settings.degree as usize;
-    if q == 0 {
-        return false;
-    }
-    if d > 64 {
-        return false;
-    }
-    let mut x = [0u64; 192];
-    products::extend(q, settings.degree, g, &mut x);
-    let mut sums = [0u64; 64];
-    products::accumulate(settings.degree, f, &x, &mut sums);
-    quotients_are(q, d, sizes::left(settings, 0), &sums, claim)
+    let power = sizes::left(settings, 0);
+    products::product_is(settings.modulus, settings.degree, f, g, power, claim)
 }
 
 // Is the end met: the bound first, then the equation.

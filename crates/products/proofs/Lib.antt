@@ -1,4 +1,2 @@
-pub mod Rows
-pub mod Sums
-pub mod ThreeRows
-pub mod Extension
+pub mod Standing
+pub mod Ends

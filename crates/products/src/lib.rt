@@ -1,225 +1,165 @@
-// Products of an element of whole numbers with an element of residues. Products are summed as they are and reduced once. Residues stand in
-// 64 bits, and four rows are added at a time: so a row costs one product and one sum for each of its numbers.
-use ranges::tests;
+// Inner products of elements of whole numbers with elements of residues, modulo q. Products are summed as they are, in numbers of 64 bits, and reduced once.
+// What these sums are is known here alone: a caller sees elements of residues.
+use protocol::Residue;
+use protocol::WIDTH;
+use rows::ROOM;
 ghost use mathlib.Core.Path.{_≡_};
-ghost use mathlib.Core.List.{List};
-ghost use Prim.Native.Nat.{ℕ, _+_, _*_, _%_, _^_, _<_, _≤_};
-ghost use lib.ListN.{length};
-ghost use Rattle.protocol.specs.Basic.{Provided};
-ghost use Rattle.residues.specs.Lists.{spliced};
-ghost use Rattle.products.specs.Products.{turned, narrowed, start, addRow, addRows, addFour, Extendable, Rows, Reducible, reducedSums};
+ghost use mathlib.Core.Bool.{_&&_};
+ghost use Prim.Native.Nat.{_+_, _*_, _-_, _%_, _^_, _<_, _≤_};
+ghost use lib.Dec.{ltb, eqb};
+ghost use lib.ListN.{length, getD};
+ghost use Rattle.protocol.specs.Basic.{every, tabulate, Provided};
+ghost use Rattle.protocol.specs.Element.{width, reduced, padded, product, signed, residue, signedAt, residueAt};
+ghost use Rattle.protocol.specs.Opening as opening;
+ghost use Rattle.rows.specs.Rows.{addProduct};
+ghost use Rattle.columns.specs.Columns.{addColumns};
+ghost use Rattle.products.specs.Sums.{Stands, elementSums, reducedSum, sumIs, multipleIs, Elements, Small, Summable};
+ghost use Rattle.products.specs.Sums as sums;
 
-fn wide(x: u32) -> u64
-    ensures { λ r. ⌜ r ≡ x ⌝ }
-{
-    x as u64
-}
+// A sum of products, modulo 2^64.
+type Sum = u64;
 
-// x modulo q; a residue is not divided.
-fn reduce(q: u32, x: u32) -> u32
-    requires { ⌜ 0 < q ⌝ }
-    ensures { λ r. ⌜ r ≡ x % q ⌝ }
+// Adds the products of the first n elements, one after the other, by rows.
+fn add_by_rows(q: u32, d: u32, n: u32, f: &[i32], g: &[Residue], sums: &mut [Sum])
+    requires { ⌜ Elements q d n (length (now f)) (length (now g)) × (d ≤ length (now sums)) ⌝ }
+    ensures { λ _. ⌜ now (sums .exit) ≡ elementSums (addProduct q d) d (now (f .entry)) (now (g .entry)) n (now (sums .entry)) ⌝ }
 {
-    if x < q {
-        return x;
+    let mut x = [0u64; ROOM];
+    for i in 0..n {
+        let at = (i as usize) * (d as usize);
+        rows::prepare(q, d, &g[at..], &mut x);
+        rows::add_product(d, &f[at..], &x, sums);
     }
-    x % q
 }
 
-// The residues that stand at the places 0 to 3d − 1 of a, going round by X^d = −1, written to the front of y: each residue, its negative, and
-// the residue again.
-fn write_rows(q: u32, d: usize, a: &[u32], y: &mut [u64])
-    requires { ⌜ (0 < q) × (d ≤ 64) × (d ≤ length (now a)) × (3 * d ≤ length (now y)) ⌝ }
-    ensures { λ _. ⌜ now (y .exit) ≡ spliced (turned q d (now (a .entry))) 0 (3 * d) (now (y .entry)) ⌝ }
+// The same, coefficient by coefficient.
+fn add_by_columns(d: u32, n: u32, f: &[i32], g: &[Residue], sums: &mut [Sum])
+    requires { ⌜ (d ≤ width) × (n * d ≤ length (now f)) × (n * d ≤ length (now g)) × (d ≤ length (now sums)) ⌝ }
+    ensures { λ _. ⌜ now (sums .exit) ≡ elementSums (addColumns d) d (now (f .entry)) (now (g .entry)) n (now (sums .entry)) ⌝ }
 {
+    for i in 0..n {
+        let at = (i as usize) * (d as usize);
+        columns::add_product(d, &f[at..], &g[at..], sums);
+    }
+}
+
+// The sums of the products of the first n elements. At degree 4 rows are not worth preparing; that it stands here as a number lets the compiler unroll the columns.
+fn inner_sums(q: u32, d: u32, n: u32, f: &[i32], g: &[Residue]) -> [Sum; WIDTH]
+    requires { ⌜ Elements q d n (length (now f)) (length (now g)) ⌝ }
+    ensures { λ r. ⌜ Provided (Small (n * d) (now (f .entry))) (Stands q d (opening.inner d n (signedAt d (now (f .entry))) (residueAt d (now (g .entry)))) (n * d) r) ⌝ }
+{
+    let mut sums = [0u64; WIDTH];
+    if d == 4 {
+        add_by_columns(4, n, f, g, &mut sums);
+        return sums;
+    }
+    add_by_rows(q, d, n, f, g, &mut sums);
+    sums
+}
+
+// The multiple of q that is added to a sum before it is reduced, so that it is not below zero.
+fn offset(q: u32) -> u64
+    requires { ⌜ 0 < q ⌝ }
+    ensures { λ r. ⌜ r ≡ sums.offset q ⌝ }
+{
+    9223372036854775808 - 9223372036854775808 % (q as u64)
+}
+
+fn reduce(q: u32, offset: u64, s: Sum) -> Residue
+    requires { ⌜ 0 < q ⌝ }
+    ensures { λ r. ⌜ r ≡ (s + offset) % 2 ^ 64 % q ⌝ }
+{
+    (std::num::wrapping_add_u64(s, offset) % (q as u64)) as u32
+}
+
+// The element that the sums stand for.
+fn finish(q: u32, d: usize, sums: &[Sum]) -> [Residue; WIDTH]
+    requires { ⌜ (0 < q) × (d ≤ width) × (d ≤ length (now sums)) ⌝ }
+    ensures { λ r. ⌜ r ≡ padded d (tabulate d (λ k. reducedSum q (getD (now (sums .entry)) k 0))) ⌝ }
+{
+    let more = offset(q);
+    let mut a = [0u32; WIDTH];
     for k in 0..d {
-        let x = reduce(q, a[k]);
-        y[k] = wide(x);
-        y[d + k] = wide(residues::negated(q, x));
-        y[2 * d + k] = wide(x);
-    }
-}
-
-// The extension of a, at the front of a lent room x. What stands behind it stays.
-pub fn extend(q: u32, d: u32, a: &[u32], x: &mut [u64])
-    ensures { λ _. ⌜ Provided (Extendable q d (length (now (a .entry))) (length (now (x .entry)))) (now (x .exit) ≡ spliced (turned q d (now (a .entry))) 0 (3 * d) (now (x .entry))) ⌝ }
-{
-    let n = d as usize;
-    if q == 0 {
-        return;
-    }
-    if n > 64 {
-        return;
-    }
-    if a.len() < n {
-        return;
-    }
-    if x.len() < 3 * n {
-        return;
-    }
-    write_rows(q, n, a, x);
-}
-
-// m·y, y being below 2^32.
-fn scaled(m: u32, y: u64) -> u64
-    ensures { λ r. ⌜ r ≡ m * (y % 2 ^ 32) ⌝ }
-{
-    (m as u64) * (y % 4294967296)
-}
-
-// s + m·y modulo 2^64
-fn plus_scaled(s: u64, m: u32, y: u64) -> u64
-    ensures { λ r. ⌜ r ≡ (s + m * (y % 2 ^ 32)) % 2 ^ 64 ⌝ }
-{
-    std::num::wrapping_add_u64(s, scaled(m, y))
-}
-
-// One row: m times the d residues from place `at` on.
-fn add_row(d: usize, m: u32, at: usize, x: &[u64], sums: &mut [u64])
-    requires { ⌜ (at + d ≤ length (now x)) × (d ≤ length (now sums)) ⌝ }
-    ensures { λ _. ⌜ now (sums .exit) ≡ addRow d m at (narrowed (now (x .entry))) (now (sums .entry)) ⌝ }
-{
-    let mut k: usize = 0;
-    while k < d {
-        sums[k] = plus_scaled(sums[k], m, x[at + k]);
-        k += 1;
-    }
-}
-
-// Four rows at a time.
-fn add_four(
-    d: usize,
-    m0: u32,
-    at0: usize,
-    m1: u32,
-    at1: usize,
-    m2: u32,
-    at2: usize,
-    m3: u32,
-    at3: usize,
-    x: &[u64],
-    sums: &mut [u64],
-)
-    requires { ⌜ (at0 + d ≤ length (now x)) × (at1 + d ≤ length (now x)) × (at2 + d ≤ length (now x)) × (at3 + d ≤ length (now x)) × (d ≤ length (now sums)) ⌝ }
-    ensures { λ _. ⌜ now (sums .exit) ≡ addRow d m3 at3 (narrowed (now (x .entry))) (addRow d m2 at2 (narrowed (now (x .entry))) (addRow d m1 at1 (narrowed (now (x .entry))) (addRow d m0 at0 (narrowed (now (x .entry))) (now (sums .entry))))) ⌝ }
-{
-    let mut k: usize = 0;
-    while k < d {
-        let first = plus_scaled(sums[k], m0, x[at0 + k]);
-        let second = plus_scaled(first, m1, x[at1 + k]);
-        let third = plus_scaled(second, m2, x[at2 + k]);
-        sums[k] = plus_scaled(third, m3, x[at3 + k]);
-        k += 1;
-    }
-}
-
-// Where the row of coefficient j begins: a negative one takes the row d places before, which has the other sign.
-fn row_start(d: usize, c: i32, j: usize) -> usize
-    requires { ⌜ (d ≤ 64) × (j < d) ⌝ }
-    ensures { λ r. ⌜ r ≡ start d c j ⌝ }
-{
-    if c < 0 {
-        return d - j;
-    }
-    d + d - j
-}
-
-// The rows of the four coefficients from coefficient j on.
-fn add_block(d: usize, j: usize, f: &[i32], x: &[u64], sums: &mut [u64])
-    requires { ⌜ Rows d (length (now f)) (length (now x)) (length (now sums)) × (j + 4 ≤ d) ⌝ }
-    ensures { λ _. ⌜ now (sums .exit) ≡ addFour d (now (f .entry)) (narrowed (now (x .entry))) j (now (sums .entry)) ⌝ }
-{
-    let c0 = f[j];
-    let c1 = f[j + 1];
-    let c2 = f[j + 2];
-    let c3 = f[j + 3];
-    add_four(
-        d,
-        tests::magnitude(c0),
-        row_start(d, c0, j),
-        tests::magnitude(c1),
-        row_start(d, c1, j + 1),
-        tests::magnitude(c2),
-        row_start(d, c2, j + 2),
-        tests::magnitude(c3),
-        row_start(d, c3, j + 3),
-        x,
-        sums,
-    );
-}
-
-// The rows from coefficient `done` on, those before it being added.
-fn add_rest(d: usize, done: usize, f: &[i32], x: &[u64], sums: &mut [u64])
-    requires { ⌜ Rows d (length (now f)) (length (now x)) (length (now sums)) × (done ≤ d) ⌝ }
-    ensures { λ _. ⌜ ((s : List ℕ) → now (sums .entry) ≡ addRows d (now (f .entry)) (narrowed (now (x .entry))) done s → now (sums .exit) ≡ addRows d (now (f .entry)) (narrowed (now (x .entry))) d s) ⌝ }
-{
-    let mut j: usize = done;
-    while j < d {
-        let c = f[j];
-        add_row(d, tests::magnitude(c), row_start(d, c, j), x, sums);
-        j += 1;
-    }
-}
-
-// The rows of all coefficients of f.
-fn add_rows(d: usize, f: &[i32], x: &[u64], sums: &mut [u64])
-    requires { ⌜ Rows d (length (now f)) (length (now x)) (length (now sums)) ⌝ }
-    ensures { λ _. ⌜ now (sums .exit) ≡ addRows d (now (f .entry)) (narrowed (now (x .entry))) d (now (sums .entry)) ⌝ }
-{
-    let mut j: usize = 0;
-    while j + 4 <= d {
-        add_block(d, j, f, x, sums);
-        j += 4;
-    }
-    add_rest(d, j, f, x, sums);
-}
-
-// The product of f with the element whose extension stands at the front of x, added to the sums modulo 2^64.
-pub fn accumulate(d: u32, f: &[i32], x: &[u64], sums: &mut [u64])
-    ensures { λ _. ⌜ Provided (Rows d (length (now (f .entry))) (length (now (x .entry))) (length (now (sums .entry)))) (now (sums .exit) ≡ addRows d (now (f .entry)) (narrowed (now (x .entry))) d (now (sums .entry))) ⌝ }
-{
-    let n = d as usize;
-    if n > 64 {
-        return;
-    }
-    if f.len() < n {
-        return;
-    }
-    if x.len() < 3 * n {
-        return;
-    }
-    if sums.len() < n {
-        return;
-    }
-    add_rows(n, f, x, sums);
-}
-
-fn remainder(q: u32, s: u64) -> u32
-    requires { ⌜ 0 < q ⌝ }
-    ensures { λ r. ⌜ r ≡ s % q ⌝ }
-{
-    (s % (q as u64)) as u32
-}
-
-// The sums modulo q.
-pub fn reduced_sums(q: u32, d: u32, sums: &[u64]) -> [u32; 64]
-    ensures { λ r. ⌜ Provided (Reducible q d (length (now (sums .entry)))) (r ≡ reducedSums q d (now (sums .entry))) ⌝ }
-{
-    let mut a = [0u32; 64];
-    if q == 0 {
-        return a;
-    }
-    let n = d as usize;
-    if n > 64 {
-        return a;
-    }
-    if sums.len() < n {
-        return a;
-    }
-    let mut k: usize = 0;
-    while k < n {
-        a[k] = remainder(q, sums[k]);
-        k += 1;
+        a[k] = reduce(q, more, sums[k]);
     }
     a
+}
+
+// The inner product of the first n elements of two tables, modulo q.
+pub fn inner(q: u32, d: u32, n: u32, f: &[i32], g: &[Residue]) -> [Residue; WIDTH]
+    ensures { λ r. ⌜ Provided (Summable q d n (now (f .entry)) (now (g .entry))) (r ≡ padded d (reduced q d (opening.inner d n (signedAt d (now (f .entry))) (residueAt d (now (g .entry)))))) ⌝ }
+{
+    let none = [0u32; WIDTH];
+    if q == 0 {
+        return none;
+    }
+    if d == 0 {
+        return none;
+    }
+    if (d as usize) > WIDTH {
+        return none;
+    }
+    let cells = (n as usize) * (d as usize);
+    if f.len() < cells {
+        return none;
+    }
+    if g.len() < cells {
+        return none;
+    }
+    let sums = inner_sums(q, d, n, f, g);
+    finish(q, d as usize, &sums)
+}
+
+// Does a sum stand for c·a modulo q, a being a residue: q divides the sum and c·(q − a).
+fn sum_is(q: u32, offset: u64, s: Sum, c: u32, a: Residue) -> bool
+    requires { ⌜ 0 < q ⌝ }
+    ensures { λ r. ⌜ r ≡ (ltb a q && eqb ((s + (offset + c * (q - a)) % 2 ^ 64) % 2 ^ 64 % q) 0) ⌝ }
+{
+    if a >= q {
+        return false;
+    }
+    let rest = (c as u64) * ((q - a) as u64);
+    let more = std::num::wrapping_add_u64(offset, rest);
+    std::num::wrapping_add_u64(s, more) % (q as u64) == 0
+}
+
+// Do the sums stand for c·a.
+fn sums_are(q: u32, d: usize, sums: &[Sum], c: u32, a: &[Residue]) -> bool
+    requires { ⌜ (0 < q) × (d ≤ length (now sums)) × (d ≤ length (now a)) ⌝ }
+    ensures { λ r. ⌜ r ≡ every d (λ k. sumIs q c (getD (now (sums .entry)) k 0) (getD (now (a .entry)) k 0)) ⌝ }
+{
+    let more = offset(q);
+    for k in 0..d {
+        if !sum_is(q, more, sums[k], c, a[k]) {
+            return false;
+        }
+    }
+    true
+}
+
+// Is the product of the elements f and g c times the element a, modulo q. The product is not reduced for that.
+pub fn product_is(q: u32, d: u32, f: &[i32], g: &[Residue], c: u32, a: &[Residue]) -> bool
+    ensures { λ r. ⌜ Provided (Summable q d 1 (now (f .entry)) (now (g .entry)) × (d ≤ length (now (a .entry))) × (c ≤ 2 ^ 13)) (r ≡ every d (λ k. multipleIs q c (product d (signed (now (f .entry))) (residue (now (g .entry))) k) (getD (now (a .entry)) k 0))) ⌝ }
+{
+    if q == 0 {
+        return false;
+    }
+    if d == 0 {
+        return false;
+    }
+    if (d as usize) > WIDTH {
+        return false;
+    }
+    let n = d as usize;
+    if f.len() < n {
+        return false;
+    }
+    if g.len() < n {
+        return false;
+    }
+    if a.len() < n {
+        return false;
+    }
+    let sums = inner_sums(q, d, 1, f, g);
+    sums_are(q, n, &sums, c, a)
 }

@@ -25,7 +25,7 @@ use Rattle.residues.proofs.Fill.{filled, filled-ext, filled-at, filled-length, 
 use Rattle.residues.proofs.SignedFill.{signed-zeros-length}
 use Rattle.residues.proofs.Padding.{padded-at}
 use Rattle.prover.specs.Messages.{SmallHalf, Tables, Halved}
-use Rattle.prover.specs.Sums.{scaled, mixed}
+use Rattle.prover.specs.Sums.{scaled, innerOfSums}
 
 -- ---- the sums of the halves, as the code writes them to the front of a table
 
@@ -110,8 +110,8 @@ module _ (q d h : ℕ) (m : List ℤ) (G : List ℕ) (t : Halved q d h m G) wher
     unfolding residueAt plus second modulo
     key-sum i li k lk = ap (λ x. x % q) (g-at (i * d + k) (cell-inside d h i k li lk)) ∙ Nat.mod-mod _ q ∙ ap (λ n. (getD G (i * d + k) 0 + getD G n 0) % q) (omega (arith, Nat.add-mul h i d))
 
-    inner-mixed : (k : ℕ) → k < d → modulo q (inner d h (signedAt d f) (residueAt d g) k) ≡ modulo q (mixed d h (signedAt d m) (residueAt d G) k)
-    unfolding mixed
+    inner-mixed : (k : ℕ) → k < d → modulo q (inner d h (signedAt d f) (residueAt d g) k) ≡ modulo q (innerOfSums d h (signedAt d m) (residueAt d G) k)
+    unfolding innerOfSums
     inner-mixed = readq-inj q (t .tables .modulus) d (t .tables .degree) _ _
         (read-inner K d p h _ _
         ∙ I.inner-ext (negacyclic K d p) h (λ i l. read-ext K d p (message-sum i l)) (λ i l. readq-ext q (t .tables .modulus) d p _ _ (key-sum i l))
@@ -123,7 +123,7 @@ module _ (q d h : ℕ) (m : List ℤ) (G : List ℕ) (t : Halved q d h m G) wher
         p : 0 < d
         p = t .tables .degree
 
-    pub sums-mixed : (s : ℕ) → scaled q d s (inner d h (signedAt d f) (residueAt d g)) ≡ scaled q d s (mixed d h (signedAt d m) (residueAt d G))
+    pub sums-mixed : (s : ℕ) → scaled q d s (inner d h (signedAt d f) (residueAt d g)) ≡ scaled q d s (innerOfSums d h (signedAt d m) (residueAt d G))
     unfolding scaled reduced times
     sums-mixed s = ap (padded d) (tabulate-ext d (λ k l. modulo-times q (t .tables .modulus) s _ ∙ ap (λ x. s * x % q) (inner-mixed k l) ∙ sym (modulo-times q (t .tables .modulus) s _)))
 
@@ -135,8 +135,8 @@ regroup K a b c e = sym (K .add-assoc (K .add a b) c e) ∙ ap (λ x. K .add x e
 abbrev Ring : (d : ℕ) → 0 < d → CommRing
 Ring d p = negacyclic ℤ-ring d p
 
-mixed-parts : (d h : ℕ) (p : 0 < d) (m G : ℕ → Element) (k : ℕ) → k < d → mixed d h m G k ≡ plus (plus (cross d h m G 0) (cross d h m G 1)) (cross d h m G 2) k
-unfolding mixed cross
+mixed-parts : (d h : ℕ) (p : 0 < d) (m G : ℕ → Element) (k : ℕ) → k < d → innerOfSums d h m G k ≡ plus (plus (cross d h m G 0) (cross d h m G 1)) (cross d h m G 2) k
+unfolding innerOfSums cross
 mixed-parts d h p m G = readℤ-inj d p _ _
     (read-inner ℤ-ring d p h _ _
     ∙ I.inner-ext (Ring d p) h (λ i _. read-plus ℤ-ring d p _ _) (λ i _. read-plus ℤ-ring d p _ _)
@@ -145,7 +145,7 @@ mixed-parts d h p m G = readℤ-inj d p _ _
     ∙ regroup (Ring d p) _ _ _ _
     ∙ sym (read-plus ℤ-ring d p _ _ ∙ ap₂ (Ring d p .add) (read-plus ℤ-ring d p _ _ ∙ ap₂ (Ring d p .add) (read-inner ℤ-ring d p h _ _) (read-plus ℤ-ring d p _ _ ∙ ap₂ (Ring d p .add) (read-inner ℤ-ring d p h _ _) (read-inner ℤ-ring d p h _ _))) (read-inner ℤ-ring d p h _ _)))
 
--- ---- what is left of the mixed product
+-- ---- what is left of the innerOfSums product
 
 less-is : (q a y b : ℕ) → a < q → y < q → b < q → (((a + y) % q + b) % q + (q - a % q) + (q - b % q)) % q ≡ y
 less-is q a y b la ly lb =
@@ -165,7 +165,7 @@ module _ (q d h s : ℕ) (p : 0 < q) (pd : 0 < d) (m G : ℕ → Element) where
   unfolding scaled reduced times
   scaled-at a l e k h = ap (λ x. getD x k 0) e ∙ padded-at d (λ j. modulo q (pos s *ℤ a j)) k h
 
-  spread : (k : ℕ) → k < d → modulo q (pos s *ℤ mixed d h m G k) ≡ ((modulo q (part 0 k) + modulo q (part 1 k)) % q + modulo q (part 2 k)) % q
+  spread : (k : ℕ) → k < d → modulo q (pos s *ℤ innerOfSums d h m G k) ≡ ((modulo q (part 0 k) + modulo q (part 1 k)) % q + modulo q (part 2 k)) % q
   unfolding plus
   spread k l =
       let c : ℕ → ℤ = λ j. cross d h m G j k in
@@ -174,9 +174,9 @@ module _ (q d h s : ℕ) (p : 0 < q) (pd : 0 < d) (m G : ℕ → Element) where
       ∙ modulo-add q p (part 0 k +ℤ part 1 k) (part 2 k)
       ∙ ap (λ x. (x + modulo q (part 2 k)) % q) (modulo-add q p (part 0 k) (part 1 k))
 
-  pub difference-is : (x a b : List ℕ) → x ≡ scaled q d s (mixed d h m G) → a ≡ scaled q d s (cross d h m G 0) → b ≡ scaled q d s (cross d h m G 2)
+  pub difference-is : (x a b : List ℕ) → x ≡ scaled q d s (innerOfSums d h m G) → a ≡ scaled q d s (cross d h m G 0) → b ≡ scaled q d s (cross d h m G 2)
       → padded d (tabulate d (λ k. (getD x k 0 + (q - getD a k 0 % q) + (q - getD b k 0 % q)) % q)) ≡ scaled q d s (cross d h m G 1)
   difference-is x a b ex ea eb = ap (padded d) (tabulate-ext d (λ k l.
-      (λ i. ((scaled-at (mixed d h m G) x ex k l ∙ spread k l) i + (q - scaled-at (cross d h m G 0) a ea k l i % q) + (q - scaled-at (cross d h m G 2) b eb k l i % q)) % q)
+      (λ i. ((scaled-at (innerOfSums d h m G) x ex k l ∙ spread k l) i + (q - scaled-at (cross d h m G 0) a ea k l i % q) + (q - scaled-at (cross d h m G 2) b eb k l i % q)) % q)
       ∙ less-is q (modulo q (part 0 k)) (modulo q (part 1 k)) (modulo q (part 2 k)) (modulo-lt q p _) (modulo-lt q p _) (modulo-lt q p _)))
       ∙ unfold scaled reduced times in refl

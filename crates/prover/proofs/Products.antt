@@ -4,13 +4,13 @@ use mathlib.Core.List.{List}
 use Prim.Native.Nat.{ℕ, _+_, _*_, _-_, _/_, _%_, _^_, _<_, _≤_}
 use native.Mathlib.Nat as Nat
 use native.Mathlib.Omega.{arith}
-use lib.IntN.{ℤ, pos, natAbs, _+ℤ_, _*ℤ_, +ℤ-idl}
+use lib.IntN.{ℤ, pos, natAbs, _*ℤ_}
 use lib.ListN.{length, getD, take, drop, length-drop}
 use lib.Pow as Pow
 use lib.Seq.{getD-drop}
 use Rattle.protocol.specs.declared.Settings.{Settings}
 use Rattle.protocol.specs.Basic.{tabulate}
-use Rattle.protocol.specs.Element.{Element, modulo, times, padded, reduced, signedAt, residueAt, zeros}
+use Rattle.protocol.specs.Element.{Element, modulo, times, padded, reduced, signedAt, residueAt}
 use Rattle.protocol.specs.Settings.{size, cells, half}
 use Rattle.protocol.specs.Opening.{inner, second, cross, left, halfLeft, commitment, roundElement}
 use Rattle.protocol.specs.Calls.{polynomial}
@@ -19,29 +19,24 @@ use Rattle.protocol.proofs.Modulo.{modulo-times, mod-times}
 use Rattle.protocol.proofs.Reading.{tabulate-ext}
 use Rattle.protocol.proofs.Agreement.{Same, sum-ext, product-same}
 use Rattle.sizes.proofs.Limits.{degree-least, degree-most}
-use Rattle.products.specs.Products.{reducedSums}
-use Rattle.products.proofs.Sums.{SumIs, sum-none, sums-reduced}
+use Rattle.products.specs.Sums.{Summable}
 use Rattle.residues.proofs.Parts.{tail-all}
 use Rattle.residues.proofs.Padding.{padded-at}
 use Rattle.refusals.proofs.Given.{CommitGiven}
 use Rattle.prover.specs.Messages.{Tables}
-use Rattle.prover.specs.Sums.{innerSums, scaled}
-use Rattle.prover.proofs.Sums.{sum-inner, most}
+use Rattle.prover.specs.Sums.{scaled}
 
 inner-same : (d h : ℕ) → 0 < d → {m m′ G G′ : ℕ → Element} → ((i : ℕ) → i < h → Same d (m i) (m′ i)) → ((i : ℕ) → i < h → Same d (G i) (G′ i)) → (k : ℕ) → inner d h m G k ≡ inner d h m′ G′ k
 unfolding inner
 inner-same d h p a b k = sum-ext h (λ i l. product-same p (a i l) (b i l) k)
 
--- a sum, after an inner product of n elements more
-sum-next : (q d n : ℕ) (m : List ℤ) (G : List ℕ) → Tables q d n m G → (k : ℕ) → k < d → (s : List ℕ) (b : ℕ) (z : ℤ) → b ≤ 256 * most → SumIs q k s b z
-    → SumIs q k (innerSums q d m G n s) (b + n * most) (z +ℤ inner d n (signedAt d m) (residueAt d G) k)
-sum-next q d n m G t k l s b z few is = sum-inner q d (t .modulus) (t .modulus-most) (t .degree) (t .degree-most) k l m G n s b z (t .message-small) (omega (arith, t .elements)) is
-
--- ---- one inner product
-
-module _ (q d n : ℕ) (m : List ℤ) (G : List ℕ) (t : Tables q d n m G) where
-  pub inner-reduced : reducedSums q d (innerSums q d m G n (zeros 64)) ≡ padded d (reduced q d (inner d n (signedAt d m) (residueAt d G)))
-  inner-reduced = sums-reduced q d _ (0 + n * most) (inner d n (signedAt d m) (residueAt d G)) (λ k l. subst (SumIs q k _ _) (+ℤ-idl _) (sum-next q d n m G t k l (zeros 64) 0 (pos 0) (omega arith) (sum-none q k)))
+-- small enough for a sum
+pub summable : (q d n : ℕ) (m : List ℤ) (G : List ℕ) → Tables q d n m G → Summable q d n m G
+summable q d n m G t = record {
+  elements = record { modulus = t .modulus; degree = t .degree; degree-most = t .degree-most; f-long = t .message-long; g-long = t .key-long };
+  few = Nat.mul-le-mul {n₂ = 256} {m₂ = 64} (t .elements) (t .degree-most);
+  small = λ j l. omega (arith, t .message-small j l);
+}
 
 -- a multiple of an element that is reduced
 pub scaled-is : (q d s : ℕ) → 0 < q → (a : Element) (l : List ℕ) → l ≡ padded d (reduced q d a) → padded d (tabulate d (λ k. s * getD l k 0 % q)) ≡ scaled q d s a
@@ -126,10 +121,10 @@ commit-tables S key message g = subst (λ n. Tables (S .modulus) (S .degree) n m
     ok : Valid S
     ok = g .tables .settings
 
-pub commitment-is : (S : Settings) (key : List ℕ) (message : List ℤ) → CommitGiven S key message
-    → reducedSums (S .modulus) (S .degree) (innerSums (S .modulus) (S .degree) message key (left S 0) (zeros 64)) ≡ padded (S .degree) (commitment S key message)
+pub commitment-is : (S : Settings) (key : List ℕ) (message : List ℤ)
+    → padded (S .degree) (reduced (S .modulus) (S .degree) (inner (S .degree) (left S 0) (signedAt (S .degree) message) (residueAt (S .degree) key))) ≡ padded (S .degree) (commitment S key message)
 unfolding commitment
-commitment-is S key message g = inner-reduced (S .modulus) (S .degree) (left S 0) message key (commit-tables S key message g) ∙ ap (λ n. padded (S .degree) (reduced (S .modulus) (S .degree) (inner (S .degree) n (signedAt (S .degree) message) (residueAt (S .degree) key)))) (left-whole S)
+commitment-is S key message = ap (λ n. padded (S .degree) (reduced (S .modulus) (S .degree) (inner (S .degree) n (signedAt (S .degree) message) (residueAt (S .degree) key)))) (left-whole S)
 
 -- ---- the round polynomial
 

@@ -10,7 +10,7 @@ use mathlib.Core.List.{List}
 use Prim.Native.Nat.{ℕ, _+_, _*_, _^_, _<_, _≤_}
 use lib.IntN.{ℤ, pos, natAbs}
 use lib.ListN.{length, getD}
-use Rattle.protocol.specs.Element.{Element}
+use Rattle.protocol.specs.Element.{Element, width}
 
 abbrev pub from : List ℤ → ℕ → Element
 from l p k = getD l (p + k) (pos 0)
@@ -29,7 +29,7 @@ pub record Tables (q d n : ℕ) (message : List ℤ) (key : List ℕ) : Type 0 w
   pub modulus : 0 < q
   pub modulus-most : q ≤ 2 ^ 31
   pub degree : 0 < d
-  pub degree-most : d ≤ 64
+  pub degree-most : d ≤ width
   pub elements : n ≤ 256
   pub message-long : n * d ≤ length message
   pub key-long : n * d ≤ length key

@@ -1,35 +1,23 @@
-// Inner products of messages and keys. Products are summed as they are and reduced once.
-use crate::totals;
+// Inner products of messages and keys, of halves of them and of the sums of halves.
+use crate::half_sums;
+use protocol::Residue;
+use protocol::WIDTH;
+
+// The numbers of half of the largest table.
+const HALF_ROOM: usize = 128 * WIDTH;
+
 ghost use mathlib.Core.Path.{_≡_};
 ghost use Prim.Native.Nat.{_+_, _*_, _-_, _%_, _<_, _≤_};
 ghost use lib.ListN.{length, getD};
 ghost use Rattle.protocol.specs.Basic.{tabulate};
-ghost use Rattle.protocol.specs.Element.{padded, signedAt, residueAt};
+ghost use Rattle.protocol.specs.Element.{width, padded, signedAt, residueAt};
 ghost use Rattle.protocol.specs.Opening.{cross};
 ghost use Rattle.protocol.specs.Opening as opening;
 ghost use Rattle.prover.specs.Messages.{Tables, Halved};
-ghost use Rattle.prover.specs.Sums.{innerSums};
 ghost use Rattle.prover.specs.Sums as sums;
 
-// The products m_i·G_i of the first h elements, added to the sums.
-pub fn add_inner(q: u32, d: u32, h: u32, message: &[i32], key: &[u32], sums: &mut [u64])
-    requires { ⌜ Tables q d h (now message) (now key) × (d ≤ length (now sums)) ⌝ }
-    ensures { λ _. ⌜ now (sums .exit) ≡ innerSums q d (now (message .entry)) (now (key .entry)) h (now (sums .entry)) ⌝ }
-{
-    let step = d as usize;
-    let n = h as usize;
-    let mut x = [0u64; 192];
-    let mut i: usize = 0;
-    while i < n {
-        let at = i * step;
-        products::extend(q, d, &key[at..], &mut x);
-        products::accumulate(d, &message[at..], &x, sums);
-        i += 1;
-    }
-}
-
 // x·y modulo q
-fn multiple(q: u32, x: u32, y: u32) -> u32
+fn multiple(q: u32, x: u32, y: Residue) -> Residue
     requires { ⌜ 0 < q ⌝ }
     ensures { λ r. ⌜ r ≡ x * y % q ⌝ }
 {
@@ -37,11 +25,11 @@ fn multiple(q: u32, x: u32, y: u32) -> u32
 }
 
 // s·a modulo q
-fn scaled(q: u32, d: u32, s: u32, a: [u32; 64]) -> [u32; 64]
-    requires { ⌜ (0 < q) × (d ≤ 64) ⌝ }
+fn scaled(q: u32, d: u32, s: u32, a: [Residue; WIDTH]) -> [Residue; WIDTH]
+    requires { ⌜ (0 < q) × (d ≤ width) ⌝ }
     ensures { λ r. ⌜ r ≡ padded d (tabulate d (λ k. s * getD a k 0 % q)) ⌝ }
 {
-    let mut r = [0u32; 64];
+    let mut r = [0u32; WIDTH];
     let n = d as usize;
     let mut k: usize = 0;
     while k < n {
@@ -52,30 +40,42 @@ fn scaled(q: u32, d: u32, s: u32, a: [u32; 64]) -> [u32; 64]
 }
 
 // s·⟨m, G⟩ modulo q, of the first h elements
-fn straight(q: u32, d: u32, h: u32, s: u32, message: &[i32], key: &[u32]) -> [u32; 64]
+fn inner_scaled(
+    q: u32,
+    d: u32,
+    h: u32,
+    s: u32,
+    message: &[i32],
+    key: &[Residue],
+) -> [Residue; WIDTH]
     requires { ⌜ Tables q d h (now message) (now key) ⌝ }
     ensures { λ r. ⌜ r ≡ sums.scaled q d s (opening.inner d h (signedAt d (now (message .entry))) (residueAt d (now (key .entry)))) ⌝ }
 {
-    let mut sums = [0u64; 64];
-    add_inner(q, d, h, message, key, &mut sums);
-    scaled(q, d, s, products::reduced_sums(q, d, &sums))
+    scaled(q, d, s, products::inner(q, d, h, message, key))
 }
 
 // s·⟨m0 + m1, G0 + G1⟩ modulo q, the halves having h elements
-fn mixed(q: u32, d: u32, h: u32, s: u32, message: &[i32], key: &[u32]) -> [u32; 64]
+fn inner_of_sums(
+    q: u32,
+    d: u32,
+    h: u32,
+    s: u32,
+    message: &[i32],
+    key: &[Residue],
+) -> [Residue; WIDTH]
     requires { ⌜ Halved q d h (now message) (now key) ⌝ }
-    ensures { λ r. ⌜ r ≡ sums.scaled q d s (sums.mixed d h (signedAt d (now (message .entry))) (residueAt d (now (key .entry)))) ⌝ }
+    ensures { λ r. ⌜ r ≡ sums.scaled q d s (sums.innerOfSums d h (signedAt d (now (message .entry))) (residueAt d (now (key .entry)))) ⌝ }
 {
     let half = (h as usize) * (d as usize);
-    let mut m = [0i32; 8192];
-    let mut g = [0u32; 8192];
-    totals::message_sums(half, message, &message[half..], &mut m);
-    totals::key_sums(q, half, key, &key[half..], &mut g);
-    straight(q, d, h, s, &m, &g)
+    let mut m = [0i32; HALF_ROOM];
+    let mut g = [0u32; HALF_ROOM];
+    half_sums::message_sums(half, message, &message[half..], &mut m);
+    half_sums::key_sums(q, half, key, &key[half..], &mut g);
+    inner_scaled(q, d, h, s, &m, &g)
 }
 
 // x − a − b modulo q
-fn less(q: u32, x: u32, a: u32, b: u32) -> u32
+fn minus_both(q: u32, x: Residue, a: Residue, b: Residue) -> Residue
     requires { ⌜ 0 < q ⌝ }
     ensures { λ r. ⌜ r ≡ (x + (q - a % q) + (q - b % q)) % q ⌝ }
 {
@@ -83,15 +83,21 @@ fn less(q: u32, x: u32, a: u32, b: u32) -> u32
 }
 
 // The same for elements.
-fn difference(q: u32, d: u32, x: [u32; 64], a: [u32; 64], b: [u32; 64]) -> [u32; 64]
-    requires { ⌜ (0 < q) × (d ≤ 64) ⌝ }
+fn difference(
+    q: u32,
+    d: u32,
+    x: [Residue; WIDTH],
+    a: [Residue; WIDTH],
+    b: [Residue; WIDTH],
+) -> [Residue; WIDTH]
+    requires { ⌜ (0 < q) × (d ≤ width) ⌝ }
     ensures { λ r. ⌜ r ≡ padded d (tabulate d (λ k. (getD x k 0 + (q - getD a k 0 % q) + (q - getD b k 0 % q)) % q)) ⌝ }
 {
-    let mut r = [0u32; 64];
+    let mut r = [0u32; WIDTH];
     let n = d as usize;
     let mut k: usize = 0;
     while k < n {
-        r[k] = less(q, x[k], a[k], b[k]);
+        r[k] = minus_both(q, x[k], a[k], b[k]);
         k += 1;
     }
     r
@@ -99,14 +105,21 @@ fn difference(q: u32, d: u32, x: [u32; 64], a: [u32; 64], b: [u32; 64]) -> [u32;
 
 // The three elements of a round polynomial, s being the power of half. The middle one is what the product of the sums has more than the other two, so that
 // a round takes three inner products.
-pub fn polynomial(q: u32, d: u32, h: u32, s: u32, message: &[i32], key: &[u32]) -> [[u32; 64]; 3]
+pub fn polynomial(
+    q: u32,
+    d: u32,
+    h: u32,
+    s: u32,
+    message: &[i32],
+    key: &[Residue],
+) -> [[Residue; WIDTH]; 3]
     requires { ⌜ Halved q d h (now message) (now key) ⌝ }
     ensures { λ r. ⌜ r ≡ tabulate 3 (λ j. sums.scaled q d s (cross d h (signedAt d (now (message .entry))) (residueAt d (now (key .entry))) j)) ⌝ }
 {
     let half = (h as usize) * (d as usize);
-    let c0 = straight(q, d, h, s, message, key);
-    let c2 = straight(q, d, h, s, &message[half..], &key[half..]);
-    let x = mixed(q, d, h, s, message, key);
+    let c0 = inner_scaled(q, d, h, s, message, key);
+    let c2 = inner_scaled(q, d, h, s, &message[half..], &key[half..]);
+    let x = inner_of_sums(q, d, h, s, message, key);
     let c1 = difference(q, d, x, c0, c2);
     [c0, c1, c2]
 }

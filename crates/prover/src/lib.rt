@@ -1,7 +1,7 @@
 // The prover's calls: each tests what it is given, and then works on the tables that it is lent.
+mod half_sums;
 mod inner;
 mod messages;
-mod totals;
 
 use protocol::Committed;
 use protocol::Ended;
@@ -26,9 +26,7 @@ pub fn commit(settings: Settings, key: &[u32], message: &[i32]) -> Committed
     let q = settings.modulus;
     let d = settings.degree;
     let n = sizes::left(settings, 0);
-    let mut sums = [0u64; 64];
-    inner::add_inner(q, d, n, message, key, &mut sums);
-    let commitment = products::reduced_sums(q, d, &sums);
+    let commitment = products::inner(q, d, n, message, key);
     Committed {
         number: 0,
         commitment: commitment,

@@ -18,8 +18,9 @@ use Rattle.protocol.proofs.Inputs.{settings-valid}
 use Rattle.protocol.proofs.Tests.{and-split, granted-zero, granted-refused}
 use Rattle.protocol.proofs.Refusals.{none-refused, and-fails-right}
 use Rattle.protocol.specs.GrowthTest.{cappedGrowth}
-use Rattle.protocol.proofs.GrowthTest.{power-exact}
+use Rattle.protocol.proofs.GrowthTest.{power-exact, growth-cells}
 use Rattle.sizes.proofs.Limits.{degree-least}
+use Rattle.relaxed.specs.Digits.{Vector}
 
 -- where nothing is past the limit, the capped number is the number
 pub growth-exact : (S : Settings) → settingsRefusal S ≡ 0 → growthAllowed S ≡ true → cappedGrowth S ≡ growth S
@@ -33,6 +34,10 @@ pub record JudgeGiven (S : Settings) (key : List ℕ) (w : List ℤ) : Type 0 wh
   pub key-long : length key ≡ cells S
   pub w-long : length w ≡ cells S
   pub limited : growthAllowed S ≡ true
+
+pub given-vector : (S : Settings) (key : List ℕ) (w : List ℤ) → JudgeGiven S key w → Vector S key w
+unfolding grows
+given-vector S key w g = record { allowed = g .allowed; key-long = g .key-long; long = g .w-long; few = growth-cells S (settings-valid S (g .allowed)) (leb-true _ _ (g .limited)) }
 
 module _ (S : Settings) (C : List ℕ) (c : ℕ) (key : List ℕ) (w : List ℤ) where
   pub judge-given : judgeRefusal S C c key w ≡ 0 → JudgeGiven S key w

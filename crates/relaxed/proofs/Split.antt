@@ -1,46 +1,24 @@
 -- A product, and an inner product, by the two digits of each factor's residue.
 use mathlib.Core.Path.{_≡_, sym, ap, ap₂, _∙_}
-use mathlib.Core.List.{List}
 use Prim.Native.Nat.{ℕ, zero, suc, _+_, _*_, _/_, _%_, _^_, _<_, _≤_}
 use native.Mathlib.Nat as Nat
 use native.Mathlib.Omega.{arith}
-use lib.IntN.{ℤ, pos, natAbs, _+ℤ_, _*ℤ_}
-use lib.ListN.{getD, List·getD-append}
+use lib.IntN.{ℤ, pos, _+ℤ_, _*ℤ_}
 use Rattle.algebra.specs.Ring as R
 use Rattle.algebra.specs.Ring.{CommRing}
 use Rattle.algebra.specs.Integers.{ofℤ}
 use Rattle.algebra.specs.Residues.{Zmod}
 use Rattle.algebra.specs.Negacyclic.{negacyclic}
-use Rattle.protocol.specs.Basic.{sum, tabulate}
-use Rattle.protocol.specs.Element.{Element, modulo, product, plus, times, signed, coefficients, reduced, padded, paddedSigned}
+use Rattle.protocol.specs.Basic.{sum}
+use Rattle.protocol.specs.Element.{Element, modulo, product, plus, times}
 use Rattle.protocol.proofs.Modulo.{modulo-lt, modulo-add, modulo-times}
-use Rattle.protocol.proofs.Reading.{tabulate-length, tabulate-at, tabulate-ext}
 use Rattle.claims.proofs.Readings.{read-plus, read-times, read-product, readq, readq-inj, readq-modulo}
 use Rattle.protocol.specs.Opening.{inner}
-use Rattle.relaxed.specs.Digits.{digit, digitsOf, digitsIn}
+use Rattle.relaxed.specs.Digits.{digit, digitAt}
 
-digits-at : (q d base : ℕ) (a : Element) (j : ℕ) → j < d → signed (digitsOf q d base a) j ≡ pos (digit q base (a j))
-unfolding signed digitsOf paddedSigned coefficients
-digits-at q d base a j h =
-    List·getD-append (tabulate d (λ k. pos (digit q base (a k)))) _ (pos 0) j (omega (arith, tabulate-length d (λ k. pos (digit q base (a k)))))
-    ∙ tabulate-at d (λ k. pos (digit q base (a k))) (pos 0) j h
-
--- the digits of residues
-pub residues-digits : (q d base : ℕ) (a : Element) (r : List ℕ) → r ≡ padded d (reduced q d a) → digitsIn d base r ≡ digitsOf q d base a
-unfolding digitsIn digitsOf digit coefficients padded reduced
-residues-digits q d base a r e = ap (paddedSigned d) (tabulate-ext d (λ k l. ap (λ m. pos (m / base % 65536)) (
-    ap (λ t. getD t k 0) e
-    ∙ List·getD-append (tabulate d (λ j. modulo q (a j))) _ 0 k (omega (arith, tabulate-length d (λ j. modulo q (a j))))
-    ∙ tabulate-at d (λ j. modulo q (a j)) 0 k l)))
-
-digit-most : (q base : ℕ) (z : ℤ) → digit q base z < 65536
+pub digit-most : (q base : ℕ) (z : ℤ) → digit q base z < 65536
 unfolding digit
 digit-most q base z = omega arith
-
--- small enough for sums over all elements
-pub digits-small : (q d base : ℕ) (a : Element) (j : ℕ) → j < d → natAbs (getD (digitsOf q d base a) j (pos 0)) ≤ 2 ^ 16
-unfolding signed
-digits-small q d base a j h = omega (arith, ap natAbs (digits-at q d base a j h), digit-most q base (a j))
 
 module _ (q d : ℕ) (p : 0 < q) (most : q ≤ 2147483647) (pd : 0 < d) where
   digits-sum : (z : ℤ) → digit q 1 z + 65536 * digit q 65536 z ≡ modulo q z
@@ -52,17 +30,17 @@ module _ (q d : ℕ) (p : 0 < q) (most : q ≤ 2147483647) (pd : 0 < d) where
 
   module _ (a g : Element) where
     abbrev low : Element
-    low = signed (digitsOf q d 1 a)
+    low = digitAt q 1 a
 
     abbrev high : Element
-    high = signed (digitsOf q d 65536 a)
+    high = digitAt q 65536 a
 
     abbrev split : Element
     split = plus low (times (pos 65536) high)
 
     split-at : (j : ℕ) → j < d → split j ≡ pos (modulo q (a j))
-    unfolding plus times
-    split-at j h = (λ i. digits-at q d 1 a j h i +ℤ pos 65536 *ℤ digits-at q d 65536 a j h i) ∙ ap pos (digits-sum (a j))
+    unfolding plus times digitAt
+    split-at j h = ap pos (digits-sum (a j))
 
     abbrev rd : Element → Q .C
     rd = readq q p d pd
@@ -97,7 +75,7 @@ module _ (q d : ℕ) (p : 0 < q) (most : q ≤ 2147483647) (pd : 0 < d) where
   -- the inner product of the elements a and g by the inner products of their digits
   module _ (a g : ℕ → Element) (k : ℕ) (h : k < d) where
     abbrev part : ℕ → ℕ → ℤ
-    part base n = inner d n (λ i. signed (digitsOf q d base (a i))) g k
+    part base n = inner d n (λ i. digitAt q base (a i)) g k
 
     none : modulo q (pos 0) ≡ 0
     unfolding modulo
@@ -110,4 +88,4 @@ module _ (q d : ℕ) (p : 0 < q) (most : q ≤ 2147483647) (pd : 0 < d) where
         modulo-add q p (inner d n a g k) (product d (a n) (g n) k)
         ∙ (λ i. (inner-split n i + product-split (a n) (g n) k h i) % q)
         ∙ pairs-sum _ _ _ _
-        ∙ sym (λ i. (modulo-add q p (part 1 n) (product d (signed (digitsOf q d 1 (a n))) (g n) k) i + 65536 * modulo-add q p (part 65536 n) (product d (signed (digitsOf q d 65536 (a n))) (g n) k) i) % q)
+        ∙ sym (λ i. (modulo-add q p (part 1 n) (product d (digitAt q 1 (a n)) (g n) k) i + 65536 * modulo-add q p (part 65536 n) (product d (digitAt q 65536 (a n)) (g n) k) i) % q)

@@ -2,13 +2,21 @@
 mod combination;
 
 use protocol::Judged;
+use protocol::Residue;
 use protocol::Settings;
+use protocol::WIDTH;
 use ranges::tests;
 ghost use mathlib.Core.Path.{_≡_};
 ghost use Rattle.protocol.specs.Calls.{judgeAnswer};
 
 // The judge: is c times the commitment the sum of w_i·G_i modulo q, with no coefficient of w beyond the growth bound.
-pub fn judge(settings: Settings, commitment: [u32; 64], c: u32, key: &[u32], w: &[i64]) -> Judged
+pub fn judge(
+    settings: Settings,
+    commitment: [Residue; WIDTH],
+    c: u32,
+    key: &[Residue],
+    w: &[i64],
+) -> Judged
     ensures { λ r. ⌜ r ≡ judgeAnswer settings commitment c (now (key .entry)) (now (w .entry)) ⌝ }
 {
     let number = refusals::judge::judge(settings, commitment, c, key, w);

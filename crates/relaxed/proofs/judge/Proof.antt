@@ -6,7 +6,7 @@ use borrow.Author.Tests.{not-true, not-false}
 use Rattle.protocol.specs.Settings.{small}
 use Rattle.protocol.specs.Tree.{growth}
 use Rattle.protocol.specs.Calls.{judgeRefusal}
-use Rattle.relaxed.proofs.Answers.{growth-exact, JudgeGiven, judge-given, judge-refused, judge-done, beyond, within}
+use Rattle.relaxed.proofs.Answers.{growth-exact, JudgeGiven, judge-given, given-vector, judge-refused, judge-done, beyond, within}
 use Rattle.relaxed.proofs.judge.Statement.{statement}
 use Rattle.relaxed.proofs.judge.Tie as tie
 
@@ -30,7 +30,7 @@ returns-2 : tie.Need-returns-2
 returns-2 c = judge-done _ _ _ _ _ (passed (c .before .before .before)) false (beyond _ _ _ _ _ (sym (tested (c .before)) ∙ not-true _ (c .if2 .taken)))
 
 opens-requires : tie.Need-opens-requires
-opens-requires c κs = let g = given (c .before .before .before) in (g .allowed, g .key-long, g .w-long)
+opens-requires c κs = given-vector _ _ _ (given (c .before .before .before))
 
 returns-3 : tie.Need-returns-3
 returns-3 c =

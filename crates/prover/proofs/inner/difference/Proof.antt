@@ -19,7 +19,7 @@ loop-holds : tie.Need-loop-holds Inv-loop μ-loop
 loop-holds c = (omega arith, fill-none _ _)
 
 loop-again : tie.Need-loop-again Inv-loop μ-loop
-loop-again c = let l = c .before .before .loop in (omega arith, fill-more 64 _ (l .k) _ (l .r) (l .inv .1) (omega arith) (c .less .ensures))
+loop-again c = let l = c .before .before .loop in (omega arith, fill-more 64 _ (l .k) _ (l .r) (l .inv .1) (omega arith) (c .minus-both .ensures))
 
 returns : tie.Need-returns Inv-loop μ-loop
 returns c = let l = c .before .loop in element-done _ (l .k) _ (l .r) (l .inv .1) (omega arith)

@@ -9,11 +9,11 @@ use borrow.Author.Needs.{needs}
 use Rattle.prover.proofs.inner.polynomial.Statement.{statement}
 use Rattle.prover.proofs.inner.polynomial.Tie as tie
 
-straight-requires : tie.Need-straight-requires
-straight-requires c κs = let a = c .before .args in first-halves (a .q) (a .d) (a .h) (a .message .now) (a .key .now) (c .before .pre .tables)
+inner-scaled-requires : tie.Need-inner-scaled-requires
+inner-scaled-requires c κs = let a = c .before .args in first-halves (a .q) (a .d) (a .h) (a .message .now) (a .key .now) (c .before .pre .tables)
 
-straight-requires-2 : tie.Need-straight-requires-2
-straight-requires-2 c κs = let s = c .before .before .before .before in let a = s .args in second-halves (a .q) (a .d) (a .h) (a .message .now) (a .key .now) (s .pre .tables)
+inner-scaled-requires-2 : tie.Need-inner-scaled-requires-2
+inner-scaled-requires-2 c κs = let s = c .before .before .before .before in let a = s .args in second-halves (a .q) (a .d) (a .h) (a .message .now) (a .key .now) (s .pre .tables)
 
 returns : tie.Need-returns
 unfolding tabulate
@@ -21,9 +21,9 @@ returns c =
     let s = c .before .before .before .before .before .before .before in
     let a = s .args in
     let t = s .pre .tables in
-    let c0 = c .before .before .before .before .before .straight .ensures ∙ ap (scaled (a .q) (a .d) (a .s)) (cross-first (a .q) (a .d) (a .h) (a .message .now) (a .key .now) t) in
-    let c2 = c .before .before .straight2 .ensures ∙ cross-last (a .q) (a .d) (a .h) (a .message .now) (a .key .now) t (a .s) in
-    let c1 = c .difference .ensures ∙ difference-is (a .q) (a .d) (a .h) (a .s) (t .modulus) (t .degree) (signedAt (a .d) (a .message .now)) (residueAt (a .d) (a .key .now)) _ _ _ (c .before .mixed .ensures) c0 c2 in
+    let c0 = c .before .before .before .before .before .inner-scaled .ensures ∙ ap (scaled (a .q) (a .d) (a .s)) (cross-first (a .q) (a .d) (a .h) (a .message .now) (a .key .now) t) in
+    let c2 = c .before .before .inner-scaled2 .ensures ∙ cross-last (a .q) (a .d) (a .h) (a .message .now) (a .key .now) t (a .s) in
+    let c1 = c .difference .ensures ∙ difference-is (a .q) (a .d) (a .h) (a .s) (t .modulus) (t .degree) (signedAt (a .d) (a .message .now)) (residueAt (a .d) (a .key .now)) _ _ _ (c .before .inner-of-sums .ensures) c0 c2 in
     λ i. c0 i ∷ c1 i ∷ c2 i ∷ []
 
 pub polynomial-spec : {M : Type 1} → statement M
@@ -31,7 +31,7 @@ polynomial-spec =
     tie.close
     (tie.spec
     (λ c. search needs)
-    straight-requires
+    inner-scaled-requires
     (λ c. search needs)
     (λ c. search needs)
     (λ c. search needs)
@@ -40,7 +40,7 @@ polynomial-spec =
     (λ c. search needs)
     (λ c. search needs)
     (λ c. search needs)
-    straight-requires-2
+    inner-scaled-requires-2
     (λ c κs. search needs)
     (λ c κs. search needs)
     returns)

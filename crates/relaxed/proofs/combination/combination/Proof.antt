@@ -1,44 +1,39 @@
--- The sums start at zero, and hold the products of all elements.
-use mathlib.Core.Path.{_≡_, ap, _∙_}
+-- The digits of all numbers, and an inner product for each of the two.
+use mathlib.Core.Path.{_≡_, _∙_}
 use native.Mathlib.Omega.{arith}
-use Rattle.protocol.specs.Element.{modulo, signedAt, residueAt, zeros, padded}
-use Rattle.protocol.specs.Basic.{tabulate}
+use Rattle.protocol.specs.Element.{signedZeros}
 use Rattle.protocol.specs.Settings.{size}
-use Rattle.protocol.specs.Opening.{inner}
-use Rattle.protocol.specs.Judge as of
-use Rattle.relaxed.specs.Digits.{Elements, joinedSums}
-use Rattle.relaxed.proofs.Sums.{left-none, settings-elements, sums-joined}
+use Rattle.relaxed.proofs.Sums.{left-none, modulus-some, degree-few, digits-summable, parts-joined}
 use borrow.Author.Needs.{needs}
 use Rattle.relaxed.proofs.combination.combination.Statement.{statement}
 use Rattle.relaxed.proofs.combination.combination.Tie as tie
 
 -- as many elements as the settings say
 count : (c : tie.After-left) → c .left .result ≡ size (c .before .before .args .settings)
-count c = let s = c .before .before in c .left .ensures (record { allowed = s .pre .0; most = omega arith }) ∙ left-none (s .args .settings)
+count c = let s = c .before .before in c .left .ensures (record { allowed = s .pre .allowed; most = omega arith }) ∙ left-none (s .args .settings)
 
-elements : (c : tie.After-left) → let a = c .before .before .args in Elements (a .settings .modulus) (a .settings .degree) (c .left .result) (a .key .now) (a .w .now)
-elements c = let s = c .before .before in settings-elements (s .args .settings) _ (s .args .key .now) (s .args .w .now) (s .pre .0) (count c) (s .pre .1) (s .pre .2)
+split-requires : tie.Need-split-requires
+split-requires c κs = let s = c .before .before .before .before in let a = s .args in (modulus-some (a .settings) (a .key .now) (a .w .now) (s .pre), omega (arith, s .pre .few, s .pre .long), omega (arith, s .pre .few, s .pre .long))
 
-add-digits-requires : tie.Need-add-digits-requires
-add-digits-requires c κs = let E = elements (c .before .before) in (E, E .degree-most, E .degree-most)
-
-joined-sums-requires : tie.Need-joined-sums-requires
-joined-sums-requires c κs =
-    let E = elements (c .before .before .before .before .before .before .before) in
-    let k = c .before .before .before .before .add-digits .kept in
-    (E .modulus, E .degree-most, omega (arith, E .degree-most, k .1 .1 .1 .1 .1 .0), omega (arith, E .degree-most, k .1 .1 .1 .1 .1 .1 .0))
+joined-elements-requires : tie.Need-joined-elements-requires
+joined-elements-requires c κs =
+    let s = c .before .before .before .before .before .before .before .before .before .before .before in
+    let a = s .args in
+    (modulus-some (a .settings) (a .key .now) (a .w .now) (s .pre), degree-few (a .settings) (a .key .now) (a .w .now) (s .pre))
 
 returns : tie.Need-returns
-unfolding zeros of.combination
+unfolding signedZeros
 returns c =
-    let t = c .before .before .before .before .before .before .before .before in
+    let first = c .before .before .before in
+    let digits = first .before .before .before .before in
+    let t = digits .before .before .before in
     let a = t .before .before .args in
-    let S = a .settings in
-    let sums = c .before .before .before .before .before .add-digits .ensures in
-    c .joined-sums .ensures
-    ∙ (λ i. joinedSums (S .modulus) (S .degree) (sums .0 i) (sums .1 i))
-    ∙ sums-joined (S .modulus) (S .degree) (t .left .result) (a .key .now) (a .w .now) (elements t)
-    ∙ ap (λ n. padded (S .degree) (tabulate (S .degree) (λ k. modulo (S .modulus) (inner (S .degree) n (signedAt (S .degree) (a .w .now)) (residueAt (S .degree) (a .key .now)) k)))) (count t)
+    let v = t .before .before .pre in
+    let e = digits .split .ensures in
+    c .joined-elements .ensures
+    ∙ parts-joined (a .settings) (a .key .now) (a .w .now) v (t .left .result) (count t) _ _ (e .0) (e .1) _ _
+    (first .inner .ensures (digits-summable (a .settings) (a .key .now) (a .w .now) v 1 _ (e .0) _ (count t)))
+    (c .before .inner2 .ensures (digits-summable (a .settings) (a .key .now) (a .w .now) v 65536 _ (e .1) _ (count t)))
 
 pub combination-spec : {M : Type 1} → statement M
 combination-spec =
@@ -47,9 +42,11 @@ combination-spec =
     (λ c κs. search needs)
     (λ c. search needs)
     (λ c. search needs)
-    add-digits-requires
+    split-requires
     (λ c. search needs)
+    (λ c κs. search needs)
     (λ c. search needs)
+    (λ c κs. search needs)
     (λ c. search needs)
-    joined-sums-requires
+    joined-elements-requires
     returns)

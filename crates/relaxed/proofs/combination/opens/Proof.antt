@@ -44,7 +44,7 @@ abbrev μ-loop : tie.MeasureT-loop
 
 -- places are small
 small : (c : tie.In-loop Inv-loop μ-loop) → c .before .loop .k < 64
-small c = let g = c .before .before .before .before .before in omega (arith, degree-most (g .args .settings) (settings-valid (g .args .settings) (g .pre .0)))
+small c = let g = c .before .before .before .before .before in omega (arith, degree-most (g .args .settings) (settings-valid (g .args .settings) (g .pre .allowed)))
 
 loop-holds : tie.Need-loop-holds Inv-loop μ-loop
 loop-holds c = (omega arith, every-none _)
@@ -56,7 +56,7 @@ array-read-scaled-is-2 : tie.Need-array-read-scaled-is-2 Inv-loop μ-loop
 array-read-scaled-is-2 c = small c
 
 scaled-is-requires : tie.Need-scaled-is-requires Inv-loop μ-loop
-scaled-is-requires c κs = let g = c .before .before .before .before .before in omega (arith, settings-valid (g .args .settings) (g .pre .0) .modulus-least)
+scaled-is-requires c κs = let g = c .before .before .before .before .before in omega (arith, settings-valid (g .args .settings) (g .pre .allowed) .modulus-least)
 
 returns : tie.Need-returns Inv-loop μ-loop
 returns c =

@@ -1,0 +1,53 @@
+-- The loop keeps: the first p sums are in place, the others are as they were.
+use mathlib.Core.Path.{_≡_, refl, ap}
+use Prim.Native.Nat.{ℕ, _+_, _-_, _%_, _≤_}
+use native.Mathlib.Nat.{zero-add}
+use native.Mathlib.Omega.{arith}
+use lib.ListN.{length, getD, length-set}
+use Rattle.residues.specs.Residues.{BothBelow}
+use Rattle.residues.proofs.Fill.{filled, filled-none, filled-turn, filled-end}
+use borrow.Author.Needs.{needs}
+use Rattle.prover.proofs.half_sums.key_sums.Statement.{statement}
+use Rattle.prover.proofs.half_sums.key_sums.Tie as tie
+
+abbrev Inv-loop : tie.InvT-loop
+Inv-loop q n first second sums₀ p₀ sums p = (p ≤ n) × (sums ≡ filled (λ (j : ℕ). (getD first j 0 + getD second j 0) % q) p sums₀) × (length sums ≡ length sums₀)
+
+abbrev μ-loop : tie.MeasureT-loop
+μ-loop q n first second sums₀ p₀ sums p = n - p
+
+loop-holds : tie.Need-loop-holds Inv-loop μ-loop
+loop-holds c = (omega arith, filled-none _ _, refl)
+
+loop-again : tie.Need-loop-again Inv-loop μ-loop
+loop-again c =
+    let s = c .before .before .before .before .before .before .before .before in
+    let l = c .before .before .before .before .loop in
+    let one = ap (λ j. getD (s .args .first .now) j 0) (zero-add (l .p)) in
+    let two = ap (λ j. getD (s .args .second .now) j 0) (zero-add (l .p)) in
+    let small : BothBelow (s .args .q) (getD (s .args .first .now) (l .p) 0) (getD (s .args .second .now) (l .p) 0) =
+    record { left = omega (arith, one, s .pre .0 .each (l .p) (omega arith)); right = omega (arith, two, s .pre .1 .each (l .p) (omega arith)) } in
+    (omega arith, filled-turn _ (l .p) _ (l .inv .1) (c .plus .ensures small) (omega arith), simp length-set (omega arith))
+
+returns : tie.Need-returns Inv-loop μ-loop
+returns c = filled-end _ _ (c .before .loop .inv .1) (omega arith)
+
+pub key-sums-spec : {M : Type 1} → statement M
+key-sums-spec =
+    tie.close
+    (tie.spec
+    Inv-loop
+    μ-loop
+    loop-holds
+    (λ c. search needs)
+    (λ c. search needs)
+    (λ c. search needs)
+    (λ c. search needs)
+    (λ c κs. search needs)
+    (λ c. search needs)
+    (λ c. search needs)
+    (λ c. search needs)
+    (λ c. search needs)
+    loop-again
+    (λ c. search needs)
+    returns)

@@ -1,0 +1,81 @@
+-- The product of an element of whole numbers with an element of residues, by rows that are added to sums modulo 2^64.
+--
+--   turned q d a y    what stands at place y of the element a, going round by X^d = −1, modulo q: at the places 0 to 3d − 1 each
+--                     rotation of a, and its negative, is d of them in a row
+--   start d z j       where X^j·a, or for a negative z its negative, begins among them
+--   narrowed x y      number y of the list x modulo 2^32, which is what a row reads of it
+--   addRow d m at ..  the sums s with m times the d residues from place `at` on added
+--   nextRow d f x j s the sums s with row j added, which is f_j·X^j·a
+--   addRows d f x j   the sums after the first j rows
+--   addFour d f x j s the sums s with the four rows from row j on added
+--   addProduct ..     the sums s with the product of f and a added
+--   total n f         f 0 + f 1 + … + f (n − 1)
+--   term d f x k j    what row j adds to sum k
+--   Rows d ..         are the tables of a product long enough
+--   Preparable q d .. may an element of a length be prepared in a room of another
+--   Prepared q d a x  the element a is prepared at the front of x: a row of it reads the residues that it should
+--   Addable q d ..    a product with a prepared element may be added to sums
+use mathlib.Core.List.{List, _++_}
+use mathlib.Core.Path.{_≡_}
+use Prim.Native.Nat.{ℕ, zero, suc, _+_, _*_, _-_, _%_, _^_, _<_, _≤_}
+use lib.IntN.{ℤ, pos, negsuc, natAbs}
+use lib.ListN.{length, getD, drop}
+use Rattle.protocol.specs.Basic.{tabulate}
+use Rattle.protocol.specs.Element.{width, modulo, around, residue}
+
+unfoldable pub turned : ℕ → ℕ → List ℕ → ℕ → ℕ
+turned q d a y = modulo q (around d (residue a) y)
+
+unfoldable pub start : ℕ → ℤ → ℕ → ℕ
+start d (pos n) j = d + d - j
+start d (negsuc n) j = d - j
+
+abbrev pub narrowed : List ℕ → ℕ → ℕ
+narrowed x y = getD x y 0 % 2 ^ 32
+
+unfoldable pub addRow : ℕ → ℕ → ℕ → (ℕ → ℕ) → List ℕ → List ℕ
+addRow d m at x s = tabulate d (λ k. (getD s k 0 + m * x (at + k)) % 2 ^ 64) ++ drop d s
+
+abbrev pub nextRow : ℕ → List ℤ → (ℕ → ℕ) → ℕ → List ℕ → List ℕ
+nextRow d f x j s = addRow d (natAbs (getD f j (pos 0))) (start d (getD f j (pos 0)) j) x s
+
+unfoldable pub addRows : ℕ → List ℤ → (ℕ → ℕ) → ℕ → List ℕ → List ℕ
+addRows d f x zero s = s
+addRows d f x (suc j) s = nextRow d f x j (addRows d f x j s)
+
+unfoldable pub addFour : ℕ → List ℤ → (ℕ → ℕ) → ℕ → List ℕ → List ℕ
+addFour d f x j s = nextRow d f x (j + 3) (nextRow d f x (j + 2) (nextRow d f x (j + 1) (nextRow d f x j s)))
+
+unfoldable pub addProduct : ℕ → ℕ → List ℤ → List ℕ → List ℕ → List ℕ
+addProduct q d f a s = addRows d f (turned q d a) d s
+
+unfoldable pub total : ℕ → (ℕ → ℕ) → ℕ
+total zero f = 0
+total (suc n) f = total n f + f n
+
+unfoldable pub term : ℕ → List ℤ → (ℕ → ℕ) → ℕ → ℕ → ℕ
+term d f x k j = natAbs (getD f j (pos 0)) * x (start d (getD f j (pos 0)) j + k)
+
+-- f has d coefficients, x has room for a prepared element, and there are d sums
+pub record Rows (d f x s : ℕ) : Type 0 where
+  pub degree : d ≤ width
+  pub coefficients : d ≤ f
+  pub residues : 3 * d ≤ x
+  pub sums : d ≤ s
+
+pub record Preparable (q d a room : ℕ) : Type 0 where
+  pub modulus : 0 < q
+  pub degree : 0 < d
+  pub degree-most : d ≤ width
+  pub coefficients : d ≤ a
+  pub places : 3 * d ≤ room
+
+pub record Prepared (q d : ℕ) (a x : List ℕ) : Type 0 where
+  pub places : 3 * d ≤ length x
+  pub each : (y : ℕ) → y < 3 * d → narrowed x y ≡ turned q d a y
+
+pub record Addable (q d : ℕ) (f : List ℤ) (a x s : List ℕ) : Type 0 where
+  pub degree : d ≤ width
+  pub coefficients : d ≤ length f
+  pub prepared : Prepared q d a x
+  pub sums : d ≤ length s

@@ -1,0 +1,201 @@
+// The product of an element of whole numbers with an element of residues, added to sums modulo 2^64. Residues stand in 64 bits, and four rows are added
+// at a time: so a row costs one product and one sum for each of its numbers.
+use protocol::Residue;
+use protocol::WIDTH;
+use ranges::tests;
+ghost use mathlib.Core.Path.{_≡_};
+ghost use mathlib.Core.List.{List};
+ghost use Prim.Native.Nat.{ℕ, _+_, _*_, _%_, _^_, _<_, _≤_};
+ghost use lib.ListN.{length};
+ghost use Rattle.protocol.specs.Basic.{Provided};
+ghost use Rattle.protocol.specs.Element.{width};
+ghost use Rattle.residues.specs.Lists.{spliced};
+ghost use Rattle.rows.specs.Rows.{turned, narrowed, start, addRow, addRows, addFour, addProduct, Rows, Preparable, Prepared, Addable};
+
+fn wide(x: Residue) -> u64
+    ensures { λ r. ⌜ r ≡ x ⌝ }
+{
+    x as u64
+}
+
+// x modulo q; a residue is not divided.
+fn reduce(q: u32, x: Residue) -> Residue
+    requires { ⌜ 0 < q ⌝ }
+    ensures { λ r. ⌜ r ≡ x % q ⌝ }
+{
+    if x < q {
+        return x;
+    }
+    x % q
+}
+
+// The residues that stand at the places 0 to 3d − 1 of a, going round by X^d = −1, written to the front of y: each residue, its negative, and
+// the residue again.
+fn write_rows(q: u32, d: usize, a: &[Residue], y: &mut [u64])
+    requires { ⌜ (0 < q) × (d ≤ width) × (d ≤ length (now a)) × (3 * d ≤ length (now y)) ⌝ }
+    ensures { λ _. ⌜ now (y .exit) ≡ spliced (turned q d (now (a .entry))) 0 (3 * d) (now (y .entry)) ⌝ }
+{
+    for k in 0..d {
+        let x = reduce(q, a[k]);
+        y[k] = wide(x);
+        y[d + k] = wide(residues::negated(q, x));
+        y[2 * d + k] = wide(x);
+    }
+}
+
+// The room that a prepared element takes: its residues, their negatives, and the residues again.
+pub const ROOM: usize = 3 * WIDTH;
+
+// Prepares an element at the front of a lent room: every rotation of it, with either sign, is then d places in a row. What stands behind it stays.
+pub fn prepare(q: u32, d: u32, a: &[Residue], x: &mut [u64])
+    ensures { λ _. ⌜ Provided (Preparable q d (length (now (a .entry))) (length (now (x .entry)))) (Prepared q d (now (a .entry)) (now (x .exit))) ⌝ }
+{
+    let n = d as usize;
+    if q == 0 {
+        return;
+    }
+    if n > WIDTH {
+        return;
+    }
+    if a.len() < n {
+        return;
+    }
+    if x.len() < 3 * n {
+        return;
+    }
+    write_rows(q, n, a, x);
+}
+
+// m·y, y being below 2^32.
+fn scaled(m: u32, y: u64) -> u64
+    ensures { λ r. ⌜ r ≡ m * (y % 2 ^ 32) ⌝ }
+{
+    (m as u64) * (y % 4294967296)
+}
+
+// s + m·y modulo 2^64
+fn plus_scaled(s: u64, m: u32, y: u64) -> u64
+    ensures { λ r. ⌜ r ≡ (s + m * (y % 2 ^ 32)) % 2 ^ 64 ⌝ }
+{
+    std::num::wrapping_add_u64(s, scaled(m, y))
+}
+
+// One row: m times the d residues from place `at` on.
+fn add_row(d: usize, m: u32, at: usize, x: &[u64], sums: &mut [u64])
+    requires { ⌜ (at + d ≤ length (now x)) × (d ≤ length (now sums)) ⌝ }
+    ensures { λ _. ⌜ now (sums .exit) ≡ addRow d m at (narrowed (now (x .entry))) (now (sums .entry)) ⌝ }
+{
+    let mut k: usize = 0;
+    while k < d {
+        sums[k] = plus_scaled(sums[k], m, x[at + k]);
+        k += 1;
+    }
+}
+
+// Four rows at a time.
+fn add_four(
+    d: usize,
+    m0: u32,
+    at0: usize,
+    m1: u32,
+    at1: usize,
+    m2: u32,
+    at2: usize,
+    m3: u32,
+    at3: usize,
+    x: &[u64],
+    sums: &mut [u64],
+)
+    requires { ⌜ (at0 + d ≤ length (now x)) × (at1 + d ≤ length (now x)) × (at2 + d ≤ length (now x)) × (at3 + d ≤ length (now x)) × (d ≤ length (now sums)) ⌝ }
+    ensures { λ _. ⌜ now (sums .exit) ≡ addRow d m3 at3 (narrowed (now (x .entry))) (addRow d m2 at2 (narrowed (now (x .entry))) (addRow d m1 at1 (narrowed (now (x .entry))) (addRow d m0 at0 (narrowed (now (x .entry))) (now (sums .entry))))) ⌝ }
+{
+    let mut k: usize = 0;
+    while k < d {
+        let first = plus_scaled(sums[k], m0, x[at0 + k]);
+        let second = plus_scaled(first, m1, x[at1 + k]);
+        let third = plus_scaled(second, m2, x[at2 + k]);
+        sums[k] = plus_scaled(third, m3, x[at3 + k]);
+        k += 1;
+    }
+}
+
+// Where the row of coefficient j begins: a negative one takes the row d places before, which has the other sign.
+fn row_start(d: usize, c: i32, j: usize) -> usize
+    requires { ⌜ (d ≤ width) × (j < d) ⌝ }
+    ensures { λ r. ⌜ r ≡ start d c j ⌝ }
+{
+    if c < 0 {
+        return d - j;
+    }
+    d + d - j
+}
+
+// The rows of the four coefficients from coefficient j on.
+fn add_block(d: usize, j: usize, f: &[i32], x: &[u64], sums: &mut [u64])
+    requires { ⌜ Rows d (length (now f)) (length (now x)) (length (now sums)) × (j + 4 ≤ d) ⌝ }
+    ensures { λ _. ⌜ now (sums .exit) ≡ addFour d (now (f .entry)) (narrowed (now (x .entry))) j (now (sums .entry)) ⌝ }
+{
+    let c0 = f[j];
+    let c1 = f[j + 1];
+    let c2 = f[j + 2];
+    let c3 = f[j + 3];
+    add_four(
+        d,
+        tests::magnitude(c0),
+        row_start(d, c0, j),
+        tests::magnitude(c1),
+        row_start(d, c1, j + 1),
+        tests::magnitude(c2),
+        row_start(d, c2, j + 2),
+        tests::magnitude(c3),
+        row_start(d, c3, j + 3),
+        x,
+        sums,
+    );
+}
+
+// The rows from coefficient `done` on, those before it being added.
+fn add_rest(d: usize, done: usize, f: &[i32], x: &[u64], sums: &mut [u64])
+    requires { ⌜ Rows d (length (now f)) (length (now x)) (length (now sums)) × (done ≤ d) ⌝ }
+    ensures { λ _. ⌜ ((s : List ℕ) → now (sums .entry) ≡ addRows d (now (f .entry)) (narrowed (now (x .entry))) done s → now (sums .exit) ≡ addRows d (now (f .entry)) (narrowed (now (x .entry))) d s) ⌝ }
+{
+    let mut j: usize = done;
+    while j < d {
+        let c = f[j];
+        add_row(d, tests::magnitude(c), row_start(d, c, j), x, sums);
+        j += 1;
+    }
+}
+
+// The rows of all coefficients of f.
+fn add_rows(d: usize, f: &[i32], x: &[u64], sums: &mut [u64])
+    requires { ⌜ Rows d (length (now f)) (length (now x)) (length (now sums)) ⌝ }
+    ensures { λ _. ⌜ now (sums .exit) ≡ addRows d (now (f .entry)) (narrowed (now (x .entry))) d (now (sums .entry)) ⌝ }
+{
+    let mut j: usize = 0;
+    while j + 4 <= d {
+        add_block(d, j, f, x, sums);
+        j += 4;
+    }
+    add_rest(d, j, f, x, sums);
+}
+
+// Adds the product of f with the element that is prepared at the front of x.
+pub fn add_product(d: u32, f: &[i32], x: &[u64], sums: &mut [u64])
+    ensures { λ _. ⌜ ((q : ℕ) (a : List ℕ) → Provided (Addable q d (now (f .entry)) a (now (x .entry)) (now (sums .entry))) (now (sums .exit) ≡ addProduct q d (now (f .entry)) a (now (sums .entry)))) ⌝ }
+{
+    let n = d as usize;
+    if n > WIDTH {
+        return;
+    }
+    if f.len() < n {
+        return;
+    }
+    if x.len() < 3 * n {
+        return;
+    }
+    if sums.len() < n {
+        return;
+    }
+    add_rows(n, f, x, sums);
+}
