@@ -3,3 +3,4 @@ pub mod Powers
 pub mod Quotients
 pub mod Ending
 pub mod Halves
+pub mod Polynomials
