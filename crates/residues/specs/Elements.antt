@@ -4,13 +4,14 @@
 --   valueAt q d e c0 c1 c2 k  coefficient k of c0 + X^e·c1 + X^2e·c2, modulo q
 --   Coefficients q d ..       three elements of residues
 --   Valuable q d ..           such three of a degree that there is, with room for an element
+--   Turnable q d a out        the lists a and out begin with an element of residues each, of a degree that there is
 use mathlib.Core.List.{List}
 use Prim.Native.Nat.{ℕ, _+_, _*_, _<_, _≤_}
 use lib.ListN.{length, getD}
 use lib.IntN.{_+ℤ_}
 use Rattle.protocol.specs.Basic.{tabulate}
 use Rattle.protocol.specs.Element.{Element, modulo, rotate, padded}
-use Rattle.residues.specs.Residues.{Residues}
+use Rattle.residues.specs.Residues.{Residues, Summands}
 
 unfoldable pub elementAt : ℕ → List ℕ → ℕ → List ℕ
 elementAt d t i = padded d (tabulate d (λ k. getD t (i * d + k) 0))
@@ -29,3 +30,8 @@ pub record Valuable (q d : ℕ) (c0 c1 c2 out : List ℕ) : Type 0 where
   pub degree-most : d ≤ 64
   pub coefficients : Coefficients q d c0 c1 c2
   pub room : d ≤ length out
+
+pub record Turnable (q d : ℕ) (a out : List ℕ) : Type 0 where
+  pub degree : 0 < d
+  pub degree-most : d ≤ 64
+  pub summands : Summands q d 0 a 0 out

@@ -6,8 +6,9 @@ ghost use lib.IntN.{pos};
 ghost use lib.ListN.{getD};
 ghost use Rattle.protocol.specs.Basic.{Provided};
 ghost use Rattle.protocol.specs.Element.{residue, coefficients, paddedSigned, signedAt};
-ghost use Rattle.residues.specs.Elements.{elementAt, valueAt, Valuable};
+ghost use Rattle.residues.specs.Elements.{elementAt, valueAt, Valuable, Turnable};
 ghost use Rattle.residues.specs.Lists.{spliced};
+ghost use Rattle.residues.specs.Residues.{plusTurned};
 
 // Number p of a table; 0 where it has none.
 pub fn entry(t: &[u32], p: usize) -> u32
@@ -92,4 +93,25 @@ pub fn value(q: u32, d: u32, e: u32, c0: &[u32], c1: &[u32], c2: &[u32], out: &m
         return;
     }
     rows::value(q, n, e as usize, c0, c1, c2, out);
+}
+
+// Adds X^e·a, modulo q, to the element at the front of out.
+pub fn add_turned(q: u32, d: u32, e: u32, a: &[u32], out: &mut [u32])
+    ensures { λ _. ⌜ Provided (Turnable q d (now (a .entry)) (now (out .entry))) (now (out .exit) ≡ spliced (plusTurned q d e (now (a .entry)) 0 (now (out .entry))) 0 d (now (out .entry))) ⌝ }
+{
+    if d == 0 {
+        return;
+    }
+    if d > 64 {
+        return;
+    }
+    let n = d as usize;
+    if a.len() < n {
+        return;
+    }
+    if out.len() < n {
+        return;
+    }
+    let once = rows::on_circle(n, e as usize);
+    rows::accumulate_turned(q, n, once, a, out, 0);
 }

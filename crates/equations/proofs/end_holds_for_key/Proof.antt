@@ -1,10 +1,9 @@
-use mathlib.Core.Path.{ap, _∙_}
+use mathlib.Core.Path.{_∙_}
 use native.Mathlib.Omega.{arith}
 use Prim.Native.Nat.{_≤_}
 use lib.ListN.{length}
-use Rattle.protocol.specs.Element.{signed, residue}
-use Rattle.equations.specs.Ends.{endMet}
-use Rattle.equations.proofs.Ending.{end-by-key}
+use Rattle.protocol.specs.Element.{signed}
+use Rattle.equations.proofs.Ending.{end-by-front}
 use Rattle.equations.proofs.Ready.{ready}
 use borrow.Author.Needs.{needs}
 use Rattle.equations.proofs.end_holds_for_key.Statement.{statement}
@@ -26,8 +25,7 @@ returns c = λ g.
     let r = ready S (g .of-key .allowed) in
     let long : S .degree ≤ length (c .before .before .folded-key .result) = omega (arith, slice-aggregate-end-holds (c .before), r .degree-most) in
     c .end-holds .ensures (record { allowed = g .of-key .allowed; first = g .claim-long; second = g .final-long; third = long })
-    ∙ ap (λ x. endMet S (a .claim .now) (signed (a .f .now)) (residue x)) (c .before .before .folded-key .ensures (g .of-key))
-    ∙ end-by-key S (a .key .now) (a .challenges .now) (a .claim .now) (signed (a .f .now))
+    ∙ end-by-front S (a .key .now) (a .challenges .now) (a .claim .now) _ (signed (a .f .now)) (c .before .before .folded-key .ensures (g .of-key))
 
 pub end-holds-for-key-spec : {M : Type 1} → statement M
 end-holds-for-key-spec = tie.close (tie.spec folded-key-requires slice-aggregate-end-holds end-holds-requires returns)
