@@ -11,7 +11,7 @@ use lib.IntN.{ℤ, pos, _*ℤ_, natAbs}
 use lib.ListN.{length, getD}
 use Rattle.protocol.specs.declared.Settings.{Settings}
 use Rattle.protocol.specs.Basic.{every, within}
-use Rattle.protocol.specs.Element.{Element, modulo, product, signed, residue}
+use Rattle.protocol.specs.Element.{Element, modulo, product, signed, residue, residueAt}
 use Rattle.protocol.specs.Settings.{size, half}
 use Rattle.protocol.specs.Transcript.{finalBounded, ending, endHolds}
 use Rattle.protocol.proofs.Modulo.{modulo-lt, modulo-times}
@@ -21,7 +21,7 @@ use Rattle.residues.specs.Elements.{elementAt}
 use Rattle.products.specs.Sums.{multipleIs, Summable}
 use Rattle.residues.proofs.Padding.{element-residue}
 use Rattle.equations.specs.Ends.{equationMet, endMet}
-use Rattle.protocol.proofs.Agreement.{every-ext, product-same}
+use Rattle.protocol.proofs.Agreement.{Alike, every-ext, product-same}
 use Rattle.protocol.proofs.OpeningLaws.{left-power}
 use Rattle.equations.proofs.Ready.{Ready}
 use Rattle.equations.proofs.Quotients.{multiple-test, half-inverse}
@@ -57,6 +57,13 @@ module _ (S : Settings) (ready : Ready S) (f : List ℤ) where
       equation-is = every-ext d (λ k l.
           multiple-test q (omega arith) n (half S ^ L) (ap (λ x. x * half S ^ L % q) power-is ∙ unfold half in half-inverse q (omega arith) (ready .modulus-odd) L) (modulo q (product d (signed f) (residue g) k)) (getD claim k 0) (modulo-lt q (omega arith) _)
           ∙ ap (eqb (getD claim k 0)) (sym (modulo-times q (omega arith) (half S ^ L) (product d (signed f) (residue g) k))))
+
+-- the end by a list that begins with the first element of the folded key, as by the key
+pub end-by-front : (S : Settings) (key E claim g : List ℕ) (f : Element) → Alike (S .degree) g (keyAfter S E (S .depth) key) → endMet S claim f (residue g) ≡ (finalBounded S f && endHolds S key E claim f)
+unfolding endMet equationMet endHolds ending residue residueAt
+end-by-front S key E claim g f s = ap (λ b. finalBounded S f && b) (every-ext (S .degree) (λ k l.
+    ap (λ z. eqb (getD claim k 0) (modulo (S .modulus) (pos (half S ^ S .depth) *ℤ z)))
+    (product-same {d = S .degree} (omega arith) (λ _ _. refl) (λ j b. ap pos (s j b ∙ ap (λ x. getD (keyAfter S E (S .depth) key) x 0) (omega (arith, Nat.zero-mul (S .degree))))) k)))
 
 -- the end by the first element of the folded key, as by the key
 pub end-by-key : (S : Settings) (key E claim : List ℕ) (f : Element) → endMet S claim f (residue (elementAt (S .degree) (keyAfter S E (S .depth) key) 0)) ≡ (finalBounded S f && endHolds S key E claim f)

@@ -2,4 +2,6 @@ pub mod Ready
 pub mod Powers
 pub mod Quotients
 pub mod Ending
-pub mod Halves
+pub mod Polynomials
+pub mod Turns
+pub mod Summing

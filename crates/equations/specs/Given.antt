@@ -4,13 +4,17 @@
 --   ElementsGiven S x y z  the settings are allowed, and lists of x, y and z numbers have an element each
 --   FinalGiven S f         the settings are allowed, and the final element f is within its bound
 --   KeyGiven S key E       the settings are allowed, the key is n elements of residues, and there are L challenges
+--   RoundRead S k x n      the settings are allowed, polynomial k stands in a table of n numbers, and a list of x numbers has an element: a claim
+--   ClaimRead S k x t      so it is in the table t, which has residues only
+--   EndGiven S x y key E   so they are, and lists of x and y numbers have an element each: a claim and a final element
 use mathlib.Core.Bool.{true}
 use mathlib.Core.List.{List}
 use mathlib.Core.Path.{_≡_}
-use Prim.Native.Nat.{ℕ, _<_, _≤_}
+use Prim.Native.Nat.{ℕ, _+_, _<_, _≤_}
 use lib.ListN.{length, getD}
 use Rattle.protocol.specs.declared.Settings.{Settings}
 use Rattle.protocol.specs.Settings.{settingsRefusal, cells}
+use Rattle.protocol.specs.Layout.{polynomialAt, polynomialCells}
 use Rattle.protocol.specs.Element.{Element}
 use Rattle.protocol.specs.Transcript.{finalBounded}
 use Rattle.protocol.specs.Inputs.{Below}
@@ -35,3 +39,18 @@ pub record KeyGiven (S : Settings) (key E : List ℕ) : Type 0 where
   pub allowed : settingsRefusal S ≡ 0
   pub key-below : Below (S .modulus) (cells S) key
   pub challenges-long : S .depth ≤ length E
+
+pub record EndGiven (S : Settings) (x y : ℕ) (key E : List ℕ) : Type 0 where
+  pub of-key : KeyGiven S key E
+  pub claim-long : S .degree ≤ x
+  pub final-long : S .degree ≤ y
+
+pub record RoundRead (S : Settings) (k claim rounds : ℕ) : Type 0 where
+  pub allowed : settingsRefusal S ≡ 0
+  pub number : k ≤ 3280
+  pub inside : polynomialAt (S .degree) k + polynomialCells (S .degree) ≤ rounds
+  pub claim-long : S .degree ≤ claim
+
+pub record ClaimRead (S : Settings) (k claim : ℕ) (rounds : List ℕ) : Type 0 where
+  pub of-round : RoundRead S k claim (length rounds)
+  pub below : (j : ℕ) → getD rounds j 0 < S .modulus

@@ -1,46 +1,93 @@
-// The key folded by all challenges.
+// The key folded by all challenges, as one sum of rotated elements (the law is key-turns of proofs/Turns).
+use protocol::Residue;
 use protocol::Settings;
+use protocol::WIDTH;
+use residues::elements;
 ghost use mathlib.Core.Path.{_≡_};
+ghost use Prim.Native.Nat.{_+_, _%_, _^_, _<_, _≤_};
+ghost use lib.ListN.{length, getD};
 ghost use Rattle.protocol.specs.Basic.{Provided};
+ghost use Rattle.protocol.specs.Layout.{exponentCount};
 ghost use Rattle.protocol.specs.Opening.{keyAfter};
-ghost use Rattle.residues.specs.Elements.{elementAt};
+ghost use Rattle.protocol.specs.Nodes.{Alike};
+ghost use Rattle.residues.specs.Lists.{spliced};
 ghost use Rattle.equations.specs.Given.{KeyGiven};
+ghost use Rattle.equations.specs.Turns.{OnCircle, Turned, ElementRead, Added, Summable, Summed};
 
-// Room for the largest key.
-fn room() -> [u32; 16384] {
-    [0u32; 16384]
-}
+// Room for the exponents of the largest key's elements, 2^8.
+const ELEMENTS: usize = 256;
 
-// The folds of a key by the challenges of all rounds, in place.
-pub fn fold_rounds(settings: Settings, challenges: &[u32], key: &mut [u32])
-    ensures { λ _. ⌜ Provided (KeyGiven settings (now (key .entry)) (now (challenges .entry))) (now (key .exit) ≡ keyAfter settings (now (challenges .entry)) (settings .depth) (now (key .entry))) ⌝ }
+// The exponents of the second half of 2m elements: those of the first half and e more, on a circle of c places.
+fn second_half(c: u32, m: usize, e: u32, x: &mut [u32])
+    requires { ⌜ m + m ≤ length (now x) ⌝ }
+    ensures { λ _. ⌜ Provided (OnCircle c m e (now (x .entry))) (now (x .exit) ≡ spliced (λ j. (getD (now (x .entry)) j 0 + e) % c) m m (now (x .entry))) ⌝ }
 {
-    let rounds = settings.depth;
-    if rounds > 8 {
-        return;
-    }
-    if challenges.len() < (rounds as usize) {
-        return;
-    }
-    let mut t: u32 = 0;
-    while t < rounds {
-        let h = sizes::half_left(settings, t);
-        let e = challenges[t as usize];
-        folds::fold_residues(settings.modulus, settings.degree, h, e, key);
-        t += 1;
+    for j in 0..m {
+        let y = x[j];
+        x[m + j] = residues::plus(c, y, e);
     }
 }
 
-// The first element of the folded key. The key itself stays.
-pub fn folded_key(settings: Settings, key: &[u32], challenges: &[u32]) -> [u32; 64]
-    ensures { λ r. ⌜ Provided (KeyGiven settings (now (key .entry)) (now (challenges .entry))) (r ≡ elementAt (settings .degree) (keyAfter settings (now (challenges .entry)) (settings .depth) (now (key .entry))) 0) ⌝ }
+// The exponents of all elements: the challenges at the set bits of an index, added up. Returns how many they are.
+fn turns(settings: Settings, challenges: &[u32], x: &mut [u32]) -> u32
+    requires { ⌜ (0 < settings .degree) × (settings .degree ≤ 64) × (settings .depth ≤ 8) × (settings .depth ≤ length (now challenges)) × (256 ≤ length (now x)) ⌝ }
+    ensures { λ r. ⌜ (r ≡ 2 ^ settings .depth) × Provided (getD (now (x .entry)) 0 0 ≡ 0) (Turned (exponentCount settings) (settings .depth) (now (challenges .entry)) (settings .depth) (now (x .exit))) ⌝ }
 {
-    let n = key.len();
-    if n > 16384 {
-        return [0u32; 64];
+    let c = 2 * settings.degree;
+    let depth = settings.depth;
+    let mut m: u32 = 1;
+    let mut s: u32 = 0;
+    while s < depth {
+        let e = challenges[(depth - 1 - s) as usize] % c;
+        second_half(c, m as usize, e, x);
+        m = m + m;
+        s += 1;
     }
-    let mut folded = room();
-    residues::copy(key, &mut folded);
-    fold_rounds(settings, challenges, &mut folded[..n]);
-    residues::elements::element_at(settings.degree, &folded, 0)
+    m
+}
+
+// Adds element i of a key, turned by its exponent.
+fn add_element(settings: Settings, i: u32, key: &[Residue], x: &[u32], sum: &mut [Residue])
+    ensures { λ _. ⌜ Provided (ElementRead settings i (now (key .entry)) (now (sum .entry))) (Added settings (now (key .entry)) (now (x .entry)) i (now (sum .entry)) (now (sum .exit))) ⌝ }
+{
+    let at = (i as usize) * (settings.degree as usize);
+    if key.len() < at {
+        return;
+    }
+    let e = elements::entry(x, i as usize);
+    rotations::add_turned(settings.modulus, settings.degree, e, &key[at..], sum);
+}
+
+// Adds up the first n elements of a key, each turned by its exponent.
+fn add_elements(settings: Settings, n: u32, key: &[Residue], x: &[u32], sum: &mut [Residue])
+    ensures { λ _. ⌜ Provided (Summable settings n (now (key .entry)) (now (sum .entry))) (Summed settings (now (key .entry)) (now (x .entry)) n (now (sum .exit))) ⌝ }
+{
+    let mut i: u32 = 0;
+    while i < n {
+        add_element(settings, i, key, x, sum);
+        i += 1;
+    }
+}
+
+// The first element of the folded key, at the front of an array.
+pub fn folded_key(settings: Settings, key: &[Residue], challenges: &[u32]) -> [Residue; WIDTH]
+    ensures { λ r. ⌜ Provided (KeyGiven settings (now (key .entry)) (now (challenges .entry))) (Alike (settings .degree) r (keyAfter settings (now (challenges .entry)) (settings .depth) (now (key .entry)))) ⌝ }
+{
+    let mut sum = [0u32; WIDTH];
+    if settings.degree == 0 {
+        return sum;
+    }
+    if settings.degree > 64 {
+        return sum;
+    }
+    if settings.depth > 8 {
+        return sum;
+    }
+    if challenges.len() < (settings.depth as usize) {
+        return sum;
+    }
+    let mut x = [0u32; ELEMENTS];
+    let n = turns(settings, challenges, &mut x);
+    add_elements(settings, n, key, &x, &mut sum);
+    sum
 }

@@ -1,8 +1,12 @@
 // The verifier's equations: a round, the claim after it, and the end. Every function is safe for every input; what it gives is said for
 // settings that refusals 3 to 6 let pass.
+pub mod by_value;
 pub mod keys;
+pub mod rounds;
 
+use protocol::Residue;
 use protocol::Settings;
+use protocol::WIDTH;
 ghost use mathlib.Core.Path.{_≡_};
 ghost use mathlib.Core.Bool.{_&&_};
 ghost use Prim.Native.Nat.{_+_, _*_, _/_, _%_, _^_, _<_, _≤_};
@@ -12,7 +16,7 @@ ghost use Rattle.protocol.specs.Basic.{Provided};
 ghost use Rattle.protocol.specs.Element.{padded, residue, signed};
 ghost use Rattle.protocol.specs.Transcript.{roundHolds, nextClaim, finalBounded, endHolds};
 ghost use Rattle.protocol.specs.Settings.{settingsRefusal};
-ghost use Rattle.equations.specs.Given.{Evaluable, ElementsGiven, FinalGiven, KeyGiven};
+ghost use Rattle.equations.specs.Given.{ElementsGiven, FinalGiven, EndGiven};
 ghost use Rattle.equations.specs.Ends.{equationMet, endMet};
 
 // s modulo m, s being below 2m.
@@ -49,7 +53,7 @@ fn doubled_is(q: u32, x: u32, y: u32, z: u32) -> bool
 }
 
 // Does a round hold.
-pub fn round_met(settings: Settings, claim: &[u32], c0: &[u32], c2: &[u32]) -> bool
+pub fn round_holds(settings: Settings, claim: &[Residue], c0: &[Residue], c2: &[Residue]) -> bool
     ensures { λ r. ⌜ Provided (ElementsGiven settings (length (now (claim .entry))) (length (now (c0 .entry))) (length (now (c2 .entry)))) (r ≡ roundHolds settings (now (claim .entry)) (residue (now (c0 .entry))) (residue (now (c2 .entry)))) ⌝ }
 {
     let q = settings.modulus;
@@ -74,30 +78,6 @@ pub fn round_met(settings: Settings, claim: &[u32], c0: &[u32], c2: &[u32]) -> b
         k += 1;
     }
     true
-}
-
-// The same for elements that are passed by value.
-pub fn round_holds(settings: Settings, claim: [u32; 64], c0: [u32; 64], c2: [u32; 64]) -> bool
-    ensures { λ r. ⌜ Provided (settingsRefusal settings ≡ 0) (r ≡ roundHolds settings claim (residue c0) (residue c2)) ⌝ }
-{
-    round_met(settings, &claim, &c0, &c2)
-}
-
-// The claim after a round: c0 + r·c1 + r²·c2, r = X^e.
-pub fn next_claim(
-    settings: Settings,
-    e: u32,
-    c0: [u32; 64],
-    c1: [u32; 64],
-    c2: [u32; 64],
-) -> [u32; 64]
-    ensures { λ r. ⌜ Provided (Evaluable settings c0 c1 c2) (r ≡ padded (settings .degree) (nextClaim settings e (residue c0) (residue c1) (residue c2))) ⌝ }
-{
-    let q = settings.modulus;
-    let d = settings.degree;
-    let mut claim = [0u32; 64];
-    rotations::value(q, d, e, &c0, &c1, &c2, &mut claim);
-    claim
 }
 
 // A power of half, the inverse of 2 modulo q.
@@ -136,7 +116,7 @@ fn final_bounded(settings: Settings, f: &[i32]) -> bool
 }
 
 // Is the claim half^L·f·g, where f has no coefficient beyond ±n·B: half^L is 1/2^L.
-fn equation_met(settings: Settings, claim: &[u32], f: &[i32], g: &[u32]) -> bool
+fn equation_met(settings: Settings, claim: &[Residue], f: &[i32], g: &[Residue]) -> bool
     requires { ⌜ (settings .degree ≤ length (now claim)) × (settings .degree ≤ length (now f)) × (settings .degree ≤ length (now g)) ⌝ }
     ensures { λ r. ⌜ Provided (FinalGiven settings (signed (now (f .entry)))) (r ≡ equationMet settings (now (claim .entry)) (signed (now (f .entry))) (residue (now (g .entry)))) ⌝ }
 {
@@ -145,7 +125,7 @@ fn equation_met(settings: Settings, claim: &[u32], f: &[i32], g: &[u32]) -> bool
 }
 
 // Is the end met: the bound first, then the equation.
-pub fn ending_met(settings: Settings, claim: &[u32], f: &[i32], g: &[u32]) -> bool
+pub fn end_holds(settings: Settings, claim: &[Residue], f: &[i32], g: &[Residue]) -> bool
     ensures { λ r. ⌜ Provided (ElementsGiven settings (length (now (claim .entry))) (length (now (f .entry))) (length (now (g .entry)))) (r ≡ endMet settings (now (claim .entry)) (signed (now (f .entry))) (residue (now (g .entry)))) ⌝ }
 {
     let d = settings.degree as usize;
@@ -164,23 +144,16 @@ pub fn ending_met(settings: Settings, claim: &[u32], f: &[i32], g: &[u32]) -> bo
     equation_met(settings, claim, f, g)
 }
 
-// The same for elements that are passed by value.
-pub fn end_holds(settings: Settings, claim: [u32; 64], f: [i32; 64], g: [u32; 64]) -> bool
-    ensures { λ r. ⌜ Provided (settingsRefusal settings ≡ 0) (r ≡ endMet settings claim (signed f) (residue g)) ⌝ }
-{
-    ending_met(settings, &claim, &f, &g)
-}
-
-// Is the end of a transcript met: the bound, and the equation with the key folded by the challenges.
-pub fn end_met(
+// The same with a key, which is folded by the challenges.
+pub fn end_holds_for_key(
     settings: Settings,
-    claim: [u32; 64],
-    f: [i32; 64],
-    key: &[u32],
+    claim: &[Residue],
+    f: &[i32],
+    key: &[Residue],
     challenges: &[u32],
 ) -> bool
-    ensures { λ r. ⌜ Provided (KeyGiven settings (now (key .entry)) (now (challenges .entry))) (r ≡ (finalBounded settings (signed f) && endHolds settings (now (key .entry)) (now (challenges .entry)) claim (signed f))) ⌝ }
+    ensures { λ r. ⌜ Provided (EndGiven settings (length (now (claim .entry))) (length (now (f .entry))) (now (key .entry)) (now (challenges .entry))) (r ≡ (finalBounded settings (signed (now (f .entry))) && endHolds settings (now (key .entry)) (now (challenges .entry)) (now (claim .entry)) (signed (now (f .entry))))) ⌝ }
 {
     let g = keys::folded_key(settings, key, challenges);
-    end_holds(settings, claim, f, g)
+    end_holds(settings, claim, f, &g)
 }

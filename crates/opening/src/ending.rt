@@ -21,7 +21,7 @@ pub fn verdict(settings: Settings, ended: State, last: [i32; 64], key: &[u32]) -
     }
     let first = elements::element_at(settings.degree, key, 0);
     let claim = ended.claim;
-    if equations::end_holds(settings, claim, last, first) {
+    if equations::by_value::end_holds(settings, claim, last, first) {
         return Verdict::Accepted;
     }
     Verdict::Rejected

@@ -42,8 +42,8 @@ fn check_round(settings: Settings, state: State, polynomial: [[u32; 64]; 3], e: 
     let c1 = polynomial[1];
     let c2 = polynomial[2];
     let claim = state.claim;
-    let met = equations::round_holds(settings, claim, c0, c2);
-    let next = equations::next_claim(settings, e, c0, c1, c2);
+    let met = equations::by_value::round_holds(settings, claim, c0, c2);
+    let next = equations::by_value::next_claim(settings, e, c0, c1, c2);
     State {
         done: state.done + 1,
         claim: next,

@@ -36,7 +36,7 @@ pub record JudgeGiven (S : Settings) (key : List ℕ) (w : List ℤ) : Type 0 wh
   pub limited : growthAllowed S ≡ true
 
 pub given-vector : (S : Settings) (key : List ℕ) (w : List ℤ) → JudgeGiven S key w → Vector S key w
-unfolding grows
+unfolding growthAllowed
 given-vector S key w g = record { allowed = g .allowed; key-long = g .key-long; long = g .w-long; few = growth-cells S (settings-valid S (g .allowed)) (leb-true _ _ (g .limited)) }
 
 module _ (S : Settings) (C : List ℕ) (c : ℕ) (key : List ℕ) (w : List ℤ) where

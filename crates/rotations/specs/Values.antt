@@ -2,6 +2,7 @@
 --
 --   Summands q n from ..      n numbers of a list that is added and n of the list that it is added to are there, and are residues
 --   Addable q d e ..          may X^e·a be added so: such numbers, and an exponent below 2d
+--   Turnable q d a out        the lists a and out begin with an element of residues each, of a degree that there is
 --   plusTurned q d e ..       coefficient k of the element at a place of a list, with X^e·a added, modulo q
 --   valueAt q d e c0 c1 c2 k  coefficient k of c0 + X^e·c1 + X^2e·c2, modulo q
 --   Coefficients q d ..       three elements of residues
@@ -20,6 +21,11 @@ pub record Summands (q n from : ℕ) (a : List ℕ) (to : ℕ) (out : List ℕ) 
 pub record Addable (q d e : ℕ) (a : List ℕ) (to : ℕ) (out : List ℕ) : Type 0 where
   pub exponent : e < 2 * d
   pub summands : Summands q d 0 a to out
+
+pub record Turnable (q d : ℕ) (a out : List ℕ) : Type 0 where
+  pub degree : 0 < d
+  pub degree-most : d ≤ width
+  pub summands : Summands q d 0 a 0 out
 
 abbrev pub plusTurned : ℕ → ℕ → ℕ → List ℕ → ℕ → List ℕ → ℕ → ℕ
 plusTurned q d e a at out k = modulo q (pos (getD out (at + k) 0) +ℤ rotate d e (residue a) k)

@@ -11,7 +11,7 @@ ghost use Rattle.protocol.specs.Basic.{Provided};
 ghost use Rattle.protocol.specs.Element.{modulo, residue};
 ghost use Rattle.residues.specs.Lists.{spliced};
 ghost use Rattle.residues.specs.Residues.{signed};
-ghost use Rattle.rotations.specs.Values.{Addable, Summands, Valuable, plusTurned, valueAt};
+ghost use Rattle.rotations.specs.Values.{Addable, Summands, Turnable, Valuable, plusTurned, valueAt};
 
 // Where the first of the two rows ends that X^e·a is made of.
 fn row_start(d: usize, e: usize) -> usize
@@ -72,6 +72,15 @@ pub fn accumulate_turned(
     let n = d - s;
     accumulate_row(q, s, low, a, n, out, to);
     accumulate_row(q, n, !low, a, 0, out, to + s);
+}
+
+// The same for every exponent, at the front of out.
+pub fn add_turned(q: Residue, d: u32, e: u32, a: &[Residue], out: &mut [Residue])
+    ensures { λ _. ⌜ Provided (Turnable q d (now (a .entry)) (now (out .entry))) (now (out .exit) ≡ spliced (plusTurned q d e (now (a .entry)) 0 (now (out .entry))) 0 d (now (out .entry))) ⌝ }
+{
+    let n = d as usize;
+    let once = residues::on_circle(n, e as usize);
+    accumulate_turned(q, n, once, a, out, 0);
 }
 
 // The value at X^e of the polynomial with the coefficients c0, c1, c2, modulo q, written to the front of out.

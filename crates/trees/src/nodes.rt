@@ -30,7 +30,7 @@ fn node_holds(settings: Settings, k: u32, claim: &[u32], rounds: &[u32]) -> bool
     let d = settings.degree as usize;
     let at = 3 * (k as usize) * d;
     let last = at + 2 * d;
-    equations::round_met(settings, claim, &rounds[at..], &rounds[last..])
+    equations::round_holds(settings, claim, &rounds[at..], &rounds[last..])
 }
 
 // The claim that node k hands to its child j, written to the front of `claim`. What else `claim` holds is left free.
@@ -67,7 +67,7 @@ fn leaf_accepted(settings: Settings, j: u32, claim: &[u32], leaves: &[i32], fold
     ensures { λ r. ⌜ r ≡ leafMet settings (now (leaves .entry)) j (now (claim .entry)) (now (folded .entry)) ⌝ }
 {
     let at = (j as usize) * (settings.degree as usize);
-    equations::ending_met(settings, claim, &leaves[at..], folded)
+    equations::end_holds(settings, claim, &leaves[at..], folded)
 }
 
 // Folds the key of a node that is h steps above the leaves by X^e, to where its child's key stands.

@@ -1,82 +1,91 @@
--- The rounds of a transcript, from elements that are passed by value.
-use mathlib.Core.Path.{_≡_, refl, sym, ap, ap₂, _∙_, subst}
-use mathlib.Core.Bool.{_&&_}
+-- The rounds of a transcript, one after the other, and its acceptance from the claim after them. Of a claim only the first d places count.
+use mathlib.Core.Path.{_≡_, refl, sym, ap, _∙_}
+use mathlib.Core.Bool.{true, false, _&&_}
 use mathlib.Core.List.{List}
-use Prim.Native.Nat.{ℕ, zero, suc, _+_, _*_, _<_}
+use Prim.Native.Nat.{ℕ, zero, suc, _+_, _*_, _<_, _≤_}
+use native.Mathlib.Nat as Nat
+use native.Mathlib.Numerals.{add-one}
 use native.Mathlib.Omega.{arith}
 use lib.Dec.{eqb}
 use lib.IntN.{ℤ}
-use lib.ListN.{length, getD, List·getD-append}
+use lib.ListN.{length, getD}
 use Rattle.protocol.specs.declared.Settings.{Settings}
 use Rattle.protocol.specs.Basic.{every}
+use Rattle.protocol.specs.Element.{residueAt, signed}
 use Rattle.protocol.specs.Layout.{itemOf}
-use Rattle.protocol.specs.Element.{Element, residue, residueAt, padded, reduced, signed}
 use Rattle.protocol.specs.Transcript.{Transcript, roundHolds, nextClaim, finalBounded, ending, endHolds, element, claimAfter, holdsAt, closes, accepted}
-use Rattle.protocol.proofs.Reading.{tabulate-length, cell-inside}
-use Rattle.protocol.proofs.Agreement.{Same, claim-same, round-same, every-ext}
+use Rattle.protocol.proofs.Inputs.{settings-valid}
+use Rattle.protocol.proofs.Refusals.{and-fails-left}
+use Rattle.protocol.proofs.Agreement.{Alike, round-same, every-ext}
+use Rattle.protocol.proofs.Ranges.{below-everywhere}
 use Rattle.residues.specs.Elements.{elementAt}
-use Rattle.residues.proofs.Padding.{padded-at, element-residue}
-use Rattle.verification.specs.Replays.{bare, claimAt, Given}
+use Rattle.residues.proofs.Padding.{padded-at}
+use Rattle.equations.specs.Given.{RoundRead, ClaimRead}
+use Rattle.verification.specs.Given.{whole, RoundsGiven}
 
-padded-front : (d : ℕ) (l : List ℕ) (k : ℕ) → k < length l → getD (padded d l) k 0 ≡ getD l k 0
-unfolding padded
-padded-front d l k h = List·getD-append l _ 0 k h
+module _ (S : Settings) (rounds : List ℕ) (y x : ℕ) (g : RoundsGiven S rounds y) (is : x ≡ y) (t : ℕ) (l : t < S .depth) where
+  pub round-read : RoundRead S t x (length rounds)
+  round-read = record {
+    allowed = g .allowed;
+    number = omega (arith, settings-valid S (g .allowed) .depth-most);
+    inside = omega (arith, g .rounds-below .long, Nat.mul-le-mul-right (S .degree) three, Nat.add-mul (3 * t) 3 (S .degree));
+    claim-long = omega (arith, g .claim-long);
+  }
+    where
+      three : 3 * t + 3 ≤ 3 * S .depth
+      three = omega arith
 
-claim-length : (S : Settings) (e : ℕ) (c0 c1 c2 : Element) → length (nextClaim S e c0 c1 c2) ≡ S .degree
-unfolding nextClaim reduced
-claim-length S e c0 c1 c2 = tabulate-length (S .degree) _
+  pub claim-read : ClaimRead S t x rounds
+  claim-read = record { of-round = round-read; below = below-everywhere (S .modulus) _ rounds (omega (arith, settings-valid S (g .allowed) .modulus-least)) (g .rounds-below) }
 
-module _ (S : Settings) (C rounds E : List ℕ) where
+module _ (S : Settings) (C rounds E : List ℕ) (t : ℕ) where
   open Settings S using (degree as d)
 
+  pub round-is : (claim : List ℕ) → Alike d claim (claimAfter S (whole C rounds E) t)
+      → roundHolds S claim (residueAt d rounds (itemOf t 0)) (residueAt d rounds (itemOf t 2)) ≡ holdsAt S (whole C rounds E) t
+  unfolding holdsAt element
+  round-is claim s = round-same S {c1 = residueAt d rounds (itemOf t 1)} (λ k l. refl) (λ k l. refl) (λ k l. refl) claim _ s
+
+  pub claim-goes-on : {e : ℕ} → e ≡ getD E t 0 → (claim : List ℕ)
+      → Alike d claim (nextClaim S e (residueAt d rounds (itemOf t 0)) (residueAt d rounds (itemOf t 1)) (residueAt d rounds (itemOf t 2)))
+      → Alike d claim (claimAfter S (whole C rounds E) (t + 1))
+  unfolding claimAfter element
+  claim-goes-on is claim s k l =
+      s k l
+      ∙ ap (λ x. getD (nextClaim S x (residueAt d rounds (itemOf t 0)) (residueAt d rounds (itemOf t 1)) (residueAt d rounds (itemOf t 2))) k 0) is
+      ∙ ap (λ n. getD (claimAfter S (whole C rounds E) n) k 0) (sym (add-one t))
+
+-- ---- the whole check, from a claim that begins as the commitment does
+
+module _ (S : Settings) (C C′ rounds E : List ℕ) (f : List ℤ) (is : C′ ≡ elementAt (S .degree) C 0) where
+  open Settings S using (degree as d, depth as L)
+
   abbrev T : Transcript
-  T = bare C rounds E
+  T = record { commitment = C; rounds = rounds; challenges = E; last = f }
 
-  element-same : (t j : ℕ) → Same d (residue (elementAt d rounds (itemOf t j))) (element S T t j)
-  unfolding element bare
-  element-same t j k l = element-residue d rounds (itemOf t j) k l
-
-  -- a round's elements are residues
-  pub element-below : Given S rounds E → (i : ℕ) → i < 3 * S .depth → (a : List ℕ) → a ≡ elementAt d rounds i → (k : ℕ) → k < d → getD a k 0 < S .modulus
+  same : Alike d C′ C
   unfolding elementAt
-  element-below g i li a is k lk = subst (λ x. x < S .modulus) (sym (ap (λ l. getD l k 0) is ∙ padded-at d (λ j. getD rounds (i * d + j) 0) k lk)) (g .rounds-below .each (i * d + k) (cell-inside d (3 * S .depth) i k li lk))
+  same k l = ap (λ x. getD x k 0) is ∙ padded-at d (λ j. getD C (0 * d + j) 0) k l ∙ ap (λ x. getD C x 0) (omega (arith, Nat.zero-mul d))
 
-  pub claim-next : (t : ℕ) → padded d (nextClaim S (getD E t 0) (residue (elementAt d rounds (itemOf t 0))) (residue (elementAt d rounds (itemOf t 1))) (residue (elementAt d rounds (itemOf t 2))))
-      ≡ claimAt S C rounds E (suc t)
-  unfolding claimAt
-  claim-next t = ap (padded d) (claim-same S (element-same t 0) (element-same t 1) (element-same t 2) (getD E t 0))
+  claim-same : (t : ℕ) → Alike d (claimAfter S (whole C′ rounds E) t) (claimAfter S T t)
+  unfolding claimAfter element
+  claim-same zero = same
+  claim-same (suc t) = λ k l. refl
 
-  -- only the first d places of a claim count
-  claim-alike : (t k : ℕ) → k < d → getD (claimAt S C rounds E t) k 0 ≡ getD (claimAfter S T t) k 0
-  unfolding claimAt claimAfter bare
-  claim-alike zero k l = refl
-  claim-alike (suc t) k l = padded-front d _ k (omega (arith, claim-length S (getD E t 0) (element S T t 0) (element S T t 1) (element S T t 2)))
+  round-held : (t : ℕ) → holdsAt S (whole C′ rounds E) t ≡ holdsAt S T t
+  unfolding holdsAt element
+  round-held t = round-same S {c1 = residueAt d rounds (itemOf t 1)} (λ k l. refl) (λ k l. refl) (λ k l. refl) _ _ (claim-same t)
 
-  pub round-is : (t : ℕ) → roundHolds S (claimAt S C rounds E t) (residue (elementAt d rounds (itemOf t 0))) (residue (elementAt d rounds (itemOf t 2))) ≡ holdsAt S T t
-  unfolding holdsAt
-  round-is t = round-same S (element-same t 0) (element-same t 1) (element-same t 2) (claimAt S C rounds E t) (claimAfter S T t) (claim-alike t)
+  rounds-held : every L (holdsAt S (whole C′ rounds E)) ≡ every L (holdsAt S T)
+  rounds-held = every-ext L (λ t _. round-held t)
 
--- ---- the whole check
+  pub rejects : every L (holdsAt S (whole C′ rounds E)) ≡ false → (key : List ℕ) → false ≡ accepted S key T
+  unfolding accepted
+  rejects e key = sym (and-fails-left _ _ (sym rounds-held ∙ e))
 
-module _ (S : Settings) (C rounds E : List ℕ) (f : List ℤ) where
-  abbrev pub whole : Transcript
-  whole = record { commitment = C; rounds = rounds; challenges = E; last = f }
-
-  claim-free : (t : ℕ) → claimAfter S whole t ≡ claimAfter S (bare C rounds E) t
-  unfolding claimAfter element bare
-  claim-free zero = refl
-  claim-free (suc t) = refl
-
-  round-free : (t : ℕ) → holdsAt S whole t ≡ holdsAt S (bare C rounds E) t
-  unfolding holdsAt element bare
-  round-free t = ap (λ claim. roundHolds S claim (residueAt (S .degree) rounds (itemOf t 0)) (residueAt (S .degree) rounds (itemOf t 2))) (claim-free t)
-
-  end-same : (key claim claim′ : List ℕ) → ((k : ℕ) → k < S .degree → getD claim k 0 ≡ getD claim′ k 0) → endHolds S key E claim (signed f) ≡ endHolds S key E claim′ (signed f)
-  unfolding endHolds
-  end-same key claim claim′ s = every-ext (S .degree) (λ k l. ap (λ x. eqb x (ending S key E (signed f) k)) (s k l))
-
-  pub accepted-is : (key : List ℕ) → accepted S key whole ≡ (every (S .depth) (holdsAt S (bare C rounds E)) && (finalBounded S (signed f) && endHolds S key E (claimAt S C rounds E (S .depth)) (signed f)))
-  unfolding accepted closes
-  accepted-is key = ap₂ _&&_
-      (every-ext (S .depth) (λ t _. round-free t))
-      (ap (λ b. finalBounded S (signed f) && b) (ap (λ claim. endHolds S key E claim (signed f)) (claim-free (S .depth)) ∙ sym (end-same key _ _ (claim-alike S C rounds E (S .depth)))))
+  pub ends : every L (holdsAt S (whole C′ rounds E)) ≡ true → (key claim : List ℕ) → Alike d claim (claimAfter S (whole C′ rounds E) L)
+      → (finalBounded S (signed f) && endHolds S key E claim (signed f)) ≡ accepted S key T
+  unfolding accepted closes endHolds
+  ends e key claim s =
+      ap (λ b. finalBounded S (signed f) && b) (every-ext d (λ k l. ap (λ x. eqb x (ending S key E (signed f) k)) (s k l ∙ claim-same L k l)))
+      ∙ ap (λ b. b && (finalBounded S (signed f) && closes S key T)) (sym e ∙ rounds-held)

@@ -98,7 +98,7 @@ impl Verifier {
         let c0 = polynomial[0];
         let c1 = polynomial[1];
         let c2 = polynomial[2];
-        if !equations::round_holds(settings, claim, c0, c2) {
+        if !equations::by_value::round_holds(settings, claim, c0, c2) {
             let closed = shut(session);
             return Moved {
                 number: 0,
@@ -106,7 +106,11 @@ impl Verifier {
                 next: closed,
             };
         }
-        let next = counted(session, e, equations::next_claim(settings, e, c0, c1, c2));
+        let next = counted(
+            session,
+            e,
+            equations::by_value::next_claim(settings, e, c0, c1, c2),
+        );
         Moved {
             number: 0,
             verdict: Verdict::Holds,
@@ -132,7 +136,7 @@ impl Verifier {
         let claim = session.claim;
         let challenges = session.challenges;
         let closed = shut(session);
-        if equations::end_met(settings, claim, last, key, &challenges) {
+        if equations::end_holds_for_key(settings, &claim, &last, key, &challenges) {
             return Moved {
                 number: 0,
                 verdict: Verdict::Accepted,

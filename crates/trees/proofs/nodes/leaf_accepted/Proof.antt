@@ -10,7 +10,7 @@ returns c =
     let s = c .before .before .before .before .before in
     let a = s .args in
     let d = a .settings .degree in
-    c .ending-met .ensures (record { allowed = s .pre .0; first = s .pre .2; second = part-long (a .j * d) d (a .leaves .now) (s .pre .1); third = s .pre .3 })
+    c .end-holds .ensures (record { allowed = s .pre .0; first = s .pre .2; second = part-long (a .j * d) d (a .leaves .now) (s .pre .1); third = s .pre .3 })
     ∙ leaf-is (a .settings) (a .leaves .now) (a .j) (a .claim .now) (a .folded .now)
 
 pub leaf-accepted-spec : {M : Type 1} → statement M

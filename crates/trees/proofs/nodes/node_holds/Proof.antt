@@ -13,7 +13,7 @@ returns c =
     let d = a .settings .degree in
     let R = s .pre .0 in
     let at = 3 * a .k * d in
-    c .round-met .ensures (record { allowed = R .allowed; first = s .pre .1; second = part-long at d (a .rounds .now) (omega (arith, R .inside)); third = part-long (at + 2 * d) d (a .rounds .now) (omega (arith, R .inside)) })
+    c .round-holds .ensures (record { allowed = R .allowed; first = s .pre .1; second = part-long at d (a .rounds .now) (omega (arith, R .inside)); third = part-long (at + 2 * d) d (a .rounds .now) (omega (arith, R .inside)) })
     ∙ node-is (a .settings) (a .rounds .now) (a .k) at (at + 2 * d) refl refl (a .claim .now)
 
 pub node-holds-spec : {M : Type 1} → statement M

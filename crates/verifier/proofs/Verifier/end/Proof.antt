@@ -1,11 +1,10 @@
 use mathlib.Core.Path.{_≡_, sym, _∙_}
 use mathlib.Core.Bool.{true, false}
-use Prim.Native.Nat.{_≤_}
 use native.Mathlib.Omega.{arith}
-use lib.ListN.{length}
 use Rattle.protocol.specs.Basic.{choose}
 use Rattle.protocol.specs.Session.{verdict, closeRefusal, closeHolds}
 use Rattle.protocol.proofs.Inputs.{settings-valid}
+use Rattle.sizes.proofs.Limits.{degree-most}
 use Rattle.verifier.proofs.Answers.{end-given, end-answered, end-refused, end-done}
 use borrow.Author.Needs.{needs}
 use Rattle.verifier.proofs.Verifier.end.Statement.{statement}
@@ -17,38 +16,46 @@ passed c = sym (c .before .end .ensures) ∙ c .if1 .left
 returns : tie.Need-returns
 returns c =
     let a = c .before .before .before .before .args in
-    end-answered (a .self .0) (a .last) (a .key .now) _ (end-refused (a .self .0) (a .last) (a .key .now) _ (c .before .end .ensures) (c .if1 .taken))
+    end-answered (a .self .0) (a .t2) (a .key .now) _ (end-refused (a .self .0) (a .t2) (a .key .now) _ (c .before .end .ensures) (c .if1 .taken))
 
-slice-aggregate-end-met : tie.Need-slice-aggregate-end-met
-slice-aggregate-end-met c = search needs
+slice-aggregate-end-holds-for-key : tie.Need-slice-aggregate-end-holds-for-key
+slice-aggregate-end-holds-for-key c = search needs
 
--- the record has eight challenges
-eight : (c : tie.After-challenges2) → 8 ≤ length (c .before .before .before .before .before .before .before .before .before .args .self .0 .challenges)
-eight c = omega (arith, slice-aggregate-end-met c)
+slice-aggregate-end-holds-for-key-2 : tie.Need-slice-aggregate-end-holds-for-key-2
+slice-aggregate-end-holds-for-key-2 c = search needs
+
+slice-aggregate-end-holds-for-key-3 : tie.Need-slice-aggregate-end-holds-for-key-3
+slice-aggregate-end-holds-for-key-3 c = search needs
 
 -- the verdict is that of the last equation and the bound
-met : (c : tie.After-end-met) → let a = c .before .before .before .before .before .before .before .before .before .before .args in c .end-met .result ≡ closeHolds (a .self .0) (a .last) (a .key .now)
+met : (c : tie.After-end-holds-for-key) → let a = c .before .before .before .before .before .before .before .before .before .before .before .before .args in c .end-holds-for-key .result ≡ closeHolds (a .self .0) (a .t2) (a .key .now)
 unfolding closeHolds
 met c =
-    let one = c .before .before .before .before .before .before in
-    let g = end-given _ (one .before .before .before .before .args .last) _ (passed one) in
-    c .end-met .ensures (record { allowed = g .allowed; key-below = g .key-below; challenges-long = omega (arith, settings-valid _ (g .allowed) .depth-most, eight (c .before)) })
+    let one = c .before .before .before .before .before .before .before .before in
+    let g = end-given _ (one .before .before .before .before .args .t2) _ (passed one) in
+    let ok = settings-valid _ (g .allowed) in
+    let most = degree-most _ ok in
+    c .end-holds-for-key .ensures (record {
+      of-key = record { allowed = g .allowed; key-below = g .key-below; challenges-long = omega (arith, ok .depth-most, slice-aggregate-end-holds-for-key-3 (c .before)) };
+      claim-long = omega (arith, most, slice-aggregate-end-holds-for-key (c .before .before .before));
+      final-long = omega (arith, most, slice-aggregate-end-holds-for-key-2 (c .before .before));
+    })
 
 returns-2 : tie.Need-returns-2
 unfolding verdict choose
 returns-2 c =
-    let one = c .before .before .before .before .before .before .before in
+    let one = c .before .before .before .before .before .before .before .before .before in
     let a = one .before .before .before .before .args in
-    end-answered (a .self .0) (a .last) (a .key .now) _
-    (end-done (a .self .0) (a .last) (a .key .now) (passed one) true (sym (met (c .before)) ∙ c .if2 .taken) _ (c .before .before .before .shut .ensures))
+    end-answered (a .self .0) (a .t2) (a .key .now) _
+    (end-done (a .self .0) (a .t2) (a .key .now) (passed one) true (sym (met (c .before)) ∙ c .if2 .taken) _ (c .before .before .before .before .before .shut .ensures))
 
 returns-3 : tie.Need-returns-3
 unfolding verdict choose
 returns-3 c =
-    let one = c .before .before .before .before .before .before .before in
+    let one = c .before .before .before .before .before .before .before .before .before in
     let a = one .before .before .before .before .args in
-    end-answered (a .self .0) (a .last) (a .key .now) _
-    (end-done (a .self .0) (a .last) (a .key .now) (passed one) false (sym (met (c .before)) ∙ c .if2 .left) _ (c .before .before .before .shut .ensures))
+    end-answered (a .self .0) (a .t2) (a .key .now) _
+    (end-done (a .self .0) (a .t2) (a .key .now) (passed one) false (sym (met (c .before)) ∙ c .if2 .left) _ (c .before .before .before .before .before .shut .ensures))
 
 pub end-spec : {M : Type 1} → statement M
 end-spec =
@@ -57,7 +64,9 @@ end-spec =
     (λ c κs. search needs)
     returns
     (λ c κs. search needs)
-    slice-aggregate-end-met
+    slice-aggregate-end-holds-for-key
+    slice-aggregate-end-holds-for-key-2
+    slice-aggregate-end-holds-for-key-3
     (λ c κs. search needs)
     returns-2
     returns-3)

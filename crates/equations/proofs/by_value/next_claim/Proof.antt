@@ -11,8 +11,8 @@ use Rattle.rotations.specs.Values.{valueAt}
 use Rattle.residues.proofs.Splice.{spliced-element}
 use Rattle.equations.proofs.Ready.{ready}
 use borrow.Author.Needs.{needs}
-use Rattle.equations.proofs.next_claim.Statement.{statement}
-use Rattle.equations.proofs.next_claim.Tie as tie
+use Rattle.equations.proofs.by_value.next_claim.Statement.{statement}
+use Rattle.equations.proofs.by_value.next_claim.Tie as tie
 
 returns : tie.Need-returns
 unfolding nextClaim reduced valueAt
