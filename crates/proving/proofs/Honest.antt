@@ -10,7 +10,6 @@ use mathlib.Core.List.{List}
 use Prim.Native.Nat.{ℕ, _*_, _<_, _≤_}
 use native.Mathlib.Nat as Nat
 use native.Mathlib.Omega.{arith}
-use borrow.Author.Tests.{eq-eqb}
 use lib.ListN.{length, take, length-append}
 use lib.Seq.{take-at}
 use lib.IntN.{ℤ}
@@ -24,14 +23,14 @@ use Rattle.protocol.specs.Transcript.{Transcript, transcriptOf}
 use Rattle.protocol.specs.Text.{Tables, valueLimit, shape, shapes, shapeSize, fits, written, overwritten, writeAnswer, writeExit}
 use Rattle.protocol.specs.Programs.{provePrints, printed}
 use Rattle.protocol.specs.Promises.{Wrote}
-use Rattle.protocol.proofs.Tests.{and-intro, zero-first, zero-unless, first-nothing}
+use Rattle.protocol.proofs.Tests.{zero-first, zero-unless, first-nothing}
 use Rattle.protocol.proofs.Inputs.{valid-settings, below-tested, within-tested}
 use Rattle.claims.proofs.TextLimits.{Passed, unrefused}
 use Rattle.claims.proofs.Honest.{Given, modulus-positive}
 use Rattle.claims.proofs.Ranges.{commitment-below, rounds-below, last-length}
 use Rattle.claims.proofs.ProveVerify.{last-within}
-use Rattle.shapes.specs.Parts.{partShape, lengthsOf, lengthsFit}
-use Rattle.shapes.proofs.Exactly.{lengths-fit}
+use Rattle.shapes.specs.Parts.{partShape}
+use Rattle.shapes.proofs.Exactly.{exact-fits}
 use Rattle.writing.specs.Tables.{tablesRefusal}
 use Rattle.writing.proofs.Answers.{text-decides}
 use Rattle.proving.specs.Printed.{Openable, proof, Printed}
@@ -79,14 +78,15 @@ module _ (S : Settings) (G : List ℕ) (M : List ℤ) (E rounds : List ℕ) (ok 
   )
 
   fitting : fits S provePrints t ≡ true
-  unfolding lengthsFit lengthsOf partShape shapes shape shapeSize choose provePrints printed transcriptOf
-  fitting =
-      sym (lengths-fit S provePrints t)
-      ∙ and-intro (eq-eqb _ _ (sym (Nat.zero-mul d)))
-      (and-intro (eq-eqb _ _ (sym (Nat.zero-mul d)))
-      (and-intro (eq-eqb _ _ (commitment-long ∙ sym (Nat.one-mul d)))
-      (and-intro (eq-eqb _ _ rounds-long)
-      (and-intro (eq-eqb _ _ (ok .challenges .long ∙ sym (Nat.mul-one L))) (eq-eqb _ _ (last-long ∙ sym (Nat.one-mul d)))))))
+  unfolding partShape shapes shape shapeSize choose provePrints printed transcriptOf
+  fitting = exact-fits S provePrints t (record {
+    key = sym (Nat.zero-mul d);
+    message = sym (Nat.zero-mul d);
+    commitment = commitment-long ∙ sym (Nat.one-mul d);
+    rounds = rounds-long;
+    challenges = ok .challenges .long ∙ sym (Nat.mul-one L);
+    last = last-long ∙ sym (Nat.one-mul d);
+  })
 
   passing : Passed S t
   unfolding printed transcriptOf residues small exponents exponent all

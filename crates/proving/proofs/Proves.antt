@@ -15,15 +15,16 @@ use lib.IntN.{ℤ}
 use Rattle.protocol.specs.declared.Settings.{Settings}
 use Rattle.protocol.specs.declared.Written.{Written}
 use Rattle.protocol.specs.Basic.{choose, granted}
+use Rattle.protocol.specs.Layout.{roundCells}
 use Rattle.protocol.specs.Settings.{settingsRefusal, cells, sized, residues, exponent, exponents}
 use Rattle.protocol.specs.Text.{Tables, shape, shapes, shapeSize, fits, linesOf, settingsIn, tablesIn, entriesRefusal, textRefusal, outputRefusal, written, overwritten}
 use Rattle.protocol.specs.Programs.{proveReads, proofText, proveText, proveRefusal, proveAnswer, proveExit}
 use Rattle.protocol.specs.Promises.{Proved}
-use Rattle.protocol.proofs.Tests.{and-split, and-intro, first-zero, unless-zero}
+use Rattle.protocol.proofs.Tests.{and-split, first-zero, unless-zero}
 use Rattle.protocol.proofs.Refusals.{first-stops, first-passes, first-only}
 use Rattle.protocol.proofs.Inputs.{settings-valid, tested-below, tested-within}
-use Rattle.shapes.specs.Parts.{partShape, lengthsOf, lengthsFit}
-use Rattle.shapes.proofs.Exactly.{lengths-fit, fits-exact}
+use Rattle.shapes.specs.Parts.{partShape}
+use Rattle.shapes.proofs.Exactly.{fits-exact, exact-fits}
 use Rattle.proving.specs.Printed.{Openable, proof, Printed}
 
 module _ (text out : List ℕ) where
@@ -54,7 +55,7 @@ module _ (text out : List ℕ) where
     }
 
 module _ (S : Settings) (t : Tables) where
-  pub openable : (rounds : List ℕ) → settingsRefusal S ≡ 0 → fits S proveReads t ≡ true → entriesRefusal S true t ≡ 0 → length rounds ≡ 3 * S .depth * S .degree
+  pub openable : (rounds : List ℕ) → settingsRefusal S ≡ 0 → fits S proveReads t ≡ true → entriesRefusal S true t ≡ 0 → length rounds ≡ roundCells S
       → Openable S (t .key) (t .message) (t .challenges) rounds
   unfolding entriesRefusal residues exponents exponent sized partShape shapes shape shapeSize choose proveReads cells
   openable rounds allowed fit entries long =
@@ -72,11 +73,12 @@ module _ (S : Settings) (t : Tables) where
 -- key, message and challenges
 pub lent-fitting : (S : Settings) (G : List ℕ) (M : List ℤ) (E : List ℕ) → length G ≡ cells S → length M ≡ cells S → length E ≡ S .depth
     → fits S proveReads (record { key = G; message = M; commitment = []; rounds = []; challenges = E; last = [] }) ≡ true
-unfolding lengthsFit lengthsOf partShape shapes shape shapeSize choose proveReads cells
-lent-fitting S G M E key message challenges =
-    sym (lengths-fit S proveReads _)
-    ∙ and-intro (eq-eqb _ _ key)
-    (and-intro (eq-eqb _ _ message)
-    (and-intro (eq-eqb _ _ (sym (Nat.zero-mul (S .degree))))
-    (and-intro (eq-eqb _ _ (sym (Nat.zero-mul (S .degree))))
-    (and-intro (eq-eqb _ _ (challenges ∙ sym (Nat.mul-one (S .depth)))) (eq-eqb _ _ (sym (Nat.zero-mul (S .degree))))))))
+unfolding partShape shapes shape shapeSize choose proveReads cells
+lent-fitting S G M E key message challenges = exact-fits S proveReads _ (record {
+  key = key;
+  message = message;
+  commitment = sym (Nat.zero-mul (S .degree));
+  rounds = sym (Nat.zero-mul (S .degree));
+  challenges = challenges ∙ sym (Nat.mul-one (S .depth));
+  last = sym (Nat.zero-mul (S .degree));
+})

@@ -1,16 +1,21 @@
 // The program `prove` as a call on text: its settings, its tables, the whole opening, and the text of the transcript.
 use protocol::Parts;
+use protocol::SLOTS;
 use protocol::Settings;
+use protocol::TEXT_LIMIT;
 use protocol::Written;
+use shapes::CELLS;
+use shapes::ROUND_CELLS;
 ghost use mathlib.Core.Path.{_≡_};
 ghost use mathlib.Core.Bool.{true};
 ghost use mathlib.Core.List.{[]};
-ghost use Prim.Native.Nat.{_*_, _≤_};
+ghost use Prim.Native.Nat.{_≤_};
 ghost use lib.ListN.{length};
+ghost use Rattle.protocol.specs.Layout.{slots, roundCells};
 ghost use Rattle.protocol.specs.Text.{fits, linesOf, settingsIn, lookRefusal};
 ghost use Rattle.protocol.specs.Programs.{proveReads, provePrints, proveOutput};
 ghost use Rattle.protocol.specs.Promises.{Proved};
-ghost use Rattle.shapes.specs.Parts.{six};
+ghost use Rattle.shapes.specs.Parts.{six, cellsRoom, roundCellsRoom};
 ghost use Rattle.writing.specs.Shown.{Shown, Within};
 ghost use Rattle.proving.specs.Printed.{Openable, Printed};
 
@@ -82,7 +87,7 @@ fn prove_in(
     out: &mut [u8],
 ) -> Written
     requires { ⌜ (lookRefusal (now text) ≡ 0 → fits (settingsIn (linesOf (now text))) proveReads (six (now key) (now message) [] [] (now challenges) []) ≡ true) ⌝ }
-    requires { ⌜ (lookRefusal (now text) ≡ 0 → length (now rounds) ≡ 3 * settingsIn (linesOf (now text)) .depth * settingsIn (linesOf (now text)) .degree) ⌝ }
+    requires { ⌜ (lookRefusal (now text) ≡ 0 → length (now rounds) ≡ roundCells (settingsIn (linesOf (now text)))) ⌝ }
     ensures { λ r. ⌜ Proved (now (text .entry)) (now (out .entry)) r (now (out .exit)) ⌝ }
 {
     let mut no_commitment = [0u32; 1];
@@ -114,7 +119,7 @@ fn prove_within(
     rounds: &mut [u32],
     out: &mut [u8],
 ) -> Written
-    requires { ⌜ (16384 ≤ length (now key)) × (16384 ≤ length (now message)) × (8 ≤ length (now challenges)) × (1536 ≤ length (now rounds)) ⌝ }
+    requires { ⌜ (cellsRoom ≤ length (now key)) × (cellsRoom ≤ length (now message)) × (slots ≤ length (now challenges)) × (roundCellsRoom ≤ length (now rounds)) ⌝ }
     ensures { λ r. ⌜ Proved (now (text .entry)) (now (out .entry)) r (now (out .exit)) ⌝ }
 {
     let looked = tables::allowed_settings(text);
@@ -123,16 +128,15 @@ fn prove_within(
         return Written { number, count: 0 };
     }
     let settings = looked.settings;
-    let degree = settings.degree as usize;
     let depth = settings.depth as usize;
     let cells = sizes::cells(settings);
-    let elements = 3 * depth * degree;
+    let round_cells = sizes::round_cells(settings);
     prove_in(
         text,
         &mut key[..cells],
         &mut message[..cells],
         &mut challenges[..depth],
-        &mut rounds[..elements],
+        &mut rounds[..round_cells],
         out,
     )
 }
@@ -140,10 +144,10 @@ fn prove_within(
 pub fn prove(text: &[u8], out: &mut [u8]) -> Written
     ensures { λ r. ⌜ Proved (now (text .entry)) (now (out .entry)) r (now (out .exit)) ⌝ }
 {
-    let mut key = [0u32; 16384];
-    let mut message = [0i32; 16384];
-    let mut challenges = [0u32; 8];
-    let mut rounds = [0u32; 1536];
+    let mut key = [0u32; CELLS];
+    let mut message = [0i32; CELLS];
+    let mut challenges = [0u32; SLOTS];
+    let mut rounds = [0u32; ROUND_CELLS];
     prove_within(
         text,
         &mut key,
@@ -159,7 +163,7 @@ pub fn print(text: &[u8], out: &mut [u8]) -> usize
     ensures output { λ r. ⌜ Shown (proveOutput (now (text .entry))) (now (out .entry)) r (now (out .exit)) ⌝ }
     ensures within { λ r. ⌜ Within r (now (out .exit)) ⌝ }
 {
-    let mut listing = [0u8; 65536];
+    let mut listing = [0u8; TEXT_LIMIT];
     let written = prove(text, &mut listing);
     let number = written.number;
     if number != 0 {

@@ -1,7 +1,9 @@
 -- The values of a whole text, gathered part after part.
 --
---   behind-rise          the numbers of parts 1 to 6 rise
---   columns-behind       the values of parts 1 to 6 are those of the lines behind the settings
+--   joined vs            lists one after the other
+--   behind-parts, behind-rise   the numbers of the parts behind the settings, and that they rise
+--   columns-flat         the values of parts, part by part
+--   columns-behind       the values of these parts are those of the lines behind the settings
 --   order-..             are its lines the required ones, by what was read of them
 --   values-present       lines at wanted spots up to the end are of the stated shape
 --   followed-..          what the reader of the lines behind the settings promises
@@ -10,7 +12,7 @@ use mathlib.Core.Path.{_≡_, refl, sym, ap, ap₂, subst, _∙_}
 use mathlib.Core.Bool.{Bool, true, false, _&&_, false≢true}
 use mathlib.Core.List.{List, [], _∷_, _++_, append-nil, flatMap}
 use mathlib.Core.Option.{Option, none, some, bind, Option·some-injective}
-use Prim.Native.Nat.{ℕ, suc, _+_, _-_, _≤_, _<_}
+use Prim.Native.Nat.{ℕ, zero, suc, _+_, _-_, _≤_, _<_}
 use native.Mathlib.Omega.{arith}
 use borrow.Author.Tests.{eqb-true, eq-eqb}
 use lib.Dec.{eqb}
@@ -32,8 +34,7 @@ use Rattle.shapes.specs.Parts.{lengthsFit}
 use Rattle.reading.specs.Parts.{partSpots, Took}
 use Rattle.tables.specs.declared.header.Header.{Header}
 use Rattle.reading.specs.declared.parts.Taken.{Taken}
-use Rattle.shapes.specs.declared.Lengths.{Lengths}
-use Rattle.reading.specs.Stored.{columnsIn, inOrder, linesRefusal, First, Followed, Gathered}
+use Rattle.reading.specs.Stored.{tableParts, columnsIn, inOrder, linesRefusal, First, Followed, Gathered}
 use Rattle.tables.proofs.Counts.{suffix-length}
 use Rattle.tables.proofs.Rows.{all-end, all-next, all-none}
 use Rattle.tables.proofs.Values.{same-spot}
@@ -45,11 +46,12 @@ use Rattle.reading.proofs.Wants.{wanted-is}
 
 -- ---- values by parts
 
-joined : List (List ℤ) → List ℤ
+-- the values of lists one after the other
+abbrev pub joined : List (List ℤ) → List ℤ
 joined vs = flatMap (λ (v : List ℤ). v) vs
 
 columns-joined : (q : ℕ) (bs : List Shape) (ls : List Line) → Rising q (parts bs) → spotsOf ls ≡ flatMap spots bs → joined (columns (parts bs) ls) ≡ valuesOf ls
-unfolding joined flatMap spotsOf valuesOf
+unfolding flatMap spotsOf valuesOf
 columns-joined q [] [] r e = refl
 columns-joined q [] (l ∷ ls) r e = absurd (omega (arith, ap length e))
 columns-joined q (b ∷ bs) ls r e =
@@ -57,15 +59,25 @@ columns-joined q (b ∷ bs) ls r e =
     ap₂ (λ (x y : List ℤ). x ++ y) (c .mine) (ap joined (c .others) ∙ columns-joined (suc (b .part)) bs (c .back) (r .1) (c .back-spots))
     ∙ sym (values-append (c .front) (c .back)) ∙ ap valuesOf (sym (c .joined))
 
+-- the parts behind the settings
+pub behind-parts : (S : Settings) (P : Parts) → parts (drop 1 (shapes S P)) ≡ tableParts
+unfolding shapes shape settingsShape
+behind-parts S P = refl
+
 pub behind-rise : (S : Settings) (P : Parts) → Rising 1 (parts (drop 1 (shapes S P)))
 unfolding shapes shape settingsShape
 behind-rise S P = (omega arith, (omega arith, (omega arith, (omega arith, (omega arith, (omega arith, tt))))))
 
+-- the values of the parts, part by part
+pub columns-flat : (ps : List ℕ) (ls : List Line) → joined (columns ps ls) ≡ flatMap (λ p. column p ls) ps
+unfolding flatMap
+columns-flat [] ls = refl
+columns-flat (p ∷ ps) ls = ap (λ v. column p ls ++ v) (columns-flat ps ls)
+
 columns-are : (S : Settings) (P : Parts) (ls : List Line) → spotsOf ls ≡ partSpots S P → columnsIn ls ≡ valuesOf ls
-unfolding columnsIn partSpots joined flatMap shapes shape settingsShape
+unfolding columnsIn partSpots
 columns-are S P ls e =
-    ap (λ v. column 1 ls ++ (column 2 ls ++ (column 3 ls ++ (column 4 ls ++ (column 5 ls ++ v))))) (sym (append-nil (column 6 ls)))
-    ∙ columns-joined 1 (drop 1 (shapes S P)) ls (behind-rise S P) e
+    sym (columns-flat tableParts ls) ∙ ap (λ ps. joined (columns ps ls)) (sym (behind-parts S P)) ∙ columns-joined 1 (drop 1 (shapes S P)) ls (behind-rise S P) e
 
 settings-elsewhere : (p : ℕ) → AllParts (λ q. ¬ (q ≡ suc p)) settingsSpots
 unfolding spots tabulate shapeSize settingsShape shape choose spotAt
@@ -80,11 +92,15 @@ module _ (front more : List Line) (e : spotsOf front ≡ settingsSpots) where
       column-append (suc p) front more
       ∙ ap (λ v. v ++ column (suc p) more) (column-none (suc p) front (subst (AllParts (λ q. ¬ (q ≡ suc p))) (sym e) (settings-elsewhere p)))
 
+  columns-skip : (q : ℕ) (ps : List ℕ) → Rising (suc q) ps → flatMap (λ p. column p (front ++ more)) ps ≡ flatMap (λ p. column p more) ps
+  unfolding flatMap
+  columns-skip q [] r = refl
+  columns-skip q (zero ∷ ps) r = absurd (omega (arith, r .0))
+  columns-skip q (suc p ∷ ps) r = ap₂ (λ (x y : List ℤ). x ++ y) (column-behind p) (columns-skip (suc p) ps (r .1))
+
   pub columns-behind : (S : Settings) (P : Parts) → spotsOf more ≡ partSpots S P → columnsIn (front ++ more) ≡ valuesOf more
   unfolding columnsIn
-  columns-behind S P f =
-      (λ j. column-behind 0 j ++ (column-behind 1 j ++ (column-behind 2 j ++ (column-behind 3 j ++ (column-behind 4 j ++ column-behind 5 j)))))
-      ∙ columns-are S P more f
+  columns-behind S P f = columns-skip 0 tableParts (subst (Rising 1) (behind-parts S P) (behind-rise S P)) ∙ columns-are S P more f
 
 -- ---- the same spots
 
@@ -281,7 +297,7 @@ module _ (text : List ℕ) (P : Parts) (h : Header) (h-is : h ≡ headerAnswer t
         }
 
 -- refusals 1 to 7, after a first look
-module _ (P : Parts) (n : Lengths) (text : List ℕ) (r : Loaded) (r-is : r ≡ lookAnswer text) (values : List ℤ) where
+module _ (P : Parts) (n : List ℕ) (text : List ℕ) (r : Loaded) (r-is : r ≡ lookAnswer text) (values : List ℤ) where
   abbrev number-is : r .number ≡ lookRefusal text
   number-is = look-number text r r-is
 

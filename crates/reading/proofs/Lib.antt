@@ -5,3 +5,4 @@ pub mod Wants
 pub mod Gathers
 pub mod Whole
 pub mod OnText
+pub mod Rooms

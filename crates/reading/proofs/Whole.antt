@@ -5,33 +5,34 @@
 --   tables-are        then the values are those of the tables, one table after the other
 --   tables-room       and there is room for them
 --   read-..           what the reader promises, by what was gathered and by refusals 8 to 10
-use mathlib.Core.Path.{_≡_, sym, ap, _∙_}
+use mathlib.Core.Path.{_≡_, refl, sym, ap, _∙_}
 use mathlib.Core.Bool.{true, _&&_}
-use mathlib.Core.List.{List, [], _∷_, _++_, append-assoc, map}
-use Prim.Native.Nat.{ℕ, _+_, _≤_}
+use mathlib.Core.List.{List, [], _∷_, _++_, append-assoc, map, flatMap}
+use Prim.Native.Nat.{ℕ, zero, suc, _+_, _<_, _≤_}
+use native.Mathlib.Nat as Nat
+use native.Mathlib.Numerals.{add-one}
 use native.Mathlib.Omega.{arith}
 use borrow.Author.Tests.{eqb-true}
-use lib.ListN.{length, take, drop, length-append, length-take, take-append-drop}
-use lib.Seq.{take-append-seam, drop-append-seam, drop-append-add}
+use lib.ListN.{length, getD, take, drop, length-append, take-append-drop}
+use lib.Seq.{take-append-seam, drop-append-add, ext-getD}
 use lib.IntN.{ℤ}
 use Rattle.protocol.specs.declared.Settings.{Settings}
 use Rattle.protocol.specs.declared.Parts.{Parts}
 use Rattle.protocol.specs.declared.Loaded.{Loaded}
 use Rattle.protocol.specs.Basic.{first, unless}
 use Rattle.protocol.specs.Settings.{settingsRefusal}
-use Rattle.protocol.specs.Text.{Line, Tables, shape, settingsShape, shapes, wanted, linesOf, unsigned, column, unsignedColumn, settingsIn, tablesIn, noSettings, lookRefusal, loaded, entriesRefusal, textRefusal, readRefusal, readAnswer, readExit}
+use Rattle.protocol.specs.Text.{Line, Shape, Tables, shape, settingsShape, shapes, shapeSize, wanted, linesOf, unsigned, unsignedColumn, settingsIn, tablesIn, noSettings, lookRefusal, loaded, entriesRefusal, textRefusal, readRefusal, readAnswer, readExit}
 use Rattle.protocol.specs.Promises.{Read}
-use Rattle.protocol.proofs.Tests.{and-split, first-zero, unless-zero, granted-zero, granted-refused}
+use Rattle.protocol.proofs.Tests.{and-split, every-at, first-zero, unless-zero, granted-zero, granted-refused}
 use Rattle.protocol.proofs.Refusals.{front-stops, front-passes, first-only}
 use Rattle.protocol.proofs.TableLaws.{Rising, Fit, parts, columns, read-fit}
-use Rattle.shapes.specs.declared.Lengths.{Lengths}
-use Rattle.shapes.specs.Parts.{six, partShape, lengthsOf, lengthsFit}
+use Rattle.shapes.specs.Parts.{six, tableCount, partShape, lengthsOf, lengthsAre, lengthsFit}
 use Rattle.shapes.proofs.Exactly.{lengths-fit}
-use Rattle.reading.specs.Stored.{columnsIn, inOrder, linesRefusal, First, Gathered}
+use Rattle.reading.specs.Stored.{tableParts, columnsIn, inOrder, linesRefusal, First, Gathered}
 use Rattle.tables.proofs.Follow.{spots-same}
 use Rattle.tables.proofs.Looks.{loaded-refused}
-use Rattle.reading.proofs.Gathers.{behind-rise}
-use Rattle.reading.specs.Cut.{cut, total, tablesOf}
+use Rattle.reading.proofs.Gathers.{joined, behind-rise, columns-flat}
+use Rattle.reading.specs.Cut.{start, total, piece, tablesOf}
 
 -- ---- refusals
 
@@ -57,67 +58,44 @@ module _ (P : Parts) (text : List ℕ) (t : Tables) where
 
 -- ---- lists one after the other
 
-module _ (n : ℕ) (a l : List ℤ) (e : n ≡ length a) where
-  cut-front : cut 0 n (a ++ l) ≡ a
-  cut-front = ap (λ k. take k (a ++ l)) e ∙ take-append-seam a l
+start-cons : (a : ℕ) (n : List ℕ) (k : ℕ) → start (a ∷ n) (suc k) ≡ a + start n k
+unfolding start
+start-cons a n zero = omega arith
+start-cons a n (suc k) = ap (λ m. m + getD n k 0) (start-cons a n k) ∙ Nat.add-assoc a (start n k) (getD n k 0)
 
-  cut-behind : (k m : ℕ) → cut (n + k) m (a ++ l) ≡ cut k m l
-  cut-behind k m = ap (λ j. take m (drop (j + k) (a ++ l))) e ∙ ap (take m) (drop-append-add a l k)
+-- the list at place k stands where the lengths of those before it end
+pub piece-joined : (vs : List (List ℤ)) (rest : List ℤ) (k : ℕ) → k < length vs → piece (map length vs) k (joined vs ++ rest) ≡ getD vs k []
+unfolding start flatMap
+piece-joined [] rest k h = absurd (omega arith)
+piece-joined (v ∷ vs) rest zero h = ap (take (length v)) (append-assoc v (joined vs) rest) ∙ take-append-seam v (joined vs ++ rest)
+piece-joined (v ∷ vs) rest (suc k) h =
+    let n = map length vs in
+    let m = getD n k 0 in
+    (λ j. take m (drop (start-cons (length v) n k j) (append-assoc v (joined vs) rest j)))
+    ∙ ap (take m) (drop-append-add v (joined vs ++ rest) (start n k)) ∙ piece-joined vs rest k (omega arith)
 
-  cut-next : (m : ℕ) → cut n m (a ++ l) ≡ cut 0 m l
-  cut-next m = ap (λ j. take m (drop j (a ++ l))) e ∙ ap (take m) (drop-append-seam a l)
-
--- the lengths of six lists
-record Long (n : Lengths) (a b c d e f : List ℤ) : Type 0 where
-  key : n .key ≡ length a
-  message : n .message ≡ length b
-  commitment : n .commitment ≡ length c
-  rounds : n .rounds ≡ length d
-  challenges : n .challenges ≡ length e
-  last : n .last ≡ length f
-
-module _ (n : Lengths) (a b c d e f rest : List ℤ) (h : Long n a b c d e f) where
-  abbrev lists : List ℤ
-  lists = a ++ (b ++ (c ++ (d ++ (e ++ (f ++ rest)))))
-
-  abbrev from : ℕ → ℕ → List ℤ
-  from k m = cut k m lists
-
-  six-cut : tablesOf n lists ≡ six (map unsigned a) b (map unsigned c) (map unsigned d) (map unsigned e) f
-  unfolding tablesOf
-  six-cut =
-      let k₁ = n .key in
-      let k₂ = n .message in
-      let k₃ = n .commitment in
-      let k₄ = n .rounds in
-      let k₅ = n .challenges in
-      let k₆ = n .last in
-      let l₅ = e ++ (f ++ rest) in
-      let l₄ = d ++ l₅ in
-      let l₃ = c ++ l₄ in
-      let l₂ = b ++ l₃ in
-      let sum₃ : k₁ + k₂ + k₃ ≡ k₁ + (k₂ + k₃) = omega arith in
-      let sum₄ : k₁ + k₂ + k₃ + k₄ ≡ k₁ + (k₂ + (k₃ + k₄)) = omega arith in
-      let sum₅ : k₁ + k₂ + k₃ + k₄ + k₅ ≡ k₁ + (k₂ + (k₃ + (k₄ + k₅))) = omega arith in
-      let b-is : from k₁ k₂ ≡ b = cut-next k₁ a l₂ (h .key) k₂ ∙ cut-front k₂ b l₃ (h .message) in
-      let c-is : from (k₁ + k₂) k₃ ≡ c = cut-behind k₁ a l₂ (h .key) k₂ k₃ ∙ cut-next k₂ b l₃ (h .message) k₃ ∙ cut-front k₃ c l₄ (h .commitment) in
-      let d-is : from (k₁ + k₂ + k₃) k₄ ≡ d =
-      ap (λ k. from k k₄) sum₃ ∙ cut-behind k₁ a l₂ (h .key) (k₂ + k₃) k₄ ∙ cut-behind k₂ b l₃ (h .message) k₃ k₄ ∙ cut-next k₃ c l₄ (h .commitment) k₄ ∙ cut-front k₄ d l₅ (h .rounds) in
-      let e-is : from (k₁ + k₂ + k₃ + k₄) k₅ ≡ e =
-      ap (λ k. from k k₅) sum₄ ∙ cut-behind k₁ a l₂ (h .key) (k₂ + (k₃ + k₄)) k₅ ∙ cut-behind k₂ b l₃ (h .message) (k₃ + k₄) k₅
-      ∙ cut-behind k₃ c l₄ (h .commitment) k₄ k₅ ∙ cut-next k₄ d l₅ (h .rounds) k₅ ∙ cut-front k₅ e (f ++ rest) (h .challenges) in
-      let f-is : from (k₁ + k₂ + k₃ + k₄ + k₅) k₆ ≡ f =
-      ap (λ k. from k k₆) sum₅ ∙ cut-behind k₁ a l₂ (h .key) (k₂ + (k₃ + (k₄ + k₅))) k₆ ∙ cut-behind k₂ b l₃ (h .message) (k₃ + (k₄ + k₅)) k₆
-      ∙ cut-behind k₃ c l₄ (h .commitment) (k₄ + k₅) k₆ ∙ cut-behind k₄ d l₅ (h .rounds) k₅ k₆ ∙ cut-next k₅ e (f ++ rest) (h .challenges) k₆ ∙ cut-front k₆ f rest (h .last) in
-      λ j. six (map unsigned (cut-front k₁ a l₂ (h .key) j)) (b-is j) (map unsigned (c-is j)) (map unsigned (d-is j)) (map unsigned (e-is j)) (f-is j)
+pub start-joined : (vs : List (List ℤ)) → start (map length vs) (length vs) ≡ length (joined vs)
+unfolding start flatMap
+start-joined [] = refl
+start-joined (v ∷ vs) = start-cons (length v) (map length vs) (length vs) ∙ ap (λ m. length v + m) (start-joined vs) ∙ sym (length-append v (joined vs))
 
 -- ---- the tables of a text among its values
+
+fit-long : (bs : List Shape) (vs : List (List ℤ)) (z : Shape) → Fit bs vs → (k : ℕ) → k < length bs → getD (map length vs) k 0 ≡ shapeSize (getD bs k z)
+fit-long [] vs z f k h = absurd (omega arith)
+fit-long (b ∷ bs) [] z f k h = absurd f
+fit-long (b ∷ bs) (v ∷ vs) z f zero h = f .0
+fit-long (b ∷ bs) (v ∷ vs) z f (suc k) h = fit-long bs vs z (f .1) k (omega arith)
+
+six-tables : (t : Tables) → length (lengthsOf t) ≡ tableCount
+unfolding lengthsOf
+six-tables t = refl
 
 shapes-rise : (S : Settings) (P : Parts) → Rising 0 (parts (shapes S P))
 unfolding shapes shape settingsShape
 shapes-rise S P = (omega arith, behind-rise S P)
 
-module _ (P : Parts) (text : List ℕ) (n : Lengths) (values : List ℤ) (h : linesRefusal P n text ≡ 0) (s : First (columnsIn (linesOf text)) values) where
+module _ (P : Parts) (text : List ℕ) (n : List ℕ) (few : length n ≡ tableCount) (values : List ℤ) (h : linesRefusal P n text ≡ 0) (s : First (columnsIn (linesOf text)) values) where
   abbrev lines : List Line
   lines = linesOf text
 
@@ -136,43 +114,41 @@ module _ (P : Parts) (text : List ℕ) (n : Lengths) (values : List ℤ) (h : li
   unfolding inOrder wanted
   fit = read-fit 0 (shapes settings P) lines (shapes-rise settings P) (spots-same _ _ (both .0))
 
-  long : Long n (column 1 lines) (column 2 lines) (column 3 lines) (column 4 lines) (column 5 lines) (column 6 lines)
-  unfolding lengthsFit partShape shapes shape settingsShape
-  long =
-      let (k₁, r₁) = and-split (both .1) in
-      let (k₂, r₂) = and-split r₁ in
-      let (k₃, r₃) = and-split r₂ in
-      let (k₄, r₄) = and-split r₃ in
-      let (k₅, k₆) = and-split r₄ in
-      let g = fit .1 in
-      record {
-        key = eqb-true _ _ k₁ ∙ sym (g .0);
-        message = eqb-true _ _ k₂ ∙ sym (g .1 .0);
-        commitment = eqb-true _ _ k₃ ∙ sym (g .1 .1 .0);
-        rounds = eqb-true _ _ k₄ ∙ sym (g .1 .1 .1 .0);
-        challenges = eqb-true _ _ k₅ ∙ sym (g .1 .1 .1 .1 .0);
-        last = eqb-true _ _ k₆ ∙ sym (g .1 .1 .1 .1 .1 .0);
-      }
+  -- the values of each part
+  abbrev all-columns : List (List ℤ)
+  all-columns = columns tableParts lines
 
   behind : List ℤ
   behind = drop (length (columnsIn lines)) values
 
-  values-are : values ≡ column 1 lines ++ (column 2 lines ++ (column 3 lines ++ (column 4 lines ++ (column 5 lines ++ (column 6 lines ++ behind)))))
+  values-are : values ≡ joined all-columns ++ behind
   unfolding behind columnsIn
-  values-are = sym (take-append-drop (length (columnsIn lines)) values) ∙ ap (λ vs. vs ++ behind) s ∙ simp append-assoc
+  values-are = sym (take-append-drop (length (columnsIn lines)) values) ∙ ap (λ vs. vs ++ behind) (s ∙ sym (columns-flat tableParts lines))
+
+  column-long : (k : ℕ) → k < tableCount → getD (map length all-columns) k 0 ≡ shapeSize (partShape settings P (k + 1))
+  unfolding partShape shapes shape settingsShape
+  column-long k h =
+      fit-long (drop 1 (shapes settings P)) all-columns settingsShape (fit .1) k (omega arith)
+      ∙ ap (λ j. shapeSize (getD (shapes settings P) j settingsShape)) (sym (add-one k))
+
+  lengths-are : n ≡ map length all-columns
+  unfolding lengthsAre
+  lengths-are = ext-getD 0 _ _ few (λ k l. eqb-true _ _ (every-at tableCount _ (both .1) k (omega arith)) ∙ sym (column-long k (omega arith)))
 
   pub tables-are : tablesOf n values ≡ tablesIn lines
-  unfolding tablesIn unsignedColumn
+  unfolding tablesIn unsignedColumn tablesOf
   tables-are =
-      ap (tablesOf n) values-are ∙ six-cut n (column 1 lines) (column 2 lines) (column 3 lines) (column 4 lines) (column 5 lines) (column 6 lines) behind long
+      (λ j. tablesOf (lengths-are j) (values-are j))
+      ∙ (λ j. six (map unsigned (at 0 (omega arith) j)) (at 1 (omega arith) j) (map unsigned (at 2 (omega arith) j))
+      (map unsigned (at 3 (omega arith) j)) (map unsigned (at 4 (omega arith) j)) (at 5 (omega arith) j))
+    where
+      at : (k : ℕ) → k < tableCount → piece (map length all-columns) k (joined all-columns ++ behind) ≡ getD all-columns k []
+      at = piece-joined all-columns behind
 
   pub tables-room : total n ≤ length values
-  unfolding columnsIn
-  tables-room = omega (arith, ap length s, length-take (length (columnsIn lines)) values, counted, long .key, long .message, long .commitment, long .rounds, long .challenges, long .last)
-    where
-      counted : length (columnsIn lines)
-          ≡ length (column 1 lines) + (length (column 2 lines) + (length (column 3 lines) + (length (column 4 lines) + (length (column 5 lines) + length (column 6 lines)))))
-      counted = simp length-append
+  unfolding total
+  tables-room =
+      omega (arith, ap (λ m. start m tableCount) lengths-are, start-joined all-columns, ap length values-are, length-append (joined all-columns) behind)
 
 -- ---- what the reader promises
 
@@ -200,13 +176,13 @@ module _ (P : Parts) (text : List ℕ) (t : Tables) (r : Loaded) (values : List 
     settings-are = ap (λ x. x .settings) (g .answer) ∙ granted-zero _ _ _ unrefused
 
     pub read-allowed : settingsRefusal (r .settings) ≡ 0
-    read-allowed = ap settingsRefusal settings-are ∙ read-settings P text (lengthsOf t) values unrefused (g .stored unrefused)
+    read-allowed = ap settingsRefusal settings-are ∙ read-settings P text (lengthsOf t) (six-tables t) values unrefused (g .stored unrefused)
 
     pub read-room : total (lengthsOf t) ≤ length values
-    read-room = tables-room P text (lengthsOf t) values unrefused (g .stored unrefused)
+    read-room = tables-room P text (lengthsOf t) (six-tables t) values unrefused (g .stored unrefused)
 
     stored : tablesOf (lengthsOf t) values ≡ tablesIn (linesOf text)
-    stored = tables-are P text (lengthsOf t) values unrefused (g .stored unrefused)
+    stored = tables-are P text (lengthsOf t) (six-tables t) values unrefused (g .stored unrefused)
 
     module _ (m : ℕ) (m-is : m ≡ entriesRefusal (r .settings) true (tablesOf (lengthsOf t) values)) where
       decided : readRefusal P text t ≡ m

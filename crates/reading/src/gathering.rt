@@ -2,8 +2,9 @@
 use crate::parts::read_parts;
 use protocol::Loaded;
 use protocol::Parts;
+use protocol::TEXT_LIMIT;
 use ranges::tests::settings_refusal;
-use shapes::Lengths;
+use shapes::TABLES;
 use shapes::fits;
 use tables::Header;
 use tables::look;
@@ -13,16 +14,17 @@ ghost use mathlib.Core.Path.{_≡_};
 ghost use Prim.Native.Nat.{_≤_};
 ghost use lib.ListN.{length};
 ghost use Rattle.protocol.specs.Lines.{readSettings};
+ghost use Rattle.shapes.specs.Parts.{valuesRoom};
 ghost use Rattle.tables.specs.Header.{headerAnswer};
 ghost use Rattle.reading.specs.Stored.{Followed, Gathered};
 
 // Do the lines of a text that begins so go on with the required ones up to its end, where its length and its settings are allowed. All lines are
 // then of the stated shape, and one walk has read them: refusals 1 to 6 do not apply.
 fn follow(parts: Parts, header: Header, text: &[u8], values: &mut [i32]) -> bool
-    requires { ⌜ (header ≡ headerAnswer (now text) (readSettings (now text))) × (8192 ≤ length (now values)) ⌝ }
+    requires { ⌜ (header ≡ headerAnswer (now text) (readSettings (now text))) × (valuesRoom ≤ length (now values)) ⌝ }
     ensures { λ r. ⌜ Followed parts (now (text .entry)) r (now (values .exit)) ⌝ }
 {
-    if text.len() > 65536 {
+    if text.len() > TEXT_LIMIT {
         return false;
     }
     if !header.found {
@@ -42,8 +44,8 @@ fn follow(parts: Parts, header: Header, text: &[u8], values: &mut [i32]) -> bool
 
 // Refusals 1 to 7 of a text that is read into tables of these lengths. Where nothing is refused its values stand first in `values`, which has room
 // for the values of every text that is not too long: a line has at least eight bytes.
-pub fn gather(parts: Parts, text: &[u8], lengths: Lengths, values: &mut [i32]) -> Loaded
-    requires { ⌜ 8192 ≤ length (now values) ⌝ }
+pub fn gather(parts: Parts, text: &[u8], lengths: [usize; TABLES], values: &mut [i32]) -> Loaded
+    requires { ⌜ valuesRoom ≤ length (now values) ⌝ }
     ensures { λ r. ⌜ Gathered parts lengths (now (text .entry)) r (now (values .exit)) ⌝ }
 {
     let header = read_header(text);

@@ -6,7 +6,7 @@ mod store;
 
 use protocol::Loaded;
 use protocol::Parts;
-use shapes::Lengths;
+use shapes::VALUES;
 ghost use Rattle.protocol.specs.Promises.{Read};
 ghost use Rattle.shapes.specs.Parts.{six};
 
@@ -23,15 +23,15 @@ pub fn read(
 ) -> Loaded
     ensures { λ r. ⌜ Read parts (now (text .entry)) (six (now (key .entry)) (now (message .entry)) (now (commitment .entry)) (now (rounds .entry)) (now (challenges .entry)) (now (last .entry))) r (six (now (key .exit)) (now (message .exit)) (now (commitment .exit)) (now (rounds .exit)) (now (challenges .exit)) (now (last .exit))) ⌝ }
 {
-    let lengths = Lengths {
-        key: key.len(),
-        message: message.len(),
-        commitment: commitment.len(),
-        rounds: rounds.len(),
-        challenges: challenges.len(),
-        last: last.len(),
-    };
-    let mut values = [0i32; 8192];
+    let lengths = [
+        key.len(),
+        message.len(),
+        commitment.len(),
+        rounds.len(),
+        challenges.len(),
+        last.len(),
+    ];
+    let mut values = [0i32; VALUES];
     let loaded = gathering::gather(parts, text, lengths, &mut values);
     if loaded.number != 0 {
         return loaded;

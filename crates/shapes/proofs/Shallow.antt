@@ -1,8 +1,9 @@
 -- The shapes of the parts where the depth is allowed.
 --
 --   part-of, part-of-deep   the part of a number, by whether the depth is allowed
---   lengths-shallow         the test of the six lengths there
+--   lengths-shallow         the test of the lengths there
 use mathlib.Core.Path.{_≡_, ap}
+use mathlib.Core.List.{List}
 use Prim.Native.Nat.{ℕ, _≤_, _<_}
 use borrow.Author.Tests.{le-leb, lt-leb}
 use Rattle.protocol.specs.declared.Settings.{Settings}
@@ -10,7 +11,6 @@ use Rattle.protocol.specs.declared.Parts.{Parts}
 use Rattle.protocol.specs.Basic.{choose}
 use Rattle.protocol.specs.Settings.{depthAllowed}
 use Rattle.protocol.specs.Text.{settingsShape}
-use Rattle.shapes.specs.declared.Lengths.{Lengths}
 use Rattle.shapes.specs.Parts.{partShape, partOf, lengthsAre, lengthsFit}
 
 module _ (S : Settings) (P : Parts) where
@@ -22,6 +22,5 @@ module _ (S : Settings) (P : Parts) where
   unfolding partOf depthAllowed choose
   part-of-deep k h = ap (λ b. choose b (partShape S P k) settingsShape) (lt-leb _ _ h)
 
-  pub lengths-shallow : (n : Lengths) → S .depth ≤ 8 → lengthsAre (partOf S P) n ≡ lengthsFit S P n
-  unfolding lengthsFit
+  pub lengths-shallow : (n : List ℕ) → S .depth ≤ 8 → lengthsAre (partOf S P) n ≡ lengthsFit S P n
   lengths-shallow n h = λ j. lengthsAre (λ k. part-of k h j) n

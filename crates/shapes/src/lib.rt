@@ -1,9 +1,23 @@
 // The parts of a text: what their lines are. One description for the reader and for the writer.
 use protocol::Parts;
+use protocol::SLOTS;
 use protocol::Settings;
+use protocol::TEXT_LIMIT;
+use protocol::WIDTH;
 ghost use mathlib.Core.Path.{_≡_};
 ghost use Rattle.protocol.specs.Text.{shape, settingsShape, shapeSize};
-ghost use Rattle.shapes.specs.Parts.{asShape, nextCell, partOf, lengthsAre};
+ghost use Rattle.shapes.specs.Parts.{asShape, nextCell, partOf, lengthsAre, testedBy};
+
+// How many parts there are behind the settings, each with a table: `tableCount` of the definitions. The table of part k + 1 has place k in a list of them.
+pub const TABLES: usize = 6;
+
+// The room for the values of every text that is not too long, since a line has at least eight bytes: `valuesRoom` of the definitions.
+pub const VALUES: usize = TEXT_LIMIT / 8;
+
+// The largest key or message, of 2^8 elements, and the largest table of round polynomials: `cellsRoom` and `roundCellsRoom` of the definitions.
+pub const CELLS: usize = 256 * WIDTH;
+
+pub const ROUND_CELLS: usize = 3 * SLOTS * WIDTH;
 
 // A part: its number, its items and the places of an item.
 pub struct Shape {
@@ -16,16 +30,6 @@ pub struct Shape {
 pub struct Cell {
     pub item: u32,
     pub place: u32,
-}
-
-// How long the six tables are.
-pub struct Lengths {
-    pub key: usize,
-    pub message: usize,
-    pub commitment: usize,
-    pub rounds: usize,
-    pub challenges: usize,
-    pub last: usize,
 }
 
 // A part that is not there has no items.
@@ -113,24 +117,27 @@ pub fn part_size(settings: Settings, parts: Parts, part: u32) -> usize
     size_of(shape_of(settings, parts, part))
 }
 
+// Which refusal tests the values of the table at place k: 8 residues, 9 the bound, 10 exponents; 0 where none does.
+pub fn tested_by(k: usize) -> u32
+    ensures { λ r. ⌜ r ≡ testedBy k ⌝ }
+{
+    if k >= TABLES {
+        return 0;
+    }
+    let tests: [u32; TABLES] = [8, 9, 8, 8, 10, 0];
+    tests[k]
+}
+
 // Refusal 7 of lent tables: has each of them exactly its length.
-pub fn fits(settings: Settings, parts: Parts, lengths: Lengths) -> bool
+pub fn fits(settings: Settings, parts: Parts, lengths: [usize; TABLES]) -> bool
     ensures { λ r. ⌜ r ≡ lengthsAre (partOf settings parts) lengths ⌝ }
 {
-    if lengths.key != part_size(settings, parts, 1) {
-        return false;
+    let mut k: usize = 0;
+    while k < TABLES {
+        if lengths[k] != part_size(settings, parts, (k as u32) + 1) {
+            return false;
+        }
+        k += 1;
     }
-    if lengths.message != part_size(settings, parts, 2) {
-        return false;
-    }
-    if lengths.commitment != part_size(settings, parts, 3) {
-        return false;
-    }
-    if lengths.rounds != part_size(settings, parts, 4) {
-        return false;
-    }
-    if lengths.challenges != part_size(settings, parts, 5) {
-        return false;
-    }
-    lengths.last == part_size(settings, parts, 6)
+    true
 }

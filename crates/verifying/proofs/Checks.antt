@@ -11,7 +11,7 @@ use mathlib.Core.List.{List, [], _∷_}
 use Prim.Native.Nat.{ℕ, _+_, _*_, _<_}
 use native.Mathlib.Nat as Nat
 use native.Mathlib.Omega.{arith}
-use borrow.Author.Tests.{eqb-true, eq-eqb}
+use borrow.Author.Tests.{eq-eqb}
 use lib.Dec.{ltb}
 use lib.IntN.{ℤ, pos}
 use lib.ListN.{length, getD, List·getD-append}
@@ -23,6 +23,7 @@ use Rattle.protocol.specs.declared.Verified.{Verified}
 use Rattle.protocol.specs.declared.Verified.the-variants.{Accepted, Rejected}
 use Rattle.protocol.specs.Basic.{tabulate, choose}
 use Rattle.protocol.specs.Element.{signed, signedAt, coefficients, paddedSigned}
+use Rattle.protocol.specs.Layout.{roundCells}
 use Rattle.protocol.specs.Settings.{cells, sized, residues, residueElement, exponents}
 use Rattle.protocol.specs.Text.{Tables, shape, shapes, shapeSize, entriesRefusal}
 use Rattle.protocol.specs.Transcript.{accepted}
@@ -36,8 +37,8 @@ use Rattle.claims.proofs.Agreement.{Same}
 use Rattle.residues.specs.Elements.{elementAt}
 use Rattle.residues.proofs.Padding.{padded-at}
 use Rattle.sizes.proofs.Limits.{degree-least}
-use Rattle.shapes.specs.Parts.{partShape, lengthsOf, lengthsFit}
-use Rattle.shapes.proofs.Exactly.{lengths-fit}
+use Rattle.shapes.specs.Parts.{partShape}
+use Rattle.shapes.proofs.Exactly.{fits-exact}
 use Rattle.verifying.specs.Given.{Given}
 use Rattle.verifying.proofs.Alike.{accepted-alike}
 
@@ -45,7 +46,7 @@ pub record Long (S : Settings) (t : Tables) : Type 0 where
   pub key : length (t .key) ≡ cells S
   pub message : length (t .message) ≡ 0
   pub commitment : length (t .commitment) ≡ S .degree
-  pub rounds : length (t .rounds) ≡ 3 * S .depth * S .degree
+  pub rounds : length (t .rounds) ≡ roundCells S
   pub challenges : length (t .challenges) ≡ S .depth
   pub last : length (t .last) ≡ S .degree
 
@@ -60,20 +61,16 @@ module _ (S : Settings) (t : Tables) (g : Given S t) where
   f = paddedSigned d (coefficients d (signedAt d (t .last) 0))
 
   pub long : Long S t
-  unfolding lengthsFit lengthsOf partShape shapes shape shapeSize choose verifyReads cells
+  unfolding partShape shapes shape shapeSize choose verifyReads cells
   long =
-      let (k₁, r₁) = and-split (lengths-fit S verifyReads t ∙ g .fitting) in
-      let (k₂, r₂) = and-split r₁ in
-      let (k₃, r₃) = and-split r₂ in
-      let (k₄, r₄) = and-split r₃ in
-      let (k₅, k₆) = and-split r₄ in
+      let e = fits-exact S verifyReads t (g .fitting) in
       record {
-        key = eqb-true _ _ k₁;
-        message = eqb-true _ _ k₂ ∙ Nat.zero-mul d;
-        commitment = eqb-true _ _ k₃ ∙ Nat.one-mul d;
-        rounds = eqb-true _ _ k₄;
-        challenges = eqb-true _ _ k₅ ∙ Nat.mul-one (S .depth);
-        last = eqb-true _ _ k₆ ∙ Nat.one-mul d;
+        key = e .key;
+        message = e .message ∙ Nat.zero-mul d;
+        commitment = e .commitment ∙ Nat.one-mul d;
+        rounds = e .rounds;
+        challenges = e .challenges ∙ Nat.mul-one (S .depth);
+        last = e .last ∙ Nat.one-mul d;
       }
 
   pub given-bare : Given S (record { key = t .key; message = []; commitment = t .commitment; rounds = t .rounds; challenges = t .challenges; last = t .last })

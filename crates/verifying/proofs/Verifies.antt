@@ -10,7 +10,6 @@ use mathlib.Core.Bool.{true}
 use mathlib.Core.List.{List}
 use Prim.Native.Nat.{ℕ}
 use native.Mathlib.Nat as Nat
-use borrow.Author.Tests.{eq-eqb}
 use Rattle.protocol.specs.declared.Settings.{Settings}
 use Rattle.protocol.specs.declared.Loaded.{Loaded}
 use Rattle.protocol.specs.declared.Verified.{Verified}
@@ -20,9 +19,9 @@ use Rattle.protocol.specs.Settings.{cells}
 use Rattle.protocol.specs.Text.{Tables, shape, shapes, shapeSize, fits, linesOf, settingsIn, lookRefusal, lookAnswer}
 use Rattle.protocol.specs.Promises.{Read}
 use Rattle.protocol.specs.Programs.{verifyReads, tablesAccepted, verifyRefusal, verifyAnswer}
-use Rattle.protocol.proofs.Tests.{and-intro, granted-zero, granted-refused}
-use Rattle.shapes.specs.Parts.{partShape, lengthsOf, lengthsFit}
-use Rattle.shapes.proofs.Exactly.{lengths-fit}
+use Rattle.protocol.proofs.Tests.{granted-zero, granted-refused}
+use Rattle.shapes.specs.Parts.{partShape, lengthsOf}
+use Rattle.shapes.proofs.Exactly.{exact-fits}
 use Rattle.reading.proofs.OnText.{look-refusal, number-is, settings-are, tables-are, settings-allowed, entries-passed, still-fitting}
 use Rattle.verifying.specs.Given.{Given}
 use Rattle.verifying.proofs.Checks.{Long}
@@ -66,11 +65,12 @@ module _ (text : List ℕ) where
           ∙ sym (granted-zero _ _ _ (sym refusal-is ∙ e))
 
 pub lent-fitting : (S : Settings) (t : Tables) → Long S t → fits S verifyReads t ≡ true
-unfolding lengthsFit lengthsOf partShape shapes shape shapeSize choose verifyReads cells
-lent-fitting S t l =
-    sym (lengths-fit S verifyReads t)
-    ∙ and-intro (eq-eqb _ _ (l .key))
-    (and-intro (eq-eqb _ _ (l .message ∙ sym (Nat.zero-mul (S .degree))))
-    (and-intro (eq-eqb _ _ (l .commitment ∙ sym (Nat.one-mul (S .degree))))
-    (and-intro (eq-eqb _ _ (l .rounds))
-    (and-intro (eq-eqb _ _ (l .challenges ∙ sym (Nat.mul-one (S .depth)))) (eq-eqb _ _ (l .last ∙ sym (Nat.one-mul (S .degree))))))))
+unfolding partShape shapes shape shapeSize choose verifyReads cells
+lent-fitting S t l = exact-fits S verifyReads t (record {
+  key = l .key;
+  message = l .message ∙ sym (Nat.zero-mul (S .degree));
+  commitment = l .commitment ∙ sym (Nat.one-mul (S .degree));
+  rounds = l .rounds;
+  challenges = l .challenges ∙ sym (Nat.mul-one (S .depth));
+  last = l .last ∙ sym (Nat.one-mul (S .degree));
+})

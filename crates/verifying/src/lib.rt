@@ -1,18 +1,23 @@
 // The program `verify` as a call on text: its settings, its tables, and the check of its transcript.
 use protocol::Parts;
+use protocol::SLOTS;
 use protocol::Settings;
 use protocol::Verdict;
 use protocol::Verified;
+use protocol::WIDTH;
 use residues::elements;
+use shapes::CELLS;
+use shapes::ROUND_CELLS;
 ghost use mathlib.Core.Path.{_≡_};
 ghost use mathlib.Core.Bool.{true};
 ghost use mathlib.Core.List.{[]};
 ghost use Prim.Native.Nat.{_≤_};
 ghost use lib.ListN.{length};
 ghost use Rattle.protocol.specs.Basic.{choose};
+ghost use Rattle.protocol.specs.Layout.{width, slots};
 ghost use Rattle.protocol.specs.Text.{fits, linesOf, settingsIn, lookRefusal};
 ghost use Rattle.protocol.specs.Programs.{verifyReads, tablesAccepted, verifyAnswer, checked, verifyGives, verdictLine, verifyOutput};
-ghost use Rattle.shapes.specs.Parts.{six};
+ghost use Rattle.shapes.specs.Parts.{six, cellsRoom, roundCellsRoom};
 ghost use Rattle.writing.specs.Shown.{Shown, Within};
 ghost use Rattle.verifying.specs.Given.{Given};
 
@@ -91,7 +96,7 @@ fn verify_within(
     challenges: &mut [u32],
     last: &mut [i32],
 ) -> Verified
-    requires { ⌜ (16384 ≤ length (now key)) × (64 ≤ length (now commitment)) × (1536 ≤ length (now rounds)) × (8 ≤ length (now challenges)) × (64 ≤ length (now last)) ⌝ }
+    requires { ⌜ (cellsRoom ≤ length (now key)) × (width ≤ length (now commitment)) × (roundCellsRoom ≤ length (now rounds)) × (slots ≤ length (now challenges)) × (width ≤ length (now last)) ⌝ }
     ensures { λ r. ⌜ r ≡ verifyAnswer (now (text .entry)) ⌝ }
 {
     let looked = tables::allowed_settings(text);
@@ -102,13 +107,13 @@ fn verify_within(
     let degree = settings.degree as usize;
     let depth = settings.depth as usize;
     let cells = sizes::cells(settings);
-    let elements = 3 * depth * degree;
+    let round_cells = sizes::round_cells(settings);
     verify_in(
         text,
         &mut key[..cells],
         &mut message[..0],
         &mut commitment[..degree],
-        &mut rounds[..elements],
+        &mut rounds[..round_cells],
         &mut challenges[..depth],
         &mut last[..degree],
     )
@@ -119,12 +124,12 @@ pub fn verify(text: &[u8]) -> Verified
     ensures answer { λ r. ⌜ r ≡ verifyAnswer (now (text .entry)) ⌝ }
     ensures numbers { λ r. ⌜ checked r ≡ verifyGives (now (text .entry)) ⌝ }
 {
-    let mut key = [0u32; 16384];
+    let mut key = [0u32; CELLS];
     let mut message = [0i32; 1];
-    let mut commitment = [0u32; 64];
-    let mut rounds = [0u32; 1536];
-    let mut challenges = [0u32; 8];
-    let mut last = [0i32; 64];
+    let mut commitment = [0u32; WIDTH];
+    let mut rounds = [0u32; ROUND_CELLS];
+    let mut challenges = [0u32; SLOTS];
+    let mut last = [0i32; WIDTH];
     verify_within(
         text,
         &mut key,

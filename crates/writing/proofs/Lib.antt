@@ -3,6 +3,5 @@ pub mod Digits
 pub mod LineTexts
 pub mod PartTexts
 pub mod WholeText
-pub mod Entries
 pub mod Answers
 pub mod Shows

@@ -1,11 +1,12 @@
 -- `prove_in`: the reader, and then the opening and its text.
 use mathlib.Core.Path.{_≡_, sym, ap, subst, _∙_}
 use mathlib.Core.Bool.{true}
-use mathlib.Core.List.{List, []}
-use Prim.Native.Nat.{ℕ, _*_}
+use mathlib.Core.List.{List, [], _∷_}
+use Prim.Native.Nat.{ℕ}
 use borrow.Author.Needs.{needs}
 use lib.ListN.{length}
 use Rattle.protocol.specs.declared.Settings.{Settings}
+use Rattle.protocol.specs.Layout.{roundCells}
 use Rattle.protocol.specs.Text.{Tables, fits, linesOf, settingsIn, lookRefusal}
 use Rattle.protocol.specs.Promises.{Read}
 use Rattle.protocol.specs.Programs.{proveReads}
@@ -55,7 +56,7 @@ module _ (c : tie.Else1) where
       let rounds : length (t′ got .rounds) ≡ 0 = search needs in
       let challenges : length (t′ got .challenges) ≡ length (a .challenges .now) = search needs in
       let last : length (t′ got .last) ≡ 0 = search needs in
-      λ j. record { key = key j; message = message j; commitment = commitment j; rounds = rounds j; challenges = challenges j; last = last j }
+      λ j. key j ∷ message j ∷ commitment j ∷ rounds j ∷ challenges j ∷ last j ∷ []
 
 returns : tie.Need-returns
 returns c =
@@ -70,7 +71,7 @@ print-opening-requires c κs =
     (settings-allowed (text r) proveReads (t r) (t′ r) (fit r) (r .read .result) (promise r) (e .if1 .left))
     (still-fitting (text r) proveReads (t r) (t′ r) (fit r) (r .read .result) (promise r) (e .if1 .left) (lengths e))
     (entries-passed (text r) proveReads (t r) (t′ r) (fit r) (r .read .result) (promise r) (e .if1 .left))
-    (start r .pre .1 (settings-unrefused (text r) proveReads (t r) (t′ r) (fit r) (r .read .result) (promise r) (e .if1 .left)) ∙ sym (ap (λ (x : Settings). 3 * x .depth * x .degree) (same-settings e)))
+    (start r .pre .1 (settings-unrefused (text r) proveReads (t r) (t′ r) (fit r) (r .read .result) (promise r) (e .if1 .left)) ∙ sym (ap roundCells (same-settings e)))
 
 returns-2 : tie.Need-returns-2
 returns-2 c =

@@ -1,20 +1,18 @@
 -- `prove_within`: the settings, and then tables of exactly the lengths that the settings ask for.
 use mathlib.Core.Path.{_≡_, sym, ap, _∙_}
 use mathlib.Core.List.{List, []}
-use Prim.Native.Nat.{ℕ, _*_, _≤_}
-use native.Mathlib.Nat as Nat
+use Prim.Native.Nat.{ℕ, _≤_}
 use native.Mathlib.Omega.{arith}
 use borrow.Author.Needs.{needs}
 use lib.ListN.{length, take}
 use lib.Seq.{length-take-le}
 use Rattle.protocol.specs.declared.Settings.{Settings}
-use Rattle.protocol.specs.Inputs.{Valid}
+use Rattle.protocol.specs.Layout.{roundCells}
 use Rattle.protocol.specs.Settings.{settingsRefusal, cells}
 use Rattle.protocol.specs.Text.{fits, linesOf, settingsIn, lookRefusal}
 use Rattle.protocol.specs.Programs.{proveReads}
-use Rattle.protocol.proofs.Inputs.{settings-valid}
-use Rattle.sizes.proofs.Limits.{degree-most, cells-most}
 use Rattle.shapes.specs.Parts.{six}
+use Rattle.reading.proofs.Rooms.{rooms}
 use Rattle.reading.proofs.OnText.{look-refusal}
 use Rattle.proving.proofs.Proves.{prove-refused, lent-fitting}
 use Rattle.tables.proofs.Looked.{Begun, begun}
@@ -22,7 +20,7 @@ use Rattle.proving.proofs.prove_within.Statement.{statement}
 use Rattle.proving.proofs.prove_within.Tie as tie
 
 -- settings that are not refused
-module _ (c : tie.After-cells) where
+module _ (c : tie.After-round-cells) where
   abbrev left : tie.Else1
   left = c .before .before .before .before
 
@@ -47,27 +45,24 @@ module _ (c : tie.After-cells) where
   allowed : settingsRefusal S ≡ 0
   allowed = known .allowed (left .if1 .left)
 
-  valid : Valid S
-  valid = settings-valid S allowed
+  cells-is : c .before .cells .result ≡ cells S
+  cells-is = c .before .cells .ensures allowed
 
-  cells-is : c .cells .result ≡ cells S
-  cells-is = c .cells .ensures allowed
+  rounds-is : c .round-cells .result ≡ roundCells S
+  rounds-is = c .round-cells .ensures allowed
 
   -- there is room for every table
-  key-room : c .cells .result ≤ length (start .args .key .now)
-  key-room = omega (arith, cells-is, cells-most S valid, start .pre .0)
+  key-room : c .before .cells .result ≤ length (start .args .key .now)
+  key-room = omega (arith, cells-is, rooms S allowed .table, start .pre .0)
 
-  message-room : c .cells .result ≤ length (start .args .message .now)
-  message-room = omega (arith, cells-is, cells-most S valid, start .pre .1)
+  message-room : c .before .cells .result ≤ length (start .args .message .now)
+  message-room = omega (arith, cells-is, rooms S allowed .table, start .pre .1)
 
   challenges-room : S .depth ≤ length (start .args .challenges .now)
-  challenges-room = omega (arith, valid .depth-most, start .pre .2)
+  challenges-room = omega (arith, rooms S allowed .challenges, start .pre .2)
 
-  rounds-most : 3 * S .depth * S .degree ≤ 1536
-  rounds-most = Nat.mul-le-mul {n₂ = 24} {m₂ = 64} (omega (arith, valid .depth-most)) (degree-most S valid)
-
-  rounds-room : 3 * S .depth * S .degree ≤ length (start .args .rounds .now)
-  rounds-room = omega (arith, rounds-most, start .pre .3)
+  rounds-room : c .round-cells .result ≤ length (start .args .rounds .now)
+  rounds-room = omega (arith, rounds-is, rooms S allowed .rounds, start .pre .3)
 
 returns : tie.Need-returns
 returns c =
@@ -76,9 +71,6 @@ returns c =
     let r = l .allowed-settings .result in
     prove-refused (a .text .now) (a .out .now) (r .number) (c .if1 .taken)
     (look-refusal (a .text .now) r (begun (a .text .now) r (l .allowed-settings .ensures) .refused (c .if1 .taken)) proveReads (c .if1 .taken))
-
-mul-elements-2 : tie.Need-mul-elements-2
-mul-elements-2 c = record { fits = omega (arith, rounds-most c) }
 
 slice-relend-prefix-prove-in : tie.Need-slice-relend-prefix-prove-in
 slice-relend-prefix-prove-in c = key-room c
@@ -108,12 +100,12 @@ prove-in-requires : tie.Need-prove-in-requires
 prove-in-requires c κs =
     let k = c .before .before .before .before .before in
     let a = start k .args in
-    let G = take (k .cells .result) (a .key .now) in
-    let M = take (k .cells .result) (a .message .now) in
+    let G = take (k .before .cells .result) (a .key .now) in
+    let M = take (k .before .cells .result) (a .message .now) in
     let E = take (S k .depth) (a .challenges .now) in (
       λ e. ap (λ x. fits x proveReads (six G M [] [] E [])) (sym (same-settings k e))
           ∙ lent-fitting (S k) G M E (length-take-le _ _ (key-room k) ∙ cells-is k) (length-take-le _ _ (message-room k) ∙ cells-is k) (length-take-le _ _ (challenges-room k)),
-      λ e. length-take-le _ _ (rounds-room k) ∙ ap (λ (x : Settings). 3 * x .depth * x .degree) (same-settings k e),
+      λ e. length-take-le _ _ (rounds-room k) ∙ rounds-is k ∙ ap roundCells (same-settings k e),
     )
 
 pub prove-within-spec : {M : Type 1} → statement M
@@ -123,10 +115,8 @@ prove-within-spec =
     (λ c κs. search needs)
     returns
     (λ c. search needs)
-    (λ c. search needs)
     (λ c κs. search needs)
-    (λ c. search needs)
-    mul-elements-2
+    (λ c κs. search needs)
     slice-relend-prefix-prove-in
     slice-aggregate-prove-in
     slice-relend-prefix-prove-in-2

@@ -1,7 +1,7 @@
 -- `verify_in`: the reader, and then the check.
 use mathlib.Core.Path.{_≡_, subst}
 use mathlib.Core.Bool.{true}
-use mathlib.Core.List.{List}
+use mathlib.Core.List.{List, [], _∷_}
 use Prim.Native.Nat.{ℕ}
 use borrow.Author.Needs.{needs}
 use lib.ListN.{length}
@@ -44,7 +44,7 @@ lengths c =
     let rounds : length (t′ r .rounds) ≡ length (a .rounds .now) = search needs in
     let challenges : length (t′ r .challenges) ≡ length (a .challenges .now) = search needs in
     let last : length (t′ r .last) ≡ length (a .last .now) = search needs in
-    λ j. record { key = key j; message = message j; commitment = commitment j; rounds = rounds j; challenges = challenges j; last = last j }
+    λ j. key j ∷ message j ∷ commitment j ∷ rounds j ∷ challenges j ∷ last j ∷ []
 
 returns : tie.Need-returns
 returns c = let r = c .before .before .before .before .before .before .before .before .before .before .before .before in verify-refused (text r) (t r) (t′ r) (fit r) (r .read .result) (promise r) (c .if1 .taken)

@@ -1,30 +1,28 @@
 -- `verify_within`: the settings, and then tables of exactly the lengths that the settings ask for.
 use mathlib.Core.Path.{_≡_, sym, ap, _∙_}
 use mathlib.Core.List.{List, []}
-use Prim.Native.Nat.{ℕ, _*_, _≤_}
-use native.Mathlib.Nat as Nat
+use Prim.Native.Nat.{ℕ, _≤_}
 use native.Mathlib.Omega.{arith}
 use borrow.Author.Needs.{needs}
 use lib.ListN.{length, take}
 use lib.Seq.{length-take-le}
 use Rattle.protocol.specs.declared.Settings.{Settings}
-use Rattle.protocol.specs.Inputs.{Valid}
+use Rattle.protocol.specs.Layout.{roundCells}
 use Rattle.protocol.specs.Settings.{settingsRefusal, cells}
 use Rattle.protocol.specs.Text.{Tables, fits}
 use Rattle.protocol.specs.Programs.{verifyReads}
-use Rattle.protocol.proofs.Inputs.{settings-valid}
-use Rattle.sizes.proofs.Limits.{degree-most, cells-most}
 use Rattle.shapes.specs.Parts.{six}
 use Rattle.verifying.proofs.Checks.{Long}
 use Rattle.verifying.proofs.Verifies.{verify-stops, lent-fitting}
+use Rattle.reading.proofs.Rooms.{rooms}
 use Rattle.tables.proofs.Looked.{Begun, begun}
 use Rattle.verifying.proofs.verify_within.Statement.{statement}
 use Rattle.verifying.proofs.verify_within.Tie as tie
 
 -- settings that are not refused
-module _ (c : tie.After-cells) where
+module _ (c : tie.After-round-cells) where
   abbrev left : tie.Else1
-  left = c .before .before .before .before
+  left = c .before .before .before .before .before
 
   abbrev seen : tie.After-allowed-settings
   seen = left .before .before
@@ -44,33 +42,30 @@ module _ (c : tie.After-cells) where
   allowed : settingsRefusal S ≡ 0
   allowed = known .allowed (left .if1 .left)
 
-  valid : Valid S
-  valid = settings-valid S allowed
+  cells-is : c .before .cells .result ≡ cells S
+  cells-is = c .before .cells .ensures allowed
 
-  cells-is : c .cells .result ≡ cells S
-  cells-is = c .cells .ensures allowed
+  rounds-is : c .round-cells .result ≡ roundCells S
+  rounds-is = c .round-cells .ensures allowed
 
   -- there is room for every table
-  key-room : c .cells .result ≤ length (start .args .key .now)
-  key-room = omega (arith, cells-is, cells-most S valid, start .pre .0)
+  key-room : c .before .cells .result ≤ length (start .args .key .now)
+  key-room = omega (arith, cells-is, rooms S allowed .table, start .pre .0)
 
   commitment-room : S .degree ≤ length (start .args .commitment .now)
-  commitment-room = omega (arith, degree-most S valid, start .pre .1)
+  commitment-room = omega (arith, rooms S allowed .element, start .pre .1)
 
-  rounds-most : 3 * S .depth * S .degree ≤ 1536
-  rounds-most = Nat.mul-le-mul {n₂ = 24} {m₂ = 64} (omega (arith, valid .depth-most)) (degree-most S valid)
-
-  rounds-room : 3 * S .depth * S .degree ≤ length (start .args .rounds .now)
-  rounds-room = omega (arith, rounds-most, start .pre .2)
+  rounds-room : c .round-cells .result ≤ length (start .args .rounds .now)
+  rounds-room = omega (arith, rounds-is, rooms S allowed .rounds, start .pre .2)
 
   challenges-room : S .depth ≤ length (start .args .challenges .now)
-  challenges-room = omega (arith, valid .depth-most, start .pre .3)
+  challenges-room = omega (arith, rooms S allowed .challenges, start .pre .3)
 
   last-room : S .degree ≤ length (start .args .last .now)
-  last-room = omega (arith, degree-most S valid, start .pre .4)
+  last-room = omega (arith, rooms S allowed .element, start .pre .4)
 
   abbrev t : Tables
-  t = six (take (c .cells .result) (start .args .key .now)) [] (take (S .degree) (start .args .commitment .now)) (take (3 * S .depth * S .degree) (start .args .rounds .now))
+  t = six (take (c .before .cells .result) (start .args .key .now)) [] (take (S .degree) (start .args .commitment .now)) (take (c .round-cells .result) (start .args .rounds .now))
       (take (S .depth) (start .args .challenges .now)) (take (S .degree) (start .args .last .now))
 
   long : Long S t
@@ -78,7 +73,7 @@ module _ (c : tie.After-cells) where
     key = length-take-le _ _ key-room ∙ cells-is;
     message = λ _. 0;
     commitment = length-take-le _ _ commitment-room;
-    rounds = length-take-le _ _ rounds-room;
+    rounds = length-take-le _ _ rounds-room ∙ rounds-is;
     challenges = length-take-le _ _ challenges-room;
     last = length-take-le _ _ last-room;
   }
@@ -89,9 +84,6 @@ returns c =
     let t = l .before .before .before .before .before .before .args .text .now in
     let r = l .allowed-settings .result in
     verify-stops t r (begun t r (l .allowed-settings .ensures) .refused (c .if1 .taken)) (c .if1 .taken)
-
-mul-elements-2 : tie.Need-mul-elements-2
-mul-elements-2 c = record { fits = omega (arith, rounds-most c) }
 
 slice-relend-prefix-verify-in : tie.Need-slice-relend-prefix-verify-in
 slice-relend-prefix-verify-in c = key-room c
@@ -137,8 +129,7 @@ verify-within-spec =
     (λ c. search needs)
     (λ c. search needs)
     (λ c κs. search needs)
-    (λ c. search needs)
-    mul-elements-2
+    (λ c κs. search needs)
     slice-relend-prefix-verify-in
     slice-aggregate-verify-in
     (λ c. search needs)

@@ -12,7 +12,6 @@ use Rattle.protocol.specs.Text.{linesOf, settingsIn, lookRefusal, lookAnswer}
 use Rattle.protocol.proofs.Tests.{and-intro}
 use Rattle.protocol.proofs.Inputs.{settings-valid}
 use Rattle.protocol.proofs.Refusals.{and-fails-left, and-fails-right}
-use Rattle.shapes.specs.declared.Lengths.{Lengths}
 use Rattle.shapes.specs.Parts.{lengthsFit}
 use Rattle.tables.specs.declared.header.Header.{Header}
 use Rattle.reading.specs.Stored.{inOrder}
@@ -34,7 +33,7 @@ module _ (c : tie.After-values) where
   abbrev text : List ℕ
   text = begun .before .before .args .text .now
 
-  abbrev lengths : Lengths
+  abbrev lengths : List ℕ
   lengths = begun .before .before .args .lengths
 
   abbrev header : Header

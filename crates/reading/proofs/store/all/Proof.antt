@@ -1,15 +1,14 @@
 -- `all`: table after table, each from the place behind the one before it.
 use mathlib.Core.Path.{_≡_, ap, _∙_}
 use mathlib.Core.List.{List, map}
-use Prim.Native.Nat.{_+_, _≤_}
+use Prim.Native.Nat.{ℕ, _+_, _≤_}
 use native.Mathlib.Omega.{arith}
 use borrow.Author.Needs.{needs}
 use lib.ListN.{length}
 use lib.IntN.{ℤ}
 use Rattle.protocol.specs.Text.{unsigned}
 use Rattle.shapes.specs.Parts.{six, lengthsOf}
-use Rattle.shapes.specs.declared.Lengths.{Lengths}
-use Rattle.reading.specs.Cut.{cut, total, tablesOf}
+use Rattle.reading.specs.Cut.{cut, start, total, tablesOf}
 use Rattle.reading.proofs.store.all.Statement.{statement}
 use Rattle.reading.proofs.store.all.Tie as tie
 
@@ -17,7 +16,7 @@ module _ (c : tie.Start) where
   abbrev values : List ℤ
   values = c .args .values .now
 
-  abbrev n : Lengths
+  abbrev n : List ℕ
   n = lengthsOf (six (c .args .key .now) (c .args .message .now) (c .args .commitment .now) (c .args .rounds .now) (c .args .challenges .now) (c .args .last .now))
 
   room : total n ≤ length values
@@ -40,52 +39,52 @@ at-challenges : tie.After-unsigned4 → tie.Start
 at-challenges c = at-rounds (c .before .before .before .before)
 
 -- the place behind each table
-key-end : (c : tie.After-unsigned) → c .unsigned .result ≡ n (at-key c) .key
-unfolding at-key lengthsOf
+key-end : (c : tie.After-unsigned) → c .unsigned .result ≡ start (n (at-key c)) 1
+unfolding at-key start total lengthsOf
 key-end c = omega (arith, c .unsigned .ensures .0)
 
-message-end : (c : tie.After-signed) → let m = n (at-message c) in c .signed .result ≡ m .key + m .message
-unfolding at-message at-key lengthsOf
+message-end : (c : tie.After-signed) → c .signed .result ≡ start (n (at-message c)) 2
+unfolding at-message at-key start total lengthsOf
 message-end c = c .signed .ensures .0 ∙ ap (λ a. a + length (at-message c .args .message .now)) (key-end (c .before .before .before .before))
 
-commitment-end : (c : tie.After-unsigned2) → let m = n (at-commitment c) in c .unsigned2 .result ≡ m .key + m .message + m .commitment
-unfolding at-commitment at-message at-key lengthsOf
+commitment-end : (c : tie.After-unsigned2) → c .unsigned2 .result ≡ start (n (at-commitment c)) 3
+unfolding at-commitment at-message at-key start total lengthsOf
 commitment-end c = c .unsigned2 .ensures .0 ∙ ap (λ a. a + length (at-commitment c .args .commitment .now)) (message-end (c .before .before .before))
 
-rounds-end : (c : tie.After-unsigned3) → let m = n (at-rounds c) in c .unsigned3 .result ≡ m .key + m .message + m .commitment + m .rounds
-unfolding at-rounds at-commitment at-message at-key lengthsOf
+rounds-end : (c : tie.After-unsigned3) → c .unsigned3 .result ≡ start (n (at-rounds c)) 4
+unfolding at-rounds at-commitment at-message at-key start total lengthsOf
 rounds-end c = c .unsigned3 .ensures .0 ∙ ap (λ a. a + length (at-rounds c .args .rounds .now)) (commitment-end (c .before .before .before .before))
 
-challenges-end : (c : tie.After-unsigned4) → let m = n (at-challenges c) in c .unsigned4 .result ≡ m .key + m .message + m .commitment + m .rounds + m .challenges
-unfolding at-challenges at-rounds at-commitment at-message at-key lengthsOf
+challenges-end : (c : tie.After-unsigned4) → c .unsigned4 .result ≡ start (n (at-challenges c)) 5
+unfolding at-challenges at-rounds at-commitment at-message at-key start total lengthsOf
 challenges-end c = c .unsigned4 .ensures .0 ∙ ap (λ a. a + length (at-challenges c .args .challenges .now)) (rounds-end (c .before .before .before .before))
 
 unsigned-requires : tie.Need-unsigned-requires
-unfolding lengthsOf
+unfolding start total lengthsOf
 unsigned-requires c κs = omega (arith, room (c .before .before .before .before .before))
 
 signed-requires : tie.Need-signed-requires
-unfolding at-key lengthsOf
+unfolding at-key start total lengthsOf
 signed-requires c κs = let k = c .before .before .before in omega (arith, room (at-key k), key-end k)
 
 unsigned-requires-2 : tie.Need-unsigned-requires-2
-unfolding at-message at-key lengthsOf
+unfolding at-message at-key start total lengthsOf
 unsigned-requires-2 c κs = let m = c .before .before in omega (arith, room (at-message m), message-end m)
 
 unsigned-requires-3 : tie.Need-unsigned-requires-3
-unfolding at-commitment at-message at-key lengthsOf
+unfolding at-commitment at-message at-key start total lengthsOf
 unsigned-requires-3 c κs = let p = c .before .before .before in omega (arith, room (at-commitment p), commitment-end p)
 
 unsigned-requires-4 : tie.Need-unsigned-requires-4
-unfolding at-rounds at-commitment at-message at-key lengthsOf
+unfolding at-rounds at-commitment at-message at-key start total lengthsOf
 unsigned-requires-4 c κs = let r = c .before .before .before in omega (arith, room (at-rounds r), rounds-end r)
 
 signed-requires-2 : tie.Need-signed-requires-2
-unfolding at-challenges at-rounds at-commitment at-message at-key lengthsOf
+unfolding at-challenges at-rounds at-commitment at-message at-key start total lengthsOf
 signed-requires-2 c κs = let h = c .before .before .before in omega (arith, room (at-challenges h), challenges-end h)
 
 returns : tie.Need-returns
-unfolding at-challenges at-rounds at-commitment at-message at-key tablesOf lengthsOf
+unfolding at-challenges at-rounds at-commitment at-message at-key start tablesOf lengthsOf
 returns c =
     let l = c .before in
     let h = l .before .before .before .before in

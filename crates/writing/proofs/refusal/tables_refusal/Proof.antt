@@ -1,54 +1,90 @@
--- `tables_refusal`: settings, lengths and then entries.
-use mathlib.Core.Path.{_≡_, sym, _∙_}
+-- `tables_refusal`: each test in its turn.
+use mathlib.Core.Path.{_≡_, refl, sym, _∙_}
+use mathlib.Core.Bool.{_&&_}
+use mathlib.Core.List.{List, [], _∷_}
+use Prim.Native.Nat.{ℕ, zero, suc}
 use borrow.Author.Needs.{needs}
-use borrow.Author.Tests.{not-true, not-false}
-use Rattle.protocol.specs.Settings.{settingsRefusal}
-use Rattle.protocol.specs.Text.{fits}
-use Rattle.protocol.proofs.Refusals.{first-only, first-stops, first-passes, first-fails, first-holds}
-use Rattle.claims.proofs.TextLimits.{allowed}
+use Rattle.protocol.specs.declared.Settings.{Settings}
+use Rattle.protocol.specs.declared.Parts.{Parts}
+use Rattle.protocol.specs.Settings.{settingsRefusal, residues, small, exponent, exponents}
+use Rattle.protocol.specs.Basic.{first, unless}
+use Rattle.protocol.specs.Text.{Tables, valueLimit, fits, entriesRefusal}
+use Rattle.protocol.proofs.Inputs.{settings-valid}
+use Rattle.protocol.proofs.Refusals.{first-stops, first-known, first-tested, tested-before, first-only}
 use Rattle.shapes.specs.Parts.{six, lengthsOf}
-use Rattle.shapes.proofs.Exactly.{lengths-fit}
 use Rattle.shapes.proofs.Shallow.{lengths-shallow}
+use Rattle.shapes.proofs.Exactly.{lengths-fit}
 use Rattle.writing.specs.Tables.{tablesRefusal}
 use Rattle.writing.proofs.refusal.tables_refusal.Statement.{statement}
 use Rattle.writing.proofs.refusal.tables_refusal.Tie as tie
 
--- the settings are allowed
-granted : (c : tie.Else1) → settingsRefusal (c .before .before .before .before .before .before .args .settings) ≡ 0
-granted c = sym (c .before .settings-refusal .ensures) ∙ c .if1 .left
+-- the last of a list is a list of tests itself
+last-flat : (x : ℕ) (rest : List ℕ) → first (x ∷ first rest ∷ []) ≡ first (x ∷ rest)
+unfolding first
+last-flat zero rest = first-only (first rest)
+last-flat (suc x) rest = refl
 
--- what the test of the lengths says
-sized : (c : tie.After-fits2) → let a = c .before .before .before .before .before .before .before .args in
-    c .fits2 .result ≡ fits (a .settings) (a .parts) (six (a .key .now) (a .message .now) (a .commitment .now) (a .rounds .now) (a .challenges .now) (a .last .now))
-unfolding lengthsOf
-sized c =
-    let a = c .before .before .before .before .before .before .before .args in
-    c .fits2 .ensures ∙ lengths-shallow (a .settings) (a .parts) _ (allowed (a .settings) (granted (c .before)) .depth) ∙ lengths-fit (a .settings) (a .parts) _
+allowed : (c : tie.After-settings-refusal) → c .settings-refusal .result ≡ 0 → settingsRefusal (c .before .before .before .before .before .args .settings) ≡ 0
+allowed c z = sym (c .settings-refusal .ensures) ∙ z
+
+-- refusals 3 to 7
+module _ (c : tie.After-refuse) where
+  abbrev c₆ : tie.After-settings-refusal
+  c₆ = c .before .before
+
+  abbrev start : tie.Start
+  start = c₆ .before .before .before .before .before
+
+  abbrev S : Settings
+  S = start .args .settings
+
+  abbrev P : Parts
+  P = start .args .parts
+
+  abbrev t : Tables
+  t = let a = start .args in six (a .key .now) (a .message .now) (a .commitment .now) (a .rounds .now) (a .challenges .now) (a .last .now)
+
+  known : (rest : List ℕ) → first (settingsRefusal S ∷ unless 7 (fits S P t) ∷ rest) ≡ first (c .refuse .result ∷ rest)
+  unfolding lengthsOf
+  known rest =
+      first-known _ _ (c₆ .settings-refusal .ensures)
+      ∙ first-tested _ _ (c .refuse .ensures) (λ z. c .before .fits2 .ensures
+      ∙ lengths-shallow S P _ (settings-valid _ (allowed c₆ z) .depth-most) ∙ lengths-fit S P t)
 
 returns : tie.Need-returns
 unfolding tablesRefusal
-returns c = let s = c .before .settings-refusal in s .ensures ∙ sym (first-stops _ _ (λ e. c .if1 .taken (s .ensures ∙ e)))
+returns c = sym (known (c .before) _ ∙ first-stops _ _ (c .if1 .taken))
 
 returns-2 : tie.Need-returns-2
-unfolding tablesRefusal
-returns-2 c = sym (first-passes _ _ (granted (c .before .before)) ∙ first-fails 6 _ _ (sym (sized (c .before)) ∙ not-true _ (c .if2 .taken)))
-
-entries-refusal-requires : tie.Need-entries-refusal-requires
-entries-refusal-requires c κs = allowed _ (granted (c .before .before)) .degree
-
-returns-3 : tie.Need-returns-3
-unfolding tablesRefusal
-returns-3 c =
-    let f = c .before in
-    c .entries-refusal .ensures ∙ sym (first-passes _ _ (granted (f .before .before)) ∙ first-holds 7 _ _ (sym (sized (f .before)) ∙ not-false _ (f .if2 .left)) ∙ first-only _)
+unfolding tablesRefusal entriesRefusal residues small exponents exponent valueLimit
+returns-2 c =
+    let c₉ = c .before .before .before in
+    let c₈ = c₉ .before .before .before in
+    let no = c₈ .before .before .before .before in
+    let c₇ = no .before in
+    let ok = allowed (c₆ c₇) (tested-before (c₇ .refuse .ensures) (no .if1 .left)) in
+    sym (known c₇ _ ∙ last-flat _ _
+    ∙ first-tested _ _ (c₈ .refuse2 .ensures) (λ z. rw (c₈ .before .before .before .all-below .ensures, c₈ .before .before .all-below2 .ensures, c₈ .before .all-below3 .ensures))
+    ∙ first-tested _ _ (c₉ .refuse3 .ensures) (λ z. rw (c₉ .before .before .all-within .ensures, c₉ .before .all-within2 .ensures))
+    ∙ first-tested _ _ (c .refuse4 .ensures) (λ z. rw (c .before .all-below4 .ensures, c .before .before .exponent-count .ensures ok))
+    ∙ first-only _)
 
 pub tables-refusal-spec : {M : Type 1} → statement M
 tables-refusal-spec =
     tie.close
     (tie.spec
     (λ c κs. search needs)
+    (λ c κs. search needs)
+    (λ c κs. search needs)
     returns
     (λ c κs. search needs)
-    returns-2
-    entries-refusal-requires
-    returns-3)
+    (λ c κs. search needs)
+    (λ c κs. search needs)
+    (λ c κs. search needs)
+    (λ c κs. search needs)
+    (λ c κs. search needs)
+    (λ c κs. search needs)
+    (λ c κs. search needs)
+    (λ c κs. search needs)
+    (λ c κs. search needs)
+    returns-2)
