@@ -1,8 +1,8 @@
 // The table reader: the tables of a text, in what is lent for them. Nothing is written before the whole text has passed refusals 1 to 10.
 mod entries;
-mod gathering;
 mod parts;
 mod store;
+mod values;
 
 use protocol::Loaded;
 use protocol::Parts;
@@ -10,7 +10,7 @@ use shapes::VALUES;
 ghost use Rattle.protocol.specs.Promises.{Read};
 ghost use Rattle.shapes.specs.Parts.{six};
 
-// The tables of a text. A caller learns their lengths by `tables::look`; the table of a part that is not there has length 0.
+// The tables of a text. A caller learns their lengths by `tables::read_settings`; the table of a part that is not there has length 0.
 pub fn read(
     parts: Parts,
     text: &[u8],
@@ -32,7 +32,7 @@ pub fn read(
         last.len(),
     ];
     let mut values = [0i32; VALUES];
-    let loaded = gathering::gather(parts, text, lengths, &mut values);
+    let loaded = values::read_values(parts, text, lengths, &mut values);
     if loaded.number != 0 {
         return loaded;
     }

@@ -26,8 +26,8 @@ use Rattle.protocol.specs.Text.{valueLimit, minus, keep, digit, digitFirst, dig
 use Rattle.protocol.specs.Lines.{givenNumber}
 use Rattle.protocol.proofs.Answers.{number-given}
 use Rattle.protocol.proofs.Tests.{and-split, and-intro}
+use Rattle.protocol.proofs.NumeralLaws.{keep-some, digitRun-on}
 use Rattle.shapes.proofs.From.{from-cons}
-use Rattle.tables.proofs.Runs.{run-step}
 
 -- ---- suffixes
 
@@ -84,11 +84,6 @@ module _ {ℓ} {A : Type ℓ} where
   keep-no true x t = absurd (false≢true (sym t))
   keep-no false x t = refl
 
-  pub keep-some : (b : Bool) (x y : A) → keep b x ≡ some y → (b ≡ true) × (x ≡ y)
-  unfolding keep
-  keep-some true x y e = (refl, cc)
-  keep-some false x y e = let z : _≡_ {A = ℕ} 0 1 = cc in absurd (omega arith)
-
 -- ---- digits
 
 run-either : (n b : ℕ) (bs : List ℕ) → Suffix (digitRun (n * 10 + (b - 48)) bs .1) bs
@@ -105,7 +100,7 @@ run-shorter : (bs : List ℕ) → properDigits bs ≡ true → length (digitRun 
 unfolding properDigits
 run-shorter [] t = absurd (false≢true t)
 run-shorter (b ∷ bs) t =
-    let one : digitRun 0 (b ∷ bs) ≡ digitRun (0 * 10 + (b - 48)) bs = run-step 0 b bs (and-split {a = digit b} {b = not (eqb b 48 && digitFirst bs)} t .0) in
+    let one : digitRun 0 (b ∷ bs) ≡ digitRun (0 * 10 + (b - 48)) bs = digitRun-on 0 b bs (and-split {a = digit b} {b = not (eqb b 48 && digitFirst bs)} t .0) in
     omega (arith, ap (λ r. length (r .1)) one, suffix-length (run-suffix (0 * 10 + (b - 48)) bs))
 
 -- ---- numbers without a sign

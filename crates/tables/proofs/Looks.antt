@@ -6,7 +6,7 @@
 --   look-..                     what `lookRefusal` and `lookAnswer` give
 use mathlib.Core.Path.{_≡_, refl, sym, ap, _∙_}
 use mathlib.Core.Bool.{Bool, true, false, false≢true}
-use mathlib.Core.List.{List, [], _∷_, _++_}
+use mathlib.Core.List.{List, [], _∷_, _++_, map-append}
 use mathlib.Core.Option.{Option, none, some, Option·getD}
 use Prim.Native.Nat.{ℕ, zero, suc, _+_, _-_, _≤_, _<_}
 use native.Mathlib.Omega.{arith}
@@ -75,13 +75,11 @@ map-length ls = length-map ls (λ l. l .spot)
 
 pub spots-append : (ls ms : List Line) → spotsOf (ls ++ ms) ≡ spotsOf ls ++ spotsOf ms
 unfolding spotsOf
-spots-append [] ms = refl
-spots-append (l ∷ ls) ms = ap (λ r. l .spot ∷ r) (spots-append ls ms)
+spots-append = map-append (λ (l : Line). l .spot)
 
 pub values-append : (ls ms : List Line) → valuesOf (ls ++ ms) ≡ valuesOf ls ++ valuesOf ms
 unfolding valuesOf
-values-append [] ms = refl
-values-append (l ∷ ls) ms = ap (λ r. l .value ∷ r) (values-append ls ms)
+values-append = map-append (λ (l : Line). l .value)
 
 take-front : (ls ms : List Line) (n : ℕ) → length ls ≡ n → take n (spotsOf (ls ++ ms)) ≡ spotsOf ls
 take-front ls ms n e = ap (take n) (spots-append ls ms) ∙ take-at (spotsOf ls) (spotsOf ms) n (map-length ls ∙ e)

@@ -16,7 +16,7 @@ use mathlib.Core.Option.{Option, none, some, bind, Option·some-injective}
 use Prim.Native.Nat.{ℕ, zero, suc, _+_, _-_, _≤_, _<_}
 use native.Mathlib.Omega.{arith}
 use lib.Dec.{eqb}
-use lib.ListN.{length, getD, drop, length-drop, drop-of-length-le}
+use lib.ListN.{length, getD, drop, length-drop}
 use lib.IntN.{ℤ, pos}
 use Rattle.protocol.specs.declared.Number.{Number}
 use Rattle.protocol.specs.declared.Number.the-variants.{Value, Refused}
@@ -26,7 +26,8 @@ use Rattle.protocol.specs.declared.Entry.the-variants.{Found as Line-at, Malfor
 use Rattle.protocol.specs.Lines.{present, givenNumber, readIndexAt, lineReading, givenLine, lineAnswer, readLineAt, allLines}
 use Rattle.protocol.proofs.Answers.{line-given}
 use Rattle.shapes.proofs.From.{from-cons}
-use Rattle.tables.proofs.Counts.{Suffix, suffix-self, suffix-more, suffix-of, Found, found, keep-yes, keep-some, count-small, count-suffix, count-shorter, number-suffix, number-shorter, plain-found, plain-missed, answer-both}
+use Rattle.protocol.proofs.NumeralLaws.{keep-some}
+use Rattle.tables.proofs.Counts.{Suffix, suffix-self, suffix-more, suffix-of, Found, found, keep-yes, count-small, count-suffix, count-shorter, number-suffix, number-shorter, plain-found, plain-missed, answer-both}
 
 -- ---- steps
 
@@ -63,10 +64,6 @@ module _ {ℓ} {A : Type ℓ} where
 -- ---- bytes
 
 module _ (c : ℕ) (text : List ℕ) (at : ℕ) where
-  pub byte-outside : length text ≤ at → byte c (drop at text) ≡ none
-  unfolding byte
-  byte-outside h = ap (byte c) (drop-of-length-le text h)
-
   pub byte-inside : at < length text → byte c (drop at text) ≡ keep (eqb (getD text at 0) c) (drop (at + 1) text)
   unfolding byte
   byte-inside h = ap (byte c) (from-cons text at 0 h)

@@ -1,7 +1,7 @@
 -- Runs of digits: what the tests on a byte say, one digit more, and why a number that is kept small decides the same.
 --
---   digit-in, digit-out       a test on a byte, from its range
---   first-in, first-out       the same for the byte at a place
+--   digit-below, digit-from   a test on a byte, from its range
+--   first-.., proper-..       the same for the byte at a place
 --   kept r                    a run whose number is kept at most `most`
 --   run-digit, run-end        one digit more, and the end of a run
 use mathlib.Core.Path.{_≡_, refl, sym, ap, _∙_}
@@ -9,11 +9,12 @@ use mathlib.Core.Bool.{Bool, true, false, _&&_, not, false≢true}
 use mathlib.Core.List.{List, [], _∷_}
 use Prim.Native.Nat.{ℕ, _+_, _-_, _*_, _≤_, _<_, min}
 use native.Mathlib.Omega.{arith}
-use borrow.Author.Tests.{le-leb, lt-leb, leb-true, eq-eqb, ne-eqb}
+use borrow.Author.Tests.{le-leb, lt-leb, eq-eqb, ne-eqb}
 use lib.Dec.{leb, eqb}
-use lib.ListN.{length, getD, drop, drop-of-length-le, length-drop}
+use lib.ListN.{length, getD, drop, length-drop}
 use Rattle.protocol.specs.Text.{digit, digitFirst, properDigits, digitRun}
-use Rattle.protocol.proofs.Tests.{and-split}
+use Rattle.protocol.proofs.NumeralLaws.{digitRun-on, digitRun-stop}
+use Rattle.protocol.proofs.PlaceLaws.{digitFirst-inside}
 use Rattle.tables.specs.Digits.{most}
 use Rattle.shapes.proofs.From.{from-cons}
 
@@ -27,24 +28,7 @@ pub digit-from : (b : ℕ) → 48 ≤ b → digit b ≡ leb b 57
 unfolding digit
 digit-from b h = ap (λ t. t && leb b 57) (le-leb 48 b h)
 
-pub digit-low : (b : ℕ) → digit b ≡ true → 48 ≤ b
-unfolding digit
-digit-low b t = leb-true 48 b (and-split {a = leb 48 b} {b = leb b 57} t .0)
-
-pub digit-high : (b : ℕ) → digit b ≡ true → b ≤ 57
-unfolding digit
-digit-high b t = leb-true b 57 (and-split {a = leb 48 b} {b = leb b 57} t .1)
-
 -- ---- the byte at a place
-
-module _ (text : List ℕ) (i : ℕ) where
-  pub first-inside : i < length text → digitFirst (drop i text) ≡ digit (getD text i 0)
-  unfolding digitFirst
-  first-inside h = ap digitFirst (from-cons text i 0 h)
-
-  pub first-outside : length text ≤ i → digitFirst (drop i text) ≡ false
-  unfolding digitFirst
-  first-outside h = ap digitFirst (drop-of-length-le text h)
 
 some-first : (bs : List ℕ) → digitFirst bs ≡ true → 0 < length bs
 unfolding digitFirst
@@ -69,7 +53,7 @@ module _ (text : List ℕ) (i : ℕ) where
   first-place t = omega (arith, some-first (drop i text) t, length-drop i text)
 
   pub first-digit : digitFirst (drop i text) ≡ true → digit (getD text i 0) ≡ true
-  first-digit t = sym (first-inside text i (first-place t)) ∙ t
+  first-digit t = sym (digitFirst-inside text i (first-place t)) ∙ t
 
   pub proper-none : digitFirst (drop i text) ≡ false → properDigits (drop i text) ≡ false
   proper-none = none-proper (drop i text)
@@ -94,15 +78,6 @@ kept r = (min (r .0) most, r .1)
 abbrev onward : ℕ → ℕ → List ℕ → Bool → ℕ × List ℕ
 onward n b bs d = elim d as (λ _. ℕ × List ℕ) [ true ↦ digitRun (n * 10 + (b - 48)) bs | false ↦ (n, b ∷ bs) ]
 
-pub run-step : (n b : ℕ) (bs : List ℕ) → digit b ≡ true → digitRun n (b ∷ bs) ≡ digitRun (n * 10 + (b - 48)) bs
-unfolding digitRun
-run-step n b bs t = ap (onward n b bs) t
-
-run-stop : (n : ℕ) (bs : List ℕ) → digitFirst bs ≡ false → digitRun n bs ≡ (n, bs)
-unfolding digitFirst digitRun
-run-stop n [] t = refl
-run-stop n (b ∷ bs) t = ap (onward n b bs) t
-
 -- numbers that are kept the same stay so with every digit more
 kept-next : (n m d : ℕ) → min n most ≡ min m most → min (n * 10 + d) most ≡ min (m * 10 + d) most
 kept-next n m d e = omega arith
@@ -119,7 +94,7 @@ kept-same n m (b ∷ bs) e = kept-either n m b bs e (kept-same (n * 10 + (b - 48
 
 module _ (text : List ℕ) (i n : ℕ) where
   pub run-digit : digitFirst (drop i text) ≡ true → digitRun n (drop i text) ≡ digitRun (n * 10 + (getD text i 0 - 48)) (drop (i + 1) text)
-  run-digit t = ap (digitRun n) (from-cons text i 0 (first-place text i t)) ∙ run-step n (getD text i 0) (drop (i + 1) text) (first-digit text i t)
+  run-digit t = ap (digitRun n) (from-cons text i 0 (first-place text i t)) ∙ digitRun-on n (getD text i 0) (drop (i + 1) text) (first-digit text i t)
 
   pub run-end : digitFirst (drop i text) ≡ false → digitRun n (drop i text) ≡ (n, drop i text)
-  run-end = run-stop n (drop i text)
+  run-end = digitRun-stop n (drop i text)

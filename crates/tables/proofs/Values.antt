@@ -18,7 +18,8 @@ use Rattle.protocol.specs.declared.Number.the-variants.{Value, Refused}
 use Rattle.protocol.specs.Text.{Spot, Line, bytes, names, settingsShape, spots, keep, readLine, begins, beginsWithNames, sameSpot, numberAnswer}
 use Rattle.protocol.proofs.Tests.{and-split, and-intro}
 use Rattle.protocol.specs.Lines.{spot, readValue, readValues, readSettings}
-use Rattle.tables.proofs.Counts.{Suffix, Found, found, keep-yes, keep-no, keep-some, answer-value, answer-refused}
+use Rattle.protocol.proofs.NumeralLaws.{keep-some}
+use Rattle.tables.proofs.Counts.{Suffix, Found, found, keep-yes, keep-no, answer-value, answer-refused}
 use Rattle.tables.proofs.Rows.{bind-some, bind-none, line-suffix}
 
 -- ---- spots

@@ -5,6 +5,8 @@ use crate::names::begins_with_names;
 use protocol::Loaded;
 use protocol::Number;
 use protocol::Settings;
+use protocol::TEXT_LIMIT;
+use protocol::VALUE_LIMIT;
 use ranges::tests::settings_refusal;
 ghost use mathlib.Core.Path.{_≡_};
 ghost use mathlib.Core.Bool.{false};
@@ -13,6 +15,9 @@ ghost use Rattle.protocol.specs.Basic.{choose};
 ghost use Rattle.protocol.specs.Text.{unsigned as unsignedOf, noSettings, lookAnswer};
 ghost use Rattle.protocol.specs.Lines.{present, allLines, readSettings, begunAnswer};
 ghost use Rattle.tables.specs.Header.{headerAnswer};
+
+// One past the largest magnitude, which no setting, residue or exponent reaches.
+const PAST_LIMIT: u32 = VALUE_LIMIT + 1;
 
 // The settings of a text and the place behind them; `found` is false where the text does not begin with them.
 pub struct Header {
@@ -56,7 +61,7 @@ pub fn unsigned(value: i32) -> u32
     ensures { λ r. ⌜ r ≡ unsignedOf value ⌝ }
 {
     if value < 0 {
-        return 2147483648;
+        return PAST_LIMIT;
     }
     value as u32
 }
@@ -116,10 +121,10 @@ pub fn or_malformed(text: &[u8], from: usize, number: u32) -> u32
 }
 
 // A first look at a text's settings: refusals 1 to 6.
-pub fn look(text: &[u8]) -> Loaded
+pub fn read_settings(text: &[u8]) -> Loaded
     ensures { λ r. ⌜ r ≡ lookAnswer (now (text .entry)) ⌝ }
 {
-    if text.len() > 65536 {
+    if text.len() > TEXT_LIMIT {
         return refused(1);
     }
     let header = read_header(text);
@@ -146,7 +151,7 @@ pub fn allowed_settings(text: &[u8]) -> Loaded
     let header = read_header(text);
     let settings = header.settings;
     if settings_refusal(settings) != 0 {
-        return look(text);
+        return read_settings(text);
     }
     Loaded {
         number: 0,

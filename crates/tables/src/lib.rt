@@ -7,8 +7,8 @@ mod numbers;
 
 pub use header::Header;
 pub use header::allowed_settings;
-pub use header::look;
 pub use header::read_header;
+pub use header::read_settings;
 pub use header::refused;
 pub use header::unsigned;
 pub use lines::read_line;

@@ -1,11 +1,17 @@
 // The number readers.
 use protocol::Number;
+use protocol::VALUE_LIMIT;
 ghost use mathlib.Core.Path.{_≡_};
 ghost use Prim.Native.Nat.{_≤_};
 ghost use lib.ListN.{length, drop};
 ghost use Rattle.protocol.specs.Text.{digitFirst, properDigits, digitRun, plain, readCount, readNumber, readCountAt, readNumberAt, reading};
 ghost use Rattle.protocol.specs.Lines.{givenNumber};
 ghost use Rattle.tables.specs.Digits.{runAnswer};
+
+// The largest magnitude, and what is kept of a number that is larger: one past it.
+const LARGEST: u64 = VALUE_LIMIT as u64;
+
+const MOST: u64 = LARGEST + 1;
 
 // A run of digits: its number, or one past the largest magnitude where it is larger; and the place behind it.
 pub struct Run {
@@ -35,8 +41,8 @@ fn digit_run(text: &[u8], at: usize) -> Run
     let mut i = at;
     while digit_at(text, i) {
         value = value * 10 + ((text[i] - 48) as u64);
-        if value > 2147483648 {
-            value = 2147483648;
+        if value > MOST {
+            value = MOST;
         }
         i += 1;
     }
@@ -65,7 +71,7 @@ pub fn read_count(text: &[u8], at: usize) -> Number
         return Number::Refused(2);
     }
     let run = digit_run(text, at);
-    if run.value > 2147483647 {
+    if run.value > LARGEST {
         return Number::Refused(2);
     }
     Number::Value {

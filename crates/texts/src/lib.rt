@@ -35,7 +35,7 @@ fn parts_of(bits: u32) -> Parts
 pub fn look(text: &[u8], settings: &mut [u32]) -> u32
     ensures { λ r. ⌜ Looked (now (text .entry)) (now (settings .entry)) r (now (settings .exit)) ⌝ }
 {
-    let loaded = tables::look(text);
+    let loaded = tables::read_settings(text);
     if loaded.number != 0 {
         return loaded.number;
     }
@@ -50,7 +50,7 @@ pub fn look(text: &[u8], settings: &mut [u32]) -> u32
 fn refused(text: &[u8]) -> u32
     ensures { λ r. ⌜ r ≡ first (lookRefusal (now (text .entry)) ∷ 7 ∷ []) ⌝ }
 {
-    let loaded = tables::look(text);
+    let loaded = tables::read_settings(text);
     if loaded.number != 0 {
         return loaded.number;
     }

@@ -1,6 +1,7 @@
 -- Bytes put into a slice one behind the other.
 --
 --   Put out at text r out′      what a function promises that puts a text at a place: the place behind it, and what stands before that place
+--   fieldRoom, spotRoom, lineRoom, textRoom   the room for a number and the byte behind it, for a spot, for a line, and for the longest text and one line
 --   field n behind              a number and the byte behind it
 --   spotText part c             the spot of a line
 --   lineAt part c value         a line
@@ -9,11 +10,26 @@
 --   Adds out at more r out′     what a function promises that goes on with a text, up to the limit
 use mathlib.Core.Path.{_≡_}
 use mathlib.Core.List.{List, [], _∷_, _++_}
-use Prim.Native.Nat.{ℕ, _+_, _<_, _≤_}
+use Prim.Native.Nat.{ℕ, _+_, _*_, _<_, _≤_}
 use lib.ListN.{length, take}
 use lib.IntN.{ℤ}
 use Rattle.protocol.specs.Text.{Line, Shape, textLimit, space, decimal, linesText, block, blockLines}
 use Rattle.shapes.specs.declared.Cell.{Cell}
+
+-- ten digits and the byte behind them
+abbrev pub fieldRoom : ℕ
+fieldRoom = 11
+
+abbrev pub spotRoom : ℕ
+spotRoom = 3 * fieldRoom
+
+-- the spot, a minus and the value
+abbrev pub lineRoom : ℕ
+lineRoom = spotRoom + 1 + fieldRoom
+
+-- a line is put only where the text is not too long before it
+abbrev pub textRoom : ℕ
+textRoom = 65_536 + lineRoom
 
 -- what stands from the place r on is left open
 pub record Put (out : List ℕ) (at : ℕ) (text : List ℕ) (r : ℕ) (out′ : List ℕ) : Type 0 where

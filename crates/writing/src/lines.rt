@@ -1,4 +1,4 @@
-// Lines as text. A line has at most 45 bytes.
+// Lines as text.
 use crate::numbers::put_field;
 use ranges::tests::magnitude;
 use shapes::Cell;
@@ -6,11 +6,11 @@ ghost use Prim.Native.Nat.{_+_, _≤_};
 ghost use lib.IntN.{pos};
 ghost use lib.ListN.{length};
 ghost use Rattle.protocol.specs.Text.{lineText};
-ghost use Rattle.writing.specs.Put.{spotText, lineAt, Put};
+ghost use Rattle.writing.specs.Put.{spotRoom, lineRoom, spotText, lineAt, Put};
 
 // Part, item and place of a line.
 pub fn put_spot(part: u32, cell: Cell, at: usize, out: &mut [u8]) -> usize
-    requires { ⌜ at + 33 ≤ length (now out) ⌝ }
+    requires { ⌜ at + spotRoom ≤ length (now out) ⌝ }
     ensures { λ r. ⌜ Put (now (out .entry)) at (spotText part cell) r (now (out .exit)) ⌝ }
 {
     let item_on = put_field(part, 32, at, out);
@@ -20,7 +20,7 @@ pub fn put_spot(part: u32, cell: Cell, at: usize, out: &mut [u8]) -> usize
 
 // A line whose value is a number from 0 on.
 pub fn put_unsigned(part: u32, cell: Cell, value: u32, at: usize, out: &mut [u8]) -> usize
-    requires { ⌜ at + 45 ≤ length (now out) ⌝ }
+    requires { ⌜ at + lineRoom ≤ length (now out) ⌝ }
     ensures { λ r. ⌜ Put (now (out .entry)) at (lineText (lineAt part cell (pos value))) r (now (out .exit)) ⌝ }
 {
     let value_on = put_spot(part, cell, at, out);
@@ -29,7 +29,7 @@ pub fn put_unsigned(part: u32, cell: Cell, value: u32, at: usize, out: &mut [u8]
 
 // A line whose value may be negative.
 pub fn put_signed(part: u32, cell: Cell, value: i32, at: usize, out: &mut [u8]) -> usize
-    requires { ⌜ at + 45 ≤ length (now out) ⌝ }
+    requires { ⌜ at + lineRoom ≤ length (now out) ⌝ }
     ensures { λ r. ⌜ Put (now (out .entry)) at (lineText (lineAt part cell value)) r (now (out .exit)) ⌝ }
 {
     let value_on = put_spot(part, cell, at, out);

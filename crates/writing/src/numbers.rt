@@ -4,7 +4,7 @@ ghost use Prim.Native.Nat.{_+_, _≤_};
 ghost use lib.ListN.{length};
 ghost use Rattle.protocol.specs.Text as text;
 ghost use Rattle.protocol.specs.Text.{digitCount, lowDigits};
-ghost use Rattle.writing.specs.Put.{field, Put};
+ghost use Rattle.writing.specs.Put.{fieldRoom, field, Put};
 
 // How many digits a number has.
 pub fn digit_count(n: u32) -> usize
@@ -57,7 +57,7 @@ pub fn put_digits(n: u32, count: usize, at: usize, out: &mut [u8]) -> usize
 
 // A number and the byte behind it.
 pub fn put_field(n: u32, behind: u8, at: usize, out: &mut [u8]) -> usize
-    requires { ⌜ at + 11 ≤ length (now out) ⌝ }
+    requires { ⌜ at + fieldRoom ≤ length (now out) ⌝ }
     ensures { λ r. ⌜ Put (now (out .entry)) at (field n behind) r (now (out .exit)) ⌝ }
 {
     let next = put_digits(n, digit_count(n), at, out);

@@ -3,6 +3,7 @@ use crate::lines::put_signed;
 use crate::lines::put_unsigned;
 use protocol::Parts;
 use protocol::Settings;
+use protocol::TEXT_LIMIT;
 use shapes::Cell;
 use shapes::next_cell;
 use shapes::shape_of;
@@ -13,7 +14,7 @@ ghost use lib.IntN.{pos};
 ghost use lib.ListN.{length};
 ghost use Rattle.protocol.specs.Text.{shapeSize};
 ghost use Rattle.shapes.specs.Parts.{partShape};
-ghost use Rattle.writing.specs.Put.{partText, Adds};
+ghost use Rattle.writing.specs.Put.{textRoom, partText, Adds};
 
 // A part whose values are numbers from 0 on.
 pub fn put_unsigned_part(
@@ -24,7 +25,7 @@ pub fn put_unsigned_part(
     from: usize,
     out: &mut [u8],
 ) -> usize
-    requires { ⌜ (settings .depth ≤ 8) × (65600 ≤ length (now out)) × (length (now values) ≡ shapeSize (partShape settings parts part)) ⌝ }
+    requires { ⌜ (settings .depth ≤ 8) × (textRoom ≤ length (now out)) × (length (now values) ≡ shapeSize (partShape settings parts part)) ⌝ }
     ensures { λ r. ⌜ Adds (now (out .entry)) from (partText (partShape settings parts part) (map pos (now (values .entry)))) r (now (out .exit)) ⌝ }
 {
     let shape = shape_of(settings, parts, part);
@@ -32,7 +33,7 @@ pub fn put_unsigned_part(
     let mut cell = Cell { item: 0, place: 0 };
     let mut p: usize = 0;
     while p < values.len() {
-        if at > 65536 {
+        if at > TEXT_LIMIT {
             return at;
         }
         at = put_unsigned(shape.part, cell, values[p], at, out);
@@ -51,7 +52,7 @@ pub fn put_signed_part(
     from: usize,
     out: &mut [u8],
 ) -> usize
-    requires { ⌜ (settings .depth ≤ 8) × (65600 ≤ length (now out)) × (length (now values) ≡ shapeSize (partShape settings parts part)) ⌝ }
+    requires { ⌜ (settings .depth ≤ 8) × (textRoom ≤ length (now out)) × (length (now values) ≡ shapeSize (partShape settings parts part)) ⌝ }
     ensures { λ r. ⌜ Adds (now (out .entry)) from (partText (partShape settings parts part) (now (values .entry))) r (now (out .exit)) ⌝ }
 {
     let shape = shape_of(settings, parts, part);
@@ -59,7 +60,7 @@ pub fn put_signed_part(
     let mut cell = Cell { item: 0, place: 0 };
     let mut p: usize = 0;
     while p < values.len() {
-        if at > 65536 {
+        if at > TEXT_LIMIT {
             return at;
         }
         at = put_signed(shape.part, cell, values[p], at, out);

@@ -16,11 +16,14 @@ pub fn show(bytes: &[u8], out: &mut [u8]) -> usize
     count
 }
 
-// The line for a refusal: 8 bytes, at most 10 digits and a line feed.
+// The longest line for a refusal: 8 bytes, 10 digits and a line feed.
+const REFUSAL_LINE: usize = 19;
+
+// The line for a refusal.
 pub fn show_refusal(number: u32, out: &mut [u8]) -> usize
     ensures { λ r. ⌜ Shown (refusedLine number) (now (out .entry)) r (now (out .exit)) ⌝ }
 {
-    let mut line = [0u8; 19];
+    let mut line = [0u8; REFUSAL_LINE];
     copy(b"refused ", &mut line);
     let count = put_field(number, 10, 8, &mut line);
     show(&line[..count], out)

@@ -9,7 +9,7 @@ ghost use Prim.Native.Nat.{_+_, _≤_};
 ghost use lib.ListN.{length, drop};
 ghost use Rattle.protocol.specs.Text.{shapeSize, textOf};
 ghost use Rattle.shapes.specs.Parts.{six, partShape, Exact};
-ghost use Rattle.writing.specs.Put.{Held, Adds};
+ghost use Rattle.writing.specs.Put.{textRoom, Held, Adds};
 ghost use Rattle.writing.specs.Tables.{settingsText, mixedText};
 
 // Bytes copied to the front of a slice.
@@ -26,7 +26,7 @@ pub fn copy(bytes: &[u8], out: &mut [u8])
 
 // The names line and the settings.
 pub fn put_settings(settings: Settings, parts: Parts, out: &mut [u8]) -> usize
-    requires { ⌜ (settings .depth ≤ 8) × (65600 ≤ length (now out)) ⌝ }
+    requires { ⌜ (settings .depth ≤ 8) × (textRoom ≤ length (now out)) ⌝ }
     ensures { λ r. ⌜ Held (settingsText settings parts) r (now (out .exit)) ⌝ }
 {
     copy(b"part item place value\n", out);
@@ -49,7 +49,7 @@ pub fn put_mixed(
     at: usize,
     out: &mut [u8],
 ) -> usize
-    requires { ⌜ (settings .depth ≤ 8) × (65600 ≤ length (now out)) × (part ≤ 5) ⌝ }
+    requires { ⌜ (settings .depth ≤ 8) × (textRoom ≤ length (now out)) × (part ≤ 5) ⌝ }
     requires { ⌜ (length (now values) ≡ shapeSize (partShape settings parts part)) × (length (now signed) ≡ shapeSize (partShape settings parts (part + 1))) ⌝ }
     ensures { λ r. ⌜ Adds (now (out .entry)) at (mixedText settings parts part (now (values .entry)) (now (signed .entry))) r (now (out .exit)) ⌝ }
 {
@@ -69,7 +69,7 @@ pub fn put_text(
     last: &[i32],
     out: &mut [u8],
 ) -> usize
-    requires { ⌜ (settings .depth ≤ 8) × (65600 ≤ length (now out)) ⌝ }
+    requires { ⌜ (settings .depth ≤ 8) × (textRoom ≤ length (now out)) ⌝ }
     requires { ⌜ Exact settings parts (six (now key) (now message) (now commitment) (now rounds) (now challenges) (now last)) ⌝ }
     ensures { λ r. ⌜ Held (textOf settings parts (six (now (key .entry)) (now (message .entry)) (now (commitment .entry)) (now (rounds .entry)) (now (challenges .entry)) (now (last .entry)))) r (now (out .exit)) ⌝ }
 {

@@ -4,11 +4,18 @@ use crate::text::copy;
 use crate::text::put_text;
 use protocol::Parts;
 use protocol::Settings;
+use protocol::TEXT_LIMIT;
 use protocol::Written;
 ghost use Rattle.protocol.specs.Promises.{Wrote};
 ghost use Rattle.shapes.specs.Parts.{six};
 
-// Call 13. The text is made in a place of its own: the output slice is written only once nothing is refused.
+// The longest line: three numbers, each of at most ten digits with a space behind it, a minus, ten digits and a line feed.
+const LINE: usize = 45;
+
+// The room for the longest text and one line: a line is put only where the text is not too long before it. `textRoom` of the definitions.
+const TEXT_ROOM: usize = TEXT_LIMIT + LINE;
+
+// The text is made in a place of its own: the output slice is written only once nothing is refused.
 pub fn write(
     settings: Settings,
     parts: Parts,
@@ -35,7 +42,7 @@ pub fn write(
     if number != 0 {
         return Written { number, count: 0 };
     }
-    let mut text = [0u8; 65600];
+    let mut text = [0u8; TEXT_ROOM];
     let count = put_text(
         settings,
         parts,
@@ -47,7 +54,7 @@ pub fn write(
         last,
         &mut text,
     );
-    if count > 65536 {
+    if count > TEXT_LIMIT {
         return Written {
             number: 1,
             count: 0,

@@ -12,7 +12,7 @@ use Rattle.reading.proofs.Whole.{read-refused, read-allowed, read-room,
 use Rattle.reading.proofs.read.Statement.{statement}
 use Rattle.reading.proofs.read.Tie as tie
 
-module _ (c : tie.After-gather) where
+module _ (c : tie.After-read-values) where
   abbrev start : tie.Start
   start = c .before .before .before .before .before .before .before
 
@@ -26,20 +26,20 @@ module _ (c : tie.After-gather) where
   t = six (start .args .key .now) (start .args .message .now) (start .args .commitment .now) (start .args .rounds .now) (start .args .challenges .now) (start .args .last .now)
 
   abbrev values : List ℤ
-  values = c .gather .last .1 .1 .1 .0
+  values = c .read-values .last .1 .1 .1 .0
 
-  gathered : Gathered P (lengthsOf t) text (c .gather .result) values
+  gathered : Gathered P (lengthsOf t) text (c .read-values .result) values
   unfolding lengthsOf
-  gathered = c .gather .ensures
+  gathered = c .read-values .ensures
 
 returns : tie.Need-returns
-returns c = let g = c .before .before .before in read-refused (P g) (text g) (t g) (g .gather .result) (values g) (gathered g) (c .if1 .taken)
+returns c = let g = c .before .before .before in read-refused (P g) (text g) (t g) (g .read-values .result) (values g) (gathered g) (c .if1 .taken)
 
 refusal-requires : tie.Need-refusal-requires
 unfolding lengthsOf
 refusal-requires c κs =
     let g = c .before .before .before .before in
-    let r = g .gather .result in
+    let r = g .read-values .result in
     let none = c .before .if1 .left in
     (read-allowed (P g) (text g) (t g) r (values g) (gathered g) none, read-room (P g) (text g) (t g) r (values g) (gathered g) none)
 
@@ -48,7 +48,7 @@ unfolding lengthsOf
 returns-2 c =
     let f = c .before .before in
     let g = f .before .before .before .before .before in
-    read-refused-entries (P g) (text g) (t g) (g .gather .result) (values g) (gathered g) (f .before .before .if1 .left) (f .refusal .result) (f .refusal .ensures) (c .refused .result) (c .refused .ensures)
+    read-refused-entries (P g) (text g) (t g) (g .read-values .result) (values g) (gathered g) (f .before .before .if1 .left) (f .refusal .result) (f .refusal .ensures) (c .refused .result) (c .refused .ensures)
     (c .before .if2 .taken)
 
 all-requires : tie.Need-all-requires
@@ -56,7 +56,7 @@ unfolding lengthsOf
 all-requires c κs =
     let f = c .before .before .before .before .before .before .before .before in
     let g = f .before .before .before .before .before in
-    read-room (P g) (text g) (t g) (g .gather .result) (values g) (gathered g) (f .before .before .if1 .left)
+    read-room (P g) (text g) (t g) (g .read-values .result) (values g) (gathered g) (f .before .before .if1 .left)
 
 returns-3 : tie.Need-returns-3
 unfolding lengthsOf
@@ -64,7 +64,7 @@ returns-3 c =
     let a = c .before .before .before .before .before .before .before .before .before .before in
     let f = a .before .before .before .before .before .before .before .before .before in
     let g = f .before .before .before .before .before in
-    read-done (P g) (text g) (t g) (g .gather .result) (values g) (gathered g) (f .before .before .if1 .left) (f .refusal .result) (f .refusal .ensures)
+    read-done (P g) (text g) (t g) (g .read-values .result) (values g) (gathered g) (f .before .before .if1 .left) (f .refusal .result) (f .refusal .ensures)
     (a .before .before .before .before .before .before .before .before .if2 .left) _ (a .all .ensures)
 
 pub read-spec : {M : Type 1} → statement M

@@ -5,18 +5,18 @@ use borrow.Author.Needs.{needs}
 use Rattle.texts.proofs.refused.Statement.{statement}
 use Rattle.texts.proofs.refused.Tie as tie
 
-look-requires : tie.Need-look-requires
-look-requires c κs = search needs
+read-settings-requires : tie.Need-read-settings-requires
+read-settings-requires c κs = search needs
 
 returns : tie.Need-returns
 returns c =
-    let same = look-number (c .before .before .before .before .args .text .now) _ (c .before .before .look .ensures) in
+    let same = look-number (c .before .before .before .before .args .text .now) _ (c .before .before .read-settings .ensures) in
     same ∙ sym (first-stops _ _ (λ z. c .if1 .taken (same ∙ z)))
 
 returns-2 : tie.Need-returns-2
 returns-2 c =
-    let same = look-number (c .before .before .before .before .args .text .now) _ (c .before .before .look .ensures) in
+    let same = look-number (c .before .before .before .before .args .text .now) _ (c .before .before .read-settings .ensures) in
     sym (first-passes _ _ (sym same ∙ c .if1 .left) ∙ first-only 7)
 
 pub refused-spec : {M : Type 1} → statement M
-refused-spec = tie.close (tie.spec look-requires returns returns-2)
+refused-spec = tie.close (tie.spec read-settings-requires returns returns-2)

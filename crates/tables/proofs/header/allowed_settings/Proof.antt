@@ -11,14 +11,14 @@ read-header-requires c κs = search needs
 settings-refusal-requires : tie.Need-settings-refusal-requires
 settings-refusal-requires c κs = search needs
 
-look-requires : tie.Need-look-requires
-look-requires c κs = search needs
+read-settings-requires : tie.Need-read-settings-requires
+read-settings-requires c κs = search needs
 
 returns : tie.Need-returns
 returns c =
     let s = c .before .before in
     let h = s .before .before in
-    begun-refused _ (h .read-header .result) (h .read-header .ensures) (c .look .result) (c .look .ensures) (λ e. c .before .if1 .taken (s .settings-refusal .ensures ∙ e))
+    begun-refused _ (h .read-header .result) (h .read-header .ensures) (c .read-settings .result) (c .read-settings .ensures) (λ e. c .before .if1 .taken (s .settings-refusal .ensures ∙ e))
 
 returns-2 : tie.Need-returns-2
 returns-2 c =
@@ -26,4 +26,4 @@ returns-2 c =
     begun-granted _ (h .read-header .result) (h .read-header .ensures) (sym (c .before .settings-refusal .ensures) ∙ c .if1 .left)
 
 pub allowed-settings-spec : {M : Type 1} → statement M
-allowed-settings-spec = tie.close (tie.spec read-header-requires settings-refusal-requires look-requires returns returns-2)
+allowed-settings-spec = tie.close (tie.spec read-header-requires settings-refusal-requires read-settings-requires returns returns-2)

@@ -2,13 +2,14 @@
 use mathlib.Core.Path.{sym, ap, _∙_}
 use borrow.Author.Needs.{needs}
 use Rattle.protocol.specs.Lines.{present}
-use Rattle.tables.proofs.Rows.{byte-outside, byte-inside, present-keep}
+use Rattle.protocol.proofs.PlaceLaws.{byte-past}
+use Rattle.tables.proofs.Rows.{byte-inside, present-keep}
 use Rattle.tables.proofs.lines.stands.Statement.{statement}
 use Rattle.tables.proofs.lines.stands.Tie as tie
 
 returns : tie.Need-returns
 unfolding present
-returns c = let a = c .before .args in sym (ap present (byte-outside (a .byte) (a .text .now) (a .at) (search needs)))
+returns c = let a = c .before .args in sym (ap present (byte-past (a .byte) (a .text .now) (a .at) (search needs)))
 
 shared-slice-read-result : tie.Need-shared-slice-read-result
 shared-slice-read-result c = search needs

@@ -10,7 +10,8 @@ use lib.ListN.{length, getD, drop, length-drop}
 use Rattle.protocol.specs.Text.{digitFirst, digitRun}
 use Rattle.tables.specs.declared.numbers.Run.{Run}
 use Rattle.tables.specs.Digits.{most, runAnswer}
-use Rattle.tables.proofs.Runs.{first-place, first-digit, digit-low, digit-high, kept, kept-same, run-digit, run-end}
+use Rattle.protocol.proofs.NumeralLaws.{digit-bounds}
+use Rattle.tables.proofs.Runs.{first-place, first-digit, kept, kept-same, run-digit, run-end}
 use Rattle.tables.proofs.numbers.digit_run.Statement.{statement}
 use Rattle.tables.proofs.numbers.digit_run.Tie as tie
 
@@ -36,10 +37,10 @@ module _ (c : tie.Then1 Inv-loop μ-loop) where
   inside = first-place bytes place first
 
   low : 48 ≤ getD bytes place 0
-  low = digit-low _ (first-digit bytes place first)
+  low = digit-bounds _ (first-digit bytes place first) .0
 
   high : getD bytes place 0 ≤ 57
-  high = digit-high _ (first-digit bytes place first)
+  high = digit-bounds _ (first-digit bytes place first) .1
 
 -- an answer by what is kept of a run
 abbrev answer : List ℕ → ℕ × List ℕ → Run

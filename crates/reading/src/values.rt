@@ -7,8 +7,8 @@ use ranges::tests::settings_refusal;
 use shapes::TABLES;
 use shapes::fits;
 use tables::Header;
-use tables::look;
 use tables::read_header;
+use tables::read_settings;
 use tables::refused;
 ghost use mathlib.Core.Path.{_≡_};
 ghost use Prim.Native.Nat.{_≤_};
@@ -20,7 +20,7 @@ ghost use Rattle.reading.specs.Stored.{Followed, Gathered};
 
 // Do the lines of a text that begins so go on with the required ones up to its end, where its length and its settings are allowed. All lines are
 // then of the stated shape, and one walk has read them: refusals 1 to 6 do not apply.
-fn follow(parts: Parts, header: Header, text: &[u8], values: &mut [i32]) -> bool
+fn read_wanted(parts: Parts, header: Header, text: &[u8], values: &mut [i32]) -> bool
     requires { ⌜ (header ≡ headerAnswer (now text) (readSettings (now text))) × (valuesRoom ≤ length (now values)) ⌝ }
     ensures { λ r. ⌜ Followed parts (now (text .entry)) r (now (values .exit)) ⌝ }
 {
@@ -44,13 +44,18 @@ fn follow(parts: Parts, header: Header, text: &[u8], values: &mut [i32]) -> bool
 
 // Refusals 1 to 7 of a text that is read into tables of these lengths. Where nothing is refused its values stand first in `values`, which has room
 // for the values of every text that is not too long: a line has at least eight bytes.
-pub fn gather(parts: Parts, text: &[u8], lengths: [usize; TABLES], values: &mut [i32]) -> Loaded
+pub fn read_values(
+    parts: Parts,
+    text: &[u8],
+    lengths: [usize; TABLES],
+    values: &mut [i32],
+) -> Loaded
     requires { ⌜ valuesRoom ≤ length (now values) ⌝ }
     ensures { λ r. ⌜ Gathered parts lengths (now (text .entry)) r (now (values .exit)) ⌝ }
 {
     let header = read_header(text);
-    if !follow(parts, header, text, values) {
-        let loaded = look(text);
+    if !read_wanted(parts, header, text, values) {
+        let loaded = read_settings(text);
         if loaded.number != 0 {
             return loaded;
         }

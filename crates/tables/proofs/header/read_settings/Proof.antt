@@ -12,8 +12,8 @@ use Rattle.protocol.specs.Settings.{settingsRefusal}
 use Rattle.protocol.specs.Text.{textLimit, lookRefusal, lookAnswer}
 use Rattle.protocol.specs.Lines.{present, allLines, settingsOf}
 use Rattle.tables.proofs.Looks.{Settled, settled-look, settled-granted, look-long, look-missing, loaded-refused, loaded-granted, header-found, header-unfound}
-use Rattle.tables.proofs.header.look.Statement.{statement}
-use Rattle.tables.proofs.header.look.Tie as tie
+use Rattle.tables.proofs.header.read_settings.Statement.{statement}
+use Rattle.tables.proofs.header.read_settings.Tie as tie
 
 -- a text that is short enough and begins with settings
 module _ (c : tie.After-or-malformed) where
@@ -65,8 +65,8 @@ returns-4 c =
     let granted = settled-granted (text d) (found d .0) (found d .1) (found d .2) _ (sym (number d) ∙ c .if3 .left) in
     loaded-granted (text d) _ (lookRefusal (text d)) (refusal d ∙ c .if3 .left) (granted ∙ sym (found d .3))
 
-pub look-spec : {M : Type 1} → statement M
-look-spec =
+pub read-settings-spec : {M : Type 1} → statement M
+read-settings-spec =
     tie.close
     (tie.spec
     (λ c κs. search needs)

@@ -1,4 +1,4 @@
--- `follow`: the length, the settings, and then the lines behind them, from the place that the reader of the settings gives.
+-- `read_wanted`: the length, the settings, and then the lines behind them, from the place that the reader of the settings gives.
 use mathlib.Core.Path.{_≡_, sym, _∙_}
 use Prim.Native.Nat.{_≤_}
 use native.Mathlib.Omega.{arith}
@@ -10,8 +10,8 @@ use Rattle.protocol.specs.Text.{textLimit}
 use Rattle.protocol.proofs.Inputs.{settings-valid}
 use Rattle.tables.proofs.Looks.{header-within}
 use Rattle.reading.proofs.Gathers.{followed-long, followed-unbegun, followed-disallowed, followed-missed, followed-found}
-use Rattle.reading.proofs.gathering.follow.Statement.{statement}
-use Rattle.reading.proofs.gathering.follow.Tie as tie
+use Rattle.reading.proofs.values.read_wanted.Statement.{statement}
+use Rattle.reading.proofs.values.read_wanted.Tie as tie
 
 -- a text whose length and settings are allowed
 module _ (c : tie.Else3) where
@@ -64,8 +64,8 @@ returns-5 c =
     followed-found (s .args .text .now) (s .args .parts) (s .args .header) (s .pre .0) _ (p .read-parts .result) (p .read-parts .ensures)
     (short e) (not-false _ (e .before .before .before .if2 .left)) (allowed e) (not-false _ (c .before .if4 .left))
 
-pub follow-spec : {M : Type 1} → statement M
-follow-spec =
+pub read-wanted-spec : {M : Type 1} → statement M
+read-wanted-spec =
     tie.close
     (tie.spec
     returns

@@ -1,4 +1,4 @@
--- `gather`: the lines of a good text are followed to its end, and the lengths of the lent tables are left. Otherwise a look says the refusal.
+-- `read_values`: the lines of a good text are followed to its end, and the lengths of the lent tables are left. Otherwise a look says the refusal.
 use mathlib.Core.Path.{_≡_, refl, sym, ap, _∙_}
 use mathlib.Core.Bool.{Bool, true}
 use mathlib.Core.List.{List}
@@ -19,8 +19,8 @@ use Rattle.tables.proofs.Looks.{loaded-granted}
 use Rattle.tables.proofs.Looked.{header-settings, look-number, look-allowed}
 use Rattle.reading.proofs.Gathers.{gathered-look, gathered-refused, gathered-granted}
 use Rattle.shapes.proofs.Shallow.{lengths-shallow}
-use Rattle.reading.proofs.gathering.gather.Statement.{statement}
-use Rattle.reading.proofs.gathering.gather.Tie as tie
+use Rattle.reading.proofs.values.read_values.Statement.{statement}
+use Rattle.reading.proofs.values.read_values.Tie as tie
 
 -- a text whose lines were followed
 module _ (c : tie.After-values) where
@@ -46,12 +46,12 @@ module _ (c : tie.After-values) where
   fitting = lengthsFit (settingsIn (linesOf text)) parts lengths
 
   -- to its end
-  module _ (found : c .before .follow .result ≡ true) where
+  module _ (found : c .before .read-wanted .result ≡ true) where
     abbrev answer : Loaded
     answer = record { number = 0; settings = header .settings }
 
     unrefused : lookRefusal text ≡ 0
-    unrefused = c .before .follow .ensures .unrefused found
+    unrefused = c .before .read-wanted .ensures .unrefused found
 
     settings-are : settingsIn (linesOf text) ≡ header .settings
     settings-are = header-settings text header (begun .read-header .ensures) unrefused
@@ -64,13 +64,13 @@ module _ (c : tie.After-values) where
     shallow = settings-valid _ (look-allowed text answer looks refl) .depth-most
 
     in-order : ordered ≡ true
-    in-order = sym (c .before .follow .ensures .answer unrefused) ∙ found
+    in-order = sym (c .before .read-wanted .ensures .answer unrefused) ∙ found
 
 module _ (c : tie.After-fits2) where
   abbrev followed : tie.After-values
   followed = c .before .before .before
 
-  reached : followed .before .follow .result ≡ true
+  reached : followed .before .read-wanted .result ≡ true
   reached = not-false _ (c .before .before .if1 .left)
 
   fitted : c .fits2 .result ≡ fitting followed
@@ -80,15 +80,15 @@ module _ (c : tie.After-fits2) where
       ∙ ap (λ S. lengthsFit S (parts followed) (lengths followed)) (sym (settings-are followed reached))
 
 returns : tie.Need-returns
-returns c = gathered-look _ _ _ (c .before .before .look .result) (c .before .before .look .ensures) _ (c .if2 .taken)
+returns c = gathered-look _ _ _ (c .before .before .read-settings .result) (c .before .before .read-settings .ensures) _ (c .if2 .taken)
 
 returns-2 : tie.Need-returns-2
 returns-2 c =
     let seen = c .before .before .before in
     let v = seen .before .before in
-    let unrefused = sym (look-number (text v) (seen .look .result) (seen .look .ensures)) ∙ c .before .if2 .left in
-    gathered-refused (parts v) (lengths v) (text v) (seen .look .result) (seen .look .ensures) _ (c .before .if2 .left) (c .refused .result) (c .refused .ensures)
-    (and-fails-left (ordered v) (fitting v) (sym (v .before .follow .ensures .answer unrefused) ∙ not-true _ (seen .before .if1 .taken)))
+    let unrefused = sym (look-number (text v) (seen .read-settings .result) (seen .read-settings .ensures)) ∙ c .before .if2 .left in
+    gathered-refused (parts v) (lengths v) (text v) (seen .read-settings .result) (seen .read-settings .ensures) _ (c .before .if2 .left) (c .refused .result) (c .refused .ensures)
+    (and-fails-left (ordered v) (fitting v) (sym (v .before .read-wanted .ensures .answer unrefused) ∙ not-true _ (seen .before .if1 .taken)))
 
 returns-3 : tie.Need-returns-3
 returns-3 c =
@@ -103,10 +103,10 @@ returns-4 c =
     let v = followed f in
     gathered-granted (parts v) (lengths v) (text v) (answer v (reached f)) (looks v (reached f)) _ refl
     (and-intro {a = ordered v} {b = fitting v} (in-order v (reached f)) (sym (fitted f) ∙ not-false _ (c .if3 .left)))
-    (v .before .follow .ensures .stored (reached f))
+    (v .before .read-wanted .ensures .stored (reached f))
 
-pub gather-spec : {M : Type 1} → statement M
-gather-spec =
+pub read-values-spec : {M : Type 1} → statement M
+read-values-spec =
     tie.close
     (tie.spec
     (λ c κs. search needs)
