@@ -1,208 +1,38 @@
--- The values of a whole text, gathered part after part.
+-- What the readers of all values promise.
 --
---   joined vs            lists one after the other
---   behind-parts, behind-rise   the numbers of the parts behind the settings, and that they rise
---   columns-flat         the values of parts, part by part
---   columns-behind       the values of these parts are those of the lines behind the settings
---   order-..             are its lines the required ones, by what was read of them
 --   values-present       lines at wanted spots up to the end are of the stated shape
---   followed-..          what the reader of the lines behind the settings promises
---   gathered-..          what the reader of all values promises
-use mathlib.Core.Path.{_≡_, refl, sym, ap, ap₂, subst, _∙_}
+--   followed-..          the reader of the lines behind the settings
+--   gathered-..          the reader of all values
+use mathlib.Core.Path.{_≡_, sym, ap, subst, _∙_}
 use mathlib.Core.Bool.{Bool, true, false, _&&_, false≢true}
-use mathlib.Core.List.{List, [], _∷_, _++_, append-nil, flatMap}
-use mathlib.Core.Option.{Option, none, some, bind, Option·some-injective}
-use Prim.Native.Nat.{ℕ, zero, suc, _+_, _-_, _≤_, _<_}
+use mathlib.Core.List.{List, [], _∷_}
+use mathlib.Core.Option.{some}
+use Prim.Native.Nat.{ℕ, _-_, _≤_, _<_}
 use native.Mathlib.Omega.{arith}
-use borrow.Author.Tests.{eqb-true, eq-eqb}
+use borrow.Author.Tests.{eqb-true}
 use lib.Dec.{eqb}
-use lib.ListN.{length, drop, take, length-append, length-map}
-use lib.Seq.{take-all}
+use lib.ListN.{length, drop, take, length-map}
 use lib.IntN.{ℤ}
-use Rattle.protocol.specs.declared.Settings.{Settings}
 use Rattle.protocol.specs.declared.Parts.{Parts}
 use Rattle.protocol.specs.declared.Loaded.{Loaded}
-use Rattle.protocol.specs.Basic.{tabulate, choose, unless}
+use Rattle.protocol.specs.Basic.{choose, unless}
 use Rattle.protocol.specs.Settings.{settingsRefusal}
-use Rattle.protocol.specs.Text.{Spot, Line, Shape, textLimit, shape, settingsShape, shapes, shapeSize, spotAt, spots, wanted, readLine, linesOf, sameSpots, spotsOf, valuesOf, column, settingsIn, noSettings, lookRefusal, loaded, lookAnswer}
-use Rattle.protocol.proofs.Tests.{same-test}
+use Rattle.protocol.specs.Text.{Spot, Line, textLimit, shape, spots, wanted, linesOf, spotsOf, valuesOf, settingsIn, noSettings, lookRefusal, loaded, lookAnswer}
 use Rattle.protocol.proofs.Refusals.{first-stops, first-passes, first-only}
-use Rattle.protocol.proofs.TableLaws.{AllParts, Rising, parts, columns, column-append, column-none, split}
 use Rattle.protocol.specs.Lines.{present, readValues, allLines, settingsOf, readSettings}
 use Rattle.text_lines.specs.Header.{headerAnswer}
 use Rattle.text_parts.specs.Parts.{lengthsFit}
 use Rattle.table_reader.specs.Parts.{partSpots, Took}
 use Rattle.text_lines.specs.declared.header.Header.{Header}
 use Rattle.table_reader.specs.declared.parts.Taken.{Taken}
-use Rattle.table_reader.specs.Stored.{tableParts, columnsIn, inOrder, linesRefusal, First, Followed, Gathered}
+use Rattle.table_reader.specs.Stored.{columnsIn, inOrder, linesRefusal, First, Followed, Gathered}
 use Rattle.text_lines.proofs.Counts.{suffix-length}
-use Rattle.text_lines.proofs.Rows.{all-end, all-next, all-none}
-use Rattle.text_lines.proofs.Values.{same-spot}
+use Rattle.text_lines.proofs.Rows.{all-end}
 use Rattle.table_reader.proofs.Cells.{taken-missed, taken-found}
-use Rattle.text_lines.proofs.Follow.{same-spots-self, spots-same, lines-before, values-lines, values-elsewhere}
-use Rattle.text_lines.proofs.Looks.{settingsSpots, spots-append, values-append, settled-lines, settled-settings, settled-look, loaded-refused, header-found}
+use Rattle.text_lines.proofs.Follow.{lines-before, values-lines}
+use Rattle.text_lines.proofs.Looks.{settled-look, loaded-refused, header-found}
 use Rattle.text_lines.proofs.Looked.{Looked, looked, opened, opened-settings, look-number}
-use Rattle.table_reader.proofs.Wants.{wanted-is}
-
--- ---- values by parts
-
--- the values of lists one after the other
-abbrev pub joined : List (List ℤ) → List ℤ
-joined vs = flatMap (λ (v : List ℤ). v) vs
-
-columns-joined : (q : ℕ) (bs : List Shape) (ls : List Line) → Rising q (parts bs) → spotsOf ls ≡ flatMap spots bs → joined (columns (parts bs) ls) ≡ valuesOf ls
-unfolding flatMap spotsOf valuesOf
-columns-joined q [] [] r e = refl
-columns-joined q [] (l ∷ ls) r e = absurd (omega (arith, ap length e))
-columns-joined q (b ∷ bs) ls r e =
-    let c = split b bs ls (r .1) e in
-    ap₂ (λ (x y : List ℤ). x ++ y) (c .mine) (ap joined (c .others) ∙ columns-joined (suc (b .part)) bs (c .back) (r .1) (c .back-spots))
-    ∙ sym (values-append (c .front) (c .back)) ∙ ap valuesOf (sym (c .joined))
-
--- the parts behind the settings
-pub behind-parts : (S : Settings) (P : Parts) → parts (drop 1 (shapes S P)) ≡ tableParts
-unfolding shapes shape settingsShape
-behind-parts S P = refl
-
-pub behind-rise : (S : Settings) (P : Parts) → Rising 1 (parts (drop 1 (shapes S P)))
-unfolding shapes shape settingsShape
-behind-rise S P = (omega arith, (omega arith, (omega arith, (omega arith, (omega arith, (omega arith, tt))))))
-
--- the values of the parts, part by part
-pub columns-flat : (ps : List ℕ) (ls : List Line) → joined (columns ps ls) ≡ flatMap (λ p. column p ls) ps
-unfolding flatMap
-columns-flat [] ls = refl
-columns-flat (p ∷ ps) ls = ap (λ v. column p ls ++ v) (columns-flat ps ls)
-
-columns-are : (S : Settings) (P : Parts) (ls : List Line) → spotsOf ls ≡ partSpots S P → columnsIn ls ≡ valuesOf ls
-unfolding columnsIn partSpots
-columns-are S P ls e =
-    sym (columns-flat tableParts ls) ∙ ap (λ ps. joined (columns ps ls)) (sym (behind-parts S P)) ∙ columns-joined 1 (drop 1 (shapes S P)) ls (behind-rise S P) e
-
-settings-elsewhere : (p : ℕ) → AllParts (λ q. ¬ (q ≡ suc p)) settingsSpots
-unfolding spots tabulate shapeSize settingsShape shape choose spotAt
-settings-elsewhere p = (apart, (apart, (apart, (apart, tt))))
-  where
-    apart : ¬ (0 ≡ suc p)
-    apart e = omega arith
-
-module _ (front more : List Line) (e : spotsOf front ≡ settingsSpots) where
-  column-behind : (p : ℕ) → column (suc p) (front ++ more) ≡ column (suc p) more
-  column-behind p =
-      column-append (suc p) front more
-      ∙ ap (λ v. v ++ column (suc p) more) (column-none (suc p) front (subst (AllParts (λ q. ¬ (q ≡ suc p))) (sym e) (settings-elsewhere p)))
-
-  columns-skip : (q : ℕ) (ps : List ℕ) → Rising (suc q) ps → flatMap (λ p. column p (front ++ more)) ps ≡ flatMap (λ p. column p more) ps
-  unfolding flatMap
-  columns-skip q [] r = refl
-  columns-skip q (zero ∷ ps) r = absurd (omega (arith, r .0))
-  columns-skip q (suc p ∷ ps) r = ap₂ (λ (x y : List ℤ). x ++ y) (column-behind p) (columns-skip (suc p) ps (r .1))
-
-  pub columns-behind : (S : Settings) (P : Parts) → spotsOf more ≡ partSpots S P → columnsIn (front ++ more) ≡ valuesOf more
-  unfolding columnsIn
-  columns-behind S P f = columns-skip 0 tableParts (subst (Rising 1) (behind-parts S P) (behind-rise S P)) ∙ columns-are S P more f
-
--- ---- the same spots
-
-same-spots-behind : (a ss tt : List Spot) → sameSpots (a ++ ss) (a ++ tt) ≡ sameSpots ss tt
-unfolding sameSpots
-same-spots-behind [] ss tt = refl
-same-spots-behind (s ∷ a) ss tt = ap (λ b. b && sameSpots (a ++ ss) (a ++ tt)) (same-spot s s refl refl refl) ∙ same-spots-behind a ss tt
-
--- ---- a text whose settings are not refused
-
-module _ (text : List ℕ) (P : Parts) (l : Looked text) where
-  abbrev S : Settings
-  S = settingsOf (l .values)
-
-  looked-settings : settingsIn (linesOf text) ≡ S
-  looked-settings = settled-settings text (l .values) (l .rest) (l .begins) (l .more) (l .more-is)
-
-  looked-lines : linesOf text ≡ l .begins .front ++ l .more
-  looked-lines = settled-lines text (l .values) (l .rest) (l .begins) (l .more) (l .more-is)
-
-  pub looked-order : inOrder P text ≡ sameSpots (spotsOf (l .more)) (partSpots S P)
-  unfolding inOrder
-  looked-order =
-      (λ j. sameSpots (spotsOf (looked-lines j)) (wanted (looked-settings j) P))
-      ∙ (λ j. sameSpots ((spots-append (l .begins .front) (l .more) ∙ ap (λ ss. ss ++ spotsOf (l .more)) (l .begins .spots-are)) j) (wanted-is S P j))
-      ∙ same-spots-behind settingsSpots (spotsOf (l .more)) (partSpots S P)
-
-  pub looked-columns : spotsOf (l .more) ≡ partSpots S P → columnsIn (linesOf text) ≡ valuesOf (l .more)
-  looked-columns e = ap columnsIn looked-lines ∙ columns-behind (l .begins .front) (l .more) (l .begins .spots-are) S P e
-
--- ---- are the lines the wanted ones
-
-module _ (ss : List Spot) (bs : List ℕ) (more : List Line) (f : allLines bs ≡ some more) where
-  pub order-missed : readValues ss bs ≡ none → sameSpots (spotsOf more) ss ≡ false
-  order-missed e = by (sameSpots (spotsOf more) ss) refl
-    where
-      by : (b : Bool) → sameSpots (spotsOf more) ss ≡ b → sameSpots (spotsOf more) ss ≡ false
-      by false t = t
-      by true t =
-          let same = spots-same (spotsOf more) ss t in
-          let whole : take (length ss) (spotsOf more) ≡ ss = ap (take (length ss)) same ∙ take-all (length ss) ss (omega arith) in
-          absurd (false≢true (sym (values-elsewhere ss bs more e f) ∙ ap (λ x. sameSpots x ss) whole ∙ same-spots-self ss))
-
-  -- behind the lines that were read
-  lines-of : (front : List Line) (o : Option (List Line)) → some more ≡ lines-before front o → (behind : List Line) × (o ≡ some behind) × (more ≡ front ++ behind)
-  unfolding lines-before
-  lines-of front none e = let z : _≡_ {A = ℕ} 0 1 = cc in absurd (omega arith)
-  lines-of front (some behind) e = (behind, refl, Option·some-injective more (front ++ behind) e)
-
-  some-lines : (b : ℕ) (cs : List ℕ) (ls : List Line) → allLines (b ∷ cs) ≡ some ls → 0 < length ls
-  unfolding bind
-  some-lines b cs ls e = by-line (readLine (b ∷ cs)) refl
-    where
-      by-rest : (l : Line) (o : Option (List Line)) → bind o (λ ms. some (l ∷ ms)) ≡ some ls → 0 < length ls
-      by-rest l none h = let z : _≡_ {A = ℕ} 0 1 = cc in absurd (omega arith)
-      by-rest l (some ms) h = omega (arith, ap length (Option·some-injective (l ∷ ms) ls h))
-
-      by-line : (o : Option (Line × List ℕ)) → readLine (b ∷ cs) ≡ o → 0 < length ls
-      by-line none h = let z : _≡_ {A = ℕ} 0 1 = cc (all-none (b ∷ cs) (omega arith) h) in absurd (omega arith)
-      by-line (some (l, rest)) h = by-rest l (allLines rest) (sym (all-next (b ∷ cs) l rest h) ∙ e)
-
-  module _ (vs : List ℤ) (end : List ℕ) (e : readValues ss bs ≡ some (vs, end)) where
-    -- nothing stands behind them
-    ended : length end ≡ 0 → (spotsOf more ≡ ss) × (valuesOf more ≡ vs)
-    ended h =
-        let k = values-lines ss bs vs end e in
-        let (behind, p, q) = lines-of (k .lines) (allLines end) (sym f ∙ k .all-are) in
-        let nothing : behind ≡ [] = by-end end h behind p in
-        let same : more ≡ k .lines = q ∙ ap (λ ms. k .lines ++ ms) nothing ∙ append-nil (k .lines) in
-        (ap spotsOf same ∙ k .spots-are, ap valuesOf same ∙ k .values-are)
-      where
-        by-end : (end : List ℕ) → length end ≡ 0 → (behind : List Line) → allLines end ≡ some behind → behind ≡ []
-        by-end [] h behind p = Option·some-injective behind [] (sym p ∙ all-end)
-        by-end (b ∷ cs) h behind p = absurd (omega arith)
-
-    pub order-values : length end ≡ 0 → valuesOf more ≡ vs
-    order-values h = ended h .1
-
-    pub order-spots : length end ≡ 0 → spotsOf more ≡ ss
-    order-spots h = ended h .0
-
-    -- other lines do
-    crowded : sameSpots (spotsOf more) ss ≡ true → length end ≡ 0
-    unfolding spotsOf
-    crowded t =
-        let k = values-lines ss bs vs end e in
-        let (behind, p, q) = lines-of (k .lines) (allLines end) (sym f ∙ k .all-are) in
-        by-end end behind p (omega (arith, ap length (spots-same (spotsOf more) ss t), ap length (k .spots-are), ap length q, length-append (k .lines) behind, length-map more (λ m. m .spot), length-map (k .lines) (λ m. m .spot)))
-      where
-        by-end : (end : List ℕ) (behind : List Line) → allLines end ≡ some behind → length behind ≡ 0 → length end ≡ 0
-        by-end [] behind p h = refl
-        by-end (b ∷ cs) behind p h = absurd (omega (arith, some-lines b cs behind p))
-
-    pub order-found : (n m : ℕ) → length bs < m → n ≡ m - length end → eqb n m ≡ sameSpots (spotsOf more) ss
-    order-found n m h g = same-test (λ t. order-same (eqb-true n m t)) (λ t. eq-eqb n m (omega (arith, crowded t)))
-      where
-        order-same : n ≡ m → sameSpots (spotsOf more) ss ≡ true
-        order-same p =
-            let none-left : length end ≡ 0 = omega (arith, suffix-length (values-lines ss bs vs end e .ends)) in
-            ap (λ x. sameSpots x ss) (order-spots none-left) ∙ same-spots-self ss
-
--- ---- what the readers promise
+use Rattle.table_reader.proofs.Orders.{looked-order, looked-columns, order-missed, order-values, order-spots, order-found}
 
 spots-values : (ls : List Line) → length (spotsOf ls) ≡ length (valuesOf ls)
 unfolding spotsOf valuesOf

@@ -31,7 +31,7 @@ use Rattle.text_parts.proofs.Exactly.{lengths-fit}
 use Rattle.table_reader.specs.Stored.{tableParts, columnsIn, inOrder, linesRefusal, First, Gathered}
 use Rattle.text_lines.proofs.Follow.{spots-same}
 use Rattle.text_lines.proofs.Looks.{loaded-refused}
-use Rattle.table_reader.proofs.Gathers.{joined, behind-rise, columns-flat}
+use Rattle.table_reader.proofs.Columns.{joined, behind-rise, columns-flat}
 use Rattle.table_reader.specs.Cut.{start, total, piece, cutTables}
 
 -- ---- refusals

@@ -2,12 +2,12 @@
 use protocol::Number;
 use protocol::Parts;
 use protocol::Settings;
+use text_lines::value_at;
 use text_parts::Cell;
 use text_parts::Shape;
 use text_parts::next_cell;
 use text_parts::shape_of;
 use text_parts::size_of;
-use text_lines::value_at;
 ghost use Prim.Native.Nat.{_*_, _≤_};
 ghost use lib.ListN.{length};
 ghost use Rattle.protocol.specs.Text.{shapeSize, spots};
