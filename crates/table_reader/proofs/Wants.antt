@@ -12,20 +12,24 @@ use Rattle.protocol.specs.declared.Settings.{Settings}
 use Rattle.protocol.specs.declared.Parts.{Parts}
 use Rattle.protocol.specs.Text.{Spot, settingsShape, shapes, spots, wanted}
 use Rattle.protocol.specs.Lines.{readValue, readValues}
-use Rattle.text_parts.specs.Parts.{partShape}
+use Rattle.text_parts.specs.Parts.{tableCount, partShape}
 use Rattle.table_reader.specs.Parts.{partSpots}
 use Rattle.text_parts.proofs.From.{from-cons}
 use Rattle.text_lines.proofs.Values.{prefix, prefix-nothing, prefix-prefix, values-step, values-stop}
+
+-- with the settings
+abbrev pub partCount : ℕ
+partCount = tableCount + 1
 
 module _ (S : Settings) (P : Parts) where
   unfoldable pub spotsFrom : ℕ → List Spot
   spotsFrom k = flatMap spots (drop k (shapes S P))
 
-  pub spots-from-next : (k : ℕ) → k < 7 → spotsFrom k ≡ spots (partShape S P k) ++ spotsFrom (k + 1)
+  pub spots-from-next : (k : ℕ) → k < partCount → spotsFrom k ≡ spots (partShape S P k) ++ spotsFrom (k + 1)
   unfolding spotsFrom partShape shapes flatMap
   spots-from-next k h = ap (flatMap spots) (from-cons (shapes S P) k settingsShape h)
 
-  pub spots-from-end : spotsFrom 7 ≡ []
+  pub spots-from-end : spotsFrom partCount ≡ []
   unfolding spotsFrom shapes flatMap
   spots-from-end = refl
 

@@ -5,6 +5,7 @@ use protocol::Settings;
 use text_lines::value_at;
 use text_parts::Cell;
 use text_parts::Shape;
+use text_parts::TABLES;
 use text_parts::next_cell;
 use text_parts::shape_of;
 use text_parts::size_of;
@@ -13,6 +14,9 @@ ghost use lib.ListN.{length};
 ghost use Rattle.protocol.specs.Text.{shapeSize, spots};
 ghost use Rattle.text_parts.specs.Parts.{asShape};
 ghost use Rattle.table_reader.specs.Parts.{partSpots, Took};
+
+// How many parts there are, the settings being part 0.
+const PARTS: u32 = (TABLES as u32) + 1;
 
 // Were all lines found, and the place behind them.
 pub struct Taken {
@@ -63,7 +67,7 @@ pub fn read_parts(
     let mut at = from;
     let mut start: usize = 0;
     let mut part: u32 = 1;
-    while part < 7 {
+    while part < PARTS {
         let shape = shape_of(settings, parts, part);
         let size = size_of(shape);
         if size > values.len() - start {

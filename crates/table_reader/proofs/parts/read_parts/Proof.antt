@@ -19,19 +19,19 @@ use Rattle.text_lines.proofs.Values.{prefix, prefix-nothing, prefix-prefix, val
 use Rattle.text_parts.proofs.Cells.{spots-count}
 use Rattle.table_reader.proofs.Cells.{taken-missed, taken-found, took-missed, took-done, took-place}
 use Rattle.text_lines.proofs.Follow.{values-room}
-use Rattle.table_reader.proofs.Wants.{spotsFrom, spots-from-next, spots-from-end, spots-from-one, values-then, values-never}
+use Rattle.table_reader.proofs.Wants.{partCount, spotsFrom, spots-from-next, spots-from-end, spots-from-one, values-then, values-never}
 use Rattle.text_parts.proofs.Shallow.{part-of}
 use Rattle.table_reader.proofs.parts.read_parts.Statement.{statement}
 use Rattle.table_reader.proofs.parts.read_parts.Tie as tie
 
 abbrev Inv-loop : tie.InvT-loop
 Inv-loop settings parts text from values₀ at₀ start₀ part₀ values at start part =
-    (1 ≤ part) × (part ≤ 7) × (at ≤ length text) × (start ≤ length values) × (length values ≡ length values₀)
+    (1 ≤ part) × (part ≤ partCount) × (at ≤ length text) × (start ≤ length values) × (length values ≡ length values₀)
     × (start + length (spotsFrom settings parts part) ≡ length (partSpots settings parts))
     × (readValues (partSpots settings parts) (drop from text) ≡ prefix (take start values) (readValues (spotsFrom settings parts part) (drop at text)))
 
 abbrev μ-loop : tie.MeasureT-loop
-μ-loop settings parts text from values₀ at₀ start₀ part₀ values at start part = 7 - part
+μ-loop settings parts text from values₀ at₀ start₀ part₀ values at start part = partCount - part
 
 prefix-none : (vs : List ℤ) → prefix vs none ≡ none
 unfolding prefix
@@ -182,7 +182,7 @@ returns-3 : tie.Need-returns-3 Inv-loop μ-loop
 returns-3 c =
     let l = c .before .loop in
     let a = c .before .before .before .args in
-    let end : l .part ≡ 7 = omega arith in
+    let end : l .part ≡ partCount = omega arith in
     let none-left : spotsFrom (a .settings) (a .parts) (l .part) ≡ [] = ap (spotsFrom (a .settings) (a .parts)) end ∙ spots-from-end (a .settings) (a .parts) in
     took-done (a .text .now) (a .from) (partSpots (a .settings) (a .parts)) (l .values) (l .start) (l .at) (omega (arith, l .inv .5, ap length none-left)) (l .inv .2)
     (values-done _ (take (l .start) (l .values)) (drop (l .at) (a .text .now))
