@@ -24,7 +24,7 @@ fn answer_read(
     challenges: &mut [u32],
     last: &mut [i32],
 ) {
-    let answer = reading::read(
+    let answer = table_reader::read(
         parts,
         text,
         key,
@@ -57,7 +57,7 @@ fn answer_write(
     last: &[i32],
     out: &mut [u8],
 ) {
-    let answer = writing::write(
+    let answer = table_writer::write(
         settings,
         parts,
         key,
@@ -205,7 +205,7 @@ fn verdict(number: u32, verdict: u32) {
 }
 
 fn answer_verify(text: &[u8]) {
-    let answer = verifying::verify(text);
+    let answer = verify_text::verify(text);
     match answer {
         Verified::Accepted => verdict(0, 2),
         Verified::Rejected => verdict(0, 3),

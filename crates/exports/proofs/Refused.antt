@@ -13,7 +13,7 @@ use Rattle.protocol.specs.Text.{linesOf, tablesIn}
 use Rattle.protocol.specs.Demand3.{Step}
 use Rattle.protocol.proofs.Tests.{granted-refused}
 use Rattle.sessions.specs.Promises.{moveExit}
-use Rattle.texts.specs.Promises.{readNumber}
+use Rattle.text_calls.specs.Promises.{readNumber}
 use Rattle.exports.specs.Border as Border
 use Rattle.exports.specs.Claim.{Held, State, Words, Wholes, Call, words, wholes, tables, refusal, putWords, putWholes, after, step, Gap, none, refused, Run, stop, go}
 

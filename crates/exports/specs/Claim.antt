@@ -34,8 +34,8 @@ use Rattle.protocol.specs.Calls.{foldRefusal, foldKeyExit, foldMessageExit}
 use Rattle.protocol.specs.Text.{Tables, linesOf, settingsIn, tablesIn}
 use Rattle.protocol.specs.Demand3.{Step, moves, FullTree, FoldsOf}
 use Rattle.sessions.specs.Promises.{startNumber, startExit, moveNumber, moveExit, moveVerdict, polynomialFits, roundOn, lastFits, endOn}
-use Rattle.texts.specs.Texts.{settingsNumbers}
-use Rattle.texts.specs.Promises.{lookNumber, readNumber, writeNumber}
+use Rattle.text_calls.specs.Texts.{settingsNumbers}
+use Rattle.text_calls.specs.Promises.{lookNumber, readNumber, writeNumber}
 use Rattle.exports.specs.Border as Border
 
 -- ════ the list of calls

@@ -9,9 +9,9 @@ ghost use Rattle.protocol.specs.Settings.{settingsRefusal};
 ghost use Rattle.protocol.specs.Promises.{Folded};
 ghost use Rattle.slices.specs.Slices.{given};
 ghost use Rattle.sessions.specs.Promises.{StartStored, MoveStored, polynomialFits, lastFits, roundOn, endOn};
-ghost use Rattle.shapes.specs.Parts.{six};
+ghost use Rattle.text_parts.specs.Parts.{tablesOf};
 ghost use Rattle.protocol.specs.Programs.{checked, verifyAnswer};
-ghost use Rattle.texts.specs.Promises.{Looked, ReadStored, WroteStored, Verdicts, ProvedStored};
+ghost use Rattle.text_calls.specs.Promises.{Looked, ReadStored, WroteStored, Verdicts, ProvedStored};
 ghost use Rattle.exports.specs.Promises.{CommitStored, RoundStored, EndStored, OpeningStored, CheckStored, JudgeStored, ExtractStored};
 
 // Refusals 3 to 6.
@@ -340,7 +340,7 @@ pub extern "C" fn wovenrock_extract(
 pub extern "C" fn wovenrock_look(text: &[u8], settings: &mut [u32]) -> u32
     ensures { λ r. ⌜ Looked (now (text .entry)) (now (settings .entry)) r (now (settings .exit)) ⌝ }
 {
-    texts::look(text, settings)
+    text_calls::look(text, settings)
 }
 
 // The table reader.
@@ -356,9 +356,9 @@ pub extern "C" fn wovenrock_read(
     challenges: &mut [u32],
     last: &mut [i32],
 ) -> u32
-    ensures { λ r. ⌜ ReadStored parts (now (text .entry)) (now (settings .entry)) (six (now (key .entry)) (now (message .entry)) (now (commitment .entry)) (now (rounds .entry)) (now (challenges .entry)) (now (last .entry))) r (now (settings .exit)) (six (now (key .exit)) (now (message .exit)) (now (commitment .exit)) (now (rounds .exit)) (now (challenges .exit)) (now (last .exit))) ⌝ }
+    ensures { λ r. ⌜ ReadStored parts (now (text .entry)) (now (settings .entry)) (tablesOf (now (key .entry)) (now (message .entry)) (now (commitment .entry)) (now (rounds .entry)) (now (challenges .entry)) (now (last .entry))) r (now (settings .exit)) (tablesOf (now (key .exit)) (now (message .exit)) (now (commitment .exit)) (now (rounds .exit)) (now (challenges .exit)) (now (last .exit))) ⌝ }
 {
-    texts::read(
+    text_calls::read(
         parts,
         text,
         settings,
@@ -388,7 +388,7 @@ pub extern "C" fn wovenrock_write(
     out: &mut [u8],
     count: &mut usize,
 ) -> u32
-    ensures { λ r. ⌜ WroteStored (given degree depth modulus bound) parts (six (now (key .entry)) (now (message .entry)) (now (commitment .entry)) (now (rounds .entry)) (now (challenges .entry)) (now (last .entry))) (now (out .entry)) r (now (out .exit)) (now (count .exit)) ⌝ }
+    ensures { λ r. ⌜ WroteStored (given degree depth modulus bound) parts (tablesOf (now (key .entry)) (now (message .entry)) (now (commitment .entry)) (now (rounds .entry)) (now (challenges .entry)) (now (last .entry))) (now (out .entry)) r (now (out .exit)) (now (count .exit)) ⌝ }
 {
     let s = Settings {
         degree: degree,
@@ -396,7 +396,7 @@ pub extern "C" fn wovenrock_write(
         modulus: modulus,
         bound: bound,
     };
-    texts::write(
+    text_calls::write(
         s,
         parts,
         key,
@@ -415,7 +415,7 @@ pub extern "C" fn wovenrock_write(
 pub extern "C" fn wovenrock_verify(text: &[u8], verdict: &mut u32) -> u32
     ensures { λ r. ⌜ Verdicts (checked (verifyAnswer (now (text .entry)))) r (now (verdict .exit)) ⌝ }
 {
-    texts::verify(text, verdict)
+    text_calls::verify(text, verdict)
 }
 
 // The program `prove` as a call on text.
@@ -423,5 +423,5 @@ pub extern "C" fn wovenrock_verify(text: &[u8], verdict: &mut u32) -> u32
 pub extern "C" fn wovenrock_prove(text: &[u8], out: &mut [u8], count: &mut usize) -> u32
     ensures { λ r. ⌜ ProvedStored (now (text .entry)) (now (out .entry)) r (now (out .exit)) (now (count .exit)) ⌝ }
 {
-    texts::prove(text, out, count)
+    text_calls::prove(text, out, count)
 }

@@ -10,7 +10,7 @@ fn main() {
     }
     let n = input.count;
     let mut out = [0u8; 65536];
-    let count = proving::print(&text[..n], &mut out);
+    let count = prove_text::print(&text[..n], &mut out);
     if !io::write_all(1, &out[..count]) {
         io::write_all(2, b"prove: cannot write standard output\n");
     }

@@ -10,7 +10,7 @@ fn main() {
     }
     let n = input.count;
     let mut out = [0u8; 19];
-    let count = verifying::print(&text[..n], &mut out);
+    let count = verify_text::print(&text[..n], &mut out);
     if !io::write_all(1, &out[..count]) {
         io::write_all(2, b"verify: cannot write standard output\n");
     }

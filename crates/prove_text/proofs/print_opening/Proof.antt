@@ -1,0 +1,98 @@
+-- `print_opening`: the opening refuses nothing, and of what it gives the writer refuses nothing but the length of the text.
+use mathlib.Core.Path.{_≡_, sym, ap, subst, _∙_}
+use mathlib.Core.List.{List, []}
+use Prim.Native.Nat.{ℕ, _≤_}
+use borrow.Author.Needs.{needs}
+use lib.ListN.{length, take}
+use lib.Seq.{length-take-le}
+use lib.IntN.{ℤ}
+use Rattle.protocol.specs.declared.Settings.{Settings}
+use Rattle.protocol.specs.Opening.{roundTable}
+use Rattle.protocol.specs.Transcript.{transcriptOf}
+use Rattle.protocol.specs.Programs.{printed}
+use Rattle.protocol.specs.Promises.{Wrote}
+use Rattle.claims.proofs.Honest.{opening-commitment, opening-last, opening-rounds}
+use Rattle.text_parts.specs.Parts.{tablesOf}
+use Rattle.prove_text.specs.Printed.{Openable}
+use Rattle.prove_text.proofs.Honest.{given, commitment-front, last-front, printed-by}
+use Rattle.prove_text.proofs.print_opening.Statement.{statement}
+use Rattle.prove_text.proofs.print_opening.Tie as tie
+
+-- what the opening gives
+module _ (c : tie.After-open) where
+  abbrev start : tie.Start
+  start = c .before .before .before .before .before .before .before .before
+
+  abbrev S : Settings
+  S = start .args .settings
+
+  abbrev G : List ℕ
+  G = start .args .key .now
+
+  abbrev M : List ℤ
+  M = start .args .message .now
+
+  abbrev E : List ℕ
+  E = start .args .challenges .now
+
+  abbrev R : List ℕ
+  R = start .args .rounds .now
+
+  ok : Openable S G M E R
+  ok = start .pre
+
+  commitment-given : (S .degree ≤ length (c .«open» .result .commitment)) × (take (S .degree) (c .«open» .result .commitment) ≡ transcriptOf S G M E .commitment)
+  commitment-given = commitment-front S G M E R ok _ (ap (λ r. r .commitment) (c .«open» .ensures .answer) ∙ opening-commitment (given S G M E R ok) R (ok .rounds-long))
+
+  last-given : (S .degree ≤ length (c .«open» .result .last)) × (take (S .degree) (c .«open» .result .last) ≡ transcriptOf S G M E .last)
+  last-given = last-front S G M E R ok _ (ap (λ r. r .last) (c .«open» .ensures .answer) ∙ opening-last (given S G M E R ok) R (ok .rounds-long))
+
+  rounds-given : c .«open» .last .1 .1 .1 .1 .0 ≡ roundTable S E G M
+  rounds-given = c .«open» .ensures .rounds-exit ∙ opening-rounds (given S G M E R ok) R (ok .rounds-long)
+
+array-share-prefix-commitment : tie.Need-array-share-prefix-commitment
+array-share-prefix-commitment c = commitment-given (c .before .before .before .before .before .before .before .before .before .before .before) .0
+
+slice-aggregate-write-3 : tie.Need-slice-aggregate-write-3
+slice-aggregate-write-3 c = sym (length-take-le _ _ (commitment-given (c .before .before .before .before .before .before .before .before .before .before .before .before) .0))
+
+array-share-prefix-last : tie.Need-array-share-prefix-last
+array-share-prefix-last c = last-given (c .before .before .before .before .before .before .before .before .before .before .before .before .before) .0
+
+slice-aggregate-write-4 : tie.Need-slice-aggregate-write-4
+slice-aggregate-write-4 c = sym (length-take-le _ _ (last-given (c .before .before .before .before .before .before .before .before .before .before .before .before .before .before) .0))
+
+returns : tie.Need-returns
+unfolding printed transcriptOf
+returns c =
+    let w = c .before .before in
+    let o = c .before .before .before .before .before .before .before .before .before .before .before .before .before .before .before .before .before .before in
+    let p = c .before .before .before .before .before .before .before .before .before in
+    let u = tablesOf [] [] (take (S o .degree) (o .«open» .result .commitment)) (o .«open» .last .1 .1 .1 .1 .0) (E o) (take (S o .degree) (o .«open» .result .last)) in
+    let out = start o .args .out .now in
+    let out′ = w .write .last .1 .1 .1 .1 .1 .1 .1 .1 .0 in
+    printed-by (S o) (G o) (M o) (E o) (R o) (ok o) u out (w .write .result) out′
+    (λ j. tablesOf [] [] (commitment-given o .1 j) (rounds-given o j) (E o) (last-given o .1 j))
+    (subst (λ P. Wrote (S o) P u out (w .write .result) out′) (p .prints .ensures) (w .write .ensures))
+
+pub print-opening-spec : {M : Type 1} → statement M
+print-opening-spec =
+    tie.close
+    (tie.spec
+    (λ c κs. search needs)
+    (λ c. search needs)
+    (λ c κs. search needs)
+    (λ c. search needs)
+    (λ c. search needs)
+    (λ c. search needs)
+    (λ c. search needs)
+    array-share-prefix-commitment
+    slice-aggregate-write-3
+    array-share-prefix-last
+    slice-aggregate-write-4
+    (λ c κs. search needs)
+    (λ c. search needs)
+    (λ c. search needs)
+    (λ c. search needs)
+    (λ c. search needs)
+    returns)

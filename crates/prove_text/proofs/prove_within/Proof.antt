@@ -1,0 +1,134 @@
+-- `prove_within`: the settings, and then tables of exactly the lengths that the settings ask for.
+use mathlib.Core.Path.{_≡_, sym, ap, _∙_}
+use mathlib.Core.List.{List, []}
+use Prim.Native.Nat.{ℕ, _≤_}
+use native.Mathlib.Omega.{arith}
+use borrow.Author.Needs.{needs}
+use lib.ListN.{length, take}
+use lib.Seq.{length-take-le}
+use Rattle.protocol.specs.declared.Settings.{Settings}
+use Rattle.protocol.specs.Layout.{roundCells}
+use Rattle.protocol.specs.Settings.{settingsRefusal, cells}
+use Rattle.protocol.specs.Text.{fits, linesOf, settingsIn, lookRefusal}
+use Rattle.protocol.specs.Programs.{proveReads}
+use Rattle.text_parts.specs.Parts.{tablesOf}
+use Rattle.table_reader.proofs.Rooms.{rooms}
+use Rattle.table_reader.proofs.OnText.{look-refusal}
+use Rattle.prove_text.proofs.Proves.{prove-refused, lent-fitting}
+use Rattle.text_lines.proofs.Looked.{Begun, begun}
+use Rattle.prove_text.proofs.prove_within.Statement.{statement}
+use Rattle.prove_text.proofs.prove_within.Tie as tie
+
+-- settings that are not refused
+module _ (c : tie.After-round-cells) where
+  abbrev left : tie.Else1
+  left = c .before .before .before .before
+
+  abbrev seen : tie.After-allowed-settings
+  seen = left .before
+
+  abbrev start : tie.Start
+  start = seen .before .before .before .before .before .before
+
+  abbrev S : Settings
+  S = seen .allowed-settings .result .settings
+
+  abbrev text : List ℕ
+  text = start .args .text .now
+
+  known : Begun text (seen .allowed-settings .result)
+  known = begun text (seen .allowed-settings .result) (seen .allowed-settings .ensures)
+
+  same-settings : lookRefusal text ≡ 0 → S ≡ settingsIn (linesOf text)
+  same-settings = known .settings-are
+
+  allowed : settingsRefusal S ≡ 0
+  allowed = known .allowed (left .if1 .left)
+
+  cells-is : c .before .cells .result ≡ cells S
+  cells-is = c .before .cells .ensures allowed
+
+  rounds-is : c .round-cells .result ≡ roundCells S
+  rounds-is = c .round-cells .ensures allowed
+
+  -- there is room for every table
+  key-room : c .before .cells .result ≤ length (start .args .key .now)
+  key-room = omega (arith, cells-is, rooms S allowed .table, start .pre .0)
+
+  message-room : c .before .cells .result ≤ length (start .args .message .now)
+  message-room = omega (arith, cells-is, rooms S allowed .table, start .pre .1)
+
+  challenges-room : S .depth ≤ length (start .args .challenges .now)
+  challenges-room = omega (arith, rooms S allowed .challenges, start .pre .2)
+
+  rounds-room : c .round-cells .result ≤ length (start .args .rounds .now)
+  rounds-room = omega (arith, rounds-is, rooms S allowed .rounds, start .pre .3)
+
+returns : tie.Need-returns
+returns c =
+    let l = c .before in
+    let a = l .before .before .before .before .before .before .args in
+    let r = l .allowed-settings .result in
+    prove-refused (a .text .now) (a .out .now) (r .number) (c .if1 .taken)
+    (look-refusal (a .text .now) r (begun (a .text .now) r (l .allowed-settings .ensures) .refused (c .if1 .taken)) proveReads (c .if1 .taken))
+
+slice-relend-prefix-prove-in : tie.Need-slice-relend-prefix-prove-in
+slice-relend-prefix-prove-in c = key-room c
+
+slice-aggregate-prove-in : tie.Need-slice-aggregate-prove-in
+slice-aggregate-prove-in c = sym (length-take-le _ _ (key-room (c .before)))
+
+slice-relend-prefix-prove-in-2 : tie.Need-slice-relend-prefix-prove-in-2
+slice-relend-prefix-prove-in-2 c = message-room (c .before)
+
+slice-aggregate-prove-in-2 : tie.Need-slice-aggregate-prove-in-2
+slice-aggregate-prove-in-2 c = sym (length-take-le _ _ (message-room (c .before .before)))
+
+slice-relend-prefix-prove-in-3 : tie.Need-slice-relend-prefix-prove-in-3
+slice-relend-prefix-prove-in-3 c = challenges-room (c .before .before)
+
+slice-aggregate-prove-in-3 : tie.Need-slice-aggregate-prove-in-3
+slice-aggregate-prove-in-3 c = sym (length-take-le _ _ (challenges-room (c .before .before .before)))
+
+slice-relend-prefix-prove-in-4 : tie.Need-slice-relend-prefix-prove-in-4
+slice-relend-prefix-prove-in-4 c = rounds-room (c .before .before .before)
+
+slice-aggregate-prove-in-4 : tie.Need-slice-aggregate-prove-in-4
+slice-aggregate-prove-in-4 c = sym (length-take-le _ _ (rounds-room (c .before .before .before .before)))
+
+prove-in-requires : tie.Need-prove-in-requires
+prove-in-requires c κs =
+    let k = c .before .before .before .before .before in
+    let a = start k .args in
+    let G = take (k .before .cells .result) (a .key .now) in
+    let M = take (k .before .cells .result) (a .message .now) in
+    let E = take (S k .depth) (a .challenges .now) in (
+      λ e. ap (λ x. fits x proveReads (tablesOf G M [] [] E [])) (sym (same-settings k e))
+          ∙ lent-fitting (S k) G M E (length-take-le _ _ (key-room k) ∙ cells-is k) (length-take-le _ _ (message-room k) ∙ cells-is k) (length-take-le _ _ (challenges-room k)),
+      λ e. length-take-le _ _ (rounds-room k) ∙ rounds-is k ∙ ap roundCells (same-settings k e),
+    )
+
+pub prove-within-spec : {M : Type 1} → statement M
+prove-within-spec =
+    tie.close
+    (tie.spec
+    (λ c κs. search needs)
+    returns
+    (λ c. search needs)
+    (λ c κs. search needs)
+    (λ c κs. search needs)
+    slice-relend-prefix-prove-in
+    slice-aggregate-prove-in
+    slice-relend-prefix-prove-in-2
+    slice-aggregate-prove-in-2
+    slice-relend-prefix-prove-in-3
+    slice-aggregate-prove-in-3
+    slice-relend-prefix-prove-in-4
+    slice-aggregate-prove-in-4
+    prove-in-requires
+    (λ c. search needs)
+    (λ c. search needs)
+    (λ c. search needs)
+    (λ c. search needs)
+    (λ c. search needs)
+    (λ c. search needs))

@@ -1,0 +1,174 @@
+// The program `prove` as a call on text: its settings, its tables, the whole opening, and the text of the transcript.
+use protocol::Parts;
+use protocol::SLOTS;
+use protocol::Settings;
+use protocol::TEXT_LIMIT;
+use protocol::Written;
+use text_parts::CELLS;
+use text_parts::ROUND_CELLS;
+ghost use mathlib.Core.Path.{_≡_};
+ghost use mathlib.Core.Bool.{true};
+ghost use mathlib.Core.List.{[]};
+ghost use Prim.Native.Nat.{_≤_};
+ghost use lib.ListN.{length};
+ghost use Rattle.protocol.specs.Layout.{slots, roundCells};
+ghost use Rattle.protocol.specs.Text.{fits, linesOf, settingsIn, lookRefusal};
+ghost use Rattle.protocol.specs.Programs.{proveReads, provePrints, proveOutput};
+ghost use Rattle.protocol.specs.Promises.{Proved};
+ghost use Rattle.text_parts.specs.Parts.{tablesOf, cellsRoom, roundCellsRoom};
+ghost use Rattle.table_writer.specs.Shown.{Shown, Within};
+ghost use Rattle.prove_text.specs.Printed.{Openable, Printed};
+
+// The parts that the program reads, and those that it prints.
+fn reads() -> Parts
+    ensures { λ r. ⌜ r ≡ proveReads ⌝ }
+{
+    Parts {
+        key: true,
+        message: true,
+        commitment: false,
+        round: false,
+        challenge: true,
+        last: false,
+    }
+}
+
+fn prints() -> Parts
+    ensures { λ r. ⌜ r ≡ provePrints ⌝ }
+{
+    Parts {
+        key: false,
+        message: false,
+        commitment: true,
+        round: true,
+        challenge: true,
+        last: true,
+    }
+}
+
+// The opening of tables of which nothing is refused, and its text.
+fn print_opening(
+    settings: Settings,
+    key: &mut [u32],
+    message: &mut [i32],
+    challenges: &[u32],
+    rounds: &mut [u32],
+    out: &mut [u8],
+) -> Written
+    requires { ⌜ Openable settings (now key) (now message) (now challenges) (now rounds) ⌝ }
+    ensures { λ r. ⌜ Printed settings (now (key .entry)) (now (message .entry)) (now (challenges .entry)) (now (out .entry)) r (now (out .exit)) ⌝ }
+{
+    let opened = opening::open(settings, key, message, challenges, rounds);
+    let commitment = opened.commitment;
+    let last = opened.last;
+    let degree = settings.degree as usize;
+    let no_key = [0u32; 1];
+    let no_message = [0i32; 1];
+    table_writer::write(
+        settings,
+        prints(),
+        &no_key[..0],
+        &no_message[..0],
+        &commitment[..degree],
+        rounds,
+        challenges,
+        &last[..degree],
+        out,
+    )
+}
+
+// The call with tables of exactly their lengths, where a first look refuses nothing. The tables of parts that are not read have length 0.
+fn prove_in(
+    text: &[u8],
+    key: &mut [u32],
+    message: &mut [i32],
+    challenges: &mut [u32],
+    rounds: &mut [u32],
+    out: &mut [u8],
+) -> Written
+    requires { ⌜ (lookRefusal (now text) ≡ 0 → fits (settingsIn (linesOf (now text))) proveReads (tablesOf (now key) (now message) [] [] (now challenges) []) ≡ true) ⌝ }
+    requires { ⌜ (lookRefusal (now text) ≡ 0 → length (now rounds) ≡ roundCells (settingsIn (linesOf (now text)))) ⌝ }
+    ensures { λ r. ⌜ Proved (now (text .entry)) (now (out .entry)) r (now (out .exit)) ⌝ }
+{
+    let mut no_commitment = [0u32; 1];
+    let mut no_rounds = [0u32; 1];
+    let mut no_last = [0i32; 1];
+    let loaded = table_reader::read(
+        reads(),
+        text,
+        key,
+        message,
+        &mut no_commitment[..0],
+        &mut no_rounds[..0],
+        challenges,
+        &mut no_last[..0],
+    );
+    let number = loaded.number;
+    if number != 0 {
+        return Written { number, count: 0 };
+    }
+    print_opening(loaded.settings, key, message, challenges, rounds, out)
+}
+
+// The call with tables that have room for every text: their first numbers, as many as the settings ask for, are lent.
+fn prove_within(
+    text: &[u8],
+    key: &mut [u32],
+    message: &mut [i32],
+    challenges: &mut [u32],
+    rounds: &mut [u32],
+    out: &mut [u8],
+) -> Written
+    requires { ⌜ (cellsRoom ≤ length (now key)) × (cellsRoom ≤ length (now message)) × (slots ≤ length (now challenges)) × (roundCellsRoom ≤ length (now rounds)) ⌝ }
+    ensures { λ r. ⌜ Proved (now (text .entry)) (now (out .entry)) r (now (out .exit)) ⌝ }
+{
+    let looked = text_lines::allowed_settings(text);
+    let number = looked.number;
+    if number != 0 {
+        return Written { number, count: 0 };
+    }
+    let settings = looked.settings;
+    let depth = settings.depth as usize;
+    let cells = sizes::cells(settings);
+    let round_cells = sizes::round_cells(settings);
+    prove_in(
+        text,
+        &mut key[..cells],
+        &mut message[..cells],
+        &mut challenges[..depth],
+        &mut rounds[..round_cells],
+        out,
+    )
+}
+
+pub fn prove(text: &[u8], out: &mut [u8]) -> Written
+    ensures { λ r. ⌜ Proved (now (text .entry)) (now (out .entry)) r (now (out .exit)) ⌝ }
+{
+    let mut key = [0u32; CELLS];
+    let mut message = [0i32; CELLS];
+    let mut challenges = [0u32; SLOTS];
+    let mut rounds = [0u32; ROUND_CELLS];
+    prove_within(
+        text,
+        &mut key,
+        &mut message,
+        &mut challenges,
+        &mut rounds,
+        out,
+    )
+}
+
+// What the program prints, at the front of a slice that has room for it.
+pub fn print(text: &[u8], out: &mut [u8]) -> usize
+    ensures output { λ r. ⌜ Shown (proveOutput (now (text .entry))) (now (out .entry)) r (now (out .exit)) ⌝ }
+    ensures within { λ r. ⌜ Within r (now (out .exit)) ⌝ }
+{
+    let mut listing = [0u8; TEXT_LIMIT];
+    let written = prove(text, &mut listing);
+    let number = written.number;
+    if number != 0 {
+        return table_writer::show_refusal(number, out);
+    }
+    let count = written.count;
+    table_writer::show(&listing[..count], out)
+}

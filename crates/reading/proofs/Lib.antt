@@ -1,7 +1,0 @@
-pub mod Cuts
-pub mod Refuses
-pub mod Cells
-pub mod Wants
-pub mod Gathers
-pub mod Whole
-pub mod OnText

@@ -1,0 +1,10 @@
+pub mod Cuts
+pub mod Refuses
+pub mod Cells
+pub mod Wants
+pub mod Columns
+pub mod Orders
+pub mod Gathers
+pub mod Whole
+pub mod OnText
+pub mod Rooms

@@ -1,0 +1,120 @@
+-- `all`: table after table, each from the place behind the one before it.
+use mathlib.Core.Path.{_≡_, ap, _∙_}
+use mathlib.Core.List.{List, map}
+use Prim.Native.Nat.{ℕ, _+_, _≤_}
+use native.Mathlib.Omega.{arith}
+use borrow.Author.Needs.{needs}
+use lib.ListN.{length}
+use lib.IntN.{ℤ}
+use Rattle.protocol.specs.Text.{unsigned}
+use Rattle.text_parts.specs.Parts.{tablesOf, lengthsOf}
+use Rattle.table_reader.specs.Cut.{cut, start, total, cutTables}
+use Rattle.table_reader.proofs.store.all.Statement.{statement}
+use Rattle.table_reader.proofs.store.all.Tie as tie
+
+module _ (c : tie.Start) where
+  abbrev values : List ℤ
+  values = c .args .values .now
+
+  abbrev n : List ℕ
+  n = lengthsOf (tablesOf (c .args .key .now) (c .args .message .now) (c .args .commitment .now) (c .args .rounds .now) (c .args .challenges .now) (c .args .last .now))
+
+  room : total n ≤ length values
+  room = c .pre
+
+-- the entry, from each of the calls
+at-key : tie.After-unsigned → tie.Start
+at-key c = c .before .before .before .before .before .before
+
+at-message : tie.After-signed → tie.Start
+at-message c = at-key (c .before .before .before .before)
+
+at-commitment : tie.After-unsigned2 → tie.Start
+at-commitment c = at-message (c .before .before .before)
+
+at-rounds : tie.After-unsigned3 → tie.Start
+at-rounds c = at-commitment (c .before .before .before .before)
+
+at-challenges : tie.After-unsigned4 → tie.Start
+at-challenges c = at-rounds (c .before .before .before .before)
+
+-- the place behind each table
+key-end : (c : tie.After-unsigned) → c .unsigned .result ≡ start (n (at-key c)) 1
+unfolding at-key start total lengthsOf
+key-end c = omega (arith, c .unsigned .ensures .0)
+
+message-end : (c : tie.After-signed) → c .signed .result ≡ start (n (at-message c)) 2
+unfolding at-message at-key start total lengthsOf
+message-end c = c .signed .ensures .0 ∙ ap (λ a. a + length (at-message c .args .message .now)) (key-end (c .before .before .before .before))
+
+commitment-end : (c : tie.After-unsigned2) → c .unsigned2 .result ≡ start (n (at-commitment c)) 3
+unfolding at-commitment at-message at-key start total lengthsOf
+commitment-end c = c .unsigned2 .ensures .0 ∙ ap (λ a. a + length (at-commitment c .args .commitment .now)) (message-end (c .before .before .before))
+
+rounds-end : (c : tie.After-unsigned3) → c .unsigned3 .result ≡ start (n (at-rounds c)) 4
+unfolding at-rounds at-commitment at-message at-key start total lengthsOf
+rounds-end c = c .unsigned3 .ensures .0 ∙ ap (λ a. a + length (at-rounds c .args .rounds .now)) (commitment-end (c .before .before .before .before))
+
+challenges-end : (c : tie.After-unsigned4) → c .unsigned4 .result ≡ start (n (at-challenges c)) 5
+unfolding at-challenges at-rounds at-commitment at-message at-key start total lengthsOf
+challenges-end c = c .unsigned4 .ensures .0 ∙ ap (λ a. a + length (at-challenges c .args .challenges .now)) (rounds-end (c .before .before .before .before))
+
+unsigned-requires : tie.Need-unsigned-requires
+unfolding start total lengthsOf
+unsigned-requires c κs = omega (arith, room (c .before .before .before .before .before))
+
+signed-requires : tie.Need-signed-requires
+unfolding at-key start total lengthsOf
+signed-requires c κs = let k = c .before .before .before in omega (arith, room (at-key k), key-end k)
+
+unsigned-requires-2 : tie.Need-unsigned-requires-2
+unfolding at-message at-key start total lengthsOf
+unsigned-requires-2 c κs = let m = c .before .before in omega (arith, room (at-message m), message-end m)
+
+unsigned-requires-3 : tie.Need-unsigned-requires-3
+unfolding at-commitment at-message at-key start total lengthsOf
+unsigned-requires-3 c κs = let p = c .before .before .before in omega (arith, room (at-commitment p), commitment-end p)
+
+unsigned-requires-4 : tie.Need-unsigned-requires-4
+unfolding at-rounds at-commitment at-message at-key start total lengthsOf
+unsigned-requires-4 c κs = let r = c .before .before .before in omega (arith, room (at-rounds r), rounds-end r)
+
+signed-requires-2 : tie.Need-signed-requires-2
+unfolding at-challenges at-rounds at-commitment at-message at-key start total lengthsOf
+signed-requires-2 c κs = let h = c .before .before .before in omega (arith, room (at-challenges h), challenges-end h)
+
+returns : tie.Need-returns
+unfolding at-challenges at-rounds at-commitment at-message at-key start cutTables lengthsOf
+returns c =
+    let l = c .before in
+    let h = l .before .before .before .before in
+    let r = h .before .before .before .before in
+    let p = r .before .before .before .before in
+    let m = p .before .before .before in
+    let k = m .before .before .before .before in
+    let a = at-key k .args in
+    let vs = a .values .now in
+    let message = m .signed .ensures .1 ∙ ap (λ from. cut from (length (a .message .now)) vs) (key-end k) in
+    let commitment = p .unsigned2 .ensures .1 ∙ ap (λ from. map unsigned (cut from (length (a .commitment .now)) vs)) (message-end m) in
+    let rounds = r .unsigned3 .ensures .1 ∙ ap (λ from. map unsigned (cut from (length (a .rounds .now)) vs)) (commitment-end p) in
+    let challenges = h .unsigned4 .ensures .1 ∙ ap (λ from. map unsigned (cut from (length (a .challenges .now)) vs)) (rounds-end r) in
+    let last = l .signed2 .ensures .1 ∙ ap (λ from. cut from (length (a .last .now)) vs) (challenges-end h) in
+    λ j. tablesOf (k .unsigned .ensures .1 j) (message j) (commitment j) (rounds j) (challenges j) (last j)
+
+pub all-spec : {M : Type 1} → statement M
+all-spec =
+    tie.close
+    (tie.spec
+    unsigned-requires
+    signed-requires
+    unsigned-requires-2
+    unsigned-requires-3
+    unsigned-requires-4
+    signed-requires-2
+    (λ c. search needs)
+    (λ c. search needs)
+    (λ c. search needs)
+    (λ c. search needs)
+    (λ c. search needs)
+    (λ c. search needs)
+    returns)

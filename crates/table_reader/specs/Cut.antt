@@ -1,0 +1,57 @@
+-- Values of tables that stand one after the other, as the reader gathers them.
+--
+--   cut from n vs    the n values from a place on
+--   start n k        where the table at place k begins, the tables having the lengths n
+--   total n          how many values they have
+--   piece n k vs     the values of the table at place k
+--   cutTables n vs    the tables
+--   tests S N vs     do values pass the test of refusal N
+--   passes S N k vs  do they where it tests the table at place k
+--   allPass S N n vs do the values of all tables that it tests
+use mathlib.Core.Bool.{Bool, true}
+use mathlib.Core.List.{List, map}
+use Prim.Native.Nat.{ℕ, zero, suc, _+_}
+use lib.Dec.{eqb}
+use lib.ListN.{getD, take, drop}
+use lib.IntN.{ℤ}
+use Rattle.protocol.specs.declared.Settings.{Settings}
+use Rattle.protocol.specs.Basic.{choose, every}
+use Rattle.protocol.specs.Settings.{residues, exponents, small}
+use Rattle.protocol.specs.Text.{Tables, unsigned}
+use Rattle.text_parts.specs.Parts.{tableCount, testedBy}
+
+abbrev pub cut : ℕ → ℕ → List ℤ → List ℤ
+cut from n vs = take n (drop from vs)
+
+unfoldable pub start : List ℕ → ℕ → ℕ
+start n zero = 0
+start n (suc k) = start n k + getD n k 0
+
+unfoldable pub total : List ℕ → ℕ
+total n = start n tableCount
+
+abbrev pub piece : List ℕ → ℕ → List ℤ → List ℤ
+piece n k vs = cut (start n k) (getD n k 0) vs
+
+unfoldable pub cutTables : List ℕ → List ℤ → Tables
+cutTables n vs = record {
+  key = map unsigned (piece n 0 vs);
+  message = piece n 1 vs;
+  commitment = map unsigned (piece n 2 vs);
+  rounds = map unsigned (piece n 3 vs);
+  challenges = map unsigned (piece n 4 vs);
+  last = piece n 5 vs;
+}
+
+unfoldable pub tests : Settings → ℕ → List ℤ → Bool
+tests S refusal vs =
+    choose
+    (eqb refusal 8)
+    (residues S (map unsigned vs))
+    (choose (eqb refusal 9) (small (S .bound) vs) (choose (eqb refusal 10) (exponents S (map unsigned vs)) true))
+
+unfoldable pub passes : Settings → ℕ → ℕ → List ℤ → Bool
+passes S refusal k vs = choose (eqb (testedBy k) refusal) (tests S refusal vs) true
+
+unfoldable pub allPass : Settings → ℕ → List ℕ → List ℤ → Bool
+allPass S refusal n vs = every tableCount (λ k. passes S refusal k (piece n k vs))

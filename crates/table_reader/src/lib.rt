@@ -1,0 +1,45 @@
+// The table reader: the tables of a text, in what is lent for them. Nothing is written before the whole text has passed refusals 1 to 10.
+mod entries;
+mod parts;
+mod store;
+mod values;
+
+use protocol::Loaded;
+use protocol::Parts;
+use text_parts::VALUES;
+ghost use Rattle.protocol.specs.Promises.{Read};
+ghost use Rattle.text_parts.specs.Parts.{tablesOf};
+
+// The tables of a text. A caller learns their lengths by `text_lines::read_settings`; the table of a part that is not there has length 0.
+pub fn read(
+    parts: Parts,
+    text: &[u8],
+    key: &mut [u32],
+    message: &mut [i32],
+    commitment: &mut [u32],
+    rounds: &mut [u32],
+    challenges: &mut [u32],
+    last: &mut [i32],
+) -> Loaded
+    ensures { λ r. ⌜ Read parts (now (text .entry)) (tablesOf (now (key .entry)) (now (message .entry)) (now (commitment .entry)) (now (rounds .entry)) (now (challenges .entry)) (now (last .entry))) r (tablesOf (now (key .exit)) (now (message .exit)) (now (commitment .exit)) (now (rounds .exit)) (now (challenges .exit)) (now (last .exit))) ⌝ }
+{
+    let lengths = [
+        key.len(),
+        message.len(),
+        commitment.len(),
+        rounds.len(),
+        challenges.len(),
+        last.len(),
+    ];
+    let mut values = [0i32; VALUES];
+    let loaded = values::read_values(parts, text, lengths, &mut values);
+    if loaded.number != 0 {
+        return loaded;
+    }
+    let number = entries::refusal(loaded.settings, lengths, &values);
+    if number != 0 {
+        return text_lines::refused(number);
+    }
+    store::all(&values, key, message, commitment, rounds, challenges, last);
+    loaded
+}

@@ -1,0 +1,7 @@
+pub mod Puts
+pub mod Digits
+pub mod LineTexts
+pub mod PartTexts
+pub mod WholeText
+pub mod Answers
+pub mod Shows

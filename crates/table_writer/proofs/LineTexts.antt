@@ -1,0 +1,89 @@
+-- The text of a line by its spot and its value.
+--
+--   field-most, spot-most, line-most   how long a number, a spot and a line are at most
+--   line-spot                          a line is its spot, its value and a line feed
+--   value-below, value-from            a value below zero, and one from 0 on, by the test that the code makes
+use mathlib.Core.Path.{_≡_, refl, sym, ap, _∙_}
+use mathlib.Core.Bool.{true, false, false≢true}
+use mathlib.Core.List.{List, [], _∷_, _++_, append-assoc}
+use Prim.Native.Nat.{ℕ, suc, _+_, _≤_}
+use native.Mathlib.Omega.{arith}
+use borrow.Author.Tests.{le-ltb}
+use lib.ListN.{length, length-append}
+use lib.IntN.{ℤ, pos, negsuc, natAbs}
+use lib.Signed.{ltZ}
+use mir.Syntax.{w32}
+use mir.Val.{SFits, ofZ, toZ}
+use mir.Facts.{toZ-ofZ}
+use Rattle.protocol.specs.Text.{space, lineFeed, minus, decimal, numeral, lineText}
+use Rattle.protocol.proofs.NumeralLaws.{decimal-length}
+use Rattle.text_parts.specs.declared.Cell.{Cell}
+use Rattle.table_writer.specs.Put.{field, spotText, lineAt}
+use Rattle.table_writer.proofs.Digits.{digits-most, field-length}
+
+pub field-most : (n behind : ℕ) → length (field n behind) ≤ 11
+field-most n behind = omega (arith, field-length n behind, digits-most n)
+
+pub spot-most : (part : ℕ) (c : Cell) → length (spotText part c) ≤ 33
+unfolding spotText
+spot-most part c =
+    omega (
+      arith,
+      length-append (field part space) (field (c .item) space ++ field (c .place) space),
+      length-append (field (c .item) space) (field (c .place) space),
+      field-most part space,
+      field-most (c .item) space,
+      field-most (c .place) space,
+    )
+
+numeral-most : (v : ℤ) → length (numeral v) ≤ 11
+unfolding numeral
+numeral-most (pos n) = omega (arith, decimal-length n, digits-most n)
+numeral-most (negsuc n) = omega (arith, decimal-length (suc n), digits-most (suc n))
+
+-- the value and what stands behind it
+abbrev pub ending : ℤ → List ℕ
+ending v = numeral v ++ (lineFeed ∷ [])
+
+-- a number with a space behind it, and what follows
+spaced : (n : ℕ) (rest : List ℕ) → field n space ++ rest ≡ decimal n ++ (space ∷ rest)
+unfolding field
+spaced n rest = append-assoc (decimal n) (space ∷ []) rest
+
+pub line-spot : (part : ℕ) (c : Cell) (v : ℤ) → spotText part c ++ ending v ≡ lineText (lineAt part c v)
+unfolding spotText lineText
+line-spot part c v =
+    append-assoc (field part space) (field (c .item) space ++ field (c .place) space) (ending v)
+    ∙ spaced part _
+    ∙ ap (λ t. decimal part ++ (space ∷ t))
+    (append-assoc (field (c .item) space) (field (c .place) space) (ending v) ∙ spaced (c .item) _ ∙ ap (λ t. decimal (c .item) ++ (space ∷ t)) (spaced (c .place) (ending v)))
+
+pub line-most : (part : ℕ) (c : Cell) (v : ℤ) → length (lineText (lineAt part c v)) ≤ 45
+line-most part c v =
+    omega (
+      arith,
+      ap length (line-spot part c v),
+      length-append (spotText part c) (ending v),
+      length-append (numeral v) (lineFeed ∷ []),
+      spot-most part c,
+      numeral-most v,
+    )
+
+-- ---- the value of a signed word
+
+below : (x : ℤ) → ltZ x (pos 0) ≡ true → (minus ∷ []) ++ field (natAbs x) lineFeed ≡ ending x
+unfolding numeral field
+below (pos n) t = absurd (false≢true (sym (le-ltb n 0 (omega arith)) ∙ t))
+below (negsuc n) t = refl
+
+from : (x : ℤ) → ltZ x (pos 0) ≡ false → field (natAbs x) lineFeed ≡ ending x
+unfolding numeral field
+from (pos n) t = refl
+from (negsuc n) t = absurd (false≢true (sym t))
+
+module _ (x : ℤ) (f : SFits w32 x) where
+  pub value-below : ltZ (toZ w32 (ofZ w32 x)) (pos 0) ≡ true → (minus ∷ []) ++ field (natAbs x) lineFeed ≡ ending x
+  value-below t = below x (sym (ap (λ z. ltZ z (pos 0)) (toZ-ofZ f)) ∙ t)
+
+  pub value-from : ltZ (toZ w32 (ofZ w32 x)) (pos 0) ≡ false → field (natAbs x) lineFeed ≡ ending x
+  value-from t = from x (sym (ap (λ z. ltZ z (pos 0)) (toZ-ofZ f)) ∙ t)

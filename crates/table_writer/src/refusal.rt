@@ -1,0 +1,53 @@
+// What the writer refuses before it looks at the text.
+use protocol::Parts;
+use protocol::Settings;
+use protocol::VALUE_LIMIT;
+use ranges::tests::all_below;
+use ranges::tests::all_within;
+use ranges::tests::settings_refusal;
+use refusals::refuse;
+use text_parts::fits;
+ghost use mathlib.Core.Path.{_≡_};
+ghost use Rattle.text_parts.specs.Parts.{tablesOf};
+ghost use Rattle.table_writer.specs.Tables.{tablesRefusal};
+
+// Refusals 3 to 10.
+pub fn tables_refusal(
+    settings: Settings,
+    parts: Parts,
+    key: &[u32],
+    message: &[i32],
+    commitment: &[u32],
+    rounds: &[u32],
+    challenges: &[u32],
+    last: &[i32],
+) -> u32
+    ensures { λ r. ⌜ r ≡ tablesRefusal settings parts (tablesOf (now (key .entry)) (now (message .entry)) (now (commitment .entry)) (now (rounds .entry)) (now (challenges .entry)) (now (last .entry))) ⌝ }
+{
+    let q = settings.modulus;
+    let lengths = [
+        key.len(),
+        message.len(),
+        commitment.len(),
+        rounds.len(),
+        challenges.len(),
+        last.len(),
+    ];
+    let r6 = settings_refusal(settings);
+    let r7 = refuse(r6, 7, fits(settings, parts, lengths));
+    if r7 != 0 {
+        return r7;
+    }
+    let r8 = refuse(
+        r7,
+        8,
+        all_below(q, key) & (all_below(q, commitment) & all_below(q, rounds)),
+    );
+    let r9 = refuse(
+        r8,
+        9,
+        all_within(settings.bound, message) & all_within(VALUE_LIMIT, last),
+    );
+    let limit = sizes::exponent_count(settings);
+    refuse(r9, 10, all_below(limit, challenges))
+}

@@ -1,0 +1,166 @@
+// The calls on text with numbers and slices only, for C and Rust.
+//
+// Settings go to a slice of four numbers: degree, depth, modulus, bound. Which of parts 1 to 6 are there is a number below 64: bit 0 is the key, bit 5 the
+// final element. A refused call writes nothing to a slice.
+mod settings;
+
+use protocol::Parts;
+use protocol::Settings;
+use protocol::Verdict;
+use protocol::Verified;
+ghost use mathlib.Core.Path.{_≡_};
+ghost use mathlib.Core.List.{[], _∷_};
+ghost use Rattle.text_parts.specs.Parts.{tablesOf};
+ghost use Rattle.protocol.specs.Basic.{first};
+ghost use Rattle.protocol.specs.Text.{lookRefusal};
+ghost use Rattle.protocol.specs.Programs.{checked, verifyAnswer};
+ghost use Rattle.text_calls.specs.Texts.{partsOf};
+ghost use Rattle.text_calls.specs.Promises.{Looked, ReadStored, WroteStored, Verdicts, ProvedStored};
+
+// The parts that a number names.
+fn parts_of(bits: u32) -> Parts
+    ensures { λ r. ⌜ r ≡ partsOf bits ⌝ }
+{
+    Parts {
+        key: bits % 2 == 1,
+        message: bits / 2 % 2 == 1,
+        commitment: bits / 4 % 2 == 1,
+        round: bits / 8 % 2 == 1,
+        challenge: bits / 16 % 2 == 1,
+        last: bits / 32 % 2 == 1,
+    }
+}
+
+// A first look at a text's settings.
+pub fn look(text: &[u8], settings: &mut [u32]) -> u32
+    ensures { λ r. ⌜ Looked (now (text .entry)) (now (settings .entry)) r (now (settings .exit)) ⌝ }
+{
+    let loaded = text_lines::read_settings(text);
+    if loaded.number != 0 {
+        return loaded.number;
+    }
+    if settings.len() != 4 {
+        return 7;
+    }
+    settings::store(loaded.settings, settings);
+    0
+}
+
+// The refusal of a text for which slices are lent that have not their lengths.
+fn refused(text: &[u8]) -> u32
+    ensures { λ r. ⌜ r ≡ first (lookRefusal (now (text .entry)) ∷ 7 ∷ []) ⌝ }
+{
+    let loaded = text_lines::read_settings(text);
+    if loaded.number != 0 {
+        return loaded.number;
+    }
+    7
+}
+
+// The table reader.
+pub fn read(
+    parts: u32,
+    text: &[u8],
+    settings: &mut [u32],
+    key: &mut [u32],
+    message: &mut [i32],
+    commitment: &mut [u32],
+    rounds: &mut [u32],
+    challenges: &mut [u32],
+    last: &mut [i32],
+) -> u32
+    ensures { λ r. ⌜ ReadStored parts (now (text .entry)) (now (settings .entry)) (tablesOf (now (key .entry)) (now (message .entry)) (now (commitment .entry)) (now (rounds .entry)) (now (challenges .entry)) (now (last .entry))) r (now (settings .exit)) (tablesOf (now (key .exit)) (now (message .exit)) (now (commitment .exit)) (now (rounds .exit)) (now (challenges .exit)) (now (last .exit))) ⌝ }
+{
+    if !slices::both(settings.len() == 4, parts < 64) {
+        return refused(text);
+    }
+    let there = parts_of(parts);
+    let loaded = table_reader::read(
+        there,
+        text,
+        key,
+        message,
+        commitment,
+        rounds,
+        challenges,
+        last,
+    );
+    if loaded.number != 0 {
+        return loaded.number;
+    }
+    settings::store(loaded.settings, settings);
+    0
+}
+
+// The table writer. The length of the text goes to `count`.
+pub fn write(
+    settings: Settings,
+    parts: u32,
+    key: &[u32],
+    message: &[i32],
+    commitment: &[u32],
+    rounds: &[u32],
+    challenges: &[u32],
+    last: &[i32],
+    out: &mut [u8],
+    count: &mut usize,
+) -> u32
+    ensures { λ r. ⌜ WroteStored settings parts (tablesOf (now (key .entry)) (now (message .entry)) (now (commitment .entry)) (now (rounds .entry)) (now (challenges .entry)) (now (last .entry))) (now (out .entry)) r (now (out .exit)) (now (count .exit)) ⌝ }
+{
+    let refusal = slices::refusal(settings, parts < 64);
+    if refusal != 0 {
+        *count = 0;
+        return refusal;
+    }
+    let there = parts_of(parts);
+    let written = table_writer::write(
+        settings,
+        there,
+        key,
+        message,
+        commitment,
+        rounds,
+        challenges,
+        last,
+        out,
+    );
+    *count = written.count;
+    written.number
+}
+
+// An answer of `verify` as a number and a verdict.
+fn verdict_of(verified: Verified, verdict: &mut u32) -> u32
+    ensures { λ r. ⌜ Verdicts (checked verified) r (now (verdict .exit)) ⌝ }
+{
+    match verified {
+        Verified::Accepted => {
+            *verdict = slices::verdict_number(Verdict::Accepted);
+            0
+        }
+        Verified::Rejected => {
+            *verdict = slices::verdict_number(Verdict::Rejected);
+            0
+        }
+        Verified::Refused(number) => {
+            *verdict = slices::verdict_number(Verdict::Silent);
+            number
+        }
+    }
+}
+
+// The program `verify` as a call on text.
+pub fn verify(text: &[u8], verdict: &mut u32) -> u32
+    ensures { λ r. ⌜ Verdicts (checked (verifyAnswer (now (text .entry)))) r (now (verdict .exit)) ⌝ }
+{
+    let verified = verify_text::verify(text);
+    verdict_of(verified, verdict)
+}
+
+// The program `prove` as a call on text. The length of what it writes goes to `count`.
+pub fn prove(text: &[u8], out: &mut [u8], count: &mut usize) -> u32
+    ensures { λ r. ⌜ ProvedStored (now (text .entry)) (now (out .entry)) r (now (out .exit)) (now (count .exit)) ⌝ }
+{
+    let written = prove_text::prove(text, out);
+    *count = written.count;
+    written.number
+}

@@ -1,0 +1,160 @@
+// The names line and the settings, with which every text begins.
+use crate::lines::all_lines;
+use crate::lines::value_at;
+use crate::names::begins_with_names;
+use protocol::Loaded;
+use protocol::Number;
+use protocol::Settings;
+use protocol::TEXT_LIMIT;
+use protocol::VALUE_LIMIT;
+use ranges::tests::settings_refusal;
+ghost use mathlib.Core.Path.{_≡_};
+ghost use mathlib.Core.Bool.{false};
+ghost use lib.ListN.{drop};
+ghost use Rattle.protocol.specs.Basic.{choose};
+ghost use Rattle.protocol.specs.Text.{unsigned as unsignedOf, noSettings, lookAnswer};
+ghost use Rattle.protocol.specs.Lines.{present, allLines, readSettings, begunAnswer};
+ghost use Rattle.text_lines.specs.Header.{headerAnswer};
+
+// One past the largest magnitude, which no setting, residue or exponent reaches.
+const PAST_LIMIT: u32 = VALUE_LIMIT + 1;
+
+// The settings of a text and the place behind them; `found` is false where the text does not begin with them.
+pub struct Header {
+    pub found: bool,
+    pub settings: Settings,
+    pub next: usize,
+}
+
+fn no_settings() -> Settings
+    ensures { λ r. ⌜ r ≡ noSettings ⌝ }
+{
+    Settings {
+        degree: 0,
+        depth: 0,
+        modulus: 0,
+        bound: 0,
+    }
+}
+
+fn no_header() -> Header
+    ensures { λ r. ⌜ r ≡ record { found = false; settings = noSettings; next = 0 } ⌝ }
+{
+    let settings = no_settings();
+    Header {
+        found: false,
+        settings,
+        next: 0,
+    }
+}
+
+// The answer of a refused call.
+pub fn refused(number: u32) -> Loaded
+    ensures { λ r. ⌜ r ≡ record { number = number; settings = noSettings } ⌝ }
+{
+    let settings = no_settings();
+    Loaded { number, settings }
+}
+
+// A value where a number from 0 on is wanted: one that is below zero counts as out of every range.
+pub fn unsigned(value: i32) -> u32
+    ensures { λ r. ⌜ r ≡ unsignedOf value ⌝ }
+{
+    if value < 0 {
+        return PAST_LIMIT;
+    }
+    value as u32
+}
+
+// The names line and the lines of part 0: degree, depth, modulus and bound.
+pub fn read_header(text: &[u8]) -> Header
+    ensures { λ r. ⌜ r ≡ headerAnswer (now (text .entry)) (readSettings (now (text .entry))) ⌝ }
+{
+    if !begins_with_names(text) {
+        return no_header();
+    }
+    let Number::Value {
+        value: degree,
+        next: depth_on,
+    } = value_at(text, 22, 0, 0, 0)
+    else {
+        return no_header();
+    };
+    let Number::Value {
+        value: depth,
+        next: modulus_on,
+    } = value_at(text, depth_on, 0, 0, 1)
+    else {
+        return no_header();
+    };
+    let Number::Value {
+        value: modulus,
+        next: bound_on,
+    } = value_at(text, modulus_on, 0, 0, 2)
+    else {
+        return no_header();
+    };
+    let Number::Value { value: bound, next } = value_at(text, bound_on, 0, 0, 3) else {
+        return no_header();
+    };
+    let settings = Settings {
+        degree: unsigned(degree),
+        depth: unsigned(depth),
+        modulus: unsigned(modulus),
+        bound: unsigned(bound),
+    };
+    Header {
+        found: true,
+        settings,
+        next,
+    }
+}
+
+// A refusal that stands behind 2: 2 where a line from a place on is not of the stated shape.
+pub fn or_malformed(text: &[u8], from: usize, number: u32) -> u32
+    ensures { λ r. ⌜ r ≡ choose (present (allLines (drop from (now (text .entry))))) number 2 ⌝ }
+{
+    if !all_lines(text, from) {
+        return 2;
+    }
+    number
+}
+
+// A first look at a text's settings: refusals 1 to 6.
+pub fn read_settings(text: &[u8]) -> Loaded
+    ensures { λ r. ⌜ r ≡ lookAnswer (now (text .entry)) ⌝ }
+{
+    if text.len() > TEXT_LIMIT {
+        return refused(1);
+    }
+    let header = read_header(text);
+    if !header.found {
+        return refused(2);
+    }
+    let settings = header.settings;
+    let next = header.next;
+    let number = or_malformed(text, next, settings_refusal(settings));
+    if number != 0 {
+        return refused(number);
+    }
+    Loaded {
+        number: 0,
+        settings,
+    }
+}
+
+// The settings that a text begins with, where they are allowed: a caller learns the lengths of its tables by them, and the reader tests all lines.
+// Otherwise the text is refused, and a first look says by which number; a text that does not begin with settings counts as one whose settings are all 0.
+pub fn allowed_settings(text: &[u8]) -> Loaded
+    ensures { λ r. ⌜ r ≡ begunAnswer (now (text .entry)) ⌝ }
+{
+    let header = read_header(text);
+    let settings = header.settings;
+    if settings_refusal(settings) != 0 {
+        return read_settings(text);
+    }
+    Loaded {
+        number: 0,
+        settings,
+    }
+}

@@ -1,0 +1,102 @@
+-- The parts of a text in the shape in which the code goes through their lines.
+--
+--   tablesOf              the tables of parts 1 to 6
+--   asShape b             a part as the definitions have it
+--   cellAt places p       line p of a part: its item and its place
+--   nextCell places c     the line behind a line; a line outside its item, or of the last item that there can be, stays
+--   partShape S P part    the shape of a part
+--   partOf S P part       the same, and part 0 where the depth is not allowed
+--   tableCount            6: how many parts there are behind the settings, each with a table
+--   lengthsOf t           how long the tables are; the table of part k + 1 has place k
+--   lengthsAre b n        has every table the length of its part, part k being b k
+--   lengthsFit S P n      has every table its length
+--   Exact S P t           the lengths of tables that fit
+--   testedBy k            the refusal that tests the values of the table at place k; 0 where none does
+--   valuesRoom            8,192: the room for the values of every text that is not too long
+--   cellsRoom             16,384: the room for every key and every message
+--   roundCellsRoom        1,536: the room for the round polynomials of every transcript
+use mathlib.Core.Path.{_≡_}
+use mathlib.Core.Bool.{Bool}
+use mathlib.Core.List.{List, [], _∷_}
+use Prim.Native.Nat.{ℕ, _+_, _*_, _/_, _%_}
+use lib.Dec.{leb, ltb, eqb}
+use lib.ListN.{length, getD}
+use lib.IntN.{ℤ}
+use Rattle.protocol.specs.declared.Settings.{Settings}
+use Rattle.protocol.specs.declared.Parts.{Parts}
+use Rattle.protocol.specs.Basic.{choose, every}
+use Rattle.protocol.specs.Layout.{width, slots}
+use Rattle.protocol.specs.Settings.{depthAllowed}
+use Rattle.protocol.specs.Text.{Tables, Shape, settingsShape, shapes, shapeSize}
+use Rattle.text_parts.specs.declared.Shape.{Shape as Part}
+use Rattle.text_parts.specs.declared.Cell.{Cell}
+
+abbrev pub tablesOf : List ℕ → List ℤ → List ℕ → List ℕ → List ℕ → List ℤ → Tables
+tablesOf key message commitment rounds challenges last =
+    record { key = key; message = message; commitment = commitment; rounds = rounds; challenges = challenges; last = last }
+
+abbrev pub asShape : Part → Shape
+asShape b = record { part = b .part; items = b .items; places = b .places }
+
+unfoldable pub cellAt : ℕ → ℕ → Cell
+cellAt places p = record { item = p / places; place = p % places }
+
+unfoldable pub nextCell : ℕ → Cell → Cell
+nextCell places c =
+    choose
+    (leb places (c .place))
+    c
+    (choose
+    (ltb (c .place + 1) places)
+    (record { item = c .item; place = c .place + 1 })
+    (choose (eqb (c .item) 4_294_967_295) c (record { item = c .item + 1; place = 0 })))
+
+unfoldable pub partShape : Settings → Parts → ℕ → Shape
+partShape S P part = getD (shapes S P) part settingsShape
+
+unfoldable pub partOf : Settings → Parts → ℕ → Shape
+partOf S P part = choose (depthAllowed S) (partShape S P part) settingsShape
+
+abbrev pub tableCount : ℕ
+tableCount = 6
+
+unfoldable pub lengthsOf : Tables → List ℕ
+lengthsOf t =
+    length (t .key)
+    ∷ length (t .message)
+    ∷ length (t .commitment)
+    ∷ length (t .rounds)
+    ∷ length (t .challenges)
+    ∷ length (t .last)
+    ∷ []
+
+unfoldable pub lengthsAre : (ℕ → Shape) → List ℕ → Bool
+lengthsAre b n = every tableCount (λ k. eqb (getD n k 0) (shapeSize (b (k + 1))))
+
+abbrev pub lengthsFit : Settings → Parts → List ℕ → Bool
+lengthsFit S P n = lengthsAre (partShape S P) n
+
+pub record Exact (S : Settings) (P : Parts) (t : Tables) : Type 0 where
+  pub key : length (t .key) ≡ shapeSize (partShape S P 1)
+  pub message : length (t .message) ≡ shapeSize (partShape S P 2)
+  pub commitment : length (t .commitment) ≡ shapeSize (partShape S P 3)
+  pub rounds : length (t .rounds) ≡ shapeSize (partShape S P 4)
+  pub challenges : length (t .challenges) ≡ shapeSize (partShape S P 5)
+  pub last : length (t .last) ≡ shapeSize (partShape S P 6)
+
+-- key, commitment and rounds are residues, the message is within the bound, challenges are exponents
+unfoldable pub testedBy : ℕ → ℕ
+testedBy k = getD (8 ∷ 9 ∷ 8 ∷ 8 ∷ 10 ∷ 0 ∷ []) k 0
+
+-- ---- rooms
+
+-- a line has at least eight bytes
+abbrev pub valuesRoom : ℕ
+valuesRoom = 8_192
+
+-- 2^8 elements
+abbrev pub cellsRoom : ℕ
+cellsRoom = 256 * width
+
+abbrev pub roundCellsRoom : ℕ
+roundCellsRoom = 3 * slots * width

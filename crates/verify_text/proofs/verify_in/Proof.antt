@@ -1,0 +1,86 @@
+-- `verify_in`: the reader, and then the check.
+use mathlib.Core.Path.{_≡_, subst}
+use mathlib.Core.Bool.{true}
+use mathlib.Core.List.{List, [], _∷_}
+use Prim.Native.Nat.{ℕ}
+use borrow.Author.Needs.{needs}
+use lib.ListN.{length}
+use Rattle.protocol.specs.Text.{Tables, fits, linesOf, settingsIn, lookRefusal}
+use Rattle.protocol.specs.Promises.{Read}
+use Rattle.protocol.specs.Programs.{verifyReads, transcriptIn, tablesAccepted}
+use Rattle.text_parts.specs.Parts.{tablesOf, lengthsOf}
+use Rattle.verify_text.proofs.Checks.{given-bare}
+use Rattle.verify_text.proofs.Verifies.{verify-refused, verify-given, verify-done}
+use Rattle.verify_text.proofs.verify_in.Statement.{statement}
+use Rattle.verify_text.proofs.verify_in.Tie as tie
+
+module _ (c : tie.After-read) where
+  abbrev start : tie.Start
+  start = c .before .before .before .before .before .before .before .before .before .before .before .before .before
+
+  abbrev text : List ℕ
+  text = start .args .text .now
+
+  abbrev t : Tables
+  t = tablesOf (start .args .key .now) (start .args .message .now) (start .args .commitment .now) (start .args .rounds .now) (start .args .challenges .now) (start .args .last .now)
+
+  abbrev t′ : Tables
+  t′ = tablesOf (c .read .last .1 .1 .0) (c .read .last .1 .1 .1 .0) (c .read .last .1 .1 .1 .1 .0) (c .read .last .1 .1 .1 .1 .1 .0) (c .read .last .1 .1 .1 .1 .1 .1 .0) (c .read .last .1 .1 .1 .1 .1 .1 .1 .0)
+
+  fit : lookRefusal text ≡ 0 → fits (settingsIn (linesOf text)) verifyReads t ≡ true
+  fit = start .pre
+
+  promise : Read verifyReads text t (c .read .result) t′
+  promise = subst (λ P. Read P text t (c .read .result) t′) (c .before .before .before .before .before .before .before .reads .ensures) (c .read .ensures)
+
+lengths : (c : tie.After-last) → let r = c .before .before .before .before .before .before .before .before .before .before in lengthsOf (t′ r) ≡ lengthsOf (t r)
+unfolding lengthsOf
+lengths c =
+    let r = c .before .before .before .before .before .before .before .before .before .before in
+    let a = start r .args in
+    let key : length (t′ r .key) ≡ length (a .key .now) = search needs in
+    let message : length (t′ r .message) ≡ length (a .message .now) = search needs in
+    let commitment : length (t′ r .commitment) ≡ length (a .commitment .now) = search needs in
+    let rounds : length (t′ r .rounds) ≡ length (a .rounds .now) = search needs in
+    let challenges : length (t′ r .challenges) ≡ length (a .challenges .now) = search needs in
+    let last : length (t′ r .last) ≡ length (a .last .now) = search needs in
+    λ j. key j ∷ message j ∷ commitment j ∷ rounds j ∷ challenges j ∷ last j ∷ []
+
+returns : tie.Need-returns
+returns c = let r = c .before .before .before .before .before .before .before .before .before .before .before .before in verify-refused (text r) (t r) (t′ r) (fit r) (r .read .result) (promise r) (c .if1 .taken)
+
+answer-requires : tie.Need-answer-requires
+answer-requires c κs =
+    let e = c .before .before .before .before .before in
+    let l = e .before .before in
+    let r = l .before .before .before .before .before .before .before .before .before .before in
+    given-bare _ _ (verify-given (text r) (t r) (t′ r) (fit r) (r .read .result) (promise r) (e .if1 .left) (lengths l))
+
+returns-2 : tie.Need-returns-2
+unfolding tablesAccepted transcriptIn
+returns-2 c =
+    let e = c .before .before .before .before .before .before in
+    let r = e .before .before .before .before .before .before .before .before .before .before .before .before in
+    verify-done (text r) (t r) (t′ r) (fit r) (r .read .result) (promise r) (e .if1 .left) (c .answer .result) (c .answer .ensures)
+
+pub verify-in-spec : {M : Type 1} → statement M
+verify-in-spec =
+    tie.close
+    (tie.spec
+    (λ c κs. search needs)
+    (λ c κs. search needs)
+    (λ c. search needs)
+    (λ c. search needs)
+    (λ c. search needs)
+    (λ c. search needs)
+    (λ c. search needs)
+    (λ c. search needs)
+    returns
+    answer-requires
+    (λ c. search needs)
+    (λ c. search needs)
+    (λ c. search needs)
+    (λ c. search needs)
+    (λ c. search needs)
+    (λ c. search needs)
+    returns-2)

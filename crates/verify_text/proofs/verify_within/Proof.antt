@@ -1,0 +1,152 @@
+-- `verify_within`: the settings, and then tables of exactly the lengths that the settings ask for.
+use mathlib.Core.Path.{_≡_, sym, ap, _∙_}
+use mathlib.Core.List.{List, []}
+use Prim.Native.Nat.{ℕ, _≤_}
+use native.Mathlib.Omega.{arith}
+use borrow.Author.Needs.{needs}
+use lib.ListN.{length, take}
+use lib.Seq.{length-take-le}
+use Rattle.protocol.specs.declared.Settings.{Settings}
+use Rattle.protocol.specs.Layout.{roundCells}
+use Rattle.protocol.specs.Settings.{settingsRefusal, cells}
+use Rattle.protocol.specs.Text.{Tables, fits}
+use Rattle.protocol.specs.Programs.{verifyReads}
+use Rattle.text_parts.specs.Parts.{tablesOf}
+use Rattle.verify_text.proofs.Checks.{Long}
+use Rattle.verify_text.proofs.Verifies.{verify-stops, lent-fitting}
+use Rattle.table_reader.proofs.Rooms.{rooms}
+use Rattle.text_lines.proofs.Looked.{Begun, begun}
+use Rattle.verify_text.proofs.verify_within.Statement.{statement}
+use Rattle.verify_text.proofs.verify_within.Tie as tie
+
+-- settings that are not refused
+module _ (c : tie.After-round-cells) where
+  abbrev left : tie.Else1
+  left = c .before .before .before .before .before
+
+  abbrev seen : tie.After-allowed-settings
+  seen = left .before .before
+
+  abbrev start : tie.Start
+  start = seen .before .before .before .before .before .before
+
+  abbrev S : Settings
+  S = seen .allowed-settings .result .settings
+
+  abbrev text : List ℕ
+  text = start .args .text .now
+
+  known : Begun text (seen .allowed-settings .result)
+  known = begun text (seen .allowed-settings .result) (seen .allowed-settings .ensures)
+
+  allowed : settingsRefusal S ≡ 0
+  allowed = known .allowed (left .if1 .left)
+
+  cells-is : c .before .cells .result ≡ cells S
+  cells-is = c .before .cells .ensures allowed
+
+  rounds-is : c .round-cells .result ≡ roundCells S
+  rounds-is = c .round-cells .ensures allowed
+
+  -- there is room for every table
+  key-room : c .before .cells .result ≤ length (start .args .key .now)
+  key-room = omega (arith, cells-is, rooms S allowed .table, start .pre .0)
+
+  commitment-room : S .degree ≤ length (start .args .commitment .now)
+  commitment-room = omega (arith, rooms S allowed .element, start .pre .1)
+
+  rounds-room : c .round-cells .result ≤ length (start .args .rounds .now)
+  rounds-room = omega (arith, rounds-is, rooms S allowed .rounds, start .pre .2)
+
+  challenges-room : S .depth ≤ length (start .args .challenges .now)
+  challenges-room = omega (arith, rooms S allowed .challenges, start .pre .3)
+
+  last-room : S .degree ≤ length (start .args .last .now)
+  last-room = omega (arith, rooms S allowed .element, start .pre .4)
+
+  abbrev t : Tables
+  t = tablesOf (take (c .before .cells .result) (start .args .key .now)) [] (take (S .degree) (start .args .commitment .now)) (take (c .round-cells .result) (start .args .rounds .now))
+      (take (S .depth) (start .args .challenges .now)) (take (S .degree) (start .args .last .now))
+
+  long : Long S t
+  long = record {
+    key = length-take-le _ _ key-room ∙ cells-is;
+    message = λ _. 0;
+    commitment = length-take-le _ _ commitment-room;
+    rounds = length-take-le _ _ rounds-room ∙ rounds-is;
+    challenges = length-take-le _ _ challenges-room;
+    last = length-take-le _ _ last-room;
+  }
+
+returns : tie.Need-returns
+returns c =
+    let l = c .before .before in
+    let t = l .before .before .before .before .before .before .args .text .now in
+    let r = l .allowed-settings .result in
+    verify-stops t r (begun t r (l .allowed-settings .ensures) .refused (c .if1 .taken)) (c .if1 .taken)
+
+slice-relend-prefix-verify-in : tie.Need-slice-relend-prefix-verify-in
+slice-relend-prefix-verify-in c = key-room c
+
+slice-aggregate-verify-in : tie.Need-slice-aggregate-verify-in
+slice-aggregate-verify-in c = sym (length-take-le _ _ (key-room (c .before)))
+
+slice-relend-prefix-verify-in-3 : tie.Need-slice-relend-prefix-verify-in-3
+slice-relend-prefix-verify-in-3 c = commitment-room (c .before .before)
+
+slice-aggregate-verify-in-3 : tie.Need-slice-aggregate-verify-in-3
+slice-aggregate-verify-in-3 c = sym (length-take-le _ _ (commitment-room (c .before .before .before)))
+
+slice-relend-prefix-verify-in-4 : tie.Need-slice-relend-prefix-verify-in-4
+slice-relend-prefix-verify-in-4 c = rounds-room (c .before .before .before)
+
+slice-aggregate-verify-in-4 : tie.Need-slice-aggregate-verify-in-4
+slice-aggregate-verify-in-4 c = sym (length-take-le _ _ (rounds-room (c .before .before .before .before)))
+
+slice-relend-prefix-verify-in-5 : tie.Need-slice-relend-prefix-verify-in-5
+slice-relend-prefix-verify-in-5 c = challenges-room (c .before .before .before .before)
+
+slice-aggregate-verify-in-5 : tie.Need-slice-aggregate-verify-in-5
+slice-aggregate-verify-in-5 c = sym (length-take-le _ _ (challenges-room (c .before .before .before .before .before)))
+
+slice-relend-prefix-verify-in-6 : tie.Need-slice-relend-prefix-verify-in-6
+slice-relend-prefix-verify-in-6 c = last-room (c .before .before .before .before .before)
+
+slice-aggregate-verify-in-6 : tie.Need-slice-aggregate-verify-in-6
+slice-aggregate-verify-in-6 c = sym (length-take-le _ _ (last-room (c .before .before .before .before .before .before)))
+
+verify-in-requires : tie.Need-verify-in-requires
+verify-in-requires c κs =
+    let k = c .before .before .before .before .before .before in
+    λ e. ap (λ x. fits x verifyReads (t k)) (sym (known k .settings-are e)) ∙ lent-fitting (S k) (t k) (long k)
+
+pub verify-within-spec : {M : Type 1} → statement M
+verify-within-spec =
+    tie.close
+    (tie.spec
+    (λ c κs. search needs)
+    returns
+    (λ c. search needs)
+    (λ c. search needs)
+    (λ c κs. search needs)
+    (λ c κs. search needs)
+    slice-relend-prefix-verify-in
+    slice-aggregate-verify-in
+    (λ c. search needs)
+    (λ c. search needs)
+    slice-relend-prefix-verify-in-3
+    slice-aggregate-verify-in-3
+    slice-relend-prefix-verify-in-4
+    slice-aggregate-verify-in-4
+    slice-relend-prefix-verify-in-5
+    slice-aggregate-verify-in-5
+    slice-relend-prefix-verify-in-6
+    slice-aggregate-verify-in-6
+    verify-in-requires
+    (λ c. search needs)
+    (λ c. search needs)
+    (λ c. search needs)
+    (λ c. search needs)
+    (λ c. search needs)
+    (λ c. search needs)
+    (λ c. search needs))

@@ -1,0 +1,161 @@
+// The program `verify` as a call on text: its settings, its tables, and the check of its transcript.
+use protocol::Parts;
+use protocol::SLOTS;
+use protocol::Settings;
+use protocol::Verdict;
+use protocol::Verified;
+use protocol::WIDTH;
+use residues::elements;
+use text_parts::CELLS;
+use text_parts::ROUND_CELLS;
+ghost use mathlib.Core.Path.{_≡_};
+ghost use mathlib.Core.Bool.{true};
+ghost use mathlib.Core.List.{[]};
+ghost use Prim.Native.Nat.{_≤_};
+ghost use lib.ListN.{length};
+ghost use Rattle.protocol.specs.Basic.{choose};
+ghost use Rattle.protocol.specs.Layout.{width, slots};
+ghost use Rattle.protocol.specs.Text.{fits, linesOf, settingsIn, lookRefusal};
+ghost use Rattle.protocol.specs.Programs.{verifyReads, tablesAccepted, verifyAnswer, checked, verifyGives, verdictLine, verifyOutput};
+ghost use Rattle.text_parts.specs.Parts.{tablesOf, cellsRoom, roundCellsRoom};
+ghost use Rattle.table_writer.specs.Shown.{Shown, Within};
+ghost use Rattle.verify_text.specs.Given.{Given};
+
+// The parts that the program reads.
+fn reads() -> Parts
+    ensures { λ r. ⌜ r ≡ verifyReads ⌝ }
+{
+    Parts {
+        key: true,
+        message: false,
+        commitment: true,
+        round: true,
+        challenge: true,
+        last: true,
+    }
+}
+
+// The answer for tables of which nothing is refused.
+fn answer(
+    settings: Settings,
+    key: &[u32],
+    commitment: &[u32],
+    rounds: &[u32],
+    challenges: &[u32],
+    last: &[i32],
+) -> Verified
+    requires { ⌜ Given settings (tablesOf (now key) [] (now commitment) (now rounds) (now challenges) (now last)) ⌝ }
+    ensures { λ r. ⌜ r ≡ choose (tablesAccepted settings (tablesOf (now (key .entry)) [] (now (commitment .entry)) (now (rounds .entry)) (now (challenges .entry)) (now (last .entry)))) Verified.Accepted Verified.Rejected ⌝ }
+{
+    let c = elements::element_at(settings.degree, commitment, 0);
+    let f = elements::signed_element_at(settings.degree, last, 0);
+    let checked = verification::check(settings, c, f, key, rounds, challenges);
+    let verdict = checked.verdict;
+    match verdict {
+        Verdict::Accepted => Verified::Accepted,
+        _ => Verified::Rejected,
+    }
+}
+
+// The call with tables of exactly their lengths, where a first look refuses nothing.
+fn verify_in(
+    text: &[u8],
+    key: &mut [u32],
+    message: &mut [i32],
+    commitment: &mut [u32],
+    rounds: &mut [u32],
+    challenges: &mut [u32],
+    last: &mut [i32],
+) -> Verified
+    requires { ⌜ (lookRefusal (now text) ≡ 0 → fits (settingsIn (linesOf (now text))) verifyReads (tablesOf (now key) (now message) (now commitment) (now rounds) (now challenges) (now last)) ≡ true) ⌝ }
+    ensures { λ r. ⌜ r ≡ verifyAnswer (now (text .entry)) ⌝ }
+{
+    let loaded = table_reader::read(
+        reads(),
+        text,
+        key,
+        message,
+        commitment,
+        rounds,
+        challenges,
+        last,
+    );
+    if loaded.number != 0 {
+        return Verified::Refused(loaded.number);
+    }
+    answer(loaded.settings, key, commitment, rounds, challenges, last)
+}
+
+// The call with tables that have room for every text: their first numbers, as many as the settings ask for, are lent.
+fn verify_within(
+    text: &[u8],
+    key: &mut [u32],
+    message: &mut [i32],
+    commitment: &mut [u32],
+    rounds: &mut [u32],
+    challenges: &mut [u32],
+    last: &mut [i32],
+) -> Verified
+    requires { ⌜ (cellsRoom ≤ length (now key)) × (width ≤ length (now commitment)) × (roundCellsRoom ≤ length (now rounds)) × (slots ≤ length (now challenges)) × (width ≤ length (now last)) ⌝ }
+    ensures { λ r. ⌜ r ≡ verifyAnswer (now (text .entry)) ⌝ }
+{
+    let looked = text_lines::allowed_settings(text);
+    if looked.number != 0 {
+        return Verified::Refused(looked.number);
+    }
+    let settings = looked.settings;
+    let degree = settings.degree as usize;
+    let depth = settings.depth as usize;
+    let cells = sizes::cells(settings);
+    let round_cells = sizes::round_cells(settings);
+    verify_in(
+        text,
+        &mut key[..cells],
+        &mut message[..0],
+        &mut commitment[..degree],
+        &mut rounds[..round_cells],
+        &mut challenges[..depth],
+        &mut last[..degree],
+    )
+}
+
+// The call: the answer, and the same as number and verdict.
+pub fn verify(text: &[u8]) -> Verified
+    ensures answer { λ r. ⌜ r ≡ verifyAnswer (now (text .entry)) ⌝ }
+    ensures numbers { λ r. ⌜ checked r ≡ verifyGives (now (text .entry)) ⌝ }
+{
+    let mut key = [0u32; CELLS];
+    let mut message = [0i32; 1];
+    let mut commitment = [0u32; WIDTH];
+    let mut rounds = [0u32; ROUND_CELLS];
+    let mut challenges = [0u32; SLOTS];
+    let mut last = [0i32; WIDTH];
+    verify_within(
+        text,
+        &mut key,
+        &mut message,
+        &mut commitment,
+        &mut rounds,
+        &mut challenges,
+        &mut last,
+    )
+}
+
+// The line for an answer.
+fn show_verdict(answer: Verified, out: &mut [u8]) -> usize
+    ensures { λ r. ⌜ Shown (verdictLine answer) (now (out .entry)) r (now (out .exit)) ⌝ }
+{
+    match answer {
+        Verified::Accepted => table_writer::show(b"accepted\n", out),
+        Verified::Rejected => table_writer::show(b"rejected\n", out),
+        Verified::Refused(number) => table_writer::show_refusal(number, out),
+    }
+}
+
+// What the program prints, at the front of a slice that has room for it. A line has at most 19 bytes.
+pub fn print(text: &[u8], out: &mut [u8]) -> usize
+    ensures output { λ r. ⌜ Shown (verifyOutput (now (text .entry))) (now (out .entry)) r (now (out .exit)) ⌝ }
+    ensures within { λ r. ⌜ Within r (now (out .exit)) ⌝ }
+{
+    show_verdict(verify(text), out)
+}

@@ -1,8 +1,0 @@
-pub mod Puts
-pub mod Digits
-pub mod LineTexts
-pub mod PartTexts
-pub mod WholeText
-pub mod Entries
-pub mod Answers
-pub mod Shows
