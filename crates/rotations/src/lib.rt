@@ -5,13 +5,10 @@ use protocol::Residue;
 use residues::signed_sum;
 ghost use mathlib.Core.Path.{_≡_};
 ghost use Prim.Native.Nat.{_+_, _*_, _-_, _<_, _≤_};
-ghost use lib.IntN.{pos, _+ℤ_};
-ghost use lib.ListN.{length, getD};
+ghost use lib.ListN.{length};
 ghost use Rattle.protocol.specs.Basic.{Provided};
-ghost use Rattle.protocol.specs.Element.{modulo, residue};
 ghost use Rattle.residues.specs.Lists.{spliced};
-ghost use Rattle.residues.specs.Residues.{signed};
-ghost use Rattle.rotations.specs.Values.{Addable, Summands, Turnable, Valuable, plusTurned, valueAt};
+ghost use Rattle.rotations.specs.Values.{Addable, RowAdded, Turnable, Valued, plusTurned};
 
 // Where the first of the two rows ends that X^e·a is made of.
 fn row_start(d: usize, e: usize) -> usize
@@ -35,7 +32,7 @@ fn accumulate_row(
     to: usize,
 )
     requires { ⌜ (from + n ≤ length (now a)) × (to + n ≤ length (now out)) ⌝ }
-    ensures { λ _. ⌜ Provided (Summands q n from (now (a .entry)) to (now (out .entry))) (now (out .exit) ≡ spliced (λ k. modulo q (pos (getD (now (out .entry)) (to + k) 0) +ℤ signed negative (pos (getD (now (a .entry)) (from + k) 0)))) to n (now (out .entry))) ⌝ }
+    ensures { λ _. ⌜ RowAdded q n negative (now (a .entry)) from (now (out .entry)) to (now (out .exit)) ⌝ }
 {
     for k in 0..n {
         let y = out[to + k];
@@ -93,7 +90,7 @@ pub fn value(
     c2: &[Residue],
     out: &mut [Residue],
 )
-    ensures { λ _. ⌜ Provided (Valuable q d (now (c0 .entry)) (now (c1 .entry)) (now (c2 .entry)) (now (out .entry))) (now (out .exit) ≡ spliced (valueAt q d e (residue (now (c0 .entry))) (residue (now (c1 .entry))) (residue (now (c2 .entry)))) 0 d (now (out .entry))) ⌝ }
+    ensures { λ _. ⌜ Valued q d e (now (c0 .entry)) (now (c1 .entry)) (now (c2 .entry)) (now (out .entry)) (now (out .exit)) ⌝ }
 {
     let n = d as usize;
     let once = residues::on_circle(n, e as usize);

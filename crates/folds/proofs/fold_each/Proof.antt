@@ -58,7 +58,8 @@ slice-aggregate-accumulate-turned c = sym (front-long (c .before .before .before
 
 add-accumulate-turned : tie.Need-add-accumulate-turned Inv-loop μ-loop
 add-accumulate-turned c =
-    omega (arith, half-small (c .before .before .before .before .before .before .before .before .before .before .before .before .before), inside (c .before .before .before .before .before .before .before .before))
+    let i = c .before .before .before .before .before .before .before .before in
+    omega (arith, half-small (i .before .before .before .before .before), inside i)
 
 loop-again : tie.Need-loop-again Inv-loop μ-loop
 loop-again c =
@@ -67,7 +68,10 @@ loop-again c =
     let once = c .before .before .before .before .before .before .before .before .before .before .before .before .before .on-circle in
     let copied = c .before .before .before .before .before .before .before .store in
     let added = c .before .before .accumulate-turned in
-    let row = copied .ensures (record { there = omega (arith, tail-length (a .second + l .j * a .d) (l .t), inside (c .before .before .before .before .before .before .before .before .before .before .before)); room = omega arith }) in (
+    let row = copied .ensures (record {
+      there = omega (arith, tail-length (a .second + l .j * a .d) (l .t), inside (c .before .before .before .before .before .before .before .before .before .before .before));
+      room = omega arith;
+    }) in (
       omega arith,
       (λ s. row-turn (a .q) (a .d) (a .h) (a .e) (a .to) (a .second) (a .t .now) (omega arith) (omega arith) (omega arith) (l .t) (l .j) (l .inv .1 s) (omega arith)
           _ (l .x) (omega arith) row (once .result) (once .ensures .0 (omega arith, omega arith)) _

@@ -20,16 +20,20 @@ returns c = λ f.
     let d : (0 < a .d) × (a .d ≤ width) = (f .degree, f .degree-most) in
     let once = o .on-circle .ensures .0 d in
     let twice = w .on-circle2 .ensures .0 d in
-    let copied = c .before .before .before .before .before .before .before .before .before .before .store .ensures (record { there = omega (arith, f .coefficients .first .long); room = omega (arith, f .room) }) in
+    let copied = c .before .before .before .before .before .before .before .before .before .before .store .ensures
+    (record { there = omega (arith, f .coefficients .first .long); room = omega (arith, f .room) }) in
     let first = c .before .before .before .before .before .before .accumulate-turned .ensures (record {
       exponent = omega (arith, once, mod-lt (a .e) {m = 2 * a .d} (omega arith));
-      summands = first-summands (a .q) (a .d) (a .e) (f .degree) (a .c0 .now) (a .c1 .now) (a .c2 .now) (a .out .now) _ (a .out .now) (f .coefficients) (o .on-circle .result) (w .on-circle2 .result) (f .room) once twice copied;
+      summands = first-summands (a .q) (a .d) (a .e) (f .degree) (a .c0 .now) (a .c1 .now) (a .c2 .now) (a .out .now) _ (a .out .now) (f .coefficients)
+          (o .on-circle .result) (w .on-circle2 .result) (f .room) once twice copied;
     }) in
     c .before .before .accumulate-turned2 .ensures (record {
       exponent = omega (arith, twice, mod-lt (o .on-circle .result + o .on-circle .result) {m = 2 * a .d} (omega arith));
-      summands = second-summands (a .q) (a .d) (a .e) (f .degree) (a .c0 .now) (a .c1 .now) (a .c2 .now) (a .out .now) _ _ (f .coefficients) (o .on-circle .result) (w .on-circle2 .result) (f .room) once twice copied first;
+      summands = second-summands (a .q) (a .d) (a .e) (f .degree) (a .c0 .now) (a .c1 .now) (a .c2 .now) (a .out .now) _ _ (f .coefficients)
+          (o .on-circle .result) (w .on-circle2 .result) (f .room) once twice copied first;
     })
-    ∙ value-done (a .q) (a .d) (a .e) (f .degree) (a .c0 .now) (a .c1 .now) (a .c2 .now) (a .out .now) _ _ (f .coefficients) (o .on-circle .result) (w .on-circle2 .result) (f .room) once twice copied first
+    ∙ value-done (a .q) (a .d) (a .e) (f .degree) (a .c0 .now) (a .c1 .now) (a .c2 .now) (a .out .now) _ _ (f .coefficients)
+    (o .on-circle .result) (w .on-circle2 .result) (f .room) once twice copied first
 
 pub value-spec : {M : Type 1} → statement M
 value-spec =

@@ -29,7 +29,8 @@ returns-3 c = λ h.
     let there = c .before .before .before .before .if3 in
     let less : there .there ≤ a .d = ⊎-elim (λ w. omega arith) (λ w. omega arith) (there .came) in
     let all : there .there < a .d → length (a .t .now) ≤ a .i * a .d + there .there = λ l. ⊎-elim (λ w. omega arith) (λ w. omega arith) (there .came) in
-    let room : there .there ≤ length (take (length (a .t .now) - a .i * a .d) (drop (a .i * a .d) (a .t .now))) = ⊎-elim (λ w. omega (arith, tail-length (a .i * a .d) (a .t .now))) (λ w. omega (arith, tail-length (a .i * a .d) (a .t .now))) (there .came) in
+    let room : there .there ≤ length (take (length (a .t .now) - a .i * a .d) (drop (a .i * a .d) (a .t .now))) =
+    ⊎-elim (λ w. omega (arith, tail-length (a .i * a .d) (a .t .now))) (λ w. omega (arith, tail-length (a .i * a .d) (a .t .now))) (there .came) in
     c .before .store-signed .ensures (record { there = room; room = omega arith })
     ∙ signed-part (a .d) (there .there) (a .i * a .d) less h (a .t .now) all
 

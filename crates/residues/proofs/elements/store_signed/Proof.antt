@@ -28,7 +28,9 @@ loop-holds : tie.Need-loop-holds Inv-loop μ-loop
 loop-holds c = (omega arith, omega arith, omega arith, filled-none _ _, refl)
 
 loop-again : tie.Need-loop-again Inv-loop μ-loop
-loop-again c = let l = c .before .before .loop in (omega arith, omega arith, omega arith, filled-turn _ (l .k) _ (l .inv .3) (through-bits w32 _ (c .out .given)) (omega arith), simp length-set (omega arith))
+loop-again c =
+    let l = c .before .before .loop in
+    (omega arith, omega arith, omega arith, filled-turn _ (l .k) _ (l .inv .3) (through-bits w32 _ (c .out .given)) (omega arith), simp length-set (omega arith))
 
 returns-3 : tie.Need-returns-3 Inv-loop μ-loop
 returns-3 c = λ _. filled-end _ _ (c .before .loop .inv .3) (omega arith)
