@@ -1,46 +1,28 @@
--- The check of tables of which nothing is refused.
+-- Tables of which nothing is refused, as the check of a transcript asks for them.
 --
---   Long, long        the lengths of the tables that `verify` reads
---   given-bare        there is no message among them
---   check-granted     the check refuses nothing
---   check-verdict     and says whether the tables are accepted
---   says-..           the answer of `verify` by what the check says
-use mathlib.Core.Path.{_≡_, refl, ap, subst, _∙_}
-use mathlib.Core.Bool.{Bool, true, false}
+--   Long, long          the lengths of the tables that `verify` reads
+--   given-bare          there is no message among them
+--   transcript-given    what the check asks for
+use mathlib.Core.Path.{_≡_, refl, subst, _∙_}
+use mathlib.Core.Bool.{true}
 use mathlib.Core.List.{List, [], _∷_}
-use Prim.Native.Nat.{ℕ, _+_, _*_, _<_}
 use native.Mathlib.Nat as Nat
 use native.Mathlib.Omega.{arith}
 use borrow.Author.Tests.{eq-eqb}
-use lib.Dec.{ltb}
-use lib.IntN.{ℤ, pos}
-use lib.ListN.{length, getD, List·getD-append}
+use lib.IntN.{ℤ}
+use lib.ListN.{length}
 use Rattle.protocol.specs.declared.Settings.{Settings}
-use Rattle.protocol.specs.declared.Checked.{Checked}
-use Rattle.protocol.specs.declared.Verdict.{Verdict}
-use Rattle.protocol.specs.declared.Verdict.the-variants as verdicts
-use Rattle.protocol.specs.declared.Verified.{Verified}
-use Rattle.protocol.specs.declared.Verified.the-variants.{Accepted, Rejected}
-use Rattle.protocol.specs.Basic.{tabulate, choose}
-use Rattle.protocol.specs.Element.{signed, signedAt, coefficients, paddedSigned}
+use Rattle.protocol.specs.Basic.{choose}
 use Rattle.protocol.specs.Layout.{roundCells}
-use Rattle.protocol.specs.Settings.{cells, sized, residues, residueElement, exponents}
+use Rattle.protocol.specs.Settings.{cells, sized, residues}
 use Rattle.protocol.specs.Text.{Tables, shape, shapes, shapeSize, entriesRefusal}
-use Rattle.protocol.specs.Transcript.{accepted}
-use Rattle.protocol.specs.Session.{verdict}
-use Rattle.protocol.specs.Calls.{checkRefusal, checkAnswer}
-use Rattle.protocol.specs.Programs.{verifyReads, transcriptIn, tablesAccepted}
-use Rattle.protocol.proofs.Tests.{and-split, and-intro, every-intro, all-at, first-zero, zero-first, first-nothing, unless-zero, zero-unless, granted-zero}
-use Rattle.protocol.proofs.Inputs.{settings-valid}
-use Rattle.protocol.proofs.Reading.{tabulate-length, tabulate-at}
-use Rattle.protocol.proofs.Agreement.{Same}
-use Rattle.residues.specs.Elements.{elementAt}
-use Rattle.residues.proofs.Padding.{padded-at}
-use Rattle.sizes.proofs.Limits.{degree-least}
+use Rattle.protocol.specs.Programs.{verifyReads}
+use Rattle.protocol.proofs.Tests.{and-split, first-zero, unless-zero}
+use Rattle.protocol.proofs.Inputs.{tested-below}
 use Rattle.text_parts.specs.Parts.{partShape}
 use Rattle.text_parts.proofs.Exactly.{fits-exact}
+use Rattle.verification.specs.Given.{TranscriptGiven}
 use Rattle.verify_text.specs.Given.{Given}
-use Rattle.verify_text.proofs.Alike.{accepted-alike}
 
 pub record Long (S : Settings) (t : Tables) : Type 0 where
   pub key : length (t .key) ≡ cells S
@@ -51,30 +33,28 @@ pub record Long (S : Settings) (t : Tables) : Type 0 where
   pub last : length (t .last) ≡ S .degree
 
 module _ (S : Settings) (t : Tables) (g : Given S t) where
-  abbrev d : ℕ
-  d = S .degree
-
-  abbrev C : List ℕ
-  C = elementAt d (t .commitment) 0
-
-  abbrev f : List ℤ
-  f = paddedSigned d (coefficients d (signedAt d (t .last) 0))
-
   pub long : Long S t
   unfolding partShape shapes shape shapeSize choose verifyReads cells
   long =
       let e = fits-exact S verifyReads t (g .fitting) in
       record {
         key = e .key;
-        message = e .message ∙ Nat.zero-mul d;
-        commitment = e .commitment ∙ Nat.one-mul d;
+        message = e .message ∙ Nat.zero-mul (S .degree);
+        commitment = e .commitment ∙ Nat.one-mul (S .degree);
         rounds = e .rounds;
         challenges = e .challenges ∙ Nat.mul-one (S .depth);
-        last = e .last ∙ Nat.one-mul d;
+        last = e .last ∙ Nat.one-mul (S .degree);
       }
 
   pub given-bare : Given S (record { key = t .key; message = []; commitment = t .commitment; rounds = t .rounds; challenges = t .challenges; last = t .last })
-  given-bare = subst (Given S) (λ j. record { key = t .key; message = nothing (t .message) (long .message) j; commitment = t .commitment; rounds = t .rounds; challenges = t .challenges; last = t .last }) g
+  given-bare = subst (Given S) (λ j. record {
+    key = t .key;
+    message = nothing (t .message) (long .message) j;
+    commitment = t .commitment;
+    rounds = t .rounds;
+    challenges = t .challenges;
+    last = t .last;
+  }) g
     where
       nothing : (l : List ℤ) → length l ≡ 0 → l ≡ []
       nothing [] e = refl
@@ -84,53 +64,12 @@ module _ (S : Settings) (t : Tables) (g : Given S t) where
   unfolding entriesRefusal
   all-residues = let (k, r) = and-split (unless-zero 7 _ (first-zero _ _ (g .entries) .0)) in (k, and-split r)
 
-  all-exponents : exponents S (t .challenges) ≡ true
-  unfolding entriesRefusal
-  all-exponents = unless-zero 9 _ (first-zero _ _ (first-zero _ _ (first-zero _ _ (g .entries) .1) .1) .0)
-
-  -- the first d places of elements that are passed by value
-  commitment-at : (k : ℕ) → k < d → getD C k 0 ≡ getD (t .commitment) k 0
-  unfolding elementAt
-  commitment-at k l = padded-at d (λ j. getD (t .commitment) (0 * d + j) 0) k l ∙ ap (λ n. getD (t .commitment) n 0) {y = k} (omega (arith, Nat.zero-mul d))
-
-  last-at : Same d (signed f) (signed (t .last))
-  unfolding signed paddedSigned coefficients signedAt
-  last-at k l =
-      List·getD-append (tabulate d (λ j. getD (t .last) (0 * d + j) (pos 0))) _ (pos 0) k (omega (arith, tabulate-length d (λ j. getD (t .last) (0 * d + j) (pos 0))))
-      ∙ tabulate-at d (λ j. getD (t .last) (0 * d + j) (pos 0)) (pos 0) k l
-      ∙ ap (λ n. getD (t .last) n (pos 0)) {y = k} (omega (arith, Nat.zero-mul d))
-
-  commitment-residue : residueElement S C ≡ true
-  unfolding residueElement residues
-  commitment-residue = every-intro (λ k l.
-      ap (λ x. ltb x (S .modulus)) (commitment-at k l) ∙ all-at (λ x. ltb x (S .modulus)) (t .commitment) 0 (all-residues .1 .0) k (omega (arith, long .commitment)))
-
-  check-granted : checkRefusal S C (t .key) (t .rounds) (t .challenges) ≡ 0
-  unfolding checkRefusal sized
-  check-granted =
-      zero-first _ _ (g .settings)
-      (zero-first _ _ (zero-unless 7 _ (and-intro (and-intro (eq-eqb _ _ (long .key)) (eq-eqb _ _ (long .rounds))) (eq-eqb _ _ (long .challenges))))
-      (zero-first _ _ (zero-unless 8 _ (and-intro (and-intro (all-residues .0) commitment-residue) (all-residues .1 .1)))
-      (zero-first _ _ (zero-unless 10 _ all-exponents) first-nothing)))
-
-  transcript-accepted : accepted S (t .key) (record { commitment = C; rounds = t .rounds; challenges = t .challenges; last = f }) ≡ tablesAccepted S t
-  unfolding tablesAccepted transcriptIn
-  transcript-accepted =
-      accepted-alike S (omega (arith, degree-least S (settings-valid S (g .settings)))) (t .key) (t .rounds) (t .challenges) C (t .commitment) f (t .last) commitment-at last-at
-
-  pub check-verdict : (c : List ℕ) (h : List ℤ) (r : Checked) → c ≡ C → h ≡ f → r ≡ checkAnswer S c h (t .key) (t .rounds) (t .challenges) → r .verdict ≡ verdict (tablesAccepted S t)
-  unfolding checkAnswer
-  check-verdict c h r c-is h-is r-is =
-      ap (λ x. x .verdict) r-is ∙ (λ j. checkAnswer S (c-is j) (h-is j) (t .key) (t .rounds) (t .challenges) .verdict) ∙ granted-zero _ _ _ check-granted ∙ ap verdict transcript-accepted
-
--- ---- the answer
-
-pub says-accepted : (b : Bool) (v : Verdict) → v ≡ verdict b → v ≡ verdicts.Accepted → _≡_ {A = Verified} Accepted (choose b Accepted Rejected)
-unfolding verdict choose
-says-accepted true v e h = refl
-says-accepted false v e h = let z : _≡_ {A = ℕ} 0 1 = cc in absurd (omega arith)
-
-pub says-rejected : (b : Bool) (v : Verdict) → v ≡ verdict b → (v ≡ verdicts.Accepted → ⊥) → _≡_ {A = Verified} Rejected (choose b Accepted Rejected)
-unfolding verdict choose
-says-rejected true v e h = absurd (h e)
-says-rejected false v e h = refl
+  pub transcript-given : TranscriptGiven S (length (t .last)) (t .key) (t .rounds) (t .challenges)
+  unfolding residues sized
+  transcript-given = record {
+    allowed = g .settings;
+    key-below = tested-below (S .modulus) _ (t .key) (eq-eqb _ _ (long .key)) (all-residues .0);
+    rounds-below = tested-below (S .modulus) _ (t .rounds) (eq-eqb _ _ (long .rounds)) (all-residues .1 .1);
+    challenges-long = long .challenges;
+    final-long = omega (arith, long .last);
+  }

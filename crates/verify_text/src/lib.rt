@@ -2,10 +2,8 @@
 use protocol::Parts;
 use protocol::SLOTS;
 use protocol::Settings;
-use protocol::Verdict;
 use protocol::Verified;
 use protocol::WIDTH;
-use residues::elements;
 use text_parts::CELLS;
 use text_parts::ROUND_CELLS;
 ghost use mathlib.Core.Path.{_≡_};
@@ -47,14 +45,10 @@ fn answer(
     requires { ⌜ Given settings (tablesOf (now key) [] (now commitment) (now rounds) (now challenges) (now last)) ⌝ }
     ensures { λ r. ⌜ r ≡ choose (tablesAccepted settings (tablesOf (now (key .entry)) [] (now (commitment .entry)) (now (rounds .entry)) (now (challenges .entry)) (now (last .entry)))) Verified.Accepted Verified.Rejected ⌝ }
 {
-    let c = elements::element_at(settings.degree, commitment, 0);
-    let f = elements::signed_element_at(settings.degree, last, 0);
-    let checked = verification::check(settings, c, f, key, rounds, challenges);
-    let verdict = checked.verdict;
-    match verdict {
-        Verdict::Accepted => Verified::Accepted,
-        _ => Verified::Rejected,
+    if !verification::accepted(settings, commitment, last, key, rounds, challenges) {
+        return Verified::Rejected;
     }
+    Verified::Accepted
 }
 
 // The call with tables of exactly their lengths, where a first look refuses nothing.
