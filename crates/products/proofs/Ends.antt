@@ -97,7 +97,8 @@ module _ (q : ℕ) (p : 0 < q) where
         where
           by-rest : a < q → (b : Bool) → eqb ((s + (offset q + c * (q - a)) % 2 ^ 64) % 2 ^ 64 % q) 0 ≡ b → b ≡ eqb (c * a % q) (modulo q z)
           by-rest l true t = sym (eq-eqb _ _ (sym (same-residue (modulo q z) (c * a) (c * (q - a)) (sym whole ∙ eqb-true _ _ t) (all-divided l)) ∙ residue-again z))
-          by-rest l false t = sym (ne-eqb _ _ (λ e. eqb-false _ _ t (whole ∙ Nat.add-mod (modulo q z) (c * (q - a)) q ∙ ap (λ x. (x + c * (q - a) % q) % q) (residue-again z ∙ sym e) ∙ sym (Nat.add-mod (c * a) (c * (q - a)) q) ∙ all-divided l)))
+          by-rest l false t = sym (ne-eqb _ _ (λ e. eqb-false _ _ t (whole
+              ∙ Nat.add-mod (modulo q z) (c * (q - a)) q ∙ ap (λ x. (x + c * (q - a) % q) % q) (residue-again z ∙ sym e) ∙ sym (Nat.add-mod (c * a) (c * (q - a)) q) ∙ all-divided l)))
 
           by-size : (b : Bool) → ltb a q ≡ b → (b && eqb ((s + (offset q + c * (q - a)) % 2 ^ 64) % 2 ^ 64 % q) 0) ≡ (b && eqb (c * a % q) (modulo q z))
           by-size true t = by-rest (ltb-true a q t) _ refl

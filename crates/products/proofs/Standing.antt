@@ -54,7 +54,8 @@ Wide g = (j : ℕ) → getD g j 0 < 2 ^ 32
 
 -- what adding one product does to a sum
 abbrev Adds : ℕ → ℕ → (List ℤ → List ℕ → List ℕ → List ℕ) → Type 0
-Adds q d add = (f : List ℤ) (g s : List ℕ) (k : ℕ) (z : ℤ) (m : ℕ) → k < d → Small d f → Wide g → Sum q z m (getD s k 0) → Sum q (z +ℤ product d (signed f) (residue g) k) (m + d) (getD (add f g s) k 0)
+Adds q d add = (f : List ℤ) (g s : List ℕ) (k : ℕ) (z : ℤ) (m : ℕ) → k < d → Small d f → Wide g
+    → Sum q z m (getD s k 0) → Sum q (z +ℤ product d (signed f) (residue g) k) (m + d) (getD (add f g s) k 0)
 
 pub rows-add : (q d : ℕ) → 0 < q → q ≤ 2 ^ 32 → 0 < d → Adds q d (addProduct q d)
 unfolding modulo

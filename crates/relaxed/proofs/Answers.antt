@@ -26,7 +26,8 @@ use Rattle.relaxed.specs.Digits.{Vector}
 pub growth-exact : (S : Settings) → settingsRefusal S ≡ 0 → growthAllowed S ≡ true → cappedGrowth S ≡ growth S
 unfolding cappedGrowth growthAllowed growth growthFactor
 growth-exact S e t =
-    power-exact growthLimit (growthFactor (S .degree)) (Nat.mul-pos (omega arith) (Nat.one-le-pow 2 (S .degree) (omega (arith, degree-least S (settings-valid S e))))) (S .bound) (S .depth) (leb-true _ _ t)
+    power-exact growthLimit (growthFactor (S .degree)) (Nat.mul-pos (omega arith) (Nat.one-le-pow 2 (S .degree) (omega (arith, degree-least S (settings-valid S e)))))
+    (S .bound) (S .depth) (leb-true _ _ t)
 
 -- what is known of inputs that are not refused
 pub record JudgeGiven (S : Settings) (key : List ℕ) (w : List ℤ) : Type 0 where
@@ -37,7 +38,12 @@ pub record JudgeGiven (S : Settings) (key : List ℕ) (w : List ℤ) : Type 0 wh
 
 pub given-vector : (S : Settings) (key : List ℕ) (w : List ℤ) → JudgeGiven S key w → Vector S key w
 unfolding growthAllowed
-given-vector S key w g = record { allowed = g .allowed; key-long = g .key-long; long = g .w-long; few = growth-cells S (settings-valid S (g .allowed)) (leb-true _ _ (g .limited)) }
+given-vector S key w g = record {
+  allowed = g .allowed;
+  key-long = g .key-long;
+  long = g .w-long;
+  few = growth-cells S (settings-valid S (g .allowed)) (leb-true _ _ (g .limited));
+}
 
 module _ (S : Settings) (C : List ℕ) (c : ℕ) (key : List ℕ) (w : List ℤ) where
   pub judge-given : judgeRefusal S C c key w ≡ 0 → JudgeGiven S key w

@@ -53,7 +53,14 @@ module _ (S : Settings) (key : List ℕ) (w : List ℤ) (v : Vector S key w) whe
     digit-at p l = ap (λ x. getD x p (pos 0)) e ∙ filled-at _ (length w) (signedZeros 1024) (pos 0) p l
 
     room : length w ≤ length t
-    room = omega (arith, v .few, v .long, ap length e, signed-zeros-length 1024, filled-length (λ p. pos (digit q base (getD w p (pos 0)))) (length w) (signedZeros 1024) (omega (arith, v .few, v .long, signed-zeros-length 1024)))
+    room = omega (
+      arith,
+      v .few,
+      v .long,
+      ap length e,
+      signed-zeros-length 1024,
+      filled-length (λ p. pos (digit q base (getD w p (pos 0)))) (length w) (signedZeros 1024) (omega (arith, v .few, v .long, signed-zeros-length 1024)),
+    )
 
     pub digits-summable : (n : ℕ) → n ≡ size S → Summable q d n t key
     digits-summable n is-n = subst (λ m. Summable q d m t key) (sym is-n) (record {

@@ -29,7 +29,8 @@ loop-again c =
     let cell : ℕ → ℕ = λ i. word (pos (getD (a .sums .now) i 0) +ℤ product (a .d) (signed (a .f .now)) (residue (a .g .now)) i) in (
       omega arith,
       filled-turn cell (l .k) (a .sums .now) (l .inv .1)
-          (c .column .ensures ∙ ap (λ n. word (pos n +ℤ product (a .d) (signed (a .f .now)) (residue (a .g .now)) (l .k))) (ap (λ s. getD s (l .k) 0) (l .inv .1) ∙ filled-behind cell (l .k) (a .sums .now) 0 (l .k) (Nat.le-refl (l .k))))
+          (c .column .ensures ∙ ap (λ n. word (pos n +ℤ product (a .d) (signed (a .f .now)) (residue (a .g .now)) (l .k)))
+          (ap (λ s. getD s (l .k) 0) (l .inv .1) ∙ filled-behind cell (l .k) (a .sums .now) 0 (l .k) (Nat.le-refl (l .k))))
           (omega arith),
       simp length-set (omega arith),
     )

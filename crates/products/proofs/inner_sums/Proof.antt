@@ -21,7 +21,8 @@ returns c = λ small.
     let t = c .before .before .before in
     let s = t .before .before in
     let a = s .args in
-    columns-stand (a .q) (a .d) (a .n) (s .pre .modulus) (a .f .now) (a .g .now) (λ j. omega (arith, t .before .shared-slice-known .given j)) small _ 4 (t .if1 .taken) (c .before .add-by-columns .ensures)
+    columns-stand (a .q) (a .d) (a .n) (s .pre .modulus) (a .f .now) (a .g .now) (λ j. omega (arith, t .before .shared-slice-known .given j))
+    small _ 4 (t .if1 .taken) (c .before .add-by-columns .ensures)
 
 returns-2 : tie.Need-returns-2
 unfolding zeros
@@ -29,7 +30,8 @@ returns-2 c = λ small.
     let k = c .before .before .before .before in
     let s = k .before in
     let a = s .args in
-    rows-stand (a .q) (a .d) (a .n) (s .pre .modulus) (a .f .now) (a .g .now) (λ j. omega (arith, k .shared-slice-known .given j)) small _ (omega arith) (s .pre .degree) (c .before .add-by-rows .ensures)
+    rows-stand (a .q) (a .d) (a .n) (s .pre .modulus) (a .f .now) (a .g .now) (λ j. omega (arith, k .shared-slice-known .given j))
+    small _ (omega arith) (s .pre .degree) (c .before .add-by-rows .ensures)
 
 pub inner-sums-spec : {M : Type 1} → statement M
 inner-sums-spec = tie.close (tie.spec (λ c. search needs) add-by-columns-requires returns (λ c. search needs) (λ c κs. search needs) returns-2)

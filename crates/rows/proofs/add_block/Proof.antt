@@ -25,25 +25,44 @@ size0 : (c : tie.After-magnitude) → let a = c .before .before .before .before 
 size0 c = let a = c .before .before .before .before .before .before .before .args in size (getD (a .f .now) (a .j) (pos 0)) (c .before .before .before .before .c0 .given) (c .magnitude .ensures)
 
 begin0 : (c : tie.After-row-start) → let a = c .before .before .before .before .before .before .before .before .args in c .row-start .result ≡ start (a .d) (getD (a .f .now) (a .j) (pos 0)) (a .j)
-begin0 c = let a = c .before .before .before .before .before .before .before .before .args in begin (getD (a .f .now) (a .j) (pos 0)) (c .before .before .before .before .before .c0 .given) (a .d) (a .j) (c .row-start .ensures)
+begin0 c =
+    let a = c .before .before .before .before .before .before .before .before .args in
+    begin (getD (a .f .now) (a .j) (pos 0)) (c .before .before .before .before .before .c0 .given) (a .d) (a .j) (c .row-start .ensures)
 
 size1 : (c : tie.After-magnitude2) → let a = c .before .before .before .before .before .before .before .before .before .args in c .magnitude2 .result ≡ natAbs (getD (a .f .now) (a .j + 1) (pos 0))
-size1 c = let a = c .before .before .before .before .before .before .before .before .before .args in size (getD (a .f .now) (a .j + 1) (pos 0)) (c .before .before .before .before .before .c1 .given) (c .magnitude2 .ensures)
+size1 c =
+    let a = c .before .before .before .before .before .before .before .before .before .args in
+    size (getD (a .f .now) (a .j + 1) (pos 0)) (c .before .before .before .before .before .c1 .given) (c .magnitude2 .ensures)
 
-begin1 : (c : tie.After-row-start2) → let a = c .before .before .before .before .before .before .before .before .before .before .args in c .row-start2 .result ≡ start (a .d) (getD (a .f .now) (a .j + 1) (pos 0)) (a .j + 1)
-begin1 c = let a = c .before .before .before .before .before .before .before .before .before .before .args in begin (getD (a .f .now) (a .j + 1) (pos 0)) (c .before .before .before .before .before .before .c1 .given) (a .d) (a .j + 1) (c .row-start2 .ensures)
+begin1 : (c : tie.After-row-start2) → let a = c .before .before .before .before .before .before .before .before .before .before .args in
+    c .row-start2 .result ≡ start (a .d) (getD (a .f .now) (a .j + 1) (pos 0)) (a .j + 1)
+begin1 c =
+    let a = c .before .before .before .before .before .before .before .before .before .before .args in
+    begin (getD (a .f .now) (a .j + 1) (pos 0)) (c .before .before .before .before .before .before .c1 .given) (a .d) (a .j + 1) (c .row-start2 .ensures)
 
-size2 : (c : tie.After-magnitude3) → let a = c .before .before .before .before .before .before .before .before .before .before .before .args in c .magnitude3 .result ≡ natAbs (getD (a .f .now) (a .j + 2) (pos 0))
-size2 c = let a = c .before .before .before .before .before .before .before .before .before .before .before .args in size (getD (a .f .now) (a .j + 2) (pos 0)) (c .before .before .before .before .before .before .c2 .given) (c .magnitude3 .ensures)
+size2 : (c : tie.After-magnitude3) → let a = c .before .before .before .before .before .before .before .before .before .before .before .args in
+    c .magnitude3 .result ≡ natAbs (getD (a .f .now) (a .j + 2) (pos 0))
+size2 c =
+    let a = c .before .before .before .before .before .before .before .before .before .before .before .args in
+    size (getD (a .f .now) (a .j + 2) (pos 0)) (c .before .before .before .before .before .before .c2 .given) (c .magnitude3 .ensures)
 
-begin2 : (c : tie.After-row-start3) → let a = c .before .before .before .before .before .before .before .before .before .before .before .before .args in c .row-start3 .result ≡ start (a .d) (getD (a .f .now) (a .j + 2) (pos 0)) (a .j + 2)
-begin2 c = let a = c .before .before .before .before .before .before .before .before .before .before .before .before .args in begin (getD (a .f .now) (a .j + 2) (pos 0)) (c .before .before .before .before .before .before .before .c2 .given) (a .d) (a .j + 2) (c .row-start3 .ensures)
+begin2 : (c : tie.After-row-start3) → let a = c .before .before .before .before .before .before .before .before .before .before .before .before .args in
+    c .row-start3 .result ≡ start (a .d) (getD (a .f .now) (a .j + 2) (pos 0)) (a .j + 2)
+begin2 c =
+    let a = c .before .before .before .before .before .before .before .before .before .before .before .before .args in
+    begin (getD (a .f .now) (a .j + 2) (pos 0)) (c .before .before .before .before .before .before .before .c2 .given) (a .d) (a .j + 2) (c .row-start3 .ensures)
 
-size3 : (c : tie.After-magnitude4) → let a = c .before .before .before .before .before .before .before .before .before .before .before .before .before .args in c .magnitude4 .result ≡ natAbs (getD (a .f .now) (a .j + 3) (pos 0))
-size3 c = let a = c .before .before .before .before .before .before .before .before .before .before .before .before .before .args in size (getD (a .f .now) (a .j + 3) (pos 0)) (c .before .before .before .before .before .before .before .c3 .given) (c .magnitude4 .ensures)
+size3 : (c : tie.After-magnitude4) → let a = c .before .before .before .before .before .before .before .before .before .before .before .before .before .args in
+    c .magnitude4 .result ≡ natAbs (getD (a .f .now) (a .j + 3) (pos 0))
+size3 c =
+    let a = c .before .before .before .before .before .before .before .before .before .before .before .before .before .args in
+    size (getD (a .f .now) (a .j + 3) (pos 0)) (c .before .before .before .before .before .before .before .c3 .given) (c .magnitude4 .ensures)
 
-begin3 : (c : tie.After-row-start4) → let a = c .before .before .before .before .before .before .before .before .before .before .before .before .before .before .args in c .row-start4 .result ≡ start (a .d) (getD (a .f .now) (a .j + 3) (pos 0)) (a .j + 3)
-begin3 c = let a = c .before .before .before .before .before .before .before .before .before .before .before .before .before .before .args in begin (getD (a .f .now) (a .j + 3) (pos 0)) (c .before .before .before .before .before .before .before .before .c3 .given) (a .d) (a .j + 3) (c .row-start4 .ensures)
+begin3 : (c : tie.After-row-start4) → let a = c .before .before .before .before .before .before .before .before .before .before .before .before .before .before .args in
+    c .row-start4 .result ≡ start (a .d) (getD (a .f .now) (a .j + 3) (pos 0)) (a .j + 3)
+begin3 c =
+    let a = c .before .before .before .before .before .before .before .before .before .before .before .before .before .before .args in
+    begin (getD (a .f .now) (a .j + 3) (pos 0)) (c .before .before .before .before .before .before .before .before .c3 .given) (a .d) (a .j + 3) (c .row-start4 .ensures)
 
 add-four-requires : tie.Need-add-four-requires
 add-four-requires c κs =
@@ -64,7 +83,8 @@ returns c =
     ∙ λ i. addRow (a .d) (size3 (c .before .before .before .before .before) i) (begin3 (c .before .before .before .before) i) x
     (addRow (a .d) (size2 (c .before .before .before .before .before .before .before) i) (begin2 (c .before .before .before .before .before .before) i) x
     (addRow (a .d) (size1 (c .before .before .before .before .before .before .before .before .before) i) (begin1 (c .before .before .before .before .before .before .before .before) i) x
-    (addRow (a .d) (size0 (c .before .before .before .before .before .before .before .before .before .before .before) i) (begin0 (c .before .before .before .before .before .before .before .before .before .before) i) x (a .sums .now))))
+    (addRow (a .d) (size0 (c .before .before .before .before .before .before .before .before .before .before .before) i)
+    (begin0 (c .before .before .before .before .before .before .before .before .before .before) i) x (a .sums .now))))
 
 pub add-block-spec : {M : Type 1} → statement M
 add-block-spec =

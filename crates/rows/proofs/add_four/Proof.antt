@@ -25,7 +25,8 @@ loop-again c =
     let a = c .before .before .before .before .before .before .before .before .before .before .before .before .before .args in (
       omega arith,
       four-turn (a .m0) (a .at0) (a .m1) (a .at1) (a .m2) (a .at2) (a .m3) (a .at3) (narrowed (a .x .now)) (a .sums .now) (l .sums) (l .k) _ _ _ _ (l .inv .1) (omega arith)
-          (c .before .before .before .before .before .before .plus-scaled .ensures) (c .before .before .before .before .plus-scaled2 .ensures) (c .before .before .plus-scaled3 .ensures) (c .plus-scaled4 .ensures),
+          (c .before .before .before .before .before .before .plus-scaled .ensures) (c .before .before .before .before .plus-scaled2 .ensures)
+          (c .before .before .plus-scaled3 .ensures) (c .plus-scaled4 .ensures),
       simp length-set (omega arith),
     )
 

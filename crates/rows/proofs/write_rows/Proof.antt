@@ -35,7 +35,8 @@ loop-again c =
     let next : ThreeRows (turned (a .q) (a .d) (a .a .now)) (a .d) (l .k + 1) (a .y .now) _ =
     three-turn _ (a .d) (l .k) (a .y .now) (l .y) (l .inv .1) small (omega arith) _ _ _
     (c .before .before .before .wide .ensures ∙ place-first (a .q) (a .d) (omega arith) (omega arith) (a .a .now) (l .k) (r .result) small (r .ensures))
-    (c .before .wide2 .ensures ∙ c .before .before .negated .ensures (omega (arith, r .ensures, mod-lt (getD (a .a .now) (l .k) 0) {m = a .q} (omega arith))) ∙ place-second (a .q) (a .d) (omega arith) (omega arith) (a .a .now) (l .k) (r .result) small (r .ensures))
+    (c .before .wide2 .ensures ∙ c .before .before .negated .ensures (omega (arith, r .ensures, mod-lt (getD (a .a .now) (l .k) 0) {m = a .q} (omega arith)))
+    ∙ place-second (a .q) (a .d) (omega arith) (omega arith) (a .a .now) (l .k) (r .result) small (r .ensures))
     (c .wide3 .ensures ∙ place-third (a .q) (a .d) (omega arith) (omega arith) (a .a .now) (l .k) (r .result) small (r .ensures))
     in
     (omega arith, next, next .same)
@@ -44,7 +45,8 @@ returns : tie.Need-returns Inv-loop μ-loop
 returns c =
     let a = c .before .before .before .before .args in
     let l = c .before .loop in
-    three-done (turned (a .q) (a .d) (a .a .now)) (a .d) (a .y .now) (l .y) (subst (λ n. ThreeRows (turned (a .q) (a .d) (a .a .now)) (a .d) n (a .y .now) (l .y)) (omega arith) (l .inv .1)) (omega arith)
+    three-done (turned (a .q) (a .d) (a .a .now)) (a .d) (a .y .now) (l .y)
+    (subst (λ n. ThreeRows (turned (a .q) (a .d) (a .a .now)) (a .d) n (a .y .now) (l .y)) (omega arith) (l .inv .1)) (omega arith)
 
 pub write-rows-spec : {M : Type 1} → statement M
 write-rows-spec =

@@ -13,7 +13,10 @@ count : (c : tie.After-left) → c .left .result ≡ size (c .before .before .ar
 count c = let s = c .before .before in c .left .ensures (record { allowed = s .pre .allowed; most = omega arith }) ∙ left-none (s .args .settings)
 
 split-requires : tie.Need-split-requires
-split-requires c κs = let s = c .before .before .before .before in let a = s .args in (modulus-some (a .settings) (a .key .now) (a .w .now) (s .pre), omega (arith, s .pre .few, s .pre .long), omega (arith, s .pre .few, s .pre .long))
+split-requires c κs =
+    let s = c .before .before .before .before in
+    let a = s .args in
+    (modulus-some (a .settings) (a .key .now) (a .w .now) (s .pre), omega (arith, s .pre .few, s .pre .long), omega (arith, s .pre .few, s .pre .long))
 
 joined-elements-requires : tie.Need-joined-elements-requires
 joined-elements-requires c κs =

@@ -61,7 +61,8 @@ scaled-is-requires c κs = let g = c .before .before .before .before .before in 
 returns : tie.Need-returns Inv-loop μ-loop
 returns c =
     let g = c .before .before .before .before .before .before .before in let a = g .args in let l = c .before .before .before .loop in
-    every-fails (same (a .settings .modulus) (a .c) (a .t2) (c .before .before .before .before .before .combination .result)) (a .settings .degree) (l .k) (omega arith) (sym (c .before .scaled-is .ensures) ∙ not-true _ (c .if1 .taken))
+    every-fails (same (a .settings .modulus) (a .c) (a .t2) (c .before .before .before .before .before .combination .result)) (a .settings .degree) (l .k) (omega arith)
+    (sym (c .before .scaled-is .ensures) ∙ not-true _ (c .if1 .taken))
     ∙ same-is (a .settings) (a .key .now) (a .t2) (a .c) (a .w .now) _ (c .before .before .before .before .before .combination .ensures)
 
 loop-again : tie.Need-loop-again Inv-loop μ-loop

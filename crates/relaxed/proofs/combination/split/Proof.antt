@@ -14,7 +14,9 @@ use Rattle.relaxed.proofs.combination.split.Statement.{statement}
 use Rattle.relaxed.proofs.combination.split.Tie as tie
 
 abbrev Inv-loop : tie.InvT-loop
-Inv-loop q w low₀ high₀ p₀ p-end low high p = (p ≤ length w) × (low ≡ filled (λ (j : ℕ). pos (digit q 1 (getD w j (pos 0)))) p low₀) × (high ≡ filled (λ (j : ℕ). pos (digit q 65536 (getD w j (pos 0)))) p high₀) × (length low ≡ length low₀) × (length high ≡ length high₀)
+Inv-loop q w low₀ high₀ p₀ p-end low high p =
+    (p ≤ length w) × (low ≡ filled (λ (j : ℕ). pos (digit q 1 (getD w j (pos 0)))) p low₀)
+    × (high ≡ filled (λ (j : ℕ). pos (digit q 65536 (getD w j (pos 0)))) p high₀) × (length low ≡ length low₀) × (length high ≡ length high₀)
 
 abbrev μ-loop : tie.MeasureT-loop
 μ-loop q w low₀ high₀ p₀ p-end low high p = length w - p
