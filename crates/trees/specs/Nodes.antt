@@ -20,7 +20,8 @@ use Rattle.protocol.specs.Settings.{settingsRefusal, cells}
 use Rattle.protocol.specs.Opening.{foldKey}
 use Rattle.protocol.specs.Inputs.{Below}
 use Rattle.protocol.specs.Transcript.{finalBounded}
-use Rattle.protocol.specs.Tree.{child, challenge, nodes, leaves, leaf}
+use Rattle.protocol.specs.Layout.{polynomialAt, polynomialCells, treeRoundCells, leafCells}
+use Rattle.protocol.specs.Tree.{child, challenge, leaf}
 use Rattle.protocol.specs.TreeCheck.{claimTo, foldedEndHolds, treeAccepted}
 
 pub record Folding (S : Settings) (h space : ℕ) : Type 0 where
@@ -31,13 +32,13 @@ pub record Folding (S : Settings) (h space : ℕ) : Type 0 where
 
 pub record Tables (S : Settings) (rounds finals : ℕ) : Type 0 where
   pub allowed : settingsRefusal S ≡ 0
-  pub rounds-long : rounds ≡ 3 * nodes S * S .degree
-  pub finals-long : finals ≡ leaves S * S .degree
+  pub rounds-long : rounds ≡ treeRoundCells S
+  pub finals-long : finals ≡ leafCells S
 
 pub record Round (S : Settings) (k rounds : ℕ) : Type 0 where
   pub allowed : settingsRefusal S ≡ 0
   pub number : k ≤ 3280
-  pub inside : 3 * k * S .degree + 3 * S .degree ≤ rounds
+  pub inside : polynomialAt (S .degree) k + polynomialCells (S .degree) ≤ rounds
 
 abbrev pub Reduced : Settings → List ℕ → Type 0
 Reduced S l = (j : ℕ) → getD l j 0 < S .modulus
@@ -49,8 +50,8 @@ pub record Read (S : Settings) (h : ℕ) (rounds ws : List ℕ) : Type 0 where
 pub record TreeGiven (S : Settings) (key rounds : List ℕ) (finals : List ℤ) : Type 0 where
   pub allowed : settingsRefusal S ≡ 0
   pub key-below : Below (S .modulus) (cells S) key
-  pub rounds-below : Below (S .modulus) (3 * nodes S * S .degree) rounds
-  pub finals-long : length finals ≡ leaves S * S .degree
+  pub rounds-below : Below (S .modulus) (treeRoundCells S) rounds
+  pub finals-long : length finals ≡ leafCells S
 
 module _ (S : Settings) where
   unfoldable pub leafMet : List ℤ → ℕ → List ℕ → List ℕ → Bool

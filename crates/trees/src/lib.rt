@@ -1,7 +1,9 @@
 // The check of every path of a tree (refusal 13).
 mod nodes;
 
+use protocol::Residue;
 use protocol::Settings;
+use protocol::WIDTH;
 ghost use mathlib.Core.Path.{_≡_};
 ghost use Rattle.protocol.specs.Basic.{Provided};
 ghost use Rattle.protocol.specs.Calls.{everyPath};
@@ -10,9 +12,9 @@ ghost use Rattle.trees.specs.Nodes.{TreeGiven};
 // Is every path of a tree accepted. The key and the tree's tables stay as they are.
 pub fn every_path_accepted(
     settings: Settings,
-    commitment: [u32; 64],
-    key: &[u32],
-    rounds: &[u32],
+    commitment: [Residue; WIDTH],
+    key: &[Residue],
+    rounds: &[Residue],
     challenges: &[u32],
     leaves: &[i32],
 ) -> bool
@@ -24,11 +26,10 @@ pub fn every_path_accepted(
     if key.len() != sizes::cells(settings) {
         return false;
     }
-    let d = settings.degree as usize;
-    if rounds.len() != 3 * sizes::nodes(settings) * d {
+    if rounds.len() != sizes::tree_round_cells(settings) {
         return false;
     }
-    if leaves.len() != sizes::leaves(settings) * d {
+    if leaves.len() != sizes::leaf_cells(settings) {
         return false;
     }
     nodes::root_accepted(settings, commitment, key, rounds, challenges, leaves)

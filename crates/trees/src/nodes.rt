@@ -1,6 +1,8 @@
 // The check of a tree node by node. Each node hands its next claim and its folded key to its children, so that no fold is done twice.
 // All of them share one workspace: a node's key stands in the second half of its part, and its children work in the first half.
+use protocol::Residue;
 use protocol::Settings;
+use protocol::WIDTH;
 use residues::elements;
 ghost use mathlib.Core.Path.{_≡_};
 ghost use Prim.Native.Nat.{_+_, _*_, _-_, _^_, _<_, _≤_};
@@ -23,14 +25,11 @@ fn challenge(challenges: &[u32], k: u32, j: u32) -> u32
 }
 
 // Does the round of node k hold.
-fn node_holds(settings: Settings, k: u32, claim: &[u32], rounds: &[u32]) -> bool
+fn node_holds(settings: Settings, k: u32, claim: &[Residue], rounds: &[Residue]) -> bool
     requires { ⌜ Round settings k (length (now rounds)) × (settings .degree ≤ length (now claim)) ⌝ }
     ensures { λ r. ⌜ r ≡ nodeHolds settings (now (rounds .entry)) k (now (claim .entry)) ⌝ }
 {
-    let d = settings.degree as usize;
-    let at = 3 * (k as usize) * d;
-    let last = at + 2 * d;
-    equations::round_holds(settings, claim, &rounds[at..], &rounds[last..])
+    equations::rounds::polynomial_holds(settings, k, claim, rounds)
 }
 
 // The claim that node k hands to its child j, written to the front of `claim`. What else `claim` holds is left free.
@@ -38,31 +37,25 @@ fn claim_to(
     settings: Settings,
     k: u32,
     j: u32,
-    rounds: &[u32],
+    rounds: &[Residue],
     challenges: &[u32],
-    claim: &mut [u32],
+    claim: &mut [Residue],
 )
     requires { ⌜ Round settings k (length (now rounds)) × (j < 3) × (settings .degree ≤ length (now claim)) ⌝ }
     ensures { λ _. ⌜ Provided (Reduced settings (now (rounds .entry))) (Alike (settings .degree) (now (claim .exit)) (claimTo settings (now (rounds .entry)) (now (challenges .entry)) k j)) ⌝ }
 {
     let e = challenge(challenges, k, j);
-    let d = settings.degree as usize;
-    let at = 3 * (k as usize) * d;
-    let second = at + d;
-    let third = at + 2 * d;
-    rotations::value(
-        settings.modulus,
-        settings.degree,
-        e,
-        &rounds[at..],
-        &rounds[second..],
-        &rounds[third..],
-        claim,
-    );
+    equations::rounds::next_claim(settings, k, e, rounds, claim);
 }
 
 // Is the end met at leaf j, with the key folded down to it.
-fn leaf_accepted(settings: Settings, j: u32, claim: &[u32], leaves: &[i32], folded: &[u32]) -> bool
+fn leaf_accepted(
+    settings: Settings,
+    j: u32,
+    claim: &[Residue],
+    leaves: &[i32],
+    folded: &[Residue],
+) -> bool
     requires { ⌜ (settingsRefusal settings ≡ 0) × (j * settings .degree + settings .degree ≤ length (now leaves)) × (settings .degree ≤ length (now claim)) × (settings .degree ≤ length (now folded)) ⌝ }
     ensures { λ r. ⌜ r ≡ leafMet settings (now (leaves .entry)) j (now (claim .entry)) (now (folded .entry)) ⌝ }
 {
@@ -71,7 +64,7 @@ fn leaf_accepted(settings: Settings, j: u32, claim: &[u32], leaves: &[i32], fold
 }
 
 // Folds the key of a node that is h steps above the leaves by X^e, to where its child's key stands.
-fn fold_key(settings: Settings, h: u32, e: u32, ws: &mut [u32])
+fn fold_key(settings: Settings, h: u32, e: u32, ws: &mut [Residue])
     requires { ⌜ Folding settings h (length (now ws)) ⌝ }
     ensures { λ _. ⌜ Provided (Reduced settings (drop (2 ^ h * settings .degree) (now (ws .entry)))) (now (ws .exit) ≡ foldDown (settings .modulus) (settings .degree) (2 ^ (h - 1)) e (2 ^ h * settings .degree) (2 ^ (h - 1) * settings .degree) (now (ws .entry))) ⌝ }
 {
@@ -88,16 +81,16 @@ fn child_accepted(
     k: u32,
     j: u32,
     first: u32,
-    rounds: &[u32],
+    rounds: &[Residue],
     challenges: &[u32],
     leaves: &[i32],
-    ws: &mut [u32],
+    ws: &mut [Residue],
 ) -> bool
     requires { ⌜ Tables settings (length (now rounds)) (length (now leaves)) × (0 < h) × (j < 3) ⌝ }
     requires { ⌜ AtNode settings h k first (length (now ws)) ⌝ }
     ensures { λ r. ⌜ Provided (Read settings h (now (rounds .entry)) (now (ws .entry))) ((r ≡ childAccepted settings (now (rounds .entry)) (now (challenges .entry)) (now (leaves .entry)) h k (drop (2 ^ h * settings .degree) (now (ws .entry))) j) × (drop (2 ^ h * settings .degree) (now (ws .exit)) ≡ drop (2 ^ h * settings .degree) (now (ws .entry)))) ⌝ }
 {
-    let mut claim = [0u32; 64];
+    let mut claim = [0u32; WIDTH];
     claim_to(settings, k, j, rounds, challenges, &mut claim);
     fold_key(settings, h, challenge(challenges, k, j), ws);
     let half = ws.len() / 2;
@@ -120,11 +113,11 @@ fn subtree_accepted(
     h: u32,
     k: u32,
     first: u32,
-    claim: &[u32],
-    rounds: &[u32],
+    claim: &[Residue],
+    rounds: &[Residue],
     challenges: &[u32],
     leaves: &[i32],
-    ws: &mut [u32],
+    ws: &mut [Residue],
 ) -> bool
     requires { ⌜ Tables settings (length (now rounds)) (length (now leaves)) × (settings .degree ≤ length (now claim)) ⌝ }
     requires { ⌜ AtNode settings h k first (length (now ws)) ⌝ }
@@ -146,17 +139,19 @@ fn subtree_accepted(
     child_accepted(settings, h, k, 2, first, rounds, challenges, leaves, ws)
 }
 
-// Room for the largest key, and as much again for all that it is folded to.
-fn room() -> [u32; 32768] {
-    [0u32; 32768]
+// Room for the largest key, 2^8 elements, and as much again for all that it is folded to.
+const ROOM: usize = 2 * 256 * WIDTH;
+
+fn room() -> [Residue; ROOM] {
+    [0u32; ROOM]
 }
 
 // The root: its claim is the commitment and its key the unfolded one.
 pub(crate) fn root_accepted(
     settings: Settings,
-    commitment: [u32; 64],
-    key: &[u32],
-    rounds: &[u32],
+    commitment: [Residue; WIDTH],
+    key: &[Residue],
+    rounds: &[Residue],
     challenges: &[u32],
     leaves: &[i32],
 ) -> bool

@@ -1,6 +1,7 @@
 use mathlib.Core.Path.{_∙_}
 use Prim.Native.Nat.{_*_}
-use Rattle.trees.proofs.Checks.{part-long, leaf-is}
+use Rattle.equations.proofs.Polynomials.{part-long}
+use Rattle.trees.proofs.Checks.{leaf-is}
 use borrow.Author.Needs.{needs}
 use Rattle.trees.proofs.nodes.leaf_accepted.Statement.{statement}
 use Rattle.trees.proofs.nodes.leaf_accepted.Tie as tie
