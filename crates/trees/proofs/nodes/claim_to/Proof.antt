@@ -2,8 +2,8 @@ use mathlib.Core.Path.{subst}
 use Rattle.protocol.specs.Element.{residueAt}
 use Rattle.protocol.specs.Layout.{itemOf}
 use Rattle.protocol.specs.Transcript.{nextClaim}
-use Rattle.claims.specs.TreeCheck.{nodeElement, claimTo}
-use Rattle.claims.specs.Nodes.{Alike}
+use Rattle.protocol.specs.TreeCheck.{nodeElement, claimTo}
+use Rattle.protocol.specs.Nodes.{Alike}
 use borrow.Author.Needs.{needs}
 use Rattle.trees.proofs.nodes.claim_to.Statement.{statement}
 use Rattle.trees.proofs.nodes.claim_to.Tie as tie

@@ -1,5 +1,5 @@
 use borrow.Author.Needs.{needs}
-use Rattle.claims.specs.TreeCheck.{nodeElement, nodeHolds}
+use Rattle.protocol.specs.TreeCheck.{nodeElement, nodeHolds}
 use Rattle.trees.proofs.nodes.node_holds.Statement.{statement}
 use Rattle.trees.proofs.nodes.node_holds.Tie as tie
 
