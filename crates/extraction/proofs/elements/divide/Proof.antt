@@ -90,7 +90,7 @@ loop-again : tie.Need-loop-again Inv-loop μ-loop
 loop-again c =
     let g = c .before .before .before .before .before .before .before .before .before in let l = c .before .before .before .before .before .before .before .before .loop in let a = g .args in (
       omega arith,
-      c .on-circle .ensures (some g, small g) ∙ ap (λ n. 2 * n % (2 * a .d)) (l .inv .1) ∙ Q.next-exponent (a .d) (a .k) (l .j),
+      c .on-circle .ensures .0 (some g, small g) ∙ ap (λ n. 2 * n % (2 * a .d)) (l .inv .1) ∙ Q.next-exponent (a .d) (a .k) (l .j),
       Q.next-sum (a .d) (a .k) (some g) (a .a .now) (l .a) (l .j) (l .inv .2) (l .e) (l .inv .1) _ (c .before .before .before .add-own .ensures),
       c .before .before .before .add-own .kept .1 .1 .0 ∙ l .inv .3,
       c .before .before .before .add-own .kept .1 .1 .1 .0 ∙ l .inv .4,

@@ -22,11 +22,11 @@ circle g = (g .pre .some, g .pre .small)
 -- the exponents
 first : (c : tie.After-on-circle) → let a = c .before .args in c .on-circle .result ≡ gap (a .d) (a .a) (a .b)
 unfolding gap
-first c = c .on-circle .ensures (circle (c .before))
+first c = c .on-circle .ensures .0 (circle (c .before))
 
 second : (c : tie.After-on-circle2) → let a = c .before .before .args in c .on-circle2 .result ≡ gap (a .d) (a .a) (a .c)
 unfolding gap
-second c = c .on-circle2 .ensures (circle (c .before .before))
+second c = c .on-circle2 .ensures .0 (circle (c .before .before))
 
 -- where the function began
 abbrev at-scale : (c : tie.After-scale) → tie.Start
@@ -37,14 +37,14 @@ at-once c = at-scale (c .before .before .before)
 
 once : (c : tie.After-on-circle4) → let a = at-once c .args in c .on-circle4 .result ≡ backOnce (a .d) (a .a)
 unfolding backOnce
-once c = c .on-circle4 .ensures (circle (at-once c))
+once c = c .on-circle4 .ensures .0 (circle (at-once c))
 
 once-small : (c : tie.After-on-circle4) → c .on-circle4 .result < 2 * at-once c .args .d
-once-small c = let g = at-once c in let p : 0 < 2 * g .args .d = omega (arith, g .pre .some) in omega (arith, c .on-circle4 .ensures (circle g), Nat.mod-lt (2 * g .args .d - g .args .a) p)
+once-small c = let g = at-once c in let p : 0 < 2 * g .args .d = omega (arith, g .pre .some) in omega (arith, c .on-circle4 .ensures .0 (circle g), Nat.mod-lt (2 * g .args .d - g .args .a) p)
 
 twice : (c : tie.After-on-circle5) → let a = at-once (c .before) .args in c .on-circle5 .result ≡ backTwice (a .d) (a .a)
 unfolding backTwice
-twice c = c .on-circle5 .ensures (circle (at-once (c .before))) ∙ ap (λ x. 2 * x % (2 * at-once (c .before) .args .d)) (once (c .before))
+twice c = c .on-circle5 .ensures .0 (circle (at-once (c .before))) ∙ ap (λ x. 2 * x % (2 * at-once (c .before) .args .d)) (once (c .before))
 
 -- the products, and the node's vector behind them
 products : (c : tie.After-scale) → let a = at-scale c .args in
@@ -52,7 +52,7 @@ products : (c : tie.After-scale) → let a = at-scale c .args in
 products c =
     let a = at-scale c .args in
     let at = c .before .before .before in
-    c .scale .ensures ∙ (λ i. scaled (a .d) (a .n) (first (at .before .before) i) (second (at .before) i) (at .on-circle3 .ensures (circle (at-scale c)) i) (take (a .n * a .d) (a .l .now)))
+    c .scale .ensures ∙ (λ i. scaled (a .d) (a .n) (first (at .before .before) i) (second (at .before) i) (at .on-circle3 .ensures .0 (circle (at-scale c)) i) (take (a .n * a .d) (a .l .now)))
 
 abbrev whole : (c : tie.After-scale) → List ℤ
 whole c = c .scale .last .1 .1 .1 .1 .1 .0 ++ drop (at-scale c .args .n * at-scale c .args .d) (at-scale c .args .l .now)
@@ -89,7 +89,7 @@ slice-aggregate-scale c = let g = c .before .before .before .before in sym (leng
 scale-requires : tie.Need-scale-requires
 scale-requires c κs =
     let g = c .before .before .before .before .before in let a = g .args in
-    let is-e = c .before .before .on-circle3 .ensures (circle g) in
+    let is-e = c .before .before .on-circle3 .ensures .0 (circle g) in
     (omega (arith, g .pre .small), rw (first (c .before .before .before .before), second (c .before .before .before), is-e) (share-scalable (a .d) (a .n) (a .a) (a .b) (a .c) (a .l .now) (g .pre)))
 
 mul-on-circle : tie.Need-mul-on-circle
