@@ -24,16 +24,41 @@ use Rattle.products.proofs.Sums.{SumIs, sum-none, sums-reduced}
 use Rattle.residues.proofs.Parts.{tail-all}
 use Rattle.residues.proofs.Padding.{padded-at}
 use Rattle.refusals.proofs.Given.{CommitGiven}
-use Rattle.prover.specs.Messages.{Tables}
+use Rattle.prover.specs.Messages.{Small, Sized, Tables}
 use Rattle.prover.specs.Sums.{innerSums, scaled}
 use Rattle.prover.proofs.Sums.{sum-inner, most}
 
-inner-same : (d h : ℕ) → 0 < d → {m m′ G G′ : ℕ → Element} → ((i : ℕ) → i < h → Same d (m i) (m′ i)) → ((i : ℕ) → i < h → Same d (G i) (G′ i)) → (k : ℕ) → inner d h m G k ≡ inner d h m′ G′ k
+pub inner-same : (d h : ℕ) → 0 < d → {m m′ G G′ : ℕ → Element} → ((i : ℕ) → i < h → Same d (m i) (m′ i)) → ((i : ℕ) → i < h → Same d (G i) (G′ i)) → (k : ℕ) → inner d h m G k ≡ inner d h m′ G′ k
 unfolding inner
 inner-same d h p a b k = sum-ext h (λ i l. product-same p (a i l) (b i l) k)
 
+-- tables of their lengths, whose message is small
+module _ (q d n : ℕ) (m : List ℤ) (G : List ℕ) where
+  pub tables-sized : Tables q d n m G → Sized q d n (length m) (length G)
+  tables-sized t = record {
+    modulus = t .modulus;
+    modulus-most = t .modulus-most;
+    degree = t .degree;
+    degree-most = t .degree-most;
+    elements = t .elements;
+    message-long = t .message-long;
+    key-long = t .key-long;
+  }
+
+  pub sized-tables : Sized q d n (length m) (length G) → Small (n * d) m → Tables q d n m G
+  sized-tables z small = record {
+    modulus = z .modulus;
+    modulus-most = z .modulus-most;
+    degree = z .degree;
+    degree-most = z .degree-most;
+    elements = z .elements;
+    message-long = z .message-long;
+    key-long = z .key-long;
+    message-small = small;
+  }
+
 -- a sum, after an inner product of n elements more
-sum-next : (q d n : ℕ) (m : List ℤ) (G : List ℕ) → Tables q d n m G → (k : ℕ) → k < d → (s : List ℕ) (b : ℕ) (z : ℤ) → b ≤ 256 * most → SumIs q k s b z
+pub sum-next : (q d n : ℕ) (m : List ℤ) (G : List ℕ) → Tables q d n m G → (k : ℕ) → k < d → (s : List ℕ) (b : ℕ) (z : ℤ) → b ≤ 256 * most → SumIs q k s b z
     → SumIs q k (innerSums q d m G n s) (b + n * most) (z +ℤ inner d n (signedAt d m) (residueAt d G) k)
 sum-next q d n m G t k l s b z few is = sum-inner q d (t .modulus) (t .modulus-most) (t .degree) (t .degree-most) k l m G n s b z (t .message-small) (omega (arith, t .elements)) is
 
@@ -85,11 +110,11 @@ module _ (q d h : ℕ) (m : List ℤ) (G : List ℕ) (t : Tables q d (2 * h) m G
   pub second-halves : Tables q d h m1 G1
   second-halves = subst (λ m′. Tables q d h m′ G1) (sym (tail-all (h * d) m)) (subst (λ G′. Tables q d h (drop (h * d) m) G′) (sym (tail-all (h * d) G)) (halves (h * d) (h * d) (Nat.le-refl _) (Nat.le-refl _)))
 
-  second-message : (i : ℕ) → Same d (signedAt d m1 i) (second h (signedAt d m) i)
+  pub second-message : (i : ℕ) → Same d (signedAt d m1 i) (second h (signedAt d m) i)
   unfolding signedAt second
   second-message i k l = ap (λ x. getD x (i * d + k) (pos 0)) (tail-all (h * d) m) ∙ getD-drop (h * d) m (i * d + k) (pos 0) ∙ ap (λ n. getD m n (pos 0)) (omega (arith, Nat.add-mul h i d))
 
-  second-key : (i : ℕ) → Same d (residueAt d G1 i) (second h (residueAt d G) i)
+  pub second-key : (i : ℕ) → Same d (residueAt d G1 i) (second h (residueAt d G) i)
   unfolding residueAt second
   second-key i k l = ap pos (ap (λ x. getD x (i * d + k) 0) (tail-all (h * d) G) ∙ getD-drop (h * d) G (i * d + k) 0 ∙ ap (λ n. getD G n 0) (omega (arith, Nat.add-mul h i d)))
 

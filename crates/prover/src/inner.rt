@@ -3,17 +3,17 @@ use crate::totals;
 ghost use mathlib.Core.Path.{_≡_};
 ghost use Prim.Native.Nat.{_+_, _*_, _-_, _%_, _<_, _≤_};
 ghost use lib.ListN.{length, getD};
-ghost use Rattle.protocol.specs.Basic.{tabulate};
 ghost use Rattle.protocol.specs.Element.{padded, signedAt, residueAt};
 ghost use Rattle.protocol.specs.Opening.{cross};
 ghost use Rattle.protocol.specs.Opening as opening;
-ghost use Rattle.prover.specs.Messages.{Tables, Halved};
+ghost use Rattle.protocol.specs.Basic.{tabulate, Provided};
+ghost use Rattle.prover.specs.Messages.{Sized, Small, Tables, Halved};
 ghost use Rattle.prover.specs.Sums.{innerSums};
 ghost use Rattle.prover.specs.Sums as sums;
 
 // The products m_i·G_i of the first h elements, added to the sums.
 pub fn add_inner(q: u32, d: u32, h: u32, message: &[i32], key: &[u32], sums: &mut [u64])
-    requires { ⌜ Tables q d h (now message) (now key) × (d ≤ length (now sums)) ⌝ }
+    requires { ⌜ Sized q d h (length (now message)) (length (now key)) × (d ≤ length (now sums)) ⌝ }
     ensures { λ _. ⌜ now (sums .exit) ≡ innerSums q d (now (message .entry)) (now (key .entry)) h (now (sums .entry)) ⌝ }
 {
     let step = d as usize;
@@ -29,7 +29,7 @@ pub fn add_inner(q: u32, d: u32, h: u32, message: &[i32], key: &[u32], sums: &mu
 }
 
 // x·y modulo q
-fn multiple(q: u32, x: u32, y: u32) -> u32
+pub fn multiple(q: u32, x: u32, y: u32) -> u32
     requires { ⌜ 0 < q ⌝ }
     ensures { λ r. ⌜ r ≡ x * y % q ⌝ }
 {
@@ -53,8 +53,8 @@ fn scaled(q: u32, d: u32, s: u32, a: [u32; 64]) -> [u32; 64]
 
 // s·⟨m, G⟩ modulo q, of the first h elements
 fn straight(q: u32, d: u32, h: u32, s: u32, message: &[i32], key: &[u32]) -> [u32; 64]
-    requires { ⌜ Tables q d h (now message) (now key) ⌝ }
-    ensures { λ r. ⌜ r ≡ sums.scaled q d s (opening.inner d h (signedAt d (now (message .entry))) (residueAt d (now (key .entry)))) ⌝ }
+    requires { ⌜ Sized q d h (length (now message)) (length (now key)) ⌝ }
+    ensures { λ r. ⌜ Provided (Small (h * d) (now (message .entry))) (r ≡ sums.scaled q d s (opening.inner d h (signedAt d (now (message .entry))) (residueAt d (now (key .entry))))) ⌝ }
 {
     let mut sums = [0u64; 64];
     add_inner(q, d, h, message, key, &mut sums);
@@ -62,9 +62,9 @@ fn straight(q: u32, d: u32, h: u32, s: u32, message: &[i32], key: &[u32]) -> [u3
 }
 
 // s·⟨m0 + m1, G0 + G1⟩ modulo q, the halves having h elements
-fn mixed(q: u32, d: u32, h: u32, s: u32, message: &[i32], key: &[u32]) -> [u32; 64]
-    requires { ⌜ Halved q d h (now message) (now key) ⌝ }
-    ensures { λ r. ⌜ r ≡ sums.scaled q d s (sums.mixed d h (signedAt d (now (message .entry))) (residueAt d (now (key .entry)))) ⌝ }
+pub fn mixed(q: u32, d: u32, h: u32, s: u32, message: &[i32], key: &[u32]) -> [u32; 64]
+    requires { ⌜ Sized q d (2 * h) (length (now message)) (length (now key)) ⌝ }
+    ensures { λ r. ⌜ Provided (Halved q d h (now (message .entry)) (now (key .entry))) (r ≡ sums.scaled q d s (sums.mixed d h (signedAt d (now (message .entry))) (residueAt d (now (key .entry))))) ⌝ }
 {
     let half = (h as usize) * (d as usize);
     let mut m = [0i32; 8192];

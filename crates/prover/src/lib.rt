@@ -1,6 +1,7 @@
 // The prover's calls: each tests what it is given, and then works on the tables that it is lent.
 mod inner;
 mod messages;
+pub mod rounds;
 mod totals;
 
 use protocol::Committed;

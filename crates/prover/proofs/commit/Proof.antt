@@ -7,7 +7,7 @@ use Rattle.sizes.proofs.Limits.{degree-most}
 use Rattle.products.specs.Products.{reducedSums}
 use Rattle.refusals.proofs.Given.{CommitGiven, commit-given}
 use Rattle.prover.specs.Sums.{innerSums}
-use Rattle.prover.proofs.Products.{commit-tables, commitment-is}
+use Rattle.prover.proofs.Products.{tables-sized, commit-tables, commitment-is}
 use Rattle.prover.proofs.Answers.{commit-refused, commit-done}
 use borrow.Author.Needs.{needs}
 use Rattle.prover.proofs.commit.Statement.{statement}
@@ -31,7 +31,7 @@ add-inner-requires c κs =
     let n = c .before in
     let a = n .before .before .before .before .args in
     let g = given (n .before) in
-    (rw (all n) (commit-tables (a .settings) (a .key .now) (a .message .now) g), omega (arith, degree-most (a .settings) (g .tables .settings)))
+    (rw (all n) (tables-sized _ _ _ (a .message .now) (a .key .now) (commit-tables (a .settings) (a .key .now) (a .message .now) g)), omega (arith, degree-most (a .settings) (g .tables .settings)))
 
 returns-2 : tie.Need-returns-2
 unfolding zeros

@@ -3,14 +3,14 @@ use native.Mathlib.Omega.{arith}
 use Rattle.protocol.specs.Element.{zeros, signedAt, residueAt}
 use Rattle.protocol.specs.Opening.{inner}
 use Rattle.products.specs.Products.{reducedSums}
-use Rattle.prover.proofs.Products.{inner-reduced, scaled-is}
+use Rattle.prover.proofs.Products.{sized-tables, inner-reduced, scaled-is}
 use borrow.Author.Needs.{needs}
 use Rattle.prover.proofs.inner.straight.Statement.{statement}
 use Rattle.prover.proofs.inner.straight.Tie as tie
 
 returns : tie.Need-returns
 unfolding zeros
-returns c =
+returns c = λ small.
     let s = c .before .before .before .before .before .before .before in
     let a = s .args in
     let t = s .pre in
@@ -19,7 +19,7 @@ returns c =
     ∙ scaled-is (a .q) (a .d) (a .s) (t .modulus) (inner (a .d) (a .h) (signedAt (a .d) (a .message .now)) (residueAt (a .d) (a .key .now))) _
     (c .before .reduced-sums .ensures (record { modulus = t .modulus; degree-most = t .degree-most; sums = omega (arith, sums .kept .1 .1 .1 .1 .1 .0) })
     ∙ ap (reducedSums (a .q) (a .d)) (sums .ensures)
-    ∙ inner-reduced (a .q) (a .d) (a .h) (a .message .now) (a .key .now) t)
+    ∙ inner-reduced (a .q) (a .d) (a .h) (a .message .now) (a .key .now) (sized-tables (a .q) (a .d) (a .h) (a .message .now) (a .key .now) t small))
 
 pub straight-spec : {M : Type 1} → statement M
 straight-spec =
