@@ -10,6 +10,12 @@
  *   last      the first message element
  *   release   gives the memory back
  *
+ * With FEWER an opening takes 2.5n products of elements instead of 4n, or of 5n where the cross products are two: <m0,G0> and <m1,G1> add up to the commitment, each
+ * claim is 2*(c0 + c2), and c1 comes from the product of the halves' sums. Then instead of `round` there are
+ *
+ *   part      the sum of m_i*G_i over `count` elements from the element `from` on
+ *   of_sums   <m0+m1,G0+G1> over `half` elements
+ *
  * What is left, the scaling, the verifier's equations and the end, is the same for all and costs next to nothing: it is done here.
  */
 #ifndef OPENING_H
@@ -61,7 +67,12 @@ extern "C" {
 struct tables;
 static int admitted(const struct tables *t);
 static void inner(struct tables *t, size_t count, uint32_t *out);
+#ifdef FEWER
+static void part(struct tables *t, size_t from, size_t count, uint32_t *out);
+static void of_sums(struct tables *t, size_t half, uint32_t *out);
+#else
 static void round_sums(struct tables *t, size_t half, uint32_t *out);
+#endif
 static void fold(struct tables *t, size_t half, uint32_t e);
 static void last_element(const struct tables *t, int32_t *out);
 
@@ -78,13 +89,32 @@ static void add_rotated(const struct shape *s, uint32_t *out, const uint32_t *a,
     }
 }
 
-/* Scales a round's three sums by half^i, tests the round, and goes on to the next claim. */
-static int verifier_round(const struct shape *s, uint32_t scale, uint32_t e, uint32_t *c, uint32_t *claim)
+#ifndef FEWER
+/* Scales a round's three sums by half^i. */
+static void scale_round(const struct shape *s, uint32_t scale, uint32_t *c)
+{
+    for (uint32_t k = 0; k < 3 * s->d; k++)
+        c[k] = reduce(s, (uint64_t)c[k] * scale);
+}
+#else
+/* A round's three elements: from <m0,G0>, the claim, and the product of the halves' sums. */
+static void claimed_round(const struct shape *s, uint32_t scale, const uint32_t *first, const uint32_t *sums, const uint32_t *claim, uint32_t *c)
+{
+    uint32_t d = s->d, q = s->q;
+    for (uint32_t k = 0; k < d; k++) {
+        uint32_t halved = claim[k] / 2 + (claim[k] % 2 ? q / 2 + 1 : 0);
+        c[k] = reduce(s, (uint64_t)first[k] * scale);
+        c[d + k] = subtract(q, reduce(s, (uint64_t)sums[k] * scale), halved);
+        c[2 * d + k] = subtract(q, halved, c[k]);
+    }
+}
+#endif
+
+/* Tests a round and goes on to the next claim. */
+static int verifier_round(const struct shape *s, uint32_t e, const uint32_t *c, uint32_t *claim)
 {
     uint32_t d = s->d;
     int holds = 1;
-    for (uint32_t k = 0; k < 3 * d; k++)
-        c[k] = reduce(s, (uint64_t)c[k] * scale);
     for (uint32_t k = 0; k < d; k++) {
         uint32_t sum = add(s->q, c[k], c[2 * d + k]);
         holds &= add(s->q, sum, sum) == claim[k];
@@ -127,15 +157,33 @@ uint32_t baseline_open(struct tables *t, uint32_t *rounds, uint32_t *commitment,
     int holds = 1;
     if (!admitted(t))
         return 0;
+#ifdef FEWER
+    uint32_t first[MOST], sums[MOST];
+    part(t, 0, s->n / 2, first);
+    part(t, s->n / 2, s->n - s->n / 2, commitment);
+    for (uint32_t k = 0; k < s->d; k++)
+        commitment[k] = add(s->q, commitment[k], first[k]);
+#else
     inner(t, s->n, commitment);
+#endif
     memcpy(claim, commitment, s->d * sizeof *claim);
     for (uint32_t i = 0; i < s->l; i++) {
         size_t rest = s->n >> (i + 1);
         uint32_t *c = rounds + (size_t)3 * s->d * i;
         scale = reduce(s, (uint64_t)scale * half);
+#ifdef FEWER
+        of_sums(t, rest, sums);
+        claimed_round(s, scale, first, sums, claim, c);
+#else
         round_sums(t, rest, c);
-        holds &= verifier_round(s, scale, s->challenges[i], c, claim);
+        scale_round(s, scale, c);
+#endif
+        holds &= verifier_round(s, s->challenges[i], c, claim);
         fold(t, rest, s->challenges[i]);
+#ifdef FEWER
+        if (rest > 1)
+            part(t, 0, rest / 2, first);
+#endif
     }
     last_element(t, last);
     return verifier_end(t, s, claim, last) && holds ? 2 : 3;

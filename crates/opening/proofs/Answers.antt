@@ -2,7 +2,9 @@
 use mathlib.Core.Path.{_≡_, refl, sym, ap, _∙_, subst}
 use mathlib.Core.Bool.{true, _&&_}
 use mathlib.Core.List.{List}
-use Prim.Native.Nat.{ℕ, _≤_}
+use Prim.Native.Nat.{ℕ, _+_, _*_, _<_, _≤_}
+use native.Mathlib.Nat as Nat
+use native.Mathlib.Decide.{decLt}
 use native.Mathlib.Omega.{arith}
 use lib.IntN.{ℤ}
 use Rattle.protocol.specs.declared.Settings.{Settings}
@@ -10,23 +12,33 @@ use Rattle.protocol.specs.declared.Verdict.{Verdict}
 use Rattle.protocol.specs.declared.Verdict.the-variants.{Silent}
 use Rattle.protocol.specs.Element.{width, zeros, signedZeros, padded, paddedSigned, coefficients, signedAt, signed, residue}
 use Rattle.protocol.specs.Settings.{settingsRefusal}
-use Rattle.protocol.specs.Opening.{commitment, keyAfter, messageAfter, finalElement}
+use Rattle.protocol.specs.Opening.{commitment, roundElement, roundTable, keyAfter, messageAfter, finalElement}
 use Rattle.protocol.specs.Transcript.{Transcript, accepted, transcriptOf}
 use Rattle.protocol.specs.Session.{verdict, verdictNumber}
-use Rattle.protocol.specs.Calls.{commitAnswer, openingRefusal, openingAnswer, openingKeyExit, openingMessageExit, openingRoundsExit}
+use Rattle.protocol.specs.Calls.{commitRefusal, commitAnswer, openingRefusal, openingAnswer, openingKeyExit, openingMessageExit, openingRoundsExit}
 use Rattle.protocol.specs.Promises.{Opening}
 use Rattle.protocol.proofs.Tests.{granted-zero, granted-refused}
-use Rattle.claims.proofs.Honest.{Given, modulus-positive, opening-commitment, opening-last, opening-key, opening-message, opening-rounds}
+use Rattle.claims.proofs.Honest.{Given, degree-positive, modulus-positive, opening-commitment, opening-last, opening-key, opening-message, opening-rounds}
 use Rattle.claims.proofs.Prover.{commit-answer}
+use Rattle.protocol.proofs.Ranges.{commitment-below}
+use Rattle.protocol.proofs.Reading.{tabulate-own}
 use Rattle.sizes.proofs.Limits.{degree-most}
+use Rattle.residues.specs.Lists.{filled, spliced}
 use Rattle.residues.specs.Elements.{elementAt}
+use Rattle.residues.proofs.Fill.{zeros-length, element-done}
+use Rattle.prover.specs.Rounds.{elementPlaces, Begun}
 use Rattle.equations.specs.Ends.{endMet}
 use Rattle.opening.specs.declared.turns.State.{State}
 use Rattle.protocol.proofs.Answers.{opening-number}
 use Rattle.opening.specs.Turns.{TablesAt, CheckedAt, Finished, ProverTurn}
 use Rattle.opening.proofs.Inputs.{Lent, lent}
-use Rattle.opening.proofs.Storing.{front-none, front-all}
+use Rattle.opening.proofs.Storing.{front, inside, front-none, front-past, front-first}
 use Rattle.opening.proofs.Checking.{checked-none, accepted-is}
+
+-- a front that is written is a part from place 0 on
+begun-front : (S : Settings) (G : List ℕ) (M : List ℤ) (R : List ℕ) (d : ℕ) → filled (elementPlaces (roundElement S 0 G M 0)) d R ≡ spliced (elementPlaces (roundElement S 0 G M 0)) (3 * 0 * d) d R
+unfolding filled spliced
+begun-front S G M R d = ap (λ n. spliced (elementPlaces (roundElement S 0 G M 0)) n d R) {x = 0} (sym (Nat.zero-mul d))
 
 module _ (S : Settings) (G : List ℕ) (M : List ℤ) (E R : List ℕ) where
   open Settings S using (degree as d, depth as L)
@@ -53,9 +65,9 @@ module _ (S : Settings) (G : List ℕ) (M : List ℤ) (E R : List ℕ) where
       some : openingRefusal S G M E R ≡ 0 → ⊥
       some z = r (e ∙ z)
 
-  module _ (passed : openingRefusal S G M E R ≡ 0) (C : List ℕ) (f : List ℤ) (v : Verdict) (r : State) (key : List ℕ) (message : List ℤ) (rounds : List ℕ)
-      (commits : C ≡ commitAnswer S G M .commitment)
-      (turn : ProverTurn S E (record { done = 0; claim = C; holds = true }) G M R r key message rounds)
+  module _ (passed : openingRefusal S G M E R ≡ 0) (C : List ℕ) (f : List ℤ) (v : Verdict) (r : State) (begun-rounds key : List ℕ) (message : List ℤ) (rounds : List ℕ)
+      (begins : commitRefusal S G M ≡ 0 → Begun S G M (zeros width) R C begun-rounds)
+      (turn : ProverTurn S E (record { done = 0; claim = C; holds = true }) G M begun-rounds r key message rounds)
       (ends : d ≤ 64 → f ≡ paddedSigned d (coefficients d (signedAt d message 0)))
       (says : settingsRefusal S ≡ 0 → v ≡ verdict (r .holds && endMet S (r .claim) (signed f) (residue (elementAt d key 0)))) where
     given : Lent S G M E R
@@ -64,12 +76,38 @@ module _ (S : Settings) (G : List ℕ) (M : List ℤ) (E R : List ℕ) where
     ok : Given S G M E
     ok = given .given
 
-    C-is : C ≡ padded d (commitment S G M)
-    C-is = commits ∙ ap (λ a. a .commitment) (commit-answer ok)
+    pq : 0 < S .modulus
+    pq = modulus-positive S (ok .settings)
 
-    start : TablesAt S G M E R 0 G M R
+    wrote : Begun S G M (zeros width) R C begun-rounds
+    unfolding commitAnswer
+    wrote = begins (ap (λ a. a .number) (commit-answer ok))
+
+    C-is : C ≡ padded d (commitment S G M)
+    C-is = wrote .commits (omega (arith, zeros-length width, degree-most S (ok .settings))) ∙ element-done (elementPlaces (commitment S G M)) d d _ refl refl
+        ∙ ap (padded d) (tabulate-own d (commitment S G M) 0 (commitment-below S pq G M .long))
+
+    -- c0 of round 1 stands in its place, where there are rounds
+    rounds-are : begun-rounds ≡ front (roundTable S E G M) R (3 * 0 * d + d)
+    rounds-are = elim (decLt 0 L) [
+      | yes l ↦
+          let room : 3 * 0 * d + 3 * d ≤ 3 * L * d = inside S pq G M E R (given .rounds-long) 0 l in
+          wrote .first (omega (arith, given .rounds-long))
+          ∙ front-begun l
+      | no g ↦
+          let none : 3 * L * d ≡ 0 = ap (λ n. 3 * n * d) {x = L} {y = 0} (omega arith) ∙ Nat.zero-mul d in
+          wrote .none (omega (arith, given .rounds-long, degree-positive S (ok .settings)))
+          ∙ front-none S pq G M E R (given .rounds-long)
+          ∙ front-past S pq G M E R (given .rounds-long) (3 * 0 * d) (omega arith)
+          ∙ sym (front-past S pq G M E R (given .rounds-long) (3 * 0 * d + d) (omega arith))
+    ]
+      where
+        front-begun : 0 < L → filled (elementPlaces (roundElement S 0 G M 0)) d R ≡ front (roundTable S E G M) R (3 * 0 * d + d)
+        front-begun l = begun-front S G M R d ∙ ap (spliced (elementPlaces (roundElement S 0 G M 0)) (3 * 0 * d) d) (front-none S pq G M E R (given .rounds-long)) ∙ unfold keyAfter messageAfter in front-first S pq G M E R (given .rounds-long) 0 l
+
+    start : TablesAt S G M E R 0 G M begun-rounds
     unfolding keyAfter messageAfter
-    start = record { done-most = omega arith; key-is = refl; message-is = refl; rounds-is = front-none S (modulus-positive S (ok .settings)) G M E R (given .rounds-long) }
+    start = record { done-most = omega arith; key-is = refl; message-is = refl; rounds-is = rounds-are }
 
     begun : CheckedAt S G M E R 0 C true
     begun = subst (λ c. CheckedAt S G M E R 0 c true) (sym C-is) (unfold transcriptOf in checked-none S (modulus-positive S (ok .settings)) G M E R)
@@ -106,5 +144,5 @@ module _ (S : Settings) (G : List ℕ) (M : List ℤ) (E R : List ℕ) where
       verdict-number = ap verdictNumber (v-is ∙ sym verdict-is) ∙ opening-number S G M E R;
       key-exit = finished .tables .key-is ∙ sym (opening-key ok R (given .rounds-long));
       message-exit = finished .tables .message-is ∙ sym (opening-message ok R (given .rounds-long));
-      rounds-exit = finished .tables .rounds-is ∙ front-all S (modulus-positive S (ok .settings)) G M E R (given .rounds-long) ∙ sym (opening-rounds ok R (given .rounds-long));
+      rounds-exit = finished .tables .rounds-is ∙ front-past S pq G M E R (given .rounds-long) (3 * L * d + d) (omega arith) ∙ sym (opening-rounds ok R (given .rounds-long));
     }

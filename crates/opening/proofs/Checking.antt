@@ -2,15 +2,15 @@
 use mathlib.Core.Path.{_≡_, refl, sym, ap, ap₂, _∙_, subst}
 use mathlib.Core.Bool.{true, _&&_}
 use mathlib.Core.List.{List, []}
-use Prim.Native.Nat.{ℕ, zero, suc, _*_, _^_, _<_}
+use Prim.Native.Nat.{ℕ, zero, suc, _*_, _-_, _^_, _<_, _≤_}
 use native.Mathlib.Numerals.{add-one}
 use native.Mathlib.Omega.{arith}
 use lib.Dec.{eqb}
 use lib.IntN.{ℤ, pos, _*ℤ_}
-use lib.ListN.{length, getD}
+use lib.ListN.{length, getD, length-append}
 use Rattle.protocol.specs.declared.Settings.{Settings}
 use Rattle.protocol.specs.Basic.{tabulate, every, within}
-use Rattle.protocol.specs.Element.{modulo, padded, residue, residueAt, signed, paddedSigned}
+use Rattle.protocol.specs.Element.{width, zeros, modulo, padded, residue, residueAt, signed, paddedSigned}
 use Rattle.protocol.specs.Settings.{settingsRefusal, size, half}
 use Rattle.protocol.specs.Opening.{roundElement, keyAfter, messageAfter, finalElement}
 use Rattle.protocol.specs.Transcript.{Transcript, element, roundHolds, nextClaim, finalBounded, endHolds, ending, claimAfter, holdsAt, closes, accepted, transcriptOf}
@@ -57,6 +57,11 @@ module _ (S : Settings) (pq : 0 < S .modulus) (G : List ℕ) (M : List ℤ) (E R
 
   pub claim-padded : (t k : ℕ) → k < d → getD (padded d (claimAfter S T t)) k 0 ≡ getD (claimAfter S T t) k 0
   claim-padded t k l = padded-at d (claimAfter S T t) k (omega (arith, claim-long t))
+
+  -- it has a place for each coefficient
+  pub padded-longer : (t : ℕ) → d ≤ length (padded d (claimAfter S T t))
+  unfolding padded
+  padded-longer t = omega (arith, length-append (claimAfter S T t) (zeros (width - d)), claim-long t)
 
   -- nothing is done yet
   pub checked-none : CheckedAt S G M E R 0 (padded d (T .commitment)) true

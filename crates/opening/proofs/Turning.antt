@@ -1,67 +1,164 @@
 -- The turns, put together: what a turn does, from what its move does and what the turns after it do.
 use mathlib.Core.Path.{_≡_, sym, ap, _∙_, subst}
 use mathlib.Core.List.{List}
-use Prim.Native.Nat.{ℕ, suc, _+_, _*_, _<_, _≤_}
+use Prim.Native.Nat.{ℕ, suc, _+_, _*_, _%_, _<_, _≤_}
 use native.Mathlib.Nat as Nat
+use native.Mathlib.Numerals.{add-one}
+use native.Mathlib.Decide.{decLt}
 use native.Mathlib.Omega.{arith}
 use lib.IntN.{ℤ}
-use lib.ListN.{length, getD}
+use lib.ListN.{length, getD, drop, length-drop}
+use lib.Seq.{getD-drop}
 use Rattle.protocol.specs.declared.Settings.{Settings}
-use Rattle.protocol.specs.Layout.{polynomialCells, polynomialAt, roundCells}
-use Rattle.protocol.specs.Opening.{keyAfter, messageAfter}
-use Rattle.protocol.specs.Calls.{openingRefusal, roundAnswer, polynomial, foldKeyExit, foldMessageExit}
+use Rattle.protocol.specs.Basic.{tabulate}
+use Rattle.protocol.specs.Element.{modulo, residueAt, padded}
+use Rattle.protocol.specs.Layout.{width, polynomialAt, roundCells, itemOf}
+use Rattle.protocol.specs.Opening.{roundElement, keyAfter, messageAfter, roundTable}
+use Rattle.protocol.specs.Transcript.{doubled, element, claimAfter, transcriptOf}
+use Rattle.protocol.specs.Calls.{openingRefusal, roundRefusal, roundAnswer, polynomial, foldKeyExit, foldMessageExit}
 use Rattle.protocol.specs.Session.{part}
 use Rattle.protocol.specs.Promises.{Folded}
-use Rattle.claims.proofs.Honest.{Given, modulus-positive}
+use Rattle.claims.proofs.Completeness.{complete}
+use Rattle.claims.proofs.Honest.{Given, degree-positive, modulus-positive}
 use Rattle.claims.proofs.Prover.{round-answer, fold-key, fold-message}
+use Rattle.protocol.proofs.OpeningLaws.{round-at}
 use Rattle.sizes.proofs.Limits.{degree-most}
+use Rattle.residues.specs.Lists.{spliced}
+use Rattle.residues.specs.Elements.{elementAt}
+use Rattle.prover.specs.Rounds.{elementPlaces, Continuing}
 use Rattle.opening.specs.declared.turns.State.{State}
-use Rattle.opening.specs.Turns.{storedRound, Storable, tested, TablesAt, CheckedAt, ProverMove, ProverTurn, VerifierTurn}
-use Rattle.opening.proofs.Inputs.{lent}
-use Rattle.opening.proofs.Storing.{front-length, front-round}
+use Rattle.opening.specs.Turns.{restStored, tested, TablesAt, CheckedAt, ProverMove, ProverTurn, VerifierTurn}
+use Rattle.opening.proofs.Inputs.{Lent, lent}
+use Rattle.opening.proofs.Storing.{front, front-length, front-at, front-past, front-first, front-rest, entry, inside, polynomial-stored}
 use Rattle.equations.specs.Given.{Evaluable}
-use Rattle.opening.proofs.Checking.{tested-done, polynomial-read, checked-more}
+use Rattle.opening.proofs.Checking.{tested-done, polynomial-read, claim-padded, padded-longer, checked-more}
 
--- ---- the prover's move, from its round, its fold and its storing
+-- ---- what the prover's round is given: c0 in its place, and a claim that is 2·(c0 + c2)
 
-module _ (S : Settings) (t e : ℕ) (key : List ℕ) (message : List ℤ) (rounds : List ℕ) (p : List (List ℕ)) (number : ℕ) (key′ : List ℕ) (message′ : List ℤ) (rounds′ : List ℕ)
-    (polynomial-is : p ≡ roundAnswer S t key message .elements)
+module _ (S : Settings) (G : List ℕ) (M : List ℤ) (E R : List ℕ) (given : Lent S G M E R) (t : ℕ) (l : t < S .depth) where
+  open Settings S using (degree as d, depth as L, modulus as q)
+
+  abbrev ok : Given S G M E
+  ok = given .given
+
+  abbrev pq : 0 < q
+  pq = modulus-positive S (ok .settings)
+
+  abbrev c : ℕ → ℕ → ℕ
+  c j k = getD (roundElement S t (keyAfter S E t G) (messageAfter S E t M) j) k 0
+
+  pub round-passed : roundRefusal S t (keyAfter S E t G) (messageAfter S E t M) ≡ 0
+  unfolding roundAnswer
+  round-passed = ap (λ a. a .number) (round-answer ok t l)
+
+  doubled-is : (k : ℕ) → k < d → doubled S (element S (transcriptOf S G M E) t 0) (element S (transcriptOf S G M E) t 2) k ≡ 2 * (c 0 k + c 2 k) % q
+  unfolding doubled element residueAt modulo transcriptOf
+  doubled-is k h = λ i. 2 * (round-at S E G M t 0 k l (omega arith) h i + round-at S E G M t 2 k l (omega arith) h i) % q
+
+  module _ (claim rounds : List ℕ) (claim-is : claim ≡ padded d (claimAfter S (transcriptOf S G M E) t)) (rounds-is : rounds ≡ front (roundTable S E G M) R (polynomialAt d t + d)) where
+    claimed : (k : ℕ) → k < d → getD claim k 0 ≡ 2 * (c 0 k + c 2 k) % q
+    claimed k h =
+        ap (λ x. getD x k 0) claim-is
+        ∙ claim-padded S pq G M E R t k h
+        ∙ sym (complete S (degree-positive S (ok .settings)) (ok .settings .modulus-odd) G M E (ok .message .each) .every-round t l k h)
+        ∙ doubled-is k h
+
+    places : length rounds ≡ 3 * L * d
+    places = ap length rounds-is ∙ front-length S pq G M E R (given .rounds-long) (3 * t * d + d) (omega (arith, inside S pq G M E R (given .rounds-long) t l))
+
+    pub continuing : Continuing S t (keyAfter S E t G) (messageAfter S E t M) claim (drop (polynomialAt d t) rounds)
+    continuing = record {
+      passed = round-passed;
+      claim-long = omega (arith, ap length claim-is, padded-longer S pq G M E R t);
+      room = omega (arith, length-drop (3 * t * d) rounds, places, inside S pq G M E R (given .rounds-long) t l);
+      first = λ k h.
+          getD-drop (3 * t * d) rounds k 0
+          ∙ ap (λ x. getD x (3 * t * d + k) 0) rounds-is
+          ∙ front-at S pq G M E R (given .rounds-long) (3 * t * d + d) (3 * t * d + k) (omega arith) (omega (arith, inside S pq G M E R (given .rounds-long) t l))
+          ∙ sym (entry S pq G M E R (given .rounds-long) t l 0 k (omega arith) h ∙ ap (λ n. getD (roundTable S E G M) n 0) {x = 3 * t * d + 0 * d + k} (omega arith));
+      claimed = claimed;
+    }
+
+-- ---- the prover's move, from what it writes, its fold, and what it writes of the next round
+
+module _ (S : Settings) (t e : ℕ) (claim key : List ℕ) (message : List ℤ) (rounds : List ℕ) (p : List (List ℕ)) (number : ℕ) (key′ : List ℕ) (message′ : List ℤ) (between rounds′ : List ℕ)
+    (rests : Continuing S t key message claim (drop (polynomialAt (S .degree) t) rounds) → between ≡ restStored S t key message rounds)
+    (reads : S .degree ≤ width → t ≤ 3280 → p ≡ tabulate 3 (λ j. elementAt (S .degree) between (itemOf t j)))
     (folds : Folded S t e key message number key′ message′)
-    (stores : Storable (S .degree) t (length rounds) → rounds′ ≡ storedRound (S .degree) t p rounds) where
+    (starts : roundRefusal S (t + 1) key′ message′ ≡ 0 → polynomialAt (S .degree) (t + 1) + S .degree ≤ length between
+    → rounds′ ≡ spliced (elementPlaces (roundElement S (t + 1) key′ message′ 0)) (polynomialAt (S .degree) (t + 1)) (S .degree) between)
+    (stops : S .depth ≤ t + 1 → rounds′ ≡ between) where
   open Settings S using (degree as d, depth as L)
 
-  module _ (G : List ℕ) (M : List ℤ) (E R : List ℕ) (passed : openingRefusal S G M E R ≡ 0) (l : t < L) (e-is : e ≡ getD E t 0) (at : TablesAt S G M E R t key message rounds) where
-    ok : Given S G M E
-    ok = lent S G M E R passed .given
+  module _ (G : List ℕ) (M : List ℤ) (E R : List ℕ) (passed : openingRefusal S G M E R ≡ 0) (l : t < L) (e-is : e ≡ getD E t 0) (at : TablesAt S G M E R t key message rounds)
+      (claim-is : claim ≡ padded d (claimAfter S (transcriptOf S G M E) t)) where
+    given : Lent S G M E R
+    given = lent S G M E R passed
 
-    long : length R ≡ roundCells S
-    long = lent S G M E R passed .rounds-long
+    abbrev X : List ℕ
+    X = roundTable S E G M
+
+    abbrev good : Given S G M E
+    good = given .given
+
+    abbrev modulus : 0 < S .modulus
+    modulus = modulus-positive S (good .settings)
+
+    abbrev long : length R ≡ roundCells S
+    long = given .rounds-long
+
+    between-is : between ≡ front X R (3 * suc t * d)
+    between-is =
+        rests (subst (λ k. Continuing S t k message claim (drop (polynomialAt d t) rounds)) (sym (at .key-is))
+        (subst (λ m. Continuing S t (keyAfter S E t G) m claim (drop (polynomialAt d t) rounds)) (sym (at .message-is)) (continuing S G M E R given t l claim rounds claim-is (at .rounds-is))))
+        ∙ (λ i. restStored S t (at .key-is i) (at .message-is i) (at .rounds-is i))
+        ∙ front-rest S modulus G M E R long t l
 
     given-polynomial : p ≡ polynomial S t (keyAfter S E t G) (messageAfter S E t M)
-    given-polynomial = polynomial-is ∙ (λ i. roundAnswer S t (at .key-is i) (at .message-is i) .elements) ∙ ap (λ a. a .elements) (round-answer ok t l)
+    given-polynomial =
+        reads (degree-most S (good .settings)) (omega (arith, good .settings .depth-most))
+        ∙ ap (λ r. tabulate 3 (λ j. elementAt d r (itemOf t j))) between-is
+        ∙ polynomial-stored S modulus G M E R long t l
 
-    inside : polynomialAt d t + polynomialCells d ≤ roundCells S
-    inside = omega (arith, Nat.add-mul (3 * t) 3 d, Nat.mul-le-mul-right {m = 3 * t + 3} {n = 3 * L} d (omega arith))
+    key-is : key′ ≡ keyAfter S E (suc t) G
+    key-is = folds .key-exit ∙ (λ i. foldKeyExit S t (e-is i) (at .key-is i) (at .message-is i)) ∙ fold-key good t l
 
-    room : polynomialAt d t + polynomialCells d ≤ length rounds
-    room = omega (
-      arith,
-      inside,
-      ap length (at .rounds-is),
-      front-length S (modulus-positive S (ok .settings)) G M E R long (polynomialAt d t) (omega (arith, inside)),
-    )
+    message-is : message′ ≡ messageAfter S E (suc t) M
+    message-is = folds .message-exit ∙ (λ i. foldMessageExit S t (e-is i) (at .key-is i) (at .message-is i)) ∙ fold-message good t l
+
+    -- what stands there next, in a round more or at the end
+    more : suc t < L → rounds′ ≡ front X R (3 * suc t * d + d)
+    more m =
+        let one = add-one t in
+        let place : polynomialAt d (t + 1) + d ≤ length between = omega (
+          arith,
+          ap (λ n. 3 * n * d) one,
+          ap length between-is,
+          front-length S modulus G M E R long (3 * suc t * d) (omega (arith, inside S modulus G M E R long (suc t) m)),
+          inside S modulus G M E R long (suc t) m,
+        ) in
+        let refuses-none : roundRefusal S (t + 1) key′ message′ ≡ 0 = (λ i. roundRefusal S (one i) (key-is i) (message-is i)) ∙ round-passed S G M E R given (suc t) m in
+        starts refuses-none place
+        ∙ (λ i. spliced (elementPlaces (roundElement S (one i) (key-is i) (message-is i) 0)) (polynomialAt d (one i)) d (between-is i))
+        ∙ front-first S modulus G M E R long (suc t) m
+
+    last : L ≤ suc t → rounds′ ≡ front X R (3 * suc t * d + d)
+    last m =
+        let end : 3 * L * d ≤ 3 * suc t * d = Nat.mul-le-mul-right {m = 3 * L} {n = 3 * suc t} d (omega arith) in
+        stops (omega arith) ∙ between-is ∙ front-past S modulus G M E R long (3 * suc t * d) end ∙ sym (front-past S modulus G M E R long (3 * suc t * d + d) (omega (arith, end)))
 
     next-tables : TablesAt S G M E R (suc t) key′ message′ rounds′
     next-tables = record {
       done-most = omega arith;
-      key-is = folds .key-exit ∙ (λ i. foldKeyExit S t (e-is i) (at .key-is i) (at .message-is i)) ∙ fold-key ok t l;
-      message-is = folds .message-exit ∙ (λ i. foldMessageExit S t (e-is i) (at .key-is i) (at .message-is i)) ∙ fold-message ok t l;
-      rounds-is = stores (record { degree-most = degree-most S (ok .settings); turn = omega (arith, ok .settings .depth-most); inside = room })
-          ∙ (λ i. storedRound d t (given-polynomial i) (at .rounds-is i)) ∙ front-round S (modulus-positive S (ok .settings)) G M E R long t l;
+      key-is = key-is;
+      message-is = message-is;
+      rounds-is = elim (decLt (suc t) L) [ yes m ↦ more m | no m ↦ last (omega arith) ];
     }
 
-  pub prover-moves : ProverMove S t e key message rounds p key′ message′ rounds′
-  prover-moves = record { moves = λ G M E R passed l e-is at. (given-polynomial G M E R passed l e-is at, next-tables G M E R passed l e-is at) }
+  pub prover-moves : ProverMove S t e claim key message rounds p key′ message′ rounds′
+  prover-moves = record {
+    moves = λ G M E R passed l e-is at claim-is. (given-polynomial G M E R passed l e-is at claim-is, next-tables G M E R passed l e-is at claim-is);
+  }
 
 -- ---- the turns
 
@@ -74,10 +171,10 @@ module _ (S : Settings) (E : List ℕ) (s : State) (key : List ℕ) (message : L
   }
 
   module _ (l : s .done < S .depth) (p : List (List ℕ)) (e : ℕ) (r : State) (key′ : List ℕ) (message′ : List ℤ) (rounds′ : List ℕ) where
-    pub prover-goes : (k : List ℕ) (m : List ℤ) (o : List ℕ) → e ≡ getD E (s .done) 0 → ProverMove S (s .done) e key message rounds p k m o
+    pub prover-goes : (k : List ℕ) (m : List ℤ) (o : List ℕ) → e ≡ getD E (s .done) 0 → ProverMove S (s .done) e (s .claim) key message rounds p k m o
         → VerifierTurn S E s k m o r key′ message′ rounds′ p e → ProverTurn S E s key message rounds r key′ message′ rounds′
     prover-goes k m o e-is move rest = record {
-      turns = λ G M R passed at ch. let (p-is, next) = move .moves G M E R passed l e-is at in rest .turns G M R passed e-is p-is next ch;
+      turns = λ G M R passed at ch. let (p-is, next) = move .moves G M E R passed l e-is at (ch .claim-is) in rest .turns G M R passed e-is p-is next ch;
     }
 
     pub verifier-goes : (next : State) → (Evaluable S (part p 0) (part p 1) (part p 2) → next ≡ tested S s p e) → ProverTurn S E next key message rounds r key′ message′ rounds′

@@ -1,7 +1,9 @@
 // The verifier's end.
 use crate::turns::State;
+use protocol::Residue;
 use protocol::Settings;
 use protocol::Verdict;
+use protocol::WIDTH;
 use residues::elements;
 ghost use mathlib.Core.Path.{_≡_};
 ghost use mathlib.Core.Bool.{_&&_};
@@ -13,7 +15,7 @@ ghost use Rattle.residues.specs.Elements.{elementAt};
 ghost use Rattle.equations.specs.Ends.{endMet};
 
 // What the verifier says once all turns are done, the key being folded by all challenges.
-pub fn verdict(settings: Settings, ended: State, last: [i32; 64], key: &[u32]) -> Verdict
+pub fn verdict(settings: Settings, ended: State, last: [i32; WIDTH], key: &[Residue]) -> Verdict
     ensures { λ r. ⌜ Provided (settingsRefusal settings ≡ 0) (r ≡ session.verdict (ended .holds && endMet settings (ended .claim) (signed last) (residue (elementAt (settings .degree) (now (key .entry)) 0)))) ⌝ }
 {
     if !ended.holds {

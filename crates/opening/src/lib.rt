@@ -5,18 +5,20 @@ mod turns;
 
 use crate::turns::State;
 use protocol::Opened;
+use protocol::Residue;
 use protocol::Settings;
 use protocol::Verdict;
+use protocol::WIDTH;
 use residues::elements;
 ghost use Rattle.protocol.specs.Promises.{Opening};
 
 // The commitment, the round elements, the final element and the verdict. Both tables stay as all folds leave them.
 pub fn open(
     settings: Settings,
-    key: &mut [u32],
+    key: &mut [Residue],
     message: &mut [i32],
     challenges: &[u32],
-    rounds: &mut [u32],
+    rounds: &mut [Residue],
 ) -> Opened
     ensures { λ r. ⌜ Opening settings (now (key .entry)) (now (message .entry)) (now (challenges .entry)) (now (rounds .entry)) r (now (key .exit)) (now (message .exit)) (now (rounds .exit)) ⌝ }
 {
@@ -24,13 +26,13 @@ pub fn open(
     if number != 0 {
         return Opened {
             number: number,
-            commitment: [0u32; 64],
-            last: [0i32; 64],
+            commitment: [0u32; WIDTH],
+            last: [0i32; WIDTH],
             verdict: Verdict::Silent,
         };
     }
-    let committed = prover::commit(settings, key, message);
-    let commitment = committed.commitment;
+    let mut commitment = [0u32; WIDTH];
+    prover::rounds::begin(settings, key, message, &mut commitment, rounds);
     let begun = State {
         done: 0,
         claim: commitment,

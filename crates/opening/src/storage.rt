@@ -1,39 +1,64 @@
-// Where the round elements of a whole opening are stored: element 3t + j of the table is c_j of round t + 1.
+// The table of the round elements of a whole opening: element 3t + j is c_j of round t + 1. A round's elements are written into it directly.
+use protocol::Residue;
+use protocol::Settings;
+use protocol::WIDTH;
+use residues::elements;
 ghost use mathlib.Core.Path.{_≡_};
 ghost use Prim.Native.Nat.{_+_, _≤_};
-ghost use Rattle.protocol.specs.Basic.{Provided};
-ghost use lib.ListN.{length, getD};
+ghost use lib.ListN.{length, drop};
+ghost use Rattle.protocol.specs.Basic.{Provided, tabulate};
+ghost use Rattle.protocol.specs.Layout.{width, polynomialAt, itemOf};
+ghost use Rattle.protocol.specs.Opening.{roundElement};
+ghost use Rattle.protocol.specs.Calls.{roundRefusal};
 ghost use Rattle.residues.specs.Lists.{spliced};
-ghost use Rattle.opening.specs.Turns.{storedRound, Storable};
+ghost use Rattle.residues.specs.Elements.{elementAt};
+ghost use Rattle.prover.specs.Rounds.{elementPlaces, Continuing};
+ghost use Rattle.opening.specs.Turns.{restStored};
 
-// Writes the first d places of an element from place `at` on.
-fn store_element(d: usize, a: [u32; 64], at: usize, out: &mut [u32])
-    requires { ⌜ (d ≤ 64) × (at + d ≤ length (now out)) ⌝ }
-    ensures { λ _. ⌜ now (out .exit) ≡ spliced (λ k. getD a k 0) at d (now (out .entry)) ⌝ }
+// c0 of round t + 1, where there is such a round.
+pub fn write_first(
+    settings: Settings,
+    t: u32,
+    key: &[Residue],
+    message: &[i32],
+    rounds: &mut [Residue],
+)
+    ensures { λ _. ⌜ (Provided (roundRefusal settings t (now (key .entry)) (now (message .entry)) ≡ 0) (Provided (polynomialAt (settings .degree) t + settings .degree ≤ length (now (rounds .entry))) (now (rounds .exit) ≡ spliced (elementPlaces (roundElement settings t (now (key .entry)) (now (message .entry)) 0)) (polynomialAt (settings .degree) t) (settings .degree) (now (rounds .entry)))) × Provided (settings .depth ≤ t) (now (rounds .exit) ≡ now (rounds .entry))) ⌝ }
 {
-    let mut k: usize = 0;
-    while k < d {
-        out[at + k] = a[k];
-        k += 1;
+    if t >= settings.depth {
+        return;
     }
+    let at = sizes::polynomial_at(settings.degree, t);
+    if rounds.len() < at {
+        return;
+    }
+    prover::rounds::first_element(settings, t, key, message, &mut rounds[at..]);
 }
 
-// Writes the three elements of round t + 1.
-pub fn store_round(d: u32, t: u32, polynomial: [[u32; 64]; 3], out: &mut [u32])
-    ensures { λ _. ⌜ Provided (Storable d t (length (now (out .entry)))) (now (out .exit) ≡ storedRound d t polynomial (now (out .entry))) ⌝ }
+// c1 and c2 of round t + 1, whose c0 stands there and whose claim is given.
+pub fn write_rest(
+    settings: Settings,
+    t: u32,
+    key: &[Residue],
+    message: &[i32],
+    claim: [Residue; WIDTH],
+    rounds: &mut [Residue],
+)
+    ensures { λ _. ⌜ Provided (Continuing settings t (now (key .entry)) (now (message .entry)) claim (drop (polynomialAt (settings .degree) t) (now (rounds .entry)))) (now (rounds .exit) ≡ restStored settings t (now (key .entry)) (now (message .entry)) (now (rounds .entry))) ⌝ }
 {
-    if d > 64 {
+    let at = sizes::polynomial_at(settings.degree, t);
+    if rounds.len() < at {
         return;
     }
-    if t >= 8 {
-        return;
-    }
-    let n = d as usize;
-    let at = sizes::polynomial_at(d, t);
-    if out.len() < at + 3 * n {
-        return;
-    }
-    store_element(n, polynomial[0], at, out);
-    store_element(n, polynomial[1], at + n, out);
-    store_element(n, polynomial[2], at + 2 * n, out);
+    prover::rounds::rest(settings, t, key, message, &claim, &mut rounds[at..]);
+}
+
+// The polynomial of round t + 1, by value.
+pub fn polynomial(d: u32, t: u32, rounds: &[Residue]) -> [[Residue; WIDTH]; 3]
+    ensures { λ r. ⌜ Provided (d ≤ width) (Provided (t ≤ 3280) (r ≡ tabulate 3 (λ j. elementAt d (now (rounds .entry)) (itemOf t j)))) ⌝ }
+{
+    let c0 = elements::element_at(d, rounds, sizes::item_of(t, 0));
+    let c1 = elements::element_at(d, rounds, sizes::item_of(t, 1));
+    let c2 = elements::element_at(d, rounds, sizes::item_of(t, 2));
+    [c0, c1, c2]
 }

@@ -1,6 +1,8 @@
 // The turns of a whole opening (PROTOCOL 2.6, 8.7): prover and verifier call each other, once each in every round.
 use crate::storage;
+use protocol::Residue;
 use protocol::Settings;
+use protocol::WIDTH;
 use residues::elements;
 ghost use mathlib.Core.Path.{_≡_};
 ghost use Prim.Native.Nat.{_+_, _<_};
@@ -12,29 +14,33 @@ ghost use Rattle.opening.specs.Turns.{tested, ProverMove, ProverTurn, Ve
 // Where an opening stands: the rounds done, the verifier's claim, and whether every round so far held.
 pub struct State {
     pub done: u32,
-    pub claim: [u32; 64],
+    pub claim: [Residue; WIDTH],
     pub holds: bool,
 }
 
-// The prover's move in round t + 1: it gives the round polynomial, stores it, and folds both tables by X^e.
+// The prover's move in round t + 1, whose c0 stands in its place: c1 and c2 follow from the claim and one inner product. It gives the round polynomial, folds
+// both tables by X^e, and puts c0 of the next round in its place, where there is one.
 fn prove_round(
     settings: Settings,
     t: u32,
     e: u32,
-    key: &mut [u32],
+    claim: [Residue; WIDTH],
+    key: &mut [Residue],
     message: &mut [i32],
-    rounds: &mut [u32],
-) -> [[u32; 64]; 3]
-    ensures { λ r. ⌜ ProverMove settings t e (now (key .entry)) (now (message .entry)) (now (rounds .entry)) r (now (key .exit)) (now (message .exit)) (now (rounds .exit)) ⌝ }
+    rounds: &mut [Residue],
+) -> [[Residue; WIDTH]; 3]
+    requires { ⌜ t < settings .depth ⌝ }
+    ensures { λ r. ⌜ ProverMove settings t e claim (now (key .entry)) (now (message .entry)) (now (rounds .entry)) r (now (key .exit)) (now (message .exit)) (now (rounds .exit)) ⌝ }
 {
-    let polynomial = prover::elements_of(prover::round(settings, t, key, message));
+    storage::write_rest(settings, t, key, message, claim, rounds);
+    let polynomial = storage::polynomial(settings.degree, t, rounds);
     prover::fold(settings, t, e, key, message);
-    storage::store_round(settings.degree, t, polynomial, rounds);
+    storage::write_first(settings, t + 1, key, message, rounds);
     polynomial
 }
 
 // The verifier's move: the round's equation, and the next claim.
-fn check_round(settings: Settings, state: State, polynomial: [[u32; 64]; 3], e: u32) -> State
+fn check_round(settings: Settings, state: State, polynomial: [[Residue; WIDTH]; 3], e: u32) -> State
     requires { ⌜ state .done < settings .depth ⌝ }
     ensures { λ r. ⌜ ((r .done ≡ state .done + 1) × Provided (Evaluable settings (part polynomial 0) (part polynomial 1) (part polynomial 2)) (r ≡ tested settings state polynomial e)) ⌝ }
 {
@@ -55,10 +61,10 @@ fn check_round(settings: Settings, state: State, polynomial: [[u32; 64]; 3], e: 
 pub fn prover_turn(
     settings: Settings,
     state: State,
-    key: &mut [u32],
+    key: &mut [Residue],
     message: &mut [i32],
     challenges: &[u32],
-    rounds: &mut [u32],
+    rounds: &mut [Residue],
 ) -> State
     ensures { λ r. ⌜ ProverTurn settings (now (challenges .entry)) state (now (key .entry)) (now (message .entry)) (now (rounds .entry)) r (now (key .exit)) (now (message .exit)) (now (rounds .exit)) ⌝ }
 {
@@ -67,7 +73,8 @@ pub fn prover_turn(
         return state;
     }
     let e = elements::entry(challenges, t as usize);
-    let polynomial = prove_round(settings, t, e, key, message, rounds);
+    let claim = state.claim;
+    let polynomial = prove_round(settings, t, e, claim, key, message, rounds);
     verifier_turn(
         settings,
         state,
@@ -84,12 +91,12 @@ pub fn prover_turn(
 fn verifier_turn(
     settings: Settings,
     state: State,
-    polynomial: [[u32; 64]; 3],
+    polynomial: [[Residue; WIDTH]; 3],
     e: u32,
-    key: &mut [u32],
+    key: &mut [Residue],
     message: &mut [i32],
     challenges: &[u32],
-    rounds: &mut [u32],
+    rounds: &mut [Residue],
 ) -> State
     requires { ⌜ state .done < settings .depth ⌝ }
     ensures { λ r. ⌜ VerifierTurn settings (now (challenges .entry)) state (now (key .entry)) (now (message .entry)) (now (rounds .entry)) r (now (key .exit)) (now (message .exit)) (now (rounds .exit)) polynomial e ⌝ }

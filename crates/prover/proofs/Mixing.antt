@@ -24,13 +24,23 @@ use Rattle.residues.proofs.Parts.{tail-at, tail-length}
 use Rattle.residues.proofs.Fill.{filled, filled-ext, filled-at, filled-length, zeros-length}
 use Rattle.residues.proofs.SignedFill.{signed-zeros-length}
 use Rattle.residues.proofs.Padding.{padded-at}
-use Rattle.prover.specs.Messages.{SmallHalf, Tables, Halved}
+use Rattle.prover.specs.Messages.{SmallHalf, Sized, Tables, Halved}
 use Rattle.prover.specs.Sums.{scaled, innerOfSums}
 
 -- ---- the sums of the halves, as the code writes them to the front of a table
 
+module _ (q d h : ℕ) (m : List ℤ) (G : List ℕ) (z : Sized q d (2 * h) (length m) (length G)) where
+  pub half-few : h * d ≤ 8192
+  half-few = Nat.mul-le-mul {n₂ = 128} {m₂ = 64} (omega (arith, z .elements)) (z .degree-most)
+
+  pub message-lengths : (h * d ≤ length m) × (h * d ≤ length (take (length m - h * d) (drop (h * d) m)))
+  message-lengths = (omega (arith, z .message-long, Nat.mul-assoc 2 h d), omega (arith, tail-length (h * d) m, z .message-long, Nat.mul-assoc 2 h d))
+
+  pub key-lengths : (h * d ≤ length G) × (h * d ≤ length (take (length G - h * d) (drop (h * d) G)))
+  key-lengths = (omega (arith, z .key-long, Nat.mul-assoc 2 h d), omega (arith, tail-length (h * d) G, z .key-long, Nat.mul-assoc 2 h d))
+
 module _ (q d h : ℕ) (m : List ℤ) (G : List ℕ) (t : Halved q d h m G) where
-  pub half-inside : h * d ≤ 8192
+  half-inside : h * d ≤ 8192
   half-inside = Nat.mul-le-mul {n₂ = 128} {m₂ = 64} (omega (arith, t .tables .elements)) (t .tables .degree-most)
 
   twice : 2 * h * d ≡ 2 * (h * d)
@@ -161,11 +171,11 @@ module _ (q d h s : ℕ) (p : 0 < q) (pd : 0 < d) (m G : ℕ → Element) where
   abbrev part : ℕ → ℕ → ℤ
   part j k = pos s *ℤ cross d h m G j k
 
-  scaled-at : (a : Element) (l : List ℕ) → l ≡ scaled q d s a → (k : ℕ) → k < d → getD l k 0 ≡ modulo q (pos s *ℤ a k)
+  pub scaled-at : (a : Element) (l : List ℕ) → l ≡ scaled q d s a → (k : ℕ) → k < d → getD l k 0 ≡ modulo q (pos s *ℤ a k)
   unfolding scaled reduced times
   scaled-at a l e k h = ap (λ x. getD x k 0) e ∙ padded-at d (λ j. modulo q (pos s *ℤ a j)) k h
 
-  spread : (k : ℕ) → k < d → modulo q (pos s *ℤ innerOfSums d h m G k) ≡ ((modulo q (part 0 k) + modulo q (part 1 k)) % q + modulo q (part 2 k)) % q
+  pub spread : (k : ℕ) → k < d → modulo q (pos s *ℤ innerOfSums d h m G k) ≡ ((modulo q (part 0 k) + modulo q (part 1 k)) % q + modulo q (part 2 k)) % q
   unfolding plus
   spread k l =
       let c : ℕ → ℤ = λ j. cross d h m G j k in

@@ -23,12 +23,23 @@ use Rattle.products.specs.Sums.{Summable}
 use Rattle.residues.proofs.Parts.{tail-all}
 use Rattle.residues.proofs.Padding.{padded-at}
 use Rattle.refusals.proofs.Given.{CommitGiven}
-use Rattle.prover.specs.Messages.{Tables}
+use Rattle.prover.specs.Messages.{Sized, Tables}
 use Rattle.prover.specs.Sums.{scaled}
 
-inner-same : (d h : ℕ) → 0 < d → {m m′ G G′ : ℕ → Element} → ((i : ℕ) → i < h → Same d (m i) (m′ i)) → ((i : ℕ) → i < h → Same d (G i) (G′ i)) → (k : ℕ) → inner d h m G k ≡ inner d h m′ G′ k
+pub inner-same : (d h : ℕ) → 0 < d → {m m′ G G′ : ℕ → Element} → ((i : ℕ) → i < h → Same d (m i) (m′ i)) → ((i : ℕ) → i < h → Same d (G i) (G′ i)) → (k : ℕ) → inner d h m G k ≡ inner d h m′ G′ k
 unfolding inner
 inner-same d h p a b k = sum-ext h (λ i l. product-same p (a i l) (b i l) k)
+
+pub tables-sized : (q d n : ℕ) (m : List ℤ) (G : List ℕ) → Tables q d n m G → Sized q d n (length m) (length G)
+tables-sized q d n m G t = record {
+  modulus = t .modulus;
+  modulus-most = t .modulus-most;
+  degree = t .degree;
+  degree-most = t .degree-most;
+  elements = t .elements;
+  message-long = t .message-long;
+  key-long = t .key-long;
+}
 
 -- small enough for a sum
 pub summable : (q d n : ℕ) (m : List ℤ) (G : List ℕ) → Tables q d n m G → Summable q d n m G
@@ -80,11 +91,11 @@ module _ (q d h : ℕ) (m : List ℤ) (G : List ℕ) (t : Tables q d (2 * h) m G
   pub second-halves : Tables q d h m1 G1
   second-halves = subst (λ m′. Tables q d h m′ G1) (sym (tail-all (h * d) m)) (subst (λ G′. Tables q d h (drop (h * d) m) G′) (sym (tail-all (h * d) G)) (halves (h * d) (h * d) (Nat.le-refl _) (Nat.le-refl _)))
 
-  second-message : (i : ℕ) → Same d (signedAt d m1 i) (second h (signedAt d m) i)
+  pub second-message : (i : ℕ) → Same d (signedAt d m1 i) (second h (signedAt d m) i)
   unfolding signedAt second
   second-message i k l = ap (λ x. getD x (i * d + k) (pos 0)) (tail-all (h * d) m) ∙ getD-drop (h * d) m (i * d + k) (pos 0) ∙ ap (λ n. getD m n (pos 0)) (omega (arith, Nat.add-mul h i d))
 
-  second-key : (i : ℕ) → Same d (residueAt d G1 i) (second h (residueAt d G) i)
+  pub second-key : (i : ℕ) → Same d (residueAt d G1 i) (second h (residueAt d G) i)
   unfolding residueAt second
   second-key i k l = ap pos (ap (λ x. getD x (i * d + k) 0) (tail-all (h * d) G) ∙ getD-drop (h * d) G (i * d + k) 0 ∙ ap (λ n. getD G n 0) (omega (arith, Nat.add-mul h i d)))
 

@@ -4,6 +4,7 @@
 --   Room n l           the first n numbers of l are small enough that the sum of two of them is a signed number of 32 bits
 --   Small n l          they are small enough for inner products
 --   SmallHalf n l      l has n numbers, small enough that sums of two of them are small enough for inner products
+--   Sized q d n ..     modulus, degree and lengths allow inner products of n elements
 --   Tables q d n ..    both have n elements, for inner products modulo q
 --   Halved q d h ..    both have two halves of h elements, for inner products of the halves' sums
 use mathlib.Core.List.{List}
@@ -24,6 +25,15 @@ Small n l = (j : ℕ) → j < n → natAbs (getD l j (pos 0)) ≤ 2 ^ 15
 pub record SmallHalf (n : ℕ) (l : List ℤ) : Type 0 where
   pub long : n ≤ length l
   pub each : (j : ℕ) → j < n → natAbs (getD l j (pos 0)) ≤ 2 ^ 14
+
+pub record Sized (q d n message key : ℕ) : Type 0 where
+  pub modulus : 0 < q
+  pub modulus-most : q ≤ 2 ^ 31
+  pub degree : 0 < d
+  pub degree-most : d ≤ width
+  pub elements : n ≤ 256
+  pub message-long : n * d ≤ message
+  pub key-long : n * d ≤ key
 
 pub record Tables (q d n : ℕ) (message : List ℤ) (key : List ℕ) : Type 0 where
   pub modulus : 0 < q

@@ -9,15 +9,15 @@ const HALF_ROOM: usize = 128 * WIDTH;
 ghost use mathlib.Core.Path.{_≡_};
 ghost use Prim.Native.Nat.{_+_, _*_, _-_, _%_, _<_, _≤_};
 ghost use lib.ListN.{length, getD};
-ghost use Rattle.protocol.specs.Basic.{tabulate};
+ghost use Rattle.protocol.specs.Basic.{tabulate, Provided};
 ghost use Rattle.protocol.specs.Element.{width, padded, signedAt, residueAt};
 ghost use Rattle.protocol.specs.Opening.{cross};
 ghost use Rattle.protocol.specs.Opening as opening;
-ghost use Rattle.prover.specs.Messages.{Tables, Halved};
+ghost use Rattle.prover.specs.Messages.{Sized, Tables, Halved};
 ghost use Rattle.prover.specs.Sums as sums;
 
 // x·y modulo q
-fn multiple(q: u32, x: u32, y: Residue) -> Residue
+pub fn multiple(q: u32, x: u32, y: Residue) -> Residue
     requires { ⌜ 0 < q ⌝ }
     ensures { λ r. ⌜ r ≡ x * y % q ⌝ }
 {
@@ -48,14 +48,14 @@ fn inner_scaled(
     message: &[i32],
     key: &[Residue],
 ) -> [Residue; WIDTH]
-    requires { ⌜ Tables q d h (now message) (now key) ⌝ }
-    ensures { λ r. ⌜ r ≡ sums.scaled q d s (opening.inner d h (signedAt d (now (message .entry))) (residueAt d (now (key .entry)))) ⌝ }
+    requires { ⌜ (0 < q) × (d ≤ width) ⌝ }
+    ensures { λ r. ⌜ Provided (Tables q d h (now (message .entry)) (now (key .entry))) (r ≡ sums.scaled q d s (opening.inner d h (signedAt d (now (message .entry))) (residueAt d (now (key .entry))))) ⌝ }
 {
     scaled(q, d, s, products::inner(q, d, h, message, key))
 }
 
 // s·⟨m0 + m1, G0 + G1⟩ modulo q, the halves having h elements
-fn inner_of_sums(
+pub fn inner_of_sums(
     q: u32,
     d: u32,
     h: u32,
@@ -63,8 +63,8 @@ fn inner_of_sums(
     message: &[i32],
     key: &[Residue],
 ) -> [Residue; WIDTH]
-    requires { ⌜ Halved q d h (now message) (now key) ⌝ }
-    ensures { λ r. ⌜ r ≡ sums.scaled q d s (sums.innerOfSums d h (signedAt d (now (message .entry))) (residueAt d (now (key .entry)))) ⌝ }
+    requires { ⌜ Sized q d (2 * h) (length (now message)) (length (now key)) ⌝ }
+    ensures { λ r. ⌜ Provided (Halved q d h (now (message .entry)) (now (key .entry))) (r ≡ sums.scaled q d s (sums.innerOfSums d h (signedAt d (now (message .entry))) (residueAt d (now (key .entry))))) ⌝ }
 {
     let half = (h as usize) * (d as usize);
     let mut m = [0i32; HALF_ROOM];

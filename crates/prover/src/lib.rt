@@ -2,25 +2,28 @@
 mod half_sums;
 mod inner;
 mod messages;
+pub mod rounds;
 
 use protocol::Committed;
 use protocol::Ended;
 use protocol::Polynomial;
+use protocol::Residue;
 use protocol::Settings;
+use protocol::WIDTH;
 use residues::elements;
 ghost use mathlib.Core.Path.{_≡_};
 ghost use Rattle.protocol.specs.Calls.{commitAnswer, roundAnswer, endAnswer};
 ghost use Rattle.protocol.specs.Promises.{Folded};
 
 // The commitment to a message.
-pub fn commit(settings: Settings, key: &[u32], message: &[i32]) -> Committed
+pub fn commit(settings: Settings, key: &[Residue], message: &[i32]) -> Committed
     ensures { λ r. ⌜ r ≡ commitAnswer settings (now (key .entry)) (now (message .entry)) ⌝ }
 {
     let number = refusals::prover::commit(settings, key, message);
     if number != 0 {
         return Committed {
             number: number,
-            commitment: [0u32; 64],
+            commitment: [0u32; WIDTH],
         };
     }
     let q = settings.modulus;
@@ -35,25 +38,25 @@ pub fn commit(settings: Settings, key: &[u32], message: &[i32]) -> Committed
 
 // The answer of a prover's round, put together and taken apart: whoever holds one calls these, since a field that is an array of arrays
 // is read and written by hand.
-fn polynomial_of(number: u32, elements: [[u32; 64]; 3]) -> Polynomial
+fn polynomial_of(number: u32, elements: [[Residue; WIDTH]; 3]) -> Polynomial
     ensures { λ r. ⌜ (r .number ≡ number) × (r .elements ≡ elements) ⌝ }
 {
     Polynomial { number, elements }
 }
 
-pub fn elements_of(answer: Polynomial) -> [[u32; 64]; 3]
+pub fn elements_of(answer: Polynomial) -> [[Residue; WIDTH]; 3]
     ensures { λ r. ⌜ r ≡ answer .elements ⌝ }
 {
     answer.elements
 }
 
 // The prover's round: the round polynomial of round t + 1.
-pub fn round(settings: Settings, done: u32, key: &[u32], message: &[i32]) -> Polynomial
+pub fn round(settings: Settings, done: u32, key: &[Residue], message: &[i32]) -> Polynomial
     ensures { λ r. ⌜ r ≡ roundAnswer settings done (now (key .entry)) (now (message .entry)) ⌝ }
 {
     let number = refusals::prover::round(settings, done, key, message);
     if number != 0 {
-        let none = [0u32; 64];
+        let none = [0u32; WIDTH];
         return polynomial_of(number, [none, none, none]);
     }
     let q = settings.modulus;
@@ -65,7 +68,7 @@ pub fn round(settings: Settings, done: u32, key: &[u32], message: &[i32]) -> Pol
 }
 
 // The fold of both tables by X^e. Nothing is written before the last test.
-pub fn fold(settings: Settings, done: u32, e: u32, key: &mut [u32], message: &mut [i32]) -> u32
+pub fn fold(settings: Settings, done: u32, e: u32, key: &mut [Residue], message: &mut [i32]) -> u32
     ensures { λ r. ⌜ Folded settings done e (now (key .entry)) (now (message .entry)) r (now (key .exit)) (now (message .exit)) ⌝ }
 {
     let number = refusals::prover::fold(settings, done, e, key, message);
@@ -87,7 +90,7 @@ pub fn end(settings: Settings, done: u32, message: &[i32]) -> Ended
     if number != 0 {
         return Ended {
             number: number,
-            last: [0i32; 64],
+            last: [0i32; WIDTH],
         };
     }
     let last = elements::signed_element_at(settings.degree, message, 0);

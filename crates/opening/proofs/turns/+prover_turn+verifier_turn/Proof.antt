@@ -44,158 +44,68 @@ verifier-turn-below t =
     (falls 4 verifier-turn-kinds.ps _<_ μ-verifier-turn t)
     verifier-turn.Pre
 
-prover-turn-returns : (t : ℕ) → prover-turn-lts.Need-returns (
-  entry-reads.Asked,
-  entry-reads.Learnt,
-  prove-round-reads.Asked,
-  prove-round-reads.Learnt,
-  verifier-turn-below t,
-  verifier-turn.Post,
-) (prover-turn-at t) prover-turn.Post
+-- what is known of the functions that are called
+abbrev prover-calls : ℕ → prover-turn-lts.Claims
+prover-calls t = (entry-reads.Asked, entry-reads.Learnt, prove-round-reads.Asked, prove-round-reads.Learnt, verifier-turn-below t, verifier-turn.Post)
+
+abbrev verifier-calls : ℕ → verifier-turn-lts.Claims
+verifier-calls t = (check-round-reads.Asked, check-round-reads.Learnt, prover-turn-below t, prover-turn.Post)
+
+prover-turn-returns : (t : ℕ) → prover-turn-lts.Need-returns (prover-calls t) (prover-turn-at t) prover-turn.Post
 prover-turn-returns t c = let a = c .before .before .before .before .before .args in prover-stops (a .settings) (a .challenges .now) (a .state) (a .key .now) (a .message .now) (a .rounds .now) (omega arith)
 
-prover-turn-cast-entry : (t : ℕ) → prover-turn-lts.Need-cast-entry (
-  entry-reads.Asked,
-  entry-reads.Learnt,
-  prove-round-reads.Asked,
-  prove-round-reads.Learnt,
-  verifier-turn-below t,
-  verifier-turn.Post,
-) (prover-turn-at t) prover-turn.Post
+prover-turn-cast-entry : (t : ℕ) → prover-turn-lts.Need-cast-entry (prover-calls t) (prover-turn-at t) prover-turn.Post
 prover-turn-cast-entry t c = search needs
 
-prover-turn-entry-requires : (t : ℕ) → prover-turn-lts.Need-entry-requires (
-  entry-reads.Asked,
-  entry-reads.Learnt,
-  prove-round-reads.Asked,
-  prove-round-reads.Learnt,
-  verifier-turn-below t,
-  verifier-turn.Post,
-) (prover-turn-at t) prover-turn.Post
+prover-turn-entry-requires : (t : ℕ) → prover-turn-lts.Need-entry-requires (prover-calls t) (prover-turn-at t) prover-turn.Post
 prover-turn-entry-requires t c κs = search needs
 
-prover-turn-prove-round-requires : (t : ℕ) → prover-turn-lts.Need-prove-round-requires (
-  entry-reads.Asked,
-  entry-reads.Learnt,
-  prove-round-reads.Asked,
-  prove-round-reads.Learnt,
-  verifier-turn-below t,
-  verifier-turn.Post,
-) (prover-turn-at t) prover-turn.Post
-prover-turn-prove-round-requires t c κs = search needs
+prover-turn-prove-round-requires : (t : ℕ) → prover-turn-lts.Need-prove-round-requires (prover-calls t) (prover-turn-at t) prover-turn.Post
+prover-turn-prove-round-requires t c κs = omega arith
 
-prover-turn-verifier-turn-requires : (t : ℕ) → prover-turn-lts.Need-verifier-turn-requires (
-  entry-reads.Asked,
-  entry-reads.Learnt,
-  prove-round-reads.Asked,
-  prove-round-reads.Learnt,
-  verifier-turn-below t,
-  verifier-turn.Post,
-) (prover-turn-at t) prover-turn.Post
+prover-turn-verifier-turn-requires : (t : ℕ) → prover-turn-lts.Need-verifier-turn-requires (prover-calls t) (prover-turn-at t) prover-turn.Post
 prover-turn-verifier-turn-requires t c κs = (omega arith, omega arith)
 
-prover-turn-same-length : (t : ℕ) → prover-turn-lts.Need-same-length (
-  entry-reads.Asked,
-  entry-reads.Learnt,
-  prove-round-reads.Asked,
-  prove-round-reads.Learnt,
-  verifier-turn-below t,
-  verifier-turn.Post,
-) (prover-turn-at t) prover-turn.Post
+prover-turn-same-length : (t : ℕ) → prover-turn-lts.Need-same-length (prover-calls t) (prover-turn-at t) prover-turn.Post
 prover-turn-same-length t c = search needs
 
-prover-turn-same-length-2 : (t : ℕ) → prover-turn-lts.Need-same-length-2 (
-  entry-reads.Asked,
-  entry-reads.Learnt,
-  prove-round-reads.Asked,
-  prove-round-reads.Learnt,
-  verifier-turn-below t,
-  verifier-turn.Post,
-) (prover-turn-at t) prover-turn.Post
+prover-turn-same-length-2 : (t : ℕ) → prover-turn-lts.Need-same-length-2 (prover-calls t) (prover-turn-at t) prover-turn.Post
 prover-turn-same-length-2 t c = search needs
 
-prover-turn-same-length-3 : (t : ℕ) → prover-turn-lts.Need-same-length-3 (
-  entry-reads.Asked,
-  entry-reads.Learnt,
-  prove-round-reads.Asked,
-  prove-round-reads.Learnt,
-  verifier-turn-below t,
-  verifier-turn.Post,
-) (prover-turn-at t) prover-turn.Post
+prover-turn-same-length-3 : (t : ℕ) → prover-turn-lts.Need-same-length-3 (prover-calls t) (prover-turn-at t) prover-turn.Post
 prover-turn-same-length-3 t c = search needs
 
-prover-turn-returns-2 : (t : ℕ) → prover-turn-lts.Need-returns-2 (
-  entry-reads.Asked,
-  entry-reads.Learnt,
-  prove-round-reads.Asked,
-  prove-round-reads.Learnt,
-  verifier-turn-below t,
-  verifier-turn.Post,
-) (prover-turn-at t) prover-turn.Post
+prover-turn-returns-2 : (t : ℕ) → prover-turn-lts.Need-returns-2 (prover-calls t) (prover-turn-at t) prover-turn.Post
 prover-turn-returns-2 t c =
-    let a = c .before .before .before .before .before .before .before .before .before .before .before .before .before .before .before .before .before .before .before .before .before .before .before .before .args in
+    let rest = c .before .before .before .before .before in
+    let proved = rest .before .before .before .before .before .before .before .before .before in
+    let read = proved .before .before .before .before .before in
+    let a = read .before .before .before .before .before .before .args in
     prover-goes (a .settings) (a .challenges .now) (a .state) (a .key .now) (a .message .now) (a .rounds .now) (omega arith) _ _ _ _ _ _ _ _ _
-    (c .before .before .before .before .before .before .before .before .before .before .before .before .before .before .before .before .before .before .entry .ensures) (c .before .before .before .before .before .before .before .before .before .before .before .before .before .before .prove-round .ensures) (c .before .before .before .before .before .verifier-turn .ensures)
+    (read .entry .ensures) (proved .prove-round .ensures) (rest .verifier-turn .ensures)
 
-verifier-turn-check-round-requires : (t : ℕ) → verifier-turn-lts.Need-check-round-requires (
-  check-round-reads.Asked,
-  check-round-reads.Learnt,
-  prover-turn-below t,
-  prover-turn.Post,
-) (verifier-turn-at t) verifier-turn.Post
+verifier-turn-check-round-requires : (t : ℕ) → verifier-turn-lts.Need-check-round-requires (verifier-calls t) (verifier-turn-at t) verifier-turn.Post
 verifier-turn-check-round-requires t c κs = omega arith
 
-verifier-turn-prover-turn-requires : (t : ℕ) → verifier-turn-lts.Need-prover-turn-requires (
-  check-round-reads.Asked,
-  check-round-reads.Learnt,
-  prover-turn-below t,
-  prover-turn.Post,
-) (verifier-turn-at t) verifier-turn.Post
+verifier-turn-prover-turn-requires : (t : ℕ) → verifier-turn-lts.Need-prover-turn-requires (verifier-calls t) (verifier-turn-at t) verifier-turn.Post
 verifier-turn-prover-turn-requires t c κs = (omega (arith, c .before .before .before .check-round .ensures .0), tt)
 
-verifier-turn-same-length : (t : ℕ) → verifier-turn-lts.Need-same-length (
-  check-round-reads.Asked,
-  check-round-reads.Learnt,
-  prover-turn-below t,
-  prover-turn.Post,
-) (verifier-turn-at t) verifier-turn.Post
+verifier-turn-same-length : (t : ℕ) → verifier-turn-lts.Need-same-length (verifier-calls t) (verifier-turn-at t) verifier-turn.Post
 verifier-turn-same-length t c = search needs
 
-verifier-turn-same-length-2 : (t : ℕ) → verifier-turn-lts.Need-same-length-2 (
-  check-round-reads.Asked,
-  check-round-reads.Learnt,
-  prover-turn-below t,
-  prover-turn.Post,
-) (verifier-turn-at t) verifier-turn.Post
+verifier-turn-same-length-2 : (t : ℕ) → verifier-turn-lts.Need-same-length-2 (verifier-calls t) (verifier-turn-at t) verifier-turn.Post
 verifier-turn-same-length-2 t c = search needs
 
-verifier-turn-same-length-3 : (t : ℕ) → verifier-turn-lts.Need-same-length-3 (
-  check-round-reads.Asked,
-  check-round-reads.Learnt,
-  prover-turn-below t,
-  prover-turn.Post,
-) (verifier-turn-at t) verifier-turn.Post
+verifier-turn-same-length-3 : (t : ℕ) → verifier-turn-lts.Need-same-length-3 (verifier-calls t) (verifier-turn-at t) verifier-turn.Post
 verifier-turn-same-length-3 t c = search needs
 
-verifier-turn-returns : (t : ℕ) → verifier-turn-lts.Need-returns (
-  check-round-reads.Asked,
-  check-round-reads.Learnt,
-  prover-turn-below t,
-  prover-turn.Post,
-) (verifier-turn-at t) verifier-turn.Post
+verifier-turn-returns : (t : ℕ) → verifier-turn-lts.Need-returns (verifier-calls t) (verifier-turn-at t) verifier-turn.Post
 verifier-turn-returns t c =
     let a = c .before .before .before .before .before .before .before .before .before .before .before .before .before .args in
     verifier-goes (a .settings) (a .challenges .now) (a .state) (a .key .now) (a .message .now) (a .rounds .now) (omega arith) (a .polynomial) (a .e) _ _ _ _ _ (c .before .before .before .before .before .before .before .before .before .check-round .ensures .1) (c .before .before .before .before .before .prover-turn .ensures)
 
 pub +prover-turn+verifier-turn-spec : {M : Type 1} → statement M
-+prover-turn+verifier-turn-spec = close μ-prover-turn μ-verifier-turn (λ t. prover-turn-lts.spec (
-  entry-reads.Asked,
-  entry-reads.Learnt,
-  prove-round-reads.Asked,
-  prove-round-reads.Learnt,
-  verifier-turn-below t,
-  verifier-turn.Post,
-)
++prover-turn+verifier-turn-spec = close μ-prover-turn μ-verifier-turn (λ t. prover-turn-lts.spec (prover-calls t)
     (prover-turn-at t)
     prover-turn.Post
     (prover-turn-returns t)
@@ -208,7 +118,7 @@ pub +prover-turn+verifier-turn-spec : {M : Type 1} → statement M
     (prover-turn-same-length-3 t)
     (prover-turn-returns-2 t))
     λ t. verifier-turn-lts.spec
-    (check-round-reads.Asked, check-round-reads.Learnt, prover-turn-below t, prover-turn.Post)
+    (verifier-calls t)
     (verifier-turn-at t)
     verifier-turn.Post
     (verifier-turn-check-round-requires t)

@@ -1,4 +1,3 @@
-use mathlib.Core.Path.{ap, _∙_}
 use Rattle.opening.proofs.Turning.{prover-moves}
 use borrow.Author.Needs.{needs}
 use Rattle.opening.proofs.turns.prove_round.Statement.{statement}
@@ -6,9 +5,13 @@ use Rattle.opening.proofs.turns.prove_round.Tie as tie
 
 returns : tie.Need-returns
 returns c =
-    let a = c .before .before .before .before .before .before .before .before .before .before .before .before .before .before .before .before .args in
-    prover-moves (a .settings) (a .t) (a .e) (a .key .now) (a .message .now) (a .rounds .now) _ _ _ _ _
-    (c .before .before .before .before .before .before .before .before .before .before .elements-of .ensures ∙ ap (λ r. r .elements) (c .before .before .before .before .before .before .before .before .before .before .before .round .ensures)) (c .before .before .before .before .before .before .before .fold .ensures) (c .before .before .store-round .ensures)
+    let first = c .before .before in
+    let folded = first .before .before .before .before .before .before .before in
+    let read = folded .before .before .before in
+    let rest = read .before .before .before .before in
+    let a = rest .before .before .before .before .before .before .args in
+    prover-moves (a .settings) (a .t) (a .e) (a .claim) (a .key .now) (a .message .now) (a .rounds .now) _ _ _ _ _ _
+    (rest .write-rest .ensures) (read .polynomial .ensures) (folded .fold .ensures) (first .write-first .ensures .0) (first .write-first .ensures .1)
 
 pub prove-round-spec : {M : Type 1} → statement M
 prove-round-spec =
@@ -17,6 +20,7 @@ prove-round-spec =
     (λ c κs. search needs)
     (λ c κs. search needs)
     (λ c κs. search needs)
+    (λ c. search needs)
     (λ c κs. search needs)
     (λ c. search needs)
     (λ c. search needs)

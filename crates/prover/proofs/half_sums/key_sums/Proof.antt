@@ -4,20 +4,22 @@ use Prim.Native.Nat.{ℕ, _+_, _-_, _%_, _≤_}
 use native.Mathlib.Nat.{zero-add}
 use native.Mathlib.Omega.{arith}
 use lib.ListN.{length, getD, length-set}
-use Rattle.residues.specs.Residues.{BothBelow}
+use Rattle.protocol.specs.Basic.{Provided}
+use Rattle.residues.specs.Residues.{BothBelow, Residues}
 use Rattle.residues.proofs.Fill.{filled, filled-none, filled-turn, filled-end}
 use borrow.Author.Needs.{needs}
 use Rattle.prover.proofs.half_sums.key_sums.Statement.{statement}
 use Rattle.prover.proofs.half_sums.key_sums.Tie as tie
 
 abbrev Inv-loop : tie.InvT-loop
-Inv-loop q n first second sums₀ p₀ sums p = (p ≤ n) × (sums ≡ filled (λ (j : ℕ). (getD first j 0 + getD second j 0) % q) p sums₀) × (length sums ≡ length sums₀)
+Inv-loop q n first second sums₀ p₀ sums p =
+    (p ≤ n) × Provided (Residues q n 0 first × Residues q n 0 second) (sums ≡ filled (λ (j : ℕ). (getD first j 0 + getD second j 0) % q) p sums₀) × (length sums ≡ length sums₀)
 
 abbrev μ-loop : tie.MeasureT-loop
 μ-loop q n first second sums₀ p₀ sums p = n - p
 
 loop-holds : tie.Need-loop-holds Inv-loop μ-loop
-loop-holds c = (omega arith, filled-none _ _, refl)
+loop-holds c = (omega arith, (λ _. filled-none _ _), refl)
 
 loop-again : tie.Need-loop-again Inv-loop μ-loop
 loop-again c =
@@ -25,12 +27,13 @@ loop-again c =
     let l = c .before .before .before .before .loop in
     let one = ap (λ j. getD (s .args .first .now) j 0) (zero-add (l .p)) in
     let two = ap (λ j. getD (s .args .second .now) j 0) (zero-add (l .p)) in
-    let small : BothBelow (s .args .q) (getD (s .args .first .now) (l .p) 0) (getD (s .args .second .now) (l .p) 0) =
-    record { left = omega (arith, one, s .pre .0 .each (l .p) (omega arith)); right = omega (arith, two, s .pre .1 .each (l .p) (omega arith)) } in
-    (omega arith, filled-turn _ (l .p) _ (l .inv .1) (c .plus .ensures small) (omega arith), simp length-set (omega arith))
+    let small : Residues (s .args .q) (s .args .n) 0 (s .args .first .now) × Residues (s .args .q) (s .args .n) 0 (s .args .second .now)
+    → BothBelow (s .args .q) (getD (s .args .first .now) (l .p) 0) (getD (s .args .second .now) (l .p) 0) =
+    λ h. record { left = omega (arith, one, h .0 .each (l .p) (omega arith)); right = omega (arith, two, h .1 .each (l .p) (omega arith)) } in
+    (omega arith, (λ h. filled-turn _ (l .p) _ (l .inv .1 h) (c .plus .ensures (small h)) (omega arith)), simp length-set (omega arith))
 
 returns : tie.Need-returns Inv-loop μ-loop
-returns c = filled-end _ _ (c .before .loop .inv .1) (omega arith)
+returns c = λ h. filled-end _ _ (c .before .loop .inv .1 h) (omega arith)
 
 pub key-sums-spec : {M : Type 1} → statement M
 key-sums-spec =

@@ -2,8 +2,10 @@
 use mathlib.Core.Path.{_≡_, refl, ap, _∙_}
 use Prim.Native.Nat.{ℕ, _+_, _-_, _^_, _<_, _≤_}
 use native.Mathlib.Omega.{arith}
-use lib.IntN.{pos, natAbs, _+ℤ_}
+use lib.IntN.{ℤ, pos, natAbs, _+ℤ_}
 use lib.ListN.{length, getD, length-set}
+use Rattle.protocol.specs.Basic.{Provided}
+use Rattle.prover.specs.Messages.{SmallHalf}
 use Rattle.residues.proofs.Fill.{filled, filled-none, filled-turn, filled-end}
 use borrow.Author.Needs.{needs}
 use Rattle.prover.proofs.Words.{read, read-small, plus-is}
@@ -11,19 +13,14 @@ use Rattle.prover.proofs.half_sums.message_sums.Statement.{statement}
 use Rattle.prover.proofs.half_sums.message_sums.Tie as tie
 
 abbrev Inv-loop : tie.InvT-loop
-Inv-loop n first second sums₀ p₀ sums p = (p ≤ n) × (sums ≡ filled (λ (j : ℕ). getD first j (pos 0) +ℤ getD second j (pos 0)) p sums₀) × (length sums ≡ length sums₀)
+Inv-loop n first second sums₀ p₀ sums p =
+    (p ≤ n) × Provided (SmallHalf n first × SmallHalf n second) (sums ≡ filled (λ (j : ℕ). getD first j (pos 0) +ℤ getD second j (pos 0)) p sums₀) × (length sums ≡ length sums₀)
 
 abbrev μ-loop : tie.MeasureT-loop
 μ-loop n first second sums₀ p₀ sums p = n - p
 
 loop-holds : tie.Need-loop-holds Inv-loop μ-loop
-loop-holds c = (omega arith, filled-none _ _, refl)
-
-whole-sum-requires : tie.Need-whole-sum-requires Inv-loop μ-loop
-whole-sum-requires c κs =
-    let s = c .before .before .before .before in
-    let l = c .before .before .before .loop in
-    (read-small (getD (s .args .first .now) (l .p) (pos 0)) (s .pre .0 .each (l .p) (omega arith)), read-small (getD (s .args .second .now) (l .p) (pos 0)) (s .pre .1 .each (l .p) (omega arith)))
+loop-holds c = (omega arith, (λ _. filled-none _ _), refl)
 
 loop-again : tie.Need-loop-again Inv-loop μ-loop
 loop-again c =
@@ -31,11 +28,17 @@ loop-again c =
     let s = c .before .before .before .before .before in
     let x = getD (s .args .first .now) (l .p) (pos 0) in
     let y = getD (s .args .second .now) (l .p) (pos 0) in
-    let room : natAbs x + natAbs y < 2 ^ 31 = omega (arith, s .pre .0 .each (l .p) (omega arith), s .pre .1 .each (l .p) (omega arith)) in
-    (omega arith, filled-turn _ (l .p) _ (l .inv .1) (ap read (c .whole-sum .ensures) ∙ plus-is x y room) (omega arith), simp length-set (omega arith))
+    let small : (z : ℤ) → natAbs z ≤ 2 ^ 14 → natAbs (read z) < 2 ^ 30 = λ z k. omega (arith, read-small z k) in (
+      omega arith,
+      (λ h.
+          let hx : natAbs x ≤ 2 ^ 14 = h .0 .each (l .p) (omega arith) in
+          let hy : natAbs y ≤ 2 ^ 14 = h .1 .each (l .p) (omega arith) in
+          filled-turn _ (l .p) _ (l .inv .1 h) (ap read (c .whole-sum .ensures (small x hx) (small y hy)) ∙ plus-is x y (omega arith)) (omega arith)),
+      simp length-set (omega arith),
+    )
 
 returns : tie.Need-returns Inv-loop μ-loop
-returns c = filled-end _ _ (c .before .loop .inv .1) (omega arith)
+returns c = λ h. filled-end _ _ (c .before .loop .inv .1 h) (omega arith)
 
 pub message-sums-spec : {M : Type 1} → statement M
 message-sums-spec =
@@ -48,7 +51,7 @@ message-sums-spec =
     (λ c. search needs)
     (λ c. search needs)
     (λ c. search needs)
-    whole-sum-requires
+    (λ c κs. search needs)
     (λ c. search needs)
     (λ c. search needs)
     (λ c. search needs)

@@ -3,27 +3,33 @@ use mathlib.Core.List.{[], _∷_}
 use Rattle.protocol.specs.Basic.{tabulate}
 use Rattle.protocol.specs.Element.{signedAt, residueAt}
 use Rattle.prover.specs.Sums.{scaled}
-use Rattle.prover.proofs.Products.{first-halves, second-halves, cross-first, cross-last}
+use Rattle.prover.proofs.Products.{tables-sized, first-halves, second-halves, cross-first, cross-last}
 use Rattle.prover.proofs.Mixing.{difference-is}
 use borrow.Author.Needs.{needs}
 use Rattle.prover.proofs.inner.polynomial.Statement.{statement}
 use Rattle.prover.proofs.inner.polynomial.Tie as tie
 
 inner-scaled-requires : tie.Need-inner-scaled-requires
-inner-scaled-requires c κs = let a = c .before .args in first-halves (a .q) (a .d) (a .h) (a .message .now) (a .key .now) (c .before .pre .tables)
+inner-scaled-requires c κs = (c .before .pre .tables .modulus, c .before .pre .tables .degree-most)
 
 inner-scaled-requires-2 : tie.Need-inner-scaled-requires-2
-inner-scaled-requires-2 c κs = let s = c .before .before .before .before in let a = s .args in second-halves (a .q) (a .d) (a .h) (a .message .now) (a .key .now) (s .pre .tables)
+inner-scaled-requires-2 c κs = let t = c .before .before .before .before .pre .tables in (t .modulus, t .degree-most)
 
 returns : tie.Need-returns
 unfolding tabulate
 returns c =
     let s = c .before .before .before .before .before .before .before in
     let a = s .args in
+    let q = a .q in
+    let d = a .d in
+    let h = a .h in
+    let m = a .message .now in
+    let G = a .key .now in
     let t = s .pre .tables in
-    let c0 = c .before .before .before .before .before .inner-scaled .ensures ∙ ap (scaled (a .q) (a .d) (a .s)) (cross-first (a .q) (a .d) (a .h) (a .message .now) (a .key .now) t) in
-    let c2 = c .before .before .inner-scaled2 .ensures ∙ cross-last (a .q) (a .d) (a .h) (a .message .now) (a .key .now) t (a .s) in
-    let c1 = c .difference .ensures ∙ difference-is (a .q) (a .d) (a .h) (a .s) (t .modulus) (t .degree) (signedAt (a .d) (a .message .now)) (residueAt (a .d) (a .key .now)) _ _ _ (c .before .inner-of-sums .ensures) c0 c2 in
+    let c0 = c .before .before .before .before .before .inner-scaled .ensures (first-halves q d h m G t) ∙ ap (scaled q d (a .s)) (cross-first q d h m G t) in
+    let c2 = c .before .before .inner-scaled2 .ensures (second-halves q d h m G t) ∙ cross-last q d h m G t (a .s) in
+    let x = c .before .inner-of-sums .ensures (s .pre) in
+    let c1 = c .difference .ensures ∙ difference-is q d h (a .s) (t .modulus) (t .degree) (signedAt d m) (residueAt d G) _ _ _ x c0 c2 in
     λ i. c0 i ∷ c1 i ∷ c2 i ∷ []
 
 pub polynomial-spec : {M : Type 1} → statement M
