@@ -47,7 +47,7 @@ pub record EndGiven (S : Settings) (x y : ℕ) (key E : List ℕ) : Type 0 where
 
 pub record RoundRead (S : Settings) (k claim rounds : ℕ) : Type 0 where
   pub allowed : settingsRefusal S ≡ 0
-  pub number : k ≤ 3280
+  pub index : k ≤ 3280
   pub inside : polynomialAt (S .degree) k + polynomialCells (S .degree) ≤ rounds
   pub claim-long : S .degree ≤ claim
 

@@ -52,7 +52,7 @@ module _ (S : Settings) where
     pub round-inside : 0 < h → Round S k rounds
     round-inside up = record {
       allowed = T .allowed;
-      number = Places.node-most S h k first space A up (settings-valid S (T .allowed) .depth-most);
+      index = Places.node-most S h k first space A up (settings-valid S (T .allowed) .depth-most);
       inside = omega (arith, T .rounds-long, Nat.mul-le-mul-right d fewer, Nat.add-mul (3 * k) 3 d);
     }
       where

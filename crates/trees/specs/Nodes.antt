@@ -37,7 +37,7 @@ pub record Tables (S : Settings) (rounds finals : ℕ) : Type 0 where
 
 pub record Round (S : Settings) (k rounds : ℕ) : Type 0 where
   pub allowed : settingsRefusal S ≡ 0
-  pub number : k ≤ 3280
+  pub index : k ≤ 3280
   pub inside : polynomialAt (S .degree) k + polynomialCells (S .degree) ≤ rounds
 
 abbrev pub Reduced : Settings → List ℕ → Type 0

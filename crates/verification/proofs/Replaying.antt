@@ -27,7 +27,7 @@ module _ (S : Settings) (rounds : List ℕ) (y x : ℕ) (g : RoundsGiven S round
   pub round-read : RoundRead S t x (length rounds)
   round-read = record {
     allowed = g .allowed;
-    number = omega (arith, settings-valid S (g .allowed) .depth-most);
+    index = omega (arith, settings-valid S (g .allowed) .depth-most);
     inside = omega (arith, g .rounds-below .long, Nat.mul-le-mul-right (S .degree) three, Nat.add-mul (3 * t) 3 (S .degree));
     claim-long = omega (arith, g .claim-long);
   }

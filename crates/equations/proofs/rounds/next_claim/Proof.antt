@@ -9,7 +9,7 @@ use Rattle.equations.proofs.rounds.next_claim.Tie as tie
 
 returns : tie.Need-returns
 returns c = λ g.
-    absurd (let r = ready _ (g .of-round .allowed) in omega (arith, c .before .polynomial-at .ensures .0 (r .degree-most) (g .of-round .number), g .of-round .inside))
+    absurd (let r = ready _ (g .of-round .allowed) in omega (arith, c .before .polynomial-at .ensures .0 (r .degree-most) (g .of-round .index), g .of-round .inside))
 
 returns-2 : tie.Need-returns-2
 returns-2 c = λ g.
@@ -18,7 +18,7 @@ returns-2 c = λ g.
     let S = a .settings in
     let d = S .degree in
     let r = ready S (g .of-round .allowed) in
-    let at = p .polynomial-at .ensures .0 (r .degree-most) (g .of-round .number) in
+    let at = p .polynomial-at .ensures .0 (r .degree-most) (g .of-round .index) in
     let n = p .polynomial-at .result in
     claim-alike S (a .rounds .now) (a .k) n (n + 2 * d) at refl (a .e) (n + d) refl (a .claim .now)
     (c .before .before .value .ensures (record {

@@ -8,7 +8,7 @@ use Rattle.equations.proofs.rounds.polynomial_holds.Statement.{statemen
 use Rattle.equations.proofs.rounds.polynomial_holds.Tie as tie
 
 returns : tie.Need-returns
-returns c = λ g. absurd (let r = ready _ (g .allowed) in omega (arith, c .before .polynomial-at .ensures .0 (r .degree-most) (g .number), g .inside))
+returns c = λ g. absurd (let r = ready _ (g .allowed) in omega (arith, c .before .polynomial-at .ensures .0 (r .degree-most) (g .index), g .inside))
 
 returns-2 : tie.Need-returns-2
 returns-2 c = λ g.
@@ -17,7 +17,7 @@ returns-2 c = λ g.
     let S = a .settings in
     let d = S .degree in
     let r = ready S (g .allowed) in
-    let at = p .polynomial-at .ensures .0 (r .degree-most) (g .number) in
+    let at = p .polynomial-at .ensures .0 (r .degree-most) (g .index) in
     let n = p .polynomial-at .result in
     c .round-holds .ensures (record {
       allowed = g .allowed;

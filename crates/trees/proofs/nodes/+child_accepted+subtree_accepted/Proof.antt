@@ -99,7 +99,7 @@ module _ (t : ℕ) (g : child-accepted-lts.Start (child-calls t) (child-accepted
   round = Checks.round-inside (g .args .settings) (g .args .h) (g .args .k) (g .args .first) space _ _ place (g .pre .1 .0 .0) higher
 
   few : g .args .k ≤ 3280
-  few = round .number
+  few = round .index
 
   half-is : (U : List ℕ) → length U ≡ space → length U / 2 ≡ 2 ^ g .args .h * g .args .settings .degree
   half-is U e = ap (λ n. n / 2) e ∙ Places.half-is (g .args .settings) (g .args .h) (g .args .k) (g .args .first) space place

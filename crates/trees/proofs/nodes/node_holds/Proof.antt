@@ -8,7 +8,7 @@ unfolding nodeHolds nodeElement
 returns c =
     let s = c .before .before .before in
     let R = s .pre .0 in
-    c .polynomial-holds .ensures (record { allowed = R .allowed; number = R .number; inside = R .inside; claim-long = s .pre .1 })
+    c .polynomial-holds .ensures (record { allowed = R .allowed; index = R .index; inside = R .inside; claim-long = s .pre .1 })
 
 pub node-holds-spec : {M : Type 1} → statement M
 node-holds-spec = tie.close (tie.spec (λ c κs. search needs) returns)
