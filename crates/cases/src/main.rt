@@ -42,7 +42,7 @@ fn main() {
     let mut turns = u64::MAX;
     while turns > 0 {
         turns -= 1;
-        let call = input.number();
+        let call = input.refusal();
         if call.ended {
             return;
         }

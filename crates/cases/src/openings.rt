@@ -7,7 +7,7 @@ use protocol::Settings;
 fn answer_commit(settings: Settings, key: &[u32], message: &[i32]) {
     let answer = prover::commit(settings, key, message);
     let commitment = answer.commitment;
-    output::first(answer.number);
+    output::first(answer.refusal);
     output::element(commitment);
     output::end();
 }
@@ -30,7 +30,7 @@ fn answer_round(settings: Settings, t: u32, key: &[u32], message: &[i32]) {
     let c0 = elements[0];
     let c1 = elements[1];
     let c2 = elements[2];
-    output::first(answer.number);
+    output::first(answer.refusal);
     output::element(c0);
     output::element(c1);
     output::element(c2);
@@ -39,7 +39,7 @@ fn answer_round(settings: Settings, t: u32, key: &[u32], message: &[i32]) {
 
 pub fn run_round(input: Input) -> Input {
     let given = tables::settings(input);
-    let t = given.next.number();
+    let t = given.next.refusal();
     let mut key = tables::residue_room();
     let keys = tables::residues(t.next, &mut key);
     let mut message = tables::signed_room();
@@ -60,8 +60,8 @@ fn answer_fold(settings: Settings, t: u32, e: u32, key: &mut [u32], message: &mu
 
 pub fn run_fold(input: Input) -> Input {
     let given = tables::settings(input);
-    let t = given.next.number();
-    let e = t.next.number();
+    let t = given.next.refusal();
+    let e = t.next.refusal();
     let mut key = tables::residue_room();
     let keys = tables::residues(e.next, &mut key);
     let mut message = tables::signed_room();
@@ -81,14 +81,14 @@ pub fn run_fold(input: Input) -> Input {
 fn answer_end(settings: Settings, t: u32, message: &[i32]) {
     let answer = prover::end(settings, t, message);
     let last = answer.last;
-    output::first(answer.number);
+    output::first(answer.refusal);
     output::signed_element(last);
     output::end();
 }
 
 pub fn run_end(input: Input) -> Input {
     let given = tables::settings(input);
-    let t = given.next.number();
+    let t = given.next.refusal();
     let mut message = tables::signed_room();
     let messages = tables::signeds(t.next, &mut message);
     let m = messages.count;
@@ -107,7 +107,7 @@ fn answer_opening(
     let commitment = answer.commitment;
     let last = answer.last;
     let verdict = answer.verdict;
-    output::first(answer.number);
+    output::first(answer.refusal);
     output::verdict(verdict);
     output::element(commitment);
     output::signed_element(last);

@@ -35,7 +35,7 @@ fn answer_read(
         last,
     );
     let settings = answer.settings;
-    output::first(answer.number);
+    output::first(answer.refusal);
     output::settings(settings);
     output::residues(key);
     output::signeds(message);
@@ -68,7 +68,7 @@ fn answer_write(
         last,
         out,
     );
-    output::first(answer.number);
+    output::first(answer.refusal);
     output::count(answer.count);
     output::text(out);
     output::end();

@@ -29,7 +29,7 @@ fn answer_start(settings: Settings, commitment: [u32; 64]) {
     let verifier = Verifier(used());
     let answer = verifier.start(settings, commitment);
     let next = answer.next;
-    output::first(answer.number);
+    output::first(answer.refusal);
     output::session(next);
     output::end();
 }
@@ -45,7 +45,7 @@ pub fn run_start(input: Input) -> Input {
 fn answer_move(answer: Moved) {
     let verdict = answer.verdict;
     let next = answer.next;
-    output::first(answer.number);
+    output::first(answer.refusal);
     output::verdict(verdict);
     output::session(next);
     output::end();
@@ -61,7 +61,7 @@ pub fn run_round(input: Input) -> Input {
     let c0 = tables::element(given.next);
     let c1 = tables::element(c0.next);
     let c2 = tables::element(c1.next);
-    let e = c2.next.number();
+    let e = c2.next.refusal();
     let session = given.session;
     let p0 = c0.places;
     let p1 = c1.places;
@@ -97,7 +97,7 @@ fn answer_check(
 ) {
     let answer = verification::check(settings, commitment, last, key, rounds, challenges);
     let verdict = answer.verdict;
-    output::first(answer.number);
+    output::first(answer.refusal);
     output::verdict(verdict);
     output::end();
 }

@@ -125,9 +125,9 @@ module _ (S : Settings) (ok : Valid S) (G C rounds E : List ℕ) (finals : List 
     unfolding judged opens
     judge-yes = and-intro (every-intro (λ k l. eq-eqb _ _ (root-opens k l))) (within-tested (growth S) (cells S) root in-bound)
 
-    judge-says : judgeAnswer S C (slack S) G root ≡ record { number = 0; yes = true }
+    judge-says : judgeAnswer S C (slack S) G root ≡ record { refusal = 0; yes = true }
     unfolding judgeAnswer granted
-    judge-says = λ i. record { number = judge-granted i; yes = granted (judge-granted i) (judge-yes i) false }
+    judge-says = λ i. record { refusal = judge-granted i; yes = granted (judge-granted i) (judge-yes i) false }
 
     module _ (w : List ℤ) (long : length w ≡ cells S) where
       extract-granted : extractRefusal S C G rounds E finals w ≡ 0

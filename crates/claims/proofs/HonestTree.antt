@@ -145,7 +145,7 @@ some-step S E Step.commits h a = Performs.commits _ refl
 some-step S E Step.starts h a = Performs.starts _ refl
 some-step S E Step.proves h a = Performs.proves _ refl
 some-step S E Step.checks h a = Performs.checks _ refl
-some-step S E Step.folds h a = Performs.folds _ _ _ (record { number = refl; key-exit = refl; message-exit = refl })
+some-step S E Step.folds h a = Performs.folds _ _ _ (record { refusal = refl; key-exit = refl; message-exit = refl })
 some-step S E Step.ends h a = Performs.ends _ refl
 some-step S E Step.closes h a = Performs.closes _ refl
 

@@ -24,18 +24,18 @@ use Rattle.claims.proofs.Demand3.{demand3}
 -- the number
 answers-number : {c : Call} {h h′ : Held} {n : ℕ} → Answers c h n h′ → n ≡ refusal h c
 unfolding refusal
-answers-number (Answers.commit r e) = ap (λ x. x .number) e
-answers-number (Answers.round r e) = ap (λ x. x .number) e
-answers-number (Answers.fold r key′ message′ p) = p .number
-answers-number (Answers.end r e) = ap (λ x. x .number) e
-answers-number (Answers.opening r key′ message′ rounds′ p) = ap (λ x. x .number) (p .answer)
-answers-number (Answers.move r e) = ap (λ x. x .number) e
-answers-number (Answers.close r e) = ap (λ x. x .number) e
-answers-number (Answers.check r e) = ap (λ x. x .number) e
-answers-number (Answers.judge r e) = ap (λ x. x .number) e
-answers-number (Answers.extract r w′ p) = p .number
-answers-number (Answers.read r t′ p) = ap (λ x. x .number) (p .answer)
-answers-number (Answers.write r out′ p) = ap (λ x. x .number) (p .answer)
+answers-number (Answers.commit r e) = ap (λ x. x .refusal) e
+answers-number (Answers.round r e) = ap (λ x. x .refusal) e
+answers-number (Answers.fold r key′ message′ p) = p .refusal
+answers-number (Answers.end r e) = ap (λ x. x .refusal) e
+answers-number (Answers.opening r key′ message′ rounds′ p) = ap (λ x. x .refusal) (p .answer)
+answers-number (Answers.move r e) = ap (λ x. x .refusal) e
+answers-number (Answers.close r e) = ap (λ x. x .refusal) e
+answers-number (Answers.check r e) = ap (λ x. x .refusal) e
+answers-number (Answers.judge r e) = ap (λ x. x .refusal) e
+answers-number (Answers.extract r w′ p) = p .refusal
+answers-number (Answers.read r t′ p) = ap (λ x. x .refusal) (p .answer)
+answers-number (Answers.write r out′ p) = ap (λ x. x .refusal) (p .answer)
 
 -- what is held after it
 answers-after : {c : Call} {h h′ : Held} {n : ℕ} → Answers c h n h′ → h′ ≡ after c h
@@ -63,16 +63,16 @@ refusals-gap (Refusals.refused {h″} {c} a n rest) = Gap.refused c (λ z. n (an
 module _ (S : Settings) (E : List ℕ) where
   performs-step : {s : Step} {h : Held} {a : Heard} {b : State} → Performs S E s h a b → b ≡ step S E s h a
   unfolding step
-  performs-step (Performs.commits {h} {a} r e) = ap (λ x. record { held = h; heard = hearCommitment (x .commitment) (hear (x .number) a) }) e
-  performs-step (Performs.starts {h} {a} r e) = ap (λ x. record { held = backRecord Record.ours (x .next) h; heard = hear (x .number) a }) e
-  performs-step (Performs.proves {h} {a} r e) = ap (λ x. record { held = h; heard = hearPolynomial (S .degree) (x .elements) (hear (x .number) a) }) e
-  performs-step (Performs.checks {h} {a} r e) = ap (λ x. record { held = backRecord Record.ours (x .next) h; heard = hearVerdict (x .verdict) (hear (x .number) a) }) e
+  performs-step (Performs.commits {h} {a} r e) = ap (λ x. record { held = h; heard = hearCommitment (x .commitment) (hear (x .refusal) a) }) e
+  performs-step (Performs.starts {h} {a} r e) = ap (λ x. record { held = backRecord Record.ours (x .next) h; heard = hear (x .refusal) a }) e
+  performs-step (Performs.proves {h} {a} r e) = ap (λ x. record { held = h; heard = hearPolynomial (S .degree) (x .elements) (hear (x .refusal) a) }) e
+  performs-step (Performs.checks {h} {a} r e) = ap (λ x. record { held = backRecord Record.ours (x .next) h; heard = hearVerdict (x .verdict) (hear (x .refusal) a) }) e
   performs-step (Performs.folds {h} {a} r key′ message′ p) = λ i. record {
     held = record { message = p .message-exit i; key = p .key-exit i; copy = h .copy; session = h .session; folds = h .folds + 1 };
-    heard = hear (p .number i) a;
+    heard = hear (p .refusal i) a;
   }
-  performs-step (Performs.ends {h} {a} r e) = ap (λ x. record { held = h; heard = hearLast (x .last) (hear (x .number) a) }) e
-  performs-step (Performs.closes {h} {a} r e) = ap (λ x. record { held = backRecord Record.ours (x .next) h; heard = hearVerdict (x .verdict) (hear (x .number) a) }) e
+  performs-step (Performs.ends {h} {a} r e) = ap (λ x. record { held = h; heard = hearLast (x .last) (hear (x .refusal) a) }) e
+  performs-step (Performs.closes {h} {a} r e) = ap (λ x. record { held = backRecord Record.ours (x .next) h; heard = hearVerdict (x .verdict) (hear (x .refusal) a) }) e
 
   pub performance-run : {steps : List Step} {a b : State} → Performance S E steps a b → Run S E steps a b
   performance-run (Performance.stop g) = Run.stop (refusals-gap g)
@@ -83,7 +83,7 @@ module _ (S : Settings) (E : List ℕ) where
 opening-performed : (S : Settings) (G : List ℕ) (M : List ℤ) (E rounds : List ℕ) → OpeningClaim S G M E rounds
     → (r : Opened) (key′ : List ℕ) (message′ : List ℤ) (rounds′ : List ℕ) → Opening S G M E rounds r key′ message′ rounds′ → OpeningPerformed S G M E r key′ message′ rounds′
 opening-performed S G M E rounds claim r key′ message′ rounds′ call = record {
-  not-refused = ap (λ x. x .number) (call .answer) ∙ claim .not-refused;
+  not-refused = ap (λ x. x .refusal) (call .answer) ∙ claim .not-refused;
   says-accepted = ap (λ x. x .verdict) (call .answer) ∙ claim .says-accepted;
   is-accepted = subst
       (Accepted S G)
@@ -109,7 +109,7 @@ opening-performed S G M E rounds claim r key′ message′ rounds′ call = reco
 extraction-performed : (S : Settings) (G C rounds E : List ℕ) (finals w : List ℤ) → ExtractionClaim S G C rounds E finals w
     → (n : ℕ) (w′ : List ℤ) → Extracted S C G rounds E finals w n w′ → ExtractionPerformed S G C E finals n w′
 extraction-performed S G C rounds E finals w claim n w′ call = record {
-  not-refused = call .number ∙ claim .not-refused;
+  not-refused = call .refusal ∙ claim .not-refused;
   in-bound = subst (Within (growth S) (cells S)) (sym (call .w-exit)) (claim .in-bound);
   opens = subst (Opens S G C (slack S)) (sym (call .w-exit)) (claim .opens);
   judge-says-yes = λ j e. e ∙ ap (judgeAnswer S C (slack S) G) (call .w-exit) ∙ claim .judge-says-yes;

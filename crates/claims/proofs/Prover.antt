@@ -65,7 +65,7 @@ module _ {S : Settings} {G : List ℕ} {M : List ℤ} {E : List ℕ} (ok : Given
   unfolding commitRefusal messageAfter keyAfter
   commit-granted = tables-granted 0 _ (zero-first _ _ (zero-unless 9 _ (within-tested B (cells S) M (ok .message))) first-nothing)
 
-  pub commit-answer : commitAnswer S G M ≡ record { number = 0; commitment = padded d (commitment S G M) }
+  pub commit-answer : commitAnswer S G M ≡ record { refusal = 0; commitment = padded d (commitment S G M) }
   unfolding commitAnswer granted
   commit-answer = rw commit-granted
 
@@ -79,7 +79,7 @@ module _ {S : Settings} {G : List ℕ} {M : List ℤ} {E : List ℕ} (ok : Given
   unfolding roundRefusal
   round-granted t l = tables-granted t _ (zero-first _ _ (zero-unless 9 _ (moving-small t l)) (zero-first _ _ (zero-unless 11 _ (lt-ltb _ _ l)) first-nothing))
 
-  pub round-answer : (t : ℕ) → t < L → roundAnswer S t (key t) (message t) ≡ record { number = 0; elements = polynomial S t (key t) (message t) }
+  pub round-answer : (t : ℕ) → t < L → roundAnswer S t (key t) (message t) ≡ record { refusal = 0; elements = polynomial S t (key t) (message t) }
   unfolding roundAnswer granted
   round-answer t l = rw (round-granted t l)
 
@@ -111,6 +111,6 @@ module _ {S : Settings} {G : List ℕ} {M : List ℤ} {E : List ℕ} (ok : Given
       (zero-first _ _ (zero-unless 9 _ (tested-where (leb L L) _ (left-small L (Nat.le-refl L))))
       (zero-first _ _ (zero-unless 11 _ (eq-eqb L L refl)) first-nothing)))
 
-  pub end-answer : endAnswer S L (message L) ≡ record { number = 0; last = paddedSigned d (finalElement S (message L)) }
+  pub end-answer : endAnswer S L (message L) ≡ record { refusal = 0; last = paddedSigned d (finalElement S (message L)) }
   unfolding endAnswer granted
   end-answer = rw end-granted

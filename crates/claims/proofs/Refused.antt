@@ -39,12 +39,12 @@ back-record (Record.other s) e = refl
 -- ---- a record is handed back as it was
 
 -- a move that was made answers with 0
-move-kept : (n : ℕ) (made : Moved) (r : Session) → made .number ≡ 0 → granted n made (refusedMove r n) .number ≢ 0 → granted n made (refusedMove r n) .next ≡ r
+move-kept : (n : ℕ) (made : Moved) (r : Session) → made .refusal ≡ 0 → granted n made (refusedMove r n) .refusal ≢ 0 → granted n made (refusedMove r n) .next ≡ r
 unfolding granted refusedMove
 move-kept zero made r e f = absurd (f e)
 move-kept (suc n) made r e f = refl
 
-choose-number : (b : Bool) (x y : Moved) → x .number ≡ 0 → y .number ≡ 0 → choose b x y .number ≡ 0
+choose-number : (b : Bool) (x y : Moved) → x .refusal ≡ 0 → y .refusal ≡ 0 → choose b x y .refusal ≡ 0
 unfolding choose
 choose-number true x y ex ey = ex
 choose-number false x y ex ey = ey

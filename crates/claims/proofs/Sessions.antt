@@ -95,7 +95,7 @@ module _ {S : Settings} {G : List ℕ} {M : List ℤ} {E : List ℕ} (ok : Given
       claim : tabulate d (λ k. getD (padded d (commitment S G M)) k 0) ≡ commitment S G M
       claim = unfold claimAfter in tabulate-ext d (claim-padded 0) ∙ tabulate-own d (commitment S G M) 0 (commitment-below S pq G M .long)
 
-  pub start-answer : start S (padded d (commitment S G M)) ≡ record { number = 0; next = session 0 }
+  pub start-answer : start S (padded d (commitment S G M)) ≡ record { refusal = 0; next = session 0 }
   unfolding start granted
   start-answer = rw (start-granted, start-opens)
 
@@ -129,7 +129,7 @@ module _ {S : Settings} {G : List ℕ} {M : List ℤ} {E : List ℕ} (ok : Given
     unfolding advanced sessionAfter part polynomial tabulate claimAfter stored
     move-advances = rw (add-one t, claim-same S (same 0 (omega arith)) (same 1 (omega arith)) (same 2 (omega arith)) (getD E t 0))
 
-    pub move-answer : move (session t) (p t) (getD E t 0) ≡ record { number = 0; verdict = Says.Holds; next = session (suc t) }
+    pub move-answer : move (session t) (p t) (getD E t 0) ≡ record { refusal = 0; verdict = Says.Holds; next = session (suc t) }
     unfolding move granted choose
     move-answer = rw (move-granted t l, move-holds, move-advances)
 
@@ -150,6 +150,6 @@ module _ {S : Settings} {G : List ℕ} {M : List ℤ} {E : List ℕ} (ok : Given
       (every-intro (λ k l. le-leb _ _ (transcript-accepted .in-bound k l)))
       (every-intro (λ k l. eq-eqb _ _ (claim-padded L k l ∙ transcript-accepted .at-end k l ∙ stored-ending S (ok .settings .depth-most) G E _ k)))
 
-  pub close-answer : close (session L) (T .last) G ≡ record { number = 0; verdict = Says.Accepted; next = shut (session L) }
+  pub close-answer : close (session L) (T .last) G ≡ record { refusal = 0; verdict = Says.Accepted; next = shut (session L) }
   unfolding close granted verdict choose
   close-answer = rw (close-granted, close-holds)

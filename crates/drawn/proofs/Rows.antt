@@ -61,12 +61,12 @@ polynomialNumbers (c ∷ p) = counted (map pos c) ++ polynomialNumbers p
 unfoldable pub commitRow : Settings → List ℕ → List ℤ → ℕ → List ℕ → Example
 commitRow S key message n c =
     let r = commitAnswer S key message in
-    record { given = pos (r .number) ∷ map pos (r .commitment); wanted = pos n ∷ map pos (full c) }
+    record { given = pos (r .refusal) ∷ map pos (r .commitment); wanted = pos n ∷ map pos (full c) }
 
 unfoldable pub roundRow : Settings → ℕ → List ℕ → List ℤ → ℕ → List (List ℕ) → Example
 roundRow S t key message n p =
     let r = roundAnswer S t key message in
-    record { given = pos (r .number) ∷ polynomialNumbers (r .elements); wanted = pos n ∷ polynomialNumbers p }
+    record { given = pos (r .refusal) ∷ polynomialNumbers (r .elements); wanted = pos n ∷ polynomialNumbers p }
 
 unfoldable pub foldRow : Settings → ℕ → ℕ → List ℕ → List ℤ → ℕ → List ℕ → List ℤ → Example
 foldRow S t e key message n key′ message′ = record {
@@ -77,13 +77,13 @@ foldRow S t e key message n key′ message′ = record {
 unfoldable pub endRow : Settings → ℕ → List ℤ → ℕ → List ℤ → Example
 endRow S t message n f =
     let r = endAnswer S t message in
-    record { given = pos (r .number) ∷ r .last; wanted = pos n ∷ fullSigned f }
+    record { given = pos (r .refusal) ∷ r .last; wanted = pos n ∷ fullSigned f }
 
 unfoldable pub openingRow : Settings → List ℕ → List ℤ → List ℕ → List ℕ → ℕ → Verdict → List ℕ → List ℤ → List ℕ → List ℤ → List ℕ → Example
 openingRow S key message E rounds n v c f key′ message′ rounds′ =
     let r = openingAnswer S key message E rounds in
     record {
-      given = pos (r .number) ∷ verdictAsNumber (r .verdict) ∷ (map pos (r .commitment) ++ r .last
+      given = pos (r .refusal) ∷ verdictAsNumber (r .verdict) ∷ (map pos (r .commitment) ++ r .last
           ++ map pos (openingKeyExit S key message E rounds) ++ openingMessageExit S key message E rounds ++ map pos (openingRoundsExit S key message E rounds));
       wanted = pos n ∷ verdictAsNumber v ∷ (map pos (full c) ++ fullSigned f ++ map pos key′ ++ message′ ++ map pos rounds′);
     }
@@ -91,13 +91,13 @@ openingRow S key message E rounds n v c f key′ message′ rounds′ =
 unfoldable pub startRow : Settings → List ℕ → ℕ → Session → Example
 startRow S c n next =
     let r = start S c in
-    record { given = pos (r .number) ∷ recordNumbers (r .next); wanted = pos n ∷ recordNumbers next }
+    record { given = pos (r .refusal) ∷ recordNumbers (r .next); wanted = pos n ∷ recordNumbers next }
 
 unfoldable pub moveRow : Session → List (List ℕ) → ℕ → ℕ → Verdict → Session → Example
-moveRow r p e n v next = record { given = moveNumbers (move r p e); wanted = moveNumbers (record { number = n; verdict = v; next = next }) }
+moveRow r p e n v next = record { given = moveNumbers (move r p e); wanted = moveNumbers (record { refusal = n; verdict = v; next = next }) }
 
 unfoldable pub closeRow : Session → List ℤ → List ℕ → ℕ → Verdict → Session → Example
-closeRow r f key n v next = record { given = moveNumbers (close r f key); wanted = moveNumbers (record { number = n; verdict = v; next = next }) }
+closeRow r f key n v next = record { given = moveNumbers (close r f key); wanted = moveNumbers (record { refusal = n; verdict = v; next = next }) }
 
 -- a transcript is refused or has a cause; a refused one has none
 unfoldable pub whyRejected : Settings → ℕ → List ℕ → Transcript → List ℤ
@@ -107,14 +107,14 @@ unfoldable pub checkRow : Settings → List ℕ → List ℤ → List ℕ → Li
 checkRow S C f key rounds E n v why =
     let r = checkAnswer S C f key rounds E in
     record {
-      given = pos (r .number) ∷ verdictAsNumber (r .verdict) ∷ whyRejected S (r .number) key (record { commitment = C; rounds = rounds; challenges = E; last = f });
+      given = pos (r .refusal) ∷ verdictAsNumber (r .verdict) ∷ whyRejected S (r .refusal) key (record { commitment = C; rounds = rounds; challenges = E; last = f });
       wanted = pos n ∷ verdictAsNumber v ∷ causeNumber why;
     }
 
 unfoldable pub judgeRow : Settings → List ℕ → ℕ → List ℕ → List ℤ → ℕ → Bool → Example
 judgeRow S C c key w n answer =
     let r = judgeAnswer S C c key w in
-    record { given = pos (r .number) ∷ asNumber (r .yes); wanted = pos n ∷ asNumber answer }
+    record { given = pos (r .refusal) ∷ asNumber (r .yes); wanted = pos n ∷ asNumber answer }
 
 unfoldable pub extractRow : Settings → List ℕ → List ℕ → List ℕ → List ℕ → List ℤ → List ℤ → ℕ → List ℤ → Example
 extractRow S C key rounds E finals w n w′ = record
@@ -123,25 +123,25 @@ extractRow S C key rounds E finals w n w′ = record
 unfoldable pub readRow : Parts → List ℕ → Tables → ℕ → Settings → Tables → Example
 readRow P text t n S t′ =
     let r = readAnswer P text t in
-    record { given = pos (r .number) ∷ (settingsNumbers (r .settings) ++ tablesNumbers (readExit P text t)); wanted = pos n ∷ (settingsNumbers S ++ tablesNumbers t′) }
+    record { given = pos (r .refusal) ∷ (settingsNumbers (r .settings) ++ tablesNumbers (readExit P text t)); wanted = pos n ∷ (settingsNumbers S ++ tablesNumbers t′) }
 
 -- the output slice has `room` places, all of which hold `byte`
 unfoldable pub writeRow : Settings → Parts → Tables → ℕ → ℕ → ℕ → ℕ → List ℕ → Example
 writeRow S P t room byte n long text =
     let out = replicate room byte in
     let r = writeAnswer S P t out in
-    record { given = pos (r .number) ∷ pos (r .count) ∷ map pos (writeExit S P t out); wanted = pos n ∷ pos long ∷ map pos (text ++ drop (length text) out) }
+    record { given = pos (r .refusal) ∷ pos (r .count) ∷ map pos (writeExit S P t out); wanted = pos n ∷ pos long ∷ map pos (text ++ drop (length text) out) }
 
 unfoldable pub proveRow : List ℕ → ℕ → ℕ → ℕ → ℕ → List ℕ → Example
 proveRow input room byte n long text =
     let out = replicate room byte in
     let r = proveAnswer input out in
-    record { given = pos (r .number) ∷ pos (r .count) ∷ map pos (proveExit input out); wanted = pos n ∷ pos long ∷ map pos (text ++ drop (length text) out) }
+    record { given = pos (r .refusal) ∷ pos (r .count) ∷ map pos (proveExit input out); wanted = pos n ∷ pos long ∷ map pos (text ++ drop (length text) out) }
 
 unfoldable pub verifyRow : List ℕ → ℕ → Verdict → Example
 verifyRow text n v =
     let r = checked (verifyAnswer text) in
-    record { given = pos (r .number) ∷ verdictAsNumber (r .verdict) ∷ []; wanted = pos n ∷ verdictAsNumber v ∷ [] }
+    record { given = pos (r .refusal) ∷ verdictAsNumber (r .verdict) ∷ []; wanted = pos n ∷ verdictAsNumber v ∷ [] }
 
 unfoldable pub rowsUnfolded : Unit {0}
 unfolding

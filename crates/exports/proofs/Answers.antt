@@ -72,7 +72,7 @@ module _ (S : Settings) (key : List ℕ) (message : List ℤ) (E rounds C : List
   pub open-unfit : n ≢ 0 → OpeningStored S key message E rounds C f n key message rounds C f 0
   unfolding Border.openNumber Border.openKeyExit Border.openMessageExit Border.openRoundsExit Border.openCommitmentExit Border.openLastExit Border.openVerdict Calls.openingAnswer
   open-unfit h = record {
-    number = unfit S fits N key key n e h .0;
+    refusal = unfit S fits N key key n e h .0;
     key-exit = unfit S fits N _ key n e h .1;
     message-exit = unfit S fits N _ message n e h .1;
     rounds-exit = unfit S fits N _ rounds n e h .1;
@@ -82,31 +82,31 @@ module _ (S : Settings) (key : List ℕ) (message : List ℤ) (E rounds C : List
   }
 
   module _ (h : n ≡ 0) (r : Opened) (key′ : List ℕ) (message′ : List ℤ) (rounds′ : List ℕ) (o : Opening S key message E rounds r key′ message′ rounds′) where
-    number-is : r .number ≡ N
+    number-is : r .refusal ≡ N
     unfolding Calls.openingAnswer
-    number-is = ap (λ (x : Opened). x .number) (o .answer)
+    number-is = ap (λ (x : Opened). x .refusal) (o .answer)
 
-    pub open-refused : r .number ≢ 0 → OpeningStored S key message E rounds C f (r .number) key′ message′ rounds′ C f 0
+    pub open-refused : r .refusal ≢ 0 → OpeningStored S key message E rounds C f (r .refusal) key′ message′ rounds′ C f 0
     unfolding Border.openNumber Border.openKeyExit Border.openMessageExit Border.openRoundsExit Border.openCommitmentExit Border.openLastExit Border.openVerdict Calls.openingAnswer Calls.openingKeyExit Calls.openingMessageExit Calls.openingRoundsExit
     open-refused q = record {
-      number = refused S fits N key key n e h (r .number) number-is q .0;
+      refusal = refused S fits N key key n e h (r .refusal) number-is q .0;
       key-exit = o .key-exit ∙ through S fits N _ key n e h;
       message-exit = o .message-exit ∙ through S fits N _ message n e h;
       rounds-exit = o .rounds-exit ∙ through S fits N _ rounds n e h;
-      commitment-exit = refused S fits N _ C n e h (r .number) number-is q .1;
-      last-exit = refused S fits N _ f n e h (r .number) number-is q .1;
-      verdict-exit = refused {A = ℕ} S fits N _ 0 n e h (r .number) number-is q .1;
+      commitment-exit = refused S fits N _ C n e h (r .refusal) number-is q .1;
+      last-exit = refused S fits N _ f n e h (r .refusal) number-is q .1;
+      verdict-exit = refused {A = ℕ} S fits N _ 0 n e h (r .refusal) number-is q .1;
     }
 
-    pub open-made : r .number ≡ 0 → (C′ : List ℕ) (f′ : List ℤ) (v : ℕ) → C′ ≡ take (S .degree) (r .commitment) → f′ ≡ take (S .degree) (r .last)
+    pub open-made : r .refusal ≡ 0 → (C′ : List ℕ) (f′ : List ℤ) (v : ℕ) → C′ ≡ take (S .degree) (r .commitment) → f′ ≡ take (S .degree) (r .last)
         → v ≡ verdictNumber (r .verdict) → OpeningStored S key message E rounds C f 0 key′ message′ rounds′ C′ f′ v
     unfolding Border.openNumber Border.openKeyExit Border.openMessageExit Border.openRoundsExit Border.openCommitmentExit Border.openLastExit Border.openVerdict Calls.openingAnswer Calls.openingKeyExit Calls.openingMessageExit Calls.openingRoundsExit
     open-made q C′ f′ v c l s = record {
-      number = made S fits N key key n e h (r .number) number-is q key refl .0;
+      refusal = made S fits N key key n e h (r .refusal) number-is q key refl .0;
       key-exit = o .key-exit ∙ through S fits N _ key n e h;
       message-exit = o .message-exit ∙ through S fits N _ message n e h;
       rounds-exit = o .rounds-exit ∙ through S fits N _ rounds n e h;
-      commitment-exit = made S fits N _ C n e h (r .number) number-is q C′ (c ∙ ap (λ (x : Opened). take (S .degree) (x .commitment)) (o .answer)) .1;
-      last-exit = made S fits N _ f n e h (r .number) number-is q f′ (l ∙ ap (λ (x : Opened). take (S .degree) (x .last)) (o .answer)) .1;
-      verdict-exit = made {A = ℕ} S fits N _ 0 n e h (r .number) number-is q v (s ∙ ap (λ (x : Opened). verdictNumber (x .verdict)) (o .answer)) .1;
+      commitment-exit = made S fits N _ C n e h (r .refusal) number-is q C′ (c ∙ ap (λ (x : Opened). take (S .degree) (x .commitment)) (o .answer)) .1;
+      last-exit = made S fits N _ f n e h (r .refusal) number-is q f′ (l ∙ ap (λ (x : Opened). take (S .degree) (x .last)) (o .answer)) .1;
+      verdict-exit = made {A = ℕ} S fits N _ 0 n e h (r .refusal) number-is q v (s ∙ ap (λ (x : Opened). verdictNumber (x .verdict)) (o .answer)) .1;
     }

@@ -156,7 +156,7 @@ module _ (S : Settings) (C : List ℕ) (long : length C ≡ S .degree) where
       vector = unfold Border.extractExit in granted-zero _ _ _ not-refused
 
       judge-granted : Border.judgeNumber S C (slack S) G (Calls.extractExit S (padded (S .degree) C) G rounds E finals w) ≡ 0
-      judge-granted = unfold Border.judgeNumber in own S ok _ _ (fit (S .degree) C long) ∙ ap (λ (x : Judged). x .number) (claim .judge-says-yes)
+      judge-granted = unfold Border.judgeNumber in own S ok _ _ (fit (S .degree) C long) ∙ ap (λ (x : Judged). x .refusal) (claim .judge-says-yes)
 
       judge-yes : Border.judgeYes S C (slack S) G (Calls.extractExit S (padded (S .degree) C) G rounds E finals w) ≡ 1
       judge-yes = unfold Border.judgeYes in unfold choose in granted-zero _ _ _ judge-granted ∙ ap (λ (x : Judged). choose (x .yes) 1 0) (claim .judge-says-yes)

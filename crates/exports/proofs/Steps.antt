@@ -49,13 +49,13 @@ unfolding sized
 fit n t e = eq-eqb _ _ e
 
 -- a move on a record in a slice
-module _ (S : Settings) (v : Valid S) (fits : Bool) (m : Moved) (r : Session) (e : sessionOf (numbersOf r) .settings ≡ S) (f : fits ≡ true) (z : m .number ≡ 0) where
+module _ (S : Settings) (v : Valid S) (fits : Bool) (m : Moved) (r : Session) (e : sessionOf (numbersOf r) .settings ≡ S) (f : fits ≡ true) (z : m .refusal ≡ 0) where
   pub move-number : moveNumber fits m (numbersOf r) ≡ 0
   unfolding moveNumber recordWidth
   move-number =
       first-holds 7 _ _ (fit 78 (numbersOf r) (numbers-length r))
       ∙ first-only _
-      ∙ ap (λ s. lent s (fits && flagged (numbersOf r)) (m .number)) e
+      ∙ ap (λ s. lent s (fits && flagged (numbersOf r)) (m .refusal)) e
       ∙ own S v _ _ (and-intro f (flagged-stored r))
       ∙ z
 
@@ -84,7 +84,7 @@ module _ {S : Settings} {G : List ℕ} {M : List ℤ} {E : List ℕ} (ok : Given
   module _ (c : List ℕ) (long : length c ≡ d) where
     pub commit-number : Border.commitNumber S G M c ≡ 0
     unfolding Border.commitNumber
-    commit-number = own S (ok .settings) _ _ (fit d c long) ∙ ap (λ (r : Committed). r .number) (commit-answer ok)
+    commit-number = own S (ok .settings) _ _ (fit d c long) ∙ ap (λ (r : Committed). r .refusal) (commit-answer ok)
 
     pub commit-exit : Border.commitExit S G M c ≡ commitment S G M
     unfolding Border.commitExit
@@ -93,7 +93,7 @@ module _ {S : Settings} {G : List ℕ} {M : List ℤ} {E : List ℕ} (ok : Given
   module _ (r : List ℕ) (long : length r ≡ 78) where
     start-granted : startRefusal S (padded d (commitment S G M)) ≡ 0
     unfolding start
-    start-granted = ap (λ (x : Started). x .number) (start-answer ok)
+    start-granted = ap (λ (x : Started). x .refusal) (start-answer ok)
 
     pub start-number : startNumber S (commitment S G M) r ≡ 0
     unfolding startNumber recordWidth
@@ -129,7 +129,7 @@ module _ {S : Settings} {G : List ℕ} {M : List ℤ} {E : List ℕ} (ok : Given
     module _ (q : List ℕ) (long : length q ≡ 3 * d) where
       pub round-number : Border.roundNumber S t (keyAfter S E t G) (messageAfter S E t M) q ≡ 0
       unfolding Border.roundNumber
-      round-number = own S (ok .settings) _ _ (fit (3 * d) q long) ∙ ap (λ (r : Polynomial). r .number) (round-answer ok t l)
+      round-number = own S (ok .settings) _ _ (fit (3 * d) q long) ∙ ap (λ (r : Polynomial). r .refusal) (round-answer ok t l)
 
       pub round-exit : Border.roundExit S t (keyAfter S E t G) (messageAfter S E t M) q ≡ slice
       unfolding Border.roundExit
@@ -148,7 +148,7 @@ module _ {S : Settings} {G : List ℕ} {M : List ℤ} {E : List ℕ} (ok : Given
     unfolding polynomialFits
     slice-fits = ap (λ s. sized (3 * s .degree) slice) (settings-are t (omega arith)) ∙ fit (3 * d) slice slice-long
 
-    made : roundOn slice (getD E t 0) (numbersOf (session t)) ≡ record { number = 0; verdict = Holds; next = session (suc t) }
+    made : roundOn slice (getD E t 0) (numbersOf (session t)) ≡ record { refusal = 0; verdict = Holds; next = session (suc t) }
     unfolding roundOn sessionAfter
     made =
         ap (λ (s : Session). move s (polynomialOf (s .settings .degree) slice) (getD E t 0)) (loaded t (omega arith))
@@ -159,14 +159,14 @@ module _ {S : Settings} {G : List ℕ} {M : List ℤ} {E : List ℕ} (ok : Given
     m = roundOn slice (getD E t 0) (numbersOf (session t))
 
     pub check-number : moveNumber (polynomialFits slice (numbersOf (session t))) m (numbersOf (session t)) ≡ 0
-    check-number = move-number S (ok .settings) _ m (session t) (settings-are t (omega arith)) slice-fits (ap (λ (x : Moved). x .number) made)
+    check-number = move-number S (ok .settings) _ m (session t) (settings-are t (omega arith)) slice-fits (ap (λ (x : Moved). x .refusal) made)
 
     pub check-exit : moveExit (polynomialFits slice (numbersOf (session t))) m (numbersOf (session t)) ≡ numbersOf (session (suc t))
-    check-exit = move-exit S (ok .settings) _ m (session t) (settings-are t (omega arith)) slice-fits (ap (λ (x : Moved). x .number) made) ∙ ap (λ (x : Moved). numbersOf (x .next)) made
+    check-exit = move-exit S (ok .settings) _ m (session t) (settings-are t (omega arith)) slice-fits (ap (λ (x : Moved). x .refusal) made) ∙ ap (λ (x : Moved). numbersOf (x .next)) made
 
     pub check-verdict : moveVerdict (polynomialFits slice (numbersOf (session t))) m (numbersOf (session t)) ≡ 1
     unfolding verdictNumber
-    check-verdict = move-verdict S (ok .settings) _ m (session t) (settings-are t (omega arith)) slice-fits (ap (λ (x : Moved). x .number) made) ∙ ap (λ (x : Moved). verdictNumber (x .verdict)) made
+    check-verdict = move-verdict S (ok .settings) _ m (session t) (settings-are t (omega arith)) slice-fits (ap (λ (x : Moved). x .refusal) made) ∙ ap (λ (x : Moved). verdictNumber (x .verdict)) made
 
   -- ---- the end
 
@@ -179,7 +179,7 @@ module _ {S : Settings} {G : List ℕ} {M : List ℤ} {E : List ℕ} (ok : Given
   module _ (f : List ℤ) (long : length f ≡ d) where
     pub end-number : Border.endNumber S L (messageAfter S E L M) f ≡ 0
     unfolding Border.endNumber
-    end-number = own S (ok .settings) _ _ (fit d f long) ∙ ap (λ (r : Ended). r .number) (end-answer ok)
+    end-number = own S (ok .settings) _ _ (fit d f long) ∙ ap (λ (r : Ended). r .refusal) (end-answer ok)
 
     pub end-exit : Border.endExit S L (messageAfter S E L M) f ≡ final
     unfolding Border.endExit
@@ -189,7 +189,7 @@ module _ {S : Settings} {G : List ℕ} {M : List ℤ} {E : List ℕ} (ok : Given
   unfolding lastFits
   final-fits = ap (λ s. sized (s .degree) final) (settings-are L (Nat.le-refl L)) ∙ fit d final final-long
 
-  closed : endOn final G (numbersOf (session L)) ≡ record { number = 0; verdict = Accepted; next = shut (session L) }
+  closed : endOn final G (numbersOf (session L)) ≡ record { refusal = 0; verdict = Accepted; next = shut (session L) }
   unfolding endOn sessionAfter
   closed = ap (λ (s : Session). close s (paddedSigned (s .settings .degree) final) G) (loaded L (Nat.le-refl L)) ∙ close-answer ok
 
@@ -197,13 +197,13 @@ module _ {S : Settings} {G : List ℕ} {M : List ℤ} {E : List ℕ} (ok : Given
   n = endOn final G (numbersOf (session L))
 
   pub close-number : moveNumber (lastFits final (numbersOf (session L))) n (numbersOf (session L)) ≡ 0
-  close-number = move-number S (ok .settings) _ n (session L) (settings-are L (Nat.le-refl L)) final-fits (ap (λ (x : Moved). x .number) closed)
+  close-number = move-number S (ok .settings) _ n (session L) (settings-are L (Nat.le-refl L)) final-fits (ap (λ (x : Moved). x .refusal) closed)
 
   pub close-exit : moveExit (lastFits final (numbersOf (session L))) n (numbersOf (session L)) ≡ numbersOf (shut (session L))
-  close-exit = move-exit S (ok .settings) _ n (session L) (settings-are L (Nat.le-refl L)) final-fits (ap (λ (x : Moved). x .number) closed) ∙ ap (λ (x : Moved). numbersOf (x .next)) closed
+  close-exit = move-exit S (ok .settings) _ n (session L) (settings-are L (Nat.le-refl L)) final-fits (ap (λ (x : Moved). x .refusal) closed) ∙ ap (λ (x : Moved). numbersOf (x .next)) closed
 
   pub close-verdict : moveVerdict (lastFits final (numbersOf (session L))) n (numbersOf (session L)) ≡ 2
   unfolding verdictNumber
   close-verdict =
-      move-verdict S (ok .settings) _ n (session L) (settings-are L (Nat.le-refl L)) final-fits (ap (λ (x : Moved). x .number) closed)
+      move-verdict S (ok .settings) _ n (session L) (settings-are L (Nat.le-refl L)) final-fits (ap (λ (x : Moved). x .refusal) closed)
       ∙ ap (λ (x : Moved). verdictNumber (x .verdict)) closed

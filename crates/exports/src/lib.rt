@@ -52,8 +52,8 @@ pub extern "C" fn wovenrock_commit(
         return refusal;
     }
     let committed = prover::commit(s, key, message);
-    if committed.number != 0 {
-        return committed.number;
+    if committed.refusal != 0 {
+        return committed.refusal;
     }
     let element = committed.commitment;
     slices::store_residues(degree, element, commitment);
@@ -85,8 +85,8 @@ pub extern "C" fn wovenrock_round(
         return refusal;
     }
     let answer = prover::round(s, done, key, message);
-    if answer.number != 0 {
-        return answer.number;
+    if answer.refusal != 0 {
+        return answer.refusal;
     }
     let elements = prover::elements_of(answer);
     slices::store_polynomial(degree, elements, polynomial);
@@ -140,8 +140,8 @@ pub extern "C" fn wovenrock_end(
         return refusal;
     }
     let answer = prover::end(s, done, message);
-    if answer.number != 0 {
-        return answer.number;
+    if answer.refusal != 0 {
+        return answer.refusal;
     }
     let element = answer.last;
     slices::store_wholes(degree, element, last);
@@ -178,8 +178,8 @@ pub extern "C" fn wovenrock_open(
         return refusal;
     }
     let answer = opening::open(s, key, message, challenges, rounds);
-    if answer.number != 0 {
-        return answer.number;
+    if answer.refusal != 0 {
+        return answer.refusal;
     }
     let first = answer.commitment;
     slices::store_residues(degree, first, commitment);
@@ -270,7 +270,7 @@ pub extern "C" fn wovenrock_check(
     let answer = verification::check(s, c, f, key, rounds, challenges);
     let said = answer.verdict;
     *verdict = slices::verdict_number(said);
-    answer.number
+    answer.refusal
 }
 
 // The judge of relaxed openings.
@@ -302,7 +302,7 @@ pub extern "C" fn wovenrock_judge(
     let c = slices::residues(degree, commitment);
     let answer = relaxed::judge(s, c, slack, key, w);
     *yes = answer.yes as u32;
-    answer.number
+    answer.refusal
 }
 
 // The extractor: the root's vector goes to the table `w`.

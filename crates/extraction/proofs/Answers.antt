@@ -30,11 +30,11 @@ module _ (S : Settings) (C key rounds E : List ℕ) (finals w : List ℤ) where
 
   pub refused : (n : ℕ) → n ≡ extractRefusal S C key rounds E finals w → (n ≡ 0 → ⊥) → Extracted S C key rounds E finals w n w
   unfolding extractExit
-  refused n e r = record { number = e; w-exit = sym (granted-refused _ (rootVector S E finals) w (λ z. r (e ∙ z))) }
+  refused n e r = record { refusal = e; w-exit = sym (granted-refused _ (rootVector S E finals) w (λ z. r (e ∙ z))) }
 
   pub extracted : extractRefusal S C key rounds E finals w ≡ 0 → (v : List ℤ) → v ≡ rootVector S E finals → Extracted S C key rounds E finals w 0 v
   unfolding extractExit
-  extracted z v e = record { number = sym z; w-exit = e ∙ sym (granted-zero _ (rootVector S E finals) w z) }
+  extracted z v e = record { refusal = sym z; w-exit = e ∙ sym (granted-zero _ (rootVector S E finals) w z) }
 
   -- ---- a tree that is not refused can be worked out: every leaf is a final element that the verifier accepted
 

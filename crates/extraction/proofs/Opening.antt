@@ -20,7 +20,7 @@ use Rattle.refusals.proofs.GivenTree.{extract-given}
 pub record RelaxedOpening (S : Settings) (C key E : List ℕ) (finals w : List ℤ) : Type 0 where
   pub opens : Opens S key C (slack S) w
   pub in-bound : Within (growth S) (cells S) w
-  pub judge-says-yes : judgeAnswer S C (slack S) key w ≡ record { number = 0; yes = true }
+  pub judge-says-yes : judgeAnswer S C (slack S) key w ≡ record { refusal = 0; yes = true }
   pub exact : (m : List ℤ) → FoldsOf S E finals m → w ≡ map (λ x. pos (slack S) *ℤ x) m
 
 module _ (S : Settings) (C key rounds E : List ℕ) (finals w : List ℤ) (r : ℕ) (w′ : List ℤ) (call : Extracted S C key rounds E finals w r w′) where
@@ -33,7 +33,7 @@ module _ (S : Settings) (C key rounds E : List ℕ) (finals w : List ℤ) (r : �
   }
     where
       claim : ExtractionClaim S key C rounds E finals w
-      claim = let g = extract-given S C key rounds E finals w (sym (call .number) ∙ z) in extraction-claim S (g .settings) key C rounds E finals w (g .key-below) (g .tree) (g .room) (g .w-long)
+      claim = let g = extract-given S C key rounds E finals w (sym (call .refusal) ∙ z) in extraction-claim S (g .settings) key C rounds E finals w (g .key-below) (g .tree) (g .room) (g .w-long)
 
   pub full-tree-extracted : Valid S → Below (S .modulus) (cells S) key → FullTree S key C rounds E finals → growth S ≤ growthLimit → length w ≡ cells S → r ≡ 0
-  full-tree-extracted ok below tree room long = call .number ∙ extraction-claim S ok key C rounds E finals w below tree room long .not-refused
+  full-tree-extracted ok below tree room long = call .refusal ∙ extraction-claim S ok key C rounds E finals w below tree room long .not-refused

@@ -47,11 +47,11 @@ module _ (S : Settings) (G : List ℕ) (M : List ℤ) (E R : List ℕ) where
   T = transcriptOf S G M E
 
   pub opening-refused : (n : ℕ) → n ≡ openingRefusal S G M E R → (n ≡ 0 → ⊥)
-      → Opening S G M E R (record { number = n; commitment = zeros width; last = signedZeros width; verdict = Silent }) G M R
+      → Opening S G M E R (record { refusal = n; commitment = zeros width; last = signedZeros width; verdict = Silent }) G M R
   unfolding openingAnswer openingKeyExit openingMessageExit openingRoundsExit
   opening-refused n e r = record {
     answer = λ i. record {
-      number = e i;
+      refusal = e i;
       commitment = sym (granted-refused (openingRefusal S G M E R) (padded d (T .commitment)) (zeros width) some) i;
       last = sym (granted-refused (openingRefusal S G M E R) (paddedSigned d (T .last)) (signedZeros width) some) i;
       verdict = sym (granted-refused (openingRefusal S G M E R) (verdict (accepted S G T)) Silent some) i;
@@ -81,7 +81,7 @@ module _ (S : Settings) (G : List ℕ) (M : List ℤ) (E R : List ℕ) where
 
     wrote : Begun S G M (zeros width) R C begun-rounds
     unfolding commitAnswer
-    wrote = begins (ap (λ a. a .number) (commit-answer ok))
+    wrote = begins (ap (λ a. a .refusal) (commit-answer ok))
 
     C-is : C ≡ padded d (commitment S G M)
     C-is = wrote .commits (omega (arith, zeros-length width, degree-most S (ok .settings))) ∙ element-done (elementPlaces (commitment S G M)) d d _ refl refl
@@ -125,7 +125,7 @@ module _ (S : Settings) (G : List ℕ) (M : List ℤ) (E R : List ℕ) where
         ∙ (λ i. verdict (finished .checks .holds-is i && endMet S (finished .checks .claim-is i) (signed (f-is i)) (residue (elementAt d (finished .tables .key-is i) 0))))
         ∙ ap verdict (sym (accepted-is S (modulus-positive S (ok .settings)) G M E R))
 
-    number-is : 0 ≡ openingAnswer S G M E R .number
+    number-is : 0 ≡ openingAnswer S G M E R .refusal
     unfolding openingAnswer
     number-is = sym passed
 
@@ -133,10 +133,10 @@ module _ (S : Settings) (G : List ℕ) (M : List ℤ) (E R : List ℕ) where
     unfolding openingAnswer
     verdict-is = granted-zero _ _ _ passed
 
-    pub opening-done : Opening S G M E R (record { number = 0; commitment = C; last = f; verdict = v }) key message rounds
+    pub opening-done : Opening S G M E R (record { refusal = 0; commitment = C; last = f; verdict = v }) key message rounds
     opening-done = record {
       answer = λ i. record {
-        number = number-is i;
+        refusal = number-is i;
         commitment = (C-is ∙ sym (opening-commitment ok R (given .rounds-long))) i;
         last = (f-is ∙ sym (opening-last ok R (given .rounds-long))) i;
         verdict = (v-is ∙ sym verdict-is) i;

@@ -49,7 +49,7 @@ module _ (S : Settings) (G : List ℕ) (M : List ℤ) (E R : List ℕ) (given : 
 
   pub round-passed : roundRefusal S t (keyAfter S E t G) (messageAfter S E t M) ≡ 0
   unfolding roundAnswer
-  round-passed = ap (λ a. a .number) (round-answer ok t l)
+  round-passed = ap (λ a. a .refusal) (round-answer ok t l)
 
   doubled-is : (k : ℕ) → k < d → doubled S (element S (transcriptOf S G M E) t 0) (element S (transcriptOf S G M E) t 2) k ≡ 2 * (c 0 k + c 2 k) % q
   unfolding doubled element residueAt modulo transcriptOf

@@ -22,10 +22,10 @@ pub fn open(
 ) -> Opened
     ensures { λ r. ⌜ Opening settings (now (key .entry)) (now (message .entry)) (now (challenges .entry)) (now (rounds .entry)) r (now (key .exit)) (now (message .exit)) (now (rounds .exit)) ⌝ }
 {
-    let number = refusals::opening::open(settings, key, message, challenges, rounds);
-    if number != 0 {
+    let refusal = refusals::opening::open(settings, key, message, challenges, rounds);
+    if refusal != 0 {
         return Opened {
-            number: number,
+            refusal,
             commitment: [0u32; WIDTH],
             last: [0i32; WIDTH],
             verdict: Verdict::Silent,
@@ -42,7 +42,7 @@ pub fn open(
     let last = elements::signed_element_at(settings.degree, message, 0);
     let verdict = ending::verdict(settings, ended, last, key);
     Opened {
-        number: 0,
+        refusal: 0,
         commitment: commitment,
         last: last,
         verdict: verdict,

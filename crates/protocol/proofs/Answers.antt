@@ -42,10 +42,10 @@ module _ (text : List ℕ) where
 
 -- a round's, by its refusal and whether it holds
 abbrev held : Session → Moved
-held r = record { number = 0; verdict = Holds; next = r }
+held r = record { refusal = 0; verdict = Holds; next = r }
 
 abbrev failed : Session → Moved
-failed r = record { number = 0; verdict = Rejected; next = r }
+failed r = record { refusal = 0; verdict = Rejected; next = r }
 
 round-says : (n : ℕ) (b : Bool) (after closed kept : Session) → verdictNumber (granted n (choose b (held after) (failed closed)) (refusedMove kept n) .verdict) ≡ roundNumber n b
 unfolding verdictNumber granted choose refusedMove roundNumber
@@ -60,7 +60,7 @@ end-says zero true = refl
 end-says zero false = refl
 end-says (suc n) b = refl
 
-end-moves : (n : ℕ) (b : Bool) (shut kept : Session) → verdictNumber (granted n (record { number = 0; verdict = verdict b; next = shut }) (refusedMove kept n) .verdict) ≡ endNumber n b
+end-moves : (n : ℕ) (b : Bool) (shut kept : Session) → verdictNumber (granted n (record { refusal = 0; verdict = verdict b; next = shut }) (refusedMove kept n) .verdict) ≡ endNumber n b
 unfolding verdictNumber granted choose verdict refusedMove endNumber
 end-moves zero true shut kept = refl
 end-moves zero false shut kept = refl
@@ -84,7 +84,7 @@ check-number S C f key rounds E = end-says (checkRefusal S C key rounds E) (acce
 
 -- ---- `verify`
 
-verify-says : (n : ℕ) (b : Bool) → _≡_ {A = Checked} (checked (granted n (choose b Verify.Accepted Verify.Rejected) (Verify.Refused n))) (record { number = n; verdict = granted n (verdict b) Silent })
+verify-says : (n : ℕ) (b : Bool) → _≡_ {A = Checked} (checked (granted n (choose b Verify.Accepted Verify.Rejected) (Verify.Refused n))) (record { refusal = n; verdict = granted n (verdict b) Silent })
 unfolding checked granted choose verdict
 verify-says zero true = refl
 verify-says zero false = refl

@@ -57,7 +57,7 @@ recordNumbers r =
 
 -- a move's answer as numbers: the refusal, the verdict, the record
 unfoldable pub moveNumbers : Moved → List ℤ
-moveNumbers m = pos (m .number) ∷ verdictAsNumber (m .verdict) ∷ recordNumbers (m .next)
+moveNumbers m = pos (m .refusal) ∷ verdictAsNumber (m .verdict) ∷ recordNumbers (m .next)
 
 -- whoever unfolds `agreeing` unfolds these definitions
 unfoldable pub agreeing : Unit {0}

@@ -258,24 +258,24 @@ expected (prove text N) = refuses N
 expected (verify text N) = refuses N
 expected (look text N) = refuses N
 expected (begins text b) = says b
-expected (lookGives text N S) = finds (record { number = N; settings = S })
-expected (checks text N v) = judges (record { number = N; verdict = v })
-expected (callRefused text room N) = writes (record { number = N; count = 0 }) (stops room)
-expected (callGives text room n line) = writes (record { number = 0; count = n }) (bytes line ++ᴸ stops (room - n))
-expected (readRefused P text t N) = reads (record { number = N; settings = noSettings }) t
-expected (readGives P text t S u) = reads (record { number = 0; settings = S }) u
-expected (writeRefused S P t room N) = writes (record { number = N; count = 0 }) (stops room)
-expected (writeGives S P t room n text) = writes (record { number = 0; count = n }) (bytes text ++ᴸ stops (room - n))
+expected (lookGives text N S) = finds (record { refusal = N; settings = S })
+expected (checks text N v) = judges (record { refusal = N; verdict = v })
+expected (callRefused text room N) = writes (record { refusal = N; count = 0 }) (stops room)
+expected (callGives text room n line) = writes (record { refusal = 0; count = n }) (bytes line ++ᴸ stops (room - n))
+expected (readRefused P text t N) = reads (record { refusal = N; settings = noSettings }) t
+expected (readGives P text t S u) = reads (record { refusal = 0; settings = S }) u
+expected (writeRefused S P t room N) = writes (record { refusal = N; count = 0 }) (stops room)
+expected (writeGives S P t room n text) = writes (record { refusal = 0; count = n }) (bytes text ++ᴸ stops (room - n))
 expected (output text room N) = refuses N
-expected (back S P t u) = reads (record { number = 0; settings = S }) t
-expected (forth P text u) = let n = length (bytes text) in writes (record { number = 0; count = n }) (bytes text ++ᴸ stops (999 - n))
-expected (number text at N value next) = gives (record { number = N; value = value; next = next })
-expected (count text at N value next) = gives (record { number = N; value = value; next = next })
+expected (back S P t u) = reads (record { refusal = 0; settings = S }) t
+expected (forth P text u) = let n = length (bytes text) in writes (record { refusal = 0; count = n }) (bytes text ++ᴸ stops (999 - n))
+expected (number text at N value next) = gives (record { refusal = N; value = value; next = next })
+expected (count text at N value next) = gives (record { refusal = N; value = value; next = next })
 expected (lineGives text at part item place value next) =
-    givesLine (record { number = 0; line = record { spot = record { part = part; item = item; place = place }; value = value }; next = next })
+    givesLine (record { refusal = 0; line = record { spot = record { part = part; item = item; place = place }; value = value }; next = next })
 expected (lineRefused text at) =
-    givesLine (record { number = 2; line = record { spot = record { part = 0; item = 0; place = 0 }; value = pos 0 }; next = 0 })
-expected (begunGives text N S) = finds (record { number = N; settings = S })
+    givesLine (record { refusal = 2; line = record { spot = record { part = 0; item = 0; place = 0 }; value = pos 0 }; next = 0 })
+expected (begunGives text N S) = finds (record { refusal = N; settings = S })
 
 -- ---- The table
 

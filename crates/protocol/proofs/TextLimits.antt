@@ -57,7 +57,7 @@ tabulate-limited zero f h = tt
 tabulate-limited (suc n) f h = (h 0 (omega arith), tabulate-limited n (λ i. f (suc i)) (λ p l. h (suc p) (omega arith)))
 
 pub record SmallShape (b : Shape) : Type 0 where
-  pub number : b .part ≤ valueLimit
+  pub refusal : b .part ≤ valueLimit
   pub lines : shapeSize b ≤ valueLimit
 
 block-limited : (b : Shape) (v : List ℤ) → SmallShape b → all (within valueLimit) v ≡ true → AllLimited (blockLines (block b v))
@@ -65,7 +65,7 @@ unfolding blockLines block spotAt within
 block-limited b v s h =
     tabulate-limited (shapeSize b) _ λ p l.
     record {
-      part = s .number;
+      part = s .refusal;
       item = omega (arith, div-le-self p (b .places), s .lines);
       place = omega (arith, mod-le p (b .places), s .lines);
       value = leb-true _ valueLimit (all-getD (within valueLimit) v p (pos 0) (le-leb 0 valueLimit (omega arith)) h);
@@ -84,8 +84,8 @@ lines-limited (b ∷ bs) (v ∷ vs) h = allLimited-append (blockLines (block b v
 
 shape-small : (p : ℕ) (there : Bool) (items places : ℕ) → p ≤ valueLimit → items * places ≤ valueLimit → SmallShape (shape p there items places)
 unfolding shape choose shapeSize
-shape-small p true items places h k = record { number = h; lines = k }
-shape-small p false items places h k = record { number = h; lines = omega (arith, zero-mul places) }
+shape-small p true items places h k = record { refusal = h; lines = k }
+shape-small p false items places h k = record { refusal = h; lines = omega (arith, zero-mul places) }
 
 -- ---- Tables that are not refused
 

@@ -97,35 +97,35 @@ traps =
     -- the whole opening: round elements and verdict; its bound is ±B over all n
     ∷ record { given = map pos (openingRoundsExit S₁ key₁ message₁ (1 ∷ []) (replicate 6 0)); wanted = map pos rounds₁ }
     ∷ record { given = verdictAsNumber (openingAnswer S₁ key₁ message₁ (1 ∷ []) (replicate 6 0) .verdict) ∷ []; wanted = pos 2 ∷ [] }
-    ∷ number (openingAnswer S₁ key₁ message₁ (4 ∷ []) (replicate 6 0) .number) 10
-    ∷ number (openingAnswer S₁ key₁ message₁ (1 ∷ []) (replicate 5 0) .number) 7
+    ∷ number (openingAnswer S₁ key₁ message₁ (4 ∷ []) (replicate 6 0) .refusal) 10
+    ∷ number (openingAnswer S₁ key₁ message₁ (1 ∷ []) (replicate 5 0) .refusal) 7
     -- a round that fails is named before the end; the check of a transcript
     ∷ record { given = causeNumber (cause S₁ key₁ (record { commitment = 15 ∷ 5 ∷ []; rounds = rounds₁; challenges = 1 ∷ []; last = pos 3 ∷ pos 0 ∷ [] })); wanted = pos 1 ∷ [] }
     ∷ number (checkRefusal S₁ (15 ∷ 17 ∷ []) key₁ rounds₁ (4 ∷ [])) 8
     ∷ number (checkRefusal S₁ (15 ∷ 4 ∷ []) key₁ rounds₁ (4 ∷ [])) 10
     -- a session: a closed record of zeros answers 3; any other closed record 11, and is handed back unchanged
-    ∷ number (move blank polynomial₁ 1 .number) 3
+    ∷ number (move blank polynomial₁ 1 .refusal) 3
     ∷ record { given = moveNumbers (move (shut fresh) polynomial₁ 1); wanted = pos 11 ∷ pos 0 ∷ recordNumbers (shut fresh) }
     -- 8 and 10 before 11; all eight challenges are tested, and those in range are kept
-    ∷ number (move (record { settings = S₁; done = 0; claim = 17 ∷ 0 ∷ []; challenges = replicate 8 0; closed = true }) polynomial₁ 1 .number) 8
-    ∷ number (move (record { settings = S₁; done = 1; claim = 15 ∷ 4 ∷ []; challenges = replicate 7 0 ++ (4 ∷ []); closed = true }) polynomial₁ 1 .number) 10
+    ∷ number (move (record { settings = S₁; done = 0; claim = 17 ∷ 0 ∷ []; challenges = replicate 8 0; closed = true }) polynomial₁ 1 .refusal) 8
+    ∷ number (move (record { settings = S₁; done = 1; claim = 15 ∷ 4 ∷ []; challenges = replicate 7 0 ++ (4 ∷ []); closed = true }) polynomial₁ 1 .refusal) 10
     ∷ record {
       given = moveNumbers (move (record { settings = S₁; done = 0; claim = 15 ∷ 4 ∷ []; challenges = replicate 7 0 ++ (3 ∷ []); closed = false }) polynomial₁ 1);
       wanted = pos 0 ∷ pos 1 ∷ recordNumbers (record { settings = S₁; done = 1; claim = 9 ∷ 6 ∷ replicate 62 0; challenges = (1 ∷ replicate 6 0) ++ (3 ∷ []); closed = false });
     }
-    ∷ number (move (record { settings = S₁; done = 4_294_967_295; claim = 15 ∷ 4 ∷ []; challenges = replicate 8 0; closed = false }) polynomial₁ 1 .number) 11
+    ∷ number (move (record { settings = S₁; done = 4_294_967_295; claim = 15 ∷ 4 ∷ []; challenges = replicate 8 0; closed = false }) polynomial₁ 1 .refusal) 11
     -- a rejected round sets closed and nothing else
     ∷ record { given = moveNumbers (move fresh ((5 ∷ 1 ∷ []) ∷ (6 ∷ 0 ∷ []) ∷ (12 ∷ 1 ∷ []) ∷ []) 1); wanted = pos 0 ∷ pos 3 ∷ recordNumbers (shut fresh) }
     -- an end before all rounds are done; an acceptance closes the record; a final coefficient of −2^31 is rejected and not refused
-    ∷ number (close fresh (pos 1 ∷ pos 0 ∷ []) key₁ .number) 11
+    ∷ number (close fresh (pos 1 ∷ pos 0 ∷ []) key₁ .refusal) 11
     -- an end tests its claim (8), then all eight challenges (10), both before 11; a refused end hands the record back
     ∷ record { given = moveNumbers (close spoiled (pos 1 ∷ pos 0 ∷ []) key₁); wanted = pos 8 ∷ pos 0 ∷ recordNumbers spoiled }
     ∷ record { given = moveNumbers (close overfull (pos 1 ∷ pos 0 ∷ []) key₁); wanted = pos 10 ∷ pos 0 ∷ recordNumbers overfull }
-    ∷ number (close (record { settings = S₁; done = 1; claim = 9 ∷ 6 ∷ []; challenges = 1 ∷ replicate 7 0; closed = false }) (pos 1 ∷ pos 0 ∷ []) (3 ∷ 5 ∷ 7 ∷ 17 ∷ []) .number) 8
+    ∷ number (close (record { settings = S₁; done = 1; claim = 9 ∷ 6 ∷ []; challenges = 1 ∷ replicate 7 0; closed = false }) (pos 1 ∷ pos 0 ∷ []) (3 ∷ 5 ∷ 7 ∷ 17 ∷ []) .refusal) 8
     ∷ record { given = moveNumbers (close (move fresh polynomial₁ 1 .next) (pos 1 ∷ pos 0 ∷ []) key₁); wanted = pos 0 ∷ pos 2 ∷ recordNumbers (shut (move fresh polynomial₁ 1 .next)) }
     ∷ record { given = verdictAsNumber (close (move fresh polynomial₁ 1 .next) (negsuc 2_147_483_647 ∷ pos 0 ∷ []) key₁ .verdict) ∷ []; wanted = pos 3 ∷ [] }
     -- a refused start; a start does not copy what stands from d on
-    ∷ record { given = pos (start S₁ (17 ∷ 4 ∷ []) .number) ∷ recordNumbers (start S₁ (17 ∷ 4 ∷ []) .next); wanted = pos 8 ∷ recordNumbers blank }
+    ∷ record { given = pos (start S₁ (17 ∷ 4 ∷ []) .refusal) ∷ recordNumbers (start S₁ (17 ∷ 4 ∷ []) .next); wanted = pos 8 ∷ recordNumbers blank }
     ∷ record { given = recordNumbers (start S₁ (15 ∷ 4 ∷ 9 ∷ []) .next); wanted = recordNumbers fresh }
     -- the judge: 14 before 15; c = q with w = 0 says yes; −2^63 is beyond the bound and says no
     ∷ number (judgeRefusal (set 64 4 17 1) (replicate 64 0) 0 (replicate 1024 0) (replicate 1024 (pos 0))) 14

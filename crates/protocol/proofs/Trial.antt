@@ -147,7 +147,7 @@ pub record Whole (number : ℕ) (verdict : Verdict) : Type 0 where
   pub verdict-accepted : verdict ≡ Says.Accepted
   pub transcript : Accepted S₁ key₁ (record { commitment = commitment₁; rounds = rounds₁; challenges = 1 ∷ []; last = last₁ })
 
-pub opening-gives : Demand3 → Whole (openingAnswer S₁ key₁ message₁ (1 ∷ []) (replicate 6 0) .number) (openingAnswer S₁ key₁ message₁ (1 ∷ []) (replicate 6 0) .verdict)
+pub opening-gives : Demand3 → Whole (openingAnswer S₁ key₁ message₁ (1 ∷ []) (replicate 6 0) .refusal) (openingAnswer S₁ key₁ message₁ (1 ∷ []) (replicate 6 0) .verdict)
 unfolding computed
 opening-gives claim = let o = opened₁ claim in record { not-refused = o .not-refused; verdict-accepted = o .says-accepted; transcript = o .is-accepted }
 
@@ -178,7 +178,7 @@ moves-give claim r st run =
 
 module _ (claim : PerformedDemand3) (r : Opened) (key′ : List ℕ) (message′ : List ℤ) (rounds′ : List ℕ) (call : Opening S₁ key₁ message₁ (1 ∷ []) (replicate 6 0) r key′ message′ rounds′) where
   pub record Performed (st : State) : Type 0 where
-    pub whole : Whole (r .number) (r .verdict)
+    pub whole : Whole (r .refusal) (r .verdict)
     pub moves : Given st
 
   pub functions-give : (s : Session) (st : State) → Performance S₁ (1 ∷ []) (moves 1) (begun message₁ key₁ s) st → Performed st

@@ -87,7 +87,7 @@ pub record Given (w : List ℤ) : Type 0 where
   pub root-vector : w ≡ rootVector S₁ E₁ finals₁
   pub in-bound : Within 48 4 w
   pub opens : Opens S₁ key₁ (6 ∷ 10 ∷ []) 4 w
-  pub judged : judgeAnswer S₁ (6 ∷ 10 ∷ []) 4 key₁ w ≡ record { number = 0; yes = true }
+  pub judged : judgeAnswer S₁ (6 ∷ 10 ∷ []) 4 key₁ w ≡ record { refusal = 0; yes = true }
   pub exact : w ≡ pos 8 ∷ pos 0 ∷ pos 0 ∷ pos 0 ∷ []
 
 pub extraction-gives : Demand3 → Given exit₁
@@ -108,7 +108,7 @@ module _ (claim : PerformedDemand3) (n : ℕ) (w′ : List ℤ) (call : Extracte
     pub not-refused : n ≡ 0
     pub in-bound : Within 48 4 w′
     pub opens : Opens S₁ key₁ (6 ∷ 10 ∷ []) 4 w′
-    pub judged : j ≡ record { number = 0; yes = true }
+    pub judged : j ≡ record { refusal = 0; yes = true }
     pub exact : w′ ≡ pos 8 ∷ pos 0 ∷ pos 0 ∷ pos 0 ∷ []
 
   pub functions-give : Performed

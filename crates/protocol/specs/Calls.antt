@@ -49,7 +49,7 @@ commitRefusal S key message =
 
 unfoldable pub commitAnswer : Settings → List ℕ → List ℤ → Committed
 commitAnswer S key message = record {
-  number = commitRefusal S key message;
+  refusal = commitRefusal S key message;
   commitment = granted (commitRefusal S key message) (padded (S .degree) (commitment S key message)) (zeros width);
 }
 
@@ -82,7 +82,7 @@ noPolynomial = tabulate 3 (λ j. zeros width)
 
 unfoldable pub roundAnswer : Settings → ℕ → List ℕ → List ℤ → Polynomial
 roundAnswer S t key message = record {
-  number = roundRefusal S t key message;
+  refusal = roundRefusal S t key message;
   elements = granted (roundRefusal S t key message) (polynomial S t key message) noPolynomial;
 }
 
@@ -123,7 +123,7 @@ endRefusal S t message =
 
 unfoldable pub endAnswer : Settings → ℕ → List ℤ → Ended
 endAnswer S t message = record {
-  number = endRefusal S t message;
+  refusal = endRefusal S t message;
   last = granted (endRefusal S t message) (paddedSigned (S .degree) (finalElement S message)) (signedZeros width);
 }
 
@@ -145,7 +145,7 @@ openingAnswer S key message E rounds =
     let refusal = openingRefusal S key message E rounds in
     let T = transcriptOf S key message E in
     record {
-      number = refusal;
+      refusal = refusal;
       commitment = granted refusal (padded (S .degree) (T .commitment)) (zeros width);
       last = granted refusal (paddedSigned (S .degree) (T .last)) (signedZeros width);
       verdict = granted refusal (verdict (accepted S key T)) Silent;
@@ -177,7 +177,7 @@ checkRefusal S C key rounds E =
 
 unfoldable pub checkAnswer : Settings → List ℕ → List ℤ → List ℕ → List ℕ → List ℕ → Checked
 checkAnswer S C f key rounds E = record {
-  number = checkRefusal S C key rounds E;
+  refusal = checkRefusal S C key rounds E;
   verdict = granted (checkRefusal S C key rounds E) (verdict (accepted S key (record { commitment = C; rounds = rounds; challenges = E; last = f }))) Silent;
 }
 
@@ -199,7 +199,7 @@ judgeRefusal S C c key w =
 
 unfoldable pub judgeAnswer : Settings → List ℕ → ℕ → List ℕ → List ℤ → Judged
 judgeAnswer S C c key w = record {
-  number = judgeRefusal S C c key w;
+  refusal = judgeRefusal S C c key w;
   yes = granted (judgeRefusal S C c key w) (judged S key C c w) false;
 }
 

@@ -111,18 +111,18 @@ tables h k m c r e f = record
     { key = lentKey h k; message = lentMessage h m; commitment = lentKey h c; rounds = lentKey h r; challenges = lentKey h e; last = lentMessage h f }
 
 unfoldable pub refusal : Held → Call → ℕ
-refusal h (Call.commit S k m) = Calls.commitAnswer S (lentKey h k) (lentMessage h m) .number
-refusal h (Call.round S t k m) = Calls.roundAnswer S t (lentKey h k) (lentMessage h m) .number
+refusal h (Call.commit S k m) = Calls.commitAnswer S (lentKey h k) (lentMessage h m) .refusal
+refusal h (Call.round S t k m) = Calls.roundAnswer S t (lentKey h k) (lentMessage h m) .refusal
 refusal h (Call.fold S t e k m) = Calls.foldRefusal S t e (lentKey h k) (lentMessage h m)
-refusal h (Call.end S t m) = Calls.endAnswer S t (lentMessage h m) .number
-refusal h (Call.opening S k m e r) = Calls.openingAnswer S (lentKey h k) (lentMessage h m) (lentKey h e) (lentKey h r) .number
-refusal h (Call.move r p e) = Verifier.move (handed h r) p e .number
-refusal h (Call.close r f k) = Verifier.close (handed h r) f (lentKey h k) .number
-refusal h (Call.check S C f k r e) = Calls.checkAnswer S C f (lentKey h k) (lentKey h r) (lentKey h e) .number
-refusal h (Call.judge S C c k w) = Calls.judgeAnswer S C c (lentKey h k) w .number
+refusal h (Call.end S t m) = Calls.endAnswer S t (lentMessage h m) .refusal
+refusal h (Call.opening S k m e r) = Calls.openingAnswer S (lentKey h k) (lentMessage h m) (lentKey h e) (lentKey h r) .refusal
+refusal h (Call.move r p e) = Verifier.move (handed h r) p e .refusal
+refusal h (Call.close r f k) = Verifier.close (handed h r) f (lentKey h k) .refusal
+refusal h (Call.check S C f k r e) = Calls.checkAnswer S C f (lentKey h k) (lentKey h r) (lentKey h e) .refusal
+refusal h (Call.judge S C c k w) = Calls.judgeAnswer S C c (lentKey h k) w .refusal
 refusal h (Call.extract S C k r e f w) = Calls.extractRefusal S C (lentKey h k) (lentKey h r) (lentKey h e) (lentMessage h f) w
-refusal h (Call.read P text k m c r e f) = Text.readAnswer P text (tables h k m c r e f) .number
-refusal h (Call.write S P k m c r e f out) = Text.writeAnswer S P (tables h k m c r e f) out .number
+refusal h (Call.read P text k m c r e f) = Text.readAnswer P text (tables h k m c r e f) .refusal
+refusal h (Call.write S P k m c r e f out) = Text.writeAnswer S P (tables h k m c r e f) out .refusal
 
 -- ---- what a call leaves behind
 
@@ -204,16 +204,16 @@ hearVerdict v a = record { numbers = a .numbers; commitment = a .commitment; pol
 unfoldable pub step : Settings → List ℕ → Step → Held → Heard → State
 step S E Step.commits h a =
     let x = Calls.commitAnswer S (h .key) (h .message) in
-    record { held = h; heard = hearCommitment (x .commitment) (hear (x .number) a) }
+    record { held = h; heard = hearCommitment (x .commitment) (hear (x .refusal) a) }
 step S E Step.starts h a =
     let x = Verifier.start S (a .commitment) in
-    record { held = backRecord Record.ours (x .next) h; heard = hear (x .number) a }
+    record { held = backRecord Record.ours (x .next) h; heard = hear (x .refusal) a }
 step S E Step.proves h a =
     let x = Calls.roundAnswer S (h .folds) (h .key) (h .message) in
-    record { held = h; heard = hearPolynomial (S .degree) (x .elements) (hear (x .number) a) }
+    record { held = h; heard = hearPolynomial (S .degree) (x .elements) (hear (x .refusal) a) }
 step S E Step.checks h a =
     let x = Verifier.move (h .session) (a .polynomial) (getD E (h .folds) 0) in
-    record { held = backRecord Record.ours (x .next) h; heard = hearVerdict (x .verdict) (hear (x .number) a) }
+    record { held = backRecord Record.ours (x .next) h; heard = hearVerdict (x .verdict) (hear (x .refusal) a) }
 step S E Step.folds h a =
     let e = getD E (h .folds) 0 in
     record {
@@ -228,10 +228,10 @@ step S E Step.folds h a =
     }
 step S E Step.ends h a =
     let x = Calls.endAnswer S (h .folds) (h .message) in
-    record { held = h; heard = hearLast (x .last) (hear (x .number) a) }
+    record { held = h; heard = hearLast (x .last) (hear (x .refusal) a) }
 step S E Step.closes h a =
     let x = Verifier.close (h .session) (a .last) (h .copy) in
-    record { held = backRecord Record.ours (x .next) h; heard = hearVerdict (x .verdict) (hear (x .number) a) }
+    record { held = backRecord Record.ours (x .next) h; heard = hearVerdict (x .verdict) (hear (x .refusal) a) }
 
 -- before the first call: both tables unfolded, any record
 unfoldable pub begun : List ℤ → List ℕ → Session → State
@@ -265,7 +265,7 @@ pub record SameAsWhole (S : Settings) (G : List ℕ) (M : List ℤ) (E rounds : 
 
 -- `rounds` is the table lent for the round elements, whatever stood in it
 pub record OpeningClaim (S : Settings) (G : List ℕ) (M : List ℤ) (E rounds : List ℕ) : Type 0 where
-  pub not-refused : Calls.openingAnswer S G M E rounds .number ≡ 0
+  pub not-refused : Calls.openingAnswer S G M E rounds .refusal ≡ 0
   pub says-accepted : Calls.openingAnswer S G M E rounds .verdict ≡ Says.Accepted
   pub is-accepted : Accepted S G (record {
     commitment = Calls.openingAnswer S G M E rounds .commitment;
@@ -297,7 +297,7 @@ pub record ExtractionClaim (S : Settings) (G C rounds E : List ℕ) (finals w : 
   pub is-root-vector : Calls.extractExit S C G rounds E finals w ≡ rootVector S E finals
   pub in-bound : Within (growth S) (cells S) (Calls.extractExit S C G rounds E finals w)
   pub opens : Opens S G C (slack S) (Calls.extractExit S C G rounds E finals w)
-  pub judge-says-yes : Calls.judgeAnswer S C (slack S) G (Calls.extractExit S C G rounds E finals w) ≡ record { number = 0; yes = true }
+  pub judge-says-yes : Calls.judgeAnswer S C (slack S) G (Calls.extractExit S C G rounds E finals w) ≡ record { refusal = 0; yes = true }
   pub exact : (m : List ℤ) → FoldsOf S E finals m → Calls.extractExit S C G rounds E finals w ≡ map (λ x. pos (slack S) *ℤ x) m
 
 -- ════ the claim

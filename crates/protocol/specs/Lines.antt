@@ -40,8 +40,8 @@ present (some a) = true
 
 -- 2 is the refusal of bytes that are no number
 unfoldable pub givenNumber : List ℕ → Option (ℤ × List ℕ) → Reading
-givenNumber text none = record { number = 2; value = pos 0; next = 0 }
-givenNumber text (some (value, rest)) = record { number = 0; value = value; next = length text - length rest }
+givenNumber text none = record { refusal = 2; value = pos 0; next = 0 }
+givenNumber text (some (value, rest)) = record { refusal = 0; value = value; next = length text - length rest }
 
 unfoldable pub readIndexAt : List ℕ → ℕ → Number
 readIndexAt text at = numberAnswer text (plain (readIndex (drop at text)))
@@ -52,21 +52,21 @@ unfoldable pub noLine : Line
 noLine = record { spot = record { part = 0; item = 0; place = 0 }; value = pos 0 }
 
 pub record LineReading : Type 0 where
-  pub number : ℕ
+  pub refusal : ℕ
   pub line : Line
   pub next : ℕ
 
 unfoldable pub lineReading : Entry → LineReading
 lineReading (Found part item place value next) = record {
-  number = 0;
+  refusal = 0;
   line = record { spot = record { part = part; item = item; place = place }; value = value };
   next = next;
 }
-lineReading Malformed = record { number = 2; line = noLine; next = 0 }
+lineReading Malformed = record { refusal = 2; line = noLine; next = 0 }
 
 unfoldable pub givenLine : List ℕ → Option (Line × List ℕ) → LineReading
-givenLine text none = record { number = 2; line = noLine; next = 0 }
-givenLine text (some (l, rest)) = record { number = 0; line = l; next = length text - length rest }
+givenLine text none = record { refusal = 2; line = noLine; next = 0 }
+givenLine text (some (l, rest)) = record { refusal = 0; line = l; next = length text - length rest }
 
 unfoldable pub lineAnswer : List ℕ → Option (Line × List ℕ) → Entry
 lineAnswer text none = Malformed
@@ -117,5 +117,5 @@ unfoldable pub begunAnswer : List ℕ → Loaded
 begunAnswer text =
     granted
     (settingsRefusal (begunWith (readSettings text)))
-    (record { number = 0; settings = begunWith (readSettings text) })
+    (record { refusal = 0; settings = begunWith (readSettings text) })
     (lookAnswer text)

@@ -49,41 +49,41 @@ use Rattle.protocol.specs.Demand3.{lentKey, lentMessage, handed, tables,
 pub data Answers : Call → Held → ℕ → Held → Type 0 where
   commit : {h : Held} {S : Settings} {k : KeyTable} {m : MessageTable} (r : Committed)
       → r ≡ Calls.commitAnswer S (lentKey h k) (lentMessage h m)
-      → Answers (Call.commit S k m) h (r .number) h
+      → Answers (Call.commit S k m) h (r .refusal) h
   round : {h : Held} {S : Settings} {t : ℕ} {k : KeyTable} {m : MessageTable} (r : Polynomial)
       → r ≡ Calls.roundAnswer S t (lentKey h k) (lentMessage h m)
-      → Answers (Call.round S t k m) h (r .number) h
+      → Answers (Call.round S t k m) h (r .refusal) h
   fold : {h : Held} {S : Settings} {t e : ℕ} {k : KeyTable} {m : MessageTable} (r : ℕ) (key′ : List ℕ) (message′ : List ℤ)
       → Folded S t e (lentKey h k) (lentMessage h m) r key′ message′
       → Answers (Call.fold S t e k m) h r (backKey k key′ (backMessage m message′ h))
   end : {h : Held} {S : Settings} {t : ℕ} {m : MessageTable} (r : Ended)
       → r ≡ Calls.endAnswer S t (lentMessage h m)
-      → Answers (Call.end S t m) h (r .number) h
+      → Answers (Call.end S t m) h (r .refusal) h
   opening : {h : Held} {S : Settings} {k : KeyTable} {m : MessageTable} {e o : KeyTable} (r : Opened) (key′ : List ℕ) (message′ : List ℤ) (rounds′ : List ℕ)
       → Opening S (lentKey h k) (lentMessage h m) (lentKey h e) (lentKey h o) r key′ message′ rounds′
-      → Answers (Call.opening S k m e o) h (r .number) (backKey k key′ (backKey o rounds′ (backMessage m message′ h)))
+      → Answers (Call.opening S k m e o) h (r .refusal) (backKey k key′ (backKey o rounds′ (backMessage m message′ h)))
   move : {h : Held} {s : Record} {p : List (List ℕ)} {e : ℕ} (r : Moved)
       → r ≡ Verifier.move (handed h s) p e
-      → Answers (Call.move s p e) h (r .number) (backRecord s (r .next) h)
+      → Answers (Call.move s p e) h (r .refusal) (backRecord s (r .next) h)
   close : {h : Held} {s : Record} {f : List ℤ} {k : KeyTable} (r : Moved)
       → r ≡ Verifier.close (handed h s) f (lentKey h k)
-      → Answers (Call.close s f k) h (r .number) (backRecord s (r .next) h)
+      → Answers (Call.close s f k) h (r .refusal) (backRecord s (r .next) h)
   check : {h : Held} {S : Settings} {C : List ℕ} {f : List ℤ} {k o e : KeyTable} (r : Checked)
       → r ≡ Calls.checkAnswer S C f (lentKey h k) (lentKey h o) (lentKey h e)
-      → Answers (Call.check S C f k o e) h (r .number) h
+      → Answers (Call.check S C f k o e) h (r .refusal) h
   judge : {h : Held} {S : Settings} {C : List ℕ} {c : ℕ} {k : KeyTable} {w : List ℤ} (r : Judged)
       → r ≡ Calls.judgeAnswer S C c (lentKey h k) w
-      → Answers (Call.judge S C c k w) h (r .number) h
+      → Answers (Call.judge S C c k w) h (r .refusal) h
   extract : {h : Held} {S : Settings} {C : List ℕ} {k o e : KeyTable} {f : MessageTable} {w : List ℤ} (r : ℕ) (w′ : List ℤ)
       → Extracted S C (lentKey h k) (lentKey h o) (lentKey h e) (lentMessage h f) w r w′
       → Answers (Call.extract S C k o e f w) h r h
   read : {h : Held} {P : Parts} {text : List ℕ} {k : KeyTable} {m : MessageTable} {c o e : KeyTable} {f : MessageTable} (r : Loaded) (t′ : Tables)
       → Read P text (tables h k m c o e f) r t′
-      → Answers (Call.read P text k m c o e f) h (r .number)
+      → Answers (Call.read P text k m c o e f) h (r .refusal)
       (backKey k (t′ .key) (backMessage m (t′ .message) (backKey c (t′ .commitment) (backKey o (t′ .rounds) (backKey e (t′ .challenges) (backMessage f (t′ .last) h))))))
   write : {h : Held} {S : Settings} {P : Parts} {k : KeyTable} {m : MessageTable} {c o e : KeyTable} {f : MessageTable} {out : List ℕ} (r : Written) (out′ : List ℕ)
       → Wrote S P (tables h k m c o e f) out r out′
-      → Answers (Call.write S P k m c o e f out) h (r .number) h
+      → Answers (Call.write S P k m c o e f out) h (r .refusal) h
 
 pub data Refusals : Held → Held → Type 0 where
   none : {h : Held} → Refusals h h
@@ -95,25 +95,25 @@ pub data Refusals : Held → Held → Type 0 where
 pub data Performs (S : Settings) (E : List ℕ) : Step → Held → Heard → State → Type 0 where
   commits : {h : Held} {a : Heard} (r : Committed)
       → r ≡ Calls.commitAnswer S (h .key) (h .message)
-      → Performs S E Step.commits h a (record { held = h; heard = hearCommitment (r .commitment) (hear (r .number) a) })
+      → Performs S E Step.commits h a (record { held = h; heard = hearCommitment (r .commitment) (hear (r .refusal) a) })
   starts : {h : Held} {a : Heard} (r : Started)
       → r ≡ Verifier.start S (a .commitment)
-      → Performs S E Step.starts h a (record { held = backRecord Record.ours (r .next) h; heard = hear (r .number) a })
+      → Performs S E Step.starts h a (record { held = backRecord Record.ours (r .next) h; heard = hear (r .refusal) a })
   proves : {h : Held} {a : Heard} (r : Polynomial)
       → r ≡ Calls.roundAnswer S (h .folds) (h .key) (h .message)
-      → Performs S E Step.proves h a (record { held = h; heard = hearPolynomial (S .degree) (r .elements) (hear (r .number) a) })
+      → Performs S E Step.proves h a (record { held = h; heard = hearPolynomial (S .degree) (r .elements) (hear (r .refusal) a) })
   checks : {h : Held} {a : Heard} (r : Moved)
       → r ≡ Verifier.move (h .session) (a .polynomial) (getD E (h .folds) 0)
-      → Performs S E Step.checks h a (record { held = backRecord Record.ours (r .next) h; heard = hearVerdict (r .verdict) (hear (r .number) a) })
+      → Performs S E Step.checks h a (record { held = backRecord Record.ours (r .next) h; heard = hearVerdict (r .verdict) (hear (r .refusal) a) })
   folds : {h : Held} {a : Heard} (r : ℕ) (key′ : List ℕ) (message′ : List ℤ)
       → Folded S (h .folds) (getD E (h .folds) 0) (h .key) (h .message) r key′ message′
       → Performs S E Step.folds h a (record { held = record { message = message′; key = key′; copy = h .copy; session = h .session; folds = h .folds + 1 }; heard = hear r a })
   ends : {h : Held} {a : Heard} (r : Ended)
       → r ≡ Calls.endAnswer S (h .folds) (h .message)
-      → Performs S E Step.ends h a (record { held = h; heard = hearLast (r .last) (hear (r .number) a) })
+      → Performs S E Step.ends h a (record { held = h; heard = hearLast (r .last) (hear (r .refusal) a) })
   closes : {h : Held} {a : Heard} (r : Moved)
       → r ≡ Verifier.close (h .session) (a .last) (h .copy)
-      → Performs S E Step.closes h a (record { held = backRecord Record.ours (r .next) h; heard = hearVerdict (r .verdict) (hear (r .number) a) })
+      → Performs S E Step.closes h a (record { held = backRecord Record.ours (r .next) h; heard = hearVerdict (r .verdict) (hear (r .refusal) a) })
 
 pub data Performance (S : Settings) (E : List ℕ) : List Step → State → State → Type 0 where
   stop : {a : State} {h : Held} → Refusals (a .held) h → Performance S E [] a (record { held = h; heard = a .heard })
@@ -133,7 +133,7 @@ pub record SameAsAnswered (S : Settings) (G : List ℕ) (r : Opened) (key′ : L
   pub copy-kept : st .held .copy ≡ G
 
 pub record OpeningPerformed (S : Settings) (G : List ℕ) (M : List ℤ) (E : List ℕ) (r : Opened) (key′ : List ℕ) (message′ : List ℤ) (rounds′ : List ℕ) : Type 0 where
-  pub not-refused : r .number ≡ 0
+  pub not-refused : r .refusal ≡ 0
   pub says-accepted : r .verdict ≡ Says.Accepted
   pub is-accepted : Accepted S G (record { commitment = r .commitment; rounds = rounds′; challenges = E; last = r .last })
   pub by-moves : (s : Session) (st : State) → Performance S E (moves (S .depth)) (begun M G s) st → SameAsAnswered S G r key′ message′ rounds′ st
@@ -143,7 +143,7 @@ pub record ExtractionPerformed (S : Settings) (G C E : List ℕ) (finals : List 
   pub not-refused : n ≡ 0
   pub in-bound : Within (growth S) (cells S) w′
   pub opens : Opens S G C (slack S) w′
-  pub judge-says-yes : (j : Judged) → j ≡ Calls.judgeAnswer S C (slack S) G w′ → j ≡ record { number = 0; yes = true }
+  pub judge-says-yes : (j : Judged) → j ≡ Calls.judgeAnswer S C (slack S) G w′ → j ≡ record { refusal = 0; yes = true }
   pub exact : (m : List ℤ) → FoldsOf S E finals m → w′ ≡ map (λ x. pos (slack S) *ℤ x) m
 
 pub record PerformedClaim (S : Settings) (G : List ℕ) : Type 0 where

@@ -80,13 +80,13 @@ verifyAnswer text =
     (Refused (verifyRefusal text))
 
 unfoldable pub checked : Verified → Checked
-checked Accepted = record { number = 0; verdict = Accepts }
-checked Rejected = record { number = 0; verdict = Rejects }
-checked (Refused number) = record { number = number; verdict = Silent }
+checked Accepted = record { refusal = 0; verdict = Accepts }
+checked Rejected = record { refusal = 0; verdict = Rejects }
+checked (Refused number) = record { refusal = number; verdict = Silent }
 
 unfoldable pub verifyGives : List ℕ → Checked
 verifyGives text = record {
-  number = verifyRefusal text;
+  refusal = verifyRefusal text;
   verdict = granted (verifyRefusal text) (verdict (tablesAccepted (settingsIn (linesOf text)) (tablesIn (linesOf text)))) Silent;
 }
 

@@ -21,7 +21,7 @@ use Rattle.protocol.specs.Text.{Tables, readAnswer, readExit, writeAnswe
 use Rattle.protocol.specs.Programs.{proveAnswer, proveExit}
 
 pub record Folded (S : Settings) (t e : ℕ) (key : List ℕ) (message : List ℤ) (r : ℕ) (key′ : List ℕ) (message′ : List ℤ) : Type 0 where
-  pub number : r ≡ foldRefusal S t e key message
+  pub refusal : r ≡ foldRefusal S t e key message
   pub key-exit : key′ ≡ foldKeyExit S t e key message
   pub message-exit : message′ ≡ foldMessageExit S t e key message
 
@@ -33,7 +33,7 @@ pub record Opening (S : Settings) (key : List ℕ) (message : List ℤ) (E round
   pub rounds-exit : rounds′ ≡ openingRoundsExit S key message E rounds
 
 pub record Extracted (S : Settings) (C key rounds E : List ℕ) (finals w : List ℤ) (r : ℕ) (w′ : List ℤ) : Type 0 where
-  pub number : r ≡ extractRefusal S C key rounds E finals w
+  pub refusal : r ≡ extractRefusal S C key rounds E finals w
   pub w-exit : w′ ≡ extractExit S C key rounds E finals w
 
 -- t holds the six tables at entry, t′ at exit

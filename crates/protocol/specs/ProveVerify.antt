@@ -45,5 +45,5 @@ module _ (text listing : List ℕ) where
     pub too-long : textLimit < length (withKey S (t .key) listing) → verifyRefusal (withKey S (t .key) listing) ≡ 1
 
 pub record ProveVerify : Type 0 where
-  pub call : (text out : List ℕ) → proveAnswer text out .number ≡ 0 → Accepts text (take (proveAnswer text out .count) (proveExit text out))
+  pub call : (text out : List ℕ) → proveAnswer text out .refusal ≡ 0 → Accepts text (take (proveAnswer text out .count) (proveExit text out))
   pub program : (text : List ℕ) → proveRefusal text textLimit ≡ 0 → Accepts text (proveOutput text)

@@ -72,13 +72,13 @@ unfoldable pub startRefusal : Settings → List ℕ → ℕ
 startRefusal S C = first (settingsRefusal S ∷ unless 8 (residueElement S C) ∷ [])
 
 unfoldable pub start : Settings → List ℕ → Started
-start S C = record { number = startRefusal S C; next = granted (startRefusal S C) (opened S C) blank }
+start S C = record { refusal = startRefusal S C; next = granted (startRefusal S C) (opened S C) blank }
 
 -- ---- a move
 
 -- PROTOCOL 4.5 and 7.4
 unfoldable pub refusedMove : Session → ℕ → Moved
-refusedMove r number = record { number = number; verdict = Silent; next = r }
+refusedMove r number = record { refusal = number; verdict = Silent; next = r }
 
 -- PROTOCOL 4.3 and 4.4: what a final verdict does to the record
 unfoldable pub shut : Session → Session
@@ -117,7 +117,7 @@ moveHolds r p = roundHolds (r .settings) (r .claim) (residue (part p 0)) (residu
 unfoldable pub move : Session → List (List ℕ) → ℕ → Moved
 move r p e =
     granted (moveRefusal r p e)
-    (choose (moveHolds r p) (record { number = 0; verdict = Holds; next = advanced r p e }) (record { number = 0; verdict = Rejected; next = shut r }))
+    (choose (moveHolds r p) (record { refusal = 0; verdict = Holds; next = advanced r p e }) (record { refusal = 0; verdict = Rejected; next = shut r }))
     (refusedMove r (moveRefusal r p e))
 
 unfoldable pub moveNumber : Session → List (List ℕ) → ℕ → ℕ
@@ -143,7 +143,7 @@ closeHolds r f key = finalBounded (r .settings) (signed f) && endHolds (r .setti
 unfoldable pub close : Session → List ℤ → List ℕ → Moved
 close r f key =
     granted (closeRefusal r key)
-    (record { number = 0; verdict = verdict (closeHolds r f key); next = shut r })
+    (record { refusal = 0; verdict = verdict (closeHolds r f key); next = shut r })
     (refusedMove r (closeRefusal r key))
 
 unfoldable pub closeNumber : Session → List ℤ → List ℕ → ℕ

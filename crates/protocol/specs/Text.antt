@@ -376,7 +376,7 @@ lookRefusal text =
     ∷ [])
 
 unfoldable pub loaded : ℕ → List ℕ → Loaded
-loaded refusal text = record { number = refusal; settings = granted refusal (settingsIn (linesOf text)) noSettings }
+loaded refusal text = record { refusal = refusal; settings = granted refusal (settingsIn (linesOf text)) noSettings }
 
 -- a caller learns d and L by it, and then lends tables of exactly their lengths
 unfoldable pub lookAnswer : List ℕ → Loaded
@@ -428,7 +428,7 @@ writeRefusal S P t room =
 
 -- PROTOCOL 9.6: the bytes that were written
 unfoldable pub written : ℕ → List ℕ → Written
-written refusal text = record { number = refusal; count = granted refusal (length text) 0 }
+written refusal text = record { refusal = refusal; count = granted refusal (length text) 0 }
 
 -- PROTOCOL 9.6: behind the text stands what stood there
 unfoldable pub overwritten : ℕ → List ℕ → List ℕ → List ℕ
@@ -441,14 +441,14 @@ unfoldable pub writeExit : Settings → Parts → Tables → List ℕ → List �
 writeExit S P t out = overwritten (writeRefusal S P t (length out)) (textOf S P t) out
 
 pub record Reading : Type 0 where
-  pub number : ℕ
+  pub refusal : ℕ
   pub value : ℤ
   pub next : ℕ
 
 -- PROTOCOL 9.4
 unfoldable pub reading : Number → Reading
-reading (Value value next) = record { number = 0; value = value; next = next }
-reading (Refused number) = record { number = number; value = pos 0; next = 0 }
+reading (Value value next) = record { refusal = 0; value = value; next = next }
+reading (Refused number) = record { refusal = number; value = pos 0; next = 0 }
 
 -- what was read of a text, with the place where the bytes behind it begin
 unfoldable pub numberAnswer : List ℕ → Option (ℤ × List ℕ) → Number

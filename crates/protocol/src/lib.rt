@@ -43,25 +43,25 @@ pub struct Session {
 
 // Commit.
 pub struct Committed {
-    pub number: u32,
+    pub refusal: u32,
     pub commitment: [Residue; WIDTH],
 }
 
 // The prover's round (PROTOCOL 8.4): c0, c1 and c2.
 pub struct Polynomial {
-    pub number: u32,
+    pub refusal: u32,
     pub elements: [[Residue; WIDTH]; 3],
 }
 
 // The prover's end.
 pub struct Ended {
-    pub number: u32,
+    pub refusal: u32,
     pub last: [i32; WIDTH],
 }
 
 // The whole opening; its round elements are in the table lent for them.
 pub struct Opened {
-    pub number: u32,
+    pub refusal: u32,
     pub commitment: [Residue; WIDTH],
     pub last: [i32; WIDTH],
     pub verdict: Verdict,
@@ -69,26 +69,26 @@ pub struct Opened {
 
 // A session's start.
 pub struct Started {
-    pub number: u32,
+    pub refusal: u32,
     pub next: Session,
 }
 
 // A session's round or end.
 pub struct Moved {
-    pub number: u32,
+    pub refusal: u32,
     pub verdict: Verdict,
     pub next: Session,
 }
 
 // The check of a transcript.
 pub struct Checked {
-    pub number: u32,
+    pub refusal: u32,
     pub verdict: Verdict,
 }
 
 // The judge of relaxed openings.
 pub struct Judged {
-    pub number: u32,
+    pub refusal: u32,
     pub yes: bool,
 }
 
@@ -104,13 +104,13 @@ pub struct Parts {
 
 // The table reader; its tables are in what was lent for them.
 pub struct Loaded {
-    pub number: u32,
+    pub refusal: u32,
     pub settings: Settings,
 }
 
 // The table writer, and the program `prove` as a call on text: how many bytes were written.
 pub struct Written {
-    pub number: u32,
+    pub refusal: u32,
     pub count: usize,
 }
 

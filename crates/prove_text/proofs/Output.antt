@@ -16,15 +16,15 @@ use Rattle.protocol.specs.Promises.{Proved}
 use Rattle.protocol.proofs.Tests.{granted-zero, granted-refused}
 
 module _ (text out out′ : List ℕ) (r : Written) (p : Proved text out r out′) (long : length out ≡ textLimit) where
-  number-is : r .number ≡ proveRefusal text textLimit
+  number-is : r .refusal ≡ proveRefusal text textLimit
   unfolding proveAnswer written
-  number-is = ap (λ (w : Written). w .number) (p .answer) ∙ ap (proveRefusal text) long
+  number-is = ap (λ (w : Written). w .refusal) (p .answer) ∙ ap (proveRefusal text) long
 
-  pub prints-refusal : (r .number ≡ 0 → ⊥) → refusedLine (r .number) ≡ proveOutput text
+  pub prints-refusal : (r .refusal ≡ 0 → ⊥) → refusedLine (r .refusal) ≡ proveOutput text
   unfolding proveOutput
   prints-refusal h = ap refusedLine number-is ∙ sym (granted-refused (proveRefusal text textLimit) _ _ (λ z. h (number-is ∙ z)))
 
-  module _ (e : r .number ≡ 0) where
+  module _ (e : r .refusal ≡ 0) where
     fine : proveRefusal text (length out) ≡ 0
     fine = ap (proveRefusal text) long ∙ sym number-is ∙ e
 

@@ -28,7 +28,7 @@ use Rattle.text_parts.proofs.Exactly.{fits-exact, exact-fits}
 use Rattle.prove_text.specs.Printed.{Openable, proof, Printed}
 
 module _ (text out : List ℕ) where
-  pub prove-refused : (n : ℕ) → (n ≡ 0 → ⊥) → textRefusal proveReads true text ≡ n → Proved text out (record { number = n; count = 0 }) out
+  pub prove-refused : (n : ℕ) → (n ≡ 0 → ⊥) → textRefusal proveReads true text ≡ n → Proved text out (record { refusal = n; count = 0 }) out
   unfolding proveAnswer proveExit written overwritten granted
   prove-refused zero ne e = absurd (ne refl)
   prove-refused (suc n) ne e =

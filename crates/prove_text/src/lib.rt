@@ -103,9 +103,9 @@ fn prove_in(
         challenges,
         &mut no_last[..0],
     );
-    let number = loaded.number;
-    if number != 0 {
-        return Written { number, count: 0 };
+    let refusal = loaded.refusal;
+    if refusal != 0 {
+        return Written { refusal, count: 0 };
     }
     print_opening(loaded.settings, key, message, challenges, rounds, out)
 }
@@ -123,9 +123,9 @@ fn prove_within(
     ensures { λ r. ⌜ Proved (now (text .entry)) (now (out .entry)) r (now (out .exit)) ⌝ }
 {
     let looked = text_lines::allowed_settings(text);
-    let number = looked.number;
-    if number != 0 {
-        return Written { number, count: 0 };
+    let refusal = looked.refusal;
+    if refusal != 0 {
+        return Written { refusal, count: 0 };
     }
     let settings = looked.settings;
     let depth = settings.depth as usize;
@@ -165,9 +165,9 @@ pub fn print(text: &[u8], out: &mut [u8]) -> usize
 {
     let mut listing = [0u8; TEXT_LIMIT];
     let written = prove(text, &mut listing);
-    let number = written.number;
-    if number != 0 {
-        return table_writer::show_refusal(number, out);
+    let refusal = written.refusal;
+    if refusal != 0 {
+        return table_writer::show_refusal(refusal, out);
     }
     let count = written.count;
     table_writer::show(&listing[..count], out)

@@ -19,10 +19,10 @@ ghost use Rattle.protocol.specs.Promises.{Folded};
 pub fn commit(settings: Settings, key: &[Residue], message: &[i32]) -> Committed
     ensures { λ r. ⌜ r ≡ commitAnswer settings (now (key .entry)) (now (message .entry)) ⌝ }
 {
-    let number = refusals::prover::commit(settings, key, message);
-    if number != 0 {
+    let refusal = refusals::prover::commit(settings, key, message);
+    if refusal != 0 {
         return Committed {
-            number: number,
+            refusal,
             commitment: [0u32; WIDTH],
         };
     }
@@ -31,17 +31,17 @@ pub fn commit(settings: Settings, key: &[Residue], message: &[i32]) -> Committed
     let n = sizes::left(settings, 0);
     let commitment = products::inner(q, d, n, message, key);
     Committed {
-        number: 0,
+        refusal: 0,
         commitment: commitment,
     }
 }
 
 // The answer of a prover's round, put together and taken apart: whoever holds one calls these, since a field that is an array of arrays
 // is read and written by hand.
-fn polynomial_of(number: u32, elements: [[Residue; WIDTH]; 3]) -> Polynomial
-    ensures { λ r. ⌜ (r .number ≡ number) × (r .elements ≡ elements) ⌝ }
+fn polynomial_of(refusal: u32, elements: [[Residue; WIDTH]; 3]) -> Polynomial
+    ensures { λ r. ⌜ (r .refusal ≡ refusal) × (r .elements ≡ elements) ⌝ }
 {
-    Polynomial { number, elements }
+    Polynomial { refusal, elements }
 }
 
 pub fn elements_of(answer: Polynomial) -> [[Residue; WIDTH]; 3]
@@ -54,10 +54,10 @@ pub fn elements_of(answer: Polynomial) -> [[Residue; WIDTH]; 3]
 pub fn round(settings: Settings, done: u32, key: &[Residue], message: &[i32]) -> Polynomial
     ensures { λ r. ⌜ r ≡ roundAnswer settings done (now (key .entry)) (now (message .entry)) ⌝ }
 {
-    let number = refusals::prover::round(settings, done, key, message);
-    if number != 0 {
+    let refusal = refusals::prover::round(settings, done, key, message);
+    if refusal != 0 {
         let none = [0u32; WIDTH];
-        return polynomial_of(number, [none, none, none]);
+        return polynomial_of(refusal, [none, none, none]);
     }
     let q = settings.modulus;
     let d = settings.degree;
@@ -71,9 +71,9 @@ pub fn round(settings: Settings, done: u32, key: &[Residue], message: &[i32]) ->
 pub fn fold(settings: Settings, done: u32, e: u32, key: &mut [Residue], message: &mut [i32]) -> u32
     ensures { λ r. ⌜ Folded settings done e (now (key .entry)) (now (message .entry)) r (now (key .exit)) (now (message .exit)) ⌝ }
 {
-    let number = refusals::prover::fold(settings, done, e, key, message);
-    if number != 0 {
-        return number;
+    let refusal = refusals::prover::fold(settings, done, e, key, message);
+    if refusal != 0 {
+        return refusal;
     }
     let d = settings.degree;
     let h = sizes::half_left(settings, done);
@@ -86,16 +86,16 @@ pub fn fold(settings: Settings, done: u32, e: u32, key: &mut [Residue], message:
 pub fn end(settings: Settings, done: u32, message: &[i32]) -> Ended
     ensures { λ r. ⌜ r ≡ endAnswer settings done (now (message .entry)) ⌝ }
 {
-    let number = refusals::prover::end(settings, done, message);
-    if number != 0 {
+    let refusal = refusals::prover::end(settings, done, message);
+    if refusal != 0 {
         return Ended {
-            number: number,
+            refusal,
             last: [0i32; WIDTH],
         };
     }
     let last = elements::signed_element_at(settings.degree, message, 0);
     Ended {
-        number: 0,
+        refusal: 0,
         last: last,
     }
 }

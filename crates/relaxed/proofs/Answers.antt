@@ -53,13 +53,13 @@ module _ (S : Settings) (C : List ℕ) (c : ℕ) (key : List ℕ) (w : List ℤ)
       let (k, v) = and-split t7 in
       record { allowed = r6; key-long = eqb-true _ _ k; w-long = eqb-true _ _ v; limited = t14 }
 
-  pub judge-refused : (n : ℕ) → n ≡ judgeRefusal S C c key w → (n ≡ 0 → ⊥) → _≡_ {A = Judged} (record { number = n; yes = false }) (judgeAnswer S C c key w)
+  pub judge-refused : (n : ℕ) → n ≡ judgeRefusal S C c key w → (n ≡ 0 → ⊥) → _≡_ {A = Judged} (record { refusal = n; yes = false }) (judgeAnswer S C c key w)
   unfolding judgeAnswer
-  judge-refused n e r = let none = sym (granted-refused (judgeRefusal S C c key w) (judged S key C c w) false (λ z. r (e ∙ z))) in λ i. record { number = e i; yes = none i }
+  judge-refused n e r = let none = sym (granted-refused (judgeRefusal S C c key w) (judged S key C c w) false (λ z. r (e ∙ z))) in λ i. record { refusal = e i; yes = none i }
 
-  pub judge-done : judgeRefusal S C c key w ≡ 0 → (y : Bool) → y ≡ judged S key C c w → _≡_ {A = Judged} (record { number = 0; yes = y }) (judgeAnswer S C c key w)
+  pub judge-done : judgeRefusal S C c key w ≡ 0 → (y : Bool) → y ≡ judged S key C c w → _≡_ {A = Judged} (record { refusal = 0; yes = y }) (judgeAnswer S C c key w)
   unfolding judgeAnswer
-  judge-done z y e = let all = e ∙ sym (granted-zero _ (judged S key C c w) false z) in λ i. record { number = sym z i; yes = all i }
+  judge-done z y e = let all = e ∙ sym (granted-zero _ (judged S key C c w) false z) in λ i. record { refusal = sym z i; yes = all i }
 
   -- the bound first, then the equation
   pub beyond : small (growth S) w ≡ false → false ≡ judged S key C c w

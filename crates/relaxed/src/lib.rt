@@ -19,21 +19,21 @@ pub fn judge(
 ) -> Judged
     ensures { λ r. ⌜ r ≡ judgeAnswer settings commitment c (now (key .entry)) (now (w .entry)) ⌝ }
 {
-    let number = refusals::judge::judge(settings, commitment, c, key, w);
-    if number != 0 {
+    let refusal = refusals::judge::judge(settings, commitment, c, key, w);
+    if refusal != 0 {
         return Judged {
-            number: number,
+            refusal,
             yes: false,
         };
     }
     if !tests::all_within_wide(sizes::growth(settings), w) {
         return Judged {
-            number: 0,
+            refusal: 0,
             yes: false,
         };
     }
     Judged {
-        number: 0,
+        refusal: 0,
         yes: combination::opens(settings, commitment, c, key, w),
     }
 }

@@ -31,19 +31,19 @@ module _ (S : Settings) (C rec : List ℕ) (n : ℕ) (e : n ≡ lent S (sized (S
   start-refused none rec′ h b p =
       let refused : lent S (sized (S .degree) C && sized recordWidth rec) 0 ≢ 0 = λ z. h (e ∙ z) in
       record {
-        number = e ∙ lent-stops S _ _ refused;
+        refusal = e ∙ lent-stops S _ _ refused;
         record-exit = p ∙ ap (λ r. recordStored r rec) (b ∙ kept S _ _ _ _ refused);
       }
 
   pub start-made : (c : List ℕ) (r : Started) (rec′ : List ℕ) → n ≡ 0 → (S .degree ≤ 64 → length C ≡ S .degree → c ≡ padded (S .degree) C) → r ≡ start S c
-      → rec′ ≡ recordStored (r .next) rec → StartStored S C rec (r .number) rec′
+      → rec′ ≡ recordStored (r .next) rec → StartStored S C rec (r .refusal) rec′
   unfolding startNumber startExit start sized
   start-made c r rec′ h b q p =
       let long = eqb-true _ _ (and-split (lent-fits S (sized (S .degree) C && sized recordWidth rec) (sym e ∙ h)) .0) in
       let answer = q ∙ ap (start S) (b (lent-degree S _ (sym e ∙ h)) long) in
       let same = lent-passes S _ (startRefusal S (padded (S .degree) C)) (sym e ∙ h) in
       record {
-        number = ap (λ (x : Started). x .number) answer ∙ same;
+        refusal = ap (λ (x : Started). x .refusal) answer ∙ same;
         record-exit = p ∙ ap (λ (x : Started). recordStored (x .next) rec) answer ∙ ap (λ k. recordStored (granted k (opened S (padded (S .degree) C)) blank) rec) same;
       }
 
@@ -54,7 +54,7 @@ module _ (fits : Bool) (m : Moved) (rec : List ℕ) where
   pub move-nowhere : length rec ≢ 78 → MoveStored fits m rec 7 rec 0
   unfolding moveExit moveVerdict
   move-nowhere h = record {
-    number = seven;
+    refusal = seven;
     record-exit = sym (granted-refused _ _ _ refused);
     verdict-exit = sym (granted-refused _ _ _ refused);
   }
@@ -66,7 +66,7 @@ module _ (fits : Bool) (m : Moved) (rec : List ℕ) where
       refused z = let no : _≡_ {A = ℕ} 7 0 = seven ∙ z in omega arith
 
   module _ (long : length rec ≡ 78) where
-    number-is : moveNumber fits m rec ≡ lent (sessionOf rec .settings) (fits && flagged rec) (m .number)
+    number-is : moveNumber fits m rec ≡ lent (sessionOf rec .settings) (fits && flagged rec) (m .refusal)
     unfolding moveNumber recordWidth sized
     number-is = first-holds 7 _ _ (eq-eqb _ _ long) ∙ first-only _
 
@@ -74,25 +74,25 @@ module _ (fits : Bool) (m : Moved) (rec : List ℕ) where
     pub move-refused : (n : ℕ) → n ≡ lent (sessionOf rec .settings) (fits && flagged rec) 0 → n ≢ 0 → MoveStored fits m rec n rec 0
     unfolding moveExit moveVerdict
     move-refused n e h =
-        let same = e ∙ lent-stops _ _ (m .number) (λ z. h (e ∙ z)) ∙ sym number-is in
+        let same = e ∙ lent-stops _ _ (m .refusal) (λ z. h (e ∙ z)) ∙ sym number-is in
         let refused : moveNumber fits m rec ≢ 0 = λ z. h (same ∙ z) in
-        record { number = same; record-exit = sym (granted-refused _ _ _ refused); verdict-exit = sym (granted-refused _ _ _ refused) }
+        record { refusal = same; record-exit = sym (granted-refused _ _ _ refused); verdict-exit = sym (granted-refused _ _ _ refused) }
 
     pub move-made : (n : ℕ) → n ≡ lent (sessionOf rec .settings) (fits && flagged rec) 0 → n ≡ 0
         → (m′ : Moved) (r : ℕ) (rec′ : List ℕ) (v′ : ℕ) → m′ ≡ m → Answered m′ rec r rec′ v′ → MoveStored fits m rec r rec′ v′
     unfolding moveExit moveVerdict
     move-made n e h m′ r rec′ v′ q a =
-        let same = lent-passes _ _ (m .number) (sym e ∙ h) ∙ sym number-is in
+        let same = lent-passes _ _ (m .refusal) (sym e ∙ h) ∙ sym number-is in
         record {
-          number = a .number ∙ ap (λ (x : Moved). x .number) q ∙ same;
-          record-exit = a .record-exit ∙ ap (λ (x : Moved). granted (x .number) (recordStored (x .next) rec) rec) q ∙ ap (λ k. granted k (recordStored (m .next) rec) rec) same;
-          verdict-exit = a .verdict-exit ∙ ap (λ (x : Moved). granted (x .number) (verdictNumber (x .verdict)) 0) q ∙ ap (λ k. granted k (verdictNumber (m .verdict)) 0) same;
+          refusal = a .refusal ∙ ap (λ (x : Moved). x .refusal) q ∙ same;
+          record-exit = a .record-exit ∙ ap (λ (x : Moved). granted (x .refusal) (recordStored (x .next) rec) rec) q ∙ ap (λ k. granted k (recordStored (m .next) rec) rec) same;
+          verdict-exit = a .verdict-exit ∙ ap (λ (x : Moved). granted (x .refusal) (verdictNumber (x .verdict)) 0) q ∙ ap (λ k. granted k (verdictNumber (m .verdict)) 0) same;
         }
 
 -- what a move answers that is refused, and one that is not
 module _ (m : Moved) (rec : List ℕ) where
-  pub answer-refused : m .number ≢ 0 → Answered m rec (m .number) rec 0
-  answer-refused h = record { number = refl; record-exit = sym (granted-refused _ _ _ h); verdict-exit = sym (granted-refused _ _ _ h) }
+  pub answer-refused : m .refusal ≢ 0 → Answered m rec (m .refusal) rec 0
+  answer-refused h = record { refusal = refl; record-exit = sym (granted-refused _ _ _ h); verdict-exit = sym (granted-refused _ _ _ h) }
 
-  pub answer-made : (rec′ : List ℕ) (v′ : ℕ) → m .number ≡ 0 → rec′ ≡ recordStored (m .next) rec → v′ ≡ verdictNumber (m .verdict) → Answered m rec 0 rec′ v′
-  answer-made rec′ v′ h p v = record { number = sym h; record-exit = p ∙ sym (granted-zero _ _ _ h); verdict-exit = v ∙ sym (granted-zero _ _ _ h) }
+  pub answer-made : (rec′ : List ℕ) (v′ : ℕ) → m .refusal ≡ 0 → rec′ ≡ recordStored (m .next) rec → v′ ≡ verdictNumber (m .verdict) → Answered m rec 0 rec′ v′
+  answer-made rec′ v′ h p v = record { refusal = sym h; record-exit = p ∙ sym (granted-zero _ _ _ h); verdict-exit = v ∙ sym (granted-zero _ _ _ h) }

@@ -160,7 +160,7 @@ module _ (r : Session) (w : Whole r) where
   move-whole p e = go (moveRefusal r p e) refl (moveHolds r p)
     where
       go : (n : ℕ) → moveRefusal r p e ≡ n → (b : Bool)
-          → Whole (granted n (choose b (record { number = 0; verdict = Holds; next = advanced r p e }) (record { number = 0; verdict = Rejected; next = shut r })) (refusedMove r n) .next)
+          → Whole (granted n (choose b (record { refusal = 0; verdict = Holds; next = advanced r p e }) (record { refusal = 0; verdict = Rejected; next = shut r })) (refusedMove r n) .next)
       go zero h true = advanced-whole p e (first-zero _ _ h .0)
       go zero h false = shut-whole
       go (suc n) h b = w
@@ -169,6 +169,6 @@ module _ (r : Session) (w : Whole r) where
   unfolding close granted refusedMove
   close-whole f key = go (closeRefusal r key)
     where
-      go : (n : ℕ) → Whole (granted n (record { number = 0; verdict = verdict (closeHolds r f key); next = shut r }) (refusedMove r n) .next)
+      go : (n : ℕ) → Whole (granted n (record { refusal = 0; verdict = verdict (closeHolds r f key); next = shut r }) (refusedMove r n) .next)
       go zero = shut-whole
       go (suc n) = w

@@ -32,11 +32,11 @@ unfoldable pub startExit : Settings → List ℕ → List ℕ → List ℕ
 startExit S C rec = recordStored (granted (startNumber S C rec) (opened S (padded (S .degree) C)) blank) rec
 
 pub record StartStored (S : Settings) (C rec : List ℕ) (r : ℕ) (rec′ : List ℕ) : Type 0 where
-  pub number : r ≡ startNumber S C rec
+  pub refusal : r ≡ startNumber S C rec
   pub record-exit : rec′ ≡ startExit S C rec
 
 unfoldable pub moveNumber : Bool → Moved → List ℕ → ℕ
-moveNumber fits m rec = first (unless 7 (sized recordWidth rec) ∷ lent (sessionOf rec .settings) (fits && flagged rec) (m .number) ∷ [])
+moveNumber fits m rec = first (unless 7 (sized recordWidth rec) ∷ lent (sessionOf rec .settings) (fits && flagged rec) (m .refusal) ∷ [])
 
 unfoldable pub moveExit : Bool → Moved → List ℕ → List ℕ
 moveExit fits m rec = granted (moveNumber fits m rec) (recordStored (m .next) rec) rec
@@ -45,7 +45,7 @@ unfoldable pub moveVerdict : Bool → Moved → List ℕ → ℕ
 moveVerdict fits m rec = granted (moveNumber fits m rec) (verdictNumber (m .verdict)) 0
 
 pub record MoveStored (fits : Bool) (m : Moved) (rec : List ℕ) (r : ℕ) (rec′ : List ℕ) (verdict′ : ℕ) : Type 0 where
-  pub number : r ≡ moveNumber fits m rec
+  pub refusal : r ≡ moveNumber fits m rec
   pub record-exit : rec′ ≡ moveExit fits m rec
   pub verdict-exit : verdict′ ≡ moveVerdict fits m rec
 
@@ -62,6 +62,6 @@ unfoldable pub endOn : List ℤ → List ℕ → List ℕ → Moved
 endOn f key rec = close (sessionOf rec) (paddedSigned (sessionOf rec .settings .degree) f) key
 
 pub record Answered (m : Moved) (rec : List ℕ) (r : ℕ) (rec′ : List ℕ) (verdict′ : ℕ) : Type 0 where
-  pub number : r ≡ m .number
-  pub record-exit : rec′ ≡ granted (m .number) (recordStored (m .next) rec) rec
-  pub verdict-exit : verdict′ ≡ granted (m .number) (verdictNumber (m .verdict)) 0
+  pub refusal : r ≡ m .refusal
+  pub record-exit : rec′ ≡ granted (m .refusal) (recordStored (m .next) rec) rec
+  pub verdict-exit : verdict′ ≡ granted (m .refusal) (verdictNumber (m .verdict)) 0

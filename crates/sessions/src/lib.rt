@@ -26,7 +26,7 @@ pub fn start(settings: Settings, commitment: &[Residue], session: &mut [u32]) ->
     let started = verifier.start(settings, c);
     let next = started.next;
     records::store(next, session);
-    started.number
+    started.refusal
 }
 
 // Stores what a move answers: the record and the verdict where it is not refused.
@@ -34,8 +34,8 @@ fn answer(moved: Moved, session: &mut [u32], verdict: &mut u32) -> u32
     ensures { λ r. ⌜ Answered moved (now (session .entry)) r (now (session .exit)) (now (verdict .exit)) ⌝ }
 {
     *verdict = 0;
-    if moved.number != 0 {
-        return moved.number;
+    if moved.refusal != 0 {
+        return moved.refusal;
     }
     let said = moved.verdict;
     *verdict = slices::verdict_number(said);

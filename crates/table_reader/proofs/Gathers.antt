@@ -128,21 +128,21 @@ module _ (text : List ℕ) (P : Parts) (h : Header) (h-is : h ≡ headerAnswer t
 
 -- refusals 1 to 7, after a first look
 module _ (P : Parts) (n : List ℕ) (text : List ℕ) (r : Loaded) (r-is : r ≡ lookAnswer text) (values : List ℤ) where
-  abbrev number-is : r .number ≡ lookRefusal text
+  abbrev number-is : r .refusal ≡ lookRefusal text
   number-is = look-number text r r-is
 
-  pub gathered-look : (r .number ≡ 0 → ⊥) → Gathered P n text r values
+  pub gathered-look : (r .refusal ≡ 0 → ⊥) → Gathered P n text r values
   unfolding linesRefusal lookAnswer
   gathered-look h =
       let same : linesRefusal P n text ≡ lookRefusal text = first-stops _ _ (λ e. h (number-is ∙ e)) in
       record { answer = r-is ∙ ap (λ m. loaded m text) (sym same); stored = λ e. absurd (h (number-is ∙ sym same ∙ e)) }
 
-  module _ (e : r .number ≡ 0) where
+  module _ (e : r .refusal ≡ 0) where
     behind-look : (b : Bool) → (inOrder P text && lengthsFit (settingsIn (linesOf text)) P n) ≡ b → linesRefusal P n text ≡ unless 7 b
     unfolding linesRefusal
     behind-look b h = first-passes _ _ (sym number-is ∙ e) ∙ first-only _ ∙ ap (unless 7) h
 
-    pub gathered-refused : (r₇ : Loaded) → r₇ ≡ record { number = 7; settings = noSettings } → (inOrder P text && lengthsFit (settingsIn (linesOf text)) P n) ≡ false → Gathered P n text r₇ values
+    pub gathered-refused : (r₇ : Loaded) → r₇ ≡ record { refusal = 7; settings = noSettings } → (inOrder P text && lengthsFit (settingsIn (linesOf text)) P n) ≡ false → Gathered P n text r₇ values
     unfolding unless
     gathered-refused r₇ f h =
         let seven : linesRefusal P n text ≡ 7 = behind-look false h in

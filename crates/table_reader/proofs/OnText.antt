@@ -28,11 +28,11 @@ module _ (text : List ℕ) where
   S = settingsIn (linesOf text)
 
   module _ (r : Loaded) (r-is : r ≡ lookAnswer text) where
-    look-number : r .number ≡ lookRefusal text
+    look-number : r .refusal ≡ lookRefusal text
     unfolding lookAnswer loaded
-    look-number = ap (λ x. x .number) r-is
+    look-number = ap (λ x. x .refusal) r-is
 
-    pub look-refusal : (P : Parts) → (r .number ≡ 0 → ⊥) → textRefusal P true text ≡ r .number
+    pub look-refusal : (P : Parts) → (r .refusal ≡ 0 → ⊥) → textRefusal P true text ≡ r .refusal
     unfolding textRefusal
     look-refusal P h = first-stops _ _ (λ z. h (look-number ∙ z)) ∙ sym look-number
 
@@ -46,11 +46,11 @@ module _ (text : List ℕ) where
     unfolding readRefusal
     same-refusal = refusal-by P (fits S P t) (lookRefusal text) refl fit
 
-    pub number-is : r .number ≡ textRefusal P true text
+    pub number-is : r .refusal ≡ textRefusal P true text
     unfolding readAnswer loaded
-    number-is = ap (λ x. x .number) (h .answer) ∙ same-refusal
+    number-is = ap (λ x. x .refusal) (h .answer) ∙ same-refusal
 
-    module _ (e : r .number ≡ 0) where
+    module _ (e : r .refusal ≡ 0) where
       unrefused : textRefusal P true text ≡ 0
       unrefused = sym number-is ∙ e
 

@@ -153,21 +153,21 @@ module _ (P : Parts) (text : List ℕ) (n : List ℕ) (few : length n ≡ tableC
 -- ---- what the reader promises
 
 module _ (P : Parts) (text : List ℕ) (t : Tables) (r : Loaded) (values : List ℤ) (g : Gathered P (lengthsOf t) text r values) where
-  number-is : r .number ≡ linesRefusal P (lengthsOf t) text
+  number-is : r .refusal ≡ linesRefusal P (lengthsOf t) text
   unfolding loaded
-  number-is = ap (λ x. x .number) (g .answer)
+  number-is = ap (λ x. x .refusal) (g .answer)
 
   kept : (m : ℕ) → readRefusal P text t ≡ m → (m ≡ 0 → ⊥) → t ≡ readExit P text t
   unfolding readExit
   kept m e h = sym (granted-refused _ _ _ (λ z. h (sym e ∙ z)))
 
-  pub read-refused : (r .number ≡ 0 → ⊥) → Read P text t r t
+  pub read-refused : (r .refusal ≡ 0 → ⊥) → Read P text t r t
   unfolding readAnswer
   read-refused h =
       let same = read-stops P text t (λ z. h (number-is ∙ z)) in
-      record { answer = g .answer ∙ ap (λ m. loaded m text) (sym same); tables-exit = kept (r .number) (same ∙ sym number-is) h }
+      record { answer = g .answer ∙ ap (λ m. loaded m text) (sym same); tables-exit = kept (r .refusal) (same ∙ sym number-is) h }
 
-  module _ (e : r .number ≡ 0) where
+  module _ (e : r .refusal ≡ 0) where
     unrefused : linesRefusal P (lengthsOf t) text ≡ 0
     unrefused = sym number-is ∙ e
 
@@ -188,7 +188,7 @@ module _ (P : Parts) (text : List ℕ) (t : Tables) (r : Loaded) (values : List 
       decided : readRefusal P text t ≡ m
       decided = read-entries P text t unrefused ∙ sym (m-is ∙ (λ j. entriesRefusal (settings-are j) true (stored j)))
 
-      pub read-refused-entries : (r₂ : Loaded) → r₂ ≡ record { number = m; settings = noSettings } → (m ≡ 0 → ⊥) → Read P text t r₂ t
+      pub read-refused-entries : (r₂ : Loaded) → r₂ ≡ record { refusal = m; settings = noSettings } → (m ≡ 0 → ⊥) → Read P text t r₂ t
       unfolding readAnswer
       read-refused-entries r₂ f h = record { answer = loaded-refused text r₂ m (readRefusal P text t) f decided h; tables-exit = kept m decided h }
 

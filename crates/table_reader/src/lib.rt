@@ -33,12 +33,12 @@ pub fn read(
     ];
     let mut values = [0i32; VALUES];
     let loaded = values::read_values(parts, text, lengths, &mut values);
-    if loaded.number != 0 {
+    if loaded.refusal != 0 {
         return loaded;
     }
-    let number = entries::refusal(loaded.settings, lengths, &values);
-    if number != 0 {
-        return text_lines::refused(number);
+    let refusal = entries::refusal(loaded.settings, lengths, &values);
+    if refusal != 0 {
+        return text_lines::refused(refusal);
     }
     store::all(&values, key, message, commitment, rounds, challenges, last);
     loaded

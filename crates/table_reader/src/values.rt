@@ -56,7 +56,7 @@ pub fn read_values(
     let header = read_header(text);
     if !read_wanted(parts, header, text, values) {
         let loaded = read_settings(text);
-        if loaded.number != 0 {
+        if loaded.refusal != 0 {
             return loaded;
         }
         return refused(7);
@@ -66,7 +66,7 @@ pub fn read_values(
         return refused(7);
     }
     Loaded {
-        number: 0,
+        refusal: 0,
         settings,
     }
 }

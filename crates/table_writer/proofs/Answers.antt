@@ -26,7 +26,7 @@ use Rattle.text_parts.proofs.Exactly.{fits-exact}
 use Rattle.table_writer.specs.Tables.{tablesRefusal}
 
 abbrev answer : ℕ → ℕ → Written
-answer number count = record { number = number; count = count }
+answer number count = record { refusal = number; count = count }
 
 module _ (S : Settings) (P : Parts) (t : Tables) (fine : tablesRefusal S P t ≡ 0) where
   pub passed-depth : S .depth ≤ 8

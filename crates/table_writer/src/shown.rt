@@ -20,11 +20,11 @@ pub fn show(bytes: &[u8], out: &mut [u8]) -> usize
 const REFUSAL_LINE: usize = 19;
 
 // The line for a refusal.
-pub fn show_refusal(number: u32, out: &mut [u8]) -> usize
-    ensures { λ r. ⌜ Shown (refusedLine number) (now (out .entry)) r (now (out .exit)) ⌝ }
+pub fn show_refusal(refusal: u32, out: &mut [u8]) -> usize
+    ensures { λ r. ⌜ Shown (refusedLine refusal) (now (out .entry)) r (now (out .exit)) ⌝ }
 {
     let mut line = [0u8; REFUSAL_LINE];
     copy(b"refused ", &mut line);
-    let count = put_field(number, 10, 8, &mut line);
+    let count = put_field(refusal, 10, 8, &mut line);
     show(&line[..count], out)
 }

@@ -29,7 +29,7 @@ pub fn write(
 ) -> Written
     ensures { λ r. ⌜ Wrote settings parts (tablesOf (now (key .entry)) (now (message .entry)) (now (commitment .entry)) (now (rounds .entry)) (now (challenges .entry)) (now (last .entry))) (now (out .entry)) r (now (out .exit)) ⌝ }
 {
-    let number = tables_refusal(
+    let refusal = tables_refusal(
         settings,
         parts,
         key,
@@ -39,8 +39,8 @@ pub fn write(
         challenges,
         last,
     );
-    if number != 0 {
-        return Written { number, count: 0 };
+    if refusal != 0 {
+        return Written { refusal, count: 0 };
     }
     let mut text = [0u8; TEXT_ROOM];
     let count = put_text(
@@ -56,16 +56,16 @@ pub fn write(
     );
     if count > TEXT_LIMIT {
         return Written {
-            number: 1,
+            refusal: 1,
             count: 0,
         };
     }
     if count > out.len() {
         return Written {
-            number: 7,
+            refusal: 7,
             count: 0,
         };
     }
     copy(&text[..count], out);
-    Written { number: 0, count }
+    Written { refusal: 0, count }
 }

@@ -26,29 +26,29 @@ use Rattle.text_calls.specs.Promises.{lookNumber, Looked, readNumber, Re
 -- ---- a first look
 
 module _ (text : List ℕ) (l : Loaded) (e : l ≡ lookAnswer text) where
-  pub look-number : l .number ≡ lookRefusal text
+  pub look-number : l .refusal ≡ lookRefusal text
   unfolding lookAnswer loaded
-  look-number = ap (λ (x : Loaded). x .number) e
+  look-number = ap (λ (x : Loaded). x .refusal) e
 
-  look-settings : l .number ≡ 0 → l .settings ≡ settingsIn (linesOf text)
+  look-settings : l .refusal ≡ 0 → l .settings ≡ settingsIn (linesOf text)
   unfolding lookAnswer loaded
   look-settings h = ap (λ (x : Loaded). x .settings) e ∙ granted-zero _ _ _ (sym look-number ∙ h)
 
   module _ (settings : List ℕ) where
-    pub look-refused : l .number ≢ 0 → Looked text settings (l .number) settings
-    look-refused h = record { number = same; settings-exit = sym (granted-refused _ _ _ (λ z. h (same ∙ z))) }
+    pub look-refused : l .refusal ≢ 0 → Looked text settings (l .refusal) settings
+    look-refused h = record { refusal = same; settings-exit = sym (granted-refused _ _ _ (λ z. h (same ∙ z))) }
       where
-        same : l .number ≡ lookNumber text settings
+        same : l .refusal ≡ lookNumber text settings
         same = unfold lookNumber in look-number ∙ sym (first-stops _ _ (λ z. h (look-number ∙ z)))
 
-    pub look-unfit : l .number ≡ 0 → length settings ≢ 4 → Looked text settings 7 settings
-    look-unfit h s = record { number = same; settings-exit = sym (granted-refused _ _ _ (λ z. let no : _≡_ {A = ℕ} 7 0 = same ∙ z in omega arith)) }
+    pub look-unfit : l .refusal ≡ 0 → length settings ≢ 4 → Looked text settings 7 settings
+    look-unfit h s = record { refusal = same; settings-exit = sym (granted-refused _ _ _ (λ z. let no : _≡_ {A = ℕ} 7 0 = same ∙ z in omega arith)) }
       where
         same : 7 ≡ lookNumber text settings
         same = unfold lookNumber in unfold sized in unfold settingsWidth in sym (first-passes _ _ (sym look-number ∙ h) ∙ first-fails 6 _ _ (ne-eqb _ _ s))
 
-    pub look-made : l .number ≡ 0 → length settings ≡ 4 → (settings′ : List ℕ) → settings′ ≡ settingsNumbers (l .settings) → Looked text settings 0 settings′
-    look-made h s settings′ p = record { number = same; settings-exit = p ∙ ap settingsNumbers (look-settings h) ∙ sym (granted-zero _ _ _ (sym same)) }
+    pub look-made : l .refusal ≡ 0 → length settings ≡ 4 → (settings′ : List ℕ) → settings′ ≡ settingsNumbers (l .settings) → Looked text settings 0 settings′
+    look-made h s settings′ p = record { refusal = same; settings-exit = p ∙ ap settingsNumbers (look-settings h) ∙ sym (granted-zero _ _ _ (sym same)) }
       where
         same : 0 ≡ lookNumber text settings
         same = unfold lookNumber in unfold sized in unfold settingsWidth in sym (first-passes _ _ (sym look-number ∙ h) ∙ first-holds 7 _ _ (eq-eqb _ _ s) ∙ unfold first in refl)
@@ -73,7 +73,7 @@ module _ (n : ℕ) (text settings : List ℕ) (t : Tables) where
   -- the slice for the settings or the number of parts is refused
   pub read-unfit : (r : ℕ) → r ≡ first (lookRefusal text ∷ 7 ∷ []) → (sized settingsWidth settings && partsNamed n) ≡ false → ReadStored n text settings t r settings t
   unfolding readNumber textRefusal
-  read-unfit r e b = record { number = same; settings-exit = sym (granted-refused _ _ _ refused); tables-exit = sym (granted-refused _ _ _ refused) }
+  read-unfit r e b = record { refusal = same; settings-exit = sym (granted-refused _ _ _ refused); tables-exit = sym (granted-refused _ _ _ refused) }
     where
       unfit : readNumber n text settings t ≡ first (lookRefusal text ∷ 7 ∷ [])
       unfit =
@@ -92,21 +92,21 @@ module _ (n : ℕ) (text settings : List ℕ) (t : Tables) where
     unfolding readNumber readRefusal
     read-is = ap (λ x. textRefusal x (fits (settingsIn (linesOf text)) x t) text) p ∙ ap (λ x. textRefusal (partsOf n) x text) (sym (and-true _ _ b))
 
-    same : l .number ≡ readNumber n text settings t
+    same : l .refusal ≡ readNumber n text settings t
     unfolding readAnswer loaded
-    same = ap (λ (x : Loaded). x .number) (given .answer) ∙ read-is
+    same = ap (λ (x : Loaded). x .refusal) (given .answer) ∙ read-is
 
     tables : t′ ≡ granted (readNumber n text settings t) (tablesIn (linesOf text)) t
     unfolding readExit
     tables = given .tables-exit ∙ ap (λ x. granted x (tablesIn (linesOf text)) t) read-is
 
-    pub read-refused : l .number ≢ 0 → ReadStored n text settings t (l .number) settings t′
-    read-refused h = record { number = same; settings-exit = sym (granted-refused _ _ _ (λ z. h (same ∙ z))); tables-exit = tables }
+    pub read-refused : l .refusal ≢ 0 → ReadStored n text settings t (l .refusal) settings t′
+    read-refused h = record { refusal = same; settings-exit = sym (granted-refused _ _ _ (λ z. h (same ∙ z))); tables-exit = tables }
 
-    pub read-made : l .number ≡ 0 → (settings′ : List ℕ) → settings′ ≡ settingsNumbers (l .settings) → ReadStored n text settings t 0 settings′ t′
+    pub read-made : l .refusal ≡ 0 → (settings′ : List ℕ) → settings′ ≡ settingsNumbers (l .settings) → ReadStored n text settings t 0 settings′ t′
     unfolding readAnswer loaded
     read-made h settings′ q = record {
-      number = sym h ∙ same;
+      refusal = sym h ∙ same;
       settings-exit = q ∙ ap settingsNumbers (ap (λ (x : Loaded). x .settings) (given .answer) ∙ granted-zero _ _ _ (read-is ∙ sym same ∙ h)) ∙ sym (granted-zero _ _ _ (sym same ∙ h));
       tables-exit = tables;
     }
@@ -116,7 +116,7 @@ module _ (n : ℕ) (text settings : List ℕ) (t : Tables) where
 module _ (S : Settings) (n : ℕ) (t : Tables) (out : List ℕ) (r : ℕ) (e : r ≡ lent S (partsNamed n) 0) where
   pub write-unfit : r ≢ 0 → WroteStored S n t out r out 0
   unfolding overwritten
-  write-unfit h = record { number = same; out-exit = sym (granted-refused _ _ _ refused); count-exit = sym (granted-refused _ _ _ refused) }
+  write-unfit h = record { refusal = same; out-exit = sym (granted-refused _ _ _ refused); count-exit = sym (granted-refused _ _ _ refused) }
     where
       same : r ≡ writeNumber S n t out
       same = unfold writeNumber in e ∙ lent-stops S _ _ (λ z. h (e ∙ z))
@@ -124,10 +124,10 @@ module _ (S : Settings) (n : ℕ) (t : Tables) (out : List ℕ) (r : ℕ) (e : r
       refused : writeNumber S n t out ≢ 0
       refused z = h (same ∙ z)
 
-  pub write-made : r ≡ 0 → (P : Parts) → P ≡ partsOf n → (w : Written) (out′ : List ℕ) → Wrote S P t out w out′ → WroteStored S n t out (w .number) out′ (w .count)
+  pub write-made : r ≡ 0 → (P : Parts) → P ≡ partsOf n → (w : Written) (out′ : List ℕ) → Wrote S P t out w out′ → WroteStored S n t out (w .refusal) out′ (w .count)
   unfolding writeAnswer writeExit written
   write-made h P p w out′ given = record {
-    number = ap (λ (x : Written). x .number) answer ∙ same;
+    refusal = ap (λ (x : Written). x .refusal) answer ∙ same;
     out-exit = given .out-exit ∙ ap (λ x. writeExit S x t out) p ∙ ap (λ k. overwritten k (textOf S (partsOf n) t) out) same;
     count-exit = ap (λ (x : Written). x .count) answer ∙ ap (λ k. granted k (length (textOf S (partsOf n) t)) 0) same;
   }

@@ -25,14 +25,14 @@ unfoldable pub lookNumber : List ℕ → List ℕ → ℕ
 lookNumber text settings = first (lookRefusal text ∷ unless 7 (sized settingsWidth settings) ∷ [])
 
 pub record Looked (text settings : List ℕ) (r : ℕ) (settings′ : List ℕ) : Type 0 where
-  pub number : r ≡ lookNumber text settings
+  pub refusal : r ≡ lookNumber text settings
   pub settings-exit : settings′ ≡ granted (lookNumber text settings) (settingsNumbers (settingsIn (linesOf text))) settings
 
 unfoldable pub readNumber : ℕ → List ℕ → List ℕ → Tables → ℕ
 readNumber n text settings t = textRefusal (partsOf n) (fits (settingsIn (linesOf text)) (partsOf n) t && (sized settingsWidth settings && partsNamed n)) text
 
 pub record ReadStored (n : ℕ) (text settings : List ℕ) (t : Tables) (r : ℕ) (settings′ : List ℕ) (t′ : Tables) : Type 0 where
-  pub number : r ≡ readNumber n text settings t
+  pub refusal : r ≡ readNumber n text settings t
   pub settings-exit : settings′ ≡ granted (readNumber n text settings t) (settingsNumbers (settingsIn (linesOf text))) settings
   pub tables-exit : t′ ≡ granted (readNumber n text settings t) (tablesIn (linesOf text)) t
 
@@ -40,15 +40,15 @@ unfoldable pub writeNumber : Settings → ℕ → Tables → List ℕ → ℕ
 writeNumber S n t out = lent S (partsNamed n) (writeRefusal S (partsOf n) t (length out))
 
 pub record WroteStored (S : Settings) (n : ℕ) (t : Tables) (out : List ℕ) (r : ℕ) (out′ : List ℕ) (count′ : ℕ) : Type 0 where
-  pub number : r ≡ writeNumber S n t out
+  pub refusal : r ≡ writeNumber S n t out
   pub out-exit : out′ ≡ overwritten (writeNumber S n t out) (textOf S (partsOf n) t) out
   pub count-exit : count′ ≡ granted (writeNumber S n t out) (length (textOf S (partsOf n) t)) 0
 
 pub record Verdicts (answer : Checked) (r verdict′ : ℕ) : Type 0 where
-  pub number : r ≡ answer .number
+  pub refusal : r ≡ answer .refusal
   pub verdict-exit : verdict′ ≡ verdictNumber (answer .verdict)
 
 pub record ProvedStored (text out : List ℕ) (r : ℕ) (out′ : List ℕ) (count′ : ℕ) : Type 0 where
-  pub number : r ≡ proveAnswer text out .number
+  pub refusal : r ≡ proveAnswer text out .refusal
   pub out-exit : out′ ≡ proveExit text out
   pub count-exit : count′ ≡ proveAnswer text out .count

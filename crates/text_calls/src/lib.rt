@@ -36,8 +36,8 @@ pub fn look(text: &[u8], settings: &mut [u32]) -> u32
     ensures { λ r. ⌜ Looked (now (text .entry)) (now (settings .entry)) r (now (settings .exit)) ⌝ }
 {
     let loaded = text_lines::read_settings(text);
-    if loaded.number != 0 {
-        return loaded.number;
+    if loaded.refusal != 0 {
+        return loaded.refusal;
     }
     if settings.len() != 4 {
         return 7;
@@ -51,8 +51,8 @@ fn refused(text: &[u8]) -> u32
     ensures { λ r. ⌜ r ≡ first (lookRefusal (now (text .entry)) ∷ 7 ∷ []) ⌝ }
 {
     let loaded = text_lines::read_settings(text);
-    if loaded.number != 0 {
-        return loaded.number;
+    if loaded.refusal != 0 {
+        return loaded.refusal;
     }
     7
 }
@@ -85,8 +85,8 @@ pub fn read(
         challenges,
         last,
     );
-    if loaded.number != 0 {
-        return loaded.number;
+    if loaded.refusal != 0 {
+        return loaded.refusal;
     }
     settings::store(loaded.settings, settings);
     0
@@ -125,7 +125,7 @@ pub fn write(
         out,
     );
     *count = written.count;
-    written.number
+    written.refusal
 }
 
 // An answer of `verify` as a number and a verdict.
@@ -141,9 +141,9 @@ fn verdict_of(verified: Verified, verdict: &mut u32) -> u32
             *verdict = slices::verdict_number(Verdict::Rejected);
             0
         }
-        Verified::Refused(number) => {
+        Verified::Refused(refusal) => {
             *verdict = slices::verdict_number(Verdict::Silent);
-            number
+            refusal
         }
     }
 }
@@ -162,5 +162,5 @@ pub fn prove(text: &[u8], out: &mut [u8], count: &mut usize) -> u32
 {
     let written = prove_text::prove(text, out);
     *count = written.count;
-    written.number
+    written.refusal
 }

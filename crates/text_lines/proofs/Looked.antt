@@ -81,11 +81,11 @@ header-settings text h h-is e =
 
 -- what the answer of a first look says
 module _ (text : List ℕ) (r : Loaded) (r-is : r ≡ lookAnswer text) where
-  pub look-number : r .number ≡ lookRefusal text
+  pub look-number : r .refusal ≡ lookRefusal text
   unfolding lookAnswer loaded
-  look-number = ap (λ x. x .number) r-is
+  look-number = ap (λ x. x .refusal) r-is
 
-  module _ (e : r .number ≡ 0) where
+  module _ (e : r .refusal ≡ 0) where
     pub look-settings : r .settings ≡ settingsIn (linesOf text)
     unfolding lookAnswer loaded
     look-settings = ap (λ x. x .settings) r-is ∙ granted-zero _ _ _ (sym look-number ∙ e)
@@ -98,8 +98,8 @@ module _ (text : List ℕ) (r : Loaded) (r-is : r ≡ lookAnswer text) where
 
 -- a text that is refused has a first look's answer; the settings are allowed, and they are the text's where its lines are of the stated shape
 pub record Begun (text : List ℕ) (r : Loaded) : Type 0 where
-  pub refused : (r .number ≡ 0 → ⊥) → r ≡ lookAnswer text
-  pub allowed : r .number ≡ 0 → settingsRefusal (r .settings) ≡ 0
+  pub refused : (r .refusal ≡ 0 → ⊥) → r ≡ lookAnswer text
+  pub allowed : r .refusal ≡ 0 → settingsRefusal (r .settings) ≡ 0
   pub settings-are : lookRefusal text ≡ 0 → r .settings ≡ settingsIn (linesOf text)
 
 module _ (text : List ℕ) where
@@ -119,10 +119,10 @@ module _ (text : List ℕ) where
       let l = looked text e in
       ap begunWith (l .header-is) ∙ sym (settled-settings text (l .values) (l .rest) (l .begins) (l .more) (l .more-is))
 
-  begun-allowed : settingsRefusal front ≡ 0 → Begun text (record { number = 0; settings = front })
+  begun-allowed : settingsRefusal front ≡ 0 → Begun text (record { refusal = 0; settings = front })
   begun-allowed e = record { refused = λ n. absurd (n refl); allowed = λ _. e; settings-are = front-is }
 
-  begun-by : (n : ℕ) → settingsRefusal front ≡ n → (r : Loaded) → r ≡ granted n (record { number = 0; settings = front }) (lookAnswer text) → Begun text r
+  begun-by : (n : ℕ) → settingsRefusal front ≡ n → (r : Loaded) → r ≡ granted n (record { refusal = 0; settings = front }) (lookAnswer text) → Begun text r
   unfolding granted
   begun-by zero e r f = subst (Begun text) (sym f) (begun-allowed e)
   begun-by (suc n) e r f = begun-looked r f
@@ -145,6 +145,6 @@ module _ (text : List ℕ) where
     unfolding begunAnswer
     begun-refused r e n = e ∙ sym (granted-refused _ _ _ (λ z. n (ap settingsRefusal begins-with ∙ z)))
 
-    pub begun-granted : settingsRefusal (h .settings) ≡ 0 → _≡_ {A = Loaded} (record { number = 0; settings = h .settings }) (begunAnswer text)
+    pub begun-granted : settingsRefusal (h .settings) ≡ 0 → _≡_ {A = Loaded} (record { refusal = 0; settings = h .settings }) (begunAnswer text)
     unfolding begunAnswer
-    begun-granted e = (λ j. record { number = 0; settings = begins-with j }) ∙ sym (granted-zero _ _ _ (ap settingsRefusal (sym begins-with) ∙ e))
+    begun-granted e = (λ j. record { refusal = 0; settings = begins-with j }) ∙ sym (granted-zero _ _ _ (ap settingsRefusal (sym begins-with) ∙ e))

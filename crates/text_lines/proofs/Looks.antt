@@ -189,14 +189,14 @@ module _ (text : List ℕ) where
   unfolding lookRefusal
   look-missing h e = first-holds 1 _ _ (le-leb _ _ h) ∙ first-fails 1 _ _ (header-missing text e)
 
-  pub loaded-refused : (r : Loaded) (n refusal : ℕ) → r ≡ record { number = n; settings = noSettings } → refusal ≡ n → (n ≡ 0 → ⊥) → r ≡ loaded refusal text
+  pub loaded-refused : (r : Loaded) (n refusal : ℕ) → r ≡ record { refusal = n; settings = noSettings } → refusal ≡ n → (n ≡ 0 → ⊥) → r ≡ loaded refusal text
   unfolding loaded granted
   loaded-refused r zero refusal e f h = absurd (h refl)
   loaded-refused r (suc n) refusal e f h = e ∙ sym (ap (λ x. loaded x text) f)
 
-  pub loaded-granted : (settings : Settings) (refusal : ℕ) → refusal ≡ 0 → settingsIn (linesOf text) ≡ settings → _≡_ {A = Loaded} (record { number = 0; settings = settings }) (loaded refusal text)
+  pub loaded-granted : (settings : Settings) (refusal : ℕ) → refusal ≡ 0 → settingsIn (linesOf text) ≡ settings → _≡_ {A = Loaded} (record { refusal = 0; settings = settings }) (loaded refusal text)
   unfolding loaded granted
-  loaded-granted settings refusal e f = sym (ap (λ x. loaded x text) e ∙ (λ j. record { number = 0; settings = f j }))
+  loaded-granted settings refusal e f = sym (ap (λ x. loaded x text) e ∙ (λ j. record { refusal = 0; settings = f j }))
 
   -- what the answer of the reader of the first lines says
   header-by : (o : Option (List ℤ × List ℕ)) → readSettings text ≡ o → (r : Header) → r ≡ headerAnswer text o → r .found ≡ true

@@ -49,11 +49,11 @@ fn no_header() -> Header
 }
 
 // The answer of a refused call.
-pub fn refused(number: u32) -> Loaded
-    ensures { λ r. ⌜ r ≡ record { number = number; settings = noSettings } ⌝ }
+pub fn refused(refusal: u32) -> Loaded
+    ensures { λ r. ⌜ r ≡ record { refusal = refusal; settings = noSettings } ⌝ }
 {
     let settings = no_settings();
-    Loaded { number, settings }
+    Loaded { refusal, settings }
 }
 
 // A value where a number from 0 on is wanted: one that is below zero counts as out of every range.
@@ -111,13 +111,13 @@ pub fn read_header(text: &[u8]) -> Header
 }
 
 // A refusal that stands behind 2: 2 where a line from a place on is not of the stated shape.
-pub fn or_malformed(text: &[u8], from: usize, number: u32) -> u32
-    ensures { λ r. ⌜ r ≡ choose (present (allLines (drop from (now (text .entry))))) number 2 ⌝ }
+pub fn or_malformed(text: &[u8], from: usize, refusal: u32) -> u32
+    ensures { λ r. ⌜ r ≡ choose (present (allLines (drop from (now (text .entry))))) refusal 2 ⌝ }
 {
     if !all_lines(text, from) {
         return 2;
     }
-    number
+    refusal
 }
 
 // A first look at a text's settings: refusals 1 to 6.
@@ -133,12 +133,12 @@ pub fn read_settings(text: &[u8]) -> Loaded
     }
     let settings = header.settings;
     let next = header.next;
-    let number = or_malformed(text, next, settings_refusal(settings));
-    if number != 0 {
-        return refused(number);
+    let refusal = or_malformed(text, next, settings_refusal(settings));
+    if refusal != 0 {
+        return refused(refusal);
     }
     Loaded {
-        number: 0,
+        refusal: 0,
         settings,
     }
 }
@@ -154,7 +154,7 @@ pub fn allowed_settings(text: &[u8]) -> Loaded
         return read_settings(text);
     }
     Loaded {
-        number: 0,
+        refusal: 0,
         settings,
     }
 }

@@ -46,12 +46,12 @@ module _ (S : Settings) (C key rounds E : List ℕ) where
     pub answered : (r : Checked) → r ≡ checkAnswer S C f key rounds E → (r ≡ checkAnswer S C f key rounds E) × (verdictNumber (r .verdict) ≡ checkNumber S C f key rounds E)
     answered r e = (e, ap (λ x. verdictNumber (x .verdict)) e ∙ check-number S C f key rounds E)
 
-    pub refused : (n : ℕ) → n ≡ checkRefusal S C key rounds E → (n ≡ 0 → ⊥) → _≡_ {A = Checked} (record { number = n; verdict = Silent }) (checkAnswer S C f key rounds E)
+    pub refused : (n : ℕ) → n ≡ checkRefusal S C key rounds E → (n ≡ 0 → ⊥) → _≡_ {A = Checked} (record { refusal = n; verdict = Silent }) (checkAnswer S C f key rounds E)
     unfolding checkAnswer
-    refused n e r = λ i. record { number = e i; verdict = sym (granted-refused (checkRefusal S C key rounds E) (verdict (accepted S key T)) Silent (λ z. r (e ∙ z))) i }
+    refused n e r = λ i. record { refusal = e i; verdict = sym (granted-refused (checkRefusal S C key rounds E) (verdict (accepted S key T)) Silent (λ z. r (e ∙ z))) i }
 
-    pub decided : (b : Bool) → checkRefusal S C key rounds E ≡ 0 → b ≡ accepted S key T → _≡_ {A = Checked} (record { number = 0; verdict = verdict b }) (checkAnswer S C f key rounds E)
+    pub decided : (b : Bool) → checkRefusal S C key rounds E ≡ 0 → b ≡ accepted S key T → _≡_ {A = Checked} (record { refusal = 0; verdict = verdict b }) (checkAnswer S C f key rounds E)
     unfolding checkAnswer
     decided b e a =
         let says = ap verdict a ∙ sym (granted-zero (checkRefusal S C key rounds E) (verdict (accepted S key T)) Silent e) in
-        λ i. record { number = sym e i; verdict = says i }
+        λ i. record { refusal = sym e i; verdict = says i }

@@ -66,21 +66,21 @@ pub fn check(
     ensures answer { λ r. ⌜ r ≡ checkAnswer settings commitment last (now (key .entry)) (now (rounds .entry)) (now (challenges .entry)) ⌝ }
     ensures verdict { λ r. ⌜ verdictNumber (r .verdict) ≡ checkNumber settings commitment last (now (key .entry)) (now (rounds .entry)) (now (challenges .entry)) ⌝ }
 {
-    let number = refusals::transcript::check(settings, commitment, key, rounds, challenges);
-    if number != 0 {
+    let refusal = refusals::transcript::check(settings, commitment, key, rounds, challenges);
+    if refusal != 0 {
         return Checked {
-            number: number,
+            refusal,
             verdict: Verdict::Silent,
         };
     }
     if accepted(settings, &commitment, &last, key, rounds, challenges) {
         return Checked {
-            number: 0,
+            refusal: 0,
             verdict: Verdict::Accepted,
         };
     }
     Checked {
-        number: 0,
+        refusal: 0,
         verdict: Verdict::Rejected,
     }
 }

@@ -36,18 +36,18 @@ module _ (S : Settings) (C : List ℕ) where
   unfolding startRefusal
   start-allowed e = none-refused ((7, _) ∷ []) e .0
 
-  pub start-refused : (n : ℕ) (none : Session) → n ≡ startRefusal S C → (n ≡ 0 → ⊥) → none ≡ blank → _≡_ {A = Started} (record { number = n; next = none }) (start S C)
+  pub start-refused : (n : ℕ) (none : Session) → n ≡ startRefusal S C → (n ≡ 0 → ⊥) → none ≡ blank → _≡_ {A = Started} (record { refusal = n; next = none }) (start S C)
   unfolding start
-  start-refused n none e r b = let next = b ∙ sym (granted-refused (startRefusal S C) (opened S C) blank (λ z. r (e ∙ z))) in λ i. record { number = e i; next = next i }
+  start-refused n none e r b = let next = b ∙ sym (granted-refused (startRefusal S C) (opened S C) blank (λ z. r (e ∙ z))) in λ i. record { refusal = e i; next = next i }
 
   -- of the commitment only the first d places are read
   pub start-done : startRefusal S C ≡ 0 → (claim : List ℕ) → claim ≡ elementAt (S .degree) C 0
-      → _≡_ {A = Started} (record { number = 0; next = record { settings = S; done = 0; claim = claim; challenges = zeros slots; closed = false } }) (start S C)
+      → _≡_ {A = Started} (record { refusal = 0; next = record { settings = S; done = 0; claim = claim; challenges = zeros slots; closed = false } }) (start S C)
   unfolding start opened elementAt
   start-done z claim e =
       let read = e ∙ ap (padded (S .degree)) (tabulate-ext (S .degree) (λ k l. ap (λ n. getD C n 0) {x = 0 * S .degree + k} {y = k} (omega (arith, Nat.zero-mul (S .degree))))) in
       let next = (λ i. record { settings = S; done = 0; claim = read i; challenges = zeros slots; closed = false }) ∙ sym (granted-zero (startRefusal S C) (opened S C) blank z) in
-      λ i. record { number = sym z i; next = next i }
+      λ i. record { refusal = sym z i; next = next i }
 
 -- ---- round
 
@@ -77,22 +77,22 @@ module _ (r : Session) (p : List (List ℕ)) (e : ℕ) where
         turn = ltb-true _ _ (and-split t11 .0);
       }
 
-  pub round-refused : (n : ℕ) → n ≡ moveRefusal r p e → (n ≡ 0 → ⊥) → _≡_ {A = Moved} (record { number = n; verdict = Silent; next = r }) (move r p e)
+  pub round-refused : (n : ℕ) → n ≡ moveRefusal r p e → (n ≡ 0 → ⊥) → _≡_ {A = Moved} (record { refusal = n; verdict = Silent; next = r }) (move r p e)
   unfolding move refusedMove
-  round-refused n f s = (λ i. record { number = f i; verdict = Silent; next = r }) ∙ sym (granted-refused (moveRefusal r p e) _ _ (λ z. s (f ∙ z)))
+  round-refused n f s = (λ i. record { refusal = f i; verdict = Silent; next = r }) ∙ sym (granted-refused (moveRefusal r p e) _ _ (λ z. s (f ∙ z)))
 
-  made : moveRefusal r p e ≡ 0 → (b : Bool) → moveHolds r p ≡ b → move r p e ≡ choose b (record { number = 0; verdict = Holds; next = advanced r p e }) (record { number = 0; verdict = Rejected; next = shut r })
+  made : moveRefusal r p e ≡ 0 → (b : Bool) → moveHolds r p ≡ b → move r p e ≡ choose b (record { refusal = 0; verdict = Holds; next = advanced r p e }) (record { refusal = 0; verdict = Rejected; next = shut r })
   unfolding move
-  made z b h = granted-zero (moveRefusal r p e) _ _ z ∙ ap (λ t. choose t (record { number = 0; verdict = Holds; next = advanced r p e }) (record { number = 0; verdict = Rejected; next = shut r })) h
+  made z b h = granted-zero (moveRefusal r p e) _ _ z ∙ ap (λ t. choose t (record { refusal = 0; verdict = Holds; next = advanced r p e }) (record { refusal = 0; verdict = Rejected; next = shut r })) h
 
-  pub round-rejected : moveRefusal r p e ≡ 0 → moveHolds r p ≡ false → (next : Session) → next ≡ shut r → _≡_ {A = Moved} (record { number = 0; verdict = Rejected; next = next }) (move r p e)
+  pub round-rejected : moveRefusal r p e ≡ 0 → moveHolds r p ≡ false → (next : Session) → next ≡ shut r → _≡_ {A = Moved} (record { refusal = 0; verdict = Rejected; next = next }) (move r p e)
   unfolding choose
-  round-rejected z h next s = (λ i. record { number = 0; verdict = Rejected; next = s i }) ∙ sym (made z false h)
+  round-rejected z h next s = (λ i. record { refusal = 0; verdict = Rejected; next = s i }) ∙ sym (made z false h)
 
   pub round-counted : moveRefusal r p e ≡ 0 → moveHolds r p ≡ true → (next : Session) (claim : List ℕ) → next ≡ counted r e claim
-      → claim ≡ padded (r .settings .degree) (nextClaim (r .settings) e (residue (part p 0)) (residue (part p 1)) (residue (part p 2))) → _≡_ {A = Moved} (record { number = 0; verdict = Holds; next = next }) (move r p e)
+      → claim ≡ padded (r .settings .degree) (nextClaim (r .settings) e (residue (part p 0)) (residue (part p 1)) (residue (part p 2))) → _≡_ {A = Moved} (record { refusal = 0; verdict = Holds; next = next }) (move r p e)
   unfolding choose advanced
-  round-counted z h next claim s c = (λ i. record { number = 0; verdict = Holds; next = (s ∙ ap (counted r e) c) i }) ∙ sym (made z true h)
+  round-counted z h next claim s c = (λ i. record { refusal = 0; verdict = Holds; next = (s ∙ ap (counted r e) c) i }) ∙ sym (made z true h)
 
 -- ---- end
 
@@ -113,10 +113,10 @@ module _ (r : Session) (f : List ℤ) (key : List ℕ) where
       let (of-key, of-claim) = and-split {a = residues S key} {b = residueElement S (r .claim)} t8 in
       record { allowed = r6; key-below = tested-below (S .modulus) (cells S) key t7 of-key }
 
-  pub end-refused : (n : ℕ) → n ≡ closeRefusal r key → (n ≡ 0 → ⊥) → _≡_ {A = Moved} (record { number = n; verdict = Silent; next = r }) (close r f key)
+  pub end-refused : (n : ℕ) → n ≡ closeRefusal r key → (n ≡ 0 → ⊥) → _≡_ {A = Moved} (record { refusal = n; verdict = Silent; next = r }) (close r f key)
   unfolding close refusedMove
-  end-refused n e s = (λ i. record { number = e i; verdict = Silent; next = r }) ∙ sym (granted-refused (closeRefusal r key) _ _ (λ z. s (e ∙ z)))
+  end-refused n e s = (λ i. record { refusal = e i; verdict = Silent; next = r }) ∙ sym (granted-refused (closeRefusal r key) _ _ (λ z. s (e ∙ z)))
 
-  pub end-done : closeRefusal r key ≡ 0 → (b : Bool) → closeHolds r f key ≡ b → (next : Session) → next ≡ shut r → _≡_ {A = Moved} (record { number = 0; verdict = verdict b; next = next }) (close r f key)
+  pub end-done : closeRefusal r key ≡ 0 → (b : Bool) → closeHolds r f key ≡ b → (next : Session) → next ≡ shut r → _≡_ {A = Moved} (record { refusal = 0; verdict = verdict b; next = next }) (close r f key)
   unfolding close
-  end-done z b h next s = (λ i. record { number = 0; verdict = verdict (sym h i); next = s i }) ∙ sym (granted-zero (closeRefusal r key) _ _ z)
+  end-done z b h next s = (λ i. record { refusal = 0; verdict = verdict (sym h i); next = s i }) ∙ sym (granted-zero (closeRefusal r key) _ _ z)

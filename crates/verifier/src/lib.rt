@@ -58,11 +58,11 @@ impl Verifier {
     pub fn start(self, settings: Settings, commitment: [u32; 64]) -> Started
         ensures { λ r. ⌜ r ≡ moves.start settings commitment ⌝ }
     {
-        let number = refusals::session::start(settings, commitment);
-        if number != 0 {
+        let refusal = refusals::session::start(settings, commitment);
+        if refusal != 0 {
             let none = blank();
             return Started {
-                number: number,
+                refusal,
                 next: none,
             };
         }
@@ -74,7 +74,7 @@ impl Verifier {
             closed: false,
         };
         Started {
-            number: 0,
+            refusal: 0,
             next: next,
         }
     }
@@ -85,10 +85,10 @@ impl Verifier {
         ensures verdict { λ r. ⌜ moves.verdictNumber (r .verdict) ≡ moves.moveNumber (self .0) polynomial e ⌝ }
     {
         let session = self.0;
-        let number = refusals::session::round(session, polynomial, e);
-        if number != 0 {
+        let refusal = refusals::session::round(session, polynomial, e);
+        if refusal != 0 {
             return Moved {
-                number: number,
+                refusal,
                 verdict: Verdict::Silent,
                 next: session,
             };
@@ -101,7 +101,7 @@ impl Verifier {
         if !equations::by_value::round_holds(settings, claim, c0, c2) {
             let closed = shut(session);
             return Moved {
-                number: 0,
+                refusal: 0,
                 verdict: Verdict::Rejected,
                 next: closed,
             };
@@ -112,7 +112,7 @@ impl Verifier {
             equations::by_value::next_claim(settings, e, c0, c1, c2),
         );
         Moved {
-            number: 0,
+            refusal: 0,
             verdict: Verdict::Holds,
             next: next,
         }
@@ -124,10 +124,10 @@ impl Verifier {
         ensures verdict { λ r. ⌜ moves.verdictNumber (r .verdict) ≡ moves.closeNumber (self .0) last (now (key .entry)) ⌝ }
     {
         let session = self.0;
-        let number = refusals::session::end(session, key);
-        if number != 0 {
+        let refusal = refusals::session::end(session, key);
+        if refusal != 0 {
             return Moved {
-                number: number,
+                refusal,
                 verdict: Verdict::Silent,
                 next: session,
             };
@@ -138,13 +138,13 @@ impl Verifier {
         let closed = shut(session);
         if equations::end_holds_for_key(settings, &claim, &last, key, &challenges) {
             return Moved {
-                number: 0,
+                refusal: 0,
                 verdict: Verdict::Accepted,
                 next: closed,
             };
         }
         Moved {
-            number: 0,
+            refusal: 0,
             verdict: Verdict::Rejected,
             next: closed,
         }

@@ -36,20 +36,20 @@ module _ (text : List ℕ) where
 
   -- ---- a first look
 
-  pub verify-stops : (r : Loaded) → r ≡ lookAnswer text → (r .number ≡ 0 → ⊥) → Refused (r .number) ≡ verifyAnswer text
-  verify-stops r r-is h = refused-is (r .number) (unfold verifyRefusal in (look-refusal text r r-is verifyReads h)) h
+  pub verify-stops : (r : Loaded) → r ≡ lookAnswer text → (r .refusal ≡ 0 → ⊥) → Refused (r .refusal) ≡ verifyAnswer text
+  verify-stops r r-is h = refused-is (r .refusal) (unfold verifyRefusal in (look-refusal text r r-is verifyReads h)) h
 
   -- ---- tables of their lengths
 
   module _ (t t′ : Tables) (fit : lookRefusal text ≡ 0 → fits S verifyReads t ≡ true) (r : Loaded) (h : Read verifyReads text t r t′) where
-    refusal-is : r .number ≡ verifyRefusal text
+    refusal-is : r .refusal ≡ verifyRefusal text
     unfolding verifyRefusal
     refusal-is = number-is text verifyReads t t′ fit r h
 
-    pub verify-refused : (r .number ≡ 0 → ⊥) → Refused (r .number) ≡ verifyAnswer text
-    verify-refused n = refused-is (r .number) (sym refusal-is) n
+    pub verify-refused : (r .refusal ≡ 0 → ⊥) → Refused (r .refusal) ≡ verifyAnswer text
+    verify-refused n = refused-is (r .refusal) (sym refusal-is) n
 
-    module _ (e : r .number ≡ 0) where
+    module _ (e : r .refusal ≡ 0) where
       -- a table keeps its length
       pub verify-given : lengthsOf t′ ≡ lengthsOf t → Given (r .settings) t′
       verify-given l = record {

@@ -74,8 +74,8 @@ fn verify_in(
         challenges,
         last,
     );
-    if loaded.number != 0 {
-        return Verified::Refused(loaded.number);
+    if loaded.refusal != 0 {
+        return Verified::Refused(loaded.refusal);
     }
     answer(loaded.settings, key, commitment, rounds, challenges, last)
 }
@@ -94,8 +94,8 @@ fn verify_within(
     ensures { λ r. ⌜ r ≡ verifyAnswer (now (text .entry)) ⌝ }
 {
     let looked = text_lines::allowed_settings(text);
-    if looked.number != 0 {
-        return Verified::Refused(looked.number);
+    if looked.refusal != 0 {
+        return Verified::Refused(looked.refusal);
     }
     let settings = looked.settings;
     let degree = settings.degree as usize;
@@ -142,7 +142,7 @@ fn show_verdict(answer: Verified, out: &mut [u8]) -> usize
     match answer {
         Verified::Accepted => table_writer::show(b"accepted\n", out),
         Verified::Rejected => table_writer::show(b"rejected\n", out),
-        Verified::Refused(number) => table_writer::show_refusal(number, out),
+        Verified::Refused(refusal) => table_writer::show_refusal(refusal, out),
     }
 }
 

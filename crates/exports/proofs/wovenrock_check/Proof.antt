@@ -24,8 +24,8 @@ returns c =
     let S = given (a .degree) (a .depth) (a .modulus) (a .bound) in
     let answer = checkAnswer S (padded (a .degree) (a .commitment .now)) (paddedSigned (a .degree) (a .last .now)) (a .key .now) (a .rounds .now) (a .challenges .now) in
     let fits = sized (a .degree) (a .commitment .now) && sized (a .degree) (a .last .now) in
-    let (p, q) = unfit S fits (answer .number) (verdictNumber (answer .verdict)) 0 _ (at-refusal .refusal .ensures ∙ ap (λ b. lent S b 0) (at-both .both .ensures)) (c .if1 .taken) in
-    record { number = p; verdict-exit = q }
+    let (p, q) = unfit S fits (answer .refusal) (verdictNumber (answer .verdict)) 0 _ (at-refusal .refusal .ensures ∙ ap (λ b. lent S b 0) (at-both .both .ensures)) (c .if1 .taken) in
+    record { refusal = p; verdict-exit = q }
 
 returns-2 : tie.Need-returns-2
 unfolding checkNumber checkVerdict checkAnswer sized
@@ -44,7 +44,7 @@ returns-2 c =
     let N = checkRefusal S (padded (a .degree) (a .commitment .now)) (a .key .now) (a .rounds .now) (a .challenges .now) in
     let lengths = border ∙ ap (λ b. lent S b 0) both in
     record {
-      number = ap (λ (r : Checked). r .number) answer ∙ lent-passes S fits N (sym lengths ∙ nothing);
+      refusal = ap (λ (r : Checked). r .refusal) answer ∙ lent-passes S fits N (sym lengths ∙ nothing);
       verdict-exit = c .verdict-number .ensures ∙ ap (λ (r : Checked). verdictNumber (r .verdict)) answer ∙ says S fits N _ _ lengths nothing;
     }
 

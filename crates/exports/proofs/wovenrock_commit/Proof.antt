@@ -19,8 +19,8 @@ returns c =
     let a = at-refusal .before .before .before .args in
     let S = given (a .degree) (a .depth) (a .modulus) (a .bound) in
     let answer = commitAnswer S (a .key .now) (a .message .now) in
-    let (p, q) = unfit S (sized (a .degree) (a .commitment .now)) (answer .number) (take (a .degree) (answer .commitment)) (a .commitment .now) _ (at-refusal .refusal .ensures) (c .if1 .taken) in
-    record { number = p; commitment-exit = q }
+    let (p, q) = unfit S (sized (a .degree) (a .commitment .now)) (answer .refusal) (take (a .degree) (answer .commitment)) (a .commitment .now) _ (at-refusal .refusal .ensures) (c .if1 .taken) in
+    record { refusal = p; commitment-exit = q }
 
 returns-2 : tie.Need-returns-2
 unfolding commitNumber commitExit sized
@@ -31,12 +31,12 @@ returns-2 c =
     let a = at-refusal .before .before .before .args in
     let S = given (a .degree) (a .depth) (a .modulus) (a .bound) in
     let answer = commitAnswer S (a .key .now) (a .message .now) in
-    let same = ap (λ (r : Committed). r .number) (at-commit .commit .ensures) in
+    let same = ap (λ (r : Committed). r .refusal) (at-commit .commit .ensures) in
     let (p, q) =
-    refused S (sized (a .degree) (a .commitment .now)) (answer .number) (take (a .degree) (answer .commitment)) (a .commitment .now) _ (at-refusal .refusal .ensures)
+    refused S (sized (a .degree) (a .commitment .now)) (answer .refusal) (take (a .degree) (answer .commitment)) (a .commitment .now) _ (at-refusal .refusal .ensures)
     (at-if1 .if1 .left)
     _ same (c .if2 .taken) in
-    record { number = p; commitment-exit = q }
+    record { refusal = p; commitment-exit = q }
 
 returns-3 : tie.Need-returns-3
 unfolding commitNumber commitExit sized
@@ -55,9 +55,9 @@ returns-3 c =
     let passed = sym border ∙ nothing in
     let stored = at-store-residues .store-residues .ensures (lent-degree S _ passed) (eqb-true _ _ (lent-fits S _ passed)) in
     let (p, q) =
-    made S (sized (a .degree) (a .commitment .now)) (answer .number) (take (a .degree) (answer .commitment)) (a .commitment .now) _ border nothing
-    _ (ap (λ (r : Committed). r .number) given-answer) (at-if2 .if2 .left) _ (stored ∙ ap (λ (r : Committed). take (a .degree) (r .commitment)) given-answer) in
-    record { number = p; commitment-exit = q }
+    made S (sized (a .degree) (a .commitment .now)) (answer .refusal) (take (a .degree) (answer .commitment)) (a .commitment .now) _ border nothing
+    _ (ap (λ (r : Committed). r .refusal) given-answer) (at-if2 .if2 .left) _ (stored ∙ ap (λ (r : Committed). take (a .degree) (r .commitment)) given-answer) in
+    record { refusal = p; commitment-exit = q }
 
 pub wovenrock-commit-spec : {M : Type 1} → statement M
 wovenrock-commit-spec =

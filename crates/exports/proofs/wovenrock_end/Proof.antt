@@ -18,8 +18,8 @@ returns c =
     let a = c .before .before .args in
     let S = given (a .degree) (a .depth) (a .modulus) (a .bound) in
     let answer = endAnswer S (a .done) (a .message .now) in
-    let (p, q) = unfit S (sized (a .degree) (a .last .now)) (answer .number) (take (a .degree) (answer .last)) (a .last .now) _ (c .before .refusal .ensures) (c .if1 .taken) in
-    record { number = p; last-exit = q }
+    let (p, q) = unfit S (sized (a .degree) (a .last .now)) (answer .refusal) (take (a .degree) (answer .last)) (a .last .now) _ (c .before .refusal .ensures) (c .if1 .taken) in
+    record { refusal = p; last-exit = q }
 
 returns-2 : tie.Need-returns-2
 unfolding endNumber endExit sized
@@ -30,11 +30,11 @@ returns-2 c =
     let a = at-refusal .before .args in
     let S = given (a .degree) (a .depth) (a .modulus) (a .bound) in
     let answer = endAnswer S (a .done) (a .message .now) in
-    let same = ap (λ (r : Ended). r .number) (at-end .end .ensures) in
+    let same = ap (λ (r : Ended). r .refusal) (at-end .end .ensures) in
     let (p, q) =
-    refused S (sized (a .degree) (a .last .now)) (answer .number) (take (a .degree) (answer .last)) (a .last .now) _ (at-refusal .refusal .ensures) (at-if1 .if1 .left)
+    refused S (sized (a .degree) (a .last .now)) (answer .refusal) (take (a .degree) (answer .last)) (a .last .now) _ (at-refusal .refusal .ensures) (at-if1 .if1 .left)
     _ same (c .if2 .taken) in
-    record { number = p; last-exit = q }
+    record { refusal = p; last-exit = q }
 
 returns-3 : tie.Need-returns-3
 unfolding endNumber endExit sized
@@ -48,9 +48,9 @@ returns-3 c =
     let passed = sym border ∙ nothing in
     let stored = c .before .store-wholes .ensures (lent-degree S _ passed) (eqb-true _ _ (lent-fits S _ passed)) in
     let (p, q) =
-    made S (sized (a .degree) (a .last .now)) (answer .number) (take (a .degree) (answer .last)) (a .last .now) _ border nothing
-    _ (ap (λ (r : Ended). r .number) given-answer) (c .before .before .before .before .if2 .left) _ (stored ∙ ap (λ (r : Ended). take (a .degree) (r .last)) given-answer) in
-    record { number = p; last-exit = q }
+    made S (sized (a .degree) (a .last .now)) (answer .refusal) (take (a .degree) (answer .last)) (a .last .now) _ border nothing
+    _ (ap (λ (r : Ended). r .refusal) given-answer) (c .before .before .before .before .if2 .left) _ (stored ∙ ap (λ (r : Ended). take (a .degree) (r .last)) given-answer) in
+    record { refusal = p; last-exit = q }
 
 pub wovenrock-end-spec : {M : Type 1} → statement M
 wovenrock-end-spec =

@@ -23,7 +23,7 @@ returns c =
     let N = Calls.extractRefusal S C (a .key .now) (a .rounds .now) (a .challenges .now) (a .leaves .now) (a .w .now) in
     let exit = Calls.extractExit S C (a .key .now) (a .rounds .now) (a .challenges .now) (a .leaves .now) (a .w .now) in
     let (p, q) = unfit S (sized (a .degree) (a .commitment .now)) N exit (a .w .now) _ (c .before .refusal .ensures) (c .if1 .taken) in
-    record { number = p; w-exit = q }
+    record { refusal = p; w-exit = q }
 
 residues-requires : tie.Need-residues-requires
 residues-requires c κs = search needs
@@ -51,7 +51,7 @@ returns-2 c =
     let answer = at-extract .extract .ensures in
     let N = Calls.extractRefusal S (padded (a .degree) (a .commitment .now)) (a .key .now) (a .rounds .now) (a .challenges .now) (a .leaves .now) (a .w .now) in
     record {
-      number = answer .number ∙ ap (λ C. Calls.extractRefusal S C (a .key .now) (a .rounds .now) (a .challenges .now) (a .leaves .now) (a .w .now)) commitment ∙ lent-passes S fits N passed;
+      refusal = answer .refusal ∙ ap (λ C. Calls.extractRefusal S C (a .key .now) (a .rounds .now) (a .challenges .now) (a .leaves .now) (a .w .now)) commitment ∙ lent-passes S fits N passed;
       w-exit = answer .w-exit ∙ ap (λ C. Calls.extractExit S C (a .key .now) (a .rounds .now) (a .challenges .now) (a .leaves .now) (a .w .now)) commitment ∙ through S fits N _ _ _ border nothing;
     }
 

@@ -24,8 +24,8 @@ returns c =
     let a = c .before .before .before .before .args in
     let S = given (a .degree) (a .depth) (a .modulus) (a .bound) in
     let answer = judgeAnswer S (padded (a .degree) (a .commitment .now)) (a .slack) (a .key .now) (a .w .now) in
-    let (p, q) = unfit {A = ℕ} S (sized (a .degree) (a .commitment .now)) (answer .number) (choose (answer .yes) 1 0) 0 _ (c .before .refusal .ensures) (c .if1 .taken) in
-    record { number = p; yes-exit = q }
+    let (p, q) = unfit {A = ℕ} S (sized (a .degree) (a .commitment .now)) (answer .refusal) (choose (answer .yes) 1 0) 0 _ (c .before .refusal .ensures) (c .if1 .taken) in
+    record { refusal = p; yes-exit = q }
 
 residues-requires : tie.Need-residues-requires
 residues-requires c κs = search needs
@@ -49,7 +49,7 @@ returns-2 c =
     let answer = c .before .judge .ensures ∙ ap (λ C. judgeAnswer S C (a .slack) (a .key .now) (a .w .now)) commitment in
     let N = judgeRefusal S (padded (a .degree) (a .commitment .now)) (a .slack) (a .key .now) (a .w .now) in
     record {
-      number = ap (λ (r : Judged). r .number) answer ∙ lent-passes S fits N passed;
+      refusal = ap (λ (r : Judged). r .refusal) answer ∙ lent-passes S fits N passed;
       yes-exit = as-number (c .before .judge .result .yes) ∙ ap (λ (r : Judged). choose (r .yes) 1 0) answer ∙ agrees S fits N _ _ border nothing;
     }
 

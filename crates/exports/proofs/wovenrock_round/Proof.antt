@@ -19,8 +19,8 @@ returns c =
     let a = at-refusal .before .before .before .args in
     let S = given (a .degree) (a .depth) (a .modulus) (a .bound) in
     let answer = roundAnswer S (a .done) (a .key .now) (a .message .now) in
-    let (p, q) = unfit S (sized (3 * a .degree) (a .polynomial .now)) (answer .number) (laid (a .degree) (answer .elements)) (a .polynomial .now) _ (at-refusal .refusal .ensures) (c .if1 .taken) in
-    record { number = p; polynomial-exit = q }
+    let (p, q) = unfit S (sized (3 * a .degree) (a .polynomial .now)) (answer .refusal) (laid (a .degree) (answer .elements)) (a .polynomial .now) _ (at-refusal .refusal .ensures) (c .if1 .taken) in
+    record { refusal = p; polynomial-exit = q }
 
 returns-2 : tie.Need-returns-2
 unfolding roundNumber roundExit sized
@@ -31,12 +31,12 @@ returns-2 c =
     let a = at-refusal .before .before .before .args in
     let S = given (a .degree) (a .depth) (a .modulus) (a .bound) in
     let answer = roundAnswer S (a .done) (a .key .now) (a .message .now) in
-    let same = ap (λ (r : Polynomial). r .number) (at-round .round .ensures) in
+    let same = ap (λ (r : Polynomial). r .refusal) (at-round .round .ensures) in
     let (p, q) =
-    refused S (sized (3 * a .degree) (a .polynomial .now)) (answer .number) (laid (a .degree) (answer .elements)) (a .polynomial .now) _ (at-refusal .refusal .ensures)
+    refused S (sized (3 * a .degree) (a .polynomial .now)) (answer .refusal) (laid (a .degree) (answer .elements)) (a .polynomial .now) _ (at-refusal .refusal .ensures)
     (at-if1 .if1 .left)
     _ same (c .if2 .taken) in
-    record { number = p; polynomial-exit = q }
+    record { refusal = p; polynomial-exit = q }
 
 returns-3 : tie.Need-returns-3
 unfolding roundNumber roundExit sized
@@ -56,10 +56,10 @@ returns-3 c =
     let passed = sym border ∙ nothing in
     let stored = at-store-polynomial .store-polynomial .ensures (lent-degree S _ passed) (eqb-true _ _ (lent-fits S _ passed)) in
     let (p, q) =
-    made S (sized (3 * a .degree) (a .polynomial .now)) (answer .number) (laid (a .degree) (answer .elements)) (a .polynomial .now) _ border nothing
-    _ (ap (λ (r : Polynomial). r .number) given-answer) (at-if2 .if2 .left) _
+    made S (sized (3 * a .degree) (a .polynomial .now)) (answer .refusal) (laid (a .degree) (answer .elements)) (a .polynomial .now) _ border nothing
+    _ (ap (λ (r : Polynomial). r .refusal) given-answer) (at-if2 .if2 .left) _
     (stored ∙ ap (laid (a .degree)) (at-elements-of .elements-of .ensures ∙ ap (λ (r : Polynomial). r .elements) given-answer)) in
-    record { number = p; polynomial-exit = q }
+    record { refusal = p; polynomial-exit = q }
 
 pub wovenrock-round-spec : {M : Type 1} → statement M
 wovenrock-round-spec =

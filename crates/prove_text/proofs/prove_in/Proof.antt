@@ -61,7 +61,7 @@ module _ (c : tie.Else1) where
 returns : tie.Need-returns
 returns c =
     let r = c .before .before .before .before .before .before .before .before .before in
-    prove-refused (text r) (start r .args .out .now) (r .read .result .number) (c .if1 .taken) (sym (number-is (text r) proveReads (t r) (t′ r) (fit r) (r .read .result) (promise r)))
+    prove-refused (text r) (start r .args .out .now) (r .read .result .refusal) (c .if1 .taken) (sym (number-is (text r) proveReads (t r) (t′ r) (fit r) (r .read .result) (promise r)))
 
 print-opening-requires : tie.Need-print-opening-requires
 print-opening-requires c κs =

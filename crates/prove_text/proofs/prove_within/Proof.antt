@@ -69,7 +69,7 @@ returns c =
     let l = c .before in
     let a = l .before .before .before .before .before .before .args in
     let r = l .allowed-settings .result in
-    prove-refused (a .text .now) (a .out .now) (r .number) (c .if1 .taken)
+    prove-refused (a .text .now) (a .out .now) (r .refusal) (c .if1 .taken)
     (look-refusal (a .text .now) r (begun (a .text .now) r (l .allowed-settings .ensures) .refused (c .if1 .taken)) proveReads (c .if1 .taken))
 
 slice-relend-prefix-prove-in : tie.Need-slice-relend-prefix-prove-in

@@ -44,7 +44,7 @@ stayed = (stay-none (λ _. u32) yes, (stay-none (λ _. Elements) yes, tt))
 module _ {M : Type 1} (𝓤 : URA M) (H : Heap 𝓤) (A : Atoms 𝓤) (W : Given 𝓤 H A) (mem : Memory → SProp 𝓤) (run : Routine → Fun 𝓤)
     (number : ℕ) (fits : number < 2 ^ 32) (elements : List (List ℕ)) (is : Is Elements elements (spelled elements ∷ [])) where
   abbrev answer : Polynomial
-  answer = record { number = number; elements = elements }
+  answer = record { refusal = number; elements = elements }
 
   abbrev value : List (List ℕ) → Val
   value l = vstruct (vcons (vint w32 number) (vcons (spelled l) vnil))

@@ -14,7 +14,7 @@ returns : tie.Need-returns
 returns c =
     let given = c .before .before .prove .ensures in
     record {
-      number = ap (λ (r : Written). r .number) (given .answer);
+      refusal = ap (λ (r : Written). r .refusal) (given .answer);
       out-exit = given .out-exit;
       count-exit = ap (λ (r : Written). r .count) (given .answer);
     }

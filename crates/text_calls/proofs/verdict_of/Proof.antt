@@ -11,7 +11,7 @@ unfolding checked
 returns c =
     let told = c .before .enum-told .given .1 in
     record {
-      number = sym (ap (λ (v : Verified). checked v .number) told);
+      refusal = sym (ap (λ (v : Verified). checked v .refusal) told);
       verdict-exit = c .verdict-number .ensures ∙ sym (ap (λ (v : Verified). verdictNumber (checked v .verdict)) told);
     }
 
@@ -20,7 +20,7 @@ unfolding checked
 returns-2 c =
     let told = c .before .enum-told2 .given .1 in
     record {
-      number = sym (ap (λ (v : Verified). checked v .number) told);
+      refusal = sym (ap (λ (v : Verified). checked v .refusal) told);
       verdict-exit = c .verdict-number2 .ensures ∙ sym (ap (λ (v : Verified). verdictNumber (checked v .verdict)) told);
     }
 
@@ -29,7 +29,7 @@ unfolding checked
 returns-3 c =
     let told = c .before .before .verified .given .1 in
     record {
-      number = sym (ap (λ (v : Verified). checked v .number) told);
+      refusal = sym (ap (λ (v : Verified). checked v .refusal) told);
       verdict-exit = c .verdict-number3 .ensures ∙ sym (ap (λ (v : Verified). verdictNumber (checked v .verdict)) told);
     }
 

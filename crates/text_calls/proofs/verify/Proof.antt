@@ -17,7 +17,7 @@ returns c =
     let answer = c .before .before .verify .ensures .0 in
     let given = c .verdict-of .ensures in
     record {
-      number = given .number ∙ ap (λ (v : Verified). checked v .number) answer;
+      refusal = given .refusal ∙ ap (λ (v : Verified). checked v .refusal) answer;
       verdict-exit = given .verdict-exit ∙ ap (λ (v : Verified). verdictNumber (checked v .verdict)) answer;
     }
 

@@ -48,7 +48,7 @@ module _ (c : tie.After-values) where
   -- to its end
   module _ (found : c .before .read-wanted .result ≡ true) where
     abbrev answer : Loaded
-    answer = record { number = 0; settings = header .settings }
+    answer = record { refusal = 0; settings = header .settings }
 
     unrefused : lookRefusal text ≡ 0
     unrefused = c .before .read-wanted .ensures .unrefused found

@@ -11,11 +11,11 @@ all-lines-requires c κs = search needs
 
 returns : tie.Need-returns
 unfolding choose
-returns c = sym (ap (λ b. choose b (c .before .before .before .args .number) 2) (sym (c .before .all-lines .ensures) ∙ not-true _ (c .if1 .taken)))
+returns c = sym (ap (λ b. choose b (c .before .before .before .args .refusal) 2) (sym (c .before .all-lines .ensures) ∙ not-true _ (c .if1 .taken)))
 
 returns-2 : tie.Need-returns-2
 unfolding choose
-returns-2 c = sym (ap (λ b. choose b (c .before .before .before .args .number) 2) (sym (c .before .all-lines .ensures) ∙ not-false _ (c .if1 .left)))
+returns-2 c = sym (ap (λ b. choose b (c .before .before .before .args .refusal) 2) (sym (c .before .all-lines .ensures) ∙ not-false _ (c .if1 .left)))
 
 pub or-malformed-spec : {M : Type 1} → statement M
 or-malformed-spec = tie.close (tie.spec all-lines-requires returns returns-2)
