@@ -6,7 +6,7 @@ use crate::tables;
 use protocol::Settings;
 
 fn answer_judge(settings: Settings, commitment: [u32; 64], c: u32, key: &[u32], w: &[i64]) {
-    let answer = relaxed::judge(settings, commitment, c, key, w);
+    let answer = judge::judge(settings, commitment, c, key, w);
     output::first(answer.refusal);
     output::flag(answer.yes);
     output::end();

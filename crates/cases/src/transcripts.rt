@@ -95,7 +95,7 @@ fn answer_check(
     rounds: &[u32],
     challenges: &[u32],
 ) {
-    let answer = verification::check(settings, commitment, last, key, rounds, challenges);
+    let answer = transcripts::check(settings, commitment, last, key, rounds, challenges);
     let verdict = answer.verdict;
     output::first(answer.refusal);
     output::verdict(verdict);

@@ -267,7 +267,7 @@ pub extern "C" fn wovenrock_check(
     }
     let c = slices::residues(degree, commitment);
     let f = slices::wholes(degree, last);
-    let answer = verification::check(s, c, f, key, rounds, challenges);
+    let answer = transcripts::check(s, c, f, key, rounds, challenges);
     let said = answer.verdict;
     *verdict = slices::verdict_number(said);
     answer.refusal
@@ -300,7 +300,7 @@ pub extern "C" fn wovenrock_judge(
         return refusal;
     }
     let c = slices::residues(degree, commitment);
-    let answer = relaxed::judge(s, c, slack, key, w);
+    let answer = judge::judge(s, c, slack, key, w);
     *yes = answer.yes as u32;
     answer.refusal
 }

@@ -25,7 +25,7 @@ pub fn extract(
     if r12 != 0 {
         return r12;
     }
-    let accepted = trees::every_path_accepted(
+    let accepted = tree_check::every_path_accepted(
         settings,
         commitment,
         key,

@@ -21,7 +21,7 @@ use Rattle.protocol.proofs.Tests.{and-split, first-zero, unless-zero}
 use Rattle.protocol.proofs.Inputs.{tested-below}
 use Rattle.text_parts.specs.Parts.{partShape}
 use Rattle.text_parts.proofs.Exactly.{fits-exact}
-use Rattle.verification.specs.Given.{TranscriptGiven}
+use Rattle.transcripts.specs.Given.{TranscriptGiven}
 use Rattle.verify_text.specs.Given.{Given}
 
 pub record Long (S : Settings) (t : Tables) : Type 0 where

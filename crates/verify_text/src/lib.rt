@@ -45,7 +45,7 @@ fn answer(
     requires { ⌜ Given settings (tablesOf (now key) [] (now commitment) (now rounds) (now challenges) (now last)) ⌝ }
     ensures { λ r. ⌜ r ≡ choose (tablesAccepted settings (tablesOf (now (key .entry)) [] (now (commitment .entry)) (now (rounds .entry)) (now (challenges .entry)) (now (last .entry)))) Verified.Accepted Verified.Rejected ⌝ }
 {
-    if !verification::accepted(settings, commitment, last, key, rounds, challenges) {
+    if !transcripts::accepted(settings, commitment, last, key, rounds, challenges) {
         return Verified::Rejected;
     }
     Verified::Accepted

@@ -1,0 +1,36 @@
+// The check of every path of a tree (refusal 13).
+mod nodes;
+
+use protocol::Residue;
+use protocol::Settings;
+use protocol::WIDTH;
+ghost use mathlib.Core.Path.{_≡_};
+ghost use Rattle.protocol.specs.Basic.{Provided};
+ghost use Rattle.protocol.specs.Calls.{everyPath};
+ghost use Rattle.tree_check.specs.Nodes.{TreeGiven};
+
+// Is every path of a tree accepted. The key and the tree's tables stay as they are.
+pub fn every_path_accepted(
+    settings: Settings,
+    commitment: [Residue; WIDTH],
+    key: &[Residue],
+    rounds: &[Residue],
+    challenges: &[u32],
+    leaves: &[i32],
+) -> bool
+    ensures { λ r. ⌜ Provided (TreeGiven settings (now (key .entry)) (now (rounds .entry)) (now (leaves .entry))) (r ≡ everyPath settings commitment (now (key .entry)) (now (rounds .entry)) (now (challenges .entry)) (now (leaves .entry))) ⌝ }
+{
+    if ranges::tests::settings_refusal(settings) != 0 {
+        return false;
+    }
+    if key.len() != sizes::cells(settings) {
+        return false;
+    }
+    if rounds.len() != sizes::tree_round_cells(settings) {
+        return false;
+    }
+    if leaves.len() != sizes::leaf_cells(settings) {
+        return false;
+    }
+    nodes::root_accepted(settings, commitment, key, rounds, challenges, leaves)
+}
