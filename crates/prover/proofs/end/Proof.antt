@@ -12,15 +12,9 @@ use Rattle.prover.proofs.end.Tie as tie
 passed : (c : tie.Else1) → let a = c .before .before .args in endRefusal (a .settings) (a .done) (a .message .now) ≡ 0
 passed c = sym (c .before .end .ensures) ∙ c .if1 .left
 
-end-requires : tie.Need-end-requires
-end-requires c κs = search needs
-
 returns : tie.Need-returns
 unfolding signedZeros width
 returns c = let a = c .before .before .args in end-refused (a .settings) (a .done) (a .message .now) _ (c .before .end .ensures) (c .if1 .taken)
-
-signed-element-at-requires : tie.Need-signed-element-at-requires
-signed-element-at-requires c κs = search needs
 
 returns-2 : tie.Need-returns-2
 unfolding finalElement
@@ -31,4 +25,9 @@ returns-2 c =
 
 pub end-spec : {M : Type 1} → statement M
 end-spec =
-    tie.close (tie.spec end-requires returns signed-element-at-requires returns-2)
+    tie.close
+    (tie.spec
+    (λ c κs. search needs)
+    returns
+    (λ c κs. search needs)
+    returns-2)

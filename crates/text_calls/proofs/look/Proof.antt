@@ -3,9 +3,6 @@ use borrow.Author.Needs.{needs}
 use Rattle.text_calls.proofs.look.Statement.{statement}
 use Rattle.text_calls.proofs.look.Tie as tie
 
-read-settings-requires : tie.Need-read-settings-requires
-read-settings-requires c κs = search needs
-
 returns : tie.Need-returns
 returns c = let a = c .before .before .before .before .before .args in look-refused (a .text .now) _ (c .before .before .read-settings .ensures) (a .settings .now) (c .if1 .taken)
 
@@ -15,12 +12,6 @@ returns-2 c =
     let at-look = at-if1 .before .before in
     let a = at-look .before .before .before .args in
     look-unfit (a .text .now) _ (at-look .read-settings .ensures) (a .settings .now) (at-if1 .if1 .left) (c .if2 .taken)
-
-store-requires : tie.Need-store-requires
-store-requires c κs = search needs
-
-same-length : tie.Need-same-length
-same-length c = search needs
 
 returns-3 : tie.Need-returns-3
 returns-3 c =
@@ -33,4 +24,11 @@ returns-3 c =
 
 pub look-spec : {M : Type 1} → statement M
 look-spec =
-    tie.close (tie.spec read-settings-requires returns returns-2 store-requires same-length returns-3)
+    tie.close
+    (tie.spec
+    (λ c κs. search needs)
+    returns
+    returns-2
+    (λ c κs. search needs)
+    (λ c. search needs)
+    returns-3)

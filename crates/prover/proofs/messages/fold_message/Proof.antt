@@ -34,18 +34,6 @@ mul-half c = omega (arith, few c)
 loop-holds : tie.Need-loop-holds Inv-loop μ-loop
 loop-holds c = let a = c .args in (omega arith, filled-none _ _, search needs, sym (Nat.zero-mod (a .d)))
 
-mul-rotated : tie.Need-mul-rotated Inv-loop μ-loop
-mul-rotated c = search needs
-
-sub-rotated : tie.Need-sub-rotated Inv-loop μ-loop
-sub-rotated c = search needs
-
-part-rotated-start : tie.Need-part-rotated-start Inv-loop μ-loop
-part-rotated-start c = search needs
-
-part-rotated-end : tie.Need-part-rotated-end Inv-loop μ-loop
-part-rotated-end c = search needs
-
 sub-rotated-2 : tie.Need-sub-rotated-2 Inv-loop μ-loop
 sub-rotated-2 c = let l = c .before .before .before .loop in let a = c .before .before .before .before .args in omega (arith, l .inv .3, mod-le (l .p) (a .d))
 
@@ -61,12 +49,6 @@ rotated-requires c κs =
       second-long (a .d) (a .h) (a .e) (a .message .now) (s .pre .0 .0) (s .pre .1 .0) (s .pre .1 .1) (l .p) (l .message) (l .inv .1) (omega arith),
       second-room (a .d) (a .h) (a .e) (a .message .now) (s .pre .0 .0) (s .pre .1 .0) (s .pre .1 .1) (l .p) (l .message) (l .inv .1) (omega arith),
     )
-
-mul-x : tie.Need-mul-x Inv-loop μ-loop
-mul-x c = search needs
-
-slice-copy-out-x : tie.Need-slice-copy-out-x Inv-loop μ-loop
-slice-copy-out-x c = search needs
 
 -- the number of the first half, and what is added to it
 abbrev old : tie.After-x Inv-loop μ-loop → ℤ
@@ -89,20 +71,8 @@ room c =
 add-message : tie.Need-add-message Inv-loop μ-loop
 add-message c = plus-fits (old c) (c .before .rotated .result) (room c)
 
-mul-t16 : tie.Need-mul-t16 Inv-loop μ-loop
-mul-t16 c = search needs
-
-slice-set-from-message : tie.Need-slice-set-from-message Inv-loop μ-loop
-slice-set-from-message c = search needs
-
-add-p : tie.Need-add-p Inv-loop μ-loop
-add-p c = search needs
-
 next-place-requires : tie.Need-next-place-requires Inv-loop μ-loop
 next-place-requires c κs = let l = c .before .before .before .before .before .loop in let s = c .before .before .before .before .before .before in omega (arith, l .inv .3, mod-lt (l .p) (s .pre .0 .0))
-
-loop-less : tie.Need-loop-less Inv-loop μ-loop
-loop-less c = search needs
 
 loop-again : tie.Need-loop-again Inv-loop μ-loop
 loop-again c =
@@ -116,9 +86,6 @@ loop-again c =
       simp length-set (omega arith),
       c .next-place .ensures ∙ ap (λ k. (k + 1) % a .d) (l .inv .3) ∙ Nat.mod-add-mod (l .p) (a .d) 1,
     )
-
-same-length : tie.Need-same-length Inv-loop μ-loop
-same-length c = search needs
 
 returns : tie.Need-returns Inv-loop μ-loop
 returns c =
@@ -135,20 +102,20 @@ fold-message-spec =
     μ-loop
     mul-half
     loop-holds
-    mul-rotated
-    sub-rotated
-    part-rotated-start
-    part-rotated-end
+    (λ c. search needs)
+    (λ c. search needs)
+    (λ c. search needs)
+    (λ c. search needs)
     sub-rotated-2
     rotated-requires
-    mul-x
-    slice-copy-out-x
+    (λ c. search needs)
+    (λ c. search needs)
     add-message
-    mul-t16
-    slice-set-from-message
-    add-p
+    (λ c. search needs)
+    (λ c. search needs)
+    (λ c. search needs)
     next-place-requires
-    loop-less
+    (λ c. search needs)
     loop-again
-    same-length
+    (λ c. search needs)
     returns)

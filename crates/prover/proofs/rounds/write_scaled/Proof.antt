@@ -23,34 +23,10 @@ returns c = ((λ h. absurd (omega arith)), λ _. refl)
 loop-holds : tie.Need-loop-holds Inv-loop μ-loop
 loop-holds c = (omega arith, omega arith, filled-none _ _, refl)
 
-mul-multiple : tie.Need-mul-multiple Inv-loop μ-loop
-mul-multiple c = search needs
-
-shared-slice-read-multiple : tie.Need-shared-slice-read-multiple Inv-loop μ-loop
-shared-slice-read-multiple c = search needs
-
-multiple-requires : tie.Need-multiple-requires Inv-loop μ-loop
-multiple-requires c κs = search needs
-
-mul-out : tie.Need-mul-out Inv-loop μ-loop
-mul-out c = search needs
-
-slice-write-out : tie.Need-slice-write-out Inv-loop μ-loop
-slice-write-out c = search needs
-
-add-k : tie.Need-add-k Inv-loop μ-loop
-add-k c = search needs
-
-loop-less : tie.Need-loop-less Inv-loop μ-loop
-loop-less c = search needs
-
 loop-again : tie.Need-loop-again Inv-loop μ-loop
 loop-again c =
     let l = c .before .before .before .loop in
     (omega arith, omega arith, filled-turn _ (l .k) _ (l .inv .2) (c .multiple .ensures) (omega arith), simp length-set (omega arith))
-
-same-length : tie.Need-same-length Inv-loop μ-loop
-same-length c = search needs
 
 returns-2 : tie.Need-returns-2 Inv-loop μ-loop
 returns-2 c = ((λ h. filled-end _ _ (c .before .loop .inv .2) (omega arith)), λ h. absurd (omega arith))
@@ -63,13 +39,13 @@ write-scaled-spec =
     μ-loop
     returns
     loop-holds
-    mul-multiple
-    shared-slice-read-multiple
-    multiple-requires
-    mul-out
-    slice-write-out
-    add-k
-    loop-less
+    (λ c. search needs)
+    (λ c. search needs)
+    (λ c κs. search needs)
+    (λ c. search needs)
+    (λ c. search needs)
+    (λ c. search needs)
+    (λ c. search needs)
     loop-again
-    same-length
+    (λ c. search needs)
     returns-2)

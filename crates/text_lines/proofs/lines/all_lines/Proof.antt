@@ -41,15 +41,6 @@ module _ (c : tie.After-known-told Inv-loop μ-loop) where
 loop-holds : tie.Need-loop-holds Inv-loop μ-loop
 loop-holds c = refl
 
-read-line-requires : tie.Need-read-line-requires Inv-loop μ-loop
-read-line-requires c κs = search needs
-
-enum-known-next : tie.Need-enum-known-next Inv-loop μ-loop
-enum-known-next c = search needs
-
-enum-told : tie.Need-enum-told Inv-loop μ-loop
-enum-told c = search needs
-
 returns : tie.Need-returns Inv-loop μ-loop
 unfolding present
 returns c =
@@ -76,4 +67,15 @@ returns-2 c =
 
 pub all-lines-spec : {M : Type 1} → statement M
 all-lines-spec =
-    tie.close (tie.spec Inv-loop μ-loop loop-holds read-line-requires enum-known-next enum-told returns loop-less loop-again returns-2)
+    tie.close
+    (tie.spec
+    Inv-loop
+    μ-loop
+    loop-holds
+    (λ c κs. search needs)
+    (λ c. search needs)
+    (λ c. search needs)
+    returns
+    loop-less
+    loop-again
+    returns-2)
