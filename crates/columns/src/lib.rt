@@ -61,7 +61,8 @@ fn add_columns(d: usize, f: &[i32], g: &[Residue], sums: &mut [u64])
 
 // Adds the product of f and g.
 pub fn add_product(d: u32, f: &[i32], g: &[Residue], sums: &mut [u64])
-    ensures { λ _. ⌜ Provided (Columns d (length (now (f .entry))) (length (now (g .entry))) (length (now (sums .entry)))) (now (sums .exit) ≡ addColumns d (now (f .entry)) (now (g .entry)) (now (sums .entry))) ⌝ }
+    ensures { λ _. ⌜ Provided (Columns d (length (now (f .entry))) (length (now (g .entry))) (length (now (sums .entry))))
+        (now (sums .exit) ≡ addColumns d (now (f .entry)) (now (g .entry)) (now (sums .entry))) ⌝ }
 {
     let n = d as usize;
     if n > WIDTH {

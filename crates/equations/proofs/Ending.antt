@@ -55,18 +55,21 @@ module _ (S : Settings) (ready : Ready S) (f : List ℤ) where
       pub equation-is : every d (λ k. multipleIs q n (product d (signed f) (residue g) k) (getD claim k 0)) ≡ equationMet S claim (signed f) (residue g)
       unfolding equationMet multipleIs
       equation-is = every-ext d (λ k l.
-          multiple-test q (omega arith) n (half S ^ L) (ap (λ x. x * half S ^ L % q) power-is ∙ unfold half in half-inverse q (omega arith) (ready .modulus-odd) L) (modulo q (product d (signed f) (residue g) k)) (getD claim k 0) (modulo-lt q (omega arith) _)
+          multiple-test q (omega arith) n (half S ^ L) (ap (λ x. x * half S ^ L % q) power-is ∙ unfold half in
+          half-inverse q (omega arith) (ready .modulus-odd) L) (modulo q (product d (signed f) (residue g) k)) (getD claim k 0) (modulo-lt q (omega arith) _)
           ∙ ap (eqb (getD claim k 0)) (sym (modulo-times q (omega arith) (half S ^ L) (product d (signed f) (residue g) k))))
 
 -- the end by a list that begins with the first element of the folded key, as by the key
-pub end-by-front : (S : Settings) (key E claim g : List ℕ) (f : Element) → Alike (S .degree) g (keyAfter S E (S .depth) key) → endMet S claim f (residue g) ≡ (finalBounded S f && endHolds S key E claim f)
+pub end-by-front : (S : Settings) (key E claim g : List ℕ) (f : Element) → Alike (S .degree) g (keyAfter S E (S .depth) key) →
+    endMet S claim f (residue g) ≡ (finalBounded S f && endHolds S key E claim f)
 unfolding endMet equationMet endHolds ending residue residueAt
 end-by-front S key E claim g f s = ap (λ b. finalBounded S f && b) (every-ext (S .degree) (λ k l.
     ap (λ z. eqb (getD claim k 0) (modulo (S .modulus) (pos (half S ^ S .depth) *ℤ z)))
     (product-same {d = S .degree} (omega arith) (λ _ _. refl) (λ j b. ap pos (s j b ∙ ap (λ x. getD (keyAfter S E (S .depth) key) x 0) (omega (arith, Nat.zero-mul (S .degree))))) k)))
 
 -- the end by the first element of the folded key, as by the key
-pub end-by-key : (S : Settings) (key E claim : List ℕ) (f : Element) → endMet S claim f (residue (elementAt (S .degree) (keyAfter S E (S .depth) key) 0)) ≡ (finalBounded S f && endHolds S key E claim f)
+pub end-by-key : (S : Settings) (key E claim : List ℕ) (f : Element) →
+    endMet S claim f (residue (elementAt (S .degree) (keyAfter S E (S .depth) key) 0)) ≡ (finalBounded S f && endHolds S key E claim f)
 unfolding endMet equationMet endHolds ending
 end-by-key S key E claim f = ap (λ b. finalBounded S f && b) (every-ext (S .degree) (λ k l.
     ap (λ z. eqb (getD claim k 0) (modulo (S .modulus) (pos (half S ^ S .depth) *ℤ z)))

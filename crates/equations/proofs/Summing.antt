@@ -118,7 +118,8 @@ module _ (S : Settings) where
 
   -- ---- the folded key
 
-  pub folded-is : (E : List ℕ) → 0 < d → (key : List ℕ) → KeyGiven S key E → (x : List ℕ) → Turned (exponentCount S) L E L x → (n : ℕ) → n ≡ 2 ^ L → (sums : List ℕ) → Summed S key x n sums → Alike d sums (keyAfter S E L key)
+  pub folded-is : (E : List ℕ) → 0 < d → (key : List ℕ) → KeyGiven S key E → (x : List ℕ) → Turned (exponentCount S) L E L x → (n : ℕ) → n ≡ 2 ^ L → (sums : List ℕ) →
+      Summed S key x n sums → Alike d sums (keyAfter S E L key)
   unfolding turnedSum residueAt
   folded-is E pd key g x t n is sums s k l =
       let pq : 0 < q = omega (arith, ready S (g .allowed) .modulus-least) in

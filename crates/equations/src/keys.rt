@@ -31,7 +31,8 @@ fn second_half(c: u32, m: usize, e: u32, x: &mut [u32])
 // The exponents of all elements: the challenges at the set bits of an index, added up. Returns how many they are.
 fn turns(settings: Settings, challenges: &[u32], x: &mut [u32]) -> u32
     requires { ⌜ (0 < settings .degree) × (settings .degree ≤ 64) × (settings .depth ≤ 8) × (settings .depth ≤ length (now challenges)) × (256 ≤ length (now x)) ⌝ }
-    ensures { λ r. ⌜ (r ≡ 2 ^ settings .depth) × Provided (getD (now (x .entry)) 0 0 ≡ 0) (Turned (exponentCount settings) (settings .depth) (now (challenges .entry)) (settings .depth) (now (x .exit))) ⌝ }
+    ensures { λ r. ⌜ (r ≡ 2 ^ settings .depth)
+        × Provided (getD (now (x .entry)) 0 0 ≡ 0) (Turned (exponentCount settings) (settings .depth) (now (challenges .entry)) (settings .depth) (now (x .exit))) ⌝ }
 {
     let c = 2 * settings.degree;
     let depth = settings.depth;
@@ -71,7 +72,8 @@ fn add_elements(settings: Settings, n: u32, key: &[Residue], x: &[u32], sum: &mu
 
 // The first element of the folded key, at the front of an array.
 pub fn folded_key(settings: Settings, key: &[Residue], challenges: &[u32]) -> [Residue; WIDTH]
-    ensures { λ r. ⌜ Provided (KeyGiven settings (now (key .entry)) (now (challenges .entry))) (Alike (settings .degree) r (keyAfter settings (now (challenges .entry)) (settings .depth) (now (key .entry)))) ⌝ }
+    ensures { λ r. ⌜ Provided (KeyGiven settings (now (key .entry)) (now (challenges .entry)))
+        (Alike (settings .degree) r (keyAfter settings (now (challenges .entry)) (settings .depth) (now (key .entry)))) ⌝ }
 {
     let mut sum = [0u32; WIDTH];
     if settings.degree == 0 {

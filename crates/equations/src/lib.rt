@@ -54,7 +54,8 @@ fn doubled_is(q: u32, x: u32, y: u32, z: u32) -> bool
 
 // Does a round hold.
 pub fn round_holds(settings: Settings, claim: &[Residue], c0: &[Residue], c2: &[Residue]) -> bool
-    ensures { λ r. ⌜ Provided (ElementsGiven settings (length (now (claim .entry))) (length (now (c0 .entry))) (length (now (c2 .entry)))) (r ≡ roundHolds settings (now (claim .entry)) (residue (now (c0 .entry))) (residue (now (c2 .entry)))) ⌝ }
+    ensures { λ r. ⌜ Provided (ElementsGiven settings (length (now (claim .entry))) (length (now (c0 .entry))) (length (now (c2 .entry))))
+        (r ≡ roundHolds settings (now (claim .entry)) (residue (now (c0 .entry))) (residue (now (c2 .entry)))) ⌝ }
 {
     let q = settings.modulus;
     let d = settings.degree as usize;
@@ -126,7 +127,8 @@ fn equation_met(settings: Settings, claim: &[Residue], f: &[i32], g: &[Residue])
 
 // Is the end met: the bound first, then the equation.
 pub fn end_holds(settings: Settings, claim: &[Residue], f: &[i32], g: &[Residue]) -> bool
-    ensures { λ r. ⌜ Provided (ElementsGiven settings (length (now (claim .entry))) (length (now (f .entry))) (length (now (g .entry)))) (r ≡ endMet settings (now (claim .entry)) (signed (now (f .entry))) (residue (now (g .entry)))) ⌝ }
+    ensures { λ r. ⌜ Provided (ElementsGiven settings (length (now (claim .entry))) (length (now (f .entry))) (length (now (g .entry))))
+        (r ≡ endMet settings (now (claim .entry)) (signed (now (f .entry))) (residue (now (g .entry)))) ⌝ }
 {
     let d = settings.degree as usize;
     if claim.len() < d {
@@ -152,7 +154,8 @@ pub fn end_holds_for_key(
     key: &[Residue],
     challenges: &[u32],
 ) -> bool
-    ensures { λ r. ⌜ Provided (EndGiven settings (length (now (claim .entry))) (length (now (f .entry))) (now (key .entry)) (now (challenges .entry))) (r ≡ (finalBounded settings (signed (now (f .entry))) && endHolds settings (now (key .entry)) (now (challenges .entry)) (now (claim .entry)) (signed (now (f .entry))))) ⌝ }
+    ensures { λ r. ⌜ Provided (EndGiven settings (length (now (claim .entry))) (length (now (f .entry))) (now (key .entry)) (now (challenges .entry)))
+        (r ≡ (finalBounded settings (signed (now (f .entry))) && endHolds settings (now (key .entry)) (now (challenges .entry)) (now (claim .entry)) (signed (now (f .entry))))) ⌝ }
 {
     let g = keys::folded_key(settings, key, challenges);
     end_holds(settings, claim, f, &g)

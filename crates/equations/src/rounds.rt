@@ -13,7 +13,8 @@ ghost use Rattle.equations.specs.Given.{RoundRead, ClaimRead};
 
 // Does the round of polynomial k hold.
 pub fn polynomial_holds(settings: Settings, k: u32, claim: &[Residue], rounds: &[Residue]) -> bool
-    ensures { λ r. ⌜ Provided (RoundRead settings k (length (now (claim .entry))) (length (now (rounds .entry)))) (r ≡ roundHolds settings (now (claim .entry)) (residueAt (settings .degree) (now (rounds .entry)) (itemOf k 0)) (residueAt (settings .degree) (now (rounds .entry)) (itemOf k 2))) ⌝ }
+    ensures { λ r. ⌜ Provided (RoundRead settings k (length (now (claim .entry))) (length (now (rounds .entry))))
+        (r ≡ roundHolds settings (now (claim .entry)) (residueAt (settings .degree) (now (rounds .entry)) (itemOf k 0)) (residueAt (settings .degree) (now (rounds .entry)) (itemOf k 2))) ⌝ }
 {
     let d = settings.degree as usize;
     let at = sizes::polynomial_at(settings.degree, k);
@@ -26,7 +27,10 @@ pub fn polynomial_holds(settings: Settings, k: u32, claim: &[Residue], rounds: &
 
 // The claim after that round by the challenge e, written to the front of `claim`. What else `claim` holds is left free.
 pub fn next_claim(settings: Settings, k: u32, e: u32, rounds: &[Residue], claim: &mut [Residue])
-    ensures { λ _. ⌜ Provided (ClaimRead settings k (length (now (claim .entry))) (now (rounds .entry))) (Alike (settings .degree) (now (claim .exit)) (nextClaim settings e (residueAt (settings .degree) (now (rounds .entry)) (itemOf k 0)) (residueAt (settings .degree) (now (rounds .entry)) (itemOf k 1)) (residueAt (settings .degree) (now (rounds .entry)) (itemOf k 2)))) ⌝ }
+    ensures { λ _. ⌜ Provided (ClaimRead settings k (length (now (claim .entry))) (now (rounds .entry)))
+        (Alike (settings .degree) (now (claim .exit))
+        (nextClaim settings e (residueAt (settings .degree) (now (rounds .entry)) (itemOf k 0)) (residueAt (settings .degree) (now (rounds .entry)) (itemOf k 1))
+        (residueAt (settings .degree) (now (rounds .entry)) (itemOf k 2)))) ⌝ }
 {
     let d = settings.degree as usize;
     let at = sizes::polynomial_at(settings.degree, k);

@@ -87,7 +87,8 @@ module _ (S : Settings) (key : List ℕ) (message : List ℤ) (E rounds C : List
     number-is = ap (λ (x : Opened). x .refusal) (o .answer)
 
     pub open-refused : r .refusal ≢ 0 → OpeningStored S key message E rounds C f (r .refusal) key′ message′ rounds′ C f 0
-    unfolding Border.openNumber Border.openKeyExit Border.openMessageExit Border.openRoundsExit Border.openCommitmentExit Border.openLastExit Border.openVerdict Calls.openingAnswer Calls.openingKeyExit Calls.openingMessageExit Calls.openingRoundsExit
+    unfolding Border.openNumber Border.openKeyExit Border.openMessageExit Border.openRoundsExit Border.openCommitmentExit Border.openLastExit Border.openVerdict
+        Calls.openingAnswer Calls.openingKeyExit Calls.openingMessageExit Calls.openingRoundsExit
     open-refused q = record {
       refusal = refused S fits N key key n e h (r .refusal) number-is q .0;
       key-exit = o .key-exit ∙ through S fits N _ key n e h;
@@ -100,7 +101,8 @@ module _ (S : Settings) (key : List ℕ) (message : List ℤ) (E rounds C : List
 
     pub open-made : r .refusal ≡ 0 → (C′ : List ℕ) (f′ : List ℤ) (v : ℕ) → C′ ≡ take (S .degree) (r .commitment) → f′ ≡ take (S .degree) (r .last)
         → v ≡ verdictNumber (r .verdict) → OpeningStored S key message E rounds C f 0 key′ message′ rounds′ C′ f′ v
-    unfolding Border.openNumber Border.openKeyExit Border.openMessageExit Border.openRoundsExit Border.openCommitmentExit Border.openLastExit Border.openVerdict Calls.openingAnswer Calls.openingKeyExit Calls.openingMessageExit Calls.openingRoundsExit
+    unfolding Border.openNumber Border.openKeyExit Border.openMessageExit Border.openRoundsExit Border.openCommitmentExit Border.openLastExit Border.openVerdict
+        Calls.openingAnswer Calls.openingKeyExit Calls.openingMessageExit Calls.openingRoundsExit
     open-made q C′ f′ v c l s = record {
       refusal = made S fits N key key n e h (r .refusal) number-is q key refl .0;
       key-exit = o .key-exit ∙ through S fits N _ key n e h;

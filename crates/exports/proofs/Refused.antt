@@ -44,7 +44,8 @@ back-wholes (Wholes.other t) e f = f
 -- ---- every call
 
 pub refused-keeps : (c : Call) (h : Held) → refusal h c ≢ 0 → after c h ≡ h
-unfolding after refusal Border.commitExit Border.roundExit foldKeyExit foldMessageExit Border.endExit Border.openKeyExit Border.openMessageExit Border.openRoundsExit Border.openCommitmentExit Border.openLastExit moveExit tables
+unfolding after refusal Border.commitExit Border.roundExit foldKeyExit foldMessageExit Border.endExit Border.openKeyExit Border.openMessageExit Border.openRoundsExit
+    Border.openCommitmentExit Border.openLastExit moveExit tables
 refused-keeps (Call.commit S k m c) h r = back-words c (granted-refused _ _ _ r) refl
 refused-keeps (Call.round S t k m p) h r = back-words p (granted-refused _ _ _ r) refl
 refused-keeps (Call.fold S t e k m) h r = back-words k (granted-refused _ _ _ r) (back-wholes m (granted-refused _ _ _ r) refl)

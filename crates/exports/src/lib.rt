@@ -163,7 +163,8 @@ pub extern "C" fn wovenrock_open(
     last: &mut [i32],
     verdict: &mut u32,
 ) -> u32
-    ensures { λ r. ⌜ OpeningStored (given degree depth modulus bound) (now (key .entry)) (now (message .entry)) (now (challenges .entry)) (now (rounds .entry)) (now (commitment .entry)) (now (last .entry)) r (now (key .exit)) (now (message .exit)) (now (rounds .exit)) (now (commitment .exit)) (now (last .exit)) (now (verdict .exit)) ⌝ }
+    ensures { λ r. ⌜ OpeningStored (given degree depth modulus bound) (now (key .entry)) (now (message .entry)) (now (challenges .entry)) (now (rounds .entry))
+        (now (commitment .entry)) (now (last .entry)) r (now (key .exit)) (now (message .exit)) (now (rounds .exit)) (now (commitment .exit)) (now (last .exit)) (now (verdict .exit)) ⌝ }
 {
     *verdict = 0;
     let s = Settings {
@@ -219,7 +220,8 @@ pub extern "C" fn wovenrock_session_round(
     session: &mut [u32],
     verdict: &mut u32,
 ) -> u32
-    ensures { λ r. ⌜ MoveStored (polynomialFits (now (polynomial .entry)) (now (session .entry))) (roundOn (now (polynomial .entry)) exponent (now (session .entry))) (now (session .entry)) r (now (session .exit)) (now (verdict .exit)) ⌝ }
+    ensures { λ r. ⌜ MoveStored (polynomialFits (now (polynomial .entry)) (now (session .entry))) (roundOn (now (polynomial .entry)) exponent (now (session .entry)))
+        (now (session .entry)) r (now (session .exit)) (now (verdict .exit)) ⌝ }
 {
     sessions::round(polynomial, exponent, session, verdict)
 }
@@ -232,7 +234,8 @@ pub extern "C" fn wovenrock_session_end(
     session: &mut [u32],
     verdict: &mut u32,
 ) -> u32
-    ensures { λ r. ⌜ MoveStored (lastFits (now (last .entry)) (now (session .entry))) (endOn (now (last .entry)) (now (key .entry)) (now (session .entry))) (now (session .entry)) r (now (session .exit)) (now (verdict .exit)) ⌝ }
+    ensures { λ r. ⌜ MoveStored (lastFits (now (last .entry)) (now (session .entry))) (endOn (now (last .entry)) (now (key .entry)) (now (session .entry)))
+        (now (session .entry)) r (now (session .exit)) (now (verdict .exit)) ⌝ }
 {
     sessions::end(last, key, session, verdict)
 }
@@ -251,7 +254,8 @@ pub extern "C" fn wovenrock_check(
     challenges: &[u32],
     verdict: &mut u32,
 ) -> u32
-    ensures { λ r. ⌜ CheckStored (given degree depth modulus bound) (now (commitment .entry)) (now (last .entry)) (now (key .entry)) (now (rounds .entry)) (now (challenges .entry)) r (now (verdict .exit)) ⌝ }
+    ensures { λ r. ⌜ CheckStored (given degree depth modulus bound) (now (commitment .entry)) (now (last .entry)) (now (key .entry)) (now (rounds .entry))
+        (now (challenges .entry)) r (now (verdict .exit)) ⌝ }
 {
     let s = Settings {
         degree: degree,
@@ -319,7 +323,8 @@ pub extern "C" fn wovenrock_extract(
     leaves: &[i32],
     w: &mut [i64],
 ) -> u32
-    ensures { λ r. ⌜ ExtractStored (given degree depth modulus bound) (now (commitment .entry)) (now (key .entry)) (now (rounds .entry)) (now (challenges .entry)) (now (leaves .entry)) (now (w .entry)) r (now (w .exit)) ⌝ }
+    ensures { λ r. ⌜ ExtractStored (given degree depth modulus bound) (now (commitment .entry)) (now (key .entry)) (now (rounds .entry)) (now (challenges .entry))
+        (now (leaves .entry)) (now (w .entry)) r (now (w .exit)) ⌝ }
 {
     let s = Settings {
         degree: degree,
@@ -356,7 +361,9 @@ pub extern "C" fn wovenrock_read(
     challenges: &mut [u32],
     last: &mut [i32],
 ) -> u32
-    ensures { λ r. ⌜ ReadStored parts (now (text .entry)) (now (settings .entry)) (tablesOf (now (key .entry)) (now (message .entry)) (now (commitment .entry)) (now (rounds .entry)) (now (challenges .entry)) (now (last .entry))) r (now (settings .exit)) (tablesOf (now (key .exit)) (now (message .exit)) (now (commitment .exit)) (now (rounds .exit)) (now (challenges .exit)) (now (last .exit))) ⌝ }
+    ensures { λ r. ⌜ ReadStored parts (now (text .entry)) (now (settings .entry))
+        (tablesOf (now (key .entry)) (now (message .entry)) (now (commitment .entry)) (now (rounds .entry)) (now (challenges .entry)) (now (last .entry))) r
+        (now (settings .exit)) (tablesOf (now (key .exit)) (now (message .exit)) (now (commitment .exit)) (now (rounds .exit)) (now (challenges .exit)) (now (last .exit))) ⌝ }
 {
     text_calls::read(
         parts,
@@ -388,7 +395,9 @@ pub extern "C" fn wovenrock_write(
     out: &mut [u8],
     count: &mut usize,
 ) -> u32
-    ensures { λ r. ⌜ WroteStored (given degree depth modulus bound) parts (tablesOf (now (key .entry)) (now (message .entry)) (now (commitment .entry)) (now (rounds .entry)) (now (challenges .entry)) (now (last .entry))) (now (out .entry)) r (now (out .exit)) (now (count .exit)) ⌝ }
+    ensures { λ r. ⌜ WroteStored (given degree depth modulus bound) parts
+        (tablesOf (now (key .entry)) (now (message .entry)) (now (commitment .entry)) (now (rounds .entry)) (now (challenges .entry)) (now (last .entry)))
+        (now (out .entry)) r (now (out .exit)) (now (count .exit)) ⌝ }
 {
     let s = Settings {
         degree: degree,

@@ -53,7 +53,8 @@ module _ (q d : ℕ) (p : 0 < q) (most : q ≤ 2147483647) (pd : 0 < d) where
         ∙ read-plus (Zmod q p) d pd low (times (pos 65536) high) ∙ ap (Q .add (rd low)) (read-times (Zmod q p) d pd (pos 65536) high))
         ∙ R.add-mul Q (rd low) (Q .mul (ofℤ Q (pos 65536)) (rd high)) (rd g)
         ∙ ap₂ (Q .add) (sym (read-product (Zmod q p) d pd low g))
-        (Q .mul-assoc (ofℤ Q (pos 65536)) (rd high) (rd g) ∙ ap (Q .mul (ofℤ Q (pos 65536))) (sym (read-product (Zmod q p) d pd high g)) ∙ sym (read-times (Zmod q p) d pd (pos 65536) (product d high g)))
+        (Q .mul-assoc (ofℤ Q (pos 65536)) (rd high) (rd g) ∙ ap (Q .mul (ofℤ Q (pos 65536))) (sym (read-product (Zmod q p) d pd high g))
+        ∙ sym (read-times (Zmod q p) d pd (pos 65536) (product d high g)))
         ∙ sym (read-plus (Zmod q p) d pd (product d low g) (times (pos 65536) (product d high g)))
 
     product-split : (k : ℕ) → k < d → modulo q (product d a g k) ≡ (modulo q (product d low g k) + 65536 * modulo q (product d high g k)) % q

@@ -52,7 +52,8 @@ fn digit_of(base: u32, m: u32) -> i32
 // Both digits of the numbers of w, each in a table of its own.
 fn split(q: u32, w: &[i64], low: &mut [i32], high: &mut [i32])
     requires { ⌜ (0 < q) × (length (now w) ≤ length (now low)) × (length (now w) ≤ length (now high)) ⌝ }
-    ensures { λ _. ⌜ (now (low .exit) ≡ filled (λ p. pos (digit q 1 (getD (now (w .entry)) p (pos 0)))) (length (now (w .entry))) (now (low .entry))) × (now (high .exit) ≡ filled (λ p. pos (digit q 65536 (getD (now (w .entry)) p (pos 0)))) (length (now (w .entry))) (now (high .entry))) ⌝ }
+    ensures { λ _. ⌜ (now (low .exit) ≡ filled (λ p. pos (digit q 1 (getD (now (w .entry)) p (pos 0)))) (length (now (w .entry))) (now (low .entry)))
+        × (now (high .exit) ≡ filled (λ p. pos (digit q 65536 (getD (now (w .entry)) p (pos 0)))) (length (now (w .entry))) (now (high .entry))) ⌝ }
 {
     for p in 0..w.len() {
         let m = residue(q, w[p]);

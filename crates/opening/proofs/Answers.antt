@@ -103,7 +103,8 @@ module _ (S : Settings) (G : List ℕ) (M : List ℤ) (E R : List ℕ) where
     ]
       where
         front-begun : 0 < L → filled (elementPlaces (roundElement S 0 G M 0)) d R ≡ front (roundTable S E G M) R (3 * 0 * d + d)
-        front-begun l = begun-front S G M R d ∙ ap (spliced (elementPlaces (roundElement S 0 G M 0)) (3 * 0 * d) d) (front-none S pq G M E R (given .rounds-long)) ∙ unfold keyAfter messageAfter in front-first S pq G M E R (given .rounds-long) 0 l
+        front-begun l = begun-front S G M R d ∙ ap (spliced (elementPlaces (roundElement S 0 G M 0)) (3 * 0 * d) d) (front-none S pq G M E R (given .rounds-long))
+            ∙ unfold keyAfter messageAfter in front-first S pq G M E R (given .rounds-long) 0 l
 
     start : TablesAt S G M E R 0 G M begun-rounds
     unfolding keyAfter messageAfter

@@ -38,7 +38,8 @@ module _ (S : Settings) (pq : 0 < S .modulus) (allowed : settingsRefusal S ≡ 0
   part-read j l k h =
       let c = round-below S pq t key message j in
       subst (λ x. x < S .modulus)
-      (sym (ap (λ a. getD (getD a j []) k 0) is ∙ ap (λ a. getD a k 0) (tabulate-at 3 (λ i. padded (S .degree) (roundElement S t key message i)) [] j l) ∙ padded-at (S .degree) (roundElement S t key message j) k (omega (arith, c .long))))
+      (sym (ap (λ a. getD (getD a j []) k 0) is ∙ ap (λ a. getD a k 0) (tabulate-at 3 (λ i. padded (S .degree) (roundElement S t key message i)) [] j l)
+      ∙ padded-at (S .degree) (roundElement S t key message j) k (omega (arith, c .long))))
       (c .each k h)
 
   pub polynomial-read : Evaluable S (part p 0) (part p 1) (part p 2)

@@ -182,7 +182,8 @@ module _ (S : Settings) (E : List ℕ) (s : State) (key : List ℕ) (message : L
     verifier-goes next next-is rest = record {
       turns = λ G M R passed e-is p-is at ch.
           let given = lent S G M E R passed in
-          let is : next ≡ tested S s (polynomial S (s .done) (keyAfter S E (s .done) G) (messageAfter S E (s .done) M)) (getD E (s .done) 0) = next-is (polynomial-read S (modulus-positive S (given .given .settings)) (given .allowed) (s .done) _ _ p p-is) ∙ λ i. tested S s (p-is i) (e-is i) in
+          let is : next ≡ tested S s (polynomial S (s .done) (keyAfter S E (s .done) G) (messageAfter S E (s .done) M)) (getD E (s .done) 0) =
+          next-is (polynomial-read S (modulus-positive S (given .given .settings)) (given .allowed) (s .done) _ _ p p-is) ∙ λ i. tested S s (p-is i) (e-is i) in
           let done-is : suc (s .done) ≡ next .done = sym (ap (λ n. n .done) is ∙ tested-done S s _ _) in
           rest .turns G M R passed
           (subst (λ t. TablesAt S G M E R t key message rounds) done-is at)

@@ -16,7 +16,8 @@ ghost use Rattle.equations.specs.Ends.{endMet};
 
 // What the verifier says once all turns are done, the key being folded by all challenges.
 pub fn verdict(settings: Settings, ended: State, last: [i32; WIDTH], key: &[Residue]) -> Verdict
-    ensures { λ r. ⌜ Provided (settingsRefusal settings ≡ 0) (r ≡ session.verdict (ended .holds && endMet settings (ended .claim) (signed last) (residue (elementAt (settings .degree) (now (key .entry)) 0)))) ⌝ }
+    ensures { λ r. ⌜ Provided (settingsRefusal settings ≡ 0)
+        (r ≡ session.verdict (ended .holds && endMet settings (ended .claim) (signed last) (residue (elementAt (settings .degree) (now (key .entry)) 0)))) ⌝ }
 {
     if !ended.holds {
         return Verdict::Rejected;

@@ -23,7 +23,10 @@ pub fn write_first(
     message: &[i32],
     rounds: &mut [Residue],
 )
-    ensures { λ _. ⌜ (Provided (roundRefusal settings t (now (key .entry)) (now (message .entry)) ≡ 0) (Provided (polynomialAt (settings .degree) t + settings .degree ≤ length (now (rounds .entry))) (now (rounds .exit) ≡ spliced (elementPlaces (roundElement settings t (now (key .entry)) (now (message .entry)) 0)) (polynomialAt (settings .degree) t) (settings .degree) (now (rounds .entry)))) × Provided (settings .depth ≤ t) (now (rounds .exit) ≡ now (rounds .entry))) ⌝ }
+    ensures { λ _. ⌜ (Provided (roundRefusal settings t (now (key .entry)) (now (message .entry)) ≡ 0)
+        (Provided (polynomialAt (settings .degree) t + settings .degree ≤ length (now (rounds .entry)))
+        (now (rounds .exit) ≡ spliced (elementPlaces (roundElement settings t (now (key .entry)) (now (message .entry)) 0)) (polynomialAt (settings .degree) t)
+        (settings .degree) (now (rounds .entry)))) × Provided (settings .depth ≤ t) (now (rounds .exit) ≡ now (rounds .entry))) ⌝ }
 {
     if t >= settings.depth {
         return;
@@ -44,7 +47,8 @@ pub fn write_rest(
     claim: [Residue; WIDTH],
     rounds: &mut [Residue],
 )
-    ensures { λ _. ⌜ Provided (Continuing settings t (now (key .entry)) (now (message .entry)) claim (drop (polynomialAt (settings .degree) t) (now (rounds .entry)))) (now (rounds .exit) ≡ restStored settings t (now (key .entry)) (now (message .entry)) (now (rounds .entry))) ⌝ }
+    ensures { λ _. ⌜ Provided (Continuing settings t (now (key .entry)) (now (message .entry)) claim (drop (polynomialAt (settings .degree) t) (now (rounds .entry))))
+        (now (rounds .exit) ≡ restStored settings t (now (key .entry)) (now (message .entry)) (now (rounds .entry))) ⌝ }
 {
     let at = sizes::polynomial_at(settings.degree, t);
     if rounds.len() < at {

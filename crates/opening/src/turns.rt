@@ -66,7 +66,8 @@ pub fn prover_turn(
     challenges: &[u32],
     rounds: &mut [Residue],
 ) -> State
-    ensures { λ r. ⌜ ProverTurn settings (now (challenges .entry)) state (now (key .entry)) (now (message .entry)) (now (rounds .entry)) r (now (key .exit)) (now (message .exit)) (now (rounds .exit)) ⌝ }
+    ensures { λ r. ⌜ ProverTurn settings (now (challenges .entry)) state (now (key .entry)) (now (message .entry)) (now (rounds .entry)) r (now (key .exit))
+        (now (message .exit)) (now (rounds .exit)) ⌝ }
 {
     let t = state.done;
     if t >= settings.depth {
@@ -99,7 +100,8 @@ fn verifier_turn(
     rounds: &mut [Residue],
 ) -> State
     requires { ⌜ state .done < settings .depth ⌝ }
-    ensures { λ r. ⌜ VerifierTurn settings (now (challenges .entry)) state (now (key .entry)) (now (message .entry)) (now (rounds .entry)) r (now (key .exit)) (now (message .exit)) (now (rounds .exit)) polynomial e ⌝ }
+    ensures { λ r. ⌜ VerifierTurn settings (now (challenges .entry)) state (now (key .entry)) (now (message .entry)) (now (rounds .entry)) r (now (key .exit))
+        (now (message .exit)) (now (rounds .exit)) polynomial e ⌝ }
 {
     let next = check_round(settings, state, polynomial, e);
     prover_turn(settings, next, key, message, challenges, rounds)

@@ -139,7 +139,8 @@ fn sums_are(q: u32, d: usize, sums: &[Sum], c: u32, a: &[Residue]) -> bool
 
 // Is the product of the elements f and g c times the element a, modulo q. The product is not reduced for that.
 pub fn product_is(q: u32, d: u32, f: &[i32], g: &[Residue], c: u32, a: &[Residue]) -> bool
-    ensures { λ r. ⌜ Provided (Summable q d 1 (now (f .entry)) (now (g .entry)) × (d ≤ length (now (a .entry))) × (c ≤ 2 ^ 13)) (r ≡ every d (λ k. multipleIs q c (product d (signed (now (f .entry))) (residue (now (g .entry))) k) (getD (now (a .entry)) k 0))) ⌝ }
+    ensures { λ r. ⌜ Provided (Summable q d 1 (now (f .entry)) (now (g .entry)) × (d ≤ length (now (a .entry)))
+        × (c ≤ 2 ^ 13)) (r ≡ every d (λ k. multipleIs q c (product d (signed (now (f .entry))) (residue (now (g .entry))) k) (getD (now (a .entry)) k 0))) ⌝ }
 {
     if q == 0 {
         return false;

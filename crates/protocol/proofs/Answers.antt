@@ -84,7 +84,8 @@ check-number S C f key rounds E = end-says (checkRefusal S C key rounds E) (acce
 
 -- ---- `verify`
 
-verify-says : (n : ℕ) (b : Bool) → _≡_ {A = Checked} (checked (granted n (choose b Verify.Accepted Verify.Rejected) (Verify.Refused n))) (record { refusal = n; verdict = granted n (verdict b) Silent })
+verify-says : (n : ℕ) (b : Bool) →
+    _≡_ {A = Checked} (checked (granted n (choose b Verify.Accepted Verify.Rejected) (Verify.Refused n))) (record { refusal = n; verdict = granted n (verdict b) Silent })
 unfolding checked granted choose verdict
 verify-says zero true = refl
 verify-says zero false = refl

@@ -32,7 +32,8 @@ module _ (S : Settings) (key : List ℕ) (message : List ℤ) where
 module _ (S : Settings) (t : ℕ) (key : List ℕ) (message : List ℤ) where
   pub round-refused : (n : ℕ) (r : Polynomial) → n ≡ roundRefusal S t key message → (n ≡ 0 → ⊥) → r .refusal ≡ n → r .elements ≡ noPolynomial → r ≡ roundAnswer S t key message
   unfolding roundAnswer
-  round-refused n r e f a b = let none = b ∙ sym (granted-refused (roundRefusal S t key message) (polynomial S t key message) noPolynomial (λ z. f (e ∙ z))) in λ i. record { refusal = (a ∙ e) i; elements = none i }
+  round-refused n r e f a b = let none = b ∙ sym (granted-refused (roundRefusal S t key message) (polynomial S t key message) noPolynomial (λ z. f (e ∙ z))) in
+      λ i. record { refusal = (a ∙ e) i; elements = none i }
 
   pub round-done : (r : Polynomial) → roundRefusal S t key message ≡ 0 → r .refusal ≡ 0 → r .elements ≡ polynomial S t key message → r ≡ roundAnswer S t key message
   unfolding roundAnswer

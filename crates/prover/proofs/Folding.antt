@@ -58,7 +58,8 @@ module _ (d h e : ℕ) (m : List ℤ) (pd : 0 < d) (long : 2 * (h * d) ≤ lengt
       first-room = subst (λ z. natAbs z < 2 ^ 30) (sym (as-was p (Nat.le-refl p))) (room .each p (omega arith))
 
       second-small : natAbs y ≤ 2 ^ 30 - 1
-      second-small = subst (λ z. natAbs z ≤ 2 ^ 30 - 1) (sym turned) (rotate-bounded d pd (2 ^ 30 - 1) e (from second (p - p % d)) (λ k s. omega (arith, second-room .each (p - p % d + k) (omega arith))) (p % d) (Nat.mod-lt p pd))
+      second-small = subst (λ z. natAbs z ≤ 2 ^ 30 - 1) (sym turned)
+          (rotate-bounded d pd (2 ^ 30 - 1) e (from second (p - p % d)) (λ k s. omega (arith, second-room .each (p - p % d + k) (omega arith))) (p % d) (Nat.mod-lt p pd))
 
       pub sum-room : natAbs (getD M p (pos 0)) + natAbs y < 2 ^ 31
       sum-room = omega (arith, first-room, second-small)

@@ -21,7 +21,8 @@ module _ (S : Settings) (ok : Valid S) (t : ℕ) (l : t < S .depth) where
   half-cells = halfLeft S t * S .degree
 
   pub left-halves : left S t * S .degree ≡ 2 * half-cells
-  left-halves = ap (λ n. n * S .degree) (left-power S t (omega arith) ∙ twice-power (S .depth) t l ∙ sym (λ i. halfLeft-power S t l i + halfLeft-power S t l i)) ∙ Nat.add-mul (halfLeft S t) (halfLeft S t) (S .degree) ∙ omega arith
+  left-halves = ap (λ n. n * S .degree) (left-power S t (omega arith) ∙ twice-power (S .depth) t l ∙ sym (λ i. halfLeft-power S t l i + halfLeft-power S t l i))
+      ∙ Nat.add-mul (halfLeft S t) (halfLeft S t) (S .degree) ∙ omega arith
 
   pub halves-inside : 2 * half-cells ≤ cells S
   halves-inside = omega (arith, left-halves, left-inside S t)

@@ -109,7 +109,8 @@ module _ (q d h : ℕ) (m : List ℤ) (G : List ℕ) (t : Halved q d h m G) wher
       elements = omega (arith, t .tables .elements);
       message-long = long messageSum f (signedZeros 8192) f-is (signed-zeros-length 8192);
       key-long = long keySum g (zeros 8192) g-is (zeros-length 8192);
-      message-small = λ j l. subst (λ z. natAbs z ≤ 2 ^ 15) (sym (f-at j l)) (omega (arith, natAbs-add (getD m j (pos 0)) (getD m (h * d + j) (pos 0)), t .message-half j (omega arith), t .message-half (h * d + j) (omega arith)));
+      message-small = λ j l. subst (λ z. natAbs z ≤ 2 ^ 15) (sym (f-at j l))
+          (omega (arith, natAbs-add (getD m j (pos 0)) (getD m (h * d + j) (pos 0)), t .message-half j (omega arith), t .message-half (h * d + j) (omega arith)));
     }
 
     message-sum : (i : ℕ) → i < h → Same d (signedAt d f i) (plus (signedAt d m i) (second h (signedAt d m) i))
@@ -153,7 +154,10 @@ mixed-parts d h p m G = readℤ-inj d p _ _
     ∙ I.add-inner (Ring d p) h _ _ _
     ∙ ap₂ (Ring d p .add) (I.inner-add (Ring d p) h _ _ _) (I.inner-add (Ring d p) h _ _ _)
     ∙ regroup (Ring d p) _ _ _ _
-    ∙ sym (read-plus ℤ-ring d p _ _ ∙ ap₂ (Ring d p .add) (read-plus ℤ-ring d p _ _ ∙ ap₂ (Ring d p .add) (read-inner ℤ-ring d p h _ _) (read-plus ℤ-ring d p _ _ ∙ ap₂ (Ring d p .add) (read-inner ℤ-ring d p h _ _) (read-inner ℤ-ring d p h _ _))) (read-inner ℤ-ring d p h _ _)))
+    ∙ sym (read-plus ℤ-ring d p _ _
+    ∙ ap₂ (Ring d p .add) (read-plus ℤ-ring d p _ _
+    ∙ ap₂ (Ring d p .add) (read-inner ℤ-ring d p h _ _) (read-plus ℤ-ring d p _ _ ∙ ap₂ (Ring d p .add) (read-inner ℤ-ring d p h _ _) (read-inner ℤ-ring d p h _ _)))
+    (read-inner ℤ-ring d p h _ _)))
 
 -- ---- what is left of the innerOfSums product
 

@@ -89,7 +89,8 @@ module _ (q d h : ℕ) (m : List ℤ) (G : List ℕ) (t : Tables q d (2 * h) m G
   first-halves = halves 0 0 (omega arith) (omega arith)
 
   pub second-halves : Tables q d h m1 G1
-  second-halves = subst (λ m′. Tables q d h m′ G1) (sym (tail-all (h * d) m)) (subst (λ G′. Tables q d h (drop (h * d) m) G′) (sym (tail-all (h * d) G)) (halves (h * d) (h * d) (Nat.le-refl _) (Nat.le-refl _)))
+  second-halves = subst (λ m′. Tables q d h m′ G1) (sym (tail-all (h * d) m))
+      (subst (λ G′. Tables q d h (drop (h * d) m) G′) (sym (tail-all (h * d) G)) (halves (h * d) (h * d) (Nat.le-refl _) (Nat.le-refl _)))
 
   pub second-message : (i : ℕ) → Same d (signedAt d m1 i) (second h (signedAt d m) i)
   unfolding signedAt second
@@ -140,6 +141,8 @@ commitment-is S key message = ap (λ n. padded (S .degree) (reduced (S .modulus)
 -- ---- the round polynomial
 
 pub polynomial-is : (S : Settings) (t : ℕ) (key : List ℕ) (message : List ℤ) → 0 < S .modulus
-    → tabulate 3 (λ j. scaled (S .modulus) (S .degree) (((S .modulus + 1) / 2) ^ (t + 1) % S .modulus) (cross (S .degree) (halfLeft S t) (signedAt (S .degree) message) (residueAt (S .degree) key) j)) ≡ polynomial S t key message
+    → tabulate 3 (λ j. scaled (S .modulus) (S .degree) (((S .modulus + 1) / 2) ^ (t + 1) % S .modulus)
+    (cross (S .degree) (halfLeft S t) (signedAt (S .degree) message) (residueAt (S .degree) key) j)) ≡ polynomial S t key message
 unfolding polynomial roundElement half
-polynomial-is S t key message p = tabulate-ext 3 (λ j l. scaled-mod (S .modulus) (S .degree) (half S ^ (t + 1)) p (cross (S .degree) (halfLeft S t) (signedAt (S .degree) message) (residueAt (S .degree) key) j))
+polynomial-is S t key message p =
+    tabulate-ext 3 (λ j l. scaled-mod (S .modulus) (S .degree) (half S ^ (t + 1)) p (cross (S .degree) (halfLeft S t) (signedAt (S .degree) message) (residueAt (S .degree) key) j))

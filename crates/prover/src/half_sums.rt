@@ -29,7 +29,8 @@ fn whole_sum(x: i32, y: i32) -> i32
 // Of a message, whose halves have n numbers.
 pub fn message_sums(n: usize, first: &[i32], second: &[i32], sums: &mut [i32])
     requires { ⌜ (n ≤ length (now first)) × (n ≤ length (now second)) × (n ≤ length (now sums)) ⌝ }
-    ensures { λ _. ⌜ Provided (SmallHalf n (now (first .entry)) × SmallHalf n (now (second .entry))) (now (sums .exit) ≡ filled (λ p. getD (now (first .entry)) p (pos 0) +ℤ getD (now (second .entry)) p (pos 0)) n (now (sums .entry))) ⌝ }
+    ensures { λ _. ⌜ Provided (SmallHalf n (now (first .entry))
+        × SmallHalf n (now (second .entry))) (now (sums .exit) ≡ filled (λ p. getD (now (first .entry)) p (pos 0) +ℤ getD (now (second .entry)) p (pos 0)) n (now (sums .entry))) ⌝ }
 {
     for p in 0..n {
         sums[p] = whole_sum(first[p], second[p]);
@@ -39,7 +40,8 @@ pub fn message_sums(n: usize, first: &[i32], second: &[i32], sums: &mut [i32])
 // Of a key, modulo q.
 pub fn key_sums(q: u32, n: usize, first: &[Residue], second: &[Residue], sums: &mut [Residue])
     requires { ⌜ (n ≤ length (now first)) × (n ≤ length (now second)) × (n ≤ length (now sums)) ⌝ }
-    ensures { λ _. ⌜ Provided (Residues q n 0 (now (first .entry)) × Residues q n 0 (now (second .entry))) (now (sums .exit) ≡ filled (λ p. (getD (now (first .entry)) p 0 + getD (now (second .entry)) p 0) % q) n (now (sums .entry))) ⌝ }
+    ensures { λ _. ⌜ Provided (Residues q n 0 (now (first .entry))
+        × Residues q n 0 (now (second .entry))) (now (sums .exit) ≡ filled (λ p. (getD (now (first .entry)) p 0 + getD (now (second .entry)) p 0) % q) n (now (sums .entry))) ⌝ }
 {
     for p in 0..n {
         sums[p] = residues::plus(q, first[p], second[p]);

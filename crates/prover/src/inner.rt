@@ -49,7 +49,8 @@ fn inner_scaled(
     key: &[Residue],
 ) -> [Residue; WIDTH]
     requires { ⌜ (0 < q) × (d ≤ width) ⌝ }
-    ensures { λ r. ⌜ Provided (Tables q d h (now (message .entry)) (now (key .entry))) (r ≡ sums.scaled q d s (opening.inner d h (signedAt d (now (message .entry))) (residueAt d (now (key .entry))))) ⌝ }
+    ensures { λ r. ⌜ Provided (Tables q d h (now (message .entry)) (now (key .entry)))
+        (r ≡ sums.scaled q d s (opening.inner d h (signedAt d (now (message .entry))) (residueAt d (now (key .entry))))) ⌝ }
 {
     scaled(q, d, s, products::inner(q, d, h, message, key))
 }
@@ -64,7 +65,8 @@ pub fn inner_of_sums(
     key: &[Residue],
 ) -> [Residue; WIDTH]
     requires { ⌜ Sized q d (2 * h) (length (now message)) (length (now key)) ⌝ }
-    ensures { λ r. ⌜ Provided (Halved q d h (now (message .entry)) (now (key .entry))) (r ≡ sums.scaled q d s (sums.innerOfSums d h (signedAt d (now (message .entry))) (residueAt d (now (key .entry))))) ⌝ }
+    ensures { λ r. ⌜ Provided (Halved q d h (now (message .entry)) (now (key .entry)))
+        (r ≡ sums.scaled q d s (sums.innerOfSums d h (signedAt d (now (message .entry))) (residueAt d (now (key .entry))))) ⌝ }
 {
     let half = (h as usize) * (d as usize);
     let mut m = [0i32; HALF_ROOM];

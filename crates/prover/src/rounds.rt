@@ -45,7 +45,8 @@ fn sized(q: u32, d: u32, n: u32, message: usize, key: usize) -> bool
 // The first d numbers of an element, times s and modulo q, written to the front of out where there is room for them.
 fn write_scaled(q: u32, d: usize, s: u32, element: &[Residue], out: &mut [Residue])
     requires { ⌜ (0 < q) × (d ≤ length (now element)) ⌝ }
-    ensures { λ _. ⌜ (Provided (d ≤ length (now (out .entry))) (now (out .exit) ≡ filled (λ k. s * getD (now (element .entry)) k 0 % q) d (now (out .entry))) × Provided (length (now (out .entry)) < d) (now (out .exit) ≡ now (out .entry))) ⌝ }
+    ensures { λ _. ⌜ (Provided (d ≤ length (now (out .entry))) (now (out .exit) ≡ filled (λ k. s * getD (now (element .entry)) k 0 % q) d (now (out .entry)))
+        × Provided (length (now (out .entry)) < d) (now (out .exit) ≡ now (out .entry))) ⌝ }
 {
     if out.len() < d {
         return;
@@ -58,7 +59,8 @@ fn write_scaled(q: u32, d: usize, s: u32, element: &[Residue], out: &mut [Residu
 // The sum of two elements modulo q, written to the front of out where there is room for it.
 fn write_sum(q: u32, d: usize, x: &[Residue], y: &[Residue], out: &mut [Residue])
     requires { ⌜ (d ≤ length (now x)) × (d ≤ length (now y)) ⌝ }
-    ensures { λ _. ⌜ Provided (d ≤ length (now (out .entry))) (Provided (Residues q d 0 (now (x .entry)) × Residues q d 0 (now (y .entry))) (now (out .exit) ≡ filled (sumAt q (now (x .entry)) (now (y .entry))) d (now (out .entry)))) ⌝ }
+    ensures { λ _. ⌜ Provided (d ≤ length (now (out .entry)))
+        (Provided (Residues q d 0 (now (x .entry)) × Residues q d 0 (now (y .entry))) (now (out .exit) ≡ filled (sumAt q (now (x .entry)) (now (y .entry))) d (now (out .entry)))) ⌝ }
 {
     if out.len() < d {
         return;
@@ -76,7 +78,8 @@ pub fn begin(
     commitment: &mut [Residue],
     rounds: &mut [Residue],
 )
-    ensures { λ _. ⌜ Provided (commitRefusal settings (now (key .entry)) (now (message .entry)) ≡ 0) (Begun settings (now (key .entry)) (now (message .entry)) (now (commitment .entry)) (now (rounds .entry)) (now (commitment .exit)) (now (rounds .exit))) ⌝ }
+    ensures { λ _. ⌜ Provided (commitRefusal settings (now (key .entry)) (now (message .entry)) ≡ 0)
+        (Begun settings (now (key .entry)) (now (message .entry)) (now (commitment .entry)) (now (rounds .entry)) (now (commitment .exit)) (now (rounds .exit))) ⌝ }
 {
     let q = settings.modulus;
     let d = settings.degree;
@@ -101,7 +104,9 @@ pub fn first_element(
     message: &[i32],
     out: &mut [Residue],
 )
-    ensures { λ _. ⌜ Provided (roundRefusal settings t (now (key .entry)) (now (message .entry)) ≡ 0) (Provided (settings .degree ≤ length (now (out .entry))) (now (out .exit) ≡ filled (elementPlaces (roundElement settings t (now (key .entry)) (now (message .entry)) 0)) (settings .degree) (now (out .entry)))) ⌝ }
+    ensures { λ _. ⌜ Provided (roundRefusal settings t (now (key .entry)) (now (message .entry)) ≡ 0)
+        (Provided (settings .degree ≤ length (now (out .entry)))
+        (now (out .exit) ≡ filled (elementPlaces (roundElement settings t (now (key .entry)) (now (message .entry)) 0)) (settings .degree) (now (out .entry)))) ⌝ }
 {
     if t >= settings.depth {
         return;
@@ -130,7 +135,8 @@ fn halved(q: u32, y: u32) -> u32
 // The middle element, behind the first: x less half of the claim.
 fn write_middle(q: u32, d: usize, x: &[Residue], claim: &[Residue], p: &mut [Residue])
     requires { ⌜ (d ≤ length (now x)) × (d ≤ length (now claim)) × (d + d ≤ length (now p)) ⌝ }
-    ensures { λ _. ⌜ Provided (Residues q d 0 (now (x .entry)) × HalvesBelow q d (now (claim .entry))) (now (p .exit) ≡ spliced (middleAt q (now (x .entry)) (now (claim .entry))) d d (now (p .entry))) ⌝ }
+    ensures { λ _. ⌜ Provided (Residues q d 0 (now (x .entry))
+        × HalvesBelow q d (now (claim .entry))) (now (p .exit) ≡ spliced (middleAt q (now (x .entry)) (now (claim .entry))) d d (now (p .entry))) ⌝ }
 {
     for k in 0..d {
         p[d + k] = residues::minus(q, x[k], halved(q, claim[k]));
@@ -140,7 +146,8 @@ fn write_middle(q: u32, d: usize, x: &[Residue], claim: &[Residue], p: &mut [Res
 // The last element, behind the middle one: half of the claim less the first.
 fn write_last(q: u32, d: usize, claim: &[Residue], p: &mut [Residue])
     requires { ⌜ (d ≤ length (now claim)) × (2 * d + d ≤ length (now p)) ⌝ }
-    ensures { λ _. ⌜ Provided (Residues q d 0 (now (p .entry)) × HalvesBelow q d (now (claim .entry))) (now (p .exit) ≡ spliced (lastAt q (now (claim .entry)) (now (p .entry))) (2 * d) d (now (p .entry))) ⌝ }
+    ensures { λ _. ⌜ Provided (Residues q d 0 (now (p .entry))
+        × HalvesBelow q d (now (claim .entry))) (now (p .exit) ≡ spliced (lastAt q (now (claim .entry)) (now (p .entry))) (2 * d) d (now (p .entry))) ⌝ }
 {
     for k in 0..d {
         let y = p[k];
@@ -157,7 +164,9 @@ pub fn rest(
     claim: &[Residue],
     p: &mut [Residue],
 )
-    ensures { λ _. ⌜ Provided (Continuing settings t (now (key .entry)) (now (message .entry)) (now (claim .entry)) (now (p .entry))) (now (p .exit) ≡ spliced (elementPlaces (roundElement settings t (now (key .entry)) (now (message .entry)) 2)) (2 * settings .degree) (settings .degree) (spliced (elementPlaces (roundElement settings t (now (key .entry)) (now (message .entry)) 1)) (settings .degree) (settings .degree) (now (p .entry)))) ⌝ }
+    ensures { λ _. ⌜ Provided (Continuing settings t (now (key .entry)) (now (message .entry)) (now (claim .entry)) (now (p .entry)))
+        (now (p .exit) ≡ spliced (elementPlaces (roundElement settings t (now (key .entry)) (now (message .entry)) 2)) (2 * settings .degree) (settings .degree)
+        (spliced (elementPlaces (roundElement settings t (now (key .entry)) (now (message .entry)) 1)) (settings .degree) (settings .degree) (now (p .entry)))) ⌝ }
 {
     if t >= settings.depth {
         return;

@@ -107,7 +107,8 @@ fn add_four(
     sums: &mut [u64],
 )
     requires { ⌜ (at0 + d ≤ length (now x)) × (at1 + d ≤ length (now x)) × (at2 + d ≤ length (now x)) × (at3 + d ≤ length (now x)) × (d ≤ length (now sums)) ⌝ }
-    ensures { λ _. ⌜ now (sums .exit) ≡ addRow d m3 at3 (narrowed (now (x .entry))) (addRow d m2 at2 (narrowed (now (x .entry))) (addRow d m1 at1 (narrowed (now (x .entry))) (addRow d m0 at0 (narrowed (now (x .entry))) (now (sums .entry))))) ⌝ }
+    ensures { λ _. ⌜ now (sums .exit) ≡ addRow d m3 at3 (narrowed (now (x .entry)))
+        (addRow d m2 at2 (narrowed (now (x .entry))) (addRow d m1 at1 (narrowed (now (x .entry))) (addRow d m0 at0 (narrowed (now (x .entry))) (now (sums .entry))))) ⌝ }
 {
     let mut k: usize = 0;
     while k < d {
@@ -157,7 +158,8 @@ fn add_block(d: usize, j: usize, f: &[i32], x: &[u64], sums: &mut [u64])
 // The rows from coefficient `done` on, those before it being added.
 fn add_rest(d: usize, done: usize, f: &[i32], x: &[u64], sums: &mut [u64])
     requires { ⌜ Rows d (length (now f)) (length (now x)) (length (now sums)) × (done ≤ d) ⌝ }
-    ensures { λ _. ⌜ ((s : List ℕ) → now (sums .entry) ≡ addRows d (now (f .entry)) (narrowed (now (x .entry))) done s → now (sums .exit) ≡ addRows d (now (f .entry)) (narrowed (now (x .entry))) d s) ⌝ }
+    ensures { λ _. ⌜ ((s : List ℕ) → now (sums .entry) ≡ addRows d (now (f .entry)) (narrowed (now (x .entry))) done s →
+        now (sums .exit) ≡ addRows d (now (f .entry)) (narrowed (now (x .entry))) d s) ⌝ }
 {
     let mut j: usize = done;
     while j < d {
@@ -182,7 +184,8 @@ fn add_rows(d: usize, f: &[i32], x: &[u64], sums: &mut [u64])
 
 // Adds the product of f with the element that is prepared at the front of x.
 pub fn add_product(d: u32, f: &[i32], x: &[u64], sums: &mut [u64])
-    ensures { λ _. ⌜ ((q : ℕ) (a : List ℕ) → Provided (Addable q d (now (f .entry)) a (now (x .entry)) (now (sums .entry))) (now (sums .exit) ≡ addProduct q d (now (f .entry)) a (now (sums .entry)))) ⌝ }
+    ensures { λ _. ⌜ ((q : ℕ) (a : List ℕ) →
+        Provided (Addable q d (now (f .entry)) a (now (x .entry)) (now (sums .entry))) (now (sums .exit) ≡ addProduct q d (now (f .entry)) a (now (sums .entry)))) ⌝ }
 {
     let n = d as usize;
     if n > WIDTH {

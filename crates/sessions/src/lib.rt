@@ -46,7 +46,8 @@ fn answer(moved: Moved, session: &mut [u32], verdict: &mut u32) -> u32
 
 // A round, with the polynomial in a slice and the challenge X^e.
 pub fn round(polynomial: &[Residue], e: u32, session: &mut [u32], verdict: &mut u32) -> u32
-    ensures { λ r. ⌜ MoveStored (polynomialFits (now (polynomial .entry)) (now (session .entry))) (roundOn (now (polynomial .entry)) e (now (session .entry))) (now (session .entry)) r (now (session .exit)) (now (verdict .exit)) ⌝ }
+    ensures { λ r. ⌜ MoveStored (polynomialFits (now (polynomial .entry)) (now (session .entry))) (roundOn (now (polynomial .entry)) e (now (session .entry)))
+        (now (session .entry)) r (now (session .exit)) (now (verdict .exit)) ⌝ }
 {
     *verdict = 0;
     if session.len() != RECORD {
@@ -68,7 +69,8 @@ pub fn round(polynomial: &[Residue], e: u32, session: &mut [u32], verdict: &mut 
 
 // The end, with the final element in a slice and the unfolded key.
 pub fn end(last: &[i32], key: &[Residue], session: &mut [u32], verdict: &mut u32) -> u32
-    ensures { λ r. ⌜ MoveStored (lastFits (now (last .entry)) (now (session .entry))) (endOn (now (last .entry)) (now (key .entry)) (now (session .entry))) (now (session .entry)) r (now (session .exit)) (now (verdict .exit)) ⌝ }
+    ensures { λ r. ⌜ MoveStored (lastFits (now (last .entry)) (now (session .entry))) (endOn (now (last .entry)) (now (key .entry)) (now (session .entry)))
+        (now (session .entry)) r (now (session .exit)) (now (verdict .exit)) ⌝ }
 {
     *verdict = 0;
     if session.len() != RECORD {

@@ -115,7 +115,15 @@ module _ (ss : List Spot) (bs : List ℕ) (more : List Line) (f : allLines bs �
     crowded t =
         let k = values-lines ss bs vs end e in
         let (behind, p, q) = lines-of (k .lines) (allLines end) (sym f ∙ k .all-are) in
-        by-end end behind p (omega (arith, ap length (spots-same (spotsOf more) ss t), ap length (k .spots-are), ap length q, length-append (k .lines) behind, length-map more (λ m. m .spot), length-map (k .lines) (λ m. m .spot)))
+        by-end end behind p (omega (
+          arith,
+          ap length (spots-same (spotsOf more) ss t),
+          ap length (k .spots-are),
+          ap length q,
+          length-append (k .lines) behind,
+          length-map more (λ m. m .spot),
+          length-map (k .lines) (λ m. m .spot),
+        ))
       where
         by-end : (end : List ℕ) (behind : List Line) → allLines end ≡ some behind → length behind ≡ 0 → length end ≡ 0
         by-end [] behind p h = refl

@@ -21,7 +21,8 @@ use Rattle.protocol.specs.declared.Parts.{Parts}
 use Rattle.protocol.specs.declared.Loaded.{Loaded}
 use Rattle.protocol.specs.Basic.{first, unless}
 use Rattle.protocol.specs.Settings.{settingsRefusal}
-use Rattle.protocol.specs.Text.{Line, Shape, Tables, shape, settingsShape, shapes, shapeSize, wanted, linesOf, unsigned, unsignedColumn, settingsIn, tablesIn, noSettings, lookRefusal, loaded, entriesRefusal, textRefusal, readRefusal, readAnswer, readExit}
+use Rattle.protocol.specs.Text.{Line, Shape, Tables, shape, settingsShape, shapes, shapeSize, wanted, linesOf, unsigned, unsignedColumn, settingsIn, tablesIn, noSettings}
+use Rattle.protocol.specs.Text.{lookRefusal, loaded, entriesRefusal, textRefusal, readRefusal, readAnswer, readExit}
 use Rattle.protocol.specs.Promises.{Read}
 use Rattle.protocol.proofs.Tests.{and-split, every-at, first-zero, unless-zero, granted-zero, granted-refused}
 use Rattle.protocol.proofs.Refusals.{front-stops, front-passes, first-only}

@@ -21,7 +21,9 @@ pub fn read(
     challenges: &mut [u32],
     last: &mut [i32],
 ) -> Loaded
-    ensures { λ r. ⌜ Read parts (now (text .entry)) (tablesOf (now (key .entry)) (now (message .entry)) (now (commitment .entry)) (now (rounds .entry)) (now (challenges .entry)) (now (last .entry))) r (tablesOf (now (key .exit)) (now (message .exit)) (now (commitment .exit)) (now (rounds .exit)) (now (challenges .exit)) (now (last .exit))) ⌝ }
+    ensures { λ r. ⌜ Read parts (now (text .entry))
+        (tablesOf (now (key .entry)) (now (message .entry)) (now (commitment .entry)) (now (rounds .entry)) (now (challenges .entry)) (now (last .entry))) r
+        (tablesOf (now (key .exit)) (now (message .exit)) (now (commitment .exit)) (now (rounds .exit)) (now (challenges .exit)) (now (last .exit))) ⌝ }
 {
     let lengths = [
         key.len(),

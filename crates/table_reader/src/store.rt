@@ -44,7 +44,9 @@ pub fn all(
     last: &mut [i32],
 )
     requires { ⌜ total (lengthsOf (tablesOf (now key) (now message) (now commitment) (now rounds) (now challenges) (now last))) ≤ length (now values) ⌝ }
-    ensures { λ _. ⌜ tablesOf (now (key .exit)) (now (message .exit)) (now (commitment .exit)) (now (rounds .exit)) (now (challenges .exit)) (now (last .exit)) ≡ cutTables (lengthsOf (tablesOf (now (key .entry)) (now (message .entry)) (now (commitment .entry)) (now (rounds .entry)) (now (challenges .entry)) (now (last .entry)))) (now (values .entry)) ⌝ }
+    ensures { λ _. ⌜ tablesOf (now (key .exit)) (now (message .exit)) (now (commitment .exit)) (now (rounds .exit)) (now (challenges .exit))
+        (now (last .exit)) ≡ cutTables
+        (lengthsOf (tablesOf (now (key .entry)) (now (message .entry)) (now (commitment .entry)) (now (rounds .entry)) (now (challenges .entry)) (now (last .entry)))) (now (values .entry)) ⌝ }
 {
     let after_key = unsigned(values, 0, key);
     let after_message = signed(values, after_key, message);

@@ -22,7 +22,8 @@ pub fn tables_refusal(
     challenges: &[u32],
     last: &[i32],
 ) -> u32
-    ensures { λ r. ⌜ r ≡ tablesRefusal settings parts (tablesOf (now (key .entry)) (now (message .entry)) (now (commitment .entry)) (now (rounds .entry)) (now (challenges .entry)) (now (last .entry))) ⌝ }
+    ensures { λ r. ⌜ r ≡ tablesRefusal settings parts
+        (tablesOf (now (key .entry)) (now (message .entry)) (now (commitment .entry)) (now (rounds .entry)) (now (challenges .entry)) (now (last .entry))) ⌝ }
 {
     let q = settings.modulus;
     let lengths = [

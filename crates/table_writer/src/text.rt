@@ -71,7 +71,8 @@ pub fn put_text(
 ) -> usize
     requires { ⌜ (settings .depth ≤ 8) × (textRoom ≤ length (now out)) ⌝ }
     requires { ⌜ Exact settings parts (tablesOf (now key) (now message) (now commitment) (now rounds) (now challenges) (now last)) ⌝ }
-    ensures { λ r. ⌜ Held (textOf settings parts (tablesOf (now (key .entry)) (now (message .entry)) (now (commitment .entry)) (now (rounds .entry)) (now (challenges .entry)) (now (last .entry)))) r (now (out .exit)) ⌝ }
+    ensures { λ r. ⌜ Held (textOf settings parts
+        (tablesOf (now (key .entry)) (now (message .entry)) (now (commitment .entry)) (now (rounds .entry)) (now (challenges .entry)) (now (last .entry)))) r (now (out .exit)) ⌝ }
 {
     let key_on = put_settings(settings, parts, out);
     let commitment_on = put_mixed(settings, parts, 1, key, message, key_on, out);

@@ -27,7 +27,8 @@ pub fn write(
     last: &[i32],
     out: &mut [u8],
 ) -> Written
-    ensures { λ r. ⌜ Wrote settings parts (tablesOf (now (key .entry)) (now (message .entry)) (now (commitment .entry)) (now (rounds .entry)) (now (challenges .entry)) (now (last .entry))) (now (out .entry)) r (now (out .exit)) ⌝ }
+    ensures { λ r. ⌜ Wrote settings parts (tablesOf (now (key .entry)) (now (message .entry)) (now (commitment .entry)) (now (rounds .entry)) (now (challenges .entry))
+        (now (last .entry))) (now (out .entry)) r (now (out .exit)) ⌝ }
 {
     let refusal = tables_refusal(
         settings,

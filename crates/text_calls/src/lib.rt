@@ -69,7 +69,9 @@ pub fn read(
     challenges: &mut [u32],
     last: &mut [i32],
 ) -> u32
-    ensures { λ r. ⌜ ReadStored parts (now (text .entry)) (now (settings .entry)) (tablesOf (now (key .entry)) (now (message .entry)) (now (commitment .entry)) (now (rounds .entry)) (now (challenges .entry)) (now (last .entry))) r (now (settings .exit)) (tablesOf (now (key .exit)) (now (message .exit)) (now (commitment .exit)) (now (rounds .exit)) (now (challenges .exit)) (now (last .exit))) ⌝ }
+    ensures { λ r. ⌜ ReadStored parts (now (text .entry)) (now (settings .entry))
+        (tablesOf (now (key .entry)) (now (message .entry)) (now (commitment .entry)) (now (rounds .entry)) (now (challenges .entry)) (now (last .entry))) r
+        (now (settings .exit)) (tablesOf (now (key .exit)) (now (message .exit)) (now (commitment .exit)) (now (rounds .exit)) (now (challenges .exit)) (now (last .exit))) ⌝ }
 {
     if !slices::both(settings.len() == 4, parts < 64) {
         return refused(text);
@@ -105,7 +107,9 @@ pub fn write(
     out: &mut [u8],
     count: &mut usize,
 ) -> u32
-    ensures { λ r. ⌜ WroteStored settings parts (tablesOf (now (key .entry)) (now (message .entry)) (now (commitment .entry)) (now (rounds .entry)) (now (challenges .entry)) (now (last .entry))) (now (out .entry)) r (now (out .exit)) (now (count .exit)) ⌝ }
+    ensures { λ r. ⌜ WroteStored settings parts
+        (tablesOf (now (key .entry)) (now (message .entry)) (now (commitment .entry)) (now (rounds .entry)) (now (challenges .entry)) (now (last .entry)))
+        (now (out .entry)) r (now (out .exit)) (now (count .exit)) ⌝ }
 {
     let refusal = slices::refusal(settings, parts < 64);
     if refusal != 0 {

@@ -43,7 +43,8 @@ module _ (text : List ℕ) (e : lookRefusal text ≡ 0) where
   unfolding lookRefusal
   short-text = leb-true _ _ (unless-zero 0 _ (first-zero _ _ e .0))
 
-  by-lines : (vs : List ℤ) (rest : List ℕ) → readSettings text ≡ some (vs, rest) → (o : Option (List Line)) → allLines rest ≡ o → choose (present o) (settingsRefusal (settingsOf vs)) 2 ≡ 0 → Looked text
+  by-lines : (vs : List ℤ) (rest : List ℕ) → readSettings text ≡ some (vs, rest) → (o : Option (List Line)) → allLines rest ≡ o →
+      choose (present o) (settingsRefusal (settingsOf vs)) 2 ≡ 0 → Looked text
   unfolding choose present
   by-lines vs rest h none f g = absurd (omega (arith, g))
   by-lines vs rest h (some more) f g = record {

@@ -18,7 +18,8 @@ use Rattle.protocol.specs.declared.Settings.{Settings}
 use Rattle.protocol.specs.declared.Loaded.{Loaded}
 use Rattle.protocol.specs.Basic.{tabulate, choose, first, unless, granted}
 use Rattle.protocol.specs.Settings.{settingsRefusal}
-use Rattle.protocol.specs.Text.{Spot, Line, textLimit, shape, settingsShape, shapeSize, spots, names, readLines, beginsWithNames, parsed, linesOf, sameSpots, spotsOf, valuesOf, wellFormed, unsigned, settingIn, settingsIn, noSettings, lookRefusal, loaded}
+use Rattle.protocol.specs.Text.{Spot, Line, textLimit, shape, settingsShape, shapeSize, spots, names, readLines, beginsWithNames, parsed, linesOf, sameSpots, spotsOf}
+use Rattle.protocol.specs.Text.{valuesOf, wellFormed, unsigned, settingIn, settingsIn, noSettings, lookRefusal, loaded}
 use Rattle.protocol.proofs.Refusals.{first-fails, first-holds, first-only}
 use Rattle.text_lines.specs.declared.header.Header.{Header}
 use Rattle.protocol.specs.Lines.{present, readValues, allLines, settingsOf, readSettings}
@@ -161,7 +162,8 @@ module _ (text : List ℕ) (vs : List ℤ) (rest : List ℕ) (h : Settled text v
       ∙ settings-front vs (valuesOf more) (ap length (sym (h .values-are)) ∙ length-map (h .front) (λ l. l .value) ∙ front-count (h .front) (h .spots-are))
 
   -- refusals 2 to 6
-  settled-refusal : (o : Option (List Line)) → allLines rest ≡ o → first (unless 2 (wellFormed text) ∷ settingsRefusal (settingsIn (linesOf text)) ∷ []) ≡ choose (present o) (settingsRefusal (settingsOf vs)) 2
+  settled-refusal : (o : Option (List Line)) → allLines rest ≡ o →
+      first (unless 2 (wellFormed text) ∷ settingsRefusal (settingsIn (linesOf text)) ∷ []) ≡ choose (present o) (settingsRefusal (settingsOf vs)) 2
   unfolding choose present
   settled-refusal none e = first-fails 1 _ _ (settled-malformed e)
   settled-refusal (some more) e = first-holds 2 _ _ (settled-formed more e) ∙ first-only _ ∙ ap settingsRefusal (settled-settings more e)

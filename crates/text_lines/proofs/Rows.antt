@@ -27,7 +27,8 @@ use Rattle.protocol.specs.Lines.{present, givenNumber, readIndexAt, lineReading
 use Rattle.protocol.proofs.Answers.{line-given}
 use Rattle.text_parts.proofs.From.{from-cons}
 use Rattle.protocol.proofs.NumeralLaws.{keep-some}
-use Rattle.text_lines.proofs.Counts.{Suffix, suffix-self, suffix-more, suffix-of, Found, found, keep-yes, count-small, count-suffix, count-shorter, number-suffix, number-shorter, plain-found, plain-missed, answer-both}
+use Rattle.text_lines.proofs.Counts.{Suffix, suffix-self, suffix-more, suffix-of, Found, found, keep-yes, count-small, count-suffix, count-shorter, number-suffix}
+use Rattle.text_lines.proofs.Counts.{number-shorter, plain-found, plain-missed, answer-both}
 
 -- ---- steps
 

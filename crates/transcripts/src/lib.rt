@@ -21,7 +21,8 @@ fn rounds_hold(
     challenges: &[u32],
     claim: &mut [Residue],
 ) -> bool
-    ensures { λ r. ⌜ Provided (RoundsGiven settings (now (rounds .entry)) (length (now (claim .entry)))) (Held settings (now (rounds .entry)) (now (challenges .entry)) (now (claim .entry)) (now (claim .exit)) r) ⌝ }
+    ensures { λ r. ⌜ Provided (RoundsGiven settings (now (rounds .entry)) (length (now (claim .entry))))
+        (Held settings (now (rounds .entry)) (now (challenges .entry)) (now (claim .entry)) (now (claim .exit)) r) ⌝ }
 {
     let depth = settings.depth;
     let mut t: u32 = 0;
@@ -45,7 +46,13 @@ pub fn accepted(
     rounds: &[Residue],
     challenges: &[u32],
 ) -> bool
-    ensures { λ r. ⌜ Provided (TranscriptGiven settings (length (now (last .entry))) (now (key .entry)) (now (rounds .entry)) (now (challenges .entry))) (r ≡ transcript.accepted settings (now (key .entry)) (record { commitment = now (commitment .entry); rounds = now (rounds .entry); challenges = now (challenges .entry); last = now (last .entry) })) ⌝ }
+    ensures { λ r. ⌜ Provided (TranscriptGiven settings (length (now (last .entry))) (now (key .entry)) (now (rounds .entry)) (now (challenges .entry)))
+        (r ≡ transcript.accepted settings (now (key .entry)) (record {
+          commitment = now (commitment .entry);
+          rounds = now (rounds .entry);
+          challenges = now (challenges .entry);
+          last = now (last .entry);
+        })) ⌝ }
 {
     let mut claim = elements::element_at(settings.degree, commitment, 0);
     if !rounds_hold(settings, rounds, challenges, &mut claim) {

@@ -18,7 +18,8 @@ pub fn every_path_accepted(
     challenges: &[u32],
     leaves: &[i32],
 ) -> bool
-    ensures { λ r. ⌜ Provided (TreeGiven settings (now (key .entry)) (now (rounds .entry)) (now (leaves .entry))) (r ≡ everyPath settings commitment (now (key .entry)) (now (rounds .entry)) (now (challenges .entry)) (now (leaves .entry))) ⌝ }
+    ensures { λ r. ⌜ Provided (TreeGiven settings (now (key .entry)) (now (rounds .entry)) (now (leaves .entry)))
+        (r ≡ everyPath settings commitment (now (key .entry)) (now (rounds .entry)) (now (challenges .entry)) (now (leaves .entry))) ⌝ }
 {
     if ranges::tests::settings_refusal(settings) != 0 {
         return false;

@@ -56,7 +56,8 @@ fn leaf_accepted(
     leaves: &[i32],
     folded: &[Residue],
 ) -> bool
-    requires { ⌜ (settingsRefusal settings ≡ 0) × (j * settings .degree + settings .degree ≤ length (now leaves)) × (settings .degree ≤ length (now claim)) × (settings .degree ≤ length (now folded)) ⌝ }
+    requires { ⌜ (settingsRefusal settings ≡ 0) × (j * settings .degree + settings .degree ≤ length (now leaves)) × (settings .degree ≤ length (now claim))
+        × (settings .degree ≤ length (now folded)) ⌝ }
     ensures { λ r. ⌜ r ≡ leafMet settings (now (leaves .entry)) j (now (claim .entry)) (now (folded .entry)) ⌝ }
 {
     let at = (j as usize) * (settings.degree as usize);
@@ -66,7 +67,8 @@ fn leaf_accepted(
 // Folds the key of a node that is h steps above the leaves by X^e, to where its child's key stands.
 fn fold_key(settings: Settings, h: u32, e: u32, ws: &mut [Residue])
     requires { ⌜ Folding settings h (length (now ws)) ⌝ }
-    ensures { λ _. ⌜ Provided (Reduced settings (drop (2 ^ h * settings .degree) (now (ws .entry)))) (now (ws .exit) ≡ foldDown (settings .modulus) (settings .degree) (2 ^ (h - 1)) e (2 ^ h * settings .degree) (2 ^ (h - 1) * settings .degree) (now (ws .entry))) ⌝ }
+    ensures { λ _. ⌜ Provided (Reduced settings (drop (2 ^ h * settings .degree) (now (ws .entry))))
+        (now (ws .exit) ≡ foldDown (settings .modulus) (settings .degree) (2 ^ (h - 1)) e (2 ^ h * settings .degree) (2 ^ (h - 1) * settings .degree) (now (ws .entry))) ⌝ }
 {
     let d = settings.degree;
     let n = sizes::half_left(settings, settings.depth - h);
@@ -88,7 +90,9 @@ fn child_accepted(
 ) -> bool
     requires { ⌜ Tables settings (length (now rounds)) (length (now leaves)) × (0 < h) × (j < 3) ⌝ }
     requires { ⌜ AtNode settings h k first (length (now ws)) ⌝ }
-    ensures { λ r. ⌜ Provided (Read settings h (now (rounds .entry)) (now (ws .entry))) ((r ≡ childAccepted settings (now (rounds .entry)) (now (challenges .entry)) (now (leaves .entry)) h k (drop (2 ^ h * settings .degree) (now (ws .entry))) j) × (drop (2 ^ h * settings .degree) (now (ws .exit)) ≡ drop (2 ^ h * settings .degree) (now (ws .entry)))) ⌝ }
+    ensures { λ r. ⌜ Provided (Read settings h (now (rounds .entry)) (now (ws .entry)))
+        ((r ≡ childAccepted settings (now (rounds .entry)) (now (challenges .entry)) (now (leaves .entry)) h k (drop (2 ^ h * settings .degree) (now (ws .entry))) j)
+        × (drop (2 ^ h * settings .degree) (now (ws .exit)) ≡ drop (2 ^ h * settings .degree) (now (ws .entry)))) ⌝ }
 {
     let mut claim = [0u32; WIDTH];
     claim_to(settings, k, j, rounds, challenges, &mut claim);
@@ -121,7 +125,9 @@ fn subtree_accepted(
 ) -> bool
     requires { ⌜ Tables settings (length (now rounds)) (length (now leaves)) × (settings .degree ≤ length (now claim)) ⌝ }
     requires { ⌜ AtNode settings h k first (length (now ws)) ⌝ }
-    ensures { λ r. ⌜ Provided (Read settings h (now (rounds .entry)) (now (ws .entry))) (r ≡ treeAccepted settings (now (rounds .entry)) (now (challenges .entry)) (now (leaves .entry)) h k (settings .depth - h) (now (claim .entry)) (drop (2 ^ h * settings .degree) (now (ws .entry)))) ⌝ }
+    ensures { λ r. ⌜ Provided (Read settings h (now (rounds .entry)) (now (ws .entry)))
+        (r ≡ treeAccepted settings (now (rounds .entry)) (now (challenges .entry)) (now (leaves .entry)) h k (settings .depth - h) (now (claim .entry))
+        (drop (2 ^ h * settings .degree) (now (ws .entry)))) ⌝ }
 {
     if h == 0 {
         let d = settings.degree as usize;
@@ -156,7 +162,8 @@ pub(crate) fn root_accepted(
     leaves: &[i32],
 ) -> bool
     requires { ⌜ Tables settings (length (now rounds)) (length (now leaves)) × (length (now key) ≡ cells settings) ⌝ }
-    ensures { λ r. ⌜ Provided (TreeGiven settings (now (key .entry)) (now (rounds .entry)) (now (leaves .entry))) (r ≡ everyPath settings commitment (now (key .entry)) (now (rounds .entry)) (now (challenges .entry)) (now (leaves .entry))) ⌝ }
+    ensures { λ r. ⌜ Provided (TreeGiven settings (now (key .entry)) (now (rounds .entry)) (now (leaves .entry)))
+        (r ≡ everyPath settings commitment (now (key .entry)) (now (rounds .entry)) (now (challenges .entry)) (now (leaves .entry))) ⌝ }
 {
     let n = key.len();
     let all = 2 * n;

@@ -19,7 +19,8 @@ use Rattle.protocol.specs.Element.{zeros, padded, residue}
 use Rattle.protocol.specs.Settings.{settingsRefusal, cells, residues, residueElement}
 use Rattle.protocol.specs.Inputs.{Below}
 use Rattle.protocol.specs.Transcript.{nextClaim}
-use Rattle.protocol.specs.Session.{slots, verdict, opened, blank, startRefusal, start, refusedMove, shut, part, moveRefusal, advanced, moveHolds, move, closeRefusal, closeHolds, close, verdictNumber, moveNumber, closeNumber}
+use Rattle.protocol.specs.Session.{slots, verdict, opened, blank, startRefusal, start, refusedMove, shut, part, moveRefusal, advanced, moveHolds, move, closeRefusal}
+use Rattle.protocol.specs.Session.{closeHolds, close, verdictNumber, moveNumber, closeNumber}
 use Rattle.protocol.proofs.Answers.{move-number, close-number}
 use Rattle.protocol.proofs.Inputs.{tested-below}
 use Rattle.protocol.proofs.Tests.{and-split, every-at, granted-zero, granted-refused}
@@ -81,16 +82,19 @@ module _ (r : Session) (p : List (List ℕ)) (e : ℕ) where
   unfolding move refusedMove
   round-refused n f s = (λ i. record { refusal = f i; verdict = Silent; next = r }) ∙ sym (granted-refused (moveRefusal r p e) _ _ (λ z. s (f ∙ z)))
 
-  made : moveRefusal r p e ≡ 0 → (b : Bool) → moveHolds r p ≡ b → move r p e ≡ choose b (record { refusal = 0; verdict = Holds; next = advanced r p e }) (record { refusal = 0; verdict = Rejected; next = shut r })
+  made : moveRefusal r p e ≡ 0 → (b : Bool) → moveHolds r p ≡ b →
+      move r p e ≡ choose b (record { refusal = 0; verdict = Holds; next = advanced r p e }) (record { refusal = 0; verdict = Rejected; next = shut r })
   unfolding move
-  made z b h = granted-zero (moveRefusal r p e) _ _ z ∙ ap (λ t. choose t (record { refusal = 0; verdict = Holds; next = advanced r p e }) (record { refusal = 0; verdict = Rejected; next = shut r })) h
+  made z b h = granted-zero (moveRefusal r p e) _ _ z
+      ∙ ap (λ t. choose t (record { refusal = 0; verdict = Holds; next = advanced r p e }) (record { refusal = 0; verdict = Rejected; next = shut r })) h
 
   pub round-rejected : moveRefusal r p e ≡ 0 → moveHolds r p ≡ false → (next : Session) → next ≡ shut r → _≡_ {A = Moved} (record { refusal = 0; verdict = Rejected; next = next }) (move r p e)
   unfolding choose
   round-rejected z h next s = (λ i. record { refusal = 0; verdict = Rejected; next = s i }) ∙ sym (made z false h)
 
   pub round-counted : moveRefusal r p e ≡ 0 → moveHolds r p ≡ true → (next : Session) (claim : List ℕ) → next ≡ counted r e claim
-      → claim ≡ padded (r .settings .degree) (nextClaim (r .settings) e (residue (part p 0)) (residue (part p 1)) (residue (part p 2))) → _≡_ {A = Moved} (record { refusal = 0; verdict = Holds; next = next }) (move r p e)
+      → claim ≡ padded (r .settings .degree) (nextClaim (r .settings) e (residue (part p 0)) (residue (part p 1)) (residue (part p 2))) →
+      _≡_ {A = Moved} (record { refusal = 0; verdict = Holds; next = next }) (move r p e)
   unfolding choose advanced
   round-counted z h next claim s c = (λ i. record { refusal = 0; verdict = Holds; next = (s ∙ ap (counted r e) c) i }) ∙ sym (made z true h)
 
@@ -117,6 +121,7 @@ module _ (r : Session) (f : List ℤ) (key : List ℕ) where
   unfolding close refusedMove
   end-refused n e s = (λ i. record { refusal = e i; verdict = Silent; next = r }) ∙ sym (granted-refused (closeRefusal r key) _ _ (λ z. s (e ∙ z)))
 
-  pub end-done : closeRefusal r key ≡ 0 → (b : Bool) → closeHolds r f key ≡ b → (next : Session) → next ≡ shut r → _≡_ {A = Moved} (record { refusal = 0; verdict = verdict b; next = next }) (close r f key)
+  pub end-done : closeRefusal r key ≡ 0 → (b : Bool) → closeHolds r f key ≡ b → (next : Session) → next ≡ shut r →
+      _≡_ {A = Moved} (record { refusal = 0; verdict = verdict b; next = next }) (close r f key)
   unfolding close
   end-done z b h next s = (λ i. record { refusal = 0; verdict = verdict (sym h i); next = s i }) ∙ sym (granted-zero (closeRefusal r key) _ _ z)

@@ -43,7 +43,8 @@ fn answer(
     last: &[i32],
 ) -> Verified
     requires { ⌜ Given settings (tablesOf (now key) [] (now commitment) (now rounds) (now challenges) (now last)) ⌝ }
-    ensures { λ r. ⌜ r ≡ choose (tablesAccepted settings (tablesOf (now (key .entry)) [] (now (commitment .entry)) (now (rounds .entry)) (now (challenges .entry)) (now (last .entry)))) Verified.Accepted Verified.Rejected ⌝ }
+    ensures { λ r. ⌜ r ≡ choose (tablesAccepted settings
+        (tablesOf (now (key .entry)) [] (now (commitment .entry)) (now (rounds .entry)) (now (challenges .entry)) (now (last .entry)))) Verified.Accepted Verified.Rejected ⌝ }
 {
     if !transcripts::accepted(settings, commitment, last, key, rounds, challenges) {
         return Verified::Rejected;
@@ -61,7 +62,8 @@ fn verify_in(
     challenges: &mut [u32],
     last: &mut [i32],
 ) -> Verified
-    requires { ⌜ (lookRefusal (now text) ≡ 0 → fits (settingsIn (linesOf (now text))) verifyReads (tablesOf (now key) (now message) (now commitment) (now rounds) (now challenges) (now last)) ≡ true) ⌝ }
+    requires { ⌜ (lookRefusal (now text) ≡ 0 →
+        fits (settingsIn (linesOf (now text))) verifyReads (tablesOf (now key) (now message) (now commitment) (now rounds) (now challenges) (now last)) ≡ true) ⌝ }
     ensures { λ r. ⌜ r ≡ verifyAnswer (now (text .entry)) ⌝ }
 {
     let loaded = table_reader::read(

@@ -19,7 +19,8 @@ returns-3 c = λ g. absurd (omega arith)
 
 returns-4 : tie.Need-returns-4
 unfolding endMet
-returns-4 c = λ g. let a = c .before .before .before .before .before .before .before .before .args in sym (ap (λ b. b && equationMet (a .settings) (a .claim .now) (signed (a .f .now)) (residue (a .g .now))) (sym (c .before .final-bounded .ensures (g .allowed)) ∙ not-true _ (c .if4 .taken)))
+returns-4 c = λ g. let a = c .before .before .before .before .before .before .before .before .args in
+    sym (ap (λ b. b && equationMet (a .settings) (a .claim .now) (signed (a .f .now)) (residue (a .g .now))) (sym (c .before .final-bounded .ensures (g .allowed)) ∙ not-true _ (c .if4 .taken)))
 
 returns-5 : tie.Need-returns-5
 unfolding endMet

@@ -11,7 +11,11 @@ returns c = λ g.
     let a = c .before .before .before .before .args in
     let r = ready (a .settings) (g .allowed) in
     let all = c .before .left .ensures (record { allowed = g .allowed; most = omega arith }) in
-    c .product-is .ensures (final-summable (a .settings) r (a .f .now) (g .bounded) (a .g .now) (omega arith) (omega arith), omega arith, power-most (a .settings) r (a .f .now) (g .bounded) (a .g .now) (a .claim .now) _ all)
+    c .product-is .ensures (
+      final-summable (a .settings) r (a .f .now) (g .bounded) (a .g .now) (omega arith) (omega arith),
+      omega arith,
+      power-most (a .settings) r (a .f .now) (g .bounded) (a .g .now) (a .claim .now) _ all,
+    )
     ∙ equation-is (a .settings) r (a .f .now) (g .bounded) (a .g .now) (a .claim .now) _ all
 
 pub equation-met-spec : {M : Type 1} → statement M

@@ -24,7 +24,8 @@ mul-power : tie.Need-mul-power Inv-loop μ-loop
 mul-power c = omega (arith, mul-le-mul {n₁ = c .before .loop .power} {m₁ = (c .before .before .before .args .q + 1) / 2} {n₂ = 4294967295} {m₂ = 4294967295} (omega arith) (omega arith))
 
 loop-again : tie.Need-loop-again Inv-loop μ-loop
-loop-again c = let l = c .before .loop in let a = c .before .before .before .args in (omega arith, omega arith, mod-lt _ (omega arith), power-next (a .q) ((a .q + 1) / 2) (l .power) (l .i) (omega arith) (l .inv .3))
+loop-again c = let l = c .before .loop in let a = c .before .before .before .args in
+    (omega arith, omega arith, mod-lt _ (omega arith), power-next (a .q) ((a .q + 1) / 2) (l .power) (l .i) (omega arith) (l .inv .3))
 
 returns-2 : tie.Need-returns-2 Inv-loop μ-loop
 returns-2 c = λ h. let l = c .before .loop in let a = c .before .before .before .args in l .inv .3 ∙ ap (λ n. ((a .q + 1) / 2) ^ n % a .q) (omega arith)

@@ -41,7 +41,8 @@ unfolding roundHolds doubled modulo residue
 returns-5 c = λ g. let l = c .before .before .before .before .before .before .loop in every-fails _ _ (l .k) (omega arith) (sym (c .before .doubled-is .ensures) ∙ not-true _ (c .if5 .taken))
 
 loop-again : tie.Need-loop-again Inv-loop μ-loop
-loop-again c = let l = c .before .before .before .before .before .before .loop in (omega arith, omega arith, omega arith, omega arith, omega arith, every-goes-on _ (l .k) (l .inv .5) (sym (c .before .doubled-is .ensures) ∙ not-false _ (c .if5 .left)))
+loop-again c = let l = c .before .before .before .before .before .before .loop in
+    (omega arith, omega arith, omega arith, omega arith, omega arith, every-goes-on _ (l .k) (l .inv .5) (sym (c .before .doubled-is .ensures) ∙ not-false _ (c .if5 .left)))
 
 returns-6 : tie.Need-returns-6 Inv-loop μ-loop
 unfolding roundHolds doubled modulo residue

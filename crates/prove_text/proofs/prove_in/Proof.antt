@@ -27,7 +27,8 @@ module _ (c : tie.After-read) where
   t = tablesOf (start .args .key .now) (start .args .message .now) [] [] (start .args .challenges .now) []
 
   abbrev t′ : Tables
-  t′ = tablesOf (c .read .last .1 .1 .0) (c .read .last .1 .1 .1 .0) (c .read .last .1 .1 .1 .1 .0) (c .read .last .1 .1 .1 .1 .1 .0) (c .read .last .1 .1 .1 .1 .1 .1 .0) (c .read .last .1 .1 .1 .1 .1 .1 .1 .0)
+  t′ = tablesOf (c .read .last .1 .1 .0) (c .read .last .1 .1 .1 .0) (c .read .last .1 .1 .1 .1 .0) (c .read .last .1 .1 .1 .1 .1 .0) (c .read .last .1 .1 .1 .1 .1 .1 .0)
+      (c .read .last .1 .1 .1 .1 .1 .1 .1 .0)
 
   fit : lookRefusal text ≡ 0 → fits (settingsIn (linesOf text)) proveReads t ≡ true
   fit = start .pre .0

@@ -58,7 +58,8 @@ module _ {M : Type 1} (𝓤 : URA M) (H : Heap 𝓤) (A : Atoms 𝓤) (W : Given
   exits : Is Elements field (spelled field ∷ []) → ent 𝓤 (sem 𝓤 H A (T.the-row .own answer (value ∷ []))) (Post (spelled field))
   exits is =
       qed W (‵ (T.the-row .own answer (value ∷ [])) ∷ []) ∵
-      suffices ! _ (ends-at 𝓤 H A elements-of.ended stayed (elements-of.clauses 𝓤 H A mem run) W ((tt, tt, tt, (answer, tt), (value ∷ [], tt)), tt) (spelled field) field (tt, tt) (tt, tt)) $ says ! (same-twice (answer .elements)) $
+      suffices ! _ (ends-at 𝓤 H A elements-of.ended stayed (elements-of.clauses 𝓤 H A mem run) W ((tt, tt, tt, (answer, tt), (value ∷ [], tt)), tt) (spelled field) field
+      (tt, tt) (tt, tt)) $ says ! (same-twice (answer .elements)) $
       nothing ! $ move ! (1 ∷ 0 ∷ []) $ fjoin ! $
       owned ! Elements (Is Elements) (array-makes 𝓤 H A W (Array u32 64) (array-makes 𝓤 H A W u32 (uint-makes 𝓤 H A W w32) 64) 3) field _ is $
       move ! (1 ∷ 0 ∷ []) $ nothing ! $ done !
@@ -74,7 +75,8 @@ module _ {M : Type 1} (𝓤 : URA M) (H : Heap 𝓤) (A : Atoms 𝓤) (W : Given
 
 module _ {M : Type 1} (𝓤 : URA M) (H : Heap 𝓤) (A : Atoms 𝓤) (W : Given 𝓤 H A) (mem : Memory → SProp 𝓤) (run : Routine → Fun 𝓤) where
   walks : (C : Calls 𝓤 H) (Λ : Loops 𝓤 H) → Walks 𝓤 H A elements-of.ended stayed (WpFn 𝓤 H C Λ code.function) (elements-of.clauses 𝓤 H A mem run)
-  walks C Λ = walked 𝓤 H A elements-of.ended stayed (elements-of.clauses 𝓤 H A mem run) (WpFn 𝓤 H C Λ code.function) (λ κs. (LL.vals T.the-type T′.the-laws, tt)) (λ κs. (LL.tells T.the-type T′.the-laws, tt))
+  walks C Λ = walked 𝓤 H A elements-of.ended stayed (elements-of.clauses 𝓤 H A mem run) (WpFn 𝓤 H C Λ code.function) (λ κs. (LL.vals T.the-type T′.the-laws, tt))
+      (λ κs. (LL.tells T.the-type T′.the-laws, tt))
       (λ κs qs bounds a g are. via 𝓤 _ (fst∗ 𝓤 _ (emp 𝓤)) (walk 𝓤 H A W mem run (a .0) C Λ (are .0) (LL.lawful T.the-type T′.the-laws 𝓤 H A W .typed (a .0) _ (are .0) .0)))
 
 meets : {M : Type 1} (𝓤 : URA M) (H : Heap 𝓤) (A : Atoms 𝓤) → Given 𝓤 H A → (mem : Memory → SProp 𝓤) (run : Routine → Fun 𝓤) (𝓣 : Tables 𝓤 H)

@@ -64,7 +64,8 @@ module _ {M : Type 1} (𝓤 : URA M) (H : Heap 𝓤) (A : Atoms 𝓤) (W : Given
   exits : ent 𝓤 (sep 𝓤 (sem 𝓤 H A (u32 .own number (vint w32 number ∷ []))) (sem 𝓤 H A (Elements .own elements (spelled elements ∷ [])))) (Post (value elements))
   exits =
       qed W (‵ (u32 .own number (vint w32 number ∷ [])) ∷ ‵ (Elements .own elements (spelled elements ∷ [])) ∷ []) ∵
-      suffices ! _ (ends-at 𝓤 H A polynomial-of.ended stayed (polynomial-of.clauses 𝓤 H A mem run) W ((tt, tt, tt, (number, (elements, tt)), passed), tt) (value elements) answer (tt, (tt, tt)) (tt, (tt, tt))) $ says ! (refl, refl) $
+      suffices ! _ (ends-at 𝓤 H A polynomial-of.ended stayed (polynomial-of.clauses 𝓤 H A mem run) W ((tt, tt, tt, (number, (elements, tt)), passed), tt)
+      (value elements) answer (tt, (tt, tt)) (tt, (tt, tt))) $ says ! (refl, refl) $
       nothing ! $ move ! (2 ∷ 0 ∷ []) $ fjoin ! $ move ! (1 ∷ 0 ∷ []) $ fjoin ! $
       owned ! T.the-row (Is T.the-row) (LL.makes T.the-type T′.the-plain 𝓤 H A) answer _ made $
       move ! (1 ∷ 0 ∷ []) $ nothing ! $ done !
@@ -88,7 +89,8 @@ module _ {M : Type 1} (𝓤 : URA M) (H : Heap 𝓤) (A : Atoms 𝓤) (W : Given
 meets : {M : Type 1} (𝓤 : URA M) (H : Heap 𝓤) (A : Atoms 𝓤) → Given 𝓤 H A → (mem : Memory → SProp 𝓤) (run : Routine → Fun 𝓤) (𝓣 : Tables 𝓤 H)
     → Meets 𝓤 H A polynomial-of.signature (WpFn 𝓤 H (𝓣 .C) (𝓣 .Λ) code.function) (polynomial-of.spec 𝓤 H A mem run)
 meets 𝓤 H A W mem run 𝓣 =
-    walk-meets 𝓤 H A polynomial-of.ended stayed W (goes-none 𝓤 H A W 0 (λ _. u32) yes (λ κs x f. refl), (goes-none 𝓤 H A W 0 (λ _. Elements) yes (λ κs x f. refl), tt)) (polynomial-of.clauses 𝓤 H A mem run)
+    walk-meets 𝓤 H A polynomial-of.ended stayed W (goes-none 𝓤 H A W 0 (λ _. u32) yes (λ κs x f. refl), (goes-none 𝓤 H A W 0 (λ _. Elements) yes (λ κs x f. refl), tt))
+    (polynomial-of.clauses 𝓤 H A mem run)
     (WpFn 𝓤 H (𝓣 .C) (𝓣 .Λ) code.function) (WpFn-mono 𝓤 H (W .laws) 𝓣 code.function) (walks 𝓤 H A W mem run (𝓣 .C) (𝓣 .Λ))
 
 pub polynomial-of-spec : {M : Type 1} → stated.statement M

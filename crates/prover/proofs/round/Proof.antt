@@ -24,13 +24,15 @@ half-is c = c .half-left .ensures (record { allowed = given (c .before) .tables 
 
 returns : tie.Need-returns
 unfolding noPolynomial tabulate zeros width
-returns c = let a = c .before .before .before .before .args in round-refused (a .settings) (a .done) (a .key .now) (a .message .now) _ _ (c .before .before .round .ensures) (c .before .if1 .taken) (c .polynomial-of .ensures .0) (c .polynomial-of .ensures .1)
+returns c = let a = c .before .before .before .before .args in
+    round-refused (a .settings) (a .done) (a .key .now) (a .message .now) _ _ (c .before .before .round .ensures) (c .before .if1 .taken) (c .polynomial-of .ensures .0) (c .polynomial-of .ensures .1)
 
 add-half-power : tie.Need-add-half-power
 add-half-power c = let g = given (c .before) in omega (arith, g .turn, g .tables .settings .depth-most)
 
 polynomial-requires : tie.Need-polynomial-requires
-polynomial-requires c κs = let h = c .before in let a = h .before .before .before .before .args in rw (half-is h) (round-tables (a .settings) (a .done) (a .key .now) (a .message .now) (given (h .before)))
+polynomial-requires c κs = let h = c .before in let a = h .before .before .before .before .args in
+    rw (half-is h) (round-tables (a .settings) (a .done) (a .key .now) (a .message .now) (given (h .before)))
 
 returns-2 : tie.Need-returns-2
 returns-2 c =

@@ -48,7 +48,8 @@ unfolding lengthsOf
 returns-2 c =
     let f = c .before .before in
     let g = f .before .before .before .before .before in
-    read-refused-entries (P g) (text g) (t g) (g .read-values .result) (values g) (gathered g) (f .before .before .if1 .left) (f .refusal .result) (f .refusal .ensures) (c .refused .result) (c .refused .ensures)
+    read-refused-entries (P g) (text g) (t g) (g .read-values .result) (values g) (gathered g) (f .before .before .if1 .left) (f .refusal .result) (f .refusal .ensures)
+    (c .refused .result) (c .refused .ensures)
     (c .before .if2 .taken)
 
 all-requires : tie.Need-all-requires

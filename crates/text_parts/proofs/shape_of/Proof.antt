@@ -38,14 +38,16 @@ unfolding partShape shapes size
 returns-2 c =
     let a = c .before .before .before .args in
     let h : a .settings .depth ≤ 8 = omega arith in
-    c .part-of .ensures ∙ (λ j. shape 1 (a .parts .key) (shifted (a .settings .depth) h j) (a .settings .degree)) ∙ sym (ap (partShape (a .settings) (a .parts)) (c .before .match .keys1)) ∙ sym (part-of (a .settings) (a .parts) (a .part) h)
+    c .part-of .ensures ∙ (λ j. shape 1 (a .parts .key) (shifted (a .settings .depth) h j) (a .settings .degree))
+    ∙ sym (ap (partShape (a .settings) (a .parts)) (c .before .match .keys1)) ∙ sym (part-of (a .settings) (a .parts) (a .part) h)
 
 returns-3 : tie.Need-returns-3
 unfolding partShape shapes size
 returns-3 c =
     let a = c .before .before .before .args in
     let h : a .settings .depth ≤ 8 = omega arith in
-    c .part-of2 .ensures ∙ (λ j. shape 2 (a .parts .message) (shifted (a .settings .depth) h j) (a .settings .degree)) ∙ sym (ap (partShape (a .settings) (a .parts)) (c .before .match .keys2)) ∙ sym (part-of (a .settings) (a .parts) (a .part) h)
+    c .part-of2 .ensures ∙ (λ j. shape 2 (a .parts .message) (shifted (a .settings .depth) h j) (a .settings .degree))
+    ∙ sym (ap (partShape (a .settings) (a .parts)) (c .before .match .keys2)) ∙ sym (part-of (a .settings) (a .parts) (a .part) h)
 
 returns-4 : tie.Need-returns-4
 unfolding partShape shapes size

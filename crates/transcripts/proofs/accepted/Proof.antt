@@ -19,7 +19,8 @@ slice-aggregate-end-holds-for-key : tie.Need-slice-aggregate-end-holds-for-key
 slice-aggregate-end-holds-for-key c = search needs
 
 -- the claim has room for an element
-wide : (c : tie.After-rounds-hold) → let S = c .before .before .before .before .before .before .before .args .settings in settingsRefusal S ≡ 0 → S .degree ≤ length (c .before .before .element-at .result)
+wide : (c : tie.After-rounds-hold) → let S = c .before .before .before .before .before .before .before .args .settings in
+    settingsRefusal S ≡ 0 → S .degree ≤ length (c .before .before .element-at .result)
 wide c e = omega (arith, slice-aggregate-rounds-hold (c .before), degree-most _ (settings-valid _ e))
 
 returns : tie.Need-returns

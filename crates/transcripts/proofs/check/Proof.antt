@@ -15,7 +15,8 @@ none c = sym (c .before .check .ensures) ∙ c .if1 .left
 slice-aggregate-accepted-2 : tie.Need-slice-aggregate-accepted-2
 slice-aggregate-accepted-2 c = search needs
 
-says : (c : tie.After-accepted) → let a = c .before .before .before .before .before .before .before .before .args in c .accepted .result ≡ accepted (a .settings) (a .key .now) (T (a .settings) (a .t2) (a .key .now) (a .rounds .now) (a .challenges .now) (a .t3))
+says : (c : tie.After-accepted) → let a = c .before .before .before .before .before .before .before .before .args in
+    c .accepted .result ≡ accepted (a .settings) (a .key .now) (T (a .settings) (a .t2) (a .key .now) (a .rounds .now) (a .challenges .now) (a .t3))
 says c =
     let a = c .before .before .before .before .before .before .before .before .args in
     c .accepted .ensures (passed (a .settings) (a .t2) (a .key .now) (a .rounds .now) (a .challenges .now) _ (sym (slice-aggregate-accepted-2 (c .before))) (none (c .before .before .before)))

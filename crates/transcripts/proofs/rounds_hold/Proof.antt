@@ -36,7 +36,8 @@ returns c = λ g.
     let a = c .before .before .before .before .before .before .before .before .args in
     let S = a .settings in
     let held = l .inv .2 g in
-    let says = c .before .polynomial-holds .ensures (round-read S (a .rounds .now) _ _ g (l .inv .1) (l .t) (omega arith)) ∙ round-is S (a .claim .now) (a .rounds .now) (a .challenges .now) (l .t) (l .claim) (held .1) in
+    let says = c .before .polynomial-holds .ensures (round-read S (a .rounds .now) _ _ g (l .inv .1) (l .t) (omega arith))
+    ∙ round-is S (a .claim .now) (a .rounds .now) (a .challenges .now) (l .t) (l .claim) (held .1) in
     record { every-round = every-fails _ _ (l .t) (omega arith) (sym says ∙ not-true _ (c .if1 .taken)); claim-is = λ e. absurd (true≢false (sym e)) }
 
 loop-again : tie.Need-loop-again Inv-loop μ-loop
@@ -49,9 +50,11 @@ loop-again c =
       n .kept .1 .1 .1 .1 .0 ∙ l .inv .1,
       λ g.
           let held = l .inv .2 g in
-          let says = c .before .before .before .before .before .before .polynomial-holds .ensures (round-read S (a .rounds .now) _ _ g (l .inv .1) (l .t) (omega arith)) ∙ round-is S (a .claim .now) (a .rounds .now) (a .challenges .now) (l .t) (l .claim) (held .1) in (
+          let says = c .before .before .before .before .before .before .polynomial-holds .ensures (round-read S (a .rounds .now) _ _ g (l .inv .1) (l .t) (omega arith))
+          ∙ round-is S (a .claim .now) (a .rounds .now) (a .challenges .now) (l .t) (l .claim) (held .1) in (
             every-goes-on _ (l .t) (held .0) (sym says ∙ not-false _ (c .before .before .before .before .before .if1 .left)),
-            claim-goes-on S (a .claim .now) (a .rounds .now) (a .challenges .now) (l .t) (c .before .before .before .before .entry .ensures) (n .last .1 .1 .1 .1 .0) (n .ensures (claim-read S (a .rounds .now) _ _ g (l .inv .1) (l .t) (omega arith))),
+            claim-goes-on S (a .claim .now) (a .rounds .now) (a .challenges .now) (l .t) (c .before .before .before .before .entry .ensures) (n .last .1 .1 .1 .1 .0)
+                (n .ensures (claim-read S (a .rounds .now) _ _ g (l .inv .1) (l .t) (omega arith))),
           ),
     )
 

@@ -25,7 +25,8 @@ module _ (c : tie.After-read) where
   t = tablesOf (start .args .key .now) (start .args .message .now) (start .args .commitment .now) (start .args .rounds .now) (start .args .challenges .now) (start .args .last .now)
 
   abbrev t′ : Tables
-  t′ = tablesOf (c .read .last .1 .1 .0) (c .read .last .1 .1 .1 .0) (c .read .last .1 .1 .1 .1 .0) (c .read .last .1 .1 .1 .1 .1 .0) (c .read .last .1 .1 .1 .1 .1 .1 .0) (c .read .last .1 .1 .1 .1 .1 .1 .1 .0)
+  t′ = tablesOf (c .read .last .1 .1 .0) (c .read .last .1 .1 .1 .0) (c .read .last .1 .1 .1 .1 .0) (c .read .last .1 .1 .1 .1 .1 .0) (c .read .last .1 .1 .1 .1 .1 .1 .0)
+      (c .read .last .1 .1 .1 .1 .1 .1 .1 .0)
 
   fit : lookRefusal text ≡ 0 → fits (settingsIn (linesOf text)) verifyReads t ≡ true
   fit = start .pre
@@ -47,7 +48,8 @@ lengths c =
     λ j. key j ∷ message j ∷ commitment j ∷ rounds j ∷ challenges j ∷ last j ∷ []
 
 returns : tie.Need-returns
-returns c = let r = c .before .before .before .before .before .before .before .before .before .before .before .before in verify-refused (text r) (t r) (t′ r) (fit r) (r .read .result) (promise r) (c .if1 .taken)
+returns c = let r = c .before .before .before .before .before .before .before .before .before .before .before .before in
+    verify-refused (text r) (t r) (t′ r) (fit r) (r .read .result) (promise r) (c .if1 .taken)
 
 answer-requires : tie.Need-answer-requires
 answer-requires c κs =

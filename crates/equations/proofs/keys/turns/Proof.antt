@@ -29,8 +29,18 @@ abbrev μ-loop : tie.MeasureT-loop
 
 loop-holds : tie.Need-loop-holds Inv-loop μ-loop
 loop-holds c =
-    let a = c .before .before .before .args in
-    (omega arith, omega arith, omega arith, omega arith, omega arith, omega arith, refl, search needs, λ e. turned-none (2 * a .settings .degree) (a .settings .depth) (omega arith) (a .challenges .now) (a .x .now) e)
+    let a = c .before .before .before .args in (
+      omega arith,
+      omega arith,
+      omega arith,
+      omega arith,
+      omega arith,
+      omega arith,
+      refl,
+      search needs,
+      λ e. turned-none (2 * a .settings .degree) (a .settings .depth)
+          (omega arith) (a .challenges .now) (a .x .now) e,
+    )
 
 second-half-requires : tie.Need-second-half-requires Inv-loop μ-loop
 second-half-requires c κs =

@@ -18,7 +18,8 @@ met : (c : tie.After-end-holds) → let a = c .before .before .before .before .b
     settingsRefusal (a .settings) ≡ 0 → c .end-holds .result ≡ endMet (a .settings) (a .ended .claim) (signed (a .last)) (residue (elementAt (a .settings .degree) (a .key .now) 0))
 met c e =
     let a = c .before .before .before .before .before .before .args in
-    c .end-holds .ensures e ∙ ap (λ g. endMet (a .settings) (a .ended .claim) (signed (a .last)) (residue g)) (c .before .before .element-at .ensures (degree-most (a .settings) (settings-valid (a .settings) e)))
+    c .end-holds .ensures e ∙ ap (λ g. endMet (a .settings) (a .ended .claim) (signed (a .last)) (residue g))
+    (c .before .before .element-at .ensures (degree-most (a .settings) (settings-valid (a .settings) e)))
 
 returns : tie.Need-returns
 unfolding verdict choose
@@ -32,7 +33,8 @@ end-holds-requires c κs = search needs
 
 returns-2 : tie.Need-returns-2
 unfolding verdict choose
-returns-2 c = λ e. let a = c .before .before .before .before .before .before .before .args in sym (ap verdict (and-intro (not-false (a .ended .holds) (c .before .before .before .before .if1 .left)) (sym (met (c .before) e) ∙ c .if2 .taken)))
+returns-2 c = λ e. let a = c .before .before .before .before .before .before .before .args in
+    sym (ap verdict (and-intro (not-false (a .ended .holds) (c .before .before .before .before .if1 .left)) (sym (met (c .before) e) ∙ c .if2 .taken)))
 
 returns-3 : tie.Need-returns-3
 unfolding verdict choose

@@ -14,7 +14,8 @@ use borrow.Author.Needs.{needs}
 use Rattle.opening.proofs.storage.write_first.Statement.{statement}
 use Rattle.opening.proofs.storage.write_first.Tie as tie
 
-place : (c : tie.After-polynomial-at) → let a = c .before .before .before .before .before .args in roundRefusal (a .settings) (a .t) (a .key .now) (a .message .now) ≡ 0 → c .polynomial-at .result ≡ polynomialAt (a .settings .degree) (a .t)
+place : (c : tie.After-polynomial-at) → let a = c .before .before .before .before .before .args in roundRefusal (a .settings) (a .t) (a .key .now) (a .message .now) ≡ 0 →
+    c .polynomial-at .result ≡ polynomialAt (a .settings .degree) (a .t)
 place c z =
     let a = c .before .before .before .before .before .args in
     let g = round-given (a .settings) (a .key .now) (a .message .now) (a .t) z in

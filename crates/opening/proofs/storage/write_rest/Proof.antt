@@ -16,7 +16,8 @@ use Rattle.opening.proofs.storage.write_rest.Statement.{statement}
 use Rattle.opening.proofs.storage.write_rest.Tie as tie
 
 place : (c : tie.After-polynomial-at) → let a = c .before .before .before .args in
-    Continuing (a .settings) (a .t) (a .key .now) (a .message .now) (a .t5) (drop (polynomialAt (a .settings .degree) (a .t)) (a .rounds .now)) → c .polynomial-at .result ≡ polynomialAt (a .settings .degree) (a .t)
+    Continuing (a .settings) (a .t) (a .key .now) (a .message .now) (a .t5) (drop (polynomialAt (a .settings .degree) (a .t)) (a .rounds .now)) →
+    c .polynomial-at .result ≡ polynomialAt (a .settings .degree) (a .t)
 place c z =
     let a = c .before .before .before .args in
     let g = round-given (a .settings) (a .key .now) (a .message .now) (a .t) (z .passed) in

@@ -52,7 +52,8 @@ abbrev verifier-calls : ℕ → verifier-turn-lts.Claims
 verifier-calls t = (check-round-reads.Asked, check-round-reads.Learnt, prover-turn-below t, prover-turn.Post)
 
 prover-turn-returns : (t : ℕ) → prover-turn-lts.Need-returns (prover-calls t) (prover-turn-at t) prover-turn.Post
-prover-turn-returns t c = let a = c .before .before .before .before .before .args in prover-stops (a .settings) (a .challenges .now) (a .state) (a .key .now) (a .message .now) (a .rounds .now) (omega arith)
+prover-turn-returns t c = let a = c .before .before .before .before .before .args in
+    prover-stops (a .settings) (a .challenges .now) (a .state) (a .key .now) (a .message .now) (a .rounds .now) (omega arith)
 
 prover-turn-cast-entry : (t : ℕ) → prover-turn-lts.Need-cast-entry (prover-calls t) (prover-turn-at t) prover-turn.Post
 prover-turn-cast-entry t c = search needs
@@ -102,7 +103,8 @@ verifier-turn-same-length-3 t c = search needs
 verifier-turn-returns : (t : ℕ) → verifier-turn-lts.Need-returns (verifier-calls t) (verifier-turn-at t) verifier-turn.Post
 verifier-turn-returns t c =
     let a = c .before .before .before .before .before .before .before .before .before .before .before .before .before .args in
-    verifier-goes (a .settings) (a .challenges .now) (a .state) (a .key .now) (a .message .now) (a .rounds .now) (omega arith) (a .polynomial) (a .e) _ _ _ _ _ (c .before .before .before .before .before .before .before .before .before .check-round .ensures .1) (c .before .before .before .before .before .prover-turn .ensures)
+    verifier-goes (a .settings) (a .challenges .now) (a .state) (a .key .now) (a .message .now) (a .rounds .now) (omega arith) (a .polynomial) (a .e) _ _ _ _ _
+    (c .before .before .before .before .before .before .before .before .before .check-round .ensures .1) (c .before .before .before .before .before .prover-turn .ensures)
 
 pub +prover-turn+verifier-turn-spec : {M : Type 1} → statement M
 +prover-turn+verifier-turn-spec = close μ-prover-turn μ-verifier-turn (λ t. prover-turn-lts.spec (prover-calls t)

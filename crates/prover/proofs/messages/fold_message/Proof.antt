@@ -72,7 +72,8 @@ add-message : tie.Need-add-message Inv-loop μ-loop
 add-message c = plus-fits (old c) (c .before .rotated .result) (room c)
 
 next-place-requires : tie.Need-next-place-requires Inv-loop μ-loop
-next-place-requires c κs = let l = c .before .before .before .before .before .loop in let s = c .before .before .before .before .before .before in omega (arith, l .inv .3, mod-lt (l .p) (s .pre .0 .0))
+next-place-requires c κs = let l = c .before .before .before .before .before .loop in let s = c .before .before .before .before .before .before in
+    omega (arith, l .inv .3, mod-lt (l .p) (s .pre .0 .0))
 
 loop-again : tie.Need-loop-again Inv-loop μ-loop
 loop-again c =

@@ -20,17 +20,20 @@ returns c =
     read-is _ (small s (s .args .k - s .args .e) (omega arith)) ∙ sym (rotate-plus _ _ (from (s .args .t .now) (s .args .row)) _ (s .pre .1) (s .pre .0) (c .before .if1 .taken))
 
 sub-result-2 : tie.Need-sub-result-2
-sub-result-2 c = let s = c .before .before .before in minus-fits (from (s .args .t .now) (s .args .row) (s .args .k + s .args .d - s .args .e)) (small s (s .args .k + s .args .d - s .args .e) (omega arith))
+sub-result-2 c = let s = c .before .before .before in
+    minus-fits (from (s .args .t .now) (s .args .row) (s .args .k + s .args .d - s .args .e)) (small s (s .args .k + s .args .d - s .args .e) (omega arith))
 
 returns-2 : tie.Need-returns-2
 returns-2 c =
     let s = c .before .before .before in
-    minus-is (from (s .args .t .now) (s .args .row) (s .args .k + s .args .d - s .args .e)) (small s (s .args .k + s .args .d - s .args .e) (omega arith)) ∙ sym (rotate-minus _ _ (from (s .args .t .now) (s .args .row)) _ (s .pre .1) (s .pre .0) (c .before .before .if1 .left) (c .before .if2 .taken))
+    minus-is (from (s .args .t .now) (s .args .row) (s .args .k + s .args .d - s .args .e)) (small s (s .args .k + s .args .d - s .args .e) (omega arith))
+    ∙ sym (rotate-minus _ _ (from (s .args .t .now) (s .args .row)) _ (s .pre .1) (s .pre .0) (c .before .before .if1 .left) (c .before .if2 .taken))
 
 returns-3 : tie.Need-returns-3
 returns-3 c =
     let s = c .before .before .before in
-    read-is _ (small s (s .args .k + s .args .d + s .args .d - s .args .e) (omega arith)) ∙ sym (rotate-again _ _ (from (s .args .t .now) (s .args .row)) _ (s .pre .1) (s .pre .0) (c .before .if2 .left))
+    read-is _ (small s (s .args .k + s .args .d + s .args .d - s .args .e) (omega arith))
+    ∙ sym (rotate-again _ _ (from (s .args .t .now) (s .args .row)) _ (s .pre .1) (s .pre .0) (c .before .if2 .left))
 
 pub rotated-spec : {M : Type 1} → statement M
 rotated-spec =

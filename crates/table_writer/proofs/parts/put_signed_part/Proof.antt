@@ -74,7 +74,8 @@ loop-again c =
       l .inv .1,
       same ∙ l .inv .2,
       c .next-cell .ensures ∙ next-cell _ _ within few (l .p) (l .inv .3),
-      upto-line b (a .values .now) (a .from) (a .out .now) (l .p) (l .at) (l .out) (l .inv .4) (l .cell) (toZ w32 (ofZ w32 (getD (a .values .now) (l .p) (pos 0)))) inside (omega arith) (l .inv .3) (through-bits w32 (getD (a .values .now) (l .p) (pos 0)) (w .before .before .put-signed-arg .given)) (w .put-signed .ensures),
+      upto-line b (a .values .now) (a .from) (a .out .now) (l .p) (l .at) (l .out) (l .inv .4) (l .cell) (toZ w32 (ofZ w32 (getD (a .values .now) (l .p) (pos 0)))) inside
+          (omega arith) (l .inv .3) (through-bits w32 (getD (a .values .now) (l .p) (pos 0)) (w .before .before .put-signed-arg .given)) (w .put-signed .ensures),
     )
 
 returns-2 : tie.Need-returns-2 Inv-loop μ-loop

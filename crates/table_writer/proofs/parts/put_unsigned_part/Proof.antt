@@ -39,7 +39,8 @@ module _ (c : tie.After-shape-of Inv-loop μ-loop) where
   shaped = c .before .before .before .pre .2 ∙ sym (ap shapeSize shape-is)
 
   finished : {r : ℕ} {out : List ℕ} → let a = c .before .before .before .args in
-      Adds (a .out .now) (a .from) (partText (asShape (c .shape-of .result)) (map pos (a .values .now))) r out → Adds (a .out .now) (a .from) (partText (partShape S P (a .part)) (map pos (a .values .now))) r out
+      Adds (a .out .now) (a .from) (partText (asShape (c .shape-of .result)) (map pos (a .values .now))) r out →
+      Adds (a .out .now) (a .from) (partText (partShape S P (a .part)) (map pos (a .values .now))) r out
   finished {r} {out} h = let a = c .before .before .before .args in subst (λ b. Adds (a .out .now) (a .from) (partText b (map pos (a .values .now))) r out) shape-is h
 
 loop-holds : tie.Need-loop-holds Inv-loop μ-loop
@@ -71,7 +72,8 @@ loop-again c =
       l .inv .1,
       same ∙ l .inv .2,
       c .next-cell .ensures ∙ next-cell _ _ within few (l .p) (l .inv .3),
-      upto-line b (map pos (a .values .now)) (a .from) (a .out .now) (l .p) (l .at) (l .out) (l .inv .4) (l .cell) (pos (getD (a .values .now) (l .p) 0)) inside (omega arith) (l .inv .3) (sym (List·getD-map pos (a .values .now) (l .p) 0)) (w .put-unsigned .ensures),
+      upto-line b (map pos (a .values .now)) (a .from) (a .out .now) (l .p) (l .at) (l .out) (l .inv .4) (l .cell) (pos (getD (a .values .now) (l .p) 0)) inside
+          (omega arith) (l .inv .3) (sym (List·getD-map pos (a .values .now) (l .p) 0)) (w .put-unsigned .ensures),
     )
 
 returns-2 : tie.Need-returns-2 Inv-loop μ-loop

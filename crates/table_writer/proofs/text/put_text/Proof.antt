@@ -15,7 +15,8 @@ returns c =
     let m₁ = o .before .before .before .before in
     let s = m₁ .before .before .before .before in
     let a = s .before .before .before .before .before .before .before .args in
-    subst (λ l. Held l (m₂ .put-mixed2 .result) (m₂ .put-mixed2 .last .1 .1 .1 .1 .1 .1 .0)) (text-parts (a .settings) (a .parts) (tablesOf (a .key .now) (a .message .now) (a .commitment .now) (a .rounds .now) (a .challenges .now) (a .last .now)))
+    subst (λ l. Held l (m₂ .put-mixed2 .result) (m₂ .put-mixed2 .last .1 .1 .1 .1 .1 .1 .0))
+    (text-parts (a .settings) (a .parts) (tablesOf (a .key .now) (a .message .now) (a .commitment .now) (a .rounds .now) (a .challenges .now) (a .last .now)))
     (m₂ .put-mixed2 .ensures _ (r .put-unsigned-part2 .ensures _ (o .put-unsigned-part .ensures _ (m₁ .put-mixed .ensures _ (s .put-settings .ensures)))))
 
 pub put-text-spec : {M : Type 1} → statement M

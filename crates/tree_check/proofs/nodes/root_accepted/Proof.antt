@@ -68,8 +68,11 @@ subtree-accepted-requires : tie.Need-subtree-accepted-requires
 subtree-accepted-requires c κs =
     let s = c .before .before .before .before .before .before .before .before .before .before in
     let S = s .args .settings in
-    let T = s .pre .0 in
-    ((T, omega (arith, degree-most S (settings-valid S (T .allowed)))), at-root S _ _ (c .before .before .before .before .before .before .nodes .ensures .0 (T .allowed)) (lent (c .before .before) ∙ ap (λ x. 2 * x) (s .pre .1)))
+    let T = s .pre .0 in (
+      (T, omega (arith, degree-most S (settings-valid S (T .allowed)))),
+      at-root S _ _ (c .before .before .before .before .before .before .nodes .ensures .0 (T .allowed))
+          (lent (c .before .before) ∙ ap (λ x. 2 * x) (s .pre .1)),
+    )
 
 returns : tie.Need-returns
 returns c = λ g.
@@ -81,7 +84,8 @@ returns c = λ g.
       rounds-below = below-everywhere (S .modulus) _ (a .rounds .now) pq (g .rounds-below);
       key-below = root-read S (a .key .now) _ (length (a .key .now)) (s .pre .1) (has-key (c .before .before .before .before)) (below-everywhere (S .modulus) _ (a .key .now) pq (g .key-below));
     })
-    ∙ root-tests (a .settings) (a .rounds .now) (a .challenges .now) (a .leaves .now) (a .t2) (a .key .now) (take (2 * length (a .key .now)) (ws (c .before .before .before .before))) (length (a .key .now)) (s .pre .1) (has-key (c .before .before .before .before))
+    ∙ root-tests (a .settings) (a .rounds .now) (a .challenges .now) (a .leaves .now) (a .t2) (a .key .now)
+    (take (2 * length (a .key .now)) (ws (c .before .before .before .before))) (length (a .key .now)) (s .pre .1) (has-key (c .before .before .before .before))
 
 pub root-accepted-spec : {M : Type 1} → statement M
 root-accepted-spec =

@@ -28,7 +28,8 @@ slice-aggregate-end-holds-for-key-3 : tie.Need-slice-aggregate-end-holds-for-key
 slice-aggregate-end-holds-for-key-3 c = search needs
 
 -- the verdict is that of the last equation and the bound
-met : (c : tie.After-end-holds-for-key) → let a = c .before .before .before .before .before .before .before .before .before .before .before .before .args in c .end-holds-for-key .result ≡ closeHolds (a .self .0) (a .t2) (a .key .now)
+met : (c : tie.After-end-holds-for-key) → let a = c .before .before .before .before .before .before .before .before .before .before .before .before .args in
+    c .end-holds-for-key .result ≡ closeHolds (a .self .0) (a .t2) (a .key .now)
 unfolding closeHolds
 met c =
     let one = c .before .before .before .before .before .before .before .before in

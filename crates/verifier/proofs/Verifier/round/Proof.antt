@@ -36,7 +36,8 @@ returns-3 c =
     let one = c .before .before .before .before .before .before .before .before .before in
     let a = one .before .before .before .args in
     round-answered (a .self .0) (a .t2) (a .e) _
-    (round-counted (a .self .0) (a .t2) (a .e) (passed one) (sym (c .before .before .before .round-holds .ensures (given one .read .allowed)) ∙ not-false _ (c .before .before .if2 .left)) _ _ (c .counted .ensures) (c .before .next-claim .ensures (given one .read)))
+    (round-counted (a .self .0) (a .t2) (a .e) (passed one) (sym (c .before .before .before .round-holds .ensures (given one .read .allowed))
+    ∙ not-false _ (c .before .before .if2 .left)) _ _ (c .counted .ensures) (c .before .next-claim .ensures (given one .read)))
 
 pub round-spec : {M : Type 1} → statement M
 round-spec =
