@@ -25,13 +25,5 @@ returns c =
 pub doubled-spec : {M : Type 1} → statement M
 doubled-spec =
     tie.close
-    (tie.spec
-    (λ c. search needs)
-    (λ c. search needs)
-    (λ c κs. search needs)
-    mul-less-once
-    less-once-requires-2
-    returns
-    (λ c. search needs)
-    (λ c. search needs)
-    (λ c. search needs))
+    (tie.spec (λ c. search needs) (λ c. search needs) (λ c κs. search needs) mul-less-once less-once-requires-2 returns (λ c. search needs)
+    (λ c. search needs) (λ c. search needs))

@@ -33,17 +33,5 @@ returns-2 c = λ h. let l = c .before .loop in let a = c .before .before .before
 pub half-power-spec : {M : Type 1} → statement M
 half-power-spec =
     tie.close
-    (tie.spec
-    Inv-loop
-    μ-loop
-    returns
-    (λ c. search needs)
-    (λ c. search needs)
-    loop-holds
-    mul-power
-    (λ c. search needs)
-    (λ c. search needs)
-    (λ c. search needs)
-    loop-again
-    (λ c. search needs)
-    returns-2)
+    (tie.spec Inv-loop μ-loop returns (λ c. search needs) (λ c. search needs) loop-holds mul-power (λ c. search needs) (λ c. search needs)
+    (λ c. search needs) loop-again (λ c. search needs) returns-2)

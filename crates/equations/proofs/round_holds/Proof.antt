@@ -51,24 +51,6 @@ returns-6 c = λ g. let l = c .before .loop in every-ends _ _ (l .k) (l .inv .5)
 pub round-holds-spec : {M : Type 1} → statement M
 round-holds-spec =
     tie.close
-    (tie.spec
-    Inv-loop
-    μ-loop
-    (λ c. search needs)
-    returns
-    returns-2
-    returns-3
-    returns-4
-    loop-holds
-    (λ c. search needs)
-    (λ c. search needs)
-    (λ c. search needs)
-    (λ c. search needs)
-    (λ c. search needs)
-    (λ c. search needs)
-    (λ c κs. search needs)
-    returns-5
-    (λ c. search needs)
-    (λ c. search needs)
-    loop-again
-    returns-6)
+    (tie.spec Inv-loop μ-loop (λ c. search needs) returns returns-2 returns-3 returns-4 loop-holds (λ c. search needs) (λ c. search needs)
+    (λ c. search needs) (λ c. search needs) (λ c. search needs) (λ c. search needs) (λ c κs. search needs) returns-5 (λ c. search needs)
+    (λ c. search needs) loop-again returns-6)

@@ -37,15 +37,5 @@ returns-5 c = λ f. absurd (omega (arith, f .residues .long))
 pub fold-down-spec : {M : Type 1} → statement M
 fold-down-spec =
     tie.close
-    (tie.spec
-    returns
-    returns-2
-    returns-3
-    returns-4
-    mul-if5
-    mul-if5-2
-    add-if5
-    returns-5
-    (λ c κs. search needs)
-    (λ c. search needs)
+    (tie.spec returns returns-2 returns-3 returns-4 mul-if5 mul-if5-2 add-if5 returns-5 (λ c κs. search needs) (λ c. search needs)
     (λ c. search needs))

@@ -93,25 +93,6 @@ returns c = λ s.
 pub fold-each-spec : {M : Type 1} → statement M
 fold-each-spec =
     tie.close
-    (tie.spec
-    Inv-loop
-    μ-loop
-    (λ c κs. search needs)
-    loop-holds
-    mul-at
-    add-from
-    mul-store
-    sub-store
-    part-store-start
-    (λ c. search needs)
-    (λ c κs. search needs)
-    (λ c. search needs)
-    slice-aggregate-accumulate-turned
-    add-accumulate-turned
-    (λ c κs. search needs)
-    (λ c. search needs)
-    (λ c. search needs)
-    loop-again
-    (λ c. search needs)
-    (λ c. search needs)
-    returns)
+    (tie.spec Inv-loop μ-loop (λ c κs. search needs) loop-holds mul-at add-from mul-store sub-store part-store-start (λ c. search needs)
+    (λ c κs. search needs) (λ c. search needs) slice-aggregate-accumulate-turned add-accumulate-turned (λ c κs. search needs) (λ c. search needs)
+    (λ c. search needs) loop-again (λ c. search needs) (λ c. search needs) returns)

@@ -69,23 +69,6 @@ returns c = let a = c .before .before .before .before .args in c .before .loop .
 pub add-by-columns-spec : {M : Type 1} → statement M
 add-by-columns-spec =
     tie.close
-    (tie.spec
-    Inv-loop
-    μ-loop
-    loop-holds
-    (λ c. search needs)
-    mul-at
-    mul-add-product
-    sub-add-product
-    part-add-product-start
-    (λ c. search needs)
-    mul-add-product-2
-    sub-add-product-2
-    part-add-product-start-2
-    (λ c. search needs)
-    (λ c κs. search needs)
-    (λ c. search needs)
-    (λ c. search needs)
-    loop-again
-    (λ c. search needs)
-    returns)
+    (tie.spec Inv-loop μ-loop loop-holds (λ c. search needs) mul-at mul-add-product sub-add-product part-add-product-start (λ c. search needs)
+    mul-add-product-2 sub-add-product-2 part-add-product-start-2 (λ c. search needs) (λ c κs. search needs) (λ c. search needs) (λ c. search needs)
+    loop-again (λ c. search needs) returns)

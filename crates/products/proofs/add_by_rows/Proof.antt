@@ -73,26 +73,6 @@ returns c = let a = c .before .before .before .before .args in c .before .loop .
 pub add-by-rows-spec : {M : Type 1} → statement M
 add-by-rows-spec =
     tie.close
-    (tie.spec
-    Inv-loop
-    μ-loop
-    loop-holds
-    (λ c. search needs)
-    mul-at
-    mul-prepare
-    sub-prepare
-    part-prepare-start
-    (λ c. search needs)
-    (λ c. search needs)
-    (λ c κs. search needs)
-    mul-add-product
-    sub-add-product
-    part-add-product-start
-    (λ c. search needs)
-    (λ c. search needs)
-    (λ c κs. search needs)
-    (λ c. search needs)
-    (λ c. search needs)
-    loop-again
-    (λ c. search needs)
-    returns)
+    (tie.spec Inv-loop μ-loop loop-holds (λ c. search needs) mul-at mul-prepare sub-prepare part-prepare-start (λ c. search needs) (λ c. search needs)
+    (λ c κs. search needs) mul-add-product sub-add-product part-add-product-start (λ c. search needs) (λ c. search needs) (λ c κs. search needs)
+    (λ c. search needs) (λ c. search needs) loop-again (λ c. search needs) returns)

@@ -33,14 +33,4 @@ returns-6 c = λ g.
 pub inner-spec : {M : Type 1} → statement M
 inner-spec =
     tie.close
-    (tie.spec
-    returns
-    returns-2
-    returns-3
-    mul-cells
-    returns-4
-    returns-5
-    (λ c κs. search needs)
-    (λ c. search needs)
-    (λ c κs. search needs)
-    returns-6)
+    (tie.spec returns returns-2 returns-3 mul-cells returns-4 returns-5 (λ c κs. search needs) (λ c. search needs) (λ c κs. search needs) returns-6)

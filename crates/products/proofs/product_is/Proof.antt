@@ -38,14 +38,4 @@ returns-7 c = λ g.
 pub product-is-spec : {M : Type 1} → statement M
 product-is-spec =
     tie.close
-    (tie.spec
-    returns
-    returns-2
-    returns-3
-    returns-4
-    returns-5
-    returns-6
-    (λ c κs. search needs)
-    (λ c. search needs)
-    (λ c κs. search needs)
-    returns-7)
+    (tie.spec returns returns-2 returns-3 returns-4 returns-5 returns-6 (λ c κs. search needs) (λ c. search needs) (λ c κs. search needs) returns-7)

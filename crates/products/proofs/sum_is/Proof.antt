@@ -24,12 +24,4 @@ returns-2 c =
 pub sum-is-spec : {M : Type 1} → statement M
 sum-is-spec =
     tie.close
-    (tie.spec
-    returns
-    (λ c. search needs)
-    (λ c. search needs)
-    mul-rest
-    (λ c κs. search needs)
-    (λ c κs. search needs)
-    (λ c. search needs)
-    returns-2)
+    (tie.spec returns (λ c. search needs) (λ c. search needs) mul-rest (λ c κs. search needs) (λ c κs. search needs) (λ c. search needs) returns-2)

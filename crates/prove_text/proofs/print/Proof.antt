@@ -39,14 +39,5 @@ returns-2 c =
 pub print-spec : {M : Type 1} → statement M
 print-spec =
     tie.close
-    (tie.spec
-    (λ c. search needs)
-    (λ c κs. search needs)
-    (λ c κs. search needs)
-    (λ c. search needs)
-    returns
-    array-share-prefix-listing
-    slice-aggregate-show
-    (λ c κs. search needs)
-    (λ c. search needs)
-    returns-2)
+    (tie.spec (λ c. search needs) (λ c κs. search needs) (λ c κs. search needs) (λ c. search needs) returns array-share-prefix-listing
+    slice-aggregate-show (λ c κs. search needs) (λ c. search needs) returns-2)

@@ -49,13 +49,5 @@ returns-2 c =
 pub round-spec : {M : Type 1} → statement M
 round-spec =
     tie.close
-    (tie.spec
-    (λ c κs. search needs)
-    (λ c κs. search needs)
-    returns
-    (λ c κs. search needs)
-    add-half-power
-    (λ c κs. search needs)
-    polynomial-requires
-    (λ c κs. search needs)
-    returns-2)
+    (tie.spec (λ c κs. search needs) (λ c κs. search needs) returns (λ c κs. search needs) add-half-power (λ c κs. search needs) polynomial-requires
+    (λ c κs. search needs) returns-2)

@@ -26,8 +26,4 @@ returns c = λ f.
 pub add-turned-spec : {M : Type 1} → statement M
 add-turned-spec =
     tie.close
-    (tie.spec
-    (λ c κs. search needs)
-    (λ c κs. search needs)
-    (λ c. search needs)
-    returns)
+    (tie.spec (λ c κs. search needs) (λ c κs. search needs) (λ c. search needs) returns)

@@ -27,12 +27,4 @@ returns-5 c = λ q g ok.
 pub add-product-spec : {M : Type 1} → statement M
 add-product-spec =
     tie.close
-    (tie.spec
-    returns
-    returns-2
-    (λ c. search needs)
-    returns-3
-    returns-4
-    (λ c κs. search needs)
-    (λ c. search needs)
-    returns-5)
+    (tie.spec returns returns-2 (λ c. search needs) returns-3 returns-4 (λ c κs. search needs) (λ c. search needs) returns-5)

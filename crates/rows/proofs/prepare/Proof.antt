@@ -24,12 +24,4 @@ returns-5 c = λ g.
 pub prepare-spec : {M : Type 1} → statement M
 prepare-spec =
     tie.close
-    (tie.spec
-    returns
-    returns-2
-    returns-3
-    (λ c. search needs)
-    returns-4
-    (λ c κs. search needs)
-    (λ c. search needs)
-    returns-5)
+    (tie.spec returns returns-2 returns-3 (λ c. search needs) returns-4 (λ c κs. search needs) (λ c. search needs) returns-5)

@@ -62,18 +62,5 @@ returns-3 c e =
 pub growth-spec : {M : Type 1} → statement M
 growth-spec =
     tie.close
-    (tie.spec
-    Inv-loop
-    μ-loop
-    (λ c. search needs)
-    returns
-    returns-2
-    (λ c. search needs)
-    mul-factor-2
-    (λ c. search needs)
-    loop-holds
-    (λ c κs. search needs)
-    (λ c. search needs)
-    (λ c. search needs)
-    loop-again
-    returns-3)
+    (tie.spec Inv-loop μ-loop (λ c. search needs) returns returns-2 (λ c. search needs) mul-factor-2 (λ c. search needs) loop-holds
+    (λ c κs. search needs) (λ c. search needs) (λ c. search needs) loop-again returns-3)

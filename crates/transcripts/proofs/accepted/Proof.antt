@@ -48,11 +48,5 @@ returns-2 c = λ g.
 pub accepted-spec : {M : Type 1} → statement M
 accepted-spec =
     tie.close
-    (tie.spec
-    (λ c κs. search needs)
-    slice-aggregate-rounds-hold
-    (λ c κs. search needs)
-    returns
-    slice-aggregate-end-holds-for-key
-    (λ c κs. search needs)
-    returns-2)
+    (tie.spec (λ c κs. search needs) slice-aggregate-rounds-hold (λ c κs. search needs) returns slice-aggregate-end-holds-for-key
+    (λ c κs. search needs) returns-2)

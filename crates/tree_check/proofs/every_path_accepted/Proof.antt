@@ -38,14 +38,5 @@ returns-5 c = λ g. c .root-accepted .ensures g
 pub every-path-accepted-spec : {M : Type 1} → statement M
 every-path-accepted-spec =
     tie.close
-    (tie.spec
-    (λ c κs. search needs)
-    returns
-    (λ c κs. search needs)
-    returns-2
-    (λ c κs. search needs)
-    returns-3
-    (λ c κs. search needs)
-    returns-4
-    root-accepted-requires
-    returns-5)
+    (tie.spec (λ c κs. search needs) returns (λ c κs. search needs) returns-2 (λ c κs. search needs) returns-3 (λ c κs. search needs) returns-4
+    root-accepted-requires returns-5)

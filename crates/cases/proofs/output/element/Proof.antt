@@ -11,9 +11,4 @@ slice-aggregate-residues c = sym (length-take-le _ _ (omega arith))
 pub element-spec : {M : Type 1} → statement M
 element-spec =
     tie.close
-    (tie.spec
-    (λ c κs. search needs)
-    (λ c. search needs)
-    slice-aggregate-residues
-    (λ c κs. search needs)
-    (λ c. search needs))
+    (tie.spec (λ c κs. search needs) (λ c. search needs) slice-aggregate-residues (λ c κs. search needs) (λ c. search needs))

@@ -11,9 +11,4 @@ slice-aggregate-signeds c = sym (length-take-le _ _ (omega arith))
 pub signed-element-spec : {M : Type 1} → statement M
 signed-element-spec =
     tie.close
-    (tie.spec
-    (λ c κs. search needs)
-    (λ c. search needs)
-    slice-aggregate-signeds
-    (λ c κs. search needs)
-    (λ c. search needs))
+    (tie.spec (λ c κs. search needs) (λ c. search needs) slice-aggregate-signeds (λ c κs. search needs) (λ c. search needs))

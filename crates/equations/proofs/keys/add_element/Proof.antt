@@ -17,15 +17,5 @@ returns-2 c = λ g.
 pub add-element-spec : {M : Type 1} → statement M
 add-element-spec =
     tie.close
-    (tie.spec
-    (λ c. search needs)
-    mul-at
-    (λ c. search needs)
-    (λ c κs. search needs)
-    (λ c. search needs)
-    (λ c. search needs)
-    (λ c. search needs)
-    (λ c. search needs)
-    (λ c κs. search needs)
-    (λ c. search needs)
-    returns-2)
+    (tie.spec (λ c. search needs) mul-at (λ c. search needs) (λ c κs. search needs) (λ c. search needs) (λ c. search needs) (λ c. search needs)
+    (λ c. search needs) (λ c κs. search needs) (λ c. search needs) returns-2)

@@ -42,15 +42,5 @@ returns-5 c = λ g.
 pub folded-key-spec : {M : Type 1} → statement M
 folded-key-spec =
     tie.close
-    (tie.spec
-    (λ c. search needs)
-    returns-2
-    returns-3
-    (λ c. search needs)
-    (λ c. search needs)
-    (λ c. search needs)
-    (λ c κs. search needs)
-    (λ c. search needs)
-    slice-aggregate-add-elements-2
-    (λ c κs. search needs)
-    returns-5)
+    (tie.spec (λ c. search needs) returns-2 returns-3 (λ c. search needs) (λ c. search needs) (λ c. search needs) (λ c κs. search needs)
+    (λ c. search needs) slice-aggregate-add-elements-2 (λ c κs. search needs) returns-5)

@@ -111,19 +111,5 @@ returns-2 c =
 pub divide-spec : {M : Type 1} → statement M
 divide-spec =
     tie.close
-    (tie.spec
-    Inv-loop
-    μ-loop
-    loop-holds
-    same-length
-    same-length-2
-    returns
-    add-own-requires
-    mul-on-circle
-    (λ c κs. search needs)
-    (λ c. search needs)
-    (λ c. search needs)
-    loop-again
-    same-length-3
-    same-length-4
-    returns-2)
+    (tie.spec Inv-loop μ-loop loop-holds same-length same-length-2 returns add-own-requires mul-on-circle (λ c κs. search needs) (λ c. search needs)
+    (λ c. search needs) loop-again same-length-3 same-length-4 returns-2)

@@ -110,24 +110,6 @@ returns c = let g = c .before .before in let l = c .before .loop in done (g .arg
 pub spread-spec : {M : Type 1} → statement M
 spread-spec =
     tie.close
-    (tie.spec
-    Inv-loop
-    μ-loop
-    loop-holds
-    (λ c. search needs)
-    (λ c. search needs)
-    (λ c. search needs)
-    (λ c. search needs)
-    minus-requires
-    (λ c. search needs)
-    (λ c. search needs)
-    slice-set-from-x
-    (λ c. search needs)
-    (λ c. search needs)
-    (λ c. search needs)
-    slice-set-from-y-2
-    (λ c. search needs)
-    (λ c. search needs)
-    loop-again
-    (λ c. search needs)
-    returns)
+    (tie.spec Inv-loop μ-loop loop-holds (λ c. search needs) (λ c. search needs) (λ c. search needs) (λ c. search needs) minus-requires
+    (λ c. search needs) (λ c. search needs) slice-set-from-x (λ c. search needs) (λ c. search needs) (λ c. search needs) slice-set-from-y-2
+    (λ c. search needs) (λ c. search needs) loop-again (λ c. search needs) returns)

@@ -79,18 +79,5 @@ returns c =
 pub root-spec : {M : Type 1} → statement M
 root-spec =
     tie.close
-    (tie.spec
-    (λ c κs. search needs)
-    (λ c κs. search needs)
-    mul-end
-    (λ c κs. search needs)
-    array-borrow-prefix-ws
-    slice-aggregate-node
-    node-requires
-    mul-store
-    sub-store
-    part-store-start
-    part-store-end
-    store-requires
-    (λ c. search needs)
-    returns)
+    (tie.spec (λ c κs. search needs) (λ c κs. search needs) mul-end (λ c κs. search needs) array-borrow-prefix-ws slice-aggregate-node node-requires
+    mul-store sub-store part-store-start part-store-end store-requires (λ c. search needs) returns)

@@ -117,27 +117,7 @@ returns c =
 pub add-share-spec : {M : Type 1} → statement M
 add-share-spec =
     tie.close
-    (tie.spec
-    mul-back
-    (λ c. search needs)
-    add-on-circle
-    (λ c κs. search needs)
-    add-on-circle-2
-    (λ c κs. search needs)
-    add-on-circle-3
-    (λ c κs. search needs)
-    (λ c. search needs)
-    (λ c. search needs)
-    slice-aggregate-scale
-    (λ c. search needs)
-    scale-requires
-    (λ c κs. search needs)
-    mul-on-circle
-    (λ c κs. search needs)
-    (λ c. search needs)
-    add-turned-requires
-    (λ c. search needs)
-    (λ c. search needs)
-    add-turned-requires-2
-    (λ c. search needs)
-    returns)
+    (tie.spec mul-back (λ c. search needs) add-on-circle (λ c κs. search needs) add-on-circle-2 (λ c κs. search needs) add-on-circle-3
+    (λ c κs. search needs) (λ c. search needs) (λ c. search needs) slice-aggregate-scale (λ c. search needs) scale-requires (λ c κs. search needs)
+    mul-on-circle (λ c κs. search needs) (λ c. search needs) add-turned-requires (λ c. search needs) (λ c. search needs) add-turned-requires-2
+    (λ c. search needs) returns)

@@ -145,25 +145,6 @@ returns c =
 pub add-turned-spec : {M : Type 1} → statement M
 add-turned-spec =
     tie.close
-    (tie.spec
-    Inv-loop
-    μ-loop
-    loop-holds
-    mul-at
-    mul-spread
-    sub-spread
-    part-spread-start
-    (λ c. search needs)
-    spread-requires
-    add-place
-    mul-add-spread
-    sub-add-spread
-    part-add-spread-start
-    (λ c. search needs)
-    add-spread-requires
-    (λ c. search needs)
-    (λ c. search needs)
-    loop-again
-    (λ c. search needs)
-    (λ c. search needs)
-    returns)
+    (tie.spec Inv-loop μ-loop loop-holds mul-at mul-spread sub-spread part-spread-start (λ c. search needs) spread-requires add-place mul-add-spread
+    sub-add-spread part-add-spread-start (λ c. search needs) add-spread-requires (λ c. search needs) (λ c. search needs) loop-again
+    (λ c. search needs) (λ c. search needs) returns)

@@ -77,19 +77,5 @@ returns-2 c =
 pub opens-spec : {M : Type 1} → statement M
 opens-spec =
     tie.close
-    (tie.spec
-    Inv-loop
-    μ-loop
-    (λ c κs. search needs)
-    (λ c. search needs)
-    loop-holds
-    (λ c. search needs)
-    array-read-scaled-is
-    (λ c. search needs)
-    array-read-scaled-is-2
-    scaled-is-requires
-    returns
-    (λ c. search needs)
-    (λ c. search needs)
-    loop-again
-    returns-2)
+    (tie.spec Inv-loop μ-loop (λ c κs. search needs) (λ c. search needs) loop-holds (λ c. search needs) array-read-scaled-is (λ c. search needs)
+    array-read-scaled-is-2 scaled-is-requires returns (λ c. search needs) (λ c. search needs) loop-again returns-2)

@@ -43,21 +43,6 @@ returns c = λ g.
 pub inner-of-sums-spec : {M : Type 1} → statement M
 inner-of-sums-spec =
     tie.close
-    (tie.spec
-    (λ c. search needs)
-    (λ c. search needs)
-    (λ c. search needs)
-    (λ c. search needs)
-    (λ c. search needs)
-    (λ c. search needs)
-    message-sums-requires
-    (λ c. search needs)
-    (λ c. search needs)
-    (λ c. search needs)
-    (λ c. search needs)
-    (λ c. search needs)
-    key-sums-requires
-    (λ c. search needs)
-    (λ c. search needs)
-    inner-scaled-requires
-    returns)
+    (tie.spec (λ c. search needs) (λ c. search needs) (λ c. search needs) (λ c. search needs) (λ c. search needs) (λ c. search needs)
+    message-sums-requires (λ c. search needs) (λ c. search needs) (λ c. search needs) (λ c. search needs) (λ c. search needs) key-sums-requires
+    (λ c. search needs) (λ c. search needs) inner-scaled-requires returns)

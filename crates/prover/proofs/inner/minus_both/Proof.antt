@@ -17,15 +17,5 @@ cast-result-3 c = let a = c .args in omega (arith, mod-lt (a .x + (a .q - a .a %
 pub minus-both-spec : {M : Type 1} → statement M
 minus-both-spec =
     tie.close
-    (tie.spec
-    (λ c. search needs)
-    sub-result
-    (λ c. search needs)
-    (λ c. search needs)
-    (λ c. search needs)
-    sub-result-2
-    (λ c. search needs)
-    (λ c. search needs)
-    (λ c. search needs)
-    cast-result-3
-    (λ c. search needs))
+    (tie.spec (λ c. search needs) sub-result (λ c. search needs) (λ c. search needs) (λ c. search needs) sub-result-2 (λ c. search needs)
+    (λ c. search needs) (λ c. search needs) cast-result-3 (λ c. search needs))

@@ -98,25 +98,6 @@ returns c =
 pub fold-message-spec : {M : Type 1} → statement M
 fold-message-spec =
     tie.close
-    (tie.spec
-    Inv-loop
-    μ-loop
-    mul-half
-    loop-holds
-    (λ c. search needs)
-    (λ c. search needs)
-    (λ c. search needs)
-    (λ c. search needs)
-    sub-rotated-2
-    rotated-requires
-    (λ c. search needs)
-    (λ c. search needs)
-    add-message
-    (λ c. search needs)
-    (λ c. search needs)
-    (λ c. search needs)
-    next-place-requires
-    (λ c. search needs)
-    loop-again
-    (λ c. search needs)
-    returns)
+    (tie.spec Inv-loop μ-loop mul-half loop-holds (λ c. search needs) (λ c. search needs) (λ c. search needs) (λ c. search needs) sub-rotated-2
+    rotated-requires (λ c. search needs) (λ c. search needs) add-message (λ c. search needs) (λ c. search needs) (λ c. search needs)
+    next-place-requires (λ c. search needs) loop-again (λ c. search needs) returns)

@@ -115,32 +115,7 @@ returns-2 c = λ z.
 pub begin-spec : {M : Type 1} → statement M
 begin-spec =
     tie.close
-    (tie.spec
-    (λ c κs. search needs)
-    (λ c κs. search needs)
-    returns
-    (λ c. search needs)
-    (λ c. search needs)
-    mul-half
-    (λ c κs. search needs)
-    (λ c κs. search needs)
-    (λ c. search needs)
-    (λ c. search needs)
-    write-scaled-requires
-    (λ c. search needs)
-    mul-inner
-    sub-inner-2
-    part-inner-start
-    (λ c. search needs)
-    mul-inner-2
-    sub-inner-3
-    part-inner-start-2
-    (λ c. search needs)
-    (λ c κs. search needs)
-    (λ c. search needs)
-    (λ c. search needs)
-    (λ c. search needs)
-    write-sum-requires
-    (λ c. search needs)
-    (λ c. search needs)
-    returns-2)
+    (tie.spec (λ c κs. search needs) (λ c κs. search needs) returns (λ c. search needs) (λ c. search needs) mul-half (λ c κs. search needs)
+    (λ c κs. search needs) (λ c. search needs) (λ c. search needs) write-scaled-requires (λ c. search needs) mul-inner sub-inner-2 part-inner-start
+    (λ c. search needs) mul-inner-2 sub-inner-3 part-inner-start-2 (λ c. search needs) (λ c κs. search needs) (λ c. search needs) (λ c. search needs)
+    (λ c. search needs) write-sum-requires (λ c. search needs) (λ c. search needs) returns-2)

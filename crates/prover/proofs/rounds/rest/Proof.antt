@@ -81,22 +81,6 @@ returns-6 c = λ z.
 pub rest-spec : {M : Type 1} → statement M
 rest-spec =
     tie.close
-    (tie.spec
-    returns
-    (λ c. search needs)
-    (λ c κs. search needs)
-    returns-2
-    (λ c. search needs)
-    (λ c κs. search needs)
-    returns-3
-    returns-4
-    (λ c. search needs)
-    returns-5
-    (λ c. search needs)
-    (λ c κs. search needs)
-    inner-of-sums-requires
-    (λ c. search needs)
-    write-middle-requires
-    (λ c κs. search needs)
-    (λ c. search needs)
-    returns-6)
+    (tie.spec returns (λ c. search needs) (λ c κs. search needs) returns-2 (λ c. search needs) (λ c κs. search needs) returns-3 returns-4
+    (λ c. search needs) returns-5 (λ c. search needs) (λ c κs. search needs) inner-of-sums-requires (λ c. search needs) write-middle-requires
+    (λ c κs. search needs) (λ c. search needs) returns-6)

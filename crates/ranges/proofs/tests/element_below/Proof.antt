@@ -37,15 +37,5 @@ returns-3 c = λ h. let l = c .before .loop in every-ends _ _ (l .k) (l .inv .3)
 pub element-below-spec : {M : Type 1} → statement M
 element-below-spec =
     tie.close
-    (tie.spec
-    Inv-loop
-    μ-loop
-    returns
-    loop-holds
-    (λ c. search needs)
-    (λ c. search needs)
-    returns-2
-    (λ c. search needs)
-    (λ c. search needs)
-    loop-again
+    (tie.spec Inv-loop μ-loop returns loop-holds (λ c. search needs) (λ c. search needs) returns-2 (λ c. search needs) (λ c. search needs) loop-again
     returns-3)

@@ -32,13 +32,4 @@ returns-2 c = let l = c .before .loop in every-ends _ _ (l .k) (l .inv .1) (omeg
 pub all-differ-spec : {M : Type 1} → statement M
 all-differ-spec =
     tie.close
-    (tie.spec
-    Inv-loop
-    μ-loop
-    loop-holds
-    (λ c κs. omega arith)
-    returns
-    (λ c. search needs)
-    (λ c. search needs)
-    loop-again
-    returns-2)
+    (tie.spec Inv-loop μ-loop loop-holds (λ c κs. omega arith) returns (λ c. search needs) (λ c. search needs) loop-again returns-2)

@@ -47,16 +47,5 @@ returns-2 c =
 pub store-spec : {M : Type 1} → statement M
 store-spec =
     tie.close
-    (tie.spec
-    Inv-loop
-    μ-loop
-    returns
-    loop-holds
-    (λ c κs. search needs)
-    (λ c. search needs)
-    slice-write-t
-    (λ c. search needs)
-    (λ c. search needs)
-    loop-again
-    same-length
-    returns-2)
+    (tie.spec Inv-loop μ-loop returns loop-holds (λ c κs. search needs) (λ c. search needs) slice-write-t (λ c. search needs) (λ c. search needs)
+    loop-again same-length returns-2)

@@ -77,20 +77,5 @@ returns-2 c = every-ends _ tableCount _ (c .before .loop .inv .2) (omega arith)
 pub all-pass-spec : {M : Type 1} → statement M
 all-pass-spec =
     tie.close
-    (tie.spec
-    Inv-loop
-    μ-loop
-    loop-holds
-    (λ c. search needs)
-    (λ c. search needs)
-    add-end
-    mul-pass
-    (λ c. search needs)
-    part-pass-start
-    part-pass-end
-    (λ c κs. search needs)
-    returns
-    (λ c. search needs)
-    (λ c. search needs)
-    loop-again
-    returns-2)
+    (tie.spec Inv-loop μ-loop loop-holds (λ c. search needs) (λ c. search needs) add-end mul-pass (λ c. search needs) part-pass-start part-pass-end
+    (λ c κs. search needs) returns (λ c. search needs) (λ c. search needs) loop-again returns-2)

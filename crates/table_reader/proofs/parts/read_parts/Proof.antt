@@ -191,25 +191,6 @@ returns-3 c =
 pub read-parts-spec : {M : Type 1} → statement M
 read-parts-spec =
     tie.close
-    (tie.spec
-    Inv-loop
-    μ-loop
-    loop-holds
-    (λ c κs. search needs)
-    (λ c κs. search needs)
-    (λ c. search needs)
-    same-length
-    returns
-    (λ c. search needs)
-    (λ c. search needs)
-    (λ c. search needs)
-    (λ c. search needs)
-    read-part-requires
-    same-length-2
-    returns-2
-    add-start
-    (λ c. search needs)
-    (λ c. search needs)
-    loop-again
-    same-length-3
-    returns-3)
+    (tie.spec Inv-loop μ-loop loop-holds (λ c κs. search needs) (λ c κs. search needs) (λ c. search needs) same-length returns (λ c. search needs)
+    (λ c. search needs) (λ c. search needs) (λ c. search needs) read-part-requires same-length-2 returns-2 add-start (λ c. search needs)
+    (λ c. search needs) loop-again same-length-3 returns-3)

@@ -104,17 +104,5 @@ returns c =
 pub all-spec : {M : Type 1} → statement M
 all-spec =
     tie.close
-    (tie.spec
-    unsigned-requires
-    signed-requires
-    unsigned-requires-2
-    unsigned-requires-3
-    unsigned-requires-4
-    signed-requires-2
-    (λ c. search needs)
-    (λ c. search needs)
-    (λ c. search needs)
-    (λ c. search needs)
-    (λ c. search needs)
-    (λ c. search needs)
-    returns)
+    (tie.spec unsigned-requires signed-requires unsigned-requires-2 unsigned-requires-3 unsigned-requires-4 signed-requires-2 (λ c. search needs)
+    (λ c. search needs) (λ c. search needs) (λ c. search needs) (λ c. search needs) (λ c. search needs) returns)

@@ -67,13 +67,4 @@ returns-5 c =
 pub read-wanted-spec : {M : Type 1} → statement M
 read-wanted-spec =
     tie.close
-    (tie.spec
-    returns
-    returns-2
-    (λ c κs. search needs)
-    returns-3
-    read-parts-requires
-    (λ c. search needs)
-    returns-4
-    (λ c. search needs)
-    returns-5)
+    (tie.spec returns returns-2 (λ c κs. search needs) returns-3 read-parts-requires (λ c. search needs) returns-4 (λ c. search needs) returns-5)

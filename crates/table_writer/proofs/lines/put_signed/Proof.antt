@@ -75,15 +75,5 @@ returns-2 c =
 pub put-signed-spec : {M : Type 1} → statement M
 put-signed-spec =
     tie.close
-    (tie.spec
-    (λ c κs. search needs)
-    slice-write-out
-    (λ c κs. search needs)
-    add-put-field
-    put-field-requires
-    same-length
-    returns
-    (λ c κs. search needs)
-    put-field-requires-2
-    (λ c. search needs)
-    returns-2)
+    (tie.spec (λ c κs. search needs) slice-write-out (λ c κs. search needs) add-put-field put-field-requires same-length returns
+    (λ c κs. search needs) put-field-requires-2 (λ c. search needs) returns-2)

@@ -53,14 +53,5 @@ returns c = let s = c .before .before in shown-as (whole (s .before .before .bef
 pub show-refusal-spec : {M : Type 1} → statement M
 show-refusal-spec =
     tie.close
-    (tie.spec
-    (λ c. search needs)
-    (λ c. search needs)
-    (λ c κs. search needs)
-    (λ c. search needs)
-    (λ c κs. search needs)
-    array-share-prefix-line
-    slice-aggregate-show
-    (λ c κs. search needs)
-    (λ c. search needs)
-    returns)
+    (tie.spec (λ c. search needs) (λ c. search needs) (λ c κs. search needs) (λ c. search needs) (λ c κs. search needs) array-share-prefix-line
+    slice-aggregate-show (λ c κs. search needs) (λ c. search needs) returns)

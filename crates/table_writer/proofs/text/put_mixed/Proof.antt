@@ -12,9 +12,4 @@ returns c = let s = c .before .before in adds-then _ _ (s .before .before .befor
 pub put-mixed-spec : {M : Type 1} → statement M
 put-mixed-spec =
     tie.close
-    (tie.spec
-    (λ c κs. search needs)
-    (λ c. search needs)
-    (λ c κs. search needs)
-    (λ c. search needs)
-    returns)
+    (tie.spec (λ c κs. search needs) (λ c. search needs) (λ c κs. search needs) (λ c. search needs) returns)

@@ -90,15 +90,5 @@ returns-4 c =
 pub write-spec : {M : Type 1} → statement M
 write-spec =
     tie.close
-    (tie.spec
-    (λ c κs. search needs)
-    returns
-    (λ c. search needs)
-    put-text-requires
-    returns-2
-    returns-3
-    (λ c. search needs)
-    slice-aggregate-copy
-    copy-requires
-    (λ c. search needs)
-    returns-4)
+    (tie.spec (λ c κs. search needs) returns (λ c. search needs) put-text-requires returns-2 returns-3 (λ c. search needs) slice-aggregate-copy
+    copy-requires (λ c. search needs) returns-4)

@@ -19,10 +19,4 @@ returns c = let a = c .args in front (a .s .degree) (a .s .depth) (a .s .modulus
 pub store-spec : {M : Type 1} → statement M
 store-spec =
     tie.close
-    (tie.spec
-    (λ c. search needs)
-    slice-write-out-2
-    slice-write-out-3
-    (λ c. search needs)
-    (λ c. search needs)
-    returns)
+    (tie.spec (λ c. search needs) slice-write-out-2 slice-write-out-3 (λ c. search needs) (λ c. search needs) returns)

@@ -74,12 +74,4 @@ returns-3 c =
 pub read-index-spec : {M : Type 1} → statement M
 read-index-spec =
     tie.close
-    (tie.spec
-    (λ c κs. search needs)
-    (λ c. search needs)
-    (λ c. search needs)
-    returns
-    (λ c κs. search needs)
-    returns-2
-    add-t8
-    returns-3)
+    (tie.spec (λ c κs. search needs) (λ c. search needs) (λ c. search needs) returns (λ c κs. search needs) returns-2 add-t8 returns-3)

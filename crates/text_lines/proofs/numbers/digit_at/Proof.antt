@@ -18,9 +18,4 @@ returns-3 c = let a = c .before .before .before .before .args in sym (digitFirst
 pub digit-at-spec : {M : Type 1} → statement M
 digit-at-spec =
     tie.close
-    (tie.spec
-    returns
-    (λ c. search needs)
-    returns-2
-    (λ c. search needs)
-    returns-3)
+    (tie.spec returns (λ c. search needs) returns-2 (λ c. search needs) returns-3)

@@ -99,17 +99,5 @@ returns c =
 pub digit-run-spec : {M : Type 1} → statement M
 digit-run-spec =
     tie.close
-    (tie.spec
-    Inv-loop
-    μ-loop
-    loop-holds
-    (λ c κs. search needs)
-    (λ c. search needs)
-    shared-slice-read-value
-    sub-value
-    cast-value
-    add-value
-    add-i
-    loop-less
-    loop-again
-    returns)
+    (tie.spec Inv-loop μ-loop loop-holds (λ c κs. search needs) (λ c. search needs) shared-slice-read-value sub-value cast-value add-value add-i
+    loop-less loop-again returns)

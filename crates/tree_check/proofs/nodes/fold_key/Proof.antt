@@ -30,11 +30,4 @@ returns c = λ below.
 pub fold-key-spec : {M : Type 1} → statement M
 fold-key-spec =
     tie.close
-    (tie.spec
-    (λ c. search needs)
-    (λ c κs. search needs)
-    mul-to
-    mul-fold-down
-    (λ c κs. search needs)
-    (λ c. search needs)
-    returns)
+    (tie.spec (λ c. search needs) (λ c κs. search needs) mul-to mul-fold-down (λ c κs. search needs) (λ c. search needs) returns)

@@ -90,18 +90,6 @@ returns c = λ g.
 pub root-accepted-spec : {M : Type 1} → statement M
 root-accepted-spec =
     tie.close
-    (tie.spec
-    (λ c. search needs)
-    (λ c κs. search needs)
-    (λ c. search needs)
-    (λ c κs. search needs)
-    (λ c. search needs)
-    sub-copy
-    part-ws-start
-    (λ c. search needs)
-    (λ c κs. search needs)
-    (λ c. search needs)
-    array-borrow-prefix-ws
-    slice-aggregate-subtree-accepted-2
-    subtree-accepted-requires
+    (tie.spec (λ c. search needs) (λ c κs. search needs) (λ c. search needs) (λ c κs. search needs) (λ c. search needs) sub-copy part-ws-start
+    (λ c. search needs) (λ c κs. search needs) (λ c. search needs) array-borrow-prefix-ws slice-aggregate-subtree-accepted-2 subtree-accepted-requires
     returns)

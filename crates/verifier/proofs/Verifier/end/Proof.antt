@@ -61,13 +61,5 @@ returns-3 c =
 pub end-spec : {M : Type 1} → statement M
 end-spec =
     tie.close
-    (tie.spec
-    (λ c κs. search needs)
-    returns
-    (λ c κs. search needs)
-    slice-aggregate-end-holds-for-key
-    slice-aggregate-end-holds-for-key-2
-    slice-aggregate-end-holds-for-key-3
-    (λ c κs. search needs)
-    returns-2
-    returns-3)
+    (tie.spec (λ c κs. search needs) returns (λ c κs. search needs) slice-aggregate-end-holds-for-key slice-aggregate-end-holds-for-key-2
+    slice-aggregate-end-holds-for-key-3 (λ c κs. search needs) returns-2 returns-3)

@@ -11,11 +11,4 @@ sub-result c = negative-fits w64 (c .before .before .args .self .magnitude) (ome
 pub wide-spec : {M : Type 1} → statement M
 wide-spec =
     tie.close
-    (tie.spec
-    (λ c. search needs)
-    (λ c. search needs)
-    sub-result
-    (λ c. search needs)
-    (λ c. search needs)
-    (λ c. search needs)
-    (λ c. search needs))
+    (tie.spec (λ c. search needs) (λ c. search needs) sub-result (λ c. search needs) (λ c. search needs) (λ c. search needs) (λ c. search needs))
