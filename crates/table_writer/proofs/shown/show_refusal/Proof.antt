@@ -21,7 +21,7 @@ fronted line rest e = ap (take 8) e ∙ take-append-seam (bytes "refused ") rest
 -- the whole line
 module _ (c : tie.After-put-field) where
   abbrev number : ℕ
-  refusal = c .before .before .before .before .before .before .before .args .refusal
+  number = c .before .before .before .before .before .before .before .args .refusal
 
   abbrev before : List ℕ
   before = c .before .before .before .copy .last .1 .0
