@@ -15,7 +15,7 @@ fn answer_judge(settings: Settings, commitment: [u32; 64], c: u32, key: &[u32], 
 pub fn run_judge(input: Input) -> Input {
     let given = tables::settings(input);
     let commitment = tables::element(given.next);
-    let c = commitment.next.refusal();
+    let c = commitment.next.number();
     let mut key = tables::residue_room();
     let keys = tables::residues(c.next, &mut key);
     let mut w = tables::wide_room();

@@ -7,7 +7,7 @@ mod openings;
 mod output;
 mod tables;
 mod texts;
-mod transcripts;
+mod verifying;
 
 use crate::input::Input;
 
@@ -18,10 +18,10 @@ fn run(call: u32, input: Input) -> Input {
         3 => openings::run_fold(input),
         4 => openings::run_end(input),
         5 => openings::run_opening(input),
-        6 => transcripts::run_start(input),
-        7 => transcripts::run_round(input),
-        8 => transcripts::run_end(input),
-        9 => transcripts::run_check(input),
+        6 => verifying::run_start(input),
+        7 => verifying::run_round(input),
+        8 => verifying::run_end(input),
+        9 => verifying::run_check(input),
         10 => extracting::run_judge(input),
         11 => extracting::run_extract(input),
         12 => texts::run_read(input),
@@ -42,7 +42,7 @@ fn main() {
     let mut turns = u64::MAX;
     while turns > 0 {
         turns -= 1;
-        let call = input.refusal();
+        let call = input.number();
         if call.ended {
             return;
         }

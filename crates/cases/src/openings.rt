@@ -39,7 +39,7 @@ fn answer_round(settings: Settings, t: u32, key: &[u32], message: &[i32]) {
 
 pub fn run_round(input: Input) -> Input {
     let given = tables::settings(input);
-    let t = given.next.refusal();
+    let t = given.next.number();
     let mut key = tables::residue_room();
     let keys = tables::residues(t.next, &mut key);
     let mut message = tables::signed_room();
@@ -60,8 +60,8 @@ fn answer_fold(settings: Settings, t: u32, e: u32, key: &mut [u32], message: &mu
 
 pub fn run_fold(input: Input) -> Input {
     let given = tables::settings(input);
-    let t = given.next.refusal();
-    let e = t.next.refusal();
+    let t = given.next.number();
+    let e = t.next.number();
     let mut key = tables::residue_room();
     let keys = tables::residues(e.next, &mut key);
     let mut message = tables::signed_room();
@@ -88,7 +88,7 @@ fn answer_end(settings: Settings, t: u32, message: &[i32]) {
 
 pub fn run_end(input: Input) -> Input {
     let given = tables::settings(input);
-    let t = given.next.refusal();
+    let t = given.next.number();
     let mut message = tables::signed_room();
     let messages = tables::signeds(t.next, &mut message);
     let m = messages.count;

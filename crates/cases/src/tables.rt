@@ -57,7 +57,7 @@ fn some_residues(input: Input, wanted: u64, t: &mut [u32]) -> Filled
     let mut next = input;
     let mut i: usize = 0;
     while i < count {
-        let taken = next.refusal();
+        let taken = next.number();
         t[i] = taken.value.residue();
         next = taken.next;
         i += 1;
@@ -71,19 +71,19 @@ fn some_residues(input: Input, wanted: u64, t: &mut [u32]) -> Filled
 pub fn residues(input: Input, t: &mut [u32]) -> Filled
     ensures { λ r. ⌜ Counted (r .count) (now (t .exit)) ⌝ }
 {
-    let size = input.refusal();
+    let size = input.number();
     some_residues(size.next, size.value.magnitude, t)
 }
 
 pub fn signeds(input: Input, t: &mut [i32]) -> Filled
     ensures { λ r. ⌜ Counted (r .count) (now (t .exit)) ⌝ }
 {
-    let size = input.refusal();
+    let size = input.number();
     let count = least(size.value.magnitude, t.len());
     let mut next = size.next;
     let mut i: usize = 0;
     while i < count {
-        let taken = next.refusal();
+        let taken = next.number();
         t[i] = taken.value.signed();
         next = taken.next;
         i += 1;
@@ -97,12 +97,12 @@ pub fn signeds(input: Input, t: &mut [i32]) -> Filled
 pub fn wides(input: Input, t: &mut [i64]) -> Filled
     ensures { λ r. ⌜ Counted (r .count) (now (t .exit)) ⌝ }
 {
-    let size = input.refusal();
+    let size = input.number();
     let count = least(size.value.magnitude, t.len());
     let mut next = size.next;
     let mut i: usize = 0;
     while i < count {
-        let taken = next.refusal();
+        let taken = next.number();
         t[i] = taken.value.wide();
         next = taken.next;
         i += 1;
@@ -117,7 +117,7 @@ pub fn wides(input: Input, t: &mut [i64]) -> Filled
 pub fn text(input: Input, t: &mut [u8]) -> Filled
     ensures { λ r. ⌜ Counted (r .count) (now (t .exit)) ⌝ }
 {
-    let size = input.refusal();
+    let size = input.number();
     let count = least(size.value.magnitude, t.len());
     let mut next = size.next;
     let mut i: usize = 0;
@@ -137,8 +137,8 @@ pub fn text(input: Input, t: &mut [u8]) -> Filled
 pub fn blank(input: Input, t: &mut [u8]) -> Filled
     ensures { λ r. ⌜ Counted (r .count) (now (t .exit)) ⌝ }
 {
-    let size = input.refusal();
-    let byte = size.next.refusal();
+    let size = input.number();
+    let byte = size.next.number();
     let count = least(size.value.magnitude, t.len());
     let b = byte.value.byte();
     let mut i: usize = 0;
@@ -160,10 +160,10 @@ pub struct SettingsTaken {
 }
 
 pub fn settings(input: Input) -> SettingsTaken {
-    let degree = input.refusal();
-    let depth = degree.next.refusal();
-    let modulus = depth.next.refusal();
-    let bound = modulus.next.refusal();
+    let degree = input.number();
+    let depth = degree.next.number();
+    let modulus = depth.next.number();
+    let bound = modulus.next.number();
     let settings = Settings {
         degree: degree.value.residue(),
         depth: depth.value.residue(),
@@ -216,8 +216,8 @@ pub struct SessionTaken {
 
 pub fn session(input: Input) -> SessionTaken {
     let given = settings(input);
-    let done = given.next.refusal();
-    let closed = done.next.refusal();
+    let done = given.next.number();
+    let closed = done.next.number();
     let claim = element(closed.next);
     let mut challenges = [0u32; 8];
     let filled = some_residues(claim.next, 8, &mut challenges);
@@ -244,12 +244,12 @@ pub struct PartsTaken {
 }
 
 pub fn parts(input: Input) -> PartsTaken {
-    let key = input.refusal();
-    let message = key.next.refusal();
-    let commitment = message.next.refusal();
-    let round = commitment.next.refusal();
-    let challenge = round.next.refusal();
-    let last = challenge.next.refusal();
+    let key = input.number();
+    let message = key.next.number();
+    let commitment = message.next.number();
+    let round = commitment.next.number();
+    let challenge = round.next.number();
+    let last = challenge.next.number();
     let parts = Parts {
         key: key.value.magnitude != 0,
         message: message.value.magnitude != 0,

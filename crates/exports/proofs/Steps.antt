@@ -33,7 +33,7 @@ use Rattle.claims.proofs.Sessions.{sessionAfter, start-answer, move-answer, clo
 use Rattle.slices.specs.Slices.{lent, polynomialOf, laid}
 use Rattle.protocol.specs.Session.{verdictNumber}
 use Rattle.slices.proofs.Laws.{element-back, whole-back, polynomial-there}
-use Rattle.sessions.specs.Records.{recordWidth, sessionOf, flagged, numbersOf, recordStored}
+use Rattle.sessions.specs.Records.{sessionOf, flagged, numbersOf, recordStored}
 use Rattle.sessions.specs.Promises.{startNumber, startExit, moveNumber, moveExit, moveVerdict, polynomialFits, roundOn, lastFits, endOn}
 use Rattle.sessions.proofs.Stored.{stored, numbers-length}
 use Rattle.sessions.proofs.Laws.{Whole, load-stored, flagged-stored, start-whole, move-whole}
@@ -51,7 +51,7 @@ fit n t e = eq-eqb _ _ e
 -- a move on a record in a slice
 module _ (S : Settings) (v : Valid S) (fits : Bool) (m : Moved) (r : Session) (e : sessionOf (numbersOf r) .settings ≡ S) (f : fits ≡ true) (z : m .refusal ≡ 0) where
   pub move-number : moveNumber fits m (numbersOf r) ≡ 0
-  unfolding moveNumber recordWidth
+  unfolding moveNumber
   move-number =
       first-holds 7 _ _ (fit 78 (numbersOf r) (numbers-length r))
       ∙ first-only _
@@ -96,7 +96,7 @@ module _ {S : Settings} {G : List ℕ} {M : List ℤ} {E : List ℕ} (ok : Given
     start-granted = ap (λ (x : Started). x .refusal) (start-answer ok)
 
     pub start-number : startNumber S (commitment S G M) r ≡ 0
-    unfolding startNumber recordWidth
+    unfolding startNumber
     start-number = own S (ok .settings) _ _ (and-intro (fit d (commitment S G M) commitment-long) (fit 78 r long)) ∙ start-granted
 
     pub start-exit : startExit S (commitment S G M) r ≡ numbersOf (session 0)

@@ -85,7 +85,7 @@ fn head(r: Session, k: usize) -> u32
     }
 }
 
-fn refusal(r: Session, k: usize) -> u32
+fn number(r: Session, k: usize) -> u32
     requires { ⌜ k < recordWidth ⌝ }
     ensures { λ x. ⌜ x ≡ numberOf r k ⌝ }
 {
@@ -107,7 +107,7 @@ pub fn store(r: Session, t: &mut [u32])
     }
     let mut k: usize = 0;
     while k < RECORD {
-        t[k] = refusal(r, k);
+        t[k] = number(r, k);
         k += 1;
     }
 }

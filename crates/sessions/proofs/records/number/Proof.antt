@@ -3,8 +3,8 @@ use borrow.Author.Tests.{lt-ltb, le-ltb}
 use Rattle.protocol.specs.Basic.{choose}
 use Rattle.sessions.specs.Records.{numberOf}
 use borrow.Author.Needs.{needs}
-use Rattle.sessions.proofs.records.refusal.Statement.{statement}
-use Rattle.sessions.proofs.records.refusal.Tie as tie
+use Rattle.sessions.proofs.records.number.Statement.{statement}
+use Rattle.sessions.proofs.records.number.Tie as tie
 
 returns : tie.Need-returns
 unfolding numberOf choose

@@ -33,7 +33,7 @@ loop-again : tie.Need-loop-again Inv-loop μ-loop
 loop-again c =
     let l = c .before .before .loop in
     let a = c .before .before .before .before .before .args in
-    (omega arith, l .inv .1, (λ i. set (l .inv .2 i) (l .k) (c .refusal .ensures i)) ∙ filled-more (numberOf (a .r)) (l .k) (a .t .now) (omega (arith, l .inv .1)))
+    (omega arith, l .inv .1, (λ i. set (l .inv .2 i) (l .k) (c .number .ensures i)) ∙ filled-more (numberOf (a .r)) (l .k) (a .t .now) (omega (arith, l .inv .1)))
 
 same-length : tie.Need-same-length Inv-loop μ-loop
 same-length c = long (c .before)

@@ -1,7 +1,7 @@
 -- Nothing has to hold from turn to turn. The turns that are left fall.
 use borrow.Author.Needs.{needs}
-use Rattle.cases.proofs.input.Input.refusal.Statement.{statement}
-use Rattle.cases.proofs.input.Input.refusal.Tie as tie
+use Rattle.cases.proofs.input.Input.number.Statement.{statement}
+use Rattle.cases.proofs.input.Input.number.Tie as tie
 
 abbrev Inv-loop : tie.InvT-loop
 Inv-loop input₀ value₀ turns₀ input value turns = Unit {0}

@@ -61,7 +61,7 @@ pub fn run_round(input: Input) -> Input {
     let c0 = tables::element(given.next);
     let c1 = tables::element(c0.next);
     let c2 = tables::element(c1.next);
-    let e = c2.next.refusal();
+    let e = c2.next.number();
     let session = given.session;
     let p0 = c0.places;
     let p1 = c1.places;
