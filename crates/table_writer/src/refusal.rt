@@ -5,7 +5,7 @@ use protocol::VALUE_LIMIT;
 use ranges::tests::all_below;
 use ranges::tests::all_within;
 use ranges::tests::settings_refusal;
-use refusals::refuse;
+use ranges::tests::refuse;
 use text_parts::fits;
 ghost use mathlib.Core.Path.{_≡_};
 ghost use Rattle.text_parts.specs.Parts.{tablesOf};
