@@ -1,5 +1,5 @@
 // The calls on texts: the table reader, the table writer, and `verify`. Reader and writer are lent six tables: `run_tables` and `run_last` read them,
-// three each. `answer` and `answer_verify` make the call and print what it gives.
+// three each. Each `answer` makes the call and prints what it gives.
 use crate::input::Input;
 use crate::output;
 use crate::tables;
@@ -14,6 +14,66 @@ struct Task {
     parts: Parts,
 }
 
+fn answer_read(
+    parts: Parts,
+    text: &[u8],
+    key: &mut [u32],
+    message: &mut [i32],
+    commitment: &mut [u32],
+    rounds: &mut [u32],
+    challenges: &mut [u32],
+    last: &mut [i32],
+) {
+    let answer = table_reader::read(
+        parts,
+        text,
+        key,
+        message,
+        commitment,
+        rounds,
+        challenges,
+        last,
+    );
+    let settings = answer.settings;
+    output::first(answer.refusal);
+    output::settings(settings);
+    output::residues(key);
+    output::signeds(message);
+    output::residues(commitment);
+    output::residues(rounds);
+    output::residues(challenges);
+    output::signeds(last);
+    output::end();
+}
+
+fn answer_write(
+    settings: Settings,
+    parts: Parts,
+    key: &[u32],
+    message: &[i32],
+    commitment: &[u32],
+    rounds: &[u32],
+    challenges: &[u32],
+    last: &[i32],
+    out: &mut [u8],
+) {
+    let answer = table_writer::write(
+        settings,
+        parts,
+        key,
+        message,
+        commitment,
+        rounds,
+        challenges,
+        last,
+        out,
+    );
+    output::first(answer.refusal);
+    output::count(answer.count);
+    output::text(out);
+    output::end();
+}
+
 fn answer(
     task: Task,
     text: &mut [u8],
@@ -26,9 +86,8 @@ fn answer(
 ) {
     let parts = task.parts;
     if task.writes {
-        let settings = task.settings;
-        let answer = table_writer::write(
-            settings,
+        answer_write(
+            task.settings,
             parts,
             key,
             message,
@@ -38,11 +97,8 @@ fn answer(
             last,
             text,
         );
-        output::first(answer.refusal);
-        output::count(answer.count);
-        output::text(text);
     } else {
-        let answer = table_reader::read(
+        answer_read(
             parts,
             text,
             key,
@@ -52,17 +108,7 @@ fn answer(
             challenges,
             last,
         );
-        let settings = answer.settings;
-        output::first(answer.refusal);
-        output::settings(settings);
-        output::residues(key);
-        output::signeds(message);
-        output::residues(commitment);
-        output::residues(rounds);
-        output::residues(challenges);
-        output::signeds(last);
     }
-    output::end();
 }
 
 fn run_last(
