@@ -49,88 +49,90 @@ fn least(a: u64, b: usize) -> usize
     b
 }
 
-// The next numbers, as many as wanted, with no length before them.
-fn some_residues(input: Input, wanted: u64, t: &mut [u32]) -> Filled
+// Room for as many numbers as wanted, none of them read yet.
+fn room(input: Input, wanted: u64, most: usize) -> Filled
+    ensures { λ r. ⌜ r .count ≤ most ⌝ }
+{
+    Filled {
+        count: least(wanted, most),
+        next: input,
+    }
+}
+
+// The same, after the length that stands before a table.
+fn room_for_table(input: Input, most: usize) -> Filled
+    ensures { λ r. ⌜ r .count ≤ most ⌝ }
+{
+    let size = input.number();
+    room(size.next, size.value.magnitude, most)
+}
+
+fn read_residues(start: Filled, t: &mut [u32]) -> Filled
+    requires { ⌜ start .count ≤ length (now t) ⌝ }
     ensures { λ r. ⌜ Counted (r .count) (now (t .exit)) ⌝ }
 {
-    let count = least(wanted, t.len());
-    let mut next = input;
+    let mut filled = start;
     let mut i: usize = 0;
-    while i < count {
-        let taken = next.number();
+    while i < filled.count {
+        let taken = filled.next.number();
         t[i] = taken.value.residue();
-        next = taken.next;
+        let next = taken.next;
+        filled.next = next;
         i += 1;
     }
-    Filled {
-        count: count,
-        next: next,
-    }
+    filled
 }
 
 pub fn residues(input: Input, t: &mut [u32]) -> Filled
     ensures { λ r. ⌜ Counted (r .count) (now (t .exit)) ⌝ }
 {
-    let size = input.number();
-    some_residues(size.next, size.value.magnitude, t)
+    read_residues(room_for_table(input, t.len()), t)
 }
 
 pub fn signeds(input: Input, t: &mut [i32]) -> Filled
     ensures { λ r. ⌜ Counted (r .count) (now (t .exit)) ⌝ }
 {
-    let size = input.number();
-    let count = least(size.value.magnitude, t.len());
-    let mut next = size.next;
+    let mut filled = room_for_table(input, t.len());
     let mut i: usize = 0;
-    while i < count {
-        let taken = next.number();
+    while i < filled.count {
+        let taken = filled.next.number();
         t[i] = taken.value.signed();
-        next = taken.next;
+        let next = taken.next;
+        filled.next = next;
         i += 1;
     }
-    Filled {
-        count: count,
-        next: next,
-    }
+    filled
 }
 
 pub fn wides(input: Input, t: &mut [i64]) -> Filled
     ensures { λ r. ⌜ Counted (r .count) (now (t .exit)) ⌝ }
 {
-    let size = input.number();
-    let count = least(size.value.magnitude, t.len());
-    let mut next = size.next;
+    let mut filled = room_for_table(input, t.len());
     let mut i: usize = 0;
-    while i < count {
-        let taken = next.number();
+    while i < filled.count {
+        let taken = filled.next.number();
         t[i] = taken.value.wide();
-        next = taken.next;
+        let next = taken.next;
+        filled.next = next;
         i += 1;
     }
-    Filled {
-        count: count,
-        next: next,
-    }
+    filled
 }
 
 // A text: its length, one byte that ends that number, and its bytes as they are.
 pub fn text(input: Input, t: &mut [u8]) -> Filled
     ensures { λ r. ⌜ Counted (r .count) (now (t .exit)) ⌝ }
 {
-    let size = input.number();
-    let count = least(size.value.magnitude, t.len());
-    let mut next = size.next;
+    let mut filled = room_for_table(input, t.len());
     let mut i: usize = 0;
-    while i < count {
-        let taken = next.byte();
+    while i < filled.count {
+        let taken = filled.next.byte();
         t[i] = taken.byte;
-        next = taken.next;
+        let next = taken.next;
+        filled.next = next;
         i += 1;
     }
-    Filled {
-        count: count,
-        next: next,
-    }
+    filled
 }
 
 // An output slice before it is written: its length, and the byte at all its places.
@@ -220,7 +222,7 @@ pub fn session(input: Input) -> SessionTaken {
     let closed = done.next.number();
     let claim = element(closed.next);
     let mut challenges = [0u32; 8];
-    let filled = some_residues(claim.next, 8, &mut challenges);
+    let filled = read_residues(room(claim.next, 8, 8), &mut challenges);
     let set = given.settings;
     let places = claim.places;
     let session = Session {

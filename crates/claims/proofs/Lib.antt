@@ -24,5 +24,6 @@ pub mod Extractor
 pub mod GrowthCases
 pub mod Demand3
 pub mod Performed
+mod WrittenRead
 pub mod RoundTrip
 pub mod ProveVerify

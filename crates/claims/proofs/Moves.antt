@@ -55,7 +55,7 @@ module _ (S : Settings) (G : List ℕ) (M : List ℤ) (E : List ℕ) where
   }
 
 -- one call more that is not refused
-numbers-snoc : (n m : ℕ) → suc n ≡ m → _++_ {A = ℕ} (replicate n 0) (0 ∷ []) ≡ replicate m 0
+pub numbers-snoc : (n m : ℕ) → suc n ≡ m → _++_ {A = ℕ} (replicate n 0) (0 ∷ []) ≡ replicate m 0
 numbers-snoc n m e = replicate-append-replicate n 1 0 ∙ ap (λ k. replicate k 0) (add-one n ∙ e)
 
 module _ {S : Settings} {G : List ℕ} {M : List ℤ} {E : List ℕ} (ok : Given S G M E) where
@@ -85,11 +85,11 @@ module _ {S : Settings} {G : List ℕ} {M : List ℤ} {E : List ℕ} (ok : Given
       long : length (c t j) ≡ d
       long = round-below S (modulus-positive S (ok .settings)) t (keyAfter S E t G) (messageAfter S E t M) j .long
 
-  rounds-zero : roundsAfter S G M E 0 ≡ []
+  pub rounds-zero : roundsAfter S G M E 0 ≡ []
   unfolding roundsAfter flat tabulate
   rounds-zero = rw (Nat.zero-mul d)
 
-  rounds-suc : (t : ℕ) → roundsAfter S G M E t ++ take d (padded d (c t 0)) ++ take d (padded d (c t 1)) ++ take d (padded d (c t 2)) ≡ roundsAfter S G M E (suc t)
+  pub rounds-suc : (t : ℕ) → roundsAfter S G M E t ++ take d (padded d (c t 0)) ++ take d (padded d (c t 1)) ++ take d (padded d (c t 2)) ≡ roundsAfter S G M E (suc t)
   unfolding roundsAfter
   rounds-suc t = sym (ap (λ n. flat d n entry) three ∙ rw (more 2 (omega arith), more 1 (omega arith), more 0 (omega arith), Nat.add-zero (3 * t)))
     where

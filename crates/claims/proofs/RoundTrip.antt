@@ -1,218 +1,33 @@
 -- The round trip holds: reading gives back what was written, and writing what was read.
 use mathlib.Core.Path.{_≡_, refl, sym, _∙_, ap, ap₂, subst}
 use mathlib.Core.Bool.{Bool, true, false, and-eq-true-iff, true≢false}
-use mathlib.Core.List.{List, [], _∷_, _++_, map, map-append, flatMap, zipWith}
+use mathlib.Core.List.{List, [], _∷_, _++_, map, flatMap, zipWith}
 use mathlib.Core.Option.{Option, none, some, Option·getD}
 use Prim.Native.Nat.{ℕ, _*_, _<_, _≤_}
 use native.Mathlib.Omega.{arith}
-use lib.Dec.{leb, eqb}
+use lib.Dec.{eqb}
 use lib.ListN.{length, getD, take, drop, List·getD-append}
-use lib.Seq.{take-append-seam}
-use lib.IntN.{ℤ, pos, negsuc, natAbs}
-use borrow.Author.Tests.{leb-true, le-leb, eqb-true, eq-eqb}
+use lib.IntN.{ℤ, pos, natAbs}
+use borrow.Author.Tests.{leb-true, le-leb}
 use Rattle.protocol.specs.declared.Settings.{Settings}
 use Rattle.protocol.specs.declared.Parts.{Parts}
-use Rattle.protocol.specs.Basic.{tabulate, all, choose, within, first, unless, granted}
-use Rattle.protocol.specs.Settings.{settingsRefusal, sized, residues}
+use Rattle.protocol.specs.Basic.{tabulate, all, choose, within, granted}
+use Rattle.protocol.specs.Settings.{settingsRefusal, residues}
 use Rattle.protocol.specs.Settings.{exponent, exponents}
-use Rattle.protocol.specs.Text.{Spot, Line, Shape, Tables, textLimit, valueLimit, names, linesText, shape, settingsShape, shapes, shapeSize}
-use Rattle.protocol.specs.Text.{spotAt, spots, wanted, contents, block, blocks, blockLines, textOf, blockFits, fits}
-use Rattle.protocol.specs.Text.{parsed, linesOf, sameSpot, sameSpots, spotsOf, valuesOf, wellFormed, unsigned, column, unsignedColumn}
+use Rattle.protocol.specs.Text.{Line, Tables, textLimit, valueLimit, names, linesText, shape, settingsShape, shapes, shapeSize}
+use Rattle.protocol.specs.Text.{spots, wanted, contents, block, blocks, blockLines, textOf, fits}
+use Rattle.protocol.specs.Text.{parsed, linesOf, sameSpots, spotsOf, valuesOf, wellFormed, unsigned, column, unsignedColumn}
 use Rattle.protocol.specs.Text.{settingIn, settingsIn, tablesIn, lookRefusal, loaded, entriesRefusal, textRefusal, readRefusal, readAnswer}
 use Rattle.protocol.specs.Text.{readExit}
-use Rattle.protocol.specs.Text.{outputRefusal, writeRefusal, written, overwritten, writeAnswer, writeExit}
-use Rattle.protocol.specs.RoundTrip.{outcome, Back, Forth, RoundTrip, OneText}
+use Rattle.protocol.specs.Text.{written, overwritten, writeAnswer, writeExit}
+use Rattle.protocol.specs.RoundTrip.{Forth, RoundTrip, OneText}
 use Rattle.protocol.proofs.Tests.{first-zero, unless-zero, and-intro}
-use Rattle.protocol.proofs.LineLaws.{AllLimited, linesOf-written, parsed-text}
-use Rattle.protocol.proofs.TableLaws.{Rising, Fit, parts, columns, written-spots, written-columns, blockLines-values, read-lines, read-fit}
+use Rattle.protocol.proofs.LineLaws.{AllLimited, parsed-text}
+use Rattle.protocol.proofs.TableLaws.{Fit, parts, columns, read-lines, read-fit}
 use Rattle.protocol.proofs.TableLaws.{Split, split}
-use Rattle.protocol.proofs.TextLimits.{Allowed, allowed, Passed, passed, unrefused, lines-limited, contents-limited, below-limited, exponent-le}
-
--- ---- The parts
-
-shapes-rise : (S : Settings) (P : Parts) → Rising 0 (parts (shapes S P))
-unfolding shapes shape settingsShape
-shapes-rise S P = (omega arith, (omega arith, (omega arith, (omega arith, (omega arith, (omega arith, (omega arith, tt)))))))
-
-fit : (bs : List Shape) (vs : List (List ℤ)) → length vs ≡ length bs → all blockFits (zipWith block bs vs) ≡ true → Fit bs vs
-unfolding all zipWith blockFits block sized
-fit [] [] e h = tt
-fit [] (v ∷ vs) e h = absurd (omega arith)
-fit (b ∷ bs) [] e h = absurd (omega arith)
-fit (b ∷ bs) (v ∷ vs) e h =
-    let (here, more) = and-eq-true-iff (eqb (length v) (shapeSize b)) (all blockFits (zipWith block bs vs)) .0 h in
-    (eqb-true (length v) (shapeSize b) here, fit bs vs (omega arith) more)
-
-fit-all : (bs : List Shape) (vs : List (List ℤ)) → Fit bs vs → all blockFits (zipWith block bs vs) ≡ true
-unfolding all zipWith blockFits block sized
-fit-all [] [] h = refl
-fit-all [] (v ∷ vs) h = absurd h
-fit-all (b ∷ bs) [] h = absurd h
-fit-all (b ∷ bs) (v ∷ vs) h = and-intro (eq-eqb (length v) (shapeSize b) (h .0)) (fit-all bs vs (h .1))
-
-fits-fit : (S : Settings) (P : Parts) (t : Tables) → fits S P t ≡ true → Fit (shapes S P) (contents S t)
-unfolding fits blocks
-fits-fit S P t h = fit (shapes S P) (contents S t) (unfold shapes contents in refl) h
-
--- ---- Spots and settings
-
-sameSpots-refl : (ss : List Spot) → sameSpots ss ss ≡ true
-unfolding sameSpots sameSpot
-sameSpots-refl [] = refl
-sameSpots-refl (s ∷ ss) = rw (eq-eqb (s .part) (s .part) refl, eq-eqb (s .item) (s .item) refl, eq-eqb (s .place) (s .place) refl, sameSpots-refl ss)
-
-sameSpots-eq : (ss ts : List Spot) → sameSpots ss ts ≡ true → ss ≡ ts
-unfolding sameSpots sameSpot
-sameSpots-eq [] [] h = refl
-sameSpots-eq [] (t ∷ ts) h = absurd (true≢false (sym h))
-sameSpots-eq (s ∷ ss) [] h = absurd (true≢false (sym h))
-sameSpots-eq (s ∷ ss) (t ∷ ts) h =
-    let (here, more) = and-eq-true-iff (sameSpot s t) (sameSpots ss ts) .0 h in
-    let (p, ik) = and-eq-true-iff (eqb (s .part) (t .part)) _ .0 here in
-    let (i, k) = and-eq-true-iff (eqb (s .item) (t .item)) (eqb (s .place) (t .place)) .0 ik in
-    let e₀ : s .part ≡ t .part = eqb-true _ _ p in
-    let e₁ : s .item ≡ t .item = eqb-true _ _ i in
-    let e₂ : s .place ≡ t .place = eqb-true _ _ k in
-    ap₂ (λ (x : Spot) (y : List Spot). x ∷ y) (λ d. record { part = e₀ d; item = e₁ d; place = e₂ d }) (sameSpots-eq ss ts more)
-
-unsigned-back : (v : List ℕ) → map unsigned (map pos v) ≡ v
-unfolding unsigned
-unsigned-back [] = refl
-unsigned-back (x ∷ v) = ap (λ (l : List ℕ). x ∷ l) (unsigned-back v)
-
-unsigned-pos : (z : ℤ) → unsigned z ≤ valueLimit → pos (unsigned z) ≡ z
-unfolding unsigned
-unsigned-pos (pos n) h = refl
-unsigned-pos (negsuc n) h = absurd (omega arith)
-
-unsigned-forth : (v : List ℤ) → all (λ x. leb x valueLimit) (map unsigned v) ≡ true → map pos (map unsigned v) ≡ v
-unfolding all
-unsigned-forth [] h = refl
-unsigned-forth (z ∷ v) h =
-    let (here, more) = and-eq-true-iff (leb (unsigned z) valueLimit) _ .0 h in
-    ap₂ (λ (x : ℤ) (y : List ℤ). x ∷ y) (unsigned-pos z (leb-true (unsigned z) valueLimit here)) (unsigned-forth v more)
-
--- ---- Written, then read
-
-valuesOf-append : (ks ls : List Line) → valuesOf (ks ++ ls) ≡ valuesOf ks ++ valuesOf ls
-unfolding valuesOf
-valuesOf-append ks ls = map-append (λ (l : Line). l .value) ks ls
-
-module _ (S : Settings) (P : Parts) (t : Tables) where
-  abbrev lines : List Line
-  lines = flatMap blockLines (blocks S P t)
-
-  lines-read : Allowed S → Passed S t → linesOf (textOf S P t) ≡ lines
-  unfolding textOf blocks
-  lines-read a p = linesOf-written lines (lines-limited (shapes S P) (contents S t) (contents-limited S P t a p))
-
-  settings-values : valuesOf lines
-      ≡ (pos (S .degree) ∷ pos (S .depth) ∷ pos (S .modulus) ∷ pos (S .bound) ∷ []) ++ valuesOf (flatMap blockLines (drop 1 (blocks S P t)))
-  unfolding blocks shapes contents flatMap zipWith settingsShape shape choose shapeSize
-  settings-values =
-      valuesOf-append (blockLines (block settingsShape own)) rest ∙ ap (λ (v : List ℤ). v ++ valuesOf rest) (blockLines-values settingsShape own refl)
-    where
-      own : List ℤ
-      own = pos (S .degree) ∷ pos (S .depth) ∷ pos (S .modulus) ∷ pos (S .bound) ∷ []
-
-      rest : List Line
-      rest = flatMap blockLines (drop 1 (blocks S P t))
-
-  settings-back : settingsIn lines ≡ S
-  unfolding settingsIn settingIn unsigned
-  settings-back = rw settings-values
-
-  module _ (f : Fit (shapes S P) (contents S t)) where
-    spots-wanted : spotsOf lines ≡ wanted S P
-    unfolding wanted blocks
-    spots-wanted = written-spots (shapes S P) (contents S t) f
-
-    columns-back : columns (0 ∷ 1 ∷ 2 ∷ 3 ∷ 4 ∷ 5 ∷ 6 ∷ []) lines ≡ contents S t
-    unfolding blocks shapes settingsShape shape
-    columns-back = written-columns 0 (shapes S P) (contents S t) (shapes-rise S P) f
-
-    column-back : (p : ℕ) → getD (columns (0 ∷ 1 ∷ 2 ∷ 3 ∷ 4 ∷ 5 ∷ 6 ∷ []) lines) p [] ≡ getD (contents S t) p []
-    column-back p = ap (λ (vs : List (List ℤ)). getD vs p []) columns-back
-
-    tables-back : tablesIn lines ≡ t
-    unfolding tablesIn unsignedColumn contents
-    tables-back =
-        let k : map unsigned (column 1 lines) ≡ t .key = ap (map unsigned) (column-back 1) ∙ unsigned-back (t .key) in
-        let c : map unsigned (column 3 lines) ≡ t .commitment = ap (map unsigned) (column-back 3) ∙ unsigned-back (t .commitment) in
-        let r : map unsigned (column 4 lines) ≡ t .rounds = ap (map unsigned) (column-back 4) ∙ unsigned-back (t .rounds) in
-        let e : map unsigned (column 5 lines) ≡ t .challenges = ap (map unsigned) (column-back 5) ∙ unsigned-back (t .challenges) in
-        λ i. record { key = k i; message = column-back 2 i; commitment = c i; rounds = r i; challenges = e i; last = column-back 6 i }
-
-    well-formed : Allowed S → Passed S t → wellFormed (textOf S P t) ≡ true
-    unfolding wellFormed wanted shapes flatMap settingsShape shape choose shapeSize spots spotAt tabulate sameSpots sameSpot
-    well-formed a p = rw (lines-read a p, spots-wanted)
-
-    -- the lent tables having their lengths
-    read-back : Allowed S → Passed S t → settingsRefusal S ≡ 0 → length (textOf S P t) ≤ textLimit → (lent : Bool) → lent ≡ true → textRefusal P lent (textOf S P t) ≡ 0
-    unfolding textRefusal lookRefusal first unless
-    read-back a p s n lent h =
-        rw (
-          le-leb (length (textOf S P t)) textLimit n,
-          well-formed a p,
-          lines-read a p,
-          settings-back,
-          s,
-          spots-wanted,
-          sameSpots-refl (wanted S P),
-          h,
-          tables-back,
-          unrefused S true t p refl,
-        )
-
--- what the writer asks of settings, tables and output slice
-record Writable (S : Settings) (P : Parts) (t : Tables) (out : List ℕ) : Type 0 where
-  settings : settingsRefusal S ≡ 0
-  tables : fits S P t ≡ true
-  entries : entriesRefusal S (all (within valueLimit) (t .last)) t ≡ 0
-  short : length (textOf S P t) ≤ textLimit
-  room : length (textOf S P t) ≤ length out
-
-writable : (S : Settings) (P : Parts) (t : Tables) (out : List ℕ) → writeRefusal S P t (length out) ≡ 0 → Writable S P t out
-unfolding writeRefusal outputRefusal
-writable S P t out h =
-    let (h₁, r₁) = first-zero _ _ h in
-    let (h₂, r₂) = first-zero _ _ r₁ in
-    let (h₃, r₃) = first-zero _ _ r₂ in
-    let (h₄, r₄) = first-zero _ _ r₃ in
-    let (h₅, r₅) = first-zero _ _ h₄ in
-    let (h₆, r₆) = first-zero _ _ r₅ in
-    record {
-      settings = h₁;
-      tables = unless-zero 6 _ h₂;
-      entries = h₃;
-      short = leb-true _ textLimit (unless-zero 0 _ h₅);
-      room = leb-true _ (length out) (unless-zero 6 _ h₆);
-    }
-
-writable-refusal : (S : Settings) (P : Parts) (t : Tables) (out : List ℕ) → Writable S P t out → writeRefusal S P t (length out) ≡ 0
-unfolding writeRefusal outputRefusal first unless
-writable-refusal S P t out w =
-    rw (w .settings, w .tables, w .entries, le-leb (length (textOf S P t)) textLimit (w .short), le-leb (length (textOf S P t)) (length out) (w .room))
-
-text-written : (S : Settings) (P : Parts) (t : Tables) (out : List ℕ) → writeRefusal S P t (length out) ≡ 0 → outcome S P t out ≡ textOf S P t
-unfolding outcome writeAnswer writeExit written overwritten granted
-text-written S P t out h = rw h (take-append-seam (textOf S P t) (drop (length (textOf S P t)) out))
-
-back : (S : Settings) (P : Parts) (t : Tables) (out : List ℕ) (lent : Tables) → writeRefusal S P t (length out) ≡ 0 → fits S P lent ≡ true
-    → Back S P t out lent
-unfolding readRefusal readAnswer readExit loaded granted
-back S P t out lent h f =
-    let w = writable S P t out h in
-    let a = allowed S (w .settings) in
-    let p = passed S _ t (w .entries) (λ e. e) in
-    let g = fits-fit S P t (w .tables) in
-    let r : readRefusal P (textOf S P t) lent ≡ 0 = read-back S P t g a p (w .settings) (w .short) _ (ap (λ R. fits R P lent) (ap settingsIn (lines-read S P t a p) ∙ settings-back S P t) ∙ f) in
-    record {
-      answer = rw (text-written S P t out h, r, lines-read S P t a p, settings-back S P t);
-      tables = rw (text-written S P t out h, r, lines-read S P t a p, tables-back S P t g);
-    }
-
--- ---- Read, then written
+use Rattle.protocol.proofs.TextLimits.{Allowed, allowed, Passed, passed, unrefused, below-limited, exponent-le}
+use Rattle.protocol.proofs.ColumnLaws.{sameSpots-eq, valuesOf-append}
+use Rattle.claims.proofs.WrittenRead.{shapes-rise, fit-all, unsigned-pos, unsigned-forth, lines-read, settings-back, tables-back, read-back, Writable, writable-refusal, back}
 
 column-limited : (p : ℕ) (ls : List Line) → AllLimited ls → all (within valueLimit) (column p ls) ≡ true
 unfolding column choose all within

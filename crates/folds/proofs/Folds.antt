@@ -10,14 +10,14 @@ use lib.Seq.{getD-drop, getD-take, length-take-le}
 use Rattle.protocol.specs.Basic.{flat}
 use Rattle.protocol.specs.Element.{Element, width, modulo, rotate, residue, residueAt}
 use Rattle.protocol.specs.Opening.{foldResidues}
-use Rattle.protocol.proofs.Reading.{cell-element, cell-place}
+use Rattle.protocol.proofs.Reading.{cell-element, cell-place, row-inside}
 use Rattle.residues.specs.Lists.{spliced}
 use Rattle.residues.specs.Residues.{Residues}
 use Rattle.rotations.specs.Values.{Summands, plusTurned}
 use Rattle.folds.specs.Folds.{halfMost, folded, foldDown, foldedAt, foldHalves, Foldable}
 use Rattle.residues.proofs.Around.{around-ext, rotate-mod}
 use Rattle.residues.proofs.Splice.{spliced-none, spliced-length, spliced-inside, spliced-behind, spliced-ext, spliced-twice, spliced-append, spliced-over}
-use Rattle.residues.proofs.Parts.{row-inside, residues-part, residues-alike, residues-kept, as-was, tail-at, same-long}
+use Rattle.residues.proofs.Parts.{residues-part, residues-alike, residues-kept, as-was, tail-at, same-long}
 
 -- a half has few numbers
 pub few : (d h : ℕ) → d ≤ width → h ≤ halfMost → h * d ≤ halfMost * width

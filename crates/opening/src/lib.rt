@@ -22,7 +22,7 @@ pub fn open(
 ) -> Opened
     ensures { λ r. ⌜ Opening settings (now (key .entry)) (now (message .entry)) (now (challenges .entry)) (now (rounds .entry)) r (now (key .exit)) (now (message .exit)) (now (rounds .exit)) ⌝ }
 {
-    let refusal = refusals::opening::open(settings, key, message, challenges, rounds);
+    let refusal = prover_refusals::opening::open(settings, key, message, challenges, rounds);
     if refusal != 0 {
         return Opened {
             refusal,

@@ -20,11 +20,16 @@ pub mod Listing
 pub mod Known
 pub mod Traps
 pub mod ComputeText
+pub mod TextExamples
+pub mod TextRows
 pub mod KnownTexts
+pub mod DigitLaws
+pub mod NumeralWritten
 pub mod NumeralLaws
 pub mod LineLaws
 pub mod PlaceLaws
 pub mod ReaderLaws
+pub mod ColumnLaws
 pub mod TableLaws
 pub mod Trial
 pub mod TrialTree

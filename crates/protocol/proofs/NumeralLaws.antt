@@ -1,207 +1,23 @@
--- Laws about numbers as text: a number that is written is read back, and a number that is read is written with the same bytes.
--- Shared by the round trip of texts and by whoever reads or writes a number.
+-- Laws about numbers as text: a number that is read is written with the same bytes. Shared by the round trip of texts and by whoever reads or writes a number;
+-- the laws of digits, and that a number that is written is read back, are passed on.
 use mathlib.Core.Path.{_≡_, refl, sym, _∙_, ap, subst}
-use mathlib.Core.Bool.{Bool, true, false, _&&_, not, and-true, and-false, and-eq-true-iff, true≢false}
-use mathlib.Core.List.{List, [], _∷_, _++_, append-assoc}
+use mathlib.Core.Bool.{Bool, true, false, _&&_, not, and-true, and-eq-true-iff, true≢false}
+use mathlib.Core.List.{List, [], _∷_, _++_}
 use mathlib.Core.Option.{Option, none, some, bind, Option·none-ne-some}
 use Prim.Native.Nat.{ℕ, zero, suc, _+_, _*_, _-_, _/_, _%_, _^_, _<_, _≤_}
 use native.Mathlib.Omega.{arith}
-use native.Mathlib.Numerals.{add-one}
 use native.Mathlib.Decide.{decLt}
-use native.Mathlib.Nat.{le-trans, zero-mul, mul-assoc, pow-succ', mod-lt, mod-eq-of-lt, mul-add-mod-self-right, div-add-mod', div-div-eq-div-mul}
-use native.Mathlib.Nat.{pow-suc, mod-one, mul-one, div-one, one-le-pow, pow-le-pow-right, le-div-iff-mul-le, div-lt-iff-lt-mul, div-le-self}
-use lib.Dec.{leb, ltb, eqb, eqb·suc-zero}
-use lib.ListN.{length, length-append}
+use native.Mathlib.Nat.{le-trans, mod-lt, div-div-eq-div-mul}
+use native.Mathlib.Nat.{pow-suc, div-one, le-div-iff-mul-le, div-lt-iff-lt-mul, div-le-self}
+use lib.Dec.{leb, eqb}
 use lib.IntN.{ℤ, pos, negsuc, natAbs}
-use borrow.Author.Tests.{le-leb, lt-ltb, le-ltb, ltb-true, ltb-false, leb-true, ne-eqb, eqb-true, eqb-false, not-true}
-use Rattle.protocol.specs.Basic.{least}
-use Rattle.protocol.specs.Text.{valueLimit, digitCount, lowDigits, decimal, numeral, keep, digit, digitRun, digitFirst, properDigits, readCount}
+use borrow.Author.Tests.{leb-true, eqb-true, eqb-false, not-true}
+use Rattle.protocol.specs.Text.{valueLimit, lowDigits, decimal, numeral, keep, digit, digitRun, digitFirst, properDigits, readCount}
 use Rattle.protocol.specs.Text.{plain, negative, readNumber}
-use Rattle.protocol.proofs.Tests.{First, least-first, least-is}
-
--- ---- Digits
-
-pub lowDigits-length : (k n : ℕ) → length (lowDigits k n) ≡ k
-unfolding lowDigits
-lowDigits-length zero n = refl
-lowDigits-length (suc k) n = length-append (lowDigits k (n / 10)) _ ∙ ap (λ (l : ℕ). l + 1) (lowDigits-length k (n / 10)) ∙ add-one k
-
-pub decimal-length : (n : ℕ) → length (decimal n) ≡ digitCount n
-unfolding decimal
-decimal-length n = lowDigits-length (digitCount n) n
-
-pub digit-of : (r : ℕ) → r < 10 → digit (48 + r) ≡ true
-unfolding digit
-digit-of r h = rw (le-leb 48 (48 + r) (omega arith), le-leb (48 + r) 57 (omega arith))
-
-pub digitRun-on : (n b : ℕ) (bs : List ℕ) → digit b ≡ true → digitRun n (b ∷ bs) ≡ digitRun (n * 10 + (b - 48)) bs
-unfolding digitRun
-digitRun-on n b bs h = rw (h, digitRun)
-
-pub digitRun-digit : (n r : ℕ) (bs : List ℕ) → r < 10 → digitRun n ((48 + r) ∷ bs) ≡ digitRun (n * 10 + r) bs
-digitRun-digit n r bs h = digitRun-on n (48 + r) bs (digit-of r h) ∙ ap (λ (x : ℕ). digitRun (n * 10 + x) bs) (omega arith)
-
--- the digits from the first that is no digit on are left
-pub digitRun-stop : (n : ℕ) (rest : List ℕ) → digitFirst rest ≡ false → digitRun n rest ≡ (n, rest)
-unfolding digitRun digitFirst
-digitRun-stop n [] h = refl
-digitRun-stop n (b ∷ bs) h = rw (h, digitRun)
-
--- n modulo 10·P by its last digit and what stands before it
-mod-ten : (n P : ℕ) → 0 < P → n % (P * 10) ≡ n / 10 % P * 10 + n % 10
-mod-ten n P h =
-    let split : n ≡ n / 10 / P * (P * 10) + (n / 10 % P * 10 + n % 10) = omega (arith, div-add-mod' (n / 10) P, mul-assoc (n / 10 / P) P 10) in
-    let r : n % 10 < 10 = mod-lt n (omega arith) in
-    let a : n / 10 % P < P = mod-lt (n / 10) h in
-    ap (λ (x : ℕ). x % (P * 10)) split
-    ∙ mul-add-mod-self-right (n / 10 / P) (P * 10) (n / 10 % P * 10 + n % 10)
-    ∙ mod-eq-of-lt (omega arith)
-
-ten-pos : (k : ℕ) → 0 < 10 ^ k
-ten-pos k = one-le-pow k 10 (omega arith)
-
-ten-le : (i j : ℕ) → i ≤ j → 10 ^ i ≤ 10 ^ j
-ten-le i j h = pow-le-pow-right {n = 10} (omega arith) {i = i} {j = j} h
-
--- the last k digits of n stand for n modulo 10^k
-pub digitRun-low : (k n m : ℕ) (rest : List ℕ) → digitRun m (lowDigits k n ++ rest) ≡ digitRun (m * 10 ^ k + n % 10 ^ k) rest
-unfolding lowDigits
-digitRun-low zero n m rest = ap (λ (x : ℕ). digitRun x rest) (omega (arith, mul-one m, mod-one n))
-digitRun-low (suc k) n m rest =
-    ap (digitRun m) (append-assoc (lowDigits k (n / 10)) _ rest)
-    ∙ digitRun-low k (n / 10) m ((48 + n % 10) ∷ rest)
-    ∙ digitRun-digit (m * 10 ^ k + n / 10 % 10 ^ k) (n % 10) rest (mod-lt n (omega arith))
-    ∙ ap
-    (λ (x : ℕ). digitRun x rest)
-    (omega (arith, mul-assoc m (10 ^ k) 10, mod-ten n (10 ^ k) (ten-pos k), ap (λ (x : ℕ). m * x) (pow-suc 10 k), ap (λ (x : ℕ). n % x) (pow-suc 10 k)))
-
--- the first of k + 1 digits
-pub lowDigits-cons : (k n : ℕ) → lowDigits (suc k) n ≡ (48 + n / 10 ^ k % 10) ∷ lowDigits k n
-unfolding lowDigits
-lowDigits-cons zero n = ap (λ (x : ℕ). (48 + x % 10) ∷ []) (sym (div-one n))
-lowDigits-cons (suc k) n =
-    ap (λ (l : List ℕ). l ++ ((48 + n % 10) ∷ [])) (lowDigits-cons k (n / 10))
-    ∙ ap
-    (λ (x : ℕ). (48 + x % 10) ∷ (lowDigits k (n / 10) ++ ((48 + n % 10) ∷ [])))
-    (div-div-eq-div-mul n 10 (10 ^ k) ∙ ap (λ (x : ℕ). n / x) (sym (pow-succ' 10 k)))
-
--- ---- How many digits
-
--- a number of k digits: 10^(k−1) ≤ n < 10^k, and one digit for 0
-pub record Digits (n k : ℕ) : Type 0 where
-  pub some-digit : 0 < k
-  pub at-most : k ≤ 10
-  pub under : n < 10 ^ k
-  pub over : (i : ℕ) → suc i < k → 10 ^ suc i ≤ n
-
-pub digitCount-digits : (n : ℕ) → n < 10 ^ 10 → Digits n (digitCount n)
-unfolding digitCount
-digitCount-digits n h = go (least 9 (λ k. ltb n (10 ^ suc k))) (least-first 9 (λ k. ltb n (10 ^ suc k)))
-  where
-    last : (j : ℕ) → 9 ≡ j → n < 10 ^ suc j
-    last j e = subst (λ (x : ℕ). n < 10 ^ suc x) e h
-
-    top : (j : ℕ) → j ≤ 9 → (j < 9 → n < 10 ^ suc j) → n < 10 ^ suc j
-    top j l f = elim (decLt j 9) [ yes m ↦ f m | no m ↦ last j (omega arith) ]
-
-    go : (j : ℕ) → First 9 (λ k. ltb n (10 ^ suc k)) j → Digits n (suc j)
-    go j r = record {
-      some-digit = omega arith;
-      at-most = omega arith;
-      under = top j (r .at-most) (λ l. ltb-true n (10 ^ suc j) (r .holds l));
-      over = λ i l. ltb-false n (10 ^ suc i) (r .none-before i (omega arith));
-    }
-
-pub digits-count : (n k : ℕ) → Digits n k → digitCount n ≡ k
-unfolding digitCount
-digits-count n zero r = absurd (omega arith)
-digits-count n (suc j) r =
-    ap
-    suc
-    (least-is 9 (λ k. ltb n (10 ^ suc k)) j
-    (record {
-      at-most = omega (arith, r .at-most);
-      holds = λ l. lt-ltb n (10 ^ suc j) (r .under);
-      none-before = λ i l. le-ltb n (10 ^ suc i) (r .over i (omega arith));
-    }))
-
--- ---- A number that was written is read back
-
--- every value of a text has at most ten digits
-few-digits : (n : ℕ) → n ≤ valueLimit → n < 10 ^ 10
-unfolding valueLimit
-few-digits n h = omega arith
-
-pub digitRun-decimal : (n : ℕ) (rest : List ℕ) → n ≤ valueLimit → digitRun 0 (decimal n ++ rest) ≡ digitRun n rest
-unfolding decimal
-digitRun-decimal n rest h =
-    digitRun-low (digitCount n) n 0 rest
-    ∙ ap (λ (x : ℕ). digitRun x rest) (omega (arith, zero-mul (10 ^ digitCount n), mod-eq-of-lt (digitCount-digits n (few-digits n h) .under)))
-
--- the first digit of a number
-pub decimal-cons : (n j : ℕ) → digitCount n ≡ suc j → decimal n ≡ (48 + n / 10 ^ j % 10) ∷ lowDigits j n
-unfolding decimal
-decimal-cons n j e = ap (λ (k : ℕ). lowDigits k n) e ∙ lowDigits-cons j n
-
-pub digitCount-suc : (n : ℕ) → (j : ℕ) × (digitCount n ≡ suc j)
-unfolding digitCount
-digitCount-suc n = (least 9 (λ k. ltb n (10 ^ suc k)), refl)
-
--- no leading zero: of two digits or more the first is not 0
-leading : (n j : ℕ) → Digits n (suc (suc j)) → eqb (48 + n / 10 ^ suc j % 10) 48 ≡ false
-leading n j r =
-    let low : 1 ≤ n / 10 ^ suc j = le-div-iff-mul-le (ten-pos (suc j)) .1 (omega (arith, r .over j (omega arith))) in
-    let high : n / 10 ^ suc j < 10 = div-lt-iff-lt-mul (ten-pos (suc j)) .1 (omega (arith, r .under, pow-succ' 10 (suc j))) in
-    ne-eqb (48 + n / 10 ^ suc j % 10) 48 (λ e. omega (arith, mod-eq-of-lt high))
-
-pub proper-cons : (b : ℕ) (bs : List ℕ) → digit b ≡ true → eqb b 48 && digitFirst bs ≡ false → properDigits (b ∷ bs) ≡ true
-unfolding properDigits
-proper-cons b bs h e = rw (h, e)
-
-proper-decimal : (n j : ℕ) (rest : List ℕ) → digitCount n ≡ suc j → Digits n (suc j) → digitFirst rest ≡ false
-    → properDigits (decimal n ++ rest) ≡ true
-proper-decimal n zero rest e r h =
-    rw (decimal-cons n 0 e)
-    (proper-cons _ _ (digit-of (n / 1 % 10) (mod-lt (n / 1) (omega arith))) (unfold lowDigits in (rw h (and-false (eqb (48 + n / 1 % 10) 48)))))
-proper-decimal n (suc j) rest e r h =
-    rw (decimal-cons n (suc j) e)
-    (proper-cons _ _ (digit-of (n / 10 ^ suc j % 10) (mod-lt (n / 10 ^ suc j) (omega arith))) (rw (leading n j r)))
-
-pub readCount-decimal : (n : ℕ) (rest : List ℕ) → n ≤ valueLimit → digitFirst rest ≡ false → readCount (decimal n ++ rest) ≡ some (n, rest)
-unfolding readCount keep
-readCount-decimal n rest h stop =
-    let run : digitRun 0 (decimal n ++ rest) ≡ (n, rest) = digitRun-decimal n rest h ∙ digitRun-stop n rest stop in
-    let (j, e) = digitCount-suc n in
-    let digits : Digits n (suc j) = subst (Digits n) e (digitCount-digits n (few-digits n h)) in
-    rw (run, proper-decimal n j rest e digits stop, le-leb n valueLimit h)
-
-pub digit-bounds : (b : ℕ) → digit b ≡ true → (48 ≤ b) × (b ≤ 57)
-unfolding digit
-digit-bounds b h = let (low, high) = and-eq-true-iff (leb 48 b) (leb b 57) .0 h in (leb-true 48 b low, leb-true b 57 high)
-
-pub readNumber-plain : (b : ℕ) (bs : List ℕ) → eqb b 45 ≡ false → readNumber (b ∷ bs) ≡ plain (readCount (b ∷ bs))
-unfolding readNumber
-readNumber-plain b bs h = rw (h, readNumber)
-
-pub readNumber-numeral : (z : ℤ) (rest : List ℕ) → natAbs z ≤ valueLimit → digitFirst rest ≡ false → readNumber (numeral z ++ rest) ≡ some (z, rest)
-unfolding numeral readNumber plain negative bind keep
-readNumber-numeral (pos n) rest h stop =
-    let (j, e) = digitCount-suc n in
-    let c : decimal n ++ rest ≡ (48 + n / 10 ^ j % 10) ∷ (lowDigits j n ++ rest) = ap (λ (l : List ℕ). l ++ rest) (decimal-cons n j e) in
-    ap readNumber c
-    ∙ readNumber-plain (48 + n / 10 ^ j % 10) (lowDigits j n ++ rest) (ne-eqb (48 + n / 10 ^ j % 10) 45 (λ x. omega arith))
-    ∙ ap plain (ap readCount (sym c) ∙ readCount-decimal n rest h stop)
-readNumber-numeral (negsuc n) rest h stop = rw (readCount-decimal (suc n) rest h stop, eqb·suc-zero n)
-
-pub decimal-some : (n : ℕ) → 0 < length (decimal n)
-decimal-some n = omega (arith, decimal-length n, digitCount-suc n .1)
-
-pub numeral-some : (z : ℤ) → 0 < length (numeral z)
-unfolding numeral
-numeral-some (pos n) = decimal-some n
-numeral-some (negsuc n) = omega arith
-
--- ---- A number that was read is written with the same bytes
+use Rattle.protocol.proofs.DigitLaws.{digit-of, ten-pos, ten-le, lowDigits-cons, Digits}
+use Rattle.protocol.proofs.NumeralWritten.{few-digits, readNumber-plain}
+pub use Rattle.protocol.proofs.DigitLaws.{lowDigits-length, decimal-length, digitRun-on, digitRun-stop, digits-count, digit-bounds}
+pub use Rattle.protocol.proofs.NumeralWritten.{readNumber-numeral, readCount-decimal, numeral-some}
 
 -- the digits at the front of bs, behind digits that stand for m: they stand for v, and rest is behind them
 pub record Run (m : ℕ) (bs : List ℕ) (v : ℕ) (rest : List ℕ) : Type 0 where

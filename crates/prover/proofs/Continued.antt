@@ -22,7 +22,7 @@ use Rattle.residues.proofs.Fill.{filled-ext}
 use Rattle.residues.proofs.Padding.{padded-at}
 use Rattle.residues.proofs.Parts.{tail-at, tail-length, same-long}
 use Rattle.residues.proofs.Splice.{spliced-ext, spliced-before, spliced-length}
-use Rattle.refusals.proofs.Given.{RoundGiven, round-given}
+use Rattle.prover_refusals.proofs.Given.{RoundGiven, round-given}
 use Rattle.prover.specs.Messages.{Tables, Halved}
 use Rattle.prover.specs.Sums.{scaled, innerOfSums}
 use Rattle.prover.specs.Rounds.{elementPlaces, sumAt, halfOf, HalvesBelow, middleAt, lastAt, Continuing}

@@ -22,7 +22,7 @@ use Rattle.sizes.proofs.Limits.{degree-least, degree-most}
 use Rattle.products.specs.Sums.{Summable}
 use Rattle.residues.proofs.Parts.{tail-all}
 use Rattle.residues.proofs.Padding.{padded-at}
-use Rattle.refusals.proofs.Given.{CommitGiven}
+use Rattle.prover_refusals.proofs.Given.{CommitGiven}
 use Rattle.prover.specs.Messages.{Sized, Tables}
 use Rattle.prover.specs.Sums.{scaled}
 

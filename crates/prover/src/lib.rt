@@ -19,7 +19,7 @@ ghost use Rattle.protocol.specs.Promises.{Folded};
 pub fn commit(settings: Settings, key: &[Residue], message: &[i32]) -> Committed
     ensures { λ r. ⌜ r ≡ commitAnswer settings (now (key .entry)) (now (message .entry)) ⌝ }
 {
-    let refusal = refusals::prover::commit(settings, key, message);
+    let refusal = prover_refusals::prover::commit(settings, key, message);
     if refusal != 0 {
         return Committed {
             refusal,
@@ -54,7 +54,7 @@ pub fn elements_of(answer: Polynomial) -> [[Residue; WIDTH]; 3]
 pub fn round(settings: Settings, done: u32, key: &[Residue], message: &[i32]) -> Polynomial
     ensures { λ r. ⌜ r ≡ roundAnswer settings done (now (key .entry)) (now (message .entry)) ⌝ }
 {
-    let refusal = refusals::prover::round(settings, done, key, message);
+    let refusal = prover_refusals::prover::round(settings, done, key, message);
     if refusal != 0 {
         let none = [0u32; WIDTH];
         return polynomial_of(refusal, [none, none, none]);
@@ -71,7 +71,7 @@ pub fn round(settings: Settings, done: u32, key: &[Residue], message: &[i32]) ->
 pub fn fold(settings: Settings, done: u32, e: u32, key: &mut [Residue], message: &mut [i32]) -> u32
     ensures { λ r. ⌜ Folded settings done e (now (key .entry)) (now (message .entry)) r (now (key .exit)) (now (message .exit)) ⌝ }
 {
-    let refusal = refusals::prover::fold(settings, done, e, key, message);
+    let refusal = prover_refusals::prover::fold(settings, done, e, key, message);
     if refusal != 0 {
         return refusal;
     }
@@ -86,7 +86,7 @@ pub fn fold(settings: Settings, done: u32, e: u32, key: &mut [Residue], message:
 pub fn end(settings: Settings, done: u32, message: &[i32]) -> Ended
     ensures { λ r. ⌜ r ≡ endAnswer settings done (now (message .entry)) ⌝ }
 {
-    let refusal = refusals::prover::end(settings, done, message);
+    let refusal = prover_refusals::prover::end(settings, done, message);
     if refusal != 0 {
         return Ended {
             refusal,

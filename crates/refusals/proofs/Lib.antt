@@ -1,3 +1,1 @@
-mod Lengths
-pub mod Given
 pub mod GivenTree

@@ -1,11 +1,5 @@
-// The refusals of the calls. A function here has its call's name, and is that call's list of tests in the order of their numbers: it answers with the number
-// of the first test that fails, and with 0 where all pass.
-// Every test of a list is asked, also behind one that fails: each is safe for every input, and soon done. Tables are read only once all lengths are right.
+// The refusals of the judge, and the extractor's before the verifier runs. Each function is its call's list of tests, as in `prover_refusals`.
 pub mod judge;
-pub mod opening;
-pub mod prover;
-pub mod session;
-pub mod transcript;
 pub mod tree;
 
 pub use ranges::tests::refuse;

@@ -1,8 +1,7 @@
--- Rows inside a table; residues of a part of a row, of a copy, of the parts of a table as the code lends them, and of a row behind what is written.
+-- Residues of a part of a row, of a copy, of the parts of a table as the code lends them, and of a row behind what is written.
 use mathlib.Core.Path.{_≡_, refl, sym, ap, _∙_}
 use mathlib.Core.List.{List, _++_}
 use Prim.Native.Nat.{ℕ, _+_, _*_, _-_, _<_, _≤_}
-use native.Mathlib.Nat as Nat
 use native.Mathlib.Omega.{arith}
 use lib.IntN.{ℤ, pos}
 use lib.ListN.{length, getD, take, drop, replicate, length-drop, length-replicate, List·getD-eq-default}
@@ -14,10 +13,6 @@ use Rattle.residues.specs.Lists.{filled, spliced}
 use Rattle.residues.specs.Residues.{Residues}
 use Rattle.residues.proofs.Fill.{filled-ext, filled-further, replicate-at, filled-replicate}
 use Rattle.residues.proofs.Splice.{spliced-length, spliced-inside, spliced-behind}
-
--- element j of h elements ends inside them
-pub row-inside : (d h j : ℕ) → j < h → j * d + d ≤ h * d
-row-inside d h j l = omega (arith, Nat.mul-le-mul-right d l, Nat.suc-mul j d)
 
 pub residues-part : (q n at m part : ℕ) {l : List ℕ} → Residues q n at l → at ≤ part → part + m ≤ at + n → Residues q m part l
 residues-part q n at m part {l} r g h = record {

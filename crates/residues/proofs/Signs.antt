@@ -5,7 +5,7 @@ use native.Mathlib.Nat as Nat
 use native.Mathlib.Omega.{arith}
 use lib.IntN.{ℤ, pos, negℤ, _+ℤ_}
 use Rattle.protocol.specs.Element.{modulo}
-use Rattle.protocol.proofs.Modulo.{modulo-add, modulo-lt, modulo-neg}
+use Rattle.protocol.proofs.Modulo.{modulo-add, modulo-lt, modulo-neg, modulo-residue}
 
 module _ (q : ℕ) (p : 0 < q) where
   pub negative-none : 0 ≡ modulo q (negℤ (pos 0))
@@ -16,14 +16,10 @@ module _ (q : ℕ) (p : 0 < q) where
   unfolding modulo
   negative-residue y h l = sym (modulo-neg q p (pos y) ∙ ap (λ z. (q - z) % q) (Nat.mod-eq-of-lt l) ∙ Nat.mod-eq-of-lt (omega arith))
 
-  same : (n : ℕ) → n < q → modulo q (pos n) ≡ n
-  unfolding modulo
-  same n h = Nat.mod-eq-of-lt h
-
   pub negative-again : (z : ℤ) → modulo q (negℤ (pos (modulo q z))) ≡ modulo q (negℤ z)
   negative-again z =
       modulo-neg q p (pos (modulo q z))
-      ∙ ap (λ n. (q - n) % q) (same (modulo q z) (modulo-lt q p z))
+      ∙ ap (λ n. (q - n) % q) (modulo-residue q p (modulo q z) (modulo-lt q p z))
       ∙ sym (modulo-neg q p z)
 
   -- differences
@@ -31,16 +27,16 @@ module _ (q : ℕ) (p : 0 < q) where
   minus-below x y h l =
       sym
       (modulo-add q p (pos x) (negℤ (pos y))
-      ∙ (λ i. (same x (omega arith) i + sym (negative-residue y (omega arith) l) i) % q)
+      ∙ (λ i. (modulo-residue q p x (omega arith) i + sym (negative-residue y (omega arith) l) i) % q)
       ∙ Nat.mod-eq-of-lt (omega arith))
 
   pub minus-above : (x y : ℕ) → y ≤ x → x < q → x - y ≡ modulo q (pos x +ℤ negℤ (pos y))
   minus-above x zero h l =
-      sym (modulo-add q p (pos x) (negℤ (pos 0)) ∙ (λ i. (same x l i + sym negative-none i) % q) ∙ ap (λ n. n % q) (Nat.add-zero x) ∙ Nat.mod-eq-of-lt l ∙ sym (Nat.sub-zero x))
+      sym (modulo-add q p (pos x) (negℤ (pos 0)) ∙ (λ i. (modulo-residue q p x l i + sym negative-none i) % q) ∙ ap (λ n. n % q) (Nat.add-zero x) ∙ Nat.mod-eq-of-lt l ∙ sym (Nat.sub-zero x))
   minus-above x (suc y) h l =
       sym
       (modulo-add q p (pos x) (negℤ (pos (suc y)))
-      ∙ (λ i. (same x l i + sym (negative-residue (suc y) (omega arith) (omega arith)) i) % q)
+      ∙ (λ i. (modulo-residue q p x l i + sym (negative-residue (suc y) (omega arith) (omega arith)) i) % q)
       ∙ Nat.mod-eq-sub-mod {n = x + (q - suc y)} {m = q} (omega arith)
       ∙ Nat.mod-eq-of-lt (omega arith)
       ∙ omega arith)

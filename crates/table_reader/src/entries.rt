@@ -1,7 +1,7 @@
 // Refusals 8, 9 and 10 of the values of a text.
 use protocol::Settings;
 use ranges::tests::all_within;
-use refusals::refuse;
+use ranges::tests::refuse;
 use text_parts::TABLES;
 use text_parts::tested_by;
 ghost use mathlib.Core.Path.{_≡_};

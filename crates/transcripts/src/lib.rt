@@ -73,7 +73,13 @@ pub fn check(
     ensures answer { λ r. ⌜ r ≡ checkAnswer settings commitment last (now (key .entry)) (now (rounds .entry)) (now (challenges .entry)) ⌝ }
     ensures verdict { λ r. ⌜ verdictNumber (r .verdict) ≡ checkNumber settings commitment last (now (key .entry)) (now (rounds .entry)) (now (challenges .entry)) ⌝ }
 {
-    let refusal = refusals::transcript::check(settings, commitment, key, rounds, challenges);
+    let refusal = verifier_refusals::transcript::check(
+        settings,
+        commitment,
+        key,
+        rounds,
+        challenges,
+    );
     if refusal != 0 {
         return Checked {
             refusal,

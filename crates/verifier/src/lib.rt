@@ -58,7 +58,7 @@ impl Verifier {
     pub fn start(self, settings: Settings, commitment: [u32; 64]) -> Started
         ensures { λ r. ⌜ r ≡ moves.start settings commitment ⌝ }
     {
-        let refusal = refusals::session::start(settings, commitment);
+        let refusal = verifier_refusals::session::start(settings, commitment);
         if refusal != 0 {
             let none = blank();
             return Started {
@@ -85,7 +85,7 @@ impl Verifier {
         ensures verdict { λ r. ⌜ moves.verdictNumber (r .verdict) ≡ moves.moveNumber (self .0) polynomial e ⌝ }
     {
         let session = self.0;
-        let refusal = refusals::session::round(session, polynomial, e);
+        let refusal = verifier_refusals::session::round(session, polynomial, e);
         if refusal != 0 {
             return Moved {
                 refusal,
@@ -124,7 +124,7 @@ impl Verifier {
         ensures verdict { λ r. ⌜ moves.verdictNumber (r .verdict) ≡ moves.closeNumber (self .0) last (now (key .entry)) ⌝ }
     {
         let session = self.0;
-        let refusal = refusals::session::end(session, key);
+        let refusal = verifier_refusals::session::end(session, key);
         if refusal != 0 {
             return Moved {
                 refusal,

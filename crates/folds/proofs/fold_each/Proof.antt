@@ -11,7 +11,8 @@ use Rattle.residues.specs.Lists.{spliced}
 use Rattle.rotations.specs.Values.{Summands}
 use Rattle.folds.specs.Folds.{halfMost, foldedAt, foldHalves}
 use Rattle.folds.proofs.Folds.{few, rows-none, row-summands, row-turn}
-use Rattle.residues.proofs.Parts.{row-inside, tail-length}
+use Rattle.protocol.proofs.Reading.{row-inside}
+use Rattle.residues.proofs.Parts.{tail-length}
 use borrow.Author.Needs.{needs}
 use Rattle.folds.proofs.fold_each.Statement.{statement}
 use Rattle.folds.proofs.fold_each.Tie as tie

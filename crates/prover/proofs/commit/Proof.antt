@@ -3,7 +3,7 @@ use native.Mathlib.Omega.{arith}
 use Rattle.protocol.specs.Element.{width, zeros, padded, reduced, signedAt, residueAt}
 use Rattle.protocol.specs.Opening.{left, inner}
 use Rattle.protocol.specs.Calls.{commitRefusal}
-use Rattle.refusals.proofs.Given.{CommitGiven, commit-given}
+use Rattle.prover_refusals.proofs.Given.{CommitGiven, commit-given}
 use Rattle.prover.specs.Messages.{Tables}
 use Rattle.prover.proofs.Products.{summable, commit-tables, commitment-is}
 use Rattle.prover.proofs.Answers.{commit-refused, commit-done}

@@ -4,7 +4,7 @@ use Rattle.protocol.specs.Element.{width, signedZeros}
 use Rattle.protocol.specs.Opening.{finalElement}
 use Rattle.protocol.specs.Calls.{endRefusal}
 use Rattle.sizes.proofs.Limits.{degree-most}
-use Rattle.refusals.proofs.Given.{end-given}
+use Rattle.prover_refusals.proofs.Given.{end-given}
 use Rattle.prover.proofs.Answers.{end-refused, end-done}
 use Rattle.prover.proofs.end.Statement.{statement}
 use Rattle.prover.proofs.end.Tie as tie

@@ -5,7 +5,7 @@ use Rattle.protocol.specs.Opening.{halfLeft, foldSigned, foldResidues}
 use Rattle.protocol.specs.Calls.{foldRefusal}
 use Rattle.sizes.proofs.Limits.{degree-least, degree-most}
 use Rattle.folds.specs.Folds.{Foldable}
-use Rattle.refusals.proofs.Given.{FoldGiven, fold-given}
+use Rattle.prover_refusals.proofs.Given.{FoldGiven, fold-given}
 use Rattle.prover.proofs.Halves.{halves-inside, half-most, left-room}
 use Rattle.prover.proofs.Answers.{fold-refused, fold-done}
 use borrow.Author.Needs.{needs}

@@ -4,7 +4,7 @@ use Rattle.protocol.specs.Basic.{tabulate}
 use Rattle.protocol.specs.Element.{width, zeros, signedAt, residueAt}
 use Rattle.protocol.specs.Opening.{halfLeft, cross}
 use Rattle.protocol.specs.Calls.{noPolynomial, roundRefusal}
-use Rattle.refusals.proofs.Given.{RoundGiven, round-given}
+use Rattle.prover_refusals.proofs.Given.{RoundGiven, round-given}
 use Rattle.prover.specs.Sums.{scaled}
 use Rattle.prover.proofs.Halves.{round-tables}
 use Rattle.prover.proofs.Products.{polynomial-is}

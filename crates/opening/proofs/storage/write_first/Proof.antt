@@ -4,7 +4,7 @@ use lib.ListN.{length}
 use Rattle.protocol.specs.Layout.{polynomialAt}
 use Rattle.protocol.specs.Opening.{roundElement}
 use Rattle.protocol.specs.Calls.{roundRefusal}
-use Rattle.refusals.proofs.Given.{round-given}
+use Rattle.prover_refusals.proofs.Given.{round-given}
 use Rattle.sizes.proofs.Limits.{degree-most}
 use Rattle.residues.specs.Lists.{spliced}
 use Rattle.residues.proofs.Parts.{tail-length}

@@ -4,7 +4,7 @@ use native.Mathlib.Omega.{arith}
 use lib.ListN.{drop, length-drop}
 use Rattle.protocol.specs.Layout.{polynomialAt}
 use Rattle.protocol.specs.Opening.{roundElement}
-use Rattle.refusals.proofs.Given.{round-given}
+use Rattle.prover_refusals.proofs.Given.{round-given}
 use Rattle.sizes.proofs.Limits.{degree-least, degree-most}
 use Rattle.residues.specs.Lists.{spliced}
 use Rattle.residues.proofs.Parts.{tail-all}

@@ -9,7 +9,7 @@ use lib.IntN.{pos}
 use Rattle.protocol.specs.Element.{Element, padded, times, reduced, signedAt, residueAt}
 use Rattle.protocol.specs.Opening.{inner, left, halfLeft}
 use Rattle.residues.specs.Lists.{filled}
-use Rattle.refusals.proofs.Given.{CommitGiven, commit-given}
+use Rattle.prover_refusals.proofs.Given.{CommitGiven, commit-given}
 use Rattle.prover.specs.Messages.{Sized, Tables}
 use Rattle.prover.specs.Rounds.{elementPlaces}
 use Rattle.prover.proofs.Products.{summable, tables-sized, commit-tables}

@@ -7,7 +7,7 @@ use Rattle.protocol.specs.Settings.{half}
 use Rattle.protocol.specs.Element.{Element, padded, reduced, signedAt, residueAt}
 use Rattle.protocol.specs.Opening.{inner, halfLeft}
 use Rattle.residues.specs.Lists.{filled}
-use Rattle.refusals.proofs.Given.{RoundGiven, round-given}
+use Rattle.prover_refusals.proofs.Given.{RoundGiven, round-given}
 use Rattle.prover.specs.Messages.{Sized, Tables}
 use Rattle.prover.specs.Rounds.{elementPlaces}
 use Rattle.prover.proofs.Halves.{round-tables}

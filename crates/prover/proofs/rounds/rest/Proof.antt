@@ -6,7 +6,7 @@ use lib.ListN.{length, getD}
 use Rattle.protocol.specs.Settings.{half}
 use Rattle.protocol.specs.Element.{signedAt, residueAt}
 use Rattle.protocol.specs.Opening.{halfLeft}
-use Rattle.refusals.proofs.Given.{RoundGiven, round-given}
+use Rattle.prover_refusals.proofs.Given.{RoundGiven, round-given}
 use Rattle.prover.specs.Messages.{Sized, Halved}
 use Rattle.prover.specs.Sums.{scaled, innerOfSums}
 use Rattle.prover.proofs.Halves.{half-most, round-tables}

@@ -6,9 +6,8 @@ use Rattle.protocol.specs.Basic.{Tested}
 use Rattle.protocol.specs.Calls.{judgeRefusal}
 use Rattle.protocol.specs.Settings.{settingsRefusal, cells, sized, residues, residueElement}
 use Rattle.protocol.proofs.Inputs.{settings-valid}
-use Rattle.protocol.proofs.Refusals.{first-stops, first-tested, tested-before, first-only}
+use Rattle.protocol.proofs.Refusals.{first-stops, first-tested, tested-before, first-only, lengths-tested}
 use Rattle.sizes.proofs.Limits.{degree-most}
-use Rattle.refusals.proofs.Lengths.{lengths-tested}
 use Rattle.refusals.proofs.judge.judge.Statement.{statement}
 use Rattle.refusals.proofs.judge.judge.Tie as tie
 

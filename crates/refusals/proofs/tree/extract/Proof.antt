@@ -7,9 +7,8 @@ use Rattle.protocol.specs.Basic.{Tested}
 use Rattle.protocol.specs.Calls.{treeRefusal}
 use Rattle.protocol.specs.Settings.{settingsRefusal, sized, residues, residueElement, exponent, exponents}
 use Rattle.protocol.proofs.Inputs.{settings-valid}
-use Rattle.protocol.proofs.Refusals.{first-stops, first-tested, tested-before, first-only}
+use Rattle.protocol.proofs.Refusals.{first-stops, first-tested, tested-before, first-only, lengths-tested}
 use Rattle.sizes.proofs.Limits.{degree-most}
-use Rattle.refusals.proofs.Lengths.{lengths-tested}
 use Rattle.refusals.proofs.GivenTree.{treeSized, lengths-given}
 use Rattle.refusals.proofs.tree.extract.Statement.{statement}
 use Rattle.refusals.proofs.tree.extract.Tie as tie

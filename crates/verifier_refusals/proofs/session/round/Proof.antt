@@ -1,0 +1,44 @@
+-- Each test in its turn.
+use mathlib.Core.Bool.{_&&_}
+use mathlib.Core.Path.{_≡_, refl, sym, _∙_}
+use Prim.Native.Nat.{_≤_}
+use borrow.Author.Needs.{needs}
+use Rattle.protocol.specs.Session.{part, moveRefusal}
+use Rattle.protocol.specs.Settings.{settingsRefusal, residueElement, exponent, exponents}
+use Rattle.protocol.proofs.Inputs.{settings-valid}
+use Rattle.protocol.proofs.Refusals.{first-known, first-tested, tested-before, first-only}
+use Rattle.sizes.proofs.Limits.{degree-most}
+use Rattle.verifier_refusals.proofs.session.round.Statement.{statement}
+use Rattle.verifier_refusals.proofs.session.round.Tie as tie
+
+allowed : (c : tie.After-settings-refusal) → c .settings-refusal .result ≡ 0 → settingsRefusal (c .before .before .before .before .before .before .before .before .args .session .settings) ≡ 0
+allowed c z = sym (c .settings-refusal .ensures) ∙ z
+
+returns : tie.Need-returns
+unfolding moveRefusal part residueElement exponents exponent
+returns c =
+    let c10 = c .before .before .before .before in
+    let c8 = c10 .before .before .before in
+    let e2 = c8 .before in
+    let e1 = e2 .before in
+    let e0 = e1 .before in
+    let e = e0 .before in
+    let c6 = e .before in
+    let small : (c6 .settings-refusal .result ≡ 0) → _ = λ z. degree-most _ (settings-valid _ (allowed c6 z)) in
+    sym (first-known _ _ (c6 .settings-refusal .ensures)
+    ∙ first-tested _ _ (c8 .refuse .ensures) (λ z. rw (
+      e .element-below .ensures (small z),
+      e0 .element-below2 .ensures (small z),
+      e1 .element-below3 .ensures (small z),
+      e2 .element-below4 .ensures (small z),
+    ))
+    ∙ first-tested _ _ (c10 .refuse2 .ensures) (λ z. rw (c10 .before .all-below .ensures, c6 .before .exponent-count .ensures (allowed c6 (tested-before (c8 .refuse .ensures) z))))
+    ∙ first-tested _ _ (c .refuse3 .ensures) (λ z. refl)
+    ∙ first-only _)
+
+pub round-spec : {M : Type 1} → statement M
+round-spec =
+    tie.close
+    (tie.spec (λ c. search needs) (λ c. search needs) (λ c. search needs) (λ c κs. search needs) (λ c κs. search needs) (λ c κs. search needs)
+    (λ c κs. search needs) (λ c κs. search needs) (λ c κs. search needs) (λ c κs. search needs) (λ c. search needs) (λ c κs. search needs)
+    (λ c κs. search needs) (λ c κs. search needs) returns)

@@ -1,0 +1,21 @@
+-- Each test in its turn.
+use mathlib.Core.Path.{_≡_, sym, _∙_}
+use borrow.Author.Needs.{needs}
+use Rattle.protocol.specs.Session.{startRefusal}
+use Rattle.protocol.specs.Settings.{residueElement}
+use Rattle.protocol.proofs.Inputs.{settings-valid}
+use Rattle.protocol.proofs.Refusals.{first-known, first-tested, first-only}
+use Rattle.sizes.proofs.Limits.{degree-most}
+use Rattle.verifier_refusals.proofs.session.start.Statement.{statement}
+use Rattle.verifier_refusals.proofs.session.start.Tie as tie
+
+returns : tie.Need-returns
+unfolding startRefusal residueElement
+returns c =
+    let c6 = c .before .before in
+    sym (first-known _ _ (c6 .settings-refusal .ensures)
+    ∙ first-tested _ _ (c .refuse .ensures) (λ z. c .before .element-below .ensures (degree-most _ (settings-valid _ (sym (c6 .settings-refusal .ensures) ∙ z))))
+    ∙ first-only _)
+
+pub start-spec : {M : Type 1} → statement M
+start-spec = tie.close (tie.spec (λ c κs. search needs) (λ c κs. search needs) (λ c κs. search needs) returns)

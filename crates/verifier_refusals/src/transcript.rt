@@ -1,0 +1,40 @@
+// The refusals of the check of a transcript.
+use protocol::Residue;
+use protocol::Settings;
+use protocol::WIDTH;
+use ranges::tests;
+use ranges::tests::refuse;
+ghost use mathlib.Core.Path.{_≡_};
+ghost use Rattle.protocol.specs.Calls.{checkRefusal};
+
+pub fn check(
+    settings: Settings,
+    commitment: [Residue; WIDTH],
+    key: &[Residue],
+    rounds: &[Residue],
+    challenges: &[u32],
+) -> u32
+    ensures { λ r. ⌜ r ≡ checkRefusal settings commitment (now (key .entry)) (now (rounds .entry)) (now (challenges .entry)) ⌝ }
+{
+    let q = settings.modulus;
+    let r6 = tests::settings_refusal(settings);
+    let r7 = refuse(
+        r6,
+        7,
+        (key.len() == sizes::cells(settings))
+            & (rounds.len() == sizes::round_cells(settings))
+            & (challenges.len() == (settings.depth as usize)),
+    );
+    if r7 != 0 {
+        return r7;
+    }
+    let r8 = refuse(
+        r7,
+        8,
+        tests::all_below(q, key)
+            & tests::element_below(q, settings.degree, commitment)
+            & tests::all_below(q, rounds),
+    );
+    let limit = sizes::exponent_count(settings);
+    refuse(r8, 10, tests::all_below(limit, challenges))
+}
