@@ -13,9 +13,8 @@ use Rattle.algebra.specs.Residues.{Zmod, ofℕ-res, res-modulus}
 use Rattle.algebra.specs.Scalars.{ofℕ-vanish}
 use Rattle.algebra.specs.Negacyclic.{negacyclic, X^}
 use Rattle.protocol.specs.declared.Settings.{Settings}
-use Rattle.protocol.specs.Element.{Element, rotate, product, plus, times, residue, residueAt}
+use Rattle.protocol.specs.Element.{Element, rotate, product, plus, times, residue}
 use Rattle.protocol.specs.Settings.{half}
-use Rattle.protocol.specs.Opening.{keyAfter}
 use Rattle.protocol.specs.Transcript.{doubled, nextClaim, ending}
 use Rattle.claims.proofs.Readings.{readq, read-plus, read-times, read-rotate, read-product, readq-entries, entries-readq, readq-reduced}
 
@@ -73,19 +72,19 @@ module _ (S : Settings) (p : 0 < S .degree) (pq : 0 < S .modulus) where
       equation-round below e k l = sym (entries-readq q pq d p (times (pos 2) (plus c0 c2)) claim below (sym (doubled-read ∙ e)) k l)
 
     -- PROTOCOL 3.3, the last equation
-    module _ (key E : List ℕ) (f : Element) where
+    module _ (f G : Element) where
       ended : Element
-      ended = times (pos (half S ^ L)) (product d f (residueAt d (keyAfter S E L key) 0))
+      ended = times (pos (half S ^ L)) (product d f G)
 
-      ending-read : readS ended ≡ ofℕ Q (half S ^ L) ⊗ (readS f ⊗ readS (residueAt d (keyAfter S E L key) 0))
+      ending-read : readS ended ≡ ofℕ Q (half S ^ L) ⊗ (readS f ⊗ readS G)
       unfolding ended
       ending-read = read-times (Zmod q pq) d p (pos (half S ^ L)) _ ∙ ap (λ x. ofℕ Q (half S ^ L) ⊗ x) (read-product (Zmod q pq) d p f _)
 
-      pub end-equation : ((k : ℕ) → k < d → getD claim k 0 ≡ ending S key E f k) → readS (residue claim) ≡ ofℕ Q (half S ^ L) ⊗ (readS f ⊗ readS (residueAt d (keyAfter S E L key) 0))
+      pub end-equation : ((k : ℕ) → k < d → getD claim k 0 ≡ ending S f G k) → readS (residue claim) ≡ ofℕ Q (half S ^ L) ⊗ (readS f ⊗ readS G)
       unfolding ending ended times
       end-equation e = readq-entries q pq d p ended claim e ∙ ending-read
 
-      pub equation-end : ((k : ℕ) → k < d → getD claim k 0 < q) → readS (residue claim) ≡ ofℕ Q (half S ^ L) ⊗ (readS f ⊗ readS (residueAt d (keyAfter S E L key) 0)) → (k : ℕ) → k < d
-          → getD claim k 0 ≡ ending S key E f k
+      pub equation-end : ((k : ℕ) → k < d → getD claim k 0 < q) → readS (residue claim) ≡ ofℕ Q (half S ^ L) ⊗ (readS f ⊗ readS G) → (k : ℕ) → k < d
+          → getD claim k 0 ≡ ending S f G k
       unfolding ending ended times
       equation-end below e k l = entries-readq q pq d p ended claim below (e ∙ sym ending-read) k l

@@ -13,7 +13,7 @@ use Rattle.protocol.specs.declared.Settings.{Settings}
 use Rattle.protocol.specs.Element.{signed, signedAt, residueAt}
 use Rattle.protocol.specs.Settings.{size, cells, half}
 use Rattle.protocol.specs.Opening.{inner, commitment, messageAfter, keyAfter}
-use Rattle.protocol.specs.Transcript.{Transcript, doubled, ending, element, claimAfter, transcriptOf, Accepted}
+use Rattle.protocol.specs.Transcript.{Transcript, doubled, ending, foldedKey, element, claimAfter, transcriptOf, Accepted}
 use Rattle.claims.proofs.Readings.{read-ext}
 use Rattle.claims.proofs.Bounds.{last-bound}
 use Rattle.protocol.proofs.Ranges.{reduced-below, claim-below, last-at}
@@ -36,8 +36,8 @@ module _ (S : Settings) (p : 0 < S .degree) (pq : 0 < S .modulus) (key : List �
   rounds-met odd t l = equation-round S p pq (claimAfter S T t) (element S T t 0) (element S T t 2) (claim-below S pq T start-below t)
       (doubled-honest S p pq key message E C f t l odd ∙ sym (claim-honest S p pq key message E C f same-commitment t (omega arith)))
 
-  end-met : (k : ℕ) → k < d → getD (claimAfter S T L) k 0 ≡ ending S key E (signed f) k
-  end-met = equation-end S p pq (claimAfter S T L) key E (signed f) (claim-below S pq T start-below L)
+  end-met : (k : ℕ) → k < d → getD (claimAfter S T L) k 0 ≡ ending S (signed f) (foldedKey S key E) k
+  end-met = equation-end S p pq (claimAfter S T L) (signed f) (foldedKey S key E) (claim-below S pq T start-below L)
       (claim-honest S p pq key message E C f same-commitment L (Nat.le-refl L) ∙ ap (Q S p pq .mul (ofℕ (Q S p pq) (half S ^ L))) one-left)
     where
       u : ℕ → Q S p pq .C

@@ -6,7 +6,7 @@
 --   · from every full tree whose paths are all accepted, whatever was answered in it, the extractor is not refused within the growth limit and leaves the root vector: within its
 --     bound, opening 4^L times the commitment, and exactly 4^L·m where all leaves are folds of one m.
 --
--- From here to the functions. The claim speaks of definitions such as `openingAnswer`, `foldKeyExit`, `move` and `extractExit`. Each public function promises an equation with its
+-- From here to the functions. The claim speaks of definitions such as `openingAnswer`, `foldKeyExit`, `round` and `extractExit`. Each public function promises an equation with its
 -- definition, for every input and with no `requires`. `PerformedDemand3` (protocol/specs/Performed) is the claim over values of which only these promises are known; Performed proves it from this one.
 -- That there is something to claim, a run for every message and a full tree for every choice of challenges, is `NeverVacuous` (protocol/specs/HonestTree), proved in HonestTree.
 --

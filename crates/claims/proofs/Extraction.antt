@@ -22,15 +22,15 @@ use Rattle.protocol.specs.declared.Settings.{Settings}
 use Rattle.protocol.specs.Element.{Element, product, times, signed, signedAt, residue, residueAt}
 use Rattle.protocol.specs.Settings.{size, half}
 use Rattle.protocol.specs.Opening.{inner, foldKey}
-use Rattle.protocol.specs.Transcript.{doubled, roundHolds, finalBounded}
+use Rattle.protocol.specs.Transcript.{doubled, roundHolds, finalBounded, ending, endHolds, endMet}
 use Rattle.protocol.specs.Tree.{child, challenge, nodes, leaf, rootVector}
 use Rattle.protocol.specs.Judge.{slack, scaledCommitment, combination, Opens}
 use Rattle.protocol.specs.Calls.{everyPath}
 use Rattle.protocol.proofs.Tests.{and-split, every-at}
-use Rattle.protocol.specs.TreeCheck.{nodeElement, foldedEnding, claimTo, nodeHolds, foldedEndHolds, leafAccepted, treeAccepted}
+use Rattle.protocol.specs.TreeCheck.{nodeElement, claimTo, nodeHolds, leafAccepted, treeAccepted}
 use Rattle.claims.proofs.Readings.{read-times, read-product, read-inner, readq-entries, readq-inj}
 use Rattle.claims.proofs.Tables.{residue-folds}
-use Rattle.claims.proofs.Checks.{Q, readS, X^S, two-half, half-power-suc, read-nextClaim, round-equation}
+use Rattle.claims.proofs.Checks.{Q, readS, X^S, two-half, half-power-suc, read-nextClaim, round-equation, end-equation}
 use Rattle.protocol.proofs.Numbering.{AtDepth, root-depth, child-depth}
 use Rattle.protocol.proofs.Paths.{depth-branching, halfLeft-height}
 use Rattle.claims.proofs.Weights.{Triple, balanced}
@@ -66,11 +66,10 @@ module _ (S : Settings) (p : 0 < S .degree) (pq : 0 < S .modulus) (rounds E : Li
   -- ---- a leaf
 
   leaf-end : (k : ℕ) (claim key : List ℕ) → leafAccepted S finals k claim key ≡ true → rd (residue claim) ≡ ofℕ RQ (half S ^ L) ⊗ (rd (signed (leaf S finals (k - nodes S))) ⊗ G key 0)
-  unfolding leafAccepted foldedEndHolds foldedEnding times
+  unfolding leafAccepted endMet endHolds
   leaf-end k claim key a =
-      readq-entries q pq d p (times (pos (half S ^ L)) (product d f (residueAt d key 0))) claim
-      (λ i l. eqb-true _ _ (every-at d (λ i. eqb (getD claim i 0) (foldedEnding S key f i)) (and-split {a = finalBounded S f} a .1) i l))
-      ∙ read-times K d p _ _ ∙ ap (λ x. ofℕ RQ (half S ^ L) ⊗ x) (read-product K d p f _)
+      end-equation S p pq claim f (residueAt d key 0)
+      (λ i l. eqb-true _ _ (every-at d (λ i. eqb (getD claim i 0) (ending S f (residueAt d key 0) i)) (and-split {a = finalBounded S f} a .1) i l))
     where
       f : Element
       f = signed (leaf S finals (k - nodes S))

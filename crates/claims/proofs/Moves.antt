@@ -27,7 +27,7 @@ use Rattle.protocol.proofs.Ranges.{round-below}
 use Rattle.claims.proofs.Honest.{Given, modulus-positive}
 use Rattle.claims.proofs.Refused.{runs, run-steps}
 use Rattle.claims.proofs.Prover.{commit-answer, round-answer, fold-granted, fold-key, fold-message, end-answer}
-use Rattle.claims.proofs.Sessions.{sessionAfter, start-answer, move-answer, close-answer}
+use Rattle.claims.proofs.Sessions.{sessionAfter, start-answer, session-round-answer, session-end-answer}
 
 module _ (S : Settings) (G : List ℕ) (M : List ℤ) (E : List ℕ) where
   open Settings S using (degree as d, depth as L)
@@ -110,7 +110,7 @@ module _ {S : Settings} {G : List ℕ} {M : List ℤ} {E : List ℕ} (ok : Given
   unfolding runs step hear hearPolynomial hearVerdict backRecord stateAfter polynomial tabulate
   run-turn t l p v rest = rw (
     round-answer ok t l,
-    move-answer ok t l,
+    session-round-answer ok t l,
     fold-key ok t l,
     fold-message ok t l,
     fold-granted ok t l,
@@ -131,7 +131,7 @@ module _ {S : Settings} {G : List ℕ} {M : List ℤ} {E : List ℕ} (ok : Given
 
   run-ends : (p : List (List ℕ)) (v : Verdict) → runs S E (Step.ends ∷ Step.closes ∷ []) (stateAfter S G M E L p v) ≡ finished S G M E p
   unfolding runs step hear hearLast hearVerdict backRecord stateAfter finished
-  run-ends p v = rw (end-answer ok, close-answer ok, numbers-snoc (2 + 3 * L) (3 + 3 * L) (omega arith), numbers-snoc (3 + 3 * L) (4 + 3 * L) (omega arith))
+  run-ends p v = rw (end-answer ok, session-end-answer ok, numbers-snoc (2 + 3 * L) (3 + 3 * L) (omega arith), numbers-snoc (3 + 3 * L) (4 + 3 * L) (omega arith))
 
   pub run-finished : (r : Session) (st : State) → Run S E (moves L) (begun M G r) st → (p : List (List ℕ)) × (st ≡ finished S G M E p)
   unfolding moves

@@ -52,15 +52,15 @@ choose-number false x y ex ey = ey
 -- ---- every call
 
 pub refused-keeps : (c : Call) (h : Held) → refusal h c ≢ 0 → after c h ≡ h
-unfolding after refusal Calls.foldKeyExit Calls.foldMessageExit Calls.openingAnswer Calls.openingKeyExit Calls.openingMessageExit Calls.openingRoundsExit Verifier.move Verifier.close
+unfolding after refusal Calls.foldKeyExit Calls.foldMessageExit Calls.openingAnswer Calls.openingKeyExit Calls.openingMessageExit Calls.openingRoundsExit Verifier.round Verifier.end
     Text.readAnswer Text.loaded Text.readExit tables
 refused-keeps (Call.commit S k m) h r = refl
 refused-keeps (Call.round S t k m) h r = refl
 refused-keeps (Call.fold S t e k m) h r = back-key k (granted-refused _ _ _ r) (back-message m (granted-refused _ _ _ r) refl)
 refused-keeps (Call.end S t m) h r = refl
 refused-keeps (Call.opening S k m e o) h r = back-key k (granted-refused _ _ _ r) (back-key o (granted-refused _ _ _ r) (back-message m (granted-refused _ _ _ r) refl))
-refused-keeps (Call.move s p e) h r = back-record s (move-kept _ _ (handed h s) (choose-number _ _ _ refl refl) r)
-refused-keeps (Call.close s f k) h r = back-record s (move-kept _ _ (handed h s) refl r)
+refused-keeps (Call.session-round s p e) h r = back-record s (move-kept _ _ (handed h s) (choose-number _ _ _ refl refl) r)
+refused-keeps (Call.session-end s f k) h r = back-record s (move-kept _ _ (handed h s) refl r)
 refused-keeps (Call.check S C f k o e) h r = refl
 refused-keeps (Call.judge S C c k w) h r = refl
 refused-keeps (Call.extract S C k o e f w) h r = refl

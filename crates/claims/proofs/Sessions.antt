@@ -18,8 +18,8 @@ use Rattle.protocol.specs.Basic.{tabulate, choose, granted, within}
 use Rattle.protocol.specs.Element.{padded, paddedSigned, residue, residueAt}
 use Rattle.protocol.specs.Settings.{cells, residues, residueElement, exponents}
 use Rattle.protocol.specs.Opening.{commitment, roundElement, messageAfter, keyAfter, finalElement}
-use Rattle.protocol.specs.Transcript.{Transcript, element, claimAfter, Accepted, roundHolds, nextClaim, finalBounded, endHolds}
-use Rattle.protocol.specs.Session.{slots, verdict, opened, startRefusal, start, shut, part, moveRefusal, advanced, moveHolds, move, closeRefusal, closeHolds, close}
+use Rattle.protocol.specs.Transcript.{Transcript, element, claimAfter, Accepted, roundHolds, nextClaim, finalBounded, endHolds, endMet}
+use Rattle.protocol.specs.Session.{slots, verdict, opened, startRefusal, start, shut, part, sessionRoundRefusal, advanced, sessionRoundHolds, round, sessionEndRefusal, sessionEndHolds, end}
 use Rattle.protocol.specs.Calls.{polynomial}
 use Rattle.protocol.specs.Inputs.{Below}
 use Rattle.protocol.proofs.Tests.{and-intro, every-intro, first-nothing, zero-first, zero-unless}
@@ -106,8 +106,8 @@ module _ {S : Settings} {G : List ℕ} {M : List ℤ} {E : List ℕ} (ok : Given
   unfolding residue element residueAt
   part-same t j lt lj k lk = ap pos (padded-at d (c t j) k (omega (arith, c-given t j .long)) ∙ sym (round-at S E G M t j k lt lj lk))
 
-  move-granted : (t : ℕ) → t < L → moveRefusal (session t) (p t) (getD E t 0) ≡ 0
-  unfolding moveRefusal sessionAfter part polynomial tabulate
+  move-granted : (t : ℕ) → t < L → sessionRoundRefusal (session t) (p t) (getD E t 0) ≡ 0
+  unfolding sessionRoundRefusal sessionAfter part polynomial tabulate
   move-granted t l =
       zero-first _ _ (valid-settings S (ok .settings))
       (zero-first _ _ (zero-unless 8 _
@@ -119,8 +119,8 @@ module _ {S : Settings} {G : List ℕ} {M : List ℤ} {E : List ℕ} (ok : Given
     same : (j : ℕ) → j < 3 → Same d (residue (padded d (c t j))) (element S T t j)
     same j = part-same t j l
 
-    move-holds : moveHolds (session t) (p t) ≡ true
-    unfolding moveHolds sessionAfter part polynomial tabulate roundHolds
+    move-holds : sessionRoundHolds (session t) (p t) ≡ true
+    unfolding sessionRoundHolds sessionAfter part polynomial tabulate roundHolds
     move-holds =
         round-same S (same 0 (omega arith)) (same 1 (omega arith)) (same 2 (omega arith)) (padded d (claimAfter S T t)) (claimAfter S T t) (claim-padded t)
         ∙ every-intro (λ k lk. eq-eqb _ _ (transcript-accepted .every-round t l k lk))
@@ -129,14 +129,14 @@ module _ {S : Settings} {G : List ℕ} {M : List ℤ} {E : List ℕ} (ok : Given
     unfolding advanced sessionAfter part polynomial tabulate claimAfter stored
     move-advances = rw (add-one t, claim-same S (same 0 (omega arith)) (same 1 (omega arith)) (same 2 (omega arith)) (getD E t 0))
 
-    pub move-answer : move (session t) (p t) (getD E t 0) ≡ record { refusal = 0; verdict = Says.Holds; next = session (suc t) }
-    unfolding move granted choose
-    move-answer = rw (move-granted t l, move-holds, move-advances)
+    pub session-round-answer : round (session t) (p t) (getD E t 0) ≡ record { refusal = 0; verdict = Says.Holds; next = session (suc t) }
+    unfolding round granted choose
+    session-round-answer = rw (move-granted t l, move-holds, move-advances)
 
   -- ---- end
 
-  close-granted : closeRefusal (session L) G ≡ 0
-  unfolding closeRefusal sessionAfter residues
+  close-granted : sessionEndRefusal (session L) G ≡ 0
+  unfolding sessionEndRefusal sessionAfter residues
   close-granted =
       zero-first _ _ (valid-settings S (ok .settings))
       (zero-first _ _ (zero-unless 7 _ (below-sized q (cells S) G (ok .key)))
@@ -144,12 +144,12 @@ module _ {S : Settings} {G : List ℕ} {M : List ℤ} {E : List ℕ} (ok : Given
       (zero-first _ _ (zero-unless 10 _ (stored-tested L (Nat.le-refl L)))
       (zero-first _ _ (zero-unless 11 _ (and-intro (eq-eqb L L refl) refl)) first-nothing))))
 
-  close-holds : closeHolds (session L) (T .last) G ≡ true
-  unfolding closeHolds sessionAfter finalBounded endHolds within slots
+  close-holds : sessionEndHolds (session L) (T .last) G ≡ true
+  unfolding sessionEndHolds sessionAfter endMet finalBounded endHolds within slots
   close-holds = and-intro
       (every-intro (λ k l. le-leb _ _ (transcript-accepted .in-bound k l)))
       (every-intro (λ k l. eq-eqb _ _ (claim-padded L k l ∙ transcript-accepted .at-end k l ∙ stored-ending S (ok .settings .depth-most) G E _ k)))
 
-  pub close-answer : close (session L) (T .last) G ≡ record { refusal = 0; verdict = Says.Accepted; next = shut (session L) }
-  unfolding close granted verdict choose
-  close-answer = rw (close-granted, close-holds)
+  pub session-end-answer : end (session L) (T .last) G ≡ record { refusal = 0; verdict = Says.Accepted; next = shut (session L) }
+  unfolding end granted verdict choose
+  session-end-answer = rw (close-granted, close-holds)

@@ -13,7 +13,7 @@ use Rattle.protocol.specs.declared.Settings.{Settings}
 use Rattle.protocol.specs.Basic.{all}
 use Rattle.protocol.specs.Element.{Element, zeros}
 use Rattle.protocol.specs.Settings.{exponent, exponents}
-use Rattle.protocol.specs.Transcript.{ending}
+use Rattle.protocol.specs.Transcript.{ending, foldedKey}
 use Rattle.protocol.specs.Session.{slots}
 use Rattle.protocol.proofs.Tests.{and-split, and-intro}
 use Rattle.protocol.proofs.OpeningLaws.{key-challenges}
@@ -52,6 +52,6 @@ unfolding exponents exponent stored zeros
 stored-exponents S p E zero e = all-replicate (exponent S) slots 0 (lt-ltb 0 (2 * S .degree) (omega arith))
 stored-exponents S p E (suc t) e = all-set (exponent S) (stored E t) t _ (stored-exponents S p E t (λ i h. e i (omega arith))) (e t (omega arith))
 
-pub stored-ending : (S : Settings) → S .depth ≤ slots → (key E : List ℕ) (f : Element) (k : ℕ) → ending S key E f k ≡ ending S key (stored E (S .depth)) f k
+pub stored-ending : (S : Settings) → S .depth ≤ slots → (key E : List ℕ) (f : Element) (k : ℕ) → ending S f (foldedKey S key E) k ≡ ending S f (foldedKey S key (stored E (S .depth))) k
 unfolding ending
 stored-ending S l key E f k = rw (key-challenges S E (stored E (S .depth)) key (S .depth) (λ i h. sym (stored-at E (S .depth) i h l)))

@@ -9,7 +9,7 @@ use Rattle.protocol.specs.declared.Session.{Session}
 use Rattle.protocol.specs.declared.Parts.{Parts}
 use Rattle.protocol.specs.declared.Verdict.{Verdict}
 use Rattle.protocol.specs.Transcript.{Transcript, Cause, cause}
-use Rattle.protocol.specs.Session.{start, move, close}
+use Rattle.protocol.specs.Session.{start, round, end}
 use Rattle.protocol.specs.Calls.{commitAnswer, roundAnswer, foldRefusal, foldKeyExit, foldMessageExit, endAnswer, openingAnswer, openingKeyExit, openingMessageExit}
 use Rattle.protocol.specs.Calls.{openingRoundsExit, checkAnswer, judgeAnswer, extractRefusal, extractExit}
 use Rattle.protocol.specs.Text.{Tables, readAnswer, readExit, writeAnswer, writeExit}
@@ -94,10 +94,10 @@ startRow S c n next =
     record { given = pos (r .refusal) ∷ recordNumbers (r .next); wanted = pos n ∷ recordNumbers next }
 
 unfoldable pub moveRow : Session → List (List ℕ) → ℕ → ℕ → Verdict → Session → Example
-moveRow r p e n v next = record { given = moveNumbers (move r p e); wanted = moveNumbers (record { refusal = n; verdict = v; next = next }) }
+moveRow r p e n v next = record { given = moveNumbers (round r p e); wanted = moveNumbers (record { refusal = n; verdict = v; next = next }) }
 
 unfoldable pub closeRow : Session → List ℤ → List ℕ → ℕ → Verdict → Session → Example
-closeRow r f key n v next = record { given = moveNumbers (close r f key); wanted = moveNumbers (record { refusal = n; verdict = v; next = next }) }
+closeRow r f key n v next = record { given = moveNumbers (end r f key); wanted = moveNumbers (record { refusal = n; verdict = v; next = next }) }
 
 -- a transcript is refused or has a cause; a refused one has none
 unfoldable pub whyRejected : Settings → ℕ → List ℕ → Transcript → List ℤ

@@ -1,27 +1,24 @@
 -- The end of a transcript: the bound in numbers, and the last equation coefficient by coefficient.
 use mathlib.Core.Path.{_≡_, refl, sym, ap, _∙_}
-use mathlib.Core.Bool.{true, _&&_}
+use mathlib.Core.Bool.{true}
 use mathlib.Core.List.{List}
 use Prim.Native.Nat.{ℕ, _+_, _*_, _%_, _^_, _<_, _≤_}
 use native.Mathlib.Nat as Nat
 use native.Mathlib.Omega.{arith}
 use borrow.Author.Tests.{leb-true}
 use lib.Dec.{eqb}
-use lib.IntN.{ℤ, pos, _*ℤ_, natAbs}
+use lib.IntN.{ℤ, pos, natAbs}
 use lib.ListN.{length, getD}
 use Rattle.protocol.specs.declared.Settings.{Settings}
 use Rattle.protocol.specs.Basic.{every, within}
-use Rattle.protocol.specs.Element.{Element, modulo, product, signed, residue, residueAt}
+use Rattle.protocol.specs.Element.{Element, modulo, product, signed, residue}
 use Rattle.protocol.specs.Settings.{size, half}
-use Rattle.protocol.specs.Transcript.{finalBounded, ending, endHolds}
+use Rattle.protocol.specs.Transcript.{finalBounded, ending, endHolds, endMet, foldedKey}
 use Rattle.protocol.proofs.Modulo.{modulo-lt, modulo-times}
 use Rattle.protocol.proofs.Tests.{every-at}
 use Rattle.protocol.specs.Opening.{left, keyAfter}
-use Rattle.residues.specs.Elements.{elementAt}
 use Rattle.products.specs.Sums.{multipleIs, Summable}
-use Rattle.residues.proofs.Padding.{element-residue}
-use Rattle.equations.specs.Ends.{equationMet, endMet}
-use Rattle.protocol.proofs.Agreement.{Alike, every-ext, product-same}
+use Rattle.protocol.proofs.Agreement.{Alike, every-ext, end-same, first-same}
 use Rattle.protocol.proofs.OpeningLaws.{left-power}
 use Rattle.equations.proofs.Ready.{Ready}
 use Rattle.equations.proofs.Quotients.{multiple-test, half-inverse}
@@ -52,8 +49,8 @@ module _ (S : Settings) (ready : Ready S) (f : List ℤ) where
       pub power-most : n ≤ 2 ^ 13
       power-most = Nat.le-trans {m = 256} (rw power-is (Nat.pow-le-pow-right {n = 2} (omega arith) {i = L} {j = 8} (ready .depth-most))) (omega arith)
 
-      pub equation-is : every d (λ k. multipleIs q n (product d (signed f) (residue g) k) (getD claim k 0)) ≡ equationMet S claim (signed f) (residue g)
-      unfolding equationMet multipleIs
+      pub equation-is : every d (λ k. multipleIs q n (product d (signed f) (residue g) k) (getD claim k 0)) ≡ endHolds S claim (signed f) (residue g)
+      unfolding endHolds ending multipleIs
       equation-is = every-ext d (λ k l.
           multiple-test q (omega arith) n (half S ^ L) (ap (λ x. x * half S ^ L % q) power-is ∙ unfold half in
           half-inverse q (omega arith) (ready .modulus-odd) L) (modulo q (product d (signed f) (residue g) k)) (getD claim k 0) (modulo-lt q (omega arith) _)
@@ -61,16 +58,6 @@ module _ (S : Settings) (ready : Ready S) (f : List ℤ) where
 
 -- the end by a list that begins with the first element of the folded key, as by the key
 pub end-by-front : (S : Settings) (key E claim g : List ℕ) (f : Element) → Alike (S .degree) g (keyAfter S E (S .depth) key) →
-    endMet S claim f (residue g) ≡ (finalBounded S f && endHolds S key E claim f)
-unfolding endMet equationMet endHolds ending residue residueAt
-end-by-front S key E claim g f s = ap (λ b. finalBounded S f && b) (every-ext (S .degree) (λ k l.
-    ap (λ z. eqb (getD claim k 0) (modulo (S .modulus) (pos (half S ^ S .depth) *ℤ z)))
-    (product-same {d = S .degree} (omega arith) (λ _ _. refl) (λ j b. ap pos (s j b ∙ ap (λ x. getD (keyAfter S E (S .depth) key) x 0) (omega (arith, Nat.zero-mul (S .degree))))) k)))
-
--- the end by the first element of the folded key, as by the key
-pub end-by-key : (S : Settings) (key E claim : List ℕ) (f : Element) →
-    endMet S claim f (residue (elementAt (S .degree) (keyAfter S E (S .depth) key) 0)) ≡ (finalBounded S f && endHolds S key E claim f)
-unfolding endMet equationMet endHolds ending
-end-by-key S key E claim f = ap (λ b. finalBounded S f && b) (every-ext (S .degree) (λ k l.
-    ap (λ z. eqb (getD claim k 0) (modulo (S .modulus) (pos (half S ^ S .depth) *ℤ z)))
-    (product-same {d = S .degree} (omega arith) (λ _ _. refl) (element-residue (S .degree) (keyAfter S E (S .depth) key) 0) k)))
+    endMet S claim f (residue g) ≡ endMet S claim f (foldedKey S key E)
+unfolding residue
+end-by-front S key E claim g f s = end-same S (λ _ _. refl) (λ k l. ap pos (s k l) ∙ first-same (S .degree) _ k l) claim claim (λ _ _. refl)

@@ -5,10 +5,9 @@ use protocol::WIDTH;
 ghost use mathlib.Core.Path.{_≡_};
 ghost use Rattle.protocol.specs.Basic.{Provided};
 ghost use Rattle.protocol.specs.Element.{padded, residue, signed};
-ghost use Rattle.protocol.specs.Transcript.{roundHolds, nextClaim};
+ghost use Rattle.protocol.specs.Transcript.{roundHolds, nextClaim, endMet};
 ghost use Rattle.protocol.specs.Settings.{settingsRefusal};
 ghost use Rattle.equations.specs.Given.{Evaluable};
-ghost use Rattle.equations.specs.Ends.{endMet};
 
 // Does a round hold.
 pub fn round_holds(
@@ -32,11 +31,7 @@ pub fn next_claim(
 ) -> [Residue; WIDTH]
     ensures { λ r. ⌜ Provided (Evaluable settings c0 c1 c2) (r ≡ padded (settings .degree) (nextClaim settings e (residue c0) (residue c1) (residue c2))) ⌝ }
 {
-    let q = settings.modulus;
-    let d = settings.degree;
-    let mut claim = [0u32; WIDTH];
-    rotations::value(q, d, e, &c0, &c1, &c2, &mut claim);
-    claim
+    crate::next_claim(settings, e, &c0, &c1, &c2)
 }
 
 // Is the end met: the bound first, then the equation.

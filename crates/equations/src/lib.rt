@@ -14,10 +14,9 @@ ghost use lib.Dec.{eqb};
 ghost use lib.ListN.{length};
 ghost use Rattle.protocol.specs.Basic.{Provided};
 ghost use Rattle.protocol.specs.Element.{padded, residue, signed};
-ghost use Rattle.protocol.specs.Transcript.{roundHolds, nextClaim, finalBounded, endHolds};
+ghost use Rattle.protocol.specs.Transcript.{roundHolds, nextClaim, finalBounded, endHolds, endMet, foldedKey};
 ghost use Rattle.protocol.specs.Settings.{settingsRefusal};
-ghost use Rattle.equations.specs.Given.{ElementsGiven, FinalGiven, EndGiven};
-ghost use Rattle.equations.specs.Ends.{equationMet, endMet};
+ghost use Rattle.equations.specs.Given.{Evaluable, ElementsGiven, FinalGiven, EndGiven};
 
 // s modulo m, s being below 2m.
 fn less_once(m: u64, s: u64) -> u64
@@ -81,6 +80,23 @@ pub fn round_holds(settings: Settings, claim: &[Residue], c0: &[Residue], c2: &[
     true
 }
 
+// The claim after a round: c0 + r·c1 + r²·c2, r = X^e.
+pub fn next_claim(
+    settings: Settings,
+    e: u32,
+    c0: &[Residue],
+    c1: &[Residue],
+    c2: &[Residue],
+) -> [Residue; WIDTH]
+    ensures { λ r. ⌜ Provided (ElementsGiven settings (length (now (c0 .entry))) (length (now (c1 .entry))) (length (now (c2 .entry))))
+        (Provided (Evaluable settings (now (c0 .entry)) (now (c1 .entry)) (now (c2 .entry)))
+        (r ≡ padded (settings .degree) (nextClaim settings e (residue (now (c0 .entry))) (residue (now (c1 .entry))) (residue (now (c2 .entry)))))) ⌝ }
+{
+    let mut claim = [0u32; WIDTH];
+    rotations::value(settings.modulus, settings.degree, e, c0, c1, c2, &mut claim);
+    claim
+}
+
 // A power of half, the inverse of 2 modulo q.
 pub fn half_power(q: u32, exponent: u32) -> u32
     ensures { λ r. ⌜ Provided (0 < q) (r ≡ ((q + 1) / 2) ^ exponent % q) ⌝ }
@@ -119,7 +135,7 @@ fn final_bounded(settings: Settings, f: &[i32]) -> bool
 // Is the claim half^L·f·g, where f has no coefficient beyond ±n·B: half^L is 1/2^L.
 fn equation_met(settings: Settings, claim: &[Residue], f: &[i32], g: &[Residue]) -> bool
     requires { ⌜ (settings .degree ≤ length (now claim)) × (settings .degree ≤ length (now f)) × (settings .degree ≤ length (now g)) ⌝ }
-    ensures { λ r. ⌜ Provided (FinalGiven settings (signed (now (f .entry)))) (r ≡ equationMet settings (now (claim .entry)) (signed (now (f .entry))) (residue (now (g .entry)))) ⌝ }
+    ensures { λ r. ⌜ Provided (FinalGiven settings (signed (now (f .entry)))) (r ≡ endHolds settings (now (claim .entry)) (signed (now (f .entry))) (residue (now (g .entry)))) ⌝ }
 {
     let power = sizes::left(settings, 0);
     products::product_is(settings.modulus, settings.degree, f, g, power, claim)
@@ -155,7 +171,7 @@ pub fn end_holds_for_key(
     challenges: &[u32],
 ) -> bool
     ensures { λ r. ⌜ Provided (EndGiven settings (length (now (claim .entry))) (length (now (f .entry))) (now (key .entry)) (now (challenges .entry)))
-        (r ≡ (finalBounded settings (signed (now (f .entry))) && endHolds settings (now (key .entry)) (now (challenges .entry)) (now (claim .entry)) (signed (now (f .entry))))) ⌝ }
+        (r ≡ endMet settings (now (claim .entry)) (signed (now (f .entry))) (foldedKey settings (now (key .entry)) (now (challenges .entry)))) ⌝ }
 {
     let g = keys::folded_key(settings, key, challenges);
     end_holds(settings, claim, f, &g)

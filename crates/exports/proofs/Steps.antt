@@ -19,7 +19,7 @@ use Rattle.protocol.specs.declared.Verdict.the-variants.{Holds, Accepted}
 use Rattle.protocol.specs.Element.{padded, paddedSigned}
 use Rattle.protocol.specs.Settings.{sized}
 use Rattle.protocol.specs.Opening.{commitment, roundElement, messageAfter, keyAfter, finalElement}
-use Rattle.protocol.specs.Session.{opened, blank, startRefusal, start, shut, move, close}
+use Rattle.protocol.specs.Session.{opened, blank, startRefusal, start, shut, round, end}
 use Rattle.protocol.specs.Calls.{polynomial}
 use Rattle.protocol.specs.Inputs.{Valid}
 use Rattle.protocol.proofs.Tests.{and-intro, granted-zero}
@@ -29,7 +29,7 @@ use Rattle.protocol.proofs.Reading.{flat-length}
 use Rattle.claims.proofs.Honest.{Given, modulus-positive}
 use Rattle.protocol.proofs.Ranges.{commitment-below, round-below, last-length}
 use Rattle.claims.proofs.Prover.{commit-answer, round-answer, end-answer}
-use Rattle.claims.proofs.Sessions.{sessionAfter, start-answer, move-answer, close-answer}
+use Rattle.claims.proofs.Sessions.{sessionAfter, start-answer, session-round-answer, session-end-answer}
 use Rattle.slices.specs.Slices.{lent, polynomialOf, laid}
 use Rattle.protocol.specs.Session.{verdictNumber}
 use Rattle.slices.proofs.Laws.{element-back, whole-back, polynomial-there}
@@ -110,7 +110,7 @@ module _ {S : Settings} {G : List ℕ} {M : List ℤ} {E : List ℕ} (ok : Given
 
   whole : (t : ℕ) → t ≤ L → Whole (session t)
   whole zero l = subst Whole (ap (λ (x : Started). x .next) (start-answer ok)) (start-whole S (padded d (commitment S G M)))
-  whole (suc t) l = subst Whole (ap (λ (x : Moved). x .next) (move-answer ok t l)) (move-whole (session t) (whole t (omega arith)) (p t) (getD E t 0))
+  whole (suc t) l = subst Whole (ap (λ (x : Moved). x .next) (session-round-answer ok t l)) (move-whole (session t) (whole t (omega arith)) (p t) (getD E t 0))
 
   module _ (t : ℕ) (l : t ≤ L) where
     loaded : sessionOf (numbersOf (session t)) ≡ session t
@@ -151,9 +151,9 @@ module _ {S : Settings} {G : List ℕ} {M : List ℤ} {E : List ℕ} (ok : Given
     made : roundOn slice (getD E t 0) (numbersOf (session t)) ≡ record { refusal = 0; verdict = Holds; next = session (suc t) }
     unfolding roundOn sessionAfter
     made =
-        ap (λ (s : Session). move s (polynomialOf (s .settings .degree) slice) (getD E t 0)) (loaded t (omega arith))
-        ∙ ap (λ x. move (session t) x (getD E t 0)) slice-read
-        ∙ move-answer ok t l
+        ap (λ (s : Session). round s (polynomialOf (s .settings .degree) slice) (getD E t 0)) (loaded t (omega arith))
+        ∙ ap (λ x. round (session t) x (getD E t 0)) slice-read
+        ∙ session-round-answer ok t l
 
     abbrev m : Moved
     m = roundOn slice (getD E t 0) (numbersOf (session t))
@@ -191,7 +191,7 @@ module _ {S : Settings} {G : List ℕ} {M : List ℤ} {E : List ℕ} (ok : Given
 
   closed : endOn final G (numbersOf (session L)) ≡ record { refusal = 0; verdict = Accepted; next = shut (session L) }
   unfolding endOn sessionAfter
-  closed = ap (λ (s : Session). close s (paddedSigned (s .settings .degree) final) G) (loaded L (Nat.le-refl L)) ∙ close-answer ok
+  closed = ap (λ (s : Session). end s (paddedSigned (s .settings .degree) final) G) (loaded L (Nat.le-refl L)) ∙ session-end-answer ok
 
   abbrev n : Moved
   n = endOn final G (numbersOf (session L))

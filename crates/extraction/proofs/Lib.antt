@@ -1,6 +1,7 @@
 pub mod Parts
 pub mod Splicing
 pub mod Sums
+pub mod Turning
 pub mod Quotients
 pub mod Mu
 pub mod Weighing

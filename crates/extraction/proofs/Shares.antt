@@ -20,8 +20,10 @@ use Rattle.extraction.specs.Steps.{weighted}
 use Rattle.extraction.specs.Vectors.{scaled, Scalable, turnedRow, turned, Turnable, withShare, Sharing}
 use Rattle.protocol.proofs.Agreement.{rotate-same}
 use Rattle.extraction.proofs.Mu.{gap-some, gap-below, weighted-mu}
-use Rattle.residues.proofs.Splice.{spliced-length, entry-before, entry-behind}
+use Rattle.residues.specs.Lists.{splicedRows}
+use Rattle.residues.proofs.Splice.{spliced-length, entry-before}
 use Rattle.extraction.proofs.Splicing.{rows-at}
+use Rattle.extraction.proofs.Turning.{turned-length}
 use Rattle.extraction.proofs.Halves.{two-ext}
 
 rotate-none : (d : ℕ) (a : Element) (k : ℕ) → k < d → rotate d 0 a k ≡ a k
@@ -166,14 +168,13 @@ module _ (d n a b c : ℕ) (l : List ℤ) (T : Sharing d n a b c l) where
         by-cells d n (T .some) (λ j. natAbs (getD (s ++ R) j (pos 0)) ≤ d * d * 2 * T .bound)
         (λ i k li lk. subst (λ z. natAbs z ≤ d * d * 2 * T .bound) (sym (first-low i k li lk)) (ahead-bounded i li k lk))
 
-    pub first-turnable : Turnable d n twice (n * d) (s ++ R)
-    unfolding backTwice
-    first-turnable = record {
+    pub share-turnable : Turnable d n twice once (s ++ R)
+    unfolding backTwice backOnce
+    share-turnable = record {
       some = T .some;
       small = T .small;
-      exponent = Nat.mod-lt (2 * once) (omega (arith, T .some));
-      apart = Nat.le-refl (n * d);
-      inside = omega (arith, first-length);
+      exponents = (Nat.mod-lt (2 * once) (omega (arith, T .some)), Nat.mod-lt (2 * d - a) (omega (arith, T .some)));
+      long = first-length;
       bound = d * d * 2 * T .bound;
       bound-to = T .bound-node;
       within = first-within;
@@ -181,81 +182,47 @@ module _ (d n a b c : ℕ) (l : List ℤ) (T : Sharing d n a b c l) where
       room = T .room;
     }
 
-    -- after the first half
-    module _ {t : List ℤ} (is-t : t ≡ turned d n twice (n * d) (s ++ R)) where
-      room-t : n * d + n * d ≤ length (s ++ R)
-      room-t = omega (arith, first-length)
+    -- after the sums
+    module _ {w : List ℤ} (is-w : w ≡ turned d n twice once n (s ++ R)) where
+      abbrev lower : List ℤ
+      lower = splicedRows (turnedRow d twice (n * d) (s ++ R)) (n * d) d n (s ++ R)
 
-      t-length : length t ≡ 3 * (n * d)
-      unfolding turned
-      t-length = ap length is-t ∙ spliced-length _ (n * d) (n * d) (s ++ R) (omega (arith, room-t)) room-t ∙ first-length
+      lower-length : length lower ≡ 3 * (n * d)
+      lower-length = spliced-length _ (n * d) (n * d) (s ++ R) (omega (arith, first-length)) (omega (arith, first-length)) ∙ first-length
 
-      t-low : (j : ℕ) → j < n * d → getD t j (pos 0) ≡ getD (s ++ R) j (pos 0)
-      unfolding turned
-      t-low j h = ap (λ x. getD x j (pos 0)) is-t ∙ entry-before _ (n * d) (n * d) (s ++ R) (omega (arith, room-t)) (pos 0) j h
+      -- an element's sum with the product, turned back
+      row-sum : (to g : ℕ) → n * d ≤ to → (i k : ℕ) → i < n → k < d → turnedRow d g to (s ++ R) i k ≡ getD l (to + (i * d + k)) (pos 0) +ℤ rotate d g (ahead i) k
+      row-sum to g h i k li lk =
+          let there = first-high (to + (i * d + k)) (omega arith) in
+          let reads : (y : ℕ) → y < d → signedAt d (s ++ R) i y ≡ ahead i y = unfold signedAt in (λ y ly. first-low i y li ly) in
+          λ j. there j +ℤ rotate-same (T .some) g {b = ahead i} reads k j
 
-      t-mid : (i k : ℕ) → i < n → k < d → getD t (n * d + (i * d + k)) (pos 0) ≡ signedAt d R i k +ℤ share d M v i k
-      unfolding turned signedAt
-      t-mid i k li lk =
-          ap (λ x. getD x (n * d + (i * d + k)) (pos 0)) is-t
-          ∙ rows-at (turnedRow d twice (n * d) (s ++ R)) (n * d) d (s ++ R) n room-t (pos 0) i k li lk
-          ∙ λ j. (first-high (n * d + (i * d + k)) (omega arith) ∙ sym (R-at i k)) j +ℤ (rotate-same (T .some) twice {b = ahead i} (λ y ly. first-low i y li ly) k ∙ turned-twice i k lk) j
+      pub share-added : drop (n * d) w ≡ withShare d n a M v R
+      unfolding withShare
+      share-added = two-ext d n _ _ (T .some) (drop (n * d) w) long low high
+        where
+          long : length (drop (n * d) w) ≡ 2 * (n * d)
+          long = length-drop (n * d) w ∙ omega (arith, ap length is-w ∙ turned-length d n twice once (s ++ R) share-turnable n (Nat.le-refl n) ∙ first-length)
 
-      t-high : (j : ℕ) → 2 * (n * d) ≤ j → getD t j (pos 0) ≡ getD l j (pos 0)
-      unfolding turned
-      t-high j h = ap (λ x. getD x j (pos 0)) is-t ∙ entry-behind _ (n * d) (n * d) (s ++ R) (omega (arith, room-t)) (pos 0) j (omega arith) ∙ first-high j (omega arith)
+          low : (i k : ℕ) → i < n → k < d → getD (drop (n * d) w) (i * d + k) (pos 0) ≡ signedAt d R i k +ℤ share d M v i k
+          low i k li lk =
+              getD-drop (n * d) w (i * d + k) (pos 0)
+              ∙ ap (λ x. getD x (n * d + (i * d + k)) (pos 0)) is-w
+              ∙ entry-before _ (n * d + n * d) (n * d) lower (omega (arith, lower-length)) (pos 0) (n * d + (i * d + k)) (omega (arith, cell-inside d n i k li lk))
+              ∙ rows-at (turnedRow d twice (n * d) (s ++ R)) (n * d) d (s ++ R) n (omega (arith, first-length)) (pos 0) i k li lk
+              ∙ row-sum (n * d) twice (Nat.le-refl (n * d)) i k li lk
+              ∙ λ j. sym (R-at i k) j +ℤ turned-twice i k lk j
 
-      pub second-turnable : Turnable d n once (2 * (n * d)) t
-      unfolding backOnce
-      second-turnable = record {
-        some = T .some;
-        small = T .small;
-        exponent = Nat.mod-lt (2 * d - a) (omega (arith, T .some));
-        apart = omega arith;
-        inside = omega (arith, t-length);
-        bound = d * d * 2 * T .bound;
-        bound-to = T .bound-node;
-        within = λ j h. subst (λ z. natAbs z ≤ d * d * 2 * T .bound) (sym (t-low j h)) (first-within j h);
-        within-to = λ j h. subst (λ z. natAbs z ≤ T .bound-node) (sym (t-high j h)) (T .within-node j (omega arith));
-        room = T .room;
-      }
+          high : (i k : ℕ) → i < n → k < d → getD (drop (n * d) w) (n * d + (i * d + k)) (pos 0) ≡ signedAt d R (n + i) k +ℤ rotate d a (share d M v i) k
+          high i k li lk =
+              getD-drop (n * d) w (n * d + (i * d + k)) (pos 0)
+              ∙ (λ j. getD (is-w j) (same j) (pos 0))
+              ∙ rows-at (turnedRow d once (n * d + n * d) (s ++ R)) (n * d + n * d) d lower n (omega (arith, lower-length)) (pos 0) i k li lk
+              ∙ row-sum (n * d + n * d) once (omega arith) i k li lk
+              ∙ λ j. sym there j +ℤ turned-once i k lk j
+            where
+              same : n * d + (n * d + (i * d + k)) ≡ n * d + n * d + (i * d + k)
+              same = omega arith
 
-      -- after the second
-      module _ {w : List ℤ} (is-w : w ≡ turned d n once (2 * (n * d)) t) where
-        room-w : 2 * (n * d) + n * d ≤ length t
-        room-w = omega (arith, t-length)
-
-        pub share-added : drop (n * d) w ≡ withShare d n a M v R
-        unfolding withShare
-        share-added = two-ext d n _ _ (T .some) (drop (n * d) w) long low high
-          where
-            long : length (drop (n * d) w) ≡ 2 * (n * d)
-            long = unfold turned in (length-drop (n * d) w ∙ omega (arith, ap length is-w ∙ spliced-length _ (2 * (n * d)) (n * d) t (omega (arith, room-w)) room-w ∙ t-length))
-
-            low : (i k : ℕ) → i < n → k < d → getD (drop (n * d) w) (i * d + k) (pos 0) ≡ signedAt d R i k +ℤ share d M v i k
-            low i k li lk = unfold turned in (
-                getD-drop (n * d) w (i * d + k) (pos 0)
-                ∙ ap (λ x. getD x (n * d + (i * d + k)) (pos 0)) is-w
-                ∙ entry-before _ (2 * (n * d)) (n * d) t (omega (arith, room-w)) (pos 0) (n * d + (i * d + k)) (omega (arith, cell-inside d n i k li lk))
-                ∙ t-mid i k li lk
-                )
-
-            high : (i k : ℕ) → i < n → k < d → getD (drop (n * d) w) (n * d + (i * d + k)) (pos 0) ≡ signedAt d R (n + i) k +ℤ rotate d a (share d M v i) k
-            high i k li lk = unfold turned in (
-                getD-drop (n * d) w (n * d + (i * d + k)) (pos 0)
-                ∙ (λ j. getD (is-w j) (same j) (pos 0))
-                ∙ rows-at (turnedRow d once (2 * (n * d)) t) (2 * (n * d)) d t n room-w (pos 0) i k li lk
-                ∙ λ j. (t-high (2 * (n * d) + (i * d + k)) (omega arith) ∙ sym there) j +ℤ alike j
-                )
-              where
-                read : (y : ℕ) → y < d → signedAt d t i y ≡ ahead i y
-                read y ly = unfold signedAt in (t-low (i * d + y) (cell-inside d n i y li ly) ∙ first-low i y li ly)
-
-                alike : rotate d once (signedAt d t i) k ≡ rotate d a (share d M v i) k
-                alike = rotate-same (T .some) once read k ∙ turned-once i k lk
-
-                same : n * d + (n * d + (i * d + k)) ≡ 2 * (n * d) + (i * d + k)
-                same = omega arith
-
-                there : signedAt d R (n + i) k ≡ getD l (2 * (n * d) + (i * d + k)) (pos 0)
-                there = R-at (n + i) k ∙ ap (λ x. getD l x (pos 0)) (omega (arith, Nat.add-mul n i d))
+              there : signedAt d R (n + i) k ≡ getD l (n * d + n * d + (i * d + k)) (pos 0)
+              there = R-at (n + i) k ∙ ap (λ x. getD l x (pos 0)) (omega (arith, Nat.add-mul n i d))

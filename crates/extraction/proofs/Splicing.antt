@@ -4,14 +4,14 @@ use mathlib.Core.List.{List, _++_, append-nil}
 use Prim.Native.Nat.{ℕ, _+_, _*_, _-_, _/_, _%_, _<_, _≤_}
 use native.Mathlib.Nat as Nat
 use native.Mathlib.Omega.{arith}
-use lib.ListN.{length, getD, take, drop, length-drop, drop-of-length-le}
-use lib.Seq.{length-take-le, drop-at, drop-drop}
+use lib.ListN.{length, getD, take, drop, length-drop, take-append-drop, drop-of-length-le}
+use lib.Seq.{length-take-le, take-at, drop-at, drop-drop}
 use borrow.Rule.Slice.PartMut.{putMid}
 use Rattle.protocol.specs.Basic.{tabulate}
 use Rattle.protocol.proofs.Reading.{cell-inside, cell-element, cell-place}
 use Rattle.residues.specs.Lists.{filled, spliced, splicedRows}
 use Rattle.residues.proofs.Parts.{tail-all, tail-at}
-use Rattle.residues.proofs.Splice.{spliced-none, entry-inside, entry-behind, spliced-twice}
+use Rattle.residues.proofs.Splice.{spliced-none, spliced-length, spliced-append, entry-inside, entry-behind, spliced-twice}
 
 module _ {A : Type 0} where
   -- a list when a part that runs to its end is back
@@ -23,6 +23,26 @@ module _ {A : Type 0} where
       ap (drop (x + y)) (put-end x m q)
       ∙ sym (drop-drop y x (take x m ++ q))
       ∙ ap (drop y) (drop-at (take x m) q x (length-take-le x m h))
+
+  -- splices of parts that lie apart, in either order
+  pub spliced-apart : (f g : ℕ → A) (a n b m : ℕ) (l : List A) → a + n ≤ b → b ≤ length l → spliced g b m (spliced f a n l) ≡ spliced f a n (spliced g b m l)
+  unfolding spliced
+  spliced-apart f g a n b m l apart inside =
+      (λ i. take b (split i) ++ (tabulate m g ++ drop m (drop b (split i))))
+      ∙ (λ i. take-at front (drop b l) b long i ++ (tabulate m g ++ drop m (drop-at front (drop b l) b long i)))
+      ∙ spliced-append f a n (take b l) (tabulate m g ++ drop m (drop b l)) fits
+    where
+      front : List A
+      front = spliced f a n (take b l)
+
+      fits : a + n ≤ length (take b l)
+      fits = omega (arith, length-take-le b l inside)
+
+      long : length front ≡ b
+      long = spliced-length f a n (take b l) (omega (arith, fits)) fits ∙ length-take-le b l inside
+
+      split : spliced f a n l ≡ front ++ drop b l
+      split = ap (spliced f a n) (sym (take-append-drop b l)) ∙ sym (spliced-append f a n (take b l) (drop b l) fits)
 
   module _ (F : ℕ → ℕ → A) (at d : ℕ) (l : List A) where
     abbrev f : ℕ → A

@@ -3,8 +3,8 @@
 --   scaled d n k m e v    v with each of its first n elements `weighted`, which is multiplied by X^(2a)·μ (Mu)
 --   Scalable d n k m e v  the places are there, and the numbers are small enough
 --   turnedRow d e to l i  the element i places behind place `to`, with X^e times element i added
---   turned d n e to l     l with X^e times each of its first n elements added to those from place `to` on
---   Turnable d n e to l   the places are there, and the sums fit
+--   turned d n e f i l    l with X^e times each of its first i elements added to that n elements behind it, and X^f times each to that 2n behind it
+--   Turnable d n e f l    l has 3n elements, and the sums fit
 --   withShare d n e m v R a node's vector R, of 2n elements, with μ·v added to its first half and X^e·μ·v to its second, μ being m
 --   Sharing d n a b c l   a child's vector, of n elements, then the node's: the degree is one, the exponents are different ones, and the sums fit
 --   branchAdded d n k ..  the node's vector after the share of child j at node k, the child's vector standing before it
@@ -35,19 +35,19 @@ pub record Scalable (d n k m e : ℕ) (v : List ℤ) : Type 0 where
 abbrev pub turnedRow : ℕ → ℕ → ℕ → List ℤ → ℕ → Element
 turnedRow d e to l i k = getD l (to + (i * d + k)) (pos 0) +ℤ rotate d e (signedAt d l i) k
 
-unfoldable pub turned : ℕ → ℕ → ℕ → ℕ → List ℤ → List ℤ
-turned d n e to l = splicedRows (turnedRow d e to l) to d n l
+abbrev pub turned : ℕ → ℕ → ℕ → ℕ → ℕ → List ℤ → List ℤ
+turned d n e f i l =
+    splicedRows (turnedRow d f (n * d + n * d) l) (n * d + n * d) d i (splicedRows (turnedRow d e (n * d) l) (n * d) d i l)
 
-pub record Turnable (d n e to : ℕ) (l : List ℤ) : Type 0 where
+pub record Turnable (d n e f : ℕ) (l : List ℤ) : Type 0 where
   pub some : 0 < d
   pub small : d ≤ width
-  pub exponent : e < 2 * d
-  pub apart : n * d ≤ to
-  pub inside : to + n * d ≤ length l
+  pub exponents : (e < 2 * d) × (f < 2 * d)
+  pub long : length l ≡ 3 * (n * d)
   pub bound : ℕ
   pub bound-to : ℕ
   pub within : (j : ℕ) → j < n * d → natAbs (getD l j (pos 0)) ≤ bound
-  pub within-to : (j : ℕ) → to ≤ j → natAbs (getD l j (pos 0)) ≤ bound-to
+  pub within-to : (j : ℕ) → n * d ≤ j → natAbs (getD l j (pos 0)) ≤ bound-to
   pub room : bound-to + bound ≤ 2 ^ 62
 
 unfoldable pub withShare : ℕ → ℕ → ℕ → List ℤ → List ℤ → List ℤ → List ℤ

@@ -30,16 +30,19 @@ fn scale(d: usize, n: usize, k: usize, m: usize, e: usize, v: &mut [i64], x: &mu
     }
 }
 
-// Adds X^e times each of the first n elements to those from place `to` on; x is room for one spread element.
-fn add_turned(d: usize, n: usize, e: usize, to: usize, l: &mut [i64], x: &mut [i64])
-    requires { ⌜ (3 * d ≤ length (now x)) × Turnable d n e to (now l) ⌝ }
-    ensures { λ _. ⌜ now (l .exit) ≡ turned d n e to (now (l .entry)) ⌝ }
+// Adds X^e times each of the first n elements to the n behind them, and X^f times each to the n behind those. Each is spread once; x is room for that.
+fn add_turned(d: usize, n: usize, e: usize, f: usize, l: &mut [i64], x: &mut [i64])
+    requires { ⌜ (3 * d ≤ length (now x)) × Turnable d n e f (now l) ⌝ }
+    ensures { λ _. ⌜ now (l .exit) ≡ turned d n e f n (now (l .entry)) ⌝ }
 {
+    let cells = n * d;
     for i in 0..n {
         let at = i * d;
         spread(d, &l[at..], x);
-        let place = to + at;
-        add_spread(d, e, x, &mut l[place..]);
+        let low = cells + at;
+        add_spread(d, e, x, &mut l[low..]);
+        let high = cells + low;
+        add_spread(d, f, x, &mut l[high..]);
     }
 }
 
@@ -58,8 +61,7 @@ fn add_share(d: usize, n: usize, a: usize, b: usize, c: usize, l: &mut [i64])
     scale(d, n, k, m, e, &mut l[..cells], &mut x);
     let once = on_circle(d, back);
     let twice = on_circle(d, 2 * once);
-    add_turned(d, n, twice, cells, l, &mut x);
-    add_turned(d, n, once, 2 * cells, l, &mut x);
+    add_turned(d, n, twice, once, l, &mut x);
 }
 
 fn clear(l: &mut [i64])

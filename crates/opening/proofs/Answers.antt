@@ -27,7 +27,7 @@ use Rattle.residues.specs.Lists.{filled, spliced}
 use Rattle.residues.specs.Elements.{elementAt}
 use Rattle.residues.proofs.Fill.{zeros-length, element-done}
 use Rattle.prover.specs.Rounds.{elementPlaces, Begun}
-use Rattle.equations.specs.Ends.{endMet}
+use Rattle.protocol.specs.Transcript.{endMet}
 use Rattle.opening.specs.declared.turns.State.{State}
 use Rattle.protocol.proofs.Answers.{opening-number}
 use Rattle.opening.specs.Turns.{TablesAt, CheckedAt, Finished, ProverTurn}

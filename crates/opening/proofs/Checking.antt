@@ -13,17 +13,16 @@ use Rattle.protocol.specs.Basic.{tabulate, every, within}
 use Rattle.protocol.specs.Element.{width, zeros, modulo, padded, residue, residueAt, signed, paddedSigned}
 use Rattle.protocol.specs.Settings.{settingsRefusal, size, half}
 use Rattle.protocol.specs.Opening.{roundElement, keyAfter, messageAfter, finalElement}
-use Rattle.protocol.specs.Transcript.{Transcript, element, roundHolds, nextClaim, finalBounded, endHolds, ending, claimAfter, holdsAt, closes, accepted, transcriptOf}
+use Rattle.protocol.specs.Transcript.{Transcript, element, roundHolds, nextClaim, endMet, claimAfter, holdsAt, closes, accepted, transcriptOf}
 use Rattle.protocol.specs.Session.{part}
 use Rattle.protocol.specs.Calls.{polynomial}
 use Rattle.protocol.proofs.Reading.{tabulate-at}
 use Rattle.protocol.proofs.OpeningLaws.{round-at}
 use Rattle.protocol.proofs.Ranges.{padded-at, padded-signed-at, reduced-below, commitment-below, round-below, last-length}
-use Rattle.protocol.proofs.Agreement.{Same, every-ext, product-same, claim-same, round-same}
+use Rattle.protocol.proofs.Agreement.{Same, every-ext, claim-same, round-same, end-same}
 use Rattle.residues.specs.Elements.{elementAt}
+use Rattle.residues.proofs.Padding.{element-residue}
 use Rattle.equations.specs.Given.{Evaluable}
-use Rattle.equations.specs.Ends.{endMet}
-use Rattle.equations.proofs.Ending.{end-by-key}
 use Rattle.opening.specs.declared.turns.State.{State}
 use Rattle.opening.specs.Turns.{tested, CheckedAt}
 
@@ -97,14 +96,7 @@ module _ (S : Settings) (pq : 0 < S .modulus) (G : List ℕ) (M : List ℤ) (E R
   last-same : Same d (signed last) (signed (paddedSigned d last))
   last-same k l = sym (padded-signed-at d last k (omega (arith, last-length S (messageAfter S E L M))))
 
-  bounded-same : finalBounded S (signed last) ≡ finalBounded S (signed (paddedSigned d last))
-  unfolding finalBounded
-  bounded-same = every-ext d (λ k l. ap (within (size S * S .bound)) (last-same k l))
-
-  end-same : endHolds S G E (claimAfter S T L) (signed last) ≡ endHolds S G E (padded d (claimAfter S T L)) (signed (paddedSigned d last))
-  unfolding endHolds ending
-  end-same = every-ext d (λ k l. ap₂ eqb (sym (claim-padded L k l)) (ap (λ z. modulo q (pos (half S ^ L) *ℤ z)) (product-same {d = d} (omega arith) last-same (λ _ _. refl) k)))
-
   pub accepted-is : accepted S G T ≡ (every L (holdsAt S T) && endMet S (padded d (claimAfter S T L)) (signed (paddedSigned d last)) (residue (elementAt d (keyAfter S E L G) 0)))
-  unfolding accepted closes transcriptOf
-  accepted-is = ap (λ b. every L (holdsAt S T) && b) (ap₂ _&&_ bounded-same end-same ∙ sym (end-by-key S G E (padded d (claimAfter S T L)) (signed (paddedSigned d last))))
+  unfolding accepted closes transcriptOf endMet
+  accepted-is = ap (λ b. every L (holdsAt S T) && b)
+      (end-same S last-same (λ k l. sym (element-residue d (keyAfter S E L G) 0 k l)) (claimAfter S T L) (padded d (claimAfter S T L)) (λ k l. sym (claim-padded L k l)))

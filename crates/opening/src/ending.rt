@@ -12,7 +12,7 @@ ghost use Rattle.protocol.specs.Element.{signed, residue};
 ghost use Rattle.protocol.specs.Settings.{settingsRefusal};
 ghost use Rattle.protocol.specs.Session as session;
 ghost use Rattle.residues.specs.Elements.{elementAt};
-ghost use Rattle.equations.specs.Ends.{endMet};
+ghost use Rattle.protocol.specs.Transcript.{endMet};
 
 // What the verifier says once all turns are done, the key being folded by all challenges.
 pub fn verdict(settings: Settings, ended: State, last: [i32; WIDTH], key: &[Residue]) -> Verdict

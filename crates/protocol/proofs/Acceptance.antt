@@ -13,7 +13,7 @@ use Rattle.protocol.specs.declared.Settings.{Settings}
 use Rattle.protocol.specs.Basic.{every, least, within}
 use Rattle.protocol.specs.Element.{signed}
 use Rattle.protocol.specs.Settings.{size}
-use Rattle.protocol.specs.Transcript.{Transcript, doubled, ending, holdsAt, closes, roundHolds, finalBounded, endHolds, claimAfter, element, Cause, endCause, held, cause, accepted, Accepted}
+use Rattle.protocol.specs.Transcript.{Transcript, doubled, ending, holdsAt, closes, roundHolds, finalBounded, endHolds, foldedKey, claimAfter, element, Cause, endCause, held, cause, accepted, Accepted}
 use Rattle.protocol.proofs.Tests.{and-split, and-intro, every-at, every-intro, least-first}
 
 module _ (S : Settings) (key : List ℕ) (T : Transcript) where
@@ -22,7 +22,7 @@ module _ (S : Settings) (key : List ℕ) (T : Transcript) where
   accepted-states t = record {
     every-round = λ i l k m. eqb-true _ _ (every-at _ (λ j. eqb (doubled S (element S T i 0) (element S T i 2) j) (getD (claimAfter S T i) j 0)) (every-at _ (holdsAt S T) (whole .0) i l) k m);
     in-bound = λ k m. leb-true _ _ (every-at _ (λ j. within (size S * S .bound) (signed (T .last) j)) (end .0) k m);
-    at-end = λ k m. eqb-true _ _ (every-at _ (λ j. eqb (getD (claimAfter S T (S .depth)) j 0) (ending S key (T .challenges) (signed (T .last)) j)) (end .1) k m);
+    at-end = λ k m. eqb-true _ _ (every-at _ (λ j. eqb (getD (claimAfter S T (S .depth)) j 0) (ending S (signed (T .last)) (foldedKey S key (T .challenges)) j)) (end .1) k m);
   }
     where
       whole : (every (S .depth) (holdsAt S T) ≡ true) × ((finalBounded S (signed (T .last)) && closes S key T) ≡ true)

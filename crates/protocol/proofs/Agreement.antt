@@ -9,10 +9,11 @@ use lib.Dec.{eqb}
 use lib.ListN.{getD}
 use lib.IntN.{ℤ, pos, _+ℤ_, _*ℤ_}
 use Rattle.protocol.specs.declared.Settings.{Settings}
-use Rattle.protocol.specs.Basic.{sum, every}
-use Rattle.protocol.specs.Element.{Element, modulo, flips, around, rotate, product, residueAt, reduced}
+use Rattle.protocol.specs.Basic.{sum, every, within}
+use Rattle.protocol.specs.Element.{Element, modulo, flips, around, rotate, product, residue, residueAt, reduced}
+use Rattle.protocol.specs.Settings.{size, half}
 use Rattle.protocol.specs.Opening.{foldResidues, foldKey}
-use Rattle.protocol.specs.Transcript.{doubled, roundHolds, nextClaim}
+use Rattle.protocol.specs.Transcript.{doubled, roundHolds, nextClaim, finalBounded, ending, endHolds, endMet}
 use Rattle.protocol.proofs.Reading.{cell-inside, tabulate-ext, flat-front}
 pub use Rattle.protocol.specs.Nodes.{Alike}
 use Rattle.protocol.proofs.Paths.{halfLeft-height}
@@ -50,6 +51,18 @@ module _ (S : Settings) {c0 c1 c2 g0 g1 g2 : Element} (s0 : Same (S .degree) c0 
   pub round-same : (claim claim′ : List ℕ) → ((k : ℕ) → k < S .degree → getD claim k 0 ≡ getD claim′ k 0) → roundHolds S claim c0 c2 ≡ roundHolds S claim′ g0 g2
   unfolding roundHolds doubled
   round-same claim claim′ s = every-ext (S .degree) (λ k l. ap₂ eqb (ap (λ z. modulo (S .modulus) (pos 2 *ℤ z)) (ap₂ _+ℤ_ (s0 k l) (s2 k l))) (s k l))
+
+module _ (S : Settings) {f f′ G G′ : Element} (fs : Same (S .degree) f f′) (gs : Same (S .degree) G G′) where
+  pub end-same : (claim claim′ : List ℕ) → Alike (S .degree) claim claim′ → endMet S claim f G ≡ endMet S claim′ f′ G′
+  unfolding endMet finalBounded endHolds ending
+  end-same claim claim′ s = ap₂ _&&_
+      (every-ext (S .degree) (λ k l. ap (within (size S * S .bound)) (fs k l)))
+      (every-ext (S .degree) (λ k l. ap₂ eqb (s k l) (ap (λ z. modulo (S .modulus) (pos (half S ^ S .depth) *ℤ z)) (product-same {d = S .degree} (omega arith) fs gs k))))
+
+-- a list as an element is the first element of the list as a table
+pub first-same : (d : ℕ) (l : List ℕ) → Same d (residue l) (residueAt d l 0)
+unfolding residue residueAt
+first-same d l k _ = ap (λ x. pos (getD l x 0)) (omega (arith, Nat.zero-mul d))
 
 -- ---- keys
 

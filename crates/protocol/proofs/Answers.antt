@@ -1,7 +1,7 @@
 -- Answers that are enums, by the numbers and values that PROTOCOL gives them.
 --
 --   number-given, line-given          the number reader's answer, and the line reader's
---   move-number, close-number         the verdict of a session's round, and of its end
+--   session-round-number, session-end-number         the verdict of a session's round, and of its end
 --   check-number, opening-number      the verdict of a transcript, and of a whole opening
 --   verify-given                      the answer of `verify`
 use mathlib.Core.Path.{_≡_, refl}
@@ -17,8 +17,8 @@ use Rattle.protocol.specs.declared.Checked.{Checked}
 use Rattle.protocol.specs.declared.Verdict.the-variants.{Silent, Holds, Rejected}
 use Rattle.protocol.specs.declared.Verified.the-variants as Verify
 use Rattle.protocol.specs.Basic.{choose, granted}
-use Rattle.protocol.specs.Session.{verdict, verdictNumber, roundNumber, endNumber, advanced, shut, refusedMove, move, moveRefusal, moveHolds, moveNumber}
-use Rattle.protocol.specs.Session.{close, closeRefusal, closeHolds, closeNumber}
+use Rattle.protocol.specs.Session.{verdict, verdictNumber, roundNumber, endNumber, advanced, shut, refusedMove, round, sessionRoundRefusal, sessionRoundHolds, sessionRoundNumber}
+use Rattle.protocol.specs.Session.{end, sessionEndRefusal, sessionEndHolds, sessionEndNumber}
 use Rattle.protocol.specs.Transcript.{accepted, transcriptOf}
 use Rattle.protocol.specs.Calls.{openingRefusal, openingAnswer, openingNumber, checkRefusal, checkAnswer, checkNumber}
 use Rattle.protocol.specs.Text.{Line, linesOf, settingsIn, tablesIn, reading, numberAnswer}
@@ -66,13 +66,13 @@ end-moves zero true shut kept = refl
 end-moves zero false shut kept = refl
 end-moves (suc n) b shut kept = refl
 
-pub move-number : (r : Session) (p : List (List ℕ)) (e : ℕ) → verdictNumber (move r p e .verdict) ≡ moveNumber r p e
-unfolding move moveNumber
-move-number r p e = round-says (moveRefusal r p e) (moveHolds r p) (advanced r p e) (shut r) r
+pub session-round-number : (r : Session) (p : List (List ℕ)) (e : ℕ) → verdictNumber (round r p e .verdict) ≡ sessionRoundNumber r p e
+unfolding round sessionRoundNumber
+session-round-number r p e = round-says (sessionRoundRefusal r p e) (sessionRoundHolds r p) (advanced r p e) (shut r) r
 
-pub close-number : (r : Session) (f : List ℤ) (key : List ℕ) → verdictNumber (close r f key .verdict) ≡ closeNumber r f key
-unfolding close closeNumber
-close-number r f key = end-moves (closeRefusal r key) (closeHolds r f key) (shut r) r
+pub session-end-number : (r : Session) (f : List ℤ) (key : List ℕ) → verdictNumber (end r f key .verdict) ≡ sessionEndNumber r f key
+unfolding end sessionEndNumber
+session-end-number r f key = end-moves (sessionEndRefusal r key) (sessionEndHolds r f key) (shut r) r
 
 pub opening-number : (S : Settings) (key : List ℕ) (message : List ℤ) (E rounds : List ℕ) → verdictNumber (openingAnswer S key message E rounds .verdict) ≡ openingNumber S key message E rounds
 unfolding openingAnswer openingNumber

@@ -5,8 +5,8 @@ use Rattle.protocol.specs.Element.{signedZeros, padded, paddedSigned}
 use Rattle.protocol.specs.Settings.{degreeAllowed, depthAllowed, modulusAllowed, boundAllowed, settingsRefusal, size, cells, half, sized, residues, residueElement, small, exponent, exponents}
 use Rattle.protocol.specs.Opening.{inner, second, cross, foldSigned, foldResidues, commitment, left, halfLeft, roundElement, foldMessage, foldKey, messageAfter, keyAfter}
 use Rattle.protocol.specs.Opening.{finalElement, roundTable}
-use Rattle.protocol.specs.Transcript.{endCause, doubled, roundHolds, nextClaim, finalBounded, ending, endHolds, element, claimAfter, holdsAt, closes, accepted, held, cause, transcriptOf}
-use Rattle.protocol.specs.Session.{slots, verdict, opened, blank, startRefusal, start, refusedMove, shut, part, moveRefusal, advanced, moveHolds, move, closeRefusal, closeHolds, close}
+use Rattle.protocol.specs.Transcript.{endCause, doubled, roundHolds, nextClaim, finalBounded, ending, endHolds, endMet, element, claimAfter, holdsAt, closes, accepted, held, cause, transcriptOf}
+use Rattle.protocol.specs.Session.{slots, verdict, opened, blank, startRefusal, start, refusedMove, shut, part, sessionRoundRefusal, advanced, sessionRoundHolds, round, sessionEndRefusal, sessionEndHolds, end}
 use Rattle.protocol.specs.Tree.{child, parent, place, above, challenge, challengeTo, apart, gap, steps, s, difference, mu, share, joined, combined, growthFactor, growthLimit}
 use Rattle.protocol.specs.Tree.{nodes, leaves, onPath, pathChallenges, pathRounds, leaf, path, foldTo, vector, rootVector, growth, growthAllowed}
 use Rattle.protocol.specs.Judge.{slackAllowed, slack, scaledCommitment, combination, opens, judged}
@@ -21,8 +21,8 @@ unfolding
     modulo flips around rotate product one power plus times signed residue signedAt residueAt coefficients reduced width zeros signedZeros padded paddedSigned
     degreeAllowed depthAllowed modulusAllowed boundAllowed settingsRefusal size cells half sized residues residueElement small exponent exponents
     inner second cross foldSigned foldResidues commitment left halfLeft roundElement foldMessage foldKey messageAfter keyAfter finalElement roundTable
-    endCause doubled roundHolds nextClaim finalBounded ending endHolds element claimAfter holdsAt closes accepted held cause transcriptOf
-    slots verdict opened blank startRefusal start refusedMove shut part moveRefusal advanced moveHolds move closeRefusal closeHolds close
+    endCause doubled roundHolds nextClaim finalBounded ending endHolds endMet element claimAfter holdsAt closes accepted held cause transcriptOf
+    slots verdict opened blank startRefusal start refusedMove shut part sessionRoundRefusal advanced sessionRoundHolds round sessionEndRefusal sessionEndHolds end
     child parent place above challenge challengeTo apart gap steps s difference mu share joined combined growthFactor growthLimit nodes leaves onPath pathChallenges pathRounds leaf path foldTo
     vector rootVector growth growthAllowed
     slackAllowed slack scaledCommitment combination opens judged

@@ -12,7 +12,7 @@ use Rattle.protocol.specs.Element.{power, rotate, coefficients}
 use Rattle.protocol.specs.Settings.{settingsRefusal}
 use Rattle.protocol.specs.Opening.{foldMessage, messageAfter, keyAfter}
 use Rattle.protocol.specs.Transcript.{cause}
-use Rattle.protocol.specs.Session.{blank, shut, start, move, close}
+use Rattle.protocol.specs.Session.{blank, shut, start, round, end}
 use Rattle.protocol.specs.Judge.{slack}
 use Rattle.protocol.specs.Calls.{commitRefusal, commitAnswer, roundRefusal, foldRefusal, foldMessageExit, endRefusal, openingAnswer, openingRoundsExit, checkRefusal}
 use Rattle.protocol.specs.Calls.{judgeRefusal, judgeAnswer, extractRefusal, extractExit}
@@ -104,26 +104,26 @@ traps =
     ∷ number (checkRefusal S₁ (15 ∷ 17 ∷ []) key₁ rounds₁ (4 ∷ [])) 8
     ∷ number (checkRefusal S₁ (15 ∷ 4 ∷ []) key₁ rounds₁ (4 ∷ [])) 10
     -- a session: a closed record of zeros answers 3; any other closed record 11, and is handed back unchanged
-    ∷ number (move blank polynomial₁ 1 .refusal) 3
-    ∷ record { given = moveNumbers (move (shut fresh) polynomial₁ 1); wanted = pos 11 ∷ pos 0 ∷ recordNumbers (shut fresh) }
+    ∷ number (round blank polynomial₁ 1 .refusal) 3
+    ∷ record { given = moveNumbers (round (shut fresh) polynomial₁ 1); wanted = pos 11 ∷ pos 0 ∷ recordNumbers (shut fresh) }
     -- 8 and 10 before 11; all eight challenges are tested, and those in range are kept
-    ∷ number (move (record { settings = S₁; done = 0; claim = 17 ∷ 0 ∷ []; challenges = replicate 8 0; closed = true }) polynomial₁ 1 .refusal) 8
-    ∷ number (move (record { settings = S₁; done = 1; claim = 15 ∷ 4 ∷ []; challenges = replicate 7 0 ++ (4 ∷ []); closed = true }) polynomial₁ 1 .refusal) 10
+    ∷ number (round (record { settings = S₁; done = 0; claim = 17 ∷ 0 ∷ []; challenges = replicate 8 0; closed = true }) polynomial₁ 1 .refusal) 8
+    ∷ number (round (record { settings = S₁; done = 1; claim = 15 ∷ 4 ∷ []; challenges = replicate 7 0 ++ (4 ∷ []); closed = true }) polynomial₁ 1 .refusal) 10
     ∷ record {
-      given = moveNumbers (move (record { settings = S₁; done = 0; claim = 15 ∷ 4 ∷ []; challenges = replicate 7 0 ++ (3 ∷ []); closed = false }) polynomial₁ 1);
+      given = moveNumbers (round (record { settings = S₁; done = 0; claim = 15 ∷ 4 ∷ []; challenges = replicate 7 0 ++ (3 ∷ []); closed = false }) polynomial₁ 1);
       wanted = pos 0 ∷ pos 1 ∷ recordNumbers (record { settings = S₁; done = 1; claim = 9 ∷ 6 ∷ replicate 62 0; challenges = (1 ∷ replicate 6 0) ++ (3 ∷ []); closed = false });
     }
-    ∷ number (move (record { settings = S₁; done = 4_294_967_295; claim = 15 ∷ 4 ∷ []; challenges = replicate 8 0; closed = false }) polynomial₁ 1 .refusal) 11
+    ∷ number (round (record { settings = S₁; done = 4_294_967_295; claim = 15 ∷ 4 ∷ []; challenges = replicate 8 0; closed = false }) polynomial₁ 1 .refusal) 11
     -- a rejected round sets closed and nothing else
-    ∷ record { given = moveNumbers (move fresh ((5 ∷ 1 ∷ []) ∷ (6 ∷ 0 ∷ []) ∷ (12 ∷ 1 ∷ []) ∷ []) 1); wanted = pos 0 ∷ pos 3 ∷ recordNumbers (shut fresh) }
+    ∷ record { given = moveNumbers (round fresh ((5 ∷ 1 ∷ []) ∷ (6 ∷ 0 ∷ []) ∷ (12 ∷ 1 ∷ []) ∷ []) 1); wanted = pos 0 ∷ pos 3 ∷ recordNumbers (shut fresh) }
     -- an end before all rounds are done; an acceptance closes the record; a final coefficient of −2^31 is rejected and not refused
-    ∷ number (close fresh (pos 1 ∷ pos 0 ∷ []) key₁ .refusal) 11
+    ∷ number (end fresh (pos 1 ∷ pos 0 ∷ []) key₁ .refusal) 11
     -- an end tests its claim (8), then all eight challenges (10), both before 11; a refused end hands the record back
-    ∷ record { given = moveNumbers (close spoiled (pos 1 ∷ pos 0 ∷ []) key₁); wanted = pos 8 ∷ pos 0 ∷ recordNumbers spoiled }
-    ∷ record { given = moveNumbers (close overfull (pos 1 ∷ pos 0 ∷ []) key₁); wanted = pos 10 ∷ pos 0 ∷ recordNumbers overfull }
-    ∷ number (close (record { settings = S₁; done = 1; claim = 9 ∷ 6 ∷ []; challenges = 1 ∷ replicate 7 0; closed = false }) (pos 1 ∷ pos 0 ∷ []) (3 ∷ 5 ∷ 7 ∷ 17 ∷ []) .refusal) 8
-    ∷ record { given = moveNumbers (close (move fresh polynomial₁ 1 .next) (pos 1 ∷ pos 0 ∷ []) key₁); wanted = pos 0 ∷ pos 2 ∷ recordNumbers (shut (move fresh polynomial₁ 1 .next)) }
-    ∷ record { given = verdictAsNumber (close (move fresh polynomial₁ 1 .next) (negsuc 2_147_483_647 ∷ pos 0 ∷ []) key₁ .verdict) ∷ []; wanted = pos 3 ∷ [] }
+    ∷ record { given = moveNumbers (end spoiled (pos 1 ∷ pos 0 ∷ []) key₁); wanted = pos 8 ∷ pos 0 ∷ recordNumbers spoiled }
+    ∷ record { given = moveNumbers (end overfull (pos 1 ∷ pos 0 ∷ []) key₁); wanted = pos 10 ∷ pos 0 ∷ recordNumbers overfull }
+    ∷ number (end (record { settings = S₁; done = 1; claim = 9 ∷ 6 ∷ []; challenges = 1 ∷ replicate 7 0; closed = false }) (pos 1 ∷ pos 0 ∷ []) (3 ∷ 5 ∷ 7 ∷ 17 ∷ []) .refusal) 8
+    ∷ record { given = moveNumbers (end (round fresh polynomial₁ 1 .next) (pos 1 ∷ pos 0 ∷ []) key₁); wanted = pos 0 ∷ pos 2 ∷ recordNumbers (shut (round fresh polynomial₁ 1 .next)) }
+    ∷ record { given = verdictAsNumber (end (round fresh polynomial₁ 1 .next) (negsuc 2_147_483_647 ∷ pos 0 ∷ []) key₁ .verdict) ∷ []; wanted = pos 3 ∷ [] }
     -- a refused start; a start does not copy what stands from d on
     ∷ record { given = pos (start S₁ (17 ∷ 4 ∷ []) .refusal) ∷ recordNumbers (start S₁ (17 ∷ 4 ∷ []) .next); wanted = pos 8 ∷ recordNumbers blank }
     ∷ record { given = recordNumbers (start S₁ (15 ∷ 4 ∷ 9 ∷ []) .next); wanted = recordNumbers fresh }

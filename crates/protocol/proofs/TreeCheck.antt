@@ -11,12 +11,12 @@ use Rattle.protocol.specs.declared.Settings.{Settings}
 use Rattle.protocol.specs.Basic.{every}
 use Rattle.protocol.specs.Element.{signed, residueAt}
 use Rattle.protocol.specs.Opening.{foldKey, keyAfter}
-use Rattle.protocol.specs.Transcript.{Transcript, nextClaim, finalBounded, ending, endHolds, element, claimAfter, holdsAt, closes, accepted}
+use Rattle.protocol.specs.Transcript.{Transcript, nextClaim, finalBounded, endMet, foldedKey, element, claimAfter, holdsAt, closes, accepted}
 use Rattle.protocol.specs.Tree.{child, challenge, place, nodes, leaves, onPath, pathRounds, leaf, path}
 use Rattle.protocol.specs.Calls.{everyPath}
 use Rattle.protocol.proofs.Tests.{and-split, and-intro, same-test, every-at, every-intro}
 use Rattle.protocol.proofs.Reading.{flat-at}
-use Rattle.protocol.specs.TreeCheck.{nodeElement, foldedEnding, claimTo, nodeHolds, foldedEndHolds, leafAccepted, treeAccepted}
+use Rattle.protocol.specs.TreeCheck.{nodeElement, claimTo, nodeHolds, leafAccepted, treeAccepted}
 use Rattle.protocol.proofs.Agreement.{Same, claim-same, round-same}
 use Rattle.protocol.proofs.Paths.{below-root, path-challenge}
 use Rattle.protocol.proofs.Walk.{three, stateOn, Walk, Visits, walk-visits, visits-walk}
@@ -104,9 +104,9 @@ module _ (S : Settings) (rounds E : List ℕ) (finals : List ℤ) where
     path-round t l = round-same S (path-element t 0 l (omega arith)) (path-element t 1 l (omega arith)) (path-element t 2 l (omega arith)) _ _ (λ k m. refl)
 
     path-end : (finalBounded S (signed (T .last)) && closes S key T) ≡ leafAccepted S finals (nodes S + j) (claimAfter S T L) (keyAfter S (T .challenges) L key)
-    unfolding path closes endHolds ending leafAccepted foldedEndHolds foldedEnding
+    unfolding path closes leafAccepted endMet
     path-end =
-        ap (λ i. finalBounded S (signed (leaf S finals i)) && foldedEndHolds S (keyAfter S (T .challenges) L key) (claimAfter S T L) (signed (leaf S finals i)))
+        ap (λ i. endMet S (claimAfter S T L) (signed (leaf S finals i)) (foldedKey S key (T .challenges)))
         (sym (Nat.add-sub-cancel-left (nodes S) j))
 
     path-visits : accepted S key T ≡ true → Visits hand Node Leaf L (nodes S + j) (0, C, key)

@@ -4,16 +4,12 @@ use mathlib.Core.Bool.{_&&_}
 use mathlib.Core.List.{List}
 use Prim.Native.Nat.{ℕ, zero, suc, _+_, _*_, _-_, _^_}
 use native.Mathlib.Omega.{arith}
-use lib.Dec.{eqb}
-use lib.IntN.{ℤ, pos, _*ℤ_}
+use lib.IntN.{ℤ}
 use Rattle.protocol.specs.declared.Settings.{Settings}
-use Rattle.protocol.specs.Element.{modulo, signed}
-use Rattle.protocol.specs.Settings.{half}
 use Rattle.protocol.specs.Opening.{foldKey}
-use Rattle.protocol.specs.Transcript.{finalBounded}
-use Rattle.protocol.specs.Tree.{child, challenge, nodes, leaf}
-use Rattle.protocol.specs.TreeCheck.{nodeElement, foldedEnding, claimTo, nodeHolds, foldedEndHolds, leafAccepted, treeAccepted}
-use Rattle.protocol.proofs.Agreement.{every-ext, product-same, round-same, Alike, alike-same, key-alike}
+use Rattle.protocol.specs.Tree.{child, challenge}
+use Rattle.protocol.specs.TreeCheck.{nodeElement, claimTo, nodeHolds, leafAccepted, treeAccepted}
+use Rattle.protocol.proofs.Agreement.{round-same, end-same, Alike, alike-same, key-alike}
 
 module _ (S : Settings) (rounds E : List ℕ) (finals : List ℤ) where
   abbrev L : ℕ
@@ -24,9 +20,8 @@ module _ (S : Settings) (rounds E : List ℕ) (finals : List ℤ) where
   node-alike k claim claim′ c = round-same S {c1 = nodeElement S rounds k 1} (λ i l. refl) (λ i l. refl) (λ i l. refl) claim claim′ c
 
   leaf-alike : (k : ℕ) (claim claim′ key key′ : List ℕ) → Alike (S .degree) claim claim′ → Alike (2 ^ 0 * S .degree) key key′ → leafAccepted S finals k claim key ≡ leafAccepted S finals k claim′ key′
-  unfolding leafAccepted foldedEndHolds foldedEnding
-  leaf-alike k claim claim′ key key′ c s = ap (λ b. finalBounded S (signed (leaf S finals (k - nodes S))) && b) (every-ext (S .degree) (λ i l.
-      ap₂ eqb (c i l) (ap (λ z. modulo (S .modulus) (pos (half S ^ L) *ℤ z)) (product-same (omega arith) (λ _ _. refl) (alike-same (S .degree) (2 ^ 0) key key′ s 0 (omega arith)) i))))
+  unfolding leafAccepted
+  leaf-alike k claim claim′ key key′ c s = end-same S (λ _ _. refl) (alike-same (S .degree) (2 ^ 0) key key′ s 0 (omega arith)) claim claim′ c
 
   pub tree-alike : (h k t : ℕ) (claim claim′ key key′ : List ℕ) → h + t ≡ L → Alike (S .degree) claim claim′ → Alike (2 ^ h * S .degree) key key′
       → treeAccepted S rounds E finals h k t claim key ≡ treeAccepted S rounds E finals h k t claim′ key′

@@ -71,14 +71,14 @@ whole = Call.opening S₁ KeyTable.ours MessageTable.ours KeyTable.copy nothing
 
 -- a move on the record as it stands before the start (3), and one with a challenge out of range (10)
 abbrev early : Call
-early = Call.move Record.ours [] 0
+early = Call.session-round Record.ours [] 0
 
 abbrev wild : Call
-wild = Call.move Record.ours ((0 ∷ []) ∷ (0 ∷ []) ∷ (0 ∷ []) ∷ []) 4
+wild = Call.session-round Record.ours ((0 ∷ []) ∷ (0 ∷ []) ∷ (0 ∷ []) ∷ []) 4
 
 -- an end of the session with a key of the wrong length (7)
 abbrev hasty : Call
-hasty = Call.close Record.ours (pos 1 ∷ []) nothing
+hasty = Call.session-end Record.ours (pos 1 ∷ []) nothing
 
 -- a check of a transcript whose round elements are our key (7)
 abbrev mistaken : Call

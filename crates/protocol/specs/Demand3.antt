@@ -98,8 +98,8 @@ pub data Call : Type 0 where
   fold : Settings → ℕ → ℕ → KeyTable → MessageTable → Call
   end : Settings → ℕ → MessageTable → Call
   opening : Settings → KeyTable → MessageTable → KeyTable → KeyTable → Call
-  move : Record → List (List ℕ) → ℕ → Call
-  close : Record → List ℤ → KeyTable → Call
+  session-round : Record → List (List ℕ) → ℕ → Call
+  session-end : Record → List ℤ → KeyTable → Call
   check : Settings → List ℕ → List ℤ → KeyTable → KeyTable → KeyTable → Call
   judge : Settings → List ℕ → ℕ → KeyTable → List ℤ → Call
   extract : Settings → List ℕ → KeyTable → KeyTable → KeyTable → MessageTable → List ℤ → Call
@@ -116,8 +116,8 @@ refusal h (Call.round S t k m) = Calls.roundAnswer S t (lentKey h k) (lentMessag
 refusal h (Call.fold S t e k m) = Calls.foldRefusal S t e (lentKey h k) (lentMessage h m)
 refusal h (Call.end S t m) = Calls.endAnswer S t (lentMessage h m) .refusal
 refusal h (Call.opening S k m e r) = Calls.openingAnswer S (lentKey h k) (lentMessage h m) (lentKey h e) (lentKey h r) .refusal
-refusal h (Call.move r p e) = Verifier.move (handed h r) p e .refusal
-refusal h (Call.close r f k) = Verifier.close (handed h r) f (lentKey h k) .refusal
+refusal h (Call.session-round r p e) = Verifier.round (handed h r) p e .refusal
+refusal h (Call.session-end r f k) = Verifier.end (handed h r) f (lentKey h k) .refusal
 refusal h (Call.check S C f k r e) = Calls.checkAnswer S C f (lentKey h k) (lentKey h r) (lentKey h e) .refusal
 refusal h (Call.judge S C c k w) = Calls.judgeAnswer S C c (lentKey h k) w .refusal
 refusal h (Call.extract S C k r e f w) = Calls.extractRefusal S C (lentKey h k) (lentKey h r) (lentKey h e) (lentMessage h f) w
@@ -152,8 +152,8 @@ after (Call.opening S k m e r) h =
     backKey k (Calls.openingKeyExit S (lentKey h k) (lentMessage h m) (lentKey h e) (lentKey h r))
     (backKey r (Calls.openingRoundsExit S (lentKey h k) (lentMessage h m) (lentKey h e) (lentKey h r))
     (backMessage m (Calls.openingMessageExit S (lentKey h k) (lentMessage h m) (lentKey h e) (lentKey h r)) h))
-after (Call.move r p e) h = backRecord r (Verifier.move (handed h r) p e .next) h
-after (Call.close r f k) h = backRecord r (Verifier.close (handed h r) f (lentKey h k) .next) h
+after (Call.session-round r p e) h = backRecord r (Verifier.round (handed h r) p e .next) h
+after (Call.session-end r f k) h = backRecord r (Verifier.end (handed h r) f (lentKey h k) .next) h
 after (Call.check S C f k r e) h = h
 after (Call.judge S C c k w) h = h
 after (Call.extract S C k r e f w) h = h
@@ -212,7 +212,7 @@ step S E Step.proves h a =
     let x = Calls.roundAnswer S (h .folds) (h .key) (h .message) in
     record { held = h; heard = hearPolynomial (S .degree) (x .elements) (hear (x .refusal) a) }
 step S E Step.checks h a =
-    let x = Verifier.move (h .session) (a .polynomial) (getD E (h .folds) 0) in
+    let x = Verifier.round (h .session) (a .polynomial) (getD E (h .folds) 0) in
     record { held = backRecord Record.ours (x .next) h; heard = hearVerdict (x .verdict) (hear (x .refusal) a) }
 step S E Step.folds h a =
     let e = getD E (h .folds) 0 in
@@ -230,7 +230,7 @@ step S E Step.ends h a =
     let x = Calls.endAnswer S (h .folds) (h .message) in
     record { held = h; heard = hearLast (x .last) (hear (x .refusal) a) }
 step S E Step.closes h a =
-    let x = Verifier.close (h .session) (a .last) (h .copy) in
+    let x = Verifier.end (h .session) (a .last) (h .copy) in
     record { held = backRecord Record.ours (x .next) h; heard = hearVerdict (x .verdict) (hear (x .refusal) a) }
 
 -- before the first call: both tables unfolded, any record

@@ -62,12 +62,12 @@ pub data Answers : Call → Held → ℕ → Held → Type 0 where
   opening : {h : Held} {S : Settings} {k : KeyTable} {m : MessageTable} {e o : KeyTable} (r : Opened) (key′ : List ℕ) (message′ : List ℤ) (rounds′ : List ℕ)
       → Opening S (lentKey h k) (lentMessage h m) (lentKey h e) (lentKey h o) r key′ message′ rounds′
       → Answers (Call.opening S k m e o) h (r .refusal) (backKey k key′ (backKey o rounds′ (backMessage m message′ h)))
-  move : {h : Held} {s : Record} {p : List (List ℕ)} {e : ℕ} (r : Moved)
-      → r ≡ Verifier.move (handed h s) p e
-      → Answers (Call.move s p e) h (r .refusal) (backRecord s (r .next) h)
-  close : {h : Held} {s : Record} {f : List ℤ} {k : KeyTable} (r : Moved)
-      → r ≡ Verifier.close (handed h s) f (lentKey h k)
-      → Answers (Call.close s f k) h (r .refusal) (backRecord s (r .next) h)
+  session-round : {h : Held} {s : Record} {p : List (List ℕ)} {e : ℕ} (r : Moved)
+      → r ≡ Verifier.round (handed h s) p e
+      → Answers (Call.session-round s p e) h (r .refusal) (backRecord s (r .next) h)
+  session-end : {h : Held} {s : Record} {f : List ℤ} {k : KeyTable} (r : Moved)
+      → r ≡ Verifier.end (handed h s) f (lentKey h k)
+      → Answers (Call.session-end s f k) h (r .refusal) (backRecord s (r .next) h)
   check : {h : Held} {S : Settings} {C : List ℕ} {f : List ℤ} {k o e : KeyTable} (r : Checked)
       → r ≡ Calls.checkAnswer S C f (lentKey h k) (lentKey h o) (lentKey h e)
       → Answers (Call.check S C f k o e) h (r .refusal) h
@@ -103,7 +103,7 @@ pub data Performs (S : Settings) (E : List ℕ) : Step → Held → Heard → St
       → r ≡ Calls.roundAnswer S (h .folds) (h .key) (h .message)
       → Performs S E Step.proves h a (record { held = h; heard = hearPolynomial (S .degree) (r .elements) (hear (r .refusal) a) })
   checks : {h : Held} {a : Heard} (r : Moved)
-      → r ≡ Verifier.move (h .session) (a .polynomial) (getD E (h .folds) 0)
+      → r ≡ Verifier.round (h .session) (a .polynomial) (getD E (h .folds) 0)
       → Performs S E Step.checks h a (record { held = backRecord Record.ours (r .next) h; heard = hearVerdict (r .verdict) (hear (r .refusal) a) })
   folds : {h : Held} {a : Heard} (r : ℕ) (key′ : List ℕ) (message′ : List ℤ)
       → Folded S (h .folds) (getD E (h .folds) 0) (h .key) (h .message) r key′ message′
@@ -112,7 +112,7 @@ pub data Performs (S : Settings) (E : List ℕ) : Step → Held → Heard → St
       → r ≡ Calls.endAnswer S (h .folds) (h .message)
       → Performs S E Step.ends h a (record { held = h; heard = hearLast (r .last) (hear (r .refusal) a) })
   closes : {h : Held} {a : Heard} (r : Moved)
-      → r ≡ Verifier.close (h .session) (a .last) (h .copy)
+      → r ≡ Verifier.end (h .session) (a .last) (h .copy)
       → Performs S E Step.closes h a (record { held = backRecord Record.ours (r .next) h; heard = hearVerdict (r .verdict) (hear (r .refusal) a) })
 
 pub data Performance (S : Settings) (E : List ℕ) : List Step → State → State → Type 0 where

@@ -10,8 +10,10 @@
 --   shut r                   the record r, closed
 --   advanced r p e           the record r after a round that holds, p being the polynomial and e the challenge
 --   refusedMove r number     a refused move: r unchanged
---   start, move, close       the three moves: refusal, verdict and record
---   moveNumber, closeNumber  the number of a move's verdict
+--   start, round, end        the three moves: refusal, verdict and record
+--   sessionRoundRefusal, sessionRoundHolds, sessionRoundNumber   a round's refusal, whether its equation is met, the number of its verdict; those of
+--                            the prover's round are in Calls
+--   sessionEndRefusal, sessionEndHolds, sessionEndNumber         the same of the end
 use mathlib.Core.Bool.{Bool, true, false, _&&_, not}
 use mathlib.Core.List.{List, [], _∷_}
 use Prim.Native.Nat.{ℕ, _+_}
@@ -28,7 +30,7 @@ use Rattle.protocol.specs.Basic.{tabulate, choose, first, unless, grante
 unfoldable pub use Rattle.protocol.specs.Layout.{slots}
 use Rattle.protocol.specs.Element.{width, zeros, padded, signed, residue}
 use Rattle.protocol.specs.Settings.{settingsRefusal, cells, sized, residues, residueElement, exponent, exponents}
-use Rattle.protocol.specs.Transcript.{roundHolds, nextClaim, finalBounded, endHolds}
+use Rattle.protocol.specs.Transcript.{roundHolds, nextClaim, endMet, foldedKey}
 
 -- what a verifier says of a transcript, or of its end
 unfoldable pub verdict : Bool → Verdict
@@ -91,8 +93,8 @@ unfoldable pub part : List (List ℕ) → ℕ → List ℕ
 part p j = getD p j []
 
 -- PROTOCOL 8.9: 8 is over claim and polynomial, 10 over every slot and the new exponent, 11 asks for a round that is left and an open record
-unfoldable pub moveRefusal : Session → List (List ℕ) → ℕ → ℕ
-moveRefusal r p e =
+unfoldable pub sessionRoundRefusal : Session → List (List ℕ) → ℕ → ℕ
+sessionRoundRefusal r p e =
     let S = r .settings in
     first
     (settingsRefusal S
@@ -111,23 +113,23 @@ advanced r p e = record {
   closed = r .closed;
 }
 
-unfoldable pub moveHolds : Session → List (List ℕ) → Bool
-moveHolds r p = roundHolds (r .settings) (r .claim) (residue (part p 0)) (residue (part p 2))
+unfoldable pub sessionRoundHolds : Session → List (List ℕ) → Bool
+sessionRoundHolds r p = roundHolds (r .settings) (r .claim) (residue (part p 0)) (residue (part p 2))
 
-unfoldable pub move : Session → List (List ℕ) → ℕ → Moved
-move r p e =
-    granted (moveRefusal r p e)
-    (choose (moveHolds r p) (record { refusal = 0; verdict = Holds; next = advanced r p e }) (record { refusal = 0; verdict = Rejected; next = shut r }))
-    (refusedMove r (moveRefusal r p e))
+unfoldable pub round : Session → List (List ℕ) → ℕ → Moved
+round r p e =
+    granted (sessionRoundRefusal r p e)
+    (choose (sessionRoundHolds r p) (record { refusal = 0; verdict = Holds; next = advanced r p e }) (record { refusal = 0; verdict = Rejected; next = shut r }))
+    (refusedMove r (sessionRoundRefusal r p e))
 
-unfoldable pub moveNumber : Session → List (List ℕ) → ℕ → ℕ
-moveNumber r p e = roundNumber (moveRefusal r p e) (moveHolds r p)
+unfoldable pub sessionRoundNumber : Session → List (List ℕ) → ℕ → ℕ
+sessionRoundNumber r p e = roundNumber (sessionRoundRefusal r p e) (sessionRoundHolds r p)
 
 -- ---- end
 
 -- PROTOCOL 8.10: 8 is over key and claim, 10 over every slot, 11 asks that no round is left and for an open record
-unfoldable pub closeRefusal : Session → List ℕ → ℕ
-closeRefusal r key =
+unfoldable pub sessionEndRefusal : Session → List ℕ → ℕ
+sessionEndRefusal r key =
     let S = r .settings in
     first
     (settingsRefusal S
@@ -137,14 +139,14 @@ closeRefusal r key =
     ∷ unless 11 (eqb (r .done) (S .depth) && not (r .closed))
     ∷ [])
 
-unfoldable pub closeHolds : Session → List ℤ → List ℕ → Bool
-closeHolds r f key = finalBounded (r .settings) (signed f) && endHolds (r .settings) key (r .challenges) (r .claim) (signed f)
+unfoldable pub sessionEndHolds : Session → List ℤ → List ℕ → Bool
+sessionEndHolds r f key = endMet (r .settings) (r .claim) (signed f) (foldedKey (r .settings) key (r .challenges))
 
-unfoldable pub close : Session → List ℤ → List ℕ → Moved
-close r f key =
-    granted (closeRefusal r key)
-    (record { refusal = 0; verdict = verdict (closeHolds r f key); next = shut r })
-    (refusedMove r (closeRefusal r key))
+unfoldable pub end : Session → List ℤ → List ℕ → Moved
+end r f key =
+    granted (sessionEndRefusal r key)
+    (record { refusal = 0; verdict = verdict (sessionEndHolds r f key); next = shut r })
+    (refusedMove r (sessionEndRefusal r key))
 
-unfoldable pub closeNumber : Session → List ℤ → List ℕ → ℕ
-closeNumber r f key = endNumber (closeRefusal r key) (closeHolds r f key)
+unfoldable pub sessionEndNumber : Session → List ℤ → List ℕ → ℕ
+sessionEndNumber r f key = endNumber (sessionEndRefusal r key) (sessionEndHolds r f key)

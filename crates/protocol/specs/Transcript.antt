@@ -5,8 +5,10 @@
 --   roundHolds S claim ..   does a round hold
 --   nextClaim S e c0 c1 c2  what the claim becomes, r = X^e
 --   finalBounded S f        has f no coefficient beyond ±n·B
---   ending S key E f        half^L·f·G' modulo q, G' being the key folded by the challenges E
---   endHolds S key E ..     does the claim equal it
+--   foldedKey S key E       G', the first element of the key folded by the challenges E
+--   ending S f G            half^L·f·G modulo q
+--   endHolds S claim f G    does the claim equal it
+--   endMet S claim f G      does it, and has f no coefficient beyond ±n·B
 --   element S T t j         c_j of round t + 1
 --   claimAfter S T t        the claim after t rounds
 --   holdsAt, closes         does round t + 1 hold; is the last equation met
@@ -65,13 +67,21 @@ module _ (S : Settings) where
   unfoldable pub finalBounded : Element → Bool
   finalBounded f = every d (λ k. within (size S * B) (f k))
 
-  -- PROTOCOL 3.3: what the last equation compares the claim with
-  unfoldable pub ending : List ℕ → List ℕ → Element → ℕ → ℕ
-  ending key E f k = modulo q (pos (half S ^ L) *ℤ product d f (residueAt d (keyAfter S E L key) 0) k)
+  -- PROTOCOL 3.3: what the last equation compares the claim with, G being the first element of the folded key
+  unfoldable pub ending : Element → Element → ℕ → ℕ
+  ending f G k = modulo q (pos (half S ^ L) *ℤ product d f G k)
 
   -- PROTOCOL 3.3, the last equation
-  unfoldable pub endHolds : List ℕ → List ℕ → List ℕ → Element → Bool
-  endHolds key E claim f = every d (λ k. eqb (getD claim k 0) (ending key E f k))
+  unfoldable pub endHolds : List ℕ → Element → Element → Bool
+  endHolds claim f G = every d (λ k. eqb (getD claim k 0) (ending f G k))
+
+  -- PROTOCOL 3.3, the bound and the last equation
+  unfoldable pub endMet : List ℕ → Element → Element → Bool
+  endMet claim f G = finalBounded f && endHolds claim f G
+
+  -- PROTOCOL 3.3: the key folded by all challenges is one element
+  abbrev pub foldedKey : List ℕ → List ℕ → Element
+  foldedKey key E = residueAt d (keyAfter S E L key) 0
 
   unfoldable pub element : Transcript → ℕ → ℕ → Element
   element T t j = residueAt d (T .rounds) (itemOf t j)
@@ -85,7 +95,7 @@ module _ (S : Settings) where
   holdsAt T t = roundHolds (claimAfter T t) (element T t 0) (element T t 2)
 
   unfoldable pub closes : List ℕ → Transcript → Bool
-  closes key T = endHolds key (T .challenges) (claimAfter T L) (signed (T .last))
+  closes key T = endHolds (claimAfter T L) (signed (T .last)) (foldedKey key (T .challenges))
 
   -- PROTOCOL 3.4: every round, the bound, and the last equation
   unfoldable pub accepted : List ℕ → Transcript → Bool
@@ -101,7 +111,7 @@ module _ (S : Settings) where
 pub record Accepted (S : Settings) (key : List ℕ) (T : Transcript) : Type 0 where
   pub every-round : (t : ℕ) → t < S .depth → (k : ℕ) → k < S .degree → doubled S (element S T t 0) (element S T t 2) k ≡ getD (claimAfter S T t) k 0
   pub in-bound : (k : ℕ) → k < S .degree → natAbs (signed (T .last) k) ≤ size S * S .bound
-  pub at-end : (k : ℕ) → k < S .degree → getD (claimAfter S T (S .depth)) k 0 ≡ ending S key (T .challenges) (signed (T .last)) k
+  pub at-end : (k : ℕ) → k < S .degree → getD (claimAfter S T (S .depth)) k 0 ≡ ending S (signed (T .last)) (foldedKey S key (T .challenges)) k
 
 -- PROTOCOL 2.6
 unfoldable pub transcriptOf : Settings → List ℕ → List ℤ → List ℕ → Transcript

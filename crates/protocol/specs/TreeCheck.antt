@@ -2,33 +2,25 @@
 -- The definitions accept a tree path by path (PROTOCOL 7.3, refusal 13); proofs/TreeCheck shows that the two are one test.
 --
 --   nodeElement S rounds k j          c_j of node k
---   foldedEnding S folded f           half^L·f·G', G' being the first element of the folded key
 --   claimTo S rounds E k j            the claim that node k hands to its child j
 --   nodeHolds S rounds k claim        does the round of node k hold
---   leafAccepted S finals k ..        is the end met at the leaf that has number k
+--   leafAccepted S finals k ..        is the end met at the leaf that has number k, with its claim and the folded key
 --   treeAccepted S rounds .. h k t    is every path accepted from node k on, which is h steps above the leaves, with t rounds done, its claim and the folded key
 use mathlib.Core.Bool.{Bool, _&&_}
 use mathlib.Core.List.{List}
-use Prim.Native.Nat.{ℕ, zero, suc, _+_, _*_, _-_, _^_}
-use lib.Dec.{eqb}
-use lib.ListN.{getD}
-use lib.IntN.{ℤ, pos, _*ℤ_}
+use Prim.Native.Nat.{ℕ, zero, suc, _+_, _*_, _-_}
+use lib.IntN.{ℤ}
 use Rattle.protocol.specs.declared.Settings.{Settings}
-use Rattle.protocol.specs.Basic.{every}
-use Rattle.protocol.specs.Element.{Element, modulo, product, signed, residueAt}
-use Rattle.protocol.specs.Settings.{half}
+use Rattle.protocol.specs.Element.{Element, signed, residueAt}
 use Rattle.protocol.specs.Opening.{foldKey}
-use Rattle.protocol.specs.Transcript.{roundHolds, nextClaim, finalBounded}
+use Rattle.protocol.specs.Transcript.{roundHolds, nextClaim, endMet}
 use Rattle.protocol.specs.Tree.{child, challenge, nodes, leaf}
 
 module _ (S : Settings) where
-  open Settings S using (degree as d, depth as L, modulus as q)
+  open Settings S using (degree as d)
 
   unfoldable pub nodeElement : List ℕ → ℕ → ℕ → Element
   nodeElement rounds k j = residueAt d rounds (3 * k + j)
-
-  unfoldable pub foldedEnding : List ℕ → Element → ℕ → ℕ
-  foldedEnding folded f k = modulo q (pos (half S ^ L) *ℤ product d f (residueAt d folded 0) k)
 
   unfoldable pub claimTo : List ℕ → List ℕ → ℕ → ℕ → List ℕ
   claimTo rounds E k j = nextClaim S (challenge E k j) (nodeElement rounds k 0) (nodeElement rounds k 1) (nodeElement rounds k 2)
@@ -36,11 +28,8 @@ module _ (S : Settings) where
   unfoldable pub nodeHolds : List ℕ → ℕ → List ℕ → Bool
   nodeHolds rounds k claim = roundHolds S claim (nodeElement rounds k 0) (nodeElement rounds k 2)
 
-  unfoldable pub foldedEndHolds : List ℕ → List ℕ → Element → Bool
-  foldedEndHolds folded claim f = every d (λ k. eqb (getD claim k 0) (foldedEnding folded f k))
-
   unfoldable pub leafAccepted : List ℤ → ℕ → List ℕ → List ℕ → Bool
-  leafAccepted finals k claim folded = finalBounded S (signed (leaf S finals (k - nodes S))) && foldedEndHolds folded claim (signed (leaf S finals (k - nodes S)))
+  leafAccepted finals k claim folded = endMet S claim (signed (leaf S finals (k - nodes S))) (residueAt d folded 0)
 
   unfoldable pub treeAccepted : List ℕ → List ℕ → List ℤ → ℕ → ℕ → ℕ → List ℕ → List ℕ → Bool
   treeAccepted rounds E finals zero k t claim key = leafAccepted finals k claim key

@@ -18,13 +18,14 @@ use Rattle.protocol.specs.Basic.{choose, granted}
 use Rattle.protocol.specs.Element.{width, zeros, padded, reduced}
 use Rattle.protocol.specs.Settings.{settingsRefusal}
 use Rattle.protocol.specs.Transcript.{nextClaim}
-use Rattle.protocol.specs.Session.{slots, opened, blank, startRefusal, start, shut, moveRefusal, advanced, moveHolds, move, closeRefusal, close, refusedMove, closeHolds, verdict}
+use Rattle.protocol.specs.Session.{slots, opened, blank, startRefusal, start, shut, sessionRoundRefusal, advanced, sessionRoundHolds, round, sessionEndRefusal, end, refusedMove, sessionEndHolds, verdict}
 use Rattle.protocol.proofs.Tests.{first-zero}
 use Rattle.protocol.proofs.Inputs.{settings-valid}
 use Rattle.protocol.proofs.Reading.{tabulate-length, tabulate-at, tabulate-ext, tabulate-own}
 use Rattle.residues.proofs.Fill.{zeros-length}
 use Rattle.sizes.proofs.Limits.{degree-most}
 use Rattle.sessions.specs.Records.{recordWidth, challengesOf, claimOf, sessionOf, flagged, headOf, numberOf, numbersOf}
+use Rattle.sessions.proofs.Stored.{head-number, challenge-number, place-number}
 
 -- a record whose arrays have their lengths, as every record has that is passed by value
 pub record Whole (r : Session) : Type 0 where
@@ -38,23 +39,14 @@ module _ (r : Session) where
   unfolding numbersOf recordWidth
   number-at k h = tabulate-at 78 (numberOf r) 0 k h
 
-  head-at : (k : ℕ) → k < 6 → getD (numbersOf r) k 0 ≡ headOf r k
-  unfolding numberOf choose
-  head-at k h = number-at k (omega arith) ∙ simp (lt-ltb k 6 h)
+  head-at : (k : ℕ) → k < 6 → getD (numbersOf r) k 0 ≡ getD (headOf r) k 0
+  head-at k h = number-at k (omega arith) ∙ sym (head-number r k h)
 
   challenge-at : (k : ℕ) → k < 8 → getD (numbersOf r) (6 + k) 0 ≡ getD (r .challenges) k 0
-  unfolding numberOf choose
-  challenge-at k h =
-      let past : 6 ≤ 6 + k = omega arith in
-      let before : 6 + k < 14 = omega arith in
-      number-at (6 + k) (omega arith) ∙ simp (le-ltb (6 + k) 6 past, lt-ltb (6 + k) 14 before) (ap (λ n. getD (r .challenges) n 0) (omega arith))
+  challenge-at k h = number-at (6 + k) (omega arith) ∙ sym (challenge-number r k h)
 
   place-at : (k : ℕ) → k < 64 → getD (numbersOf r) (14 + k) 0 ≡ getD (r .claim) k 0
-  unfolding numberOf choose
-  place-at k h =
-      let past : 6 ≤ 14 + k = omega arith in
-      let behind : 14 ≤ 14 + k = omega arith in
-      number-at (14 + k) (omega arith) ∙ simp (le-ltb (14 + k) 6 past, le-ltb (14 + k) 14 behind) (ap (λ n. getD (r .claim) n 0) (omega arith))
+  place-at k h = number-at (14 + k) (omega arith) ∙ sym (place-number r k h)
 
   flag : (b : Bool) → eqb (choose b 1 0) 1 ≡ b
   unfolding choose
@@ -93,7 +85,7 @@ module _ (t : List ℕ) (long : length t ≡ 78) (good : flagged t ≡ true) whe
   flag-number (suc zero) h = refl
   flag-number (suc (suc x)) h = absurd (omega arith)
 
-  head-kept : (k : ℕ) → k < 6 → headOf (sessionOf t) k ≡ getD t k 0
+  head-kept : (k : ℕ) → k < 6 → getD (headOf (sessionOf t)) k 0 ≡ getD t k 0
   unfolding headOf sessionOf choose flagged
   head-kept zero h = refl
   head-kept (suc zero) h = refl
@@ -155,20 +147,20 @@ module _ (r : Session) (w : Whole r) where
     challenges = simp length-set (w .challenges);
   }
 
-  pub move-whole : (p : List (List ℕ)) (e : ℕ) → Whole (move r p e .next)
-  unfolding move moveRefusal granted choose refusedMove
-  move-whole p e = go (moveRefusal r p e) refl (moveHolds r p)
+  pub move-whole : (p : List (List ℕ)) (e : ℕ) → Whole (round r p e .next)
+  unfolding round sessionRoundRefusal granted choose refusedMove
+  move-whole p e = go (sessionRoundRefusal r p e) refl (sessionRoundHolds r p)
     where
-      go : (n : ℕ) → moveRefusal r p e ≡ n → (b : Bool)
+      go : (n : ℕ) → sessionRoundRefusal r p e ≡ n → (b : Bool)
           → Whole (granted n (choose b (record { refusal = 0; verdict = Holds; next = advanced r p e }) (record { refusal = 0; verdict = Rejected; next = shut r })) (refusedMove r n) .next)
       go zero h true = advanced-whole p e (first-zero _ _ h .0)
       go zero h false = shut-whole
       go (suc n) h b = w
 
-  pub close-whole : (f : List ℤ) (key : List ℕ) → Whole (close r f key .next)
-  unfolding close granted refusedMove
-  close-whole f key = go (closeRefusal r key)
+  pub close-whole : (f : List ℤ) (key : List ℕ) → Whole (end r f key .next)
+  unfolding end granted refusedMove
+  close-whole f key = go (sessionEndRefusal r key)
     where
-      go : (n : ℕ) → Whole (granted n (record { refusal = 0; verdict = verdict (closeHolds r f key); next = shut r }) (refusedMove r n) .next)
+      go : (n : ℕ) → Whole (granted n (record { refusal = 0; verdict = verdict (sessionEndHolds r f key); next = shut r }) (refusedMove r n) .next)
       go zero = shut-whole
       go (suc n) = w

@@ -2,18 +2,19 @@
 use mathlib.Core.Path.{_≡_, sym, ap, _∙_}
 use mathlib.Core.Logic.{_≢_}
 use mathlib.Core.List.{List, _++_, append-nil}
-use Prim.Native.Nat.{ℕ, _+_, _-_}
+use Prim.Native.Nat.{ℕ, _+_, _-_, _<_, _≤_}
 use native.Mathlib.Omega.{arith}
-use borrow.Author.Tests.{eq-eqb, ne-eqb}
-use lib.ListN.{length, take, drop, length-drop}
+use borrow.Author.Tests.{eq-eqb, ne-eqb, lt-ltb, le-ltb}
+use lib.ListN.{length, getD, take, drop, length-drop}
 use lib.Seq.{take-all, drop-length, getD-drop}
 use Rattle.protocol.specs.declared.Session.{Session}
 use Rattle.protocol.specs.Basic.{tabulate, choose}
 use Rattle.protocol.specs.Element.{width, zeros, padded}
 use Rattle.protocol.specs.Settings.{sized}
 use Rattle.protocol.proofs.Reading.{tabulate-length, tabulate-ext, tabulate-own}
-use Rattle.residues.specs.Lists.{filled}
-use Rattle.sessions.specs.Records.{recordWidth, claimOf, numberOf, numbersOf, recordStored}
+use Rattle.residues.specs.Lists.{spliced}
+use Rattle.residues.proofs.Splice.{spliced-ext, spliced-twice}
+use Rattle.sessions.specs.Records.{recordWidth, claimOf, headOf, numberOf, numbersOf, recordStored}
 
 -- ---- writing
 
@@ -26,9 +27,34 @@ module _ (r : Session) where
   unfolding recordStored recordWidth sized choose
   stored t h = ap (λ b. choose b (numbersOf r) t) (eq-eqb _ _ h)
 
-  pub filled-stored : (k : ℕ) (t : List ℕ) → length t ≡ 78 → k ≡ 78 → filled (numberOf r) k t ≡ recordStored r t
-  unfolding filled numbersOf recordWidth
-  filled-stored k t h e = ap (λ n. filled (numberOf r) n t) e ∙ ap (λ l. tabulate 78 (numberOf r) ++ l) (ap (λ n. drop n t) (sym h) ∙ drop-length t) ∙ append-nil _ ∙ sym (stored t h)
+  pub head-number : (k : ℕ) → k < 6 → getD (headOf r) k 0 ≡ numberOf r k
+  unfolding numberOf choose
+  head-number k l = simp (lt-ltb k 6 l)
+
+  pub challenge-number : (k : ℕ) → k < 8 → getD (r .challenges) k 0 ≡ numberOf r (6 + k)
+  unfolding numberOf choose
+  challenge-number k l =
+      let past : 6 ≤ 6 + k = omega arith in
+      let before : 6 + k < 14 = omega arith in
+      simp (le-ltb (6 + k) 6 past, lt-ltb (6 + k) 14 before) (ap (λ n. getD (r .challenges) n 0) (omega arith))
+
+  pub place-number : (k : ℕ) → k < 64 → getD (r .claim) k 0 ≡ numberOf r (14 + k)
+  unfolding numberOf choose
+  place-number k l =
+      let past : 6 ≤ 14 + k = omega arith in
+      let behind : 14 ≤ 14 + k = omega arith in
+      simp (le-ltb (14 + k) 6 past, le-ltb (14 + k) 14 behind) (ap (λ n. getD (r .claim) n 0) (omega arith))
+
+  -- the numbers before the challenges, the challenges and the claim, written one after the other
+  pub parts-stored : (first t : List ℕ) → first ≡ headOf r → length t ≡ 78
+      → spliced (λ k. getD (r .claim) k 0) 14 64 (spliced (λ k. getD (r .challenges) k 0) 6 8 (spliced (λ k. getD first k 0) 0 6 t)) ≡ recordStored r t
+  unfolding numbersOf spliced
+  parts-stored first t e h =
+      ap (λ l. spliced (λ k. getD (r .claim) k 0) 14 64 (spliced (λ k. getD (r .challenges) k 0) 6 8 l))
+      (spliced-ext _ (numberOf r) 0 6 t (λ k l. ap (λ x. getD x k 0) e ∙ head-number k l))
+      ∙ ap (spliced (λ k. getD (r .claim) k 0) 14 64) (spliced-twice (numberOf r) (λ k. getD (r .challenges) k 0) 0 6 8 t (omega arith) challenge-number)
+      ∙ spliced-twice (numberOf r) (λ k. getD (r .claim) k 0) 0 14 64 t (omega arith) place-number
+      ∙ ap (λ l. tabulate 78 (numberOf r) ++ l) (ap (λ n. drop n t) (sym h) ∙ drop-length t) ∙ append-nil _ ∙ sym (stored t h)
 
   pub numbers-length : length (numbersOf r) ≡ 78
   unfolding numbersOf recordWidth

@@ -21,7 +21,7 @@ use Rattle.protocol.specs.declared.Moved.{Moved}
 use Rattle.protocol.specs.Basic.{first, unless, granted}
 use Rattle.protocol.specs.Element.{padded, paddedSigned}
 use Rattle.protocol.specs.Settings.{sized}
-use Rattle.protocol.specs.Session.{opened, blank, startRefusal, move, close, verdictNumber}
+use Rattle.protocol.specs.Session.{opened, blank, startRefusal, round, end, verdictNumber}
 use Rattle.slices.specs.Slices.{lent, polynomialOf}
 use Rattle.sessions.specs.Records.{recordWidth, sessionOf, flagged, recordStored}
 
@@ -53,13 +53,13 @@ unfoldable pub polynomialFits : List ℕ → List ℕ → Bool
 polynomialFits P rec = sized (3 * sessionOf rec .settings .degree) P
 
 unfoldable pub roundOn : List ℕ → ℕ → List ℕ → Moved
-roundOn P e rec = move (sessionOf rec) (polynomialOf (sessionOf rec .settings .degree) P) e
+roundOn P e rec = round (sessionOf rec) (polynomialOf (sessionOf rec .settings .degree) P) e
 
 unfoldable pub lastFits : List ℤ → List ℕ → Bool
 lastFits f rec = sized (sessionOf rec .settings .degree) f
 
 unfoldable pub endOn : List ℤ → List ℕ → List ℕ → Moved
-endOn f key rec = close (sessionOf rec) (paddedSigned (sessionOf rec .settings .degree) f) key
+endOn f key rec = end (sessionOf rec) (paddedSigned (sessionOf rec .settings .degree) f) key
 
 pub record Answered (m : Moved) (rec : List ℕ) (r : ℕ) (rec′ : List ℕ) (verdict′ : ℕ) : Type 0 where
   pub refusal : r ≡ m .refusal

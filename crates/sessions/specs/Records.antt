@@ -10,7 +10,7 @@
 --   numbersOf r        the numbers of the record r
 --   recordStored r t   the slice t after the record r was written to it: a slice of another length stays as it is
 use mathlib.Core.Bool.{Bool}
-use mathlib.Core.List.{List}
+use mathlib.Core.List.{List, [], _∷_}
 use Prim.Native.Nat.{ℕ, _+_, _-_}
 use lib.Dec.{leb, ltb, eqb}
 use lib.ListN.{getD}
@@ -47,14 +47,12 @@ sessionOf t = record {
 unfoldable pub flagged : List ℕ → Bool
 flagged t = leb (getD t 5 0) 1
 
--- one of the first six numbers
-unfoldable pub headOf : Session → ℕ → ℕ
-headOf r k =
-    let S = r .settings in
-    choose (eqb k 0) (S .degree) (choose (eqb k 1) (S .depth) (choose (eqb k 2) (S .modulus) (choose (eqb k 3) (S .bound) (choose (eqb k 4) (r .done) (choose (r .closed) 1 0)))))
+-- the numbers before the challenges
+unfoldable pub headOf : Session → List ℕ
+headOf r = let S = r .settings in S .degree ∷ S .depth ∷ S .modulus ∷ S .bound ∷ r .done ∷ choose (r .closed) 1 0 ∷ []
 
 unfoldable pub numberOf : Session → ℕ → ℕ
-numberOf r k = choose (ltb k headWidth) (headOf r k) (choose (ltb k claimAt) (getD (r .challenges) (k - headWidth) 0) (getD (r .claim) (k - claimAt) 0))
+numberOf r k = choose (ltb k headWidth) (getD (headOf r) k 0) (choose (ltb k claimAt) (getD (r .challenges) (k - headWidth) 0) (getD (r .claim) (k - claimAt) 0))
 
 unfoldable pub numbersOf : Session → List ℕ
 numbersOf r = tabulate recordWidth (numberOf r)

@@ -13,7 +13,7 @@ ghost use Rattle.sessions.specs.Promises.{StartStored, MoveStored, Answe
 pub fn start(settings: Settings, commitment: &[Residue], session: &mut [u32]) -> u32
     ensures { λ r. ⌜ StartStored settings (now (commitment .entry)) (now (session .entry)) r (now (session .exit)) ⌝ }
 {
-    let none = records::blank();
+    let none = verifier::blank();
     let d = settings.degree;
     let fits = slices::both(commitment.len() == d as usize, session.len() == RECORD);
     let refusal = slices::refusal(settings, fits);

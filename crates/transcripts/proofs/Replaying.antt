@@ -6,17 +6,16 @@ use Prim.Native.Nat.{ℕ, zero, suc, _+_, _*_, _<_, _≤_}
 use native.Mathlib.Nat as Nat
 use native.Mathlib.Numerals.{add-one}
 use native.Mathlib.Omega.{arith}
-use lib.Dec.{eqb}
 use lib.IntN.{ℤ}
 use lib.ListN.{length, getD}
 use Rattle.protocol.specs.declared.Settings.{Settings}
 use Rattle.protocol.specs.Basic.{every}
 use Rattle.protocol.specs.Element.{residueAt, signed}
 use Rattle.protocol.specs.Layout.{itemOf}
-use Rattle.protocol.specs.Transcript.{Transcript, roundHolds, nextClaim, finalBounded, ending, endHolds, element, claimAfter, holdsAt, closes, accepted}
+use Rattle.protocol.specs.Transcript.{Transcript, roundHolds, nextClaim, finalBounded, endMet, foldedKey, element, claimAfter, holdsAt, closes, accepted}
 use Rattle.protocol.proofs.Inputs.{settings-valid}
 use Rattle.protocol.proofs.Refusals.{and-fails-left}
-use Rattle.protocol.proofs.Agreement.{Alike, round-same, every-ext}
+use Rattle.protocol.proofs.Agreement.{Alike, round-same, end-same, every-ext}
 use Rattle.protocol.proofs.Ranges.{below-everywhere}
 use Rattle.residues.specs.Elements.{elementAt}
 use Rattle.residues.proofs.Padding.{padded-at}
@@ -84,8 +83,8 @@ module _ (S : Settings) (C C′ rounds E : List ℕ) (f : List ℤ) (is : C′ �
   rejects e key = sym (and-fails-left _ _ (sym rounds-held ∙ e))
 
   pub ends : every L (holdsAt S (whole C′ rounds E)) ≡ true → (key claim : List ℕ) → Alike d claim (claimAfter S (whole C′ rounds E) L)
-      → (finalBounded S (signed f) && endHolds S key E claim (signed f)) ≡ accepted S key T
-  unfolding accepted closes endHolds
+      → endMet S claim (signed f) (foldedKey S key E) ≡ accepted S key T
+  unfolding accepted closes endMet
   ends e key claim s =
-      ap (λ b. finalBounded S (signed f) && b) (every-ext d (λ k l. ap (λ x. eqb x (ending S key E (signed f) k)) (s k l ∙ claim-same L k l)))
+      end-same S {f = signed f} {G = foldedKey S key E} (λ _ _. refl) (λ _ _. refl) claim (claimAfter S T L) (λ k l. s k l ∙ claim-same L k l)
       ∙ ap (λ b. b && (finalBounded S (signed f) && closes S key T)) (sym e ∙ rounds-held)

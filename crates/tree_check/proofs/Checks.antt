@@ -1,27 +1,21 @@
 -- The test at a leaf, from an element that is a part of the tree's table; and that the parts that are read stand in the tables of a full tree.
-use mathlib.Core.Path.{_≡_, sym, ap, ap₂, _∙_}
-use mathlib.Core.Bool.{_&&_}
+use mathlib.Core.Path.{_≡_, refl, sym, _∙_}
 use mathlib.Core.List.{List}
 use Prim.Native.Nat.{ℕ, _+_, _*_, _-_, _^_, _<_, _≤_}
 use native.Mathlib.Nat as Nat
 use native.Mathlib.Omega.{arith}
-use lib.Dec.{eqb}
-use lib.IntN.{ℤ, pos, _*ℤ_}
+use lib.IntN.{ℤ, pos}
 use lib.ListN.{getD}
 use Rattle.protocol.specs.declared.Settings.{Settings}
-use Rattle.protocol.specs.Basic.{within}
-use Rattle.protocol.specs.Element.{modulo, signed, residue, signedAt, residueAt, coefficients}
-use Rattle.protocol.specs.Settings.{size, half}
-use Rattle.protocol.specs.Transcript.{finalBounded}
+use Rattle.protocol.specs.Element.{signed, residue, signedAt, coefficients}
+use Rattle.protocol.specs.Transcript.{endMet}
 use Rattle.protocol.specs.Tree.{nodes, leaves, leaf}
 use Rattle.protocol.proofs.Inputs.{settings-valid}
 use Rattle.protocol.proofs.Reading.{tabulate-at}
 use Rattle.residues.proofs.Parts.{tail-at}
-use Rattle.equations.specs.Ends.{equationMet, endMet}
 use Rattle.equations.proofs.Polynomials.{part}
 pub use Rattle.equations.proofs.Polynomials.{part-long}
-use Rattle.protocol.specs.TreeCheck.{foldedEnding, foldedEndHolds}
-use Rattle.protocol.proofs.Agreement.{Same, every-ext, product-same}
+use Rattle.protocol.proofs.Agreement.{Same, end-same, first-same}
 use Rattle.protocol.proofs.Numbering.{before, before-power}
 use Rattle.protocol.proofs.Paths.{nodes-before}
 use Rattle.protocol.proofs.Places as Places
@@ -29,22 +23,16 @@ use Rattle.protocol.proofs.Places.{AtNode}
 use Rattle.tree_check.specs.Nodes.{Tables, Round, leafMet}
 
 module _ (S : Settings) where
-  open Settings S using (degree as d, depth as L, modulus as q, bound as B)
+  open Settings S using (degree as d, depth as L)
 
   module _ (finals : List ℤ) (j : ℕ) where
     leaf-same : Same d (signed (part (j * d) finals)) (signed (leaf S finals j))
     unfolding leaf coefficients signed signedAt
     leaf-same k l = tail-at (j * d) finals k (pos 0) ∙ sym (tabulate-at d (λ i. getD finals (j * d + i) (pos 0)) (pos 0) k l)
 
-    folded-same : (folded : List ℕ) → Same d (residue folded) (residueAt d folded 0)
-    unfolding residue residueAt
-    folded-same folded k l = ap (λ x. pos (getD folded x 0)) (omega (arith, Nat.zero-mul d))
-
     pub leaf-is : (claim folded : List ℕ) → endMet S claim (signed (part (j * d) finals)) (residue folded) ≡ leafMet S finals j claim folded
-    unfolding endMet equationMet leafMet finalBounded foldedEndHolds foldedEnding
-    leaf-is claim folded = ap₂ _&&_
-        (every-ext d (λ k l. ap (within (size S * B)) (leaf-same k l)))
-        (every-ext d (λ k l. ap (λ z. eqb (getD claim k 0) (modulo q (pos (half S ^ L) *ℤ z))) (product-same {d = d} (omega arith) leaf-same (folded-same folded) k)))
+    unfolding leafMet
+    leaf-is claim folded = end-same S leaf-same (first-same d folded) claim claim (λ _ _. refl)
 
   -- ---- a full tree's tables
 

@@ -9,20 +9,20 @@
 --   leafMet S finals j ..      is the end met at leaf j, with its claim and the folded key
 --   childAccepted S .. h k j   is every path accepted that goes from node k, h steps above the leaves and with this key, to its child j
 use mathlib.Core.Path.{_≡_}
-use mathlib.Core.Bool.{Bool, _&&_}
+use mathlib.Core.Bool.{Bool}
 use mathlib.Core.List.{List}
 use Prim.Native.Nat.{ℕ, suc, _+_, _*_, _-_, _^_, _<_, _≤_}
 use lib.IntN.{ℤ}
 use lib.ListN.{length, getD, drop}
 use Rattle.protocol.specs.declared.Settings.{Settings}
-use Rattle.protocol.specs.Element.{signed}
+use Rattle.protocol.specs.Element.{signed, residueAt}
 use Rattle.protocol.specs.Settings.{settingsRefusal, cells}
 use Rattle.protocol.specs.Opening.{foldKey}
 use Rattle.protocol.specs.Inputs.{Below}
-use Rattle.protocol.specs.Transcript.{finalBounded}
+use Rattle.protocol.specs.Transcript.{endMet}
 use Rattle.protocol.specs.Layout.{polynomialAt, polynomialCells, treeRoundCells, leafCells}
 use Rattle.protocol.specs.Tree.{child, challenge, leaf}
-use Rattle.protocol.specs.TreeCheck.{claimTo, foldedEndHolds, treeAccepted}
+use Rattle.protocol.specs.TreeCheck.{claimTo, treeAccepted}
 
 pub record Folding (S : Settings) (h space : ℕ) : Type 0 where
   pub allowed : settingsRefusal S ≡ 0
@@ -55,7 +55,7 @@ pub record TreeGiven (S : Settings) (key rounds : List ℕ) (finals : List ℤ) 
 
 module _ (S : Settings) where
   unfoldable pub leafMet : List ℤ → ℕ → List ℕ → List ℕ → Bool
-  leafMet finals j claim folded = finalBounded S (signed (leaf S finals j)) && foldedEndHolds S folded claim (signed (leaf S finals j))
+  leafMet finals j claim folded = endMet S claim (signed (leaf S finals j)) (residueAt (S .degree) folded 0)
 
   module _ (rounds E : List ℕ) (finals : List ℤ) (h k : ℕ) (key : List ℕ) where
     unfoldable pub childAccepted : ℕ → Bool

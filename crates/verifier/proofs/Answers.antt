@@ -19,9 +19,9 @@ use Rattle.protocol.specs.Element.{zeros, padded, residue}
 use Rattle.protocol.specs.Settings.{settingsRefusal, cells, residues, residueElement}
 use Rattle.protocol.specs.Inputs.{Below}
 use Rattle.protocol.specs.Transcript.{nextClaim}
-use Rattle.protocol.specs.Session.{slots, verdict, opened, blank, startRefusal, start, refusedMove, shut, part, moveRefusal, advanced, moveHolds, move, closeRefusal}
-use Rattle.protocol.specs.Session.{closeHolds, close, verdictNumber, moveNumber, closeNumber}
-use Rattle.protocol.proofs.Answers.{move-number, close-number}
+use Rattle.protocol.specs.Session.{slots, verdict, opened, blank, startRefusal, start, refusedMove, shut, part, sessionRoundRefusal, advanced, sessionRoundHolds, round, sessionEndRefusal}
+use Rattle.protocol.specs.Session.{sessionEndHolds, end, verdictNumber, sessionRoundNumber, sessionEndNumber}
+use Rattle.protocol.proofs.Answers.{session-round-number, session-end-number}
 use Rattle.protocol.proofs.Inputs.{tested-below}
 use Rattle.protocol.proofs.Tests.{and-split, every-at, granted-zero, granted-refused}
 use Rattle.protocol.proofs.Refusals.{none-refused}
@@ -58,15 +58,15 @@ element-below S a t k l = ltb-true _ _ (every-at (S .degree) (λ j. ltb (getD a 
 
 module _ (r : Session) (p : List (List ℕ)) (e : ℕ) where
   -- an answer, and the number of its verdict
-  pub round-answered : (m : Moved) → m ≡ move r p e → (m ≡ move r p e) × (verdictNumber (m .verdict) ≡ moveNumber r p e)
-  round-answered m is = (is, ap (λ x. verdictNumber (x .verdict)) is ∙ move-number r p e)
+  pub round-answered : (m : Moved) → m ≡ round r p e → (m ≡ round r p e) × (verdictNumber (m .verdict) ≡ sessionRoundNumber r p e)
+  round-answered m is = (is, ap (λ x. verdictNumber (x .verdict)) is ∙ session-round-number r p e)
 
   pub record RoundGiven : Type 0 where
     pub read : Evaluable (r .settings) (part p 0) (part p 1) (part p 2)
     pub turn : r .done < r .settings .depth
 
-  pub round-given : moveRefusal r p e ≡ 0 → RoundGiven
-  unfolding moveRefusal
+  pub round-given : sessionRoundRefusal r p e ≡ 0 → RoundGiven
+  unfolding sessionRoundRefusal
   round-given z =
       let (r6, (t8, (_, (t11, _)))) = none-refused ((7, _) ∷ (9, _) ∷ (10, _) ∷ []) z in
       let S = r .settings in
@@ -78,23 +78,23 @@ module _ (r : Session) (p : List (List ℕ)) (e : ℕ) where
         turn = ltb-true _ _ (and-split t11 .0);
       }
 
-  pub round-refused : (n : ℕ) → n ≡ moveRefusal r p e → (n ≡ 0 → ⊥) → _≡_ {A = Moved} (record { refusal = n; verdict = Silent; next = r }) (move r p e)
-  unfolding move refusedMove
-  round-refused n f s = (λ i. record { refusal = f i; verdict = Silent; next = r }) ∙ sym (granted-refused (moveRefusal r p e) _ _ (λ z. s (f ∙ z)))
+  pub round-refused : (n : ℕ) → n ≡ sessionRoundRefusal r p e → (n ≡ 0 → ⊥) → _≡_ {A = Moved} (record { refusal = n; verdict = Silent; next = r }) (round r p e)
+  unfolding round refusedMove
+  round-refused n f s = (λ i. record { refusal = f i; verdict = Silent; next = r }) ∙ sym (granted-refused (sessionRoundRefusal r p e) _ _ (λ z. s (f ∙ z)))
 
-  made : moveRefusal r p e ≡ 0 → (b : Bool) → moveHolds r p ≡ b →
-      move r p e ≡ choose b (record { refusal = 0; verdict = Holds; next = advanced r p e }) (record { refusal = 0; verdict = Rejected; next = shut r })
-  unfolding move
-  made z b h = granted-zero (moveRefusal r p e) _ _ z
+  made : sessionRoundRefusal r p e ≡ 0 → (b : Bool) → sessionRoundHolds r p ≡ b →
+      round r p e ≡ choose b (record { refusal = 0; verdict = Holds; next = advanced r p e }) (record { refusal = 0; verdict = Rejected; next = shut r })
+  unfolding round
+  made z b h = granted-zero (sessionRoundRefusal r p e) _ _ z
       ∙ ap (λ t. choose t (record { refusal = 0; verdict = Holds; next = advanced r p e }) (record { refusal = 0; verdict = Rejected; next = shut r })) h
 
-  pub round-rejected : moveRefusal r p e ≡ 0 → moveHolds r p ≡ false → (next : Session) → next ≡ shut r → _≡_ {A = Moved} (record { refusal = 0; verdict = Rejected; next = next }) (move r p e)
+  pub round-rejected : sessionRoundRefusal r p e ≡ 0 → sessionRoundHolds r p ≡ false → (next : Session) → next ≡ shut r → _≡_ {A = Moved} (record { refusal = 0; verdict = Rejected; next = next }) (round r p e)
   unfolding choose
   round-rejected z h next s = (λ i. record { refusal = 0; verdict = Rejected; next = s i }) ∙ sym (made z false h)
 
-  pub round-counted : moveRefusal r p e ≡ 0 → moveHolds r p ≡ true → (next : Session) (claim : List ℕ) → next ≡ counted r e claim
+  pub round-counted : sessionRoundRefusal r p e ≡ 0 → sessionRoundHolds r p ≡ true → (next : Session) (claim : List ℕ) → next ≡ counted r e claim
       → claim ≡ padded (r .settings .degree) (nextClaim (r .settings) e (residue (part p 0)) (residue (part p 1)) (residue (part p 2))) →
-      _≡_ {A = Moved} (record { refusal = 0; verdict = Holds; next = next }) (move r p e)
+      _≡_ {A = Moved} (record { refusal = 0; verdict = Holds; next = next }) (round r p e)
   unfolding choose advanced
   round-counted z h next claim s c = (λ i. record { refusal = 0; verdict = Holds; next = (s ∙ ap (counted r e) c) i }) ∙ sym (made z true h)
 
@@ -102,26 +102,26 @@ module _ (r : Session) (p : List (List ℕ)) (e : ℕ) where
 
 module _ (r : Session) (f : List ℤ) (key : List ℕ) where
   -- an answer, and the number of its verdict
-  pub end-answered : (m : Moved) → m ≡ close r f key → (m ≡ close r f key) × (verdictNumber (m .verdict) ≡ closeNumber r f key)
-  end-answered m is = (is, ap (λ x. verdictNumber (x .verdict)) is ∙ close-number r f key)
+  pub end-answered : (m : Moved) → m ≡ end r f key → (m ≡ end r f key) × (verdictNumber (m .verdict) ≡ sessionEndNumber r f key)
+  end-answered m is = (is, ap (λ x. verdictNumber (x .verdict)) is ∙ session-end-number r f key)
 
   pub record EndGiven : Type 0 where
     pub allowed : settingsRefusal (r .settings) ≡ 0
     pub key-below : Below (r .settings .modulus) (cells (r .settings)) key
 
-  pub end-given : closeRefusal r key ≡ 0 → EndGiven
-  unfolding closeRefusal residues
+  pub end-given : sessionEndRefusal r key ≡ 0 → EndGiven
+  unfolding sessionEndRefusal residues
   end-given z =
       let (r6, (t7, (t8, _))) = none-refused ((6, _) ∷ (7, _) ∷ (9, _) ∷ (10, _) ∷ []) z in
       let S = r .settings in
       let (of-key, of-claim) = and-split {a = residues S key} {b = residueElement S (r .claim)} t8 in
       record { allowed = r6; key-below = tested-below (S .modulus) (cells S) key t7 of-key }
 
-  pub end-refused : (n : ℕ) → n ≡ closeRefusal r key → (n ≡ 0 → ⊥) → _≡_ {A = Moved} (record { refusal = n; verdict = Silent; next = r }) (close r f key)
-  unfolding close refusedMove
-  end-refused n e s = (λ i. record { refusal = e i; verdict = Silent; next = r }) ∙ sym (granted-refused (closeRefusal r key) _ _ (λ z. s (e ∙ z)))
+  pub end-refused : (n : ℕ) → n ≡ sessionEndRefusal r key → (n ≡ 0 → ⊥) → _≡_ {A = Moved} (record { refusal = n; verdict = Silent; next = r }) (end r f key)
+  unfolding end refusedMove
+  end-refused n e s = (λ i. record { refusal = e i; verdict = Silent; next = r }) ∙ sym (granted-refused (sessionEndRefusal r key) _ _ (λ z. s (e ∙ z)))
 
-  pub end-done : closeRefusal r key ≡ 0 → (b : Bool) → closeHolds r f key ≡ b → (next : Session) → next ≡ shut r →
-      _≡_ {A = Moved} (record { refusal = 0; verdict = verdict b; next = next }) (close r f key)
-  unfolding close
-  end-done z b h next s = (λ i. record { refusal = 0; verdict = verdict (sym h i); next = s i }) ∙ sym (granted-zero (closeRefusal r key) _ _ z)
+  pub end-done : sessionEndRefusal r key ≡ 0 → (b : Bool) → sessionEndHolds r f key ≡ b → (next : Session) → next ≡ shut r →
+      _≡_ {A = Moved} (record { refusal = 0; verdict = verdict b; next = next }) (end r f key)
+  unfolding end
+  end-done z b h next s = (λ i. record { refusal = 0; verdict = verdict (sym h i); next = s i }) ∙ sym (granted-zero (sessionEndRefusal r key) _ _ z)

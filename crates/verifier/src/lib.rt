@@ -1,9 +1,12 @@
 // The verifier's session (PROTOCOL 4): moves by value, from one record to the next.
 use protocol::Moved;
+use protocol::Residue;
+use protocol::SLOTS;
 use protocol::Session;
 use protocol::Settings;
 use protocol::Started;
 use protocol::Verdict;
+use protocol::WIDTH;
 ghost use mathlib.Core.Path.{_≡_};
 ghost use Prim.Native.Nat.{_+_, _<_};
 ghost use Rattle.protocol.specs.Session as moves;
@@ -13,7 +16,7 @@ ghost use Rattle.verifier.specs.Records.{counted};
 pub struct Verifier(pub Session);
 
 // The closed record of zeros.
-fn blank() -> Session
+pub fn blank() -> Session
     ensures { λ r. ⌜ r ≡ moves.blank ⌝ }
 {
     let settings = Settings {
@@ -25,8 +28,8 @@ fn blank() -> Session
     Session {
         settings: settings,
         done: 0,
-        claim: [0u32; 64],
-        challenges: [0u32; 8],
+        claim: [0; WIDTH],
+        challenges: [0u32; SLOTS],
         closed: true,
     }
 }
@@ -41,7 +44,7 @@ fn shut(session: Session) -> Session
 }
 
 // The record after a round that holds.
-fn counted(session: Session, e: u32, claim: [u32; 64]) -> Session
+fn counted(session: Session, e: u32, claim: [Residue; WIDTH]) -> Session
     requires { ⌜ session .done < 8 ⌝ }
     ensures { λ r. ⌜ r ≡ counted session e claim ⌝ }
 {
@@ -55,7 +58,7 @@ fn counted(session: Session, e: u32, claim: [u32; 64]) -> Session
 
 impl Verifier {
     // A session starts at a commitment, whatever record there was before.
-    pub fn start(self, settings: Settings, commitment: [u32; 64]) -> Started
+    pub fn start(self, settings: Settings, commitment: [Residue; WIDTH]) -> Started
         ensures { λ r. ⌜ r ≡ moves.start settings commitment ⌝ }
     {
         let refusal = verifier_refusals::session::start(settings, commitment);
@@ -70,7 +73,7 @@ impl Verifier {
             settings: settings,
             done: 0,
             claim: residues::elements::element_at(settings.degree, &commitment, 0),
-            challenges: [0u32; 8],
+            challenges: [0u32; SLOTS],
             closed: false,
         };
         Started {
@@ -80,9 +83,9 @@ impl Verifier {
     }
 
     // A round: the equation 2·(c0 + c2) = claim, and the next claim.
-    pub fn round(self, polynomial: [[u32; 64]; 3], e: u32) -> Moved
-        ensures answer { λ r. ⌜ r ≡ moves.move (self .0) polynomial e ⌝ }
-        ensures verdict { λ r. ⌜ moves.verdictNumber (r .verdict) ≡ moves.moveNumber (self .0) polynomial e ⌝ }
+    pub fn round(self, polynomial: [[Residue; WIDTH]; 3], e: u32) -> Moved
+        ensures answer { λ r. ⌜ r ≡ moves.round (self .0) polynomial e ⌝ }
+        ensures verdict { λ r. ⌜ moves.verdictNumber (r .verdict) ≡ moves.sessionRoundNumber (self .0) polynomial e ⌝ }
     {
         let session = self.0;
         let refusal = verifier_refusals::session::round(session, polynomial, e);
@@ -106,11 +109,8 @@ impl Verifier {
                 next: closed,
             };
         }
-        let next = counted(
-            session,
-            e,
-            equations::by_value::next_claim(settings, e, c0, c1, c2),
-        );
+        let after = equations::by_value::next_claim(settings, e, c0, c1, c2);
+        let next = counted(session, e, after);
         Moved {
             refusal: 0,
             verdict: Verdict::Holds,
@@ -119,9 +119,9 @@ impl Verifier {
     }
 
     // The end: the bound on the final element, and the last equation with the key folded by the record's challenges.
-    pub fn end(self, last: [i32; 64], key: &[u32]) -> Moved
-        ensures answer { λ r. ⌜ r ≡ moves.close (self .0) last (now (key .entry)) ⌝ }
-        ensures verdict { λ r. ⌜ moves.verdictNumber (r .verdict) ≡ moves.closeNumber (self .0) last (now (key .entry)) ⌝ }
+    pub fn end(self, last: [i32; WIDTH], key: &[Residue]) -> Moved
+        ensures answer { λ r. ⌜ r ≡ moves.end (self .0) last (now (key .entry)) ⌝ }
+        ensures verdict { λ r. ⌜ moves.verdictNumber (r .verdict) ≡ moves.sessionEndNumber (self .0) last (now (key .entry)) ⌝ }
     {
         let session = self.0;
         let refusal = verifier_refusals::session::end(session, key);

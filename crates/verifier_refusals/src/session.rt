@@ -6,7 +6,7 @@ use protocol::WIDTH;
 use ranges::tests;
 use ranges::tests::refuse;
 ghost use mathlib.Core.Path.{_≡_};
-ghost use Rattle.protocol.specs.Session.{startRefusal, moveRefusal, closeRefusal};
+ghost use Rattle.protocol.specs.Session.{startRefusal, sessionRoundRefusal, sessionEndRefusal};
 
 pub fn start(settings: Settings, commitment: [Residue; WIDTH]) -> u32
     ensures { λ r. ⌜ r ≡ startRefusal settings commitment ⌝ }
@@ -18,7 +18,7 @@ pub fn start(settings: Settings, commitment: [Residue; WIDTH]) -> u32
 }
 
 pub fn round(session: Session, polynomial: [[Residue; WIDTH]; 3], e: u32) -> u32
-    ensures { λ r. ⌜ r ≡ moveRefusal session polynomial e ⌝ }
+    ensures { λ r. ⌜ r ≡ sessionRoundRefusal session polynomial e ⌝ }
 {
     let settings = session.settings;
     let q = settings.modulus;
@@ -43,7 +43,7 @@ pub fn round(session: Session, polynomial: [[Residue; WIDTH]; 3], e: u32) -> u32
 }
 
 pub fn end(session: Session, key: &[Residue]) -> u32
-    ensures { λ r. ⌜ r ≡ closeRefusal session (now (key .entry)) ⌝ }
+    ensures { λ r. ⌜ r ≡ sessionEndRefusal session (now (key .entry)) ⌝ }
 {
     let settings = session.settings;
     let q = settings.modulus;

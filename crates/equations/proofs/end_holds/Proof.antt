@@ -3,7 +3,7 @@ use mathlib.Core.Bool.{_&&_}
 use native.Mathlib.Omega.{arith}
 use borrow.Author.Tests.{not-true, not-false}
 use Rattle.protocol.specs.Element.{signed, residue}
-use Rattle.equations.specs.Ends.{equationMet, endMet}
+use Rattle.protocol.specs.Transcript.{endHolds, endMet}
 use borrow.Author.Needs.{needs}
 use Rattle.equations.proofs.end_holds.Statement.{statement}
 use Rattle.equations.proofs.end_holds.Tie as tie
@@ -20,14 +20,14 @@ returns-3 c = λ g. absurd (omega arith)
 returns-4 : tie.Need-returns-4
 unfolding endMet
 returns-4 c = λ g. let a = c .before .before .before .before .before .before .before .before .args in
-    sym (ap (λ b. b && equationMet (a .settings) (a .claim .now) (signed (a .f .now)) (residue (a .g .now))) (sym (c .before .final-bounded .ensures (g .allowed)) ∙ not-true _ (c .if4 .taken)))
+    sym (ap (λ b. b && endHolds (a .settings) (a .claim .now) (signed (a .f .now)) (residue (a .g .now))) (sym (c .before .final-bounded .ensures (g .allowed)) ∙ not-true _ (c .if4 .taken)))
 
 returns-5 : tie.Need-returns-5
 unfolding endMet
 returns-5 c = λ g.
     let a = c .before .before .before .before .before .before .before .before .before .args in
     let t = sym (c .before .before .final-bounded .ensures (g .allowed)) ∙ not-false _ (c .before .if4 .left) in
-    c .equation-met .ensures (record { allowed = g .allowed; bounded = t }) ∙ sym (ap (λ b. b && equationMet (a .settings) (a .claim .now) (signed (a .f .now)) (residue (a .g .now))) t)
+    c .equation-met .ensures (record { allowed = g .allowed; bounded = t }) ∙ sym (ap (λ b. b && endHolds (a .settings) (a .claim .now) (signed (a .f .now)) (residue (a .g .now))) t)
 
 pub end-holds-spec : {M : Type 1} → statement M
 end-holds-spec =

@@ -6,7 +6,7 @@ use lib.ListN.{length, getD}
 use Rattle.protocol.specs.declared.Session.{Session}
 use Rattle.protocol.specs.Element.{paddedSigned}
 use Rattle.protocol.specs.Settings.{sized}
-use Rattle.protocol.specs.Session.{close}
+use Rattle.protocol.specs.Session.{end}
 use Rattle.protocol.proofs.Tests.{and-split}
 use Rattle.slices.specs.Slices.{lent}
 use Rattle.slices.proofs.Lent.{lent-fits, lent-degree}
@@ -54,8 +54,8 @@ returns-3 c =
     let element = at-wholes .wholes .ensures (lent-degree (loaded .result .settings) _ passed) long in
     move-made _ _ (a .session .now) (at-if1 .if1 .left) _ (refusal .ensures ∙ lengths) nothing _ _ _ _
     (at-end .end .ensures .0
-    ∙ ap (λ f. close (loaded .result) f (a .key .now)) element
-    ∙ ap (λ (s : Session). close s (paddedSigned (s .settings .degree) (a .last .now)) (a .key .now)) (loaded .ensures))
+    ∙ ap (λ f. end (loaded .result) f (a .key .now)) element
+    ∙ ap (λ (s : Session). end s (paddedSigned (s .settings .degree) (a .last .now)) (a .key .now)) (loaded .ensures))
     (at-answer .answer .ensures)
 
 pub end-spec : {M : Type 1} → statement M

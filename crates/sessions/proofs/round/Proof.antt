@@ -5,7 +5,7 @@ use lib.Dec.{eqb, leb}
 use lib.ListN.{length, getD}
 use Rattle.protocol.specs.declared.Session.{Session}
 use Rattle.protocol.specs.Settings.{sized}
-use Rattle.protocol.specs.Session.{move}
+use Rattle.protocol.specs.Session.{round}
 use Rattle.slices.specs.Slices.{lent, polynomialOf}
 use Rattle.slices.proofs.Lent.{lent-degree}
 use Rattle.sessions.specs.Records.{flagged}
@@ -48,7 +48,7 @@ returns-3 c =
     ∙ ap (λ (s : Session). lent (s .settings) (eqb (length (a .polynomial .now)) (3 * s .settings .degree) && leb (getD (a .session .now) 5 0) 1) 0) (loaded .ensures) in
     let elements = at-polynomial .polynomial .ensures (lent-degree (loaded .result .settings) _ (sym (refusal .ensures) ∙ nothing)) in
     move-made _ _ (a .session .now) (at-if1 .if1 .left) _ (refusal .ensures ∙ lengths) nothing _ _ _ _
-    (at-round .round .ensures .0 ∙ ap (λ p. move (loaded .result) p (a .e)) elements ∙ ap (λ (s : Session). move s (polynomialOf (s .settings .degree) (a .polynomial .now)) (a .e)) (loaded .ensures))
+    (at-round .round .ensures .0 ∙ ap (λ p. round (loaded .result) p (a .e)) elements ∙ ap (λ (s : Session). round s (polynomialOf (s .settings .degree) (a .polynomial .now)) (a .e)) (loaded .ensures))
     (at-answer .answer .ensures)
 
 pub round-spec : {M : Type 1} → statement M

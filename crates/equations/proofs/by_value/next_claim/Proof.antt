@@ -1,36 +1,13 @@
-use mathlib.Core.Path.{refl, ap, _∙_}
-use mathlib.Core.List.{List}
-use Prim.Native.Nat.{ℕ, _<_, _≤_}
-use native.Mathlib.Nat.{zero-add}
-use lib.ListN.{length, getD}
 use native.Mathlib.Omega.{arith}
-use Rattle.protocol.specs.Element.{residue, reduced}
-use Rattle.protocol.specs.Transcript.{nextClaim}
-use Rattle.residues.specs.Residues.{Residues}
-use Rattle.rotations.specs.Values.{valueAt}
-use Rattle.residues.proofs.Splice.{spliced-element}
 use Rattle.equations.proofs.Ready.{ready}
 use borrow.Author.Needs.{needs}
 use Rattle.equations.proofs.by_value.next_claim.Statement.{statement}
 use Rattle.equations.proofs.by_value.next_claim.Tie as tie
 
 returns : tie.Need-returns
-unfolding nextClaim reduced valueAt
-returns c = λ g.
-    let a = c .before .before .before .before .before .before .args in
-    let S = a .settings in
-    let r = ready S (g .allowed) in
-    let row : (l : List ℕ) → S .degree ≤ length l → ((k : ℕ) → k < S .degree → getD l k 0 < S .modulus) → Residues (S .modulus) (S .degree) 0 l =
-    λ l long each. record { long = omega arith; each = λ k m. omega (arith, ap (λ j. getD l j 0) (zero-add k), each k m) } in
-    c .before .value .ensures (record {
-      degree = omega arith;
-      degree-most = omega arith;
-      coefficients = record { modulus = omega arith; first = row (a .t3) (omega arith) (g .first); second = row (a .t4) (omega arith) (g .second); third = row (a .t5) (omega arith) (g .third) };
-      room = omega arith;
-    })
-    ∙ spliced-element _ (valueAt (S .modulus) (S .degree) (a .e) (residue (a .t3)) (residue (a .t4)) (residue (a .t5))) (S .degree) (λ k l. refl)
+returns c = λ g. let r = ready _ (g .allowed) in c .next-claim .ensures (record { allowed = g .allowed; first = omega arith; second = omega arith; third = omega arith }) g
 
 pub next-claim-spec : {M : Type 1} → statement M
 next-claim-spec =
     tie.close
-    (tie.spec (λ c. search needs) (λ c. search needs) (λ c. search needs) (λ c. search needs) (λ c κs. search needs) returns)
+    (tie.spec (λ c. search needs) (λ c. search needs) (λ c. search needs) (λ c κs. search needs) returns)

@@ -11,7 +11,7 @@ use mathlib.Core.List.{List, _++_}
 use Rattle.protocol.specs.Tree.{gap}
 use Rattle.protocol.specs.Layout.{width}
 use Rattle.extraction.specs.Vectors.{scaled, turned}
-use Rattle.extraction.proofs.Shares.{backOnce, backTwice, share-scalable, first-turnable, second-turnable, share-added}
+use Rattle.extraction.proofs.Shares.{backOnce, backTwice, share-scalable, share-turnable, share-added}
 use Rattle.extraction.proofs.vectors.add_share.Statement.{statement}
 use Rattle.extraction.proofs.vectors.add_share.Tie as tie
 
@@ -61,16 +61,6 @@ whole c = c .scale .last .1 .1 .1 .1 .1 .0 ++ drop (at-scale c .args .n * at-sca
 room : (c : tie.After-scale) → 3 * at-scale c .args .d ≤ length (c .scale .last .1 .1 .1 .1 .1 .1 .0)
 room c = omega (arith, at-scale c .pre .small, c .scale .kept .1 .1 .1 .1 .1 .1 .0)
 
--- the first sums
-abbrev before-sums : (c : tie.After-add-turned) → tie.After-on-circle5
-before-sums c = c .before .before .before
-
-abbrev at-sums : (c : tie.After-add-turned) → tie.After-scale
-at-sums c = before-sums c .before .before .before .before
-
-first-sums : (c : tie.After-add-turned) → let a = at-scale (at-sums c) .args in c .add-turned .last .1 .1 .1 .1 .0 ≡ turned (a .d) (a .n) (backTwice (a .d) (a .a)) (a .n * a .d) (whole (at-sums c))
-first-sums c = let a = at-scale (at-sums c) .args in c .add-turned .ensures ∙ (λ i. turned (a .d) (a .n) (twice (before-sums c) i) (a .n * a .d) (whole (at-sums c)))
-
 mul-back : tie.Need-mul-back
 mul-back c = omega (arith, c .pre .small)
 
@@ -95,29 +85,24 @@ scale-requires c κs =
 mul-on-circle : tie.Need-mul-on-circle
 mul-on-circle c = omega (arith, once-small c, at-once c .pre .small)
 
+-- the sums follow the products
+abbrev at-sums : (c : tie.After-on-circle5) → tie.After-scale
+at-sums c = c .before .before .before .before
+
 add-turned-requires : tie.Need-add-turned-requires
 add-turned-requires c κs =
-    let at = c .before .before in let s = at .before .before .before .before in let g = at-scale s in let a = g .args in
-    (room s, rw (twice at) (first-turnable (a .d) (a .n) (a .a) (a .b) (a .c) (a .l .now) (g .pre) (products s)))
-
-add-turned-requires-2 : tie.Need-add-turned-requires-2
-add-turned-requires-2 c κs =
-    let t = c .before .before .before .before in let s = at-sums t in let g = at-scale s in let a = g .args in (
-      omega (arith, room s, t .add-turned .kept .1 .1 .1 .1 .1 .0),
-      rw (once (before-sums t .before))
-          (second-turnable (a .d) (a .n) (a .a) (a .b) (a .c) (a .l .now) (g .pre) (products s) (first-sums t)),
-    )
+    let at = c .before .before in let s = at-sums at in let g = at-scale s in let a = g .args in
+    (room s, rw (twice at, once (at .before)) (share-turnable (a .d) (a .n) (a .a) (a .b) (a .c) (a .l .now) (g .pre) (products s)))
 
 returns : tie.Need-returns
 returns c =
-    let w = c .before .before in let t = w .before .before .before .before .before in let s = at-sums t in let g = at-scale s in let a = g .args in
-    share-added (a .d) (a .n) (a .a) (a .b) (a .c) (a .l .now) (g .pre) (products s) (first-sums t)
-    (w .add-turned2 .ensures ∙ (λ i. turned (a .d) (a .n) (once (before-sums t .before) i) (2 * (a .n * a .d)) (t .add-turned .last .1 .1 .1 .1 .0)))
+    let t = c .before .before in let at = t .before .before .before in let s = at-sums at in let g = at-scale s in let a = g .args in
+    share-added (a .d) (a .n) (a .a) (a .b) (a .c) (a .l .now) (g .pre) (products s)
+    (t .add-turned .ensures ∙ (λ i. turned (a .d) (a .n) (twice at i) (once (at .before) i) (a .n) (whole s)))
 
 pub add-share-spec : {M : Type 1} → statement M
 add-share-spec =
     tie.close
     (tie.spec mul-back (λ c. search needs) add-on-circle (λ c κs. search needs) add-on-circle-2 (λ c κs. search needs) add-on-circle-3
     (λ c κs. search needs) (λ c. search needs) (λ c. search needs) slice-aggregate-scale (λ c. search needs) scale-requires (λ c κs. search needs)
-    mul-on-circle (λ c κs. search needs) (λ c. search needs) add-turned-requires (λ c. search needs) (λ c. search needs) add-turned-requires-2
-    (λ c. search needs) returns)
+    mul-on-circle (λ c κs. search needs) (λ c. search needs) add-turned-requires (λ c. search needs) returns)

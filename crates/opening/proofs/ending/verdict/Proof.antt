@@ -9,7 +9,7 @@ use Rattle.protocol.proofs.Refusals.{and-fails-left, and-fails-right}
 use Rattle.protocol.proofs.Tests.{and-intro}
 use Rattle.sizes.proofs.Limits.{degree-most}
 use Rattle.residues.specs.Elements.{elementAt}
-use Rattle.equations.specs.Ends.{endMet}
+use Rattle.protocol.specs.Transcript.{endMet}
 use borrow.Author.Needs.{needs}
 use Rattle.opening.proofs.ending.verdict.Statement.{statement}
 use Rattle.opening.proofs.ending.verdict.Tie as tie

@@ -1,51 +1,37 @@
--- The loop keeps: the numbers below k are written, the others are as they were.
-use mathlib.Core.Path.{_≡_, ap, _∙_}
-use Prim.Native.Nat.{_-_, _≤_}
+use mathlib.Core.Path.{ap, _∙_}
 use native.Mathlib.Omega.{arith}
-use lib.ListN.{length, set}
-use Rattle.residues.specs.Lists.{filled}
-use Rattle.residues.proofs.Fill.{filled-none, filled-more, filled-length}
-use Rattle.sessions.specs.Records.{numberOf}
-use Rattle.sessions.proofs.Stored.{stays, filled-stored}
+use lib.ListN.{getD}
+use Rattle.residues.specs.Lists.{spliced}
+use Rattle.sessions.proofs.Stored.{stays, parts-stored}
 use borrow.Author.Needs.{needs}
 use Rattle.sessions.proofs.records.store.Statement.{statement}
 use Rattle.sessions.proofs.records.store.Tie as tie
 
-abbrev Inv-loop : tie.InvT-loop
-Inv-loop r t₀ k₀ t k = (k ≤ 78) × (length t₀ ≡ 78) × (t ≡ filled (numberOf r) k t₀)
-
-abbrev μ-loop : tie.MeasureT-loop
-μ-loop r t₀ k₀ t k = 78 - k
-
-long : (c : tie.At-loop Inv-loop μ-loop) → length (c .loop .t) ≡ length (c .before .before .before .args .t .now)
-long c = let a = c .before .before .before .args in ap length (c .loop .inv .2) ∙ filled-length (numberOf (a .r)) (c .loop .k) (a .t .now) (omega arith)
-
-returns : tie.Need-returns Inv-loop μ-loop
+returns : tie.Need-returns
 returns c = let a = c .before .before .args in stays (a .r) (a .t .now) (c .if1 .taken)
 
-loop-holds : tie.Need-loop-holds Inv-loop μ-loop
-loop-holds c = (omega arith, c .if1 .left, filled-none _ _)
+first-long : tie.Need-slice-aggregate-store
+first-long c = search needs
 
-slice-write-t : tie.Need-slice-write-t Inv-loop μ-loop
-slice-write-t c = omega (arith, long (c .before .before))
+challenges-long : tie.Need-slice-aggregate-store-2
+challenges-long c = search needs
 
-loop-again : tie.Need-loop-again Inv-loop μ-loop
-loop-again c =
-    let l = c .before .before .loop in
-    let a = c .before .before .before .before .before .args in
-    (omega arith, l .inv .1, (λ i. set (l .inv .2 i) (l .k) (c .number .ensures i)) ∙ filled-more (numberOf (a .r)) (l .k) (a .t .now) (omega (arith, l .inv .1)))
+claim-long : tie.Need-slice-aggregate-store-3
+claim-long c = search needs
 
-same-length : tie.Need-same-length Inv-loop μ-loop
-same-length c = long (c .before)
-
-returns-2 : tie.Need-returns-2 Inv-loop μ-loop
+returns-2 : tie.Need-returns-2
 returns-2 c =
-    let l = c .before .loop in
-    let a = c .before .before .before .before .args in
-    l .inv .2 ∙ filled-stored (a .r) (l .k) (a .t .now) (l .inv .1) (omega arith)
+    let third = c .before .before in
+    let second = third .before .before .before .before .before in
+    let first = second .before .before .before .before .before in
+    let taken = first .before .before .before .before .before in
+    let r = taken .before .before .before .args .r in
+    third .store3 .ensures (record { there = omega (arith, claim-long (third .before .before)); room = omega (arith, first .store .kept .1 .1 .1 .0, second .store2 .kept .1 .1 .1 .0) })
+    ∙ ap (spliced (λ k. getD (r .claim) k 0) 14 64) (second .store2 .ensures (record { there = omega (arith, challenges-long (second .before .before)); room = omega (arith, first .store .kept .1 .1 .1 .0) }))
+    ∙ ap (λ l. spliced (λ k. getD (r .claim) k 0) 14 64 (spliced (λ k. getD (r .challenges) k 0) 6 8 l)) (first .store .ensures (record { there = omega (arith, first-long (first .before .before)); room = omega arith }))
+    ∙ parts-stored r _ _ (taken .head .ensures) (omega arith)
 
 pub store-spec : {M : Type 1} → statement M
 store-spec =
     tie.close
-    (tie.spec Inv-loop μ-loop returns loop-holds (λ c κs. search needs) (λ c. search needs) slice-write-t (λ c. search needs) (λ c. search needs)
-    loop-again same-length returns-2)
+    (tie.spec returns (λ c κs. search needs) first-long (λ c κs. search needs) challenges-long (λ c κs. search needs) claim-long (λ c κs. search needs) (λ c. search needs) returns-2)

@@ -2,7 +2,7 @@ use mathlib.Core.Path.{_≡_, sym, _∙_}
 use mathlib.Core.Bool.{true, false}
 use native.Mathlib.Omega.{arith}
 use Rattle.protocol.specs.Basic.{choose}
-use Rattle.protocol.specs.Session.{verdict, closeRefusal, closeHolds}
+use Rattle.protocol.specs.Session.{verdict, sessionEndRefusal, sessionEndHolds}
 use Rattle.protocol.proofs.Inputs.{settings-valid}
 use Rattle.sizes.proofs.Limits.{degree-most}
 use Rattle.verifier.proofs.Answers.{end-given, end-answered, end-refused, end-done}
@@ -10,7 +10,7 @@ use borrow.Author.Needs.{needs}
 use Rattle.verifier.proofs.Verifier.end.Statement.{statement}
 use Rattle.verifier.proofs.Verifier.end.Tie as tie
 
-passed : (c : tie.Else1) → let a = c .before .before .before .before .args in closeRefusal (a .self .0) (a .key .now) ≡ 0
+passed : (c : tie.Else1) → let a = c .before .before .before .before .args in sessionEndRefusal (a .self .0) (a .key .now) ≡ 0
 passed c = sym (c .before .end .ensures) ∙ c .if1 .left
 
 returns : tie.Need-returns
@@ -29,8 +29,8 @@ slice-aggregate-end-holds-for-key-3 c = search needs
 
 -- the verdict is that of the last equation and the bound
 met : (c : tie.After-end-holds-for-key) → let a = c .before .before .before .before .before .before .before .before .before .before .before .before .args in
-    c .end-holds-for-key .result ≡ closeHolds (a .self .0) (a .t2) (a .key .now)
-unfolding closeHolds
+    c .end-holds-for-key .result ≡ sessionEndHolds (a .self .0) (a .t2) (a .key .now)
+unfolding sessionEndHolds
 met c =
     let one = c .before .before .before .before .before .before .before .before in
     let g = end-given _ (one .before .before .before .before .args .t2) _ (passed one) in

@@ -1,14 +1,14 @@
 use mathlib.Core.Path.{_≡_, sym, _∙_}
 use native.Mathlib.Omega.{arith}
 use borrow.Author.Tests.{not-true, not-false}
-use Rattle.protocol.specs.Session.{part, moveRefusal, moveHolds}
+use Rattle.protocol.specs.Session.{part, sessionRoundRefusal, sessionRoundHolds}
 use Rattle.protocol.proofs.Inputs.{settings-valid}
 use Rattle.verifier.proofs.Answers.{RoundGiven, round-given, round-answered, round-refused, round-rejected, round-counted}
 use borrow.Author.Needs.{needs}
 use Rattle.verifier.proofs.Verifier.round.Statement.{statement}
 use Rattle.verifier.proofs.Verifier.round.Tie as tie
 
-passed : (c : tie.Else1) → let a = c .before .before .before .args in moveRefusal (a .self .0) (a .t2) (a .e) ≡ 0
+passed : (c : tie.Else1) → let a = c .before .before .before .args in sessionRoundRefusal (a .self .0) (a .t2) (a .e) ≡ 0
 passed c = sym (c .before .round .ensures) ∙ c .if1 .left
 
 given : (c : tie.Else1) → let a = c .before .before .before .args in RoundGiven (a .self .0) (a .t2) (a .e)
@@ -20,7 +20,7 @@ returns c =
     round-answered (a .self .0) (a .t2) (a .e) _ (round-refused (a .self .0) (a .t2) (a .e) _ (c .before .round .ensures) (c .if1 .taken))
 
 returns-2 : tie.Need-returns-2
-unfolding moveHolds part
+unfolding sessionRoundHolds part
 returns-2 c =
     let one = c .before .before .before .before .before .before .before .before in
     let a = one .before .before .before .args in
@@ -31,7 +31,7 @@ counted-requires : tie.Need-counted-requires
 counted-requires c κs = let g = given (c .before .before .before .before .before .before .before .before) in omega (arith, g .turn, settings-valid _ (g .read .allowed) .depth-most)
 
 returns-3 : tie.Need-returns-3
-unfolding moveHolds part
+unfolding sessionRoundHolds part
 returns-3 c =
     let one = c .before .before .before .before .before .before .before .before .before in
     let a = one .before .before .before .args in

@@ -3,7 +3,7 @@ use mathlib.Core.Bool.{_&&_}
 use mathlib.Core.Path.{refl, sym, _∙_}
 use borrow.Author.Needs.{needs}
 use Rattle.protocol.specs.Basic.{Tested}
-use Rattle.protocol.specs.Session.{closeRefusal}
+use Rattle.protocol.specs.Session.{sessionEndRefusal}
 use Rattle.protocol.specs.Settings.{settingsRefusal, cells, sized, residues, residueElement, exponent, exponents}
 use Rattle.protocol.proofs.Inputs.{settings-valid}
 use Rattle.protocol.proofs.Refusals.{first-stops, first-tested, tested-before, first-only, lengths-tested}
@@ -20,11 +20,11 @@ unfolding sized
 lengths c = lengths-tested _ (c .before .before .settings-refusal .ensures) (c .refuse .ensures) (λ z. rw (c .before .cells .ensures z))
 
 returns : tie.Need-returns
-unfolding closeRefusal
+unfolding sessionEndRefusal
 returns c = sym (first-tested _ _ (lengths (c .before)) (λ z. refl) ∙ first-stops _ _ (c .if1 .taken))
 
 returns-2 : tie.Need-returns-2
-unfolding closeRefusal residues residueElement exponents exponent
+unfolding sessionEndRefusal residues residueElement exponents exponent
 returns-2 c =
     let c10 = c .before .before .before .before in
     let c8 = c10 .before .before .before .before in

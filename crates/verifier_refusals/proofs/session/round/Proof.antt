@@ -3,7 +3,7 @@ use mathlib.Core.Bool.{_&&_}
 use mathlib.Core.Path.{_≡_, refl, sym, _∙_}
 use Prim.Native.Nat.{_≤_}
 use borrow.Author.Needs.{needs}
-use Rattle.protocol.specs.Session.{part, moveRefusal}
+use Rattle.protocol.specs.Session.{part, sessionRoundRefusal}
 use Rattle.protocol.specs.Settings.{settingsRefusal, residueElement, exponent, exponents}
 use Rattle.protocol.proofs.Inputs.{settings-valid}
 use Rattle.protocol.proofs.Refusals.{first-known, first-tested, tested-before, first-only}
@@ -15,7 +15,7 @@ allowed : (c : tie.After-settings-refusal) → c .settings-refusal .result ≡ 0
 allowed c z = sym (c .settings-refusal .ensures) ∙ z
 
 returns : tie.Need-returns
-unfolding moveRefusal part residueElement exponents exponent
+unfolding sessionRoundRefusal part residueElement exponents exponent
 returns c =
     let c10 = c .before .before .before .before in
     let c8 = c10 .before .before .before in
