@@ -64,7 +64,7 @@ fn print_opening(
     let degree = settings.degree as usize;
     let no_key = [0u32; 1];
     let no_message = [0i32; 1];
-    table_writer::write(
+    table_writer::write_tables(
         settings,
         prints(),
         &no_key[..0],

@@ -14,7 +14,8 @@ ghost use Rattle.protocol.specs.Basic.{all};
 ghost use Rattle.protocol.specs.Layout.{width};
 ghost use Rattle.protocol.specs.Settings.{settingsRefusal};
 ghost use Rattle.protocol.specs.Text.{unsigned, entriesRefusal};
-ghost use Rattle.table_reader.specs.Cut.{total, cutTables, passes, allPass};
+ghost use Rattle.text_parts.specs.Flat.{total};
+ghost use Rattle.table_reader.specs.Cut.{cutTables, passes, allPass};
 
 // Is every value, where numbers from 0 on are wanted, below the limit.
 fn all_below(limit: u32, values: &[i32]) -> bool

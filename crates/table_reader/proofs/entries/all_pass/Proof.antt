@@ -12,8 +12,9 @@ use Rattle.protocol.specs.declared.Settings.{Settings}
 use Rattle.protocol.specs.Basic.{every}
 use Rattle.ranges.proofs.Scan.{every-none, every-goes-on, every-fails, every-ends}
 use Rattle.text_parts.specs.Parts.{tableCount}
-use Rattle.table_reader.specs.Cut.{start, piece, passes, allPass}
-use Rattle.table_reader.proofs.Refuses.{start-next, start-most, part-of}
+use Rattle.text_parts.specs.Flat.{start, piece}
+use Rattle.text_parts.proofs.Flat.{start-next, start-most, part-of}
+use Rattle.table_reader.specs.Cut.{passes, allPass}
 use Rattle.table_reader.proofs.entries.all_pass.Statement.{statement}
 use Rattle.table_reader.proofs.entries.all_pass.Tie as tie
 
