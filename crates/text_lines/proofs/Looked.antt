@@ -157,7 +157,8 @@ module _ (text : List ℕ) where
     begun-granted e = (λ j. record { refusal = 0; settings = begins-with j }) ∙ sym (granted-zero _ _ _ (ap settingsRefusal (sym begins-with) ∙ e))
 
   -- a text that is not refused begins with allowed settings
-  begins-by : (o : Option (List ℤ × List ℕ)) → readSettings text ≡ o → (next : ℕ) → next ≡ headerAnswer text (readSettings text) .next → settingsRefusal (begunWith o) ≡ 0 → Begins text (begunWith o) next
+  begins-by : (o : Option (List ℤ × List ℕ)) → readSettings text ≡ o → (next : ℕ) → next ≡ headerAnswer text (readSettings text) .next → settingsRefusal (begunWith o) ≡ 0
+      → Begins text (begunWith o) next
   unfolding begunWith headerAnswer
   begins-by none e next is ok = absurd (omega (arith, ok, no-settings))
   begins-by (some (vs, rest)) e next is ok = record {

@@ -27,8 +27,9 @@ module _ (c : tie.After-read-tables) where
   t = tablesOf (start .args .key .now) (start .args .message .now) [] [] (start .args .challenges .now) []
 
   abbrev t′ : Tables
-  t′ = tablesOf (c .read-tables .last .1 .1 .1 .1 .0) (c .read-tables .last .1 .1 .1 .1 .1 .0) (c .read-tables .last .1 .1 .1 .1 .1 .1 .0) (c .read-tables .last .1 .1 .1 .1 .1 .1 .1 .0) (c .read-tables .last .1 .1 .1 .1 .1 .1 .1 .1 .0)
-      (c .read-tables .last .1 .1 .1 .1 .1 .1 .1 .1 .1 .0)
+  t′ =
+      let l = c .read-tables .last .1 .1 .1 .1 in
+      tablesOf (l .0) (l .1 .0) (l .1 .1 .0) (l .1 .1 .1 .0) (l .1 .1 .1 .1 .0) (l .1 .1 .1 .1 .1 .0)
 
   fit : lookRefusal text ≡ 0 → fits (settingsIn (linesOf text)) proveReads t ≡ true
   fit = start .pre .0

@@ -23,7 +23,8 @@ returns-2 c =
     let e = g .before .before .before .before .before .before .before in
     let s = e .before .before .before in
     let r = s .allowed-settings .result in
-    g .read-tables .ensures (begun-begins (s .before .before .before .before .before .before .args .text .now) (r .loaded) (r .next) (s .allowed-settings .ensures .0) (s .allowed-settings .ensures .1) (e .if1 .left))
+    let text = s .before .before .before .before .before .before .args .text .now in
+    g .read-tables .ensures (begun-begins text (r .loaded) (r .next) (s .allowed-settings .ensures .0) (s .allowed-settings .ensures .1) (e .if1 .left))
 
 pub read-spec : {M : Type 1} → statement M
 read-spec =

@@ -121,7 +121,8 @@ module _ (c : tie.After-size-of Inv-loop μ-loop) where
         by : (o : Option (List ℤ × List ℕ)) → whole ≡ o → whole ≡ none
         by none e = e
         by (some (vs, rest)) e =
-            absurd (omega (arith, values-room (partSpots S P) (drop from text) vs rest e, length-drop from text, counts, c .before .before .before .loop .inv .5 g .1, c .before .before .before .before .before .pre))
+            let count = c .before .before .before .loop .inv .5 g .1 in
+            absurd (omega (arith, values-room (partSpots S P) (drop from text) vs rest e, length-drop from text, counts, count, c .before .before .before .before .before .pre))
 
 -- what was read of it
 module _ (c : tie.After-values Inv-loop μ-loop) where
