@@ -101,7 +101,7 @@ module _ (c : tie.After-size-of Inv-loop μ-loop) where
   start-behind n f =
       let k = now-part - 1 in
       let long : size ≡ getD n k 0 = c .size-of .ensures ∙ ap shapeSize (c .before .shape-of .ensures ∙ ap (partOf S P) {x = now-part} {y = k + 1} (omega arith))
-          ∙ sym (eqb-true _ _ (every-at tableCount _ f k (omega arith))) in
+      ∙ sym (eqb-true _ _ (every-at tableCount _ f k (omega arith))) in
       (λ j. c .before .before .before .loop .inv .4 n f j + long j) ∙ sym (start-next n k) ∙ ap (Flat.start n) {x = k + 1} {y = now-part + 1 - 1} (omega arith)
 
   module _ (g : Asked S from text) where
