@@ -2,7 +2,7 @@
 --
 --   Openable S G M E rounds   the settings are allowed, key, message and challenges have their lengths and ranges, and there is room for the round elements
 --   proof S G M E             the text of the message's transcript
---   Printed                   what is answered and stored where the text is all that can be refused
+--   Printed                   what is answered and stored where that text is all that can be refused
 use mathlib.Core.Path.{_≡_}
 use mathlib.Core.List.{List}
 use Prim.Native.Nat.{ℕ}
@@ -14,8 +14,9 @@ use Rattle.protocol.specs.Layout.{roundCells, exponentCount}
 use Rattle.protocol.specs.Settings.{cells}
 use Rattle.protocol.specs.Inputs.{Valid, Below, Within}
 use Rattle.protocol.specs.Transcript.{transcriptOf}
-use Rattle.protocol.specs.Text.{textOf, outputRefusal, written, overwritten}
+use Rattle.protocol.specs.Text.{textOf}
 use Rattle.protocol.specs.Programs.{provePrints, printed}
+use Rattle.table_writer.specs.Tables.{Output}
 
 pub record Openable (S : Settings) (G : List ℕ) (M : List ℤ) (E rounds : List ℕ) : Type 0 where
   pub settings : Valid S
@@ -27,6 +28,5 @@ pub record Openable (S : Settings) (G : List ℕ) (M : List ℤ) (E rounds : Lis
 abbrev pub proof : Settings → List ℕ → List ℤ → List ℕ → List ℕ
 proof S G M E = textOf S provePrints (printed (transcriptOf S G M E))
 
-pub record Printed (S : Settings) (G : List ℕ) (M : List ℤ) (E out : List ℕ) (r : Written) (out′ : List ℕ) : Type 0 where
-  pub answer : r ≡ written (outputRefusal (proof S G M E) (length out)) (proof S G M E)
-  pub out-exit : out′ ≡ overwritten (outputRefusal (proof S G M E) (length out)) (proof S G M E) out
+abbrev pub Printed : Settings → List ℕ → List ℤ → List ℕ → List ℕ → Written → List ℕ → Type 0
+Printed S G M E out r out′ = Output (proof S G M E) out r out′

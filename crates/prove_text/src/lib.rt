@@ -16,6 +16,7 @@ ghost use Rattle.protocol.specs.Text.{fits, linesOf, settingsIn, lookRefusal};
 ghost use Rattle.protocol.specs.Programs.{proveReads, provePrints, proveOutput};
 ghost use Rattle.protocol.specs.Promises.{Proved};
 ghost use Rattle.text_parts.specs.Parts.{tablesOf, cellsRoom, roundCellsRoom};
+ghost use Rattle.text_lines.specs.Header.{Begins};
 ghost use Rattle.table_writer.specs.Shown.{Shown, Within};
 ghost use Rattle.prove_text.specs.Printed.{Openable, Printed};
 
@@ -64,7 +65,7 @@ fn print_opening(
     let degree = settings.degree as usize;
     let no_key = [0u32; 1];
     let no_message = [0i32; 1];
-    table_writer::write(
+    table_writer::write_tables(
         settings,
         prints(),
         &no_key[..0],
@@ -77,9 +78,11 @@ fn print_opening(
     )
 }
 
-// The call with tables of exactly their lengths, where a first look refuses nothing. The tables of parts that are not read have length 0.
+// The call with the settings that the text begins with, and with tables of exactly their lengths where a first look refuses nothing. The tables of parts that are not read have length 0.
 fn prove_in(
     text: &[u8],
+    settings: Settings,
+    from: usize,
     key: &mut [u32],
     message: &mut [i32],
     challenges: &mut [u32],
@@ -87,14 +90,16 @@ fn prove_in(
     out: &mut [u8],
 ) -> Written
     requires { ⌜ (lookRefusal (now text) ≡ 0 → fits (settingsIn (linesOf (now text))) proveReads (tablesOf (now key) (now message) [] [] (now challenges) []) ≡ true) ⌝ }
-    requires { ⌜ (lookRefusal (now text) ≡ 0 → length (now rounds) ≡ roundCells (settingsIn (linesOf (now text)))) ⌝ }
+    requires { ⌜ (lookRefusal (now text) ≡ 0 → length (now rounds) ≡ roundCells (settingsIn (linesOf (now text)))) × Begins (now text) settings from ⌝ }
     ensures { λ r. ⌜ Proved (now (text .entry)) (now (out .entry)) r (now (out .exit)) ⌝ }
 {
     let mut no_commitment = [0u32; 1];
     let mut no_rounds = [0u32; 1];
     let mut no_last = [0i32; 1];
-    let loaded = table_reader::read(
+    let loaded = table_reader::read_tables(
         reads(),
+        settings,
+        from,
         text,
         key,
         message,
@@ -122,17 +127,19 @@ fn prove_within(
     requires { ⌜ (cellsRoom ≤ length (now key)) × (cellsRoom ≤ length (now message)) × (slots ≤ length (now challenges)) × (roundCellsRoom ≤ length (now rounds)) ⌝ }
     ensures { λ r. ⌜ Proved (now (text .entry)) (now (out .entry)) r (now (out .exit)) ⌝ }
 {
-    let looked = text_lines::allowed_settings(text);
-    let refusal = looked.refusal;
+    let begun = text_lines::allowed_settings(text);
+    let refusal = begun.loaded.refusal;
     if refusal != 0 {
         return Written { refusal, count: 0 };
     }
-    let settings = looked.settings;
+    let settings = begun.loaded.settings;
     let depth = settings.depth as usize;
     let cells = sizes::cells(settings);
     let round_cells = sizes::round_cells(settings);
     prove_in(
         text,
+        settings,
+        begun.next,
         &mut key[..cells],
         &mut message[..cells],
         &mut challenges[..depth],

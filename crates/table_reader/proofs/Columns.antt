@@ -1,6 +1,5 @@
 -- The values of a text's parts, one part after the other.
 --
---   joined vs            lists one after the other
 --   behind-parts, behind-rise   the numbers of the parts behind the settings, and that they rise
 --   columns-flat         the values of parts, part by part
 --   columns-behind       the values of these parts are those of the lines behind the settings
@@ -15,13 +14,10 @@ use Rattle.protocol.specs.declared.Parts.{Parts}
 use Rattle.protocol.specs.Basic.{tabulate, choose}
 use Rattle.protocol.specs.Text.{Line, Shape, shape, settingsShape, shapes, shapeSize, spotAt, spots, spotsOf, valuesOf, column}
 use Rattle.protocol.proofs.TableLaws.{AllParts, Rising, parts, columns, column-append, column-none, split}
+use Rattle.text_parts.specs.Flat.{joined}
 use Rattle.table_reader.specs.Parts.{partSpots}
 use Rattle.table_reader.specs.Stored.{tableParts, columnsIn}
 use Rattle.text_lines.proofs.Looks.{settingsSpots, values-append}
-
--- the values of lists one after the other
-abbrev pub joined : List (List ℤ) → List ℤ
-joined vs = flatMap (λ (v : List ℤ). v) vs
 
 columns-joined : (q : ℕ) (bs : List Shape) (ls : List Line) → Rising q (parts bs) → spotsOf ls ≡ flatMap spots bs → joined (columns (parts bs) ls) ≡ valuesOf ls
 unfolding flatMap spotsOf valuesOf

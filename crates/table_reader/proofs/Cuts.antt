@@ -11,7 +11,7 @@ use lib.IntN.{ℤ, pos}
 use Rattle.protocol.specs.Basic.{tabulate}
 use Rattle.protocol.proofs.Reading.{tabulate-ext, tabulate-own}
 use Rattle.residues.proofs.Fill.{filled}
-use Rattle.table_reader.specs.Cut.{cut}
+use Rattle.text_parts.specs.Flat.{cut}
 
 module _ {ℓ} {A : Type ℓ} where
   filled-whole : (f : ℕ → A) (z : List A) (n : ℕ) → length z ≤ n → filled f n z ≡ tabulate n f

@@ -7,14 +7,13 @@
 --   read-..           what the reader promises, by what was gathered and by refusals 8 to 10
 use mathlib.Core.Path.{_≡_, refl, sym, ap, _∙_}
 use mathlib.Core.Bool.{true, _&&_}
-use mathlib.Core.List.{List, [], _∷_, _++_, append-assoc, map, flatMap}
+use mathlib.Core.List.{List, [], _∷_, _++_, map}
 use Prim.Native.Nat.{ℕ, zero, suc, _+_, _<_, _≤_}
-use native.Mathlib.Nat as Nat
 use native.Mathlib.Numerals.{add-one}
 use native.Mathlib.Omega.{arith}
 use borrow.Author.Tests.{eqb-true}
-use lib.ListN.{length, getD, take, drop, length-append, take-append-drop}
-use lib.Seq.{take-append-seam, drop-append-add, ext-getD}
+use lib.ListN.{length, getD, drop, length-append, take-append-drop}
+use lib.Seq.{ext-getD}
 use lib.IntN.{ℤ}
 use Rattle.protocol.specs.declared.Settings.{Settings}
 use Rattle.protocol.specs.declared.Parts.{Parts}
@@ -32,8 +31,10 @@ use Rattle.text_parts.proofs.Exactly.{lengths-fit}
 use Rattle.table_reader.specs.Stored.{tableParts, columnsIn, inOrder, linesRefusal, First, Gathered}
 use Rattle.text_lines.proofs.Follow.{spots-same}
 use Rattle.text_lines.proofs.Looks.{loaded-refused}
-use Rattle.table_reader.proofs.Columns.{joined, behind-rise, columns-flat}
-use Rattle.table_reader.specs.Cut.{start, total, piece, cutTables}
+use Rattle.text_parts.specs.Flat.{start, total, piece, joined}
+use Rattle.text_parts.proofs.Flat.{piece-joined, start-joined}
+use Rattle.table_reader.proofs.Columns.{behind-rise, columns-flat}
+use Rattle.table_reader.specs.Cut.{cutTables}
 
 -- ---- refusals
 
@@ -56,29 +57,6 @@ module _ (P : Parts) (text : List ℕ) (t : Tables) where
   pub read-entries : linesRefusal P (lengthsOf t) text ≡ 0 → readRefusal P text t ≡ entriesRefusal S true (tablesIn ls)
   unfolding linesRefusal
   read-entries e = in-steps ∙ front-passes _ _ e ∙ first-only _
-
--- ---- lists one after the other
-
-start-cons : (a : ℕ) (n : List ℕ) (k : ℕ) → start (a ∷ n) (suc k) ≡ a + start n k
-unfolding start
-start-cons a n zero = omega arith
-start-cons a n (suc k) = ap (λ m. m + getD n k 0) (start-cons a n k) ∙ Nat.add-assoc a (start n k) (getD n k 0)
-
--- the list at place k stands where the lengths of those before it end
-pub piece-joined : (vs : List (List ℤ)) (rest : List ℤ) (k : ℕ) → k < length vs → piece (map length vs) k (joined vs ++ rest) ≡ getD vs k []
-unfolding start flatMap
-piece-joined [] rest k h = absurd (omega arith)
-piece-joined (v ∷ vs) rest zero h = ap (take (length v)) (append-assoc v (joined vs) rest) ∙ take-append-seam v (joined vs ++ rest)
-piece-joined (v ∷ vs) rest (suc k) h =
-    let n = map length vs in
-    let m = getD n k 0 in
-    (λ j. take m (drop (start-cons (length v) n k j) (append-assoc v (joined vs) rest j)))
-    ∙ ap (take m) (drop-append-add v (joined vs ++ rest) (start n k)) ∙ piece-joined vs rest k (omega arith)
-
-pub start-joined : (vs : List (List ℤ)) → start (map length vs) (length vs) ≡ length (joined vs)
-unfolding start flatMap
-start-joined [] = refl
-start-joined (v ∷ vs) = start-cons (length v) (map length vs) (length vs) ∙ ap (λ m. length v + m) (start-joined vs) ∙ sym (length-append v (joined vs))
 
 -- ---- the tables of a text among its values
 

@@ -1,37 +1,20 @@
 -- Values of tables that stand one after the other, as the reader gathers them.
 --
---   cut from n vs    the n values from a place on
---   start n k        where the table at place k begins, the tables having the lengths n
---   total n          how many values they have
---   piece n k vs     the values of the table at place k
---   cutTables n vs    the tables
+--   cutTables n vs   the tables among the values, their lengths being n
 --   tests S N vs     do values pass the test of refusal N
 --   passes S N k vs  do they where it tests the table at place k
 --   allPass S N n vs do the values of all tables that it tests
 use mathlib.Core.Bool.{Bool, true}
 use mathlib.Core.List.{List, map}
-use Prim.Native.Nat.{ℕ, zero, suc, _+_}
+use Prim.Native.Nat.{ℕ}
 use lib.Dec.{eqb}
-use lib.ListN.{getD, take, drop}
 use lib.IntN.{ℤ}
 use Rattle.protocol.specs.declared.Settings.{Settings}
 use Rattle.protocol.specs.Basic.{choose, every}
 use Rattle.protocol.specs.Settings.{residues, exponents, small}
 use Rattle.protocol.specs.Text.{Tables, unsigned}
 use Rattle.text_parts.specs.Parts.{tableCount, testedBy}
-
-abbrev pub cut : ℕ → ℕ → List ℤ → List ℤ
-cut from n vs = take n (drop from vs)
-
-unfoldable pub start : List ℕ → ℕ → ℕ
-start n zero = 0
-start n (suc k) = start n k + getD n k 0
-
-unfoldable pub total : List ℕ → ℕ
-total n = start n tableCount
-
-abbrev pub piece : List ℕ → ℕ → List ℤ → List ℤ
-piece n k vs = cut (start n k) (getD n k 0) vs
+use Rattle.text_parts.specs.Flat.{piece}
 
 unfoldable pub cutTables : List ℕ → List ℤ → Tables
 cutTables n vs = record {

@@ -10,11 +10,11 @@ ghost use mathlib.Core.List.{map};
 ghost use Prim.Native.Nat.{_≤_};
 ghost use lib.Dec.{ltb};
 ghost use lib.ListN.{length};
-ghost use Rattle.protocol.specs.Basic.{all};
-ghost use Rattle.protocol.specs.Layout.{width};
+ghost use Rattle.protocol.specs.Basic.{all, Provided};
 ghost use Rattle.protocol.specs.Settings.{settingsRefusal};
 ghost use Rattle.protocol.specs.Text.{unsigned, entriesRefusal};
-ghost use Rattle.table_reader.specs.Cut.{total, cutTables, passes, allPass};
+ghost use Rattle.text_parts.specs.Flat.{total};
+ghost use Rattle.table_reader.specs.Cut.{cutTables, passes, allPass};
 
 // Is every value, where numbers from 0 on are wanted, below the limit.
 fn all_below(limit: u32, values: &[i32]) -> bool
@@ -32,8 +32,7 @@ fn all_below(limit: u32, values: &[i32]) -> bool
 
 // Do the values of the table at place k pass the test of a refusal; they do where it does not test them.
 fn pass(settings: Settings, refusal: u32, k: usize, values: &[i32]) -> bool
-    requires { ⌜ settings .degree ≤ width ⌝ }
-    ensures { λ r. ⌜ r ≡ passes settings refusal k (now (values .entry)) ⌝ }
+    ensures { λ r. ⌜ Provided (settingsRefusal settings ≡ 0) (r ≡ passes settings refusal k (now (values .entry))) ⌝ }
 {
     if tested_by(k) != refusal {
         return true;
@@ -41,15 +40,15 @@ fn pass(settings: Settings, refusal: u32, k: usize, values: &[i32]) -> bool
     match refusal {
         8 => all_below(settings.modulus, values),
         9 => all_within(settings.bound, values),
-        10 => all_below(2 * settings.degree, values),
+        10 => all_below(sizes::exponent_count(settings), values),
         _ => true,
     }
 }
 
 // Do the values of all tables that a refusal tests pass it. The values of tables of these lengths stand one after the other.
 fn all_pass(settings: Settings, refusal: u32, lengths: [usize; TABLES], values: &[i32]) -> bool
-    requires { ⌜ (settings .degree ≤ width) × (total lengths ≤ length (now values)) ⌝ }
-    ensures { λ r. ⌜ r ≡ allPass settings refusal lengths (now (values .entry)) ⌝ }
+    requires { ⌜ total lengths ≤ length (now values) ⌝ }
+    ensures { λ r. ⌜ Provided (settingsRefusal settings ≡ 0) (r ≡ allPass settings refusal lengths (now (values .entry))) ⌝ }
 {
     let mut start: usize = 0;
     let mut k: usize = 0;
@@ -66,8 +65,8 @@ fn all_pass(settings: Settings, refusal: u32, lengths: [usize; TABLES], values: 
 
 // The first of the three refusals that applies.
 pub fn refusal(settings: Settings, lengths: [usize; TABLES], values: &[i32]) -> u32
-    requires { ⌜ (settingsRefusal settings ≡ 0) × (total lengths ≤ length (now values)) ⌝ }
-    ensures { λ r. ⌜ r ≡ entriesRefusal settings true (cutTables lengths (now (values .entry))) ⌝ }
+    requires { ⌜ total lengths ≤ length (now values) ⌝ }
+    ensures { λ r. ⌜ Provided (settingsRefusal settings ≡ 0) (r ≡ entriesRefusal settings true (cutTables lengths (now (values .entry)))) ⌝ }
 {
     let r8 = refuse(0, 8, all_pass(settings, 8, lengths, values));
     let r9 = refuse(r8, 9, all_pass(settings, 9, lengths, values));

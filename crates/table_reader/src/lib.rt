@@ -6,9 +6,50 @@ mod values;
 
 use protocol::Loaded;
 use protocol::Parts;
+use protocol::Settings;
 use text_parts::VALUES;
+ghost use Rattle.protocol.specs.Basic.{Provided};
 ghost use Rattle.protocol.specs.Promises.{Read};
 ghost use Rattle.text_parts.specs.Parts.{tablesOf};
+ghost use Rattle.text_lines.specs.Header.{Begins};
+
+// The core of the reader, for a text whose settings are read and allowed: `text_lines::allowed_settings` gives them and the place behind them.
+pub fn read_tables(
+    parts: Parts,
+    settings: Settings,
+    from: usize,
+    text: &[u8],
+    key: &mut [u32],
+    message: &mut [i32],
+    commitment: &mut [u32],
+    rounds: &mut [u32],
+    challenges: &mut [u32],
+    last: &mut [i32],
+) -> Loaded
+    ensures { λ r. ⌜ Provided (Begins (now (text .entry)) settings from) (Read parts (now (text .entry))
+        (tablesOf (now (key .entry)) (now (message .entry)) (now (commitment .entry)) (now (rounds .entry)) (now (challenges .entry)) (now (last .entry))) r
+        (tablesOf (now (key .exit)) (now (message .exit)) (now (commitment .exit)) (now (rounds .exit)) (now (challenges .exit)) (now (last .exit)))) ⌝ }
+{
+    let lengths = [
+        key.len(),
+        message.len(),
+        commitment.len(),
+        rounds.len(),
+        challenges.len(),
+        last.len(),
+    ];
+    let mut values = [0i32; VALUES];
+    let loaded = values::read_values(parts, settings, from, text, lengths, &mut values);
+    if loaded.refusal != 0 {
+        return loaded;
+    }
+    let refusal = entries::refusal(loaded.settings, lengths, &values);
+    if refusal != 0 {
+        return text_lines::refused(refusal);
+    }
+    store::all(&values, key, message, commitment, rounds, challenges, last);
+    loaded
+}
 
 // The tables of a text. A caller learns their lengths by `text_lines::read_settings`; the table of a part that is not there has length 0.
 pub fn read(
@@ -25,23 +66,21 @@ pub fn read(
         (tablesOf (now (key .entry)) (now (message .entry)) (now (commitment .entry)) (now (rounds .entry)) (now (challenges .entry)) (now (last .entry))) r
         (tablesOf (now (key .exit)) (now (message .exit)) (now (commitment .exit)) (now (rounds .exit)) (now (challenges .exit)) (now (last .exit))) ⌝ }
 {
-    let lengths = [
-        key.len(),
-        message.len(),
-        commitment.len(),
-        rounds.len(),
-        challenges.len(),
-        last.len(),
-    ];
-    let mut values = [0i32; VALUES];
-    let loaded = values::read_values(parts, text, lengths, &mut values);
+    let begun = text_lines::allowed_settings(text);
+    let loaded = begun.loaded;
     if loaded.refusal != 0 {
         return loaded;
     }
-    let refusal = entries::refusal(loaded.settings, lengths, &values);
-    if refusal != 0 {
-        return text_lines::refused(refusal);
-    }
-    store::all(&values, key, message, commitment, rounds, challenges, last);
-    loaded
+    read_tables(
+        parts,
+        loaded.settings,
+        begun.next,
+        text,
+        key,
+        message,
+        commitment,
+        rounds,
+        challenges,
+        last,
+    )
 }

@@ -9,11 +9,14 @@ use text_parts::TABLES;
 use text_parts::next_cell;
 use text_parts::shape_of;
 use text_parts::size_of;
+ghost use mathlib.Core.Path.{_≡_};
+ghost use mathlib.Core.Bool.{true};
 ghost use Prim.Native.Nat.{_*_, _≤_};
 ghost use lib.ListN.{length};
+ghost use Rattle.protocol.specs.Basic.{Provided};
 ghost use Rattle.protocol.specs.Text.{shapeSize, spots};
 ghost use Rattle.text_parts.specs.Parts.{asShape};
-ghost use Rattle.table_reader.specs.Parts.{partSpots, Took};
+ghost use Rattle.table_reader.specs.Parts.{partSpots, Took, RoomFor};
 
 // How many parts there are, the settings being part 0.
 const PARTS: u32 = (TABLES as u32) + 1;
@@ -26,8 +29,8 @@ pub struct Taken {
 
 // The values of the lines of a part, from a place on.
 pub fn read_part(text: &[u8], from: usize, shape: Shape, values: &mut [i32]) -> Taken
-    requires { ⌜ (from ≤ length (now text)) × (shapeSize (asShape shape) ≤ length (now values)) ⌝ }
-    ensures { λ r. ⌜ Took (now (text .entry)) from (spots (asShape shape)) r (now (values .exit)) ⌝ }
+    requires { ⌜ shapeSize (asShape shape) ≤ length (now values) ⌝ }
+    ensures { λ r. ⌜ Provided (from ≤ length (now (text .entry))) (Took (now (text .entry)) from (spots (asShape shape)) r (now (values .exit))) ⌝ }
 {
     let size = size_of(shape);
     let mut at = from;
@@ -61,8 +64,10 @@ pub fn read_parts(
     from: usize,
     values: &mut [i32],
 ) -> Taken
-    requires { ⌜ (settings .depth ≤ 8) × (from ≤ length (now text)) × (length (now text) ≤ 8 * length (now values)) ⌝ }
-    ensures { λ r. ⌜ Took (now (text .entry)) from (partSpots settings parts) r (now (values .exit)) ⌝ }
+    requires { ⌜ length (now text) ≤ 8 * length (now values) ⌝ }
+    ensures lines { λ r. ⌜ Provided ((settings .depth ≤ 8) × (from ≤ length (now (text .entry))))
+        (Took (now (text .entry)) from (partSpots settings parts) r (now (values .exit))) ⌝ }
+    ensures room { λ r. ⌜ (r .found ≡ true → RoomFor settings parts (length (now (values .exit)))) ⌝ }
 {
     let mut at = from;
     let mut start: usize = 0;

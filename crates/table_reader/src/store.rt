@@ -5,7 +5,8 @@ ghost use lib.ListN.{length};
 ghost use mathlib.Core.List.{map};
 ghost use Rattle.protocol.specs.Text.{unsigned as unsignedOf};
 ghost use Rattle.text_parts.specs.Parts.{tablesOf, lengthsOf};
-ghost use Rattle.table_reader.specs.Cut.{cut, total, cutTables};
+ghost use Rattle.text_parts.specs.Flat.{cut, total};
+ghost use Rattle.table_reader.specs.Cut.{cutTables};
 
 // The values from a place on, as many as the table has; the place behind them.
 fn signed(values: &[i32], from: usize, table: &mut [i32]) -> usize

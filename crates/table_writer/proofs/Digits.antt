@@ -1,6 +1,7 @@
 -- How many digits a number has, and its digits from the lowest on.
 --
 --   counted          10^k ≤ n < 10^(k+1) has k + 1 digits
+--   counted-most     from 10^9 on it has ten
 --   digits-most      no more than ten
 --   field-length     a number and a byte behind it
 --   digit-step       one digit more, before those that are stored
@@ -10,10 +11,11 @@ use mathlib.Core.List.{List, [], _∷_, _++_, append-assoc}
 use Prim.Native.Nat.{ℕ, suc, _+_, _-_, _/_, _%_, _^_, _<_, _≤_}
 use native.Mathlib.Omega.{arith}
 use native.Mathlib.Nat as Nat
+use borrow.Author.Tests.{le-ltb}
 use lib.Dec.{ltb}
 use lib.ListN.{length, take, drop, set, length-append}
 use Rattle.protocol.specs.Text.{digitCount, lowDigits, decimal}
-use Rattle.protocol.proofs.Tests.{least-first}
+use Rattle.protocol.proofs.Tests.{least-first, least-is}
 use Rattle.protocol.proofs.NumeralLaws.{decimal-length, digits-count}
 use Rattle.table_writer.specs.Put.{field}
 use Rattle.table_writer.proofs.Puts.{drop-set-here}
@@ -26,6 +28,16 @@ counted k n few low high =
       under = high;
       over = λ i l. Nat.le-trans (Nat.pow-le-pow-right {n = 10} (omega arith) {i = suc i} {j = k} (omega arith)) (low (omega arith));
     }))
+
+-- ten digits are all that is kept of a number
+pub counted-most : (n : ℕ) → 10 ^ 9 ≤ n → 10 ≡ digitCount n
+unfolding digitCount
+counted-most n h =
+    sym (ap suc (least-is 9 (λ k. ltb n (10 ^ suc k)) 9 (record {
+      at-most = omega arith;
+      holds = λ l. absurd (omega arith);
+      none-before = λ i l. le-ltb n (10 ^ suc i) (Nat.le-trans (Nat.pow-le-pow-right {n = 10} (omega arith) {i = suc i} {j = 9} (omega arith)) h);
+    })))
 
 pub digits-most : (n : ℕ) → digitCount n ≤ 10
 unfolding digitCount

@@ -1,6 +1,7 @@
 -- The text of a line by its spot and its value.
 --
 --   field-most, spot-most, line-most   how long a number, a spot and a line are at most
+--   line-least                         and a line at least
 --   line-spot                          a line is its spot, its value and a line feed
 --   value-below, value-from            a value below zero, and one from 0 on, by the test that the code makes
 use mathlib.Core.Path.{_≡_, refl, sym, ap, _∙_}
@@ -12,10 +13,10 @@ use borrow.Author.Tests.{le-ltb}
 use lib.ListN.{length, length-append}
 use lib.IntN.{ℤ, pos, negsuc, natAbs}
 use lib.Signed.{ltZ}
-use mir.Syntax.{w32}
+use mir.Syntax.{w64}
 use mir.Val.{SFits, ofZ, toZ}
 use mir.Facts.{toZ-ofZ}
-use Rattle.protocol.specs.Text.{space, lineFeed, minus, decimal, numeral, lineText}
+use Rattle.protocol.specs.Text.{Line, space, lineFeed, minus, digitCount, decimal, numeral, lineText}
 use Rattle.protocol.proofs.NumeralLaws.{decimal-length}
 use Rattle.text_parts.specs.declared.Cell.{Cell}
 use Rattle.table_writer.specs.Put.{field, spotText, lineAt}
@@ -23,6 +24,15 @@ use Rattle.table_writer.proofs.Digits.{digits-most, field-length}
 
 pub field-most : (n behind : ℕ) → length (field n behind) ≤ 11
 field-most n behind = omega (arith, field-length n behind, digits-most n)
+
+field-least : (n behind : ℕ) → 2 ≤ length (field n behind)
+unfolding digitCount
+field-least n behind = omega (arith, field-length n behind)
+
+numeral-least : (v : ℤ) → 1 ≤ length (numeral v)
+unfolding numeral digitCount
+numeral-least (pos n) = omega (arith, decimal-length n)
+numeral-least (negsuc n) = omega arith
 
 pub spot-most : (part : ℕ) (c : Cell) → length (spotText part c) ≤ 33
 unfolding spotText
@@ -69,6 +79,25 @@ line-most part c v =
       numeral-most v,
     )
 
+-- four digits, three spaces and a line feed
+pub line-least : (l : Line) → 8 ≤ length (lineText l)
+unfolding spotText
+line-least l =
+    let part = l .spot .part in
+    let c : Cell = record { item = l .spot .item; place = l .spot .place } in
+    omega (
+      arith,
+      ap length (line-spot part c (l .value)),
+      length-append (spotText part c) (ending (l .value)),
+      length-append (field part space) (field (c .item) space ++ field (c .place) space),
+      length-append (field (c .item) space) (field (c .place) space),
+      length-append (numeral (l .value)) (lineFeed ∷ []),
+      field-least part space,
+      field-least (c .item) space,
+      field-least (c .place) space,
+      numeral-least (l .value),
+    )
+
 -- ---- the value of a signed word
 
 below : (x : ℤ) → ltZ x (pos 0) ≡ true → (minus ∷ []) ++ field (natAbs x) lineFeed ≡ ending x
@@ -81,9 +110,9 @@ unfolding numeral field
 from (pos n) t = refl
 from (negsuc n) t = absurd (false≢true (sym t))
 
-module _ (x : ℤ) (f : SFits w32 x) where
-  pub value-below : ltZ (toZ w32 (ofZ w32 x)) (pos 0) ≡ true → (minus ∷ []) ++ field (natAbs x) lineFeed ≡ ending x
+module _ (x : ℤ) (f : SFits w64 x) where
+  pub value-below : ltZ (toZ w64 (ofZ w64 x)) (pos 0) ≡ true → (minus ∷ []) ++ field (natAbs x) lineFeed ≡ ending x
   value-below t = below x (sym (ap (λ z. ltZ z (pos 0)) (toZ-ofZ f)) ∙ t)
 
-  pub value-from : ltZ (toZ w32 (ofZ w32 x)) (pos 0) ≡ false → field (natAbs x) lineFeed ≡ ending x
+  pub value-from : ltZ (toZ w64 (ofZ w64 x)) (pos 0) ≡ false → field (natAbs x) lineFeed ≡ ending x
   value-from t = from x (sym (ap (λ z. ltZ z (pos 0)) (toZ-ofZ f)) ∙ t)

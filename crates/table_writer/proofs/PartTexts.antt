@@ -44,7 +44,7 @@ module _ (b : Shape) (v : List ℤ) where
   abbrev first : ℕ → List ℕ
   first p = linesText (take p lines)
 
-  lines-count : length lines ≡ shapeSize b
+  pub lines-count : length lines ≡ shapeSize b
   unfolding blockLines block
   lines-count = tabulate-length (shapeSize b) _
 

@@ -1,62 +1,124 @@
--- The text of tables, part by part.
+-- The text of values, part by part.
 --
---   adds-then    a piece, and then another
---   text-parts   the text is the names line and its parts
-use mathlib.Core.Path.{_≡_, sym, ap, subst, _∙_}
+--   parted-next    one part more
+--   text-values    the text of the values of tables is the text of the tables
+--   text-over      a text whose values find no room is too long
+use mathlib.Core.Path.{_≡_, refl, sym, ap, _∙_}
+use mathlib.Core.Bool.{true}
 use mathlib.Core.List.{List, [], _∷_, _++_, append-assoc, append-nil, map, flatMap, zipWith}
-use Prim.Native.Nat.{ℕ}
-use lib.IntN.{pos}
+use Prim.Native.Nat.{ℕ, zero, suc, _+_, _*_, _<_, _≤_}
+use native.Mathlib.Nat as Nat
+use native.Mathlib.Omega.{arith}
+use native.Mathlib.Numerals.{add-one}
+use borrow.Author.Tests.{eqb-true}
+use lib.ListN.{length, getD, drop, length-append}
+use lib.IntN.{ℤ}
 use Rattle.protocol.specs.declared.Settings.{Settings}
 use Rattle.protocol.specs.declared.Parts.{Parts}
-use Rattle.protocol.specs.Text.{Block, Tables, names, linesText, shapes, contents, block, blocks, blockLines, textOf}
+use Rattle.protocol.specs.Text.{Line, Shape, Tables, textLimit, names, settingsShape, shapes, shapeSize, contents, lineText, linesText, block, blocks, blockLines, textOf}
+use Rattle.protocol.proofs.Tests.{every-at}
 use Rattle.protocol.proofs.LineLaws.{lines-append}
-use Rattle.text_parts.specs.Parts.{partShape}
-use Rattle.table_writer.specs.Put.{partText, Held, Adds}
-use Rattle.table_writer.specs.Tables.{settingsText, mixedText}
+use Rattle.text_parts.specs.Parts.{tableCount, valuesRoom, partShape, partOf, lengthsOf, lengthsAre}
+use Rattle.text_parts.specs.Flat.{start, total, piece, joined, tableValues}
+use Rattle.text_parts.proofs.Shallow.{part-of, lengths-shallow}
+use Rattle.text_parts.proofs.Exactly.{lengths-fit}
+use Rattle.text_parts.proofs.Flat.{piece-joined, values-lengths}
+use Rattle.table_writer.specs.Put.{partText}
+use Rattle.table_writer.specs.Tables.{settingsText, parted, valuesText, Writable}
+use Rattle.table_writer.proofs.LineTexts.{line-least}
+use Rattle.table_writer.proofs.PartTexts.{lines-count}
 
-pub adds-then : {out out′ out″ : List ℕ} {at r s : ℕ} (xs ys : List ℕ) → Adds out at xs r out′ → Adds out′ r ys s out″ → Adds out at (xs ++ ys) s out″
-adds-then {out} {out′} {out″} {at} {r} {s} xs ys p q text t = subst (λ l. Held l s out″) (append-assoc text xs ys) (q (text ++ xs) (p text t))
+-- ---- every line has at least eight bytes
 
--- the blocks behind a text
-behind : List ℕ → List Block → List ℕ
-behind text [] = text
-behind text (b ∷ bs) = behind (text ++ linesText (blockLines b)) bs
+lines-least : (ls : List Line) → 8 * length ls ≤ length (linesText ls)
+unfolding linesText flatMap
+lines-least [] = omega arith
+lines-least (l ∷ ls) = omega (arith, line-least l, lines-least ls, length-append (lineText l) (linesText ls))
 
-behind-is : (text : List ℕ) (bs : List Block) → behind text bs ≡ text ++ linesText (flatMap blockLines bs)
-unfolding behind flatMap linesText
-behind-is text [] = sym (append-nil text)
-behind-is text (b ∷ bs) =
-    behind-is (text ++ linesText (blockLines b)) bs
-    ∙ append-assoc text (linesText (blockLines b)) (linesText (flatMap blockLines bs))
-    ∙ ap (λ l. text ++ l) (sym (lines-append (blockLines b) (flatMap blockLines bs)))
+part-least : (b : Shape) (v : List ℤ) → 8 * shapeSize b ≤ length (partText b v)
+unfolding partText blockLines block
+part-least b v = omega (arith, lines-least (blockLines (block b v)), lines-count b v)
 
--- two pairs of pieces, taken apart
-apart : (a b c d e f g : List ℕ) → (((a ++ (b ++ c)) ++ d) ++ e) ++ (f ++ g) ≡ (((((a ++ b) ++ c) ++ d) ++ e) ++ f) ++ g
-apart a b c d e f g = sym (append-assoc (((a ++ (b ++ c)) ++ d) ++ e) f g) ∙ ap (λ x. (((x ++ d) ++ e) ++ f) ++ g) (sym (append-assoc a b c))
+-- ---- parts one behind the other
 
-module _ (S : Settings) (P : Parts) (t : Tables) where
-  abbrev lines₁ : List ℕ
-  lines₁ = partText (partShape S P 1) (map pos (t .key))
+module _ (b : ℕ → Shape) (v : ℕ → List ℤ) where
+  pub parted-next : (k : ℕ) (text : List ℕ) → parted b v (k + 1) text ≡ parted b v k text ++ partText (b k) (v k)
+  unfolding parted
+  parted-next k text = ap (λ n. parted b v n text) (add-one k)
 
-  abbrev lines₂ : List ℕ
-  lines₂ = partText (partShape S P 2) (t .message)
+  parted-first : (k : ℕ) (text : List ℕ) → parted b v (suc k) text ≡ parted (λ i. b (suc i)) (λ i. v (suc i)) k (text ++ partText (b 0) (v 0))
+  unfolding parted
+  parted-first zero text = refl
+  parted-first (suc k) text = ap (λ l. l ++ partText (b (suc k)) (v (suc k))) (parted-first k text)
 
-  abbrev lines₃ : List ℕ
-  lines₃ = partText (partShape S P 3) (map pos (t .commitment))
+  parted-ext : (c : ℕ → Shape) (w : ℕ → List ℤ) (k : ℕ) (text : List ℕ) → ((i : ℕ) → i < k → b i ≡ c i) → ((i : ℕ) → i < k → v i ≡ w i) → parted b v k text ≡ parted c w k text
+  unfolding parted
+  parted-ext c w zero text e f = refl
+  parted-ext c w (suc k) text e f =
+      λ j. parted-ext c w k text (λ i l. e i (omega arith)) (λ i l. f i (omega arith)) j ++ partText (e k (omega arith) j) (f k (omega arith) j)
 
-  abbrev lines₄ : List ℕ
-  lines₄ = partText (partShape S P 4) (map pos (t .rounds))
+  -- every line has at least eight bytes
+  parted-least : (n : List ℕ) (k : ℕ) (text : List ℕ) → ((i : ℕ) → i < k → getD n i 0 ≡ shapeSize (b i)) → 8 * start n k ≤ length (parted b v k text)
+  unfolding parted start
+  parted-least n zero text e = omega arith
+  parted-least n (suc k) text e =
+      omega (
+        arith,
+        parted-least n k text (λ i l. e i (omega arith)),
+        e k (omega arith),
+        part-least (b k) (v k),
+        length-append (parted b v k text) (partText (b k) (v k)),
+      )
 
-  abbrev lines₅ : List ℕ
-  lines₅ = partText (partShape S P 5) (map pos (t .challenges))
+parted-list : (bs : List Shape) (vs : List (List ℤ)) (z : Shape) (text : List ℕ) → length bs ≡ length vs
+    → parted (λ i. getD bs i z) (λ i. getD vs i []) (length bs) text ≡ text ++ linesText (flatMap blockLines (zipWith block bs vs))
+unfolding parted partText flatMap zipWith linesText
+parted-list [] vs z text e = sym (append-nil text)
+parted-list (b ∷ bs) [] z text e = absurd (omega arith)
+parted-list (b ∷ bs) (v ∷ vs) z text e =
+    parted-first (λ i. getD (b ∷ bs) i z) (λ i. getD (v ∷ vs) i []) (length bs) text
+    ∙ parted-list bs vs z (text ++ linesText (blockLines (block b v))) (omega arith)
+    ∙ append-assoc text (linesText (blockLines (block b v))) (linesText (flatMap blockLines (zipWith block bs vs)))
+    ∙ ap (λ l. text ++ l) (sym (lines-append (blockLines (block b v)) (flatMap blockLines (zipWith block bs vs))))
 
-  abbrev lines₆ : List ℕ
-  lines₆ = partText (partShape S P 6) (t .last)
+-- ---- the text of the values of tables
 
-  one-by-one : (((((settingsText S P ++ lines₁) ++ lines₂) ++ lines₃) ++ lines₄) ++ lines₅) ++ lines₆ ≡ textOf S P t
-  unfolding settingsText partText textOf blocks shapes contents block zipWith partShape behind
-  one-by-one = behind-is names (blocks S P t)
+abbrev all-shapes : Settings → Parts → List Shape
+all-shapes S P = drop 1 (shapes S P)
 
-  pub text-parts : (((settingsText S P ++ mixedText S P 1 (t .key) (t .message)) ++ lines₃) ++ lines₄) ++ mixedText S P 5 (t .challenges) (t .last) ≡ textOf S P t
-  unfolding mixedText
-  text-parts = apart (settingsText S P) lines₁ lines₂ lines₃ lines₄ lines₅ lines₆ ∙ one-by-one
+module _ (S : Settings) (P : Parts) (t : Tables) (w : Writable S P t) where
+  shape-at : (i : ℕ) → partOf S P (i + 1) ≡ getD (all-shapes S P) i settingsShape
+  unfolding partShape shapes
+  shape-at i = part-of S P (i + 1) (w .depth) ∙ ap (λ j. getD (shapes S P) j settingsShape) (add-one i)
+
+  six-tables : length (tableValues t) ≡ tableCount
+  unfolding tableValues contents
+  six-tables = refl
+
+  shapes-count : length (all-shapes S P) ≡ tableCount
+  unfolding shapes
+  shapes-count = refl
+
+  pub lengths-are : lengthsAre (partOf S P) (lengthsOf t) ≡ true
+  lengths-are = lengths-shallow S P (lengthsOf t) (w .depth) ∙ lengths-fit S P t ∙ w .fitting
+
+  settings-first : settingsText S ++ linesText (flatMap blockLines (zipWith block (all-shapes S P) (tableValues t))) ≡ textOf S P t
+  unfolding settingsText partText textOf blocks shapes contents tableValues zipWith flatMap
+  settings-first = append-assoc names _ _ ∙ ap (λ l. names ++ l) (sym (lines-append _ _))
+
+  pub text-values : (values rest : List ℤ) → values ≡ joined (tableValues t) ++ rest → valuesText S P (lengthsOf t) values ≡ textOf S P t
+  unfolding valuesText
+  text-values values rest e =
+      parted-ext _ _ (λ i. getD (all-shapes S P) i settingsShape) (λ i. getD (tableValues t) i []) tableCount (settingsText S) (λ i l. shape-at i) piece-at
+      ∙ ap (λ k. parted (λ i. getD (all-shapes S P) i settingsShape) (λ i. getD (tableValues t) i []) k (settingsText S)) (sym shapes-count)
+      ∙ parted-list (all-shapes S P) (tableValues t) settingsShape (settingsText S) (shapes-count ∙ sym six-tables) ∙ settings-first
+    where
+      piece-at : (i : ℕ) → i < tableCount → piece (lengthsOf t) i values ≡ getD (tableValues t) i []
+      piece-at i l = (λ j. piece (sym (values-lengths t) j) i (e j)) ∙ piece-joined (tableValues t) rest i (omega (arith, six-tables))
+
+  pub text-over : valuesRoom < total (lengthsOf t) → textLimit < length (textOf S P t)
+  unfolding textLimit total valuesText lengthsAre
+  text-over h =
+      let least = parted-least (λ i. partOf S P (i + 1)) (λ i. piece (lengthsOf t) i (joined (tableValues t))) (lengthsOf t) tableCount (settingsText S)
+      (λ i l. eqb-true _ _ (every-at tableCount _ lengths-are i l)) in
+      omega (arith, least, ap length (text-values (joined (tableValues t)) [] (sym (append-nil _))))

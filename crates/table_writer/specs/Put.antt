@@ -1,13 +1,14 @@
--- Bytes put into a slice one behind the other.
+-- Bytes, or other items, put into a slice one behind the other.
 --
---   Put out at text r out′      what a function promises that puts a text at a place: the place behind it, and what stands before that place
+--   Put out at text r out′      what a function promises that puts a text, or other items, at a place: the place behind it, and what stands before that place
 --   fieldRoom, spotRoom, lineRoom, textRoom   the room for a number and the byte behind it, for a spot, for a line, and for the longest text and one line
 --   field n behind              a number and the byte behind it
 --   spotText part c             the spot of a line
 --   lineAt part c value         a line
 --   partText b v                the lines of a part
 --   Held text at out            what a place and a slice keep of a text
---   Adds out at more r out′     what a function promises that goes on with a text, up to the limit
+--   Follows out at f r out′     what a function promises that makes f of a text that stands in a slice, up to the limit
+--   Adds out at more r out′     the same, where it puts more behind it
 use mathlib.Core.Path.{_≡_}
 use mathlib.Core.List.{List, [], _∷_, _++_}
 use Prim.Native.Nat.{ℕ, _+_, _*_, _<_, _≤_}
@@ -32,7 +33,7 @@ abbrev pub textRoom : ℕ
 textRoom = 65_536 + lineRoom
 
 -- what stands from the place r on is left open
-pub record Put (out : List ℕ) (at : ℕ) (text : List ℕ) (r : ℕ) (out′ : List ℕ) : Type 0 where
+pub record Put {A : Type 0} (out : List A) (at : ℕ) (text : List A) (r : ℕ) (out′ : List A) : Type 0 where
   pub next : r ≡ at + length text
   pub front : take r out′ ≡ take at out ++ text
 
@@ -55,6 +56,10 @@ pub record Held (text : List ℕ) (at : ℕ) (out : List ℕ) : Type 0 where
   pub kept : at ≤ textLimit → (at ≡ length text) × (take at out ≡ text)
   pub over : textLimit < at → textLimit < length text
 
--- a function that puts a text behind whatever stands before it
+-- a function that goes on with whatever stands before it
+abbrev pub Follows : List ℕ → ℕ → (List ℕ → List ℕ) → ℕ → List ℕ → Type 0
+Follows out at f r out′ = (text : List ℕ) → Held text at out → Held (f text) r out′
+
+-- and puts a text behind it
 abbrev pub Adds : List ℕ → ℕ → List ℕ → ℕ → List ℕ → Type 0
-Adds out at more r out′ = (text : List ℕ) → Held text at out → Held (text ++ more) r out′
+Adds out at more r out′ = Follows out at (λ text. text ++ more) r out′

@@ -1,25 +1,49 @@
--- The six tables that the writer is lent, and pieces of their text.
+-- The tables that the writer is lent, and the text of their values.
 --
---   settingsText S P   the names line and the settings
---   tablesRefusal      refusals 3 to 10 of the writer
---   mixedText          a part of numbers from 0 on, and the part of signed numbers behind it
-use mathlib.Core.List.{List, [], _∷_, _++_, map}
-use Prim.Native.Nat.{ℕ, _+_}
+--   settingsText S          the names line and the settings
+--   parted b v k text       a text, and behind it the lines of k parts: part i has the shape b i and the values v i
+--   behindText S P n vs k   the first k tables behind a text, their lengths being n and their values vs, one table after the other
+--   valuesText S P n vs     the text of such values
+--   tablesRefusal           refusals 3 to 10 of the writer
+--   Writable S P t          what the writer's core asks: the depth is allowed, and the tables have their lengths
+--   Output text out r out′  what is answered and left in the output slice where the text is all that can be refused
+use mathlib.Core.Path.{_≡_}
+use mathlib.Core.Bool.{true}
+use mathlib.Core.List.{List, [], _∷_, _++_}
+use Prim.Native.Nat.{ℕ, zero, suc, _+_, _≤_}
+use lib.ListN.{length}
 use lib.IntN.{ℤ, pos}
 use Rattle.protocol.specs.declared.Settings.{Settings}
 use Rattle.protocol.specs.declared.Parts.{Parts}
+use Rattle.protocol.specs.declared.Written.{Written}
 use Rattle.protocol.specs.Basic.{all, within, first, unless}
 use Rattle.protocol.specs.Settings.{settingsRefusal}
-use Rattle.protocol.specs.Text.{Tables, valueLimit, names, fits, entriesRefusal}
-use Rattle.text_parts.specs.Parts.{partShape}
+use Rattle.protocol.specs.Text.{Shape, Tables, valueLimit, names, settingsShape, fits, entriesRefusal, outputRefusal, written, overwritten}
+use Rattle.text_parts.specs.Parts.{tableCount, partOf}
+use Rattle.text_parts.specs.Flat.{piece}
 use Rattle.table_writer.specs.Put.{partText}
 
-unfoldable pub settingsText : Settings → Parts → List ℕ
-settingsText S P = names ++ partText (partShape S P 0) (map pos (S .degree ∷ S .depth ∷ S .modulus ∷ S .bound ∷ []))
+unfoldable pub settingsText : Settings → List ℕ
+settingsText S = names ++ partText settingsShape (pos (S .degree) ∷ pos (S .depth) ∷ pos (S .modulus) ∷ pos (S .bound) ∷ [])
 
-unfoldable pub mixedText : Settings → Parts → ℕ → List ℕ → List ℤ → List ℕ
-mixedText S P part values signed = partText (partShape S P part) (map pos values) ++ partText (partShape S P (part + 1)) signed
+unfoldable pub parted : (ℕ → Shape) → (ℕ → List ℤ) → ℕ → List ℕ → List ℕ
+parted b v zero text = text
+parted b v (suc k) text = parted b v k text ++ partText (b k) (v k)
+
+abbrev pub behindText : Settings → Parts → List ℕ → List ℤ → ℕ → List ℕ → List ℕ
+behindText S P n vs k text = parted (λ i. partOf S P (i + 1)) (λ i. piece n i vs) k text
+
+unfoldable pub valuesText : Settings → Parts → List ℕ → List ℤ → List ℕ
+valuesText S P n vs = behindText S P n vs tableCount (settingsText S)
 
 -- the writer's refusals but the last two, which are about its text
 unfoldable pub tablesRefusal : Settings → Parts → Tables → ℕ
 tablesRefusal S P t = first (settingsRefusal S ∷ unless 7 (fits S P t) ∷ entriesRefusal S (all (within valueLimit) (t .last)) t ∷ [])
+
+pub record Writable (S : Settings) (P : Parts) (t : Tables) : Type 0 where
+  pub depth : S .depth ≤ 8
+  pub fitting : fits S P t ≡ true
+
+pub record Output (text out : List ℕ) (r : Written) (out′ : List ℕ) : Type 0 where
+  pub answer : r ≡ written (outputRefusal text (length out)) text
+  pub out-exit : out′ ≡ overwritten (outputRefusal text (length out)) text out

@@ -7,7 +7,7 @@ ghost use Rattle.protocol.specs.Text.{digitCount, lowDigits};
 ghost use Rattle.table_writer.specs.Put.{fieldRoom, field, Put};
 
 // How many digits a number has.
-pub fn digit_count(n: u32) -> usize
+pub fn digit_count(n: u64) -> usize
     ensures { λ r. ⌜ r ≡ digitCount n ⌝ }
 {
     if n < 10 {
@@ -41,7 +41,7 @@ pub fn digit_count(n: u32) -> usize
 }
 
 // The last digits of a number, the lowest first.
-pub fn put_digits(n: u32, count: usize, at: usize, out: &mut [u8]) -> usize
+pub fn put_digits(n: u64, count: usize, at: usize, out: &mut [u8]) -> usize
     requires { ⌜ at + count ≤ length (now out) ⌝ }
     ensures { λ r. ⌜ Put (now (out .entry)) at (lowDigits count n) r (now (out .exit)) ⌝ }
 {
@@ -56,7 +56,7 @@ pub fn put_digits(n: u32, count: usize, at: usize, out: &mut [u8]) -> usize
 }
 
 // A number and the byte behind it.
-pub fn put_field(n: u32, behind: u8, at: usize, out: &mut [u8]) -> usize
+pub fn put_field(n: u64, behind: u8, at: usize, out: &mut [u8]) -> usize
     requires { ⌜ at + fieldRoom ≤ length (now out) ⌝ }
     ensures { λ r. ⌜ Put (now (out .entry)) at (field n behind) r (now (out .exit)) ⌝ }
 {

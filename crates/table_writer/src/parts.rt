@@ -1,34 +1,30 @@
-// The lines of a part, one behind the other. A text that is too long is left once it is: the place then stands past the limit.
-use crate::lines::put_signed;
-use crate::lines::put_unsigned;
+// The lines of parts, one behind the other. A text that is too long is left once it is: the place then stands past the limit.
+use crate::lines::put_line;
 use protocol::Parts;
 use protocol::Settings;
 use protocol::TEXT_LIMIT;
 use text_parts::Cell;
+use text_parts::Shape;
+use text_parts::TABLES;
 use text_parts::next_cell;
 use text_parts::shape_of;
 ghost use mathlib.Core.Path.{_≡_};
-ghost use mathlib.Core.List.{map};
+ghost use mathlib.Core.Bool.{true};
 ghost use Prim.Native.Nat.{_≤_};
-ghost use lib.IntN.{pos};
 ghost use lib.ListN.{length};
+ghost use Rattle.protocol.specs.Basic.{Provided};
 ghost use Rattle.protocol.specs.Text.{shapeSize};
-ghost use Rattle.text_parts.specs.Parts.{partShape};
-ghost use Rattle.table_writer.specs.Put.{textRoom, partText, Adds};
+ghost use Rattle.text_parts.specs.Parts.{asShape, partOf, lengthsAre, tableCount};
+ghost use Rattle.text_parts.specs.Flat.{total};
+ghost use Rattle.table_writer.specs.Put.{textRoom, partText, Adds, Follows};
+ghost use Rattle.table_writer.specs.Tables.{behindText};
 
-// A part whose values are numbers from 0 on.
-pub fn put_unsigned_part(
-    settings: Settings,
-    parts: Parts,
-    part: u32,
-    values: &[u32],
-    from: usize,
-    out: &mut [u8],
-) -> usize
-    requires { ⌜ (settings .depth ≤ 8) × (textRoom ≤ length (now out)) × (length (now values) ≡ shapeSize (partShape settings parts part)) ⌝ }
-    ensures { λ r. ⌜ Adds (now (out .entry)) from (partText (partShape settings parts part) (map pos (now (values .entry)))) r (now (out .exit)) ⌝ }
+// The lines of a part with its values.
+pub fn put_part(shape: Shape, values: &[i64], from: usize, out: &mut [u8]) -> usize
+    requires { ⌜ textRoom ≤ length (now out) ⌝ }
+    ensures { λ r. ⌜ Provided (length (now (values .entry)) ≡ shapeSize (asShape shape))
+        (Adds (now (out .entry)) from (partText (asShape shape) (now (values .entry))) r (now (out .exit))) ⌝ }
 {
-    let shape = shape_of(settings, parts, part);
     let mut at = from;
     let mut cell = Cell { item: 0, place: 0 };
     let mut p: usize = 0;
@@ -36,36 +32,35 @@ pub fn put_unsigned_part(
         if at > TEXT_LIMIT {
             return at;
         }
-        at = put_unsigned(shape.part, cell, values[p], at, out);
+        at = put_line(shape.part, cell, values[p], at, out);
         cell = next_cell(cell, shape.places);
         p += 1;
     }
     at
 }
 
-// A part whose values may be negative.
-pub fn put_signed_part(
+// The parts behind the settings. The values of tables of these lengths stand one table after the other.
+pub fn put_parts(
     settings: Settings,
     parts: Parts,
-    part: u32,
-    values: &[i32],
+    lengths: [usize; TABLES],
+    values: &[i64],
     from: usize,
     out: &mut [u8],
 ) -> usize
-    requires { ⌜ (settings .depth ≤ 8) × (textRoom ≤ length (now out)) × (length (now values) ≡ shapeSize (partShape settings parts part)) ⌝ }
-    ensures { λ r. ⌜ Adds (now (out .entry)) from (partText (partShape settings parts part) (now (values .entry))) r (now (out .exit)) ⌝ }
+    requires { ⌜ (textRoom ≤ length (now out)) × (total lengths ≤ length (now values)) ⌝ }
+    ensures { λ r. ⌜ Provided (lengthsAre (partOf settings parts) lengths ≡ true)
+        (Follows (now (out .entry)) from (behindText settings parts lengths (now (values .entry)) tableCount) r (now (out .exit))) ⌝ }
 {
-    let shape = shape_of(settings, parts, part);
     let mut at = from;
-    let mut cell = Cell { item: 0, place: 0 };
-    let mut p: usize = 0;
-    while p < values.len() {
-        if at > TEXT_LIMIT {
-            return at;
-        }
-        at = put_signed(shape.part, cell, values[p], at, out);
-        cell = next_cell(cell, shape.places);
-        p += 1;
+    let mut start: usize = 0;
+    let mut k: usize = 0;
+    while k < TABLES {
+        let end = start + lengths[k];
+        let shape = shape_of(settings, parts, (k as u32) + 1);
+        at = put_part(shape, &values[start..end], at, out);
+        start = end;
+        k += 1;
     }
     at
 }

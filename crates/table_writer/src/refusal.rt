@@ -7,6 +7,7 @@ use ranges::tests::all_within;
 use ranges::tests::refuse;
 use ranges::tests::settings_refusal;
 use text_parts::fits;
+use text_parts::lengths_of;
 ghost use mathlib.Core.Path.{_≡_};
 ghost use Rattle.text_parts.specs.Parts.{tablesOf};
 ghost use Rattle.table_writer.specs.Tables.{tablesRefusal};
@@ -26,14 +27,7 @@ pub fn tables_refusal(
         (tablesOf (now (key .entry)) (now (message .entry)) (now (commitment .entry)) (now (rounds .entry)) (now (challenges .entry)) (now (last .entry))) ⌝ }
 {
     let q = settings.modulus;
-    let lengths = [
-        key.len(),
-        message.len(),
-        commitment.len(),
-        rounds.len(),
-        challenges.len(),
-        last.len(),
-    ];
+    let lengths = lengths_of(key, message, commitment, rounds, challenges, last);
     let r6 = settings_refusal(settings);
     let r7 = refuse(r6, 7, fits(settings, parts, lengths));
     if r7 != 0 {

@@ -25,6 +25,6 @@ pub fn show_refusal(refusal: u32, out: &mut [u8]) -> usize
 {
     let mut line = [0u8; REFUSAL_LINE];
     copy(b"refused ", &mut line);
-    let count = put_field(refusal, 10, 8, &mut line);
+    let count = put_field(refusal as u64, 10, 8, &mut line);
     show(&line[..count], out)
 }

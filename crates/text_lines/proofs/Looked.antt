@@ -6,6 +6,7 @@
 --   look-..              what the answer of a first look says
 --   Begun, begun         what is known of the settings that a text begins with
 --   begun-refused, begun-granted   the answer, by that of the reader of the first lines
+--   begun-begins         a text that is not refused begins with allowed settings
 use mathlib.Core.Path.{_≡_, refl, sym, ap, subst, _∙_}
 use mathlib.Core.Option.{Option, none, some}
 use mathlib.Core.Bool.{true}
@@ -17,13 +18,13 @@ use lib.ListN.{length}
 use lib.IntN.{ℤ}
 use Rattle.protocol.specs.declared.Settings.{Settings}
 use Rattle.protocol.specs.declared.Loaded.{Loaded}
-use Rattle.protocol.specs.Basic.{choose, granted}
-use Rattle.protocol.specs.Settings.{settingsRefusal}
-use Rattle.protocol.specs.Text.{Line, textLimit, linesOf, settingsIn, lookRefusal, loaded, lookAnswer}
+use Rattle.protocol.specs.Basic.{choose, granted, among, first, unless}
+use Rattle.protocol.specs.Settings.{degreeAllowed, settingsRefusal}
+use Rattle.protocol.specs.Text.{Line, textLimit, linesOf, settingsIn, noSettings, lookRefusal, loaded, lookAnswer}
 use Rattle.protocol.specs.Lines.{present, allLines, settingsOf, readSettings, begunWith, begunAnswer}
 use Rattle.protocol.proofs.Tests.{first-zero, unless-zero, granted-zero, granted-refused}
 use Rattle.text_lines.specs.declared.header.Header.{Header}
-use Rattle.text_lines.specs.Header.{headerAnswer}
+use Rattle.text_lines.specs.Header.{headerAnswer, Begins}
 use Rattle.text_lines.proofs.Looks.{Settled, settled, settled-settings, settled-look, look-missing}
 
 -- ---- a text whose settings are not refused
@@ -97,6 +98,11 @@ module _ (text : List ℕ) (r : Loaded) (r-is : r ≡ lookAnswer text) where
 
 -- ---- the settings that a text begins with
 
+-- four zeros are not allowed
+no-settings : settingsRefusal noSettings ≡ 3
+unfolding settingsRefusal noSettings degreeAllowed among first unless
+no-settings = refl
+
 -- a text that is refused has a first look's answer; the settings are allowed, and they are the text's where its lines are of the stated shape
 pub record Begun (text : List ℕ) (r : Loaded) : Type 0 where
   pub refused : (r .refusal ≡ 0 → ⊥) → r ≡ lookAnswer text
@@ -149,3 +155,25 @@ module _ (text : List ℕ) where
     pub begun-granted : settingsRefusal (h .settings) ≡ 0 → _≡_ {A = Loaded} (record { refusal = 0; settings = h .settings }) (begunAnswer text)
     unfolding begunAnswer
     begun-granted e = (λ j. record { refusal = 0; settings = begins-with j }) ∙ sym (granted-zero _ _ _ (ap settingsRefusal (sym begins-with) ∙ e))
+
+  -- a text that is not refused begins with allowed settings
+  begins-by : (o : Option (List ℤ × List ℕ)) → readSettings text ≡ o → (next : ℕ) → next ≡ headerAnswer text (readSettings text) .next → settingsRefusal (begunWith o) ≡ 0
+      → Begins text (begunWith o) next
+  unfolding begunWith headerAnswer
+  begins-by none e next is ok = absurd (omega (arith, ok, no-settings))
+  begins-by (some (vs, rest)) e next is ok = record {
+    header = (λ j. record { found = true; settings = settingsOf vs; next = (is ∙ ap (λ o. headerAnswer text o .next) e) j }) ∙ sym (ap (headerAnswer text) e);
+    allowed = ok;
+  }
+
+  front-allowed : (r : Loaded) → r ≡ begunAnswer text → r .refusal ≡ 0 → (n : ℕ) → settingsRefusal front ≡ n → (settingsRefusal front ≡ 0) × (r .settings ≡ front)
+  unfolding begunAnswer begunWith
+  front-allowed r e z zero f = (f, ap (λ x. x .settings) (e ∙ granted-zero _ _ _ f))
+  front-allowed r e z (suc n) f =
+      let l = looked text (sym (look-number text r (e ∙ granted-refused _ _ _ (λ g. absurd (omega arith)))) ∙ z) in
+      absurd (omega (arith, f, ap (λ o. settingsRefusal (begunWith o)) (l .header-is), l .allowed))
+
+  pub begun-begins : (r : Loaded) (next : ℕ) → r ≡ begunAnswer text → next ≡ headerAnswer text (readSettings text) .next → r .refusal ≡ 0 → Begins text (r .settings) next
+  begun-begins r next e is z =
+      let (ok, same) = front-allowed r e z (settingsRefusal front) refl in
+      subst (λ S. Begins text S next) (sym same) (begins-by (readSettings text) refl next is ok)

@@ -26,6 +26,12 @@ pub struct Header {
     pub next: usize,
 }
 
+// What a text begins with: its settings or the refusal, and the place behind the settings.
+pub struct Begun {
+    pub loaded: Loaded,
+    pub next: usize,
+}
+
 fn no_settings() -> Settings
     ensures { λ r. ⌜ r ≡ noSettings ⌝ }
 {
@@ -143,18 +149,23 @@ pub fn read_settings(text: &[u8]) -> Loaded
     }
 }
 
-// The settings that a text begins with, where they are allowed: a caller learns the lengths of its tables by them, and the reader tests all lines.
-// Otherwise the text is refused, and a first look says by which number; a text that does not begin with settings counts as one whose settings are all 0.
-pub fn allowed_settings(text: &[u8]) -> Loaded
-    ensures { λ r. ⌜ r ≡ begunAnswer (now (text .entry)) ⌝ }
+// The settings that a text begins with, where they are allowed, and the place behind them: a caller learns the lengths of its tables by them, and the reader
+// goes on there. Otherwise the text is refused, and a first look says by which number; a text that does not begin with settings counts as one whose settings
+// are all 0.
+pub fn allowed_settings(text: &[u8]) -> Begun
+    ensures answer { λ r. ⌜ r .loaded ≡ begunAnswer (now (text .entry)) ⌝ }
+    ensures place { λ r. ⌜ r .next ≡ headerAnswer (now (text .entry)) (readSettings (now (text .entry))) .next ⌝ }
 {
     let header = read_header(text);
     let settings = header.settings;
+    let next = header.next;
     if settings_refusal(settings) != 0 {
-        return read_settings(text);
+        let loaded = read_settings(text);
+        return Begun { loaded, next };
     }
-    Loaded {
+    let loaded = Loaded {
         refusal: 0,
         settings,
-    }
+    };
+    Begun { loaded, next }
 }

@@ -5,6 +5,7 @@ mod lines;
 mod names;
 mod numbers;
 
+pub use header::Begun;
 pub use header::Header;
 pub use header::allowed_settings;
 pub use header::read_header;

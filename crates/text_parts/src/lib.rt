@@ -6,7 +6,7 @@ use protocol::TEXT_LIMIT;
 use protocol::WIDTH;
 ghost use mathlib.Core.Path.{_≡_};
 ghost use Rattle.protocol.specs.Text.{shape, settingsShape, shapeSize};
-ghost use Rattle.text_parts.specs.Parts.{asShape, nextCell, partOf, lengthsAre, testedBy};
+ghost use Rattle.text_parts.specs.Parts.{tablesOf, asShape, nextCell, partOf, lengthsOf, lengthsAre, testedBy};
 
 // How many parts there are behind the settings, each with a table: `tableCount` of the definitions. The table of part k + 1 has place k in a list of them.
 pub const TABLES: usize = 6;
@@ -126,6 +126,28 @@ pub fn tested_by(k: usize) -> u32
     }
     let tests: [u32; TABLES] = [8, 9, 8, 8, 10, 0];
     tests[k]
+}
+
+// How long the tables are.
+pub fn lengths_of(
+    key: &[u32],
+    message: &[i32],
+    commitment: &[u32],
+    rounds: &[u32],
+    challenges: &[u32],
+    last: &[i32],
+) -> [usize; TABLES]
+    ensures { λ r. ⌜ r ≡ lengthsOf
+        (tablesOf (now (key .entry)) (now (message .entry)) (now (commitment .entry)) (now (rounds .entry)) (now (challenges .entry)) (now (last .entry))) ⌝ }
+{
+    [
+        key.len(),
+        message.len(),
+        commitment.len(),
+        rounds.len(),
+        challenges.len(),
+        last.len(),
+    ]
 }
 
 // Refusal 7 of lent tables: has each of them exactly its length.

@@ -16,6 +16,7 @@ ghost use Rattle.protocol.specs.Layout.{width, slots};
 ghost use Rattle.protocol.specs.Text.{fits, linesOf, settingsIn, lookRefusal};
 ghost use Rattle.protocol.specs.Programs.{verifyReads, tablesAccepted, verifyAnswer, checked, verifyGives, verdictLine, verifyOutput};
 ghost use Rattle.text_parts.specs.Parts.{tablesOf, cellsRoom, roundCellsRoom};
+ghost use Rattle.text_lines.specs.Header.{Begins};
 ghost use Rattle.table_writer.specs.Shown.{Shown, Within};
 ghost use Rattle.verify_text.specs.Given.{Given};
 
@@ -52,9 +53,11 @@ fn answer(
     Verified::Accepted
 }
 
-// The call with tables of exactly their lengths, where a first look refuses nothing.
+// The call with the settings that the text begins with, and with tables of exactly their lengths where a first look refuses nothing.
 fn verify_in(
     text: &[u8],
+    settings: Settings,
+    from: usize,
     key: &mut [u32],
     message: &mut [i32],
     commitment: &mut [u32],
@@ -64,10 +67,13 @@ fn verify_in(
 ) -> Verified
     requires { ⌜ (lookRefusal (now text) ≡ 0 →
         fits (settingsIn (linesOf (now text))) verifyReads (tablesOf (now key) (now message) (now commitment) (now rounds) (now challenges) (now last)) ≡ true) ⌝ }
+    requires { ⌜ Begins (now text) settings from ⌝ }
     ensures { λ r. ⌜ r ≡ verifyAnswer (now (text .entry)) ⌝ }
 {
-    let loaded = table_reader::read(
+    let loaded = table_reader::read_tables(
         reads(),
+        settings,
+        from,
         text,
         key,
         message,
@@ -95,7 +101,8 @@ fn verify_within(
     requires { ⌜ (cellsRoom ≤ length (now key)) × (width ≤ length (now commitment)) × (roundCellsRoom ≤ length (now rounds)) × (slots ≤ length (now challenges)) × (width ≤ length (now last)) ⌝ }
     ensures { λ r. ⌜ r ≡ verifyAnswer (now (text .entry)) ⌝ }
 {
-    let looked = text_lines::allowed_settings(text);
+    let begun = text_lines::allowed_settings(text);
+    let looked = begun.loaded;
     if looked.refusal != 0 {
         return Verified::Refused(looked.refusal);
     }
@@ -106,6 +113,8 @@ fn verify_within(
     let round_cells = sizes::round_cells(settings);
     verify_in(
         text,
+        settings,
+        begun.next,
         &mut key[..cells],
         &mut message[..0],
         &mut commitment[..degree],

@@ -9,12 +9,14 @@ use lib.IntN.{ℤ}
 use Rattle.protocol.specs.declared.Settings.{Settings}
 use Rattle.protocol.specs.Opening.{roundTable}
 use Rattle.protocol.specs.Transcript.{transcriptOf}
+use Rattle.protocol.specs.Basic.{Provided}
+use Rattle.protocol.specs.Text.{textOf}
 use Rattle.protocol.specs.Programs.{printed}
-use Rattle.protocol.specs.Promises.{Wrote}
 use Rattle.claims.proofs.Honest.{opening-commitment, opening-last, opening-rounds}
 use Rattle.text_parts.specs.Parts.{tablesOf}
+use Rattle.table_writer.specs.Tables.{Writable, Output}
 use Rattle.prove_text.specs.Printed.{Openable}
-use Rattle.prove_text.proofs.Honest.{given, commitment-front, last-front, printed-by}
+use Rattle.prove_text.proofs.Honest.{given, commitment-front, last-front, honest-writable, printed-by}
 use Rattle.prove_text.proofs.print_opening.Statement.{statement}
 use Rattle.prove_text.proofs.print_opening.Tie as tie
 
@@ -53,14 +55,14 @@ module _ (c : tie.After-open) where
 array-share-prefix-commitment : tie.Need-array-share-prefix-commitment
 array-share-prefix-commitment c = commitment-given (c .before .before .before .before .before .before .before .before .before .before .before) .0
 
-slice-aggregate-write-3 : tie.Need-slice-aggregate-write-3
-slice-aggregate-write-3 c = sym (length-take-le _ _ (commitment-given (c .before .before .before .before .before .before .before .before .before .before .before .before) .0))
+slice-aggregate-write-tables-3 : tie.Need-slice-aggregate-write-tables-3
+slice-aggregate-write-tables-3 c = sym (length-take-le _ _ (commitment-given (c .before .before .before .before .before .before .before .before .before .before .before .before) .0))
 
 array-share-prefix-last : tie.Need-array-share-prefix-last
 array-share-prefix-last c = last-given (c .before .before .before .before .before .before .before .before .before .before .before .before .before) .0
 
-slice-aggregate-write-4 : tie.Need-slice-aggregate-write-4
-slice-aggregate-write-4 c = sym (length-take-le _ _ (last-given (c .before .before .before .before .before .before .before .before .before .before .before .before .before .before) .0))
+slice-aggregate-write-tables-4 : tie.Need-slice-aggregate-write-tables-4
+slice-aggregate-write-tables-4 c = sym (length-take-le _ _ (last-given (c .before .before .before .before .before .before .before .before .before .before .before .before .before .before) .0))
 
 returns : tie.Need-returns
 unfolding printed transcriptOf
@@ -70,14 +72,16 @@ returns c =
     let p = c .before .before .before .before .before .before .before .before .before in
     let u = tablesOf [] [] (take (S o .degree) (o .«open» .result .commitment)) (o .«open» .last .1 .1 .1 .1 .0) (E o) (take (S o .degree) (o .«open» .result .last)) in
     let out = start o .args .out .now in
-    let out′ = w .write .last .1 .1 .1 .1 .1 .1 .1 .1 .0 in
-    printed-by (S o) (G o) (M o) (E o) (R o) (ok o) u out (w .write .result) out′
-    (λ j. tablesOf [] [] (commitment-given o .1 j) (rounds-given o j) (E o) (last-given o .1 j))
-    (subst (λ P. Wrote (S o) P u out (w .write .result) out′) (p .prints .ensures) (w .write .ensures))
+    let r = w .write-tables .result in
+    let out′ = w .write-tables .last .1 .1 .1 .1 .1 .1 .1 .1 .0 in
+    let same : u ≡ printed (transcriptOf (S o) (G o) (M o) (E o)) = λ j. tablesOf [] [] (commitment-given o .1 j) (rounds-given o j) (E o) (last-given o .1 j) in
+    printed-by (S o) (G o) (M o) (E o) (R o) (ok o) u same out r out′
+    (subst (λ P. Provided (Writable (S o) P u) (Output (textOf (S o) P u) out r out′)) (p .prints .ensures) (w .write-tables .ensures)
+    (honest-writable (S o) (G o) (M o) (E o) (R o) (ok o) u same))
 
 pub print-opening-spec : {M : Type 1} → statement M
 print-opening-spec =
     tie.close
     (tie.spec (λ c κs. search needs) (λ c. search needs) (λ c κs. search needs) (λ c. search needs) (λ c. search needs) (λ c. search needs)
-    (λ c. search needs) array-share-prefix-commitment slice-aggregate-write-3 array-share-prefix-last slice-aggregate-write-4 (λ c κs. search needs)
+    (λ c. search needs) array-share-prefix-commitment slice-aggregate-write-tables-3 array-share-prefix-last slice-aggregate-write-tables-4 (λ c κs. search needs)
     (λ c. search needs) (λ c. search needs) (λ c. search needs) (λ c. search needs) returns)

@@ -16,7 +16,7 @@ use Rattle.prove_text.proofs.Proves.{prove-refused, prove-done, openabl
 use Rattle.prove_text.proofs.prove_in.Statement.{statement}
 use Rattle.prove_text.proofs.prove_in.Tie as tie
 
-module _ (c : tie.After-read) where
+module _ (c : tie.After-read-tables) where
   abbrev start : tie.Start
   start = c .before .before .before .before .before .before .before .before .before .before .before .before .before
 
@@ -27,25 +27,26 @@ module _ (c : tie.After-read) where
   t = tablesOf (start .args .key .now) (start .args .message .now) [] [] (start .args .challenges .now) []
 
   abbrev t′ : Tables
-  t′ = tablesOf (c .read .last .1 .1 .0) (c .read .last .1 .1 .1 .0) (c .read .last .1 .1 .1 .1 .0) (c .read .last .1 .1 .1 .1 .1 .0) (c .read .last .1 .1 .1 .1 .1 .1 .0)
-      (c .read .last .1 .1 .1 .1 .1 .1 .1 .0)
+  t′ =
+      let l = c .read-tables .last .1 .1 .1 .1 in
+      tablesOf (l .0) (l .1 .0) (l .1 .1 .0) (l .1 .1 .1 .0) (l .1 .1 .1 .1 .0) (l .1 .1 .1 .1 .1 .0)
 
   fit : lookRefusal text ≡ 0 → fits (settingsIn (linesOf text)) proveReads t ≡ true
   fit = start .pre .0
 
-  promise : Read proveReads text t (c .read .result) t′
-  promise = subst (λ P. Read P text t (c .read .result) t′) (c .before .before .before .before .before .before .before .reads .ensures) (c .read .ensures)
+  promise : Read proveReads text t (c .read-tables .result) t′
+  promise = subst (λ P. Read P text t (c .read-tables .result) t′) (c .before .before .before .before .before .before .before .reads .ensures) (c .read-tables .ensures (start .pre .1 .1))
 
 -- a text that is not refused
 module _ (c : tie.Else1) where
-  abbrev got : tie.After-read
+  abbrev got : tie.After-read-tables
   got = c .before .before .before .before .before .before .before .before .before
 
   abbrev S : Settings
-  S = got .read .result .settings
+  S = got .read-tables .result .settings
 
   same-settings : S ≡ settingsIn (linesOf (text got))
-  same-settings = settings-are (text got) proveReads (t got) (t′ got) (fit got) (got .read .result) (promise got) (c .if1 .left)
+  same-settings = settings-are (text got) proveReads (t got) (t′ got) (fit got) (got .read-tables .result) (promise got) (c .if1 .left)
 
   lengths : lengthsOf (t′ got) ≡ lengthsOf (t got)
   unfolding lengthsOf
@@ -62,17 +63,17 @@ module _ (c : tie.Else1) where
 returns : tie.Need-returns
 returns c =
     let r = c .before .before .before .before .before .before .before .before .before in
-    prove-refused (text r) (start r .args .out .now) (r .read .result .refusal) (c .if1 .taken) (sym (number-is (text r) proveReads (t r) (t′ r) (fit r) (r .read .result) (promise r)))
+    prove-refused (text r) (start r .args .out .now) (r .read-tables .result .refusal) (c .if1 .taken) (sym (number-is (text r) proveReads (t r) (t′ r) (fit r) (r .read-tables .result) (promise r)))
 
 print-opening-requires : tie.Need-print-opening-requires
 print-opening-requires c κs =
     let e = c .before .before .before .before .before in
     let r = got e in
     openable (S e) (t′ r) (start r .args .rounds .now)
-    (settings-allowed (text r) proveReads (t r) (t′ r) (fit r) (r .read .result) (promise r) (e .if1 .left))
-    (still-fitting (text r) proveReads (t r) (t′ r) (fit r) (r .read .result) (promise r) (e .if1 .left) (lengths e))
-    (entries-passed (text r) proveReads (t r) (t′ r) (fit r) (r .read .result) (promise r) (e .if1 .left))
-    (start r .pre .1 (settings-unrefused (text r) proveReads (t r) (t′ r) (fit r) (r .read .result) (promise r) (e .if1 .left)) ∙ sym (ap roundCells (same-settings e)))
+    (settings-allowed (text r) proveReads (t r) (t′ r) (fit r) (r .read-tables .result) (promise r) (e .if1 .left))
+    (still-fitting (text r) proveReads (t r) (t′ r) (fit r) (r .read-tables .result) (promise r) (e .if1 .left) (lengths e))
+    (entries-passed (text r) proveReads (t r) (t′ r) (fit r) (r .read-tables .result) (promise r) (e .if1 .left))
+    (start r .pre .1 .0 (settings-unrefused (text r) proveReads (t r) (t′ r) (fit r) (r .read-tables .result) (promise r) (e .if1 .left)) ∙ sym (ap roundCells (same-settings e)))
 
 returns-2 : tie.Need-returns-2
 returns-2 c =
@@ -80,8 +81,8 @@ returns-2 c =
     let e = p .before .before .before .before .before .before in
     let r = got e in
     prove-done (text r) (start r .args .out .now) (S e) (t′ r) (same-settings e)
-    (tables-are (text r) proveReads (t r) (t′ r) (fit r) (r .read .result) (promise r) (e .if1 .left))
-    (sym (number-is (text r) proveReads (t r) (t′ r) (fit r) (r .read .result) (promise r)) ∙ e .if1 .left)
+    (tables-are (text r) proveReads (t r) (t′ r) (fit r) (r .read-tables .result) (promise r) (e .if1 .left))
+    (sym (number-is (text r) proveReads (t r) (t′ r) (fit r) (r .read-tables .result) (promise r)) ∙ e .if1 .left)
     (p .print-opening .result) (p .print-opening .last .1 .1 .1 .1 .1 .0) (p .print-opening .ensures)
 
 pub prove-in-spec : {M : Type 1} → statement M

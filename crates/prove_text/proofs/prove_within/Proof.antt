@@ -15,7 +15,8 @@ use Rattle.text_parts.specs.Parts.{tablesOf}
 use Rattle.table_reader.proofs.Rooms.{rooms}
 use Rattle.table_reader.proofs.OnText.{look-refusal}
 use Rattle.prove_text.proofs.Proves.{prove-refused, lent-fitting}
-use Rattle.text_lines.proofs.Looked.{Begun, begun}
+use Rattle.text_lines.specs.Header.{Begins}
+use Rattle.text_lines.proofs.Looked.{Begun, begun, begun-begins}
 use Rattle.prove_text.proofs.prove_within.Statement.{statement}
 use Rattle.prove_text.proofs.prove_within.Tie as tie
 
@@ -31,13 +32,16 @@ module _ (c : tie.After-round-cells) where
   start = seen .before .before .before .before .before .before
 
   abbrev S : Settings
-  S = seen .allowed-settings .result .settings
+  S = seen .allowed-settings .result .loaded .settings
 
   abbrev text : List ℕ
   text = start .args .text .now
 
-  known : Begun text (seen .allowed-settings .result)
-  known = begun text (seen .allowed-settings .result) (seen .allowed-settings .ensures)
+  known : Begun text (seen .allowed-settings .result .loaded)
+  known = begun text (seen .allowed-settings .result .loaded) (seen .allowed-settings .ensures .0)
+
+  begins : Begins text S (seen .allowed-settings .result .next)
+  begins = begun-begins text (seen .allowed-settings .result .loaded) _ (seen .allowed-settings .ensures .0) (seen .allowed-settings .ensures .1) (left .if1 .left)
 
   same-settings : lookRefusal text ≡ 0 → S ≡ settingsIn (linesOf text)
   same-settings = known .settings-are
@@ -68,9 +72,9 @@ returns : tie.Need-returns
 returns c =
     let l = c .before in
     let a = l .before .before .before .before .before .before .args in
-    let r = l .allowed-settings .result in
+    let r = l .allowed-settings .result .loaded in
     prove-refused (a .text .now) (a .out .now) (r .refusal) (c .if1 .taken)
-    (look-refusal (a .text .now) r (begun (a .text .now) r (l .allowed-settings .ensures) .refused (c .if1 .taken)) proveReads (c .if1 .taken))
+    (look-refusal (a .text .now) r (begun (a .text .now) r (l .allowed-settings .ensures .0) .refused (c .if1 .taken)) proveReads (c .if1 .taken))
 
 slice-relend-prefix-prove-in : tie.Need-slice-relend-prefix-prove-in
 slice-relend-prefix-prove-in c = key-room c
@@ -105,7 +109,7 @@ prove-in-requires c κs =
     let E = take (S k .depth) (a .challenges .now) in (
       λ e. ap (λ x. fits x proveReads (tablesOf G M [] [] E [])) (sym (same-settings k e))
           ∙ lent-fitting (S k) G M E (length-take-le _ _ (key-room k) ∙ cells-is k) (length-take-le _ _ (message-room k) ∙ cells-is k) (length-take-le _ _ (challenges-room k)),
-      λ e. length-take-le _ _ (rounds-room k) ∙ rounds-is k ∙ ap roundCells (same-settings k e),
+      (λ e. length-take-le _ _ (rounds-room k) ∙ rounds-is k ∙ ap roundCells (same-settings k e), begins k),
     )
 
 pub prove-within-spec : {M : Type 1} → statement M

@@ -1,76 +1,33 @@
--- `read`: the values are gathered, then tested, then stored.
-use mathlib.Core.List.{List}
-use Prim.Native.Nat.{ℕ}
-use native.Mathlib.Omega.{arith}
+-- `read`: the settings, and then the core.
+use mathlib.Core.List.{[]}
 use borrow.Author.Needs.{needs}
-use lib.IntN.{ℤ}
-use Rattle.protocol.specs.declared.Parts.{Parts}
-use Rattle.protocol.specs.Text.{Tables}
 use Rattle.text_parts.specs.Parts.{tablesOf, lengthsOf}
-use Rattle.table_reader.specs.Stored.{Gathered}
-use Rattle.table_reader.proofs.Whole.{read-refused, read-allowed, read-room, read-refused-entries, read-done}
+use Rattle.text_lines.proofs.Looked.{begun, begun-begins}
+use Rattle.table_reader.proofs.Gathers.{gathered-look}
+use Rattle.table_reader.proofs.Whole.{read-refused}
 use Rattle.table_reader.proofs.read.Statement.{statement}
 use Rattle.table_reader.proofs.read.Tie as tie
 
-module _ (c : tie.After-read-values) where
-  abbrev start : tie.Start
-  start = c .before .before .before .before .before .before .before
-
-  abbrev P : Parts
-  P = start .args .parts
-
-  abbrev text : List ℕ
-  text = start .args .text .now
-
-  abbrev t : Tables
-  t = tablesOf (start .args .key .now) (start .args .message .now) (start .args .commitment .now) (start .args .rounds .now) (start .args .challenges .now) (start .args .last .now)
-
-  abbrev values : List ℤ
-  values = c .read-values .last .1 .1 .1 .0
-
-  gathered : Gathered P (lengthsOf t) text (c .read-values .result) values
-  unfolding lengthsOf
-  gathered = c .read-values .ensures
-
 returns : tie.Need-returns
-returns c = let g = c .before .before .before in read-refused (P g) (text g) (t g) (g .read-values .result) (values g) (gathered g) (c .if1 .taken)
-
-refusal-requires : tie.Need-refusal-requires
-unfolding lengthsOf
-refusal-requires c κs =
-    let g = c .before .before .before .before in
-    let r = g .read-values .result in
-    let none = c .before .if1 .left in
-    (read-allowed (P g) (text g) (t g) r (values g) (gathered g) none, read-room (P g) (text g) (t g) r (values g) (gathered g) none)
+returns c =
+    let s = c .before .before .before in
+    let a = s .before .before .before .before .before .before .args in
+    let t = tablesOf (a .key .now) (a .message .now) (a .commitment .now) (a .rounds .now) (a .challenges .now) (a .last .now) in
+    let r = s .allowed-settings .result .loaded in
+    let looks = begun (a .text .now) r (s .allowed-settings .ensures .0) .refused (c .if1 .taken) in
+    read-refused (a .parts) (a .text .now) t r [] (gathered-look (a .parts) (lengthsOf t) (a .text .now) r looks [] (c .if1 .taken)) (c .if1 .taken)
 
 returns-2 : tie.Need-returns-2
-unfolding lengthsOf
 returns-2 c =
-    let f = c .before .before in
-    let g = f .before .before .before .before .before in
-    read-refused-entries (P g) (text g) (t g) (g .read-values .result) (values g) (gathered g) (f .before .before .if1 .left) (f .refusal .result) (f .refusal .ensures)
-    (c .refused .result) (c .refused .ensures)
-    (c .before .if2 .taken)
-
-all-requires : tie.Need-all-requires
-unfolding lengthsOf
-all-requires c κs =
-    let f = c .before .before .before .before .before .before .before .before in
-    let g = f .before .before .before .before .before in
-    read-room (P g) (text g) (t g) (g .read-values .result) (values g) (gathered g) (f .before .before .if1 .left)
-
-returns-3 : tie.Need-returns-3
-unfolding lengthsOf
-returns-3 c =
-    let a = c .before .before .before .before .before .before .before .before .before .before in
-    let f = a .before .before .before .before .before .before .before .before .before in
-    let g = f .before .before .before .before .before in
-    read-done (P g) (text g) (t g) (g .read-values .result) (values g) (gathered g) (f .before .before .if1 .left) (f .refusal .result) (f .refusal .ensures)
-    (a .before .before .before .before .before .before .before .before .if2 .left) _ (a .all .ensures)
+    let g = c .before .before .before .before .before .before .before .before .before .before in
+    let e = g .before .before .before .before .before .before .before in
+    let s = e .before .before .before in
+    let r = s .allowed-settings .result in
+    let text = s .before .before .before .before .before .before .args .text .now in
+    g .read-tables .ensures (begun-begins text (r .loaded) (r .next) (s .allowed-settings .ensures .0) (s .allowed-settings .ensures .1) (e .if1 .left))
 
 pub read-spec : {M : Type 1} → statement M
 read-spec =
     tie.close
-    (tie.spec (λ c. search needs) (λ c κs. search needs) returns (λ c. search needs) refusal-requires (λ c κs. search needs) returns-2
-    (λ c. search needs) all-requires (λ c. search needs) (λ c. search needs) (λ c. search needs) (λ c. search needs) (λ c. search needs)
-    (λ c. search needs) returns-3)
+    (tie.spec (λ c κs. search needs) returns (λ c κs. search needs) (λ c. search needs) (λ c. search needs) (λ c. search needs) (λ c. search needs)
+    (λ c. search needs) (λ c. search needs) returns-2)

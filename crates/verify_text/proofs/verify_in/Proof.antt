@@ -14,7 +14,7 @@ use Rattle.verify_text.proofs.Verifies.{verify-refused, verify-given, v
 use Rattle.verify_text.proofs.verify_in.Statement.{statement}
 use Rattle.verify_text.proofs.verify_in.Tie as tie
 
-module _ (c : tie.After-read) where
+module _ (c : tie.After-read-tables) where
   abbrev start : tie.Start
   start = c .before .before .before .before .before .before .before .before .before .before .before .before .before
 
@@ -25,14 +25,15 @@ module _ (c : tie.After-read) where
   t = tablesOf (start .args .key .now) (start .args .message .now) (start .args .commitment .now) (start .args .rounds .now) (start .args .challenges .now) (start .args .last .now)
 
   abbrev t′ : Tables
-  t′ = tablesOf (c .read .last .1 .1 .0) (c .read .last .1 .1 .1 .0) (c .read .last .1 .1 .1 .1 .0) (c .read .last .1 .1 .1 .1 .1 .0) (c .read .last .1 .1 .1 .1 .1 .1 .0)
-      (c .read .last .1 .1 .1 .1 .1 .1 .1 .0)
+  t′ =
+      let l = c .read-tables .last .1 .1 .1 .1 in
+      tablesOf (l .0) (l .1 .0) (l .1 .1 .0) (l .1 .1 .1 .0) (l .1 .1 .1 .1 .0) (l .1 .1 .1 .1 .1 .0)
 
   fit : lookRefusal text ≡ 0 → fits (settingsIn (linesOf text)) verifyReads t ≡ true
-  fit = start .pre
+  fit = start .pre .0
 
-  promise : Read verifyReads text t (c .read .result) t′
-  promise = subst (λ P. Read P text t (c .read .result) t′) (c .before .before .before .before .before .before .before .reads .ensures) (c .read .ensures)
+  promise : Read verifyReads text t (c .read-tables .result) t′
+  promise = subst (λ P. Read P text t (c .read-tables .result) t′) (c .before .before .before .before .before .before .before .reads .ensures) (c .read-tables .ensures (start .pre .1))
 
 lengths : (c : tie.After-last) → let r = c .before .before .before .before .before .before .before .before .before .before in lengthsOf (t′ r) ≡ lengthsOf (t r)
 unfolding lengthsOf
@@ -49,21 +50,21 @@ lengths c =
 
 returns : tie.Need-returns
 returns c = let r = c .before .before .before .before .before .before .before .before .before .before .before .before in
-    verify-refused (text r) (t r) (t′ r) (fit r) (r .read .result) (promise r) (c .if1 .taken)
+    verify-refused (text r) (t r) (t′ r) (fit r) (r .read-tables .result) (promise r) (c .if1 .taken)
 
 answer-requires : tie.Need-answer-requires
 answer-requires c κs =
     let e = c .before .before .before .before .before in
     let l = e .before .before in
     let r = l .before .before .before .before .before .before .before .before .before .before in
-    given-bare _ _ (verify-given (text r) (t r) (t′ r) (fit r) (r .read .result) (promise r) (e .if1 .left) (lengths l))
+    given-bare _ _ (verify-given (text r) (t r) (t′ r) (fit r) (r .read-tables .result) (promise r) (e .if1 .left) (lengths l))
 
 returns-2 : tie.Need-returns-2
 unfolding tablesAccepted transcriptIn
 returns-2 c =
     let e = c .before .before .before .before .before .before in
     let r = e .before .before .before .before .before .before .before .before .before .before .before .before in
-    verify-done (text r) (t r) (t′ r) (fit r) (r .read .result) (promise r) (e .if1 .left) (c .answer .result) (c .answer .ensures)
+    verify-done (text r) (t r) (t′ r) (fit r) (r .read-tables .result) (promise r) (e .if1 .left) (c .answer .result) (c .answer .ensures)
 
 pub verify-in-spec : {M : Type 1} → statement M
 verify-in-spec =

@@ -15,7 +15,8 @@ use Rattle.text_parts.specs.Parts.{tablesOf}
 use Rattle.verify_text.proofs.Checks.{Long}
 use Rattle.verify_text.proofs.Verifies.{verify-stops, lent-fitting}
 use Rattle.table_reader.proofs.Rooms.{rooms}
-use Rattle.text_lines.proofs.Looked.{Begun, begun}
+use Rattle.text_lines.specs.Header.{Begins}
+use Rattle.text_lines.proofs.Looked.{Begun, begun, begun-begins}
 use Rattle.verify_text.proofs.verify_within.Statement.{statement}
 use Rattle.verify_text.proofs.verify_within.Tie as tie
 
@@ -25,19 +26,22 @@ module _ (c : tie.After-round-cells) where
   left = c .before .before .before .before .before
 
   abbrev seen : tie.After-allowed-settings
-  seen = left .before .before
+  seen = left .before .before .before
 
   abbrev start : tie.Start
   start = seen .before .before .before .before .before .before
 
   abbrev S : Settings
-  S = seen .allowed-settings .result .settings
+  S = seen .allowed-settings .result .loaded .settings
 
   abbrev text : List ℕ
   text = start .args .text .now
 
-  known : Begun text (seen .allowed-settings .result)
-  known = begun text (seen .allowed-settings .result) (seen .allowed-settings .ensures)
+  known : Begun text (seen .allowed-settings .result .loaded)
+  known = begun text (seen .allowed-settings .result .loaded) (seen .allowed-settings .ensures .0)
+
+  begins : Begins text S (seen .allowed-settings .result .next)
+  begins = begun-begins text (seen .allowed-settings .result .loaded) _ (seen .allowed-settings .ensures .0) (seen .allowed-settings .ensures .1) (left .if1 .left)
 
   allowed : settingsRefusal S ≡ 0
   allowed = known .allowed (left .if1 .left)
@@ -80,10 +84,10 @@ module _ (c : tie.After-round-cells) where
 
 returns : tie.Need-returns
 returns c =
-    let l = c .before .before in
+    let l = c .before .before .before in
     let t = l .before .before .before .before .before .before .args .text .now in
-    let r = l .allowed-settings .result in
-    verify-stops t r (begun t r (l .allowed-settings .ensures) .refused (c .if1 .taken)) (c .if1 .taken)
+    let r = l .allowed-settings .result .loaded in
+    verify-stops t r (begun t r (l .allowed-settings .ensures .0) .refused (c .if1 .taken)) (c .if1 .taken)
 
 slice-relend-prefix-verify-in : tie.Need-slice-relend-prefix-verify-in
 slice-relend-prefix-verify-in c = key-room c
@@ -118,7 +122,7 @@ slice-aggregate-verify-in-6 c = sym (length-take-le _ _ (last-room (c .before .b
 verify-in-requires : tie.Need-verify-in-requires
 verify-in-requires c κs =
     let k = c .before .before .before .before .before .before in
-    λ e. ap (λ x. fits x verifyReads (t k)) (sym (known k .settings-are e)) ∙ lent-fitting (S k) (t k) (long k)
+    ((λ e. ap (λ x. fits x verifyReads (t k)) (sym (known k .settings-are e)) ∙ lent-fitting (S k) (t k) (long k)), begins k)
 
 pub verify-within-spec : {M : Type 1} → statement M
 verify-within-spec =

@@ -2,7 +2,11 @@
 use mathlib.Core.Path.{_≡_, refl, sym, ap, _∙_}
 use native.Mathlib.Omega.{arith}
 use borrow.Author.Needs.{needs}
+use lib.Dec.{ltb}
+use mathlib.Core.List.{map}
+use Rattle.protocol.specs.Basic.{all}
 use Rattle.protocol.specs.Settings.{residues, exponent, exponents}
+use Rattle.protocol.specs.Text.{unsigned}
 use Rattle.text_parts.specs.Parts.{testedBy}
 use Rattle.table_reader.proofs.Refuses.{untested, tested, tests-residues, tests-bound, tests-exponents, tests-nothing}
 use Rattle.table_reader.proofs.entries.pass.Statement.{statement}
@@ -13,21 +17,25 @@ tests-it : (c : tie.Else1) → testedBy (c .before .before .args .k) ≡ c .befo
 tests-it c = sym (c .before .tested-by .ensures) ∙ c .if1 .left
 
 returns : tie.Need-returns
-returns c = untested _ _ _ _ (λ e. c .if1 .taken (c .before .tested-by .ensures ∙ e))
+returns c ok = untested _ _ _ _ (λ e. c .if1 .taken (c .before .tested-by .ensures ∙ e))
 
 returns-2 : tie.Need-returns-2
 unfolding residues
-returns-2 c = tested _ _ _ _ (tests-it (c .before .before)) _ (c .all-below .ensures ∙ sym (tests-residues _ _ _ (c .before .match .keys1)))
+returns-2 c ok = tested _ _ _ _ (tests-it (c .before .before)) _ (c .all-below .ensures ∙ sym (tests-residues _ _ _ (c .before .match .keys1)))
 
 returns-3 : tie.Need-returns-3
-returns-3 c = tested _ _ _ _ (tests-it (c .before .before)) _ (c .all-within .ensures ∙ sym (tests-bound _ _ _ (c .before .match .keys2)))
+returns-3 c ok = tested _ _ _ _ (tests-it (c .before .before)) _ (c .all-within .ensures ∙ sym (tests-bound _ _ _ (c .before .match .keys2)))
 
 returns-4 : tie.Need-returns-4
 unfolding exponents exponent
-returns-4 c = tested _ _ _ _ (tests-it (c .before .before .before)) _ (c .all-below2 .ensures ∙ sym (tests-exponents _ _ _ (c .before .before .match .keys3)))
+returns-4 c ok =
+    let limit = c .before in
+    tested _ _ _ _ (tests-it (limit .before .before)) _
+    (c .all-below2 .ensures ∙ ap (λ n. all (λ x. ltb x n) (map unsigned (limit .before .before .before .before .args .values .now))) (limit .exponent-count .ensures ok)
+    ∙ sym (tests-exponents _ _ _ (limit .before .match .keys3)))
 
 returns-5 : tie.Need-returns-5
-returns-5 c = tested _ _ _ _ (tests-it (c .before)) _ (sym (tests-nothing _ _ _ (λ e. absurd (omega arith)) (λ e. absurd (omega arith)) (λ e. absurd (omega arith))))
+returns-5 c ok = tested _ _ _ _ (tests-it (c .before)) _ (sym (tests-nothing _ _ _ (λ e. absurd (omega arith)) (λ e. absurd (omega arith)) (λ e. absurd (omega arith))))
 
 pub pass-spec : {M : Type 1} → statement M
 pass-spec =

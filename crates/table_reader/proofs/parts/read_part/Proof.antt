@@ -25,7 +25,7 @@ use Rattle.table_reader.proofs.parts.read_part.Tie as tie
 
 abbrev Inv-loop : tie.InvT-loop
 Inv-loop text from shape values₀ size at₀ cell₀ p₀ values at cell p =
-    (p ≤ size) × (size ≡ shapeSize (asShape shape)) × (at ≤ length text) × (length values ≡ length values₀) × (cell ≡ cellAt (shape .places) p)
+    (p ≤ size) × (size ≡ shapeSize (asShape shape)) × (from ≤ length text → at ≤ length text) × (length values ≡ length values₀) × (cell ≡ cellAt (shape .places) p)
     × (readValues (spots (asShape shape)) (drop from text) ≡ prefix (take p values) (readValues (drop p (spots (asShape shape))) (drop at text)))
 
 abbrev μ-loop : tie.MeasureT-loop
@@ -107,13 +107,13 @@ module _ (c : tie.After-known-told Inv-loop μ-loop) where
   word = toZ-ofZ {w = w32} {z = v} (record { sfits = c .known-told .given .0 .1 })
 
 loop-holds : tie.Need-loop-holds Inv-loop μ-loop
-loop-holds c = (search needs, c .size-of .ensures, search needs, refl, sym (cell-first _), sym (prefix-nothing _))
+loop-holds c = (search needs, c .size-of .ensures, (λ h. h), refl, sym (cell-first _), sym (prefix-nothing _))
 
 same-length : tie.Need-same-length Inv-loop μ-loop
 same-length c = c .before .before .before .before .loop .inv .3
 
 returns : tie.Need-returns Inv-loop μ-loop
-returns c =
+returns c _ =
     let d = c .before .before .before in
     let b = asShape (part d) in
     let none-here = unvalued (text d) _ (now-at d) _ (sym (c .before .before .value-at .ensures .0) ∙ c .enum-told .given .1) in
@@ -131,7 +131,7 @@ loop-again c =
     let l = d .before .loop in (
       omega arith,
       l .inv .1,
-      got k .within,
+      (λ _. got k .within),
       simp length-set (l .inv .3),
       c .next-cell .ensures ∙ next-cell _ _ (within d .0) (within d .1) (line d) (l .inv .4),
       subst (λ w. Left (text d) (from d) (asShape (part d)) (set (values d) (line d) w) (next k) (line d + 1)) (sym (word k))
@@ -142,11 +142,11 @@ same-length-2 : tie.Need-same-length-2 Inv-loop μ-loop
 same-length-2 c = c .before .loop .inv .3
 
 returns-2 : tie.Need-returns-2 Inv-loop μ-loop
-returns-2 c =
+returns-2 c h =
     let l = c .before .loop in
     let a = c .before .before .before .before .args in
     let b = asShape (a .shape) in
-    took-done (a .text .now) (a .from) (spots b) (l .values) (l .p) (l .at) (omega (arith, spots-count b)) (l .inv .2)
+    took-done (a .text .now) (a .from) (spots b) (l .values) (l .p) (l .at) (omega (arith, spots-count b)) (l .inv .2 h)
     (done (a .text .now) (a .from) b (l .values) (l .at) (l .p) (omega arith) (l .inv .5))
 
 pub read-part-spec : {M : Type 1} → statement M

@@ -8,7 +8,8 @@ use lib.ListN.{length}
 use lib.IntN.{ℤ}
 use Rattle.protocol.specs.Text.{unsigned}
 use Rattle.text_parts.specs.Parts.{tablesOf, lengthsOf}
-use Rattle.table_reader.specs.Cut.{cut, start, total, cutTables}
+use Rattle.text_parts.specs.Flat.{cut, start, total}
+use Rattle.table_reader.specs.Cut.{cutTables}
 use Rattle.table_reader.proofs.store.all.Statement.{statement}
 use Rattle.table_reader.proofs.store.all.Tie as tie
 

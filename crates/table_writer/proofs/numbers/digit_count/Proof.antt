@@ -1,6 +1,6 @@
 -- `digit_count`: between two powers of ten.
 use native.Mathlib.Omega.{arith}
-use Rattle.table_writer.proofs.Digits.{counted}
+use Rattle.table_writer.proofs.Digits.{counted, counted-most}
 use Rattle.table_writer.proofs.numbers.digit_count.Statement.{statement}
 use Rattle.table_writer.proofs.numbers.digit_count.Tie as tie
 
@@ -32,7 +32,7 @@ returns-9 : tie.Need-returns-9
 returns-9 c = counted 8 _ (omega arith) (λ h. omega arith) (omega arith)
 
 returns-10 : tie.Need-returns-10
-returns-10 c = counted 9 _ (omega arith) (λ h. omega arith) (omega arith)
+returns-10 c = counted-most _ (omega arith)
 
 pub digit-count-spec : {M : Type 1} → statement M
 digit-count-spec =

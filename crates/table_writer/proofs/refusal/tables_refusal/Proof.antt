@@ -1,5 +1,5 @@
 -- `tables_refusal`: each test in its turn.
-use mathlib.Core.Path.{_≡_, refl, sym, _∙_}
+use mathlib.Core.Path.{_≡_, refl, sym, ap, _∙_}
 use mathlib.Core.Bool.{_&&_}
 use mathlib.Core.List.{List, [], _∷_}
 use Prim.Native.Nat.{ℕ, zero, suc}
@@ -11,7 +11,7 @@ use Rattle.protocol.specs.Basic.{first, unless}
 use Rattle.protocol.specs.Text.{Tables, valueLimit, fits, entriesRefusal}
 use Rattle.protocol.proofs.Inputs.{settings-valid}
 use Rattle.protocol.proofs.Refusals.{first-stops, first-known, first-tested, tested-before, first-only}
-use Rattle.text_parts.specs.Parts.{tablesOf, lengthsOf}
+use Rattle.text_parts.specs.Parts.{tablesOf, partOf, lengthsAre}
 use Rattle.text_parts.proofs.Shallow.{lengths-shallow}
 use Rattle.text_parts.proofs.Exactly.{lengths-fit}
 use Rattle.table_writer.specs.Tables.{tablesRefusal}
@@ -24,7 +24,7 @@ unfolding first
 last-flat zero rest = first-only (first rest)
 last-flat (suc x) rest = refl
 
-allowed : (c : tie.After-settings-refusal) → c .settings-refusal .result ≡ 0 → settingsRefusal (c .before .before .before .before .before .args .settings) ≡ 0
+allowed : (c : tie.After-settings-refusal) → c .settings-refusal .result ≡ 0 → settingsRefusal (c .before .before .before .before .before .before .args .settings) ≡ 0
 allowed c z = sym (c .settings-refusal .ensures) ∙ z
 
 -- refusals 3 to 7
@@ -33,7 +33,7 @@ module _ (c : tie.After-refuse) where
   c₆ = c .before .before
 
   abbrev start : tie.Start
-  start = c₆ .before .before .before .before .before
+  start = c₆ .before .before .before .before .before .before
 
   abbrev S : Settings
   S = start .args .settings
@@ -45,11 +45,10 @@ module _ (c : tie.After-refuse) where
   t = let a = start .args in tablesOf (a .key .now) (a .message .now) (a .commitment .now) (a .rounds .now) (a .challenges .now) (a .last .now)
 
   known : (rest : List ℕ) → first (settingsRefusal S ∷ unless 7 (fits S P t) ∷ rest) ≡ first (c .refuse .result ∷ rest)
-  unfolding lengthsOf
   known rest =
       first-known _ _ (c₆ .settings-refusal .ensures)
       ∙ first-tested _ _ (c .refuse .ensures) (λ z. c .before .fits2 .ensures
-      ∙ lengths-shallow S P _ (settings-valid _ (allowed c₆ z) .depth-most) ∙ lengths-fit S P t)
+      ∙ ap (lengthsAre (partOf S P)) (c₆ .before .lengths-of .ensures) ∙ lengths-shallow S P _ (settings-valid _ (allowed c₆ z) .depth-most) ∙ lengths-fit S P t)
 
 returns : tie.Need-returns
 unfolding tablesRefusal
@@ -72,6 +71,6 @@ returns-2 c =
 pub tables-refusal-spec : {M : Type 1} → statement M
 tables-refusal-spec =
     tie.close
-    (tie.spec (λ c κs. search needs) (λ c κs. search needs) (λ c κs. search needs) returns (λ c κs. search needs) (λ c κs. search needs)
+    (tie.spec (λ c κs. search needs) (λ c κs. search needs) (λ c κs. search needs) (λ c κs. search needs) returns (λ c κs. search needs) (λ c κs. search needs)
     (λ c κs. search needs) (λ c κs. search needs) (λ c κs. search needs) (λ c κs. search needs) (λ c κs. search needs) (λ c κs. search needs)
     (λ c κs. search needs) (λ c κs. search needs) returns-2)

@@ -1,4 +1,4 @@
--- `put_signed`: the spot, a minus where the value is below zero, and its magnitude with a line feed behind it.
+-- `put_line`: the spot, a minus where the value is below zero, and its magnitude with a line feed behind it.
 use mathlib.Core.Path.{_≡_, ap, _∙_}
 use mathlib.Core.List.{List, _∷_, _++_}
 use Prim.Native.Nat.{ℕ, _+_, _≤_}
@@ -10,8 +10,8 @@ use mir.Facts.{toZ-ofZ}
 use Rattle.table_writer.specs.Put.{field, spotText}
 use Rattle.table_writer.proofs.Puts.{put-byte, put-then, put-as}
 use Rattle.table_writer.proofs.LineTexts.{spot-most, line-spot, value-below, value-from}
-use Rattle.table_writer.proofs.lines.put_signed.Statement.{statement}
-use Rattle.table_writer.proofs.lines.put_signed.Tie as tie
+use Rattle.table_writer.proofs.lines.put_line.Statement.{statement}
+use Rattle.table_writer.proofs.lines.put_line.Tie as tie
 
 -- the place behind the spot
 module _ (c : tie.After-put-spot) where
@@ -50,7 +50,7 @@ returns c =
     let a = s .before .before .before .args in
     let fits = s .before .before .before .fits .value in
     put-as
-    (ap (λ n. spotText (a .part) (a .cell) ++ (45 ∷ field n 10)) (m .magnitude .ensures ∙ ap natAbs (toZ-ofZ fits))
+    (ap (λ n. spotText (a .part) (a .cell) ++ (45 ∷ field n 10)) (m .magnitude-wide .ensures ∙ ap natAbs (toZ-ofZ fits))
     ∙ ap (λ e. spotText (a .part) (a .cell) ++ e) (value-below (a .value) fits (t .if1 .taken))
     ∙ line-spot (a .part) (a .cell) (a .value))
     (put-then (s .put-spot .ensures) (put-then (put-byte (after s) (s .put-spot .result) 45 (omega (arith, room s))) (f .put-field .ensures)))
@@ -67,13 +67,13 @@ returns-2 c =
     let a = s .before .before .before .args in
     let fits = s .before .before .before .fits .value in
     put-as
-    (ap (λ n. spotText (a .part) (a .cell) ++ field n 10) (m .magnitude2 .ensures ∙ ap natAbs (toZ-ofZ fits))
+    (ap (λ n. spotText (a .part) (a .cell) ++ field n 10) (m .magnitude-wide2 .ensures ∙ ap natAbs (toZ-ofZ fits))
     ∙ ap (λ e. spotText (a .part) (a .cell) ++ e) (value-from (a .value) fits (t .if1 .left))
     ∙ line-spot (a .part) (a .cell) (a .value))
     (put-then (s .put-spot .ensures) (f .put-field2 .ensures))
 
-pub put-signed-spec : {M : Type 1} → statement M
-put-signed-spec =
+pub put-line-spec : {M : Type 1} → statement M
+put-line-spec =
     tie.close
     (tie.spec (λ c κs. search needs) slice-write-out (λ c κs. search needs) add-put-field put-field-requires same-length returns
     (λ c κs. search needs) put-field-requires-2 (λ c. search needs) returns-2)
