@@ -14,7 +14,8 @@ use Rattle.claims.proofs.Bounds.{rotate-bounded}
 use Rattle.protocol.proofs.Agreement.{rotate-same}
 use Rattle.residues.proofs.Fill.{filled, filled-more, filled-behind, filled-length}
 use Rattle.residues.proofs.Parts.{tail-all}
-use Rattle.prover.specs.Messages.{from, Room}
+use Rattle.half_sums.specs.Room.{Room}
+use Rattle.prover.specs.Messages.{from}
 
 -- number p of the folded elements
 unfoldable pub cell : ℕ → ℕ → ℕ → List ℤ → ℕ → ℤ

@@ -14,7 +14,8 @@ use Rattle.protocol.specs.Inputs.{Valid}
 use Rattle.protocol.proofs.OpeningLaws.{left-power, halfLeft-power, twice-power, left-inside}
 use Rattle.sizes.proofs.Limits.{degree-least, degree-most}
 use Rattle.refusals.proofs.Given.{SmallLeft, RoundGiven}
-use Rattle.prover.specs.Messages.{Room, Halved}
+use Rattle.half_sums.specs.Room.{Room}
+use Rattle.prover.specs.Messages.{Halved}
 
 module _ (S : Settings) (ok : Valid S) (t : ℕ) (l : t < S .depth) where
   abbrev half-cells : ℕ

@@ -1,9 +1,7 @@
 -- What the work on a message and a key asks of them.
 --
 --   from l p           the element whose coefficients stand from place p of the table l on
---   Room n l           the first n numbers of l are small enough that the sum of two of them is a signed number of 32 bits
 --   Small n l          they are small enough for inner products
---   SmallHalf n l      l has n numbers, small enough that sums of two of them are small enough for inner products
 --   Sized q d n ..     modulus, degree and lengths allow inner products of n elements
 --   Tables q d n ..    both have n elements, for inner products modulo q
 --   Halved q d h ..    both have two halves of h elements, for inner products of the halves' sums
@@ -16,15 +14,8 @@ use Rattle.protocol.specs.Element.{Element, width}
 abbrev pub from : List ℤ → ℕ → Element
 from l p k = getD l (p + k) (pos 0)
 
-pub record Room (n : ℕ) (l : List ℤ) : Type 0 where
-  pub each : (j : ℕ) → j < n → natAbs (getD l j (pos 0)) < 2 ^ 30
-
 abbrev pub Small : ℕ → List ℤ → Type 0
 Small n l = (j : ℕ) → j < n → natAbs (getD l j (pos 0)) ≤ 2 ^ 15
-
-pub record SmallHalf (n : ℕ) (l : List ℤ) : Type 0 where
-  pub long : n ≤ length l
-  pub each : (j : ℕ) → j < n → natAbs (getD l j (pos 0)) ≤ 2 ^ 14
 
 pub record Sized (q d n message key : ℕ) : Type 0 where
   pub modulus : 0 < q

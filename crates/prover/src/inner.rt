@@ -1,19 +1,14 @@
 // Inner products of messages and keys, of halves of them and of the sums of halves.
-use crate::half_sums;
 use protocol::Residue;
 use protocol::WIDTH;
-
-// The numbers of half of the largest table.
-const HALF_ROOM: usize = 128 * WIDTH;
-
 ghost use mathlib.Core.Path.{_≡_};
 ghost use Prim.Native.Nat.{_+_, _*_, _-_, _%_, _<_, _≤_};
-ghost use lib.ListN.{length, getD};
+ghost use lib.ListN.{getD};
 ghost use Rattle.protocol.specs.Basic.{tabulate, Provided};
 ghost use Rattle.protocol.specs.Element.{width, padded, signedAt, residueAt};
 ghost use Rattle.protocol.specs.Opening.{cross};
 ghost use Rattle.protocol.specs.Opening as opening;
-ghost use Rattle.prover.specs.Messages.{Sized, Tables, Halved};
+ghost use Rattle.prover.specs.Messages.{Tables, Halved};
 ghost use Rattle.prover.specs.Sums as sums;
 
 // x·y modulo q
@@ -64,16 +59,11 @@ pub fn inner_of_sums(
     message: &[i32],
     key: &[Residue],
 ) -> [Residue; WIDTH]
-    requires { ⌜ Sized q d (2 * h) (length (now message)) (length (now key)) ⌝ }
+    requires { ⌜ (0 < q) × (d ≤ width) ⌝ }
     ensures { λ r. ⌜ Provided (Halved q d h (now (message .entry)) (now (key .entry)))
         (r ≡ sums.scaled q d s (sums.innerOfSums d h (signedAt d (now (message .entry))) (residueAt d (now (key .entry))))) ⌝ }
 {
-    let half = (h as usize) * (d as usize);
-    let mut m = [0i32; HALF_ROOM];
-    let mut g = [0u32; HALF_ROOM];
-    half_sums::message_sums(half, message, &message[half..], &mut m);
-    half_sums::key_sums(q, half, key, &key[half..], &mut g);
-    inner_scaled(q, d, h, s, &m, &g)
+    scaled(q, d, s, products::inner_of_sums(q, d, h, message, key))
 }
 
 // x − a − b modulo q

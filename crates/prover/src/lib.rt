@@ -1,5 +1,4 @@
 // The prover's calls: each tests what it is given, and then works on the tables that it is lent.
-mod half_sums;
 mod inner;
 mod messages;
 pub mod rounds;

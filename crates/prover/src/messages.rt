@@ -4,7 +4,8 @@ ghost use Prim.Native.Nat.{_+_, _*_, _%_, _<_, _≤_};
 ghost use lib.ListN.{length};
 ghost use Rattle.protocol.specs.Element.{width, rotate};
 ghost use Rattle.protocol.specs.Opening.{foldSigned};
-ghost use Rattle.prover.specs.Messages.{from, Room};
+ghost use Rattle.half_sums.specs.Room.{Room};
+ghost use Rattle.prover.specs.Messages.{from};
 
 // Coefficient k of X^e·a, a being the element that stands from place `row` on: plus, minus and plus again as k counts back over places 0 and −d.
 fn rotated(d: usize, e: usize, t: &[i32], row: usize, k: usize) -> i32

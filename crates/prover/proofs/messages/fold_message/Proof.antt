@@ -11,7 +11,7 @@ use Rattle.protocol.specs.Element.{rotate}
 use Rattle.residues.proofs.Fill.{filled, filled-none}
 use Rattle.prover.specs.Messages.{from}
 use Rattle.prover.proofs.Folding.{cell, second-long, second-room, sum-room, turn-is, folding-done}
-use Rattle.prover.proofs.Words.{plus-fits, plus-is}
+use Rattle.half_sums.proofs.Words.{plus-fits, plus-is}
 use Rattle.prover.proofs.messages.fold_message.Statement.{statement}
 use Rattle.prover.proofs.messages.fold_message.Tie as tie
 use Rattle.prover.proofs.messages.fold_message.Reads as reads

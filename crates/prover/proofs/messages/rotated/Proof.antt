@@ -6,7 +6,7 @@ use lib.IntN.{pos, natAbs}
 use lib.ListN.{getD}
 use Rattle.protocol.proofs.Rotation.{rotate-plus, rotate-minus, rotate-again}
 use Rattle.prover.specs.Messages.{from}
-use Rattle.prover.proofs.Words.{read-is, minus-fits, minus-is}
+use Rattle.half_sums.proofs.Words.{read-is, minus-fits, minus-is}
 use Rattle.prover.proofs.messages.rotated.Statement.{statement}
 use Rattle.prover.proofs.messages.rotated.Tie as tie
 

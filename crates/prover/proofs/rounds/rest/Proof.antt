@@ -50,7 +50,7 @@ returns-5 : tie.Need-returns-5
 returns-5 c = λ z. absurd (omega (arith, z .room))
 
 inner-of-sums-requires : tie.Need-inner-of-sums-requires
-inner-of-sums-requires c κs = long (c .before .before .before)
+inner-of-sums-requires c κs = let z = long (c .before .before .before) in (z .modulus, z .degree-most)
 
 write-middle-requires : tie.Need-write-middle-requires
 write-middle-requires c κs = let z = long (c .before .before .before .before .before .before) in (omega (arith, z .degree-most), omega arith, omega arith)

@@ -4,9 +4,9 @@ use native.Mathlib.Omega.{arith}
 use lib.IntN.{natAbs, _+ℤ_}
 use mir.Facts.{toZ-ofZ}
 use borrow.Author.Needs.{needs}
-use Rattle.prover.proofs.Words.{plus-fits, plus-is}
-use Rattle.prover.proofs.half_sums.whole_sum.Statement.{statement}
-use Rattle.prover.proofs.half_sums.whole_sum.Tie as tie
+use Rattle.half_sums.proofs.Words.{plus-fits, plus-is}
+use Rattle.half_sums.proofs.whole_sum.Statement.{statement}
+use Rattle.half_sums.proofs.whole_sum.Tie as tie
 
 add-result : tie.Need-add-result
 add-result c = plus-fits (c .before .limited .result) (c .limited2 .result) (omega (arith, c .before .limited .ensures .0, c .limited2 .ensures .0))

@@ -3,8 +3,8 @@ use native.Mathlib.Omega.{arith}
 use lib.IntN.{natAbs}
 use mir.Facts.{toZ-ofZ}
 use borrow.Author.Needs.{needs}
-use Rattle.prover.proofs.half_sums.limited.Statement.{statement}
-use Rattle.prover.proofs.half_sums.limited.Tie as tie
+use Rattle.half_sums.proofs.limited.Statement.{statement}
+use Rattle.half_sums.proofs.limited.Tie as tie
 
 returns-2 : tie.Need-returns-2
 returns-2 c = let is = ap natAbs (toZ-ofZ (c .before .before .fits .x)) in (omega arith, λ h. absurd (omega (arith, c .before .magnitude .ensures, is)))

@@ -1,6 +1,6 @@
 -- Signed numbers of 32 bits: the sign changed, and a sum, where the magnitudes leave room.
 use mathlib.Core.Path.{_≡_, sym, ap, _∙_, subst}
-use Prim.Native.Nat.{_+_, _^_, _<_, _≤_}
+use Prim.Native.Nat.{_+_, _^_, _<_}
 use native.Mathlib.Omega.{arith}
 use lib.IntN.{ℤ, pos, negℤ, _+ℤ_, _-ℤ_, natAbs, +ℤ-idl}
 use mir.Syntax.{w32}
@@ -16,8 +16,8 @@ read z = toZ w32 (ofZ w32 z)
 pub read-is : (z : ℤ) → natAbs z < 2 ^ 31 → read z ≡ z
 read-is z h = toZ-ofZ (sfits-natAbs {w = w32} z h)
 
-pub read-small : (z : ℤ) → natAbs z ≤ 2 ^ 14 → natAbs (read z) ≤ 2 ^ 14
-read-small z h = subst (λ x. natAbs x ≤ 2 ^ 14) (sym (read-is z (omega arith))) h
+pub read-small : (z : ℤ) → natAbs z < 2 ^ 30 → natAbs (read z) < 2 ^ 30
+read-small z h = subst (λ x. natAbs x < 2 ^ 30) (sym (read-is z (omega arith))) h
 
 module _ (z : ℤ) (h : natAbs z < 2 ^ 31) where
   negated : pos 0 -ℤ read z ≡ negℤ z
