@@ -26,7 +26,7 @@ use Rattle.sizes.proofs.Limits.{degree-most}
 use Rattle.residues.specs.Lists.{filled, spliced}
 use Rattle.residues.specs.Elements.{elementAt}
 use Rattle.residues.proofs.Fill.{zeros-length, element-done}
-use Rattle.prover.specs.Rounds.{elementPlaces, Begun}
+use Rattle.opening_rounds.specs.Rounds.{elementPlaces, Begun}
 use Rattle.protocol.specs.Transcript.{endMet}
 use Rattle.opening.specs.declared.turns.State.{State}
 use Rattle.protocol.proofs.Answers.{opening-number}

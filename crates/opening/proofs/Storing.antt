@@ -20,7 +20,7 @@ use Rattle.protocol.proofs.Ranges.{round-below, rounds-below}
 use Rattle.residues.specs.Lists.{filled, spliced}
 use Rattle.residues.proofs.Parts.{tail-all}
 use Rattle.residues.specs.Elements.{elementAt}
-use Rattle.prover.specs.Rounds.{elementPlaces}
+use Rattle.opening_rounds.specs.Rounds.{elementPlaces}
 use Rattle.opening.specs.Turns.{restStored}
 
 empty : (l : List ℕ) → length l ≡ 0 → l ≡ []

@@ -15,17 +15,17 @@ use Rattle.protocol.specs.Element.{modulo, residueAt, padded}
 use Rattle.protocol.specs.Layout.{width, polynomialAt, roundCells, itemOf}
 use Rattle.protocol.specs.Opening.{roundElement, keyAfter, messageAfter, roundTable}
 use Rattle.protocol.specs.Transcript.{doubled, element, claimAfter, transcriptOf}
-use Rattle.protocol.specs.Calls.{openingRefusal, roundRefusal, roundAnswer, polynomial, foldKeyExit, foldMessageExit}
+use Rattle.protocol.specs.Calls.{openingRefusal, roundRefusal, roundAnswer, polynomial, foldRefusal, foldKeyExit, foldMessageExit}
 use Rattle.protocol.specs.Session.{part}
 use Rattle.protocol.specs.Promises.{Folded}
 use Rattle.claims.proofs.Completeness.{complete}
 use Rattle.claims.proofs.Honest.{Given, degree-positive, modulus-positive}
-use Rattle.claims.proofs.Prover.{round-answer, fold-key, fold-message}
+use Rattle.claims.proofs.Prover.{round-answer, fold-granted, fold-key, fold-message}
 use Rattle.protocol.proofs.OpeningLaws.{round-at}
 use Rattle.sizes.proofs.Limits.{degree-most}
 use Rattle.residues.specs.Lists.{spliced}
 use Rattle.residues.specs.Elements.{elementAt}
-use Rattle.prover.specs.Rounds.{elementPlaces, Continuing}
+use Rattle.opening_rounds.specs.Rounds.{elementPlaces, Continuing}
 use Rattle.opening.specs.declared.turns.State.{State}
 use Rattle.opening.specs.Turns.{restStored, tested, TablesAt, CheckedAt, ProverMove, ProverTurn, VerifierTurn}
 use Rattle.opening.proofs.Inputs.{Lent, lent}
@@ -81,10 +81,10 @@ module _ (S : Settings) (G : List ℕ) (M : List ℤ) (E R : List ℕ) (given : 
 
 -- ---- the prover's move, from what it writes, its fold, and what it writes of the next round
 
-module _ (S : Settings) (t e : ℕ) (claim key : List ℕ) (message : List ℤ) (rounds : List ℕ) (p : List (List ℕ)) (number : ℕ) (key′ : List ℕ) (message′ : List ℤ) (between rounds′ : List ℕ)
+module _ (S : Settings) (t e : ℕ) (claim key : List ℕ) (message : List ℤ) (rounds : List ℕ) (p : List (List ℕ)) (key′ : List ℕ) (message′ : List ℤ) (between rounds′ : List ℕ)
     (rests : Continuing S t key message claim (drop (polynomialAt (S .degree) t) rounds) → between ≡ restStored S t key message rounds)
     (reads : S .degree ≤ width → t ≤ 3280 → p ≡ tabulate 3 (λ j. elementAt (S .degree) between (itemOf t j)))
-    (folds : Folded S t e key message number key′ message′)
+    (folds : foldRefusal S t e key message ≡ 0 → Folded S t e key message 0 key′ message′)
     (starts : roundRefusal S (t + 1) key′ message′ ≡ 0 → polynomialAt (S .degree) (t + 1) + S .degree ≤ length between
     → rounds′ ≡ spliced (elementPlaces (roundElement S (t + 1) key′ message′ 0)) (polynomialAt (S .degree) (t + 1)) (S .degree) between)
     (stops : S .depth ≤ t + 1 → rounds′ ≡ between) where
@@ -120,11 +120,14 @@ module _ (S : Settings) (t e : ℕ) (claim key : List ℕ) (message : List ℤ) 
         ∙ ap (λ r. tabulate 3 (λ j. elementAt d r (itemOf t j))) between-is
         ∙ polynomial-stored S modulus G M E R long t l
 
+    folded : Folded S t e key message 0 key′ message′
+    folded = folds ((λ i. foldRefusal S t (e-is i) (at .key-is i) (at .message-is i)) ∙ fold-granted good t l)
+
     key-is : key′ ≡ keyAfter S E (suc t) G
-    key-is = folds .key-exit ∙ (λ i. foldKeyExit S t (e-is i) (at .key-is i) (at .message-is i)) ∙ fold-key good t l
+    key-is = folded .key-exit ∙ (λ i. foldKeyExit S t (e-is i) (at .key-is i) (at .message-is i)) ∙ fold-key good t l
 
     message-is : message′ ≡ messageAfter S E (suc t) M
-    message-is = folds .message-exit ∙ (λ i. foldMessageExit S t (e-is i) (at .key-is i) (at .message-is i)) ∙ fold-message good t l
+    message-is = folded .message-exit ∙ (λ i. foldMessageExit S t (e-is i) (at .key-is i) (at .message-is i)) ∙ fold-message good t l
 
     -- what stands there next, in a round more or at the end
     more : suc t < L → rounds′ ≡ front X R (3 * suc t * d + d)

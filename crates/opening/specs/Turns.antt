@@ -24,7 +24,7 @@ use Rattle.protocol.specs.Transcript.{roundHolds, nextClaim, claimAfter, holdsA
 use Rattle.protocol.specs.Session.{part}
 use Rattle.protocol.specs.Calls.{openingRefusal, polynomial}
 use Rattle.residues.specs.Lists.{spliced}
-use Rattle.prover.specs.Rounds.{elementPlaces}
+use Rattle.opening_rounds.specs.Rounds.{elementPlaces}
 use Rattle.opening.specs.declared.turns.State.{State}
 
 unfoldable pub restStored : Settings → ℕ → List ℕ → List ℤ → List ℕ → List ℕ

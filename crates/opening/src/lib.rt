@@ -10,9 +10,42 @@ use protocol::Settings;
 use protocol::Verdict;
 use protocol::WIDTH;
 use residues::elements;
+ghost use mathlib.Core.Path.{_≡_};
+ghost use Rattle.protocol.specs.Basic.{Provided};
+ghost use Rattle.protocol.specs.Calls.{openingRefusal};
 ghost use Rattle.protocol.specs.Promises.{Opening};
 
-// The commitment, the round elements, the final element and the verdict. Both tables stay as all folds leave them.
+// The commitment, the round elements, the final element and the verdict, for whoever has tested what `open` tests. Both tables stay as all folds leave them.
+// It is safe for every input.
+pub fn opened(
+    settings: Settings,
+    key: &mut [Residue],
+    message: &mut [i32],
+    challenges: &[u32],
+    rounds: &mut [Residue],
+) -> Opened
+    ensures { λ r. ⌜ Provided (openingRefusal settings (now (key .entry)) (now (message .entry)) (now (challenges .entry)) (now (rounds .entry)) ≡ 0)
+        (Opening settings (now (key .entry)) (now (message .entry)) (now (challenges .entry)) (now (rounds .entry)) r (now (key .exit)) (now (message .exit)) (now (rounds .exit))) ⌝ }
+{
+    let mut commitment = [0u32; WIDTH];
+    opening_rounds::begin(settings, key, message, &mut commitment, rounds);
+    let begun = State {
+        done: 0,
+        claim: commitment,
+        holds: true,
+    };
+    let ended = turns::prover_turn(settings, begun, key, message, challenges, rounds);
+    let last = elements::signed_element_at(settings.degree, message, 0);
+    let verdict = ending::verdict(settings, ended, last, key);
+    Opened {
+        refusal: 0,
+        commitment: commitment,
+        last: last,
+        verdict: verdict,
+    }
+}
+
+// The same as a call.
 pub fn open(
     settings: Settings,
     key: &mut [Residue],
@@ -31,20 +64,5 @@ pub fn open(
             verdict: Verdict::Silent,
         };
     }
-    let mut commitment = [0u32; WIDTH];
-    prover::rounds::begin(settings, key, message, &mut commitment, rounds);
-    let begun = State {
-        done: 0,
-        claim: commitment,
-        holds: true,
-    };
-    let ended = turns::prover_turn(settings, begun, key, message, challenges, rounds);
-    let last = elements::signed_element_at(settings.degree, message, 0);
-    let verdict = ending::verdict(settings, ended, last, key);
-    Opened {
-        refusal: 0,
-        commitment: commitment,
-        last: last,
-        verdict: verdict,
-    }
+    opened(settings, key, message, challenges, rounds)
 }

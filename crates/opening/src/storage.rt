@@ -12,7 +12,7 @@ ghost use Rattle.protocol.specs.Opening.{roundElement};
 ghost use Rattle.protocol.specs.Calls.{roundRefusal};
 ghost use Rattle.residues.specs.Lists.{spliced};
 ghost use Rattle.residues.specs.Elements.{elementAt};
-ghost use Rattle.prover.specs.Rounds.{elementPlaces, Continuing};
+ghost use Rattle.opening_rounds.specs.Rounds.{elementPlaces, Continuing};
 ghost use Rattle.opening.specs.Turns.{restStored};
 
 // c0 of round t + 1, where there is such a round.
@@ -35,7 +35,7 @@ pub fn write_first(
     if rounds.len() < at {
         return;
     }
-    prover::rounds::first_element(settings, t, key, message, &mut rounds[at..]);
+    opening_rounds::first_element(settings, t, key, message, &mut rounds[at..]);
 }
 
 // c1 and c2 of round t + 1, whose c0 stands there and whose claim is given.
@@ -54,7 +54,7 @@ pub fn write_rest(
     if rounds.len() < at {
         return;
     }
-    prover::rounds::rest(settings, t, key, message, &claim, &mut rounds[at..]);
+    opening_rounds::rest(settings, t, key, message, &claim, &mut rounds[at..]);
 }
 
 // The polynomial of round t + 1, by value.

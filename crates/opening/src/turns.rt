@@ -34,7 +34,7 @@ fn prove_round(
 {
     storage::write_rest(settings, t, key, message, claim, rounds);
     let polynomial = storage::polynomial(settings.degree, t, rounds);
-    prover::fold(settings, t, e, key, message);
+    prover::fold_tables(settings, t, e, key, message);
     storage::write_first(settings, t + 1, key, message, rounds);
     polynomial
 }

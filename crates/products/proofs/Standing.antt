@@ -10,9 +10,10 @@ use lib.ListN.{getD, drop}
 use lib.Seq.{getD-drop}
 use Rattle.algebra.specs.Magnitude.{natAbs-neg, natAbs-add, natAbs-mul}
 use Rattle.protocol.specs.Basic.{sum}
-use Rattle.protocol.specs.Element.{modulo, flips, around, rotate, product, residue, signed, residueAt, signedAt, zeros}
+use Rattle.protocol.specs.Element.{Element, modulo, flips, around, rotate, product, residue, signed, residueAt, signedAt, zeros}
 use Rattle.protocol.specs.Opening.{inner}
 use Rattle.protocol.proofs.Modulo.{modulo-add}
+use Rattle.protocol.proofs.Agreement.{Same, product-same}
 use Rattle.residues.proofs.Fill.{filled-at, zeros-at}
 use Rattle.columns.specs.Columns.{addColumns}
 use Rattle.columns.proofs.Words.{word-add}
@@ -48,13 +49,13 @@ module _ (q : ℕ) (p : 0 < q) where
 
 -- ---- one product, by rows and by columns
 
--- the residues of a slice are numbers of 32 bits
-abbrev pub Wide : List ℕ → Type 0
-Wide g = (j : ℕ) → getD g j 0 < 2 ^ 32
+-- the residues of an element are numbers of 32 bits
+abbrev pub Wide : ℕ → List ℕ → Type 0
+Wide d g = (j : ℕ) → j < d → getD g j 0 < 2 ^ 32
 
 -- what adding one product does to a sum
-abbrev Adds : ℕ → ℕ → (List ℤ → List ℕ → List ℕ → List ℕ) → Type 0
-Adds q d add = (f : List ℤ) (g s : List ℕ) (k : ℕ) (z : ℤ) (m : ℕ) → k < d → Small d f → Wide g
+abbrev pub Adds : ℕ → ℕ → (List ℤ → List ℕ → List ℕ → List ℕ) → Type 0
+Adds q d add = (f : List ℤ) (g s : List ℕ) (k : ℕ) (z : ℤ) (m : ℕ) → k < d → Small d f → Wide d g
     → Sum q z m (getD s k 0) → Sum q (z +ℤ product d (signed f) (residue g) k) (m + d) (getD (add f g s) k 0)
 
 pub rows-add : (q d : ℕ) → 0 < q → q ≤ 2 ^ 32 → 0 < d → Adds q d (addProduct q d)
@@ -76,49 +77,48 @@ unfolding flips
 flips-size zero z = refl
 flips-size (suc n) z = natAbs-neg (flips n z) ∙ flips-size n z
 
-product-most : (d : ℕ) (f : List ℤ) (g : List ℕ) (k : ℕ) → Small d f → Wide g → natAbs (product d (signed f) (residue g) k) ≤ d * 2 ^ 48
+product-most : (d : ℕ) → 0 < d → (f : List ℤ) (g : List ℕ) (k : ℕ) → Small d f → Wide d g → natAbs (product d (signed f) (residue g) k) ≤ d * 2 ^ 48
 unfolding product signed
-product-most d f g k small wide = sum-most d (2 ^ 48) _ (λ i l. subst (λ n. n ≤ 2 ^ 48) (sym (natAbs-mul (getD f i (pos 0)) (rotate d i (residue g) k))) (
+product-most d pd f g k small wide = sum-most d (2 ^ 48) _ (λ i l. subst (λ n. n ≤ 2 ^ 48) (sym (natAbs-mul (getD f i (pos 0)) (rotate d i (residue g) k))) (
     Nat.le-trans (Nat.mul-le-mul {n₂ = 2 ^ 16} {m₂ = 2 ^ 32} (small i l) (turned i)) (omega arith)))
   where
     turned : (i : ℕ) → natAbs (rotate d i (residue g) k) ≤ 2 ^ 32
-    turned i = unfold rotate around residue in omega (arith, flips-size ((k + (2 * d - i % (2 * d))) / d) (pos (getD g ((k + (2 * d - i % (2 * d))) % d) 0)), wide ((k + (2 * d - i % (2 * d))) % d))
+    turned i = unfold rotate around residue in omega (arith, flips-size ((k + (2 * d - i % (2 * d))) / d) (pos (getD g ((k + (2 * d - i % (2 * d))) % d) 0)), wide ((k + (2 * d - i % (2 * d))) % d) (Nat.mod-lt (k + (2 * d - i % (2 * d))) pd))
 
 pub columns-add : (q d : ℕ) → 0 < q → Adds q d (addColumns d)
 unfolding addColumns
 columns-add q d p f g s k z m l small wide is =
-    sum-add q p z (product d (signed f) (residue g) k) (product d (signed f) (residue g) k) m d _ _ is (product-most d f g k small wide) refl
+    sum-add q p z (product d (signed f) (residue g) k) (product d (signed f) (residue g) k) m d _ _ is (product-most d (omega arith) f g k small wide) refl
     (filled-at _ d s 0 k l ∙ sym (word-add (getD s k 0) _ (product d (signed f) (residue g) k) refl))
 
--- ---- the sums of an inner product
+-- ---- the sums of an inner product, an element more at a time
 
-module _ (q d : ℕ) (p : 0 < q) (add : List ℤ → List ℕ → List ℕ → List ℕ) (adds : Adds q d add) (f : List ℤ) (g : List ℕ) (wide : Wide g) where
+pub stands-none : (q d : ℕ) → 0 < q → (F G : ℕ → Element) → Stands q d (inner d 0 F G) (0 * d) (zeros 64)
+unfolding inner sum
+stands-none q d p F G = record { each = λ k l. rw (zeros-at 64 k, Nat.zero-mul d) (sum-none q p) }
+
+module _ (q d : ℕ) (add : List ℤ → List ℕ → List ℕ → List ℕ) (adds : Adds q d add) (F G : ℕ → Element) where
+  pub stands-more : (n : ℕ) (f : List ℤ) (g s : List ℕ) → Same d (signed f) (F n) → Same d (residue g) (G n) → Small d f → Wide d g
+      → Stands q d (inner d n F G) (n * d) s → Stands q d (inner d (suc n) F G) (suc n * d) (add f g s)
+  unfolding inner sum
+  stands-more n f g s ef eg small wide at = record {
+    each = λ k l.
+        let pd : 0 < d = omega arith in
+        rw (Nat.suc-mul n d, ← product-same {d = d} pd ef eg k) (adds f g s k _ _ l small wide (at .each k l));
+  }
+
+-- of tables
+module _ (q d : ℕ) (p : 0 < q) (add : List ℤ → List ℕ → List ℕ → List ℕ) (adds : Adds q d add) (f : List ℤ) (g : List ℕ) (wide : (j : ℕ) → getD g j 0 < 2 ^ 32) where
   part-small : (n : ℕ) → Small (suc n * d) f → Small d (drop (n * d) f)
   part-small n small j h = subst (λ z. natAbs z ≤ 2 ^ 16) (sym (getD-drop (n * d) f j (pos 0))) (small (n * d + j) (omega (arith, Nat.suc-mul n d)))
 
-  part-wide : (n : ℕ) → Wide (drop (n * d) g)
-  part-wide n j = subst (λ x. x < 2 ^ 32) (sym (getD-drop (n * d) g j 0)) (wide (n * d + j))
-
-  signed-part : (n : ℕ) → signed (drop (n * d) f) ≡ signedAt d f n
-  unfolding signed signedAt
-  signed-part n = λ t j. getD-drop (n * d) f j (pos 0) t
-
-  residue-part : (n : ℕ) → residue (drop (n * d) g) ≡ residueAt d g n
-  unfolding residue residueAt
-  residue-part n = λ t j. pos (getD-drop (n * d) g j 0 t)
-
-  sum-elements : (k : ℕ) → k < d → (n : ℕ) → Small (n * d) f → Sum q (inner d n (signedAt d f) (residueAt d g) k) (n * d) (getD (elementSums add d f g n (zeros 64)) k 0)
-  unfolding elementSums inner sum
-  sum-elements k l zero small = rw (zeros-at 64 k, Nat.zero-mul d) (sum-none q p)
-  sum-elements k l (suc n) small =
-      let before = sum-elements k l n (λ j h. small j (omega (arith, Nat.suc-mul n d))) in
-      let next = adds (drop (n * d) f) (drop (n * d) g) _ k _ _ l (part-small n small) (part-wide n) before in
-      rw (Nat.suc-mul n d, ← signed-part n, ← residue-part n) next
-
   pub stands-inner : (n : ℕ) → Small (n * d) f → Stands q d (inner d n (signedAt d f) (residueAt d g)) (n * d) (elementSums add d f g n (zeros 64))
-  stands-inner n small = record { each = λ k l. sum-elements k l n small }
+  unfolding elementSums signed signedAt residue residueAt
+  stands-inner zero small = stands-none q d p (signedAt d f) (residueAt d g)
+  stands-inner (suc n) small = stands-more q d add adds (signedAt d f) (residueAt d g) n _ _ _ (λ j _. getD-drop (n * d) f j (pos 0)) (λ j _. ap pos (getD-drop (n * d) g j 0)) (part-small n small)
+      (λ j _. subst (λ x. x < 2 ^ 32) (sym (getD-drop (n * d) g j 0)) (wide (n * d + j))) (stands-inner n (λ j h. small j (omega (arith, Nat.suc-mul n d))))
 
-module _ (q d n : ℕ) (p : 0 < q) (f : List ℤ) (g : List ℕ) (wide : Wide g) (small : Small (n * d) f) (s : List ℕ) where
+module _ (q d n : ℕ) (p : 0 < q) (f : List ℤ) (g : List ℕ) (wide : (j : ℕ) → getD g j 0 < 2 ^ 32) (small : Small (n * d) f) (s : List ℕ) where
   abbrev Whole : List ℕ → Type 0
   Whole = Stands q d (inner d n (signedAt d f) (residueAt d g)) (n * d)
 

@@ -11,6 +11,12 @@
 --   Elements q d n f g     tables of f and g numbers have n elements each
 --   Small n f              the first n numbers of f are small enough for sums
 --   Summable q d n f g     two tables, whose inner product is of n elements
+--   messageSums d h f i    element i of f0 + f1, the halves of f having h elements
+--   keySumAt q d h g i j   coefficient j of element i of g0 + g1, modulo q
+--   keySums q d h g i      that element
+--   Halves q d h f g       two tables, whose halves have h elements and may be added before their inner product is taken
+--   HalvesAt q d h i ..    element i of their first halves, and that of their second halves, begin at these places
+--   HalfSums q .. i m k    m and k begin with element i of these sums
 use mathlib.Core.Bool.{Bool, _&&_}
 use mathlib.Core.List.{List}
 use mathlib.Core.Path.{_≡_}
@@ -18,7 +24,8 @@ use Prim.Native.Nat.{ℕ, zero, suc, _+_, _*_, _-_, _%_, _^_, _<_, _≤_}
 use lib.Dec.{eqb, ltb}
 use lib.IntN.{ℤ, pos, natAbs}
 use lib.ListN.{length, getD, drop}
-use Rattle.protocol.specs.Element.{Element, width, modulo}
+use Rattle.protocol.specs.Element.{Element, width, modulo, plus, signedAt, residueAt}
+use Rattle.protocol.specs.Opening.{second}
 
 -- 256 elements of 64 coefficients
 abbrev pub capacity : ℕ
@@ -64,3 +71,28 @@ pub record Summable (q d n : ℕ) (f : List ℤ) (g : List ℕ) : Type 0 where
   pub elements : Elements q d n (length f) (length g)
   pub few : n * d ≤ capacity
   pub small : Small (n * d) f
+
+unfoldable pub messageSums : ℕ → ℕ → List ℤ → ℕ → Element
+messageSums d h f i = plus (signedAt d f i) (second h (signedAt d f) i)
+
+unfoldable pub keySumAt : ℕ → ℕ → ℕ → List ℕ → ℕ → ℕ → ℕ
+keySumAt q d h g i j = modulo q (plus (residueAt d g i) (second h (residueAt d g) i) j)
+
+abbrev pub keySums : ℕ → ℕ → ℕ → List ℕ → ℕ → Element
+keySums q d h g i j = pos (keySumAt q d h g i j)
+
+pub record Halves (q d h : ℕ) (f : List ℤ) (g : List ℕ) : Type 0 where
+  pub elements : Elements q d (2 * h) (length f) (length g)
+  pub few : h * d ≤ capacity
+  pub small : (j : ℕ) → j < 2 * (h * d) → natAbs (getD f j (pos 0)) ≤ 2 ^ 15
+  pub residues : (j : ℕ) → j < 2 * (h * d) → getD g j 0 < q
+
+pub record HalvesAt (q d h i at behind : ℕ) (f : List ℤ) (g : List ℕ) : Type 0 where
+  pub halves : Halves q d h f g
+  pub inside : i < h
+  pub first : at ≡ i * d
+  pub second-at : behind ≡ h * d + i * d
+
+pub record HalfSums (q d h : ℕ) (f : List ℤ) (g : List ℕ) (i : ℕ) (m : List ℤ) (k : List ℕ) : Type 0 where
+  pub message : (j : ℕ) → j < d → getD m j (pos 0) ≡ messageSums d h f i j
+  pub key : (j : ℕ) → j < d → getD k j 0 ≡ keySumAt q d h g i j

@@ -1,5 +1,7 @@
 // Inner products of elements of whole numbers with elements of residues, modulo q. Products are summed as they are, in numbers of 64 bits, and reduced once.
 // What these sums are is known here alone: a caller sees elements of residues.
+mod halves;
+
 use protocol::Residue;
 use protocol::WIDTH;
 use rows::ROOM;
@@ -13,7 +15,7 @@ ghost use Rattle.protocol.specs.Element.{width, reduced, padded, product, signe
 ghost use Rattle.protocol.specs.Opening as opening;
 ghost use Rattle.rows.specs.Rows.{addProduct};
 ghost use Rattle.columns.specs.Columns.{addColumns};
-ghost use Rattle.products.specs.Sums.{Stands, elementSums, reducedSum, sumIs, multipleIs, Elements, Small, Summable};
+ghost use Rattle.products.specs.Sums.{Stands, elementSums, reducedSum, sumIs, multipleIs, messageSums, keySums, Elements, Small, Summable, Halves};
 ghost use Rattle.products.specs.Sums as sums;
 
 // A sum of products, modulo 2^64.
@@ -107,6 +109,31 @@ pub fn inner(q: u32, d: u32, n: u32, f: &[i32], g: &[Residue]) -> [Residue; WIDT
         return none;
     }
     let sums = inner_sums(q, d, n, f, g);
+    finish(q, d as usize, &sums)
+}
+
+// ⟨f0 + f1, g0 + g1⟩ modulo q, the halves having h elements.
+pub fn inner_of_sums(q: u32, d: u32, h: u32, f: &[i32], g: &[Residue]) -> [Residue; WIDTH]
+    ensures { λ r. ⌜ Provided (Halves q d h (now (f .entry)) (now (g .entry))) (r ≡ padded d (reduced q d (opening.inner d h (messageSums d h (now (f .entry))) (keySums q d h (now (g .entry)))))) ⌝ }
+{
+    let none = [0u32; WIDTH];
+    if q == 0 {
+        return none;
+    }
+    if d == 0 {
+        return none;
+    }
+    if (d as usize) > WIDTH {
+        return none;
+    }
+    let cells = 2 * ((h as usize) * (d as usize));
+    if f.len() < cells {
+        return none;
+    }
+    if g.len() < cells {
+        return none;
+    }
+    let sums = halves::sums(q, d, h, f, g);
     finish(q, d as usize, &sums)
 }
 

@@ -1,9 +1,4 @@
 // The prover's calls: each tests what it is given, and then works on the tables that it is lent.
-mod half_sums;
-mod inner;
-mod messages;
-pub mod rounds;
-
 use protocol::Committed;
 use protocol::Ended;
 use protocol::Polynomial;
@@ -12,7 +7,8 @@ use protocol::Settings;
 use protocol::WIDTH;
 use residues::elements;
 ghost use mathlib.Core.Path.{_≡_};
-ghost use Rattle.protocol.specs.Calls.{commitAnswer, roundAnswer, endAnswer};
+ghost use Rattle.protocol.specs.Basic.{Provided};
+ghost use Rattle.protocol.specs.Calls.{commitAnswer, roundAnswer, foldRefusal, endAnswer};
 ghost use Rattle.protocol.specs.Promises.{Folded};
 
 // The commitment to a message.
@@ -63,11 +59,22 @@ pub fn round(settings: Settings, done: u32, key: &[Residue], message: &[i32]) ->
     let d = settings.degree;
     let h = sizes::half_left(settings, done);
     let s = equations::half_power(q, done + 1);
-    let elements = inner::polynomial(q, d, h, s, message, key);
+    let elements = round_products::polynomial(q, d, h, s, message, key);
     polynomial_of(0, elements)
 }
 
-// The fold of both tables by X^e. Nothing is written before the last test.
+// The fold of both tables by X^e, for whoever has tested what `fold` tests. It is safe for every input.
+pub fn fold_tables(settings: Settings, done: u32, e: u32, key: &mut [Residue], message: &mut [i32])
+    ensures { λ _. ⌜ Provided (foldRefusal settings done e (now (key .entry)) (now (message .entry)) ≡ 0)
+        (Folded settings done e (now (key .entry)) (now (message .entry)) 0 (now (key .exit)) (now (message .exit))) ⌝ }
+{
+    let d = settings.degree;
+    let h = sizes::half_left(settings, done);
+    folds::fold_residues(settings.modulus, d, h, e, key);
+    message_folds::fold_message(d, h, e, message);
+}
+
+// The same as a call. Nothing is written before the last test.
 pub fn fold(settings: Settings, done: u32, e: u32, key: &mut [Residue], message: &mut [i32]) -> u32
     ensures { λ r. ⌜ Folded settings done e (now (key .entry)) (now (message .entry)) r (now (key .exit)) (now (message .exit)) ⌝ }
 {
@@ -75,10 +82,7 @@ pub fn fold(settings: Settings, done: u32, e: u32, key: &mut [Residue], message:
     if refusal != 0 {
         return refusal;
     }
-    let d = settings.degree;
-    let h = sizes::half_left(settings, done);
-    folds::fold_residues(settings.modulus, d, h, e, key);
-    messages::fold_message(d as usize, h as usize, e as usize, message);
+    fold_tables(settings, done, e, key, message);
     0
 }
 

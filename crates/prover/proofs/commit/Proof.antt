@@ -4,8 +4,8 @@ use Rattle.protocol.specs.Element.{width, zeros, padded, reduced, signedAt, res
 use Rattle.protocol.specs.Opening.{left, inner}
 use Rattle.protocol.specs.Calls.{commitRefusal}
 use Rattle.prover_refusals.proofs.Given.{CommitGiven, commit-given}
-use Rattle.prover.specs.Messages.{Tables}
-use Rattle.prover.proofs.Products.{summable, commit-tables, commitment-is}
+use Rattle.round_products.specs.Messages.{Tables}
+use Rattle.round_products.proofs.Products.{summable, commit-tables, commitment-is}
 use Rattle.prover.proofs.Answers.{commit-refused, commit-done}
 use borrow.Author.Needs.{needs}
 use Rattle.prover.proofs.commit.Statement.{statement}

@@ -5,9 +5,9 @@ use Rattle.protocol.specs.Element.{width, zeros, signedAt, residueAt}
 use Rattle.protocol.specs.Opening.{halfLeft, cross}
 use Rattle.protocol.specs.Calls.{noPolynomial, roundRefusal}
 use Rattle.prover_refusals.proofs.Given.{RoundGiven, round-given}
-use Rattle.prover.specs.Sums.{scaled}
-use Rattle.prover.proofs.Halves.{round-tables}
-use Rattle.prover.proofs.Products.{polynomial-is}
+use Rattle.round_products.specs.Sums.{scaled}
+use Rattle.round_products.proofs.Halves.{round-tables}
+use Rattle.round_products.proofs.Products.{polynomial-is}
 use Rattle.prover.proofs.Answers.{round-refused, round-done}
 use borrow.Author.Needs.{needs}
 use Rattle.prover.proofs.round.Statement.{statement}
@@ -30,10 +30,6 @@ returns c = let a = c .before .before .before .before .args in
 add-half-power : tie.Need-add-half-power
 add-half-power c = let g = given (c .before) in omega (arith, g .turn, g .tables .settings .depth-most)
 
-polynomial-requires : tie.Need-polynomial-requires
-polynomial-requires c κs = let h = c .before in let a = h .before .before .before .before .args in
-    rw (half-is h) (round-tables (a .settings) (a .done) (a .key .now) (a .message .now) (given (h .before)))
-
 returns-2 : tie.Need-returns-2
 returns-2 c =
     let h = c .before .before .before in
@@ -42,12 +38,12 @@ returns-2 c =
     let g = given (h .before) in
     let power = c .before .before .half-power .ensures (omega (arith, g .tables .settings .modulus-least)) in
     round-done S (a .done) (a .key .now) (a .message .now) _ (passed (h .before)) (c .polynomial-of2 .ensures .0)
-    (c .polynomial-of2 .ensures .1 ∙ c .before .polynomial .ensures
+    (c .polynomial-of2 .ensures .1 ∙ c .before .polynomial .ensures (rw (half-is h) (round-tables S (a .done) (a .key .now) (a .message .now) g))
     ∙ (λ i. tabulate 3 (λ j. scaled (S .modulus) (S .degree) (power i) (cross (S .degree) (half-is h i) (signedAt (S .degree) (a .message .now)) (residueAt (S .degree) (a .key .now)) j)))
     ∙ polynomial-is S (a .done) (a .key .now) (a .message .now) (omega (arith, g .tables .settings .modulus-least)))
 
 pub round-spec : {M : Type 1} → statement M
 round-spec =
     tie.close
-    (tie.spec (λ c κs. search needs) (λ c κs. search needs) returns (λ c κs. search needs) add-half-power (λ c κs. search needs) polynomial-requires
+    (tie.spec (λ c κs. search needs) (λ c κs. search needs) returns (λ c κs. search needs) add-half-power (λ c κs. search needs) (λ c κs. search needs)
     (λ c κs. search needs) returns-2)

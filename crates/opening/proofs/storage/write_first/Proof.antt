@@ -8,7 +8,7 @@ use Rattle.prover_refusals.proofs.Given.{round-given}
 use Rattle.sizes.proofs.Limits.{degree-most}
 use Rattle.residues.specs.Lists.{spliced}
 use Rattle.residues.proofs.Parts.{tail-length}
-use Rattle.prover.specs.Rounds.{elementPlaces}
+use Rattle.opening_rounds.specs.Rounds.{elementPlaces}
 use Rattle.opening.proofs.Storing.{put-first}
 use borrow.Author.Needs.{needs}
 use Rattle.opening.proofs.storage.write_first.Statement.{statement}

@@ -8,7 +8,7 @@ use Rattle.prover_refusals.proofs.Given.{round-given}
 use Rattle.sizes.proofs.Limits.{degree-least, degree-most}
 use Rattle.residues.specs.Lists.{spliced}
 use Rattle.residues.proofs.Parts.{tail-all}
-use Rattle.prover.specs.Rounds.{elementPlaces, Continuing}
+use Rattle.opening_rounds.specs.Rounds.{elementPlaces, Continuing}
 use Rattle.opening.specs.Turns.{restStored}
 use Rattle.opening.proofs.Storing.{put-rest}
 use borrow.Author.Needs.{needs}

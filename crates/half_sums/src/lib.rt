@@ -1,0 +1,65 @@
+// The sums of the two halves of a table, number by number; the second half comes as a part of the table. Every public function is safe for every input.
+use protocol::Residue;
+use ranges::tests;
+ghost use mathlib.Core.Path.{_≡_};
+ghost use Prim.Native.Nat.{_+_, _%_, _^_, _<_, _≤_};
+ghost use lib.IntN.{pos, natAbs, _+ℤ_};
+ghost use lib.ListN.{length, getD};
+ghost use Rattle.protocol.specs.Basic.{Provided};
+ghost use Rattle.residues.specs.Lists.{filled};
+ghost use Rattle.residues.specs.Residues.{Residues};
+ghost use Rattle.half_sums.specs.Room.{Room, Long};
+
+// x, or 0 where it is so large that two such numbers may have no sum of 32 bits.
+fn limited(x: i32) -> i32
+    ensures { λ r. ⌜ (natAbs r < 2 ^ 30) × Provided (natAbs x < 2 ^ 30) (r ≡ x) ⌝ }
+{
+    if tests::magnitude(x) < 1073741824 {
+        return x;
+    }
+    0
+}
+
+fn whole_sum(x: i32, y: i32) -> i32
+    ensures { λ r. ⌜ Provided (natAbs x < 2 ^ 30) (Provided (natAbs y < 2 ^ 30) (r ≡ x +ℤ y)) ⌝ }
+{
+    limited(x) + limited(y)
+}
+
+// Of a message, whose halves have n numbers.
+pub fn message_sums(n: usize, first: &[i32], second: &[i32], sums: &mut [i32])
+    ensures { λ _. ⌜ Provided (Long n (length (now (first .entry))) (length (now (second .entry))) (length (now (sums .entry)))) (Provided (Room n (now (first .entry))
+        × Room n (now (second .entry))) (now (sums .exit) ≡ filled (λ p. getD (now (first .entry)) p (pos 0) +ℤ getD (now (second .entry)) p (pos 0)) n (now (sums .entry)))) ⌝ }
+{
+    if first.len() < n {
+        return;
+    }
+    if second.len() < n {
+        return;
+    }
+    if sums.len() < n {
+        return;
+    }
+    for p in 0..n {
+        sums[p] = whole_sum(first[p], second[p]);
+    }
+}
+
+// Of a key, modulo q.
+pub fn key_sums(q: u32, n: usize, first: &[Residue], second: &[Residue], sums: &mut [Residue])
+    ensures { λ _. ⌜ Provided (Long n (length (now (first .entry))) (length (now (second .entry))) (length (now (sums .entry)))) (Provided (Residues q n 0 (now (first .entry))
+        × Residues q n 0 (now (second .entry))) (now (sums .exit) ≡ filled (λ p. (getD (now (first .entry)) p 0 + getD (now (second .entry)) p 0) % q) n (now (sums .entry)))) ⌝ }
+{
+    if first.len() < n {
+        return;
+    }
+    if second.len() < n {
+        return;
+    }
+    if sums.len() < n {
+        return;
+    }
+    for p in 0..n {
+        sums[p] = residues::plus(q, first[p], second[p]);
+    }
+}

@@ -1,0 +1,51 @@
+-- The loop keeps: the first k numbers are in place, the others are as they were.
+use mathlib.Core.Path.{_≡_, refl, sym, ap, _∙_}
+use Prim.Native.Nat.{ℕ, _+_, _*_, _-_, _%_, _≤_}
+use native.Mathlib.Nat.{zero-add}
+use native.Mathlib.Omega.{arith}
+use lib.ListN.{length, getD, length-set}
+use Rattle.protocol.specs.Basic.{Provided}
+use Rattle.residues.specs.Lists.{spliced}
+use Rattle.residues.specs.Residues.{BothBelow, Residues}
+use Rattle.residues.proofs.Splice.{spliced-none, spliced-turn, spliced-end}
+use Rattle.opening_rounds.specs.Rounds.{halfOf, HalvesBelow, middleAt, lastAt}
+use Rattle.opening_rounds.proofs.Claimed.{minus-is}
+use borrow.Author.Needs.{needs}
+use Rattle.opening_rounds.proofs.write_middle.Statement.{statement}
+use Rattle.opening_rounds.proofs.write_middle.Tie as tie
+use Rattle.opening_rounds.proofs.write_middle.Reads as reads
+use Rattle.opening_rounds.proofs.write_middle.Lts as lts
+use Rattle.opening_rounds.proofs.halved.Reads as halved-reads
+
+abbrev Inv-loop : tie.InvT-loop
+Inv-loop q d x claim p₀ k₀ p k = (k ≤ d) × Provided (Residues q d 0 x × HalvesBelow q d claim) (p ≡ spliced (middleAt q x claim) d k p₀) × (length p ≡ length p₀)
+
+abbrev μ-loop : tie.MeasureT-loop
+μ-loop q d x claim p₀ k₀ p k = d - k
+
+loop-holds : tie.Need-loop-holds Inv-loop μ-loop
+loop-holds c = (omega arith, (λ _. spliced-none _ _ _), refl)
+
+loop-again : tie.Need-loop-again Inv-loop μ-loop
+loop-again c =
+    let a = c .before .before .before .before .before .before .before .before .before .args in
+    let l = c .before .before .before .before .before .loop in
+    let x = getD (a .x .now) (l .k) 0 in (
+      omega arith,
+      (λ h.
+          let here : x ≡ getD (a .x .now) (0 + l .k) 0 = ap (λ j. getD (a .x .now) j 0) (sym (zero-add (l .k))) in
+          let below : BothBelow (a .q) x (c .before .halved .result) =
+          record { left = omega (arith, here, h .0 .each (l .k) (omega arith)); right = omega (arith, c .before .halved .ensures, h .1 .each (l .k) (omega arith)) } in
+          spliced-turn _ _ (l .k) _ (l .inv .1 h) (c .minus .ensures below ∙ minus-is below ∙ ap (λ z. (x + (a .q - z)) % a .q) (c .before .halved .ensures)) (omega arith)),
+      simp length-set (omega arith),
+    )
+
+returns : tie.Need-returns Inv-loop μ-loop
+returns c = λ h. spliced-end _ _ _ (c .before .loop .inv .1 h) (omega arith)
+
+pub write-middle-spec : {M : Type 1} → statement M
+write-middle-spec =
+    tie.close
+    (tie.spec Inv-loop μ-loop loop-holds (λ c. search needs) (λ c. search needs) (λ c. search needs) (λ c. search needs) (λ c κs. search needs)
+    (λ c κs. search needs) (λ c. search needs) (λ c. search needs) (λ c. search needs) (λ c. search needs) (λ c. search needs) loop-again
+    (λ c. search needs) returns)

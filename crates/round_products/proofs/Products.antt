@@ -1,0 +1,148 @@
+-- Inner products of two tables and of halves of them, the commitment and the round polynomial, from the sums that the code reduces.
+use mathlib.Core.Path.{_≡_, refl, sym, ap, _∙_, subst}
+use mathlib.Core.List.{List}
+use Prim.Native.Nat.{ℕ, _+_, _*_, _-_, _/_, _%_, _^_, _<_, _≤_}
+use native.Mathlib.Nat as Nat
+use native.Mathlib.Omega.{arith}
+use lib.IntN.{ℤ, pos, natAbs, _*ℤ_}
+use lib.ListN.{length, getD, take, drop, length-drop}
+use lib.Pow as Pow
+use lib.Seq.{getD-drop}
+use Rattle.protocol.specs.declared.Settings.{Settings}
+use Rattle.protocol.specs.Basic.{tabulate}
+use Rattle.protocol.specs.Element.{Element, modulo, times, padded, reduced, signedAt, residueAt}
+use Rattle.protocol.specs.Settings.{size, cells, half}
+use Rattle.protocol.specs.Opening.{inner, second, cross, left, halfLeft, commitment, roundElement}
+use Rattle.protocol.specs.Calls.{polynomial}
+use Rattle.protocol.specs.Inputs.{Valid}
+use Rattle.protocol.proofs.Modulo.{modulo-times, mod-times}
+use Rattle.protocol.proofs.Reading.{tabulate-ext}
+use Rattle.protocol.proofs.Agreement.{Same, sum-ext, product-same}
+use Rattle.sizes.proofs.Limits.{degree-least, degree-most}
+use Rattle.products.specs.Sums.{Summable}
+use Rattle.residues.proofs.Parts.{tail-all}
+use Rattle.residues.proofs.Padding.{padded-at}
+use Rattle.prover_refusals.proofs.Given.{CommitGiven}
+use Rattle.round_products.specs.Messages.{Sized, Tables}
+use Rattle.round_products.specs.Sums.{scaled}
+
+pub inner-same : (d h : ℕ) → 0 < d → {m m′ G G′ : ℕ → Element} → ((i : ℕ) → i < h → Same d (m i) (m′ i)) → ((i : ℕ) → i < h → Same d (G i) (G′ i)) → (k : ℕ) → inner d h m G k ≡ inner d h m′ G′ k
+unfolding inner
+inner-same d h p a b k = sum-ext h (λ i l. product-same p (a i l) (b i l) k)
+
+pub tables-sized : (q d n : ℕ) (m : List ℤ) (G : List ℕ) → Tables q d n m G → Sized q d n (length m) (length G)
+tables-sized q d n m G t = record {
+  modulus = t .modulus;
+  modulus-most = t .modulus-most;
+  degree = t .degree;
+  degree-most = t .degree-most;
+  elements = t .elements;
+  message-long = t .message-long;
+  key-long = t .key-long;
+}
+
+-- small enough for a sum
+pub summable : (q d n : ℕ) (m : List ℤ) (G : List ℕ) → Tables q d n m G → Summable q d n m G
+summable q d n m G t = record {
+  elements = record { modulus = t .modulus; degree = t .degree; degree-most = t .degree-most; f-long = t .message-long; g-long = t .key-long };
+  few = Nat.mul-le-mul {n₂ = 256} {m₂ = 64} (t .elements) (t .degree-most);
+  small = λ j l. omega (arith, t .message-small j l);
+}
+
+-- a multiple of an element that is reduced
+pub scaled-is : (q d s : ℕ) → 0 < q → (a : Element) (l : List ℕ) → l ≡ padded d (reduced q d a) → padded d (tabulate d (λ k. s * getD l k 0 % q)) ≡ scaled q d s a
+unfolding scaled reduced times
+scaled-is q d s p a l e = ap (padded d) (tabulate-ext d (λ k h. ap (λ x. s * x % q) (ap (λ x. getD x k 0) e ∙ padded-at d (λ j. modulo q (a j)) k h) ∙ sym (modulo-times q p s (a k))))
+
+-- by a number that is itself reduced
+pub scaled-mod : (q d s : ℕ) → 0 < q → (a : Element) → scaled q d (s % q) a ≡ padded d (reduced q d (times (pos s) a))
+unfolding scaled reduced times
+scaled-mod q d s p a = ap (padded d) (tabulate-ext d (λ k h. modulo-times q p (s % q) (a k) ∙ mod-times q p s (modulo q (a k)) ∙ sym (modulo-times q p s (a k))))
+
+-- ---- halves
+
+module _ (q d h : ℕ) (m : List ℤ) (G : List ℕ) (t : Tables q d (2 * h) m G) where
+  twice : 2 * h * d ≡ h * d + h * d
+  twice = ap (λ n. n * d) (Nat.two-mul h) ∙ Nat.add-mul h h d
+
+  -- the first half or the second of either table
+  halves : (a b : ℕ) → a ≤ h * d → b ≤ h * d → Tables q d h (drop a m) (drop b G)
+  halves a b x y = record {
+    modulus = t .modulus;
+    modulus-most = t .modulus-most;
+    degree = t .degree;
+    degree-most = t .degree-most;
+    elements = omega (arith, t .elements);
+    message-long = omega (arith, length-drop a m, t .message-long, twice);
+    key-long = omega (arith, length-drop b G, t .key-long, twice);
+    message-small = λ j l. subst (λ z. natAbs z ≤ 2 ^ 15) (sym (getD-drop a m j (pos 0))) (t .message-small (a + j) (omega (arith, twice)));
+  }
+
+  -- as the code hands the second halves on
+  abbrev m1 : List ℤ
+  m1 = take (length m - h * d) (drop (h * d) m)
+
+  abbrev G1 : List ℕ
+  G1 = take (length G - h * d) (drop (h * d) G)
+
+  pub first-halves : Tables q d h m G
+  first-halves = halves 0 0 (omega arith) (omega arith)
+
+  pub second-halves : Tables q d h m1 G1
+  second-halves = subst (λ m′. Tables q d h m′ G1) (sym (tail-all (h * d) m))
+      (subst (λ G′. Tables q d h (drop (h * d) m) G′) (sym (tail-all (h * d) G)) (halves (h * d) (h * d) (Nat.le-refl _) (Nat.le-refl _)))
+
+  pub second-message : (i : ℕ) → Same d (signedAt d m1 i) (second h (signedAt d m) i)
+  unfolding signedAt second
+  second-message i k l = ap (λ x. getD x (i * d + k) (pos 0)) (tail-all (h * d) m) ∙ getD-drop (h * d) m (i * d + k) (pos 0) ∙ ap (λ n. getD m n (pos 0)) (omega (arith, Nat.add-mul h i d))
+
+  pub second-key : (i : ℕ) → Same d (residueAt d G1 i) (second h (residueAt d G) i)
+  unfolding residueAt second
+  second-key i k l = ap pos (ap (λ x. getD x (i * d + k) 0) (tail-all (h * d) G) ∙ getD-drop (h * d) G (i * d + k) 0 ∙ ap (λ n. getD G n 0) (omega (arith, Nat.add-mul h i d)))
+
+  abbrev crossing : ℕ → Element
+  crossing = cross d h (signedAt d m) (residueAt d G)
+
+  pub cross-first : inner d h (signedAt d m) (residueAt d G) ≡ crossing 0
+  unfolding cross
+  cross-first = refl
+
+  pub cross-last : (s : ℕ) → scaled q d s (inner d h (signedAt d m1) (residueAt d G1)) ≡ scaled q d s (crossing 2)
+  unfolding cross scaled reduced times
+  cross-last s = ap (padded d) (tabulate-ext d (λ k l. ap (λ z. modulo q (pos s *ℤ z)) (inner-same d h (t .degree) (λ i l. second-message i) (λ i l. second-key i) k)))
+
+-- ---- the commitment
+
+pub left-whole : (S : Settings) → left S 0 ≡ size S
+unfolding left
+left-whole S = Nat.div-one (size S)
+
+pub commit-tables : (S : Settings) (key : List ℕ) (message : List ℤ) → CommitGiven S key message → Tables (S .modulus) (S .degree) (left S 0) message key
+unfolding cells size
+commit-tables S key message g = subst (λ n. Tables (S .modulus) (S .degree) n message key) (sym (left-whole S)) (record {
+  modulus = omega (arith, ok .modulus-least);
+  modulus-most = omega (arith, ok .modulus-most);
+  degree = omega (arith, degree-least S ok);
+  degree-most = degree-most S ok;
+  elements = Pow.pow-mono {j = 8} (ok .depth-most);
+  message-long = Nat.le-of-eq (sym (g .message-given .long));
+  key-long = Nat.le-of-eq (sym (g .tables .key-given .long));
+  message-small = λ j l. omega (arith, g .message-given .each j l, ok .bound-most);
+})
+  where
+    ok : Valid S
+    ok = g .tables .settings
+
+pub commitment-is : (S : Settings) (key : List ℕ) (message : List ℤ)
+    → padded (S .degree) (reduced (S .modulus) (S .degree) (inner (S .degree) (left S 0) (signedAt (S .degree) message) (residueAt (S .degree) key))) ≡ padded (S .degree) (commitment S key message)
+unfolding commitment
+commitment-is S key message = ap (λ n. padded (S .degree) (reduced (S .modulus) (S .degree) (inner (S .degree) n (signedAt (S .degree) message) (residueAt (S .degree) key)))) (left-whole S)
+
+-- ---- the round polynomial
+
+pub polynomial-is : (S : Settings) (t : ℕ) (key : List ℕ) (message : List ℤ) → 0 < S .modulus
+    → tabulate 3 (λ j. scaled (S .modulus) (S .degree) (((S .modulus + 1) / 2) ^ (t + 1) % S .modulus)
+    (cross (S .degree) (halfLeft S t) (signedAt (S .degree) message) (residueAt (S .degree) key) j)) ≡ polynomial S t key message
+unfolding polynomial roundElement half
+polynomial-is S t key message p =
+    tabulate-ext 3 (λ j l. scaled-mod (S .modulus) (S .degree) (half S ^ (t + 1)) p (cross (S .degree) (halfLeft S t) (signedAt (S .degree) message) (residueAt (S .degree) key) j))
