@@ -6,10 +6,14 @@
 --   room                2^62: how far from 0 a sum may be that is joined
 --   Halves q z b s t    the numbers s and t of 64 bits are sums over lower and over upper halves, at most b from 0, that stand for z modulo q
 --   Ready q j           j joins sums modulo q: its offset is a multiple of q that makes a sum positive and leaves it below 2^64
+--   Splittable n ..     n numbers are there to be split, and have room in both tables
+--   Stand q d F s t     the first d sums of s and of t stand for the element F modulo q, and may be joined
+use mathlib.Core.List.{List}
 use mathlib.Core.Path.{_≡_}
 use Prim.Native.Nat.{ℕ, _*_, _/_, _%_, _^_, _<_, _≤_}
 use lib.IntN.{ℤ, pos, natAbs, _+ℤ_, _*ℤ_}
-use Rattle.protocol.specs.Element.{modulo}
+use lib.ListN.{length, getD}
+use Rattle.protocol.specs.Element.{Element, width, modulo}
 use Rattle.modular.specs.Factors.{Prepared}
 use Rattle.joins.specs.declared.Joint.{Joint}
 
@@ -39,3 +43,14 @@ pub record Ready (q : ℕ) (j : Joint) : Type 0 where
   pub divided : j .offset % q ≡ 0
   pub least : room ≤ j .offset
   pub most : j .offset ≤ 2 ^ 63
+
+pub record Splittable (n x lower upper : ℕ) : Type 0 where
+  pub there : n ≤ x
+  pub lower-room : n ≤ lower
+  pub upper-room : n ≤ upper
+
+pub record Stand (q d : ℕ) (F : Element) (s t : List ℕ) : Type 0 where
+  pub degree : d ≤ width
+  pub lowers : d ≤ length s
+  pub uppers : d ≤ length t
+  pub each : (k : ℕ) → k < d → Halves q (F k) room (getD s k 0) (getD t k 0)

@@ -1,5 +1,7 @@
 // Sums of products with residues of up to 61 bits, in numbers of 64 bits: they run twice, over the lower 31 bits of the residues and over the upper 30, and are
 // joined once. Every function is safe for every input.
+pub mod elements;
+
 use modular::factors;
 use modular::factors::Factor;
 ghost use mathlib.Core.Path.{_≡_};
