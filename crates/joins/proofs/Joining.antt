@@ -73,6 +73,29 @@ module _ (q n c : ℕ) (a : ℕ → ℤ) (x : ℕ → ℕ) (small : (i : ℕ) �
 
 -- ---- sums that grow
 
+pub halves-same : (q : ℕ) (z y : ℤ) (b s t : ℕ) → modulo q z ≡ modulo q y → Halves q z b s t → Halves q y b s t
+halves-same q z y b s t e H = record {
+  lower = H .lower;
+  upper = H .upper;
+  lower-size = H .lower-size;
+  upper-size = H .upper-size;
+  lower-bits = H .lower-bits;
+  upper-bits = H .upper-bits;
+  value = H .value ∙ e;
+}
+
+-- one product
+pub halves-product : (q : ℕ) (a : ℤ) (x c : ℕ) → natAbs a ≤ c → x < 2 ^ 62 → Halves q (a *ℤ pos x) (c * weight) (modulo (2 ^ 64) (a *ℤ pos (lowerHalf x))) (modulo (2 ^ 64) (a *ℤ pos (upperHalf x)))
+halves-product q a x c small below = record {
+  lower = a *ℤ pos (lowerHalf x);
+  upper = a *ℤ pos (upperHalf x);
+  lower-size = Nat.le-trans (Nat.le-of-eq (natAbs-mul a (pos (lowerHalf x)))) (Nat.mul-le-mul {m₂ = weight} small (omega arith));
+  upper-size = Nat.le-trans (Nat.le-of-eq (natAbs-mul a (pos (upperHalf x)))) (Nat.mul-le-mul {m₂ = weight} small (omega arith));
+  lower-bits = refl;
+  upper-bits = refl;
+  value = ap (modulo q) (product-halves a x);
+}
+
 module _ (q : ℕ) (p : 0 < q) where
   pub halves-none : Halves q (pos 0) 0 0 0
   unfolding modulo
