@@ -10,7 +10,7 @@ use Rattle.joins.proofs.elements.split.Statement.{statement}
 use Rattle.joins.proofs.elements.split.Tie as tie
 
 abbrev Inv-loop : tie.InvT-loop
-Inv-loop n x lower₀ upper₀ k₀ lower upper k = 
+Inv-loop n x lower₀ upper₀ k₀ lower upper k =
     (k ≤ n) × (lower ≡ filled (λ (j : ℕ). lowerHalf (getD x j 0)) k lower₀) × (upper ≡ filled (λ (j : ℕ). upperHalf (getD x j 0)) k upper₀)
     × (length lower ≡ length lower₀) × (length upper ≡ length upper₀)
 
