@@ -1,13 +1,13 @@
 // The names line and the settings, with which every text begins.
 use crate::lines::all_lines;
 use crate::lines::value_at;
-use crate::names::begins_with_names;
 use protocol::Loaded;
 use protocol::Number;
 use protocol::Settings;
 use protocol::TEXT_LIMIT;
 use protocol::VALUE_LIMIT;
 use ranges::tests::settings_refusal;
+use text_names::begins_with_names;
 ghost use mathlib.Core.Path.{_≡_};
 ghost use mathlib.Core.Bool.{false};
 ghost use lib.ListN.{drop};

@@ -2,7 +2,6 @@
 // `protocol`'s specs/Text.antt and specs/Lines.antt.
 mod header;
 mod lines;
-mod names;
 mod numbers;
 
 pub use header::Begun;
@@ -14,6 +13,5 @@ pub use header::refused;
 pub use header::unsigned;
 pub use lines::read_line;
 pub use lines::value_at;
-pub use names::begins_with_names;
 pub use numbers::read_count;
 pub use numbers::read_number;

@@ -1,4 +1,4 @@
-// The names line, the first of every text.
+// The names line, the first of every text. What is asked of it is said by `beginsWithNames` of `protocol`'s specs/Text.antt.
 ghost use mathlib.Core.Path.{_≡_};
 ghost use Rattle.protocol.specs.Text.{begins as beginsWith, beginsWithNames};
 

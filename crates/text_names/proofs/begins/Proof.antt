@@ -10,8 +10,8 @@ use lib.Dec.{eqb}
 use lib.ListN.{length, getD, drop, drop-of-length-le}
 use Rattle.protocol.specs.Text.{begins}
 use Rattle.text_parts.proofs.From.{from-cons}
-use Rattle.text_lines.proofs.names.begins.Statement.{statement}
-use Rattle.text_lines.proofs.names.begins.Tie as tie
+use Rattle.text_names.proofs.begins.Statement.{statement}
+use Rattle.text_names.proofs.begins.Tie as tie
 
 -- what is left from place i on
 abbrev left : List ℕ → List ℕ → ℕ → Bool

@@ -1,8 +1,8 @@
 -- `begins_with_names`: the bytes that it asks for are those of the names line.
 use borrow.Author.Needs.{needs}
 use Rattle.protocol.specs.Text.{bytes, names, beginsWithNames}
-use Rattle.text_lines.proofs.names.begins_with_names.Statement.{statement}
-use Rattle.text_lines.proofs.names.begins_with_names.Tie as tie
+use Rattle.text_names.proofs.begins_with_names.Statement.{statement}
+use Rattle.text_names.proofs.begins_with_names.Tie as tie
 
 slice-aggregate-begins : tie.Need-slice-aggregate-begins
 slice-aggregate-begins c = search needs
