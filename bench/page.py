@@ -29,6 +29,7 @@ GOALS = [(call + ', ' + LARGE, beside, most)
 GOALS += [('tree check, ' + LARGE, FAST, 1.5), ('tree check, ' + LARGE, PATHS, 0.1), ('extract, d = 64, L = 3', FAST, 1.5), ('extract, d = 4, L = 8', FAST, 1.5),
           ('read, 65536 bytes', FAST, 1.5), ('write, 65536 bytes', FAST, 1.5), ('open, ' + LARGE, FAST, 0.4)]
 GOALS += [(call + ', d = 4, L = 8', FAST, 2.0) for call in ('commit', 'open', 'judge')] + [(call + ', ' + LARGE, FAST, 1.3) for call in ('check', 'session')]
+GOALS += [('names line, 1000 times', 'C, a loop of bytes', 0.5)]
 
 
 def origin(names):

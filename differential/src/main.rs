@@ -11,7 +11,7 @@
 use differential::calls::{
     Check, Commit, End, Extract, Fold, Judge, Large, Largest, Moves, Opening,
 };
-use differential::calls::{Look, Prove, Read, Verify, Write};
+use differential::calls::{names_lines, Look, Prove, Read, Verify, Write};
 use differential::calls::{ProverRound, SessionEnd, SessionRound, Sessions, SettingsCase, Start};
 use differential::case::{self, Case, Difference};
 use differential::report::Report;
@@ -39,8 +39,21 @@ impl Run {
         if self.random.one_in(4) {
             case.disturb(&mut self.random);
         }
+        self.given(case)
+    }
+
+    fn given<C: Case>(&mut self, case: C) -> Result<(), Difference> {
         let (outcome, authors) = case::check(&case)?;
         self.report.count(C::NAME, &outcome, &authors);
+        Ok(())
+    }
+
+    /// Texts that end inside the names line, and texts with another byte in it.
+    fn names(&mut self) -> Result<(), Difference> {
+        for text in names_lines() {
+            self.given(Look::at(text.clone()))?;
+            self.given(Verify::of(text))?;
+        }
         Ok(())
     }
 
@@ -94,6 +107,7 @@ impl Run {
         self.call::<Extract>(4_000, 120)?;
         self.call::<Large>(0, 18)?;
         self.call::<Largest>(0, 6)?;
+        self.names()?;
         self.call::<Look>(10_000, 100)?;
         self.call::<Read>(10_000, 200)?;
         self.call::<Write>(10_000, 200)?;

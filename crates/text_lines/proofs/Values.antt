@@ -10,15 +10,17 @@ use mathlib.Core.List.{List, [], _∷_, _++_, append-assoc, append-nil}
 use mathlib.Core.Option.{Option, none, some, bind}
 use Prim.Native.Nat.{ℕ, _+_, _-_, _≤_}
 use native.Mathlib.Omega.{arith}
+use native.Mathlib.Decide.{decLt}
 use borrow.Author.Tests.{eq-eqb, ne-eqb, eqb-true}
 use lib.Dec.{eqb}
 use lib.ListN.{length, drop}
 use lib.IntN.{ℤ}
 use Rattle.protocol.specs.declared.Number.the-variants.{Value, Refused}
-use Rattle.protocol.specs.Text.{Spot, Line, bytes, names, settingsShape, spots, keep, readLine, begins, beginsWithNames, sameSpot, numberAnswer}
+use Rattle.protocol.specs.Text.{Spot, Line, bytes, names, settingsShape, spots, keep, readLine, beginsWithNames, sameSpot, numberAnswer}
 use Rattle.protocol.proofs.Tests.{and-split, and-intro}
 use Rattle.protocol.specs.Lines.{spot, readValue, readValues, readSettings}
 use Rattle.protocol.proofs.NumeralLaws.{keep-some}
+use Rattle.text_names.proofs.Names.{names-short}
 use Rattle.text_lines.proofs.Counts.{Suffix, Found, found, keep-yes, keep-no, answer-value, answer-refused}
 use Rattle.text_lines.proofs.Rows.{bind-some, bind-none, line-suffix}
 
@@ -152,15 +154,8 @@ pub behind-names : (text : List ℕ) → drop (length names) text ≡ drop 22 te
 unfolding names bytes
 behind-names text = refl
 
-begins-long : (cs bs : List ℕ) → begins cs bs ≡ true → length cs ≤ length bs
-unfolding begins
-begins-long [] bs t = omega arith
-begins-long (c ∷ cs) [] t = absurd (false≢true t)
-begins-long (c ∷ cs) (b ∷ bs) t = omega (arith, begins-long cs bs (and-split {a = eqb b c} {b = begins cs bs} t .1))
-
 pub names-long : (text : List ℕ) → beginsWithNames text ≡ true → 22 ≤ length text
-unfolding beginsWithNames names bytes
-names-long text t = begins-long _ text t
+names-long text t = elim (decLt (length text) 22) [ yes l ↦ absurd (false≢true (sym (names-short text l) ∙ t)) | no g ↦ omega arith ]
 
 -- the lines behind the names line, by the test whether it is there
 abbrev named : List ℕ → Bool → Option (List ℤ × List ℕ)

@@ -106,6 +106,23 @@ fn lengths(input: &TextInput) -> [usize; 6] {
     input.lengths.unwrap_or(wanted)
 }
 
+/// A short text that is cut at each place of its names line, or has another
+/// byte at one of its places: all of them, and the text itself.
+pub fn names_lines() -> Vec<Vec<u8>> {
+    const TEXT: &[u8] = b"part item place value\n0 0 0 2\n0 0 1 0\n0 0 2 17\n0 0 3 1\n";
+    const NAMES: usize = 22;
+    let mut texts = vec![TEXT.to_vec()];
+    for place in 0..NAMES {
+        texts.push(TEXT[..place].to_vec());
+        for byte in (0..=u8::MAX).filter(|&b| b != TEXT[place]) {
+            let mut text = TEXT.to_vec();
+            text[place] = byte;
+            texts.push(text);
+        }
+    }
+    texts
+}
+
 /// A first look at a text's settings.
 #[derive(Clone)]
 pub struct Look {
@@ -122,16 +139,22 @@ fn stored_settings(answer: ReadAnswer, slice: &mut Vec<u32>) -> u32 {
     answer.number
 }
 
+impl Look {
+    pub fn at(text: Vec<u8>) -> Look {
+        Look {
+            text,
+            settings: vec![u32::MAX; SETTINGS],
+        }
+    }
+}
+
 impl Call for Look {
     const NAME: &'static str = "look";
     const NUMBERS: &'static [u32] = &[0, 1, 2, 3, 4, 5, 6, 7];
     const SLICES: &'static [&'static str] = &["settings"];
 
     fn draw(random: &mut Random, limits: &Limits) -> Look {
-        Look {
-            text: any_text(random, limits).text(),
-            settings: vec![u32::MAX; SETTINGS],
-        }
+        Look::at(any_text(random, limits).text())
     }
 
     fn settings(&self) -> Option<Settings> {
@@ -571,6 +594,13 @@ pub struct Verify {
 }
 
 impl Verify {
+    pub fn of(text: Vec<u8>) -> Verify {
+        Verify {
+            text,
+            verdict: u32::MAX,
+        }
+    }
+
     fn said(&mut self, answer: Verification) -> u32 {
         let (number, verdict) = match answer {
             Verification::Accepted => (0, ACCEPTED),
@@ -590,10 +620,7 @@ impl Call for Verify {
     const FAST: bool = true;
 
     fn draw(random: &mut Random, limits: &Limits) -> Verify {
-        Verify {
-            text: any_text(random, limits).text(),
-            verdict: u32::MAX,
-        }
+        Verify::of(any_text(random, limits).text())
     }
 
     fn settings(&self) -> Option<Settings> {
