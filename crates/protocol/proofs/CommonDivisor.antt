@@ -1,6 +1,6 @@
 -- Laws of the greatest common divisor: it is what its name says, it is the only such number, Euclid's steps keep it, and a power of 4 shares no factor with an
 -- odd number.
-use mathlib.Core.Path.{_≡_, refl, sym, ap, _∙_, subst}
+use mathlib.Core.Path.{_≡_, refl, ap, _∙_, subst}
 use Prim.Native.Nat.{ℕ, zero, suc, _+_, _*_, _/_, _%_, _^_, _<_, _≤_, _∣_}
 use native.Mathlib.Nat as Nat
 use native.Mathlib.Omega.{arith}
