@@ -133,7 +133,7 @@ traps =
     ∷ number (judgeRefusal S₁ (15 ∷ 17 ∷ []) 17 key₁ message₁) 8
     ∷ number (judgeRefusal S₁ (15 ∷ 4 ∷ []) 65_537 key₁ message₁) 15
     ∷ number (judgeRefusal S₁ (15 ∷ 4 ∷ []) 0 key₁ message₁) 15
-    -- a slack that shares a factor with q is refused, and no "no", also where the factor is neither of the two; 16 and 15 share none
+    -- a slack in its range that shares a factor with q is refused, be it a multiple of q, a divisor of it or neither; one that shares none is not
     ∷ number (judgeRefusal S₁ (15 ∷ 4 ∷ []) 34 key₁ message₁) 15
     ∷ number (judgeRefusal (set 2 1 15 1) (0 ∷ 0 ∷ []) 3 key₁ message₁) 15
     ∷ number (judgeRefusal (set 2 1 15 1) (0 ∷ 0 ∷ []) 5 key₁ message₁) 15
