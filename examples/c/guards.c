@@ -617,7 +617,7 @@ static const struct scenario scenarios[] = {
     {"session_end", session_end, session_end_input, 0, {FAULTY_RECORD(2), IN_SLICE(8, 1, 0, 17), IN_SLICE(11, 2, 4, 0), NO_MORE}},
     {"check", check, check_input, 0, {FAULTY_SETTINGS, IN_SLICE(8, 0, 0, 17), IN_SLICE(8, 2, 0, 17), IN_SLICE(8, 3, 0, 17), IN_SLICE(10, 4, 0, 4), NO_MORE}},
     {"judge", judge, judge_input, 0, {FAULTY_SETTINGS, IN_SLICE(8, 0, 0, 17), IN_SLICE(8, 1, 0, 17), IN_SLACK(15, 0),
-        IN_SLACK(15, 65537), NO_MORE}},
+        IN_SLACK(15, 65537), IN_SLACK(15, 17), NO_MORE}},
     {"judge, growth", judge, large_judge_input, 14, {IN_SLICE(8, 0, 0, 17), IN_SLACK(14, 0), NO_MORE}},
     {"extract", extract, extract_input, 0, {FAULTY_SETTINGS, IN_SLICE(8, 0, 0, 17), IN_SLICE(8, 1, 0, 17), IN_SLICE(8, 2, 0, 17), IN_SLICE(10, 3, 0, 4),
         IN_SLICE(12, 3, 0, 1), IN_SLICE(13, 4, 0, 1), IN_SLICE(13, 4, 0, 3), NO_MORE}},

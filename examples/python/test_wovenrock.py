@@ -55,6 +55,7 @@ class WorkedExample(unittest.TestCase):
         self.assertEqual(w, [4, -4, 4, 0])
         self.assertTrue(self.library.judge(self.settings, COMMITMENT, 4, KEY, w))
         self.assertFalse(self.library.judge(self.settings, COMMITMENT, 5, KEY, w))
+        self.refused(15, self.library.judge, self.settings, COMMITMENT, 17, KEY, [0, 0, 0, 0])
         self.refused(12, self.library.extract, self.settings, COMMITMENT, KEY, ROUNDS, [0, 1, 1], leaves)
 
     def test_text(self):

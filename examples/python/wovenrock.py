@@ -157,7 +157,7 @@ class Library:
         return verdict.value == ACCEPTED
 
     def judge(self, settings, commitment, slack, key, w):
-        """Whether w opens slack times the commitment within its bound. Refusals 7, 8, 14, 15."""
+        """Whether w opens slack times the commitment within its bound. Refusals 7, 8, 14, and 15, also where the slack shares a factor with q."""
         yes = ctypes.c_uint32()
         arguments = (*_lent([_u32(commitment)]), _word(slack), *_lent([_u32(key), _i64(w)]))
         self._call("judge", *map(_word, settings), *arguments, ctypes.byref(yes))

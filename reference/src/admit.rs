@@ -144,7 +144,7 @@ pub fn judge(
     refuse::residues(key, shape.q)?;
     refuse::element_residues(commitment, &shape)?;
     let bound = refuse::growth(&shape)?;
-    refuse::slack(c)?;
+    refuse::slack(c, &shape)?;
     Ok((shape, bound))
 }
 

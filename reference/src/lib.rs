@@ -1,8 +1,8 @@
 //! Reference implementation of lane table openings by a sumcheck argument.
 //!
-//! It is written from document 01 (the scope) alone, in safe Rust, without
-//! dependencies. `plain` is the simple version that is meant to be obviously
-//! right; `fast` gives the same answers quickly. Each has its own refusals:
+//! It is written from documents 01 (the scope) and 02 (the requests) alone, in
+//! safe Rust, without dependencies. `plain` is the simple version that is meant
+//! to be obviously right; `fast` gives the same answers quickly. Each has its own refusals:
 //! `plain` in `plain::refusals`; for `fast`, `refuse` holds the table and
 //! `admit` runs it for each call. `types` holds the settings, the session
 //! record and the answers. `draw` makes drawn inputs from the

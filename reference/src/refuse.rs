@@ -150,7 +150,17 @@ pub fn growth(shape: &Shape) -> Checked<i64> {
     Ok(product as i64)
 }
 
-/// Refusal 15.
-pub fn slack(c: u32) -> Checked<()> {
-    unless(SLACK, (1..=65_536).contains(&c))
+/// The greatest common divisor.
+pub fn common_divisor(a: u32, b: u32) -> u32 {
+    if b == 0 {
+        a
+    } else {
+        common_divisor(b, a % b)
+    }
+}
+
+/// Refusal 15: the slack is from 1 to 65,536 and shares no factor with q.
+pub fn slack(c: u32, shape: &Shape) -> Checked<()> {
+    unless(SLACK, (1..=65_536).contains(&c))?;
+    unless(SLACK, common_divisor(c, shape.q) == 1)
 }

@@ -167,6 +167,21 @@ fn known_extraction() {
     assert!(judge(listing(), commitment, 4, &KEY, &w).yes);
 }
 
+/// Document 02, point 3: the equation holds, as 17 times anything is 0.
+#[test]
+fn known_slack_with_a_common_factor() {
+    let commitment = residues(&[15, 4]);
+    let answer = judge(listing(), commitment, 17, &KEY, &[0; 4]);
+    assert_eq!((answer.number, answer.yes), (15, false));
+    let zero = judge(listing(), ZERO_RESIDUES, 18, &KEY, &[0; 4]);
+    assert_eq!((zero.number, zero.yes), (0, true));
+    for (c, number) in [(3, 15), (5, 15), (6, 15), (15, 15), (16, 0), (1, 0)] {
+        let s = Settings::new(2, 1, 15, 1);
+        let answer = judge(s, ZERO_RESIDUES, c, &KEY, &[0; 4]);
+        assert_eq!((answer.number, answer.yes), (number, number == 0), "{c}");
+    }
+}
+
 #[test]
 fn known_depth_zero() {
     let s = Settings::new(2, 0, 17, 1);

@@ -273,6 +273,9 @@ fn judgements() {
     let mut random = Random::new(11);
     let mut seen = BTreeSet::new();
     let mut yes = [0; 2];
+    // Slacks in range that share a factor with q: w with and without numbers
+    // that are not 0.
+    let mut shared = [0; 2];
     for _ in 0..2 * DRAWS {
         let (mut input, own) = tables::judge(&mut random, &Limits::new(1024, 0));
         let expected = smaller(own, damage_some(&mut random, &mut input));
@@ -287,9 +290,13 @@ fn judgements() {
         assert!(expected == 0 || !answer.yes);
         seen.insert(expected);
         yes[usize::from(answer.yes)] += 1;
+        if expected == 15 && (1..=65_536).contains(&input.c) {
+            shared[usize::from(input.w.iter().all(|&x| x == 0))] += 1;
+        }
     }
     assert_all(&seen, &[3, 4, 5, 6, 7, 8, 14, 15]);
     assert!(yes.iter().all(|&count| count > 100));
+    assert!(shared.iter().all(|&count| count > 100));
 }
 
 fn extract(input: &tree::Tree) -> (u32, Vec<i64>) {

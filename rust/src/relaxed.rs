@@ -3,9 +3,10 @@
 use crate::{library, Judgement, Refusal, Settings};
 
 /// The judge: is `slack` times the commitment the sum of w_i·G_i modulo q, and
-/// no coefficient of w beyond (12·d²)^L·B? The commitment has exactly
-/// [`Settings::element_len`] numbers, key and w [`Settings::table_len`].
-/// Refusals 7, 8, 14, 15.
+/// no coefficient of w beyond (12·d²)^L·B? A slack that shares a factor with q
+/// is refused: it would open commitments that have nothing behind them. The
+/// commitment has exactly [`Settings::element_len`] numbers, key and w
+/// [`Settings::table_len`]. Refusals 7, 8, 14, 15.
 ///
 /// ```
 /// use wovenrock::{judge, Refusal, Settings};
@@ -15,6 +16,7 @@ use crate::{library, Judgement, Refusal, Settings};
 /// assert!(judge(settings, &commitment, 4, &key, &w)?.is_opening());
 /// assert!(!judge(settings, &commitment, 5, &key, &w)?.is_opening());
 /// assert_eq!(judge(settings, &commitment, 0, &key, &w), Err(Refusal::Slack));
+/// assert_eq!(judge(settings, &commitment, 17, &key, &[0; 4]), Err(Refusal::Slack));
 /// # Ok::<(), Refusal>(())
 /// ```
 pub fn judge(

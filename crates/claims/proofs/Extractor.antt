@@ -25,6 +25,7 @@ use Rattle.protocol.proofs.Tests.{and-intro, every-intro, first-nothing}
 use Rattle.protocol.proofs.Refusals.{first-passes, first-holds, first-fails}
 use Rattle.protocol.proofs.Inputs.{valid-settings, below-tested, below-sized, within-tested}
 use Rattle.protocol.proofs.Acceptance.{accepted-test}
+use Rattle.protocol.proofs.CommonDivisor.{power-of-four}
 use Rattle.claims.proofs.Bounds.{Bounded}
 use Rattle.protocol.proofs.Ranges.{accepted-commitment}
 use Rattle.claims.proofs.Honest.{degree-positive, modulus-positive}
@@ -33,10 +34,14 @@ use Rattle.claims.proofs.Extraction.{extracts}
 use Rattle.claims.proofs.Exactness.{exact}
 use Rattle.claims.proofs.Growth.{root-within}
 
--- 1 ≤ 4^L ≤ 65,536 for L ≤ 8
-slack-allowed : (S : Settings) → S .depth ≤ 8 → slackAllowed S (slack S) ≡ true
+-- 1 ≤ 4^L ≤ 65,536 for L ≤ 8, and 4^L shares no factor with an odd number
+slack-allowed : (S : Settings) → Valid S → slackAllowed S (slack S) ≡ true
 unfolding slackAllowed slack
-slack-allowed S l = and-intro (le-leb _ _ (Nat.one-le-pow (S .depth) 4 (omega arith))) (le-leb _ _ (Nat.pow-le-pow-right (omega arith) l))
+slack-allowed S ok =
+    and-intro (and-intro
+    (le-leb _ _ (Nat.one-le-pow (S .depth) 4 (omega arith)))
+    (le-leb _ _ (Nat.pow-le-pow-right (omega arith) (ok .depth-most))))
+    (eq-eqb _ _ (power-of-four (S .depth) (S .modulus) (ok .modulus-odd)))
 
 differ : (a b : ℕ) → a ≢ b → not (eqb a b) ≡ true
 differ a b ne = ap not (ne-eqb a b ne)
@@ -119,7 +124,7 @@ module _ (S : Settings) (ok : Valid S) (G C rounds E : List ℕ) (finals : List 
 
   module _ (room : growth S ≤ growthLimit) where
     judge-granted : judgeRefusal S C (slack S) G root ≡ 0
-    judge-granted = growth-passed root (in-bound .long) room .0 (slack S) (slack-allowed S (ok .depth-most))
+    judge-granted = growth-passed root (in-bound .long) room .0 (slack S) (slack-allowed S ok)
 
     judge-yes : judged S G C (slack S) root ≡ true
     unfolding judged opens

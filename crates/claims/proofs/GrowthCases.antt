@@ -23,7 +23,7 @@ module _ (q : ℕ) (G C rounds E : List ℕ) (finals w : List ℤ) where
   unfolding growth growthFactor growthLimit
   refused-by-14 ok key tree long = growth-refused (set 64 4 q 1) ok G C rounds E finals key tree w long (omega arith)
 
-  -- for every slack in its range
+  -- for every slack that is allowed
   pub not-refused-by-14 : let S = set 32 4 q 127 in Valid S → Below q (cells S) G → FullTree S G C rounds E finals → length w ≡ cells S
       → ((c : ℕ) → slackAllowed S c ≡ true → judgeRefusal S C c G w ≡ 0) × (extractRefusal S C G rounds E finals w ≡ 0)
   unfolding growth growthFactor growthLimit

@@ -20,6 +20,7 @@ pub mod Exactness
 pub mod Norms
 pub mod Growth
 pub mod HonestTree
+pub mod Slack
 pub mod Extractor
 pub mod GrowthCases
 pub mod Demand3

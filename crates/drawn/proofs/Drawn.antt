@@ -61,18 +61,17 @@ drawn =
     ∷ checkRow (set 2 1 17 1) (full (10 ∷ 4 ∷ [])) (fullSigned (pos 0 ∷ pos 0 ∷ [])) (0 ∷ 13 ∷ 7 ∷ 17 ∷ []) (15 ∷ 2 ∷ 15 ∷ 8 ∷ 7 ∷ 0 ∷ []) (8 ∷ []) 8 Silent Cause.none
     ∷ judgeRow (set 4 1 159862635 127) (full (81404006 ∷ 54242653 ∷ 138359219 ∷ 141569981 ∷ [])) 1 (149098563 ∷ 129531506 ∷ 60891178 ∷ 9738363 ∷ 146842420 ∷ 143223015 ∷ 49762118 ∷
     13091250 ∷ []) (pos 119 ∷ pos 9 ∷ pos 76 ∷ negsuc 86 ∷ pos 33 ∷ pos 9 ∷ pos 66 ∷ pos 72 ∷ []) 0 true
-    ∷ judgeRow (set 4 1 3 53) (full (2 ∷ 1 ∷ 1 ∷ 2 ∷ [])) 16 (2 ∷ 0 ∷ 0 ∷ 1 ∷ 2 ∷ 1 ∷ 0 ∷ 0 ∷ []) (negsuc 10177 ∷ negsuc 15 ∷ negsuc 111 ∷ pos 160 ∷ pos 48 ∷ pos 304 ∷ negsuc 335 ∷
-    negsuc 559 ∷ []) 0 false
-    ∷ judgeRow (set 2 1 7325 2) (full (1729 ∷ 3 ∷ [])) 2 (7148 ∷ 1391 ∷ 1220 ∷ 3680 ∷ []) (pos 4 ∷ pos 4 ∷ pos 3 ∷ pos 2 ∷ []) 0 false
-    ∷ judgeRow (set 4 1 2147483645 56) (full (820404888 ∷ 83713350 ∷ 1115639148 ∷ 1468660233 ∷ [])) 65537 (187096294 ∷ 1421808783 ∷ 2117324477 ∷ 1564533317 ∷ 1578172249 ∷
-    1217620248 ∷ 998070847 ∷ 260144963 ∷ []) (pos 2147483701 ∷ pos 56 ∷ pos 56 ∷ pos 56 ∷ pos 56 ∷ pos 56 ∷ pos 56 ∷ pos 56 ∷ []) 15 false
-    ∷ extractRow (set 2 0 17 1) (full (13 ∷ 14 ∷ [])) (12 ∷ 8 ∷ []) ([]) ([]) (negsuc 0 ∷ negsuc 0 ∷ []) (pos 0 ∷ pos 0 ∷ []) 0 (negsuc 0 ∷ negsuc 0 ∷ [])
-    ∷ extractRow (set 2 1 9 2) (full (7 ∷ 6 ∷ [])) (1 ∷ 0 ∷ 8 ∷ 8 ∷ []) (5 ∷ 8 ∷ 4 ∷ 0 ∷ 3 ∷ 4 ∷ []) (0 ∷ 2 ∷ 1 ∷ []) (pos 3 ∷ negsuc 2 ∷ negsuc 0 ∷ negsuc 0 ∷ pos 2 ∷ pos 0 ∷ [])
-    (pos 0 ∷ pos 0 ∷ pos 0 ∷ pos 0 ∷ []) 0 (pos 4 ∷ negsuc 7 ∷ pos 8 ∷ negsuc 3 ∷ [])
-    ∷ extractRow (set 4 1 2147483647 3) (full (195046545 ∷ 2023887090 ∷ 424729486 ∷ 1835986662 ∷ [])) (726894310 ∷ 1852663830 ∷ 1078024854 ∷ 1283963000 ∷ 1658779345 ∷ 1455491565 ∷
-    1099572080 ∷ 733397414 ∷ []) (559895099 ∷ 409972951 ∷ 526695816 ∷ 1294432402 ∷ 1017367399 ∷ 1457606132 ∷ 1070533961 ∷ 416230681 ∷ 611369997 ∷ 601970594 ∷ 1833152574 ∷
-    1771044576 ∷ []) (5 ∷ 6 ∷ 4 ∷ []) (pos 0 ∷ pos 0 ∷ negsuc 2 ∷ pos 3 ∷ pos 0 ∷ negsuc 2 ∷ negsuc 2 ∷ pos 0 ∷ pos 3 ∷ pos 0 ∷ pos 0 ∷ pos 3 ∷ []) (pos 0 ∷ pos 0 ∷ pos 0 ∷ pos 0 ∷
-    pos 0 ∷ pos 0 ∷ pos 0 ∷ pos 0 ∷ []) 0 (pos 12 ∷ pos 0 ∷ negsuc 11 ∷ pos 0 ∷ pos 0 ∷ pos 0 ∷ negsuc 11 ∷ negsuc 11 ∷ [])
+    ∷ judgeRow (set 2 1 9 31) (full (6 ∷ 6 ∷ [])) 1 (5 ∷ 3 ∷ 8 ∷ 2 ∷ []) (negsuc 21 ∷ pos 1497 ∷ pos 5 ∷ pos 25 ∷ []) 0 false
+    ∷ judgeRow (set 4 1 49 120) (full (16 ∷ 3 ∷ 25 ∷ 29 ∷ [])) 1 (42 ∷ 22 ∷ 11 ∷ 22 ∷ 33 ∷ 3 ∷ 48 ∷ 40 ∷ []) (negsuc 68 ∷ pos 27 ∷ pos 79 ∷ negsuc 22 ∷ negsuc 107 ∷ negsuc 102 ∷
+    negsuc 34 ∷ pos 46 ∷ []) 0 false
+    ∷ judgeRow (set 2 1 5161 1) (full (1676 ∷ 1206 ∷ [])) 29549 (235 ∷ 1441 ∷ 1950 ∷ 3541 ∷ []) (pos 1 ∷ pos 5160 ∷ pos 0 ∷ pos 0 ∷ []) 15 false
+    ∷ extractRow (set 2 0 17 1) (full (0 ∷ 2 ∷ [])) (1 ∷ 16 ∷ []) ([]) ([]) (negsuc 0 ∷ pos 1 ∷ []) (pos 0 ∷ pos 0 ∷ []) 0 (negsuc 0 ∷ pos 1 ∷ [])
+    ∷ extractRow (set 2 1 9 2) (full (8 ∷ 5 ∷ [])) (8 ∷ 3 ∷ 2 ∷ 3 ∷ []) (5 ∷ 2 ∷ 4 ∷ 7 ∷ 8 ∷ 5 ∷ []) (0 ∷ 3 ∷ 1 ∷ []) (pos 4 ∷ pos 4 ∷ pos 4 ∷ pos 0 ∷ pos 0 ∷ pos 4 ∷ []) (pos 0 ∷
+    pos 0 ∷ pos 0 ∷ pos 0 ∷ []) 0 (pos 8 ∷ pos 8 ∷ pos 8 ∷ pos 8 ∷ [])
+    ∷ extractRow (set 4 1 2147483647 3) (full (1836713352 ∷ 1749362599 ∷ 1098075206 ∷ 917011019 ∷ [])) (412229675 ∷ 1612515842 ∷ 432875950 ∷ 1297954386 ∷ 14090276 ∷ 2039817066 ∷
+    1634612975 ∷ 2032009284 ∷ []) (181895377 ∷ 1402258059 ∷ 1976528830 ∷ 1518919701 ∷ 407052587 ∷ 1999604749 ∷ 954068712 ∷ 750661460 ∷ 736461299 ∷ 546165064 ∷ 719992420 ∷ 13327632
+    ∷ []) (3 ∷ 4 ∷ 2 ∷ []) (negsuc 1 ∷ pos 1 ∷ negsuc 3 ∷ pos 5 ∷ negsuc 3 ∷ negsuc 0 ∷ pos 1 ∷ pos 0 ∷ pos 0 ∷ negsuc 3 ∷ pos 1 ∷ pos 3 ∷ []) (pos 0 ∷ pos 0 ∷ pos 0 ∷ pos 0 ∷ pos
+    0 ∷ pos 0 ∷ pos 0 ∷ pos 0 ∷ []) 0 (negsuc 7 ∷ negsuc 3 ∷ negsuc 3 ∷ pos 12 ∷ pos 8 ∷ pos 0 ∷ negsuc 7 ∷ pos 12 ∷ [])
     ∷ extractRow (set 2 1 17 1) (full (2 ∷ 14 ∷ [])) (16 ∷ 14 ∷ 13 ∷ 2 ∷ []) (6 ∷ 1 ∷ 3 ∷ 15 ∷ 12 ∷ 6 ∷ []) (3 ∷ 0 ∷ 2 ∷ []) (pos 1 ∷ pos 0 ∷ pos 2 ∷ pos 1 ∷ pos 1 ∷ pos 2 ∷ [])
     (pos 0 ∷ pos 0 ∷ pos 0 ∷ pos 0 ∷ []) 0 (pos 6 ∷ pos 6 ∷ pos 2 ∷ negsuc 1 ∷ [])
     ∷ extractRow (set 4 1 9 2) (full (3 ∷ 0 ∷ 1 ∷ 0 ∷ [])) (7 ∷ 8 ∷ 5 ∷ 6 ∷ 6 ∷ 7 ∷ 2 ∷ 3 ∷ []) (3 ∷ 3 ∷ 1 ∷ 6 ∷ 6 ∷ 6 ∷ 7 ∷ 4 ∷ 3 ∷ 6 ∷ 4 ∷ 3 ∷ []) (0 ∷ 3 ∷ 1 ∷ []) (negsuc 2 ∷

@@ -9,6 +9,7 @@ use Rattle.protocol.specs.Transcript.{endCause, doubled, roundHolds, nex
 use Rattle.protocol.specs.Session.{slots, verdict, opened, blank, startRefusal, start, refusedMove, shut, part, sessionRoundRefusal, advanced, sessionRoundHolds, round, sessionEndRefusal, sessionEndHolds, end}
 use Rattle.protocol.specs.Tree.{child, parent, place, above, challenge, challengeTo, apart, gap, steps, s, difference, mu, share, joined, combined, growthFactor, growthLimit}
 use Rattle.protocol.specs.Tree.{nodes, leaves, onPath, pathChallenges, pathRounds, leaf, path, foldTo, vector, rootVector, growth, growthAllowed}
+use Rattle.protocol.specs.CommonDivisor.{euclid, greatestCommonDivisor}
 use Rattle.protocol.specs.Judge.{slackAllowed, slack, scaledCommitment, combination, opens, judged}
 use Rattle.protocol.specs.Calls.{commitRefusal, commitAnswer, leftSmall, movingSmall, roundRefusal, polynomial, noPolynomial, roundAnswer, foldRefusal, foldKeyExit}
 use Rattle.protocol.specs.Calls.{foldMessageExit, endingSmall, endRefusal, endAnswer, openingRefusal, openingAnswer, openingKeyExit, openingMessageExit, openingRoundsExit}
@@ -25,7 +26,7 @@ unfolding
     slots verdict opened blank startRefusal start refusedMove shut part sessionRoundRefusal advanced sessionRoundHolds round sessionEndRefusal sessionEndHolds end
     child parent place above challenge challengeTo apart gap steps s difference mu share joined combined growthFactor growthLimit nodes leaves onPath pathChallenges pathRounds leaf path foldTo
     vector rootVector growth growthAllowed
-    slackAllowed slack scaledCommitment combination opens judged
+    euclid greatestCommonDivisor slackAllowed slack scaledCommitment combination opens judged
     commitRefusal commitAnswer leftSmall movingSmall roundRefusal polynomial noPolynomial roundAnswer foldRefusal foldKeyExit foldMessageExit endingSmall endRefusal endAnswer openingRefusal
     openingAnswer openingKeyExit openingMessageExit openingRoundsExit checkRefusal checkAnswer judgeRefusal judgeAnswer everyPath extractRefusal extractExit
     wayTo answerAt honestRounds honestFinals

@@ -10,7 +10,8 @@ use Rattle.protocol.specs.Element.{power, product, coefficients}
 use Rattle.protocol.specs.Opening.{commitment}
 use Rattle.protocol.specs.Transcript.{Transcript, claimAfter, cause, transcriptOf}
 use Rattle.protocol.specs.Tree.{s, rootVector, growthAllowed}
-use Rattle.protocol.specs.Calls.{judgeRefusal, extractRefusal, extractExit}
+use Rattle.protocol.specs.Judge.{opens}
+use Rattle.protocol.specs.Calls.{judgeRefusal, judgeAnswer, extractRefusal, extractExit}
 use Rattle.protocol.specs.HonestTree.{honestRounds, honestFinals}
 use Rattle.protocol.proofs.Compute.{computed}
 use Rattle.protocol.proofs.Listing.{set, S₁, key₁, message₁, rounds₁, leaves₁, S₀}
@@ -64,6 +65,10 @@ examples =
     -- the same as the judge's refusal 14, at tables of zeros; as the judge's and the extractor's at every full tree, in claims/proofs/GrowthCases
     ∷ record { given = pos (judgeRefusal (set 32 4 17 127) (replicate 32 0) 256 (replicate 512 0) (replicate 512 (pos 0))) ∷ []; wanted = pos 0 ∷ [] }
     ∷ record { given = pos (judgeRefusal (set 64 4 17 1) (replicate 64 0) 256 (replicate 1024 0) (replicate 1024 (pos 0))) ∷ []; wanted = pos 14 ∷ [] }
+    -- PROTOCOL 12.6: a slack that shares a factor with q, and w all zeros: the equation holds, and the judge refuses and says nothing
+    ∷ record { given = asNumber (opens S₁ key₁ (T₁ .commitment) 17 w₁); wanted = pos 1 ∷ [] }
+    ∷ record { given = pos (judgeRefusal S₁ (T₁ .commitment) 17 key₁ w₁) ∷ []; wanted = pos 15 ∷ [] }
+    ∷ record { given = asNumber (judgeAnswer S₁ (T₁ .commitment) 17 key₁ w₁ .yes); wanted = pos 0 ∷ [] }
     ∷ []
 
 -- the definitions give each

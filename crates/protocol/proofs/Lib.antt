@@ -2,6 +2,7 @@ pub mod Tests
 pub mod Reading
 pub mod Rotation
 pub mod Modulo
+pub mod CommonDivisor
 pub mod OpeningLaws
 pub mod Ranges
 pub mod Numbering

@@ -127,12 +127,20 @@ traps =
     -- a refused start; a start does not copy what stands from d on
     ∷ record { given = pos (start S₁ (17 ∷ 4 ∷ []) .refusal) ∷ recordNumbers (start S₁ (17 ∷ 4 ∷ []) .next); wanted = pos 8 ∷ recordNumbers blank }
     ∷ record { given = recordNumbers (start S₁ (15 ∷ 4 ∷ 9 ∷ []) .next); wanted = recordNumbers fresh }
-    -- the judge: 14 before 15; c = q with w = 0 says yes; −2^63 is beyond the bound and says no
+    -- the judge: 8 and 14 before 15, also where the slack shares a factor with q; −2^63 is beyond the bound and says no
     ∷ number (judgeRefusal (set 64 4 17 1) (replicate 64 0) 0 (replicate 1024 0) (replicate 1024 (pos 0))) 14
+    ∷ number (judgeRefusal (set 64 4 17 1) (replicate 64 0) 17 (replicate 1024 0) (replicate 1024 (pos 0))) 14
+    ∷ number (judgeRefusal S₁ (15 ∷ 17 ∷ []) 17 key₁ message₁) 8
     ∷ number (judgeRefusal S₁ (15 ∷ 4 ∷ []) 65_537 key₁ message₁) 15
     ∷ number (judgeRefusal S₁ (15 ∷ 4 ∷ []) 0 key₁ message₁) 15
-    ∷ record { given = asNumber (judgeAnswer S₁ (15 ∷ 4 ∷ []) 17 key₁ (replicate 4 (pos 0)) .yes); wanted = pos 1 ∷ [] }
-    ∷ record { given = asNumber (judgeAnswer S₁ (0 ∷ 0 ∷ []) 17 key₁ (negsuc 9_223_372_036_854_775_807 ∷ pos 0 ∷ pos 0 ∷ pos 0 ∷ []) .yes); wanted = pos 0 ∷ [] }
+    -- a slack in its range that shares a factor with q is refused, be it a multiple of q, a divisor of it or neither; one that shares none is not
+    ∷ number (judgeRefusal S₁ (15 ∷ 4 ∷ []) 34 key₁ message₁) 15
+    ∷ number (judgeRefusal (set 2 1 15 1) (0 ∷ 0 ∷ []) 3 key₁ message₁) 15
+    ∷ number (judgeRefusal (set 2 1 15 1) (0 ∷ 0 ∷ []) 5 key₁ message₁) 15
+    ∷ number (judgeRefusal (set 2 1 15 1) (0 ∷ 0 ∷ []) 6 key₁ message₁) 15
+    ∷ number (judgeRefusal (set 2 1 15 1) (0 ∷ 0 ∷ []) 16 key₁ message₁) 0
+    ∷ number (judgeRefusal (set 2 1 2_147_483_647 1) (0 ∷ 0 ∷ []) 65_536 key₁ message₁) 0
+    ∷ record { given = asNumber (judgeAnswer S₁ (0 ∷ 0 ∷ []) 18 key₁ (negsuc 9_223_372_036_854_775_807 ∷ pos 0 ∷ pos 0 ∷ pos 0 ∷ []) .yes); wanted = pos 0 ∷ [] }
     -- the extractor's slack is 4^L, and the judge takes what it extracts
     ∷ number (slack (set 2 3 17 1)) 64
     ∷ record { given = asNumber (judgeAnswer S₁ (15 ∷ 4 ∷ []) (slack S₁) key₁ (pos 4 ∷ negsuc 3 ∷ pos 4 ∷ pos 0 ∷ []) .yes); wanted = pos 1 ∷ [] }

@@ -1,6 +1,6 @@
 -- PROTOCOL 6: the judge of relaxed openings.
 --
---   slackAllowed S c         is c in its range (refusal 15)
+--   slackAllowed S c         is c in its range, with no factor in common with q (refusal 15)
 --   slack S                  the extractor's slack, 4^L
 --   scaledCommitment S C c   c times the commitment, modulo q
 --   combination S key w      the sum of w_i·G_i, modulo q
@@ -14,13 +14,15 @@ use lib.Dec.{eqb, leb}
 use lib.IntN.{ℤ, pos}
 use Rattle.protocol.specs.declared.Settings.{Settings}
 use Rattle.protocol.specs.Basic.{every}
+use Rattle.protocol.specs.CommonDivisor.{greatestCommonDivisor}
 use Rattle.protocol.specs.Element.{modulo, residue, times, signedAt, residueAt}
 use Rattle.protocol.specs.Settings.{size, small}
 use Rattle.protocol.specs.Opening.{inner}
 use Rattle.protocol.specs.Tree.{growth}
 
+-- PROTOCOL 6: a factor in common with q would open commitments that have nothing behind them
 unfoldable pub slackAllowed : Settings → ℕ → Bool
-slackAllowed S c = leb 1 c && leb c 65_536
+slackAllowed S c = leb 1 c && leb c 65_536 && eqb (greatestCommonDivisor c (S .modulus)) 1
 
 -- PROTOCOL 5.7: 4 for each round
 unfoldable pub slack : Settings → ℕ

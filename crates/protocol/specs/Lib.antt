@@ -9,6 +9,7 @@ pub mod Tree
 pub mod Nodes
 pub mod TreeCheck
 pub mod GrowthTest
+pub mod CommonDivisor
 pub mod Judge
 pub mod Calls
 pub mod Inputs

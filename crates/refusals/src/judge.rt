@@ -21,11 +21,11 @@ pub fn growth_allowed(settings: Settings) -> bool
     sizes::growth(settings) <= sizes::GROWTH_LIMIT
 }
 
-// 15: is the slack in its range.
+// 15: is the slack in its range, and has no factor in common with q.
 fn slack_allowed(settings: Settings, c: u32) -> bool
     ensures { λ r. ⌜ r ≡ of.slackAllowed settings c ⌝ }
 {
-    (1 <= c) & (c <= SLACK_MOST)
+    (1 <= c) & (c <= SLACK_MOST) & (divisors::greatest_common_divisor(c, settings.modulus) == 1)
 }
 
 pub fn judge(

@@ -13,6 +13,11 @@ use reference::{fast, plain};
 /// What a judge that does not refuse says.
 const JUDGED: [&str; 2] = ["no", "yes"];
 
+/// 15 by a slack in its range, and where besides w is zero and the commitment
+/// is not.
+const COMMON: &str = "common factor";
+const NOTHING: &str = "common factor, nothing behind";
+
 #[derive(Clone)]
 pub struct Judge {
     settings: Settings,
@@ -38,7 +43,7 @@ impl Judge {
 impl Call for Judge {
     const NAME: &'static str = "judge";
     const NUMBERS: &'static [u32] = &[0, 3, 4, 5, 6, 7, 8, 14, 15];
-    const WORDS: &'static [&'static str] = &["no", "yes"];
+    const WORDS: &'static [&'static str] = &["no", "yes", COMMON, NOTHING];
     const SLICES: &'static [&'static str] = &["commitment", "key", "w"];
     const FAST: bool = true;
 
@@ -102,6 +107,16 @@ impl Call for Judge {
 
     fn outcome(&self, number: u32) -> Outcome {
         Outcome::new(number).with_word("yes", self.yes, &JUDGED)
+    }
+
+    fn other_remarks(&self, number: u32) -> Vec<String> {
+        if number != 15 || !(1..=65_536).contains(&self.slack) {
+            return Vec::new();
+        }
+        let zero = self.w.iter().all(|&x| x == 0);
+        let some = self.commitment.iter().any(|&x| x != 0);
+        let word = if zero && some { NOTHING } else { COMMON };
+        vec![word.to_string()]
     }
 
     fn numbers(&self) -> Vec<u32> {

@@ -136,9 +136,10 @@ fn judgements(page: &mut Page, random: &mut Random) {
         None,
     ] {
         let mut input = drawn_until(random, |random| {
-            let (input, _) = tables::judge(random, &limits);
+            let (input, number) = tables::judge(random, &limits);
             let found = judged(&input);
-            (input.shape.l == 1 && found == wanted.unwrap_or(found)).then_some(input)
+            let fits = input.shape.l == 1 && number == 0 && found == wanted.unwrap_or(found);
+            fits.then_some(input)
         });
         tidy(&mut input.commitment, input.shape.d);
         if wanted.is_none() {

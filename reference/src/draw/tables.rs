@@ -191,17 +191,15 @@ pub struct JudgeInput {
     pub w: Vec<i64>,
 }
 
-/// Draws an input of the judge and answers with it refusal 14 or 0. The
+/// Draws an input of the judge and answers with it refusal 14, 15 or 0. The
 /// commitment is one that w opens, or w goes beyond its bound or the
-/// equation is spoiled.
+/// equation is spoiled, or w is zero and the slack makes the commitment zero.
 pub fn judge(random: &mut Random, limits: &Limits) -> (JudgeInput, u32) {
     let settings = settings(random, limits, false);
     let shape = shape(settings);
     let key = residues(random, shape.table(), shape.q);
-    let (bound, number) = match refuse::growth(&shape) {
-        Ok(bound) => (bound, 0),
-        Err(number) => (1 << 62, number),
-    };
+    let growth = refuse::growth(&shape);
+    let bound = growth.unwrap_or(1 << 62);
     let c = random.pick(&[1, 2, 4, 16, 65_536, 65_535]);
     let message = wholes(random, shape.table(), shape.b);
     // c times a message opens c times its commitment, as far as it is small.
@@ -213,7 +211,7 @@ pub fn judge(random: &mut Random, limits: &Limits) -> (JudgeInput, u32) {
         *x *= i64::from(c);
     }
     spoil_judged(random, &shape, bound, &mut commitment, &mut w);
-    let input = JudgeInput {
+    let mut input = JudgeInput {
         shape,
         settings,
         commitment: residues_by_value(random, &commitment[..shape.d]),
@@ -221,7 +219,32 @@ pub fn judge(random: &mut Random, limits: &Limits) -> (JudgeInput, u32) {
         key,
         w,
     };
-    (input, number)
+    if random.one_in(8) {
+        empty(random, &mut input);
+    }
+    let tested = growth.and_then(|_| refuse::slack(input.c, &shape));
+    (input, tested.err().unwrap_or(0))
+}
+
+/// A slack in its range that shares a factor with q, where there is one.
+fn sharing(random: &mut Random, q: u32) -> Option<u32> {
+    let factor = (2..=65_536).find(|factor| q % factor == 0)?;
+    Some(factor * random.between(1, i64::from(65_536 / factor)) as u32)
+}
+
+/// A zero w that meets the equation with a commitment that need not be zero:
+/// the slack makes it a multiple of q.
+fn empty(random: &mut Random, input: &mut JudgeInput) {
+    let q = input.shape.q;
+    let Some(c) = sharing(random, q) else {
+        return;
+    };
+    input.c = c;
+    input.w.fill(0);
+    let common = refuse::common_divisor(c, q);
+    for x in &mut input.commitment[..input.shape.d] {
+        *x = q / common * random.residue(common);
+    }
 }
 
 /// Changes w or the commitment in some way, or not at all.
@@ -259,7 +282,10 @@ impl Damage for JudgeInput {
             refuse::RESIDUE if random.one_in(2) => damage_residue(random, &mut self.key, q),
             refuse::RESIDUE => damage_residue(random, &mut self.commitment[..d], q),
             refuse::SLACK => {
-                self.c = random.pick(&[0, 65_537, u32::MAX]);
+                self.c = match sharing(random, q) {
+                    Some(c) if random.one_in(2) => c,
+                    _ => random.pick(&[0, 65_537, u32::MAX]),
+                };
                 true
             }
             _ => damage_settings(random, &mut self.settings, number),

@@ -109,6 +109,12 @@ impl Whole {
         self.too_tall(message, self.n() / times, times)
     }
 
+    /// Whether some number over 1 divides both c and q.
+    fn shares_a_factor(self, c: u32) -> bool {
+        let q = self.q as u32;
+        (2..=c).any(|factor| c % factor == 0 && q % factor == 0)
+    }
+
     /// Whether (12·d²)^L·B is over 2^62. A product that has no room in 128
     /// bits is.
     fn grows(self) -> bool {
@@ -345,7 +351,7 @@ pub fn judge(s: Settings, commitment: &Residues, c: u32, key: &[u32], vector: &[
             w.some_no_residue(key) || w.element_no_residue(commitment)
         }),
         (14, &|| w.grows()),
-        (15, &|| c == 0 || c > 65_536),
+        (15, &|| c == 0 || c > 65_536 || w.shares_a_factor(c)),
     ])
 }
 

@@ -258,6 +258,7 @@ pub fn of_relaxed(o: &Opening, answer: u32) -> Vec<Scenario> {
         (8, number(1, 0, q)),
         (slack, change(|i| i.slack = 0)),
         (slack, change(|i| i.slack = 65_537)),
+        (slack, change(|i| i.slack = i.settings[2])),
     ]);
     let mut extract = settings_and(vec![
         (8, number(0, 0, q)),
