@@ -26,7 +26,7 @@ FAST, PATHS = 'fast, plain x86-64', 'verified, path by path'
 GOALS = [(call + ', ' + LARGE, beside, most)
          for beside, most in [(FAST, 1.0), ('FLINT nmod_poly', 0.4), ('FLINT, reduced once', 0.4), ('NTL zz_pX', 0.25), ('NTL, summed transforms', 0.25)]
          for call in ('commit', 'open')]
-GOALS += [('tree check, ' + LARGE, FAST, 1.5), ('tree check, ' + LARGE, PATHS, 0.1), ('extract, d = 64, L = 3', FAST, 1.5), ('extract, d = 4, L = 8', FAST, 1.5),
+GOALS += [('tree check, ' + LARGE, FAST, 1.5), ('tree check, ' + LARGE, PATHS, 0.1), ('extract, d = 64, L = 3', FAST, 1.5), ('extract, d = 64, L = 4', FAST, 1.5), ('extract, d = 4, L = 8', FAST, 1.5),
           ('read, 65536 bytes', FAST, 1.5), ('write, 65536 bytes', FAST, 1.5), ('open, ' + LARGE, FAST, 0.4)]
 GOALS += [(call + ', d = 4, L = 8', FAST, 2.0) for call in ('commit', 'open', 'judge')] + [(call + ', ' + LARGE, FAST, 1.3) for call in ('check', 'session')]
 GOALS += [('names line, 1000 times', 'C, a loop of bytes', 0.5)]

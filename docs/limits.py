@@ -10,7 +10,7 @@ that is named behind --library).
 
 What is asked, at every degree and depth, with the largest modulus:
   extraction   from which bound B on the judge refuses by 14; at the largest that it takes it must say yes to a vector whose one coefficient is
-               (12*d*d)^L * B and no to one more, so that this ceiling is the library's and not only this script's
+               (8*d*d)^L * B and no to one more, so that this ceiling is the library's and not only this script's
   binding      up to which B twice that ceiling is below the modulus
   texts        whether the table writer writes the longest and the shortest text, or refuses it by 1
 """
@@ -45,7 +45,7 @@ def wrong(what):
 
 
 def ceiling(settings):
-    return (12 * settings.degree**2) ** settings.depth * settings.bound
+    return (8 * settings.degree**2) ** settings.depth * settings.bound
 
 
 def judged(library, settings, slack, coefficient):

@@ -49,7 +49,7 @@
  *    11  turn        a round with L or more rounds done, an end with other than L done, a closed record
  *    12  twin        two equal exponents at one node
  *    13  branch      a path of the tree that the verifier rejects
- *    14  growth      (12*d*d)^L * B is over 2^62
+ *    14  growth      (8*d*d)^L * B is over 2^62
  *    15  slack       the slack is not 1 to 65536, or its greatest common divisor with q is not 1
  *
  * A refused call writes nothing to any slice, but for one: a refused start of a session writes the closed record of zeros. What a function answers behind
@@ -216,7 +216,7 @@ uint32_t wovenrock_check(uint32_t degree, uint32_t depth, uint32_t modulus, uint
                          const uint32_t *challenges, size_t challenges_length,
                          uint32_t *verdict);
 
-/* The judge of relaxed openings: is `slack` times the commitment the sum of w_i*G_i modulo q, and no coefficient of w beyond (12*d*d)^L * B?
+/* The judge of relaxed openings: is `slack` times the commitment the sum of w_i*G_i modulo q, and no coefficient of w beyond (8*d*d)^L * B?
  * A slack that shares a factor with q is refused (15): it would open commitments that have nothing behind them.
  * `*yes` becomes 1 or 0. Lengths: commitment d, key n*d, w n*d. Refusals 3 to 8, 14, 15. */
 uint32_t wovenrock_judge(uint32_t degree, uint32_t depth, uint32_t modulus, uint32_t bound,

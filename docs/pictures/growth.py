@@ -17,7 +17,7 @@ CALLS = [('commit', 'Commitment', lambda d, n: n * d * d, 'n·d² products of co
          ('open', 'Whole opening', lambda d, n: n * d * d, 'n·d² products of coefficients'),
          ('check', 'Check of a transcript', lambda d, n: n * d, 'n·d numbers of the key'),
          ('session', 'Session of all its rounds', lambda d, n: n * d, 'n·d numbers of the key')]
-# The deepest tree that is extracted at every degree.
+# A depth at which trees are extracted at every degree.
 ALWAYS_EXTRACTED = 3
 
 

@@ -494,7 +494,7 @@ static struct input extract_input(void) {
 
 /* Degree 64 and depth 4, where a relaxed opening may grow too much; all numbers are 0, so that every path is accepted. */
 static struct input large(void) {
-    struct input in = {{64, 4, 17, 1}, 0, 0, 256, 0, {{0}}, 0};
+    struct input in = {{64, 4, 17, 5}, 0, 0, 256, 0, {{0}}, 0};
     lend(&in, ZEROS("commitment", READ, 4, false, wovenrock_element_length(64)));
     lend(&in, ZEROS("key", READ, 4, false, wovenrock_table_length(64, 4)));
     return in;
@@ -621,7 +621,7 @@ static const struct scenario scenarios[] = {
     {"judge, growth", judge, large_judge_input, 14, {IN_SLICE(8, 0, 0, 17), IN_SLACK(14, 0), NO_MORE}},
     {"extract", extract, extract_input, 0, {FAULTY_SETTINGS, IN_SLICE(8, 0, 0, 17), IN_SLICE(8, 1, 0, 17), IN_SLICE(8, 2, 0, 17), IN_SLICE(10, 3, 0, 4),
         IN_SLICE(12, 3, 0, 1), IN_SLICE(13, 4, 0, 1), IN_SLICE(13, 4, 0, 3), NO_MORE}},
-    {"extract, growth", extract, large_extract_input, 14, {IN_SLICE(8, 0, 0, 17), IN_SLICE(13, 4, 0, 17), NO_MORE}},
+    {"extract, growth", extract, large_extract_input, 14, {IN_SLICE(8, 0, 0, 17), IN_SLICE(13, 4, 0, 81), NO_MORE}},
     {"look", look, look_input, 0, {FAULTY_TEXT, NO_MORE}},
     {"read", reads, read_input, 0, {FAULTY_TEXT, IN_LINE(7, "2 1 1 0\n", ""), IN_LINE(8, "1 0 0 3\n", "1 0 0 17\n"), IN_LINE(8, "1 0 0 3\n", "1 0 0 -1\n"),
         IN_LINE(9, "2 0 0 1\n", "2 0 0 2\n"), IN_LINE(10, "5 0 0 1\n", "5 0 0 4\n"), IN_PARTS(7, 62), IN_PARTS(7, 127),

@@ -131,7 +131,7 @@ pub fn check(
     Ok(shape)
 }
 
-/// Call 10: also answers the bound (12·d²)^L·B.
+/// Call 10: also answers the bound (8·d²)^L·B.
 pub fn judge(
     s: Settings,
     commitment: &Residues,

@@ -137,10 +137,10 @@ pub fn branch(accepted: bool) -> Checked<()> {
     unless(BRANCH, accepted)
 }
 
-/// Refusal 14: answers (12·d²)^L·B, which is at most 2^62.
+/// Refusal 14: answers (8·d²)^L·B, which is at most 2^62.
 pub fn growth(shape: &Shape) -> Checked<i64> {
     let limit: i128 = 1 << 62;
-    let factor = 12 * (shape.d * shape.d) as i128;
+    let factor = 8 * (shape.d * shape.d) as i128;
     let mut product = i128::from(shape.b);
     for _ in 0..shape.l {
         product *= factor;

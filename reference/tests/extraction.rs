@@ -2,7 +2,7 @@
 
 use reference::draw::base;
 use reference::draw::tree::{free_at, honest_at, Tree};
-use reference::plain::ring::{add, element, elements, rotate};
+use reference::plain::ring::{add, doubled_inverse, element, elements, multiply, rotate, Element};
 use reference::plain::*;
 use reference::random::Random;
 use reference::refuse;
@@ -155,10 +155,17 @@ fn folds_of_a_tall_message_are_extracted_too() {
 
 #[test]
 fn the_bound_is_reached() {
-    // Leaves at their bound keep w within (12·d²)^L·B.
+    // Leaves at their bound keep w within (8·d²)^L·B.
     let mut random = Random::new(37);
-    for (degree, depth) in [(2, 1), (2, 3), (4, 2), (16, 1), (64, 1)] {
-        let settings = Settings::new(degree, depth, 17, 127);
+    for (degree, depth, bound) in [
+        (2, 1, 127),
+        (2, 3, 127),
+        (4, 2, 127),
+        (16, 1, 127),
+        (64, 1, 127),
+        (64, 4, 4),
+    ] {
+        let settings = Settings::new(degree, depth, 17, bound);
         let mut tree = free_at(&mut random, settings);
         let bound = tree.shape.final_bound() as i32;
         for x in tree.leaves.iter_mut() {
@@ -169,6 +176,40 @@ fn the_bound_is_reached() {
         assert_eq!(number, 0);
         let most = refuse::growth(&tree.shape).unwrap();
         assert!(w.iter().all(|x| x.abs() <= most));
+    }
+}
+
+/// The product of the two s from r_j, which μ_j is (1 + r_k·r_l) times.
+fn pair(d: usize, j: usize, k: usize, l: usize) -> Element {
+    multiply(&doubled_inverse(d, j, k), &doubled_inverse(d, j, l))
+}
+
+/// The magnitudes of the coefficients of (1 + X^e)·a, added up.
+fn weight(a: &Element, e: usize) -> i128 {
+    let d = a.len();
+    let sum = add(a, &rotate(a, e % (2 * d)));
+    sum.iter().map(|x| x.abs()).sum()
+}
+
+#[test]
+fn a_round_grows_by_at_most_4_d_squared() {
+    // Turning all three exponents by t turns the products of s and changes
+    // the exponent of 1 + r_k·r_l by 2t.
+    for d in [2, 4, 8, 16, 32, 64] {
+        let mut most = 0;
+        for b in 1..2 * d {
+            for c in b + 1..2 * d {
+                let pairs = [pair(d, 0, b, c), pair(d, b, 0, c), pair(d, c, 0, b)];
+                for t in 0..d {
+                    let exponents = [b + c, c, b].map(|e| e + 2 * t);
+                    let weights = pairs.iter().zip(exponents).map(|(p, e)| weight(p, e));
+                    most = most.max(weights.sum());
+                }
+            }
+        }
+        assert!(most <= 4 * (d * d) as i128);
+        // What is reached is half of that.
+        assert_eq!(most, 2 * (d * d) as i128);
     }
 }
 

@@ -111,11 +111,11 @@ fn judgements() {
 
 #[test]
 fn judgements_with_the_largest_numbers() {
-    for (degree, depth, bound) in [(4, 8, 2), (16, 5, 16), (32, 4, 127), (64, 3, 127)] {
+    for (degree, depth, bound) in [(4, 8, 64), (16, 5, 127), (32, 4, 127), (64, 4, 4)] {
         let s = Settings::new(degree, depth, 2_147_483_647, bound);
         let size = (degree as usize) << depth;
         let key = vec![2_147_483_646; size];
-        let most = (12 * i64::from(degree * degree)).pow(depth) * i64::from(bound);
+        let most = (8 * i64::from(degree * degree)).pow(depth) * i64::from(bound);
         for x in [most, -most, most - most % 2_147_483_647 - 1] {
             let w = vec![x; size];
             // The commitment with slack 1 is the sum itself.

@@ -50,7 +50,7 @@ pub enum Refusal {
     Twin = 12,
     /// A path of the tree that the verifier rejects.
     Branch = 13,
-    /// (12·d²)^L·B is over 2^62.
+    /// (8·d²)^L·B is over 2^62.
     Growth = 14,
     /// The slack is not 1 to 65,536, or shares a factor with q.
     Slack = 15,

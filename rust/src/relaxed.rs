@@ -3,7 +3,7 @@
 use crate::{library, Judgement, Refusal, Settings};
 
 /// The judge: is `slack` times the commitment the sum of w_i·G_i modulo q, and
-/// no coefficient of w beyond (12·d²)^L·B? A slack that shares a factor with q
+/// no coefficient of w beyond (8·d²)^L·B? A slack that shares a factor with q
 /// is refused: it would open commitments that have nothing behind them. The
 /// commitment has exactly [`Settings::element_len`] numbers, key and w
 /// [`Settings::table_len`]. Refusals 7, 8, 14, 15.

@@ -78,7 +78,7 @@ module _ (S : Settings) (ok : Valid S) (G C rounds E : List ℕ) (finals : List 
   leaf-small j l = tree .accepted j l .in-bound
 
   in-bound : Within (growth S) (cells S) root
-  in-bound = root-within S (degree-positive S ok) E finals leaf-small
+  in-bound = root-within S (ok .log) (sym (ok .degree-is)) (degree-positive S ok) E finals triples leaf-small
 
   root-opens : Opens S G C (slack S) root
   root-opens = extracts S (ok .log) (sym (ok .degree-is)) (ok .modulus-odd) C G rounds E finals triples paths-accepted

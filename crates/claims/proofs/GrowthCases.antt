@@ -1,9 +1,10 @@
--- The marked cases of growth (PROTOCOL 12.6) as refusals by 14, for judge and extractor at every full tree, whatever the modulus: at d 64, L 4, B 1 both refuse, at d 32, L 4, B 127 neither does.
+-- The marked cases of growth (PROTOCOL 12.6) as refusals by 14, for judge and extractor at every full tree, whatever the modulus: at d 64, L 4, B 5 both refuse; at d 64, L 4, B 4, at
+-- d 32, L 4, B 127 and at d 16, L 5, B 127 neither does.
 -- (HonestTree has a full tree for each.)
 use mathlib.Core.Path.{_≡_}
 use mathlib.Core.Bool.{true}
 use mathlib.Core.List.{List}
-use Prim.Native.Nat.{ℕ}
+use Prim.Native.Nat.{ℕ, _*_, _^_, _<_, _≤_}
 use native.Mathlib.Omega.{arith}
 use lib.ListN.{length}
 use lib.IntN.{ℤ}
@@ -16,15 +17,29 @@ use Rattle.protocol.specs.Demand3.{FullTree}
 use Rattle.protocol.proofs.Listing.{set}
 use Rattle.claims.proofs.Extractor.{growth-refused, growth-passed}
 
-module _ (q : ℕ) (G C rounds E : List ℕ) (finals w : List ℤ) where
-  -- whatever the slack
-  pub refused-by-14 : let S = set 64 4 q 1 in Valid S → Below q (cells S) G → FullTree S G C rounds E finals → length w ≡ cells S
-      → ((c : ℕ) → judgeRefusal S C c G w ≡ 14) × (extractRefusal S C G rounds E finals w ≡ 14)
-  unfolding growth growthFactor growthLimit
-  refused-by-14 ok key tree long = growth-refused (set 64 4 q 1) ok G C rounds E finals key tree w long (omega arith)
+-- at every full tree, for every modulus, key and list w, and whatever the slack
+abbrev pub Refused : ℕ → ℕ → ℕ → Type 0
+Refused d L B = (q : ℕ) (G C rounds E : List ℕ) (finals w : List ℤ) → let S = set d L q B in Valid S → Below q (cells S) G → FullTree S G C rounds E finals → length w ≡ cells S
+    → ((c : ℕ) → judgeRefusal S C c G w ≡ 14) × (extractRefusal S C G rounds E finals w ≡ 14)
 
-  -- for every slack that is allowed
-  pub not-refused-by-14 : let S = set 32 4 q 127 in Valid S → Below q (cells S) G → FullTree S G C rounds E finals → length w ≡ cells S
-      → ((c : ℕ) → slackAllowed S c ≡ true → judgeRefusal S C c G w ≡ 0) × (extractRefusal S C G rounds E finals w ≡ 0)
-  unfolding growth growthFactor growthLimit
-  not-refused-by-14 ok key tree long = growth-passed (set 32 4 q 127) ok G C rounds E finals key tree w long (omega arith)
+-- and for every slack that is allowed
+abbrev pub Passed : ℕ → ℕ → ℕ → Type 0
+Passed d L B = (q : ℕ) (G C rounds E : List ℕ) (finals w : List ℤ) → let S = set d L q B in Valid S → Below q (cells S) G → FullTree S G C rounds E finals → length w ≡ cells S
+    → ((c : ℕ) → slackAllowed S c ≡ true → judgeRefusal S C c G w ≡ 0) × (extractRefusal S C G rounds E finals w ≡ 0)
+
+refused-beyond : (d L B : ℕ) → growthLimit < growthFactor d ^ L * B → Refused d L B
+unfolding growth
+refused-beyond d L B over q G C rounds E finals w ok key tree long = growth-refused (set d L q B) ok G C rounds E finals key tree w long over
+
+passed-within : (d L B : ℕ) → growthFactor d ^ L * B ≤ growthLimit → Passed d L B
+unfolding growth
+passed-within d L B room q G C rounds E finals w ok key tree long = growth-passed (set d L q B) ok G C rounds E finals key tree w long room
+
+pub refused-by-14 : Refused 64 4 5
+unfolding growthFactor growthLimit
+refused-by-14 = refused-beyond 64 4 5 (omega arith)
+
+-- the first is exactly at the limit
+pub not-refused-by-14 : Passed 64 4 4 × Passed 32 4 127 × Passed 16 5 127
+unfolding growthFactor growthLimit
+not-refused-by-14 = (passed-within 64 4 4 (omega arith), passed-within 32 4 127 (omega arith), passed-within 16 5 127 (omega arith))

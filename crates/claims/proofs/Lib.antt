@@ -18,6 +18,7 @@ pub mod Combination
 pub mod Extraction
 pub mod Exactness
 pub mod Norms
+pub mod Parity
 pub mod Growth
 pub mod HonestTree
 pub mod Slack

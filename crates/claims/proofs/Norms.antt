@@ -1,27 +1,23 @@
 -- How large products are, and every sum on the way to them: by the sum of the magnitudes of one factor's coefficients and the largest magnitude of the other's. Then s(a,b) and μ.
 --   weight d a             the sum of the magnitudes of a's d coefficients (of algebra)
 --   running d a b k n      the first n of the d terms of place k of a·b
+--   muWeight d a b c       the weight of μ
 use mathlib.Core.Path.{_≡_, refl, sym, ap, ap₂, _∙_, subst}
 use Prim.Native.Nat.{ℕ, zero, suc, _+_, _*_, _-_, _<_, _≤_}
 use native.Mathlib.Nat as Nat
 use native.Mathlib.Omega.{arith}
 use lib.IntN.{ℤ, natAbs, _*ℤ_}
 use Rattle.algebra.specs.Integers.{ℤ-ring}
-use Rattle.algebra.specs.Magnitude.{natAbs-add, natAbs-mul, weight, weight-ext, weight-at, weight-add}
+use Rattle.algebra.specs.Magnitude.{natAbs-add, natAbs-mul, weight, weight-ext, weight-add}
 use Rattle.algebra.specs.Norm as N
 use Rattle.algebra.specs.Divisor as A
 use Rattle.protocol.specs.Basic.{sum}
 use Rattle.protocol.specs.Element.{Element, one, power, rotate, product, plus, signed}
-use Rattle.protocol.specs.Tree.{gap, steps, s, mu}
-use Rattle.protocol.proofs.Tests.{least-first}
+use Rattle.protocol.specs.Tree.{s, mu}
 use Rattle.claims.proofs.Readings.{readℤ, coef-readℤ, read-one, read-power, read-product}
-use Rattle.claims.proofs.Bounds.{Bounded, rotate-bounded, plus-bounded}
+use Rattle.claims.proofs.Bounds.{Bounded, rotate-bounded}
 use Rattle.claims.proofs.Divisors.{read-s}
 use Rattle.claims.proofs.Weights.{signed-coefficients}
-
-steps-le : (d k : ℕ) → steps d k ≤ d
-unfolding steps
-steps-le d k = least-first d _ .at-most
 
 -- ---- sums of products
 
@@ -36,11 +32,6 @@ products-bounded (suc n) B c f h = omega (
   Nat.mul-le-mul-left (natAbs (c n)) (h n (omega arith)),
   Nat.add-mul (weight n c) (natAbs (c n)) B,
 )
-
-ones-bounded : (n : ℕ) (f : ℕ → ℤ) → ((i : ℕ) → i < n → natAbs (f i) ≤ 1) → natAbs (sum n f) ≤ n
-unfolding sum
-ones-bounded zero f h = omega arith
-ones-bounded (suc n) f h = omega (arith, natAbs-add (sum n f) (f n), ones-bounded n f (λ i l. h i (omega arith)), h n (omega arith))
 
 weight-longer : (n e : ℕ) (f : ℕ → ℤ) → weight n f ≤ weight (e + n) f
 unfolding weight
@@ -57,18 +48,21 @@ pub running-whole : (d : ℕ) (a b : Element) (k : ℕ) → running d a b k d �
 unfolding running product
 running-whole d a b k = refl
 
-module _ (d : ℕ) (p : 0 < d) where
-  pub running-bounded : (B W : ℕ) (a b : Element) → weight d a ≤ W → Bounded d B b → (k n : ℕ) → k < d → n ≤ d → natAbs (running d a b k n) ≤ W * B
-  unfolding running
-  running-bounded B W a b w h k n lk ln =
-      Nat.le-trans (products-bounded n B a (λ i. rotate d i b k) (λ i l. rotate-bounded d p B i b h k lk)) (Nat.mul-le-mul-right B (Nat.le-trans (weight-le n d a ln) w))
+abbrev pub muWeight : ℕ → ℕ → ℕ → ℕ → ℕ
+muWeight d a b c = weight d (signed (mu d a b c))
 
-  pub product-bounded : (B W : ℕ) (a b : Element) → weight d a ≤ W → Bounded d B b → Bounded d (W * B) (product d a b)
-  product-bounded B W a b w h k l = subst (λ z. natAbs z ≤ W * B) (running-whole d a b k) (running-bounded B W a b w h k d l (Nat.le-refl d))
+module _ (d : ℕ) (p : 0 < d) where
+  pub running-bounded : (B : ℕ) (a b : Element) → Bounded d B b → (k n : ℕ) → k < d → n ≤ d → natAbs (running d a b k n) ≤ weight d a * B
+  unfolding running
+  running-bounded B a b h k n lk ln =
+      Nat.le-trans (products-bounded n B a (λ i. rotate d i b k) (λ i l. rotate-bounded d p B i b h k lk)) (Nat.mul-le-mul-right B (weight-le n d a ln))
+
+  pub product-bounded : (B : ℕ) (a b : Element) → Bounded d B b → Bounded d (weight d a * B) (product d a b)
+  product-bounded B a b h k l = subst (λ z. natAbs z ≤ weight d a * B) (running-whole d a b k) (running-bounded B a b h k d l (Nat.le-refl d))
 
   -- ---- the weight is the norm of algebra
 
-  weight-read : (a : Element) → weight d a ≡ N.norm1 d p (readℤ d p a)
+  pub weight-read : (a : Element) → weight d a ≡ N.norm1 d p (readℤ d p a)
   unfolding N.norm1
   weight-read a = weight-ext d (λ k l. sym (coef-readℤ d p a k l))
 
@@ -81,39 +75,21 @@ module _ (d : ℕ) (p : 0 < d) where
   weight-one : weight d one ≡ 1
   weight-one = weight-read one ∙ ap (N.norm1 d p) (read-one ℤ-ring d p) ∙ N.norm1-one d p
 
-  power-bounded : (e : ℕ) → Bounded d 1 (power d e)
-  power-bounded e k l = omega (arith, weight-at d (power d e) k l, weight-power e)
-
-  -- ---- s: its own sum, and its weight
-
-  pub s-running : (a b k n : ℕ) → k < d → n ≤ steps d (gap d a b) → natAbs (sum n (λ i. power d (gap d a b * i + (2 * d - a)) k)) ≤ d
-  s-running a b k n lk ln = omega (arith, ones-bounded n (λ i. power d (gap d a b * i + (2 * d - a)) k) (λ i _. power-bounded (gap d a b * i + (2 * d - a)) k lk), steps-le d (gap d a b))
+  -- ---- s, and μ: the product of two s, times 1 + X^(b+c)
 
   pub weight-s : (a b : ℕ) → weight d (s d a b) ≤ d
   weight-s a b = omega (arith, weight-read (s d a b), ap (N.norm1 d p) (read-s d p a b), A.norm1-s d p a b)
 
-  pub s-bounded : (a b : ℕ) → Bounded d d (s d a b)
-  s-bounded a b k l = omega (arith, weight-at d (s d a b) k l, weight-s a b)
-
-  -- ---- μ: the product of two s, then times 1 + X^(b+c)
-
   module _ (a b c : ℕ) where
-    pub pair-running : (k n : ℕ) → k < d → n ≤ d → natAbs (running d (s d a b) (s d a c) k n) ≤ d * d
-    pair-running k n = running-bounded d d (s d a b) (s d a c) (weight-s a b) (s-bounded a c) k n
-
-    weight-pair : weight d (product d (s d a b) (s d a c)) ≤ d * d
-    weight-pair = Nat.le-trans (weight-product (s d a b) (s d a c)) (Nat.mul-le-mul (weight-s a b) (weight-s a c))
-
-    pub mu-running : (k n : ℕ) → k < d → n ≤ d → natAbs (running d (product d (s d a b) (s d a c)) (plus one (power d (b + c))) k n) ≤ d * d * 2
-    mu-running k n = running-bounded 2 (d * d) _ _ weight-pair (plus-bounded d p 1 1 one (power d (b + c)) (λ i l. omega (arith, weight-at d one i l, weight-one)) (power-bounded (b + c))) k n
-
     weight-sum : weight d (plus one (power d (b + c))) ≤ 2
     unfolding plus
     weight-sum = omega (arith, weight-add d one (power d (b + c)), weight-one, weight-power (b + c))
 
-    pub weight-mu : weight d (signed (mu d a b c)) ≤ d * d * 2
+    pub weight-mu-by : muWeight d a b c ≤ weight d (s d a b) * weight d (s d a c) * 2
     unfolding mu
-    weight-mu = Nat.le-trans (Nat.le-of-eq (weight-ext d (signed-coefficients d _))) (Nat.le-trans (weight-product _ _) (Nat.mul-le-mul weight-pair weight-sum))
+    weight-mu-by =
+        Nat.le-trans (Nat.le-of-eq (weight-ext d (signed-coefficients d _)))
+        (Nat.le-trans (weight-product _ _) (Nat.mul-le-mul (weight-product (s d a b) (s d a c)) weight-sum))
 
-    pub mu-bounded : Bounded d (d * d * 2) (signed (mu d a b c))
-    mu-bounded k l = Nat.le-trans (weight-at d (signed (mu d a b c)) k l) weight-mu
+    pub weight-mu : muWeight d a b c ≤ d * d * 2
+    weight-mu = Nat.le-trans weight-mu-by (Nat.mul-le-mul-right 2 (Nat.mul-le-mul (weight-s a b) (weight-s a c)))

@@ -61,7 +61,7 @@ drawn =
     ∷ checkRow (set 2 1 17 1) (full (10 ∷ 4 ∷ [])) (fullSigned (pos 0 ∷ pos 0 ∷ [])) (0 ∷ 13 ∷ 7 ∷ 17 ∷ []) (15 ∷ 2 ∷ 15 ∷ 8 ∷ 7 ∷ 0 ∷ []) (8 ∷ []) 8 Silent Cause.none
     ∷ judgeRow (set 4 1 159862635 127) (full (81404006 ∷ 54242653 ∷ 138359219 ∷ 141569981 ∷ [])) 1 (149098563 ∷ 129531506 ∷ 60891178 ∷ 9738363 ∷ 146842420 ∷ 143223015 ∷ 49762118 ∷
     13091250 ∷ []) (pos 119 ∷ pos 9 ∷ pos 76 ∷ negsuc 86 ∷ pos 33 ∷ pos 9 ∷ pos 66 ∷ pos 72 ∷ []) 0 true
-    ∷ judgeRow (set 2 1 9 31) (full (6 ∷ 6 ∷ [])) 1 (5 ∷ 3 ∷ 8 ∷ 2 ∷ []) (negsuc 21 ∷ pos 1497 ∷ pos 5 ∷ pos 25 ∷ []) 0 false
+    ∷ judgeRow (set 2 1 9 31) (full (6 ∷ 6 ∷ [])) 1 (5 ∷ 3 ∷ 8 ∷ 2 ∷ []) (negsuc 21 ∷ pos 993 ∷ pos 5 ∷ pos 25 ∷ []) 0 false
     ∷ judgeRow (set 4 1 49 120) (full (16 ∷ 3 ∷ 25 ∷ 29 ∷ [])) 1 (42 ∷ 22 ∷ 11 ∷ 22 ∷ 33 ∷ 3 ∷ 48 ∷ 40 ∷ []) (negsuc 68 ∷ pos 27 ∷ pos 79 ∷ negsuc 22 ∷ negsuc 107 ∷ negsuc 102 ∷
     negsuc 34 ∷ pos 46 ∷ []) 0 false
     ∷ judgeRow (set 2 1 5161 1) (full (1676 ∷ 1206 ∷ [])) 29549 (235 ∷ 1441 ∷ 1950 ∷ 3541 ∷ []) (pos 1 ∷ pos 5160 ∷ pos 0 ∷ pos 0 ∷ []) 15 false

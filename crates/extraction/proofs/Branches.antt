@@ -12,20 +12,21 @@ use lib.ListN.{length, getD, take, drop, length-append, length-drop}
 use lib.Seq.{length-take-le, drop-at, drop-append-le, take-at, drop-drop, getD-take, getD-drop}
 use lib.IntN.{ℤ, pos, natAbs}
 use borrow.Rule.Slice.PartMut.{putMid}
+use Rattle.algebra.specs.Magnitude.{weight}
 use Rattle.protocol.specs.declared.Settings.{Settings}
-use Rattle.protocol.specs.Element.{signedZeros}
-use Rattle.protocol.specs.Tree.{child, challenge, mu, joined, combined, nodes, vector, growth, growthLimit}
+use Rattle.protocol.specs.Element.{signed, signedZeros}
+use Rattle.protocol.specs.Tree.{child, challenge, mu, joined, combined, nodes, vector}
 use Rattle.protocol.specs.Nodes.{AtNode}
 use Rattle.protocol.proofs.Numbering.{child-depth}
 use Rattle.protocol.proofs.Places as Places
-use Rattle.claims.proofs.Growth.{heightBound, heightBound-suc, heightBound-le}
+use Rattle.claims.proofs.Growth.{heightBound}
 use Rattle.extraction.specs.Vectors.{withShare, Branching, branchAdded}
 use Rattle.extraction.specs.Nodes.{Extractable}
 use Rattle.residues.proofs.SignedFill.{signed-zeros-at, signed-zeros-length}
 use Rattle.residues.proofs.Parts.{tail-length}
 use Rattle.extraction.proofs.Halves.{withShare-length}
 use Rattle.extraction.proofs.ThreeShares.{three-shares, shared-within}
-use Rattle.extraction.proofs.Nodes.{some, small, vector-within}
+use Rattle.extraction.proofs.Nodes.{some, small, vector-within, shares-fit, quotient-fits}
 use Rattle.extraction.proofs.Splicing.{drop-put-end, put-end}
 
 -- ---- the other two children
@@ -114,18 +115,28 @@ module _ {S : Settings} {E : List ℕ} {finals : List ℤ} {h k first space : �
   child-within : (j : ℕ) → j < 3 → (i : ℕ) → natAbs (getD (v j) i (pos 0)) ≤ β
   child-within j l i = vector-within X (h - 1) (child k j) (suc (L - h)) (omega (arith, A .height)) (child-depth (L - h) k j l (A .at-depth)) i
 
-  shared-small : (j : ℕ) → j ≤ 3 → (i : ℕ) → natAbs (getD (shared j) i (pos 0)) ≤ j * (d * d * 2 * β)
-  unfolding shared
-  shared-small zero l i = omega (arith, ap natAbs (signed-zeros-at (2 * (n * d)) i))
-  shared-small (suc j) l i =
-      let one-more = shared-within d n (some X) (c j) (c (other j)) (c (another j)) (v j) (shared j) (j * (d * d * 2 * β)) β (child-within j l) (shared-small j (omega arith)) i in
-      omega (arith, one-more, Nat.suc-mul j (d * d * 2 * β))
+  -- how large the numbers of the node's vector are after the shares of its first j children: each share by its own weight
+  unfoldable total : ℕ → ℕ
+  total zero = 0
+  total (suc j) = total j + weight d (signed (m j)) * β
 
-  room : (j : ℕ) → j < 3 → j * (d * d * 2 * β) + d * d * 2 * β ≤ 2 ^ 62
-  unfolding growthLimit
-  room j l =
-      let next : heightBound S (suc (h - 1)) ≤ growth S = heightBound-le S (some X) (suc (h - 1)) (omega (arith, A .height)) in
-      omega (arith, X .limited, next, heightBound-suc S (h - 1), Nat.mul-le-mul-right (d * d * 2 * β) l, Nat.suc-mul j (d * d * 2 * β))
+  shared-small : (j : ℕ) → j ≤ 3 → (i : ℕ) → natAbs (getD (shared j) i (pos 0)) ≤ total j
+  unfolding shared total
+  shared-small zero l i = omega (arith, ap natAbs (signed-zeros-at (2 * (n * d)) i))
+  shared-small (suc j) l i = shared-within d n (some X) (c j) (m j) (v j) (shared j) (total j) β (child-within j l) (shared-small j (omega arith)) i
+
+  all-fit : weight d (signed (m 0)) * β + weight d (signed (m 1)) * β + weight d (signed (m 2)) * β ≤ 2 ^ 62
+  all-fit = shares-fit X (h - 1) k (L - h) (omega (arith, A .height)) (A .at-depth)
+
+  room : d * d * 2 * β ≤ 2 ^ 62
+  room = quotient-fits X (h - 1) (omega (arith, A .height))
+
+  room-node : (j : ℕ) → j < 3 → total j + weight d (signed (m j)) * β ≤ 2 ^ 62
+  unfolding total
+  room-node zero l = omega (arith, all-fit)
+  room-node (suc zero) l = omega (arith, all-fit)
+  room-node (suc (suc zero)) l = omega (arith, all-fit)
+  room-node (suc (suc (suc j))) l = absurd (omega arith)
 
   exponent-small : (j : ℕ) → j < 3 → c j < 2 * d
   unfolding challenge
@@ -177,10 +188,11 @@ module _ {S : Settings} {E : List ℕ} {finals : List ℤ} {h k first space : �
         different = apart j l;
         long = length-drop (n * d) W ∙ omega arith;
         bound = β;
-        bound-node = j * (d * d * 2 * β);
+        bound-node = total j;
         within = λ i h. subst (λ z. natAbs z ≤ β) (sym (child-at i h)) (child-within j l i);
-        within-node = λ i h. subst (λ z. natAbs z ≤ j * (d * d * 2 * β)) (sym (node-at i h)) (shared-small j (omega arith) (i - n * d));
-        room = room j l;
+        within-node = λ i h. subst (λ z. natAbs z ≤ total j) (sym (node-at i h)) (shared-small j (omega arith) (i - n * d));
+        room = room;
+        room-node = room-node j l;
       };
     }
 

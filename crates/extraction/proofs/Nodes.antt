@@ -1,7 +1,7 @@
 -- A tree whose vectors can be worked out: how large its vectors are, and the vector of a leaf.
 use mathlib.Core.Path.{_≡_, sym, ap, _∙_, subst}
 use mathlib.Core.List.{List}
-use Prim.Native.Nat.{ℕ, _+_, _*_, _-_, _^_, _<_, _≤_}
+use Prim.Native.Nat.{ℕ, suc, _+_, _*_, _-_, _^_, _<_, _≤_}
 use native.Mathlib.Decide.{decLt}
 use native.Mathlib.Omega.{arith}
 use lib.ListN.{length, getD, drop, List·getD-eq-default}
@@ -11,7 +11,7 @@ use Rattle.protocol.specs.declared.Settings.{Settings}
 use Rattle.protocol.specs.Element.{signed, signedAt, coefficients}
 use Rattle.protocol.specs.Layout.{width}
 use Rattle.protocol.specs.Settings.{size}
-use Rattle.protocol.specs.Tree.{nodes, leaves, leaf, vector}
+use Rattle.protocol.specs.Tree.{challenge, nodes, leaves, leaf, vector, growthLimit}
 use Rattle.protocol.specs.Nodes.{AtNode}
 use Rattle.protocol.proofs.Reading.{by-cells, row-inside, cell-inside}
 use Rattle.protocol.proofs.Numbering.{AtDepth}
@@ -19,8 +19,9 @@ use Rattle.protocol.proofs.Paths.{depth-leaf}
 use Rattle.protocol.proofs.Places as Places
 use Rattle.claims.proofs.Bounds.{Bounded}
 use Rattle.claims.proofs.Vectors.{vector-length}
-use Rattle.claims.proofs.Weights.{signed-coefficients}
-use Rattle.claims.proofs.Growth.{heightBound, vector-bounded}
+use Rattle.claims.proofs.Weights.{Triple, node-triple, signed-coefficients}
+use Rattle.claims.proofs.Norms.{muWeight}
+use Rattle.claims.proofs.Growth.{heightBound, heightBound-suc, heightBound-le, node-grows, vector-bounded}
 use Rattle.extraction.specs.Nodes.{Extractable}
 
 module _ {S : Settings} {E : List ℕ} {finals : List ℤ} (X : Extractable S E finals) where
@@ -37,14 +38,29 @@ module _ {S : Settings} {E : List ℕ} {finals : List ℤ} (X : Extractable S E 
   leaves-within j l k lk =
       subst (λ z. natAbs z ≤ size S * B) (sym (signed-coefficients d (signedAt d finals j) k lk)) (X .within .each (j * d + k) (cell-inside d (leaves S) j k l lk))
 
+  triples : (k : ℕ) → k < nodes S → Triple d (challenge E k 0) (challenge E k 1) (challenge E k 2)
+  triples = node-triple S E (X .challenges) (X .different)
+
   pub vector-within : (h k t : ℕ) → h + t ≡ L → AtDepth t k → (j : ℕ) → natAbs (getD (vector S E finals h k) j (pos 0)) ≤ heightBound S h
   vector-within h k t e a j = elim (decLt j (2 ^ h * d)) [
-    | yes l ↦ by-cells d (2 ^ h) some Within (λ i x li lx. unfold signedAt in vector-bounded S some E finals leaves-within h k t e a i li x lx) j l
+    | yes l ↦ by-cells d (2 ^ h) some Within (λ i x li lx. unfold signedAt in vector-bounded S (X .valid .log) (sym (X .valid .degree-is)) some E finals triples leaves-within h k t e a i li x lx) j l
     | no g ↦ subst (λ z. natAbs z ≤ heightBound S h) (sym (List·getD-eq-default (vector S E finals h k) (pos 0) {n = j} (omega (arith, vector-length S E finals h k)))) (omega arith)
   ]
     where
       Within : ℕ → Type 0
       Within i = natAbs (getD (vector S E finals h k) i (pos 0)) ≤ heightBound S h
+
+  -- the three shares of a node, each within μ's weight times the children's bound, fit together
+  pub shares-fit : (h k t : ℕ) → suc (h + t) ≡ L → AtDepth t k → let c = challenge E k in
+      muWeight d (c 0) (c 1) (c 2) * heightBound S h + muWeight d (c 1) (c 0) (c 2) * heightBound S h + muWeight d (c 2) (c 0) (c 1) * heightBound S h ≤ 2 ^ 62
+  unfolding growthLimit
+  shares-fit h k t e a =
+      omega (arith, node-grows S (X .valid .log) (sym (X .valid .degree-is)) some E finals triples leaves-within h k t e a, heightBound-le S some (suc h) (omega arith), X .limited)
+
+  -- and each quotient of a child's vector on the way to a share
+  pub quotient-fits : (h : ℕ) → h < L → d * d * 2 * heightBound S h ≤ 2 ^ 62
+  unfolding growthLimit
+  quotient-fits h l = omega (arith, heightBound-suc S h, heightBound-le S some (suc h) l, X .limited)
 
   -- a leaf
   module _ {h k first space : ℕ} (A : AtNode S h k first space) (low : h ≡ 0) where

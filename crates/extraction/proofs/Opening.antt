@@ -16,7 +16,7 @@ use Rattle.protocol.specs.Demand3.{FullTree, FoldsOf, ExtractionClaim}
 use Rattle.claims.proofs.Extractor.{extraction-claim}
 use Rattle.refusals.proofs.GivenTree.{extract-given}
 
--- w opens 4^L times the commitment, within (12·d²)^L·B, as the judge says; and it is 4^L·m where all leaves are folds of m
+-- w opens 4^L times the commitment, within (8·d²)^L·B, as the judge says; and it is 4^L·m where all leaves are folds of m
 pub record RelaxedOpening (S : Settings) (C key E : List ℕ) (finals w : List ℤ) : Type 0 where
   pub opens : Opens S key C (slack S) w
   pub in-bound : Within (growth S) (cells S) w

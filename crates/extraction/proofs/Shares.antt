@@ -9,13 +9,14 @@ use native.Mathlib.Omega.{arith}
 use lib.ListN.{length, getD, take, drop, length-append, length-drop, List·getD-append}
 use lib.Seq.{length-take-le, getD-take, getD-drop, getD-append-add, ext-getD}
 use lib.IntN.{ℤ, pos, natAbs, _+ℤ_}
+use Rattle.algebra.specs.Magnitude.{weight}
 use Rattle.protocol.specs.Basic.{flat}
 use Rattle.protocol.specs.Element.{Element, rotate, signed, signedAt}
 use Rattle.protocol.specs.Tree.{gap, mu, share}
 use Rattle.protocol.proofs.Reading.{by-cells, flat-length, flat-at, flat-front, cell-inside}
 use Rattle.protocol.proofs.Rotation.{rotate-plus, rotate-add}
-use Rattle.claims.proofs.Bounds.{Bounded, rotate-bounded}
-use Rattle.claims.proofs.Norms.{product-bounded, weight-mu}
+use Rattle.claims.proofs.Bounds.{Bounded}
+use Rattle.claims.proofs.Growth.{share-turned}
 use Rattle.extraction.specs.Steps.{weighted}
 use Rattle.extraction.specs.Vectors.{scaled, Scalable, turnedRow, turned, Turnable, withShare, Sharing}
 use Rattle.protocol.proofs.Agreement.{rotate-same}
@@ -57,16 +58,16 @@ module _ (d n a b c : ℕ) (l : List ℤ) (T : Sharing d n a b c l) where
   unfolding signedAt
   v-bounded i li k lk = let h = cell-inside d n i k li lk in subst (λ z. natAbs z ≤ T .bound) (sym (v-at (i * d + k) h)) (T .within (i * d + k) h)
 
-  pub share-bounded : (i : ℕ) → i < n → Bounded d (d * d * 2 * T .bound) (share d M v i)
-  unfolding share
-  share-bounded i li = product-bounded d (T .some) (T .bound) (d * d * 2) (signed M) (signedAt d v i) (weight-mu d (T .some) a b c) (v-bounded i li)
+  -- how large the share is: by μ's weight
+  abbrev grown : ℕ
+  grown = weight d (signed M) * T .bound
 
   -- what the products leave: X^(2a) times the share
   abbrev ahead : ℕ → Element
   ahead i = rotate d (2 * a) (share d M v i)
 
-  ahead-bounded : (i : ℕ) → i < n → Bounded d (d * d * 2 * T .bound) (ahead i)
-  ahead-bounded i li = rotate-bounded d (T .some) (d * d * 2 * T .bound) (2 * a) (share d M v i) (share-bounded i li)
+  ahead-bounded : (i : ℕ) → i < n → Bounded d grown (ahead i)
+  ahead-bounded i li = share-turned d (T .some) (T .bound) M v i (v-bounded i li) (2 * a)
 
   abbrev once : ℕ
   once = backOnce d a
@@ -163,10 +164,10 @@ module _ (d n a b c : ℕ) (l : List ℤ) (T : Sharing d n a b c l) where
         ∙ getD-drop (n * d) l (j - n * d) (pos 0)
         ∙ ap (λ x. getD l x (pos 0)) (omega arith)
 
-    first-within : (j : ℕ) → j < n * d → natAbs (getD (s ++ R) j (pos 0)) ≤ d * d * 2 * T .bound
+    first-within : (j : ℕ) → j < n * d → natAbs (getD (s ++ R) j (pos 0)) ≤ grown
     first-within =
-        by-cells d n (T .some) (λ j. natAbs (getD (s ++ R) j (pos 0)) ≤ d * d * 2 * T .bound)
-        (λ i k li lk. subst (λ z. natAbs z ≤ d * d * 2 * T .bound) (sym (first-low i k li lk)) (ahead-bounded i li k lk))
+        by-cells d n (T .some) (λ j. natAbs (getD (s ++ R) j (pos 0)) ≤ grown)
+        (λ i k li lk. subst (λ z. natAbs z ≤ grown) (sym (first-low i k li lk)) (ahead-bounded i li k lk))
 
     pub share-turnable : Turnable d n twice once (s ++ R)
     unfolding backTwice backOnce
@@ -175,11 +176,11 @@ module _ (d n a b c : ℕ) (l : List ℤ) (T : Sharing d n a b c l) where
       small = T .small;
       exponents = (Nat.mod-lt (2 * once) (omega (arith, T .some)), Nat.mod-lt (2 * d - a) (omega (arith, T .some)));
       long = first-length;
-      bound = d * d * 2 * T .bound;
+      bound = grown;
       bound-to = T .bound-node;
       within = first-within;
       within-to = λ j h. subst (λ z. natAbs z ≤ T .bound-node) (sym (first-high j h)) (T .within-node j h);
-      room = T .room;
+      room = T .room-node;
     }
 
     -- after the sums

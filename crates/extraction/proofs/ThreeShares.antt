@@ -7,13 +7,13 @@ use native.Mathlib.Decide.{decLt}
 use native.Mathlib.Omega.{arith}
 use lib.ListN.{length, getD, List·getD-eq-default}
 use lib.IntN.{ℤ, pos, natAbs, _+ℤ_, +ℤ-idl}
-use Rattle.algebra.specs.Magnitude.{natAbs-add}
+use Rattle.algebra.specs.Magnitude.{natAbs-add, weight}
 use Rattle.protocol.specs.Basic.{flat}
 use Rattle.protocol.specs.Element.{Element, rotate, signed, signedAt, signedZeros}
-use Rattle.protocol.specs.Tree.{mu, share, joined}
+use Rattle.protocol.specs.Tree.{share, joined}
 use Rattle.protocol.proofs.Reading.{by-cells, flat-ext}
-use Rattle.claims.proofs.Bounds.{Bounded, rotate-bounded}
-use Rattle.claims.proofs.Norms.{product-bounded, weight-mu}
+use Rattle.claims.proofs.Bounds.{Bounded}
+use Rattle.claims.proofs.Growth.{share-bounded, share-turned}
 use Rattle.extraction.specs.Vectors.{withShare}
 use Rattle.residues.proofs.SignedFill.{signed-zeros-at}
 use Rattle.extraction.proofs.Halves.{withShare-length, withShare-first, withShare-second}
@@ -70,35 +70,39 @@ module _ (d n : ℕ) (p : 0 < d) where
 
   -- ---- how large they are
 
-  pub share-within : (a b c : ℕ) (v : List ℤ) (B : ℕ) → ((j : ℕ) → natAbs (getD v j (pos 0)) ≤ B) → (i : ℕ) → Bounded d (d * d * 2 * B) (share d (mu d a b c) v i)
-  unfolding share signedAt
-  share-within a b c v B w i = product-bounded d p B (d * d * 2) (signed (mu d a b c)) (signedAt d v i) (weight-mu d p a b c) (λ k lk. w (i * d + k))
-
-  module _ (a b c : ℕ) (v R : List ℤ) (A B : ℕ) (wv : (j : ℕ) → natAbs (getD v j (pos 0)) ≤ B) (wR : (j : ℕ) → natAbs (getD R j (pos 0)) ≤ A) where
+  module _ (a : ℕ) (m v R : List ℤ) (A B : ℕ) (wv : (j : ℕ) → natAbs (getD v j (pos 0)) ≤ B) (wR : (j : ℕ) → natAbs (getD R j (pos 0)) ≤ A) where
     abbrev next : List ℤ
-    next = withShare d n a (mu d a b c) v R
+    next = withShare d n a m v R
+
+    -- by μ's weight
+    abbrev most : ℕ
+    most = A + weight d (signed m) * B
+
+    v-within : (i : ℕ) → Bounded d B (signedAt d v i)
+    unfolding signedAt
+    v-within i k lk = wv (i * d + k)
 
     -- a sum of two of the numbers
-    within-sum : (x y z : ℤ) → x ≡ y +ℤ z → natAbs y ≤ A → natAbs z ≤ d * d * 2 * B → natAbs x ≤ A + d * d * 2 * B
-    within-sum x y z e hy hz = subst (λ w. natAbs w ≤ A + d * d * 2 * B) (sym e) (omega (arith, natAbs-add y z))
+    within-sum : (x y z : ℤ) → x ≡ y +ℤ z → natAbs y ≤ A → natAbs z ≤ weight d (signed m) * B → natAbs x ≤ most
+    within-sum x y z e hy hz = subst (λ w. natAbs w ≤ most) (sym e) (omega (arith, natAbs-add y z))
 
     abbrev Within : ℕ → Type 0
-    Within j = natAbs (getD next j (pos 0)) ≤ A + d * d * 2 * B
+    Within j = natAbs (getD next j (pos 0)) ≤ most
 
     within-first : (i k : ℕ) → i < n → k < d → Within (i * d + k)
     unfolding signedAt
-    within-first i k li lk = within-sum _ (signedAt d R i k) (share d (mu d a b c) v i k) (withShare-first d n a (mu d a b c) v R i k li lk) (wR (i * d + k)) (share-within a b c v B wv i k lk)
+    within-first i k li lk = within-sum _ (signedAt d R i k) (share d m v i k) (withShare-first d n a m v R i k li lk) (wR (i * d + k)) (share-bounded d p B m v i (v-within i) k lk)
 
     within-second : (i k : ℕ) → i < n → k < d → Within (n * d + (i * d + k))
     unfolding signedAt
-    within-second i k li lk = within-sum _ (signedAt d R (n + i) k) (rotate d a (share d (mu d a b c) v i) k) (withShare-second d n a (mu d a b c) v R i k li lk) (wR ((n + i) * d + k))
-        (rotate-bounded d p (d * d * 2 * B) a (share d (mu d a b c) v i) (share-within a b c v B wv i) k lk)
+    within-second i k li lk = within-sum _ (signedAt d R (n + i) k) (rotate d a (share d m v i) k) (withShare-second d n a m v R i k li lk) (wR ((n + i) * d + k))
+        (share-turned d p B m v i (v-within i) a k lk)
 
-    pub shared-within : (j : ℕ) → natAbs (getD next j (pos 0)) ≤ A + d * d * 2 * B
+    pub shared-within : (j : ℕ) → natAbs (getD next j (pos 0)) ≤ most
     shared-within j = elim (decLt j (n * d)) [
       | yes l ↦ by-cells d n p Within within-first j l
       | no g ↦ elim (decLt j (2 * (n * d))) [
         | yes l ↦ subst Within (omega arith) (by-cells d n p (λ i. Within (n * d + i)) within-second (j - n * d) (omega arith))
-        | no h ↦ subst (λ z. natAbs z ≤ A + d * d * 2 * B) (sym (List·getD-eq-default next (pos 0) {n = j} (omega (arith, withShare-length d n a (mu d a b c) v R)))) (omega arith)
+        | no h ↦ subst (λ z. natAbs z ≤ most) (sym (List·getD-eq-default next (pos 0) {n = j} (omega (arith, withShare-length d n a m v R)))) (omega arith)
       ]
     ]

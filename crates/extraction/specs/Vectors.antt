@@ -6,7 +6,7 @@
 --   turned d n e f i l    l with X^e times each of its first i elements added to that n elements behind it, and X^f times each to that 2n behind it
 --   Turnable d n e f l    l has 3n elements, and the sums fit
 --   withShare d n e m v R a node's vector R, of 2n elements, with μ·v added to its first half and X^e·μ·v to its second, μ being m
---   Sharing d n a b c l   a child's vector, of n elements, then the node's: the degree is one, the exponents are different ones, and the sums fit
+--   Sharing d n a b c l   a child's vector, of n elements, then the node's: the degree is one, the exponents are different ones, and the sums fit, the share being bounded by μ's weight
 --   branchAdded d n k ..  the node's vector after the share of child j at node k, the child's vector standing before it
 --   Branching d n k ..    the list is n free elements, the child's vector and the node's; the challenges of node k are there
 use mathlib.Core.Path.{_≡_}
@@ -15,9 +15,10 @@ use mathlib.Core.List.{List, _++_}
 use Prim.Native.Nat.{ℕ, _+_, _*_, _-_, _^_, _<_, _≤_}
 use lib.ListN.{length, getD, take, drop}
 use lib.IntN.{ℤ, pos, natAbs, _+ℤ_}
+use Rattle.algebra.specs.Magnitude.{weight}
 use Rattle.protocol.specs.Basic.{flat}
 use Rattle.protocol.specs.Layout.{width}
-use Rattle.protocol.specs.Element.{Element, rotate, signedAt}
+use Rattle.protocol.specs.Element.{Element, rotate, signed, signedAt}
 use Rattle.protocol.specs.Tree.{challenge, mu, share}
 use Rattle.residues.specs.Lists.{splicedRows}
 use Rattle.extraction.specs.Bounds.{Factors}
@@ -68,7 +69,8 @@ pub record Sharing (d n a b c : ℕ) (l : List ℤ) : Type 0 where
   pub bound-node : ℕ
   pub within : (j : ℕ) → j < n * d → natAbs (getD l j (pos 0)) ≤ bound
   pub within-node : (j : ℕ) → n * d ≤ j → natAbs (getD l j (pos 0)) ≤ bound-node
-  pub room : bound-node + d * d * 2 * bound ≤ 2 ^ 62
+  pub room : d * d * 2 * bound ≤ 2 ^ 62
+  pub room-node : bound-node + weight d (signed (mu d a b c)) * bound ≤ 2 ^ 62
 
 module _ (d n k j x y : ℕ) (E : List ℕ) where
   unfoldable pub branchAdded : List ℤ → List ℤ

@@ -78,10 +78,10 @@ power-cancel a b l = elim (decLe a b) [ yes h ↦ h | no h ↦ absurd (omega (ar
 pub square : (d : ℕ) → d ^ 2 ≡ d * d
 square d = rw (Nat.pow-suc d 1, Nat.pow-suc d 0, Nat.pow-zero d) (omega arith)
 
--- 2^(3 + 2·D) ≤ 12·d²
-factor-least : (D d : ℕ) → d ≡ 2 ^ D → 2 ^ (3 + (D + D)) ≤ growthFactor d
+-- 8·d² is 2^(3 + 2·D)
+factor-power : (D d : ℕ) → d ≡ 2 ^ D → growthFactor d ≡ 2 ^ (3 + (D + D))
 unfolding growthFactor
-factor-least D d e = omega (arith, Pow.pow-add 2 3 (D + D), Pow.pow-add 2 D D, square d, ap₂ _*_ e e)
+factor-power D d e = omega (arith, Pow.pow-add 2 3 (D + D), Pow.pow-add 2 D D, square d, ap₂ _*_ e e)
 
 few : (L D : ℕ) → L ≤ 8 → D ≤ 6 → (3 + (D + D)) * L ≤ 62 → L + D ≤ 10
 few L D l m h = elim (decLe 3 D) [
@@ -100,5 +100,5 @@ growth-cells S v l =
   where
     least : 2 ^ ((3 + (v .log + v .log)) * S .depth) ≤ 2 ^ 62
     least = Nat.le-trans
-        (Nat.le-trans (Nat.le-of-eq (sym (power-power (3 + (v .log + v .log)) (S .depth)))) (Nat.pow-le-pow-left (factor-least (v .log) (S .degree) (v .degree-is)) (S .depth)))
+        (Nat.le-of-eq (sym (ap (λ f. f ^ S .depth) (factor-power (v .log) (S .degree) (v .degree-is)) ∙ power-power (3 + (v .log + v .log)) (S .depth))))
         (Nat.le-trans (omega (arith, Nat.mul-le-mul-left (growthFactor (S .degree) ^ S .depth) (v .bound-least))) l)

@@ -61,10 +61,14 @@ examples =
     ∷ record { given = extractExit S₀ (8 ∷ 2 ∷ []) (3 ∷ 5 ∷ []) [] [] message₀ (pos 0 ∷ pos 0 ∷ []); wanted = message₀ }
     -- PROTOCOL 12.6: growth on both sides of its limit
     ∷ record { given = asNumber (growthAllowed (set 32 4 17 127)); wanted = pos 1 ∷ [] }
-    ∷ record { given = asNumber (growthAllowed (set 64 4 17 1)); wanted = pos 0 ∷ [] }
+    ∷ record { given = asNumber (growthAllowed (set 64 4 17 4)); wanted = pos 1 ∷ [] }
+    ∷ record { given = asNumber (growthAllowed (set 64 4 17 5)); wanted = pos 0 ∷ [] }
+    ∷ record { given = asNumber (growthAllowed (set 16 5 17 127)); wanted = pos 1 ∷ [] }
     -- the same as the judge's refusal 14, at tables of zeros; as the judge's and the extractor's at every full tree, in claims/proofs/GrowthCases
     ∷ record { given = pos (judgeRefusal (set 32 4 17 127) (replicate 32 0) 256 (replicate 512 0) (replicate 512 (pos 0))) ∷ []; wanted = pos 0 ∷ [] }
-    ∷ record { given = pos (judgeRefusal (set 64 4 17 1) (replicate 64 0) 256 (replicate 1024 0) (replicate 1024 (pos 0))) ∷ []; wanted = pos 14 ∷ [] }
+    ∷ record { given = pos (judgeRefusal (set 64 4 17 4) (replicate 64 0) 256 (replicate 1024 0) (replicate 1024 (pos 0))) ∷ []; wanted = pos 0 ∷ [] }
+    ∷ record { given = pos (judgeRefusal (set 64 4 17 5) (replicate 64 0) 256 (replicate 1024 0) (replicate 1024 (pos 0))) ∷ []; wanted = pos 14 ∷ [] }
+    ∷ record { given = pos (judgeRefusal (set 16 5 17 127) (replicate 16 0) 1024 (replicate 512 0) (replicate 512 (pos 0))) ∷ []; wanted = pos 0 ∷ [] }
     -- PROTOCOL 12.6: a slack that shares a factor with q, and w all zeros: the equation holds, and the judge refuses and says nothing
     ∷ record { given = asNumber (opens S₁ key₁ (T₁ .commitment) 17 w₁); wanted = pos 1 ∷ [] }
     ∷ record { given = pos (judgeRefusal S₁ (T₁ .commitment) 17 key₁ w₁) ∷ []; wanted = pos 15 ∷ [] }

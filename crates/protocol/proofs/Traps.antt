@@ -128,8 +128,8 @@ traps =
     ∷ record { given = pos (start S₁ (17 ∷ 4 ∷ []) .refusal) ∷ recordNumbers (start S₁ (17 ∷ 4 ∷ []) .next); wanted = pos 8 ∷ recordNumbers blank }
     ∷ record { given = recordNumbers (start S₁ (15 ∷ 4 ∷ 9 ∷ []) .next); wanted = recordNumbers fresh }
     -- the judge: 8 and 14 before 15, also where the slack shares a factor with q; −2^63 is beyond the bound and says no
-    ∷ number (judgeRefusal (set 64 4 17 1) (replicate 64 0) 0 (replicate 1024 0) (replicate 1024 (pos 0))) 14
-    ∷ number (judgeRefusal (set 64 4 17 1) (replicate 64 0) 17 (replicate 1024 0) (replicate 1024 (pos 0))) 14
+    ∷ number (judgeRefusal (set 64 4 17 5) (replicate 64 0) 0 (replicate 1024 0) (replicate 1024 (pos 0))) 14
+    ∷ number (judgeRefusal (set 64 4 17 5) (replicate 64 0) 17 (replicate 1024 0) (replicate 1024 (pos 0))) 14
     ∷ number (judgeRefusal S₁ (15 ∷ 17 ∷ []) 17 key₁ message₁) 8
     ∷ number (judgeRefusal S₁ (15 ∷ 4 ∷ []) 65_537 key₁ message₁) 15
     ∷ number (judgeRefusal S₁ (15 ∷ 4 ∷ []) 0 key₁ message₁) 15
@@ -144,15 +144,20 @@ traps =
     -- the extractor's slack is 4^L, and the judge takes what it extracts
     ∷ number (slack (set 2 3 17 1)) 64
     ∷ record { given = asNumber (judgeAnswer S₁ (15 ∷ 4 ∷ []) (slack S₁) key₁ (pos 4 ∷ negsuc 3 ∷ pos 4 ∷ pos 0 ∷ []) .yes); wanted = pos 1 ∷ [] }
-    -- the judge's bound is 12·d²·B = 48, and equality passes: 48·(3 + 5X) is 8 + 2X modulo 17
-    ∷ record { given = asNumber (judgeAnswer S₁ (8 ∷ 2 ∷ []) 1 key₁ (pos 48 ∷ pos 0 ∷ pos 0 ∷ pos 0 ∷ []) .yes); wanted = pos 1 ∷ [] }
-    ∷ record { given = asNumber (judgeAnswer S₁ (11 ∷ 7 ∷ []) 1 key₁ (pos 49 ∷ pos 0 ∷ pos 0 ∷ pos 0 ∷ []) .yes); wanted = pos 0 ∷ [] }
+    -- the judge's bound is 8·d²·B = 32, and equality passes: 32·(3 + 5X) is 11 + 7X modulo 17, and 33·(3 + 5X) is 14 + 12X
+    ∷ record { given = asNumber (judgeAnswer S₁ (11 ∷ 7 ∷ []) 1 key₁ (pos 32 ∷ pos 0 ∷ pos 0 ∷ pos 0 ∷ []) .yes); wanted = pos 1 ∷ [] }
+    ∷ record { given = asNumber (judgeAnswer S₁ (14 ∷ 12 ∷ []) 1 key₁ (pos 33 ∷ pos 0 ∷ pos 0 ∷ pos 0 ∷ []) .yes); wanted = pos 0 ∷ [] }
     -- the extractor: 12 before 13; 10 before 12; exponents 0 and d differ; too tall a leaf is a rejected path; 13 before 14; a refusal leaves w
     ∷ number (extractRefusal S₁ (15 ∷ 4 ∷ []) key₁ rounds₁ (0 ∷ 1 ∷ 0 ∷ []) (replicate 6 (pos 0)) (replicate 4 (pos 0))) 12
     ∷ number (extractRefusal S₁ (15 ∷ 4 ∷ []) key₁ rounds₁ (0 ∷ 4 ∷ 0 ∷ []) (replicate 6 (pos 0)) (replicate 4 (pos 0))) 10
     ∷ number (extractRefusal S₁ (15 ∷ 4 ∷ []) key₁ rounds₁ (0 ∷ 1 ∷ 2 ∷ []) (pos 19 ∷ negsuc 0 ∷ pos 1 ∷ pos 0 ∷ pos 0 ∷ negsuc 0 ∷ []) (replicate 4 (pos 0))) 13
-    ∷ number (extractRefusal (set 64 4 17 1) (1 ∷ replicate 63 0) (replicate 1024 0) (replicate 7680 0) (flat 3 40 (λ i k. k)) (replicate 5184 (pos 0)) (replicate 1024 (pos 0))) 13
+    ∷ number (extractRefusal (set 64 4 17 5) (1 ∷ replicate 63 0) (replicate 1024 0) (replicate 7680 0) (flat 3 40 (λ i k. k)) (replicate 5184 (pos 0)) (replicate 1024 (pos 0))) 13
     ∷ record { given = extractExit S₁ (15 ∷ 5 ∷ []) key₁ rounds₁ (0 ∷ 1 ∷ 2 ∷ []) leaves₁ (pos 7 ∷ pos 7 ∷ pos 7 ∷ pos 7 ∷ []); wanted = pos 7 ∷ pos 7 ∷ pos 7 ∷ pos 7 ∷ [] }
+    -- leaves within n·B = 2 that make w as large as 4·d²·B = 16, half of the bound: the three μ are −2X, 4 and 2X
+    ∷ record {
+      given = extractExit S₁ (0 ∷ 0 ∷ []) (replicate 4 0) (replicate 6 0) (1 ∷ 2 ∷ 3 ∷ []) (pos 2 ∷ pos 2 ∷ pos 2 ∷ pos 2 ∷ pos 2 ∷ negsuc 1 ∷ []) (replicate 4 (pos 0));
+      wanted = pos 16 ∷ pos 8 ∷ pos 0 ∷ negsuc 7 ∷ [];
+    }
     ∷ []
 
 pub trapped : all agree traps ≡ true

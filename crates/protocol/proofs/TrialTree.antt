@@ -85,7 +85,7 @@ extracted₁ claim = claim S₁ key₁ valid₁ key-below .extraction (6 ∷ 10 
 pub record Given (w : List ℤ) : Type 0 where
   pub not-refused : extractRefusal S₁ (6 ∷ 10 ∷ []) key₁ sent₁ E₁ finals₁ w₁ ≡ 0
   pub root-vector : w ≡ rootVector S₁ E₁ finals₁
-  pub in-bound : Within 48 4 w
+  pub in-bound : Within 32 4 w
   pub opens : Opens S₁ key₁ (6 ∷ 10 ∷ []) 4 w
   pub judged : judgeAnswer S₁ (6 ∷ 10 ∷ []) 4 key₁ w ≡ record { refusal = 0; yes = true }
   pub exact : w ≡ pos 8 ∷ pos 0 ∷ pos 0 ∷ pos 0 ∷ []
@@ -106,7 +106,7 @@ extraction-gives claim =
 module _ (claim : PerformedDemand3) (n : ℕ) (w′ : List ℤ) (call : Extracted S₁ (6 ∷ 10 ∷ []) key₁ sent₁ E₁ finals₁ w₁ n w′) (j : Judged) (judge : j ≡ judgeAnswer S₁ (6 ∷ 10 ∷ []) 4 key₁ w′) where
   pub record Performed : Type 0 where
     pub not-refused : n ≡ 0
-    pub in-bound : Within 48 4 w′
+    pub in-bound : Within 32 4 w′
     pub opens : Opens S₁ key₁ (6 ∷ 10 ∷ []) 4 w′
     pub judged : j ≡ record { refusal = 0; yes = true }
     pub exact : w′ ≡ pos 8 ∷ pos 0 ∷ pos 0 ∷ pos 0 ∷ []

@@ -1,8 +1,8 @@
--- Refusal 14's test in numbers that stay small: (12·d²)^L·B, multiplied factor by factor, and held at one past the limit as soon as it is past it.
+-- Refusal 14's test in numbers that stay small: (8·d²)^L·B, multiplied factor by factor, and held at one past the limit as soon as it is past it.
 --
 --   cappedTimes c f g      g·f where that is at most c, else c + 1
 --   cappedPower c f b n    f^n·b so computed
---   cappedGrowth S         (12·d²)^L·B so computed, with the limit 2^62
+--   cappedGrowth S         (8·d²)^L·B so computed, with the limit 2^62
 use Prim.Native.Nat.{ℕ, zero, suc, _*_, _/_}
 use lib.Dec.{leb}
 use Rattle.protocol.specs.declared.Settings.{Settings}

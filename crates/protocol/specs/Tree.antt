@@ -11,13 +11,13 @@
 --   mu d a b c                  μ of the challenge X^a, the others being X^b and X^c
 --   share d m v i               element i of μ·v
 --   combined d n ..             a node's vector from its three children's, of n elements each
---   growthFactor, growthLimit   12·d², 2^62
+--   growthFactor, growthLimit   8·d², 2^62
 --   nodes S, leaves S           passed on from Layout
 --   onPath S j t                the node that the path to leaf j meets after t steps
 --   path S ..                   the path to leaf j, a transcript
 --   leaf S finals j             the final element of leaf j; foldTo S E j m: what L folds of m by its path's challenges give
 --   vector S .. h k             the vector of node k, h steps above the leaves; rootVector S ..: that of the root
---   growth S, growthAllowed S   (12·d²)^L·B, and is it at most 2^62 (refusal 14)
+--   growth S, growthAllowed S   (8·d²)^L·B, and is it at most 2^62 (refusal 14)
 use mathlib.Core.Path.{_≡_}
 use mathlib.Core.Bool.{Bool, _&&_, not}
 use mathlib.Core.List.{List, _++_}
@@ -111,7 +111,7 @@ combined d n a b c v₁ v₂ v₃ = joined d n a b c (mu d a b c) (mu d b a c) (
 -- ---- growth, PROTOCOL 5.6
 
 unfoldable pub growthFactor : ℕ → ℕ
-growthFactor d = 12 * d ^ 2
+growthFactor d = 8 * d ^ 2
 
 unfoldable pub growthLimit : ℕ
 growthLimit = 2 ^ 62

@@ -171,7 +171,7 @@ fn capped_times(factor: u64, g: u64) -> u64
     g * factor
 }
 
-// (12·d²)^L·B, held at one past 2^62 as soon as it is past it.
+// (8·d²)^L·B, held at one past 2^62 as soon as it is past it.
 pub fn growth(settings: Settings) -> u64
     ensures { λ r. ⌜ Provided (settingsRefusal settings ≡ 0) (r ≡ cappedGrowth settings) ⌝ }
 {
@@ -182,7 +182,7 @@ pub fn growth(settings: Settings) -> u64
     if (d as usize) > WIDTH {
         return 0;
     }
-    let factor = 12 * d * d;
+    let factor = 8 * d * d;
     let mut g = settings.bound as u64;
     for i in 0..settings.depth {
         g = capped_times(factor, g);

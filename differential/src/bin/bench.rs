@@ -434,6 +434,7 @@ fn reference_rows(table: &Table, large: Settings, native: bool) {
     text_rows(table);
     for (s, number) in [
         (Settings::new(64, 3, Q, 127), 0),
+        (Settings::new(64, 4, Q, 4), 0),
         (Settings::new(4, 8, Q, 2), 0),
         (large, GROWTH),
     ] {

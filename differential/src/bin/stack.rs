@@ -133,8 +133,8 @@ fn calls() -> Vec<(&'static str, Call<'static>)> {
         ),
         ("open, d = 64, L = 8", open(large)),
         (
-            "extract, d = 64, L = 3",
-            extract(Settings::new(64, 3, 9, 127), 0),
+            "extract, d = 64, L = 4",
+            extract(Settings::new(64, 4, 9, 4), 0),
         ),
         ("extract, d = 4, L = 8", extract(bounded, 0)),
         ("extract, d = 64, L = 8", extract(large, GROWTH)),

@@ -3,7 +3,7 @@
 use super::lent::{four, places};
 use crate::case::{Call, Outcome, Table};
 use crate::verified;
-use reference::draw::tables;
+use reference::draw::{base, tables};
 use reference::draw::{damage_some, Limits};
 use reference::plain::refusals::Lengths;
 use reference::random::Random;
@@ -28,6 +28,14 @@ pub struct Judge {
     yes: u32,
 }
 
+/// Settings whose growth is 2^62 itself, which passes, or with a bound that is
+/// one larger, which is refused by 14.
+fn at_the_limit(random: &mut Random) -> Settings {
+    let (degree, depth, most) = random.pick(&[(64, 4, 4), (4, 8, 64)]);
+    let bound = most + random.below(2) as u32;
+    Settings::new(degree, depth, base::modulus(random), bound)
+}
+
 /// The judge by one of the references.
 type Judging = fn(Settings, Residues, u32, &[u32], &[i64]) -> JudgeAnswer;
 
@@ -48,7 +56,12 @@ impl Call for Judge {
     const FAST: bool = true;
 
     fn draw(random: &mut Random, limits: &Limits) -> Judge {
-        let (mut input, _) = tables::judge(random, limits);
+        let (mut input, _) = if limits.table >= 1024 && random.one_in(16) {
+            let settings = at_the_limit(random);
+            tables::judge_at(random, settings)
+        } else {
+            tables::judge(random, limits)
+        };
         if random.one_in(2) {
             damage_some(random, &mut input);
         }

@@ -44,7 +44,7 @@ impl Extract {
 
 /// Settings at which an accepted tree is refused by 14, with small trees.
 fn growing(random: &mut Random) -> Settings {
-    let (degree, depth, least) = random.pick(&[(16, 5, 17), (8, 6, 23), (64, 4, 1), (32, 5, 1)]);
+    let (degree, depth, least) = random.pick(&[(64, 4, 5), (32, 5, 1), (16, 6, 1), (8, 7, 1)]);
     let bound = random.between(least, 127) as u32;
     Settings::new(degree, depth, base::modulus(random), bound)
 }
@@ -203,11 +203,11 @@ sized!(
     "extract, large",
     &[0, 13],
     &[
-        (64, 3, 127),
+        (64, 4, 4),
         (32, 4, 127),
-        (16, 5, 16),
-        (8, 6, 22),
-        (4, 8, 2),
+        (16, 5, 127),
+        (8, 6, 127),
+        (4, 8, 64),
         (2, 8, 127),
     ]
 );

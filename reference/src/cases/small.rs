@@ -157,12 +157,12 @@ fn judged(input: &tables::JudgeInput) -> (bool, bool) {
     let reduced: Vec<i64> = input.w.iter().map(|x| x % q).collect();
     let (c, key) = (input.c, &input.key);
     // The same question with the numbers reduced, so that the bound is met;
-    // with L = 1 it is at least 48.
+    // with L = 1 it is at least 32.
     let wide = Settings {
         bound: 127,
         ..input.settings
     };
-    let opens = if q <= 48 * 127 {
+    let opens = if q <= 32 * 127 {
         plain::judge(wide, input.commitment, c, key, &reduced).yes
     } else {
         small && plain::judge(input.settings, input.commitment, c, key, &input.w).yes

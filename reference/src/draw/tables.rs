@@ -196,6 +196,10 @@ pub struct JudgeInput {
 /// equation is spoiled, or w is zero and the slack makes the commitment zero.
 pub fn judge(random: &mut Random, limits: &Limits) -> (JudgeInput, u32) {
     let settings = settings(random, limits, false);
+    judge_at(random, settings)
+}
+
+pub fn judge_at(random: &mut Random, settings: Settings) -> (JudgeInput, u32) {
     let shape = shape(settings);
     let key = residues(random, shape.table(), shape.q);
     let growth = refuse::growth(&shape);

@@ -159,7 +159,7 @@ pub fn free_at(random: &mut Random, settings: Settings) -> Tree {
 
 /// The smallest settings at which an accepted tree is refused by 14.
 pub fn growth_settings(random: &mut Random) -> Settings {
-    Settings::new(64, 4, modulus(random), bound(random))
+    Settings::new(64, 4, modulus(random), random.between(5, 127) as u32)
 }
 
 impl Damage for Tree {

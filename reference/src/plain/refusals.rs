@@ -115,10 +115,10 @@ impl Whole {
         (2..=c).any(|factor| c % factor == 0 && q % factor == 0)
     }
 
-    /// Whether (12·d²)^L·B is over 2^62. A product that has no room in 128
+    /// Whether (8·d²)^L·B is over 2^62. A product that has no room in 128
     /// bits is.
     fn grows(self) -> bool {
-        let factor = 12 * self.d * self.d;
+        let factor = 8 * self.d * self.d;
         let growth = (0..self.l).try_fold(self.b, |g, _| g.checked_mul(factor));
         growth.map_or(true, |g| g > 4_611_686_018_427_387_904)
     }

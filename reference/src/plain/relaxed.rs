@@ -19,9 +19,9 @@ pub fn judge(s: Settings, commitment: Residues, c: u32, key: &[u32], w: &[i64]) 
     JudgeAnswer { number, yes }
 }
 
-/// (12·d²)^L·B.
+/// (8·d²)^L·B.
 fn vector_bound(shape: &Shape) -> i128 {
-    (12 * (shape.d * shape.d) as i128).pow(shape.l as u32) * shape.b
+    (8 * (shape.d * shape.d) as i128).pow(shape.l as u32) * shape.b
 }
 
 fn opens(shape: &Shape, commitment: &Residues, c: u32, key: &[u32], w: &[i64]) -> bool {

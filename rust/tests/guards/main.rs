@@ -60,7 +60,7 @@ fn every_call_between_guards() {
         list.extend(scenarios::of_relaxed(&opening, 0));
         list.extend(scenarios::of_text(&opening));
     }
-    let growing = Opening::zeros(settings(64, 4, 17, 1));
+    let growing = Opening::zeros(settings(64, 4, 17, 5));
     list.extend(scenarios::of_relaxed(&growing, 14));
     list.push(scenarios::of_long_text(&Opening::zeros(settings(
         64, 8, 17, 1,

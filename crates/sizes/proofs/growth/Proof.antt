@@ -13,13 +13,13 @@ use Rattle.sizes.proofs.Limits.{degree-least, degree-most}
 use Rattle.sizes.proofs.growth.Statement.{statement}
 use Rattle.sizes.proofs.growth.Tie as tie
 
--- 12·d² as the code has it
-factor-is : (d : ℕ) → 12 * d * d ≡ growthFactor d
+-- 8·d² as the code has it
+factor-is : (d : ℕ) → 8 * d * d ≡ growthFactor d
 unfolding growthFactor
 factor-is d = omega (arith, square d)
 
-factor-most : (d : ℕ) → d ≤ 64 → 12 * d * d ≤ 49152
-factor-most d h = Nat.mul-le-mul {n₁ = 12 * d} {m₁ = d} {n₂ = 768} {m₂ = 64} (omega arith) h
+factor-most : (d : ℕ) → d ≤ 64 → 8 * d * d ≤ 32768
+factor-most d h = Nat.mul-le-mul {n₁ = 8 * d} {m₁ = d} {n₂ = 512} {m₂ = 64} (omega arith) h
 
 next : (c f b i : ℕ) → cappedPower c f b (suc i) ≡ cappedPower c f b (i + 1)
 next c f b i = ap (cappedPower c f b) (sym (add-one i))
@@ -44,13 +44,13 @@ unfolding cappedPower
 loop-holds c =
     let d = c .before .before .before .before .args .settings .degree in
     let some : 0 < d = omega arith in
-    (omega arith, Nat.mul-pos {m = 12 * d} {n = d} (omega arith) some, refl)
+    (omega arith, Nat.mul-pos {m = 8 * d} {n = d} (omega arith) some, refl)
 
 loop-again : tie.Need-loop-again Inv-loop μ-loop
 unfolding cappedPower
 loop-again c =
     let l = c .before .before .loop in let a = c .before .before .before .before .before .before .before .args .settings in
-    (omega arith, l .inv .1, c .capped-times .ensures ∙ ap (cappedTimes growthLimit (12 * a .degree * a .degree)) (l .inv .2) ∙ next growthLimit (12 * a .degree * a .degree) (a .bound) (l .i))
+    (omega arith, l .inv .1, c .capped-times .ensures ∙ ap (cappedTimes growthLimit (8 * a .degree * a .degree)) (l .inv .2) ∙ next growthLimit (8 * a .degree * a .degree) (a .bound) (l .i))
 
 returns-3 : tie.Need-returns-3 Inv-loop μ-loop
 unfolding cappedGrowth
