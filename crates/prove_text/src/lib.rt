@@ -59,9 +59,9 @@ fn print_opening(
     requires { ⌜ Openable settings (now key) (now message) (now challenges) (now rounds) ⌝ }
     ensures { λ r. ⌜ Printed settings (now (key .entry)) (now (message .entry)) (now (challenges .entry)) (now (out .entry)) r (now (out .exit)) ⌝ }
 {
-    let opened = opening::open(settings, key, message, challenges, rounds);
-    let commitment = opened.commitment;
-    let last = opened.last;
+    let transcript = opening::opened(settings, key, message, challenges, rounds);
+    let commitment = transcript.commitment;
+    let last = transcript.last;
     let degree = settings.degree as usize;
     let no_key = [0u32; 1];
     let no_message = [0i32; 1];

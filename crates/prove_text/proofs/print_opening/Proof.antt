@@ -1,4 +1,4 @@
--- `print_opening`: the opening refuses nothing, and of what it gives the writer refuses nothing but the length of the text.
+-- `print_opening`: nothing of the opening is refused, and of what it gives the writer refuses nothing but the length of the text.
 use mathlib.Core.Path.{_≡_, sym, ap, subst, _∙_}
 use mathlib.Core.List.{List, []}
 use Prim.Native.Nat.{ℕ, _≤_}
@@ -10,9 +10,10 @@ use Rattle.protocol.specs.declared.Settings.{Settings}
 use Rattle.protocol.specs.Opening.{roundTable}
 use Rattle.protocol.specs.Transcript.{transcriptOf}
 use Rattle.protocol.specs.Basic.{Provided}
+use Rattle.protocol.specs.Calls.{openingRefusal}
 use Rattle.protocol.specs.Text.{textOf}
 use Rattle.protocol.specs.Programs.{printed}
-use Rattle.claims.proofs.Honest.{opening-commitment, opening-last, opening-rounds}
+use Rattle.claims.proofs.Honest.{opening-granted, opening-commitment, opening-last, opening-rounds}
 use Rattle.text_parts.specs.Parts.{tablesOf}
 use Rattle.table_writer.specs.Tables.{Writable, Output}
 use Rattle.prove_text.specs.Printed.{Openable}
@@ -21,7 +22,7 @@ use Rattle.prove_text.proofs.print_opening.Statement.{statement}
 use Rattle.prove_text.proofs.print_opening.Tie as tie
 
 -- what the opening gives
-module _ (c : tie.After-open) where
+module _ (c : tie.After-opened) where
   abbrev start : tie.Start
   start = c .before .before .before .before .before .before .before .before
 
@@ -43,14 +44,17 @@ module _ (c : tie.After-open) where
   ok : Openable S G M E R
   ok = start .pre
 
-  commitment-given : (S .degree ≤ length (c .«open» .result .commitment)) × (take (S .degree) (c .«open» .result .commitment) ≡ transcriptOf S G M E .commitment)
-  commitment-given = commitment-front S G M E R ok _ (ap (λ r. r .commitment) (c .«open» .ensures .answer) ∙ opening-commitment (given S G M E R ok) R (ok .rounds-long))
+  granted : openingRefusal S G M E R ≡ 0
+  granted = opening-granted (given S G M E R ok) R (ok .rounds-long)
 
-  last-given : (S .degree ≤ length (c .«open» .result .last)) × (take (S .degree) (c .«open» .result .last) ≡ transcriptOf S G M E .last)
-  last-given = last-front S G M E R ok _ (ap (λ r. r .last) (c .«open» .ensures .answer) ∙ opening-last (given S G M E R ok) R (ok .rounds-long))
+  commitment-given : (S .degree ≤ length (c .opened .result .commitment)) × (take (S .degree) (c .opened .result .commitment) ≡ transcriptOf S G M E .commitment)
+  commitment-given = commitment-front S G M E R ok _ (ap (λ r. r .commitment) (c .opened .ensures granted .answer) ∙ opening-commitment (given S G M E R ok) R (ok .rounds-long))
 
-  rounds-given : c .«open» .last .1 .1 .1 .1 .0 ≡ roundTable S E G M
-  rounds-given = c .«open» .ensures .rounds-exit ∙ opening-rounds (given S G M E R ok) R (ok .rounds-long)
+  last-given : (S .degree ≤ length (c .opened .result .last)) × (take (S .degree) (c .opened .result .last) ≡ transcriptOf S G M E .last)
+  last-given = last-front S G M E R ok _ (ap (λ r. r .last) (c .opened .ensures granted .answer) ∙ opening-last (given S G M E R ok) R (ok .rounds-long))
+
+  rounds-given : c .opened .last .1 .1 .1 .1 .0 ≡ roundTable S E G M
+  rounds-given = c .opened .ensures granted .rounds-exit ∙ opening-rounds (given S G M E R ok) R (ok .rounds-long)
 
 array-share-prefix-commitment : tie.Need-array-share-prefix-commitment
 array-share-prefix-commitment c = commitment-given (c .before .before .before .before .before .before .before .before .before .before .before) .0
@@ -70,7 +74,7 @@ returns c =
     let w = c .before .before in
     let o = c .before .before .before .before .before .before .before .before .before .before .before .before .before .before .before .before .before .before in
     let p = c .before .before .before .before .before .before .before .before .before in
-    let u = tablesOf [] [] (take (S o .degree) (o .«open» .result .commitment)) (o .«open» .last .1 .1 .1 .1 .0) (E o) (take (S o .degree) (o .«open» .result .last)) in
+    let u = tablesOf [] [] (take (S o .degree) (o .opened .result .commitment)) (o .opened .last .1 .1 .1 .1 .0) (E o) (take (S o .degree) (o .opened .result .last)) in
     let out = start o .args .out .now in
     let r = w .write-tables .result in
     let out′ = w .write-tables .last .1 .1 .1 .1 .1 .1 .1 .1 .0 in
