@@ -59,8 +59,14 @@ module _ (q y x s e : ℕ) (p : 0 < q) (fits : x < 2 ^ 64) (es : s ≡ y * 2 ^ 6
 
   pub estimate-low : e * q ≤ x * y
   estimate-low = Nat.le-of-mul-le-mul-right {m = e * q} {n = x * y} {k = 2 ^ 64} (
-      omega (arith, Nat.mul-le-mul-right {m = e * 2 ^ 64} {n = x * s} q (omega arith), Nat.mul-right-comm e (2 ^ 64) q,
-      Nat.mul-assoc x s q, Nat.mul-le-mul-left x share-low, Nat.mul-assoc x y (2 ^ 64))) (omega arith)
+      omega (
+        arith,
+        Nat.mul-le-mul-right {m = e * 2 ^ 64} {n = x * s} q (omega arith),
+        Nat.mul-right-comm e (2 ^ 64) q,
+        Nat.mul-assoc x s q,
+        Nat.mul-le-mul-left x share-low,
+        Nat.mul-assoc x y (2 ^ 64),
+      )) (omega arith)
 
   product-most : x * y * 2 ^ 64 ≤ x * s * q + x * q
   product-most = Nat.le-trans (Nat.le-of-eq (Nat.mul-assoc x y (2 ^ 64)))
