@@ -44,7 +44,8 @@ module _ (q d : ℕ) (p : 0 < q) (most : q ≤ 2 ^ 61) (pd : 0 < d) (a : List �
   turned-below y = omega (arith, modulo-lt q p (around d (residue a) y))
 
   pub product-adds-halves : (z : ℤ) (b : ℕ) (s t : List ℕ) → Halves q z b (getD s k 0) (getD t k 0)
-      → Halves q (z +ℤ product d (signed f) (residue a) k) (b + d * (c * weight)) (getD (addRows d f (λ y. lowerHalf (turned q d a y)) d s) k 0) (getD (addRows d f (λ y. upperHalf (turned q d a y)) d t) k 0)
+      → Halves q (z +ℤ product d (signed f) (residue a) k) (b + d * (c * weight)) (getD (addRows d f (λ y. lowerHalf (turned q d a y)) d s) k 0)
+      (getD (addRows d f (λ y. upperHalf (turned q d a y)) d t) k 0)
   unfolding modulo
   product-adds-halves z b s t H = halves-same q _ (z +ℤ product d (signed f) (residue a) k) _ _ _
       (modulo-add q p z (pos (total d (term d f (turned q d a) k))) ∙ ap (λ y. (modulo q z + y) % q) (added-residue q d p pd a k lk f) ∙ sym (modulo-add q p z (product d (signed f) (residue a) k)))

@@ -59,7 +59,14 @@ module _ (q y x s e : ℕ) (p : 0 < q) (fits : x < 2 ^ 64) (es : s ≡ y * 2 ^ 6
 
   pub estimate-low : e * q ≤ x * y
   estimate-low = Nat.le-of-mul-le-mul-right {m = e * q} {n = x * y} {k = 2 ^ 64} (
-      omega (arith, Nat.mul-le-mul-right {m = e * 2 ^ 64} {n = x * s} q (omega arith), Nat.mul-right-comm e (2 ^ 64) q, Nat.mul-assoc x s q, Nat.mul-le-mul-left x share-low, Nat.mul-assoc x y (2 ^ 64))) (omega arith)
+      omega (
+        arith,
+        Nat.mul-le-mul-right {m = e * 2 ^ 64} {n = x * s} q (omega arith),
+        Nat.mul-right-comm e (2 ^ 64) q,
+        Nat.mul-assoc x s q,
+        Nat.mul-le-mul-left x share-low,
+        Nat.mul-assoc x y (2 ^ 64),
+      )) (omega arith)
 
   product-most : x * y * 2 ^ 64 ≤ x * s * q + x * q
   product-most = Nat.le-trans (Nat.le-of-eq (Nat.mul-assoc x y (2 ^ 64)))
@@ -77,7 +84,8 @@ words : (N E b r : ℕ) → E ≤ N → N < E + b → b ≤ 2 ^ 64 → r < 2 ^ 6
 words N E b r low high few fits w = omega arith
 
 -- what is left when the estimate's multiple of q is taken away, and less q where that still goes
-module _ (q y x s e r : ℕ) (p : 0 < q) (most : q ≤ 2 ^ 61) (fits : x < 2 ^ 64) (es : s ≡ y * 2 ^ 64 / q) (ee : e ≡ x * s / 2 ^ 64) (r-fits : r < 2 ^ 64) (er : (r + e * q % 2 ^ 64) % 2 ^ 64 ≡ x * y % 2 ^ 64) where
+module _ (q y x s e r : ℕ) (p : 0 < q) (most : q ≤ 2 ^ 61) (fits : x < 2 ^ 64) (es : s ≡ y * 2 ^ 64 / q) (ee : e ≡ x * s / 2 ^ 64)
+    (r-fits : r < 2 ^ 64) (er : (r + e * q % 2 ^ 64) % 2 ^ 64 ≡ x * y % 2 ^ 64) where
   left : x * y ≡ r + e * q
   left = words (x * y) (e * q) (2 * q) r (estimate-low q y x s e p fits es ee) (estimate-high q y x s e p fits es ee) (omega arith) r-fits er
 

@@ -22,7 +22,8 @@ returns c = λ q y R.
     let w = c .before .before in
     let a = w .before .before .before .before .args in
     rest-below q (y % q) (a .x) (a .factor .share) (w .before .before .before .upper .result) (w .wrapping-sub-u64 .result) (R .allowed .positive) (R .allowed .most) (omega arith)
-    (R .share) (w .before .before .before .upper .ensures) (w .wrapping-sub-u64 .ok) (difference w q y R) (subst (λ n. w .wrapping-sub-u64 .result < n) (R .modulus) (c .if1 .taken)) ∙ times-mod q (R .allowed .positive) (a .x) y
+    (R .share) (w .before .before .before .upper .ensures) (w .wrapping-sub-u64 .ok)
+    (difference w q y R) (subst (λ n. w .wrapping-sub-u64 .result < n) (R .modulus) (c .if1 .taken)) ∙ times-mod q (R .allowed .positive) (a .x) y
 
 returns-2 : tie.Need-returns-2
 returns-2 c = λ q y R.
@@ -30,7 +31,8 @@ returns-2 c = λ q y R.
     let a = w .before .before .before .before .args in
     ap (λ n. w .wrapping-sub-u64 .result - n) (R .modulus)
     ∙ rest-above q (y % q) (a .x) (a .factor .share) (w .before .before .before .upper .result) (w .wrapping-sub-u64 .result) (R .allowed .positive) (R .allowed .most) (omega arith)
-    (R .share) (w .before .before .before .upper .ensures) (w .wrapping-sub-u64 .ok) (difference w q y R) (subst (λ n. n ≤ w .wrapping-sub-u64 .result) (R .modulus) (c .before .if1 .left)) ∙ times-mod q (R .allowed .positive) (a .x) y
+    (R .share) (w .before .before .before .upper .ensures) (w .wrapping-sub-u64 .ok)
+    (difference w q y R) (subst (λ n. n ≤ w .wrapping-sub-u64 .result) (R .modulus) (c .before .if1 .left)) ∙ times-mod q (R .allowed .positive) (a .x) y
 
 pub multiply-spec : {M : Type 1} → statement M
 multiply-spec =

@@ -27,13 +27,21 @@ add-digits : tie.Need-add-digits Inv-loop μ-loop
 add-digits c =
     let a = c .before .before .args in
     let l = c .before .loop in
-    omega (arith, digits-small (a .q) (a .y) (omega arith) (power (l .i)) (l .digits) (l .rest) (l .inv .1) (pow-pos (3 * l .i + 1)), power-most (l .i) (omega arith), digit-small (a .q) (a .y) (omega arith) (power (l .i)) (l .digits) (l .rest) (l .inv .1))
+    omega (
+      arith,
+      digits-small (a .q) (a .y) (omega arith) (power (l .i)) (l .digits) (l .rest) (l .inv .1) (pow-pos (3 * l .i + 1)),
+      power-most (l .i) (omega arith),
+      digit-small (a .q) (a .y) (omega arith) (power (l .i)) (l .digits) (l .rest) (l .inv .1),
+    )
 
 loop-again : tie.Need-loop-again Inv-loop μ-loop
 loop-again c =
     let a = c .before .before .args in
-    let l = c .before .loop in
-    (omega arith, subst (λ P. Digits (a .q) (a .y) P (8 * l .digits + 8 * l .rest / a .q) (8 * l .rest % a .q)) (power-more (l .i)) (digits-more (a .q) (a .y) (omega arith) (power (l .i)) (l .digits) (l .rest) (l .inv .1)))
+    let l = c .before .loop in (
+      omega arith,
+      subst (λ P. Digits (a .q) (a .y) P (8 * l .digits + 8 * l .rest / a .q) (8 * l .rest % a .q)) (power-more (l .i))
+          (digits-more (a .q) (a .y) (omega arith) (power (l .i)) (l .digits) (l .rest) (l .inv .1)),
+    )
 
 returns : tie.Need-returns Inv-loop μ-loop
 returns c =
