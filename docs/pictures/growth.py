@@ -18,7 +18,7 @@ CALLS = [('commit', 'Commitment', lambda d, n: n * d * d, 'n·d² products of co
          ('check', 'Check of a transcript', lambda d, n: n * d, 'n·d numbers of the key'),
          ('session', 'Session of all its rounds', lambda d, n: n * d, 'n·d numbers of the key')]
 # A depth at which trees are extracted at every degree.
-ALWAYS_EXTRACTED = 3
+ALWAYS_EXTRACTED = 4
 
 
 def read():
