@@ -256,8 +256,8 @@ pub fn parts(input: Input) -> PartsTaken {
         key: key.value.magnitude != 0,
         message: message.value.magnitude != 0,
         commitment: commitment.value.magnitude != 0,
-        round: round.value.magnitude != 0,
-        challenge: challenge.value.magnitude != 0,
+        rounds: round.value.magnitude != 0,
+        challenges: challenge.value.magnitude != 0,
         last: last.value.magnitude != 0,
     };
     let next = last.next;

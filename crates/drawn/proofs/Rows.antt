@@ -37,7 +37,7 @@ sixTables key message commitment rounds challenges last = record
 
 abbrev pub sixParts : Bool → Bool → Bool → Bool → Bool → Bool → Parts
 sixParts key message commitment round challenge last = record
-    { key = key; message = message; commitment = commitment; round = round; challenge = challenge; last = last }
+    { key = key; message = message; commitment = commitment; rounds = round; challenges = challenge; last = last }
 
 -- ---- outputs as numbers
 

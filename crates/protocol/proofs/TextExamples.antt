@@ -85,16 +85,16 @@ tables k m c r e f = record { key = k; message = m; commitment = c; rounds = r; 
 
 -- part 0 alone
 abbrev pub noParts : Parts
-noParts = record { key = false; message = false; commitment = false; round = false; challenge = false; last = false }
+noParts = record { key = false; message = false; commitment = false; rounds = false; challenges = false; last = false }
 
 abbrev pub challengeOnly : Parts
-challengeOnly = record { key = false; message = false; commitment = false; round = false; challenge = true; last = false }
+challengeOnly = record { key = false; message = false; commitment = false; rounds = false; challenges = true; last = false }
 
 abbrev pub finalOnly : Parts
-finalOnly = record { key = false; message = false; commitment = false; round = false; challenge = false; last = true }
+finalOnly = record { key = false; message = false; commitment = false; rounds = false; challenges = false; last = true }
 
 abbrev pub allParts : Parts
-allParts = record { key = true; message = true; commitment = true; round = true; challenge = true; last = true }
+allParts = record { key = true; message = true; commitment = true; rounds = true; challenges = true; last = true }
 
 abbrev pub residues₂ : List ℕ
 residues₂ = 15 ∷ 4 ∷ []

@@ -161,9 +161,9 @@ contents-limited S P t a p =
           (
             (shape-small 3 (P .commitment) 1 (S .degree) (omega arith) (omega (arith, a .degree)), residues-limited S (t .commitment) a (p .commitment)),
             (
-              (shape-small 4 (P .round) (3 * S .depth) (S .degree) (omega arith) rounds, residues-limited S (t .rounds) a (p .rounds)),
+              (shape-small 4 (P .rounds) (3 * S .depth) (S .degree) (omega arith) rounds, residues-limited S (t .rounds) a (p .rounds)),
               (
-                (shape-small 5 (P .challenge) (S .depth) 1 (omega arith) (omega (arith, a .depth)), exponents-limited S (t .challenges) a (p .challenges)),
+                (shape-small 5 (P .challenges) (S .depth) 1 (omega arith) (omega (arith, a .depth)), exponents-limited S (t .challenges) a (p .challenges)),
                 ((shape-small 6 (P .last) 1 (S .degree) (omega arith) (omega (arith, a .degree)), p .last), tt),
               ),
             ),

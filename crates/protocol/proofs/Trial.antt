@@ -40,7 +40,7 @@ ran = tt
 -- ---- refused calls, of every kind
 
 abbrev keyAndMessage : Parts
-keyAndMessage = record { key = true; message = true; commitment = false; round = false; challenge = false; last = false }
+keyAndMessage = record { key = true; message = true; commitment = false; rounds = false; challenges = false; last = false }
 
 abbrev nothing : KeyTable
 nothing = KeyTable.other []

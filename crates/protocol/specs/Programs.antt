@@ -31,14 +31,14 @@ use Rattle.protocol.specs.Text.{written, overwritten}
 
 -- PROTOCOL 10.1: what goes into an opening, and the transcript that comes out
 unfoldable pub proveReads : Parts
-proveReads = record { key = true; message = true; commitment = false; round = false; challenge = true; last = false }
+proveReads = record { key = true; message = true; commitment = false; rounds = false; challenges = true; last = false }
 
 unfoldable pub provePrints : Parts
-provePrints = record { key = false; message = false; commitment = true; round = true; challenge = true; last = true }
+provePrints = record { key = false; message = false; commitment = true; rounds = true; challenges = true; last = true }
 
 -- PROTOCOL 10.2: a key and a transcript
 unfoldable pub verifyReads : Parts
-verifyReads = record { key = true; message = false; commitment = true; round = true; challenge = true; last = true }
+verifyReads = record { key = true; message = false; commitment = true; rounds = true; challenges = true; last = true }
 
 -- ---- prove
 

@@ -169,8 +169,8 @@ shapes S P =
     ∷ shape 1 (P .key) (size S) (S .degree)
     ∷ shape 2 (P .message) (size S) (S .degree)
     ∷ shape 3 (P .commitment) 1 (S .degree)
-    ∷ shape 4 (P .round) (roundItems S) (S .degree)
-    ∷ shape 5 (P .challenge) (S .depth) 1
+    ∷ shape 4 (P .rounds) (roundItems S) (S .degree)
+    ∷ shape 5 (P .challenges) (S .depth) 1
     ∷ shape 6 (P .last) 1 (S .degree)
     ∷ []
 

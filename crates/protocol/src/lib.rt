@@ -97,8 +97,8 @@ pub struct Parts {
     pub key: bool,
     pub message: bool,
     pub commitment: bool,
-    pub round: bool,
-    pub challenge: bool,
+    pub rounds: bool,
+    pub challenges: bool,
     pub last: bool,
 }
 

@@ -28,8 +28,8 @@ fn reads() -> Parts
         key: true,
         message: true,
         commitment: false,
-        round: false,
-        challenge: true,
+        rounds: false,
+        challenges: true,
         last: false,
     }
 }
@@ -41,8 +41,8 @@ fn prints() -> Parts
         key: false,
         message: false,
         commitment: true,
-        round: true,
-        challenge: true,
+        rounds: true,
+        challenges: true,
         last: true,
     }
 }

@@ -16,8 +16,8 @@ partsOf n = record {
   key = eqb (n % 2) 1;
   message = eqb (n / 2 % 2) 1;
   commitment = eqb (n / 4 % 2) 1;
-  round = eqb (n / 8 % 2) 1;
-  challenge = eqb (n / 16 % 2) 1;
+  rounds = eqb (n / 8 % 2) 1;
+  challenges = eqb (n / 16 % 2) 1;
   last = eqb (n / 32 % 2) 1;
 }
 

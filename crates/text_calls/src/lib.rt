@@ -25,8 +25,8 @@ fn parts_of(bits: u32) -> Parts
         key: bits % 2 == 1,
         message: bits / 2 % 2 == 1,
         commitment: bits / 4 % 2 == 1,
-        round: bits / 8 % 2 == 1,
-        challenge: bits / 16 % 2 == 1,
+        rounds: bits / 8 % 2 == 1,
+        challenges: bits / 16 % 2 == 1,
         last: bits / 32 % 2 == 1,
     }
 }

@@ -74,8 +74,8 @@ pub fn shape_of(settings: Settings, parts: Parts, part: u32) -> Shape
         1 => part_of(1, parts.key, 1u32 << depth, degree),
         2 => part_of(2, parts.message, 1u32 << depth, degree),
         3 => part_of(3, parts.commitment, 1, degree),
-        4 => part_of(4, parts.round, 3 * depth, degree),
-        5 => part_of(5, parts.challenge, depth, 1),
+        4 => part_of(4, parts.rounds, 3 * depth, degree),
+        5 => part_of(5, parts.challenges, depth, 1),
         6 => part_of(6, parts.last, 1, degree),
         _ => settings_shape(),
     }

@@ -28,8 +28,8 @@ fn reads() -> Parts
         key: true,
         message: false,
         commitment: true,
-        round: true,
-        challenge: true,
+        rounds: true,
+        challenges: true,
         last: true,
     }
 }
