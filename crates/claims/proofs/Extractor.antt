@@ -14,7 +14,7 @@ use lib.IntN.{ℤ}
 use Rattle.protocol.specs.declared.Settings.{Settings}
 use Rattle.protocol.specs.Basic.{every, first, unless, granted}
 use Rattle.protocol.specs.Element.{signed}
-use Rattle.protocol.specs.Settings.{size, cells, sized, residues, residueElement, exponent, exponents}
+use Rattle.protocol.specs.Settings.{size, cells, hasLength, allBelow, residueElement, exponent, exponents}
 use Rattle.protocol.specs.Transcript.{accepted}
 use Rattle.protocol.specs.Tree.{nodes, leaves, leaf, path, challenge, apart, rootVector, growth, growthLimit, growthAllowed}
 use Rattle.protocol.specs.Judge.{slack, slackAllowed, opens, judged, Opens}
@@ -87,14 +87,14 @@ module _ (S : Settings) (ok : Valid S) (G C rounds E : List ℕ) (finals : List 
 
   module _ (w : List ℤ) (long : length w ≡ cells S) where
     pub judge-tests : (c : ℕ) → judgeRefusal S C c G w ≡ first (unless 14 (growthAllowed S) ∷ unless 15 (slackAllowed S c) ∷ [])
-    unfolding judgeRefusal residues sized
+    unfolding judgeRefusal allBelow hasLength
     judge-tests c =
         first-passes _ _ (valid-settings S ok)
         ∙ first-holds 7 _ _ (and-intro (below-sized q (cells S) G key-ok) (eq-eqb _ _ long))
         ∙ first-holds 8 _ _ (and-intro (below-tested q (cells S) G key-ok) commitment-tested)
 
     pub extract-tests : extractRefusal S C G rounds E finals w ≡ first (unless 14 (growthAllowed S) ∷ [])
-    unfolding extractRefusal residues exponents exponent sized
+    unfolding extractRefusal allBelow exponents exponent hasLength
     extract-tests =
         first-passes _ _ (valid-settings S ok)
         ∙ first-holds 7 _ _ (and-intro (and-intro (and-intro (and-intro

@@ -12,7 +12,7 @@ use Rattle.protocol.specs.declared.Settings.{Settings}
 use Rattle.protocol.specs.declared.Verdict.the-variants as Says
 use Rattle.protocol.specs.Basic.{choose}
 use Rattle.protocol.specs.Element.{padded, paddedSigned}
-use Rattle.protocol.specs.Settings.{cells, sized, residues, exponent, exponents}
+use Rattle.protocol.specs.Settings.{cells, hasLength, allBelow, exponent, exponents}
 use Rattle.protocol.specs.Opening.{commitment, messageAfter, keyAfter, finalElement, roundTable}
 use Rattle.protocol.specs.Transcript.{transcriptOf, Accepted}
 use Rattle.protocol.specs.Session.{verdict}
@@ -40,7 +40,7 @@ module _ {S : Settings} {G : List ℕ} {M : List ℤ} {E : List ℕ} (ok : Given
   open Settings S using (degree as d, depth as L, modulus as q, bound as B)
 
   pub opening-granted : openingRefusal S G M E rounds ≡ 0
-  unfolding openingRefusal residues exponents exponent sized
+  unfolding openingRefusal allBelow exponents exponent hasLength
   opening-granted =
       zero-first _ _ (valid-settings S (ok .settings))
       (zero-first _ _ (zero-unless 7 _

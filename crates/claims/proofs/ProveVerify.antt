@@ -14,7 +14,7 @@ use Rattle.protocol.specs.declared.Settings.{Settings}
 use Rattle.protocol.specs.declared.Verified.the-variants.{Accepted}
 use Rattle.protocol.specs.Basic.{tabulate, all, choose, first, unless, granted}
 use Rattle.protocol.specs.Element.{signed}
-use Rattle.protocol.specs.Settings.{size, cells, sized, residues, small, exponent, exponents}
+use Rattle.protocol.specs.Settings.{size, cells, hasLength, allBelow, allWithin, exponent, exponents}
 use Rattle.protocol.specs.Inputs.{Within}
 use Rattle.protocol.specs.Opening.{commitment, roundTable, messageAfter}
 use Rattle.protocol.specs.Transcript.{Transcript, transcriptOf, accepted}
@@ -60,7 +60,7 @@ module _ {S : Settings} {G : List ℕ} {M : List ℤ} {E : List ℕ} (ok : Given
   }
 
   tables-passed : Passed S (keyed G T)
-  unfolding keyed transcriptOf residues small exponents exponent all
+  unfolding keyed transcriptOf allBelow allWithin exponents exponent all
   tables-passed = record {
     key = below-tested q (cells S) G (ok .key);
     commitment = below-tested q d (commitment S G M) (commitment-below S pq G M);
@@ -145,7 +145,7 @@ module _ (S : Settings) (key : List ℕ) (T : Transcript) where
 
 read-given : (text : List ℕ) → textRefusal proveReads true text ≡ 0
     → Given (settingsIn (linesOf text)) (tablesIn (linesOf text) .key) (tablesIn (linesOf text) .message) (tablesIn (linesOf text) .challenges)
-unfolding shapes settingsShape shape shapeSize choose contents proveReads residues exponents exponent sized cells
+unfolding shapes settingsShape shape shapeSize choose contents proveReads allBelow exponents exponent hasLength cells
 read-given text h =
     let (s, f, p) = readable-tables proveReads text h in
     record {

@@ -12,7 +12,7 @@ use lib.IntN.{ℤ}
 use Rattle.protocol.specs.declared.Settings.{Settings}
 use Rattle.protocol.specs.Basic.{first, unless, granted}
 use Rattle.protocol.specs.Element.{padded, paddedSigned}
-use Rattle.protocol.specs.Settings.{settingsRefusal, cells, sized, residues, exponent}
+use Rattle.protocol.specs.Settings.{settingsRefusal, cells, hasLength, allBelow, exponent}
 use Rattle.protocol.specs.Opening.{commitment, left, messageAfter, keyAfter, finalElement}
 use Rattle.protocol.specs.Calls.{commitRefusal, commitAnswer, leftSmall, movingSmall, roundRefusal, polynomial, roundAnswer, foldRefusal, foldKeyExit, foldMessageExit, endingSmall}
 use Rattle.protocol.specs.Calls.{endRefusal, endAnswer}
@@ -42,8 +42,8 @@ module _ {S : Settings} {G : List ℕ} {M : List ℤ} {E : List ℕ} (ok : Given
   key-given : (t : ℕ) → Below q (cells S) (key t)
   key-given t = key-residues S (modulus-positive S (ok .settings)) E t G (ok .key)
 
-  message-sized : (t : ℕ) → sized (cells S) (message t) ≡ true
-  unfolding sized
+  message-sized : (t : ℕ) → hasLength (cells S) (message t) ≡ true
+  unfolding hasLength
   message-sized t = eq-eqb _ _ (message-length S E t M (ok .message .long))
 
   left-small : (t : ℕ) → t ≤ L → leftSmall S t (message t) ≡ true
@@ -52,8 +52,8 @@ module _ {S : Settings} {G : List ℕ} {M : List ℤ} {E : List ℕ} (ok : Given
 
   -- refusals 3 to 8 of a call on both tables
   tables-granted : (t : ℕ) (rest : List ℕ) → first rest ≡ 0
-      → first (settingsRefusal S ∷ unless 7 (sized (cells S) (key t) && sized (cells S) (message t)) ∷ unless 8 (residues S (key t)) ∷ rest) ≡ 0
-  unfolding residues
+      → first (settingsRefusal S ∷ unless 7 (hasLength (cells S) (key t) && hasLength (cells S) (message t)) ∷ unless 8 (allBelow S (key t)) ∷ rest) ≡ 0
+  unfolding allBelow
   tables-granted t rest e =
       zero-first _ _ (valid-settings S (ok .settings))
       (zero-first _ _ (zero-unless 7 _ (and-intro (below-sized q (cells S) _ (key-given t)) (message-sized t)))

@@ -12,7 +12,7 @@ use borrow.Author.Tests.{leb-true, le-leb}
 use Rattle.protocol.specs.declared.Settings.{Settings}
 use Rattle.protocol.specs.declared.Parts.{Parts}
 use Rattle.protocol.specs.Basic.{tabulate, all, choose, within, granted}
-use Rattle.protocol.specs.Settings.{settingsRefusal, residues}
+use Rattle.protocol.specs.Settings.{settingsRefusal, allBelow}
 use Rattle.protocol.specs.Settings.{exponent, exponents}
 use Rattle.protocol.specs.Text.{Line, Tables, textLimit, valueLimit, names, linesText, shape, settingsShape, shapes, shapeSize}
 use Rattle.protocol.specs.Text.{spots, wanted, contents, block, blocks, blockLines, textOf, fits}
@@ -133,8 +133,8 @@ module _ (P : Parts) (text : List ℕ) (r : Readable P text) where
       let b = unsigned-pos (getD (valuesOf ls) 3 (pos 0)) (omega (arith, bounds .bound)) ∙ setting 3 (omega arith) in
       (λ i. d i ∷ l i ∷ q i ∷ b i ∷ []) ∙ sym (four (column 0 ls) four-settings)
 
-  plain-residues : (v : List ℤ) → residues S (map unsigned v) ≡ true → map pos (map unsigned v) ≡ v
-  unfolding residues
+  plain-residues : (v : List ℤ) → allBelow S (map unsigned v) ≡ true → map pos (map unsigned v) ≡ v
+  unfolding allBelow
   plain-residues v h = unsigned-forth v (below-limited (S .modulus) (map unsigned v) (bounds .modulus) h)
 
   plain-exponents : (v : List ℤ) → exponents S (map unsigned v) ≡ true → map pos (map unsigned v) ≡ v

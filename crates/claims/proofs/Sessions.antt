@@ -16,7 +16,7 @@ use Rattle.protocol.specs.declared.Session.{Session}
 use Rattle.protocol.specs.declared.Verdict.the-variants as Says
 use Rattle.protocol.specs.Basic.{tabulate, choose, granted, within}
 use Rattle.protocol.specs.Element.{padded, paddedSigned, residue, residueAt}
-use Rattle.protocol.specs.Settings.{cells, residues, residueElement, exponents}
+use Rattle.protocol.specs.Settings.{cells, allBelow, residueElement, exponents}
 use Rattle.protocol.specs.Opening.{commitment, roundElement, messageAfter, keyAfter, finalElement}
 use Rattle.protocol.specs.Transcript.{Transcript, element, claimAfter, Accepted, roundHolds, nextClaim, finalBounded, endHolds, endMet}
 use Rattle.protocol.specs.Session.{slots, verdict, opened, startRefusal, start, shut, part, sessionRoundRefusal, advanced, sessionRoundHolds, round, sessionEndRefusal, sessionEndHolds, end}
@@ -136,7 +136,7 @@ module _ {S : Settings} {G : List ℕ} {M : List ℤ} {E : List ℕ} (ok : Given
   -- ---- end
 
   close-granted : sessionEndRefusal (session L) G ≡ 0
-  unfolding sessionEndRefusal sessionAfter residues
+  unfolding sessionEndRefusal sessionAfter allBelow
   close-granted =
       zero-first _ _ (valid-settings S (ok .settings))
       (zero-first _ _ (zero-unless 7 _ (below-sized q (cells S) G (ok .key)))

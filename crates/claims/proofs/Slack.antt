@@ -19,7 +19,7 @@ use Rattle.algebra.specs.Certificate.{_·⟨_⟩_, _⇐_, done, combine}
 use Rattle.protocol.specs.declared.Settings.{Settings}
 use Rattle.protocol.specs.Basic.{sum, granted}
 use Rattle.protocol.specs.Element.{modulo, rotate, product, times, residue, signedAt, residueAt}
-use Rattle.protocol.specs.Settings.{size, residues, residueElement}
+use Rattle.protocol.specs.Settings.{size, allBelow, residueElement}
 use Rattle.protocol.specs.Opening.{inner}
 use Rattle.protocol.specs.CommonDivisor.{euclid, greatestCommonDivisor}
 use Rattle.protocol.specs.Judge.{slackAllowed, scaledCommitment, combination, opens, judged, Opens}
@@ -103,7 +103,7 @@ tested S G C c w said =
     let (r6, (t7, (t8, (t14, (t15, _))))) = none-refused ((6, _) ∷ (7, _) ∷ (13, _) ∷ (14, _) ∷ []) z in
     record {
       settings = settings-valid S r6;
-      below = λ k l. ltb-true _ _ (every-at (S .degree) (λ k. ltb (getD C k 0) (S .modulus)) (and-split {a = residues S G} t8 .1) k l);
+      below = λ k l. ltb-true _ _ (every-at (S .degree) (λ k. ltb (getD C k 0) (S .modulus)) (and-split {a = allBelow S G} t8 .1) k l);
       allowed = t15;
       equation = λ k l. eqb-true _ _ (every-at (S .degree) (λ k. eqb (scaledCommitment S C c k) (combination S G w k)) (and-split {a = opens S G C c w} met .0) k l);
     }

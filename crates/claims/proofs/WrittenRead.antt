@@ -12,7 +12,7 @@ use borrow.Author.Tests.{leb-true, le-leb, eqb-true, eq-eqb}
 use Rattle.protocol.specs.declared.Settings.{Settings}
 use Rattle.protocol.specs.declared.Parts.{Parts}
 use Rattle.protocol.specs.Basic.{tabulate, all, choose, within, first, unless, granted}
-use Rattle.protocol.specs.Settings.{settingsRefusal, sized}
+use Rattle.protocol.specs.Settings.{settingsRefusal, hasLength}
 use Rattle.protocol.specs.Text.{Line, Shape, Tables, textLimit, valueLimit, shape, settingsShape, shapes, shapeSize}
 use Rattle.protocol.specs.Text.{spotAt, spots, wanted, contents, block, blocks, blockLines, textOf, blockFits, fits}
 use Rattle.protocol.specs.Text.{linesOf, sameSpot, sameSpots, spotsOf, valuesOf, wellFormed, unsigned, column, unsignedColumn}
@@ -33,7 +33,7 @@ unfolding shapes shape settingsShape
 shapes-rise S P = (omega arith, (omega arith, (omega arith, (omega arith, (omega arith, (omega arith, (omega arith, tt)))))))
 
 fit : (bs : List Shape) (vs : List (List ℤ)) → length vs ≡ length bs → all blockFits (zipWith block bs vs) ≡ true → Fit bs vs
-unfolding all zipWith blockFits block sized
+unfolding all zipWith blockFits block hasLength
 fit [] [] e h = tt
 fit [] (v ∷ vs) e h = absurd (omega arith)
 fit (b ∷ bs) [] e h = absurd (omega arith)
@@ -42,7 +42,7 @@ fit (b ∷ bs) (v ∷ vs) e h =
     (eqb-true (length v) (shapeSize b) here, fit bs vs (omega arith) more)
 
 pub fit-all : (bs : List Shape) (vs : List (List ℤ)) → Fit bs vs → all blockFits (zipWith block bs vs) ≡ true
-unfolding all zipWith blockFits block sized
+unfolding all zipWith blockFits block hasLength
 fit-all [] [] h = refl
 fit-all [] (v ∷ vs) h = absurd h
 fit-all (b ∷ bs) [] h = absurd h

@@ -12,7 +12,7 @@ use Rattle.protocol.specs.declared.Verdict.{Verdict}
 use Rattle.protocol.specs.declared.Verdict.the-variants.{Silent}
 use Rattle.protocol.specs.declared.Opened.{Opened}
 use Rattle.protocol.specs.Basic.{choose, granted}
-use Rattle.protocol.specs.Settings.{sized}
+use Rattle.protocol.specs.Settings.{hasLength}
 use Rattle.protocol.specs.Calls as Calls
 use Rattle.protocol.specs.Promises.{Opening}
 use Rattle.slices.specs.Slices.{lent}
@@ -62,9 +62,9 @@ agrees S fits N b n e h = no N ∙ ap (λ k. granted k (bit (granted N b false))
 
 -- ---- the whole opening
 
-module _ (S : Settings) (key : List ℕ) (message : List ℤ) (E rounds C : List ℕ) (f : List ℤ) (n : ℕ) (e : n ≡ lent S (sized (S .degree) C && sized (S .degree) f) 0) where
+module _ (S : Settings) (key : List ℕ) (message : List ℤ) (E rounds C : List ℕ) (f : List ℤ) (n : ℕ) (e : n ≡ lent S (hasLength (S .degree) C && hasLength (S .degree) f) 0) where
   abbrev fits : Bool
-  fits = sized (S .degree) C && sized (S .degree) f
+  fits = hasLength (S .degree) C && hasLength (S .degree) f
 
   abbrev N : ℕ
   N = Calls.openingRefusal S key message E rounds

@@ -17,7 +17,7 @@ use Rattle.protocol.specs.declared.Started.{Started}
 use Rattle.protocol.specs.declared.Moved.{Moved}
 use Rattle.protocol.specs.declared.Verdict.the-variants.{Holds, Accepted}
 use Rattle.protocol.specs.Element.{padded, paddedSigned}
-use Rattle.protocol.specs.Settings.{sized}
+use Rattle.protocol.specs.Settings.{hasLength}
 use Rattle.protocol.specs.Opening.{commitment, roundElement, messageAfter, keyAfter, finalElement}
 use Rattle.protocol.specs.Session.{opened, blank, startRefusal, start, shut, round, end}
 use Rattle.protocol.specs.Calls.{polynomial}
@@ -44,8 +44,8 @@ pub own : (S : Settings) → Valid S → (fits : Bool) (N : ℕ) → fits ≡ tr
 unfolding lent
 own S v fits N e = first-passes _ _ (valid-settings S v) ∙ first-holds 7 _ _ e ∙ first-only N
 
-pub fit {ℓ} : {A : Type ℓ} (n : ℕ) (t : List A) → length t ≡ n → sized n t ≡ true
-unfolding sized
+pub fit {ℓ} : {A : Type ℓ} (n : ℕ) (t : List A) → length t ≡ n → hasLength n t ≡ true
+unfolding hasLength
 fit n t e = eq-eqb _ _ e
 
 -- a move on a record in a slice
@@ -146,7 +146,7 @@ module _ {S : Settings} {G : List ℕ} {M : List ℤ} {E : List ℕ} (ok : Given
 
     slice-fits : polynomialFits slice (numbersOf (session t)) ≡ true
     unfolding polynomialFits
-    slice-fits = ap (λ s. sized (3 * s .degree) slice) (settings-are t (omega arith)) ∙ fit (3 * d) slice slice-long
+    slice-fits = ap (λ s. hasLength (3 * s .degree) slice) (settings-are t (omega arith)) ∙ fit (3 * d) slice slice-long
 
     made : roundOn slice (getD E t 0) (numbersOf (session t)) ≡ record { refusal = 0; verdict = Holds; next = session (suc t) }
     unfolding roundOn sessionAfter
@@ -187,7 +187,7 @@ module _ {S : Settings} {G : List ℕ} {M : List ℤ} {E : List ℕ} (ok : Given
 
   final-fits : lastFits final (numbersOf (session L)) ≡ true
   unfolding lastFits
-  final-fits = ap (λ s. sized (s .degree) final) (settings-are L (Nat.le-refl L)) ∙ fit d final final-long
+  final-fits = ap (λ s. hasLength (s .degree) final) (settings-are L (Nat.le-refl L)) ∙ fit d final final-long
 
   closed : endOn final G (numbersOf (session L)) ≡ record { refusal = 0; verdict = Accepted; next = shut (session L) }
   unfolding endOn sessionAfter

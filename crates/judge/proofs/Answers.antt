@@ -10,7 +10,7 @@ use lib.IntN.{ℤ}
 use lib.ListN.{length}
 use Rattle.protocol.specs.declared.Settings.{Settings}
 use Rattle.protocol.specs.declared.Judged.{Judged}
-use Rattle.protocol.specs.Settings.{settingsRefusal, cells, sized, small}
+use Rattle.protocol.specs.Settings.{settingsRefusal, cells, hasLength, allWithin}
 use Rattle.protocol.specs.Tree.{growthFactor, growthLimit, growth, growthAllowed}
 use Rattle.protocol.specs.Judge.{opens, judged}
 use Rattle.protocol.specs.Calls.{judgeRefusal, judgeAnswer}
@@ -47,7 +47,7 @@ given-vector S key w g = record {
 
 module _ (S : Settings) (C : List ℕ) (c : ℕ) (key : List ℕ) (w : List ℤ) where
   pub judge-given : judgeRefusal S C c key w ≡ 0 → JudgeGiven S key w
-  unfolding judgeRefusal sized
+  unfolding judgeRefusal hasLength
   judge-given e =
       let (r6, (t7, (_, (t14, _)))) = none-refused ((6, _) ∷ (7, _) ∷ (13, _) ∷ (14, _) ∷ []) e in
       let (k, v) = and-split t7 in
@@ -62,11 +62,11 @@ module _ (S : Settings) (C : List ℕ) (c : ℕ) (key : List ℕ) (w : List ℤ)
   judge-done z y e = let all = e ∙ sym (granted-zero _ (judged S key C c w) false z) in λ i. record { refusal = sym z i; yes = all i }
 
   -- the bound first, then the equation
-  pub beyond : small (growth S) w ≡ false → false ≡ judged S key C c w
+  pub beyond : allWithin (growth S) w ≡ false → false ≡ judged S key C c w
   unfolding judged
-  beyond t = sym (and-fails-right (opens S key C c w) (small (growth S) w) t)
+  beyond t = sym (and-fails-right (opens S key C c w) (allWithin (growth S) w) t)
 
-  pub within : (y : Bool) → small (growth S) w ≡ true → y ≡ opens S key C c w → y ≡ judged S key C c w
+  pub within : (y : Bool) → allWithin (growth S) w ≡ true → y ≡ opens S key C c w → y ≡ judged S key C c w
   unfolding judged
   within y t e = e ∙ sym (and-true (opens S key C c w) t)
     where

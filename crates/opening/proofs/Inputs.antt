@@ -6,7 +6,7 @@ use borrow.Author.Tests.{eqb-true}
 use lib.IntN.{ℤ}
 use lib.ListN.{length}
 use Rattle.protocol.specs.declared.Settings.{Settings}
-use Rattle.protocol.specs.Settings.{settingsRefusal, cells, sized, residues, exponent, exponents}
+use Rattle.protocol.specs.Settings.{settingsRefusal, cells, hasLength, allBelow, exponent, exponents}
 use Rattle.protocol.specs.Layout.{roundCells, exponentCount}
 use Rattle.protocol.specs.Calls.{openingRefusal}
 use Rattle.protocol.proofs.Tests.{and-split}
@@ -21,7 +21,7 @@ module _ (S : Settings) (G : List ℕ) (M : List ℤ) (E R : List ℕ) where
     pub rounds-long : length R ≡ roundCells S
 
   pub lent : openingRefusal S G M E R ≡ 0 → Lent
-  unfolding openingRefusal residues exponents exponent sized
+  unfolding openingRefusal allBelow exponents exponent hasLength
   lent e =
       let (r6, (t7, (t8, (t9, (t10, _))))) = none-refused ((6, _) ∷ (7, _) ∷ (8, _) ∷ (9, _) ∷ []) e in
       let (three, rounds) = and-split t7 in

@@ -2,7 +2,7 @@
 use Rattle.protocol.specs.Basic.{sum, every, least, tabulate, flat, all, among, within, choose, first, unless, granted}
 use Rattle.protocol.specs.Element.{modulo, flips, around, rotate, product, one, power, plus, times, signed, residue, signedAt, residueAt, coefficients, reduced, width, zeros}
 use Rattle.protocol.specs.Element.{signedZeros, padded, paddedSigned}
-use Rattle.protocol.specs.Settings.{degreeAllowed, depthAllowed, modulusAllowed, boundAllowed, settingsRefusal, size, cells, half, sized, residues, residueElement, small, exponent, exponents}
+use Rattle.protocol.specs.Settings.{degreeAllowed, depthAllowed, modulusAllowed, boundAllowed, settingsRefusal, size, cells, half, hasLength, allBelow, residueElement, allWithin, exponent, exponents}
 use Rattle.protocol.specs.Opening.{inner, second, cross, foldSigned, foldResidues, commitment, left, halfLeft, roundElement, foldMessage, foldKey, messageAfter, keyAfter}
 use Rattle.protocol.specs.Opening.{finalElement, roundTable}
 use Rattle.protocol.specs.Transcript.{endCause, doubled, roundHolds, nextClaim, finalBounded, ending, endHolds, endMet, element, claimAfter, holdsAt, closes, accepted, held, cause, transcriptOf}
@@ -20,7 +20,7 @@ unfoldable pub computed : Unit {0}
 unfolding
     sum every least tabulate flat all among within choose first unless granted
     modulo flips around rotate product one power plus times signed residue signedAt residueAt coefficients reduced width zeros signedZeros padded paddedSigned
-    degreeAllowed depthAllowed modulusAllowed boundAllowed settingsRefusal size cells half sized residues residueElement small exponent exponents
+    degreeAllowed depthAllowed modulusAllowed boundAllowed settingsRefusal size cells half hasLength allBelow residueElement allWithin exponent exponents
     inner second cross foldSigned foldResidues commitment left halfLeft roundElement foldMessage foldKey messageAfter keyAfter finalElement roundTable
     endCause doubled roundHolds nextClaim finalBounded ending endHolds endMet element claimAfter holdsAt closes accepted held cause transcriptOf
     slots verdict opened blank startRefusal start refusedMove shut part sessionRoundRefusal advanced sessionRoundHolds round sessionEndRefusal sessionEndHolds end

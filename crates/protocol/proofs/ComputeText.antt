@@ -3,8 +3,8 @@ use mathlib.Core.List.{flatMap, zipWith}
 use mathlib.Core.Option.{bind}
 use Rattle.protocol.specs.Basic.{sum, every, least, tabulate, flat, all, among, within, choose, first, unless, granted}
 use Rattle.protocol.specs.Element.{modulo, flips, around, rotate, product, plus, times, signed, signedAt, residueAt, coefficients, reduced}
-use Rattle.protocol.specs.Settings.{degreeAllowed, depthAllowed, modulusAllowed, boundAllowed, settingsRefusal, size, half, sized, residues}
-use Rattle.protocol.specs.Settings.{small, exponent, exponents}
+use Rattle.protocol.specs.Settings.{degreeAllowed, depthAllowed, modulusAllowed, boundAllowed, settingsRefusal, size, half, hasLength, allBelow}
+use Rattle.protocol.specs.Settings.{allWithin, exponent, exponents}
 use Rattle.protocol.specs.Opening.{inner, second, cross, foldSigned, foldResidues, commitment, halfLeft, roundElement, foldMessage, foldKey}
 use Rattle.protocol.specs.Opening.{messageAfter, keyAfter, finalElement, roundTable}
 use Rattle.protocol.specs.Transcript.{doubled, roundHolds, nextClaim, finalBounded, ending, endHolds, element, claimAfter, holdsAt, closes}
@@ -27,7 +27,7 @@ unfolding
     bind flatMap zipWith
     sum every least tabulate flat all among within choose first unless granted
     modulo flips around rotate product plus times signed signedAt residueAt coefficients reduced
-    degreeAllowed depthAllowed modulusAllowed boundAllowed settingsRefusal size half sized residues small exponent exponents
+    degreeAllowed depthAllowed modulusAllowed boundAllowed settingsRefusal size half hasLength allBelow allWithin exponent exponents
     inner second cross foldSigned foldResidues commitment halfLeft roundElement foldMessage foldKey messageAfter keyAfter finalElement roundTable
     doubled roundHolds nextClaim finalBounded ending endHolds element claimAfter holdsAt closes accepted transcriptOf
     textLimit valueLimit bytes names digitCount lowDigits decimal numeral lineText linesText shape settingsShape shapes shapeSize spotAt spots wanted

@@ -10,7 +10,7 @@ use lib.ListN.{length, getD}
 use lib.IntN.{ℤ, pos}
 use Rattle.protocol.specs.declared.Settings.{Settings}
 use Rattle.protocol.specs.Basic.{all, among, within}
-use Rattle.protocol.specs.Settings.{degreeAllowed, depthAllowed, modulusAllowed, boundAllowed, settingsRefusal, sized, small}
+use Rattle.protocol.specs.Settings.{degreeAllowed, depthAllowed, modulusAllowed, boundAllowed, settingsRefusal, hasLength, allWithin}
 use Rattle.protocol.specs.Inputs.{Valid, Below, Within}
 use Rattle.protocol.proofs.Tests.{and-split, and-intro, all-at, all-intro}
 use Rattle.protocol.proofs.Refusals.{all-passed, passed-all}
@@ -92,8 +92,8 @@ valid-settings S v =
 -- ---- tables: the length of refusal 7 with the range of refusal 8, 9 or 10
 
 module _ (limit n : ℕ) (t : List ℕ) where
-  pub tested-below : sized n t ≡ true → all (λ x. ltb x limit) t ≡ true → Below limit n t
-  unfolding sized
+  pub tested-below : hasLength n t ≡ true → all (λ x. ltb x limit) t ≡ true → Below limit n t
+  unfolding hasLength
   tested-below l r =
       let e : length t ≡ n = eqb-true _ _ l in
       record { long = e; each = λ i h. ltb-true _ _ (all-at (λ x. ltb x limit) t 0 r i (omega arith)) }
@@ -101,21 +101,21 @@ module _ (limit n : ℕ) (t : List ℕ) where
   pub below-tested : Below limit n t → all (λ x. ltb x limit) t ≡ true
   below-tested b = all-intro (λ x. ltb x limit) t 0 (λ i h. lt-ltb _ _ (b .each i (omega (arith, b .long))))
 
-  pub below-sized : Below limit n t → sized n t ≡ true
-  unfolding sized
+  pub below-sized : Below limit n t → hasLength n t ≡ true
+  unfolding hasLength
   below-sized b = eq-eqb _ _ (b .long)
 
 module _ (b n : ℕ) (t : List ℤ) where
-  pub tested-within : sized n t ≡ true → small b t ≡ true → Within b n t
-  unfolding sized small within
+  pub tested-within : hasLength n t ≡ true → allWithin b t ≡ true → Within b n t
+  unfolding hasLength allWithin within
   tested-within l r =
       let e : length t ≡ n = eqb-true _ _ l in
       record { long = e; each = λ i h. leb-true _ _ (all-at (within b) t (pos 0) r i (omega arith)) }
 
-  pub within-tested : Within b n t → small b t ≡ true
-  unfolding small within
+  pub within-tested : Within b n t → allWithin b t ≡ true
+  unfolding allWithin within
   within-tested w = all-intro (within b) t (pos 0) (λ i h. le-leb _ _ (w .each i (omega (arith, w .long))))
 
-  pub within-sized : Within b n t → sized n t ≡ true
-  unfolding sized
+  pub within-sized : Within b n t → hasLength n t ≡ true
+  unfolding hasLength
   within-sized w = eq-eqb _ _ (w .long)

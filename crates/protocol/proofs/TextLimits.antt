@@ -11,7 +11,7 @@ use borrow.Author.Tests.{leb-true, le-leb, ltb-true}
 use Rattle.protocol.specs.declared.Settings.{Settings}
 use Rattle.protocol.specs.declared.Parts.{Parts}
 use Rattle.protocol.specs.Basic.{tabulate, all, choose, within, first, unless}
-use Rattle.protocol.specs.Settings.{degreeAllowed, depthAllowed, modulusAllowed, boundAllowed, settingsRefusal, size, residues, small}
+use Rattle.protocol.specs.Settings.{degreeAllowed, depthAllowed, modulusAllowed, boundAllowed, settingsRefusal, size, allBelow, allWithin}
 use Rattle.protocol.specs.Settings.{exponent, exponents}
 use Rattle.protocol.specs.Text.{Line, Shape, Tables, valueLimit, shape, settingsShape, shapes, shapeSize}
 use Rattle.protocol.specs.Text.{spotAt, contents, block, blockLines}
@@ -90,10 +90,10 @@ shape-small p false items places h k = record { refusal = h; lines = omega (arit
 -- ---- Tables that are not refused
 
 pub record Passed (S : Settings) (t : Tables) : Type 0 where
-  pub key : residues S (t .key) ≡ true
-  pub commitment : residues S (t .commitment) ≡ true
-  pub rounds : residues S (t .rounds) ≡ true
-  pub message : small (S .bound) (t .message) ≡ true
+  pub key : allBelow S (t .key) ≡ true
+  pub commitment : allBelow S (t .commitment) ≡ true
+  pub rounds : allBelow S (t .rounds) ≡ true
+  pub message : allWithin (S .bound) (t .message) ≡ true
   pub challenges : exponents S (t .challenges) ≡ true
   pub last : all (within valueLimit) (t .last) ≡ true
 
@@ -104,9 +104,9 @@ passed S lastFits t h f =
     let (h₈, r₈) = first-zero _ _ h in
     let (h₉, r₉) = first-zero _ _ r₈ in
     let (h₁₀, r₁₀) = first-zero _ _ r₉ in
-    let (k, cr) = and-eq-true-iff (residues S (t .key)) _ .0 (unless-zero 7 _ h₈) in
-    let (c, r) = and-eq-true-iff (residues S (t .commitment)) _ .0 cr in
-    let (m, l) = and-eq-true-iff (small (S .bound) (t .message)) lastFits .0 (unless-zero 8 _ h₉) in
+    let (k, cr) = and-eq-true-iff (allBelow S (t .key)) _ .0 (unless-zero 7 _ h₈) in
+    let (c, r) = and-eq-true-iff (allBelow S (t .commitment)) _ .0 cr in
+    let (m, l) = and-eq-true-iff (allWithin (S .bound) (t .message)) lastFits .0 (unless-zero 8 _ h₉) in
     record { key = k; commitment = c; rounds = r; message = m; challenges = unless-zero 9 _ h₁₀; last = f l }
 
 pub unrefused : (S : Settings) (lastFits : Bool) (t : Tables) → Passed S t → lastFits ≡ true → entriesRefusal S lastFits t ≡ 0
@@ -121,16 +121,16 @@ pub exponent-le : (S : Settings) → Allowed S → 2 * S .degree ≤ valueLimit
 unfolding valueLimit
 exponent-le S a = omega (arith, a .degree)
 
-residues-limited : (S : Settings) (v : List ℕ) → Allowed S → residues S v ≡ true → all (within valueLimit) (map pos v) ≡ true
-unfolding residues within
+residues-limited : (S : Settings) (v : List ℕ) → Allowed S → allBelow S v ≡ true → all (within valueLimit) (map pos v) ≡ true
+unfolding allBelow within
 residues-limited S v a h = all-map (within valueLimit) pos v ∙ below-limited (S .modulus) v (a .modulus) h
 
 exponents-limited : (S : Settings) (v : List ℕ) → Allowed S → exponents S v ≡ true → all (within valueLimit) (map pos v) ≡ true
 unfolding exponents exponent within
 exponents-limited S v a h = all-map (within valueLimit) pos v ∙ below-limited (2 * S .degree) v (exponent-le S a) h
 
-small-limited : (S : Settings) (v : List ℤ) → Allowed S → small (S .bound) v ≡ true → all (within valueLimit) v ≡ true
-unfolding small within valueLimit
+small-limited : (S : Settings) (v : List ℤ) → Allowed S → allWithin (S .bound) v ≡ true → all (within valueLimit) v ≡ true
+unfolding allWithin within valueLimit
 small-limited S v a h =
     all-weaken (within (S .bound)) (within valueLimit) (λ z e. le-leb (natAbs z) valueLimit (omega (arith, leb-true (natAbs z) (S .bound) e, a .bound))) v h
 

@@ -28,7 +28,7 @@ use Rattle.protocol.specs.declared.Checked.{Checked}
 use Rattle.protocol.specs.declared.Judged.{Judged}
 use Rattle.protocol.specs.Basic.{every, tabulate, first, unless, granted}
 use Rattle.protocol.specs.Element.{width, zeros, signedZeros, padded, paddedSigned}
-use Rattle.protocol.specs.Settings.{settingsRefusal, cells, sized, residues, residueElement, small, exponent, exponents}
+use Rattle.protocol.specs.Settings.{settingsRefusal, cells, hasLength, allBelow, residueElement, allWithin, exponent, exponents}
 use Rattle.protocol.specs.Layout.{leftCells, roundCells, nodes, leaves, treeRoundCells, treeChallenges, leafCells}
 use Rattle.protocol.specs.Opening.{commitment, roundElement, foldMessage, foldKey, messageAfter, keyAfter, finalElement, roundTable}
 use Rattle.protocol.specs.Transcript.{accepted, transcriptOf}
@@ -42,9 +42,9 @@ unfoldable pub commitRefusal : Settings → List ℕ → List ℤ → ℕ
 commitRefusal S key message =
     first
     (settingsRefusal S
-    ∷ unless 7 (sized (cells S) key && sized (cells S) message)
-    ∷ unless 8 (residues S key)
-    ∷ unless 9 (small (S .bound) message)
+    ∷ unless 7 (hasLength (cells S) key && hasLength (cells S) message)
+    ∷ unless 8 (allBelow S key)
+    ∷ unless 9 (allWithin (S .bound) message)
     ∷ [])
 
 unfoldable pub commitAnswer : Settings → List ℕ → List ℤ → Committed
@@ -57,7 +57,7 @@ commitAnswer S key message = record {
 
 -- PROTOCOL 2.2: the bound grows with t, the part that is looked at shrinks
 unfoldable pub leftSmall : Settings → ℕ → List ℤ → Bool
-leftSmall S t message = small (2 ^ t * S .bound) (take (leftCells S t) message)
+leftSmall S t message = allWithin (2 ^ t * S .bound) (take (leftCells S t) message)
 
 -- PROTOCOL 7.3, refusal 9: in a round or fold only while a round is left
 unfoldable pub movingSmall : Settings → ℕ → List ℤ → Bool
@@ -67,8 +67,8 @@ unfoldable pub roundRefusal : Settings → ℕ → List ℕ → List ℤ → ℕ
 roundRefusal S t key message =
     first
     (settingsRefusal S
-    ∷ unless 7 (sized (cells S) key && sized (cells S) message)
-    ∷ unless 8 (residues S key)
+    ∷ unless 7 (hasLength (cells S) key && hasLength (cells S) message)
+    ∷ unless 8 (allBelow S key)
     ∷ unless 9 (movingSmall S t message)
     ∷ unless 11 (ltb t (S .depth))
     ∷ [])
@@ -92,8 +92,8 @@ unfoldable pub foldRefusal : Settings → ℕ → ℕ → List ℕ → List ℤ 
 foldRefusal S t e key message =
     first
     (settingsRefusal S
-    ∷ unless 7 (sized (cells S) key && sized (cells S) message)
-    ∷ unless 8 (residues S key)
+    ∷ unless 7 (hasLength (cells S) key && hasLength (cells S) message)
+    ∷ unless 8 (allBelow S key)
     ∷ unless 9 (movingSmall S t message)
     ∷ unless 10 (exponent S e)
     ∷ unless 11 (ltb t (S .depth))
@@ -116,7 +116,7 @@ unfoldable pub endRefusal : Settings → ℕ → List ℤ → ℕ
 endRefusal S t message =
     first
     (settingsRefusal S
-    ∷ unless 7 (sized (cells S) message)
+    ∷ unless 7 (hasLength (cells S) message)
     ∷ unless 9 (endingSmall S t message)
     ∷ unless 11 (eqb t (S .depth))
     ∷ [])
@@ -133,9 +133,9 @@ unfoldable pub openingRefusal : Settings → List ℕ → List ℤ → List ℕ 
 openingRefusal S key message E rounds =
     first
     (settingsRefusal S
-    ∷ unless 7 (sized (cells S) key && sized (cells S) message && sized (S .depth) E && sized (roundCells S) rounds)
-    ∷ unless 8 (residues S key)
-    ∷ unless 9 (small (S .bound) message)
+    ∷ unless 7 (hasLength (cells S) key && hasLength (cells S) message && hasLength (S .depth) E && hasLength (roundCells S) rounds)
+    ∷ unless 8 (allBelow S key)
+    ∷ unless 9 (allWithin (S .bound) message)
     ∷ unless 10 (exponents S E)
     ∷ [])
 
@@ -170,8 +170,8 @@ unfoldable pub checkRefusal : Settings → List ℕ → List ℕ → List ℕ �
 checkRefusal S C key rounds E =
     first
     (settingsRefusal S
-    ∷ unless 7 (sized (cells S) key && sized (roundCells S) rounds && sized (S .depth) E)
-    ∷ unless 8 (residues S key && residueElement S C && residues S rounds)
+    ∷ unless 7 (hasLength (cells S) key && hasLength (roundCells S) rounds && hasLength (S .depth) E)
+    ∷ unless 8 (allBelow S key && residueElement S C && allBelow S rounds)
     ∷ unless 10 (exponents S E)
     ∷ [])
 
@@ -191,8 +191,8 @@ unfoldable pub judgeRefusal : Settings → List ℕ → ℕ → List ℕ → Lis
 judgeRefusal S C c key w =
     first
     (settingsRefusal S
-    ∷ unless 7 (sized (cells S) key && sized (cells S) w)
-    ∷ unless 8 (residues S key && residueElement S C)
+    ∷ unless 7 (hasLength (cells S) key && hasLength (cells S) w)
+    ∷ unless 8 (allBelow S key && residueElement S C)
     ∷ unless 14 (growthAllowed S)
     ∷ unless 15 (slackAllowed S c)
     ∷ [])
@@ -213,8 +213,8 @@ everyPath S C key rounds E finals = every (leaves S) (λ j. accepted S key (path
 abbrev pub treeTests : Settings → List ℕ → List ℕ → List ℕ → List ℕ → List ℤ → List ℤ → List ℕ
 treeTests S C key rounds E finals w =
     settingsRefusal S
-    ∷ unless 7 (sized (cells S) key && sized (treeRoundCells S) rounds && sized (treeChallenges S) E && sized (leafCells S) finals && sized (cells S) w)
-    ∷ unless 8 (residues S key && residueElement S C && residues S rounds)
+    ∷ unless 7 (hasLength (cells S) key && hasLength (treeRoundCells S) rounds && hasLength (treeChallenges S) E && hasLength (leafCells S) finals && hasLength (cells S) w)
+    ∷ unless 8 (allBelow S key && residueElement S C && allBelow S rounds)
     ∷ unless 10 (exponents S E)
     ∷ unless 12 (every (nodes S) (apart E))
     ∷ []

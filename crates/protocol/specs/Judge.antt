@@ -16,7 +16,7 @@ use Rattle.protocol.specs.declared.Settings.{Settings}
 use Rattle.protocol.specs.Basic.{every}
 use Rattle.protocol.specs.CommonDivisor.{greatestCommonDivisor}
 use Rattle.protocol.specs.Element.{modulo, residue, times, signedAt, residueAt}
-use Rattle.protocol.specs.Settings.{size, small}
+use Rattle.protocol.specs.Settings.{size, allWithin}
 use Rattle.protocol.specs.Opening.{inner}
 use Rattle.protocol.specs.Tree.{growth}
 
@@ -43,4 +43,4 @@ Opens S key C c w = (k : ℕ) → k < S .degree → scaledCommitment S C c k ≡
 
 -- PROTOCOL 6: the equation and the growth bound
 unfoldable pub judged : Settings → List ℕ → List ℕ → ℕ → List ℤ → Bool
-judged S key C c w = opens S key C c w && small (growth S) w
+judged S key C c w = opens S key C c w && allWithin (growth S) w

@@ -29,7 +29,7 @@ use Rattle.protocol.specs.declared.Verdict.the-variants.{Silent, Holds, 
 use Rattle.protocol.specs.Basic.{tabulate, choose, first, unless, granted}
 unfoldable pub use Rattle.protocol.specs.Layout.{slots}
 use Rattle.protocol.specs.Element.{width, zeros, padded, signed, residue}
-use Rattle.protocol.specs.Settings.{settingsRefusal, cells, sized, residues, residueElement, exponent, exponents}
+use Rattle.protocol.specs.Settings.{settingsRefusal, cells, hasLength, allBelow, residueElement, exponent, exponents}
 use Rattle.protocol.specs.Transcript.{roundHolds, nextClaim, endMet, foldedKey}
 
 -- what a verifier says of a transcript, or of its end
@@ -133,8 +133,8 @@ sessionEndRefusal r key =
     let S = r .settings in
     first
     (settingsRefusal S
-    ∷ unless 7 (sized (cells S) key)
-    ∷ unless 8 (residues S key && residueElement S (r .claim))
+    ∷ unless 7 (hasLength (cells S) key)
+    ∷ unless 8 (allBelow S key && residueElement S (r .claim))
     ∷ unless 10 (exponents S (r .challenges))
     ∷ unless 11 (eqb (r .done) (S .depth) && not (r .closed))
     ∷ [])

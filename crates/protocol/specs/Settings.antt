@@ -4,9 +4,9 @@
 --   settingsRefusal S                   refusals 3 to 6
 --   size S, cells S                     passed on from Layout
 --   half S                              the inverse of 2 modulo q
---   sized n t                           has the table t exactly n entries (refusal 7)
---   residues S t, residueElement S a    are the numbers of a table, of an element by value, residues (refusal 8)
---   small b t                           are the numbers of a table from −b to b (refusal 9)
+--   hasLength n t                       has the table t exactly n entries (refusal 7)
+--   allBelow S t, residueElement S a    are the numbers of a table, of an element by value, residues: below q (refusal 8)
+--   allWithin b t                       are the numbers of a table from −b to b (refusal 9)
 --   exponent S e, exponents S t         is e, is every number of a table, an exponent (refusal 10)
 use mathlib.Core.Bool.{Bool, _&&_}
 use mathlib.Core.List.{List, [], _∷_}
@@ -43,19 +43,19 @@ unfoldable pub half : Settings → ℕ
 half S = (S .modulus + 1) / 2
 
 -- PROTOCOL 7.1, refusal 7
-unfoldable pub sized {ℓ} : {A : Type ℓ} → ℕ → List A → Bool
-sized n t = eqb (length t) n
+unfoldable pub hasLength {ℓ} : {A : Type ℓ} → ℕ → List A → Bool
+hasLength n t = eqb (length t) n
 
 -- PROTOCOL 7.1, refusal 8
-unfoldable pub residues : Settings → List ℕ → Bool
-residues S t = all (λ x. ltb x (S .modulus)) t
+unfoldable pub allBelow : Settings → List ℕ → Bool
+allBelow S t = all (λ x. ltb x (S .modulus)) t
 
 unfoldable pub residueElement : Settings → List ℕ → Bool
 residueElement S a = every (S .degree) (λ k. ltb (getD a k 0) (S .modulus))
 
 -- PROTOCOL 7.1, refusal 9: b is B before any fold, and larger later
-unfoldable pub small : ℕ → List ℤ → Bool
-small b t = all (within b) t
+unfoldable pub allWithin : ℕ → List ℤ → Bool
+allWithin b t = all (within b) t
 
 -- PROTOCOL 1.5, and 7.1, refusal 10
 unfoldable pub exponent : Settings → ℕ → Bool

@@ -71,7 +71,7 @@ use Rattle.protocol.specs.declared.Number.{Number}
 use Rattle.protocol.specs.declared.Number.the-variants.{Value, Refused}
 use Rattle.protocol.specs.Layout.{roundItems}
 use Rattle.protocol.specs.Basic.{least, tabulate, all, choose, within, first, unless, granted}
-use Rattle.protocol.specs.Settings.{settingsRefusal, size, sized, residues, exponents, small}
+use Rattle.protocol.specs.Settings.{settingsRefusal, size, hasLength, allBelow, exponents, allWithin}
 
 -- PROTOCOL 7.1, refusal 1
 unfoldable pub textLimit : ℕ
@@ -217,7 +217,7 @@ unfoldable pub textOf : Settings → Parts → Tables → List ℕ
 textOf S P t = names ++ linesText (flatMap blockLines (blocks S P t))
 
 unfoldable pub blockFits : Block → Bool
-blockFits b = sized (shapeSize (b .shape)) (b .values)
+blockFits b = hasLength (shapeSize (b .shape)) (b .values)
 
 -- PROTOCOL 7.1, refusal 7: a part that is not there has no values
 unfoldable pub fits : Settings → Parts → Tables → Bool
@@ -387,8 +387,8 @@ lookAnswer text = loaded (lookRefusal text) text
 unfoldable pub entriesRefusal : Settings → Bool → Tables → ℕ
 entriesRefusal S lastFits t =
     first
-    (unless 8 (residues S (t .key) && (residues S (t .commitment) && residues S (t .rounds)))
-    ∷ unless 9 (small (S .bound) (t .message) && lastFits)
+    (unless 8 (allBelow S (t .key) && (allBelow S (t .commitment) && allBelow S (t .rounds)))
+    ∷ unless 9 (allWithin (S .bound) (t .message) && lastFits)
     ∷ unless 10 (exponents S (t .challenges))
     ∷ [])
 

@@ -16,7 +16,7 @@ use Rattle.protocol.specs.declared.Settings.{Settings}
 use Rattle.protocol.specs.declared.Written.{Written}
 use Rattle.protocol.specs.Basic.{choose, granted}
 use Rattle.protocol.specs.Layout.{roundCells}
-use Rattle.protocol.specs.Settings.{settingsRefusal, cells, sized, residues, exponent, exponents}
+use Rattle.protocol.specs.Settings.{settingsRefusal, cells, hasLength, allBelow, exponent, exponents}
 use Rattle.protocol.specs.Text.{Tables, shape, shapes, shapeSize, fits, linesOf, settingsIn, tablesIn, entriesRefusal, textRefusal, outputRefusal, written, overwritten}
 use Rattle.protocol.specs.Programs.{proveReads, proofText, proveText, proveRefusal, proveAnswer, proveExit}
 use Rattle.protocol.specs.Promises.{Proved}
@@ -57,7 +57,7 @@ module _ (text out : List ℕ) where
 module _ (S : Settings) (t : Tables) where
   pub openable : (rounds : List ℕ) → settingsRefusal S ≡ 0 → fits S proveReads t ≡ true → entriesRefusal S true t ≡ 0 → length rounds ≡ roundCells S
       → Openable S (t .key) (t .message) (t .challenges) rounds
-  unfolding entriesRefusal residues exponents exponent sized partShape shapes shape shapeSize choose proveReads cells
+  unfolding entriesRefusal allBelow exponents exponent hasLength partShape shapes shape shapeSize choose proveReads cells
   openable rounds allowed fit entries long =
       let exact = fits-exact S proveReads t fit in
       let (h₈, r₈) = first-zero _ _ entries in

@@ -15,7 +15,7 @@ use lib.ListN.{length, getD, take}
 use lib.Seq.{getD-take, length-take-le}
 use Rattle.protocol.specs.declared.Settings.{Settings}
 use Rattle.protocol.specs.Basic.{Tested, within}
-use Rattle.protocol.specs.Settings.{settingsRefusal, cells, sized, residues, small, exponent}
+use Rattle.protocol.specs.Settings.{settingsRefusal, cells, hasLength, allBelow, allWithin, exponent}
 use Rattle.protocol.specs.Layout.{leftCells}
 use Rattle.protocol.specs.Calls.{leftSmall, commitRefusal, roundRefusal, foldRefusal, endRefusal}
 use Rattle.protocol.specs.Inputs.{Valid, Below, Within}
@@ -51,12 +51,12 @@ pub record FoldGiven (S : Settings) (t e : ℕ) (key : List ℕ) (message : List
 
 module _ (S : Settings) (key : List ℕ) (message : List ℤ) where
   -- 3 to 7 refuse nothing
-  pub lengths-given : {r : ℕ} → Tested (settingsRefusal S) 7 (sized (cells S) key && sized (cells S) message) r → r ≡ 0 → (settingsRefusal S ≡ 0) × (length message ≡ cells S)
-  unfolding sized
-  lengths-given e z = (tested-before e z, eqb-true _ _ (and-split {a = sized (cells S) key} (tested-passed e z) .1))
+  pub lengths-given : {r : ℕ} → Tested (settingsRefusal S) 7 (hasLength (cells S) key && hasLength (cells S) message) r → r ≡ 0 → (settingsRefusal S ≡ 0) × (length message ≡ cells S)
+  unfolding hasLength
+  lengths-given e z = (tested-before e z, eqb-true _ _ (and-split {a = hasLength (cells S) key} (tested-passed e z) .1))
 
-  tables-given : settingsRefusal S ≡ 0 → (sized (cells S) key && sized (cells S) message) ≡ true → residues S key ≡ true → TablesGiven S key message
-  unfolding sized residues
+  tables-given : settingsRefusal S ≡ 0 → (hasLength (cells S) key && hasLength (cells S) message) ≡ true → allBelow S key ≡ true → TablesGiven S key message
+  unfolding hasLength allBelow
   tables-given r6 t7 t8 =
       let (k, m) = and-split t7 in
       record { allowed = r6; settings = settings-valid S r6; key-given = tested-below (S .modulus) (cells S) key k t8; message-long = eqb-true _ _ m }
@@ -64,7 +64,7 @@ module _ (S : Settings) (key : List ℕ) (message : List ℤ) where
   -- refusal 9
 
   small-left-given : (t : ℕ) → length message ≡ cells S → leftSmall S t message ≡ true → SmallLeft S t message
-  unfolding leftSmall small within
+  unfolding leftSmall allWithin within
   small-left-given t long h j l =
       let inside : leftCells S t ≤ length message = omega (arith, left-inside S t) in
       omega (
@@ -77,7 +77,7 @@ module _ (S : Settings) (key : List ℕ) (message : List ℤ) where
   -- ---- the prover's calls
 
   pub commit-given : commitRefusal S key message ≡ 0 → CommitGiven S key message
-  unfolding commitRefusal sized
+  unfolding commitRefusal hasLength
   commit-given z =
       let (r6, (t7, (t8, (t9, _)))) = none-refused ((6, _) ∷ (7, _) ∷ (8, _) ∷ []) z in
       let g = tables-given r6 t7 t8 in
@@ -100,5 +100,5 @@ module _ (S : Settings) (key : List ℕ) (message : List ℤ) where
       record { tables = g; small-left = small-left-given t (g .message-long) (sym (moving-tested S t message l) ∙ t9); exponent-below = ltb-true _ _ t10; turn = l }
 
 pub end-given : (S : Settings) (t : ℕ) (message : List ℤ) → endRefusal S t message ≡ 0 → Valid S × (length message ≡ cells S)
-unfolding endRefusal sized
+unfolding endRefusal hasLength
 end-given S t message z = let (r6, (t7, _)) = none-refused ((6, _) ∷ (8, _) ∷ (10, _) ∷ []) z in (settings-valid S r6, eqb-true _ _ t7)

@@ -8,12 +8,12 @@ ghost use mathlib.Core.Bool.{_&&_};
 ghost use Prim.Native.Nat.{_≤_};
 ghost use lib.ListN.{length};
 ghost use Rattle.protocol.specs.Basic.{Tested};
-ghost use Rattle.protocol.specs.Settings.{settingsRefusal, cells, sized};
+ghost use Rattle.protocol.specs.Settings.{settingsRefusal, cells, hasLength};
 ghost use Rattle.protocol.specs.Calls.{leftSmall, movingSmall, endingSmall, commitRefusal, roundRefusal, foldRefusal, endRefusal};
 
 // 3 to 7 of a call on both tables.
 fn lengths(settings: Settings, key: &[Residue], message: &[i32]) -> u32
-    ensures { λ r. ⌜ Tested (settingsRefusal settings) 7 (sized (cells settings) (now (key .entry)) && sized (cells settings) (now (message .entry))) r ⌝ }
+    ensures { λ r. ⌜ Tested (settingsRefusal settings) 7 (hasLength (cells settings) (now (key .entry)) && hasLength (cells settings) (now (message .entry))) r ⌝ }
 {
     let cells = sizes::cells(settings);
     let r6 = tests::settings_refusal(settings);

@@ -10,7 +10,7 @@ ghost use lib.IntN.{natAbs};
 ghost use lib.ListN.{getD};
 ghost use Rattle.protocol.specs.Basic.{every, all, within, Provided, Tested};
 ghost use Rattle.protocol.specs.Layout.{width};
-ghost use Rattle.protocol.specs.Settings.{degreeAllowed, modulusAllowed, boundAllowed, settingsRefusal, small};
+ghost use Rattle.protocol.specs.Settings.{degreeAllowed, modulusAllowed, boundAllowed, settingsRefusal, allWithin};
 
 // The largest depth, one round for each slot of a record, the largest modulus and the largest bound (PROTOCOL 1.1): as `depthAllowed`, `modulusAllowed` and
 // `boundAllowed` have them.
@@ -141,7 +141,7 @@ fn and_within(good: bool, bound: u32, x: i32) -> bool
 
 // Is every number of a table from −bound to bound.
 pub fn all_within(bound: u32, t: &[i32]) -> bool
-    ensures { λ r. ⌜ r ≡ small bound (now (t .entry)) ⌝ }
+    ensures { λ r. ⌜ r ≡ allWithin bound (now (t .entry)) ⌝ }
 {
     let mut good = true;
     for i in 0..t.len() {
@@ -160,7 +160,7 @@ fn and_within_wide(good: bool, bound: u64, x: i64) -> bool
 }
 
 pub fn all_within_wide(bound: u64, t: &[i64]) -> bool
-    ensures { λ r. ⌜ r ≡ small bound (now (t .entry)) ⌝ }
+    ensures { λ r. ⌜ r ≡ allWithin bound (now (t .entry)) ⌝ }
 {
     let mut good = true;
     for i in 0..t.len() {

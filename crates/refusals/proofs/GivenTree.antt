@@ -14,7 +14,7 @@ use lib.IntN.{ℤ}
 use lib.ListN.{length, getD}
 use Rattle.protocol.specs.declared.Settings.{Settings}
 use Rattle.protocol.specs.Basic.{Tested}
-use Rattle.protocol.specs.Settings.{settingsRefusal, cells, sized, residues, residueElement, exponent, exponents}
+use Rattle.protocol.specs.Settings.{settingsRefusal, cells, hasLength, allBelow, residueElement, exponent, exponents}
 use Rattle.protocol.specs.Layout.{nodes, leaves, treeRoundCells, treeChallenges, leafCells, exponentCount}
 use Rattle.protocol.specs.Transcript.{accepted}
 use Rattle.protocol.specs.Tree.{path, challenge, apart, growth, growthLimit, growthAllowed}
@@ -28,7 +28,7 @@ use Rattle.protocol.proofs.Acceptance.{accepted-states}
 
 abbrev pub treeSized : Settings → List ℕ → List ℕ → List ℕ → List ℤ → List ℤ → Bool
 treeSized S key rounds E finals w =
-    sized (cells S) key && sized (treeRoundCells S) rounds && sized (treeChallenges S) E && sized (leafCells S) finals && sized (cells S) w
+    hasLength (cells S) key && hasLength (treeRoundCells S) rounds && hasLength (treeChallenges S) E && hasLength (leafCells S) finals && hasLength (cells S) w
 
 pub record Lengths (S : Settings) (key rounds E : List ℕ) (finals w : List ℤ) : Type 0 where
   pub key-long : length key ≡ cells S
@@ -67,7 +67,7 @@ node-apart E k t =
 
 module _ (S : Settings) (key rounds E : List ℕ) (finals w : List ℤ) where
   sized-lengths : treeSized S key rounds E finals w ≡ true → Lengths S key rounds E finals w
-  unfolding sized
+  unfolding hasLength
   sized-lengths t =
       let (to-finals, of-w) = and-split t in
       let (to-challenges, of-finals) = and-split to-finals in
@@ -81,12 +81,12 @@ module _ (S : Settings) (key rounds E : List ℕ) (finals w : List ℤ) where
 
 module _ (S : Settings) (C key rounds E : List ℕ) (finals w : List ℤ) where
   pub tree-given : treeRefusal S C key rounds E finals w ≡ 0 → TreeGiven S C key rounds E finals w
-  unfolding treeRefusal residues exponents exponent sized
+  unfolding treeRefusal allBelow exponents exponent hasLength
   tree-given z =
       let (r6, (t7, (t8, (t10, (t12, _))))) = none-refused ((6, _) ∷ (7, _) ∷ (9, _) ∷ (11, _) ∷ []) z in
       let l = sized-lengths S key rounds E finals w t7 in
-      let (two, of-rounds) = and-split {a = residues S key && residueElement S C} {b = residues S rounds} t8 in
-      let (of-key, of-commitment) = and-split {a = residues S key} {b = residueElement S C} two in
+      let (two, of-rounds) = and-split {a = allBelow S key && residueElement S C} {b = allBelow S rounds} t8 in
+      let (of-key, of-commitment) = and-split {a = allBelow S key} {b = residueElement S C} two in
       record {
         allowed = r6;
         lengths = l;

@@ -13,7 +13,7 @@ use Rattle.protocol.specs.declared.Started.{Started}
 use Rattle.protocol.specs.declared.Moved.{Moved}
 use Rattle.protocol.specs.Basic.{granted}
 use Rattle.protocol.specs.Element.{padded}
-use Rattle.protocol.specs.Settings.{sized}
+use Rattle.protocol.specs.Settings.{hasLength}
 use Rattle.protocol.specs.Session.{opened, blank, startRefusal, start}
 use Rattle.protocol.proofs.Tests.{and-split, granted-zero, granted-refused}
 use Rattle.protocol.proofs.Refusals.{first-fails, first-holds, first-only}
@@ -25,11 +25,11 @@ use Rattle.sessions.specs.Promises.{startNumber, startExit, StartStored,
 
 -- ---- the start
 
-module _ (S : Settings) (C rec : List ℕ) (n : ℕ) (e : n ≡ lent S (sized (S .degree) C && sized recordWidth rec) 0) where
+module _ (S : Settings) (C rec : List ℕ) (n : ℕ) (e : n ≡ lent S (hasLength (S .degree) C && hasLength recordWidth rec) 0) where
   pub start-refused : (none : Session) (rec′ : List ℕ) → n ≢ 0 → none ≡ blank → rec′ ≡ recordStored none rec → StartStored S C rec n rec′
   unfolding startNumber startExit
   start-refused none rec′ h b p =
-      let refused : lent S (sized (S .degree) C && sized recordWidth rec) 0 ≢ 0 = λ z. h (e ∙ z) in
+      let refused : lent S (hasLength (S .degree) C && hasLength recordWidth rec) 0 ≢ 0 = λ z. h (e ∙ z) in
       record {
         refusal = e ∙ lent-stops S _ _ refused;
         record-exit = p ∙ ap (λ r. recordStored r rec) (b ∙ kept S _ _ _ _ refused);
@@ -37,9 +37,9 @@ module _ (S : Settings) (C rec : List ℕ) (n : ℕ) (e : n ≡ lent S (sized (S
 
   pub start-made : (c : List ℕ) (r : Started) (rec′ : List ℕ) → n ≡ 0 → (S .degree ≤ 64 → length C ≡ S .degree → c ≡ padded (S .degree) C) → r ≡ start S c
       → rec′ ≡ recordStored (r .next) rec → StartStored S C rec (r .refusal) rec′
-  unfolding startNumber startExit start sized
+  unfolding startNumber startExit start hasLength
   start-made c r rec′ h b q p =
-      let long = eqb-true _ _ (and-split (lent-fits S (sized (S .degree) C && sized recordWidth rec) (sym e ∙ h)) .0) in
+      let long = eqb-true _ _ (and-split (lent-fits S (hasLength (S .degree) C && hasLength recordWidth rec) (sym e ∙ h)) .0) in
       let answer = q ∙ ap (start S) (b (lent-degree S _ (sym e ∙ h)) long) in
       let same = lent-passes S _ (startRefusal S (padded (S .degree) C)) (sym e ∙ h) in
       record {
@@ -60,14 +60,14 @@ module _ (fits : Bool) (m : Moved) (rec : List ℕ) where
   }
     where
       seven : 7 ≡ moveNumber fits m rec
-      seven = unfold moveNumber in unfold recordWidth in unfold sized in sym (first-fails 6 _ _ (ne-eqb _ _ h))
+      seven = unfold moveNumber in unfold recordWidth in unfold hasLength in sym (first-fails 6 _ _ (ne-eqb _ _ h))
 
       refused : moveNumber fits m rec ≢ 0
       refused z = let no : _≡_ {A = ℕ} 7 0 = seven ∙ z in omega arith
 
   module _ (long : length rec ≡ 78) where
     number-is : moveNumber fits m rec ≡ lent (sessionOf rec .settings) (fits && flagged rec) (m .refusal)
-    unfolding moveNumber recordWidth sized
+    unfolding moveNumber recordWidth hasLength
     number-is = first-holds 7 _ _ (eq-eqb _ _ long) ∙ first-only _
 
     -- slices beside it that do not fit, or settings that are refused

@@ -10,7 +10,7 @@ use lib.Seq.{take-all, drop-length, getD-drop}
 use Rattle.protocol.specs.declared.Session.{Session}
 use Rattle.protocol.specs.Basic.{tabulate, choose}
 use Rattle.protocol.specs.Element.{width, zeros, padded}
-use Rattle.protocol.specs.Settings.{sized}
+use Rattle.protocol.specs.Settings.{hasLength}
 use Rattle.protocol.proofs.Reading.{tabulate-length, tabulate-ext, tabulate-own}
 use Rattle.residues.specs.Lists.{spliced}
 use Rattle.residues.proofs.Splice.{spliced-ext, spliced-twice}
@@ -20,11 +20,11 @@ use Rattle.sessions.specs.Records.{recordWidth, claimOf, headOf, numberO
 
 module _ (r : Session) where
   pub stays : (t : List ℕ) → length t ≢ 78 → t ≡ recordStored r t
-  unfolding recordStored recordWidth sized choose
+  unfolding recordStored recordWidth hasLength choose
   stays t h = sym (ap (λ b. choose b (numbersOf r) t) (ne-eqb _ _ h))
 
   pub stored : (t : List ℕ) → length t ≡ 78 → recordStored r t ≡ numbersOf r
-  unfolding recordStored recordWidth sized choose
+  unfolding recordStored recordWidth hasLength choose
   stored t h = ap (λ b. choose b (numbersOf r) t) (eq-eqb _ _ h)
 
   pub head-number : (k : ℕ) → k < 6 → getD (headOf r) k 0 ≡ numberOf r k

@@ -20,13 +20,13 @@ use Rattle.protocol.specs.declared.Settings.{Settings}
 use Rattle.protocol.specs.declared.Moved.{Moved}
 use Rattle.protocol.specs.Basic.{first, unless, granted}
 use Rattle.protocol.specs.Element.{padded, paddedSigned}
-use Rattle.protocol.specs.Settings.{sized}
+use Rattle.protocol.specs.Settings.{hasLength}
 use Rattle.protocol.specs.Session.{opened, blank, startRefusal, round, end, verdictNumber}
 use Rattle.slices.specs.Slices.{lent, polynomialOf}
 use Rattle.sessions.specs.Records.{recordWidth, sessionOf, flagged, recordStored}
 
 unfoldable pub startNumber : Settings → List ℕ → List ℕ → ℕ
-startNumber S C rec = lent S (sized (S .degree) C && sized recordWidth rec) (startRefusal S (padded (S .degree) C))
+startNumber S C rec = lent S (hasLength (S .degree) C && hasLength recordWidth rec) (startRefusal S (padded (S .degree) C))
 
 unfoldable pub startExit : Settings → List ℕ → List ℕ → List ℕ
 startExit S C rec = recordStored (granted (startNumber S C rec) (opened S (padded (S .degree) C)) blank) rec
@@ -36,7 +36,7 @@ pub record StartStored (S : Settings) (C rec : List ℕ) (r : ℕ) (rec′ : Lis
   pub record-exit : rec′ ≡ startExit S C rec
 
 unfoldable pub moveNumber : Bool → Moved → List ℕ → ℕ
-moveNumber fits m rec = first (unless 7 (sized recordWidth rec) ∷ lent (sessionOf rec .settings) (fits && flagged rec) (m .refusal) ∷ [])
+moveNumber fits m rec = first (unless 7 (hasLength recordWidth rec) ∷ lent (sessionOf rec .settings) (fits && flagged rec) (m .refusal) ∷ [])
 
 unfoldable pub moveExit : Bool → Moved → List ℕ → List ℕ
 moveExit fits m rec = granted (moveNumber fits m rec) (recordStored (m .next) rec) rec
@@ -50,13 +50,13 @@ pub record MoveStored (fits : Bool) (m : Moved) (rec : List ℕ) (r : ℕ) (rec�
   pub verdict-exit : verdict′ ≡ moveVerdict fits m rec
 
 unfoldable pub polynomialFits : List ℕ → List ℕ → Bool
-polynomialFits P rec = sized (3 * sessionOf rec .settings .degree) P
+polynomialFits P rec = hasLength (3 * sessionOf rec .settings .degree) P
 
 unfoldable pub roundOn : List ℕ → ℕ → List ℕ → Moved
 roundOn P e rec = round (sessionOf rec) (polynomialOf (sessionOf rec .settings .degree) P) e
 
 unfoldable pub lastFits : List ℤ → List ℕ → Bool
-lastFits f rec = sized (sessionOf rec .settings .degree) f
+lastFits f rec = hasLength (sessionOf rec .settings .degree) f
 
 unfoldable pub endOn : List ℤ → List ℕ → List ℕ → Moved
 endOn f key rec = end (sessionOf rec) (paddedSigned (sessionOf rec .settings .degree) f) key

@@ -17,7 +17,7 @@ use lib.ListN.{getD}
 use Rattle.protocol.specs.declared.Session.{Session}
 use Rattle.protocol.specs.Basic.{tabulate, choose}
 use Rattle.protocol.specs.Layout.{width, slots}
-use Rattle.protocol.specs.Settings.{sized}
+use Rattle.protocol.specs.Settings.{hasLength}
 use Rattle.slices.specs.Slices.{given}
 
 abbrev pub headWidth : ℕ
@@ -58,4 +58,4 @@ unfoldable pub numbersOf : Session → List ℕ
 numbersOf r = tabulate recordWidth (numberOf r)
 
 unfoldable pub recordStored : Session → List ℕ → List ℕ
-recordStored r t = choose (sized recordWidth t) (numbersOf r) t
+recordStored r t = choose (hasLength recordWidth t) (numbersOf r) t

@@ -11,7 +11,7 @@ use borrow.Author.Tests.{eq-eqb, ne-eqb}
 use lib.IntN.{ℤ}
 use Rattle.protocol.specs.declared.Settings.{Settings}
 use Rattle.protocol.specs.Basic.{choose, every, first, unless}
-use Rattle.protocol.specs.Settings.{residues, small, exponents}
+use Rattle.protocol.specs.Settings.{allBelow, allWithin, exponents}
 use Rattle.protocol.specs.Text.{Tables, unsigned, entriesRefusal}
 use Rattle.text_parts.specs.Parts.{testedBy}
 use Rattle.text_parts.proofs.Exactly.{and-assoc}
@@ -26,11 +26,11 @@ module _ (S : Settings) (refusal : ℕ) (vs : List ℤ) where
   unfolding passes choose
   tested k e b f = f ∙ sym (ap (λ b. choose b (tests S refusal vs) true) (eq-eqb _ _ e))
 
-  pub tests-residues : refusal ≡ 8 → tests S refusal vs ≡ residues S (map unsigned vs)
+  pub tests-residues : refusal ≡ 8 → tests S refusal vs ≡ allBelow S (map unsigned vs)
   unfolding tests choose
   tests-residues e = ap (λ r. tests S r vs) e
 
-  pub tests-bound : refusal ≡ 9 → tests S refusal vs ≡ small (S .bound) vs
+  pub tests-bound : refusal ≡ 9 → tests S refusal vs ≡ allWithin (S .bound) vs
   unfolding tests choose
   tests-bound e = ap (λ r. tests S r vs) e
 
@@ -41,7 +41,7 @@ module _ (S : Settings) (refusal : ℕ) (vs : List ℤ) where
   pub tests-nothing : (refusal ≡ 8 → ⊥) → (refusal ≡ 9 → ⊥) → (refusal ≡ 10 → ⊥) → tests S refusal vs ≡ true
   unfolding tests choose
   tests-nothing a b c =
-      λ j. choose (ne-eqb _ _ a j) (residues S (map unsigned vs)) (choose (ne-eqb _ _ b j) (small (S .bound) vs) (choose (ne-eqb _ _ c j) (exponents S (map unsigned vs)) true))
+      λ j. choose (ne-eqb _ _ a j) (allBelow S (map unsigned vs)) (choose (ne-eqb _ _ b j) (allWithin (S .bound) vs) (choose (ne-eqb _ _ c j) (exponents S (map unsigned vs)) true))
 
 -- ---- the three tests
 

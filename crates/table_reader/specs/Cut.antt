@@ -11,7 +11,7 @@ use lib.Dec.{eqb}
 use lib.IntN.{ℤ}
 use Rattle.protocol.specs.declared.Settings.{Settings}
 use Rattle.protocol.specs.Basic.{choose, every}
-use Rattle.protocol.specs.Settings.{residues, exponents, small}
+use Rattle.protocol.specs.Settings.{allBelow, exponents, allWithin}
 use Rattle.protocol.specs.Text.{Tables, unsigned}
 use Rattle.text_parts.specs.Parts.{tableCount, testedBy}
 use Rattle.text_parts.specs.Flat.{piece}
@@ -30,8 +30,8 @@ unfoldable pub tests : Settings → ℕ → List ℤ → Bool
 tests S refusal vs =
     choose
     (eqb refusal 8)
-    (residues S (map unsigned vs))
-    (choose (eqb refusal 9) (small (S .bound) vs) (choose (eqb refusal 10) (exponents S (map unsigned vs)) true))
+    (allBelow S (map unsigned vs))
+    (choose (eqb refusal 9) (allWithin (S .bound) vs) (choose (eqb refusal 10) (exponents S (map unsigned vs)) true))
 
 unfoldable pub passes : Settings → ℕ → ℕ → List ℤ → Bool
 passes S refusal k vs = choose (eqb (testedBy k) refusal) (tests S refusal vs) true

@@ -12,7 +12,7 @@ use Rattle.protocol.specs.declared.Parts.{Parts}
 use Rattle.protocol.specs.declared.Loaded.{Loaded}
 use Rattle.protocol.specs.declared.Written.{Written}
 use Rattle.protocol.specs.Basic.{first, unless, granted}
-use Rattle.protocol.specs.Settings.{sized}
+use Rattle.protocol.specs.Settings.{hasLength}
 use Rattle.protocol.specs.Text.{Tables, wanted, fits, linesOf, spotsOf, sameSpots, entriesRefusal, settingsIn, tablesIn, loaded, lookRefusal}
 use Rattle.protocol.specs.Text.{lookAnswer, textRefusal, readRefusal, readAnswer, readExit, textOf, written, overwritten, writeRefusal, writeAnswer, writeExit}
 use Rattle.protocol.specs.Promises.{Read, Wrote}
@@ -45,13 +45,13 @@ module _ (text : List ℕ) (l : Loaded) (e : l ≡ lookAnswer text) where
     look-unfit h s = record { refusal = same; settings-exit = sym (granted-refused _ _ _ (λ z. let no : _≡_ {A = ℕ} 7 0 = same ∙ z in omega arith)) }
       where
         same : 7 ≡ lookNumber text settings
-        same = unfold lookNumber in unfold sized in unfold settingsWidth in sym (first-passes _ _ (sym look-number ∙ h) ∙ first-fails 6 _ _ (ne-eqb _ _ s))
+        same = unfold lookNumber in unfold hasLength in unfold settingsWidth in sym (first-passes _ _ (sym look-number ∙ h) ∙ first-fails 6 _ _ (ne-eqb _ _ s))
 
     pub look-made : l .refusal ≡ 0 → length settings ≡ 4 → (settings′ : List ℕ) → settings′ ≡ settingsNumbers (l .settings) → Looked text settings 0 settings′
     look-made h s settings′ p = record { refusal = same; settings-exit = p ∙ ap settingsNumbers (look-settings h) ∙ sym (granted-zero _ _ _ (sym same)) }
       where
         same : 0 ≡ lookNumber text settings
-        same = unfold lookNumber in unfold sized in unfold settingsWidth in sym (first-passes _ _ (sym look-number ∙ h) ∙ first-holds 7 _ _ (eq-eqb _ _ s) ∙ unfold first in refl)
+        same = unfold lookNumber in unfold hasLength in unfold settingsWidth in sym (first-passes _ _ (sym look-number ∙ h) ∙ first-holds 7 _ _ (eq-eqb _ _ s) ∙ unfold first in refl)
 
 -- ---- the table reader
 
@@ -71,14 +71,14 @@ and-true false b e = refl
 
 module _ (n : ℕ) (text settings : List ℕ) (t : Tables) where
   -- the slice for the settings or the number of parts is refused
-  pub read-unfit : (r : ℕ) → r ≡ first (lookRefusal text ∷ 7 ∷ []) → (sized settingsWidth settings && partsNamed n) ≡ false → ReadStored n text settings t r settings t
+  pub read-unfit : (r : ℕ) → r ≡ first (lookRefusal text ∷ 7 ∷ []) → (hasLength settingsWidth settings && partsNamed n) ≡ false → ReadStored n text settings t r settings t
   unfolding readNumber textRefusal
   read-unfit r e b = record { refusal = same; settings-exit = sym (granted-refused _ _ _ refused); tables-exit = sym (granted-refused _ _ _ refused) }
     where
       unfit : readNumber n text settings t ≡ first (lookRefusal text ∷ 7 ∷ [])
       unfit =
           let S = settingsIn (linesOf text) in
-          seven (lookRefusal text) (sameSpots (spotsOf (linesOf text)) (wanted S (partsOf n))) (fits S (partsOf n) t) (sized settingsWidth settings && partsNamed n)
+          seven (lookRefusal text) (sameSpots (spotsOf (linesOf text)) (wanted S (partsOf n))) (fits S (partsOf n) t) (hasLength settingsWidth settings && partsNamed n)
           (entriesRefusal S true (tablesIn (linesOf text)) ∷ []) b
 
       same : r ≡ readNumber n text settings t
@@ -87,7 +87,7 @@ module _ (n : ℕ) (text settings : List ℕ) (t : Tables) where
       refused : readNumber n text settings t ≢ 0
       refused z = some-refusal (lookRefusal text) (sym e ∙ same ∙ z)
 
-  module _ (b : (sized settingsWidth settings && partsNamed n) ≡ true) (P : Parts) (p : P ≡ partsOf n) (l : Loaded) (t′ : Tables) (given : Read P text t l t′) where
+  module _ (b : (hasLength settingsWidth settings && partsNamed n) ≡ true) (P : Parts) (p : P ≡ partsOf n) (l : Loaded) (t′ : Tables) (given : Read P text t l t′) where
     read-is : readRefusal P text t ≡ readNumber n text settings t
     unfolding readNumber readRefusal
     read-is = ap (λ x. textRefusal x (fits (settingsIn (linesOf text)) x t) text) p ∙ ap (λ x. textRefusal (partsOf n) x text) (sym (and-true _ _ b))

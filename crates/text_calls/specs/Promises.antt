@@ -14,7 +14,7 @@ use lib.ListN.{length}
 use Rattle.protocol.specs.declared.Settings.{Settings}
 use Rattle.protocol.specs.declared.Checked.{Checked}
 use Rattle.protocol.specs.Basic.{first, unless, granted}
-use Rattle.protocol.specs.Settings.{sized}
+use Rattle.protocol.specs.Settings.{hasLength}
 use Rattle.protocol.specs.Text.{Tables, fits, linesOf, settingsIn, tablesIn, lookRefusal, textRefusal, textOf, writeRefusal, overwritten}
 use Rattle.protocol.specs.Programs.{proveAnswer, proveExit}
 use Rattle.slices.specs.Slices.{lent}
@@ -22,14 +22,14 @@ use Rattle.protocol.specs.Session.{verdictNumber}
 use Rattle.text_calls.specs.Texts.{partsOf, partsNamed, settingsWidth, settingsNumbers}
 
 unfoldable pub lookNumber : List ℕ → List ℕ → ℕ
-lookNumber text settings = first (lookRefusal text ∷ unless 7 (sized settingsWidth settings) ∷ [])
+lookNumber text settings = first (lookRefusal text ∷ unless 7 (hasLength settingsWidth settings) ∷ [])
 
 pub record Looked (text settings : List ℕ) (r : ℕ) (settings′ : List ℕ) : Type 0 where
   pub refusal : r ≡ lookNumber text settings
   pub settings-exit : settings′ ≡ granted (lookNumber text settings) (settingsNumbers (settingsIn (linesOf text))) settings
 
 unfoldable pub readNumber : ℕ → List ℕ → List ℕ → Tables → ℕ
-readNumber n text settings t = textRefusal (partsOf n) (fits (settingsIn (linesOf text)) (partsOf n) t && (sized settingsWidth settings && partsNamed n)) text
+readNumber n text settings t = textRefusal (partsOf n) (fits (settingsIn (linesOf text)) (partsOf n) t && (hasLength settingsWidth settings && partsNamed n)) text
 
 pub record ReadStored (n : ℕ) (text settings : List ℕ) (t : Tables) (r : ℕ) (settings′ : List ℕ) (t′ : Tables) : Type 0 where
   pub refusal : r ≡ readNumber n text settings t

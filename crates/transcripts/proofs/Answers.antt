@@ -9,7 +9,7 @@ use lib.IntN.{ℤ}
 use Rattle.protocol.specs.declared.Settings.{Settings}
 use Rattle.protocol.specs.declared.Checked.{Checked}
 use Rattle.protocol.specs.declared.Verdict.the-variants.{Silent}
-use Rattle.protocol.specs.Settings.{cells, sized, residues, residueElement}
+use Rattle.protocol.specs.Settings.{cells, hasLength, allBelow, residueElement}
 use Rattle.protocol.specs.Transcript.{Transcript, accepted}
 use Rattle.protocol.specs.Session.{verdict, verdictNumber}
 use Rattle.protocol.specs.Calls.{checkRefusal, checkAnswer, checkNumber}
@@ -23,13 +23,13 @@ use Rattle.transcripts.specs.Given.{TranscriptGiven}
 
 module _ (S : Settings) (C key rounds E : List ℕ) where
   pub passed : (x : ℕ) → x ≡ width → checkRefusal S C key rounds E ≡ 0 → TranscriptGiven S x key rounds E
-  unfolding checkRefusal sized residues
+  unfolding checkRefusal hasLength allBelow
   passed x long e =
       let (settings, (sizes, (numbers, _))) = none-refused ((6, _) ∷ (7, _) ∷ (9, _) ∷ []) e in
       let (left, challenges) = and-split sizes in
       let (keys, elements) = and-split left in
-      let (two, of-rounds) = and-split {a = residues S key && residueElement S C} {b = residues S rounds} numbers in
-      let (of-key, _) = and-split {a = residues S key} {b = residueElement S C} two in
+      let (two, of-rounds) = and-split {a = allBelow S key && residueElement S C} {b = allBelow S rounds} numbers in
+      let (of-key, _) = and-split {a = allBelow S key} {b = residueElement S C} two in
       record {
         allowed = settings;
         key-below = tested-below (S .modulus) (cells S) key keys of-key;

@@ -16,7 +16,7 @@ use Rattle.protocol.specs.declared.Moved.{Moved}
 use Rattle.protocol.specs.declared.Verdict.the-variants.{Silent, Holds, Rejected}
 use Rattle.protocol.specs.Basic.{choose}
 use Rattle.protocol.specs.Element.{zeros, padded, residue}
-use Rattle.protocol.specs.Settings.{settingsRefusal, cells, residues, residueElement}
+use Rattle.protocol.specs.Settings.{settingsRefusal, cells, allBelow, residueElement}
 use Rattle.protocol.specs.Inputs.{Below}
 use Rattle.protocol.specs.Transcript.{nextClaim}
 use Rattle.protocol.specs.Session.{slots, verdict, opened, blank, startRefusal, start, refusedMove, shut, part, sessionRoundRefusal, advanced, sessionRoundHolds, round, sessionEndRefusal}
@@ -110,11 +110,11 @@ module _ (r : Session) (f : List ℤ) (key : List ℕ) where
     pub key-below : Below (r .settings .modulus) (cells (r .settings)) key
 
   pub end-given : sessionEndRefusal r key ≡ 0 → EndGiven
-  unfolding sessionEndRefusal residues
+  unfolding sessionEndRefusal allBelow
   end-given z =
       let (r6, (t7, (t8, _))) = none-refused ((6, _) ∷ (7, _) ∷ (9, _) ∷ (10, _) ∷ []) z in
       let S = r .settings in
-      let (of-key, of-claim) = and-split {a = residues S key} {b = residueElement S (r .claim)} t8 in
+      let (of-key, of-claim) = and-split {a = allBelow S key} {b = residueElement S (r .claim)} t8 in
       record { allowed = r6; key-below = tested-below (S .modulus) (cells S) key t7 of-key }
 
   pub end-refused : (n : ℕ) → n ≡ sessionEndRefusal r key → (n ≡ 0 → ⊥) → _≡_ {A = Moved} (record { refusal = n; verdict = Silent; next = r }) (end r f key)

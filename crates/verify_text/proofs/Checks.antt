@@ -14,7 +14,7 @@ use lib.ListN.{length}
 use Rattle.protocol.specs.declared.Settings.{Settings}
 use Rattle.protocol.specs.Basic.{choose}
 use Rattle.protocol.specs.Layout.{roundCells}
-use Rattle.protocol.specs.Settings.{cells, sized, residues}
+use Rattle.protocol.specs.Settings.{cells, hasLength, allBelow}
 use Rattle.protocol.specs.Text.{Tables, shape, shapes, shapeSize, entriesRefusal}
 use Rattle.protocol.specs.Programs.{verifyReads}
 use Rattle.protocol.proofs.Tests.{and-split, first-zero, unless-zero}
@@ -60,12 +60,12 @@ module _ (S : Settings) (t : Tables) (g : Given S t) where
       nothing [] e = refl
       nothing (x ∷ l) e = absurd (omega arith)
 
-  all-residues : (residues S (t .key) ≡ true) × ((residues S (t .commitment) ≡ true) × (residues S (t .rounds) ≡ true))
+  all-residues : (allBelow S (t .key) ≡ true) × ((allBelow S (t .commitment) ≡ true) × (allBelow S (t .rounds) ≡ true))
   unfolding entriesRefusal
   all-residues = let (k, r) = and-split (unless-zero 7 _ (first-zero _ _ (g .entries) .0)) in (k, and-split r)
 
   pub transcript-given : TranscriptGiven S (length (t .last)) (t .key) (t .rounds) (t .challenges)
-  unfolding residues sized
+  unfolding allBelow hasLength
   transcript-given = record {
     allowed = g .settings;
     key-below = tested-below (S .modulus) _ (t .key) (eq-eqb _ _ (long .key)) (all-residues .0);

@@ -3,7 +3,7 @@ use mathlib.Core.Bool.{_&&_}
 use borrow.Author.Tests.{eqb-true}
 use Rattle.protocol.specs.declared.Checked.{Checked}
 use Rattle.protocol.specs.Element.{padded, paddedSigned}
-use Rattle.protocol.specs.Settings.{sized}
+use Rattle.protocol.specs.Settings.{hasLength}
 use Rattle.protocol.specs.Calls.{checkRefusal, checkAnswer}
 use Rattle.protocol.proofs.Tests.{and-split}
 use Rattle.slices.specs.Slices.{given, lent}
@@ -16,23 +16,23 @@ use Rattle.exports.proofs.wovenrock_check.Statement.{statement}
 use Rattle.exports.proofs.wovenrock_check.Tie as tie
 
 returns : tie.Need-returns
-unfolding checkNumber checkVerdict sized
+unfolding checkNumber checkVerdict hasLength
 returns c =
     let at-refusal = c .before in
     let at-both = at-refusal .before in
     let a = at-both .before .before .before .before .before .args in
     let S = given (a .degree) (a .depth) (a .modulus) (a .bound) in
     let answer = checkAnswer S (padded (a .degree) (a .commitment .now)) (paddedSigned (a .degree) (a .last .now)) (a .key .now) (a .rounds .now) (a .challenges .now) in
-    let fits = sized (a .degree) (a .commitment .now) && sized (a .degree) (a .last .now) in
+    let fits = hasLength (a .degree) (a .commitment .now) && hasLength (a .degree) (a .last .now) in
     let (p, q) = unfit S fits (answer .refusal) (verdictNumber (answer .verdict)) 0 _ (at-refusal .refusal .ensures ∙ ap (λ b. lent S b 0) (at-both .both .ensures)) (c .if1 .taken) in
     record { refusal = p; verdict-exit = q }
 
 returns-2 : tie.Need-returns-2
-unfolding checkNumber checkVerdict checkAnswer sized
+unfolding checkNumber checkVerdict checkAnswer hasLength
 returns-2 c =
     let a = c .before .before .before .before .before .before .before .before .before .before .before .args in
     let S = given (a .degree) (a .depth) (a .modulus) (a .bound) in
-    let fits = sized (a .degree) (a .commitment .now) && sized (a .degree) (a .last .now) in
+    let fits = hasLength (a .degree) (a .commitment .now) && hasLength (a .degree) (a .last .now) in
     let border = c .before .before .before .before .before .refusal .ensures in
     let both = c .before .before .before .before .before .before .both .ensures in
     let nothing = c .before .before .before .before .if1 .left in

@@ -2,7 +2,7 @@ use mathlib.Core.Path.{sym, ap, _∙_}
 use borrow.Author.Tests.{eqb-true}
 use lib.ListN.{take}
 use Rattle.protocol.specs.declared.Committed.{Committed}
-use Rattle.protocol.specs.Settings.{sized}
+use Rattle.protocol.specs.Settings.{hasLength}
 use Rattle.protocol.specs.Calls.{commitAnswer}
 use Rattle.slices.specs.Slices.{given}
 use Rattle.slices.proofs.Lent.{lent-fits, lent-degree}
@@ -13,17 +13,17 @@ use Rattle.exports.proofs.wovenrock_commit.Statement.{statement}
 use Rattle.exports.proofs.wovenrock_commit.Tie as tie
 
 returns : tie.Need-returns
-unfolding commitNumber commitExit sized
+unfolding commitNumber commitExit hasLength
 returns c =
     let at-refusal = c .before in
     let a = at-refusal .before .before .before .args in
     let S = given (a .degree) (a .depth) (a .modulus) (a .bound) in
     let answer = commitAnswer S (a .key .now) (a .message .now) in
-    let (p, q) = unfit S (sized (a .degree) (a .commitment .now)) (answer .refusal) (take (a .degree) (answer .commitment)) (a .commitment .now) _ (at-refusal .refusal .ensures) (c .if1 .taken) in
+    let (p, q) = unfit S (hasLength (a .degree) (a .commitment .now)) (answer .refusal) (take (a .degree) (answer .commitment)) (a .commitment .now) _ (at-refusal .refusal .ensures) (c .if1 .taken) in
     record { refusal = p; commitment-exit = q }
 
 returns-2 : tie.Need-returns-2
-unfolding commitNumber commitExit sized
+unfolding commitNumber commitExit hasLength
 returns-2 c =
     let at-commit = c .before .before in
     let at-if1 = at-commit .before in
@@ -33,13 +33,13 @@ returns-2 c =
     let answer = commitAnswer S (a .key .now) (a .message .now) in
     let same = ap (λ (r : Committed). r .refusal) (at-commit .commit .ensures) in
     let (p, q) =
-    refused S (sized (a .degree) (a .commitment .now)) (answer .refusal) (take (a .degree) (answer .commitment)) (a .commitment .now) _ (at-refusal .refusal .ensures)
+    refused S (hasLength (a .degree) (a .commitment .now)) (answer .refusal) (take (a .degree) (answer .commitment)) (a .commitment .now) _ (at-refusal .refusal .ensures)
     (at-if1 .if1 .left)
     _ same (c .if2 .taken) in
     record { refusal = p; commitment-exit = q }
 
 returns-3 : tie.Need-returns-3
-unfolding commitNumber commitExit sized
+unfolding commitNumber commitExit hasLength
 returns-3 c =
     let at-store-residues = c .before .before in
     let at-if2 = at-store-residues .before .before .before in
@@ -55,7 +55,7 @@ returns-3 c =
     let passed = sym border ∙ nothing in
     let stored = at-store-residues .store-residues .ensures (lent-degree S _ passed) (eqb-true _ _ (lent-fits S _ passed)) in
     let (p, q) =
-    made S (sized (a .degree) (a .commitment .now)) (answer .refusal) (take (a .degree) (answer .commitment)) (a .commitment .now) _ border nothing
+    made S (hasLength (a .degree) (a .commitment .now)) (answer .refusal) (take (a .degree) (answer .commitment)) (a .commitment .now) _ border nothing
     _ (ap (λ (r : Committed). r .refusal) given-answer) (at-if2 .if2 .left) _ (stored ∙ ap (λ (r : Committed). take (a .degree) (r .commitment)) given-answer) in
     record { refusal = p; commitment-exit = q }
 

@@ -1,7 +1,7 @@
 use mathlib.Core.Path.{sym, ap, _∙_}
 use borrow.Author.Tests.{eqb-true}
 use Rattle.protocol.specs.Element.{padded}
-use Rattle.protocol.specs.Settings.{sized}
+use Rattle.protocol.specs.Settings.{hasLength}
 use Rattle.protocol.specs.Calls as Calls
 use Rattle.slices.specs.Slices.{given}
 use Rattle.slices.proofs.Lent.{lent-passes, lent-fits, lent-degree}
@@ -15,14 +15,14 @@ refusal-requires : tie.Need-refusal-requires
 refusal-requires c κs = search needs
 
 returns : tie.Need-returns
-unfolding extractNumber extractExit sized
+unfolding extractNumber extractExit hasLength
 returns c =
     let a = c .before .before .before .before .before .before .args in
     let S = given (a .degree) (a .depth) (a .modulus) (a .bound) in
     let C = padded (a .degree) (a .commitment .now) in
     let N = Calls.extractRefusal S C (a .key .now) (a .rounds .now) (a .challenges .now) (a .leaves .now) (a .w .now) in
     let exit = Calls.extractExit S C (a .key .now) (a .rounds .now) (a .challenges .now) (a .leaves .now) (a .w .now) in
-    let (p, q) = unfit S (sized (a .degree) (a .commitment .now)) N exit (a .w .now) _ (c .before .refusal .ensures) (c .if1 .taken) in
+    let (p, q) = unfit S (hasLength (a .degree) (a .commitment .now)) N exit (a .w .now) _ (c .before .refusal .ensures) (c .if1 .taken) in
     record { refusal = p; w-exit = q }
 
 residues-requires : tie.Need-residues-requires
@@ -35,7 +35,7 @@ same-length : tie.Need-same-length
 same-length c = search needs
 
 returns-2 : tie.Need-returns-2
-unfolding extractNumber extractExit Calls.extractExit sized
+unfolding extractNumber extractExit Calls.extractExit hasLength
 returns-2 c =
     let at-extract = c .before in
     let at-residues = at-extract .before .before in
@@ -43,7 +43,7 @@ returns-2 c =
     let at-refusal = at-if1 .before in
     let a = at-refusal .before .before .before .before .before .args in
     let S = given (a .degree) (a .depth) (a .modulus) (a .bound) in
-    let fits = sized (a .degree) (a .commitment .now) in
+    let fits = hasLength (a .degree) (a .commitment .now) in
     let border = at-refusal .refusal .ensures in
     let nothing = at-if1 .if1 .left in
     let passed = sym border ∙ nothing in

@@ -4,7 +4,7 @@ use borrow.Author.Tests.{eqb-true}
 use Rattle.protocol.specs.declared.Judged.{Judged}
 use Rattle.protocol.specs.Basic.{choose}
 use Rattle.protocol.specs.Element.{padded}
-use Rattle.protocol.specs.Settings.{sized}
+use Rattle.protocol.specs.Settings.{hasLength}
 use Rattle.protocol.specs.Calls.{judgeRefusal, judgeAnswer}
 use Rattle.slices.specs.Slices.{given}
 use Rattle.slices.proofs.Elements.{as-number}
@@ -19,12 +19,12 @@ refusal-requires : tie.Need-refusal-requires
 refusal-requires c κs = search needs
 
 returns : tie.Need-returns
-unfolding judgeNumber judgeYes sized
+unfolding judgeNumber judgeYes hasLength
 returns c =
     let a = c .before .before .before .before .args in
     let S = given (a .degree) (a .depth) (a .modulus) (a .bound) in
     let answer = judgeAnswer S (padded (a .degree) (a .commitment .now)) (a .slack) (a .key .now) (a .w .now) in
-    let (p, q) = unfit {A = ℕ} S (sized (a .degree) (a .commitment .now)) (answer .refusal) (choose (answer .yes) 1 0) 0 _ (c .before .refusal .ensures) (c .if1 .taken) in
+    let (p, q) = unfit {A = ℕ} S (hasLength (a .degree) (a .commitment .now)) (answer .refusal) (choose (answer .yes) 1 0) 0 _ (c .before .refusal .ensures) (c .if1 .taken) in
     record { refusal = p; yes-exit = q }
 
 residues-requires : tie.Need-residues-requires
@@ -37,11 +37,11 @@ cast-yes : tie.Need-cast-yes
 cast-yes c = search needs
 
 returns-2 : tie.Need-returns-2
-unfolding judgeNumber judgeYes judgeAnswer sized
+unfolding judgeNumber judgeYes judgeAnswer hasLength
 returns-2 c =
     let a = c .before .before .before .before .before .before .before .args in
     let S = given (a .degree) (a .depth) (a .modulus) (a .bound) in
-    let fits = sized (a .degree) (a .commitment .now) in
+    let fits = hasLength (a .degree) (a .commitment .now) in
     let border = c .before .before .before .before .refusal .ensures in
     let nothing = c .before .before .before .if1 .left in
     let passed = sym border ∙ nothing in

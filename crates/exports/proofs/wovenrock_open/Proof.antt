@@ -1,6 +1,6 @@
 use mathlib.Core.Path.{sym, ap, _∙_}
 use borrow.Author.Tests.{eqb-true}
-use Rattle.protocol.specs.Settings.{sized}
+use Rattle.protocol.specs.Settings.{hasLength}
 use Rattle.protocol.proofs.Tests.{and-split}
 use Rattle.slices.specs.Slices.{given, lent}
 use Rattle.slices.proofs.Lent.{lent-fits, lent-degree}
@@ -10,7 +10,7 @@ use Rattle.exports.proofs.wovenrock_open.Statement.{statement}
 use Rattle.exports.proofs.wovenrock_open.Tie as tie
 
 returns : tie.Need-returns
-unfolding sized
+unfolding hasLength
 returns c =
     let at-refusal = c .before in
     let at-both = at-refusal .before in
@@ -20,7 +20,7 @@ returns c =
     (at-refusal .refusal .ensures ∙ ap (λ b. lent S b 0) (at-both .both .ensures)) (c .if1 .taken)
 
 returns-2 : tie.Need-returns-2
-unfolding sized
+unfolding hasLength
 returns-2 c =
     let at-open = c .before .before .before .before .before .before .before in
     let at-if1 = at-open .before .before .before .before in
@@ -32,7 +32,7 @@ returns-2 c =
     (at-refusal .refusal .ensures ∙ ap (λ b. lent S b 0) (at-both .both .ensures)) (at-if1 .if1 .left) _ _ _ _ (at-open .«open» .ensures) (c .if2 .taken)
 
 returns-3 : tie.Need-returns-3
-unfolding sized
+unfolding hasLength
 returns-3 c =
     let at-store-wholes = c .before .before in
     let at-store-residues = at-store-wholes .before .before .before .before .before in

@@ -2,7 +2,7 @@ use mathlib.Core.Path.{sym, ap, _∙_}
 use borrow.Author.Tests.{eqb-true}
 use Prim.Native.Nat.{_*_}
 use Rattle.protocol.specs.declared.Polynomial.{Polynomial}
-use Rattle.protocol.specs.Settings.{sized}
+use Rattle.protocol.specs.Settings.{hasLength}
 use Rattle.protocol.specs.Calls.{roundAnswer}
 use Rattle.slices.specs.Slices.{given, laid}
 use Rattle.slices.proofs.Lent.{lent-fits, lent-degree}
@@ -13,17 +13,17 @@ use Rattle.exports.proofs.wovenrock_round.Statement.{statement}
 use Rattle.exports.proofs.wovenrock_round.Tie as tie
 
 returns : tie.Need-returns
-unfolding roundNumber roundExit sized
+unfolding roundNumber roundExit hasLength
 returns c =
     let at-refusal = c .before in
     let a = at-refusal .before .before .before .args in
     let S = given (a .degree) (a .depth) (a .modulus) (a .bound) in
     let answer = roundAnswer S (a .done) (a .key .now) (a .message .now) in
-    let (p, q) = unfit S (sized (3 * a .degree) (a .polynomial .now)) (answer .refusal) (laid (a .degree) (answer .elements)) (a .polynomial .now) _ (at-refusal .refusal .ensures) (c .if1 .taken) in
+    let (p, q) = unfit S (hasLength (3 * a .degree) (a .polynomial .now)) (answer .refusal) (laid (a .degree) (answer .elements)) (a .polynomial .now) _ (at-refusal .refusal .ensures) (c .if1 .taken) in
     record { refusal = p; polynomial-exit = q }
 
 returns-2 : tie.Need-returns-2
-unfolding roundNumber roundExit sized
+unfolding roundNumber roundExit hasLength
 returns-2 c =
     let at-round = c .before .before in
     let at-if1 = at-round .before in
@@ -33,13 +33,13 @@ returns-2 c =
     let answer = roundAnswer S (a .done) (a .key .now) (a .message .now) in
     let same = ap (λ (r : Polynomial). r .refusal) (at-round .round .ensures) in
     let (p, q) =
-    refused S (sized (3 * a .degree) (a .polynomial .now)) (answer .refusal) (laid (a .degree) (answer .elements)) (a .polynomial .now) _ (at-refusal .refusal .ensures)
+    refused S (hasLength (3 * a .degree) (a .polynomial .now)) (answer .refusal) (laid (a .degree) (answer .elements)) (a .polynomial .now) _ (at-refusal .refusal .ensures)
     (at-if1 .if1 .left)
     _ same (c .if2 .taken) in
     record { refusal = p; polynomial-exit = q }
 
 returns-3 : tie.Need-returns-3
-unfolding roundNumber roundExit sized
+unfolding roundNumber roundExit hasLength
 returns-3 c =
     let at-store-polynomial = c .before .before in
     let at-elements-of = at-store-polynomial .before .before in
@@ -56,7 +56,7 @@ returns-3 c =
     let passed = sym border ∙ nothing in
     let stored = at-store-polynomial .store-polynomial .ensures (lent-degree S _ passed) (eqb-true _ _ (lent-fits S _ passed)) in
     let (p, q) =
-    made S (sized (3 * a .degree) (a .polynomial .now)) (answer .refusal) (laid (a .degree) (answer .elements)) (a .polynomial .now) _ border nothing
+    made S (hasLength (3 * a .degree) (a .polynomial .now)) (answer .refusal) (laid (a .degree) (answer .elements)) (a .polynomial .now) _ border nothing
     _ (ap (λ (r : Polynomial). r .refusal) given-answer) (at-if2 .if2 .left) _
     (stored ∙ ap (laid (a .degree)) (at-elements-of .elements-of .ensures ∙ ap (λ (r : Polynomial). r .elements) given-answer)) in
     record { refusal = p; polynomial-exit = q }

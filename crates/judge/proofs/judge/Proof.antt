@@ -3,7 +3,7 @@ use mathlib.Core.Path.{_≡_, sym, ap, _∙_}
 use mathlib.Core.Bool.{false}
 use borrow.Author.Needs.{needs}
 use borrow.Author.Tests.{not-true, not-false}
-use Rattle.protocol.specs.Settings.{small}
+use Rattle.protocol.specs.Settings.{allWithin}
 use Rattle.protocol.specs.Tree.{growth}
 use Rattle.protocol.specs.Calls.{judgeRefusal}
 use Rattle.judge.proofs.Answers.{growth-exact, JudgeGiven, judge-given, given-vector, judge-refused, judge-done, beyond, within}
@@ -17,11 +17,11 @@ given : (c : tie.Else1) → let a = c .before .before .before .args in JudgeGive
 given c = judge-given _ _ _ _ _ (passed c)
 
 -- the test of the bound is made with the growth itself
-tested : (c : tie.After-all-within-wide) → let a = c .before .before .before .before .before .args in c .all-within-wide .result ≡ small (growth (a .settings)) (a .w .now)
+tested : (c : tie.After-all-within-wide) → let a = c .before .before .before .before .before .args in c .all-within-wide .result ≡ allWithin (growth (a .settings)) (a .w .now)
 tested c =
     let a = c .before .before .before .before .before .args in
     let g = given (c .before .before) in
-    c .all-within-wide .ensures ∙ ap (λ n. small n (a .w .now)) (c .before .growth .ensures (g .allowed) ∙ growth-exact (a .settings) (g .allowed) (g .limited))
+    c .all-within-wide .ensures ∙ ap (λ n. allWithin n (a .w .now)) (c .before .growth .ensures (g .allowed) ∙ growth-exact (a .settings) (g .allowed) (g .limited))
 
 returns : tie.Need-returns
 returns c = judge-refused _ _ _ _ _ _ (c .before .judge .ensures) (c .if1 .taken)

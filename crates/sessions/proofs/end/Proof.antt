@@ -5,7 +5,7 @@ use lib.Dec.{eqb, leb}
 use lib.ListN.{length, getD}
 use Rattle.protocol.specs.declared.Session.{Session}
 use Rattle.protocol.specs.Element.{paddedSigned}
-use Rattle.protocol.specs.Settings.{sized}
+use Rattle.protocol.specs.Settings.{hasLength}
 use Rattle.protocol.specs.Session.{end}
 use Rattle.protocol.proofs.Tests.{and-split}
 use Rattle.slices.specs.Slices.{lent}
@@ -21,7 +21,7 @@ returns : tie.Need-returns
 returns c = move-nowhere _ _ (c .before .before .before .args .session .now) (c .if1 .taken)
 
 returns-2 : tie.Need-returns-2
-unfolding lastFits flagged sized
+unfolding lastFits flagged hasLength
 returns-2 c =
     let a = c .before .before .before .before .before .before .before .before .before .before .args in
     let loaded = c .before .before .before .before .before .load in
@@ -31,7 +31,7 @@ returns-2 c =
     move-refused _ _ (a .session .now) (c .before .before .before .before .before .before .before .if1 .left) _ (c .before .refusal .ensures ∙ lengths) (c .if2 .taken)
 
 returns-3 : tie.Need-returns-3
-unfolding lastFits endOn flagged sized
+unfolding lastFits endOn flagged hasLength
 returns-3 c =
     let at-answer = c .before .before in
     let at-end = at-answer .before .before .before in

@@ -4,7 +4,7 @@ use Prim.Native.Nat.{_*_}
 use lib.Dec.{eqb, leb}
 use lib.ListN.{length, getD}
 use Rattle.protocol.specs.declared.Session.{Session}
-use Rattle.protocol.specs.Settings.{sized}
+use Rattle.protocol.specs.Settings.{hasLength}
 use Rattle.protocol.specs.Session.{round}
 use Rattle.slices.specs.Slices.{lent, polynomialOf}
 use Rattle.slices.proofs.Lent.{lent-degree}
@@ -19,7 +19,7 @@ returns : tie.Need-returns
 returns c = move-nowhere _ _ (c .before .before .before .args .session .now) (c .if1 .taken)
 
 returns-2 : tie.Need-returns-2
-unfolding polynomialFits flagged sized
+unfolding polynomialFits flagged hasLength
 returns-2 c =
     let a = c .before .before .before .before .before .before .before .before .before .before .args in
     let loaded = c .before .before .before .before .before .load in
@@ -29,7 +29,7 @@ returns-2 c =
     move-refused _ _ (a .session .now) (c .before .before .before .before .before .before .before .if1 .left) _ (c .before .refusal .ensures ∙ lengths) (c .if2 .taken)
 
 returns-3 : tie.Need-returns-3
-unfolding polynomialFits roundOn flagged sized
+unfolding polynomialFits roundOn flagged hasLength
 returns-3 c =
     let at-answer = c .before .before in
     let at-round = at-answer .before .before .before in

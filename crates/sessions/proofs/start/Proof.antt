@@ -1,5 +1,5 @@
 use mathlib.Core.Path.{ap, _∙_}
-use Rattle.protocol.specs.Settings.{sized}
+use Rattle.protocol.specs.Settings.{hasLength}
 use Rattle.slices.specs.Slices.{lent}
 use Rattle.sessions.specs.Records.{recordWidth}
 use Rattle.sessions.proofs.Answers.{start-refused, start-made}
@@ -8,7 +8,7 @@ use Rattle.sessions.proofs.start.Statement.{statement}
 use Rattle.sessions.proofs.start.Tie as tie
 
 returns : tie.Need-returns
-unfolding sized recordWidth
+unfolding hasLength recordWidth
 returns c =
     let at-store = c .before .before in
     let at-if1 = at-store .before .before in
@@ -21,7 +21,7 @@ returns c =
     (at-store .store .ensures)
 
 returns-2 : tie.Need-returns-2
-unfolding sized recordWidth
+unfolding hasLength recordWidth
 returns-2 c =
     let at-store2 = c .before .before in
     let at-start = at-store2 .before .before .before in

@@ -5,7 +5,7 @@ use borrow.Author.Needs.{needs}
 use Rattle.protocol.specs.Basic.{Tested}
 use Rattle.protocol.specs.Calls.{openingRefusal}
 use Rattle.protocol.specs.Layout.{roundCells}
-use Rattle.protocol.specs.Settings.{settingsRefusal, cells, sized, residues, exponent, exponents}
+use Rattle.protocol.specs.Settings.{settingsRefusal, cells, hasLength, allBelow, exponent, exponents}
 use Rattle.protocol.proofs.Refusals.{first-stops, first-tested, tested-before, first-only, lengths-tested}
 use Rattle.prover_refusals.proofs.opening.open.Statement.{statement}
 use Rattle.prover_refusals.proofs.opening.open.Tie as tie
@@ -13,10 +13,10 @@ use Rattle.prover_refusals.proofs.opening.open.Tie as tie
 -- 3 to 7
 lengths : (c : tie.After-refuse) → let a = c .before .before .before .before .before .before .before .before .args in
     Tested (settingsRefusal (a .settings)) 7
-    (sized (cells (a .settings)) (a .key .now) && sized (cells (a .settings)) (a .message .now)
-    && sized (a .settings .depth) (a .challenges .now) && sized (roundCells (a .settings)) (a .rounds .now))
+    (hasLength (cells (a .settings)) (a .key .now) && hasLength (cells (a .settings)) (a .message .now)
+    && hasLength (a .settings .depth) (a .challenges .now) && hasLength (roundCells (a .settings)) (a .rounds .now))
     (c .refuse .result)
-unfolding sized
+unfolding hasLength
 lengths c = let c6 = c .before .before .before in lengths-tested _ (c6 .settings-refusal .ensures) (c .refuse .ensures) (λ z. rw (c6 .before .cells .ensures z, c .before .round-cells .ensures z))
 
 returns : tie.Need-returns
@@ -24,7 +24,7 @@ unfolding openingRefusal
 returns c = sym (first-tested _ _ (lengths (c .before)) (λ z. refl) ∙ first-stops _ _ (c .if1 .taken))
 
 returns-2 : tie.Need-returns-2
-unfolding openingRefusal residues exponents exponent
+unfolding openingRefusal allBelow exponents exponent
 returns-2 c =
     let c9 = c .before .before .before in
     let c8 = c9 .before .before in

@@ -2,7 +2,7 @@
 use mathlib.Core.Path.{_≡_, refl, sym, _∙_}
 use borrow.Author.Needs.{needs}
 use Rattle.protocol.specs.Calls.{commitRefusal}
-use Rattle.protocol.specs.Settings.{residues}
+use Rattle.protocol.specs.Settings.{allBelow}
 use Rattle.protocol.proofs.Refusals.{first-stops, first-tested, first-only}
 use Rattle.prover_refusals.proofs.prover.commit.Statement.{statement}
 use Rattle.prover_refusals.proofs.prover.commit.Tie as tie
@@ -12,7 +12,7 @@ unfolding commitRefusal
 returns c = sym (first-tested _ _ (c .before .lengths .ensures) (λ z. refl) ∙ first-stops _ _ (c .if1 .taken))
 
 returns-2 : tie.Need-returns-2
-unfolding commitRefusal residues
+unfolding commitRefusal allBelow
 returns-2 c =
     let c8 = c .before .before in
     let no = c8 .before .before in

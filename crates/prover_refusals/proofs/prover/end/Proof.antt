@@ -3,7 +3,7 @@ use mathlib.Core.Path.{_≡_, refl, sym, _∙_}
 use borrow.Author.Needs.{needs}
 use borrow.Author.Tests.{eqb-true}
 use Rattle.protocol.specs.Calls.{endRefusal}
-use Rattle.protocol.specs.Settings.{settingsRefusal, sized}
+use Rattle.protocol.specs.Settings.{settingsRefusal, hasLength}
 use Rattle.protocol.proofs.Refusals.{first-stops, first-known, first-tested, tested-before, tested-passed, first-only}
 use Rattle.prover_refusals.proofs.prover.end.Statement.{statement}
 use Rattle.prover_refusals.proofs.prover.end.Tie as tie
@@ -12,7 +12,7 @@ allowed : (c : tie.After-cells) → c .before .settings-refusal .result ≡ 0 �
 allowed c z = sym (c .before .settings-refusal .ensures) ∙ z
 
 returns : tie.Need-returns
-unfolding endRefusal sized
+unfolding endRefusal hasLength
 returns c =
     let c7 = c .before in
     sym (first-known _ _ (c7 .before .before .settings-refusal .ensures)
@@ -26,7 +26,7 @@ ending-small-requires c κs =
     (ok, eqb-true _ _ (tested-passed (c7 .refuse .ensures) (c .if1 .left)) ∙ c7 .before .cells .ensures ok)
 
 returns-2 : tie.Need-returns-2
-unfolding endRefusal sized
+unfolding endRefusal hasLength
 returns-2 c =
     let c9 = c .before .before in
     let c7 = c9 .before .before .before in

@@ -2,7 +2,7 @@
 use mathlib.Core.Path.{_≡_, refl, sym, _∙_}
 use borrow.Author.Needs.{needs}
 use Rattle.protocol.specs.Calls.{foldRefusal}
-use Rattle.protocol.specs.Settings.{residues, exponent}
+use Rattle.protocol.specs.Settings.{allBelow, exponent}
 use Rattle.protocol.proofs.Refusals.{first-stops, first-tested, first-only}
 use Rattle.prover_refusals.proofs.Given.{lengths-given}
 use Rattle.prover_refusals.proofs.prover.fold.Statement.{statement}
@@ -16,7 +16,7 @@ moving-small-requires : tie.Need-moving-small-requires
 moving-small-requires c κs = let no = c .before .before in lengths-given _ _ _ (no .before .lengths .ensures) (no .if1 .left)
 
 returns-2 : tie.Need-returns-2
-unfolding foldRefusal residues exponent
+unfolding foldRefusal allBelow exponent
 returns-2 c =
     let c10 = c .before .before in
     let c9 = c10 .before .before in

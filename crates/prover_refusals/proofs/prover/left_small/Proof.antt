@@ -3,7 +3,7 @@ use native.Mathlib.Omega.{arith}
 use borrow.Author.Needs.{needs}
 use lib.ListN.{take}
 use lib.Seq.{length-take-le}
-use Rattle.protocol.specs.Settings.{small}
+use Rattle.protocol.specs.Settings.{allWithin}
 use Rattle.protocol.specs.Layout.{leftCells}
 use Rattle.protocol.specs.Calls.{leftSmall}
 use Rattle.protocol.proofs.OpeningLaws.{left-inside}
@@ -20,7 +20,7 @@ returns : tie.Need-returns
 unfolding leftSmall
 returns c =
     let b = c .before .before in let s = b .before .before in
-    c .all-within .ensures ∙ (λ i. small (b .left-bound .ensures (record { allowed = s .pre .0; most = s .pre .1 }) i) (take (part (b .before) i) (s .args .message .now)))
+    c .all-within .ensures ∙ (λ i. allWithin (b .left-bound .ensures (record { allowed = s .pre .0; most = s .pre .1 }) i) (take (part (b .before) i) (s .args .message .now)))
 
 pub left-small-spec : {M : Type 1} → statement M
 left-small-spec = tie.close (tie.spec (λ c κs. search needs) (λ c κs. search needs) slice-aggregate-all-within (λ c κs. search needs) returns)

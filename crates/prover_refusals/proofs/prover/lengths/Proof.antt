@@ -1,13 +1,13 @@
 use mathlib.Core.Bool.{_&&_}
 use mathlib.Core.Path.{_≡_, sym, _∙_}
 use borrow.Author.Needs.{needs}
-use Rattle.protocol.specs.Settings.{sized}
+use Rattle.protocol.specs.Settings.{hasLength}
 use Rattle.protocol.proofs.Refusals.{first-known, first-tested, first-only}
 use Rattle.prover_refusals.proofs.prover.lengths.Statement.{statement}
 use Rattle.prover_refusals.proofs.prover.lengths.Tie as tie
 
 returns : tie.Need-returns
-unfolding sized
+unfolding hasLength
 returns c =
     let c6 = c .before in
     record {

@@ -4,7 +4,7 @@ use mathlib.Core.Path.{refl, sym, _∙_}
 use borrow.Author.Needs.{needs}
 use Rattle.protocol.specs.Basic.{Tested}
 use Rattle.protocol.specs.Calls.{judgeRefusal}
-use Rattle.protocol.specs.Settings.{settingsRefusal, cells, sized, residues, residueElement}
+use Rattle.protocol.specs.Settings.{settingsRefusal, cells, hasLength, allBelow, residueElement}
 use Rattle.protocol.proofs.Inputs.{settings-valid}
 use Rattle.protocol.proofs.Refusals.{first-stops, first-tested, tested-before, first-only, lengths-tested}
 use Rattle.sizes.proofs.Limits.{degree-most}
@@ -14,9 +14,9 @@ use Rattle.refusals.proofs.judge.judge.Tie as tie
 -- 3 to 7
 lengths : (c : tie.After-refuse) → let a = c .before .before .before .before .args in
     Tested (settingsRefusal (a .settings)) 7
-    (sized (cells (a .settings)) (a .key .now) && sized (cells (a .settings)) (a .w .now))
+    (hasLength (cells (a .settings)) (a .key .now) && hasLength (cells (a .settings)) (a .w .now))
     (c .refuse .result)
-unfolding sized
+unfolding hasLength
 lengths c = let c6 = c .before in lengths-tested _ (c6 .settings-refusal .ensures) (c .refuse .ensures) (λ z. rw (c6 .before .cells .ensures z))
 
 returns : tie.Need-returns
@@ -24,7 +24,7 @@ unfolding judgeRefusal
 returns c = sym (first-tested _ _ (lengths (c .before)) (λ z. refl) ∙ first-stops _ _ (c .if1 .taken))
 
 returns-2 : tie.Need-returns-2
-unfolding judgeRefusal residues residueElement
+unfolding judgeRefusal allBelow residueElement
 returns-2 c =
     let c14 = c .before .before in
     let c8 = c14 .before .before in

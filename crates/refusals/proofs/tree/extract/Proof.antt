@@ -5,7 +5,7 @@ use Prim.Native.Nat.{_*_}
 use borrow.Author.Needs.{needs}
 use Rattle.protocol.specs.Basic.{Tested}
 use Rattle.protocol.specs.Calls.{treeRefusal}
-use Rattle.protocol.specs.Settings.{settingsRefusal, sized, residues, residueElement, exponent, exponents}
+use Rattle.protocol.specs.Settings.{settingsRefusal, hasLength, allBelow, residueElement, exponent, exponents}
 use Rattle.protocol.proofs.Inputs.{settings-valid}
 use Rattle.protocol.proofs.Refusals.{first-stops, first-tested, tested-before, first-only, lengths-tested}
 use Rattle.sizes.proofs.Limits.{degree-most}
@@ -16,7 +16,7 @@ use Rattle.refusals.proofs.tree.extract.Tie as tie
 -- 3 to 7
 lengths : (c : tie.After-refuse) → let a = c .before .before .before .before .before .before .before .before .before .args in
     Tested (settingsRefusal (a .settings)) 7 (treeSized (a .settings) (a .key .now) (a .rounds .now) (a .challenges .now) (a .leaves .now) (a .w .now)) (c .refuse .result)
-unfolding sized
+unfolding hasLength
 lengths c =
     let s = c .before in
     let c6 = s .before .before .before in
@@ -38,7 +38,7 @@ all-differ-requires c κs =
     lengths-given _ _ _ _ _ _ e (no .if1 .left) .challenges-long ∙ ap (λ n. 3 * n) (sym (c .nodes .ensures .0 (tested-before e (no .if1 .left))))
 
 returns-2 : tie.Need-returns-2
-unfolding treeRefusal residues residueElement exponents exponent
+unfolding treeRefusal allBelow residueElement exponents exponent
 returns-2 c =
     let c10 = c .before .before .before in
     let c8 = c10 .before .before .before in

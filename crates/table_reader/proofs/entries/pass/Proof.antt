@@ -5,7 +5,7 @@ use borrow.Author.Needs.{needs}
 use lib.Dec.{ltb}
 use mathlib.Core.List.{map}
 use Rattle.protocol.specs.Basic.{all}
-use Rattle.protocol.specs.Settings.{residues, exponent, exponents}
+use Rattle.protocol.specs.Settings.{allBelow, exponent, exponents}
 use Rattle.protocol.specs.Text.{unsigned}
 use Rattle.text_parts.specs.Parts.{testedBy}
 use Rattle.table_reader.proofs.Refuses.{untested, tested, tests-residues, tests-bound, tests-exponents, tests-nothing}
@@ -20,7 +20,7 @@ returns : tie.Need-returns
 returns c ok = untested _ _ _ _ (λ e. c .if1 .taken (c .before .tested-by .ensures ∙ e))
 
 returns-2 : tie.Need-returns-2
-unfolding residues
+unfolding allBelow
 returns-2 c ok = tested _ _ _ _ (tests-it (c .before .before)) _ (c .all-below .ensures ∙ sym (tests-residues _ _ _ (c .before .match .keys1)))
 
 returns-3 : tie.Need-returns-3

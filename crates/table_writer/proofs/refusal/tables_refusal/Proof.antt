@@ -6,7 +6,7 @@ use Prim.Native.Nat.{ℕ, zero, suc}
 use borrow.Author.Needs.{needs}
 use Rattle.protocol.specs.declared.Settings.{Settings}
 use Rattle.protocol.specs.declared.Parts.{Parts}
-use Rattle.protocol.specs.Settings.{settingsRefusal, residues, small, exponent, exponents}
+use Rattle.protocol.specs.Settings.{settingsRefusal, allBelow, allWithin, exponent, exponents}
 use Rattle.protocol.specs.Basic.{first, unless}
 use Rattle.protocol.specs.Text.{Tables, valueLimit, fits, entriesRefusal}
 use Rattle.protocol.proofs.Inputs.{settings-valid}
@@ -55,7 +55,7 @@ unfolding tablesRefusal
 returns c = sym (known (c .before) _ ∙ first-stops _ _ (c .if1 .taken))
 
 returns-2 : tie.Need-returns-2
-unfolding tablesRefusal entriesRefusal residues small exponents exponent valueLimit
+unfolding tablesRefusal entriesRefusal allBelow allWithin exponents exponent valueLimit
 returns-2 c =
     let c₉ = c .before .before .before in
     let c₈ = c₉ .before .before .before in

@@ -4,7 +4,7 @@ use mathlib.Core.Path.{refl, sym, _∙_}
 use borrow.Author.Needs.{needs}
 use Rattle.protocol.specs.Basic.{Tested}
 use Rattle.protocol.specs.Session.{sessionEndRefusal}
-use Rattle.protocol.specs.Settings.{settingsRefusal, cells, sized, residues, residueElement, exponent, exponents}
+use Rattle.protocol.specs.Settings.{settingsRefusal, cells, hasLength, allBelow, residueElement, exponent, exponents}
 use Rattle.protocol.proofs.Inputs.{settings-valid}
 use Rattle.protocol.proofs.Refusals.{first-stops, first-tested, tested-before, first-only, lengths-tested}
 use Rattle.sizes.proofs.Limits.{degree-most}
@@ -14,9 +14,9 @@ use Rattle.verifier_refusals.proofs.session.end.Tie as tie
 -- 3 to 7
 lengths : (c : tie.After-refuse) → let a = c .before .before .before .before .before .before .before .args in
     Tested (settingsRefusal (a .session .settings)) 7
-    (sized (cells (a .session .settings)) (a .key .now))
+    (hasLength (cells (a .session .settings)) (a .key .now))
     (c .refuse .result)
-unfolding sized
+unfolding hasLength
 lengths c = lengths-tested _ (c .before .before .settings-refusal .ensures) (c .refuse .ensures) (λ z. rw (c .before .cells .ensures z))
 
 returns : tie.Need-returns
@@ -24,7 +24,7 @@ unfolding sessionEndRefusal
 returns c = sym (first-tested _ _ (lengths (c .before)) (λ z. refl) ∙ first-stops _ _ (c .if1 .taken))
 
 returns-2 : tie.Need-returns-2
-unfolding sessionEndRefusal residues residueElement exponents exponent
+unfolding sessionEndRefusal allBelow residueElement exponents exponent
 returns-2 c =
     let c10 = c .before .before .before .before in
     let c8 = c10 .before .before .before .before in

@@ -5,7 +5,7 @@ use borrow.Author.Needs.{needs}
 use Rattle.protocol.specs.Basic.{Tested}
 use Rattle.protocol.specs.Calls.{checkRefusal}
 use Rattle.protocol.specs.Layout.{roundCells}
-use Rattle.protocol.specs.Settings.{settingsRefusal, cells, sized, residues, residueElement, exponent, exponents}
+use Rattle.protocol.specs.Settings.{settingsRefusal, cells, hasLength, allBelow, residueElement, exponent, exponents}
 use Rattle.protocol.proofs.Inputs.{settings-valid}
 use Rattle.protocol.proofs.Refusals.{first-stops, first-tested, tested-before, first-only, lengths-tested}
 use Rattle.sizes.proofs.Limits.{degree-most}
@@ -15,10 +15,10 @@ use Rattle.verifier_refusals.proofs.transcript.check.Tie as tie
 -- 3 to 7
 lengths : (c : tie.After-refuse) → let a = c .before .before .before .before .before .before .before .before .args in
     Tested (settingsRefusal (a .settings)) 7
-    (sized (cells (a .settings)) (a .key .now) && sized (roundCells (a .settings)) (a .rounds .now)
-    && sized (a .settings .depth) (a .challenges .now))
+    (hasLength (cells (a .settings)) (a .key .now) && hasLength (roundCells (a .settings)) (a .rounds .now)
+    && hasLength (a .settings .depth) (a .challenges .now))
     (c .refuse .result)
-unfolding sized
+unfolding hasLength
 lengths c =
     let rounds = c .before .before in
     lengths-tested _ (rounds .before .before .settings-refusal .ensures) (c .refuse .ensures) (λ z. rw (rounds .before .cells .ensures z, rounds .round-cells .ensures z))
@@ -28,7 +28,7 @@ unfolding checkRefusal
 returns c = sym (first-tested _ _ (lengths (c .before)) (λ z. refl) ∙ first-stops _ _ (c .if1 .taken))
 
 returns-2 : tie.Need-returns-2
-unfolding checkRefusal residues residueElement exponents exponent
+unfolding checkRefusal allBelow residueElement exponents exponent
 returns-2 c =
     let c8 = c .before .before .before in
     let no = c8 .before .before .before .before in
