@@ -5,8 +5,8 @@ use native.Mathlib.Omega.{arith}
 use Prim.Native.Nat.{_-_, _≤_}
 use lib.ListN.{length}
 use Rattle.cases.proofs.Counting.{counted}
-use Rattle.cases.proofs.tables.read_residues.Statement.{statement}
-use Rattle.cases.proofs.tables.read_residues.Tie as tie
+use Rattle.cases.proofs.tables.read_challenges.Statement.{statement}
+use Rattle.cases.proofs.tables.read_challenges.Tie as tie
 
 abbrev Inv-loop : tie.InvT-loop
 Inv-loop t₀ filled₀ i₀ t filled i = (filled .count ≤ length t₀) × (length t ≡ length t₀)
@@ -17,8 +17,8 @@ abbrev μ-loop : tie.MeasureT-loop
 returns : tie.Need-returns Inv-loop μ-loop
 returns c = counted _ _ (omega arith)
 
-pub read-residues-spec : {M : Type 1} → statement M
-read-residues-spec =
+pub read-challenges-spec : {M : Type 1} → statement M
+read-challenges-spec =
     tie.close
     (tie.spec Inv-loop μ-loop (λ c. search needs) (λ c κs. search needs) (λ c κs. search needs) (λ c. search needs) (λ c. search needs)
     (λ c. search needs) (λ c. search needs) (λ c. search needs) (λ c. search needs) returns)
