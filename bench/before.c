@@ -1,5 +1,6 @@
 /* This library beside an earlier one: `before NEW.so OLD.so TURNS` times each call of both in turns, on the same input, by the processor time of the thread, and prints
- * medians and their ratio. What they answer is compared; where it differs the program says so and leaves with 1. `bench/before` builds both and runs it. */
+ * medians and their ratio. What they answer is compared; where it differs the program says so and leaves with 1. Up to version 0.2 residues and modulus had 32 bits,
+ * since then they have 64; either library may be of either kind. `bench/before` builds both and runs it. */
 #include "../include/wovenrock.h"
 #include <dlfcn.h>
 #include <stdbool.h>
@@ -22,104 +23,20 @@
 #define WITNESS (WOVENROCK_KEY | WOVENROCK_MESSAGE | WOVENROCK_CHALLENGES)
 #define RECORD (WOVENROCK_KEY | WOVENROCK_COMMITMENT | WOVENROCK_ROUNDS | WOVENROCK_CHALLENGES | WOVENROCK_LAST)
 
-struct library {
-  __typeof__(&wovenrock_commit) commit;
-  __typeof__(&wovenrock_round) round;
-  __typeof__(&wovenrock_fold) fold;
-  __typeof__(&wovenrock_end) end;
-  __typeof__(&wovenrock_open) open;
-  __typeof__(&wovenrock_session_start) start;
-  __typeof__(&wovenrock_session_round) move;
-  __typeof__(&wovenrock_session_end) close;
-  __typeof__(&wovenrock_check) check;
-  __typeof__(&wovenrock_judge) judge;
-  __typeof__(&wovenrock_extract) extract;
-  __typeof__(&wovenrock_read) read;
-  __typeof__(&wovenrock_write) write;
-  __typeof__(&wovenrock_prove) prove;
-  __typeof__(&wovenrock_verify) verify;
-};
+/* The functions of a library. */
+#define CALLS(X)                                                                                                                                          \
+  X(settings) X(commit) X(round) X(fold) X(end) X(open) X(session_start) X(session_round) X(session_end) X(check) X(judge) X(extract) X(read) X(write) \
+  X(prove) X(verify)
 
-/* The input of a row, which both libraries read, and what a call writes. */
-struct input {
-  uint32_t d, l, b;
-  size_t n;
-  uint32_t key[CELLS], challenges[DEPTH], commitment[WIDTH], rounds[3 * DEPTH * WIDTH];
-  int32_t message[CELLS], last[WIDTH], leaves[4 * LEAVES];
-  uint32_t tree_rounds[4 * 3 * NODES], tree_challenges[3 * NODES];
-  int64_t w[1024];
-  uint8_t text[TEXT], record[TEXT];
-  size_t text_length, record_length, nodes, ends;
-};
+/* What is timed. */
+enum call { COMMIT, OPEN, CHECK, SESSION, JUDGE, EXTRACT, READ_TEXT, WRITE_TEXT, PROVE, VERIFY };
 
-struct output {
-  uint32_t refusal, number, key[CELLS], rounds[3 * DEPTH * WIDTH], commitment[WIDTH], session[WOVENROCK_SESSION], settings[WOVENROCK_SETTINGS], challenges[DEPTH];
-  int32_t message[CELLS], last[WIDTH];
-  int64_t w[1024];
-  uint8_t text[TEXT];
-  size_t count;
-};
-
-typedef void (*call)(const struct library *, const struct input *, struct output *);
-
-static struct input in;
-static struct output ours, theirs;
-
-#define SETTINGS in->d, in->l, MODULUS, in->b
-
-static void commit(const struct library *lib, const struct input *in, struct output *out) {
-  out->refusal = lib->commit(SETTINGS, in->key, in->n, in->message, in->n, out->commitment, in->d);
+static uint64_t mix(uint64_t sum, uint64_t number) {
+  return (sum ^ number) * UINT64_C(0x9e3779b97f4a7c15) + (sum >> 29);
 }
 
-/* A copy of both tables is folded in place, so the copying is in the time of both sides. */
-static void open_whole(const struct library *lib, const struct input *in, struct output *out) {
-  memcpy(out->key, in->key, in->n * 4);
-  memcpy(out->message, in->message, in->n * 4);
-  out->refusal = lib->open(SETTINGS, out->key, in->n, out->message, in->n, in->challenges, in->l, out->rounds, 3 * in->l * in->d, out->commitment, in->d, out->last,
-                           in->d, &out->number);
-}
-
-static void check(const struct library *lib, const struct input *in, struct output *out) {
-  out->refusal = lib->check(SETTINGS, in->commitment, in->d, in->last, in->d, in->key, in->n, in->rounds, 3 * in->l * in->d, in->challenges, in->l, &out->number);
-}
-
-static void session(const struct library *lib, const struct input *in, struct output *out) {
-  out->refusal = lib->start(SETTINGS, in->commitment, in->d, out->session, WOVENROCK_SESSION);
-  for (uint32_t i = 0; i < in->l; i++)
-    out->refusal |= lib->move(in->rounds + 3 * i * in->d, 3 * in->d, in->challenges[i], out->session, WOVENROCK_SESSION, &out->number);
-  out->refusal |= lib->close(in->last, in->d, in->key, in->n, out->session, WOVENROCK_SESSION, &out->number);
-}
-
-static void judge(const struct library *lib, const struct input *in, struct output *out) {
-  out->refusal = lib->judge(SETTINGS, in->commitment, in->d, 1u << (2 * in->l), in->key, in->n, in->w, in->n, &out->number);
-}
-
-static void extract(const struct library *lib, const struct input *in, struct output *out) {
-  out->refusal = lib->extract(SETTINGS, in->commitment, in->d, in->key, in->n, in->tree_rounds, 3 * in->nodes * in->d, in->tree_challenges, 3 * in->nodes, in->leaves,
-                              in->ends * in->d, out->w, in->n);
-}
-
-static void read_text(const struct library *lib, const struct input *in, struct output *out) {
-  uint32_t none[1] = {0};
-  int32_t no_last[1] = {0};
-  out->refusal = lib->read(WITNESS, in->text, in->text_length, out->settings, WOVENROCK_SETTINGS, out->key, in->n, out->message, in->n, none, 0, none, 0, out->challenges, in->l, no_last, 0);
-}
-
-static void write_text(const struct library *lib, const struct input *in, struct output *out) {
-  uint32_t none[1] = {0};
-  int32_t no_last[1] = {0};
-  out->refusal = lib->write(SETTINGS, WITNESS, in->key, in->n, in->message, in->n, none, 0, none, 0, in->challenges, in->l, no_last, 0, out->text, TEXT, &out->count);
-}
-
-static void prove(const struct library *lib, const struct input *in, struct output *out) {
-  out->refusal = lib->prove(in->text, in->text_length, out->text, TEXT, &out->count);
-}
-
-static void verify(const struct library *lib, const struct input *in, struct output *out) {
-  out->refusal = lib->verify(in->record, in->record_length, &out->number);
-}
-
-static uint64_t drawn = 88172645463325252u;
+#define FIRST UINT64_C(88172645463325252)
+static uint64_t drawn;
 static uint32_t draw(uint32_t below) {
   drawn ^= drawn << 13;
   drawn ^= drawn >> 7;
@@ -127,59 +44,43 @@ static uint32_t draw(uint32_t below) {
   return (uint32_t)(drawn % below);
 }
 
-/* The tree of an honest prover: three different challenges at each node, and both tables folded by each. */
-static void grow(const struct library *lib, uint32_t done, size_t node, const uint32_t *key, const int32_t *message) {
-  uint32_t *k = malloc(in.n * 4);
-  int32_t *m = malloc(in.n * 4);
-  if (done == in.l) {
-    lib->end(in.d, in.l, MODULUS, in.b, done, message, in.n, in.leaves + (node - in.nodes) * in.d, in.d);
-  } else {
-    lib->round(in.d, in.l, MODULUS, in.b, done, key, in.n, message, in.n, in.tree_rounds + 3 * node * in.d, 3 * in.d);
-    uint32_t first = draw(2 * in.d);
-    for (uint32_t j = 0; j < 3; j++) {
-      uint32_t e = (first + j) % (2 * in.d);
-      in.tree_challenges[3 * node + j] = e;
-      memcpy(k, key, in.n * 4);
-      memcpy(m, message, in.n * 4);
-      lib->fold(in.d, in.l, MODULUS, in.b, done, e, k, in.n, m, in.n);
-      grow(lib, done + 1, 3 * node + 1 + j, k, m);
-    }
-  }
-  free(k);
-  free(m);
-}
+#define RESIDUE uint64_t
+#define NAMED(name) name##_64
+#include "side.h"
+#undef RESIDUE
+#undef NAMED
 
-static void fill(const struct library *lib, uint32_t d, uint32_t l, uint32_t b, bool tree, bool texts) {
-  memset(&in, 0, sizeof in);
-  in.d = d, in.l = l, in.b = b, in.n = ((size_t)1 << l) * d;
-  for (size_t i = 0; i < in.n; i++) {
-    in.key[i] = draw(MODULUS);
-    in.message[i] = (int32_t)draw(2 * b + 1) - (int32_t)b;
+#define RESIDUE uint32_t
+#define NAMED(name) name##_32
+#include "side.h"
+#undef RESIDUE
+#undef NAMED
+
+/* The side of 64 bits is declared as the header is. */
+#define DECLARED(name) _Static_assert(__builtin_types_compatible_p(__typeof__(((struct library_64 *)0)->name), __typeof__(&wovenrock_##name)), #name);
+CALLS(DECLARED)
+
+/* A side with the functions for it. */
+struct side {
+  void *state;
+  void (*fill)(void *, uint32_t, uint32_t, uint32_t, bool, bool);
+  void (*call)(void *, enum call);
+  uint64_t (*answer)(const void *);
+  void (*clear)(void *);
+};
+
+static struct side load(const char *path) {
+  void *file = dlopen(path, RTLD_NOW | RTLD_LOCAL);
+  if (!file) {
+    fprintf(stderr, "before: %s\n", dlerror());
+    exit(1);
   }
-  for (uint32_t i = 0; i < l; i++)
-    in.challenges[i] = draw(2 * d);
-  open_whole(lib, &in, &ours);
-  memcpy(in.commitment, ours.commitment, sizeof in.commitment);
-  memcpy(in.rounds, ours.rounds, sizeof in.rounds);
-  memcpy(in.last, ours.last, sizeof in.last);
-  in.nodes = 0, in.ends = 1;
-  for (uint32_t i = 0; i < l; i++) {
-    in.nodes = 3 * in.nodes + 1;
-    in.ends *= 3;
-  }
-  if (tree) {
-    grow(lib, 0, 0, in.key, in.message);
-    extract(lib, &in, &ours);
-    memcpy(in.w, ours.w, sizeof in.w);
-  }
-  if (texts) {
-    int32_t none[1] = {0};
-    write_text(lib, &in, &ours);
-    memcpy(in.text, ours.text, ours.count);
-    in.text_length = ours.count;
-    lib->write(in.d, in.l, MODULUS, in.b, RECORD, in.key, in.n, none, 0, in.commitment, d, in.rounds, 3 * in.l * d, in.challenges, in.l, in.last, d, in.record, TEXT,
-               &in.record_length);
-  }
+  /* This modulus is refused, but its low half alone is not. */
+  struct side_64 *wide = load_64(file);
+  if (wide->lib.settings(2, 0, (UINT64_C(1) << 63) + 17, 1) != 0)
+    return (struct side){wide, fill_64, call_64, answer_64, clear_64};
+  free(wide);
+  return (struct side){load_32(file), fill_32, call_32, answer_32, clear_32};
 }
 
 static double now(void) {
@@ -193,92 +94,76 @@ static int order(const void *a, const void *b) {
   return (x > y) - (x < y);
 }
 
-static double turn(call of, const struct library *lib, struct output *out, int calls) {
+static double turn(const struct side *side, enum call which, int calls) {
   double begun = now();
   for (int i = 0; i < calls; i++)
-    of(lib, &in, out);
+    side->call(side->state, which);
   return (now() - begun) / calls;
 }
 
+static struct side new, old;
+static int turns;
 static bool same = true;
 
+/* The input of the next rows. */
+static uint32_t degree, depth;
+static void fill(const uint32_t settings[3], bool tree, bool texts) {
+  degree = settings[0], depth = settings[1];
+  new.fill(new.state, degree, depth, settings[2], tree, texts);
+  old.fill(old.state, degree, depth, settings[2], tree, texts);
+}
+
 /* A turn has so many calls that it takes some hundred microseconds. */
-static void row(const char *what, call of, const struct library *new, const struct library *old, int turns) {
+static void row(const char *what, enum call which) {
   double *a = malloc(turns * sizeof *a), *b = malloc(turns * sizeof *b);
-  memset(&ours, 0, sizeof ours);
-  memset(&theirs, 0, sizeof theirs);
-  double once = turn(of, new, &ours, 1);
-  turn(of, old, &theirs, 1);
-  if (memcmp(&ours, &theirs, sizeof ours) != 0) {
-    printf("%s, d = %u, L = %u: the answers differ (%u and %u)\n", what, in.d, in.l, ours.refusal, theirs.refusal);
+  char name[64];
+  snprintf(name, sizeof name, "%s, d = %u, L = %u", what, degree, depth);
+  new.clear(new.state);
+  old.clear(old.state);
+  double once = turn(&new, which, 1);
+  turn(&old, which, 1);
+  if (new.answer(new.state) != old.answer(old.state)) {
+    printf("%s: the answers differ\n", name);
     same = false;
   }
   int calls = once > 500 ? 1 : (int)(500 / once) + 1;
   for (int i = 0; i < turns; i++) {
-    a[i] = turn(of, new, &ours, calls);
-    b[i] = turn(of, old, &theirs, calls);
+    a[i] = turn(&new, which, calls);
+    b[i] = turn(&old, which, calls);
   }
   qsort(a, turns, sizeof *a, order);
   qsort(b, turns, sizeof *b, order);
-  char name[64];
-  snprintf(name, sizeof name, "%s, d = %u, L = %u", what, in.d, in.l);
   printf("%-28s %11.2f %11.2f %7.3f\n", name, a[turns / 2], b[turns / 2], a[turns / 2] / b[turns / 2]);
   free(a);
   free(b);
 }
 
-static struct library load(const char *path) {
-  void *file = dlopen(path, RTLD_NOW | RTLD_LOCAL);
-  if (!file) {
-    fprintf(stderr, "before: %s\n", dlerror());
-    exit(1);
-  }
-  struct library lib;
-#define TAKE(field, name) lib.field = (__typeof__(lib.field))dlsym(file, name)
-  TAKE(commit, "wovenrock_commit");
-  TAKE(round, "wovenrock_round");
-  TAKE(fold, "wovenrock_fold");
-  TAKE(end, "wovenrock_end");
-  TAKE(open, "wovenrock_open");
-  TAKE(start, "wovenrock_session_start");
-  TAKE(move, "wovenrock_session_round");
-  TAKE(close, "wovenrock_session_end");
-  TAKE(check, "wovenrock_check");
-  TAKE(judge, "wovenrock_judge");
-  TAKE(extract, "wovenrock_extract");
-  TAKE(read, "wovenrock_read");
-  TAKE(write, "wovenrock_write");
-  TAKE(prove, "wovenrock_prove");
-  TAKE(verify, "wovenrock_verify");
-  return lib;
-}
-
 int main(int count, char **words) {
-  int turns = count == 4 ? atoi(words[3]) : 0;
+  turns = count == 4 ? atoi(words[3]) : 0;
   if (turns < 1) {
     fprintf(stderr, "usage: before NEW.so OLD.so TURNS\n");
     return 1;
   }
-  struct library new = load(words[1]), old = load(words[2]);
+  new = load(words[1]);
+  old = load(words[2]);
   printf("%-28s %11s %11s %7s\n", "call", "now us", "before us", "ratio");
-  const uint32_t large[2][3] = {{64, 8, 127}, {4, 8, 127}};
+  const uint32_t large[2][3] = {{64, 8, 127}, {4, 8, 127}}, trees[2][3] = {{64, 3, 127}, {4, 8, 2}}, text[3] = {64, 4, 127};
   for (int i = 0; i < 2; i++) {
-    fill(&old, large[i][0], large[i][1], large[i][2], false, false);
-    row("commit", commit, &new, &old, turns);
-    row("open", open_whole, &new, &old, turns);
-    row("check", check, &new, &old, turns);
-    row("session", session, &new, &old, turns);
+    fill(large[i], false, false);
+    row("commit", COMMIT);
+    row("open", OPEN);
+    row("check", CHECK);
+    row("session", SESSION);
   }
-  const uint32_t trees[2][3] = {{64, 3, 127}, {4, 8, 2}};
   for (int i = 0; i < 2; i++) {
-    fill(&old, trees[i][0], trees[i][1], trees[i][2], true, false);
-    row("judge", judge, &new, &old, turns);
-    row("extract", extract, &new, &old, turns);
+    fill(trees[i], true, false);
+    row("judge", JUDGE);
+    row("extract", EXTRACT);
   }
-  fill(&old, 64, 4, 127, false, true);
-  row("read", read_text, &new, &old, turns);
-  row("write", write_text, &new, &old, turns);
-  row("prove", prove, &new, &old, turns);
-  row("verify", verify, &new, &old, turns);
+  fill(text, false, true);
+  row("read", READ_TEXT);
+  row("write", WRITE_TEXT);
+  row("prove", PROVE);
+  row("verify", VERIFY);
   return same ? 0 : 1;
 }

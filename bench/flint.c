@@ -3,7 +3,7 @@
  *
  *   plain    _nmod_poly_mul for each product; products are added up unreduced, then X^d = -1 is put in and one reduction made per coefficient
  *   PACKED   elements are packed into long integers (FLINT's own Kronecker substitution), GMP multiplies and adds these, and one sum is unpacked and
- *            reduced at the end. Message coefficients are lifted by their bound, which keeps the places narrow.
+ *            reduced at the end. Message coefficients are lifted by their bound, which keeps the places narrow. There is no WIDE of it.
  */
 #include <flint/flint.h>
 #include <flint/nmod_vec.h>
@@ -21,20 +21,28 @@ struct tables {
     mp_ptr key, message;
 };
 
+static mp_limb_t reduced(const struct tables *t, total x)
+{
+    mp_limb_t rest;
+#ifdef WIDE
+    NMOD2_RED2(rest, (mp_limb_t)(x >> 64), (mp_limb_t)x, t->mod);
+#else
+    NMOD_RED(rest, x, t->mod);
+#endif
+    return rest;
+}
+
 /* Puts X^d = -1 in a sum of degree 2d-2, and reduces it. */
-static void put_in(const struct tables *t, const mp_limb_t *sum, uint32_t *out)
+static void put_in(const struct tables *t, const total *sum, residue *out)
 {
     uint32_t d = t->shape.d;
     for (uint32_t k = 0; k < d; k++) {
-        mp_limb_t low, high = 0;
-        NMOD_RED(low, sum[k], t->mod);
-        if (k + 1 < d)
-            NMOD_RED(high, sum[d + k], t->mod);
-        out[k] = (uint32_t)nmod_sub(low, high, t->mod);
+        mp_limb_t low = reduced(t, sum[k]), high = k + 1 < d ? reduced(t, sum[d + k]) : 0;
+        out[k] = (residue)nmod_sub(low, high, t->mod);
     }
 }
 
-static void add_to(mp_limb_t *sum, const mp_limb_t *a, uint32_t count)
+static void add_to(total *sum, const mp_limb_t *a, uint32_t count)
 {
     for (uint32_t k = 0; k < count; k++)
         sum[k] += a[k];
@@ -42,7 +50,7 @@ static void add_to(mp_limb_t *sum, const mp_limb_t *a, uint32_t count)
 
 #ifndef PACKED
 
-static void add_product(const struct tables *t, mp_limb_t *sum, mp_srcptr m, mp_srcptr g)
+static void add_product(const struct tables *t, total *sum, mp_srcptr m, mp_srcptr g)
 {
     uint32_t d = t->shape.d;
     mp_limb_t product[2 * MOST];
@@ -50,18 +58,18 @@ static void add_product(const struct tables *t, mp_limb_t *sum, mp_srcptr m, mp_
     add_to(sum, product, 2 * d - 1);
 }
 
-static void inner(struct tables *t, size_t count, uint32_t *out)
+static void inner(struct tables *t, size_t count, residue *out)
 {
-    mp_limb_t sum[2 * MOST] = {0};
+    total sum[2 * MOST] = {0};
     uint32_t d = t->shape.d;
     for (size_t i = 0; i < count; i++)
         add_product(t, sum, t->message + i * d, t->key + i * d);
     put_in(t, sum, out);
 }
 
-static void round_sums(struct tables *t, size_t half, uint32_t *out)
+static void round_sums(struct tables *t, size_t half, residue *out)
 {
-    mp_limb_t first[2 * MOST] = {0}, middle[2 * MOST] = {0}, second[2 * MOST] = {0};
+    total first[2 * MOST] = {0}, middle[2 * MOST] = {0}, second[2 * MOST] = {0};
     uint32_t d = t->shape.d;
     for (size_t i = 0; i < half; i++) {
         mp_limb_t m[MOST], g[MOST];
@@ -86,10 +94,17 @@ static void round_sums(struct tables *t, size_t half, uint32_t *out)
 
 /* A sum of products of lifted message elements and key elements, with the sum of the keys. */
 struct sum {
-    mp_limb_t lift, places[2 * MOST + 1], keys[MOST];
+    mp_limb_t lift, places[2 * MOST + 1];
+    total keys[MOST];
 };
 
 static mp_size_t limbs(uint32_t d) { return ((mp_size_t)d * WIDTH + 63) / 64; }
+
+static residue reduce_signed(const struct shape *s, int64_t x)
+{
+    residue rest = reduce(s, (total)(x < 0 ? -x : x));
+    return x < 0 && rest != 0 ? s->q - rest : rest;
+}
 
 /* The lifted message element, packed. */
 static void pack_message(const struct tables *t, mp_ptr out, mp_srcptr m, mp_limb_t lift)
@@ -109,12 +124,14 @@ static void add_product(const struct tables *t, struct sum *s, mp_srcptr m, mp_s
 }
 
 /* Takes the lift times 1 + X + ... + X^(d-1) times the keys away. */
-static void residues(const struct tables *t, const struct sum *s, uint32_t *out)
+static void residues(const struct tables *t, const struct sum *s, residue *out)
 {
     uint32_t d = t->shape.d;
-    mp_limb_t sum[2 * MOST];
+    mp_limb_t unpacked[2 * MOST];
+    total sum[2 * MOST] = {0};
     int64_t difference = 0;
-    _nmod_poly_bit_unpack(sum, 2 * d - 1, s->places, WIDTH, t->mod);
+    _nmod_poly_bit_unpack(unpacked, 2 * d - 1, s->places, WIDTH, t->mod);
+    add_to(sum, unpacked, 2 * d - 1);
     put_in(t, sum, out);
     for (uint32_t k = 0; k < d; k++)
         difference -= (int64_t)s->keys[k];
@@ -124,7 +141,7 @@ static void residues(const struct tables *t, const struct sum *s, uint32_t *out)
     }
 }
 
-static void inner(struct tables *t, size_t count, uint32_t *out)
+static void inner(struct tables *t, size_t count, residue *out)
 {
     struct sum s = {t->shape.n / count * t->shape.b, {0}, {0}};
     uint32_t d = t->shape.d;
@@ -138,7 +155,7 @@ static void inner(struct tables *t, size_t count, uint32_t *out)
     residues(t, &s, out);
 }
 
-static void round_sums(struct tables *t, size_t half, uint32_t *out)
+static void round_sums(struct tables *t, size_t half, residue *out)
 {
     uint32_t d = t->shape.d;
     mp_limb_t lift = t->shape.n / (2 * half) * t->shape.b;
@@ -158,8 +175,8 @@ static void round_sums(struct tables *t, size_t half, uint32_t *out)
         add_to(first.keys, g0, d);
         add_to(second.keys, g1, d);
     }
-    add_to(middle.keys, first.keys, d);
-    add_to(middle.keys, second.keys, d);
+    for (uint32_t k = 0; k < d; k++)
+        middle.keys[k] = first.keys[k] + second.keys[k];
     residues(t, &first, out);
     residues(t, &middle, out + d);
     residues(t, &second, out + 2 * d);
@@ -200,12 +217,12 @@ static int admitted(const struct tables *t)
 static void last_element(const struct tables *t, int32_t *out)
 {
     for (uint32_t k = 0; k < t->shape.d; k++) {
-        int64_t x = (int64_t)t->message[k];
-        out[k] = (int32_t)(x > t->shape.q / 2 ? x - t->shape.q : x);
+        int64_t x = (int64_t)t->message[k], q = (int64_t)t->shape.q;
+        out[k] = (int32_t)(x > q / 2 ? x - q : x);
     }
 }
 
-struct tables *baseline_prepare(uint32_t d, uint32_t l, uint32_t q, uint32_t b, const uint32_t *key, const int32_t *message, const uint32_t *challenges)
+struct tables *baseline_prepare(uint32_t d, uint32_t l, uint64_t q, uint32_t b, const uint64_t *key, const int32_t *message, const uint32_t *challenges)
 {
     struct tables *t = malloc(sizeof *t);
     start(&t->shape, d, l, q, b);

@@ -35,7 +35,8 @@ static bool by_bytes(const uint8_t *line) {
 }
 
 static bool by_reader(const uint8_t *whole) {
-  uint32_t settings[4], key[4], challenges[1], none[1];
+  uint64_t settings[4], key[4], none[1];
+  uint32_t challenges[1];
   int32_t message[4], no_last[1];
   return wovenrock_read(PARTS, whole, sizeof text - 1, settings, 4, key, 4, message, 4, none, 0, none, 0, challenges, 1, no_last, 0) == 0;
 }

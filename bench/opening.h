@@ -16,7 +16,7 @@
  *   part      the sum of m_i*G_i over `count` elements from the element `from` on
  *   of_sums   <m0+m1,G0+G1> over `half` elements
  *
- * What is left, the scaling, the verifier's equations and the end, is the same for all and costs next to nothing: it is done here.
+ * With WIDE a residue has 64 bits and the modulus 61, else 32 and 31. What is left, the scaling, the verifier's equations and the end, is the same for all and costs next to nothing: it is done here.
  */
 #ifndef OPENING_H
 #define OPENING_H
@@ -27,36 +27,45 @@
 #include <string.h>
 
 #define MOST 64
+#define ROUNDS 8
+
+/* A residue, and a sum of products of residues and message coefficients. */
+#ifdef WIDE
+typedef uint64_t residue;
+typedef unsigned __int128 total;
+#else
+typedef uint32_t residue;
+typedef uint64_t total;
+#endif
 
 struct shape {
-    uint32_t d, l, q, b;
+    uint32_t d, l, b;
+    residue q;
     size_t n;
     uint64_t reciprocal; /* 2^64 divided by q, rounded down */
     const uint32_t *challenges;
 };
 
-static inline uint32_t reduce(const struct shape *s, uint64_t x)
+static inline residue reduce(const struct shape *s, total x)
 {
+#ifdef WIDE
+    return (residue)(x % s->q);
+#else
     uint64_t quotient = (uint64_t)(((unsigned __int128)x * s->reciprocal) >> 64);
     uint64_t rest = x - quotient * s->q;
     return (uint32_t)(rest >= s->q ? rest - s->q : rest);
+#endif
 }
 
-static inline uint32_t reduce_signed(const struct shape *s, int64_t x)
+static inline residue add(residue q, residue x, residue y)
 {
-    uint32_t rest = reduce(s, (uint64_t)(x < 0 ? -x : x));
-    return x < 0 && rest != 0 ? s->q - rest : rest;
-}
-
-static inline uint32_t add(uint32_t q, uint32_t x, uint32_t y)
-{
-    uint32_t sum = x + y, less = sum - q;
+    residue sum = x + y, less = sum - q;
     return sum < less ? sum : less;
 }
 
-static inline uint32_t subtract(uint32_t q, uint32_t x, uint32_t y)
+static inline residue subtract(residue q, residue x, residue y)
 {
-    uint32_t difference = x - y, more = difference + q;
+    residue difference = x - y, more = difference + q;
     return difference < more ? difference : more;
 }
 
@@ -66,18 +75,18 @@ extern "C" {
 
 struct tables;
 static int admitted(const struct tables *t);
-static void inner(struct tables *t, size_t count, uint32_t *out);
+static void inner(struct tables *t, size_t count, residue *out);
 #ifdef FEWER
-static void part(struct tables *t, size_t from, size_t count, uint32_t *out);
-static void of_sums(struct tables *t, size_t half, uint32_t *out);
+static void part(struct tables *t, size_t from, size_t count, residue *out);
+static void of_sums(struct tables *t, size_t half, residue *out);
 #else
-static void round_sums(struct tables *t, size_t half, uint32_t *out);
+static void round_sums(struct tables *t, size_t half, residue *out);
 #endif
 static void fold(struct tables *t, size_t half, uint32_t e);
 static void last_element(const struct tables *t, int32_t *out);
 
 /* Adds X^e*a to out. */
-static void add_rotated(const struct shape *s, uint32_t *out, const uint32_t *a, uint32_t e)
+static void add_rotated(const struct shape *s, residue *out, const residue *a, uint32_t e)
 {
     uint32_t d = s->d;
     for (uint32_t k = 0; k < d; k++) {
@@ -91,32 +100,33 @@ static void add_rotated(const struct shape *s, uint32_t *out, const uint32_t *a,
 
 #ifndef FEWER
 /* Scales a round's three sums by half^i. */
-static void scale_round(const struct shape *s, uint32_t scale, uint32_t *c)
+static void scale_round(const struct shape *s, residue scale, residue *c)
 {
     for (uint32_t k = 0; k < 3 * s->d; k++)
-        c[k] = reduce(s, (uint64_t)c[k] * scale);
+        c[k] = reduce(s, (total)c[k] * scale);
 }
 #else
 /* A round's three elements: from <m0,G0>, the claim, and the product of the halves' sums. */
-static void claimed_round(const struct shape *s, uint32_t scale, const uint32_t *first, const uint32_t *sums, const uint32_t *claim, uint32_t *c)
+static void claimed_round(const struct shape *s, residue scale, const residue *first, const residue *sums, const residue *claim, residue *c)
 {
-    uint32_t d = s->d, q = s->q;
+    uint32_t d = s->d;
+    residue q = s->q;
     for (uint32_t k = 0; k < d; k++) {
-        uint32_t halved = claim[k] / 2 + (claim[k] % 2 ? q / 2 + 1 : 0);
-        c[k] = reduce(s, (uint64_t)first[k] * scale);
-        c[d + k] = subtract(q, reduce(s, (uint64_t)sums[k] * scale), halved);
+        residue halved = claim[k] / 2 + (claim[k] % 2 ? q / 2 + 1 : 0);
+        c[k] = reduce(s, (total)first[k] * scale);
+        c[d + k] = subtract(q, reduce(s, (total)sums[k] * scale), halved);
         c[2 * d + k] = subtract(q, halved, c[k]);
     }
 }
 #endif
 
 /* Tests a round and goes on to the next claim. */
-static int verifier_round(const struct shape *s, uint32_t e, const uint32_t *c, uint32_t *claim)
+static int verifier_round(const struct shape *s, uint32_t e, const residue *c, residue *claim)
 {
     uint32_t d = s->d;
     int holds = 1;
     for (uint32_t k = 0; k < d; k++) {
-        uint32_t sum = add(s->q, c[k], c[2 * d + k]);
+        residue sum = add(s->q, c[k], c[2 * d + k]);
         holds &= add(s->q, sum, sum) == claim[k];
     }
     memcpy(claim, c, d * sizeof *c);
@@ -126,39 +136,48 @@ static int verifier_round(const struct shape *s, uint32_t e, const uint32_t *c, 
 }
 
 /* Whether the final element is within its bound and 2^L times the claim is its product with the folded key. */
-static int verifier_end(struct tables *t, const struct shape *s, const uint32_t *claim, const int32_t *last)
+static int verifier_end(struct tables *t, const struct shape *s, const residue *claim, const int32_t *last)
 {
     int64_t bound = (int64_t)s->n * s->b;
-    uint32_t product[MOST];
+    residue product[MOST];
     int meets = 1;
     inner(t, 1, product);
     for (uint32_t k = 0; k < s->d; k++) {
         meets &= -bound <= last[k] && last[k] <= bound;
-        meets &= product[k] == reduce(s, (uint64_t)claim[k] << s->l);
+        meets &= product[k] == reduce(s, (total)claim[k] << s->l);
     }
     return meets;
 }
 
+/* Residues as they are handed out: numbers of 64 bits. */
+static void hand_out(const residue *from, size_t count, uint64_t *to)
+{
+    for (size_t k = 0; k < count; k++)
+        to[k] = from[k];
+}
+
 /* 0, or 1 where the input is refused. */
-uint32_t baseline_commit(struct tables *t, uint32_t *commitment)
+uint32_t baseline_commit(struct tables *t, uint64_t *out)
 {
     const struct shape *s = (const struct shape *)t;
+    residue commitment[MOST];
     if (!admitted(t))
         return 1;
     inner(t, s->n, commitment);
+    hand_out(commitment, s->d, out);
     return 0;
 }
 
 /* 2 says accepted, 3 rejected, 0 that the input is refused. */
-uint32_t baseline_open(struct tables *t, uint32_t *rounds, uint32_t *commitment, int32_t *last)
+uint32_t baseline_open(struct tables *t, uint64_t *rounds_out, uint64_t *commitment_out, int32_t *last)
 {
     const struct shape *s = (const struct shape *)t;
-    uint32_t claim[MOST], scale = 1, half = s->q / 2 + 1;
+    residue rounds[3 * ROUNDS * MOST], commitment[MOST], claim[MOST], scale = 1, half = s->q / 2 + 1;
     int holds = 1;
     if (!admitted(t))
         return 0;
 #ifdef FEWER
-    uint32_t first[MOST], sums[MOST];
+    residue first[MOST], sums[MOST];
     part(t, 0, s->n / 2, first);
     part(t, s->n / 2, s->n - s->n / 2, commitment);
     for (uint32_t k = 0; k < s->d; k++)
@@ -169,8 +188,8 @@ uint32_t baseline_open(struct tables *t, uint32_t *rounds, uint32_t *commitment,
     memcpy(claim, commitment, s->d * sizeof *claim);
     for (uint32_t i = 0; i < s->l; i++) {
         size_t rest = s->n >> (i + 1);
-        uint32_t *c = rounds + (size_t)3 * s->d * i;
-        scale = reduce(s, (uint64_t)scale * half);
+        residue *c = rounds + (size_t)3 * s->d * i;
+        scale = reduce(s, (total)scale * half);
 #ifdef FEWER
         of_sums(t, rest, sums);
         claimed_round(s, scale, first, sums, claim, c);
@@ -185,15 +204,17 @@ uint32_t baseline_open(struct tables *t, uint32_t *rounds, uint32_t *commitment,
             part(t, 0, rest / 2, first);
 #endif
     }
+    hand_out(commitment, s->d, commitment_out);
+    hand_out(rounds, (size_t)3 * s->d * s->l, rounds_out);
     last_element(t, last);
     return verifier_end(t, s, claim, last) && holds ? 2 : 3;
 }
 
-static void start(struct shape *s, uint32_t d, uint32_t l, uint32_t q, uint32_t b)
+static void start(struct shape *s, uint32_t d, uint32_t l, uint64_t q, uint32_t b)
 {
     s->d = d;
     s->l = l;
-    s->q = q;
+    s->q = (residue)q;
     s->b = b;
     s->n = (size_t)1 << l;
     s->reciprocal = UINT64_MAX / q;
@@ -201,7 +222,10 @@ static void start(struct shape *s, uint32_t d, uint32_t l, uint32_t q, uint32_t 
 
 const char *baseline_name(void) { return NAME; }
 
-struct tables *baseline_prepare(uint32_t d, uint32_t l, uint32_t q, uint32_t b, const uint32_t *key, const int32_t *message, const uint32_t *challenges);
+/* Whether it is for moduli of 61 bits. */
+uint32_t baseline_wide(void) { return sizeof(residue) == 8; }
+
+struct tables *baseline_prepare(uint32_t d, uint32_t l, uint64_t q, uint32_t b, const uint64_t *key, const int32_t *message, const uint32_t *challenges);
 void baseline_release(struct tables *t);
 
 #ifdef __cplusplus

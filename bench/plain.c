@@ -4,7 +4,9 @@
  * With BY_HAND it is as quick as we could make it: the innermost loop is in vector instructions, with degree 64 fixed, and a round takes three inner products instead
  * of four, as the two cross products come from one product of sums, less the outer ones.
  *
- * With FEWER, by hand or not, an opening takes 2.5n products of elements, as the verified library's does (opening.h). */
+ * With FEWER, by hand or not, an opening takes 2.5n products of elements, as the verified library's does (opening.h).
+ *
+ * With WIDE products are summed in 128 bits. */
 #ifndef NAME
 #define NAME "C"
 #endif
@@ -18,7 +20,7 @@
 
 struct tables {
     struct shape shape;
-    uint32_t *key;
+    residue *key;
     int32_t *message;
 };
 
@@ -27,8 +29,12 @@ static uint32_t row(uint32_t d, const int32_t *m, uint32_t j) { return (m[j] < 0
 
 static uint32_t magnitude(const int32_t *m, uint32_t j) { return (uint32_t)(m[j] < 0 ? -m[j] : m[j]); }
 
+#ifdef WIDE
+static total times(uint32_t m, uint64_t y) { return (total)m * y; }
+#else
 /* m*y, y being below 2^32: a compiler that sees this needs one instruction for it. */
-static uint64_t times(uint32_t m, uint64_t y) { return m * (y & UINT32_MAX); }
+static total times(uint32_t m, uint64_t y) { return m * (y & UINT32_MAX); }
+#endif
 
 #if defined(BY_HAND) && defined(__AVX512F__)
 #define STEP 8
@@ -49,7 +55,7 @@ static uint64_t times(uint32_t m, uint64_t y) { return m * (y & UINT32_MAX); }
 #endif
 
 /* Adds m0*w0 + m1*w1 + m2*w2 + m3*w3 to the sums. */
-INLINE void add_four(uint64_t *restrict sums, uint32_t d, uint32_t m0, const uint64_t *w0, uint32_t m1, const uint64_t *w1, uint32_t m2, const uint64_t *w2,
+INLINE void add_four(total *restrict sums, uint32_t d, uint32_t m0, const uint64_t *w0, uint32_t m1, const uint64_t *w1, uint32_t m2, const uint64_t *w2,
                      uint32_t m3, const uint64_t *w3)
 {
     uint32_t k = 0;
@@ -66,7 +72,7 @@ INLINE void add_four(uint64_t *restrict sums, uint32_t d, uint32_t m0, const uin
 }
 
 /* Adds m*g to the sums; the coefficients of g are at most `top`, a multiple of q. */
-INLINE void add_product(uint64_t *restrict sums, uint32_t d, const int32_t *m, const uint32_t *g, uint32_t top)
+INLINE void add_product(total *restrict sums, uint32_t d, const int32_t *m, const residue *g, residue top)
 {
     uint64_t window[3 * MOST];
     for (uint32_t k = 0; k < d; k++) {
@@ -98,29 +104,29 @@ INLINE void add_product(uint64_t *restrict sums, uint32_t d, const int32_t *m, c
 #define ADD_PRODUCT add_product
 #endif
 
-static void add_products(uint64_t *sums, const struct shape *s, uint32_t d, size_t count, const int32_t *m, const uint32_t *g)
+static void add_products(total *sums, const struct shape *s, uint32_t d, size_t count, const int32_t *m, const residue *g)
 {
     for (size_t i = 0; i < count; i++)
         ADD_PRODUCT(sums, d, m + i * d, g + i * d, s->q);
 }
 
-static void reduced(const struct shape *s, uint32_t d, const uint64_t *sums, uint32_t *out)
+static void reduced(const struct shape *s, uint32_t d, const total *sums, residue *out)
 {
     for (uint32_t k = 0; k < d; k++)
         out[k] = reduce(s, sums[k]);
 }
 
-static void inner(struct tables *t, size_t count, uint32_t *out)
+static void inner(struct tables *t, size_t count, residue *out)
 {
     uint32_t d = t->shape.d;
-    uint64_t sums[MOST] = {0};
+    total sums[MOST] = {0};
     add_products(sums, &t->shape, d, count, t->message, t->key);
     reduced(&t->shape, d, sums, out);
 }
 
 #if !defined(BY_HAND) && !defined(FEWER)
 
-static void cross_at(uint64_t *sums, struct tables *t, uint32_t d, size_t half)
+static void cross_at(total *sums, struct tables *t, uint32_t d, size_t half)
 {
     add_products(sums, &t->shape, d, half, t->message, t->key + half * d);
     add_products(sums, &t->shape, d, half, t->message + half * d, t->key);
@@ -128,13 +134,13 @@ static void cross_at(uint64_t *sums, struct tables *t, uint32_t d, size_t half)
 
 #else
 
-static void cross_at(uint64_t *sums, struct tables *t, uint32_t d, size_t half)
+static void cross_at(total *sums, struct tables *t, uint32_t d, size_t half)
 {
     const int32_t *m0 = t->message, *m1 = m0 + half * d;
-    const uint32_t *g0 = t->key, *g1 = g0 + half * d;
+    const residue *g0 = t->key, *g1 = g0 + half * d;
     for (size_t i = 0; i < half * d; i += d) {
         int32_t m[MOST];
-        uint32_t g[MOST];
+        residue g[MOST];
         for (uint32_t k = 0; k < d; k++) {
             m[k] = m0[i + k] + m1[i + k];
             g[k] = g0[i + k] + g1[i + k];
@@ -147,28 +153,28 @@ static void cross_at(uint64_t *sums, struct tables *t, uint32_t d, size_t half)
 
 #ifdef FEWER
 
-static void part(struct tables *t, size_t from, size_t count, uint32_t *out)
+static void part(struct tables *t, size_t from, size_t count, residue *out)
 {
     uint32_t d = t->shape.d;
-    uint64_t sums[MOST] = {0};
+    total sums[MOST] = {0};
     add_products(sums, &t->shape, d, count, t->message + from * d, t->key + from * d);
     reduced(&t->shape, d, sums, out);
 }
 
-static void of_sums(struct tables *t, size_t half, uint32_t *out)
+static void of_sums(struct tables *t, size_t half, residue *out)
 {
-    uint64_t sums[MOST] = {0};
+    total sums[MOST] = {0};
     cross_at(sums, t, t->shape.d, half);
     reduced(&t->shape, t->shape.d, sums, out);
 }
 
 #else
 
-static void round_sums(struct tables *t, size_t half, uint32_t *out)
+static void round_sums(struct tables *t, size_t half, residue *out)
 {
     const struct shape *s = &t->shape;
     uint32_t d = s->d;
-    uint64_t first[MOST] = {0}, cross[MOST] = {0}, second[MOST] = {0};
+    total first[MOST] = {0}, cross[MOST] = {0}, second[MOST] = {0};
     add_products(first, s, d, half, t->message, t->key);
     cross_at(cross, t, d, half);
     add_products(second, s, d, half, t->message + half * d, t->key + half * d);
@@ -185,12 +191,13 @@ static void round_sums(struct tables *t, size_t half, uint32_t *out)
 
 static void fold(struct tables *t, size_t half, uint32_t e)
 {
-    uint32_t q = t->shape.q, d = t->shape.d, shift = e % d;
+    residue q = t->shape.q;
+    uint32_t d = t->shape.d, shift = e % d;
     for (size_t i = 0; i < half; i++) {
         int32_t *m0 = t->message + i * d;
-        uint32_t *g0 = t->key + i * d;
+        residue *g0 = t->key + i * d;
         const int32_t *m1 = m0 + half * d;
-        const uint32_t *g1 = g0 + half * d;
+        const residue *g1 = g0 + half * d;
         if (e < d) {
             for (uint32_t k = shift; k < d; k++) m0[k] += m1[k - shift], g0[k] = add(q, g0[k], g1[k - shift]);
             for (uint32_t k = 0; k < shift; k++) m0[k] -= m1[k + d - shift], g0[k] = subtract(q, g0[k], g1[k + d - shift]);
@@ -218,16 +225,17 @@ static void last_element(const struct tables *t, int32_t *out)
     memcpy(out, t->message, t->shape.d * sizeof *out);
 }
 
-struct tables *baseline_prepare(uint32_t d, uint32_t l, uint32_t q, uint32_t b, const uint32_t *key, const int32_t *message, const uint32_t *challenges)
+struct tables *baseline_prepare(uint32_t d, uint32_t l, uint64_t q, uint32_t b, const uint64_t *key, const int32_t *message, const uint32_t *challenges)
 {
     struct tables *t = malloc(sizeof *t);
     start(&t->shape, d, l, q, b);
-    size_t bytes = t->shape.n * d * 4;
+    size_t places = t->shape.n * d;
     t->shape.challenges = challenges;
-    t->key = malloc(bytes);
-    t->message = malloc(bytes);
-    memcpy(t->key, key, bytes);
-    memcpy(t->message, message, bytes);
+    t->key = malloc(places * sizeof *t->key);
+    t->message = malloc(places * sizeof *t->message);
+    for (size_t k = 0; k < places; k++)
+        t->key[k] = (residue)key[k];
+    memcpy(t->message, message, places * sizeof *t->message);
     return t;
 }
 

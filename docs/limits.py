@@ -8,7 +8,7 @@
 It calls the library by the module of examples/python, which needs a C compiler to make a shared object of target/staticlib/libexports.a (or of the archive
 that is named behind --library).
 
-What is asked, at every degree and depth, with the largest modulus:
+What is asked, at every degree and depth; with the largest modulus, and for binding also with the largest of 31 bits:
   extraction   from which bound B on the judge refuses by 14; at the largest that it takes it must say yes to a vector whose one coefficient is
                (8*d*d)^L * B and no to one more, so that this ceiling is the library's and not only this script's
   binding      up to which B twice that ceiling is below the modulus
@@ -30,7 +30,8 @@ from wovenrock import PARTS, Library, Refused  # noqa: E402
 
 DEGREES = (2, 4, 8, 16, 32, 64)
 DEPTHS = range(9)
-MODULUS = 2_147_483_647
+MODULUS = 2**61 - 1
+NARROW = 2**31 - 1
 BOUNDS = range(1, 128)
 LARGEST = BOUNDS[-1]
 LONG, GROWTH, SLACK = 1, 14, 15
@@ -79,9 +80,11 @@ def extraction_bound(library, degree, depth):
     return largest
 
 
-def binding_bound(library, degree, depth):
+def binding_bound(modulus):
     """The largest B at which twice the ceiling is below the modulus, 0 where there is none."""
-    return bisect.bisect_left(BOUNDS, True, key=lambda bound: 2 * ceiling(library.settings(degree, depth, MODULUS, bound)) >= MODULUS)
+    return lambda library, degree, depth: bisect.bisect_left(
+        BOUNDS, True, key=lambda bound: 2 * ceiling(library.settings(degree, depth, modulus, bound)) >= modulus
+    )
 
 
 def text_size(library, degree, depth, parts, longest):
@@ -121,20 +124,18 @@ def by_bound(bounds):
 def by_size(longest, shortest):
     """A cell: the depths whose longest text fits, and those of which only some texts do."""
     cell = span([depth for depth in DEPTHS if longest[depth] is not None])
-    for depth in DEPTHS:
-        if longest[depth] is None and shortest[depth] is not None:
-            cell += f"; {depth} for some"
-    return cell
+    some = [str(depth) for depth in DEPTHS if longest[depth] is None and shortest[depth] is not None]
+    return cell + (f"; {' and '.join(some)} for some" if some else "")
 
 
 def limits_table(library):
     lines = [
-        "| d | extraction is allowed at L | it binds at L | the text that `prove` reads fits at L | the text that `verify` reads fits at L |",
-        "|---:|---|---|---|---|",
+        "| d | extraction is allowed at L | it binds at L, q = 2^31 − 1 | it binds at L, q = 2^61 − 1 | the text that `prove` reads fits at L | the text that `verify` reads fits at L |",
+        "|---:|---|---|---|---|---|",
     ]
     for degree in DEGREES:
         cells = [str(degree)]
-        cells += [by_bound([bound(library, degree, depth) for depth in DEPTHS]) for bound in (extraction_bound, binding_bound)]
+        cells += [by_bound([bound(library, degree, depth) for depth in DEPTHS]) for bound in (extraction_bound, binding_bound(NARROW), binding_bound(MODULUS))]
         for parts in (PROVE_READS, VERIFY_READS):
             cells.append(by_size(*([text_size(library, degree, depth, parts, longest) for depth in DEPTHS] for longest in (True, False))))
         lines.append("| " + " | ".join(cells) + " |")

@@ -18,10 +18,13 @@
  *
  *   degree    d, 2, 4, 8, 16, 32 or 64: an element has d coefficients, that of X^0 first, and X^d = -1
  *   depth     L, 0 to 8: a table has n = 2^L elements
- *   modulus   q, odd, 3 to 2147483647: coefficients of key, commitment and round polynomials are 0 to q - 1
+ *   modulus   q, odd, 3 to 2305843009213693951 (2^61 - 1): coefficients of key, commitment and round polynomials are 0 to q - 1
  *   bound     B, 1 to 127: coefficients of a message are from -B to B
  *
  * A challenge is an exponent e from 0 to 2d - 1 and stands for X^e.
+ *
+ * The modulus and all residues (key, commitment, round polynomials, claim) are numbers of 64 bits, for every modulus. A message and a final element have
+ * signed numbers of 32 bits, challenges unsigned ones of 32, and an extracted vector signed ones of 64.
  *
  * Every slice has exactly the length that is said here, which the settings give. A slice of any other length is refusal 7.
  *
@@ -55,7 +58,8 @@
  * A refused call writes nothing to any slice, but for one: a refused start of a session writes the closed record of zeros. What a function answers behind
  * a pointer to a single number (`verdict`, `yes`, `count`) is 0 where the call is refused.
  *
- * A session record has 78 numbers:
+ * A session record has 78 numbers of 64 bits. One past 4294967295 in a place other than those of the modulus and the claim counts as 4294967295, which is
+ * refused there:
  *
  *    0 to 3    degree, depth, modulus, bound
  *         4    rounds done
@@ -64,8 +68,9 @@
  *   14 to 77   the claim, 64 numbers; those from d on are not read, and a start or a round that holds writes 0 there
  *
  * A text is a slice of bytes: the line "part item place value", and then a line of four numbers for each value, with single spaces between and a line
- * feed after every line. A number has no leading zero, no plus and no "-0", and its magnitude is at most 2147483647; only a value may be negative.
- * Lines rise by part, item and place, and none is missing:
+ * feed after every line. A number has no leading zero, no plus and no "-0"; only a value may be negative. Part, item and place are at most 2147483647, and
+ * so is the magnitude of a value of part 2, 5 or 6; that of any other value is at most 2305843009213693951. A larger number is refusal 2 in whatever line
+ * it stands. Lines rise by part, item and place, and none is missing:
  *
  *   part 0   settings     item 0, places 0 to 3: degree, depth, modulus, bound
  *   part 1   key          item: element, place: coefficient
@@ -77,7 +82,7 @@
  *
  * Part 0 is always there. Which others are there is a number below 64: WOVENROCK_KEY for part 1 to WOVENROCK_LAST for part 6, added up. The slice
  * that belongs to an absent part has length 0; each other one has exactly its length: key and message n*d, commitment and last d, rounds 3*L*d,
- * challenges L. Settings go to a slice of 4 numbers, in the order of part 0.
+ * challenges L. Settings go to a slice of 4 numbers of 64 bits, in the order of part 0.
  */
 #ifndef WOVENROCK_H
 #define WOVENROCK_H
@@ -90,11 +95,14 @@ extern "C" {
 #endif
 
 /* The version of this header, which is that of the archive it was installed with. */
-#define WOVENROCK_VERSION "0.2.0"
+#define WOVENROCK_VERSION "0.3.0"
 
 /* The largest degree and depth: for room that fits all settings, of which a call is lent the part that has its length. */
 #define WOVENROCK_DEGREE_MAX 64
 #define WOVENROCK_DEPTH_MAX 8
+
+/* The largest modulus. */
+#define WOVENROCK_MODULUS_MAX UINT64_C(2305843009213693951)
 
 /* Numbers of a session record. */
 #define WOVENROCK_SESSION 78
@@ -138,34 +146,34 @@ extern "C" {
 #define WOVENROCK_REJECTED 3
 
 /* Are these settings allowed: refusals 3 to 6. */
-uint32_t wovenrock_settings(uint32_t degree, uint32_t depth, uint32_t modulus, uint32_t bound);
+uint32_t wovenrock_settings(uint32_t degree, uint32_t depth, uint64_t modulus, uint32_t bound);
 
 /* Commit: the sum of m_i*G_i modulo q over the n elements m_i of the message and G_i of the key, written to `commitment`.
  * Lengths: key n*d, message n*d, commitment d. Refusals 3 to 9. */
-uint32_t wovenrock_commit(uint32_t degree, uint32_t depth, uint32_t modulus, uint32_t bound,
-                          const uint32_t *key, size_t key_length,
+uint32_t wovenrock_commit(uint32_t degree, uint32_t depth, uint64_t modulus, uint32_t bound,
+                          const uint64_t *key, size_t key_length,
                           const int32_t *message, size_t message_length,
-                          uint32_t *commitment, size_t commitment_length);
+                          uint64_t *commitment, size_t commitment_length);
 
 /* The prover's round: the round polynomial of round done + 1 is written to `polynomial`. Both tables are folded `done` times.
  * Lengths: key n*d, message n*d, polynomial 3*d. Refusals 3 to 9, 11; what is left of the message must lie within 2^done * B. */
-uint32_t wovenrock_round(uint32_t degree, uint32_t depth, uint32_t modulus, uint32_t bound,
+uint32_t wovenrock_round(uint32_t degree, uint32_t depth, uint64_t modulus, uint32_t bound,
                          uint32_t done,
-                         const uint32_t *key, size_t key_length,
+                         const uint64_t *key, size_t key_length,
                          const int32_t *message, size_t message_length,
-                         uint32_t *polynomial, size_t polynomial_length);
+                         uint64_t *polynomial, size_t polynomial_length);
 
 /* The fold of both tables by X^exponent, with `done` rounds done: of the n/2^done elements that are left, the first half becomes first half plus
  * X^exponent times second half, over whole numbers in the message and modulo q in the key. Every number behind it stays.
  * Lengths: key n*d, message n*d. Refusals 3 to 11; what is left of the message must lie within 2^done * B. */
-uint32_t wovenrock_fold(uint32_t degree, uint32_t depth, uint32_t modulus, uint32_t bound,
+uint32_t wovenrock_fold(uint32_t degree, uint32_t depth, uint64_t modulus, uint32_t bound,
                         uint32_t done, uint32_t exponent,
-                        uint32_t *key, size_t key_length,
+                        uint64_t *key, size_t key_length,
                         int32_t *message, size_t message_length);
 
 /* The prover's end: the first element of a message that was folded L times, written to `last`.
  * Lengths: message n*d, last d. Refusals 3 to 7, 9, 11. */
-uint32_t wovenrock_end(uint32_t degree, uint32_t depth, uint32_t modulus, uint32_t bound,
+uint32_t wovenrock_end(uint32_t degree, uint32_t depth, uint64_t modulus, uint32_t bound,
                        uint32_t done,
                        const int32_t *message, size_t message_length,
                        int32_t *last, size_t last_length);
@@ -173,56 +181,56 @@ uint32_t wovenrock_end(uint32_t degree, uint32_t depth, uint32_t modulus, uint32
 /* The whole opening: the prover and the verifier take turns in L rounds by the given challenges, the claim starting at the commitment. The commitment is
  * written to `commitment`, the round elements to `rounds`, the final element to `last`, and both tables stay as L folds leave them. `*verdict` becomes
  * 2 or 3. Lengths: key n*d, message n*d, challenges L, rounds 3*L*d (c_j of round i is element 3*(i-1)+j), commitment d, last d. Refusals 3 to 10. */
-uint32_t wovenrock_open(uint32_t degree, uint32_t depth, uint32_t modulus, uint32_t bound,
-                        uint32_t *key, size_t key_length,
+uint32_t wovenrock_open(uint32_t degree, uint32_t depth, uint64_t modulus, uint32_t bound,
+                        uint64_t *key, size_t key_length,
                         int32_t *message, size_t message_length,
                         const uint32_t *challenges, size_t challenges_length,
-                        uint32_t *rounds, size_t rounds_length,
-                        uint32_t *commitment, size_t commitment_length,
+                        uint64_t *rounds, size_t rounds_length,
+                        uint64_t *commitment, size_t commitment_length,
                         int32_t *last, size_t last_length,
                         uint32_t *verdict);
 
 /* A verifier's session starts at a commitment: its record is written to `session`, whatever was there. Where the start is refused, that is a closed
  * record of zeros (number 5 is 1, all others are 0); where `session` has not 78 numbers, nothing is written.
  * Lengths: commitment d, session 78. Refusals 3 to 8. */
-uint32_t wovenrock_session_start(uint32_t degree, uint32_t depth, uint32_t modulus, uint32_t bound,
-                                 const uint32_t *commitment, size_t commitment_length,
-                                 uint32_t *session, size_t session_length);
+uint32_t wovenrock_session_start(uint32_t degree, uint32_t depth, uint64_t modulus, uint32_t bound,
+                                 const uint64_t *commitment, size_t commitment_length,
+                                 uint64_t *session, size_t session_length);
 
 /* A session's round, with the round polynomial and the challenge X^exponent. It holds where 2*(c0 + c2) is the claim: `*verdict` becomes 1, and the
  * record counts the round and stores the challenge and the next claim. Else `*verdict` becomes 3, and the record is closed. A refused round leaves the
  * record as it was. Lengths: polynomial 3*d, session 78, d being the record's degree. Refusals 7 at once where `session` has not 78 numbers; then
  * 3 to 6 for the record's settings, 7, 8, 10 (the record's eight challenges too), 11. */
-uint32_t wovenrock_session_round(const uint32_t *polynomial, size_t polynomial_length,
+uint32_t wovenrock_session_round(const uint64_t *polynomial, size_t polynomial_length,
                                  uint32_t exponent,
-                                 uint32_t *session, size_t session_length,
+                                 uint64_t *session, size_t session_length,
                                  uint32_t *verdict);
 
 /* A session's end, with the final element and the unfolded key: `*verdict` becomes 2 or 3, and the record is closed. A refused end leaves the record as
  * it was. Lengths: last d, key n*d, session 78, d and n being those of the record's settings. Refusals 7 at once where `session` has not 78 numbers;
  * then 3 to 6 for the record's settings, 7, 8, 10 (the record's eight challenges), 11. */
 uint32_t wovenrock_session_end(const int32_t *last, size_t last_length,
-                               const uint32_t *key, size_t key_length,
-                               uint32_t *session, size_t session_length,
+                               const uint64_t *key, size_t key_length,
+                               uint64_t *session, size_t session_length,
                                uint32_t *verdict);
 
 /* The check of a transcript: is it accepted, with the claim started at the commitment? `*verdict` becomes 2 or 3.
  * Lengths: commitment d, last d, key n*d (unfolded), rounds 3*L*d (c_j of round i is element 3*(i-1)+j), challenges L. Refusals 3 to 8, 10. */
-uint32_t wovenrock_check(uint32_t degree, uint32_t depth, uint32_t modulus, uint32_t bound,
-                         const uint32_t *commitment, size_t commitment_length,
+uint32_t wovenrock_check(uint32_t degree, uint32_t depth, uint64_t modulus, uint32_t bound,
+                         const uint64_t *commitment, size_t commitment_length,
                          const int32_t *last, size_t last_length,
-                         const uint32_t *key, size_t key_length,
-                         const uint32_t *rounds, size_t rounds_length,
+                         const uint64_t *key, size_t key_length,
+                         const uint64_t *rounds, size_t rounds_length,
                          const uint32_t *challenges, size_t challenges_length,
                          uint32_t *verdict);
 
 /* The judge of relaxed openings: is `slack` times the commitment the sum of w_i*G_i modulo q, and no coefficient of w beyond (8*d*d)^L * B?
  * A slack that shares a factor with q is refused (15): it would open commitments that have nothing behind them.
  * `*yes` becomes 1 or 0. Lengths: commitment d, key n*d, w n*d. Refusals 3 to 8, 14, 15. */
-uint32_t wovenrock_judge(uint32_t degree, uint32_t depth, uint32_t modulus, uint32_t bound,
-                         const uint32_t *commitment, size_t commitment_length,
+uint32_t wovenrock_judge(uint32_t degree, uint32_t depth, uint64_t modulus, uint32_t bound,
+                         const uint64_t *commitment, size_t commitment_length,
                          uint32_t slack,
-                         const uint32_t *key, size_t key_length,
+                         const uint64_t *key, size_t key_length,
                          const int64_t *w, size_t w_length,
                          uint32_t *yes);
 
@@ -230,10 +238,10 @@ uint32_t wovenrock_judge(uint32_t degree, uint32_t depth, uint32_t modulus, uint
  * The root is node 0, and the children of node k are 3k+1, 3k+2, 3k+3. There are N = (3^L - 1)/2 branching nodes, and number N + j is leaf j.
  * The vector is written to `w`. Lengths: commitment d, key n*d, rounds 3*N*d (c_j of node k is element 3k+j), challenges 3*N (that to child 3k+1+j is
  * number 3k+j), leaves 3^L*d (final elements), w n*d. Refusals 3 to 8, 10, 12, 13, 14. */
-uint32_t wovenrock_extract(uint32_t degree, uint32_t depth, uint32_t modulus, uint32_t bound,
-                           const uint32_t *commitment, size_t commitment_length,
-                           const uint32_t *key, size_t key_length,
-                           const uint32_t *rounds, size_t rounds_length,
+uint32_t wovenrock_extract(uint32_t degree, uint32_t depth, uint64_t modulus, uint32_t bound,
+                           const uint64_t *commitment, size_t commitment_length,
+                           const uint64_t *key, size_t key_length,
+                           const uint64_t *rounds, size_t rounds_length,
                            const uint32_t *challenges, size_t challenges_length,
                            const int32_t *leaves, size_t leaves_length,
                            int64_t *w, size_t w_length);
@@ -241,28 +249,28 @@ uint32_t wovenrock_extract(uint32_t degree, uint32_t depth, uint32_t modulus, ui
 /* A first look at a text: its settings are written to `settings`, from which a caller knows the lengths of the tables. Every line of the text is
  * tested. Lengths: settings 4. Refusals 1 to 6, then 7 (`settings`). */
 uint32_t wovenrock_look(const uint8_t *text, size_t text_length,
-                        uint32_t *settings, size_t settings_length);
+                        uint64_t *settings, size_t settings_length);
 
 /* The table reader: the settings of a text are written to `settings`, and the values of the parts that are there to their tables. Nothing is written
  * before the whole text has passed all tests. Lengths: settings 4, tables as above. Refusals 1 to 10. */
 uint32_t wovenrock_read(uint32_t parts,
                         const uint8_t *text, size_t text_length,
-                        uint32_t *settings, size_t settings_length,
-                        uint32_t *key, size_t key_length,
+                        uint64_t *settings, size_t settings_length,
+                        uint64_t *key, size_t key_length,
                         int32_t *message, size_t message_length,
-                        uint32_t *commitment, size_t commitment_length,
-                        uint32_t *rounds, size_t rounds_length,
+                        uint64_t *commitment, size_t commitment_length,
+                        uint64_t *rounds, size_t rounds_length,
                         uint32_t *challenges, size_t challenges_length,
                         int32_t *last, size_t last_length);
 
 /* The table writer: the text of the parts that are there is written to `out`, and its length to `*count`. Bytes behind the text stay. Lengths: tables as
  * above; `out` may be longer than the text. Refusals 3 to 10, then 1 (the text is over 65536 bytes), then 7 (`out` is shorter than the text). */
-uint32_t wovenrock_write(uint32_t degree, uint32_t depth, uint32_t modulus, uint32_t bound,
+uint32_t wovenrock_write(uint32_t degree, uint32_t depth, uint64_t modulus, uint32_t bound,
                          uint32_t parts,
-                         const uint32_t *key, size_t key_length,
+                         const uint64_t *key, size_t key_length,
                          const int32_t *message, size_t message_length,
-                         const uint32_t *commitment, size_t commitment_length,
-                         const uint32_t *rounds, size_t rounds_length,
+                         const uint64_t *commitment, size_t commitment_length,
+                         const uint64_t *rounds, size_t rounds_length,
                          const uint32_t *challenges, size_t challenges_length,
                          const int32_t *last, size_t last_length,
                          uint8_t *out, size_t out_length,

@@ -2,7 +2,7 @@
 //! shared libraries that `bench/run` builds from `bench/opening.h` and a file
 //! of arithmetic.
 
-use reference::types::Settings;
+use reference::types::{Residue, Settings};
 use std::ffi::{c_char, c_int, c_void, CStr, CString};
 
 extern "C" {
@@ -12,14 +12,16 @@ extern "C" {
 }
 
 type Prepare =
-    unsafe extern "C" fn(u32, u32, u32, u32, *const u32, *const i32, *const u32) -> *mut c_void;
-type Commit = unsafe extern "C" fn(*mut c_void, *mut u32) -> u32;
-type Open = unsafe extern "C" fn(*mut c_void, *mut u32, *mut u32, *mut i32) -> u32;
+    unsafe extern "C" fn(u32, u32, u64, u32, *const u64, *const i32, *const u32) -> *mut c_void;
+type Commit = unsafe extern "C" fn(*mut c_void, *mut u64) -> u32;
+type Open = unsafe extern "C" fn(*mut c_void, *mut u64, *mut u64, *mut i32) -> u32;
 type Release = unsafe extern "C" fn(*mut c_void);
 
 /// A library that was loaded; it stays loaded.
 pub struct Baseline {
     pub name: String,
+    /// Whether it is for moduli of 61 bits, or for those of 31.
+    pub wide: bool,
     prepare: Prepare,
     commit: Commit,
     open: Open,
@@ -49,7 +51,9 @@ impl Baseline {
             };
             let name: extern "C" fn() -> *const c_char =
                 std::mem::transmute(symbol(c"baseline_name")?);
+            let wide: extern "C" fn() -> u32 = std::mem::transmute(symbol(c"baseline_wide")?);
             Ok(Baseline {
+                wide: wide() != 0,
                 name: CStr::from_ptr(name()).to_string_lossy().into_owned(),
                 prepare: std::mem::transmute::<*mut c_void, Prepare>(symbol(c"baseline_prepare")?),
                 commit: std::mem::transmute::<*mut c_void, Commit>(symbol(c"baseline_commit")?),
@@ -63,7 +67,7 @@ impl Baseline {
     pub fn prepare<'a>(
         &'a self,
         s: Settings,
-        key: &[u32],
+        key: &[Residue],
         message: &[i32],
         challenges: &'a [u32],
     ) -> Prepared<'a> {
@@ -82,12 +86,17 @@ impl Baseline {
 
 impl Prepared<'_> {
     /// Writes d coefficients; 0 says that nothing was refused.
-    pub fn commit(&mut self, commitment: &mut [u32]) -> u32 {
+    pub fn commit(&mut self, commitment: &mut [Residue]) -> u32 {
         unsafe { (self.baseline.commit)(self.tables, commitment.as_mut_ptr()) }
     }
 
     /// Writes 3·L·d coefficients of rounds, and d each of the others.
-    pub fn open(&mut self, rounds: &mut [u32], commitment: &mut [u32], last: &mut [i32]) -> u32 {
+    pub fn open(
+        &mut self,
+        rounds: &mut [Residue],
+        commitment: &mut [Residue],
+        last: &mut [i32],
+    ) -> u32 {
         let (rounds, commitment) = (rounds.as_mut_ptr(), commitment.as_mut_ptr());
         unsafe { (self.baseline.open)(self.tables, rounds, commitment, last.as_mut_ptr()) }
     }

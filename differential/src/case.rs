@@ -6,14 +6,14 @@ use reference::draw::Limits;
 use reference::plain::refusals::{self, Lengths};
 use reference::random::Random;
 use reference::refuse::{self, Shape};
-use reference::types::Settings;
+use reference::types::{Residue, Settings};
 
 /// What a call answered and left in every slice that it was lent.
 #[derive(Clone, Debug)]
 pub struct Outcome {
     pub number: u32,
     /// Each part of the answer and each lent table at exit, by name.
-    pub parts: Vec<(&'static str, Vec<i64>)>,
+    pub parts: Vec<(&'static str, Vec<i128>)>,
     /// For the counts: the numbers that were answered, in a list of calls
     /// those of each call.
     pub counted: Vec<u32>,
@@ -32,7 +32,7 @@ impl Outcome {
     }
 
     /// Adds a part or a table.
-    pub fn with<T: Copy + Into<i64>>(mut self, name: &'static str, values: &[T]) -> Outcome {
+    pub fn with<T: Copy + Into<i128>>(mut self, name: &'static str, values: &[T]) -> Outcome {
         let values = values.iter().map(|&x| x.into()).collect();
         self.parts.push((name, values));
         self
@@ -63,6 +63,9 @@ impl Outcome {
     }
 }
 
+/// What is counted where nothing is refused with a modulus of 2^31 or more.
+pub const WIDE: &str = "wide";
+
 /// Who a case was compared with.
 #[derive(Clone, Copy)]
 pub enum Author {
@@ -77,6 +80,7 @@ pub enum Author {
 /// A slice of a case. Its numbers may be put to 0 to make the case simpler,
 /// and its length may be made a wrong one.
 pub enum Table<'a> {
+    Residues(&'a mut Vec<Residue>),
     Unsigned(&'a mut Vec<u32>),
     Signed(&'a mut Vec<i32>),
     Wide(&'a mut Vec<i64>),
@@ -85,6 +89,7 @@ pub enum Table<'a> {
 impl Table<'_> {
     fn len(&self) -> usize {
         match self {
+            Table::Residues(t) => t.len(),
             Table::Unsigned(t) => t.len(),
             Table::Signed(t) => t.len(),
             Table::Wide(t) => t.len(),
@@ -102,6 +107,7 @@ impl Table<'_> {
             changed
         }
         match self {
+            Table::Residues(t) => zero(&mut t[range]),
             Table::Unsigned(t) => zero(&mut t[range]),
             Table::Signed(t) => zero(&mut t[range]),
             Table::Wide(t) => zero(&mut t[range]),
@@ -110,6 +116,7 @@ impl Table<'_> {
 
     fn resize(&mut self, length: usize) {
         match self {
+            Table::Residues(t) => t.resize(length, 0),
             Table::Unsigned(t) => t.resize(length, 0),
             Table::Signed(t) => t.resize(length, 0),
             Table::Wide(t) => t.resize(length, 0),
@@ -133,6 +140,10 @@ pub trait Case: Clone {
     /// one number too few and one too many must come up as the only reason
     /// of a refusal by 7.
     const SLICES: &'static [&'static str] = &[];
+
+    /// Whether it must come up that nothing is refused with a modulus of 2^31
+    /// or more.
+    const WIDE: bool = false;
 
     /// How often each of these must come up.
     const LEAST: usize = 20;
@@ -204,6 +215,11 @@ pub trait Call: Clone {
         (refusals::settings(s) == 0).then(|| self.pairs(&refusals::lengths(s)))
     }
 
+    /// The modulus of an input that is not refused, for the counts.
+    fn modulus(&self) -> Residue {
+        self.settings().map_or(0, |s| s.modulus)
+    }
+
     /// A refusal before all others.
     fn at_once(&self) -> u32 {
         0
@@ -242,7 +258,7 @@ pub trait Call: Clone {
     }
 
     /// The numbers of its input that are no slices.
-    fn numbers(&self) -> Vec<u32>;
+    fn numbers(&self) -> Vec<u64>;
 
     /// Prints numbers and slices, or what is easier to read.
     fn show(&self, page: &mut Page) {
@@ -250,6 +266,7 @@ pub trait Call: Clone {
         page.numbers(self.numbers());
         for slice in self.clone().slices() {
             match slice {
+                Table::Residues(t) => page.table(t),
                 Table::Unsigned(t) => page.table(t),
                 Table::Signed(t) => page.table(t),
                 Table::Wide(t) => page.table(t),
@@ -317,6 +334,7 @@ impl<C: Call> Case for C {
     const NUMBERS: &'static [u32] = <C as Call>::NUMBERS;
     const WORDS: &'static [&'static str] = <C as Call>::WORDS;
     const SLICES: &'static [&'static str] = <C as Call>::SLICES;
+    const WIDE: bool = true;
 
     fn draw(random: &mut Random, limits: &Limits) -> C {
         <C as Call>::draw(random, limits)
@@ -374,9 +392,12 @@ impl<C: Call> Case for C {
     }
 
     /// Which slice is one number too short or too long, where that alone is
-    /// the reason of a refusal by 7.
+    /// the reason of a refusal by 7; and whether the modulus is a wide one.
     fn remarks(&self, number: u32) -> Vec<String> {
         let mut remarks = self.other_remarks(number);
+        if number == 0 && self.modulus() >= 1 << 31 {
+            remarks.push(WIDE.to_string());
+        }
         let pairs = self.known_pairs().unwrap_or_default();
         let wrong: Vec<usize> = (0..pairs.len())
             .filter(|&i| pairs[i].0 != pairs[i].1)
@@ -453,6 +474,7 @@ fn redraw_smaller<C: Case>(case: &C) -> C {
             depth,
             table: usize::MAX,
             tree: usize::MAX,
+            wide: true,
         };
         for _ in 0..DRAWS {
             let mut small = C::draw(&mut random, &limits);

@@ -8,10 +8,10 @@
 //! table differs, and prints the smallest such case that it finds; and where
 //! an answer that a call can give never came up.
 
+use differential::calls::{large_numbers, names_lines, Look, Prove, Read, Verify, Write};
 use differential::calls::{
     Check, Commit, End, Extract, Fold, Judge, Large, Largest, Moves, Opening,
 };
-use differential::calls::{names_lines, Look, Prove, Read, Verify, Write};
 use differential::calls::{ProverRound, SessionEnd, SessionRound, Sessions, SettingsCase, Start};
 use differential::case::{self, Case, Difference};
 use differential::report::Report;
@@ -30,7 +30,8 @@ fn words<C: Case>() -> Vec<String> {
     let said = C::WORDS.iter().map(|word| word.to_string());
     let slices = C::SLICES.iter();
     let wrong = slices.flat_map(|name| [format!("{name} short"), format!("{name} long")]);
-    said.chain(wrong).collect()
+    let wide = C::WIDE.then(|| case::WIDE.to_string());
+    said.chain(wrong).chain(wide).collect()
 }
 
 impl Run {
@@ -53,6 +54,18 @@ impl Run {
         for text in names_lines() {
             self.given(Look::at(text.clone()))?;
             self.given(Verify::of(text))?;
+        }
+        Ok(())
+    }
+
+    /// Texts with numbers at the limits in every column of every part.
+    fn large_numbers(&mut self) -> Result<(), Difference> {
+        for input in large_numbers() {
+            let text = input.text();
+            self.given(Look::at(text.clone()))?;
+            self.given(Prove::of(text.clone(), 1))?;
+            self.given(Verify::of(text))?;
+            self.given(Read::of(input))?;
         }
         Ok(())
     }
@@ -108,6 +121,7 @@ impl Run {
         self.call::<Large>(0, 18)?;
         self.call::<Largest>(0, 6)?;
         self.names()?;
+        self.large_numbers()?;
         self.call::<Look>(10_000, 100)?;
         self.call::<Read>(10_000, 200)?;
         self.call::<Write>(10_000, 200)?;

@@ -1,30 +1,31 @@
 /* The extractor: a prover is rewound through three challenges in each of its two rounds, which gives a full tree with nine leaves. From the tree comes a vector
  * that opens 16 times the commitment, and the judge says so. */
+#include <inttypes.h>
 #include <stdio.h>
 #include <stdlib.h>
 #include <string.h>
 
 #include "wovenrock.h"
 
-/* Twice the bound of an extracted vector, 2 * (12*2*2)^2 * 1 = 4608, is below the modulus, so that the opening binds. */
+/* Twice the bound of an extracted vector, 2 * (8*2*2)^2 * 1 = 2048, is below the modulus, so that the opening binds. */
 enum { DEGREE = 2, DEPTH = 2, MODULUS = 12289, BOUND = 1 };
 enum { TABLE = DEGREE << DEPTH, NODES = 4, LEAVES = 9 };
 
 #define SETTINGS DEGREE, DEPTH, MODULUS, BOUND
 
-static const uint32_t KEY[TABLE] = {8121, 377, 5024, 11903, 1066, 9999, 42, 7310};
+static const uint64_t KEY[TABLE] = {8121, 377, 5024, 11903, 1066, 9999, 42, 7310};
 static const int32_t MESSAGE[TABLE] = {1, -1, 0, 1, -1, 0, 1, 1};
 
 /* The prover between two moves: a copy of it is what it is rewound to. */
 struct prover {
-    uint32_t key[TABLE];
+    uint64_t key[TABLE];
     int32_t message[TABLE];
     uint32_t done;
 };
 
 /* What is gathered: for each branching node a round polynomial and three challenges, for each leaf a final element. */
 struct tree {
-    uint32_t rounds[3 * NODES * DEGREE];
+    uint64_t rounds[3 * NODES * DEGREE];
     uint32_t challenges[3 * NODES];
     int32_t leaves[LEAVES * DEGREE];
 };
@@ -49,7 +50,7 @@ static void visit(struct prover prover, size_t node, struct tree *tree) {
         not_refused("end", wovenrock_end(SETTINGS, prover.done, prover.message, TABLE, leaf, DEGREE));
         return;
     }
-    uint32_t *polynomial = &tree->rounds[3 * DEGREE * node];
+    uint64_t *polynomial = &tree->rounds[3 * DEGREE * node];
     not_refused("round", wovenrock_round(SETTINGS, prover.done, prover.key, TABLE, prover.message, TABLE, polynomial, 3 * DEGREE));
     for (size_t child = 0; child < 3; child++) {
         struct prover rewound = prover;
@@ -65,9 +66,9 @@ int main(void) {
     struct prover prover = {.done = 0};
     memcpy(prover.key, KEY, sizeof KEY);
     memcpy(prover.message, MESSAGE, sizeof MESSAGE);
-    uint32_t commitment[DEGREE];
+    uint64_t commitment[DEGREE];
     not_refused("commit", wovenrock_commit(SETTINGS, KEY, TABLE, MESSAGE, TABLE, commitment, DEGREE));
-    printf("commitment: %u %u\n", commitment[0], commitment[1]);
+    printf("commitment: %" PRIu64 " %" PRIu64 "\n", commitment[0], commitment[1]);
 
     struct tree tree;
     visit(prover, 0, &tree);

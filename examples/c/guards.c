@@ -31,7 +31,7 @@ struct slice {
 };
 
 struct input {
-    uint32_t settings[WOVENROCK_SETTINGS];
+    uint64_t settings[WOVENROCK_SETTINGS];
     uint32_t done, exponent, slack, parts;
     struct slice slices[SLICES];
     int used;
@@ -111,6 +111,7 @@ static void put(struct slice *s, size_t place, int64_t value) {
 
 #define COUNT(a) (sizeof(a) / sizeof((a)[0]))
 #define U32(name, use, ...) make(name, use, 4, false, COUNT(((uint32_t[]){__VA_ARGS__})), (uint32_t[]){__VA_ARGS__}, COUNT(((uint32_t[]){__VA_ARGS__})))
+#define U64(name, use, ...) make(name, use, 8, false, COUNT(((uint64_t[]){__VA_ARGS__})), (uint64_t[]){__VA_ARGS__}, COUNT(((uint64_t[]){__VA_ARGS__})))
 #define I32(name, use, ...) make(name, use, 4, true, COUNT(((int32_t[]){__VA_ARGS__})), (int32_t[]){__VA_ARGS__}, COUNT(((int32_t[]){__VA_ARGS__})))
 #define I64(name, use, ...) make(name, use, 8, true, COUNT(((int64_t[]){__VA_ARGS__})), (int64_t[]){__VA_ARGS__}, COUNT(((int64_t[]){__VA_ARGS__})))
 #define ZEROS(name, use, width, negative, count) make(name, use, width, negative, count, "", 0)
@@ -118,7 +119,7 @@ static void put(struct slice *s, size_t place, int64_t value) {
 
 /* The calls. */
 
-#define SETTINGS in->settings[0], in->settings[1], in->settings[2], in->settings[3]
+#define SETTINGS (uint32_t)in->settings[0], (uint32_t)in->settings[1], in->settings[2], (uint32_t)in->settings[3]
 #define AT(i) (void *)numbers(&in->slices[i])
 #define SLICE(i) AT(i), in->slices[i].count
 
@@ -165,21 +166,26 @@ struct fault {
 #define IN_PARTS(refusal, value) {refusal, PARTS, 0, 0, value, NULL, NULL}
 #define IN_SLICE(refusal, slice, place, value) {refusal, NUMBER, slice, place, value, NULL, NULL}
 #define IN_LINE(refusal, from, to) {refusal, LINE, 0, 0, 0, from, to}
-#define FAULTY_SETTINGS IN_SETTING(3, 0, 3), IN_SETTING(4, 1, 9), IN_SETTING(5, 2, 16), IN_SETTING(6, 3, 0)
+/* Past 32 bits, with a number behind that would be allowed. */
+#define PAST(number) ((INT64_C(1) << 32) + (number))
+#define FAULTY_SETTINGS \
+    IN_SETTING(3, 0, 3), IN_SETTING(4, 1, 9), IN_SETTING(5, 2, 16), IN_SETTING(5, 2, WOVENROCK_MODULUS_MAX + 2), IN_SETTING(5, 2, -1), IN_SETTING(6, 3, 0)
 #define FAULTY_RECORD(slice) \
     IN_SLICE(3, slice, 0, 3), IN_SLICE(4, slice, 1, 9), IN_SLICE(5, slice, 2, 16), IN_SLICE(6, slice, 3, 0), IN_SLICE(7, slice, 5, 2), \
-        IN_SLICE(7, slice, 5, UINT32_MAX), IN_SLICE(8, slice, 14, 17), IN_SLICE(10, slice, 6, 4), IN_SLICE(10, slice, 13, 4), IN_SLICE(11, slice, 5, 1)
+        IN_SLICE(7, slice, 5, UINT32_MAX), IN_SLICE(8, slice, 14, 17), IN_SLICE(8, slice, 14, PAST(0)), IN_SLICE(10, slice, 6, 4), IN_SLICE(10, slice, 13, 4), \
+        IN_SLICE(11, slice, 5, 1), IN_SLICE(3, slice, 0, PAST(2)), IN_SLICE(4, slice, 1, PAST(1)), IN_SLICE(6, slice, 3, PAST(1)), \
+        IN_SLICE(7, slice, 5, PAST(0)), IN_SLICE(10, slice, 13, PAST(0)), IN_SLICE(11, slice, 4, PAST(0))
 #define FAULTY_TEXT \
     {1, STRETCH, 0, 0, WOVENROCK_TEXT + 1, NULL, NULL}, IN_LINE(2, "part", "Part"), IN_LINE(2, "0 0 3 1\n", "0 0 3 01\n"), \
-        IN_LINE(3, "0 0 0 2\n", "0 0 0 3\n"), IN_LINE(4, "0 0 1 1\n", "0 0 1 9\n"), IN_LINE(5, "0 0 2 17\n", "0 0 2 -17\n"), \
-        IN_LINE(6, "0 0 3 1\n", "0 0 3 128\n")
+        IN_LINE(2, "0 0 2 17\n", "0 0 2 2305843009213693953\n"), IN_LINE(3, "0 0 0 2\n", "0 0 0 3\n"), IN_LINE(3, "0 0 0 2\n", "0 0 0 4294967298\n"), \
+        IN_LINE(4, "0 0 1 1\n", "0 0 1 9\n"), IN_LINE(5, "0 0 2 17\n", "0 0 2 -17\n"), IN_LINE(6, "0 0 3 1\n", "0 0 3 128\n")
 
 /* Whether the fault can be put in: a place may be missing in a slice that is too short. */
 static bool spoil(struct input *in, const struct fault *f) {
     struct slice *s = &in->slices[f->which];
     switch (f->change) {
     case SETTING:
-        in->settings[f->which] = (uint32_t)f->value;
+        in->settings[f->which] = (uint64_t)f->value;
         return true;
     case DONE:
         in->done = (uint32_t)f->value;
@@ -278,7 +284,7 @@ struct scenario {
     uint32_t (*call)(struct input *);
     struct input (*input)(void);
     uint32_t refusal; /* of the input without a fault */
-    struct fault faults[24];
+    struct fault faults[32];
 };
 
 static void show(const struct input *in) {
@@ -372,10 +378,10 @@ static void run(const struct scenario *scenario) {
 
 /* The inputs: the worked example of the README, and others where it cannot reach a refusal. */
 
-#define KEY(use) U32("key", use, 3, 5, 7, 2)
+#define KEY(use) U64("key", use, 3, 5, 7, 2)
 #define MESSAGE(use) I32("message", use, 1, -1, 1, 0)
-#define COMMITMENT U32("commitment", READ, 15, 4)
-#define ROUNDS U32("rounds", READ, 4, 1, 6, 0, 12, 1)
+#define COMMITMENT U64("commitment", READ, 15, 4)
+#define ROUNDS U64("rounds", READ, 4, 1, 6, 0, 12, 1)
 #define LAST I32("last", READ, 1, 0)
 #define VERDICT ZEROS("verdict", SINGLE, 4, false, 1)
 
@@ -388,7 +394,7 @@ static struct input commit_input(void) {
     struct input in = worked();
     lend(&in, KEY(READ));
     lend(&in, MESSAGE(READ));
-    lend(&in, U32("commitment", WRITTEN, 21, 22));
+    lend(&in, U64("commitment", WRITTEN, 21, 22));
     return in;
 }
 
@@ -396,7 +402,7 @@ static struct input round_input(void) {
     struct input in = worked();
     lend(&in, KEY(READ));
     lend(&in, MESSAGE(READ));
-    lend(&in, U32("polynomial", WRITTEN, 21, 22, 23, 24, 25, 26));
+    lend(&in, U64("polynomial", WRITTEN, 21, 22, 23, 24, 25, 26));
     return in;
 }
 
@@ -420,8 +426,8 @@ static struct input open_input(void) {
     lend(&in, KEY(WRITTEN));
     lend(&in, MESSAGE(WRITTEN));
     lend(&in, U32("challenges", READ, 1));
-    lend(&in, U32("rounds", WRITTEN, 21, 22, 23, 24, 25, 26));
-    lend(&in, U32("commitment", WRITTEN, 27, 28));
+    lend(&in, U64("rounds", WRITTEN, 21, 22, 23, 24, 25, 26));
+    lend(&in, U64("commitment", WRITTEN, 27, 28));
     lend(&in, I32("last", WRITTEN, 29, 30));
     lend(&in, VERDICT);
     return in;
@@ -430,14 +436,14 @@ static struct input open_input(void) {
 static struct input start_input(void) {
     struct input in = worked();
     lend(&in, COMMITMENT);
-    lend(&in, ZEROS("session", RECORD, 4, false, WOVENROCK_SESSION));
-    memset(numbers(&in.slices[1]), 1, 4 * WOVENROCK_SESSION);
+    lend(&in, ZEROS("session", RECORD, 8, false, WOVENROCK_SESSION));
+    memset(numbers(&in.slices[1]), 1, 8 * WOVENROCK_SESSION);
     return in;
 }
 
-static struct slice record(uint32_t done, uint32_t challenge, uint32_t claim0, uint32_t claim1) {
-    struct slice s = ZEROS("session", WRITTEN, 4, false, WOVENROCK_SESSION);
-    const uint32_t head[] = {2, 1, 17, 1, done, 0, challenge};
+static struct slice record(uint64_t done, uint64_t challenge, int64_t claim0, int64_t claim1) {
+    struct slice s = ZEROS("session", WRITTEN, 8, false, WOVENROCK_SESSION);
+    const uint64_t head[] = {2, 1, 17, 1, done, 0, challenge};
     memcpy(numbers(&s), head, sizeof head);
     put(&s, 14, claim0);
     put(&s, 15, claim1);
@@ -446,7 +452,7 @@ static struct slice record(uint32_t done, uint32_t challenge, uint32_t claim0, u
 
 static struct input session_round_input(void) {
     struct input in = worked();
-    lend(&in, U32("polynomial", READ, 4, 1, 6, 0, 12, 1));
+    lend(&in, U64("polynomial", READ, 4, 1, 6, 0, 12, 1));
     lend(&in, record(0, 0, 15, 4));
     lend(&in, VERDICT);
     return in;
@@ -495,8 +501,8 @@ static struct input extract_input(void) {
 /* Degree 64 and depth 4, where a relaxed opening may grow too much; all numbers are 0, so that every path is accepted. */
 static struct input large(void) {
     struct input in = {{64, 4, 17, 5}, 0, 0, 256, 0, {{0}}, 0};
-    lend(&in, ZEROS("commitment", READ, 4, false, wovenrock_element_length(64)));
-    lend(&in, ZEROS("key", READ, 4, false, wovenrock_table_length(64, 4)));
+    lend(&in, ZEROS("commitment", READ, 8, false, wovenrock_element_length(64)));
+    lend(&in, ZEROS("key", READ, 8, false, wovenrock_table_length(64, 4)));
     return in;
 }
 
@@ -509,7 +515,7 @@ static struct input large_judge_input(void) {
 
 static struct input large_extract_input(void) {
     struct input in = large();
-    lend(&in, ZEROS("rounds", READ, 4, false, wovenrock_tree_rounds_length(64, 4)));
+    lend(&in, ZEROS("rounds", READ, 8, false, wovenrock_tree_rounds_length(64, 4)));
     lend(&in, ZEROS("challenges", READ, 4, false, wovenrock_tree_challenges_length(4)));
     for (size_t i = 0; i < in.slices[3].count; i++)
         put(&in.slices[3], i, (int64_t)i % 3);
@@ -526,7 +532,7 @@ static struct input large_extract_input(void) {
 static struct input look_input(void) {
     struct input in = worked();
     lend(&in, BYTES("text", TEXT, TEXT_SETTINGS TEXT_KEY));
-    lend(&in, U32("settings", WRITTEN, 21, 22, 23, 24));
+    lend(&in, U64("settings", WRITTEN, 21, 22, 23, 24));
     return in;
 }
 
@@ -534,11 +540,11 @@ static struct input read_input(void) {
     struct input in = worked();
     in.parts = 63;
     lend(&in, BYTES("text", TEXT, TEXT_SETTINGS TEXT_KEY TEXT_MESSAGE TEXT_OPENING));
-    lend(&in, U32("settings", WRITTEN, 21, 22, 23, 24));
-    lend(&in, U32("key", WRITTEN, 21, 22, 23, 24));
+    lend(&in, U64("settings", WRITTEN, 21, 22, 23, 24));
+    lend(&in, U64("key", WRITTEN, 21, 22, 23, 24));
     lend(&in, I32("message", WRITTEN, 21, 22, 23, 24));
-    lend(&in, U32("commitment", WRITTEN, 21, 22));
-    lend(&in, U32("rounds", WRITTEN, 21, 22, 23, 24, 25, 26));
+    lend(&in, U64("commitment", WRITTEN, 21, 22));
+    lend(&in, U64("rounds", WRITTEN, 21, 22, 23, 24, 25, 26));
     lend(&in, U32("challenges", WRITTEN, 21));
     lend(&in, I32("last", WRITTEN, 21, 22));
     return in;
@@ -549,11 +555,11 @@ static struct input read_key_input(void) {
     struct input in = worked();
     in.parts = WOVENROCK_KEY;
     lend(&in, BYTES("text", TEXT, TEXT_SETTINGS TEXT_KEY));
-    lend(&in, U32("settings", WRITTEN, 21, 22, 23, 24));
-    lend(&in, U32("key", WRITTEN, 21, 22, 23, 24));
+    lend(&in, U64("settings", WRITTEN, 21, 22, 23, 24));
+    lend(&in, U64("key", WRITTEN, 21, 22, 23, 24));
     lend(&in, ZEROS("message", WRITTEN, 4, true, 0));
-    lend(&in, ZEROS("commitment", WRITTEN, 4, false, 0));
-    lend(&in, ZEROS("rounds", WRITTEN, 4, false, 0));
+    lend(&in, ZEROS("commitment", WRITTEN, 8, false, 0));
+    lend(&in, ZEROS("rounds", WRITTEN, 8, false, 0));
     lend(&in, ZEROS("challenges", WRITTEN, 4, false, 0));
     lend(&in, ZEROS("last", WRITTEN, 4, true, 0));
     return in;
@@ -576,10 +582,10 @@ static struct input write_input(void) {
 /* A key of the largest settings, whose text is too long; the output has no room at all. */
 static struct input write_long_input(void) {
     struct input in = {{64, 8, 17, 1}, 0, 0, 0, WOVENROCK_KEY, {{0}}, 0};
-    lend(&in, ZEROS("key", READ, 4, false, wovenrock_table_length(64, 8)));
+    lend(&in, ZEROS("key", READ, 8, false, wovenrock_table_length(64, 8)));
     lend(&in, ZEROS("message", READ, 4, true, 0));
-    lend(&in, ZEROS("commitment", READ, 4, false, 0));
-    lend(&in, ZEROS("rounds", READ, 4, false, 0));
+    lend(&in, ZEROS("commitment", READ, 8, false, 0));
+    lend(&in, ZEROS("rounds", READ, 8, false, 0));
     lend(&in, ZEROS("challenges", READ, 4, false, 0));
     lend(&in, ZEROS("last", READ, 4, true, 0));
     lend(&in, ZEROS("out", OUT, 1, false, 0));
@@ -624,6 +630,7 @@ static const struct scenario scenarios[] = {
     {"extract, growth", extract, large_extract_input, 14, {IN_SLICE(8, 0, 0, 17), IN_SLICE(13, 4, 0, 81), NO_MORE}},
     {"look", look, look_input, 0, {FAULTY_TEXT, NO_MORE}},
     {"read", reads, read_input, 0, {FAULTY_TEXT, IN_LINE(7, "2 1 1 0\n", ""), IN_LINE(8, "1 0 0 3\n", "1 0 0 17\n"), IN_LINE(8, "1 0 0 3\n", "1 0 0 -1\n"),
+        IN_LINE(2, "2 0 0 1\n", "2 0 0 4294967296\n"), IN_LINE(8, "1 0 0 3\n", "1 0 0 2305843009213693951\n"),
         IN_LINE(9, "2 0 0 1\n", "2 0 0 2\n"), IN_LINE(10, "5 0 0 1\n", "5 0 0 4\n"), IN_PARTS(7, 62), IN_PARTS(7, 127),
         IN_PARTS(7, 63 + (INT64_C(1) << 31)), NO_MORE}},
     {"read, a key", reads, read_key_input, 0, {FAULTY_TEXT, IN_PARTS(7, 0), IN_PARTS(7, 65), NO_MORE}},

@@ -24,13 +24,14 @@ static void *zeros(size_t count, size_t width) {
 
 /* Tables of zeros are a key, a message, an opening and a tree, but for the tree's challenges, which are equal: that is refused by 12, behind all lengths. */
 static void try(uint32_t d, uint32_t depth) {
-    const uint32_t q = 17, bound = 1;
+    const uint64_t q = WOVENROCK_MODULUS_MAX;
+    const uint32_t bound = 1;
     size_t element = wovenrock_element_length(d), table = wovenrock_table_length(d, depth);
     size_t rounds = wovenrock_rounds_length(d, depth), challenges = wovenrock_challenges_length(depth);
     size_t tree_rounds = wovenrock_tree_rounds_length(d, depth), tree_challenges = wovenrock_tree_challenges_length(depth);
     size_t leaves = wovenrock_leaves_length(d, depth), polynomial = wovenrock_polynomial_length(d);
-    uint32_t *key = zeros(table, 4), *residues = zeros(element, 4), *elements = zeros(tree_rounds + rounds + polynomial, 4);
-    uint32_t *exponents = zeros(tree_challenges + challenges, 4), session[WOVENROCK_SESSION], verdict, yes;
+    uint64_t *key = zeros(table, 8), *residues = zeros(element, 8), *elements = zeros(tree_rounds + rounds + polynomial, 8), session[WOVENROCK_SESSION];
+    uint32_t *exponents = zeros(tree_challenges + challenges, 4), verdict, yes;
     int32_t *message = zeros(table, 4), *last = zeros(element, 4), *wholes = zeros(leaves, 4);
     int64_t *w = zeros(table, 8);
 

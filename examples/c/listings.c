@@ -37,10 +37,10 @@ static size_t text_length(const uint8_t *text) {
 }
 
 /* Puts numbers into their place in the tree. Two paths that share a node have the same numbers there. */
-static void share(uint32_t *place, const uint32_t *numbers, size_t count, int known) {
-    if (known && memcmp(place, numbers, count * sizeof *place) != 0)
+static void share(void *place, const void *numbers, size_t bytes, int known) {
+    if (known && memcmp(place, numbers, bytes) != 0)
         stop("the listings are not the paths of one tree");
-    memcpy(place, numbers, count * sizeof *place);
+    memcpy(place, numbers, bytes);
 }
 
 int main(void) {
@@ -49,38 +49,41 @@ int main(void) {
         stop("more input than there is room for");
     const uint8_t *text = input;
 
-    uint32_t settings[WOVENROCK_SETTINGS];
+    uint64_t settings[WOVENROCK_SETTINGS];
     not_refused("look", wovenrock_look(text, text_length(text), settings, WOVENROCK_SETTINGS));
-    uint32_t degree = settings[0], depth = settings[1], modulus = settings[2], bound = settings[3];
+    uint32_t degree = (uint32_t)settings[0], depth = (uint32_t)settings[1], bound = (uint32_t)settings[3];
+    uint64_t modulus = settings[2];
     size_t d = wovenrock_element_length(degree), table = wovenrock_table_length(degree, depth), polynomial = wovenrock_polynomial_length(degree);
     size_t leaves_count = wovenrock_leaf_count(depth), nodes = wovenrock_node_count(depth);
     if (table > TABLE_MOST)
         stop("a relaxed opening would grow too much");
 
-    uint32_t *none = room(0, sizeof *none), key[TABLE_MOST], commitment[WOVENROCK_DEGREE_MAX], first_commitment[WOVENROCK_DEGREE_MAX];
+    uint64_t *none = room(0, sizeof *none), key[TABLE_MOST], commitment[WOVENROCK_DEGREE_MAX], first_commitment[WOVENROCK_DEGREE_MAX];
+    uint32_t *no_challenges = room(0, sizeof *no_challenges);
     int32_t *no_message = room(0, sizeof *no_message);
-    not_refused("read", wovenrock_read(WOVENROCK_KEY, text, text_length(text), settings, WOVENROCK_SETTINGS, key, table, no_message, 0, none, 0, none, 0, none, 0,
-                                       no_message, 0));
-    uint32_t *rounds = room(wovenrock_tree_rounds_length(degree, depth), sizeof *rounds);
+    not_refused("read", wovenrock_read(WOVENROCK_KEY, text, text_length(text), settings, WOVENROCK_SETTINGS, key, table, no_message, 0, none, 0, none, 0,
+                                       no_challenges, 0, no_message, 0));
+    uint64_t *rounds = room(wovenrock_tree_rounds_length(degree, depth), sizeof *rounds);
     uint32_t *challenges = room(wovenrock_tree_challenges_length(depth), sizeof *challenges);
     int32_t *leaves = room(wovenrock_leaves_length(degree, depth), sizeof *leaves);
 
     for (size_t leaf = 0; leaf < leaves_count; leaf++) {
         text += text_length(text);
-        uint32_t path_rounds[PATH_MOST], path_challenges[WOVENROCK_DEPTH_MAX], found[WOVENROCK_SETTINGS];
+        uint64_t path_rounds[PATH_MOST], found[WOVENROCK_SETTINGS];
+        uint32_t path_challenges[WOVENROCK_DEPTH_MAX];
         const uint32_t parts = WOVENROCK_COMMITMENT | WOVENROCK_ROUNDS | WOVENROCK_CHALLENGES | WOVENROCK_LAST;
         not_refused("read", wovenrock_read(parts, text, text_length(text), found, WOVENROCK_SETTINGS, none, 0, no_message, 0, commitment, d, path_rounds,
                                            wovenrock_rounds_length(degree, depth), path_challenges, depth, &leaves[leaf * d], d));
         if (memcmp(found, settings, sizeof settings) != 0)
             stop("a listing has other settings");
-        share(first_commitment, commitment, d, leaf > 0);
+        share(first_commitment, commitment, d * sizeof *commitment, leaf > 0);
 
         /* From the root on, the digits of the leaf's number in base 3 say which child is next. */
         size_t node = 0;
         for (size_t i = 0, below = leaves_count / 3; i < depth; i++, below /= 3) {
             size_t child = leaf / below % 3;
-            share(&rounds[node * polynomial], &path_rounds[i * polynomial], polynomial, leaf % (3 * below) > 0);
-            share(&challenges[3 * node + child], &path_challenges[i], 1, leaf % below > 0);
+            share(&rounds[node * polynomial], &path_rounds[i * polynomial], polynomial * sizeof *rounds, leaf % (3 * below) > 0);
+            share(&challenges[3 * node + child], &path_challenges[i], sizeof *challenges, leaf % below > 0);
             node = 3 * node + 1 + child;
         }
     }
@@ -99,6 +102,6 @@ int main(void) {
     uint32_t slack = wovenrock_extracted_slack(depth), yes;
     not_refused("judge", wovenrock_judge(degree, depth, modulus, bound, commitment, d, slack, key, table, w, table, &yes));
     printf("opens %u times the commitment: %s\n", slack, yes ? "yes" : "no");
-    free(none), free(no_message), free(rounds), free(challenges), free(leaves);
+    free(none), free(no_challenges), free(no_message), free(rounds), free(challenges), free(leaves);
     return yes != 1;
 }

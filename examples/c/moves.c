@@ -6,9 +6,11 @@
 
 #include "wovenrock.h"
 
-enum { DEGREE = 8, DEPTH = 3, MODULUS = 12289, BOUND = 3 };
+enum { DEGREE = 8, DEPTH = 3, BOUND = 3 };
 enum { TABLE = DEGREE << DEPTH };
 
+/* The largest modulus, 2^61 - 1. */
+#define MODULUS WOVENROCK_MODULUS_MAX
 #define SETTINGS DEGREE, DEPTH, MODULUS, BOUND
 
 /* 0 says that the call was not refused, and nothing more. */
@@ -21,22 +23,22 @@ static void not_refused(const char *call, uint32_t number) {
 
 int main(void) {
     /* Any numbers in range. A real key is drawn at random. */
-    uint32_t key[TABLE], folded_key[TABLE];
+    uint64_t key[TABLE], folded_key[TABLE];
     int32_t message[TABLE];
     for (int i = 0; i < TABLE; i++) {
-        key[i] = (uint32_t)(i * i * i + 5) % MODULUS;
+        key[i] = MODULUS - 1 - (uint64_t)(i * i * i);
         message[i] = i % 7 - 3;
     }
     memcpy(folded_key, key, sizeof key);
 
-    uint32_t commitment[DEGREE];
+    uint64_t commitment[DEGREE];
     not_refused("commit", wovenrock_commit(SETTINGS, key, TABLE, message, TABLE, commitment, DEGREE));
-    uint32_t session[WOVENROCK_SESSION];
+    uint64_t session[WOVENROCK_SESSION];
     not_refused("start", wovenrock_session_start(SETTINGS, commitment, DEGREE, session, WOVENROCK_SESSION));
 
     uint32_t verdict;
     for (uint32_t done = 0; done < DEPTH; done++) {
-        uint32_t polynomial[3 * DEGREE];
+        uint64_t polynomial[3 * DEGREE];
         not_refused("round", wovenrock_round(SETTINGS, done, folded_key, TABLE, message, TABLE, polynomial, 3 * DEGREE));
         /* The verifier draws this once it has the polynomial; here it is fixed. */
         uint32_t challenge = (5 * done + 3) % (2 * DEGREE);

@@ -1,5 +1,6 @@
 /* Tables as text: reads a transcript with its key from standard input, takes it apart into tables, and writes the tables as text again. The text that comes
  * out is the text that went in, byte for byte: a table has one text. */
+#include <inttypes.h>
 #include <stdio.h>
 #include <stdlib.h>
 #include <string.h>
@@ -28,20 +29,21 @@ int main(void) {
     static uint8_t text[WOVENROCK_TEXT + 1], out[WOVENROCK_TEXT];
     size_t read = fread(text, 1, sizeof text, stdin);
 
-    uint32_t settings[WOVENROCK_SETTINGS];
+    uint64_t settings[WOVENROCK_SETTINGS];
     uint32_t number = wovenrock_look(text, read, settings, WOVENROCK_SETTINGS);
     if (number != WOVENROCK_NOT_REFUSED) {
         printf("look: refused %u: %s\n", number, wovenrock_word(number));
         return 1;
     }
-    uint32_t degree = settings[0], depth = settings[1], modulus = settings[2], bound = settings[3];
-    printf("degree %u, depth %u, modulus %u, bound %u\n", degree, depth, modulus, bound);
+    uint32_t degree = (uint32_t)settings[0], depth = (uint32_t)settings[1], bound = (uint32_t)settings[3];
+    uint64_t modulus = settings[2];
+    printf("degree %u, depth %u, modulus %" PRIu64 ", bound %u\n", degree, depth, modulus, bound);
 
     /* The settings give every length; the message is absent, and its slice has length 0. */
     size_t table = wovenrock_table_length(degree, depth), element = wovenrock_element_length(degree);
     size_t rounds_length = wovenrock_rounds_length(degree, depth), challenges_length = wovenrock_challenges_length(depth);
-    uint32_t *key = room(table, sizeof *key), *commitment = room(element, sizeof *commitment);
-    uint32_t *rounds = room(rounds_length, sizeof *rounds), *challenges = room(challenges_length, sizeof *challenges);
+    uint64_t *key = room(table, sizeof *key), *commitment = room(element, sizeof *commitment), *rounds = room(rounds_length, sizeof *rounds);
+    uint32_t *challenges = room(challenges_length, sizeof *challenges);
     int32_t *last = room(element, sizeof *last), *message = room(0, sizeof *message);
     uint32_t parts = WOVENROCK_KEY | WOVENROCK_COMMITMENT | WOVENROCK_ROUNDS | WOVENROCK_CHALLENGES | WOVENROCK_LAST;
     number = wovenrock_read(parts, text, read, settings, WOVENROCK_SETTINGS, key, table, message, 0, commitment, element, rounds, rounds_length, challenges,
@@ -52,7 +54,7 @@ int main(void) {
     }
     printf("commitment:");
     for (size_t k = 0; k < element; k++)
-        printf(" %u", commitment[k]);
+        printf(" %" PRIu64, commitment[k]);
     printf("\n");
 
     size_t written;

@@ -38,7 +38,7 @@ def flat(rows):
 
 def main(path):
     library = Library(path)
-    # Twice the bound of an extracted vector, 2 * (12*2*2)^2 * 1 = 4608, is below the modulus, so that the opening binds.
+    # Twice the bound of an extracted vector, 2 * (8*2*2)^2 * 1 = 2048, is below the modulus, so that the opening binds.
     settings = library.settings(2, 2, 12289, 1)
     commitment = library.commit(settings, KEY, MESSAGE)
     print("commitment:", *commitment)

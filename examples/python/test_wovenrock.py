@@ -71,6 +71,21 @@ class WorkedExample(unittest.TestCase):
         listing = {name: TRANSCRIPT[name] for name in ("commitment", "rounds", "challenges", "last")}
         self.assertEqual(self.library.prove(asked), self.library.write(self.settings, listing))
 
+    def test_largest_modulus(self):
+        library, q = self.library, 2**61 - 1
+        settings = library.settings(2, 1, q, 1)
+        self.refused(5, library.settings, 2, 1, q + 2, 1)
+        self.refused(5, library.settings, 2, 1, 2**64 - 1, 1)
+        key = [q - 1, q - 2, 7, 2**60]
+        opened = library.open(settings, key, MESSAGE, [3])
+        self.assertTrue(opened.accepted)
+        self.assertTrue(library.check(settings, opened.commitment, opened.last, key, opened.rounds, [3]))
+        text = library.write(settings, {"key": key, "commitment": opened.commitment})
+        self.assertEqual(library.read(text, ["key", "commitment"])[1]["key"], key)
+        record = library.start(settings, opened.commitment)
+        record[0] += 2**32
+        self.refused(3, library.session_round, record, opened.rounds, 3)
+
     def test_lengths(self):
         self.refused(7, self.library.commit, self.settings, KEY + [0], MESSAGE)
         self.refused(7, self.library.start, self.settings, [15])

@@ -58,9 +58,10 @@ def _numbers(kind, low, high):
 
 
 _u32 = _numbers(ctypes.c_uint32, 0, 2**32 - 1)
+_u64 = _numbers(ctypes.c_uint64, 0, 2**64 - 1)
 _i32 = _numbers(ctypes.c_int32, -(2**31), 2**31 - 1)
 _i64 = _numbers(ctypes.c_int64, -(2**63), 2**63 - 1)
-_LEND = {"message": _i32, "last": _i32}
+_LEND = {"key": _u64, "message": _i32, "commitment": _u64, "rounds": _u64, "challenges": _u32, "last": _i32}
 
 
 def _lent(slices):
@@ -73,6 +74,13 @@ def _lent(slices):
 def _word(number):
     _u32([number])
     return ctypes.c_uint32(number)
+
+
+def _four(settings):
+    """The arguments for settings: the modulus alone has 64 bits."""
+    degree, depth, modulus, bound = settings
+    _u64([modulus])
+    return _word(degree), _word(depth), ctypes.c_uint64(modulus), _word(bound)
 
 
 def _taken(slice_):
@@ -95,84 +103,84 @@ class Library:
 
     def settings(self, degree, depth, modulus, bound):
         """Settings, refused by 3 to 6."""
-        self._call("settings", *map(_word, (degree, depth, modulus, bound)))
+        self._call("settings", *_four((degree, depth, modulus, bound)))
         return Settings(degree, depth, modulus, bound)
 
     def commit(self, settings, key, message):
         """The commitment. Refusals 7 to 9."""
-        out = _u32([0] * settings.element)
-        self._call("commit", *map(_word, settings), *_lent([_u32(key), _i32(message), out]))
+        out = _u64([0] * settings.element)
+        self._call("commit", *_four(settings), *_lent([_u64(key), _i32(message), out]))
         return _taken(out)
 
     def round(self, settings, done, key, message):
         """The round polynomial of round done + 1. Refusals 7 to 9, 11."""
-        out = _u32([0] * settings.polynomial)
-        self._call("round", *map(_word, (*settings, done)), *_lent([_u32(key), _i32(message), out]))
+        out = _u64([0] * settings.polynomial)
+        self._call("round", *_four(settings), _word(done), *_lent([_u64(key), _i32(message), out]))
         return _taken(out)
 
     def fold(self, settings, done, exponent, key, message):
         """Key and message, folded by X^exponent; the lists that are given stay. Refusals 7 to 11."""
-        key, message = _u32(key), _i32(message)
-        self._call("fold", *map(_word, (*settings, done, exponent)), *_lent([key, message]))
+        key, message = _u64(key), _i32(message)
+        self._call("fold", *_four(settings), _word(done), _word(exponent), *_lent([key, message]))
         return _taken(key), _taken(message)
 
     def end(self, settings, done, message):
         """The final element of a message that was folded to its end. Refusals 7, 9, 11."""
         out = _i32([0] * settings.element)
-        self._call("end", *map(_word, (*settings, done)), *_lent([_i32(message), out]))
+        self._call("end", *_four(settings), _word(done), *_lent([_i32(message), out]))
         return _taken(out)
 
     def open(self, settings, key, message, challenges):
         """The whole opening. Refusals 7 to 10."""
-        key, message, rounds = _u32(key), _i32(message), _u32([0] * settings.rounds)
-        commitment, last = _u32([0] * settings.element), _i32([0] * settings.element)
+        key, message, rounds = _u64(key), _i32(message), _u64([0] * settings.rounds)
+        commitment, last = _u64([0] * settings.element), _i32([0] * settings.element)
         verdict = ctypes.c_uint32()
         slices = [key, message, _u32(challenges), rounds, commitment, last]
-        self._call("open", *map(_word, settings), *_lent(slices), ctypes.byref(verdict))
+        self._call("open", *_four(settings), *_lent(slices), ctypes.byref(verdict))
         return Opened(*map(_taken, (commitment, rounds, last)), verdict.value == ACCEPTED, *map(_taken, (key, message)))
 
     def start(self, settings, commitment):
         """A session's record, 78 numbers, to be kept by the caller. Refusals 7, 8."""
-        record = _u32([0] * RECORD)
-        self._call("session_start", *map(_word, settings), *_lent([_u32(commitment), record]))
+        record = _u64([0] * RECORD)
+        self._call("session_start", *_four(settings), *_lent([_u64(commitment), record]))
         return _taken(record)
 
     def session_round(self, record, polynomial, exponent):
         """The next record, and whether the round holds. Refusals 3 to 8, 10, 11."""
-        record, verdict = _u32(record), ctypes.c_uint32()
-        self._call("session_round", *_lent([_u32(polynomial)]), _word(exponent), *_lent([record]), ctypes.byref(verdict))
+        record, verdict = _u64(record), ctypes.c_uint32()
+        self._call("session_round", *_lent([_u64(polynomial)]), _word(exponent), *_lent([record]), ctypes.byref(verdict))
         return _taken(record), verdict.value == HOLDS
 
     def session_end(self, record, last, key):
         """The closed record, and whether the opening is accepted. Refusals 3 to 8, 10, 11."""
-        record, verdict = _u32(record), ctypes.c_uint32()
-        self._call("session_end", *_lent([_i32(last), _u32(key), record]), ctypes.byref(verdict))
+        record, verdict = _u64(record), ctypes.c_uint32()
+        self._call("session_end", *_lent([_i32(last), _u64(key), record]), ctypes.byref(verdict))
         return _taken(record), verdict.value == ACCEPTED
 
     def check(self, settings, commitment, last, key, rounds, challenges):
         """Whether a transcript is accepted. Refusals 7, 8, 10."""
         verdict = ctypes.c_uint32()
-        slices = [_u32(commitment), _i32(last), _u32(key), _u32(rounds), _u32(challenges)]
-        self._call("check", *map(_word, settings), *_lent(slices), ctypes.byref(verdict))
+        slices = [_u64(commitment), _i32(last), _u64(key), _u64(rounds), _u32(challenges)]
+        self._call("check", *_four(settings), *_lent(slices), ctypes.byref(verdict))
         return verdict.value == ACCEPTED
 
     def judge(self, settings, commitment, slack, key, w):
         """Whether w opens slack times the commitment within its bound. Refusals 7, 8, 14, and 15, also where the slack shares a factor with q."""
         yes = ctypes.c_uint32()
-        arguments = (*_lent([_u32(commitment)]), _word(slack), *_lent([_u32(key), _i64(w)]))
-        self._call("judge", *map(_word, settings), *arguments, ctypes.byref(yes))
+        arguments = (*_lent([_u64(commitment)]), _word(slack), *_lent([_u64(key), _i64(w)]))
+        self._call("judge", *_four(settings), *arguments, ctypes.byref(yes))
         return yes.value == 1
 
     def extract(self, settings, commitment, key, rounds, challenges, leaves):
         """The vector w of a full tree of accepted transcripts. Refusals 7, 8, 10, 12, 13, 14."""
         w = _i64([0] * settings.table)
-        slices = [_u32(commitment), _u32(key), _u32(rounds), _u32(challenges), _i32(leaves), w]
-        self._call("extract", *map(_word, settings), *_lent(slices))
+        slices = [_u64(commitment), _u64(key), _u64(rounds), _u32(challenges), _i32(leaves), w]
+        self._call("extract", *_four(settings), *_lent(slices))
         return _taken(w)
 
     def look(self, text):
         """The settings of a text, which is bytes. Refusals 1 to 6."""
-        out = _u32([0] * 4)
+        out = _u64([0] * 4)
         self._call("look", bytes(text), ctypes.c_size_t(len(text)), *_lent([out]))
         return Settings(*_taken(out))
 
@@ -180,8 +188,8 @@ class Library:
         """The settings of a text, and a dictionary of the parts that are named; the text has these and no others. Refusals 1 to 10."""
         found = self.look(text)
         lengths = dict(zip(PARTS, (found.table, found.table, found.element, found.rounds, found.challenges, found.element)))
-        tables = {name: _LEND.get(name, _u32)([0] * (lengths[name] if name in parts else 0)) for name in PARTS}
-        out = _u32([0] * 4)
+        tables = {name: _LEND[name]([0] * (lengths[name] if name in parts else 0)) for name in PARTS}
+        out = _u64([0] * 4)
         slices = [out, *tables.values()]
         self._call("read", _bits(parts), bytes(text), ctypes.c_size_t(len(text)), *_lent(slices))
         return Settings(*_taken(out)), {name: _taken(tables[name]) for name in PARTS if name in parts}
@@ -189,9 +197,9 @@ class Library:
     def write(self, settings, tables):
         """The text, as bytes, of the tables in a dictionary. Refusals 7 to 10, then 1."""
         out, count = ctypes.create_string_buffer(LONGEST_TEXT), ctypes.c_size_t()
-        slices = [_LEND.get(name, _u32)(tables.get(name, [])) for name in PARTS]
+        slices = [_LEND[name](tables.get(name, [])) for name in PARTS]
         self._call(
-            "write", *map(_word, settings), _bits(tables), *_lent(slices), out, ctypes.c_size_t(LONGEST_TEXT), ctypes.byref(count)
+            "write", *_four(settings), _bits(tables), *_lent(slices), out, ctypes.c_size_t(LONGEST_TEXT), ctypes.byref(count)
         )
         return out.raw[: count.value]
 

@@ -2,10 +2,10 @@
 //! input. Refusal 13, which runs the verifier, is left to the extractor.
 
 use crate::refuse::{self, Checked, Shape};
-use crate::types::{Polynomial, Record, Residues, Settings};
+use crate::types::{Polynomial, Record, Residue, Residues, Settings};
 
 /// Call 1.
-pub fn commit(s: Settings, key: &[u32], message: &[i32]) -> Checked<Shape> {
+pub fn commit(s: Settings, key: &[Residue], message: &[i32]) -> Checked<Shape> {
     let shape = refuse::settings(s)?;
     refuse::sizes(&[(key.len(), shape.table()), (message.len(), shape.table())])?;
     refuse::residues(key, shape.q)?;
@@ -22,7 +22,7 @@ fn tall_left(shape: &Shape, t: u32, message: &[i32]) -> Checked<()> {
 
 /// Refusals 3 to 9 of the prover's round and fold; 9 is not tested with t at
 /// or over L.
-fn both_tables(s: Settings, t: u32, key: &[u32], message: &[i32]) -> Checked<Shape> {
+fn both_tables(s: Settings, t: u32, key: &[Residue], message: &[i32]) -> Checked<Shape> {
     let shape = refuse::settings(s)?;
     refuse::sizes(&[(key.len(), shape.table()), (message.len(), shape.table())])?;
     refuse::residues(key, shape.q)?;
@@ -33,14 +33,14 @@ fn both_tables(s: Settings, t: u32, key: &[u32], message: &[i32]) -> Checked<Sha
 }
 
 /// Call 2.
-pub fn prover_round(s: Settings, t: u32, key: &[u32], message: &[i32]) -> Checked<Shape> {
+pub fn prover_round(s: Settings, t: u32, key: &[Residue], message: &[i32]) -> Checked<Shape> {
     let shape = both_tables(s, t, key, message)?;
     refuse::turn(t < s.depth)?;
     Ok(shape)
 }
 
 /// Call 3.
-pub fn fold(s: Settings, t: u32, e: u32, key: &[u32], message: &[i32]) -> Checked<Shape> {
+pub fn fold(s: Settings, t: u32, e: u32, key: &[Residue], message: &[i32]) -> Checked<Shape> {
     let shape = both_tables(s, t, key, message)?;
     refuse::challenges(&[e], &shape)?;
     refuse::turn(t < s.depth)?;
@@ -61,10 +61,10 @@ pub fn prover_end(s: Settings, t: u32, message: &[i32]) -> Checked<Shape> {
 /// Call 5. The rounds' table is only written, so its numbers are not tested.
 pub fn opening(
     s: Settings,
-    key: &[u32],
+    key: &[Residue],
     message: &[i32],
     challenges: &[u32],
-    rounds: &[u32],
+    rounds: &[Residue],
 ) -> Checked<Shape> {
     let shape = refuse::settings(s)?;
     refuse::sizes(&[
@@ -100,7 +100,7 @@ pub fn session_round(record: &Record, polynomial: &Polynomial, e: u32) -> Checke
 }
 
 /// Call 8.
-pub fn session_end(record: &Record, key: &[u32]) -> Checked<Shape> {
+pub fn session_end(record: &Record, key: &[Residue]) -> Checked<Shape> {
     let shape = refuse::settings(record.settings)?;
     refuse::sizes(&[(key.len(), shape.table())])?;
     refuse::residues(key, shape.q)?;
@@ -114,8 +114,8 @@ pub fn session_end(record: &Record, key: &[u32]) -> Checked<Shape> {
 pub fn check(
     s: Settings,
     commitment: &Residues,
-    key: &[u32],
-    rounds: &[u32],
+    key: &[Residue],
+    rounds: &[Residue],
     challenges: &[u32],
 ) -> Checked<Shape> {
     let shape = refuse::settings(s)?;
@@ -136,7 +136,7 @@ pub fn judge(
     s: Settings,
     commitment: &Residues,
     c: u32,
-    key: &[u32],
+    key: &[Residue],
     w: &[i64],
 ) -> Checked<(Shape, i64)> {
     let shape = refuse::settings(s)?;
@@ -152,8 +152,8 @@ pub fn judge(
 pub fn tree(
     s: Settings,
     commitment: &Residues,
-    key: &[u32],
-    rounds: &[u32],
+    key: &[Residue],
+    rounds: &[Residue],
     challenges: &[u32],
     leaves: &[i32],
     w: &[i64],

@@ -1,6 +1,8 @@
 //! A small deterministic random generator (splitmix64): the same seed gives
 //! the same draws everywhere.
 
+use crate::types::Residue;
+
 pub struct Random {
     state: u64,
 }
@@ -31,8 +33,8 @@ impl Random {
     }
 
     /// A residue from 0 to q-1.
-    pub fn residue(&mut self, q: u32) -> u32 {
-        (self.word() % u64::from(q)) as u32
+    pub fn residue(&mut self, q: Residue) -> Residue {
+        self.word() % q
     }
 
     pub fn pick<T: Copy>(&mut self, list: &[T]) -> T {

@@ -1,7 +1,7 @@
 //! The table of refusals. Every test answers `Err(number)` when its refusal
 //! applies; the calls run the tests in number order over their whole input.
 
-use crate::types::{Residues, Settings};
+use crate::types::{Residue, Residues, Settings, LARGEST_MODULUS};
 
 pub const LONG: u32 = 1;
 pub const TEXT: u32 = 2;
@@ -32,7 +32,7 @@ pub struct Shape {
     /// Elements of a table, 2^L.
     pub n: usize,
     /// Modulus.
-    pub q: u32,
+    pub q: Residue,
     /// Bound.
     pub b: i64,
 }
@@ -76,7 +76,7 @@ fn unless(number: u32, fine: bool) -> Checked<()> {
 pub fn settings(s: Settings) -> Checked<Shape> {
     unless(DEGREE, matches!(s.degree, 2 | 4 | 8 | 16 | 32 | 64))?;
     unless(DEPTH, s.depth <= 8)?;
-    let in_range = (3..=2_147_483_647).contains(&s.modulus);
+    let in_range = (3..=LARGEST_MODULUS).contains(&s.modulus);
     unless(MODULUS, in_range && s.modulus % 2 == 1)?;
     unless(BOUND, (1..=127).contains(&s.bound))?;
     Ok(Shape {
@@ -93,9 +93,11 @@ pub fn sizes(pairs: &[(usize, usize)]) -> Checked<()> {
     unless(SIZE, pairs.iter().all(|(found, wanted)| found == wanted))
 }
 
-/// Refusal 8 for one table.
-pub fn residues(table: &[u32], q: u32) -> Checked<()> {
-    unless(RESIDUE, !table.iter().fold(false, |bad, &x| bad | (x >= q)))
+/// Refusal 8 for one table. A number of q or more has its highest bit set, or
+/// gives one that has when it is taken from q - 1; no other number does.
+pub fn residues(table: &[Residue], q: Residue) -> Checked<()> {
+    let bits = |bits, &x: &Residue| bits | x | (q - 1).wrapping_sub(x);
+    unless(RESIDUE, table.iter().fold(0, bits) >> 63 == 0)
 }
 
 /// Refusal 8 for an element by value: places from the degree on are not read.
@@ -104,15 +106,14 @@ pub fn element_residues(element: &Residues, shape: &Shape) -> Checked<()> {
 }
 
 /// Refusal 9: every coefficient within plus or minus `bound`.
-pub fn tall(coefficients: &[i32], bound: i64) -> Checked<()> {
+pub fn tall<T: Copy + Into<i64>>(coefficients: &[T], bound: i64) -> Checked<()> {
     unless(TALL, within(coefficients, bound))
 }
 
 /// Whether no coefficient is beyond plus or minus `bound`.
-pub fn within(coefficients: &[i32], bound: i64) -> bool {
-    coefficients
-        .iter()
-        .all(|&x| -bound <= i64::from(x) && i64::from(x) <= bound)
+pub fn within<T: Copy + Into<i64>>(coefficients: &[T], bound: i64) -> bool {
+    let within = |x: i64| -bound <= x && x <= bound;
+    coefficients.iter().all(|&x| within(x.into()))
 }
 
 /// Refusal 10 for a list of exponents.
@@ -151,7 +152,7 @@ pub fn growth(shape: &Shape) -> Checked<i64> {
 }
 
 /// The greatest common divisor.
-pub fn common_divisor(a: u32, b: u32) -> u32 {
+pub fn common_divisor(a: Residue, b: Residue) -> Residue {
     if b == 0 {
         a
     } else {
@@ -162,5 +163,5 @@ pub fn common_divisor(a: u32, b: u32) -> u32 {
 /// Refusal 15: the slack is from 1 to 65,536 and shares no factor with q.
 pub fn slack(c: u32, shape: &Shape) -> Checked<()> {
     unless(SLACK, (1..=65_536).contains(&c))?;
-    unless(SLACK, common_divisor(c, shape.q) == 1)
+    unless(SLACK, common_divisor(Residue::from(c), shape.q) == 1)
 }

@@ -9,8 +9,19 @@ pub const ROUNDS: usize = 8;
 /// Longest text that is read or written, in bytes.
 pub const LONGEST_TEXT: usize = 65_536;
 
+/// A coefficient modulo q, and the modulus itself.
+pub type Residue = u64;
+
+/// The largest modulus, 2^61 - 1.
+pub const LARGEST_MODULUS: Residue = 2_305_843_009_213_693_951;
+
+/// The largest magnitude of a value in a text that is no value of a message, a
+/// challenge or a final element; of these, and the largest part, item and place.
+pub const LARGEST_VALUE: u64 = 2_305_843_009_213_693_951;
+pub const LARGEST_NARROW: u64 = 2_147_483_647;
+
 /// An element modulo q by value; places from the degree on are 0 when new.
-pub type Residues = [u32; PLACES];
+pub type Residues = [Residue; PLACES];
 
 /// An element over whole numbers by value.
 pub type Wholes = [i32; PLACES];
@@ -37,12 +48,12 @@ pub const REJECTED: u32 = 3;
 pub struct Settings {
     pub degree: u32,
     pub depth: u32,
-    pub modulus: u32,
+    pub modulus: Residue,
     pub bound: u32,
 }
 
 impl Settings {
-    pub fn new(degree: u32, depth: u32, modulus: u32, bound: u32) -> Settings {
+    pub fn new(degree: u32, depth: u32, modulus: Residue, bound: u32) -> Settings {
         Settings {
             degree,
             depth,

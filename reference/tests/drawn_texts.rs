@@ -121,8 +121,10 @@ fn round_trip() {
 
 #[test]
 fn longest_texts() {
-    for (length, number) in [(65_535, 0), (65_536, 0), (65_537, 1), (65_538, 1)] {
-        let (settings, parts, tables) = text::tables_of_length(length);
+    let lengths = [(65_535, 0), (65_536, 0), (65_537, 1), (65_538, 1)];
+    let at = |q: Residue| lengths.map(|(length, number)| (length, number, q));
+    for (length, number, q) in [at((1 << 31) - 1), at(LARGEST_MODULUS)].concat() {
+        let (settings, parts, tables) = text::tables_of_length(length, q);
         let text = text::lines(settings, &tables).concat();
         assert_eq!(text.len(), length);
         let mut out = vec![170; 70_000];

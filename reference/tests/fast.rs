@@ -1,5 +1,6 @@
 //! `fast` gives what `plain` gives, refusals included.
 
+use reference::draw::base::settings;
 use reference::draw::tables::{self, opening_at, CommitInput};
 use reference::draw::text::{self, Tables, TextInput};
 use reference::draw::transcript::Transcript;
@@ -9,6 +10,14 @@ use reference::random::Random;
 use reference::refuse::Checked;
 use reference::types::*;
 use reference::{fast, plain};
+
+/// Each size with the largest modulus of 31 bits, the next and the last of
+/// all.
+fn with_moduli<T: Copy>(sizes: &[T]) -> Vec<(T, Residue)> {
+    let moduli = [(1 << 31) - 1, (1 << 31) + 1, LARGEST_MODULUS];
+    let at = |&q: &Residue| sizes.iter().map(move |&size| (size, q));
+    moduli.iter().flat_map(at).collect()
+}
 
 /// Mostly small sizes, at times large ones.
 fn limits(i: usize) -> Limits {
@@ -57,11 +66,11 @@ fn assert_same_opening(input: &tables::OpeningInput) {
 #[test]
 fn openings_with_the_largest_numbers() {
     let mut random = Random::new(53);
-    for (degree, depth) in [(64, 8), (64, 4), (2, 8), (32, 0)] {
-        let s = Settings::new(degree, depth, 2_147_483_647, 127);
+    for ((degree, depth), q) in with_moduli(&[(64, 8), (64, 4), (2, 8), (32, 0)]) {
+        let s = Settings::new(degree, depth, q, 127);
         for sign in [1, -1] {
             let mut input = opening_at(&mut random, s);
-            input.key.fill(2_147_483_646);
+            input.key.fill(q - 1);
             input.message.fill(127 * sign);
             input.challenges.fill(random.pick(&[0, degree]));
             assert_same_opening(&input);
@@ -100,7 +109,12 @@ fn judgements() {
     let mut random = Random::new(55);
     for i in 0..4000 {
         let size = if i % 10 == 0 { 4096 } else { 256 };
-        let (mut x, _) = tables::judge(&mut random, &Limits::new(size, 0));
+        let (mut x, _) = if random.one_in(4) {
+            let s = settings(&mut random, &Limits::new(size, 0), false);
+            tables::judge_any_at(&mut random, s)
+        } else {
+            tables::judge(&mut random, &Limits::new(size, 0))
+        };
         damage_some(&mut random, &mut x);
         assert_eq!(
             fast::judge(x.settings, x.commitment, x.c, &x.key, &x.w),
@@ -111,24 +125,22 @@ fn judgements() {
 
 #[test]
 fn judgements_with_the_largest_numbers() {
-    for (degree, depth, bound) in [(4, 8, 64), (16, 5, 127), (32, 4, 127), (64, 4, 4)] {
-        let s = Settings::new(degree, depth, 2_147_483_647, bound);
+    let sizes = [(4, 8, 64), (16, 5, 127), (32, 4, 127), (64, 4, 4)];
+    for ((degree, depth, bound), q) in with_moduli(&sizes) {
+        let s = Settings::new(degree, depth, q, bound);
         let size = (degree as usize) << depth;
-        let key = vec![2_147_483_646; size];
+        let key = vec![q - 1; size];
         let most = (8 * i64::from(degree * degree)).pow(depth) * i64::from(bound);
-        for x in [most, -most, most - most % 2_147_483_647 - 1] {
+        for x in [most, -most, most - most % q as i64 - 1] {
             let w = vec![x; size];
             // The commitment with slack 1 is the sum itself.
             let elements = plain::ring::elements(&w, degree as usize);
             let key_elements = plain::ring::elements(&key, degree as usize);
             let d = degree as usize;
-            let sum = plain::ring::inner_product(&elements, &key_elements, d);
+            let sum = plain::ring::inner_product_modulo(&elements, &key_elements, d, q);
             let mut commitment = ZERO_RESIDUES;
-            for (place, x) in commitment
-                .iter_mut()
-                .zip(plain::ring::reduce(&sum, s.modulus))
-            {
-                *place = x as u32;
+            for (place, x) in commitment.iter_mut().zip(sum) {
+                *place = x as Residue;
             }
             assert!(fast::judge(s, commitment, 1, &key, &w).yes);
             assert!(plain::judge(s, commitment, 1, &key, &w).yes);
@@ -193,8 +205,9 @@ fn extractions_with_one_wrong_leaf() {
 #[test]
 fn extractions_at_the_largest_sizes() {
     let mut random = Random::new(58);
-    for (degree, depth, bound) in [(2, 8, 127), (4, 8, 2), (8, 6, 5), (16, 5, 16), (32, 4, 127)] {
-        let s = Settings::new(degree, depth, 2_147_483_647, bound);
+    let sizes = [(2, 8, 127), (4, 8, 2), (8, 6, 5), (16, 5, 16), (32, 4, 127)];
+    for ((degree, depth, bound), q) in with_moduli(&sizes) {
+        let s = Settings::new(degree, depth, q, bound);
         let mut input = tree::free_at(&mut random, s);
         let most = input.shape.final_bound() as i32;
         input.leaves.iter_mut().for_each(|x| *x = most);
@@ -282,8 +295,8 @@ fn writers() {
         }
         write_both(&input);
     }
-    for length in [65_535, 65_536, 65_537] {
-        let (settings, parts, tables) = text::tables_of_length(length);
+    for (length, q) in with_moduli(&[65_535, 65_536, 65_537]) {
+        let (settings, parts, tables) = text::tables_of_length(length, q);
         for room in [0, length - 1, length, length + 1] {
             write_both(&text::WriteInput {
                 shape: reference::draw::base::shape(settings),

@@ -4,14 +4,14 @@ use reference::plain::ring::{doubled_inverse, element, multiply, power, subtract
 use reference::plain::*;
 use reference::types::*;
 
-const KEY: [u32; 4] = [3, 5, 7, 2];
+const KEY: [Residue; 4] = [3, 5, 7, 2];
 const MESSAGE: [i32; 4] = [1, -1, 1, 0];
 
 fn listing() -> Settings {
     Settings::new(2, 1, 17, 1)
 }
 
-fn residues(values: &[u32]) -> Residues {
+fn residues(values: &[Residue]) -> Residues {
     let mut places = ZERO_RESIDUES;
     places[..values.len()].copy_from_slice(values);
     places
@@ -232,4 +232,40 @@ fn known_exponents() {
 fn exponents_0_and_d_differ() {
     assert_eq!(doubled_inverse(4, 0, 4), element(&[1, 0, 0, 0]));
     assert_eq!(doubled_inverse(4, 4, 0), element(&[-1, 0, 0, 0]));
+}
+
+#[test]
+fn largest_modulus() {
+    let number = |q| refusals::settings(Settings::new(2, 1, q, 1));
+    for q in [3, 17, 4_294_967_295, 4_294_967_297, LARGEST_MODULUS] {
+        assert_eq!(number(q), 0, "{q}");
+    }
+    for q in [
+        0,
+        1,
+        2,
+        1 << 32,
+        1 << 61,
+        (1 << 61) + 1,
+        (1 << 63) + 1,
+        u64::MAX,
+    ] {
+        assert_eq!(number(q), 5, "{q}");
+    }
+}
+
+/// The listing's key and message with the largest modulus: half is 2^60.
+#[test]
+fn listing_with_the_largest_modulus() {
+    const Q: Residue = LARGEST_MODULUS;
+    let s = Settings::new(2, 1, Q, 1);
+    let (mut key, mut message) = (KEY, MESSAGE);
+    let mut rounds = [0; 6];
+    let answer = whole_opening(s, &mut key, &mut message, &[1], &mut rounds);
+    assert_eq!((answer.number, answer.verdict), (0, ACCEPTED));
+    assert_eq!(answer.commitment, residues(&[15, 4]));
+    // Half of 8 2, of 12 0 and of 7 2.
+    assert_eq!(rounds, [4, 1, 6, 0, (1 << 60) + 3, 1]);
+    assert_eq!(answer.final_element, wholes(&[1, 0]));
+    assert_eq!(key, [1, 12, 7, 2]);
 }

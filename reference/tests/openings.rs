@@ -64,7 +64,12 @@ fn honest_openings_are_accepted() {
 }
 
 /// Calls on the tables that are refused, whatever turn it is.
-fn refused_prover_calls(random: &mut Random, s: Settings, key: &mut [u32], message: &mut [i32]) {
+fn refused_prover_calls(
+    random: &mut Random,
+    s: Settings,
+    key: &mut [Residue],
+    message: &mut [i32],
+) {
     while random.one_in(2) {
         let mut bad = s;
         let number = random.pick(&[3, 4, 5, 6]);

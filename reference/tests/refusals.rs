@@ -276,7 +276,7 @@ fn judgements() {
     // Slacks in range that share a factor with q: w with and without numbers
     // that are not 0.
     let mut shared = [0; 2];
-    for _ in 0..2 * DRAWS {
+    for _ in 0..4 * DRAWS {
         let (mut input, own) = tables::judge(&mut random, &Limits::new(1024, 0));
         let expected = smaller(own, damage_some(&mut random, &mut input));
         let answer = plain::judge(

@@ -131,6 +131,23 @@ fn shapes_of_lines() {
         ("2 1 1 0\n", "2 1 -1 0\n"),
         ("2 1 1 0\n", "-2 1 1 0\n"),
         ("2 1 1 0\n", "2 1 4294967297 0\n"),
+        // By the line's part, also where the line is not wanted.
+        ("5 0 0 1\n", "5 0 0 2147483648\n"),
+        ("5 0 0 1\n", "5 0 0 1\n6 0 0 2147483648\n"),
+        ("5 0 0 1\n", "5 0 0 1\n6 0 0 -2305843009213693951\n"),
+        ("5 0 0 1\n", "5 0 0 1\n2 0 0 4294967296\n"),
+        ("5 0 0 1\n", "5 0 0 1\n3 0 2147483648 1\n"),
+        ("5 0 0 1\n", "5 0 0 1\n7 0 0 2305843009213693952\n"),
+        ("1 0 0 3\n", "1 0 0 2305843009213693952\n"),
+        ("1 0 0 3\n", "1 0 0 -2305843009213693952\n"),
+        ("1 0 0 3\n", "1 0 0 9223372036854775808\n"),
+        ("1 0 0 3\n", "1 0 0 10000000000000000000\n"),
+        ("1 0 0 3\n", "1 0 0 18446744073709551617\n"),
+        ("1 0 0 3\n", "1 0 2147483648 3\n"),
+        ("1 0 0 3\n", "1 2147483648 0 3\n"),
+        ("0 0 2 17\n", "0 0 2 2305843009213693952\n"),
+        ("0 0 2 17\n", "0 0 2 2305843009213693953\n"),
+        ("0 0 0 2\n", "0 0 0 18446744073709551618\n"),
         ("5 0 0 1\n", "5 0 0 1"),
         ("5 0 0 1\n", "5 0 0 1\n\n"),
         ("5 0 0 1\n", "5 0 0 x\n"),
@@ -165,6 +182,18 @@ fn settings_of_a_text() {
         ("0 0 3 1\n", "0 0 3 0\n", 6),
         ("0 0 3 1\n", "0 0 3 -1\n", 6),
         ("0 0 3 1\n", "0 0 3 128\n", 6),
+        // As far as a value goes; a number of 32 bits would hold 2, 1, 17, 1.
+        ("0 0 0 2\n", "0 0 0 4294967298\n", 3),
+        ("0 0 0 2\n", "0 0 0 2305843009213693951\n", 3),
+        ("0 0 0 2\n", "0 0 0 -2305843009213693951\n", 3),
+        ("0 0 1 1\n", "0 0 1 4294967297\n", 4),
+        ("0 0 1 1\n", "0 0 1 2147483648\n", 4),
+        ("0 0 2 17\n", "0 0 2 2305843009213693950\n", 5),
+        ("0 0 2 17\n", "0 0 2 -2305843009213693951\n", 5),
+        ("0 0 2 17\n", "0 0 2 4294967313\n", 0),
+        ("0 0 2 17\n", "0 0 2 2305843009213693951\n", 0),
+        ("0 0 3 1\n", "0 0 3 4294967297\n", 6),
+        ("0 0 3 1\n", "0 0 3 2305843009213693951\n", 6),
     ] {
         assert_eq!(
             prove_number(&INPUT.replacen(old, new, 1)),
@@ -188,6 +217,14 @@ fn required_lines_and_values() {
         ("1 0 0 3\n", "3 0 0 3\n", 7),
         ("1 0 0 3\n", "1 0 0 17\n", 8),
         ("1 0 0 3\n", "1 0 0 -3\n", 8),
+        ("1 0 0 3\n", "1 0 0 2147483648\n", 8),
+        ("1 0 0 3\n", "1 0 0 4294967299\n", 8),
+        ("1 0 0 3\n", "1 0 0 2305843009213693951\n", 8),
+        ("1 0 0 3\n", "1 0 0 -2305843009213693951\n", 8),
+        ("2 0 0 1\n", "2 0 0 2147483647\n", 9),
+        ("5 0 0 1\n", "5 0 0 1\n6 0 0 -2147483647\n", 7),
+        ("5 0 0 1\n", "5 0 0 1\n7 0 0 -2305843009213693951\n", 7),
+        ("5 0 0 1\n", "5 0 0 1\n3 0 2147483647 1\n", 7),
         ("2 0 0 1\n", "2 0 0 2\n", 9),
         ("2 0 0 1\n", "2 0 0 -2\n", 9),
         ("5 0 0 1\n", "5 0 0 4\n", 10),
@@ -248,7 +285,8 @@ fn reader_wants_its_tables() {
             assert_eq!(challenges, [1]);
         } else {
             assert_eq!(answer.settings, Settings::default());
-            assert!(key.iter().chain(&other).chain(&challenges).all(|&x| x == 9));
+            assert!(key.iter().chain(&other).all(|&x| x == 9));
+            assert!(challenges.iter().all(|&x| x == 9));
             assert!(message.iter().all(|&x| x == 9));
         }
         answer.number
@@ -261,10 +299,37 @@ fn reader_wants_its_tables() {
 }
 
 #[test]
+fn largest_residues() {
+    let s = Settings::new(2, 0, LARGEST_MODULUS, 1);
+    let parts = [true, false, true, false, false, false];
+    let key = [LARGEST_MODULUS - 1, 1 << 32];
+    let commitment = [0, 1 << 60];
+    let mut out = [170; 200];
+    let written = write(s, parts, &key, &[], &commitment, &[], &[], &[], &mut out);
+    let text = "part item place value\n0 0 0 2\n0 0 1 0\n0 0 2 2305843009213693951\n0 0 3 1\n\
+        1 0 0 2305843009213693950\n1 0 1 4294967296\n3 0 0 0\n3 0 1 1152921504606846976\n";
+    assert_eq!((written.number, written.length), (0, text.len()));
+    assert_eq!(&out[..text.len()], text.as_bytes());
+    let (mut a, mut b) = ([7; 2], [7; 2]);
+    let read = read(
+        parts,
+        text.as_bytes(),
+        &mut a,
+        &mut [],
+        &mut b,
+        &mut [],
+        &mut [],
+        &mut [],
+    );
+    assert_eq!((read.number, read.settings), (0, s));
+    assert_eq!((a, b), (key, commitment));
+}
+
+#[test]
 fn writer_tests_its_text_last() {
     let s = Settings::new(2, 0, 17, 1);
     let parts = [true, false, false, false, false, true];
-    let number = |s, key: &[u32], last: &[i32], room: usize| {
+    let number = |s, key: &[Residue], last: &[i32], room: usize| {
         let mut out = vec![170; room];
         let answer = write(s, parts, key, &[], &[], &[], &[], last, &mut out);
         if answer.number != 0 {
@@ -288,24 +353,30 @@ fn writer_tests_its_text_last() {
 #[test]
 fn text_of_65536_bytes() {
     // Only the key: one-digit values, then digits added up to the length.
-    let s = Settings::new(64, 6, 2_147_483_647, 1);
+    for (q, digits) in [(2_147_483_647, 9), (LARGEST_MODULUS, 18)] {
+        text_of_65536_bytes_at(Settings::new(64, 6, q, 1), digits);
+    }
+}
+
+/// The same with digits of a modulus.
+fn text_of_65536_bytes_at(s: Settings, digits: usize) {
     let parts = [true, false, false, false, false, false];
     let mut key = vec![0; 4096];
-    let length = |key: &[u32]| {
+    let length = |key: &[Residue]| {
         let mut out = vec![0; 70_000];
         write(s, parts, key, &[], &[], &[], &[], &[], &mut out).length
     };
     let mut missing = 65_536 - length(&key);
     for x in key.iter_mut() {
-        let more = missing.min(9);
-        *x = 10u32.pow(more as u32);
+        let more = missing.min(digits);
+        *x = 10u64.pow(more as u32);
         missing -= more;
     }
     let mut out = vec![170; 65_537];
     let answer = write(s, parts, &key, &[], &[], &[], &[], &[], &mut out);
     assert_eq!((answer.number, answer.length), (0, 65_536));
     assert_eq!(out[65_536], 170);
-    let reading = |text: &[u8], found: &mut [u32]| {
+    let reading = |text: &[u8], found: &mut [Residue]| {
         read(
             parts,
             text,

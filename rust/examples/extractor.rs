@@ -5,7 +5,7 @@
 use std::fmt::Write;
 use wovenrock::{commit, end, extract, fold, judge, round, Refusal, Settings};
 
-const KEY: [u32; 8] = [8121, 377, 5024, 11903, 1066, 9999, 42, 7310];
+const KEY: [u64; 8] = [8121, 377, 5024, 11903, 1066, 9999, 42, 7310];
 const MESSAGE: [i32; 8] = [1, -1, 0, 1, -1, 0, 1, 1];
 
 fn main() -> Result<(), Box<dyn std::error::Error>> {
@@ -16,7 +16,7 @@ fn main() -> Result<(), Box<dyn std::error::Error>> {
 /// The prover between two moves: a clone of it is what it is rewound to.
 #[derive(Clone)]
 struct Prover {
-    key: Vec<u32>,
+    key: Vec<u64>,
     message: Vec<i32>,
     done: u32,
 }
@@ -25,7 +25,7 @@ struct Prover {
 /// challenges, for each leaf a final element.
 struct Tree {
     settings: Settings,
-    rounds: Vec<u32>,
+    rounds: Vec<u64>,
     challenges: Vec<u32>,
     leaves: Vec<i32>,
 }
@@ -58,7 +58,7 @@ impl Tree {
 
 /// What is printed.
 pub fn report() -> Result<String, Box<dyn std::error::Error>> {
-    // Twice the bound of an extracted vector, 2·(12·2²)²·1 = 4608, is below
+    // Twice the bound of an extracted vector, 2·(8·2²)²·1 = 2048, is below
     // the modulus, so that the opening binds.
     let settings = Settings::new(2, 2, 12_289, 1)?;
     let mut said = String::new();

@@ -12,10 +12,11 @@ fn main() -> Result<(), Box<dyn std::error::Error>> {
 
 /// What is printed.
 pub fn report() -> Result<String, Box<dyn std::error::Error>> {
-    let settings = Settings::new(8, 3, 12_289, 3)?;
+    let q = Settings::LARGEST_MODULUS;
+    let settings = Settings::new(8, 3, q, 3)?;
     // Any numbers in range. A real key is drawn at random.
-    let numbers = 0..settings.table_len() as u32;
-    let key: Vec<u32> = numbers.clone().map(|i| (i * i * i + 5) % 12_289).collect();
+    let numbers = 0..settings.table_len() as u64;
+    let key: Vec<u64> = numbers.clone().map(|i| q - 1 - i * i * i).collect();
     let mut message: Vec<i32> = numbers.map(|i| (i % 7) as i32 - 3).collect();
     let mut folded_key = key.clone();
     let mut said = String::new();

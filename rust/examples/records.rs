@@ -41,7 +41,7 @@ pub fn report(text: &[u8]) -> Result<String, Box<dyn std::error::Error>> {
         ..TablesMut::default()
     };
     read(text, wanted)?;
-    let words: Vec<String> = commitment.iter().map(u32::to_string).collect();
+    let words: Vec<String> = commitment.iter().map(u64::to_string).collect();
     writeln!(said, "commitment: {}", words.join(" "))?;
 
     let mut out = vec![0; LONGEST_TEXT];

@@ -36,6 +36,19 @@
 //! # Ok::<(), wovenrock::Refusal>(())
 //! ```
 //!
+//! The modulus goes up to 2^61 − 1, and residues are numbers of 64 bits with
+//! every modulus:
+//!
+//! ```
+//! use wovenrock::{commit, Settings};
+//!
+//! let q = Settings::LARGEST_MODULUS;
+//! let settings = Settings::new(2, 1, q, 1)?;
+//! let commitment = commit(settings, &[3, 5, q - 7, 1 << 60], &[1, -1, 1, 0])?;
+//! assert_eq!(commitment, [1, (1 << 60) + 2]);
+//! # Ok::<(), wovenrock::Refusal>(())
+//! ```
+//!
 //! # A verification
 //!
 //! By a session, move by move, and by one check of the whole transcript:

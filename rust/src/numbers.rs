@@ -37,7 +37,7 @@ const DEGREE: usize = 64;
 /// assert_eq!(commitment, [8, 2]);
 /// # Ok::<(), wovenrock::Refusal>(())
 /// ```
-pub type Residues = Numbers<u32, DEGREE>;
+pub type Residues = Numbers<u64, DEGREE>;
 
 /// An element of whole numbers: a final element.
 ///
@@ -62,7 +62,7 @@ pub type Wholes = Numbers<i32, DEGREE>;
 /// assert_eq!((c0, c1, c2), (&[4, 1][..], &[6, 0][..], &[12, 1][..]));
 /// # Ok::<(), wovenrock::Refusal>(())
 /// ```
-pub type Polynomial = Numbers<u32, { 3 * DEGREE }>;
+pub type Polynomial = Numbers<u64, { 3 * DEGREE }>;
 
 impl<T: Copy + Default, const MOST: usize> Numbers<T, MOST> {
     /// As many zeros, to be lent to a call; `count` is a length that settings

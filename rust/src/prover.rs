@@ -14,7 +14,7 @@ use crate::{library, EndVerdict, Polynomial, Refusal, Residues, Settings, Wholes
 /// assert_eq!(commit(settings, &[3, 5, 7, 2], &[1, -1, 1, 2]), Err(Refusal::Tall));
 /// # Ok::<(), Refusal>(())
 /// ```
-pub fn commit(settings: Settings, key: &[u32], message: &[i32]) -> Result<Residues, Refusal> {
+pub fn commit(settings: Settings, key: &[u64], message: &[i32]) -> Result<Residues, Refusal> {
     let s = settings;
     let mut commitment = Residues::zeros(s.element_len());
     let written = commitment.lent();
@@ -51,7 +51,7 @@ pub fn commit(settings: Settings, key: &[u32], message: &[i32]) -> Result<Residu
 pub fn round(
     settings: Settings,
     done: u32,
-    key: &[u32],
+    key: &[u64],
     message: &[i32],
 ) -> Result<Polynomial, Refusal> {
     let s = settings;
@@ -94,7 +94,7 @@ pub fn fold(
     settings: Settings,
     done: u32,
     exponent: u32,
-    key: &mut [u32],
+    key: &mut [u64],
     message: &mut [i32],
 ) -> Result<(), Refusal> {
     let s = settings;
@@ -190,10 +190,10 @@ pub struct Opened {
 /// ```
 pub fn open(
     settings: Settings,
-    key: &mut [u32],
+    key: &mut [u64],
     message: &mut [i32],
     challenges: &[u32],
-    rounds: &mut [u32],
+    rounds: &mut [u64],
 ) -> Result<Opened, Refusal> {
     let s = settings;
     let mut commitment = Residues::zeros(s.element_len());

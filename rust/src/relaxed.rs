@@ -21,9 +21,9 @@ use crate::{library, Judgement, Refusal, Settings};
 /// ```
 pub fn judge(
     settings: Settings,
-    commitment: &[u32],
+    commitment: &[u64],
     slack: u32,
-    key: &[u32],
+    key: &[u64],
     w: &[i64],
 ) -> Result<Judgement, Refusal> {
     let s = settings;
@@ -73,9 +73,9 @@ pub fn judge(
 /// ```
 pub fn extract(
     settings: Settings,
-    commitment: &[u32],
-    key: &[u32],
-    rounds: &[u32],
+    commitment: &[u64],
+    key: &[u64],
+    rounds: &[u64],
     challenges: &[u32],
     leaves: &[i32],
     w: &mut [i64],

@@ -16,7 +16,7 @@ use crate::{library, EndVerdict, Numbers, Polynomial, Refusal, Residues, RoundVe
 /// ```
 #[derive(Clone, Debug, PartialEq, Eq)]
 pub struct Session {
-    record: [u32; Session::RECORD],
+    record: [u64; Session::RECORD],
 }
 
 /// Places in a record; the settings are its first four numbers.
@@ -24,6 +24,12 @@ const DONE: usize = 4;
 const CLOSED: usize = 5;
 const CHALLENGES: usize = 6;
 const CLAIM: usize = 14;
+
+/// A number of the record that is none of 64 bits: the library counts one that
+/// has no room in 32 as the largest that has.
+fn narrow(number: u64) -> u32 {
+    u32::try_from(number).unwrap_or(u32::MAX)
+}
 
 impl Session {
     /// Numbers of a saved session: degree, depth, modulus, bound, rounds done,
@@ -50,7 +56,7 @@ impl Session {
     /// assert_eq!(Session::start(settings, &[15, 17]), Err(Refusal::Residue));
     /// # Ok::<(), Refusal>(())
     /// ```
-    pub fn start(settings: Settings, commitment: &[u32]) -> Result<Session, Refusal> {
+    pub fn start(settings: Settings, commitment: &[u64]) -> Result<Session, Refusal> {
         let s = settings;
         let mut record = [0; Session::RECORD];
         let number = unsafe {
@@ -87,7 +93,7 @@ impl Session {
     /// assert_eq!(session.round(&polynomial, 1), Err(Refusal::Turn));
     /// # Ok::<(), Refusal>(())
     /// ```
-    pub fn round(&mut self, polynomial: &[u32], exponent: u32) -> Result<RoundVerdict, Refusal> {
+    pub fn round(&mut self, polynomial: &[u64], exponent: u32) -> Result<RoundVerdict, Refusal> {
         let mut verdict = 0;
         let number = unsafe {
             library::wovenrock_session_round(
@@ -115,7 +121,7 @@ impl Session {
     /// assert_eq!(session.end(&[1, -1], &[3, 5]), Err(Refusal::Turn));
     /// # Ok::<(), Refusal>(())
     /// ```
-    pub fn end(&mut self, last: &[i32], key: &[u32]) -> Result<EndVerdict, Refusal> {
+    pub fn end(&mut self, last: &[i32], key: &[u64]) -> Result<EndVerdict, Refusal> {
         let mut verdict = 0;
         let number = unsafe {
             library::wovenrock_session_end(
@@ -141,7 +147,7 @@ impl Session {
     /// assert_eq!(session.save()[14..16], [15, 4]);
     /// # Ok::<(), wovenrock::Refusal>(())
     /// ```
-    pub fn save(&self) -> [u32; Session::RECORD] {
+    pub fn save(&self) -> [u64; Session::RECORD] {
         self.record
     }
 
@@ -166,7 +172,7 @@ impl Session {
     /// assert_eq!(Session::restore(&[0; Session::RECORD]), Err(Refusal::Degree));
     /// # Ok::<(), Refusal>(())
     /// ```
-    pub fn restore(record: &[u32]) -> Result<Session, Refusal> {
+    pub fn restore(record: &[u64]) -> Result<Session, Refusal> {
         let record = record.try_into().map_err(|_| Refusal::Size)?;
         let session = Session { record };
         // A round by zeros, on a copy: it tests the whole record, and 11 is
@@ -204,7 +210,7 @@ impl Session {
     /// # Ok::<(), wovenrock::Refusal>(())
     /// ```
     pub fn done(&self) -> u32 {
-        self.record[DONE]
+        narrow(self.record[DONE])
     }
 
     /// Whether it is closed, so that every move is refused. This does not say
@@ -234,7 +240,7 @@ impl Session {
     /// # Ok::<(), wovenrock::Refusal>(())
     /// ```
     pub fn challenges(&self) -> [u32; CLAIM - CHALLENGES] {
-        core::array::from_fn(|k| self.record[CHALLENGES + k])
+        core::array::from_fn(|k| narrow(self.record[CHALLENGES + k]))
     }
 
     /// The claim, [`Settings::element_len`] numbers.

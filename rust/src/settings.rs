@@ -16,13 +16,25 @@ use crate::{library, Refusal};
 pub struct Settings {
     degree: u32,
     depth: u32,
-    modulus: u32,
+    modulus: u64,
     bound: u32,
 }
 
 impl Settings {
+    /// The largest modulus, 2^61 − 1.
+    ///
+    /// ```
+    /// use wovenrock::{Refusal, Settings};
+    ///
+    /// let most = Settings::LARGEST_MODULUS;
+    /// assert_eq!(most, (1 << 61) - 1);
+    /// assert!(Settings::new(64, 8, most, 127).is_ok());
+    /// assert_eq!(Settings::new(64, 8, most + 2, 127), Err(Refusal::Modulus));
+    /// ```
+    pub const LARGEST_MODULUS: u64 = 2_305_843_009_213_693_951;
+
     /// The settings d (2, 4, 8, 16, 32 or 64), L (0 to 8), q (odd, 3 to
-    /// 2,147,483,647) and B (1 to 127). Refusals 3 to 6, and no other call
+    /// [`Settings::LARGEST_MODULUS`]) and B (1 to 127). Refusals 3 to 6, and no other call
     /// than this, [`look`](crate::look) and [`read`](crate::read) gives those.
     ///
     /// ```
@@ -34,20 +46,25 @@ impl Settings {
     /// assert_eq!(Settings::new(64, 8, 12_288, 127), Err(Refusal::Modulus));
     /// assert_eq!(Settings::new(64, 8, 12_289, 128), Err(Refusal::Bound));
     /// ```
-    pub fn new(degree: u32, depth: u32, modulus: u32, bound: u32) -> Result<Settings, Refusal> {
+    pub fn new(degree: u32, depth: u32, modulus: u64, bound: u32) -> Result<Settings, Refusal> {
         let number = unsafe { library::wovenrock_settings(degree, depth, modulus, bound) };
-        Refusal::answer(number).map(|()| Settings::tested([degree, depth, modulus, bound]))
-    }
-
-    /// Settings that the library has tested, in the order in which it writes
-    /// them.
-    pub(crate) fn tested(numbers: [u32; 4]) -> Settings {
-        let [degree, depth, modulus, bound] = numbers;
-        Settings {
+        Refusal::answer(number).map(|()| Settings {
             degree,
             depth,
             modulus,
             bound,
+        })
+    }
+
+    /// Settings that the library has tested, in the order in which it writes
+    /// them.
+    pub(crate) fn tested(numbers: [u64; 4]) -> Settings {
+        let [degree, depth, modulus, bound] = numbers;
+        Settings {
+            degree: degree as u32,
+            depth: depth as u32,
+            modulus,
+            bound: bound as u32,
         }
     }
 
@@ -80,7 +97,7 @@ impl Settings {
     /// assert_eq!(Settings::new(2, 1, 17, 3)?.modulus(), 17);
     /// # Ok::<(), wovenrock::Refusal>(())
     /// ```
-    pub fn modulus(self) -> u32 {
+    pub fn modulus(self) -> u64 {
         self.modulus
     }
 

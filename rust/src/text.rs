@@ -39,13 +39,13 @@ pub const LONGEST_TEXT: usize = 65_536;
 #[derive(Debug, Default)]
 pub struct TablesMut<'a> {
     /// Part 1.
-    pub key: Option<&'a mut [u32]>,
+    pub key: Option<&'a mut [u64]>,
     /// Part 2.
     pub message: Option<&'a mut [i32]>,
     /// Part 3.
-    pub commitment: Option<&'a mut [u32]>,
+    pub commitment: Option<&'a mut [u64]>,
     /// Part 4: the round elements, c_j of round i as element 3·(i−1)+j.
-    pub rounds: Option<&'a mut [u32]>,
+    pub rounds: Option<&'a mut [u64]>,
     /// Part 5.
     pub challenges: Option<&'a mut [u32]>,
     /// Part 6: the final element.
@@ -69,13 +69,13 @@ pub struct TablesMut<'a> {
 #[derive(Clone, Copy, Debug, Default)]
 pub struct Tables<'a> {
     /// Part 1.
-    pub key: Option<&'a [u32]>,
+    pub key: Option<&'a [u64]>,
     /// Part 2.
     pub message: Option<&'a [i32]>,
     /// Part 3.
-    pub commitment: Option<&'a [u32]>,
+    pub commitment: Option<&'a [u64]>,
     /// Part 4: the round elements, c_j of round i as element 3·(i−1)+j.
-    pub rounds: Option<&'a [u32]>,
+    pub rounds: Option<&'a [u64]>,
     /// Part 5.
     pub challenges: Option<&'a [u32]>,
     /// Part 6: the final element.

@@ -20,10 +20,10 @@ use crate::{library, EndVerdict, Refusal, Settings};
 /// ```
 pub fn check(
     settings: Settings,
-    commitment: &[u32],
+    commitment: &[u64],
     last: &[i32],
-    key: &[u32],
-    rounds: &[u32],
+    key: &[u64],
+    rounds: &[u64],
     challenges: &[u32],
 ) -> Result<EndVerdict, Refusal> {
     let s = settings;

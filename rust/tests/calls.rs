@@ -6,10 +6,10 @@ use wovenrock::{
     Judgement, Refusal, RoundVerdict, Session, Settings, Tables, TablesMut, LONGEST_TEXT,
 };
 
-const KEY: [u32; 4] = [3, 5, 7, 2];
+const KEY: [u64; 4] = [3, 5, 7, 2];
 const MESSAGE: [i32; 4] = [1, -1, 1, 0];
-const COMMITMENT: [u32; 2] = [15, 4];
-const ROUNDS: [u32; 6] = [4, 1, 6, 0, 12, 1];
+const COMMITMENT: [u64; 2] = [15, 4];
+const ROUNDS: [u64; 6] = [4, 1, 6, 0, 12, 1];
 
 fn settings() -> Settings {
     Settings::new(2, 1, 17, 1).expect("allowed settings")
@@ -17,8 +17,14 @@ fn settings() -> Settings {
 
 #[test]
 fn moves_give_what_the_whole_opening_gives() -> Result<(), Refusal> {
-    let s = Settings::new(4, 3, 2_147_483_647, 2)?;
-    let key: Vec<u32> = (1..=32).map(|i| i * 66_000_000).collect();
+    moves_at(2_147_483_647, 66_000_000)?;
+    moves_at(Settings::LARGEST_MODULUS, 72_000_000_000_000_000)
+}
+
+/// The same with a modulus, and a key of multiples of a step.
+fn moves_at(q: u64, step: u64) -> Result<(), Refusal> {
+    let s = Settings::new(4, 3, q, 2)?;
+    let key: Vec<u64> = (1..=32).map(|i| i * step).collect();
     let message: Vec<i32> = (0..32).map(|i| i % 5 - 2).collect();
     let challenges = [7, 0, 5];
     let (mut whole_key, mut whole_message) = (key.clone(), message.clone());
@@ -127,13 +133,22 @@ fn a_session_is_restored_as_it_was_saved() -> Result<(), Refusal> {
 #[test]
 fn what_is_no_record_is_not_restored() -> Result<(), Refusal> {
     let saved = Session::start(settings(), &COMMITMENT)?.save();
-    let changed = |place: usize, value: u32| {
+    let changed = |place: usize, value: u64| {
         let mut record = saved;
         record[place] = value;
         Session::restore(&record).map(|session| session.save() == record)
     };
     assert_eq!(changed(0, 3), Err(Refusal::Degree));
-    assert_eq!(changed(0, u32::MAX), Err(Refusal::Degree));
+    assert_eq!(changed(0, u64::MAX), Err(Refusal::Degree));
+    // what has no room in 32 bits is not cut off
+    assert_eq!(changed(0, (1 << 32) + 2), Err(Refusal::Degree));
+    assert_eq!(changed(1, (1 << 32) + 1), Err(Refusal::Depth));
+    assert_eq!(changed(3, (1 << 32) + 1), Err(Refusal::Bound));
+    assert_eq!(changed(5, 1 << 32), Err(Refusal::Size));
+    assert_eq!(changed(6, 1 << 32), Err(Refusal::Challenge));
+    assert_eq!(changed(2, (1 << 32) + 17), Ok(true));
+    assert_eq!(changed(2, (1 << 61) + 17), Err(Refusal::Modulus));
+    assert_eq!(changed(14, (1 << 32) + 15), Err(Refusal::Residue));
     assert_eq!(changed(1, 9), Err(Refusal::Depth));
     assert_eq!(changed(2, 16), Err(Refusal::Modulus));
     assert_eq!(changed(3, 0), Err(Refusal::Bound));
@@ -142,7 +157,7 @@ fn what_is_no_record_is_not_restored() -> Result<(), Refusal> {
     assert_eq!(changed(13, 4), Err(Refusal::Challenge));
     // rounds done and a closed record are tested by a move
     assert_eq!(changed(4, 1), Ok(true));
-    assert_eq!(changed(4, u32::MAX), Ok(true));
+    assert_eq!(changed(4, 1 << 32), Ok(true));
     assert_eq!(changed(5, 1), Ok(true));
     assert_eq!(Session::restore(&saved[..77]), Err(Refusal::Size));
     assert_eq!(

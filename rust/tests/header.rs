@@ -1,6 +1,6 @@
 //! The C header and this crate say the same of refusals, lengths and version.
 
-use wovenrock::{Refusal, Session, LONGEST_TEXT};
+use wovenrock::{Refusal, Session, Settings, LONGEST_TEXT};
 
 const HEADER: &str = include_str!("../../include/wovenrock.h");
 
@@ -35,4 +35,6 @@ fn version_and_lengths() {
     );
     assert_eq!(defined("SESSION"), Session::RECORD.to_string());
     assert_eq!(defined("TEXT"), LONGEST_TEXT.to_string());
+    let most = format!("UINT64_C({})", Settings::LARGEST_MODULUS);
+    assert_eq!(defined("MODULUS_MAX"), most);
 }

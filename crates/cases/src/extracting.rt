@@ -5,7 +5,7 @@ use crate::output;
 use crate::tables;
 use protocol::Settings;
 
-fn answer_judge(settings: Settings, commitment: [u32; 64], c: u32, key: &[u32], w: &[i64]) {
+fn answer_judge(settings: Settings, commitment: [u64; 64], c: u32, key: &[u64], w: &[i64]) {
     let answer = judge::judge(settings, commitment, c, key, w);
     output::first(answer.refusal);
     output::flag(answer.yes);
@@ -23,21 +23,15 @@ pub fn run_judge(input: Input) -> Input {
     let places = commitment.places;
     let n = keys.count;
     let m = vector.count;
-    answer_judge(
-        given.settings,
-        places,
-        c.value.residue(),
-        &key[..n],
-        &w[..m],
-    );
+    answer_judge(given.settings, places, c.value.narrow(), &key[..n], &w[..m]);
     vector.next
 }
 
 fn answer_extract(
     settings: Settings,
-    commitment: [u32; 64],
-    key: &[u32],
-    rounds: &[u32],
+    commitment: [u64; 64],
+    key: &[u64],
+    rounds: &[u64],
     challenges: &[u32],
     leaves: &[i32],
     w: &mut [i64],
@@ -51,13 +45,13 @@ fn answer_extract(
 // The second half of an extraction's inputs: challenges, leaves and what w holds before.
 fn run_tree(
     settings: Settings,
-    commitment: [u32; 64],
-    key: &[u32],
-    rounds: &[u32],
+    commitment: [u64; 64],
+    key: &[u64],
+    rounds: &[u64],
     input: Input,
 ) -> Input {
-    let mut challenge = tables::residue_room();
-    let challenges = tables::residues(input, &mut challenge);
+    let mut challenge = tables::challenge_room();
+    let challenges = tables::challenges(input, &mut challenge);
     let mut leaf = tables::signed_room();
     let leaves = tables::signeds(challenges.next, &mut leaf);
     let mut w = tables::wide_room();

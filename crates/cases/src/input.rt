@@ -74,8 +74,16 @@ impl Value {
         next
     }
 
+    // As an unsigned number of 64 bits; the nearest where it is none.
+    pub fn residue(self) -> u64 {
+        if self.negative {
+            return 0;
+        }
+        self.magnitude
+    }
+
     // As an unsigned number of 32 bits; the nearest where it is none.
-    pub fn residue(self) -> u32 {
+    pub fn narrow(self) -> u32 {
         if self.negative {
             return 0;
         }

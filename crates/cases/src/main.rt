@@ -46,6 +46,6 @@ fn main() {
         if call.ended {
             return;
         }
-        input = run(call.value.residue(), call.next);
+        input = run(call.value.narrow(), call.next);
     }
 }

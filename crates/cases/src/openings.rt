@@ -4,7 +4,7 @@ use crate::output;
 use crate::tables;
 use protocol::Settings;
 
-fn answer_commit(settings: Settings, key: &[u32], message: &[i32]) {
+fn answer_commit(settings: Settings, key: &[u64], message: &[i32]) {
     let answer = prover::commit(settings, key, message);
     let commitment = answer.commitment;
     output::first(answer.refusal);
@@ -24,7 +24,7 @@ pub fn run_commit(input: Input) -> Input {
     messages.next
 }
 
-fn answer_round(settings: Settings, t: u32, key: &[u32], message: &[i32]) {
+fn answer_round(settings: Settings, t: u32, key: &[u64], message: &[i32]) {
     let answer = prover::round(settings, t, key, message);
     let elements = prover::elements_of(answer);
     let c0 = elements[0];
@@ -46,11 +46,11 @@ pub fn run_round(input: Input) -> Input {
     let messages = tables::signeds(keys.next, &mut message);
     let n = keys.count;
     let m = messages.count;
-    answer_round(given.settings, t.value.residue(), &key[..n], &message[..m]);
+    answer_round(given.settings, t.value.narrow(), &key[..n], &message[..m]);
     messages.next
 }
 
-fn answer_fold(settings: Settings, t: u32, e: u32, key: &mut [u32], message: &mut [i32]) {
+fn answer_fold(settings: Settings, t: u32, e: u32, key: &mut [u64], message: &mut [i32]) {
     let number = prover::fold(settings, t, e, key, message);
     output::first(number);
     output::residues(key);
@@ -70,8 +70,8 @@ pub fn run_fold(input: Input) -> Input {
     let m = messages.count;
     answer_fold(
         given.settings,
-        t.value.residue(),
-        e.value.residue(),
+        t.value.narrow(),
+        e.value.narrow(),
         &mut key[..n],
         &mut message[..m],
     );
@@ -92,16 +92,16 @@ pub fn run_end(input: Input) -> Input {
     let mut message = tables::signed_room();
     let messages = tables::signeds(t.next, &mut message);
     let m = messages.count;
-    answer_end(given.settings, t.value.residue(), &message[..m]);
+    answer_end(given.settings, t.value.narrow(), &message[..m]);
     messages.next
 }
 
 fn answer_opening(
     settings: Settings,
-    key: &mut [u32],
+    key: &mut [u64],
     message: &mut [i32],
     challenges: &[u32],
-    rounds: &mut [u32],
+    rounds: &mut [u64],
 ) {
     let answer = opening::open(settings, key, message, challenges, rounds);
     let commitment = answer.commitment;
@@ -123,8 +123,8 @@ pub fn run_opening(input: Input) -> Input {
     let keys = tables::residues(given.next, &mut key);
     let mut message = tables::signed_room();
     let messages = tables::signeds(keys.next, &mut message);
-    let mut challenge = tables::residue_room();
-    let challenges = tables::residues(messages.next, &mut challenge);
+    let mut challenge = tables::challenge_room();
+    let challenges = tables::challenges(messages.next, &mut challenge);
     let mut round = tables::residue_room();
     let rounds = tables::residues(challenges.next, &mut round);
     let n = keys.count;

@@ -50,7 +50,7 @@ pub fn end() {
     io::write_all(1, b"\n");
 }
 
-// The numbers of a table, with no length before them.
+// Challenges, with no length before them.
 fn each(t: &[u32]) {
     let mut i: usize = 0;
     while i < t.len() {
@@ -60,9 +60,18 @@ fn each(t: &[u32]) {
 }
 
 // A table: its length and its numbers.
-pub fn residues(t: &[u32]) {
+pub fn challenges(t: &[u32]) {
     count(t.len());
     each(t);
+}
+
+pub fn residues(t: &[u64]) {
+    count(t.len());
+    let mut i: usize = 0;
+    while i < t.len() {
+        more(t[i]);
+        i += 1;
+    }
 }
 
 pub fn signeds(t: &[i32]) {
@@ -91,7 +100,7 @@ pub fn text(t: &[u8]) {
 }
 
 // The places of an element up to the last one that is not 0.
-fn places(a: &[u32; 64]) -> usize
+fn places(a: &[u64; 64]) -> usize
     ensures { λ r. ⌜ r ≤ 64 ⌝ }
 {
     let mut n: usize = 64;
@@ -118,7 +127,7 @@ fn signed_places(a: &[i32; 64]) -> usize
 }
 
 // An element: how many places it has up to the last one that is not 0, and those places.
-pub fn element(a: [u32; 64]) {
+pub fn element(a: [u64; 64]) {
     let n = places(&a);
     residues(&a[..n]);
 }
@@ -140,7 +149,7 @@ pub fn verdict(v: Verdict) {
 pub fn settings(s: Settings) {
     number(s.degree);
     number(s.depth);
-    number(s.modulus);
+    more(s.modulus);
     number(s.bound);
 }
 

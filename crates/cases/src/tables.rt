@@ -9,7 +9,13 @@ ghost use lib.ListN.{length};
 ghost use Rattle.cases.specs.Counted.{Counted};
 
 // Room for a key, a message, the rounds, challenges or leaves of a tree, and for a vector.
-pub fn residue_room() -> [u32; 16384]
+pub fn residue_room() -> [u64; 16384]
+    ensures { λ r. ⌜ 16384 ≡ length r ⌝ }
+{
+    [0; 16384]
+}
+
+pub fn challenge_room() -> [u32; 16384]
     ensures { λ r. ⌜ 16384 ≡ length r ⌝ }
 {
     [0; 16384]
@@ -67,11 +73,10 @@ fn room_for_table(input: Input, most: usize) -> Filled
     room(size.next, size.value.magnitude, most)
 }
 
-fn read_residues(start: Filled, t: &mut [u32]) -> Filled
-    requires { ⌜ start .count ≤ length (now t) ⌝ }
+pub fn residues(input: Input, t: &mut [u64]) -> Filled
     ensures { λ r. ⌜ Counted (r .count) (now (t .exit)) ⌝ }
 {
-    let mut filled = start;
+    let mut filled = room_for_table(input, t.len());
     let mut i: usize = 0;
     while i < filled.count {
         let taken = filled.next.number();
@@ -83,10 +88,26 @@ fn read_residues(start: Filled, t: &mut [u32]) -> Filled
     filled
 }
 
-pub fn residues(input: Input, t: &mut [u32]) -> Filled
+fn read_challenges(start: Filled, t: &mut [u32]) -> Filled
+    requires { ⌜ start .count ≤ length (now t) ⌝ }
     ensures { λ r. ⌜ Counted (r .count) (now (t .exit)) ⌝ }
 {
-    read_residues(room_for_table(input, t.len()), t)
+    let mut filled = start;
+    let mut i: usize = 0;
+    while i < filled.count {
+        let taken = filled.next.number();
+        t[i] = taken.value.narrow();
+        let next = taken.next;
+        filled.next = next;
+        i += 1;
+    }
+    filled
+}
+
+pub fn challenges(input: Input, t: &mut [u32]) -> Filled
+    ensures { λ r. ⌜ Counted (r .count) (now (t .exit)) ⌝ }
+{
+    read_challenges(room_for_table(input, t.len()), t)
 }
 
 pub fn signeds(input: Input, t: &mut [i32]) -> Filled
@@ -167,10 +188,10 @@ pub fn settings(input: Input) -> SettingsTaken {
     let modulus = depth.next.number();
     let bound = modulus.next.number();
     let settings = Settings {
-        degree: degree.value.residue(),
-        depth: depth.value.residue(),
+        degree: degree.value.narrow(),
+        depth: depth.value.narrow(),
         modulus: modulus.value.residue(),
-        bound: bound.value.residue(),
+        bound: bound.value.narrow(),
     };
     let next = bound.next;
     SettingsTaken {
@@ -181,12 +202,12 @@ pub fn settings(input: Input) -> SettingsTaken {
 
 // An element by value: a table whose places behind the ones given are 0.
 pub struct ElementTaken {
-    pub places: [u32; 64],
+    pub places: [u64; 64],
     pub next: Input,
 }
 
 pub fn element(input: Input) -> ElementTaken {
-    let mut places = [0u32; 64];
+    let mut places = [0u64; 64];
     let filled = residues(input, &mut places);
     let next = filled.next;
     ElementTaken {
@@ -222,12 +243,12 @@ pub fn session(input: Input) -> SessionTaken {
     let closed = done.next.number();
     let claim = element(closed.next);
     let mut challenges = [0u32; 8];
-    let filled = read_residues(room(claim.next, 8, 8), &mut challenges);
+    let filled = read_challenges(room(claim.next, 8, 8), &mut challenges);
     let set = given.settings;
     let places = claim.places;
     let session = Session {
         settings: set,
-        done: done.value.residue(),
+        done: done.value.narrow(),
         claim: places,
         challenges: challenges,
         closed: closed.value.magnitude != 0,

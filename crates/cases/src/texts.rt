@@ -17,10 +17,10 @@ struct Task {
 fn answer_read(
     parts: Parts,
     text: &[u8],
-    key: &mut [u32],
+    key: &mut [u64],
     message: &mut [i32],
-    commitment: &mut [u32],
-    rounds: &mut [u32],
+    commitment: &mut [u64],
+    rounds: &mut [u64],
     challenges: &mut [u32],
     last: &mut [i32],
 ) {
@@ -41,7 +41,7 @@ fn answer_read(
     output::signeds(message);
     output::residues(commitment);
     output::residues(rounds);
-    output::residues(challenges);
+    output::challenges(challenges);
     output::signeds(last);
     output::end();
 }
@@ -49,10 +49,10 @@ fn answer_read(
 fn answer_write(
     settings: Settings,
     parts: Parts,
-    key: &[u32],
+    key: &[u64],
     message: &[i32],
-    commitment: &[u32],
-    rounds: &[u32],
+    commitment: &[u64],
+    rounds: &[u64],
     challenges: &[u32],
     last: &[i32],
     out: &mut [u8],
@@ -77,10 +77,10 @@ fn answer_write(
 fn answer(
     task: Task,
     text: &mut [u8],
-    key: &mut [u32],
+    key: &mut [u64],
     message: &mut [i32],
-    commitment: &mut [u32],
-    rounds: &mut [u32],
+    commitment: &mut [u64],
+    rounds: &mut [u64],
     challenges: &mut [u32],
     last: &mut [i32],
 ) {
@@ -114,15 +114,15 @@ fn answer(
 fn run_last(
     task: Task,
     text: &mut [u8],
-    key: &mut [u32],
+    key: &mut [u64],
     message: &mut [i32],
-    commitment: &mut [u32],
+    commitment: &mut [u64],
     input: Input,
 ) -> Input {
     let mut round = tables::residue_room();
     let rounds = tables::residues(input, &mut round);
-    let mut challenge = tables::residue_room();
-    let challenges = tables::residues(rounds.next, &mut challenge);
+    let mut challenge = tables::challenge_room();
+    let challenges = tables::challenges(rounds.next, &mut challenge);
     let mut last = tables::signed_room();
     let lasts = tables::signeds(challenges.next, &mut last);
     let k = rounds.count;

@@ -19,13 +19,13 @@ fn used() -> Session {
     Session {
         settings: settings,
         done: 9,
-        claim: [7u32; 64],
+        claim: [7u64; 64],
         challenges: [5u32; 8],
         closed: true,
     }
 }
 
-fn answer_start(settings: Settings, commitment: [u32; 64]) {
+fn answer_start(settings: Settings, commitment: [u64; 64]) {
     let verifier = Verifier(used());
     let answer = verifier.start(settings, commitment);
     let next = answer.next;
@@ -51,7 +51,7 @@ fn answer_move(answer: Moved) {
     output::end();
 }
 
-fn answer_round(session: Session, polynomial: [[u32; 64]; 3], e: u32) {
+fn answer_round(session: Session, polynomial: [[u64; 64]; 3], e: u32) {
     let verifier = Verifier(session);
     answer_move(verifier.round(polynomial, e));
 }
@@ -66,11 +66,11 @@ pub fn run_round(input: Input) -> Input {
     let p0 = c0.places;
     let p1 = c1.places;
     let p2 = c2.places;
-    answer_round(session, [p0, p1, p2], e.value.residue());
+    answer_round(session, [p0, p1, p2], e.value.narrow());
     e.next
 }
 
-fn answer_end(session: Session, last: [i32; 64], key: &[u32]) {
+fn answer_end(session: Session, last: [i32; 64], key: &[u64]) {
     let verifier = Verifier(session);
     answer_move(verifier.end(last, key));
 }
@@ -89,10 +89,10 @@ pub fn run_end(input: Input) -> Input {
 
 fn answer_check(
     settings: Settings,
-    commitment: [u32; 64],
+    commitment: [u64; 64],
     last: [i32; 64],
-    key: &[u32],
-    rounds: &[u32],
+    key: &[u64],
+    rounds: &[u64],
     challenges: &[u32],
 ) {
     let answer = transcripts::check(settings, commitment, last, key, rounds, challenges);
@@ -110,8 +110,8 @@ pub fn run_check(input: Input) -> Input {
     let keys = tables::residues(last.next, &mut key);
     let mut round = tables::residue_room();
     let rounds = tables::residues(keys.next, &mut round);
-    let mut challenge = tables::residue_room();
-    let challenges = tables::residues(rounds.next, &mut challenge);
+    let mut challenge = tables::challenge_room();
+    let challenges = tables::challenges(rounds.next, &mut challenge);
     let element = commitment.places;
     let signed = last.places;
     let n = keys.count;

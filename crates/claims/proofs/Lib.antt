@@ -26,6 +26,7 @@ pub mod Extractor
 pub mod GrowthCases
 pub mod Demand3
 pub mod Performed
+mod Unsigned
 mod WrittenRead
 pub mod RoundTrip
 pub mod ProveVerify

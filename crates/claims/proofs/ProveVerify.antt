@@ -18,7 +18,7 @@ use Rattle.protocol.specs.Settings.{size, cells, hasLength, allBelow, allWithin
 use Rattle.protocol.specs.Inputs.{Within}
 use Rattle.protocol.specs.Opening.{commitment, roundTable, messageAfter}
 use Rattle.protocol.specs.Transcript.{Transcript, transcriptOf, accepted}
-use Rattle.protocol.specs.Text.{Line, Tables, textLimit, valueLimit, names, linesText, shape, settingsShape, shapes, shapeSize, contents, block, blocks, blockLines, textOf}
+use Rattle.protocol.specs.Text.{Line, Tables, textLimit, narrowLimit, names, linesText, shape, settingsShape, shapes, shapeSize, contents, block, blocks, blockLines, textOf}
 use Rattle.protocol.specs.Text.{linesOf, settingsIn, tablesIn, lookRefusal, textRefusal, written, overwritten}
 use Rattle.protocol.specs.Programs.{proveReads, provePrints, verifyReads, printed, proofText, proveText, proveRefusal, proveAnswer, proveExit, proveOutput}
 use Rattle.protocol.specs.Programs.{transcriptIn, tablesAccepted, verifyRefusal, verifyAnswer}
@@ -50,8 +50,8 @@ module _ {S : Settings} {G : List ℕ} {M : List ℤ} {E : List ℕ} (ok : Given
   last-long = last-length S (messageAfter S E L M)
 
   -- a final element's coefficients are within ±n·B, which is at most 32,512
-  pub last-within : Within valueLimit d (T .last)
-  unfolding signed valueLimit
+  pub last-within : Within narrowLimit d (T .last)
+  unfolding signed narrowLimit
   last-within = record {
     long = last-long;
     each = λ k l. Nat.le-trans
@@ -67,7 +67,7 @@ module _ {S : Settings} {G : List ℕ} {M : List ℤ} {E : List ℕ} (ok : Given
     rounds = below-tested q (3 * L * d) (roundTable S E G M) (rounds-below S pq E G M);
     message = refl;
     challenges = below-tested (2 * d) L E (ok .challenges);
-    last = within-tested valueLimit d (T .last) last-within;
+    last = within-tested narrowLimit d (T .last) last-within;
   }
 
   tables-fit : Fit (shapes S verifyReads) (contents S (keyed G T))

@@ -5,38 +5,29 @@ use mathlib.Core.List.{List, [], _∷_, _++_, map, flatMap, zipWith}
 use mathlib.Core.Option.{Option, none, some, Option·getD}
 use Prim.Native.Nat.{ℕ, _*_, _<_, _≤_}
 use native.Mathlib.Omega.{arith}
-use lib.Dec.{eqb}
 use lib.ListN.{length, getD, take, drop, List·getD-append}
-use lib.IntN.{ℤ, pos, natAbs}
-use borrow.Author.Tests.{leb-true, le-leb}
+use lib.IntN.{ℤ, pos}
+use borrow.Author.Tests.{leb-true}
 use Rattle.protocol.specs.declared.Settings.{Settings}
 use Rattle.protocol.specs.declared.Parts.{Parts}
-use Rattle.protocol.specs.Basic.{tabulate, all, choose, within, granted}
+use Rattle.protocol.specs.Basic.{tabulate, among, choose, granted}
 use Rattle.protocol.specs.Settings.{settingsRefusal, allBelow}
 use Rattle.protocol.specs.Settings.{exponent, exponents}
-use Rattle.protocol.specs.Text.{Line, Tables, textLimit, valueLimit, names, linesText, shape, settingsShape, shapes, shapeSize}
+use Rattle.protocol.specs.Text.{Line, Tables, textLimit, valueLimit, narrowLimit, limitOf, names, linesText, shape, settingsShape, shapes, shapeSize}
 use Rattle.protocol.specs.Text.{spots, wanted, contents, block, blocks, blockLines, textOf, fits}
 use Rattle.protocol.specs.Text.{parsed, linesOf, sameSpots, spotsOf, valuesOf, wellFormed, unsigned, column, unsignedColumn}
 use Rattle.protocol.specs.Text.{settingIn, settingsIn, tablesIn, lookRefusal, loaded, entriesRefusal, textRefusal, readRefusal, readAnswer}
 use Rattle.protocol.specs.Text.{readExit}
 use Rattle.protocol.specs.Text.{written, overwritten, writeAnswer, writeExit}
 use Rattle.protocol.specs.RoundTrip.{Forth, RoundTrip, OneText}
-use Rattle.protocol.proofs.Tests.{first-zero, unless-zero, and-intro}
+use Rattle.protocol.proofs.Tests.{first-zero, unless-zero}
 use Rattle.protocol.proofs.LineLaws.{AllLimited, parsed-text}
 use Rattle.protocol.proofs.TableLaws.{Fit, parts, columns, read-lines, read-fit}
 use Rattle.protocol.proofs.TableLaws.{Split, split}
-use Rattle.protocol.proofs.TextLimits.{Allowed, allowed, Passed, passed, unrefused, below-limited, exponent-le}
+use Rattle.protocol.proofs.TextLimits.{Allowed, allowed, Passed, passed, unrefused, below-limited, exponent-le, column-limited}
 use Rattle.protocol.proofs.ColumnLaws.{sameSpots-eq, valuesOf-append}
-use Rattle.claims.proofs.WrittenRead.{shapes-rise, fit-all, unsigned-pos, unsigned-forth, lines-read, settings-back, tables-back, read-back, Writable, writable-refusal, back}
-
-column-limited : (p : ℕ) (ls : List Line) → AllLimited ls → all (within valueLimit) (column p ls) ≡ true
-unfolding column choose all within
-column-limited p [] h = refl
-column-limited p (l ∷ ls) h = go (eqb (l .spot .part) p) (column-limited p ls (h .1))
-  where
-    go : (t : Bool) → all (within valueLimit) (column p ls) ≡ true → all (within valueLimit) (choose t (l .value ∷ column p ls) (column p ls)) ≡ true
-    go true e = and-intro (le-leb (natAbs (l .value)) valueLimit (h .0 .value)) e
-    go false e = e
+use Rattle.claims.proofs.Unsigned.{unsigned-pos, unsigned-forth}
+use Rattle.claims.proofs.WrittenRead.{shapes-rise, fit-all, lines-read, settings-back, tables-back, read-back, Writable, writable-refusal, back}
 
 four : (v : List ℤ) → length v ≡ 4 → v ≡ getD v 0 (pos 0) ∷ getD v 1 (pos 0) ∷ getD v 2 (pos 0) ∷ getD v 3 (pos 0) ∷ []
 four [] e = absurd (omega arith)
@@ -98,7 +89,7 @@ module _ (P : Parts) (text : List ℕ) (r : Readable P text) where
   limited = parsed-text text ls (parsed-lines text (r .formed)) .0
 
   fine : Passed S t
-  unfolding tablesIn
+  unfolding tablesIn limitOf among choose
   fine = passed S true t (r .entries) (λ e. column-limited 6 ls limited)
 
   -- part 0 and the parts behind it
@@ -125,21 +116,22 @@ module _ (P : Parts) (text : List ℕ) (r : Readable P text) where
       ∙ ap (λ (x : List ℤ). getD x i (pos 0)) (sym (z .mine))
 
   settings-forth : pos (S .degree) ∷ pos (S .depth) ∷ pos (S .modulus) ∷ pos (S .bound) ∷ [] ≡ column 0 ls
-  unfolding settingsIn settingIn valueLimit
+  unfolding settingsIn settingIn
   settings-forth =
-      let d = unsigned-pos (getD (valuesOf ls) 0 (pos 0)) (omega (arith, bounds .degree)) ∙ setting 0 (omega arith) in
-      let l = unsigned-pos (getD (valuesOf ls) 1 (pos 0)) (omega (arith, bounds .depth)) ∙ setting 1 (omega arith) in
-      let q = unsigned-pos (getD (valuesOf ls) 2 (pos 0)) (bounds .modulus) ∙ setting 2 (omega arith) in
-      let b = unsigned-pos (getD (valuesOf ls) 3 (pos 0)) (omega (arith, bounds .bound)) ∙ setting 3 (omega arith) in
+      let wide : 127 ≤ narrowLimit = unfold narrowLimit in (omega arith) in
+      let d = unsigned-pos narrowLimit (getD (valuesOf ls) 0 (pos 0)) (omega (arith, bounds .degree)) ∙ setting 0 (omega arith) in
+      let l = unsigned-pos narrowLimit (getD (valuesOf ls) 1 (pos 0)) (omega (arith, bounds .depth)) ∙ setting 1 (omega arith) in
+      let q = unsigned-pos valueLimit (getD (valuesOf ls) 2 (pos 0)) (bounds .modulus) ∙ setting 2 (omega arith) in
+      let b = unsigned-pos narrowLimit (getD (valuesOf ls) 3 (pos 0)) (omega (arith, bounds .bound)) ∙ setting 3 (omega arith) in
       (λ i. d i ∷ l i ∷ q i ∷ b i ∷ []) ∙ sym (four (column 0 ls) four-settings)
 
-  plain-residues : (v : List ℤ) → allBelow S (map unsigned v) ≡ true → map pos (map unsigned v) ≡ v
+  plain-residues : (v : List ℤ) → allBelow S (map (unsigned valueLimit) v) ≡ true → map pos (map (unsigned valueLimit) v) ≡ v
   unfolding allBelow
-  plain-residues v h = unsigned-forth v (below-limited (S .modulus) (map unsigned v) (bounds .modulus) h)
+  plain-residues v h = unsigned-forth valueLimit v (below-limited valueLimit (S .modulus) (map (unsigned valueLimit) v) (bounds .modulus) h)
 
-  plain-exponents : (v : List ℤ) → exponents S (map unsigned v) ≡ true → map pos (map unsigned v) ≡ v
+  plain-exponents : (v : List ℤ) → exponents S (map (unsigned narrowLimit) v) ≡ true → map pos (map (unsigned narrowLimit) v) ≡ v
   unfolding exponents exponent
-  plain-exponents v h = unsigned-forth v (below-limited (2 * S .degree) (map unsigned v) (exponent-le S bounds) h)
+  plain-exponents v h = unsigned-forth narrowLimit v (below-limited narrowLimit (2 * S .degree) (map (unsigned narrowLimit) v) (exponent-le S bounds) h)
 
   contents-forth : contents S t ≡ columns (0 ∷ 1 ∷ 2 ∷ 3 ∷ 4 ∷ 5 ∷ 6 ∷ []) ls
   unfolding contents tablesIn unsignedColumn
@@ -197,7 +189,7 @@ pub tables-readable : (S : Settings) (P : Parts) (t : Tables) → settingsRefusa
     → (textRefusal P true (textOf S P t) ≡ 0) × (settingsIn (linesOf (textOf S P t)) ≡ S) × (tablesIn (linesOf (textOf S P t)) ≡ t)
 tables-readable S P t s f p n =
     let a = allowed S s in
-    (read-back S P t f a p s n true refl, ap settingsIn (lines-read S P t a p) ∙ settings-back S P t, ap tablesIn (lines-read S P t a p) ∙ tables-back S P t f)
+    (read-back S P t f a p s n true refl, ap settingsIn (lines-read S P t a p) ∙ settings-back S P t a, ap tablesIn (lines-read S P t a p) ∙ tables-back S P t f a p)
 
 -- what was read of a text has one text, and that is it
 text-of-read : (P : Parts) (text : List ℕ) (lent : Tables) → readRefusal P text lent ≡ 0 → textOf (readAnswer P text lent .settings) P (readExit P text lent) ≡ text

@@ -1,19 +1,19 @@
 -- A text that was written is read back: its lines, its settings, its tables, and that nothing is refused.
-use mathlib.Core.Path.{_≡_, refl, _∙_, ap, ap₂}
+use mathlib.Core.Path.{_≡_, refl, _∙_, ap}
 use mathlib.Core.Bool.{Bool, true, and-eq-true-iff}
 use mathlib.Core.List.{List, [], _∷_, _++_, map, flatMap, zipWith}
-use Prim.Native.Nat.{ℕ, _≤_}
+use Prim.Native.Nat.{ℕ, _*_, _≤_}
 use native.Mathlib.Omega.{arith}
-use lib.Dec.{leb, eqb}
+use lib.Dec.{eqb}
 use lib.ListN.{length, getD, drop}
 use lib.Seq.{take-append-seam}
-use lib.IntN.{ℤ, pos, negsuc}
+use lib.IntN.{ℤ, pos}
 use borrow.Author.Tests.{leb-true, le-leb, eqb-true, eq-eqb}
 use Rattle.protocol.specs.declared.Settings.{Settings}
 use Rattle.protocol.specs.declared.Parts.{Parts}
 use Rattle.protocol.specs.Basic.{tabulate, all, choose, within, first, unless, granted}
-use Rattle.protocol.specs.Settings.{settingsRefusal, hasLength}
-use Rattle.protocol.specs.Text.{Line, Shape, Tables, textLimit, valueLimit, shape, settingsShape, shapes, shapeSize}
+use Rattle.protocol.specs.Settings.{settingsRefusal, hasLength, allBelow, exponent, exponents}
+use Rattle.protocol.specs.Text.{Line, Shape, Tables, textLimit, valueLimit, narrowLimit, shape, settingsShape, shapes, shapeSize}
 use Rattle.protocol.specs.Text.{spotAt, spots, wanted, contents, block, blocks, blockLines, textOf, blockFits, fits}
 use Rattle.protocol.specs.Text.{linesOf, sameSpot, sameSpots, spotsOf, valuesOf, wellFormed, unsigned, column, unsignedColumn}
 use Rattle.protocol.specs.Text.{settingIn, settingsIn, tablesIn, lookRefusal, loaded, entriesRefusal, textRefusal, readRefusal, readAnswer}
@@ -23,8 +23,9 @@ use Rattle.protocol.specs.RoundTrip.{outcome, Back}
 use Rattle.protocol.proofs.Tests.{first-zero, unless-zero, and-intro}
 use Rattle.protocol.proofs.LineLaws.{linesOf-written}
 use Rattle.protocol.proofs.TableLaws.{Rising, Fit, parts, columns, written-spots, written-columns, blockLines-values}
-use Rattle.protocol.proofs.TextLimits.{Allowed, allowed, Passed, passed, unrefused, lines-limited, contents-limited}
+use Rattle.protocol.proofs.TextLimits.{Allowed, allowed, Passed, passed, unrefused, lines-limited, contents-limited, below-limited, exponent-le}
 use Rattle.protocol.proofs.ColumnLaws.{sameSpots-refl, valuesOf-append}
+use Rattle.claims.proofs.Unsigned.{unsigned-small, unsigned-back}
 
 -- ---- The parts
 
@@ -52,25 +53,6 @@ fits-fit : (S : Settings) (P : Parts) (t : Tables) → fits S P t ≡ true → F
 unfolding fits blocks
 fits-fit S P t h = fit (shapes S P) (contents S t) (unfold shapes contents in refl) h
 
--- ---- Signs
-
-unsigned-back : (v : List ℕ) → map unsigned (map pos v) ≡ v
-unfolding unsigned
-unsigned-back [] = refl
-unsigned-back (x ∷ v) = ap (λ (l : List ℕ). x ∷ l) (unsigned-back v)
-
-pub unsigned-pos : (z : ℤ) → unsigned z ≤ valueLimit → pos (unsigned z) ≡ z
-unfolding unsigned
-unsigned-pos (pos n) h = refl
-unsigned-pos (negsuc n) h = absurd (omega arith)
-
-pub unsigned-forth : (v : List ℤ) → all (λ x. leb x valueLimit) (map unsigned v) ≡ true → map pos (map unsigned v) ≡ v
-unfolding all
-unsigned-forth [] h = refl
-unsigned-forth (z ∷ v) h =
-    let (here, more) = and-eq-true-iff (leb (unsigned z) valueLimit) _ .0 h in
-    ap₂ (λ (x : ℤ) (y : List ℤ). x ∷ y) (unsigned-pos z (leb-true (unsigned z) valueLimit here)) (unsigned-forth v more)
-
 -- ---- Written, then read
 
 module _ (S : Settings) (P : Parts) (t : Tables) where
@@ -93,9 +75,17 @@ module _ (S : Settings) (P : Parts) (t : Tables) where
       rest : List Line
       rest = flatMap blockLines (drop 1 (blocks S P t))
 
-  pub settings-back : settingsIn lines ≡ S
-  unfolding settingsIn settingIn unsigned
-  settings-back = rw settings-values
+  pub settings-back : Allowed S → settingsIn lines ≡ S
+  unfolding settingsIn settingIn
+  settings-back a =
+      let wide : 127 ≤ narrowLimit = unfold narrowLimit in (omega arith) in
+      rw settings-values
+      (λ j. record {
+        degree = unsigned-small narrowLimit (S .degree) (omega (arith, a .degree)) j;
+        depth = unsigned-small narrowLimit (S .depth) (omega (arith, a .depth)) j;
+        modulus = unsigned-small valueLimit (S .modulus) (a .modulus) j;
+        bound = unsigned-small narrowLimit (S .bound) (omega (arith, a .bound)) j;
+      })
 
   module _ (f : Fit (shapes S P) (contents S t)) where
     spots-wanted : spotsOf lines ≡ wanted S P
@@ -109,13 +99,22 @@ module _ (S : Settings) (P : Parts) (t : Tables) where
     column-back : (p : ℕ) → getD (columns (0 ∷ 1 ∷ 2 ∷ 3 ∷ 4 ∷ 5 ∷ 6 ∷ []) lines) p [] ≡ getD (contents S t) p []
     column-back p = ap (λ (vs : List (List ℤ)). getD vs p []) columns-back
 
-    pub tables-back : tablesIn lines ≡ t
+    -- the residues of a part that are below q, and the challenges
+    residues-back : Allowed S → (p : ℕ) (v : List ℕ) → column p lines ≡ map pos v → allBelow S v ≡ true → map (unsigned valueLimit) (column p lines) ≡ v
+    unfolding allBelow
+    residues-back a p v e h = ap (map (unsigned valueLimit)) e ∙ unsigned-back valueLimit v (below-limited valueLimit (S .modulus) v (a .modulus) h)
+
+    exponents-back : Allowed S → (v : List ℕ) → column 5 lines ≡ map pos v → exponents S v ≡ true → map (unsigned narrowLimit) (column 5 lines) ≡ v
+    unfolding exponents exponent
+    exponents-back a v e h = ap (map (unsigned narrowLimit)) e ∙ unsigned-back narrowLimit v (below-limited narrowLimit (2 * S .degree) v (exponent-le S a) h)
+
+    pub tables-back : Allowed S → Passed S t → tablesIn lines ≡ t
     unfolding tablesIn unsignedColumn contents
-    tables-back =
-        let k : map unsigned (column 1 lines) ≡ t .key = ap (map unsigned) (column-back 1) ∙ unsigned-back (t .key) in
-        let c : map unsigned (column 3 lines) ≡ t .commitment = ap (map unsigned) (column-back 3) ∙ unsigned-back (t .commitment) in
-        let r : map unsigned (column 4 lines) ≡ t .rounds = ap (map unsigned) (column-back 4) ∙ unsigned-back (t .rounds) in
-        let e : map unsigned (column 5 lines) ≡ t .challenges = ap (map unsigned) (column-back 5) ∙ unsigned-back (t .challenges) in
+    tables-back a p =
+        let k = residues-back a 1 (t .key) (column-back 1) (p .key) in
+        let c = residues-back a 3 (t .commitment) (column-back 3) (p .commitment) in
+        let r = residues-back a 4 (t .rounds) (column-back 4) (p .rounds) in
+        let e = exponents-back a (t .challenges) (column-back 5) (p .challenges) in
         λ i. record { key = k i; message = column-back 2 i; commitment = c i; rounds = r i; challenges = e i; last = column-back 6 i }
 
     well-formed : Allowed S → Passed S t → wellFormed (textOf S P t) ≡ true
@@ -130,12 +129,12 @@ module _ (S : Settings) (P : Parts) (t : Tables) where
           le-leb (length (textOf S P t)) textLimit n,
           well-formed a p,
           lines-read a p,
-          settings-back,
+          settings-back a,
           s,
           spots-wanted,
           sameSpots-refl (wanted S P),
           h,
-          tables-back,
+          tables-back a p,
           unrefused S true t p refl,
         )
 
@@ -143,7 +142,7 @@ module _ (S : Settings) (P : Parts) (t : Tables) where
 pub record Writable (S : Settings) (P : Parts) (t : Tables) (out : List ℕ) : Type 0 where
   pub settings : settingsRefusal S ≡ 0
   pub tables : fits S P t ≡ true
-  pub entries : entriesRefusal S (all (within valueLimit) (t .last)) t ≡ 0
+  pub entries : entriesRefusal S (all (within narrowLimit) (t .last)) t ≡ 0
   pub short : length (textOf S P t) ≤ textLimit
   pub room : length (textOf S P t) ≤ length out
 
@@ -181,8 +180,8 @@ back S P t out lent h f =
     let a = allowed S (w .settings) in
     let p = passed S _ t (w .entries) (λ e. e) in
     let g = fits-fit S P t (w .tables) in
-    let r : readRefusal P (textOf S P t) lent ≡ 0 = read-back S P t g a p (w .settings) (w .short) _ (ap (λ R. fits R P lent) (ap settingsIn (lines-read S P t a p) ∙ settings-back S P t) ∙ f) in
+    let r : readRefusal P (textOf S P t) lent ≡ 0 = read-back S P t g a p (w .settings) (w .short) _ (ap (λ R. fits R P lent) (ap settingsIn (lines-read S P t a p) ∙ settings-back S P t a) ∙ f) in
     record {
-      answer = rw (text-written S P t out h, r, lines-read S P t a p, settings-back S P t);
-      tables = rw (text-written S P t out h, r, lines-read S P t a p, tables-back S P t g);
+      answer = rw (text-written S P t out h, r, lines-read S P t a p, settings-back S P t a);
+      tables = rw (text-written S P t out h, r, lines-read S P t a p, tables-back S P t g a p);
     }

@@ -1,14 +1,14 @@
-// The product of an element of whole numbers with an element of residues, coefficient by coefficient, added to sums modulo 2^64. Nothing is prepared, so it is
-// the quicker way where the degree is small.
+// The product of an element of whole numbers with an element of residues of 32 bits, coefficient by coefficient, added to sums modulo 2^64. Nothing is prepared,
+// so it is the quicker way where the degree is small.
 use protocol::Residue;
 use protocol::WIDTH;
 ghost use mathlib.Core.Path.{_≡_};
-ghost use Prim.Native.Nat.{_^_, _<_, _≤_};
+ghost use Prim.Native.Nat.{_%_, _^_, _<_, _≤_};
 ghost use lib.IntN.{pos, _+ℤ_, _*ℤ_};
 ghost use lib.ListN.{length, getD};
 ghost use Rattle.protocol.specs.Basic.{Provided};
-ghost use Rattle.protocol.specs.Element.{width, modulo, rotate, product, signed, residue};
-ghost use Rattle.columns.specs.Columns.{addColumns, Columns};
+ghost use Rattle.protocol.specs.Element.{width, modulo, rotate, product, signed};
+ghost use Rattle.columns.specs.Columns.{narrow, addColumns, Columns};
 
 // 2^31 more than c, which is not below zero.
 fn raised(c: i32) -> u64
@@ -17,18 +17,19 @@ fn raised(c: i32) -> u64
     ((c as i64) + 2147483648) as u64
 }
 
-// c·y modulo 2^64: what is too much is taken away again, so that no product has a sign.
+// c·y modulo 2^64, y being below 2^32: what is too much is taken away again, so that no product has a sign.
 fn signed_product(c: i32, y: Residue) -> u64
-    ensures { λ r. ⌜ r ≡ modulo (2 ^ 64) (c *ℤ pos y) ⌝ }
+    ensures { λ r. ⌜ r ≡ modulo (2 ^ 64) (c *ℤ pos (y % 2 ^ 32)) ⌝ }
 {
-    let more = raised(c) * (y as u64);
-    std::num::wrapping_sub_u64(more, 2147483648 * (y as u64))
+    let low = y % 4294967296;
+    let more = raised(c) * low;
+    std::num::wrapping_sub_u64(more, 2147483648 * low)
 }
 
 // Adds what coefficient j of f has in coefficient k of the product: past X^d the sign changes.
 fn add_term(d: usize, j: usize, k: usize, f: &[i32], g: &[Residue], s: u64) -> u64
     requires { ⌜ (j < d) × (k < d) × (d ≤ width) × (d ≤ length (now f)) × (d ≤ length (now g)) ⌝ }
-    ensures { λ r. ⌜ r ≡ modulo (2 ^ 64) (pos s +ℤ getD (now (f .entry)) j (pos 0) *ℤ rotate d j (residue (now (g .entry))) k) ⌝ }
+    ensures { λ r. ⌜ r ≡ modulo (2 ^ 64) (pos s +ℤ getD (now (f .entry)) j (pos 0) *ℤ rotate d j (narrow (now (g .entry))) k) ⌝ }
 {
     if j <= k {
         let p = signed_product(f[j], g[k - j]);
@@ -41,7 +42,7 @@ fn add_term(d: usize, j: usize, k: usize, f: &[i32], g: &[Residue], s: u64) -> u
 // Adds coefficient k of the product.
 fn column(d: usize, k: usize, f: &[i32], g: &[Residue], s: u64) -> u64
     requires { ⌜ (k < d) × (d ≤ width) × (d ≤ length (now f)) × (d ≤ length (now g)) ⌝ }
-    ensures { λ r. ⌜ r ≡ modulo (2 ^ 64) (pos s +ℤ product d (signed (now (f .entry))) (residue (now (g .entry))) k) ⌝ }
+    ensures { λ r. ⌜ r ≡ modulo (2 ^ 64) (pos s +ℤ product d (signed (now (f .entry))) (narrow (now (g .entry))) k) ⌝ }
 {
     let mut sum = s;
     for j in 0..d {
@@ -59,7 +60,7 @@ fn add_columns(d: usize, f: &[i32], g: &[Residue], sums: &mut [u64])
     }
 }
 
-// Adds the product of f and g.
+// Adds the product of f and g, whose numbers are read modulo 2^32.
 pub fn add_product(d: u32, f: &[i32], g: &[Residue], sums: &mut [u64])
     ensures { λ _. ⌜ Provided (Columns d (length (now (f .entry))) (length (now (g .entry))) (length (now (sums .entry))))
         (now (sums .exit) ≡ addColumns d (now (f .entry)) (now (g .entry)) (now (sums .entry))) ⌝ }

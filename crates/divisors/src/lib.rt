@@ -2,8 +2,8 @@
 ghost use mathlib.Core.Path.{_≡_};
 ghost use Rattle.protocol.specs.CommonDivisor.{greatestCommonDivisor};
 
-// Euclid's algorithm: at most some 50 divisions, as two steps at least halve the first number.
-pub fn greatest_common_divisor(a: u32, b: u32) -> u32
+// Euclid's algorithm: at most some 100 divisions, as two steps at least halve the first number.
+pub fn greatest_common_divisor(a: u64, b: u64) -> u64
     ensures { λ r. ⌜ r ≡ greatestCommonDivisor a b ⌝ }
 {
     let mut first = a;

@@ -67,7 +67,11 @@ table =
     ∷ prove (input key message "2147483648 0 0 1\n") 2
     ∷ prove (input key message "5 0 0 4294967297\n") 2
     ∷ prove (input key message "5 0 0 100000000000000000000000000000000000000001\n") 2
+    ∷ prove (input "1 0 0 2305843009213693952\n1 0 1 5\n1 1 0 7\n1 1 1 2\n" message challenge) 2
+    ∷ prove (input key "2 0 0 2147483648\n2 0 1 -1\n2 1 0 1\n2 1 1 0\n" challenge) 2
     -- the largest magnitude is of the stated shape, in every column
+    ∷ prove (input "1 0 0 2305843009213693951\n1 0 1 5\n1 1 0 7\n1 1 1 2\n" message challenge) 8
+    ∷ prove (input key "2 0 0 2147483647\n2 0 1 -1\n2 1 0 1\n2 1 1 0\n" challenge) 9
     ∷ prove (input key message "5 0 0 2147483647\n") 10
     ∷ prove (input key message "5 0 0 -2147483647\n") 10
     ∷ prove (input key message "5 0 2147483647 1\n") 7
@@ -92,7 +96,7 @@ table =
     ∷ prove (withSettings "0 0 0 2\n0 0 1 1\n0 0 2 17\n0 0 3 0\n") 6
     ∷ prove (withSettings "0 0 0 2\n0 0 1 1\n0 0 2 17\n0 0 3 128\n") 6
     ∷ prove (withSettings "0 0 0 2\n0 0 1 1\n0 0 2 17\n0 0 3 -1\n") 6
-    ∷ prove (withSettings "0 0 0 2\n0 0 1 1\n0 0 2 2147483647\n0 0 3 127\n") 0
+    ∷ prove (withSettings "0 0 0 2\n0 0 1 1\n0 0 2 2305843009213693951\n0 0 3 127\n") 0
     -- the smallest number is given: 3 before 4, 4 before 5, 5 before 6, 6 before 7
     ∷ prove (withSettings "0 0 0 -2\n0 0 1 9\n0 0 2 16\n0 0 3 0\n") 3
     ∷ prove (withSettings "0 0 0 2\n0 0 1 -1\n0 0 2 16\n0 0 3 0\n") 4

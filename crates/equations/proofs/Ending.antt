@@ -1,8 +1,8 @@
 -- The end of a transcript: the bound in numbers, and the last equation coefficient by coefficient.
-use mathlib.Core.Path.{_≡_, refl, sym, ap, _∙_}
+use mathlib.Core.Path.{_≡_, refl, sym, ap, _∙_, subst}
 use mathlib.Core.Bool.{true}
 use mathlib.Core.List.{List}
-use Prim.Native.Nat.{ℕ, _+_, _*_, _%_, _^_, _<_, _≤_}
+use Prim.Native.Nat.{ℕ, _*_, _%_, _^_, _<_, _≤_}
 use native.Mathlib.Nat as Nat
 use native.Mathlib.Omega.{arith}
 use borrow.Author.Tests.{leb-true}
@@ -20,10 +20,12 @@ use Rattle.protocol.specs.Opening.{left, keyAfter}
 use Rattle.products.specs.Sums.{multipleIs, Summable}
 use Rattle.protocol.proofs.Agreement.{Alike, every-ext, end-same, first-same}
 use Rattle.protocol.proofs.OpeningLaws.{left-power}
-use Rattle.equations.proofs.Ready.{Ready}
+use Rattle.protocol.proofs.Ranges.{key-residues, below-everywhere}
+use Rattle.equations.specs.Given.{ElementReduced, KeyGiven}
+use Rattle.equations.proofs.Ready.{Ready, ready}
 use Rattle.equations.proofs.Quotients.{multiple-test, half-inverse}
 
-module _ (S : Settings) (ready : Ready S) (f : List ℤ) where
+module _ (S : Settings) (allowed : Ready S) (f : List ℤ) where
   open Settings S using (degree as d, depth as L, modulus as q, bound as B)
 
   size-most : size S * B ≤ 256 * 127
@@ -35,11 +37,19 @@ module _ (S : Settings) (ready : Ready S) (f : List ℤ) where
   bounded-small t j l = Nat.le-trans (leb-true _ _ (every-at d (λ k. within (size S * B) (signed f k)) t j l)) (omega (arith, size-most))
 
   module _ (t : finalBounded S (signed f) ≡ true) (g : List ℕ) where
-    pub final-summable : d ≤ length f → d ≤ length g → Summable q d 1 f g
-    final-summable f-long g-long = record {
-      elements = record { modulus = omega (arith, ready .modulus-least); degree = omega (arith, ready .degree-least); degree-most = ready .degree-most; f-long = omega arith; g-long = omega arith };
-      few = omega (arith, ready .degree-most);
+    pub final-summable : d ≤ length f → d ≤ length g → ElementReduced S g → Summable q d 1 f g
+    final-summable f-long g-long below = record {
+      elements = record {
+        modulus = omega (arith, allowed .modulus-least);
+        degree = omega (arith, allowed .degree-least);
+        degree-most = allowed .degree-most;
+        f-long = omega arith;
+        g-long = omega arith;
+      };
+      few = omega (arith, allowed .degree-most);
       small = λ j l. omega (arith, bounded-small t j (omega arith));
+      modulus-most = allowed .modulus-most;
+      residues = λ j l. below j (omega arith);
     }
 
     module _ (claim : List ℕ) (n : ℕ) (is-n : n ≡ left S 0) where
@@ -47,14 +57,20 @@ module _ (S : Settings) (ready : Ready S) (f : List ℤ) where
       power-is = is-n ∙ left-power S 0 (omega arith) ∙ ap (λ x. 2 ^ x) (Nat.sub-zero L)
 
       pub power-most : n ≤ 2 ^ 13
-      power-most = Nat.le-trans {m = 256} (rw power-is (Nat.pow-le-pow-right {n = 2} (omega arith) {i = L} {j = 8} (ready .depth-most))) (omega arith)
+      power-most = Nat.le-trans {m = 256} (rw power-is (Nat.pow-le-pow-right {n = 2} (omega arith) {i = L} {j = 8} (allowed .depth-most))) (omega arith)
 
       pub equation-is : every d (λ k. multipleIs q n (product d (signed f) (residue g) k) (getD claim k 0)) ≡ endHolds S claim (signed f) (residue g)
       unfolding endHolds ending multipleIs
       equation-is = every-ext d (λ k l.
           multiple-test q (omega arith) n (half S ^ L) (ap (λ x. x * half S ^ L % q) power-is ∙ unfold half in
-          half-inverse q (omega arith) (ready .modulus-odd) L) (modulo q (product d (signed f) (residue g) k)) (getD claim k 0) (modulo-lt q (omega arith) _)
+          half-inverse q (omega arith) (allowed .modulus-odd) L) (modulo q (product d (signed f) (residue g) k)) (getD claim k 0) (modulo-lt q (omega arith) _)
           ∙ ap (eqb (getD claim k 0)) (sym (modulo-times q (omega arith) (half S ^ L) (product d (signed f) (residue g) k))))
+
+-- a list that begins with the first element of the folded key begins with residues
+pub front-reduced : (S : Settings) (key E g : List ℕ) → KeyGiven S key E → Alike (S .degree) g (keyAfter S E (S .depth) key) → ElementReduced S g
+front-reduced S key E g given s k l =
+    let pq : 0 < S .modulus = omega (arith, ready S (given .allowed) .modulus-least) in
+    subst (λ x. x < S .modulus) (sym (s k l)) (below-everywhere (S .modulus) _ _ pq (key-residues S pq E (S .depth) key (given .key-below)) k)
 
 -- the end by a list that begins with the first element of the folded key, as by the key
 pub end-by-front : (S : Settings) (key E claim g : List ℕ) (f : Element) → Alike (S .degree) g (keyAfter S E (S .depth) key) →

@@ -1,7 +1,7 @@
 pub mod Ready
-pub mod Powers
 pub mod Quotients
 pub mod Ending
 pub mod Polynomials
 pub mod Turns
 pub mod Summing
+pub mod Gathering

@@ -2,7 +2,7 @@
 use mathlib.Core.Path.{_≡_}
 use Prim.Native.Nat.{_%_, _≤_}
 use Rattle.protocol.specs.declared.Settings.{Settings}
-use Rattle.protocol.specs.Settings.{settingsRefusal}
+use Rattle.protocol.specs.Settings.{settingsRefusal, modulusMost}
 use Rattle.protocol.proofs.Inputs.{settings-valid}
 use Rattle.sizes.proofs.Limits as Limits
 
@@ -12,7 +12,7 @@ pub record Ready (S : Settings) : Type 0 where
   pub depth-most : S .depth ≤ 8
   pub modulus-odd : S .modulus % 2 ≡ 1
   pub modulus-least : 3 ≤ S .modulus
-  pub modulus-most : S .modulus ≤ 2_147_483_647
+  pub modulus-most : S .modulus ≤ modulusMost
   pub bound-most : S .bound ≤ 127
 
 pub ready : (S : Settings) → settingsRefusal S ≡ 0 → Ready S

@@ -23,7 +23,7 @@ use Rattle.residues.proofs.Splice.{spliced-before, spliced-inside}
 use Rattle.protocol.proofs.Agreement.{Alike, sum-ext, rotate-same}
 use Rattle.protocol.proofs.Ranges.{key-residues, below-everywhere}
 use Rattle.equations.specs.Given.{KeyGiven}
-use Rattle.equations.specs.Turns.{turn, atBit, turnedSum, OnCircle, Turned, ElementRead, Added, Summable, Summed}
+use Rattle.equations.specs.Turns.{turn, atBit, turnedSum, OnCircle, Turned, ElementRead, ElementThere, Added, Summable, Summed}
 use Rattle.equations.proofs.Polynomials.{part, part-residues}
 use Rattle.equations.proofs.Ready.{ready}
 use Rattle.equations.proofs.Turns.{turn-first, turn-second, key-turns}
@@ -77,49 +77,54 @@ module _ (S : Settings) where
       };
     }
 
-    pub added-is : (x : List ℕ) {e : ℕ} → e ≡ getD x i 0 → (sums′ : List ℕ) → sums′ ≡ spliced (plusTurned q d e (part (i * d) key) 0 sums) 0 d sums → Added S key x i sums sums′
-    unfolding residue residueAt
-    added-is x {e} is sums′ f k l =
-        ap (λ s. getD s k 0) f
-        ∙ ap (λ j. getD (spliced (plusTurned q d e (part (i * d) key) 0 sums) 0 d sums) j 0) (sym (Nat.zero-add k))
-        ∙ spliced-inside _ 0 d sums (omega arith) k l
-        ∙ ap (λ j. modulo q (pos (getD sums j 0) +ℤ rotate d e (residue (part (i * d) key)) k)) (Nat.zero-add k)
-        ∙ ap (λ z. modulo q (pos (getD sums k 0) +ℤ z)) (
-        rotate-same {d = d} (omega arith) e {b = residueAt d key i} (λ j b. ap pos (tail-at (i * d) key j 0)) k
-        ∙ ap (λ n. rotate d n (residueAt d key i) k) is)
+  -- sums modulo m, to which an element was added
+  pub added-is : (m i : ℕ) (key sums : List ℕ) → 0 < d → d ≤ length sums → (x : List ℕ) {e : ℕ} → e ≡ getD x i 0 → (sums′ : List ℕ) →
+      sums′ ≡ spliced (plusTurned m d e (part (i * d) key) 0 sums) 0 d sums → Added m S key x i sums sums′
+  unfolding residue residueAt
+  added-is m i key sums pd room x {e} is sums′ f k l =
+      ap (λ s. getD s k 0) f
+      ∙ ap (λ j. getD (spliced (plusTurned m d e (part (i * d) key) 0 sums) 0 d sums) j 0) (sym (Nat.zero-add k))
+      ∙ spliced-inside _ 0 d sums (omega arith) k l
+      ∙ ap (λ j. modulo m (pos (getD sums j 0) +ℤ rotate d e (residue (part (i * d) key)) k)) (Nat.zero-add k)
+      ∙ ap (λ z. modulo m (pos (getD sums k 0) +ℤ z)) (
+      rotate-same {d = d} pd e {b = residueAt d key i} (λ j b. ap pos (tail-at (i * d) key j 0)) k
+      ∙ ap (λ n. rotate d n (residueAt d key i) k) is)
 
   -- ---- all of them
 
   module _ (n : ℕ) (key sums₀ : List ℕ) (g : Summable S n key sums₀) (x : List ℕ) where
-    pub summed-none : Summed S key x 0 sums₀
+    pub summed-none : (m : ℕ) → Summed m S key x 0 sums₀
     unfolding sum modulo
-    summed-none k l = g .empty k l ∙ sym (Nat.zero-mod q)
+    summed-none m k l = g .empty k l ∙ sym (Nat.zero-mod m)
 
-    module _ (i : ℕ) (l : i < n) (sums : List ℕ) (long : length sums ≡ length sums₀) (s : Summed S key x i sums) where
+    one-inside : (i : ℕ) → i < n → i * d + d ≤ length key
+    one-inside i l = let one-more : i + 1 ≤ n = omega arith in omega (arith, g .inside, Nat.mul-le-mul-right d one-more, Nat.add-mul i 1 d, Nat.one-mul d)
+
+    pub element-there : (i : ℕ) → i < n → (sums : List ℕ) → length sums ≡ length sums₀ → ElementThere S i (length key) (length sums)
+    element-there i l sums long = record { allowed = g .allowed; inside = one-inside i l; room = omega (arith, g .room) }
+
+    pub summed-more : (m i : ℕ) → 0 < m → (sums : List ℕ) → Summed m S key x i sums → (sums′ : List ℕ) → Added m S key x i sums sums′ → Summed m S key x (i + 1) sums′
+    unfolding sum
+    summed-more m i pm sums s sums′ a k b =
+        a k b
+        ∙ ap (λ y. modulo m (pos y +ℤ rotate d (getD x i 0) (residueAt d key i) k)) (s k b)
+        ∙ modulo-again m pm (sum i (λ j. rotate d (getD x j 0) (residueAt d key j) k)) (rotate d (getD x i 0) (residueAt d key i) k)
+        ∙ ap (λ n. modulo m (sum n (λ j. rotate d (getD x j 0) (residueAt d key j) k))) (sym (add-one i))
+
+    module _ (i : ℕ) (l : i < n) (sums : List ℕ) (long : length sums ≡ length sums₀) (s : Summed q S key x i sums) where
       pub element-read : ElementRead S i key sums
       element-read = record {
         allowed = g .allowed;
-        inside = omega (arith, g .inside, Nat.mul-le-mul-right d one-more, Nat.add-mul i 1 d, Nat.one-mul d);
+        inside = one-inside i l;
         key-below = g .key-below;
         room = omega (arith, g .room);
         own = λ k b. subst (λ y. y < q) (sym (s k b)) (modulo-lt q (omega (arith, ready S (g .allowed) .modulus-least)) _);
       }
-        where
-          one-more : i + 1 ≤ n
-          one-more = omega arith
-
-      pub summed-more : (sums′ : List ℕ) → Added S key x i sums sums′ → Summed S key x (i + 1) sums′
-      unfolding sum
-      summed-more sums′ a k b =
-          a k b
-          ∙ ap (λ y. modulo q (pos y +ℤ rotate d (getD x i 0) (residueAt d key i) k)) (s k b)
-          ∙ modulo-again q (omega (arith, ready S (g .allowed) .modulus-least)) (sum i (λ j. rotate d (getD x j 0) (residueAt d key j) k)) (rotate d (getD x i 0) (residueAt d key i) k)
-          ∙ ap (λ m. modulo q (sum m (λ j. rotate d (getD x j 0) (residueAt d key j) k))) (sym (add-one i))
 
   -- ---- the folded key
 
   pub folded-is : (E : List ℕ) → 0 < d → (key : List ℕ) → KeyGiven S key E → (x : List ℕ) → Turned (exponentCount S) L E L x → (n : ℕ) → n ≡ 2 ^ L → (sums : List ℕ) →
-      Summed S key x n sums → Alike d sums (keyAfter S E L key)
+      Summed q S key x n sums → Alike d sums (keyAfter S E L key)
   unfolding turnedSum residueAt
   folded-is E pd key g x t n is sums s k l =
       let pq : 0 < q = omega (arith, ready S (g .allowed) .modulus-least) in

@@ -1,8 +1,9 @@
 -- What the verifier's equations ask of what they are given; the refusals ensure it.
 --
+--   ElementReduced S g     g begins with an element of residues
 --   Evaluable S c0 c1 c2   the settings are allowed, and the three elements are residues
 --   ElementsGiven S x y z  the settings are allowed, and lists of x, y and z numbers have an element each
---   FinalGiven S f         the settings are allowed, and the final element f is within its bound
+--   FinalGiven S f g       the settings are allowed, the final element f is within its bound, and g begins with an element of residues
 --   KeyGiven S key E       the settings are allowed, the key is n elements of residues, and there are L challenges
 --   RoundRead S k x n      the settings are allowed, polynomial k stands in a table of n numbers, and a list of x numbers has an element: a claim
 --   ClaimRead S k x t      so it is in the table t, which has residues only
@@ -19,11 +20,14 @@ use Rattle.protocol.specs.Element.{Element}
 use Rattle.protocol.specs.Transcript.{finalBounded}
 use Rattle.protocol.specs.Inputs.{Below}
 
+abbrev pub ElementReduced : Settings → List ℕ → Type 0
+ElementReduced S g = (k : ℕ) → k < S .degree → getD g k 0 < S .modulus
+
 pub record Evaluable (S : Settings) (c0 c1 c2 : List ℕ) : Type 0 where
   pub allowed : settingsRefusal S ≡ 0
-  pub first : (k : ℕ) → k < S .degree → getD c0 k 0 < S .modulus
-  pub second : (k : ℕ) → k < S .degree → getD c1 k 0 < S .modulus
-  pub third : (k : ℕ) → k < S .degree → getD c2 k 0 < S .modulus
+  pub first : ElementReduced S c0
+  pub second : ElementReduced S c1
+  pub third : ElementReduced S c2
 
 pub record ElementsGiven (S : Settings) (x y z : ℕ) : Type 0 where
   pub allowed : settingsRefusal S ≡ 0
@@ -31,9 +35,10 @@ pub record ElementsGiven (S : Settings) (x y z : ℕ) : Type 0 where
   pub second : S .degree ≤ y
   pub third : S .degree ≤ z
 
-pub record FinalGiven (S : Settings) (f : Element) : Type 0 where
+pub record FinalGiven (S : Settings) (f : Element) (g : List ℕ) : Type 0 where
   pub allowed : settingsRefusal S ≡ 0
   pub bounded : finalBounded S f ≡ true
+  pub residues : ElementReduced S g
 
 pub record KeyGiven (S : Settings) (key E : List ℕ) : Type 0 where
   pub allowed : settingsRefusal S ≡ 0

@@ -6,9 +6,10 @@
 --   OnCircle c m e x     e and the first m numbers of x are exponents on a circle of c places
 --   Turned c L E s x     the first 2^s numbers of x are the exponents of 2^s elements, on a circle of c places
 --   ElementRead S i ..   the settings are allowed, the key has residues only and an element i, and `sums` begins with an element of residues
---   Added S key x i ..   such sums with element i of the key added, times X to the power that x has for it
+--   ElementThere S i ..  the settings are allowed, the key has an element i, and `sums` has room for one
+--   Added m S key x i .. sums modulo m with element i of the key added, times X to the power that x has for it
 --   Summable S n ..      the settings are allowed, the key has residues only and n elements, and `sums` begins with an element of zeros
---   Summed S key x n ..  such sums after n elements of the key, each times X to the power that x has for it
+--   Summed m S key ..    such sums after n elements of the key, each times X to the power that x has for it: modulo q, or modulo 2^64 where they are reduced later
 use mathlib.Core.List.{List}
 use mathlib.Core.Path.{_≡_}
 use Prim.Native.Nat.{ℕ, zero, suc, _+_, _*_, _-_, _/_, _%_, _^_, _<_, _≤_}
@@ -43,9 +44,14 @@ pub record ElementRead (S : Settings) (i : ℕ) (key sums : List ℕ) : Type 0 w
   pub room : S .degree ≤ length sums
   pub own : (k : ℕ) → k < S .degree → getD sums k 0 < S .modulus
 
-abbrev pub Added : Settings → List ℕ → List ℕ → ℕ → List ℕ → List ℕ → Type 0
-Added S key x i sums sums′ =
-    (k : ℕ) → k < S .degree → getD sums′ k 0 ≡ modulo (S .modulus) (pos (getD sums k 0) +ℤ rotate (S .degree) (getD x i 0) (residueAt (S .degree) key i) k)
+pub record ElementThere (S : Settings) (i key sums : ℕ) : Type 0 where
+  pub allowed : settingsRefusal S ≡ 0
+  pub inside : i * S .degree + S .degree ≤ key
+  pub room : S .degree ≤ sums
+
+abbrev pub Added : ℕ → Settings → List ℕ → List ℕ → ℕ → List ℕ → List ℕ → Type 0
+Added m S key x i sums sums′ =
+    (k : ℕ) → k < S .degree → getD sums′ k 0 ≡ modulo m (pos (getD sums k 0) +ℤ rotate (S .degree) (getD x i 0) (residueAt (S .degree) key i) k)
 
 pub record Summable (S : Settings) (n : ℕ) (key sums : List ℕ) : Type 0 where
   pub allowed : settingsRefusal S ≡ 0
@@ -54,6 +60,6 @@ pub record Summable (S : Settings) (n : ℕ) (key sums : List ℕ) : Type 0 wher
   pub room : S .degree ≤ length sums
   pub empty : (k : ℕ) → k < S .degree → getD sums k 0 ≡ 0
 
-abbrev pub Summed : Settings → List ℕ → List ℕ → ℕ → List ℕ → Type 0
-Summed S key x n sums =
-    (k : ℕ) → k < S .degree → getD sums k 0 ≡ modulo (S .modulus) (sum n (λ j. rotate (S .degree) (getD x j 0) (residueAt (S .degree) key j) k))
+abbrev pub Summed : ℕ → Settings → List ℕ → List ℕ → ℕ → List ℕ → Type 0
+Summed m S key x n sums =
+    (k : ℕ) → k < S .degree → getD sums k 0 ≡ modulo m (sum n (λ j. rotate (S .degree) (getD x j 0) (residueAt (S .degree) key j) k))

@@ -7,7 +7,7 @@ ghost use Rattle.protocol.specs.Basic.{Provided};
 ghost use Rattle.protocol.specs.Element.{padded, residue, signed};
 ghost use Rattle.protocol.specs.Transcript.{roundHolds, nextClaim, endMet};
 ghost use Rattle.protocol.specs.Settings.{settingsRefusal};
-ghost use Rattle.equations.specs.Given.{Evaluable};
+ghost use Rattle.equations.specs.Given.{Evaluable, ElementReduced};
 
 // Does a round hold.
 pub fn round_holds(
@@ -34,14 +34,14 @@ pub fn next_claim(
     crate::next_claim(settings, e, &c0, &c1, &c2)
 }
 
-// Is the end met: the bound first, then the equation.
+// Is the end met, by an element of residues: the bound first, then the equation.
 pub fn end_holds(
     settings: Settings,
     claim: [Residue; WIDTH],
     f: [i32; 64],
     g: [Residue; WIDTH],
 ) -> bool
-    ensures { λ r. ⌜ Provided (settingsRefusal settings ≡ 0) (r ≡ endMet settings claim (signed f) (residue g)) ⌝ }
+    ensures { λ r. ⌜ Provided (settingsRefusal settings ≡ 0) (Provided (ElementReduced settings g) (r ≡ endMet settings claim (signed f) (residue g))) ⌝ }
 {
     crate::end_holds(settings, &claim, &f, &g)
 }

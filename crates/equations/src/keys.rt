@@ -11,11 +11,23 @@ ghost use Rattle.protocol.specs.Layout.{exponentCount};
 ghost use Rattle.protocol.specs.Opening.{keyAfter};
 ghost use Rattle.protocol.specs.Nodes.{Alike};
 ghost use Rattle.residues.specs.Lists.{spliced};
+ghost use Rattle.residues.specs.Residues.{BothBelow};
 ghost use Rattle.equations.specs.Given.{KeyGiven};
-ghost use Rattle.equations.specs.Turns.{OnCircle, Turned, ElementRead, Added, Summable, Summed};
+ghost use Rattle.equations.specs.Turns.{OnCircle, Turned, ElementRead, ElementThere, Added, Summable, Summed};
 
 // Room for the exponents of the largest key's elements, 2^8.
 const ELEMENTS: usize = 256;
+
+// y + e on a circle of c places, of exponents.
+fn around(c: u32, y: u32, e: u32) -> u32
+    ensures { λ r. ⌜ Provided (BothBelow c y e) (r ≡ (y + e) % c) ⌝ }
+{
+    let rest = std::num::wrapping_sub_u32(c, e);
+    if y < rest {
+        return std::num::wrapping_add_u32(y, e);
+    }
+    y - rest
+}
 
 // The exponents of the second half of 2m elements: those of the first half and e more, on a circle of c places.
 fn second_half(c: u32, m: usize, e: u32, x: &mut [u32])
@@ -24,7 +36,7 @@ fn second_half(c: u32, m: usize, e: u32, x: &mut [u32])
 {
     for j in 0..m {
         let y = x[j];
-        x[m + j] = residues::plus(c, y, e);
+        x[m + j] = around(c, y, e);
     }
 }
 
@@ -49,7 +61,7 @@ fn turns(settings: Settings, challenges: &[u32], x: &mut [u32]) -> u32
 
 // Adds element i of a key, turned by its exponent.
 fn add_element(settings: Settings, i: u32, key: &[Residue], x: &[u32], sum: &mut [Residue])
-    ensures { λ _. ⌜ Provided (ElementRead settings i (now (key .entry)) (now (sum .entry))) (Added settings (now (key .entry)) (now (x .entry)) i (now (sum .entry)) (now (sum .exit))) ⌝ }
+    ensures { λ _. ⌜ Provided (ElementRead settings i (now (key .entry)) (now (sum .entry))) (Added (settings .modulus) settings (now (key .entry)) (now (x .entry)) i (now (sum .entry)) (now (sum .exit))) ⌝ }
 {
     let at = (i as usize) * (settings.degree as usize);
     if key.len() < at {
@@ -61,7 +73,7 @@ fn add_element(settings: Settings, i: u32, key: &[Residue], x: &[u32], sum: &mut
 
 // Adds up the first n elements of a key, each turned by its exponent.
 fn add_elements(settings: Settings, n: u32, key: &[Residue], x: &[u32], sum: &mut [Residue])
-    ensures { λ _. ⌜ Provided (Summable settings n (now (key .entry)) (now (sum .entry))) (Summed settings (now (key .entry)) (now (x .entry)) n (now (sum .exit))) ⌝ }
+    ensures { λ _. ⌜ Provided (Summable settings n (now (key .entry)) (now (sum .entry))) (Summed (settings .modulus) settings (now (key .entry)) (now (x .entry)) n (now (sum .exit))) ⌝ }
 {
     let mut i: u32 = 0;
     while i < n {
@@ -70,12 +82,38 @@ fn add_elements(settings: Settings, n: u32, key: &[Residue], x: &[u32], sum: &mu
     }
 }
 
+// The same with sums modulo 2^64, which are reduced once all elements are added.
+fn gather_element(settings: Settings, i: u32, key: &[Residue], x: &[u32], sums: &mut [u64])
+    ensures { λ _. ⌜ Provided (ElementThere settings i (length (now (key .entry))) (length (now (sums .entry))))
+        (Added (2 ^ 64) settings (now (key .entry)) (now (x .entry)) i (now (sums .entry)) (now (sums .exit))) ⌝ }
+{
+    let at = (i as usize) * (settings.degree as usize);
+    if key.len() < at {
+        return;
+    }
+    let e = elements::entry(x, i as usize);
+    rotations::gather_turned(settings.degree, e, &key[at..], sums);
+}
+
+fn gather_elements(settings: Settings, n: u32, key: &[Residue], x: &[u32], sums: &mut [u64])
+    ensures { λ _. ⌜ Provided (Summable settings n (now (key .entry)) (now (sums .entry))) (Summed (2 ^ 64) settings (now (key .entry)) (now (x .entry)) n (now (sums .exit))) ⌝ }
+{
+    let mut i: u32 = 0;
+    while i < n {
+        gather_element(settings, i, key, x, sums);
+        i += 1;
+    }
+}
+
+// The largest modulus at which the sum of 2^8 residues, with any signs, is at most 2^62 from 0: 2^54.
+const GATHERED_MOST: Residue = 18014398509481984;
+
 // The first element of the folded key, at the front of an array.
 pub fn folded_key(settings: Settings, key: &[Residue], challenges: &[u32]) -> [Residue; WIDTH]
     ensures { λ r. ⌜ Provided (KeyGiven settings (now (key .entry)) (now (challenges .entry)))
         (Alike (settings .degree) r (keyAfter settings (now (challenges .entry)) (settings .depth) (now (key .entry)))) ⌝ }
 {
-    let mut sum = [0u32; WIDTH];
+    let mut sum: [Residue; WIDTH] = [0; WIDTH];
     if settings.degree == 0 {
         return sum;
     }
@@ -90,6 +128,12 @@ pub fn folded_key(settings: Settings, key: &[Residue], challenges: &[u32]) -> [R
     }
     let mut x = [0u32; ELEMENTS];
     let n = turns(settings, challenges, &mut x);
+    if settings.modulus <= GATHERED_MOST {
+        gather_elements(settings, n, key, &x, &mut sum);
+        let none = [0u64; WIDTH];
+        let joint = joins::prepare(settings.modulus);
+        return joins::elements::join_all(joint, settings.degree as usize, &sum, &none);
+    }
     add_elements(settings, n, key, &x, &mut sum);
     sum
 }

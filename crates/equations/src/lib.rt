@@ -8,47 +8,33 @@ use protocol::Residue;
 use protocol::Settings;
 use protocol::WIDTH;
 ghost use mathlib.Core.Path.{_≡_};
-ghost use mathlib.Core.Bool.{_&&_};
-ghost use Prim.Native.Nat.{_+_, _*_, _/_, _%_, _^_, _<_, _≤_};
+ghost use Prim.Native.Nat.{_+_, _*_, _%_, _<_, _≤_};
 ghost use lib.Dec.{eqb};
 ghost use lib.ListN.{length};
 ghost use Rattle.protocol.specs.Basic.{Provided};
 ghost use Rattle.protocol.specs.Element.{padded, residue, signed};
 ghost use Rattle.protocol.specs.Transcript.{roundHolds, nextClaim, finalBounded, endHolds, endMet, foldedKey};
 ghost use Rattle.protocol.specs.Settings.{settingsRefusal};
-ghost use Rattle.equations.specs.Given.{Evaluable, ElementsGiven, FinalGiven, EndGiven};
+ghost use Rattle.residues.specs.Residues.{BothBelow};
+ghost use Rattle.equations.specs.Given.{Evaluable, ElementsGiven, ElementReduced, FinalGiven, EndGiven};
 
-// s modulo m, s being below 2m.
-fn less_once(m: u64, s: u64) -> u64
-    requires { ⌜ s < 2 * m ⌝ }
-    ensures { λ r. ⌜ r ≡ s % m ⌝ }
+// 2·(x + y) modulo q, of residues.
+fn doubled(q: Residue, x: Residue, y: Residue) -> Residue
+    ensures { λ r. ⌜ Provided (BothBelow q x y) (r ≡ 2 * (x + y) % q) ⌝ }
 {
-    if s < m {
-        return s;
-    }
-    s - m
+    let s = residues::plus(q, x, y);
+    residues::plus(q, s, s)
 }
 
-// 2·(x + y) modulo q. Residues are not divided.
-fn doubled(q: u32, x: u32, y: u32) -> u64
-    requires { ⌜ 0 < q ⌝ }
-    ensures { λ r. ⌜ r ≡ 2 * (x + y) % q ⌝ }
-{
-    let m = q as u64;
-    let s = (x as u64) + (y as u64);
-    if s < 2 * m {
-        let t = less_once(m, s);
-        return less_once(m, 2 * t);
-    }
-    2 * s % m
-}
-
-// Is 2·(x + y) modulo q the number z.
-fn doubled_is(q: u32, x: u32, y: u32, z: u32) -> bool
+// Is 2·(x + y) modulo q the number z. Residues are not divided; other numbers are reduced before they are added, since their sum may have 65 bits.
+fn doubled_is(q: Residue, x: Residue, y: Residue, z: Residue) -> bool
     requires { ⌜ 0 < q ⌝ }
     ensures { λ r. ⌜ r ≡ eqb (2 * (x + y) % q) z ⌝ }
 {
-    doubled(q, x, y) == (z as u64)
+    if (x < q) & (y < q) {
+        return doubled(q, x, y) == z;
+    }
+    doubled(q, x % q, y % q) == z
 }
 
 // Does a round hold.
@@ -92,27 +78,9 @@ pub fn next_claim(
         (Provided (Evaluable settings (now (c0 .entry)) (now (c1 .entry)) (now (c2 .entry)))
         (r ≡ padded (settings .degree) (nextClaim settings e (residue (now (c0 .entry))) (residue (now (c1 .entry))) (residue (now (c2 .entry)))))) ⌝ }
 {
-    let mut claim = [0u32; WIDTH];
+    let mut claim: [Residue; WIDTH] = [0; WIDTH];
     rotations::value(settings.modulus, settings.degree, e, c0, c1, c2, &mut claim);
     claim
-}
-
-// A power of half, the inverse of 2 modulo q.
-pub fn half_power(q: u32, exponent: u32) -> u32
-    ensures { λ r. ⌜ Provided (0 < q) (r ≡ ((q + 1) / 2) ^ exponent % q) ⌝ }
-{
-    if q == 0 {
-        return 0;
-    }
-    let m = q as u64;
-    let half = (m + 1) / 2;
-    let mut power = 1 % m;
-    let mut i: u32 = 0;
-    while i < exponent {
-        power = power * half % m;
-        i += 1;
-    }
-    power as u32
 }
 
 // Has the final element no coefficient beyond ±n·B.
@@ -135,16 +103,16 @@ fn final_bounded(settings: Settings, f: &[i32]) -> bool
 // Is the claim half^L·f·g, where f has no coefficient beyond ±n·B: half^L is 1/2^L.
 fn equation_met(settings: Settings, claim: &[Residue], f: &[i32], g: &[Residue]) -> bool
     requires { ⌜ (settings .degree ≤ length (now claim)) × (settings .degree ≤ length (now f)) × (settings .degree ≤ length (now g)) ⌝ }
-    ensures { λ r. ⌜ Provided (FinalGiven settings (signed (now (f .entry)))) (r ≡ endHolds settings (now (claim .entry)) (signed (now (f .entry))) (residue (now (g .entry)))) ⌝ }
+    ensures { λ r. ⌜ Provided (FinalGiven settings (signed (now (f .entry))) (now (g .entry))) (r ≡ endHolds settings (now (claim .entry)) (signed (now (f .entry))) (residue (now (g .entry)))) ⌝ }
 {
     let power = sizes::left(settings, 0);
     products::product_is(settings.modulus, settings.degree, f, g, power, claim)
 }
 
-// Is the end met: the bound first, then the equation.
+// Is the end met, by an element of residues: the bound first, then the equation.
 pub fn end_holds(settings: Settings, claim: &[Residue], f: &[i32], g: &[Residue]) -> bool
     ensures { λ r. ⌜ Provided (ElementsGiven settings (length (now (claim .entry))) (length (now (f .entry))) (length (now (g .entry))))
-        (r ≡ endMet settings (now (claim .entry)) (signed (now (f .entry))) (residue (now (g .entry)))) ⌝ }
+        (Provided (ElementReduced settings (now (g .entry))) (r ≡ endMet settings (now (claim .entry)) (signed (now (f .entry))) (residue (now (g .entry))))) ⌝ }
 {
     let d = settings.degree as usize;
     if claim.len() < d {

@@ -16,7 +16,7 @@ ghost use Rattle.exports.specs.Promises.{CommitStored, RoundStored, EndS
 
 // Refusals 3 to 6.
 #[no_mangle]
-pub extern "C" fn wovenrock_settings(degree: u32, depth: u32, modulus: u32, bound: u32) -> u32
+pub extern "C" fn wovenrock_settings(degree: u32, depth: u32, modulus: u64, bound: u32) -> u32
     ensures { λ r. ⌜ r ≡ settingsRefusal (given degree depth modulus bound) ⌝ }
 {
     let s = Settings {
@@ -33,11 +33,11 @@ pub extern "C" fn wovenrock_settings(degree: u32, depth: u32, modulus: u32, boun
 pub extern "C" fn wovenrock_commit(
     degree: u32,
     depth: u32,
-    modulus: u32,
+    modulus: u64,
     bound: u32,
-    key: &[u32],
+    key: &[u64],
     message: &[i32],
-    commitment: &mut [u32],
+    commitment: &mut [u64],
 ) -> u32
     ensures { λ r. ⌜ CommitStored (given degree depth modulus bound) (now (key .entry)) (now (message .entry)) (now (commitment .entry)) r (now (commitment .exit)) ⌝ }
 {
@@ -65,12 +65,12 @@ pub extern "C" fn wovenrock_commit(
 pub extern "C" fn wovenrock_round(
     degree: u32,
     depth: u32,
-    modulus: u32,
+    modulus: u64,
     bound: u32,
     done: u32,
-    key: &[u32],
+    key: &[u64],
     message: &[i32],
-    polynomial: &mut [u32],
+    polynomial: &mut [u64],
 ) -> u32
     ensures { λ r. ⌜ RoundStored (given degree depth modulus bound) done (now (key .entry)) (now (message .entry)) (now (polynomial .entry)) r (now (polynomial .exit)) ⌝ }
 {
@@ -98,11 +98,11 @@ pub extern "C" fn wovenrock_round(
 pub extern "C" fn wovenrock_fold(
     degree: u32,
     depth: u32,
-    modulus: u32,
+    modulus: u64,
     bound: u32,
     done: u32,
     exponent: u32,
-    key: &mut [u32],
+    key: &mut [u64],
     message: &mut [i32],
 ) -> u32
     ensures { λ r. ⌜ Folded (given degree depth modulus bound) done exponent (now (key .entry)) (now (message .entry)) r (now (key .exit)) (now (message .exit)) ⌝ }
@@ -121,7 +121,7 @@ pub extern "C" fn wovenrock_fold(
 pub extern "C" fn wovenrock_end(
     degree: u32,
     depth: u32,
-    modulus: u32,
+    modulus: u64,
     bound: u32,
     done: u32,
     message: &[i32],
@@ -153,13 +153,13 @@ pub extern "C" fn wovenrock_end(
 pub extern "C" fn wovenrock_open(
     degree: u32,
     depth: u32,
-    modulus: u32,
+    modulus: u64,
     bound: u32,
-    key: &mut [u32],
+    key: &mut [u64],
     message: &mut [i32],
     challenges: &[u32],
-    rounds: &mut [u32],
-    commitment: &mut [u32],
+    rounds: &mut [u64],
+    commitment: &mut [u64],
     last: &mut [i32],
     verdict: &mut u32,
 ) -> u32
@@ -196,10 +196,10 @@ pub extern "C" fn wovenrock_open(
 pub extern "C" fn wovenrock_session_start(
     degree: u32,
     depth: u32,
-    modulus: u32,
+    modulus: u64,
     bound: u32,
-    commitment: &[u32],
-    session: &mut [u32],
+    commitment: &[u64],
+    session: &mut [u64],
 ) -> u32
     ensures { λ r. ⌜ StartStored (given degree depth modulus bound) (now (commitment .entry)) (now (session .entry)) r (now (session .exit)) ⌝ }
 {
@@ -215,9 +215,9 @@ pub extern "C" fn wovenrock_session_start(
 // A session's round.
 #[no_mangle]
 pub extern "C" fn wovenrock_session_round(
-    polynomial: &[u32],
+    polynomial: &[u64],
     exponent: u32,
-    session: &mut [u32],
+    session: &mut [u64],
     verdict: &mut u32,
 ) -> u32
     ensures { λ r. ⌜ MoveStored (polynomialFits (now (polynomial .entry)) (now (session .entry))) (roundOn (now (polynomial .entry)) exponent (now (session .entry)))
@@ -230,8 +230,8 @@ pub extern "C" fn wovenrock_session_round(
 #[no_mangle]
 pub extern "C" fn wovenrock_session_end(
     last: &[i32],
-    key: &[u32],
-    session: &mut [u32],
+    key: &[u64],
+    session: &mut [u64],
     verdict: &mut u32,
 ) -> u32
     ensures { λ r. ⌜ MoveStored (lastFits (now (last .entry)) (now (session .entry))) (endOn (now (last .entry)) (now (key .entry)) (now (session .entry)))
@@ -245,12 +245,12 @@ pub extern "C" fn wovenrock_session_end(
 pub extern "C" fn wovenrock_check(
     degree: u32,
     depth: u32,
-    modulus: u32,
+    modulus: u64,
     bound: u32,
-    commitment: &[u32],
+    commitment: &[u64],
     last: &[i32],
-    key: &[u32],
-    rounds: &[u32],
+    key: &[u64],
+    rounds: &[u64],
     challenges: &[u32],
     verdict: &mut u32,
 ) -> u32
@@ -282,11 +282,11 @@ pub extern "C" fn wovenrock_check(
 pub extern "C" fn wovenrock_judge(
     degree: u32,
     depth: u32,
-    modulus: u32,
+    modulus: u64,
     bound: u32,
-    commitment: &[u32],
+    commitment: &[u64],
     slack: u32,
-    key: &[u32],
+    key: &[u64],
     w: &[i64],
     yes: &mut u32,
 ) -> u32
@@ -314,11 +314,11 @@ pub extern "C" fn wovenrock_judge(
 pub extern "C" fn wovenrock_extract(
     degree: u32,
     depth: u32,
-    modulus: u32,
+    modulus: u64,
     bound: u32,
-    commitment: &[u32],
-    key: &[u32],
-    rounds: &[u32],
+    commitment: &[u64],
+    key: &[u64],
+    rounds: &[u64],
     challenges: &[u32],
     leaves: &[i32],
     w: &mut [i64],
@@ -342,7 +342,7 @@ pub extern "C" fn wovenrock_extract(
 
 // A first look at a text's settings.
 #[no_mangle]
-pub extern "C" fn wovenrock_look(text: &[u8], settings: &mut [u32]) -> u32
+pub extern "C" fn wovenrock_look(text: &[u8], settings: &mut [u64]) -> u32
     ensures { λ r. ⌜ Looked (now (text .entry)) (now (settings .entry)) r (now (settings .exit)) ⌝ }
 {
     text_calls::look(text, settings)
@@ -353,11 +353,11 @@ pub extern "C" fn wovenrock_look(text: &[u8], settings: &mut [u32]) -> u32
 pub extern "C" fn wovenrock_read(
     parts: u32,
     text: &[u8],
-    settings: &mut [u32],
-    key: &mut [u32],
+    settings: &mut [u64],
+    key: &mut [u64],
     message: &mut [i32],
-    commitment: &mut [u32],
-    rounds: &mut [u32],
+    commitment: &mut [u64],
+    rounds: &mut [u64],
     challenges: &mut [u32],
     last: &mut [i32],
 ) -> u32
@@ -383,13 +383,13 @@ pub extern "C" fn wovenrock_read(
 pub extern "C" fn wovenrock_write(
     degree: u32,
     depth: u32,
-    modulus: u32,
+    modulus: u64,
     bound: u32,
     parts: u32,
-    key: &[u32],
+    key: &[u64],
     message: &[i32],
-    commitment: &[u32],
-    rounds: &[u32],
+    commitment: &[u64],
+    rounds: &[u64],
     challenges: &[u32],
     last: &[i32],
     out: &mut [u8],

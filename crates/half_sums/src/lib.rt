@@ -46,7 +46,7 @@ pub fn message_sums(n: usize, first: &[i32], second: &[i32], sums: &mut [i32])
 }
 
 // Of a key, modulo q.
-pub fn key_sums(q: u32, n: usize, first: &[Residue], second: &[Residue], sums: &mut [Residue])
+pub fn key_sums(q: Residue, n: usize, first: &[Residue], second: &[Residue], sums: &mut [Residue])
     ensures { λ _. ⌜ Provided (Long n (length (now (first .entry))) (length (now (second .entry))) (length (now (sums .entry)))) (Provided (Residues q n 0 (now (first .entry))
         × Residues q n 0 (now (second .entry))) (now (sums .exit) ≡ filled (λ p. (getD (now (first .entry)) p 0 + getD (now (second .entry)) p 0) % q) n (now (sums .entry)))) ⌝ }
 {

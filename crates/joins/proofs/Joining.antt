@@ -5,15 +5,14 @@ use Prim.Native.Nat.{ℕ, zero, suc, _+_, _*_, _-_, _/_, _%_, _^_, _<_, _≤_}
 use native.Mathlib.Nat as Nat
 use native.Mathlib.Omega.{arith}
 use borrow.Author.Tests.{le-ltb}
-use lib.IntN.{ℤ, pos, negsuc, natAbs, _+ℤ_, _*ℤ_, +ℤ-assoc, +ℤ-comm, *ℤ-comm, *ℤ-zero}
+use lib.IntN.{ℤ, pos, negsuc, natAbs, _+ℤ_, _*ℤ_, +ℤ-assoc, +ℤ-comm, +ℤ-idr, *ℤ-comm, *ℤ-zero}
 use Rattle.algebra.specs.Integers.{*ℤ-assoc, *ℤ-+ℤ}
 use Rattle.algebra.specs.Magnitude.{natAbs-add, natAbs-mul}
-use Rattle.protocol.specs.Basic.{sum}
 use Rattle.protocol.specs.Element.{modulo}
-use Rattle.protocol.proofs.Modulo.{modulo-lt, modulo-add, modulo-times, modulo-residue, times-mod}
+use Rattle.protocol.proofs.Modulo.{modulo-lt, modulo-add, modulo-times, times-mod}
 use Rattle.joins.specs.Sums.{weight, lowerHalf, upperHalf, room, Halves}
 
--- ---- the halves of a product, and of a sum of products
+-- ---- the halves of a product
 
 -- (a + b) + (c + d) is (a + c) + (b + d)
 exchange : (a b c d : ℤ) → (a +ℤ b) +ℤ (c +ℤ d) ≡ (a +ℤ c) +ℤ (b +ℤ d)
@@ -35,42 +34,6 @@ product-halves a x =
     ∙ sym (*ℤ-+ℤ a (pos (lowerHalf x)) (pos weight *ℤ pos (upperHalf x)))
     ∙ ap (λ y. a *ℤ y) (whole x)
 
-module _ (a : ℕ → ℤ) (x : ℕ → ℕ) where
-  abbrev lowers : ℕ → ℤ
-  lowers n = sum n (λ i. a i *ℤ pos (lowerHalf (x i)))
-
-  abbrev uppers : ℕ → ℤ
-  uppers n = sum n (λ i. a i *ℤ pos (upperHalf (x i)))
-
-  pub sum-halves : (n : ℕ) → lowers n +ℤ pos weight *ℤ uppers n ≡ sum n (λ i. a i *ℤ pos (x i))
-  unfolding sum
-  sum-halves zero = refl
-  sum-halves (suc n) =
-      joined-add (pos weight) (lowers n) (uppers n) (a n *ℤ pos (lowerHalf (x n))) (a n *ℤ pos (upperHalf (x n)))
-      ∙ (λ i. sum-halves n i +ℤ product-halves (a n) (x n) i)
-
--- a sum of n numbers of at most b
-sum-most : (n b : ℕ) (f : ℕ → ℤ) → ((i : ℕ) → i < n → natAbs (f i) ≤ b) → natAbs (sum n f) ≤ n * b
-unfolding sum
-sum-most zero b f h = omega arith
-sum-most (suc n) b f h = omega (arith, natAbs-add (sum n f) (f n), sum-most n b f (λ i l. h i (omega arith)), h n (omega arith), Nat.suc-mul n b)
-
--- the join: n products of numbers of at most c with residues of 62 bits
-module _ (q n c : ℕ) (a : ℕ → ℤ) (x : ℕ → ℕ) (small : (i : ℕ) → i < n → natAbs (a i) ≤ c) (below : (i : ℕ) → i < n → x i < 2 ^ 62) where
-  half-most : (y : ℕ → ℕ) → ((i : ℕ) → i < n → y i ≤ weight) → natAbs (sum n (λ i. a i *ℤ pos (y i))) ≤ n * (c * weight)
-  half-most y each = sum-most n (c * weight) _ (λ i l. Nat.le-trans (Nat.le-of-eq (natAbs-mul (a i) (pos (y i)))) (Nat.mul-le-mul (small i l) (each i l)))
-
-  pub join-sums : (s t : ℕ) → s ≡ modulo (2 ^ 64) (lowers a x n) → t ≡ modulo (2 ^ 64) (uppers a x n) → Halves q (sum n (λ i. a i *ℤ pos (x i))) (n * (c * weight)) s t
-  join-sums s t es et = record {
-    lower = lowers a x n;
-    upper = uppers a x n;
-    lower-size = half-most (λ i. lowerHalf (x i)) (λ i l. omega arith);
-    upper-size = half-most (λ i. upperHalf (x i)) (λ i l. omega (arith, below i l));
-    lower-bits = es;
-    upper-bits = et;
-    value = ap (modulo q) (sum-halves a x n);
-  }
-
 -- ---- sums that grow
 
 pub halves-same : (q : ℕ) (z y : ℤ) (b s t : ℕ) → modulo q z ≡ modulo q y → Halves q z b s t → Halves q y b s t
@@ -82,11 +45,25 @@ halves-same q z y b s t e H = record {
   lower-bits = H .lower-bits;
   upper-bits = H .upper-bits;
   value = H .value ∙ e;
+  none = H .none;
+}
+
+pub halves-within : (q : ℕ) (z : ℤ) (b c s t : ℕ) → b ≤ c → Halves q z b s t → Halves q z c s t
+halves-within q z b c s t l H = record {
+  lower = H .lower;
+  upper = H .upper;
+  lower-size = Nat.le-trans (H .lower-size) l;
+  upper-size = Nat.le-trans (H .upper-size) l;
+  lower-bits = H .lower-bits;
+  upper-bits = H .upper-bits;
+  value = H .value;
+  none = H .none;
 }
 
 -- one product
-pub halves-product : (q : ℕ) (a : ℤ) (x c : ℕ) → natAbs a ≤ c → x < 2 ^ 62 → Halves q (a *ℤ pos x) (c * weight) (modulo (2 ^ 64) (a *ℤ pos (lowerHalf x))) (modulo (2 ^ 64) (a *ℤ pos (upperHalf x)))
-halves-product q a x c small below = record {
+pub halves-product : (q : ℕ) (a : ℤ) (x c : ℕ) → q ≤ 2 ^ 61 → natAbs a ≤ c → x ≤ q
+    → Halves q (a *ℤ pos x) (c * weight) (modulo (2 ^ 64) (a *ℤ pos (lowerHalf x))) (modulo (2 ^ 64) (a *ℤ pos (upperHalf x)))
+halves-product q a x c most small below = record {
   lower = a *ℤ pos (lowerHalf x);
   upper = a *ℤ pos (upperHalf x);
   lower-size = Nat.le-trans (Nat.le-of-eq (natAbs-mul a (pos (lowerHalf x)))) (Nat.mul-le-mul {m₂ = weight} small (omega arith));
@@ -94,12 +71,27 @@ halves-product q a x c small below = record {
   lower-bits = refl;
   upper-bits = refl;
   value = ap (modulo q) (product-halves a x);
+  none = λ l. ap (λ n. modulo (2 ^ 64) (a *ℤ pos n)) {y = 0} (omega arith) ∙ ap (modulo (2 ^ 64)) (*ℤ-zero a) ∙ unfold modulo in refl;
+}
+
+-- a number that has no upper half
+pub halves-lower : (q : ℕ) (z : ℤ) (c : ℕ) → natAbs z ≤ c → Halves q z c (modulo (2 ^ 64) z) 0
+unfolding modulo
+halves-lower q z c small = record {
+  lower = z;
+  upper = pos 0;
+  lower-size = small;
+  upper-size = omega arith;
+  lower-bits = refl;
+  upper-bits = refl;
+  value = ap (modulo q) (ap (λ y. z +ℤ y) (*ℤ-zero (pos weight)) ∙ +ℤ-idr z);
+  none = λ l. refl;
 }
 
 module _ (q : ℕ) (p : 0 < q) where
   pub halves-none : Halves q (pos 0) 0 0 0
   unfolding modulo
-  halves-none = record { lower = pos 0; upper = pos 0; lower-size = omega arith; upper-size = omega arith; lower-bits = refl; upper-bits = refl; value = refl }
+  halves-none = record { lower = pos 0; upper = pos 0; lower-size = omega arith; upper-size = omega arith; lower-bits = refl; upper-bits = refl; value = refl; none = λ l. refl }
 
   -- more of both halves
   pub halves-add : (z y : ℤ) (b c s t s′ t′ l u : ℕ) → Halves q z b s t → Halves q y c l u → s′ ≡ (s + l) % 2 ^ 64 → t′ ≡ (t + u) % 2 ^ 64 → Halves q (z +ℤ y) (b + c) s′ t′
@@ -115,6 +107,7 @@ module _ (q : ℕ) (p : 0 < q) where
         ∙ modulo-add q p (H .lower +ℤ pos weight *ℤ H .upper) (I .lower +ℤ pos weight *ℤ I .upper)
         ∙ (λ i. (H .value i + I .value i) % q)
         ∙ sym (modulo-add q p z y);
+    none = λ l. omega (arith, et, H .none l, I .none l);
   }
 
 -- ---- a sum with an offset, which makes it positive
@@ -139,6 +132,12 @@ raised w s n small e least most =
     ∙ sym (modulo-add (2 ^ 64) (omega arith) w (pos n)) ∙ ap (modulo (2 ^ 64)) (up .1) ∙ Nat.mod-eq-of-lt (omega (arith, up .2)) in
     record { is = up .1 ∙ ap pos (sym same); most = omega (arith, same, up .2) }
 
+-- a number near 0 that is 0 modulo 2^64
+nothing : (w : ℤ) → natAbs w ≤ room → 0 ≡ modulo (2 ^ 64) w → w ≡ pos 0
+unfolding modulo
+nothing (pos n) small e = ap pos (omega arith)
+nothing (negsuc n) small e = absurd (omega arith)
+
 module _ (q : ℕ) (p : 0 < q) (n : ℕ) (divided : n % q ≡ 0) where
   -- an offset that q divides changes no residue
   raised-residue : (w : ℤ) (s : ℕ) → Raised w s n → (s + n) % 2 ^ 64 % q ≡ modulo q w
@@ -153,6 +152,14 @@ module _ (q : ℕ) (p : 0 < q) (n : ℕ) (divided : n % q ≡ 0) where
 
     upper-raised : Raised (H .upper) t n
     upper-raised = raised (H .upper) t n (H .upper-size) (H .upper-bits) least n-most
+
+    -- with no upper halves
+    pub lower-joined : q < weight → (l : ℕ) → l ≡ (s + n) % 2 ^ 64 → l % q ≡ modulo q z
+    lower-joined few l el =
+        ap (λ x. x % q) el
+        ∙ raised-residue (H .lower) s lower-raised
+        ∙ ap (modulo q) (sym (ap (λ y. H .lower +ℤ y) (ap (λ u. pos weight *ℤ u) (nothing (H .upper) (H .upper-size) (sym (H .none few) ∙ H .upper-bits)) ∙ *ℤ-zero (pos weight)) ∙ +ℤ-idr (H .lower)))
+        ∙ H .value
 
     pub joined-is : (l u : ℕ) → l ≡ (s + n) % 2 ^ 64 → u ≡ (t + n) % 2 ^ 64 * weight % q → (l + u) % 2 ^ 64 % q ≡ modulo q z
     joined-is l u el eu =

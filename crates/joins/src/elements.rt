@@ -1,33 +1,23 @@
-// The same for all numbers of a room and for all sums of an element.
+// The upper halves of a room, and the sums of an element.
 use crate::Joint;
 use protocol::WIDTH;
 ghost use mathlib.Core.Path.{_≡_};
-ghost use Prim.Native.Nat.{ℕ};
+ghost use Prim.Native.Nat.{ℕ, _≤_};
 ghost use lib.ListN.{length, getD};
 ghost use Rattle.protocol.specs.Basic.{Provided};
 ghost use Rattle.protocol.specs.Element.{Element, reduced, padded};
 ghost use Rattle.residues.specs.Lists.{filled};
-ghost use Rattle.joins.specs.Sums.{lowerHalf, upperHalf, Ready, Splittable, Stand};
+ghost use Rattle.joins.specs.Sums.{upperHalf, Ready, Stand};
 
-// The halves of the first n numbers of x, each kind at the front of a table of its own.
-pub fn split(n: usize, x: &[u64], lower: &mut [u64], upper: &mut [u64])
-    ensures { λ _. ⌜ Provided (Splittable n (length (now (x .entry))) (length (now (lower .entry))) (length (now (upper .entry))))
-        ((now (lower .exit) ≡ filled (λ k. lowerHalf (getD (now (x .entry)) k 0)) n (now (lower .entry)))
-        × (now (upper .exit) ≡ filled (λ k. upperHalf (getD (now (x .entry)) k 0)) n (now (upper .entry)))) ⌝ }
+// The upper halves of the first n numbers of x, each in its number's place.
+pub fn upper_halves(n: usize, x: &mut [u64])
+    ensures { λ _. ⌜ Provided (n ≤ length (now (x .entry))) (now (x .exit) ≡ filled (λ k. upperHalf (getD (now (x .entry)) k 0)) n (now (x .entry))) ⌝ }
 {
     if x.len() < n {
         return;
     }
-    if lower.len() < n {
-        return;
-    }
-    if upper.len() < n {
-        return;
-    }
     for k in 0..n {
-        let y = x[k];
-        lower[k] = crate::lower_half(y);
-        upper[k] = crate::upper_half(y);
+        x[k] = crate::upper_half(x[k]);
     }
 }
 

@@ -5,22 +5,24 @@ use mathlib.Core.List.{List, [], _∷_}
 use Prim.Native.Nat.{ℕ}
 use native.Mathlib.Nat as Nat
 use native.Mathlib.Omega.{arith}
-use borrow.Author.Tests.{eqb-true, leb-true}
+use borrow.Author.Tests.{eqb-true, leb-true, ltb-true}
 use lib.IntN.{ℤ}
 use lib.ListN.{length}
 use Rattle.protocol.specs.declared.Settings.{Settings}
 use Rattle.protocol.specs.declared.Judged.{Judged}
-use Rattle.protocol.specs.Settings.{settingsRefusal, cells, hasLength, allWithin}
+use Rattle.protocol.specs.Inputs.{Below}
+use Rattle.protocol.specs.Settings.{settingsRefusal, cells, hasLength, allBelow, residueElement, allWithin}
 use Rattle.protocol.specs.Tree.{growthFactor, growthLimit, growth, growthAllowed}
 use Rattle.protocol.specs.Judge.{opens, judged}
 use Rattle.protocol.specs.Calls.{judgeRefusal, judgeAnswer}
-use Rattle.protocol.proofs.Inputs.{settings-valid}
-use Rattle.protocol.proofs.Tests.{and-split, granted-zero, granted-refused}
+use Rattle.protocol.proofs.Inputs.{settings-valid, tested-below}
+use Rattle.protocol.proofs.Tests.{and-split, every-at, granted-zero, granted-refused}
 use Rattle.protocol.proofs.Refusals.{none-refused, and-fails-right}
 use Rattle.protocol.specs.GrowthTest.{cappedGrowth}
 use Rattle.protocol.proofs.GrowthTest.{power-exact, growth-cells}
 use Rattle.sizes.proofs.Limits.{degree-least}
 use Rattle.judge.specs.Digits.{Vector}
+use Rattle.judge.specs.Scaling.{Reduced}
 
 -- where nothing is past the limit, the capped number is the number
 pub growth-exact : (S : Settings) → settingsRefusal S ≡ 0 → growthAllowed S ≡ true → cappedGrowth S ≡ growth S
@@ -30,28 +32,36 @@ growth-exact S e t =
     (S .bound) (S .depth) (leb-true _ _ t)
 
 -- what is known of inputs that are not refused
-pub record JudgeGiven (S : Settings) (key : List ℕ) (w : List ℤ) : Type 0 where
+pub record JudgeGiven (S : Settings) (C key : List ℕ) (w : List ℤ) : Type 0 where
   pub allowed : settingsRefusal S ≡ 0
-  pub key-long : length key ≡ cells S
+  pub commitment-given : Reduced (S .modulus) (S .degree) C
+  pub key-given : Below (S .modulus) (cells S) key
   pub w-long : length w ≡ cells S
   pub limited : growthAllowed S ≡ true
 
-pub given-vector : (S : Settings) (key : List ℕ) (w : List ℤ) → JudgeGiven S key w → Vector S key w
+pub given-vector : (S : Settings) (C key : List ℕ) (w : List ℤ) → JudgeGiven S C key w → Vector S key w
 unfolding growthAllowed
-given-vector S key w g = record {
+given-vector S C key w g = record {
   allowed = g .allowed;
-  key-long = g .key-long;
+  key-given = g .key-given;
   long = g .w-long;
   few = growth-cells S (settings-valid S (g .allowed)) (leb-true _ _ (g .limited));
 }
 
 module _ (S : Settings) (C : List ℕ) (c : ℕ) (key : List ℕ) (w : List ℤ) where
-  pub judge-given : judgeRefusal S C c key w ≡ 0 → JudgeGiven S key w
-  unfolding judgeRefusal hasLength
+  pub judge-given : judgeRefusal S C c key w ≡ 0 → JudgeGiven S C key w
+  unfolding judgeRefusal hasLength allBelow residueElement
   judge-given e =
-      let (r6, (t7, (_, (t14, _)))) = none-refused ((6, _) ∷ (7, _) ∷ (13, _) ∷ (14, _) ∷ []) e in
+      let (r6, (t7, (t8, (t14, _)))) = none-refused ((6, _) ∷ (7, _) ∷ (13, _) ∷ (14, _) ∷ []) e in
       let (k, v) = and-split t7 in
-      record { allowed = r6; key-long = eqb-true _ _ k; w-long = eqb-true _ _ v; limited = t14 }
+      let (below, element) = and-split {a = allBelow S key} {b = residueElement S C} t8 in
+      record {
+        allowed = r6;
+        commitment-given = λ i l. ltb-true _ _ (every-at (S .degree) _ element i l);
+        key-given = tested-below (S .modulus) (cells S) key k below;
+        w-long = eqb-true _ _ v;
+        limited = t14;
+      }
 
   pub judge-refused : (n : ℕ) → n ≡ judgeRefusal S C c key w → (n ≡ 0 → ⊥) → _≡_ {A = Judged} (record { refusal = n; yes = false }) (judgeAnswer S C c key w)
   unfolding judgeAnswer

@@ -1,20 +1,32 @@
--- The residue of a signed number, by its magnitude and its sign.
+-- The residue of a signed number, by what is left without its sign.
 use mathlib.Core.Path.{_≡_, refl, sym, _∙_}
 use mathlib.Core.Bool.{true, false, false≢true}
-use Prim.Native.Nat.{ℕ, suc, _-_, _%_, _<_}
+use Prim.Native.Nat.{ℕ, _+_, _-_, _%_}
 use native.Mathlib.Omega.{arith}
 use borrow.Author.Tests.{le-ltb}
 use lib.IntN.{ℤ, pos, negsuc, natAbs}
 use lib.Signed.{ltZ}
 use Rattle.protocol.specs.Element.{modulo}
-use Rattle.protocol.proofs.Modulo.{modulo-neg}
+use Rattle.judge.specs.Signs.{folded}
 
-pub residue-below : (q : ℕ) → 0 < q → (x : ℤ) → ltZ x (pos 0) ≡ true → (q - natAbs x % q) % q ≡ modulo q x
-unfolding modulo
-residue-below q p (pos n) t = absurd (false≢true (sym (le-ltb n 0 (omega arith)) ∙ t))
-residue-below q p (negsuc n) t = sym (modulo-neg q p (pos (suc n)))
+module _ (m : ℕ) where
+  pub folded-below : (x : ℤ) → ltZ x (pos 0) ≡ true → m + 1 ≡ natAbs x → m ≡ folded x
+  unfolding folded
+  folded-below (pos n) t e = absurd (false≢true (sym (le-ltb n 0 (omega arith)) ∙ t))
+  folded-below (negsuc n) t e = omega (arith, e)
 
-pub residue-above : (q : ℕ) (x : ℤ) → ltZ x (pos 0) ≡ false → natAbs x % q ≡ modulo q x
-unfolding modulo
-residue-above q (pos n) t = refl
-residue-above q (negsuc n) t = absurd (false≢true (sym t))
+  pub folded-above : (x : ℤ) → ltZ x (pos 0) ≡ false → m ≡ natAbs x → m ≡ folded x
+  unfolding folded
+  folded-above (pos n) t e = e
+  folded-above (negsuc n) t e = absurd (false≢true (sym t))
+
+module _ (q : ℕ) where
+  pub residue-below : (x : ℤ) → ltZ x (pos 0) ≡ true → q - 1 - folded x % q ≡ modulo q x
+  unfolding folded modulo
+  residue-below (pos n) t = absurd (false≢true (sym (le-ltb n 0 (omega arith)) ∙ t))
+  residue-below (negsuc n) t = omega arith
+
+  pub residue-above : (x : ℤ) → ltZ x (pos 0) ≡ false → folded x % q ≡ modulo q x
+  unfolding folded modulo
+  residue-above (pos n) t = refl
+  residue-above (negsuc n) t = absurd (false≢true (sym t))

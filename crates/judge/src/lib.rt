@@ -1,5 +1,6 @@
 // The judge of relaxed openings.
 mod combination;
+mod scaling;
 
 use protocol::Judged;
 use protocol::Residue;

@@ -7,6 +7,7 @@ use native.Mathlib.Nat as Nat
 use native.Mathlib.Decide.{decLt}
 use native.Mathlib.Omega.{arith}
 use lib.IntN.{ℤ}
+use lib.ListN.{getD}
 use Rattle.protocol.specs.declared.Settings.{Settings}
 use Rattle.protocol.specs.declared.Verdict.{Verdict}
 use Rattle.protocol.specs.declared.Verdict.the-variants.{Silent}
@@ -20,7 +21,7 @@ use Rattle.protocol.specs.Promises.{Opening}
 use Rattle.protocol.proofs.Tests.{granted-zero, granted-refused}
 use Rattle.claims.proofs.Honest.{Given, degree-positive, modulus-positive, opening-commitment, opening-last, opening-key, opening-message, opening-rounds}
 use Rattle.claims.proofs.Prover.{commit-answer}
-use Rattle.protocol.proofs.Ranges.{commitment-below}
+use Rattle.protocol.proofs.Ranges.{commitment-below, key-residues, below-everywhere}
 use Rattle.protocol.proofs.Reading.{tabulate-own}
 use Rattle.sizes.proofs.Limits.{degree-most}
 use Rattle.residues.specs.Lists.{filled, spliced}
@@ -69,7 +70,7 @@ module _ (S : Settings) (G : List ℕ) (M : List ℤ) (E R : List ℕ) where
       (begins : commitRefusal S G M ≡ 0 → Begun S G M (zeros width) R C begun-rounds)
       (turn : ProverTurn S E (record { done = 0; claim = C; holds = true }) G M begun-rounds r key message rounds)
       (ends : d ≤ 64 → f ≡ paddedSigned d (coefficients d (signedAt d message 0)))
-      (says : settingsRefusal S ≡ 0 → v ≡ verdict (r .holds && endMet S (r .claim) (signed f) (residue (elementAt d key 0)))) where
+      (says : settingsRefusal S ≡ 0 → ((j : ℕ) → getD key j 0 < S .modulus) → v ≡ verdict (r .holds && endMet S (r .claim) (signed f) (residue (elementAt d key 0)))) where
     given : Lent S G M E R
     given = lent S G M E R passed
 
@@ -120,9 +121,12 @@ module _ (S : Settings) (G : List ℕ) (M : List ℤ) (E R : List ℕ) where
     unfolding finalElement
     f-is = ends (degree-most S (ok .settings)) ∙ ap (λ m. paddedSigned d (coefficients d (signedAt d m 0))) (finished .tables .message-is)
 
+    folded-below : (j : ℕ) → getD key j 0 < S .modulus
+    folded-below = subst (λ k. (j : ℕ) → getD k j 0 < S .modulus) (sym (finished .tables .key-is)) (below-everywhere (S .modulus) _ _ pq (key-residues S pq E L G (ok .key)))
+
     v-is : v ≡ verdict (accepted S G T)
     v-is =
-        says (given .allowed)
+        says (given .allowed) folded-below
         ∙ (λ i. verdict (finished .checks .holds-is i && endMet S (finished .checks .claim-is i) (signed (f-is i)) (residue (elementAt d (finished .tables .key-is i) 0))))
         ∙ ap verdict (sym (accepted-is S (modulus-positive S (ok .settings)) G M E R))
 

@@ -7,6 +7,8 @@ use protocol::WIDTH;
 use residues::elements;
 ghost use mathlib.Core.Path.{_≡_};
 ghost use mathlib.Core.Bool.{_&&_};
+ghost use Prim.Native.Nat.{ℕ, _<_};
+ghost use lib.ListN.{getD};
 ghost use Rattle.protocol.specs.Basic.{Provided};
 ghost use Rattle.protocol.specs.Element.{signed, residue};
 ghost use Rattle.protocol.specs.Settings.{settingsRefusal};
@@ -14,10 +16,11 @@ ghost use Rattle.protocol.specs.Session as session;
 ghost use Rattle.residues.specs.Elements.{elementAt};
 ghost use Rattle.protocol.specs.Transcript.{endMet};
 
-// What the verifier says once all turns are done, the key being folded by all challenges.
+// What the verifier says once all turns are done, the key being folded by all challenges, and its numbers residues.
 pub fn verdict(settings: Settings, ended: State, last: [i32; WIDTH], key: &[Residue]) -> Verdict
     ensures { λ r. ⌜ Provided (settingsRefusal settings ≡ 0)
-        (r ≡ session.verdict (ended .holds && endMet settings (ended .claim) (signed last) (residue (elementAt (settings .degree) (now (key .entry)) 0)))) ⌝ }
+        (Provided ((j : ℕ) → getD (now (key .entry)) j 0 < settings .modulus)
+        (r ≡ session.verdict (ended .holds && endMet settings (ended .claim) (signed last) (residue (elementAt (settings .degree) (now (key .entry)) 0))))) ⌝ }
 {
     if !ended.holds {
         return Verdict::Rejected;

@@ -27,7 +27,7 @@ pub fn opened(
     ensures { λ r. ⌜ Provided (openingRefusal settings (now (key .entry)) (now (message .entry)) (now (challenges .entry)) (now (rounds .entry)) ≡ 0)
         (Opening settings (now (key .entry)) (now (message .entry)) (now (challenges .entry)) (now (rounds .entry)) r (now (key .exit)) (now (message .exit)) (now (rounds .exit))) ⌝ }
 {
-    let mut commitment = [0u32; WIDTH];
+    let mut commitment: [Residue; WIDTH] = [0; WIDTH];
     opening_rounds::begin(settings, key, message, &mut commitment, rounds);
     let begun = State {
         done: 0,
@@ -59,7 +59,7 @@ pub fn open(
     if refusal != 0 {
         return Opened {
             refusal,
-            commitment: [0u32; WIDTH],
+            commitment: [0; WIDTH],
             last: [0i32; WIDTH],
             verdict: Verdict::Silent,
         };

@@ -4,38 +4,33 @@ use mathlib.Core.List.{List}
 use Prim.Native.Nat.{ℕ, zero, suc, _+_, _*_, _-_, _/_, _%_, _^_, _<_, _≤_}
 use native.Mathlib.Nat as Nat
 use native.Mathlib.Omega.{arith}
-use lib.IntN.{ℤ, pos, natAbs, _+ℤ_, _*ℤ_, +ℤ-idl, +ℤ-idr, +ℤ-assoc}
+use lib.IntN.{ℤ, pos, natAbs, _+ℤ_, _*ℤ_, +ℤ-idr, +ℤ-assoc}
 use lib.ListN.{length, getD, take, drop}
 use Rattle.protocol.specs.declared.Settings.{Settings}
 use Rattle.protocol.specs.Basic.{sum}
 use Rattle.protocol.specs.Element.{Element, modulo, product, times, padded, reduced, signedAt, residueAt}
 use Rattle.protocol.specs.Settings.{size, half}
 use Rattle.protocol.specs.Layout.{left}
-use Rattle.protocol.specs.Opening.{inner, second, cross, halfLeft, commitment, roundElement}
-use Rattle.protocol.specs.Calls.{roundRefusal}
+use Rattle.protocol.specs.Opening.{inner, cross, halfLeft, commitment, roundElement}
 use Rattle.protocol.specs.Inputs.{Valid}
-use Rattle.protocol.proofs.Modulo.{reduced-at, modulo-lt, modulo-add, modulo-times, mod-times}
+use Rattle.protocol.proofs.Modulo.{reduced-at, modulo-lt, modulo-add, modulo-times}
 use Rattle.protocol.proofs.Ranges.{round-below}
 use Rattle.residues.specs.Lists.{filled, spliced}
 use Rattle.residues.specs.Residues.{Residues}
 use Rattle.residues.proofs.Fill.{filled-ext}
 use Rattle.residues.proofs.Padding.{padded-at}
 use Rattle.residues.proofs.Parts.{tail-at, tail-length, same-long}
-use Rattle.residues.proofs.Splice.{spliced-ext, spliced-before, spliced-length}
+use Rattle.residues.proofs.Splice.{spliced-ext, spliced-before}
 use Rattle.prover_refusals.proofs.Given.{RoundGiven, round-given}
 use Rattle.round_products.specs.Messages.{Tables, Halved}
 use Rattle.round_products.specs.Sums.{scaled, innerOfSums}
-use Rattle.opening_rounds.specs.Rounds.{elementPlaces, sumAt, halfOf, HalvesBelow, middleAt, lastAt, Continuing}
+use Rattle.opening_rounds.specs.Rounds.{elementPlaces, sumAt, halfOf, Halvables, middleAt, lastAt, Continuing}
 use Rattle.round_products.proofs.Halves.{round-tables}
 use Rattle.round_products.proofs.Products.{inner-same, left-whole}
 use Rattle.round_products.proofs.Mixing.{scaled-at, spread}
-use Rattle.opening_rounds.proofs.Claimed.{half-below, last-is, middle-is}
+use Rattle.opening_rounds.proofs.Claimed.{claim-halvable, last-is, middle-is}
 
 -- ---- elements that are reduced, times a number and added
-
--- by a number that is itself reduced
-scaled-mod : (q s : ℕ) → 0 < q → (z : ℤ) → modulo q (pos (s % q) *ℤ z) ≡ modulo q (pos s *ℤ z)
-scaled-mod q s p z = modulo-times q p (s % q) z ∙ mod-times q p s (modulo q z) ∙ sym (modulo-times q p s z)
 
 -- an element as it is passed by value
 value-at : (q d : ℕ) (a : Element) (l : List ℕ) → l ≡ padded d (reduced q d a) → (k : ℕ) → k < d → getD l k 0 ≡ modulo q (a k)
@@ -48,11 +43,14 @@ value-residues q d p a l e long = record {
   each = λ k h. omega (arith, ap (λ j. getD l j 0) (Nat.zero-add k), value-at q d a l e k h, modulo-lt q p (a k));
 }
 
+pub value-halvable : (q d : ℕ) → 0 < q → q % 2 ≡ 1 → (a : Element) (l : List ℕ) → l ≡ padded d (reduced q d a) → Halvables q d l
+value-halvable q d p odd a l e k h = record { odd = odd; residue = omega (arith, value-at q d a l e k h, modulo-lt q p (a k)) }
+
 pub written-element : (q d s : ℕ) → 0 < q → (a : Element) (l : List ℕ) → l ≡ padded d (reduced q d a) → (out : List ℕ)
-    → filled (λ k. s % q * getD l k 0 % q) d out ≡ filled (elementPlaces (reduced q d (times (pos s) a))) d out
+    → filled (λ k. s * getD l k 0 % q) d out ≡ filled (elementPlaces (reduced q d (times (pos s) a))) d out
 unfolding times
 written-element q d s p a l e out = filled-ext _ _ d out (λ k h.
-    ap (λ x. s % q * x % q) (value-at q d a l e k h) ∙ sym (modulo-times q p (s % q) (a k)) ∙ scaled-mod q s p (a k) ∙ sym (reduced-at q d (times (pos s) a) k h))
+    ap (λ x. s * x % q) (value-at q d a l e k h) ∙ sym (modulo-times q p s (a k)) ∙ sym (reduced-at q d (times (pos s) a) k h))
 
 pub written-sum : (q d : ℕ) → 0 < q → (a b c : Element) → ((k : ℕ) → a k +ℤ b k ≡ c k) → (x y : List ℕ) → x ≡ padded d (reduced q d a) → y ≡ padded d (reduced q d b) → (out : List ℕ)
     → filled (sumAt q x y) d out ≡ filled (elementPlaces (reduced q d c)) d out
@@ -80,6 +78,7 @@ module _ (q d n h : ℕ) (m : List ℤ) (G : List ℕ) (t : Tables q d n m G) (p
   pub first-part : Tables q d h m G
   first-part = record {
     modulus = t .modulus;
+    modulus-odd = t .modulus-odd;
     modulus-most = t .modulus-most;
     degree = t .degree;
     degree-most = t .degree-most;
@@ -87,11 +86,13 @@ module _ (q d n h : ℕ) (m : List ℤ) (G : List ℕ) (t : Tables q d n m G) (p
     message-long = omega (arith, t .message-long, split);
     key-long = omega (arith, t .key-long, split);
     message-small = λ j l. t .message-small j (omega (arith, split));
+    key-residues = λ j l. t .key-residues j (omega (arith, split));
   }
 
   pub second-part : Tables q d (n - h) m1 G1
   second-part = record {
     modulus = t .modulus;
+    modulus-odd = t .modulus-odd;
     modulus-most = t .modulus-most;
     degree = t .degree;
     degree-most = t .degree-most;
@@ -99,6 +100,7 @@ module _ (q d n h : ℕ) (m : List ℤ) (G : List ℕ) (t : Tables q d n m G) (p
     message-long = omega (arith, tail-length (h * d) m, t .message-long, split);
     key-long = omega (arith, tail-length (h * d) G, t .key-long, split);
     message-small = λ j l. subst (λ z. natAbs z ≤ 2 ^ 15) (sym (tail-at (h * d) m j (pos 0))) (t .message-small (h * d + j) (omega (arith, split)));
+    key-residues = λ j l. subst (λ z. z < q) (sym (tail-at (h * d) G j 0)) (t .key-residues (h * d + j) (omega (arith, split)));
   }
 
   second-message : (i j : ℕ) → signedAt d m1 i j ≡ signedAt d m (h + i) j
@@ -147,7 +149,7 @@ module _ (S : Settings) (t : ℕ) (key : List ℕ) (message : List ℤ) where
   -- ---- c1 and c2
 
   module _ (claim p x : List ℕ) (g : Continuing S t key message claim p)
-      (x-is : Halved q d (halfLeft S t) message key → x ≡ scaled q d (half S ^ (t + 1) % q) (innerOfSums d (halfLeft S t) (signedAt d message) (residueAt d key))) where
+      (x-is : Halved q d (halfLeft S t) message key → x ≡ scaled q d (half S ^ (t + 1)) (innerOfSums d (halfLeft S t) (signedAt d message) (residueAt d key))) where
     given : RoundGiven S t key message
     given = round-given S key message t (g .passed)
 
@@ -166,17 +168,17 @@ module _ (S : Settings) (t : ℕ) (key : List ℕ) (message : List ℤ) where
     c-below : (j k : ℕ) → k < d → c j k < q
     c-below j k l = round-below S pq t key message j .each k l
 
-    pub claim-halves : HalvesBelow q d claim
-    claim-halves = record { each = λ k l. half-below q (ok .modulus-odd) (c 0 k) (c 2 k) (getD claim k 0) (c-below 0 k l) (c-below 2 k l) (g .claimed k l) }
+    pub claim-halves : Halvables q d claim
+    claim-halves k l = claim-halvable q (ok .modulus-odd) (c 0 k) (c 2 k) (getD claim k 0) (c-below 0 k l) (c-below 2 k l) (g .claimed k l)
 
     x-at : (k : ℕ) → k < d → getD x k 0 ≡ ((c 0 k + c 1 k) % q + c 2 k) % q
     x-at k l =
         let n : ℕ = half S ^ (t + 1) in
         let m : ℕ → Element = signedAt d message in
         let G : ℕ → Element = residueAt d key in
-        let one : (j : ℕ) → modulo q (pos (n % q) *ℤ cross d (halfLeft S t) m G j k) ≡ c j k = λ j. scaled-mod q n pq (cross d (halfLeft S t) m G j k) ∙ sym (element-at j k l) in
-        scaled-at q d (halfLeft S t) (n % q) pq (halves .tables .degree) m G (innerOfSums d (halfLeft S t) m G) x (x-is halves) k l
-        ∙ spread q d (halfLeft S t) (n % q) pq (halves .tables .degree) m G k l
+        let one : (j : ℕ) → modulo q (pos n *ℤ cross d (halfLeft S t) m G j k) ≡ c j k = λ j. sym (element-at j k l) in
+        scaled-at q d (halfLeft S t) n pq (halves .tables .degree) m G (innerOfSums d (halfLeft S t) m G) x (x-is halves) k l
+        ∙ spread q d (halfLeft S t) n pq (halves .tables .degree) m G k l
         ∙ λ i. ((one 0 i + one 1 i) % q + one 2 i) % q
 
     pub x-residues : d ≤ length x → Residues q d 0 x

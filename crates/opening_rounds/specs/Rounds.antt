@@ -3,19 +3,21 @@
 --   elementPlaces l         the numbers of an element, place by place
 --   sumAt                   number k of a sum of two elements
 --   halfOf q y              y/2 modulo q, of a residue y and an odd q
---   HalvesBelow q d claim   these are residues for each number of a claim
+--   Halvables q d l         q is odd, and l begins with d residues
 --   middleAt, lastAt        number k of c1 and of c2
 --   Begun S ..              the commitment is written, and c0 of round 1 where there is room for it
 --   Continuing S t ..       the place p begins with c0 of round t + 1, and the claim is 2·(c0 + c2)
 use mathlib.Core.Path.{_≡_}
 use mathlib.Core.List.{List}
-use Prim.Native.Nat.{ℕ, _+_, _*_, _-_, _/_, _%_, _<_, _≤_}
+use Prim.Native.Nat.{ℕ, _+_, _*_, _-_, _%_, _<_, _≤_}
 use lib.IntN.{ℤ}
 use lib.ListN.{length, getD}
 use Rattle.protocol.specs.declared.Settings.{Settings}
 use Rattle.protocol.specs.Opening.{commitment, roundElement}
 use Rattle.protocol.specs.Calls.{roundRefusal}
 use Rattle.residues.specs.Lists.{filled}
+use Rattle.modular.specs.Factors.{Halvable}
+pub use Rattle.round_products.specs.Sums.{half}
 
 abbrev pub elementPlaces : List ℕ → ℕ → ℕ
 elementPlaces l k = getD l k 0
@@ -23,11 +25,11 @@ elementPlaces l k = getD l k 0
 abbrev pub sumAt : ℕ → List ℕ → List ℕ → ℕ → ℕ
 sumAt q x y k = (getD x k 0 + getD y k 0) % q
 
-unfoldable pub halfOf : ℕ → ℕ → ℕ
-halfOf q y = y / 2 + y % 2 * (q / 2 + 1)
+abbrev pub halfOf : ℕ → ℕ → ℕ
+halfOf q y = half q * y % q
 
-pub record HalvesBelow (q d : ℕ) (claim : List ℕ) : Type 0 where
-  pub each : (k : ℕ) → k < d → halfOf q (getD claim k 0) < q
+abbrev pub Halvables : ℕ → ℕ → List ℕ → Type 0
+Halvables q d l = (k : ℕ) → k < d → Halvable q (getD l k 0)
 
 abbrev pub middleAt : ℕ → List ℕ → List ℕ → ℕ → ℕ
 middleAt q x claim k = (getD x k 0 + (q - halfOf q (getD claim k 0))) % q

@@ -1,34 +1,36 @@
 // The prover's work in a whole opening, on slices. The products of the commitment give c0 of round 1 on the way; in each round 2·(c0 + c2) is the claim, so
 // that c2 follows from the claim and c0, and c1 from one inner product of the halves' sums. Every function is safe for every input.
+use modular::halves;
 use protocol::Residue;
 use protocol::Settings;
 use protocol::WIDTH;
 ghost use mathlib.Core.Path.{_≡_};
-ghost use Prim.Native.Nat.{_+_, _*_, _-_, _%_, _<_, _≤_};
+ghost use Prim.Native.Nat.{_+_, _*_, _%_, _^_, _<_, _≤_};
 ghost use lib.ListN.{length, getD};
 ghost use Rattle.protocol.specs.Basic.{Provided};
 ghost use Rattle.protocol.specs.Opening.{roundElement};
 ghost use Rattle.protocol.specs.Calls.{commitRefusal, roundRefusal};
 ghost use Rattle.residues.specs.Lists.{filled, spliced};
 ghost use Rattle.residues.specs.Residues.{Residues};
-ghost use Rattle.opening_rounds.specs.Rounds.{elementPlaces, sumAt, halfOf, HalvesBelow, middleAt, lastAt, Begun, Continuing};
+ghost use Rattle.opening_rounds.specs.Rounds.{elementPlaces, sumAt, half, Halvables, middleAt, lastAt, Begun, Continuing};
 
-// The first d numbers of an element, times s and modulo q, written to the front of out where there is room for them.
-fn write_scaled(q: u32, d: usize, s: u32, element: &[Residue], out: &mut [Residue])
-    requires { ⌜ (0 < q) × (d ≤ length (now element)) ⌝ }
-    ensures { λ _. ⌜ (Provided (d ≤ length (now (out .entry))) (now (out .exit) ≡ filled (λ k. s * getD (now (element .entry)) k 0 % q) d (now (out .entry)))
+// The first d numbers of an element of residues, each halved t times modulo q, written to the front of out where there is room for them.
+fn write_halved(q: Residue, d: usize, t: u32, element: &[Residue], out: &mut [Residue])
+    requires { ⌜ d ≤ length (now element) ⌝ }
+    ensures { λ _. ⌜ (Provided (d ≤ length (now (out .entry)))
+        (Provided (Halvables q d (now (element .entry))) (now (out .exit) ≡ filled (λ k. half q ^ t * getD (now (element .entry)) k 0 % q) d (now (out .entry))))
         × Provided (length (now (out .entry)) < d) (now (out .exit) ≡ now (out .entry))) ⌝ }
 {
     if out.len() < d {
         return;
     }
     for k in 0..d {
-        out[k] = round_products::multiple(q, s, element[k]);
+        out[k] = halves::halved_times(q, t, element[k]);
     }
 }
 
 // The sum of two elements modulo q, written to the front of out where there is room for it.
-fn write_sum(q: u32, d: usize, x: &[Residue], y: &[Residue], out: &mut [Residue])
+fn write_sum(q: Residue, d: usize, x: &[Residue], y: &[Residue], out: &mut [Residue])
     requires { ⌜ (d ≤ length (now x)) × (d ≤ length (now y)) ⌝ }
     ensures { λ _. ⌜ Provided (d ≤ length (now (out .entry)))
         (Provided (Residues q d 0 (now (x .entry)) × Residues q d 0 (now (y .entry))) (now (out .exit) ≡ filled (sumAt q (now (x .entry)) (now (y .entry))) d (now (out .entry)))) ⌝ }
@@ -55,14 +57,13 @@ pub fn begin(
     let q = settings.modulus;
     let d = settings.degree;
     let n = sizes::left(settings, 0);
-    if !round_products::sized(q, d, n, message.len(), key.len()) {
+    if !round_products::sized(d, n, message.len(), key.len()) {
         return;
     }
     let h = n / 2;
     let half = (h as usize) * (d as usize);
-    let s = equations::half_power(q, 1);
     let first = products::inner(q, d, h, message, key);
-    write_scaled(q, d as usize, s, &first, rounds);
+    write_halved(q, d as usize, 1, &first, rounds);
     let second = products::inner(q, d, n - h, &message[half..], &key[half..]);
     write_sum(q, d as usize, &first, &second, commitment);
 }
@@ -85,44 +86,33 @@ pub fn first_element(
     let q = settings.modulus;
     let d = settings.degree;
     let h = sizes::half_left(settings, t);
-    if !round_products::sized(q, d, h, message.len(), key.len()) {
+    if !round_products::sized(d, h, message.len(), key.len()) {
         return;
     }
-    let s = equations::half_power(q, t + 1);
     let first = products::inner(q, d, h, message, key);
-    write_scaled(q, d as usize, s, &first, out);
-}
-
-// y/2 modulo q, of a residue and an odd modulus.
-fn halved(q: u32, y: u32) -> u32
-    ensures { λ r. ⌜ r ≡ halfOf q y ⌝ }
-{
-    if y % 2 == 0 {
-        return y / 2;
-    }
-    y / 2 + q / 2 + 1
+    write_halved(q, d as usize, t + 1, &first, out);
 }
 
 // The middle element, behind the first: x less half of the claim.
-fn write_middle(q: u32, d: usize, x: &[Residue], claim: &[Residue], p: &mut [Residue])
+fn write_middle(q: Residue, d: usize, x: &[Residue], claim: &[Residue], p: &mut [Residue])
     requires { ⌜ (d ≤ length (now x)) × (d ≤ length (now claim)) × (d + d ≤ length (now p)) ⌝ }
     ensures { λ _. ⌜ Provided (Residues q d 0 (now (x .entry))
-        × HalvesBelow q d (now (claim .entry))) (now (p .exit) ≡ spliced (middleAt q (now (x .entry)) (now (claim .entry))) d d (now (p .entry))) ⌝ }
+        × Halvables q d (now (claim .entry))) (now (p .exit) ≡ spliced (middleAt q (now (x .entry)) (now (claim .entry))) d d (now (p .entry))) ⌝ }
 {
     for k in 0..d {
-        p[d + k] = residues::minus(q, x[k], halved(q, claim[k]));
+        p[d + k] = residues::minus(q, x[k], halves::halved(q, claim[k]));
     }
 }
 
 // The last element, behind the middle one: half of the claim less the first.
-fn write_last(q: u32, d: usize, claim: &[Residue], p: &mut [Residue])
+fn write_last(q: Residue, d: usize, claim: &[Residue], p: &mut [Residue])
     requires { ⌜ (d ≤ length (now claim)) × (2 * d + d ≤ length (now p)) ⌝ }
     ensures { λ _. ⌜ Provided (Residues q d 0 (now (p .entry))
-        × HalvesBelow q d (now (claim .entry))) (now (p .exit) ≡ spliced (lastAt q (now (claim .entry)) (now (p .entry))) (2 * d) d (now (p .entry))) ⌝ }
+        × Halvables q d (now (claim .entry))) (now (p .exit) ≡ spliced (lastAt q (now (claim .entry)) (now (p .entry))) (2 * d) d (now (p .entry))) ⌝ }
 {
     for k in 0..d {
         let y = p[k];
-        p[2 * d + k] = residues::minus(q, halved(q, claim[k]), y);
+        p[2 * d + k] = residues::minus(q, halves::halved(q, claim[k]), y);
     }
 }
 
@@ -149,7 +139,7 @@ pub fn rest(
     if h > 128 {
         return;
     }
-    if !round_products::sized(q, d, 2 * h, message.len(), key.len()) {
+    if !round_products::sized(d, 2 * h, message.len(), key.len()) {
         return;
     }
     if claim.len() < n {
@@ -158,7 +148,7 @@ pub fn rest(
     if p.len() < 3 * n {
         return;
     }
-    let x = round_products::inner_of_sums(q, d, h, equations::half_power(q, t + 1), message, key);
+    let x = round_products::inner_of_sums(q, d, h, t + 1, message, key);
     write_middle(q, n, &x, claim, p);
     write_last(q, n, claim, p);
 }

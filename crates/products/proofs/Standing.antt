@@ -1,4 +1,4 @@
--- Sums that stand for numbers modulo q: the empty sum, a product more, and all products of an inner product.
+-- Sums that stand for an element modulo q: the empty sums, and a product more, by columns, in one run and in two.
 use mathlib.Core.Path.{_≡_, refl, sym, ap, _∙_, subst}
 use mathlib.Core.List.{List}
 use Prim.Native.Nat.{ℕ, zero, suc, _+_, _*_, _-_, _/_, _%_, _^_, _<_, _≤_}
@@ -6,133 +6,158 @@ use native.Mathlib.Nat as Nat
 use native.Mathlib.Numerals.{add-one}
 use native.Mathlib.Omega.{arith}
 use lib.IntN.{ℤ, pos, natAbs, _+ℤ_, +ℤ-idl}
-use lib.ListN.{getD, drop}
-use lib.Seq.{getD-drop}
+use lib.ListN.{length, getD, take, drop}
 use Rattle.algebra.specs.Magnitude.{natAbs-neg, natAbs-add, natAbs-mul}
 use Rattle.protocol.specs.Basic.{sum}
-use Rattle.protocol.specs.Element.{Element, modulo, flips, around, rotate, product, residue, signed, residueAt, signedAt, zeros}
+use Rattle.protocol.specs.Element.{Element, modulo, flips, around, rotate, plus, product, residue, signed, residueAt, signedAt, zeros}
 use Rattle.protocol.specs.Opening.{inner}
-use Rattle.protocol.proofs.Modulo.{modulo-add}
 use Rattle.protocol.proofs.Agreement.{Same, product-same}
-use Rattle.residues.proofs.Fill.{filled-at, zeros-at}
-use Rattle.columns.specs.Columns.{addColumns}
+use Rattle.protocol.proofs.Reading.{row-inside}
+use Rattle.residues.proofs.Parts.{tail-at, tail-length}
+use Rattle.residues.proofs.Fill.{filled, filled-at, zeros-at}
+use Rattle.columns.specs.Columns.{narrow, addColumns}
 use Rattle.columns.proofs.Words.{word-add}
-use Rattle.rows.specs.Rows.{addProduct}
-use Rattle.rows.proofs.Terms.{added, added-residue, added-most, product-adds}
-use Rattle.products.specs.Sums.{Sum, Stands, elementSums, Small}
+use Rattle.rows.specs.Rows.{narrowed, addRows, Prepared}
+use Rattle.joins.specs.Sums.{weight, upperHalf, Halves, Stand}
+use Rattle.joins.proofs.Joining.{halves-none, halves-within, halves-lower, halves-add}
+use Rattle.joins.proofs.RowHalves.{lower-adds, both-add}
+use Rattle.products.specs.Sums.{Stands, Small, Addable, Finished, Summable}
 
--- ---- the loop over the elements
+-- ---- one product by columns: it is at most d·2^48 from 0
 
-module _ (add : List ℤ → List ℕ → List ℕ → List ℕ) (d : ℕ) (f : List ℤ) (g s : List ℕ) where
-  pub elements-none : s ≡ elementSums add d f g 0 s
-  unfolding elementSums
-  elements-none = refl
-
-  pub elements-more : (i : ℕ) (a : List ℤ) (b s′ : List ℕ) → a ≡ drop (i * d) f → b ≡ drop (i * d) g → s′ ≡ elementSums add d f g i s → add a b s′ ≡ elementSums add d f g (i + 1) s
-  unfolding elementSums
-  elements-more i a b s′ ea eb es = (λ j. add (ea j) (eb j) (es j)) ∙ ap (λ n. elementSums add d f g n s) (sym (add-one i))
-
--- ---- one sum
-
-module _ (q : ℕ) (p : 0 < q) where
-  sum-none : Sum q (pos 0) 0 0
-  unfolding modulo
-  sum-none = record { whole = pos 0; size = omega arith; value = refl; bits = refl }
-
-  pub sum-add : (z y w : ℤ) (m n s s′ : ℕ) → Sum q z m s → natAbs w ≤ n * 2 ^ 48 → modulo q w ≡ modulo q y → s′ ≡ (s + modulo (2 ^ 64) w) % 2 ^ 64 → Sum q (z +ℤ y) (m + n) s′
-  sum-add z y w m n s s′ is most same e = record {
-    whole = is .whole +ℤ w;
-    size = omega (arith, natAbs-add (is .whole) w, is .size);
-    value = modulo-add q p (is .whole) w ∙ (λ i. (is .value i + same i) % q) ∙ sym (modulo-add q p z y);
-    bits = e ∙ ap (λ x. (x + modulo (2 ^ 64) w) % 2 ^ 64) (is .bits) ∙ sym (modulo-add (2 ^ 64) (omega arith) (is .whole) w);
-  }
-
--- ---- one product, by rows and by columns
-
--- the residues of an element are numbers of 32 bits
-abbrev pub Wide : ℕ → List ℕ → Type 0
-Wide d g = (j : ℕ) → j < d → getD g j 0 < 2 ^ 32
-
--- what adding one product does to a sum
-abbrev pub Adds : ℕ → ℕ → (List ℤ → List ℕ → List ℕ → List ℕ) → Type 0
-Adds q d add = (f : List ℤ) (g s : List ℕ) (k : ℕ) (z : ℤ) (m : ℕ) → k < d → Small d f → Wide d g
-    → Sum q z m (getD s k 0) → Sum q (z +ℤ product d (signed f) (residue g) k) (m + d) (getD (add f g s) k 0)
-
-pub rows-add : (q d : ℕ) → 0 < q → q ≤ 2 ^ 32 → 0 < d → Adds q d (addProduct q d)
-unfolding modulo
-rows-add q d p wide pd f g s k z m l small _ is =
-    let n = added q d p pd g k l f in
-    sum-add q p z (product d (signed f) (residue g) k) (pos n) m d _ _ is
-    (Nat.le-trans (added-most q d p pd g k l f (2 ^ 16) small) (Nat.mul-le-mul {n₁ = d} {m₁ = 2 ^ 16 * q} {n₂ = d} {m₂ = 2 ^ 48} (Nat.le-refl d) (omega arith)))
-    (added-residue q d p pd g k l f)
-    (product-adds q d p pd g k l f s ∙ sym (Nat.add-mod-mod (getD s k 0) n (2 ^ 64)))
-
-sum-most : (n b : ℕ) (f : ℕ → ℤ) → ((i : ℕ) → i < n → natAbs (f i) ≤ b) → natAbs (sum n f) ≤ n * b
+pub sum-most : (n b : ℕ) (f : ℕ → ℤ) → ((i : ℕ) → i < n → natAbs (f i) ≤ b) → natAbs (sum n f) ≤ n * b
 unfolding sum
 sum-most zero b f h = omega arith
 sum-most (suc n) b f h = omega (arith, natAbs-add (sum n f) (f n), sum-most n b f (λ i l. h i (omega arith)), h n (omega arith), Nat.suc-mul n b)
 
-flips-size : (n : ℕ) (z : ℤ) → natAbs (flips n z) ≡ natAbs z
+pub flips-size : (n : ℕ) (z : ℤ) → natAbs (flips n z) ≡ natAbs z
 unfolding flips
 flips-size zero z = refl
 flips-size (suc n) z = natAbs-neg (flips n z) ∙ flips-size n z
 
-product-most : (d : ℕ) → 0 < d → (f : List ℤ) (g : List ℕ) (k : ℕ) → Small d f → Wide d g → natAbs (product d (signed f) (residue g) k) ≤ d * 2 ^ 48
-unfolding product signed
-product-most d pd f g k small wide = sum-most d (2 ^ 48) _ (λ i l. subst (λ n. n ≤ 2 ^ 48) (sym (natAbs-mul (getD f i (pos 0)) (rotate d i (residue g) k))) (
-    Nat.le-trans (Nat.mul-le-mul {n₂ = 2 ^ 16} {m₂ = 2 ^ 32} (small i l) (turned i)) (omega arith)))
-  where
-    turned : (i : ℕ) → natAbs (rotate d i (residue g) k) ≤ 2 ^ 32
-    turned i = unfold rotate around residue in omega (arith, flips-size ((k + (2 * d - i % (2 * d))) / d) (pos (getD g ((k + (2 * d - i % (2 * d))) % d) 0)), wide ((k + (2 * d - i % (2 * d))) % d) (Nat.mod-lt (k + (2 * d - i % (2 * d))) pd))
+module _ (d : ℕ) (pd : 0 < d) (f : List ℤ) (g : List ℕ) (k : ℕ) (small : Small d f) (below : (j : ℕ) → j < d → getD g j 0 < 2 ^ 32) where
+  turned-most : (i : ℕ) → natAbs (rotate d i (residue g) k) ≤ 2 ^ 32
+  turned-most i = unfold rotate around residue in
+      omega (
+        arith,
+        flips-size ((k + (2 * d - i % (2 * d))) / d) (pos (getD g ((k + (2 * d - i % (2 * d))) % d) 0)),
+        below ((k + (2 * d - i % (2 * d))) % d) (Nat.mod-lt (k + (2 * d - i % (2 * d))) pd),
+      )
 
-pub columns-add : (q d : ℕ) → 0 < q → Adds q d (addColumns d)
-unfolding addColumns
-columns-add q d p f g s k z m l small wide is =
-    sum-add q p z (product d (signed f) (residue g) k) (product d (signed f) (residue g) k) m d _ _ is (product-most d (omega arith) f g k small wide) refl
-    (filled-at _ d s 0 k l ∙ sym (word-add (getD s k 0) _ (product d (signed f) (residue g) k) refl))
+  product-most : natAbs (product d (signed f) (residue g) k) ≤ d * 2 ^ 48
+  unfolding product signed
+  product-most = sum-most d (2 ^ 48) _ (λ i l. subst (λ n. n ≤ 2 ^ 48) (sym (natAbs-mul (getD f i (pos 0)) (rotate d i (residue g) k)))
+      (Nat.le-trans (Nat.mul-le-mul {n₂ = 2 ^ 16} {m₂ = 2 ^ 32} (small i l) (turned-most i)) (omega arith)))
+
+  below-same : Same d (narrow g) (residue g)
+  unfolding narrow residue
+  below-same j l = ap pos (Nat.mod-eq-of-lt (below j l))
+
+  narrow-same : product d (signed f) (narrow g) k ≡ product d (signed f) (residue g) k
+  narrow-same = product-same {d = d} pd (λ j _. refl) below-same k
+
+-- ---- a product more
+
+module _ (q d : ℕ) (f : List ℤ) (g : List ℕ) (x₀ s₀ t₀ : ℕ) (ok : Addable q d f g x₀ s₀ t₀) (F : Element) (count : ℕ) (s t : List ℕ) (at : Stands q d F count s t) where
+  p : 0 < q
+  p = ok .elements .modulus
+
+  pd : 0 < d
+  pd = ok .elements .degree
+
+  abbrev After : List ℕ → List ℕ → Type 0
+  After = Stands q d (plus F (product d (signed f) (residue g))) (count + d)
+
+  within : count * 2 ^ 48 + d * (2 ^ 16 * weight) ≤ (count + d) * 2 ^ 48
+  within = omega arith
+
+  pub columns-stand : q < weight → (s′ : List ℕ) → s′ ≡ addColumns d f g s → After s′ t
+  unfolding plus addColumns
+  columns-stand few s′ e = record {
+    each = λ k l.
+        let below : (j : ℕ) → j < d → getD g j 0 < 2 ^ 32 = λ j m. omega (arith, ok .residues j m) in
+        let H = at .each k l in
+        let y = product d (signed f) (residue g) k in
+        halves-within q _ _ _ _ _ (omega arith) (
+        halves-add q p (F k) y _ (d * 2 ^ 48) _ _ _ _ (modulo (2 ^ 64) y) 0 H (halves-lower q y (d * 2 ^ 48) (product-most d pd f g k (ok .small) below))
+        (ap (λ l. getD l k 0) e ∙ filled-at _ d s 0 k l ∙ ap (λ z. modulo (2 ^ 64) (pos (getD s k 0) +ℤ z)) (narrow-same d pd f g k (ok .small) below) ∙ sym (word-add (getD s k 0) _ y refl))
+        (omega (arith, H .none few)));
+  }
+
+  pub lower-stand : q < weight → (x s′ : List ℕ) → Prepared q d g x → s′ ≡ addRows d f (narrowed x) d s → After s′ t
+  unfolding plus
+  lower-stand few x s′ ready e = record {
+    each = λ k l. halves-within q _ _ _ _ _ within (lower-adds q d p (ok .modulus-most) pd g f (2 ^ 16) (ok .small) x ready (F k) _ k s t l (at .each k l) few s′ e);
+  }
+
+  pub both-stand : (x x′ s′ t′ : List ℕ) → Prepared q d g x → x′ ≡ filled (λ y. upperHalf (getD x y 0)) (3 * d) x → s′ ≡ addRows d f (narrowed x) d s → t′ ≡ addRows d f (narrowed x′) d t → After s′ t′
+  unfolding plus
+  both-stand x x′ s′ t′ ready ex es et = record {
+    each = λ k l. halves-within q _ _ _ _ _ within (both-add q d p (ok .modulus-most) pd g f (2 ^ 16) (ok .small) x ready (F k) _ k s t l (at .each k l) x′ s′ t′ ex es et);
+  }
 
 -- ---- the sums of an inner product, an element more at a time
 
-pub stands-none : (q d : ℕ) → 0 < q → (F G : ℕ → Element) → Stands q d (inner d 0 F G) (0 * d) (zeros 64)
+pub stands-none : (q d : ℕ) → 0 < q → (F G : ℕ → Element) → Stands q d (inner d 0 F G) 0 (zeros 64) (zeros 64)
 unfolding inner sum
-stands-none q d p F G = record { each = λ k l. rw (zeros-at 64 k, Nat.zero-mul d) (sum-none q p) }
+stands-none q d p F G = record { each = λ k l. rw (zeros-at 64 k) (halves-none q p) }
 
-module _ (q d : ℕ) (add : List ℤ → List ℕ → List ℕ → List ℕ) (adds : Adds q d add) (F G : ℕ → Element) where
-  pub stands-more : (n : ℕ) (f : List ℤ) (g s : List ℕ) → Same d (signed f) (F n) → Same d (residue g) (G n) → Small d f → Wide d g
-      → Stands q d (inner d n F G) (n * d) s → Stands q d (inner d (suc n) F G) (suc n * d) (add f g s)
-  unfolding inner sum
-  stands-more n f g s ef eg small wide at = record {
-    each = λ k l.
-        let pd : 0 < d = omega arith in
-        rw (Nat.suc-mul n d, ← product-same {d = d} pd ef eg k) (adds f g s k _ _ l small wide (at .each k l));
-  }
+pub stands-first : (q d : ℕ) (F : Element) (s t : List ℕ) → Stands q d F 0 s t → Stands q d F (0 * d) s t
+stands-first q d F s t = rw (Nat.zero-mul d) (λ at. at)
 
--- of tables
-module _ (q d : ℕ) (p : 0 < q) (add : List ℤ → List ℕ → List ℕ → List ℕ) (adds : Adds q d add) (f : List ℤ) (g : List ℕ) (wide : (j : ℕ) → getD g j 0 < 2 ^ 32) where
-  part-small : (n : ℕ) → Small (suc n * d) f → Small d (drop (n * d) f)
-  part-small n small j h = subst (λ z. natAbs z ≤ 2 ^ 16) (sym (getD-drop (n * d) f j (pos 0))) (small (n * d + j) (omega (arith, Nat.suc-mul n d)))
+pub stands-more : (q d : ℕ) → 0 < d → (F G : ℕ → Element) (i : ℕ) (f : List ℤ) (g s t : List ℕ) → Same d (signed f) (F i) → Same d (residue g) (G i)
+    → Stands q d (plus (inner d i F G) (product d (signed f) (residue g))) (i * d + d) s t → Stands q d (inner d (i + 1) F G) ((i + 1) * d) s t
+unfolding plus inner sum
+stands-more q d pd F G i f g s t ef eg at = record { each = λ k l. rw (add-one i, Nat.suc-mul i d, ← product-same {d = d} pd ef eg k) (at .each k l) }
 
-  pub stands-inner : (n : ℕ) → Small (n * d) f → Stands q d (inner d n (signedAt d f) (residueAt d g)) (n * d) (elementSums add d f g n (zeros 64))
-  unfolding elementSums signed signedAt residue residueAt
-  stands-inner zero small = stands-none q d p (signedAt d f) (residueAt d g)
-  stands-inner (suc n) small = stands-more q d add adds (signedAt d f) (residueAt d g) n _ _ _ (λ j _. getD-drop (n * d) f j (pos 0)) (λ j _. ap pos (getD-drop (n * d) g j 0)) (part-small n small)
-      (λ j _. subst (λ x. x < 2 ^ 32) (sym (getD-drop (n * d) g j 0)) (wide (n * d + j))) (stands-inner n (λ j h. small j (omega (arith, Nat.suc-mul n d))))
+-- element i of two tables, as the code lends it
+module _ (q d n i : ℕ) (f : List ℤ) (g : List ℕ) (z : Summable q d n f g) (inside : i < n) where
+  abbrev part {ℓ} : {A : Type ℓ} → List A → List A
+  part l = take (length l - i * d) (drop (i * d) l)
 
-module _ (q d n : ℕ) (p : 0 < q) (f : List ℤ) (g : List ℕ) (wide : (j : ℕ) → getD g j 0 < 2 ^ 32) (small : Small (n * d) f) (s : List ℕ) where
-  abbrev Whole : List ℕ → Type 0
-  Whole = Stands q d (inner d n (signedAt d f) (residueAt d g)) (n * d)
+  row : i * d + d ≤ n * d
+  row = row-inside d n i inside
 
-  pub rows-stand : q ≤ 2 ^ 32 → 0 < d → s ≡ elementSums (addProduct q d) d f g n (zeros 64) → Whole s
-  rows-stand few pd e = subst Whole (sym e) (stands-inner q d p (addProduct q d) (rows-add q d p few pd) f g wide n small)
+  pub table-addable : (x s t : ℕ) → 3 * d ≤ x → d ≤ s → d ≤ t → Addable q d (part f) (part g) x s t
+  table-addable x s t lx ls lt =
+      let e = z .elements in
+      record {
+        elements = record {
+          modulus = e .modulus;
+          degree = e .degree;
+          degree-most = e .degree-most;
+          f-long = omega (arith, e .f-long, row, tail-length (i * d) f);
+          g-long = omega (arith, e .g-long, row, tail-length (i * d) g);
+        };
+        modulus-most = omega (arith, z .modulus-most);
+        small = λ j l. subst (λ y. natAbs y ≤ 2 ^ 16) (sym (tail-at (i * d) f j (pos 0))) (z .small (i * d + j) (omega (arith, row)));
+        residues = λ j l. subst (λ y. y < q) (sym (tail-at (i * d) g j 0)) (z .residues (i * d + j) (omega (arith, row)));
+        places = lx;
+        lowers = ls;
+        uppers = lt;
+      }
 
-  -- where the degree is written as a number
-  pub columns-stand : (d′ : ℕ) → d ≡ d′ → s ≡ elementSums (addColumns d′) d′ f g n (zeros 64) → Whole s
-  columns-stand d′ is e = subst Whole (sym (e ∙ ap (λ x. elementSums (addColumns x) x f g n (zeros 64)) (sym is))) (stands-inner q d p (addColumns d) (columns-add q d p) f g wide n small)
+  pub table-more : (s t : List ℕ) → Stands q d (plus (inner d i (signedAt d f) (residueAt d g)) (product d (signed (part f)) (residue (part g)))) (i * d + d) s t
+      → Stands q d (inner d (i + 1) (signedAt d f) (residueAt d g)) ((i + 1) * d) s t
+  unfolding signed residue signedAt residueAt
+  table-more s t = stands-more q d (z .elements .degree) (signedAt d f) (residueAt d g) i (part f) (part g) s t (λ j _. tail-at (i * d) f j (pos 0)) (λ j _. ap pos (tail-at (i * d) g j 0))
 
 -- an inner product of one element
-pub inner-one : (d : ℕ) (f : List ℤ) (g : List ℕ) (k : ℕ) → inner d 1 (signedAt d f) (residueAt d g) k ≡ product d (signed f) (residue g) k
+pub stands-one : (q d : ℕ) (f : List ℤ) (g s t : List ℕ) → Stands q d (inner d 1 (signedAt d f) (residueAt d g)) (1 * d) s t → Stands q d (product d (signed f) (residue g)) d s t
 unfolding inner sum signedAt residueAt signed residue
-inner-one d f g k = +ℤ-idl _ ∙ (λ i. product d (λ j. getD f (front j i) (pos 0)) (λ j. pos (getD g (front j i) 0)) k)
+stands-one q d f g s t at = record { each = λ k l. subst (λ z. Halves q z (d * 2 ^ 48) (getD s k 0) (getD t k 0)) (one k) (rw (Nat.one-mul d) at (at .each k l)) }
   where
     front : (j : ℕ) → 0 * d + j ≡ j
     front j = omega (arith, Nat.zero-mul d)
+
+    one : (k : ℕ) → pos 0 +ℤ product d (λ j. getD f (0 * d + j) (pos 0)) (λ j. pos (getD g (0 * d + j) 0)) k ≡ product d (λ j. getD f j (pos 0)) (λ j. pos (getD g j 0)) k
+    one k = +ℤ-idl _ ∙ (λ i. product d (λ j. getD f (front j i) (pos 0)) (λ j. pos (getD g (front j i) 0)) k)
+
+-- sums that are done may be joined
+pub finished-stand : (q d : ℕ) (F : Element) (s t : List ℕ) → Finished q d F s t → Stand q d F s t
+finished-stand q d F s t ok = record {
+  degree = ok .degree-most;
+  lowers = ok .lowers;
+  uppers = ok .uppers;
+  each = λ k l. halves-within q _ _ _ _ _ (omega (arith, ok .few)) (ok .stands .each k l);
+}

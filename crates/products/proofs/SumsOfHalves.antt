@@ -1,14 +1,13 @@
 -- The sums of two tables' halves, element by element, and their products.
-use mathlib.Core.Path.{_≡_, refl, sym, ap, _∙_, subst}
+use mathlib.Core.Path.{_≡_, sym, ap, _∙_, subst}
 use mathlib.Core.List.{List}
-use Prim.Native.Nat.{ℕ, suc, _+_, _*_, _-_, _%_, _^_, _<_, _≤_}
+use Prim.Native.Nat.{ℕ, _+_, _*_, _-_, _%_, _^_, _<_, _≤_}
 use native.Mathlib.Nat as Nat
-use native.Mathlib.Numerals.{add-one}
 use native.Mathlib.Omega.{arith}
 use lib.IntN.{ℤ, pos, natAbs, _+ℤ_}
 use lib.ListN.{length, getD, take, drop}
 use Rattle.algebra.specs.Magnitude.{natAbs-add}
-use Rattle.protocol.specs.Element.{modulo, plus, signed, residue, signedAt, residueAt}
+use Rattle.protocol.specs.Element.{modulo, plus, product, signed, residue, signedAt, residueAt}
 use Rattle.protocol.specs.Opening.{inner, second}
 use Rattle.protocol.proofs.Modulo.{modulo-lt}
 use Rattle.protocol.proofs.Reading.{cell-inside, row-inside}
@@ -16,8 +15,8 @@ use Rattle.residues.specs.Residues.{Residues}
 use Rattle.residues.proofs.Fill.{filled, filled-at}
 use Rattle.residues.proofs.Parts.{tail-at, tail-length}
 use Rattle.half_sums.specs.Room.{Room, Long}
-use Rattle.products.specs.Sums.{Stands, Small, messageSums, keySumAt, keySums, Halves, HalvesAt, HalfSums}
-use Rattle.products.proofs.Standing.{Wide, Adds, stands-more}
+use Rattle.products.specs.Sums.{Stands, Small, Addable, messageSums, keySumAt, keySums, Halves, HalvesAt, HalfSums}
+use Rattle.products.proofs.Standing.{stands-more}
 
 -- ---- an element of the sums, as the code works it out
 
@@ -70,9 +69,9 @@ module _ (q d h i at behind : ℕ) (f : List ℤ) (g : List ℕ) (z : HalvesAt q
             ∙ λ t. ((tail-at at g j 0 ∙ ap (λ n. getD g n 0) (one j)) t + (tail-at behind g j 0 ∙ ap (λ n. getD g n 0) (two j)) t) % q;
       }
 
--- ---- one product more
+-- ---- the element of the sums, as one whose product is added
 
-module _ (q d h i : ℕ) (f : List ℤ) (g : List ℕ) (z : Halves q d h f g) (wide : q ≤ 2 ^ 32) (inside : i < h) (m : List ℤ) (k : List ℕ) (is : HalfSums q d h f g i m k) where
+module _ (q d h i : ℕ) (f : List ℤ) (g : List ℕ) (z : Halves q d h f g) (inside : i < h) (m : List ℤ) (k : List ℕ) (is : HalfSums q d h f g i m k) where
   sums-small : Small d m
   unfolding messageSums plus second signedAt
   sums-small j l = subst (λ x. natAbs x ≤ 2 ^ 16) (sym (is .message j l))
@@ -83,11 +82,28 @@ module _ (q d h i : ℕ) (f : List ℤ) (g : List ℕ) (z : Halves q d h f g) (w
         z .small ((h + i) * d + j) (omega (arith, cell-inside d h i j inside l, Nat.add-mul h i d)),
       ))
 
-  sums-wide : Wide d k
+  sums-below : (j : ℕ) → j < d → getD k j 0 < q
   unfolding keySumAt
-  sums-wide j l = omega (arith, is .key j l, modulo-lt q (z .elements .modulus) (plus (residueAt d g i) (second h (residueAt d g) i) j))
+  sums-below j l = omega (arith, is .key j l, modulo-lt q (z .elements .modulus) (plus (residueAt d g i) (second h (residueAt d g) i) j))
 
-  pub halves-more : (add : List ℤ → List ℕ → List ℕ → List ℕ) → Adds q d add → (s s′ : List ℕ) → s′ ≡ add m k s
-      → Stands q d (inner d i (messageSums d h f) (keySums q d h g)) (i * d) s → Stands q d (inner d (i + 1) (messageSums d h f) (keySums q d h g)) ((i + 1) * d) s′
+  pub sums-addable : (x s t : ℕ) → d ≤ length m → d ≤ length k → 3 * d ≤ x → d ≤ s → d ≤ t → Addable q d m k x s t
+  sums-addable x s t lm lk lx ls lt = record {
+    elements = record {
+      modulus = z .elements .modulus;
+      degree = z .elements .degree;
+      degree-most = z .elements .degree-most;
+      f-long = omega (arith, Nat.one-mul d);
+      g-long = omega (arith, Nat.one-mul d);
+    };
+    modulus-most = omega (arith, z .modulus-most);
+    small = sums-small;
+    residues = sums-below;
+    places = lx;
+    lowers = ls;
+    uppers = lt;
+  }
+
+  pub sums-more : (s t : List ℕ) → Stands q d (plus (inner d i (messageSums d h f) (keySums q d h g)) (product d (signed m) (residue k))) (i * d + d) s t
+      → Stands q d (inner d (i + 1) (messageSums d h f) (keySums q d h g)) ((i + 1) * d) s t
   unfolding signed residue
-  halves-more add adds s s′ e at = rw (e, add-one i) (stands-more q d add adds (messageSums d h f) (keySums q d h g) i m k s (is .message) (λ j l. ap pos (is .key j l)) sums-small sums-wide at)
+  sums-more s t = stands-more q d (z .elements .degree) (messageSums d h f) (keySums q d h g) i m k s t (is .message) (λ j l. ap pos (is .key j l))

@@ -1,163 +1,112 @@
 // Inner products of elements of whole numbers with elements of residues, modulo q. Products are summed as they are, in numbers of 64 bits, and reduced once.
 // What these sums are is known here alone: a caller sees elements of residues.
+mod elements;
 mod halves;
 
+use joins::Joint;
 use protocol::Residue;
 use protocol::WIDTH;
-use rows::ROOM;
 ghost use mathlib.Core.Path.{_≡_};
-ghost use mathlib.Core.Bool.{_&&_};
-ghost use Prim.Native.Nat.{_+_, _*_, _-_, _%_, _^_, _<_, _≤_};
-ghost use lib.Dec.{ltb, eqb};
+ghost use Prim.Native.Nat.{ℕ, _*_, _^_, _≤_};
+ghost use lib.IntN.{ℤ};
 ghost use lib.ListN.{length, getD};
-ghost use Rattle.protocol.specs.Basic.{every, tabulate, Provided};
-ghost use Rattle.protocol.specs.Element.{width, reduced, padded, product, signed, residue, signedAt, residueAt};
+ghost use Rattle.protocol.specs.Basic.{every, Provided};
+ghost use Rattle.protocol.specs.Element.{Element, width, reduced, padded, product, signed, residue, signedAt, residueAt};
 ghost use Rattle.protocol.specs.Opening as opening;
-ghost use Rattle.rows.specs.Rows.{addProduct};
-ghost use Rattle.columns.specs.Columns.{addColumns};
-ghost use Rattle.products.specs.Sums.{Stands, elementSums, reducedSum, sumIs, multipleIs, messageSums, keySums, Elements, Small, Summable, Halves};
-ghost use Rattle.products.specs.Sums as sums;
+ghost use Rattle.modular.specs.Factors.{Modulus};
+ghost use Rattle.joins.specs.Sums.{Ready};
+ghost use Rattle.joins.specs.Sums as joined;
+ghost use Rattle.products.specs.Sums.{Stands, Finished, multipleIs, messageSums, keySums, Summable, Halves};
 
 // A sum of products, modulo 2^64.
 type Sum = u64;
 
-// Adds the products of the first n elements, one after the other, by rows.
-fn add_by_rows(q: u32, d: u32, n: u32, f: &[i32], g: &[Residue], sums: &mut [Sum])
-    requires { ⌜ Elements q d n (length (now f)) (length (now g)) × (d ≤ length (now sums)) ⌝ }
-    ensures { λ _. ⌜ now (sums .exit) ≡ elementSums (addProduct q d) d (now (f .entry)) (now (g .entry)) n (now (sums .entry)) ⌝ }
-{
-    let mut x = [0u64; ROOM];
-    for i in 0..n {
-        let at = (i as usize) * (d as usize);
-        rows::prepare(q, d, &g[at..], &mut x);
-        rows::add_product(d, &f[at..], &x, sums);
-    }
-}
-
-// The same, coefficient by coefficient.
-fn add_by_columns(d: u32, n: u32, f: &[i32], g: &[Residue], sums: &mut [Sum])
-    requires { ⌜ (d ≤ width) × (n * d ≤ length (now f)) × (n * d ≤ length (now g)) × (d ≤ length (now sums)) ⌝ }
-    ensures { λ _. ⌜ now (sums .exit) ≡ elementSums (addColumns d) d (now (f .entry)) (now (g .entry)) n (now (sums .entry)) ⌝ }
-{
-    for i in 0..n {
-        let at = (i as usize) * (d as usize);
-        columns::add_product(d, &f[at..], &g[at..], sums);
-    }
-}
-
-// The sums of the products of the first n elements. At degree 4 rows are not worth preparing; that it stands here as a number lets the compiler unroll the columns.
-fn inner_sums(q: u32, d: u32, n: u32, f: &[i32], g: &[Residue]) -> [Sum; WIDTH]
-    requires { ⌜ Elements q d n (length (now f)) (length (now g)) ⌝ }
-    ensures { λ r. ⌜ Provided (Small (n * d) (now (f .entry))) (Stands q d (opening.inner d n (signedAt d (now (f .entry))) (residueAt d (now (g .entry)))) (n * d) r) ⌝ }
-{
-    let mut sums = [0u64; WIDTH];
-    if d == 4 {
-        add_by_columns(4, n, f, g, &mut sums);
-        return sums;
-    }
-    add_by_rows(q, d, n, f, g, &mut sums);
-    sums
-}
-
-// The multiple of q that is added to a sum before it is reduced, so that it is not below zero.
-fn offset(q: u32) -> u64
-    requires { ⌜ 0 < q ⌝ }
-    ensures { λ r. ⌜ r ≡ sums.offset q ⌝ }
-{
-    9223372036854775808 - 9223372036854775808 % (q as u64)
-}
-
-fn reduce(q: u32, offset: u64, s: Sum) -> Residue
-    requires { ⌜ 0 < q ⌝ }
-    ensures { λ r. ⌜ r ≡ (s + offset) % 2 ^ 64 % q ⌝ }
-{
-    (std::num::wrapping_add_u64(s, offset) % (q as u64)) as u32
-}
-
 // The element that the sums stand for.
-fn finish(q: u32, d: usize, sums: &[Sum]) -> [Residue; WIDTH]
-    requires { ⌜ (0 < q) × (d ≤ width) × (d ≤ length (now sums)) ⌝ }
-    ensures { λ r. ⌜ r ≡ padded d (tabulate d (λ k. reducedSum q (getD (now (sums .entry)) k 0))) ⌝ }
+fn finish(q: Residue, d: u32, s: &[Sum], t: &[Sum]) -> [Residue; WIDTH]
+    ensures { λ r. ⌜ ((F : Element) → Provided (Finished q d F (now (s .entry)) (now (t .entry))) (r ≡ padded d (reduced q d F))) ⌝ }
 {
-    let more = offset(q);
-    let mut a = [0u32; WIDTH];
-    for k in 0..d {
-        a[k] = reduce(q, more, sums[k]);
-    }
-    a
+    joins::elements::join_all(joins::prepare(q), d as usize, s, t)
 }
 
 // The inner product of the first n elements of two tables, modulo q.
-pub fn inner(q: u32, d: u32, n: u32, f: &[i32], g: &[Residue]) -> [Residue; WIDTH]
+pub fn inner(q: Residue, d: u32, n: u32, f: &[i32], g: &[Residue]) -> [Residue; WIDTH]
     ensures { λ r. ⌜ Provided (Summable q d n (now (f .entry)) (now (g .entry))) (r ≡ padded d (reduced q d (opening.inner d n (signedAt d (now (f .entry))) (residueAt d (now (g .entry)))))) ⌝ }
 {
-    let none = [0u32; WIDTH];
     if q == 0 {
-        return none;
+        return [0u64; WIDTH];
     }
     if d == 0 {
-        return none;
+        return [0u64; WIDTH];
     }
     if (d as usize) > WIDTH {
-        return none;
+        return [0u64; WIDTH];
     }
     let cells = (n as usize) * (d as usize);
     if f.len() < cells {
-        return none;
+        return [0u64; WIDTH];
     }
     if g.len() < cells {
-        return none;
+        return [0u64; WIDTH];
     }
-    let sums = inner_sums(q, d, n, f, g);
-    finish(q, d as usize, &sums)
+    let mut s = [0u64; WIDTH];
+    let mut t = [0u64; WIDTH];
+    elements::sum_elements(q, d, n, f, g, &mut s, &mut t);
+    finish(q, d, &s, &t)
 }
 
 // ⟨f0 + f1, g0 + g1⟩ modulo q, the halves having h elements.
-pub fn inner_of_sums(q: u32, d: u32, h: u32, f: &[i32], g: &[Residue]) -> [Residue; WIDTH]
+pub fn inner_of_sums(q: Residue, d: u32, h: u32, f: &[i32], g: &[Residue]) -> [Residue; WIDTH]
     ensures { λ r. ⌜ Provided (Halves q d h (now (f .entry)) (now (g .entry))) (r ≡ padded d (reduced q d (opening.inner d h (messageSums d h (now (f .entry))) (keySums q d h (now (g .entry)))))) ⌝ }
 {
-    let none = [0u32; WIDTH];
     if q == 0 {
-        return none;
+        return [0u64; WIDTH];
     }
     if d == 0 {
-        return none;
+        return [0u64; WIDTH];
     }
     if (d as usize) > WIDTH {
-        return none;
+        return [0u64; WIDTH];
     }
     let cells = 2 * ((h as usize) * (d as usize));
     if f.len() < cells {
-        return none;
+        return [0u64; WIDTH];
     }
     if g.len() < cells {
-        return none;
+        return [0u64; WIDTH];
     }
-    let sums = halves::sums(q, d, h, f, g);
-    finish(q, d as usize, &sums)
+    let mut s = [0u64; WIDTH];
+    let mut t = [0u64; WIDTH];
+    halves::sum_halves(q, d, h, f, g, &mut s, &mut t);
+    finish(q, d, &s, &t)
 }
 
-// Does a sum stand for c·a modulo q, a being a residue: q divides the sum and c·(q − a).
-fn sum_is(q: u32, offset: u64, s: Sum, c: u32, a: Residue) -> bool
-    requires { ⌜ 0 < q ⌝ }
-    ensures { λ r. ⌜ r ≡ (ltb a q && eqb ((s + (offset + c * (q - a)) % 2 ^ 64) % 2 ^ 64 % q) 0) ⌝ }
+// Do two sums stand for c·a modulo q, a being a residue: q divides that and c·(q − a).
+fn sum_is(joint: Joint, s: Sum, t: Sum, c: u32, a: Residue) -> bool
+    ensures { λ r. ⌜ ((q : ℕ) (z : ℤ) → Provided (Ready q joint × joined.Halves q z (2 ^ 61) s t × (c ≤ 2 ^ 13)) (r ≡ multipleIs q c z a)) ⌝ }
 {
-    if a >= q {
+    if a >= joint.modulus {
         return false;
     }
-    let rest = (c as u64) * ((q - a) as u64);
-    let more = std::num::wrapping_add_u64(offset, rest);
-    std::num::wrapping_add_u64(s, more) % (q as u64) == 0
+    let rest = joint.modulus - a;
+    let lower = (c as u64) * joins::lower_half(rest);
+    let upper = (c as u64) * joins::upper_half(rest);
+    joins::join(
+        joint,
+        std::num::wrapping_add_u64(s, lower),
+        std::num::wrapping_add_u64(t, upper),
+    )
+        == 0
 }
 
-// Do the sums stand for c·a.
-fn sums_are(q: u32, d: usize, sums: &[Sum], c: u32, a: &[Residue]) -> bool
-    requires { ⌜ (0 < q) × (d ≤ length (now sums)) × (d ≤ length (now a)) ⌝ }
-    ensures { λ r. ⌜ r ≡ every d (λ k. sumIs q c (getD (now (sums .entry)) k 0) (getD (now (a .entry)) k 0)) ⌝ }
+// Do the sums of an element stand for c·a.
+fn sums_are(q: Residue, d: usize, s: &[Sum], t: &[Sum], c: u32, a: &[Residue]) -> bool
+    requires { ⌜ (d ≤ length (now s)) × (d ≤ length (now t)) × (d ≤ length (now a)) ⌝ }
+    ensures { λ r. ⌜ ((F : Element) → Provided (Modulus q × (d ≤ width) × Stands q d F d (now (s .entry)) (now (t .entry)) × (c ≤ 2 ^ 13))
+        (r ≡ every d (λ k. multipleIs q c (F k) (getD (now (a .entry)) k 0)))) ⌝ }
 {
-    let more = offset(q);
+    let joint = joins::prepare(q);
     for k in 0..d {
-        if !sum_is(q, more, sums[k], c, a[k]) {
+        if !sum_is(joint, s[k], t[k], c, a[k]) {
             return false;
         }
     }
@@ -165,7 +114,7 @@ fn sums_are(q: u32, d: usize, sums: &[Sum], c: u32, a: &[Residue]) -> bool
 }
 
 // Is the product of the elements f and g c times the element a, modulo q. The product is not reduced for that.
-pub fn product_is(q: u32, d: u32, f: &[i32], g: &[Residue], c: u32, a: &[Residue]) -> bool
+pub fn product_is(q: Residue, d: u32, f: &[i32], g: &[Residue], c: u32, a: &[Residue]) -> bool
     ensures { λ r. ⌜ Provided (Summable q d 1 (now (f .entry)) (now (g .entry)) × (d ≤ length (now (a .entry)))
         × (c ≤ 2 ^ 13)) (r ≡ every d (λ k. multipleIs q c (product d (signed (now (f .entry))) (residue (now (g .entry))) k) (getD (now (a .entry)) k 0))) ⌝ }
 {
@@ -188,6 +137,8 @@ pub fn product_is(q: u32, d: u32, f: &[i32], g: &[Residue], c: u32, a: &[Residue
     if a.len() < n {
         return false;
     }
-    let sums = inner_sums(q, d, 1, f, g);
-    sums_are(q, n, &sums, c, a)
+    let mut s = [0u64; WIDTH];
+    let mut t = [0u64; WIDTH];
+    elements::sum_elements(q, d, 1, f, g, &mut s, &mut t);
+    sums_are(q, n, &s, &t, c, a)
 }

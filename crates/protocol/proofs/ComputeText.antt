@@ -9,7 +9,7 @@ use Rattle.protocol.specs.Opening.{inner, second, cross, foldSigned, fol
 use Rattle.protocol.specs.Opening.{messageAfter, keyAfter, finalElement, roundTable}
 use Rattle.protocol.specs.Transcript.{doubled, roundHolds, nextClaim, finalBounded, ending, endHolds, element, claimAfter, holdsAt, closes}
 use Rattle.protocol.specs.Transcript.{accepted, transcriptOf}
-use Rattle.protocol.specs.Text.{textLimit, valueLimit, bytes, names, digitCount, lowDigits, decimal, numeral, lineText, linesText, shape}
+use Rattle.protocol.specs.Text.{textLimit, valueLimit, narrowLimit, limitOf, bytes, names, digitCount, lowDigits, decimal, numeral, lineText, linesText, shape}
 use Rattle.protocol.specs.Text.{settingsShape, shapes, shapeSize, spotAt, spots, wanted, contents, block, blocks, blockLines, textOf, blockFits}
 use Rattle.protocol.specs.Text.{fits, keep, digit, digitRun, digitFirst, properDigits, readCount, plain, negative, readNumber, byte, readIndex}
 use Rattle.protocol.specs.Text.{readLine, readLines, begins, beginsWithNames, parsed, linesOf, sameSpot, sameSpots, spotsOf, valuesOf}
@@ -30,7 +30,7 @@ unfolding
     degreeAllowed depthAllowed modulusAllowed boundAllowed settingsRefusal size half hasLength allBelow allWithin exponent exponents
     inner second cross foldSigned foldResidues commitment halfLeft roundElement foldMessage foldKey messageAfter keyAfter finalElement roundTable
     doubled roundHolds nextClaim finalBounded ending endHolds element claimAfter holdsAt closes accepted transcriptOf
-    textLimit valueLimit bytes names digitCount lowDigits decimal numeral lineText linesText shape settingsShape shapes shapeSize spotAt spots wanted
+    textLimit valueLimit narrowLimit limitOf bytes names digitCount lowDigits decimal numeral lineText linesText shape settingsShape shapes shapeSize spotAt spots wanted
     contents block blocks blockLines textOf blockFits fits keep digit digitRun digitFirst properDigits readCount plain negative readNumber byte readIndex
     readLine readLines begins beginsWithNames parsed linesOf sameSpot sameSpots spotsOf valuesOf wellFormed unsigned column unsignedColumn settingIn
     settingsIn tablesIn noSettings lookRefusal loaded lookAnswer entriesRefusal textRefusal readRefusal readAnswer readExit outputRefusal

@@ -90,21 +90,21 @@ lowDigits-cons (suc k) n =
 -- a number of k digits: 10^(k−1) ≤ n < 10^k, and one digit for 0
 pub record Digits (n k : ℕ) : Type 0 where
   pub some-digit : 0 < k
-  pub at-most : k ≤ 10
+  pub at-most : k ≤ 19
   pub under : n < 10 ^ k
   pub over : (i : ℕ) → suc i < k → 10 ^ suc i ≤ n
 
-pub digitCount-digits : (n : ℕ) → n < 10 ^ 10 → Digits n (digitCount n)
+pub digitCount-digits : (n : ℕ) → n < 10 ^ 19 → Digits n (digitCount n)
 unfolding digitCount
-digitCount-digits n h = go (least 9 (λ k. ltb n (10 ^ suc k))) (least-first 9 (λ k. ltb n (10 ^ suc k)))
+digitCount-digits n h = go (least 18 (λ k. ltb n (10 ^ suc k))) (least-first 18 (λ k. ltb n (10 ^ suc k)))
   where
-    last : (j : ℕ) → 9 ≡ j → n < 10 ^ suc j
+    last : (j : ℕ) → 18 ≡ j → n < 10 ^ suc j
     last j e = subst (λ (x : ℕ). n < 10 ^ suc x) e h
 
-    top : (j : ℕ) → j ≤ 9 → (j < 9 → n < 10 ^ suc j) → n < 10 ^ suc j
-    top j l f = elim (decLt j 9) [ yes m ↦ f m | no m ↦ last j (omega arith) ]
+    top : (j : ℕ) → j ≤ 18 → (j < 18 → n < 10 ^ suc j) → n < 10 ^ suc j
+    top j l f = elim (decLt j 18) [ yes m ↦ f m | no m ↦ last j (omega arith) ]
 
-    go : (j : ℕ) → First 9 (λ k. ltb n (10 ^ suc k)) j → Digits n (suc j)
+    go : (j : ℕ) → First 18 (λ k. ltb n (10 ^ suc k)) j → Digits n (suc j)
     go j r = record {
       some-digit = omega arith;
       at-most = omega arith;
@@ -118,7 +118,7 @@ digits-count n zero r = absurd (omega arith)
 digits-count n (suc j) r =
     ap
     suc
-    (least-is 9 (λ k. ltb n (10 ^ suc k)) j
+    (least-is 18 (λ k. ltb n (10 ^ suc k)) j
     (record {
       at-most = omega (arith, r .at-most);
       holds = λ l. lt-ltb n (10 ^ suc j) (r .under);

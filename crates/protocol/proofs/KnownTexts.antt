@@ -17,7 +17,7 @@ use Rattle.protocol.specs.Programs.{proveReads, provePrints, verifyReads
 use Rattle.protocol.specs.ProveVerify.{keyLines, headLength, withKey}
 use Rattle.protocol.proofs.ComputeText.{computedText}
 use Rattle.protocol.proofs.ReaderLaws.{too-long-to-read, too-long-to-write}
-use Rattle.protocol.proofs.TextExamples.{names, settings, key, message, commitment, rounds, challenge, final, input, withFinal, noDepth, moreDepth, listing}
+use Rattle.protocol.proofs.TextExamples.{names, settings, key, message, commitment, rounds, challenge, final, input, withFinal, noDepth, wideModulus, moreDepth, listing}
 use Rattle.protocol.proofs.TextExamples.{example, tables, noParts, challengeOnly, finalOnly, allParts, residues₂, residues₆, listed, finalElement, lent, proveTables}
 use Rattle.protocol.proofs.TextExamples.{lentListed, nothing, everything, deep, shallow, shallowLent, lentVerify, lentDeep, onlyChallenges, onlyFinal, widest, extremes}
 use Rattle.protocol.proofs.TextExamples.{withSettings}
@@ -35,6 +35,9 @@ table =
     -- with L = 0 there are no lines of rounds and challenges
     ∷ proves (names ++ noDepth ++ "1 0 0 3\n1 0 1 5\n2 0 0 1\n2 0 1 -1\n") (names ++ noDepth ++ "3 0 0 8\n3 0 1 2\n6 0 0 1\n6 0 1 -1\n")
     ∷ verifies (names ++ noDepth ++ "1 0 0 3\n1 0 1 5\n3 0 0 8\n3 0 1 2\n6 0 0 1\n6 0 1 -1\n") "accepted\n"
+    -- with the largest modulus: −1 and −5
+    ∷ proves (names ++ wideModulus ++ "1 0 0 1\n1 0 1 5\n2 0 0 -1\n2 0 1 0\n") (names ++ wideModulus ++ "3 0 0 2305843009213693950\n3 0 1 2305843009213693946\n6 0 0 -1\n6 0 1 0\n")
+    ∷ verifies (names ++ wideModulus ++ "1 0 0 1\n1 0 1 5\n3 0 0 2305843009213693950\n3 0 1 2305843009213693946\n6 0 0 -1\n6 0 1 0\n") "accepted\n"
     ∷ checks (withFinal final) 0 Accepted
     ∷ checks (withFinal "6 0 0 2\n6 0 1 0\n") 0 Rejected
     ∷ checks (withFinal "") 7 Silent
@@ -53,6 +56,21 @@ table =
     ∷ lookGives (names ++ settings ++ "9 9 9 -9\n") 0 example
     ∷ lookGives (names ++ settings ++ "9 9 9 09\n") 2 noSettings
     ∷ lookGives (names ++ "0 0 0 2\n0 0 1 1\n0 0 2 17\n0 0 3 -1\n") 6 noSettings
+    -- a setting that is too large is refused by its own number, and cut to no smaller one; past the limit of values it is no number
+    ∷ lookGives (names ++ "0 0 0 4294967298\n0 0 1 1\n0 0 2 17\n0 0 3 1\n") 3 noSettings
+    ∷ lookGives (names ++ "0 0 0 2\n0 0 1 4294967297\n0 0 2 17\n0 0 3 1\n") 4 noSettings
+    ∷ lookGives (names ++ "0 0 0 2\n0 0 1 1\n0 0 2 2305843009213693950\n0 0 3 1\n") 5 noSettings
+    ∷ lookGives (names ++ "0 0 0 2\n0 0 1 1\n0 0 2 2305843009213693952\n0 0 3 1\n") 2 noSettings
+    ∷ lookGives (names ++ "0 0 0 2\n0 0 1 1\n0 0 2 -17\n0 0 3 1\n") 5 noSettings
+    ∷ lookGives (names ++ "0 0 0 2\n0 0 1 1\n0 0 2 17\n0 0 3 4294967297\n") 6 noSettings
+    -- so is a residue; of messages and challenges there is none past the narrow limit
+    ∷ readRefused proveReads (input "1 0 0 2305843009213693951\n1 0 1 5\n1 1 0 7\n1 1 1 2\n" message challenge) lent 8
+    ∷ readRefused proveReads (input "1 0 0 2305843009213693952\n1 0 1 5\n1 1 0 7\n1 1 1 2\n" message challenge) lent 2
+    ∷ readRefused proveReads (input "1 0 0 4294967299\n1 0 1 5\n1 1 0 7\n1 1 1 2\n" message challenge) lent 8
+    ∷ readRefused proveReads (input key "2 0 0 2147483647\n2 0 1 -1\n2 1 0 1\n2 1 1 0\n" challenge) lent 9
+    ∷ readRefused proveReads (input key "2 0 0 2147483648\n2 0 1 -1\n2 1 0 1\n2 1 1 0\n" challenge) lent 2
+    ∷ readRefused proveReads (input key message "5 0 0 2147483647\n") lent 10
+    ∷ readRefused proveReads (input key message "5 0 0 2147483648\n") lent 2
     -- a final coefficient is tested against nothing: past n·B it is rejected, and past the limit it is no number
     ∷ verifies (withFinal "6 0 0 -2147483647\n6 0 1 0\n") "rejected\n"
     ∷ verifies (withFinal "6 0 0 -2147483648\n6 0 1 0\n") "refused 2\n"
@@ -95,7 +113,7 @@ table =
     ∷ back example noParts nothing nothing
     ∷ back deep allParts (tables (replicate 8 16) (replicate 8 (negsuc 0)) (0 ∷ 1 ∷ []) (replicate 12 10) (0 ∷ 3 ∷ []) extremes) lentDeep
     ∷ back shallow allParts (tables (0 ∷ 16 ∷ []) (pos 1 ∷ negsuc 0 ∷ []) (8 ∷ 2 ∷ []) [] [] extremes) shallowLent
-    ∷ back widest proveReads (tables (2_147_483_646 ∷ 10 ∷ []) (negsuc 126 ∷ pos 127 ∷ []) [] [] [] []) (tables (9 ∷ 9 ∷ []) (pos 9 ∷ pos 9 ∷ []) [] [] [] [])
+    ∷ back widest proveReads (tables (2_305_843_009_213_693_950 ∷ 10 ∷ []) (negsuc 126 ∷ pos 127 ∷ []) [] [] [] []) (tables (9 ∷ 9 ∷ []) (pos 9 ∷ pos 9 ∷ []) [] [] [] [])
     ∷ forth proveReads (input key message challenge) lent
     ∷ forth provePrints listing lentListed
     ∷ forth verifyReads (withFinal "6 0 0 -2147483647\n6 0 1 2147483647\n") lentVerify
@@ -112,12 +130,14 @@ table =
     ∷ number "-0\n" 0 2 (pos 0) 0
     ∷ number "03\n" 0 2 (pos 0) 0
     ∷ number "-" 0 2 (pos 0) 0
-    ∷ number "2147483647" 0 0 (pos 2_147_483_647) 10
-    ∷ number "-2147483647" 0 0 (negsuc 2_147_483_646) 11
-    ∷ number "2147483648" 0 2 (pos 0) 0
+    ∷ number "2305843009213693951" 0 0 (pos 2_305_843_009_213_693_951) 19
+    ∷ number "-2305843009213693951" 0 0 (negsuc 2_305_843_009_213_693_950) 20
+    ∷ number "2305843009213693952" 0 2 (pos 0) 0
     ∷ count "17 5" 0 0 (pos 17) 2
     ∷ count "-3\n" 0 2 (pos 0) 0
     ∷ count "03\n" 0 2 (pos 0) 0
+    ∷ count "2147483647" 0 0 (pos 2_147_483_647) 10
+    ∷ count "2147483648" 0 2 (pos 0) 0
     -- the line reader: a line with the next place, or a refusal
     ∷ lineGives "2 0 1 -1\n2 1 0 1\n" 0 2 0 1 (negsuc 0) 9
     ∷ lineGives "2 0 1 -1\n2 1 0 1\n" 9 2 1 0 (pos 1) 17
@@ -127,6 +147,17 @@ table =
     ∷ lineRefused "2 0 1\n" 0
     ∷ lineRefused "2 0 -1 1\n" 0
     ∷ lineRefused "2 0 1 -1\n" 9
+    -- a value may be wide but in parts 2, 5 and 6, wanted or not; part, item and place may not
+    ∷ lineGives "1 0 0 2305843009213693951\n" 0 1 0 0 (pos 2_305_843_009_213_693_951) 26
+    ∷ lineGives "7 2147483647 0 -2147483648\n" 0 7 2_147_483_647 0 (negsuc 2_147_483_647) 27
+    ∷ lineGives "6 0 0 2147483647\n" 0 6 0 0 (pos 2_147_483_647) 17
+    ∷ lineRefused "1 0 0 2305843009213693952\n" 0
+    ∷ lineRefused "2 9 9 2147483648\n" 0
+    ∷ lineRefused "5 9 9 -2147483648\n" 0
+    ∷ lineRefused "6 9 9 2147483648\n" 0
+    ∷ lineRefused "2147483648 0 0 1\n" 0
+    ∷ lineRefused "1 2147483648 0 1\n" 0
+    ∷ lineRefused "1 0 2147483648 1\n" 0
     -- the settings that a text begins with: the lines behind them are looked at where the settings are not allowed
     ∷ begunGives (names ++ settings ++ "x") 0 example
     ∷ begunGives (names ++ "0 0 0 3\n0 0 1 1\n0 0 2 17\n0 0 3 1\n") 3 noSettings

@@ -11,16 +11,37 @@ use lib.ListN.{length, drop, length-append}
 use lib.Seq.{drop-append-seam}
 use lib.IntN.{natAbs}
 use borrow.Author.Tests.{eqb-true, eq-eqb}
-use Rattle.protocol.specs.Text.{Line, valueLimit, bytes, names, decimal, numeral, lineText, linesText, keep, digit, digitFirst, properDigits}
+use Rattle.protocol.specs.Basic.{among, choose}
+use Rattle.protocol.specs.Text.{Line, valueLimit, narrowLimit, limitOf, bytes, names, decimal, numeral, lineText, linesText, keep, digit, digitFirst, properDigits}
 use Rattle.protocol.specs.Text.{readCount, readNumber, byte, readIndex, readLine, readLines, begins, beginsWithNames, parsed, linesOf}
 use Rattle.protocol.proofs.NumeralLaws.{keep-some, readCount-decimal, readNumber-numeral, readCount-text, readNumber-text}
 
--- every number of a line is within the limit of magnitude
+-- ---- Limits
+
+pub narrow-few : narrowLimit ≤ valueLimit
+unfolding narrowLimit valueLimit
+narrow-few = omega arith
+
+-- between the two limits, whatever the part
+either-limit : (t : Bool) → (narrowLimit ≤ choose t narrowLimit valueLimit) × (choose t narrowLimit valueLimit ≤ valueLimit)
+unfolding choose
+either-limit true = (omega arith, narrow-few)
+either-limit false = (narrow-few, omega arith)
+
+pub limit-wide : (part : ℕ) → narrowLimit ≤ limitOf part
+unfolding limitOf
+limit-wide part = either-limit (among part _) .0
+
+pub limit-few : (part : ℕ) → limitOf part ≤ valueLimit
+unfolding limitOf
+limit-few part = either-limit (among part _) .1
+
+-- every number of a line is within its limit of magnitude
 pub record Limited (l : Line) : Type 0 where
-  pub part : l .spot .part ≤ valueLimit
-  pub item : l .spot .item ≤ valueLimit
-  pub place : l .spot .place ≤ valueLimit
-  pub value : natAbs (l .value) ≤ valueLimit
+  pub part : l .spot .part ≤ narrowLimit
+  pub item : l .spot .item ≤ narrowLimit
+  pub place : l .spot .place ≤ narrowLimit
+  pub value : natAbs (l .value) ≤ limitOf (l .spot .part)
 
 abbrev pub AllLimited : List Line → Type 0
 AllLimited [] = Unit {0}
@@ -51,10 +72,10 @@ readLine-written l rest h =
     let t₁ = decimal (l .spot .item) ++ (32 ∷ t₂) in
     rw (
       lineText-append l rest,
-      readCount-decimal (l .spot .part) (32 ∷ t₁) (h .part) (no-digit t₁),
-      readCount-decimal (l .spot .item) (32 ∷ t₂) (h .item) (no-digit t₂),
-      readCount-decimal (l .spot .place) (32 ∷ t₃) (h .place) (no-digit t₃),
-      readNumber-numeral (l .value) (10 ∷ rest) (h .value) (no-digit-feed rest),
+      readCount-decimal narrowLimit (l .spot .part) (32 ∷ t₁) narrow-few (h .part) (no-digit t₁),
+      readCount-decimal narrowLimit (l .spot .item) (32 ∷ t₂) narrow-few (h .item) (no-digit t₂),
+      readCount-decimal narrowLimit (l .spot .place) (32 ∷ t₃) narrow-few (h .place) (no-digit t₃),
+      readNumber-numeral (limitOf (l .spot .part)) (l .value) (10 ∷ rest) (limit-few (l .spot .part)) (h .value) (no-digit-feed rest),
     )
 
 -- a line that is read does not begin at the end of a text
@@ -139,15 +160,15 @@ bind-some {ℓ₁ ℓ₂ ℓ₃} : {A : Type ℓ₁} {B : Type ℓ₂} {C : Type
 bind-some o f e k = let (a, p, q) = bind-eq-some-iff o f .0 e in k a p q
 
 pub record Indexed (bs : List ℕ) (n : ℕ) (rest : List ℕ) : Type 0 where
-  pub limit : n ≤ valueLimit
+  pub limit : n ≤ narrowLimit
   pub split : bs ≡ decimal n ++ (32 ∷ rest)
 
 pub readIndex-text : (bs : List ℕ) (n : ℕ) (rest : List ℕ) → readIndex bs ≡ some (n, rest) → Indexed bs n rest
 unfolding readIndex
 readIndex-text bs n rest e =
-    bind-some (readCount bs) _ e λ r p q.
+    bind-some (readCount narrowLimit bs) _ e λ r p q.
     bind-some (byte 32 (r .1)) _ q λ behind u v.
-    let c = readCount-text bs (r .0) (r .1) p in
+    let c = readCount-text narrowLimit narrow-few bs (r .0) (r .1) p in
     let same : _≡_ {A = ℕ × List ℕ} (r .0, behind) (n, rest) = cc in
     subst
     (λ (x : ℕ × List ℕ). Indexed bs (x .0) (x .1))
@@ -164,13 +185,13 @@ readLine-text bs l rest e =
     bind-some (readIndex bs) _ e λ i p₁ q₁.
     bind-some (readIndex (i .1)) _ q₁ λ j p₂ q₂.
     bind-some (readIndex (j .1)) _ q₂ λ k p₃ q₃.
-    bind-some (readNumber (k .1)) _ q₃ λ v p₄ q₄.
+    bind-some (readNumber (limitOf (i .0)) (k .1)) _ q₃ λ v p₄ q₄.
     bind-some (byte 10 (v .1)) _ q₄ λ behind p₅ q₅.
     let m : Line = record { spot = record { part = i .0; item = j .0; place = k .0 }; value = v .0 } in
     let part = readIndex-text bs (i .0) (i .1) p₁ in
     let item = readIndex-text (i .1) (j .0) (j .1) p₂ in
     let place = readIndex-text (j .1) (k .0) (k .1) p₃ in
-    let value = readNumber-text (k .1) (v .0) (v .1) p₄ in
+    let value = readNumber-text (limitOf (i .0)) (limit-few (i .0)) (k .1) (v .0) (v .1) p₄ in
     let t₃ : k .1 ≡ numeral (v .0) ++ (10 ∷ behind) = value .split ∙ ap (λ (t : List ℕ). numeral (v .0) ++ t) (byte-text 10 (v .1) behind p₅) in
     let t₂ = place .split ∙ ap (λ (t : List ℕ). decimal (k .0) ++ (32 ∷ t)) t₃ in
     let t₁ = item .split ∙ ap (λ (t : List ℕ). decimal (j .0) ++ (32 ∷ t)) t₂ in

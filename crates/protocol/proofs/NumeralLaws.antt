@@ -92,75 +92,76 @@ proper-digits n (suc (suc j)) rest p stop under limit =
     let l₀ : 10 ^ suc j ≤ n = lead n j rest p in
     record {
       some-digit = omega arith;
-      at-most = elim (decLt (suc j) 10) [ yes l ↦ l | no l ↦ absurd (omega (arith, few-digits n limit, ten-le 10 (suc j) (omega arith))) ];
+      at-most = elim (decLt (suc j) 19) [ yes l ↦ l | no l ↦ absurd (omega (arith, few-digits n limit, ten-le 19 (suc j) (omega arith))) ];
       under = under;
       over = λ i l. le-trans (ten-le (suc i) (suc j) (omega arith)) l₀;
     }
 
-pub record Counted (bs : List ℕ) (n : ℕ) (rest : List ℕ) : Type 0 where
-  pub limit : n ≤ valueLimit
+pub record Counted (most : ℕ) (bs : List ℕ) (n : ℕ) (rest : List ℕ) : Type 0 where
+  pub limit : n ≤ most
   pub split : bs ≡ decimal n ++ rest
   pub stop : digitFirst rest ≡ false
 
-counted : (bs : List ℕ) (n : ℕ) (rest : List ℕ) → properDigits bs ≡ true → n ≤ valueLimit → Run 0 bs n rest → Counted bs n rest
-unfolding decimal
-counted bs n rest p limit r =
-    let k = r .count in
-    let under : n < 10 ^ k = omega (arith, div-lt-iff-lt-mul {k = 10 ^ k} {x = n} {y = 1} (ten-pos k) .0 (omega (arith, r .before))) in
-    let same = digits-count n k (proper-digits n k rest (subst (λ (l : List ℕ). properDigits l ≡ true) (r .split) p) (r .stop) under limit) in
-    record { limit = limit; split = r .split ∙ ap (λ (x : ℕ). lowDigits x n ++ rest) (sym same); stop = r .stop }
-
-pub readCount-text : (bs : List ℕ) (n : ℕ) (rest : List ℕ) → readCount bs ≡ some (n, rest) → Counted bs n rest
-unfolding readCount
-readCount-text bs n rest e =
-    let (test, run) = keep-some (properDigits bs && leb (digitRun 0 bs .0) valueLimit) (digitRun 0 bs) (n, rest) e in
-    let (proper, limit) = and-eq-true-iff (properDigits bs) (leb (digitRun 0 bs .0) valueLimit) .0 test in
-    counted bs n rest proper (leb-true n valueLimit (rw run at limit)) (rw run at (digitRun-run 0 bs))
-
-pub record Numbered (bs : List ℕ) (z : ℤ) (rest : List ℕ) : Type 0 where
-  pub limit : natAbs z ≤ valueLimit
+pub record Numbered (most : ℕ) (bs : List ℕ) (z : ℤ) (rest : List ℕ) : Type 0 where
+  pub limit : natAbs z ≤ most
   pub split : bs ≡ numeral z ++ rest
   pub stop : digitFirst rest ≡ false
 
-counted-numbered : (bs : List ℕ) (n : ℕ) (rest : List ℕ) → Counted bs n rest → Numbered bs (pos n) rest
-unfolding numeral
-counted-numbered bs n rest c = record { limit = c .limit; split = c .split; stop = c .stop }
+module _ (most : ℕ) (few : most ≤ valueLimit) where
+  counted : (bs : List ℕ) (n : ℕ) (rest : List ℕ) → properDigits bs ≡ true → n ≤ most → Run 0 bs n rest → Counted most bs n rest
+  unfolding decimal
+  counted bs n rest p limit r =
+      let k = r .count in
+      let under : n < 10 ^ k = omega (arith, div-lt-iff-lt-mul {k = 10 ^ k} {x = n} {y = 1} (ten-pos k) .0 (omega (arith, r .before))) in
+      let same = digits-count n k (proper-digits n k rest (subst (λ (l : List ℕ). properDigits l ≡ true) (r .split) p) (r .stop) under (omega arith)) in
+      record { limit = limit; split = r .split ∙ ap (λ (x : ℕ). lowDigits x n ++ rest) (sym same); stop = r .stop }
 
-pub plain-numbered : (bs : List ℕ) (z : ℤ) (rest : List ℕ) → plain (readCount bs) ≡ some (z, rest) → Numbered bs z rest
-unfolding plain bind
-plain-numbered bs z rest = go (readCount bs) refl
-  where
-    go : (o : Option (ℕ × List ℕ)) → readCount bs ≡ o → plain o ≡ some (z, rest) → Numbered bs z rest
-    go none c e = absurd (Option·none-ne-some (z, rest) e)
-    go (some (n, more)) c e =
-        let same : _≡_ {A = ℤ × List ℕ} (pos n, more) (z, rest) = cc in
-        subst (λ (p : ℤ × List ℕ). Numbered bs (p .0) (p .1)) same (counted-numbered bs n more (readCount-text bs n more c))
+  pub readCount-text : (bs : List ℕ) (n : ℕ) (rest : List ℕ) → readCount most bs ≡ some (n, rest) → Counted most bs n rest
+  unfolding readCount
+  readCount-text bs n rest e =
+      let (test, run) = keep-some (properDigits bs && leb (digitRun 0 bs .0) most) (digitRun 0 bs) (n, rest) e in
+      let (proper, limit) = and-eq-true-iff (properDigits bs) (leb (digitRun 0 bs .0) most) .0 test in
+      counted bs n rest proper (leb-true n most (rw run at limit)) (rw run at (digitRun-run 0 bs))
 
-negative-numbered : (bs : List ℕ) (z : ℤ) (rest : List ℕ) → negative (readCount bs) ≡ some (z, rest) → Numbered (45 ∷ bs) z rest
-unfolding negative bind numeral
-negative-numbered bs z rest = go (readCount bs) refl
-  where
-    go : (o : Option (ℕ × List ℕ)) → readCount bs ≡ o → negative o ≡ some (z, rest) → Numbered (45 ∷ bs) z rest
-    go none c e = absurd (Option·none-ne-some (z, rest) e)
-    go (some (zero, more)) c e = absurd (true≢false (sym (keep-some false (pos 0, more) (z, rest) e .0)))
-    go (some (suc n, more)) c e =
-        let r = readCount-text bs (suc n) more c in
-        let same : _≡_ {A = ℤ × List ℕ} (negsuc n, more) (z, rest) = keep-some (not (eqb (suc n) 0)) (negsuc n, more) (z, rest) e .1 in
-        subst
-        (λ (p : ℤ × List ℕ). Numbered (45 ∷ bs) (p .0) (p .1))
-        same
-        (record { limit = r .limit; split = ap (λ (l : List ℕ). 45 ∷ l) (r .split); stop = r .stop })
+  counted-numbered : (bs : List ℕ) (n : ℕ) (rest : List ℕ) → Counted most bs n rest → Numbered most bs (pos n) rest
+  unfolding numeral
+  counted-numbered bs n rest c = record { limit = c .limit; split = c .split; stop = c .stop }
 
-pub readNumber-text : (bs : List ℕ) (z : ℤ) (rest : List ℕ) → readNumber bs ≡ some (z, rest) → Numbered bs z rest
-unfolding readNumber
-readNumber-text [] z rest e = absurd (Option·none-ne-some (z, rest) e)
-readNumber-text (b ∷ bs) z rest e = go (eqb b 45) refl e
-  where
-    go : (t : Bool) → eqb b 45 ≡ t → readNumber (b ∷ bs) ≡ some (z, rest) → Numbered (b ∷ bs) z rest
-    go true h e =
-        let same = eqb-true b 45 h in
-        subst
-        (λ (c : ℕ). Numbered (c ∷ bs) z rest)
-        (sym same)
-        (negative-numbered bs z rest (subst (λ (c : ℕ). readNumber (c ∷ bs) ≡ some (z, rest)) same e))
-    go false h e = plain-numbered (b ∷ bs) z rest (sym (readNumber-plain b bs h) ∙ e)
+  pub plain-numbered : (bs : List ℕ) (z : ℤ) (rest : List ℕ) → plain (readCount most bs) ≡ some (z, rest) → Numbered most bs z rest
+  unfolding plain bind
+  plain-numbered bs z rest = go (readCount most bs) refl
+    where
+      go : (o : Option (ℕ × List ℕ)) → readCount most bs ≡ o → plain o ≡ some (z, rest) → Numbered most bs z rest
+      go none c e = absurd (Option·none-ne-some (z, rest) e)
+      go (some (n, more)) c e =
+          let same : _≡_ {A = ℤ × List ℕ} (pos n, more) (z, rest) = cc in
+          subst (λ (p : ℤ × List ℕ). Numbered most bs (p .0) (p .1)) same (counted-numbered bs n more (readCount-text bs n more c))
+
+  negative-numbered : (bs : List ℕ) (z : ℤ) (rest : List ℕ) → negative (readCount most bs) ≡ some (z, rest) → Numbered most (45 ∷ bs) z rest
+  unfolding negative bind numeral
+  negative-numbered bs z rest = go (readCount most bs) refl
+    where
+      go : (o : Option (ℕ × List ℕ)) → readCount most bs ≡ o → negative o ≡ some (z, rest) → Numbered most (45 ∷ bs) z rest
+      go none c e = absurd (Option·none-ne-some (z, rest) e)
+      go (some (zero, more)) c e = absurd (true≢false (sym (keep-some false (pos 0, more) (z, rest) e .0)))
+      go (some (suc n, more)) c e =
+          let r = readCount-text bs (suc n) more c in
+          let same : _≡_ {A = ℤ × List ℕ} (negsuc n, more) (z, rest) = keep-some (not (eqb (suc n) 0)) (negsuc n, more) (z, rest) e .1 in
+          subst
+          (λ (p : ℤ × List ℕ). Numbered most (45 ∷ bs) (p .0) (p .1))
+          same
+          (record { limit = r .limit; split = ap (λ (l : List ℕ). 45 ∷ l) (r .split); stop = r .stop })
+
+  pub readNumber-text : (bs : List ℕ) (z : ℤ) (rest : List ℕ) → readNumber most bs ≡ some (z, rest) → Numbered most bs z rest
+  unfolding readNumber
+  readNumber-text [] z rest e = absurd (Option·none-ne-some (z, rest) e)
+  readNumber-text (b ∷ bs) z rest e = go (eqb b 45) refl e
+    where
+      go : (t : Bool) → eqb b 45 ≡ t → readNumber most (b ∷ bs) ≡ some (z, rest) → Numbered most (b ∷ bs) z rest
+      go true h e =
+          let same = eqb-true b 45 h in
+          subst
+          (λ (c : ℕ). Numbered most (c ∷ bs) z rest)
+          (sym same)
+          (negative-numbered bs z rest (subst (λ (c : ℕ). readNumber most (c ∷ bs) ≡ some (z, rest)) same e))
+      go false h e = plain-numbered (b ∷ bs) z rest (sym (readNumber-plain most b bs h) ∙ e)

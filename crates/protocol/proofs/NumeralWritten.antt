@@ -16,8 +16,8 @@ use Rattle.protocol.specs.Text.{valueLimit, digitCount, lowDigits, decim
 use Rattle.protocol.specs.Text.{plain, negative, readNumber}
 use Rattle.protocol.proofs.DigitLaws.{decimal-length, digit-of, digitRun-stop, ten-pos, digitRun-low, lowDigits-cons, Digits, digitCount-digits}
 
--- every value of a text has at most ten digits
-pub few-digits : (n : ℕ) → n ≤ valueLimit → n < 10 ^ 10
+-- every number of a text has at most nineteen digits
+pub few-digits : (n : ℕ) → n ≤ valueLimit → n < 10 ^ 19
 unfolding valueLimit
 few-digits n h = omega arith
 
@@ -34,7 +34,7 @@ decimal-cons n j e = ap (λ (k : ℕ). lowDigits k n) e ∙ lowDigits-cons j n
 
 pub digitCount-suc : (n : ℕ) → (j : ℕ) × (digitCount n ≡ suc j)
 unfolding digitCount
-digitCount-suc n = (least 9 (λ k. ltb n (10 ^ suc k)), refl)
+digitCount-suc n = (least 18 (λ k. ltb n (10 ^ suc k)), refl)
 
 -- no leading zero: of two digits or more the first is not 0
 leading : (n j : ℕ) → Digits n (suc (suc j)) → eqb (48 + n / 10 ^ suc j % 10) 48 ≡ false
@@ -56,27 +56,30 @@ proper-decimal n (suc j) rest e r h =
     rw (decimal-cons n (suc j) e)
     (proper-cons _ _ (digit-of (n / 10 ^ suc j % 10) (mod-lt (n / 10 ^ suc j) (omega arith))) (rw (leading n j r)))
 
-pub readCount-decimal : (n : ℕ) (rest : List ℕ) → n ≤ valueLimit → digitFirst rest ≡ false → readCount (decimal n ++ rest) ≡ some (n, rest)
+pub readCount-decimal : (most n : ℕ) (rest : List ℕ) → most ≤ valueLimit → n ≤ most → digitFirst rest ≡ false
+    → readCount most (decimal n ++ rest) ≡ some (n, rest)
 unfolding readCount keep
-readCount-decimal n rest h stop =
-    let run : digitRun 0 (decimal n ++ rest) ≡ (n, rest) = digitRun-decimal n rest h ∙ digitRun-stop n rest stop in
+readCount-decimal most n rest limit h stop =
+    let few : n ≤ valueLimit = omega arith in
+    let run : digitRun 0 (decimal n ++ rest) ≡ (n, rest) = digitRun-decimal n rest few ∙ digitRun-stop n rest stop in
     let (j, e) = digitCount-suc n in
-    let digits : Digits n (suc j) = subst (Digits n) e (digitCount-digits n (few-digits n h)) in
-    rw (run, proper-decimal n j rest e digits stop, le-leb n valueLimit h)
+    let digits : Digits n (suc j) = subst (Digits n) e (digitCount-digits n (few-digits n few)) in
+    rw (run, proper-decimal n j rest e digits stop, le-leb n most h)
 
-pub readNumber-plain : (b : ℕ) (bs : List ℕ) → eqb b 45 ≡ false → readNumber (b ∷ bs) ≡ plain (readCount (b ∷ bs))
+pub readNumber-plain : (most b : ℕ) (bs : List ℕ) → eqb b 45 ≡ false → readNumber most (b ∷ bs) ≡ plain (readCount most (b ∷ bs))
 unfolding readNumber
-readNumber-plain b bs h = rw (h, readNumber)
+readNumber-plain most b bs h = rw (h, readNumber)
 
-pub readNumber-numeral : (z : ℤ) (rest : List ℕ) → natAbs z ≤ valueLimit → digitFirst rest ≡ false → readNumber (numeral z ++ rest) ≡ some (z, rest)
+pub readNumber-numeral : (most : ℕ) (z : ℤ) (rest : List ℕ) → most ≤ valueLimit → natAbs z ≤ most → digitFirst rest ≡ false
+    → readNumber most (numeral z ++ rest) ≡ some (z, rest)
 unfolding numeral readNumber plain negative bind keep
-readNumber-numeral (pos n) rest h stop =
+readNumber-numeral most (pos n) rest limit h stop =
     let (j, e) = digitCount-suc n in
     let c : decimal n ++ rest ≡ (48 + n / 10 ^ j % 10) ∷ (lowDigits j n ++ rest) = ap (λ (l : List ℕ). l ++ rest) (decimal-cons n j e) in
-    ap readNumber c
-    ∙ readNumber-plain (48 + n / 10 ^ j % 10) (lowDigits j n ++ rest) (ne-eqb (48 + n / 10 ^ j % 10) 45 (λ x. omega arith))
-    ∙ ap plain (ap readCount (sym c) ∙ readCount-decimal n rest h stop)
-readNumber-numeral (negsuc n) rest h stop = rw (readCount-decimal (suc n) rest h stop, eqb·suc-zero n)
+    ap (readNumber most) c
+    ∙ readNumber-plain most (48 + n / 10 ^ j % 10) (lowDigits j n ++ rest) (ne-eqb (48 + n / 10 ^ j % 10) 45 (λ x. omega arith))
+    ∙ ap plain (ap (readCount most) (sym c) ∙ readCount-decimal most n rest limit h stop)
+readNumber-numeral most (negsuc n) rest limit h stop = rw (readCount-decimal most (suc n) rest limit h stop, eqb·suc-zero n)
 
 pub decimal-some : (n : ℕ) → 0 < length (decimal n)
 decimal-some n = omega (arith, decimal-length n, digitCount-suc n .1)

@@ -11,7 +11,7 @@ use lib.Dec.{eqb}
 use lib.Seq.{drop-append-seam, drop-drop, drop-cons}
 use lib.IntN.{ℤ}
 use Rattle.protocol.specs.declared.Number.the-variants.{Value, Refused}
-use Rattle.protocol.specs.Text.{Line, lineText, numeral, keep, digit, digitRun, digitFirst, readCount, readNumber, plain, byte, readLine, numberAnswer, readNumberAt, readCountAt}
+use Rattle.protocol.specs.Text.{Line, valueLimit, lineText, numeral, keep, digit, digitRun, digitFirst, readCount, readNumber, plain, byte, readLine, numberAnswer, readNumberAt, readCountAt}
 use Rattle.protocol.proofs.NumeralLaws.{Numbered, digitRun-on, readNumber-text, plain-numbered, numeral-some}
 use Rattle.protocol.proofs.LineLaws.{readLine-text, lineText-length}
 
@@ -53,13 +53,13 @@ rest-place text pre rest at e some-pre =
     let place : at + length pre ≡ length text - length rest = omega arith in
     (sym (drop-append-seam pre rest) ∙ ap (drop (length pre)) (sym e) ∙ drop-drop (length pre) at text ∙ ap (λ (n : ℕ). drop n text) place, omega arith)
 
-module _ (text : List ℕ) (at : ℕ) where
-  read-at : (value : ℤ) (rest : List ℕ) → Numbered (drop at text) value rest → ReadAt text at (some (value, rest)) value (length text - length rest)
+module _ (most : ℕ) (few : most ≤ valueLimit) (text : List ℕ) (at : ℕ) where
+  read-at : (value : ℤ) (rest : List ℕ) → Numbered most (drop at text) value rest → ReadAt text at (some (value, rest)) value (length text - length rest)
   read-at value rest r =
       let (same, on) = rest-place text (numeral value) rest at (r .split) (numeral-some value) in
       record { read-it = ap (λ (l : List ℕ). some (value, l)) same; onward = on; inside = omega arith }
 
-  answer-value : (o : Option (ℤ × List ℕ)) → ((z : ℤ) (rest : List ℕ) → o ≡ some (z, rest) → Numbered (drop at text) z rest)
+  answer-value : (o : Option (ℤ × List ℕ)) → ((z : ℤ) (rest : List ℕ) → o ≡ some (z, rest) → Numbered most (drop at text) z rest)
       → (value : ℤ) (next : ℕ) → numberAnswer text o ≡ Value value next → ReadAt text at o value next
   unfolding numberAnswer
   answer-value none n value next e = absurd (let x : _≡_ {A = Bool} true false = cc in true≢false x)
@@ -76,24 +76,24 @@ module _ (text : List ℕ) (at : ℕ) where
   answer-refused none number e = (refl, cc)
   answer-refused (some (z, rest)) number e = absurd (let x : _≡_ {A = Bool} true false = cc in true≢false x)
 
-  pub readNumberAt-value : (value : ℤ) (next : ℕ) → readNumberAt text at ≡ Value value next → ReadAt text at (readNumber (drop at text)) value next
+  pub readNumberAt-value : (value : ℤ) (next : ℕ) → readNumberAt most text at ≡ Value value next → ReadAt text at (readNumber most (drop at text)) value next
   unfolding readNumberAt
-  readNumberAt-value = answer-value (readNumber (drop at text)) (readNumber-text (drop at text))
+  readNumberAt-value = answer-value (readNumber most (drop at text)) (readNumber-text most few (drop at text))
 
-  pub readNumberAt-refused : (number : ℕ) → readNumberAt text at ≡ Refused number → (readNumber (drop at text) ≡ none) × (number ≡ 2)
+  pub readNumberAt-refused : (number : ℕ) → readNumberAt most text at ≡ Refused number → (readNumber most (drop at text) ≡ none) × (number ≡ 2)
   unfolding readNumberAt
-  readNumberAt-refused = answer-refused (readNumber (drop at text))
+  readNumberAt-refused = answer-refused (readNumber most (drop at text))
 
-  pub readCountAt-value : (value : ℤ) (next : ℕ) → readCountAt text at ≡ Value value next
-      → ReadAt text at (plain (readCount (drop at text))) value next
+  pub readCountAt-value : (value : ℤ) (next : ℕ) → readCountAt most text at ≡ Value value next
+      → ReadAt text at (plain (readCount most (drop at text))) value next
   unfolding readCountAt
-  readCountAt-value = answer-value (plain (readCount (drop at text))) (plain-numbered (drop at text))
+  readCountAt-value = answer-value (plain (readCount most (drop at text))) (plain-numbered most few (drop at text))
 
-  pub readCountAt-refused : (number : ℕ) → readCountAt text at ≡ Refused number → (plain (readCount (drop at text)) ≡ none) × (number ≡ 2)
+  pub readCountAt-refused : (number : ℕ) → readCountAt most text at ≡ Refused number → (plain (readCount most (drop at text)) ≡ none) × (number ≡ 2)
   unfolding readCountAt
-  readCountAt-refused = answer-refused (plain (readCount (drop at text)))
+  readCountAt-refused = answer-refused (plain (readCount most (drop at text)))
 
-  -- a line that was read at a place, too, ends where the bytes behind it begin
-  pub readLine-place : (l : Line) (rest : List ℕ) → readLine (drop at text) ≡ some (l, rest)
-      → (rest ≡ drop (length text - length rest) text) × (at < length text - length rest)
-  readLine-place l rest e = rest-place text (lineText l) rest at (readLine-text (drop at text) l rest e .split) (lineText-length l)
+-- a line that was read at a place, too, ends where the bytes behind it begin
+pub readLine-place : (text : List ℕ) (at : ℕ) (l : Line) (rest : List ℕ) → readLine (drop at text) ≡ some (l, rest)
+    → (rest ≡ drop (length text - length rest) text) × (at < length text - length rest)
+readLine-place text at l rest e = rest-place text (lineText l) rest at (readLine-text (drop at text) l rest e .split) (lineText-length l)

@@ -51,6 +51,10 @@ withFinal f = names ++ settings ++ key ++ commitment ++ rounds ++ challenge ++ f
 abbrev pub noDepth : String
 noDepth = "0 0 0 2\n0 0 1 0\n0 0 2 17\n0 0 3 1\n"
 
+-- the same with the largest modulus
+abbrev pub wideModulus : String
+wideModulus = "0 0 0 2\n0 0 1 0\n0 0 2 2305843009213693951\n0 0 3 1\n"
+
 -- settings 2, 2, 17, 1
 abbrev pub moreDepth : String
 moreDepth = "0 0 0 2\n0 0 1 2\n0 0 2 17\n0 0 3 1\n"
@@ -151,8 +155,8 @@ onlyFinal f = tables [] [] [] [] [] f
 
 -- the largest modulus and bound
 abbrev pub widest : Settings
-widest = record { degree = 2; depth = 0; modulus = 2_147_483_647; bound = 127 }
+widest = record { degree = 2; depth = 0; modulus = 2_305_843_009_213_693_951; bound = 127 }
 
--- the largest magnitudes of a value
+-- the largest magnitudes of a final element's value
 abbrev pub extremes : List ℤ
 extremes = pos 2_147_483_647 ∷ negsuc 2_147_483_646 ∷ []

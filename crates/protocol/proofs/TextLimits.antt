@@ -1,23 +1,25 @@
--- Laws about limits: settings and tables that are not refused have lines in which every number is within the limit of magnitude.
-use mathlib.Core.Path.{_≡_, refl, _∙_}
+-- Laws about limits: settings and tables that are not refused have lines in which every number is within its limit of magnitude, and so have the lines of
+-- every text.
+use mathlib.Core.Path.{_≡_, refl, subst, _∙_}
 use mathlib.Core.Bool.{Bool, true, false, _&&_, and-eq-true-iff}
+use mathlib.Core.Option.{Option, none, some, Option·getD}
 use mathlib.Core.List.{List, [], _∷_, _++_, map, flatMap, zipWith}
 use Prim.Native.Nat.{ℕ, zero, suc, _*_, _%_, _<_, _≤_}
 use native.Mathlib.Omega.{arith}
 use native.Mathlib.Nat.{le-trans, zero-mul, pow-le-pow-right, mul-le-mul, div-le-self, mod-le}
 use lib.Dec.{leb, ltb, eqb}
 use lib.IntN.{ℤ, pos, natAbs}
-use borrow.Author.Tests.{leb-true, le-leb, ltb-true}
+use borrow.Author.Tests.{leb-true, le-leb, ltb-true, eqb-true}
 use Rattle.protocol.specs.declared.Settings.{Settings}
 use Rattle.protocol.specs.declared.Parts.{Parts}
-use Rattle.protocol.specs.Basic.{tabulate, all, choose, within, first, unless}
-use Rattle.protocol.specs.Settings.{degreeAllowed, depthAllowed, modulusAllowed, boundAllowed, settingsRefusal, size, allBelow, allWithin}
+use Rattle.protocol.specs.Basic.{tabulate, all, among, choose, within, first, unless}
+use Rattle.protocol.specs.Settings.{modulusMost, degreeAllowed, depthAllowed, modulusAllowed, boundAllowed, settingsRefusal, size, allBelow, allWithin}
 use Rattle.protocol.specs.Settings.{exponent, exponents}
-use Rattle.protocol.specs.Text.{Line, Shape, Tables, valueLimit, shape, settingsShape, shapes, shapeSize}
+use Rattle.protocol.specs.Text.{Line, Shape, Tables, valueLimit, narrowLimit, limitOf, shape, settingsShape, shapes, shapeSize}
 use Rattle.protocol.specs.Text.{spotAt, contents, block, blockLines}
-use Rattle.protocol.specs.Text.{entriesRefusal}
-use Rattle.protocol.proofs.Tests.{first-zero, unless-zero, all-weaken, all-map, all-getD, among-le}
-use Rattle.protocol.proofs.LineLaws.{Limited, AllLimited}
+use Rattle.protocol.specs.Text.{parsed, linesOf, column, entriesRefusal}
+use Rattle.protocol.proofs.Tests.{first-zero, unless-zero, all-weaken, all-map, all-getD, among-le, and-intro}
+use Rattle.protocol.proofs.LineLaws.{Limited, AllLimited, parsed-text}
 
 -- ---- Settings that are not refused
 
@@ -37,7 +39,7 @@ allowed S h =
     record {
       degree = among-le (S .degree) 64 _ refl (unless-zero 2 _ h₃);
       depth = leb-true (S .depth) 8 (unless-zero 3 _ h₄);
-      modulus = leb-true (S .modulus) 2_147_483_647 (and-eq-true-iff (eqb (S .modulus % 2) 1 && leb 3 (S .modulus)) _ .0 (unless-zero 4 _ h₅) .1);
+      modulus = le-trans (leb-true (S .modulus) modulusMost (and-eq-true-iff (eqb (S .modulus % 2) 1 && leb 3 (S .modulus)) _ .0 (unless-zero 4 _ h₅) .1)) (omega arith);
       bound = leb-true (S .bound) 127 (and-eq-true-iff (leb 1 (S .bound)) _ .0 (unless-zero 5 _ h₆) .1);
     }
 
@@ -45,7 +47,7 @@ pub size-le : (S : Settings) → Allowed S → size S ≤ 256
 unfolding size
 size-le S a = pow-le-pow-right {n = 2} (omega arith) {i = S .depth} {j = 8} (a .depth)
 
--- ---- Lines within the limit of magnitude
+-- ---- Lines within their limits of magnitude
 
 pub allLimited-append : (ks ls : List Line) → AllLimited ks → AllLimited ls → AllLimited (ks ++ ls)
 allLimited-append [] ls h k = k
@@ -57,24 +59,24 @@ tabulate-limited zero f h = tt
 tabulate-limited (suc n) f h = (h 0 (omega arith), tabulate-limited n (λ i. f (suc i)) (λ p l. h (suc p) (omega arith)))
 
 pub record SmallShape (b : Shape) : Type 0 where
-  pub refusal : b .part ≤ valueLimit
-  pub lines : shapeSize b ≤ valueLimit
+  pub number : b .part ≤ narrowLimit
+  pub lines : shapeSize b ≤ narrowLimit
 
-block-limited : (b : Shape) (v : List ℤ) → SmallShape b → all (within valueLimit) v ≡ true → AllLimited (blockLines (block b v))
+block-limited : (b : Shape) (v : List ℤ) → SmallShape b → all (within (limitOf (b .part))) v ≡ true → AllLimited (blockLines (block b v))
 unfolding blockLines block spotAt within
 block-limited b v s h =
     tabulate-limited (shapeSize b) _ λ p l.
     record {
-      part = s .refusal;
+      part = s .number;
       item = omega (arith, div-le-self p (b .places), s .lines);
       place = omega (arith, mod-le p (b .places), s .lines);
-      value = leb-true _ valueLimit (all-getD (within valueLimit) v p (pos 0) (le-leb 0 valueLimit (omega arith)) h);
+      value = let most = limitOf (b .part) in leb-true _ most (all-getD (within most) v p (pos 0) (le-leb 0 most (omega arith)) h);
     }
 
 abbrev pub Limits : List Shape → List (List ℤ) → Type 0
 Limits [] vs = Unit {0}
 Limits (b ∷ bs) [] = Unit {0}
-Limits (b ∷ bs) (v ∷ vs) = (SmallShape b × (all (within valueLimit) v ≡ true)) × Limits bs vs
+Limits (b ∷ bs) (v ∷ vs) = (SmallShape b × (all (within (limitOf (b .part))) v ≡ true)) × Limits bs vs
 
 pub lines-limited : (bs : List Shape) (vs : List (List ℤ)) → Limits bs vs → AllLimited (flatMap blockLines (zipWith block bs vs))
 unfolding flatMap zipWith
@@ -82,10 +84,33 @@ lines-limited [] vs h = tt
 lines-limited (b ∷ bs) [] h = tt
 lines-limited (b ∷ bs) (v ∷ vs) h = allLimited-append (blockLines (block b v)) _ (block-limited b v (h .0 .0) (h .0 .1)) (lines-limited bs vs (h .1))
 
-shape-small : (p : ℕ) (there : Bool) (items places : ℕ) → p ≤ valueLimit → items * places ≤ valueLimit → SmallShape (shape p there items places)
+shape-small : (p : ℕ) (there : Bool) (items places : ℕ) → p ≤ narrowLimit → items * places ≤ narrowLimit → SmallShape (shape p there items places)
 unfolding shape choose shapeSize
-shape-small p true items places h k = record { refusal = h; lines = k }
-shape-small p false items places h k = record { refusal = h; lines = omega (arith, zero-mul places) }
+shape-small p true items places h k = record { number = h; lines = k }
+shape-small p false items places h k = record { number = h; lines = omega (arith, zero-mul places) }
+
+-- ---- Lines that were read
+
+pub lines-read-limited : (text : List ℕ) → AllLimited (linesOf text)
+unfolding linesOf
+lines-read-limited text = go (parsed text) refl
+  where
+    go : (o : Option (List Line)) → parsed text ≡ o → AllLimited (Option·getD o [])
+    go none e = tt
+    go (some ls) e = parsed-text text ls e .0
+
+-- so the values of a part are within the limit of its values
+pub column-limited : (p : ℕ) (ls : List Line) → AllLimited ls → all (within (limitOf p)) (column p ls) ≡ true
+unfolding column choose all within
+column-limited p [] h = refl
+column-limited p (l ∷ ls) h = go (eqb (l .spot .part) p) refl (column-limited p ls (h .1))
+  where
+    go : (t : Bool) → eqb (l .spot .part) p ≡ t → all (within (limitOf p)) (column p ls) ≡ true
+        → all (within (limitOf p)) (choose t (l .value ∷ column p ls) (column p ls)) ≡ true
+    go true same e =
+        let here : natAbs (l .value) ≤ limitOf p = subst (λ q. natAbs (l .value) ≤ limitOf q) (eqb-true _ _ same) (h .0 .value) in
+        and-intro (le-leb (natAbs (l .value)) (limitOf p) here) e
+    go false same e = e
 
 -- ---- Tables that are not refused
 
@@ -95,10 +120,10 @@ pub record Passed (S : Settings) (t : Tables) : Type 0 where
   pub rounds : allBelow S (t .rounds) ≡ true
   pub message : allWithin (S .bound) (t .message) ≡ true
   pub challenges : exponents S (t .challenges) ≡ true
-  pub last : all (within valueLimit) (t .last) ≡ true
+  pub last : all (within narrowLimit) (t .last) ≡ true
 
 pub passed : (S : Settings) (lastFits : Bool) (t : Tables) → entriesRefusal S lastFits t ≡ 0
-    → (lastFits ≡ true → all (within valueLimit) (t .last) ≡ true) → Passed S t
+    → (lastFits ≡ true → all (within narrowLimit) (t .last) ≡ true) → Passed S t
 unfolding entriesRefusal
 passed S lastFits t h f =
     let (h₈, r₈) = first-zero _ _ h in
@@ -113,46 +138,48 @@ pub unrefused : (S : Settings) (lastFits : Bool) (t : Tables) → Passed S t →
 unfolding entriesRefusal first unless
 unrefused S lastFits t p l = rw (p .key, p .commitment, p .rounds, p .message, l, p .challenges)
 
-pub below-limited : (m : ℕ) (v : List ℕ) → m ≤ valueLimit → all (λ x. ltb x m) v ≡ true → all (λ x. leb x valueLimit) v ≡ true
-below-limited m v l h = all-weaken (λ x. ltb x m) (λ x. leb x valueLimit) (λ x e. le-leb x valueLimit (omega (arith, ltb-true x m e))) v h
+pub below-limited : (most m : ℕ) (v : List ℕ) → m ≤ most → all (λ x. ltb x m) v ≡ true → all (λ x. leb x most) v ≡ true
+below-limited most m v l h = all-weaken (λ x. ltb x m) (λ x. leb x most) (λ x e. le-leb x most (omega (arith, ltb-true x m e))) v h
 
 -- the largest exponent is far below the limit
-pub exponent-le : (S : Settings) → Allowed S → 2 * S .degree ≤ valueLimit
-unfolding valueLimit
+pub exponent-le : (S : Settings) → Allowed S → 2 * S .degree ≤ narrowLimit
+unfolding narrowLimit
 exponent-le S a = omega (arith, a .degree)
 
 residues-limited : (S : Settings) (v : List ℕ) → Allowed S → allBelow S v ≡ true → all (within valueLimit) (map pos v) ≡ true
 unfolding allBelow within
-residues-limited S v a h = all-map (within valueLimit) pos v ∙ below-limited (S .modulus) v (a .modulus) h
+residues-limited S v a h = all-map (within valueLimit) pos v ∙ below-limited valueLimit (S .modulus) v (a .modulus) h
 
-exponents-limited : (S : Settings) (v : List ℕ) → Allowed S → exponents S v ≡ true → all (within valueLimit) (map pos v) ≡ true
+exponents-limited : (S : Settings) (v : List ℕ) → Allowed S → exponents S v ≡ true → all (within narrowLimit) (map pos v) ≡ true
 unfolding exponents exponent within
-exponents-limited S v a h = all-map (within valueLimit) pos v ∙ below-limited (2 * S .degree) v (exponent-le S a) h
+exponents-limited S v a h = all-map (within narrowLimit) pos v ∙ below-limited narrowLimit (2 * S .degree) v (exponent-le S a) h
 
-small-limited : (S : Settings) (v : List ℤ) → Allowed S → allWithin (S .bound) v ≡ true → all (within valueLimit) v ≡ true
-unfolding allWithin within valueLimit
+small-limited : (S : Settings) (v : List ℤ) → Allowed S → allWithin (S .bound) v ≡ true → all (within narrowLimit) v ≡ true
+unfolding allWithin within narrowLimit
 small-limited S v a h =
-    all-weaken (within (S .bound)) (within valueLimit) (λ z e. le-leb (natAbs z) valueLimit (omega (arith, leb-true (natAbs z) (S .bound) e, a .bound))) v h
+    all-weaken (within (S .bound)) (within narrowLimit) (λ z e. le-leb (natAbs z) narrowLimit (omega (arith, leb-true (natAbs z) (S .bound) e, a .bound))) v h
 
 settings-limited : (S : Settings) → Allowed S
     → all (within valueLimit) (pos (S .degree) ∷ pos (S .depth) ∷ pos (S .modulus) ∷ pos (S .bound) ∷ []) ≡ true
-unfolding all within valueLimit
+unfolding all within
 settings-limited S a =
+    let wide : 127 ≤ valueLimit = unfold valueLimit in (omega arith) in
     rw (
-      le-leb (S .degree) 2_147_483_647 (omega (arith, a .degree)),
-      le-leb (S .depth) 2_147_483_647 (omega (arith, a .depth)),
-      le-leb (S .modulus) 2_147_483_647 (a .modulus),
-      le-leb (S .bound) 2_147_483_647 (omega (arith, a .bound)),
+      le-leb (S .degree) valueLimit (omega (arith, a .degree)),
+      le-leb (S .depth) valueLimit (omega (arith, a .depth)),
+      le-leb (S .modulus) valueLimit (a .modulus),
+      le-leb (S .bound) valueLimit (omega (arith, a .bound)),
     )
 
--- the values of parts 0 to 6 and the shapes of parts 0 to 6 are within the limit
+-- the values of parts 0 to 6 and the shapes of parts 0 to 6 are within their limits
 pub contents-limited : (S : Settings) (P : Parts) (t : Tables) → Allowed S → Passed S t → Limits (shapes S P) (contents S t)
-unfolding shapes contents settingsShape valueLimit
+unfolding shapes contents settingsShape shape limitOf among choose
 contents-limited S P t a p =
+    let wide : 16_384 ≤ narrowLimit = unfold narrowLimit in (omega arith) in
     let n : size S ≤ 256 = size-le S a in
-    let table : size S * S .degree ≤ 2_147_483_647 = le-trans (mul-le-mul n (a .degree)) (omega arith) in
+    let table : size S * S .degree ≤ narrowLimit = le-trans (mul-le-mul n (a .degree)) (omega arith) in
     let items : 3 * S .depth ≤ 24 = omega (arith, a .depth) in
-    let rounds : 3 * S .depth * S .degree ≤ 2_147_483_647 = le-trans (mul-le-mul items (a .degree)) (omega arith) in (
+    let rounds : 3 * S .depth * S .degree ≤ narrowLimit = le-trans (mul-le-mul items (a .degree)) (omega arith) in (
       (shape-small 0 true 1 4 (omega arith) (omega arith), settings-limited S a),
       (
         (shape-small 1 (P .key) (size S) (S .degree) (omega arith) table, residues-limited S (t .key) a (p .key)),

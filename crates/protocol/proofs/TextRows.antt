@@ -11,7 +11,7 @@ use Rattle.protocol.specs.declared.Loaded.{Loaded}
 use Rattle.protocol.specs.declared.Written.{Written}
 use Rattle.protocol.specs.declared.Checked.{Checked}
 use Rattle.protocol.specs.declared.Verdict.{Verdict}
-use Rattle.protocol.specs.Text.{Tables, Reading, bytes, noSettings, beginsWithNames, lookAnswer, readAnswer, readExit}
+use Rattle.protocol.specs.Text.{Tables, Reading, valueLimit, narrowLimit, bytes, noSettings, beginsWithNames, lookAnswer, readAnswer, readExit}
 use Rattle.protocol.specs.Text.{writeAnswer, writeExit, reading, readNumberAt, readCountAt}
 use Rattle.protocol.specs.Lines.{LineReading, lineReading, readLineAt, begunAnswer}
 use Rattle.protocol.specs.Programs.{proveRefusal, proveAnswer, proveExit, proveOutput}
@@ -44,7 +44,7 @@ pub data Row : Type 0 where
   -- reading what was written, into these lent tables; writing what was read
   back : Settings → Parts → Tables → Tables → Row
   forth : Parts → String → Tables → Row
-  -- a number reader's number, value and next place
+  -- the number, value and next place of the reader of values, and of the reader of parts, items and places
   number : String → ℕ → ℕ → ℤ → ℕ → Row
   count : String → ℕ → ℕ → ℤ → ℕ → Row
   -- the line reader's part, item, place, value and next place, or its refusal
@@ -86,8 +86,8 @@ given (forth P text u) =
     let S = readAnswer P (bytes text) u .settings in
     let t = readExit P (bytes text) u in
     writes (writeAnswer S P t (stops 999)) (writeExit S P t (stops 999))
-given (number text at N value next) = gives (reading (readNumberAt (bytes text) at))
-given (count text at N value next) = gives (reading (readCountAt (bytes text) at))
+given (number text at N value next) = gives (reading (readNumberAt valueLimit (bytes text) at))
+given (count text at N value next) = gives (reading (readCountAt narrowLimit (bytes text) at))
 given (lineGives text at part item place value next) = givesLine (lineReading (readLineAt (bytes text) at))
 given (lineRefused text at) = givesLine (lineReading (readLineAt (bytes text) at))
 given (begunGives text N S) = finds (begunAnswer (bytes text))

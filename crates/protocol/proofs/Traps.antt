@@ -56,11 +56,13 @@ traps =
     ∷ number (settingsRefusal (set 128 0 12289 1)) 3
     ∷ number (settingsRefusal (set 64 9 2 0)) 4
     ∷ number (settingsRefusal (set 64 8 18 0)) 5
-    ∷ number (settingsRefusal (set 64 8 2_147_483_649 1)) 5
+    ∷ number (settingsRefusal (set 64 8 2_305_843_009_213_693_953 1)) 5
+    ∷ number (settingsRefusal (set 64 8 2_305_843_009_213_693_952 1)) 5
+    ∷ number (settingsRefusal (set 64 8 2_147_483_649 1)) 0
     ∷ number (settingsRefusal (set 64 8 1 1)) 5
-    ∷ number (settingsRefusal (set 64 8 2_147_483_647 128)) 6
-    ∷ number (settingsRefusal (set 64 8 2_147_483_647 0)) 6
-    ∷ number (settingsRefusal (set 64 8 2_147_483_647 127)) 0
+    ∷ number (settingsRefusal (set 64 8 2_305_843_009_213_693_951 128)) 6
+    ∷ number (settingsRefusal (set 64 8 2_305_843_009_213_693_951 0)) 6
+    ∷ number (settingsRefusal (set 64 8 2_305_843_009_213_693_951 127)) 0
     ∷ number (settingsRefusal (set 2 0 3 1)) 0
     -- refusal 9 with t at L and over L: commit and end test it, round and fold do not
     ∷ number (commitRefusal S₀ (3 ∷ 5 ∷ []) (pos 2 ∷ pos 0 ∷ [])) 9
@@ -139,7 +141,7 @@ traps =
     ∷ number (judgeRefusal (set 2 1 15 1) (0 ∷ 0 ∷ []) 5 key₁ message₁) 15
     ∷ number (judgeRefusal (set 2 1 15 1) (0 ∷ 0 ∷ []) 6 key₁ message₁) 15
     ∷ number (judgeRefusal (set 2 1 15 1) (0 ∷ 0 ∷ []) 16 key₁ message₁) 0
-    ∷ number (judgeRefusal (set 2 1 2_147_483_647 1) (0 ∷ 0 ∷ []) 65_536 key₁ message₁) 0
+    ∷ number (judgeRefusal (set 2 1 2_305_843_009_213_693_951 1) (0 ∷ 0 ∷ []) 65_536 key₁ message₁) 0
     ∷ record { given = asNumber (judgeAnswer S₁ (0 ∷ 0 ∷ []) 18 key₁ (negsuc 9_223_372_036_854_775_807 ∷ pos 0 ∷ pos 0 ∷ pos 0 ∷ []) .yes); wanted = pos 0 ∷ [] }
     -- the extractor's slack is 4^L, and the judge takes what it extracts
     ∷ number (slack (set 2 3 17 1)) 64

@@ -9,6 +9,7 @@ use Prim.Native.Nat.{ℕ, _%_, _^_, _<_, _≤_}
 use lib.ListN.{length, getD}
 use lib.IntN.{ℤ, pos, natAbs}
 use Rattle.protocol.specs.declared.Settings.{Settings}
+use Rattle.protocol.specs.Settings.{modulusMost}
 
 -- PROTOCOL 1.1; the degree is 2^log
 pub record Valid (S : Settings) : Type 0 where
@@ -19,7 +20,7 @@ pub record Valid (S : Settings) : Type 0 where
   pub depth-most : S .depth ≤ 8
   pub modulus-odd : S .modulus % 2 ≡ 1
   pub modulus-least : 3 ≤ S .modulus
-  pub modulus-most : S .modulus ≤ 2_147_483_647
+  pub modulus-most : S .modulus ≤ modulusMost
   pub bound-least : 1 ≤ S .bound
   pub bound-most : S .bound ≤ 127
 

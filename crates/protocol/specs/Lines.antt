@@ -3,7 +3,7 @@
 --
 --   present r                  was anything read
 --   givenNumber text o         what a reader of numbers gives for what it read: number, value and next place (`reading` has them for its enum)
---   readIndexAt                a number from 0 on and the space behind it, as a call on a text and a place
+--   readIndexAt                a part, an item or a place and the space behind it, as a call on a text and a place
 --   noLine                     a line of zeros
 --   LineReading, lineReading r the number and values for each case of the line reader's answer
 --   givenLine text o           the same for what was read
@@ -29,7 +29,7 @@ use Rattle.protocol.specs.declared.Entry.{Entry}
 use Rattle.protocol.specs.declared.Entry.the-variants.{Found, Malformed}
 use Rattle.protocol.specs.Basic.{granted}
 use Rattle.protocol.specs.Settings.{settingsRefusal}
-use Rattle.protocol.specs.Text.{Spot, Line, Reading, names, keep, plain, readIndex, readLine, readLines, beginsWithNames, sameSpot, spots, settingsShape, unsigned}
+use Rattle.protocol.specs.Text.{Spot, Line, Reading, valueLimit, narrowLimit, names, keep, plain, readIndex, readLine, readLines, beginsWithNames, sameSpot, spots, settingsShape, unsigned}
 use Rattle.protocol.specs.Text.{noSettings, lookAnswer, numberAnswer}
 
 unfoldable pub present {ℓ} : {A : Type ℓ} → Option A → Bool
@@ -99,10 +99,10 @@ readValues (s ∷ ss) bs = do
 
 unfoldable pub settingsOf : List ℤ → Settings
 settingsOf vs = record {
-  degree = unsigned (getD vs 0 (pos 0));
-  depth = unsigned (getD vs 1 (pos 0));
-  modulus = unsigned (getD vs 2 (pos 0));
-  bound = unsigned (getD vs 3 (pos 0));
+  degree = unsigned narrowLimit (getD vs 0 (pos 0));
+  depth = unsigned narrowLimit (getD vs 1 (pos 0));
+  modulus = unsigned valueLimit (getD vs 2 (pos 0));
+  bound = unsigned narrowLimit (getD vs 3 (pos 0));
 }
 
 unfoldable pub readSettings : List ℕ → Option (List ℤ × List ℕ)

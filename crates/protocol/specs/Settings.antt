@@ -1,5 +1,6 @@
 -- PROTOCOL 1.1: which settings are allowed; PROTOCOL 7.1 and 7.3: the tests that several calls share.
 --
+--   modulusMost                         the largest modulus
 --   degreeAllowed S .. boundAllowed S   is d, L, q, B allowed
 --   settingsRefusal S                   refusals 3 to 6
 --   size S, cells S                     passed on from Layout
@@ -27,9 +28,13 @@ degreeAllowed S = among (S .degree) (2 ∷ 4 ∷ 8 ∷ 16 ∷ 32 ∷ 64 ∷ [])
 unfoldable pub depthAllowed : Settings → Bool
 depthAllowed S = leb (S .depth) 8
 
--- PROTOCOL 1.1: odd, so that 2 has an inverse, and below 2^31
+-- PROTOCOL 1.1: 2^61 − 1, so that eight times a residue has 64 bits
+abbrev pub modulusMost : ℕ
+modulusMost = 2_305_843_009_213_693_951
+
+-- PROTOCOL 1.1: odd, so that 2 has an inverse
 unfoldable pub modulusAllowed : Settings → Bool
-modulusAllowed S = eqb (S .modulus % 2) 1 && leb 3 (S .modulus) && leb (S .modulus) 2_147_483_647
+modulusAllowed S = eqb (S .modulus % 2) 1 && leb 3 (S .modulus) && leb (S .modulus) modulusMost
 
 -- PROTOCOL 1.1: not 0, and below 2^7
 unfoldable pub boundAllowed : Settings → Bool

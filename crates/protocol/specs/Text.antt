@@ -2,7 +2,9 @@
 -- Reader and writer go by one description of the parts, `shapes`. A reader gives what it read with the bytes behind it, or nothing.
 --
 -- Written
---   textLimit, valueLimit         the longest text, and the largest magnitude of a number in it
+--   textLimit                     the longest text
+--   valueLimit, narrowLimit       the largest magnitude of a value, and of every other number, in a text
+--   limitOf part                  the largest magnitude of a value in a line of this part
 --   lineFeed, space, minus, ..    bytes by name
 --   bytes s                       the bytes of a quoted text (each of its characters has one byte)
 --   names                         the names line
@@ -25,11 +27,11 @@
 --   digit b, digitFirst bs        is b the byte of a digit; does one stand here
 --   digitRun n bs                 the number whose digits stand here, n being what stood before, and the bytes behind it
 --   properDigits bs               do digits stand here, with no leading zero
---   readCount bs                  the number from 0 on that stands here, with the bytes behind it
+--   readCount most bs             the number from 0 to `most` that stands here, with the bytes behind it
 --   plain r, negative r           what was read, with no sign before it, and with a minus before it
---   readNumber bs                 the number that stands here, with the bytes behind it
+--   readNumber most bs            the number from −most to `most` that stands here, with the bytes behind it
 --   byte c bs                     the bytes behind a byte c
---   readIndex bs                  a number from 0 on and a space, with the bytes behind it
+--   readIndex bs                  a part, an item or a place and a space, with the bytes behind it
 --   readLine, readLines           a line with the bytes behind it; all lines up to the end
 --   begins cs bs                  do the bytes bs begin with the bytes cs
 --   beginsWithNames text          does a text begin with the names line
@@ -37,9 +39,10 @@
 --   spotsOf ls, valuesOf ls       the spots and the values of lines
 --   sameSpot, sameSpots           are two spots the same; are these the same spots in the same order
 --   wellFormed text               is every line of the stated shape, and are the first four value lines settings
---   unsigned z                    z, or a number out of every range where z is below zero
---   column p, unsignedColumn p    the values of part p, signed and unsigned
---   settingIn, settingsIn         the value of a settings line, and the settings
+--   unsigned most z               z, or one past `most` where z is not from 0 to `most`
+--   column p                      the values of part p
+--   unsignedColumn most p         the same as numbers from 0 on
+--   settingIn most, settingsIn    the value of a settings line, and the settings
 --   tablesIn ls                   the six tables in the lines
 -- The calls
 --   noSettings                    four zeros
@@ -53,11 +56,11 @@
 --   writeAnswer, writeExit        the writer's answer, and its output slice as it leaves it
 --   Reading, reading r            the refusal's number and the values for each case of the number reader's answer
 --   numberAnswer                  what was read, as that answer
---   readNumberAt, readCountAt     the number readers as calls on a text and a place
+--   readNumberAt, readCountAt     the number readers as calls on a limit, a text and a place
 use mathlib.Core.Bool.{Bool, true, false, _&&_, not}
 use mathlib.Core.List.{List, [], _∷_, _++_, map, flatMap, zipWith}
 use mathlib.Core.Option.{Option, none, some, bind as _>>=_, Option·getD}
-use Prim.Native.Nat.{ℕ, zero, suc, _+_, _*_, _-_, _/_, _%_, _^_}
+use Prim.Native.Nat.{ℕ, zero, suc, _+_, _*_, _-_, _/_, _%_, _^_, min}
 use Prim.Native.Char.{code}
 use Prim.Native.String.{String, [] as end, _∷_ as _then_}
 use lib.Dec.{leb, ltb, eqb}
@@ -70,16 +73,24 @@ use Rattle.protocol.specs.declared.Written.{Written}
 use Rattle.protocol.specs.declared.Number.{Number}
 use Rattle.protocol.specs.declared.Number.the-variants.{Value, Refused}
 use Rattle.protocol.specs.Layout.{roundItems}
-use Rattle.protocol.specs.Basic.{least, tabulate, all, choose, within, first, unless, granted}
+use Rattle.protocol.specs.Basic.{least, tabulate, all, among, choose, within, first, unless, granted}
 use Rattle.protocol.specs.Settings.{settingsRefusal, size, hasLength, allBelow, exponents, allWithin}
 
 -- PROTOCOL 7.1, refusal 1
 unfoldable pub textLimit : ℕ
 textLimit = 65_536
 
--- PROTOCOL 9.1: below 2^31
+-- PROTOCOL 9.1: below 2^61
 unfoldable pub valueLimit : ℕ
-valueLimit = 2_147_483_647
+valueLimit = 2_305_843_009_213_693_951
+
+-- PROTOCOL 9.1: below 2^31
+unfoldable pub narrowLimit : ℕ
+narrowLimit = 2_147_483_647
+
+-- PROTOCOL 9.1: messages, challenges and final elements have 32 bits, whether or not their lines are wanted
+unfoldable pub limitOf : ℕ → ℕ
+limitOf part = choose (among part (2 ∷ 5 ∷ 6 ∷ [])) narrowLimit valueLimit
 
 abbrev pub lineFeed : ℕ
 lineFeed = 10
@@ -104,9 +115,9 @@ bytes (c then s) = code c ∷ bytes s
 unfoldable pub names : List ℕ
 names = bytes "part item place value\n"
 
--- one digit, and one more for each of 10, 100, .., 10^9 that n reaches: no number here has more than ten
+-- one digit, and one more for each of 10, 100, .., 10^18 that n reaches: no number here has more than nineteen
 unfoldable pub digitCount : ℕ → ℕ
-digitCount n = suc (least 9 (λ k. ltb n (10 ^ suc k)))
+digitCount n = suc (least 18 (λ k. ltb n (10 ^ suc k)))
 
 unfoldable pub lowDigits : ℕ → ℕ → List ℕ
 lowDigits zero n = []
@@ -245,9 +256,8 @@ unfoldable pub properDigits : List ℕ → Bool
 properDigits [] = false
 properDigits (b ∷ bs) = digit b && not (eqb b zeroDigit && digitFirst bs)
 
--- PROTOCOL 9.1: below 2^31
-unfoldable pub readCount : List ℕ → Option (ℕ × List ℕ)
-readCount bs = keep (properDigits bs && leb (digitRun 0 bs .0) valueLimit) (digitRun 0 bs)
+unfoldable pub readCount : ℕ → List ℕ → Option (ℕ × List ℕ)
+readCount most bs = keep (properDigits bs && leb (digitRun 0 bs .0) most) (digitRun 0 bs)
 
 unfoldable pub plain : Option (ℕ × List ℕ) → Option (ℤ × List ℕ)
 plain r = do
@@ -261,9 +271,9 @@ negative r = do
   keep (not (eqb n 0)) (negℤ (pos n), rest)
 
 -- PROTOCOL 9.1: a minus stands before values alone
-unfoldable pub readNumber : List ℕ → Option (ℤ × List ℕ)
-readNumber [] = none
-readNumber (b ∷ bs) = elim (eqb b minus) [ true ↦ negative (readCount bs) | false ↦ plain (readCount (b ∷ bs)) ]
+unfoldable pub readNumber : ℕ → List ℕ → Option (ℤ × List ℕ)
+readNumber most [] = none
+readNumber most (b ∷ bs) = elim (eqb b minus) [ true ↦ negative (readCount most bs) | false ↦ plain (readCount most (b ∷ bs)) ]
 
 unfoldable pub byte : ℕ → List ℕ → Option (List ℕ)
 byte c [] = none
@@ -272,7 +282,7 @@ byte c (b ∷ bs) = keep (eqb b c) bs
 -- PROTOCOL 9.1: one space behind it
 unfoldable pub readIndex : List ℕ → Option (ℕ × List ℕ)
 readIndex bs = do
-  (n, behind) ← readCount bs
+  (n, behind) ← readCount narrowLimit bs
   rest ← byte space behind
   some (n, rest)
 
@@ -282,7 +292,7 @@ readLine bs = do
   (part, itemOn) ← readIndex bs
   (item, placeOn) ← readIndex itemOn
   (place, valueOn) ← readIndex placeOn
-  (value, behind) ← readNumber valueOn
+  (value, behind) ← readNumber (limitOf part) valueOn
   rest ← byte lineFeed behind
   some (record { spot = record { part = part; item = item; place = place }; value = value }, rest)
 
@@ -330,33 +340,38 @@ valuesOf ls = map (λ (l : Line). l .value) ls
 unfoldable pub wellFormed : List ℕ → Bool
 wellFormed text = sameSpots (take (shapeSize settingsShape) (spotsOf (linesOf text))) (spots settingsShape)
 
--- PROTOCOL 9.4: a number with a minus counts as one past the limit of magnitude, which no setting,
+-- PROTOCOL 9.4: a number with a minus, and one past the limit, count as one past the limit, which no setting,
 -- residue or exponent reaches
-unfoldable pub unsigned : ℤ → ℕ
-unsigned (pos n) = n
-unsigned (negsuc n) = suc valueLimit
+unfoldable pub unsigned : ℕ → ℤ → ℕ
+unsigned most (pos n) = min n (suc most)
+unsigned most (negsuc n) = suc most
 
 unfoldable pub column : ℕ → List Line → List ℤ
 column p [] = []
 column p (l ∷ ls) = choose (eqb (l .spot .part) p) (l .value ∷ column p ls) (column p ls)
 
-unfoldable pub unsignedColumn : ℕ → List Line → List ℕ
-unsignedColumn p ls = map unsigned (column p ls)
+unfoldable pub unsignedColumn : ℕ → ℕ → List Line → List ℕ
+unsignedColumn most p ls = map (unsigned most) (column p ls)
 
-unfoldable pub settingIn : List Line → ℕ → ℕ
-settingIn ls place = unsigned (getD (valuesOf ls) place (pos 0))
+unfoldable pub settingIn : ℕ → List Line → ℕ → ℕ
+settingIn most ls place = unsigned most (getD (valuesOf ls) place (pos 0))
 
--- PROTOCOL 9.2, part 0
+-- PROTOCOL 9.2, part 0: of the settings the modulus alone may be wide
 unfoldable pub settingsIn : List Line → Settings
-settingsIn ls = record { degree = settingIn ls 0; depth = settingIn ls 1; modulus = settingIn ls 2; bound = settingIn ls 3 }
+settingsIn ls = record {
+  degree = settingIn narrowLimit ls 0;
+  depth = settingIn narrowLimit ls 1;
+  modulus = settingIn valueLimit ls 2;
+  bound = settingIn narrowLimit ls 3;
+}
 
 unfoldable pub tablesIn : List Line → Tables
 tablesIn ls = record {
-  key = unsignedColumn 1 ls;
+  key = unsignedColumn valueLimit 1 ls;
   message = column 2 ls;
-  commitment = unsignedColumn 3 ls;
-  rounds = unsignedColumn 4 ls;
-  challenges = unsignedColumn 5 ls;
+  commitment = unsignedColumn valueLimit 3 ls;
+  rounds = unsignedColumn valueLimit 4 ls;
+  challenges = unsignedColumn narrowLimit 5 ls;
   last = column 6 ls;
 }
 
@@ -422,7 +437,7 @@ writeRefusal S P t room =
     first
     (settingsRefusal S
     ∷ unless 7 (fits S P t)
-    ∷ entriesRefusal S (all (within valueLimit) (t .last)) t
+    ∷ entriesRefusal S (all (within narrowLimit) (t .last)) t
     ∷ outputRefusal (textOf S P t) room
     ∷ [])
 
@@ -455,8 +470,8 @@ unfoldable pub numberAnswer : List ℕ → Option (ℤ × List ℕ) → Number
 numberAnswer text none = Refused 2
 numberAnswer text (some (value, rest)) = Value value (length text - length rest)
 
-unfoldable pub readNumberAt : List ℕ → ℕ → Number
-readNumberAt text at = numberAnswer text (readNumber (drop at text))
+unfoldable pub readNumberAt : ℕ → List ℕ → ℕ → Number
+readNumberAt most text at = numberAnswer text (readNumber most (drop at text))
 
-unfoldable pub readCountAt : List ℕ → ℕ → Number
-readCountAt text at = numberAnswer text (plain (readCount (drop at text)))
+unfoldable pub readCountAt : ℕ → List ℕ → ℕ → Number
+readCountAt most text at = numberAnswer text (plain (readCount most (drop at text)))

@@ -6,19 +6,21 @@ pub const WIDTH: usize = 64;
 // How many challenges a record holds, one for each round that there can be: `slots` of the definitions.
 pub const SLOTS: usize = 8;
 
-// The longest text, and the largest magnitude of a number in it: `textLimit` and `valueLimit` of the definitions.
+// The longest text, and the largest magnitude of a value and of every other number in it: `textLimit`, `valueLimit` and `narrowLimit` of the definitions.
 pub const TEXT_LIMIT: usize = 65536;
 
-pub const VALUE_LIMIT: u32 = 2147483647;
+pub const VALUE_LIMIT: u64 = 2305843009213693951;
+
+pub const NARROW_LIMIT: u32 = 2147483647;
 
 // The residues of a key, a commitment, a round polynomial or a claim.
-pub type Residue = u32;
+pub type Residue = u64;
 
 // PROTOCOL 1.1.
 pub struct Settings {
     pub degree: u32,
     pub depth: u32,
-    pub modulus: u32,
+    pub modulus: Residue,
     pub bound: u32,
 }
 
@@ -116,7 +118,7 @@ pub struct Written {
 
 // The number reader (PROTOCOL 9.4).
 pub enum Number {
-    Value { value: i32, next: usize },
+    Value { value: i64, next: usize },
     Refused(u32),
 }
 
@@ -126,7 +128,7 @@ pub enum Entry {
         part: u32,
         item: u32,
         place: u32,
-        value: i32,
+        value: i64,
         next: usize,
     },
     Malformed,

@@ -4,8 +4,8 @@
 --   given             the inputs of the opening, as the theorems have them
 --   honest-writable   the writer's core takes the tables of the transcript
 --   printed-by        what it promises for them
-use mathlib.Core.Path.{_≡_, sym, ap, subst, _∙_}
-use mathlib.Core.Bool.{true}
+use mathlib.Core.Path.{_≡_, refl, sym, ap, subst, _∙_}
+use mathlib.Core.Bool.{true, _&&_}
 use mathlib.Core.List.{List}
 use Prim.Native.Nat.{ℕ, _*_, _<_, _≤_}
 use native.Mathlib.Nat as Nat
@@ -15,13 +15,16 @@ use lib.Seq.{take-at}
 use lib.IntN.{ℤ}
 use Rattle.protocol.specs.declared.Settings.{Settings}
 use Rattle.protocol.specs.declared.Written.{Written}
-use Rattle.protocol.specs.Basic.{choose}
+use Rattle.protocol.specs.Basic.{all, choose}
 use Rattle.protocol.specs.Element.{padded, paddedSigned}
 use Rattle.protocol.specs.Opening.{commitment, messageAfter, finalElement}
 use Rattle.protocol.specs.Transcript.{Transcript, transcriptOf}
-use Rattle.protocol.specs.Text.{Tables, shape, shapes, shapeSize, fits, textOf}
+use Rattle.protocol.specs.Settings.{allBelow}
+use Rattle.protocol.specs.Text.{Tables, valueLimit, shape, shapes, shapeSize, fits, textOf}
 use Rattle.protocol.specs.Programs.{provePrints, printed}
 use Rattle.claims.proofs.Honest.{Given, modulus-positive}
+use Rattle.protocol.proofs.Inputs.{below-tested}
+use Rattle.protocol.proofs.Tests.{and-intro}
 use Rattle.protocol.proofs.Ranges.{commitment-below, rounds-below, last-length}
 use Rattle.text_parts.specs.Parts.{partShape}
 use Rattle.text_parts.proofs.Exactly.{exact-fits}
@@ -81,10 +84,20 @@ module _ (S : Settings) (G : List ℕ) (M : List ℤ) (E rounds : List ℕ) (ok 
     last = last-long ∙ sym (Nat.one-mul d);
   })
 
+  residues : (allBelow S (t .key) && (allBelow S (t .commitment) && allBelow S (t .rounds))) ≡ true
+  unfolding printed transcriptOf allBelow all
+  residues = and-intro refl (and-intro (below-tested q _ (T .commitment) (commitment-below S pq G M)) (below-tested q _ (T .rounds) (rounds-below S pq E G M)))
+
   -- u is what stands in the tables
   module _ (u : Tables) (e : u ≡ t) where
     pub honest-writable : Writable S provePrints u
-    honest-writable = record { depth = ok .settings .depth-most; fitting = ap (fits S provePrints) e ∙ fitting }
+    unfolding valueLimit
+    honest-writable = record {
+      depth = ok .settings .depth-most;
+      modulus = ok .settings .modulus-most;
+      residues = ap (λ (x : Tables). allBelow S (x .key) && (allBelow S (x .commitment) && allBelow S (x .rounds))) e ∙ residues;
+      fitting = ap (fits S provePrints) e ∙ fitting;
+    }
 
     pub printed-by : (out : List ℕ) (r : Written) (out′ : List ℕ) → Output (textOf S provePrints u) out r out′ → Printed S G M E out r out′
     printed-by out r out′ w = subst (λ x. Output (textOf S provePrints x) out r out′) e w

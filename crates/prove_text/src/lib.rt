@@ -1,5 +1,6 @@
 // The program `prove` as a call on text: its settings, its tables, the whole opening, and the text of the transcript.
 use protocol::Parts;
+use protocol::Residue;
 use protocol::SLOTS;
 use protocol::Settings;
 use protocol::TEXT_LIMIT;
@@ -50,10 +51,10 @@ fn prints() -> Parts
 // The opening of tables of which nothing is refused, and its text.
 fn print_opening(
     settings: Settings,
-    key: &mut [u32],
+    key: &mut [Residue],
     message: &mut [i32],
     challenges: &[u32],
-    rounds: &mut [u32],
+    rounds: &mut [Residue],
     out: &mut [u8],
 ) -> Written
     requires { ⌜ Openable settings (now key) (now message) (now challenges) (now rounds) ⌝ }
@@ -63,7 +64,7 @@ fn print_opening(
     let commitment = transcript.commitment;
     let last = transcript.last;
     let degree = settings.degree as usize;
-    let no_key = [0u32; 1];
+    let no_key = [0u64; 1];
     let no_message = [0i32; 1];
     table_writer::write_tables(
         settings,
@@ -83,18 +84,18 @@ fn prove_in(
     text: &[u8],
     settings: Settings,
     from: usize,
-    key: &mut [u32],
+    key: &mut [Residue],
     message: &mut [i32],
     challenges: &mut [u32],
-    rounds: &mut [u32],
+    rounds: &mut [Residue],
     out: &mut [u8],
 ) -> Written
     requires { ⌜ (lookRefusal (now text) ≡ 0 → fits (settingsIn (linesOf (now text))) proveReads (tablesOf (now key) (now message) [] [] (now challenges) []) ≡ true) ⌝ }
     requires { ⌜ (lookRefusal (now text) ≡ 0 → length (now rounds) ≡ roundCells (settingsIn (linesOf (now text)))) × Begins (now text) settings from ⌝ }
     ensures { λ r. ⌜ Proved (now (text .entry)) (now (out .entry)) r (now (out .exit)) ⌝ }
 {
-    let mut no_commitment = [0u32; 1];
-    let mut no_rounds = [0u32; 1];
+    let mut no_commitment = [0u64; 1];
+    let mut no_rounds = [0u64; 1];
     let mut no_last = [0i32; 1];
     let loaded = table_reader::read_tables(
         reads(),
@@ -118,10 +119,10 @@ fn prove_in(
 // The call with tables that have room for every text: their first numbers, as many as the settings ask for, are lent.
 fn prove_within(
     text: &[u8],
-    key: &mut [u32],
+    key: &mut [Residue],
     message: &mut [i32],
     challenges: &mut [u32],
-    rounds: &mut [u32],
+    rounds: &mut [Residue],
     out: &mut [u8],
 ) -> Written
     requires { ⌜ (cellsRoom ≤ length (now key)) × (cellsRoom ≤ length (now message)) × (slots ≤ length (now challenges)) × (roundCellsRoom ≤ length (now rounds)) ⌝ }
@@ -151,10 +152,10 @@ fn prove_within(
 pub fn prove(text: &[u8], out: &mut [u8]) -> Written
     ensures { λ r. ⌜ Proved (now (text .entry)) (now (out .entry)) r (now (out .exit)) ⌝ }
 {
-    let mut key = [0u32; CELLS];
+    let mut key = [0u64; CELLS];
     let mut message = [0i32; CELLS];
     let mut challenges = [0u32; SLOTS];
-    let mut rounds = [0u32; ROUND_CELLS];
+    let mut rounds = [0u64; ROUND_CELLS];
     prove_within(
         text,
         &mut key,

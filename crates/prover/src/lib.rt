@@ -19,7 +19,7 @@ pub fn commit(settings: Settings, key: &[Residue], message: &[i32]) -> Committed
     if refusal != 0 {
         return Committed {
             refusal,
-            commitment: [0u32; WIDTH],
+            commitment: [0; WIDTH],
         };
     }
     let q = settings.modulus;
@@ -52,14 +52,13 @@ pub fn round(settings: Settings, done: u32, key: &[Residue], message: &[i32]) ->
 {
     let refusal = prover_refusals::prover::round(settings, done, key, message);
     if refusal != 0 {
-        let none = [0u32; WIDTH];
+        let none: [Residue; WIDTH] = [0; WIDTH];
         return polynomial_of(refusal, [none, none, none]);
     }
     let q = settings.modulus;
     let d = settings.degree;
     let h = sizes::half_left(settings, done);
-    let s = equations::half_power(q, done + 1);
-    let elements = round_products::polynomial(q, d, h, s, message, key);
+    let elements = round_products::polynomial(q, d, h, done + 1, message, key);
     polynomial_of(0, elements)
 }
 

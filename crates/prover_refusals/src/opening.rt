@@ -28,7 +28,7 @@ pub fn open(
     if r7 != 0 {
         return r7;
     }
-    let r8 = refuse(r7, 8, tests::all_below(settings.modulus, key));
+    let r8 = refuse(r7, 8, tests::all_below_wide(settings.modulus, key));
     let r9 = refuse(r8, 9, tests::all_within(settings.bound, message));
     let limit = sizes::exponent_count(settings);
     refuse(r9, 10, tests::all_below(limit, challenges))

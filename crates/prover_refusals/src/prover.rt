@@ -59,7 +59,7 @@ pub fn commit(settings: Settings, key: &[Residue], message: &[i32]) -> u32
     if r7 != 0 {
         return r7;
     }
-    let r8 = refuse(r7, 8, tests::all_below(settings.modulus, key));
+    let r8 = refuse(r7, 8, tests::all_below_wide(settings.modulus, key));
     refuse(r8, 9, tests::all_within(settings.bound, message))
 }
 
@@ -70,7 +70,7 @@ pub fn round(settings: Settings, t: u32, key: &[Residue], message: &[i32]) -> u3
     if r7 != 0 {
         return r7;
     }
-    let r8 = refuse(r7, 8, tests::all_below(settings.modulus, key));
+    let r8 = refuse(r7, 8, tests::all_below_wide(settings.modulus, key));
     let r9 = refuse(r8, 9, moving_small(settings, t, message));
     refuse(r9, 11, t < settings.depth)
 }
@@ -82,7 +82,7 @@ pub fn fold(settings: Settings, t: u32, e: u32, key: &[Residue], message: &[i32]
     if r7 != 0 {
         return r7;
     }
-    let r8 = refuse(r7, 8, tests::all_below(settings.modulus, key));
+    let r8 = refuse(r7, 8, tests::all_below_wide(settings.modulus, key));
     let r9 = refuse(r8, 9, moving_small(settings, t, message));
     let r10 = refuse(r9, 10, e < sizes::exponent_count(settings));
     refuse(r10, 11, t < settings.depth)

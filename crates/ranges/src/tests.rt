@@ -4,7 +4,7 @@ use protocol::Settings;
 use protocol::WIDTH;
 ghost use mathlib.Core.Path.{_≡_};
 ghost use mathlib.Core.Bool.{_&&_};
-ghost use Prim.Native.Nat.{_≤_};
+ghost use Prim.Native.Nat.{_^_, _≤_};
 ghost use lib.Dec.{ltb};
 ghost use lib.IntN.{natAbs};
 ghost use lib.ListN.{getD};
@@ -16,7 +16,7 @@ ghost use Rattle.protocol.specs.Settings.{degreeAllowed, modulusAllowed, boundA
 // `boundAllowed` have them.
 pub const DEPTH_MOST: u32 = 8;
 
-const MODULUS_MOST: u32 = 2147483647;
+const MODULUS_MOST: Residue = 2305843009213693951;
 
 pub const BOUND_MOST: u32 = 127;
 
@@ -71,7 +71,7 @@ pub fn settings_refusal(settings: Settings) -> u32
 }
 
 // One test more. The loops over tables ask all numbers, also after one that fails, so that the compiler takes several at a time.
-pub fn and_below(good: bool, limit: u32, x: u32) -> bool
+fn and_below(good: bool, limit: u32, x: u32) -> bool
     ensures { λ r. ⌜ r ≡ (good && ltb x limit) ⌝ }
 {
     if x < limit {
@@ -80,7 +80,7 @@ pub fn and_below(good: bool, limit: u32, x: u32) -> bool
     false
 }
 
-// Is every number of a table below the limit: refusal 8 at the modulus, refusal 10 at 2d.
+// Is every number of a table below the limit: refusal 10 at 2d.
 pub fn all_below(limit: u32, t: &[u32]) -> bool
     ensures { λ r. ⌜ r ≡ all (λ x. ltb x limit) (now (t .entry)) ⌝ }
 {
@@ -89,6 +89,51 @@ pub fn all_below(limit: u32, t: &[u32]) -> bool
         good = and_below(good, limit, t[i]);
     }
     good
+}
+
+fn and_below_wide(good: bool, limit: u64, x: u64) -> bool
+    ensures { λ r. ⌜ r ≡ (good && ltb x limit) ⌝ }
+{
+    if x >= limit {
+        return false;
+    }
+    good
+}
+
+// The same of numbers of 64 bits, for every limit.
+fn all_below_any(limit: u64, t: &[u64]) -> bool
+    ensures { λ r. ⌜ r ≡ all (λ x. ltb x limit) (now (t .entry)) ⌝ }
+{
+    let mut good = true;
+    for i in 0..t.len() {
+        good = and_below_wide(good, limit, t[i]);
+    }
+    good
+}
+
+// 2^63: the highest bit of a number of 64 bits.
+const SIGN: u64 = 9223372036854775808;
+
+// One number more. Where the limit is at most 2^63 the highest bit of x, or of x and what the limit is less than 2^63, is set just where x is not below it.
+fn with_signs(signs: u64, limit: u64, x: u64) -> u64
+    ensures { λ r. ⌜ Provided (limit ≤ 2 ^ 63) (ltb r (2 ^ 63) ≡ (ltb signs (2 ^ 63) && ltb x limit)) ⌝ }
+{
+    let raised = std::num::wrapping_add_u64(x, std::num::wrapping_sub_u64(SIGN, limit));
+    signs | x | raised
+}
+
+// Are all residues of a table below the modulus: refusal 8. The highest bits of all numbers are gathered, and asked for once.
+pub fn all_below_wide(limit: u64, t: &[u64]) -> bool
+    ensures { λ r. ⌜ r ≡ all (λ x. ltb x limit) (now (t .entry)) ⌝ }
+{
+    if limit > SIGN {
+        return all_below_any(limit, t);
+    }
+    let mut signs: u64 = 0;
+    for i in 0..t.len() {
+        signs = with_signs(signs, limit, t[i]);
+    }
+    signs < SIGN
 }
 
 // The same for the first d places of an element.

@@ -25,7 +25,9 @@ pub fn growth_allowed(settings: Settings) -> bool
 fn slack_allowed(settings: Settings, c: u32) -> bool
     ensures { λ r. ⌜ r ≡ of.slackAllowed settings c ⌝ }
 {
-    (1 <= c) & (c <= SLACK_MOST) & (divisors::greatest_common_divisor(c, settings.modulus) == 1)
+    (1 <= c)
+        & (c <= SLACK_MOST)
+        & (divisors::greatest_common_divisor(c as u64, settings.modulus) == 1)
 }
 
 pub fn judge(
@@ -47,7 +49,7 @@ pub fn judge(
     let r8 = refuse(
         r7,
         8,
-        tests::all_below(q, key) & tests::element_below(q, settings.degree, commitment),
+        tests::all_below_wide(q, key) & tests::element_below(q, settings.degree, commitment),
     );
     let r14 = refuse(r8, 14, growth_allowed(settings));
     refuse(r14, 15, slack_allowed(settings, c))

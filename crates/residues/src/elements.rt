@@ -12,8 +12,8 @@ ghost use Rattle.residues.specs.Elements.{elementAt};
 ghost use Rattle.residues.specs.Lists.{filled};
 ghost use Rattle.residues.specs.Residues.{Copyable};
 
-// Number p of a table; 0 where it has none.
-pub fn entry(t: &[Residue], p: usize) -> Residue
+// Challenge p of a table; 0 where it has none.
+pub fn entry(t: &[u32], p: usize) -> u32
     ensures { λ r. ⌜ r ≡ getD (now (t .entry)) p 0 ⌝ }
 {
     if p < t.len() {
@@ -43,7 +43,7 @@ pub fn element_at(d: u32, t: &[Residue], i: u32) -> [Residue; WIDTH]
     a
 }
 
-// The same for tables of whole numbers.
+// Number p of a table of whole numbers; 0 where it has none.
 pub fn signed_entry(t: &[i32], p: usize) -> i32
     ensures { λ r. ⌜ r ≡ getD (now (t .entry)) p (pos 0) ⌝ }
 {

@@ -14,25 +14,56 @@ ghost use Rattle.protocol.specs.Element.{width, modulo};
 ghost use Rattle.residues.specs.Lists.{spliced};
 ghost use Rattle.residues.specs.Residues.{BothBelow, Copyable, signed};
 
-// x + y modulo q, of residues.
-pub fn plus(q: Residue, x: Residue, y: Residue) -> Residue
+// 2^63. Where no modulus is larger, a difference that is below zero is seen by its highest bit, which the compiler asks for several numbers at a time.
+const SIGN: u64 = 9223372036854775808;
+
+// x + y modulo q, of residues, for every q.
+fn plus_any(q: Residue, x: Residue, y: Residue) -> Residue
     ensures { λ r. ⌜ Provided (BothBelow q x y) (r ≡ (x + y) % q) ⌝ }
 {
-    let z = std::num::wrapping_sub_u32(q, y);
+    let z = std::num::wrapping_sub_u64(q, y);
     if x < z {
-        return std::num::wrapping_add_u32(x, y);
+        return std::num::wrapping_add_u64(x, y);
     }
     x - z
 }
 
-// x − y modulo q, of residues.
-pub fn minus(q: Residue, x: Residue, y: Residue) -> Residue
+// The same, quicker where q is at most 2^63.
+pub fn plus(q: Residue, x: Residue, y: Residue) -> Residue
+    ensures { λ r. ⌜ Provided (BothBelow q x y) (r ≡ (x + y) % q) ⌝ }
+{
+    if q > SIGN {
+        return plus_any(q, x, y);
+    }
+    let rest = std::num::wrapping_sub_u64(std::num::wrapping_add_u64(x, y), q);
+    if rest < SIGN {
+        return rest;
+    }
+    std::num::wrapping_add_u64(rest, q)
+}
+
+// x − y modulo q, of residues, for every q.
+fn minus_any(q: Residue, x: Residue, y: Residue) -> Residue
     ensures { λ r. ⌜ Provided (BothBelow q x y) (r ≡ modulo q (pos x +ℤ negℤ (pos y))) ⌝ }
 {
     if x < y {
-        return std::num::wrapping_add_u32(x, std::num::wrapping_sub_u32(q, y));
+        return std::num::wrapping_add_u64(x, std::num::wrapping_sub_u64(q, y));
     }
     x - y
+}
+
+// The same, quicker where q is at most 2^63.
+pub fn minus(q: Residue, x: Residue, y: Residue) -> Residue
+    ensures { λ r. ⌜ Provided (BothBelow q x y) (r ≡ modulo q (pos x +ℤ negℤ (pos y))) ⌝ }
+{
+    if q > SIGN {
+        return minus_any(q, x, y);
+    }
+    let rest = std::num::wrapping_sub_u64(x, y);
+    if rest < SIGN {
+        return rest;
+    }
+    std::num::wrapping_add_u64(rest, q)
 }
 
 // −y modulo q, of a residue.
@@ -42,7 +73,7 @@ pub fn negated(q: Residue, y: Residue) -> Residue
     if y == 0 {
         return 0;
     }
-    std::num::wrapping_sub_u32(q, y)
+    std::num::wrapping_sub_u64(q, y)
 }
 
 // x + y modulo q, or x − y.

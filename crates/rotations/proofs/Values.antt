@@ -48,34 +48,17 @@ module _ (d e s : ℕ) (most : e < 2 * d) (low : e < d → s ≡ e) (high : d �
 
 -- ---- X^e·a added to the element at place `to`, one row after the other
 
-module _ (q d e s to : ℕ) (most : e < 2 * d) (inside : s ≤ d) (low : e < d → s ≡ e) (high : d ≤ e → s ≡ e - d) (a out : List ℕ) (all : Summands q d 0 a to out) where
+module _ (q d e s to : ℕ) (most : e < 2 * d) (inside : s ≤ d) (low : e < d → s ≡ e) (high : d ≤ e → s ≡ e - d) (a out : List ℕ) where
   abbrev front : ℕ → ℕ
   front k = modulo q (pos (getD out (to + k) 0) +ℤ signed (ltb e d) (pos (getD a (d - s + k) 0)))
-
-  long : to + d ≤ length out
-  long = all .own .long
-
-  -- the rows that the first step adds
-  pub front-summands : Summands q s (d - s) a to out
-  front-summands = record {
-    added = residues-part q d 0 s (d - s) (all .added) (omega arith) (omega arith);
-    own = residues-part q d to s to (all .own) (omega arith) (omega arith);
-  }
 
   front-is : (k : ℕ) → k < s → front k ≡ plusTurned q d e a to out k
   unfolding residue
   front-is k h = λ i. modulo q (pos (getD out (to + k) 0) +ℤ front-turn d e s most low high (residue a) k h i)
 
-  module _ (t : List ℕ) (is : t ≡ spliced front to s out) where
+  module _ (long : to + d ≤ length out) (t : List ℕ) (is : t ≡ spliced front to s out) where
     abbrev back : ℕ → ℕ
     back k = modulo q (pos (getD t (to + s + k) 0) +ℤ signed (not (ltb e d)) (pos (getD a (0 + k) 0)))
-
-    -- the second row is still to be written
-    pub back-summands : Summands q (d - s) 0 a (to + s) t
-    back-summands = record {
-      added = residues-part q d 0 (d - s) 0 (all .added) (omega arith) (omega arith);
-      own = residues-kept front to s out t (omega (arith, long)) is q (d - s) (to + s) (residues-part q d to (d - s) (to + s) (all .own) (omega arith) (omega arith)) (omega arith);
-    }
 
     back-is : (k : ℕ) → k < d - s → back k ≡ plusTurned q d e a to out (s + k)
     unfolding residue
@@ -88,6 +71,20 @@ module _ (q d e s to : ℕ) (most : e < 2 * d) (inside : s ≤ d) (low : e < d �
         ap (spliced back (to + s) (d - s)) (is ∙ spliced-ext front (plusTurned q d e a to out) to s out front-is)
         ∙ spliced-twice (plusTurned q d e a to out) back to s (d - s) out (omega (arith, long)) back-is
         ∙ ap (λ n. spliced (plusTurned q d e a to out) to n out) (omega arith)
+
+  -- the rows that the two steps add, of residues: the second is still to be written when it is reached
+  module _ (all : Summands q d 0 a to out) where
+    pub front-summands : Summands q s (d - s) a to out
+    front-summands = record {
+      added = residues-part q d 0 s (d - s) (all .added) (omega arith) (omega arith);
+      own = residues-part q d to s to (all .own) (omega arith) (omega arith);
+    }
+
+    pub back-summands : (t : List ℕ) → t ≡ spliced front to s out → Summands q (d - s) 0 a (to + s) t
+    back-summands t is = record {
+      added = residues-part q d 0 (d - s) 0 (all .added) (omega arith) (omega arith);
+      own = residues-kept front to s out t (omega (arith, all .own .long)) is q (d - s) (to + s) (residues-part q d to (d - s) (to + s) (all .own) (omega arith) (omega arith)) (omega arith);
+    }
 
 -- ---- an element, then its multiple of c1, then that of c2
 

@@ -3,6 +3,7 @@
 --   Summands q n from ..      n numbers of a list that is added and n of the list that it is added to are there, and are residues
 --   Addable q d e ..          may X^e·a be added so: such numbers, and an exponent below 2d
 --   Turnable q d a out        the lists a and out begin with an element of residues each, of a degree that there is
+--   Gatherable d a sums       lists of these lengths begin with an element each, of a degree that there is
 --   plusRow q negative ..     number k of a row to which a row is added, or from which it is taken, modulo q
 --   plusTurned q d e ..       coefficient k of the element at a place of a list, with X^e·a added, modulo q
 --   valueAt q d e c0 c1 c2 k  coefficient k of c0 + X^e·c1 + X^2e·c2, modulo q
@@ -33,6 +34,12 @@ pub record Turnable (q d : ℕ) (a out : List ℕ) : Type 0 where
   pub degree : 0 < d
   pub degree-most : d ≤ width
   pub summands : Summands q d 0 a 0 out
+
+pub record Gatherable (d a sums : ℕ) : Type 0 where
+  pub degree : 0 < d
+  pub degree-most : d ≤ width
+  pub there : d ≤ a
+  pub room : d ≤ sums
 
 abbrev pub plusRow : ℕ → Bool → List ℕ → ℕ → List ℕ → ℕ → ℕ → ℕ
 plusRow q negative a from out to k = modulo q (pos (getD out (to + k) 0) +ℤ signed negative (pos (getD a (from + k) 0)))

@@ -4,11 +4,14 @@
 use protocol::Residue;
 use residues::signed_sum;
 ghost use mathlib.Core.Path.{_≡_};
-ghost use Prim.Native.Nat.{_+_, _*_, _-_, _<_, _≤_};
+ghost use Prim.Native.Nat.{_+_, _*_, _-_, _^_, _<_, _≤_};
+ghost use lib.IntN.{pos, _+ℤ_};
 ghost use lib.ListN.{length};
 ghost use Rattle.protocol.specs.Basic.{Provided};
+ghost use Rattle.protocol.specs.Element.{modulo};
 ghost use Rattle.residues.specs.Lists.{spliced};
-ghost use Rattle.rotations.specs.Values.{Addable, RowAdded, Turnable, Valued, plusTurned};
+ghost use Rattle.residues.specs.Residues.{signed};
+ghost use Rattle.rotations.specs.Values.{Addable, RowAdded, Turnable, Gatherable, Valued, plusRow, plusTurned};
 
 // Where the first of the two rows ends that X^e·a is made of.
 fn row_start(d: usize, e: usize) -> usize
@@ -78,6 +81,50 @@ pub fn add_turned(q: Residue, d: u32, e: u32, a: &[Residue], out: &mut [Residue]
     let n = d as usize;
     let once = residues::on_circle(n, e as usize);
     accumulate_turned(q, n, once, a, out, 0);
+}
+
+// y + x modulo 2^64, or y − x: a sum of numbers with signs, which is reduced modulo q once all are added.
+fn gathered(negative: bool, y: u64, x: u64) -> u64
+    ensures { λ r. ⌜ r ≡ modulo (2 ^ 64) (pos y +ℤ signed negative (pos x)) ⌝ }
+{
+    if negative {
+        return std::num::wrapping_sub_u64(y, x);
+    }
+    std::num::wrapping_add_u64(y, x)
+}
+
+// Adds a row of a to a row of sums, or takes it away.
+fn gather_row(n: usize, negative: bool, a: &[Residue], from: usize, sums: &mut [u64], to: usize)
+    requires { ⌜ (from + n ≤ length (now a)) × (to + n ≤ length (now sums)) ⌝ }
+    ensures { λ _. ⌜ now (sums .exit) ≡ spliced (plusRow (2 ^ 64) negative (now (a .entry)) from (now (sums .entry)) to) to n (now (sums .entry)) ⌝ }
+{
+    for k in 0..n {
+        let y = sums[to + k];
+        sums[to + k] = gathered(negative, y, a[from + k]);
+    }
+}
+
+// Adds X^e·a, for every exponent, to the sums at the front of a table; they stay as they are where there is no such element.
+pub fn gather_turned(d: u32, e: u32, a: &[Residue], sums: &mut [u64])
+    ensures { λ _. ⌜ Provided (Gatherable d (length (now (a .entry))) (length (now (sums .entry))))
+        (now (sums .exit) ≡ spliced (plusTurned (2 ^ 64) d e (now (a .entry)) 0 (now (sums .entry))) 0 d (now (sums .entry))) ⌝ }
+{
+    let n = d as usize;
+    let once = residues::on_circle(n, e as usize);
+    if a.len() < n {
+        return;
+    }
+    if sums.len() < n {
+        return;
+    }
+    if once >= 2 * n {
+        return;
+    }
+    let low = once < n;
+    let s = row_start(n, once);
+    let rest = n - s;
+    gather_row(s, low, a, rest, sums, 0);
+    gather_row(rest, !low, a, 0, sums, s);
 }
 
 // The value at X^e of the polynomial with the coefficients c0, c1, c2, modulo q, written to the front of out.

@@ -13,7 +13,7 @@ use Rattle.protocol.specs.Opening.{left, halfLeft}
 use Rattle.protocol.specs.Inputs.{Valid}
 use Rattle.protocol.proofs.OpeningLaws.{left-power, halfLeft-power, twice-power, left-inside}
 use Rattle.sizes.proofs.Limits.{degree-least, degree-most}
-use Rattle.prover_refusals.proofs.Given.{SmallLeft, RoundGiven}
+use Rattle.prover_refusals.proofs.Given.{RoundGiven}
 use Rattle.round_products.specs.Messages.{Halved}
 
 module _ (S : Settings) (ok : Valid S) (t : ℕ) (l : t < S .depth) where
@@ -37,16 +37,17 @@ pub round-tables : (S : Settings) (t : ℕ) (key : List ℕ) (message : List ℤ
 round-tables S t key message g = record {
   tables = record {
     modulus = omega (arith, ok .modulus-least);
-    modulus-most = omega (arith, ok .modulus-most);
+    modulus-odd = ok .modulus-odd;
+    modulus-most = ok .modulus-most;
     degree = omega (arith, degree-least S ok);
     degree-most = degree-most S ok;
     elements = omega (arith, half-most S ok t (g .turn));
     message-long = omega (arith, same, halves-inside S ok t (g .turn), g .tables .message-long);
     key-long = omega (arith, same, halves-inside S ok t (g .turn), g .tables .key-given .long);
     message-small = λ j l. omega (arith, small j (omega (arith, same)));
+    key-residues = λ j l. g .tables .key-given .each j (omega (arith, same, halves-inside S ok t (g .turn)));
   };
   message-half = small;
-  key-residues = λ j l. g .tables .key-given .each j (omega (arith, halves-inside S ok t (g .turn)));
 }
   where
     ok : Valid S

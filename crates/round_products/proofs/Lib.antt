@@ -1,3 +1,4 @@
+pub mod Less
 pub mod Products
 pub mod Halves
 pub mod Mixing

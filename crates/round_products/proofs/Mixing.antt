@@ -1,5 +1,5 @@
 -- The middle element of a round polynomial, by one inner product of the halves' sums: it is what that has more than the other two elements.
-use mathlib.Core.Path.{_≡_, refl, sym, ap, ap₂, _∙_}
+use mathlib.Core.Path.{_≡_, refl, sym, ap, ap₂, _∙_, subst}
 use mathlib.Core.List.{List}
 use Prim.Native.Nat.{ℕ, _+_, _*_, _-_, _%_, _<_}
 use native.Mathlib.Nat as Nat
@@ -20,17 +20,24 @@ use Rattle.claims.proofs.Readings.{readℤ-inj, readq-ext, readq-inj, read-plus
 use Rattle.residues.proofs.Padding.{padded-at}
 use Rattle.products.specs.Sums.{messageSums, keySumAt, keySums, Halves}
 use Rattle.round_products.specs.Messages.{Halved}
-use Rattle.round_products.specs.Sums.{scaled, innerOfSums}
+use Rattle.round_products.specs.Sums.{Reduced, lessBoth, scaled, innerOfSums}
 
 -- ---- the inner product of the halves' sums: that of the key is reduced before it is taken, which changes nothing modulo q
 
 module _ (q d h : ℕ) (m : List ℤ) (G : List ℕ) (t : Halved q d h m G) where
   pub halves-summable : Halves q d h m G
   halves-summable = record {
-    elements = record { modulus = t .tables .modulus; degree = t .tables .degree; degree-most = t .tables .degree-most; f-long = t .tables .message-long; g-long = t .tables .key-long };
+    elements = record {
+      modulus = t .tables .modulus;
+      degree = t .tables .degree;
+      degree-most = t .tables .degree-most;
+      f-long = t .tables .message-long;
+      g-long = t .tables .key-long;
+    };
     few = omega (arith, Nat.mul-le-mul {n₁ = h} {n₂ = 128} {m₂ = 64} (omega (arith, t .tables .elements)) (t .tables .degree-most));
     small = λ j l. omega (arith, t .message-half j l);
-    residues = t .key-residues;
+    residues = λ j l. t .tables .key-residues j (omega (arith, Nat.mul-assoc 2 h d));
+    modulus-most = t .tables .modulus-most;
   }
 
   key-sum : (i k : ℕ) → modulo q (keySums q d h G i k) ≡ modulo q (plus (residueAt d G i) (second h (residueAt d G) i) k)
@@ -77,9 +84,10 @@ mixed-parts d h p m G = readℤ-inj d p _ _
 
 -- ---- what is left of the innerOfSums product
 
-less-is : (q a y b : ℕ) → a < q → y < q → b < q → (((a + y) % q + b) % q + (q - a % q) + (q - b % q)) % q ≡ y
+less-is : (q a y b : ℕ) → a < q → y < q → b < q → lessBoth q (((a + y) % q + b) % q) a b ≡ y
 less-is q a y b la ly lb =
-    (λ i. (Nat.mod-add-mod (a + y) q b i + (q - Nat.mod-eq-of-lt la i) + (q - Nat.mod-eq-of-lt lb i)) % q)
+    Nat.mod-add-mod (((a + y) % q + b) % q + (q - a)) q (q - b)
+    ∙ (λ i. (Nat.mod-add-mod (a + y) q b i + (q - a) + (q - b)) % q)
     ∙ ap (λ x. x % q) (Nat.add-assoc ((a + y + b) % q) (q - a) (q - b))
     ∙ Nat.mod-add-mod (a + y + b) q ((q - a) + (q - b))
     ∙ ap (λ x. x % q) {y = y + q + q} (omega arith)
@@ -95,6 +103,9 @@ module _ (q d h s : ℕ) (p : 0 < q) (pd : 0 < d) (m G : ℕ → Element) where
   unfolding scaled reduced times
   scaled-at a l e k h = ap (λ x. getD x k 0) e ∙ padded-at d (λ j. modulo q (pos s *ℤ a j)) k h
 
+  pub scaled-reduced : (a : Element) (l : List ℕ) → l ≡ scaled q d s a → Reduced q d l
+  scaled-reduced a l e k b = subst (λ x. x < q) (sym (scaled-at a l e k b)) (modulo-lt q p _)
+
   pub spread : (k : ℕ) → k < d → modulo q (pos s *ℤ innerOfSums d h m G k) ≡ ((modulo q (part 0 k) + modulo q (part 1 k)) % q + modulo q (part 2 k)) % q
   unfolding plus
   spread k l =
@@ -105,8 +116,8 @@ module _ (q d h s : ℕ) (p : 0 < q) (pd : 0 < d) (m G : ℕ → Element) where
       ∙ ap (λ x. (x + modulo q (part 2 k)) % q) (modulo-add q p (part 0 k) (part 1 k))
 
   pub difference-is : (x a b : List ℕ) → x ≡ scaled q d s (innerOfSums d h m G) → a ≡ scaled q d s (cross d h m G 0) → b ≡ scaled q d s (cross d h m G 2)
-      → padded d (tabulate d (λ k. (getD x k 0 + (q - getD a k 0 % q) + (q - getD b k 0 % q)) % q)) ≡ scaled q d s (cross d h m G 1)
+      → padded d (tabulate d (λ k. lessBoth q (getD x k 0) (getD a k 0) (getD b k 0))) ≡ scaled q d s (cross d h m G 1)
   difference-is x a b ex ea eb = ap (padded d) (tabulate-ext d (λ k l.
-      (λ i. ((scaled-at (innerOfSums d h m G) x ex k l ∙ spread k l) i + (q - scaled-at (cross d h m G 0) a ea k l i % q) + (q - scaled-at (cross d h m G 2) b eb k l i % q)) % q)
+      (λ i. lessBoth q ((scaled-at (innerOfSums d h m G) x ex k l ∙ spread k l) i) (scaled-at (cross d h m G 0) a ea k l i) (scaled-at (cross d h m G 2) b eb k l i))
       ∙ less-is q (modulo q (part 0 k)) (modulo q (part 1 k)) (modulo q (part 2 k)) (modulo-lt q p _) (modulo-lt q p _) (modulo-lt q p _)))
       ∙ unfold scaled reduced times in refl

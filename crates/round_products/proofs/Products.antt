@@ -15,7 +15,7 @@ use Rattle.protocol.specs.Settings.{size, cells, half}
 use Rattle.protocol.specs.Opening.{inner, second, cross, left, halfLeft, commitment, roundElement}
 use Rattle.protocol.specs.Calls.{polynomial}
 use Rattle.protocol.specs.Inputs.{Valid}
-use Rattle.protocol.proofs.Modulo.{modulo-times, mod-times}
+use Rattle.protocol.proofs.Modulo.{modulo-times, modulo-lt}
 use Rattle.protocol.proofs.Reading.{tabulate-ext}
 use Rattle.protocol.proofs.Agreement.{Same, sum-ext, product-same}
 use Rattle.sizes.proofs.Limits.{degree-least, degree-most}
@@ -24,16 +24,14 @@ use Rattle.residues.proofs.Parts.{tail-all}
 use Rattle.residues.proofs.Padding.{padded-at}
 use Rattle.prover_refusals.proofs.Given.{CommitGiven}
 use Rattle.round_products.specs.Messages.{Sized, Tables}
-use Rattle.round_products.specs.Sums.{scaled}
+use Rattle.round_products.specs.Sums.{Reduced, scaled}
 
 pub inner-same : (d h : ℕ) → 0 < d → {m m′ G G′ : ℕ → Element} → ((i : ℕ) → i < h → Same d (m i) (m′ i)) → ((i : ℕ) → i < h → Same d (G i) (G′ i)) → (k : ℕ) → inner d h m G k ≡ inner d h m′ G′ k
 unfolding inner
 inner-same d h p a b k = sum-ext h (λ i l. product-same p (a i l) (b i l) k)
 
-pub tables-sized : (q d n : ℕ) (m : List ℤ) (G : List ℕ) → Tables q d n m G → Sized q d n (length m) (length G)
+pub tables-sized : (q d n : ℕ) (m : List ℤ) (G : List ℕ) → Tables q d n m G → Sized d n (length m) (length G)
 tables-sized q d n m G t = record {
-  modulus = t .modulus;
-  modulus-most = t .modulus-most;
   degree = t .degree;
   degree-most = t .degree-most;
   elements = t .elements;
@@ -44,9 +42,17 @@ tables-sized q d n m G t = record {
 -- small enough for a sum
 pub summable : (q d n : ℕ) (m : List ℤ) (G : List ℕ) → Tables q d n m G → Summable q d n m G
 summable q d n m G t = record {
-  elements = record { modulus = t .modulus; degree = t .degree; degree-most = t .degree-most; f-long = t .message-long; g-long = t .key-long };
+  elements = record {
+    modulus = t .modulus;
+    degree = t .degree;
+    degree-most = t .degree-most;
+    f-long = t .message-long;
+    g-long = t .key-long;
+  };
   few = Nat.mul-le-mul {n₂ = 256} {m₂ = 64} (t .elements) (t .degree-most);
   small = λ j l. omega (arith, t .message-small j l);
+  modulus-most = t .modulus-most;
+  residues = t .key-residues;
 }
 
 -- a multiple of an element that is reduced
@@ -54,10 +60,10 @@ pub scaled-is : (q d s : ℕ) → 0 < q → (a : Element) (l : List ℕ) → l �
 unfolding scaled reduced times
 scaled-is q d s p a l e = ap (padded d) (tabulate-ext d (λ k h. ap (λ x. s * x % q) (ap (λ x. getD x k 0) e ∙ padded-at d (λ j. modulo q (a j)) k h) ∙ sym (modulo-times q p s (a k))))
 
--- by a number that is itself reduced
-pub scaled-mod : (q d s : ℕ) → 0 < q → (a : Element) → scaled q d (s % q) a ≡ padded d (reduced q d (times (pos s) a))
-unfolding scaled reduced times
-scaled-mod q d s p a = ap (padded d) (tabulate-ext d (λ k h. modulo-times q p (s % q) (a k) ∙ mod-times q p s (modulo q (a k)) ∙ sym (modulo-times q p s (a k))))
+-- an element that is reduced and passed by value
+pub value-reduced : (q d : ℕ) → 0 < q → (a : Element) (l : List ℕ) → l ≡ padded d (reduced q d a) → Reduced q d l
+unfolding reduced
+value-reduced q d p a l e k h = subst (λ x. x < q) (sym (ap (λ x. getD x k 0) e ∙ padded-at d (λ j. modulo q (a j)) k h)) (modulo-lt q p (a k))
 
 -- ---- halves
 
@@ -69,6 +75,7 @@ module _ (q d h : ℕ) (m : List ℤ) (G : List ℕ) (t : Tables q d (2 * h) m G
   halves : (a b : ℕ) → a ≤ h * d → b ≤ h * d → Tables q d h (drop a m) (drop b G)
   halves a b x y = record {
     modulus = t .modulus;
+    modulus-odd = t .modulus-odd;
     modulus-most = t .modulus-most;
     degree = t .degree;
     degree-most = t .degree-most;
@@ -76,6 +83,7 @@ module _ (q d h : ℕ) (m : List ℤ) (G : List ℕ) (t : Tables q d (2 * h) m G
     message-long = omega (arith, length-drop a m, t .message-long, twice);
     key-long = omega (arith, length-drop b G, t .key-long, twice);
     message-small = λ j l. subst (λ z. natAbs z ≤ 2 ^ 15) (sym (getD-drop a m j (pos 0))) (t .message-small (a + j) (omega (arith, twice)));
+    key-residues = λ j l. subst (λ z. z < q) (sym (getD-drop b G j 0)) (t .key-residues (b + j) (omega (arith, twice)));
   }
 
   -- as the code hands the second halves on
@@ -121,13 +129,15 @@ pub commit-tables : (S : Settings) (key : List ℕ) (message : List ℤ) → Com
 unfolding cells size
 commit-tables S key message g = subst (λ n. Tables (S .modulus) (S .degree) n message key) (sym (left-whole S)) (record {
   modulus = omega (arith, ok .modulus-least);
-  modulus-most = omega (arith, ok .modulus-most);
+  modulus-odd = ok .modulus-odd;
+  modulus-most = ok .modulus-most;
   degree = omega (arith, degree-least S ok);
   degree-most = degree-most S ok;
   elements = Pow.pow-mono {j = 8} (ok .depth-most);
   message-long = Nat.le-of-eq (sym (g .message-given .long));
   key-long = Nat.le-of-eq (sym (g .tables .key-given .long));
   message-small = λ j l. omega (arith, g .message-given .each j l, ok .bound-most);
+  key-residues = g .tables .key-given .each;
 })
   where
     ok : Valid S
@@ -140,9 +150,8 @@ commitment-is S key message = ap (λ n. padded (S .degree) (reduced (S .modulus)
 
 -- ---- the round polynomial
 
-pub polynomial-is : (S : Settings) (t : ℕ) (key : List ℕ) (message : List ℤ) → 0 < S .modulus
-    → tabulate 3 (λ j. scaled (S .modulus) (S .degree) (((S .modulus + 1) / 2) ^ (t + 1) % S .modulus)
+pub polynomial-is : (S : Settings) (t : ℕ) (key : List ℕ) (message : List ℤ)
+    → tabulate 3 (λ j. scaled (S .modulus) (S .degree) (((S .modulus + 1) / 2) ^ (t + 1))
     (cross (S .degree) (halfLeft S t) (signedAt (S .degree) message) (residueAt (S .degree) key) j)) ≡ polynomial S t key message
-unfolding polynomial roundElement half
-polynomial-is S t key message p =
-    tabulate-ext 3 (λ j l. scaled-mod (S .modulus) (S .degree) (half S ^ (t + 1)) p (cross (S .degree) (halfLeft S t) (signedAt (S .degree) message) (residueAt (S .degree) key) j))
+unfolding polynomial roundElement half scaled
+polynomial-is S t key message = refl

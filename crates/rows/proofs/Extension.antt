@@ -1,7 +1,7 @@
 -- A prepared element: three rows of residues that stand at the front of a room.
 use mathlib.Core.Path.{_≡_, sym, ap, _∙_}
 use mathlib.Core.List.{List}
-use Prim.Native.Nat.{ℕ, _+_, _*_, _-_, _%_, _^_, _<_, _≤_}
+use Prim.Native.Nat.{ℕ, _+_, _*_, _-_, _%_, _<_, _≤_}
 use native.Mathlib.Nat as Nat
 use native.Mathlib.Omega.{arith}
 use lib.IntN.{pos, negℤ}
@@ -15,7 +15,7 @@ use Rattle.residues.proofs.Splice.{spliced-inside, spliced-length}
 use Rattle.rows.specs.Rows.{turned, Prepared}
 
 module _ (q d : ℕ) (p : 0 < q) (pd : 0 < d) (a : List ℕ) where
-  turned-lt : (y : ℕ) → turned q d a y < q
+  pub turned-lt : (y : ℕ) → turned q d a y < q
   unfolding turned
   turned-lt y = modulo-lt q p (around d (residue a) y)
 
@@ -28,14 +28,13 @@ module _ (q d : ℕ) (p : 0 < q) (pd : 0 < d) (a : List ℕ) where
   turned-next y = negative-again q p (around d (residue a) y) ∙ sym (ap (modulo q) (around-next d (residue a) y pd))
 
   -- the rows at the front of a room x₀, whatever stands behind them
-  pub front-prepared : q ≤ 2 ^ 32 → (x₀ x : List ℕ) → 3 * d ≤ length x₀ → x ≡ spliced (turned q d a) 0 (3 * d) x₀ → Prepared q d a x
-  front-prepared w x₀ x room e = record {
+  pub front-prepared : (x₀ x : List ℕ) → 3 * d ≤ length x₀ → x ≡ spliced (turned q d a) 0 (3 * d) x₀ → Prepared q d a x
+  front-prepared x₀ x room e = record {
     places = omega (arith, ap length e, spliced-length (turned q d a) 0 (3 * d) x₀ (omega arith) (omega arith));
     each = λ y h.
-        ap (λ l. getD l y 0 % 2 ^ 32) e
-        ∙ ap (λ n. getD (spliced (turned q d a) 0 (3 * d) x₀) n 0 % 2 ^ 32) (sym (Nat.zero-add y))
-        ∙ ap (λ n. n % 2 ^ 32) (spliced-inside (turned q d a) 0 (3 * d) x₀ (omega arith) y h)
-        ∙ Nat.mod-eq-of-lt (omega (arith, turned-lt y));
+        ap (λ l. getD l y 0) e
+        ∙ ap (λ n. getD (spliced (turned q d a) 0 (3 * d) x₀) n 0) (sym (Nat.zero-add y))
+        ∙ spliced-inside (turned q d a) 0 (3 * d) x₀ (omega arith) y h;
   }
 
   -- what stands at place k of each row, v being the residue

@@ -11,7 +11,7 @@ use lib.ListN.{length, getD, drop, set, List·getD-append}
 use lib.Signed.{ltZ}
 use Rattle.protocol.specs.Basic.{tabulate}
 use Rattle.protocol.proofs.Reading.{tabulate-at, tabulate-length, tabulate-ext}
-use Rattle.rows.specs.Rows.{narrowed, start, addRow, nextRow, addRows, addFour}
+use Rattle.rows.specs.Rows.{start, addRow, nextRow, addRows, addFour}
 use Rattle.residues.proofs.Fill.{filled, filled-behind, filled-ext, filled-at, filled-turn, filled-again}
 
 -- ---- where a row begins

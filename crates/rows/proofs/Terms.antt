@@ -1,24 +1,18 @@
--- What a product adds to a sum: a number of its own size that is, modulo q, the product's coefficient.
+-- What the rows of a product add to a sum: a number that is, modulo q, the product's coefficient.
 use mathlib.Core.Path.{_≡_, refl, sym, ap, _∙_}
 use mathlib.Core.List.{List}
-use Prim.Native.Nat.{ℕ, zero, suc, _+_, _*_, _-_, _%_, _^_, _<_, _≤_}
+use Prim.Native.Nat.{ℕ, zero, suc, _+_, _*_, _-_, _%_, _<_}
 use native.Mathlib.Nat as Nat
 use native.Mathlib.Omega.{arith}
 use lib.IntN.{ℤ, pos, negsuc, negℤ, _*ℤ_, natAbs}
 use lib.ListN.{getD}
 use Rattle.protocol.specs.Basic.{sum}
 use Rattle.protocol.specs.Element.{modulo, around, rotate, product, signed, residue}
-use Rattle.protocol.proofs.Modulo.{modulo-lt, modulo-add, modulo-times}
+use Rattle.protocol.proofs.Modulo.{modulo-add, modulo-times}
 use Rattle.residues.proofs.Around.{around-next, rotate-at}
-use Rattle.rows.specs.Rows.{turned, start, addRows, addProduct, total, term}
-use Rattle.rows.proofs.Rows.{row-at}
+use Rattle.rows.specs.Rows.{turned, start, total, term}
 
 -- ---- sums of natural numbers
-
-total-most : (n : ℕ) (f : ℕ → ℕ) (b : ℕ) → ((j : ℕ) → j < n → f j ≤ b) → total n f ≤ n * b
-unfolding total
-total-most zero f b h = omega arith
-total-most (suc n) f b h = omega (arith, total-most n f b (λ j l. h j (omega arith)), h n (omega arith), Nat.suc-mul n b)
 
 total-residue : (q : ℕ) → 0 < q → (n : ℕ) (f : ℕ → ℕ) (g : ℕ → ℤ) → ((j : ℕ) → j < n → f j % q ≡ modulo q (g j)) → total n f % q ≡ modulo q (sum n g)
 unfolding total sum
@@ -58,23 +52,3 @@ module _ (q d : ℕ) (p : 0 < q) (pd : 0 < d) (a : List ℕ) (k : ℕ) (lk : k <
     pub added-residue : added % q ≡ modulo q (product d (signed f) (residue a) k)
     unfolding term product signed
     added-residue = total-residue q p d _ _ (λ j l. by-sign j l (getD f j (pos 0)))
-
-    pub added-most : (c : ℕ) → ((j : ℕ) → j < d → natAbs (getD f j (pos 0)) ≤ c) → added ≤ d * (c * q)
-    unfolding term turned
-    added-most c small = total-most d _ (c * q) (λ j l. Nat.mul-le-mul (small j l) (Nat.le-of-lt (modulo-lt q p _)))
-
-    rows-at : (s : List ℕ) (n : ℕ) → getD (addRows d f (turned q d a) (suc n) s) k 0 ≡ (getD s k 0 + total (suc n) (term d f (turned q d a) k)) % 2 ^ 64
-    unfolding addRows total term
-    rows-at s zero = row-at _ _ _ d s k lk ∙ ap (λ y. (getD s k 0 + y) % 2 ^ 64) (sym (Nat.zero-add _))
-    rows-at s (suc n) =
-        row-at _ _ _ d _ k lk
-        ∙ ap (λ y. (y + term d f (turned q d a) k (suc n)) % 2 ^ 64) (rows-at s n)
-        ∙ Nat.mod-add-mod (getD s k 0 + total (suc n) (term d f (turned q d a) k)) (2 ^ 64) _
-        ∙ ap (λ y. y % 2 ^ 64) (Nat.add-assoc (getD s k 0) _ _)
-
-    pub product-adds : (s : List ℕ) → getD (addProduct q d f a s) k 0 ≡ (getD s k 0 + added) % 2 ^ 64
-    unfolding addProduct
-    product-adds s = ap (λ n. getD (addRows d f (turned q d a) n s) k 0) last ∙ rows-at s (d - 1) ∙ ap (λ n. (getD s k 0 + total n (term d f (turned q d a) k)) % 2 ^ 64) (sym last)
-      where
-        last : d ≡ suc (d - 1)
-        last = omega arith

@@ -8,13 +8,11 @@
 --   nextRow d f x j s the sums s with row j added, which is f_j·X^j·a
 --   addRows d f x j   the sums after the first j rows
 --   addFour d f x j s the sums s with the four rows from row j on added
---   addProduct ..     the sums s with the product of f and a added
 --   total n f         f 0 + f 1 + … + f (n − 1)
 --   term d f x k j    what row j adds to sum k
 --   Rows d ..         are the tables of a product long enough
 --   Preparable q d .. may an element of a length be prepared in a room of another
---   Prepared q d a x  the element a is prepared at the front of x: a row of it reads the residues that it should
---   Addable q d ..    a product with a prepared element may be added to sums
+--   Prepared q d a x  the element a is prepared at the front of x
 use mathlib.Core.List.{List, _++_}
 use mathlib.Core.Path.{_≡_}
 use Prim.Native.Nat.{ℕ, zero, suc, _+_, _*_, _-_, _%_, _^_, _<_, _≤_}
@@ -46,9 +44,6 @@ addRows d f x (suc j) s = nextRow d f x j (addRows d f x j s)
 unfoldable pub addFour : ℕ → List ℤ → (ℕ → ℕ) → ℕ → List ℕ → List ℕ
 addFour d f x j s = nextRow d f x (j + 3) (nextRow d f x (j + 2) (nextRow d f x (j + 1) (nextRow d f x j s)))
 
-unfoldable pub addProduct : ℕ → ℕ → List ℤ → List ℕ → List ℕ → List ℕ
-addProduct q d f a s = addRows d f (turned q d a) d s
-
 unfoldable pub total : ℕ → (ℕ → ℕ) → ℕ
 total zero f = 0
 total (suc n) f = total n f + f n
@@ -72,10 +67,4 @@ pub record Preparable (q d a room : ℕ) : Type 0 where
 
 pub record Prepared (q d : ℕ) (a x : List ℕ) : Type 0 where
   pub places : 3 * d ≤ length x
-  pub each : (y : ℕ) → y < 3 * d → narrowed x y ≡ turned q d a y
-
-pub record Addable (q d : ℕ) (f : List ℤ) (a x s : List ℕ) : Type 0 where
-  pub degree : d ≤ width
-  pub coefficients : d ≤ length f
-  pub prepared : Prepared q d a x
-  pub sums : d ≤ length s
+  pub each : (y : ℕ) → y < 3 * d → getD x y 0 ≡ turned q d a y

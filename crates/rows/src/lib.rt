@@ -10,16 +10,10 @@ ghost use lib.ListN.{length};
 ghost use Rattle.protocol.specs.Basic.{Provided};
 ghost use Rattle.protocol.specs.Element.{width};
 ghost use Rattle.residues.specs.Lists.{spliced};
-ghost use Rattle.rows.specs.Rows.{turned, narrowed, start, addRow, addRows, addFour, addProduct, Rows, Preparable, Prepared, Addable};
-
-fn wide(x: Residue) -> u64
-    ensures { λ r. ⌜ r ≡ x ⌝ }
-{
-    x as u64
-}
+ghost use Rattle.rows.specs.Rows.{turned, narrowed, start, addRow, addRows, addFour, Rows, Preparable, Prepared};
 
 // x modulo q; a residue is not divided.
-fn reduce(q: u32, x: Residue) -> Residue
+fn reduce(q: Residue, x: Residue) -> Residue
     requires { ⌜ 0 < q ⌝ }
     ensures { λ r. ⌜ r ≡ x % q ⌝ }
 {
@@ -31,15 +25,15 @@ fn reduce(q: u32, x: Residue) -> Residue
 
 // The residues that stand at the places 0 to 3d − 1 of a, going round by X^d = −1, written to the front of y: each residue, its negative, and
 // the residue again.
-fn write_rows(q: u32, d: usize, a: &[Residue], y: &mut [u64])
+fn write_rows(q: Residue, d: usize, a: &[Residue], y: &mut [u64])
     requires { ⌜ (0 < q) × (d ≤ width) × (d ≤ length (now a)) × (3 * d ≤ length (now y)) ⌝ }
     ensures { λ _. ⌜ now (y .exit) ≡ spliced (turned q d (now (a .entry))) 0 (3 * d) (now (y .entry)) ⌝ }
 {
     for k in 0..d {
         let x = reduce(q, a[k]);
-        y[k] = wide(x);
-        y[d + k] = wide(residues::negated(q, x));
-        y[2 * d + k] = wide(x);
+        y[k] = x;
+        y[d + k] = residues::negated(q, x);
+        y[2 * d + k] = x;
     }
 }
 
@@ -47,7 +41,7 @@ fn write_rows(q: u32, d: usize, a: &[Residue], y: &mut [u64])
 pub const ROOM: usize = 3 * WIDTH;
 
 // Prepares an element at the front of a lent room: every rotation of it, with either sign, is then d places in a row. What stands behind it stays.
-pub fn prepare(q: u32, d: u32, a: &[Residue], x: &mut [u64])
+pub fn prepare(q: Residue, d: u32, a: &[Residue], x: &mut [u64])
     ensures { λ _. ⌜ Provided (Preparable q d (length (now (a .entry))) (length (now (x .entry)))) (Prepared q d (now (a .entry)) (now (x .exit))) ⌝ }
 {
     let n = d as usize;
@@ -182,10 +176,10 @@ fn add_rows(d: usize, f: &[i32], x: &[u64], sums: &mut [u64])
     add_rest(d, j, f, x, sums);
 }
 
-// Adds the product of f with the element that is prepared at the front of x.
+// Adds the rows of f, x being what they read, modulo 2^32: the product of f with the element that is prepared at the front of x.
 pub fn add_product(d: u32, f: &[i32], x: &[u64], sums: &mut [u64])
-    ensures { λ _. ⌜ ((q : ℕ) (a : List ℕ) →
-        Provided (Addable q d (now (f .entry)) a (now (x .entry)) (now (sums .entry))) (now (sums .exit) ≡ addProduct q d (now (f .entry)) a (now (sums .entry)))) ⌝ }
+    ensures { λ _. ⌜ Provided (Rows d (length (now (f .entry))) (length (now (x .entry))) (length (now (sums .entry))))
+        (now (sums .exit) ≡ addRows d (now (f .entry)) (narrowed (now (x .entry))) d (now (sums .entry))) ⌝ }
 {
     let n = d as usize;
     if n > WIDTH {

@@ -1,5 +1,6 @@
 -- Session records in slices of `recordWidth` numbers: degree, depth, modulus, bound, rounds done, closed, then a challenge for each slot, then the places of
--- the claim.
+-- the claim. All are numbers of 64 bits, as modulus and claim need them; of the others one that is past 32 bits counts as the largest of 32 bits, which every
+-- call refuses.
 --
 --   headWidth          6: the numbers before the challenges
 --   claimAt            14: where the claim begins
@@ -18,7 +19,7 @@ use Rattle.protocol.specs.declared.Session.{Session}
 use Rattle.protocol.specs.Basic.{tabulate, choose}
 use Rattle.protocol.specs.Layout.{width, slots}
 use Rattle.protocol.specs.Settings.{hasLength}
-use Rattle.slices.specs.Slices.{given}
+use Rattle.slices.specs.Slices.{given, capped}
 
 abbrev pub headWidth : ℕ
 headWidth = 6
@@ -30,15 +31,15 @@ abbrev pub recordWidth : ℕ
 recordWidth = claimAt + width
 
 unfoldable pub challengesOf : List ℕ → List ℕ
-challengesOf t = tabulate slots (λ k. getD t (headWidth + k) 0)
+challengesOf t = tabulate slots (λ k. capped (getD t (headWidth + k) 0))
 
 unfoldable pub claimOf : List ℕ → List ℕ
 claimOf t = tabulate width (λ k. getD t (claimAt + k) 0)
 
 unfoldable pub sessionOf : List ℕ → Session
 sessionOf t = record {
-  settings = given (getD t 0 0) (getD t 1 0) (getD t 2 0) (getD t 3 0);
-  done = getD t 4 0;
+  settings = given (capped (getD t 0 0)) (capped (getD t 1 0)) (getD t 2 0) (capped (getD t 3 0));
+  done = capped (getD t 4 0);
   claim = claimOf t;
   challenges = challengesOf t;
   closed = eqb (getD t 5 0) 1;

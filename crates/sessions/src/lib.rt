@@ -10,7 +10,7 @@ use verifier::Verifier;
 ghost use Rattle.sessions.specs.Promises.{StartStored, MoveStored, Answered, polynomialFits, lastFits, roundOn, endOn};
 
 // A session starts at the commitment in a slice.
-pub fn start(settings: Settings, commitment: &[Residue], session: &mut [u32]) -> u32
+pub fn start(settings: Settings, commitment: &[Residue], session: &mut [u64]) -> u32
     ensures { λ r. ⌜ StartStored settings (now (commitment .entry)) (now (session .entry)) r (now (session .exit)) ⌝ }
 {
     let none = verifier::blank();
@@ -30,7 +30,7 @@ pub fn start(settings: Settings, commitment: &[Residue], session: &mut [u32]) ->
 }
 
 // Stores what a move answers: the record and the verdict where it is not refused.
-fn answer(moved: Moved, session: &mut [u32], verdict: &mut u32) -> u32
+fn answer(moved: Moved, session: &mut [u64], verdict: &mut u32) -> u32
     ensures { λ r. ⌜ Answered moved (now (session .entry)) r (now (session .exit)) (now (verdict .exit)) ⌝ }
 {
     *verdict = 0;
@@ -45,7 +45,7 @@ fn answer(moved: Moved, session: &mut [u32], verdict: &mut u32) -> u32
 }
 
 // A round, with the polynomial in a slice and the challenge X^e.
-pub fn round(polynomial: &[Residue], e: u32, session: &mut [u32], verdict: &mut u32) -> u32
+pub fn round(polynomial: &[Residue], e: u32, session: &mut [u64], verdict: &mut u32) -> u32
     ensures { λ r. ⌜ MoveStored (polynomialFits (now (polynomial .entry)) (now (session .entry))) (roundOn (now (polynomial .entry)) e (now (session .entry)))
         (now (session .entry)) r (now (session .exit)) (now (verdict .exit)) ⌝ }
 {
@@ -68,7 +68,7 @@ pub fn round(polynomial: &[Residue], e: u32, session: &mut [u32], verdict: &mut 
 }
 
 // The end, with the final element in a slice and the unfolded key.
-pub fn end(last: &[i32], key: &[Residue], session: &mut [u32], verdict: &mut u32) -> u32
+pub fn end(last: &[i32], key: &[Residue], session: &mut [u64], verdict: &mut u32) -> u32
     ensures { λ r. ⌜ MoveStored (lastFits (now (last .entry)) (now (session .entry))) (endOn (now (last .entry)) (now (key .entry)) (now (session .entry)))
         (now (session .entry)) r (now (session .exit)) (now (verdict .exit)) ⌝ }
 {

@@ -14,35 +14,48 @@ const CLAIM_AT: usize = HEAD + SLOTS;
 
 pub const RECORD: usize = CLAIM_AT + WIDTH;
 
-fn challenges(t: &[u32]) -> [u32; SLOTS]
+// The challenges of a record that stands in a slice, and as numbers for one.
+fn challenges(t: &[u64]) -> [u32; SLOTS]
     requires { ⌜ length (now t) ≡ recordWidth ⌝ }
     ensures { λ r. ⌜ r ≡ challengesOf (now (t .entry)) ⌝ }
 {
     let mut e = [0u32; SLOTS];
     let mut k: usize = 0;
     while k < SLOTS {
-        e[k] = t[HEAD + k];
+        e[k] = slices::capped(t[HEAD + k]);
         k += 1;
     }
     e
 }
 
+fn widened(e: [u32; SLOTS]) -> [u64; SLOTS]
+    ensures { λ r. ⌜ r ≡ e ⌝ }
+{
+    let mut x = [0u64; SLOTS];
+    let mut k: usize = 0;
+    while k < SLOTS {
+        x[k] = slices::wide(e[k]);
+        k += 1;
+    }
+    x
+}
+
 // The record that a slice holds.
-pub fn load(t: &[u32]) -> Session
+pub fn load(t: &[u64]) -> Session
     requires { ⌜ length (now t) ≡ recordWidth ⌝ }
     ensures { λ r. ⌜ r ≡ sessionOf (now (t .entry)) ⌝ }
 {
     let s = Settings {
-        degree: t[0],
-        depth: t[1],
+        degree: slices::capped(t[0]),
+        depth: slices::capped(t[1]),
         modulus: t[2],
-        bound: t[3],
+        bound: slices::capped(t[3]),
     };
     let claim = slices::residues(64, &t[CLAIM_AT..]);
     let e = challenges(t);
     Session {
         settings: s,
-        done: t[4],
+        done: slices::capped(t[4]),
         claim: claim,
         challenges: e,
         closed: t[5] == 1,
@@ -50,29 +63,30 @@ pub fn load(t: &[u32]) -> Session
 }
 
 // The numbers of a record before the challenges.
-fn head(r: Session) -> [u32; HEAD]
+fn head(r: Session) -> [u64; HEAD]
     ensures { λ x. ⌜ x ≡ headOf r ⌝ }
 {
     let s = r.settings;
     [
-        s.degree,
-        s.depth,
+        slices::wide(s.degree),
+        slices::wide(s.depth),
         s.modulus,
-        s.bound,
-        r.done,
-        r.closed as u32,
+        slices::wide(s.bound),
+        slices::wide(r.done),
+        r.closed as u64,
     ]
 }
 
 // Writes a record to a slice of RECORD numbers, part after part; any other stays as it is.
-pub fn store(r: Session, t: &mut [u32])
+pub fn store(r: Session, t: &mut [u64])
     ensures { λ _. ⌜ now (t .exit) ≡ recordStored r (now (t .entry)) ⌝ }
 {
     if t.len() != RECORD {
         return;
     }
     let first = head(r);
-    let challenges = r.challenges;
+    let exponents = r.challenges;
+    let challenges = widened(exponents);
     let claim = r.claim;
     residues::store(HEAD, &first, 0, t);
     residues::store(SLOTS, &challenges, HEAD, t);

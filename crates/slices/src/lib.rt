@@ -14,6 +14,7 @@ ghost use Rattle.protocol.specs.Basic.{Provided};
 ghost use Rattle.protocol.specs.Element.{width, padded, paddedSigned};
 ghost use Rattle.residues.specs.Lists.{spliced};
 ghost use Rattle.slices.specs.Slices.{lent, polynomialOf, laid};
+ghost use Rattle.slices.specs.Slices as slices;
 ghost use Rattle.protocol.specs.Session.{verdictNumber};
 
 // Refusals 3 to 6, then 7 where the slices that are lent beside have not their lengths.
@@ -31,6 +32,23 @@ pub fn both(first: bool, second: bool) -> bool
         return second;
     }
     false
+}
+
+// A number of 64 bits where one of 32 is wanted: one that is too large counts as the largest, which is out of every range.
+pub fn capped(x: u64) -> u32
+    ensures { λ r. ⌜ r ≡ slices.capped x ⌝ }
+{
+    if x < 4294967296 {
+        return x as u32;
+    }
+    4294967295
+}
+
+// A number of 32 bits as one of 64.
+pub fn wide(x: u32) -> u64
+    ensures { λ r. ⌜ r ≡ x ⌝ }
+{
+    x as u64
 }
 
 // An element of residues.

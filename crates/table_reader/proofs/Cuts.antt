@@ -1,6 +1,6 @@
 -- Values cut out of a list, as loops store them.
 --
---   cut-stored, cut-mapped   a table that a loop has filled with values from a place on, as they are and by a function
+--   cut-mapped   a table that a loop has filled with values from a place on, each by a function
 use mathlib.Core.Path.{_≡_, refl, sym, ap, _∙_}
 use mathlib.Core.List.{List, _∷_, _++_, append-nil, map}
 use Prim.Native.Nat.{ℕ, zero, suc, _+_, _-_, _≤_}
@@ -37,6 +37,3 @@ module _ (values : List ℤ) (from n : ℕ) (h : from + n ≤ length values) whe
     cut-mapped f =
         f ∙ ap (λ m. filled (λ j. g (getD values (from + j) (pos 0))) m z) k ∙ filled-whole _ z n (omega arith)
         ∙ sym (map-tabulate g n (λ j. getD values (from + j) (pos 0))) ∙ ap (map g) cut-tabulated
-
-  pub cut-stored : (z t : List ℤ) (i : ℕ) → length z ≡ n → i ≡ n → t ≡ filled (λ j. getD values (from + j) (pos 0)) i z → t ≡ cut from n values
-  cut-stored z t i e k f = f ∙ ap (λ m. filled (λ j. getD values (from + j) (pos 0)) m z) k ∙ filled-whole _ z n (omega arith) ∙ cut-tabulated

@@ -1,4 +1,5 @@
 pub mod Cuts
+pub mod Narrow
 pub mod Refuses
 pub mod Cells
 pub mod Wants

@@ -12,7 +12,7 @@ use lib.IntN.{ℤ}
 use Rattle.protocol.specs.declared.Settings.{Settings}
 use Rattle.protocol.specs.Basic.{choose, every, first, unless}
 use Rattle.protocol.specs.Settings.{allBelow, allWithin, exponents}
-use Rattle.protocol.specs.Text.{Tables, unsigned, entriesRefusal}
+use Rattle.protocol.specs.Text.{Tables, valueLimit, narrowLimit, unsigned, entriesRefusal}
 use Rattle.text_parts.specs.Parts.{testedBy}
 use Rattle.text_parts.proofs.Exactly.{and-assoc}
 use Rattle.table_reader.specs.Cut.{cutTables, tests, passes, allPass}
@@ -26,7 +26,7 @@ module _ (S : Settings) (refusal : ℕ) (vs : List ℤ) where
   unfolding passes choose
   tested k e b f = f ∙ sym (ap (λ b. choose b (tests S refusal vs) true) (eq-eqb _ _ e))
 
-  pub tests-residues : refusal ≡ 8 → tests S refusal vs ≡ allBelow S (map unsigned vs)
+  pub tests-residues : refusal ≡ 8 → tests S refusal vs ≡ allBelow S (map (unsigned valueLimit) vs)
   unfolding tests choose
   tests-residues e = ap (λ r. tests S r vs) e
 
@@ -34,14 +34,14 @@ module _ (S : Settings) (refusal : ℕ) (vs : List ℤ) where
   unfolding tests choose
   tests-bound e = ap (λ r. tests S r vs) e
 
-  pub tests-exponents : refusal ≡ 10 → tests S refusal vs ≡ exponents S (map unsigned vs)
+  pub tests-exponents : refusal ≡ 10 → tests S refusal vs ≡ exponents S (map (unsigned narrowLimit) vs)
   unfolding tests choose
   tests-exponents e = ap (λ r. tests S r vs) e
 
   pub tests-nothing : (refusal ≡ 8 → ⊥) → (refusal ≡ 9 → ⊥) → (refusal ≡ 10 → ⊥) → tests S refusal vs ≡ true
   unfolding tests choose
   tests-nothing a b c =
-      λ j. choose (ne-eqb _ _ a j) (allBelow S (map unsigned vs)) (choose (ne-eqb _ _ b j) (allWithin (S .bound) vs) (choose (ne-eqb _ _ c j) (exponents S (map unsigned vs)) true))
+      λ j. choose (ne-eqb _ _ a j) (allBelow S (map (unsigned valueLimit) vs)) (choose (ne-eqb _ _ b j) (allWithin (S .bound) vs) (choose (ne-eqb _ _ c j) (exponents S (map (unsigned narrowLimit) vs)) true))
 
 -- ---- the three tests
 

@@ -20,7 +20,7 @@ use Rattle.protocol.specs.declared.Parts.{Parts}
 use Rattle.protocol.specs.declared.Loaded.{Loaded}
 use Rattle.protocol.specs.Basic.{first, unless}
 use Rattle.protocol.specs.Settings.{settingsRefusal}
-use Rattle.protocol.specs.Text.{Line, Shape, Tables, shape, settingsShape, shapes, shapeSize, wanted, linesOf, unsigned, unsignedColumn, settingsIn, tablesIn, noSettings}
+use Rattle.protocol.specs.Text.{Line, Shape, Tables, valueLimit, narrowLimit, shape, settingsShape, shapes, shapeSize, wanted, linesOf, unsigned, unsignedColumn, settingsIn, tablesIn, noSettings}
 use Rattle.protocol.specs.Text.{lookRefusal, loaded, entriesRefusal, textRefusal, readRefusal, readAnswer, readExit}
 use Rattle.protocol.specs.Promises.{Read}
 use Rattle.protocol.proofs.Tests.{and-split, every-at, first-zero, unless-zero, granted-zero, granted-refused}
@@ -34,7 +34,8 @@ use Rattle.text_lines.proofs.Looks.{loaded-refused}
 use Rattle.text_parts.specs.Flat.{start, total, piece, joined}
 use Rattle.text_parts.proofs.Flat.{piece-joined, start-joined}
 use Rattle.table_reader.proofs.Columns.{behind-rise, columns-flat}
-use Rattle.table_reader.specs.Cut.{cutTables}
+use Rattle.table_reader.specs.Cut.{cutTables, narrowTables}
+use Rattle.table_reader.proofs.Narrow.{tables-narrow}
 
 -- ---- refusals
 
@@ -118,8 +119,8 @@ module _ (P : Parts) (text : List ℕ) (n : List ℕ) (few : length n ≡ tableC
   unfolding tablesIn unsignedColumn cutTables
   tables-are =
       (λ j. cutTables (lengths-are j) (values-are j))
-      ∙ (λ j. tablesOf (map unsigned (at 0 (omega arith) j)) (at 1 (omega arith) j) (map unsigned (at 2 (omega arith) j))
-      (map unsigned (at 3 (omega arith) j)) (map unsigned (at 4 (omega arith) j)) (at 5 (omega arith) j))
+      ∙ (λ j. tablesOf (map (unsigned valueLimit) (at 0 (omega arith) j)) (at 1 (omega arith) j) (map (unsigned valueLimit) (at 2 (omega arith) j))
+      (map (unsigned valueLimit) (at 3 (omega arith) j)) (map (unsigned narrowLimit) (at 4 (omega arith) j)) (at 5 (omega arith) j))
     where
       at : (k : ℕ) → k < tableCount → piece (map length all-columns) k (joined all-columns ++ behind) ≡ getD all-columns k []
       at = piece-joined all-columns behind
@@ -171,9 +172,9 @@ module _ (P : Parts) (text : List ℕ) (t : Tables) (r : Loaded) (values : List 
       unfolding readAnswer
       read-refused-entries r₂ f h = record { answer = loaded-refused text r₂ m (readRefusal P text t) f decided h; tables-exit = kept m decided h }
 
-      pub read-done : m ≡ 0 → (t₂ : Tables) → t₂ ≡ cutTables (lengthsOf t) values → Read P text t r t₂
+      pub read-done : m ≡ 0 → (t₂ : Tables) → t₂ ≡ narrowTables (cutTables (lengthsOf t) values) → Read P text t r t₂
       unfolding readAnswer readExit
       read-done z t₂ f = record {
         answer = g .answer ∙ ap (λ k. loaded k text) (unrefused ∙ sym (decided ∙ z));
-        tables-exit = f ∙ stored ∙ sym (granted-zero _ _ _ (decided ∙ z));
+        tables-exit = f ∙ ap narrowTables stored ∙ tables-narrow text ∙ sym (granted-zero _ _ _ (decided ∙ z));
       }

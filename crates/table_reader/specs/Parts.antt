@@ -4,16 +4,17 @@
 --   takenAnswer text o    the answer of a reader of lines at wanted spots
 --   Took                  what such a reader promises
 --   RoomFor S P m         a table of m values has room for those of tables that have their lengths
+--   Roomy n m             a table of m values has room for those of a text of n bytes, where it is not too long
 use mathlib.Core.Path.{_≡_}
 use mathlib.Core.Bool.{true, false}
 use mathlib.Core.List.{List, flatMap}
 use mathlib.Core.Option.{Option, none, some}
-use Prim.Native.Nat.{ℕ, _-_, _≤_}
+use Prim.Native.Nat.{ℕ, _*_, _-_, _≤_}
 use lib.ListN.{length, drop, take}
 use lib.IntN.{ℤ}
 use Rattle.protocol.specs.declared.Settings.{Settings}
 use Rattle.protocol.specs.declared.Parts.{Parts}
-use Rattle.protocol.specs.Text.{Spot, shapes, spots}
+use Rattle.protocol.specs.Text.{Spot, textLimit, shapes, spots}
 use Rattle.table_reader.specs.declared.parts.Taken.{Taken}
 use Rattle.protocol.specs.Lines.{readValues}
 use Rattle.text_parts.specs.Parts.{partOf, lengthsAre}
@@ -33,3 +34,7 @@ pub record Took (text : List ℕ) (from : ℕ) (ss : List Spot) (r : Taken) (val
 
 abbrev pub RoomFor : Settings → Parts → ℕ → Type 0
 RoomFor S P m = (n : List ℕ) → lengthsAre (partOf S P) n ≡ true → total n ≤ m
+
+-- a line has at least eight bytes
+abbrev pub Roomy : ℕ → ℕ → Type 0
+Roomy n m = n ≤ textLimit → n ≤ 8 * m

@@ -1,6 +1,6 @@
 // Refusals 8, 9 and 10 of the values of a text.
 use protocol::Settings;
-use ranges::tests::all_within;
+use ranges::tests::all_within_wide;
 use ranges::tests::refuse;
 use text_parts::TABLES;
 use text_parts::tested_by;
@@ -12,17 +12,17 @@ ghost use lib.Dec.{ltb};
 ghost use lib.ListN.{length};
 ghost use Rattle.protocol.specs.Basic.{all, Provided};
 ghost use Rattle.protocol.specs.Settings.{settingsRefusal};
-ghost use Rattle.protocol.specs.Text.{unsigned, entriesRefusal};
+ghost use Rattle.protocol.specs.Text.{valueLimit, unsigned, entriesRefusal};
 ghost use Rattle.text_parts.specs.Flat.{total};
 ghost use Rattle.table_reader.specs.Cut.{cutTables, passes, allPass};
 
 // Is every value, where numbers from 0 on are wanted, below the limit.
-fn all_below(limit: u32, values: &[i32]) -> bool
-    ensures { λ r. ⌜ r ≡ all (λ x. ltb x limit) (map unsigned (now (values .entry))) ⌝ }
+fn all_below(limit: u64, values: &[i64]) -> bool
+    ensures { λ r. ⌜ r ≡ all (λ x. ltb x limit) (map (unsigned valueLimit) (now (values .entry))) ⌝ }
 {
     let mut i: usize = 0;
     while i < values.len() {
-        if text_lines::unsigned(values[i]) >= limit {
+        if text_lines::unsigned_wide(values[i]) >= limit {
             return false;
         }
         i += 1;
@@ -31,7 +31,7 @@ fn all_below(limit: u32, values: &[i32]) -> bool
 }
 
 // Do the values of the table at place k pass the test of a refusal; they do where it does not test them.
-fn pass(settings: Settings, refusal: u32, k: usize, values: &[i32]) -> bool
+fn pass(settings: Settings, refusal: u32, k: usize, values: &[i64]) -> bool
     ensures { λ r. ⌜ Provided (settingsRefusal settings ≡ 0) (r ≡ passes settings refusal k (now (values .entry))) ⌝ }
 {
     if tested_by(k) != refusal {
@@ -39,14 +39,14 @@ fn pass(settings: Settings, refusal: u32, k: usize, values: &[i32]) -> bool
     }
     match refusal {
         8 => all_below(settings.modulus, values),
-        9 => all_within(settings.bound, values),
-        10 => all_below(sizes::exponent_count(settings), values),
+        9 => all_within_wide(settings.bound as u64, values),
+        10 => all_below(sizes::exponent_count(settings) as u64, values),
         _ => true,
     }
 }
 
 // Do the values of all tables that a refusal tests pass it. The values of tables of these lengths stand one after the other.
-fn all_pass(settings: Settings, refusal: u32, lengths: [usize; TABLES], values: &[i32]) -> bool
+fn all_pass(settings: Settings, refusal: u32, lengths: [usize; TABLES], values: &[i64]) -> bool
     requires { ⌜ total lengths ≤ length (now values) ⌝ }
     ensures { λ r. ⌜ Provided (settingsRefusal settings ≡ 0) (r ≡ allPass settings refusal lengths (now (values .entry))) ⌝ }
 {
@@ -64,7 +64,7 @@ fn all_pass(settings: Settings, refusal: u32, lengths: [usize; TABLES], values: 
 }
 
 // The first of the three refusals that applies.
-pub fn refusal(settings: Settings, lengths: [usize; TABLES], values: &[i32]) -> u32
+pub fn refusal(settings: Settings, lengths: [usize; TABLES], values: &[i64]) -> u32
     requires { ⌜ total lengths ≤ length (now values) ⌝ }
     ensures { λ r. ⌜ Provided (settingsRefusal settings ≡ 0) (r ≡ entriesRefusal settings true (cutTables lengths (now (values .entry)))) ⌝ }
 {

@@ -6,26 +6,31 @@ mod values;
 
 use protocol::Loaded;
 use protocol::Parts;
+use protocol::Residue;
 use protocol::Settings;
 use text_parts::VALUES;
+ghost use lib.ListN.{length};
 ghost use Rattle.protocol.specs.Basic.{Provided};
 ghost use Rattle.protocol.specs.Promises.{Read};
 ghost use Rattle.text_parts.specs.Parts.{tablesOf};
 ghost use Rattle.text_lines.specs.Header.{Begins};
+ghost use Rattle.table_reader.specs.Parts.{Roomy};
 
-// The core of the reader, for a text whose settings are read and allowed: `text_lines::allowed_settings` gives them and the place behind them.
-pub fn read_tables(
+// The core of the reader, with a place for the values that has room for those of this text.
+fn read_by(
     parts: Parts,
     settings: Settings,
     from: usize,
     text: &[u8],
-    key: &mut [u32],
+    values: &mut [i64],
+    key: &mut [Residue],
     message: &mut [i32],
-    commitment: &mut [u32],
-    rounds: &mut [u32],
+    commitment: &mut [Residue],
+    rounds: &mut [Residue],
     challenges: &mut [u32],
     last: &mut [i32],
 ) -> Loaded
+    requires { ⌜ Roomy (length (now text)) (length (now values)) ⌝ }
     ensures { λ r. ⌜ Provided (Begins (now (text .entry)) settings from) (Read parts (now (text .entry))
         (tablesOf (now (key .entry)) (now (message .entry)) (now (commitment .entry)) (now (rounds .entry)) (now (challenges .entry)) (now (last .entry))) r
         (tablesOf (now (key .exit)) (now (message .exit)) (now (commitment .exit)) (now (rounds .exit)) (now (challenges .exit)) (now (last .exit)))) ⌝ }
@@ -38,27 +43,78 @@ pub fn read_tables(
         challenges.len(),
         last.len(),
     ];
-    let mut values = [0i32; VALUES];
-    let loaded = values::read_values(parts, settings, from, text, lengths, &mut values);
+    let loaded = values::read_values(parts, settings, from, text, lengths, values);
     if loaded.refusal != 0 {
         return loaded;
     }
-    let refusal = entries::refusal(loaded.settings, lengths, &values);
+    let refusal = entries::refusal(loaded.settings, lengths, values);
     if refusal != 0 {
         return text_lines::refused(refusal);
     }
-    store::all(&values, key, message, commitment, rounds, challenges, last);
+    store::all(values, key, message, commitment, rounds, challenges, last);
     loaded
+}
+
+// The values of a short text have a small place, which costs less to make.
+const SHORT: usize = 4096;
+
+// The core of the reader, for a text whose settings are read and allowed: `text_lines::allowed_settings` gives them and the place behind them.
+pub fn read_tables(
+    parts: Parts,
+    settings: Settings,
+    from: usize,
+    text: &[u8],
+    key: &mut [Residue],
+    message: &mut [i32],
+    commitment: &mut [Residue],
+    rounds: &mut [Residue],
+    challenges: &mut [u32],
+    last: &mut [i32],
+) -> Loaded
+    ensures { λ r. ⌜ Provided (Begins (now (text .entry)) settings from) (Read parts (now (text .entry))
+        (tablesOf (now (key .entry)) (now (message .entry)) (now (commitment .entry)) (now (rounds .entry)) (now (challenges .entry)) (now (last .entry))) r
+        (tablesOf (now (key .exit)) (now (message .exit)) (now (commitment .exit)) (now (rounds .exit)) (now (challenges .exit)) (now (last .exit)))) ⌝ }
+{
+    if text.len() <= SHORT {
+        let mut values = [0i64; SHORT / 8];
+        return read_by(
+            parts,
+            settings,
+            from,
+            text,
+            &mut values,
+            key,
+            message,
+            commitment,
+            rounds,
+            challenges,
+            last,
+        );
+    }
+    let mut values = [0i64; VALUES];
+    read_by(
+        parts,
+        settings,
+        from,
+        text,
+        &mut values,
+        key,
+        message,
+        commitment,
+        rounds,
+        challenges,
+        last,
+    )
 }
 
 // The tables of a text. A caller learns their lengths by `text_lines::read_settings`; the table of a part that is not there has length 0.
 pub fn read(
     parts: Parts,
     text: &[u8],
-    key: &mut [u32],
+    key: &mut [Residue],
     message: &mut [i32],
-    commitment: &mut [u32],
-    rounds: &mut [u32],
+    commitment: &mut [Residue],
+    rounds: &mut [Residue],
     challenges: &mut [u32],
     last: &mut [i32],
 ) -> Loaded

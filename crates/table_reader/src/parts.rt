@@ -28,7 +28,7 @@ pub struct Taken {
 }
 
 // The values of the lines of a part, from a place on.
-pub fn read_part(text: &[u8], from: usize, shape: Shape, values: &mut [i32]) -> Taken
+pub fn read_part(text: &[u8], from: usize, shape: Shape, values: &mut [i64]) -> Taken
     requires { ⌜ shapeSize (asShape shape) ≤ length (now values) ⌝ }
     ensures { λ r. ⌜ Provided (from ≤ length (now (text .entry))) (Took (now (text .entry)) from (spots (asShape shape)) r (now (values .exit))) ⌝ }
 {
@@ -62,7 +62,7 @@ pub fn read_parts(
     parts: Parts,
     text: &[u8],
     from: usize,
-    values: &mut [i32],
+    values: &mut [i64],
 ) -> Taken
     requires { ⌜ length (now text) ≤ 8 * length (now values) ⌝ }
     ensures lines { λ r. ⌜ Provided ((settings .depth ≤ 8) × (from ≤ length (now (text .entry))))

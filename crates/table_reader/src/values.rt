@@ -13,10 +13,9 @@ ghost use mathlib.Core.Bool.{true};
 ghost use Prim.Native.Nat.{_≤_};
 ghost use lib.ListN.{length};
 ghost use Rattle.protocol.specs.Basic.{Provided};
-ghost use Rattle.text_parts.specs.Parts.{valuesRoom};
 ghost use Rattle.text_parts.specs.Flat.{total};
 ghost use Rattle.text_lines.specs.Header.{Begins};
-ghost use Rattle.table_reader.specs.Parts.{RoomFor};
+ghost use Rattle.table_reader.specs.Parts.{RoomFor, Roomy};
 ghost use Rattle.table_reader.specs.Stored.{Followed, Gathered};
 
 // Do the lines of a text that begins with these settings go on with the required ones up to its end, where its length is allowed. All lines are then of the
@@ -26,9 +25,9 @@ fn read_wanted(
     settings: Settings,
     from: usize,
     text: &[u8],
-    values: &mut [i32],
+    values: &mut [i64],
 ) -> bool
-    requires { ⌜ valuesRoom ≤ length (now values) ⌝ }
+    requires { ⌜ Roomy (length (now text)) (length (now values)) ⌝ }
     ensures followed { λ r. ⌜ Provided (Begins (now (text .entry)) settings from) (Followed parts (now (text .entry)) r (now (values .exit))) ⌝ }
     ensures room { λ r. ⌜ (r ≡ true → RoomFor settings parts (length (now (values .exit)))) ⌝ }
 {
@@ -43,16 +42,16 @@ fn read_wanted(
 }
 
 // Refusals 1 to 7 of a text that begins with these settings and is read into tables of these lengths. Where nothing is refused its values stand first in
-// `values`, which has room for the values of every text that is not too long: a line has at least eight bytes.
+// `values`, which has room for the values of a text of this length: a line has at least eight bytes.
 pub fn read_values(
     parts: Parts,
     settings: Settings,
     from: usize,
     text: &[u8],
     lengths: [usize; TABLES],
-    values: &mut [i32],
+    values: &mut [i64],
 ) -> Loaded
-    requires { ⌜ valuesRoom ≤ length (now values) ⌝ }
+    requires { ⌜ Roomy (length (now text)) (length (now values)) ⌝ }
     ensures gathered { λ r. ⌜ Provided (Begins (now (text .entry)) settings from) (Gathered parts lengths (now (text .entry)) r (now (values .exit))) ⌝ }
     ensures room { λ r. ⌜ (r .refusal ≡ 0 → total lengths ≤ length (now (values .exit))) ⌝ }
 {

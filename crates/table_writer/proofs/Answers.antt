@@ -7,6 +7,7 @@
 --   passed        what holds of tables that are not
 --   wrote         then the text and the output slice decide
 use mathlib.Core.Path.{_≡_, refl, sym, ap, _∙_}
+use mathlib.Core.Bool.{Bool, true, _&&_}
 use mathlib.Core.List.{List, [], _∷_, _++_}
 use Prim.Native.Nat.{ℕ, zero, suc, _<_, _≤_}
 use native.Mathlib.Omega.{arith}
@@ -15,8 +16,9 @@ use lib.ListN.{length, drop}
 use Rattle.protocol.specs.declared.Settings.{Settings}
 use Rattle.protocol.specs.declared.Parts.{Parts}
 use Rattle.protocol.specs.declared.Written.{Written}
-use Rattle.protocol.specs.Basic.{granted}
-use Rattle.protocol.specs.Text.{Tables, textLimit, textOf, outputRefusal, writeRefusal, written, overwritten, writeAnswer, writeExit}
+use Rattle.protocol.specs.Basic.{all, within, granted}
+use Rattle.protocol.specs.Settings.{allBelow}
+use Rattle.protocol.specs.Text.{Tables, textLimit, narrowLimit, textOf, entriesRefusal, outputRefusal, writeRefusal, written, overwritten, writeAnswer, writeExit}
 use Rattle.protocol.specs.Promises.{Wrote}
 use Rattle.protocol.proofs.Tests.{first-nothing, first-zero, unless-zero}
 use Rattle.protocol.proofs.Refusals.{first-only, first-fails, first-holds, front-stops, front-passes}
@@ -50,6 +52,11 @@ module _ (text out : List ℕ) where
 
 -- ---- the refusals before it
 
+residues-passed : (S : Settings) (lastFits : Bool) (t : Tables) → entriesRefusal S lastFits t ≡ 0
+    → allBelow S (t .key) && (allBelow S (t .commitment) && allBelow S (t .rounds)) ≡ true
+unfolding entriesRefusal
+residues-passed S lastFits t h = unless-zero 7 _ (first-zero _ _ h .0)
+
 module _ (S : Settings) (P : Parts) (t : Tables) (out : List ℕ) where
   pub stopped : (n : ℕ) → n ≡ tablesRefusal S P t → (n ≡ 0 → ⊥) → Wrote S P t out (answer n 0) out
   unfolding writeAnswer writeExit written overwritten granted
@@ -61,7 +68,16 @@ module _ (S : Settings) (P : Parts) (t : Tables) (out : List ℕ) where
   module _ (fine : tablesRefusal S P t ≡ 0) where
     pub passed : Writable S P t
     unfolding tablesRefusal
-    passed = record { depth = allowed S (first-zero _ _ fine .0) .depth; fitting = unless-zero 6 _ (first-zero _ _ (first-zero _ _ fine .1) .0) }
+    passed =
+        let bounds = allowed S (first-zero _ _ fine .0) in
+        let (lengths, more) = first-zero _ _ (first-zero _ _ fine .1) in
+        let entries : entriesRefusal S (all (within narrowLimit) (t .last)) t ≡ 0 = first-zero _ _ more .0 in
+        record {
+          depth = bounds .depth;
+          modulus = bounds .modulus;
+          residues = residues-passed S _ t entries;
+          fitting = unless-zero 6 _ lengths;
+        }
 
     text-decides : writeRefusal S P t (length out) ≡ outputRefusal (textOf S P t) (length out)
     unfolding writeRefusal tablesRefusal

@@ -1,47 +1,53 @@
 -- How many digits a number has, and its digits from the lowest on.
 --
---   counted          10^k ≤ n < 10^(k+1) has k + 1 digits
---   counted-most     from 10^9 on it has ten
---   digits-most      no more than ten
+--   Reached, reached-next   powers of ten that a number is not below
+--   ten-next         one power more
+--   counted-most     from 10^18 on it has nineteen
+--   digits-most      no more than nineteen
 --   field-length     a number and a byte behind it
 --   digit-step       one digit more, before those that are stored
 --   digits-done      all of them
 use mathlib.Core.Path.{_≡_, sym, ap, _∙_}
 use mathlib.Core.List.{List, [], _∷_, _++_, append-assoc}
-use Prim.Native.Nat.{ℕ, suc, _+_, _-_, _/_, _%_, _^_, _<_, _≤_}
+use Prim.Native.Nat.{ℕ, suc, _+_, _*_, _-_, _/_, _%_, _^_, _<_, _≤_}
 use native.Mathlib.Omega.{arith}
+use native.Mathlib.Numerals.{add-one}
 use native.Mathlib.Nat as Nat
 use borrow.Author.Tests.{le-ltb}
 use lib.Dec.{ltb}
 use lib.ListN.{length, take, drop, set, length-append}
 use Rattle.protocol.specs.Text.{digitCount, lowDigits, decimal}
 use Rattle.protocol.proofs.Tests.{least-first, least-is}
-use Rattle.protocol.proofs.NumeralLaws.{decimal-length, digits-count}
+use Rattle.protocol.proofs.NumeralLaws.{decimal-length}
 use Rattle.table_writer.specs.Put.{field}
 use Rattle.table_writer.proofs.Puts.{drop-set-here}
 
-pub counted : (k n : ℕ) → k ≤ 9 → (0 < k → 10 ^ k ≤ n) → n < 10 ^ suc k → suc k ≡ digitCount n
-counted k n few low high =
-    sym (digits-count n (suc k) (record {
-      some-digit = omega arith;
-      at-most = omega arith;
-      under = high;
-      over = λ i l. Nat.le-trans (Nat.pow-le-pow-right {n = 10} (omega arith) {i = suc i} {j = k} (omega arith)) (low (omega arith));
-    }))
+-- the powers of ten below 10^count that n is not below
+abbrev pub Reached : ℕ → ℕ → Type 0
+Reached n count = (i : ℕ) → suc i < count → 10 ^ suc i ≤ n
 
--- ten digits are all that is kept of a number
-pub counted-most : (n : ℕ) → 10 ^ 9 ≤ n → 10 ≡ digitCount n
+pub reached-next : (n count : ℕ) → 0 < count → 10 ^ count ≤ n → Reached n (count + 1)
+reached-next n count some h i l = Nat.le-trans (Nat.pow-le-pow-right {n = 10} (omega arith) {i = suc i} {j = count} (omega arith)) h
+
+-- a power below the last
+pub ten-next : (count bound : ℕ) → count < 19 → bound ≡ 10 ^ count → (bound * 10 ≡ 10 ^ (count + 1)) × (bound * 10 ≤ 10 ^ 19)
+ten-next count bound h e =
+    let next : bound * 10 ≡ 10 ^ (count + 1) = ap (λ b. b * 10) e ∙ sym (Nat.pow-suc 10 count) ∙ ap (λ k. 10 ^ k) (sym (add-one count)) in
+    (next, omega (arith, next, Nat.pow-le-pow-right {n = 10} (omega arith) {i = count + 1} {j = 19} (omega arith)))
+
+-- nineteen digits are all that is kept of a number
+pub counted-most : (n : ℕ) → Reached n 19 → 19 ≡ digitCount n
 unfolding digitCount
-counted-most n h =
-    sym (ap suc (least-is 9 (λ k. ltb n (10 ^ suc k)) 9 (record {
+counted-most n over =
+    sym (ap suc (least-is 18 (λ k. ltb n (10 ^ suc k)) 18 (record {
       at-most = omega arith;
       holds = λ l. absurd (omega arith);
-      none-before = λ i l. le-ltb n (10 ^ suc i) (Nat.le-trans (Nat.pow-le-pow-right {n = 10} (omega arith) {i = suc i} {j = 9} (omega arith)) h);
+      none-before = λ i l. le-ltb n (10 ^ suc i) (over i (omega arith));
     })))
 
-pub digits-most : (n : ℕ) → digitCount n ≤ 10
+pub digits-most : (n : ℕ) → digitCount n ≤ 19
 unfolding digitCount
-digits-most n = omega (arith, least-first 9 (λ k. ltb n (10 ^ suc k)) .at-most)
+digits-most n = omega (arith, least-first 18 (λ k. ltb n (10 ^ suc k)) .at-most)
 
 pub field-length : (n behind : ℕ) → length (field n behind) ≡ digitCount n + 1
 unfolding field

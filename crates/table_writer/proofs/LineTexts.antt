@@ -19,10 +19,10 @@ use mir.Facts.{toZ-ofZ}
 use Rattle.protocol.specs.Text.{Line, space, lineFeed, minus, digitCount, decimal, numeral, lineText}
 use Rattle.protocol.proofs.NumeralLaws.{decimal-length}
 use Rattle.text_parts.specs.declared.Cell.{Cell}
-use Rattle.table_writer.specs.Put.{field, spotText, lineAt}
+use Rattle.table_writer.specs.Put.{fieldRoom, spotRoom, lineRoom, field, spotText, lineAt}
 use Rattle.table_writer.proofs.Digits.{digits-most, field-length}
 
-pub field-most : (n behind : ℕ) → length (field n behind) ≤ 11
+pub field-most : (n behind : ℕ) → length (field n behind) ≤ fieldRoom
 field-most n behind = omega (arith, field-length n behind, digits-most n)
 
 field-least : (n behind : ℕ) → 2 ≤ length (field n behind)
@@ -34,7 +34,7 @@ unfolding numeral digitCount
 numeral-least (pos n) = omega (arith, decimal-length n)
 numeral-least (negsuc n) = omega arith
 
-pub spot-most : (part : ℕ) (c : Cell) → length (spotText part c) ≤ 33
+pub spot-most : (part : ℕ) (c : Cell) → length (spotText part c) ≤ spotRoom
 unfolding spotText
 spot-most part c =
     omega (
@@ -46,7 +46,7 @@ spot-most part c =
       field-most (c .place) space,
     )
 
-numeral-most : (v : ℤ) → length (numeral v) ≤ 11
+numeral-most : (v : ℤ) → length (numeral v) ≤ fieldRoom
 unfolding numeral
 numeral-most (pos n) = omega (arith, decimal-length n, digits-most n)
 numeral-most (negsuc n) = omega (arith, decimal-length (suc n), digits-most (suc n))
@@ -68,7 +68,7 @@ line-spot part c v =
     ∙ ap (λ t. decimal part ++ (space ∷ t))
     (append-assoc (field (c .item) space) (field (c .place) space) (ending v) ∙ spaced (c .item) _ ∙ ap (λ t. decimal (c .item) ++ (space ∷ t)) (spaced (c .place) (ending v)))
 
-pub line-most : (part : ℕ) (c : Cell) (v : ℤ) → length (lineText (lineAt part c v)) ≤ 45
+pub line-most : (part : ℕ) (c : Cell) (v : ℤ) → length (lineText (lineAt part c v)) ≤ lineRoom
 line-most part c v =
     omega (
       arith,

@@ -1,6 +1,7 @@
 -- The text of values, part by part.
 --
 --   parted-next    one part more
+--   gathered-are   the values as they are gathered are those of the tables
 --   text-values    the text of the values of tables is the text of the tables
 --   text-over      a text whose values find no room is too long
 use mathlib.Core.Path.{_≡_, refl, sym, ap, _∙_}
@@ -10,13 +11,17 @@ use Prim.Native.Nat.{ℕ, zero, suc, _+_, _*_, _<_, _≤_}
 use native.Mathlib.Nat as Nat
 use native.Mathlib.Omega.{arith}
 use native.Mathlib.Numerals.{add-one}
-use borrow.Author.Tests.{eqb-true}
+use borrow.Author.Tests.{eqb-true, leb-true}
+use lib.Dec.{leb}
 use lib.ListN.{length, getD, drop, length-append}
-use lib.IntN.{ℤ}
+use lib.IntN.{ℤ, pos}
 use Rattle.protocol.specs.declared.Settings.{Settings}
 use Rattle.protocol.specs.declared.Parts.{Parts}
-use Rattle.protocol.specs.Text.{Line, Shape, Tables, textLimit, names, settingsShape, shapes, shapeSize, contents, lineText, linesText, block, blocks, blockLines, textOf}
-use Rattle.protocol.proofs.Tests.{every-at}
+use Rattle.protocol.specs.Basic.{all}
+use Rattle.protocol.specs.Settings.{allBelow}
+use Rattle.protocol.specs.Text.{Line, Shape, Tables, textLimit, valueLimit, names, settingsShape, shapes, shapeSize, contents, lineText, linesText, block, blocks, blockLines, textOf}
+use Rattle.protocol.proofs.Tests.{every-at, and-split}
+use Rattle.protocol.proofs.TextLimits.{below-limited}
 use Rattle.protocol.proofs.LineLaws.{lines-append}
 use Rattle.text_parts.specs.Parts.{tableCount, valuesRoom, partShape, partOf, lengthsOf, lengthsAre}
 use Rattle.text_parts.specs.Flat.{start, total, piece, joined, tableValues}
@@ -24,7 +29,7 @@ use Rattle.text_parts.proofs.Shallow.{part-of, lengths-shallow}
 use Rattle.text_parts.proofs.Exactly.{lengths-fit}
 use Rattle.text_parts.proofs.Flat.{piece-joined, values-lengths}
 use Rattle.table_writer.specs.Put.{partText}
-use Rattle.table_writer.specs.Tables.{settingsText, parted, valuesText, Writable}
+use Rattle.table_writer.specs.Tables.{capped, gathered, settingsText, parted, valuesText, Writable}
 use Rattle.table_writer.proofs.LineTexts.{line-least}
 use Rattle.table_writer.proofs.PartTexts.{lines-count}
 
@@ -81,6 +86,19 @@ parted-list (b ∷ bs) (v ∷ vs) z text e =
     ∙ append-assoc text (linesText (blockLines (block b v))) (linesText (flatMap blockLines (zipWith block bs vs)))
     ∙ ap (λ l. text ++ l) (sym (lines-append (blockLines (block b v)) (flatMap blockLines (zipWith block bs vs))))
 
+-- ---- numbers within the limit
+
+capped-is : (x : ℕ) → x ≤ valueLimit → capped x ≡ pos x
+unfolding capped
+capped-is x h = ap pos (omega arith)
+
+capped-within : (v : List ℕ) → all (λ x. leb x valueLimit) v ≡ true → map capped v ≡ map pos v
+unfolding all
+capped-within [] h = refl
+capped-within (x ∷ v) h =
+    let (here, more) = and-split {a = leb x valueLimit} h in
+    λ j. capped-is x (leb-true x valueLimit here) j ∷ capped-within v more j
+
 -- ---- the text of the values of tables
 
 abbrev all-shapes : Settings → Parts → List Shape
@@ -102,9 +120,25 @@ module _ (S : Settings) (P : Parts) (t : Tables) (w : Writable S P t) where
   pub lengths-are : lengthsAre (partOf S P) (lengthsOf t) ≡ true
   lengths-are = lengths-shallow S P (lengthsOf t) (w .depth) ∙ lengths-fit S P t ∙ w .fitting
 
+  -- no residue is past the limit
+  capped-list : (v : List ℕ) → allBelow S v ≡ true → map capped v ≡ map pos v
+  unfolding allBelow
+  capped-list v h = capped-within v (below-limited valueLimit (S .modulus) v (w .modulus) h)
+
+  pub gathered-are : gathered t ≡ tableValues t
+  unfolding gathered tableValues contents
+  gathered-are =
+      let (k, cr) = and-split {a = allBelow S (t .key)} (w .residues) in
+      let (c, r) = and-split {a = allBelow S (t .commitment)} cr in
+      λ j. capped-list (t .key) k j ∷ t .message ∷ capped-list (t .commitment) c j ∷ capped-list (t .rounds) r j ∷ map pos (t .challenges) ∷ t .last ∷ []
+
   settings-first : settingsText S ++ linesText (flatMap blockLines (zipWith block (all-shapes S P) (tableValues t))) ≡ textOf S P t
   unfolding settingsText partText textOf blocks shapes contents tableValues zipWith flatMap
-  settings-first = append-assoc names _ _ ∙ ap (λ l. names ++ l) (sym (lines-append _ _))
+  settings-first =
+      let more = linesText (flatMap blockLines (zipWith block (all-shapes S P) (tableValues t))) in
+      append-assoc names _ _
+      ∙ ap (λ q. names ++ (partText settingsShape (pos (S .degree) ∷ pos (S .depth) ∷ q ∷ pos (S .bound) ∷ []) ++ more)) (capped-is (S .modulus) (w .modulus))
+      ∙ ap (λ l. names ++ l) (sym (lines-append _ _))
 
   pub text-values : (values rest : List ℤ) → values ≡ joined (tableValues t) ++ rest → valuesText S P (lengthsOf t) values ≡ textOf S P t
   unfolding valuesText

@@ -17,9 +17,9 @@ use lib.IntN.{ℤ}
 use Rattle.protocol.specs.Text.{Line, Shape, textLimit, space, decimal, linesText, block, blockLines}
 use Rattle.text_parts.specs.declared.Cell.{Cell}
 
--- ten digits and the byte behind them
+-- nineteen digits and the byte behind them
 abbrev pub fieldRoom : ℕ
-fieldRoom = 11
+fieldRoom = 20
 
 abbrev pub spotRoom : ℕ
 spotRoom = 3 * fieldRoom

@@ -1,4 +1,6 @@
 // The values of tables, one table after the other, in one table of a type that has room for all of them.
+use protocol::Residue;
+use protocol::VALUE_LIMIT;
 use text_parts::TABLES;
 use text_parts::VALUES;
 ghost use mathlib.Core.Path.{_≡_};
@@ -8,8 +10,9 @@ ghost use lib.Dec.{leb};
 ghost use lib.IntN.{pos};
 ghost use lib.ListN.{length};
 ghost use Rattle.text_parts.specs.Parts.{tablesOf, lengthsOf, valuesRoom};
-ghost use Rattle.text_parts.specs.Flat.{total, joined, tableValues};
+ghost use Rattle.text_parts.specs.Flat.{total, joined};
 ghost use Rattle.table_writer.specs.Put.{Put};
+ghost use Rattle.table_writer.specs.Tables.{capped, gathered};
 
 // Is there room for the values of tables of these lengths. Where there is none their text is too long: a line has at least eight bytes.
 pub fn room(lengths: [usize; TABLES]) -> bool
@@ -34,6 +37,19 @@ pub fn value_of(x: u32) -> i64
     x as i64
 }
 
+// What is past the limit of values, which no residue is, is one past it.
+const PAST_LIMIT: i64 = (VALUE_LIMIT as i64) + 1;
+
+// A modulus or a residue as a value.
+pub fn residue_value(x: Residue) -> i64
+    ensures { λ r. ⌜ r ≡ capped x ⌝ }
+{
+    if x > VALUE_LIMIT {
+        return PAST_LIMIT;
+    }
+    x as i64
+}
+
 // A signed number as a value.
 fn signed_value_of(x: i32) -> i64
     ensures { λ r. ⌜ r ≡ x ⌝ }
@@ -41,8 +57,21 @@ fn signed_value_of(x: i32) -> i64
     x as i64
 }
 
-// A table of numbers from 0 on, from a place on; the place behind it.
-fn unsigned(table: &[u32], from: usize, values: &mut [i64]) -> usize
+// A table of residues, from a place on; the place behind it.
+fn residues(table: &[Residue], from: usize, values: &mut [i64]) -> usize
+    requires { ⌜ from + length (now table) ≤ length (now values) ⌝ }
+    ensures { λ r. ⌜ Put (now (values .entry)) from (map capped (now (table .entry))) r (now (values .exit)) ⌝ }
+{
+    let mut i: usize = 0;
+    while i < table.len() {
+        values[from + i] = residue_value(table[i]);
+        i += 1;
+    }
+    from + table.len()
+}
+
+// The same for challenges.
+fn exponents(table: &[u32], from: usize, values: &mut [i64]) -> usize
     requires { ⌜ from + length (now table) ≤ length (now values) ⌝ }
     ensures { λ r. ⌜ Put (now (values .entry)) from (map pos (now (table .entry))) r (now (values .exit)) ⌝ }
 {
@@ -69,22 +98,22 @@ fn signed(table: &[i32], from: usize, values: &mut [i64]) -> usize
 
 // The values of the six tables; how many they are.
 pub fn all(
-    key: &[u32],
+    key: &[Residue],
     message: &[i32],
-    commitment: &[u32],
-    rounds: &[u32],
+    commitment: &[Residue],
+    rounds: &[Residue],
     challenges: &[u32],
     last: &[i32],
     values: &mut [i64],
 ) -> usize
     requires { ⌜ total (lengthsOf (tablesOf (now key) (now message) (now commitment) (now rounds) (now challenges) (now last))) ≤ length (now values) ⌝ }
-    ensures { λ r. ⌜ Put (now (values .entry)) 0 (joined (tableValues
+    ensures { λ r. ⌜ Put (now (values .entry)) 0 (joined (gathered
         (tablesOf (now (key .entry)) (now (message .entry)) (now (commitment .entry)) (now (rounds .entry)) (now (challenges .entry)) (now (last .entry))))) r (now (values .exit)) ⌝ }
 {
-    let after_key = unsigned(key, 0, values);
+    let after_key = residues(key, 0, values);
     let after_message = signed(message, after_key, values);
-    let after_commitment = unsigned(commitment, after_message, values);
-    let after_rounds = unsigned(rounds, after_commitment, values);
-    let after_challenges = unsigned(challenges, after_rounds, values);
+    let after_commitment = residues(commitment, after_message, values);
+    let after_rounds = residues(rounds, after_commitment, values);
+    let after_challenges = exponents(challenges, after_rounds, values);
     signed(last, after_challenges, values)
 }

@@ -6,38 +6,20 @@ ghost use Rattle.protocol.specs.Text as text;
 ghost use Rattle.protocol.specs.Text.{digitCount, lowDigits};
 ghost use Rattle.table_writer.specs.Put.{fieldRoom, field, Put};
 
-// How many digits a number has.
+// How many digits a number has, up to nineteen; `bound` is 10^count.
 pub fn digit_count(n: u64) -> usize
     ensures { λ r. ⌜ r ≡ digitCount n ⌝ }
 {
-    if n < 10 {
-        return 1;
+    let mut count: usize = 1;
+    let mut bound: u64 = 10;
+    while count < 19 {
+        if n < bound {
+            return count;
+        }
+        bound *= 10;
+        count += 1;
     }
-    if n < 100 {
-        return 2;
-    }
-    if n < 1000 {
-        return 3;
-    }
-    if n < 10000 {
-        return 4;
-    }
-    if n < 100000 {
-        return 5;
-    }
-    if n < 1000000 {
-        return 6;
-    }
-    if n < 10000000 {
-        return 7;
-    }
-    if n < 100000000 {
-        return 8;
-    }
-    if n < 1000000000 {
-        return 9;
-    }
-    10
+    19
 }
 
 // The last digits of a number, the lowest first.

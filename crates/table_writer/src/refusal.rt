@@ -1,8 +1,10 @@
 // What the writer refuses before it looks at the text.
+use protocol::NARROW_LIMIT;
 use protocol::Parts;
+use protocol::Residue;
 use protocol::Settings;
-use protocol::VALUE_LIMIT;
 use ranges::tests::all_below;
+use ranges::tests::all_below_wide;
 use ranges::tests::all_within;
 use ranges::tests::refuse;
 use ranges::tests::settings_refusal;
@@ -16,10 +18,10 @@ ghost use Rattle.table_writer.specs.Tables.{tablesRefusal};
 pub fn tables_refusal(
     settings: Settings,
     parts: Parts,
-    key: &[u32],
+    key: &[Residue],
     message: &[i32],
-    commitment: &[u32],
-    rounds: &[u32],
+    commitment: &[Residue],
+    rounds: &[Residue],
     challenges: &[u32],
     last: &[i32],
 ) -> u32
@@ -36,12 +38,12 @@ pub fn tables_refusal(
     let r8 = refuse(
         r7,
         8,
-        all_below(q, key) & (all_below(q, commitment) & all_below(q, rounds)),
+        all_below_wide(q, key) & (all_below_wide(q, commitment) & all_below_wide(q, rounds)),
     );
     let r9 = refuse(
         r8,
         9,
-        all_within(settings.bound, message) & all_within(VALUE_LIMIT, last),
+        all_within(settings.bound, message) & all_within(NARROW_LIMIT, last),
     );
     let limit = sizes::exponent_count(settings);
     refuse(r9, 10, all_below(limit, challenges))

@@ -16,8 +16,8 @@ pub fn show(bytes: &[u8], out: &mut [u8]) -> usize
     count
 }
 
-// The longest line for a refusal: 8 bytes, 10 digits and a line feed.
-const REFUSAL_LINE: usize = 19;
+// The room for the line of a refusal: 8 bytes, nineteen digits and a line feed.
+const REFUSAL_LINE: usize = 28;
 
 // The line for a refusal.
 pub fn show_refusal(refusal: u32, out: &mut [u8]) -> usize

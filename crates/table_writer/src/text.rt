@@ -1,4 +1,5 @@
 // The text of values.
+use crate::gather::residue_value;
 use crate::gather::value_of;
 use crate::parts::put_part;
 use crate::parts::put_parts;
@@ -38,7 +39,7 @@ pub fn put_settings(settings: Settings, out: &mut [u8]) -> usize
     let values = [
         value_of(settings.degree),
         value_of(settings.depth),
-        value_of(settings.modulus),
+        residue_value(settings.modulus),
         value_of(settings.bound),
     ];
     put_part(settings_shape(), &values, 22, out)

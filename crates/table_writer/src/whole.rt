@@ -4,6 +4,7 @@ use crate::refusal::tables_refusal;
 use crate::text::copy;
 use crate::text::put_text;
 use protocol::Parts;
+use protocol::Residue;
 use protocol::Settings;
 use protocol::TEXT_LIMIT;
 use protocol::Written;
@@ -21,8 +22,8 @@ ghost use Rattle.text_parts.specs.Parts.{tablesOf, partOf, lengthsAre};
 ghost use Rattle.text_parts.specs.Flat.{total};
 ghost use Rattle.table_writer.specs.Tables.{Writable, valuesText, Output};
 
-// The longest line: three numbers, each of at most ten digits with a space behind it, a minus, ten digits and a line feed.
-const LINE: usize = 45;
+// The room for a line: four numbers, each of at most nineteen digits with a byte behind it, and a minus. `lineRoom` of the definitions.
+const LINE: usize = 81;
 
 // The room for the longest text and one line: a line is put only where the text is not too long before it. `textRoom` of the definitions.
 const TEXT_ROOM: usize = TEXT_LIMIT + LINE;
@@ -61,10 +62,10 @@ fn write_values(
 pub fn write_tables(
     settings: Settings,
     parts: Parts,
-    key: &[u32],
+    key: &[Residue],
     message: &[i32],
-    commitment: &[u32],
-    rounds: &[u32],
+    commitment: &[Residue],
+    rounds: &[Residue],
     challenges: &[u32],
     last: &[i32],
     out: &mut [u8],
@@ -98,10 +99,10 @@ pub fn write_tables(
 pub fn write(
     settings: Settings,
     parts: Parts,
-    key: &[u32],
+    key: &[Residue],
     message: &[i32],
-    commitment: &[u32],
-    rounds: &[u32],
+    commitment: &[Residue],
+    rounds: &[Residue],
     challenges: &[u32],
     last: &[i32],
     out: &mut [u8],

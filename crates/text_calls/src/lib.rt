@@ -5,6 +5,7 @@
 mod settings;
 
 use protocol::Parts;
+use protocol::Residue;
 use protocol::Settings;
 use protocol::Verdict;
 use protocol::Verified;
@@ -32,7 +33,7 @@ fn parts_of(bits: u32) -> Parts
 }
 
 // A first look at a text's settings.
-pub fn look(text: &[u8], settings: &mut [u32]) -> u32
+pub fn look(text: &[u8], settings: &mut [u64]) -> u32
     ensures { λ r. ⌜ Looked (now (text .entry)) (now (settings .entry)) r (now (settings .exit)) ⌝ }
 {
     let loaded = text_lines::read_settings(text);
@@ -61,11 +62,11 @@ fn refused(text: &[u8]) -> u32
 pub fn read(
     parts: u32,
     text: &[u8],
-    settings: &mut [u32],
-    key: &mut [u32],
+    settings: &mut [u64],
+    key: &mut [Residue],
     message: &mut [i32],
-    commitment: &mut [u32],
-    rounds: &mut [u32],
+    commitment: &mut [Residue],
+    rounds: &mut [Residue],
     challenges: &mut [u32],
     last: &mut [i32],
 ) -> u32
@@ -98,10 +99,10 @@ pub fn read(
 pub fn write(
     settings: Settings,
     parts: u32,
-    key: &[u32],
+    key: &[Residue],
     message: &[i32],
-    commitment: &[u32],
-    rounds: &[u32],
+    commitment: &[Residue],
+    rounds: &[Residue],
     challenges: &[u32],
     last: &[i32],
     out: &mut [u8],

@@ -22,7 +22,7 @@ use lib.Seq.{drop-drop}
 use lib.IntN.{ℤ, pos, negℤ}
 use Rattle.protocol.specs.declared.Number.{Number}
 use Rattle.protocol.specs.declared.Number.the-variants.{Value, Refused}
-use Rattle.protocol.specs.Text.{valueLimit, minus, keep, digit, digitFirst, digitRun, properDigits, readCount, plain, negative, readNumber, numberAnswer, readNumberAt, readCountAt, reading}
+use Rattle.protocol.specs.Text.{minus, keep, digit, digitFirst, digitRun, properDigits, readCount, plain, negative, readNumber, numberAnswer, readNumberAt, readCountAt, reading}
 use Rattle.protocol.specs.Lines.{givenNumber}
 use Rattle.protocol.proofs.Answers.{number-given}
 use Rattle.protocol.proofs.Tests.{and-split, and-intro}
@@ -105,32 +105,32 @@ run-shorter (b ∷ bs) t =
 
 -- ---- numbers without a sign
 
-module _ (bs : List ℕ) where
-  pub count-improper : properDigits bs ≡ false → readCount bs ≡ none
+module _ (most : ℕ) (bs : List ℕ) where
+  pub count-improper : properDigits bs ≡ false → readCount most bs ≡ none
   unfolding readCount
-  count-improper t = keep-no _ _ (ap (λ p. p && leb (digitRun 0 bs .0) valueLimit) t)
+  count-improper t = keep-no _ _ (ap (λ p. p && leb (digitRun 0 bs .0) most) t)
 
-  pub count-large : properDigits bs ≡ true → valueLimit < digitRun 0 bs .0 → readCount bs ≡ none
+  pub count-large : properDigits bs ≡ true → most < digitRun 0 bs .0 → readCount most bs ≡ none
   unfolding readCount
-  count-large t h = keep-no _ _ (ap (λ p. p && leb (digitRun 0 bs .0) valueLimit) t ∙ lt-leb _ _ h)
+  count-large t h = keep-no _ _ (ap (λ p. p && leb (digitRun 0 bs .0) most) t ∙ lt-leb _ _ h)
 
-  pub count-read : properDigits bs ≡ true → digitRun 0 bs .0 ≤ valueLimit → readCount bs ≡ some (digitRun 0 bs)
+  pub count-read : properDigits bs ≡ true → digitRun 0 bs .0 ≤ most → readCount most bs ≡ some (digitRun 0 bs)
   unfolding readCount
   count-read t h = keep-yes _ _ (and-intro t (le-leb _ _ h))
 
-  module _ (n : ℕ) (rest : List ℕ) (e : readCount bs ≡ some (n, rest)) where
-    whole : (properDigits bs && leb (digitRun 0 bs .0) valueLimit ≡ true) × (digitRun 0 bs ≡ (n, rest))
+  module _ (n : ℕ) (rest : List ℕ) (e : readCount most bs ≡ some (n, rest)) where
+    whole : (properDigits bs && leb (digitRun 0 bs .0) most ≡ true) × (digitRun 0 bs ≡ (n, rest))
     unfolding readCount
     whole = keep-some _ (digitRun 0 bs) (n, rest) e
 
-    pub count-small : n ≤ valueLimit
-    count-small = rw (whole .1) at (leb-true (digitRun 0 bs .0) valueLimit (and-split {a = properDigits bs} {b = leb (digitRun 0 bs .0) valueLimit} (whole .0) .1))
+    pub count-small : n ≤ most
+    count-small = rw (whole .1) at (leb-true (digitRun 0 bs .0) most (and-split {a = properDigits bs} {b = leb (digitRun 0 bs .0) most} (whole .0) .1))
 
     pub count-suffix : Suffix rest bs
     count-suffix = subst (λ r. Suffix (r .1) bs) (whole .1) (run-suffix 0 bs)
 
     pub count-shorter : length rest + 1 ≤ length bs
-    count-shorter = subst (λ r. length (r .1) + 1 ≤ length bs) (whole .1) (run-shorter bs (and-split {a = properDigits bs} {b = leb (digitRun 0 bs .0) valueLimit} (whole .0) .0))
+    count-shorter = subst (λ r. length (r .1) + 1 ≤ length bs) (whole .1) (run-shorter bs (and-split {a = properDigits bs} {b = leb (digitRun 0 bs .0) most} (whole .0) .0))
 
 -- ---- answers
 
@@ -186,33 +186,33 @@ module _ (read : List ℕ → Option (ℕ × List ℕ)) (ends : (bs : List ℕ) 
   plain-missed number e = plain-none _ (answer-refused text _ number e)
 
 -- a number whose first byte is b, by the test whether b is a minus
-abbrev bySign : ℕ → List ℕ → Bool → Option (ℤ × List ℕ)
-bySign b bs m = elim m as (λ _. Option (ℤ × List ℕ)) [ true ↦ negative (readCount bs) | false ↦ plain (readCount (b ∷ bs)) ]
+abbrev bySign : ℕ → ℕ → List ℕ → Bool → Option (ℤ × List ℕ)
+bySign most b bs m = elim m as (λ _. Option (ℤ × List ℕ)) [ true ↦ negative (readCount most bs) | false ↦ plain (readCount most (b ∷ bs)) ]
 
-module _ (text : List ℕ) (at : ℕ) where
-  pub counted : (v : ℤ) (next : ℕ) → readCountAt text at ≡ Value v next → (n : ℕ) × (v ≡ pos n) × Found readCount text at n next
+module _ (most : ℕ) (text : List ℕ) (at : ℕ) where
+  pub counted : (v : ℤ) (next : ℕ) → readCountAt most text at ≡ Value v next → (n : ℕ) × (v ≡ pos n) × Found (readCount most) text at n next
   unfolding readCountAt
-  counted = plain-found readCount count-suffix text at
+  counted = plain-found (readCount most) (count-suffix most) text at
 
-  pub uncounted : (number : ℕ) → readCountAt text at ≡ Refused number → readCount (drop at text) ≡ none
+  pub uncounted : (number : ℕ) → readCountAt most text at ≡ Refused number → readCount most (drop at text) ≡ none
   unfolding readCountAt
-  uncounted = plain-missed readCount count-suffix text at
+  uncounted = plain-missed (readCount most) (count-suffix most) text at
 
   -- a number with a sign, by its first byte
-  pub number-outside : length text ≤ at → readNumber (drop at text) ≡ none
+  pub number-outside : length text ≤ at → readNumber most (drop at text) ≡ none
   unfolding readNumber
-  number-outside h = ap readNumber (drop-of-length-le text h)
+  number-outside h = ap (readNumber most) (drop-of-length-le text h)
 
-  number-inside : at < length text → readNumber (drop at text) ≡ bySign (getD text at 0) (drop (at + 1) text) (eqb (getD text at 0) minus)
+  number-inside : at < length text → readNumber most (drop at text) ≡ bySign most (getD text at 0) (drop (at + 1) text) (eqb (getD text at 0) minus)
   unfolding readNumber
-  number-inside h = ap readNumber (from-cons text at 0 h)
+  number-inside h = ap (readNumber most) (from-cons text at 0 h)
 
-  pub number-plain : at < length text → (getD text at 0 ≡ minus → ⊥) → readNumber (drop at text) ≡ plain (readCount (drop at text))
+  pub number-plain : at < length text → (getD text at 0 ≡ minus → ⊥) → readNumber most (drop at text) ≡ plain (readCount most (drop at text))
   number-plain h n =
-      number-inside h ∙ ap (bySign (getD text at 0) (drop (at + 1) text)) (ne-eqb _ _ n) ∙ ap (λ bs. plain (readCount bs)) (sym (from-cons text at 0 h))
+      number-inside h ∙ ap (bySign most (getD text at 0) (drop (at + 1) text)) (ne-eqb _ _ n) ∙ ap (λ bs. plain (readCount most bs)) (sym (from-cons text at 0 h))
 
-  pub number-minus : at < length text → getD text at 0 ≡ minus → readNumber (drop at text) ≡ negative (readCount (drop (at + 1) text))
-  number-minus h e = number-inside h ∙ ap (bySign (getD text at 0) (drop (at + 1) text)) (eq-eqb _ _ e)
+  pub number-minus : at < length text → getD text at 0 ≡ minus → readNumber most (drop at text) ≡ negative (readCount most (drop (at + 1) text))
+  number-minus h e = number-inside h ∙ ap (bySign most (getD text at 0) (drop (at + 1) text)) (eq-eqb _ _ e)
 
 -- what stands behind a number with a sign ends the text too
 negative-value : (o : Option (ℕ × List ℕ)) (v : ℤ) (rest : List ℕ) → negative o ≡ some (v, rest) → (n : ℕ) × (o ≡ some (n, rest))
@@ -222,33 +222,33 @@ negative-value (some (n, behind)) v rest e =
     let same : _≡_ {A = ℤ × List ℕ} (negℤ (pos n), behind) (v, rest) = keep-some (not (eqb n 0)) _ _ e .1 in
     (n, (λ j. some (n, same j .1)))
 
-either-suffix : (b : ℕ) (bs : List ℕ) (v : ℤ) (rest : List ℕ) (m : Bool) → bySign b bs m ≡ some (v, rest) → Suffix rest (b ∷ bs) × (length rest + 1 ≤ length (b ∷ bs))
-either-suffix b bs v rest true e =
-    let (n, q) = negative-value (readCount bs) v rest e in
-    (suffix-more b (count-suffix bs n rest q), omega (arith, count-shorter bs n rest q))
-either-suffix b bs v rest false e =
-    let (n, w, q) = plain-value (readCount (b ∷ bs)) v rest e in
-    (count-suffix (b ∷ bs) n rest q, count-shorter (b ∷ bs) n rest q)
+either-suffix : (most b : ℕ) (bs : List ℕ) (v : ℤ) (rest : List ℕ) (m : Bool) → bySign most b bs m ≡ some (v, rest) → Suffix rest (b ∷ bs) × (length rest + 1 ≤ length (b ∷ bs))
+either-suffix most b bs v rest true e =
+    let (n, q) = negative-value (readCount most bs) v rest e in
+    (suffix-more b (count-suffix most bs n rest q), omega (arith, count-shorter most bs n rest q))
+either-suffix most b bs v rest false e =
+    let (n, w, q) = plain-value (readCount most (b ∷ bs)) v rest e in
+    (count-suffix most (b ∷ bs) n rest q, count-shorter most (b ∷ bs) n rest q)
 
-number-ends : (bs : List ℕ) (v : ℤ) (rest : List ℕ) → readNumber bs ≡ some (v, rest) → Suffix rest bs × (length rest + 1 ≤ length bs)
+number-ends : (most : ℕ) (bs : List ℕ) (v : ℤ) (rest : List ℕ) → readNumber most bs ≡ some (v, rest) → Suffix rest bs × (length rest + 1 ≤ length bs)
 unfolding readNumber
-number-ends [] v rest e = let z : _≡_ {A = ℕ} 0 1 = cc in absurd (omega arith)
-number-ends (b ∷ bs) v rest e = either-suffix b bs v rest (eqb b minus) e
+number-ends most [] v rest e = let z : _≡_ {A = ℕ} 0 1 = cc in absurd (omega arith)
+number-ends most (b ∷ bs) v rest e = either-suffix most b bs v rest (eqb b minus) e
 
-pub number-suffix : (bs : List ℕ) (v : ℤ) (rest : List ℕ) → readNumber bs ≡ some (v, rest) → Suffix rest bs
-number-suffix bs v rest e = number-ends bs v rest e .0
+pub number-suffix : (most : ℕ) (bs : List ℕ) (v : ℤ) (rest : List ℕ) → readNumber most bs ≡ some (v, rest) → Suffix rest bs
+number-suffix most bs v rest e = number-ends most bs v rest e .0
 
-pub number-shorter : (bs : List ℕ) (v : ℤ) (rest : List ℕ) → readNumber bs ≡ some (v, rest) → length rest + 1 ≤ length bs
-number-shorter bs v rest e = number-ends bs v rest e .1
+pub number-shorter : (most : ℕ) (bs : List ℕ) (v : ℤ) (rest : List ℕ) → readNumber most bs ≡ some (v, rest) → length rest + 1 ≤ length bs
+number-shorter most bs v rest e = number-ends most bs v rest e .1
 
-module _ (text : List ℕ) (at : ℕ) where
-  pub numbered : (v : ℤ) (next : ℕ) → readNumberAt text at ≡ Value v next → Found readNumber text at v next
+module _ (most : ℕ) (text : List ℕ) (at : ℕ) where
+  pub numbered : (v : ℤ) (next : ℕ) → readNumberAt most text at ≡ Value v next → Found (readNumber most) text at v next
   unfolding readNumberAt
   numbered v next e =
-      let (rest, o, p) = answer-value text (readNumber (drop at text)) v next e in
-      subst (Found readNumber text at v) (sym p) (found readNumber text at v rest (number-suffix (drop at text) v rest o) o)
+      let (rest, o, p) = answer-value text (readNumber most (drop at text)) v next e in
+      subst (Found (readNumber most) text at v) (sym p) (found (readNumber most) text at v rest (number-suffix most (drop at text) v rest o) o)
 
-  pub unnumbered : (number : ℕ) → readNumberAt text at ≡ Refused number → readNumber (drop at text) ≡ none
+  pub unnumbered : (number : ℕ) → readNumberAt most text at ≡ Refused number → readNumber most (drop at text) ≡ none
   unfolding readNumberAt
   unnumbered number e = answer-refused text _ number e
 
@@ -257,11 +257,11 @@ module _ (text : List ℕ) (at : ℕ) where
 pub answer-both : (text : List ℕ) (o : Option (ℤ × List ℕ)) (r : Number) → r ≡ numberAnswer text o → (r ≡ numberAnswer text o) × (reading r ≡ givenNumber text o)
 answer-both text o r e = (e, ap reading e ∙ number-given text o)
 
-module _ (text : List ℕ) (at : ℕ) (r : Number) where
-  pub count-both : r ≡ readCountAt text at → (r ≡ readCountAt text at) × (reading r ≡ givenNumber text (plain (readCount (drop at text))))
+module _ (most : ℕ) (text : List ℕ) (at : ℕ) (r : Number) where
+  pub count-both : r ≡ readCountAt most text at → (r ≡ readCountAt most text at) × (reading r ≡ givenNumber text (plain (readCount most (drop at text))))
   unfolding readCountAt
-  count-both e = answer-both text (plain (readCount (drop at text))) r e
+  count-both e = answer-both text (plain (readCount most (drop at text))) r e
 
-  pub number-both : r ≡ readNumberAt text at → (r ≡ readNumberAt text at) × (reading r ≡ givenNumber text (readNumber (drop at text)))
+  pub number-both : r ≡ readNumberAt most text at → (r ≡ readNumberAt most text at) × (reading r ≡ givenNumber text (readNumber most (drop at text)))
   unfolding readNumberAt
-  number-both e = answer-both text (readNumber (drop at text)) r e
+  number-both e = answer-both text (readNumber most (drop at text)) r e

@@ -19,7 +19,7 @@ use Rattle.protocol.specs.declared.Loaded.{Loaded}
 use Rattle.protocol.specs.Basic.{tabulate, choose, first, unless, granted}
 use Rattle.protocol.specs.Settings.{settingsRefusal}
 use Rattle.protocol.specs.Text.{Spot, Line, textLimit, shape, settingsShape, shapeSize, spots, names, readLines, beginsWithNames, parsed, linesOf, sameSpots, spotsOf}
-use Rattle.protocol.specs.Text.{valuesOf, wellFormed, unsigned, settingIn, settingsIn, noSettings, lookRefusal, loaded}
+use Rattle.protocol.specs.Text.{valueLimit, narrowLimit, valuesOf, wellFormed, unsigned, settingIn, settingsIn, noSettings, lookRefusal, loaded}
 use Rattle.protocol.proofs.Refusals.{first-fails, first-holds, first-only}
 use Rattle.text_lines.specs.declared.header.Header.{Header}
 use Rattle.protocol.specs.Lines.{present, readValues, allLines, settingsOf, readSettings}
@@ -92,10 +92,10 @@ front-count ls e = sym (map-length ls) ∙ ap length e ∙ settings-count
 settings-front : (vs ws : List ℤ) → length vs ≡ 4 → settingsOf (vs ++ ws) ≡ settingsOf vs
 unfolding settingsOf
 settings-front vs ws e = λ j. record {
-  degree = unsigned (List·getD-append vs ws (pos 0) 0 (omega arith) j);
-  depth = unsigned (List·getD-append vs ws (pos 0) 1 (omega arith) j);
-  modulus = unsigned (List·getD-append vs ws (pos 0) 2 (omega arith) j);
-  bound = unsigned (List·getD-append vs ws (pos 0) 3 (omega arith) j);
+  degree = unsigned narrowLimit (List·getD-append vs ws (pos 0) 0 (omega arith) j);
+  depth = unsigned narrowLimit (List·getD-append vs ws (pos 0) 1 (omega arith) j);
+  modulus = unsigned valueLimit (List·getD-append vs ws (pos 0) 2 (omega arith) j);
+  bound = unsigned narrowLimit (List·getD-append vs ws (pos 0) 3 (omega arith) j);
 }
 
 -- ---- a text that does not begin with settings

@@ -21,7 +21,7 @@ use lib.IntN.{ℤ, pos}
 use Rattle.protocol.specs.declared.Number.{Number}
 use Rattle.protocol.specs.declared.Number.the-variants.{Value, Refused}
 use Rattle.protocol.specs.declared.Entry.{Entry}
-use Rattle.protocol.specs.Text.{Line, space, lineFeed, valueLimit, keep, properDigits, readCount, readNumber, byte, plain, readIndex, readLine, readLines, reading}
+use Rattle.protocol.specs.Text.{Line, space, lineFeed, narrowLimit, limitOf, keep, properDigits, readCount, readNumber, byte, plain, readIndex, readLine, readLines, reading}
 use Rattle.protocol.specs.declared.Entry.the-variants.{Found as Line-at, Malformed}
 use Rattle.protocol.specs.Lines.{present, givenNumber, readIndexAt, lineReading, givenLine, lineAnswer, readLineAt, allLines}
 use Rattle.protocol.proofs.Answers.{line-given}
@@ -94,14 +94,14 @@ module _ (c : ℕ) (text : List ℕ) (at : ℕ) (t : present (byte c (drop at te
 
 -- ---- columns
 
-pub column-uncounted : (bs : List ℕ) → readCount bs ≡ none → readIndex bs ≡ none
+pub column-uncounted : (bs : List ℕ) → readCount narrowLimit bs ≡ none → readIndex bs ≡ none
 unfolding readIndex bind
-column-uncounted bs e = bind-none (readCount bs) _ e
+column-uncounted bs e = bind-none (readCount narrowLimit bs) _ e
 
-module _ (bs : List ℕ) (n : ℕ) (behind : List ℕ) (e : readCount bs ≡ some (n, behind)) where
+module _ (bs : List ℕ) (n : ℕ) (behind : List ℕ) (e : readCount narrowLimit bs ≡ some (n, behind)) where
   column-counted : readIndex bs ≡ bind (byte space behind) (λ rest. some (n, rest))
   unfolding readIndex
-  column-counted = bind-some (readCount bs) (n, behind) _ e
+  column-counted = bind-some (readCount narrowLimit bs) (n, behind) _ e
 
   pub column-unspaced : byte space behind ≡ none → readIndex bs ≡ none
   column-unspaced f = column-counted ∙ bind-none (byte space behind) _ f
@@ -128,22 +128,22 @@ unfolding bind
 counted-value n rest none e = let z : _≡_ {A = ℕ} 0 1 = cc in absurd (omega arith)
 counted-value n rest (some (m, behind)) e = let s = spaced-value m n rest (byte space behind) e in (behind, (λ j. some (s .0 j, behind)), s .1)
 
-column-value : (bs : List ℕ) (n : ℕ) (rest : List ℕ) → readIndex bs ≡ some (n, rest) → (behind : List ℕ) × (readCount bs ≡ some (n, behind)) × (byte space behind ≡ some rest)
+column-value : (bs : List ℕ) (n : ℕ) (rest : List ℕ) → readIndex bs ≡ some (n, rest) → (behind : List ℕ) × (readCount narrowLimit bs ≡ some (n, behind)) × (byte space behind ≡ some rest)
 unfolding readIndex
-column-value bs n rest e = counted-value n rest (readCount bs) e
+column-value bs n rest e = counted-value n rest (readCount narrowLimit bs) e
 
 pub column-suffix : (bs : List ℕ) (n : ℕ) (rest : List ℕ) → readIndex bs ≡ some (n, rest) → Suffix rest bs
 column-suffix bs n rest e =
     let (behind, p, q) = column-value bs n rest e in
-    suffix-of (byte-suffix space behind rest q) (count-suffix bs n behind p)
+    suffix-of (byte-suffix space behind rest q) (count-suffix narrowLimit bs n behind p)
 
 column-shorter : (bs : List ℕ) (n : ℕ) (rest : List ℕ) → readIndex bs ≡ some (n, rest) → length rest + 2 ≤ length bs
 column-shorter bs n rest e =
     let (behind, p, q) = column-value bs n rest e in
-    omega (arith, byte-shorter space behind rest q, count-shorter bs n behind p)
+    omega (arith, byte-shorter space behind rest q, count-shorter narrowLimit bs n behind p)
 
-pub column-small : (bs : List ℕ) (n : ℕ) (rest : List ℕ) → readIndex bs ≡ some (n, rest) → n ≤ valueLimit
-column-small bs n rest e = let (behind, p, q) = column-value bs n rest e in count-small bs n behind p
+pub column-small : (bs : List ℕ) (n : ℕ) (rest : List ℕ) → readIndex bs ≡ some (n, rest) → n ≤ narrowLimit
+column-small bs n rest e = let (behind, p, q) = column-value bs n rest e in count-small narrowLimit bs n behind p
 
 -- what an answer says of a column
 module _ (text : List ℕ) (at : ℕ) where
@@ -168,7 +168,7 @@ unfoldable pub line₄ : ℕ → ℕ → ℕ → ℤ × List ℕ → Option (Lin
 line₄ part item place r = bind (byte lineFeed (r .1)) (λ end. some (line part item place (r .0), end))
 
 unfoldable pub line₃ : ℕ → ℕ → ℕ × List ℕ → Option (Line × List ℕ)
-line₃ part item r = bind (readNumber (r .1)) (line₄ part item (r .0))
+line₃ part item r = bind (readNumber (limitOf part) (r .1)) (line₄ part item (r .0))
 
 unfoldable pub line₂ : ℕ → ℕ × List ℕ → Option (Line × List ℕ)
 line₂ part r = bind (readIndex (r .1)) (line₃ part (r .0))
@@ -189,7 +189,7 @@ record Columns (bs : List ℕ) (l : Line) (rest : List ℕ) : Type 0 where
   part-is : readIndex bs ≡ some (l .spot .part, itemOn)
   item-is : readIndex itemOn ≡ some (l .spot .item, placeOn)
   place-is : readIndex placeOn ≡ some (l .spot .place, valueOn)
-  value-is : readNumber valueOn ≡ some (l .value, behind)
+  value-is : readNumber (limitOf (l .spot .part)) valueOn ≡ some (l .value, behind)
   end-is : byte lineFeed behind ≡ some rest
 
 ended-value : (m l : Line) (rest : List ℕ) (o : Option (List ℕ)) → _≡_ {A = Option (Line × List ℕ)} (bind o (λ end. some (m, end))) (some (l, rest)) → (m ≡ l) × (o ≡ some rest)
@@ -201,7 +201,7 @@ ended-value m l rest (some end) e =
 
 module _ (bs : List ℕ) (l : Line) (rest : List ℕ) (e : readLine bs ≡ some (l, rest)) where
   columns₄ : (part item place : ℕ) (itemOn placeOn valueOn : List ℕ) (r : ℤ × List ℕ) → readIndex bs ≡ some (part, itemOn) → readIndex itemOn ≡ some (item, placeOn)
-      → readIndex placeOn ≡ some (place, valueOn) → readNumber valueOn ≡ some r → line₄ part item place r ≡ some (l, rest) → Columns bs l rest
+      → readIndex placeOn ≡ some (place, valueOn) → readNumber (limitOf part) valueOn ≡ some r → line₄ part item place r ≡ some (l, rest) → Columns bs l rest
   unfolding line₄
   columns₄ part item place itemOn placeOn valueOn r p i k v f =
       let (same, end) = ended-value (line part item place (r .0)) l rest (byte lineFeed (r .1)) f in
@@ -213,7 +213,7 @@ module _ (bs : List ℕ) (l : Line) (rest : List ℕ) (e : readLine bs ≡ some 
         part-is = p ∙ (λ j. some (same j .spot .part, itemOn));
         item-is = i ∙ (λ j. some (same j .spot .item, placeOn));
         place-is = k ∙ (λ j. some (same j .spot .place, valueOn));
-        value-is = v ∙ (λ j. some (same j .value, r .1));
+        value-is = ap (λ m. readNumber (limitOf (m .spot .part)) valueOn) (sym same) ∙ v ∙ (λ j. some (same j .value, r .1));
         end-is = end;
       }
 
@@ -223,13 +223,13 @@ module _ (bs : List ℕ) (l : Line) (rest : List ℕ) (e : readLine bs ≡ some 
       let (p, p-is, p-then) = bind-value (readIndex bs) line₁ (l, rest) (sym (line-columns bs) ∙ e) in
       let (i, i-is, i-then) = bind-value (readIndex (p .1)) (line₂ (p .0)) (l, rest) p-then in
       let (k, k-is, k-then) = bind-value (readIndex (i .1)) (line₃ (p .0) (i .0)) (l, rest) i-then in
-      let (v, v-is, v-then) = bind-value (readNumber (k .1)) (line₄ (p .0) (i .0) (k .0)) (l, rest) k-then in
+      let (v, v-is, v-then) = bind-value (readNumber (limitOf (p .0)) (k .1)) (line₄ (p .0) (i .0) (k .0)) (l, rest) k-then in
       columns₄ (p .0) (i .0) (k .0) (p .1) (i .1) (k .1) v p-is i-is k-is v-is v-then
 
   pub line-suffix : Suffix rest bs
   line-suffix =
       suffix-of (byte-suffix lineFeed (columns .behind) rest (columns .end-is))
-      (suffix-of (number-suffix (columns .valueOn) (l .value) (columns .behind) (columns .value-is))
+      (suffix-of (number-suffix (limitOf (l .spot .part)) (columns .valueOn) (l .value) (columns .behind) (columns .value-is))
       (suffix-of (column-suffix (columns .placeOn) (l .spot .place) (columns .valueOn) (columns .place-is))
       (suffix-of (column-suffix (columns .itemOn) (l .spot .item) (columns .placeOn) (columns .item-is))
       (column-suffix bs (l .spot .part) (columns .itemOn) (columns .part-is)))))
@@ -240,7 +240,7 @@ module _ (bs : List ℕ) (l : Line) (rest : List ℕ) (e : readLine bs ≡ some 
       omega (
         arith,
         byte-shorter lineFeed (columns .behind) rest (columns .end-is),
-        number-shorter (columns .valueOn) (l .value) (columns .behind) (columns .value-is),
+        number-shorter (limitOf (l .spot .part)) (columns .valueOn) (l .value) (columns .behind) (columns .value-is),
         column-shorter (columns .placeOn) (l .spot .place) (columns .valueOn) (columns .place-is),
         column-shorter (columns .itemOn) (l .spot .item) (columns .placeOn) (columns .item-is),
         column-shorter bs (l .spot .part) (columns .itemOn) (columns .part-is),

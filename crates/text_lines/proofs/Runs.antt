@@ -2,7 +2,7 @@
 --
 --   digit-below, digit-from   a test on a byte, from its range
 --   first-.., proper-..       the same for the byte at a place
---   kept r                    a run whose number is kept at most `most`
+--   kept r                    a run whose number is kept at most `pastLimit`
 --   run-digit, run-end        one digit more, and the end of a run
 use mathlib.Core.Path.{_≡_, refl, sym, ap, _∙_}
 use mathlib.Core.Bool.{Bool, true, false, _&&_, not, false≢true}
@@ -15,7 +15,7 @@ use lib.ListN.{length, getD, drop, length-drop}
 use Rattle.protocol.specs.Text.{digit, digitFirst, properDigits, digitRun}
 use Rattle.protocol.proofs.NumeralLaws.{digitRun-on, digitRun-stop}
 use Rattle.protocol.proofs.PlaceLaws.{digitFirst-inside}
-use Rattle.text_lines.specs.Digits.{most}
+use Rattle.text_lines.specs.Digits.{pastLimit}
 use Rattle.text_parts.proofs.From.{from-cons}
 
 -- ---- one byte
@@ -40,15 +40,7 @@ unfolding digitFirst properDigits
 none-proper [] t = refl
 none-proper (b ∷ bs) t = ap (λ d. d && not (eqb b 48 && digitFirst bs)) t
 
-some-proper : (bs : List ℕ) → properDigits bs ≡ true → 0 < length bs
-unfolding properDigits
-some-proper [] t = absurd (false≢true t)
-some-proper (b ∷ bs) t = omega arith
-
 module _ (text : List ℕ) (i : ℕ) where
-  pub proper-place : properDigits (drop i text) ≡ true → i < length text
-  proper-place t = omega (arith, some-proper (drop i text) t, length-drop i text)
-
   pub first-place : digitFirst (drop i text) ≡ true → i < length text
   first-place t = omega (arith, some-first (drop i text) t, length-drop i text)
 
@@ -70,24 +62,24 @@ module _ (text : List ℕ) (i : ℕ) where
 
 -- ---- the number of a run
 
--- a run whose number is kept at most `most`
+-- a run whose number is kept at most `pastLimit`
 abbrev pub kept : ℕ × List ℕ → ℕ × List ℕ
-kept r = (min (r .0) most, r .1)
+kept r = (min (r .0) pastLimit, r .1)
 
 -- a run of one byte more, by the test on that byte
 abbrev onward : ℕ → ℕ → List ℕ → Bool → ℕ × List ℕ
 onward n b bs d = elim d as (λ _. ℕ × List ℕ) [ true ↦ digitRun (n * 10 + (b - 48)) bs | false ↦ (n, b ∷ bs) ]
 
 -- numbers that are kept the same stay so with every digit more
-kept-next : (n m d : ℕ) → min n most ≡ min m most → min (n * 10 + d) most ≡ min (m * 10 + d) most
+kept-next : (n m d : ℕ) → min n pastLimit ≡ min m pastLimit → min (n * 10 + d) pastLimit ≡ min (m * 10 + d) pastLimit
 kept-next n m d e = omega arith
 
-kept-either : (n m b : ℕ) (bs : List ℕ) → min n most ≡ min m most → kept (digitRun (n * 10 + (b - 48)) bs) ≡ kept (digitRun (m * 10 + (b - 48)) bs)
+kept-either : (n m b : ℕ) (bs : List ℕ) → min n pastLimit ≡ min m pastLimit → kept (digitRun (n * 10 + (b - 48)) bs) ≡ kept (digitRun (m * 10 + (b - 48)) bs)
     → (d : Bool) → kept (onward n b bs d) ≡ kept (onward m b bs d)
 kept-either n m b bs e more true = more
 kept-either n m b bs e more false = λ j. (e j, b ∷ bs)
 
-pub kept-same : (n m : ℕ) (bs : List ℕ) → min n most ≡ min m most → kept (digitRun n bs) ≡ kept (digitRun m bs)
+pub kept-same : (n m : ℕ) (bs : List ℕ) → min n pastLimit ≡ min m pastLimit → kept (digitRun n bs) ≡ kept (digitRun m bs)
 unfolding digitRun
 kept-same n m [] e = λ j. (e j, [])
 kept-same n m (b ∷ bs) e = kept-either n m b bs e (kept-same (n * 10 + (b - 48)) (m * 10 + (b - 48)) bs (kept-next n m (b - 48) e)) (digit b)

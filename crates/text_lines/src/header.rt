@@ -2,7 +2,9 @@
 use crate::lines::all_lines;
 use crate::lines::value_at;
 use protocol::Loaded;
+use protocol::NARROW_LIMIT;
 use protocol::Number;
+use protocol::Residue;
 use protocol::Settings;
 use protocol::TEXT_LIMIT;
 use protocol::VALUE_LIMIT;
@@ -10,14 +12,12 @@ use ranges::tests::settings_refusal;
 use text_names::begins_with_names;
 ghost use mathlib.Core.Path.{_≡_};
 ghost use mathlib.Core.Bool.{false};
+ghost use Prim.Native.Nat.{_≤_};
 ghost use lib.ListN.{drop};
 ghost use Rattle.protocol.specs.Basic.{choose};
-ghost use Rattle.protocol.specs.Text.{unsigned as unsignedOf, noSettings, lookAnswer};
+ghost use Rattle.protocol.specs.Text.{valueLimit, narrowLimit, unsigned as unsignedOf, noSettings, lookAnswer};
 ghost use Rattle.protocol.specs.Lines.{present, allLines, readSettings, begunAnswer};
 ghost use Rattle.text_lines.specs.Header.{headerAnswer};
-
-// One past the largest magnitude, which no setting, residue or exponent reaches.
-const PAST_LIMIT: u32 = VALUE_LIMIT + 1;
 
 // The settings of a text and the place behind them; `found` is false where the text does not begin with them.
 pub struct Header {
@@ -62,14 +62,32 @@ pub fn refused(refusal: u32) -> Loaded
     Loaded { refusal, settings }
 }
 
-// A value where a number from 0 on is wanted: one that is below zero counts as out of every range.
-pub fn unsigned(value: i32) -> u32
-    ensures { λ r. ⌜ r ≡ unsignedOf value ⌝ }
+// A value where a number from 0 to `most` is wanted: any other counts as one past it, which no setting, residue or exponent reaches.
+fn unsigned(most: u64, value: i64) -> u64
+    requires { ⌜ most ≤ valueLimit ⌝ }
+    ensures { λ r. ⌜ r ≡ unsignedOf most value ⌝ }
 {
     if value < 0 {
-        return PAST_LIMIT;
+        return most + 1;
     }
-    value as u32
+    if value as u64 > most {
+        return most + 1;
+    }
+    value as u64
+}
+
+// A value where a modulus or a residue is wanted.
+pub fn unsigned_wide(value: i64) -> Residue
+    ensures { λ r. ⌜ r ≡ unsignedOf valueLimit value ⌝ }
+{
+    unsigned(VALUE_LIMIT, value)
+}
+
+// A value where another setting or a challenge is wanted.
+pub fn unsigned_narrow(value: i64) -> u32
+    ensures { λ r. ⌜ r ≡ unsignedOf narrowLimit value ⌝ }
+{
+    unsigned(NARROW_LIMIT as u64, value) as u32
 }
 
 // The names line and the lines of part 0: degree, depth, modulus and bound.
@@ -104,10 +122,10 @@ pub fn read_header(text: &[u8]) -> Header
         return no_header();
     };
     let settings = Settings {
-        degree: unsigned(degree),
-        depth: unsigned(depth),
-        modulus: unsigned(modulus),
-        bound: unsigned(bound),
+        degree: unsigned_narrow(degree),
+        depth: unsigned_narrow(depth),
+        modulus: unsigned_wide(modulus),
+        bound: unsigned_narrow(bound),
     };
     Header {
         found: true,

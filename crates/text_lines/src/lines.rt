@@ -1,11 +1,13 @@
 // The line reader.
+use crate::numbers::number_within;
 use crate::numbers::read_count;
-use crate::numbers::read_number;
 use protocol::Entry;
+use protocol::NARROW_LIMIT;
 use protocol::Number;
+use protocol::VALUE_LIMIT;
 ghost use mathlib.Core.Path.{_≡_};
 ghost use lib.ListN.{drop};
-ghost use Rattle.protocol.specs.Text.{byte as behindByte, plain, readIndex, readLine, numberAnswer, reading};
+ghost use Rattle.protocol.specs.Text.{limitOf, byte as behindByte, plain, readIndex, readLine, numberAnswer, readNumberAt, reading};
 ghost use Rattle.protocol.specs.Lines.{present, givenNumber, readIndexAt, lineReading, givenLine, readLineAt, allLines, spot, readValue};
 
 // Does this byte stand at a place.
@@ -35,6 +37,25 @@ fn read_index(text: &[u8], at: usize) -> Number
     }
 }
 
+// The largest magnitude of a value in a line of a part.
+fn limit_of(part: u32) -> u64
+    ensures { λ r. ⌜ r ≡ limitOf part ⌝ }
+{
+    match part {
+        2 => NARROW_LIMIT as u64,
+        5 => NARROW_LIMIT as u64,
+        6 => NARROW_LIMIT as u64,
+        _ => VALUE_LIMIT,
+    }
+}
+
+// The value of a line of a part.
+fn value_of(part: u32, text: &[u8], at: usize) -> Number
+    ensures { λ r. ⌜ r ≡ readNumberAt (limitOf part) (now (text .entry)) at ⌝ }
+{
+    number_within(limit_of(part), text, at)
+}
+
 // The line at a place, which may be any number.
 pub fn read_line(text: &[u8], at: usize) -> Entry
     ensures answer { λ r. ⌜ r ≡ readLineAt (now (text .entry)) at ⌝ }
@@ -61,14 +82,15 @@ pub fn read_line(text: &[u8], at: usize) -> Entry
     else {
         return Entry::Malformed;
     };
-    let Number::Value { value, next } = read_number(text, value_on) else {
+    let part = part as u32;
+    let Number::Value { value, next } = value_of(part, text, value_on) else {
         return Entry::Malformed;
     };
     if !stands(text, next, 10) {
         return Entry::Malformed;
     }
     Entry::Found {
-        part: part as u32,
+        part,
         item: item as u32,
         place: place as u32,
         value,

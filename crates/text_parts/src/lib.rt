@@ -1,5 +1,6 @@
 // The parts of a text: what their lines are. One description for the reader and for the writer.
 use protocol::Parts;
+use protocol::Residue;
 use protocol::SLOTS;
 use protocol::Settings;
 use protocol::TEXT_LIMIT;
@@ -130,10 +131,10 @@ pub fn tested_by(k: usize) -> u32
 
 // How long the tables are.
 pub fn lengths_of(
-    key: &[u32],
+    key: &[Residue],
     message: &[i32],
-    commitment: &[u32],
-    rounds: &[u32],
+    commitment: &[Residue],
+    rounds: &[Residue],
     challenges: &[u32],
     last: &[i32],
 ) -> [usize; TABLES]

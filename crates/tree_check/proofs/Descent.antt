@@ -17,7 +17,7 @@ use Rattle.protocol.proofs.Agreement.{Alike}
 use Rattle.protocol.proofs.Paths.{halfLeft-height}
 use Rattle.protocol.proofs.TreeKeys.{tree-alike}
 use Rattle.protocol.proofs.Places.{AtNode, leaf-cells, twice-cells, height-is, deeper}
-use Rattle.tree_check.specs.Nodes.{leafMet, childAccepted}
+use Rattle.tree_check.specs.Nodes.{Reduced, leafMet, childAccepted}
 use Rattle.tree_check.proofs.Workspace.{fold-kept, child-below, child-alike}
 
 module _ (S : Settings) (rounds E : List ℕ) (finals : List ℤ) (h k first space : ℕ) (A : AtNode S h k first space) where
@@ -28,6 +28,9 @@ module _ (S : Settings) (rounds E : List ℕ) (finals : List ℤ) (h k first spa
   leaf-tests low claim W =
       (λ i. leafMet S finals (k - A .first-is i) claim ((tail-all d W ∙ ap (λ x. drop x W) (sym (leaf-cells S h k first space A low))) i))
       ∙ ap (λ x. treeAccepted S rounds E finals x k (L - h) claim (drop (2 ^ h * d) W)) (sym low)
+
+  pub leaf-below : h ≡ 0 → (W : List ℕ) → Reduced S (drop (2 ^ h * d) W) → Reduced S (take (length W - d) (drop d W))
+  leaf-below low W = subst (Reduced S) (sym (tail-all d W ∙ ap (λ x. drop x W) (sym (leaf-cells S h k first space A low))))
 
   module _ (up : 0 < h) where
     pub node-tests : (claim key : List ℕ) → treeAccepted S rounds E finals h k (L - h) claim key

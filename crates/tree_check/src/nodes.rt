@@ -58,7 +58,7 @@ fn leaf_accepted(
 ) -> bool
     requires { ⌜ (settingsRefusal settings ≡ 0) × (j * settings .degree + settings .degree ≤ length (now leaves)) × (settings .degree ≤ length (now claim))
         × (settings .degree ≤ length (now folded)) ⌝ }
-    ensures { λ r. ⌜ r ≡ leafMet settings (now (leaves .entry)) j (now (claim .entry)) (now (folded .entry)) ⌝ }
+    ensures { λ r. ⌜ Provided (Reduced settings (now (folded .entry))) (r ≡ leafMet settings (now (leaves .entry)) j (now (claim .entry)) (now (folded .entry))) ⌝ }
 {
     let at = (j as usize) * (settings.degree as usize);
     equations::end_holds(settings, claim, &leaves[at..], folded)
@@ -94,7 +94,7 @@ fn child_accepted(
         ((r ≡ childAccepted settings (now (rounds .entry)) (now (challenges .entry)) (now (leaves .entry)) h k (drop (2 ^ h * settings .degree) (now (ws .entry))) j)
         × (drop (2 ^ h * settings .degree) (now (ws .exit)) ≡ drop (2 ^ h * settings .degree) (now (ws .entry)))) ⌝ }
 {
-    let mut claim = [0u32; WIDTH];
+    let mut claim = [0u64; WIDTH];
     claim_to(settings, k, j, rounds, challenges, &mut claim);
     fold_key(settings, h, challenge(challenges, k, j), ws);
     let half = ws.len() / 2;
@@ -149,7 +149,7 @@ fn subtree_accepted(
 const ROOM: usize = 2 * 256 * WIDTH;
 
 fn room() -> [Residue; ROOM] {
-    [0u32; ROOM]
+    [0u64; ROOM]
 }
 
 // The root: its claim is the commitment and its key the unfolded one.

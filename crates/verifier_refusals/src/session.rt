@@ -58,7 +58,7 @@ pub fn end(session: Session, key: &[Residue]) -> u32
     let r8 = refuse(
         r7,
         8,
-        tests::all_below(q, key) & tests::element_below(q, d, claim),
+        tests::all_below_wide(q, key) & tests::element_below(q, d, claim),
     );
     let limit = sizes::exponent_count(settings);
     let r10 = refuse(r8, 10, tests::all_below(limit, &challenges));

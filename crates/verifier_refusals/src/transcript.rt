@@ -31,9 +31,9 @@ pub fn check(
     let r8 = refuse(
         r7,
         8,
-        tests::all_below(q, key)
+        tests::all_below_wide(q, key)
             & tests::element_below(q, settings.degree, commitment)
-            & tests::all_below(q, rounds),
+            & tests::all_below_wide(q, rounds),
     );
     let limit = sizes::exponent_count(settings);
     refuse(r8, 10, tests::all_below(limit, challenges))

@@ -1,5 +1,6 @@
 // The program `verify` as a call on text: its settings, its tables, and the check of its transcript.
 use protocol::Parts;
+use protocol::Residue;
 use protocol::SLOTS;
 use protocol::Settings;
 use protocol::Verified;
@@ -37,9 +38,9 @@ fn reads() -> Parts
 // The answer for tables of which nothing is refused.
 fn answer(
     settings: Settings,
-    key: &[u32],
-    commitment: &[u32],
-    rounds: &[u32],
+    key: &[Residue],
+    commitment: &[Residue],
+    rounds: &[Residue],
     challenges: &[u32],
     last: &[i32],
 ) -> Verified
@@ -58,10 +59,10 @@ fn verify_in(
     text: &[u8],
     settings: Settings,
     from: usize,
-    key: &mut [u32],
+    key: &mut [Residue],
     message: &mut [i32],
-    commitment: &mut [u32],
-    rounds: &mut [u32],
+    commitment: &mut [Residue],
+    rounds: &mut [Residue],
     challenges: &mut [u32],
     last: &mut [i32],
 ) -> Verified
@@ -91,10 +92,10 @@ fn verify_in(
 // The call with tables that have room for every text: their first numbers, as many as the settings ask for, are lent.
 fn verify_within(
     text: &[u8],
-    key: &mut [u32],
+    key: &mut [Residue],
     message: &mut [i32],
-    commitment: &mut [u32],
-    rounds: &mut [u32],
+    commitment: &mut [Residue],
+    rounds: &mut [Residue],
     challenges: &mut [u32],
     last: &mut [i32],
 ) -> Verified
@@ -129,10 +130,10 @@ pub fn verify(text: &[u8]) -> Verified
     ensures answer { λ r. ⌜ r ≡ verifyAnswer (now (text .entry)) ⌝ }
     ensures numbers { λ r. ⌜ checked r ≡ verifyGives (now (text .entry)) ⌝ }
 {
-    let mut key = [0u32; CELLS];
+    let mut key = [0u64; CELLS];
     let mut message = [0i32; 1];
-    let mut commitment = [0u32; WIDTH];
-    let mut rounds = [0u32; ROUND_CELLS];
+    let mut commitment = [0u64; WIDTH];
+    let mut rounds = [0u64; ROUND_CELLS];
     let mut challenges = [0u32; SLOTS];
     let mut last = [0i32; WIDTH];
     verify_within(

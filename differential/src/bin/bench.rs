@@ -21,12 +21,27 @@ use reference::draw::tree::{honest_at, Tree};
 use reference::fast;
 use reference::random::Random;
 use reference::refuse::GROWTH;
-use reference::types::{Parts, Settings, Verification, ACCEPTED, LONGEST_TEXT};
+use reference::types::{
+    Parts, Residue, Settings, Verification, ACCEPTED, LARGEST_MODULUS, LONGEST_TEXT,
+};
 use std::hint::black_box;
 use std::time::Duration;
 
 /// The largest prime below 2^31.
-const Q: u32 = 2_147_483_647;
+const Q: Residue = 2_147_483_647;
+
+/// The name of a row: a modulus past 31 bits is named.
+fn name(call: &str, s: Settings) -> String {
+    format!("{call}, d = {}, L = {}{}", s.degree, s.depth, wide(s))
+}
+
+fn wide(s: Settings) -> &'static str {
+    if s.modulus == LARGEST_MODULUS {
+        ", q = 2^61-1"
+    } else {
+        ""
+    }
+}
 
 struct Table {
     repetitions: usize,
@@ -74,7 +89,7 @@ impl Table {
         let OpeningInput { key, message, .. } = opening_at(&mut Random::new(7), s);
         let mut out = vec![0; s.degree as usize];
         self.row(
-            &format!("commit, d = {}, L = {}", s.degree, s.depth),
+            &name("commit", s),
             &mut || {
                 let number = verified::commit(s, black_box(&key), black_box(&message), &mut out);
                 assert_eq!(black_box(number), 0);
@@ -90,7 +105,7 @@ impl Table {
     fn check(&self, s: Settings) {
         let t = transcript::honest_at(&mut Random::new(7), s);
         self.row(
-            &format!("check, d = {}, L = {}", s.degree, s.depth),
+            &name("check", s),
             &mut || honest::check(black_box(&t)),
             &mut || {
                 let t = black_box(&t);
@@ -107,7 +122,7 @@ impl Table {
         let commitment = fast::commit(s, &key, &message).commitment;
         let w: Vec<i64> = message.iter().map(|&x| i64::from(x)).collect();
         self.row(
-            &format!("judge, d = {}, L = {}", s.degree, s.depth),
+            &name("judge", s),
             &mut || {
                 let mut yes = 0;
                 let c = &commitment[..s.degree as usize];
@@ -127,7 +142,7 @@ impl Table {
         let d = s.degree as usize;
         let (mut commitment, mut last) = (vec![0; d], vec![0; d]);
         self.turns(
-            &format!("open, d = {}, L = {}", s.degree, s.depth),
+            &name("open", s),
             self.label,
             &mut || {
                 let mut t = input.clone();
@@ -168,7 +183,7 @@ impl Table {
         let d = s.degree as usize;
         let (mut ours, mut theirs) = (vec![0; d], vec![0; d]);
         self.turns(
-            &format!("commit, d = {}, L = {}", s.degree, s.depth),
+            &name("commit", s),
             &other.name,
             &mut || {
                 timed(|| {
@@ -192,7 +207,7 @@ impl Table {
         };
         let (mut ours, mut theirs) = (new(), new());
         self.turns(
-            &format!("open, d = {}, L = {}", s.degree, s.depth),
+            &name("open", s),
             &other.name,
             &mut || {
                 let mut t = input.clone();
@@ -218,7 +233,7 @@ impl Table {
         let t = transcript::honest_at(&mut Random::new(7), s);
         let (c, f) = (t.commitment, t.final_element);
         self.row(
-            &format!("session, d = {}, L = {}", s.degree, s.depth),
+            &name("session", s),
             &mut || honest::session(black_box(&t)),
             &mut || {
                 let answer = fast::check(s, black_box(c), f, &t.key, &t.rounds, &t.challenges);
@@ -237,7 +252,7 @@ impl Table {
             "extract"
         };
         self.row(
-            &format!("{what}, d = {}, L = {}", s.degree, s.depth),
+            &name(what, s),
             &mut || assert_eq!(verified_extract(black_box(t), &mut w), number),
             &mut || {
                 let t = black_box(t);
@@ -253,12 +268,12 @@ impl Table {
     /// The tree check beside the verified check of every path on its own.
     fn paths(&self, s: Settings, t: &Tree) {
         let d = t.shape.d;
-        let paths: Vec<(Vec<u32>, Vec<u32>)> = (0..t.shape.leaves())
+        let paths: Vec<(Vec<Residue>, Vec<u32>)> = (0..t.shape.leaves())
             .map(|leaf| (path_rounds(t, leaf), t.path_challenges(leaf)))
             .collect();
         let mut w = t.w.clone();
         self.turns(
-            &format!("tree check, d = {}, L = {}", s.degree, s.depth),
+            &name("tree check", s),
             "verified, path by path",
             &mut || {
                 timed(|| {
@@ -284,7 +299,7 @@ impl Table {
         let bits = verified::bits(parts);
         let (mut ours, mut theirs) = (tables.clone(), tables.clone());
         self.row(
-            &format!("read, {} bytes", text.len()),
+            &format!("read, {} bytes{}", text.len(), wide(s)),
             &mut || {
                 let mut settings = [0; verified::SETTINGS];
                 let number = verified::read(bits, black_box(&text), &mut settings, &mut ours);
@@ -307,7 +322,7 @@ impl Table {
         );
         let (mut ours, mut theirs) = (vec![0; text.len()], vec![0; text.len()]);
         self.row(
-            &format!("write, {} bytes", text.len()),
+            &format!("write, {} bytes{}", text.len(), wide(s)),
             &mut || {
                 let mut length = 0;
                 verified::write(s, bits, black_box(tables), &mut ours, &mut length);
@@ -344,7 +359,7 @@ impl Table {
         let text = text::lines(s, &given).concat();
         let (mut ours, mut theirs) = (vec![0; LONGEST_TEXT], vec![0; LONGEST_TEXT]);
         self.row(
-            &format!("prove, text, d = {}, L = {}", s.degree, s.depth),
+            &name("prove, text", s),
             &mut || {
                 let mut length = 0;
                 let number = verified::prove(black_box(&text), &mut ours, &mut length);
@@ -365,7 +380,7 @@ impl Table {
         };
         let text = text::lines(s, &tables).concat();
         self.row(
-            &format!("verify, text, d = {}, L = {}", s.degree, s.depth),
+            &name("verify, text", s),
             &mut || {
                 let mut verdict = 0;
                 verified::verify(black_box(&text), &mut verdict);
@@ -381,7 +396,7 @@ impl Table {
 
 /// Texts of a key alone: the longest one, and ones of growing length.
 fn text_rows(table: &Table) {
-    let (settings, parts, tables) = text::tables_of_length(LONGEST_TEXT);
+    let (settings, parts, tables) = text::tables_of_length(LONGEST_TEXT, Q);
     table.text(settings, parts, &tables);
     for depth in 3..=6 {
         let settings = Settings::new(64, depth, 1009, 1);
@@ -408,7 +423,7 @@ fn verified_extract(t: &Tree, w: &mut [i64]) -> u32 {
 }
 
 /// The round polynomials from the root to a leaf.
-fn path_rounds(t: &Tree, leaf: usize) -> Vec<u32> {
+fn path_rounds(t: &Tree, leaf: usize) -> Vec<Residue> {
     let size = 3 * t.shape.d;
     let mut node = t.shape.nodes() + leaf;
     let mut list = Vec::new();
@@ -418,6 +433,21 @@ fn path_rounds(t: &Tree, leaf: usize) -> Vec<u32> {
     }
     list.reverse();
     list.concat()
+}
+
+/// Rows beside the reference with the largest modulus.
+fn wide_rows(table: &Table) {
+    let wide = Settings::new(64, 8, LARGEST_MODULUS, 127);
+    table.commit(wide);
+    table.check(wide);
+    table.judge(Settings::new(64, 3, LARGEST_MODULUS, 127));
+    table.open(wide);
+    table.session(wide);
+    let s = Settings::new(64, 4, LARGEST_MODULUS, 4);
+    let (tree, _) = honest_at(&mut Random::new(7), s);
+    table.extract(s, &tree, 0);
+    let (settings, parts, tables) = text::tables_of_length(LONGEST_TEXT, LARGEST_MODULUS);
+    table.text(settings, parts, &tables);
 }
 
 /// Rows beside the reference.
@@ -431,6 +461,7 @@ fn reference_rows(table: &Table, large: Settings, native: bool) {
     table.open(large);
     table.open(Settings::new(4, 8, Q, 127));
     table.session(large);
+    wide_rows(table);
     text_rows(table);
     for (s, number) in [
         (Settings::new(64, 3, Q, 127), 0),
@@ -465,6 +496,7 @@ fn main() {
     };
     let table = Table { repetitions, label };
     let large = Settings::new(64, 8, Q, 127);
+    let wide = Settings::new(64, 8, LARGEST_MODULUS, 127);
     assert_eq!(shape(large).table(), 16_384);
     if native {
         return reference_rows(&table, large, native);
@@ -473,8 +505,9 @@ fn main() {
     for path in rest {
         match Baseline::load(path) {
             Ok(other) => {
-                table.commit_beside(large, &other);
-                table.open_beside(large, &other);
+                let s = if other.wide { wide } else { large };
+                table.commit_beside(s, &other);
+                table.open_beside(s, &other);
             }
             Err(reason) => {
                 eprintln!("{reason}");

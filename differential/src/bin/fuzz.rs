@@ -82,7 +82,7 @@ const LARGE: usize = 12;
 
 fn seeds(random: &mut Random) -> Vec<Seed> {
     let sizes = [
-        (SMALL, Limits::small()),
+        (SMALL, Limits::small().with_wide_moduli()),
         (SMALL / 4, Limits::new(128, 300)),
         (LARGE, Limits::new(2048, 2000)),
     ];
@@ -97,13 +97,15 @@ fn seeds(random: &mut Random) -> Vec<Seed> {
         }
     }
     for length in LONGEST_TEXT - 1..=LONGEST_TEXT + 1 {
-        let (settings, parts, tables) = text::tables_of_length(length);
-        seeds.push(Seed {
-            text: text::lines(settings, &tables).concat(),
-            parts,
-            settings,
-            tables,
-        });
+        for q in [(1 << 31) - 1, LARGEST_MODULUS] {
+            let (settings, parts, tables) = text::tables_of_length(length, q);
+            seeds.push(Seed {
+                text: text::lines(settings, &tables).concat(),
+                parts,
+                settings,
+                tables,
+            });
+        }
     }
     seeds
 }
@@ -232,7 +234,7 @@ fn value_behind(text: &[u8], from: usize) -> Option<usize> {
 
 /// Replaces a run of digits, mostly in a value, by another number.
 fn change_number(random: &mut Random, text: &mut Vec<u8>) {
-    const NUMBERS: [&str; 22] = [
+    const NUMBERS: [&str; 34] = [
         "0",
         "1",
         "2",
@@ -255,6 +257,18 @@ fn change_number(random: &mut Random, text: &mut Vec<u8>) {
         "2147483647",
         "2147483648",
         "-2147483647",
+        "-2147483648",
+        "4294967296",
+        "4294967297",
+        "4294967298",
+        "2305843009213693951",
+        "2305843009213693952",
+        "-2305843009213693951",
+        "-2305843009213693952",
+        "9223372036854775808",
+        "10000000000000000000",
+        "18446744073709551617",
+        "-18446744073709551618",
     ];
     let mut from = place(random, text).min(text.len());
     if !random.one_in(4) {
@@ -270,19 +284,27 @@ fn change_number(random: &mut Random, text: &mut Vec<u8>) {
 }
 
 /// Moduli that are allowed, and ones that are not.
-const MODULI: [u32; 12] = [
+const MODULI: [Residue; 20] = [
     3,
     5,
     15,
     17,
     12_289,
     65_537,
-    2_147_483_645,
-    2_147_483_647,
+    (1 << 31) - 3,
+    (1 << 31) - 1,
+    (1 << 31) + 1,
+    (1 << 32) + 1,
+    (1 << 60) + 1,
+    LARGEST_MODULUS - 2,
+    LARGEST_MODULUS,
     0,
     1,
     16,
-    2_147_483_646,
+    1 << 32,
+    LARGEST_MODULUS - 1,
+    LARGEST_MODULUS + 2,
+    Residue::MAX,
 ];
 
 /// Puts another modulus into the third value line.
@@ -370,7 +392,19 @@ fn mutate_tables(random: &mut Random, seed: &mut Seed) {
     let t = &mut seed.tables;
     let q = seed.settings.modulus;
     let d = seed.settings.degree;
-    let residues = [0, 1, q.wrapping_sub(1), q, 9, 10, 99, 100, u32::MAX];
+    let residues = [
+        0,
+        1,
+        q.wrapping_sub(1),
+        q,
+        9,
+        10,
+        99,
+        100,
+        1 << 32,
+        1 << 61,
+        Residue::MAX,
+    ];
     let wholes = [
         0,
         1,
@@ -400,11 +434,11 @@ fn mutate_tables(random: &mut Random, seed: &mut Seed) {
 }
 
 /// What stands in a slice for the settings that held the largest numbers.
-fn stored(answer: &ReadAnswer) -> [u32; 4] {
+fn stored(answer: &ReadAnswer) -> [Residue; 4] {
     let s = answer.settings;
     match answer.number {
-        0 => [s.degree, s.depth, s.modulus, s.bound],
-        _ => [u32::MAX; 4],
+        0 => [s.degree.into(), s.depth.into(), s.modulus, s.bound.into()],
+        _ => [Residue::MAX; 4],
     }
 }
 
@@ -434,7 +468,7 @@ impl Fuzz {
             }
         }
         let mut found = Tables::to_be_written(lengths);
-        let mut settings = [u32::MAX; 4];
+        let mut settings = [Residue::MAX; 4];
         let number = verified::read(bits, text, &mut settings, &mut found);
         let s = answer.settings;
         if (number, settings) != (answer.number, stored(&answer)) || found != wanted {
@@ -454,7 +488,7 @@ impl Fuzz {
 
     fn look(&mut self, text: &[u8]) -> Result<(), String> {
         let answer = plain::look(text);
-        let mut settings = [u32::MAX; 4];
+        let mut settings = [Residue::MAX; 4];
         let number = verified::look(text, &mut settings);
         if (number, settings) != (answer.number, stored(&answer)) {
             return Err(format!("look: {} and {number}", answer.number));

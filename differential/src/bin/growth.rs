@@ -14,12 +14,12 @@ use reference::draw::transcript;
 use reference::draw::tree::honest_at;
 use reference::random::Random;
 use reference::refuse::GROWTH;
-use reference::types::{Settings, ACCEPTED};
+use reference::types::{Residue, Settings, ACCEPTED};
 use std::hint::black_box;
 use std::time::Duration;
 
 /// The largest prime below 2^31.
-const Q: u32 = 2_147_483_647;
+const Q: Residue = 2_147_483_647;
 
 const DEGREES: [u32; 6] = [2, 4, 8, 16, 32, 64];
 

@@ -15,7 +15,7 @@ use reference::draw::text::{damage_text, provable, provable_at, verifiable};
 use reference::draw::Limits;
 use reference::plain;
 use reference::random::Random;
-use reference::types::{Settings, Verification, LONGEST_TEXT};
+use reference::types::{Settings, Verification, LARGEST_MODULUS, LONGEST_TEXT};
 use std::collections::BTreeMap;
 use std::ffi::c_int;
 use std::fs;
@@ -314,7 +314,7 @@ fn dripped(folder: &Path, program: &str, text: &[u8]) -> Vec<u8> {
 
 /// A text of many lines that `prove` answers with a listing of many lines, and the record of it that is accepted.
 fn long_texts(random: &mut Random) -> (Vec<u8>, Vec<u8>, Vec<u8>) {
-    let text = provable_at(random, Settings::new(64, 4, 2_147_483_647, 127)).text();
+    let text = provable_at(random, Settings::new(64, 4, LARGEST_MODULUS, 127)).text();
     let listing = prove_prints(&text);
     let record = with_key(&listing, &text);
     (text, listing, record)
@@ -340,7 +340,7 @@ fn main() -> ExitCode {
         let limits = if turn % 4 == 0 {
             Limits::new(2048, 36)
         } else {
-            Limits::small()
+            Limits::small().with_wide_moduli()
         };
         let mut inputs = [
             provable(&mut random, &limits),

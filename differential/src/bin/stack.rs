@@ -13,7 +13,7 @@ use reference::draw::transcript;
 use reference::draw::tree::{free_at, Tree};
 use reference::random::Random;
 use reference::refuse::GROWTH;
-use reference::types::{Settings, ACCEPTED, LONGEST_TEXT};
+use reference::types::{Residue, Settings, ACCEPTED, LARGEST_MODULUS, LONGEST_TEXT};
 use std::ffi::c_void;
 use std::process::ExitCode;
 
@@ -72,10 +72,11 @@ fn used(mut call: Call) -> usize {
 /// Numbers of an element of the largest degree.
 const LARGEST: usize = 64;
 
-/// Every call at the largest settings that it does not refuse.
-fn calls() -> Vec<(&'static str, Call<'static>)> {
-    let large = Settings::new(64, 8, 2_147_483_647, 127);
-    let bounded = Settings::new(4, 8, 2_147_483_647, 2);
+/// Every call at the largest settings with this modulus that it does not
+/// refuse.
+fn calls(q: Residue) -> Vec<(&'static str, Call<'static>)> {
+    let large = Settings::new(64, 8, q, 127);
+    let bounded = Settings::new(4, 8, q, 2);
     let input = opening_at(&mut Random::new(7), large);
     let (commit, round, mut fold, end) =
         (input.clone(), input.clone(), input.clone(), input.clone());
@@ -134,19 +135,16 @@ fn calls() -> Vec<(&'static str, Call<'static>)> {
         ("open, d = 64, L = 8", open(large)),
         (
             "extract, d = 64, L = 4",
-            extract(Settings::new(64, 4, 9, 4), 0),
+            extract(Settings::new(64, 4, q, 4), 0),
         ),
         ("extract, d = 4, L = 8", extract(bounded, 0)),
         ("extract, d = 64, L = 8", extract(large, GROWTH)),
-        ("read, 65,536 bytes", read()),
-        ("write, 65,536 bytes", write()),
-        (
-            "prove, d = 64, L = 4",
-            prove(Settings::new(64, 4, 99_991, 127)),
-        ),
+        ("read, 65,536 bytes", read(q)),
+        ("write, 65,536 bytes", write(q)),
+        ("prove, d = 64, L = 4", prove(Settings::new(64, 4, q, 127))),
         (
             "verify, d = 64, L = 4",
-            verify(Settings::new(64, 4, 99_991, 127)),
+            verify(Settings::new(64, 4, q, 127)),
         ),
     ]
 }
@@ -174,8 +172,8 @@ fn extract(s: Settings, number: u32) -> Call<'static> {
     })
 }
 
-fn read() -> Call<'static> {
-    let (settings, parts, mut tables) = tables_of_length(LONGEST_TEXT);
+fn read(q: Residue) -> Call<'static> {
+    let (settings, parts, mut tables) = tables_of_length(LONGEST_TEXT, q);
     let text = lines(settings, &tables).concat();
     Box::new(move || {
         let mut settings = [0; verified::SETTINGS];
@@ -185,8 +183,8 @@ fn read() -> Call<'static> {
     })
 }
 
-fn write() -> Call<'static> {
-    let (settings, parts, tables) = tables_of_length(LONGEST_TEXT);
+fn write(q: Residue) -> Call<'static> {
+    let (settings, parts, tables) = tables_of_length(LONGEST_TEXT, q);
     let mut out = vec![0; LONGEST_TEXT];
     Box::new(move || {
         let mut length = 0;
@@ -236,10 +234,13 @@ fn verify(s: Settings) -> Call<'static> {
 fn main() -> ExitCode {
     let empty = used(Box::new(|| ()));
     let mut most = 0;
-    for (name, call) in calls() {
-        let bytes = used(call).saturating_sub(empty);
-        println!("{name:<44} {bytes:>9} bytes of stack");
-        most = most.max(bytes);
+    for (q, wide) in [((1 << 31) - 1, ""), (LARGEST_MODULUS, ", q = 2^61-1")] {
+        for (name, call) in calls(q) {
+            let bytes = used(call).saturating_sub(empty);
+            let name = format!("{name}{wide}");
+            println!("{name:<44} {bytes:>9} bytes of stack");
+            most = most.max(bytes);
+        }
     }
     println!("{:<44} {ALLOWED:>9} bytes", "allowed");
     if most > ALLOWED {

@@ -12,7 +12,7 @@ use reference::draw::session::{self, Move, Session};
 use reference::draw::tables::{self, OpeningInput};
 use reference::draw::{damage_some, Limits};
 use reference::random::Random;
-use reference::types::{Record, Settings};
+use reference::types::{Record, Residue, Settings};
 use reference::{fast, plain};
 
 /// What was said in a list of calls: number and verdict of each.
@@ -23,7 +23,7 @@ type Said = Vec<u32>;
 pub struct Sessions(Session);
 
 /// What a session comes to: every move's number and word is counted.
-fn played(said: &Said, records: &[u32], moves: &[(u32, u32)]) -> Outcome {
+fn played(said: &Said, records: &[Residue], moves: &[(u32, u32)]) -> Outcome {
     let granted = moves.iter().filter(|(number, _)| *number == 0);
     let word = |verdict: u32| VERDICTS.get(verdict as usize).copied().unwrap_or("?");
     Outcome {
@@ -47,7 +47,7 @@ impl Case for Sessions {
     fn plain(&self) -> Outcome {
         let answer = plain::session_start(self.0.settings, self.0.commitment);
         let mut r = answer.record;
-        let (mut said, mut records): (Said, Vec<u32>) = (vec![answer.number], numbers(&r));
+        let (mut said, mut records): (Said, Vec<Residue>) = (vec![answer.number], numbers(&r));
         let mut verdicts = Vec::new();
         for (step, _) in &self.0.moves {
             let answer = match step {
@@ -63,11 +63,11 @@ impl Case for Sessions {
     }
 
     fn verified(&self) -> Outcome {
-        let mut t = vec![u32::MAX; SESSION];
+        let mut t = vec![Residue::MAX; SESSION];
         let d = self.0.settings.degree as usize;
         let commitment = &self.0.commitment[..d];
         let number = verified::session_start(self.0.settings, commitment, &mut t);
-        let (mut said, mut records): (Said, Vec<u32>) = (vec![number], t.clone());
+        let (mut said, mut records): (Said, Vec<Residue>) = (vec![number], t.clone());
         let mut verdicts = Vec::new();
         for (step, _) in &self.0.moves {
             let mut verdict = u32::MAX;
@@ -93,7 +93,7 @@ enum Refused {
     Round(Settings, u32),
     Fold(Settings, u32, u32),
     End(Settings, u32),
-    SessionRound(u32, u32),
+    SessionRound(Residue, u32),
     /// Numbers of the key.
     SessionEnd(usize),
 }
@@ -124,31 +124,31 @@ fn refused(random: &mut Random, input: &OpeningInput) -> Refused {
 /// The calls of an opening, on tables and a record that are lent to them.
 /// What they are to write to stays as it was where they are refused.
 trait Calls {
-    fn commit(&mut self, t: &OpeningInput) -> (u32, Vec<u32>);
-    fn start(&mut self, s: Settings, commitment: &[u32]) -> u32;
-    fn round(&mut self, s: Settings, t: u32, tables: &OpeningInput) -> (u32, Vec<u32>);
+    fn commit(&mut self, t: &OpeningInput) -> (u32, Vec<Residue>);
+    fn start(&mut self, s: Settings, commitment: &[Residue]) -> u32;
+    fn round(&mut self, s: Settings, t: u32, tables: &OpeningInput) -> (u32, Vec<Residue>);
     fn fold(&mut self, s: Settings, t: u32, e: u32, tables: &mut OpeningInput) -> u32;
     fn end(&mut self, s: Settings, t: u32, tables: &OpeningInput) -> (u32, Vec<i32>);
-    fn session_round(&mut self, c: &[u32], e: u32) -> (u32, u32);
-    fn session_end(&mut self, last: &[i32], key: &[u32]) -> (u32, u32);
+    fn session_round(&mut self, c: &[Residue], e: u32) -> (u32, u32);
+    fn session_end(&mut self, last: &[i32], key: &[Residue]) -> (u32, u32);
 }
 
 /// The verified library; the record is in a slice.
-struct Verified(Vec<u32>);
+struct Verified(Vec<Residue>);
 
 impl Calls for Verified {
-    fn commit(&mut self, t: &OpeningInput) -> (u32, Vec<u32>) {
-        let mut out = vec![u32::MAX; t.shape.d];
+    fn commit(&mut self, t: &OpeningInput) -> (u32, Vec<Residue>) {
+        let mut out = vec![Residue::MAX; t.shape.d];
         let number = verified::commit(t.settings, &t.key, &t.message, &mut out);
         (number, out)
     }
 
-    fn start(&mut self, s: Settings, commitment: &[u32]) -> u32 {
+    fn start(&mut self, s: Settings, commitment: &[Residue]) -> u32 {
         verified::session_start(s, commitment, &mut self.0)
     }
 
-    fn round(&mut self, s: Settings, t: u32, tables: &OpeningInput) -> (u32, Vec<u32>) {
-        let mut out = vec![u32::MAX; 3 * tables.shape.d];
+    fn round(&mut self, s: Settings, t: u32, tables: &OpeningInput) -> (u32, Vec<Residue>) {
+        let mut out = vec![Residue::MAX; 3 * tables.shape.d];
         let number = verified::round(s, t, &tables.key, &tables.message, &mut out);
         (number, out)
     }
@@ -163,13 +163,13 @@ impl Calls for Verified {
         (number, out)
     }
 
-    fn session_round(&mut self, c: &[u32], e: u32) -> (u32, u32) {
+    fn session_round(&mut self, c: &[Residue], e: u32) -> (u32, u32) {
         let mut verdict = u32::MAX;
         let number = verified::session_round(c, e, &mut self.0, &mut verdict);
         (number, verdict)
     }
 
-    fn session_end(&mut self, last: &[i32], key: &[u32]) -> (u32, u32) {
+    fn session_end(&mut self, last: &[i32], key: &[Residue]) -> (u32, u32) {
         let mut verdict = u32::MAX;
         let number = verified::session_end(last, key, &mut self.0, &mut verdict);
         (number, verdict)
@@ -190,25 +190,25 @@ fn written<T: Copy>(number: u32, answer: &[T], before: T) -> Vec<T> {
 }
 
 impl Calls for Plain {
-    fn commit(&mut self, t: &OpeningInput) -> (u32, Vec<u32>) {
+    fn commit(&mut self, t: &OpeningInput) -> (u32, Vec<Residue>) {
         let answer = plain::commit(t.settings, &t.key, &t.message);
         let d = t.shape.d;
         (
             answer.number,
-            written(answer.number, &answer.commitment[..d], u32::MAX),
+            written(answer.number, &answer.commitment[..d], Residue::MAX),
         )
     }
 
-    fn start(&mut self, s: Settings, commitment: &[u32]) -> u32 {
+    fn start(&mut self, s: Settings, commitment: &[Residue]) -> u32 {
         let answer = plain::session_start(s, places(commitment));
         self.0 = answer.record;
         answer.number
     }
 
-    fn round(&mut self, s: Settings, t: u32, tables: &OpeningInput) -> (u32, Vec<u32>) {
+    fn round(&mut self, s: Settings, t: u32, tables: &OpeningInput) -> (u32, Vec<Residue>) {
         let answer = plain::prover_round(s, t, &tables.key, &tables.message);
         let c = flat(&answer.polynomial, tables.shape.d);
-        (answer.number, written(answer.number, &c, u32::MAX))
+        (answer.number, written(answer.number, &c, Residue::MAX))
     }
 
     fn fold(&mut self, s: Settings, t: u32, e: u32, tables: &mut OpeningInput) -> u32 {
@@ -221,13 +221,13 @@ impl Calls for Plain {
         (answer.number, written(answer.number, last, i32::MIN))
     }
 
-    fn session_round(&mut self, c: &[u32], e: u32) -> (u32, u32) {
+    fn session_round(&mut self, c: &[Residue], e: u32) -> (u32, u32) {
         let answer = plain::session_round(self.0, polynomial(c), e);
         self.0 = answer.record;
         (answer.number, answer.verdict)
     }
 
-    fn session_end(&mut self, last: &[i32], key: &[u32]) -> (u32, u32) {
+    fn session_end(&mut self, last: &[i32], key: &[Residue]) -> (u32, u32) {
         let answer = plain::session_end(self.0, places(last), key);
         self.0 = answer.record;
         (answer.number, answer.verdict)
@@ -340,14 +340,14 @@ impl Case for Moves {
     }
 
     fn verified(&self) -> Outcome {
-        let mut calls = Verified(vec![u32::MAX; SESSION]);
+        let mut calls = Verified(vec![Residue::MAX; SESSION]);
         let (said, outcome) = self.play(&mut calls);
         outcome.with("said", &said)
     }
 
     fn tables(&mut self) -> Vec<Table<'_>> {
         vec![
-            Table::Unsigned(&mut self.input.key),
+            Table::Residues(&mut self.input.key),
             Table::Signed(&mut self.input.message),
             Table::Unsigned(&mut self.input.challenges),
         ]

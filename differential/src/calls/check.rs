@@ -8,22 +8,22 @@ use reference::draw::session::any_transcript;
 use reference::draw::{damage_some, Limits};
 use reference::plain::refusals::Lengths;
 use reference::random::Random;
-use reference::types::{CheckAnswer, Residues, Settings, Wholes};
+use reference::types::{CheckAnswer, Residue, Residues, Settings, Wholes};
 use reference::{fast, plain};
 
 #[derive(Clone)]
 pub struct Check {
     settings: Settings,
-    commitment: Vec<u32>,
+    commitment: Vec<Residue>,
     last: Vec<i32>,
-    key: Vec<u32>,
-    rounds: Vec<u32>,
+    key: Vec<Residue>,
+    rounds: Vec<Residue>,
     challenges: Vec<u32>,
     verdict: u32,
 }
 
 /// The check by one of the references.
-type Checker = fn(Settings, Residues, Wholes, &[u32], &[u32], &[u32]) -> CheckAnswer;
+type Checker = fn(Settings, Residues, Wholes, &[Residue], &[Residue], &[u32]) -> CheckAnswer;
 
 impl Check {
     fn check(&mut self, check: Checker) -> u32 {
@@ -104,10 +104,10 @@ impl Call for Check {
 
     fn slices(&mut self) -> Vec<Table<'_>> {
         vec![
-            Table::Unsigned(&mut self.commitment),
+            Table::Residues(&mut self.commitment),
             Table::Signed(&mut self.last),
-            Table::Unsigned(&mut self.key),
-            Table::Unsigned(&mut self.rounds),
+            Table::Residues(&mut self.key),
+            Table::Residues(&mut self.rounds),
             Table::Unsigned(&mut self.challenges),
         ]
     }
@@ -116,7 +116,7 @@ impl Call for Check {
         Outcome::new(number).with_word("verdict", self.verdict, &VERDICTS)
     }
 
-    fn numbers(&self) -> Vec<u32> {
+    fn numbers(&self) -> Vec<u64> {
         four(self.settings).to_vec()
     }
 }

@@ -7,15 +7,15 @@ use reference::draw::tables::{self, CommitInput};
 use reference::draw::{damage_some, Limits};
 use reference::plain::refusals::Lengths;
 use reference::random::Random;
-use reference::types::{CommitAnswer, Settings};
+use reference::types::{CommitAnswer, Residue, Settings};
 use reference::{fast, plain};
 
 #[derive(Clone)]
 pub struct Commit {
     settings: Settings,
-    key: Vec<u32>,
+    key: Vec<Residue>,
     message: Vec<i32>,
-    commitment: Vec<u32>,
+    commitment: Vec<Residue>,
 }
 
 impl Commit {
@@ -38,7 +38,7 @@ impl Call for Commit {
             damage_some(random, &mut input);
         }
         Commit {
-            commitment: vec![u32::MAX; input.0.shape.d],
+            commitment: vec![Residue::MAX; input.0.shape.d],
             settings: input.0.settings,
             key: input.0.key,
             message: input.0.message,
@@ -76,9 +76,9 @@ impl Call for Commit {
 
     fn slices(&mut self) -> Vec<Table<'_>> {
         vec![
-            Table::Unsigned(&mut self.key),
+            Table::Residues(&mut self.key),
             Table::Signed(&mut self.message),
-            Table::Unsigned(&mut self.commitment),
+            Table::Residues(&mut self.commitment),
         ]
     }
 
@@ -86,7 +86,7 @@ impl Call for Commit {
         Outcome::new(number).with("commitment", &self.commitment)
     }
 
-    fn numbers(&self) -> Vec<u32> {
+    fn numbers(&self) -> Vec<u64> {
         four(self.settings).to_vec()
     }
 }

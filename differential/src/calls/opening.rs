@@ -8,19 +8,19 @@ use reference::draw::tables::{self, OpeningInput};
 use reference::draw::{damage_some, Limits};
 use reference::plain::refusals::Lengths;
 use reference::random::Random;
-use reference::types::{OpeningAnswer, Settings};
+use reference::types::{OpeningAnswer, Residue, Settings};
 use reference::{fast, plain};
 
 #[derive(Clone)]
 pub struct Opening {
     input: OpeningInput,
-    commitment: Vec<u32>,
+    commitment: Vec<Residue>,
     last: Vec<i32>,
     verdict: u32,
 }
 
 /// A whole opening by one of the references.
-type Open = fn(Settings, &mut [u32], &mut [i32], &[u32], &mut [u32]) -> OpeningAnswer;
+type Open = fn(Settings, &mut [Residue], &mut [i32], &[u32], &mut [Residue]) -> OpeningAnswer;
 
 impl Opening {
     fn open(&mut self, open: Open) -> u32 {
@@ -44,7 +44,7 @@ impl Opening {
 pub fn all(
     number: u32,
     t: &OpeningInput,
-    commitment: &[u32],
+    commitment: &[Residue],
     last: &[i32],
     verdict: u32,
 ) -> Outcome {
@@ -77,7 +77,7 @@ impl Call for Opening {
             damage_some(random, &mut input);
         }
         Opening {
-            commitment: vec![u32::MAX; input.shape.d],
+            commitment: vec![Residue::MAX; input.shape.d],
             last: vec![i32::MIN; input.shape.d],
             verdict: u32::MAX,
             input,
@@ -128,11 +128,11 @@ impl Call for Opening {
 
     fn slices(&mut self) -> Vec<Table<'_>> {
         vec![
-            Table::Unsigned(&mut self.input.key),
+            Table::Residues(&mut self.input.key),
             Table::Signed(&mut self.input.message),
             Table::Unsigned(&mut self.input.challenges),
-            Table::Unsigned(&mut self.input.rounds),
-            Table::Unsigned(&mut self.commitment),
+            Table::Residues(&mut self.input.rounds),
+            Table::Residues(&mut self.commitment),
             Table::Signed(&mut self.last),
         ]
     }
@@ -147,7 +147,7 @@ impl Call for Opening {
         )
     }
 
-    fn numbers(&self) -> Vec<u32> {
+    fn numbers(&self) -> Vec<u64> {
         four(self.input.settings).to_vec()
     }
 }

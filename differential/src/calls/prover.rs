@@ -7,7 +7,7 @@ use reference::draw::tables::{self, ProverCall, ProverInput};
 use reference::draw::{damage_some, Limits};
 use reference::plain::refusals::Lengths;
 use reference::random::Random;
-use reference::types::Settings;
+use reference::types::{Residue, Settings};
 use reference::{admit, plain};
 
 /// A drawn input of one of the prover's calls, damaged once in two times.
@@ -22,7 +22,7 @@ fn drawn(random: &mut Random, limits: &Limits, call: ProverCall) -> ProverInput 
 #[derive(Clone)]
 pub struct ProverRound {
     input: ProverInput,
-    polynomial: Vec<u32>,
+    polynomial: Vec<Residue>,
 }
 
 impl Call for ProverRound {
@@ -33,7 +33,7 @@ impl Call for ProverRound {
     fn draw(random: &mut Random, limits: &Limits) -> ProverRound {
         let input = drawn(random, limits, ProverCall::Round);
         ProverRound {
-            polynomial: vec![u32::MAX; 3 * input.shape.d],
+            polynomial: vec![Residue::MAX; 3 * input.shape.d],
             input,
         }
     }
@@ -69,9 +69,9 @@ impl Call for ProverRound {
 
     fn slices(&mut self) -> Vec<Table<'_>> {
         vec![
-            Table::Unsigned(&mut self.input.key),
+            Table::Residues(&mut self.input.key),
             Table::Signed(&mut self.input.message),
-            Table::Unsigned(&mut self.polynomial),
+            Table::Residues(&mut self.polynomial),
         ]
     }
 
@@ -79,8 +79,8 @@ impl Call for ProverRound {
         Outcome::new(number).with("polynomial", &self.polynomial)
     }
 
-    fn numbers(&self) -> Vec<u32> {
-        [&four(self.input.settings)[..], &[self.input.t]].concat()
+    fn numbers(&self) -> Vec<u64> {
+        [&four(self.input.settings)[..], &[self.input.t.into()]].concat()
     }
 }
 
@@ -124,7 +124,7 @@ impl Call for Fold {
 
     fn slices(&mut self) -> Vec<Table<'_>> {
         vec![
-            Table::Unsigned(&mut self.0.key),
+            Table::Residues(&mut self.0.key),
             Table::Signed(&mut self.0.message),
         ]
     }
@@ -135,8 +135,12 @@ impl Call for Fold {
             .with("message", &self.0.message)
     }
 
-    fn numbers(&self) -> Vec<u32> {
-        [&four(self.0.settings)[..], &[self.0.t, self.0.e]].concat()
+    fn numbers(&self) -> Vec<u64> {
+        [
+            &four(self.0.settings)[..],
+            &[self.0.t.into(), self.0.e.into()],
+        ]
+        .concat()
     }
 }
 
@@ -198,7 +202,7 @@ impl Call for End {
         Outcome::new(number).with("last", &self.last)
     }
 
-    fn numbers(&self) -> Vec<u32> {
-        [&four(self.input.settings)[..], &[self.input.t]].concat()
+    fn numbers(&self) -> Vec<u64> {
+        [&four(self.input.settings)[..], &[self.input.t.into()]].concat()
     }
 }

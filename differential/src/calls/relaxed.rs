@@ -7,7 +7,7 @@ use reference::draw::{base, tables};
 use reference::draw::{damage_some, Limits};
 use reference::plain::refusals::Lengths;
 use reference::random::Random;
-use reference::types::{JudgeAnswer, Residues, Settings};
+use reference::types::{JudgeAnswer, Residue, Residues, Settings};
 use reference::{fast, plain};
 
 /// What a judge that does not refuse says.
@@ -21,9 +21,9 @@ const NOTHING: &str = "common factor, nothing behind";
 #[derive(Clone)]
 pub struct Judge {
     settings: Settings,
-    commitment: Vec<u32>,
+    commitment: Vec<Residue>,
     slack: u32,
-    key: Vec<u32>,
+    key: Vec<Residue>,
     w: Vec<i64>,
     yes: u32,
 }
@@ -37,7 +37,7 @@ fn at_the_limit(random: &mut Random) -> Settings {
 }
 
 /// The judge by one of the references.
-type Judging = fn(Settings, Residues, u32, &[u32], &[i64]) -> JudgeAnswer;
+type Judging = fn(Settings, Residues, u32, &[Residue], &[i64]) -> JudgeAnswer;
 
 impl Judge {
     fn judge(&mut self, judge: Judging) -> u32 {
@@ -58,7 +58,14 @@ impl Call for Judge {
     fn draw(random: &mut Random, limits: &Limits) -> Judge {
         let (mut input, _) = if limits.table >= 1024 && random.one_in(16) {
             let settings = at_the_limit(random);
-            tables::judge_at(random, settings)
+            if random.one_in(2) {
+                tables::judge_any_at(random, settings)
+            } else {
+                tables::judge_at(random, settings)
+            }
+        } else if random.one_in(4) {
+            let settings = base::settings(random, limits, false);
+            tables::judge_any_at(random, settings)
         } else {
             tables::judge(random, limits)
         };
@@ -112,8 +119,8 @@ impl Call for Judge {
 
     fn slices(&mut self) -> Vec<Table<'_>> {
         vec![
-            Table::Unsigned(&mut self.commitment),
-            Table::Unsigned(&mut self.key),
+            Table::Residues(&mut self.commitment),
+            Table::Residues(&mut self.key),
             Table::Wide(&mut self.w),
         ]
     }
@@ -132,7 +139,7 @@ impl Call for Judge {
         vec![word.to_string()]
     }
 
-    fn numbers(&self) -> Vec<u32> {
-        [&four(self.settings)[..], &[self.slack]].concat()
+    fn numbers(&self) -> Vec<u64> {
+        [&four(self.settings)[..], &[self.slack.into()]].concat()
     }
 }

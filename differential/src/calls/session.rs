@@ -1,6 +1,6 @@
 //! The moves of a verifier's session, on records in lent slices.
 
-use super::lent::{flat, four, number_of, numbers, places, polynomial, record};
+use super::lent::{flat, four, number_of, numbers, places, polynomial, record, NARROW};
 use super::VERDICTS;
 use crate::case::{Call, Outcome, Table};
 use crate::verified::{self, SESSION};
@@ -8,26 +8,40 @@ use reference::draw::session;
 use reference::draw::{damage_some, Limits};
 use reference::plain::refusals::Lengths;
 use reference::random::Random;
-use reference::types::{MoveAnswer, Record, Settings};
+use reference::types::{MoveAnswer, Record, Residue, Settings};
 use reference::{admit, plain};
 
 /// The slice that is lent for a record: now and then with a number in place
-/// of closed that is neither 0 nor 1.
-fn lend_record(random: &mut Random, r: &Record) -> Vec<u32> {
+/// of closed that is neither 0 nor 1, or with one past 32 bits, whose low ones
+/// are mostly those of the record.
+fn lend_record(random: &mut Random, r: &Record) -> Vec<Residue> {
     let mut t = numbers(r);
     if random.one_in(12) {
-        t[5] = random.pick(&[2, 3, 256, u32::MAX]);
+        t[5] = random.pick(&[2, 3, 256, 1 << 32, (1 << 32) + 1, Residue::MAX]);
+    }
+    if random.one_in(12) {
+        let place = random.pick(&NARROW);
+        let low = t[place];
+        t[place] = random.pick(&[(1 << 32) + low, (1 << 63) | low, Residue::MAX]);
     }
     t
 }
 
+/// The move was refused, and the record holds a number past 32 bits.
+fn past_remark(t: &[Residue], number: u32) -> Option<String> {
+    let past = t.len() == SESSION && NARROW.iter().any(|&place| t[place] >> 32 != 0);
+    (past && number != 0).then(|| PAST.to_string())
+}
+
+const PAST: &str = "past 32 bits";
+
 /// The settings of a record, where the slice holds one.
-fn settings_of(t: &[u32]) -> Option<Settings> {
+fn settings_of(t: &[Residue]) -> Option<Settings> {
     (t.len() == SESSION).then(|| record(t).settings)
 }
 
 /// A slice of another length than 78 holds no record: 7 at once.
-fn no_record(t: &[u32]) -> u32 {
+fn no_record(t: &[Residue]) -> u32 {
     if t.len() == SESSION {
         0
     } else {
@@ -37,26 +51,29 @@ fn no_record(t: &[u32]) -> u32 {
 
 /// The number that says whether a record is closed, and the nearest one
 /// that it may be.
-fn closed(t: &[u32]) -> (usize, usize) {
+fn closed(t: &[Residue]) -> (usize, usize) {
     (t[5] as usize, t[5].min(1) as usize)
 }
 
 /// The move was refused for the number of closed alone.
-fn closed_remark(t: &[u32], number: u32, lengths_right: bool) -> Vec<String> {
+fn closed_remark(t: &[Residue], number: u32, lengths_right: bool) -> Option<String> {
     if number == 7 && lengths_right && t.len() == SESSION && t[5] > 1 {
-        return vec!["closed neither 0 nor 1".to_string()];
+        return Some("closed neither 0 nor 1".to_string());
     }
-    if number == 11 && t[5] == 1 {
-        return vec!["closed".to_string()];
-    }
-    Vec::new()
+    (number == 11 && t[5] == 1).then(|| "closed".to_string())
+}
+
+/// What is counted of a refused move's record.
+fn record_remarks(t: &[Residue], number: u32, lengths_right: bool) -> Vec<String> {
+    let closed = closed_remark(t, number, lengths_right);
+    closed.into_iter().chain(past_remark(t, number)).collect()
 }
 
 #[derive(Clone)]
 pub struct Start {
     settings: Settings,
-    commitment: Vec<u32>,
-    session: Vec<u32>,
+    commitment: Vec<Residue>,
+    session: Vec<Residue>,
 }
 
 impl Call for Start {
@@ -72,7 +89,7 @@ impl Call for Start {
         Start {
             settings: input.settings,
             commitment: input.commitment[..input.shape.d].to_vec(),
-            session: vec![u32::MAX; SESSION],
+            session: vec![Residue::MAX; SESSION],
         }
     }
 
@@ -111,8 +128,8 @@ impl Call for Start {
 
     fn slices(&mut self) -> Vec<Table<'_>> {
         vec![
-            Table::Unsigned(&mut self.commitment),
-            Table::Unsigned(&mut self.session),
+            Table::Residues(&mut self.commitment),
+            Table::Residues(&mut self.session),
         ]
     }
 
@@ -120,15 +137,15 @@ impl Call for Start {
         Outcome::new(number).with("session", &self.session)
     }
 
-    fn numbers(&self) -> Vec<u32> {
+    fn numbers(&self) -> Vec<u64> {
         four(self.settings).to_vec()
     }
 }
 
 #[derive(Clone)]
 pub struct SessionRound {
-    polynomial: Vec<u32>,
-    session: Vec<u32>,
+    polynomial: Vec<Residue>,
+    session: Vec<Residue>,
     e: u32,
     verdict: u32,
 }
@@ -144,8 +161,13 @@ impl SessionRound {
 impl Call for SessionRound {
     const NAME: &'static str = "session round";
     const NUMBERS: &'static [u32] = &[0, 3, 4, 5, 6, 7, 8, 10, 11];
-    const WORDS: &'static [&'static str] =
-        &["holds", "rejected", "closed", "closed neither 0 nor 1"];
+    const WORDS: &'static [&'static str] = &[
+        "holds",
+        "rejected",
+        "closed",
+        "closed neither 0 nor 1",
+        PAST,
+    ];
     const SLICES: &'static [&'static str] = &["polynomial", "session"];
 
     fn draw(random: &mut Random, limits: &Limits) -> SessionRound {
@@ -212,8 +234,8 @@ impl Call for SessionRound {
 
     fn slices(&mut self) -> Vec<Table<'_>> {
         vec![
-            Table::Unsigned(&mut self.polynomial),
-            Table::Unsigned(&mut self.session),
+            Table::Residues(&mut self.polynomial),
+            Table::Residues(&mut self.session),
         ]
     }
 
@@ -226,27 +248,32 @@ impl Call for SessionRound {
     fn other_remarks(&self, number: u32) -> Vec<String> {
         let pairs = self.known_pairs().unwrap_or_default();
         let right = pairs.iter().take(2).all(|pair| pair.0 == pair.1);
-        closed_remark(&self.session, number, right)
+        record_remarks(&self.session, number, right)
     }
 
-    fn numbers(&self) -> Vec<u32> {
-        vec![self.e]
+    fn numbers(&self) -> Vec<u64> {
+        vec![self.e.into()]
     }
 }
 
 #[derive(Clone)]
 pub struct SessionEnd {
     last: Vec<i32>,
-    key: Vec<u32>,
-    session: Vec<u32>,
+    key: Vec<Residue>,
+    session: Vec<Residue>,
     verdict: u32,
 }
 
 impl Call for SessionEnd {
     const NAME: &'static str = "session end";
     const NUMBERS: &'static [u32] = &[0, 3, 4, 5, 6, 7, 8, 10, 11];
-    const WORDS: &'static [&'static str] =
-        &["accepted", "rejected", "closed", "closed neither 0 nor 1"];
+    const WORDS: &'static [&'static str] = &[
+        "accepted",
+        "rejected",
+        "closed",
+        "closed neither 0 nor 1",
+        PAST,
+    ];
     const SLICES: &'static [&'static str] = &["last", "key", "session"];
 
     fn draw(random: &mut Random, limits: &Limits) -> SessionEnd {
@@ -310,8 +337,8 @@ impl Call for SessionEnd {
     fn slices(&mut self) -> Vec<Table<'_>> {
         vec![
             Table::Signed(&mut self.last),
-            Table::Unsigned(&mut self.key),
-            Table::Unsigned(&mut self.session),
+            Table::Residues(&mut self.key),
+            Table::Residues(&mut self.session),
         ]
     }
 
@@ -324,10 +351,10 @@ impl Call for SessionEnd {
     fn other_remarks(&self, number: u32) -> Vec<String> {
         let pairs = self.known_pairs().unwrap_or_default();
         let right = pairs.iter().take(3).all(|pair| pair.0 == pair.1);
-        closed_remark(&self.session, number, right)
+        record_remarks(&self.session, number, right)
     }
 
-    fn numbers(&self) -> Vec<u32> {
+    fn numbers(&self) -> Vec<u64> {
         Vec::new()
     }
 }

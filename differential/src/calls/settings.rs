@@ -26,7 +26,7 @@ impl Case for SettingsCase {
             // Any numbers near the borders.
             s.degree = random.below(130) as u32;
             s.depth = random.below(12) as u32;
-            s.modulus = random.word() as u32;
+            s.modulus = random.word() >> random.below(64);
             s.bound = random.below(140) as u32;
         }
         SettingsCase(s)

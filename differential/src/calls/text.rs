@@ -7,6 +7,7 @@ use super::VERDICTS;
 use crate::case::{Call, Outcome, Table};
 use crate::verified::{self, SETTINGS};
 use reference::cases::{calls, Page};
+use reference::draw::base;
 use reference::draw::text::{self, Tables, TextInput, WriteInput};
 use reference::draw::{damage_some, Limits};
 use reference::plain::refusals::{self, Lengths};
@@ -49,10 +50,10 @@ fn table_pairs(s: Settings, parts: Parts, tables: &Tables) -> Vec<(usize, usize)
 /// The six tables' slices.
 fn table_slices(tables: &mut Tables) -> Vec<Table<'_>> {
     vec![
-        Table::Unsigned(&mut tables.key),
+        Table::Residues(&mut tables.key),
         Table::Signed(&mut tables.message),
-        Table::Unsigned(&mut tables.commitment),
-        Table::Unsigned(&mut tables.rounds),
+        Table::Residues(&mut tables.commitment),
+        Table::Residues(&mut tables.rounds),
         Table::Unsigned(&mut tables.challenges),
         Table::Signed(&mut tables.final_element),
     ]
@@ -79,10 +80,15 @@ fn damaged(random: &mut Random, mut input: TextInput) -> TextInput {
     input
 }
 
+/// A modulus of ten digits, and the longest one.
+fn long_modulus(random: &mut Random) -> Residue {
+    random.pick(&[(1 << 31) - 1, LARGEST_MODULUS])
+}
+
 /// A valid text of about the longest length that is read.
 fn longest(random: &mut Random) -> TextInput {
     let length = LONGEST_TEXT - 1 + random.below(3);
-    let (settings, parts, tables) = text::tables_of_length(length);
+    let (settings, parts, tables) = text::tables_of_length(length, long_modulus(random));
     let mut input = text::readable(random, &Limits::small()).0;
     input.lines = text::lines(settings, &tables);
     input.parts = parts;
@@ -123,15 +129,101 @@ pub fn names_lines() -> Vec<Vec<u8>> {
     texts
 }
 
+/// Numbers at the limits of 31, 32, 61, 63 and 64 bits, and beyond.
+const NUMBERS: [&str; 18] = [
+    "2147483647",
+    "2147483648",
+    "4294967295",
+    "4294967296",
+    "4294967297",
+    "4294967298",
+    "4294967313",
+    "2305843009213693950",
+    "2305843009213693951",
+    "2305843009213693952",
+    "2305843009213693953",
+    "9223372036854775807",
+    "9223372036854775808",
+    "10000000000000000000",
+    "18446744073709551615",
+    "18446744073709551616",
+    "18446744073709551617",
+    "18446744073709551618",
+];
+
+/// Small texts with such a number, or its negative, in one column of one line:
+/// in every column of every line of texts for `prove`, for `verify` and with
+/// all parts, and in a line of a part that there is none of.
+pub fn large_numbers() -> Vec<TextInput> {
+    const ALL: Parts = [true; 6];
+    const PROVE: Parts = [true, true, false, false, true, false];
+    const VERIFY: Parts = [true, false, true, true, true, true];
+    let mut texts = Vec::new();
+    for (q, parts) in [17, LARGEST_MODULUS]
+        .map(|q| [PROVE, VERIFY, ALL].map(|p| (q, p)))
+        .concat()
+    {
+        let mut input = listing(q, parts);
+        texts.push(input.clone());
+        for place in 1..input.lines.len() {
+            texts.extend(with_numbers(&input, place));
+        }
+        input.lines.push(b"7 0 0 0\n".to_vec());
+        texts.extend(with_numbers(&input, input.lines.len() - 1));
+    }
+    texts
+}
+
+/// The listing with this modulus as a text of these parts.
+fn listing(q: Residue, parts: Parts) -> TextInput {
+    fn given<T: Clone>(there: bool, values: &[T]) -> Vec<T> {
+        values[..if there { values.len() } else { 0 }].to_vec()
+    }
+    let settings = Settings::new(2, 1, q, 1);
+    let tables = Tables {
+        key: given(parts[0], &[3, 5, 7, 2]),
+        message: given(parts[1], &[1, -1, 1, 0]),
+        commitment: given(parts[2], &[15, 4]),
+        rounds: given(parts[3], &[4, 1, 6, 0, (7 + q) / 2, 1]),
+        challenges: given(parts[4], &[1]),
+        final_element: given(parts[5], &[1, 0]),
+    };
+    TextInput {
+        shape: base::shape(settings),
+        parts,
+        lines: text::lines(settings, &tables),
+        lengths: Some(tables.lengths()),
+    }
+}
+
+/// The text with each of the numbers in each column of one line.
+fn with_numbers(input: &TextInput, place: usize) -> Vec<TextInput> {
+    let line = String::from_utf8_lossy(&input.lines[place]).into_owned();
+    let mut texts = Vec::new();
+    for column in 0..4 {
+        for number in NUMBERS {
+            for sign in ["", "-"] {
+                let mut fields: Vec<&str> = line.trim_end().split(' ').collect();
+                let found = format!("{sign}{number}");
+                fields[column] = &found;
+                let mut changed = input.clone();
+                changed.lines[place] = format!("{}\n", fields.join(" ")).into_bytes();
+                texts.push(changed);
+            }
+        }
+    }
+    texts
+}
+
 /// A first look at a text's settings.
 #[derive(Clone)]
 pub struct Look {
     text: Vec<u8>,
-    settings: Vec<u32>,
+    settings: Vec<Residue>,
 }
 
 /// The slice for the settings is tested after all that is in the text.
-fn stored_settings(answer: ReadAnswer, slice: &mut Vec<u32>) -> u32 {
+fn stored_settings(answer: ReadAnswer, slice: &mut Vec<Residue>) -> u32 {
     if answer.number == 0 && slice.len() != SETTINGS {
         return 7;
     }
@@ -143,7 +235,7 @@ impl Look {
     pub fn at(text: Vec<u8>) -> Look {
         Look {
             text,
-            settings: vec![u32::MAX; SETTINGS],
+            settings: vec![Residue::MAX; SETTINGS],
         }
     }
 }
@@ -159,6 +251,10 @@ impl Call for Look {
 
     fn settings(&self) -> Option<Settings> {
         None
+    }
+
+    fn modulus(&self) -> Residue {
+        plain::look(&self.text).settings.modulus
     }
 
     fn pairs(&self, _: &Lengths) -> Vec<(usize, usize)> {
@@ -178,14 +274,14 @@ impl Call for Look {
     }
 
     fn slices(&mut self) -> Vec<Table<'_>> {
-        vec![Table::Unsigned(&mut self.settings)]
+        vec![Table::Residues(&mut self.settings)]
     }
 
     fn outcome(&self, number: u32) -> Outcome {
         Outcome::new(number).with("settings", &self.settings)
     }
 
-    fn numbers(&self) -> Vec<u32> {
+    fn numbers(&self) -> Vec<u64> {
         Vec::new()
     }
 
@@ -201,7 +297,7 @@ pub struct Read {
     input: TextInput,
     text: Vec<u8>,
     parts: u32,
-    settings: Vec<u32>,
+    settings: Vec<Residue>,
     tables: Tables,
 }
 
@@ -209,15 +305,25 @@ pub struct Read {
 type Reader = fn(
     Parts,
     &[u8],
-    &mut [u32],
+    &mut [Residue],
     &mut [i32],
-    &mut [u32],
-    &mut [u32],
+    &mut [Residue],
+    &mut [Residue],
     &mut [u32],
     &mut [i32],
 ) -> ReadAnswer;
 
 impl Read {
+    pub fn of(input: TextInput) -> Read {
+        Read {
+            text: input.text(),
+            parts: verified::bits(input.parts),
+            settings: vec![Residue::MAX; SETTINGS],
+            tables: Tables::to_be_written(lengths(&input)),
+            input,
+        }
+    }
+
     /// The number of parts and the slice for the settings are tested with
     /// the lengths of the tables, after refusals 1 to 6.
     fn read(&mut self, read: Reader) -> u32 {
@@ -258,18 +364,17 @@ impl Call for Read {
     const FAST: bool = true;
 
     fn draw(random: &mut Random, limits: &Limits) -> Read {
-        let input = any_text(random, limits);
-        Read {
-            text: input.text(),
-            parts: verified::bits(input.parts) | beyond(random),
-            settings: vec![u32::MAX; SETTINGS],
-            tables: Tables::to_be_written(lengths(&input)),
-            input,
-        }
+        let mut read = Read::of(any_text(random, limits));
+        read.parts |= beyond(random);
+        read
     }
 
     fn settings(&self) -> Option<Settings> {
         None
+    }
+
+    fn modulus(&self) -> Residue {
+        plain::look(&self.text).settings.modulus
     }
 
     fn pairs(&self, _: &Lengths) -> Vec<(usize, usize)> {
@@ -300,7 +405,7 @@ impl Call for Read {
     }
 
     fn slices(&mut self) -> Vec<Table<'_>> {
-        let mut slices = vec![Table::Unsigned(&mut self.settings)];
+        let mut slices = vec![Table::Residues(&mut self.settings)];
         slices.extend(table_slices(&mut self.tables));
         slices
     }
@@ -316,8 +421,8 @@ impl Call for Read {
         no_such_part(number, self.parts, self.known_pairs())
     }
 
-    fn numbers(&self) -> Vec<u32> {
-        vec![self.parts]
+    fn numbers(&self) -> Vec<u64> {
+        vec![self.parts.into()]
     }
 
     fn show(&self, page: &mut Page) {
@@ -354,8 +459,17 @@ pub struct Write {
 }
 
 /// The writer by one of the references.
-type Writer =
-    fn(Settings, Parts, &[u32], &[i32], &[u32], &[u32], &[u32], &[i32], &mut [u8]) -> WriteAnswer;
+type Writer = fn(
+    Settings,
+    Parts,
+    &[Residue],
+    &[i32],
+    &[Residue],
+    &[Residue],
+    &[u32],
+    &[i32],
+    &mut [u8],
+) -> WriteAnswer;
 
 impl Write {
     fn write(&mut self, write: Writer) -> u32 {
@@ -394,7 +508,8 @@ impl Call for Write {
         let mut input = text::writable(random, limits).0;
         if random.one_in(40) {
             let length = LONGEST_TEXT - 1 + random.below(4);
-            (input.settings, input.parts, input.tables) = text::tables_of_length(length);
+            let q = long_modulus(random);
+            (input.settings, input.parts, input.tables) = text::tables_of_length(length, q);
             input.room = length + random.pick(&[0, 1, 9]);
         }
         match random.below(8) {
@@ -466,8 +581,8 @@ impl Call for Write {
         remarks
     }
 
-    fn numbers(&self) -> Vec<u32> {
-        [&four(self.input.settings)[..], &[self.parts]].concat()
+    fn numbers(&self) -> Vec<u64> {
+        [&four(self.input.settings)[..], &[self.parts.into()]].concat()
     }
 
     fn show(&self, page: &mut Page) {
@@ -480,7 +595,7 @@ impl Call for Write {
 /// What a call that writes a text leaves.
 fn wrote(number: u32, count: usize, out: &[u8]) -> Outcome {
     Outcome::new(number)
-        .with("count", &[count as i64])
+        .with("count", &[count as u64])
         .with("out", out)
 }
 
@@ -505,6 +620,18 @@ pub struct Prove {
 }
 
 impl Prove {
+    /// With room for `more` bytes than its listing has.
+    pub fn of(text: Vec<u8>, more: usize) -> Prove {
+        let mut out = vec![FILL; LONGEST_TEXT];
+        let length = fast::prove(&text, &mut out).length;
+        Prove {
+            text,
+            out: vec![FILL; length + more],
+            count: usize::MAX,
+            length,
+        }
+    }
+
     fn prove(&mut self, prove: fn(&[u8], &mut [u8]) -> WriteAnswer) -> u32 {
         let answer = prove(&self.text, &mut self.out);
         self.count = answer.length;
@@ -524,24 +651,23 @@ impl Call for Prove {
             0 => text::readable(random, limits).0,
             _ => text::provable(random, limits),
         };
-        let text = damaged(random, input).text();
-        let mut out = vec![FILL; LONGEST_TEXT];
-        let length = fast::prove(&text, &mut out).length;
+        let mut prove = Prove::of(damaged(random, input).text(), 0);
+        let length = prove.length;
         let room = match random.below(12) {
             0 => length.saturating_sub(1 + random.below(12)),
             1 => 0,
             _ => length + random.pick(&[0, 0, 1, 9]),
         };
-        Prove {
-            text,
-            out: vec![FILL; room],
-            count: usize::MAX,
-            length,
-        }
+        prove.out = vec![FILL; room];
+        prove
     }
 
     fn settings(&self) -> Option<Settings> {
         None
+    }
+
+    fn modulus(&self) -> Residue {
+        plain::look(&self.text).settings.modulus
     }
 
     fn pairs(&self, _: &Lengths) -> Vec<(usize, usize)> {
@@ -577,7 +703,7 @@ impl Call for Prove {
         remark.into_iter().collect()
     }
 
-    fn numbers(&self) -> Vec<u32> {
+    fn numbers(&self) -> Vec<u64> {
         Vec::new()
     }
 
@@ -627,6 +753,10 @@ impl Call for Verify {
         None
     }
 
+    fn modulus(&self) -> Residue {
+        plain::look(&self.text).settings.modulus
+    }
+
     fn pairs(&self, _: &Lengths) -> Vec<(usize, usize)> {
         Vec::new()
     }
@@ -657,7 +787,7 @@ impl Call for Verify {
         Outcome::new(number).with_word("verdict", self.verdict, &VERDICTS)
     }
 
-    fn numbers(&self) -> Vec<u32> {
+    fn numbers(&self) -> Vec<u64> {
         Vec::new()
     }
 

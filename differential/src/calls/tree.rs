@@ -10,17 +10,17 @@ use reference::draw::{damage_by, damage_some, Limits};
 use reference::plain::refusals::Lengths;
 use reference::random::Random;
 use reference::refuse::BRANCH;
-use reference::types::{Residues, Settings};
+use reference::types::{Residue, Residues, Settings};
 use reference::{fast, plain};
 
 #[derive(Clone)]
 pub struct Extract {
     tree: Tree,
-    commitment: Vec<u32>,
+    commitment: Vec<Residue>,
 }
 
 /// The extractor by one of the references.
-type Extractor = fn(Settings, Residues, &[u32], &[u32], &[u32], &[i32], &mut [i64]) -> u32;
+type Extractor = fn(Settings, Residues, &[Residue], &[Residue], &[u32], &[i32], &mut [i64]) -> u32;
 
 impl Extract {
     fn new(tree: Tree) -> Extract {
@@ -121,9 +121,9 @@ impl Call for Extract {
 
     fn slices(&mut self) -> Vec<Table<'_>> {
         vec![
-            Table::Unsigned(&mut self.commitment),
-            Table::Unsigned(&mut self.tree.key),
-            Table::Unsigned(&mut self.tree.rounds),
+            Table::Residues(&mut self.commitment),
+            Table::Residues(&mut self.tree.key),
+            Table::Residues(&mut self.tree.rounds),
             Table::Unsigned(&mut self.tree.challenges),
             Table::Signed(&mut self.tree.leaves),
             Table::Wide(&mut self.tree.w),
@@ -134,7 +134,7 @@ impl Call for Extract {
         Outcome::new(number).with("w", &self.tree.w)
     }
 
-    fn numbers(&self) -> Vec<u32> {
+    fn numbers(&self) -> Vec<u64> {
         four(self.tree.settings).to_vec()
     }
 }

@@ -1,20 +1,20 @@
 //! The check of a transcript.
 
-use reference::types::Settings;
+use reference::types::{Residue, Settings};
 
 extern "C" {
     fn wovenrock_check(
         degree: u32,
         depth: u32,
-        modulus: u32,
+        modulus: u64,
         bound: u32,
-        commitment: *const u32,
+        commitment: *const u64,
         commitment_length: usize,
         last: *const i32,
         last_length: usize,
-        key: *const u32,
+        key: *const u64,
         key_length: usize,
-        rounds: *const u32,
+        rounds: *const u64,
         rounds_length: usize,
         challenges: *const u32,
         challenges_length: usize,
@@ -26,10 +26,10 @@ extern "C" {
 #[allow(clippy::too_many_arguments)]
 pub fn check(
     s: Settings,
-    commitment: &[u32],
+    commitment: &[Residue],
     last: &[i32],
-    key: &[u32],
-    rounds: &[u32],
+    key: &[Residue],
+    rounds: &[Residue],
     challenges: &[u32],
     verdict: &mut u32,
 ) -> u32 {

@@ -28,7 +28,7 @@ pub const SETTINGS: usize = 4;
 pub const SESSION: usize = 78;
 
 extern "C" {
-    fn wovenrock_settings(degree: u32, depth: u32, modulus: u32, bound: u32) -> u32;
+    fn wovenrock_settings(degree: u32, depth: u32, modulus: u64, bound: u32) -> u32;
 }
 
 /// Refusals 3 to 6.

@@ -1,22 +1,22 @@
 //! The whole opening.
 
-use reference::types::Settings;
+use reference::types::{Residue, Settings};
 
 extern "C" {
     fn wovenrock_open(
         degree: u32,
         depth: u32,
-        modulus: u32,
+        modulus: u64,
         bound: u32,
-        key: *mut u32,
+        key: *mut u64,
         key_length: usize,
         message: *mut i32,
         message_length: usize,
         challenges: *const u32,
         challenges_length: usize,
-        rounds: *mut u32,
+        rounds: *mut u64,
         rounds_length: usize,
-        commitment: *mut u32,
+        commitment: *mut u64,
         commitment_length: usize,
         last: *mut i32,
         last_length: usize,
@@ -28,11 +28,11 @@ extern "C" {
 #[allow(clippy::too_many_arguments)]
 pub fn open(
     s: Settings,
-    key: &mut [u32],
+    key: &mut [Residue],
     message: &mut [i32],
     challenges: &[u32],
-    rounds: &mut [u32],
-    commitment: &mut [u32],
+    rounds: &mut [Residue],
+    commitment: &mut [Residue],
     last: &mut [i32],
     verdict: &mut u32,
 ) -> u32 {

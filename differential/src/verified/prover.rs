@@ -1,43 +1,43 @@
 //! The prover's calls.
 
-use reference::types::Settings;
+use reference::types::{Residue, Settings};
 
 extern "C" {
     fn wovenrock_commit(
         degree: u32,
         depth: u32,
-        modulus: u32,
+        modulus: u64,
         bound: u32,
-        key: *const u32,
+        key: *const u64,
         key_length: usize,
         message: *const i32,
         message_length: usize,
-        commitment: *mut u32,
+        commitment: *mut u64,
         commitment_length: usize,
     ) -> u32;
 
     fn wovenrock_round(
         degree: u32,
         depth: u32,
-        modulus: u32,
+        modulus: u64,
         bound: u32,
         done: u32,
-        key: *const u32,
+        key: *const u64,
         key_length: usize,
         message: *const i32,
         message_length: usize,
-        polynomial: *mut u32,
+        polynomial: *mut u64,
         polynomial_length: usize,
     ) -> u32;
 
     fn wovenrock_fold(
         degree: u32,
         depth: u32,
-        modulus: u32,
+        modulus: u64,
         bound: u32,
         done: u32,
         exponent: u32,
-        key: *mut u32,
+        key: *mut u64,
         key_length: usize,
         message: *mut i32,
         message_length: usize,
@@ -46,7 +46,7 @@ extern "C" {
     fn wovenrock_end(
         degree: u32,
         depth: u32,
-        modulus: u32,
+        modulus: u64,
         bound: u32,
         done: u32,
         message: *const i32,
@@ -57,7 +57,7 @@ extern "C" {
 }
 
 /// Commit.
-pub fn commit(s: Settings, key: &[u32], message: &[i32], commitment: &mut [u32]) -> u32 {
+pub fn commit(s: Settings, key: &[Residue], message: &[i32], commitment: &mut [Residue]) -> u32 {
     unsafe {
         wovenrock_commit(
             s.degree,
@@ -75,7 +75,13 @@ pub fn commit(s: Settings, key: &[u32], message: &[i32], commitment: &mut [u32])
 }
 
 /// The prover's round.
-pub fn round(s: Settings, done: u32, key: &[u32], message: &[i32], polynomial: &mut [u32]) -> u32 {
+pub fn round(
+    s: Settings,
+    done: u32,
+    key: &[Residue],
+    message: &[i32],
+    polynomial: &mut [Residue],
+) -> u32 {
     unsafe {
         wovenrock_round(
             s.degree,
@@ -94,7 +100,13 @@ pub fn round(s: Settings, done: u32, key: &[u32], message: &[i32], polynomial: &
 }
 
 /// The fold of both tables.
-pub fn fold(s: Settings, done: u32, exponent: u32, key: &mut [u32], message: &mut [i32]) -> u32 {
+pub fn fold(
+    s: Settings,
+    done: u32,
+    exponent: u32,
+    key: &mut [Residue],
+    message: &mut [i32],
+) -> u32 {
     unsafe {
         wovenrock_fold(
             s.degree,

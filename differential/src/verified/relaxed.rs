@@ -1,17 +1,17 @@
 //! The judge of relaxed openings, and the extractor.
 
-use reference::types::Settings;
+use reference::types::{Residue, Settings};
 
 extern "C" {
     fn wovenrock_judge(
         degree: u32,
         depth: u32,
-        modulus: u32,
+        modulus: u64,
         bound: u32,
-        commitment: *const u32,
+        commitment: *const u64,
         commitment_length: usize,
         slack: u32,
-        key: *const u32,
+        key: *const u64,
         key_length: usize,
         w: *const i64,
         w_length: usize,
@@ -21,13 +21,13 @@ extern "C" {
     fn wovenrock_extract(
         degree: u32,
         depth: u32,
-        modulus: u32,
+        modulus: u64,
         bound: u32,
-        commitment: *const u32,
+        commitment: *const u64,
         commitment_length: usize,
-        key: *const u32,
+        key: *const u64,
         key_length: usize,
-        rounds: *const u32,
+        rounds: *const u64,
         rounds_length: usize,
         challenges: *const u32,
         challenges_length: usize,
@@ -41,9 +41,9 @@ extern "C" {
 /// The judge of relaxed openings: `yes` becomes 1 or 0.
 pub fn judge(
     s: Settings,
-    commitment: &[u32],
+    commitment: &[Residue],
     slack: u32,
-    key: &[u32],
+    key: &[Residue],
     w: &[i64],
     yes: &mut u32,
 ) -> u32 {
@@ -69,9 +69,9 @@ pub fn judge(
 #[allow(clippy::too_many_arguments)]
 pub fn extract(
     s: Settings,
-    commitment: &[u32],
-    key: &[u32],
-    rounds: &[u32],
+    commitment: &[Residue],
+    key: &[Residue],
+    rounds: &[Residue],
     challenges: &[u32],
     leaves: &[i32],
     w: &mut [i64],

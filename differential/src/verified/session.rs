@@ -1,24 +1,24 @@
 //! The verifier's session on a record in a slice.
 
-use reference::types::Settings;
+use reference::types::{Residue, Settings};
 
 extern "C" {
     fn wovenrock_session_start(
         degree: u32,
         depth: u32,
-        modulus: u32,
+        modulus: u64,
         bound: u32,
-        commitment: *const u32,
+        commitment: *const u64,
         commitment_length: usize,
-        session: *mut u32,
+        session: *mut u64,
         session_length: usize,
     ) -> u32;
 
     fn wovenrock_session_round(
-        polynomial: *const u32,
+        polynomial: *const u64,
         polynomial_length: usize,
         exponent: u32,
-        session: *mut u32,
+        session: *mut u64,
         session_length: usize,
         verdict: *mut u32,
     ) -> u32;
@@ -26,16 +26,16 @@ extern "C" {
     fn wovenrock_session_end(
         last: *const i32,
         last_length: usize,
-        key: *const u32,
+        key: *const u64,
         key_length: usize,
-        session: *mut u32,
+        session: *mut u64,
         session_length: usize,
         verdict: *mut u32,
     ) -> u32;
 }
 
 /// A session's start.
-pub fn session_start(s: Settings, commitment: &[u32], session: &mut [u32]) -> u32 {
+pub fn session_start(s: Settings, commitment: &[Residue], session: &mut [Residue]) -> u32 {
     unsafe {
         wovenrock_session_start(
             s.degree,
@@ -52,9 +52,9 @@ pub fn session_start(s: Settings, commitment: &[u32], session: &mut [u32]) -> u3
 
 /// A session's round.
 pub fn session_round(
-    polynomial: &[u32],
+    polynomial: &[Residue],
     exponent: u32,
-    session: &mut [u32],
+    session: &mut [Residue],
     verdict: &mut u32,
 ) -> u32 {
     unsafe {
@@ -70,7 +70,12 @@ pub fn session_round(
 }
 
 /// A session's end.
-pub fn session_end(last: &[i32], key: &[u32], session: &mut [u32], verdict: &mut u32) -> u32 {
+pub fn session_end(
+    last: &[i32],
+    key: &[Residue],
+    session: &mut [Residue],
+    verdict: &mut u32,
+) -> u32 {
     unsafe {
         wovenrock_session_end(
             last.as_ptr(),

@@ -1,13 +1,13 @@
 //! The calls on text.
 
 use reference::draw::text::Tables;
-use reference::types::{Parts, Settings};
+use reference::types::{Parts, Residue, Settings};
 
 extern "C" {
     fn wovenrock_look(
         text: *const u8,
         text_length: usize,
-        settings: *mut u32,
+        settings: *mut u64,
         settings_length: usize,
     ) -> u32;
 
@@ -15,15 +15,15 @@ extern "C" {
         parts: u32,
         text: *const u8,
         text_length: usize,
-        settings: *mut u32,
+        settings: *mut u64,
         settings_length: usize,
-        key: *mut u32,
+        key: *mut u64,
         key_length: usize,
         message: *mut i32,
         message_length: usize,
-        commitment: *mut u32,
+        commitment: *mut u64,
         commitment_length: usize,
-        rounds: *mut u32,
+        rounds: *mut u64,
         rounds_length: usize,
         challenges: *mut u32,
         challenges_length: usize,
@@ -34,16 +34,16 @@ extern "C" {
     fn wovenrock_write(
         degree: u32,
         depth: u32,
-        modulus: u32,
+        modulus: u64,
         bound: u32,
         parts: u32,
-        key: *const u32,
+        key: *const u64,
         key_length: usize,
         message: *const i32,
         message_length: usize,
-        commitment: *const u32,
+        commitment: *const u64,
         commitment_length: usize,
-        rounds: *const u32,
+        rounds: *const u64,
         rounds_length: usize,
         challenges: *const u32,
         challenges_length: usize,
@@ -73,7 +73,7 @@ pub fn bits(parts: Parts) -> u32 {
 }
 
 /// A first look at a text's settings.
-pub fn look(text: &[u8], settings: &mut [u32]) -> u32 {
+pub fn look(text: &[u8], settings: &mut [Residue]) -> u32 {
     unsafe {
         wovenrock_look(
             text.as_ptr(),
@@ -85,7 +85,7 @@ pub fn look(text: &[u8], settings: &mut [u32]) -> u32 {
 }
 
 /// The table reader.
-pub fn read(parts: u32, text: &[u8], settings: &mut [u32], tables: &mut Tables) -> u32 {
+pub fn read(parts: u32, text: &[u8], settings: &mut [Residue], tables: &mut Tables) -> u32 {
     unsafe {
         wovenrock_read(
             parts,

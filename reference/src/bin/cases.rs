@@ -78,6 +78,7 @@ fn parse(words: &[String]) -> Option<Wanted> {
                 depth,
                 table: usize::MAX,
                 tree: usize::MAX,
+                wide: true,
             })?
         }
         _ => return None,

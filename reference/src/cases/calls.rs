@@ -34,7 +34,7 @@ pub fn round(page: &mut Page, input: &ProverInput) {
 }
 
 /// Answers the tables after the fold.
-pub fn fold(page: &mut Page, input: &ProverInput) -> (Vec<u32>, Vec<i32>) {
+pub fn fold(page: &mut Page, input: &ProverInput) -> (Vec<Residue>, Vec<i32>) {
     page.header("fold");
     page.settings(input.settings);
     page.numbers([input.t, input.e]);

@@ -4,6 +4,7 @@ use super::{calls, chains, small, Page};
 use crate::draw::tables::{self, CommitInput, ProverCall};
 use crate::draw::{damage_some, session, text, tree, Damage, Limits};
 use crate::random::Random;
+use crate::types::{Residue, LARGEST_MODULUS};
 
 /// The names that `print` knows.
 pub const NAMES: [&str; 19] = [
@@ -137,10 +138,15 @@ fn read(page: &mut Page, random: &mut Random, limits: &Limits) {
     calls::read(page, &input);
 }
 
+/// A modulus of many digits.
+fn long_modulus(random: &mut Random) -> Residue {
+    random.pick(&[(1 << 31) - 1, LARGEST_MODULUS])
+}
+
 /// A text of about the largest length.
 fn text_of_length(random: &mut Random) -> text::TextInput {
     let length = random.between(65_534, 65_538) as usize;
-    let (settings, parts, tables) = text::tables_of_length(length);
+    let (settings, parts, tables) = text::tables_of_length(length, long_modulus(random));
     text::TextInput {
         shape: crate::draw::base::shape(settings),
         parts,
@@ -157,7 +163,7 @@ fn write(page: &mut Page, random: &mut Random, limits: &Limits) {
     }
     if random.one_in(100) {
         let length = random.between(65_534, 65_538) as usize;
-        let (settings, parts, tables) = text::tables_of_length(length);
+        let (settings, parts, tables) = text::tables_of_length(length, long_modulus(random));
         input = text::WriteInput {
             shape: crate::draw::base::shape(settings),
             settings,

@@ -36,7 +36,7 @@ impl Page {
     }
 
     pub fn settings(&mut self, s: Settings) {
-        self.numbers([s.degree, s.depth, s.modulus, s.bound]);
+        self.numbers([s.degree.into(), s.depth.into(), s.modulus, s.bound.into()]);
     }
 
     /// An element by value: d places where those behind are 0, or all 64.

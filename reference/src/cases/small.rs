@@ -1,4 +1,4 @@
-//! About forty small cases, degree 2 or 4 and depth 0 to 2, with the listing
+//! About fifty small cases, degree 2 or 4 and depth 0 to 2, with the listing
 //! of document 01 among them.
 
 use super::{calls, chains, Page};
@@ -19,6 +19,7 @@ pub fn print(page: &mut Page, random: &mut Random) {
     extractions(page, random);
     sessions(page, random);
     texts(page, random);
+    wide(page, random);
 }
 
 /// Zeros behind the degree, to keep the cases small.
@@ -153,7 +154,7 @@ fn judgements(page: &mut Page, random: &mut Random) {
 fn judged(input: &tables::JudgeInput) -> (bool, bool) {
     let bound = crate::refuse::growth(&input.shape).unwrap_or(i64::MAX);
     let small = input.w.iter().all(|&x| -bound <= x && x <= bound);
-    let q = i64::from(input.shape.q);
+    let q = input.shape.q as i64;
     let reduced: Vec<i64> = input.w.iter().map(|x| x % q).collect();
     let (c, key) = (input.c, &input.key);
     // The same question with the numbers reduced, so that the bound is met;
@@ -311,4 +312,48 @@ fn verifiable_listing() -> Vec<u8> {
         final_element: vec![1, 0],
     };
     text::lines(input.settings, &tables).concat()
+}
+
+/// Moduli past 31 bits: the largest, and one past 32 that is not prime.
+fn wide(page: &mut Page, random: &mut Random) {
+    let (most, other) = (LARGEST_MODULUS, (1 << 32) + 1);
+    let mut input = opening(random, Settings::new(2, 1, most, 127));
+    input.key.fill(most - 1);
+    calls::opening(page, &input);
+    let input = opening(random, Settings::new(2, 1, other, 3));
+    calls::commit(page, &input);
+    let round = spoiled(random, Settings::new(2, 1, most, 2), Cause::Round(1));
+    calls::check(page, &round);
+    let (mut judged, _) = tables::judge_any_at(random, Settings::new(2, 1, most, 127));
+    tidy(&mut judged.commitment, judged.shape.d);
+    calls::judge(page, &judged);
+    for q in [most, other] {
+        let tree = tree::free_at(random, Settings::new(2, 1, q, 2));
+        calls::extract(page, &tidy_tree(tree));
+    }
+    let mut listing = listing();
+    listing.settings.modulus = most;
+    chains::print_moves(page, random, &listing, false);
+    wide_texts(page);
+}
+
+/// The listing's text with the largest modulus, and with values at the limits
+/// of their parts and past them.
+fn wide_texts(page: &mut Page) {
+    let changed = |old: &str, new: &str| {
+        let mut input = provable_listing();
+        let text = String::from_utf8_lossy(&input.text()).replacen(old, new, 1);
+        input.lines = vec![text.into_bytes()];
+        input
+    };
+    let most = "0 0 2 2305843009213693951\n";
+    calls::prove(page, &changed("0 0 2 17\n", most).text(), 200);
+    for (old, new) in [
+        ("1 0 0 3\n", "1 0 0 2305843009213693951\n"),
+        ("1 0 0 3\n", "1 0 0 2305843009213693952\n"),
+        ("2 0 0 1\n", "2 0 0 2147483648\n"),
+        ("0 0 0 2\n", "0 0 0 4294967298\n"),
+    ] {
+        calls::read(page, &changed(old, new));
+    }
 }

@@ -3,7 +3,7 @@
 use super::Limits;
 use crate::random::Random;
 use crate::refuse::{self, Shape};
-use crate::types::{Residues, Settings, Wholes, PLACES};
+use crate::types::{Residue, Residues, Settings, Wholes, LARGEST_MODULUS, PLACES};
 
 /// The shape of settings that are known to be valid.
 pub fn shape(s: Settings) -> Shape {
@@ -19,14 +19,45 @@ pub fn settings(random: &mut Random, limits: &Limits, for_tree: bool) -> Setting
         let tree = 3usize.pow(depth) * degree as usize;
         let fits = table <= limits.table && (!for_tree || tree <= limits.tree);
         if degree <= limits.degree && fits {
-            return Settings::new(degree, depth, modulus(random), bound(random));
+            let modulus = if limits.wide {
+                modulus(random)
+            } else {
+                narrow_modulus(random)
+            };
+            return Settings::new(degree, depth, modulus, bound(random));
         }
     }
 }
 
 /// A modulus: a special one, or an odd one of any length.
-pub fn modulus(random: &mut Random) -> u32 {
-    const SPECIAL: [u32; 10] = [
+pub fn modulus(random: &mut Random) -> Residue {
+    const SPECIAL: [Residue; 16] = [
+        3,
+        5,
+        9,
+        15,
+        17,
+        12_289,
+        65_535,
+        65_537,
+        (1 << 31) - 1,
+        (1 << 31) + 1,
+        (1 << 32) - 1,
+        (1 << 32) + 1,
+        (1 << 60) + 1,
+        LARGEST_MODULUS - 2,
+        LARGEST_MODULUS,
+        LARGEST_MODULUS,
+    ];
+    if random.one_in(2) {
+        return random.pick(&SPECIAL);
+    }
+    odd(random, 61)
+}
+
+/// The same below 2^31.
+fn narrow_modulus(random: &mut Random) -> Residue {
+    const SPECIAL: [Residue; 10] = [
         3,
         5,
         9,
@@ -41,9 +72,14 @@ pub fn modulus(random: &mut Random) -> u32 {
     if random.one_in(2) {
         return random.pick(&SPECIAL);
     }
-    let bits = random.between(2, 31) as u32;
-    let high = 1u64 << (bits - 1);
-    (high + random.word() % high) as u32 | 1
+    odd(random, 31)
+}
+
+/// An odd number of 2 to `most` bits.
+fn odd(random: &mut Random, most: i64) -> Residue {
+    let bits = random.between(2, most);
+    let high = 1 << (bits - 1);
+    (high + random.word() % high) | 1
 }
 
 pub fn bound(random: &mut Random) -> u32 {
@@ -55,11 +91,12 @@ pub fn bound(random: &mut Random) -> u32 {
 }
 
 /// A table of residues: mostly any, at times only the smallest or largest.
-pub fn residues(random: &mut Random, length: usize, q: u32) -> Vec<u32> {
+pub fn residues(random: &mut Random, length: usize, q: Residue) -> Vec<Residue> {
     let style = random.below(8);
     let draw = |_| match style {
         0 => q - 1,
         1 => random.pick(&[0, 0, 1, q - 1]),
+        2 if q >= 1 << 31 => random.pick(&[0, q - 2, q - 1]),
         _ => random.residue(q),
     };
     (0..length).map(draw).collect()
@@ -104,13 +141,13 @@ pub fn node_exponents(random: &mut Random, nodes: usize, d: usize) -> Vec<u32> {
 
 /// An element by value. Places from the degree on are not read by any call,
 /// so at times they hold anything.
-pub fn residues_by_value(random: &mut Random, coefficients: &[u32]) -> Residues {
+pub fn residues_by_value(random: &mut Random, coefficients: &[Residue]) -> Residues {
     let junk = random.one_in(3);
     let mut places = [0; PLACES];
     for (k, place) in places.iter_mut().enumerate() {
         *place = match coefficients.get(k) {
             Some(&x) => x,
-            None if junk => random.word() as u32,
+            None if junk => random.word(),
             None => 0,
         };
     }
@@ -137,9 +174,16 @@ pub fn damage_settings(random: &mut Random, s: &mut Settings, number: u32) -> bo
         refuse::DEGREE => s.degree = random.pick(&[0, 1, 3, 6, 12, 63, 65, 128, u32::MAX]),
         refuse::DEPTH => s.depth = random.pick(&[9, 10, 31, 32, 64, u32::MAX]),
         refuse::MODULUS => {
-            let even = s.modulus & !1;
-            let list = [0, 1, 2, 4, even, 1 << 31, (1 << 31) + 1, u32::MAX];
-            s.modulus = random.pick(&list);
+            const OVER: Residue = 1 << 61;
+            let odd = s.modulus | 1;
+            let list = [0, 1, 2, 1 << 32, odd - 1, OVER, OVER + 1, OVER | odd];
+            let high = [
+                (1 << 63) + 1,
+                (1 << 63) | odd,
+                Residue::MAX - 1,
+                Residue::MAX,
+            ];
+            s.modulus = random.pick(&[&list[..], &high].concat());
         }
         refuse::BOUND => s.bound = random.pick(&[0, 128, 255, u32::MAX]),
         _ => return false,
@@ -161,12 +205,20 @@ pub fn damage_length<T: Copy + Default>(random: &mut Random, table: &mut Vec<T>)
 }
 
 /// Puts a number that is no residue at one place.
-pub fn damage_residue(random: &mut Random, table: &mut [u32], q: u32) -> bool {
+pub fn damage_residue(random: &mut Random, table: &mut [Residue], q: Residue) -> bool {
     if table.is_empty() {
         return false;
     }
     let place = random.below(table.len());
-    table[place] = random.pick(&[q, q + 1, u32::MAX, u32::MAX - q]);
+    let list = [q, q + 1, Residue::MAX, Residue::MAX - q];
+    // Past 32 bits, and past 61, with a residue behind.
+    let over = [
+        (1 << 32).max(q),
+        (1 << 61) + q - 1,
+        (1 << 62) | (q - 1),
+        1 << 63,
+    ];
+    table[place] = random.pick(&[list, over].concat());
     true
 }
 

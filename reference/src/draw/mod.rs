@@ -23,27 +23,37 @@ pub struct Limits {
     pub table: usize,
     /// Coefficients of all leaves of a tree.
     pub tree: usize,
+    /// Whether moduli of 2^31 and more are drawn too.
+    pub wide: bool,
 }
 
 impl Limits {
-    /// All degrees and depths, with a limit on the number of coefficients.
+    /// All degrees, depths and moduli, with a limit on the number of
+    /// coefficients.
     pub fn new(table: usize, tree: usize) -> Limits {
         Limits {
             degree: 64,
             depth: 8,
             table,
             tree,
+            wide: true,
         }
     }
 
-    /// Degrees 2 and 4, depths 0 to 2.
+    /// Degrees 2 and 4, depths 0 to 2, moduli below 2^31.
     pub fn small() -> Limits {
         Limits {
             degree: 4,
             depth: 2,
             table: 16,
             tree: 36,
+            wide: false,
         }
+    }
+
+    /// The same with all moduli.
+    pub fn with_wide_moduli(self) -> Limits {
+        Limits { wide: true, ..self }
     }
 }
 

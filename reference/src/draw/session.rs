@@ -53,7 +53,7 @@ pub struct EndInput {
     pub shape: Shape,
     pub record: Record,
     pub final_element: Wholes,
-    pub key: Vec<u32>,
+    pub key: Vec<Residue>,
 }
 
 /// The round polynomial of round `t`+1 of a transcript.
@@ -212,7 +212,7 @@ impl Damage for EndInput {
 #[allow(clippy::large_enum_variant)]
 pub enum Move {
     Round(Polynomial, u32),
-    End(Wholes, Vec<u32>),
+    End(Wholes, Vec<Residue>),
 }
 
 /// A session: where it starts, and its moves, each with the refusal that it

@@ -4,6 +4,7 @@
 use super::base::*;
 use super::{Damage, Limits};
 use crate::fast;
+use crate::plain::ring::{elements, inner_product_modulo, reduce, scale};
 use crate::random::Random;
 use crate::refuse::{self, Shape};
 use crate::types::*;
@@ -13,11 +14,11 @@ use crate::types::*;
 pub struct OpeningInput {
     pub shape: Shape,
     pub settings: Settings,
-    pub key: Vec<u32>,
+    pub key: Vec<Residue>,
     pub message: Vec<i32>,
     pub challenges: Vec<u32>,
     /// The rounds' table, to be written: any numbers.
-    pub rounds: Vec<u32>,
+    pub rounds: Vec<Residue>,
 }
 
 pub fn opening(random: &mut Random, limits: &Limits) -> OpeningInput {
@@ -33,7 +34,7 @@ pub fn opening_at(random: &mut Random, settings: Settings) -> OpeningInput {
         key: residues(random, shape.table(), shape.q),
         message: wholes(random, shape.table(), shape.b),
         challenges: exponents(random, shape.l, shape.d),
-        rounds: vec![u32::MAX; shape.rounds()],
+        rounds: vec![Residue::MAX; shape.rounds()],
     }
 }
 
@@ -90,7 +91,7 @@ pub struct ProverInput {
     pub settings: Settings,
     pub t: u32,
     pub e: u32,
-    pub key: Vec<u32>,
+    pub key: Vec<Residue>,
     pub message: Vec<i32>,
 }
 
@@ -187,7 +188,7 @@ pub struct JudgeInput {
     pub settings: Settings,
     pub commitment: Residues,
     pub c: u32,
-    pub key: Vec<u32>,
+    pub key: Vec<Residue>,
     pub w: Vec<i64>,
 }
 
@@ -230,9 +231,44 @@ pub fn judge_at(random: &mut Random, settings: Settings) -> (JudgeInput, u32) {
     (input, tested.err().unwrap_or(0))
 }
 
+/// An input of the judge with any w within its bound, and the commitment that
+/// it opens.
+pub fn judge_any_at(random: &mut Random, settings: Settings) -> (JudgeInput, u32) {
+    let (mut input, number) = judge_at(random, settings);
+    if number != 0 {
+        return (input, number);
+    }
+    let shape = input.shape;
+    let bound = refuse::growth(&shape).unwrap_or(0);
+    let extreme = random.one_in(2);
+    for x in &mut input.w {
+        *x = if extreme {
+            random.pick(&[bound, -bound, bound - 1, 0])
+        } else {
+            random.between(-bound, bound)
+        };
+    }
+    let (w, g) = (elements(&input.w, shape.d), elements(&input.key, shape.d));
+    let opened = inner_product_modulo(&w, &g, shape.d, shape.q);
+    let inverse = inverse(input.c, shape.q);
+    let commitment = reduce(&scale(&opened, inverse), shape.q);
+    for (place, x) in input.commitment.iter_mut().zip(commitment) {
+        *place = x as Residue;
+    }
+    (input, 0)
+}
+
+/// The inverse modulo q of a number that shares no factor with it.
+fn inverse(c: u32, q: Residue) -> i128 {
+    let (c, q) = (i128::from(c), i128::from(q));
+    // 1 + k·q is a multiple of c for one k below c.
+    let k = (0..c).find(|k| (1 + k * q) % c == 0);
+    k.map_or(0, |k| (1 + k * q) / c)
+}
+
 /// A slack in its range that shares a factor with q, where there is one.
-fn sharing(random: &mut Random, q: u32) -> Option<u32> {
-    let factor = (2..=65_536).find(|factor| q % factor == 0)?;
+fn sharing(random: &mut Random, q: Residue) -> Option<u32> {
+    let factor = (2..=65_536).find(|&factor| q.is_multiple_of(Residue::from(factor)))?;
     Some(factor * random.between(1, i64::from(65_536 / factor)) as u32)
 }
 
@@ -245,7 +281,7 @@ fn empty(random: &mut Random, input: &mut JudgeInput) {
     };
     input.c = c;
     input.w.fill(0);
-    let common = refuse::common_divisor(c, q);
+    let common = refuse::common_divisor(c.into(), q);
     for x in &mut input.commitment[..input.shape.d] {
         *x = q / common * random.residue(common);
     }
@@ -260,7 +296,7 @@ fn spoil_judged(
     w: &mut [i64],
 ) {
     let place = random.below(w.len());
-    let q = i64::from(shape.q);
+    let q = shape.q as i64;
     match random.below(8) {
         0 => commitment[random.below(shape.d)] = random.residue(shape.q),
         1 => w[place] = random.pick(&[bound, -bound, bound + 1, -bound - 1]),

@@ -10,10 +10,10 @@ use crate::types::*;
 /// The tables of parts 1 to 6; an absent one is empty.
 #[derive(Clone, Debug, PartialEq, Eq, Default)]
 pub struct Tables {
-    pub key: Vec<u32>,
+    pub key: Vec<Residue>,
     pub message: Vec<i32>,
-    pub commitment: Vec<u32>,
-    pub rounds: Vec<u32>,
+    pub commitment: Vec<Residue>,
+    pub rounds: Vec<Residue>,
     pub challenges: Vec<u32>,
     pub final_element: Vec<i32>,
 }
@@ -31,26 +31,27 @@ impl Tables {
     }
 
     /// The values of part 1 to 6.
-    fn values(&self, part: usize) -> Vec<i64> {
-        let unsigned = |table: &[u32]| table.iter().map(|&x| i64::from(x)).collect();
-        let signed = |table: &[i32]| table.iter().map(|&x| i64::from(x)).collect();
+    fn values(&self, part: usize) -> Vec<i128> {
+        fn whole<T: Copy + Into<i128>>(table: &[T]) -> Vec<i128> {
+            table.iter().map(|&x| x.into()).collect()
+        }
         match part {
-            1 => unsigned(&self.key),
-            2 => signed(&self.message),
-            3 => unsigned(&self.commitment),
-            4 => unsigned(&self.rounds),
-            5 => unsigned(&self.challenges),
-            _ => signed(&self.final_element),
+            1 => whole(&self.key),
+            2 => whole(&self.message),
+            3 => whole(&self.commitment),
+            4 => whole(&self.rounds),
+            5 => whole(&self.challenges),
+            _ => whole(&self.final_element),
         }
     }
 
     /// Tables of the given lengths that hold numbers to be overwritten.
     pub fn to_be_written(lengths: [usize; 6]) -> Tables {
         Tables {
-            key: vec![u32::MAX; lengths[0]],
+            key: vec![Residue::MAX; lengths[0]],
             message: vec![i32::MIN; lengths[1]],
-            commitment: vec![u32::MAX; lengths[2]],
-            rounds: vec![u32::MAX; lengths[3]],
+            commitment: vec![Residue::MAX; lengths[2]],
+            rounds: vec![Residue::MAX; lengths[3]],
             challenges: vec![u32::MAX; lengths[4]],
             final_element: vec![i32::MIN; lengths[5]],
         }
@@ -80,7 +81,8 @@ fn parts(random: &mut Random) -> Parts {
 /// Every line of a text with its line feed, the names line first.
 pub fn lines(s: Settings, tables: &Tables) -> Vec<Vec<u8>> {
     let mut lines = vec![b"part item place value\n".to_vec()];
-    let settings = [s.degree, s.depth, s.modulus, s.bound].map(i64::from);
+    let (d, l, b) = (s.degree.into(), s.depth.into(), s.bound.into());
+    let settings: [i128; 4] = [d, l, s.modulus.into(), b];
     add_lines(&mut lines, 0, 4, &settings);
     for part in 1..=6 {
         let size = if part == 5 { 1 } else { s.degree as usize };
@@ -89,7 +91,7 @@ pub fn lines(s: Settings, tables: &Tables) -> Vec<Vec<u8>> {
     lines
 }
 
-fn add_lines(lines: &mut Vec<Vec<u8>>, part: usize, size: usize, values: &[i64]) {
+fn add_lines(lines: &mut Vec<Vec<u8>>, part: usize, size: usize, values: &[i128]) {
     for (i, value) in values.iter().enumerate() {
         let line = format!("{part} {} {} {value}\n", i / size, i % size);
         lines.push(line.into_bytes());
@@ -173,18 +175,20 @@ pub fn verifiable(random: &mut Random, limits: &Limits) -> (TextInput, bool) {
     (input, cause.is_none())
 }
 
-/// Settings and tables whose text has exactly this length, between 42,000
-/// and 77,000 bytes: a long key with as many digits as are wanted.
-pub fn tables_of_length(length: usize) -> (Settings, Parts, Tables) {
-    let settings = Settings::new(64, 6, 2_147_483_647, 1);
+/// Settings with this modulus, of 10 digits or more, and tables whose text has
+/// exactly this length, between 42,000 and 77,000 bytes: a long key with as
+/// many digits as are wanted.
+pub fn tables_of_length(length: usize, q: Residue) -> (Settings, Parts, Tables) {
+    let settings = Settings::new(64, 6, q, 1);
+    let digits = q.ilog10() as usize;
     let mut tables = Tables {
         key: vec![0; 4096],
         ..Tables::default()
     };
     let mut missing = length - lines(settings, &tables).concat().len();
     for x in tables.key.iter_mut() {
-        let more = missing.min(9);
-        *x = 10u32.pow(more as u32);
+        let more = missing.min(digits);
+        *x = 10u64.pow(more as u32);
         missing -= more;
     }
     (settings, [true, false, false, false, false, false], tables)
@@ -257,6 +261,10 @@ impl TextInput {
                 let field = random.below(3);
                 let old: u64 = fields[field].parse().unwrap_or(0);
                 fields[field] = (old + 1).to_string();
+                if field == 0 {
+                    // The next part may have less room for a value.
+                    fields[3] = "0".to_string();
+                }
                 self.lines[place] = joined(&fields);
             }
             4 if count > 0 => self.lines.truncate(place),
@@ -362,17 +370,14 @@ impl TextInput {
             2 => fields[i].insert(0, '+'),
             3 if i < 3 || negative => fields[i].insert(0, '-'),
             4 => fields[i] = "-0".to_string(),
-            5 => fields[i] = random.pick(&["2147483648", "4294967296"]).to_string(),
-            6 => {
-                fields[3] = random
-                    .pick(&["-2147483648", "-", "--1", "-01", "1-"])
-                    .to_string()
-            }
+            5 => fields[i] = too_large(random, &fields[0], i).to_string(),
+            6 if random.one_in(2) => fields[3] = format!("-{}", too_large(random, &fields[0], 3)),
+            6 => fields[3] = random.pick(&["-", "--1", "-01", "1-"]).to_string(),
             7 => {
                 fields.remove(i);
             }
             8 => fields.insert(i, "0".to_string()),
-            _ => fields[i] = "9".repeat(random.between(11, 40) as usize),
+            _ => fields[i] = "9".repeat(random.between(20, 40) as usize),
         }
         self.lines[place] = joined(&fields);
     }
@@ -389,30 +394,75 @@ impl TextInput {
     }
 }
 
+const NARROW: i64 = LARGEST_NARROW as i64;
+const WIDE: i64 = LARGEST_VALUE as i64;
+
+/// A number that is too large for a column of a line of this part, and its
+/// first digits as a rule are not.
+fn too_large(random: &mut Random, part: &str, column: usize) -> &'static str {
+    const PAST_NARROW: [&str; 6] = [
+        "2147483648",
+        "4294967295",
+        "4294967296",
+        "4294967298",
+        "21474836470",
+        "2305843009213693951",
+    ];
+    const PAST_WIDE: [&str; 8] = [
+        "2305843009213693952",
+        "4611686018427387904",
+        "9223372036854775807",
+        "9223372036854775808",
+        "10000000000000000000",
+        "18446744073709551615",
+        "18446744073709551617",
+        "23058430092136939510",
+    ];
+    let narrow = column < 3 || ["2", "5", "6"].contains(&part);
+    if narrow && random.one_in(2) {
+        return random.pick(&PAST_NARROW);
+    }
+    random.pick(&PAST_WIDE)
+}
+
 impl Damage for TextInput {
     const NUMBERS: &'static [u32] = &[1, 2, 2, 3, 4, 5, 6, 7, 7, 8, 9, 10];
 
     fn damage(&mut self, random: &mut Random, number: u32) -> bool {
-        const HIGH: i64 = 2_147_483_647;
         let Shape { d, q, b, .. } = self.shape;
-        let (end, q) = (2 * d as i64, i64::from(q));
+        let (end, q) = (2 * d as i64, q as i64);
+        // As many bits as a 32-bit number has, and a setting behind.
+        let past = |x: usize| (1 << 32) + x as i64;
         match number {
             refuse::LONG => self.damage_long(random),
             refuse::TEXT => self.damage_shape(random),
-            refuse::DEGREE => self.set_value_at(1, random.pick(&[0, 1, 3, -2, 128, HIGH])),
-            refuse::DEPTH => self.set_value_at(2, random.pick(&[9, 10, -1, HIGH, -HIGH])),
-            refuse::MODULUS => self.set_value_at(3, random.pick(&[0, 1, 2, 18, -17, HIGH - 1])),
-            refuse::BOUND => self.set_value_at(4, random.pick(&[0, 128, -1, HIGH])),
+            refuse::DEGREE => {
+                let list = [0, 1, 3, -2, 128, NARROW, NARROW + 1, past(d), WIDE, -WIDE];
+                self.set_value_at(1, random.pick(&list));
+            }
+            refuse::DEPTH => {
+                let list = [9, 10, -1, NARROW, -NARROW, past(0), past(1), WIDE, -WIDE];
+                self.set_value_at(2, random.pick(&list));
+            }
+            refuse::MODULUS => {
+                let list = [0, 1, 2, 18, -17, NARROW - 1, past(0), WIDE - 1, -WIDE];
+                self.set_value_at(3, random.pick(&list));
+            }
+            refuse::BOUND => {
+                let list = [0, 128, -1, NARROW, NARROW + 1, past(1), WIDE, -WIDE];
+                self.set_value_at(4, random.pick(&list));
+            }
             refuse::SIZE => self.damage_size(random),
             refuse::RESIDUE => {
-                let over = (q + 1).min(HIGH);
-                return self.set_value(random, b"134", &[q, over, HIGH, -1, -HIGH]);
+                let over = (q + 1).min(WIDE);
+                let list = [q, over, WIDE, -1, -WIDE, q.max(1 << 32)];
+                return self.set_value(random, b"134", &list);
             }
             refuse::TALL => {
-                return self.set_value(random, b"2", &[b + 1, -b - 1, HIGH, -HIGH]);
+                return self.set_value(random, b"2", &[b + 1, -b - 1, NARROW, -NARROW]);
             }
             refuse::CHALLENGE => {
-                return self.set_value(random, b"5", &[end, end + 1, -1, HIGH]);
+                return self.set_value(random, b"5", &[end, end + 1, -1, NARROW]);
             }
             _ => return false,
         }

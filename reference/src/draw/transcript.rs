@@ -15,9 +15,9 @@ use crate::types::*;
 pub struct Transcript {
     pub shape: Shape,
     pub settings: Settings,
-    pub key: Vec<u32>,
+    pub key: Vec<Residue>,
     pub commitment: Residues,
-    pub rounds: Vec<u32>,
+    pub rounds: Vec<Residue>,
     pub challenges: Vec<u32>,
     pub final_element: Wholes,
 }
@@ -82,14 +82,14 @@ pub fn free(random: &mut Random, limits: &Limits) -> Transcript {
 }
 
 /// Residues as they stand in tables.
-pub fn narrow(a: &[i128]) -> Vec<u32> {
-    a.iter().map(|&x| x as u32).collect()
+pub fn narrow(a: &[i128]) -> Vec<Residue> {
+    a.iter().map(|&x| x as Residue).collect()
 }
 
 /// The claim that a final element meets: half^L·f·G'.
 pub fn last_claim(
     shape: &Shape,
-    key: &[u32],
+    key: &[Residue],
     challenges: &[u32],
     final_element: &[i32],
 ) -> Element {
@@ -100,7 +100,7 @@ pub fn last_claim(
             *a = reduce(&add(a, &rotate(b, e as usize)), shape.q);
         }
     }
-    let product = multiply(&element(final_element), &left[0]);
+    let product = reduce(&multiply(&element(final_element), &left[0]), shape.q);
     reduce(&scale(&product, half_power(shape.q, shape.l)), shape.q)
 }
 
@@ -111,16 +111,16 @@ pub fn spoil(random: &mut Random, transcript: &mut Transcript) -> Option<Cause> 
         0 => spoil_commitment(random, transcript),
         1 | 2 if transcript.shape.l > 0 => spoil_round(random, transcript),
         3 => spoil_bound(random, transcript),
-        4 => add_modulus(random, transcript),
+        4 if transcript.shape.q < 1 << 31 => add_modulus(random, transcript),
         _ => spoil_equation(random, transcript),
     }
 }
 
 /// Another residue at one place.
-fn change(random: &mut Random, coefficients: &mut [u32], q: u32) {
+fn change(random: &mut Random, coefficients: &mut [Residue], q: Residue) {
     let place = random.below(coefficients.len());
-    let more = random.between(1, i64::from(q) - 1);
-    coefficients[place] = ((i64::from(coefficients[place]) + more) % i64::from(q)) as u32;
+    let more = random.between(1, q as i64 - 1) as Residue;
+    coefficients[place] = (coefficients[place] + more) % q;
 }
 
 /// The next test of the claim after `done` rounds fails.
@@ -156,8 +156,8 @@ fn spoil_bound(random: &mut Random, transcript: &mut Transcript) -> Option<Cause
     Some(Cause::Bound)
 }
 
-/// Adds a multiple of q to a final coefficient: the equation stays, and the
-/// bound decides.
+/// Adds a multiple of q, which is below 2^31, to a final coefficient: the
+/// equation stays, and the bound decides.
 fn add_modulus(random: &mut Random, transcript: &mut Transcript) -> Option<Cause> {
     let shape = transcript.shape;
     let place = random.below(shape.d);
@@ -165,7 +165,7 @@ fn add_modulus(random: &mut Random, transcript: &mut Transcript) -> Option<Cause
     // One step up or down always fits in 32 bits.
     let mut fits: Vec<i64> = (-3..=3)
         .filter(|&steps| steps != 0)
-        .map(|steps| old + steps * i64::from(shape.q))
+        .map(|steps| old + steps * shape.q as i64)
         .collect();
     fits.retain(|&x| i32::try_from(x).is_ok());
     let new = random.pick(&fits);

@@ -16,8 +16,8 @@ pub struct Tree {
     pub shape: Shape,
     pub settings: Settings,
     pub commitment: Residues,
-    pub key: Vec<u32>,
-    pub rounds: Vec<u32>,
+    pub key: Vec<Residue>,
+    pub rounds: Vec<Residue>,
     pub challenges: Vec<u32>,
     pub leaves: Vec<i32>,
     /// The vector to be written: any numbers.
@@ -45,7 +45,7 @@ impl Tree {
         refuse::growth(&self.shape).err().unwrap_or(0)
     }
 
-    fn store_polynomial(&mut self, node: usize, c: &[u32]) {
+    fn store_polynomial(&mut self, node: usize, c: &[Residue]) {
         let size = 3 * self.shape.d;
         self.rounds[node * size..][..size].copy_from_slice(c);
     }
@@ -106,7 +106,7 @@ impl Tree {
 
     /// Fills in the round polynomials and leaves that the prover gives below
     /// a node, `t` rounds being done.
-    fn fill_honest(&mut self, node: usize, t: u32, key: &[u32], message: &[i32]) {
+    fn fill_honest(&mut self, node: usize, t: u32, key: &[Residue], message: &[i32]) {
         let d = self.shape.d;
         if t == self.settings.depth {
             let leaf = node - self.shape.nodes();
@@ -206,7 +206,7 @@ impl Tree {
     fn damage_branch(&mut self, random: &mut Random) -> bool {
         let Shape { d, q, .. } = self.shape;
         let bound = self.shape.final_bound();
-        let more = |x: u32| ((u64::from(x) + 1) % u64::from(q)) as u32;
+        let more = |x: Residue| (x + 1) % q;
         match random.below(3) {
             0 => return damage_whole(random, &mut self.leaves, bound),
             1 if !self.rounds.is_empty() => {

@@ -1,18 +1,18 @@
 //! The judge and the extractor.
 
-use super::at_degree;
 use super::opening::{fold_key, last_equation, next_claim, round_holds};
-use super::ring::{add_rotated_wholes, divide_two, first_places, Modulus, Sum};
+use super::ring::{add_rotated_wholes, divide_two, first_places, words, Modulus};
+use super::{at_degree, Narrow, Wide};
 use crate::admit;
 use crate::refuse::{self, within, Checked, Shape};
 use crate::types::*;
 
 /// Call 10.
-pub fn judge(s: Settings, commitment: Residues, c: u32, key: &[u32], w: &[i64]) -> JudgeAnswer {
+pub fn judge(s: Settings, commitment: Residues, c: u32, key: &[Residue], w: &[i64]) -> JudgeAnswer {
     let (number, yes) = match admit::judge(s, &commitment, c, key, w) {
         Ok((shape, bound)) => {
             let small = w.iter().all(|&x| -bound <= x && x <= bound);
-            let opens = || at_degree!(shape.d, opens(&shape, &commitment, c, key, w));
+            let opens = || at_degree!(shape, opens(&shape, &commitment, c, key, w));
             (0, small && opens())
         }
         Err(number) => (number, false),
@@ -20,49 +20,25 @@ pub fn judge(s: Settings, commitment: Residues, c: u32, key: &[u32], w: &[i64]) 
     JudgeAnswer { number, yes }
 }
 
-fn opens<const D: usize>(
+fn opens<const D: usize, M: Modulus>(
     shape: &Shape,
     commitment: &Residues,
     c: u32,
-    key: &[u32],
+    key: &[Residue],
     w: &[i64],
 ) -> bool {
-    let modulus = Modulus::new(shape.q);
-    let wanted = |&x: &u32| modulus.reduce(u64::from(x) * u64::from(c));
-    let found: [u32; D] = inner_product_wide(shape, key, w, modulus);
+    let modulus = M::new(shape.q);
+    let found = modulus.inner_product_any(w.as_chunks::<D>().0, &words::<D, M>(key));
+    let wanted = |&x: &Residue| modulus.scaled(M::word(x), c);
     found.into_iter().eq(commitment[..D].iter().map(wanted))
-}
-
-/// The sum of w_i·G_i modulo q. Each w is reduced and then taken in two parts
-/// of at most 16 bits, so that sums over all n·D products fit in 64 bits:
-/// 2^16·2^31·2^14. A small modulus leaves the high part 0.
-fn inner_product_wide<const D: usize>(
-    shape: &Shape,
-    key: &[u32],
-    w: &[i64],
-    modulus: Modulus,
-) -> [u32; D] {
-    let mut low = Sum::<D>::new(0);
-    let mut high = Sum::<D>::new(0);
-    let small = shape.q <= 1 << 16;
-    for (w, g) in w.as_chunks::<D>().0.iter().zip(key.as_chunks::<D>().0) {
-        let w = w.map(|x| modulus.reduce_signed(x));
-        low.add_product(&w.map(|x| (x & 0xffff) as i32), g, shape.q);
-        if !small {
-            high.add_product(&w.map(|x| (x >> 16) as i32), g, shape.q);
-        }
-    }
-    let low = low.residues(modulus);
-    let high = high.residues(modulus);
-    std::array::from_fn(|k| modulus.reduce(u64::from(low[k]) + (u64::from(high[k]) << 16)))
 }
 
 /// Call 11.
 pub fn extract(
     s: Settings,
     commitment: Residues,
-    key: &[u32],
-    rounds: &[u32],
+    key: &[Residue],
+    rounds: &[Residue],
     challenges: &[u32],
     leaves: &[i32],
     w: &mut [i64],
@@ -70,7 +46,7 @@ pub fn extract(
     match admit::tree(s, &commitment, key, rounds, challenges, leaves, w) {
         Ok(shape) => {
             let result = at_degree!(
-                shape.d,
+                shape,
                 extract_at(&shape, &commitment, key, rounds, challenges, leaves, w)
             );
             result.err().unwrap_or(0)
@@ -79,49 +55,50 @@ pub fn extract(
     }
 }
 
-fn extract_at<const D: usize>(
+fn extract_at<const D: usize, M: Modulus>(
     shape: &Shape,
     commitment: &Residues,
-    key: &[u32],
-    rounds: &[u32],
+    key: &[Residue],
+    rounds: &[Residue],
     challenges: &[u32],
     leaves: &[i32],
     w: &mut [i64],
 ) -> Checked<()> {
-    let tree = Tree::<D> {
+    let tree = Tree::<D, M> {
         shape,
-        modulus: Modulus::new(shape.q),
-        rounds: rounds.as_chunks().0,
+        modulus: M::new(shape.q),
+        rounds: words::<D, M>(rounds),
         challenges: challenges.as_chunks().0,
         leaves: leaves.as_chunks().0,
     };
-    let claim = first_places(commitment);
+    let claim = first_places(commitment).map(M::word);
     // What the levels below a node need: n/2 + n/4 + ... + 1 elements.
-    let mut folded = vec![[0; D]; shape.n];
-    refuse::branch(tree.accepted(0, &claim, key.as_chunks().0, &mut folded))?;
+    let mut folded = vec![[M::Word::default(); D]; shape.n];
+    let key = words::<D, M>(key);
+    refuse::branch(tree.accepted(0, &claim, &key, &mut folded))?;
     refuse::growth(shape)?;
     let mut below = vec![[0; D]; shape.n];
     tree.vector(0, w.as_chunks_mut().0, &mut below);
     Ok(())
 }
 
-struct Tree<'a, const D: usize> {
+struct Tree<'a, const D: usize, M: Modulus> {
     shape: &'a Shape,
-    modulus: Modulus,
-    rounds: &'a [[u32; D]],
+    modulus: M,
+    rounds: Vec<[M::Word; D]>,
     challenges: &'a [[u32; 3]],
     leaves: &'a [[i32; D]],
 }
 
-impl<const D: usize> Tree<'_, D> {
+impl<const D: usize, M: Modulus> Tree<'_, D, M> {
     /// Whether the verifier accepts every path below a node, given the claim
     /// there and the key folded so far. The key is folded once per child.
     fn accepted(
         &self,
         node: usize,
-        claim: &[u32; D],
-        key: &[[u32; D]],
-        scratch: &mut [[u32; D]],
+        claim: &[M::Word; D],
+        key: &[[M::Word; D]],
+        scratch: &mut [[M::Word; D]],
     ) -> bool {
         if key.len() == 1 {
             return self.leaf_accepted(node, claim, &key[0]);
@@ -140,7 +117,7 @@ impl<const D: usize> Tree<'_, D> {
         })
     }
 
-    fn leaf_accepted(&self, node: usize, claim: &[u32; D], folded_key: &[u32; D]) -> bool {
+    fn leaf_accepted(&self, node: usize, claim: &[M::Word; D], folded_key: &[M::Word; D]) -> bool {
         let f = &self.leaves[node - self.challenges.len()];
         within(f, self.shape.final_bound())
             && last_equation(self.shape, f, folded_key, claim, self.modulus)

@@ -1,158 +1,118 @@
-//! Arithmetic at a constant degree D.
+//! Arithmetic at a constant degree D, over a modulus of either width.
 
-use crate::types::{Residues, PLACES};
+use crate::types::{Residue, Residues, PLACES};
 
-/// A modulus with what a quick reduction needs.
-#[derive(Clone, Copy)]
-pub struct Modulus {
-    pub q: u32,
-    /// 2^64 divided by q, rounded down.
-    reciprocal: u64,
-}
+/// A modulus with arithmetic on words that hold a residue: `Narrow` takes
+/// those below 2^31, `Wide` takes all.
+pub trait Modulus: Copy {
+    /// Holds a residue, and a sum of two.
+    type Word: Copy + Default + PartialEq;
 
-impl Modulus {
-    pub fn new(q: u32) -> Modulus {
-        // q is odd, so it does not divide 2^64.
-        let reciprocal = u64::MAX / u64::from(q);
-        Modulus { q, reciprocal }
-    }
+    /// Holds a sum of 256 residues of either sign.
+    type Total: Copy + Default;
 
-    /// x modulo q: the estimated quotient is at most 1 too small.
-    #[inline]
-    pub fn reduce(self, x: u64) -> u32 {
-        let quotient = ((u128::from(x) * u128::from(self.reciprocal)) >> 64) as u64;
-        let rest = x - quotient * u64::from(self.q);
-        self.once(rest)
-    }
+    type Sum<const D: usize>: Sum<D, Self>;
 
-    /// A number below 2q, brought below q.
-    #[inline]
-    fn once(self, x: u64) -> u32 {
-        let q = u64::from(self.q);
-        if x >= q {
-            (x - q) as u32
-        } else {
-            x as u32
-        }
-    }
+    fn new(q: Residue) -> Self;
 
-    /// A signed number modulo q.
-    #[inline]
-    pub fn reduce_signed(self, x: i64) -> u32 {
-        let rest = self.reduce(x.unsigned_abs());
-        if x < 0 && rest != 0 {
-            self.q - rest
-        } else {
-            rest
-        }
-    }
+    fn q(self) -> Residue;
 
-    #[inline]
-    pub fn add(self, x: u32, y: u32) -> u32 {
-        // Both are below 2^31, so the sum fits.
-        let sum = x + y;
-        sum.min(sum.wrapping_sub(self.q))
-    }
+    /// A residue, or the modulus itself, as a word.
+    fn word(x: Residue) -> Self::Word;
 
-    #[inline]
-    pub fn subtract(self, x: u32, y: u32) -> u32 {
-        let difference = x.wrapping_sub(y);
-        difference.min(difference.wrapping_add(self.q))
-    }
+    fn residue(x: Self::Word) -> Residue;
 
-    #[inline]
-    pub fn multiply(self, x: u32, y: u32) -> u32 {
-        self.reduce(u64::from(x) * u64::from(y))
-    }
+    fn add(self, x: Self::Word, y: Self::Word) -> Self::Word;
+
+    fn subtract(self, x: Self::Word, y: Self::Word) -> Self::Word;
+
+    fn multiply(self, x: Self::Word, y: Self::Word) -> Self::Word;
+
+    /// The sum of two residues, not reduced.
+    fn plain_sum(x: Self::Word, y: Self::Word) -> Self::Word;
+
+    /// A residue times a number of at most 17 bits.
+    fn scaled(self, x: Self::Word, factor: u32) -> Self::Word;
+
+    fn more(total: Self::Total, x: Residue) -> Self::Total;
+
+    fn less(total: Self::Total, x: Residue) -> Self::Total;
+
+    fn reduce_total(self, total: Self::Total) -> Self::Word;
+
+    /// The sum of w_i·G_i modulo q, for any w.
+    fn inner_product_any<const D: usize>(
+        self,
+        w: &[[i64; D]],
+        g: &[[Self::Word; D]],
+    ) -> [Self::Word; D];
 
     /// half^i, half being (q+1)/2.
-    pub fn half_power(self, i: usize) -> u32 {
-        let half = self.q / 2 + 1;
-        (0..i).fold(1, |power, _| self.multiply(power, half))
+    fn half_power(self, i: usize) -> Self::Word {
+        let half = Self::word(self.q() / 2 + 1);
+        (0..i).fold(Self::word(1), |power, _| self.multiply(power, half))
     }
 }
 
 /// A sum of products that is reduced modulo q once, at the end. Message
 /// coefficients are lifted by their bound, so that every product is one of
-/// two unsigned numbers of 32 bits; what the lift adds is known from the sum
-/// of the key elements, and taken away at the end.
-pub struct Sum<const D: usize> {
-    lift: i32,
-    places: [u64; D],
-    keys: [u64; D],
-}
-
-impl<const D: usize> Sum<D> {
+/// two unsigned numbers; what the lift adds is known from the sum of the key
+/// elements, and taken away at the end.
+pub trait Sum<const D: usize, M: Modulus>: Sized {
     /// For message coefficients within plus or minus `lift`.
-    pub fn new(lift: i64) -> Sum<D> {
-        Sum {
-            lift: lift as i32,
-            places: [0; D],
-            keys: [0; D],
-        }
-    }
+    fn new(lift: i64) -> Self;
 
     /// Adds the product of a message element and a key element, whose
-    /// coefficients are at most `top`, a multiple of q. With top-g and then g
-    /// in a window, the coefficient of X^k in X^i·g is at D-i+k.
-    #[inline]
-    pub fn add_product(&mut self, m: &[i32; D], g: &[u32; D], top: u32) {
-        let mut window = [[0; D]; 2];
-        for (k, &y) in g.iter().enumerate() {
-            window[0][k] = top - y;
-            window[1][k] = y;
-            self.keys[k] += u64::from(y);
-        }
-        let window = window.as_flattened();
-        let lifted = m.map(|x| u64::from((x + self.lift) as u32));
-        // Four at a time, so that the sums are loaded and stored less often;
-        // only degree 2 is no multiple of four.
-        let (fours, twos) = lifted.as_chunks::<4>();
-        for (block, x) in fours.iter().enumerate() {
-            let at = D - 4 * block;
-            let a = &window[at..at + D];
-            let b = &window[at - 1..at - 1 + D];
-            let c = &window[at - 2..at - 2 + D];
-            let d = &window[at - 3..at - 3 + D];
-            for k in 0..D {
-                self.places[k] += x[0] * u64::from(a[k])
-                    + x[1] * u64::from(b[k])
-                    + x[2] * u64::from(c[k])
-                    + x[3] * u64::from(d[k]);
-            }
-        }
-        for (i, &x) in twos.iter().enumerate() {
-            for (place, &y) in self.places.iter_mut().zip(&window[D - i..]) {
-                *place += x * u64::from(y);
-            }
+    /// coefficients are at most `top`, which is q or twice q.
+    fn add_product(&mut self, m: &[i32; D], g: &[M::Word; D], top: M::Word);
+
+    /// The sum modulo q.
+    fn residues(&self, modulus: M) -> [M::Word; D];
+}
+
+/// Adds lifted message coefficients times a window of key coefficients: top-g
+/// and then g. The coefficient of X^k in X^i·g is at D-i+k.
+#[inline]
+pub fn add_window<const D: usize>(
+    places: &mut [u64; D],
+    lifted: &[u64; D],
+    window: &[[u32; D]; 2],
+) {
+    let window = window.as_flattened();
+    // Four at a time, so that the sums are loaded and stored less often;
+    // only degree 2 is no multiple of four.
+    let (fours, twos) = lifted.as_chunks::<4>();
+    for (block, x) in fours.iter().enumerate() {
+        let at = D - 4 * block;
+        let a = &window[at..at + D];
+        let b = &window[at - 1..at - 1 + D];
+        let c = &window[at - 2..at - 2 + D];
+        let d = &window[at - 3..at - 3 + D];
+        for k in 0..D {
+            places[k] += x[0] * u64::from(a[k])
+                + x[1] * u64::from(b[k])
+                + x[2] * u64::from(c[k])
+                + x[3] * u64::from(d[k]);
         }
     }
-
-    /// The sum modulo q. The lift times 1 + X + ... + X^(D-1) times the keys
-    /// is too much; its coefficient at X^k is the lift times the keys up to k
-    /// less those behind.
-    pub fn residues(&self, modulus: Modulus) -> [u32; D] {
-        let total: u64 = self.keys.iter().sum();
-        let mut difference = -(total as i64);
-        std::array::from_fn(|k| {
-            difference += 2 * self.keys[k] as i64;
-            modulus.reduce_signed(self.places[k] as i64 - i64::from(self.lift) * difference)
-        })
+    for (i, &x) in twos.iter().enumerate() {
+        for (place, &y) in places.iter_mut().zip(&window[D - i..]) {
+            *place += x * u64::from(y);
+        }
     }
 }
 
 /// The sum of m_i·G_i modulo q, for message coefficients within plus or
-/// minus `bound`. No sum exceeds 64 bits: the bound times the number of
-/// elements is at most 2^15, and D·2^31 at most 2^37.
-pub fn inner_product<const D: usize>(
+/// minus `bound`, which times the number of elements is at most 2^15.
+pub fn inner_product<const D: usize, M: Modulus>(
     m: &[[i32; D]],
-    g: &[[u32; D]],
+    g: &[[M::Word; D]],
     bound: i64,
-    modulus: Modulus,
-) -> [u32; D] {
-    let mut sum = Sum::new(bound);
+    modulus: M,
+) -> [M::Word; D] {
+    let mut sum = M::Sum::<D>::new(bound);
     for (m, g) in m.iter().zip(g) {
-        sum.add_product(m, g, modulus.q);
+        sum.add_product(m, g, M::word(modulus.q()));
     }
     sum.residues(modulus)
 }
@@ -194,11 +154,11 @@ fn combine<T: Copy, U: Copy>(out: &mut [T], a: &[U], with: impl Fn(T, U) -> T) {
 
 /// Adds X^e·a to residues.
 #[inline]
-pub fn add_rotated_residues<const D: usize>(
-    out: &mut [u32; D],
-    a: &[u32; D],
+pub fn add_rotated_residues<const D: usize, M: Modulus>(
+    out: &mut [M::Word; D],
+    a: &[M::Word; D],
     e: usize,
-    modulus: Modulus,
+    modulus: M,
 ) {
     let plus = |x, y| modulus.add(x, y);
     let minus = |x, y| modulus.subtract(x, y);
@@ -241,10 +201,26 @@ pub fn divide_two<const D: usize>(v: &[i64; D], k: usize) -> [i64; D] {
     z
 }
 
+/// The elements of a table of residues as words.
+pub fn words<const D: usize, M: Modulus>(table: &[Residue]) -> Vec<[M::Word; D]> {
+    let mut elements = vec![[M::Word::default(); D]; table.len() / D];
+    for (place, &x) in elements.as_flattened_mut().iter_mut().zip(table) {
+        *place = M::word(x);
+    }
+    elements
+}
+
+/// Stores elements of words in a table of residues.
+pub fn store<const D: usize, M: Modulus>(elements: &[[M::Word; D]], table: &mut [Residue]) {
+    for (place, &x) in table.iter_mut().zip(elements.as_flattened()) {
+        *place = M::residue(x);
+    }
+}
+
 /// An element by value; places from the degree on are 0.
-pub fn by_value<const D: usize>(a: &[u32; D]) -> Residues {
+pub fn by_value<const D: usize, M: Modulus>(a: &[M::Word; D]) -> Residues {
     let mut places = [0; PLACES];
-    places[..D].copy_from_slice(a);
+    store::<D, M>(std::slice::from_ref(a), &mut places);
     places
 }
 

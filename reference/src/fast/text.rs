@@ -34,8 +34,9 @@ impl Reader<'_> {
         Ok(())
     }
 
-    /// A number without sign.
-    fn number(&mut self) -> Checked<u32> {
+    /// A number without sign, at most `most`, which has no more than 19
+    /// digits.
+    fn number(&mut self, most: u64) -> Checked<u64> {
         let first = self.peek().wrapping_sub(b'0');
         if first > 9 {
             return Err(refuse::TEXT);
@@ -45,40 +46,48 @@ impl Reader<'_> {
         loop {
             let digit = self.peek().wrapping_sub(b'0');
             if digit > 9 {
-                return Ok(value as u32);
+                break;
             }
-            value = 10 * value + u64::from(digit);
-            // A digit behind a leading zero, or too large a magnitude.
-            if first == 0 || value > 2_147_483_647 {
+            // A digit behind a leading zero, or a twentieth one.
+            if first == 0 || value >= 1_000_000_000_000_000_000 {
                 return Err(refuse::TEXT);
             }
+            value = 10 * value + u64::from(digit);
             self.at += 1;
         }
+        if value > most {
+            return Err(refuse::TEXT);
+        }
+        Ok(value)
     }
 
     /// A number that may be negative.
-    fn value(&mut self) -> Checked<i32> {
+    fn value(&mut self, most: u64) -> Checked<i64> {
         if self.peek() != b'-' {
-            return Ok(self.number()? as i32);
+            return Ok(self.number(most)? as i64);
         }
         self.at += 1;
-        match self.number()? {
+        match self.number(most)? {
             0 => Err(refuse::TEXT),
-            magnitude => Ok(-(magnitude as i32)),
+            magnitude => Ok(-(magnitude as i64)),
         }
     }
 
-    /// A value line: part, item, place, and its value.
-    fn line(&mut self) -> Checked<([u32; 3], i32)> {
-        let part = self.number()?;
-        self.expect(b' ')?;
-        let item = self.number()?;
-        self.expect(b' ')?;
-        let place = self.number()?;
-        self.expect(b' ')?;
-        let value = self.value()?;
+    /// A value line: part, item, place, and its value, which has less room in
+    /// a message, a challenge or a final element.
+    fn line(&mut self) -> Checked<([u32; 3], i64)> {
+        let mut found = [0; 3];
+        for field in &mut found {
+            *field = self.number(LARGEST_NARROW)? as u32;
+            self.expect(b' ')?;
+        }
+        let most = match found[0] {
+            2 | 5 | 6 => LARGEST_NARROW,
+            _ => LARGEST_VALUE,
+        };
+        let value = self.value(most)?;
         self.expect(b'\n')?;
-        Ok(([part, item, place], value))
+        Ok((found, value))
     }
 
     /// The rest of the text, of which only the shape matters.
@@ -89,8 +98,8 @@ impl Reader<'_> {
         Ok(())
     }
 
-    /// The settings of the first four value lines; below zero they become a
-    /// number that is out of range for each of the four.
+    /// The settings of the first four value lines; below zero, or without
+    /// room, they become a number that is out of range for each of the four.
     fn settings(&mut self) -> Checked<Settings> {
         let mut values = [0; 4];
         for (place, value) in values.iter_mut().enumerate() {
@@ -98,14 +107,17 @@ impl Reader<'_> {
             if found != [0, 0, place as u32] {
                 return Err(refuse::TEXT);
             }
-            *value = u32::try_from(x).unwrap_or(u32::MAX);
+            *value = x;
         }
-        Ok(Settings::new(values[0], values[1], values[2], values[3]))
+        let narrow = |x: i64| u32::try_from(x).unwrap_or(u32::MAX);
+        let [d, l, q, b] = values;
+        let q = Residue::try_from(q).unwrap_or(Residue::MAX);
+        Ok(Settings::new(narrow(d), narrow(l), q, narrow(b)))
     }
 
     /// The values of the required lines, or refusal 7 at the first line that
     /// is another, or 2 at the first of the wrong shape.
-    fn values(&mut self, sizes: &[(usize, usize); 6]) -> Checked<Vec<i32>> {
+    fn values(&mut self, sizes: &[(usize, usize); 6]) -> Checked<Vec<i64>> {
         let length = sizes.iter().map(|(items, places)| items * places).sum();
         let mut values = Vec::with_capacity(length);
         for (i, &(items, places)) in sizes.iter().enumerate() {
@@ -133,12 +145,12 @@ impl Reader<'_> {
 struct Content {
     settings: Settings,
     sizes: [(usize, usize); 6],
-    values: Vec<i32>,
+    values: Vec<i64>,
 }
 
 impl Content {
     /// The values of the six parts.
-    fn parts(&self) -> [&[i32]; 6] {
+    fn parts(&self) -> [&[i64]; 6] {
         let mut rest = &self.values[..];
         self.sizes.map(|(items, places)| {
             let (part, behind) = rest.split_at(items * places);
@@ -196,18 +208,18 @@ fn lent_sizes(sizes: &[(usize, usize); 6], lengths: [usize; 6]) -> Checked<()> {
 }
 
 /// Whether every value is 0 to end-1; a negative one turns large.
-fn below(values: &[i32], end: u32) -> bool {
-    !values.iter().fold(false, |bad, &x| bad | (x as u32 >= end))
+fn below(values: &[i64], end: u64) -> bool {
+    !values.iter().fold(false, |bad, &x| bad | (x as u64 >= end))
 }
 
 /// Refusals 8 to 10 of a text that has been read.
-fn refuse_values(shape: &Shape, parts: &[&[i32]; 6]) -> Checked<()> {
+fn refuse_values(shape: &Shape, parts: &[&[i64]; 6]) -> Checked<()> {
     let [key, message, commitment, rounds, challenges, _] = parts;
     if ![key, commitment, rounds].iter().all(|x| below(x, shape.q)) {
         return Err(refuse::RESIDUE);
     }
     refuse::tall(message, shape.b)?;
-    if !below(challenges, 2 * shape.d as u32) {
+    if !below(challenges, 2 * shape.d as u64) {
         return Err(refuse::CHALLENGE);
     }
     Ok(())
@@ -218,10 +230,10 @@ fn refuse_values(shape: &Shape, parts: &[&[i32]; 6]) -> Checked<()> {
 pub fn read(
     parts: Parts,
     text: &[u8],
-    key: &mut [u32],
+    key: &mut [Residue],
     message: &mut [i32],
-    commitment: &mut [u32],
-    rounds: &mut [u32],
+    commitment: &mut [Residue],
+    rounds: &mut [Residue],
     challenges: &mut [u32],
     final_element: &mut [i32],
 ) -> ReadAnswer {
@@ -236,12 +248,12 @@ pub fn read(
     match read_text(parts, text, Some(lengths)) {
         Ok(content) => {
             let values = content.parts();
-            store(values[0], key);
-            message.copy_from_slice(values[1]);
-            store(values[2], commitment);
-            store(values[3], rounds);
-            store(values[4], challenges);
-            final_element.copy_from_slice(values[5]);
+            store(values[0], key, |x| x as Residue);
+            store(values[1], message, |x| x as i32);
+            store(values[2], commitment, |x| x as Residue);
+            store(values[3], rounds, |x| x as Residue);
+            store(values[4], challenges, |x| x as u32);
+            store(values[5], final_element, |x| x as i32);
             ReadAnswer {
                 number: 0,
                 settings: content.settings,
@@ -254,19 +266,19 @@ pub fn read(
     }
 }
 
-/// Stores values that are not negative.
-fn store(values: &[i32], table: &mut [u32]) {
+/// Stores values that have passed their tests.
+fn store<T>(values: &[i64], table: &mut [T], cast: impl Fn(i64) -> T) {
     for (place, &x) in table.iter_mut().zip(values) {
-        *place = x as u32;
+        *place = cast(x);
     }
 }
 
 /// The tables of the six parts for the writer.
 struct Tables<'a> {
-    key: &'a [u32],
+    key: &'a [Residue],
     message: &'a [i32],
-    commitment: &'a [u32],
-    rounds: &'a [u32],
+    commitment: &'a [Residue],
+    rounds: &'a [Residue],
     challenges: &'a [u32],
     final_element: &'a [i32],
 }
@@ -289,10 +301,10 @@ impl Tables<'_> {
 pub fn write(
     s: Settings,
     parts: Parts,
-    key: &[u32],
+    key: &[Residue],
     message: &[i32],
-    commitment: &[u32],
-    rounds: &[u32],
+    commitment: &[Residue],
+    rounds: &[Residue],
     challenges: &[u32],
     final_element: &[i32],
     out: &mut [u8],
@@ -341,7 +353,7 @@ fn write_tables(s: Settings, parts: Parts, tables: &Tables, out: &mut [u8]) -> C
 trait Sink {
     fn bytes(&mut self, bytes: &[u8]);
     /// A number and the byte behind it.
-    fn number(&mut self, magnitude: u32, behind: u8);
+    fn number(&mut self, magnitude: u64, behind: u8);
 }
 
 /// Counts the bytes of a text.
@@ -352,7 +364,7 @@ impl Sink for Count {
         self.0 += bytes.len();
     }
 
-    fn number(&mut self, magnitude: u32, _: u8) {
+    fn number(&mut self, magnitude: u64, _: u8) {
         self.0 += digits(magnitude) + 1;
     }
 }
@@ -370,7 +382,7 @@ impl Sink for Output<'_> {
         self.at = end;
     }
 
-    fn number(&mut self, magnitude: u32, behind: u8) {
+    fn number(&mut self, magnitude: u64, behind: u8) {
         let length = digits(magnitude);
         let places = &mut self.out[self.at..self.at + length + 1];
         places[length] = behind;
@@ -384,14 +396,14 @@ impl Sink for Output<'_> {
 }
 
 /// The decimal digits of a number.
-fn digits(x: u32) -> usize {
+fn digits(x: u64) -> usize {
     x.checked_ilog10().unwrap_or(0) as usize + 1
 }
 
 /// Writes the settings and the given parts.
 fn render(s: Settings, sizes: &[(usize, usize); 6], tables: &Tables, sink: &mut impl Sink) {
     sink.bytes(NAMES);
-    let settings = [s.degree, s.depth, s.modulus, s.bound];
+    let settings = [s.degree.into(), s.depth.into(), s.modulus, s.bound.into()];
     render_part(0, 4, &settings, sink);
     let places = sizes.map(|size| size.1);
     render_part(1, places[0], tables.key, sink);
@@ -403,27 +415,27 @@ fn render(s: Settings, sizes: &[(usize, usize); 6], tables: &Tables, sink: &mut 
 }
 
 /// Writes the lines of one part with `places` values to an item.
-fn render_part<T: Copy + Into<i64>>(part: u32, places: usize, table: &[T], sink: &mut impl Sink) {
+fn render_part<T: Copy + Into<i128>>(part: u64, places: usize, table: &[T], sink: &mut impl Sink) {
     if table.is_empty() {
         return;
     }
     for (item, values) in table.chunks_exact(places).enumerate() {
         for (place, &value) in values.iter().enumerate() {
-            let value: i64 = value.into();
+            let value: i128 = value.into();
             sink.number(part, b' ');
-            sink.number(item as u32, b' ');
-            sink.number(place as u32, b' ');
+            sink.number(item as u64, b' ');
+            sink.number(place as u64, b' ');
             if value < 0 {
                 sink.bytes(b"-");
             }
-            sink.number(value.unsigned_abs() as u32, b'\n');
+            sink.number(value.unsigned_abs() as u64, b'\n');
         }
     }
 }
 
-/// Values that are not negative, as residues or exponents.
-fn unsigned(values: &[i32]) -> Vec<u32> {
-    values.iter().map(|&x| x as u32).collect()
+/// Values that have passed their tests, as a table.
+fn table<T>(values: &[i64], cast: impl Fn(i64) -> T) -> Vec<T> {
+    values.iter().map(|&x| cast(x)).collect()
 }
 
 /// Call 14.
@@ -436,9 +448,9 @@ fn try_prove(text: &[u8], out: &mut [u8]) -> Checked<usize> {
     let [key, message, _, _, challenges, _] = content.parts();
     let s = content.settings;
     let d = s.degree as usize;
-    let mut key = unsigned(key);
-    let mut message = message.to_vec();
-    let challenges = unsigned(challenges);
+    let mut key = table(key, |x| x as Residue);
+    let mut message = table(message, |x| x as i32);
+    let challenges = table(challenges, |x| x as u32);
     let mut rounds = vec![0; 3 * challenges.len() * d];
     let opening = whole_opening(s, &mut key, &mut message, &challenges, &mut rounds);
     let tables = Tables {
@@ -465,16 +477,16 @@ fn try_verify(text: &[u8]) -> Checked<bool> {
     let content = read_text([true, false, true, true, true, true], text, None)?;
     let [key, _, commitment, rounds, challenges, final_element] = content.parts();
     let mut by_value = ZERO_RESIDUES;
-    store(commitment, &mut by_value);
+    store(commitment, &mut by_value, |x| x as Residue);
     let mut final_by_value = ZERO_WHOLES;
-    final_by_value[..final_element.len()].copy_from_slice(final_element);
+    store(final_element, &mut final_by_value, |x| x as i32);
     let answer = check(
         content.settings,
         by_value,
         final_by_value,
-        &unsigned(key),
-        &unsigned(rounds),
-        &unsigned(challenges),
+        &table(key, |x| x as Residue),
+        &table(rounds, |x| x as Residue),
+        &table(challenges, |x| x as u32),
     );
     Ok(answer.verdict == ACCEPTED)
 }

@@ -1,6 +1,6 @@
 //! The simple version of every call: whole numbers of 128 bits, plain loops,
-//! one reduction at the end of each formula, and the paths of a tree checked
-//! one by one. Its refusals are its own.
+//! reductions only where a formula ends or a number would have no room, and the
+//! paths of a tree checked one by one. Its refusals are its own.
 
 pub mod refusals;
 pub mod ring;
@@ -15,7 +15,7 @@ pub use relaxed::{extract, judge};
 pub use text::{look, prove, read, verify, write};
 pub use verifier::{check, check_cause, session_end, session_round, session_start};
 
-use crate::types::{Residues, Settings, PLACES};
+use crate::types::{Residue, Residues, Settings, PLACES};
 use ring::Element;
 
 /// Settings that are not refused, with what follows from them.
@@ -24,7 +24,7 @@ struct Shape {
     l: usize,
     /// Elements of a table.
     n: usize,
-    q: u32,
+    q: Residue,
     b: i128,
     /// Leaves of a tree.
     leaves: usize,
@@ -49,7 +49,7 @@ fn shape(s: Settings) -> Shape {
 fn by_value(a: &Element) -> Residues {
     let mut places = [0; PLACES];
     for (place, &x) in places.iter_mut().zip(a) {
-        *place = x as u32;
+        *place = x as Residue;
     }
     places
 }

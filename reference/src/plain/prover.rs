@@ -6,7 +6,7 @@ use super::{by_value, refusals, shape, verifier, Shape};
 use crate::types::*;
 
 /// Call 1: the sum of m_i·G_i modulo q.
-pub fn commit(s: Settings, key: &[u32], message: &[i32]) -> CommitAnswer {
+pub fn commit(s: Settings, key: &[Residue], message: &[i32]) -> CommitAnswer {
     let (number, commitment) = match refusals::commit(s, key, message) {
         0 => (0, by_value(&commitment(&shape(s), key, message))),
         number => (number, ZERO_RESIDUES),
@@ -14,14 +14,14 @@ pub fn commit(s: Settings, key: &[u32], message: &[i32]) -> CommitAnswer {
     CommitAnswer { number, commitment }
 }
 
-fn commitment(shape: &Shape, key: &[u32], message: &[i32]) -> Element {
+fn commitment(shape: &Shape, key: &[Residue], message: &[i32]) -> Element {
     let m = elements(message, shape.d);
     let g = elements(key, shape.d);
     reduce(&inner_product(&m, &g, shape.d), shape.q)
 }
 
 /// Call 2: the round polynomial of round t+1.
-pub fn prover_round(s: Settings, t: u32, key: &[u32], message: &[i32]) -> RoundAnswer {
+pub fn prover_round(s: Settings, t: u32, key: &[Residue], message: &[i32]) -> RoundAnswer {
     let (number, polynomial) = match refusals::prover_round(s, t, key, message) {
         0 => (0, round_polynomial(&shape(s), t, key, message)),
         number => (number, ZERO_POLYNOMIAL),
@@ -29,7 +29,7 @@ pub fn prover_round(s: Settings, t: u32, key: &[u32], message: &[i32]) -> RoundA
     RoundAnswer { number, polynomial }
 }
 
-fn round_polynomial(shape: &Shape, t: u32, key: &[u32], message: &[i32]) -> Polynomial {
+fn round_polynomial(shape: &Shape, t: u32, key: &[Residue], message: &[i32]) -> Polynomial {
     let left = shape.n >> t;
     let m = elements(message, shape.d);
     let g = elements(key, shape.d);
@@ -38,11 +38,12 @@ fn round_polynomial(shape: &Shape, t: u32, key: &[u32], message: &[i32]) -> Poly
     let product = |a: &[Element], b: &[Element]| inner_product(a, b, shape.d);
     let cross = add(&product(m0, g1), &product(m1, g0));
     let half = half_power(shape.q, t as usize + 1);
-    [product(m0, g0), cross, product(m1, g1)].map(|c| by_value(&reduce(&scale(&c, half), shape.q)))
+    let scaled = |c: &Element| reduce(&scale(&reduce(c, shape.q), half), shape.q);
+    [product(m0, g0), cross, product(m1, g1)].map(|c| by_value(&scaled(&c)))
 }
 
 /// Call 3: the fold of both tables by X^e.
-pub fn fold(s: Settings, t: u32, e: u32, key: &mut [u32], message: &mut [i32]) -> u32 {
+pub fn fold(s: Settings, t: u32, e: u32, key: &mut [Residue], message: &mut [i32]) -> u32 {
     let number = refusals::fold(s, t, e, key, message);
     if number == 0 {
         fold_both(&shape(s), t, e, key, message);
@@ -50,7 +51,7 @@ pub fn fold(s: Settings, t: u32, e: u32, key: &mut [u32], message: &mut [i32]) -
     number
 }
 
-fn fold_both(shape: &Shape, t: u32, e: u32, key: &mut [u32], message: &mut [i32]) {
+fn fold_both(shape: &Shape, t: u32, e: u32, key: &mut [Residue], message: &mut [i32]) {
     let left = shape.n >> t;
     let m = fold_elements(&elements(&message[..left * shape.d], shape.d), e);
     let g = fold_elements(&elements(&key[..left * shape.d], shape.d), e);
@@ -58,7 +59,7 @@ fn fold_both(shape: &Shape, t: u32, e: u32, key: &mut [u32], message: &mut [i32]
         let b = reduce(b, shape.q);
         for k in 0..shape.d {
             message[i * shape.d + k] = a[k] as i32;
-            key[i * shape.d + k] = b[k] as u32;
+            key[i * shape.d + k] = b[k] as Residue;
         }
     }
 }
@@ -94,10 +95,10 @@ fn first_element(shape: &Shape, message: &[i32]) -> Wholes {
 /// Call 5: the whole opening. Both tables stay as L folds leave them.
 pub fn whole_opening(
     s: Settings,
-    key: &mut [u32],
+    key: &mut [Residue],
     message: &mut [i32],
     challenges: &[u32],
-    rounds: &mut [u32],
+    rounds: &mut [Residue],
 ) -> OpeningAnswer {
     match refusals::opening(s, key, message, challenges, rounds) {
         0 => opening(&shape(s), key, message, challenges, rounds),
@@ -112,10 +113,10 @@ pub fn whole_opening(
 
 fn opening(
     shape: &Shape,
-    key: &mut [u32],
+    key: &mut [Residue],
     message: &mut [i32],
     challenges: &[u32],
-    rounds: &mut [u32],
+    rounds: &mut [Residue],
 ) -> OpeningAnswer {
     let unfolded = key.to_vec();
     let commitment = by_value(&commitment(shape, key, message));

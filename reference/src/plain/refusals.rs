@@ -8,7 +8,7 @@
 //! Nothing here is shared with `refuse` and `admit`, which the fast version
 //! uses.
 
-use crate::types::{Parts, Polynomial, Record, Residues, Settings};
+use crate::types::{Parts, Polynomial, Record, Residue, Residues, Settings};
 
 /// A number of the table, and whether it applies.
 pub type Line<'a> = (u32, &'a dyn Fn() -> bool);
@@ -51,7 +51,7 @@ impl Whole {
     }
 
     fn no_modulus(self) -> bool {
-        self.q % 2 == 0 || self.q < 3 || self.q > 2_147_483_647
+        self.q % 2 == 0 || self.q < 3 || self.q > 2_305_843_009_213_693_951
     }
 
     fn no_bound(self) -> bool {
@@ -74,7 +74,7 @@ impl Whole {
     }
 
     /// Whether a coefficient is no residue.
-    fn no_residue(self, x: u32) -> bool {
+    fn no_residue(self, x: Residue) -> bool {
         self.q <= i128::from(x)
     }
 
@@ -83,7 +83,7 @@ impl Whole {
         self.d + self.d <= i128::from(e)
     }
 
-    fn some_no_residue(self, table: &[u32]) -> bool {
+    fn some_no_residue(self, table: &[Residue]) -> bool {
         table.iter().any(|&x| self.no_residue(x))
     }
 
@@ -111,7 +111,7 @@ impl Whole {
 
     /// Whether some number over 1 divides both c and q.
     fn shares_a_factor(self, c: u32) -> bool {
-        let q = self.q as u32;
+        let (c, q) = (Residue::from(c), self.q as Residue);
         (2..=c).any(|factor| c % factor == 0 && q % factor == 0)
     }
 
@@ -169,7 +169,7 @@ pub fn settings(s: Settings) -> u32 {
 }
 
 /// Call 1.
-pub fn commit(s: Settings, key: &[u32], message: &[i32]) -> u32 {
+pub fn commit(s: Settings, key: &[Residue], message: &[i32]) -> u32 {
     let w = Whole::of(s);
     first(&[
         (3, &|| w.no_degree()),
@@ -185,7 +185,7 @@ pub fn commit(s: Settings, key: &[u32], message: &[i32]) -> u32 {
 }
 
 /// Call 2.
-pub fn prover_round(s: Settings, t: u32, key: &[u32], message: &[i32]) -> u32 {
+pub fn prover_round(s: Settings, t: u32, key: &[Residue], message: &[i32]) -> u32 {
     let w = Whole::of(s);
     first(&[
         (3, &|| w.no_degree()),
@@ -202,7 +202,7 @@ pub fn prover_round(s: Settings, t: u32, key: &[u32], message: &[i32]) -> u32 {
 }
 
 /// Call 3.
-pub fn fold(s: Settings, t: u32, e: u32, key: &[u32], message: &[i32]) -> u32 {
+pub fn fold(s: Settings, t: u32, e: u32, key: &[Residue], message: &[i32]) -> u32 {
     let w = Whole::of(s);
     first(&[
         (3, &|| w.no_degree()),
@@ -236,10 +236,10 @@ pub fn prover_end(s: Settings, t: u32, message: &[i32]) -> u32 {
 /// Call 5.
 pub fn opening(
     s: Settings,
-    key: &[u32],
+    key: &[Residue],
     message: &[i32],
     challenges: &[u32],
-    rounds: &[u32],
+    rounds: &[Residue],
 ) -> u32 {
     let w = Whole::of(s);
     let lengths = || {
@@ -292,7 +292,7 @@ pub fn session_round(record: &Record, polynomial: &Polynomial, e: u32) -> u32 {
 }
 
 /// Call 8.
-pub fn session_end(record: &Record, key: &[u32]) -> u32 {
+pub fn session_end(record: &Record, key: &[Residue]) -> u32 {
     let w = Whole::of(record.settings);
     first(&[
         (3, &|| w.no_degree()),
@@ -312,8 +312,8 @@ pub fn session_end(record: &Record, key: &[u32]) -> u32 {
 pub fn check(
     s: Settings,
     commitment: &Residues,
-    key: &[u32],
-    rounds: &[u32],
+    key: &[Residue],
+    rounds: &[Residue],
     challenges: &[u32],
 ) -> u32 {
     let w = Whole::of(s);
@@ -337,7 +337,7 @@ pub fn check(
 }
 
 /// Call 10.
-pub fn judge(s: Settings, commitment: &Residues, c: u32, key: &[u32], vector: &[i64]) -> u32 {
+pub fn judge(s: Settings, commitment: &Residues, c: u32, key: &[Residue], vector: &[i64]) -> u32 {
     let w = Whole::of(s);
     first(&[
         (3, &|| w.no_degree()),
@@ -359,8 +359,8 @@ pub fn judge(s: Settings, commitment: &Residues, c: u32, key: &[u32], vector: &[
 pub struct Tree<'a> {
     pub settings: Settings,
     pub commitment: &'a Residues,
-    pub key: &'a [u32],
-    pub rounds: &'a [u32],
+    pub key: &'a [Residue],
+    pub rounds: &'a [Residue],
     pub challenges: &'a [u32],
     pub leaves: &'a [i32],
     pub w: &'a [i64],
@@ -409,11 +409,11 @@ pub fn part_lengths(s: Settings, parts: Parts) -> [usize; 6] {
 
 /// Values of parts 1 to 6, as a text or tables have them: 8 to 10. A final
 /// coefficient of -2,147,483,648 only a table can have.
-pub fn values(s: Settings, values: &[Vec<i64>; 6]) -> u32 {
+pub fn values(s: Settings, values: &[Vec<i128>; 6]) -> u32 {
     let w = Whole::of(s);
     let beyond = |part: usize, low: i128, high: i128| {
-        let mut coefficients = values[part - 1].iter().map(|&x| i128::from(x));
-        coefficients.any(|x| x < low || x > high)
+        let mut coefficients = values[part - 1].iter();
+        coefficients.any(|&x| x < low || x > high)
     };
     let no_residues = |part: usize| beyond(part, 0, w.q - 1);
     first(&[

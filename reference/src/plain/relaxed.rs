@@ -1,13 +1,13 @@
 //! Relaxed openings: the judge, the tree and the extractor.
 
-use super::ring::{add, doubled_inverse, element, elements, inner_product, multiply, power};
-use super::ring::{reduce, rotate, scale, zero, Element};
+use super::ring::{add, doubled_inverse, element, elements, inner_product_modulo, multiply};
+use super::ring::{power, reduce, rotate, scale, zero, Element};
 use super::verifier::transcript_cause;
 use super::{refusals, shape, Shape};
 use crate::types::*;
 
 /// Call 10: whether w opens c times the commitment within the bound.
-pub fn judge(s: Settings, commitment: Residues, c: u32, key: &[u32], w: &[i64]) -> JudgeAnswer {
+pub fn judge(s: Settings, commitment: Residues, c: u32, key: &[Residue], w: &[i64]) -> JudgeAnswer {
     let (number, yes) = match refusals::judge(s, &commitment, c, key, w) {
         0 => {
             let bound = vector_bound(&shape(s));
@@ -24,10 +24,10 @@ fn vector_bound(shape: &Shape) -> i128 {
     (8 * (shape.d * shape.d) as i128).pow(shape.l as u32) * shape.b
 }
 
-fn opens(shape: &Shape, commitment: &Residues, c: u32, key: &[u32], w: &[i64]) -> bool {
+fn opens(shape: &Shape, commitment: &Residues, c: u32, key: &[Residue], w: &[i64]) -> bool {
     let wanted = scale(&element(&commitment[..shape.d]), i128::from(c));
-    let found = inner_product(&elements(w, shape.d), &elements(key, shape.d), shape.d);
-    reduce(&wanted, shape.q) == reduce(&found, shape.q)
+    let (w, key) = (elements(w, shape.d), elements(key, shape.d));
+    reduce(&wanted, shape.q) == inner_product_modulo(&w, &key, shape.d, shape.q)
 }
 
 /// Call 11: the vector w of the root of a full tree whose paths are all
@@ -35,8 +35,8 @@ fn opens(shape: &Shape, commitment: &Residues, c: u32, key: &[u32], w: &[i64]) -
 pub fn extract(
     s: Settings,
     commitment: Residues,
-    key: &[u32],
-    rounds: &[u32],
+    key: &[Residue],
+    rounds: &[Residue],
     challenges: &[u32],
     leaves: &[i32],
     w: &mut [i64],
@@ -78,7 +78,12 @@ struct Tree<'a> {
 }
 
 impl<'a> Tree<'a> {
-    fn new(shape: &'a Shape, rounds: &[u32], challenges: &'a [u32], leaves: &[i32]) -> Tree<'a> {
+    fn new(
+        shape: &'a Shape,
+        rounds: &[Residue],
+        challenges: &'a [u32],
+        leaves: &[i32],
+    ) -> Tree<'a> {
         Tree {
             shape,
             rounds: elements(rounds, shape.d),

@@ -1,6 +1,8 @@
 //! Arithmetic of the ring over whole numbers, the simple way. An element is
 //! a vector of d coefficients, that of X^0 first; X^d = -1.
 
+use crate::types::Residue;
+
 pub type Element = Vec<i128>;
 
 /// The d coefficients of each element of a flat table.
@@ -76,13 +78,27 @@ pub fn inner_product(m: &[Element], g: &[Element], d: usize) -> Element {
     sum
 }
 
+/// The same modulo q, for numbers so large that the sum over whole numbers
+/// has no room: every product of two numbers is reduced.
+pub fn inner_product_modulo(m: &[Element], g: &[Element], d: usize, q: Residue) -> Element {
+    let mut sum = zero(d);
+    for (a, b) in m.iter().zip(g) {
+        for (i, &x) in a.iter().enumerate() {
+            for (j, &y) in b.iter().enumerate() {
+                add_at(&mut sum, i + j, x * y % i128::from(q));
+            }
+        }
+    }
+    reduce(&sum, q)
+}
+
 /// Coefficients reduced to 0 to q-1.
-pub fn reduce(a: &Element, q: u32) -> Element {
+pub fn reduce(a: &Element, q: Residue) -> Element {
     a.iter().map(|x| x.rem_euclid(i128::from(q))).collect()
 }
 
 /// half^i modulo q, half being (q+1)/2.
-pub fn half_power(q: u32, i: usize) -> i128 {
+pub fn half_power(q: Residue, i: usize) -> i128 {
     let q = i128::from(q);
     let half = (q + 1) / 2;
     (0..i).fold(1, |power, _| power * half % q)

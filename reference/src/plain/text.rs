@@ -19,26 +19,39 @@ fn unrefused(number: u32) -> Checked<()> {
 const NAMES: &[u8] = b"part item place value";
 
 /// A value line: part, item, place and value.
-type Line = (i64, i64, i64, i64);
+type Line = (i128, i128, i128, i128);
 
-/// A number without sign: no leading zero, at most 2,147,483,647.
-fn number(field: &[u8]) -> Option<i64> {
-    if field.is_empty() || field.len() > 10 || !field.iter().all(u8::is_ascii_digit) {
+/// The largest part, item and place, and the largest magnitude of a value of
+/// a message, a challenge or a final element.
+const NARROW: i128 = 2_147_483_647;
+
+/// The largest magnitude of every other value.
+const WIDE: i128 = 2_305_843_009_213_693_951;
+
+/// A number without sign: no leading zero, at most `most`, which has no more
+/// than 19 digits.
+fn number(field: &[u8], most: i128) -> Option<i128> {
+    if field.is_empty() || field.len() > 19 || !field.iter().all(u8::is_ascii_digit) {
         return None;
     }
     if field[0] == b'0' && field.len() > 1 {
         return None;
     }
-    let sum = |sum, &digit: &u8| 10 * sum + i64::from(digit - b'0');
+    let sum = |sum, &digit: &u8| 10 * sum + i128::from(digit - b'0');
     let value = field.iter().fold(0, sum);
-    (value <= 2_147_483_647).then_some(value)
+    (value <= most).then_some(value)
 }
 
-/// A number that may be negative; "-0" is none.
-fn value(field: &[u8]) -> Option<i64> {
+/// A value of this part, which may be negative; "-0" is none.
+fn value(field: &[u8], part: i128) -> Option<i128> {
+    let most = if [2, 5, 6].contains(&part) {
+        NARROW
+    } else {
+        WIDE
+    };
     match field.strip_prefix(b"-") {
-        Some(magnitude) => number(magnitude).filter(|&x| x != 0).map(|x| -x),
-        None => number(field),
+        Some(magnitude) => number(magnitude, most).filter(|&x| x != 0).map(|x| -x),
+        None => number(field, most),
     }
 }
 
@@ -47,7 +60,9 @@ fn line(bytes: &[u8]) -> Option<Line> {
     let fields: Vec<&[u8]> = bytes.split(|&b| b == b' ').collect();
     match fields[..] {
         [part, item, place, last] => {
-            Some((number(part)?, number(item)?, number(place)?, value(last)?))
+            let part = number(part, NARROW)?;
+            let (item, place) = (number(item, NARROW)?, number(place, NARROW)?);
+            Some((part, item, place, value(last, part)?))
         }
         _ => None,
     }
@@ -64,18 +79,21 @@ fn value_lines(text: &[u8]) -> Option<Vec<Line>> {
 }
 
 /// The settings of the first four value lines, or nothing when these are
-/// other lines. A setting below zero becomes a number that is out of range
-/// for each of the four.
+/// other lines. A setting that is below zero or has no room becomes a number
+/// that is out of range for each of the four.
 fn text_settings(lines: &[Line]) -> Option<Settings> {
     let mut values = [0; 4];
     for (place, value) in values.iter_mut().enumerate() {
         let &(part, item, found, x) = lines.get(place)?;
-        if (part, item, found) != (0, 0, place as i64) {
+        if (part, item, found) != (0, 0, place as i128) {
             return None;
         }
-        *value = u32::try_from(x).unwrap_or(u32::MAX);
+        *value = x;
     }
-    Some(Settings::new(values[0], values[1], values[2], values[3]))
+    let narrow = |x: i128| u32::try_from(x).unwrap_or(u32::MAX);
+    let [d, l, q, b] = values;
+    let q = Residue::try_from(q).unwrap_or(Residue::MAX);
+    Some(Settings::new(narrow(d), narrow(l), q, narrow(b)))
 }
 
 /// Items and places of each of parts 1 to 6.
@@ -85,13 +103,13 @@ fn part_sizes(shape: &Shape) -> [(usize, usize); 6] {
 }
 
 /// Part, item and place of every required line, settings included.
-fn required(shape: &Shape, parts: Parts) -> Vec<(i64, i64, i64)> {
+fn required(shape: &Shape, parts: Parts) -> Vec<(i128, i128, i128)> {
     let mut places: Vec<_> = (0..4).map(|place| (0, 0, place)).collect();
     for (i, (items, size)) in part_sizes(shape).into_iter().enumerate() {
         if parts[i] {
-            for item in 0..items as i64 {
-                for place in 0..size as i64 {
-                    places.push((i as i64 + 1, item, place));
+            for item in 0..items as i128 {
+                for place in 0..size as i128 {
+                    places.push((i as i128 + 1, item, place));
                 }
             }
         }
@@ -129,7 +147,7 @@ fn other_lines(shape: &Shape, parts: Parts, lines: &[Line]) -> bool {
 }
 
 /// The values of one part.
-fn part_values(lines: &[Line], part: i64) -> Vec<i64> {
+fn part_values(lines: &[Line], part: i128) -> Vec<i128> {
     let of_part = lines.iter().filter(|line| line.0 == part);
     of_part.map(|line| line.3).collect()
 }
@@ -153,10 +171,10 @@ pub fn look(text: &[u8]) -> ReadAnswer {
 pub fn read(
     parts: Parts,
     text: &[u8],
-    key: &mut [u32],
+    key: &mut [Residue],
     message: &mut [i32],
-    commitment: &mut [u32],
-    rounds: &mut [u32],
+    commitment: &mut [Residue],
+    rounds: &mut [Residue],
     challenges: &mut [u32],
     final_element: &mut [i32],
 ) -> ReadAnswer {
@@ -189,7 +207,7 @@ pub fn read(
 }
 
 /// Values that have passed their tests go into a table.
-fn store<T: TryFrom<i64>>(values: &[i64], table: &mut [T]) {
+fn store<T: TryFrom<i128>>(values: &[i128], table: &mut [T]) {
     for (place, &x) in table.iter_mut().zip(values) {
         if let Ok(x) = T::try_from(x) {
             *place = x;
@@ -203,7 +221,7 @@ fn try_read(
     parts: Parts,
     text: &[u8],
     lengths: Option<[usize; 6]>,
-) -> Checked<(Settings, [Vec<i64>; 6])> {
+) -> Checked<(Settings, [Vec<i128>; 6])> {
     let Lines { settings, lines } = open_text(text)?;
     let values = [1, 2, 3, 4, 5, 6].map(|part| part_values(&lines, part));
     let wanted = refusals::part_lengths(settings, parts);
@@ -220,10 +238,10 @@ fn try_read(
 pub fn write(
     s: Settings,
     parts: Parts,
-    key: &[u32],
+    key: &[Residue],
     message: &[i32],
-    commitment: &[u32],
-    rounds: &[u32],
+    commitment: &[Residue],
+    rounds: &[Residue],
     challenges: &[u32],
     final_element: &[i32],
     out: &mut [u8],
@@ -242,11 +260,11 @@ pub fn write(
     }
 }
 
-fn wide<T: Copy + Into<i64>>(table: &[T]) -> Vec<i64> {
+fn wide<T: Copy + Into<i128>>(table: &[T]) -> Vec<i128> {
     table.iter().map(|&x| x.into()).collect()
 }
 
-fn try_write(s: Settings, parts: Parts, values: &[Vec<i64>; 6], out: &mut [u8]) -> Checked<usize> {
+fn try_write(s: Settings, parts: Parts, values: &[Vec<i128>; 6], out: &mut [u8]) -> Checked<usize> {
     unrefused(refusals::settings(s))?;
     let found = [0, 1, 2, 3, 4, 5].map(|i| values[i].len());
     unrefused(first(&[(7, &|| found != refusals::part_lengths(s, parts))]))?;
@@ -261,8 +279,13 @@ fn try_write(s: Settings, parts: Parts, values: &[Vec<i64>; 6], out: &mut [u8]) 
 }
 
 /// The text of the settings and the given parts.
-fn render(s: Settings, shape: &Shape, parts: Parts, values: &[Vec<i64>; 6]) -> String {
-    let settings = [s.degree, s.depth, s.modulus, s.bound].map(i64::from);
+fn render(s: Settings, shape: &Shape, parts: Parts, values: &[Vec<i128>; 6]) -> String {
+    let settings: [i128; 4] = [
+        s.degree.into(),
+        s.depth.into(),
+        s.modulus.into(),
+        s.bound.into(),
+    ];
     let given = settings.iter().chain(values.iter().flatten());
     let mut text = String::from("part item place value\n");
     for ((part, item, place), value) in required(shape, parts).into_iter().zip(given) {
@@ -272,7 +295,7 @@ fn render(s: Settings, shape: &Shape, parts: Parts, values: &[Vec<i64>; 6]) -> S
 }
 
 /// A table of values that have passed their tests.
-fn table<T: TryFrom<i64>>(values: &[i64]) -> Vec<T> {
+fn table<T: TryFrom<i128>>(values: &[i128]) -> Vec<T> {
     let narrow = |&x| T::try_from(x).ok();
     values.iter().filter_map(narrow).collect()
 }
@@ -326,8 +349,8 @@ fn try_verify(text: &[u8]) -> Checked<bool> {
         s,
         places(&table(&values[2])),
         places(&table(&values[5])),
-        &table::<u32>(&values[0]),
-        &table::<u32>(&values[3]),
+        &table::<Residue>(&values[0]),
+        &table::<Residue>(&values[3]),
         &table::<u32>(&values[4]),
     );
     Ok(answer.verdict == ACCEPTED)

@@ -31,7 +31,8 @@ fn end_cause(
     }
     let g = folded_key(shape, key, challenges);
     let half = half_power(shape.q, shape.l);
-    let wanted = reduce(&scale(&multiply(final_element, &g), half), shape.q);
+    let product = reduce(&multiply(final_element, &g), shape.q);
+    let wanted = reduce(&scale(&product, half), shape.q);
     (wanted != *claim).then_some(Cause::Equation)
 }
 
@@ -130,14 +131,19 @@ fn played_round(shape: &Shape, record: Record, polynomial: &Polynomial, e: u32) 
 }
 
 /// Call 8: the end of a session, with the unfolded key.
-pub fn session_end(record: Record, final_element: Wholes, key: &[u32]) -> MoveAnswer {
+pub fn session_end(record: Record, final_element: Wholes, key: &[Residue]) -> MoveAnswer {
     match refusals::session_end(&record, key) {
         0 => played_end(&shape(record.settings), record, &final_element, key),
         number => refused_move(record, number),
     }
 }
 
-fn played_end(shape: &Shape, record: Record, final_element: &Wholes, key: &[u32]) -> MoveAnswer {
+fn played_end(
+    shape: &Shape,
+    record: Record,
+    final_element: &Wholes,
+    key: &[Residue],
+) -> MoveAnswer {
     let cause = end_cause(
         shape,
         &element(&record.claim[..shape.d]),
@@ -153,8 +159,8 @@ pub fn check(
     s: Settings,
     commitment: Residues,
     final_element: Wholes,
-    key: &[u32],
-    rounds: &[u32],
+    key: &[Residue],
+    rounds: &[Residue],
     challenges: &[u32],
 ) -> CheckAnswer {
     let (number, verdict) = match check_cause(s, commitment, final_element, key, rounds, challenges)
@@ -170,8 +176,8 @@ pub fn check_cause(
     s: Settings,
     commitment: Residues,
     final_element: Wholes,
-    key: &[u32],
-    rounds: &[u32],
+    key: &[Residue],
+    rounds: &[Residue],
     challenges: &[u32],
 ) -> Result<Option<Cause>, u32> {
     match refusals::check(s, &commitment, key, rounds, challenges) {

@@ -4,39 +4,39 @@ use crate::lent::{Input, Room};
 use crate::library::*;
 
 pub fn settings(i: &Input, _: &mut [Room]) -> u32 {
-    let [d, l, q, b] = i.settings;
+    let (d, l, q, b) = i.settings;
     unsafe { wovenrock_settings(d, l, q, b) }
 }
 
 pub fn commit(i: &Input, rooms: &mut [Room]) -> u32 {
-    let ([d, l, q, b], [k, m, c]) = (i.settings, rooms) else { unreachable!() };
+    let ((d, l, q, b), [k, m, c]) = (i.settings, rooms) else { unreachable!() };
     unsafe { wovenrock_commit(d, l, q, b, k.at(), k.len(), m.at(), m.len(), c.at(), c.len()) }
 }
 
 pub fn round(i: &Input, rooms: &mut [Room]) -> u32 {
-    let ([d, l, q, b], [k, m, p]) = (i.settings, rooms) else { unreachable!() };
+    let ((d, l, q, b), [k, m, p]) = (i.settings, rooms) else { unreachable!() };
     unsafe { wovenrock_round(d, l, q, b, i.done, k.at(), k.len(), m.at(), m.len(), p.at(), p.len()) }
 }
 
 pub fn fold(i: &Input, rooms: &mut [Room]) -> u32 {
-    let ([d, l, q, b], [k, m]) = (i.settings, rooms) else { unreachable!() };
+    let ((d, l, q, b), [k, m]) = (i.settings, rooms) else { unreachable!() };
     unsafe { wovenrock_fold(d, l, q, b, i.done, i.exponent, k.at(), k.len(), m.at(), m.len()) }
 }
 
 pub fn end(i: &Input, rooms: &mut [Room]) -> u32 {
-    let ([d, l, q, b], [m, f]) = (i.settings, rooms) else { unreachable!() };
+    let ((d, l, q, b), [m, f]) = (i.settings, rooms) else { unreachable!() };
     unsafe { wovenrock_end(d, l, q, b, i.done, m.at(), m.len(), f.at(), f.len()) }
 }
 
 pub fn open(i: &Input, rooms: &mut [Room]) -> u32 {
-    let ([d, l, q, b], [k, m, e, p, c, f, v]) = (i.settings, rooms) else { unreachable!() };
+    let ((d, l, q, b), [k, m, e, p, c, f, v]) = (i.settings, rooms) else { unreachable!() };
     unsafe {
         wovenrock_open(d, l, q, b, k.at(), k.len(), m.at(), m.len(), e.at(), e.len(), p.at(), p.len(), c.at(), c.len(), f.at(), f.len(), v.at())
     }
 }
 
 pub fn session_start(i: &Input, rooms: &mut [Room]) -> u32 {
-    let ([d, l, q, b], [c, s]) = (i.settings, rooms) else { unreachable!() };
+    let ((d, l, q, b), [c, s]) = (i.settings, rooms) else { unreachable!() };
     unsafe { wovenrock_session_start(d, l, q, b, c.at(), c.len(), s.at(), s.len()) }
 }
 
@@ -51,19 +51,19 @@ pub fn session_end(_: &Input, rooms: &mut [Room]) -> u32 {
 }
 
 pub fn check(i: &Input, rooms: &mut [Room]) -> u32 {
-    let ([d, l, q, b], [c, f, k, p, e, v]) = (i.settings, rooms) else { unreachable!() };
+    let ((d, l, q, b), [c, f, k, p, e, v]) = (i.settings, rooms) else { unreachable!() };
     unsafe {
         wovenrock_check(d, l, q, b, c.at(), c.len(), f.at(), f.len(), k.at(), k.len(), p.at(), p.len(), e.at(), e.len(), v.at())
     }
 }
 
 pub fn judge(i: &Input, rooms: &mut [Room]) -> u32 {
-    let ([d, l, q, b], [c, k, w, y]) = (i.settings, rooms) else { unreachable!() };
+    let ((d, l, q, b), [c, k, w, y]) = (i.settings, rooms) else { unreachable!() };
     unsafe { wovenrock_judge(d, l, q, b, c.at(), c.len(), i.slack, k.at(), k.len(), w.at(), w.len(), y.at()) }
 }
 
 pub fn extract(i: &Input, rooms: &mut [Room]) -> u32 {
-    let ([d, l, q, b], [c, k, p, e, f, w]) = (i.settings, rooms) else { unreachable!() };
+    let ((d, l, q, b), [c, k, p, e, f, w]) = (i.settings, rooms) else { unreachable!() };
     unsafe {
         wovenrock_extract(d, l, q, b, c.at(), c.len(), k.at(), k.len(), p.at(), p.len(), e.at(), e.len(), f.at(), f.len(), w.at(), w.len())
     }
@@ -85,7 +85,7 @@ pub fn read(i: &Input, rooms: &mut [Room]) -> u32 {
 }
 
 pub fn write(i: &Input, rooms: &mut [Room]) -> u32 {
-    let ([d, l, q, b], [k, m, c, p, e, f, out, n]) = (i.settings, rooms) else { unreachable!() };
+    let ((d, l, q, b), [k, m, c, p, e, f, out, n]) = (i.settings, rooms) else { unreachable!() };
     unsafe {
         wovenrock_write(
             d, l, q, b, i.parts,

@@ -5,11 +5,11 @@ use wovenrock::{open, Session, Settings};
 
 pub struct Opening {
     pub settings: Settings,
-    pub key: Vec<u32>,
+    pub key: Vec<u64>,
     pub message: Vec<i32>,
     pub challenges: Vec<u32>,
-    pub rounds: Vec<u32>,
-    pub commitment: Vec<u32>,
+    pub rounds: Vec<u64>,
+    pub commitment: Vec<u64>,
     pub last: Vec<i32>,
     /// The message as L folds leave it.
     pub folded: Vec<i32>,
@@ -19,17 +19,20 @@ impl Opening {
     /// Numbers from a simple generator; any in range would do.
     pub fn drawn(settings: Settings) -> Opening {
         let mut state: u64 = 88_172_645_463_325_252;
-        let mut draw = |below: u32| {
+        let mut draw = |below: u64| {
             state ^= state << 13;
             state ^= state >> 7;
             state ^= state << 17;
-            (state >> 32) as u32 % below
+            state % below
         };
         let (cells, bound) = (settings.table_len(), settings.bound());
         let key = (0..cells).map(|_| draw(settings.modulus())).collect();
-        let small = |x: u32| x as i32 - bound as i32;
-        let message = (0..cells).map(|_| small(draw(2 * bound + 1))).collect();
-        let challenges = (0..settings.depth()).map(|_| draw(settings.exponents()));
+        let small = |x: u64| x as i32 - bound as i32;
+        let message = (0..cells)
+            .map(|_| small(draw(u64::from(2 * bound + 1))))
+            .collect();
+        let exponents = u64::from(settings.exponents());
+        let challenges = (0..settings.depth()).map(|_| draw(exponents) as u32);
         let challenges = challenges.collect();
         Opening::of(settings, key, message, challenges)
     }
@@ -41,7 +44,7 @@ impl Opening {
         Opening::of(settings, vec![0; cells], vec![0; cells], challenges)
     }
 
-    fn of(settings: Settings, key: Vec<u32>, message: Vec<i32>, challenges: Vec<u32>) -> Opening {
+    fn of(settings: Settings, key: Vec<u64>, message: Vec<i32>, challenges: Vec<u32>) -> Opening {
         let (mut folded_key, mut folded) = (key.clone(), message.clone());
         let mut rounds = vec![0; settings.rounds_len()];
         let tables = (&mut folded_key, &mut folded);
@@ -61,7 +64,7 @@ impl Opening {
 
     /// A full tree, with challenges 0, 1, 2 at each node: the tables of its
     /// rounds, challenges and leaves.
-    pub fn tree(&self) -> (Vec<u32>, Vec<u32>, Vec<i32>) {
+    pub fn tree(&self) -> (Vec<u64>, Vec<u32>, Vec<i32>) {
         let s = self.settings;
         let mut rounds = vec![0; s.tree_rounds_len()];
         let mut leaves = Vec::new();
@@ -81,7 +84,7 @@ impl Opening {
     }
 
     /// The record of a verifier's session after so many rounds.
-    pub fn record(&self, done: usize) -> Vec<u32> {
+    pub fn record(&self, done: usize) -> Vec<u64> {
         let s = self.settings;
         let mut session = Session::start(s, &self.commitment).unwrap();
         let polynomials = self.rounds.chunks(s.polynomial_len());
@@ -94,10 +97,10 @@ impl Opening {
     /// The six tables of a text, those of absent parts of length 0.
     pub fn parts(&self, parts: u32) -> Vec<Table> {
         let mut tables = vec![
-            Table::u32("key", Use::Read, &self.key),
+            Table::u64("key", Use::Read, &self.key),
             Table::i32("message", Use::Read, &self.message),
-            Table::u32("commitment", Use::Read, &self.commitment),
-            Table::u32("rounds", Use::Read, &self.rounds),
+            Table::u64("commitment", Use::Read, &self.commitment),
+            Table::u64("rounds", Use::Read, &self.rounds),
             Table::u32("challenges", Use::Read, &self.challenges),
             Table::i32("last", Use::Read, &self.last),
         ];
@@ -112,8 +115,9 @@ impl Opening {
     /// The text of the settings and of these parts.
     pub fn text(&self, parts: u32) -> String {
         let s = self.settings;
-        let settings = [s.degree(), s.depth(), s.modulus(), s.bound()];
-        let mut tables = vec![Table::u32("settings", Use::Read, &settings)];
+        let (d, l, b) = (s.degree().into(), s.depth().into(), s.bound().into());
+        let settings = [d, l, s.modulus(), b];
+        let mut tables = vec![Table::u64("settings", Use::Read, &settings)];
         tables.extend(self.parts(parts));
         let mut text = String::from("part item place value\n");
         for (part, table) in tables.iter().enumerate() {
@@ -134,7 +138,7 @@ impl Opening {
     pub fn input(&self, tables: Vec<Table>) -> Input {
         let s = self.settings;
         Input {
-            settings: [s.degree(), s.depth(), s.modulus(), s.bound()],
+            settings: (s.degree(), s.depth(), s.modulus(), s.bound()),
             done: 0,
             exponent: self.challenges.first().copied().unwrap_or(0),
             slack: s.slack(),

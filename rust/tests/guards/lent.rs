@@ -41,6 +41,12 @@ impl Table {
         }
     }
 
+    /// Residues, which are below 2^63.
+    pub fn u64(name: &'static str, used: Use, values: &[u64]) -> Table {
+        let values: Vec<i64> = values.iter().map(|&x| x as i64).collect();
+        Table::of(name, used, 8, &values)
+    }
+
     pub fn u32(name: &'static str, used: Use, values: &[u32]) -> Table {
         Table::of(name, used, 4, values)
     }
@@ -57,9 +63,9 @@ impl Table {
         Table::of(name, used, 1, values)
     }
 
-    /// A slice that is written.
+    /// A slice of residues that is written.
     pub fn blank(name: &'static str, count: usize) -> Table {
-        Table::u32(name, Use::Written, &vec![BEFORE; count])
+        Table::u64(name, Use::Written, &vec![BEFORE.into(); count])
     }
 
     /// A single number of so many bytes.
@@ -84,7 +90,7 @@ impl Table {
 /// What a call is given.
 #[derive(Clone)]
 pub struct Input {
-    pub settings: [u32; 4],
+    pub settings: (u32, u32, u64, u32),
     pub done: u32,
     pub exponent: u32,
     pub slack: u32,

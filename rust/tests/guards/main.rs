@@ -53,6 +53,8 @@ fn every_call_between_guards() {
         settings(16, 1, 255, 5),
         settings(32, 2, 65_537, 1),
         settings(64, 1, 12_289, 1),
+        settings(2, 2, (1 << 32) + 1, 5),
+        settings(8, 2, Settings::LARGEST_MODULUS, 127),
     ] {
         let opening = Opening::drawn(s);
         list.extend(scenarios::of_prover(&opening));

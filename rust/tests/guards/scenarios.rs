@@ -53,14 +53,17 @@ fn line(from: impl Into<String>, to: impl Into<String>) -> Fault {
 
 /// Faults of the settings, and others.
 fn settings_and(others: Vec<(u32, Fault)>) -> Vec<(u32, Fault)> {
-    let setting = |which: usize, value| change(move |input| input.settings[which] = value);
+    let modulus = |value| change(move |input| input.settings.2 = value);
+    let bound = |value| change(move |input| input.settings.3 = value);
     let mut faults = vec![
-        (3, setting(0, 3)),
-        (4, setting(1, 9)),
-        (5, setting(2, 2)),
-        (5, setting(2, 1 << 31)),
-        (6, setting(3, 0)),
-        (6, setting(3, 128)),
+        (3, change(|input| input.settings.0 = 3)),
+        (4, change(|input| input.settings.1 = 9)),
+        (5, modulus(2)),
+        (5, modulus(1 << 31)),
+        (5, modulus((1 << 61) + 1)),
+        (5, modulus(u64::MAX)),
+        (6, bound(0)),
+        (6, bound(128)),
     ];
     faults.extend(others);
     faults
@@ -90,11 +93,18 @@ fn record_and(at: usize, o: &Opening, others: Vec<(u32, Fault)>) -> Vec<(u32, Fa
         (5, number(at, 2, 4)),
         (6, number(at, 3, 0)),
         (7, number(at, 5, 2)),
-        (8, number(at, 14, i64::from(s.modulus()))),
+        (8, number(at, 14, s.modulus() as i64)),
         (10, number(at, 6, exponents)),
         (10, number(at, 13, exponents)),
         (11, number(at, 5, 1)),
         (11, number(at, 4, i64::from(s.depth()) + 1)),
+        // The record's own numbers, but for a bit behind 32.
+        (3, number(at, 0, (1 << 32) + i64::from(s.degree()))),
+        (4, number(at, 1, (1 << 32) + i64::from(s.depth()))),
+        (6, number(at, 3, (1 << 32) + i64::from(s.bound()))),
+        (7, number(at, 5, 1 << 32)),
+        (10, number(at, 13, 1 << 32)),
+        (11, number(at, 4, 1 << 32)),
     ];
     faults.extend(others);
     faults
@@ -102,12 +112,12 @@ fn record_and(at: usize, o: &Opening, others: Vec<(u32, Fault)>) -> Vec<(u32, Fa
 
 pub fn of_prover(o: &Opening) -> Vec<Scenario> {
     let s = o.settings;
-    let (q, exponents, depth) = (i64::from(s.modulus()), s.exponents(), s.depth());
+    let (q, exponents, depth) = (s.modulus() as i64, s.exponents(), s.depth());
     let (tall, last_number) = (i64::from(s.bound()) + 1, o.key.len() - 1);
     // Without a round to do, a round and a fold are refused, and 9 is not tested.
     let (turn, tall_turn) = if depth == 0 { (11, 11) } else { (0, 9) };
     let tables = |used, others: Vec<Table>| {
-        let key = Table::u32("key", used, &o.key);
+        let key = Table::u64("key", used, &o.key);
         let message = Table::i32("message", used, &o.message);
         o.input([vec![key, message], others].concat())
     };
@@ -179,14 +189,14 @@ pub fn of_prover(o: &Opening) -> Vec<Scenario> {
 
 pub fn of_verifier(o: &Opening) -> Vec<Scenario> {
     let s = o.settings;
-    let (q, exponents) = (i64::from(s.modulus()), s.exponents());
-    let key = || Table::u32("key", Use::Read, &o.key);
-    let commitment = || Table::u32("commitment", Use::Read, &o.commitment);
+    let (q, exponents) = (s.modulus() as i64, s.exponents());
+    let key = || Table::u64("key", Use::Read, &o.key);
+    let commitment = || Table::u64("commitment", Use::Read, &o.commitment);
     let last = || Table::i32("last", Use::Read, &o.last);
     let verdict = || Table::single("verdict", 4);
-    let record = |done| Table::u32("session", Use::Written, &o.record(done));
+    let record = |done| Table::u64("session", Use::Written, &o.record(done));
 
-    let fresh = Table::u32("session", Use::Started, &[BEFORE; 78]);
+    let fresh = Table::u64("session", Use::Started, &[BEFORE.into(); 78]);
     let start = settings_and(vec![(8, number(0, s.element_len() - 1, q))]);
     let end = record_and(2, o, vec![(8, number(1, 0, q))]);
     let mut check = settings_and(vec![(8, number(0, 0, q)), (8, number(2, 0, q))]);
@@ -198,7 +208,7 @@ pub fn of_verifier(o: &Opening) -> Vec<Scenario> {
         commitment(),
         last(),
         key(),
-        Table::u32("rounds", Use::Read, &o.rounds),
+        Table::u64("rounds", Use::Read, &o.rounds),
         Table::u32("challenges", Use::Read, &o.challenges),
         verdict(),
     ];
@@ -220,7 +230,7 @@ pub fn of_verifier(o: &Opening) -> Vec<Scenario> {
         let at = done * s.polynomial_len();
         let numbers = o.rounds.get(at..at + s.polynomial_len());
         let zeros = vec![0; s.polynomial_len()];
-        let polynomial = Table::u32("polynomial", Use::Read, numbers.unwrap_or(&zeros));
+        let polynomial = Table::u64("polynomial", Use::Read, numbers.unwrap_or(&zeros));
         let round = record_and(
             1,
             o,
@@ -245,10 +255,10 @@ pub fn of_verifier(o: &Opening) -> Vec<Scenario> {
 /// With settings that grow too much, the answer is 14.
 pub fn of_relaxed(o: &Opening, answer: u32) -> Vec<Scenario> {
     let s = o.settings;
-    let q = i64::from(s.modulus());
+    let q = s.modulus() as i64;
     let (rounds, challenges, leaves) = o.tree();
-    let commitment = || Table::u32("commitment", Use::Read, &o.commitment);
-    let key = || Table::u32("key", Use::Read, &o.key);
+    let commitment = || Table::u64("commitment", Use::Read, &o.commitment);
+    let key = || Table::u64("key", Use::Read, &o.key);
     let times = |&m: &i32| i64::from(s.slack()) * i64::from(m);
     let w: Vec<i64> = o.message.iter().map(times).collect();
 
@@ -258,7 +268,7 @@ pub fn of_relaxed(o: &Opening, answer: u32) -> Vec<Scenario> {
         (8, number(1, 0, q)),
         (slack, change(|i| i.slack = 0)),
         (slack, change(|i| i.slack = 65_537)),
-        (slack, change(|i| i.slack = i.settings[2])),
+        (slack, change(|i| i.slack = i.settings.2.min(65_537) as u32)),
     ]);
     let mut extract = settings_and(vec![
         (8, number(0, 0, q)),
@@ -282,7 +292,7 @@ pub fn of_relaxed(o: &Opening, answer: u32) -> Vec<Scenario> {
     let tree = vec![
         commitment(),
         key(),
-        Table::u32("rounds", Use::Read, &rounds),
+        Table::u64("rounds", Use::Read, &rounds),
         Table::u32("challenges", Use::Read, &challenges),
         Table::i32("leaves", Use::Read, &leaves),
         Table::i64("w", Use::Written, &vec![i64::from(BEFORE); s.table_len()]),
@@ -305,7 +315,7 @@ pub fn of_text(o: &Opening) -> Vec<Scenario> {
     let first =
         |part: u32, value: i64| (format!("\n{part} 0 0 {value}\n"), format!("\n{part} 0 0 "));
     let residue = || {
-        let (from, to) = first(1, i64::from(o.key[0]));
+        let (from, to) = first(1, o.key[0] as i64);
         line(from, format!("{to}{q}\n"))
     };
     let tall = || {
@@ -323,6 +333,9 @@ pub fn of_text(o: &Opening) -> Vec<Scenario> {
     let parts = |value| change(move |i| i.parts = value);
 
     let mut read = text_and(vec![
+        (2, line("\n1 0 0 ", "\n1 0 2147483648 ")),
+        (2, line("\n2 0 0 ", "\n2 0 0 4294967296")),
+        (2, line("\n1 0 0 ", "\n1 0 0 2305843009213693952")),
         (7, missing()),
         (7, parts(62)),
         (7, parts(64 + 63)),
@@ -338,8 +351,8 @@ pub fn of_text(o: &Opening) -> Vec<Scenario> {
     let mut write = settings_and(vec![
         (7, parts(62)),
         (7, parts(64 + 63)),
-        (8, number(0, 0, i64::from(q))),
-        (8, number(2, 0, i64::from(q))),
+        (8, number(0, 0, q as i64)),
+        (8, number(2, 0, q as i64)),
         (9, number(1, 0, i64::from(s.bound()) + 1)),
         (9, number(5, 0, i64::from(i32::MIN))),
     ]);
@@ -377,7 +390,7 @@ pub fn of_text(o: &Opening) -> Vec<Scenario> {
 /// A key whose text is too long, and an output of no length: 1 is tested before
 /// it, and behind all others.
 pub fn of_long_text(o: &Opening) -> Scenario {
-    let q = i64::from(o.settings.modulus());
+    let q = o.settings.modulus() as i64;
     let faults = settings_and(vec![
         (7, change(|i| i.parts = 0)),
         (7, change(|i| i.parts = 65)),

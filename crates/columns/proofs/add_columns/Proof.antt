@@ -5,16 +5,16 @@ use native.Mathlib.Nat as Nat
 use native.Mathlib.Omega.{arith}
 use lib.IntN.{pos, _+ℤ_}
 use lib.ListN.{getD, length, length-set}
-use Rattle.protocol.specs.Element.{product, signed, residue}
+use Rattle.protocol.specs.Element.{product, signed}
 use Rattle.residues.proofs.Fill.{filled, filled-none, filled-turn, filled-end, filled-behind}
-use Rattle.columns.specs.Columns.{addColumns}
+use Rattle.columns.specs.Columns.{narrow, addColumns}
 use Rattle.columns.proofs.Words.{word}
 use borrow.Author.Needs.{needs}
 use Rattle.columns.proofs.add_columns.Statement.{statement}
 use Rattle.columns.proofs.add_columns.Tie as tie
 
 abbrev Inv-loop : tie.InvT-loop
-Inv-loop d f g sums₀ k₀ sums k = (k ≤ d) × (sums ≡ filled (λ (i : ℕ). word (pos (getD sums₀ i 0) +ℤ product d (signed f) (residue g) i)) k sums₀) × (length sums ≡ length sums₀)
+Inv-loop d f g sums₀ k₀ sums k = (k ≤ d) × (sums ≡ filled (λ (i : ℕ). word (pos (getD sums₀ i 0) +ℤ product d (signed f) (narrow g) i)) k sums₀) × (length sums ≡ length sums₀)
 
 abbrev μ-loop : tie.MeasureT-loop
 μ-loop d f g sums₀ k₀ sums k = d - k
@@ -26,10 +26,10 @@ loop-again : tie.Need-loop-again Inv-loop μ-loop
 loop-again c =
     let l = c .before .before .before .loop in
     let a = c .before .before .before .before .before .before .args in
-    let cell : ℕ → ℕ = λ i. word (pos (getD (a .sums .now) i 0) +ℤ product (a .d) (signed (a .f .now)) (residue (a .g .now)) i) in (
+    let cell : ℕ → ℕ = λ i. word (pos (getD (a .sums .now) i 0) +ℤ product (a .d) (signed (a .f .now)) (narrow (a .g .now)) i) in (
       omega arith,
       filled-turn cell (l .k) (a .sums .now) (l .inv .1)
-          (c .column .ensures ∙ ap (λ n. word (pos n +ℤ product (a .d) (signed (a .f .now)) (residue (a .g .now)) (l .k)))
+          (c .column .ensures ∙ ap (λ n. word (pos n +ℤ product (a .d) (signed (a .f .now)) (narrow (a .g .now)) (l .k)))
           (ap (λ s. getD s (l .k) 0) (l .inv .1) ∙ filled-behind cell (l .k) (a .sums .now) 0 (l .k) (Nat.le-refl (l .k))))
           (omega arith),
       simp length-set (omega arith),

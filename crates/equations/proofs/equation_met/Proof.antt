@@ -12,7 +12,7 @@ returns c = λ g.
     let r = ready (a .settings) (g .allowed) in
     let all = c .before .left .ensures (record { allowed = g .allowed; most = omega arith }) in
     c .product-is .ensures (
-      final-summable (a .settings) r (a .f .now) (g .bounded) (a .g .now) (omega arith) (omega arith),
+      final-summable (a .settings) r (a .f .now) (g .bounded) (a .g .now) (omega arith) (omega arith) (g .residues),
       omega arith,
       power-most (a .settings) r (a .f .now) (g .bounded) (a .g .now) (a .claim .now) _ all,
     )

@@ -1,4 +1,4 @@
-use mathlib.Core.Path.{_∙_, ap}
+use mathlib.Core.Path.{refl, _∙_, ap}
 use Prim.Native.Nat.{_%_}
 use native.Mathlib.Nat.{mod-lt}
 use native.Mathlib.Omega.{arith}
@@ -12,7 +12,9 @@ returns c = λ m.
     let q = c .before .before .args .q in
     let is = c .multiple .ensures (m .positive) in
     record {
-      weighted = c .before .prepare .ensures m;
+      allowed = m;
+      modulus = refl;
+      weighted = c .before .weight .ensures m;
       divided = ap (λ n. n % q) is ∙ multiple-divided q (m .positive);
       least = omega (arith, is, mod-lt 9223372036854775808 {m = q} (m .positive));
       most = omega (arith, is);

@@ -13,7 +13,7 @@ use Rattle.judge.proofs.judge.Tie as tie
 passed : (c : tie.Else1) → let a = c .before .before .before .args in judgeRefusal (a .settings) (a .commitment) (a .c) (a .key .now) (a .w .now) ≡ 0
 passed c = sym (c .before .judge .ensures) ∙ c .if1 .left
 
-given : (c : tie.Else1) → let a = c .before .before .before .args in JudgeGiven (a .settings) (a .key .now) (a .w .now)
+given : (c : tie.Else1) → let a = c .before .before .before .args in JudgeGiven (a .settings) (a .commitment) (a .key .now) (a .w .now)
 given c = judge-given _ _ _ _ _ (passed c)
 
 -- the test of the bound is made with the growth itself
@@ -30,7 +30,7 @@ returns-2 : tie.Need-returns-2
 returns-2 c = judge-done _ _ _ _ _ (passed (c .before .before .before)) false (beyond _ _ _ _ _ (sym (tested (c .before)) ∙ not-true _ (c .if2 .taken)))
 
 opens-requires : tie.Need-opens-requires
-opens-requires c κs = given-vector _ _ _ (given (c .before .before .before))
+opens-requires c κs = let g = given (c .before .before .before) in (given-vector _ _ _ _ g, g .commitment-given)
 
 returns-3 : tie.Need-returns-3
 returns-3 c =

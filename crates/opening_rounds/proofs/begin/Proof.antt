@@ -1,19 +1,19 @@
 use mathlib.Core.Path.{_≡_, ap, _∙_}
-use Prim.Native.Nat.{ℕ, _+_, _*_, _/_, _%_, _^_, _≤_}
+use Prim.Native.Nat.{ℕ, _+_, _*_, _/_, _^_, _≤_}
 use native.Mathlib.Nat as Nat
 use native.Mathlib.Omega.{arith}
 use borrow.Author.Tests.{not-true, not-false}
-use lib.ListN.{length, getD, take, drop}
+use lib.ListN.{length}
 use Rattle.protocol.specs.Settings.{half}
 use lib.IntN.{pos}
-use Rattle.protocol.specs.Element.{Element, padded, times, reduced, signedAt, residueAt}
-use Rattle.protocol.specs.Opening.{inner, left, halfLeft}
+use Rattle.protocol.specs.Element.{Element, times, reduced, signedAt, residueAt}
+use Rattle.protocol.specs.Opening.{inner, left}
 use Rattle.residues.specs.Lists.{filled}
 use Rattle.prover_refusals.proofs.Given.{CommitGiven, commit-given}
 use Rattle.round_products.specs.Messages.{Sized, Tables}
 use Rattle.opening_rounds.specs.Rounds.{elementPlaces}
 use Rattle.round_products.proofs.Products.{summable, tables-sized, commit-tables}
-use Rattle.opening_rounds.proofs.Continued.{first-part, second-part, inner-parts, value-residues, written-element, written-sum, half-whole, whole-is, first-is}
+use Rattle.opening_rounds.proofs.Continued.{first-part, second-part, inner-parts, value-residues, value-halvable, written-element, written-sum, half-whole, whole-is, first-is}
 use borrow.Author.Needs.{needs}
 use Rattle.opening_rounds.proofs.begin.Statement.{statement}
 use Rattle.opening_rounds.proofs.begin.Tie as tie
@@ -22,7 +22,7 @@ all : (c : tie.After-left) → let a = c .before .before .before .before .args i
 all c g = c .left .ensures (record { allowed = g .tables .allowed; most = omega arith })
 
 long : (c : tie.Else1) → let a = c .before .before .before .before .before .before .args in
-    Sized (a .settings .modulus) (a .settings .degree) (c .before .before .left .result) (length (a .message .now)) (length (a .key .now))
+    Sized (a .settings .degree) (c .before .before .left .result) (length (a .message .now)) (length (a .key .now))
 long c = c .before .sized .ensures .0 (not-false (c .before .sized .result) (c .if1 .left))
 
 returns : tie.Need-returns
@@ -48,53 +48,51 @@ few c =
 mul-half : tie.Need-mul-half
 mul-half c = omega (arith, few c .0)
 
-write-scaled-requires : tie.Need-write-scaled-requires
-write-scaled-requires c κs = let z = long (c .before .before .before .before) in (z .modulus, omega (arith, z .degree-most))
+write-halved-requires : tie.Need-write-halved-requires
+write-halved-requires c κs = let z = long (c .before .before .before) in omega (arith, z .degree-most)
 
 mul-inner : tie.Need-mul-inner
-mul-inner c = omega (arith, few (c .before .before .before .before .before .before .before) .0)
+mul-inner c = omega (arith, few (c .before .before .before .before .before .before) .0)
 
 sub-inner-2 : tie.Need-sub-inner-2
-sub-inner-2 c = omega (arith, few (c .before .before .before .before .before .before .before) .1)
+sub-inner-2 c = omega (arith, few (c .before .before .before .before .before .before) .1)
 
 part-inner-start : tie.Need-part-inner-start
-part-inner-start c = omega (arith, few (c .before .before .before .before .before .before .before) .1)
+part-inner-start c = omega (arith, few (c .before .before .before .before .before .before) .1)
 
 mul-inner-2 : tie.Need-mul-inner-2
-mul-inner-2 c = omega (arith, few (c .before .before .before .before .before .before .before .before) .0)
+mul-inner-2 c = omega (arith, few (c .before .before .before .before .before .before .before) .0)
 
 sub-inner-3 : tie.Need-sub-inner-3
-sub-inner-3 c = omega (arith, few (c .before .before .before .before .before .before .before .before) .2)
+sub-inner-3 c = omega (arith, few (c .before .before .before .before .before .before .before) .2)
 
 part-inner-start-2 : tie.Need-part-inner-start-2
-part-inner-start-2 c = omega (arith, few (c .before .before .before .before .before .before .before .before) .2)
+part-inner-start-2 c = omega (arith, few (c .before .before .before .before .before .before .before) .2)
 
 write-sum-requires : tie.Need-write-sum-requires
 write-sum-requires c κs =
-    let z = long (c .before .before .before .before .before .before .before .before .before .before .before .before .before) in
+    let z = long (c .before .before .before .before .before .before .before .before .before .before .before .before) in
     (omega (arith, z .degree-most), omega (arith, z .degree-most))
 
 returns-2 : tie.Need-returns-2
 unfolding half
 returns-2 c = λ z.
-    let a = c .before .before .before .before .before .before .before .before .before .before .before .before .before .before .before .before .before .before .before .before .before .before .args in
+    let a = c .before .before .before .before .before .before .before .before .before .before .before .before .before .before .before .before .before .before .before .before .before .args in
     let S = a .settings in
     let d = S .degree in
     let q = S .modulus in
     let m = a .message .now in
     let G = a .key .now in
     let g = commit-given S G m z in
-    let n = c .before .before .before .before .before .before .before .before .before .before .before .before .before .before .before .before .before .before .left .result in
-    let n-is : n ≡ left S 0 = all (c .before .before .before .before .before .before .before .before .before .before .before .before .before .before .before .before .before .before) g in
+    let n = c .before .before .before .before .before .before .before .before .before .before .before .before .before .before .before .before .before .left .result in
+    let n-is : n ≡ left S 0 = all (c .before .before .before .before .before .before .before .before .before .before .before .before .before .before .before .before .before) g in
     let T : Tables q d n m G = rw n-is (commit-tables S G m g) in
     let product : ℕ → Element = λ i. inner d i (signedAt d m) (residueAt d G) in
     let one = c .before .before .before .before .before .before .before .before .before .before .before .before .before .before .inner in
     let two = c .before .before .before .before .before .before .inner2 in
     let one-is = one .ensures (summable _ _ _ _ _ (first-part q d n (n / 2) m G T (omega arith))) in
     let two-is = two .ensures (summable _ _ _ _ _ (second-part q d n (n / 2) m G T (omega arith))) in
-    let s = c .before .before .before .before .before .before .before .before .before .before .before .before .before .before .before .half-power in
-    let power : s .result ≡ half S ^ (0 + 1) % q = s .ensures (T .modulus) in
-    let wide = long (c .before .before .before .before .before .before .before .before .before .before .before .before .before .before .before .before) .degree-most in
+    let wide = long (c .before .before .before .before .before .before .before .before .before .before .before .before .before .before .before) .degree-most in
     let below-one = value-residues q d (T .modulus) (product (n / 2)) (one .result) one-is (omega (arith, wide)) in
     let below-two = value-residues q d (T .modulus) _ (two .result) two-is (omega (arith, wide)) in
     record {
@@ -104,18 +102,18 @@ returns-2 c = λ z.
           ∙ ap (λ i. filled (elementPlaces (reduced q d (product i))) d (a .commitment .now)) n-is
           ∙ ap (λ l. filled (elementPlaces l) d (a .commitment .now)) (whole-is S G m);
       first = λ room.
-          c .before .before .before .before .before .before .before .before .before .before .before .write-scaled .ensures .0 room
-          ∙ ap (λ s. filled (λ k. s * getD (one .result) k 0 % q) d (a .rounds .now)) power
+          c .before .before .before .before .before .before .before .before .before .before .before .write-halved .ensures .0 room
+          (value-halvable q d (T .modulus) (T .modulus-odd) (product (n / 2)) (one .result) one-is)
           ∙ written-element q d (half S ^ (0 + 1)) (T .modulus) (product (n / 2)) (one .result) one-is (a .rounds .now)
           ∙ ap (λ i. filled (elementPlaces (reduced q d (times (pos (half S ^ (0 + 1))) (product i)))) d (a .rounds .now)) (ap (λ i. i / 2) n-is ∙ half-whole S)
           ∙ ap (λ l. filled (elementPlaces l) d (a .rounds .now)) (first-is S 0 G m);
-      none = λ short. c .before .before .before .before .before .before .before .before .before .before .before .write-scaled .ensures .1 short;
+      none = λ short. c .before .before .before .before .before .before .before .before .before .before .before .write-halved .ensures .1 short;
     }
 
 pub begin-spec : {M : Type 1} → statement M
 begin-spec =
     tie.close
     (tie.spec (λ c κs. search needs) (λ c κs. search needs) returns (λ c. search needs) (λ c. search needs) mul-half (λ c κs. search needs)
-    (λ c κs. search needs) (λ c. search needs) (λ c. search needs) write-scaled-requires (λ c. search needs) mul-inner sub-inner-2 part-inner-start
-    (λ c. search needs) mul-inner-2 sub-inner-3 part-inner-start-2 (λ c. search needs) (λ c κs. search needs) (λ c. search needs) (λ c. search needs)
+    (λ c. search needs) (λ c. search needs) write-halved-requires (λ c. search needs) mul-inner sub-inner-2 part-inner-start (λ c. search needs)
+    mul-inner-2 sub-inner-3 part-inner-start-2 (λ c. search needs) (λ c κs. search needs) (λ c. search needs) (λ c. search needs)
     (λ c. search needs) write-sum-requires (λ c. search needs) (λ c. search needs) returns-2)

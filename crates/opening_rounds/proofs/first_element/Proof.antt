@@ -1,8 +1,8 @@
 use mathlib.Core.Path.{_≡_, ap, _∙_}
-use Prim.Native.Nat.{ℕ, _+_, _*_, _%_, _^_}
+use Prim.Native.Nat.{ℕ, _+_, _^_}
 use native.Mathlib.Omega.{arith}
 use borrow.Author.Tests.{not-true, not-false}
-use lib.ListN.{length, getD}
+use lib.ListN.{length}
 use Rattle.protocol.specs.Settings.{half}
 use Rattle.protocol.specs.Element.{Element, padded, reduced, signedAt, residueAt}
 use Rattle.protocol.specs.Opening.{inner, halfLeft}
@@ -12,7 +12,7 @@ use Rattle.round_products.specs.Messages.{Sized, Tables}
 use Rattle.opening_rounds.specs.Rounds.{elementPlaces}
 use Rattle.round_products.proofs.Halves.{round-tables}
 use Rattle.round_products.proofs.Products.{summable, tables-sized, first-halves}
-use Rattle.opening_rounds.proofs.Continued.{written-element, first-is}
+use Rattle.opening_rounds.proofs.Continued.{value-halvable, written-element, first-is}
 use borrow.Author.Needs.{needs}
 use Rattle.opening_rounds.proofs.first_element.Statement.{statement}
 use Rattle.opening_rounds.proofs.first_element.Tie as tie
@@ -29,7 +29,7 @@ tables c g =
     (round-tables (a .settings) (a .t) (a .key .now) (a .message .now) g .tables)
 
 long : (c : tie.Else2) → let a = c .before .before .before .before .before .before .before .args in
-    Sized (a .settings .modulus) (a .settings .degree) (c .before .before .half-left .result) (length (a .message .now)) (length (a .key .now))
+    Sized (a .settings .degree) (c .before .before .half-left .result) (length (a .message .now)) (length (a .key .now))
 long c = c .before .sized .ensures .0 (not-false (c .before .sized .result) (c .if2 .left))
 
 returns : tie.Need-returns
@@ -45,29 +45,27 @@ returns-2 c = λ z _.
     let wrong : _≡_ {A = ℕ} 0 1 = cc in
     absurd (omega arith)
 
-write-scaled-requires : tie.Need-write-scaled-requires
-write-scaled-requires c κs = let z = long (c .before .before .before .before) in (z .modulus, omega (arith, z .degree-most))
+write-halved-requires : tie.Need-write-halved-requires
+write-halved-requires c κs = let z = long (c .before .before .before) in omega (arith, z .degree-most)
 
 returns-3 : tie.Need-returns-3
 unfolding half
 returns-3 c = λ z room.
-    let a = c .before .before .before .before .before .before .before .before .before .before .before .before .before .before .args in
+    let a = c .before .before .before .before .before .before .before .before .before .before .before .before .before .args in
     let S = a .settings in
     let g = round-given S (a .key .now) (a .message .now) (a .t) z in
-    let h = c .before .before .before .before .before .before .before .before .before in
+    let h = c .before .before .before .before .before .before .before .before in
     let first = c .before .before .before .before .before .inner in
     let product : ℕ → Element = λ n. inner (S .degree) n (signedAt (S .degree) (a .message .now)) (residueAt (S .degree) (a .key .now)) in
     let is : first .result ≡ padded (S .degree) (reduced (S .modulus) (S .degree) (product (halfLeft S (a .t)))) =
     first .ensures (rw (half-is h g) (summable _ _ _ _ _ (tables h g))) ∙ ap (λ n. padded (S .degree) (reduced (S .modulus) (S .degree) (product n))) (half-is h g) in
-    let s = c .before .before .before .before .before .before .half-power in
-    let power : s .result ≡ half S ^ (a .t + 1) % S .modulus = s .ensures (tables h g .modulus) in
-    c .before .before .write-scaled .ensures .0 room
-    ∙ ap (λ s. filled (λ k. s * getD (first .result) k 0 % S .modulus) (S .degree) (a .out .now)) power
+    let T = tables h g in
+    c .before .before .write-halved .ensures .0 room (value-halvable (S .modulus) (S .degree) (T .modulus) (T .modulus-odd) (product (halfLeft S (a .t))) (first .result) is)
     ∙ written-element (S .modulus) (S .degree) (half S ^ (a .t + 1)) (tables h g .modulus) (product (halfLeft S (a .t))) (first .result) is (a .out .now)
     ∙ ap (λ l. filled (elementPlaces l) (S .degree) (a .out .now)) (first-is S (a .t) (a .key .now) (a .message .now))
 
 pub first-element-spec : {M : Type 1} → statement M
 first-element-spec =
     tie.close
-    (tie.spec returns (λ c κs. search needs) (λ c κs. search needs) returns-2 (λ c. search needs) (λ c κs. search needs) (λ c κs. search needs)
-    (λ c. search needs) (λ c. search needs) write-scaled-requires (λ c. search needs) returns-3)
+    (tie.spec returns (λ c κs. search needs) (λ c κs. search needs) returns-2 (λ c κs. search needs) (λ c. search needs) (λ c. search needs)
+    (λ c. search needs) write-halved-requires (λ c. search needs) returns-3)

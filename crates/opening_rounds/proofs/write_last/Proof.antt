@@ -1,6 +1,6 @@
 -- The loop keeps: the first k numbers are in place, the others are as they were.
 use mathlib.Core.Path.{_≡_, refl, sym, ap, _∙_}
-use Prim.Native.Nat.{ℕ, _+_, _*_, _-_, _%_, _≤_}
+use Prim.Native.Nat.{_+_, _*_, _-_, _%_, _≤_}
 use native.Mathlib.Nat.{zero-add}
 use native.Mathlib.Omega.{arith}
 use lib.ListN.{length, getD, length-set}
@@ -8,17 +8,15 @@ use Rattle.protocol.specs.Basic.{Provided}
 use Rattle.residues.specs.Lists.{spliced}
 use Rattle.residues.specs.Residues.{BothBelow, Residues}
 use Rattle.residues.proofs.Splice.{spliced-none, spliced-turn, spliced-end, spliced-before}
-use Rattle.opening_rounds.specs.Rounds.{halfOf, HalvesBelow, middleAt, lastAt}
-use Rattle.opening_rounds.proofs.Claimed.{minus-is}
+use Rattle.opening_rounds.specs.Rounds.{Halvables, lastAt}
+use Rattle.round_products.proofs.Less.{minus-is}
+use Rattle.opening_rounds.proofs.Claimed.{half-below}
 use borrow.Author.Needs.{needs}
 use Rattle.opening_rounds.proofs.write_last.Statement.{statement}
 use Rattle.opening_rounds.proofs.write_last.Tie as tie
-use Rattle.opening_rounds.proofs.write_last.Reads as reads
-use Rattle.opening_rounds.proofs.write_last.Lts as lts
-use Rattle.opening_rounds.proofs.halved.Reads as halved-reads
 
 abbrev Inv-loop : tie.InvT-loop
-Inv-loop q d claim p₀ k₀ p k = (k ≤ d) × Provided (Residues q d 0 p₀ × HalvesBelow q d claim) (p ≡ spliced (lastAt q claim p₀) (2 * d) k p₀) × (length p ≡ length p₀)
+Inv-loop q d claim p₀ k₀ p k = (k ≤ d) × Provided (Residues q d 0 p₀ × Halvables q d claim) (p ≡ spliced (lastAt q claim p₀) (2 * d) k p₀) × (length p ≡ length p₀)
 
 abbrev μ-loop : tie.MeasureT-loop
 μ-loop q d claim p₀ k₀ p k = d - k
@@ -35,9 +33,11 @@ loop-again c =
           let was : getD (l .p) (l .k) 0 ≡ getD (a .p .now) (l .k) 0 =
           ap (λ t. getD t (l .k) 0) (l .inv .1 h) ∙ spliced-before _ (2 * a .d) (l .k) (a .p .now) (omega arith) (l .k) (omega arith) in
           let here : getD (a .p .now) (l .k) 0 ≡ getD (a .p .now) (0 + l .k) 0 = ap (λ j. getD (a .p .now) j 0) (sym (zero-add (l .k))) in
+          let fine = h .1 (l .k) (omega arith) in
+          let half = c .before .halved .ensures fine in
           let below : BothBelow (a .q) (c .before .halved .result) (getD (l .p) (l .k) 0) =
-          record { left = omega (arith, c .before .halved .ensures, h .1 .each (l .k) (omega arith)); right = omega (arith, was, here, h .0 .each (l .k) (omega arith)) } in
-          spliced-turn _ _ (l .k) _ (l .inv .1 h) (c .minus .ensures below ∙ minus-is below ∙ λ i. (c .before .halved .ensures i + (a .q - was i)) % a .q) (omega arith)),
+          record { left = omega (arith, half, half-below fine); right = omega (arith, was, here, h .0 .each (l .k) (omega arith)) } in
+          spliced-turn _ _ (l .k) _ (l .inv .1 h) (c .minus .ensures below ∙ minus-is below ∙ λ i. (half i + (a .q - was i)) % a .q) (omega arith)),
       simp length-set (omega arith),
     )
 

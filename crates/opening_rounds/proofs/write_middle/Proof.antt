@@ -1,6 +1,6 @@
 -- The loop keeps: the first k numbers are in place, the others are as they were.
 use mathlib.Core.Path.{_≡_, refl, sym, ap, _∙_}
-use Prim.Native.Nat.{ℕ, _+_, _*_, _-_, _%_, _≤_}
+use Prim.Native.Nat.{_+_, _-_, _%_, _≤_}
 use native.Mathlib.Nat.{zero-add}
 use native.Mathlib.Omega.{arith}
 use lib.ListN.{length, getD, length-set}
@@ -8,17 +8,15 @@ use Rattle.protocol.specs.Basic.{Provided}
 use Rattle.residues.specs.Lists.{spliced}
 use Rattle.residues.specs.Residues.{BothBelow, Residues}
 use Rattle.residues.proofs.Splice.{spliced-none, spliced-turn, spliced-end}
-use Rattle.opening_rounds.specs.Rounds.{halfOf, HalvesBelow, middleAt, lastAt}
-use Rattle.opening_rounds.proofs.Claimed.{minus-is}
+use Rattle.opening_rounds.specs.Rounds.{Halvables, middleAt}
+use Rattle.round_products.proofs.Less.{minus-is}
+use Rattle.opening_rounds.proofs.Claimed.{half-below}
 use borrow.Author.Needs.{needs}
 use Rattle.opening_rounds.proofs.write_middle.Statement.{statement}
 use Rattle.opening_rounds.proofs.write_middle.Tie as tie
-use Rattle.opening_rounds.proofs.write_middle.Reads as reads
-use Rattle.opening_rounds.proofs.write_middle.Lts as lts
-use Rattle.opening_rounds.proofs.halved.Reads as halved-reads
 
 abbrev Inv-loop : tie.InvT-loop
-Inv-loop q d x claim p₀ k₀ p k = (k ≤ d) × Provided (Residues q d 0 x × HalvesBelow q d claim) (p ≡ spliced (middleAt q x claim) d k p₀) × (length p ≡ length p₀)
+Inv-loop q d x claim p₀ k₀ p k = (k ≤ d) × Provided (Residues q d 0 x × Halvables q d claim) (p ≡ spliced (middleAt q x claim) d k p₀) × (length p ≡ length p₀)
 
 abbrev μ-loop : tie.MeasureT-loop
 μ-loop q d x claim p₀ k₀ p k = d - k
@@ -34,9 +32,11 @@ loop-again c =
       omega arith,
       (λ h.
           let here : x ≡ getD (a .x .now) (0 + l .k) 0 = ap (λ j. getD (a .x .now) j 0) (sym (zero-add (l .k))) in
+          let fine = h .1 (l .k) (omega arith) in
+          let half = c .before .halved .ensures fine in
           let below : BothBelow (a .q) x (c .before .halved .result) =
-          record { left = omega (arith, here, h .0 .each (l .k) (omega arith)); right = omega (arith, c .before .halved .ensures, h .1 .each (l .k) (omega arith)) } in
-          spliced-turn _ _ (l .k) _ (l .inv .1 h) (c .minus .ensures below ∙ minus-is below ∙ ap (λ z. (x + (a .q - z)) % a .q) (c .before .halved .ensures)) (omega arith)),
+          record { left = omega (arith, here, h .0 .each (l .k) (omega arith)); right = omega (arith, half, half-below fine) } in
+          spliced-turn _ _ (l .k) _ (l .inv .1 h) (c .minus .ensures below ∙ minus-is below ∙ ap (λ z. (x + (a .q - z)) % a .q) half) (omega arith)),
       simp length-set (omega arith),
     )
 

@@ -1,7 +1,8 @@
-use mathlib.Core.Path.{_∙_}
+use Prim.Native.Nat.{_*_}
 use native.Mathlib.Nat.{mul-le-mul}
 use native.Mathlib.Omega.{arith}
-use Rattle.products.proofs.Ends.{sums-reduced}
+use Rattle.protocol.specs.Element.{zeros, signedAt, residueAt}
+use Rattle.products.proofs.Standing.{stands-none}
 use borrow.Author.Needs.{needs}
 use Rattle.products.proofs.inner.Statement.{statement}
 use Rattle.products.proofs.inner.Tie as tie
@@ -25,12 +26,24 @@ returns-5 : tie.Need-returns-5
 returns-5 c = λ g. absurd (omega (arith, g .elements .g-long))
 
 returns-6 : tie.Need-returns-6
+unfolding zeros
 returns-6 c = λ g.
-    let s = c .before .before in
-    let a = s .before .before .before .before .before .before .before .args in
-    c .finish .ensures ∙ sums-reduced (a .q) (a .d) (g .elements .modulus) (omega arith) _ _ _ (s .inner-sums .ensures (g .small)) (g .few)
+    let a = c .before .before .before .before .before .before .before .before .before .before .before .before .before .before .args in
+    let start = stands-none (a .q) (a .d) (g .elements .modulus) (signedAt (a .d) (a .f .now)) (residueAt (a .d) (a .g .now)) in
+    c .finish .ensures _
+    (record {
+      modulus = g .elements .modulus;
+      modulus-most = omega (arith, g .modulus-most);
+      degree-most = g .elements .degree-most;
+      lowers = omega arith;
+      uppers = omega arith;
+      count = a .n * a .d;
+      few = g .few;
+      stands = c .before .before .before .before .before .sum-elements .ensures (g, start);
+    })
 
 pub inner-spec : {M : Type 1} → statement M
 inner-spec =
     tie.close
-    (tie.spec returns returns-2 returns-3 mul-cells returns-4 returns-5 (λ c κs. search needs) (λ c. search needs) (λ c κs. search needs) returns-6)
+    (tie.spec returns returns-2 returns-3 mul-cells returns-4 returns-5 (λ c. search needs) (λ c. search needs) (λ c κs. search needs) (λ c. search needs)
+    (λ c. search needs) (λ c κs. search needs) returns-6)

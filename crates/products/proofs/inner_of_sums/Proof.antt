@@ -1,7 +1,9 @@
-use mathlib.Core.Path.{_∙_}
+use Prim.Native.Nat.{_*_}
 use native.Mathlib.Nat.{mul-le-mul, mul-assoc}
 use native.Mathlib.Omega.{arith}
-use Rattle.products.proofs.Ends.{sums-reduced}
+use Rattle.protocol.specs.Element.{zeros}
+use Rattle.products.specs.Sums.{messageSums, keySums}
+use Rattle.products.proofs.Standing.{stands-none}
 use borrow.Author.Needs.{needs}
 use Rattle.products.proofs.inner_of_sums.Statement.{statement}
 use Rattle.products.proofs.inner_of_sums.Tie as tie
@@ -27,19 +29,31 @@ returns-4 c = λ g. let a = c .before .before .before .before .before .args in a
 returns-5 : tie.Need-returns-5
 returns-5 c = λ g. let a = c .before .before .before .before .before .before .args in absurd (omega (arith, g .elements .g-long, mul-assoc 2 (a .h) (a .d)))
 
-sums-requires : tie.Need-sums-requires
-sums-requires c κs =
-    let a = c .before .before .before .before .before .before .args in
+sum-halves-requires : tie.Need-sum-halves-requires
+sum-halves-requires c κs =
+    let a = c .before .before .before .before .before .before .before .before .args in
     let twice = mul-assoc 2 (a .h) (a .d) in
-    record { modulus = omega arith; degree = omega arith; degree-most = omega arith; f-long = omega (arith, twice); g-long = omega (arith, twice) }
+    (record { modulus = omega arith; degree = omega arith; degree-most = omega arith; f-long = omega (arith, twice); g-long = omega (arith, twice) }, omega arith, omega arith)
 
 returns-6 : tie.Need-returns-6
+unfolding zeros
 returns-6 c = λ g.
-    let s = c .before .before in
-    let a = s .before .before .before .before .before .before .before .args in
-    c .finish .ensures ∙ sums-reduced (a .q) (a .d) (g .elements .modulus) (omega arith) _ _ _ (s .sums .ensures g) (g .few)
+    let a = c .before .before .before .before .before .before .before .before .before .before .before .before .before .before .args in
+    let start = stands-none (a .q) (a .d) (g .elements .modulus) (messageSums (a .d) (a .h) (a .f .now)) (keySums (a .q) (a .d) (a .h) (a .g .now)) in
+    c .finish .ensures _
+    (record {
+      modulus = g .elements .modulus;
+      modulus-most = omega (arith, g .modulus-most);
+      degree-most = g .elements .degree-most;
+      lowers = omega arith;
+      uppers = omega arith;
+      count = a .h * a .d;
+      few = g .few;
+      stands = c .before .before .before .before .before .sum-halves .ensures (g, start);
+    })
 
 pub inner-of-sums-spec : {M : Type 1} → statement M
 inner-of-sums-spec =
     tie.close
-    (tie.spec returns returns-2 returns-3 mul-cells mul-cells-2 returns-4 returns-5 sums-requires (λ c. search needs) (λ c κs. search needs) returns-6)
+    (tie.spec returns returns-2 returns-3 mul-cells mul-cells-2 returns-4 returns-5 (λ c. search needs) (λ c. search needs) sum-halves-requires
+    (λ c. search needs) (λ c. search needs) (λ c κs. search needs) returns-6)

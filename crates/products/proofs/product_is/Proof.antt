@@ -1,10 +1,6 @@
-use mathlib.Core.Path.{ap, _∙_}
 use native.Mathlib.Omega.{arith}
-use lib.ListN.{getD}
-use Rattle.protocol.specs.Basic.{every}
-use Rattle.products.specs.Sums.{multipleIs}
-use Rattle.products.proofs.Standing.{inner-one}
-use Rattle.products.proofs.Ends.{sums-tested}
+use Rattle.protocol.specs.Element.{product, signed, residue, signedAt, residueAt, zeros}
+use Rattle.products.proofs.Standing.{stands-none, stands-one}
 use borrow.Author.Needs.{needs}
 use Rattle.products.proofs.product_is.Statement.{statement}
 use Rattle.products.proofs.product_is.Tie as tie
@@ -28,14 +24,20 @@ returns-6 : tie.Need-returns-6
 returns-6 c = λ g. absurd (omega (arith, g .1))
 
 returns-7 : tie.Need-returns-7
+unfolding zeros
 returns-7 c = λ g.
-    let s = c .before .before in
-    let a = s .before .before .before .before .before .before .before .before .before .args in
-    c .sums-are .ensures
-    ∙ sums-tested (a .q) (a .d) (g .0 .elements .modulus) (omega arith) _ _ _ (s .inner-sums .ensures (g .0 .small)) (g .0 .few) (a .c) (omega (arith, g .2)) (a .a .now)
-    ∙ (λ i. every (a .d) (λ k. multipleIs (a .q) (a .c) (inner-one (a .d) (a .f .now) (a .g .now) k i) (getD (a .a .now) k 0)))
+    let a = c .before .before .before .before .before .before .before .before .before .before .before .before .before .before .before .before .args in
+    let ok = g .0 in
+    let start = stands-none (a .q) (a .d) (ok .elements .modulus) (signedAt (a .d) (a .f .now)) (residueAt (a .d) (a .g .now)) in
+    c .sums-are .ensures (product (a .d) (signed (a .f .now)) (residue (a .g .now))) (
+      record { positive = ok .elements .modulus; most = omega (arith, ok .modulus-most) },
+      ok .elements .degree-most,
+      stands-one (a .q) (a .d) (a .f .now) (a .g .now) _ _ (c .before .before .before .before .before .sum-elements .ensures (ok, start)),
+      g .2,
+    )
 
 pub product-is-spec : {M : Type 1} → statement M
 product-is-spec =
     tie.close
-    (tie.spec returns returns-2 returns-3 returns-4 returns-5 returns-6 (λ c κs. search needs) (λ c. search needs) (λ c κs. search needs) returns-7)
+    (tie.spec returns returns-2 returns-3 returns-4 returns-5 returns-6 (λ c. search needs) (λ c. search needs) (λ c κs. search needs) (λ c. search needs)
+    (λ c. search needs) (λ c κs. search needs) returns-7)

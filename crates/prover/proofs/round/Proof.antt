@@ -1,11 +1,12 @@
-use mathlib.Core.Path.{_≡_, sym, _∙_}
+use mathlib.Core.Path.{_≡_, sym, ap, _∙_}
+use Prim.Native.Nat.{_+_, _^_}
 use native.Mathlib.Omega.{arith}
 use Rattle.protocol.specs.Basic.{tabulate}
 use Rattle.protocol.specs.Element.{width, zeros, signedAt, residueAt}
 use Rattle.protocol.specs.Opening.{halfLeft, cross}
 use Rattle.protocol.specs.Calls.{noPolynomial, roundRefusal}
 use Rattle.prover_refusals.proofs.Given.{RoundGiven, round-given}
-use Rattle.round_products.specs.Sums.{scaled}
+use Rattle.round_products.specs.Sums.{half, scaled}
 use Rattle.round_products.proofs.Halves.{round-tables}
 use Rattle.round_products.proofs.Products.{polynomial-is}
 use Rattle.prover.proofs.Answers.{round-refused, round-done}
@@ -27,23 +28,24 @@ unfolding noPolynomial tabulate zeros width
 returns c = let a = c .before .before .before .before .args in
     round-refused (a .settings) (a .done) (a .key .now) (a .message .now) _ _ (c .before .before .round .ensures) (c .before .if1 .taken) (c .polynomial-of .ensures .0) (c .polynomial-of .ensures .1)
 
-add-half-power : tie.Need-add-half-power
-add-half-power c = let g = given (c .before) in omega (arith, g .turn, g .tables .settings .depth-most)
+add-polynomial : tie.Need-add-polynomial
+add-polynomial c = let g = given (c .before) in omega (arith, g .turn, g .tables .settings .depth-most)
 
 returns-2 : tie.Need-returns-2
 returns-2 c =
-    let h = c .before .before .before in
+    let h = c .before .before in
     let a = h .before .before .before .before .args in
     let S = a .settings in
     let g = given (h .before) in
-    let power = c .before .before .half-power .ensures (omega (arith, g .tables .settings .modulus-least)) in
     round-done S (a .done) (a .key .now) (a .message .now) _ (passed (h .before)) (c .polynomial-of2 .ensures .0)
     (c .polynomial-of2 .ensures .1 ∙ c .before .polynomial .ensures (rw (half-is h) (round-tables S (a .done) (a .key .now) (a .message .now) g))
-    ∙ (λ i. tabulate 3 (λ j. scaled (S .modulus) (S .degree) (power i) (cross (S .degree) (half-is h i) (signedAt (S .degree) (a .message .now)) (residueAt (S .degree) (a .key .now)) j)))
-    ∙ polynomial-is S (a .done) (a .key .now) (a .message .now) (omega (arith, g .tables .settings .modulus-least)))
+    ∙ ap (λ n. tabulate 3 (λ j. scaled (S .modulus) (S .degree) (half (S .modulus) ^ (a .done + 1))
+    (cross (S .degree) n (signedAt (S .degree) (a .message .now)) (residueAt (S .degree) (a .key .now)) j)))
+    (half-is h)
+    ∙ polynomial-is S (a .done) (a .key .now) (a .message .now))
 
 pub round-spec : {M : Type 1} → statement M
 round-spec =
     tie.close
-    (tie.spec (λ c κs. search needs) (λ c κs. search needs) returns (λ c κs. search needs) add-half-power (λ c κs. search needs) (λ c κs. search needs)
+    (tie.spec (λ c κs. search needs) (λ c κs. search needs) returns (λ c κs. search needs) add-polynomial (λ c κs. search needs)
     (λ c κs. search needs) returns-2)

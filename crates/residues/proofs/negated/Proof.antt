@@ -13,7 +13,7 @@ returns c = λ h. let a = c .before .args in negative-none (a .q) (omega arith) 
 
 returns-2 : tie.Need-returns-2
 returns-2 c = λ h. let a = c .before .before .args in
-    let is : c .wrapping-sub-u32 .result ≡ a .q - a .y = omega (arith, c .wrapping-sub-u32 .ensures) in
+    let is : c .wrapping-sub-u64 .result ≡ a .q - a .y = omega (arith, c .wrapping-sub-u64 .ensures) in
     is ∙ negative-residue (a .q) (omega arith) (a .y) (omega arith) h
 
 pub negated-spec : {M : Type 1} → statement M

@@ -26,7 +26,7 @@ returns-5 c = λ f.
     (front-summands (a .q) (a .d) (a .e) (r .result) (a .to) (f .exponent) (r .ensures .0) (r .ensures .1) (r .ensures .2) (a .a .now) (a .out .now) (f .summands)) in
     c .before .before .accumulate-row2 .ensures
     (back-summands (a .q) (a .d) (a .e) (r .result) (a .to) (f .exponent) (r .ensures .0) (r .ensures .1) (r .ensures .2) (a .a .now) (a .out .now) (f .summands) _ first)
-    ∙ turned-done (a .q) (a .d) (a .e) (r .result) (a .to) (f .exponent) (r .ensures .0) (r .ensures .1) (r .ensures .2) (a .a .now) (a .out .now) (f .summands) _ first
+    ∙ turned-done (a .q) (a .d) (a .e) (r .result) (a .to) (f .exponent) (r .ensures .0) (r .ensures .1) (r .ensures .2) (a .a .now) (a .out .now) (f .summands .own .long) _ first
 
 pub accumulate-turned-spec : {M : Type 1} → statement M
 accumulate-turned-spec =

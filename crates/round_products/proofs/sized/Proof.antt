@@ -7,34 +7,26 @@ use Rattle.round_products.proofs.sized.Statement.{statement}
 use Rattle.round_products.proofs.sized.Tie as tie
 
 returns : tie.Need-returns
-returns c = ((λ e. let z : _≡_ {A = ℕ} 0 1 = cc in absurd (omega arith)), λ s. absurd (omega (arith, s .modulus)))
+returns c = ((λ e. let z : _≡_ {A = ℕ} 0 1 = cc in absurd (omega arith)), λ s. absurd (omega (arith, s .degree)))
 
 returns-2 : tie.Need-returns-2
-returns-2 c = ((λ e. let z : _≡_ {A = ℕ} 0 1 = cc in absurd (omega arith)), λ s. absurd (omega (arith, s .modulus-most)))
+returns-2 c = ((λ e. let z : _≡_ {A = ℕ} 0 1 = cc in absurd (omega arith)), λ s. absurd (omega (arith, s .degree-most)))
 
 returns-3 : tie.Need-returns-3
-returns-3 c = ((λ e. let z : _≡_ {A = ℕ} 0 1 = cc in absurd (omega arith)), λ s. absurd (omega (arith, s .degree)))
-
-returns-4 : tie.Need-returns-4
-returns-4 c = ((λ e. let z : _≡_ {A = ℕ} 0 1 = cc in absurd (omega arith)), λ s. absurd (omega (arith, s .degree-most)))
-
-returns-5 : tie.Need-returns-5
-returns-5 c = ((λ e. let z : _≡_ {A = ℕ} 0 1 = cc in absurd (omega arith)), λ s. absurd (omega (arith, s .elements)))
+returns-3 c = ((λ e. let z : _≡_ {A = ℕ} 0 1 = cc in absurd (omega arith)), λ s. absurd (omega (arith, s .elements)))
 
 mul-cells : tie.Need-mul-cells
 mul-cells c =
-    let a = c .before .before .before .before .before .args in
+    let a = c .before .before .before .args in
     let few : a .n * a .d ≤ 256 * 64 = Nat.mul-le-mul {n₂ = 256} {m₂ = 64} (omega arith) (omega arith) in
     omega (arith, few)
 
-returns-6 : tie.Need-returns-6
-returns-6 c = ((λ e. let z : _≡_ {A = ℕ} 0 1 = cc in absurd (omega arith)), λ s. absurd (omega (arith, s .message-long)))
+returns-4 : tie.Need-returns-4
+returns-4 c = ((λ e. let z : _≡_ {A = ℕ} 0 1 = cc in absurd (omega arith)), λ s. absurd (omega (arith, s .message-long)))
 
-returns-7 : tie.Need-returns-7
-returns-7 c = (
+returns-5 : tie.Need-returns-5
+returns-5 c = (
   (λ e. record {
-    modulus = omega arith;
-    modulus-most = omega arith;
     degree = omega arith;
     degree-most = omega arith;
     elements = omega arith;
@@ -45,6 +37,4 @@ returns-7 c = (
 )
 
 pub sized-spec : {M : Type 1} → statement M
-sized-spec =
-    tie.close
-    (tie.spec returns returns-2 returns-3 returns-4 returns-5 mul-cells returns-6 returns-7)
+sized-spec = tie.close (tie.spec returns returns-2 returns-3 mul-cells returns-4 returns-5)

@@ -19,7 +19,7 @@ returns-4 c = λ g. absurd (omega arith)
 returns-5 : tie.Need-returns-5
 returns-5 c = λ g.
     let a = c .before .before .before .before .before .before .before .before .before .before .args in
-    front-prepared (a .q) (a .d) (g .modulus) (g .degree) (a .a .now) (omega arith) (a .x .now) _ (g .places) (c .before .before .write-rows .ensures)
+    front-prepared (a .q) (a .d) (g .modulus) (g .degree) (a .a .now) (a .x .now) _ (g .places) (c .before .before .write-rows .ensures)
 
 pub prepare-spec : {M : Type 1} → statement M
 prepare-spec =

@@ -28,16 +28,16 @@ slice-write-y-3 c = simp length-set (omega arith)
 
 loop-again : tie.Need-loop-again Inv-loop μ-loop
 loop-again c =
-    let a = c .before .before .before .before .before .before .before .before .before .before .args in
-    let l = c .before .before .before .before .before .before .before .loop in
-    let r = c .before .before .before .before .reduce in
+    let a = c .before .before .before .before .before .before .before .args in
+    let l = c .before .before .before .before .loop in
+    let r = c .before .reduce in
     let small : l .k < a .d = omega arith in
     let next : ThreeRows (turned (a .q) (a .d) (a .a .now)) (a .d) (l .k + 1) (a .y .now) _ =
     three-turn _ (a .d) (l .k) (a .y .now) (l .y) (l .inv .1) small (omega arith) _ _ _
-    (c .before .before .before .wide .ensures ∙ place-first (a .q) (a .d) (omega arith) (omega arith) (a .a .now) (l .k) (r .result) small (r .ensures))
-    (c .before .wide2 .ensures ∙ c .before .before .negated .ensures (omega (arith, r .ensures, mod-lt (getD (a .a .now) (l .k) 0) {m = a .q} (omega arith)))
+    (place-first (a .q) (a .d) (omega arith) (omega arith) (a .a .now) (l .k) (r .result) small (r .ensures))
+    (c .negated .ensures (omega (arith, r .ensures, mod-lt (getD (a .a .now) (l .k) 0) {m = a .q} (omega arith)))
     ∙ place-second (a .q) (a .d) (omega arith) (omega arith) (a .a .now) (l .k) (r .result) small (r .ensures))
-    (c .wide3 .ensures ∙ place-third (a .q) (a .d) (omega arith) (omega arith) (a .a .now) (l .k) (r .result) small (r .ensures))
+    (place-third (a .q) (a .d) (omega arith) (omega arith) (a .a .now) (l .k) (r .result) small (r .ensures))
     in
     (omega arith, next, next .same)
 
@@ -51,7 +51,6 @@ returns c =
 pub write-rows-spec : {M : Type 1} → statement M
 write-rows-spec =
     tie.close
-    (tie.spec Inv-loop μ-loop loop-holds (λ c. search needs) (λ c. search needs) (λ c κs. search needs) (λ c κs. search needs) (λ c. search needs)
-    (λ c. search needs) (λ c κs. search needs) (λ c κs. search needs) (λ c. search needs) (λ c. search needs) slice-write-y-2 (λ c κs. search needs)
-    (λ c. search needs) (λ c. search needs) (λ c. search needs) slice-write-y-3 (λ c. search needs) (λ c. search needs) loop-again (λ c. search needs)
+    (tie.spec Inv-loop μ-loop loop-holds (λ c. search needs) (λ c. search needs) (λ c κs. search needs) (λ c. search needs) (λ c. search needs) (λ c κs. search needs)
+    (λ c. search needs) (λ c. search needs) slice-write-y-2 (λ c. search needs) (λ c. search needs) (λ c. search needs) slice-write-y-3 (λ c. search needs) (λ c. search needs) loop-again (λ c. search needs)
     returns)

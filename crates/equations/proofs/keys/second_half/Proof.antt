@@ -31,7 +31,7 @@ loop-again c =
       (λ h.
           let was = ap (λ s. getD s (l .j) 0) (l .inv .1 h) ∙ spliced-before _ (a .m) (l .j) (a .x .now) (omega arith) (l .j) (omega arith) in
           spliced-turn _ _ (l .j) _ (l .inv .1 h)
-          (c .plus .ensures (record { left = omega (arith, was, h .each (l .j) (omega arith)); right = h .more }) ∙ ap (λ y. (y + a .e) % a .c) was)
+          (c .around .ensures (record { left = omega (arith, was, h .each (l .j) (omega arith)); right = h .more }) ∙ ap (λ y. (y + a .e) % a .c) was)
           (omega arith)),
       simp length-set (omega arith),
     )

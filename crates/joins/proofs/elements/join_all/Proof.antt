@@ -1,5 +1,5 @@
 -- The loop keeps: the first k coefficients are joined, the other places are 0.
-use mathlib.Core.Path.{_≡_, ap, _∙_}
+use mathlib.Core.Path.{_≡_}
 use Prim.Native.Nat.{ℕ, _-_, _≤_}
 use native.Mathlib.Omega.{arith}
 use Rattle.protocol.specs.Element.{Element, modulo, reduced, zeros}

@@ -31,9 +31,9 @@ returns-2 c =
     let no = c8 .before .before in
     let ok = tested-before (lengths (no .before)) (no .if1 .left) in
     sym (first-tested _ _ (lengths (no .before)) (λ z. refl)
-    ∙ first-tested _ _ (c8 .refuse2 .ensures) (λ z. c8 .before .all-below .ensures)
+    ∙ first-tested _ _ (c8 .refuse2 .ensures) (λ z. c8 .before .all-below-wide .ensures)
     ∙ first-tested _ _ (c9 .refuse3 .ensures) (λ z. c9 .before .all-within .ensures)
-    ∙ first-tested _ _ (c .refuse4 .ensures) (λ z. rw (c .before .all-below2 .ensures, c .before .before .exponent-count .ensures ok))
+    ∙ first-tested _ _ (c .refuse4 .ensures) (λ z. rw (c .before .all-below .ensures, c .before .before .exponent-count .ensures ok))
     ∙ first-only _)
 
 pub open-spec : {M : Type 1} → statement M

@@ -17,7 +17,7 @@ returns-2 c =
     let c8 = c .before .before in
     let no = c8 .before .before in
     sym (first-tested _ _ (no .before .lengths .ensures) (λ z. refl)
-    ∙ first-tested _ _ (c8 .refuse .ensures) (λ z. c8 .before .all-below .ensures)
+    ∙ first-tested _ _ (c8 .refuse .ensures) (λ z. c8 .before .all-below-wide .ensures)
     ∙ first-tested _ _ (c .refuse2 .ensures) (λ z. c .before .all-within .ensures)
     ∙ first-only _)
 

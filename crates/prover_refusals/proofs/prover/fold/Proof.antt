@@ -24,7 +24,7 @@ returns-2 c =
     let no = c8 .before .before in
     let (ok, _) = lengths-given _ _ _ (no .before .lengths .ensures) (no .if1 .left) in
     sym (first-tested _ _ (no .before .lengths .ensures) (λ z. refl)
-    ∙ first-tested _ _ (c8 .refuse .ensures) (λ z. c8 .before .all-below .ensures)
+    ∙ first-tested _ _ (c8 .refuse .ensures) (λ z. c8 .before .all-below-wide .ensures)
     ∙ first-tested _ _ (c9 .refuse2 .ensures) (λ z. c9 .before .moving-small .ensures)
     ∙ first-tested _ _ (c10 .refuse3 .ensures) (λ z. rw (c10 .before .exponent-count .ensures ok))
     ∙ first-tested _ _ (c .refuse4 .ensures) (λ z. refl)

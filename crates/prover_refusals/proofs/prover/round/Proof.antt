@@ -22,7 +22,7 @@ returns-2 c =
     let c8 = c9 .before .before in
     let no = c8 .before .before in
     sym (first-tested _ _ (no .before .lengths .ensures) (λ z. refl)
-    ∙ first-tested _ _ (c8 .refuse .ensures) (λ z. c8 .before .all-below .ensures)
+    ∙ first-tested _ _ (c8 .refuse .ensures) (λ z. c8 .before .all-below-wide .ensures)
     ∙ first-tested _ _ (c9 .refuse2 .ensures) (λ z. c9 .before .moving-small .ensures)
     ∙ first-tested _ _ (c .refuse3 .ensures) (λ z. refl)
     ∙ first-only _)

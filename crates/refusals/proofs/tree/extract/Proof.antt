@@ -46,11 +46,11 @@ returns-2 c =
     let ok = tested-before (lengths (no .before)) (no .if1 .left) in
     sym (first-tested _ _ (lengths (no .before)) (λ z. refl)
     ∙ first-tested _ _ (c8 .refuse2 .ensures) (λ z. rw (
-      c8 .before .before .before .all-below .ensures,
+      c8 .before .before .before .all-below-wide .ensures,
       c8 .before .before .element-below .ensures (degree-most _ (settings-valid _ ok)),
-      c8 .before .all-below2 .ensures,
+      c8 .before .all-below-wide2 .ensures,
     ))
-    ∙ first-tested _ _ (c10 .refuse3 .ensures) (λ z. rw (c10 .before .all-below3 .ensures, c10 .before .before .exponent-count .ensures ok))
+    ∙ first-tested _ _ (c10 .refuse3 .ensures) (λ z. rw (c10 .before .all-below .ensures, c10 .before .before .exponent-count .ensures ok))
     ∙ first-tested _ _ (c .refuse4 .ensures) (λ z. rw (c .before .all-differ .ensures, c .before .before .nodes .ensures .0 ok))
     ∙ first-only _)
 

@@ -24,14 +24,15 @@ returns-2 c =
     let third = c .before .before in
     let second = third .before .before .before .before .before in
     let first = second .before .before .before .before .before in
-    let taken = first .before .before .before .before .before in
+    let wide = first .before .before .before .before .widened .ensures in
+    let taken = first .before .before .before .before .before .before in
     let r = taken .before .before .before .args .r in
+    let head-stored = first .store .ensures (record { there = omega (arith, first-long (first .before .before)); room = omega arith }) in
     third .store3 .ensures (record { there = omega (arith, claim-long (third .before .before)); room = omega (arith, first .store .kept .1 .1 .1 .0, second .store2 .kept .1 .1 .1 .0) })
     ∙ ap (spliced (λ k. getD (r .claim) k 0) 14 64) (second .store2 .ensures (record { there = omega (arith, challenges-long (second .before .before)); room = omega (arith, first .store .kept .1 .1 .1 .0) }))
-    ∙ ap (λ l. spliced (λ k. getD (r .claim) k 0) 14 64 (spliced (λ k. getD (r .challenges) k 0) 6 8 l)) (first .store .ensures (record { there = omega (arith, first-long (first .before .before)); room = omega arith }))
+    ∙ (λ i. spliced (λ k. getD (r .claim) k 0) 14 64 (spliced (λ k. getD (wide i) k 0) 6 8 (head-stored i)))
     ∙ parts-stored r _ _ (taken .head .ensures) (omega arith)
 
 pub store-spec : {M : Type 1} → statement M
 store-spec =
-    tie.close
-    (tie.spec returns (λ c κs. search needs) first-long (λ c κs. search needs) challenges-long (λ c κs. search needs) claim-long (λ c κs. search needs) (λ c. search needs) returns-2)
+    tie.close (tie.spec returns (λ c κs. search needs) (λ c κs. search needs) first-long (λ c κs. search needs) challenges-long (λ c κs. search needs) claim-long (λ c κs. search needs) (λ c. search needs) returns-2)

@@ -8,9 +8,9 @@ use borrow.Author.Tests.{lt-ltb, le-ltb}
 use lib.Dec.{ltb}
 use lib.ListN.{length, getD, drop}
 use lib.IntN.{ℤ, pos}
-use mir.Syntax.{w32}
+use mir.Syntax.{w64}
 use Rattle.protocol.specs.Basic.{all}
-use Rattle.protocol.specs.Text.{unsigned}
+use Rattle.protocol.specs.Text.{valueLimit, unsigned}
 use Rattle.protocol.proofs.Tests.{all-map}
 use Rattle.ranges.proofs.Magnitude.{through-bits}
 use Rattle.ranges.proofs.Scan.{all-goes-on, all-fails, all-ends}
@@ -18,7 +18,7 @@ use Rattle.table_reader.proofs.entries.all_below.Statement.{statement}
 use Rattle.table_reader.proofs.entries.all_below.Tie as tie
 
 abbrev below : ℕ → ℤ → Bool
-below limit z = ltb (unsigned z) limit
+below limit z = ltb (unsigned valueLimit z) limit
 
 abbrev Inv-loop : tie.InvT-loop
 Inv-loop limit values i₀ i = (i ≤ length values) × (all (below limit) values ≡ all (below limit) (drop i values))
@@ -30,8 +30,8 @@ abbrev μ-loop : tie.MeasureT-loop
 abbrev entry : tie.In-loop Inv-loop μ-loop → ℤ
 entry c = getD (c .before .before .args .values .now) (c .before .loop .i) (pos 0)
 
-value : (c : tie.After-unsigned Inv-loop μ-loop) → unsigned (entry (c .before .before)) ≡ c .unsigned .result
-value c = sym (c .unsigned .ensures ∙ ap unsigned (through-bits w32 (entry (c .before .before)) (c .before .unsigned-arg .given)))
+value : (c : tie.After-unsigned-wide Inv-loop μ-loop) → unsigned valueLimit (entry (c .before .before)) ≡ c .unsigned-wide .result
+value c = sym (c .unsigned-wide .ensures ∙ ap (unsigned valueLimit) (through-bits w64 (entry (c .before .before)) (c .before .unsigned-wide-arg .given)))
 
 loop-holds : tie.Need-loop-holds Inv-loop μ-loop
 loop-holds c = (omega arith, refl)
@@ -41,7 +41,7 @@ returns c =
     let l = c .before .before .before .before .loop in
     let a = c .before .before .before .before .before .args in
     all-fails (below (a .limit)) (a .values .now) (pos 0) (l .i) (l .inv .1) (omega arith) (ap (λ n. ltb n (a .limit)) (value (c .before)) ∙ le-ltb _ _ (c .if1 .taken))
-    ∙ sym (all-map (λ x. ltb x (a .limit)) unsigned (a .values .now))
+    ∙ sym (all-map (λ x. ltb x (a .limit)) (unsigned valueLimit) (a .values .now))
 
 loop-again : tie.Need-loop-again Inv-loop μ-loop
 loop-again c =
@@ -53,7 +53,7 @@ returns-2 : tie.Need-returns-2 Inv-loop μ-loop
 returns-2 c =
     let l = c .before .loop in
     let a = c .before .before .args in
-    all-ends (below (a .limit)) (a .values .now) (pos 0) (l .i) (l .inv .1) (omega arith) ∙ sym (all-map (λ x. ltb x (a .limit)) unsigned (a .values .now))
+    all-ends (below (a .limit)) (a .values .now) (pos 0) (l .i) (l .inv .1) (omega arith) ∙ sym (all-map (λ x. ltb x (a .limit)) (unsigned valueLimit) (a .values .now))
 
 pub all-below-spec : {M : Type 1} → statement M
 all-below-spec =

@@ -9,7 +9,7 @@ use borrow.Author.Needs.{needs}
 use lib.ListN.{length, drop, take, set, length-set}
 use lib.Seq.{take-suc-set}
 use lib.IntN.{ℤ}
-use mir.Syntax.{w32}
+use mir.Syntax.{w64}
 use mir.Val.{ofZ, toZ}
 use mir.Facts.{toZ-ofZ}
 use Rattle.protocol.specs.Text.{Shape, shapeSize, spotAt, spots}
@@ -103,8 +103,8 @@ module _ (c : tie.After-known-told Inv-loop μ-loop) where
   got = subst (λ s. Found (readValue s) (text turn) (now-at turn) v next) (wanted turn)
       (valued (text turn) _ (now-at turn) v next (sym (c .before .before .before .value-at .ensures .0) ∙ c .before .value .given .1))
 
-  word : toZ w32 (ofZ w32 v) ≡ v
-  word = toZ-ofZ {w = w32} {z = v} (record { sfits = c .known-told .given .0 .1 })
+  word : toZ w64 (ofZ w64 v) ≡ v
+  word = toZ-ofZ {w = w64} {z = v} (record { sfits = c .known-told .given .0 .1 })
 
 loop-holds : tie.Need-loop-holds Inv-loop μ-loop
 loop-holds c = (search needs, c .size-of .ensures, (λ h. h), refl, sym (cell-first _), sym (prefix-nothing _))

@@ -35,8 +35,7 @@ returns c =
     ((λ b. followed-long (a .text .now) (a .parts) (header (a .settings) (a .from)) (b .header) _ (c .if1 .taken)), λ e. absurd (false≢true e))
 
 read-parts-requires : tie.Need-read-parts-requires
-unfolding textLimit
-read-parts-requires c κs = omega (arith, short (c .before), c .before .before .before .pre)
+read-parts-requires c κs = c .before .before .before .pre (short (c .before))
 
 returns-2 : tie.Need-returns-2
 returns-2 c =

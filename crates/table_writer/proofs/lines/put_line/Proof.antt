@@ -7,7 +7,7 @@ use borrow.Author.Needs.{needs}
 use lib.ListN.{length, set, length-set}
 use lib.IntN.{natAbs}
 use mir.Facts.{toZ-ofZ}
-use Rattle.table_writer.specs.Put.{field, spotText}
+use Rattle.table_writer.specs.Put.{fieldRoom, field, spotText}
 use Rattle.table_writer.proofs.Puts.{put-byte, put-then, put-as}
 use Rattle.table_writer.proofs.LineTexts.{spot-most, line-spot, value-below, value-from}
 use Rattle.table_writer.proofs.lines.put_line.Statement.{statement}
@@ -18,7 +18,7 @@ module _ (c : tie.After-put-spot) where
   abbrev after : List ℕ
   after = c .put-spot .last .1 .1 .1 .0
 
-  room : c .put-spot .result + 12 ≤ length after
+  room : c .put-spot .result + 1 + fieldRoom ≤ length after
   room =
       let a = c .before .before .before .args in
       let same : length after ≡ length (a .out .now) = search needs in

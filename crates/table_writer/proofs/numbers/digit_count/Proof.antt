@@ -1,40 +1,42 @@
--- `digit_count`: between two powers of ten.
+-- `digit_count`: the loop keeps the power of ten, and that the number is not below the powers before it.
+use mathlib.Core.Path.{_≡_, refl, sym}
+use Prim.Native.Nat.{_-_, _^_, _<_, _≤_}
 use native.Mathlib.Omega.{arith}
-use Rattle.table_writer.proofs.Digits.{counted, counted-most}
+use Rattle.protocol.proofs.NumeralLaws.{digits-count}
+use Rattle.table_writer.proofs.Digits.{Reached, reached-next, ten-next, counted-most}
 use Rattle.table_writer.proofs.numbers.digit_count.Statement.{statement}
 use Rattle.table_writer.proofs.numbers.digit_count.Tie as tie
 
-returns : tie.Need-returns
-returns c = counted 0 _ (omega arith) (λ h. absurd (omega arith)) (omega arith)
+abbrev Inv-loop : tie.InvT-loop
+Inv-loop n count₀ bound₀ count bound = (0 < count) × (count ≤ 19) × (bound ≡ 10 ^ count) × Reached n count
 
-returns-2 : tie.Need-returns-2
-returns-2 c = counted 1 _ (omega arith) (λ h. omega arith) (omega arith)
+abbrev μ-loop : tie.MeasureT-loop
+μ-loop n count₀ bound₀ count bound = 19 - count
 
-returns-3 : tie.Need-returns-3
-returns-3 c = counted 2 _ (omega arith) (λ h. omega arith) (omega arith)
+loop-holds : tie.Need-loop-holds Inv-loop μ-loop
+loop-holds c = (omega arith, omega arith, refl, λ i l. absurd (omega arith))
 
-returns-4 : tie.Need-returns-4
-returns-4 c = counted 3 _ (omega arith) (λ h. omega arith) (omega arith)
+returns : tie.Need-returns Inv-loop μ-loop
+returns c =
+    let l = c .before .before .loop in
+    sym (digits-count _ (l .count) (record { some-digit = l .inv .0; at-most = l .inv .1; under = omega (arith, l .inv .2); over = l .inv .3 }))
 
-returns-5 : tie.Need-returns-5
-returns-5 c = counted 4 _ (omega arith) (λ h. omega arith) (omega arith)
+mul-bound : tie.Need-mul-bound Inv-loop μ-loop
+mul-bound c = let l = c .before .before .loop in record { fits = omega (arith, ten-next (l .count) (l .bound) (omega arith) (l .inv .2) .1) }
 
-returns-6 : tie.Need-returns-6
-returns-6 c = counted 5 _ (omega arith) (λ h. omega arith) (omega arith)
+loop-again : tie.Need-loop-again Inv-loop μ-loop
+loop-again c =
+    let l = c .before .before .loop in (
+      omega arith,
+      omega arith,
+      ten-next (l .count) (l .bound) (omega arith) (l .inv .2) .0,
+      reached-next _ (l .count) (l .inv .0) (omega (arith, l .inv .2)),
+    )
 
-returns-7 : tie.Need-returns-7
-returns-7 c = counted 6 _ (omega arith) (λ h. omega arith) (omega arith)
-
-returns-8 : tie.Need-returns-8
-returns-8 c = counted 7 _ (omega arith) (λ h. omega arith) (omega arith)
-
-returns-9 : tie.Need-returns-9
-returns-9 c = counted 8 _ (omega arith) (λ h. omega arith) (omega arith)
-
-returns-10 : tie.Need-returns-10
-returns-10 c = counted-most _ (omega arith)
+returns-2 : tie.Need-returns-2 Inv-loop μ-loop
+returns-2 c = let l = c .before .loop in counted-most _ (λ i h. l .inv .3 i (omega arith))
 
 pub digit-count-spec : {M : Type 1} → statement M
 digit-count-spec =
     tie.close
-    (tie.spec returns returns-2 returns-3 returns-4 returns-5 returns-6 returns-7 returns-8 returns-9 returns-10)
+    (tie.spec Inv-loop μ-loop loop-holds returns mul-bound (λ c. record { fits = omega arith }) (λ c. omega arith) loop-again returns-2)

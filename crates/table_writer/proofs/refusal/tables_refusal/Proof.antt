@@ -8,7 +8,7 @@ use Rattle.protocol.specs.declared.Settings.{Settings}
 use Rattle.protocol.specs.declared.Parts.{Parts}
 use Rattle.protocol.specs.Settings.{settingsRefusal, allBelow, allWithin, exponent, exponents}
 use Rattle.protocol.specs.Basic.{first, unless}
-use Rattle.protocol.specs.Text.{Tables, valueLimit, fits, entriesRefusal}
+use Rattle.protocol.specs.Text.{Tables, narrowLimit, fits, entriesRefusal}
 use Rattle.protocol.proofs.Inputs.{settings-valid}
 use Rattle.protocol.proofs.Refusals.{first-stops, first-known, first-tested, tested-before, first-only}
 use Rattle.text_parts.specs.Parts.{tablesOf, partOf, lengthsAre}
@@ -55,7 +55,7 @@ unfolding tablesRefusal
 returns c = sym (known (c .before) _ ∙ first-stops _ _ (c .if1 .taken))
 
 returns-2 : tie.Need-returns-2
-unfolding tablesRefusal entriesRefusal allBelow allWithin exponents exponent valueLimit
+unfolding tablesRefusal entriesRefusal allBelow allWithin exponents exponent narrowLimit
 returns-2 c =
     let c₉ = c .before .before .before in
     let c₈ = c₉ .before .before .before in
@@ -63,9 +63,9 @@ returns-2 c =
     let c₇ = no .before in
     let ok = allowed (c₆ c₇) (tested-before (c₇ .refuse .ensures) (no .if1 .left)) in
     sym (known c₇ _ ∙ last-flat _ _
-    ∙ first-tested _ _ (c₈ .refuse2 .ensures) (λ z. rw (c₈ .before .before .before .all-below .ensures, c₈ .before .before .all-below2 .ensures, c₈ .before .all-below3 .ensures))
+    ∙ first-tested _ _ (c₈ .refuse2 .ensures) (λ z. rw (c₈ .before .before .before .all-below-wide .ensures, c₈ .before .before .all-below-wide2 .ensures, c₈ .before .all-below-wide3 .ensures))
     ∙ first-tested _ _ (c₉ .refuse3 .ensures) (λ z. rw (c₉ .before .before .all-within .ensures, c₉ .before .all-within2 .ensures))
-    ∙ first-tested _ _ (c .refuse4 .ensures) (λ z. rw (c .before .all-below4 .ensures, c .before .before .exponent-count .ensures ok))
+    ∙ first-tested _ _ (c .refuse4 .ensures) (λ z. rw (c .before .all-below .ensures, c .before .before .exponent-count .ensures ok))
     ∙ first-only _)
 
 pub tables-refusal-spec : {M : Type 1} → statement M

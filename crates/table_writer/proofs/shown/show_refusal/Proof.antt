@@ -1,4 +1,4 @@
--- `show_refusal`: the line is made in a place of its own, of 19 bytes.
+-- `show_refusal`: the line is made in a place of its own, of 28 bytes.
 use mathlib.Core.Path.{_≡_, sym, ap, _∙_}
 use mathlib.Core.List.{List, _++_}
 use Prim.Native.Nat.{ℕ, _≤_}
@@ -34,7 +34,7 @@ module _ (c : tie.After-put-field) where
 
   within : c .put-field .result ≤ length after
   within =
-      let same : length after ≡ 19 = search needs in
+      let same : length after ≡ 28 = search needs in
       omega (arith, put .next, field-length number 10, digits-most number)
 
   whole : take (c .put-field .result) after ≡ refusedLine number

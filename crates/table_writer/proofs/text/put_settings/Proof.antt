@@ -33,8 +33,8 @@ returns c =
     let v₁ = v₂ .before in
     let degree = through-bits w64 _ (v₁ .value-of .ok) ∙ v₁ .value-of .ensures in
     let depth = through-bits w64 _ (v₂ .value-of2 .ok) ∙ v₂ .value-of2 .ensures in
-    let modulus = through-bits w64 _ (v₃ .value-of3 .ok) ∙ v₃ .value-of3 .ensures in
-    let bound = through-bits w64 _ (v₄ .value-of4 .ok) ∙ v₄ .value-of4 .ensures in
+    let modulus = through-bits w64 _ (v₃ .residue-value .ok) ∙ v₃ .residue-value .ensures in
+    let bound = through-bits w64 _ (v₄ .value-of3 .ok) ∙ v₄ .value-of3 .ensures in
     subst (λ l. Held (names ++ l) (p .put-part .result) (p .put-part .last .1 .1 .1 .0))
     (λ j. partText (b .settings-shape .ensures j) (degree j ∷ depth j ∷ modulus j ∷ bound j ∷ []))
     (p .put-part .ensures (sym (ap shapeSize (b .settings-shape .ensures))) names (subst (Held names 22) (sym (k .copy .ensures)) (named (a .out .now))))

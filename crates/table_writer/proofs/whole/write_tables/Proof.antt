@@ -12,7 +12,7 @@ use Rattle.text_parts.specs.Parts.{tablesOf, partOf, lengthsOf, lengthsAre, val
 use Rattle.text_parts.specs.Flat.{total, joined, tableValues}
 use Rattle.table_writer.specs.Tables.{valuesText, Output}
 use Rattle.table_writer.proofs.Answers.{long}
-use Rattle.table_writer.proofs.WholeText.{lengths-are, text-values, text-over}
+use Rattle.table_writer.proofs.WholeText.{lengths-are, gathered-are, text-values, text-over}
 use Rattle.table_writer.proofs.whole.write_tables.Statement.{statement}
 use Rattle.table_writer.proofs.whole.write_tables.Tie as tie
 
@@ -55,9 +55,10 @@ returns-2 c w =
     let P = start m .args .parts in
     let values = g .all .last .1 .1 .1 .1 .1 .1 .0 in
     let r = g .all .result in
-    let gathered : values ≡ joined (tableValues (t m)) ++ drop r values = sym (take-append-drop r values) ∙ ap (λ x. x ++ drop r values) (g .all .ensures .front) in
+    let front : values ≡ joined (tableValues (t m)) ++ drop r values =
+    sym (take-append-drop r values) ∙ ap (λ x. x ++ drop r values) (g .all .ensures .front ∙ ap joined (gathered-are S P (t m) w)) in
     subst (λ x. Output x (start m .args .out .now) (v .write-values .result) (v .write-values .last .1 .1 .1 .1 .0))
-    (ap (λ n. valuesText S P n values) (lengths-is m) ∙ text-values S P (t m) w values (drop r values) gathered)
+    (ap (λ n. valuesText S P n values) (lengths-is m) ∙ text-values S P (t m) w values (drop r values) front)
     (v .write-values .ensures (ap (lengthsAre (partOf S P)) (lengths-is m) ∙ lengths-are S P (t m) w))
 
 pub write-tables-spec : {M : Type 1} → statement M

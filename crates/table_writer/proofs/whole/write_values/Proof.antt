@@ -9,7 +9,7 @@ use lib.ListN.{length, take, drop}
 use lib.Seq.{length-take-le}
 use Rattle.protocol.specs.Text.{textLimit}
 use Rattle.text_parts.specs.Parts.{partOf, lengthsAre}
-use Rattle.table_writer.specs.Put.{Held}
+use Rattle.table_writer.specs.Put.{textRoom, Held}
 use Rattle.table_writer.specs.Tables.{valuesText}
 use Rattle.table_writer.proofs.Answers.{long, cramped, done}
 use Rattle.table_writer.proofs.whole.write_values.Statement.{statement}
@@ -32,7 +32,7 @@ module _ (c : tie.Else1) where
   put = c .before .before
 
   front : length (take (count put) (place put)) ≡ count put
-  front = let same : length (place put) ≡ 65_581 = search needs in length-take-le (count put) (place put) (omega arith)
+  front = let same : length (place put) ≡ textRoom = search needs in length-take-le (count put) (place put) (omega arith)
 
   -- so all of it is there
   module _ (fits : let a = put .before .before .before .args in lengthsAre (partOf (a .settings) (a .parts)) (a .lengths) ≡ true) where

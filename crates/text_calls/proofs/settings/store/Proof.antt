@@ -1,3 +1,5 @@
+use mathlib.Core.Path.{_∙_}
+use mathlib.Core.List.{[], _∷_}
 use native.Mathlib.Omega.{arith}
 use lib.ListN.{length-set}
 use Rattle.text_calls.specs.Texts.{settingsNumbers}
@@ -14,9 +16,13 @@ slice-write-out-3 c = simp length-set (omega arith)
 
 returns : tie.Need-returns
 unfolding settingsNumbers
-returns c = let a = c .args in front (a .s .degree) (a .s .depth) (a .s .modulus) (a .s .bound) (a .out .now) (c .pre)
+returns c =
+    let second = c .before in
+    let first = second .before in
+    let s = first .before .before in
+    front _ _ _ _ (s .args .out .now) (s .pre)
+    ∙ λ i. first .wide .ensures i ∷ second .wide2 .ensures i ∷ s .args .s .modulus ∷ c .wide3 .ensures i ∷ []
 
 pub store-spec : {M : Type 1} → statement M
 store-spec =
-    tie.close
-    (tie.spec (λ c. search needs) slice-write-out-2 slice-write-out-3 (λ c. search needs) (λ c. search needs) returns)
+    tie.close (tie.spec (λ c κs. search needs) (λ c. search needs) (λ c κs. search needs) slice-write-out-2 slice-write-out-3 (λ c κs. search needs) (λ c. search needs) (λ c. search needs) returns)

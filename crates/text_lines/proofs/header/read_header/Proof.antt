@@ -8,11 +8,11 @@ use borrow.Author.Needs.{needs}
 use borrow.Author.Tests.{not-true, not-false}
 use lib.ListN.{length, drop}
 use lib.IntN.{ℤ}
-use mir.Syntax.{w32}
+use mir.Syntax.{w64}
 use mir.Val.{ofZ, toZ}
 use mir.Facts.{toZ-ofZ}
 use Rattle.protocol.specs.Basic.{tabulate, choose}
-use Rattle.protocol.specs.Text.{Spot, shape, settingsShape, shapeSize, spotAt, spots, beginsWithNames, unsigned, noSettings}
+use Rattle.protocol.specs.Text.{Spot, valueLimit, narrowLimit, shape, settingsShape, shapeSize, spotAt, spots, beginsWithNames, unsigned, noSettings}
 use Rattle.protocol.specs.Lines.{spot, readValue, readValues, settingsOf, readSettings}
 use Rattle.text_lines.specs.declared.header.Header.{Header}
 use Rattle.text_lines.specs.Header.{headerAnswer}
@@ -57,8 +57,8 @@ module _ (c : tie.After-known-told) where
   got₁ : Found (readValue (at-place 0)) (text from₀) 22 v₁ on₁
   got₁ = valued (text from₀) (at-place 0) 22 v₁ on₁ (sym (c .before .before .before .value-at .ensures .0) ∙ c .before .degree .given .1)
 
-  word₁ : toZ w32 (ofZ w32 v₁) ≡ v₁
-  word₁ = toZ-ofZ {w = w32} {z = v₁} (record { sfits = c .known-told .given .0 .1 })
+  word₁ : toZ w64 (ofZ w64 v₁) ≡ v₁
+  word₁ = toZ-ofZ {w = w64} {z = v₁} (record { sfits = c .known-told .given .0 .1 })
 
   left₁ : Left (text from₀) (v₁ ∷ []) (at-place 1 ∷ at-place 2 ∷ at-place 3 ∷ []) on₁
   left₁ = values-more _ [] (at-place 0) _ _ v₁ (drop on₁ (text from₀)) (left₀ from₀) (got₁ .is)
@@ -80,8 +80,8 @@ module _ (c : tie.After-known-told2) where
   got₂ : Found (readValue (at-place 1)) text₁ (on₁ from₁) v₂ on₂
   got₂ = valued text₁ (at-place 1) (on₁ from₁) v₂ on₂ (sym (c .before .before .before .value-at2 .ensures .0) ∙ c .before .depth .given .1)
 
-  word₂ : toZ w32 (ofZ w32 v₂) ≡ v₂
-  word₂ = toZ-ofZ {w = w32} {z = v₂} (record { sfits = c .known-told2 .given .0 .1 })
+  word₂ : toZ w64 (ofZ w64 v₂) ≡ v₂
+  word₂ = toZ-ofZ {w = w64} {z = v₂} (record { sfits = c .known-told2 .given .0 .1 })
 
   left₂ : Left text₁ (v₁ from₁ ∷ v₂ ∷ []) (at-place 2 ∷ at-place 3 ∷ []) on₂
   left₂ = values-more _ (v₁ from₁ ∷ []) (at-place 1) _ _ v₂ (drop on₂ text₁) (left₁ from₁) (got₂ .is)
@@ -103,8 +103,8 @@ module _ (c : tie.After-known-told3) where
   got₃ : Found (readValue (at-place 2)) text₂ (on₂ from₂) v₃ on₃
   got₃ = valued text₂ (at-place 2) (on₂ from₂) v₃ on₃ (sym (c .before .before .before .value-at3 .ensures .0) ∙ c .before .modulus .given .1)
 
-  word₃ : toZ w32 (ofZ w32 v₃) ≡ v₃
-  word₃ = toZ-ofZ {w = w32} {z = v₃} (record { sfits = c .known-told3 .given .0 .1 })
+  word₃ : toZ w64 (ofZ w64 v₃) ≡ v₃
+  word₃ = toZ-ofZ {w = w64} {z = v₃} (record { sfits = c .known-told3 .given .0 .1 })
 
   left₃ : Left text₂ (v₁ (from₁ from₂) ∷ v₂ from₂ ∷ v₃ ∷ []) (at-place 3 ∷ []) on₃
   left₃ = values-more _ (v₁ (from₁ from₂) ∷ v₂ from₂ ∷ []) (at-place 2) _ _ v₃ (drop on₃ text₂) (left₂ from₂) (got₃ .is)
@@ -129,8 +129,8 @@ module _ (c : tie.After-known-told4) where
   got₄ : Found (readValue (at-place 3)) text₃ (on₃ from₃) v₄ on₄
   got₄ = valued text₃ (at-place 3) (on₃ from₃) v₄ on₄ (sym (c .before .before .before .value-at4 .ensures .0) ∙ c .before .bound .given .1)
 
-  word₄ : toZ w32 (ofZ w32 v₄) ≡ v₄
-  word₄ = toZ-ofZ {w = w32} {z = v₄} (record { sfits = c .known-told4 .given .0 .1 })
+  word₄ : toZ w64 (ofZ w64 v₄) ≡ v₄
+  word₄ = toZ-ofZ {w = w64} {z = v₄} (record { sfits = c .known-told4 .given .0 .1 })
 
   whole : readSettings text₃ ≡ some (values, drop on₄ text₃)
   whole = values-done _ values _ (values-more _ (v₁ (from₁ (from₂ from₃)) ∷ v₂ (from₂ from₃) ∷ v₃ from₃ ∷ []) (at-place 3) [] _ v₄ (drop on₄ text₃) (left₃ from₃) (got₄ .is))
@@ -179,10 +179,10 @@ returns-6 c =
     (λ j. record {
       found = true;
       settings = record {
-        degree = (c .before .before .before .unsigned .ensures ∙ ap unsigned (word₁ (from₁ (from₂ (from₃ d))))) j;
-        depth = (c .before .before .unsigned2 .ensures ∙ ap unsigned (word₂ (from₂ (from₃ d)))) j;
-        modulus = (c .before .unsigned3 .ensures ∙ ap unsigned (word₃ (from₃ d))) j;
-        bound = (c .unsigned4 .ensures ∙ ap unsigned (word₄ d)) j;
+        degree = (c .before .before .before .unsigned-narrow .ensures ∙ ap (unsigned narrowLimit) (word₁ (from₁ (from₂ (from₃ d))))) j;
+        depth = (c .before .before .unsigned-narrow2 .ensures ∙ ap (unsigned narrowLimit) (word₂ (from₂ (from₃ d)))) j;
+        modulus = (c .before .unsigned-wide .ensures ∙ ap (unsigned valueLimit) (word₃ (from₃ d))) j;
+        bound = (c .unsigned-narrow3 .ensures ∙ ap (unsigned narrowLimit) (word₄ d)) j;
       };
       next = sym (suffix-back (text₃ d) (on₄ d) (got₄ d .within)) j;
     })

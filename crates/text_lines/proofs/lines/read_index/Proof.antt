@@ -3,14 +3,14 @@ use mathlib.Core.Path.{_≡_, sym, ap, _∙_}
 use mathlib.Core.Bool.{true}
 use mathlib.Core.List.{List}
 use mathlib.Core.Option.{none, bind}
-use Prim.Native.Nat.{ℕ, _+_, _-_, _≤_}
+use Prim.Native.Nat.{ℕ, _+_, _-_, _^_, _≤_, _<_}
 use native.Mathlib.Omega.{arith}
 use borrow.Author.Needs.{needs}
 use borrow.Author.Tests.{not-true, not-false}
 use lib.ListN.{length, drop}
 use lib.IntN.{ℤ, pos}
 use Rattle.protocol.specs.declared.Number.the-variants.{Value}
-use Rattle.protocol.specs.Text.{space, valueLimit, readCount, plain, byte, numberAnswer}
+use Rattle.protocol.specs.Text.{space, narrowLimit, readCount, plain, byte, numberAnswer}
 use Rattle.protocol.specs.Lines.{present, readIndexAt}
 use Rattle.text_lines.proofs.Counts.{Found, suffix-back, counted, uncounted, count-small}
 use Rattle.text_lines.proofs.Rows.{present-none, byte-place, byte-stands, column-uncounted, column-unspaced, column-read, index-both}
@@ -32,12 +32,12 @@ module _ (c : tie.After-known-told) where
   abbrev next : ℕ
   next = c .before .value .given .0 .1 .0
 
-  got : (n : ℕ) × (v ≡ pos n) × Found readCount text at n next
-  got = counted text at v next (sym (c .before .before .before .read-count .ensures .0) ∙ c .before .value .given .1)
+  got : (n : ℕ) × (v ≡ pos n) × Found (readCount narrowLimit) text at n next
+  got = counted narrowLimit text at v next (sym (c .before .before .before .read-count .ensures .0) ∙ c .before .value .given .1)
 
-  small : got .0 ≤ 2147483647
-  unfolding valueLimit
-  small = count-small (drop at text) (got .0) (drop next text) (got .2 .is)
+  small : got .0 < 2 ^ 63
+  unfolding narrowLimit
+  small = omega (arith, count-small narrowLimit (drop at text) (got .0) (drop next text) (got .2 .is))
 
 -- a space stands behind it
 stands : (c : tie.Else1) → present (byte space (drop (next (c .before .before)) (text (c .before .before)))) ≡ true
@@ -47,7 +47,7 @@ returns : tie.Need-returns
 unfolding readIndexAt numberAnswer plain bind
 returns c =
     let a = c .before .before .before .before .args in
-    let missed = uncounted (a .text .now) (a .at) _ (sym (c .before .before .read-count .ensures .0) ∙ c .enum-told .given .1) in
+    let missed = uncounted narrowLimit (a .text .now) (a .at) _ (sym (c .before .before .read-count .ensures .0) ∙ c .enum-told .given .1) in
     index-both (a .text .now) (a .at) _ (sym (ap (λ o. numberAnswer (a .text .now) (plain o)) (column-uncounted (drop (a .at) (a .text .now)) missed)))
 
 returns-2 : tie.Need-returns-2

@@ -6,7 +6,7 @@ use Prim.Native.Nat.{ℕ}
 use borrow.Author.Needs.{needs}
 use lib.ListN.{drop}
 use lib.IntN.{ℤ}
-use mir.Syntax.{w32}
+use mir.Syntax.{w64}
 use mir.Val.{ofZ, toZ}
 use mir.Facts.{toZ-ofZ}
 use Rattle.protocol.specs.declared.Number.the-variants.{Value, Refused}
@@ -41,8 +41,8 @@ module _ (c : tie.After-known-told) where
   got : Found readLine text at read next
   got = let g = c .before .p .given .0 in line-found text at (g .0) (g .1 .0) (g .1 .1 .0) v next (sym (c .before .before .before .read-line .ensures .0) ∙ c .before .p .given .1)
 
-  word : toZ w32 (ofZ w32 v) ≡ v
-  word = toZ-ofZ {w = w32} {z = v} (record { sfits = c .known-told .given .1 .1 .1 .0 .1 })
+  word : toZ w64 (ofZ w64 v) ≡ v
+  word = toZ-ofZ {w = w64} {z = v} (record { sfits = c .known-told .given .1 .1 .1 .0 .1 })
 
 read-line-requires : tie.Need-read-line-requires
 read-line-requires c κs = search needs

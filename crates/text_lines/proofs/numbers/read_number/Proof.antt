@@ -1,98 +1,16 @@
--- `read_number`: by the first byte.
-use mathlib.Core.Path.{_≡_, sym, ap, subst, _∙_}
-use mathlib.Core.List.{List}
-use Prim.Native.Nat.{ℕ, zero, suc, _+_, _≤_}
+-- `read_number`: the limit by its name.
 use native.Mathlib.Omega.{arith}
-use borrow.Author.Needs.{needs}
-use lib.ListN.{drop}
-use lib.IntN.{ℤ, pos, negℤ, _-ℤ_, +ℤ-idl}
-use mir.Syntax.{w32}
-use mir.Val.{SFits, ofZ, toZ}
-use mir.ValLaws.{toZ-ofZ}
-use mir.Facts.{toZ-pos}
-use Rattle.protocol.specs.declared.Number.the-variants.{Value}
-use Rattle.protocol.specs.Text.{valueLimit, readCount, negative, readNumber, numberAnswer, readNumberAt, readCountAt}
-use Rattle.text_lines.proofs.Counts.{Found, suffix-back, counted, uncounted, count-small, number-outside, number-plain, number-minus, negative-number, negative-zero, negative-none, number-both}
+use Rattle.protocol.specs.Text.{valueLimit}
 use Rattle.text_lines.proofs.numbers.read_number.Statement.{statement}
 use Rattle.text_lines.proofs.numbers.read_number.Tie as tie
 
--- a number that was read without its sign keeps its place when the sign is put in front
-neg-fits : (n : ℕ) → n ≤ 2147483647 → SFits w32 (negℤ (pos n))
-neg-fits zero h = record { sfits = omega arith }
-neg-fits (suc n) h = record { sfits = omega arith }
-
-neg-is : (v : ℤ) (n : ℕ) → v ≡ pos n → n ≤ 2147483647 → pos 0 -ℤ toZ w32 (ofZ w32 v) ≡ negℤ (pos n)
-neg-is v n e h = ap (λ z. pos 0 -ℤ toZ w32 (ofZ w32 z)) e ∙ ap (λ z. pos 0 -ℤ z) (toZ-pos w32 {n = n} (omega arith)) ∙ +ℤ-idl (negℤ (pos n))
-
--- behind a minus: the number without its sign
-module _ (c : tie.After-known-told) where
-  abbrev text : List ℕ
-  text = c .before .before .before .before .before .before .before .before .args .text .now
-
-  abbrev at : ℕ
-  at = c .before .before .before .before .before .before .before .before .args .at
-
-  abbrev v : ℤ
-  v = c .before .value .given .0 .0
-
-  abbrev next : ℕ
-  next = c .before .value .given .0 .1 .0
-
-  got : (n : ℕ) × (v ≡ pos n) × Found readCount text (at + 1) n next
-  got = counted text (at + 1) v next (sym (c .before .before .before .read-count2 .ensures .0) ∙ c .before .value .given .1)
-
-  small : got .0 ≤ 2147483647
-  unfolding valueLimit
-  small = count-small (drop (at + 1) text) (got .0) (drop next text) (got .2 .is)
-
-  signed : readNumber (drop at text) ≡ negative (readCount (drop (at + 1) text))
-  signed = number-minus text at (search needs) (c .before .before .before .before .if2 .left)
+number-within-requires : tie.Need-number-within-requires
+unfolding valueLimit
+number-within-requires c κs = omega arith
 
 returns : tie.Need-returns
-unfolding readNumberAt numberAnswer
-returns c =
-    let a = c .before .before .args in
-    number-both (a .text .now) (a .at) _ (sym (ap (numberAnswer (a .text .now)) (number-outside (a .text .now) (a .at) (c .if1 .taken))))
-
-returns-2 : tie.Need-returns-2
-unfolding readNumberAt readCountAt
-returns-2 c =
-    let a = c .before .before .before .before .before .args in
-    number-both (a .text .now) (a .at) _
-    (c .read-count .ensures .0 ∙ sym (ap (numberAnswer (a .text .now)) (number-plain (a .text .now) (a .at) (search needs) (c .before .if2 .taken))))
-
-returns-3 : tie.Need-returns-3
-unfolding readNumberAt numberAnswer
-returns-3 c =
-    let d = c .before .before .before in
-    let a = d .before .before .before .before .args in
-    let none-behind = uncounted (a .text .now) (a .at + 1) _ (sym (c .before .before .read-count2 .ensures .0) ∙ c .enum-told .given .1) in
-    number-both (a .text .now) (a .at) _ (sym (ap (numberAnswer (a .text .now)) (number-minus (a .text .now) (a .at) (search needs) (d .if2 .left) ∙ negative-none _ none-behind)))
-
-returns-4 : tie.Need-returns-4
-unfolding readNumberAt numberAnswer
-returns-4 c =
-    let d = c .before in
-    number-both (text d) (at d) _
-    (sym (ap (numberAnswer (text d)) (signed d ∙ negative-zero _ (got d .0) (drop (next d) (text d)) (got d .2 .is) (sym (ap (ofZ w32) (got d .1)) ∙ c .if3 .taken))))
-
-sub-t10 : tie.Need-sub-t10
-sub-t10 c = let d = c .before in subst (SFits w32) (sym (neg-is (v d) (got d .0) (got d .1) (small d))) (neg-fits (got d .0) (small d))
-
-returns-5 : tie.Need-returns-5
-unfolding readNumberAt numberAnswer
-returns-5 c =
-    let d = c .before in
-    let n = got d .0 in
-    let whole : toZ w32 (ofZ w32 (pos 0 -ℤ toZ w32 (ofZ w32 (v d)))) ≡ negℤ (pos n) =
-    ap (λ z. toZ w32 (ofZ w32 z)) (neg-is (v d) n (got d .1) (small d)) ∙ toZ-ofZ w32 (negℤ (pos n)) (neg-fits n (small d)) in
-    let nonzero : n ≡ 0 → ⊥ = λ e. c .if3 .left (ap (ofZ w32) (got d .1) ∙ e) in
-    number-both (text d) (at d) _
-    ((λ j. Value (whole j) (sym (suffix-back (text d) (next d) (got d .2 .within)) j))
-    ∙ sym (ap (numberAnswer (text d)) (signed d ∙ negative-number _ n (drop (next d) (text d)) (got d .2 .is) nonzero)))
+unfolding valueLimit
+returns c = c .number-within .ensures
 
 pub read-number-spec : {M : Type 1} → statement M
-read-number-spec =
-    tie.close
-    (tie.spec returns (λ c. search needs) (λ c κs. search needs) returns-2 (λ c. search needs) (λ c κs. search needs) (λ c. search needs)
-    (λ c. search needs) returns-3 returns-4 sub-t10 returns-5)
+read-number-spec = tie.close (tie.spec number-within-requires returns)

@@ -342,7 +342,7 @@ subtree-accepted-returns : (t : ℕ) → subtree-accepted-lts.Need-returns (subt
 subtree-accepted-returns t c = λ read.
     let g = c .before .before .before .before .before .before .before .before .before in
     let a = g .args in
-    c .leaf-accepted .ensures ∙ Descent.leaf-tests (a .settings) (a .rounds .now) (a .challenges .now) (a .leaves .now) (a .h) (a .k) (a .first) _ (position t g)
+    c .leaf-accepted .ensures (Descent.leaf-below (a .settings) (a .rounds .now) (a .challenges .now) (a .leaves .now) (a .h) (a .k) (a .first) _ (position t g) (omega arith) (a .ws .now) (read .key-below)) ∙ Descent.leaf-tests (a .settings) (a .rounds .now) (a .challenges .now) (a .leaves .now) (a .h) (a .k) (a .first) _ (position t g)
     (omega arith) (a .claim .now) (a .ws .now)
 
 subtree-accepted-node-holds-requires : (t : ℕ) → subtree-accepted-lts.Need-node-holds-requires (subtree-calls t) (subtree-accepted-at t) subtree-accepted.Post

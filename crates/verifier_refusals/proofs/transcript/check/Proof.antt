@@ -35,11 +35,11 @@ returns-2 c =
     let ok = tested-before (lengths (no .before)) (no .if1 .left) in
     sym (first-tested _ _ (lengths (no .before)) (λ z. refl)
     ∙ first-tested _ _ (c8 .refuse2 .ensures) (λ z. rw (
-      c8 .before .before .before .all-below .ensures,
+      c8 .before .before .before .all-below-wide .ensures,
       c8 .before .before .element-below .ensures (degree-most _ (settings-valid _ ok)),
-      c8 .before .all-below2 .ensures,
+      c8 .before .all-below-wide2 .ensures,
     ))
-    ∙ first-tested _ _ (c .refuse3 .ensures) (λ z. rw (c .before .all-below3 .ensures, c .before .before .exponent-count .ensures ok))
+    ∙ first-tested _ _ (c .refuse3 .ensures) (λ z. rw (c .before .all-below .ensures, c .before .before .exponent-count .ensures ok))
     ∙ first-only _)
 
 pub check-spec : {M : Type 1} → statement M

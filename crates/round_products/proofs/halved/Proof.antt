@@ -1,0 +1,35 @@
+-- The loop keeps: the places below k are filled, the others 0.
+use mathlib.Core.Path.{_≡_}
+use Prim.Native.Nat.{_*_, _-_, _%_, _^_, _≤_}
+use native.Mathlib.Omega.{arith}
+use borrow.Author.Needs.{needs}
+use lib.ListN.{getD}
+use Rattle.protocol.specs.Basic.{Provided}
+use Rattle.protocol.specs.Element.{zeros}
+use Rattle.residues.proofs.Fill.{filled, fill-none, fill-more, element-done}
+use Rattle.round_products.specs.Sums.{half, Reduced}
+use Rattle.round_products.proofs.halved.Statement.{statement}
+use Rattle.round_products.proofs.halved.Tie as tie
+
+abbrev Inv-loop : tie.InvT-loop
+Inv-loop q d t a r₀ n k₀ r k = (k ≤ d) × Provided ((q % 2 ≡ 1) × Reduced q d a) (r ≡ filled (λ j. half q ^ t * getD a j 0 % q) k (zeros 64))
+
+abbrev μ-loop : tie.MeasureT-loop
+μ-loop q d t a r₀ n k₀ r k = d - k
+
+loop-holds : tie.Need-loop-holds Inv-loop μ-loop
+loop-holds c = (omega arith, λ _. fill-none _ _)
+
+loop-again : tie.Need-loop-again Inv-loop μ-loop
+loop-again c =
+    let l = c .before .before .loop in
+    (omega arith, λ h. fill-more 64 _ (l .k) _ (l .r) (l .inv .1 h) (omega arith) (c .halved-times .ensures (record { odd = h .0; residue = h .1 (l .k) (omega arith) })))
+
+returns : tie.Need-returns Inv-loop μ-loop
+returns c = λ h. let l = c .before .loop in element-done _ (l .k) _ (l .r) (l .inv .1 h) (omega arith)
+
+pub halved-spec : {M : Type 1} → statement M
+halved-spec =
+    tie.close
+    (tie.spec Inv-loop μ-loop loop-holds (λ c. search needs) (λ c. search needs) (λ c κs. search needs) (λ c. search needs) (λ c. search needs)
+    (λ c. search needs) (λ c. search needs) loop-again returns)
