@@ -25,10 +25,10 @@ part at t = take (length t - at) (drop at t)
 pub part-long {ℓ} : {A : Type ℓ} (at n : ℕ) (t : List A) → at + n ≤ length t → n ≤ length (part at t)
 part-long at n t h = omega (arith, tail-length at t)
 
-pub part-residues : (q at n : ℕ) (t : List ℕ) → at + n ≤ length t → ((j : ℕ) → getD t j 0 < q) → Residues q n 0 (part at t)
+pub part-residues : (q at n : ℕ) (t : List ℕ) → at + n ≤ length t → ((j : ℕ) → j < at + n → getD t j 0 < q) → Residues q n 0 (part at t)
 part-residues q at n t h below = record {
   long = omega (arith, part-long at n t h);
-  each = λ k _. subst (λ x. x < q) (sym (tail-at at t (0 + k) 0)) (below (at + (0 + k)));
+  each = λ k l. subst (λ x. x < q) (sym (tail-at at t (0 + k) 0)) (below (at + (0 + k)) (omega arith));
 }
 
 module _ (S : Settings) (rounds : List ℕ) (k : ℕ) where

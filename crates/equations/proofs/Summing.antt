@@ -72,7 +72,7 @@ module _ (S : Settings) where
       degree = omega (arith, ready S (g .allowed) .degree-least);
       degree-most = ready S (g .allowed) .degree-most;
       summands = record {
-        added = part-residues q (i * d) d key (g .inside) (g .key-below);
+        added = part-residues q (i * d) d key (g .inside) (λ j _. g .key-below j);
         own = record { long = omega (arith, g .room); each = λ k l. subst (λ x. getD sums x 0 < q) (sym (Nat.zero-add k)) (g .own k l) };
       };
     }

@@ -6,7 +6,7 @@
 --   FinalGiven S f g       the settings are allowed, the final element f is within its bound, and g begins with an element of residues
 --   KeyGiven S key E       the settings are allowed, the key is n elements of residues, and there are L challenges
 --   RoundRead S k x n      the settings are allowed, polynomial k stands in a table of n numbers, and a list of x numbers has an element: a claim
---   ClaimRead S k x t      so it is in the table t, which has residues only
+--   ClaimRead S k x t      so it is in the table t, which has residues up to that polynomial and in it
 --   EndGiven S x y key E   so they are, and lists of x and y numbers have an element each: a claim and a final element
 use mathlib.Core.Bool.{true}
 use mathlib.Core.List.{List}
@@ -58,4 +58,4 @@ pub record RoundRead (S : Settings) (k claim rounds : ℕ) : Type 0 where
 
 pub record ClaimRead (S : Settings) (k claim : ℕ) (rounds : List ℕ) : Type 0 where
   pub of-round : RoundRead S k claim (length rounds)
-  pub below : (j : ℕ) → getD rounds j 0 < S .modulus
+  pub below : (j : ℕ) → j < polynomialAt (S .degree) k + polynomialCells (S .degree) → getD rounds j 0 < S .modulus

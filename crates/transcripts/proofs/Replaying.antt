@@ -35,7 +35,7 @@ module _ (S : Settings) (rounds : List ℕ) (y x : ℕ) (g : RoundsGiven S round
       three = omega arith
 
   pub claim-read : ClaimRead S t x rounds
-  claim-read = record { of-round = round-read; below = below-everywhere (S .modulus) _ rounds (omega (arith, settings-valid S (g .allowed) .modulus-least)) (g .rounds-below) }
+  claim-read = record { of-round = round-read; below = λ j _. below-everywhere (S .modulus) _ rounds (omega (arith, settings-valid S (g .allowed) .modulus-least)) (g .rounds-below) j }
 
 module _ (S : Settings) (C rounds E : List ℕ) (t : ℕ) where
   open Settings S using (degree as d)

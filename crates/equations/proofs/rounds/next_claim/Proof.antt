@@ -26,9 +26,9 @@ returns-2 c = λ g.
       degree-most = r .degree-most;
       coefficients = record {
         modulus = omega arith;
-        first = part-residues (S .modulus) n d (a .rounds .now) (omega (arith, at, g .of-round .inside)) (g .below);
-        second = part-residues (S .modulus) (n + d) d (a .rounds .now) (omega (arith, at, g .of-round .inside)) (g .below);
-        third = part-residues (S .modulus) (n + 2 * d) d (a .rounds .now) (omega (arith, at, g .of-round .inside)) (g .below);
+        first = part-residues (S .modulus) n d (a .rounds .now) (omega (arith, at, g .of-round .inside)) (λ j l. g .below j (omega (arith, at)));
+        second = part-residues (S .modulus) (n + d) d (a .rounds .now) (omega (arith, at, g .of-round .inside)) (λ j l. g .below j (omega (arith, at)));
+        third = part-residues (S .modulus) (n + 2 * d) d (a .rounds .now) (omega (arith, at, g .of-round .inside)) (λ j l. g .below j (omega (arith, at)));
       };
       room = g .of-round .claim-long;
     }))

@@ -21,7 +21,7 @@ returns c = λ below.
     let n = c .before .before .next-claim in
     subst (λ x. Alike d (n .last .1 .1 .1 .1 .0) (nextClaim S x (residueAt d rounds (itemOf (a .k) 0)) (residueAt d rounds (itemOf (a .k) 1)) (residueAt d rounds (itemOf (a .k) 2))))
     (e .challenge .ensures)
-    (n .ensures (record { of-round = record { allowed = R .allowed; index = R .index; inside = R .inside; claim-long = s .pre .2 }; below = below }))
+    (n .ensures (record { of-round = record { allowed = R .allowed; index = R .index; inside = R .inside; claim-long = s .pre .2 }; below = λ j _. below j }))
 
 pub claim-to-spec : {M : Type 1} → statement M
 claim-to-spec = tie.close (tie.spec (λ c κs. search needs) (λ c κs. search needs) (λ c. search needs) returns)
