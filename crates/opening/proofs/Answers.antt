@@ -7,12 +7,12 @@ use native.Mathlib.Nat as Nat
 use native.Mathlib.Decide.{decLt}
 use native.Mathlib.Omega.{arith}
 use lib.IntN.{ℤ}
-use lib.ListN.{getD}
+use lib.ListN.{length}
 use Rattle.protocol.specs.declared.Settings.{Settings}
 use Rattle.protocol.specs.declared.Verdict.{Verdict}
 use Rattle.protocol.specs.declared.Verdict.the-variants.{Silent}
 use Rattle.protocol.specs.Element.{width, zeros, signedZeros, padded, paddedSigned, coefficients, signedAt, signed, residue}
-use Rattle.protocol.specs.Settings.{settingsRefusal}
+use Rattle.protocol.specs.Settings.{cells}
 use Rattle.protocol.specs.Opening.{commitment, roundElement, roundTable, keyAfter, messageAfter, finalElement}
 use Rattle.protocol.specs.Transcript.{Transcript, accepted, transcriptOf}
 use Rattle.protocol.specs.Session.{verdict, verdictNumber}
@@ -21,17 +21,18 @@ use Rattle.protocol.specs.Promises.{Opening}
 use Rattle.protocol.proofs.Tests.{granted-zero, granted-refused}
 use Rattle.claims.proofs.Honest.{Given, degree-positive, modulus-positive, opening-commitment, opening-last, opening-key, opening-message, opening-rounds}
 use Rattle.claims.proofs.Prover.{commit-answer}
-use Rattle.protocol.proofs.Ranges.{commitment-below, key-residues, below-everywhere}
+use Rattle.protocol.proofs.Ranges.{commitment-below, key-residues}
 use Rattle.protocol.proofs.Reading.{tabulate-own}
-use Rattle.sizes.proofs.Limits.{degree-most}
+use Rattle.sizes.proofs.Limits.{degree-most, degree-inside}
 use Rattle.residues.specs.Lists.{filled, spliced}
-use Rattle.residues.specs.Elements.{elementAt}
 use Rattle.residues.proofs.Fill.{zeros-length, element-done}
 use Rattle.opening_rounds.specs.Rounds.{elementPlaces, Begun}
 use Rattle.protocol.specs.Transcript.{endMet}
+use Rattle.protocol.specs.Inputs.{Below}
+use Rattle.equations.specs.Given.{ElementsGiven, ElementReduced}
 use Rattle.opening.specs.declared.turns.State.{State}
 use Rattle.protocol.proofs.Answers.{opening-number}
-use Rattle.opening.specs.Turns.{TablesAt, CheckedAt, Finished, ProverTurn}
+use Rattle.opening.specs.Turns.{TablesAt, Finished, ProverTurn}
 use Rattle.opening.proofs.Inputs.{Lent, lent}
 use Rattle.opening.proofs.Storing.{front, inside, front-none, front-past, front-first}
 use Rattle.opening.proofs.Checking.{checked-none, accepted-is}
@@ -66,11 +67,12 @@ module _ (S : Settings) (G : List ℕ) (M : List ℤ) (E R : List ℕ) where
       some : openingRefusal S G M E R ≡ 0 → ⊥
       some z = r (e ∙ z)
 
-  module _ (passed : openingRefusal S G M E R ≡ 0) (C : List ℕ) (f : List ℤ) (v : Verdict) (r : State) (begun-rounds key : List ℕ) (message : List ℤ) (rounds : List ℕ)
+  module _ (passed : openingRefusal S G M E R ≡ 0) (C : List ℕ) (f : List ℤ) (v : Verdict) (r : State) (begun-rounds claim key : List ℕ) (message : List ℤ) (rounds : List ℕ)
       (begins : commitRefusal S G M ≡ 0 → Begun S G M (zeros width) R C begun-rounds)
-      (turn : ProverTurn S E (record { done = 0; claim = C; holds = true }) G M begun-rounds r key message rounds)
+      (turn : ProverTurn S E (record { done = 0; holds = true }) C G M begun-rounds r claim key message rounds)
       (ends : d ≤ 64 → f ≡ paddedSigned d (coefficients d (signedAt d message 0)))
-      (says : settingsRefusal S ≡ 0 → ((j : ℕ) → getD key j 0 < S .modulus) → v ≡ verdict (r .holds && endMet S (r .claim) (signed f) (residue (elementAt d key 0)))) where
+      (says : ElementsGiven S (length claim) (length f) (length key) → ElementReduced S key → v ≡ verdict (r .holds && endMet S claim (signed f) (residue key)))
+      (wide : length f ≡ width) where
     given : Lent S G M E R
     given = lent S G M E R passed
 
@@ -111,24 +113,26 @@ module _ (S : Settings) (G : List ℕ) (M : List ℤ) (E R : List ℕ) where
     unfolding keyAfter messageAfter
     start = record { done-most = omega arith; key-is = refl; message-is = refl; rounds-is = rounds-are }
 
-    begun : CheckedAt S G M E R 0 C true
-    begun = subst (λ c. CheckedAt S G M E R 0 c true) (sym C-is) (unfold transcriptOf in checked-none S (modulus-positive S (ok .settings)) G M E R)
-
-    finished : Finished S G M E R key message rounds r
-    finished = turn .turns G M R passed start begun
+    finished : Finished S G M E R claim key message rounds r
+    finished = turn .turns G M R passed start (checked-none S pq G M E R C (unfold transcriptOf in C-is))
 
     f-is : f ≡ paddedSigned d (finalElement S (messageAfter S E L M))
     unfolding finalElement
     f-is = ends (degree-most S (ok .settings)) ∙ ap (λ m. paddedSigned d (coefficients d (signedAt d m 0))) (finished .tables .message-is)
 
-    folded-below : (j : ℕ) → getD key j 0 < S .modulus
-    folded-below = subst (λ k. (j : ℕ) → getD k j 0 < S .modulus) (sym (finished .tables .key-is)) (below-everywhere (S .modulus) _ _ pq (key-residues S pq E L G (ok .key)))
+    folded : Below (S .modulus) (cells S) key
+    folded = subst (Below (S .modulus) (cells S)) (sym (finished .tables .key-is)) (key-residues S pq E L G (ok .key))
 
     v-is : v ≡ verdict (accepted S G T)
     v-is =
-        says (given .allowed) folded-below
-        ∙ (λ i. verdict (finished .checks .holds-is i && endMet S (finished .checks .claim-is i) (signed (f-is i)) (residue (elementAt d (finished .tables .key-is i) 0))))
-        ∙ ap verdict (sym (accepted-is S (modulus-positive S (ok .settings)) G M E R))
+        says (record {
+          allowed = given .allowed;
+          first = finished .checks .claim-long;
+          second = omega (arith, wide, degree-most S (ok .settings));
+          third = omega (arith, folded .long, degree-inside S (ok .settings));
+        }) (λ k l. folded .each k (omega (arith, degree-inside S (ok .settings))))
+        ∙ (λ i. verdict (finished .checks .holds-is i && endMet S claim (signed (f-is i)) (residue (finished .tables .key-is i))))
+        ∙ ap verdict (sym (accepted-is S pq G M E R claim (finished .checks .claim-is)))
 
     number-is : 0 ≡ openingAnswer S G M E R .refusal
     unfolding openingAnswer

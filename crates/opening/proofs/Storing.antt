@@ -1,25 +1,23 @@
 -- The table of the round elements, one round after the other: the front of what it will be, and the rest of what was lent.
-use mathlib.Core.Path.{_≡_, refl, sym, ap, _∙_}
+use mathlib.Core.Path.{_≡_, refl, sym, ap, _∙_, subst}
 use mathlib.Core.List.{List, [], _∷_, _++_, append-assoc, append-nil}
 use Prim.Native.Nat.{ℕ, suc, _+_, _*_, _-_, _<_, _≤_}
 use borrow.Rule.Slice.PartMut.{putMid}
 use native.Mathlib.Nat as Nat
+use native.Mathlib.Decide.{decLt}
 use native.Mathlib.Omega.{arith}
 use lib.IntN.{ℤ}
 use lib.ListN.{length, getD, take, drop, length-append, length-drop, List·getD-append}
 use lib.Seq.{length-take-le, take-at, drop-at, take-add, drop-drop, getD-drop, getD-take, ext-getD, take-all}
 use Rattle.protocol.specs.declared.Settings.{Settings}
 use Rattle.protocol.specs.Basic.{tabulate}
-use Rattle.protocol.specs.Layout.{roundCells, itemOf}
-use Rattle.protocol.specs.Element.{padded}
+use Rattle.protocol.specs.Layout.{roundCells}
 use Rattle.protocol.specs.Opening.{roundElement, roundTable, keyAfter, messageAfter}
-use Rattle.protocol.specs.Calls.{polynomial}
 use Rattle.protocol.proofs.Reading.{tabulate-at, tabulate-length, tabulate-ext, tabulate-own, cell-inside}
 use Rattle.protocol.proofs.OpeningLaws.{round-at}
 use Rattle.protocol.proofs.Ranges.{round-below, rounds-below}
 use Rattle.residues.specs.Lists.{filled, spliced}
 use Rattle.residues.proofs.Parts.{tail-all}
-use Rattle.residues.specs.Elements.{elementAt}
 use Rattle.opening_rounds.specs.Rounds.{elementPlaces}
 use Rattle.opening.specs.Turns.{restStored}
 
@@ -89,11 +87,18 @@ module _ (S : Settings) (pq : 0 < S .modulus) (G : List ℕ) (M : List ℤ) (E R
   pub front-past : (n : ℕ) → 3 * L * d ≤ n → front X R n ≡ X
   front-past n l = (λ i. take-all n X (omega (arith, X-long)) i ++ empty (drop n R) (length-drop n R ∙ omega arith) i) ∙ append-nil X
 
-  pub front-length : (n : ℕ) → n ≤ 3 * L * d → length (front X R n) ≡ 3 * L * d
-  front-length n l = length-append (take n X) (drop n R) ∙ omega (arith, length-take-le n X (omega (arith, X-long)), length-drop n R)
+  -- however much of it stands there
+  pub front-length : (n : ℕ) → length (front X R n) ≡ 3 * L * d
+  front-length n = elim (decLt (3 * L * d) n) [
+    | yes m ↦ ap length (front-past n (omega arith)) ∙ X-long
+    | no m ↦ length-append (take n X) (drop n R) ∙ omega (arith, length-take-le n X (omega (arith, X-long)), length-drop n R)
+  ]
 
-  pub front-at : (n i : ℕ) → i < n → n ≤ 3 * L * d → getD (front X R n) i 0 ≡ getD X i 0
-  front-at n i l m = List·getD-append (take n X) (drop n R) 0 i (omega (arith, length-take-le n X (omega (arith, X-long)))) ∙ getD-take n X i 0 l
+  pub front-at : (n i : ℕ) → i < n → i < 3 * L * d → getD (front X R n) i 0 ≡ getD X i 0
+  front-at n i l h = elim (decLt (3 * L * d) n) [
+    | yes m ↦ ap (λ x. getD x i 0) (front-past n (omega arith))
+    | no m ↦ List·getD-append (take n X) (drop n R) 0 i (omega (arith, length-take-le n X (omega (arith, X-long)))) ∙ getD-take n X i 0 l
+  ]
 
   module _ (t : ℕ) (l : t < L) where
     abbrev c : ℕ → List ℕ
@@ -121,11 +126,12 @@ module _ (S : Settings) (pq : 0 < S .modulus) (G : List ℕ) (M : List ℤ) (E R
         ∙ front-more X R (3 * t * d + 2 * d) d (omega (arith, inside, X-long)) (elementPlaces (c 2)) (λ k h. entry 2 k (omega arith) h)
         ∙ ap (λ n. front X R n) {x = 3 * t * d + 2 * d + d} {y = 3 * suc t * d} (omega (arith, next))
 
-    -- the polynomial, read from the table
-    pub polynomial-stored : tabulate 3 (λ j. elementAt d (front X R (3 * suc t * d)) (itemOf t j)) ≡ polynomial S t (keyAfter S E t G) (messageAfter S E t M)
-    unfolding polynomial elementAt
-    polynomial-stored = tabulate-ext 3 (λ j lj. ap (padded d)
-        (tabulate-ext d (λ k lk.
-        front-at (3 * suc t * d) ((3 * t + j) * d + k) (omega (arith, next, cell-inside d 3 j k lj lk, Nat.add-mul (3 * t) j d)) (omega (arith, next, inside))
-        ∙ round-at S E G M t j k l lj lk)
-        ∙ tabulate-own d (c j) 0 (round-below S pq t (keyAfter S E t G) (messageAfter S E t M) j .long)))
+    -- it is read from the table once the elements of its round stand there
+    pub front-element : (n : ℕ) → 3 * suc t * d ≤ n → (j k : ℕ) → j < 3 → k < d → getD (front X R n) ((3 * t + j) * d + k) 0 ≡ getD X ((3 * t + j) * d + k) 0
+    front-element n h j k lj lk =
+        let place : (3 * t + j) * d + k < 3 * t * d + 3 * d = omega (arith, cell-inside d 3 j k lj lk, Nat.add-mul (3 * t) j d) in
+        front-at n ((3 * t + j) * d + k) (omega (arith, next, place)) (omega (arith, inside, place))
+
+    -- so far there are residues
+    pub front-below : (n : ℕ) → 3 * suc t * d ≤ n → (i : ℕ) → i < 3 * t * d + 3 * d → getD (front X R n) i 0 < S .modulus
+    front-below n h i li = subst (λ x. x < S .modulus) (sym (front-at n i (omega (arith, next)) (omega (arith, inside)))) (rounds-below S pq E G M .each i (omega (arith, inside)))

@@ -10,28 +10,24 @@ use lib.IntN.{ℤ}
 use lib.ListN.{length, getD, drop, length-drop}
 use lib.Seq.{getD-drop}
 use Rattle.protocol.specs.declared.Settings.{Settings}
-use Rattle.protocol.specs.Basic.{tabulate}
-use Rattle.protocol.specs.Element.{modulo, residueAt, padded}
-use Rattle.protocol.specs.Layout.{width, polynomialAt, roundCells, itemOf}
+use Rattle.protocol.specs.Element.{modulo, residueAt}
+use Rattle.protocol.specs.Layout.{polynomialAt, roundCells}
 use Rattle.protocol.specs.Opening.{roundElement, keyAfter, messageAfter, roundTable}
 use Rattle.protocol.specs.Transcript.{doubled, element, claimAfter, transcriptOf}
-use Rattle.protocol.specs.Calls.{openingRefusal, roundRefusal, roundAnswer, polynomial, foldRefusal, foldKeyExit, foldMessageExit}
-use Rattle.protocol.specs.Session.{part}
+use Rattle.protocol.specs.Calls.{openingRefusal, roundRefusal, roundAnswer, foldRefusal, foldKeyExit, foldMessageExit}
+use Rattle.protocol.specs.Nodes.{Alike}
 use Rattle.protocol.specs.Promises.{Folded}
 use Rattle.claims.proofs.Completeness.{complete}
 use Rattle.claims.proofs.Honest.{Given, degree-positive, modulus-positive}
 use Rattle.claims.proofs.Prover.{round-answer, fold-granted, fold-key, fold-message}
 use Rattle.protocol.proofs.OpeningLaws.{round-at}
-use Rattle.sizes.proofs.Limits.{degree-most}
 use Rattle.residues.specs.Lists.{spliced}
-use Rattle.residues.specs.Elements.{elementAt}
 use Rattle.opening_rounds.specs.Rounds.{elementPlaces, Continuing}
 use Rattle.opening.specs.declared.turns.State.{State}
-use Rattle.opening.specs.Turns.{restStored, tested, TablesAt, CheckedAt, ProverMove, ProverTurn, VerifierTurn}
+use Rattle.opening.specs.Turns.{restStored, TablesAt, CheckedAt, ProverMove, VerifierMove, ProverTurn, VerifierTurn}
 use Rattle.opening.proofs.Inputs.{Lent, lent}
-use Rattle.opening.proofs.Storing.{front, front-length, front-at, front-past, front-first, front-rest, entry, inside, polynomial-stored}
-use Rattle.equations.specs.Given.{Evaluable}
-use Rattle.opening.proofs.Checking.{tested-done, polynomial-read, claim-padded, padded-longer, checked-more}
+use Rattle.opening.proofs.Storing.{front, front-length, front-at, front-past, front-first, front-rest, entry, inside}
+use Rattle.opening.proofs.Checking.{checked-more}
 
 -- ---- what the prover's round is given: c0 in its place, and a claim that is 2·(c0 + c2)
 
@@ -55,21 +51,21 @@ module _ (S : Settings) (G : List ℕ) (M : List ℤ) (E R : List ℕ) (given : 
   unfolding doubled element residueAt modulo transcriptOf
   doubled-is k h = λ i. 2 * (round-at S E G M t 0 k l (omega arith) h i + round-at S E G M t 2 k l (omega arith) h i) % q
 
-  module _ (claim rounds : List ℕ) (claim-is : claim ≡ padded d (claimAfter S (transcriptOf S G M E) t)) (rounds-is : rounds ≡ front (roundTable S E G M) R (polynomialAt d t + d)) where
+  module _ (claim rounds : List ℕ) (claim-long : d ≤ length claim) (claim-is : Alike d claim (claimAfter S (transcriptOf S G M E) t))
+      (rounds-is : rounds ≡ front (roundTable S E G M) R (polynomialAt d t + d)) where
     claimed : (k : ℕ) → k < d → getD claim k 0 ≡ 2 * (c 0 k + c 2 k) % q
     claimed k h =
-        ap (λ x. getD x k 0) claim-is
-        ∙ claim-padded S pq G M E R t k h
+        claim-is k h
         ∙ sym (complete S (degree-positive S (ok .settings)) (ok .settings .modulus-odd) G M E (ok .message .each) .every-round t l k h)
         ∙ doubled-is k h
 
     places : length rounds ≡ 3 * L * d
-    places = ap length rounds-is ∙ front-length S pq G M E R (given .rounds-long) (3 * t * d + d) (omega (arith, inside S pq G M E R (given .rounds-long) t l))
+    places = ap length rounds-is ∙ front-length S pq G M E R (given .rounds-long) (3 * t * d + d)
 
     pub continuing : Continuing S t (keyAfter S E t G) (messageAfter S E t M) claim (drop (polynomialAt d t) rounds)
     continuing = record {
       passed = round-passed;
-      claim-long = omega (arith, ap length claim-is, padded-longer S pq G M E R t);
+      claim-long = claim-long;
       room = omega (arith, length-drop (3 * t * d) rounds, places, inside S pq G M E R (given .rounds-long) t l);
       first = λ k h.
           getD-drop (3 * t * d) rounds k 0
@@ -81,9 +77,8 @@ module _ (S : Settings) (G : List ℕ) (M : List ℤ) (E R : List ℕ) (given : 
 
 -- ---- the prover's move, from what it writes, its fold, and what it writes of the next round
 
-module _ (S : Settings) (t e : ℕ) (claim key : List ℕ) (message : List ℤ) (rounds : List ℕ) (p : List (List ℕ)) (key′ : List ℕ) (message′ : List ℤ) (between rounds′ : List ℕ)
+module _ (S : Settings) (t e : ℕ) (claim key : List ℕ) (message : List ℤ) (rounds key′ : List ℕ) (message′ : List ℤ) (between rounds′ : List ℕ)
     (rests : Continuing S t key message claim (drop (polynomialAt (S .degree) t) rounds) → between ≡ restStored S t key message rounds)
-    (reads : S .degree ≤ width → t ≤ 3280 → p ≡ tabulate 3 (λ j. elementAt (S .degree) between (itemOf t j)))
     (folds : foldRefusal S t e key message ≡ 0 → Folded S t e key message 0 key′ message′)
     (starts : roundRefusal S (t + 1) key′ message′ ≡ 0 → polynomialAt (S .degree) (t + 1) + S .degree ≤ length between
     → rounds′ ≡ spliced (elementPlaces (roundElement S (t + 1) key′ message′ 0)) (polynomialAt (S .degree) (t + 1)) (S .degree) between)
@@ -91,7 +86,7 @@ module _ (S : Settings) (t e : ℕ) (claim key : List ℕ) (message : List ℤ) 
   open Settings S using (degree as d, depth as L)
 
   module _ (G : List ℕ) (M : List ℤ) (E R : List ℕ) (passed : openingRefusal S G M E R ≡ 0) (l : t < L) (e-is : e ≡ getD E t 0) (at : TablesAt S G M E R t key message rounds)
-      (claim-is : claim ≡ padded d (claimAfter S (transcriptOf S G M E) t)) where
+      (claim-long : d ≤ length claim) (claim-is : Alike d claim (claimAfter S (transcriptOf S G M E) t)) where
     given : Lent S G M E R
     given = lent S G M E R passed
 
@@ -110,15 +105,9 @@ module _ (S : Settings) (t e : ℕ) (claim key : List ℕ) (message : List ℤ) 
     between-is : between ≡ front X R (3 * suc t * d)
     between-is =
         rests (subst (λ k. Continuing S t k message claim (drop (polynomialAt d t) rounds)) (sym (at .key-is))
-        (subst (λ m. Continuing S t (keyAfter S E t G) m claim (drop (polynomialAt d t) rounds)) (sym (at .message-is)) (continuing S G M E R given t l claim rounds claim-is (at .rounds-is))))
+        (subst (λ m. Continuing S t (keyAfter S E t G) m claim (drop (polynomialAt d t) rounds)) (sym (at .message-is)) (continuing S G M E R given t l claim rounds claim-long claim-is (at .rounds-is))))
         ∙ (λ i. restStored S t (at .key-is i) (at .message-is i) (at .rounds-is i))
         ∙ front-rest S modulus G M E R long t l
-
-    given-polynomial : p ≡ polynomial S t (keyAfter S E t G) (messageAfter S E t M)
-    given-polynomial =
-        reads (degree-most S (good .settings)) (omega (arith, good .settings .depth-most))
-        ∙ ap (λ r. tabulate 3 (λ j. elementAt d r (itemOf t j))) between-is
-        ∙ polynomial-stored S modulus G M E R long t l
 
     folded : Folded S t e key message 0 key′ message′
     folded = folds ((λ i. foldRefusal S t (e-is i) (at .key-is i) (at .message-is i)) ∙ fold-granted good t l)
@@ -137,7 +126,7 @@ module _ (S : Settings) (t e : ℕ) (claim key : List ℕ) (message : List ℤ) 
           arith,
           ap (λ n. 3 * n * d) one,
           ap length between-is,
-          front-length S modulus G M E R long (3 * suc t * d) (omega (arith, inside S modulus G M E R long (suc t) m)),
+          front-length S modulus G M E R long (3 * suc t * d),
           inside S modulus G M E R long (suc t) m,
         ) in
         let refuses-none : roundRefusal S (t + 1) key′ message′ ≡ 0 = (λ i. roundRefusal S (one i) (key-is i) (message-is i)) ∙ round-passed S G M E R given (suc t) m in
@@ -158,38 +147,34 @@ module _ (S : Settings) (t e : ℕ) (claim key : List ℕ) (message : List ℤ) 
       rounds-is = elim (decLt (suc t) L) [ yes m ↦ more m | no m ↦ last (omega arith) ];
     }
 
-  pub prover-moves : ProverMove S t e claim key message rounds p key′ message′ rounds′
-  prover-moves = record {
-    moves = λ G M E R passed l e-is at claim-is. (given-polynomial G M E R passed l e-is at claim-is, next-tables G M E R passed l e-is at claim-is);
-  }
+  pub prover-moves : ProverMove S t e claim key message rounds key′ message′ rounds′
+  prover-moves = record { moves = next-tables }
 
 -- ---- the turns
 
-module _ (S : Settings) (E : List ℕ) (s : State) (key : List ℕ) (message : List ℤ) (rounds : List ℕ) where
-  pub prover-stops : S .depth ≤ s .done → ProverTurn S E s key message rounds s key message rounds
+module _ (S : Settings) (E : List ℕ) (s : State) (claim key : List ℕ) (message : List ℤ) (rounds : List ℕ) where
+  pub prover-stops : S .depth ≤ s .done → ProverTurn S E s claim key message rounds s claim key message rounds
   prover-stops l = record {
     turns = λ G M R passed at ch.
         let e : s .done ≡ S .depth = omega (arith, at .done-most) in
-        record { tables = subst (λ t. TablesAt S G M E R t key message rounds) e at; checks = subst (λ t. CheckedAt S G M E R t (s .claim) (s .holds)) e ch };
+        record { tables = subst (λ t. TablesAt S G M E R t key message rounds) e at; checks = subst (λ t. CheckedAt S G M E R t claim (s .holds)) e ch };
   }
 
-  module _ (l : s .done < S .depth) (p : List (List ℕ)) (e : ℕ) (r : State) (key′ : List ℕ) (message′ : List ℤ) (rounds′ : List ℕ) where
-    pub prover-goes : (k : List ℕ) (m : List ℤ) (o : List ℕ) → e ≡ getD E (s .done) 0 → ProverMove S (s .done) e (s .claim) key message rounds p k m o
-        → VerifierTurn S E s k m o r key′ message′ rounds′ p e → ProverTurn S E s key message rounds r key′ message′ rounds′
+  module _ (l : s .done < S .depth) (e : ℕ) (r : State) (claim′ key′ : List ℕ) (message′ : List ℤ) (rounds′ : List ℕ) where
+    pub prover-goes : (k : List ℕ) (m : List ℤ) (o : List ℕ) → e ≡ getD E (s .done) 0 → ProverMove S (s .done) e claim key message rounds k m o
+        → VerifierTurn S E s claim k m o r claim′ key′ message′ rounds′ e → ProverTurn S E s claim key message rounds r claim′ key′ message′ rounds′
     prover-goes k m o e-is move rest = record {
-      turns = λ G M R passed at ch. let (p-is, next) = move .moves G M E R passed l e-is at (ch .claim-is) in rest .turns G M R passed e-is p-is next ch;
+      turns = λ G M R passed at ch. rest .turns G M R passed e-is (move .moves G M E R passed l e-is at (ch .claim-long) (ch .claim-is)) ch;
     }
 
-    pub verifier-goes : (next : State) → (Evaluable S (part p 0) (part p 1) (part p 2) → next ≡ tested S s p e) → ProverTurn S E next key message rounds r key′ message′ rounds′
-        → VerifierTurn S E s key message rounds r key′ message′ rounds′ p e
-    verifier-goes next next-is rest = record {
-      turns = λ G M R passed e-is p-is at ch.
+    pub verifier-goes : (next : State) (c : List ℕ) → VerifierMove S s e claim rounds next c → ProverTurn S E next c key message rounds r claim′ key′ message′ rounds′
+        → VerifierTurn S E s claim key message rounds r claim′ key′ message′ rounds′ e
+    verifier-goes next c move rest = record {
+      turns = λ G M R passed e-is at ch.
           let given = lent S G M E R passed in
-          let is : next ≡ tested S s (polynomial S (s .done) (keyAfter S E (s .done) G) (messageAfter S E (s .done) M)) (getD E (s .done) 0) =
-          next-is (polynomial-read S (modulus-positive S (given .given .settings)) (given .allowed) (s .done) _ _ p p-is) ∙ λ i. tested S s (p-is i) (e-is i) in
-          let done-is : suc (s .done) ≡ next .done = sym (ap (λ n. n .done) is ∙ tested-done S s _ _) in
+          let done-is : suc (s .done) ≡ next .done = omega (arith, move .done-is) in
           rest .turns G M R passed
           (subst (λ t. TablesAt S G M E R t key message rounds) done-is at)
-          (subst (λ t. CheckedAt S G M E R t (next .claim) (next .holds)) done-is
-          (subst (λ n. CheckedAt S G M E R (suc (s .done)) (n .claim) (n .holds)) (sym is) (checked-more S (modulus-positive S (given .given .settings)) G M E R (s .done) l s ch)));
+          (subst (λ t. CheckedAt S G M E R t c (next .holds)) done-is
+          (checked-more S (modulus-positive S (given .given .settings)) G M E R (given .rounds-long) (given .allowed) s l rounds (at .rounds-is) next e claim c e-is move ch));
     }

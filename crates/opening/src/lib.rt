@@ -29,14 +29,22 @@ pub fn opened(
 {
     let mut commitment: [Residue; WIDTH] = [0; WIDTH];
     opening_rounds::begin(settings, key, message, &mut commitment, rounds);
+    let mut claim = commitment;
     let begun = State {
         done: 0,
-        claim: commitment,
         holds: true,
     };
-    let ended = turns::prover_turn(settings, begun, key, message, challenges, rounds);
+    let ended = turns::prover_turn(
+        settings,
+        begun,
+        &mut claim,
+        key,
+        message,
+        challenges,
+        rounds,
+    );
     let last = elements::signed_element_at(settings.degree, message, 0);
-    let verdict = ending::verdict(settings, ended, last, key);
+    let verdict = ending::verdict(settings, ended.holds, &claim, &last, key);
     Opened {
         refusal: 0,
         commitment: commitment,

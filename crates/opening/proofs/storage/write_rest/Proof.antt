@@ -15,17 +15,17 @@ use borrow.Author.Needs.{needs}
 use Rattle.opening.proofs.storage.write_rest.Statement.{statement}
 use Rattle.opening.proofs.storage.write_rest.Tie as tie
 
-place : (c : tie.After-polynomial-at) → let a = c .before .before .before .args in
-    Continuing (a .settings) (a .t) (a .key .now) (a .message .now) (a .t5) (drop (polynomialAt (a .settings .degree) (a .t)) (a .rounds .now)) →
+place : (c : tie.After-polynomial-at) → let a = c .before .before .before .before .args in
+    Continuing (a .settings) (a .t) (a .key .now) (a .message .now) (a .claim .now) (drop (polynomialAt (a .settings .degree) (a .t)) (a .rounds .now)) →
     c .polynomial-at .result ≡ polynomialAt (a .settings .degree) (a .t)
 place c z =
-    let a = c .before .before .before .args in
+    let a = c .before .before .before .before .args in
     let g = round-given (a .settings) (a .key .now) (a .message .now) (a .t) (z .passed) in
     c .polynomial-at .ensures .0 (degree-most (a .settings) (g .tables .settings)) (omega (arith, g .turn, g .tables .settings .depth-most))
 
 returns : tie.Need-returns
 returns c = λ z.
-    let a = c .before .before .before .before .args in
+    let a = c .before .before .before .before .before .args in
     let g = round-given (a .settings) (a .key .now) (a .message .now) (a .t) (z .passed) in
     absurd (omega (arith, place (c .before) z, z .room, length-drop (polynomialAt (a .settings .degree) (a .t)) (a .rounds .now), degree-least (a .settings) (g .tables .settings)))
 
@@ -34,16 +34,16 @@ unfolding restStored
 returns-2 c = λ z.
     let a = c .before .before .before .before .before .before .before .before .before .args in
     let S = a .settings in
-    let at = c .before .before .before .before .before .before .polynomial-at .result in
-    let is = place (c .before .before .before .before .before .before) z in
+    let at = c .before .before .before .before .before .polynomial-at .result in
+    let is = place (c .before .before .before .before .before) z in
     let one = elementPlaces (roundElement S (a .t) (a .key .now) (a .message .now) 1) in
     let two = elementPlaces (roundElement S (a .t) (a .key .now) (a .message .now) 2) in
     put-rest one two at (S .degree) (a .rounds .now) _ (omega arith)
-    (c .before .before .rest .ensures (subst (Continuing S (a .t) (a .key .now) (a .message .now) (a .t5)) (sym (tail-all at (a .rounds .now) ∙ ap (λ n. drop n (a .rounds .now)) is)) z))
+    (c .before .before .rest .ensures (subst (Continuing S (a .t) (a .key .now) (a .message .now) (a .claim .now)) (sym (tail-all at (a .rounds .now) ∙ ap (λ n. drop n (a .rounds .now)) is)) z))
     ∙ ap (λ n. spliced two (n + 2 * S .degree) (S .degree) (spliced one (n + S .degree) (S .degree) (a .rounds .now))) is
 
 pub write-rest-spec : {M : Type 1} → statement M
 write-rest-spec =
     tie.close
-    (tie.spec (λ c κs. search needs) returns (λ c. search needs) (λ c. search needs) (λ c. search needs) (λ c. search needs) (λ c. search needs)
+    (tie.spec (λ c κs. search needs) returns (λ c. search needs) (λ c. search needs) (λ c. search needs) (λ c. search needs)
     (λ c κs. search needs) (λ c. search needs) returns-2)

@@ -18,30 +18,30 @@ use Rattle.opening.proofs.turns.prove_round.Reads as prove-round-reads
 use Rattle.opening.proofs.turns.+prover_turn+verifier_turn.{statement}
 use Rattle.opening.proofs.turns.+prover_turn+verifier_turn.Tie.{close}
 
-abbrev μ-prover-turn : Measures 4 prover-turn-kinds.ps ℕ
+abbrev μ-prover-turn : Measures 5 prover-turn-kinds.ps ℕ
 μ-prover-turn κs a = 2 * (a .0 .depth - a .1 .0 .done) + 1
 
-abbrev μ-verifier-turn : Measures 4 verifier-turn-kinds.ps ℕ
+abbrev μ-verifier-turn : Measures 5 verifier-turn-kinds.ps ℕ
 μ-verifier-turn κs a = 2 * (a .0 .depth - a .1 .0 .done)
 
-abbrev prover-turn-at : ℕ → In 4 prover-turn-kinds.ps
+abbrev prover-turn-at : ℕ → In 5 prover-turn-kinds.ps
 prover-turn-at t =
-    and 4 prover-turn-kinds.ps (is 4 prover-turn-kinds.ps μ-prover-turn t) prover-turn.Pre
+    and 5 prover-turn-kinds.ps (is 5 prover-turn-kinds.ps μ-prover-turn t) prover-turn.Pre
 
-abbrev prover-turn-below : ℕ → In 4 prover-turn-kinds.ps
+abbrev prover-turn-below : ℕ → In 5 prover-turn-kinds.ps
 prover-turn-below t =
-    and 4 prover-turn-kinds.ps (falls 4 prover-turn-kinds.ps _<_ μ-prover-turn t) prover-turn.Pre
+    and 5 prover-turn-kinds.ps (falls 5 prover-turn-kinds.ps _<_ μ-prover-turn t) prover-turn.Pre
 
-abbrev verifier-turn-at : ℕ → In 4 verifier-turn-kinds.ps
+abbrev verifier-turn-at : ℕ → In 5 verifier-turn-kinds.ps
 verifier-turn-at t =
-    and 4 verifier-turn-kinds.ps (is 4 verifier-turn-kinds.ps μ-verifier-turn t) verifier-turn.Pre
+    and 5 verifier-turn-kinds.ps (is 5 verifier-turn-kinds.ps μ-verifier-turn t) verifier-turn.Pre
 
-abbrev verifier-turn-below : ℕ → In 4 verifier-turn-kinds.ps
+abbrev verifier-turn-below : ℕ → In 5 verifier-turn-kinds.ps
 verifier-turn-below t =
     and
-    4
+    5
     verifier-turn-kinds.ps
-    (falls 4 verifier-turn-kinds.ps _<_ μ-verifier-turn t)
+    (falls 5 verifier-turn-kinds.ps _<_ μ-verifier-turn t)
     verifier-turn.Pre
 
 -- what is known of the functions that are called
@@ -52,8 +52,8 @@ abbrev verifier-calls : ℕ → verifier-turn-lts.Claims
 verifier-calls t = (check-round-reads.Asked, check-round-reads.Learnt, prover-turn-below t, prover-turn.Post)
 
 prover-turn-returns : (t : ℕ) → prover-turn-lts.Need-returns (prover-calls t) (prover-turn-at t) prover-turn.Post
-prover-turn-returns t c = let a = c .before .before .before .before .before .args in
-    prover-stops (a .settings) (a .challenges .now) (a .state) (a .key .now) (a .message .now) (a .rounds .now) (omega arith)
+prover-turn-returns t c = let a = c .before .before .before .before .before .before .args in
+    prover-stops (a .settings) (a .challenges .now) (a .state) (a .claim .now) (a .key .now) (a .message .now) (a .rounds .now) (omega arith)
 
 prover-turn-cast-entry : (t : ℕ) → prover-turn-lts.Need-cast-entry (prover-calls t) (prover-turn-at t) prover-turn.Post
 prover-turn-cast-entry t c = search needs
@@ -76,20 +76,23 @@ prover-turn-same-length-2 t c = search needs
 prover-turn-same-length-3 : (t : ℕ) → prover-turn-lts.Need-same-length-3 (prover-calls t) (prover-turn-at t) prover-turn.Post
 prover-turn-same-length-3 t c = search needs
 
+prover-turn-same-length-4 : (t : ℕ) → prover-turn-lts.Need-same-length-4 (prover-calls t) (prover-turn-at t) prover-turn.Post
+prover-turn-same-length-4 t c = search needs
+
 prover-turn-returns-2 : (t : ℕ) → prover-turn-lts.Need-returns-2 (prover-calls t) (prover-turn-at t) prover-turn.Post
 prover-turn-returns-2 t c =
-    let rest = c .before .before .before .before .before in
-    let proved = rest .before .before .before .before .before .before .before .before .before in
+    let rest = c .before .before .before .before .before .before .before in
+    let proved = rest .before .before .before .before .before .before .before .before .before .before in
     let read = proved .before .before .before .before .before in
-    let a = read .before .before .before .before .before .before .args in
-    prover-goes (a .settings) (a .challenges .now) (a .state) (a .key .now) (a .message .now) (a .rounds .now) (omega arith) _ _ _ _ _ _ _ _ _
+    let a = read .before .before .before .before .before .before .before .args in
+    prover-goes (a .settings) (a .challenges .now) (a .state) (a .claim .now) (a .key .now) (a .message .now) (a .rounds .now) (omega arith) _ _ _ _ _ _ _ _ _
     (read .entry .ensures) (proved .prove-round .ensures) (rest .verifier-turn .ensures)
 
 verifier-turn-check-round-requires : (t : ℕ) → verifier-turn-lts.Need-check-round-requires (verifier-calls t) (verifier-turn-at t) verifier-turn.Post
 verifier-turn-check-round-requires t c κs = omega arith
 
 verifier-turn-prover-turn-requires : (t : ℕ) → verifier-turn-lts.Need-prover-turn-requires (verifier-calls t) (verifier-turn-at t) verifier-turn.Post
-verifier-turn-prover-turn-requires t c κs = (omega (arith, c .before .before .before .check-round .ensures .0), tt)
+verifier-turn-prover-turn-requires t c κs = (omega (arith, c .before .before .before .before .before .before .check-round .ensures .done-is), tt)
 
 verifier-turn-same-length : (t : ℕ) → verifier-turn-lts.Need-same-length (verifier-calls t) (verifier-turn-at t) verifier-turn.Post
 verifier-turn-same-length t c = search needs
@@ -100,11 +103,16 @@ verifier-turn-same-length-2 t c = search needs
 verifier-turn-same-length-3 : (t : ℕ) → verifier-turn-lts.Need-same-length-3 (verifier-calls t) (verifier-turn-at t) verifier-turn.Post
 verifier-turn-same-length-3 t c = search needs
 
+verifier-turn-same-length-4 : (t : ℕ) → verifier-turn-lts.Need-same-length-4 (verifier-calls t) (verifier-turn-at t) verifier-turn.Post
+verifier-turn-same-length-4 t c = search needs
+
 verifier-turn-returns : (t : ℕ) → verifier-turn-lts.Need-returns (verifier-calls t) (verifier-turn-at t) verifier-turn.Post
 verifier-turn-returns t c =
-    let a = c .before .before .before .before .before .before .before .before .before .before .before .before .before .args in
-    verifier-goes (a .settings) (a .challenges .now) (a .state) (a .key .now) (a .message .now) (a .rounds .now) (omega arith) (a .polynomial) (a .e) _ _ _ _ _
-    (c .before .before .before .before .before .before .before .before .before .check-round .ensures .1) (c .before .before .before .before .before .prover-turn .ensures)
+    let rest = c .before .before .before .before .before .before .before in
+    let checked = rest .before .before .before .before .before .before .before in
+    let a = checked .before .before .before .before .before .before .before .args in
+    verifier-goes (a .settings) (a .challenges .now) (a .state) (a .claim .now) (a .key .now) (a .message .now) (a .rounds .now) (omega arith) (a .e) _ _ _ _ _ _ _
+    (checked .check-round .ensures) (rest .prover-turn .ensures)
 
 pub +prover-turn+verifier-turn-spec : {M : Type 1} → statement M
 +prover-turn+verifier-turn-spec = close μ-prover-turn μ-verifier-turn (λ t. prover-turn-lts.spec (prover-calls t)
@@ -118,6 +126,7 @@ pub +prover-turn+verifier-turn-spec : {M : Type 1} → statement M
     (prover-turn-same-length t)
     (prover-turn-same-length-2 t)
     (prover-turn-same-length-3 t)
+    (prover-turn-same-length-4 t)
     (prover-turn-returns-2 t))
     λ t. verifier-turn-lts.spec
     (verifier-calls t)
@@ -128,4 +137,5 @@ pub +prover-turn+verifier-turn-spec : {M : Type 1} → statement M
     (verifier-turn-same-length t)
     (verifier-turn-same-length-2 t)
     (verifier-turn-same-length-3 t)
+    (verifier-turn-same-length-4 t)
     (verifier-turn-returns t)
