@@ -1,9 +1,10 @@
 -- Loops that test one entry after the other.
-use mathlib.Core.Path.{_≡_, refl, sym, ap, _∙_}
+use mathlib.Core.Path.{_≡_, refl, sym, ap, ap₂, _∙_}
 use mathlib.Core.Bool.{Bool, true, false, _&&_}
-use mathlib.Core.List.{List}
-use Prim.Native.Nat.{ℕ, suc, _+_, _^_, _<_, _≤_}
+use mathlib.Core.List.{List, [], _∷_, _++_}
+use Prim.Native.Nat.{ℕ, zero, suc, _+_, _^_, _<_, _≤_}
 use native.Mathlib.Numerals.{add-one}
+use native.Mathlib.Omega.{arith}
 use borrow.Author.Tests.{le-leb, lt-leb}
 use lib.Dec.{leb}
 use lib.IntN.{ℤ, pos, natAbs}
@@ -11,8 +12,8 @@ use lib.Signed.{mag}
 use mir.Syntax.{Width}
 use mir.Val.{SFits, hbits, toZ, ofZ}
 use mir.Facts.{toZ-ofZ}
-use lib.ListN.{length, getD, drop, drop-of-length-le}
-use lib.Seq.{drop-cons}
+use lib.ListN.{length, getD, take, drop, drop-of-length-le}
+use lib.Seq.{drop-cons, take-add}
 use Rattle.protocol.specs.Basic.{every, all, within}
 use Rattle.ranges.proofs.Magnitude.{through-bits}
 use Rattle.protocol.proofs.Tests.{and-intro, every-at}
@@ -47,6 +48,22 @@ and-true false = refl
 pub and-false : (a : Bool) → (a && false) ≡ false
 and-false true = refl
 and-false false = refl
+
+-- the first n entries are a table of their own
+module _ {ℓ} {A : Type ℓ} (f : A → Bool) where
+  all-append : (t u : List A) → all f (t ++ u) ≡ (all f t && all f u)
+  unfolding all
+  all-append [] u = refl
+  all-append (x ∷ t) u = ap (λ b. f x && b) (all-append t u) ∙ and-assoc (f x) (all f t) (all f u)
+
+  pub all-front : (t : List A) (z : A) (n : ℕ) → n ≤ length t → all f (take n t) ≡ every n (λ k. f (getD t k z))
+  unfolding all every
+  all-front t z zero h = refl
+  all-front t z (suc n) h =
+      ap (λ m. all f (take m t)) (sym (add-one n))
+      ∙ ap (all f) (take-add n 1 t ∙ ap (λ l. take n t ++ take 1 l) (drop-cons t n z (omega arith)))
+      ∙ all-append (take n t) (getD t n z ∷ [])
+      ∙ ap₂ _&&_ (all-front t z n (omega arith)) (and-true (f (getD t n z)))
 
 module _ {ℓ} {A : Type ℓ} (f : A → Bool) (t : List A) (z : A) (i : ℕ) (good : Bool) (e : all f t ≡ (good && all f (drop i t))) where
   pub asked-goes-on : i < length t → {next : Bool} → next ≡ (good && f (getD t i z)) → all f t ≡ (next && all f (drop (i + 1) t))

@@ -7,7 +7,7 @@ ghost use mathlib.Core.Bool.{_&&_};
 ghost use Prim.Native.Nat.{_^_, _≤_};
 ghost use lib.Dec.{ltb};
 ghost use lib.IntN.{natAbs};
-ghost use lib.ListN.{getD};
+ghost use lib.ListN.{length, getD};
 ghost use Rattle.protocol.specs.Basic.{every, all, within, Provided, Tested};
 ghost use Rattle.protocol.specs.Layout.{width};
 ghost use Rattle.protocol.specs.Settings.{degreeAllowed, modulusAllowed, boundAllowed, settingsRefusal, allWithin};
@@ -136,22 +136,21 @@ pub fn all_below_wide(limit: u64, t: &[u64]) -> bool
     signs < SIGN
 }
 
-// The same for the first d places of an element.
-pub fn element_below(limit: Residue, d: u32, a: [Residue; WIDTH]) -> bool
-    ensures { λ r. ⌜ Provided (d ≤ width) (r ≡ every d (λ k. ltb (getD a k 0) limit)) ⌝ }
+// The same for the first n numbers of a table that has them.
+fn front_below(limit: u64, n: usize, t: &[u64]) -> bool
+    ensures { λ r. ⌜ Provided (n ≤ length (now (t .entry))) (r ≡ every n (λ k. ltb (getD (now (t .entry)) k 0) limit)) ⌝ }
 {
-    let n = d as usize;
-    if n > WIDTH {
+    if n > t.len() {
         return false;
     }
-    let mut k: usize = 0;
-    while k < n {
-        if a[k] >= limit {
-            return false;
-        }
-        k += 1;
-    }
-    true
+    all_below_wide(limit, &t[..n])
+}
+
+// The same for the first d places of an element.
+pub fn element_below(limit: Residue, d: u32, a: &[Residue; WIDTH]) -> bool
+    ensures { λ r. ⌜ Provided (d ≤ width) (r ≡ every d (λ k. ltb (getD (now (a .entry)) k 0) limit)) ⌝ }
+{
+    front_below(limit, d as usize, a)
 }
 
 // The magnitude of a number. One is added before the sign changes: the least number of a width has a magnitude that is no number of that width.

@@ -49,7 +49,7 @@ pub fn judge(
     let r8 = refuse(
         r7,
         8,
-        tests::all_below_wide(q, key) & tests::element_below(q, settings.degree, commitment),
+        tests::all_below_wide(q, key) & tests::element_below(q, settings.degree, &commitment),
     );
     let r14 = refuse(r8, 14, growth_allowed(settings));
     refuse(r14, 15, slack_allowed(settings, c))

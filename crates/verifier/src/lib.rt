@@ -98,10 +98,7 @@ impl Verifier {
         }
         let settings = session.settings;
         let claim = session.claim;
-        let c0 = polynomial[0];
-        let c1 = polynomial[1];
-        let c2 = polynomial[2];
-        if !equations::by_value::round_holds(settings, claim, c0, c2) {
+        if !equations::by_value::round_holds(settings, &claim, &polynomial) {
             let closed = shut(session);
             return Moved {
                 refusal: 0,
@@ -109,7 +106,7 @@ impl Verifier {
                 next: closed,
             };
         }
-        let after = equations::by_value::next_claim(settings, e, c0, c1, c2);
+        let after = equations::by_value::next_claim(settings, e, &polynomial);
         let next = counted(session, e, after);
         Moved {
             refusal: 0,

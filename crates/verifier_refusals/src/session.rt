@@ -6,7 +6,13 @@ use protocol::WIDTH;
 use ranges::tests;
 use ranges::tests::refuse;
 ghost use mathlib.Core.Path.{_≡_};
-ghost use Rattle.protocol.specs.Session.{startRefusal, sessionRoundRefusal, sessionEndRefusal};
+ghost use mathlib.Core.Bool.{_&&_};
+ghost use Prim.Native.Nat.{_≤_};
+ghost use lib.Dec.{ltb};
+ghost use lib.ListN.{getD};
+ghost use Rattle.protocol.specs.Basic.{every, Provided};
+ghost use Rattle.protocol.specs.Layout.{width};
+ghost use Rattle.protocol.specs.Session.{part, startRefusal, sessionRoundRefusal, sessionEndRefusal};
 
 pub fn start(settings: Settings, commitment: [Residue; WIDTH]) -> u32
     ensures { λ r. ⌜ r ≡ startRefusal settings commitment ⌝ }
@@ -14,7 +20,23 @@ pub fn start(settings: Settings, commitment: [Residue; WIDTH]) -> u32
     let q = settings.modulus;
     let d = settings.degree;
     let r6 = tests::settings_refusal(settings);
-    refuse(r6, 8, tests::element_below(q, d, commitment))
+    refuse(r6, 8, tests::element_below(q, d, &commitment))
+}
+
+// Are the claim and the three elements of a round polynomial residues.
+fn elements_below(
+    q: Residue,
+    d: u32,
+    claim: &[Residue; WIDTH],
+    polynomial: &[[Residue; WIDTH]; 3],
+) -> bool
+    ensures { λ r. ⌜ Provided (d ≤ width) (r ≡ (every d (λ k. ltb (getD (now (claim .entry)) k 0) q) && every d (λ k. ltb (getD (part (now (polynomial .entry)) 0) k 0) q)
+        && every d (λ k. ltb (getD (part (now (polynomial .entry)) 1) k 0) q) && every d (λ k. ltb (getD (part (now (polynomial .entry)) 2) k 0) q))) ⌝ }
+{
+    tests::element_below(q, d, claim)
+        & tests::element_below(q, d, &polynomial[0])
+        & tests::element_below(q, d, &polynomial[1])
+        & tests::element_below(q, d, &polynomial[2])
 }
 
 pub fn round(session: Session, polynomial: [[Residue; WIDTH]; 3], e: u32) -> u32
@@ -24,20 +46,10 @@ pub fn round(session: Session, polynomial: [[Residue; WIDTH]; 3], e: u32) -> u32
     let q = settings.modulus;
     let d = settings.degree;
     let claim = session.claim;
-    let c0 = polynomial[0];
-    let c1 = polynomial[1];
-    let c2 = polynomial[2];
     let challenges = session.challenges;
     let limit = sizes::exponent_count(settings);
     let r6 = tests::settings_refusal(settings);
-    let r8 = refuse(
-        r6,
-        8,
-        tests::element_below(q, d, claim)
-            & tests::element_below(q, d, c0)
-            & tests::element_below(q, d, c1)
-            & tests::element_below(q, d, c2),
-    );
+    let r8 = refuse(r6, 8, elements_below(q, d, &claim, &polynomial));
     let r10 = refuse(r8, 10, tests::all_below(limit, &challenges) & (e < limit));
     refuse(r10, 11, (session.done < settings.depth) & !session.closed)
 }
@@ -58,7 +70,7 @@ pub fn end(session: Session, key: &[Residue]) -> u32
     let r8 = refuse(
         r7,
         8,
-        tests::all_below_wide(q, key) & tests::element_below(q, d, claim),
+        tests::all_below_wide(q, key) & tests::element_below(q, d, &claim),
     );
     let limit = sizes::exponent_count(settings);
     let r10 = refuse(r8, 10, tests::all_below(limit, &challenges));

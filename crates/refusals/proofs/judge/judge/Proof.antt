@@ -28,10 +28,10 @@ unfolding judgeRefusal allBelow residueElement
 returns-2 c =
     let c14 = c .before .before in
     let c8 = c14 .before .before in
-    let no = c8 .before .before .before in
+    let no = c8 .before .before .before .before in
     let ok = tested-before (lengths (no .before)) (no .if1 .left) in
     sym (first-tested _ _ (lengths (no .before)) (λ z. refl)
-    ∙ first-tested _ _ (c8 .refuse2 .ensures) (λ z. rw (c8 .before .before .all-below-wide .ensures, c8 .before .element-below .ensures (degree-most _ (settings-valid _ ok))))
+    ∙ first-tested _ _ (c8 .refuse2 .ensures) (λ z. rw (c8 .before .before .before .all-below-wide .ensures, c8 .before .element-below .ensures (degree-most _ (settings-valid _ ok))))
     ∙ first-tested _ _ (c14 .refuse3 .ensures) (λ z. c14 .before .growth-allowed .ensures ok)
     ∙ first-tested _ _ (c .refuse4 .ensures) (λ z. c .before .slack-allowed .ensures)
     ∙ first-only _)

@@ -33,7 +33,7 @@ returns c = sym (first-tested _ _ (lengths (c .before)) (λ z. refl) ∙ first-s
 
 all-differ-requires : tie.Need-all-differ-requires
 all-differ-requires c κs =
-    let no = c .before .before .before .before .before .before .before .before in
+    let no = c .before .before .before .before .before .before .before .before .before in
     let e = lengths (no .before) in
     lengths-given _ _ _ _ _ _ e (no .if1 .left) .challenges-long ∙ ap (λ n. 3 * n) (sym (c .nodes .ensures .0 (tested-before e (no .if1 .left))))
 
@@ -42,11 +42,11 @@ unfolding treeRefusal allBelow residueElement exponents exponent
 returns-2 c =
     let c10 = c .before .before .before in
     let c8 = c10 .before .before .before in
-    let no = c8 .before .before .before .before in
+    let no = c8 .before .before .before .before .before in
     let ok = tested-before (lengths (no .before)) (no .if1 .left) in
     sym (first-tested _ _ (lengths (no .before)) (λ z. refl)
     ∙ first-tested _ _ (c8 .refuse2 .ensures) (λ z. rw (
-      c8 .before .before .before .all-below-wide .ensures,
+      c8 .before .before .before .before .all-below-wide .ensures,
       c8 .before .before .element-below .ensures (degree-most _ (settings-valid _ ok)),
       c8 .before .all-below-wide2 .ensures,
     ))

@@ -28,10 +28,10 @@ unfolding sessionEndRefusal allBelow residueElement exponents exponent
 returns-2 c =
     let c10 = c .before .before .before .before in
     let c8 = c10 .before .before .before .before in
-    let no = c8 .before .before .before in
+    let no = c8 .before .before .before .before in
     let ok = tested-before (lengths (no .before)) (no .if1 .left) in
     sym (first-tested _ _ (lengths (no .before)) (λ z. refl)
-    ∙ first-tested _ _ (c8 .refuse2 .ensures) (λ z. rw (c8 .before .before .all-below-wide .ensures, c8 .before .element-below .ensures (degree-most _ (settings-valid _ ok))))
+    ∙ first-tested _ _ (c8 .refuse2 .ensures) (λ z. rw (c8 .before .before .before .all-below-wide .ensures, c8 .before .element-below .ensures (degree-most _ (settings-valid _ ok))))
     ∙ first-tested _ _ (c10 .refuse3 .ensures) (λ z. rw (c10 .before .all-below .ensures, c10 .before .before .before .exponent-count .ensures ok))
     ∙ first-tested _ _ (c .refuse4 .ensures) (λ z. refl)
     ∙ first-only _)

@@ -11,7 +11,7 @@ use Rattle.sizes.proofs.Limits.{degree-most}
 use Rattle.verifier_refusals.proofs.session.round.Statement.{statement}
 use Rattle.verifier_refusals.proofs.session.round.Tie as tie
 
-allowed : (c : tie.After-settings-refusal) → c .settings-refusal .result ≡ 0 → settingsRefusal (c .before .before .before .before .before .before .before .before .args .session .settings) ≡ 0
+allowed : (c : tie.After-settings-refusal) → c .settings-refusal .result ≡ 0 → settingsRefusal (c .before .before .before .before .before .args .session .settings) ≡ 0
 allowed c z = sym (c .settings-refusal .ensures) ∙ z
 
 returns : tie.Need-returns
@@ -19,19 +19,9 @@ unfolding sessionRoundRefusal part residueElement exponents exponent
 returns c =
     let c10 = c .before .before .before .before in
     let c8 = c10 .before .before .before in
-    let e2 = c8 .before in
-    let e1 = e2 .before in
-    let e0 = e1 .before in
-    let e = e0 .before in
-    let c6 = e .before in
-    let small : (c6 .settings-refusal .result ≡ 0) → _ = λ z. degree-most _ (settings-valid _ (allowed c6 z)) in
+    let c6 = c8 .before .before .before .before in
     sym (first-known _ _ (c6 .settings-refusal .ensures)
-    ∙ first-tested _ _ (c8 .refuse .ensures) (λ z. rw (
-      e .element-below .ensures (small z),
-      e0 .element-below2 .ensures (small z),
-      e1 .element-below3 .ensures (small z),
-      e2 .element-below4 .ensures (small z),
-    ))
+    ∙ first-tested _ _ (c8 .refuse .ensures) (λ z. c8 .before .elements-below .ensures (degree-most _ (settings-valid _ (allowed c6 z))))
     ∙ first-tested _ _ (c10 .refuse2 .ensures) (λ z. rw (c10 .before .all-below .ensures, c6 .before .exponent-count .ensures (allowed c6 (tested-before (c8 .refuse .ensures) z))))
     ∙ first-tested _ _ (c .refuse3 .ensures) (λ z. refl)
     ∙ first-only _)
@@ -39,6 +29,5 @@ returns c =
 pub round-spec : {M : Type 1} → statement M
 round-spec =
     tie.close
-    (tie.spec (λ c. search needs) (λ c. search needs) (λ c. search needs) (λ c κs. search needs) (λ c κs. search needs) (λ c κs. search needs)
-    (λ c κs. search needs) (λ c κs. search needs) (λ c κs. search needs) (λ c κs. search needs) (λ c. search needs) (λ c κs. search needs)
+    (tie.spec (λ c κs. search needs) (λ c κs. search needs) (λ c κs. search needs) (λ c κs. search needs) (λ c. search needs) (λ c κs. search needs)
     (λ c κs. search needs) (λ c κs. search needs) returns)

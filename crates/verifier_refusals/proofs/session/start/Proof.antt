@@ -12,7 +12,7 @@ use Rattle.verifier_refusals.proofs.session.start.Tie as tie
 returns : tie.Need-returns
 unfolding startRefusal residueElement
 returns c =
-    let c6 = c .before .before in
+    let c6 = c .before .before .before in
     sym (first-known _ _ (c6 .settings-refusal .ensures)
     ∙ first-tested _ _ (c .refuse .ensures) (λ z. c .before .element-below .ensures (degree-most _ (settings-valid _ (sym (c6 .settings-refusal .ensures) ∙ z))))
     ∙ first-only _)
