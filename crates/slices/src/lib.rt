@@ -65,14 +65,19 @@ pub fn wholes(d: u32, t: &[i32]) -> [i32; WIDTH]
     elements::signed_element_at(d, t, 0)
 }
 
-// A round polynomial.
+// A round polynomial, its elements written to their places.
 pub fn polynomial(d: u32, t: &[Residue]) -> [[Residue; WIDTH]; 3]
-    ensures { λ r. ⌜ Provided (d ≤ width) (r ≡ polynomialOf d (now (t .entry))) ⌝ }
+    ensures { λ r. ⌜ Provided (d ≤ width) (Provided (length (now (t .entry)) ≡ 3 * d) (r ≡ polynomialOf d (now (t .entry)))) ⌝ }
 {
-    let c0 = elements::element_at(d, t, 0);
-    let c1 = elements::element_at(d, t, 1);
-    let c2 = elements::element_at(d, t, 2);
-    [c0, c1, c2]
+    let n = d as usize;
+    let mut p: [[Residue; WIDTH]; 3] = [[0; WIDTH]; 3];
+    if t.len() < 2 * n {
+        return p;
+    }
+    residues::store(n, t, 0, &mut p[0]);
+    residues::store(n, &t[n..], 0, &mut p[1]);
+    residues::store(n, &t[2 * n..], 0, &mut p[2]);
+    p
 }
 
 // Writes the first n places of an element to a slice from place `at` on.

@@ -1,13 +1,15 @@
 use mathlib.Core.Path.{sym, ap, _∙_}
 use mathlib.Core.Bool.{_&&_}
 use Prim.Native.Nat.{_*_}
+use borrow.Author.Tests.{eqb-true}
 use lib.Dec.{eqb, leb}
 use lib.ListN.{length, getD}
 use Rattle.protocol.specs.declared.Session.{Session}
 use Rattle.protocol.specs.Settings.{hasLength}
 use Rattle.protocol.specs.Session.{round}
+use Rattle.protocol.proofs.Tests.{and-split}
 use Rattle.slices.specs.Slices.{lent, polynomialOf}
-use Rattle.slices.proofs.Lent.{lent-degree}
+use Rattle.slices.proofs.Lent.{lent-fits, lent-degree}
 use Rattle.sessions.specs.Records.{flagged}
 use Rattle.sessions.specs.Promises.{polynomialFits, roundOn}
 use Rattle.sessions.proofs.Answers.{move-nowhere, move-refused, move-made}
@@ -46,7 +48,9 @@ returns-3 c =
     let lengths =
     ap (λ b. lent (loaded .result .settings) b 0) (at-both .both .ensures)
     ∙ ap (λ (s : Session). lent (s .settings) (eqb (length (a .polynomial .now)) (3 * s .settings .degree) && leb (getD (a .session .now) 5 0) 1) 0) (loaded .ensures) in
-    let elements = at-polynomial .polynomial .ensures (lent-degree (loaded .result .settings) _ (sym (refusal .ensures) ∙ nothing)) in
+    let passed = sym (refusal .ensures) ∙ nothing in
+    let long = eqb-true _ _ (and-split (sym (at-both .both .ensures) ∙ lent-fits (loaded .result .settings) _ passed) .0) in
+    let elements = at-polynomial .polynomial .ensures (lent-degree (loaded .result .settings) _ passed) long in
     move-made _ _ (a .session .now) (at-if1 .if1 .left) _ (refusal .ensures ∙ lengths) nothing _ _ _ _
     (at-round .round .ensures .0 ∙ ap (λ p. round (loaded .result) p (a .e)) elements ∙ ap (λ (s : Session). round s (polynomialOf (s .settings .degree) (a .polynomial .now)) (a .e)) (loaded .ensures))
     (at-answer .answer .ensures)
