@@ -1,6 +1,6 @@
 -- The verifier's turns: the claim and the verdict so far, one round after the other, and the verdict at the end.
 use mathlib.Core.Path.{_≡_, refl, sym, ap, ap₂, _∙_, subst}
-use mathlib.Core.Bool.{Bool, true, _&&_}
+use mathlib.Core.Bool.{true, _&&_}
 use mathlib.Core.List.{List}
 use Prim.Native.Nat.{ℕ, suc, _+_, _*_, _-_, _<_, _≤_}
 use native.Mathlib.Omega.{arith}
@@ -12,7 +12,7 @@ use Rattle.protocol.specs.Element.{width, zeros, padded, residue, residueAt, si
 use Rattle.protocol.specs.Settings.{settingsRefusal}
 use Rattle.protocol.specs.Layout.{roundCells, itemOf}
 use Rattle.protocol.specs.Opening.{keyAfter, messageAfter, roundTable, finalElement}
-use Rattle.protocol.specs.Transcript.{Transcript, element, roundHolds, nextClaim, endMet, claimAfter, holdsAt, closes, accepted, transcriptOf}
+use Rattle.protocol.specs.Transcript.{Transcript, element, nextClaim, endMet, claimAfter, holdsAt, closes, accepted, transcriptOf}
 use Rattle.protocol.specs.Nodes.{Alike}
 use Rattle.protocol.proofs.Inputs.{settings-valid}
 use Rattle.protocol.proofs.Ranges.{padded-at, padded-signed-at, commitment-below, last-length}

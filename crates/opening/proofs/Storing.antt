@@ -13,9 +13,9 @@ use Rattle.protocol.specs.declared.Settings.{Settings}
 use Rattle.protocol.specs.Basic.{tabulate}
 use Rattle.protocol.specs.Layout.{roundCells}
 use Rattle.protocol.specs.Opening.{roundElement, roundTable, keyAfter, messageAfter}
-use Rattle.protocol.proofs.Reading.{tabulate-at, tabulate-length, tabulate-ext, tabulate-own, cell-inside}
+use Rattle.protocol.proofs.Reading.{tabulate-at, tabulate-length, cell-inside}
 use Rattle.protocol.proofs.OpeningLaws.{round-at}
-use Rattle.protocol.proofs.Ranges.{round-below, rounds-below}
+use Rattle.protocol.proofs.Ranges.{rounds-below}
 use Rattle.residues.specs.Lists.{filled, spliced}
 use Rattle.residues.proofs.Parts.{tail-all}
 use Rattle.opening_rounds.specs.Rounds.{elementPlaces}

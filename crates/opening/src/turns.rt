@@ -4,9 +4,7 @@ use crate::storage;
 use protocol::Residue;
 use protocol::Settings;
 use residues::elements;
-ghost use mathlib.Core.Path.{_≡_};
-ghost use Prim.Native.Nat.{_+_, _<_};
-ghost use lib.ListN.{length};
+ghost use Prim.Native.Nat.{_<_};
 ghost use Rattle.opening.specs.Turns.{ProverMove, VerifierMove, ProverTurn, VerifierTurn};
 
 // Where an opening stands: the rounds done, and whether every round so far held.
