@@ -1,6 +1,7 @@
 /* This library beside an earlier one: `before NEW.so OLD.so TURNS` times each call of both in turns, on the same input, by the processor time of the thread, and prints
  * medians and their ratio. What they answer is compared; where it differs the program says so and leaves with 1. Up to version 0.2 residues and modulus had 32 bits,
- * since then they have 64; either library may be of either kind. `bench/before` builds both and runs it. */
+ * since then they have 64; up to 0.3 a record has 78 numbers, since then 142; either library may be of
+ * either kind. `bench/before` builds both and runs it. */
 #include "../include/wovenrock.h"
 #include <dlfcn.h>
 #include <stdbool.h>
@@ -18,6 +19,8 @@
 #define LEAVES 6561
 #define TEXT WOVENROCK_TEXT
 #define MODULUS 2147483647u
+/* The one with a transform, since version 0.4. */
+#define SMALL 12289u
 
 /* What `prove` reads, and what `verify` reads. */
 #define WITNESS (WOVENROCK_KEY | WOVENROCK_MESSAGE | WOVENROCK_CHALLENGES)
@@ -63,7 +66,7 @@ CALLS(DECLARED)
 /* A side with the functions for it. */
 struct side {
   void *state;
-  void (*fill)(void *, uint32_t, uint32_t, uint32_t, bool, bool);
+  void (*fill)(void *, uint32_t, uint32_t, uint32_t, uint32_t, bool, bool);
   void (*call)(void *, enum call);
   uint64_t (*answer)(const void *);
   void (*clear)(void *);
@@ -106,18 +109,18 @@ static int turns;
 static bool same = true;
 
 /* The input of the next rows. */
-static uint32_t degree, depth;
+static uint32_t degree, depth, modulus = MODULUS;
 static void fill(const uint32_t settings[3], bool tree, bool texts) {
   degree = settings[0], depth = settings[1];
-  new.fill(new.state, degree, depth, settings[2], tree, texts);
-  old.fill(old.state, degree, depth, settings[2], tree, texts);
+  new.fill(new.state, degree, depth, modulus, settings[2], tree, texts);
+  old.fill(old.state, degree, depth, modulus, settings[2], tree, texts);
 }
 
 /* A turn has so many calls that it takes some hundred microseconds. */
 static void row(const char *what, enum call which) {
   double *a = malloc(turns * sizeof *a), *b = malloc(turns * sizeof *b);
   char name[64];
-  snprintf(name, sizeof name, "%s, d = %u, L = %u", what, degree, depth);
+  snprintf(name, sizeof name, "%s, d = %u, L = %u%s", what, degree, depth, modulus == SMALL ? ", q = 12289" : "");
   new.clear(new.state);
   old.clear(old.state);
   double once = turn(&new, which, 1);
@@ -133,7 +136,7 @@ static void row(const char *what, enum call which) {
   }
   qsort(a, turns, sizeof *a, order);
   qsort(b, turns, sizeof *b, order);
-  printf("%-28s %11.2f %11.2f %7.3f\n", name, a[turns / 2], b[turns / 2], a[turns / 2] / b[turns / 2]);
+  printf("%-36s %11.2f %11.2f %7.3f\n", name, a[turns / 2], b[turns / 2], a[turns / 2] / b[turns / 2]);
   free(a);
   free(b);
 }
@@ -146,7 +149,7 @@ int main(int count, char **words) {
   }
   new = load(words[1]);
   old = load(words[2]);
-  printf("%-28s %11s %11s %7s\n", "call", "now us", "before us", "ratio");
+  printf("%-36s %11s %11s %7s\n", "call", "now us", "before us", "ratio");
   const uint32_t large[2][3] = {{64, 8, 127}, {4, 8, 127}}, trees[2][3] = {{64, 3, 127}, {4, 8, 2}}, text[3] = {64, 4, 127};
   for (int i = 0; i < 2; i++) {
     fill(large[i], false, false);
@@ -165,5 +168,14 @@ int main(int count, char **words) {
   row("write", WRITE_TEXT);
   row("prove", PROVE);
   row("verify", VERIFY);
+  modulus = SMALL;
+  for (uint32_t d = 16; d <= 64; d *= 2) {
+    const uint32_t small[3] = {d, 8, 127};
+    fill(small, false, false);
+    row("commit", COMMIT);
+    row("open", OPEN);
+    row("check", CHECK);
+    row("session", SESSION);
+  }
   return same ? 0 : 1;
 }

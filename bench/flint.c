@@ -1,13 +1,16 @@
-/* The benchmark's FLINT, on the vectors of nmod_poly. Key and message are vectors of residues; a whole number is told from its residue, as it is far
- * below q/2. Input is not tested. There are two ways to the sums of products:
+/* The benchmark's FLINT, on the vectors of nmod_poly. Key and message are vectors of residues; a whole number is told from its residue, where it is far
+ * below q/2; with a small modulus the whole numbers are folded beside. Input is not tested. There are two ways to the sums of products:
  *
  *   plain    _nmod_poly_mul for each product; products are added up unreduced, then X^d = -1 is put in and one reduction made per coefficient
  *   PACKED   elements are packed into long integers (FLINT's own Kronecker substitution), GMP multiplies and adds these, and one sum is unpacked and
- *            reduced at the end. Message coefficients are lifted by their bound, which keeps the places narrow. There is no WIDE of it.
+ *            reduced at the end. Message coefficients are lifted by their bound, which keeps the places narrow; with a small modulus residues do. There is no WIDE of it.
  */
 #include <flint/flint.h>
 #include <flint/nmod_vec.h>
 #include <flint/nmod_poly.h>
+#ifndef WIDE
+#define MODULI 5
+#endif
 #ifdef PACKED
 #define NAME "FLINT, reduced once"
 #else
@@ -19,6 +22,7 @@ struct tables {
     struct shape shape;
     nmod_t mod;
     mp_ptr key, message;
+    int32_t *wholes; /* null where they are told from the residues */
 };
 
 static mp_limb_t reduced(const struct tables *t, total x)
@@ -143,7 +147,7 @@ static void residues(const struct tables *t, const struct sum *s, residue *out)
 
 static void inner(struct tables *t, size_t count, residue *out)
 {
-    struct sum s = {t->shape.n / count * t->shape.b, {0}, {0}};
+    struct sum s = {t->wholes ? 0 : t->shape.n / count * t->shape.b, {0}, {0}};
     uint32_t d = t->shape.d;
     for (size_t i = 0; i < count; i++) {
         mp_limb_t m[MOST], g[MOST];
@@ -158,7 +162,7 @@ static void inner(struct tables *t, size_t count, residue *out)
 static void round_sums(struct tables *t, size_t half, residue *out)
 {
     uint32_t d = t->shape.d;
-    mp_limb_t lift = t->shape.n / (2 * half) * t->shape.b;
+    mp_limb_t lift = t->wholes ? 0 : t->shape.n / (2 * half) * t->shape.b;
     struct sum first = {lift, {0}, {0}}, second = first, middle = {2 * lift, {0}, {0}};
     for (size_t i = 0; i < half; i++) {
         mp_limb_t pm0[MOST], pm1[MOST], pg0[MOST], pg1[MOST];
@@ -205,6 +209,8 @@ static void fold(struct tables *t, size_t half, uint32_t e)
     for (size_t i = 0; i < half; i++) {
         fold_element(t, t->message + i * d, t->message + (half + i) * d, e);
         fold_element(t, t->key + i * d, t->key + (half + i) * d, e);
+        if (t->wholes)
+            fold_wholes(d, t->wholes + i * d, t->wholes + (half + i) * d, e);
     }
 }
 
@@ -218,7 +224,7 @@ static void last_element(const struct tables *t, int32_t *out)
 {
     for (uint32_t k = 0; k < t->shape.d; k++) {
         int64_t x = (int64_t)t->message[k], q = (int64_t)t->shape.q;
-        out[k] = (int32_t)(x > q / 2 ? x - q : x);
+        out[k] = t->wholes ? t->wholes[k] : (int32_t)(x > q / 2 ? x - q : x);
     }
 }
 
@@ -235,6 +241,9 @@ struct tables *baseline_prepare(uint32_t d, uint32_t l, uint64_t q, uint32_t b, 
         t->key[k] = key[k];
         t->message[k] = message[k] < 0 ? q - (mp_limb_t)-message[k] : (mp_limb_t)message[k];
     }
+    t->wholes = told(&t->shape) ? NULL : malloc(places * sizeof *message);
+    if (t->wholes)
+        memcpy(t->wholes, message, places * sizeof *message);
     return t;
 }
 
@@ -242,5 +251,6 @@ void baseline_release(struct tables *t)
 {
     _nmod_vec_clear(t->key);
     _nmod_vec_clear(t->message);
+    free(t->wholes);
     free(t);
 }

@@ -1,5 +1,5 @@
 /* The benchmark's NTL, on zz_pX, or with WIDE on ZZ_pX, as zz_p ends at 60 bits. Key and message are polynomials over the residues; a whole number is told from
- * its residue, as it is far below q/2.
+ * its residue, where it is far below q/2; with a small modulus the whole numbers are folded beside.
  * Input is not tested. There are two ways to the sums of products:
  *
  *   plain        mul for each product; products are added up unreduced, then X^d = -1 is put in and one reduction made per coefficient
@@ -9,6 +9,7 @@
 #include <NTL/ZZ_pX.h>
 #else
 #include <NTL/lzz_pX.h>
+#define MODULI 5
 #endif
 #include <vector>
 #ifdef TRANSFORMED
@@ -41,6 +42,7 @@ static inline void begin(uint64_t q) { Number::init((long)q); }
 struct tables {
     struct shape shape;
     std::vector<Polynomial> key, message;
+    std::vector<int32_t> wholes; /* empty where they are told from the residues */
 };
 
 /* The coefficient of X^k; leading zeros are not stored. */
@@ -187,6 +189,8 @@ static void fold(struct tables *t, size_t half, uint32_t e)
     for (size_t i = 0; i < half; i++) {
         fold_element(&t->shape, t->message[i], t->message[half + i], e);
         fold_element(&t->shape, t->key[i], t->key[half + i], e);
+        if (!t->wholes.empty())
+            fold_wholes(t->shape.d, &t->wholes[i * t->shape.d], &t->wholes[(half + i) * t->shape.d], e);
     }
 }
 
@@ -196,7 +200,7 @@ static void last_element(const struct tables *t, int32_t *out)
 {
     for (uint32_t k = 0; k < t->shape.d; k++) {
         long x = at(t->message[0], k), q = (long)t->shape.q;
-        out[k] = (int32_t)(x > q / 2 ? x - q : x);
+        out[k] = t->wholes.empty() ? (int32_t)(x > q / 2 ? x - q : x) : t->wholes[k];
     }
 }
 
@@ -213,6 +217,8 @@ struct tables *baseline_prepare(uint32_t d, uint32_t l, uint64_t q, uint32_t b, 
             NTL::SetCoeff(t->key[i], k, (long)key[i * d + k]);
             NTL::SetCoeff(t->message[i], k, (long)message[i * d + k]);
         }
+    if (!told(&t->shape))
+        t->wholes.assign(message, message + t->shape.n * d);
     return t;
 }
 

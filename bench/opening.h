@@ -26,7 +26,7 @@
 #include <stdlib.h>
 #include <string.h>
 
-#define MOST 64
+#define MOST 128
 #define ROUNDS 8
 
 /* A residue, and a sum of products of residues and message coefficients. */
@@ -67,6 +67,20 @@ static inline residue subtract(residue q, residue x, residue y)
 {
     residue difference = x - y, more = difference + q;
     return difference < more ? difference : more;
+}
+
+/* Whether a folded message can be told from its residues. Where it cannot, an arithmetic that has residues alone folds the whole numbers beside them. */
+static inline int told(const struct shape *s) { return 2 * (uint64_t)s->n * s->b < s->q; }
+
+/* a0 + X^e*a1 over whole numbers, in place. */
+static inline void fold_wholes(uint32_t d, int32_t *a0, const int32_t *a1, uint32_t e)
+{
+    uint32_t shift = e % d;
+    int32_t sign = e < d ? 1 : -1;
+    for (uint32_t k = shift; k < d; k++)
+        a0[k] += sign * a1[k - shift];
+    for (uint32_t k = 0; k < shift; k++)
+        a0[k] -= sign * a1[k + d - shift];
 }
 
 #ifdef __cplusplus
@@ -222,8 +236,15 @@ static void start(struct shape *s, uint32_t d, uint32_t l, uint64_t q, uint32_t 
 
 const char *baseline_name(void) { return NAME; }
 
-/* Whether it is for moduli of 61 bits. */
-uint32_t baseline_wide(void) { return sizeof(residue) == 8; }
+/* The moduli that it is measured with: 1 for 2^31 - 1, 2 for 2^61 - 1, 4 for 12289, added up. */
+#ifdef TRANSFORM
+#define MODULI 4
+#elif defined(WIDE)
+#define MODULI 2
+#elif !defined(MODULI)
+#define MODULI 1
+#endif
+uint32_t baseline_moduli(void) { return MODULI; }
 
 struct tables *baseline_prepare(uint32_t d, uint32_t l, uint64_t q, uint32_t b, const uint64_t *key, const int32_t *message, const uint32_t *challenges);
 void baseline_release(struct tables *t);

@@ -4,7 +4,7 @@
     bench/page.py            writes
     bench/page.py --check    writes nothing, and fails where something else stands there
 
-Of the runs that bench/measure keeps in bench/runs: where they come from, the table of times, the goals, the stack. Of docs/pictures/growth.txt: the tables of
+Of the runs that bench/measure keeps in bench/runs: where they come from, the table of times, the goals, the transform beside the plain product, the stack. Of docs/pictures/growth.txt: the tables of
 how times grow. Where no runs are kept, these alone are written."""
 
 import glob
@@ -30,6 +30,9 @@ GOALS += [('tree check, ' + LARGE, FAST, 1.5), ('tree check, ' + LARGE, PATHS, 0
           ('read, 65536 bytes', FAST, 1.5), ('write, 65536 bytes', FAST, 1.5), ('open, ' + LARGE, FAST, 0.4)]
 GOALS += [(call + ', d = 4, L = 8', FAST, 2.0) for call in ('commit', 'open', 'judge')] + [(call + ', ' + LARGE, FAST, 1.3) for call in ('check', 'session')]
 GOALS += [('names line, 1000 times', 'C, a loop of bytes', 0.5)]
+SMALL, PLAIN = ', L = 8, q = 12289', 'verified, plain product'
+GOALS += [('commit, d = 64' + SMALL, 'verified, q = 12347', 0.65), ('open, d = 64' + SMALL, 'verified, q = 12347', 0.6),
+          ('commit, d = 128' + SMALL, PLAIN, 0.42), ('open, d = 128' + SMALL, PLAIN, 0.35)]
 
 
 def origin(names):
@@ -59,6 +62,19 @@ def goals(rows):
     return '\n'.join(lines)
 
 
+def transform(rows):
+    lines = ['| d | transform µs | plain µs | ratio | transform, times the degree before | plain, times the degree before |', '|---:|---:|---:|---:|---:|---:|']
+    before = None
+    for degree in (32, 64, 128):
+        row = rows.get(('commit, d = %d%s' % (degree, SMALL), PLAIN))
+        if row is None:
+            return 'Not measured yet.'
+        grown = ['%.2f' % (now / then) for now, then in zip(row, before)][:2] if before else ['', '']
+        lines.append('| %d | %.1f | %.1f | %.3f | %s | %s |' % (degree, row.ours, row.theirs, row.ratio, *grown))
+        before = row
+    return '\n'.join(lines)
+
+
 def stack():
     rows = []
     for line in (RUNS / 'stack.txt').read_text(encoding='utf-8').splitlines():
@@ -74,7 +90,7 @@ def main():
     names = sorted(glob.glob(os.path.join(RUNS, '[0-9]*.txt')))
     if names:
         rows = summary.summary(names)
-        parts.update({'origin': origin(names), 'times': unsteady(rows) + '\n\n' + summary.table(rows), 'goals': goals(rows), 'stack': stack()})
+        parts.update({'origin': origin(names), 'times': unsteady(rows) + '\n\n' + summary.table(rows), 'goals': goals(rows), 'transform': transform(rows), 'stack': stack()})
     page = ROOT / 'docs' / 'BENCHMARKS.md'
     differ = [name for name, text in parts.items() if not place(page, name, 'bench/page.py', text, check)]
     if check and differ:

@@ -6,7 +6,7 @@
  *
  * With FEWER, by hand or not, an opening takes 2.5n products of elements, as the verified library's does (opening.h).
  *
- * With WIDE products are summed in 128 bits. */
+ * With WIDE products are summed in 128 bits. transform.c includes this with TRANSFORM, and has a function that takes some of the sums of products. */
 #ifndef NAME
 #define NAME "C"
 #endif
@@ -116,8 +116,14 @@ static void reduced(const struct shape *s, uint32_t d, const total *sums, residu
         out[k] = reduce(s, sums[k]);
 }
 
+#ifndef TRANSFORM
+#define transformed(shape, count, message, key, beside, out) 0
+#endif
+
 static void inner(struct tables *t, size_t count, residue *out)
 {
+    if (transformed(&t->shape, count, t->message, t->key, 0, out))
+        return;
     uint32_t d = t->shape.d;
     total sums[MOST] = {0};
     add_products(sums, &t->shape, d, count, t->message, t->key);
@@ -156,6 +162,8 @@ static void cross_at(total *sums, struct tables *t, uint32_t d, size_t half)
 static void part(struct tables *t, size_t from, size_t count, residue *out)
 {
     uint32_t d = t->shape.d;
+    if (transformed(&t->shape, count, t->message + from * d, t->key + from * d, 0, out))
+        return;
     total sums[MOST] = {0};
     add_products(sums, &t->shape, d, count, t->message + from * d, t->key + from * d);
     reduced(&t->shape, d, sums, out);
@@ -163,6 +171,8 @@ static void part(struct tables *t, size_t from, size_t count, residue *out)
 
 static void of_sums(struct tables *t, size_t half, residue *out)
 {
+    if (transformed(&t->shape, half, t->message, t->key, half * t->shape.d, out))
+        return;
     total sums[MOST] = {0};
     cross_at(sums, t, t->shape.d, half);
     reduced(&t->shape, t->shape.d, sums, out);

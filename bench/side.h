@@ -36,6 +36,8 @@ struct NAMED(output) {
 struct NAMED(side) {
   struct NAMED(library) lib;
   uint32_t d, l, b;
+  RESIDUE q;
+  size_t session; /* numbers of a record */
   size_t n, text_length, record_length, nodes, ends;
   RESIDUE key[CELLS], commitment[WIDTH], rounds[3 * DEPTH * WIDTH], tree_rounds[4 * 3 * NODES];
   uint32_t challenges[DEPTH], tree_challenges[3 * NODES];
@@ -45,7 +47,7 @@ struct NAMED(side) {
   struct NAMED(output) out;
 };
 
-#define SETTINGS in->d, in->l, MODULUS, in->b
+#define SETTINGS in->d, in->l, in->q, in->b
 
 static void NAMED(call)(void *side, enum call which) {
   struct NAMED(side) *in = side;
@@ -68,10 +70,10 @@ static void NAMED(call)(void *side, enum call which) {
     out->refusal = lib->check(SETTINGS, in->commitment, in->d, in->last, in->d, in->key, in->n, in->rounds, 3 * in->l * in->d, in->challenges, in->l, &out->number);
     return;
   case SESSION:
-    out->refusal = lib->session_start(SETTINGS, in->commitment, in->d, out->session, WOVENROCK_SESSION);
+    out->refusal = lib->session_start(SETTINGS, in->commitment, in->d, out->session, in->session);
     for (uint32_t i = 0; i < in->l; i++)
-      out->refusal |= lib->session_round(in->rounds + 3 * i * in->d, 3 * in->d, in->challenges[i], out->session, WOVENROCK_SESSION, &out->number);
-    out->refusal |= lib->session_end(in->last, in->d, in->key, in->n, out->session, WOVENROCK_SESSION, &out->number);
+      out->refusal |= lib->session_round(in->rounds + 3 * i * in->d, 3 * in->d, in->challenges[i], out->session, in->session, &out->number);
+    out->refusal |= lib->session_end(in->last, in->d, in->key, in->n, out->session, in->session, &out->number);
     return;
   case JUDGE:
     out->refusal = lib->judge(SETTINGS, in->commitment, in->d, 1u << (2 * in->l), in->key, in->n, in->w, in->n, &out->number);
@@ -119,14 +121,15 @@ static void NAMED(grow)(struct NAMED(side) *in, uint32_t done, size_t node, cons
 }
 
 /* The same input on every side: it is drawn from the same start, and what else is in it is what the side's own library answers. */
-static void NAMED(fill)(void *side, uint32_t d, uint32_t l, uint32_t b, bool tree, bool texts) {
+static void NAMED(fill)(void *side, uint32_t d, uint32_t l, uint32_t q, uint32_t b, bool tree, bool texts) {
   struct NAMED(side) *in = side;
   struct NAMED(library) lib = in->lib;
+  size_t session = in->session;
   memset(in, 0, sizeof *in);
-  in->lib = lib, in->d = d, in->l = l, in->b = b, in->n = ((size_t)1 << l) * d, in->ends = 1;
+  in->lib = lib, in->session = session, in->d = d, in->l = l, in->q = q, in->b = b, in->n = ((size_t)1 << l) * d, in->ends = 1;
   drawn = FIRST;
   for (size_t i = 0; i < in->n; i++) {
-    in->key[i] = draw(MODULUS);
+    in->key[i] = draw(q);
     in->message[i] = (int32_t)draw(2 * b + 1) - (int32_t)b;
   }
   for (uint32_t i = 0; i < l; i++) {
@@ -182,6 +185,9 @@ static void *NAMED(load)(void *file) {
 #define TAKE(name) in->lib.name = (__typeof__(in->lib.name))dlsym(file, "wovenrock_" #name);
   CALLS(TAKE)
 #undef TAKE
+  /* Up to version 0.3 a record had 78 numbers; one of another length is refused. */
+  RESIDUE commitment[2] = {0}, session[WOVENROCK_SESSION];
+  in->session = in->lib.session_start(2, 0, 17, 1, commitment, 2, session, WOVENROCK_SESSION) == 0 ? WOVENROCK_SESSION : 78;
   return in;
 }
 

@@ -8,7 +8,7 @@
 It calls the library by the module of examples/python, which needs a C compiler to make a shared object of target/staticlib/libexports.a (or of the archive
 that is named behind --library).
 
-What is asked, at every degree and depth; with the largest modulus, and for binding also with the largest of 31 bits:
+What is asked, at every degree and depth; with the largest modulus, and for binding also with the largest of 31 bits; at degree 128 with 12289, its only one:
   extraction   from which bound B on the judge refuses by 14; at the largest that it takes it must say yes to a vector whose one coefficient is
                (8*d*d)^L * B and no to one more, so that this ceiling is the library's and not only this script's
   binding      up to which B twice that ceiling is below the modulus
@@ -28,10 +28,11 @@ sys.path.insert(0, str(PYTHON))
 from marked import place  # noqa: E402
 from wovenrock import PARTS, Library, Refused  # noqa: E402
 
-DEGREES = (2, 4, 8, 16, 32, 64)
+DEGREES = (2, 4, 8, 16, 32, 64, 128)
 DEPTHS = range(9)
 MODULUS = 2**61 - 1
 NARROW = 2**31 - 1
+OF_128 = 12289
 BOUNDS = range(1, 128)
 LARGEST = BOUNDS[-1]
 LONG, GROWTH, SLACK = 1, 14, 15
@@ -43,6 +44,10 @@ VERIFY_READS = ("key", *PROVE_PRINTS)
 
 def wrong(what):
     raise SystemExit("limits: the library does not answer as the definitions say: " + what)
+
+
+def modulus_of(degree):
+    return OF_128 if degree == 128 else MODULUS
 
 
 def ceiling(settings):
@@ -69,7 +74,7 @@ def extraction_bound(library, degree, depth):
     """The largest B at which the judge does not refuse by 14, 0 where there is none."""
 
     def at(bound):
-        return library.settings(degree, depth, MODULUS, bound)
+        return library.settings(degree, depth, modulus_of(degree), bound)
 
     largest = bisect.bisect_left(BOUNDS, True, key=lambda bound: grows_too_far(library, at(bound)))
     if largest:
@@ -89,11 +94,12 @@ def binding_bound(modulus):
 
 def text_size(library, degree, depth, parts, longest):
     """Bytes of the longest or the shortest text with these parts, None where the writer refuses it by 1."""
-    settings = library.settings(degree, depth, MODULUS, LARGEST if longest else 1)
+    largest = modulus_of(degree) - 1
+    settings = library.settings(degree, depth, modulus_of(degree), LARGEST if longest else 1)
     lengths = (settings.table, settings.table, settings.element, settings.rounds, settings.challenges, settings.element)
     # of the final coefficients that a verifier can accept, -n*B has most bytes
     last = -(settings.bound << depth)
-    values = (MODULUS - 1, -settings.bound, MODULUS - 1, MODULUS - 1, 2 * degree - 1, last) if longest else (0,) * len(PARTS)
+    values = (largest, -settings.bound, largest, largest, 2 * degree - 1, last) if longest else (0,) * len(PARTS)
     tables = {name: [value] * length for name, value, length in zip(PARTS, values, lengths) if name in parts}
     try:
         return len(library.write(settings, tables))
@@ -128,14 +134,20 @@ def by_size(longest, shortest):
     return cell + (f"; {' and '.join(some)} for some" if some else "")
 
 
+def named(degree):
+    return str(degree) if modulus_of(degree) == MODULUS else f"{degree}, q = {modulus_of(degree)}"
+
+
 def limits_table(library):
     lines = [
         "| d | extraction is allowed at L | it binds at L, q = 2^31 − 1 | it binds at L, q = 2^61 − 1 | the text that `prove` reads fits at L | the text that `verify` reads fits at L |",
         "|---:|---|---|---|---|---|",
     ]
     for degree in DEGREES:
-        cells = [str(degree)]
-        cells += [by_bound([bound(library, degree, depth) for depth in DEPTHS]) for bound in (extraction_bound, binding_bound(NARROW), binding_bound(MODULUS))]
+        cells = [named(degree), by_bound([extraction_bound(library, degree, depth) for depth in DEPTHS])]
+        for modulus in (NARROW, MODULUS):
+            allowed = modulus_of(degree) == MODULUS
+            cells.append(by_bound([binding_bound(modulus)(library, degree, depth) for depth in DEPTHS]) if allowed else "–")
         for parts in (PROVE_READS, VERIFY_READS):
             cells.append(by_size(*([text_size(library, degree, depth, parts, longest) for depth in DEPTHS] for longest in (True, False))))
         lines.append("| " + " | ".join(cells) + " |")
@@ -151,7 +163,7 @@ def sizes_table(library):
         cells = [text_size(library, degree, depth, PROVE_PRINTS, True) for depth in DEPTHS]
         if None in cells:
             wrong(f"a transcript of degree {degree} does not fit")
-        lines.append(f"| {degree} | " + " | ".join(f"{cell:,}" for cell in cells) + " |")
+        lines.append(f"| {named(degree)} | " + " | ".join(f"{cell:,}" for cell in cells) + " |")
     return "\n".join(lines) + "\n"
 
 

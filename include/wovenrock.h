@@ -16,7 +16,7 @@
  *
  * Settings are the first four numbers of most calls:
  *
- *   degree    d, 2, 4, 8, 16, 32 or 64: an element has d coefficients, that of X^0 first, and X^d = -1
+ *   degree    d, 2, 4, 8, 16, 32 or 64, and 128 with modulus 12289 alone: an element has d coefficients, that of X^0 first, and X^d = -1
  *   depth     L, 0 to 8: a table has n = 2^L elements
  *   modulus   q, odd, 3 to 2305843009213693951 (2^61 - 1): coefficients of key, commitment and round polynomials are 0 to q - 1
  *   bound     B, 1 to 127: coefficients of a message are from -B to B
@@ -31,7 +31,7 @@
  *   element              d numbers
  *   round polynomial     3*d numbers: its elements c0, c1, c2 one after the other
  *   table                flat: element i of it begins at number i*d; n*d numbers where it has n elements
- *   session record       78 numbers
+ *   session record       142 numbers
  *   settings             4 numbers
  *
  * A round polynomial is laid out as a round is in the table `rounds`: its numbers 3*d*(i-1) to 3*d*i - 1 are the polynomial of round i.
@@ -40,7 +40,7 @@
  *
  *     1  long        a text, read or to be written, is over 65536 bytes
  *     2  text        a line is not of the stated shape, or the first four value lines are not the settings
- *     3  degree      d is not listed
+ *     3  degree      d is not listed, or is 128 with a modulus other than 12289, also one that is refused itself
  *     4  depth       L is over 8
  *     5  modulus     q is even or out of range
  *     6  bound       B is out of range
@@ -58,14 +58,14 @@
  * A refused call writes nothing to any slice, but for one: a refused start of a session writes the closed record of zeros. What a function answers behind
  * a pointer to a single number (`verdict`, `yes`, `count`) is 0 where the call is refused.
  *
- * A session record has 78 numbers of 64 bits. One past 4294967295 in a place other than those of the modulus and the claim counts as 4294967295, which is
+ * A session record has 142 numbers of 64 bits. One past 4294967295 in a place other than those of the modulus and the claim counts as 4294967295, which is
  * refused there:
  *
  *    0 to 3    degree, depth, modulus, bound
  *         4    rounds done
  *         5    closed: 0 says open, 1 closed; any other number is refusal 7
  *    6 to 13   the eight challenges, the unused ones 0
- *   14 to 77   the claim, 64 numbers; those from d on are not read, and a start or a round that holds writes 0 there
+ *   14 to 141  the claim, 128 numbers; those from d on are not read, and a start or a round that holds writes 0 there
  *
  * A text is a slice of bytes: the line "part item place value", and then a line of four numbers for each value, with single spaces between and a line
  * feed after every line. A number has no leading zero, no plus and no "-0"; only a value may be negative. Part, item and place are at most 2147483647, and
@@ -95,17 +95,18 @@ extern "C" {
 #endif
 
 /* The version of this header, which is that of the archive it was installed with. */
-#define WOVENROCK_VERSION "0.3.0"
+#define WOVENROCK_VERSION "0.4.0"
 
 /* The largest degree and depth: for room that fits all settings, of which a call is lent the part that has its length. */
-#define WOVENROCK_DEGREE_MAX 64
+#define WOVENROCK_DEGREE_MAX 128
 #define WOVENROCK_DEPTH_MAX 8
 
-/* The largest modulus. */
+/* The largest modulus, and the one with which the largest degree is allowed. */
 #define WOVENROCK_MODULUS_MAX UINT64_C(2305843009213693951)
+#define WOVENROCK_MODULUS_OF_DEGREE_MAX UINT64_C(12289)
 
 /* Numbers of a session record. */
-#define WOVENROCK_SESSION 78
+#define WOVENROCK_SESSION 142
 
 /* Numbers of settings. */
 #define WOVENROCK_SETTINGS 4
@@ -191,15 +192,15 @@ uint32_t wovenrock_open(uint32_t degree, uint32_t depth, uint64_t modulus, uint3
                         uint32_t *verdict);
 
 /* A verifier's session starts at a commitment: its record is written to `session`, whatever was there. Where the start is refused, that is a closed
- * record of zeros (number 5 is 1, all others are 0); where `session` has not 78 numbers, nothing is written.
- * Lengths: commitment d, session 78. Refusals 3 to 8. */
+ * record of zeros (number 5 is 1, all others are 0); where `session` has not 142 numbers, nothing is written.
+ * Lengths: commitment d, session 142. Refusals 3 to 8. */
 uint32_t wovenrock_session_start(uint32_t degree, uint32_t depth, uint64_t modulus, uint32_t bound,
                                  const uint64_t *commitment, size_t commitment_length,
                                  uint64_t *session, size_t session_length);
 
 /* A session's round, with the round polynomial and the challenge X^exponent. It holds where 2*(c0 + c2) is the claim: `*verdict` becomes 1, and the
  * record counts the round and stores the challenge and the next claim. Else `*verdict` becomes 3, and the record is closed. A refused round leaves the
- * record as it was. Lengths: polynomial 3*d, session 78, d being the record's degree. Refusals 7 at once where `session` has not 78 numbers; then
+ * record as it was. Lengths: polynomial 3*d, session 142, d being the record's degree. Refusals 7 at once where `session` has not 142 numbers; then
  * 3 to 6 for the record's settings, 7, 8, 10 (the record's eight challenges too), 11. */
 uint32_t wovenrock_session_round(const uint64_t *polynomial, size_t polynomial_length,
                                  uint32_t exponent,
@@ -207,7 +208,7 @@ uint32_t wovenrock_session_round(const uint64_t *polynomial, size_t polynomial_l
                                  uint32_t *verdict);
 
 /* A session's end, with the final element and the unfolded key: `*verdict` becomes 2 or 3, and the record is closed. A refused end leaves the record as
- * it was. Lengths: last d, key n*d, session 78, d and n being those of the record's settings. Refusals 7 at once where `session` has not 78 numbers;
+ * it was. Lengths: last d, key n*d, session 142, d and n being those of the record's settings. Refusals 7 at once where `session` has not 142 numbers;
  * then 3 to 6 for the record's settings, 7, 8, 10 (the record's eight challenges), 11. */
 uint32_t wovenrock_session_end(const int32_t *last, size_t last_length,
                                const uint64_t *key, size_t key_length,
@@ -288,7 +289,7 @@ uint32_t wovenrock_prove(const uint8_t *text, size_t text_length,
 uint32_t wovenrock_verify(const uint8_t *text, size_t text_length, uint32_t *verdict);
 
 /* What follows is compiled with the caller's program and is no part of the archive: the version, the word of a refusal, and the lengths that the calls above want. A
- * length is 0 where the degree is not listed or the depth is over 8. */
+ * length is 0 where the degree is not listed, 128 being listed here whatever the modulus is, or the depth is over 8. */
 
 static inline const char *wovenrock_version(void) {
     return WOVENROCK_VERSION;
@@ -312,6 +313,7 @@ static inline size_t wovenrock_element_length(uint32_t degree) {
     case 16:
     case 32:
     case 64:
+    case 128:
         return degree;
     default:
         return 0;

@@ -20,8 +20,9 @@ type Release = unsafe extern "C" fn(*mut c_void);
 /// A library that was loaded; it stays loaded.
 pub struct Baseline {
     pub name: String,
-    /// Whether it is for moduli of 61 bits, or for those of 31.
-    pub wide: bool,
+    /// The moduli that it is measured with: 1 for 2^31 − 1, 2 for 2^61 − 1, 4
+    /// for 12289, added up.
+    pub moduli: u32,
     prepare: Prepare,
     commit: Commit,
     open: Open,
@@ -51,9 +52,9 @@ impl Baseline {
             };
             let name: extern "C" fn() -> *const c_char =
                 std::mem::transmute(symbol(c"baseline_name")?);
-            let wide: extern "C" fn() -> u32 = std::mem::transmute(symbol(c"baseline_wide")?);
+            let moduli: extern "C" fn() -> u32 = std::mem::transmute(symbol(c"baseline_moduli")?);
             Ok(Baseline {
-                wide: wide() != 0,
+                moduli: moduli(),
                 name: CStr::from_ptr(name()).to_string_lossy().into_owned(),
                 prepare: std::mem::transmute::<*mut c_void, Prepare>(symbol(c"baseline_prepare")?),
                 commit: std::mem::transmute::<*mut c_void, Commit>(symbol(c"baseline_commit")?),

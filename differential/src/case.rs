@@ -6,7 +6,7 @@ use reference::draw::Limits;
 use reference::plain::refusals::{self, Lengths};
 use reference::random::Random;
 use reference::refuse::{self, Shape};
-use reference::types::{Residue, Settings};
+use reference::types::{Residue, Settings, ITS_MODULUS, LARGEST_DEGREE};
 
 /// What a call answered and left in every slice that it was lent.
 #[derive(Clone, Debug)]
@@ -63,8 +63,14 @@ impl Outcome {
     }
 }
 
-/// What is counted where nothing is refused with a modulus of 2^31 or more.
+/// What is counted where nothing is refused: a modulus of 2^31 or more, the
+/// largest degree, and its modulus at a degree from 32 on with sixteen elements
+/// or more. And what is counted where 3 refuses the largest degree with another
+/// modulus.
 pub const WIDE: &str = "wide";
+pub const LARGEST: &str = "degree 128";
+pub const SIXTEENS: &str = "12289 from degree 32, sixteen elements";
+pub const OTHER: &str = "128 with another modulus";
 
 /// Who a case was compared with.
 #[derive(Clone, Copy)]
@@ -141,9 +147,8 @@ pub trait Case: Clone {
     /// of a refusal by 7.
     const SLICES: &'static [&'static str] = &[];
 
-    /// Whether it must come up that nothing is refused with a modulus of 2^31
-    /// or more.
-    const WIDE: bool = false;
+    /// What must come up of degrees and moduli.
+    const OF_SETTINGS: &'static [&'static str] = &[];
 
     /// How often each of these must come up.
     const LEAST: usize = 20;
@@ -195,6 +200,7 @@ pub trait Call: Clone {
     const NUMBERS: &'static [u32];
     const WORDS: &'static [&'static str] = &[];
     const SLICES: &'static [&'static str];
+    const OF_SETTINGS: &'static [&'static str] = &[WIDE, LARGEST, SIXTEENS, OTHER];
 
     /// Whether the fast reference has the call.
     const FAST: bool = false;
@@ -215,9 +221,14 @@ pub trait Call: Clone {
         (refusals::settings(s) == 0).then(|| self.pairs(&refusals::lengths(s)))
     }
 
-    /// The modulus of an input that is not refused, for the counts.
-    fn modulus(&self) -> Residue {
-        self.settings().map_or(0, |s| s.modulus)
+    /// The settings of an input that is not refused, for the counts.
+    fn used(&self) -> Settings {
+        self.settings().unwrap_or_default()
+    }
+
+    /// Whether its degree is the largest, refused or not.
+    fn largest(&self) -> bool {
+        self.settings().is_some_and(|s| s.degree == LARGEST_DEGREE)
     }
 
     /// A refusal before all others.
@@ -334,7 +345,7 @@ impl<C: Call> Case for C {
     const NUMBERS: &'static [u32] = <C as Call>::NUMBERS;
     const WORDS: &'static [&'static str] = <C as Call>::WORDS;
     const SLICES: &'static [&'static str] = <C as Call>::SLICES;
-    const WIDE: bool = true;
+    const OF_SETTINGS: &'static [&'static str] = <C as Call>::OF_SETTINGS;
 
     fn draw(random: &mut Random, limits: &Limits) -> C {
         <C as Call>::draw(random, limits)
@@ -348,7 +359,7 @@ impl<C: Call> Case for C {
         let slice = &mut self.slices()[random.below(count)];
         let length = slice.len();
         slice.resize(match random.below(8) {
-            0 => random.pick(&[0, 1, 64, 78, 192]),
+            0 => random.pick(&[0, 1, 64, 78, 128, 142, 192, 384]),
             1..=3 => length.saturating_sub(1),
             _ => length + 1,
         });
@@ -392,12 +403,16 @@ impl<C: Call> Case for C {
     }
 
     /// Which slice is one number too short or too long, where that alone is
-    /// the reason of a refusal by 7; and whether the modulus is a wide one.
+    /// the reason of a refusal by 7; and what is counted of its settings.
     fn remarks(&self, number: u32) -> Vec<String> {
         let mut remarks = self.other_remarks(number);
-        if number == 0 && self.modulus() >= 1 << 31 {
-            remarks.push(WIDE.to_string());
-        }
+        let settings = of_settings(number, self.used(), self.largest());
+        let wanted = <C as Call>::OF_SETTINGS;
+        remarks.extend(
+            settings
+                .into_iter()
+                .filter(|word| wanted.contains(&&word[..])),
+        );
         let pairs = self.known_pairs().unwrap_or_default();
         let wrong: Vec<usize> = (0..pairs.len())
             .filter(|&i| pairs[i].0 != pairs[i].1)
@@ -421,6 +436,20 @@ impl<C: Call> Case for C {
         page.header("lengths of its slices:");
         page.numbers(lengths);
     }
+}
+
+/// What is counted of the settings of an input, `used` being those of one that
+/// is not refused.
+pub fn of_settings(number: u32, used: Settings, largest: bool) -> Vec<String> {
+    let sixteens = used.modulus == ITS_MODULUS && used.degree >= 32 && used.depth >= 4;
+    let list = [
+        (number == 0 && used.modulus >= 1 << 31, WIDE),
+        (number == 0 && largest, LARGEST),
+        (number == 0 && sixteens, SIXTEENS),
+        (number == 3 && largest, OTHER),
+    ];
+    let said = list.iter().filter(|(said, _)| *said);
+    said.map(|(_, word)| word.to_string()).collect()
 }
 
 /// Two answers to one input that are not the same.
@@ -468,13 +497,15 @@ pub fn check<C: Case>(case: &C) -> Result<(Outcome, Vec<Author>), Difference> {
 fn redraw_smaller<C: Case>(case: &C) -> C {
     const DRAWS: usize = 2000;
     let mut random = Random::new(1);
-    for (degree, depth) in [(2, 0), (2, 1), (4, 1), (4, 2), (8, 2), (16, 2), (64, 1)] {
+    let sizes = [(2, 0), (2, 1), (4, 1), (4, 2), (8, 2), (16, 2), (64, 1)];
+    for (degree, depth) in sizes.into_iter().chain([(128, 0), (128, 1)]) {
         let limits = Limits {
             degree,
             depth,
             table: usize::MAX,
             tree: usize::MAX,
             wide: true,
+            transform: false,
         };
         for _ in 0..DRAWS {
             let mut small = C::draw(&mut random, &limits);

@@ -30,8 +30,8 @@ fn words<C: Case>() -> Vec<String> {
     let said = C::WORDS.iter().map(|word| word.to_string());
     let slices = C::SLICES.iter();
     let wrong = slices.flat_map(|name| [format!("{name} short"), format!("{name} long")]);
-    let wide = C::WIDE.then(|| case::WIDE.to_string());
-    said.chain(wrong).chain(wide).collect()
+    let of_settings = C::OF_SETTINGS.iter().map(|word| word.to_string());
+    said.chain(wrong).chain(of_settings).collect()
 }
 
 impl Run {
@@ -77,7 +77,7 @@ impl Run {
         let sizes = [
             (small / 2, Limits::new(64, 300)),
             (small / 2, Limits::new(1024, 2000)),
-            (large, Limits::new(16_384, 20_000)),
+            (large, Limits::new(32_768, 20_000)),
         ];
         let words = words::<C>();
         for turn in 0..2 {
@@ -103,6 +103,14 @@ impl Run {
         Ok(())
     }
 
+    /// Drawn inputs with modulus 12289, degrees from 32 and depths from 3 on.
+    fn transform<C: Case>(&mut self, count: usize) -> Result<(), Difference> {
+        for _ in 0..count * self.times {
+            self.one::<C>(&Limits::transform())?;
+        }
+        Ok(())
+    }
+
     fn all(&mut self) -> Result<(), Difference> {
         self.call::<SettingsCase>(20_000, 0)?;
         self.call::<Commit>(10_000, 200)?;
@@ -117,8 +125,14 @@ impl Run {
         self.call::<Sessions>(3_000, 20)?;
         self.call::<Opening>(8_000, 40)?;
         self.call::<Moves>(6_000, 20)?;
+        self.transform::<Commit>(200)?;
+        self.transform::<ProverRound>(200)?;
+        self.transform::<Opening>(80)?;
+        self.transform::<Moves>(40)?;
+        self.transform::<Check>(60)?;
+        self.transform::<SessionEnd>(60)?;
         self.call::<Extract>(4_000, 120)?;
-        self.call::<Large>(0, 18)?;
+        self.call::<Large>(0, 24)?;
         self.call::<Largest>(0, 6)?;
         self.names()?;
         self.large_numbers()?;

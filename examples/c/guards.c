@@ -169,15 +169,15 @@ struct fault {
 /* Past 32 bits, with a number behind that would be allowed. */
 #define PAST(number) ((INT64_C(1) << 32) + (number))
 #define FAULTY_SETTINGS \
-    IN_SETTING(3, 0, 3), IN_SETTING(4, 1, 9), IN_SETTING(5, 2, 16), IN_SETTING(5, 2, WOVENROCK_MODULUS_MAX + 2), IN_SETTING(5, 2, -1), IN_SETTING(6, 3, 0)
+    IN_SETTING(3, 0, 3), IN_SETTING(3, 0, 128), IN_SETTING(4, 1, 9), IN_SETTING(5, 2, 16), IN_SETTING(5, 2, WOVENROCK_MODULUS_MAX + 2), IN_SETTING(5, 2, -1), IN_SETTING(6, 3, 0)
 #define FAULTY_RECORD(slice) \
-    IN_SLICE(3, slice, 0, 3), IN_SLICE(4, slice, 1, 9), IN_SLICE(5, slice, 2, 16), IN_SLICE(6, slice, 3, 0), IN_SLICE(7, slice, 5, 2), \
+    IN_SLICE(3, slice, 0, 3), IN_SLICE(3, slice, 0, 128), IN_SLICE(4, slice, 1, 9), IN_SLICE(5, slice, 2, 16), IN_SLICE(6, slice, 3, 0), IN_SLICE(7, slice, 5, 2), \
         IN_SLICE(7, slice, 5, UINT32_MAX), IN_SLICE(8, slice, 14, 17), IN_SLICE(8, slice, 14, PAST(0)), IN_SLICE(10, slice, 6, 4), IN_SLICE(10, slice, 13, 4), \
         IN_SLICE(11, slice, 5, 1), IN_SLICE(3, slice, 0, PAST(2)), IN_SLICE(4, slice, 1, PAST(1)), IN_SLICE(6, slice, 3, PAST(1)), \
         IN_SLICE(7, slice, 5, PAST(0)), IN_SLICE(10, slice, 13, PAST(0)), IN_SLICE(11, slice, 4, PAST(0))
 #define FAULTY_TEXT \
     {1, STRETCH, 0, 0, WOVENROCK_TEXT + 1, NULL, NULL}, IN_LINE(2, "part", "Part"), IN_LINE(2, "0 0 3 1\n", "0 0 3 01\n"), \
-        IN_LINE(2, "0 0 2 17\n", "0 0 2 2305843009213693953\n"), IN_LINE(3, "0 0 0 2\n", "0 0 0 3\n"), IN_LINE(3, "0 0 0 2\n", "0 0 0 4294967298\n"), \
+        IN_LINE(2, "0 0 2 17\n", "0 0 2 2305843009213693953\n"), IN_LINE(3, "0 0 0 2\n", "0 0 0 3\n"), IN_LINE(3, "0 0 0 2\n", "0 0 0 128\n"), IN_LINE(3, "0 0 0 2\n", "0 0 0 4294967298\n"), \
         IN_LINE(4, "0 0 1 1\n", "0 0 1 9\n"), IN_LINE(5, "0 0 2 17\n", "0 0 2 -17\n"), IN_LINE(6, "0 0 3 1\n", "0 0 3 128\n")
 
 /* Whether the fault can be put in: a place may be missing in a slice that is too short. */
@@ -406,6 +406,17 @@ static struct input round_input(void) {
     return in;
 }
 
+/* The largest degree, with its modulus: X^127 times X is -1. */
+static struct input largest_commit_input(void) {
+    struct input in = {{128, 1, 12289, 1}, 0, 0, 0, 0, {{0}}, 0};
+    lend(&in, ZEROS("key", READ, 8, false, wovenrock_table_length(128, 1)));
+    lend(&in, ZEROS("message", READ, 4, true, wovenrock_table_length(128, 1)));
+    lend(&in, ZEROS("commitment", WRITTEN, 8, false, wovenrock_element_length(128)));
+    put(&in.slices[0], 127, 1);
+    put(&in.slices[1], 1, 1);
+    return in;
+}
+
 static struct input fold_input(void) {
     struct input in = worked();
     lend(&in, KEY(WRITTEN));
@@ -611,6 +622,8 @@ static struct input verify_input(void) {
 static const struct scenario scenarios[] = {
     {"settings", settings, worked, 0, {FAULTY_SETTINGS, NO_MORE}},
     {"commit", commit, commit_input, 0, {FAULTY_SETTINGS, IN_SLICE(8, 0, 0, 17), IN_SLICE(9, 1, 0, -2), NO_MORE}},
+    {"commit, degree 128", commit, largest_commit_input, 0, {IN_SETTING(3, 2, 12287), IN_SETTING(3, 2, 12288), IN_SETTING(3, 2, 24578), IN_SETTING(3, 2, -1),
+        IN_SETTING(4, 1, 9), IN_SETTING(6, 3, 0), IN_SLICE(8, 0, 255, 12289), IN_SLICE(9, 1, 255, 2), NO_MORE}},
     {"round", prover_round, round_input, 0, {FAULTY_SETTINGS, IN_SLICE(8, 0, 0, 17), IN_SLICE(9, 1, 0, 2), IN_DONE(11, 1),
         IN_DONE(11, UINT32_MAX), NO_MORE}},
     {"fold", fold, fold_input, 0, {FAULTY_SETTINGS, IN_SLICE(8, 0, 0, 17), IN_SLICE(9, 1, 0, 2), IN_EXPONENT(10, 4),

@@ -24,7 +24,7 @@ static void *zeros(size_t count, size_t width) {
 
 /* Tables of zeros are a key, a message, an opening and a tree, but for the tree's challenges, which are equal: that is refused by 12, behind all lengths. */
 static void try(uint32_t d, uint32_t depth) {
-    const uint64_t q = WOVENROCK_MODULUS_MAX;
+    const uint64_t q = d == WOVENROCK_DEGREE_MAX ? WOVENROCK_MODULUS_OF_DEGREE_MAX : WOVENROCK_MODULUS_MAX;
     const uint32_t bound = 1;
     size_t element = wovenrock_element_length(d), table = wovenrock_table_length(d, depth);
     size_t rounds = wovenrock_rounds_length(d, depth), challenges = wovenrock_challenges_length(depth);
@@ -57,7 +57,7 @@ int main(void) {
     int settings = 0;
     for (uint32_t degree = 0; degree < 130; degree++) {
         for (uint32_t depth = 0; depth < 12; depth++) {
-            uint32_t number = wovenrock_settings(degree, depth, 17, 1);
+            uint32_t number = wovenrock_settings(degree, depth, WOVENROCK_MODULUS_OF_DEGREE_MAX, 1);
             if (number == 0) {
                 try(degree, depth);
                 settings++;
@@ -69,6 +69,7 @@ int main(void) {
         }
     }
     printf("%d settings\n", settings);
+    want("degree with another modulus", WOVENROCK_DEGREE_MAX, 0, WOVENROCK_REFUSED_DEGREE, wovenrock_settings(WOVENROCK_DEGREE_MAX, 0, 17, 1));
     for (uint32_t number = 0; number <= 16; number++)
         printf("%u %s\n", number, wovenrock_word(number));
     if (strcmp(wovenrock_version(), WOVENROCK_VERSION) != 0)

@@ -86,10 +86,24 @@ class WorkedExample(unittest.TestCase):
         record[0] += 2**32
         self.refused(3, library.session_round, record, opened.rounds, 3)
 
+    def test_largest_degree(self):
+        library, q = self.library, 12289
+        for other in (q - 2, q - 1, 2 * q, 2**61 - 1):
+            self.refused(3, library.settings, 128, 5, other, 127)
+        settings = library.settings(128, 5, q, 127)
+        key = [(7 * i + 3) % q for i in range(settings.table)]
+        message = [i % 255 - 127 for i in range(settings.table)]
+        challenges = [255, 0, 128, 3, 64]
+        opened = library.open(settings, key, message, challenges)
+        self.assertTrue(opened.accepted)
+        self.assertTrue(library.check(settings, opened.commitment, opened.last, key, opened.rounds, challenges))
+        record = library.start(settings, opened.commitment)
+        self.assertEqual((len(record), record[14:]), (142, opened.commitment))
+
     def test_lengths(self):
         self.refused(7, self.library.commit, self.settings, KEY + [0], MESSAGE)
         self.refused(7, self.library.start, self.settings, [15])
-        self.refused(7, self.library.session_round, [0] * 77, ROUNDS, 1)
+        self.refused(7, self.library.session_round, [0] * 141, ROUNDS, 1)
         deep = self.library.settings(4, 2, 17, 1)
         lengths = (deep.element, deep.polynomial, deep.table, deep.rounds, deep.challenges, deep.nodes, deep.leaves, deep.slack)
         self.assertEqual(lengths, (4, 12, 16, 24, 2, 4, 9, 16))

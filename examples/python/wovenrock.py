@@ -16,7 +16,7 @@ WORDS = (
 )
 PARTS = ("key", "message", "commitment", "rounds", "challenges", "last")
 LONGEST_TEXT = 65536
-RECORD = 78
+RECORD = 142
 HOLDS, ACCEPTED = 1, 2
 
 
@@ -140,7 +140,7 @@ class Library:
         return Opened(*map(_taken, (commitment, rounds, last)), verdict.value == ACCEPTED, *map(_taken, (key, message)))
 
     def start(self, settings, commitment):
-        """A session's record, 78 numbers, to be kept by the caller. Refusals 7, 8."""
+        """A session's record, 142 numbers, to be kept by the caller. Refusals 7, 8."""
         record = _u64([0] * RECORD)
         self._call("session_start", *_four(settings), *_lent([_u64(commitment), record]))
         return _taken(record)

@@ -1,7 +1,7 @@
 //! The table of refusals. Every test answers `Err(number)` when its refusal
 //! applies; the calls run the tests in number order over their whole input.
 
-use crate::types::{Residue, Residues, Settings, LARGEST_MODULUS};
+use crate::types::{Residue, Residues, Settings, ITS_MODULUS, LARGEST_DEGREE, LARGEST_MODULUS};
 
 pub const LONG: u32 = 1;
 pub const TEXT: u32 = 2;
@@ -72,9 +72,18 @@ fn unless(number: u32, fine: bool) -> Checked<()> {
     }
 }
 
+/// Whether the degree is listed: the largest one with its modulus alone.
+fn listed(s: Settings) -> bool {
+    match s.degree {
+        2 | 4 | 8 | 16 | 32 | 64 => true,
+        LARGEST_DEGREE => s.modulus == ITS_MODULUS,
+        _ => false,
+    }
+}
+
 /// Refusals 3 to 6.
 pub fn settings(s: Settings) -> Checked<Shape> {
-    unless(DEGREE, matches!(s.degree, 2 | 4 | 8 | 16 | 32 | 64))?;
+    unless(DEGREE, listed(s))?;
     unless(DEPTH, s.depth <= 8)?;
     let in_range = (3..=LARGEST_MODULUS).contains(&s.modulus);
     unless(MODULUS, in_range && s.modulus % 2 == 1)?;

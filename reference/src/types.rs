@@ -1,7 +1,11 @@
 //! Settings, elements by value, the session record and the answers.
 
 /// Places of an element that is passed by value.
-pub const PLACES: usize = 64;
+pub const PLACES: usize = 128;
+
+/// The largest degree, and the one modulus with which it is admitted.
+pub const LARGEST_DEGREE: u32 = 128;
+pub const ITS_MODULUS: Residue = 12_289;
 
 /// Places of the list of challenges in a session record.
 pub const ROUNDS: usize = 8;

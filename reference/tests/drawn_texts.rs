@@ -7,8 +7,9 @@ use reference::random::Random;
 use reference::types::*;
 use std::collections::BTreeSet;
 
+/// Degree 128 has room at depth 0 and 1.
 fn limits() -> Limits {
-    Limits::new(64, 0)
+    Limits::new(256, 0)
 }
 
 fn read_into(input: &TextInput, tables: &mut Tables) -> ReadAnswer {

@@ -11,7 +11,7 @@ use reference::types::*;
 /// All degrees and depths with at most `most` coefficients in the leaves.
 fn sizes(most: usize) -> Vec<(u32, u32)> {
     let mut list = Vec::new();
-    for degree in [2u32, 4, 8, 16, 32, 64] {
+    for degree in [2u32, 4, 8, 16, 32, 64, 128] {
         for depth in 0..=8 {
             if 3usize.pow(depth) * degree as usize <= most {
                 list.push((degree, depth));
@@ -24,7 +24,10 @@ fn sizes(most: usize) -> Vec<(u32, u32)> {
 /// Settings with one of the moduli that must not be left out.
 fn drawn(random: &mut Random, degree: u32, depth: u32) -> Settings {
     let any = base::modulus(random);
-    let modulus = random.pick(&[3, 9, 15, any, any]);
+    let modulus = match degree {
+        128 => 12_289,
+        _ => random.pick(&[3, 9, 15, any, any]),
+    };
     Settings::new(degree, depth, modulus, base::bound(random))
 }
 
@@ -164,8 +167,9 @@ fn the_bound_is_reached() {
         (16, 1, 127),
         (64, 1, 127),
         (64, 4, 4),
+        (128, 3, 127),
     ] {
-        let settings = Settings::new(degree, depth, 17, bound);
+        let settings = Settings::new(degree, depth, 12_289, bound);
         let mut tree = free_at(&mut random, settings);
         let bound = tree.shape.final_bound() as i32;
         for x in tree.leaves.iter_mut() {
@@ -195,10 +199,12 @@ fn weight(a: &Element, e: usize) -> i128 {
 fn a_round_grows_by_at_most_4_d_squared() {
     // Turning all three exponents by t turns the products of s and changes
     // the exponent of 1 + r_k·r_l by 2t.
-    for d in [2, 4, 8, 16, 32, 64] {
+    for d in [2, 4, 8, 16, 32, 64, 128] {
         let mut most = 0;
-        for b in 1..2 * d {
-            for c in b + 1..2 * d {
+        // Of the largest degree not all pairs are taken.
+        let step = if d == 128 { 5 } else { 1 };
+        for b in (1..2 * d).step_by(step) {
+            for c in (b + 1..2 * d).step_by(step) {
                 let pairs = [pair(d, 0, b, c), pair(d, b, 0, c), pair(d, c, 0, b)];
                 for t in 0..d {
                     let exponents = [b + c, c, b].map(|e| e + 2 * t);

@@ -19,6 +19,12 @@ fn with_moduli<T: Copy>(sizes: &[T]) -> Vec<(T, Residue)> {
     moduli.iter().flat_map(at).collect()
 }
 
+/// The same, and the largest degree with its modulus at the given sizes.
+fn with_largest<T: Copy>(sizes: &[T], largest: &[T]) -> Vec<(T, Residue)> {
+    let at = largest.iter().map(|&size| (size, ITS_MODULUS));
+    with_moduli(sizes).into_iter().chain(at).collect()
+}
+
 /// Mostly small sizes, at times large ones.
 fn limits(i: usize) -> Limits {
     if i.is_multiple_of(50) {
@@ -66,7 +72,9 @@ fn assert_same_opening(input: &tables::OpeningInput) {
 #[test]
 fn openings_with_the_largest_numbers() {
     let mut random = Random::new(53);
-    for ((degree, depth), q) in with_moduli(&[(64, 8), (64, 4), (2, 8), (32, 0)]) {
+    for ((degree, depth), q) in
+        with_largest(&[(64, 8), (64, 4), (2, 8), (32, 0)], &[(128, 8), (128, 0)])
+    {
         let s = Settings::new(degree, depth, q, 127);
         for sign in [1, -1] {
             let mut input = opening_at(&mut random, s);
@@ -126,7 +134,7 @@ fn judgements() {
 #[test]
 fn judgements_with_the_largest_numbers() {
     let sizes = [(4, 8, 64), (16, 5, 127), (32, 4, 127), (64, 4, 4)];
-    for ((degree, depth, bound), q) in with_moduli(&sizes) {
+    for ((degree, depth, bound), q) in with_largest(&sizes, &[(128, 3, 127)]) {
         let s = Settings::new(degree, depth, q, bound);
         let size = (degree as usize) << depth;
         let key = vec![q - 1; size];
@@ -206,7 +214,7 @@ fn extractions_with_one_wrong_leaf() {
 fn extractions_at_the_largest_sizes() {
     let mut random = Random::new(58);
     let sizes = [(2, 8, 127), (4, 8, 2), (8, 6, 5), (16, 5, 16), (32, 4, 127)];
-    for ((degree, depth, bound), q) in with_moduli(&sizes) {
+    for ((degree, depth, bound), q) in with_largest(&sizes, &[(128, 3, 127), (128, 4, 1)]) {
         let s = Settings::new(degree, depth, q, bound);
         let mut input = tree::free_at(&mut random, s);
         let most = input.shape.final_bound() as i32;
@@ -255,7 +263,8 @@ fn read_both(input: &TextInput) {
 fn readers() {
     let mut random = Random::new(59);
     for _ in 0..6000 {
-        let (mut input, ..) = text::readable(&mut random, &Limits::new(64, 0));
+        let size = random.pick(&[64, 64, 64, 256]);
+        let (mut input, ..) = text::readable(&mut random, &Limits::new(size, 0));
         text::damage_text(&mut random, &mut input);
         read_both(&input);
     }
@@ -333,7 +342,8 @@ fn write_both(input: &text::WriteInput) {
 fn programs() {
     let mut random = Random::new(62);
     for _ in 0..2000 {
-        let mut input = text::provable(&mut random, &Limits::new(64, 0));
+        let limits = Limits::new(random.pick(&[64, 64, 64, 256]), 0);
+        let mut input = text::provable(&mut random, &limits);
         text::damage_text(&mut random, &mut input);
         let room = random.pick(&[0, 300, LONGEST_TEXT, LONGEST_TEXT]);
         let results = [fast::prove, plain::prove].map(|prove| {
@@ -341,7 +351,7 @@ fn programs() {
             (prove(&input.text(), &mut out), out)
         });
         assert_eq!(results[0], results[1]);
-        let (mut input, _) = text::verifiable(&mut random, &Limits::new(64, 0));
+        let (mut input, _) = text::verifiable(&mut random, &limits);
         text::damage_text(&mut random, &mut input);
         assert_eq!(fast::verify(&input.text()), plain::verify(&input.text()));
     }

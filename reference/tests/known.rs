@@ -2,6 +2,7 @@
 
 use reference::plain::ring::{doubled_inverse, element, multiply, power, subtract, Element};
 use reference::plain::*;
+use reference::refuse;
 use reference::types::*;
 
 const KEY: [Residue; 4] = [3, 5, 7, 2];
@@ -77,10 +78,12 @@ fn known_inverses() {
 
 #[test]
 fn inverses_have_their_defining_property() {
-    for d in [2, 4, 8, 16, 32, 64] {
+    for d in [2, 4, 8, 16, 32, 64, 128] {
         let mut two = vec![0; d];
         two[0] = 2;
-        for a in 0..2 * d {
+        // Of the largest degree not all pairs are taken.
+        let step = if d == 128 { 5 } else { 1 };
+        for a in (0..2 * d).step_by(step) {
             for b in (0..2 * d).filter(|&b| b != a) {
                 let s = doubled_inverse(d, a, b);
                 let difference = subtract(&power(d, a), &power(d, b));
@@ -207,8 +210,10 @@ fn known_growth() {
         (4, 8, 64, 0),
         (4, 8, 65, 14),
         (64, 0, 127, 0),
+        (128, 3, 127, 0),
+        (128, 4, 1, 14),
     ] {
-        let s = Settings::new(d, l, 17, b);
+        let s = Settings::new(d, l, 12_289, b);
         let size = (d as usize) << l;
         let answer = judge(s, ZERO_RESIDUES, 1, &vec![0; size], &vec![0; size]);
         assert_eq!(answer.number, number, "{s:?}");
@@ -218,8 +223,8 @@ fn known_growth() {
 
 #[test]
 fn known_exponents() {
-    for d in [2, 4, 8, 16, 32, 64] {
-        let s = Settings::new(d, 1, 17, 1);
+    for d in [2, 4, 8, 16, 32, 64, 128] {
+        let s = Settings::new(d, 1, 12_289, 1);
         let size = 2 * d as usize;
         let (mut key, mut message) = (vec![1; size], vec![1; size]);
         assert_eq!(fold(s, 0, 2 * d, &mut key, &mut message), 10);
@@ -232,6 +237,40 @@ fn known_exponents() {
 fn exponents_0_and_d_differ() {
     assert_eq!(doubled_inverse(4, 0, 4), element(&[1, 0, 0, 0]));
     assert_eq!(doubled_inverse(4, 4, 0), element(&[-1, 0, 0, 0]));
+}
+
+/// Document 02, point 5: degree 128 with modulus 12289 alone.
+#[test]
+fn degree_128_has_one_modulus() {
+    let number = |d, q| {
+        let s = Settings::new(d, 1, q, 1);
+        let other = refuse::settings(s).err().unwrap_or(0);
+        assert_eq!(refusals::settings(s), other, "{s:?}");
+        other
+    };
+    assert_eq!(number(128, 12_289), 0);
+    let moduli = [12_287, 12_291, 24_578, 3, 17, LARGEST_MODULUS];
+    for q in moduli.into_iter().chain([0, 1, 12_288, 1 << 61, u64::MAX]) {
+        assert_eq!(number(128, q), 3, "{q}");
+    }
+    assert_eq!(number(256, 12_289), 3);
+    assert_eq!(number(127, 12_289), 3);
+    assert_eq!(number(64, 12_288), 5);
+    assert_eq!(number(64, 12_289), 0);
+}
+
+/// X^128 = -1: a monomial times a monomial.
+#[test]
+fn products_at_degree_128() {
+    let s = Settings::new(128, 0, 12_289, 127);
+    for (i, j, place, value) in [(127, 1, 0, 12_287), (127, 127, 126, 12_287), (3, 4, 7, 2)] {
+        let (mut key, mut message) = ([0; 128], [0; 128]);
+        key[i] = 1;
+        message[j] = 2;
+        let mut wanted = ZERO_RESIDUES;
+        wanted[place] = value;
+        assert_eq!(commit(s, &key, &message).commitment, wanted);
+    }
 }
 
 #[test]

@@ -11,7 +11,7 @@ use reference::types::*;
 /// All degrees and depths with at most `most` coefficients in a table.
 fn sizes(most: usize) -> Vec<(u32, u32)> {
     let mut list = Vec::new();
-    for degree in [2u32, 4, 8, 16, 32, 64] {
+    for degree in [2u32, 4, 8, 16, 32, 64, 128] {
         for depth in 0..=8 {
             if (degree as usize) << depth <= most {
                 list.push((degree, depth));
@@ -22,7 +22,10 @@ fn sizes(most: usize) -> Vec<(u32, u32)> {
 }
 
 fn drawn(random: &mut Random, degree: u32, depth: u32) -> OpeningInput {
-    let modulus = base::modulus(random);
+    let modulus = match degree {
+        128 => 12_289,
+        _ => base::modulus(random),
+    };
     let bound = base::bound(random);
     opening_at(random, Settings::new(degree, depth, modulus, bound))
 }
@@ -73,7 +76,9 @@ fn refused_prover_calls(
     while random.one_in(2) {
         let mut bad = s;
         let number = random.pick(&[3, 4, 5, 6]);
-        base::damage_settings(random, &mut bad, number);
+        if !base::damage_settings(random, &mut bad, number) {
+            continue;
+        }
         let t = random.below(10) as u32;
         let before = (key.to_vec(), message.to_vec());
         assert_eq!(fold(bad, t, 0, key, message), number);

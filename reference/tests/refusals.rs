@@ -336,8 +336,9 @@ fn extractions() {
 #[test]
 fn extractions_over_the_growth() {
     let mut random = Random::new(13);
-    for numbers in [&[][..], &[13], &[12], &[8, 13], &[3, 7, 10]] {
-        let settings = tree::growth_settings(&mut random);
+    let lists = [&[][..], &[13], &[12], &[8, 13], &[3, 7, 10]];
+    for numbers in lists.into_iter().chain(lists) {
+        let settings = tree::growth_settings(&mut random, &limits());
         let mut input = tree::free_at(&mut random, settings);
         assert_eq!(input.growth(), 14);
         let put = damage_by(&mut random, &mut input, numbers);

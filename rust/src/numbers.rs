@@ -3,6 +3,8 @@
 use core::fmt;
 use core::ops::Deref;
 
+use crate::Settings;
+
 /// Numbers that a call hands back by value: exactly as many as the settings
 /// ask for, in room for `MOST`, so that nothing is allocated. They are a slice
 /// wherever one is wanted.
@@ -25,7 +27,7 @@ pub struct Numbers<T, const MOST: usize> {
 }
 
 /// The largest degree.
-const DEGREE: usize = 64;
+const DEGREE: usize = Settings::LARGEST_DEGREE as usize;
 
 /// An element of residues, such as a commitment.
 ///

@@ -25,7 +25,7 @@ pub enum Refusal {
     /// A line not of the stated shape, or a text that does not begin with its
     /// settings.
     Text = 2,
-    /// The degree is not listed.
+    /// The degree is not listed, or is 128 with another modulus than 12289.
     Degree = 3,
     /// The depth is over 8.
     Depth = 4,

@@ -33,7 +33,7 @@ fn narrow(number: u64) -> u32 {
 
 impl Session {
     /// Numbers of a saved session: degree, depth, modulus, bound, rounds done,
-    /// closed (0 or 1), eight challenges, 64 places of the claim.
+    /// closed (0 or 1), eight challenges, 128 places of the claim.
     ///
     /// ```
     /// use wovenrock::{Session, Settings};
@@ -42,7 +42,7 @@ impl Session {
     /// assert_eq!(session.save().len(), Session::RECORD);
     /// # Ok::<(), wovenrock::Refusal>(())
     /// ```
-    pub const RECORD: usize = 78;
+    pub const RECORD: usize = 142;
 
     /// A session starts at a commitment, which has exactly
     /// [`Settings::element_len`] numbers. Refusals 7, 8.
@@ -177,7 +177,7 @@ impl Session {
         let session = Session { record };
         // A round by zeros, on a copy: it tests the whole record, and 11 is
         // about the round alone.
-        let degree = (record[0] as usize).min(64);
+        let degree = record[0].min(Settings::LARGEST_DEGREE.into()) as usize;
         match session.clone().round(&Polynomial::zeros(3 * degree), 0) {
             Ok(_) | Err(Refusal::Turn) => Ok(session),
             Err(refusal) => Err(refusal),

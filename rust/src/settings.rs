@@ -33,8 +33,29 @@ impl Settings {
     /// ```
     pub const LARGEST_MODULUS: u64 = 2_305_843_009_213_693_951;
 
-    /// The settings d (2, 4, 8, 16, 32 or 64), L (0 to 8), q (odd, 3 to
-    /// [`Settings::LARGEST_MODULUS`]) and B (1 to 127). Refusals 3 to 6, and no other call
+    /// The largest degree, and the one modulus with which it is allowed.
+    ///
+    /// ```
+    /// use wovenrock::{Refusal, Settings};
+    ///
+    /// let (d, q) = (Settings::LARGEST_DEGREE, Settings::MODULUS_OF_LARGEST_DEGREE);
+    /// assert_eq!((d, q), (128, 12_289));
+    /// assert!(Settings::new(d, 8, q, 127).is_ok());
+    /// assert_eq!(Settings::new(d, 8, q - 2, 127), Err(Refusal::Degree));
+    /// assert_eq!(Settings::new(d, 8, q - 1, 127), Err(Refusal::Degree));
+    /// ```
+    pub const LARGEST_DEGREE: u32 = 128;
+
+    /// See [`Settings::LARGEST_DEGREE`].
+    ///
+    /// ```
+    /// assert_eq!(wovenrock::Settings::MODULUS_OF_LARGEST_DEGREE, 12_289);
+    /// ```
+    pub const MODULUS_OF_LARGEST_DEGREE: u64 = 12_289;
+
+    /// The settings d (2, 4, 8, 16, 32 or 64, and 128 with modulus 12289
+    /// alone), L (0 to 8), q (odd, 3 to [`Settings::LARGEST_MODULUS`]) and B
+    /// (1 to 127). Refusals 3 to 6, and no other call
     /// than this, [`look`](crate::look) and [`read`](crate::read) gives those.
     ///
     /// ```

@@ -17,23 +17,29 @@ fn settings() -> Settings {
 
 #[test]
 fn moves_give_what_the_whole_opening_gives() -> Result<(), Refusal> {
-    moves_at(2_147_483_647, 66_000_000)?;
-    moves_at(Settings::LARGEST_MODULUS, 72_000_000_000_000_000)
+    let most = Settings::LARGEST_MODULUS;
+    moves_at(Settings::new(4, 3, 2_147_483_647, 2)?, 66_000_000)?;
+    moves_at(Settings::new(4, 3, most, 2)?, 72_000_000_000_000_000)?;
+    let its = Settings::MODULUS_OF_LARGEST_DEGREE;
+    for degree in [32, 64, Settings::LARGEST_DEGREE] {
+        moves_at(Settings::new(degree, 7, its, 2)?, 5)?;
+    }
+    Ok(())
 }
 
-/// The same with a modulus, and a key of multiples of a step.
-fn moves_at(q: u64, step: u64) -> Result<(), Refusal> {
-    let s = Settings::new(4, 3, q, 2)?;
-    let key: Vec<u64> = (1..=32).map(|i| i * step).collect();
-    let message: Vec<i32> = (0..32).map(|i| i % 5 - 2).collect();
-    let challenges = [7, 0, 5];
+/// The same with some settings, and a key of multiples of a step.
+fn moves_at(s: Settings, step: u64) -> Result<(), Refusal> {
+    let count = s.table_len();
+    let key: Vec<u64> = (1..=count as u64).map(|i| i * step % s.modulus()).collect();
+    let message: Vec<i32> = (0..count as i32).map(|i| i % 5 - 2).collect();
+    let challenges = &[7, 0, 5, 1, 4, 2, 6][..s.depth() as usize];
     let (mut whole_key, mut whole_message) = (key.clone(), message.clone());
     let mut rounds = vec![0; s.rounds_len()];
     let opened = open(
         s,
         &mut whole_key,
         &mut whole_message,
-        &challenges,
+        challenges,
         &mut rounds,
     )?;
     assert_eq!(opened.verdict, EndVerdict::Accepted);
@@ -41,7 +47,7 @@ fn moves_at(q: u64, step: u64) -> Result<(), Refusal> {
     let (mut moved_key, mut moved_message) = (key.clone(), message.clone());
     assert_eq!(commit(s, &key, &message)?, opened.commitment);
     let mut session = Session::start(s, &opened.commitment)?;
-    for (done, &challenge) in (0..).zip(&challenges) {
+    for (done, &challenge) in (0..).zip(challenges) {
         let polynomial = round(s, done, &moved_key, &moved_message)?;
         // a part of the whole opening's table is what a session's round takes
         let part = &rounds[done as usize * s.polynomial_len()..][..s.polynomial_len()];
@@ -49,11 +55,11 @@ fn moves_at(q: u64, step: u64) -> Result<(), Refusal> {
         assert_eq!(session.round(part, challenge)?, RoundVerdict::Holds);
         fold(s, done, challenge, &mut moved_key, &mut moved_message)?;
     }
-    let last = end(s, 3, &moved_message)?;
+    let last = end(s, s.depth(), &moved_message)?;
     assert_eq!(session.end(&last, &key)?, EndVerdict::Accepted);
     assert_eq!((moved_key, moved_message), (whole_key, whole_message));
     assert_eq!(last, opened.last);
-    assert_eq!(session.challenges()[..3], challenges);
+    assert_eq!(&session.challenges()[..challenges.len()], challenges);
     Ok(())
 }
 

@@ -37,4 +37,8 @@ fn version_and_lengths() {
     assert_eq!(defined("TEXT"), LONGEST_TEXT.to_string());
     let most = format!("UINT64_C({})", Settings::LARGEST_MODULUS);
     assert_eq!(defined("MODULUS_MAX"), most);
+    let degree = Settings::LARGEST_DEGREE.to_string();
+    assert_eq!(defined("DEGREE_MAX"), degree);
+    let its = format!("UINT64_C({})", Settings::MODULUS_OF_LARGEST_DEGREE);
+    assert_eq!(defined("MODULUS_OF_DEGREE_MAX"), its);
 }

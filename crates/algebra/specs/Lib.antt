@@ -5,6 +5,7 @@ pub mod Hom
 pub mod Integers
 pub mod Solver
 pub mod Certificate
+pub mod Transform
 pub mod Inner
 pub mod Residues
 pub mod Negacyclic

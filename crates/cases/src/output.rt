@@ -2,8 +2,10 @@
 use protocol::Session;
 use protocol::Settings;
 use protocol::Verdict;
+use protocol::WIDTH;
 use ranges::tests;
 ghost use Prim.Native.Nat.{_≤_};
+ghost use Rattle.protocol.specs.Layout.{width};
 
 pub fn first(x: u32) {
     io::print_decimal(1, x as u64);
@@ -100,10 +102,10 @@ pub fn text(t: &[u8]) {
 }
 
 // The places of an element up to the last one that is not 0.
-fn places(a: &[u64; 64]) -> usize
-    ensures { λ r. ⌜ r ≤ 64 ⌝ }
+fn places(a: &[u64; WIDTH]) -> usize
+    ensures { λ r. ⌜ r ≤ width ⌝ }
 {
-    let mut n: usize = 64;
+    let mut n: usize = WIDTH;
     while n > 0 {
         if a[n - 1] != 0 {
             return n;
@@ -113,10 +115,10 @@ fn places(a: &[u64; 64]) -> usize
     0
 }
 
-fn signed_places(a: &[i32; 64]) -> usize
-    ensures { λ r. ⌜ r ≤ 64 ⌝ }
+fn signed_places(a: &[i32; WIDTH]) -> usize
+    ensures { λ r. ⌜ r ≤ width ⌝ }
 {
-    let mut n: usize = 64;
+    let mut n: usize = WIDTH;
     while n > 0 {
         if a[n - 1] != 0 {
             return n;
@@ -127,12 +129,12 @@ fn signed_places(a: &[i32; 64]) -> usize
 }
 
 // An element: how many places it has up to the last one that is not 0, and those places.
-pub fn element(a: [u64; 64]) {
+pub fn element(a: [u64; WIDTH]) {
     let n = places(&a);
     residues(&a[..n]);
 }
 
-pub fn signed_element(a: [i32; 64]) {
+pub fn signed_element(a: [i32; WIDTH]) {
     let n = signed_places(&a);
     signeds(&a[..n]);
 }

@@ -3,28 +3,32 @@ use crate::input::Input;
 use protocol::Parts;
 use protocol::Session;
 use protocol::Settings;
+use protocol::WIDTH;
 ghost use mathlib.Core.Path.{_≡_};
-ghost use Prim.Native.Nat.{_≤_};
+ghost use Prim.Native.Nat.{_*_, _≤_};
 ghost use lib.ListN.{length};
+ghost use Rattle.protocol.specs.Layout.{width};
 ghost use Rattle.cases.specs.Counted.{Counted};
 
-// Room for a key, a message, the rounds, challenges or leaves of a tree, and for a vector.
-pub fn residue_room() -> [u64; 16384]
-    ensures { λ r. ⌜ 16384 ≡ length r ⌝ }
+// Room for a key or a message, which have 2^8 elements at most, for the rounds, challenges or leaves of a tree, and for a vector.
+const ROOM: usize = 256 * WIDTH;
+
+pub fn residue_room() -> [u64; ROOM]
+    ensures { λ r. ⌜ 256 * width ≡ length r ⌝ }
 {
-    [0; 16384]
+    [0; ROOM]
 }
 
-pub fn challenge_room() -> [u32; 16384]
-    ensures { λ r. ⌜ 16384 ≡ length r ⌝ }
+pub fn challenge_room() -> [u32; ROOM]
+    ensures { λ r. ⌜ 256 * width ≡ length r ⌝ }
 {
-    [0; 16384]
+    [0; ROOM]
 }
 
-pub fn signed_room() -> [i32; 16384]
-    ensures { λ r. ⌜ 16384 ≡ length r ⌝ }
+pub fn signed_room() -> [i32; ROOM]
+    ensures { λ r. ⌜ 256 * width ≡ length r ⌝ }
 {
-    [0; 16384]
+    [0; ROOM]
 }
 
 pub fn wide_room() -> [i64; 1024]
@@ -202,12 +206,12 @@ pub fn settings(input: Input) -> SettingsTaken {
 
 // An element by value: a table whose places behind the ones given are 0.
 pub struct ElementTaken {
-    pub places: [u64; 64],
+    pub places: [u64; WIDTH],
     pub next: Input,
 }
 
 pub fn element(input: Input) -> ElementTaken {
-    let mut places = [0u64; 64];
+    let mut places = [0u64; WIDTH];
     let filled = residues(input, &mut places);
     let next = filled.next;
     ElementTaken {
@@ -217,12 +221,12 @@ pub fn element(input: Input) -> ElementTaken {
 }
 
 pub struct SignedTaken {
-    pub places: [i32; 64],
+    pub places: [i32; WIDTH],
     pub next: Input,
 }
 
 pub fn signed_element(input: Input) -> SignedTaken {
-    let mut places = [0i32; 64];
+    let mut places = [0i32; WIDTH];
     let filled = signeds(input, &mut places);
     let next = filled.next;
     SignedTaken {

@@ -6,6 +6,7 @@ use crate::tables;
 use protocol::Moved;
 use protocol::Session;
 use protocol::Settings;
+use protocol::WIDTH;
 use verifier::Verifier;
 
 // A record whose every field differs from what a start gives: a start must not look at the record before it.
@@ -19,13 +20,13 @@ fn used() -> Session {
     Session {
         settings: settings,
         done: 9,
-        claim: [7u64; 64],
+        claim: [7u64; WIDTH],
         challenges: [5u32; 8],
         closed: true,
     }
 }
 
-fn answer_start(settings: Settings, commitment: [u64; 64]) {
+fn answer_start(settings: Settings, commitment: [u64; WIDTH]) {
     let verifier = Verifier(used());
     let answer = verifier.start(settings, commitment);
     let next = answer.next;
@@ -51,7 +52,7 @@ fn answer_move(answer: Moved) {
     output::end();
 }
 
-fn answer_round(session: Session, polynomial: [[u64; 64]; 3], e: u32) {
+fn answer_round(session: Session, polynomial: [[u64; WIDTH]; 3], e: u32) {
     let verifier = Verifier(session);
     answer_move(verifier.round(polynomial, e));
 }
@@ -70,7 +71,7 @@ pub fn run_round(input: Input) -> Input {
     e.next
 }
 
-fn answer_end(session: Session, last: [i32; 64], key: &[u64]) {
+fn answer_end(session: Session, last: [i32; WIDTH], key: &[u64]) {
     let verifier = Verifier(session);
     answer_move(verifier.end(last, key));
 }
@@ -89,8 +90,8 @@ pub fn run_end(input: Input) -> Input {
 
 fn answer_check(
     settings: Settings,
-    commitment: [u64; 64],
-    last: [i32; 64],
+    commitment: [u64; WIDTH],
+    last: [i32; WIDTH],
     key: &[u64],
     rounds: &[u64],
     challenges: &[u32],

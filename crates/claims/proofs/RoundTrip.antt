@@ -8,6 +8,7 @@ use native.Mathlib.Omega.{arith}
 use lib.ListN.{length, getD, take, drop, List·getD-append}
 use lib.IntN.{ℤ, pos}
 use borrow.Author.Tests.{leb-true}
+use Rattle.protocol.specs.Element.{width}
 use Rattle.protocol.specs.declared.Settings.{Settings}
 use Rattle.protocol.specs.declared.Parts.{Parts}
 use Rattle.protocol.specs.Basic.{tabulate, among, choose, granted}
@@ -118,7 +119,7 @@ module _ (P : Parts) (text : List ℕ) (r : Readable P text) where
   settings-forth : pos (S .degree) ∷ pos (S .depth) ∷ pos (S .modulus) ∷ pos (S .bound) ∷ [] ≡ column 0 ls
   unfolding settingsIn settingIn
   settings-forth =
-      let wide : 127 ≤ narrowLimit = unfold narrowLimit in (omega arith) in
+      let wide : width ≤ narrowLimit = unfold narrowLimit in (omega arith) in
       let d = unsigned-pos narrowLimit (getD (valuesOf ls) 0 (pos 0)) (omega (arith, bounds .degree)) ∙ setting 0 (omega arith) in
       let l = unsigned-pos narrowLimit (getD (valuesOf ls) 1 (pos 0)) (omega (arith, bounds .depth)) ∙ setting 1 (omega arith) in
       let q = unsigned-pos valueLimit (getD (valuesOf ls) 2 (pos 0)) (bounds .modulus) ∙ setting 2 (omega arith) in

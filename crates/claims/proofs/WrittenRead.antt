@@ -9,6 +9,7 @@ use lib.ListN.{length, getD, drop}
 use lib.Seq.{take-append-seam}
 use lib.IntN.{ℤ, pos}
 use borrow.Author.Tests.{leb-true, le-leb, eqb-true, eq-eqb}
+use Rattle.protocol.specs.Element.{width}
 use Rattle.protocol.specs.declared.Settings.{Settings}
 use Rattle.protocol.specs.declared.Parts.{Parts}
 use Rattle.protocol.specs.Basic.{tabulate, all, choose, within, first, unless, granted}
@@ -78,7 +79,7 @@ module _ (S : Settings) (P : Parts) (t : Tables) where
   pub settings-back : Allowed S → settingsIn lines ≡ S
   unfolding settingsIn settingIn
   settings-back a =
-      let wide : 127 ≤ narrowLimit = unfold narrowLimit in (omega arith) in
+      let wide : width ≤ narrowLimit = unfold narrowLimit in (omega arith) in
       rw settings-values
       (λ j. record {
         degree = unsigned-small narrowLimit (S .degree) (omega (arith, a .degree)) j;

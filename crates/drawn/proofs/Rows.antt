@@ -4,6 +4,7 @@ use mathlib.Core.List.{List, [], _∷_, _++_, map}
 use Prim.Native.Nat.{ℕ, zero, suc, _-_}
 use lib.ListN.{length, replicate, drop}
 use lib.IntN.{ℤ, pos}
+use Rattle.protocol.specs.Element.{width}
 use Rattle.protocol.specs.declared.Settings.{Settings}
 use Rattle.protocol.specs.declared.Session.{Session}
 use Rattle.protocol.specs.declared.Parts.{Parts}
@@ -23,10 +24,10 @@ set d l q b = record { degree = d; depth = l; modulus = q; bound = b }
 
 -- an element that is passed by value, its places behind those given being 0
 unfoldable pub full : List ℕ → List ℕ
-full l = l ++ replicate (64 - length l) 0
+full l = l ++ replicate (width - length l) 0
 
 unfoldable pub fullSigned : List ℤ → List ℤ
-fullSigned l = l ++ replicate (64 - length l) (pos 0)
+fullSigned l = l ++ replicate (width - length l) (pos 0)
 
 unfoldable pub session : Settings → ℕ → List ℕ → List ℕ → Bool → Session
 session S done claim challenges closed = record { settings = S; done = done; claim = full claim; challenges = challenges; closed = closed }

@@ -17,7 +17,7 @@ use Rattle.protocol.specs.Transcript.{finalBounded, ending, endHolds, endMet, f
 use Rattle.protocol.proofs.Modulo.{modulo-lt, modulo-times}
 use Rattle.protocol.proofs.Tests.{every-at}
 use Rattle.protocol.specs.Opening.{left, keyAfter}
-use Rattle.products.specs.Sums.{multipleIs, Summable}
+use Rattle.products.specs.Sums.{multipleIs, Small, Summable}
 use Rattle.protocol.proofs.Agreement.{Alike, every-ext, end-same, first-same}
 use Rattle.protocol.proofs.OpeningLaws.{left-power}
 use Rattle.protocol.proofs.Ranges.{key-residues, below-everywhere}
@@ -32,7 +32,7 @@ module _ (S : Settings) (allowed : Ready S) (f : List ℤ) where
   unfolding size
   size-most = Nat.mul-le-mul {n₂ = 256} {m₂ = 127} (Nat.pow-le-pow-right {n = 2} (omega arith) {i = L} {j = 8} (omega arith)) (omega arith)
 
-  bounded-small : finalBounded S (signed f) ≡ true → (j : ℕ) → j < d → natAbs (getD f j (pos 0)) ≤ 2 ^ 15
+  bounded-small : finalBounded S (signed f) ≡ true → Small (2 ^ 16) d f
   unfolding finalBounded signed within
   bounded-small t j l = Nat.le-trans (leb-true _ _ (every-at d (λ k. within (size S * B) (signed f k)) t j l)) (omega (arith, size-most))
 
@@ -46,8 +46,10 @@ module _ (S : Settings) (allowed : Ready S) (f : List ℤ) where
         f-long = omega arith;
         g-long = omega arith;
       };
+      magnitude = 2 ^ 16;
+      magnitude-most = omega arith;
       few = omega (arith, allowed .degree-most);
-      small = λ j l. omega (arith, bounded-small t j (omega arith));
+      small = λ j l. bounded-small t j (omega arith);
       modulus-most = allowed .modulus-most;
       residues = λ j l. below j (omega arith);
     }

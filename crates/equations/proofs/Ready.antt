@@ -2,13 +2,14 @@
 use mathlib.Core.Path.{_≡_}
 use Prim.Native.Nat.{_%_, _≤_}
 use Rattle.protocol.specs.declared.Settings.{Settings}
+use Rattle.protocol.specs.Layout.{width}
 use Rattle.protocol.specs.Settings.{settingsRefusal, modulusMost}
 use Rattle.protocol.proofs.Inputs.{settings-valid}
 use Rattle.sizes.proofs.Limits as Limits
 
 pub record Ready (S : Settings) : Type 0 where
   pub degree-least : 2 ≤ S .degree
-  pub degree-most : S .degree ≤ 64
+  pub degree-most : S .degree ≤ width
   pub depth-most : S .depth ≤ 8
   pub modulus-odd : S .modulus % 2 ≡ 1
   pub modulus-least : 3 ≤ S .modulus

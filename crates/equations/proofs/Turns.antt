@@ -11,6 +11,7 @@ use Rattle.protocol.specs.declared.Settings.{Settings}
 use Rattle.protocol.specs.Basic.{sum}
 use Rattle.protocol.specs.Element.{Element, modulo, flips, around, rotate, residueAt}
 use Rattle.protocol.specs.Opening.{foldResidues, foldKey, keyAfter}
+use Rattle.protocol.proofs.SumLaws.{sum-split}
 use Rattle.protocol.proofs.Modulo.{modulo-lt, modulo-add, modulo-neg, modulo-again}
 use Rattle.protocol.proofs.Reading.{flat-front}
 use Rattle.protocol.proofs.Rotation.{rotate-plus}
@@ -45,11 +46,6 @@ sum-both : (n : ℕ) (f g : ℕ → ℤ) → sum n (λ i. f i +ℤ g i) ≡ sum 
 unfolding sum
 sum-both zero f g = sym (+ℤ-idl (pos 0))
 sum-both (suc n) f g = ap (λ x. x +ℤ (f n +ℤ g n)) (sum-both n f g) ∙ four (sum n f) (sum n g) (f n) (g n)
-
-sum-split : (n m : ℕ) (f : ℕ → ℤ) → sum (n + m) f ≡ sum n f +ℤ sum m (λ i. f (n + i))
-unfolding sum
-sum-split n zero f = ap (λ x. sum x f) (Nat.add-zero n) ∙ sym (+ℤ-idr (sum n f))
-sum-split n (suc m) f = ap (λ x. sum x f) (Nat.add-suc n m) ∙ ap (λ x. x +ℤ f (n + m)) (sum-split n m f) ∙ +ℤ-assoc (sum n f) _ (f (n + m))
 
 flips-add : (n : ℕ) (a b : ℤ) → flips n (a +ℤ b) ≡ flips n a +ℤ flips n b
 unfolding flips

@@ -2,12 +2,13 @@
 use protocol::Residue;
 use protocol::Settings;
 use protocol::WIDTH;
+use ranges::tests::DEPTH_MOST;
 use residues::elements;
 ghost use mathlib.Core.Path.{_≡_};
 ghost use Prim.Native.Nat.{_+_, _%_, _^_, _<_, _≤_};
 ghost use lib.ListN.{length, getD};
 ghost use Rattle.protocol.specs.Basic.{Provided};
-ghost use Rattle.protocol.specs.Layout.{exponentCount};
+ghost use Rattle.protocol.specs.Layout.{width, exponentCount};
 ghost use Rattle.protocol.specs.Opening.{keyAfter};
 ghost use Rattle.protocol.specs.Nodes.{Alike};
 ghost use Rattle.residues.specs.Lists.{spliced};
@@ -42,7 +43,7 @@ fn second_half(c: u32, m: usize, e: u32, x: &mut [u32])
 
 // The exponents of all elements: the challenges at the set bits of an index, added up. Returns how many they are.
 fn turns(settings: Settings, challenges: &[u32], x: &mut [u32]) -> u32
-    requires { ⌜ (0 < settings .degree) × (settings .degree ≤ 64) × (settings .depth ≤ 8) × (settings .depth ≤ length (now challenges)) × (256 ≤ length (now x)) ⌝ }
+    requires { ⌜ (0 < settings .degree) × (settings .degree ≤ width) × (settings .depth ≤ 8) × (settings .depth ≤ length (now challenges)) × (256 ≤ length (now x)) ⌝ }
     ensures { λ r. ⌜ (r ≡ 2 ^ settings .depth)
         × Provided (getD (now (x .entry)) 0 0 ≡ 0) (Turned (exponentCount settings) (settings .depth) (now (challenges .entry)) (settings .depth) (now (x .exit))) ⌝ }
 {
@@ -117,10 +118,10 @@ pub fn folded_key(settings: Settings, key: &[Residue], challenges: &[u32]) -> [R
     if settings.degree == 0 {
         return sum;
     }
-    if settings.degree > 64 {
+    if (settings.degree as usize) > WIDTH {
         return sum;
     }
-    if settings.depth > 8 {
+    if settings.depth > DEPTH_MOST {
         return sum;
     }
     if challenges.len() < (settings.depth as usize) {

@@ -33,7 +33,7 @@ use Rattle.claims.proofs.Sessions.{sessionAfter, start-answer, session-round-an
 use Rattle.slices.specs.Slices.{lent, polynomialOf, laid}
 use Rattle.protocol.specs.Session.{verdictNumber}
 use Rattle.slices.proofs.Laws.{element-back, whole-back, polynomial-there}
-use Rattle.sessions.specs.Records.{sessionOf, flagged, numbersOf, recordStored}
+use Rattle.sessions.specs.Records.{recordWidth, sessionOf, flagged, numbersOf, recordStored}
 use Rattle.sessions.specs.Promises.{startNumber, startExit, moveNumber, moveExit, moveVerdict, polynomialFits, roundOn, lastFits, endOn}
 use Rattle.sessions.proofs.Stored.{stored, numbers-length}
 use Rattle.sessions.proofs.Laws.{Whole, load-stored, flagged-stored, start-whole, move-whole}
@@ -53,7 +53,7 @@ module _ (S : Settings) (v : Valid S) (fits : Bool) (m : Moved) (r : Session) (e
   pub move-number : moveNumber fits m (numbersOf r) ≡ 0
   unfolding moveNumber
   move-number =
-      first-holds 7 _ _ (fit 78 (numbersOf r) (numbers-length r))
+      first-holds 7 _ _ (fit recordWidth (numbersOf r) (numbers-length r))
       ∙ first-only _
       ∙ ap (λ s. lent s (fits && flagged (numbersOf r)) (m .refusal)) e
       ∙ own S v _ _ (and-intro f (flagged-stored r))
@@ -90,14 +90,14 @@ module _ {S : Settings} {G : List ℕ} {M : List ℤ} {E : List ℕ} (ok : Given
     unfolding Border.commitExit
     commit-exit = granted-zero _ _ _ commit-number ∙ ap (λ (r : Committed). take d (r .commitment)) (commit-answer ok) ∙ element-back d (commitment S G M) commitment-long
 
-  module _ (r : List ℕ) (long : length r ≡ 78) where
+  module _ (r : List ℕ) (long : length r ≡ recordWidth) where
     start-granted : startRefusal S (padded d (commitment S G M)) ≡ 0
     unfolding start
     start-granted = ap (λ (x : Started). x .refusal) (start-answer ok)
 
     pub start-number : startNumber S (commitment S G M) r ≡ 0
     unfolding startNumber
-    start-number = own S (ok .settings) _ _ (and-intro (fit d (commitment S G M) commitment-long) (fit 78 r long)) ∙ start-granted
+    start-number = own S (ok .settings) _ _ (and-intro (fit d (commitment S G M) commitment-long) (fit recordWidth r long)) ∙ start-granted
 
     pub start-exit : startExit S (commitment S G M) r ≡ numbersOf (session 0)
     unfolding startExit start

@@ -33,6 +33,7 @@ use Rattle.protocol.specs.Judge.{slack, Opens}
 use Rattle.protocol.specs.Calls.{foldRefusal, foldKeyExit, foldMessageExit}
 use Rattle.protocol.specs.Text.{Tables, linesOf, settingsIn, tablesIn}
 use Rattle.protocol.specs.Demand3.{Step, moves, FullTree, FoldsOf}
+use Rattle.sessions.specs.Records.{recordWidth}
 use Rattle.sessions.specs.Promises.{startNumber, startExit, moveNumber, moveExit, moveVerdict, polynomialFits, roundOn, lastFits, endOn}
 use Rattle.text_calls.specs.Texts.{settingsNumbers}
 use Rattle.text_calls.specs.Promises.{lookNumber, readNumber, writeNumber}
@@ -226,7 +227,7 @@ pub data Run (S : Settings) (E : List ℕ) : List Step → State → State → T
 -- ════ an opening
 
 pub record Lengths (S : Settings) (r c p : List ℕ) (f : List ℤ) : Type 0 where
-  pub session : length r ≡ 78
+  pub session : length r ≡ recordWidth
   pub commitment : length c ≡ S .degree
   pub polynomial : length p ≡ 3 * S .degree
   pub last : length f ≡ S .degree

@@ -49,7 +49,7 @@ module _ (d : ℕ) (p : 0 < d) where
       twice : k * 2 ^ j + k * 2 ^ j ≡ k * 2 ^ suc j
       twice = sym (ap (λ n. k * n) (Nat.two-pow-succ j) ∙ Nat.mul-add k (2 ^ j) (2 ^ j))
 
-  module _ (D : ℕ) (is : d ≡ 2 ^ D) (most : D ≤ 6) where
+  module _ (D : ℕ) (is : d ≡ 2 ^ D) (most : D ≤ 7) where
     divided-read : (k : ℕ) → 0 < k → k < 2 * d → (a : Element) → (1# ⊕ ⊖ x^ k) ⊗ r (divided d k a) ≡ two RZ ⊗ r a
     unfolding divided two
     divided-read k q l a = summed-read k (doublings d k) a ∙ ap (λ t. (1# ⊕ ⊖ t) ⊗ r a) half ∙ ap (λ t. (1# ⊕ t) ⊗ r a) (R.neg-neg RZ 1#)

@@ -31,7 +31,7 @@ module _ {S : Settings} {E : List ℕ} {finals : List ℤ} (X : Extractable S E 
   some = subst (λ x. 0 < x) (sym (X .valid .degree-is)) (Pow.pow-pos (X .valid .log))
 
   pub small : d ≤ width
-  small = subst (λ x. x ≤ width) (sym (X .valid .degree-is)) (Pow.pow-mono {i = X .valid .log} {j = 6} (X .valid .log-most))
+  small = subst (λ x. x ≤ width) (sym (X .valid .degree-is)) (Pow.pow-mono {i = X .valid .log} {j = 7} (X .valid .log-most))
 
   leaves-within : (j : ℕ) → j < leaves S → Bounded d (size S * B) (signed (leaf S finals j))
   unfolding leaf signedAt

@@ -21,7 +21,7 @@ use Rattle.residues.proofs.Fill.{filled, filled-at, filled-behind, filled-lengt
 use Rattle.protocol.proofs.Agreement.{rotate-same}
 use Rattle.protocol.proofs.Rotation.{rotate-mod}
 use Rattle.extraction.specs.Bounds.{Summable, Doubling}
-use Rattle.extraction.specs.Steps.{rotatedAdded, summed, doublings, divided}
+use Rattle.extraction.specs.Steps.{rotatedAdded, summed, doublingsMost, doublings, divided}
 
 -- ---- doubling on the circle
 
@@ -91,9 +91,9 @@ met (suc D) k p l = elim (ℕ-discrete (k % 2) 0) [
 abbrev meets : ℕ → ℕ → ℕ → Bool
 meets d k j = eqb (k * 2 ^ j % (2 * d)) d
 
-pub doublings-are : (d k j : ℕ) → j ≤ 7 → (j < 7 → k * 2 ^ j % (2 * d) ≡ d) → ((i : ℕ) → i < j → meets d k i ≡ false) → doublings d k ≡ j
+pub doublings-are : (d k j : ℕ) → j ≤ doublingsMost → (j < doublingsMost → k * 2 ^ j % (2 * d) ≡ d) → ((i : ℕ) → i < j → meets d k i ≡ false) → doublings d k ≡ j
 unfolding doublings
-doublings-are d k j h t none = least-is 7 (meets d k) j (record { at-most = h; holds = λ l. eq-eqb _ _ (t l); none-before = none })
+doublings-are d k j h t none = least-is doublingsMost (meets d k) j (record { at-most = h; holds = λ l. eq-eqb _ _ (t l); none-before = none })
 
 module _ (d k D : ℕ) (is : d ≡ 2 ^ D) (p : 0 < k) (l : k < 2 * d) where
   M : Met D k
@@ -109,18 +109,18 @@ module _ (d k D : ℕ) (is : d ≡ 2 ^ D) (p : 0 < k) (l : k < 2 * d) where
     | no g ↦ absurd (false≢true (sym (none (M .after) (omega arith)) ∙ eq-eqb _ _ M-is))
   ]
 
-  pub doublings-meet : D ≤ 6 → k * 2 ^ doublings d k % (2 * d) ≡ d
+  pub doublings-meet : D ≤ 7 → k * 2 ^ doublings d k % (2 * d) ≡ d
   unfolding doublings
-  doublings-meet h = let f = least-first 7 (meets d k) in eqb-true _ _ (f .holds (elim (decLt (least 7 (meets d k)) 7) [
+  doublings-meet h = let f = least-first doublingsMost (meets d k) in eqb-true _ _ (f .holds (elim (decLt (least doublingsMost (meets d k)) doublingsMost) [
     | yes g ↦ g
     | no g ↦ absurd (false≢true (sym (f .none-before (M .after) (omega (arith, M .at-most, f .at-most))) ∙ eq-eqb _ _ M-is))
   ]))
 
   pub doublings-within : 2 ^ doublings d k ≤ d
   unfolding doublings
-  doublings-within = let f = least-first 7 (meets d k) in elim (decLt (M .after) (least 7 (meets d k))) [
+  doublings-within = let f = least-first doublingsMost (meets d k) in elim (decLt (M .after) (least doublingsMost (meets d k))) [
     | yes g ↦ absurd (false≢true (sym (f .none-before (M .after) g) ∙ eq-eqb _ _ M-is))
-    | no g ↦ subst (λ n. 2 ^ least 7 (meets d k) ≤ n) (sym is) (Pow.pow-mono {i = least 7 (meets d k)} (omega (arith, M .at-most)))
+    | no g ↦ subst (λ n. 2 ^ least doublingsMost (meets d k) ≤ n) (sym is) (Pow.pow-mono {i = least doublingsMost (meets d k)} (omega (arith, M .at-most)))
   ]
 
 -- ---- the sums

@@ -37,7 +37,7 @@ module _ (d k m e : ℕ) (a : List ℤ) (W : Weighable d k m e a) where
   some = omega (arith, F .degree-is, Pow.pow-pos (F .log))
 
   pub small : d ≤ width
-  small = omega (arith, F .degree-is, Pow.pow-mono {i = F .log} {j = 6} (F .log-most))
+  small = omega (arith, F .degree-is, Pow.pow-mono {i = F .log} {j = 7} (F .log-most))
 
   once : d * B ≤ d * (d * B)
   once = omega (arith, Nat.mul-le-mul-right (d * B) some, Nat.one-mul (d * B))

@@ -33,7 +33,7 @@ pub record Summable (d : ℕ) (a l : List ℤ) : Type 0 where
 
 pub record Doubling (d k : ℕ) (a : List ℤ) : Type 0 where
   pub log : ℕ
-  pub log-most : log ≤ 6
+  pub log-most : log ≤ 7
   pub degree-is : d ≡ 2 ^ log
   pub some : 0 < k
   pub exponent : k < 2 * d
@@ -44,7 +44,7 @@ pub record Doubling (d k : ℕ) (a : List ℤ) : Type 0 where
 
 pub record Factors (d k m e bound : ℕ) : Type 0 where
   pub log : ℕ
-  pub log-most : log ≤ 6
+  pub log-most : log ≤ 7
   pub degree-is : d ≡ 2 ^ log
   pub first : (0 < k) × (k < 2 * d)
   pub second : (0 < m) × (m < 2 * d)

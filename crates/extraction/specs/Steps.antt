@@ -4,7 +4,8 @@
 --   spreadAdded d i x l      the list l with d numbers of x, from place i on, added to its first d numbers
 --   rotatedAdded d e a l     l with X^e·a added to its first d numbers
 --   summed d k j a           a·(1 + X^k)·(1 + X^2k)·(1 + X^4k)·…, j factors
---   doublings d k            how often k is doubled until it is d on the circle of 2d exponents; 7 where that is not met
+--   doublingsMost            8: one more than an odd k takes at the largest degree, 2^7
+--   doublings d k            how often k is doubled until it is d on the circle of 2d exponents; `doublingsMost` where that is not met
 --   divided d k a            2·a divided by 1 − X^k, where d is a power of two and k no multiple of 2d (Mu)
 --   weighted d k₁ k₂ e a     the same for two k, times 1 + X^e
 use mathlib.Core.Path.{_≡_}
@@ -30,8 +31,11 @@ unfoldable pub summed : ℕ → ℕ → ℕ → Element → Element
 summed d k zero a = a
 summed d k (suc j) a = plus (summed d k j a) (rotate d (k * 2 ^ j) (summed d k j a))
 
+abbrev pub doublingsMost : ℕ
+doublingsMost = 8
+
 unfoldable pub doublings : ℕ → ℕ → ℕ
-doublings d k = least 7 (λ j. eqb (k * 2 ^ j % (2 * d)) d)
+doublings d k = least doublingsMost (λ j. eqb (k * 2 ^ j % (2 * d)) d)
 
 unfoldable pub divided : ℕ → ℕ → Element → Element
 divided d k a = summed d k (doublings d k) a

@@ -57,7 +57,7 @@ withShare d n e m v R =
 
 pub record Sharing (d n a b c : ℕ) (l : List ℤ) : Type 0 where
   pub log : ℕ
-  pub log-most : log ≤ 6
+  pub log-most : log ≤ 7
   pub degree-is : d ≡ 2 ^ log
   pub some : 0 < d
   pub small : d ≤ width

@@ -68,13 +68,16 @@ fn add_own(d: usize, e: usize, a: &mut [i64], x: &mut [i64])
     add_spread(d, e, x, a);
 }
 
+// Doublings from any exponent to that of −1, and one more: `doublingsMost` of the definitions.
+const DOUBLINGS_MOST: usize = 8;
+
 // 2·a divided by 1 − X^k, in place of a: a·(1 + X^k)·(1 + X^2k)·(1 + X^4k) and so on, until the next power is X^d, which is −1.
 fn divide(d: usize, k: usize, a: &mut [i64], x: &mut [i64])
     requires { ⌜ (3 * d ≤ length (now x)) × Doubling d k (now a) ⌝ }
     ensures { λ _. ⌜ now (a .exit) ≡ filled (divided d k (signed (now (a .entry)))) d (now (a .entry)) ⌝ }
 {
     let mut e = k;
-    for j in 0..7usize {
+    for j in 0..DOUBLINGS_MOST {
         if e == d {
             return;
         }

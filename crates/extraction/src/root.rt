@@ -9,7 +9,7 @@ ghost use Rattle.protocol.specs.Settings.{cells};
 ghost use Rattle.protocol.specs.Tree.{rootVector};
 ghost use Rattle.extraction.specs.Nodes.{vectorRoom, Extractable};
 
-// The most numbers of a vector where the growth is within its limit (16 elements at d = 64), and room for two vectors: a node's own and its children's work.
+// The most numbers of a vector where the growth is within its limit (8 elements at d = 128), and room for two vectors: a node's own and its children's work.
 const VECTOR: usize = 1024;
 
 const WORKSPACE: usize = 2 * VECTOR;

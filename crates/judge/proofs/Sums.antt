@@ -46,7 +46,7 @@ module _ (S : Settings) (key : List ℕ) (w : List ℤ) (v : Vector S key w) whe
   pub degree-some : 0 < d
   degree-some = omega (arith, degree-least S valid)
 
-  pub degree-few : d ≤ 64
+  pub degree-few : d ≤ width
   degree-few = degree-most S valid
 
   pub modulus-given : Modulus q
@@ -86,6 +86,8 @@ module _ (S : Settings) (key : List ℕ) (w : List ℤ) (v : Vector S key w) whe
         f-long = omega (arith, all, room);
         g-long = unfold cells in omega (arith, v .key-given .long);
       };
+      magnitude = 65536;
+      magnitude-most = omega arith;
       few = omega (arith, all, v .few, v .long);
       small = λ p l. omega (arith, ap natAbs (digit-at p (omega (arith, all))), digit-most q base (getD w p (pos 0)));
       modulus-most = valid .modulus-most;

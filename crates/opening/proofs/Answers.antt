@@ -70,7 +70,7 @@ module _ (S : Settings) (G : List ℕ) (M : List ℤ) (E R : List ℕ) where
   module _ (passed : openingRefusal S G M E R ≡ 0) (C : List ℕ) (f : List ℤ) (v : Verdict) (r : State) (begun-rounds claim key : List ℕ) (message : List ℤ) (rounds : List ℕ)
       (begins : commitRefusal S G M ≡ 0 → Begun S G M (zeros width) R C begun-rounds)
       (turn : ProverTurn S E (record { done = 0; holds = true }) C G M begun-rounds r claim key message rounds)
-      (ends : d ≤ 64 → f ≡ paddedSigned d (coefficients d (signedAt d message 0)))
+      (ends : d ≤ width → f ≡ paddedSigned d (coefficients d (signedAt d message 0)))
       (says : ElementsGiven S (length claim) (length f) (length key) → ElementReduced S key → v ≡ verdict (r .holds && endMet S claim (signed f) (residue key)))
       (wide : length f ≡ width) where
     given : Lent S G M E R

@@ -39,8 +39,7 @@ module _ (S : Settings) (pq : 0 < S .modulus) (G : List ℕ) (M : List ℤ) (E R
         holds-is = refl;
       }
 
-  module _ (long : length R ≡ roundCells S) (allowed : settingsRefusal S ≡ 0) (s : State) (l : s .done < L) (rounds : List ℕ)
-      (is : rounds ≡ front (roundTable S E G M) R (3 * suc (s .done) * d + d)) where
+  module _ (long : length R ≡ roundCells S) (allowed : settingsRefusal S ≡ 0) (s : State) (l : s .done < L) (rounds : List ℕ) (is : rounds ≡ front (roundTable S E G M) R (3 * suc (s .done) * d + d)) where
     abbrev t : ℕ
     t = s .done
 

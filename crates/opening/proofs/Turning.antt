@@ -105,8 +105,7 @@ module _ (S : Settings) (t e : ℕ) (claim key : List ℕ) (message : List ℤ) 
     between-is : between ≡ front X R (3 * suc t * d)
     between-is =
         rests (subst (λ k. Continuing S t k message claim (drop (polynomialAt d t) rounds)) (sym (at .key-is))
-        (subst (λ m. Continuing S t (keyAfter S E t G) m claim (drop (polynomialAt d t) rounds)) (sym (at .message-is))
-        (continuing S G M E R given t l claim rounds claim-long claim-is (at .rounds-is))))
+        (subst (λ m. Continuing S t (keyAfter S E t G) m claim (drop (polynomialAt d t) rounds)) (sym (at .message-is)) (continuing S G M E R given t l claim rounds claim-long claim-is (at .rounds-is))))
         ∙ (λ i. restStored S t (at .key-is i) (at .message-is i) (at .rounds-is i))
         ∙ front-rest S modulus G M E R long t l
 

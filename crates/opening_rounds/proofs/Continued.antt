@@ -13,6 +13,7 @@ use Rattle.protocol.specs.Settings.{size, half}
 use Rattle.protocol.specs.Layout.{left}
 use Rattle.protocol.specs.Opening.{inner, cross, halfLeft, commitment, roundElement}
 use Rattle.protocol.specs.Inputs.{Valid}
+use Rattle.protocol.proofs.SumLaws.{sum-split}
 use Rattle.protocol.proofs.Modulo.{reduced-at, modulo-lt, modulo-add, modulo-times}
 use Rattle.protocol.proofs.Ranges.{round-below}
 use Rattle.residues.specs.Lists.{filled, spliced}
@@ -58,11 +59,6 @@ written-sum q d p a b c is x y ex ey out = filled-ext _ _ d out (λ k h.
     (λ i. (value-at q d a x ex k h i + value-at q d b y ey k h i) % q) ∙ sym (modulo-add q p (a k) (b k)) ∙ ap (modulo q) (is k) ∙ sym (reduced-at q d c k h))
 
 -- ---- an inner product in two parts
-
-sum-split : (n m : ℕ) (f : ℕ → ℤ) → sum (n + m) f ≡ sum n f +ℤ sum m (λ i. f (n + i))
-unfolding sum
-sum-split n zero f = ap (λ x. sum x f) (Nat.add-zero n) ∙ sym (+ℤ-idr (sum n f))
-sum-split n (suc m) f = ap (λ x. sum x f) (Nat.add-suc n m) ∙ ap (λ x. x +ℤ f (n + m)) (sum-split n m f) ∙ +ℤ-assoc (sum n f) (sum m (λ i. f (n + i))) (f (n + m))
 
 module _ (q d n h : ℕ) (m : List ℤ) (G : List ℕ) (t : Tables q d n m G) (part : h ≤ n) where
   -- the second parts, as the code hands them on

@@ -1,3 +1,4 @@
 pub mod Standing
 pub mod SumsOfHalves
 pub mod Ends
+pub mod Batching

@@ -9,7 +9,7 @@ use lib.IntN.{ℤ, pos, natAbs, _+ℤ_, +ℤ-idl}
 use lib.ListN.{length, getD, take, drop}
 use Rattle.algebra.specs.Magnitude.{natAbs-neg, natAbs-add, natAbs-mul}
 use Rattle.protocol.specs.Basic.{sum}
-use Rattle.protocol.specs.Element.{Element, modulo, flips, around, rotate, plus, product, residue, signed, residueAt, signedAt, zeros}
+use Rattle.protocol.specs.Element.{Element, width, modulo, flips, around, rotate, plus, product, residue, signed, residueAt, signedAt, zeros}
 use Rattle.protocol.specs.Opening.{inner}
 use Rattle.protocol.proofs.Agreement.{Same, product-same}
 use Rattle.protocol.proofs.Reading.{row-inside}
@@ -21,9 +21,9 @@ use Rattle.rows.specs.Rows.{narrowed, addRows, Prepared}
 use Rattle.joins.specs.Sums.{weight, upperHalf, Halves, Stand}
 use Rattle.joins.proofs.Joining.{halves-none, halves-within, halves-lower, halves-add}
 use Rattle.joins.proofs.RowHalves.{lower-adds, both-add}
-use Rattle.products.specs.Sums.{Stands, Small, Addable, Finished, Summable}
+use Rattle.products.specs.Sums.{Zero, Stands, Small, Addable, Finished, Summable}
 
--- ---- one product by columns: it is at most d·2^48 from 0
+-- ---- one product by columns: where the numbers of f are within ±m it is at most d·m·2^32 from 0
 
 pub sum-most : (n b : ℕ) (f : ℕ → ℤ) → ((i : ℕ) → i < n → natAbs (f i) ≤ b) → natAbs (sum n f) ≤ n * b
 unfolding sum
@@ -35,7 +35,7 @@ unfolding flips
 flips-size zero z = refl
 flips-size (suc n) z = natAbs-neg (flips n z) ∙ flips-size n z
 
-module _ (d : ℕ) (pd : 0 < d) (f : List ℤ) (g : List ℕ) (k : ℕ) (small : Small d f) (below : (j : ℕ) → j < d → getD g j 0 < 2 ^ 32) where
+module _ (d m : ℕ) (pd : 0 < d) (f : List ℤ) (g : List ℕ) (k : ℕ) (small : Small m d f) (below : (j : ℕ) → j < d → getD g j 0 < 2 ^ 32) where
   turned-most : (i : ℕ) → natAbs (rotate d i (residue g) k) ≤ 2 ^ 32
   turned-most i = unfold rotate around residue in
       omega (
@@ -44,10 +44,10 @@ module _ (d : ℕ) (pd : 0 < d) (f : List ℤ) (g : List ℕ) (k : ℕ) (small :
         below ((k + (2 * d - i % (2 * d))) % d) (Nat.mod-lt (k + (2 * d - i % (2 * d))) pd),
       )
 
-  product-most : natAbs (product d (signed f) (residue g) k) ≤ d * 2 ^ 48
+  product-most : natAbs (product d (signed f) (residue g) k) ≤ d * (m * weight)
   unfolding product signed
-  product-most = sum-most d (2 ^ 48) _ (λ i l. subst (λ n. n ≤ 2 ^ 48) (sym (natAbs-mul (getD f i (pos 0)) (rotate d i (residue g) k)))
-      (Nat.le-trans (Nat.mul-le-mul {n₂ = 2 ^ 16} {m₂ = 2 ^ 32} (small i l) (turned-most i)) (omega arith)))
+  product-most = sum-most d (m * weight) _ (λ i l. subst (λ n. n ≤ m * weight) (sym (natAbs-mul (getD f i (pos 0)) (rotate d i (residue g) k)))
+      (Nat.mul-le-mul {n₂ = m} {m₂ = weight} (small i l) (turned-most i)))
 
   below-same : Same d (narrow g) (residue g)
   unfolding narrow residue
@@ -58,7 +58,7 @@ module _ (d : ℕ) (pd : 0 < d) (f : List ℤ) (g : List ℕ) (k : ℕ) (small :
 
 -- ---- a product more
 
-module _ (q d : ℕ) (f : List ℤ) (g : List ℕ) (x₀ s₀ t₀ : ℕ) (ok : Addable q d f g x₀ s₀ t₀) (F : Element) (count : ℕ) (s t : List ℕ) (at : Stands q d F count s t) where
+module _ (q d m : ℕ) (f : List ℤ) (g : List ℕ) (x₀ s₀ t₀ : ℕ) (ok : Addable q d m f g x₀ s₀ t₀) (F : Element) (count : ℕ) (s t : List ℕ) (at : Stands q d F count s t) where
   p : 0 < q
   p = ok .elements .modulus
 
@@ -66,49 +66,53 @@ module _ (q d : ℕ) (f : List ℤ) (g : List ℕ) (x₀ s₀ t₀ : ℕ) (ok : 
   pd = ok .elements .degree
 
   abbrev After : List ℕ → List ℕ → Type 0
-  After = Stands q d (plus F (product d (signed f) (residue g))) (count + d)
+  After = Stands q d (plus F (product d (signed f) (residue g))) (count + d * m)
 
-  within : count * 2 ^ 48 + d * (2 ^ 16 * weight) ≤ (count + d) * 2 ^ 48
-  within = omega arith
+  within : count * 2 ^ 32 + d * (m * weight) ≤ (count + d * m) * 2 ^ 32
+  within = omega (arith, Nat.mul-assoc d m weight)
 
   pub columns-stand : q < weight → (s′ : List ℕ) → s′ ≡ addColumns d f g s → After s′ t
   unfolding plus addColumns
   columns-stand few s′ e = record {
     each = λ k l.
-        let below : (j : ℕ) → j < d → getD g j 0 < 2 ^ 32 = λ j m. omega (arith, ok .residues j m) in
+        let below : (j : ℕ) → j < d → getD g j 0 < 2 ^ 32 = λ j lj. omega (arith, ok .residues j lj) in
         let H = at .each k l in
         let y = product d (signed f) (residue g) k in
-        halves-within q _ _ _ _ _ (omega arith) (
-        halves-add q p (F k) y _ (d * 2 ^ 48) _ _ _ _ (modulo (2 ^ 64) y) 0 H (halves-lower q y (d * 2 ^ 48) (product-most d pd f g k (ok .small) below))
-        (ap (λ l. getD l k 0) e ∙ filled-at _ d s 0 k l ∙ ap (λ z. modulo (2 ^ 64) (pos (getD s k 0) +ℤ z)) (narrow-same d pd f g k (ok .small) below) ∙ sym (word-add (getD s k 0) _ y refl))
+        halves-within q _ _ _ _ _ within (
+        halves-add q p (F k) y _ (d * (m * weight)) _ _ _ _ (modulo (2 ^ 64) y) 0 H (halves-lower q y (d * (m * weight)) (product-most d m pd f g k (ok .small) below))
+        (ap (λ l. getD l k 0) e ∙ filled-at _ d s 0 k l ∙ ap (λ z. modulo (2 ^ 64) (pos (getD s k 0) +ℤ z)) (narrow-same d m pd f g k (ok .small) below) ∙ sym (word-add (getD s k 0) _ y refl))
         (omega (arith, H .none few)));
   }
 
   pub lower-stand : q < weight → (x s′ : List ℕ) → Prepared q d g x → s′ ≡ addRows d f (narrowed x) d s → After s′ t
   unfolding plus
   lower-stand few x s′ ready e = record {
-    each = λ k l. halves-within q _ _ _ _ _ within (lower-adds q d p (ok .modulus-most) pd g f (2 ^ 16) (ok .small) x ready (F k) _ k s t l (at .each k l) few s′ e);
+    each = λ k l. halves-within q _ _ _ _ _ within (lower-adds q d p (ok .modulus-most) pd g f m (ok .small) x ready (F k) _ k s t l (at .each k l) few s′ e);
   }
 
   pub both-stand : (x x′ s′ t′ : List ℕ) → Prepared q d g x → x′ ≡ filled (λ y. upperHalf (getD x y 0)) (3 * d) x → s′ ≡ addRows d f (narrowed x) d s → t′ ≡ addRows d f (narrowed x′) d t → After s′ t′
   unfolding plus
   both-stand x x′ s′ t′ ready ex es et = record {
-    each = λ k l. halves-within q _ _ _ _ _ within (both-add q d p (ok .modulus-most) pd g f (2 ^ 16) (ok .small) x ready (F k) _ k s t l (at .each k l) x′ s′ t′ ex es et);
+    each = λ k l. halves-within q _ _ _ _ _ within (both-add q d p (ok .modulus-most) pd g f m (ok .small) x ready (F k) _ k s t l (at .each k l) x′ s′ t′ ex es et);
   }
 
 -- ---- the sums of an inner product, an element more at a time
 
-pub stands-none : (q d : ℕ) → 0 < q → (F G : ℕ → Element) → Stands q d (inner d 0 F G) 0 (zeros 64) (zeros 64)
+pub stands-zero : (q d : ℕ) → 0 < q → (F G : ℕ → Element) (s t : List ℕ) → Zero s → Zero t → Stands q d (inner d 0 F G) 0 s t
 unfolding inner sum
-stands-none q d p F G = record { each = λ k l. rw (zeros-at 64 k) (halves-none q p) }
+stands-zero q d p F G s t zs zt = record { each = λ k l. rw (zs k, zt k) (halves-none q p) }
 
-pub stands-first : (q d : ℕ) (F : Element) (s t : List ℕ) → Stands q d F 0 s t → Stands q d F (0 * d) s t
-stands-first q d F s t = rw (Nat.zero-mul d) (λ at. at)
+pub stands-none : (q d : ℕ) → 0 < q → (F G : ℕ → Element) → Stands q d (inner d 0 F G) 0 (zeros width) (zeros width)
+stands-none q d p F G = stands-zero q d p F G _ _ (zeros-at width) (zeros-at width)
 
-pub stands-more : (q d : ℕ) → 0 < d → (F G : ℕ → Element) (i : ℕ) (f : List ℤ) (g s t : List ℕ) → Same d (signed f) (F i) → Same d (residue g) (G i)
-    → Stands q d (plus (inner d i F G) (product d (signed f) (residue g))) (i * d + d) s t → Stands q d (inner d (i + 1) F G) ((i + 1) * d) s t
+-- each element adds at most w halves
+pub stands-first : (q d w : ℕ) (F : Element) (s t : List ℕ) → Stands q d F 0 s t → Stands q d F (0 * w) s t
+stands-first q d w F s t = rw (Nat.zero-mul w) (λ at. at)
+
+pub stands-more : (q d w : ℕ) → 0 < d → (F G : ℕ → Element) (i : ℕ) (f : List ℤ) (g s t : List ℕ) → Same d (signed f) (F i) → Same d (residue g) (G i)
+    → Stands q d (plus (inner d i F G) (product d (signed f) (residue g))) (i * w + w) s t → Stands q d (inner d (i + 1) F G) ((i + 1) * w) s t
 unfolding plus inner sum
-stands-more q d pd F G i f g s t ef eg at = record { each = λ k l. rw (add-one i, Nat.suc-mul i d, ← product-same {d = d} pd ef eg k) (at .each k l) }
+stands-more q d w pd F G i f g s t ef eg at = record { each = λ k l. rw (add-one i, Nat.suc-mul i w, ← product-same {d = d} pd ef eg k) (at .each k l) }
 
 -- element i of two tables, as the code lends it
 module _ (q d n i : ℕ) (f : List ℤ) (g : List ℕ) (z : Summable q d n f g) (inside : i < n) where
@@ -118,7 +122,7 @@ module _ (q d n i : ℕ) (f : List ℤ) (g : List ℕ) (z : Summable q d n f g) 
   row : i * d + d ≤ n * d
   row = row-inside d n i inside
 
-  pub table-addable : (x s t : ℕ) → 3 * d ≤ x → d ≤ s → d ≤ t → Addable q d (part f) (part g) x s t
+  pub table-addable : (x s t : ℕ) → 3 * d ≤ x → d ≤ s → d ≤ t → Addable q d (z .magnitude) (part f) (part g) x s t
   table-addable x s t lx ls lt =
       let e = z .elements in
       record {
@@ -130,22 +134,23 @@ module _ (q d n i : ℕ) (f : List ℤ) (g : List ℕ) (z : Summable q d n f g) 
           g-long = omega (arith, e .g-long, row, tail-length (i * d) g);
         };
         modulus-most = omega (arith, z .modulus-most);
-        small = λ j l. subst (λ y. natAbs y ≤ 2 ^ 16) (sym (tail-at (i * d) f j (pos 0))) (z .small (i * d + j) (omega (arith, row)));
+        small = λ j l. subst (λ y. natAbs y ≤ z .magnitude) (sym (tail-at (i * d) f j (pos 0))) (z .small (i * d + j) (omega (arith, row)));
         residues = λ j l. subst (λ y. y < q) (sym (tail-at (i * d) g j 0)) (z .residues (i * d + j) (omega (arith, row)));
         places = lx;
         lowers = ls;
         uppers = lt;
       }
 
-  pub table-more : (s t : List ℕ) → Stands q d (plus (inner d i (signedAt d f) (residueAt d g)) (product d (signed (part f)) (residue (part g)))) (i * d + d) s t
-      → Stands q d (inner d (i + 1) (signedAt d f) (residueAt d g)) ((i + 1) * d) s t
+  pub table-more : (s t : List ℕ) → Stands q d (plus (inner d i (signedAt d f) (residueAt d g)) (product d (signed (part f)) (residue (part g)))) (i * (d * z .magnitude) + d * z .magnitude) s t
+      → Stands q d (inner d (i + 1) (signedAt d f) (residueAt d g)) ((i + 1) * (d * z .magnitude)) s t
   unfolding signed residue signedAt residueAt
-  table-more s t = stands-more q d (z .elements .degree) (signedAt d f) (residueAt d g) i (part f) (part g) s t (λ j _. tail-at (i * d) f j (pos 0)) (λ j _. ap pos (tail-at (i * d) g j 0))
+  table-more s t = stands-more q d (d * z .magnitude) (z .elements .degree) (signedAt d f) (residueAt d g) i (part f) (part g) s t
+      (λ j _. tail-at (i * d) f j (pos 0)) (λ j _. ap pos (tail-at (i * d) g j 0))
 
 -- an inner product of one element
-pub stands-one : (q d : ℕ) (f : List ℤ) (g s t : List ℕ) → Stands q d (inner d 1 (signedAt d f) (residueAt d g)) (1 * d) s t → Stands q d (product d (signed f) (residue g)) d s t
+pub stands-one : (q d w : ℕ) (f : List ℤ) (g s t : List ℕ) → Stands q d (inner d 1 (signedAt d f) (residueAt d g)) (1 * w) s t → Stands q d (product d (signed f) (residue g)) w s t
 unfolding inner sum signedAt residueAt signed residue
-stands-one q d f g s t at = record { each = λ k l. subst (λ z. Halves q z (d * 2 ^ 48) (getD s k 0) (getD t k 0)) (one k) (rw (Nat.one-mul d) at (at .each k l)) }
+stands-one q d w f g s t at = record { each = λ k l. subst (λ z. Halves q z (w * 2 ^ 32) (getD s k 0) (getD t k 0)) (one k) (rw (Nat.one-mul w) at (at .each k l)) }
   where
     front : (j : ℕ) → 0 * d + j ≡ j
     front j = omega (arith, Nat.zero-mul d)

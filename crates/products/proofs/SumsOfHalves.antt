@@ -72,7 +72,7 @@ module _ (q d h i at behind : ℕ) (f : List ℤ) (g : List ℕ) (z : HalvesAt q
 -- ---- the element of the sums, as one whose product is added
 
 module _ (q d h i : ℕ) (f : List ℤ) (g : List ℕ) (z : Halves q d h f g) (inside : i < h) (m : List ℤ) (k : List ℕ) (is : HalfSums q d h f g i m k) where
-  sums-small : Small d m
+  pub sums-small : Small (2 ^ 16) d m
   unfolding messageSums plus second signedAt
   sums-small j l = subst (λ x. natAbs x ≤ 2 ^ 16) (sym (is .message j l))
       (omega (
@@ -82,11 +82,11 @@ module _ (q d h i : ℕ) (f : List ℤ) (g : List ℕ) (z : Halves q d h f g) (i
         z .small ((h + i) * d + j) (omega (arith, cell-inside d h i j inside l, Nat.add-mul h i d)),
       ))
 
-  sums-below : (j : ℕ) → j < d → getD k j 0 < q
+  pub sums-below : (j : ℕ) → j < d → getD k j 0 < q
   unfolding keySumAt
   sums-below j l = omega (arith, is .key j l, modulo-lt q (z .elements .modulus) (plus (residueAt d g i) (second h (residueAt d g) i) j))
 
-  pub sums-addable : (x s t : ℕ) → d ≤ length m → d ≤ length k → 3 * d ≤ x → d ≤ s → d ≤ t → Addable q d m k x s t
+  pub sums-addable : (x s t : ℕ) → d ≤ length m → d ≤ length k → 3 * d ≤ x → d ≤ s → d ≤ t → Addable q d (2 ^ 16) m k x s t
   sums-addable x s t lm lk lx ls lt = record {
     elements = record {
       modulus = z .elements .modulus;
@@ -103,7 +103,7 @@ module _ (q d h i : ℕ) (f : List ℤ) (g : List ℕ) (z : Halves q d h f g) (i
     uppers = lt;
   }
 
-  pub sums-more : (s t : List ℕ) → Stands q d (plus (inner d i (messageSums d h f) (keySums q d h g)) (product d (signed m) (residue k))) (i * d + d) s t
-      → Stands q d (inner d (i + 1) (messageSums d h f) (keySums q d h g)) ((i + 1) * d) s t
+  pub sums-more : (s t : List ℕ) → Stands q d (plus (inner d i (messageSums d h f) (keySums q d h g)) (product d (signed m) (residue k))) (i * (d * 2 ^ 16) + d * 2 ^ 16) s t
+      → Stands q d (inner d (i + 1) (messageSums d h f) (keySums q d h g)) ((i + 1) * (d * 2 ^ 16)) s t
   unfolding signed residue
-  sums-more s t = stands-more q d (z .elements .degree) (messageSums d h f) (keySums q d h g) i m k s t (is .message) (λ j l. ap pos (is .key j l))
+  sums-more s t = stands-more q d (d * 2 ^ 16) (z .elements .degree) (messageSums d h f) (keySums q d h g) i m k s t (is .message) (λ j l. ap pos (is .key j l))

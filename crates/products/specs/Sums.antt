@@ -1,14 +1,15 @@
 -- Sums of products that stand for an element modulo q, and are joined once.
 --
---   capacity               how many products of a coefficient a sum has room for: those of the largest table
---   Stands q d F count ..  the first d numbers of s and of t, sums over lower and over upper halves, stand for the element F modulo q, and at most `count`
---                          products of a coefficient were added to each
+--   capacity               how many halves of 32 bits a sum has room for
+--   Stands q d F count ..  the first d numbers of s and of t, sums over lower and over upper halves, stand for the element F modulo q, and each is at most
+--                          `count` halves from 0
+--   Zero l                 every number of l is 0
 --   multipleIs q c z a     is z the number c·a modulo q, a being a residue
 --   Elements q d n f g     tables of f and g numbers have n elements each
---   Small n f              the first n numbers of f are small enough for sums
---   Addable q d f g ..     one element of each kind, whose product may be added to sums, with room for x numbers
+--   Small m n f            the first n numbers of f are at most m from 0
+--   Addable q d m f g ..   one element of each kind, the first within ±m, whose product may be added to sums, with room for x numbers
 --   Finished q d F s t     sums that may be joined
---   Summable q d n f g     two tables, whose inner product is of n elements
+--   Summable q d n f g     two tables, whose inner product is of n elements; the first is within ±magnitude
 --   messageSums d h f i    element i of f0 + f1, the halves of f having h elements
 --   keySumAt q d h g i j   coefficient j of element i of g0 + g1, modulo q
 --   keySums q d h g i      that element
@@ -27,13 +28,16 @@ use Rattle.protocol.specs.Settings.{modulusMost}
 use Rattle.protocol.specs.Opening.{second}
 use Rattle.joins.specs.Sums as joined
 
--- 256 elements of 64 coefficients
+-- 256 elements of 128 numbers of 15 bits
 abbrev pub capacity : ℕ
-capacity = 2 ^ 14
+capacity = 2 ^ 30
 
--- a product of a coefficient is one of a number of 16 bits and a half of 32
+-- an element of d numbers within ±m adds at most d·m halves
 pub record Stands (q d : ℕ) (F : Element) (count : ℕ) (s t : List ℕ) : Type 0 where
-  pub each : (k : ℕ) → k < d → joined.Halves q (F k) (count * 2 ^ 48) (getD s k 0) (getD t k 0)
+  pub each : (k : ℕ) → k < d → joined.Halves q (F k) (count * 2 ^ 32) (getD s k 0) (getD t k 0)
+
+abbrev pub Zero : List ℕ → Type 0
+Zero l = (k : ℕ) → getD l k 0 ≡ 0
 
 unfoldable pub multipleIs : ℕ → ℕ → ℤ → ℕ → Bool
 multipleIs q c z a = ltb a q && eqb (c * a % q) (modulo q z)
@@ -45,13 +49,13 @@ pub record Elements (q d n f g : ℕ) : Type 0 where
   pub f-long : n * d ≤ f
   pub g-long : n * d ≤ g
 
-abbrev pub Small : ℕ → List ℤ → Type 0
-Small n f = (j : ℕ) → j < n → natAbs (getD f j (pos 0)) ≤ 2 ^ 16
+abbrev pub Small : ℕ → ℕ → List ℤ → Type 0
+Small m n f = (j : ℕ) → j < n → natAbs (getD f j (pos 0)) ≤ m
 
-pub record Addable (q d : ℕ) (f : List ℤ) (g : List ℕ) (x s t : ℕ) : Type 0 where
+pub record Addable (q d m : ℕ) (f : List ℤ) (g : List ℕ) (x s t : ℕ) : Type 0 where
   pub elements : Elements q d 1 (length f) (length g)
   pub modulus-most : q ≤ 2 ^ 61
-  pub small : Small d f
+  pub small : Small m d f
   pub residues : (j : ℕ) → j < d → getD g j 0 < q
   pub places : 3 * d ≤ x
   pub lowers : d ≤ s
@@ -69,8 +73,10 @@ pub record Finished (q d : ℕ) (F : Element) (s t : List ℕ) : Type 0 where
 
 pub record Summable (q d n : ℕ) (f : List ℤ) (g : List ℕ) : Type 0 where
   pub elements : Elements q d n (length f) (length g)
-  pub few : n * d ≤ capacity
-  pub small : Small (n * d) f
+  pub magnitude : ℕ
+  pub magnitude-most : magnitude ≤ 2 ^ 16
+  pub few : n * d * magnitude ≤ capacity
+  pub small : Small magnitude (n * d) f
   pub modulus-most : q ≤ modulusMost
   pub residues : (j : ℕ) → j < n * d → getD g j 0 < q
 
@@ -85,8 +91,8 @@ keySums q d h g i j = pos (keySumAt q d h g i j)
 
 pub record Halves (q d h : ℕ) (f : List ℤ) (g : List ℕ) : Type 0 where
   pub elements : Elements q d (2 * h) (length f) (length g)
-  pub few : h * d ≤ capacity
-  pub small : (j : ℕ) → j < 2 * (h * d) → natAbs (getD f j (pos 0)) ≤ 2 ^ 15
+  pub few : h * d ≤ 2 ^ 14
+  pub small : Small (2 ^ 15) (2 * (h * d)) f
   pub residues : (j : ℕ) → j < 2 * (h * d) → getD g j 0 < q
   pub modulus-most : q ≤ modulusMost
 

@@ -20,8 +20,8 @@ pub(crate) fn add_element(
     s: &mut [Sum],
     t: &mut [Sum],
 )
-    ensures { λ _. ⌜ ((F : Element) (count : ℕ) → Provided (Addable q d (now (f .entry)) (now (g .entry)) (length (now (x .entry))) (length (now (s .entry))) (length (now (t .entry)))
-        × Stands q d F count (now (s .entry)) (now (t .entry))) (Stands q d (plus F (product d (signed (now (f .entry))) (residue (now (g .entry))))) (count + d) (now (s .exit)) (now (t .exit)))) ⌝ }
+    ensures { λ _. ⌜ ((F : Element) (count m : ℕ) → Provided (Addable q d m (now (f .entry)) (now (g .entry)) (length (now (x .entry))) (length (now (s .entry))) (length (now (t .entry)))
+        × Stands q d F count (now (s .entry)) (now (t .entry))) (Stands q d (plus F (product d (signed (now (f .entry))) (residue (now (g .entry))))) (count + d * m) (now (s .exit)) (now (t .exit)))) ⌝ }
 {
     rows::prepare(q, d, g, x);
     rows::add_product(d, f, x, s);
@@ -35,9 +35,9 @@ pub(crate) fn add_element(
 // Adds the products of the first n elements of two tables, one after the other.
 fn add_elements(q: Residue, d: u32, n: u32, f: &[i32], g: &[Residue], s: &mut [Sum], t: &mut [Sum])
     requires { ⌜ Elements q d n (length (now f)) (length (now g)) × (d ≤ length (now s)) × (d ≤ length (now t)) ⌝ }
-    ensures { λ _. ⌜ Provided (Summable q d n (now (f .entry)) (now (g .entry))
-        × Stands q d (inner d 0 (signedAt d (now (f .entry))) (residueAt d (now (g .entry)))) 0 (now (s .entry)) (now (t .entry)))
-        (Stands q d (inner d n (signedAt d (now (f .entry))) (residueAt d (now (g .entry)))) (n * d) (now (s .exit)) (now (t .exit))) ⌝ }
+    ensures { λ _. ⌜ ((z : Summable q d n (now (f .entry)) (now (g .entry)))
+        → Provided (Stands q d (inner d 0 (signedAt d (now (f .entry))) (residueAt d (now (g .entry)))) 0 (now (s .entry)) (now (t .entry)))
+        (Stands q d (inner d n (signedAt d (now (f .entry))) (residueAt d (now (g .entry)))) (n * (d * z .magnitude)) (now (s .exit)) (now (t .exit)))) ⌝ }
 {
     let mut x = [0u64; ROOM];
     for i in 0..n {
@@ -49,9 +49,9 @@ fn add_elements(q: Residue, d: u32, n: u32, f: &[i32], g: &[Residue], s: &mut [S
 // The same at degree 4, where rows are not worth preparing, for a modulus of 32 bits. That the degree stands here as a number lets the compiler unroll it.
 fn add_by_columns(n: u32, f: &[i32], g: &[Residue], s: &mut [Sum])
     requires { ⌜ (n * 4 ≤ length (now f)) × (n * 4 ≤ length (now g)) × (4 ≤ length (now s)) ⌝ }
-    ensures { λ _. ⌜ ((q : ℕ) (t : List ℕ) → Provided (Summable q 4 n (now (f .entry)) (now (g .entry)) × (q < 2 ^ 32)
-        × Stands q 4 (inner 4 0 (signedAt 4 (now (f .entry))) (residueAt 4 (now (g .entry)))) 0 (now (s .entry)) t)
-        (Stands q 4 (inner 4 n (signedAt 4 (now (f .entry))) (residueAt 4 (now (g .entry)))) (n * 4) (now (s .exit)) t)) ⌝ }
+    ensures { λ _. ⌜ ((q : ℕ) (t : List ℕ) (z : Summable q 4 n (now (f .entry)) (now (g .entry)))
+        → Provided ((q < 2 ^ 32) × Stands q 4 (inner 4 0 (signedAt 4 (now (f .entry))) (residueAt 4 (now (g .entry)))) 0 (now (s .entry)) t)
+        (Stands q 4 (inner 4 n (signedAt 4 (now (f .entry))) (residueAt 4 (now (g .entry)))) (n * (4 * z .magnitude)) (now (s .exit)) t)) ⌝ }
 {
     for j in 0..n {
         let at = (j as usize) * 4;
@@ -70,9 +70,9 @@ pub(crate) fn sum_elements(
     t: &mut [Sum],
 )
     requires { ⌜ Elements q d n (length (now f)) (length (now g)) × (d ≤ length (now s)) × (d ≤ length (now t)) ⌝ }
-    ensures { λ _. ⌜ Provided (Summable q d n (now (f .entry)) (now (g .entry))
-        × Stands q d (inner d 0 (signedAt d (now (f .entry))) (residueAt d (now (g .entry)))) 0 (now (s .entry)) (now (t .entry)))
-        (Stands q d (inner d n (signedAt d (now (f .entry))) (residueAt d (now (g .entry)))) (n * d) (now (s .exit)) (now (t .exit))) ⌝ }
+    ensures { λ _. ⌜ ((z : Summable q d n (now (f .entry)) (now (g .entry)))
+        → Provided (Stands q d (inner d 0 (signedAt d (now (f .entry))) (residueAt d (now (g .entry)))) 0 (now (s .entry)) (now (t .entry)))
+        (Stands q d (inner d n (signedAt d (now (f .entry))) (residueAt d (now (g .entry)))) (n * (d * z .magnitude)) (now (s .exit)) (now (t .exit)))) ⌝ }
 {
     if d == 4 && q < 4294967296 {
         add_by_columns(n, f, g, s);

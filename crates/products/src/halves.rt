@@ -12,7 +12,7 @@ ghost use Rattle.protocol.specs.Opening.{inner};
 ghost use Rattle.products.specs.Sums.{Stands, messageSums, keySums, Elements, Halves, HalvesAt, HalfSums};
 
 // Element i of the sums of the halves, written to the front of m and of k: of either table the elements that begin at these two places are added.
-fn add_halves(
+pub(crate) fn add_halves(
     q: Residue,
     d: usize,
     at: usize,
@@ -34,7 +34,7 @@ fn add_sums(q: Residue, d: u32, h: u32, f: &[i32], g: &[Residue], s: &mut [Sum],
     requires { ⌜ Elements q d (2 * h) (length (now f)) (length (now g)) × (d ≤ length (now s)) × (d ≤ length (now t)) ⌝ }
     ensures { λ _. ⌜ Provided (Halves q d h (now (f .entry)) (now (g .entry))
         × Stands q d (inner d 0 (messageSums d h (now (f .entry))) (keySums q d h (now (g .entry)))) 0 (now (s .entry)) (now (t .entry)))
-        (Stands q d (inner d h (messageSums d h (now (f .entry))) (keySums q d h (now (g .entry)))) (h * d) (now (s .exit)) (now (t .exit))) ⌝ }
+        (Stands q d (inner d h (messageSums d h (now (f .entry))) (keySums q d h (now (g .entry)))) (h * (d * 2 ^ 16)) (now (s .exit)) (now (t .exit))) ⌝ }
 {
     let half = (h as usize) * (d as usize);
     let mut m = [0i32; WIDTH];
@@ -52,7 +52,7 @@ fn add_by_columns(q: Residue, h: u32, f: &[i32], g: &[Residue], s: &mut [Sum])
     requires { ⌜ Elements q 4 (2 * h) (length (now f)) (length (now g)) × (4 ≤ length (now s)) ⌝ }
     ensures { λ _. ⌜ ((t : List ℕ) → Provided (Halves q 4 h (now (f .entry)) (now (g .entry)) × (q < 2 ^ 32)
         × Stands q 4 (inner 4 0 (messageSums 4 h (now (f .entry))) (keySums q 4 h (now (g .entry)))) 0 (now (s .entry)) t)
-        (Stands q 4 (inner 4 h (messageSums 4 h (now (f .entry))) (keySums q 4 h (now (g .entry)))) (h * 4) (now (s .exit)) t)) ⌝ }
+        (Stands q 4 (inner 4 h (messageSums 4 h (now (f .entry))) (keySums q 4 h (now (g .entry)))) (h * (4 * 2 ^ 16)) (now (s .exit)) t)) ⌝ }
 {
     let half = (h as usize) * 4;
     let mut m = [0i32; WIDTH];
@@ -77,7 +77,7 @@ pub(crate) fn sum_halves(
     requires { ⌜ Elements q d (2 * h) (length (now f)) (length (now g)) × (d ≤ length (now s)) × (d ≤ length (now t)) ⌝ }
     ensures { λ _. ⌜ Provided (Halves q d h (now (f .entry)) (now (g .entry))
         × Stands q d (inner d 0 (messageSums d h (now (f .entry))) (keySums q d h (now (g .entry)))) 0 (now (s .entry)) (now (t .entry)))
-        (Stands q d (inner d h (messageSums d h (now (f .entry))) (keySums q d h (now (g .entry)))) (h * d) (now (s .exit)) (now (t .exit))) ⌝ }
+        (Stands q d (inner d h (messageSums d h (now (f .entry))) (keySums q d h (now (g .entry)))) (h * (d * 2 ^ 16)) (now (s .exit)) (now (t .exit))) ⌝ }
 {
     if d == 4 && q < 4294967296 {
         add_by_columns(q, h, f, g, s);

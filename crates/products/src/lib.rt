@@ -2,6 +2,7 @@
 // What these sums are is known here alone: a caller sees elements of residues.
 mod elements;
 mod halves;
+mod transformed;
 
 use joins::Joint;
 use protocol::Residue;
@@ -11,15 +12,18 @@ ghost use Prim.Native.Nat.{ℕ, _*_, _^_, _≤_};
 ghost use lib.IntN.{ℤ};
 ghost use lib.ListN.{length, getD};
 ghost use Rattle.protocol.specs.Basic.{every, Provided};
-ghost use Rattle.protocol.specs.Element.{Element, width, reduced, padded, product, signed, residue, signedAt, residueAt};
+ghost use Rattle.protocol.specs.Element.{Element, reduced, padded, product, signed, residue, signedAt, residueAt};
 ghost use Rattle.protocol.specs.Opening as opening;
 ghost use Rattle.modular.specs.Factors.{Modulus};
 ghost use Rattle.joins.specs.Sums.{Ready};
 ghost use Rattle.joins.specs.Sums as joined;
-ghost use Rattle.products.specs.Sums.{Stands, Finished, multipleIs, messageSums, keySums, Summable, Halves};
+ghost use Rattle.products.specs.Sums.{Zero, Elements, Stands, Finished, multipleIs, messageSums, keySums, Summable, Halves};
 
 // A sum of products, modulo 2^64.
 type Sum = u64;
+
+// A small degree.
+const FEW: usize = 16;
 
 // The element that the sums stand for.
 fn finish(q: Residue, d: u32, s: &[Sum], t: &[Sum]) -> [Residue; WIDTH]
@@ -28,8 +32,8 @@ fn finish(q: Residue, d: u32, s: &[Sum], t: &[Sum]) -> [Residue; WIDTH]
     joins::elements::join_all(joins::prepare(q), d as usize, s, t)
 }
 
-// The inner product of the first n elements of two tables, modulo q.
-pub fn inner(q: Residue, d: u32, n: u32, f: &[i32], g: &[Residue]) -> [Residue; WIDTH]
+// The inner product of the first n elements of two tables, modulo q, coefficient by coefficient.
+pub fn plain_inner(q: Residue, d: u32, n: u32, f: &[i32], g: &[Residue]) -> [Residue; WIDTH]
     ensures { λ r. ⌜ Provided (Summable q d n (now (f .entry)) (now (g .entry))) (r ≡ padded d (reduced q d (opening.inner d n (signedAt d (now (f .entry))) (residueAt d (now (g .entry)))))) ⌝ }
 {
     if q == 0 {
@@ -54,8 +58,26 @@ pub fn inner(q: Residue, d: u32, n: u32, f: &[i32], g: &[Residue]) -> [Residue; 
     finish(q, d, &s, &t)
 }
 
-// ⟨f0 + f1, g0 + g1⟩ modulo q, the halves having h elements.
-pub fn inner_of_sums(q: Residue, d: u32, h: u32, f: &[i32], g: &[Residue]) -> [Residue; WIDTH]
+// The same by whichever way is the quicker: by the transform where it can be had.
+pub fn inner(q: Residue, d: u32, n: u32, f: &[i32], g: &[Residue]) -> [Residue; WIDTH]
+    ensures { λ r. ⌜ Provided (Summable q d n (now (f .entry)) (now (g .entry))) (r ≡ padded d (reduced q d (opening.inner d n (signedAt d (now (f .entry))) (residueAt d (now (g .entry)))))) ⌝ }
+{
+    let level = transformed::level(q, d, n);
+    if level == 0 {
+        return plain_inner(q, d, n, f, g);
+    }
+    let cells = (n as usize) * (d as usize);
+    if f.len() < cells {
+        return [0u64; WIDTH];
+    }
+    if g.len() < cells {
+        return [0u64; WIDTH];
+    }
+    transformed::inner(false, level, d as usize, n as usize, f, g)
+}
+
+// ⟨f0 + f1, g0 + g1⟩ modulo q, the halves having h elements, coefficient by coefficient.
+fn plain_inner_of_sums(q: Residue, d: u32, h: u32, f: &[i32], g: &[Residue]) -> [Residue; WIDTH]
     ensures { λ r. ⌜ Provided (Halves q d h (now (f .entry)) (now (g .entry))) (r ≡ padded d (reduced q d (opening.inner d h (messageSums d h (now (f .entry))) (keySums q d h (now (g .entry)))))) ⌝ }
 {
     if q == 0 {
@@ -80,6 +102,24 @@ pub fn inner_of_sums(q: Residue, d: u32, h: u32, f: &[i32], g: &[Residue]) -> [R
     finish(q, d, &s, &t)
 }
 
+// The same by whichever way is the quicker.
+pub fn inner_of_sums(q: Residue, d: u32, h: u32, f: &[i32], g: &[Residue]) -> [Residue; WIDTH]
+    ensures { λ r. ⌜ Provided (Halves q d h (now (f .entry)) (now (g .entry))) (r ≡ padded d (reduced q d (opening.inner d h (messageSums d h (now (f .entry))) (keySums q d h (now (g .entry)))))) ⌝ }
+{
+    let level = transformed::level(q, d, h);
+    if level == 0 {
+        return plain_inner_of_sums(q, d, h, f, g);
+    }
+    let cells = 2 * ((h as usize) * (d as usize));
+    if f.len() < cells {
+        return [0u64; WIDTH];
+    }
+    if g.len() < cells {
+        return [0u64; WIDTH];
+    }
+    transformed::inner(true, level, d as usize, h as usize, f, g)
+}
+
 // Do two sums stand for c·a modulo q, a being a residue: q divides that and c·(q − a).
 fn sum_is(joint: Joint, s: Sum, t: Sum, c: u32, a: Residue) -> bool
     ensures { λ r. ⌜ ((q : ℕ) (z : ℤ) → Provided (Ready q joint × joined.Halves q z (2 ^ 61) s t × (c ≤ 2 ^ 13)) (r ≡ multipleIs q c z a)) ⌝ }
@@ -101,7 +141,7 @@ fn sum_is(joint: Joint, s: Sum, t: Sum, c: u32, a: Residue) -> bool
 // Do the sums of an element stand for c·a.
 fn sums_are(q: Residue, d: usize, s: &[Sum], t: &[Sum], c: u32, a: &[Residue]) -> bool
     requires { ⌜ (d ≤ length (now s)) × (d ≤ length (now t)) × (d ≤ length (now a)) ⌝ }
-    ensures { λ r. ⌜ ((F : Element) → Provided (Modulus q × (d ≤ width) × Stands q d F d (now (s .entry)) (now (t .entry)) × (c ≤ 2 ^ 13))
+    ensures { λ r. ⌜ ((F : Element) (count : ℕ) → Provided (Modulus q × (count ≤ 2 ^ 29) × Stands q d F count (now (s .entry)) (now (t .entry)) × (c ≤ 2 ^ 13))
         (r ≡ every d (λ k. multipleIs q c (F k) (getD (now (a .entry)) k 0)))) ⌝ }
 {
     let joint = joins::prepare(q);
@@ -113,10 +153,29 @@ fn sums_are(q: Residue, d: usize, s: &[Sum], t: &[Sum], c: u32, a: &[Residue]) -
     true
 }
 
-// Is the product of the elements f and g c times the element a, modulo q. The product is not reduced for that.
+// With sums that are 0: is the product of the elements f and g c times the element a, modulo q. The product is not reduced for that.
+fn product_in(
+    q: Residue,
+    d: u32,
+    f: &[i32],
+    g: &[Residue],
+    c: u32,
+    a: &[Residue],
+    s: &mut [Sum],
+    t: &mut [Sum],
+) -> bool
+    requires { ⌜ Elements q d 1 (length (now f)) (length (now g)) × (d ≤ length (now s)) × (d ≤ length (now t)) × (d ≤ length (now a)) ⌝ }
+    ensures { λ r. ⌜ Provided (Summable q d 1 (now (f .entry)) (now (g .entry)) × (c ≤ 2 ^ 13) × Zero (now (s .entry)) × Zero (now (t .entry)))
+        (r ≡ every d (λ k. multipleIs q c (product d (signed (now (f .entry))) (residue (now (g .entry))) k) (getD (now (a .entry)) k 0))) ⌝ }
+{
+    elements::sum_elements(q, d, 1, f, g, s, t);
+    sums_are(q, d as usize, s, t, c, a)
+}
+
+// The same for every input. A small degree takes smaller sums, since all of them are set to 0 first.
 pub fn product_is(q: Residue, d: u32, f: &[i32], g: &[Residue], c: u32, a: &[Residue]) -> bool
-    ensures { λ r. ⌜ Provided (Summable q d 1 (now (f .entry)) (now (g .entry)) × (d ≤ length (now (a .entry)))
-        × (c ≤ 2 ^ 13)) (r ≡ every d (λ k. multipleIs q c (product d (signed (now (f .entry))) (residue (now (g .entry))) k) (getD (now (a .entry)) k 0))) ⌝ }
+    ensures { λ r. ⌜ Provided (Summable q d 1 (now (f .entry)) (now (g .entry)) × (d ≤ length (now (a .entry))) × (c ≤ 2 ^ 13))
+        (r ≡ every d (λ k. multipleIs q c (product d (signed (now (f .entry))) (residue (now (g .entry))) k) (getD (now (a .entry)) k 0))) ⌝ }
 {
     if q == 0 {
         return false;
@@ -137,8 +196,12 @@ pub fn product_is(q: Residue, d: u32, f: &[i32], g: &[Residue], c: u32, a: &[Res
     if a.len() < n {
         return false;
     }
+    if n <= FEW {
+        let mut s = [0u64; FEW];
+        let mut t = [0u64; FEW];
+        return product_in(q, d, f, g, c, a, &mut s, &mut t);
+    }
     let mut s = [0u64; WIDTH];
     let mut t = [0u64; WIDTH];
-    elements::sum_elements(q, d, 1, f, g, &mut s, &mut t);
-    sums_are(q, n, &s, &t, c, a)
+    product_in(q, d, f, g, c, a, &mut s, &mut t)
 }

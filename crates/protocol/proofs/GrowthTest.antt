@@ -83,12 +83,15 @@ factor-power : (D d : ℕ) → d ≡ 2 ^ D → growthFactor d ≡ 2 ^ (3 + (D + 
 unfolding growthFactor
 factor-power D d e = omega (arith, Pow.pow-add 2 3 (D + D), Pow.pow-add 2 D D, square d, ap₂ _*_ e e)
 
-few : (L D : ℕ) → L ≤ 8 → D ≤ 6 → (3 + (D + D)) * L ≤ 62 → L + D ≤ 10
+few : (L D : ℕ) → L ≤ 8 → D ≤ 7 → (3 + (D + D)) * L ≤ 62 → L + D ≤ 10
 few L D l m h = elim (decLe 3 D) [
   | no n ↦ omega arith
   | yes a ↦ elim (decLe 5 D) [
     | no n ↦ (let k : 9 ≤ 3 + (D + D) = omega arith in omega (arith, Nat.mul-le-mul-right L k))
-    | yes b ↦ (let k : 13 ≤ 3 + (D + D) = omega arith in omega (arith, Nat.mul-le-mul-right L k))
+    | yes b ↦ elim (decLe 7 D) [
+      | no n ↦ (let k : 13 ≤ 3 + (D + D) = omega arith in omega (arith, Nat.mul-le-mul-right L k))
+      | yes c ↦ (let k : 17 ≤ 3 + (D + D) = omega arith in omega (arith, Nat.mul-le-mul-right L k))
+    ]
   ]
 ]
 

@@ -1,18 +1,22 @@
 -- The tests of refusals 3 to 10 against the plain statements of Inputs: settings, residues, bounds, exponents.
-use mathlib.Core.Path.{_≡_, refl, ap, _∙_}
+use mathlib.Core.Path.{_≡_, refl, sym, ap, _∙_, subst}
+use mathlib.Core.Logic.{inl, inr}
 use mathlib.Core.Bool.{Bool, true, false, _&&_, _||_, false≢true}
 use mathlib.Core.List.{List, [], _∷_}
 use Prim.Native.Nat.{ℕ, zero, suc, _%_, _^_, _<_, _≤_}
+use native.Mathlib.Decide.{decLt}
 use native.Mathlib.Omega.{arith}
 use borrow.Author.Tests.{eq-eqb, eqb-true, le-leb, leb-true, lt-ltb, ltb-true}
 use lib.Dec.{eqb, leb, ltb}
 use lib.ListN.{length, getD}
+use lib.Pow as Pow
 use lib.IntN.{ℤ, pos}
 use Rattle.protocol.specs.declared.Settings.{Settings}
 use Rattle.protocol.specs.Basic.{all, among, within}
-use Rattle.protocol.specs.Settings.{degreeAllowed, depthAllowed, modulusAllowed, boundAllowed, settingsRefusal, hasLength, allWithin}
+use Rattle.protocol.specs.Layout.{width}
+use Rattle.protocol.specs.Settings.{transformModulus, degreeAllowed, depthAllowed, modulusAllowed, boundAllowed, settingsRefusal, hasLength, allWithin}
 use Rattle.protocol.specs.Inputs.{Valid, Below, Within}
-use Rattle.protocol.proofs.Tests.{and-split, and-intro, all-at, all-intro}
+use Rattle.protocol.proofs.Tests.{and-split, and-intro, or-split, or-left, or-right, all-at, all-intro}
 use Rattle.protocol.proofs.Refusals.{all-passed, passed-all}
 
 -- ---- settings
@@ -49,20 +53,40 @@ power-among (suc (suc (suc (suc zero)))) h = refl
 power-among (suc (suc (suc (suc (suc zero))))) h = refl
 power-among (suc (suc (suc (suc (suc (suc i)))))) h = absurd (omega arith)
 
+-- a degree that is allowed is a power of two, and the largest one has one modulus
+degree-power : (S : Settings) → degreeAllowed S ≡ true → (i : ℕ) × (S .degree ≡ 2 ^ suc i) × (i ≤ 6) × (suc i ≡ 7 → S .modulus ≡ transformModulus)
+unfolding degreeAllowed
+degree-power S t = elim (or-split {a = among (S .degree) degrees} t) [
+  | inl few ↦ (let (i, h, f) = among-place (S .degree) degrees few in (i, f ∙ degrees-at i h, omega arith, λ e. absurd (omega arith)))
+  | inr wide ↦ (let (d, q) = and-split wide in (6, eqb-true (S .degree) 128 d, omega arith, λ e. eqb-true (S .modulus) transformModulus q))
+]
+
+power-degree : (S : Settings) (n : ℕ) → S .degree ≡ 2 ^ n → 1 ≤ n → n ≤ 7 → (n ≡ 7 → S .modulus ≡ transformModulus) → degreeAllowed S ≡ true
+unfolding degreeAllowed
+power-degree S zero e l h w = absurd (omega arith)
+power-degree S (suc i) e l h w = elim (decLt i 6) [
+  | yes m ↦ or-left (among (S .degree) degrees) _ (ap (λ x. among x degrees) e ∙ power-among i m)
+  | no g ↦ (
+      let last : suc i ≡ 7 = omega arith in
+      or-right (among (S .degree) degrees) _ (and-intro (eq-eqb (S .degree) 128 (e ∙ ap (λ n. 2 ^ n) last)) (eq-eqb (S .modulus) transformModulus (w last)))
+      )
+]
+
 -- refusals 3 to 6 are 0 exactly for allowed settings
 pub settings-valid : (S : Settings) → settingsRefusal S ≡ 0 → Valid S
-unfolding settingsRefusal degreeAllowed depthAllowed modulusAllowed boundAllowed
+unfolding settingsRefusal depthAllowed modulusAllowed boundAllowed
 settings-valid S e =
     let (t3, (t4, (t5, (t6, _)))) = all-passed ((2, _) ∷ (3, _) ∷ (4, _) ∷ (5, _) ∷ []) e in
-    let (i, h, f) = among-place (S .degree) degrees t3 in
+    let (i, power, few, widest) = degree-power S t3 in
     let (more, most) = and-split t5 in
     let (odd, least) = and-split more in
     let (low, high) = and-split t6 in
     record {
       log = suc i;
-      degree-is = f ∙ degrees-at i h;
+      degree-is = power;
       log-least = omega arith;
       log-most = omega arith;
+      widest = widest;
       depth-most = leb-true _ _ t4;
       modulus-odd = eqb-true _ _ odd;
       modulus-least = leb-true _ _ least;
@@ -71,15 +95,11 @@ settings-valid S e =
       bound-most = leb-true _ _ high;
     }
 
-degree-among : (d n : ℕ) → d ≡ 2 ^ n → 1 ≤ n → n ≤ 6 → among d degrees ≡ true
-degree-among d zero e l h = absurd (omega arith)
-degree-among d (suc i) e l h = ap (λ x. among x degrees) e ∙ power-among i (omega arith)
-
 pub valid-settings : (S : Settings) → Valid S → settingsRefusal S ≡ 0
-unfolding settingsRefusal degreeAllowed depthAllowed modulusAllowed boundAllowed
+unfolding settingsRefusal depthAllowed modulusAllowed boundAllowed
 valid-settings S v =
     passed-all ((2, _) ∷ (3, _) ∷ (4, _) ∷ (5, _) ∷ []) (
-      degree-among (S .degree) (v .log) (v .degree-is) (v .log-least) (v .log-most),
+      power-degree S (v .log) (v .degree-is) (v .log-least) (v .log-most) (v .widest),
       (
         le-leb _ _ (v .depth-most),
         (
@@ -88,6 +108,9 @@ valid-settings S v =
         ),
       ),
     )
+
+pub degree-most : (S : Settings) → Valid S → S .degree ≤ width
+degree-most S v = subst (λ n. n ≤ width) (sym (v .degree-is)) (Pow.pow-mono {j = 7} (v .log-most))
 
 -- ---- tables: the length of refusal 7 with the range of refusal 8, 9 or 10
 

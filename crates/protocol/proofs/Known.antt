@@ -64,6 +64,8 @@ examples =
     ∷ record { given = asNumber (growthAllowed (set 64 4 17 4)); wanted = pos 1 ∷ [] }
     ∷ record { given = asNumber (growthAllowed (set 64 4 17 5)); wanted = pos 0 ∷ [] }
     ∷ record { given = asNumber (growthAllowed (set 16 5 17 127)); wanted = pos 1 ∷ [] }
+    ∷ record { given = asNumber (growthAllowed (set 128 3 12_289 127)); wanted = pos 1 ∷ [] }
+    ∷ record { given = asNumber (growthAllowed (set 128 4 12_289 1)); wanted = pos 0 ∷ [] }
     -- the same as the judge's refusal 14, at tables of zeros; as the judge's and the extractor's at every full tree, in claims/proofs/GrowthCases
     ∷ record { given = pos (judgeRefusal (set 32 4 17 127) (replicate 32 0) 256 (replicate 512 0) (replicate 512 (pos 0))) ∷ []; wanted = pos 0 ∷ [] }
     ∷ record { given = pos (judgeRefusal (set 64 4 17 4) (replicate 64 0) 256 (replicate 1024 0) (replicate 1024 (pos 0))) ∷ []; wanted = pos 0 ∷ [] }

@@ -1,5 +1,6 @@
 pub mod Tests
 pub mod Reading
+pub mod SumLaws
 pub mod Rotation
 pub mod Modulo
 pub mod CommonDivisor

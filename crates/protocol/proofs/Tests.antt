@@ -1,17 +1,15 @@
--- Tests and what they say: conjunctions, `every`, `all`, `least`, `among`, and refusals.
+-- Tests and what they say: conjunctions and disjunctions, `every`, `all`, `least`, and refusals.
 use mathlib.Core.Path.{_≡_, refl, sym, ap, subst, _∙_}
-use mathlib.Core.Logic.{_≢_}
+use mathlib.Core.Logic.{_≢_, _⊎_, inl, inr}
 use mathlib.Core.Bool.{Bool, true, false, _&&_, _||_, false≢true}
 use mathlib.Core.List.{List, [], _∷_, map}
 use Prim.Native.Nat.{ℕ, zero, suc, _<_, _≤_}
 use native.Mathlib.Decide.{ℕ-discrete, decLt}
 use native.Mathlib.Omega.{arith}
-use borrow.Author.Tests.{leb-true, eqb-true}
-use lib.Dec.{leb, eqb}
 use lib.ListN.{length, getD}
-use Rattle.protocol.specs.Basic.{every, all, among, least, first, unless, granted}
+use Rattle.protocol.specs.Basic.{every, all, least, first, unless, granted}
 
--- ---- conjunctions
+-- ---- conjunctions and disjunctions
 
 pub and-split : {a b : Bool} → (a && b) ≡ true → (a ≡ true) × (b ≡ true)
 and-split {a = true} {b} t = (refl, t)
@@ -20,6 +18,18 @@ and-split {a = false} {b} t = absurd (false≢true t)
 pub and-intro : {a b : Bool} → a ≡ true → b ≡ true → (a && b) ≡ true
 and-intro {a = true} {b} s t = t
 and-intro {a = false} {b} s t = s
+
+pub or-split : {a b : Bool} → (a || b) ≡ true → (a ≡ true) ⊎ (b ≡ true)
+or-split {a = true} {b} t = inl refl
+or-split {a = false} {b} t = inr t
+
+pub or-left : (a b : Bool) → a ≡ true → (a || b) ≡ true
+or-left true b t = refl
+or-left false b t = absurd (false≢true t)
+
+pub or-right : (a b : Bool) → b ≡ true → (a || b) ≡ true
+or-right true b t = refl
+or-right false b t = t
 
 -- two tests that pass together are one test
 pub same-test : {a b : Bool} → (a ≡ true → b ≡ true) → (b ≡ true → a ≡ true) → a ≡ b
@@ -102,19 +112,6 @@ least-is n f m F = elim (decLt m (least n f)) [
     | no k ↦ omega arith
   ]
 ]
-
--- ---- among
-
-pub among-le : (x b : ℕ) (l : List ℕ) → all (λ y. leb y b) l ≡ true → among x l ≡ true → x ≤ b
-unfolding all among
-among-le x b [] h k = absurd (false≢true k)
-among-le x b (y ∷ l) h k =
-    let (here, more) = and-split {a = leb y b} {b = all (λ z. leb z b) l} h in
-    go (eqb x y) refl (leb-true y b here) (among-le x b l more) k
-  where
-    go : (t : Bool) → eqb x y ≡ t → y ≤ b → (among x l ≡ true → x ≤ b) → t || among x l ≡ true → x ≤ b
-    go true e m f j = omega (arith, eqb-true x y e)
-    go false e m f j = f j
 
 -- ---- refusals
 

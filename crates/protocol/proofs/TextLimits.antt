@@ -13,35 +13,27 @@ use borrow.Author.Tests.{leb-true, le-leb, ltb-true, eqb-true}
 use Rattle.protocol.specs.declared.Settings.{Settings}
 use Rattle.protocol.specs.declared.Parts.{Parts}
 use Rattle.protocol.specs.Basic.{tabulate, all, among, choose, within, first, unless}
-use Rattle.protocol.specs.Settings.{modulusMost, degreeAllowed, depthAllowed, modulusAllowed, boundAllowed, settingsRefusal, size, allBelow, allWithin}
+use Rattle.protocol.specs.Layout.{width}
+use Rattle.protocol.specs.Settings.{settingsRefusal, size, allBelow, allWithin}
 use Rattle.protocol.specs.Settings.{exponent, exponents}
 use Rattle.protocol.specs.Text.{Line, Shape, Tables, valueLimit, narrowLimit, limitOf, shape, settingsShape, shapes, shapeSize}
 use Rattle.protocol.specs.Text.{spotAt, contents, block, blockLines}
 use Rattle.protocol.specs.Text.{parsed, linesOf, column, entriesRefusal}
-use Rattle.protocol.proofs.Tests.{first-zero, unless-zero, all-weaken, all-map, all-getD, among-le, and-intro}
+use Rattle.protocol.proofs.Tests.{first-zero, unless-zero, all-weaken, all-map, all-getD, and-intro}
+use Rattle.protocol.proofs.Inputs.{settings-valid, degree-most}
 use Rattle.protocol.proofs.LineLaws.{Limited, AllLimited, parsed-text}
 
 -- ---- Settings that are not refused
 
 pub record Allowed (S : Settings) : Type 0 where
-  pub degree : S .degree ≤ 64
+  pub degree : S .degree ≤ width
   pub depth : S .depth ≤ 8
   pub modulus : S .modulus ≤ valueLimit
   pub bound : S .bound ≤ 127
 
 pub allowed : (S : Settings) → settingsRefusal S ≡ 0 → Allowed S
-unfolding settingsRefusal degreeAllowed depthAllowed modulusAllowed boundAllowed valueLimit all
-allowed S h =
-    let (h₃, r₃) = first-zero _ _ h in
-    let (h₄, r₄) = first-zero _ _ r₃ in
-    let (h₅, r₅) = first-zero _ _ r₄ in
-    let (h₆, r₆) = first-zero _ _ r₅ in
-    record {
-      degree = among-le (S .degree) 64 _ refl (unless-zero 2 _ h₃);
-      depth = leb-true (S .depth) 8 (unless-zero 3 _ h₄);
-      modulus = le-trans (leb-true (S .modulus) modulusMost (and-eq-true-iff (eqb (S .modulus % 2) 1 && leb 3 (S .modulus)) _ .0 (unless-zero 4 _ h₅) .1)) (omega arith);
-      bound = leb-true (S .bound) 127 (and-eq-true-iff (leb 1 (S .bound)) _ .0 (unless-zero 5 _ h₆) .1);
-    }
+unfolding valueLimit
+allowed S h = let v = settings-valid S h in record { degree = degree-most S v; depth = v .depth-most; modulus = v .modulus-most; bound = v .bound-most }
 
 pub size-le : (S : Settings) → Allowed S → size S ≤ 256
 unfolding size
@@ -163,7 +155,7 @@ settings-limited : (S : Settings) → Allowed S
     → all (within valueLimit) (pos (S .degree) ∷ pos (S .depth) ∷ pos (S .modulus) ∷ pos (S .bound) ∷ []) ≡ true
 unfolding all within
 settings-limited S a =
-    let wide : 127 ≤ valueLimit = unfold valueLimit in (omega arith) in
+    let wide : width ≤ valueLimit = unfold valueLimit in (omega arith) in
     rw (
       le-leb (S .degree) valueLimit (omega (arith, a .degree)),
       le-leb (S .depth) valueLimit (omega (arith, a .depth)),
@@ -175,7 +167,7 @@ settings-limited S a =
 pub contents-limited : (S : Settings) (P : Parts) (t : Tables) → Allowed S → Passed S t → Limits (shapes S P) (contents S t)
 unfolding shapes contents settingsShape shape limitOf among choose
 contents-limited S P t a p =
-    let wide : 16_384 ≤ narrowLimit = unfold narrowLimit in (omega arith) in
+    let wide : 256 * width ≤ narrowLimit = unfold narrowLimit in (omega arith) in
     let n : size S ≤ 256 = size-le S a in
     let table : size S * S .degree ≤ narrowLimit = le-trans (mul-le-mul n (a .degree)) (omega arith) in
     let items : 3 * S .depth ≤ 24 = omega (arith, a .depth) in

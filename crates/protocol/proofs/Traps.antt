@@ -2,13 +2,14 @@
 use mathlib.Core.Path.{_≡_, refl}
 use mathlib.Core.Bool.{true, false}
 use mathlib.Core.List.{List, [], _∷_, _++_, map}
-use Prim.Native.Nat.{ℕ}
+use Prim.Native.Nat.{ℕ, _-_}
 use lib.ListN.{replicate}
 use lib.IntN.{ℤ, pos, negsuc}
 use Rattle.protocol.specs.declared.Settings.{Settings}
 use Rattle.protocol.specs.declared.Session.{Session}
 use Rattle.protocol.specs.Basic.{all, flat}
 use Rattle.protocol.specs.Element.{power, rotate, coefficients}
+use Rattle.protocol.specs.Layout.{width}
 use Rattle.protocol.specs.Settings.{settingsRefusal}
 use Rattle.protocol.specs.Opening.{foldMessage, messageAfter, keyAfter}
 use Rattle.protocol.specs.Transcript.{cause}
@@ -53,7 +54,15 @@ traps =
     -- settings: the order 3, 4, 5, 6, and the ends of each range
     number (settingsRefusal (set 3 9 2 0)) 3
     ∷ number (settingsRefusal (set 0 9 2 0)) 3
-    ∷ number (settingsRefusal (set 128 0 12289 1)) 3
+    -- 128 with the modulus 12289 alone, also where the other modulus is refused by 5; then the order goes on
+    ∷ number (settingsRefusal (set 128 8 12_289 127)) 0
+    ∷ number (settingsRefusal (set 128 9 12_289 1)) 4
+    ∷ number (settingsRefusal (set 128 0 12_287 1)) 3
+    ∷ number (settingsRefusal (set 128 0 12_288 1)) 3
+    ∷ number (settingsRefusal (set 128 0 24_578 1)) 3
+    ∷ number (settingsRefusal (set 128 0 2 1)) 3
+    ∷ number (settingsRefusal (set 256 0 12_289 1)) 3
+    ∷ number (settingsRefusal (set 64 0 12_289 1)) 0
     ∷ number (settingsRefusal (set 64 9 2 0)) 4
     ∷ number (settingsRefusal (set 64 8 18 0)) 5
     ∷ number (settingsRefusal (set 64 8 2_305_843_009_213_693_953 1)) 5
@@ -91,8 +100,8 @@ traps =
     -- a refused fold leaves the table
     ∷ record { given = foldMessageExit S₁ 1 0 key₁ message₁; wanted = message₁ }
     -- a refused call answers zeros, and a new element is 0 from d on
-    ∷ record { given = map pos (commitAnswer S₁ key₁ (pos 2 ∷ pos 0 ∷ pos 0 ∷ pos 0 ∷ []) .commitment); wanted = map pos (replicate 64 0) }
-    ∷ record { given = map pos (commitAnswer S₁ key₁ message₁ .commitment); wanted = pos 15 ∷ pos 4 ∷ map pos (replicate 62 0) }
+    ∷ record { given = map pos (commitAnswer S₁ key₁ (pos 2 ∷ pos 0 ∷ pos 0 ∷ pos 0 ∷ []) .commitment); wanted = map pos (replicate width 0) }
+    ∷ record { given = map pos (commitAnswer S₁ key₁ message₁ .commitment); wanted = pos 15 ∷ pos 4 ∷ map pos (replicate (width - 2) 0) }
     -- the three zones of a rotation at d = 4: X^7·X^3 = X^2; X^0 and X^4 differ
     ∷ record { given = coefficients 4 (rotate 4 7 (power 4 3)); wanted = pos 0 ∷ pos 0 ∷ pos 1 ∷ pos 0 ∷ [] }
     ∷ record { given = coefficients 4 (power 4 4); wanted = negsuc 0 ∷ pos 0 ∷ pos 0 ∷ pos 0 ∷ [] }
@@ -113,7 +122,7 @@ traps =
     ∷ number (round (record { settings = S₁; done = 1; claim = 15 ∷ 4 ∷ []; challenges = replicate 7 0 ++ (4 ∷ []); closed = true }) polynomial₁ 1 .refusal) 10
     ∷ record {
       given = moveNumbers (round (record { settings = S₁; done = 0; claim = 15 ∷ 4 ∷ []; challenges = replicate 7 0 ++ (3 ∷ []); closed = false }) polynomial₁ 1);
-      wanted = pos 0 ∷ pos 1 ∷ recordNumbers (record { settings = S₁; done = 1; claim = 9 ∷ 6 ∷ replicate 62 0; challenges = (1 ∷ replicate 6 0) ++ (3 ∷ []); closed = false });
+      wanted = pos 0 ∷ pos 1 ∷ recordNumbers (record { settings = S₁; done = 1; claim = 9 ∷ 6 ∷ replicate (width - 2) 0; challenges = (1 ∷ replicate 6 0) ++ (3 ∷ []); closed = false });
     }
     ∷ number (round (record { settings = S₁; done = 4_294_967_295; claim = 15 ∷ 4 ∷ []; challenges = replicate 8 0; closed = false }) polynomial₁ 1 .refusal) 11
     -- a rejected round sets closed and nothing else

@@ -8,7 +8,8 @@ use mathlib.Core.Path.{_≡_, refl, ap, _∙_, subst}
 use mathlib.Core.Logic.{_≢_}
 use mathlib.Core.Bool.{true, false}
 use mathlib.Core.List.{List, [], _∷_}
-use Prim.Native.Nat.{ℕ, suc}
+use Prim.Native.Nat.{ℕ, suc, _-_}
+use Rattle.protocol.specs.Layout.{width}
 use native.Mathlib.Omega.{arith}
 use lib.ListN.{replicate}
 use lib.IntN.{ℤ, pos}
@@ -133,10 +134,10 @@ challenge-below = tested-below 4 1 (1 ∷ []) (unfold computed in refl) (unfold 
 
 -- commitment and final element as they are passed by value
 abbrev commitment₁ : List ℕ
-commitment₁ = 15 ∷ 4 ∷ replicate 62 0
+commitment₁ = 15 ∷ 4 ∷ replicate (width - 2) 0
 
 abbrev last₁ : List ℤ
-last₁ = pos 1 ∷ pos 0 ∷ replicate 62 (pos 0)
+last₁ = pos 1 ∷ pos 0 ∷ replicate (width - 2) (pos 0)
 
 opened₁ : Demand3 → OpeningClaim S₁ key₁ message₁ (1 ∷ []) (replicate 6 0)
 unfolding computed

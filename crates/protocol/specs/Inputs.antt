@@ -9,14 +9,15 @@ use Prim.Native.Nat.{ℕ, _%_, _^_, _<_, _≤_}
 use lib.ListN.{length, getD}
 use lib.IntN.{ℤ, pos, natAbs}
 use Rattle.protocol.specs.declared.Settings.{Settings}
-use Rattle.protocol.specs.Settings.{modulusMost}
+use Rattle.protocol.specs.Settings.{transformModulus, modulusMost}
 
--- PROTOCOL 1.1; the degree is 2^log
+-- PROTOCOL 1.1; the degree is 2^log, and the largest one has one modulus
 pub record Valid (S : Settings) : Type 0 where
   pub log : ℕ
   pub degree-is : S .degree ≡ 2 ^ log
   pub log-least : 1 ≤ log
-  pub log-most : log ≤ 6
+  pub log-most : log ≤ 7
+  pub widest : log ≡ 7 → S .modulus ≡ transformModulus
   pub depth-most : S .depth ≤ 8
   pub modulus-odd : S .modulus % 2 ≡ 1
   pub modulus-least : 3 ≤ S .modulus

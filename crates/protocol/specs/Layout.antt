@@ -2,7 +2,7 @@
 -- The crate `sizes` gives the same in code.
 -- Tables are flat, d numbers to an element. A round polynomial is three elements, and a branching node has one round polynomial and three challenges.
 --
---   width                       64: how many places an element has that is passed by value
+--   width                       128: how many places an element has that is passed by value
 --   slots                       8: how many challenges a record holds, one for each round that there can be
 --   size S, cells S             n = 2^L elements, and n·d numbers: a key, a message, the extractor's w
 --   left S t, leftCells S t     the elements that are left after t rounds, n/2^t, and their numbers
@@ -24,7 +24,7 @@ use Rattle.protocol.specs.declared.Settings.{Settings}
 
 -- PROTOCOL 8.1: the largest degree
 abbrev pub width : ℕ
-width = 64
+width = 128
 
 -- PROTOCOL 4.1
 abbrev pub slots : ℕ

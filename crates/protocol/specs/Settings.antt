@@ -1,5 +1,6 @@
 -- PROTOCOL 1.1: which settings are allowed; PROTOCOL 7.1 and 7.3: the tests that several calls share.
 --
+--   transformModulus                    12289: the modulus at which the largest degree is allowed
 --   modulusMost                         the largest modulus
 --   degreeAllowed S .. boundAllowed S   is d, L, q, B allowed
 --   settingsRefusal S                   refusals 3 to 6
@@ -9,7 +10,7 @@
 --   allBelow S t, residueElement S a    are the numbers of a table, of an element by value, residues: below q (refusal 8)
 --   allWithin b t                       are the numbers of a table from −b to b (refusal 9)
 --   exponent S e, exponents S t         is e, is every number of a table, an exponent (refusal 10)
-use mathlib.Core.Bool.{Bool, _&&_}
+use mathlib.Core.Bool.{Bool, _&&_, _||_}
 use mathlib.Core.List.{List, [], _∷_}
 use Prim.Native.Nat.{ℕ, _+_, _*_, _/_, _%_, _^_}
 use lib.Dec.{leb, ltb, eqb}
@@ -20,9 +21,13 @@ use Rattle.protocol.specs.Basic.{every, all, among, within, first, unles
 use Rattle.protocol.specs.Layout.{exponentCount}
 unfoldable pub use Rattle.protocol.specs.Layout.{size, cells}
 
--- PROTOCOL 1.1: the powers of two from 2^1 to 2^6
+-- PROTOCOL 1.1: 48·2^8 + 1, a prime
+abbrev pub transformModulus : ℕ
+transformModulus = 12_289
+
+-- PROTOCOL 1.1: the powers of two from 2^1 to 2^6; 2^7 with the modulus 12289 alone
 unfoldable pub degreeAllowed : Settings → Bool
-degreeAllowed S = among (S .degree) (2 ∷ 4 ∷ 8 ∷ 16 ∷ 32 ∷ 64 ∷ [])
+degreeAllowed S = among (S .degree) (2 ∷ 4 ∷ 8 ∷ 16 ∷ 32 ∷ 64 ∷ []) || (eqb (S .degree) 128 && eqb (S .modulus) transformModulus)
 
 -- PROTOCOL 1.1: a table has at most 256 elements
 unfoldable pub depthAllowed : Settings → Bool

@@ -1,7 +1,7 @@
 // The declared types of the public calls (PROTOCOL 8.1, by value), and the numbers that their sizes go by. No function stands here.
 
 // How many places an element has that is passed by value: `width` of the definitions.
-pub const WIDTH: usize = 64;
+pub const WIDTH: usize = 128;
 
 // How many challenges a record holds, one for each round that there can be: `slots` of the definitions.
 pub const SLOTS: usize = 8;
@@ -15,6 +15,9 @@ pub const NARROW_LIMIT: u32 = 2147483647;
 
 // The residues of a key, a commitment, a round polynomial or a claim.
 pub type Residue = u64;
+
+// The one modulus at which the degree 128 is allowed: `transformModulus` of the definitions.
+pub const TRANSFORM_MODULUS: Residue = 12289;
 
 // PROTOCOL 1.1.
 pub struct Settings {

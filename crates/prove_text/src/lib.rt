@@ -8,16 +8,16 @@ use protocol::Written;
 use text_parts::CELLS;
 use text_parts::ROUND_CELLS;
 ghost use mathlib.Core.Path.{_≡_};
-ghost use mathlib.Core.Bool.{true};
 ghost use mathlib.Core.List.{[]};
 ghost use Prim.Native.Nat.{_≤_};
 ghost use lib.ListN.{length};
 ghost use Rattle.protocol.specs.Layout.{slots, roundCells};
-ghost use Rattle.protocol.specs.Text.{fits, linesOf, settingsIn, lookRefusal};
+ghost use Rattle.protocol.specs.Text.{linesOf, settingsIn, lookRefusal};
 ghost use Rattle.protocol.specs.Programs.{proveReads, provePrints, proveOutput};
 ghost use Rattle.protocol.specs.Promises.{Proved};
 ghost use Rattle.text_parts.specs.Parts.{tablesOf, cellsRoom, roundCellsRoom};
 ghost use Rattle.text_lines.specs.Header.{Begins};
+ghost use Rattle.table_reader.specs.Parts.{Lent};
 ghost use Rattle.table_writer.specs.Shown.{Shown, Within};
 ghost use Rattle.prove_text.specs.Printed.{Openable, Printed};
 
@@ -79,7 +79,7 @@ fn print_opening(
     )
 }
 
-// The call with the settings that the text begins with, and with tables of exactly their lengths where a first look refuses nothing. The tables of parts that are not read have length 0.
+// The call with the settings that the text begins with, and with tables of exactly their lengths where a first look refuses nothing and the text has their lines. The tables of parts that are not read have length 0.
 fn prove_in(
     text: &[u8],
     settings: Settings,
@@ -90,7 +90,7 @@ fn prove_in(
     rounds: &mut [Residue],
     out: &mut [u8],
 ) -> Written
-    requires { ⌜ (lookRefusal (now text) ≡ 0 → fits (settingsIn (linesOf (now text))) proveReads (tablesOf (now key) (now message) [] [] (now challenges) []) ≡ true) ⌝ }
+    requires { ⌜ Lent proveReads (now text) (tablesOf (now key) (now message) [] [] (now challenges) []) ⌝ }
     requires { ⌜ (lookRefusal (now text) ≡ 0 → length (now rounds) ≡ roundCells (settingsIn (linesOf (now text)))) × Begins (now text) settings from ⌝ }
     ensures { λ r. ⌜ Proved (now (text .entry)) (now (out .entry)) r (now (out .exit)) ⌝ }
 {
@@ -135,7 +135,7 @@ fn prove_within(
     }
     let settings = begun.loaded.settings;
     let depth = settings.depth as usize;
-    let cells = sizes::cells(settings);
+    let cells = table_reader::lent_cells(settings);
     let round_cells = sizes::round_cells(settings);
     prove_in(
         text,

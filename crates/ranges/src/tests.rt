@@ -1,6 +1,7 @@
 // The tests that refusals go by.
 use protocol::Residue;
 use protocol::Settings;
+use protocol::TRANSFORM_MODULUS;
 use protocol::WIDTH;
 ghost use mathlib.Core.Path.{_≡_};
 ghost use mathlib.Core.Bool.{_&&_};
@@ -33,14 +34,14 @@ pub fn refuse(earlier: u32, number: u32, holds: bool) -> u32
     number
 }
 
-// Refusal 3: is the degree allowed.
+// Refusal 3: is the degree allowed; the largest one is with one modulus alone.
 fn degree_allowed(settings: Settings) -> bool
     ensures { λ r. ⌜ r ≡ degreeAllowed settings ⌝ }
 {
     let d = settings.degree;
     match d {
         2 | 4 | 8 | 16 | 32 | 64 => true,
-        _ => false,
+        _ => (d == 128) & (settings.modulus == TRANSFORM_MODULUS),
     }
 }
 

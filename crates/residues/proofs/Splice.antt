@@ -8,7 +8,7 @@ use native.Mathlib.Omega.{arith}
 use lib.ListN.{length, getD, take, drop, set, replicate, length-append, length-drop, take-append-drop, List·getD-append}
 use lib.Seq.{length-take-le, getD-append-add, getD-drop, getD-take, ext-getD, take-at, drop-at, take-append-le, drop-append-le, drop-drop}
 use Rattle.protocol.specs.Basic.{tabulate}
-use Rattle.protocol.specs.Element.{zeros, padded}
+use Rattle.protocol.specs.Element.{width, zeros, padded}
 use Rattle.protocol.proofs.Reading.{tabulate-at, tabulate-length, tabulate-ext, tabulate-add}
 use Rattle.residues.specs.Lists.{spliced}
 use Rattle.residues.proofs.Fill.{filled, filled-more, filled-at, filled-behind, filled-length, filled-again, element-done}
@@ -152,5 +152,5 @@ spliced-zeros : (f : ℕ → ℕ) (n d : ℕ) → spliced f 0 d (replicate n 0) 
 unfolding spliced filled zeros
 spliced-zeros f n d = refl
 
-pub spliced-element : (f g : ℕ → ℕ) (d : ℕ) → ((k : ℕ) → k < d → f k ≡ g k) → spliced f 0 d (replicate 64 0) ≡ padded d (tabulate d g)
-spliced-element f g d e = spliced-ext f g 0 d (replicate 64 0) e ∙ element-done g d d (spliced g 0 d (replicate 64 0)) (spliced-zeros g 64 d) refl
+pub spliced-element : (f g : ℕ → ℕ) (d : ℕ) → ((k : ℕ) → k < d → f k ≡ g k) → spliced f 0 d (replicate width 0) ≡ padded d (tabulate d g)
+spliced-element f g d e = spliced-ext f g 0 d (replicate width 0) e ∙ element-done g d d (spliced g 0 d (replicate width 0)) (spliced-zeros g width d) refl

@@ -12,7 +12,7 @@ use Rattle.algebra.specs.Residues.{Zmod}
 use Rattle.algebra.specs.Negacyclic.{negacyclic}
 use Rattle.algebra.specs.Inner as I
 use Rattle.protocol.specs.Basic.{tabulate}
-use Rattle.protocol.specs.Element.{Element, modulo, plus, times, padded, reduced, signedAt, residueAt}
+use Rattle.protocol.specs.Element.{Element, width, modulo, plus, times, padded, reduced, signedAt, residueAt}
 use Rattle.protocol.specs.Opening.{inner, second, cross}
 use Rattle.protocol.proofs.Modulo.{modulo-lt, modulo-residue, modulo-add, modulo-times}
 use Rattle.protocol.proofs.Reading.{tabulate-ext}
@@ -34,7 +34,7 @@ module _ (q d h : ℕ) (m : List ℤ) (G : List ℕ) (t : Halved q d h m G) wher
       f-long = t .tables .message-long;
       g-long = t .tables .key-long;
     };
-    few = omega (arith, Nat.mul-le-mul {n₁ = h} {n₂ = 128} {m₂ = 64} (omega (arith, t .tables .elements)) (t .tables .degree-most));
+    few = omega (arith, Nat.mul-le-mul {n₁ = h} {n₂ = 128} {m₂ = width} (omega (arith, t .tables .elements)) (t .tables .degree-most));
     small = λ j l. omega (arith, t .message-half j l);
     residues = λ j l. t .tables .key-residues j (omega (arith, Nat.mul-assoc 2 h d));
     modulus-most = t .tables .modulus-most;

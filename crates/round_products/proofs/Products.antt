@@ -10,7 +10,7 @@ use lib.Pow as Pow
 use lib.Seq.{getD-drop}
 use Rattle.protocol.specs.declared.Settings.{Settings}
 use Rattle.protocol.specs.Basic.{tabulate}
-use Rattle.protocol.specs.Element.{Element, modulo, times, padded, reduced, signedAt, residueAt}
+use Rattle.protocol.specs.Element.{Element, width, modulo, times, padded, reduced, signedAt, residueAt}
 use Rattle.protocol.specs.Settings.{size, cells, half}
 use Rattle.protocol.specs.Opening.{inner, second, cross, left, halfLeft, commitment, roundElement}
 use Rattle.protocol.specs.Calls.{polynomial}
@@ -49,8 +49,10 @@ summable q d n m G t = record {
     f-long = t .message-long;
     g-long = t .key-long;
   };
-  few = Nat.mul-le-mul {n₂ = 256} {m₂ = 64} (t .elements) (t .degree-most);
-  small = λ j l. omega (arith, t .message-small j l);
+  magnitude = 2 ^ 15;
+  magnitude-most = omega arith;
+  few = omega (arith, Nat.mul-le-mul {n₂ = 256} {m₂ = width} (t .elements) (t .degree-most));
+  small = t .message-small;
   modulus-most = t .modulus-most;
   residues = t .key-residues;
 }

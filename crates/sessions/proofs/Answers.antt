@@ -12,7 +12,7 @@ use Rattle.protocol.specs.declared.Session.{Session}
 use Rattle.protocol.specs.declared.Started.{Started}
 use Rattle.protocol.specs.declared.Moved.{Moved}
 use Rattle.protocol.specs.Basic.{granted}
-use Rattle.protocol.specs.Element.{padded}
+use Rattle.protocol.specs.Element.{width, padded}
 use Rattle.protocol.specs.Settings.{hasLength}
 use Rattle.protocol.specs.Session.{opened, blank, startRefusal, start}
 use Rattle.protocol.proofs.Tests.{and-split, granted-zero, granted-refused}
@@ -35,7 +35,7 @@ module _ (S : Settings) (C rec : List ℕ) (n : ℕ) (e : n ≡ lent S (hasLengt
         record-exit = p ∙ ap (λ r. recordStored r rec) (b ∙ kept S _ _ _ _ refused);
       }
 
-  pub start-made : (c : List ℕ) (r : Started) (rec′ : List ℕ) → n ≡ 0 → (S .degree ≤ 64 → length C ≡ S .degree → c ≡ padded (S .degree) C) → r ≡ start S c
+  pub start-made : (c : List ℕ) (r : Started) (rec′ : List ℕ) → n ≡ 0 → (S .degree ≤ width → length C ≡ S .degree → c ≡ padded (S .degree) C) → r ≡ start S c
       → rec′ ≡ recordStored (r .next) rec → StartStored S C rec (r .refusal) rec′
   unfolding startNumber startExit start hasLength
   start-made c r rec′ h b q p =
@@ -51,7 +51,7 @@ module _ (S : Settings) (C rec : List ℕ) (n : ℕ) (e : n ≡ lent S (hasLengt
 
 module _ (fits : Bool) (m : Moved) (rec : List ℕ) where
   -- a slice that holds no record
-  pub move-nowhere : length rec ≢ 78 → MoveStored fits m rec 7 rec 0
+  pub move-nowhere : length rec ≢ recordWidth → MoveStored fits m rec 7 rec 0
   unfolding moveExit moveVerdict
   move-nowhere h = record {
     refusal = seven;
@@ -65,7 +65,7 @@ module _ (fits : Bool) (m : Moved) (rec : List ℕ) where
       refused : moveNumber fits m rec ≢ 0
       refused z = let no : _≡_ {A = ℕ} 7 0 = seven ∙ z in omega arith
 
-  module _ (long : length rec ≡ 78) where
+  module _ (long : length rec ≡ recordWidth) where
     number-is : moveNumber fits m rec ≡ lent (sessionOf rec .settings) (fits && flagged rec) (m .refusal)
     unfolding moveNumber recordWidth hasLength
     number-is = first-holds 7 _ _ (eq-eqb _ _ long) ∙ first-only _

@@ -32,7 +32,7 @@ use Rattle.sessions.proofs.Stored.{head-number, challenge-number, place
 
 -- a record whose arrays have their lengths, and whose numbers but for modulus and claim are of 32 bits, as every record has that is passed by value
 pub record Whole (r : Session) : Type 0 where
-  pub claim : length (r .claim) ≡ 64
+  pub claim : length (r .claim) ≡ width
   pub challenges : length (r .challenges) ≡ 8
   pub degree : r .settings .degree < 2 ^ 32
   pub depth : r .settings .depth < 2 ^ 32
@@ -55,9 +55,9 @@ capped-below x = go (ltb x (2 ^ 32)) refl
 -- ---- storing, then loading
 
 module _ (r : Session) where
-  number-at : (k : ℕ) → k < 78 → getD (numbersOf r) k 0 ≡ numberOf r k
+  number-at : (k : ℕ) → k < recordWidth → getD (numbersOf r) k 0 ≡ numberOf r k
   unfolding numbersOf recordWidth
-  number-at k h = tabulate-at 78 (numberOf r) 0 k h
+  number-at k h = tabulate-at recordWidth (numberOf r) 0 k h
 
   head-at : (k : ℕ) → k < 6 → getD (numbersOf r) k 0 ≡ getD (headOf r) k 0
   head-at k h = number-at k (omega arith) ∙ sym (head-number r k h)
@@ -65,7 +65,7 @@ module _ (r : Session) where
   challenge-at : (k : ℕ) → k < 8 → getD (numbersOf r) (6 + k) 0 ≡ getD (r .challenges) k 0
   challenge-at k h = number-at (6 + k) (omega arith) ∙ sym (challenge-number r k h)
 
-  place-at : (k : ℕ) → k < 64 → getD (numbersOf r) (14 + k) 0 ≡ getD (r .claim) k 0
+  place-at : (k : ℕ) → k < width → getD (numbersOf r) (14 + k) 0 ≡ getD (r .claim) k 0
   place-at k h = number-at (14 + k) (omega arith) ∙ sym (place-number r k h)
 
   flag : (b : Bool) → eqb (choose b 1 0) 1 ≡ b
@@ -88,7 +88,7 @@ module _ (r : Session) where
   pub load-stored : Whole r → sessionOf (numbersOf r) ≡ r
   unfolding sessionOf challengesOf claimOf width headOf choose
   load-stored w =
-      let claim = tabulate-ext 64 place-at ∙ tabulate-own 64 (r .claim) 0 (w .claim) in
+      let claim = tabulate-ext width place-at ∙ tabulate-own width (r .claim) 0 (w .claim) in
       let challenges = tabulate-ext 8 (λ k h. own (challenge-at k h) (w .exponents-small k)) ∙ tabulate-own 8 (r .challenges) 0 (w .challenges) in
       let closed = ap (λ n. eqb n 1) (head-at 5 (omega arith)) ∙ flag (r .closed) in
       λ i. record {
@@ -101,7 +101,7 @@ module _ (r : Session) where
 
 -- ---- loading, then storing
 
-module _ (t : List ℕ) (long : length t ≡ 78) (good : flagged t ≡ true) (small : (k : ℕ) → k < 14 → k ≢ 2 → getD t k 0 < 2 ^ 32) where
+module _ (t : List ℕ) (long : length t ≡ recordWidth) (good : flagged t ≡ true) (small : (k : ℕ) → k < 14 → k ≢ 2 → getD t k 0 < 2 ^ 32) where
   kept-at : (k : ℕ) → k < 14 → k ≢ 2 → capped (getD t k 0) ≡ getD t k 0
   kept-at k h n = capped-small (getD t k 0) (small k h n)
 
@@ -121,7 +121,7 @@ module _ (t : List ℕ) (long : length t ≡ 78) (good : flagged t ≡ true) (sm
   head-kept (suc (suc (suc (suc (suc zero))))) h = flag-number (getD t 5 0) (leb-true _ _ good)
   head-kept (suc (suc (suc (suc (suc (suc k)))))) h = absurd (omega arith)
 
-  number-kept : (k : ℕ) → k < 78 → numberOf (sessionOf t) k ≡ getD t k 0
+  number-kept : (k : ℕ) → k < recordWidth → numberOf (sessionOf t) k ≡ getD t k 0
   unfolding numberOf choose
   number-kept k h = elim (decLt k 6) [
     | yes l ↦ simp (lt-ltb k 6 l) (head-kept k l)
@@ -134,21 +134,21 @@ module _ (t : List ℕ) (long : length t ≡ 78) (good : flagged t ≡ true) (sm
       challenge-kept : (k : ℕ) → 6 ≤ k → k < 14 → getD (sessionOf t .challenges) (k - 6) 0 ≡ getD t k 0
       challenge-kept k a b = unfold sessionOf in unfold challengesOf in tabulate-at 8 (λ j. capped (getD t (6 + j) 0)) 0 (k - 6) (omega arith) ∙ ap (λ n. capped (getD t n 0)) (omega arith) ∙ kept-at k (omega arith) (λ e. omega arith)
 
-      place-kept : (k : ℕ) → 14 ≤ k → k < 78 → getD (sessionOf t .claim) (k - 14) 0 ≡ getD t k 0
-      place-kept k a b = unfold sessionOf in unfold claimOf in unfold width in tabulate-at 64 (λ j. getD t (14 + j) 0) 0 (k - 14) (omega arith) ∙ ap (λ n. getD t n 0) (omega arith)
+      place-kept : (k : ℕ) → 14 ≤ k → k < recordWidth → getD (sessionOf t .claim) (k - 14) 0 ≡ getD t k 0
+      place-kept k a b = unfold sessionOf in unfold claimOf in unfold width in tabulate-at width (λ j. getD t (14 + j) 0) 0 (k - 14) (omega arith) ∙ ap (λ n. getD t n 0) (omega arith)
 
   pub stored-load : numbersOf (sessionOf t) ≡ t
   unfolding numbersOf recordWidth
   stored-load =
-      ext-getD 0 _ t (tabulate-length 78 _ ∙ sym long)
-      (λ k h. let l : k < 78 = omega (arith, tabulate-length 78 (numberOf (sessionOf t))) in tabulate-at 78 (numberOf (sessionOf t)) 0 k l ∙ number-kept k l)
+      ext-getD 0 _ t (tabulate-length recordWidth _ ∙ sym long)
+      (λ k h. let l : k < recordWidth = omega (arith, tabulate-length recordWidth (numberOf (sessionOf t))) in tabulate-at recordWidth (numberOf (sessionOf t)) 0 k l ∙ number-kept k l)
 
 -- ---- the records that moves hand back
 
 pub session-whole : (t : List ℕ) → Whole (sessionOf t)
 unfolding sessionOf claimOf challengesOf width
 session-whole t = record {
-  claim = tabulate-length 64 _;
+  claim = tabulate-length width _;
   challenges = tabulate-length 8 _;
   degree = capped-below (getD t 0 0);
   depth = capped-below (getD t 1 0);
@@ -160,9 +160,9 @@ session-whole t = record {
   ];
 }
 
-padded-length : (d : ℕ) (l : List ℕ) → d ≤ 64 → length l ≡ d → length (padded d l) ≡ 64
+padded-length : (d : ℕ) (l : List ℕ) → d ≤ width → length l ≡ d → length (padded d l) ≡ width
 unfolding padded width
-padded-length d l h e = length-append l (zeros (64 - d)) ∙ omega (arith, zeros-length (64 - d))
+padded-length d l h e = length-append l (zeros (width - d)) ∙ omega (arith, zeros-length (width - d))
 
 zero-small : (k : ℕ) → getD (zeros 8) k 0 < 2 ^ 32
 zero-small k = omega (arith, zeros-at 8 k)
@@ -183,7 +183,7 @@ start-whole S C = go (startRefusal S C) refl
           done = omega arith;
           exponents-small = zero-small;
         }
-    go (suc n) e = record { claim = zeros-length 64; challenges = zeros-length 8; degree = omega arith; depth = omega arith; bound = omega arith; done = omega arith; exponents-small = zero-small }
+    go (suc n) e = record { claim = zeros-length width; challenges = zeros-length 8; degree = omega arith; depth = omega arith; bound = omega arith; done = omega arith; exponents-small = zero-small }
 
 module _ (r : Session) (w : Whole r) where
   shut-whole : Whole (shut r)

@@ -19,11 +19,11 @@ use Rattle.sessions.specs.Records.{recordWidth, claimOf, headOf, numberO
 -- ---- writing
 
 module _ (r : Session) where
-  pub stays : (t : List ℕ) → length t ≢ 78 → t ≡ recordStored r t
+  pub stays : (t : List ℕ) → length t ≢ recordWidth → t ≡ recordStored r t
   unfolding recordStored recordWidth hasLength choose
   stays t h = sym (ap (λ b. choose b (numbersOf r) t) (ne-eqb _ _ h))
 
-  pub stored : (t : List ℕ) → length t ≡ 78 → recordStored r t ≡ numbersOf r
+  pub stored : (t : List ℕ) → length t ≡ recordWidth → recordStored r t ≡ numbersOf r
   unfolding recordStored recordWidth hasLength choose
   stored t h = ap (λ b. choose b (numbersOf r) t) (eq-eqb _ _ h)
 
@@ -38,7 +38,7 @@ module _ (r : Session) where
       let before : 6 + k < 14 = omega arith in
       simp (le-ltb (6 + k) 6 past, lt-ltb (6 + k) 14 before) (ap (λ n. getD (r .challenges) n 0) (omega arith))
 
-  pub place-number : (k : ℕ) → k < 64 → getD (r .claim) k 0 ≡ numberOf r (14 + k)
+  pub place-number : (k : ℕ) → k < width → getD (r .claim) k 0 ≡ numberOf r (14 + k)
   unfolding numberOf choose
   place-number k l =
       let past : 6 ≤ 14 + k = omega arith in
@@ -46,19 +46,19 @@ module _ (r : Session) where
       simp (le-ltb (14 + k) 6 past, le-ltb (14 + k) 14 behind) (ap (λ n. getD (r .claim) n 0) (omega arith))
 
   -- the numbers before the challenges, the challenges and the claim, written one after the other
-  pub parts-stored : (first t : List ℕ) → first ≡ headOf r → length t ≡ 78
-      → spliced (λ k. getD (r .claim) k 0) 14 64 (spliced (λ k. getD (r .challenges) k 0) 6 8 (spliced (λ k. getD first k 0) 0 6 t)) ≡ recordStored r t
+  pub parts-stored : (first t : List ℕ) → first ≡ headOf r → length t ≡ recordWidth
+      → spliced (λ k. getD (r .claim) k 0) 14 width (spliced (λ k. getD (r .challenges) k 0) 6 8 (spliced (λ k. getD first k 0) 0 6 t)) ≡ recordStored r t
   unfolding numbersOf spliced
   parts-stored first t e h =
-      ap (λ l. spliced (λ k. getD (r .claim) k 0) 14 64 (spliced (λ k. getD (r .challenges) k 0) 6 8 l))
+      ap (λ l. spliced (λ k. getD (r .claim) k 0) 14 width (spliced (λ k. getD (r .challenges) k 0) 6 8 l))
       (spliced-ext _ (numberOf r) 0 6 t (λ k l. ap (λ x. getD x k 0) e ∙ head-number k l))
-      ∙ ap (spliced (λ k. getD (r .claim) k 0) 14 64) (spliced-twice (numberOf r) (λ k. getD (r .challenges) k 0) 0 6 8 t (omega arith) challenge-number)
-      ∙ spliced-twice (numberOf r) (λ k. getD (r .claim) k 0) 0 14 64 t (omega arith) place-number
-      ∙ ap (λ l. tabulate 78 (numberOf r) ++ l) (ap (λ n. drop n t) (sym h) ∙ drop-length t) ∙ append-nil _ ∙ sym (stored t h)
+      ∙ ap (spliced (λ k. getD (r .claim) k 0) 14 width) (spliced-twice (numberOf r) (λ k. getD (r .challenges) k 0) 0 6 8 t (omega arith) challenge-number)
+      ∙ spliced-twice (numberOf r) (λ k. getD (r .claim) k 0) 0 14 width t (omega arith) place-number
+      ∙ ap (λ l. tabulate recordWidth (numberOf r) ++ l) (ap (λ n. drop n t) (sym h) ∙ drop-length t) ∙ append-nil _ ∙ sym (stored t h)
 
-  pub numbers-length : length (numbersOf r) ≡ 78
+  pub numbers-length : length (numbersOf r) ≡ recordWidth
   unfolding numbersOf recordWidth
-  numbers-length = tabulate-length 78 (numberOf r)
+  numbers-length = tabulate-length recordWidth (numberOf r)
 
 -- ---- reading
 
@@ -66,10 +66,10 @@ pub part-length : (t : List ℕ) → length (take (length t - 14) (drop 14 t)) �
 part-length t = ap length (take-all (length t - 14) (drop 14 t) (omega (arith, length-drop 14 t))) ∙ length-drop 14 t
 
 -- the claim is what stands behind the first fourteen numbers
-pub claim-read : (t : List ℕ) → length t ≡ 78 → padded 64 (take (length t - 14) (drop 14 t)) ≡ claimOf t
+pub claim-read : (t : List ℕ) → length t ≡ recordWidth → padded width (take (length t - 14) (drop 14 t)) ≡ claimOf t
 unfolding padded zeros width claimOf
 claim-read t h =
     append-nil _
     ∙ take-all (length t - 14) (drop 14 t) (omega (arith, length-drop 14 t))
-    ∙ sym (tabulate-own 64 (drop 14 t) 0 (omega (arith, length-drop 14 t)))
-    ∙ tabulate-ext 64 (λ k l. getD-drop 14 t k 0)
+    ∙ sym (tabulate-own width (drop 14 t) 0 (omega (arith, length-drop 14 t)))
+    ∙ tabulate-ext width (λ k l. getD-drop 14 t k 0)

@@ -4,7 +4,7 @@
 --
 --   headWidth          6: the numbers before the challenges
 --   claimAt            14: where the claim begins
---   recordWidth        78: all numbers
+--   recordWidth        142: all numbers
 --   sessionOf t        the record that the slice t holds
 --   flagged t          is the number that says whether it is closed 0 or 1; any other is refusal 7
 --   numberOf r k       number k of the record r

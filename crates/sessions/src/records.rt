@@ -51,7 +51,7 @@ pub fn load(t: &[u64]) -> Session
         modulus: t[2],
         bound: slices::capped(t[3]),
     };
-    let claim = slices::residues(64, &t[CLAIM_AT..]);
+    let claim = slices::residues(WIDTH as u32, &t[CLAIM_AT..]);
     let e = challenges(t);
     Session {
         settings: s,

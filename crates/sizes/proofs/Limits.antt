@@ -9,13 +9,14 @@ use Rattle.protocol.specs.Settings.{size, cells}
 use Rattle.protocol.specs.Layout.{width}
 use Rattle.sizes.specs.Most.{elementsMost, cellsMost}
 use Rattle.protocol.specs.Inputs.{Valid}
+use Rattle.protocol.proofs.Inputs as inputs
 
 module _ (S : Settings) (ok : Valid S) where
   pub degree-least : 2 ≤ S .degree
   degree-least = subst (λ n. 2 ≤ n) (sym (ok .degree-is)) (Pow.pow-mono {i = 1} (ok .log-least))
 
   pub degree-most : S .degree ≤ width
-  degree-most = subst (λ n. n ≤ width) (sym (ok .degree-is)) (Pow.pow-mono {j = 6} (ok .log-most))
+  degree-most = inputs.degree-most S ok
 
   pub cells-most : cells S ≤ cellsMost
   unfolding cells size

@@ -1,27 +1,30 @@
--- A program's call on text: a first look, and the reader with tables of exactly their lengths. P says which parts the program reads.
+-- A program's call on text: a first look, and the reader with tables of exactly their lengths, where the text has the lines that its settings ask for. P says which parts the program reads.
 --
 --   look-refusal                   a text whose settings are refused
 --   same-refusal, number-is        where the lent tables have their lengths, the reader refuses what the program refuses; of a text that a first look
---                                  refuses nothing is asked
+--                                  refuses, or that has other lines, nothing is asked
 --   settings-unrefused             where nothing is refused, a first look refuses nothing
 --   settings-are, tables-are       what the reader gives then
 --   settings-allowed, entries-passed   and what is known of that
 --   still-fitting                  tables keep their lengths
 use mathlib.Core.Path.{_≡_, refl, sym, ap, _∙_}
-use mathlib.Core.Bool.{Bool, true}
-use mathlib.Core.List.{List}
+use mathlib.Core.Bool.{Bool, true, false, _&&_}
+use mathlib.Core.List.{List, [], _∷_}
 use Prim.Native.Nat.{ℕ, zero, suc}
 use native.Mathlib.Omega.{arith}
 use Rattle.protocol.specs.declared.Settings.{Settings}
 use Rattle.protocol.specs.declared.Parts.{Parts}
 use Rattle.protocol.specs.declared.Loaded.{Loaded}
+use Rattle.protocol.specs.Basic.{first, unless}
 use Rattle.protocol.specs.Settings.{settingsRefusal}
+use Rattle.protocol.specs.Text.{spotsOf, sameSpots, wanted}
 use Rattle.protocol.specs.Text.{Tables, fits, linesOf, settingsIn, tablesIn, lookRefusal, loaded, lookAnswer, entriesRefusal, textRefusal, readRefusal, readAnswer, readExit}
 use Rattle.protocol.specs.Promises.{Read}
-use Rattle.protocol.proofs.Tests.{first-zero, granted-zero}
+use Rattle.protocol.proofs.Tests.{and-split, first-zero, unless-zero, granted-zero}
 use Rattle.protocol.proofs.Refusals.{first-stops}
 use Rattle.text_parts.specs.Parts.{lengthsOf, lengthsFit}
 use Rattle.text_parts.proofs.Exactly.{lengths-fit}
+use Rattle.table_reader.specs.Parts.{Lent}
 
 module _ (text : List ℕ) where
   abbrev S : Settings
@@ -36,12 +39,18 @@ module _ (text : List ℕ) where
     unfolding textRefusal
     look-refusal P h = first-stops _ _ (λ z. h (look-number ∙ z)) ∙ sym look-number
 
-  refusal-by : (P : Parts) (lent : Bool) (n : ℕ) → lookRefusal text ≡ n → (lookRefusal text ≡ 0 → lent ≡ true) → textRefusal P lent text ≡ textRefusal P true text
+  asked : (a b : Bool) → (a ≡ true → b ≡ true) → (a && b) ≡ (a && true)
+  asked true b f = f refl
+  asked false b f = refl
+
+  refusal-by : (P : Parts) (lent : Bool) (n : ℕ) → lookRefusal text ≡ n → (lookRefusal text ≡ 0 → sameSpots (spotsOf (linesOf text)) (wanted S P) ≡ true → lent ≡ true)
+      → textRefusal P lent text ≡ textRefusal P true text
   unfolding textRefusal
-  refusal-by P lent zero e f = ap (λ b. textRefusal P b text) (f e)
+  refusal-by P lent zero e f =
+      ap (λ b. first (lookRefusal text ∷ unless 7 b ∷ entriesRefusal S true (tablesIn (linesOf text)) ∷ [])) (asked (sameSpots (spotsOf (linesOf text)) (wanted S P)) lent (f e))
   refusal-by P lent (suc n) e f = first-stops _ _ (λ z. absurd (omega arith)) ∙ sym (first-stops _ _ (λ z. absurd (omega arith)))
 
-  module _ (P : Parts) (t t′ : Tables) (fit : lookRefusal text ≡ 0 → fits S P t ≡ true) (r : Loaded) (h : Read P text t r t′) where
+  module _ (P : Parts) (t t′ : Tables) (fit : Lent P text t) (r : Loaded) (h : Read P text t r t′) where
     pub same-refusal : readRefusal P text t ≡ textRefusal P true text
     unfolding readRefusal
     same-refusal = refusal-by P (fits S P t) (lookRefusal text) refl fit
@@ -57,6 +66,10 @@ module _ (text : List ℕ) where
       pub settings-unrefused : lookRefusal text ≡ 0
       unfolding textRefusal
       settings-unrefused = first-zero _ _ unrefused .0
+
+      same-lines : sameSpots (spotsOf (linesOf text)) (wanted S P) ≡ true
+      unfolding textRefusal
+      same-lines = and-split (unless-zero 6 _ (first-zero _ _ (first-zero _ _ unrefused .1) .0)) .0
 
       pub settings-are : r .settings ≡ S
       unfolding readAnswer loaded
@@ -75,4 +88,4 @@ module _ (text : List ℕ) where
       entries-passed = (λ j. entriesRefusal (settings-are j) true (tables-are j)) ∙ first-zero _ _ (first-zero _ _ (first-zero _ _ unrefused .1) .1) .0
 
       pub still-fitting : lengthsOf t′ ≡ lengthsOf t → fits (r .settings) P t′ ≡ true
-      still-fitting l = ap (λ x. fits x P t′) settings-are ∙ sym (lengths-fit S P t′) ∙ ap (lengthsFit S P) l ∙ lengths-fit S P t ∙ fit settings-unrefused
+      still-fitting l = ap (λ x. fits x P t′) settings-are ∙ sym (lengths-fit S P t′) ∙ ap (lengthsFit S P) l ∙ lengths-fit S P t ∙ fit settings-unrefused same-lines

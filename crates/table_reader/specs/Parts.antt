@@ -4,6 +4,7 @@
 --   takenAnswer text o    the answer of a reader of lines at wanted spots
 --   Took                  what such a reader promises
 --   RoomFor S P m         a table of m values has room for those of tables that have their lengths
+--   Lent P text t         the lent tables have their lengths, where the text has the lines that its settings ask for
 --   Roomy n m             a table of m values has room for those of a text of n bytes, where it is not too long
 use mathlib.Core.Path.{_≡_}
 use mathlib.Core.Bool.{true, false}
@@ -14,7 +15,7 @@ use lib.ListN.{length, drop, take}
 use lib.IntN.{ℤ}
 use Rattle.protocol.specs.declared.Settings.{Settings}
 use Rattle.protocol.specs.declared.Parts.{Parts}
-use Rattle.protocol.specs.Text.{Spot, textLimit, shapes, spots}
+use Rattle.protocol.specs.Text.{Spot, Tables, textLimit, shapes, spots, wanted, fits, linesOf, spotsOf, sameSpots, settingsIn, lookRefusal}
 use Rattle.table_reader.specs.declared.parts.Taken.{Taken}
 use Rattle.protocol.specs.Lines.{readValues}
 use Rattle.text_parts.specs.Parts.{partOf, lengthsAre}
@@ -34,6 +35,11 @@ pub record Took (text : List ℕ) (from : ℕ) (ss : List Spot) (r : Taken) (val
 
 abbrev pub RoomFor : Settings → Parts → ℕ → Type 0
 RoomFor S P m = (n : List ℕ) → lengthsAre (partOf S P) n ≡ true → total n ≤ m
+
+abbrev pub Lent : Parts → List ℕ → Tables → Type 0
+Lent P text t =
+    let S = settingsIn (linesOf text) in
+    lookRefusal text ≡ 0 → sameSpots (spotsOf (linesOf text)) (wanted S P) ≡ true → fits S P t ≡ true
 
 -- a line has at least eight bytes
 abbrev pub Roomy : ℕ → ℕ → Type 0

@@ -8,11 +8,15 @@ use protocol::Loaded;
 use protocol::Parts;
 use protocol::Residue;
 use protocol::Settings;
+use text_parts::CELLS;
 use text_parts::VALUES;
+ghost use mathlib.Core.Path.{_≡_};
+ghost use Prim.Native.Nat.{_≤_};
 ghost use lib.ListN.{length};
 ghost use Rattle.protocol.specs.Basic.{Provided};
 ghost use Rattle.protocol.specs.Promises.{Read};
-ghost use Rattle.text_parts.specs.Parts.{tablesOf};
+ghost use Rattle.protocol.specs.Settings.{settingsRefusal};
+ghost use Rattle.text_parts.specs.Parts.{tablesOf, cellsRoom, lentCells};
 ghost use Rattle.text_lines.specs.Header.{Begins};
 ghost use Rattle.table_reader.specs.Parts.{Roomy};
 
@@ -53,6 +57,17 @@ fn read_by(
     }
     store::all(values, key, message, commitment, rounds, challenges, last);
     loaded
+}
+
+// How many numbers of a key or a message to lend for a text with these settings: as many as they ask for, and no more than a text has lines for.
+pub fn lent_cells(settings: Settings) -> usize
+    ensures { λ r. ⌜ Provided (settingsRefusal settings ≡ 0) (r ≡ lentCells settings) × (r ≤ cellsRoom) ⌝ }
+{
+    let cells = sizes::cells(settings);
+    if cells <= CELLS {
+        return cells;
+    }
+    CELLS
 }
 
 // The values of a short text have a small place, which costs less to make.

@@ -35,7 +35,7 @@ use Rattle.table_writer.proofs.PartTexts.{lines-count}
 
 -- ---- every line has at least eight bytes
 
-lines-least : (ls : List Line) → 8 * length ls ≤ length (linesText ls)
+pub lines-least : (ls : List Line) → 8 * length ls ≤ length (linesText ls)
 unfolding linesText flatMap
 lines-least [] = omega arith
 lines-least (l ∷ ls) = omega (arith, line-least l, lines-least ls, length-append (lineText l) (linesText ls))

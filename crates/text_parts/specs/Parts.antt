@@ -13,7 +13,8 @@
 --   Exact S P t           the lengths of tables that fit
 --   testedBy k            the refusal that tests the values of the table at place k; 0 where none does
 --   valuesRoom            8,192: the room for the values of every text that is not too long
---   cellsRoom             16,384: the room for every key and every message
+--   cellsRoom             as many: the room for the key and the message of such a text
+--   lentCells S           how many numbers of a key or a message are lent to the reader of such a text
 --   roundCellsRoom        1,536: the room for the round polynomials of every transcript
 use mathlib.Core.Path.{_≡_}
 use mathlib.Core.Bool.{Bool}
@@ -25,7 +26,7 @@ use lib.IntN.{ℤ}
 use Rattle.protocol.specs.declared.Settings.{Settings}
 use Rattle.protocol.specs.declared.Parts.{Parts}
 use Rattle.protocol.specs.Basic.{choose, every}
-use Rattle.protocol.specs.Layout.{width, slots}
+use Rattle.protocol.specs.Layout.{width, slots, cells}
 use Rattle.protocol.specs.Settings.{depthAllowed}
 use Rattle.protocol.specs.Text.{Tables, Shape, settingsShape, shapes, shapeSize}
 use Rattle.text_parts.specs.declared.Shape.{Shape as Part}
@@ -94,9 +95,13 @@ testedBy k = getD (8 ∷ 9 ∷ 8 ∷ 8 ∷ 10 ∷ 0 ∷ []) k 0
 abbrev pub valuesRoom : ℕ
 valuesRoom = 8_192
 
--- 2^8 elements
+-- a line for each number
 abbrev pub cellsRoom : ℕ
-cellsRoom = 256 * width
+cellsRoom = valuesRoom
+
+-- a text has no lines for more
+unfoldable pub lentCells : Settings → ℕ
+lentCells S = choose (leb (cells S) cellsRoom) (cells S) cellsRoom
 
 abbrev pub roundCellsRoom : ℕ
 roundCellsRoom = 3 * slots * width

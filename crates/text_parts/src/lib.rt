@@ -15,8 +15,8 @@ pub const TABLES: usize = 6;
 // The room for the values of every text that is not too long, since a line has at least eight bytes: `valuesRoom` of the definitions.
 pub const VALUES: usize = TEXT_LIMIT / 8;
 
-// The largest key or message, of 2^8 elements, and the largest table of round polynomials: `cellsRoom` and `roundCellsRoom` of the definitions.
-pub const CELLS: usize = 256 * WIDTH;
+// The largest key or message of a text, with a line for each number, and the largest table of round polynomials: `cellsRoom` and `roundCellsRoom` of the definitions.
+pub const CELLS: usize = VALUES;
 
 pub const ROUND_CELLS: usize = 3 * SLOTS * WIDTH;
 

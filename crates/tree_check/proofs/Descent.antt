@@ -59,7 +59,7 @@ module _ (S : Settings) (rounds E : List ℕ) (finals : List ℤ) (h k first spa
       key-alike : Alike (n * d) (drop (n * d) (take half U)) (foldKey S (L - h) (challenge E k j) (drop (2 ^ h * d) W))
       key-alike i l =
           (λ x. getD (drop (n * d) (take ((is-half ∙ twice) x) (folded-is x))) i 0)
-          ∙ child-alike q d n (challenge E k j) W room i l
+          ∙ child-alike q d n (challenge E k j) (n * d + n * d) W room i l
           ∙ ap (λ s. getD s i 0) key-is
 
       pub child-tests : (claim : List ℕ) → Alike d claim (claimTo S rounds E k j)
@@ -70,12 +70,12 @@ module _ (S : Settings) (rounds E : List ℕ) (finals : List ℤ) (h k first spa
           ∙ tree-alike S rounds E finals (h - 1) (child k j) (suc (L - h)) claim (claimTo S rounds E k j) _ _ (omega (arith, A .height)) alike key-alike
 
       pub child-read : 0 < q → (i : ℕ) → getD (drop (n * d) (take half U)) i 0 < q
-      child-read p i = subst (λ l. getD l i 0 < q) (sym (λ x. drop (n * d) (take ((is-half ∙ twice) x) (folded-is x)))) (child-below q d n (challenge E k j) W room p i)
+      child-read p i = subst (λ l. getD l i 0 < q) (sym (λ x. drop (n * d) (take ((is-half ∙ twice) x) (folded-is x)))) (child-below q d n (challenge E k j) (n * d + n * d) W room p i)
 
       -- the node's own key
       pub key-kept : (last : List ℕ) → length last ≡ length (take half U) → half ≤ length U → drop (2 ^ h * d) (last ++ drop half U) ≡ drop (2 ^ h * d) W
       key-kept last same inside =
           drop-at last (drop half U) (2 ^ h * d) (same ∙ length-take-le half U inside ∙ is-half)
           ∙ (λ i. drop ((is-half ∙ twice) i) (folded-is i))
-          ∙ fold-kept q d n (challenge E k j) W room
+          ∙ fold-kept q d n (challenge E k j) (n * d + n * d) W room
           ∙ ap (λ x. drop x W) (sym twice)

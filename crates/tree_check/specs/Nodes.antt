@@ -1,6 +1,8 @@
 -- The check of a tree node by node, as the code goes through it.
 --
 --   Folding S h space          the key of a node that is h steps above the leaves can be folded in a list of `space` numbers
+--   RootFolding S key space    so can the root's, of `key` numbers, behind room for half of it
+--   RootFolded S e key ws      the list ws, up to the length of the key, has the key folded by X^e in its second half
 --   Tables S rounds finals     a full tree has so many numbers in its tables of rounds and of final elements
 --   Round S k rounds           node k has a round, which stands in a table of `rounds` numbers
 --   Reduced S l                every number of the list l is a residue
@@ -13,12 +15,13 @@ use mathlib.Core.Bool.{Bool}
 use mathlib.Core.List.{List}
 use Prim.Native.Nat.{ℕ, suc, _+_, _*_, _-_, _^_, _<_, _≤_}
 use lib.IntN.{ℤ}
-use lib.ListN.{length, getD, drop}
+use lib.ListN.{length, getD, take, drop}
 use Rattle.protocol.specs.declared.Settings.{Settings}
 use Rattle.protocol.specs.Element.{signed, residueAt}
 use Rattle.protocol.specs.Settings.{settingsRefusal, cells}
 use Rattle.protocol.specs.Opening.{foldKey}
 use Rattle.protocol.specs.Inputs.{Below}
+use Rattle.protocol.specs.Nodes.{Alike}
 use Rattle.protocol.specs.Transcript.{endMet}
 use Rattle.protocol.specs.Layout.{polynomialAt, polynomialCells, treeRoundCells, leafCells}
 use Rattle.protocol.specs.Tree.{child, challenge, leaf}
@@ -29,6 +32,12 @@ pub record Folding (S : Settings) (h space : ℕ) : Type 0 where
   pub up : 0 < h
   pub height : h ≤ S .depth
   pub space-is : space ≡ 2 * (2 ^ h * S .degree)
+
+pub record RootFolding (S : Settings) (key space : ℕ) : Type 0 where
+  pub allowed : settingsRefusal S ≡ 0
+  pub up : 0 < S .depth
+  pub key-long : key ≡ cells S
+  pub room : 2 ^ (S .depth - 1) * S .degree + key ≤ space
 
 pub record Tables (S : Settings) (rounds finals : ℕ) : Type 0 where
   pub allowed : settingsRefusal S ≡ 0
@@ -42,6 +51,10 @@ pub record Round (S : Settings) (k rounds : ℕ) : Type 0 where
 
 abbrev pub Reduced : Settings → List ℕ → Type 0
 Reduced S l = (j : ℕ) → getD l j 0 < S .modulus
+
+pub record RootFolded (S : Settings) (e : ℕ) (key ws : List ℕ) : Type 0 where
+  pub alike : Alike (2 ^ (S .depth - 1) * S .degree) (drop (2 ^ (S .depth - 1) * S .degree) (take (length key) ws)) (foldKey S 0 e key)
+  pub below : Reduced S (drop (2 ^ (S .depth - 1) * S .degree) (take (length key) ws))
 
 pub record Read (S : Settings) (h : ℕ) (rounds ws : List ℕ) : Type 0 where
   pub rounds-below : Reduced S rounds

@@ -1,5 +1,5 @@
 // The check of a tree node by node. Each node hands its next claim and its folded key to its children, so that no fold is done twice.
-// All of them share one workspace: a node's key stands in the second half of its part, and its children work in the first half.
+// All below a child of the root share one workspace: a node's key stands in the second half of its part, and its children work in the first half.
 use protocol::Residue;
 use protocol::Settings;
 use protocol::WIDTH;
@@ -7,14 +7,14 @@ use residues::elements;
 ghost use mathlib.Core.Path.{_≡_};
 ghost use Prim.Native.Nat.{_+_, _*_, _-_, _^_, _<_, _≤_};
 ghost use lib.ListN.{length, drop};
-ghost use Rattle.protocol.specs.Basic.{Provided};
+ghost use Rattle.protocol.specs.Basic.{every, Provided};
 ghost use Rattle.protocol.specs.Settings.{settingsRefusal, cells};
 ghost use Rattle.protocol.specs.Tree as tree;
 ghost use Rattle.protocol.specs.Calls.{everyPath};
 ghost use Rattle.folds.specs.Folds.{foldDown};
 ghost use Rattle.protocol.specs.TreeCheck.{claimTo, nodeHolds, treeAccepted};
 ghost use Rattle.protocol.specs.Nodes.{AtNode, Alike};
-ghost use Rattle.tree_check.specs.Nodes.{Folding, Tables, Round, Reduced, Read, TreeGiven, leafMet, childAccepted};
+ghost use Rattle.tree_check.specs.Nodes.{Folding, RootFolding, RootFolded, Tables, Round, Reduced, Read, TreeGiven, leafMet, childAccepted};
 
 // Challenge j of node k.
 fn challenge(challenges: &[u32], k: u32, j: u32) -> u32
@@ -145,11 +145,83 @@ fn subtree_accepted(
     child_accepted(settings, h, k, 2, first, rounds, challenges, leaves, ws)
 }
 
-// Room for the largest key, 2^8 elements, and as much again for all that it is folded to.
-const ROOM: usize = 2 * 256 * WIDTH;
+// Room for the largest key, 2^8 elements, and before it for half as many; and for one of 1,024 numbers, as every tree has that can be extracted from.
+const ROOM: usize = 3 * 128 * WIDTH;
+
+const FEW: usize = 1024;
+
+const SMALL_ROOM: usize = FEW + FEW / 2;
 
 fn room() -> [Residue; ROOM] {
     [0u64; ROOM]
+}
+
+fn small_room() -> [Residue; SMALL_ROOM] {
+    [0u64; SMALL_ROOM]
+}
+
+// Copies the root's key to a workspace, behind its first third, and folds it by X^e to where it begins: to where the root's child looks for its key.
+fn fold_root(settings: Settings, e: u32, key: &[Residue], ws: &mut [Residue])
+    requires { ⌜ RootFolding settings (length (now key)) (length (now ws)) ⌝ }
+    ensures { λ _. ⌜ Provided (Reduced settings (now (key .entry))) (RootFolded settings e (now (key .entry)) (now (ws .exit))) ⌝ }
+{
+    let n = sizes::half_left(settings, 0);
+    let to = n * settings.degree;
+    residues::store(key.len(), key, to as usize, ws);
+    folds::fold_down(settings.modulus, settings.degree, n, e, to, to, ws);
+}
+
+// Is every path accepted that goes from the root to its child j. The key stays, so that no workspace has to hold it whole beside all that it is folded to.
+fn root_child_accepted(
+    settings: Settings,
+    j: u32,
+    key: &[Residue],
+    rounds: &[Residue],
+    challenges: &[u32],
+    leaves: &[i32],
+    ws: &mut [Residue],
+) -> bool
+    requires { ⌜ Tables settings (length (now rounds)) (length (now leaves)) × RootFolding settings (length (now key)) (length (now ws)) × (j < 3) ⌝ }
+    ensures { λ r. ⌜ Provided (Reduced settings (now (rounds .entry)) × Reduced settings (now (key .entry)))
+        (r ≡ childAccepted settings (now (rounds .entry)) (now (challenges .entry)) (now (leaves .entry)) (settings .depth) 0 (now (key .entry)) j) ⌝ }
+{
+    let mut claim = [0u64; WIDTH];
+    claim_to(settings, 0, j, rounds, challenges, &mut claim);
+    fold_root(settings, challenge(challenges, 0, j), key, ws);
+    let first = sizes::nodes(settings) as u32;
+    let n = key.len();
+    subtree_accepted(
+        settings,
+        settings.depth - 1,
+        1 + j,
+        first,
+        &claim,
+        rounds,
+        challenges,
+        leaves,
+        &mut ws[..n],
+    )
+}
+
+// Is every path accepted below the root.
+fn root_children_accepted(
+    settings: Settings,
+    key: &[Residue],
+    rounds: &[Residue],
+    challenges: &[u32],
+    leaves: &[i32],
+    ws: &mut [Residue],
+) -> bool
+    requires { ⌜ Tables settings (length (now rounds)) (length (now leaves)) × RootFolding settings (length (now key)) (length (now ws)) ⌝ }
+    ensures { λ r. ⌜ Provided (Reduced settings (now (rounds .entry)) × Reduced settings (now (key .entry)))
+        (r ≡ every 3 (childAccepted settings (now (rounds .entry)) (now (challenges .entry)) (now (leaves .entry)) (settings .depth) 0 (now (key .entry)))) ⌝ }
+{
+    for j in 0..3u32 {
+        if !root_child_accepted(settings, j, key, rounds, challenges, leaves, ws) {
+            return false;
+        }
+    }
+    true
 }
 
 // The root: its claim is the commitment and its key the unfolded one.
@@ -165,20 +237,16 @@ pub(crate) fn root_accepted(
     ensures { λ r. ⌜ Provided (TreeGiven settings (now (key .entry)) (now (rounds .entry)) (now (leaves .entry)))
         (r ≡ everyPath settings commitment (now (key .entry)) (now (rounds .entry)) (now (challenges .entry)) (now (leaves .entry))) ⌝ }
 {
-    let n = key.len();
-    let all = 2 * n;
-    let first = sizes::nodes(settings) as u32;
+    if settings.depth == 0 {
+        return leaf_accepted(settings, 0, &commitment, leaves, key);
+    }
+    if !node_holds(settings, 0, &commitment, rounds) {
+        return false;
+    }
+    if key.len() <= FEW {
+        let mut few = small_room();
+        return root_children_accepted(settings, key, rounds, challenges, leaves, &mut few);
+    }
     let mut ws = room();
-    residues::copy(key, &mut ws[n..]);
-    subtree_accepted(
-        settings,
-        settings.depth,
-        0,
-        first,
-        &commitment,
-        rounds,
-        challenges,
-        leaves,
-        &mut ws[..all],
-    )
+    root_children_accepted(settings, key, rounds, challenges, leaves, &mut ws)
 }

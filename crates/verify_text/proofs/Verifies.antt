@@ -22,6 +22,7 @@ use Rattle.protocol.specs.Programs.{verifyReads, tablesAccepted, verifyRefusal,
 use Rattle.protocol.proofs.Tests.{granted-zero, granted-refused}
 use Rattle.text_parts.specs.Parts.{partShape, lengthsOf}
 use Rattle.text_parts.proofs.Exactly.{exact-fits}
+use Rattle.table_reader.specs.Parts.{Lent}
 use Rattle.table_reader.proofs.OnText.{look-refusal, number-is, settings-are, tables-are, settings-allowed, entries-passed, still-fitting}
 use Rattle.verify_text.specs.Given.{Given}
 use Rattle.verify_text.proofs.Checks.{Long}
@@ -41,7 +42,7 @@ module _ (text : List ℕ) where
 
   -- ---- tables of their lengths
 
-  module _ (t t′ : Tables) (fit : lookRefusal text ≡ 0 → fits S verifyReads t ≡ true) (r : Loaded) (h : Read verifyReads text t r t′) where
+  module _ (t t′ : Tables) (fit : Lent verifyReads text t) (r : Loaded) (h : Read verifyReads text t r t′) where
     refusal-is : r .refusal ≡ verifyRefusal text
     unfolding verifyRefusal
     refusal-is = number-is text verifyReads t t′ fit r h

@@ -8,16 +8,15 @@ use protocol::WIDTH;
 use text_parts::CELLS;
 use text_parts::ROUND_CELLS;
 ghost use mathlib.Core.Path.{_≡_};
-ghost use mathlib.Core.Bool.{true};
 ghost use mathlib.Core.List.{[]};
 ghost use Prim.Native.Nat.{_≤_};
 ghost use lib.ListN.{length};
 ghost use Rattle.protocol.specs.Basic.{choose};
 ghost use Rattle.protocol.specs.Layout.{width, slots};
-ghost use Rattle.protocol.specs.Text.{fits, linesOf, settingsIn, lookRefusal};
 ghost use Rattle.protocol.specs.Programs.{verifyReads, tablesAccepted, verifyAnswer, checked, verifyGives, verdictLine, verifyOutput};
 ghost use Rattle.text_parts.specs.Parts.{tablesOf, cellsRoom, roundCellsRoom};
 ghost use Rattle.text_lines.specs.Header.{Begins};
+ghost use Rattle.table_reader.specs.Parts.{Lent};
 ghost use Rattle.table_writer.specs.Shown.{Shown, Within};
 ghost use Rattle.verify_text.specs.Given.{Given};
 
@@ -54,7 +53,7 @@ fn answer(
     Verified::Accepted
 }
 
-// The call with the settings that the text begins with, and with tables of exactly their lengths where a first look refuses nothing.
+// The call with the settings that the text begins with, and with tables of exactly their lengths where a first look refuses nothing and the text has their lines.
 fn verify_in(
     text: &[u8],
     settings: Settings,
@@ -66,8 +65,7 @@ fn verify_in(
     challenges: &mut [u32],
     last: &mut [i32],
 ) -> Verified
-    requires { ⌜ (lookRefusal (now text) ≡ 0 →
-        fits (settingsIn (linesOf (now text))) verifyReads (tablesOf (now key) (now message) (now commitment) (now rounds) (now challenges) (now last)) ≡ true) ⌝ }
+    requires { ⌜ Lent verifyReads (now text) (tablesOf (now key) (now message) (now commitment) (now rounds) (now challenges) (now last)) ⌝ }
     requires { ⌜ Begins (now text) settings from ⌝ }
     ensures { λ r. ⌜ r ≡ verifyAnswer (now (text .entry)) ⌝ }
 {
@@ -110,7 +108,7 @@ fn verify_within(
     let settings = looked.settings;
     let degree = settings.degree as usize;
     let depth = settings.depth as usize;
-    let cells = sizes::cells(settings);
+    let cells = table_reader::lent_cells(settings);
     let round_cells = sizes::round_cells(settings);
     verify_in(
         text,

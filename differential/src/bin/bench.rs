@@ -22,7 +22,8 @@ use reference::fast;
 use reference::random::Random;
 use reference::refuse::GROWTH;
 use reference::types::{
-    Parts, Residue, Settings, Verification, ACCEPTED, LARGEST_MODULUS, LONGEST_TEXT,
+    Parts, Residue, Settings, Verification, ACCEPTED, ITS_MODULUS, LARGEST_DEGREE, LARGEST_MODULUS,
+    LONGEST_TEXT,
 };
 use std::hint::black_box;
 use std::time::Duration;
@@ -30,18 +31,21 @@ use std::time::Duration;
 /// The largest prime below 2^31.
 const Q: Residue = 2_147_483_647;
 
-/// The name of a row: a modulus past 31 bits is named.
+/// The name of a row: a modulus past 31 bits is named, and so is 12289.
 fn name(call: &str, s: Settings) -> String {
-    format!("{call}, d = {}, L = {}{}", s.degree, s.depth, wide(s))
+    format!("{call}, d = {}, L = {}{}", s.degree, s.depth, modulus(s))
 }
 
-fn wide(s: Settings) -> &'static str {
-    if s.modulus == LARGEST_MODULUS {
-        ", q = 2^61-1"
-    } else {
-        ""
+fn modulus(s: Settings) -> &'static str {
+    match s.modulus {
+        LARGEST_MODULUS => ", q = 2^61-1",
+        ITS_MODULUS => ", q = 12289",
+        _ => "",
     }
 }
+
+/// The settings of the transform's rows.
+const TRANSFORM: [(u32, u32); 2] = [(64, 8), (LARGEST_DEGREE, 8)];
 
 struct Table {
     repetitions: usize,
@@ -284,7 +288,7 @@ impl Table {
                 timed(|| {
                     for ((rounds, challenges), f) in paths.iter().zip(t.leaves.chunks(d)) {
                         let mut verdict = 0;
-                        let c = &t.commitment;
+                        let c = &t.commitment[..d];
                         verified::check(s, c, f, &t.key, rounds, challenges, &mut verdict);
                         assert_eq!(verdict, ACCEPTED);
                     }
@@ -299,7 +303,7 @@ impl Table {
         let bits = verified::bits(parts);
         let (mut ours, mut theirs) = (tables.clone(), tables.clone());
         self.row(
-            &format!("read, {} bytes{}", text.len(), wide(s)),
+            &format!("read, {} bytes{}", text.len(), modulus(s)),
             &mut || {
                 let mut settings = [0; verified::SETTINGS];
                 let number = verified::read(bits, black_box(&text), &mut settings, &mut ours);
@@ -322,7 +326,7 @@ impl Table {
         );
         let (mut ours, mut theirs) = (vec![0; text.len()], vec![0; text.len()]);
         self.row(
-            &format!("write, {} bytes{}", text.len(), wide(s)),
+            &format!("write, {} bytes{}", text.len(), modulus(s)),
             &mut || {
                 let mut length = 0;
                 verified::write(s, bits, black_box(tables), &mut ours, &mut length);
@@ -450,6 +454,22 @@ fn wide_rows(table: &Table) {
     table.text(settings, parts, &tables);
 }
 
+/// Rows beside the reference with modulus 12289.
+fn transform_rows(table: &Table) {
+    for (degree, depth) in TRANSFORM {
+        let s = Settings::new(degree, depth, ITS_MODULUS, 127);
+        table.commit(s);
+        table.check(s);
+        table.open(s);
+        table.session(s);
+    }
+    let s = Settings::new(LARGEST_DEGREE, 3, ITS_MODULUS, 127);
+    table.judge(s);
+    let (tree, _) = honest_at(&mut Random::new(7), s);
+    table.extract(s, &tree, 0);
+    table.programs(Settings::new(LARGEST_DEGREE, 4, ITS_MODULUS, 127));
+}
+
 /// Rows beside the reference.
 fn reference_rows(table: &Table, large: Settings, native: bool) {
     table.commit(large);
@@ -462,6 +482,7 @@ fn reference_rows(table: &Table, large: Settings, native: bool) {
     table.open(Settings::new(4, 8, Q, 127));
     table.session(large);
     wide_rows(table);
+    transform_rows(table);
     text_rows(table);
     for (s, number) in [
         (Settings::new(64, 3, Q, 127), 0),
@@ -475,6 +496,21 @@ fn reference_rows(table: &Table, large: Settings, native: bool) {
             table.paths(s, &tree);
         }
     }
+}
+
+/// The settings that another library is measured with.
+fn measured(other: &Baseline) -> Vec<Settings> {
+    let mut list = Vec::new();
+    if other.moduli & 1 != 0 {
+        list.push(Settings::new(64, 8, Q, 127));
+    }
+    if other.moduli & 2 != 0 {
+        list.push(Settings::new(64, 8, LARGEST_MODULUS, 127));
+    }
+    if other.moduli & 4 != 0 {
+        list.extend(TRANSFORM.map(|(d, l)| Settings::new(d, l, ITS_MODULUS, 127)));
+    }
+    list
 }
 
 fn usage() -> ! {
@@ -496,7 +532,6 @@ fn main() {
     };
     let table = Table { repetitions, label };
     let large = Settings::new(64, 8, Q, 127);
-    let wide = Settings::new(64, 8, LARGEST_MODULUS, 127);
     assert_eq!(shape(large).table(), 16_384);
     if native {
         return reference_rows(&table, large, native);
@@ -505,9 +540,10 @@ fn main() {
     for path in rest {
         match Baseline::load(path) {
             Ok(other) => {
-                let s = if other.wide { wide } else { large };
-                table.commit_beside(s, &other);
-                table.open_beside(s, &other);
+                for s in measured(&other) {
+                    table.commit_beside(s, &other);
+                    table.open_beside(s, &other);
+                }
             }
             Err(reason) => {
                 eprintln!("{reason}");

@@ -81,9 +81,15 @@ const SMALL: usize = 600;
 const LARGE: usize = 12;
 
 fn seeds(random: &mut Random) -> Vec<Seed> {
+    // Degree 128 mostly at depth 0, and some of degrees 32 and 64.
+    let largest = Limits {
+        depth: 1,
+        ..Limits::new(256, 300)
+    };
     let sizes = [
         (SMALL, Limits::small().with_wide_moduli()),
         (SMALL / 4, Limits::new(128, 300)),
+        (SMALL / 12, largest),
         (LARGE, Limits::new(2048, 2000)),
     ];
     let mut seeds = Vec::new();
@@ -234,7 +240,7 @@ fn value_behind(text: &[u8], from: usize) -> Option<usize> {
 
 /// Replaces a run of digits, mostly in a value, by another number.
 fn change_number(random: &mut Random, text: &mut Vec<u8>) {
-    const NUMBERS: [&str; 34] = [
+    const NUMBERS: [&str; 37] = [
         "0",
         "1",
         "2",
@@ -250,6 +256,9 @@ fn change_number(random: &mut Random, text: &mut Vec<u8>) {
         "64",
         "127",
         "128",
+        "256",
+        "12288",
+        "12289",
         "-1",
         "-0",
         "01",
@@ -284,12 +293,15 @@ fn change_number(random: &mut Random, text: &mut Vec<u8>) {
 }
 
 /// Moduli that are allowed, and ones that are not.
-const MODULI: [Residue; 20] = [
+const MODULI: [Residue; 24] = [
     3,
     5,
     15,
     17,
+    12_287,
     12_289,
+    12_289,
+    24_578,
     65_537,
     (1 << 31) - 3,
     (1 << 31) - 1,
@@ -301,6 +313,7 @@ const MODULI: [Residue; 20] = [
     0,
     1,
     16,
+    12_288,
     1 << 32,
     LARGEST_MODULUS - 1,
     LARGEST_MODULUS + 2,
@@ -426,7 +439,7 @@ fn mutate_tables(random: &mut Random, seed: &mut Seed) {
         4 => change(random, &mut t.challenges, &exponents),
         5 => change(random, &mut t.final_element, &wholes),
         6 => seed.parts[random.below(6)] ^= true,
-        7 => seed.settings.degree = random.pick(&[2, 4, 8, 3, 0]),
+        7 => seed.settings.degree = random.pick(&[2, 4, 8, 128, 128, 3, 0]),
         8 => seed.settings.depth = random.pick(&[0, 1, 2, 8, 9]),
         9 => seed.settings.modulus = random.pick(&MODULI),
         _ => seed.settings.bound = random.pick(&[1, 2, 127, 128, 0]),

@@ -11,11 +11,14 @@
 //! disk, a disk that is full in the middle of a listing, a narrow pipe, a pipe
 //! that nobody reads. Every answer that a program can give must come up.
 
+use reference::draw::base::OTHER_MODULI;
 use reference::draw::text::{damage_text, provable, provable_at, verifiable};
 use reference::draw::Limits;
 use reference::plain;
 use reference::random::Random;
-use reference::types::{Settings, Verification, LARGEST_MODULUS, LONGEST_TEXT};
+use reference::types::{
+    Settings, Verification, ITS_MODULUS, LARGEST_DEGREE, LARGEST_MODULUS, LONGEST_TEXT,
+};
 use std::collections::BTreeMap;
 use std::ffi::c_int;
 use std::fs;
@@ -214,6 +217,23 @@ fn at_the_limits() -> Vec<Vec<u8>> {
     ]
 }
 
+/// Texts of degree 128 at every depth that a text has room for, each with the record of its listing; and the smallest with other moduli.
+fn of_largest_degree(random: &mut Random) -> Vec<Vec<u8>> {
+    let mut texts = Vec::new();
+    for depth in 0..=4 {
+        let settings = Settings::new(LARGEST_DEGREE, depth, ITS_MODULUS, 127);
+        let text = provable_at(random, settings).text();
+        texts.push(with_key(&prove_prints(&text), &text));
+        texts.push(text);
+    }
+    for modulus in OTHER_MODULI.map(|q| q.min(LARGEST_MODULUS)) {
+        let line = format!("\n0 0 2 {modulus}\n");
+        let text = String::from_utf8_lossy(&texts[1]).replacen("\n0 0 2 12289\n", &line, 1);
+        texts.push(text.into_bytes());
+    }
+    texts
+}
+
 /// What a shell's line prints that starts a program with odd input or output; a program that does not end within ten seconds has status 124.
 fn fault(folder: &Path, work: &Path, line: &str) -> String {
     let output = Command::new("sh")
@@ -333,7 +353,10 @@ fn main() -> ExitCode {
         smallest: None,
     };
     let mut random = Random::new(seed);
-    for text in at_the_limits() {
+    for text in at_the_limits()
+        .into_iter()
+        .chain(of_largest_degree(&mut random))
+    {
         run.both(&text);
     }
     for turn in 0..drawn {

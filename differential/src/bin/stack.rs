@@ -13,7 +13,9 @@ use reference::draw::transcript;
 use reference::draw::tree::{free_at, Tree};
 use reference::random::Random;
 use reference::refuse::GROWTH;
-use reference::types::{Residue, Settings, ACCEPTED, LARGEST_MODULUS, LONGEST_TEXT};
+use reference::types::{
+    Residue, Settings, ACCEPTED, ITS_MODULUS, LARGEST_DEGREE, LARGEST_MODULUS, LONGEST_TEXT,
+};
 use std::ffi::c_void;
 use std::process::ExitCode;
 
@@ -70,61 +72,73 @@ fn used(mut call: Call) -> usize {
 }
 
 /// Numbers of an element of the largest degree.
-const LARGEST: usize = 64;
+const LARGEST: usize = LARGEST_DEGREE as usize;
 
-/// Every call at the largest settings with this modulus that it does not
-/// refuse.
-fn calls(q: Residue) -> Vec<(&'static str, Call<'static>)> {
-    let large = Settings::new(64, 8, q, 127);
+/// Every call at the largest settings of this degree and modulus that it does
+/// not refuse; texts of the longest length where the modulus is long.
+fn calls(degree: u32, q: Residue) -> Vec<(String, Call<'static>)> {
+    let large = Settings::new(degree, 8, q, 127);
     let bounded = Settings::new(4, 8, q, 2);
+    // The deepest tree of this degree that growth allows.
+    let (depth, bound) = if degree == LARGEST_DEGREE {
+        (3, 127)
+    } else {
+        (4, 4)
+    };
+    let grown = Settings::new(degree, depth, q, bound);
+    let texts = Settings::new(degree, 4, q, 127);
     let input = opening_at(&mut Random::new(7), large);
     let (commit, round, mut fold, end) =
         (input.clone(), input.clone(), input.clone(), input.clone());
     let check = transcript::honest_at(&mut Random::new(7), large);
     let session = check.clone();
     let judge = opening_at(&mut Random::new(7), bounded);
-    vec![
+    let d = degree as usize;
+    let mut list: Vec<(&str, Settings, Call<'static>)> = vec![
         (
-            "commit, d = 64, L = 8",
+            "commit",
+            large,
             Box::new(move || {
-                let mut out = [0; LARGEST];
-                let number = verified::commit(large, &commit.key, &commit.message, &mut out);
+                let out = &mut [0; LARGEST][..d];
+                let number = verified::commit(large, &commit.key, &commit.message, out);
                 assert_eq!(number, 0);
             }),
         ),
         (
-            "round, d = 64, L = 8",
+            "round",
+            large,
             Box::new(move || {
-                let mut out = [0; 3 * LARGEST];
-                let number = verified::round(large, 0, &round.key, &round.message, &mut out);
+                let out = &mut [0; 3 * LARGEST][..3 * d];
+                let number = verified::round(large, 0, &round.key, &round.message, out);
                 assert_eq!(number, 0);
             }),
         ),
         (
-            "fold, d = 64, L = 8",
+            "fold",
+            large,
             Box::new(move || {
                 let number = verified::fold(large, 0, 77, &mut fold.key, &mut fold.message);
                 assert_eq!(number, 0);
             }),
         ),
         (
-            "end, d = 64, L = 8",
+            "end",
+            large,
             Box::new(move || {
-                let mut out = [0; LARGEST];
-                let number = verified::end(large, 8, &end.message, &mut out);
+                let out = &mut [0; LARGEST][..d];
+                let number = verified::end(large, 8, &end.message, out);
                 assert_eq!(number, 0);
             }),
         ),
+        ("check", large, Box::new(move || honest::check(&check))),
         (
-            "check, d = 64, L = 8",
-            Box::new(move || honest::check(&check)),
-        ),
-        (
-            "session, d = 64, L = 8",
+            "session",
+            large,
             Box::new(move || honest::session(&session)),
         ),
         (
-            "judge, d = 4, L = 8",
+            "judge",
+            bounded,
             Box::new(move || {
                 let w = vec![0; judge.key.len()];
                 let mut yes = 0;
@@ -132,30 +146,33 @@ fn calls(q: Residue) -> Vec<(&'static str, Call<'static>)> {
                 assert_eq!((number, yes), (0, 1));
             }),
         ),
-        ("open, d = 64, L = 8", open(large)),
-        (
-            "extract, d = 64, L = 4",
-            extract(Settings::new(64, 4, q, 4), 0),
-        ),
-        ("extract, d = 4, L = 8", extract(bounded, 0)),
-        ("extract, d = 64, L = 8", extract(large, GROWTH)),
-        ("read, 65,536 bytes", read(q)),
-        ("write, 65,536 bytes", write(q)),
-        ("prove, d = 64, L = 4", prove(Settings::new(64, 4, q, 127))),
-        (
-            "verify, d = 64, L = 4",
-            verify(Settings::new(64, 4, q, 127)),
-        ),
-    ]
+        ("open", large, open(large)),
+        ("extract", grown, extract(grown, 0)),
+        ("extract", bounded, extract(bounded, 0)),
+        ("extract", large, extract(large, GROWTH)),
+        ("prove", texts, prove(texts)),
+        ("verify", texts, verify(texts)),
+    ];
+    let at = |name: &str, s: Settings| format!("{name}, d = {}, L = {}", s.degree, s.depth);
+    let mut named: Vec<(String, Call<'static>)> = list
+        .drain(..)
+        .map(|(name, s, call)| (at(name, s), call))
+        .collect();
+    if q > 1 << 30 {
+        named.push(("read, 65,536 bytes".to_string(), read(q)));
+        named.push(("write, 65,536 bytes".to_string(), write(q)));
+    }
+    named
 }
 
 fn open(s: Settings) -> Call<'static> {
     let mut t = opening_at(&mut Random::new(7), s);
     Box::new(move || {
+        let d = s.degree as usize;
         let (mut c, mut f) = ([0; LARGEST], [0; LARGEST]);
         let (key, message, rounds) = (&mut t.key, &mut t.message, &mut t.rounds);
         let mut verdict = 0;
-        let (c, f) = (&mut c, &mut f);
+        let (c, f) = (&mut c[..d], &mut f[..d]);
         verified::open(s, key, message, &t.challenges, rounds, c, f, &mut verdict);
         assert_eq!(verdict, ACCEPTED);
     })
@@ -234,10 +251,15 @@ fn verify(s: Settings) -> Call<'static> {
 fn main() -> ExitCode {
     let empty = used(Box::new(|| ()));
     let mut most = 0;
-    for (q, wide) in [((1 << 31) - 1, ""), (LARGEST_MODULUS, ", q = 2^61-1")] {
-        for (name, call) in calls(q) {
+    for (degree, q, modulus) in [
+        (64, (1 << 31) - 1, ""),
+        (64, LARGEST_MODULUS, ", q = 2^61-1"),
+        (64, ITS_MODULUS, ", q = 12289"),
+        (LARGEST_DEGREE, ITS_MODULUS, ", q = 12289"),
+    ] {
+        for (name, call) in calls(degree, q) {
             let bytes = used(call).saturating_sub(empty);
-            let name = format!("{name}{wide}");
+            let name = format!("{name}{modulus}");
             println!("{name:<44} {bytes:>9} bytes of stack");
             most = most.max(bytes);
         }

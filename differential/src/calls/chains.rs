@@ -12,6 +12,7 @@ use reference::draw::session::{self, Move, Session};
 use reference::draw::tables::{self, OpeningInput};
 use reference::draw::{damage_some, Limits};
 use reference::random::Random;
+use reference::refuse::DEGREE;
 use reference::types::{Record, Residue, Settings};
 use reference::{fast, plain};
 
@@ -102,7 +103,9 @@ fn refused(random: &mut Random, input: &OpeningInput) -> Refused {
     let good = input.settings;
     let mut bad = good;
     let number = random.pick(&[3, 4, 5, 6]);
-    damage_settings(random, &mut bad, number);
+    if !damage_settings(random, &mut bad, number) {
+        damage_settings(random, &mut bad, DEGREE);
+    }
     let any = random.below(12) as u32;
     let late = good.depth + random.below(3) as u32;
     match random.below(8) {

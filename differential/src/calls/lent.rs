@@ -22,7 +22,7 @@ pub fn flat(c: &Polynomial, d: usize) -> Vec<Residue> {
         .collect()
 }
 
-/// A record as it stands in a slice of 78 numbers.
+/// A record as it stands in a slice of 142 numbers.
 pub fn numbers(r: &Record) -> Vec<Residue> {
     let mut list = four(r.settings).to_vec();
     list.extend([Residue::from(r.done), Residue::from(r.closed)]);
@@ -34,7 +34,7 @@ pub fn numbers(r: &Record) -> Vec<Residue> {
 /// Places of a record's numbers of 32 bits: all but the modulus and the claim.
 pub const NARROW: [usize; 13] = [0, 1, 3, 4, 5, 6, 7, 8, 9, 10, 11, 12, 13];
 
-/// The record that a slice of 78 numbers holds. A number that has no room in
+/// The record that a slice of 142 numbers holds. A number that has no room in
 /// 32 bits counts as the largest that has.
 pub fn record(t: &[Residue]) -> Record {
     let narrow = |x: Residue| u32::try_from(x).unwrap_or(u32::MAX);

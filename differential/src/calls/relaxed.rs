@@ -7,7 +7,7 @@ use reference::draw::{base, tables};
 use reference::draw::{damage_some, Limits};
 use reference::plain::refusals::Lengths;
 use reference::random::Random;
-use reference::types::{JudgeAnswer, Residue, Residues, Settings};
+use reference::types::{JudgeAnswer, Residue, Residues, Settings, ITS_MODULUS, LARGEST_DEGREE};
 use reference::{fast, plain};
 
 /// What a judge that does not refuse says.
@@ -29,8 +29,13 @@ pub struct Judge {
 }
 
 /// Settings whose growth is 2^62 itself, which passes, or with a bound that is
-/// one larger, which is refused by 14.
+/// one larger, which is refused by 14; or the largest degree at the depths on
+/// both sides of that limit.
 fn at_the_limit(random: &mut Random) -> Settings {
+    if random.one_in(3) {
+        let depth = random.pick(&[3, 4]);
+        return Settings::new(LARGEST_DEGREE, depth, ITS_MODULUS, base::bound(random));
+    }
     let (degree, depth, most) = random.pick(&[(64, 4, 4), (4, 8, 64)]);
     let bound = most + random.below(2) as u32;
     Settings::new(degree, depth, base::modulus(random), bound)

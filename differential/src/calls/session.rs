@@ -40,7 +40,7 @@ fn settings_of(t: &[Residue]) -> Option<Settings> {
     (t.len() == SESSION).then(|| record(t).settings)
 }
 
-/// A slice of another length than 78 holds no record: 7 at once.
+/// A slice of another length than 142 holds no record: 7 at once.
 fn no_record(t: &[Residue]) -> u32 {
     if t.len() == SESSION {
         0

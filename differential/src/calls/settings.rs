@@ -1,12 +1,12 @@
 //! The test of settings.
 
-use crate::case::{Case, Outcome};
+use crate::case::{of_settings, Case, Outcome, LARGEST, OTHER, SIXTEENS, WIDE};
 use crate::verified;
 use reference::cases::Page;
-use reference::draw::base::{damage_settings, settings};
+use reference::draw::base::{damage_settings, settings, OTHER_MODULI};
 use reference::draw::Limits;
 use reference::random::Random;
-use reference::types::Settings;
+use reference::types::{Settings, ITS_MODULUS, LARGEST_DEGREE};
 use reference::{plain, refuse};
 
 #[derive(Clone)]
@@ -15,12 +15,19 @@ pub struct SettingsCase(Settings);
 impl Case for SettingsCase {
     const NAME: &'static str = "settings";
     const NUMBERS: &'static [u32] = &[0, 3, 4, 5, 6];
+    const OF_SETTINGS: &'static [&'static str] = &[WIDE, LARGEST, SIXTEENS, OTHER];
 
     fn draw(random: &mut Random, limits: &Limits) -> SettingsCase {
         let mut s = settings(random, limits, false);
         for _ in 0..random.below(4) {
             let number = random.pick(&[3, 4, 5, 6]);
             damage_settings(random, &mut s, number);
+        }
+        if random.one_in(8) {
+            // The largest degree with any modulus.
+            let any = [ITS_MODULUS, s.modulus, random.word()];
+            s.degree = LARGEST_DEGREE;
+            s.modulus = random.pick(&[&any[..], &OTHER_MODULI].concat());
         }
         if random.one_in(4) {
             // Any numbers near the borders.
@@ -42,6 +49,10 @@ impl Case for SettingsCase {
 
     fn verified(&self) -> Outcome {
         Outcome::new(verified::settings(self.0))
+    }
+
+    fn remarks(&self, number: u32) -> Vec<String> {
+        of_settings(number, self.0, self.0.degree == LARGEST_DEGREE)
     }
 
     fn print(&self, page: &mut Page) {

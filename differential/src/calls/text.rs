@@ -41,6 +41,11 @@ fn beyond(random: &mut Random) -> u32 {
     0
 }
 
+/// Whether a text of the stated shape names degree 128.
+fn of_largest_degree(text: &[u8]) -> bool {
+    text.starts_with(b"part item place value\n0 0 0 128\n")
+}
+
 /// Found and wanted lengths of six tables.
 fn table_pairs(s: Settings, parts: Parts, tables: &Tables) -> Vec<(usize, usize)> {
     let wanted = refusals::part_lengths(s, parts);
@@ -253,8 +258,12 @@ impl Call for Look {
         None
     }
 
-    fn modulus(&self) -> Residue {
-        plain::look(&self.text).settings.modulus
+    fn used(&self) -> Settings {
+        plain::look(&self.text).settings
+    }
+
+    fn largest(&self) -> bool {
+        of_largest_degree(&self.text)
     }
 
     fn pairs(&self, _: &Lengths) -> Vec<(usize, usize)> {
@@ -373,8 +382,12 @@ impl Call for Read {
         None
     }
 
-    fn modulus(&self) -> Residue {
-        plain::look(&self.text).settings.modulus
+    fn used(&self) -> Settings {
+        plain::look(&self.text).settings
+    }
+
+    fn largest(&self) -> bool {
+        of_largest_degree(&self.text)
     }
 
     fn pairs(&self, _: &Lengths) -> Vec<(usize, usize)> {
@@ -666,8 +679,12 @@ impl Call for Prove {
         None
     }
 
-    fn modulus(&self) -> Residue {
-        plain::look(&self.text).settings.modulus
+    fn used(&self) -> Settings {
+        plain::look(&self.text).settings
+    }
+
+    fn largest(&self) -> bool {
+        of_largest_degree(&self.text)
     }
 
     fn pairs(&self, _: &Lengths) -> Vec<(usize, usize)> {
@@ -753,8 +770,12 @@ impl Call for Verify {
         None
     }
 
-    fn modulus(&self) -> Residue {
-        plain::look(&self.text).settings.modulus
+    fn used(&self) -> Settings {
+        plain::look(&self.text).settings
+    }
+
+    fn largest(&self) -> bool {
+        of_largest_degree(&self.text)
     }
 
     fn pairs(&self, _: &Lengths) -> Vec<(usize, usize)> {

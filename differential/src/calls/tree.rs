@@ -1,7 +1,7 @@
 //! The extractor.
 
 use super::lent::{four, places};
-use crate::case::{Call, Case, Outcome, Table};
+use crate::case::{Call, Case, Outcome, Table, LARGEST, OTHER, WIDE};
 use crate::verified;
 use reference::cases::Page;
 use reference::draw::base;
@@ -10,7 +10,7 @@ use reference::draw::{damage_by, damage_some, Limits};
 use reference::plain::refusals::Lengths;
 use reference::random::Random;
 use reference::refuse::BRANCH;
-use reference::types::{Residue, Residues, Settings};
+use reference::types::{Residue, Residues, Settings, ITS_MODULUS, LARGEST_DEGREE};
 use reference::{fast, plain};
 
 #[derive(Clone)]
@@ -44,15 +44,25 @@ impl Extract {
 
 /// Settings at which an accepted tree is refused by 14, with small trees.
 fn growing(random: &mut Random) -> Settings {
-    let (degree, depth, least) = random.pick(&[(64, 4, 5), (32, 5, 1), (16, 6, 1), (8, 7, 1)]);
+    let sizes = [(128, 4, 1), (64, 4, 5), (32, 5, 1), (16, 6, 1), (8, 7, 1)];
+    let (degree, depth, least) = random.pick(&sizes);
     let bound = random.between(least, 127) as u32;
-    Settings::new(degree, depth, base::modulus(random), bound)
+    sized_settings(random, degree, depth, bound)
+}
+
+/// Settings of a size with any modulus that the degree has.
+fn sized_settings(random: &mut Random, degree: u32, depth: u32, bound: u32) -> Settings {
+    let modulus = match degree {
+        LARGEST_DEGREE => ITS_MODULUS,
+        _ => base::modulus(random),
+    };
+    Settings::new(degree, depth, modulus, bound)
 }
 
 /// An accepted tree: of a message, or with leaves that are in general no
 /// folds of one. Once in three times the modulus is small or not prime.
 fn accepted(random: &mut Random, mut settings: Settings) -> Tree {
-    if random.one_in(3) {
+    if settings.degree < LARGEST_DEGREE && random.one_in(3) {
         settings.modulus = random.pick(&[3, 9, 15, 21, 105]);
     }
     if random.one_in(2) {
@@ -67,6 +77,8 @@ impl Call for Extract {
     const NUMBERS: &'static [u32] = &[0, 3, 4, 5, 6, 7, 8, 10, 12, 13, 14];
     const SLICES: &'static [&'static str] =
         &["commitment", "key", "rounds", "challenges", "leaves", "w"];
+    // Trees that are not refused are too small for sixteen elements.
+    const OF_SETTINGS: &'static [&'static str] = &[WIDE, LARGEST, OTHER];
     const FAST: bool = true;
 
     fn draw(random: &mut Random, limits: &Limits) -> Extract {
@@ -143,7 +155,7 @@ impl Call for Extract {
 #[derive(Clone)]
 pub struct Large(Extract);
 
-/// Trees of degree 64 and depth 8, which are refused by 14, or by 13 where a
+/// Trees of degree 64 and 128 and depth 8, which are refused by 14, or by 13 where a
 /// path is damaged.
 #[derive(Clone)]
 pub struct Largest(Extract);
@@ -155,7 +167,7 @@ fn sized(random: &mut Random, limits: &Limits, sizes: &[(u32, u32, u32)]) -> Ext
         return Call::draw(random, limits);
     }
     let (degree, depth, bound) = random.pick(sizes);
-    let settings = Settings::new(degree, depth, base::modulus(random), bound);
+    let settings = sized_settings(random, degree, depth, bound);
     let mut tree = accepted(random, settings);
     if random.one_in(2) {
         damage_by(random, &mut tree, &[BRANCH]);
@@ -203,6 +215,7 @@ sized!(
     "extract, large",
     &[0, 13],
     &[
+        (128, 3, 127),
         (64, 4, 4),
         (32, 4, 127),
         (16, 5, 127),
@@ -211,4 +224,9 @@ sized!(
         (2, 8, 127),
     ]
 );
-sized!(Largest, "extract, largest", &[13, 14], &[(64, 8, 127)]);
+sized!(
+    Largest,
+    "extract, largest",
+    &[13, 14],
+    &[(128, 8, 127), (64, 8, 127)]
+);

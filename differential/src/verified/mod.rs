@@ -25,7 +25,7 @@ use reference::types::Settings;
 pub const SETTINGS: usize = 4;
 
 /// Numbers of a session record in a lent slice.
-pub const SESSION: usize = 78;
+pub const SESSION: usize = 142;
 
 extern "C" {
     fn wovenrock_settings(degree: u32, depth: u32, modulus: u64, bound: u32) -> u32;

@@ -16,7 +16,7 @@
 //! Kinds of lines:
 //! - settings: d L q B
 //! - table: its length, then its numbers (a text is a table of bytes)
-//! - element: like a table; of an element's 64 places those behind the ones
+//! - element: like a table; of an element's 128 places those behind the ones
 //!   written are 0
 //! - polynomial: three elements, a line each
 //! - record: four lines: settings; rounds done, closed (0 or 1); claim
@@ -72,13 +72,14 @@ fn parse(words: &[String]) -> Option<Wanted> {
         5 => {
             let degree: u32 = words[3].parse().ok()?;
             let depth: u32 = words[4].parse().ok()?;
-            let valid = (2..=64).contains(&degree) && depth <= 8;
+            let valid = (2..=128).contains(&degree) && depth <= 8;
             valid.then_some(Limits {
                 degree,
                 depth,
                 table: usize::MAX,
                 tree: usize::MAX,
                 wide: true,
+                transform: false,
             })?
         }
         _ => return None,

@@ -7,6 +7,7 @@ use crate::draw::tables::{self, OpeningInput, ProverCall, ProverInput};
 use crate::draw::Limits;
 use crate::plain;
 use crate::random::Random;
+use crate::refuse;
 use crate::types::*;
 
 /// A session with refused moves between: a start, then rounds and ends.
@@ -116,7 +117,9 @@ fn refused_calls(page: &mut Page, random: &mut Random, prover: &ProverInput) {
         match random.below(3) {
             0 => {
                 let number = random.pick(&[3, 4, 5, 6]);
-                damage_settings(random, &mut input.settings, number);
+                if !damage_settings(random, &mut input.settings, number) {
+                    damage_settings(random, &mut input.settings, refuse::DEGREE);
+                }
             }
             1 => input.e = 2 * input.settings.degree,
             _ => input.t = input.settings.depth + random.below(3) as u32,

@@ -1,6 +1,7 @@
 //! Drawn cases of each call by its name.
 
 use super::{calls, chains, small, Page};
+use crate::draw::base::degree;
 use crate::draw::tables::{self, CommitInput, ProverCall};
 use crate::draw::{damage_some, session, text, tree, Damage, Limits};
 use crate::random::Random;
@@ -118,8 +119,8 @@ fn judge(page: &mut Page, random: &mut Random, limits: &Limits) {
 /// refused by its growth.
 fn extract(page: &mut Page, random: &mut Random, limits: &Limits) {
     let mut input = match random.below(64) {
-        0 if limits.degree == 64 && limits.depth >= 4 => {
-            let settings = tree::growth_settings(random);
+        0 if limits.degree >= 64 && limits.depth >= 4 => {
+            let settings = tree::growth_settings(random, limits);
             tree::free_at(random, settings)
         }
         1..=20 => tree::honest(random, limits).0,
@@ -191,7 +192,7 @@ fn verify(page: &mut Page, random: &mut Random, limits: &Limits) {
 }
 
 fn doubled_inverse(page: &mut Page, random: &mut Random, limits: &Limits) {
-    let mut d = random.pick(&[2, 4, 8, 16, 32, 64]);
+    let mut d = degree(random, limits) as usize;
     while d > limits.degree as usize {
         d /= 2;
     }

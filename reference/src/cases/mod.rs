@@ -39,7 +39,7 @@ impl Page {
         self.numbers([s.degree.into(), s.depth.into(), s.modulus, s.bound.into()]);
     }
 
-    /// An element by value: d places where those behind are 0, or all 64.
+    /// An element by value: d places where those behind are 0, or all 128.
     pub fn element<T: Display + Default + PartialEq>(&mut self, places: &[T; PLACES], d: u32) {
         let d = (d as usize).min(PLACES);
         if places[d..].iter().all(|x| *x == T::default()) {

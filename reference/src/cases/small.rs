@@ -1,9 +1,9 @@
-//! About fifty small cases, degree 2 or 4 and depth 0 to 2, with the listing
-//! of document 01 among them.
+//! About sixty small cases, degree 2 or 4 and depth 0 to 2, with the listing
+//! of document 01 among them, and a few of degree 128.
 
 use super::{calls, chains, Page};
-use crate::draw::session::{self, Move};
-use crate::draw::tables::{self, OpeningInput, ProverCall};
+use crate::draw::session::{self, Move, StartInput};
+use crate::draw::tables::{self, OpeningInput, ProverCall, ProverInput};
 use crate::draw::text::{self, Tables, TextInput, WriteInput};
 use crate::draw::transcript::{self, Transcript};
 use crate::draw::tree::{self, Tree};
@@ -20,6 +20,7 @@ pub fn print(page: &mut Page, random: &mut Random) {
     sessions(page, random);
     texts(page, random);
     wide(page, random);
+    largest_degree(page, random);
 }
 
 /// Zeros behind the degree, to keep the cases small.
@@ -355,5 +356,49 @@ fn wide_texts(page: &mut Page) {
         ("0 0 0 2\n", "0 0 0 4294967298\n"),
     ] {
         calls::read(page, &changed(old, new));
+    }
+}
+
+/// Degree 128 with its modulus, and refused with others, a refused one among
+/// them: a start, a fold, and texts of settings alone.
+fn largest_degree(page: &mut Page, random: &mut Random) {
+    let settings = Settings::new(LARGEST_DEGREE, 1, ITS_MODULUS, 127);
+    let shape = base::shape(settings);
+    let coefficients = base::residues(random, shape.d, shape.q);
+    for modulus in [ITS_MODULUS, ITS_MODULUS - 2, ITS_MODULUS - 1] {
+        let mut start = StartInput {
+            shape,
+            settings,
+            commitment: ZERO_RESIDUES,
+        };
+        start.settings.modulus = modulus;
+        start.commitment.copy_from_slice(&coefficients);
+        calls::start(page, &start);
+    }
+    let input = opening(random, settings);
+    calls::fold(
+        page,
+        &ProverInput {
+            call: ProverCall::Fold,
+            shape,
+            settings,
+            t: 0,
+            e: 2 * LARGEST_DEGREE - 1,
+            key: input.key,
+            message: input.message,
+        },
+    );
+    for modulus in [ITS_MODULUS, ITS_MODULUS - 2, 2 * ITS_MODULUS] {
+        let settings = Settings {
+            modulus,
+            ..settings
+        };
+        let input = TextInput {
+            shape,
+            parts: [false; 6],
+            lines: text::lines(settings, &Tables::default()),
+            lengths: Some([0; 6]),
+        };
+        calls::read(page, &input);
     }
 }

@@ -3,7 +3,8 @@
 use super::Limits;
 use crate::random::Random;
 use crate::refuse::{self, Shape};
-use crate::types::{Residue, Residues, Settings, Wholes, LARGEST_MODULUS, PLACES};
+use crate::types::{Residue, Residues, Settings, Wholes, PLACES};
+use crate::types::{ITS_MODULUS, LARGEST_DEGREE, LARGEST_MODULUS};
 
 /// The shape of settings that are known to be valid.
 pub fn shape(s: Settings) -> Shape {
@@ -12,20 +13,42 @@ pub fn shape(s: Settings) -> Shape {
 
 /// Drawn settings whose tables and, if wanted, trees are within the limits.
 pub fn settings(random: &mut Random, limits: &Limits, for_tree: bool) -> Settings {
+    if limits.transform {
+        let degree = random.pick(&[32, 64, LARGEST_DEGREE]);
+        let depth = random.between(3, limits.depth.into()) as u32;
+        return Settings::new(degree, depth, ITS_MODULUS, bound(random));
+    }
     loop {
-        let degree = random.pick(&[2, 4, 8, 16, 32, 64]);
+        let degree = degree(random, limits);
         let depth = random.below(limits.depth as usize + 1) as u32;
         let table = (degree as usize) << depth;
         let tree = 3usize.pow(depth) * degree as usize;
         let fits = table <= limits.table && (!for_tree || tree <= limits.tree);
         if degree <= limits.degree && fits {
-            let modulus = if limits.wide {
-                modulus(random)
-            } else {
-                narrow_modulus(random)
-            };
+            let modulus = modulus_at(random, limits, degree);
             return Settings::new(degree, depth, modulus, bound(random));
         }
+    }
+}
+
+/// A degree, the largest one only where the limits allow it; others may still
+/// be beyond them.
+pub fn degree(random: &mut Random, limits: &Limits) -> u32 {
+    const DEGREES: [u32; 7] = [2, 4, 8, 16, 32, 64, LARGEST_DEGREE];
+    let count = if limits.degree < LARGEST_DEGREE { 6 } else { 7 };
+    random.pick(&DEGREES[..count])
+}
+
+/// A modulus for a degree: the largest has only one, and where it is drawn at
+/// all the degrees from 32 on often have that one too.
+fn modulus_at(random: &mut Random, limits: &Limits, degree: u32) -> Residue {
+    let often = limits.degree == LARGEST_DEGREE && degree >= 32;
+    if degree == LARGEST_DEGREE || (often && random.one_in(3)) {
+        ITS_MODULUS
+    } else if limits.wide {
+        modulus(random)
+    } else {
+        narrow_modulus(random)
     }
 }
 
@@ -168,10 +191,36 @@ pub fn wholes_by_value(random: &mut Random, coefficients: &[i32]) -> Wholes {
     places
 }
 
-/// Damages one setting: refusals 3 to 6.
+/// Moduli with which the largest degree is not admitted, some of them refused
+/// at every degree.
+pub const OTHER_MODULI: [Residue; 10] = [
+    0,
+    3,
+    17,
+    ITS_MODULUS - 2,
+    ITS_MODULUS - 1,
+    ITS_MODULUS + 2,
+    2 * ITS_MODULUS,
+    (1 << 31) - 1,
+    LARGEST_MODULUS,
+    (1 << 61) + 1,
+];
+
+/// A degree that is refused with this modulus, whatever else is.
+fn no_degree(random: &mut Random, modulus: Residue) -> u32 {
+    let most = if modulus == ITS_MODULUS { 256 } else { 128 };
+    random.pick(&[0, 1, 3, 6, 12, 63, 65, most, u32::MAX])
+}
+
+/// Damages one setting: refusals 3 to 6. With the largest degree another
+/// modulus is refused by 3, whether it is refused by 5 elsewhere or not, so
+/// that 5 cannot be brought about.
 pub fn damage_settings(random: &mut Random, s: &mut Settings, number: u32) -> bool {
+    let largest = s.degree == LARGEST_DEGREE;
     match number {
-        refuse::DEGREE => s.degree = random.pick(&[0, 1, 3, 6, 12, 63, 65, 128, u32::MAX]),
+        refuse::DEGREE if largest && random.one_in(2) => s.modulus = random.pick(&OTHER_MODULI),
+        refuse::DEGREE => s.degree = no_degree(random, s.modulus),
+        refuse::MODULUS if largest => return false,
         refuse::DEPTH => s.depth = random.pick(&[9, 10, 31, 32, 64, u32::MAX]),
         refuse::MODULUS => {
             const OVER: Residue = 1 << 61;

@@ -13,6 +13,7 @@ pub mod transcript;
 pub mod tree;
 
 use crate::random::Random;
+use crate::types::LARGEST_DEGREE;
 
 /// The largest sizes to draw.
 #[derive(Clone, Copy, Debug)]
@@ -25,6 +26,9 @@ pub struct Limits {
     pub tree: usize,
     /// Whether moduli of 2^31 and more are drawn too.
     pub wide: bool,
+    /// Whether only the modulus of the largest degree is drawn, with degrees
+    /// from 32 and depths from 3 on.
+    pub transform: bool,
 }
 
 impl Limits {
@@ -32,11 +36,22 @@ impl Limits {
     /// coefficients.
     pub fn new(table: usize, tree: usize) -> Limits {
         Limits {
-            degree: 64,
+            degree: LARGEST_DEGREE,
             depth: 8,
             table,
             tree,
             wide: true,
+            transform: false,
+        }
+    }
+
+    /// Degrees from 32 and depths from 3 on, with the modulus of the largest
+    /// degree: document 02 has a transform for it, so that other ways of
+    /// multiplying are to be compared there.
+    pub fn transform() -> Limits {
+        Limits {
+            transform: true,
+            ..Limits::new(usize::MAX, usize::MAX)
         }
     }
 
@@ -48,6 +63,7 @@ impl Limits {
             table: 16,
             tree: 36,
             wide: false,
+            transform: false,
         }
     }
 

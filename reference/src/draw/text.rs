@@ -433,11 +433,18 @@ impl Damage for TextInput {
         let (end, q) = (2 * d as i64, q as i64);
         // As many bits as a 32-bit number has, and a setting behind.
         let past = |x: usize| (1 << 32) + x as i64;
+        let largest = d == LARGEST_DEGREE as usize;
         match number {
             refuse::LONG => self.damage_long(random),
             refuse::TEXT => self.damage_shape(random),
+            refuse::DEGREE if largest && random.one_in(2) => {
+                let modulus = random.pick(&OTHER_MODULI).min(LARGEST_VALUE);
+                self.set_value_at(3, modulus as i64);
+            }
+            refuse::MODULUS if largest => return false,
             refuse::DEGREE => {
-                let list = [0, 1, 3, -2, 128, NARROW, NARROW + 1, past(d), WIDE, -WIDE];
+                let most = if q == ITS_MODULUS as i64 { 256 } else { 128 };
+                let list = [0, 1, 3, -2, most, NARROW, NARROW + 1, past(d), WIDE, -WIDE];
                 self.set_value_at(1, random.pick(&list));
             }
             refuse::DEPTH => {

@@ -157,8 +157,12 @@ pub fn free_at(random: &mut Random, settings: Settings) -> Tree {
     tree
 }
 
-/// The smallest settings at which an accepted tree is refused by 14.
-pub fn growth_settings(random: &mut Random) -> Settings {
+/// The smallest settings at which an accepted tree is refused by 14: of the
+/// largest degree, where it is within the limits, or of degree 64.
+pub fn growth_settings(random: &mut Random, limits: &Limits) -> Settings {
+    if limits.degree == LARGEST_DEGREE && random.one_in(2) {
+        return Settings::new(LARGEST_DEGREE, 4, ITS_MODULUS, bound(random));
+    }
     Settings::new(64, 4, modulus(random), random.between(5, 127) as u32)
 }
 

@@ -35,7 +35,8 @@ macro_rules! at_degree {
             8 => $function::<8, $modulus>($($argument),*),
             16 => $function::<16, $modulus>($($argument),*),
             32 => $function::<32, $modulus>($($argument),*),
-            _ => $function::<64, $modulus>($($argument),*),
+            64 => $function::<64, $modulus>($($argument),*),
+            _ => $function::<128, $modulus>($($argument),*),
         }
     };
 }

@@ -115,7 +115,7 @@ impl Modulus for Narrow {
     }
 
     /// Each w is reduced and then taken in two parts of at most 16 bits, so
-    /// that sums over all n·D products fit in 64 bits: 2^16·2^31·2^14. A small
+    /// that sums over all n·D products fit in 64 bits: 2^16·2^31·2^15. A small
     /// modulus leaves the high part 0.
     fn inner_product_any<const D: usize>(self, w: &[[i64; D]], g: &[[u32; D]]) -> [u32; D] {
         use ring::Sum as _;
@@ -136,7 +136,7 @@ impl Modulus for Narrow {
 }
 
 /// No sum exceeds 64 bits: a lift times the number of elements is at most
-/// 2^16, and D·2^32 at most 2^38.
+/// 2^16, and D·2^32 at most 2^39.
 pub struct Sum<const D: usize> {
     lift: i32,
     places: [u64; D],

@@ -96,7 +96,7 @@ impl Modulus for Wide {
     }
 
     /// Each w is reduced and then taken in two parts, so that sums over all
-    /// n·D products fit in 128 bits: 2^31·2^61·2^14.
+    /// n·D products fit in 128 bits: 2^31·2^61·2^15.
     fn inner_product_any<const D: usize>(self, w: &[[i64; D]], g: &[[u64; D]]) -> [u64; D] {
         let mut sums = [[0u128; D]; 2];
         for (w, g) in w.iter().zip(g) {
@@ -123,7 +123,7 @@ impl Modulus for Wide {
 }
 
 /// No sum exceeds 64 bits, as a part has no more than 31 of them: a lift times
-/// the number of elements is at most 2^16, and D·2^31 at most 2^37.
+/// the number of elements is at most 2^16, and D·2^31 at most 2^38.
 pub struct Sum<const D: usize> {
     lift: i32,
     parts: [[u64; D]; 2],

@@ -43,7 +43,7 @@ impl Whole {
     }
 
     fn no_degree(self) -> bool {
-        ![2, 4, 8, 16, 32, 64].contains(&self.d)
+        ![2, 4, 8, 16, 32, 64].contains(&self.d) && (self.d, self.q) != (128, 12_289)
     }
 
     fn no_depth(self) -> bool {

@@ -1,5 +1,7 @@
 //! Slices between guards, and what is wanted of them after a call.
 
+use wovenrock::Session;
+
 /// How a call uses a slice.
 #[derive(Clone, Copy, PartialEq, Eq)]
 pub enum Use {
@@ -149,7 +151,7 @@ fn left(table: &Table) -> Vec<i64> {
     let mut values = table.values.clone();
     match table.used {
         Use::Single => values = vec![0],
-        Use::Started if values.len() == 78 => {
+        Use::Started if values.len() == Session::RECORD => {
             values.fill(0);
             values[5] = 1;
         }

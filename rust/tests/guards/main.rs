@@ -53,17 +53,26 @@ fn every_call_between_guards() {
         settings(16, 1, 255, 5),
         settings(32, 2, 65_537, 1),
         settings(64, 1, 12_289, 1),
+        settings(128, 1, 12_289, 1),
         settings(2, 2, (1 << 32) + 1, 5),
         settings(8, 2, Settings::LARGEST_MODULUS, 127),
     ] {
         let opening = Opening::drawn(s);
-        list.extend(scenarios::of_prover(&opening));
-        list.extend(scenarios::of_verifier(&opening));
-        list.extend(scenarios::of_relaxed(&opening, 0));
-        list.extend(scenarios::of_text(&opening));
+        let mut of_opening = scenarios::of_prover(&opening);
+        of_opening.extend(scenarios::of_verifier(&opening));
+        of_opening.extend(scenarios::of_relaxed(&opening, 0));
+        of_opening.extend(scenarios::of_text(&opening));
+        if s.degree() == Settings::LARGEST_DEGREE {
+            another_modulus_is_3(&mut of_opening);
+        }
+        list.extend(of_opening);
     }
     let growing = Opening::zeros(settings(64, 4, 17, 5));
     list.extend(scenarios::of_relaxed(&growing, 14));
+    let largest = Opening::zeros(settings(128, 4, 12_289, 1));
+    let mut of_largest = scenarios::of_relaxed(&largest, 14);
+    another_modulus_is_3(&mut of_largest);
+    list.extend(of_largest);
     list.push(scenarios::of_long_text(&Opening::zeros(settings(
         64, 8, 17, 1,
     ))));
@@ -79,6 +88,15 @@ fn every_call_between_guards() {
         pairs.collect::<Vec<_>>()
     };
     assert_eq!(met, REFUSALS.iter().flat_map(each).collect());
+}
+
+/// The largest degree is refused with every modulus but its own, before that
+/// modulus is tested.
+fn another_modulus_is_3(list: &mut [Scenario]) {
+    let faults = list.iter_mut().flat_map(|scenario| &mut scenario.faults);
+    for (number, _) in faults.filter(|(number, _)| *number == 5) {
+        *number = 3;
+    }
 }
 
 /// Runs a scenario as it is, with its faults, with wrong lengths, and with a
@@ -122,7 +140,7 @@ fn met_by(scenario: &Scenario) -> BTreeSet<u32> {
 /// What a call that answers `number` answers where a slice has a wrong length
 /// as well: 7 stands behind 1 to 6. An output may be longer than its text, and
 /// is tested last where it is shorter; the writer tests the length of its text
-/// just before that. A record that is not of 78 numbers is refused at once.
+/// just before that. A record that is not of 142 numbers is refused at once.
 fn with_wrong_length(name: &str, table: &Table, longer: bool, number: u32) -> u32 {
     let writer = name == "write" && number == 1;
     let record = table.name == "session" && table.used == Use::Written;

@@ -3,6 +3,7 @@
 use crate::calls;
 use crate::honest::Opening;
 use crate::lent::{Input, Room, Table, Use, BEFORE};
+use wovenrock::Session;
 
 /// A call, an input for it with the number that it answers, and faults with
 /// theirs.
@@ -196,7 +197,7 @@ pub fn of_verifier(o: &Opening) -> Vec<Scenario> {
     let verdict = || Table::single("verdict", 4);
     let record = |done| Table::u64("session", Use::Written, &o.record(done));
 
-    let fresh = Table::u64("session", Use::Started, &[BEFORE.into(); 78]);
+    let fresh = Table::u64("session", Use::Started, &[BEFORE.into(); Session::RECORD]);
     let start = settings_and(vec![(8, number(0, s.element_len() - 1, q))]);
     let end = record_and(2, o, vec![(8, number(1, 0, q))]);
     let mut check = settings_and(vec![(8, number(0, 0, q)), (8, number(2, 0, q))]);

@@ -1,6 +1,8 @@
 use native.Mathlib.Nat.{mul-le-mul}
 use native.Mathlib.Omega.{arith}
 use borrow.Author.Needs.{needs}
+use Rattle.protocol.specs.Element.{width}
+use Rattle.message_folds.specs.Messages.{halfMost}
 use Rattle.message_folds.proofs.fold_message.Statement.{statement}
 use Rattle.message_folds.proofs.fold_message.Tie as tie
 
@@ -17,10 +19,10 @@ returns-4 : tie.Need-returns-4
 returns-4 c = λ g. absurd (omega (arith, g .exponent))
 
 mul-if5 : tie.Need-mul-if5
-mul-if5 c = let a = c .before .before .before .before .args in omega (arith, mul-le-mul {n₁ = a .h} {m₁ = a .d} {n₂ = 128} {m₂ = 64} (omega arith) (omega arith))
+mul-if5 c = let a = c .before .before .before .before .args in omega (arith, mul-le-mul {n₁ = a .h} {m₁ = a .d} {n₂ = halfMost} {m₂ = width} (omega arith) (omega arith))
 
 mul-if5-2 : tie.Need-mul-if5-2
-mul-if5-2 c = let a = c .before .before .before .before .args in omega (arith, mul-le-mul {n₁ = a .h} {m₁ = a .d} {n₂ = 128} {m₂ = 64} (omega arith) (omega arith))
+mul-if5-2 c = let a = c .before .before .before .before .args in omega (arith, mul-le-mul {n₁ = a .h} {m₁ = a .d} {n₂ = halfMost} {m₂ = width} (omega arith) (omega arith))
 
 returns-5 : tie.Need-returns-5
 returns-5 c = λ g. absurd (omega (arith, g .long))

@@ -7,11 +7,11 @@ use native.Mathlib.Omega.{arith}
 use borrow.Author.Needs.{needs}
 use lib.IntN.{ℤ, pos, natAbs}
 use lib.ListN.{length, getD, set, length-set, take, drop}
-use Rattle.protocol.specs.Element.{rotate}
+use Rattle.protocol.specs.Element.{width, rotate}
 use Rattle.protocol.specs.Basic.{Provided}
 use Rattle.residues.proofs.Parts.{tail-length}
 use Rattle.residues.proofs.Fill.{filled, filled-none}
-use Rattle.message_folds.specs.Messages.{from}
+use Rattle.message_folds.specs.Messages.{halfMost, from}
 use Rattle.message_folds.proofs.Folding.{cell, row-inside, second-room, first-room, second-small, turn-is, folding-done}
 use Rattle.half_sums.specs.Room.{Room}
 use Rattle.half_sums.proofs.Words.{read, read-small, plus-is}
@@ -28,8 +28,8 @@ Inv-loop d h e message₀ half p₀ k₀ message p k = (p ≤ half) × Provided 
 abbrev μ-loop : tie.MeasureT-loop
 μ-loop d h e message₀ half p₀ k₀ message p k = half - p
 
-few : (c : tie.Start Inv-loop μ-loop) → c .args .h * c .args .d ≤ 128 * 64
-few c = mul-le-mul {n₂ = 128} {m₂ = 64} (omega arith) (omega arith)
+few : (c : tie.Start Inv-loop μ-loop) → c .args .h * c .args .d ≤ halfMost * width
+few c = mul-le-mul {n₂ = halfMost} {m₂ = width} (omega arith) (omega arith)
 
 mul-half : tie.Need-mul-half Inv-loop μ-loop
 mul-half c = omega (arith, few c)

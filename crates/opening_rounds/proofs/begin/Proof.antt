@@ -6,7 +6,7 @@ use borrow.Author.Tests.{not-true, not-false}
 use lib.ListN.{length}
 use Rattle.protocol.specs.Settings.{half}
 use lib.IntN.{pos}
-use Rattle.protocol.specs.Element.{Element, times, reduced, signedAt, residueAt}
+use Rattle.protocol.specs.Element.{Element, width, times, reduced, signedAt, residueAt}
 use Rattle.protocol.specs.Opening.{inner, left}
 use Rattle.residues.specs.Lists.{filled}
 use Rattle.prover_refusals.proofs.Given.{CommitGiven, commit-given}
@@ -36,12 +36,12 @@ returns c = λ z.
 
 -- the first part has few numbers, and stands in both tables
 few : (c : tie.Else1) → let a = c .before .before .before .before .before .before .args in let half = c .before .before .left .result / 2 * a .settings .degree in
-    (half ≤ 256 * 64) × (half ≤ length (a .message .now)) × (half ≤ length (a .key .now))
+    (half ≤ 256 * width) × (half ≤ length (a .message .now)) × (half ≤ length (a .key .now))
 few c =
     let a = c .before .before .before .before .before .before .args in
     let z = long c in
     let n = c .before .before .left .result in
-    let most = Nat.mul-le-mul {n₁ = n / 2} {n₂ = 256} {m₂ = 64} (omega (arith, z .elements)) (z .degree-most) in
+    let most = Nat.mul-le-mul {n₁ = n / 2} {n₂ = 256} {m₂ = width} (omega (arith, z .elements)) (z .degree-most) in
     let part = Nat.mul-le-mul-right {m = n / 2} {n = n} (a .settings .degree) (omega arith) in
     (omega (arith, most), omega (arith, part, z .message-long), omega (arith, part, z .key-long))
 

@@ -1,6 +1,6 @@
 use native.Mathlib.Omega.{arith}
-use Rattle.protocol.specs.Element.{product, signed, residue, signedAt, residueAt, zeros}
-use Rattle.products.proofs.Standing.{stands-none, stands-one}
+use Rattle.protocol.specs.Element.{width, zeros}
+use Rattle.residues.proofs.Fill.{zeros-at}
 use borrow.Author.Needs.{needs}
 use Rattle.products.proofs.product_is.Statement.{statement}
 use Rattle.products.proofs.product_is.Tie as tie
@@ -25,19 +25,14 @@ returns-6 c = λ g. absurd (omega (arith, g .1))
 
 returns-7 : tie.Need-returns-7
 unfolding zeros
-returns-7 c = λ g.
-    let a = c .before .before .before .before .before .before .before .before .before .before .before .before .before .before .before .before .args in
-    let ok = g .0 in
-    let start = stands-none (a .q) (a .d) (ok .elements .modulus) (signedAt (a .d) (a .f .now)) (residueAt (a .d) (a .g .now)) in
-    c .sums-are .ensures (product (a .d) (signed (a .f .now)) (residue (a .g .now))) (
-      record { positive = ok .elements .modulus; most = omega (arith, ok .modulus-most) },
-      ok .elements .degree-most,
-      stands-one (a .q) (a .d) (a .f .now) (a .g .now) _ _ (c .before .before .before .before .before .sum-elements .ensures (ok, start)),
-      g .2,
-    )
+returns-7 c = λ g. c .before .before .product-in .ensures (g .0, g .2, zeros-at 16, zeros-at 16)
+
+returns-8 : tie.Need-returns-8
+unfolding zeros
+returns-8 c = λ g. c .before .before .product-in2 .ensures (g .0, g .2, zeros-at width, zeros-at width)
 
 pub product-is-spec : {M : Type 1} → statement M
 product-is-spec =
     tie.close
-    (tie.spec returns returns-2 returns-3 returns-4 returns-5 returns-6 (λ c. search needs) (λ c. search needs) (λ c κs. search needs) (λ c. search needs)
-    (λ c. search needs) (λ c κs. search needs) returns-7)
+    (tie.spec returns returns-2 returns-3 returns-4 returns-5 returns-6 (λ c. search needs) (λ c. search needs) (λ c κs. search needs) returns-7
+    (λ c. search needs) (λ c. search needs) (λ c κs. search needs) returns-8)

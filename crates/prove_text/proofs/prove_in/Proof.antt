@@ -1,16 +1,16 @@
 -- `prove_in`: the reader, and then the opening and its text.
 use mathlib.Core.Path.{_≡_, sym, ap, subst, _∙_}
-use mathlib.Core.Bool.{true}
 use mathlib.Core.List.{List, [], _∷_}
 use Prim.Native.Nat.{ℕ}
 use borrow.Author.Needs.{needs}
 use lib.ListN.{length}
 use Rattle.protocol.specs.declared.Settings.{Settings}
 use Rattle.protocol.specs.Layout.{roundCells}
-use Rattle.protocol.specs.Text.{Tables, fits, linesOf, settingsIn, lookRefusal}
+use Rattle.protocol.specs.Text.{Tables, linesOf, settingsIn}
 use Rattle.protocol.specs.Promises.{Read}
 use Rattle.protocol.specs.Programs.{proveReads}
 use Rattle.text_parts.specs.Parts.{tablesOf, lengthsOf}
+use Rattle.table_reader.specs.Parts.{Lent}
 use Rattle.table_reader.proofs.OnText.{number-is, settings-unrefused, settings-are, tables-are, settings-allowed, entries-passed, still-fitting}
 use Rattle.prove_text.proofs.Proves.{prove-refused, prove-done, openable}
 use Rattle.prove_text.proofs.prove_in.Statement.{statement}
@@ -31,7 +31,7 @@ module _ (c : tie.After-read-tables) where
       let l = c .read-tables .last .1 .1 .1 .1 in
       tablesOf (l .0) (l .1 .0) (l .1 .1 .0) (l .1 .1 .1 .0) (l .1 .1 .1 .1 .0) (l .1 .1 .1 .1 .1 .0)
 
-  fit : lookRefusal text ≡ 0 → fits (settingsIn (linesOf text)) proveReads t ≡ true
+  fit : Lent proveReads text t
   fit = start .pre .0
 
   promise : Read proveReads text t (c .read-tables .result) t′

@@ -1,5 +1,6 @@
 -- `prove_within`: the settings, and then tables of exactly the lengths that the settings ask for.
-use mathlib.Core.Path.{_≡_, sym, ap, _∙_}
+use mathlib.Core.Path.{_≡_, refl, sym, ap, subst, _∙_}
+use mathlib.Core.Bool.{true}
 use mathlib.Core.List.{List, []}
 use Prim.Native.Nat.{ℕ, _≤_}
 use native.Mathlib.Omega.{arith}
@@ -9,11 +10,12 @@ use lib.Seq.{length-take-le}
 use Rattle.protocol.specs.declared.Settings.{Settings}
 use Rattle.protocol.specs.Layout.{roundCells}
 use Rattle.protocol.specs.Settings.{settingsRefusal, cells}
-use Rattle.protocol.specs.Text.{fits, linesOf, settingsIn, lookRefusal}
+use Rattle.protocol.specs.Text.{fits, wanted, linesOf, spotsOf, sameSpots, settingsIn, lookRefusal}
 use Rattle.protocol.specs.Programs.{proveReads}
-use Rattle.text_parts.specs.Parts.{tablesOf}
-use Rattle.table_reader.proofs.Rooms.{rooms}
+use Rattle.text_parts.specs.Parts.{tablesOf, cellsRoom}
+use Rattle.table_reader.proofs.Rooms.{rooms, lent-whole}
 use Rattle.table_reader.proofs.OnText.{look-refusal}
+use Rattle.table_writer.proofs.FewLines.{lines-few}
 use Rattle.prove_text.proofs.Proves.{prove-refused, lent-fitting}
 use Rattle.text_lines.specs.Header.{Begins}
 use Rattle.text_lines.proofs.Looked.{Begun, begun, begun-begins}
@@ -49,18 +51,20 @@ module _ (c : tie.After-round-cells) where
   allowed : settingsRefusal S ≡ 0
   allowed = known .allowed (left .if1 .left)
 
-  cells-is : c .before .cells .result ≡ cells S
-  cells-is = c .before .cells .ensures allowed
+  -- where the text has a line for each number
+  cells-is : lookRefusal text ≡ 0 → sameSpots (spotsOf (linesOf text)) (wanted (settingsIn (linesOf text)) proveReads) ≡ true → c .before .lent-cells .result ≡ cells S
+  unfolding proveReads
+  cells-is e same = c .before .lent-cells .ensures .0 allowed ∙ lent-whole S (subst (λ x. cells x ≤ cellsRoom) (sym (same-settings e)) (lines-few text proveReads e same refl))
 
   rounds-is : c .round-cells .result ≡ roundCells S
   rounds-is = c .round-cells .ensures allowed
 
   -- there is room for every table
-  key-room : c .before .cells .result ≤ length (start .args .key .now)
-  key-room = omega (arith, cells-is, rooms S allowed .table, start .pre .0)
+  key-room : c .before .lent-cells .result ≤ length (start .args .key .now)
+  key-room = omega (arith, c .before .lent-cells .ensures .1, start .pre .0)
 
-  message-room : c .before .cells .result ≤ length (start .args .message .now)
-  message-room = omega (arith, cells-is, rooms S allowed .table, start .pre .1)
+  message-room : c .before .lent-cells .result ≤ length (start .args .message .now)
+  message-room = omega (arith, c .before .lent-cells .ensures .1, start .pre .1)
 
   challenges-room : S .depth ≤ length (start .args .challenges .now)
   challenges-room = omega (arith, rooms S allowed .challenges, start .pre .2)
@@ -104,11 +108,11 @@ prove-in-requires : tie.Need-prove-in-requires
 prove-in-requires c κs =
     let k = c .before .before .before .before .before in
     let a = start k .args in
-    let G = take (k .before .cells .result) (a .key .now) in
-    let M = take (k .before .cells .result) (a .message .now) in
+    let G = take (k .before .lent-cells .result) (a .key .now) in
+    let M = take (k .before .lent-cells .result) (a .message .now) in
     let E = take (S k .depth) (a .challenges .now) in (
-      λ e. ap (λ x. fits x proveReads (tablesOf G M [] [] E [])) (sym (same-settings k e))
-          ∙ lent-fitting (S k) G M E (length-take-le _ _ (key-room k) ∙ cells-is k) (length-take-le _ _ (message-room k) ∙ cells-is k) (length-take-le _ _ (challenges-room k)),
+      λ e same. ap (λ x. fits x proveReads (tablesOf G M [] [] E [])) (sym (same-settings k e))
+          ∙ lent-fitting (S k) G M E (length-take-le _ _ (key-room k) ∙ cells-is k e same) (length-take-le _ _ (message-room k) ∙ cells-is k e same) (length-take-le _ _ (challenges-room k)),
       (λ e. length-take-le _ _ (rounds-room k) ∙ rounds-is k ∙ ap roundCells (same-settings k e), begins k),
     )
 

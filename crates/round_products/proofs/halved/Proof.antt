@@ -5,14 +5,14 @@ use native.Mathlib.Omega.{arith}
 use borrow.Author.Needs.{needs}
 use lib.ListN.{getD}
 use Rattle.protocol.specs.Basic.{Provided}
-use Rattle.protocol.specs.Element.{zeros}
+use Rattle.protocol.specs.Element.{width, zeros}
 use Rattle.residues.proofs.Fill.{filled, fill-none, fill-more, element-done}
 use Rattle.round_products.specs.Sums.{half, Reduced}
 use Rattle.round_products.proofs.halved.Statement.{statement}
 use Rattle.round_products.proofs.halved.Tie as tie
 
 abbrev Inv-loop : tie.InvT-loop
-Inv-loop q d t a r₀ n k₀ r k = (k ≤ d) × Provided ((q % 2 ≡ 1) × Reduced q d a) (r ≡ filled (λ j. half q ^ t * getD a j 0 % q) k (zeros 64))
+Inv-loop q d t a r₀ n k₀ r k = (k ≤ d) × Provided ((q % 2 ≡ 1) × Reduced q d a) (r ≡ filled (λ j. half q ^ t * getD a j 0 % q) k (zeros width))
 
 abbrev μ-loop : tie.MeasureT-loop
 μ-loop q d t a r₀ n k₀ r k = d - k
@@ -23,7 +23,7 @@ loop-holds c = (omega arith, λ _. fill-none _ _)
 loop-again : tie.Need-loop-again Inv-loop μ-loop
 loop-again c =
     let l = c .before .before .loop in
-    (omega arith, λ h. fill-more 64 _ (l .k) _ (l .r) (l .inv .1 h) (omega arith) (c .halved-times .ensures (record { odd = h .0; residue = h .1 (l .k) (omega arith) })))
+    (omega arith, λ h. fill-more width _ (l .k) _ (l .r) (l .inv .1 h) (omega arith) (c .halved-times .ensures (record { odd = h .0; residue = h .1 (l .k) (omega arith) })))
 
 returns : tie.Need-returns Inv-loop μ-loop
 returns c = λ h. let l = c .before .loop in element-done _ (l .k) _ (l .r) (l .inv .1 h) (omega arith)

@@ -3,6 +3,7 @@ use Prim.Native.Nat.{ℕ, _*_, _≤_}
 use native.Mathlib.Nat as Nat
 use native.Mathlib.Omega.{arith}
 use borrow.Author.Tests.{leb-true, le-leb}
+use Rattle.protocol.specs.Element.{width}
 use Rattle.round_products.proofs.sized.Statement.{statement}
 use Rattle.round_products.proofs.sized.Tie as tie
 
@@ -18,7 +19,7 @@ returns-3 c = ((λ e. let z : _≡_ {A = ℕ} 0 1 = cc in absurd (omega arith)),
 mul-cells : tie.Need-mul-cells
 mul-cells c =
     let a = c .before .before .before .args in
-    let few : a .n * a .d ≤ 256 * 64 = Nat.mul-le-mul {n₂ = 256} {m₂ = 64} (omega arith) (omega arith) in
+    let few : a .n * a .d ≤ 256 * width = Nat.mul-le-mul {n₂ = 256} {m₂ = width} (omega arith) (omega arith) in
     omega (arith, few)
 
 returns-4 : tie.Need-returns-4

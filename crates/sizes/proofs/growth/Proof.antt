@@ -5,6 +5,7 @@ use native.Mathlib.Nat as Nat
 use native.Mathlib.Numerals.{add-one}
 use native.Mathlib.Omega.{arith}
 use borrow.Author.Needs.{needs}
+use Rattle.protocol.specs.Element.{width}
 use Rattle.protocol.specs.Tree.{growthFactor, growthLimit}
 use Rattle.protocol.proofs.Inputs.{settings-valid}
 use Rattle.protocol.specs.GrowthTest.{cappedTimes, cappedPower, cappedGrowth}
@@ -18,8 +19,8 @@ factor-is : (d : ℕ) → 8 * d * d ≡ growthFactor d
 unfolding growthFactor
 factor-is d = omega (arith, square d)
 
-factor-most : (d : ℕ) → d ≤ 64 → 8 * d * d ≤ 32768
-factor-most d h = Nat.mul-le-mul {n₁ = 8 * d} {m₁ = d} {n₂ = 512} {m₂ = 64} (omega arith) h
+factor-most : (d : ℕ) → d ≤ width → 8 * d * d ≤ 8 * width * width
+factor-most d h = Nat.mul-le-mul {n₁ = 8 * d} {m₁ = d} {n₂ = 8 * width} {m₂ = width} (omega arith) h
 
 next : (c f b i : ℕ) → cappedPower c f b (suc i) ≡ cappedPower c f b (i + 1)
 next c f b i = ap (cappedPower c f b) (sym (add-one i))

@@ -32,10 +32,8 @@ returns-2 c = λ h long.
     let d = a .d in
     let t = a .t .now in
     let c0 = stored d t 0 t (λ k. ap (λ x. getD t x 0) (omega (arith, Nat.zero-mul d))) _ (one .store .ensures (record { there = omega arith; room = omega arith })) in
-    let c1 = stored d t 1 (take (length t - d) (drop d t)) (λ k. tail-at d t k 0 ∙ ap (λ x. getD t (x + k) 0) (sym (Nat.one-mul d)))
-    _ (two .store2 .ensures (record { there = omega (arith, tail-length d t); room = omega arith })) in
-    let c2 = stored d t 2 (take (length t - 2 * d) (drop (2 * d) t)) (λ k. tail-at (2 * d) t k 0)
-    _ (c .store3 .ensures (record { there = omega (arith, tail-length (2 * d) t); room = omega arith })) in
+    let c1 = stored d t 1 (take (length t - d) (drop d t)) (λ k. tail-at d t k 0 ∙ ap (λ x. getD t (x + k) 0) (sym (Nat.one-mul d))) _ (two .store2 .ensures (record { there = omega (arith, tail-length d t); room = omega arith })) in
+    let c2 = stored d t 2 (take (length t - 2 * d) (drop (2 * d) t)) (λ k. tail-at (2 * d) t k 0) _ (c .store3 .ensures (record { there = omega (arith, tail-length (2 * d) t); room = omega arith })) in
     λ i. c0 i ∷ c1 i ∷ c2 i ∷ []
 
 pub polynomial-spec : {M : Type 1} → statement M

@@ -1,14 +1,14 @@
 -- `verify_in`: the reader, and then the check.
 use mathlib.Core.Path.{_≡_, subst}
-use mathlib.Core.Bool.{true}
 use mathlib.Core.List.{List, [], _∷_}
 use Prim.Native.Nat.{ℕ}
 use borrow.Author.Needs.{needs}
 use lib.ListN.{length}
-use Rattle.protocol.specs.Text.{Tables, fits, linesOf, settingsIn, lookRefusal}
+use Rattle.protocol.specs.Text.{Tables}
 use Rattle.protocol.specs.Promises.{Read}
 use Rattle.protocol.specs.Programs.{verifyReads, transcriptIn, tablesAccepted}
 use Rattle.text_parts.specs.Parts.{tablesOf, lengthsOf}
+use Rattle.table_reader.specs.Parts.{Lent}
 use Rattle.verify_text.proofs.Checks.{given-bare}
 use Rattle.verify_text.proofs.Verifies.{verify-refused, verify-given, verify-done}
 use Rattle.verify_text.proofs.verify_in.Statement.{statement}
@@ -29,7 +29,7 @@ module _ (c : tie.After-read-tables) where
       let l = c .read-tables .last .1 .1 .1 .1 in
       tablesOf (l .0) (l .1 .0) (l .1 .1 .0) (l .1 .1 .1 .0) (l .1 .1 .1 .1 .0) (l .1 .1 .1 .1 .1 .0)
 
-  fit : lookRefusal text ≡ 0 → fits (settingsIn (linesOf text)) verifyReads t ≡ true
+  fit : Lent verifyReads text t
   fit = start .pre .0
 
   promise : Read verifyReads text t (c .read-tables .result) t′

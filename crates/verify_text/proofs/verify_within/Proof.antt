@@ -1,5 +1,6 @@
 -- `verify_within`: the settings, and then tables of exactly the lengths that the settings ask for.
-use mathlib.Core.Path.{_≡_, sym, ap, _∙_}
+use mathlib.Core.Path.{_≡_, refl, sym, ap, subst, _∙_}
+use mathlib.Core.Bool.{true}
 use mathlib.Core.List.{List, []}
 use Prim.Native.Nat.{ℕ, _≤_}
 use native.Mathlib.Omega.{arith}
@@ -9,12 +10,13 @@ use lib.Seq.{length-take-le}
 use Rattle.protocol.specs.declared.Settings.{Settings}
 use Rattle.protocol.specs.Layout.{roundCells}
 use Rattle.protocol.specs.Settings.{settingsRefusal, cells}
-use Rattle.protocol.specs.Text.{Tables, fits}
+use Rattle.protocol.specs.Text.{Tables, fits, wanted, linesOf, spotsOf, sameSpots, settingsIn, lookRefusal}
 use Rattle.protocol.specs.Programs.{verifyReads}
-use Rattle.text_parts.specs.Parts.{tablesOf}
+use Rattle.text_parts.specs.Parts.{tablesOf, cellsRoom}
 use Rattle.verify_text.proofs.Checks.{Long}
 use Rattle.verify_text.proofs.Verifies.{verify-stops, lent-fitting}
-use Rattle.table_reader.proofs.Rooms.{rooms}
+use Rattle.table_reader.proofs.Rooms.{rooms, lent-whole}
+use Rattle.table_writer.proofs.FewLines.{lines-few}
 use Rattle.text_lines.specs.Header.{Begins}
 use Rattle.text_lines.proofs.Looked.{Begun, begun, begun-begins}
 use Rattle.verify_text.proofs.verify_within.Statement.{statement}
@@ -46,15 +48,17 @@ module _ (c : tie.After-round-cells) where
   allowed : settingsRefusal S ≡ 0
   allowed = known .allowed (left .if1 .left)
 
-  cells-is : c .before .cells .result ≡ cells S
-  cells-is = c .before .cells .ensures allowed
+  -- where the text has a line for each number
+  cells-is : lookRefusal text ≡ 0 → sameSpots (spotsOf (linesOf text)) (wanted (settingsIn (linesOf text)) verifyReads) ≡ true → c .before .lent-cells .result ≡ cells S
+  unfolding verifyReads
+  cells-is e same = c .before .lent-cells .ensures .0 allowed ∙ lent-whole S (subst (λ x. cells x ≤ cellsRoom) (sym (known .settings-are e)) (lines-few text verifyReads e same refl))
 
   rounds-is : c .round-cells .result ≡ roundCells S
   rounds-is = c .round-cells .ensures allowed
 
   -- there is room for every table
-  key-room : c .before .cells .result ≤ length (start .args .key .now)
-  key-room = omega (arith, cells-is, rooms S allowed .table, start .pre .0)
+  key-room : c .before .lent-cells .result ≤ length (start .args .key .now)
+  key-room = omega (arith, c .before .lent-cells .ensures .1, start .pre .0)
 
   commitment-room : S .degree ≤ length (start .args .commitment .now)
   commitment-room = omega (arith, rooms S allowed .element, start .pre .1)
@@ -69,12 +73,12 @@ module _ (c : tie.After-round-cells) where
   last-room = omega (arith, rooms S allowed .element, start .pre .4)
 
   abbrev t : Tables
-  t = tablesOf (take (c .before .cells .result) (start .args .key .now)) [] (take (S .degree) (start .args .commitment .now)) (take (c .round-cells .result) (start .args .rounds .now))
+  t = tablesOf (take (c .before .lent-cells .result) (start .args .key .now)) [] (take (S .degree) (start .args .commitment .now)) (take (c .round-cells .result) (start .args .rounds .now))
       (take (S .depth) (start .args .challenges .now)) (take (S .degree) (start .args .last .now))
 
-  long : Long S t
-  long = record {
-    key = length-take-le _ _ key-room ∙ cells-is;
+  long : lookRefusal text ≡ 0 → sameSpots (spotsOf (linesOf text)) (wanted (settingsIn (linesOf text)) verifyReads) ≡ true → Long S t
+  long e same = record {
+    key = length-take-le _ _ key-room ∙ cells-is e same;
     message = λ _. 0;
     commitment = length-take-le _ _ commitment-room;
     rounds = length-take-le _ _ rounds-room ∙ rounds-is;
@@ -122,7 +126,7 @@ slice-aggregate-verify-in-6 c = sym (length-take-le _ _ (last-room (c .before .b
 verify-in-requires : tie.Need-verify-in-requires
 verify-in-requires c κs =
     let k = c .before .before .before .before .before .before in
-    ((λ e. ap (λ x. fits x verifyReads (t k)) (sym (known k .settings-are e)) ∙ lent-fitting (S k) (t k) (long k)), begins k)
+    ((λ e same. ap (λ x. fits x verifyReads (t k)) (sym (known k .settings-are e)) ∙ lent-fitting (S k) (t k) (long k e same)), begins k)
 
 pub verify-within-spec : {M : Type 1} → statement M
 verify-within-spec =

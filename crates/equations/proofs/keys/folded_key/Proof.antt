@@ -78,4 +78,4 @@ returns-6 c = λ g.
     (λ k l. getD-replicate width k 0 0 (omega (arith, r .degree-most)))))
 
 pub folded-key-spec : {M : Type 1} → statement M
-folded-key-spec = tie.close (tie.spec (λ c. search needs) returns-2 returns-3 (λ c. search needs) (λ c. search needs) (λ c. search needs) (λ c κs. search needs) (λ c. search needs) slice-aggregate-gather-elements-2 (λ c κs. search needs) (λ c κs. search needs) (λ c. search needs) slice-aggregate-join-all slice-aggregate-join-all-2 (λ c κs. search needs) returns-5 (λ c. search needs) slice-aggregate-add-elements-2 (λ c κs. search needs) returns-6)
+folded-key-spec = tie.close (tie.spec (λ c. search needs) (λ c. search needs) returns-2 returns-3 (λ c. search needs) (λ c. search needs) (λ c. search needs) (λ c κs. search needs) (λ c. search needs) slice-aggregate-gather-elements-2 (λ c κs. search needs) (λ c κs. search needs) (λ c. search needs) slice-aggregate-join-all slice-aggregate-join-all-2 (λ c κs. search needs) returns-5 (λ c. search needs) slice-aggregate-add-elements-2 (λ c κs. search needs) returns-6)

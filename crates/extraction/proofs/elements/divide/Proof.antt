@@ -13,7 +13,7 @@ use lib.Pow as Pow
 use Rattle.protocol.specs.Element.{signed}
 use Rattle.protocol.specs.Layout.{width}
 use Rattle.residues.proofs.Fill.{filled}
-use Rattle.extraction.specs.Steps.{summed, divided}
+use Rattle.extraction.specs.Steps.{doublingsMost, summed, divided}
 use Rattle.extraction.proofs.Quotients as Q
 use Rattle.extraction.proofs.elements.divide.Statement.{statement}
 use Rattle.extraction.proofs.elements.divide.Tie as tie
@@ -24,16 +24,16 @@ Before d k j = (i : ℕ) → i < j → eqb (k * 2 ^ i % (2 * d)) d ≡ false
 
 abbrev Inv-loop : tie.InvT-loop
 Inv-loop d k a₀ x₀ e₀ j₀ a x e j =
-    (j ≤ 7) × (e ≡ k * 2 ^ j % (2 * d)) × (a ≡ filled (summed d k j (signed a₀)) d a₀) × (length a ≡ length a₀) × (length x ≡ length x₀) × Before d k j
+    (j ≤ doublingsMost) × (e ≡ k * 2 ^ j % (2 * d)) × (a ≡ filled (summed d k j (signed a₀)) d a₀) × (length a ≡ length a₀) × (length x ≡ length x₀) × Before d k j
 
 abbrev μ-loop : tie.MeasureT-loop
-μ-loop d k a₀ x₀ e₀ j₀ a x e j = 7 - j
+μ-loop d k a₀ x₀ e₀ j₀ a x e j = doublingsMost - j
 
 some : (c : tie.Start Inv-loop μ-loop) → 0 < c .args .d
 some c = omega (arith, c .pre .1 .degree-is, Pow.pow-pos (c .pre .1 .log))
 
 small : (c : tie.Start Inv-loop μ-loop) → c .args .d ≤ width
-small c = omega (arith, c .pre .1 .degree-is, Pow.pow-mono {i = c .pre .1 .log} {j = 6} (c .pre .1 .log-most))
+small c = omega (arith, c .pre .1 .degree-is, Pow.pow-mono {i = c .pre .1 .log} {j = 7} (c .pre .1 .log-most))
 
 -- where it is not met now either
 further : (d k j e : ℕ) → e ≡ k * 2 ^ j % (2 * d) → (e ≡ d → ⊥) → Before d k j → Before d k (j + 1)
@@ -42,7 +42,7 @@ further d k j e is ne none i h = elim (ℕ-discrete i j) [
   | no q ↦ none i (omega arith)
 ]
 
-done : (d k j : ℕ) → j ≤ 7 → (j < 7 → k * 2 ^ j % (2 * d) ≡ d) → Before d k j → summed d k j ≡ divided d k
+done : (d k j : ℕ) → j ≤ doublingsMost → (j < doublingsMost → k * 2 ^ j % (2 * d) ≡ d) → Before d k j → summed d k j ≡ divided d k
 unfolding divided
 done d k j h t none = ap (λ n. summed d k n) (sym (Q.doublings-are d k j h t none))
 

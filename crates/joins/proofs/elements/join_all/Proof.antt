@@ -2,7 +2,7 @@
 use mathlib.Core.Path.{_≡_}
 use Prim.Native.Nat.{ℕ, _-_, _≤_}
 use native.Mathlib.Omega.{arith}
-use Rattle.protocol.specs.Element.{Element, modulo, reduced, zeros}
+use Rattle.protocol.specs.Element.{Element, width, modulo, reduced, zeros}
 use Rattle.residues.proofs.Fill.{filled, fill-none, fill-more, element-done}
 use Rattle.joins.specs.Sums.{Ready, Stand}
 use borrow.Author.Needs.{needs}
@@ -10,7 +10,7 @@ use Rattle.joins.proofs.elements.join_all.Statement.{statement}
 use Rattle.joins.proofs.elements.join_all.Tie as tie
 
 abbrev Inv-loop : tie.InvT-loop
-Inv-loop joint d s t a₀ k₀ a k = (k ≤ d) × (d ≤ 64) × ((q : ℕ) (F : Element) → Ready q joint → Stand q d F s t → a ≡ filled (λ (j : ℕ). modulo q (F j)) k (zeros 64))
+Inv-loop joint d s t a₀ k₀ a k = (k ≤ d) × (d ≤ width) × ((q : ℕ) (F : Element) → Ready q joint → Stand q d F s t → a ≡ filled (λ (j : ℕ). modulo q (F j)) k (zeros width))
 
 abbrev μ-loop : tie.MeasureT-loop
 μ-loop joint d s t a₀ k₀ a k = d - k
@@ -25,14 +25,14 @@ returns-3 : tie.Need-returns-3 Inv-loop μ-loop
 returns-3 c = λ q F g. absurd (omega (arith, g .1 .uppers))
 
 loop-holds : tie.Need-loop-holds Inv-loop μ-loop
-loop-holds c = (omega arith, omega arith, λ q F R S. fill-none 64 _)
+loop-holds c = (omega arith, omega arith, λ q F R S. fill-none width _)
 
 loop-again : tie.Need-loop-again Inv-loop μ-loop
 loop-again c =
     let l = c .before .before .before .before .loop in (
       omega arith,
       omega arith,
-      λ q F R S. fill-more 64 _ (l .k) _ (l .a) (l .inv .2 q F R S) (omega arith) (c .join .ensures q (F (l .k)) (R, S .each (l .k) (omega arith))),
+      λ q F R S. fill-more width _ (l .k) _ (l .a) (l .inv .2 q F R S) (omega arith) (c .join .ensures q (F (l .k)) (R, S .each (l .k) (omega arith))),
     )
 
 returns-4 : tie.Need-returns-4 Inv-loop μ-loop

@@ -11,7 +11,7 @@ use lib.IntN.{ℤ}
 use lib.ListN.{getD, List·getD-append}
 use Rattle.protocol.specs.declared.Settings.{Settings}
 use Rattle.protocol.specs.Basic.{every, tabulate}
-use Rattle.protocol.specs.Element.{modulo, residue, times, padded}
+use Rattle.protocol.specs.Element.{width, modulo, residue, times, padded}
 use Rattle.protocol.specs.Judge.{scaledCommitment, combination, opens}
 use Rattle.protocol.proofs.Inputs.{settings-valid}
 use Rattle.protocol.proofs.Reading.{tabulate-length, tabulate-at}
@@ -44,7 +44,7 @@ abbrev μ-loop : tie.MeasureT-loop
 μ-loop c key w commitment sums q d factor k₀ k = d - k
 
 -- places are small
-small : (c : tie.In-loop Inv-loop μ-loop) → c .before .loop .k < 64
+small : (c : tie.In-loop Inv-loop μ-loop) → c .before .loop .k < width
 small c = let g = c .before .before .before .before .before .before in omega (arith, degree-most (g .args .settings) (settings-valid (g .args .settings) (g .pre .0 .allowed)))
 
 prepared-requires : tie.Need-prepared-requires Inv-loop μ-loop

@@ -14,8 +14,7 @@ returns c = λ _ _. sym (ap verdict (and-fails-left (c .before .before .before .
 
 returns-2 : tie.Need-returns-2
 unfolding verdict choose
-returns-2 c = λ given below.
-    sym (ap verdict (and-intro (not-false (c .before .before .before .before .before .args .holds) (c .before .before .if1 .left)) (sym (c .before .end-holds .ensures given below) ∙ c .if2 .taken)))
+returns-2 c = λ given below. sym (ap verdict (and-intro (not-false (c .before .before .before .before .before .args .holds) (c .before .before .if1 .left)) (sym (c .before .end-holds .ensures given below) ∙ c .if2 .taken)))
 
 returns-3 : tie.Need-returns-3
 unfolding verdict choose

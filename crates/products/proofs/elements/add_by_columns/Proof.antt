@@ -14,15 +14,15 @@ use Rattle.products.proofs.elements.add_by_columns.Tie as tie
 
 abbrev Inv-loop : tie.InvT-loop
 Inv-loop n f g s₀ j₀ s j =
-    (j ≤ n) × ((q : ℕ) (t : List ℕ) → Summable q 4 n f g × (q < 2 ^ 32) × Stands q 4 (inner 4 0 (signedAt 4 f) (residueAt 4 g)) 0 s₀ t
-    → Stands q 4 (inner 4 j (signedAt 4 f) (residueAt 4 g)) (j * 4) s t)
+    (j ≤ n) × ((q : ℕ) (t : List ℕ) (z : Summable q 4 n f g) → (q < 2 ^ 32) × Stands q 4 (inner 4 0 (signedAt 4 f) (residueAt 4 g)) 0 s₀ t
+    → Stands q 4 (inner 4 j (signedAt 4 f) (residueAt 4 g)) (j * (4 * z .magnitude)) s t)
     × (length s ≡ length s₀)
 
 abbrev μ-loop : tie.MeasureT-loop
 μ-loop n f g s₀ j₀ s j = n - j
 
 loop-holds : tie.Need-loop-holds Inv-loop μ-loop
-loop-holds c = (omega arith, (λ q t z. stands-first q 4 _ (c .before .before .args .s .now) t (z .2)), refl)
+loop-holds c = (omega arith, (λ q t z h. stands-first q 4 (4 * z .magnitude) _ (c .before .before .args .s .now) t (h .1)), refl)
 
 loop-again : tie.Need-loop-again Inv-loop μ-loop
 loop-again c =
@@ -32,20 +32,20 @@ loop-again c =
     let added = c .before .before .add-product in
     let long = l .inv .2 in (
       omega arith,
-      (λ q u z.
-          let ok = table-addable q 4 (a .n) (l .j) (a .f .now) (a .g .now) (z .0) (t .loop-test .taken) 12 4 4 (omega arith) (omega arith) (omega arith) in
-          table-more q 4 (a .n) (l .j) (a .f .now) (a .g .now) (z .0) (t .loop-test .taken) _ u
-          (columns-stand q 4 _ _ 12 4 4 ok _ _ (l .s) u (l .inv .1 q u z) (z .1) _
+      (λ q u z h.
+          let ok = table-addable q 4 (a .n) (l .j) (a .f .now) (a .g .now) z (t .loop-test .taken) 12 4 4 (omega arith) (omega arith) (omega arith) in
+          table-more q 4 (a .n) (l .j) (a .f .now) (a .g .now) z (t .loop-test .taken) _ u
+          (columns-stand q 4 (z .magnitude) _ _ 12 4 4 ok _ _ (l .s) u (l .inv .1 q u z h) (h .0) _
           (added .ensures (record { degree = omega arith; coefficients = omega (arith, ok .elements .f-long); residues = omega (arith, ok .elements .g-long); sums = omega (arith, long) })))),
       added .kept .1 .1 .1 .0 ∙ long,
     )
 
 returns : tie.Need-returns Inv-loop μ-loop
-returns c = λ q t z.
+returns c = λ q t z h.
     let a = c .before .before .before .before .args in
     let l = c .before .loop in
     let is : l .j ≡ a .n = omega arith in
-    subst (λ n. Stands q 4 (inner 4 n (signedAt 4 (a .f .now)) (residueAt 4 (a .g .now))) (n * 4) (l .s) t) is (l .inv .1 q t z)
+    subst (λ n. Stands q 4 (inner 4 n (signedAt 4 (a .f .now)) (residueAt 4 (a .g .now))) (n * (4 * z .magnitude)) (l .s) t) is (l .inv .1 q t z h)
 
 pub add-by-columns-spec : {M : Type 1} → statement M
 add-by-columns-spec =

@@ -6,25 +6,25 @@ use Rattle.products.proofs.elements.add_element.Tie as tie
 
 -- in one run
 returns : tie.Need-returns
-returns c = λ F count h.
+returns c = λ F count m h.
     let a = c .before .before .before .before .before .before .before .before .before .before .before .before .before .before .args in
     let ok = h .0 in
     let e = ok .elements in
     let ready = c .before .before .before .before .before .before .before .before .prepare .ensures
     (record { modulus = e .modulus; degree = e .degree; degree-most = e .degree-most; coefficients = omega (arith, e .g-long); places = ok .places }) in
-    lower-stand (a .q) (a .d) (a .f .now) (a .g .now) _ _ _ ok F count (a .s .now) (a .t .now) (h .1) (omega arith) _ _ ready
+    lower-stand (a .q) (a .d) m (a .f .now) (a .g .now) _ _ _ ok F count (a .s .now) (a .t .now) (h .1) (omega arith) _ _ ready
     (c .before .before .before .add-product .ensures
     (record { degree = e .degree-most; coefficients = omega (arith, e .f-long); residues = ready .places; sums = ok .lowers }))
 
 -- in two
 returns-2 : tie.Need-returns-2
-returns-2 c = λ F count h.
+returns-2 c = λ F count m h.
     let a = c .before .before .before .before .before .before .before .before .before .before .before .before .before .before .before .before .before .before .before .before .before .before .before .args in
     let ok = h .0 in
     let e = ok .elements in
     let ready = c .before .before .before .before .before .before .before .before .before .before .before .before .before .before .before .before .before .prepare .ensures
     (record { modulus = e .modulus; degree = e .degree; degree-most = e .degree-most; coefficients = omega (arith, e .g-long); places = ok .places }) in
-    both-stand (a .q) (a .d) (a .f .now) (a .g .now) _ _ _ ok F count (a .s .now) (a .t .now) (h .1) _ _ _ _ ready
+    both-stand (a .q) (a .d) m (a .f .now) (a .g .now) _ _ _ ok F count (a .s .now) (a .t .now) (h .1) _ _ _ _ ready
     (c .before .before .before .before .before .before .before .upper-halves .ensures (ready .places))
     (c .before .before .before .before .before .before .before .before .before .before .before .before .add-product .ensures
     (record { degree = e .degree-most; coefficients = omega (arith, e .f-long); residues = ready .places; sums = ok .lowers }))

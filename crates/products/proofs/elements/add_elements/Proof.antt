@@ -3,7 +3,7 @@ use mathlib.Core.Path.{_≡_, refl, subst}
 use Prim.Native.Nat.{_+_, _*_, _-_, _≤_}
 use native.Mathlib.Omega.{arith}
 use lib.ListN.{length}
-use Rattle.protocol.specs.Element.{signedAt, residueAt}
+use Rattle.protocol.specs.Element.{width, signedAt, residueAt}
 use Rattle.protocol.specs.Opening.{inner}
 use Rattle.protocol.proofs.Reading.{row-inside}
 use Rattle.products.specs.Sums.{Stands, Summable}
@@ -14,8 +14,8 @@ use Rattle.products.proofs.elements.add_elements.Tie as tie
 
 abbrev Inv-loop : tie.InvT-loop
 Inv-loop q d n f g s₀ t₀ x₀ i₀ s t x i =
-    (i ≤ n) × (Summable q d n f g × Stands q d (inner d 0 (signedAt d f) (residueAt d g)) 0 s₀ t₀ → Stands q d (inner d i (signedAt d f) (residueAt d g)) (i * d) s t)
-    × (length s ≡ length s₀) × (length t ≡ length t₀) × (length x ≡ 192)
+    (i ≤ n) × ((z : Summable q d n f g) → Stands q d (inner d 0 (signedAt d f) (residueAt d g)) 0 s₀ t₀ → Stands q d (inner d i (signedAt d f) (residueAt d g)) (i * (d * z .magnitude)) s t)
+    × (length s ≡ length s₀) × (length t ≡ length t₀) × (length x ≡ 3 * width)
 
 abbrev μ-loop : tie.MeasureT-loop
 μ-loop q d n f g s₀ t₀ x₀ i₀ s t x i = n - i
@@ -27,7 +27,7 @@ inside c = let a = c .before .before .before .before .before .args in row-inside
 loop-holds : tie.Need-loop-holds Inv-loop μ-loop
 loop-holds c =
     let a = c .before .before .before .args in
-    (omega arith, (λ z. stands-first (a .q) (a .d) _ (a .s .now) (a .t .now) (z .1)), refl, refl, search needs)
+    (omega arith, (λ z. stands-first (a .q) (a .d) (a .d * z .magnitude) _ (a .s .now) (a .t .now)), refl, refl, search needs)
 
 mul-at : tie.Need-mul-at Inv-loop μ-loop
 mul-at c = omega (arith, inside c)
@@ -58,20 +58,21 @@ loop-again c =
     let a = s .args in
     let one = c .before .before .before .before .before .add-element in (
       omega arith,
-      (λ z.
-          table-more (a .q) (a .d) (a .n) (l .i) (a .f .now) (a .g .now) (z .0) (t .loop-test .taken) _ _
-          (one .ensures _ _ (table-addable (a .q) (a .d) (a .n) (l .i) (a .f .now) (a .g .now) (z .0) (t .loop-test .taken) _ _ _ (omega arith) (omega arith) (omega arith), l .inv .1 z))),
+      (λ z start.
+          table-more (a .q) (a .d) (a .n) (l .i) (a .f .now) (a .g .now) z (t .loop-test .taken) _ _
+          (one .ensures _ _ (z .magnitude)
+          (table-addable (a .q) (a .d) (a .n) (l .i) (a .f .now) (a .g .now) z (t .loop-test .taken) _ _ _ (omega arith) (omega arith) (omega arith), l .inv .1 z start))),
       search needs,
       search needs,
       search needs,
     )
 
 returns : tie.Need-returns Inv-loop μ-loop
-returns c = λ z.
+returns c = λ z start.
     let a = c .before .before .before .before .before .args in
     let l = c .before .loop in
     let is : l .i ≡ a .n = omega arith in
-    subst (λ n. Stands (a .q) (a .d) (inner (a .d) n (signedAt (a .d) (a .f .now)) (residueAt (a .d) (a .g .now))) (n * a .d) (l .s) (l .t)) is (l .inv .1 z)
+    subst (λ n. Stands (a .q) (a .d) (inner (a .d) n (signedAt (a .d) (a .f .now)) (residueAt (a .d) (a .g .now))) (n * (a .d * z .magnitude)) (l .s) (l .t)) is (l .inv .1 z start)
 
 pub add-elements-spec : {M : Type 1} → statement M
 add-elements-spec =

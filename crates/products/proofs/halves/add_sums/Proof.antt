@@ -1,9 +1,10 @@
 -- The loop keeps: the sums stand for the inner product of the first i elements of the halves' sums. Of the rooms nothing is kept but their lengths.
 use mathlib.Core.Path.{_≡_, refl, subst, _∙_}
-use Prim.Native.Nat.{_+_, _*_, _-_, _≤_}
+use Prim.Native.Nat.{_+_, _*_, _-_, _^_, _≤_}
 use native.Mathlib.Nat as Nat
 use native.Mathlib.Omega.{arith}
 use lib.ListN.{length}
+use Rattle.protocol.specs.Element.{width}
 use Rattle.protocol.specs.Opening.{inner}
 use Rattle.protocol.proofs.Reading.{row-inside}
 use Rattle.products.specs.Sums.{Stands, messageSums, keySums, Halves}
@@ -15,8 +16,8 @@ use Rattle.products.proofs.halves.add_sums.Tie as tie
 
 abbrev Inv-loop : tie.InvT-loop
 Inv-loop q d h f g s₀ t₀ half m₀ k₀ x₀ i₀ s t m k x i =
-    (i ≤ h) × (Halves q d h f g × Stands q d (inner d 0 (messageSums d h f) (keySums q d h g)) 0 s₀ t₀ → Stands q d (inner d i (messageSums d h f) (keySums q d h g)) (i * d) s t)
-    × (length s ≡ length s₀) × (length t ≡ length t₀) × (length m ≡ 64) × (length k ≡ 64) × (length x ≡ 192)
+    (i ≤ h) × (Halves q d h f g × Stands q d (inner d 0 (messageSums d h f) (keySums q d h g)) 0 s₀ t₀ → Stands q d (inner d i (messageSums d h f) (keySums q d h g)) (i * (d * 2 ^ 16)) s t)
+    × (length s ≡ length s₀) × (length t ≡ length t₀) × (length m ≡ width) × (length k ≡ width) × (length x ≡ 3 * width)
 
 abbrev μ-loop : tie.MeasureT-loop
 μ-loop q d h f g s₀ t₀ half m₀ k₀ x₀ i₀ s t m k x i = h - i
@@ -37,7 +38,7 @@ mul-half c = omega (arith, half-few (c .before .before .before))
 loop-holds : tie.Need-loop-holds Inv-loop μ-loop
 loop-holds c =
     let a = c .before .before .before .args in
-    (omega arith, (λ z. stands-first (a .q) (a .d) _ (a .s .now) (a .t .now) (z .1)), refl, refl, search needs, search needs, search needs)
+    (omega arith, (λ z. stands-first (a .q) (a .d) (a .d * 2 ^ 16) _ (a .s .now) (a .t .now) (z .1)), refl, refl, search needs, search needs, search needs)
 
 mul-at : tie.Need-mul-at Inv-loop μ-loop
 mul-at c = omega (arith, inside c, half-few (c .before .before .before .before .before))
@@ -72,7 +73,7 @@ loop-again c =
       (λ z.
           let is = h .add-halves .ensures (a .h) (l .i) (record { halves = z .0; inside = t .loop-test .taken; first = refl; second-at = refl }) in
           sums-more (a .q) (a .d) (a .h) (l .i) (a .f .now) (a .g .now) (z .0) (t .loop-test .taken) _ _ is _ _
-          (c .before .before .before .before .before .add-element .ensures _ _ (
+          (c .before .before .before .before .before .add-element .ensures _ _ (2 ^ 16) (
             sums-addable (a .q) (a .d) (a .h) (l .i) (a .f .now) (a .g .now) (z .0) (t .loop-test .taken) _ _ is _ _ _
                 (omega (arith, m-long)) (omega (arith, k-long)) (omega arith) (omega arith) (omega arith),
             l .inv .1 z,
@@ -89,7 +90,7 @@ returns c = λ z.
     let a = c .before .before .before .before .before .args in
     let l = c .before .loop in
     let is : l .i ≡ a .h = omega arith in
-    subst (λ n. Stands (a .q) (a .d) (inner (a .d) n (messageSums (a .d) (a .h) (a .f .now)) (keySums (a .q) (a .d) (a .h) (a .g .now))) (n * a .d) (l .s) (l .t)) is (l .inv .1 z)
+    subst (λ n. Stands (a .q) (a .d) (inner (a .d) n (messageSums (a .d) (a .h) (a .f .now)) (keySums (a .q) (a .d) (a .h) (a .g .now))) (n * (a .d * 2 ^ 16)) (l .s) (l .t)) is (l .inv .1 z)
 
 pub add-sums-spec : {M : Type 1} → statement M
 add-sums-spec =

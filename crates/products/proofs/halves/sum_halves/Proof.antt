@@ -1,6 +1,6 @@
 use mathlib.Core.Path.{_≡_, sym, subst}
 use mathlib.Core.List.{List}
-use Prim.Native.Nat.{ℕ, _*_}
+use Prim.Native.Nat.{ℕ, _*_, _^_}
 use native.Mathlib.Omega.{arith}
 use borrow.Author.Tests.{ltb-true}
 use lib.IntN.{ℤ}
@@ -14,7 +14,7 @@ use Rattle.products.proofs.halves.sum_halves.Tie as tie
 -- what the sums become, where the degree is written as a number and where not
 abbrev Become : ℕ → ℕ → List ℤ → List ℕ → List ℕ → List ℕ → List ℕ → ℕ → Type 0
 Become q h f g s t s′ d =
-    Halves q d h f g × Stands q d (inner d 0 (messageSums d h f) (keySums q d h g)) 0 s t → Stands q d (inner d h (messageSums d h f) (keySums q d h g)) (h * d) s′ t
+    Halves q d h f g × Stands q d (inner d 0 (messageSums d h f) (keySums q d h g)) 0 s t → Stands q d (inner d h (messageSums d h f) (keySums q d h g)) (h * (d * 2 ^ 16)) s′ t
 
 at-four : (q h : ℕ) (f : List ℤ) (g s t s′ : List ℕ) (d : ℕ) → d ≡ 4 → Become q h f g s t s′ 4 → Become q h f g s t s′ d
 at-four q h f g s t s′ d is = subst (Become q h f g s t s′) (sym is)

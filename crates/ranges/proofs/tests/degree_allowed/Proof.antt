@@ -13,7 +13,7 @@ returns c =
 returns-2 : tie.Need-returns-2
 unfolding degreeAllowed among
 returns-2 c =
-    let no = c .match .rest .1 in
+    let no = c .before .match .rest .1 in
     simp (
       ne-eqb _ 2 (λ e. no (inl e)),
       ne-eqb _ 4 (λ e. no (inr (inl e))),

@@ -1,6 +1,7 @@
 use mathlib.Core.Path.{ap, _∙_}
 use native.Mathlib.Omega.{arith}
 use lib.ListN.{getD}
+use Rattle.protocol.specs.Element.{width}
 use Rattle.residues.specs.Lists.{spliced}
 use Rattle.sessions.proofs.Stored.{stays, parts-stored}
 use borrow.Author.Needs.{needs}
@@ -29,8 +30,9 @@ returns-2 c =
     let r = taken .before .before .before .args .r in
     let head-stored = first .store .ensures (record { there = omega (arith, first-long (first .before .before)); room = omega arith }) in
     third .store3 .ensures (record { there = omega (arith, claim-long (third .before .before)); room = omega (arith, first .store .kept .1 .1 .1 .0, second .store2 .kept .1 .1 .1 .0) })
-    ∙ ap (spliced (λ k. getD (r .claim) k 0) 14 64) (second .store2 .ensures (record { there = omega (arith, challenges-long (second .before .before)); room = omega (arith, first .store .kept .1 .1 .1 .0) }))
-    ∙ (λ i. spliced (λ k. getD (r .claim) k 0) 14 64 (spliced (λ k. getD (wide i) k 0) 6 8 (head-stored i)))
+    ∙ ap (spliced (λ k. getD (r .claim) k 0) 14 width)
+    (second .store2 .ensures (record { there = omega (arith, challenges-long (second .before .before)); room = omega (arith, first .store .kept .1 .1 .1 .0) }))
+    ∙ (λ i. spliced (λ k. getD (r .claim) k 0) 14 width (spliced (λ k. getD (wide i) k 0) 6 8 (head-stored i)))
     ∙ parts-stored r _ _ (taken .head .ensures) (omega arith)
 
 pub store-spec : {M : Type 1} → statement M

@@ -1,95 +1,107 @@
 use mathlib.Core.Path.{_≡_, sym, ap, _∙_}
-use mathlib.Core.List.{List, _++_}
-use Prim.Native.Nat.{ℕ, _*_, _-_, _<_, _≤_}
+use mathlib.Core.Bool.{Bool, _&&_}
+use Prim.Native.Nat.{ℕ, _*_, _^_, _<_, _≤_}
+use native.Mathlib.Nat as Nat
 use native.Mathlib.Omega.{arith}
-use lib.ListN.{length, take, drop}
-use lib.Seq.{length-take-le}
-use borrow.Rule.Slice.PartMut.{putMid, mid-len}
+use lib.ListN.{length}
+use borrow.Author.Tests.{not-true, not-false}
+use Rattle.protocol.specs.Basic.{every}
+use Rattle.protocol.specs.Calls.{everyPath}
+use Rattle.protocol.specs.Element.{width}
+use Rattle.protocol.specs.Layout.{leaves}
+use Rattle.protocol.specs.Settings.{cells}
+use Rattle.protocol.specs.Tree.{nodes}
 use Rattle.protocol.proofs.Inputs.{settings-valid}
-use Rattle.sizes.proofs.Limits.{degree-most, cells-most}
 use Rattle.protocol.proofs.Places.{at-root}
 use Rattle.protocol.proofs.Ranges.{below-everywhere}
-use Rattle.tree_check.proofs.Root.{root-room, root-key, root-tests, root-read}
+use Rattle.protocol.proofs.Refusals.{and-fails-left}
+use Rattle.sizes.proofs.Limits.{degree-most, degree-inside}
+use Rattle.tree_check.specs.Nodes.{RootFolding, TreeGiven, Reduced, childAccepted}
+use Rattle.tree_check.proofs.Checks.{round-inside}
+use Rattle.tree_check.proofs.Root.{root-half, root-most, root-leaf, root-tests}
 use borrow.Author.Needs.{needs}
 use Rattle.tree_check.proofs.nodes.root_accepted.Statement.{statement}
 use Rattle.tree_check.proofs.nodes.root_accepted.Tie as tie
 
-few : (c : tie.Start) → length (c .args .key .now) ≤ 16384
-few c = omega (arith, cells-most (c .args .settings) (settings-valid (c .args .settings) (c .pre .0 .allowed)), c .pre .1)
+wide : (s : tie.Start) → s .args .settings .degree ≤ width
+wide s = degree-most (s .args .settings) (settings-valid (s .args .settings) (s .pre .0 .allowed))
 
--- the workspace with the key in it
-module _ (c : tie.After-ws2) where
-  abbrev key : List ℕ
-  key = c .before .before .before .before .before .before .before .before .args .key .now
+-- all numbers of the tables are residues
+module _ (s : tie.Start) (g : TreeGiven (s .args .settings) (s .args .key .now) (s .args .rounds .now) (s .args .leaves .now)) where
+  some : 0 < s .args .settings .modulus
+  some = omega (arith, settings-valid (s .args .settings) (g .allowed) .modulus-least)
 
-  abbrev n : ℕ
-  n = length key
+  key-below : Reduced (s .args .settings) (s .args .key .now)
+  key-below = below-everywhere (s .args .settings .modulus) _ (s .args .key .now) some (g .key-below)
 
-  abbrev zeros : List ℕ
-  zeros = c .before .before .before .room .result
+  rounds-below : Reduced (s .args .settings) (s .args .rounds .now)
+  rounds-below = below-everywhere (s .args .settings .modulus) _ (s .args .rounds .now) some (g .rounds-below)
 
-  abbrev part : List ℕ
-  part = take (32768 - n) (drop n zeros)
-
-  abbrev copied : List ℕ
-  copied = c .before .copy .last .1 .0
-
-  abbrev ws : List ℕ
-  ws = putMid n (32768 - n) zeros copied
-
-  inside : n ≤ length zeros
-  inside = omega (arith, few (c .before .before .before .before .before .before .before .before))
-
-  is-copied : copied ≡ key ++ drop n part
-  is-copied = c .before .copy .ensures (omega (arith, few (c .before .before .before .before .before .before .before .before), mid-len n 32768 zeros (omega arith)))
-
-  room-enough : 2 * n ≤ length ws
-  room-enough = root-room n (32768 - n) zeros copied key (drop n part) inside (λ _. n) is-copied
-
-  lent : length (take (2 * n) ws) ≡ 2 * n
-  lent = length-take-le (2 * n) ws room-enough
-
-  has-key : drop n (take (2 * n) ws) ≡ key
-  has-key = root-key n (32768 - n) zeros copied key (drop n part) inside (λ _. n) is-copied
-
-sub-copy : tie.Need-sub-copy
-sub-copy c = omega (arith, few (c .before .before .before .before .before))
-
-part-ws-start : tie.Need-part-ws-start
-part-ws-start c = omega (arith, few (c .before .before .before .before .before))
-
-array-borrow-prefix-ws : tie.Need-array-borrow-prefix-ws
-array-borrow-prefix-ws c = room-enough (c .before)
-
-slice-aggregate-subtree-accepted-2 : tie.Need-slice-aggregate-subtree-accepted-2
-slice-aggregate-subtree-accepted-2 c = sym (lent (c .before .before))
-
-subtree-accepted-requires : tie.Need-subtree-accepted-requires
-subtree-accepted-requires c κs =
-    let s = c .before .before .before .before .before .before .before .before .before .before in
+leaf-accepted-requires : tie.Need-leaf-accepted-requires
+unfolding leaves
+leaf-accepted-requires c κs =
+    let s = c .before .before .before .before .before .before in
     let S = s .args .settings in
     let T = s .pre .0 in (
-      (T, omega (arith, degree-most S (settings-valid S (T .allowed)))),
-      at-root S _ _ (c .before .before .before .before .before .before .nodes .ensures .0 (T .allowed))
-          (lent (c .before .before) ∙ ap (λ x. 2 * x) (s .pre .1)),
+      T .allowed,
+      omega (arith, T .finals-long, ap (λ l. 3 ^ l * S .degree) (c .before .if1 .taken), Nat.one-mul (S .degree)),
+      omega (arith, wide s),
+      omega (arith, degree-inside S (settings-valid S (T .allowed)), s .pre .1),
     )
 
 returns : tie.Need-returns
 returns c = λ g.
-    let s = c .before .before .before .before .before .before .before .before .before .before .before .before in
+    let s = c .before .before .before .before .before .before .before in
     let a = s .args in
-    let S = a .settings in
-    let pq : 0 < S .modulus = omega (arith, settings-valid S (g .allowed) .modulus-least) in
-    c .before .subtree-accepted .ensures (record {
-      rounds-below = below-everywhere (S .modulus) _ (a .rounds .now) pq (g .rounds-below);
-      key-below = root-read S (a .key .now) _ (length (a .key .now)) (s .pre .1) (has-key (c .before .before .before .before)) (below-everywhere (S .modulus) _ (a .key .now) pq (g .key-below));
-    })
-    ∙ root-tests (a .settings) (a .rounds .now) (a .challenges .now) (a .leaves .now) (a .t2) (a .key .now)
-    (take (2 * length (a .key .now)) (ws (c .before .before .before .before))) (length (a .key .now)) (s .pre .1) (has-key (c .before .before .before .before))
+    c .leaf-accepted .ensures (key-below s g) ∙ root-leaf (a .settings) (a .rounds .now) (a .challenges .now) (a .leaves .now) (a .t2) (a .key .now) (c .before .before .if1 .taken)
+
+node-holds-requires : tie.Need-node-holds-requires
+node-holds-requires c κs =
+    let s = c .before .before .before .before .before .before in
+    let S = s .args .settings in
+    (round-inside S (S .depth) 0 (nodes S) (2 * cells S) _ _ (at-root S (nodes S) (2 * cells S) (λ _. nodes S) (λ _. 2 * cells S)) (s .pre .0) (omega arith), omega (arith, wide s))
+
+returns-2 : tie.Need-returns-2
+returns-2 c = λ g.
+    let s = c .before .before .before .before .before .before .before .before in
+    let a = s .args in
+    sym (and-fails-left _ _ (sym (c .before .node-holds .ensures) ∙ not-true _ (c .if2 .taken)))
+    ∙ root-tests (a .settings) (a .rounds .now) (a .challenges .now) (a .leaves .now) (a .t2) (a .key .now) (omega arith)
+
+-- the children's tests, with a workspace that the root's key can be folded in
+folding : (s : tie.Start) (space : ℕ) → 0 < s .args .settings .depth → 3 * length (s .args .key .now) ≤ 2 * space → RootFolding (s .args .settings) (length (s .args .key .now)) space
+folding s space up room = record { allowed = s .pre .0 .allowed; up = up; key-long = s .pre .1; room = omega (arith, root-half (s .args .settings) up, s .pre .1) }
+
+root-children-accepted-requires : tie.Need-root-children-accepted-requires
+root-children-accepted-requires c κs = let s = c .before .before .before .before .before .before .before .before .before .before .before in (s .pre .0, folding s _ (omega arith) (omega arith))
+
+children : (c : tie.Else2) → let s = c .before .before .before .before .before .before .before .before in let a = s .args in (b : Bool)
+    → b ≡ every 3 (childAccepted (a .settings) (a .rounds .now) (a .challenges .now) (a .leaves .now) (a .settings .depth) 0 (a .key .now))
+    → b ≡ everyPath (a .settings) (a .t2) (a .key .now) (a .rounds .now) (a .challenges .now) (a .leaves .now)
+children e b is =
+    let a = e .before .before .before .before .before .before .before .before .args in
+    is
+    ∙ sym (ap (λ b. b && every 3 (childAccepted (a .settings) (a .rounds .now) (a .challenges .now) (a .leaves .now) (a .settings .depth) 0 (a .key .now)))
+    (sym (e .before .node-holds .ensures) ∙ not-false _ (e .if2 .left)))
+    ∙ root-tests (a .settings) (a .rounds .now) (a .challenges .now) (a .leaves .now) (a .t2) (a .key .now) (omega arith)
+
+returns-3 : tie.Need-returns-3
+returns-3 c = λ g.
+    let e = c .before .before .before .before .before in
+    let s = e .before .before .before .before .before .before .before .before in
+    children e _ (c .before .root-children-accepted .ensures (rounds-below s g, key-below s g))
+
+root-children-accepted-requires-2 : tie.Need-root-children-accepted-requires-2
+root-children-accepted-requires-2 c κs = let s = c .before .before .before .before .before .before .before .before .before .before .before in (s .pre .0, folding s _ (omega arith) (omega (arith, root-most (s .args .settings) (s .pre .0 .allowed), s .pre .1)))
+
+returns-4 : tie.Need-returns-4
+returns-4 c = λ g.
+    let e = c .before .before .before .before .before in
+    let s = e .before .before .before .before .before .before .before .before in
+    children e _ (c .before .root-children-accepted2 .ensures (rounds-below s g, key-below s g))
 
 pub root-accepted-spec : {M : Type 1} → statement M
 root-accepted-spec =
     tie.close
-    (tie.spec (λ c. search needs) (λ c κs. search needs) (λ c. search needs) (λ c κs. search needs) (λ c. search needs) sub-copy part-ws-start
-    (λ c. search needs) (λ c κs. search needs) (λ c. search needs) array-borrow-prefix-ws slice-aggregate-subtree-accepted-2 subtree-accepted-requires
-    returns)
+    (tie.spec (λ c. search needs) leaf-accepted-requires returns (λ c. search needs) node-holds-requires returns-2 (λ c κs. search needs) (λ c. search needs) root-children-accepted-requires returns-3
+    (λ c κs. search needs) (λ c. search needs) root-children-accepted-requires-2 returns-4)

@@ -1,0 +1,4 @@
+pub mod Values
+pub mod Reducing
+pub mod Placing
+pub mod Sums
