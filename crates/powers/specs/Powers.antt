@@ -1,6 +1,6 @@
 -- The table of the transform, and the ring that it works in.
 --
---   modulus    12289: a prime, and 256 divides 12288
+--   modulus    12289, the modulus of degree 128: a prime, and 256 divides 12288
 --   powers     the powers of 9 modulo 12289, from 9^0 to 9^255
 --   K          the ring of the residues modulo 12289
 --   res n      the residue of a number
@@ -16,9 +16,10 @@ use Rattle.algebra.specs.Ring.{CommRing, pow}
 use Rattle.algebra.specs.Residues as Residues
 use Rattle.algebra.specs.Residues.{Zmod}
 use Rattle.algebra.specs.Transform.{leaf}
+use Rattle.protocol.specs.Settings.{transformModulus}
 
 abbrev pub modulus : ℕ
-modulus = 12289
+modulus = transformModulus
 
 unfoldable pub powers : List ℕ
 powers =

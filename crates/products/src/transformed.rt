@@ -1,11 +1,12 @@
 // Inner products modulo 12289 by the transform, sixteen elements at a time: of two tables, or of the sums of their halves.
 use crate::halves;
 use protocol::Residue;
+use protocol::TRANSFORM_MODULUS;
 use protocol::WIDTH;
 use transform::ROOM;
 use transform::STRANDS;
 ghost use mathlib.Core.Path.{_≡_};
-ghost use Prim.Native.Nat.{ℕ, _+_, _*_, _/_, _^_, _<_, _≤_};
+ghost use Prim.Native.Nat.{ℕ, _+_, _*_, _^_, _<_, _≤_};
 ghost use lib.IntN.{pos};
 ghost use lib.ListN.{length};
 ghost use Rattle.protocol.specs.Basic.{Provided};
@@ -19,7 +20,7 @@ ghost use Rattle.products.specs.Batches.{Suits, Tables, Source, sizeOf, 
 pub(crate) fn level(q: Residue, d: u32, n: u32) -> u32
     ensures { λ r. ⌜ Provided (0 < r) (Suits q d n r) ⌝ }
 {
-    if q != 12289 {
+    if q != TRANSFORM_MODULUS {
         return 0;
     }
     if n % 16 != 0 {
@@ -75,7 +76,7 @@ fn fill_sums(
     let mut k = [0u64; WIDTH];
     for l in 0..STRANDS {
         let at = (from + l) * d;
-        halves::add_halves(12289, d, at, half + at, f, g, &mut m, &mut k);
+        halves::add_halves(TRANSFORM_MODULUS, d, at, half + at, f, g, &mut m, &mut k);
         transform::place(d, l, &m, &k, x, y);
     }
 }
@@ -102,31 +103,8 @@ fn fill(
     }
 }
 
-// Adds the products of n elements, sixteen at a time.
-fn add_batches(
-    sums: bool,
-    level: u32,
-    d: usize,
-    n: usize,
-    f: &[i32],
-    g: &[Residue],
-    x: &mut [u16],
-    y: &mut [u16],
-    s: &mut [u32],
-)
-    requires { ⌜ (n ≤ 256) × (d ≤ width) × (sizeOf sums d n ≤ length (now f)) × (sizeOf sums d n ≤ length (now g)) ⌝ }
-    ensures { λ _. ⌜ Provided ((level ≤ 7) × (d ≡ 2 ^ level) × Source sums d n (now (f .entry)) (now (g .entry)) × Room level (now (x .entry)) × Room level (now (y .entry))
-        × Stands level (λ _. pos 0) 0 (now (s .entry)))
-        (Stands level (opening.inner d (n / 16 * 16) (messagesOf sums d n (now (f .entry))) (keysOf sums d n (now (g .entry)))) (n / 16) (now (s .exit))) ⌝ }
-{
-    for t in 0..n / STRANDS {
-        fill(sums, d, n, t * STRANDS, f, g, x, y);
-        transform::add_batch(level, x, y, s);
-    }
-}
-
-// The same, and back: rooms and sums have sixteen numbers for each coefficient.
-fn finished(
+// Adds the products of n elements, sixteen at a time, and brings the sums back. Rooms and sums have sixteen numbers for each coefficient.
+fn batches(
     sums: bool,
     level: u32,
     d: usize,
@@ -142,7 +120,10 @@ fn finished(
         × Stands level (λ _. pos 0) 0 (now (s .entry)))
         (r ≡ padded d (reduced 12289 d (opening.inner d n (messagesOf sums d n (now (f .entry))) (keysOf sums d n (now (g .entry)))))) ⌝ }
 {
-    add_batches(sums, level, d, n, f, g, x, y, s);
+    for t in 0..n / STRANDS {
+        fill(sums, d, n, t * STRANDS, f, g, x, y);
+        transform::add_batch(level, x, y, s);
+    }
     transform::finish(level, d, s)
 }
 
@@ -164,7 +145,7 @@ fn inner_in(
         (r ≡ padded d (reduced 12289 d (opening.inner d n (messagesOf sums d n (now (f .entry))) (keysOf sums d n (now (g .entry)))))) ⌝ }
 {
     let cells = d * STRANDS;
-    finished(
+    batches(
         sums,
         level,
         d,

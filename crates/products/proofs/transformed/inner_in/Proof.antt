@@ -7,24 +7,24 @@ use borrow.Author.Needs.{needs}
 use Rattle.products.proofs.transformed.inner_in.Statement.{statement}
 use Rattle.products.proofs.transformed.inner_in.Tie as tie
 
-slice-aggregate-finished : tie.Need-slice-aggregate-finished
-slice-aggregate-finished c = sym (length-take-le _ _ (omega arith))
+slice-aggregate-batches : tie.Need-slice-aggregate-batches
+slice-aggregate-batches c = sym (length-take-le _ _ (omega arith))
 
-slice-aggregate-finished-2 : tie.Need-slice-aggregate-finished-2
-slice-aggregate-finished-2 c = sym (length-take-le _ _ (omega arith))
+slice-aggregate-batches-2 : tie.Need-slice-aggregate-batches-2
+slice-aggregate-batches-2 c = sym (length-take-le _ _ (omega arith))
 
-slice-aggregate-finished-3 : tie.Need-slice-aggregate-finished-3
-slice-aggregate-finished-3 c = sym (length-take-le _ _ (omega arith))
+slice-aggregate-batches-3 : tie.Need-slice-aggregate-batches-3
+slice-aggregate-batches-3 c = sym (length-take-le _ _ (omega arith))
 
 returns : tie.Need-returns
 returns c = λ z.
     let s = c .before .before .before .before .before .before .before .before .before .before .before .before .before .before in
     let cells = ap (λ d. d * 16) (z .0 .degree) in
-    c .before .before .before .before .before .before .finished .ensures
+    c .before .before .before .before .before .before .batches .ensures
     (z .0, z .1, zero-room _ _ _ cells (s .pre .4) (z .2), zero-room _ _ _ cells (s .pre .5) (z .3), zero-stands _ _ _ cells (s .pre .6) (z .4))
 
 pub inner-in-spec : {M : Type 1} → statement M
 inner-in-spec =
     tie.close
-    (tie.spec (λ c. search needs) (λ c. search needs) slice-aggregate-finished (λ c. search needs) slice-aggregate-finished-2 (λ c. search needs) slice-aggregate-finished-3
+    (tie.spec (λ c. search needs) (λ c. search needs) slice-aggregate-batches (λ c. search needs) slice-aggregate-batches-2 (λ c. search needs) slice-aggregate-batches-3
     (λ c κs. search needs) (λ c. search needs) (λ c. search needs) (λ c. search needs) returns)

@@ -1,22 +1,23 @@
 -- The loop keeps: the sums stand for the inner product of the first 16·t elements, and the rooms may be filled again.
-use mathlib.Core.Path.{_≡_, refl, _∙_, subst}
+use mathlib.Core.Path.{_≡_, refl, ap, _∙_}
 use Prim.Native.Nat.{ℕ, _+_, _*_, _-_, _/_, _^_, _≤_}
 use native.Mathlib.Omega.{arith}
 use lib.IntN.{pos}
 use lib.ListN.{length}
 use Rattle.protocol.specs.Basic.{sum}
+use Rattle.protocol.specs.Element.{reduced, padded}
 use Rattle.protocol.specs.Opening.{inner}
 use Rattle.transform.specs.Strands.{Room, Stands}
-use Rattle.products.specs.Batches.{Source, messagesOf, keysOf}
+use Rattle.products.specs.Batches.{Suits, Source, messagesOf, keysOf}
 use Rattle.products.proofs.Batching.{batch-stands}
 use borrow.Author.Needs.{needs}
-use Rattle.products.proofs.transformed.add_batches.Statement.{statement}
-use Rattle.products.proofs.transformed.add_batches.Tie as tie
+use Rattle.products.proofs.transformed.batches.Statement.{statement}
+use Rattle.products.proofs.transformed.batches.Tie as tie
 
 abbrev Inv-loop : tie.InvT-loop
 Inv-loop sums level d n f g x₀ y₀ s₀ t₀ t-end x y s t =
     (t ≤ t-end)
-    × ((level ≤ 7) × (d ≡ 2 ^ level) × Source sums d n f g × Room level x₀ × Room level y₀ × Stands level (λ _. pos 0) 0 s₀
+    × (Suits 12289 d n level × Source sums d n f g × Room level x₀ × Room level y₀ × Stands level (λ _. pos 0) 0 s₀
     → Room level x × Room level y × Stands level (inner d (t * 16) (messagesOf sums d n f) (keysOf sums d n g)) t s)
     × (length x ≡ length x₀) × (length y ≡ length y₀) × (length s ≡ length s₀)
 
@@ -25,7 +26,7 @@ abbrev μ-loop : tie.MeasureT-loop
 
 loop-holds : tie.Need-loop-holds Inv-loop μ-loop
 unfolding inner sum
-loop-holds c = (omega arith, (λ z. (z .3, z .4, z .5)), refl, refl, refl)
+loop-holds c = (omega arith, (λ z. (z .2, z .3, z .4)), refl, refl, refl)
 
 mul-fill : tie.Need-mul-fill Inv-loop μ-loop
 mul-fill c = let s = c .before .before .before .before .before .before in omega (arith, s .pre .0)
@@ -46,10 +47,10 @@ loop-again c =
       omega arith,
       (λ z.
           let at = l .inv .1 z in
-          let full = h .fill .ensures (a .level) (z .2, z .1, at .0, at .1) in
+          let full = h .fill .ensures (a .level) (z .1, z .0 .degree, at .0, at .1) in
           let more = b .add-batch .ensures (λ i. M (l .t * 16 + i)) (λ i. G (l .t * 16 + i)) (inner (a .d) (l .t * 16) M G) (l .t)
-          (record { most = z .0; fits = omega (arith, s .pre .0, t .loop-test .taken); x-filled = full .0; y-filled = full .1; stands = at .2 }) in
-          (more .0, more .1, batch-stands (a .level) (a .d) (l .t) M G _ (z .1) (more .2))),
+          (record { most = z .0 .most; fits = omega (arith, s .pre .0, t .loop-test .taken); x-filled = full .0; y-filled = full .1; stands = at .2 }) in
+          (more .0, more .1, batch-stands (a .level) (a .d) (l .t) M G _ (z .0 .degree) (more .2))),
       b .add-batch .kept .1 .0 ∙ h .fill .kept .1 .1 .1 .1 .1 .1 .0 ∙ l .inv .2,
       b .add-batch .kept .1 .1 .0 ∙ h .fill .kept .1 .1 .1 .1 .1 .1 .1 .0 ∙ l .inv .3,
       b .add-batch .kept .1 .1 .1 .0 ∙ l .inv .4,
@@ -57,13 +58,14 @@ loop-again c =
 
 returns : tie.Need-returns Inv-loop μ-loop
 returns c = λ z.
-    let l = c .before .loop in
-    let a = c .before .before .before .before .before .before .args in
-    let is : l .t ≡ a .n / 16 = omega arith in
-    subst (λ t. Stands (a .level) (inner (a .d) (t * 16) (messagesOf (a .sums) (a .d) (a .n) (a .f .now)) (keysOf (a .sums) (a .d) (a .n) (a .g .now))) t (l .s)) is (l .inv .1 z .2)
+    let l = c .before .before .before .loop in
+    let a = c .before .before .before .before .before .before .before .before .args in
+    let all : l .t * 16 ≡ a .n = omega (arith, z .0 .whole) in
+    c .finish .ensures _ _ (z .0 .most, z .0 .degree, l .inv .1 z .2)
+    ∙ ap (λ n. padded (a .d) (reduced 12289 (a .d) (inner (a .d) n (messagesOf (a .sums) (a .d) (a .n) (a .f .now)) (keysOf (a .sums) (a .d) (a .n) (a .g .now))))) all
 
-pub add-batches-spec : {M : Type 1} → statement M
-add-batches-spec =
+pub batches-spec : {M : Type 1} → statement M
+batches-spec =
     tie.close
     (tie.spec Inv-loop μ-loop loop-holds mul-fill fill-requires (λ c κs. search needs) (λ c. search needs) (λ c. search needs) loop-again
-    (λ c. search needs) (λ c. search needs) (λ c. search needs) returns)
+    (λ c κs. search needs) (λ c. search needs) (λ c. search needs) (λ c. search needs) returns)
