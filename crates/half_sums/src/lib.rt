@@ -2,13 +2,14 @@
 use protocol::Residue;
 use ranges::tests;
 ghost use mathlib.Core.Path.{_≡_};
-ghost use Prim.Native.Nat.{_+_, _%_, _^_, _<_, _≤_};
+ghost use Prim.Native.Nat.{ℕ, _+_, _%_, _^_, _<_, _≤_};
 ghost use lib.IntN.{pos, natAbs, _+ℤ_};
 ghost use lib.ListN.{length, getD};
 ghost use Rattle.protocol.specs.Basic.{Provided};
 ghost use Rattle.residues.specs.Lists.{filled};
 ghost use Rattle.residues.specs.Residues.{Residues};
 ghost use Rattle.half_sums.specs.Room.{Room, Long};
+ghost use Rattle.half_sums.specs.Halves.{HalvesAt, HalfSums};
 
 // x, or 0 where it is so large that two such numbers may have no sum of 32 bits.
 fn limited(x: i32) -> i32
@@ -62,4 +63,31 @@ pub fn key_sums(q: Residue, n: usize, first: &[Residue], second: &[Residue], sum
     for p in 0..n {
         sums[p] = residues::plus(q, first[p], second[p]);
     }
+}
+
+// Element i of the sums of two tables' halves, written to the front of m and of k: of either table the elements that begin at these two places are added.
+pub fn add_halves(
+    q: Residue,
+    d: usize,
+    at: usize,
+    behind: usize,
+    f: &[i32],
+    g: &[Residue],
+    m: &mut [i32],
+    k: &mut [Residue],
+)
+    ensures { λ _. ⌜ ((h i : ℕ) → Provided (HalvesAt q d h i at behind (now (f .entry)) (now (g .entry)) × (d ≤ length (now (m .entry))) × (d ≤ length (now (k .entry))))
+        (HalfSums q d h (now (f .entry)) (now (g .entry)) i (now (m .exit)) (now (k .exit)))) ⌝ }
+{
+    if behind < at {
+        return;
+    }
+    if f.len() < behind {
+        return;
+    }
+    if g.len() < behind {
+        return;
+    }
+    message_sums(d, &f[at..], &f[behind..], m);
+    key_sums(q, d, &g[at..], &g[behind..], k);
 }

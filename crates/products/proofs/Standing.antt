@@ -21,7 +21,9 @@ use Rattle.rows.specs.Rows.{narrowed, addRows, Prepared}
 use Rattle.joins.specs.Sums.{weight, upperHalf, Halves, Stand}
 use Rattle.joins.proofs.Joining.{halves-none, halves-within, halves-lower, halves-add}
 use Rattle.joins.proofs.RowHalves.{lower-adds, both-add}
-use Rattle.products.specs.Sums.{Zero, Stands, Small, Addable, Finished, Summable}
+use Rattle.half_sums.specs.Halves.{Small}
+use Rattle.batches.specs.Batches.{Zero}
+use Rattle.products.specs.Sums.{Stands, Addable, Finished, Summable}
 
 -- ---- one product by columns: where the numbers of f are within ±m it is at most d·m·2^32 from 0
 

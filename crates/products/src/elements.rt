@@ -8,7 +8,8 @@ ghost use lib.ListN.{length};
 ghost use Rattle.protocol.specs.Basic.{Provided};
 ghost use Rattle.protocol.specs.Element.{Element, plus, product, signed, residue, signedAt, residueAt};
 ghost use Rattle.protocol.specs.Opening.{inner};
-ghost use Rattle.products.specs.Sums.{Stands, Addable, Elements, Summable};
+ghost use Rattle.half_sums.specs.Halves.{Elements};
+ghost use Rattle.products.specs.Sums.{Stands, Addable, Summable};
 
 // Adds the product of one element, by rows; x is room for it.
 pub(crate) fn add_element(

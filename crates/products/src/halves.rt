@@ -9,25 +9,8 @@ ghost use Prim.Native.Nat.{ℕ, _+_, _*_, _^_, _<_, _≤_};
 ghost use lib.ListN.{length};
 ghost use Rattle.protocol.specs.Basic.{Provided};
 ghost use Rattle.protocol.specs.Opening.{inner};
-ghost use Rattle.products.specs.Sums.{Stands, messageSums, keySums, Elements, Halves, HalvesAt, HalfSums};
-
-// Element i of the sums of the halves, written to the front of m and of k: of either table the elements that begin at these two places are added.
-pub(crate) fn add_halves(
-    q: Residue,
-    d: usize,
-    at: usize,
-    behind: usize,
-    f: &[i32],
-    g: &[Residue],
-    m: &mut [i32],
-    k: &mut [Residue],
-)
-    requires { ⌜ (at + d ≤ length (now f)) × (behind + d ≤ length (now f)) × (at + d ≤ length (now g)) × (behind + d ≤ length (now g)) × (d ≤ length (now m)) × (d ≤ length (now k)) ⌝ }
-    ensures { λ _. ⌜ ((h i : ℕ) → Provided (HalvesAt q d h i at behind (now (f .entry)) (now (g .entry))) (HalfSums q d h (now (f .entry)) (now (g .entry)) i (now (m .exit)) (now (k .exit)))) ⌝ }
-{
-    half_sums::message_sums(d, &f[at..], &f[behind..], m);
-    half_sums::key_sums(q, d, &g[at..], &g[behind..], k);
-}
+ghost use Rattle.half_sums.specs.Halves.{messageSums, keySums, Elements, Halves};
+ghost use Rattle.products.specs.Sums.{Stands};
 
 // Adds the products of the elements of the sums, one after the other.
 fn add_sums(q: Residue, d: u32, h: u32, f: &[i32], g: &[Residue], s: &mut [Sum], t: &mut [Sum])
@@ -42,7 +25,7 @@ fn add_sums(q: Residue, d: u32, h: u32, f: &[i32], g: &[Residue], s: &mut [Sum],
     let mut x = [0u64; ROOM];
     for i in 0..h {
         let at = (i as usize) * (d as usize);
-        add_halves(q, d as usize, at, half + at, f, g, &mut m, &mut k);
+        half_sums::add_halves(q, d as usize, at, half + at, f, g, &mut m, &mut k);
         elements::add_element(q, d, &m, &k, &mut x, s, t);
     }
 }
@@ -59,7 +42,7 @@ fn add_by_columns(q: Residue, h: u32, f: &[i32], g: &[Residue], s: &mut [Sum])
     let mut k = [0u64; WIDTH];
     for i in 0..h {
         let at = (i as usize) * 4;
-        add_halves(q, 4, at, half + at, f, g, &mut m, &mut k);
+        half_sums::add_halves(q, 4, at, half + at, f, g, &mut m, &mut k);
         columns::add_product(4, &m, &k, s);
     }
 }

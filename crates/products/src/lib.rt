@@ -2,7 +2,6 @@
 // What these sums are is known here alone: a caller sees elements of residues.
 mod elements;
 mod halves;
-mod transformed;
 
 use joins::Joint;
 use protocol::Residue;
@@ -17,7 +16,9 @@ ghost use Rattle.protocol.specs.Opening as opening;
 ghost use Rattle.modular.specs.Factors.{Modulus};
 ghost use Rattle.joins.specs.Sums.{Ready};
 ghost use Rattle.joins.specs.Sums as joined;
-ghost use Rattle.products.specs.Sums.{Zero, Elements, Stands, Finished, multipleIs, messageSums, keySums, Summable, Halves};
+ghost use Rattle.half_sums.specs.Halves.{Elements, messageSums, keySums, Halves};
+ghost use Rattle.batches.specs.Batches.{Zero};
+ghost use Rattle.products.specs.Sums.{Stands, Finished, multipleIs, Summable};
 
 // A sum of products, modulo 2^64.
 type Sum = u64;
@@ -62,18 +63,11 @@ pub fn plain_inner(q: Residue, d: u32, n: u32, f: &[i32], g: &[Residue]) -> [Res
 pub fn inner(q: Residue, d: u32, n: u32, f: &[i32], g: &[Residue]) -> [Residue; WIDTH]
     ensures { λ r. ⌜ Provided (Summable q d n (now (f .entry)) (now (g .entry))) (r ≡ padded d (reduced q d (opening.inner d n (signedAt d (now (f .entry))) (residueAt d (now (g .entry)))))) ⌝ }
 {
-    let level = transformed::level(q, d, n);
+    let level = batches::level(q, d, n);
     if level == 0 {
         return plain_inner(q, d, n, f, g);
     }
-    let cells = (n as usize) * (d as usize);
-    if f.len() < cells {
-        return [0u64; WIDTH];
-    }
-    if g.len() < cells {
-        return [0u64; WIDTH];
-    }
-    transformed::inner(false, level, d as usize, n as usize, f, g)
+    batches::inner(false, level, d as usize, n as usize, f, g)
 }
 
 // ⟨f0 + f1, g0 + g1⟩ modulo q, the halves having h elements, coefficient by coefficient.
@@ -106,18 +100,11 @@ fn plain_inner_of_sums(q: Residue, d: u32, h: u32, f: &[i32], g: &[Residue]) -> 
 pub fn inner_of_sums(q: Residue, d: u32, h: u32, f: &[i32], g: &[Residue]) -> [Residue; WIDTH]
     ensures { λ r. ⌜ Provided (Halves q d h (now (f .entry)) (now (g .entry))) (r ≡ padded d (reduced q d (opening.inner d h (messageSums d h (now (f .entry))) (keySums q d h (now (g .entry)))))) ⌝ }
 {
-    let level = transformed::level(q, d, h);
+    let level = batches::level(q, d, h);
     if level == 0 {
         return plain_inner_of_sums(q, d, h, f, g);
     }
-    let cells = 2 * ((h as usize) * (d as usize));
-    if f.len() < cells {
-        return [0u64; WIDTH];
-    }
-    if g.len() < cells {
-        return [0u64; WIDTH];
-    }
-    transformed::inner(true, level, d as usize, h as usize, f, g)
+    batches::inner(true, level, d as usize, h as usize, f, g)
 }
 
 // Do two sums stand for c·a modulo q, a being a residue: q divides that and c·(q − a).

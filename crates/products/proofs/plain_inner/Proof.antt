@@ -2,6 +2,7 @@ use Prim.Native.Nat.{_*_}
 use native.Mathlib.Nat.{mul-le-mul, mul-assoc}
 use native.Mathlib.Omega.{arith}
 use Rattle.protocol.specs.Element.{width, zeros, signedAt, residueAt}
+use Rattle.protocol.specs.Opening.{inner}
 use Rattle.products.proofs.Standing.{stands-none}
 use borrow.Author.Needs.{needs}
 use Rattle.products.proofs.plain_inner.Statement.{statement}
@@ -30,7 +31,7 @@ unfolding zeros
 returns-6 c = λ g.
     let a = c .before .before .before .before .before .before .before .before .before .before .before .before .before .before .args in
     let start = stands-none (a .q) (a .d) (g .elements .modulus) (signedAt (a .d) (a .f .now)) (residueAt (a .d) (a .g .now)) in
-    c .finish .ensures _
+    c .finish .ensures (inner (a .d) (a .n) (signedAt (a .d) (a .f .now)) (residueAt (a .d) (a .g .now)))
     (record {
       modulus = g .elements .modulus;
       modulus-most = omega (arith, g .modulus-most);

@@ -2,7 +2,8 @@ use Prim.Native.Nat.{_*_, _^_}
 use native.Mathlib.Nat.{mul-le-mul, mul-assoc}
 use native.Mathlib.Omega.{arith}
 use Rattle.protocol.specs.Element.{width, zeros}
-use Rattle.products.specs.Sums.{messageSums, keySums}
+use Rattle.protocol.specs.Opening.{inner}
+use Rattle.half_sums.specs.Halves.{messageSums, keySums}
 use Rattle.products.proofs.Standing.{stands-none}
 use borrow.Author.Needs.{needs}
 use Rattle.products.proofs.plain_inner_of_sums.Statement.{statement}
@@ -40,7 +41,7 @@ unfolding zeros
 returns-6 c = λ g.
     let a = c .before .before .before .before .before .before .before .before .before .before .before .before .before .before .args in
     let start = stands-none (a .q) (a .d) (g .elements .modulus) (messageSums (a .d) (a .h) (a .f .now)) (keySums (a .q) (a .d) (a .h) (a .g .now)) in
-    c .finish .ensures _
+    c .finish .ensures (inner (a .d) (a .h) (messageSums (a .d) (a .h) (a .f .now)) (keySums (a .q) (a .d) (a .h) (a .g .now)))
     (record {
       modulus = g .elements .modulus;
       modulus-most = omega (arith, g .modulus-most);

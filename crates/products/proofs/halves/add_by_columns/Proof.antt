@@ -6,7 +6,8 @@ use native.Mathlib.Omega.{arith}
 use lib.ListN.{length}
 use Rattle.protocol.specs.Element.{width}
 use Rattle.protocol.specs.Opening.{inner}
-use Rattle.products.specs.Sums.{Stands, messageSums, keySums, Halves}
+use Rattle.half_sums.specs.Halves.{messageSums, keySums, Halves}
+use Rattle.products.specs.Sums.{Stands}
 use Rattle.products.proofs.Standing.{stands-first, columns-stand}
 use Rattle.products.proofs.SumsOfHalves.{sums-addable, sums-more}
 use borrow.Author.Needs.{needs}
@@ -25,17 +26,6 @@ abbrev μ-loop : tie.MeasureT-loop
 loop-holds : tie.Need-loop-holds Inv-loop μ-loop
 loop-holds c = (omega arith, (λ t z. stands-first _ 4 (4 * 2 ^ 16) _ (c .before .before .args .s .now) t (z .2)), refl, search needs, search needs)
 
-add-halves-requires : tie.Need-add-halves-requires Inv-loop μ-loop
-add-halves-requires c κs =
-    let s = c .before .before .before .before .before .before in (
-      omega (arith, s .pre .0 .f-long),
-      omega (arith, s .pre .0 .f-long),
-      omega (arith, s .pre .0 .g-long),
-      omega (arith, s .pre .0 .g-long),
-      omega arith,
-      omega arith,
-    )
-
 loop-again : tie.Need-loop-again Inv-loop μ-loop
 loop-again c =
     let h = c .before .before .before .before .before .before .before .before in
@@ -48,7 +38,7 @@ loop-again c =
     let long = l .inv .2 in (
       omega arith,
       (λ u z.
-          let is = h .add-halves .ensures (a .h) (l .i) (record { halves = z .0; inside = t .loop-test .taken; first = refl; second-at = refl }) in
+          let is = h .add-halves .ensures (a .h) (l .i) (record { halves = z .0; inside = t .loop-test .taken; first = refl; second-at = refl }, omega (arith, l .inv .3), omega (arith, l .inv .4)) in
           let ok = sums-addable (a .q) 4 (a .h) (l .i) (a .f .now) (a .g .now) (z .0) (t .loop-test .taken) _ _ is 12 4 4
           (omega (arith, m-long)) (omega (arith, k-long)) (omega arith) (omega arith) (omega arith) in
           sums-more (a .q) 4 (a .h) (l .i) (a .f .now) (a .g .now) (z .0) (t .loop-test .taken) _ _ is _ u
@@ -69,5 +59,5 @@ returns c = λ t z.
 pub add-by-columns-spec : {M : Type 1} → statement M
 add-by-columns-spec =
     tie.close
-    (tie.spec Inv-loop μ-loop (λ c. search needs) loop-holds (λ c. search needs) (λ c. search needs) (λ c. search needs) (λ c. search needs) (λ c. search needs) add-halves-requires (λ c. search needs)
+    (tie.spec Inv-loop μ-loop (λ c. search needs) loop-holds (λ c. search needs) (λ c. search needs) (λ c. search needs) (λ c. search needs) (λ c. search needs) (λ c κs. search needs) (λ c. search needs)
     (λ c. search needs) (λ c κs. search needs) (λ c. search needs) (λ c. search needs) loop-again (λ c. search needs) returns)

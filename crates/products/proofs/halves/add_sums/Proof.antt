@@ -7,7 +7,8 @@ use lib.ListN.{length}
 use Rattle.protocol.specs.Element.{width}
 use Rattle.protocol.specs.Opening.{inner}
 use Rattle.protocol.proofs.Reading.{row-inside}
-use Rattle.products.specs.Sums.{Stands, messageSums, keySums, Halves}
+use Rattle.half_sums.specs.Halves.{messageSums, keySums, Halves}
+use Rattle.products.specs.Sums.{Stands}
 use Rattle.products.proofs.Standing.{stands-first}
 use Rattle.products.proofs.SumsOfHalves.{sums-addable, sums-more}
 use borrow.Author.Needs.{needs}
@@ -46,19 +47,6 @@ mul-at c = omega (arith, inside c, half-few (c .before .before .before .before .
 add-add-halves : tie.Need-add-add-halves Inv-loop μ-loop
 add-add-halves c = omega (arith, inside c, half-few (c .before .before .before .before .before))
 
-add-halves-requires : tie.Need-add-halves-requires Inv-loop μ-loop
-add-halves-requires c κs =
-    let i = c .before .before in
-    let s = i .before .before .before .before .before in
-    let row = inside i in (
-      omega (arith, row, half-few s),
-      omega (arith, row, half-few s),
-      omega (arith, row, half-inside s),
-      omega (arith, row, half-inside s),
-      omega (arith, s .pre .0 .degree-most),
-      omega (arith, s .pre .0 .degree-most),
-    )
-
 loop-again : tie.Need-loop-again Inv-loop μ-loop
 loop-again c =
     let h = c .before .before .before .before .before .before .before .before .before .before .before .before .before in
@@ -71,7 +59,7 @@ loop-again c =
     let wide = s .pre .0 .degree-most in (
       omega arith,
       (λ z.
-          let is = h .add-halves .ensures (a .h) (l .i) (record { halves = z .0; inside = t .loop-test .taken; first = refl; second-at = refl }) in
+          let is = h .add-halves .ensures (a .h) (l .i) (record { halves = z .0; inside = t .loop-test .taken; first = refl; second-at = refl }, omega (arith, wide, l .inv .4), omega (arith, wide, l .inv .5)) in
           sums-more (a .q) (a .d) (a .h) (l .i) (a .f .now) (a .g .now) (z .0) (t .loop-test .taken) _ _ is _ _
           (c .before .before .before .before .before .add-element .ensures _ _ (2 ^ 16) (
             sums-addable (a .q) (a .d) (a .h) (l .i) (a .f .now) (a .g .now) (z .0) (t .loop-test .taken) _ _ is _ _ _
@@ -95,6 +83,6 @@ returns c = λ z.
 pub add-sums-spec : {M : Type 1} → statement M
 add-sums-spec =
     tie.close
-    (tie.spec Inv-loop μ-loop mul-half loop-holds (λ c. search needs) mul-at add-add-halves (λ c. search needs) (λ c. search needs) add-halves-requires
+    (tie.spec Inv-loop μ-loop mul-half loop-holds (λ c. search needs) mul-at add-add-halves (λ c. search needs) (λ c. search needs) (λ c κs. search needs)
     (λ c. search needs) (λ c. search needs) (λ c. search needs) (λ c κs. search needs) (λ c. search needs) (λ c. search needs) loop-again
     (λ c. search needs) (λ c. search needs) returns)

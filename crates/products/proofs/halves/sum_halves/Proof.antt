@@ -6,7 +6,8 @@ use borrow.Author.Tests.{ltb-true}
 use lib.IntN.{ℤ}
 use lib.ListN.{length}
 use Rattle.protocol.specs.Opening.{inner}
-use Rattle.products.specs.Sums.{Stands, messageSums, keySums, Elements, Halves}
+use Rattle.half_sums.specs.Halves.{messageSums, keySums, Elements, Halves}
+use Rattle.products.specs.Sums.{Stands}
 use borrow.Author.Needs.{needs}
 use Rattle.products.proofs.halves.sum_halves.Statement.{statement}
 use Rattle.products.proofs.halves.sum_halves.Tie as tie

@@ -6,11 +6,11 @@ use lib.ListN.{length}
 use Rattle.protocol.specs.Element.{width}
 use Rattle.protocol.proofs.Reading.{row-inside}
 use Rattle.transform.specs.Strands.{Room, Filled}
-use Rattle.products.specs.Sums.{messageSums, keySums, Halves}
-use Rattle.products.proofs.Batching.{filled-none, sums-placed}
+use Rattle.half_sums.specs.Halves.{messageSums, keySums, Halves}
+use Rattle.batches.proofs.Batching.{filled-none, sums-placed}
 use borrow.Author.Needs.{needs}
-use Rattle.products.proofs.transformed.fill_sums.Statement.{statement}
-use Rattle.products.proofs.transformed.fill_sums.Tie as tie
+use Rattle.batches.proofs.fill_sums.Statement.{statement}
+use Rattle.batches.proofs.fill_sums.Tie as tie
 
 abbrev Inv-loop : tie.InvT-loop
 Inv-loop d n from f g x₀ y₀ half m₀ k₀ l₀ x y m k l =
@@ -41,19 +41,6 @@ mul-at c = let s = c .before .before .before .before .before in omega (arith, in
 add-add-halves : tie.Need-add-add-halves Inv-loop μ-loop
 add-add-halves c = let s = c .before .before .before .before .before in omega (arith, inside c, s .pre .2)
 
-add-halves-requires : tie.Need-add-halves-requires Inv-loop μ-loop
-add-halves-requires c κs =
-    let i = c .before .before in
-    let s = i .before .before .before .before .before in
-    let row = inside i in (
-      omega (arith, row, s .pre .2),
-      omega (arith, row, s .pre .2),
-      omega (arith, row, s .pre .3),
-      omega (arith, row, s .pre .3),
-      omega (arith, s .pre .1),
-      omega (arith, s .pre .1),
-    )
-
 loop-again : tie.Need-loop-again Inv-loop μ-loop
 loop-again c =
     let h = c .before .before .before .before .before .before .before .before .before .before .before in
@@ -65,7 +52,7 @@ loop-again c =
     let k-long = h .add-halves .kept .1 .1 .1 .1 .1 .1 .1 .0 ∙ l .inv .5 in (
       omega arith,
       (λ D z.
-          let is = h .add-halves .ensures (a .n) (a .from + l .l) (record { halves = z .0; inside = omega (arith, s .pre .0, t .loop-test .taken); first = refl; second-at = refl }) in
+          let is = h .add-halves .ensures (a .n) (a .from + l .l) (record { halves = z .0; inside = omega (arith, s .pre .0, t .loop-test .taken); first = refl; second-at = refl }, omega (arith, s .pre .1, l .inv .4), omega (arith, s .pre .1, l .inv .5)) in
           c .before .before .before .before .place .ensures D _ _ (
           sums-placed D (a .d) (a .n) (a .from) (l .l) (a .f .now) (a .g .now) _ _ (z .1) (t .loop-test .taken) (s .pre .0) (z .0) _ _ is
           (omega (arith, m-long, s .pre .1)) (omega (arith, k-long, s .pre .1)) (l .inv .1 D z .0) (l .inv .1 D z .1))),
@@ -84,5 +71,5 @@ returns c = λ D z.
 pub fill-sums-spec : {M : Type 1} → statement M
 fill-sums-spec =
     tie.close
-    (tie.spec Inv-loop μ-loop mul-half loop-holds add-at mul-at add-add-halves (λ c. search needs) (λ c. search needs) add-halves-requires
+    (tie.spec Inv-loop μ-loop mul-half loop-holds add-at mul-at add-add-halves (λ c. search needs) (λ c. search needs) (λ c κs. search needs)
     (λ c. search needs) (λ c. search needs) (λ c κs. search needs) (λ c. search needs) (λ c. search needs) loop-again (λ c. search needs) (λ c. search needs) returns)

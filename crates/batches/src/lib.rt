@@ -1,5 +1,4 @@
 // Inner products modulo 12289 by the transform, sixteen elements at a time: of two tables, or of the sums of their halves.
-use crate::halves;
 use protocol::Residue;
 use protocol::TRANSFORM_MODULUS;
 use protocol::WIDTH;
@@ -13,11 +12,11 @@ ghost use Rattle.protocol.specs.Basic.{Provided};
 ghost use Rattle.protocol.specs.Element.{width, reduced, padded, signedAt, residueAt};
 ghost use Rattle.protocol.specs.Opening as opening;
 ghost use Rattle.transform.specs.Strands.{Room, Filled, Stands};
-ghost use Rattle.products.specs.Sums.{Zero, messageSums, keySums, Halves};
-ghost use Rattle.products.specs.Batches.{Suits, Tables, Source, sizeOf, messagesOf, keysOf};
+ghost use Rattle.half_sums.specs.Halves.{messageSums, keySums, Halves};
+ghost use Rattle.batches.specs.Batches.{Zero, Suits, Tables, Source, sizeOf, messagesOf, keysOf};
 
 // The level of a degree where the transform is the quicker way; 0 below degree 32, and where the elements do not come by sixteen.
-pub(crate) fn level(q: Residue, d: u32, n: u32) -> u32
+pub fn level(q: Residue, d: u32, n: u32) -> u32
     ensures { λ r. ⌜ Provided (0 < r) (Suits q d n r) ⌝ }
 {
     if q != TRANSFORM_MODULUS {
@@ -76,7 +75,7 @@ fn fill_sums(
     let mut k = [0u64; WIDTH];
     for l in 0..STRANDS {
         let at = (from + l) * d;
-        halves::add_halves(TRANSFORM_MODULUS, d, at, half + at, f, g, &mut m, &mut k);
+        half_sums::add_halves(TRANSFORM_MODULUS, d, at, half + at, f, g, &mut m, &mut k);
         transform::place(d, l, &m, &k, x, y);
     }
 }
@@ -104,7 +103,7 @@ fn fill(
 }
 
 // Adds the products of n elements, sixteen at a time, and brings the sums back. Rooms and sums have sixteen numbers for each coefficient.
-fn batches(
+fn sum_batches(
     sums: bool,
     level: u32,
     d: usize,
@@ -145,7 +144,7 @@ fn inner_in(
         (r ≡ padded d (reduced 12289 d (opening.inner d n (messagesOf sums d n (now (f .entry))) (keysOf sums d n (now (g .entry)))))) ⌝ }
 {
     let cells = d * STRANDS;
-    batches(
+    sum_batches(
         sums,
         level,
         d,
@@ -158,8 +157,20 @@ fn inner_in(
     )
 }
 
+// How many numbers a table has, of n elements or of twice as many.
+fn size(sums: bool, d: usize, n: usize) -> usize
+    requires { ⌜ (n ≤ 256) × (d ≤ width) ⌝ }
+    ensures { λ r. ⌜ r ≡ sizeOf sums d n ⌝ }
+{
+    let cells = n * d;
+    if sums {
+        return 2 * cells;
+    }
+    cells
+}
+
 // The inner product of n elements of two tables, or of the sums of their halves, which have n elements.
-pub(crate) fn inner(
+pub fn inner(
     sums: bool,
     level: u32,
     d: usize,
@@ -167,10 +178,22 @@ pub(crate) fn inner(
     f: &[i32],
     g: &[Residue],
 ) -> [Residue; WIDTH]
-    requires { ⌜ (n ≤ 256) × (d ≤ width) × (sizeOf sums d n ≤ length (now f)) × (sizeOf sums d n ≤ length (now g)) ⌝ }
     ensures { λ r. ⌜ Provided (Suits 12289 d n level × Source sums d n (now (f .entry)) (now (g .entry)))
         (r ≡ padded d (reduced 12289 d (opening.inner d n (messagesOf sums d n (now (f .entry))) (keysOf sums d n (now (g .entry)))))) ⌝ }
 {
+    if n > 256 {
+        return [0u64; WIDTH];
+    }
+    if d > WIDTH {
+        return [0u64; WIDTH];
+    }
+    let cells = size(sums, d, n);
+    if f.len() < cells {
+        return [0u64; WIDTH];
+    }
+    if g.len() < cells {
+        return [0u64; WIDTH];
+    }
     let mut x = [0u16; ROOM];
     let mut y = [0u16; ROOM];
     let mut s = [0u32; ROOM];

@@ -6,11 +6,11 @@ use lib.ListN.{length}
 use Rattle.protocol.specs.Element.{signedAt, residueAt}
 use Rattle.protocol.proofs.Reading.{row-inside}
 use Rattle.transform.specs.Strands.{Room, Filled}
-use Rattle.products.specs.Batches.{Tables}
-use Rattle.products.proofs.Batching.{filled-none, table-placed}
+use Rattle.batches.specs.Batches.{Tables}
+use Rattle.batches.proofs.Batching.{filled-none, table-placed}
 use borrow.Author.Needs.{needs}
-use Rattle.products.proofs.transformed.fill_tables.Statement.{statement}
-use Rattle.products.proofs.transformed.fill_tables.Tie as tie
+use Rattle.batches.proofs.fill_tables.Statement.{statement}
+use Rattle.batches.proofs.fill_tables.Tie as tie
 
 abbrev Inv-loop : tie.InvT-loop
 Inv-loop d n from f g x₀ y₀ l₀ x y l =

@@ -1,5 +1,6 @@
 -- When an inner product goes by the transform, and what is transformed.
 --
+--   Zero l                every number of l is 0
 --   Suits q d n r         the transform of level r suits inner products of n elements of degree d modulo q
 --   Tables d n f g        two tables of n elements, small enough to be transformed
 --   Source sums d n f g   two tables of n elements, or two whose halves have n elements, which are added
@@ -12,7 +13,10 @@ use Prim.Native.Nat.{ℕ, _+_, _*_, _%_, _^_, _<_, _≤_}
 use lib.IntN.{ℤ, pos, natAbs}
 use lib.ListN.{length, getD}
 use Rattle.protocol.specs.Element.{Element, signedAt, residueAt}
-use Rattle.products.specs.Sums.{messageSums, keySums, Halves}
+use Rattle.half_sums.specs.Halves.{messageSums, keySums, Halves}
+
+abbrev pub Zero : List ℕ → Type 0
+Zero l = (k : ℕ) → getD l k 0 ≡ 0
 
 pub record Suits (q d n r : ℕ) : Type 0 where
   pub modulus : q ≡ 12289

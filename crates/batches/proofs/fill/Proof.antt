@@ -1,19 +1,9 @@
-use mathlib.Core.Path.{_≡_, sym, subst}
-use mathlib.Core.Bool.{Bool, true, false}
-use Prim.Native.Nat.{ℕ, _*_, _≤_}
 use native.Mathlib.Omega.{arith}
-use Rattle.products.specs.Batches.{Source, sizeOf, messagesOf, keysOf}
+use Rattle.batches.specs.Batches.{Source, messagesOf, keysOf}
+use Rattle.batches.proofs.Batching.{sums-size, table-size}
 use borrow.Author.Needs.{needs}
-use Rattle.products.proofs.transformed.fill.Statement.{statement}
-use Rattle.products.proofs.transformed.fill.Tie as tie
-
-sums-size : (b : Bool) → b ≡ true → (d n : ℕ) → sizeOf b d n ≡ 2 * (n * d)
-unfolding sizeOf
-sums-size b e d n = rw e
-
-table-size : (b : Bool) → b ≡ false → (d n : ℕ) → sizeOf b d n ≡ n * d
-unfolding sizeOf
-table-size b e d n = rw e
+use Rattle.batches.proofs.fill.Statement.{statement}
+use Rattle.batches.proofs.fill.Tie as tie
 
 fill-sums-requires : tie.Need-fill-sums-requires
 fill-sums-requires c κs =

@@ -1,5 +1,6 @@
 -- Sixteen elements of two tables, or of the sums of their halves, as they are handed on to be transformed.
 use mathlib.Core.Path.{_≡_, refl, sym, ap, _∙_, subst}
+use mathlib.Core.Bool.{Bool, true, false}
 use mathlib.Core.List.{List, [], _∷_}
 use Prim.Native.Nat.{ℕ, zero, suc, _+_, _*_, _-_, _^_, _<_, _≤_}
 use native.Mathlib.Nat as Nat
@@ -21,9 +22,9 @@ use Rattle.protocol.proofs.Reading.{row-inside}
 use Rattle.residues.proofs.Parts.{tail-at, tail-length}
 use Rattle.powers.specs.Powers.{modulus, positive, K, res, seen}
 use Rattle.transform.specs.Strands.{strands, valueAt, Room, Filled, Placed, Stands}
-use Rattle.products.specs.Sums.{Zero, messageSums, keySums, Summable, Halves, HalfSums}
-use Rattle.products.specs.Batches.{Suits, Tables}
-use Rattle.products.proofs.SumsOfHalves.{sums-small, sums-below}
+use Rattle.half_sums.specs.Halves.{messageSums, keySums, Halves, HalfSums}
+use Rattle.batches.specs.Batches.{Zero, Suits, Tables, Source, sizeOf}
+use Rattle.half_sums.proofs.Elements.{sums-small, sums-below}
 
 pub filled-none : (D : ℕ) (F : ℕ → Element) (x : List ℕ) → Room D x → Filled D 0 F x
 filled-none D F x r = record { room = r; each = λ l k h m. absurd (omega arith) }
@@ -84,7 +85,6 @@ batch-stands D d t F G s e = subst (λ H. Stands D H (t + 1) s)
 -- ---- rooms and sums of zeros
 
 zero-take : (n : ℕ) (l : List ℕ) → Zero l → Zero (take n l)
-unfolding getD
 zero-take zero l z k = refl
 zero-take (suc n) [] z k = refl
 zero-take (suc n) (a ∷ l) z zero = z zero
@@ -115,17 +115,18 @@ zero-stands D n l e m z = record {
 
 -- ---- where the transform suits
 
-module _ (q d n r : ℕ) (suits : Suits q d n r) where
-  pub suits-width : d ≤ width
-  suits-width = omega (arith, suits .degree, Nat.pow-le-pow-right {n = 2} (omega arith) (suits .most))
+pub suits-width : (q d n r : ℕ) → Suits q d n r → d ≤ width
+suits-width q d n r suits = omega (arith, suits .degree, Nat.pow-le-pow-right {n = 2} (omega arith) (suits .most))
 
-  pub suits-cells : n * d ≤ 256 * width
-  suits-cells = Nat.mul-le-mul (suits .few) suits-width
+pub source-long : (sums : Bool) (d n : ℕ) (f : List ℤ) (g : List ℕ) → Source sums d n f g → (sizeOf sums d n ≤ length f) × (sizeOf sums d n ≤ length g)
+unfolding Source sizeOf
+source-long true d n f g z = (omega (arith, z .elements .f-long, Nat.mul-assoc 2 n d), omega (arith, z .elements .g-long, Nat.mul-assoc 2 n d))
+source-long false d n f g z = (z .f-long, z .g-long)
 
-  pub suits-tables : (f : List ℤ) (g : List ℕ) → Summable q d n f g → Tables d n f g
-  suits-tables f g z = record {
-    f-long = z .elements .f-long;
-    g-long = z .elements .g-long;
-    small = λ j l. omega (arith, z .small j l, z .magnitude-most);
-    residues = λ j l. omega (arith, z .residues j l, suits .modulus);
-  }
+pub sums-size : (b : Bool) → b ≡ true → (d n : ℕ) → sizeOf b d n ≡ 2 * (n * d)
+unfolding sizeOf
+sums-size b e d n = rw e
+
+pub table-size : (b : Bool) → b ≡ false → (d n : ℕ) → sizeOf b d n ≡ n * d
+unfolding sizeOf
+table-size b e d n = rw e

@@ -8,11 +8,11 @@ use Rattle.protocol.specs.Basic.{sum}
 use Rattle.protocol.specs.Element.{reduced, padded}
 use Rattle.protocol.specs.Opening.{inner}
 use Rattle.transform.specs.Strands.{Room, Stands}
-use Rattle.products.specs.Batches.{Suits, Source, messagesOf, keysOf}
-use Rattle.products.proofs.Batching.{batch-stands}
+use Rattle.batches.specs.Batches.{Suits, Source, messagesOf, keysOf}
+use Rattle.batches.proofs.Batching.{batch-stands}
 use borrow.Author.Needs.{needs}
-use Rattle.products.proofs.transformed.batches.Statement.{statement}
-use Rattle.products.proofs.transformed.batches.Tie as tie
+use Rattle.batches.proofs.sum_batches.Statement.{statement}
+use Rattle.batches.proofs.sum_batches.Tie as tie
 
 abbrev Inv-loop : tie.InvT-loop
 Inv-loop sums level d n f g x₀ y₀ s₀ t₀ t-end x y s t =
@@ -64,8 +64,8 @@ returns c = λ z.
     c .finish .ensures _ _ (z .0 .most, z .0 .degree, l .inv .1 z .2)
     ∙ ap (λ n. padded (a .d) (reduced 12289 (a .d) (inner (a .d) n (messagesOf (a .sums) (a .d) (a .n) (a .f .now)) (keysOf (a .sums) (a .d) (a .n) (a .g .now))))) all
 
-pub batches-spec : {M : Type 1} → statement M
-batches-spec =
+pub sum-batches-spec : {M : Type 1} → statement M
+sum-batches-spec =
     tie.close
     (tie.spec Inv-loop μ-loop loop-holds mul-fill fill-requires (λ c κs. search needs) (λ c. search needs) (λ c. search needs) loop-again
     (λ c κs. search needs) (λ c. search needs) (λ c. search needs) (λ c. search needs) returns)
