@@ -1,7 +1,7 @@
 /* This library beside an earlier one: `before NEW.so OLD.so TURNS` times each call of both in turns, on the same input, by the processor time of the thread, and prints
  * medians and their ratio. What they answer is compared; where it differs the program says so and leaves with 1. Up to version 0.2 residues and modulus had 32 bits,
- * since then they have 64; up to 0.3 a record has 78 numbers, since then 142; either library may be of
- * either kind. `bench/before` builds both and runs it. */
+ * since then they have 64; up to 0.3 a record had 78 numbers, up to 0.4 it had 142; since 0.5 settings have a fifth number, that of rows, which is 1 here, and a record
+ * has 527. Either library may be of any kind. `bench/before` builds both and runs it. */
 #include "../include/wovenrock.h"
 #include <dlfcn.h>
 #include <stdbool.h>
@@ -18,6 +18,9 @@
 #define NODES 3280
 #define LEAVES 6561
 #define TEXT WOVENROCK_TEXT
+/* Numbers of a record before there were rows, and what a text has since then, from the line before on. */
+#define OLD_SESSION 142
+#define ROWS_LINE "\n0 0 4 1\n"
 #define MODULUS 2147483647u
 /* The one with a transform, since version 0.4. */
 #define SMALL 12289u
@@ -48,6 +51,13 @@ static uint32_t draw(uint32_t below) {
 }
 
 #define RESIDUE uint64_t
+#define HAS_ROWS 1
+#define NAMED(name) name##_rows
+#include "side.h"
+#undef HAS_ROWS
+#undef NAMED
+
+#define HAS_ROWS 0
 #define NAMED(name) name##_64
 #include "side.h"
 #undef RESIDUE
@@ -57,10 +67,11 @@ static uint32_t draw(uint32_t below) {
 #define NAMED(name) name##_32
 #include "side.h"
 #undef RESIDUE
+#undef HAS_ROWS
 #undef NAMED
 
-/* The side of 64 bits is declared as the header is. */
-#define DECLARED(name) _Static_assert(__builtin_types_compatible_p(__typeof__(((struct library_64 *)0)->name), __typeof__(&wovenrock_##name)), #name);
+/* The side with rows is declared as the header is. */
+#define DECLARED(name) _Static_assert(__builtin_types_compatible_p(__typeof__(((struct library_rows *)0)->name), __typeof__(&wovenrock_##name)), #name);
 CALLS(DECLARED)
 
 /* A side with the functions for it. */
@@ -78,6 +89,10 @@ static struct side load(const char *path) {
     fprintf(stderr, "before: %s\n", dlerror());
     exit(1);
   }
+  /* A library that knows of rows refuses to have none; another one does not see the fifth number. */
+  __typeof__(&wovenrock_settings) settings = (__typeof__(settings))dlsym(file, "wovenrock_settings");
+  if (settings(2, 0, 17, 1, 0) != 0)
+    return (struct side){load_rows(file), fill_rows, call_rows, answer_rows, clear_rows};
   /* This modulus is refused, but its low half alone is not. */
   struct side_64 *wide = load_64(file);
   if (wide->lib.settings(2, 0, (UINT64_C(1) << 63) + 17, 1) != 0)

@@ -12,7 +12,7 @@
 
 bool measured_names(const uint8_t *text, size_t length);
 
-static const uint8_t text[] = LINE "0 0 0 2\n0 0 1 1\n0 0 2 17\n0 0 3 1\n1 0 0 3\n1 0 1 5\n1 1 0 7\n1 1 1 2\n2 0 0 1\n2 0 1 -1\n2 1 0 1\n2 1 1 0\n5 0 0 1\n";
+static const uint8_t text[] = LINE "0 0 0 2\n0 0 1 1\n0 0 2 17\n0 0 3 1\n0 0 4 1\n1 0 0 3\n1 0 1 5\n1 1 0 7\n1 1 1 2\n2 0 0 1\n2 0 1 -1\n2 1 0 1\n2 1 1 0\n5 0 0 1\n";
 
 /* Key, message and challenges: bits 0, 1 and 4. */
 #define PARTS 19
@@ -35,10 +35,10 @@ static bool by_bytes(const uint8_t *line) {
 }
 
 static bool by_reader(const uint8_t *whole) {
-  uint64_t settings[4], key[4], none[1];
+  uint64_t settings[WOVENROCK_SETTINGS], key[4], none[1];
   uint32_t challenges[1];
   int32_t message[4], no_last[1];
-  return wovenrock_read(PARTS, whole, sizeof text - 1, settings, 4, key, 4, message, 4, none, 0, none, 0, challenges, 1, no_last, 0) == 0;
+  return wovenrock_read(PARTS, whole, sizeof text - 1, settings, WOVENROCK_SETTINGS, key, 4, message, 4, none, 0, none, 0, challenges, 1, no_last, 0) == 0;
 }
 
 static double now(void) {

@@ -59,7 +59,7 @@ static double now(void) {
 static double commit_with(uint64_t modulus) {
   size_t n = (size_t)degree << DEPTH;
   double start = now();
-  uint32_t number = wovenrock_commit(degree, DEPTH, modulus, BOUND, key, n, message, n, commitment, degree);
+  uint32_t number = wovenrock_commit(degree, DEPTH, modulus, BOUND, 1, key, n, message, n, commitment, degree);
   double time = now() - start;
   need(number == 0, "commit is refused");
   return time;
@@ -72,7 +72,8 @@ static double open_with(uint64_t modulus) {
   memcpy(folded_key, key, n * sizeof *key);
   memcpy(folded_message, message, n * sizeof *message);
   double start = now();
-  wovenrock_open(degree, DEPTH, modulus, BOUND, folded_key, n, folded_message, n, challenges, DEPTH, rounds, 3 * DEPTH * degree, commitment, degree, last, degree, &verdict);
+  wovenrock_open(degree, DEPTH, modulus, BOUND, 1, folded_key, n, folded_message, n, challenges, DEPTH, rounds, 3 * DEPTH * degree, commitment, degree, last, degree,
+                 &verdict);
   double time = now() - start;
   need(verdict == WOVENROCK_ACCEPTED, "the opening is not accepted");
   return time;

@@ -1,7 +1,15 @@
-/* One side of the comparison of two libraries: its calls, the input of a row and what they answer, with residues and modulus of type RESIDUE. before.c includes this
- * once for each type; NAMED(x) makes a name of x that no other inclusion has. */
+/* One side of the comparison of two libraries: its calls, the input of a row and what they answer, with residues and modulus of type RESIDUE. HAS_ROWS is 1 where settings
+ * have a fifth number, that of rows, else 0. before.c includes this once for each kind; NAMED(x) makes a name of x that no other inclusion has. */
 
+#if HAS_ROWS
+#define SHAPE uint32_t, uint32_t, RESIDUE, uint32_t, uint32_t
+#define SETTINGS in->d, in->l, in->q, in->b, 1
+#define SMALLEST 2, 0, 17, 1, 1
+#else
 #define SHAPE uint32_t, uint32_t, RESIDUE, uint32_t
+#define SETTINGS in->d, in->l, in->q, in->b
+#define SMALLEST 2, 0, 17, 1
+#endif
 #define READ(type) const type *, size_t
 #define WRITTEN(type) type *, size_t
 
@@ -47,8 +55,6 @@ struct NAMED(side) {
   struct NAMED(output) out;
 };
 
-#define SETTINGS in->d, in->l, in->q, in->b
-
 static void NAMED(call)(void *side, enum call which) {
   struct NAMED(side) *in = side;
   struct NAMED(library) *lib = &in->lib;
@@ -83,7 +89,7 @@ static void NAMED(call)(void *side, enum call which) {
                                 in->ends * in->d, out->w, in->n);
     return;
   case READ_TEXT:
-    out->refusal = lib->read(WITNESS, in->text, in->text_length, out->settings, WOVENROCK_SETTINGS, out->key, in->n, out->message, in->n, none, 0, none, 0,
+    out->refusal = lib->read(WITNESS, in->text, in->text_length, out->settings, 4 + HAS_ROWS, out->key, in->n, out->message, in->n, none, 0, none, 0,
                              out->challenges, in->l, no_last, 0);
     return;
   case WRITE_TEXT:
@@ -155,10 +161,17 @@ static void NAMED(fill)(void *side, uint32_t d, uint32_t l, uint32_t q, uint32_t
   }
 }
 
-/* A number that stands for all that was answered, which is the same for residues of either width. */
+/* A number that stands for all that was answered, which is the same for sides of every kind: the number of rows and its line in a text are left out, and the room for
+ * the claims of other rows. */
 static uint64_t NAMED(answer)(const void *side) {
   const struct NAMED(output) *out = &((const struct NAMED(side) *)side)->out;
-  uint64_t sum = mix(mix(out->refusal, out->number), out->count);
+  size_t line = 0;
+#if HAS_ROWS
+  const char *found = out->count == 0 ? NULL : strstr((const char *)out->text, ROWS_LINE);
+  line = found ? (size_t)(found - (const char *)out->text) : 0;
+#endif
+  size_t skipped = line ? sizeof ROWS_LINE - 2 : 0;
+  uint64_t sum = mix(mix(out->refusal, out->number), out->count - skipped);
 #define MIX(table)                                            \
   for (size_t i = 0; i < sizeof table / sizeof *table; i++) \
     sum = mix(sum, (uint64_t)table[i])
@@ -166,12 +179,15 @@ static uint64_t NAMED(answer)(const void *side) {
   MIX(out->key);
   MIX(out->rounds);
   MIX(out->commitment);
-  MIX(out->session);
-  MIX(out->settings);
+  for (size_t i = 0; i < 4; i++)
+    sum = mix(mix(sum, (uint64_t)out->session[i]), (uint64_t)out->settings[i]);
+  for (size_t i = 4; i < OLD_SESSION; i++)
+    sum = mix(sum, (uint64_t)out->session[i + HAS_ROWS]);
   MIX(out->message);
   MIX(out->last);
   MIX(out->w);
-  MIX(out->text);
+  for (size_t i = 0; i < TEXT - sizeof ROWS_LINE; i++)
+    sum = mix(sum, out->text[i < line || line == 0 ? i : i + skipped]);
 #undef MIX
   return sum;
 }
@@ -185,12 +201,14 @@ static void *NAMED(load)(void *file) {
 #define TAKE(name) in->lib.name = (__typeof__(in->lib.name))dlsym(file, "wovenrock_" #name);
   CALLS(TAKE)
 #undef TAKE
-  /* Up to version 0.3 a record had 78 numbers; one of another length is refused. */
+  /* Before there were rows a record had 142 numbers, and up to version 0.3 it had 78; one of another length is refused. */
   RESIDUE commitment[2] = {0}, session[WOVENROCK_SESSION];
-  in->session = in->lib.session_start(2, 0, 17, 1, commitment, 2, session, WOVENROCK_SESSION) == 0 ? WOVENROCK_SESSION : 78;
+  size_t most = HAS_ROWS ? WOVENROCK_SESSION : OLD_SESSION;
+  in->session = in->lib.session_start(SMALLEST, commitment, 2, session, most) == 0 ? most : 78;
   return in;
 }
 
+#undef SMALLEST
 #undef SETTINGS
 #undef SHAPE
 #undef READ

@@ -12,7 +12,8 @@ What is asked, at every degree and depth; with the largest modulus, and for bind
   extraction   from which bound B on the judge refuses by 14; at the largest that it takes it must say yes to a vector whose one coefficient is
                (8*d*d)^L * B and no to one more, so that this ceiling is the library's and not only this script's
   binding      up to which B twice that ceiling is below the modulus
-  texts        whether the table writer writes the longest and the shortest text, or refuses it by 1
+  texts        whether the table writer writes the longest and the shortest text, with one row and with four, or refuses it by 1
+Neither extraction nor binding knows of rows: the answers with one row and with four must be the same.
 """
 import argparse
 import bisect
@@ -35,6 +36,7 @@ NARROW = 2**31 - 1
 OF_128 = 12289
 BOUNDS = range(1, 128)
 LARGEST = BOUNDS[-1]
+ROWS = (1, 4)
 LONG, GROWTH, SLACK = 1, 14, 15
 
 PROVE_READS = ("key", "message", "challenges")
@@ -56,8 +58,8 @@ def ceiling(settings):
 
 def judged(library, settings, slack, coefficient):
     """The judge on zeros, but for one coefficient of w."""
-    zeros = [0] * settings.table
-    return library.judge(settings, zeros[: settings.element], slack, zeros, [coefficient] + zeros[1:])
+    commitment, key, rest = ([0] * length for length in (settings.commitment, settings.key, settings.table - 1))
+    return library.judge(settings, commitment, slack, key, [coefficient, *rest])
 
 
 def grows_too_far(library, settings):
@@ -73,16 +75,20 @@ def grows_too_far(library, settings):
 def extraction_bound(library, degree, depth):
     """The largest B at which the judge does not refuse by 14, 0 where there is none."""
 
-    def at(bound):
-        return library.settings(degree, depth, modulus_of(degree), bound)
+    def at(bound, rows):
+        return library.settings(degree, depth, modulus_of(degree), bound, rows)
 
-    largest = bisect.bisect_left(BOUNDS, True, key=lambda bound: grows_too_far(library, at(bound)))
-    if largest:
-        settings = at(largest)
+    def largest(rows):
+        return bisect.bisect_left(BOUNDS, True, key=lambda bound: grows_too_far(library, at(bound, rows)))
+
+    found, *others = map(largest, ROWS)
+    if any(other != found for other in others):
+        wrong(f"the judge's refusal 14 at degree {degree} and depth {depth} depends on the rows")
+    for settings in (at(found, rows) for rows in ROWS if found):
         top = ceiling(settings)
         if [judged(library, settings, 1, x) for x in (top, -top, top + 1, -top - 1)] != [True, True, False, False]:
             wrong(f"the judge at the ceiling of {settings}")
-    return largest
+    return found
 
 
 def binding_bound(modulus):
@@ -92,11 +98,11 @@ def binding_bound(modulus):
     )
 
 
-def text_size(library, degree, depth, parts, longest):
+def text_size(library, degree, depth, rows, parts, longest):
     """Bytes of the longest or the shortest text with these parts, None where the writer refuses it by 1."""
     largest = modulus_of(degree) - 1
-    settings = library.settings(degree, depth, modulus_of(degree), LARGEST if longest else 1)
-    lengths = (settings.table, settings.table, settings.element, settings.rounds, settings.challenges, settings.element)
+    settings = library.settings(degree, depth, modulus_of(degree), LARGEST if longest else 1, rows)
+    lengths = (settings.key, settings.table, settings.commitment, settings.rounds, settings.challenges, settings.element)
     # of the final coefficients that a verifier can accept, -n*B has most bytes
     last = -(settings.bound << depth)
     values = (largest, -settings.bound, largest, largest, 2 * degree - 1, last) if longest else (0,) * len(PARTS)
@@ -140,8 +146,9 @@ def named(degree):
 
 def limits_table(library):
     lines = [
-        "| d | extraction is allowed at L | it binds at L, q = 2^31 − 1 | it binds at L, q = 2^61 − 1 | the text that `prove` reads fits at L | the text that `verify` reads fits at L |",
-        "|---:|---|---|---|---|---|",
+        "| d | extraction is allowed at L | it binds at L, q = 2^31 − 1 | it binds at L, q = 2^61 − 1"
+        " | the text that `prove` reads fits at L | with four rows | the text that `verify` reads fits at L | with four rows |",
+        "|---:|---|---|---|---|---|---|---|",
     ]
     for degree in DEGREES:
         cells = [named(degree), by_bound([extraction_bound(library, degree, depth) for depth in DEPTHS])]
@@ -149,21 +156,24 @@ def limits_table(library):
             allowed = modulus_of(degree) == MODULUS
             cells.append(by_bound([binding_bound(modulus)(library, degree, depth) for depth in DEPTHS]) if allowed else "–")
         for parts in (PROVE_READS, VERIFY_READS):
-            cells.append(by_size(*([text_size(library, degree, depth, parts, longest) for depth in DEPTHS] for longest in (True, False))))
+            for rows in ROWS:
+                cells.append(by_size(*([text_size(library, degree, depth, rows, parts, longest) for depth in DEPTHS] for longest in (True, False))))
         lines.append("| " + " | ".join(cells) + " |")
     return "\n".join(lines) + "\n"
 
 
 def sizes_table(library):
     lines = [
-        "| d | " + " | ".join(f"L = {depth}" for depth in DEPTHS) + " |",
-        "|---:|" + "---:|" * len(DEPTHS),
+        "| d | rows | " + " | ".join(f"L = {depth}" for depth in DEPTHS) + " |",
+        "|---:|---:|" + "---:|" * len(DEPTHS),
     ]
     for degree in DEGREES:
-        cells = [text_size(library, degree, depth, PROVE_PRINTS, True) for depth in DEPTHS]
-        if None in cells:
-            wrong(f"a transcript of degree {degree} does not fit")
-        lines.append(f"| {named(degree)} | " + " | ".join(f"{cell:,}" for cell in cells) + " |")
+        for rows in ROWS:
+            sizes = [text_size(library, degree, depth, rows, PROVE_PRINTS, True) for depth in DEPTHS]
+            if rows == 1 and None in sizes:
+                wrong(f"a transcript of degree {degree} and one row does not fit")
+            cells = ("too long" if size is None else f"{size:,}" for size in sizes)
+            lines.append(f"| {named(degree)} | {rows} | " + " | ".join(cells) + " |")
     return "\n".join(lines) + "\n"
 
 

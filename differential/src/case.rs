@@ -65,12 +65,13 @@ impl Outcome {
 
 /// What is counted where nothing is refused: a modulus of 2^31 or more, the
 /// largest degree, and its modulus at a degree from 32 on with sixteen elements
-/// or more. And what is counted where 3 refuses the largest degree with another
-/// modulus.
+/// or more; and each number of rows. And what is counted where 3 refuses the
+/// largest degree with another modulus.
 pub const WIDE: &str = "wide";
 pub const LARGEST: &str = "degree 128";
 pub const SIXTEENS: &str = "12289 from degree 32, sixteen elements";
 pub const OTHER: &str = "128 with another modulus";
+pub const ROWS: [&str; 4] = ["one row", "two rows", "three rows", "four rows"];
 
 /// Who a case was compared with.
 #[derive(Clone, Copy)]
@@ -150,6 +151,9 @@ pub trait Case: Clone {
     /// What must come up of degrees and moduli.
     const OF_SETTINGS: &'static [&'static str] = &[];
 
+    /// Whether each number of rows must come up.
+    const OF_ROWS: bool = false;
+
     /// How often each of these must come up.
     const LEAST: usize = 20;
 
@@ -201,6 +205,7 @@ pub trait Call: Clone {
     const WORDS: &'static [&'static str] = &[];
     const SLICES: &'static [&'static str];
     const OF_SETTINGS: &'static [&'static str] = &[WIDE, LARGEST, SIXTEENS, OTHER];
+    const OF_ROWS: bool = true;
 
     /// Whether the fast reference has the call.
     const FAST: bool = false;
@@ -286,7 +291,7 @@ pub trait Call: Clone {
     }
 }
 
-/// The simple reference's refusals 3 to 6, and 7 for the slices.
+/// The simple reference's refusals 3 to 6 and 16, and 7 for the slices.
 fn plain_border<C: Call>(case: &C) -> u32 {
     let Some(s) = case.settings() else {
         return 0;
@@ -316,10 +321,12 @@ fn sizes(shape: &Shape) -> Lengths {
     Lengths {
         element: shape.d,
         table: shape.table(),
-        polynomial: 3 * shape.d,
+        key: shape.key(),
+        commitment: shape.commitment(),
+        polynomial: shape.polynomial(),
         rounds: shape.rounds(),
         challenges: shape.l,
-        tree_rounds: 3 * shape.nodes() * shape.d,
+        tree_rounds: shape.tree_rounds(),
         tree_challenges: 3 * shape.nodes(),
         leaves: shape.leaves() * shape.d,
     }
@@ -346,6 +353,7 @@ impl<C: Call> Case for C {
     const WORDS: &'static [&'static str] = <C as Call>::WORDS;
     const SLICES: &'static [&'static str] = <C as Call>::SLICES;
     const OF_SETTINGS: &'static [&'static str] = <C as Call>::OF_SETTINGS;
+    const OF_ROWS: bool = <C as Call>::OF_ROWS;
 
     fn draw(random: &mut Random, limits: &Limits) -> C {
         <C as Call>::draw(random, limits)
@@ -359,7 +367,7 @@ impl<C: Call> Case for C {
         let slice = &mut self.slices()[random.below(count)];
         let length = slice.len();
         slice.resize(match random.below(8) {
-            0 => random.pick(&[0, 1, 64, 78, 128, 142, 192, 384]),
+            0 => random.pick(&[0, 1, 64, 128, 142, 256, 384, 512, 526, 528]),
             1..=3 => length.saturating_sub(1),
             _ => length + 1,
         });
@@ -407,11 +415,11 @@ impl<C: Call> Case for C {
     fn remarks(&self, number: u32) -> Vec<String> {
         let mut remarks = self.other_remarks(number);
         let settings = of_settings(number, self.used(), self.largest());
-        let wanted = <C as Call>::OF_SETTINGS;
+        let (wanted, rows) = (<C as Call>::OF_SETTINGS, <C as Call>::OF_ROWS);
         remarks.extend(
             settings
                 .into_iter()
-                .filter(|word| wanted.contains(&&word[..])),
+                .filter(|word| wanted.contains(&&word[..]) || rows && ROWS.contains(&&word[..])),
         );
         let pairs = self.known_pairs().unwrap_or_default();
         let wrong: Vec<usize> = (0..pairs.len())
@@ -449,7 +457,10 @@ pub fn of_settings(number: u32, used: Settings, largest: bool) -> Vec<String> {
         (number == 3 && largest, OTHER),
     ];
     let said = list.iter().filter(|(said, _)| *said);
-    said.map(|(_, word)| word.to_string()).collect()
+    let mut words: Vec<String> = said.map(|(_, word)| word.to_string()).collect();
+    let rows = ROWS.get((used.rows as usize).wrapping_sub(1));
+    words.extend(rows.filter(|_| number == 0).map(|word| word.to_string()));
+    words
 }
 
 /// Two answers to one input that are not the same.
@@ -498,10 +509,12 @@ fn redraw_smaller<C: Case>(case: &C) -> C {
     const DRAWS: usize = 2000;
     let mut random = Random::new(1);
     let sizes = [(2, 0), (2, 1), (4, 1), (4, 2), (8, 2), (16, 2), (64, 1)];
-    for (degree, depth) in sizes.into_iter().chain([(128, 0), (128, 1)]) {
+    let sizes = sizes.into_iter().chain([(128, 0), (128, 1)]);
+    for (rows, (degree, depth)) in sizes.flat_map(|size| [(1, size), (4, size)]) {
         let limits = Limits {
             degree,
             depth,
+            rows,
             table: usize::MAX,
             tree: usize::MAX,
             wide: true,

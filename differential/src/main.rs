@@ -13,7 +13,7 @@ use differential::calls::{
     Check, Commit, End, Extract, Fold, Judge, Large, Largest, Moves, Opening,
 };
 use differential::calls::{ProverRound, SessionEnd, SessionRound, Sessions, SettingsCase, Start};
-use differential::case::{self, Case, Difference};
+use differential::case::{self, Case, Difference, ROWS};
 use differential::report::Report;
 use reference::draw::Limits;
 use reference::random::Random;
@@ -30,7 +30,11 @@ fn words<C: Case>() -> Vec<String> {
     let said = C::WORDS.iter().map(|word| word.to_string());
     let slices = C::SLICES.iter();
     let wrong = slices.flat_map(|name| [format!("{name} short"), format!("{name} long")]);
-    let of_settings = C::OF_SETTINGS.iter().map(|word| word.to_string());
+    let rows = if C::OF_ROWS { &ROWS[..] } else { &[] };
+    let of_settings = C::OF_SETTINGS
+        .iter()
+        .chain(rows)
+        .map(|word| word.to_string());
     said.chain(wrong).chain(of_settings).collect()
 }
 
@@ -118,7 +122,7 @@ impl Run {
         self.call::<Fold>(10_000, 200)?;
         self.call::<End>(10_000, 200)?;
         self.call::<Check>(6_000, 60)?;
-        self.call::<Judge>(10_000, 100)?;
+        self.call::<Judge>(12_000, 200)?;
         self.call::<Start>(6_000, 100)?;
         self.call::<SessionRound>(8_000, 100)?;
         self.call::<SessionEnd>(8_000, 100)?;
@@ -131,13 +135,13 @@ impl Run {
         self.transform::<Moves>(40)?;
         self.transform::<Check>(60)?;
         self.transform::<SessionEnd>(60)?;
-        self.call::<Extract>(4_000, 120)?;
+        self.call::<Extract>(5_000, 120)?;
         self.call::<Large>(0, 24)?;
         self.call::<Largest>(0, 6)?;
         self.names()?;
         self.large_numbers()?;
         self.call::<Look>(10_000, 100)?;
-        self.call::<Read>(10_000, 200)?;
+        self.call::<Read>(12_000, 200)?;
         self.call::<Write>(10_000, 200)?;
         self.call::<Prove>(10_000, 100)?;
         self.call::<Verify>(10_000, 200)

@@ -8,10 +8,10 @@
 #include "wovenrock.h"
 
 /* Twice the bound of an extracted vector, 2 * (8*2*2)^2 * 1 = 2048, is below the modulus, so that the opening binds. */
-enum { DEGREE = 2, DEPTH = 2, MODULUS = 12289, BOUND = 1 };
+enum { DEGREE = 2, DEPTH = 2, MODULUS = 12289, BOUND = 1, ROWS = 1 };
 enum { TABLE = DEGREE << DEPTH, NODES = 4, LEAVES = 9 };
 
-#define SETTINGS DEGREE, DEPTH, MODULUS, BOUND
+#define SETTINGS DEGREE, DEPTH, MODULUS, BOUND, ROWS
 
 static const uint64_t KEY[TABLE] = {8121, 377, 5024, 11903, 1066, 9999, 42, 7310};
 static const int32_t MESSAGE[TABLE] = {1, -1, 0, 1, -1, 0, 1, 1};

@@ -119,7 +119,7 @@ static void put(struct slice *s, size_t place, int64_t value) {
 
 /* The calls. */
 
-#define SETTINGS (uint32_t)in->settings[0], (uint32_t)in->settings[1], in->settings[2], (uint32_t)in->settings[3]
+#define SETTINGS (uint32_t)in->settings[0], (uint32_t)in->settings[1], in->settings[2], (uint32_t)in->settings[3], (uint32_t)in->settings[4]
 #define AT(i) (void *)numbers(&in->slices[i])
 #define SLICE(i) AT(i), in->slices[i].count
 
@@ -169,16 +169,23 @@ struct fault {
 /* Past 32 bits, with a number behind that would be allowed. */
 #define PAST(number) ((INT64_C(1) << 32) + (number))
 #define FAULTY_SETTINGS \
-    IN_SETTING(3, 0, 3), IN_SETTING(3, 0, 128), IN_SETTING(4, 1, 9), IN_SETTING(5, 2, 16), IN_SETTING(5, 2, WOVENROCK_MODULUS_MAX + 2), IN_SETTING(5, 2, -1), IN_SETTING(6, 3, 0)
+    IN_SETTING(3, 0, 3), IN_SETTING(3, 0, 128), IN_SETTING(4, 1, 9), IN_SETTING(5, 2, 16), IN_SETTING(5, 2, WOVENROCK_MODULUS_MAX + 2), IN_SETTING(5, 2, -1), \
+        IN_SETTING(6, 3, 0), IN_SETTING(16, 4, 0), IN_SETTING(16, 4, 5), IN_SETTING(16, 4, INT64_C(1) << 31)
+/* Where a record has which number; the claim of a row is behind that of the one before. */
+enum { ROWS_AT = 4, DONE_AT, CLOSED_AT, CHALLENGES_AT, CLAIMS_AT = 15 };
+#define CLAIM_AT(row) (CLAIMS_AT + (row) * WOVENROCK_DEGREE_MAX)
 #define FAULTY_RECORD(slice) \
-    IN_SLICE(3, slice, 0, 3), IN_SLICE(3, slice, 0, 128), IN_SLICE(4, slice, 1, 9), IN_SLICE(5, slice, 2, 16), IN_SLICE(6, slice, 3, 0), IN_SLICE(7, slice, 5, 2), \
-        IN_SLICE(7, slice, 5, UINT32_MAX), IN_SLICE(8, slice, 14, 17), IN_SLICE(8, slice, 14, PAST(0)), IN_SLICE(10, slice, 6, 4), IN_SLICE(10, slice, 13, 4), \
-        IN_SLICE(11, slice, 5, 1), IN_SLICE(3, slice, 0, PAST(2)), IN_SLICE(4, slice, 1, PAST(1)), IN_SLICE(6, slice, 3, PAST(1)), \
-        IN_SLICE(7, slice, 5, PAST(0)), IN_SLICE(10, slice, 13, PAST(0)), IN_SLICE(11, slice, 4, PAST(0))
+    IN_SLICE(3, slice, 0, 3), IN_SLICE(3, slice, 0, 128), IN_SLICE(4, slice, 1, 9), IN_SLICE(5, slice, 2, 16), IN_SLICE(6, slice, 3, 0), \
+        IN_SLICE(16, slice, ROWS_AT, 0), IN_SLICE(16, slice, ROWS_AT, 5), IN_SLICE(7, slice, CLOSED_AT, 2), IN_SLICE(7, slice, CLOSED_AT, UINT32_MAX), \
+        IN_SLICE(8, slice, CLAIMS_AT, 17), IN_SLICE(8, slice, CLAIMS_AT, PAST(0)), IN_SLICE(10, slice, CHALLENGES_AT, 4), \
+        IN_SLICE(10, slice, CLAIMS_AT - 1, 4), IN_SLICE(11, slice, CLOSED_AT, 1), IN_SLICE(3, slice, 0, PAST(2)), IN_SLICE(4, slice, 1, PAST(1)), \
+        IN_SLICE(6, slice, 3, PAST(1)), IN_SLICE(16, slice, ROWS_AT, PAST(1)), IN_SLICE(7, slice, CLOSED_AT, PAST(0)), \
+        IN_SLICE(10, slice, CLAIMS_AT - 1, PAST(0)), IN_SLICE(11, slice, DONE_AT, PAST(0))
 #define FAULTY_TEXT \
     {1, STRETCH, 0, 0, WOVENROCK_TEXT + 1, NULL, NULL}, IN_LINE(2, "part", "Part"), IN_LINE(2, "0 0 3 1\n", "0 0 3 01\n"), \
         IN_LINE(2, "0 0 2 17\n", "0 0 2 2305843009213693953\n"), IN_LINE(3, "0 0 0 2\n", "0 0 0 3\n"), IN_LINE(3, "0 0 0 2\n", "0 0 0 128\n"), IN_LINE(3, "0 0 0 2\n", "0 0 0 4294967298\n"), \
-        IN_LINE(4, "0 0 1 1\n", "0 0 1 9\n"), IN_LINE(5, "0 0 2 17\n", "0 0 2 -17\n"), IN_LINE(6, "0 0 3 1\n", "0 0 3 128\n")
+        IN_LINE(4, "0 0 1 1\n", "0 0 1 9\n"), IN_LINE(5, "0 0 2 17\n", "0 0 2 -17\n"), IN_LINE(6, "0 0 3 1\n", "0 0 3 128\n"), \
+        IN_LINE(16, "0 0 4 1\n", "0 0 4 5\n"), IN_LINE(16, "0 0 4 1\n", "0 0 4 -1\n"), IN_LINE(16, "0 0 4 1\n", "0 0 4 4294967297\n"), IN_LINE(2, "0 0 4 1\n", "")
 
 /* Whether the fault can be put in: a place may be missing in a slice that is too short. */
 static bool spoil(struct input *in, const struct fault *f) {
@@ -246,7 +253,7 @@ static struct slice left(const struct slice *s) {
         put(&after, 0, 0);
     if (s->use == RECORD && s->count == WOVENROCK_SESSION) {
         memset(numbers(&after), 0, s->count * s->width);
-        put(&after, 5, 1);
+        put(&after, CLOSED_AT, 1);
     }
     return after;
 }
@@ -287,6 +294,22 @@ struct scenario {
     struct fault faults[32];
 };
 
+/* The numbers of a slice; many zeros in a row are only counted. */
+static void show_numbers(const struct slice *s) {
+    for (size_t k = 0; k < s->count;) {
+        size_t zeros = 0;
+        while (k + zeros < s->count && number_at(s, k + zeros) == 0)
+            zeros++;
+        if (zeros >= 16) {
+            printf(" (%zu zeros)", zeros);
+            k += zeros;
+        } else {
+            printf(" %lld", (long long)number_at(s, k));
+            k++;
+        }
+    }
+}
+
 static void show(const struct input *in) {
     for (int i = 0; i < in->used; i++) {
         const struct slice *s = &in->slices[i];
@@ -296,8 +319,7 @@ static void show(const struct input *in) {
         if (s->use == OUT)
             printf("\n%.*s", (int)s->count, (const char *)numbers(s));
         else
-            for (size_t k = 0; k < s->count; k++)
-                printf(" %lld", (long long)number_at(s, k));
+            show_numbers(s);
         printf("\n");
     }
 }
@@ -306,7 +328,7 @@ static uint32_t first(uint32_t a, uint32_t b) {
     return a < b ? a : b;
 }
 
-/* The number of a call with a slice of a wrong length and another fault: 7 stands behind 1 to 6. An output that is too short for its text is tested last, in the
+/* The number of a call with a slice of a wrong length and another fault: 7 stands behind 1 to 6 and 16. An output that is too short for its text is tested last, in the
  * writer just behind a text that is too long, and the length of a record that is there already before everything. */
 static uint32_t both(const struct scenario *scenario, const struct slice *s, uint32_t other) {
     if (other == 0)
@@ -317,6 +339,8 @@ static uint32_t both(const struct scenario *scenario, const struct slice *s, uin
         return WOVENROCK_REFUSED_SIZE;
     if (strcmp(s->name, "session") == 0 && scenario->call != start)
         return WOVENROCK_REFUSED_SIZE;
+    if (other == WOVENROCK_REFUSED_ROWS)
+        return other;
     return first(other, WOVENROCK_REFUSED_SIZE);
 }
 
@@ -386,7 +410,18 @@ static void run(const struct scenario *scenario) {
 #define VERDICT ZEROS("verdict", SINGLE, 4, false, 1)
 
 static struct input worked(void) {
-    struct input in = {{2, 1, 17, 1}, 0, 1, 4, 0, {{0}}, 0};
+    struct input in = {{2, 1, 17, 1, 1}, 0, 1, 4, 0, {{0}}, 0};
+    return in;
+}
+
+/* The same with a second row in the key, of weights 2 and 5. */
+#define TWO_KEY(use) U64("key", use, 3, 5, 7, 2, 2, 0, 5, 0)
+#define TWO_COMMITMENT U64("commitment", READ, 15, 4, 7, 15)
+#define TWO_ROUNDS(name) U64(name, READ, 4, 1, 1, 16, 6, 0, 12, 6, 12, 1, 11, 0)
+
+static struct input two(void) {
+    struct input in = worked();
+    in.settings[4] = 2;
     return in;
 }
 
@@ -406,12 +441,12 @@ static struct input round_input(void) {
     return in;
 }
 
-/* The largest degree, with its modulus: X^127 times X is -1. */
+/* The largest degree, with its modulus, and four rows: X^127 times X is -1. */
 static struct input largest_commit_input(void) {
-    struct input in = {{128, 1, 12289, 1}, 0, 0, 0, 0, {{0}}, 0};
-    lend(&in, ZEROS("key", READ, 8, false, wovenrock_table_length(128, 1)));
+    struct input in = {{128, 1, 12289, 1, 4}, 0, 0, 0, 0, {{0}}, 0};
+    lend(&in, ZEROS("key", READ, 8, false, wovenrock_key_length(128, 1, 4)));
     lend(&in, ZEROS("message", READ, 4, true, wovenrock_table_length(128, 1)));
-    lend(&in, ZEROS("commitment", WRITTEN, 8, false, wovenrock_element_length(128)));
+    lend(&in, ZEROS("commitment", WRITTEN, 8, false, wovenrock_commitment_length(128, 4)));
     put(&in.slices[0], 127, 1);
     put(&in.slices[1], 1, 1);
     return in;
@@ -444,6 +479,18 @@ static struct input open_input(void) {
     return in;
 }
 
+static struct input two_open_input(void) {
+    struct input in = two();
+    lend(&in, TWO_KEY(WRITTEN));
+    lend(&in, MESSAGE(WRITTEN));
+    lend(&in, U32("challenges", READ, 1));
+    lend(&in, U64("rounds", WRITTEN, 21, 22, 23, 24, 25, 26, 27, 28, 29, 30, 31, 32));
+    lend(&in, U64("commitment", WRITTEN, 27, 28, 29, 30));
+    lend(&in, I32("last", WRITTEN, 29, 30));
+    lend(&in, VERDICT);
+    return in;
+}
+
 static struct input start_input(void) {
     struct input in = worked();
     lend(&in, COMMITMENT);
@@ -454,10 +501,19 @@ static struct input start_input(void) {
 
 static struct slice record(uint64_t done, uint64_t challenge, int64_t claim0, int64_t claim1) {
     struct slice s = ZEROS("session", WRITTEN, 8, false, WOVENROCK_SESSION);
-    const uint64_t head[] = {2, 1, 17, 1, done, 0, challenge};
+    const uint64_t head[] = {2, 1, 17, 1, 1, done, 0, challenge};
     memcpy(numbers(&s), head, sizeof head);
-    put(&s, 14, claim0);
-    put(&s, 15, claim1);
+    put(&s, CLAIM_AT(0), claim0);
+    put(&s, CLAIM_AT(0) + 1, claim1);
+    return s;
+}
+
+/* That of two rows. */
+static struct slice two_record(uint64_t done, uint64_t challenge, const int64_t claims[4]) {
+    struct slice s = record(done, challenge, claims[0], claims[1]);
+    put(&s, ROWS_AT, 2);
+    put(&s, CLAIM_AT(1), claims[2]);
+    put(&s, CLAIM_AT(1) + 1, claims[3]);
     return s;
 }
 
@@ -474,6 +530,25 @@ static struct input session_end_input(void) {
     lend(&in, LAST);
     lend(&in, KEY(READ));
     lend(&in, record(1, 1, 9, 6));
+    lend(&in, VERDICT);
+    return in;
+}
+
+static struct input two_session_round_input(void) {
+    struct input in = two();
+    const int64_t claims[4] = {15, 4, 7, 15};
+    lend(&in, TWO_ROUNDS("polynomial"));
+    lend(&in, two_record(0, 0, claims));
+    lend(&in, VERDICT);
+    return in;
+}
+
+static struct input two_session_end_input(void) {
+    struct input in = two();
+    const int64_t claims[4] = {9, 6, 1, 11};
+    lend(&in, LAST);
+    lend(&in, TWO_KEY(READ));
+    lend(&in, two_record(1, 1, claims));
     lend(&in, VERDICT);
     return in;
 }
@@ -509,11 +584,31 @@ static struct input extract_input(void) {
     return in;
 }
 
+static struct input two_extract_input(void) {
+    struct input in = two();
+    lend(&in, TWO_COMMITMENT);
+    lend(&in, TWO_KEY(READ));
+    lend(&in, TWO_ROUNDS("rounds"));
+    lend(&in, U32("challenges", READ, 0, 1, 2));
+    lend(&in, I32("leaves", READ, 2, -1, 1, 0, 0, -1));
+    lend(&in, I64("w", WRITTEN, 21, 22, 23, 24));
+    return in;
+}
+
+static struct input two_judge_input(void) {
+    struct input in = two();
+    lend(&in, TWO_COMMITMENT);
+    lend(&in, TWO_KEY(READ));
+    lend(&in, I64("w", READ, 4, -4, 4, 0));
+    lend(&in, ZEROS("yes", SINGLE, 4, false, 1));
+    return in;
+}
+
 /* Degree 64 and depth 4, where a relaxed opening may grow too much; all numbers are 0, so that every path is accepted. */
 static struct input large(void) {
-    struct input in = {{64, 4, 17, 5}, 0, 0, 256, 0, {{0}}, 0};
-    lend(&in, ZEROS("commitment", READ, 8, false, wovenrock_element_length(64)));
-    lend(&in, ZEROS("key", READ, 8, false, wovenrock_table_length(64, 4)));
+    struct input in = {{64, 4, 17, 5, 1}, 0, 0, 256, 0, {{0}}, 0};
+    lend(&in, ZEROS("commitment", READ, 8, false, wovenrock_commitment_length(64, 1)));
+    lend(&in, ZEROS("key", READ, 8, false, wovenrock_key_length(64, 4, 1)));
     return in;
 }
 
@@ -526,7 +621,7 @@ static struct input large_judge_input(void) {
 
 static struct input large_extract_input(void) {
     struct input in = large();
-    lend(&in, ZEROS("rounds", READ, 8, false, wovenrock_tree_rounds_length(64, 4)));
+    lend(&in, ZEROS("rounds", READ, 8, false, wovenrock_tree_rounds_length(64, 4, 1)));
     lend(&in, ZEROS("challenges", READ, 4, false, wovenrock_tree_challenges_length(4)));
     for (size_t i = 0; i < in.slices[3].count; i++)
         put(&in.slices[3], i, (int64_t)i % 3);
@@ -535,7 +630,7 @@ static struct input large_extract_input(void) {
     return in;
 }
 
-#define TEXT_SETTINGS "part item place value\n0 0 0 2\n0 0 1 1\n0 0 2 17\n0 0 3 1\n"
+#define TEXT_SETTINGS "part item place value\n0 0 0 2\n0 0 1 1\n0 0 2 17\n0 0 3 1\n0 0 4 1\n"
 #define TEXT_KEY "1 0 0 3\n1 0 1 5\n1 1 0 7\n1 1 1 2\n"
 #define TEXT_MESSAGE "2 0 0 1\n2 0 1 -1\n2 1 0 1\n2 1 1 0\n"
 #define TEXT_OPENING "3 0 0 15\n3 0 1 4\n4 0 0 4\n4 0 1 1\n4 1 0 6\n4 1 1 0\n4 2 0 12\n4 2 1 1\n5 0 0 1\n6 0 0 1\n6 0 1 0\n"
@@ -543,7 +638,7 @@ static struct input large_extract_input(void) {
 static struct input look_input(void) {
     struct input in = worked();
     lend(&in, BYTES("text", TEXT, TEXT_SETTINGS TEXT_KEY));
-    lend(&in, U64("settings", WRITTEN, 21, 22, 23, 24));
+    lend(&in, U64("settings", WRITTEN, 21, 22, 23, 24, 25));
     return in;
 }
 
@@ -551,7 +646,7 @@ static struct input read_input(void) {
     struct input in = worked();
     in.parts = 63;
     lend(&in, BYTES("text", TEXT, TEXT_SETTINGS TEXT_KEY TEXT_MESSAGE TEXT_OPENING));
-    lend(&in, U64("settings", WRITTEN, 21, 22, 23, 24));
+    lend(&in, U64("settings", WRITTEN, 21, 22, 23, 24, 25));
     lend(&in, U64("key", WRITTEN, 21, 22, 23, 24));
     lend(&in, I32("message", WRITTEN, 21, 22, 23, 24));
     lend(&in, U64("commitment", WRITTEN, 21, 22));
@@ -561,12 +656,47 @@ static struct input read_input(void) {
     return in;
 }
 
+#define TWO_SETTINGS "part item place value\n0 0 0 2\n0 0 1 1\n0 0 2 17\n0 0 3 1\n0 0 4 2\n"
+#define TWO_TEXT_KEY TEXT_KEY "1 2 0 2\n1 2 1 0\n1 3 0 5\n1 3 1 0\n"
+#define TWO_OPENING \
+    "3 0 0 15\n3 0 1 4\n3 1 0 7\n3 1 1 15\n4 0 0 4\n4 0 1 1\n4 1 0 1\n4 1 1 16\n4 2 0 6\n4 2 1 0\n4 3 0 12\n4 3 1 6\n4 4 0 12\n4 4 1 1\n4 5 0 11\n4 5 1 0\n" \
+    "5 0 0 1\n6 0 0 1\n6 0 1 0\n"
+
+static struct input two_read_input(void) {
+    struct input in = two();
+    in.parts = 63;
+    lend(&in, BYTES("text", TEXT, TWO_SETTINGS TWO_TEXT_KEY TEXT_MESSAGE TWO_OPENING));
+    lend(&in, U64("settings", WRITTEN, 21, 22, 23, 24, 25));
+    lend(&in, U64("key", WRITTEN, 21, 22, 23, 24, 25, 26, 27, 28));
+    lend(&in, I32("message", WRITTEN, 21, 22, 23, 24));
+    lend(&in, U64("commitment", WRITTEN, 21, 22, 23, 24));
+    lend(&in, U64("rounds", WRITTEN, 21, 22, 23, 24, 25, 26, 27, 28, 29, 30, 31, 32));
+    lend(&in, U32("challenges", WRITTEN, 21));
+    lend(&in, I32("last", WRITTEN, 21, 22));
+    return in;
+}
+
+static struct input two_prove_input(void) {
+    struct input in = two();
+    lend(&in, BYTES("text", TEXT, TWO_SETTINGS TWO_TEXT_KEY TEXT_MESSAGE "5 0 0 1\n"));
+    lend(&in, ZEROS("out", OUT, 1, false, strlen(TWO_SETTINGS TWO_OPENING)));
+    lend(&in, ZEROS("count", SINGLE, 8, false, 1));
+    return in;
+}
+
+static struct input two_verify_input(void) {
+    struct input in = two();
+    lend(&in, BYTES("text", TEXT, TWO_SETTINGS TWO_TEXT_KEY TWO_OPENING));
+    lend(&in, VERDICT);
+    return in;
+}
+
 /* Only the key is wanted, and is there. */
 static struct input read_key_input(void) {
     struct input in = worked();
     in.parts = WOVENROCK_KEY;
     lend(&in, BYTES("text", TEXT, TEXT_SETTINGS TEXT_KEY));
-    lend(&in, U64("settings", WRITTEN, 21, 22, 23, 24));
+    lend(&in, U64("settings", WRITTEN, 21, 22, 23, 24, 25));
     lend(&in, U64("key", WRITTEN, 21, 22, 23, 24));
     lend(&in, ZEROS("message", WRITTEN, 4, true, 0));
     lend(&in, ZEROS("commitment", WRITTEN, 8, false, 0));
@@ -592,8 +722,8 @@ static struct input write_input(void) {
 
 /* A key of the largest settings, whose text is too long; the output has no room at all. */
 static struct input write_long_input(void) {
-    struct input in = {{64, 8, 17, 1}, 0, 0, 0, WOVENROCK_KEY, {{0}}, 0};
-    lend(&in, ZEROS("key", READ, 8, false, wovenrock_table_length(64, 8)));
+    struct input in = {{64, 8, 17, 1, 1}, 0, 0, 0, WOVENROCK_KEY, {{0}}, 0};
+    lend(&in, ZEROS("key", READ, 8, false, wovenrock_key_length(64, 8, 1)));
     lend(&in, ZEROS("message", READ, 4, true, 0));
     lend(&in, ZEROS("commitment", READ, 8, false, 0));
     lend(&in, ZEROS("rounds", READ, 8, false, 0));
@@ -623,37 +753,51 @@ static const struct scenario scenarios[] = {
     {"settings", settings, worked, 0, {FAULTY_SETTINGS, NO_MORE}},
     {"commit", commit, commit_input, 0, {FAULTY_SETTINGS, IN_SLICE(8, 0, 0, 17), IN_SLICE(9, 1, 0, -2), NO_MORE}},
     {"commit, degree 128", commit, largest_commit_input, 0, {IN_SETTING(3, 2, 12287), IN_SETTING(3, 2, 12288), IN_SETTING(3, 2, 24578), IN_SETTING(3, 2, -1),
-        IN_SETTING(4, 1, 9), IN_SETTING(6, 3, 0), IN_SLICE(8, 0, 255, 12289), IN_SLICE(9, 1, 255, 2), NO_MORE}},
+        IN_SETTING(4, 1, 9), IN_SETTING(6, 3, 0), IN_SETTING(16, 4, 5), IN_SLICE(8, 0, 1023, 12289), IN_SLICE(9, 1, 255, 2), NO_MORE}},
     {"round", prover_round, round_input, 0, {FAULTY_SETTINGS, IN_SLICE(8, 0, 0, 17), IN_SLICE(9, 1, 0, 2), IN_DONE(11, 1),
         IN_DONE(11, UINT32_MAX), NO_MORE}},
     {"fold", fold, fold_input, 0, {FAULTY_SETTINGS, IN_SLICE(8, 0, 0, 17), IN_SLICE(9, 1, 0, 2), IN_EXPONENT(10, 4),
         IN_DONE(11, 1), NO_MORE}},
     {"end", prover_end, end_input, 0, {FAULTY_SETTINGS, IN_SLICE(9, 0, 0, 3), IN_DONE(11, 0), IN_DONE(11, 2), NO_MORE}},
     {"open", whole, open_input, 0, {FAULTY_SETTINGS, IN_SLICE(8, 0, 0, 17), IN_SLICE(9, 1, 0, 2), IN_SLICE(10, 2, 0, 4), NO_MORE}},
+    {"open, two rows", whole, two_open_input, 0, {FAULTY_SETTINGS, IN_SLICE(8, 0, 7, 17), IN_SLICE(9, 1, 3, 2), IN_SLICE(10, 2, 0, 4), NO_MORE}},
     {"session_start", start, start_input, 0, {FAULTY_SETTINGS, IN_SLICE(8, 0, 0, 17), NO_MORE}},
     {"session_round", session_round, session_round_input, 0, {FAULTY_RECORD(1), IN_SLICE(8, 0, 0, 17), IN_EXPONENT(10, 4),
-        IN_SLICE(11, 1, 4, 1), NO_MORE}},
-    {"session_end", session_end, session_end_input, 0, {FAULTY_RECORD(2), IN_SLICE(8, 1, 0, 17), IN_SLICE(11, 2, 4, 0), NO_MORE}},
+        IN_SLICE(11, 1, DONE_AT, 1), NO_MORE}},
+    {"session_round, two rows", session_round, two_session_round_input, 0, {FAULTY_RECORD(1), IN_SLICE(8, 0, 11, 17), IN_SLICE(8, 1, CLAIM_AT(1) + 1, 17),
+        IN_EXPONENT(10, 4), IN_SLICE(11, 1, DONE_AT, 1), NO_MORE}},
+    {"session_end", session_end, session_end_input, 0, {FAULTY_RECORD(2), IN_SLICE(8, 1, 0, 17), IN_SLICE(11, 2, DONE_AT, 0), NO_MORE}},
+    {"session_end, two rows", session_end, two_session_end_input, 0, {FAULTY_RECORD(2), IN_SLICE(8, 1, 7, 17), IN_SLICE(8, 2, CLAIM_AT(1), 17),
+        IN_SLICE(11, 2, DONE_AT, 0), NO_MORE}},
     {"check", check, check_input, 0, {FAULTY_SETTINGS, IN_SLICE(8, 0, 0, 17), IN_SLICE(8, 2, 0, 17), IN_SLICE(8, 3, 0, 17), IN_SLICE(10, 4, 0, 4), NO_MORE}},
     {"judge", judge, judge_input, 0, {FAULTY_SETTINGS, IN_SLICE(8, 0, 0, 17), IN_SLICE(8, 1, 0, 17), IN_SLACK(15, 0),
         IN_SLACK(15, 65537), IN_SLACK(15, 17), NO_MORE}},
+    {"judge, two rows", judge, two_judge_input, 0, {FAULTY_SETTINGS, IN_SLICE(8, 0, 3, 17), IN_SLICE(8, 1, 7, 17), IN_SLACK(15, 0), NO_MORE}},
     {"judge, growth", judge, large_judge_input, 14, {IN_SLICE(8, 0, 0, 17), IN_SLACK(14, 0), NO_MORE}},
     {"extract", extract, extract_input, 0, {FAULTY_SETTINGS, IN_SLICE(8, 0, 0, 17), IN_SLICE(8, 1, 0, 17), IN_SLICE(8, 2, 0, 17), IN_SLICE(10, 3, 0, 4),
         IN_SLICE(12, 3, 0, 1), IN_SLICE(13, 4, 0, 1), IN_SLICE(13, 4, 0, 3), NO_MORE}},
+    {"extract, two rows", extract, two_extract_input, 0, {FAULTY_SETTINGS, IN_SLICE(8, 0, 3, 17), IN_SLICE(8, 1, 7, 17), IN_SLICE(8, 2, 11, 17),
+        IN_SLICE(12, 3, 0, 1), IN_SLICE(13, 0, 3, 14), IN_SLICE(13, 2, 3, 15), IN_SLICE(13, 1, 6, 6), NO_MORE}},
     {"extract, growth", extract, large_extract_input, 14, {IN_SLICE(8, 0, 0, 17), IN_SLICE(13, 4, 0, 81), NO_MORE}},
     {"look", look, look_input, 0, {FAULTY_TEXT, NO_MORE}},
     {"read", reads, read_input, 0, {FAULTY_TEXT, IN_LINE(7, "2 1 1 0\n", ""), IN_LINE(8, "1 0 0 3\n", "1 0 0 17\n"), IN_LINE(8, "1 0 0 3\n", "1 0 0 -1\n"),
         IN_LINE(2, "2 0 0 1\n", "2 0 0 4294967296\n"), IN_LINE(8, "1 0 0 3\n", "1 0 0 2305843009213693951\n"),
         IN_LINE(9, "2 0 0 1\n", "2 0 0 2\n"), IN_LINE(10, "5 0 0 1\n", "5 0 0 4\n"), IN_PARTS(7, 62), IN_PARTS(7, 127),
         IN_PARTS(7, 63 + (INT64_C(1) << 31)), NO_MORE}},
+    {"read, two rows", reads, two_read_input, 0, {IN_LINE(16, "0 0 4 2\n", "0 0 4 0\n"), IN_LINE(7, "0 0 4 2\n", "0 0 4 1\n"), IN_LINE(7, "0 0 4 2\n", "0 0 4 3\n"),
+        IN_LINE(7, "1 3 1 0\n", ""), IN_LINE(8, "1 3 0 5\n", "1 3 0 17\n"), IN_LINE(8, "3 1 1 15\n", "3 1 1 17\n"), IN_LINE(8, "4 5 0 11\n", "4 5 0 17\n"),
+        NO_MORE}},
     {"read, a key", reads, read_key_input, 0, {FAULTY_TEXT, IN_PARTS(7, 0), IN_PARTS(7, 65), NO_MORE}},
     {"write", writes, write_input, 0, {FAULTY_SETTINGS, IN_SLICE(8, 0, 0, 17), IN_SLICE(8, 2, 0, 17), IN_SLICE(8, 3, 0, 17), IN_SLICE(9, 1, 0, 2),
         IN_SLICE(9, 5, 0, INT32_MIN), IN_SLICE(10, 4, 0, 4), IN_PARTS(7, 62), IN_PARTS(7, 127), NO_MORE}},
     {"write, too long", writes, write_long_input, 1, {FAULTY_SETTINGS, IN_SLICE(8, 0, 0, 17), IN_PARTS(7, 65), NO_MORE}},
     {"prove", prove, prove_input, 0, {FAULTY_TEXT, IN_LINE(7, "2 1 1 0\n", ""), IN_LINE(8, "1 0 0 3\n", "1 0 0 17\n"), IN_LINE(9, "2 0 0 1\n", "2 0 0 2\n"),
         IN_LINE(10, "5 0 0 1\n", "5 0 0 4\n"), NO_MORE}},
+    {"prove, two rows", prove, two_prove_input, 0, {IN_LINE(16, "0 0 4 2\n", "0 0 4 5\n"), IN_LINE(7, "0 0 4 2\n", "0 0 4 1\n"), IN_LINE(8, "1 3 0 5\n", "1 3 0 17\n"),
+        NO_MORE}},
     {"verify", verify, verify_input, 0, {FAULTY_TEXT, IN_LINE(7, "3 0 1 4\n", ""), IN_LINE(8, "4 2 1 1\n", "4 2 1 17\n"), IN_LINE(10, "5 0 0 1\n", "5 0 0 4\n"),
         NO_MORE}},
+    {"verify, two rows", verify, two_verify_input, 0, {IN_LINE(16, "0 0 4 2\n", "0 0 4 5\n"), IN_LINE(7, "3 1 1 15\n", ""), IN_LINE(8, "4 5 0 11\n", "4 5 0 17\n"), NO_MORE}},
 };
 
 int main(void) {

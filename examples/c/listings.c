@@ -6,8 +6,9 @@
 
 #include "wovenrock.h"
 
-/* Where the extractor's growth is not refused, a key has at most 1024 numbers. */
-enum { ROOM = 1 << 20, TABLE_MOST = 1024, PATH_MOST = 3 * WOVENROCK_DEPTH_MAX * WOVENROCK_DEGREE_MAX };
+/* Where the extractor's growth is not refused, a message has at most 1024 numbers. */
+enum { ROOM = 1 << 20, TABLE_MOST = 1024, KEY_MOST = WOVENROCK_ROWS_MAX * TABLE_MOST, COMMITMENT_MOST = WOVENROCK_ROWS_MAX * WOVENROCK_DEGREE_MAX };
+enum { PATH_MOST = 3 * WOVENROCK_DEPTH_MAX * COMMITMENT_MOST };
 
 static uint8_t input[ROOM + 1];
 
@@ -51,19 +52,20 @@ int main(void) {
 
     uint64_t settings[WOVENROCK_SETTINGS];
     not_refused("look", wovenrock_look(text, text_length(text), settings, WOVENROCK_SETTINGS));
-    uint32_t degree = (uint32_t)settings[0], depth = (uint32_t)settings[1], bound = (uint32_t)settings[3];
+    uint32_t degree = (uint32_t)settings[0], depth = (uint32_t)settings[1], bound = (uint32_t)settings[3], rows = (uint32_t)settings[4];
     uint64_t modulus = settings[2];
-    size_t d = wovenrock_element_length(degree), table = wovenrock_table_length(degree, depth), polynomial = wovenrock_polynomial_length(degree);
+    size_t d = wovenrock_element_length(degree), table = wovenrock_table_length(degree, depth), polynomial = wovenrock_polynomial_length(degree, rows);
+    size_t key_length = wovenrock_key_length(degree, depth, rows), commitment_length = wovenrock_commitment_length(degree, rows);
     size_t leaves_count = wovenrock_leaf_count(depth), nodes = wovenrock_node_count(depth);
     if (table > TABLE_MOST)
         stop("a relaxed opening would grow too much");
 
-    uint64_t *none = room(0, sizeof *none), key[TABLE_MOST], commitment[WOVENROCK_DEGREE_MAX], first_commitment[WOVENROCK_DEGREE_MAX];
+    uint64_t *none = room(0, sizeof *none), key[KEY_MOST], commitment[COMMITMENT_MOST], first_commitment[COMMITMENT_MOST];
     uint32_t *no_challenges = room(0, sizeof *no_challenges);
     int32_t *no_message = room(0, sizeof *no_message);
-    not_refused("read", wovenrock_read(WOVENROCK_KEY, text, text_length(text), settings, WOVENROCK_SETTINGS, key, table, no_message, 0, none, 0, none, 0,
+    not_refused("read", wovenrock_read(WOVENROCK_KEY, text, text_length(text), settings, WOVENROCK_SETTINGS, key, key_length, no_message, 0, none, 0, none, 0,
                                        no_challenges, 0, no_message, 0));
-    uint64_t *rounds = room(wovenrock_tree_rounds_length(degree, depth), sizeof *rounds);
+    uint64_t *rounds = room(wovenrock_tree_rounds_length(degree, depth, rows), sizeof *rounds);
     uint32_t *challenges = room(wovenrock_tree_challenges_length(depth), sizeof *challenges);
     int32_t *leaves = room(wovenrock_leaves_length(degree, depth), sizeof *leaves);
 
@@ -72,11 +74,11 @@ int main(void) {
         uint64_t path_rounds[PATH_MOST], found[WOVENROCK_SETTINGS];
         uint32_t path_challenges[WOVENROCK_DEPTH_MAX];
         const uint32_t parts = WOVENROCK_COMMITMENT | WOVENROCK_ROUNDS | WOVENROCK_CHALLENGES | WOVENROCK_LAST;
-        not_refused("read", wovenrock_read(parts, text, text_length(text), found, WOVENROCK_SETTINGS, none, 0, no_message, 0, commitment, d, path_rounds,
-                                           wovenrock_rounds_length(degree, depth), path_challenges, depth, &leaves[leaf * d], d));
+        not_refused("read", wovenrock_read(parts, text, text_length(text), found, WOVENROCK_SETTINGS, none, 0, no_message, 0, commitment, commitment_length,
+                                           path_rounds, wovenrock_rounds_length(degree, depth, rows), path_challenges, depth, &leaves[leaf * d], d));
         if (memcmp(found, settings, sizeof settings) != 0)
             stop("a listing has other settings");
-        share(first_commitment, commitment, d * sizeof *commitment, leaf > 0);
+        share(first_commitment, commitment, commitment_length * sizeof *commitment, leaf > 0);
 
         /* From the root on, the digits of the leaf's number in base 3 say which child is next. */
         size_t node = 0;
@@ -92,15 +94,15 @@ int main(void) {
     printf("%zu listings, %zu branching nodes\n", leaves_count, nodes);
 
     int64_t w[TABLE_MOST];
-    not_refused("extract", wovenrock_extract(degree, depth, modulus, bound, commitment, d, key, table, rounds, nodes * polynomial, challenges, 3 * nodes, leaves,
-                                             leaves_count * d, w, table));
+    not_refused("extract", wovenrock_extract(degree, depth, modulus, bound, rows, commitment, commitment_length, key, key_length, rounds, nodes * polynomial, challenges,
+                                             3 * nodes, leaves, leaves_count * d, w, table));
     printf("w:");
     for (size_t i = 0; i < table; i++)
         printf(" %lld", (long long)w[i]);
     printf("\n");
 
     uint32_t slack = wovenrock_extracted_slack(depth), yes;
-    not_refused("judge", wovenrock_judge(degree, depth, modulus, bound, commitment, d, slack, key, table, w, table, &yes));
+    not_refused("judge", wovenrock_judge(degree, depth, modulus, bound, rows, commitment, commitment_length, slack, key, key_length, w, table, &yes));
     printf("opens %u times the commitment: %s\n", slack, yes ? "yes" : "no");
     free(none), free(no_challenges), free(no_message), free(rounds), free(challenges), free(leaves);
     return yes != 1;

@@ -6,12 +6,12 @@
 
 #include "wovenrock.h"
 
-enum { DEGREE = 8, DEPTH = 3, BOUND = 3 };
+enum { DEGREE = 8, DEPTH = 3, BOUND = 3, ROWS = 1 };
 enum { TABLE = DEGREE << DEPTH };
 
 /* The largest modulus, 2^61 - 1. */
 #define MODULUS WOVENROCK_MODULUS_MAX
-#define SETTINGS DEGREE, DEPTH, MODULUS, BOUND
+#define SETTINGS DEGREE, DEPTH, MODULUS, BOUND, ROWS
 
 /* 0 says that the call was not refused, and nothing more. */
 static void not_refused(const char *call, uint32_t number) {

@@ -35,30 +35,31 @@ int main(void) {
         printf("look: refused %u: %s\n", number, wovenrock_word(number));
         return 1;
     }
-    uint32_t degree = (uint32_t)settings[0], depth = (uint32_t)settings[1], bound = (uint32_t)settings[3];
+    uint32_t degree = (uint32_t)settings[0], depth = (uint32_t)settings[1], bound = (uint32_t)settings[3], rows = (uint32_t)settings[4];
     uint64_t modulus = settings[2];
-    printf("degree %u, depth %u, modulus %" PRIu64 ", bound %u\n", degree, depth, modulus, bound);
+    printf("degree %u, depth %u, modulus %" PRIu64 ", bound %u, rows %u\n", degree, depth, modulus, bound, rows);
 
     /* The settings give every length; the message is absent, and its slice has length 0. */
-    size_t table = wovenrock_table_length(degree, depth), element = wovenrock_element_length(degree);
-    size_t rounds_length = wovenrock_rounds_length(degree, depth), challenges_length = wovenrock_challenges_length(depth);
-    uint64_t *key = room(table, sizeof *key), *commitment = room(element, sizeof *commitment), *rounds = room(rounds_length, sizeof *rounds);
+    size_t key_length = wovenrock_key_length(degree, depth, rows), commitment_length = wovenrock_commitment_length(degree, rows);
+    size_t rounds_length = wovenrock_rounds_length(degree, depth, rows), challenges_length = wovenrock_challenges_length(depth);
+    size_t element = wovenrock_element_length(degree);
+    uint64_t *key = room(key_length, sizeof *key), *commitment = room(commitment_length, sizeof *commitment), *rounds = room(rounds_length, sizeof *rounds);
     uint32_t *challenges = room(challenges_length, sizeof *challenges);
     int32_t *last = room(element, sizeof *last), *message = room(0, sizeof *message);
     uint32_t parts = WOVENROCK_KEY | WOVENROCK_COMMITMENT | WOVENROCK_ROUNDS | WOVENROCK_CHALLENGES | WOVENROCK_LAST;
-    number = wovenrock_read(parts, text, read, settings, WOVENROCK_SETTINGS, key, table, message, 0, commitment, element, rounds, rounds_length, challenges,
+    number = wovenrock_read(parts, text, read, settings, WOVENROCK_SETTINGS, key, key_length, message, 0, commitment, commitment_length, rounds, rounds_length, challenges,
                             challenges_length, last, element);
     if (number != WOVENROCK_NOT_REFUSED) {
         printf("read: refused %u: %s\n", number, wovenrock_word(number));
         return 1;
     }
     printf("commitment:");
-    for (size_t k = 0; k < element; k++)
+    for (size_t k = 0; k < commitment_length; k++)
         printf(" %" PRIu64, commitment[k]);
     printf("\n");
 
     size_t written;
-    number = wovenrock_write(degree, depth, modulus, bound, parts, key, table, message, 0, commitment, element, rounds, rounds_length, challenges,
+    number = wovenrock_write(degree, depth, modulus, bound, rows, parts, key, key_length, message, 0, commitment, commitment_length, rounds, rounds_length, challenges,
                              challenges_length, last, element, out, sizeof out, &written);
     if (number != WOVENROCK_NOT_REFUSED) {
         printf("write: refused %u: %s\n", number, wovenrock_word(number));
@@ -70,7 +71,7 @@ int main(void) {
 
     /* Another final element is well formed, and is rejected. */
     last[0] = last[0] == 0 ? 1 : 0;
-    number = wovenrock_write(degree, depth, modulus, bound, parts, key, table, message, 0, commitment, element, rounds, rounds_length, challenges,
+    number = wovenrock_write(degree, depth, modulus, bound, rows, parts, key, key_length, message, 0, commitment, commitment_length, rounds, rounds_length, challenges,
                              challenges_length, last, element, out, sizeof out, &written);
     if (number == WOVENROCK_NOT_REFUSED)
         print_verdict("with another final element", out, written);

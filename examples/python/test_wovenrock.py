@@ -7,6 +7,9 @@ from wovenrock import Library, Refused
 
 KEY, MESSAGE, COMMITMENT = [3, 5, 7, 2], [1, -1, 1, 0], [15, 4]
 ROUNDS, LAST = [4, 1, 6, 0, 12, 1], [1, 0]
+# the same with a second row in the key, of weights 2 and 5
+TWO_KEY, TWO_COMMITMENT = KEY + [2, 0, 5, 0], COMMITMENT + [7, 15]
+TWO_ROUNDS = [4, 1, 1, 16, 6, 0, 12, 6, 12, 1, 11, 0]
 TRANSCRIPT = {"key": KEY, "commitment": COMMITMENT, "rounds": ROUNDS, "challenges": [1], "last": LAST}
 
 
@@ -23,6 +26,9 @@ class WorkedExample(unittest.TestCase):
     def test_settings(self):
         self.refused(3, self.library.settings, 3, 1, 17, 1)
         self.refused(6, self.library.settings, 2, 1, 17, 0)
+        for rows in (0, 5, 2**31, 2**32 - 1):
+            self.refused(16, self.library.settings, 2, 1, 17, 1, rows)
+        self.refused(6, self.library.settings, 2, 1, 17, 0, 5)
         self.assertRaises(ValueError, self.library.settings, 2**32 + 2, 1, 17, 1)
 
     def test_moves(self):
@@ -71,6 +77,31 @@ class WorkedExample(unittest.TestCase):
         listing = {name: TRANSCRIPT[name] for name in ("commitment", "rounds", "challenges", "last")}
         self.assertEqual(self.library.prove(asked), self.library.write(self.settings, listing))
 
+    def test_two_rows(self):
+        library = self.library
+        settings = library.settings(2, 1, 17, 1, 2)
+        self.assertEqual(library.commit(settings, TWO_KEY, MESSAGE), TWO_COMMITMENT)
+        opened = library.open(settings, TWO_KEY, MESSAGE, [1])
+        self.assertEqual((opened.commitment, opened.rounds, opened.last), (TWO_COMMITMENT, TWO_ROUNDS, LAST))
+        self.assertEqual(opened.key, [1, 12, 7, 2, 2, 5, 5, 0])
+        record = library.start(settings, TWO_COMMITMENT)
+        self.assertEqual((record[15:17], record[143:145]), (COMMITMENT, [7, 15]))
+        after, holds = library.session_round(record, TWO_ROUNDS, 1)
+        self.assertTrue(holds)
+        self.assertEqual((after[15:17], after[143:145]), ([9, 6], [1, 11]))
+        self.assertTrue(library.session_end(after, LAST, TWO_KEY)[1])
+        w = library.extract(settings, TWO_COMMITMENT, TWO_KEY, TWO_ROUNDS, [0, 1, 2], [2, -1, 1, 0, 0, -1])
+        self.assertEqual(w, [4, -4, 4, 0])
+        self.assertTrue(library.judge(settings, TWO_COMMITMENT, 4, TWO_KEY, w))
+        # one row that does not hold is enough
+        self.assertFalse(library.judge(settings, COMMITMENT + [7, 14], 4, TWO_KEY, w))
+        self.assertFalse(library.check(settings, COMMITMENT + [7, 14], LAST, TWO_KEY, TWO_ROUNDS, [1]))
+        tables = {"key": TWO_KEY, "commitment": TWO_COMMITMENT, "rounds": TWO_ROUNDS, "challenges": [1], "last": LAST}
+        text = library.write(settings, tables)
+        self.assertIn(b"0 0 4 2\n1 0 0 3\n", text)
+        self.assertEqual(library.read(text, tables), (settings, tables))
+        self.assertTrue(library.verify(text))
+
     def test_largest_modulus(self):
         library, q = self.library, 2**61 - 1
         settings = library.settings(2, 1, q, 1)
@@ -98,15 +129,18 @@ class WorkedExample(unittest.TestCase):
         self.assertTrue(opened.accepted)
         self.assertTrue(library.check(settings, opened.commitment, opened.last, key, opened.rounds, challenges))
         record = library.start(settings, opened.commitment)
-        self.assertEqual((len(record), record[14:]), (142, opened.commitment))
+        self.assertEqual((len(record), record[15:143]), (527, opened.commitment))
+        self.assertEqual(set(record[143:]), {0})
 
     def test_lengths(self):
         self.refused(7, self.library.commit, self.settings, KEY + [0], MESSAGE)
         self.refused(7, self.library.start, self.settings, [15])
-        self.refused(7, self.library.session_round, [0] * 141, ROUNDS, 1)
+        self.refused(7, self.library.session_round, [0] * 526, ROUNDS, 1)
         deep = self.library.settings(4, 2, 17, 1)
         lengths = (deep.element, deep.polynomial, deep.table, deep.rounds, deep.challenges, deep.nodes, deep.leaves, deep.slack)
         self.assertEqual(lengths, (4, 12, 16, 24, 2, 4, 9, 16))
+        deep = self.library.settings(4, 2, 17, 1, 3)
+        self.assertEqual((deep.commitment, deep.polynomial, deep.key, deep.table, deep.rounds), (12, 36, 48, 16, 72))
 
 
 if __name__ == "__main__":

@@ -1,13 +1,13 @@
-//! The refusals of each call on tables, in number order over its whole
-//! input. Refusal 13, which runs the verifier, is left to the extractor.
+//! The refusals of each call on tables, in number order, but 16 straight after
+//! 6, over its whole input. Refusal 13, which runs the verifier, is left to the extractor.
 
 use crate::refuse::{self, Checked, Shape};
-use crate::types::{Polynomial, Record, Residue, Residues, Settings};
+use crate::types::{Polynomial, Record, Residue, Rows, Settings};
 
 /// Call 1.
 pub fn commit(s: Settings, key: &[Residue], message: &[i32]) -> Checked<Shape> {
     let shape = refuse::settings(s)?;
-    refuse::sizes(&[(key.len(), shape.table()), (message.len(), shape.table())])?;
+    refuse::sizes(&[(key.len(), shape.key()), (message.len(), shape.table())])?;
     refuse::residues(key, shape.q)?;
     refuse::tall(message, shape.b)?;
     Ok(shape)
@@ -20,11 +20,11 @@ fn tall_left(shape: &Shape, t: u32, message: &[i32]) -> Checked<()> {
     refuse::tall(&message[..left], shape.b << t)
 }
 
-/// Refusals 3 to 9 of the prover's round and fold; 9 is not tested with t at
+/// Refusals 3 to 9, and 16, of the prover's round and fold; 9 is not tested with t at
 /// or over L.
 fn both_tables(s: Settings, t: u32, key: &[Residue], message: &[i32]) -> Checked<Shape> {
     let shape = refuse::settings(s)?;
-    refuse::sizes(&[(key.len(), shape.table()), (message.len(), shape.table())])?;
+    refuse::sizes(&[(key.len(), shape.key()), (message.len(), shape.table())])?;
     refuse::residues(key, shape.q)?;
     if t < s.depth {
         tall_left(&shape, t, message)?;
@@ -68,7 +68,7 @@ pub fn opening(
 ) -> Checked<Shape> {
     let shape = refuse::settings(s)?;
     refuse::sizes(&[
-        (key.len(), shape.table()),
+        (key.len(), shape.key()),
         (message.len(), shape.table()),
         (challenges.len(), shape.l),
         (rounds.len(), shape.rounds()),
@@ -80,18 +80,18 @@ pub fn opening(
 }
 
 /// Call 6.
-pub fn session_start(s: Settings, commitment: &Residues) -> Checked<Shape> {
+pub fn session_start(s: Settings, commitment: &Rows) -> Checked<Shape> {
     let shape = refuse::settings(s)?;
-    refuse::element_residues(commitment, &shape)?;
+    refuse::row_residues(commitment, &shape)?;
     Ok(shape)
 }
 
 /// Call 7.
 pub fn session_round(record: &Record, polynomial: &Polynomial, e: u32) -> Checked<Shape> {
     let shape = refuse::settings(record.settings)?;
-    refuse::element_residues(&record.claim, &shape)?;
+    refuse::row_residues(&record.claims, &shape)?;
     for c in polynomial {
-        refuse::element_residues(c, &shape)?;
+        refuse::row_residues(c, &shape)?;
     }
     refuse::challenges(&record.challenges, &shape)?;
     refuse::challenges(&[e], &shape)?;
@@ -102,9 +102,9 @@ pub fn session_round(record: &Record, polynomial: &Polynomial, e: u32) -> Checke
 /// Call 8.
 pub fn session_end(record: &Record, key: &[Residue]) -> Checked<Shape> {
     let shape = refuse::settings(record.settings)?;
-    refuse::sizes(&[(key.len(), shape.table())])?;
+    refuse::sizes(&[(key.len(), shape.key())])?;
     refuse::residues(key, shape.q)?;
-    refuse::element_residues(&record.claim, &shape)?;
+    refuse::row_residues(&record.claims, &shape)?;
     refuse::challenges(&record.challenges, &shape)?;
     refuse::turn(record.done == record.settings.depth && !record.closed)?;
     Ok(shape)
@@ -113,19 +113,19 @@ pub fn session_end(record: &Record, key: &[Residue]) -> Checked<Shape> {
 /// Call 9.
 pub fn check(
     s: Settings,
-    commitment: &Residues,
+    commitment: &Rows,
     key: &[Residue],
     rounds: &[Residue],
     challenges: &[u32],
 ) -> Checked<Shape> {
     let shape = refuse::settings(s)?;
     refuse::sizes(&[
-        (key.len(), shape.table()),
+        (key.len(), shape.key()),
         (rounds.len(), shape.rounds()),
         (challenges.len(), shape.l),
     ])?;
     refuse::residues(key, shape.q)?;
-    refuse::element_residues(commitment, &shape)?;
+    refuse::row_residues(commitment, &shape)?;
     refuse::residues(rounds, shape.q)?;
     refuse::challenges(challenges, &shape)?;
     Ok(shape)
@@ -134,24 +134,24 @@ pub fn check(
 /// Call 10: also answers the bound (8·d²)^L·B.
 pub fn judge(
     s: Settings,
-    commitment: &Residues,
+    commitment: &Rows,
     c: u32,
     key: &[Residue],
     w: &[i64],
 ) -> Checked<(Shape, i64)> {
     let shape = refuse::settings(s)?;
-    refuse::sizes(&[(key.len(), shape.table()), (w.len(), shape.table())])?;
+    refuse::sizes(&[(key.len(), shape.key()), (w.len(), shape.table())])?;
     refuse::residues(key, shape.q)?;
-    refuse::element_residues(commitment, &shape)?;
+    refuse::row_residues(commitment, &shape)?;
     let bound = refuse::growth(&shape)?;
     refuse::slack(c, &shape)?;
     Ok((shape, bound))
 }
 
-/// Call 11, refusals 3 to 12; 13 and 14 come after these.
+/// Call 11, refusals 3 to 12, and 16; 13 and 14 come after these.
 pub fn tree(
     s: Settings,
-    commitment: &Residues,
+    commitment: &Rows,
     key: &[Residue],
     rounds: &[Residue],
     challenges: &[u32],
@@ -160,14 +160,14 @@ pub fn tree(
 ) -> Checked<Shape> {
     let shape = refuse::settings(s)?;
     refuse::sizes(&[
-        (key.len(), shape.table()),
-        (rounds.len(), 3 * shape.nodes() * shape.d),
+        (key.len(), shape.key()),
+        (rounds.len(), shape.tree_rounds()),
         (challenges.len(), 3 * shape.nodes()),
         (leaves.len(), shape.leaves() * shape.d),
         (w.len(), shape.table()),
     ])?;
     refuse::residues(key, shape.q)?;
-    refuse::element_residues(commitment, &shape)?;
+    refuse::row_residues(commitment, &shape)?;
     refuse::residues(rounds, shape.q)?;
     refuse::challenges(challenges, &shape)?;
     refuse::twins(challenges)?;

@@ -1,7 +1,9 @@
 //! The table of refusals. Every test answers `Err(number)` when its refusal
-//! applies; the calls run the tests in number order over their whole input.
+//! applies; the calls run the tests in number order over their whole input,
+//! but 16 straight after 6.
 
-use crate::types::{Residue, Residues, Settings, ITS_MODULUS, LARGEST_DEGREE, LARGEST_MODULUS};
+use crate::types::{Residue, Residues, Rows, Settings};
+use crate::types::{ITS_MODULUS, LARGEST_DEGREE, LARGEST_MODULUS};
 
 pub const LONG: u32 = 1;
 pub const TEXT: u32 = 2;
@@ -18,34 +20,70 @@ pub const TWIN: u32 = 12;
 pub const BRANCH: u32 = 13;
 pub const GROWTH: u32 = 14;
 pub const SLACK: u32 = 15;
+pub const ROWS: u32 = 16;
+
+/// The place of a number in the order of the tests.
+pub fn place(number: u32) -> u32 {
+    match number {
+        ROWS => 2 * BOUND + 1,
+        _ => 2 * number,
+    }
+}
 
 /// The number of a refusal, as an error.
 pub type Checked<T> = Result<T, u32>;
 
-/// Settings that have passed refusals 3 to 6, as sizes for loops.
+/// Settings that have passed refusals 3 to 6 and 16, as sizes for loops.
 #[derive(Clone, Copy, Debug, PartialEq, Eq)]
 pub struct Shape {
     /// Degree.
     pub d: usize,
     /// Depth.
     pub l: usize,
-    /// Elements of a table, 2^L.
+    /// Elements of a message, and of one row of a key, 2^L.
     pub n: usize,
     /// Modulus.
     pub q: Residue,
     /// Bound.
     pub b: i64,
+    /// Rows of a key.
+    pub rows: usize,
 }
 
 impl Shape {
-    /// Coefficients of a table of n elements.
+    /// Coefficients of a table of n elements: a message, a row of a key.
     pub fn table(&self) -> usize {
         self.n * self.d
     }
 
+    /// Coefficients of a key.
+    pub fn key(&self) -> usize {
+        self.rows * self.table()
+    }
+
+    /// Coefficients of a commitment.
+    pub fn commitment(&self) -> usize {
+        self.rows * self.d
+    }
+
+    /// Coefficients of one round polynomial.
+    pub fn polynomial(&self) -> usize {
+        3 * self.rows * self.d
+    }
+
     /// Coefficients of the round elements of one transcript.
     pub fn rounds(&self) -> usize {
-        3 * self.l * self.d
+        self.l * self.polynomial()
+    }
+
+    /// Coefficients of the round elements of a full tree.
+    pub fn tree_rounds(&self) -> usize {
+        self.nodes() * self.polynomial()
+    }
+
+    /// The item of c_j of one row in round `t`+1, or at node `t` of a tree.
+    pub fn item(&self, t: usize, j: usize, row: usize) -> usize {
+        self.rows * (3 * t + j) + row
     }
 
     /// Branching nodes of a full tree.
@@ -81,19 +119,21 @@ fn listed(s: Settings) -> bool {
     }
 }
 
-/// Refusals 3 to 6.
+/// Refusals 3 to 6, and 16.
 pub fn settings(s: Settings) -> Checked<Shape> {
     unless(DEGREE, listed(s))?;
     unless(DEPTH, s.depth <= 8)?;
     let in_range = (3..=LARGEST_MODULUS).contains(&s.modulus);
     unless(MODULUS, in_range && s.modulus % 2 == 1)?;
     unless(BOUND, (1..=127).contains(&s.bound))?;
+    unless(ROWS, (1..=4).contains(&s.rows))?;
     Ok(Shape {
         d: s.degree as usize,
         l: s.depth as usize,
         n: 1 << s.depth,
         q: s.modulus,
         b: i64::from(s.bound),
+        rows: s.rows as usize,
     })
 }
 
@@ -110,8 +150,15 @@ pub fn residues(table: &[Residue], q: Residue) -> Checked<()> {
 }
 
 /// Refusal 8 for an element by value: places from the degree on are not read.
-pub fn element_residues(element: &Residues, shape: &Shape) -> Checked<()> {
+fn element_residues(element: &Residues, shape: &Shape) -> Checked<()> {
     residues(&element[..shape.d], shape.q)
+}
+
+/// Refusal 8 for what is passed by value for each row: places past the rows
+/// are not read.
+pub fn row_residues(elements: &Rows, shape: &Shape) -> Checked<()> {
+    let mut rows = elements[..shape.rows].iter();
+    rows.try_for_each(|element| element_residues(element, shape))
 }
 
 /// Refusal 9: every coefficient within plus or minus `bound`.

@@ -7,6 +7,10 @@ pub const PLACES: usize = 128;
 pub const LARGEST_DEGREE: u32 = 128;
 pub const ITS_MODULUS: Residue = 12_289;
 
+/// The most rows of a key, and the places for rows in what is passed by value
+/// for each row.
+pub const ROWS: usize = 4;
+
 /// Places of the list of challenges in a session record.
 pub const ROUNDS: usize = 8;
 
@@ -30,8 +34,12 @@ pub type Residues = [Residue; PLACES];
 /// An element over whole numbers by value.
 pub type Wholes = [i32; PLACES];
 
-/// A round polynomial by value: c0, c1, c2.
-pub type Polynomial = [Residues; 3];
+/// What is passed by value for each row: an element modulo q. Those past the
+/// rows are 0 when new.
+pub type Rows = [Residues; ROWS];
+
+/// A round polynomial by value: c0, c1, c2, each with an element a row.
+pub type Polynomial = [Rows; 3];
 
 /// Which of the text's parts 1 to 6 are there: key, message, commitment,
 /// rounds, challenges, final element. Part 0, the settings, always is.
@@ -39,7 +47,8 @@ pub type Parts = [bool; 6];
 
 pub const ZERO_RESIDUES: Residues = [0; PLACES];
 pub const ZERO_WHOLES: Wholes = [0; PLACES];
-pub const ZERO_POLYNOMIAL: Polynomial = [ZERO_RESIDUES; 3];
+pub const ZERO_ROWS: Rows = [ZERO_RESIDUES; ROWS];
+pub const ZERO_POLYNOMIAL: Polynomial = [ZERO_ROWS; 3];
 
 /// Verdicts as numbers in the answers.
 pub const NONE: u32 = 0;
@@ -47,23 +56,31 @@ pub const HOLDS: u32 = 1;
 pub const ACCEPTED: u32 = 2;
 pub const REJECTED: u32 = 3;
 
-/// The settings d, L, q, B.
+/// The settings d, L, q, B and the number of rows.
 #[derive(Clone, Copy, Debug, PartialEq, Eq, Default)]
 pub struct Settings {
     pub degree: u32,
     pub depth: u32,
     pub modulus: Residue,
     pub bound: u32,
+    pub rows: u32,
 }
 
 impl Settings {
+    /// Settings of a key with one row.
     pub fn new(degree: u32, depth: u32, modulus: Residue, bound: u32) -> Settings {
         Settings {
             degree,
             depth,
             modulus,
             bound,
+            rows: 1,
         }
+    }
+
+    /// The same with another number of rows.
+    pub fn with_rows(self, rows: u32) -> Settings {
+        Settings { rows, ..self }
     }
 }
 
@@ -72,7 +89,7 @@ impl Settings {
 pub struct Record {
     pub settings: Settings,
     pub done: u32,
-    pub claim: Residues,
+    pub claims: Rows,
     pub challenges: [u32; ROUNDS],
     pub closed: bool,
 }
@@ -83,15 +100,16 @@ impl Record {
         Record {
             settings: Settings::default(),
             done: 0,
-            claim: ZERO_RESIDUES,
+            claims: ZERO_ROWS,
             challenges: [0; ROUNDS],
             closed: true,
         }
     }
 }
 
-/// Why the verifier rejects a transcript; the bound is tested before the
-/// last equation. Rounds count from 1.
+/// Why the verifier rejects a transcript: a round whose equation fails in some
+/// row, the bound, or the last equation of some row, the bound being tested
+/// before the last equation. Rounds count from 1.
 #[derive(Clone, Copy, Debug, PartialEq, Eq)]
 pub enum Cause {
     Round(u32),
@@ -102,7 +120,7 @@ pub enum Cause {
 #[derive(Clone, Copy, Debug, PartialEq, Eq)]
 pub struct CommitAnswer {
     pub number: u32,
-    pub commitment: Residues,
+    pub commitment: Rows,
 }
 
 #[derive(Clone, Copy, Debug, PartialEq, Eq)]
@@ -120,7 +138,7 @@ pub struct EndAnswer {
 #[derive(Clone, Copy, Debug, PartialEq, Eq)]
 pub struct OpeningAnswer {
     pub number: u32,
-    pub commitment: Residues,
+    pub commitment: Rows,
     pub final_element: Wholes,
     pub verdict: u32,
 }

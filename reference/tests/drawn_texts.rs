@@ -12,6 +12,20 @@ fn limits() -> Limits {
     Limits::new(256, 0)
 }
 
+/// Draws until the text is not too long: with four rows it may be.
+fn short<T>(mut draw: impl FnMut() -> T, input: impl Fn(&T) -> &TextInput) -> T {
+    loop {
+        let found = draw();
+        if input(&found).text().len() <= LONGEST_TEXT {
+            return found;
+        }
+    }
+}
+
+fn readable(random: &mut Random) -> (TextInput, Settings, Tables) {
+    short(|| text::readable(random, &limits()), |found| &found.0)
+}
+
 fn read_into(input: &TextInput, tables: &mut Tables) -> ReadAnswer {
     read(
         input.parts,
@@ -44,7 +58,7 @@ fn reader_on_drawn_texts() {
     let mut random = Random::new(41);
     let mut seen = BTreeSet::new();
     for _ in 0..6000 {
-        let (mut input, settings, tables) = text::readable(&mut random, &limits());
+        let (mut input, settings, tables) = readable(&mut random);
         let expected = text::damage_text(&mut random, &mut input);
         let before = Tables::to_be_written(input.lengths.unwrap());
         let mut found = before.clone();
@@ -58,16 +72,17 @@ fn reader_on_drawn_texts() {
         }
         seen.insert(expected);
     }
-    assert_eq!(seen, (0..=10).collect());
+    assert_eq!(seen, (0..=10).chain([16]).collect());
 }
 
 #[test]
 fn every_pair_of_damages_in_order() {
     let mut random = Random::new(42);
-    for a in 1..=10 {
-        for b in a..=10 {
+    let numbers = [1, 2, 3, 4, 5, 6, 16, 7, 8, 9, 10];
+    for (i, &a) in numbers.iter().enumerate() {
+        for &b in &numbers[i..] {
             for _ in 0..20 {
-                let (mut input, ..) = text::readable(&mut random, &limits());
+                let (mut input, ..) = readable(&mut random);
                 let expected = damage_by(&mut random, &mut input, &[a, b]);
                 let mut tables = Tables::to_be_written(input.lengths.unwrap());
                 assert_eq!(read_into(&input, &mut tables).number, expected);
@@ -82,6 +97,9 @@ fn writer_on_drawn_tables() {
     let mut seen = BTreeSet::new();
     for _ in 0..3000 {
         let (mut input, text) = text::writable(&mut random, &limits());
+        if text.len() > LONGEST_TEXT {
+            continue;
+        }
         let mut expected = damage_some(&mut random, &mut input);
         if random.one_in(5) {
             input.room = random.below(text.len());
@@ -96,7 +114,7 @@ fn writer_on_drawn_tables() {
         assert!(out[length..].iter().all(|&b| b == 170));
         seen.insert(expected);
     }
-    assert_all(&seen, &[0, 3, 4, 5, 6, 7, 8, 9, 10]);
+    assert_all(&seen, &[0, 3, 4, 5, 6, 16, 7, 8, 9, 10]);
 }
 
 fn assert_all(seen: &BTreeSet<u32>, numbers: &[u32]) {
@@ -109,7 +127,7 @@ fn assert_all(seen: &BTreeSet<u32>, numbers: &[u32]) {
 fn round_trip() {
     let mut random = Random::new(44);
     for _ in 0..1000 {
-        let (input, settings, tables) = text::readable(&mut random, &limits());
+        let (input, settings, tables) = readable(&mut random);
         let mut found = Tables::to_be_written(tables.lengths());
         let answer = read_into(&input, &mut found);
         assert_eq!((answer.number, answer.settings), (0, settings));
@@ -168,13 +186,16 @@ fn prove_and_verify_on_drawn_texts() {
             // The printed text with the key put in is accepted.
             let printed = out[..answer.length].split_inclusive(|&b| b == b'\n');
             let mut lines: Vec<Vec<u8>> = printed.map(|x| x.to_vec()).collect();
-            lines.splice(5..5, key);
+            lines.splice(6..6, key);
             assert_eq!(verify(&lines.concat()), Verification::Accepted);
         } else {
             assert!(answer.length == 0 && out.iter().all(|&b| b == 170));
         }
         seen.insert(expected);
-        let (mut input, accepted) = text::verifiable(&mut random, &limits());
+        let (mut input, accepted) = short(
+            || text::verifiable(&mut random, &limits()),
+            |found| &found.0,
+        );
         let expected = text::damage_text(&mut random, &mut input);
         let wanted = match expected {
             0 if accepted => Verification::Accepted,

@@ -2,6 +2,7 @@
 
 use reference::draw::base;
 use reference::draw::tree::{free_at, honest_at, Tree};
+use reference::draw::Limits;
 use reference::plain::ring::{add, doubled_inverse, element, elements, multiply, rotate, Element};
 use reference::plain::*;
 use reference::random::Random;
@@ -28,7 +29,8 @@ fn drawn(random: &mut Random, degree: u32, depth: u32) -> Settings {
         128 => 12_289,
         _ => random.pick(&[3, 9, 15, any, any]),
     };
-    Settings::new(degree, depth, modulus, base::bound(random))
+    let settings = Settings::new(degree, depth, modulus, base::bound(random));
+    settings.with_rows(base::rows(random, &Limits::small()))
 }
 
 fn run(tree: &Tree) -> (u32, Vec<i64>) {
@@ -45,7 +47,8 @@ fn run(tree: &Tree) -> (u32, Vec<i64>) {
     (number, w)
 }
 
-/// Whether w opens 4^L times the commitment within the judge's bound.
+/// Whether w opens 4^L times the commitment in every row, within the judge's
+/// bound.
 fn judged(tree: &Tree, w: &[i64]) -> bool {
     let slack = 4u32.pow(tree.settings.depth);
     judge(tree.settings, tree.commitment, slack, &tree.key, w).yes
@@ -91,7 +94,9 @@ fn all_small_moduli_have_free_trees() {
     let mut random = Random::new(33);
     for modulus in (3..40).step_by(2) {
         for (degree, depth) in [(2, 0), (2, 1), (4, 2), (8, 2), (2, 3)] {
-            let tree = free_at(&mut random, Settings::new(degree, depth, modulus, 2));
+            let rows = base::rows(&mut random, &Limits::small());
+            let settings = Settings::new(degree, depth, modulus, 2);
+            let tree = free_at(&mut random, settings.with_rows(rows));
             let (number, w) = run(&tree);
             assert_eq!(number, 0);
             assert!(judged(&tree, &w));
@@ -133,11 +138,11 @@ fn interpolation_gives_the_honest_polynomials() {
         let (tree, _) = honest_at(&mut random, settings);
         let mut other = tree.clone();
         other.rounds.fill(0);
-        other.commitment = ZERO_RESIDUES;
+        other.commitment = ZERO_ROWS;
         other.interpolate();
-        let d = degree as usize;
         assert_eq!(other.rounds, tree.rounds);
-        assert_eq!(other.commitment[..d], tree.commitment[..d]);
+        let [a, b] = [&other, &tree].map(|x| base::row_coefficients(&x.shape, &x.commitment));
+        assert_eq!(a, b);
     }
 }
 

@@ -75,7 +75,8 @@ fn openings_with_the_largest_numbers() {
     for ((degree, depth), q) in
         with_largest(&[(64, 8), (64, 4), (2, 8), (32, 0)], &[(128, 8), (128, 0)])
     {
-        let s = Settings::new(degree, depth, q, 127);
+        let rows = random.pick(&[1, 4]);
+        let s = Settings::new(degree, depth, q, 127).with_rows(rows);
         for sign in [1, -1] {
             let mut input = opening_at(&mut random, s);
             input.key.fill(q - 1);
@@ -146,13 +147,13 @@ fn judgements_with_the_largest_numbers() {
             let key_elements = plain::ring::elements(&key, degree as usize);
             let d = degree as usize;
             let sum = plain::ring::inner_product_modulo(&elements, &key_elements, d, q);
-            let mut commitment = ZERO_RESIDUES;
-            for (place, x) in commitment.iter_mut().zip(sum) {
+            let mut commitment = ZERO_ROWS;
+            for (place, x) in commitment[0].iter_mut().zip(sum) {
                 *place = x as Residue;
             }
             assert!(fast::judge(s, commitment, 1, &key, &w).yes);
             assert!(plain::judge(s, commitment, 1, &key, &w).yes);
-            commitment[0] ^= 1;
+            commitment[0][0] ^= 1;
             assert!(!fast::judge(s, commitment, 1, &key, &w).yes);
         }
     }
@@ -215,7 +216,9 @@ fn extractions_at_the_largest_sizes() {
     let mut random = Random::new(58);
     let sizes = [(2, 8, 127), (4, 8, 2), (8, 6, 5), (16, 5, 16), (32, 4, 127)];
     for ((degree, depth, bound), q) in with_largest(&sizes, &[(128, 3, 127), (128, 4, 1)]) {
-        let s = Settings::new(degree, depth, q, bound);
+        // Rows past the first where the leaves are not too many.
+        let rows = if depth < 6 { random.pick(&[1, 4]) } else { 1 };
+        let s = Settings::new(degree, depth, q, bound).with_rows(rows);
         let mut input = tree::free_at(&mut random, s);
         let most = input.shape.final_bound() as i32;
         input.leaves.iter_mut().for_each(|x| *x = most);

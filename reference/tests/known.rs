@@ -12,10 +12,11 @@ fn listing() -> Settings {
     Settings::new(2, 1, 17, 1)
 }
 
-fn residues(values: &[Residue]) -> Residues {
-    let mut places = ZERO_RESIDUES;
-    places[..values.len()].copy_from_slice(values);
-    places
+/// The element of the only row by value.
+fn one_row(values: &[Residue]) -> Rows {
+    let mut rows = ZERO_ROWS;
+    rows[0][..values.len()].copy_from_slice(values);
+    rows
 }
 
 fn wholes(values: &[i32]) -> Wholes {
@@ -30,7 +31,7 @@ fn listing_as_a_whole_opening() {
     let mut rounds = [0; 6];
     let answer = whole_opening(listing(), &mut key, &mut message, &[1], &mut rounds);
     assert_eq!(answer.number, 0);
-    assert_eq!(answer.commitment, residues(&[15, 4]));
+    assert_eq!(answer.commitment, one_row(&[15, 4]));
     assert_eq!(rounds, [4, 1, 6, 0, 12, 1]);
     assert_eq!(answer.final_element, wholes(&[1, 0]));
     assert_eq!(answer.verdict, ACCEPTED);
@@ -40,12 +41,12 @@ fn listing_as_a_whole_opening() {
 
 #[test]
 fn listing_as_a_session() {
-    let start = session_start(listing(), residues(&[15, 4]));
+    let start = session_start(listing(), one_row(&[15, 4]));
     assert_eq!((start.number, start.record.closed), (0, false));
-    let polynomial = [residues(&[4, 1]), residues(&[6, 0]), residues(&[12, 1])];
+    let polynomial = [one_row(&[4, 1]), one_row(&[6, 0]), one_row(&[12, 1])];
     let round = session_round(start.record, polynomial, 1);
     assert_eq!((round.number, round.verdict), (0, HOLDS));
-    assert_eq!(round.record.claim, residues(&[9, 6]));
+    assert_eq!(round.record.claims, one_row(&[9, 6]));
     let end = session_end(round.record, wholes(&[1, 0]), &KEY);
     assert_eq!((end.number, end.verdict), (0, ACCEPTED));
     assert!(end.record.closed);
@@ -54,16 +55,8 @@ fn listing_as_a_session() {
 #[test]
 fn listing_rejections() {
     let rounds = [4, 1, 6, 0, 12, 1];
-    let cause = |f: &[i32]| {
-        check_cause(
-            listing(),
-            residues(&[15, 4]),
-            wholes(f),
-            &KEY,
-            &rounds,
-            &[1],
-        )
-    };
+    let cause =
+        |f: &[i32]| check_cause(listing(), one_row(&[15, 4]), wholes(f), &KEY, &rounds, &[1]);
     assert_eq!(cause(&[1, 0]), Ok(None));
     assert_eq!(cause(&[2, 0]), Ok(Some(Cause::Equation)));
     assert_eq!(cause(&[3, 0]), Ok(Some(Cause::Bound)));
@@ -173,14 +166,14 @@ fn known_extraction() {
 /// Document 02, point 3: the equation holds, as 17 times anything is 0.
 #[test]
 fn known_slack_with_a_common_factor() {
-    let commitment = residues(&[15, 4]);
+    let commitment = one_row(&[15, 4]);
     let answer = judge(listing(), commitment, 17, &KEY, &[0; 4]);
     assert_eq!((answer.number, answer.yes), (15, false));
-    let zero = judge(listing(), ZERO_RESIDUES, 18, &KEY, &[0; 4]);
+    let zero = judge(listing(), ZERO_ROWS, 18, &KEY, &[0; 4]);
     assert_eq!((zero.number, zero.yes), (0, true));
     for (c, number) in [(3, 15), (5, 15), (6, 15), (15, 15), (16, 0), (1, 0)] {
         let s = Settings::new(2, 1, 15, 1);
-        let answer = judge(s, ZERO_RESIDUES, c, &KEY, &[0; 4]);
+        let answer = judge(s, ZERO_ROWS, c, &KEY, &[0; 4]);
         assert_eq!((answer.number, answer.yes), (number, number == 0), "{c}");
     }
 }
@@ -189,7 +182,7 @@ fn known_slack_with_a_common_factor() {
 fn known_depth_zero() {
     let s = Settings::new(2, 0, 17, 1);
     let commitment = commit(s, &[3, 5], &[1, -1]).commitment;
-    assert_eq!(commitment, residues(&[8, 2]));
+    assert_eq!(commitment, one_row(&[8, 2]));
     let mut w = [0; 2];
     assert_eq!(
         extract(s, commitment, &[3, 5], &[], &[], &[1, -1], &mut w),
@@ -215,7 +208,7 @@ fn known_growth() {
     ] {
         let s = Settings::new(d, l, 12_289, b);
         let size = (d as usize) << l;
-        let answer = judge(s, ZERO_RESIDUES, 1, &vec![0; size], &vec![0; size]);
+        let answer = judge(s, ZERO_ROWS, 1, &vec![0; size], &vec![0; size]);
         assert_eq!(answer.number, number, "{s:?}");
         assert_eq!(answer.yes, number == 0, "{s:?}");
     }
@@ -267,8 +260,8 @@ fn products_at_degree_128() {
         let (mut key, mut message) = ([0; 128], [0; 128]);
         key[i] = 1;
         message[j] = 2;
-        let mut wanted = ZERO_RESIDUES;
-        wanted[place] = value;
+        let mut wanted = ZERO_ROWS;
+        wanted[0][place] = value;
         assert_eq!(commit(s, &key, &message).commitment, wanted);
     }
 }
@@ -302,7 +295,7 @@ fn listing_with_the_largest_modulus() {
     let mut rounds = [0; 6];
     let answer = whole_opening(s, &mut key, &mut message, &[1], &mut rounds);
     assert_eq!((answer.number, answer.verdict), (0, ACCEPTED));
-    assert_eq!(answer.commitment, residues(&[15, 4]));
+    assert_eq!(answer.commitment, one_row(&[15, 4]));
     // Half of 8 2, of 12 0 and of 7 2.
     assert_eq!(rounds, [4, 1, 6, 0, (1 << 60) + 3, 1]);
     assert_eq!(answer.final_element, wholes(&[1, 0]));

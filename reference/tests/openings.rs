@@ -27,7 +27,9 @@ fn drawn(random: &mut Random, degree: u32, depth: u32) -> OpeningInput {
         _ => base::modulus(random),
     };
     let bound = base::bound(random);
-    opening_at(random, Settings::new(degree, depth, modulus, bound))
+    let rows = base::rows(random, &Limits::small());
+    let settings = Settings::new(degree, depth, modulus, bound);
+    opening_at(random, settings.with_rows(rows))
 }
 
 /// The whole opening, and the input after it.
@@ -75,7 +77,7 @@ fn refused_prover_calls(
 ) {
     while random.one_in(2) {
         let mut bad = s;
-        let number = random.pick(&[3, 4, 5, 6]);
+        let number = random.pick(&[3, 4, 5, 6, 16]);
         if !base::damage_settings(random, &mut bad, number) {
             continue;
         }
@@ -95,7 +97,8 @@ fn refused_prover_calls(
 fn refused_moves(random: &mut Random, record: Record) {
     if random.one_in(2) {
         let mut c = ZERO_POLYNOMIAL;
-        c[random.below(3)][0] = record.settings.modulus;
+        let row = random.below(record.settings.rows as usize);
+        c[random.below(3)][row][0] = record.settings.modulus;
         let answer = session_round(record, c, 0);
         assert_eq!((answer.number, answer.record), (8, record));
         let answer = session_end(record, ZERO_WHOLES, &[]);
@@ -111,7 +114,6 @@ fn moves_come_out_as_the_whole_opening() {
             let input = drawn(&mut random, degree, depth);
             let (whole, after) = open(&input);
             let s = input.settings;
-            let d = degree as usize;
             let (mut key, mut message) = (input.key.clone(), input.message.clone());
             let commitment = commit(s, &key, &message).commitment;
             let mut record = session_start(s, commitment).record;
@@ -125,7 +127,8 @@ fn moves_come_out_as_the_whole_opening() {
                 assert_eq!((answer.number, answer.verdict), (0, HOLDS));
                 record = answer.record;
                 assert_eq!(fold(s, t as u32, e, &mut key, &mut message), 0);
-                rounds.extend(round.polynomial.iter().flat_map(|c| c[..d].to_vec()));
+                let shape = &input.shape;
+                rounds.extend(base::polynomial_coefficients(shape, &round.polynomial));
             }
             refused_prover_calls(&mut random, s, &mut key, &mut message);
             let end = prover_end(s, depth, &message);
@@ -178,7 +181,7 @@ fn refusals_of_turn_and_height() {
 #[test]
 fn all_eight_places_of_the_list_are_tested() {
     let s = Settings::new(2, 0, 17, 1);
-    let mut record = session_start(s, ZERO_RESIDUES).record;
+    let mut record = session_start(s, ZERO_ROWS).record;
     record.challenges[7] = 4;
     assert_eq!(session_end(record, ZERO_WHOLES, &[0, 0]).number, 10);
     assert_eq!(session_round(record, ZERO_POLYNOMIAL, 0).number, 10);
@@ -195,6 +198,6 @@ fn limits_hold() {
     let mut random = Random::new(23);
     for _ in 0..500 {
         let s = base::settings(&mut random, &Limits::small(), true);
-        assert!(s.degree <= 4 && s.depth <= 2);
+        assert!(s.degree <= 4 && s.depth <= 2 && (1..=4).contains(&s.rows));
     }
 }

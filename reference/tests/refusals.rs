@@ -1,11 +1,12 @@
-//! Drawn inputs with known damages: every call answers with the smallest
-//! number that was put on its input, and a refusal changes nothing.
+//! Drawn inputs with known damages: every call answers with the number put on
+//! its input that is tested first, and a refusal changes nothing.
 
 use reference::draw::session::{self, Move};
 use reference::draw::tables::{self, CommitInput, ProverCall};
-use reference::draw::{damage_by, damage_some, smaller, transcript, tree, Damage, Limits};
+use reference::draw::{damage_by, damage_some, earlier, transcript, tree, Damage, Limits};
 use reference::plain;
 use reference::random::Random;
+use reference::refuse::Shape;
 use reference::types::*;
 use std::collections::BTreeSet;
 
@@ -22,6 +23,15 @@ fn assert_all(seen: &BTreeSet<u32>, numbers: &[u32]) {
     }
 }
 
+/// The same with 0 past the rows and from the degree on.
+fn tidied(shape: &Shape, rows: &Rows) -> Rows {
+    let mut tidy = ZERO_ROWS;
+    for (place, row) in tidy.iter_mut().zip(&rows[..shape.rows]) {
+        place[..shape.d].copy_from_slice(&row[..shape.d]);
+    }
+    tidy
+}
+
 #[test]
 fn commitments() {
     let mut random = Random::new(1);
@@ -33,7 +43,7 @@ fn commitments() {
         let answer = plain::commit(input.settings, &input.key, &input.message);
         assert_eq!(answer.number, expected, "{input:?}");
         if expected != 0 {
-            assert_eq!(answer.commitment, ZERO_RESIDUES);
+            assert_eq!(answer.commitment, ZERO_ROWS);
         }
         seen.insert(expected);
     }
@@ -46,7 +56,7 @@ fn prover_rounds() {
     let mut seen = BTreeSet::new();
     for _ in 0..DRAWS {
         let (mut input, own) = tables::prover(&mut random, &limits(), ProverCall::Round);
-        let expected = smaller(own, damage_some(&mut random, &mut input));
+        let expected = earlier(own, damage_some(&mut random, &mut input));
         let answer = plain::prover_round(input.settings, input.t, &input.key, &input.message);
         assert_eq!(answer.number, expected, "{input:?}");
         if expected != 0 {
@@ -54,7 +64,7 @@ fn prover_rounds() {
         }
         seen.insert(expected);
     }
-    assert_all(&seen, &[3, 4, 5, 6, 7, 8, 9, 11]);
+    assert_all(&seen, &[3, 4, 5, 6, 16, 7, 8, 9, 11]);
 }
 
 #[test]
@@ -63,21 +73,27 @@ fn folds() {
     let mut seen = BTreeSet::new();
     for _ in 0..DRAWS {
         let (mut input, own) = tables::prover(&mut random, &limits(), ProverCall::Fold);
-        let expected = smaller(own, damage_some(&mut random, &mut input));
+        let expected = earlier(own, damage_some(&mut random, &mut input));
         let (mut key, mut message) = (input.key.clone(), input.message.clone());
         let number = plain::fold(input.settings, input.t, input.e, &mut key, &mut message);
         assert_eq!(number, expected, "{input:?}");
         // A refusal changes nothing; a fold changes only the first half of
-        // what was left.
+        // what was left, in each row of the key.
+        let size = input.shape.table();
         let kept = match expected {
             0 => (input.shape.n >> (input.t + 1)) * input.shape.d,
             _ => 0,
         };
-        assert_eq!(key[kept..], input.key[kept..]);
+        for (after, before) in key.chunks(size).zip(input.key.chunks(size)) {
+            assert_eq!(
+                after[kept.min(after.len())..],
+                before[kept.min(before.len())..]
+            );
+        }
         assert_eq!(message[kept..], input.message[kept..]);
         seen.insert(expected);
     }
-    assert_all(&seen, &[3, 4, 5, 6, 7, 8, 9, 10, 11]);
+    assert_all(&seen, &[3, 4, 5, 6, 16, 7, 8, 9, 10, 11]);
 }
 
 #[test]
@@ -86,7 +102,7 @@ fn prover_ends() {
     let mut seen = BTreeSet::new();
     for _ in 0..DRAWS {
         let (mut input, own) = tables::prover(&mut random, &limits(), ProverCall::End);
-        let expected = smaller(own, damage_some(&mut random, &mut input));
+        let expected = earlier(own, damage_some(&mut random, &mut input));
         let answer = plain::prover_end(input.settings, input.t, &input.message);
         assert_eq!(answer.number, expected, "{input:?}");
         let d = input.shape.d;
@@ -98,7 +114,7 @@ fn prover_ends() {
         }
         seen.insert(expected);
     }
-    assert_all(&seen, &[3, 4, 5, 6, 7, 9, 11]);
+    assert_all(&seen, &[3, 4, 5, 6, 16, 7, 9, 11]);
 }
 
 #[test]
@@ -120,7 +136,7 @@ fn whole_openings() {
         if expected == 0 {
             assert_eq!(answer.verdict, ACCEPTED);
         } else {
-            assert_eq!(answer.commitment, ZERO_RESIDUES);
+            assert_eq!(answer.commitment, ZERO_ROWS);
             assert_eq!(answer.final_element, ZERO_WHOLES);
             assert_eq!(answer.verdict, NONE);
             assert_eq!(after.key, input.key);
@@ -129,7 +145,7 @@ fn whole_openings() {
         }
         seen.insert(expected);
     }
-    assert_all(&seen, &[3, 4, 5, 6, 7, 8, 9, 10]);
+    assert_all(&seen, &[3, 4, 5, 6, 16, 7, 8, 9, 10]);
 }
 
 #[test]
@@ -142,10 +158,9 @@ fn starts() {
         let answer = plain::session_start(input.settings, input.commitment);
         assert_eq!(answer.number, expected, "{input:?}");
         if expected == 0 {
-            let d = input.shape.d;
             assert_eq!(answer.record.settings, input.settings);
-            assert_eq!(answer.record.claim[..d], input.commitment[..d]);
-            assert_eq!(answer.record.claim[d..], ZERO_RESIDUES[d..]);
+            let tidy = tidied(&input.shape, &input.commitment);
+            assert_eq!(answer.record.claims, tidy);
             assert_eq!((answer.record.done, answer.record.closed), (0, false));
             assert_eq!(answer.record.challenges, [0; 8]);
         } else {
@@ -153,7 +168,7 @@ fn starts() {
         }
         seen.insert(expected);
     }
-    assert_all(&seen, &[3, 4, 5, 6, 8]);
+    assert_all(&seen, &[3, 4, 5, 6, 16, 8]);
 }
 
 #[test]
@@ -163,7 +178,7 @@ fn session_rounds() {
     let mut verdicts = BTreeSet::new();
     for _ in 0..DRAWS {
         let (mut input, own) = session::round(&mut random, &limits());
-        let expected = smaller(own, damage_some(&mut random, &mut input));
+        let expected = earlier(own, damage_some(&mut random, &mut input));
         let answer = plain::session_round(input.record, input.polynomial, input.e);
         assert_eq!(answer.number, expected, "{input:?}");
         let mut wanted = input.record;
@@ -171,9 +186,7 @@ fn session_rounds() {
             HOLDS => {
                 wanted.challenges[wanted.done as usize] = input.e;
                 wanted.done += 1;
-                wanted.claim = answer.record.claim;
-                let d = input.shape.d;
-                assert_eq!(answer.record.claim[d..], ZERO_RESIDUES[d..]);
+                wanted.claims = tidied(&input.shape, &answer.record.claims);
             }
             REJECTED => wanted.closed = true,
             verdict => assert!(verdict == NONE && expected != 0),
@@ -182,7 +195,7 @@ fn session_rounds() {
         seen.insert(expected);
         verdicts.insert(answer.verdict);
     }
-    assert_all(&seen, &[3, 4, 5, 6, 8, 10, 11]);
+    assert_all(&seen, &[3, 4, 5, 6, 16, 8, 10, 11]);
     assert_eq!(verdicts, BTreeSet::from([NONE, HOLDS, REJECTED]));
 }
 
@@ -193,7 +206,7 @@ fn session_ends() {
     let mut verdicts = BTreeSet::new();
     for _ in 0..DRAWS {
         let (mut input, own) = session::end(&mut random, &limits());
-        let expected = smaller(own, damage_some(&mut random, &mut input));
+        let expected = earlier(own, damage_some(&mut random, &mut input));
         let answer = plain::session_end(input.record, input.final_element, &input.key);
         assert_eq!(answer.number, expected, "{input:?}");
         let mut wanted = input.record;
@@ -203,7 +216,7 @@ fn session_ends() {
         seen.insert(expected);
         verdicts.insert(answer.verdict);
     }
-    assert_all(&seen, &[3, 4, 5, 6, 7, 8, 10, 11]);
+    assert_all(&seen, &[3, 4, 5, 6, 16, 7, 8, 10, 11]);
     assert_eq!(verdicts, BTreeSet::from([NONE, ACCEPTED, REJECTED]));
 }
 
@@ -278,7 +291,7 @@ fn judgements() {
     let mut shared = [0; 2];
     for _ in 0..4 * DRAWS {
         let (mut input, own) = tables::judge(&mut random, &Limits::new(1024, 0));
-        let expected = smaller(own, damage_some(&mut random, &mut input));
+        let expected = earlier(own, damage_some(&mut random, &mut input));
         let answer = plain::judge(
             input.settings,
             input.commitment,
@@ -294,7 +307,7 @@ fn judgements() {
             shared[usize::from(input.w.iter().all(|&x| x == 0))] += 1;
         }
     }
-    assert_all(&seen, &[3, 4, 5, 6, 7, 8, 14, 15]);
+    assert_all(&seen, &[3, 4, 5, 6, 16, 7, 8, 14, 15]);
     assert!(yes.iter().all(|&count| count > 100));
     assert!(shared.iter().all(|&count| count > 100));
 }
@@ -324,7 +337,7 @@ fn extractions() {
             tree::honest(&mut random, &limits()).0
         };
         let own = input.growth();
-        let expected = smaller(own, damage_some(&mut random, &mut input));
+        let expected = earlier(own, damage_some(&mut random, &mut input));
         let (number, w) = extract(&input);
         assert_eq!(number, expected, "{input:?}");
         assert!(expected == 0 || w == input.w);
@@ -343,7 +356,7 @@ fn extractions_over_the_growth() {
         assert_eq!(input.growth(), 14);
         let put = damage_by(&mut random, &mut input, numbers);
         let (number, w) = extract(&input);
-        assert_eq!(number, smaller(14, put));
+        assert_eq!(number, earlier(14, put));
         assert_eq!(w, input.w);
     }
 }

@@ -8,6 +8,7 @@ const INPUT: &str = "part item place value
 0 0 1 1
 0 0 2 17
 0 0 3 1
+0 0 4 1
 1 0 0 3
 1 0 1 5
 1 1 0 7
@@ -24,6 +25,7 @@ const OUTPUT: &str = "part item place value
 0 0 1 1
 0 0 2 17
 0 0 3 1
+0 0 4 1
 3 0 0 15
 3 0 1 4
 4 0 0 4
@@ -154,10 +156,15 @@ fn shapes_of_lines() {
         ("part", "Part"),
         ("part item place value\n", ""),
         ("value\n", "value \n"),
-        // The first four value lines are not the settings.
+        // The first five value lines are not the settings.
         ("0 0 0 2\n0 0 1 1\n", "0 0 1 1\n0 0 0 2\n"),
         ("0 0 3 1\n", ""),
         ("0 0 3 1\n", "0 1 3 1\n"),
+        ("0 0 4 1\n", ""),
+        ("0 0 4 1\n", "0 0 5 1\n"),
+        ("0 0 4 1\n", "0 1 4 1\n"),
+        ("0 0 3 1\n0 0 4 1\n", "0 0 4 1\n0 0 3 1\n"),
+        ("0 0 4 1\n", "0 0 4 2305843009213693952\n"),
         ("0 0 0 2\n", "0 0 0 2\n0 0 0 2\n"),
     ] {
         assert_eq!(prove_number(&INPUT.replacen(old, new, 1)), 2, "{new:?}");
@@ -194,6 +201,15 @@ fn settings_of_a_text() {
         ("0 0 2 17\n", "0 0 2 2305843009213693951\n", 0),
         ("0 0 3 1\n", "0 0 3 4294967297\n", 6),
         ("0 0 3 1\n", "0 0 3 2305843009213693951\n", 6),
+        ("0 0 4 1\n", "0 0 4 0\n", 16),
+        ("0 0 4 1\n", "0 0 4 5\n", 16),
+        ("0 0 4 1\n", "0 0 4 -1\n", 16),
+        ("0 0 4 1\n", "0 0 4 2147483648\n", 16),
+        ("0 0 4 1\n", "0 0 4 4294967297\n", 16),
+        ("0 0 4 1\n", "0 0 4 2305843009213693951\n", 16),
+        // With more rows the lines are too few.
+        ("0 0 4 1\n", "0 0 4 2\n", 7),
+        ("0 0 4 1\n", "0 0 4 4\n", 7),
     ] {
         assert_eq!(
             prove_number(&INPUT.replacen(old, new, 1)),
@@ -211,6 +227,9 @@ fn required_lines_and_values() {
         ("1 0 0 3\n1 0 1 5\n", "1 0 1 5\n1 0 0 3\n", 7),
         ("5 0 0 1\n", "", 7),
         ("5 0 0 1\n", "5 0 0 1\n5 1 0 1\n", 7),
+        // One row, and an element of a second.
+        ("2 0 0 1\n", "1 2 0 1\n1 2 1 1\n2 0 0 1\n", 7),
+        ("0 0 4 1\n", "0 0 4 1\n0 0 5 1\n", 7),
         ("5 0 0 1\n", "5 0 0 1\n6 0 0 1\n", 7),
         ("5 0 0 1\n", "5 0 0 1\n7 0 0 1\n", 7),
         ("5 0 0 1\n", "5 0 0 1\n2147483647 0 0 1\n", 7),
@@ -241,12 +260,14 @@ fn required_lines_and_values() {
 
 #[test]
 fn numbers_of_a_text_are_tested_in_order() {
-    // Each change brings the number beside it; the smallest wins.
+    // Each change brings the number beside it; the smallest wins, but 16 comes
+    // straight after 6.
     let changes = [
         ("5 0 0 1\n", "5 0 0 4\n", 10),
         ("2 0 0 1\n", "2 0 0 2\n", 9),
         ("1 0 0 3\n", "1 0 0 17\n", 8),
         ("1 1 1 2\n", "1 1 2 2\n", 7),
+        ("0 0 4 1\n", "0 0 4 5\n", 16),
         ("0 0 3 1\n", "0 0 3 0\n", 6),
         ("0 0 2 17\n", "0 0 2 4\n", 5),
         ("0 0 1 1\n", "0 0 1 9\n", 4),
@@ -307,7 +328,7 @@ fn largest_residues() {
     let mut out = [170; 200];
     let written = write(s, parts, &key, &[], &commitment, &[], &[], &[], &mut out);
     let text = "part item place value\n0 0 0 2\n0 0 1 0\n0 0 2 2305843009213693951\n0 0 3 1\n\
-        1 0 0 2305843009213693950\n1 0 1 4294967296\n3 0 0 0\n3 0 1 1152921504606846976\n";
+        0 0 4 1\n1 0 0 2305843009213693950\n1 0 1 4294967296\n3 0 0 0\n3 0 1 1152921504606846976\n";
     assert_eq!((written.number, written.length), (0, text.len()));
     assert_eq!(&out[..text.len()], text.as_bytes());
     let (mut a, mut b) = ([7; 2], [7; 2]);

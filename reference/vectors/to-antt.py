@@ -2,7 +2,8 @@
 """Turns drawn cases (the format of the program `cases`) into rows of worked examples for the prover.
 
 Usage: to-antt.py < small.txt > ../../crates/drawn/proofs/Drawn.antt
-Each case becomes one row: what the definitions give for its inputs, and the outputs that the reference gave."""
+Each case becomes one row: what the definitions give for its inputs, and the outputs that the reference gave. What is passed by value for each row of a
+key is written as the elements of the four rows, a round polynomial as a list of three such."""
 import sys
 import textwrap
 
@@ -22,8 +23,12 @@ def table():
     return numbers[1:]
 
 
+def listed(words):
+    return '(' + ''.join(word + ' ∷ ' for word in words) + '[])' if words else '[]'
+
+
 def naturals(l):
-    return '(' + ''.join('%d ∷ ' % n for n in l) + '[])'
+    return listed([str(n) for n in l])
 
 
 def integer(z):
@@ -31,23 +36,29 @@ def integer(z):
 
 
 def integers(l):
-    return '(' + ''.join(integer(z) + ' ∷ ' for z in l) + '[])'
+    return listed([integer(z) for z in l])
 
 
 def settings(s):
-    return '(set %d %d %d %d)' % tuple(s)
+    return '(set %d %d %d %d %d)' % tuple(s)
+
+
+def rows():
+    """The elements of four rows that are passed by value, a line each."""
+    return '(byRow %s)' % ' '.join(naturals(table()) for _ in range(4))
+
+
+def polynomial():
+    """Rows of c0, of c1 and of c2."""
+    return listed([rows() for _ in range(3)])
 
 
 def record():
     s = take()
     done, closed = take()
-    claim = table()
+    claims = rows()
     challenges = take()
-    return '(session %s %d %s (%s) %s)' % (settings(s), done, naturals(claim), naturals(challenges), 'true' if closed else 'false')
-
-
-def polynomial():
-    return '(full %s ∷ full %s ∷ full %s ∷ [])' % tuple(naturals(table()) for _ in range(3))
+    return '(session %s %d %s %s %s)' % (settings(s), done, claims, naturals(challenges), 'true' if closed else 'false')
 
 
 def tables():
@@ -70,7 +81,7 @@ def cause(c, t):
 def case(name):
     if name == 'commit':
         s = settings(take()); key = naturals(table()); message = integers(table())
-        return 'commitRow %s %s %s %d %s' % (s, key, message, take()[0], naturals(table()))
+        return 'commitRow %s %s %s %d %s' % (s, key, message, take()[0], rows())
     if name == 'round':
         s = settings(take()); t = take()[0]; key = naturals(table()); message = integers(table())
         return 'roundRow %s %d %s %s %d %s' % (s, t, key, message, take()[0], polynomial())
@@ -83,10 +94,10 @@ def case(name):
     if name == 'opening':
         s = settings(take()); key = naturals(table()); message = integers(table()); e = naturals(table()); rounds = naturals(table())
         n, v = take()
-        return 'openingRow %s %s %s %s %s %d %s %s %s %s %s %s' % (s, key, message, e, rounds, n, verdict(v), naturals(table()), integers(table()), naturals(table()), integers(table()), naturals(table()))
+        return 'openingRow %s %s %s %s %s %d %s %s %s %s %s %s' % (s, key, message, e, rounds, n, verdict(v), rows(), integers(table()), naturals(table()), integers(table()), naturals(table()))
     if name == 'start':
-        s = settings(take()); c = naturals(table())
-        return 'startRow %s (full %s) %d %s' % (s, c, take()[0], record())
+        s = settings(take()); c = rows()
+        return 'startRow %s %s %d %s' % (s, c, take()[0], record())
     if name == 'session_round':
         r = record(); p = polynomial(); e = take()[0]
         n, v = take()
@@ -96,17 +107,17 @@ def case(name):
         n, v = take()
         return 'closeRow %s (fullSigned %s) %s %d %s %s' % (r, f, key, n, verdict(v), record())
     if name == 'check':
-        s = settings(take()); c = naturals(table()); f = integers(table()); key = naturals(table()); rounds = naturals(table()); e = naturals(table())
+        s = settings(take()); c = rows(); f = integers(table()); key = naturals(table()); rounds = naturals(table()); e = naturals(table())
         n, v = take()
         why, t = take()
-        return 'checkRow %s (full %s) (fullSigned %s) %s %s %s %d %s %s' % (s, c, f, key, rounds, e, n, verdict(v), cause(why, t))
+        return 'checkRow %s %s (fullSigned %s) %s %s %s %d %s %s' % (s, c, f, key, rounds, e, n, verdict(v), cause(why, t))
     if name == 'judge':
-        s = settings(take()); c = naturals(table()); slack = take()[0]; key = naturals(table()); w = integers(table())
+        s = settings(take()); c = rows(); slack = take()[0]; key = naturals(table()); w = integers(table())
         n, yes = take()
-        return 'judgeRow %s (full %s) %d %s %s %d %s' % (s, c, slack, key, w, n, 'true' if yes else 'false')
+        return 'judgeRow %s %s %d %s %s %d %s' % (s, c, slack, key, w, n, 'true' if yes else 'false')
     if name == 'extract':
-        s = settings(take()); c = naturals(table()); key = naturals(table()); rounds = naturals(table()); e = naturals(table()); leaves = integers(table()); w = integers(table())
-        return 'extractRow %s (full %s) %s %s %s %s %s %d %s' % (s, c, key, rounds, e, leaves, w, take()[0], integers(table()))
+        s = settings(take()); c = rows(); key = naturals(table()); rounds = naturals(table()); e = naturals(table()); leaves = integers(table()); w = integers(table())
+        return 'extractRow %s %s %s %s %s %s %s %d %s' % (s, c, key, rounds, e, leaves, w, take()[0], integers(table()))
     if name == 'read':
         p = parts(); text = naturals(table()); t = tables()
         n = take()[0]
@@ -126,34 +137,36 @@ def case(name):
     raise SystemExit('unknown case ' + name)
 
 
-rows = []
+groups = {}
 while at < len(lines):
     head = lines[at]
     at += 1
     if head:
-        rows.append(case(head[0]))
+        row = case(head[0])
+        groups.setdefault(row.split()[0], []).append(row)
 print('''-- Made by reference/vectors/to-antt.py from reference/vectors/small.txt: drawn cases, whose outputs come from another author's implementation.
+-- For each call a table of its cases, and that the definitions give what the reference gave.
 use mathlib.Core.Path.{_≡_, refl}
 use mathlib.Core.Bool.{true, false}
 use mathlib.Core.List.{List, [], _∷_}
 use lib.IntN.{pos, negsuc}
 use Rattle.protocol.specs.declared.Verdict.the-variants.{Silent, Holds, Accepted, Rejected}
 use Rattle.protocol.specs.Basic.{all}
-use Rattle.protocol.specs.Transcript.{Cause}
+use Rattle.protocol.specs.Rows.{Cause}
 use Rattle.protocol.proofs.Examples.{Example, agree, agreeing}
 use Rattle.protocol.proofs.Compute.{computed}
 use Rattle.protocol.proofs.ComputeText.{computedText}
-use Rattle.drawn.proofs.Rows.{rowsUnfolded, set, session, full, fullSigned, sixTables, sixParts, commitRow, roundRow, foldRow, endRow, openingRow}
-use Rattle.drawn.proofs.Rows.{startRow, moveRow, closeRow, checkRow, judgeRow, extractRow, readRow, writeRow, proveRow, verifyRow}
+use Rattle.drawn.proofs.Rows.{rowsUnfolded, set, session, byRow, fullSigned, sixTables, sixParts, commitRow, roundRow, foldRow, endRow, openingRow}
+use Rattle.drawn.proofs.Rows.{startRow, moveRow, closeRow, checkRow, judgeRow, extractRow, readRow, writeRow, proveRow, verifyRow}''')
+for name, examples in groups.items():
+    print('''
+unfoldable pub %ss : List Example
+%ss =''' % (name, name))
+    for row in examples:
+        head = '    ' if row is examples[0] else '    ∷ '
+        print(textwrap.fill(row, width=180, initial_indent=head, subsequent_indent='    ', break_long_words=False, break_on_hyphens=False))
+    print('''    ∷ []
 
-unfoldable pub drawn : List Example
-drawn =''')
-for row in rows:
-    head = '    ' if row is rows[0] else '    ∷ '
-    print(textwrap.fill(row, width=180, initial_indent=head, subsequent_indent='    ', break_long_words=False, break_on_hyphens=False))
-print('''    ∷ []
-
--- the definitions give what the reference gave
-pub drawn-agree : all agree drawn ≡ true
-unfolding computed computedText agreeing rowsUnfolded drawn
-drawn-agree = refl''')
+pub %ss-agree : all agree %ss ≡ true
+unfolding computed computedText agreeing rowsUnfolded %ss
+%ss-agree = refl''' % (name, name, name, name))

@@ -60,7 +60,7 @@ impl Tree {
 pub fn report() -> Result<String, Box<dyn std::error::Error>> {
     // Twice the bound of an extracted vector, 2·(8·2²)²·1 = 2048, is below
     // the modulus, so that the opening binds.
-    let settings = Settings::new(2, 2, 12_289, 1)?;
+    let settings = Settings::new(2, 2, 12_289, 1, 1)?;
     let mut said = String::new();
     let commitment = commit(settings, &KEY, &MESSAGE)?;
     writeln!(said, "commitment: {}", spaced(&commitment))?;

@@ -13,7 +13,7 @@ fn main() -> Result<(), Box<dyn std::error::Error>> {
 /// What is printed.
 pub fn report() -> Result<String, Box<dyn std::error::Error>> {
     let q = Settings::LARGEST_MODULUS;
-    let settings = Settings::new(8, 3, q, 3)?;
+    let settings = Settings::new(8, 3, q, 3, 1)?;
     // Any numbers in range. A real key is drawn at random.
     let numbers = 0..settings.table_len() as u64;
     let key: Vec<u64> = numbers.clone().map(|i| q - 1 - i * i * i).collect();

@@ -21,14 +21,15 @@ pub fn report(text: &[u8]) -> Result<String, Box<dyn std::error::Error>> {
     let mut said = String::new();
     let s = look(text)?;
     let (degree, depth, modulus, bound) = (s.degree(), s.depth(), s.modulus(), s.bound());
+    let rows = s.rows();
     writeln!(
         said,
-        "degree {degree}, depth {depth}, modulus {modulus}, bound {bound}"
+        "degree {degree}, depth {depth}, modulus {modulus}, bound {bound}, rows {rows}"
     )?;
 
     // The settings give every length.
-    let mut key = vec![0; s.table_len()];
-    let mut commitment = vec![0; s.element_len()];
+    let mut key = vec![0; s.key_len()];
+    let mut commitment = vec![0; s.commitment_len()];
     let mut rounds = vec![0; s.rounds_len()];
     let mut challenges = vec![0; s.challenges_len()];
     let mut last = vec![0; s.element_len()];

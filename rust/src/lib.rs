@@ -13,15 +13,16 @@
 //! [`EndVerdict`], and what a judge says is a [`Judgement`].
 //!
 //! Tables are flat and lent by the caller: element i of a table begins at
-//! number i·d. Every slice has exactly the length that [`Settings`] gives; no
-//! function fills one up or cuts it off.
+//! number i·d. A key has 1 to 4 rows, one behind the other, and a commitment
+//! has one element for each. Every slice has exactly the length that
+//! [`Settings`] gives; no function fills one up or cuts it off.
 //!
 //! # An opening
 //!
 //! ```
 //! use wovenrock::{commit, open, Settings};
 //!
-//! let settings = Settings::new(2, 1, 17, 1)?;
+//! let settings = Settings::new(2, 1, 17, 1, 1)?;
 //! let mut key = [3, 5, 7, 2];
 //! let mut message = [1, -1, 1, 0];
 //! let commitment = commit(settings, &key, &message)?;
@@ -43,9 +44,42 @@
 //! use wovenrock::{commit, Settings};
 //!
 //! let q = Settings::LARGEST_MODULUS;
-//! let settings = Settings::new(2, 1, q, 1)?;
+//! let settings = Settings::new(2, 1, q, 1, 1)?;
 //! let commitment = commit(settings, &[3, 5, q - 7, 1 << 60], &[1, -1, 1, 0])?;
 //! assert_eq!(commitment, [1, (1 << 60) + 2]);
+//! # Ok::<(), wovenrock::Refusal>(())
+//! ```
+//!
+//! # Several rows, and public weights
+//!
+//! A key has 1 to 4 rows of 2^L elements. One message is committed to in all of
+//! them, and is opened in all of them by the same challenges. A row may be a
+//! list of public weights, with the number g_i as the constant of its element
+//! i: then its element of the commitment is the sum of g_i·m_i modulo q, which
+//! everybody can read, and an opening has to hold for it as for the other rows:
+//!
+//! ```
+//! use wovenrock::{commit, judge, open, Settings};
+//!
+//! let settings = Settings::new(2, 1, 17, 1, 2)?;
+//! let message = [1, -1, 1, 0];
+//! // the second row: weight 2 for 1 − X, and 5 for 1
+//! let (row, weights) = ([3, 5, 7, 2], [2, 0, 5, 0]);
+//! let key = [row, weights].concat();
+//! let commitment = commit(settings, &key, &message)?;
+//! // 2·(1 − X) + 5·1 = 7 − 2X, and −2 is 15 modulo 17
+//! assert_eq!(commitment[settings.commitment_row(1)], [7, 15]);
+//! // the other row's element is what it is without the weights
+//! assert_eq!(commitment[settings.commitment_row(0)], [15, 4]);
+//!
+//! let (mut folded, mut message) = (key.clone(), message);
+//! let mut rounds = vec![0; settings.rounds_len()];
+//! let opened = open(settings, &mut folded, &mut message, &[1], &mut rounds)?;
+//! assert!(opened.verdict.is_accepted());
+//! assert_eq!(rounds[settings.polynomial_row(0, 1)], [1, 16]);
+//!
+//! // one vector opens both rows, with one slack
+//! assert!(judge(settings, &commitment, 4, &key, &[4, -4, 4, 0])?.is_opening());
 //! # Ok::<(), wovenrock::Refusal>(())
 //! ```
 //!
@@ -56,13 +90,13 @@
 //! ```
 //! use wovenrock::{check, Session, Settings};
 //!
-//! let settings = Settings::new(2, 1, 17, 1)?;
+//! let settings = Settings::new(2, 1, 17, 1, 1)?;
 //! let key = [3, 5, 7, 2];
 //! let (commitment, rounds, last) = ([15, 4], [4, 1, 6, 0, 12, 1], [1, 0]);
 //!
 //! let mut session = Session::start(settings, &commitment)?;
 //! assert!(session.round(&rounds, 1)?.holds());
-//! assert_eq!(session.claim(), [9, 6]);
+//! assert_eq!(session.claims(), [9, 6]);
 //! assert!(session.end(&last, &key)?.is_accepted());
 //!
 //! let verdict = check(settings, &commitment, &last, &key, &rounds, &[1])?;
@@ -78,7 +112,7 @@
 //! ```
 //! use wovenrock::{extract, judge, Settings};
 //!
-//! let settings = Settings::new(2, 1, 17, 1)?;
+//! let settings = Settings::new(2, 1, 17, 1, 1)?;
 //! let key = [3, 5, 7, 2];
 //! let commitment = [15, 4];
 //! let leaves = [2, -1, 1, 0, 0, -1];
@@ -105,6 +139,7 @@
 //! 0 0 1 1
 //! 0 0 2 17
 //! 0 0 3 1
+//! 0 0 4 1
 //! 1 0 0 3
 //! 1 0 1 5
 //! 1 1 0 7
@@ -131,6 +166,7 @@
 //! 0 0 1 1
 //! 0 0 2 17
 //! 0 0 3 1
+//! 0 0 4 1
 //! 1 0 0 3
 //! 1 0 1 5
 //! 1 1 0 7
@@ -150,8 +186,8 @@
 //! assert!(verify(text)?.is_accepted());
 //!
 //! let settings = look(text)?;
-//! let mut key = vec![0; settings.table_len()];
-//! let mut commitment = vec![0; settings.element_len()];
+//! let mut key = vec![0; settings.key_len()];
+//! let mut commitment = vec![0; settings.commitment_len()];
 //! let mut rounds = vec![0; settings.rounds_len()];
 //! let mut challenges = vec![0; settings.challenges_len()];
 //! let mut last = vec![0; settings.element_len()];

@@ -12,12 +12,12 @@ use crate::Settings;
 /// ```
 /// use wovenrock::{commit, Session, Settings};
 ///
-/// let settings = Settings::new(2, 1, 17, 1)?;
+/// let settings = Settings::new(2, 1, 17, 1, 1)?;
 /// let commitment = commit(settings, &[3, 5, 7, 2], &[1, -1, 1, 0])?;
-/// assert_eq!(commitment.len(), settings.element_len());
+/// assert_eq!(commitment.len(), settings.commitment_len());
 /// assert_eq!(commitment, [15, 4]);
 /// let session = Session::start(settings, &commitment)?;
-/// assert_eq!(session.claim(), commitment);
+/// assert_eq!(session.claims(), commitment);
 /// # Ok::<(), wovenrock::Refusal>(())
 /// ```
 #[derive(Clone, Copy)]
@@ -26,45 +26,54 @@ pub struct Numbers<T, const MOST: usize> {
     count: usize,
 }
 
-/// The largest degree.
+/// The largest degree, and the most rows.
 const DEGREE: usize = Settings::LARGEST_DEGREE as usize;
+const ROWS: usize = Settings::MOST_ROWS as usize;
 
-/// An element of residues, such as a commitment.
+/// Elements of residues, one for each row: a commitment, or the claims of a
+/// session. [`Settings::commitment_row`] says where that of a row stands.
 ///
 /// ```
 /// use wovenrock::{commit, Residues, Settings};
 ///
-/// let settings = Settings::new(2, 0, 17, 1)?;
+/// let settings = Settings::new(2, 0, 17, 1, 1)?;
 /// let commitment: Residues = commit(settings, &[3, 5], &[1, -1])?;
 /// assert_eq!(commitment, [8, 2]);
+///
+/// // a second row, and its element behind that of the first
+/// let settings = Settings::new(2, 0, 17, 1, 2)?;
+/// let commitment = commit(settings, &[3, 5, 4, 0], &[1, -1])?;
+/// assert_eq!(commitment, [8, 2, 4, 13]);
 /// # Ok::<(), wovenrock::Refusal>(())
 /// ```
-pub type Residues = Numbers<u64, DEGREE>;
+pub type Residues = Numbers<u64, { ROWS * DEGREE }>;
 
 /// An element of whole numbers: a final element.
 ///
 /// ```
 /// use wovenrock::{end, Settings, Wholes};
 ///
-/// let settings = Settings::new(2, 0, 17, 1)?;
+/// let settings = Settings::new(2, 0, 17, 1, 1)?;
 /// let last: Wholes = end(settings, 0, &[1, -1])?;
 /// assert_eq!(last, [1, -1]);
 /// # Ok::<(), wovenrock::Refusal>(())
 /// ```
 pub type Wholes = Numbers<i32, DEGREE>;
 
-/// A round polynomial: its elements c0, c1, c2 one after the other.
+/// A round polynomial: c0 of every row, then c1 of every row, then c2. With one
+/// row these are its elements c0, c1, c2 one after the other;
+/// [`Settings::polynomial_row`] says where each stands.
 ///
 /// ```
 /// use wovenrock::{round, Polynomial, Settings};
 ///
-/// let settings = Settings::new(2, 1, 17, 1)?;
+/// let settings = Settings::new(2, 1, 17, 1, 1)?;
 /// let polynomial: Polynomial = round(settings, 0, &[3, 5, 7, 2], &[1, -1, 1, 0])?;
 /// let (c0, c1, c2) = (&polynomial[..2], &polynomial[2..4], &polynomial[4..]);
 /// assert_eq!((c0, c1, c2), (&[4, 1][..], &[6, 0][..], &[12, 1][..]));
 /// # Ok::<(), wovenrock::Refusal>(())
 /// ```
-pub type Polynomial = Numbers<u64, { 3 * DEGREE }>;
+pub type Polynomial = Numbers<u64, { 3 * ROWS * DEGREE }>;
 
 impl<T: Copy + Default, const MOST: usize> Numbers<T, MOST> {
     /// As many zeros, to be lent to a call; `count` is a length that settings

@@ -4,13 +4,14 @@ use core::error::Error;
 use core::fmt;
 
 /// Why a call was refused: the first that applies, in the order of the call's
-/// tests. A refused call has written nothing. That a call is not refused does
+/// tests; [`Refusal::Rows`] is tested straight after [`Refusal::Bound`]. A
+/// refused call has written nothing. That a call is not refused does
 /// not say that anything was accepted: that is a verdict's part.
 ///
 /// ```
 /// use wovenrock::{commit, Refusal, Settings};
 ///
-/// let settings = Settings::new(2, 1, 17, 1)?;
+/// let settings = Settings::new(2, 1, 17, 1, 1)?;
 /// let refused = commit(settings, &[3, 5, 7, 17], &[1, -1, 1, 0]).unwrap_err();
 /// assert_eq!(refused, Refusal::Residue);
 /// assert_eq!(refused.to_string(), "refused 8: residue");
@@ -54,6 +55,8 @@ pub enum Refusal {
     Growth = 14,
     /// The slack is not 1 to 65,536, or shares a factor with q.
     Slack = 15,
+    /// The number of rows is not 1 to 4.
+    Rows = 16,
 }
 
 impl Refusal {
@@ -82,6 +85,7 @@ impl Refusal {
         Refusal::Branch,
         Refusal::Growth,
         Refusal::Slack,
+        Refusal::Rows,
     ];
 
     /// The number in the table of refusals.
@@ -115,6 +119,7 @@ impl Refusal {
             Refusal::Branch => "branch",
             Refusal::Growth => "growth",
             Refusal::Slack => "slack",
+            Refusal::Rows => "rows",
         }
     }
 

@@ -2,14 +2,15 @@
 
 use crate::{library, EndVerdict, Numbers, Polynomial, Refusal, Residues, RoundVerdict, Settings};
 
-/// A verifier's session: settings, rounds done, claim, challenges, and
-/// whether it is closed. A rejection closes it, and so does an end.
+/// A verifier's session: settings, rounds done, a claim for each row,
+/// challenges, and whether it is closed. A rejection closes it, and so does an
+/// end.
 ///
 /// ```
 /// use wovenrock::{Session, Settings};
 ///
 /// let key = [3, 5, 7, 2];
-/// let mut session = Session::start(Settings::new(2, 1, 17, 1)?, &[15, 4])?;
+/// let mut session = Session::start(Settings::new(2, 1, 17, 1, 1)?, &[15, 4])?;
 /// assert!(session.round(&[4, 1, 6, 0, 12, 1], 1)?.holds());
 /// assert!(session.end(&[1, 0], &key)?.is_accepted());
 /// # Ok::<(), wovenrock::Refusal>(())
@@ -19,11 +20,13 @@ pub struct Session {
     record: [u64; Session::RECORD],
 }
 
-/// Places in a record; the settings are its first four numbers.
-const DONE: usize = 4;
-const CLOSED: usize = 5;
-const CHALLENGES: usize = 6;
-const CLAIM: usize = 14;
+/// Places in a record; the settings are its first five numbers. A claim has
+/// room for the largest degree, and there is room for four.
+const DONE: usize = 5;
+const CLOSED: usize = 6;
+const CHALLENGES: usize = 7;
+const CLAIMS: usize = 15;
+const CLAIM: usize = Settings::LARGEST_DEGREE as usize;
 
 /// A number of the record that is none of 64 bits: the library counts one that
 /// has no room in 32 as the largest that has.
@@ -32,26 +35,26 @@ fn narrow(number: u64) -> u32 {
 }
 
 impl Session {
-    /// Numbers of a saved session: degree, depth, modulus, bound, rounds done,
-    /// closed (0 or 1), eight challenges, 128 places of the claim.
+    /// Numbers of a saved session: degree, depth, modulus, bound, rows, rounds
+    /// done, closed (0 or 1), eight challenges, four claims of 128 places each.
     ///
     /// ```
     /// use wovenrock::{Session, Settings};
     ///
-    /// let session = Session::start(Settings::new(2, 1, 17, 1)?, &[15, 4])?;
+    /// let session = Session::start(Settings::new(2, 1, 17, 1, 1)?, &[15, 4])?;
     /// assert_eq!(session.save().len(), Session::RECORD);
     /// # Ok::<(), wovenrock::Refusal>(())
     /// ```
-    pub const RECORD: usize = 142;
+    pub const RECORD: usize = 527;
 
     /// A session starts at a commitment, which has exactly
-    /// [`Settings::element_len`] numbers. Refusals 7, 8.
+    /// [`Settings::commitment_len`] numbers. Refusals 7, 8.
     ///
     /// ```
     /// use wovenrock::{Refusal, Session, Settings};
     ///
-    /// let settings = Settings::new(2, 1, 17, 1)?;
-    /// assert_eq!(Session::start(settings, &[15, 4])?.claim(), [15, 4]);
+    /// let settings = Settings::new(2, 1, 17, 1, 1)?;
+    /// assert_eq!(Session::start(settings, &[15, 4])?.claims(), [15, 4]);
     /// assert_eq!(Session::start(settings, &[15, 4, 0]), Err(Refusal::Size));
     /// assert_eq!(Session::start(settings, &[15, 17]), Err(Refusal::Residue));
     /// # Ok::<(), Refusal>(())
@@ -65,6 +68,7 @@ impl Session {
                 s.depth(),
                 s.modulus(),
                 s.bound(),
+                s.rows(),
                 commitment.as_ptr(),
                 commitment.len(),
                 record.as_mut_ptr(),
@@ -74,9 +78,9 @@ impl Session {
         Refusal::answer(number).map(|()| Session { record })
     }
 
-    /// A round: does 2·(c0 + c2) equal the claim? Where it does, the round is
-    /// counted, and the claim becomes c0 + r·c1 + r²·c2 with r = X^exponent;
-    /// else the session is closed. The polynomial has exactly
+    /// A round: does 2·(c0 + c2) equal the claim in every row? Where it does,
+    /// the round is counted, and each claim becomes c0 + r·c1 + r²·c2 with
+    /// r = X^exponent; else the session is closed. The polynomial has exactly
     /// [`Settings::polynomial_len`] numbers: what [`round`](crate::round)
     /// answers, or a part of the table that [`open`](crate::open) wrote. A
     /// refused round changes nothing. Refusals 7, 8, 10, 11.
@@ -84,12 +88,12 @@ impl Session {
     /// ```
     /// use wovenrock::{Refusal, Session, Settings};
     ///
-    /// let mut session = Session::start(Settings::new(2, 1, 17, 1)?, &[15, 4])?;
+    /// let mut session = Session::start(Settings::new(2, 1, 17, 1, 1)?, &[15, 4])?;
     /// let polynomial = [4, 1, 6, 0, 12, 1];
     /// assert_eq!(session.round(&polynomial[..5], 1), Err(Refusal::Size));
     /// assert_eq!(session.round(&polynomial, 4), Err(Refusal::Challenge));
     /// assert!(session.round(&polynomial, 1)?.holds());
-    /// assert_eq!(session.claim(), [9, 6]);
+    /// assert_eq!(session.claims(), [9, 6]);
     /// assert_eq!(session.round(&polynomial, 1), Err(Refusal::Turn));
     /// # Ok::<(), Refusal>(())
     /// ```
@@ -109,13 +113,13 @@ impl Session {
     }
 
     /// The end, with the final element ([`Settings::element_len`] numbers) and
-    /// the unfolded key ([`Settings::table_len`] numbers). It closes the
+    /// the unfolded key ([`Settings::key_len`] numbers). It closes the
     /// session. A refused end changes nothing. Refusals 7, 8, 11.
     ///
     /// ```
     /// use wovenrock::{Refusal, Session, Settings};
     ///
-    /// let mut session = Session::start(Settings::new(2, 0, 17, 1)?, &[8, 2])?;
+    /// let mut session = Session::start(Settings::new(2, 0, 17, 1, 1)?, &[8, 2])?;
     /// assert_eq!(session.end(&[1, -1], &[3, 5, 7]), Err(Refusal::Size));
     /// assert!(session.end(&[1, -1], &[3, 5])?.is_accepted());
     /// assert_eq!(session.end(&[1, -1], &[3, 5]), Err(Refusal::Turn));
@@ -142,9 +146,14 @@ impl Session {
     /// ```
     /// use wovenrock::{Session, Settings};
     ///
-    /// let session = Session::start(Settings::new(2, 1, 17, 1)?, &[15, 4])?;
-    /// assert_eq!(session.save()[..6], [2, 1, 17, 1, 0, 0]);
-    /// assert_eq!(session.save()[14..16], [15, 4]);
+    /// let session = Session::start(Settings::new(2, 1, 17, 1, 1)?, &[15, 4])?;
+    /// assert_eq!(session.save()[..7], [2, 1, 17, 1, 1, 0, 0]);
+    /// assert_eq!(session.save()[15..17], [15, 4]);
+    ///
+    /// // the claim of a second row stands 128 numbers behind that of the first
+    /// let settings = Settings::new(2, 1, 17, 1, 2)?;
+    /// let session = Session::start(settings, &[15, 4, 7, 15])?;
+    /// assert_eq!(session.save()[143..145], [7, 15]);
     /// # Ok::<(), wovenrock::Refusal>(())
     /// ```
     pub fn save(&self) -> [u64; Session::RECORD] {
@@ -153,14 +162,14 @@ impl Session {
 
     /// The session whose record was saved. The library tests the record, as
     /// it does in every move. Refusals 7 where it has not
-    /// [`Session::RECORD`] numbers, then 3 to 6 for its settings, 7 where it
-    /// is neither open nor closed, 8 for its claim and 10 for its eight
-    /// challenges.
+    /// [`Session::RECORD`] numbers, then 3 to 6 and 16 for its settings, 7
+    /// where it is neither open nor closed, 8 for its claims and 10 for its
+    /// eight challenges.
     ///
     /// ```
     /// use wovenrock::{Refusal, Session, Settings};
     ///
-    /// let mut session = Session::start(Settings::new(2, 1, 17, 1)?, &[15, 4])?;
+    /// let mut session = Session::start(Settings::new(2, 1, 17, 1, 1)?, &[15, 4])?;
     /// let saved = session.save();
     /// assert!(session.round(&[4, 1, 6, 0, 12, 1], 1)?.holds());
     ///
@@ -176,9 +185,11 @@ impl Session {
         let record = record.try_into().map_err(|_| Refusal::Size)?;
         let session = Session { record };
         // A round by zeros, on a copy: it tests the whole record, and 11 is
-        // about the round alone.
+        // about the round alone. Other settings than these are refused first.
         let degree = record[0].min(Settings::LARGEST_DEGREE.into()) as usize;
-        match session.clone().round(&Polynomial::zeros(3 * degree), 0) {
+        let rows = record[4].min(Settings::MOST_ROWS.into()) as usize;
+        let zeros = Polynomial::zeros(3 * rows * degree);
+        match session.clone().round(&zeros, 0) {
             Ok(_) | Err(Refusal::Turn) => Ok(session),
             Err(refusal) => Err(refusal),
         }
@@ -189,13 +200,13 @@ impl Session {
     /// ```
     /// use wovenrock::{Session, Settings};
     ///
-    /// let settings = Settings::new(2, 1, 17, 1)?;
+    /// let settings = Settings::new(2, 1, 17, 1, 1)?;
     /// assert_eq!(Session::start(settings, &[15, 4])?.settings(), settings);
     /// # Ok::<(), wovenrock::Refusal>(())
     /// ```
     pub fn settings(&self) -> Settings {
-        let [degree, depth, modulus, bound, ..] = self.record;
-        Settings::tested([degree, depth, modulus, bound])
+        let [degree, depth, modulus, bound, rows, ..] = self.record;
+        Settings::tested([degree, depth, modulus, bound, rows])
     }
 
     /// Rounds that held.
@@ -203,7 +214,7 @@ impl Session {
     /// ```
     /// use wovenrock::{Session, Settings};
     ///
-    /// let mut session = Session::start(Settings::new(2, 1, 17, 1)?, &[15, 4])?;
+    /// let mut session = Session::start(Settings::new(2, 1, 17, 1, 1)?, &[15, 4])?;
     /// assert_eq!(session.done(), 0);
     /// assert!(session.round(&[4, 1, 6, 0, 12, 1], 1)?.holds());
     /// assert_eq!(session.done(), 1);
@@ -219,7 +230,7 @@ impl Session {
     /// ```
     /// use wovenrock::{Session, Settings};
     ///
-    /// let mut session = Session::start(Settings::new(2, 0, 17, 1)?, &[8, 2])?;
+    /// let mut session = Session::start(Settings::new(2, 0, 17, 1, 1)?, &[8, 2])?;
     /// assert!(!session.is_closed());
     /// assert!(!session.end(&[1, 1], &[3, 5])?.is_accepted());
     /// assert!(session.is_closed());
@@ -234,28 +245,36 @@ impl Session {
     /// ```
     /// use wovenrock::{Session, Settings};
     ///
-    /// let mut session = Session::start(Settings::new(2, 1, 17, 1)?, &[15, 4])?;
+    /// let mut session = Session::start(Settings::new(2, 1, 17, 1, 1)?, &[15, 4])?;
     /// assert!(session.round(&[4, 1, 6, 0, 12, 1], 3)?.holds());
     /// assert_eq!(session.challenges(), [3, 0, 0, 0, 0, 0, 0, 0]);
     /// # Ok::<(), wovenrock::Refusal>(())
     /// ```
-    pub fn challenges(&self) -> [u32; CLAIM - CHALLENGES] {
+    pub fn challenges(&self) -> [u32; CLAIMS - CHALLENGES] {
         core::array::from_fn(|k| narrow(self.record[CHALLENGES + k]))
     }
 
-    /// The claim, [`Settings::element_len`] numbers.
+    /// The claims, one for each row: [`Settings::commitment_len`] numbers.
     ///
     /// ```
     /// use wovenrock::{Session, Settings};
     ///
-    /// let session = Session::start(Settings::new(2, 1, 17, 1)?, &[15, 4])?;
-    /// assert_eq!(session.claim(), [15, 4]);
+    /// let session = Session::start(Settings::new(2, 1, 17, 1, 1)?, &[15, 4])?;
+    /// assert_eq!(session.claims(), [15, 4]);
+    ///
+    /// let settings = Settings::new(2, 1, 17, 1, 2)?;
+    /// let mut session = Session::start(settings, &[15, 4, 7, 15])?;
+    /// assert!(session.round(&[4, 1, 1, 16, 6, 0, 12, 6, 12, 1, 11, 0], 1)?.holds());
+    /// assert_eq!(session.claims()[settings.commitment_row(1)], [1, 11]);
     /// # Ok::<(), wovenrock::Refusal>(())
     /// ```
-    pub fn claim(&self) -> Residues {
-        let mut claim = Numbers::zeros(self.settings().element_len());
-        let lent = claim.lent();
-        lent.copy_from_slice(&self.record[CLAIM..CLAIM + lent.len()]);
-        claim
+    pub fn claims(&self) -> Residues {
+        let s = self.settings();
+        let mut claims = Numbers::zeros(s.commitment_len());
+        let stored = self.record[CLAIMS..].chunks(CLAIM);
+        for (claim, stored) in claims.lent().chunks_mut(s.element_len()).zip(stored) {
+            claim.copy_from_slice(&stored[..claim.len()]);
+        }
+        claims
     }
 }

@@ -1,15 +1,20 @@
 //! Settings, and the lengths of tables.
 
+use core::ops::Range;
+
 use crate::{library, Refusal};
 
-/// Settings that are allowed: the degree d, the depth L, the modulus q and the
-/// bound B. From them follows the length of every table.
+/// Settings that are allowed: the degree d, the depth L, the modulus q, the
+/// bound B and the number of rows. From them follows the length of every
+/// table.
 ///
 /// ```
 /// use wovenrock::{Refusal, Settings};
 ///
-/// let settings = Settings::new(2, 1, 17, 1)?;
+/// let settings = Settings::new(2, 1, 17, 1, 1)?;
 /// assert_eq!(settings.table_len(), 4);
+/// let settings = Settings::new(2, 1, 17, 1, 3)?;
+/// assert_eq!(settings.key_len(), 3 * settings.table_len());
 /// # Ok::<(), Refusal>(())
 /// ```
 #[derive(Clone, Copy, Debug, PartialEq, Eq, Hash)]
@@ -18,6 +23,7 @@ pub struct Settings {
     depth: u32,
     modulus: u64,
     bound: u32,
+    rows: u32,
 }
 
 impl Settings {
@@ -28,8 +34,8 @@ impl Settings {
     ///
     /// let most = Settings::LARGEST_MODULUS;
     /// assert_eq!(most, (1 << 61) - 1);
-    /// assert!(Settings::new(64, 8, most, 127).is_ok());
-    /// assert_eq!(Settings::new(64, 8, most + 2, 127), Err(Refusal::Modulus));
+    /// assert!(Settings::new(64, 8, most, 127, 1).is_ok());
+    /// assert_eq!(Settings::new(64, 8, most + 2, 127, 1), Err(Refusal::Modulus));
     /// ```
     pub const LARGEST_MODULUS: u64 = 2_305_843_009_213_693_951;
 
@@ -40,9 +46,9 @@ impl Settings {
     ///
     /// let (d, q) = (Settings::LARGEST_DEGREE, Settings::MODULUS_OF_LARGEST_DEGREE);
     /// assert_eq!((d, q), (128, 12_289));
-    /// assert!(Settings::new(d, 8, q, 127).is_ok());
-    /// assert_eq!(Settings::new(d, 8, q - 2, 127), Err(Refusal::Degree));
-    /// assert_eq!(Settings::new(d, 8, q - 1, 127), Err(Refusal::Degree));
+    /// assert!(Settings::new(d, 8, q, 127, 1).is_ok());
+    /// assert_eq!(Settings::new(d, 8, q - 2, 127, 1), Err(Refusal::Degree));
+    /// assert_eq!(Settings::new(d, 8, q - 1, 127, 1), Err(Refusal::Degree));
     /// ```
     pub const LARGEST_DEGREE: u32 = 128;
 
@@ -53,39 +59,62 @@ impl Settings {
     /// ```
     pub const MODULUS_OF_LARGEST_DEGREE: u64 = 12_289;
 
-    /// The settings d (2, 4, 8, 16, 32 or 64, and 128 with modulus 12289
-    /// alone), L (0 to 8), q (odd, 3 to [`Settings::LARGEST_MODULUS`]) and B
-    /// (1 to 127). Refusals 3 to 6, and no other call
-    /// than this, [`look`](crate::look) and [`read`](crate::read) gives those.
+    /// The most rows that a key has.
     ///
     /// ```
     /// use wovenrock::{Refusal, Settings};
     ///
-    /// assert!(Settings::new(64, 8, 12_289, 127).is_ok());
-    /// assert_eq!(Settings::new(3, 8, 12_289, 127), Err(Refusal::Degree));
-    /// assert_eq!(Settings::new(64, 9, 12_289, 127), Err(Refusal::Depth));
-    /// assert_eq!(Settings::new(64, 8, 12_288, 127), Err(Refusal::Modulus));
-    /// assert_eq!(Settings::new(64, 8, 12_289, 128), Err(Refusal::Bound));
+    /// let most = Settings::MOST_ROWS;
+    /// assert!(Settings::new(64, 8, 12_289, 127, most).is_ok());
+    /// assert_eq!(Settings::new(64, 8, 12_289, 127, most + 1), Err(Refusal::Rows));
     /// ```
-    pub fn new(degree: u32, depth: u32, modulus: u64, bound: u32) -> Result<Settings, Refusal> {
-        let number = unsafe { library::wovenrock_settings(degree, depth, modulus, bound) };
+    pub const MOST_ROWS: u32 = 4;
+
+    /// The settings d (2, 4, 8, 16, 32 or 64, and 128 with modulus 12289
+    /// alone), L (0 to 8), q (odd, 3 to [`Settings::LARGEST_MODULUS`]), B
+    /// (1 to 127) and rows (1 to [`Settings::MOST_ROWS`]). Refusals 3 to 6, 16,
+    /// and no other call than this, [`look`](crate::look),
+    /// [`read`](crate::read), [`prove`](crate::prove),
+    /// [`verify`](crate::verify) and
+    /// [`Session::restore`](crate::Session::restore) gives those.
+    ///
+    /// ```
+    /// use wovenrock::{Refusal, Settings};
+    ///
+    /// assert!(Settings::new(64, 8, 12_289, 127, 1).is_ok());
+    /// assert_eq!(Settings::new(3, 8, 12_289, 127, 1), Err(Refusal::Degree));
+    /// assert_eq!(Settings::new(64, 9, 12_289, 127, 1), Err(Refusal::Depth));
+    /// assert_eq!(Settings::new(64, 8, 12_288, 127, 1), Err(Refusal::Modulus));
+    /// assert_eq!(Settings::new(64, 8, 12_289, 128, 1), Err(Refusal::Bound));
+    /// assert_eq!(Settings::new(64, 8, 12_289, 127, 0), Err(Refusal::Rows));
+    /// ```
+    pub fn new(
+        degree: u32,
+        depth: u32,
+        modulus: u64,
+        bound: u32,
+        rows: u32,
+    ) -> Result<Settings, Refusal> {
+        let number = unsafe { library::wovenrock_settings(degree, depth, modulus, bound, rows) };
         Refusal::answer(number).map(|()| Settings {
             degree,
             depth,
             modulus,
             bound,
+            rows,
         })
     }
 
     /// Settings that the library has tested, in the order in which it writes
     /// them.
-    pub(crate) fn tested(numbers: [u64; 4]) -> Settings {
-        let [degree, depth, modulus, bound] = numbers;
+    pub(crate) fn tested(numbers: [u64; 5]) -> Settings {
+        let [degree, depth, modulus, bound, rows] = numbers;
         Settings {
             degree: degree as u32,
             depth: depth as u32,
             modulus,
             bound: bound as u32,
+            rows: rows as u32,
         }
     }
 
@@ -93,7 +122,7 @@ impl Settings {
     ///
     /// ```
     /// # use wovenrock::Settings;
-    /// assert_eq!(Settings::new(2, 1, 17, 3)?.degree(), 2);
+    /// assert_eq!(Settings::new(2, 1, 17, 3, 1)?.degree(), 2);
     /// # Ok::<(), wovenrock::Refusal>(())
     /// ```
     pub fn degree(self) -> u32 {
@@ -104,7 +133,7 @@ impl Settings {
     ///
     /// ```
     /// # use wovenrock::Settings;
-    /// assert_eq!(Settings::new(2, 1, 17, 3)?.depth(), 1);
+    /// assert_eq!(Settings::new(2, 1, 17, 3, 1)?.depth(), 1);
     /// # Ok::<(), wovenrock::Refusal>(())
     /// ```
     pub fn depth(self) -> u32 {
@@ -115,7 +144,7 @@ impl Settings {
     ///
     /// ```
     /// # use wovenrock::Settings;
-    /// assert_eq!(Settings::new(2, 1, 17, 3)?.modulus(), 17);
+    /// assert_eq!(Settings::new(2, 1, 17, 3, 1)?.modulus(), 17);
     /// # Ok::<(), wovenrock::Refusal>(())
     /// ```
     pub fn modulus(self) -> u64 {
@@ -126,64 +155,144 @@ impl Settings {
     ///
     /// ```
     /// # use wovenrock::Settings;
-    /// assert_eq!(Settings::new(2, 1, 17, 3)?.bound(), 3);
+    /// assert_eq!(Settings::new(2, 1, 17, 3, 1)?.bound(), 3);
     /// # Ok::<(), wovenrock::Refusal>(())
     /// ```
     pub fn bound(self) -> u32 {
         self.bound
     }
 
+    /// The number of rows: a key has so many rows of 2^L elements, and a
+    /// commitment has one element for each.
+    ///
+    /// ```
+    /// # use wovenrock::Settings;
+    /// assert_eq!(Settings::new(2, 1, 17, 3, 2)?.rows(), 2);
+    /// # Ok::<(), wovenrock::Refusal>(())
+    /// ```
+    pub fn rows(self) -> u32 {
+        self.rows
+    }
+
     /// Challenges are exponents below this, 2·d.
     ///
     /// ```
     /// # use wovenrock::Settings;
-    /// assert_eq!(Settings::new(2, 1, 17, 3)?.exponents(), 4);
+    /// assert_eq!(Settings::new(2, 1, 17, 3, 1)?.exponents(), 4);
     /// # Ok::<(), wovenrock::Refusal>(())
     /// ```
     pub fn exponents(self) -> u32 {
         2 * self.degree
     }
 
-    /// Numbers of an element, such as a commitment or a final element: d.
+    /// Numbers of an element, such as the final one: d.
     ///
     /// ```
     /// # use wovenrock::Settings;
-    /// assert_eq!(Settings::new(4, 2, 17, 3)?.element_len(), 4);
+    /// assert_eq!(Settings::new(4, 2, 17, 3, 1)?.element_len(), 4);
     /// # Ok::<(), wovenrock::Refusal>(())
     /// ```
     pub fn element_len(self) -> usize {
         self.degree as usize
     }
 
-    /// Numbers of a round polynomial: 3·d, its elements c0, c1, c2 one after
-    /// the other.
+    /// Numbers of a commitment and of a session's claims: rows·d, one element
+    /// for each row.
     ///
     /// ```
     /// # use wovenrock::Settings;
-    /// assert_eq!(Settings::new(4, 2, 17, 3)?.polynomial_len(), 12);
+    /// assert_eq!(Settings::new(4, 2, 17, 3, 2)?.commitment_len(), 8);
+    /// # Ok::<(), wovenrock::Refusal>(())
+    /// ```
+    pub fn commitment_len(self) -> usize {
+        self.rows as usize * self.element_len()
+    }
+
+    /// Numbers of a round polynomial: 3·rows·d. First c0 of every row, then
+    /// c1 of every row, then c2.
+    ///
+    /// ```
+    /// # use wovenrock::Settings;
+    /// assert_eq!(Settings::new(4, 2, 17, 3, 1)?.polynomial_len(), 12);
+    /// assert_eq!(Settings::new(4, 2, 17, 3, 2)?.polynomial_len(), 24);
     /// # Ok::<(), wovenrock::Refusal>(())
     /// ```
     pub fn polynomial_len(self) -> usize {
-        3 * self.element_len()
+        3 * self.commitment_len()
     }
 
-    /// Numbers of a key, of a message and of an extracted vector: 2^L·d.
+    /// Numbers of a message and of an extracted vector: 2^L·d.
     ///
     /// ```
     /// # use wovenrock::Settings;
-    /// assert_eq!(Settings::new(4, 2, 17, 3)?.table_len(), 16);
+    /// assert_eq!(Settings::new(4, 2, 17, 3, 1)?.table_len(), 16);
     /// # Ok::<(), wovenrock::Refusal>(())
     /// ```
     pub fn table_len(self) -> usize {
         self.element_len() << self.depth
     }
 
-    /// Numbers of a transcript's round elements: 3·L·d. The polynomial of round
-    /// i is numbers 3·d·(i−1) to 3·d·i of them.
+    /// Numbers of a key: rows·2^L·d, its rows one after the other.
     ///
     /// ```
     /// # use wovenrock::Settings;
-    /// assert_eq!(Settings::new(4, 2, 17, 3)?.rounds_len(), 24);
+    /// assert_eq!(Settings::new(4, 2, 17, 3, 2)?.key_len(), 32);
+    /// # Ok::<(), wovenrock::Refusal>(())
+    /// ```
+    pub fn key_len(self) -> usize {
+        self.rows as usize * self.table_len()
+    }
+
+    /// Which numbers of a key are one of its rows; rows count from 0.
+    ///
+    /// ```
+    /// # use wovenrock::Settings;
+    /// let settings = Settings::new(2, 1, 17, 1, 2)?;
+    /// let key = [3, 5, 7, 2, 2, 0, 5, 0];
+    /// assert_eq!(key[settings.key_row(1)], [2, 0, 5, 0]);
+    /// # Ok::<(), wovenrock::Refusal>(())
+    /// ```
+    pub fn key_row(self, row: u32) -> Range<usize> {
+        part(row, self.table_len())
+    }
+
+    /// Which numbers of a commitment, or of a session's claims, are the element
+    /// of one row.
+    ///
+    /// ```
+    /// # use wovenrock::{commit, Settings};
+    /// let settings = Settings::new(2, 1, 17, 1, 2)?;
+    /// let commitment = commit(settings, &[3, 5, 7, 2, 2, 0, 5, 0], &[1, -1, 1, 0])?;
+    /// assert_eq!(commitment[settings.commitment_row(0)], [15, 4]);
+    /// assert_eq!(commitment[settings.commitment_row(1)], [7, 15]);
+    /// # Ok::<(), wovenrock::Refusal>(())
+    /// ```
+    pub fn commitment_row(self, row: u32) -> Range<usize> {
+        part(row, self.element_len())
+    }
+
+    /// Which numbers of a round polynomial are the element c_j of one row, j
+    /// being 0, 1 or 2.
+    ///
+    /// ```
+    /// # use wovenrock::{round, Settings};
+    /// let settings = Settings::new(2, 1, 17, 1, 2)?;
+    /// let polynomial = round(settings, 0, &[3, 5, 7, 2, 2, 0, 5, 0], &[1, -1, 1, 0])?;
+    /// assert_eq!(polynomial[settings.polynomial_row(1, 0)], [6, 0]);
+    /// assert_eq!(polynomial[settings.polynomial_row(1, 1)], [12, 6]);
+    /// # Ok::<(), wovenrock::Refusal>(())
+    /// ```
+    pub fn polynomial_row(self, j: u32, row: u32) -> Range<usize> {
+        part(self.rows * j + row, self.element_len())
+    }
+
+    /// Numbers of a transcript's round elements: rows·3·L·d. The polynomial of
+    /// round i is numbers 3·rows·d·(i−1) to 3·rows·d·i of them.
+    ///
+    /// ```
+    /// # use wovenrock::Settings;
+    /// assert_eq!(Settings::new(4, 2, 17, 3, 1)?.rounds_len(), 24);
+    /// assert_eq!(Settings::new(4, 2, 17, 3, 4)?.rounds_len(), 96);
     /// # Ok::<(), wovenrock::Refusal>(())
     /// ```
     pub fn rounds_len(self) -> usize {
@@ -194,7 +303,7 @@ impl Settings {
     ///
     /// ```
     /// # use wovenrock::Settings;
-    /// assert_eq!(Settings::new(4, 2, 17, 3)?.challenges_len(), 2);
+    /// assert_eq!(Settings::new(4, 2, 17, 3, 1)?.challenges_len(), 2);
     /// # Ok::<(), wovenrock::Refusal>(())
     /// ```
     pub fn challenges_len(self) -> usize {
@@ -205,7 +314,7 @@ impl Settings {
     ///
     /// ```
     /// # use wovenrock::Settings;
-    /// assert_eq!(Settings::new(4, 2, 17, 3)?.leaves(), 9);
+    /// assert_eq!(Settings::new(4, 2, 17, 3, 1)?.leaves(), 9);
     /// # Ok::<(), wovenrock::Refusal>(())
     /// ```
     pub fn leaves(self) -> usize {
@@ -218,18 +327,19 @@ impl Settings {
     ///
     /// ```
     /// # use wovenrock::Settings;
-    /// assert_eq!(Settings::new(4, 2, 17, 3)?.nodes(), 4);
+    /// assert_eq!(Settings::new(4, 2, 17, 3, 1)?.nodes(), 4);
     /// # Ok::<(), wovenrock::Refusal>(())
     /// ```
     pub fn nodes(self) -> usize {
         (self.leaves() - 1) / 2
     }
 
-    /// Numbers of a full tree's round elements: 3·d for each branching node.
+    /// Numbers of a full tree's round elements: 3·rows·d for each branching
+    /// node.
     ///
     /// ```
     /// # use wovenrock::Settings;
-    /// assert_eq!(Settings::new(4, 2, 17, 3)?.tree_rounds_len(), 48);
+    /// assert_eq!(Settings::new(4, 2, 17, 3, 1)?.tree_rounds_len(), 48);
     /// # Ok::<(), wovenrock::Refusal>(())
     /// ```
     pub fn tree_rounds_len(self) -> usize {
@@ -240,7 +350,7 @@ impl Settings {
     ///
     /// ```
     /// # use wovenrock::Settings;
-    /// assert_eq!(Settings::new(4, 2, 17, 3)?.tree_challenges_len(), 12);
+    /// assert_eq!(Settings::new(4, 2, 17, 3, 1)?.tree_challenges_len(), 12);
     /// # Ok::<(), wovenrock::Refusal>(())
     /// ```
     pub fn tree_challenges_len(self) -> usize {
@@ -251,7 +361,7 @@ impl Settings {
     ///
     /// ```
     /// # use wovenrock::Settings;
-    /// assert_eq!(Settings::new(4, 2, 17, 3)?.leaves_len(), 36);
+    /// assert_eq!(Settings::new(4, 2, 17, 3, 1)?.leaves_len(), 36);
     /// # Ok::<(), wovenrock::Refusal>(())
     /// ```
     pub fn leaves_len(self) -> usize {
@@ -262,10 +372,16 @@ impl Settings {
     ///
     /// ```
     /// # use wovenrock::Settings;
-    /// assert_eq!(Settings::new(4, 2, 17, 3)?.slack(), 16);
+    /// assert_eq!(Settings::new(4, 2, 17, 3, 1)?.slack(), 16);
     /// # Ok::<(), wovenrock::Refusal>(())
     /// ```
     pub fn slack(self) -> u32 {
         4u32.pow(self.depth)
     }
+}
+
+/// Part number `at` of a table whose parts have so many numbers.
+fn part(at: u32, numbers: usize) -> Range<usize> {
+    let at = at as usize;
+    at * numbers..(at + 1) * numbers
 }

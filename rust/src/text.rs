@@ -14,10 +14,11 @@ use crate::{library, EndVerdict, Refusal, Settings};
 pub const LONGEST_TEXT: usize = 65_536;
 
 /// Tables that a text is read into, one for each part that is wanted. Each has
-/// exactly its length: [`Settings::table_len`] for key and message,
-/// [`Settings::element_len`] for commitment and final element,
-/// [`Settings::rounds_len`] for the round elements and
-/// [`Settings::challenges_len`] for the challenges. A later version may have
+/// exactly its length: [`Settings::key_len`] for the key,
+/// [`Settings::table_len`] for the message, [`Settings::commitment_len`] for
+/// the commitment, [`Settings::rounds_len`] for the round elements,
+/// [`Settings::challenges_len`] for the challenges and
+/// [`Settings::element_len`] for the final element. A later version may have
 /// more of them, so end the list by `..TablesMut::default()`.
 ///
 /// ```
@@ -28,6 +29,7 @@ pub const LONGEST_TEXT: usize = 65_536;
 /// 0 0 1 0
 /// 0 0 2 17
 /// 0 0 3 1
+/// 0 0 4 1
 /// 6 0 0 1
 /// 6 0 1 -1
 /// ";
@@ -44,7 +46,8 @@ pub struct TablesMut<'a> {
     pub message: Option<&'a mut [i32]>,
     /// Part 3.
     pub commitment: Option<&'a mut [u64]>,
-    /// Part 4: the round elements, c_j of round i as element 3·(i−1)+j.
+    /// Part 4: the round elements, c_j of round i as element
+    /// rows·(3·(i−1)+j) + row.
     pub rounds: Option<&'a mut [u64]>,
     /// Part 5.
     pub challenges: Option<&'a mut [u32]>,
@@ -59,11 +62,11 @@ pub struct TablesMut<'a> {
 /// ```
 /// use wovenrock::{write, Settings, Tables};
 ///
-/// let settings = Settings::new(2, 0, 17, 1)?;
+/// let settings = Settings::new(2, 0, 17, 1, 1)?;
 /// let mut out = [0; 100];
 /// let tables = Tables { last: Some(&[1, -1]), ..Tables::default() };
 /// let text = write(settings, tables, &mut out)?;
-/// assert!(text.ends_with(b"0 0 3 1\n6 0 0 1\n6 0 1 -1\n"));
+/// assert!(text.ends_with(b"0 0 3 1\n0 0 4 1\n6 0 0 1\n6 0 1 -1\n"));
 /// # Ok::<(), wovenrock::Refusal>(())
 /// ```
 #[derive(Clone, Copy, Debug, Default)]
@@ -74,7 +77,8 @@ pub struct Tables<'a> {
     pub message: Option<&'a [i32]>,
     /// Part 3.
     pub commitment: Option<&'a [u64]>,
-    /// Part 4: the round elements, c_j of round i as element 3·(i−1)+j.
+    /// Part 4: the round elements, c_j of round i as element
+    /// rows·(3·(i−1)+j) + row.
     pub rounds: Option<&'a [u64]>,
     /// Part 5.
     pub challenges: Option<&'a [u32]>,
@@ -89,18 +93,18 @@ fn parts(there: [bool; 6]) -> u32 {
 }
 
 /// The settings of a text, from which the lengths of its tables are known.
-/// Every line of the text is tested. Refusals 1 to 6.
+/// Every line of the text is tested. Refusals 1 to 6, 16.
 ///
 /// ```
 /// use wovenrock::{look, Refusal, Settings};
 ///
-/// let text = b"part item place value\n0 0 0 2\n0 0 1 1\n0 0 2 17\n0 0 3 1\n";
-/// assert_eq!(look(text)?, Settings::new(2, 1, 17, 1)?);
+/// let text = b"part item place value\n0 0 0 2\n0 0 1 1\n0 0 2 17\n0 0 3 1\n0 0 4 1\n";
+/// assert_eq!(look(text)?, Settings::new(2, 1, 17, 1, 1)?);
 /// assert_eq!(look(&text[1..]), Err(Refusal::Text));
 /// # Ok::<(), Refusal>(())
 /// ```
 pub fn look(text: &[u8]) -> Result<Settings, Refusal> {
-    let mut settings = [0; 4];
+    let mut settings = [0; 5];
     let number = unsafe {
         library::wovenrock_look(
             text.as_ptr(),
@@ -113,7 +117,8 @@ pub fn look(text: &[u8]) -> Result<Settings, Refusal> {
 }
 
 /// Reads the parts for which a table is given: these and no others must be in
-/// the text. No table is written where the call is refused. Refusals 1 to 10.
+/// the text. No table is written where the call is refused. Refusals 1 to 10,
+/// 16.
 ///
 /// ```
 /// use wovenrock::{look, read, Refusal, TablesMut};
@@ -123,12 +128,13 @@ pub fn look(text: &[u8]) -> Result<Settings, Refusal> {
 /// 0 0 1 1
 /// 0 0 2 17
 /// 0 0 3 1
+/// 0 0 4 1
 /// 1 0 0 3
 /// 1 0 1 5
 /// 1 1 0 7
 /// 1 1 1 2
 /// ";
-/// let mut key = vec![0; look(text)?.table_len()];
+/// let mut key = vec![0; look(text)?.key_len()];
 /// read(text, TablesMut { key: Some(&mut key), ..TablesMut::default() })?;
 /// assert_eq!(key, [3, 5, 7, 2]);
 ///
@@ -137,7 +143,7 @@ pub fn look(text: &[u8]) -> Result<Settings, Refusal> {
 /// # Ok::<(), Refusal>(())
 /// ```
 pub fn read(text: &[u8], tables: TablesMut<'_>) -> Result<Settings, Refusal> {
-    let mut settings = [0; 4];
+    let mut settings = [0; 5];
     let parts = parts([
         tables.key.is_some(),
         tables.message.is_some(),
@@ -183,13 +189,13 @@ pub fn read(text: &[u8], tables: TablesMut<'_>) -> Result<Settings, Refusal> {
 /// ```
 /// use wovenrock::{write, Refusal, Settings, Tables};
 ///
-/// let settings = Settings::new(2, 1, 17, 1)?;
+/// let settings = Settings::new(2, 1, 17, 1, 1)?;
 /// let tables = Tables { challenges: Some(&[3]), ..Tables::default() };
 /// let mut out = [0; 100];
 /// let text = write(settings, tables, &mut out)?;
 /// assert_eq!(
 ///     text,
-///     b"part item place value\n0 0 0 2\n0 0 1 1\n0 0 2 17\n0 0 3 1\n5 0 0 3\n"
+///     b"part item place value\n0 0 0 2\n0 0 1 1\n0 0 2 17\n0 0 3 1\n0 0 4 1\n5 0 0 3\n"
 /// );
 /// assert_eq!(write(settings, tables, &mut [0; 10]), Err(Refusal::Size));
 /// # Ok::<(), Refusal>(())
@@ -221,6 +227,7 @@ pub fn write<'o>(
             s.depth(),
             s.modulus(),
             s.bound(),
+            s.rows(),
             parts,
             key.as_ptr(),
             key.len(),
@@ -245,8 +252,8 @@ pub fn write<'o>(
 /// The program `prove` as a call: opens the key and message in a text by its
 /// challenges, which are its three parts. The text of settings, commitment,
 /// round elements, challenges and final element goes to the front of `out`,
-/// for which [`LONGEST_TEXT`] bytes are always enough, and is the answer.
-/// Refusals 1 to 10, then 1 and 7 as in [`write()`].
+/// for which no more than [`LONGEST_TEXT`] bytes are wanted, and is the answer.
+/// Refusals 1 to 10, 16, then 1 and 7 as in [`write()`].
 ///
 /// ```
 /// use wovenrock::{prove, LONGEST_TEXT};
@@ -256,6 +263,7 @@ pub fn write<'o>(
 /// 0 0 1 0
 /// 0 0 2 17
 /// 0 0 3 1
+/// 0 0 4 1
 /// 1 0 0 3
 /// 1 0 1 5
 /// 2 0 0 1
@@ -263,7 +271,7 @@ pub fn write<'o>(
 /// ";
 /// let mut out = [0; LONGEST_TEXT];
 /// let listing = prove(text, &mut out)?;
-/// assert!(listing.ends_with(b"0 0 3 1\n3 0 0 8\n3 0 1 2\n6 0 0 1\n6 0 1 -1\n"));
+/// assert!(listing.ends_with(b"0 0 3 1\n0 0 4 1\n3 0 0 8\n3 0 1 2\n6 0 0 1\n6 0 1 -1\n"));
 /// # Ok::<(), wovenrock::Refusal>(())
 /// ```
 pub fn prove<'o>(text: &[u8], out: &'o mut [u8]) -> Result<&'o [u8], Refusal> {
@@ -282,7 +290,7 @@ pub fn prove<'o>(text: &[u8], out: &'o mut [u8]) -> Result<&'o [u8], Refusal> {
 
 /// The program `verify` as a call: is the transcript in a text accepted? The
 /// text has settings, key, commitment, round elements, challenges and final
-/// element. Refusals 1 to 8, 10.
+/// element. Refusals 1 to 8, 10, 16.
 ///
 /// ```
 /// use wovenrock::verify;
@@ -292,6 +300,7 @@ pub fn prove<'o>(text: &[u8], out: &'o mut [u8]) -> Result<&'o [u8], Refusal> {
 /// 0 0 1 0
 /// 0 0 2 17
 /// 0 0 3 1
+/// 0 0 4 1
 /// 1 0 0 3
 /// 1 0 1 5
 /// 3 0 0 8

@@ -5,7 +5,7 @@
 /// ```
 /// use wovenrock::{RoundVerdict, Session, Settings};
 ///
-/// let mut session = Session::start(Settings::new(2, 1, 17, 1)?, &[15, 4])?;
+/// let mut session = Session::start(Settings::new(2, 1, 17, 1, 1)?, &[15, 4])?;
 /// let verdict = session.round(&[4, 1, 6, 0, 12, 1], 1)?;
 /// assert_eq!(verdict, RoundVerdict::Holds);
 /// # Ok::<(), wovenrock::Refusal>(())
@@ -26,7 +26,7 @@ impl RoundVerdict {
     /// ```
     /// use wovenrock::{Session, Settings};
     ///
-    /// let mut session = Session::start(Settings::new(2, 1, 17, 1)?, &[15, 4])?;
+    /// let mut session = Session::start(Settings::new(2, 1, 17, 1, 1)?, &[15, 4])?;
     /// assert!(!session.round(&[0, 0, 6, 0, 12, 1], 1)?.holds());
     /// assert!(session.is_closed());
     /// # Ok::<(), wovenrock::Refusal>(())
@@ -50,7 +50,7 @@ impl RoundVerdict {
 /// ```
 /// use wovenrock::{check, EndVerdict, Settings};
 ///
-/// let settings = Settings::new(2, 1, 17, 1)?;
+/// let settings = Settings::new(2, 1, 17, 1, 1)?;
 /// let (key, rounds) = ([3, 5, 7, 2], [4, 1, 6, 0, 12, 1]);
 /// let verdict = check(settings, &[15, 4], &[1, 0], &key, &rounds, &[1])?;
 /// assert_eq!(verdict, EndVerdict::Accepted);
@@ -72,7 +72,7 @@ impl EndVerdict {
     /// ```
     /// use wovenrock::{check, Settings};
     ///
-    /// let settings = Settings::new(2, 1, 17, 1)?;
+    /// let settings = Settings::new(2, 1, 17, 1, 1)?;
     /// let (key, rounds) = ([3, 5, 7, 2], [4, 1, 6, 0, 12, 1]);
     /// assert!(!check(settings, &[15, 4], &[2, 0], &key, &rounds, &[1])?.is_accepted());
     /// # Ok::<(), wovenrock::Refusal>(())
@@ -96,7 +96,7 @@ impl EndVerdict {
 /// ```
 /// use wovenrock::{judge, Judgement, Settings};
 ///
-/// let settings = Settings::new(2, 0, 17, 1)?;
+/// let settings = Settings::new(2, 0, 17, 1, 1)?;
 /// let judgement = judge(settings, &[8, 2], 1, &[3, 5], &[1, -1])?;
 /// assert_eq!(judgement, Judgement::Opens);
 /// # Ok::<(), wovenrock::Refusal>(())
@@ -116,7 +116,7 @@ impl Judgement {
     /// ```
     /// use wovenrock::{judge, Settings};
     ///
-    /// let settings = Settings::new(2, 0, 17, 1)?;
+    /// let settings = Settings::new(2, 0, 17, 1, 1)?;
     /// assert!(!judge(settings, &[8, 2], 2, &[3, 5], &[1, -1])?.is_opening());
     /// # Ok::<(), wovenrock::Refusal>(())
     /// ```

@@ -12,26 +12,32 @@ const COMMITMENT: [u64; 2] = [15, 4];
 const ROUNDS: [u64; 6] = [4, 1, 6, 0, 12, 1];
 
 fn settings() -> Settings {
-    Settings::new(2, 1, 17, 1).expect("allowed settings")
+    Settings::new(2, 1, 17, 1, 1).expect("allowed settings")
 }
 
 #[test]
 fn moves_give_what_the_whole_opening_gives() -> Result<(), Refusal> {
     let most = Settings::LARGEST_MODULUS;
-    moves_at(Settings::new(4, 3, 2_147_483_647, 2)?, 66_000_000)?;
-    moves_at(Settings::new(4, 3, most, 2)?, 72_000_000_000_000_000)?;
+    moves_at(Settings::new(4, 3, 2_147_483_647, 2, 1)?, 66_000_000)?;
+    moves_at(Settings::new(4, 3, most, 2, 1)?, 72_000_000_000_000_000)?;
     let its = Settings::MODULUS_OF_LARGEST_DEGREE;
     for degree in [32, 64, Settings::LARGEST_DEGREE] {
-        moves_at(Settings::new(degree, 7, its, 2)?, 5)?;
+        moves_at(Settings::new(degree, 7, its, 2, 1)?, 5)?;
+    }
+    for rows in 2..=Settings::MOST_ROWS {
+        moves_at(Settings::new(4, 3, 2_147_483_647, 2, rows)?, 66_000_000)?;
+        moves_at(Settings::new(8, 2, most, 2, rows)?, 72_000_000_000_000_000)?;
+        moves_at(Settings::new(Settings::LARGEST_DEGREE, 5, its, 2, rows)?, 5)?;
     }
     Ok(())
 }
 
 /// The same with some settings, and a key of multiples of a step.
 fn moves_at(s: Settings, step: u64) -> Result<(), Refusal> {
-    let count = s.table_len();
-    let key: Vec<u64> = (1..=count as u64).map(|i| i * step % s.modulus()).collect();
-    let message: Vec<i32> = (0..count as i32).map(|i| i % 5 - 2).collect();
+    let of_key = 1..=s.key_len() as u64;
+    let key: Vec<u64> = of_key.map(|i| i * step % s.modulus()).collect();
+    let of_message = 0..s.table_len() as i32;
+    let message: Vec<i32> = of_message.map(|i| i % 5 - 2).collect();
     let challenges = &[7, 0, 5, 1, 4, 2, 6][..s.depth() as usize];
     let (mut whole_key, mut whole_message) = (key.clone(), message.clone());
     let mut rounds = vec![0; s.rounds_len()];
@@ -60,6 +66,84 @@ fn moves_at(s: Settings, step: u64) -> Result<(), Refusal> {
     assert_eq!((moved_key, moved_message), (whole_key, whole_message));
     assert_eq!(last, opened.last);
     assert_eq!(&session.challenges()[..challenges.len()], challenges);
+    Ok(())
+}
+
+#[test]
+fn what_stands_past_the_rows_changes_nothing() -> Result<(), Refusal> {
+    let s = Settings::new(2, 1, 17, 1, 2)?;
+    let key = [3, 5, 7, 2, 2, 0, 5, 0];
+    let rounds = [4, 1, 1, 16, 6, 0, 12, 6, 12, 1, 11, 0];
+    let mut session = Session::start(s, &[15, 4, 7, 15])?;
+    let mut record = session.save();
+    assert!(record[15 + 2..15 + 128].iter().all(|&x| x == 0));
+    assert!(record[15 + 128 + 2..].iter().all(|&x| x == 0));
+    // rubbish behind the degree and in the claims of rows that are not there
+    for (place, number) in record.iter_mut().enumerate().skip(15) {
+        if place >= 15 + 256 || (place - 15) % 128 >= 2 {
+            *number = u64::MAX - place as u64;
+        }
+    }
+    let mut other = Session::restore(&record)?;
+    assert_eq!(other.claims(), session.claims());
+    assert!(session.round(&rounds, 1)?.holds());
+    assert!(other.round(&rounds, 1)?.holds());
+    // a round that holds makes a new record, with zeros there
+    assert_eq!(other, session);
+    assert_eq!(other.claims(), [9, 6, 1, 11]);
+    assert!(other.end(&[1, 0], &key)?.is_accepted());
+    Ok(())
+}
+
+#[test]
+fn every_row_has_to_hold() -> Result<(), Refusal> {
+    for rows in 1..=Settings::MOST_ROWS {
+        let s = Settings::new(2, 1, 17, 1, rows)?;
+        let key: Vec<u64> = (0..s.key_len() as u64).map(|i| (5 * i + 3) % 17).collect();
+        let (mut folded, mut message) = (key.clone(), MESSAGE);
+        let mut rounds = vec![0; s.rounds_len()];
+        let opened = open(s, &mut folded, &mut message, &[1], &mut rounds)?;
+        let say = |commitment: &[u64], rounds: &[u64]| {
+            check(s, commitment, &opened.last, &key, rounds, &[1])
+        };
+        assert_eq!(say(&opened.commitment, &rounds)?, EndVerdict::Accepted);
+        for at in 0..s.commitment_len() {
+            let mut other = opened.commitment.to_vec();
+            other[at] = (other[at] + 1) % 17;
+            assert_eq!(say(&other, &rounds)?, EndVerdict::Rejected);
+            let slack = s.slack();
+            let w = MESSAGE.map(|m| i64::from(m) * i64::from(slack));
+            let opens = judge(s, &opened.commitment, slack, &key, &w)?;
+            assert_eq!(opens, Judgement::Opens);
+            assert_eq!(judge(s, &other, slack, &key, &w)?, Judgement::DoesNot);
+        }
+        for at in 0..s.rounds_len() {
+            let mut other = rounds.clone();
+            other[at] = (other[at] + 1) % 17;
+            assert_eq!(say(&opened.commitment, &other)?, EndVerdict::Rejected);
+        }
+    }
+    Ok(())
+}
+
+#[test]
+fn a_row_of_weights_gives_the_weighted_sum() -> Result<(), Refusal> {
+    let s = Settings::new(4, 3, 12_289, 9, 3)?;
+    let message: Vec<i32> = (0..32).map(|i| i % 19 - 9).collect();
+    let weights = [1, 12_288, 0, 77, 5, 12_000, 3, 9];
+    let mut key: Vec<u64> = (0..s.key_len() as u64).map(|i| i * i % 12_289).collect();
+    for (element, weight) in key[s.key_row(1)].chunks_mut(4).zip(weights) {
+        element.copy_from_slice(&[weight, 0, 0, 0]);
+    }
+    let commitment = commit(s, &key, &message)?;
+    let mut sums = [0; 4];
+    for (element, weight) in message.chunks(4).zip(weights) {
+        for (sum, &m) in sums.iter_mut().zip(element) {
+            *sum += weight as i64 * i64::from(m);
+        }
+    }
+    let sums = sums.map(|sum| sum.rem_euclid(12_289) as u64);
+    assert_eq!(commitment[s.commitment_row(1)], sums);
     Ok(())
 }
 
@@ -150,21 +234,30 @@ fn what_is_no_record_is_not_restored() -> Result<(), Refusal> {
     assert_eq!(changed(0, (1 << 32) + 2), Err(Refusal::Degree));
     assert_eq!(changed(1, (1 << 32) + 1), Err(Refusal::Depth));
     assert_eq!(changed(3, (1 << 32) + 1), Err(Refusal::Bound));
-    assert_eq!(changed(5, 1 << 32), Err(Refusal::Size));
-    assert_eq!(changed(6, 1 << 32), Err(Refusal::Challenge));
+    assert_eq!(changed(4, (1 << 32) + 1), Err(Refusal::Rows));
+    assert_eq!(changed(6, 1 << 32), Err(Refusal::Size));
+    assert_eq!(changed(7, 1 << 32), Err(Refusal::Challenge));
     assert_eq!(changed(2, (1 << 32) + 17), Ok(true));
     assert_eq!(changed(2, (1 << 61) + 17), Err(Refusal::Modulus));
-    assert_eq!(changed(14, (1 << 32) + 15), Err(Refusal::Residue));
+    assert_eq!(changed(15, (1 << 32) + 15), Err(Refusal::Residue));
     assert_eq!(changed(1, 9), Err(Refusal::Depth));
     assert_eq!(changed(2, 16), Err(Refusal::Modulus));
     assert_eq!(changed(3, 0), Err(Refusal::Bound));
-    assert_eq!(changed(5, 2), Err(Refusal::Size));
-    assert_eq!(changed(14, 17), Err(Refusal::Residue));
-    assert_eq!(changed(13, 4), Err(Refusal::Challenge));
+    assert_eq!(changed(4, 0), Err(Refusal::Rows));
+    assert_eq!(changed(4, 5), Err(Refusal::Rows));
+    assert_eq!(changed(4, u64::MAX), Err(Refusal::Rows));
+    assert_eq!(changed(6, 2), Err(Refusal::Size));
+    assert_eq!(changed(15, 17), Err(Refusal::Residue));
+    assert_eq!(changed(14, 4), Err(Refusal::Challenge));
+    // past the degree, and past the rows, a claim is not read
+    assert_eq!(changed(17, 17), Ok(true));
+    assert_eq!(changed(15 + 128, 17), Ok(true));
+    // more rows are a record too, with claims of zeros
+    assert_eq!(changed(4, 4), Ok(true));
     // rounds done and a closed record are tested by a move
-    assert_eq!(changed(4, 1), Ok(true));
-    assert_eq!(changed(4, 1 << 32), Ok(true));
     assert_eq!(changed(5, 1), Ok(true));
+    assert_eq!(changed(5, 1 << 32), Ok(true));
+    assert_eq!(changed(6, 1), Ok(true));
     assert_eq!(Session::restore(&saved[..77]), Err(Refusal::Size));
     assert_eq!(
         Session::restore(&[&saved[..], &[0]].concat()),

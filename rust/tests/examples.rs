@@ -9,6 +9,9 @@ mod moves;
 #[path = "../examples/records.rs"]
 #[allow(dead_code)]
 mod records;
+#[path = "../examples/weights.rs"]
+#[allow(dead_code)]
+mod weights;
 
 #[test]
 fn moves_of_prover_and_verifier() {
@@ -20,6 +23,12 @@ fn moves_of_prover_and_verifier() {
 fn an_extraction_by_rewinding() {
     let wanted = include_str!("../../examples/c/extractor.out");
     assert_eq!(extractor::report().unwrap(), wanted);
+}
+
+#[test]
+fn a_row_of_public_weights() {
+    let wanted = include_str!("../../examples/c/weights.out");
+    assert_eq!(weights::report().unwrap(), wanted);
 }
 
 #[test]

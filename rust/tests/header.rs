@@ -39,6 +39,8 @@ fn version_and_lengths() {
     assert_eq!(defined("MODULUS_MAX"), most);
     let degree = Settings::LARGEST_DEGREE.to_string();
     assert_eq!(defined("DEGREE_MAX"), degree);
+    let rows = Settings::MOST_ROWS.to_string();
+    assert_eq!(defined("ROWS_MAX"), rows);
     let its = format!("UINT64_C({})", Settings::MODULUS_OF_LARGEST_DEGREE);
     assert_eq!(defined("MODULUS_OF_DEGREE_MAX"), its);
 }

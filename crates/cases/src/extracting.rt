@@ -3,10 +3,10 @@
 use crate::input::Input;
 use crate::output;
 use crate::tables;
+use protocol::ROWS_WIDTH;
 use protocol::Settings;
-use protocol::WIDTH;
 
-fn answer_judge(settings: Settings, commitment: [u64; WIDTH], c: u32, key: &[u64], w: &[i64]) {
+fn answer_judge(settings: Settings, commitment: [u64; ROWS_WIDTH], c: u32, key: &[u64], w: &[i64]) {
     let answer = judge::judge(settings, commitment, c, key, w);
     output::first(answer.refusal);
     output::flag(answer.yes);
@@ -30,7 +30,7 @@ pub fn run_judge(input: Input) -> Input {
 
 fn answer_extract(
     settings: Settings,
-    commitment: [u64; WIDTH],
+    commitment: [u64; ROWS_WIDTH],
     key: &[u64],
     rounds: &[u64],
     challenges: &[u32],
@@ -46,7 +46,7 @@ fn answer_extract(
 // The second half of an extraction's inputs: challenges, leaves and what w holds before.
 fn run_tree(
     settings: Settings,
-    commitment: [u64; WIDTH],
+    commitment: [u64; ROWS_WIDTH],
     key: &[u64],
     rounds: &[u64],
     input: Input,

@@ -1,11 +1,12 @@
 // Answers on standard output: a line of numbers with single spaces. `first` begins a line, `end` ends it.
+use protocol::ROWS_WIDTH;
 use protocol::Session;
 use protocol::Settings;
 use protocol::Verdict;
 use protocol::WIDTH;
 use ranges::tests;
 ghost use Prim.Native.Nat.{_≤_};
-ghost use Rattle.protocol.specs.Layout.{width};
+ghost use Rattle.protocol.specs.Layout.{width, rowsWidth};
 
 pub fn first(x: u32) {
     io::print_decimal(1, x as u64);
@@ -101,11 +102,11 @@ pub fn text(t: &[u8]) {
     io::write_all(1, t);
 }
 
-// The places of an element up to the last one that is not 0.
-fn places(a: &[u64; WIDTH]) -> usize
-    ensures { λ r. ⌜ r ≤ width ⌝ }
+// The places of an element of each row up to the last one that is not 0.
+fn places(a: &[u64; ROWS_WIDTH]) -> usize
+    ensures { λ r. ⌜ r ≤ rowsWidth ⌝ }
 {
-    let mut n: usize = WIDTH;
+    let mut n: usize = ROWS_WIDTH;
     while n > 0 {
         if a[n - 1] != 0 {
             return n;
@@ -128,8 +129,8 @@ fn signed_places(a: &[i32; WIDTH]) -> usize
     0
 }
 
-// An element: how many places it has up to the last one that is not 0, and those places.
-pub fn element(a: [u64; WIDTH]) {
+// An element of each row: how many places there are up to the last one that is not 0, and those places.
+pub fn element(a: [u64; ROWS_WIDTH]) {
     let n = places(&a);
     residues(&a[..n]);
 }
@@ -153,14 +154,15 @@ pub fn settings(s: Settings) {
     number(s.depth);
     more(s.modulus);
     number(s.bound);
+    number(s.rows);
 }
 
 pub fn session(s: Session) {
     settings(s.settings);
     number(s.done);
     flag(s.closed);
-    let claim = s.claim;
-    element(claim);
+    let claims = s.claims;
+    element(claims);
     let challenges = s.challenges;
     each(&challenges);
 }

@@ -1,6 +1,7 @@
 // Tables and elements of the input. A table is its length and then its numbers; numbers past the room lent for them are not read.
 use crate::input::Input;
 use protocol::Parts;
+use protocol::ROWS_WIDTH;
 use protocol::Session;
 use protocol::Settings;
 use protocol::WIDTH;
@@ -180,7 +181,7 @@ pub fn blank(input: Input, t: &mut [u8]) -> Filled
     }
 }
 
-// Four numbers: d, L, q, B.
+// Five numbers: d, L, q, B, rows.
 pub struct SettingsTaken {
     pub settings: Settings,
     pub next: Input,
@@ -191,27 +192,29 @@ pub fn settings(input: Input) -> SettingsTaken {
     let depth = degree.next.number();
     let modulus = depth.next.number();
     let bound = modulus.next.number();
+    let rows = bound.next.number();
     let settings = Settings {
         degree: degree.value.narrow(),
         depth: depth.value.narrow(),
         modulus: modulus.value.residue(),
         bound: bound.value.narrow(),
+        rows: rows.value.narrow(),
     };
-    let next = bound.next;
+    let next = rows.next;
     SettingsTaken {
         settings: settings,
         next: next,
     }
 }
 
-// An element by value: a table whose places behind the ones given are 0.
+// An element of each row by value: a table whose places behind the ones given are 0.
 pub struct ElementTaken {
-    pub places: [u64; WIDTH],
+    pub places: [u64; ROWS_WIDTH],
     pub next: Input,
 }
 
 pub fn element(input: Input) -> ElementTaken {
-    let mut places = [0u64; WIDTH];
+    let mut places = [0u64; ROWS_WIDTH];
     let filled = residues(input, &mut places);
     let next = filled.next;
     ElementTaken {
@@ -235,7 +238,7 @@ pub fn signed_element(input: Input) -> SignedTaken {
     }
 }
 
-// A session record: settings, rounds done, 1 where it is closed, the claim and the eight challenges.
+// A session record: settings, rounds done, 1 where it is closed, the claims and the eight challenges.
 pub struct SessionTaken {
     pub session: Session,
     pub next: Input,
@@ -245,15 +248,15 @@ pub fn session(input: Input) -> SessionTaken {
     let given = settings(input);
     let done = given.next.number();
     let closed = done.next.number();
-    let claim = element(closed.next);
+    let claims = element(closed.next);
     let mut challenges = [0u32; 8];
-    let filled = read_challenges(room(claim.next, 8, 8), &mut challenges);
+    let filled = read_challenges(room(claims.next, 8, 8), &mut challenges);
     let set = given.settings;
-    let places = claim.places;
+    let places = claims.places;
     let session = Session {
         settings: set,
         done: done.value.narrow(),
-        claim: places,
+        claims: places,
         challenges: challenges,
         closed: closed.value.magnitude != 0,
     };

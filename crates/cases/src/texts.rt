@@ -170,6 +170,7 @@ pub fn run_read(input: Input) -> Input {
         depth: 0,
         modulus: 0,
         bound: 0,
+        rows: 0,
     };
     let parts = told.parts;
     let task = Task {

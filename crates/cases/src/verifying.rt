@@ -4,6 +4,7 @@ use crate::input::Input;
 use crate::output;
 use crate::tables;
 use protocol::Moved;
+use protocol::ROWS_WIDTH;
 use protocol::Session;
 use protocol::Settings;
 use protocol::WIDTH;
@@ -16,17 +17,18 @@ fn used() -> Session {
         depth: 9,
         modulus: 2,
         bound: 128,
+        rows: 5,
     };
     Session {
         settings: settings,
         done: 9,
-        claim: [7u64; WIDTH],
+        claims: [7u64; ROWS_WIDTH],
         challenges: [5u32; 8],
         closed: true,
     }
 }
 
-fn answer_start(settings: Settings, commitment: [u64; WIDTH]) {
+fn answer_start(settings: Settings, commitment: [u64; ROWS_WIDTH]) {
     let verifier = Verifier(used());
     let answer = verifier.start(settings, commitment);
     let next = answer.next;
@@ -52,7 +54,7 @@ fn answer_move(answer: Moved) {
     output::end();
 }
 
-fn answer_round(session: Session, polynomial: [[u64; WIDTH]; 3], e: u32) {
+fn answer_round(session: Session, polynomial: [[u64; ROWS_WIDTH]; 3], e: u32) {
     let verifier = Verifier(session);
     answer_move(verifier.round(polynomial, e));
 }
@@ -90,7 +92,7 @@ pub fn run_end(input: Input) -> Input {
 
 fn answer_check(
     settings: Settings,
-    commitment: [u64; WIDTH],
+    commitment: [u64; ROWS_WIDTH],
     last: [i32; WIDTH],
     key: &[u64],
     rounds: &[u64],

@@ -1,4 +1,4 @@
--- Extraction: where every path of a tree is accepted, the root's vector opens 4^L times the commitment.
+-- Extraction: where every path of a tree is accepted, the root's vector opens 4^L times the commitment of every row. It is one vector, since challenges and leaves are those of every row.
 -- By recursion over the height h of a node, with t = L − h rounds done: 4^h·claim = half^t·⟨v, G⟩, v being the node's vector and G what is left of the folded key.
 use mathlib.Core.Path.{_≡_, refl, sym, ap, ap₂, _∙_}
 use mathlib.Core.Bool.{true}
@@ -19,11 +19,13 @@ use Rattle.algebra.specs.Cancel.{cancels-Zmod}
 use Rattle.algebra.specs.Negacyclic.{negacyclic}
 use Rattle.algebra.specs.Inner as I
 use Rattle.protocol.specs.declared.Settings.{Settings}
-use Rattle.protocol.specs.Element.{Element, product, times, signed, signedAt, residue, residueAt}
+use Rattle.protocol.specs.Element.{Element, product, times, signed, signedAt, residue, residueAt, valueRow}
+use Rattle.protocol.specs.Layout.{treeChallenges}
 use Rattle.protocol.specs.Settings.{size, half}
 use Rattle.protocol.specs.Opening.{inner, foldKey}
 use Rattle.protocol.specs.Transcript.{doubled, roundHolds, finalBounded, ending, endHolds, endMet}
 use Rattle.protocol.specs.Tree.{child, challenge, nodes, leaf, rootVector}
+use Rattle.protocol.specs.Rows.{keyRow, rowItems}
 use Rattle.protocol.specs.Judge.{slack, scaledCommitment, combination, Opens}
 use Rattle.protocol.specs.Calls.{everyPath}
 use Rattle.protocol.proofs.Tests.{and-split, every-at}
@@ -147,12 +149,16 @@ module _ (S : Settings) (p : 0 < S .degree) (pq : 0 < S .modulus) (rounds E : Li
         ∙ R.one-mul RQ _
         ∙ sym (read-inner K d p (2 ^ L) _ _)
 
--- every path of a tree is accepted: its root's vector opens 4^L times the commitment
+-- every path of a tree is accepted in every row: its root's vector opens 4^L times every row's commitment
 pub extracts : (S : Settings) (D : ℕ) → 2 ^ D ≡ S .degree → S .modulus % 2 ≡ 1 → (C key rounds E : List ℕ) (finals : List ℤ)
     → ((k : ℕ) → k < nodes S → Triple (S .degree) (challenge E k 0) (challenge E k 1) (challenge E k 2))
-    → everyPath S C key rounds E finals ≡ true → Opens S key C (slack S) (rootVector S E finals)
+    → everyPath S C key rounds E finals ≡ true → (r : ℕ) → r < S .rows → Opens S (keyRow S key r) (valueRow C r) (slack S) (rootVector S E finals)
 unfolding scaledCommitment combination slack size
-extracts S D power odd C key rounds E finals triples a =
+extracts S D power odd C key rounds E finals triples a r h =
     let p : 0 < S .degree = omega (arith, Pow.pow-pos D) in
     let pq : 0 < S .modulus = omega arith in
-    readq-inj (S .modulus) pq (S .degree) p _ _ (root-opened S p pq rounds E finals D power odd triples C key (sym (every-path-tree S rounds E finals C key) ∙ a))
+    readq-inj (S .modulus) pq (S .degree) p _ _ (root-opened S p pq (items r) E finals D power odd triples (valueRow C r) (keyRow S key r)
+    (every-at (S .rows) (λ r. treeAccepted S (items r) E finals (S .depth) 0 0 (valueRow C r) (keyRow S key r)) (sym (every-path-tree S C key rounds E finals) ∙ a) r h))
+  where
+    items : ℕ → List ℕ
+    items r = rowItems S (treeChallenges S) rounds r

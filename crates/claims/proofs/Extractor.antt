@@ -1,4 +1,4 @@
--- Demand 3's claim on trees: the extractor refuses no full tree, and what it gives is the root's vector, within its bound, opens 4^L times the commitment, satisfies the judge,
+-- Demand 3's claim on trees: the extractor refuses no full tree, and what it gives is the root's vector, within its bound, opens 4^L times every row's commitment, satisfies the judge,
 -- and is 4^L·m where the leaves are folds of m. Where the growth is beyond its limit, judge and extractor refuse every full tree by 14.
 use mathlib.Core.Path.{_≡_, sym, ap, _∙_, subst}
 use mathlib.Core.Logic.{_≢_}
@@ -13,10 +13,12 @@ use lib.ListN.{length}
 use lib.IntN.{ℤ}
 use Rattle.protocol.specs.declared.Settings.{Settings}
 use Rattle.protocol.specs.Basic.{every, first, unless, granted}
-use Rattle.protocol.specs.Element.{signed}
-use Rattle.protocol.specs.Settings.{size, cells, hasLength, allBelow, residueElement, exponent, exponents}
+use Rattle.protocol.specs.Element.{signed, valueRow}
+use Rattle.protocol.specs.Layout.{keyCells, treeChallenges, treeRoundCells, exponentCount}
+use Rattle.protocol.specs.Settings.{size, cells, hasLength, allBelow, residueElement, residueRows, exponent, exponents}
 use Rattle.protocol.specs.Transcript.{accepted}
-use Rattle.protocol.specs.Tree.{nodes, leaves, leaf, path, challenge, apart, rootVector, growth, growthLimit, growthAllowed}
+use Rattle.protocol.specs.Rows.{keyRow}
+use Rattle.protocol.specs.Tree.{nodes, leaves, leaf, path, rowPath, challenge, apart, rootVector, growth, growthLimit, growthAllowed}
 use Rattle.protocol.specs.Judge.{slack, slackAllowed, opens, judged, Opens}
 use Rattle.protocol.specs.Calls.{everyPath, extractRefusal, extractExit, judgeRefusal, judgeAnswer}
 use Rattle.protocol.specs.Inputs.{Valid, Below, Within}
@@ -46,7 +48,7 @@ slack-allowed S ok =
 differ : (a b : ℕ) → a ≢ b → not (eqb a b) ≡ true
 differ a b ne = ap not (ne-eqb a b ne)
 
-module _ (S : Settings) (ok : Valid S) (G C rounds E : List ℕ) (finals : List ℤ) (key-ok : Below (S .modulus) (cells S) G) (tree : FullTree S G C rounds E finals) where
+module _ (S : Settings) (ok : Valid S) (G C rounds E : List ℕ) (finals : List ℤ) (key-ok : Below (S .modulus) (keyCells S) G) (tree : FullTree S G C rounds E finals) where
   open Settings S using (degree as d, depth as L, modulus as q)
 
   abbrev root : List ℤ
@@ -54,7 +56,7 @@ module _ (S : Settings) (ok : Valid S) (G C rounds E : List ℕ) (finals : List 
 
   paths-accepted : everyPath S C G rounds E finals ≡ true
   unfolding everyPath
-  paths-accepted = every-intro (λ j l. accepted-test S G _ (tree .accepted j l))
+  paths-accepted = every-intro (λ j l. every-intro (λ r h. accepted-test S (keyRow S G r) _ (tree .accepted r h j l)))
 
   challenges-apart : every (nodes S) (apart E) ≡ true
   unfolding apart
@@ -64,9 +66,9 @@ module _ (S : Settings) (ok : Valid S) (G C rounds E : List ℕ) (finals : List 
   unfolding leaves
   some-leaf = Nat.one-le-pow L 3 (omega arith)
 
-  commitment-tested : residueElement S C ≡ true
-  unfolding residueElement path
-  commitment-tested = every-intro (λ k l. lt-ltb _ _ (accepted-commitment S (modulus-positive S ok) G _ (tree .accepted 0 some-leaf) k l))
+  commitment-tested : residueRows S C ≡ true
+  unfolding residueRows residueElement rowPath path
+  commitment-tested = every-intro (λ r h. every-intro (λ k l. lt-ltb _ _ (accepted-commitment S (modulus-positive S ok) (keyRow S G r) _ (tree .accepted r h 0 some-leaf) k l)))
 
   triples : (k : ℕ) → k < nodes S → Triple d (challenge E k 0) (challenge E k 1) (challenge E k 2)
   triples = node-triple S E (tree .challenges-below) (tree .different)
@@ -74,13 +76,13 @@ module _ (S : Settings) (ok : Valid S) (G C rounds E : List ℕ) (finals : List 
   -- ---- the root's vector
 
   leaf-small : (j : ℕ) → j < leaves S → Bounded d (size S * S .bound) (signed (leaf S finals j))
-  unfolding path
-  leaf-small j l = tree .accepted j l .in-bound
+  unfolding rowPath path
+  leaf-small j l = tree .accepted 0 (ok .rows-least) j l .in-bound
 
   in-bound : Within (growth S) (cells S) root
   in-bound = root-within S (ok .log) (sym (ok .degree-is)) (degree-positive S ok) E finals triples leaf-small
 
-  root-opens : Opens S G C (slack S) root
+  root-opens : (r : ℕ) → r < S .rows → Opens S (keyRow S G r) (valueRow C r) (slack S) root
   root-opens = extracts S (ok .log) (sym (ok .degree-is)) (ok .modulus-odd) C G rounds E finals triples paths-accepted
 
   -- ---- the tests before 14 pass
@@ -90,21 +92,21 @@ module _ (S : Settings) (ok : Valid S) (G C rounds E : List ℕ) (finals : List 
     unfolding judgeRefusal allBelow hasLength
     judge-tests c =
         first-passes _ _ (valid-settings S ok)
-        ∙ first-holds 7 _ _ (and-intro (below-sized q (cells S) G key-ok) (eq-eqb _ _ long))
-        ∙ first-holds 8 _ _ (and-intro (below-tested q (cells S) G key-ok) commitment-tested)
+        ∙ first-holds 7 _ _ (and-intro (below-sized q (keyCells S) G key-ok) (eq-eqb _ _ long))
+        ∙ first-holds 8 _ _ (and-intro (below-tested q (keyCells S) G key-ok) commitment-tested)
 
     pub extract-tests : extractRefusal S C G rounds E finals w ≡ first (unless 14 (growthAllowed S) ∷ [])
     unfolding extractRefusal allBelow exponents exponent hasLength
     extract-tests =
         first-passes _ _ (valid-settings S ok)
         ∙ first-holds 7 _ _ (and-intro (and-intro (and-intro (and-intro
-        (below-sized q (cells S) G key-ok)
-        (below-sized q (3 * nodes S * d) rounds (tree .rounds-below)))
-        (below-sized (2 * d) (3 * nodes S) E (tree .challenges-below)))
+        (below-sized q (keyCells S) G key-ok)
+        (below-sized q (treeRoundCells S) rounds (tree .rounds-below)))
+        (below-sized (exponentCount S) (treeChallenges S) E (tree .challenges-below)))
         (eq-eqb _ _ (tree .finals-long)))
         (eq-eqb _ _ long))
-        ∙ first-holds 8 _ _ (and-intro (and-intro (below-tested q (cells S) G key-ok) commitment-tested) (below-tested q (3 * nodes S * d) rounds (tree .rounds-below)))
-        ∙ first-holds 10 _ _ (below-tested (2 * d) (3 * nodes S) E (tree .challenges-below))
+        ∙ first-holds 8 _ _ (and-intro (and-intro (below-tested q (keyCells S) G key-ok) commitment-tested) (below-tested q (treeRoundCells S) rounds (tree .rounds-below)))
+        ∙ first-holds 10 _ _ (below-tested (exponentCount S) (treeChallenges S) E (tree .challenges-below))
         ∙ first-holds 12 _ _ challenges-apart
         ∙ first-holds 13 _ _ paths-accepted
 
@@ -128,7 +130,7 @@ module _ (S : Settings) (ok : Valid S) (G C rounds E : List ℕ) (finals : List 
 
     judge-yes : judged S G C (slack S) root ≡ true
     unfolding judged opens
-    judge-yes = and-intro (every-intro (λ k l. eq-eqb _ _ (root-opens k l))) (within-tested (growth S) (cells S) root in-bound)
+    judge-yes = and-intro (every-intro (λ r h. every-intro (λ k l. eq-eqb _ _ (root-opens r h k l)))) (within-tested (growth S) (cells S) root in-bound)
 
     judge-says : judgeAnswer S C (slack S) G root ≡ record { refusal = 0; yes = true }
     unfolding judgeAnswer granted
@@ -147,12 +149,12 @@ module _ (S : Settings) (ok : Valid S) (G C rounds E : List ℕ) (finals : List 
         not-refused = extract-granted;
         is-root-vector = exit-root;
         in-bound = subst (Within (growth S) (cells S)) (sym exit-root) in-bound;
-        opens = subst (Opens S G C (slack S)) (sym exit-root) root-opens;
+        opens = λ r h. subst (Opens S (keyRow S G r) (valueRow C r) (slack S)) (sym exit-root) (root-opens r h);
         judge-says-yes = ap (judgeAnswer S C (slack S) G) exit-root ∙ judge-says;
         exact = λ m f. exit-root ∙ exact S (ok .log) (sym (ok .degree-is)) E finals m triples (f .long) (f .each);
       }
 
 pub extraction-claim : (S : Settings) → Valid S → (G C rounds E : List ℕ) (finals w : List ℤ)
-    → Below (S .modulus) (cells S) G → FullTree S G C rounds E finals → growth S ≤ growthLimit → length w ≡ cells S
+    → Below (S .modulus) (keyCells S) G → FullTree S G C rounds E finals → growth S ≤ growthLimit → length w ≡ cells S
     → ExtractionClaim S G C rounds E finals w
 extraction-claim S ok G C rounds E finals w key-ok tree room long = claimed S ok G C rounds E finals key-ok tree room w long

@@ -1,4 +1,4 @@
--- The tree that honest answers give is full: the path to a leaf is the transcript of the message by the path's challenges, and that is accepted.
+-- The tree that honest answers give is full: in every row the path to a leaf is the transcript of the message by the path's challenges, and that is accepted.
 use mathlib.Core.Path.{_≡_, refl, sym, ap, ap₂, _∙_, subst}
 use mathlib.Core.Logic.{_≢_}
 use mathlib.Core.List.{List, [], _∷_, _++_}
@@ -10,21 +10,27 @@ use lib.Seq.{take-suc, getD-take}
 use lib.IntN.{ℤ, pos}
 use Rattle.protocol.specs.declared.Settings.{Settings}
 use Rattle.protocol.specs.Basic.{tabulate, flat}
-use Rattle.protocol.specs.Element.{signed, signedAt, coefficients}
+use Rattle.protocol.specs.Element.{signed, signedAt, coefficients, valueRow}
+use Rattle.protocol.specs.Layout.{keyCells, treeChallenges, treeRoundCells}
 use Rattle.protocol.specs.Settings.{cells}
 use Rattle.protocol.specs.Inputs.{Valid, Below, Within}
 use Rattle.protocol.specs.Opening.{commitment, roundElement, roundTable, messageAfter, keyAfter}
-use Rattle.protocol.specs.Transcript.{transcriptOf, Accepted}
-use Rattle.protocol.specs.Tree.{parent, challenge, challengeTo, nodes, leaves, onPath, pathChallenges, pathRounds, leaf, path, foldTo}
+use Rattle.protocol.specs.Transcript.{Accepted}
+use Rattle.protocol.specs.Rows.{keyRow, rowItems, atRows}
+use Rattle.protocol.specs.Tree.{parent, challenge, challengeTo, nodes, leaves, onPath, pathChallenges, pathRounds, leaf, path, rowPath, foldTo}
 use Rattle.protocol.specs.Demand3.{Held, Heard, State, Step, Gap, Run, step, begun, moves}
 use Rattle.protocol.specs.Performed.{Refusals, Performs, Performance}
-use Rattle.protocol.specs.HonestTree.{wayTo, answerAt, honestRounds, honestFinals, ThreeEach, HonestTree, NeverVacuous}
+use Rattle.protocol.specs.HonestTree.{wayTo, answerAt, honestRounds, honestTable, honestFinals, ThreeEach, HonestTree, NeverVacuous}
 use Rattle.protocol.proofs.Reading.{tabulate-length, tabulate-at, tabulate-ext, tabulate-own, flat-length, flat-at, flat-ext}
 use Rattle.protocol.proofs.OpeningLaws.{key-challenges, message-challenges}
-use Rattle.protocol.proofs.Ranges.{below-everywhere, round-below, last-length}
+use Rattle.protocol.proofs.Inputs.{degree-most}
+use Rattle.protocol.proofs.Ranges.{below-everywhere, round-below, last-length, last-at}
+use Rattle.protocol.proofs.Rows.{interleaved-row, atRows-at}
 use Rattle.protocol.proofs.Numbering.{before}
 use Rattle.protocol.proofs.Paths.{path-root, path-parent, path-depth, depth-branching}
-use Rattle.claims.proofs.Completeness.{complete}
+use Rattle.claims.proofs.Claims.{sent}
+use Rattle.claims.proofs.Completeness.{complete-beyond}
+use Rattle.claims.proofs.RowLaws.{interleaved-below}
 use Rattle.claims.proofs.Honest.{degree-positive, modulus-positive}
 
 -- ---- the way to a node
@@ -106,27 +112,57 @@ module _ (S : Settings) (E : List ℕ) (j : ℕ) (lj : j < leaves S) where
     unfolding leaf coefficients signedAt honestFinals signed foldTo
     leaf-fold = tabulate-ext d (λ k lk. flat-at d (leaves S) _ (pos 0) j k lj lk) ∙ tabulate-own d _ (pos 0) (last-length S (messageAfter S way L M))
 
-    path-honest : 0 < d → path S (commitment S G M) (honestRounds S E G M) E (honestFinals S E M) j ≡ transcriptOf S G M way
-    unfolding path transcriptOf foldTo
-    path-honest p = λ z. record { commitment = commitment S G M; rounds = path-rounds p z; challenges = way; last = leaf-fold z }
+    path-honest : 0 < d → (C : List ℕ) → path S C (honestRounds S E G M) E (honestFinals S E M) j ≡ sent S G M way C (foldTo S E j M)
+    unfolding path
+    path-honest p C = λ z. record { commitment = C; rounds = path-rounds p z; challenges = way; last = leaf-fold z }
 
 -- ---- the tree
 
-rounds-honest : (S : Settings) → 0 < S .modulus → (E G : List ℕ) (M : List ℤ) → Below (S .modulus) (3 * nodes S * S .degree) (honestRounds S E G M)
+rounds-honest : (S : Settings) → 0 < S .modulus → (E G : List ℕ) (M : List ℤ) → Below (S .modulus) (treeChallenges S * S .degree) (honestRounds S E G M)
 unfolding honestRounds flat answerAt
 rounds-honest S pq E G M = record {
   long = tabulate-length _ _;
   each = λ i l. subst (λ x. x < S .modulus) (sym (tabulate-at _ _ 0 i l)) (below-everywhere (S .modulus) (S .degree) _ pq (round-below S pq _ _ _ _) (i % S .degree));
 }
 
-pub honest-tree : (S : Settings) (G : List ℕ) (M : List ℤ) (E : List ℕ) → Valid S → Below (S .modulus) (cells S) G → Within (S .bound) (cells S) M → ThreeEach S E → HonestTree S G M E
+module _ (S : Settings) (G : List ℕ) (M : List ℤ) (E : List ℕ) (ok : Valid S) (small : Within (S .bound) (cells S) M) where
+  open Settings S using (degree as d, modulus as q)
+
+  p : 0 < d
+  p = degree-positive S ok
+
+  pq : 0 < q
+  pq = modulus-positive S ok
+
+  table-below : Below q (treeRoundCells S) (honestTable S E G M)
+  unfolding honestTable
+  table-below = interleaved-below S (treeChallenges S) _ (ok .rows-least) p (λ r h. rounds-honest S pq E (keyRow S G r) M)
+
+  -- by value
+  abbrev C : List ℕ
+  C = atRows S (λ r. commitment S (keyRow S G r) M)
+
+  table-row : (r : ℕ) → r < S .rows → rowItems S (treeChallenges S) (honestTable S E G M) r ≡ honestRounds S E (keyRow S G r) M
+  unfolding honestTable
+  table-row r h = interleaved-row S (treeChallenges S) (λ r. honestRounds S E (keyRow S G r) M) r p h (rounds-honest S pq E (keyRow S G r) M .long)
+
+  path-accepted : (r : ℕ) → r < S .rows → (j : ℕ) → j < leaves S → Accepted S (keyRow S G r) (rowPath S C (honestTable S E G M) E (honestFinals S E M) r j)
+  unfolding rowPath
+  path-accepted r h j l = subst (Accepted S (keyRow S G r))
+      (sym (ap (λ t. path S (valueRow C r) t E (honestFinals S E M) j) (table-row r h) ∙ path-honest S E j l (keyRow S G r) M p (valueRow C r)))
+      (complete-beyond S p pq (keyRow S G r) M (pathChallenges S E j) (valueRow C r) (foldTo S E j M)
+      (λ k lk. atRows-at S (λ r. commitment S (keyRow S G r) M) r k (ok .rows-most) (degree-most S ok) h lk)
+      (unfold foldTo in last-at S (messageAfter S (pathChallenges S E j) (S .depth) M))
+      (ok .modulus-odd) (small .each))
+
+pub honest-tree : (S : Settings) (G : List ℕ) (M : List ℤ) (E : List ℕ) → Valid S → Below (S .modulus) (keyCells S) G → Within (S .bound) (cells S) M → ThreeEach S E → HonestTree S G M E
 honest-tree S G M E ok key message three = record {
   full = record {
-    rounds-below = rounds-honest S (modulus-positive S ok) E G M;
+    rounds-below = table-below S G M E ok message;
     challenges-below = three .below;
     finals-long = unfold honestFinals in flat-length (S .degree) (leaves S) _;
     different = three .different;
-    accepted = λ j l. subst (Accepted S G) (sym (path-honest S E j l G M (degree-positive S ok))) (complete S (degree-positive S ok) (ok .modulus-odd) G M (pathChallenges S E j) (message .each));
+    accepted = path-accepted S G M E ok message;
   };
   folds = record { long = message .long; each = λ j l. sym (leaf-fold S E j l G M) };
 }

@@ -4,6 +4,7 @@ pub mod Checks
 pub mod Bounds
 pub mod Claims
 pub mod Completeness
+pub mod RowLaws
 pub mod Honest
 pub mod Refused
 pub mod Prover
@@ -26,6 +27,7 @@ pub mod Extractor
 pub mod GrowthCases
 pub mod Demand3
 pub mod Performed
+pub mod PublicWeights
 mod Unsigned
 mod WrittenRead
 pub mod RoundTrip

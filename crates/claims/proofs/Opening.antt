@@ -1,22 +1,23 @@
 -- The first half of demand 3: an opening of inputs that nothing refuses is not refused and is accepted, and move by move, with refused calls anywhere between, it comes out the same.
 use mathlib.Core.Path.{_≡_, sym, ap, _∙_}
 use mathlib.Core.List.{List}
-use Prim.Native.Nat.{ℕ, _*_}
+use Prim.Native.Nat.{ℕ}
 use lib.ListN.{length}
 use lib.IntN.{ℤ}
 use Rattle.protocol.specs.declared.Settings.{Settings}
 use Rattle.protocol.specs.declared.Session.{Session}
+use Rattle.protocol.specs.Layout.{keyCells, roundCells, exponentCount}
 use Rattle.protocol.specs.Settings.{cells}
-use Rattle.protocol.specs.Opening.{roundTable}
+use Rattle.protocol.specs.Rows.{roundTables}
 use Rattle.protocol.specs.Calls.{openingAnswer}
 use Rattle.protocol.specs.Inputs.{Valid, Below, Within}
 use Rattle.protocol.specs.Demand3.{State, Run, begun, moves, SameAsWhole, OpeningClaim}
 use Rattle.claims.proofs.Honest.{Given, opening-granted, opening-commitment, opening-rounds, opening-last, opening-key, opening-message, opening-verdict, opening-accepted}
 use Rattle.claims.proofs.Moves.{roundsAfter, finished, run-finished}
 
-module _ {S : Settings} {G : List ℕ} {M : List ℤ} {E : List ℕ} (ok : Given S G M E) (rounds : List ℕ) (long : length rounds ≡ 3 * S .depth * S .degree) where
+module _ {S : Settings} {G : List ℕ} {M : List ℤ} {E : List ℕ} (ok : Given S G M E) (rounds : List ℕ) (long : length rounds ≡ roundCells S) where
   same-as-whole : (r : Session) (st : State) → Run S E (moves (S .depth)) (begun M G r) st → SameAsWhole S G M E rounds st
-  unfolding finished roundsAfter roundTable
+  unfolding finished roundsAfter roundTables
   same-as-whole r st run =
       let (p, e) = run-finished ok r st run in
       record {
@@ -39,6 +40,6 @@ module _ {S : Settings} {G : List ℕ} {M : List ℤ} {E : List ℕ} (ok : Given
     by-moves = same-as-whole;
   }
 
-pub opening-claim : (S : Settings) (G : List ℕ) → Valid S → Below (S .modulus) (cells S) G → (M : List ℤ) (E rounds : List ℕ)
-    → Within (S .bound) (cells S) M → Below (2 * S .degree) (S .depth) E → length rounds ≡ 3 * S .depth * S .degree → OpeningClaim S G M E rounds
+pub opening-claim : (S : Settings) (G : List ℕ) → Valid S → Below (S .modulus) (keyCells S) G → (M : List ℤ) (E rounds : List ℕ)
+    → Within (S .bound) (cells S) M → Below (exponentCount S) (S .depth) E → length rounds ≡ roundCells S → OpeningClaim S G M E rounds
 opening-claim S G valid key M E rounds message challenges long = whole-opening (record { settings = valid; key = key; message = message; challenges = challenges }) rounds long

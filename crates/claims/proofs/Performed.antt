@@ -9,7 +9,8 @@ use Rattle.protocol.specs.declared.Session.{Session}
 use Rattle.protocol.specs.declared.Opened.{Opened}
 use Rattle.protocol.specs.Settings.{cells}
 use Rattle.protocol.specs.Inputs.{Within}
-use Rattle.protocol.specs.Transcript.{Accepted}
+use Rattle.protocol.specs.Element.{valueRow}
+use Rattle.protocol.specs.Rows.{keyRow, together, AllAccepted}
 use Rattle.protocol.specs.Tree.{growth}
 use Rattle.protocol.specs.Judge.{slack, Opens}
 use Rattle.protocol.specs.Calls.{judgeAnswer}
@@ -65,7 +66,7 @@ module _ (S : Settings) (E : List ℕ) where
   unfolding step
   performs-step (Performs.commits {h} {a} r e) = ap (λ x. record { held = h; heard = hearCommitment (x .commitment) (hear (x .refusal) a) }) e
   performs-step (Performs.starts {h} {a} r e) = ap (λ x. record { held = backRecord Record.ours (x .next) h; heard = hear (x .refusal) a }) e
-  performs-step (Performs.proves {h} {a} r e) = ap (λ x. record { held = h; heard = hearPolynomial (S .degree) (x .elements) (hear (x .refusal) a) }) e
+  performs-step (Performs.proves {h} {a} r e) = ap (λ x. record { held = h; heard = hearPolynomial S (x .elements) (hear (x .refusal) a) }) e
   performs-step (Performs.checks {h} {a} r e) = ap (λ x. record { held = backRecord Record.ours (x .next) h; heard = hearVerdict (x .verdict) (hear (x .refusal) a) }) e
   performs-step (Performs.folds {h} {a} r key′ message′ p) = λ i. record {
     held = record { message = p .message-exit i; key = p .key-exit i; copy = h .copy; session = h .session; folds = h .folds + 1 };
@@ -86,8 +87,8 @@ opening-performed S G M E rounds claim r key′ message′ rounds′ call = reco
   not-refused = ap (λ x. x .refusal) (call .answer) ∙ claim .not-refused;
   says-accepted = ap (λ x. x .verdict) (call .answer) ∙ claim .says-accepted;
   is-accepted = subst
-      (Accepted S G)
-      (λ i. record { commitment = sym (call .answer) i .commitment; rounds = sym (call .rounds-exit) i; challenges = E; last = sym (call .answer) i .last })
+      (AllAccepted S G)
+      (λ i. record { commitment = together S (sym (call .answer) i .commitment); rounds = sym (call .rounds-exit) i; challenges = E; last = sym (call .answer) i .last })
       (claim .is-accepted);
   by-moves = same;
 }
@@ -111,7 +112,7 @@ extraction-performed : (S : Settings) (G C rounds E : List ℕ) (finals w : List
 extraction-performed S G C rounds E finals w claim n w′ call = record {
   not-refused = call .refusal ∙ claim .not-refused;
   in-bound = subst (Within (growth S) (cells S)) (sym (call .w-exit)) (claim .in-bound);
-  opens = subst (Opens S G C (slack S)) (sym (call .w-exit)) (claim .opens);
+  opens = λ r h. subst (Opens S (keyRow S G r) (valueRow C r) (slack S)) (sym (call .w-exit)) (claim .opens r h);
   judge-says-yes = λ j e. e ∙ ap (judgeAnswer S C (slack S) G) (call .w-exit) ∙ claim .judge-says-yes;
   exact = λ m f. call .w-exit ∙ claim .exact m f;
 }

@@ -2,8 +2,8 @@
 -- transcript of an honest opening is accepted.
 use mathlib.Core.Path.{_≡_, refl, sym, ap, _∙_, subst}
 use mathlib.Core.Bool.{true, false}
-use mathlib.Core.List.{List, [], _∷_, _++_, append-assoc, map, flatMap, zipWith}
-use Prim.Native.Nat.{ℕ, _*_, _<_, _≤_}
+use mathlib.Core.List.{List, [], _++_, append-assoc, map, flatMap, zipWith}
+use Prim.Native.Nat.{ℕ, _<_, _≤_}
 use native.Mathlib.Nat as Nat
 use native.Mathlib.Omega.{arith}
 use borrow.Author.Tests.{eq-eqb, lt-leb}
@@ -14,23 +14,26 @@ use Rattle.protocol.specs.declared.Settings.{Settings}
 use Rattle.protocol.specs.declared.Verified.the-variants.{Accepted}
 use Rattle.protocol.specs.Basic.{tabulate, all, choose, first, unless, granted}
 use Rattle.protocol.specs.Element.{signed}
-use Rattle.protocol.specs.Settings.{size, cells, hasLength, allBelow, allWithin, exponent, exponents}
-use Rattle.protocol.specs.Inputs.{Within}
-use Rattle.protocol.specs.Opening.{commitment, roundTable, messageAfter}
-use Rattle.protocol.specs.Transcript.{Transcript, transcriptOf, accepted}
-use Rattle.protocol.specs.Text.{Line, Tables, textLimit, narrowLimit, names, linesText, shape, settingsShape, shapes, shapeSize, contents, block, blocks, blockLines, textOf}
+use Rattle.protocol.specs.Layout.{keyItems, keyCells, itemCells, roundCells, exponentCount}
+use Rattle.protocol.specs.Settings.{cells, hasLength, allBelow, allWithin, exponent, exponents}
+use Rattle.protocol.specs.Inputs.{Below, Within}
+use Rattle.protocol.specs.Opening.{messageAfter}
+use Rattle.protocol.specs.Transcript.{Transcript, transcriptOf}
+use Rattle.protocol.specs.Rows.{commitments, roundTables, transcriptsOf}
+use Rattle.protocol.specs.Text.{Line, Tables, textLimit, narrowLimit, names, linesText, shape, settingsShape, shapes, shapeSize, settingsValues, contents, block, blocks, blockLines, textOf}
 use Rattle.protocol.specs.Text.{linesOf, settingsIn, tablesIn, lookRefusal, textRefusal, written, overwritten}
 use Rattle.protocol.specs.Programs.{proveReads, provePrints, verifyReads, printed, proofText, proveText, proveRefusal, proveAnswer, proveExit, proveOutput}
 use Rattle.protocol.specs.Programs.{transcriptIn, tablesAccepted, verifyRefusal, verifyAnswer}
 use Rattle.protocol.specs.ProveVerify.{keyLines, headLength, withKey, keyed, Accepts, ProveVerify}
 use Rattle.protocol.proofs.Tests.{first-zero, granted-zero}
 use Rattle.protocol.proofs.Inputs.{settings-valid, valid-settings, tested-below, tested-within, below-tested, within-tested}
-use Rattle.protocol.proofs.Acceptance.{accepted-test}
+use Rattle.protocol.proofs.Acceptance.{all-accepted-test}
 use Rattle.protocol.proofs.LineLaws.{lines-append}
 use Rattle.protocol.proofs.TableLaws.{Fit}
-use Rattle.protocol.proofs.Ranges.{commitment-below, rounds-below, last-length}
+use Rattle.protocol.proofs.Ranges.{last-length}
 use Rattle.claims.proofs.Completeness.{complete}
-use Rattle.claims.proofs.Honest.{Given, degree-positive, modulus-positive}
+use Rattle.claims.proofs.RowLaws.{commitments-below, tables-below}
+use Rattle.claims.proofs.Honest.{Given, degree-positive, modulus-positive, transcripts-accepted}
 use Rattle.protocol.proofs.TextLimits.{allowed, size-le, Passed}
 use Rattle.claims.proofs.RoundTrip.{readable-tables, tables-readable}
 
@@ -40,38 +43,44 @@ module _ {S : Settings} {G : List ℕ} {M : List ℤ} {E : List ℕ} (ok : Given
   open Settings S using (degree as d, depth as L, modulus as q, bound as B)
 
   abbrev T : Transcript
-  T = transcriptOf S G M E
+  T = transcriptsOf S G M E
 
-  pq : 0 < q
-  pq = modulus-positive S (ok .settings)
+  some-degree : 0 < d
+  some-degree = degree-positive S (ok .settings)
+
+  commitments-given : Below q (itemCells S) (commitments S G M)
+  commitments-given = commitments-below S (modulus-positive S (ok .settings)) some-degree G M
+
+  tables-given : Below q (roundCells S) (roundTables S E G M)
+  tables-given = tables-below S (modulus-positive S (ok .settings)) (ok .settings .rows-least) some-degree E G M
 
   last-long : length (T .last) ≡ d
-  unfolding transcriptOf
+  unfolding transcriptsOf
   last-long = last-length S (messageAfter S E L M)
 
   -- a final element's coefficients are within ±n·B, which is at most 32,512
   pub last-within : Within narrowLimit d (T .last)
-  unfolding signed narrowLimit
+  unfolding signed narrowLimit transcriptsOf transcriptOf
   last-within = record {
     long = last-long;
     each = λ k l. Nat.le-trans
-        (complete S (degree-positive S (ok .settings)) (ok .settings .modulus-odd) G M E (ok .message .each) .in-bound k l)
+        (complete S some-degree (ok .settings .modulus-odd) G M E (ok .message .each) .in-bound k l)
         (Nat.le-trans (Nat.mul-le-mul (size-le S (allowed S (valid-settings S (ok .settings)))) (ok .settings .bound-most)) (omega arith));
   }
 
   tables-passed : Passed S (keyed G T)
-  unfolding keyed transcriptOf allBelow allWithin exponents exponent all
+  unfolding keyed transcriptsOf allBelow allWithin exponents exponent all
   tables-passed = record {
-    key = below-tested q (cells S) G (ok .key);
-    commitment = below-tested q d (commitment S G M) (commitment-below S pq G M);
-    rounds = below-tested q (3 * L * d) (roundTable S E G M) (rounds-below S pq E G M);
+    key = below-tested q (keyCells S) G (ok .key);
+    commitment = below-tested q (itemCells S) (commitments S G M) commitments-given;
+    rounds = below-tested q (roundCells S) (roundTables S E G M) tables-given;
     message = refl;
-    challenges = below-tested (2 * d) L E (ok .challenges);
+    challenges = below-tested (exponentCount S) L E (ok .challenges);
     last = within-tested narrowLimit d (T .last) last-within;
   }
 
   tables-fit : Fit (shapes S verifyReads) (contents S (keyed G T))
-  unfolding shapes settingsShape shape shapeSize choose contents verifyReads keyed transcriptOf cells
+  unfolding shapes settingsShape shape shapeSize choose contents settingsValues verifyReads keyed transcriptsOf
   tables-fit = (
     refl,
     (
@@ -79,9 +88,9 @@ module _ {S : Settings} {G : List ℕ} {M : List ℤ} {E : List ℕ} (ok : Given
       (
         sym (Nat.zero-mul d),
         (
-          length-map (commitment S G M) pos ∙ commitment-below S pq G M .long ∙ sym (Nat.one-mul d),
+          length-map (commitments S G M) pos ∙ commitments-given .long,
           (
-            length-map (roundTable S E G M) pos ∙ rounds-below S pq E G M .long,
+            length-map (roundTables S E G M) pos ∙ tables-given .long,
             (length-map E pos ∙ ok .challenges .long ∙ sym (Nat.mul-one L), (last-long ∙ sym (Nat.one-mul d), tt)),
           ),
         ),
@@ -91,7 +100,7 @@ module _ {S : Settings} {G : List ℕ} {M : List ℤ} {E : List ℕ} (ok : Given
 
   tables-accepted : tablesAccepted S (keyed G T) ≡ true
   unfolding tablesAccepted transcriptIn keyed
-  tables-accepted = accepted-test S G T (complete S (degree-positive S (ok .settings)) (ok .settings .modulus-odd) G M E (ok .message .each))
+  tables-accepted = all-accepted-test S G T (transcripts-accepted ok)
 
   keyed-accepted : length (textOf S verifyReads (keyed G T)) ≤ textLimit → verifyAnswer (textOf S verifyReads (keyed G T)) ≡ Accepted
   unfolding verifyAnswer verifyRefusal granted choose
@@ -109,7 +118,7 @@ module _ (S : Settings) (key : List ℕ) (T : Transcript) where
   open Settings S using (degree as d)
 
   abbrev front : List Line
-  front = blockLines (block settingsShape (pos (S .degree) ∷ pos (S .depth) ∷ pos (S .modulus) ∷ pos (S .bound) ∷ []))
+  front = blockLines (block settingsShape (settingsValues S))
 
   abbrev head : List ℕ
   head = names ++ linesText front
@@ -121,7 +130,7 @@ module _ (S : Settings) (key : List ℕ) (T : Transcript) where
   listing-parts : textOf S provePrints (printed T) ≡ head ++ linesText rest
   unfolding textOf blocks shapes contents flatMap zipWith provePrints verifyReads printed keyed
   listing-parts =
-      ap (λ l. names ++ linesText (front ++ (l ++ rest))) (absent-lines 1 (size S) d [])
+      ap (λ l. names ++ linesText (front ++ (l ++ rest))) (absent-lines 1 (keyItems S) d [])
       ∙ ap (λ l. names ++ l) (lines-append front rest)
       ∙ sym (append-assoc names (linesText front) (linesText rest))
 
@@ -132,7 +141,7 @@ module _ (S : Settings) (key : List ℕ) (T : Transcript) where
       ∙ sym (append-assoc names (linesText front) (linesText mine ++ linesText rest))
     where
       mine : List Line
-      mine = blockLines (block (shape 1 true (size S) d) (map pos key))
+      mine = blockLines (block (shape 1 true (keyItems S) d) (map pos key))
 
   listing-keyed : withKey S key (textOf S provePrints (printed T)) ≡ textOf S verifyReads (keyed key T)
   unfolding withKey headLength
@@ -162,9 +171,9 @@ module _ (text : List ℕ) where
   abbrev t : Tables
   t = tablesIn (linesOf text)
 
-  text-keyed : withKey S (t .key) (proveText text) ≡ textOf S verifyReads (keyed (t .key) (transcriptOf S (t .key) (t .message) (t .challenges)))
+  text-keyed : withKey S (t .key) (proveText text) ≡ textOf S verifyReads (keyed (t .key) (transcriptsOf S (t .key) (t .message) (t .challenges)))
   unfolding proveText proofText
-  text-keyed = listing-keyed S (t .key) (transcriptOf S (t .key) (t .message) (t .challenges))
+  text-keyed = listing-keyed S (t .key) (transcriptsOf S (t .key) (t .message) (t .challenges))
 
   long-refused : (long : List ℕ) → textLimit < length long → verifyRefusal long ≡ 1
   unfolding verifyRefusal textRefusal lookRefusal first unless

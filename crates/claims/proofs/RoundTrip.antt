@@ -15,13 +15,14 @@ use Rattle.protocol.specs.Basic.{tabulate, among, choose, granted}
 use Rattle.protocol.specs.Settings.{settingsRefusal, allBelow}
 use Rattle.protocol.specs.Settings.{exponent, exponents}
 use Rattle.protocol.specs.Text.{Line, Tables, textLimit, valueLimit, narrowLimit, limitOf, names, linesText, shape, settingsShape, shapes, shapeSize}
-use Rattle.protocol.specs.Text.{spots, wanted, contents, block, blocks, blockLines, textOf, fits}
+use Rattle.protocol.specs.Text.{spots, wanted, settingsValues, contents, block, blocks, blockLines, textOf, fits}
 use Rattle.protocol.specs.Text.{parsed, linesOf, sameSpots, spotsOf, valuesOf, wellFormed, unsigned, column, unsignedColumn}
 use Rattle.protocol.specs.Text.{settingIn, settingsIn, tablesIn, lookRefusal, loaded, entriesRefusal, textRefusal, readRefusal, readAnswer}
 use Rattle.protocol.specs.Text.{readExit}
 use Rattle.protocol.specs.Text.{written, overwritten, writeAnswer, writeExit}
 use Rattle.protocol.specs.RoundTrip.{Forth, RoundTrip, OneText}
 use Rattle.protocol.proofs.Tests.{first-zero, unless-zero}
+use Rattle.protocol.proofs.Reading.{tabulate-own}
 use Rattle.protocol.proofs.LineLaws.{AllLimited, parsed-text}
 use Rattle.protocol.proofs.TableLaws.{Fit, parts, columns, read-lines, read-fit}
 use Rattle.protocol.proofs.TableLaws.{Split, split}
@@ -29,14 +30,6 @@ use Rattle.protocol.proofs.TextLimits.{Allowed, allowed, Passed, passed, unrefu
 use Rattle.protocol.proofs.ColumnLaws.{sameSpots-eq, valuesOf-append}
 use Rattle.claims.proofs.Unsigned.{unsigned-pos, unsigned-forth}
 use Rattle.claims.proofs.WrittenRead.{shapes-rise, fit-all, lines-read, settings-back, tables-back, read-back, Writable, writable-refusal, back}
-
-four : (v : List ℤ) → length v ≡ 4 → v ≡ getD v 0 (pos 0) ∷ getD v 1 (pos 0) ∷ getD v 2 (pos 0) ∷ getD v 3 (pos 0) ∷ []
-four [] e = absurd (omega arith)
-four (a ∷ []) e = absurd (omega arith)
-four (a ∷ b ∷ []) e = absurd (omega arith)
-four (a ∷ b ∷ c ∷ []) e = absurd (omega arith)
-four (a ∷ b ∷ c ∷ d ∷ []) e = refl
-four (a ∷ b ∷ c ∷ d ∷ x ∷ v) e = absurd (omega arith)
 
 -- what the reader asks of a text
 record Readable (P : Parts) (text : List ℕ) : Type 0 where
@@ -102,29 +95,30 @@ module _ (P : Parts) (text : List ℕ) (r : Readable P text) where
   unfolding wanted shapes settingsShape shape
   fitting = read-fit 0 (shapes S P) ls (shapes-rise S P) (r .order)
 
-  four-settings : length (column 0 ls) ≡ 4
+  five-settings : length (column 0 ls) ≡ 5
   unfolding shapes settingsShape shape choose shapeSize
-  four-settings = fitting .0
+  five-settings = fitting .0
 
-  setting : (i : ℕ) → i < 4 → getD (valuesOf ls) i (pos 0) ≡ getD (column 0 ls) i (pos 0)
+  setting : (i : ℕ) → i < 5 → getD (valuesOf ls) i (pos 0) ≡ getD (column 0 ls) i (pos 0)
   unfolding settingsShape shape
   setting i l =
       let z = zeroth in
-      let inside : i < length (valuesOf (z .front)) = omega (arith, ap length (z .mine), four-settings) in
+      let inside : i < length (valuesOf (z .front)) = omega (arith, ap length (z .mine), five-settings) in
       ap (λ (x : List Line). getD (valuesOf x) i (pos 0)) (z .joined)
       ∙ ap (λ (x : List ℤ). getD x i (pos 0)) (valuesOf-append (z .front) (z .back))
       ∙ List·getD-append (valuesOf (z .front)) (valuesOf (z .back)) (pos 0) i inside
       ∙ ap (λ (x : List ℤ). getD x i (pos 0)) (sym (z .mine))
 
-  settings-forth : pos (S .degree) ∷ pos (S .depth) ∷ pos (S .modulus) ∷ pos (S .bound) ∷ [] ≡ column 0 ls
-  unfolding settingsIn settingIn
+  settings-forth : settingsValues S ≡ column 0 ls
+  unfolding settingsValues settingsIn settingIn tabulate
   settings-forth =
       let wide : width ≤ narrowLimit = unfold narrowLimit in (omega arith) in
       let d = unsigned-pos narrowLimit (getD (valuesOf ls) 0 (pos 0)) (omega (arith, bounds .degree)) ∙ setting 0 (omega arith) in
       let l = unsigned-pos narrowLimit (getD (valuesOf ls) 1 (pos 0)) (omega (arith, bounds .depth)) ∙ setting 1 (omega arith) in
       let q = unsigned-pos valueLimit (getD (valuesOf ls) 2 (pos 0)) (bounds .modulus) ∙ setting 2 (omega arith) in
       let b = unsigned-pos narrowLimit (getD (valuesOf ls) 3 (pos 0)) (omega (arith, bounds .bound)) ∙ setting 3 (omega arith) in
-      (λ i. d i ∷ l i ∷ q i ∷ b i ∷ []) ∙ sym (four (column 0 ls) four-settings)
+      let r = unsigned-pos narrowLimit (getD (valuesOf ls) 4 (pos 0)) (omega (arith, bounds .rows)) ∙ setting 4 (omega arith) in
+      (λ i. d i ∷ l i ∷ q i ∷ b i ∷ r i ∷ []) ∙ tabulate-own 5 (column 0 ls) (pos 0) five-settings
 
   plain-residues : (v : List ℤ) → allBelow S (map (unsigned valueLimit) v) ≡ true → map pos (map (unsigned valueLimit) v) ≡ v
   unfolding allBelow

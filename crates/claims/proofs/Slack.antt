@@ -1,5 +1,5 @@
 -- What a yes of the judge says of the commitment (PROTOCOL 6). A slack that the judge takes has an inverse modulo q. So the vector decides which commitment it
--- opens: the slack's inverse times the combination of the key. For a vector of zeros that is the commitment of zeros.
+-- opens: in every row the slack's inverse times the combination of that row of the key. For a vector of zeros that is the commitment of zeros.
 use mathlib.Core.Path.{_≡_, refl, sym, ap, ap₂, _∙_}
 use mathlib.Core.Bool.{Bool, true, false, _&&_, false≢true}
 use mathlib.Core.List.{List, [], _∷_}
@@ -18,9 +18,11 @@ use Rattle.algebra.specs.Solver.{con, neg, _⊕_ as _:+_, _⊖_ as _:-_, _⊗_ 
 use Rattle.algebra.specs.Certificate.{_·⟨_⟩_, _⇐_, done, combine}
 use Rattle.protocol.specs.declared.Settings.{Settings}
 use Rattle.protocol.specs.Basic.{sum, granted}
-use Rattle.protocol.specs.Element.{modulo, rotate, product, times, residue, signedAt, residueAt}
-use Rattle.protocol.specs.Settings.{size, allBelow, residueElement}
+use Rattle.protocol.specs.Element.{modulo, rotate, product, times, residue, signedAt, residueAt, valueRow}
+use Rattle.protocol.specs.Settings.{size, allBelow, allWithin, residueElement, residueRows}
 use Rattle.protocol.specs.Opening.{inner}
+use Rattle.protocol.specs.Rows.{keyRow}
+use Rattle.protocol.specs.Tree.{growth}
 use Rattle.protocol.specs.CommonDivisor.{euclid, greatestCommonDivisor}
 use Rattle.protocol.specs.Judge.{slackAllowed, scaledCommitment, combination, opens, judged, Opens}
 use Rattle.protocol.specs.Calls.{judgeRefusal, judgeAnswer}
@@ -87,9 +89,9 @@ slack-inverse S ok c a = coprime-inverse (S .modulus) c (omega (arith, ok .modul
 
 record Yes (S : Settings) (G C : List ℕ) (c : ℕ) (w : List ℤ) : Type 0 where
   settings : Valid S
-  below : (k : ℕ) → k < S .degree → getD C k 0 < S .modulus
+  below : (r : ℕ) → r < S .rows → (k : ℕ) → k < S .degree → getD (valueRow C r) k 0 < S .modulus
   allowed : slackAllowed S c ≡ true
-  equation : Opens S G C c w
+  equation : (r : ℕ) → r < S .rows → Opens S (keyRow S G r) (valueRow C r) c w
 
 granted-true : (n : ℕ) (b : Bool) → granted n b false ≡ true → (n ≡ 0) × (b ≡ true)
 unfolding granted
@@ -97,38 +99,43 @@ granted-true zero b e = (refl, e)
 granted-true (suc n) b e = absurd (false≢true e)
 
 tested : (S : Settings) (G C : List ℕ) (c : ℕ) (w : List ℤ) → judgeAnswer S C c G w .yes ≡ true → Yes S G C c w
-unfolding judgeAnswer judgeRefusal judged opens residueElement
+unfolding judgeAnswer judgeRefusal judged opens residueRows residueElement
 tested S G C c w said =
     let (z, met) = granted-true (judgeRefusal S C c G w) (judged S G C c w) said in
     let (r6, (t7, (t8, (t14, (t15, _))))) = none-refused ((6, _) ∷ (7, _) ∷ (13, _) ∷ (14, _) ∷ []) z in
+    let residues = every-at (S .rows) (λ r. residueElement S (valueRow C r)) (and-split {a = allBelow S G} t8 .1) in
+    let equations = every-at (S .rows) (λ r. opens S (keyRow S G r) (valueRow C r) c w) (and-split {b = allWithin (growth S) w} met .0) in
     record {
       settings = settings-valid S r6;
-      below = λ k l. ltb-true _ _ (every-at (S .degree) (λ k. ltb (getD C k 0) (S .modulus)) (and-split {a = allBelow S G} t8 .1) k l);
+      below = λ r h k l. ltb-true _ _ (every-at (S .degree) (λ k. ltb (getD (valueRow C r) k 0) (S .modulus)) (residues r h) k l);
       allowed = t15;
-      equation = λ k l. eqb-true _ _ (every-at (S .degree) (λ k. eqb (scaledCommitment S C c k) (combination S G w k)) (and-split {a = opens S G C c w} met .0) k l);
+      equation = λ r h k l. eqb-true _ _ (every-at (S .degree) (λ k. eqb (scaledCommitment S (valueRow C r) c k) (combination S (keyRow S G r) w k)) (equations r h) k l);
     }
 
 -- the inverse takes the slack away again
 unscaled : (S : Settings) (G C : List ℕ) (c : ℕ) (w : List ℤ) → Yes S G C c w → (i : Inverse (S .modulus) c)
-    → (k : ℕ) → k < S .degree → getD C k 0 ≡ i .inverse * combination S G w k % S .modulus
+    → (r : ℕ) → r < S .rows → (k : ℕ) → k < S .degree → getD (valueRow C r) k 0 ≡ i .inverse * combination S (keyRow S G r) w k % S .modulus
 unfolding scaledCommitment times residue
-unscaled S G C c w y i k l =
+unscaled S G C c w y i r h k l =
     sym (ap (λ x. i .inverse * x % q) scaled
-    ∙ times-mod q p (i .inverse) (c * getD C k 0)
-    ∙ ap (λ x. x % q) (sym (Nat.mul-assoc (i .inverse) c (getD C k 0)) ∙ ap (λ x. x * getD C k 0) (Nat.mul-comm (i .inverse) c))
-    ∙ sym (mod-times q p (c * i .inverse) (getD C k 0))
-    ∙ ap (λ x. x * getD C k 0 % q) (i .is-inverse)
-    ∙ ap (λ x. x % q) (Nat.one-mul (getD C k 0))
-    ∙ Nat.mod-eq-of-lt (y .below k l))
+    ∙ times-mod q p (i .inverse) (c * a)
+    ∙ ap (λ x. x % q) (sym (Nat.mul-assoc (i .inverse) c a) ∙ ap (λ x. x * a) (Nat.mul-comm (i .inverse) c))
+    ∙ sym (mod-times q p (c * i .inverse) a)
+    ∙ ap (λ x. x * a % q) (i .is-inverse)
+    ∙ ap (λ x. x % q) (Nat.one-mul a)
+    ∙ Nat.mod-eq-of-lt (y .below r h k l))
   where
+    a : ℕ
+    a = getD (valueRow C r) k 0
+
     q : ℕ
     q = S .modulus
 
     p : 0 < q
     p = modulus-positive S (y .settings)
 
-    scaled : combination S G w k ≡ c * getD C k 0 % q
-    scaled = sym (y .equation k l) ∙ modulo-times q p c (pos (getD C k 0)) ∙ ap (λ x. c * x % q) (modulo-residue q p (getD C k 0) (y .below k l))
+    scaled : combination S (keyRow S G r) w k ≡ c * a % q
+    scaled = sym (y .equation r h k l) ∙ modulo-times q p c (pos a) ∙ ap (λ x. c * x % q) (modulo-residue q p a (y .below r h k l))
 
 -- ---- a combination by zeros
 
@@ -146,11 +153,11 @@ combination-zeros S G w zeros k =
 
 -- ---- what a yes of the judge means
 
--- the slack has an inverse modulo q, and the commitment is that inverse times the combination of the key by w
+-- the slack has an inverse modulo q, and the commitment of every row is that inverse times the combination of the row by w
 pub record Decided (S : Settings) (G C : List ℕ) (c : ℕ) (w : List ℤ) : Type 0 where
   pub inverse : ℕ
   pub is-inverse : c * inverse % S .modulus ≡ 1
-  pub commitment-is : (k : ℕ) → k < S .degree → getD C k 0 ≡ inverse * combination S G w k % S .modulus
+  pub commitment-is : (r : ℕ) → r < S .rows → (k : ℕ) → k < S .degree → getD (valueRow C r) k 0 ≡ inverse * combination S (keyRow S G r) w k % S .modulus
 
 module _ (S : Settings) (G C : List ℕ) (c : ℕ) (w : List ℤ) (said : judgeAnswer S C c G w .yes ≡ true) where
   pub yes-decides : Decided S G C c w
@@ -160,14 +167,15 @@ module _ (S : Settings) (G C : List ℕ) (c : ℕ) (w : List ℤ) (said : judgeA
       record { inverse = i .inverse; is-inverse = i .is-inverse; commitment-is = unscaled S G C c w y i }
 
   -- with one slack and one key, w opens one commitment alone
-  pub opens-one : (C′ : List ℕ) → judgeAnswer S C′ c G w .yes ≡ true → (k : ℕ) → k < S .degree → getD C k 0 ≡ getD C′ k 0
-  opens-one C′ said′ k l =
+  pub opens-one : (C′ : List ℕ) → judgeAnswer S C′ c G w .yes ≡ true → (r : ℕ) → r < S .rows → (k : ℕ) → k < S .degree → getD (valueRow C r) k 0 ≡ getD (valueRow C′ r) k 0
+  opens-one C′ said′ r h k l =
       let d = yes-decides in
-      d .commitment-is k l ∙ sym (unscaled S G C′ c w (tested S G C′ c w said′) (record { inverse = d .inverse; is-inverse = d .is-inverse }) k l)
+      d .commitment-is r h k l
+      ∙ sym (unscaled S G C′ c w (tested S G C′ c w said′) (record { inverse = d .inverse; is-inverse = d .is-inverse }) r h k l)
 
   -- a vector of zeros opens the commitment of zeros alone, whatever the slack and the key
-  pub zeros-open-zero : ((i : ℕ) → getD w i (pos 0) ≡ pos 0) → (k : ℕ) → k < S .degree → getD C k 0 ≡ 0
-  zeros-open-zero zeros k l =
+  pub zeros-open-zero : ((i : ℕ) → getD w i (pos 0) ≡ pos 0) → (r : ℕ) → r < S .rows → (k : ℕ) → k < S .degree → getD (valueRow C r) k 0 ≡ 0
+  zeros-open-zero zeros r h k l =
       let d = yes-decides in
-      d .commitment-is k l ∙ ap (λ x. d .inverse * x % S .modulus) (combination-zeros S G w zeros k)
+      d .commitment-is r h k l ∙ ap (λ x. d .inverse * x % S .modulus) (combination-zeros S (keyRow S G r) w zeros k)
       ∙ ap (λ x. x % S .modulus) (Nat.mul-zero (d .inverse)) ∙ Nat.zero-mod (S .modulus)

@@ -15,7 +15,7 @@ use Rattle.protocol.specs.declared.Parts.{Parts}
 use Rattle.protocol.specs.Basic.{tabulate, all, choose, within, first, unless, granted}
 use Rattle.protocol.specs.Settings.{settingsRefusal, hasLength, allBelow, exponent, exponents}
 use Rattle.protocol.specs.Text.{Line, Shape, Tables, textLimit, valueLimit, narrowLimit, shape, settingsShape, shapes, shapeSize}
-use Rattle.protocol.specs.Text.{spotAt, spots, wanted, contents, block, blocks, blockLines, textOf, blockFits, fits}
+use Rattle.protocol.specs.Text.{spotAt, spots, wanted, settingsValues, contents, block, blocks, blockLines, textOf, blockFits, fits}
 use Rattle.protocol.specs.Text.{linesOf, sameSpot, sameSpots, spotsOf, valuesOf, wellFormed, unsigned, column, unsignedColumn}
 use Rattle.protocol.specs.Text.{settingIn, settingsIn, tablesIn, lookRefusal, loaded, entriesRefusal, textRefusal, readRefusal, readAnswer}
 use Rattle.protocol.specs.Text.{readExit}
@@ -65,19 +65,16 @@ module _ (S : Settings) (P : Parts) (t : Tables) where
   lines-read a p = linesOf-written lines (lines-limited (shapes S P) (contents S t) (contents-limited S P t a p))
 
   settings-values : valuesOf lines
-      ≡ (pos (S .degree) ∷ pos (S .depth) ∷ pos (S .modulus) ∷ pos (S .bound) ∷ []) ++ valuesOf (flatMap blockLines (drop 1 (blocks S P t)))
-  unfolding blocks shapes contents flatMap zipWith settingsShape shape choose shapeSize
+      ≡ settingsValues S ++ valuesOf (flatMap blockLines (drop 1 (blocks S P t)))
+  unfolding blocks shapes contents settingsValues flatMap zipWith settingsShape shape choose shapeSize
   settings-values =
-      valuesOf-append (blockLines (block settingsShape own)) rest ∙ ap (λ (v : List ℤ). v ++ valuesOf rest) (blockLines-values settingsShape own refl)
+      valuesOf-append (blockLines (block settingsShape (settingsValues S))) rest ∙ ap (λ (v : List ℤ). v ++ valuesOf rest) (blockLines-values settingsShape (settingsValues S) refl)
     where
-      own : List ℤ
-      own = pos (S .degree) ∷ pos (S .depth) ∷ pos (S .modulus) ∷ pos (S .bound) ∷ []
-
       rest : List Line
       rest = flatMap blockLines (drop 1 (blocks S P t))
 
   pub settings-back : Allowed S → settingsIn lines ≡ S
-  unfolding settingsIn settingIn
+  unfolding settingsIn settingIn settingsValues
   settings-back a =
       let wide : width ≤ narrowLimit = unfold narrowLimit in (omega arith) in
       rw settings-values
@@ -86,6 +83,7 @@ module _ (S : Settings) (P : Parts) (t : Tables) where
         depth = unsigned-small narrowLimit (S .depth) (omega (arith, a .depth)) j;
         modulus = unsigned-small valueLimit (S .modulus) (a .modulus) j;
         bound = unsigned-small narrowLimit (S .bound) (omega (arith, a .bound)) j;
+        rows = unsigned-small narrowLimit (S .rows) (omega (arith, a .rows)) j;
       })
 
   module _ (f : Fit (shapes S P) (contents S t)) where

@@ -4,12 +4,13 @@ use mathlib.Core.List.{List, [], _∷_, _++_, map}
 use Prim.Native.Nat.{ℕ, zero, suc, _-_}
 use lib.ListN.{length, replicate, drop}
 use lib.IntN.{ℤ, pos}
-use Rattle.protocol.specs.Element.{width}
+use Rattle.protocol.specs.Layout.{width}
 use Rattle.protocol.specs.declared.Settings.{Settings}
 use Rattle.protocol.specs.declared.Session.{Session}
 use Rattle.protocol.specs.declared.Parts.{Parts}
 use Rattle.protocol.specs.declared.Verdict.{Verdict}
-use Rattle.protocol.specs.Transcript.{Transcript, Cause, cause}
+use Rattle.protocol.specs.Transcript.{Transcript}
+use Rattle.protocol.specs.Rows.{Cause, cause, together}
 use Rattle.protocol.specs.Session.{start, round, end}
 use Rattle.protocol.specs.Calls.{commitAnswer, roundAnswer, foldRefusal, foldKeyExit, foldMessageExit, endAnswer, openingAnswer, openingKeyExit, openingMessageExit}
 use Rattle.protocol.specs.Calls.{openingRoundsExit, checkAnswer, judgeAnswer, extractRefusal, extractExit}
@@ -19,8 +20,8 @@ use Rattle.protocol.proofs.Examples.{Example, asNumber, causeNumber, verdictAsN
 
 -- ---- inputs
 
-abbrev pub set : ℕ → ℕ → ℕ → ℕ → Settings
-set d l q b = record { degree = d; depth = l; modulus = q; bound = b }
+abbrev pub set : ℕ → ℕ → ℕ → ℕ → ℕ → Settings
+set d l q b r = record { degree = d; depth = l; modulus = q; bound = b; rows = r }
 
 -- an element that is passed by value, its places behind those given being 0
 unfoldable pub full : List ℕ → List ℕ
@@ -29,8 +30,12 @@ full l = l ++ replicate (width - length l) 0
 unfoldable pub fullSigned : List ℤ → List ℤ
 fullSigned l = l ++ replicate (width - length l) (pos 0)
 
-unfoldable pub session : Settings → ℕ → List ℕ → List ℕ → Bool → Session
-session S done claim challenges closed = record { settings = S; done = done; claim = full claim; challenges = challenges; closed = closed }
+-- an element of each row that is passed by value
+unfoldable pub byRow : List ℕ → List ℕ → List ℕ → List ℕ → List ℕ
+byRow a b c d = full a ++ full b ++ full c ++ full d
+
+abbrev pub session : Settings → ℕ → List ℕ → List ℕ → Bool → Session
+session S done claims challenges closed = record { settings = S; done = done; claims = claims; challenges = challenges; closed = closed }
 
 abbrev pub sixTables : List ℕ → List ℤ → List ℕ → List ℕ → List ℕ → List ℤ → Tables
 sixTables key message commitment rounds challenges last = record
@@ -43,7 +48,7 @@ sixParts key message commitment round challenge last = record
 -- ---- outputs as numbers
 
 unfoldable pub settingsNumbers : Settings → List ℤ
-settingsNumbers S = map pos (S .degree ∷ S .depth ∷ S .modulus ∷ S .bound ∷ [])
+settingsNumbers S = map pos (S .degree ∷ S .depth ∷ S .modulus ∷ S .bound ∷ S .rows ∷ [])
 
 unfoldable pub counted : List ℤ → List ℤ
 counted l = pos (length l) ∷ l
@@ -62,7 +67,7 @@ polynomialNumbers (c ∷ p) = counted (map pos c) ++ polynomialNumbers p
 unfoldable pub commitRow : Settings → List ℕ → List ℤ → ℕ → List ℕ → Example
 commitRow S key message n c =
     let r = commitAnswer S key message in
-    record { given = pos (r .refusal) ∷ map pos (r .commitment); wanted = pos n ∷ map pos (full c) }
+    record { given = pos (r .refusal) ∷ map pos (r .commitment); wanted = pos n ∷ map pos c }
 
 unfoldable pub roundRow : Settings → ℕ → List ℕ → List ℤ → ℕ → List (List ℕ) → Example
 roundRow S t key message n p =
@@ -86,7 +91,7 @@ openingRow S key message E rounds n v c f key′ message′ rounds′ =
     record {
       given = pos (r .refusal) ∷ verdictAsNumber (r .verdict) ∷ (map pos (r .commitment) ++ r .last
           ++ map pos (openingKeyExit S key message E rounds) ++ openingMessageExit S key message E rounds ++ map pos (openingRoundsExit S key message E rounds));
-      wanted = pos n ∷ verdictAsNumber v ∷ (map pos (full c) ++ fullSigned f ++ map pos key′ ++ message′ ++ map pos rounds′);
+      wanted = pos n ∷ verdictAsNumber v ∷ (map pos c ++ fullSigned f ++ map pos key′ ++ message′ ++ map pos rounds′);
     }
 
 unfoldable pub startRow : Settings → List ℕ → ℕ → Session → Example
@@ -108,7 +113,7 @@ unfoldable pub checkRow : Settings → List ℕ → List ℤ → List ℕ → Li
 checkRow S C f key rounds E n v why =
     let r = checkAnswer S C f key rounds E in
     record {
-      given = pos (r .refusal) ∷ verdictAsNumber (r .verdict) ∷ whyRejected S (r .refusal) key (record { commitment = C; rounds = rounds; challenges = E; last = f });
+      given = pos (r .refusal) ∷ verdictAsNumber (r .verdict) ∷ whyRejected S (r .refusal) key (record { commitment = together S C; rounds = rounds; challenges = E; last = f });
       wanted = pos n ∷ verdictAsNumber v ∷ causeNumber why;
     }
 
@@ -146,6 +151,6 @@ verifyRow text n v =
 
 unfoldable pub rowsUnfolded : Unit {0}
 unfolding
-    full fullSigned session settingsNumbers counted tablesNumbers polynomialNumbers
+    full fullSigned byRow settingsNumbers counted tablesNumbers polynomialNumbers
     commitRow roundRow foldRow endRow openingRow startRow moveRow closeRow whyRejected checkRow judgeRow extractRow readRow writeRow proveRow verifyRow
 rowsUnfolded = tt

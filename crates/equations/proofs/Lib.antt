@@ -2,6 +2,8 @@ pub mod Ready
 pub mod Quotients
 pub mod Ending
 pub mod Polynomials
+pub mod Items
+pub mod ByValue
 pub mod Turns
 pub mod Summing
 pub mod Gathering

@@ -1,4 +1,4 @@
--- What refusals 3 to 6 leave of the settings, as bounds.
+-- What refusals 3 to 6 and 16 leave of the settings, as bounds.
 use mathlib.Core.Path.{_≡_}
 use Prim.Native.Nat.{_%_, _≤_}
 use Rattle.protocol.specs.declared.Settings.{Settings}

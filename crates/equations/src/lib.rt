@@ -1,5 +1,5 @@
 // The verifier's equations: a round, the claim after it, and the end. Every function is safe for every input; what it gives is said for
-// settings that refusals 3 to 6 let pass.
+// settings that refusals 3 to 6 and 16 let pass.
 pub mod by_value;
 pub mod keys;
 pub mod rounds;

@@ -6,20 +6,34 @@ use mathlib.Core.Bool.{Bool, false, _&&_}
 use mathlib.Core.List.{List}
 use Prim.Native.Nat.{ℕ, zero, suc}
 use lib.IntN.{ℤ}
-use lib.ListN.{take}
+use lib.Dec.{eqb}
+use lib.ListN.{length, take}
 use Rattle.protocol.specs.declared.Settings.{Settings}
 use Rattle.protocol.specs.declared.Verdict.{Verdict}
 use Rattle.protocol.specs.declared.Verdict.the-variants.{Silent}
 use Rattle.protocol.specs.declared.Opened.{Opened}
 use Rattle.protocol.specs.Basic.{choose, granted}
-use Rattle.protocol.specs.Settings.{hasLength}
+use Rattle.protocol.specs.Layout.{itemCells}
+use Rattle.protocol.specs.Settings.{settingsRefusal, hasLength}
+use Rattle.protocol.specs.Rows.{together}
 use Rattle.protocol.specs.Calls as Calls
 use Rattle.protocol.specs.Promises.{Opening}
 use Rattle.slices.specs.Slices.{lent}
 use Rattle.protocol.specs.Session.{verdictNumber}
-use Rattle.slices.proofs.Lent.{lent-stops, lent-passes, kept, kept-by, done}
+use Rattle.slices.proofs.Lent.{lent-stops, lent-passes, lent-same, kept, kept-by, done}
 use Rattle.exports.specs.Border as Border
 use Rattle.exports.specs.Promises.{OpeningStored}
+
+-- slices are held against lengths that are worked out, and are right where the settings are allowed
+module _ (S : Settings) {n x m : ℕ} (is : settingsRefusal S ≡ 0 → x ≡ m) where
+  pub counted : (t : List ℕ) → n ≡ lent S (eqb (length t) x) 0 → n ≡ lent S (hasLength m t) 0
+  unfolding hasLength
+  counted t e = e ∙ lent-same S _ _ 0 (λ z. ap (eqb (length t)) (is z))
+
+  pub both-counted : (C : List ℕ) (d : ℕ) (f : List ℤ) {fits : Bool} → fits ≡ (eqb (length C) x && eqb (length f) d) → n ≡ lent S fits 0
+      → n ≡ lent S (hasLength m C && hasLength d f) 0
+  unfolding hasLength
+  both-counted C d f b e = e ∙ lent-same S _ _ 0 (λ z. b ∙ ap (λ y. eqb (length C) y && eqb (length f) d) (is z))
 
 -- a refused call leaves y, one that is not leaves x
 module _ {ℓ} {A : Type ℓ} (S : Settings) (fits : Bool) (N : ℕ) (x y : A) (n : ℕ) (e : n ≡ lent S fits 0) where
@@ -62,9 +76,9 @@ agrees S fits N b n e h = no N ∙ ap (λ k. granted k (bit (granted N b false))
 
 -- ---- the whole opening
 
-module _ (S : Settings) (key : List ℕ) (message : List ℤ) (E rounds C : List ℕ) (f : List ℤ) (n : ℕ) (e : n ≡ lent S (hasLength (S .degree) C && hasLength (S .degree) f) 0) where
+module _ (S : Settings) (key : List ℕ) (message : List ℤ) (E rounds C : List ℕ) (f : List ℤ) (n : ℕ) (e : n ≡ lent S (hasLength (itemCells S) C && hasLength (S .degree) f) 0) where
   abbrev fits : Bool
-  fits = hasLength (S .degree) C && hasLength (S .degree) f
+  fits = hasLength (itemCells S) C && hasLength (S .degree) f
 
   abbrev N : ℕ
   N = Calls.openingRefusal S key message E rounds
@@ -99,7 +113,7 @@ module _ (S : Settings) (key : List ℕ) (message : List ℤ) (E rounds C : List
       verdict-exit = refused {A = ℕ} S fits N _ 0 n e h (r .refusal) number-is q .1;
     }
 
-    pub open-made : r .refusal ≡ 0 → (C′ : List ℕ) (f′ : List ℤ) (v : ℕ) → C′ ≡ take (S .degree) (r .commitment) → f′ ≡ take (S .degree) (r .last)
+    pub open-made : r .refusal ≡ 0 → (C′ : List ℕ) (f′ : List ℤ) (v : ℕ) → C′ ≡ together S (r .commitment) → f′ ≡ take (S .degree) (r .last)
         → v ≡ verdictNumber (r .verdict) → OpeningStored S key message E rounds C f 0 key′ message′ rounds′ C′ f′ v
     unfolding Border.openNumber Border.openKeyExit Border.openMessageExit Border.openRoundsExit Border.openCommitmentExit Border.openLastExit Border.openVerdict
         Calls.openingAnswer Calls.openingKeyExit Calls.openingMessageExit Calls.openingRoundsExit
@@ -108,7 +122,7 @@ module _ (S : Settings) (key : List ℕ) (message : List ℤ) (E rounds C : List
       key-exit = o .key-exit ∙ through S fits N _ key n e h;
       message-exit = o .message-exit ∙ through S fits N _ message n e h;
       rounds-exit = o .rounds-exit ∙ through S fits N _ rounds n e h;
-      commitment-exit = made S fits N _ C n e h (r .refusal) number-is q C′ (c ∙ ap (λ (x : Opened). take (S .degree) (x .commitment)) (o .answer)) .1;
+      commitment-exit = made S fits N _ C n e h (r .refusal) number-is q C′ (c ∙ ap (λ (x : Opened). together S (x .commitment)) (o .answer)) .1;
       last-exit = made S fits N _ f n e h (r .refusal) number-is q f′ (l ∙ ap (λ (x : Opened). take (S .degree) (x .last)) (o .answer)) .1;
       verdict-exit = made {A = ℕ} S fits N _ 0 n e h (r .refusal) number-is q v (s ∙ ap (λ (x : Opened). verdictNumber (x .verdict)) (o .answer)) .1;
     }

@@ -1,37 +1,42 @@
 -- Demand 3 for the exported calls, proved as a corollary of the one claim. What is added to `demand3`: the exported list of calls ends with slices that hold what
--- the list of calls by value ends with (Steps, Moves), refused exported calls change no slice (Refused), and of a commitment only the first d places are read.
-use mathlib.Core.Path.{_≡_, refl, sym, ap, _∙_, subst}
+-- the list of calls by value ends with (Steps, Moves), refused exported calls change no slice (Refused), and a commitment in a slice is read row by row.
+use mathlib.Core.Path.{_≡_, sym, ap, _∙_, subst}
 use mathlib.Core.List.{List, [], _∷_}
-use Prim.Native.Nat.{ℕ, zero, suc, _*_, _<_, _≤_}
-use native.Mathlib.Omega.{arith}
+use Prim.Native.Nat.{ℕ, _*_, _<_, _≤_}
 use lib.IntN.{ℤ, pos, _*ℤ_}
 use lib.ListN.{length, getD, take, drop}
+use lib.Seq.{getD-drop}
 use Rattle.protocol.specs.declared.Settings.{Settings}
 use Rattle.protocol.specs.declared.Judged.{Judged}
 use Rattle.protocol.specs.Basic.{choose}
-use Rattle.protocol.specs.Element.{modulo, padded, times, residue}
+use Rattle.protocol.specs.Element.{modulo, valueRow, times, residue}
+use Rattle.protocol.specs.Layout.{keyCells, itemCells, polynomialCells, polynomialAt, roundCells}
 use Rattle.protocol.specs.Settings.{cells}
-use Rattle.protocol.specs.Opening.{keyAfter, messageAfter, roundTable}
-use Rattle.protocol.specs.Transcript.{element, claimAfter, Accepted}
+use Rattle.protocol.specs.Opening.{messageAfter}
+use Rattle.protocol.specs.Rows.{keyRow, together, keysAfter, roundTables}
 use Rattle.protocol.specs.Inputs.{Valid, Below, Within}
-use Rattle.protocol.specs.Tree.{path, growth, growthLimit}
+use Rattle.protocol.specs.Tree.{growth, growthLimit}
 use Rattle.protocol.specs.Judge.{slack, scaledCommitment, Opens}
 use Rattle.protocol.specs.Calls as Calls
 use Rattle.protocol.specs.Session.{blank}
 use Rattle.protocol.specs.Demand3.{Step, moves, FullTree}
 use Rattle.protocol.specs.Demand3 as Demand
 use Rattle.protocol.proofs.Tests.{and-intro, granted-zero}
-use Rattle.claims.proofs.Honest.{Given, modulus-positive, opening-rounds}
-use Rattle.protocol.proofs.Ranges.{padded-at, commitment-below, last-length}
+use Rattle.protocol.proofs.Inputs.{degree-most}
+use Rattle.protocol.proofs.Reading.{tabulate-at}
+use Rattle.protocol.proofs.Rows.{atRows-at}
+use Rattle.protocol.proofs.Ranges.{last-length}
+use Rattle.claims.proofs.Honest.{Given, opening-rounds}
 use Rattle.claims.proofs.Refused as Steps
 use Rattle.claims.proofs.Moves.{roundsAfter}
 use Rattle.claims.proofs.Moves as Value
 use Rattle.claims.proofs.Demand3.{demand3}
 use Rattle.protocol.specs.Session.{verdictNumber}
-use Rattle.slices.proofs.Laws.{element-back, whole-back}
+use Rattle.slices.specs.Slices.{valuesOf}
+use Rattle.slices.proofs.Laws.{whole-back}
 use Rattle.exports.specs.Border as Border
 use Rattle.exports.specs.Claim.{State, SameAsWhole, OpeningClaim, ExtractionClaim, ExportedDemand3}
-use Rattle.exports.proofs.Steps.{own, fit, final, round-exit}
+use Rattle.exports.proofs.Steps.{own, fit, final, commitment-laid, round-exit}
 use Rattle.exports.proofs.Moves.{finished, round-part, run-finished}
 
 -- a run with no refused call
@@ -43,13 +48,13 @@ steps-alone S E (s ∷ steps) a = Demand.go Demand.none (steps-alone S E steps (
 -- ---- an opening
 
 module _ {S : Settings} {G : List ℕ} {M : List ℤ} {E : List ℕ} (ok : Given S G M E) (rounds C : List ℕ) (F : List ℤ)
-    (rounds-long : length rounds ≡ 3 * S .depth * S .degree) (C-long : length C ≡ S .degree) (F-long : length F ≡ S .degree) where
+    (rounds-long : length rounds ≡ roundCells S) (C-long : length C ≡ itemCells S) (F-long : length F ≡ S .degree) where
   whole : Demand.OpeningClaim S G M E rounds
   whole = demand3 S G (ok .settings) (ok .key) .opening M E rounds (ok .message) (ok .challenges) rounds-long
 
   granted-opening : Border.openNumber S G M E rounds C F ≡ 0
   unfolding Border.openNumber
-  granted-opening = own S (ok .settings) _ _ (and-intro (fit (S .degree) C C-long) (fit (S .degree) F F-long)) ∙ whole .not-refused
+  granted-opening = own S (ok .settings) _ _ (and-intro (fit (itemCells S) C C-long) (fit (S .degree) F F-long)) ∙ whole .not-refused
 
   said : Border.openVerdict S G M E rounds C F ≡ 2
   unfolding Border.openVerdict verdictNumber
@@ -72,8 +77,7 @@ module _ {S : Settings} {G : List ℕ} {M : List ℤ} {E : List ℕ} (ok : Given
         no-refusal = ap (λ (a : State). a .heard .numbers) e;
         same-commitment =
             ap (λ (a : State). a .held .commitment) e
-            ∙ sym (granted-zero _ _ _ granted-opening ∙ ap (take (S .degree)) (sym (value-same .same-commitment) ∙ ap (λ (a : Demand.State). a .heard .commitment) f)
-            ∙ element-back (S .degree) _ (commitment-below S (modulus-positive S (ok .settings)) G M .long));
+            ∙ sym (granted-zero _ _ _ granted-opening ∙ ap (together S) (sym (value-same .same-commitment) ∙ ap (λ (a : Demand.State). a .heard .commitment) f) ∙ commitment-laid ok);
         same-rounds = ap (λ (a : State). a .heard .rounds) e ∙ sym (granted-zero _ _ _ granted-opening ∙ sym (value-same .same-rounds) ∙ ap (λ (a : Demand.State). a .heard .rounds) f);
         same-last =
             ap (λ (a : State). a .held .last) e
@@ -85,12 +89,12 @@ module _ {S : Settings} {G : List ℕ} {M : List ℤ} {E : List ℕ} (ok : Given
         copy-kept = ap (λ (a : State). a .held .copy) e;
       }
 
-  layout : (t : ℕ) → t < S .depth → (q : List ℕ) → length q ≡ 3 * S .degree
-      → take (3 * S .degree) (drop (3 * t * S .degree) (Border.openRoundsExit S G M E rounds C F)) ≡ Border.roundExit S t (keyAfter S E t G) (messageAfter S E t M) q
-  layout t l q long = ap (λ x. take (3 * S .degree) (drop (3 * t * S .degree) x)) table ∙ round-part ok t l ∙ sym (round-exit ok t l q long)
+  layout : (t : ℕ) → t < S .depth → (q : List ℕ) → length q ≡ polynomialCells S
+      → take (polynomialCells S) (drop (polynomialAt S t) (Border.openRoundsExit S G M E rounds C F)) ≡ Border.roundExit S t (keysAfter S E t G) (messageAfter S E t M) q
+  layout t l q long = ap (λ x. take (polynomialCells S) (drop (polynomialAt S t) x)) table ∙ round-part ok t l ∙ sym (round-exit ok t l q long)
     where
       table : Border.openRoundsExit S G M E rounds C F ≡ roundsAfter S G M E (S .depth)
-      table = unfold Border.openRoundsExit in unfold roundsAfter in unfold roundTable in granted-zero _ _ _ granted-opening ∙ opening-rounds ok rounds rounds-long
+      table = unfold Border.openRoundsExit in unfold roundsAfter in unfold roundTables in granted-zero _ _ _ granted-opening ∙ opening-rounds ok rounds rounds-long
 
   exported-opening : OpeningClaim S G M E rounds C F
   exported-opening = record {
@@ -102,63 +106,41 @@ module _ {S : Settings} {G : List ℕ} {M : List ℤ} {E : List ℕ} (ok : Given
 
 -- ---- a tree
 
--- of the commitment only the first d places are read
-module _ (S : Settings) (C : List ℕ) (long : length C ≡ S .degree) where
-  place : (k : ℕ) → k < S .degree → getD (padded (S .degree) C) k 0 ≡ getD C k 0
-  place k h = padded-at (S .degree) C k (omega arith)
+-- C is read row by row, of each the d places
+module _ (S : Settings) (ok : Valid S) (C : List ℕ) (long : length C ≡ itemCells S) where
+  place : (i k : ℕ) → i < S .rows → k < S .degree → getD (valueRow (valuesOf S C) i) k 0 ≡ getD (drop (i * S .degree) C) k 0
+  unfolding valuesOf
+  place i k h l = atRows-at S _ i k (ok .rows-most) (degree-most S ok) h l ∙ tabulate-at (S .degree) _ 0 k l ∙ sym (getD-drop (i * S .degree) C k 0)
 
-  module _ (G rounds E : List ℕ) (finals : List ℤ) where
-    claims-same : (j t k : ℕ) → k < S .degree → getD (claimAfter S (path S C rounds E finals j) t) k 0 ≡ getD (claimAfter S (path S (padded (S .degree) C) rounds E finals j) t) k 0
-    unfolding claimAfter path element
-    claims-same j zero k h = sym (place k h)
-    claims-same j (suc t) k h = refl
-
-    path-same : (j : ℕ) → Accepted S G (path S C rounds E finals j) → Accepted S G (path S (padded (S .degree) C) rounds E finals j)
-    unfolding path element
-    path-same j a = record {
-      every-round = λ t l k h. a .every-round t l k h ∙ claims-same j t k h;
-      in-bound = a .in-bound;
-      at-end = λ k h. sym (claims-same j (S .depth) k h) ∙ a .at-end k h;
-    }
-
-    tree-same : FullTree S G C rounds E finals → FullTree S G (padded (S .degree) C) rounds E finals
-    tree-same tree = record {
-      rounds-below = tree .rounds-below;
-      challenges-below = tree .challenges-below;
-      finals-long = tree .finals-long;
-      different = tree .different;
-      accepted = λ j l. path-same j (tree .accepted j l);
-    }
-
-  opens-same : (G : List ℕ) (c : ℕ) (w : List ℤ) → Opens S G (padded (S .degree) C) c w → Opens S G C c w
+  opens-same : (K : List ℕ) (c : ℕ) (w : List ℤ) (i : ℕ) → i < S .rows → Opens S K (valueRow (valuesOf S C) i) c w → Opens S K (drop (i * S .degree) C) c w
   unfolding scaledCommitment times residue
-  opens-same G c w o k h = ap (λ x. modulo (S .modulus) (pos c *ℤ pos x)) (sym (place k h)) ∙ o k h
+  opens-same K c w i h o k l = ap (λ x. modulo (S .modulus) (pos c *ℤ pos x)) (sym (place i k h l)) ∙ o k l
 
-  exported-extraction : (ok : Valid S) (G : List ℕ) → Below (S .modulus) (cells S) G → (rounds E : List ℕ) (finals w : List ℤ)
-      → FullTree S G C rounds E finals → growth S ≤ growthLimit → length w ≡ cells S → ExtractionClaim S G C rounds E finals w
-  exported-extraction ok G key rounds E finals w tree room w-long = record {
+  exported-extraction : (G : List ℕ) → Below (S .modulus) (keyCells S) G → (rounds E : List ℕ) (finals w : List ℤ)
+      → FullTree S G (valuesOf S C) rounds E finals → growth S ≤ growthLimit → length w ≡ cells S → ExtractionClaim S G C rounds E finals w
+  exported-extraction G key rounds E finals w tree room w-long = record {
     not-refused = not-refused;
     is-root-vector = vector ∙ claim .is-root-vector;
     in-bound = subst (Within (growth S) (cells S)) (sym vector) (claim .in-bound);
-    opens = subst (Opens S G C (slack S)) (sym vector) (opens-same G (slack S) _ (claim .opens));
+    opens = λ i h. subst (Opens S (keyRow S G i) (drop (i * S .degree) C) (slack S)) (sym vector) (opens-same (keyRow S G i) (slack S) _ i h (claim .opens i h));
     judge-answers = ap (Border.judgeNumber S C (slack S) G) vector ∙ judge-granted;
     judge-says-yes = ap (Border.judgeYes S C (slack S) G) vector ∙ judge-yes;
     exact = λ m folds. vector ∙ claim .exact m folds;
   }
     where
-      claim : Demand.ExtractionClaim S G (padded (S .degree) C) rounds E finals w
-      claim = demand3 S G ok key .extraction (padded (S .degree) C) rounds E finals w (tree-same G rounds E finals tree) room w-long
+      claim : Demand.ExtractionClaim S G (valuesOf S C) rounds E finals w
+      claim = demand3 S G ok key .extraction (valuesOf S C) rounds E finals w tree room w-long
 
       not-refused : Border.extractNumber S C G rounds E finals w ≡ 0
-      not-refused = unfold Border.extractNumber in own S ok _ _ (fit (S .degree) C long) ∙ claim .not-refused
+      not-refused = unfold Border.extractNumber in own S ok _ _ (fit (itemCells S) C long) ∙ claim .not-refused
 
-      vector : Border.extractExit S C G rounds E finals w ≡ Calls.extractExit S (padded (S .degree) C) G rounds E finals w
+      vector : Border.extractExit S C G rounds E finals w ≡ Calls.extractExit S (valuesOf S C) G rounds E finals w
       vector = unfold Border.extractExit in granted-zero _ _ _ not-refused
 
-      judge-granted : Border.judgeNumber S C (slack S) G (Calls.extractExit S (padded (S .degree) C) G rounds E finals w) ≡ 0
-      judge-granted = unfold Border.judgeNumber in own S ok _ _ (fit (S .degree) C long) ∙ ap (λ (x : Judged). x .refusal) (claim .judge-says-yes)
+      judge-granted : Border.judgeNumber S C (slack S) G (Calls.extractExit S (valuesOf S C) G rounds E finals w) ≡ 0
+      judge-granted = unfold Border.judgeNumber in own S ok _ _ (fit (itemCells S) C long) ∙ ap (λ (x : Judged). x .refusal) (claim .judge-says-yes)
 
-      judge-yes : Border.judgeYes S C (slack S) G (Calls.extractExit S (padded (S .degree) C) G rounds E finals w) ≡ 1
+      judge-yes : Border.judgeYes S C (slack S) G (Calls.extractExit S (valuesOf S C) G rounds E finals w) ≡ 1
       judge-yes = unfold Border.judgeYes in unfold choose in granted-zero _ _ _ judge-granted ∙ ap (λ (x : Judged). choose (x .yes) 1 0) (claim .judge-says-yes)
 
 -- ---- the claim
@@ -167,5 +149,5 @@ pub exported-demand3 : ExportedDemand3
 exported-demand3 S G ok key = record {
   opening = λ M E rounds C F message challenges rounds-long C-long F-long.
       exported-opening (record { settings = ok; key = key; message = message; challenges = challenges }) rounds C F rounds-long C-long F-long;
-  extraction = λ C rounds E finals w C-long tree room w-long. exported-extraction S C C-long ok G key rounds E finals w tree room w-long;
+  extraction = λ C rounds E finals w C-long tree room w-long. exported-extraction S ok C C-long G key rounds E finals w tree room w-long;
 }

@@ -1,13 +1,13 @@
 -- The exported calls of an opening, on slices of their lengths: none is refused, and each leaves what its call of protocol answers, in its slice.
 use mathlib.Core.Path.{_≡_, sym, ap, _∙_, subst}
 use mathlib.Core.Bool.{Bool, true, _&&_}
-use mathlib.Core.List.{List}
-use Prim.Native.Nat.{ℕ, zero, suc, _*_, _<_, _≤_}
+use mathlib.Core.List.{List, [], _++_, append-nil}
+use Prim.Native.Nat.{ℕ, zero, suc, _<_, _≤_}
 use native.Mathlib.Nat as Nat
 use native.Mathlib.Omega.{arith}
 use borrow.Author.Tests.{eq-eqb}
 use lib.IntN.{ℤ}
-use lib.ListN.{length, getD, take}
+use lib.ListN.{length, getD, take, length-append}
 use Rattle.protocol.specs.declared.Settings.{Settings}
 use Rattle.protocol.specs.declared.Session.{Session}
 use Rattle.protocol.specs.declared.Committed.{Committed}
@@ -16,23 +16,26 @@ use Rattle.protocol.specs.declared.Ended.{Ended}
 use Rattle.protocol.specs.declared.Started.{Started}
 use Rattle.protocol.specs.declared.Moved.{Moved}
 use Rattle.protocol.specs.declared.Verdict.the-variants.{Holds, Accepted}
-use Rattle.protocol.specs.Element.{padded, paddedSigned}
+use Rattle.protocol.specs.Element.{paddedSigned}
+use Rattle.protocol.specs.Layout.{itemCells, polynomialCells}
 use Rattle.protocol.specs.Settings.{hasLength}
-use Rattle.protocol.specs.Opening.{commitment, roundElement, messageAfter, keyAfter, finalElement}
-use Rattle.protocol.specs.Session.{opened, blank, startRefusal, start, shut, round, end}
+use Rattle.protocol.specs.Opening.{commitment, roundElement, messageAfter, finalElement}
+use Rattle.protocol.specs.Rows.{keyRow, atRows, together, commitments, keysAfter}
+use Rattle.protocol.specs.Session.{opened, blank, startRefusal, start, shut, part, round, end}
 use Rattle.protocol.specs.Calls.{polynomial}
 use Rattle.protocol.specs.Inputs.{Valid}
 use Rattle.protocol.proofs.Tests.{and-intro, granted-zero}
 use Rattle.protocol.proofs.Refusals.{first-passes, first-holds, first-only}
-use Rattle.protocol.proofs.Inputs.{valid-settings}
+use Rattle.protocol.proofs.Inputs.{valid-settings, degree-most}
 use Rattle.protocol.proofs.Reading.{flat-length}
-use Rattle.claims.proofs.Honest.{Given, modulus-positive}
-use Rattle.protocol.proofs.Ranges.{commitment-below, round-below, last-length}
+use Rattle.protocol.proofs.Ranges.{last-length}
+use Rattle.claims.proofs.RowLaws.{commitments-together, commitments-below}
+use Rattle.claims.proofs.Honest.{Given, degree-positive, modulus-positive}
 use Rattle.claims.proofs.Prover.{commit-answer, round-answer, end-answer}
 use Rattle.claims.proofs.Sessions.{sessionAfter, start-answer, session-round-answer, session-end-answer}
-use Rattle.slices.specs.Slices.{lent, polynomialOf, laid}
+use Rattle.slices.specs.Slices.{lent, valuesOf, polynomialOf, laid}
 use Rattle.protocol.specs.Session.{verdictNumber}
-use Rattle.slices.proofs.Laws.{element-back, whole-back, polynomial-there}
+use Rattle.slices.proofs.Laws.{whole-back, element-there, polynomial-there}
 use Rattle.sessions.specs.Records.{recordWidth, sessionOf, flagged, numbersOf, recordStored}
 use Rattle.sessions.specs.Promises.{startNumber, startExit, moveNumber, moveExit, moveVerdict, polynomialFits, roundOn, lastFits, endOn}
 use Rattle.sessions.proofs.Stored.{stored, numbers-length}
@@ -74,42 +77,60 @@ module _ {S : Settings} {G : List ℕ} {M : List ℤ} {E : List ℕ} (ok : Given
   session = sessionAfter S G M E
 
   abbrev pub p : ℕ → List (List ℕ)
-  p t = polynomial S t (keyAfter S E t G) (messageAfter S E t M)
+  p t = polynomial S t (keysAfter S E t G) (messageAfter S E t M)
+
+  some-degree : 0 < d
+  some-degree = degree-positive S (ok .settings)
 
   -- ---- commit and start
 
-  commitment-long : length (commitment S G M) ≡ d
-  commitment-long = commitment-below S (modulus-positive S (ok .settings)) G M .long
+  -- the commitment by value, and as a slice
+  abbrev committed : List ℕ
+  committed = atRows S (λ r. commitment S (keyRow S G r) M)
 
-  module _ (c : List ℕ) (long : length c ≡ d) where
+  abbrev pub C : List ℕ
+  C = commitments S G M
+
+  pub commitment-laid : together S committed ≡ C
+  commitment-laid = commitments-together S (ok .settings .rows-most) (degree-most S (ok .settings)) G M some-degree
+
+  commitment-long : length C ≡ itemCells S
+  commitment-long = commitments-below S (modulus-positive S (ok .settings)) some-degree G M .long
+
+  commitment-read : valuesOf S C ≡ committed
+  commitment-read = ap (valuesOf S) (sym commitment-laid ∙ sym (append-nil (together S committed))) ∙ element-there S (ok .settings) (λ r. commitment S (keyRow S G r) M) []
+
+  module _ (c : List ℕ) (long : length c ≡ itemCells S) where
     pub commit-number : Border.commitNumber S G M c ≡ 0
     unfolding Border.commitNumber
-    commit-number = own S (ok .settings) _ _ (fit d c long) ∙ ap (λ (r : Committed). r .refusal) (commit-answer ok)
+    commit-number = own S (ok .settings) _ _ (fit (itemCells S) c long) ∙ ap (λ (r : Committed). r .refusal) (commit-answer ok)
 
-    pub commit-exit : Border.commitExit S G M c ≡ commitment S G M
+    pub commit-exit : Border.commitExit S G M c ≡ C
     unfolding Border.commitExit
-    commit-exit = granted-zero _ _ _ commit-number ∙ ap (λ (r : Committed). take d (r .commitment)) (commit-answer ok) ∙ element-back d (commitment S G M) commitment-long
+    commit-exit = granted-zero _ _ _ commit-number ∙ ap (λ (r : Committed). together S (r .commitment)) (commit-answer ok) ∙ commitment-laid
+
+  started : start S (valuesOf S C) ≡ record { refusal = 0; next = session 0 }
+  started = ap (start S) commitment-read ∙ start-answer ok
 
   module _ (r : List ℕ) (long : length r ≡ recordWidth) where
-    start-granted : startRefusal S (padded d (commitment S G M)) ≡ 0
+    start-granted : startRefusal S (valuesOf S C) ≡ 0
     unfolding start
-    start-granted = ap (λ (x : Started). x .refusal) (start-answer ok)
+    start-granted = ap (λ (x : Started). x .refusal) started
 
-    pub start-number : startNumber S (commitment S G M) r ≡ 0
+    pub start-number : startNumber S C r ≡ 0
     unfolding startNumber
-    start-number = own S (ok .settings) _ _ (and-intro (fit d (commitment S G M) commitment-long) (fit recordWidth r long)) ∙ start-granted
+    start-number = own S (ok .settings) _ _ (and-intro (fit (itemCells S) C commitment-long) (fit recordWidth r long)) ∙ start-granted
 
-    pub start-exit : startExit S (commitment S G M) r ≡ numbersOf (session 0)
+    pub start-exit : startExit S C r ≡ numbersOf (session 0)
     unfolding startExit start
     start-exit =
-        ap (λ x. recordStored x r)
-        (granted-zero _ _ _ start-number ∙ sym (granted-zero _ (opened S (padded d (commitment S G M))) blank start-granted) ∙ ap (λ (x : Started). x .next) (start-answer ok))
+        ap (λ x. recordStored x r) (granted-zero _ _ _ start-number ∙ sym (granted-zero _ (opened S (valuesOf S C)) blank start-granted) ∙ ap (λ (x : Started). x .next) started)
         ∙ stored (session 0) r long
 
   -- ---- the record after t rounds
 
   whole : (t : ℕ) → t ≤ L → Whole (session t)
-  whole zero l = subst Whole (ap (λ (x : Started). x .next) (start-answer ok)) (start-whole S (padded d (commitment S G M)))
+  whole zero l = subst Whole (ap (λ (x : Started). x .next) started) (start-whole S (valuesOf S C))
   whole (suc t) l = subst Whole (ap (λ (x : Moved). x .next) (session-round-answer ok t l)) (move-whole (session t) (whole t (omega arith)) (p t) (getD E t 0))
 
   module _ (t : ℕ) (l : t ≤ L) where
@@ -124,34 +145,41 @@ module _ {S : Settings} {G : List ℕ} {M : List ℤ} {E : List ℕ} (ok : Given
 
   module _ (t : ℕ) (l : t < L) where
     abbrev slice : List ℕ
-    slice = laid d (p t)
+    slice = laid S (p t)
 
-    module _ (q : List ℕ) (long : length q ≡ 3 * d) where
-      pub round-number : Border.roundNumber S t (keyAfter S E t G) (messageAfter S E t M) q ≡ 0
+    module _ (q : List ℕ) (long : length q ≡ polynomialCells S) where
+      pub round-number : Border.roundNumber S t (keysAfter S E t G) (messageAfter S E t M) q ≡ 0
       unfolding Border.roundNumber
-      round-number = own S (ok .settings) _ _ (fit (3 * d) q long) ∙ ap (λ (r : Polynomial). r .refusal) (round-answer ok t l)
+      round-number = own S (ok .settings) _ _ (fit (polynomialCells S) q long) ∙ ap (λ (r : Polynomial). r .refusal) (round-answer ok t l)
 
-      pub round-exit : Border.roundExit S t (keyAfter S E t G) (messageAfter S E t M) q ≡ slice
+      pub round-exit : Border.roundExit S t (keysAfter S E t G) (messageAfter S E t M) q ≡ slice
       unfolding Border.roundExit
-      round-exit = granted-zero _ _ _ round-number ∙ ap (λ (r : Polynomial). laid d (r .elements)) (round-answer ok t l)
+      round-exit = granted-zero _ _ _ round-number ∙ ap (λ (r : Polynomial). laid S (r .elements)) (round-answer ok t l)
 
-    pub slice-long : length slice ≡ 3 * d
-    unfolding laid
-    slice-long = flat-length d 3 _
+    pub slice-long : length slice ≡ polynomialCells S
+    unfolding laid together
+    slice-long =
+        length-append (item 0) (item 1 ++ item 2)
+        ∙ omega (arith, length-append (item 1) (item 2), item-long 0, item-long 1, item-long 2)
+      where
+        item : ℕ → List ℕ
+        item j = together S (part (p t) j)
 
-    slice-read : polynomialOf d slice ≡ p t
+        item-long : (j : ℕ) → length (item j) ≡ itemCells S
+        item-long j = flat-length d (S .rows) _
+
+    slice-read : polynomialOf S slice ≡ p t
     unfolding polynomial
-    slice-read =
-        polynomial-there d (roundElement S t (keyAfter S E t G) (messageAfter S E t M)) (λ j. round-below S (modulus-positive S (ok .settings)) t (keyAfter S E t G) (messageAfter S E t M) j .long)
+    slice-read = polynomial-there S (ok .settings) (λ j r. roundElement S t (keyRow S (keysAfter S E t G) r) (messageAfter S E t M) j)
 
     slice-fits : polynomialFits slice (numbersOf (session t)) ≡ true
     unfolding polynomialFits
-    slice-fits = ap (λ s. hasLength (3 * s .degree) slice) (settings-are t (omega arith)) ∙ fit (3 * d) slice slice-long
+    slice-fits = ap (λ s. hasLength (polynomialCells s) slice) (settings-are t (omega arith)) ∙ fit (polynomialCells S) slice slice-long
 
     made : roundOn slice (getD E t 0) (numbersOf (session t)) ≡ record { refusal = 0; verdict = Holds; next = session (suc t) }
     unfolding roundOn sessionAfter
     made =
-        ap (λ (s : Session). round s (polynomialOf (s .settings .degree) slice) (getD E t 0)) (loaded t (omega arith))
+        ap (λ (s : Session). round s (polynomialOf (s .settings) slice) (getD E t 0)) (loaded t (omega arith))
         ∙ ap (λ x. round (session t) x (getD E t 0)) slice-read
         ∙ session-round-answer ok t l
 

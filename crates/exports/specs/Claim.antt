@@ -27,12 +27,15 @@ use Rattle.protocol.specs.declared.Settings.{Settings}
 use Rattle.protocol.specs.Basic.{granted}
 use Rattle.protocol.specs.Inputs.{Valid, Below, Within}
 use Rattle.protocol.specs.Settings.{cells}
-use Rattle.protocol.specs.Opening.{messageAfter, keyAfter}
+use Rattle.protocol.specs.Layout.{keyCells, itemCells, polynomialCells, polynomialAt, roundCells, exponentCount}
+use Rattle.protocol.specs.Opening.{messageAfter}
+use Rattle.protocol.specs.Rows.{keyRow, keysAfter}
 use Rattle.protocol.specs.Tree.{rootVector, growth, growthLimit}
 use Rattle.protocol.specs.Judge.{slack, Opens}
 use Rattle.protocol.specs.Calls.{foldRefusal, foldKeyExit, foldMessageExit}
 use Rattle.protocol.specs.Text.{Tables, linesOf, settingsIn, tablesIn}
 use Rattle.protocol.specs.Demand3.{Step, moves, FullTree, FoldsOf}
+use Rattle.slices.specs.Slices.{valuesOf}
 use Rattle.sessions.specs.Records.{recordWidth}
 use Rattle.sessions.specs.Promises.{startNumber, startExit, moveNumber, moveExit, moveVerdict, polynomialFits, roundOn, lastFits, endOn}
 use Rattle.text_calls.specs.Texts.{settingsNumbers}
@@ -228,8 +231,8 @@ pub data Run (S : Settings) (E : List ℕ) : List Step → State → State → T
 
 pub record Lengths (S : Settings) (r c p : List ℕ) (f : List ℤ) : Type 0 where
   pub session : length r ≡ recordWidth
-  pub commitment : length c ≡ S .degree
-  pub polynomial : length p ≡ 3 * S .degree
+  pub commitment : length c ≡ itemCells S
+  pub polynomial : length p ≡ polynomialCells S
   pub last : length f ≡ S .degree
 
 -- C and F are the slices lent to the whole opening for commitment and final element, `rounds` that for the round elements
@@ -248,19 +251,19 @@ module _ (S : Settings) (G : List ℕ) (M : List ℤ) (E rounds C : List ℕ) (F
   pub record OpeningClaim : Type 0 where
     pub not-refused : Border.openNumber S G M E rounds C F ≡ 0
     pub says-accepted : Border.openVerdict S G M E rounds C F ≡ 2
-    pub one-layout : (t : ℕ) → t < S .depth → (p : List ℕ) → length p ≡ 3 * S .degree
-        → take (3 * S .degree) (drop (3 * t * S .degree) (Border.openRoundsExit S G M E rounds C F)) ≡ Border.roundExit S t (keyAfter S E t G) (messageAfter S E t M) p
+    pub one-layout : (t : ℕ) → t < S .depth → (p : List ℕ) → length p ≡ polynomialCells S
+        → take (polynomialCells S) (drop (polynomialAt S t) (Border.openRoundsExit S G M E rounds C F)) ≡ Border.roundExit S t (keysAfter S E t G) (messageAfter S E t M) p
     pub by-moves : (r c p : List ℕ) (f : List ℤ) → Lengths S r c p f → (st : State) → Run S E (moves (S .depth)) (begun M G r c p f) st → SameAsWhole st
 
 -- ════ a tree
 
--- C is the slice for the commitment, w that for the vector, whatever stood in it
+-- C is the slice for the commitment, row i from place i·d on; w that for the vector, whatever stood in it
 module _ (S : Settings) (G C rounds E : List ℕ) (finals w : List ℤ) where
   pub record ExtractionClaim : Type 0 where
     pub not-refused : Border.extractNumber S C G rounds E finals w ≡ 0
     pub is-root-vector : Border.extractExit S C G rounds E finals w ≡ rootVector S E finals
     pub in-bound : Within (growth S) (cells S) (Border.extractExit S C G rounds E finals w)
-    pub opens : Opens S G C (slack S) (Border.extractExit S C G rounds E finals w)
+    pub opens : (i : ℕ) → i < S .rows → Opens S (keyRow S G i) (drop (i * S .degree) C) (slack S) (Border.extractExit S C G rounds E finals w)
     pub judge-answers : Border.judgeNumber S C (slack S) G (Border.extractExit S C G rounds E finals w) ≡ 0
     pub judge-says-yes : Border.judgeYes S C (slack S) G (Border.extractExit S C G rounds E finals w) ≡ 1
     pub exact : (m : List ℤ) → FoldsOf S E finals m → Border.extractExit S C G rounds E finals w ≡ map (λ x. pos (slack S) *ℤ x) m
@@ -268,10 +271,10 @@ module _ (S : Settings) (G C rounds E : List ℕ) (finals w : List ℤ) where
 -- ════ the claim
 
 pub record Claim (S : Settings) (G : List ℕ) : Type 0 where
-  pub opening : (M : List ℤ) (E rounds C : List ℕ) (F : List ℤ) → Within (S .bound) (cells S) M → Below (2 * S .degree) (S .depth) E
-      → length rounds ≡ 3 * S .depth * S .degree → length C ≡ S .degree → length F ≡ S .degree → OpeningClaim S G M E rounds C F
-  pub extraction : (C rounds E : List ℕ) (finals w : List ℤ) → length C ≡ S .degree → FullTree S G C rounds E finals → growth S ≤ growthLimit → length w ≡ cells S
+  pub opening : (M : List ℤ) (E rounds C : List ℕ) (F : List ℤ) → Within (S .bound) (cells S) M → Below (exponentCount S) (S .depth) E
+      → length rounds ≡ roundCells S → length C ≡ itemCells S → length F ≡ S .degree → OpeningClaim S G M E rounds C F
+  pub extraction : (C rounds E : List ℕ) (finals w : List ℤ) → length C ≡ itemCells S → FullTree S G (valuesOf S C) rounds E finals → growth S ≤ growthLimit → length w ≡ cells S
       → ExtractionClaim S G C rounds E finals w
 
 abbrev pub ExportedDemand3 : Type 0
-ExportedDemand3 = (S : Settings) (G : List ℕ) → Valid S → Below (S .modulus) (cells S) G → Claim S G
+ExportedDemand3 = (S : Settings) (G : List ℕ) → Valid S → Below (S .modulus) (keyCells S) G → Claim S G

@@ -14,16 +14,23 @@ ghost use Rattle.protocol.specs.Programs.{checked, verifyAnswer};
 ghost use Rattle.text_calls.specs.Promises.{Looked, ReadStored, WroteStored, Verdicts, ProvedStored};
 ghost use Rattle.exports.specs.Promises.{CommitStored, RoundStored, EndStored, OpeningStored, CheckStored, JudgeStored, ExtractStored};
 
-// Refusals 3 to 6.
+// Refusals 3 to 6 and 16.
 #[no_mangle]
-pub extern "C" fn wovenrock_settings(degree: u32, depth: u32, modulus: u64, bound: u32) -> u32
-    ensures { λ r. ⌜ r ≡ settingsRefusal (given degree depth modulus bound) ⌝ }
+pub extern "C" fn wovenrock_settings(
+    degree: u32,
+    depth: u32,
+    modulus: u64,
+    bound: u32,
+    rows: u32,
+) -> u32
+    ensures { λ r. ⌜ r ≡ settingsRefusal (given degree depth modulus bound rows) ⌝ }
 {
     let s = Settings {
         degree: degree,
         depth: depth,
         modulus: modulus,
         bound: bound,
+        rows: rows,
     };
     tests::settings_refusal(s)
 }
@@ -35,19 +42,21 @@ pub extern "C" fn wovenrock_commit(
     depth: u32,
     modulus: u64,
     bound: u32,
+    rows: u32,
     key: &[u64],
     message: &[i32],
     commitment: &mut [u64],
 ) -> u32
-    ensures { λ r. ⌜ CommitStored (given degree depth modulus bound) (now (key .entry)) (now (message .entry)) (now (commitment .entry)) r (now (commitment .exit)) ⌝ }
+    ensures { λ r. ⌜ CommitStored (given degree depth modulus bound rows) (now (key .entry)) (now (message .entry)) (now (commitment .entry)) r (now (commitment .exit)) ⌝ }
 {
     let s = Settings {
         degree: degree,
         depth: depth,
         modulus: modulus,
         bound: bound,
+        rows: rows,
     };
-    let refusal = slices::refusal(s, commitment.len() == degree as usize);
+    let refusal = slices::refusal(s, commitment.len() == sizes::item_cells(s));
     if refusal != 0 {
         return refusal;
     }
@@ -56,7 +65,7 @@ pub extern "C" fn wovenrock_commit(
         return committed.refusal;
     }
     let element = committed.commitment;
-    slices::store_residues(degree, element, commitment);
+    slices::store_residues(s, element, commitment);
     0
 }
 
@@ -67,20 +76,22 @@ pub extern "C" fn wovenrock_round(
     depth: u32,
     modulus: u64,
     bound: u32,
+    rows: u32,
     done: u32,
     key: &[u64],
     message: &[i32],
     polynomial: &mut [u64],
 ) -> u32
-    ensures { λ r. ⌜ RoundStored (given degree depth modulus bound) done (now (key .entry)) (now (message .entry)) (now (polynomial .entry)) r (now (polynomial .exit)) ⌝ }
+    ensures { λ r. ⌜ RoundStored (given degree depth modulus bound rows) done (now (key .entry)) (now (message .entry)) (now (polynomial .entry)) r (now (polynomial .exit)) ⌝ }
 {
     let s = Settings {
         degree: degree,
         depth: depth,
         modulus: modulus,
         bound: bound,
+        rows: rows,
     };
-    let refusal = slices::refusal(s, polynomial.len() == 3 * (degree as usize));
+    let refusal = slices::refusal(s, polynomial.len() == 3 * sizes::item_cells(s));
     if refusal != 0 {
         return refusal;
     }
@@ -89,7 +100,7 @@ pub extern "C" fn wovenrock_round(
         return answer.refusal;
     }
     let elements = prover::elements_of(answer);
-    slices::store_polynomial(degree, elements, polynomial);
+    slices::store_polynomial(s, elements, polynomial);
     0
 }
 
@@ -100,18 +111,20 @@ pub extern "C" fn wovenrock_fold(
     depth: u32,
     modulus: u64,
     bound: u32,
+    rows: u32,
     done: u32,
     exponent: u32,
     key: &mut [u64],
     message: &mut [i32],
 ) -> u32
-    ensures { λ r. ⌜ Folded (given degree depth modulus bound) done exponent (now (key .entry)) (now (message .entry)) r (now (key .exit)) (now (message .exit)) ⌝ }
+    ensures { λ r. ⌜ Folded (given degree depth modulus bound rows) done exponent (now (key .entry)) (now (message .entry)) r (now (key .exit)) (now (message .exit)) ⌝ }
 {
     let s = Settings {
         degree: degree,
         depth: depth,
         modulus: modulus,
         bound: bound,
+        rows: rows,
     };
     prover::fold(s, done, exponent, key, message)
 }
@@ -123,17 +136,19 @@ pub extern "C" fn wovenrock_end(
     depth: u32,
     modulus: u64,
     bound: u32,
+    rows: u32,
     done: u32,
     message: &[i32],
     last: &mut [i32],
 ) -> u32
-    ensures { λ r. ⌜ EndStored (given degree depth modulus bound) done (now (message .entry)) (now (last .entry)) r (now (last .exit)) ⌝ }
+    ensures { λ r. ⌜ EndStored (given degree depth modulus bound rows) done (now (message .entry)) (now (last .entry)) r (now (last .exit)) ⌝ }
 {
     let s = Settings {
         degree: degree,
         depth: depth,
         modulus: modulus,
         bound: bound,
+        rows: rows,
     };
     let refusal = slices::refusal(s, last.len() == degree as usize);
     if refusal != 0 {
@@ -155,6 +170,7 @@ pub extern "C" fn wovenrock_open(
     depth: u32,
     modulus: u64,
     bound: u32,
+    rows: u32,
     key: &mut [u64],
     message: &mut [i32],
     challenges: &[u32],
@@ -163,7 +179,7 @@ pub extern "C" fn wovenrock_open(
     last: &mut [i32],
     verdict: &mut u32,
 ) -> u32
-    ensures { λ r. ⌜ OpeningStored (given degree depth modulus bound) (now (key .entry)) (now (message .entry)) (now (challenges .entry)) (now (rounds .entry))
+    ensures { λ r. ⌜ OpeningStored (given degree depth modulus bound rows) (now (key .entry)) (now (message .entry)) (now (challenges .entry)) (now (rounds .entry))
         (now (commitment .entry)) (now (last .entry)) r (now (key .exit)) (now (message .exit)) (now (rounds .exit)) (now (commitment .exit)) (now (last .exit)) (now (verdict .exit)) ⌝ }
 {
     *verdict = 0;
@@ -172,9 +188,13 @@ pub extern "C" fn wovenrock_open(
         depth: depth,
         modulus: modulus,
         bound: bound,
+        rows: rows,
     };
-    let n = degree as usize;
-    let refusal = slices::refusal(s, slices::both(commitment.len() == n, last.len() == n));
+    let fits = slices::both(
+        commitment.len() == sizes::item_cells(s),
+        last.len() == degree as usize,
+    );
+    let refusal = slices::refusal(s, fits);
     if refusal != 0 {
         return refusal;
     }
@@ -183,7 +203,7 @@ pub extern "C" fn wovenrock_open(
         return answer.refusal;
     }
     let first = answer.commitment;
-    slices::store_residues(degree, first, commitment);
+    slices::store_residues(s, first, commitment);
     let end = answer.last;
     slices::store_wholes(degree, end, last);
     let said = answer.verdict;
@@ -198,16 +218,18 @@ pub extern "C" fn wovenrock_session_start(
     depth: u32,
     modulus: u64,
     bound: u32,
+    rows: u32,
     commitment: &[u64],
     session: &mut [u64],
 ) -> u32
-    ensures { λ r. ⌜ StartStored (given degree depth modulus bound) (now (commitment .entry)) (now (session .entry)) r (now (session .exit)) ⌝ }
+    ensures { λ r. ⌜ StartStored (given degree depth modulus bound rows) (now (commitment .entry)) (now (session .entry)) r (now (session .exit)) ⌝ }
 {
     let s = Settings {
         degree: degree,
         depth: depth,
         modulus: modulus,
         bound: bound,
+        rows: rows,
     };
     sessions::start(s, commitment, session)
 }
@@ -247,6 +269,7 @@ pub extern "C" fn wovenrock_check(
     depth: u32,
     modulus: u64,
     bound: u32,
+    rows: u32,
     commitment: &[u64],
     last: &[i32],
     key: &[u64],
@@ -254,7 +277,7 @@ pub extern "C" fn wovenrock_check(
     challenges: &[u32],
     verdict: &mut u32,
 ) -> u32
-    ensures { λ r. ⌜ CheckStored (given degree depth modulus bound) (now (commitment .entry)) (now (last .entry)) (now (key .entry)) (now (rounds .entry))
+    ensures { λ r. ⌜ CheckStored (given degree depth modulus bound rows) (now (commitment .entry)) (now (last .entry)) (now (key .entry)) (now (rounds .entry))
         (now (challenges .entry)) r (now (verdict .exit)) ⌝ }
 {
     let s = Settings {
@@ -262,14 +285,18 @@ pub extern "C" fn wovenrock_check(
         depth: depth,
         modulus: modulus,
         bound: bound,
+        rows: rows,
     };
     *verdict = 0;
-    let n = degree as usize;
-    let refusal = slices::refusal(s, slices::both(commitment.len() == n, last.len() == n));
+    let fits = slices::both(
+        commitment.len() == sizes::item_cells(s),
+        last.len() == degree as usize,
+    );
+    let refusal = slices::refusal(s, fits);
     if refusal != 0 {
         return refusal;
     }
-    let c = slices::residues(degree, commitment);
+    let c = slices::residues(s, commitment);
     let f = slices::wholes(degree, last);
     let answer = transcripts::check(s, c, f, key, rounds, challenges);
     let said = answer.verdict;
@@ -284,26 +311,28 @@ pub extern "C" fn wovenrock_judge(
     depth: u32,
     modulus: u64,
     bound: u32,
+    rows: u32,
     commitment: &[u64],
     slack: u32,
     key: &[u64],
     w: &[i64],
     yes: &mut u32,
 ) -> u32
-    ensures { λ r. ⌜ JudgeStored (given degree depth modulus bound) (now (commitment .entry)) slack (now (key .entry)) (now (w .entry)) r (now (yes .exit)) ⌝ }
+    ensures { λ r. ⌜ JudgeStored (given degree depth modulus bound rows) (now (commitment .entry)) slack (now (key .entry)) (now (w .entry)) r (now (yes .exit)) ⌝ }
 {
     let s = Settings {
         degree: degree,
         depth: depth,
         modulus: modulus,
         bound: bound,
+        rows: rows,
     };
     *yes = 0;
-    let refusal = slices::refusal(s, commitment.len() == degree as usize);
+    let refusal = slices::refusal(s, commitment.len() == sizes::item_cells(s));
     if refusal != 0 {
         return refusal;
     }
-    let c = slices::residues(degree, commitment);
+    let c = slices::residues(s, commitment);
     let answer = judge::judge(s, c, slack, key, w);
     *yes = answer.yes as u32;
     answer.refusal
@@ -316,6 +345,7 @@ pub extern "C" fn wovenrock_extract(
     depth: u32,
     modulus: u64,
     bound: u32,
+    rows: u32,
     commitment: &[u64],
     key: &[u64],
     rounds: &[u64],
@@ -323,7 +353,7 @@ pub extern "C" fn wovenrock_extract(
     leaves: &[i32],
     w: &mut [i64],
 ) -> u32
-    ensures { λ r. ⌜ ExtractStored (given degree depth modulus bound) (now (commitment .entry)) (now (key .entry)) (now (rounds .entry)) (now (challenges .entry))
+    ensures { λ r. ⌜ ExtractStored (given degree depth modulus bound rows) (now (commitment .entry)) (now (key .entry)) (now (rounds .entry)) (now (challenges .entry))
         (now (leaves .entry)) (now (w .entry)) r (now (w .exit)) ⌝ }
 {
     let s = Settings {
@@ -331,12 +361,13 @@ pub extern "C" fn wovenrock_extract(
         depth: depth,
         modulus: modulus,
         bound: bound,
+        rows: rows,
     };
-    let refusal = slices::refusal(s, commitment.len() == degree as usize);
+    let refusal = slices::refusal(s, commitment.len() == sizes::item_cells(s));
     if refusal != 0 {
         return refusal;
     }
-    let c = slices::residues(degree, commitment);
+    let c = slices::residues(s, commitment);
     extraction::extract(s, c, key, rounds, challenges, leaves, w)
 }
 
@@ -385,6 +416,7 @@ pub extern "C" fn wovenrock_write(
     depth: u32,
     modulus: u64,
     bound: u32,
+    rows: u32,
     parts: u32,
     key: &[u64],
     message: &[i32],
@@ -395,7 +427,7 @@ pub extern "C" fn wovenrock_write(
     out: &mut [u8],
     count: &mut usize,
 ) -> u32
-    ensures { λ r. ⌜ WroteStored (given degree depth modulus bound) parts
+    ensures { λ r. ⌜ WroteStored (given degree depth modulus bound rows) parts
         (tablesOf (now (key .entry)) (now (message .entry)) (now (commitment .entry)) (now (rounds .entry)) (now (challenges .entry)) (now (last .entry)))
         (now (out .entry)) r (now (out .exit)) (now (count .exit)) ⌝ }
 {
@@ -404,6 +436,7 @@ pub extern "C" fn wovenrock_write(
         depth: depth,
         modulus: modulus,
         bound: bound,
+        rows: rows,
     };
     text_calls::write(
         s,

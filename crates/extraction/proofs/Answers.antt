@@ -10,7 +10,7 @@ use Rattle.protocol.specs.Basic.{first, unless}
 use Rattle.protocol.specs.Element.{signedAt}
 use Rattle.protocol.specs.Settings.{size}
 use Rattle.protocol.specs.Layout.{leaves, leafCells}
-use Rattle.protocol.specs.Tree.{leaf, path, rootVector, growthAllowed}
+use Rattle.protocol.specs.Tree.{leaf, path, rowPath, rootVector, growthAllowed}
 use Rattle.protocol.specs.Calls.{everyPath, treeTests, treeRefusal, extractRefusal, extractExit}
 use Rattle.protocol.specs.Promises.{Extracted}
 use Rattle.protocol.proofs.Tests.{granted-zero, granted-refused}
@@ -39,7 +39,7 @@ module _ (S : Settings) (C key rounds E : List ℕ) (finals w : List ℤ) where
   -- ---- a tree that is not refused can be worked out: every leaf is a final element that the verifier accepted
 
   pub extractable : extractRefusal S C key rounds E finals w ≡ 0 → Extractable S E finals
-  unfolding path leaf signedAt
+  unfolding rowPath path leaf signedAt
   extractable z = record {
     valid = g .settings;
     challenges = g .tree .challenges-below;
@@ -52,7 +52,8 @@ module _ (S : Settings) (C key rounds E : List ℕ) (finals w : List ℤ) where
       g = extract-given S C key rounds E finals w z
 
       at : (j k : ℕ) → j < leaves S → k < S .degree → natAbs (getD finals (j * S .degree + k) (pos 0)) ≤ size S * S .bound
-      at j k lj lk = subst (λ x. natAbs x ≤ size S * S .bound) (signed-coefficients (S .degree) (signedAt (S .degree) finals j) k lk) (g .tree .accepted j lj .in-bound k lk)
+      at j k lj lk =
+          subst (λ x. natAbs x ≤ size S * S .bound) (signed-coefficients (S .degree) (signedAt (S .degree) finals j) k lk) (g .tree .accepted 0 (g .settings .rows-least) j lj .in-bound k lk)
 
       small : (i : ℕ) → i < leafCells S → natAbs (getD finals i (pos 0)) ≤ size S * S .bound
       small i l =

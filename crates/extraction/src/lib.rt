@@ -3,16 +3,16 @@ mod elements;
 mod root;
 mod vectors;
 
+use protocol::ROWS_WIDTH;
 use protocol::Residue;
 use protocol::Settings;
-use protocol::WIDTH;
 use refusals::refuse;
 ghost use Rattle.protocol.specs.Promises.{Extracted};
 
 // The vector of the root of a full tree, every path of which the verifier accepts. Nothing is written before the last test.
 pub fn extract(
     settings: Settings,
-    commitment: [Residue; WIDTH],
+    commitment: [Residue; ROWS_WIDTH],
     key: &[Residue],
     rounds: &[Residue],
     challenges: &[u32],

@@ -112,16 +112,16 @@ fn scaled_is(q: Residue, c: u32, factor: Factor, x: Residue, y: Residue) -> bool
     scaling::times(q, c as u64, factor, x) == y
 }
 
-// Is c times the commitment the sum of w_i·G_i.
+// Is c times the commitment the sum of w_i·G_i, in one row.
 pub(crate) fn opens(
     settings: Settings,
-    commitment: [Residue; WIDTH],
+    commitment: &[Residue],
     c: u32,
     key: &[Residue],
     w: &[i64],
 ) -> bool
-    requires { ⌜ Vector settings (now key) (now w) × Reduced (settings .modulus) (settings .degree) commitment ⌝ }
-    ensures { λ r. ⌜ r ≡ of.opens settings (now (key .entry)) commitment c (now (w .entry)) ⌝ }
+    requires { ⌜ Vector settings (now key) (now w) × (settings .degree ≤ length (now commitment)) × Reduced (settings .modulus) (settings .degree) (now commitment) ⌝ }
+    ensures { λ r. ⌜ r ≡ of.opens settings (now (key .entry)) (now (commitment .entry)) c (now (w .entry)) ⌝ }
 {
     let sums = combination(settings, key, w);
     let q = settings.modulus;

@@ -1,19 +1,20 @@
 // The judge of relaxed openings.
 mod combination;
+mod rows;
 mod scaling;
 
 use protocol::Judged;
+use protocol::ROWS_WIDTH;
 use protocol::Residue;
 use protocol::Settings;
-use protocol::WIDTH;
 use ranges::tests;
 ghost use mathlib.Core.Path.{_≡_};
 ghost use Rattle.protocol.specs.Calls.{judgeAnswer};
 
-// The judge: is c times the commitment the sum of w_i·G_i modulo q, with no coefficient of w beyond the growth bound.
+// The judge: is c times the commitment the sum of w_i·G_i modulo q in every row, with no coefficient of w beyond the growth bound.
 pub fn judge(
     settings: Settings,
-    commitment: [Residue; WIDTH],
+    commitment: [Residue; ROWS_WIDTH],
     c: u32,
     key: &[Residue],
     w: &[i64],
@@ -35,6 +36,6 @@ pub fn judge(
     }
     Judged {
         refusal: 0,
-        yes: combination::opens(settings, commitment, c, key, w),
+        yes: rows::every_row_opens(settings, &commitment, c, key, w),
     }
 }

@@ -28,5 +28,5 @@ pub extern "C" fn measured_plain_inner(
         (now (out .exit) ≡ reduced 12289 degree (inner degree count (signedAt degree (now (message .entry))) (residueAt degree (now (key .entry)))))) ⌝ }
 {
     let sum = products::plain_inner(12289, degree, count, message, key);
-    slices::store_residues(degree, sum, out);
+    residues::store(degree as usize, &sum, 0, out);
 }

@@ -7,7 +7,7 @@ use lib.IntN.{ℤ}
 use lib.ListN.{length}
 use Rattle.protocol.specs.declared.Settings.{Settings}
 use Rattle.protocol.specs.Settings.{settingsRefusal, cells, hasLength, allBelow, exponent, exponents}
-use Rattle.protocol.specs.Layout.{roundCells, exponentCount}
+use Rattle.protocol.specs.Layout.{keyCells, roundCells, exponentCount}
 use Rattle.protocol.specs.Calls.{openingRefusal}
 use Rattle.protocol.proofs.Tests.{and-split}
 use Rattle.protocol.proofs.Refusals.{none-refused}
@@ -31,7 +31,7 @@ module _ (S : Settings) (G : List ℕ) (M : List ℤ) (E R : List ℕ) where
         allowed = r6;
         given = record {
           settings = settings-valid S r6;
-          key = tested-below (S .modulus) (cells S) G key t8;
+          key = tested-below (S .modulus) (keyCells S) G key t8;
           message = tested-within (S .bound) (cells S) M message t9;
           challenges = tested-below (exponentCount S) (S .depth) E challenges t10;
         };

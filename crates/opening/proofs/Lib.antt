@@ -2,4 +2,5 @@ pub mod Inputs
 pub mod Storing
 pub mod Checking
 pub mod Turning
+pub mod Rowwise
 pub mod Answers

@@ -1,11 +1,16 @@
--- The turns of a whole opening: what stands after t rounds, and what each turn does with it.
+-- The turns of a whole opening: what stands after t rounds, and what each turn does with it, in every row.
 -- G, M and R are the key, the message and the table for the round elements as they were lent, E the challenges.
 --
+--   rowClaim S claims r    the claim of row r, with what stands behind it
 --   restStored S t .. l    the table l in which c1 and c2 stand as those of round t + 1
 --   TablesAt .. t ..       the three tables after t rounds; of the round elements those of t rounds stand there, and c0 of the next round
---   CheckedAt .. t ..      the verifier's claim and whether every round so far held, after t rounds; of the claim's list only the first d numbers count
+--   ClaimsAt .. t claims   the verifier's claims after t rounds; of the list only an element for each row counts
+--   CheckedAt .. t ..      those claims, and whether every round so far held
 --   ProverMove ..          what the prover's move does, whatever is opened
---   VerifierMove ..        what the verifier's move does with the polynomial that stands in a table, whatever that is
+--   RowsRead S t n rounds  polynomial t stands in the table of the rounds, which has residues up to that polynomial and in it, and a list of n numbers has a claim for each row
+--   RowsChecked ..         what the verifier's equations and the next claims are, for the polynomial that stands in a table, whatever that is
+--   VerifierMove ..        what the verifier's move does with it
+--   EndsRead S x y key     the settings are allowed, every row of the key is residues, and lists of x and y numbers have a claim for each row and a final element
 --   Finished ..            both after all L rounds
 --   ProverTurn ..          what the prover's turn and all turns after it do
 --   VerifierTurn ..        the same of the verifier's turn: the tables are one round on
@@ -17,63 +22,100 @@ use lib.IntN.{ℤ}
 use lib.ListN.{length, getD, take, drop}
 use Rattle.protocol.specs.declared.Settings.{Settings}
 use Rattle.protocol.specs.Basic.{every}
-use Rattle.protocol.specs.Layout.{polynomialAt, itemOf}
-use Rattle.protocol.specs.Element.{Element, residueAt}
-use Rattle.protocol.specs.Opening.{roundElement, keyAfter, messageAfter, roundTable}
-use Rattle.protocol.specs.Transcript.{roundHolds, nextClaim, claimAfter, holdsAt, transcriptOf}
+use Rattle.protocol.specs.Settings.{settingsRefusal, cells}
+use Rattle.protocol.specs.Layout.{keyCells, itemCells, polynomialAt, itemOf}
+use Rattle.protocol.specs.Element.{Element}
+use Rattle.protocol.specs.Inputs.{Below}
+use Rattle.protocol.specs.Opening.{messageAfter}
+use Rattle.protocol.specs.Transcript.{Transcript, roundHolds, nextClaim, claimAfter, holdsAt, transcriptOf}
+use Rattle.protocol.specs.Rows.{keyRow, keysAfter, roundTables}
 use Rattle.protocol.specs.Calls.{openingRefusal}
-use Rattle.protocol.specs.Nodes.{Alike}
 use Rattle.residues.specs.Lists.{spliced}
-use Rattle.equations.specs.Given.{ClaimRead}
-use Rattle.opening_rounds.specs.Rounds.{elementPlaces}
+use Rattle.equations.specs.Items.{rowElement}
+use Rattle.round_products.specs.Rowwise.{rowPlaces}
+use Rattle.opening_rounds.specs.Rounds.{roundItem}
 use Rattle.opening.specs.declared.turns.State.{State}
+
+abbrev pub rowClaim : Settings → List ℕ → ℕ → List ℕ
+rowClaim S claims r = drop (r * S .degree) claims
 
 unfoldable pub restStored : Settings → ℕ → List ℕ → List ℤ → List ℕ → List ℕ
 restStored S t key message l =
-    let d = S .degree in
-    spliced (elementPlaces (roundElement S t key message 2)) (polynomialAt d t + 2 * d) d (spliced (elementPlaces (roundElement S t key message 1)) (polynomialAt d t + d) d l)
+    let n = itemCells S in
+    spliced (rowPlaces (S .degree) (roundItem S t key message 2)) (polynomialAt S t + 2 * n) n
+    (spliced (rowPlaces (S .degree) (roundItem S t key message 1)) (polynomialAt S t + n) n l)
 
 module _ (S : Settings) (G : List ℕ) (M : List ℤ) (E R : List ℕ) where
-  open Settings S using (degree as d, depth as L)
+  open Settings S using (degree as d, depth as L, rows as rows)
+
+  -- the transcript of a row
+  abbrev row : ℕ → Transcript
+  row r = transcriptOf S (keyRow S G r) M E
 
   pub record TablesAt (t : ℕ) (key : List ℕ) (message : List ℤ) (rounds : List ℕ) : Type 0 where
     pub done-most : t ≤ L
-    pub key-is : key ≡ keyAfter S E t G
+    pub key-is : key ≡ keysAfter S E t G
     pub message-is : message ≡ messageAfter S E t M
-    pub rounds-is : rounds ≡ take (polynomialAt d t + d) (roundTable S E G M) ++ drop (polynomialAt d t + d) R
+    pub rounds-is : rounds ≡ take (polynomialAt S t + itemCells S) (roundTables S E G M) ++ drop (polynomialAt S t + itemCells S) R
 
-  pub record CheckedAt (t : ℕ) (claim : List ℕ) (holds : Bool) : Type 0 where
-    pub claim-long : d ≤ length claim
-    pub claim-is : Alike d claim (claimAfter S (transcriptOf S G M E) t)
-    pub holds-is : holds ≡ every t (holdsAt S (transcriptOf S G M E))
+  pub record ClaimsAt (t : ℕ) (claims : List ℕ) : Type 0 where
+    pub long : itemCells S ≤ length claims
+    pub is : (r k : ℕ) → r < rows → k < d → getD claims (r * d + k) 0 ≡ getD (claimAfter S (row r) t) k 0
 
-  pub record Finished (claim key : List ℕ) (message : List ℤ) (rounds : List ℕ) (s : State) : Type 0 where
+  pub record CheckedAt (t : ℕ) (claims : List ℕ) (holds : Bool) : Type 0 where
+    pub claims-are : ClaimsAt t claims
+    pub holds-is : holds ≡ every t (λ u. every rows (λ r. holdsAt S (row r) u))
+
+  pub record Finished (claims key : List ℕ) (message : List ℤ) (rounds : List ℕ) (s : State) : Type 0 where
     pub tables : TablesAt L key message rounds
-    pub checks : CheckedAt L claim (s .holds)
+    pub checks : CheckedAt L claims (s .holds)
 
-module _ (S : Settings) (t e : ℕ) (claim key : List ℕ) (message : List ℤ) (rounds key′ : List ℕ) (message′ : List ℤ) (rounds′ : List ℕ) where
+module _ (S : Settings) (t e : ℕ) (claims key : List ℕ) (message : List ℤ) (rounds key′ : List ℕ) (message′ : List ℤ) (rounds′ : List ℕ) where
   pub record ProverMove : Type 0 where
     pub moves : (G : List ℕ) (M : List ℤ) (E R : List ℕ) → openingRefusal S G M E R ≡ 0 → t < S .depth → e ≡ getD E t 0
-        → TablesAt S G M E R t key message rounds → S .degree ≤ length claim → Alike (S .degree) claim (claimAfter S (transcriptOf S G M E) t)
+        → TablesAt S G M E R t key message rounds → ClaimsAt S G M E R t claims
         → TablesAt S G M E R (suc t) key′ message′ rounds′
 
-module _ (S : Settings) (s : State) (e : ℕ) (claim rounds : List ℕ) (r : State) (claim′ : List ℕ) where
-  abbrev c : ℕ → Element
-  c j = residueAt (S .degree) rounds (itemOf (s .done) j)
+pub record RowsRead (S : Settings) (t claims : ℕ) (rounds : List ℕ) : Type 0 where
+  pub allowed : settingsRefusal S ≡ 0
+  pub index : t ≤ 3280
+  pub inside : polynomialAt S t + 3 * itemCells S ≤ length rounds
+  pub claims-long : itemCells S ≤ claims
+  pub below : (j : ℕ) → j < polynomialAt S t + 3 * itemCells S → getD rounds j 0 < S .modulus
 
+module _ (S : Settings) (t : ℕ) (rounds : List ℕ) where
+  -- c_j of row r
+  abbrev pub sentElement : ℕ → ℕ → Element
+  sentElement r j = rowElement S (drop (r * S .degree) rounds) (itemOf t j)
+
+module _ (S : Settings) (t e : ℕ) (claims rounds : List ℕ) (met : Bool) (claims′ : List ℕ) where
+  pub record RowsChecked : Type 0 where
+    pub holds-is : RowsRead S t (length claims) rounds → met ≡ every (S .rows) (λ r. roundHolds S (rowClaim S claims r) (sentElement S t rounds r 0) (sentElement S t rounds r 2))
+    pub claims-are : RowsRead S t (length claims) rounds → (r k : ℕ) → r < S .rows → k < S .degree
+        → getD claims′ (r * S .degree + k) 0 ≡ getD (nextClaim S e (sentElement S t rounds r 0) (sentElement S t rounds r 1) (sentElement S t rounds r 2)) k 0
+
+module _ (S : Settings) (s : State) (e : ℕ) (claims rounds : List ℕ) (r : State) (claims′ : List ℕ) where
   pub record VerifierMove : Type 0 where
     pub done-is : r .done ≡ s .done + 1
-    pub claim-kept : length claim′ ≡ length claim
-    pub holds-is : ClaimRead S (s .done) (length claim) rounds → r .holds ≡ (s .holds && roundHolds S claim (c 0) (c 2))
-    pub claim-is : ClaimRead S (s .done) (length claim) rounds → Alike (S .degree) claim′ (nextClaim S e (c 0) (c 1) (c 2))
+    pub claims-kept : length claims′ ≡ length claims
+    pub met : Bool
+    pub holds-is : r .holds ≡ (s .holds && met)
+    pub checked : RowsChecked S (s .done) e claims rounds met claims′
 
-module _ (S : Settings) (E : List ℕ) (s : State) (claim key : List ℕ) (message : List ℤ) (rounds : List ℕ) (r : State) (claim′ key′ : List ℕ) (message′ : List ℤ) (rounds′ : List ℕ) where
+pub record EndsRead (S : Settings) (claims final : ℕ) (key : List ℕ) : Type 0 where
+  pub allowed : settingsRefusal S ≡ 0
+  pub claims-long : itemCells S ≤ claims
+  pub final-long : S .degree ≤ final
+  pub key-long : length key ≡ keyCells S
+  pub rows-below : (r : ℕ) → r < S .rows → Below (S .modulus) (cells S) (keyRow S key r)
+
+module _ (S : Settings) (E : List ℕ) (s : State) (claims key : List ℕ) (message : List ℤ) (rounds : List ℕ) (r : State) (claims′ key′ : List ℕ) (message′ : List ℤ) (rounds′ : List ℕ) where
   pub record ProverTurn : Type 0 where
     pub turns : (G : List ℕ) (M : List ℤ) (R : List ℕ) → openingRefusal S G M E R ≡ 0
-        → TablesAt S G M E R (s .done) key message rounds → CheckedAt S G M E R (s .done) claim (s .holds)
-        → Finished S G M E R claim′ key′ message′ rounds′ r
+        → TablesAt S G M E R (s .done) key message rounds → CheckedAt S G M E R (s .done) claims (s .holds)
+        → Finished S G M E R claims′ key′ message′ rounds′ r
 
   pub record VerifierTurn (e : ℕ) : Type 0 where
     pub turns : (G : List ℕ) (M : List ℤ) (R : List ℕ) → openingRefusal S G M E R ≡ 0 → e ≡ getD E (s .done) 0
-        → TablesAt S G M E R (suc (s .done)) key message rounds → CheckedAt S G M E R (s .done) claim (s .holds)
-        → Finished S G M E R claim′ key′ message′ rounds′ r
+        → TablesAt S G M E R (suc (s .done)) key message rounds → CheckedAt S G M E R (s .done) claims (s .holds)
+        → Finished S G M E R claims′ key′ message′ rounds′ r

@@ -5,6 +5,7 @@ mod turns;
 
 use crate::turns::State;
 use protocol::Opened;
+use protocol::ROWS_WIDTH;
 use protocol::Residue;
 use protocol::Settings;
 use protocol::Verdict;
@@ -27,9 +28,10 @@ pub fn opened(
     ensures { λ r. ⌜ Provided (openingRefusal settings (now (key .entry)) (now (message .entry)) (now (challenges .entry)) (now (rounds .entry)) ≡ 0)
         (Opening settings (now (key .entry)) (now (message .entry)) (now (challenges .entry)) (now (rounds .entry)) r (now (key .exit)) (now (message .exit)) (now (rounds .exit))) ⌝ }
 {
-    let mut commitment: [Residue; WIDTH] = [0; WIDTH];
-    opening_rounds::begin(settings, key, message, &mut commitment, rounds);
-    let mut claim = commitment;
+    let mut claims: [Residue; ROWS_WIDTH] = [0; ROWS_WIDTH];
+    let mut commitment: [Residue; ROWS_WIDTH] = [0; ROWS_WIDTH];
+    opening_rounds::begin(settings, key, message, &mut claims, rounds);
+    storage::spread(settings, &claims, &mut commitment);
     let begun = State {
         done: 0,
         holds: true,
@@ -37,14 +39,14 @@ pub fn opened(
     let ended = turns::prover_turn(
         settings,
         begun,
-        &mut claim,
+        &mut claims,
         key,
         message,
         challenges,
         rounds,
     );
     let last = elements::signed_element_at(settings.degree, message, 0);
-    let verdict = ending::verdict(settings, ended.holds, &claim, &last, key);
+    let verdict = ending::verdict(settings, ended.holds, &claims, &last, key);
     Opened {
         refusal: 0,
         commitment: commitment,
@@ -67,7 +69,7 @@ pub fn open(
     if refusal != 0 {
         return Opened {
             refusal,
-            commitment: [0; WIDTH],
+            commitment: [0; ROWS_WIDTH],
             last: [0i32; WIDTH],
             verdict: Verdict::Silent,
         };

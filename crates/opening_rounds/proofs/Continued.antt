@@ -4,15 +4,17 @@ use mathlib.Core.List.{List}
 use Prim.Native.Nat.{ℕ, zero, suc, _+_, _*_, _-_, _/_, _%_, _^_, _<_, _≤_}
 use native.Mathlib.Nat as Nat
 use native.Mathlib.Omega.{arith}
-use lib.IntN.{ℤ, pos, natAbs, _+ℤ_, _*ℤ_, +ℤ-idr, +ℤ-assoc}
+use lib.IntN.{ℤ, pos, natAbs, _+ℤ_, _*ℤ_}
 use lib.ListN.{length, getD, take, drop}
 use Rattle.protocol.specs.declared.Settings.{Settings}
 use Rattle.protocol.specs.Basic.{sum}
 use Rattle.protocol.specs.Element.{Element, modulo, product, times, padded, reduced, signedAt, residueAt}
 use Rattle.protocol.specs.Settings.{size, half}
-use Rattle.protocol.specs.Layout.{left}
+use Rattle.protocol.specs.Layout.{left, itemCells}
 use Rattle.protocol.specs.Opening.{inner, cross, halfLeft, commitment, roundElement}
+use Rattle.protocol.specs.Rows.{keyRow}
 use Rattle.protocol.specs.Inputs.{Valid}
+use Rattle.protocol.proofs.Inputs.{settings-valid}
 use Rattle.protocol.proofs.SumLaws.{sum-split}
 use Rattle.protocol.proofs.Modulo.{reduced-at, modulo-lt, modulo-add, modulo-times}
 use Rattle.protocol.proofs.Ranges.{round-below}
@@ -21,14 +23,16 @@ use Rattle.residues.specs.Residues.{Residues}
 use Rattle.residues.proofs.Fill.{filled-ext}
 use Rattle.residues.proofs.Padding.{padded-at}
 use Rattle.residues.proofs.Parts.{tail-at, tail-length, same-long}
-use Rattle.residues.proofs.Splice.{spliced-ext, spliced-before}
-use Rattle.prover_refusals.proofs.Given.{RoundGiven, round-given}
+use Rattle.residues.proofs.Splice.{spliced-ext, spliced-over, spliced-before, spliced-inside}
+use Rattle.prover_refusals.proofs.Given.{RoundGiven, round-given, round-key}
+use Rattle.sizes.proofs.Limits.{degree-least}
 use Rattle.round_products.specs.Messages.{Tables, Halved}
 use Rattle.round_products.specs.Sums.{scaled, innerOfSums}
-use Rattle.opening_rounds.specs.Rounds.{elementPlaces, sumAt, halfOf, Halvables, middleAt, lastAt, Continuing}
+use Rattle.round_products.specs.Rowwise.{elementPlaces, rowPlaces}
+use Rattle.opening_rounds.specs.Rounds.{sumAt, halfOf, Halvables, middleAt, lastAt, sumElement, roundItem, sumItem, Continuing}
 use Rattle.round_products.proofs.Halves.{round-tables}
 use Rattle.round_products.proofs.Products.{inner-same, left-whole}
-use Rattle.round_products.proofs.Mixing.{scaled-at, spread}
+use Rattle.round_products.proofs.Mixing.{spread}
 use Rattle.opening_rounds.proofs.Claimed.{claim-halvable, last-is, middle-is}
 
 -- ---- elements that are reduced, times a number and added
@@ -142,18 +146,11 @@ module _ (S : Settings) (t : ℕ) (key : List ℕ) (message : List ℤ) where
   unfolding roundElement times
   element-at j k l = reduced-at q d _ k l
 
-  -- ---- c1 and c2
+  -- ---- the sum of the three, as one inner product
 
-  module _ (claim p x : List ℕ) (g : Continuing S t key message claim p)
-      (x-is : Halved q d (halfLeft S t) message key → x ≡ scaled q d (half S ^ (t + 1)) (innerOfSums d (halfLeft S t) (signedAt d message) (residueAt d key))) where
-    given : RoundGiven S t key message
-    given = round-given S key message t (g .passed)
-
-    abbrev ok : Valid S
-    ok = given .tables .settings
-
+  module _ (given : RoundGiven S t key message) where
     pq : 0 < q
-    pq = omega (arith, ok .modulus-least)
+    pq = omega (arith, given .tables .settings .modulus-least)
 
     halves : Halved q d (halfLeft S t) message key
     halves = round-tables S t key message given
@@ -161,49 +158,108 @@ module _ (S : Settings) (t : ℕ) (key : List ℕ) (message : List ℤ) where
     abbrev c : ℕ → ℕ → ℕ
     c j k = getD (roundElement S t key message j) k 0
 
-    c-below : (j k : ℕ) → k < d → c j k < q
-    c-below j k l = round-below S pq t key message j .each k l
+    element-below : (j k : ℕ) → k < d → c j k < q
+    element-below j k l = round-below S pq t key message j .each k l
 
-    pub claim-halves : Halvables q d claim
-    claim-halves k l = claim-halvable q (ok .modulus-odd) (c 0 k) (c 2 k) (getD claim k 0) (c-below 0 k l) (c-below 2 k l) (g .claimed k l)
-
-    x-at : (k : ℕ) → k < d → getD x k 0 ≡ ((c 0 k + c 1 k) % q + c 2 k) % q
-    x-at k l =
+    sum-at : (k : ℕ) → k < d → getD (sumElement S t key message) k 0 ≡ ((c 0 k + c 1 k) % q + c 2 k) % q
+    unfolding sumElement times
+    sum-at k l =
         let n : ℕ = half S ^ (t + 1) in
         let m : ℕ → Element = signedAt d message in
         let G : ℕ → Element = residueAt d key in
         let one : (j : ℕ) → modulo q (pos n *ℤ cross d (halfLeft S t) m G j k) ≡ c j k = λ j. sym (element-at j k l) in
-        scaled-at q d (halfLeft S t) n pq (halves .tables .degree) m G (innerOfSums d (halfLeft S t) m G) x (x-is halves) k l
+        reduced-at q d _ k l
         ∙ spread q d (halfLeft S t) n pq (halves .tables .degree) m G k l
         ∙ λ i. ((one 0 i + one 1 i) % q + one 2 i) % q
 
-    pub x-residues : d ≤ length x → Residues q d 0 x
-    x-residues long = record {
-      long = omega arith;
-      each = λ k l. omega (arith, ap (λ j. getD x j 0) (Nat.zero-add k), x-at k l, Nat.mod-lt ((c 0 k + c 1 k) % q + c 2 k) {m = q} pq);
+  -- it is written as it was given by value
+  pub written-sum-element : (x : List ℕ) → x ≡ scaled q d (half S ^ (t + 1)) (innerOfSums d (halfLeft S t) (signedAt d message) (residueAt d key)) → (out : List ℕ)
+      → spliced (elementPlaces x) 0 d out ≡ filled (elementPlaces (sumElement S t key message)) d out
+  unfolding spliced filled sumElement scaled
+  written-sum-element x e out = filled-ext _ _ d out (λ k h. value-at q d _ x e k h ∙ sym (reduced-at q d _ k h))
+
+-- ---- c1 and c2 in every row, n being the numbers of an item
+
+module _ (S : Settings) (t : ℕ) (key : List ℕ) (message : List ℤ) (claim p : List ℕ) (g : Continuing S t key message claim p) (n : ℕ) (n-is : n ≡ itemCells S) where
+  open Settings S using (degree as d, modulus as q, rows as rows)
+
+  ok : Valid S
+  ok = settings-valid S (round-key S key message t (g .passed) .0)
+
+  pd : 0 < d
+  pd = omega (arith, degree-least S ok)
+
+  -- the row of a place, and its place there
+  row : (k : ℕ) → k < n → k / d < rows
+  row k l = Nat.div-lt-iff-lt-mul pd .1 (omega (arith, n-is))
+
+  place : (k : ℕ) → k % d < d
+  place k = Nat.mod-lt k pd
+
+  at-row : (k : ℕ) → k < n → RoundGiven S t (keyRow S key (k / d)) message
+  at-row k l = round-given S key message t (g .passed) (k / d) (row k l)
+
+  abbrev item : ℕ → ℕ → ℕ
+  item j = rowPlaces d (roundItem S t key message j)
+
+  abbrev sums : ℕ → ℕ
+  sums = rowPlaces d (sumItem S t key message)
+
+  item-below : (j k : ℕ) → k < n → item j k < q
+  item-below j k l = element-below S t (keyRow S key (k / d)) message (at-row k l) j (k % d) (place k)
+
+  sums-at : (k : ℕ) → k < n → sums k ≡ ((item 0 k + item 1 k) % q + item 2 k) % q
+  sums-at k l = sum-at S t (keyRow S key (k / d)) message (at-row k l) (k % d) (place k)
+
+  claimed : (k : ℕ) → k < n → getD claim k 0 ≡ 2 * (item 0 k + item 2 k) % q
+  claimed k l = g .claimed k (omega (arith, n-is))
+
+  pub claim-halves : Halvables q n claim
+  claim-halves k l = claim-halvable q (ok .modulus-odd) (item 0 k) (item 2 k) (getD claim k 0) (item-below 0 k l) (item-below 2 k l) (claimed k l)
+
+  -- the sums stand in the place of c1
+  module _ (p1 : List ℕ) (is1 : p1 ≡ spliced sums n n p) where
+    p1-long : length p1 ≡ length p
+    p1-long = same-long sums n n p p1 (omega (arith, n-is, g .room)) is1
+
+    p1-at : (k : ℕ) → k < n → getD p1 (n + k) 0 ≡ ((item 0 k + item 1 k) % q + item 2 k) % q
+    p1-at k l = ap (λ z. getD z (n + k) 0) is1 ∙ spliced-inside sums n n p (omega (arith, n-is, g .room)) k l ∙ sums-at k l
+
+    pub sum-residues : Residues q n n p1
+    sum-residues = record {
+      long = omega (arith, p1-long, n-is, g .room);
+      each = λ k l. omega (arith, p1-at k l, Nat.mod-lt ((item 0 k + item 1 k) % q + item 2 k) {m = q} (omega (arith, ok .modulus-least)));
     }
 
-    middle : (k : ℕ) → k < d → middleAt q x claim k ≡ c 1 k
-    middle k l = middle-is q (ok .modulus-odd) (c 0 k) (c 2 k) (getD claim k 0) (c-below 0 k l) (c-below 2 k l) (g .claimed k l) (c 1 k) (getD x k 0) (c-below 1 k l) (x-at k l)
+    middle : (k : ℕ) → k < n → middleAt q n claim p1 k ≡ item 1 k
+    middle k l = middle-is q (ok .modulus-odd) (item 0 k) (item 2 k) (getD claim k 0) (item-below 0 k l) (item-below 2 k l) (claimed k l) (item 1 k) (getD p1 (n + k) 0) (item-below 1 k l) (p1-at k l)
 
-    module _ (p1 : List ℕ) (is1 : p1 ≡ spliced (middleAt q x claim) d d p) where
-      front-at : (k : ℕ) → k < d → getD p1 k 0 ≡ c 0 k
-      front-at k l = ap (λ z. getD z k 0) is1 ∙ spliced-before (middleAt q x claim) d d p (omega (arith, g .room)) k l ∙ g .first k l
+    -- c1 stands there
+    module _ (p2 : List ℕ) (is2 : p2 ≡ spliced (middleAt q n claim p1) n n p1) where
+      p2-is : p2 ≡ spliced (item 1) n n p
+      p2-is =
+          is2
+          ∙ ap (spliced (middleAt q n claim p1) n n) is1
+          ∙ spliced-over sums (middleAt q n claim p1) n n p (omega (arith, n-is, g .room))
+          ∙ spliced-ext (middleAt q n claim p1) (item 1) n n p middle
 
-      pub front-residues : Residues q d 0 p1
+      front-at : (k : ℕ) → k < n → getD p2 k 0 ≡ item 0 k
+      front-at k l = ap (λ z. getD z k 0) p2-is ∙ spliced-before (item 1) n n p (omega (arith, n-is, g .room)) k l ∙ g .first k (omega (arith, n-is))
+
+      pub front-residues : Residues q n 0 p2
       front-residues = record {
-        long = omega (arith, same-long (middleAt q x claim) d d p p1 (omega (arith, g .room)) is1, g .room);
-        each = λ k l. omega (arith, ap (λ j. getD p1 j 0) (Nat.zero-add k), front-at k l, c-below 0 k l);
+        long = omega (arith, same-long (item 1) n n p p2 (omega (arith, n-is, g .room)) p2-is, n-is, g .room);
+        each = λ k l. omega (arith, ap (λ j. getD p2 j 0) (Nat.zero-add k), front-at k l, item-below 0 k l);
       }
 
-      last : (k : ℕ) → k < d → lastAt q claim p1 k ≡ c 2 k
+      last : (k : ℕ) → k < n → lastAt q claim p2 k ≡ item 2 k
       last k l =
           ap (λ z. (halfOf q (getD claim k 0) + (q - z)) % q) (front-at k l)
-          ∙ last-is q (ok .modulus-odd) (c 0 k) (c 2 k) (getD claim k 0) (c-below 0 k l) (c-below 2 k l) (g .claimed k l)
+          ∙ last-is q (ok .modulus-odd) (item 0 k) (item 2 k) (getD claim k 0) (item-below 0 k l) (item-below 2 k l) (claimed k l)
 
-      pub rest-is : (p2 : List ℕ) → p2 ≡ spliced (lastAt q claim p1) (2 * d) d p1
-          → p2 ≡ spliced (elementPlaces (roundElement S t key message 2)) (2 * d) d (spliced (elementPlaces (roundElement S t key message 1)) d d p)
-      rest-is p2 is2 =
-          is2
-          ∙ spliced-ext (lastAt q claim p1) (elementPlaces (roundElement S t key message 2)) (2 * d) d p1 last
-          ∙ ap (spliced (elementPlaces (roundElement S t key message 2)) (2 * d) d) (is1 ∙ spliced-ext (middleAt q x claim) (elementPlaces (roundElement S t key message 1)) d d p middle)
+      pub rest-is : (p3 : List ℕ) → p3 ≡ spliced (lastAt q claim p2) (2 * n) n p2 → p3 ≡ spliced (item 2) (2 * itemCells S) (itemCells S) (spliced (item 1) (itemCells S) (itemCells S) p)
+      rest-is p3 is3 =
+          is3
+          ∙ spliced-ext (lastAt q claim p2) (item 2) (2 * n) n p2 last
+          ∙ ap (spliced (item 2) (2 * n) n) p2-is
+          ∙ λ i. spliced (item 2) (2 * n-is i) (n-is i) (spliced (item 1) (n-is i) (n-is i) p)

@@ -1,8 +1,8 @@
--- The test `accepted`, the statement `Accepted` and the absence of a `cause` say the same.
+-- In one row the test `accepted` and the statement `Accepted` say the same; of all rows `allAccepted`, `AllAccepted` and the absence of a `cause` do.
 use mathlib.Core.Path.{_≡_, refl, sym, ap, _∙_}
 use mathlib.Core.Bool.{Bool, true, false, _&&_, not, false≢true}
 use mathlib.Core.List.{List}
-use Prim.Native.Nat.{ℕ, _+_, _*_, _≤_}
+use Prim.Native.Nat.{ℕ, _+_, _*_, _<_, _≤_}
 use native.Mathlib.Nat as Nat
 use native.Mathlib.Decide.{decLt}
 use native.Mathlib.Omega.{arith}
@@ -13,7 +13,8 @@ use Rattle.protocol.specs.declared.Settings.{Settings}
 use Rattle.protocol.specs.Basic.{every, least, within}
 use Rattle.protocol.specs.Element.{signed}
 use Rattle.protocol.specs.Settings.{size}
-use Rattle.protocol.specs.Transcript.{Transcript, doubled, ending, holdsAt, closes, roundHolds, finalBounded, endHolds, foldedKey, claimAfter, element, Cause, endCause, held, cause, accepted, Accepted}
+use Rattle.protocol.specs.Transcript.{Transcript, doubled, ending, holdsAt, closes, roundHolds, finalBounded, endHolds, foldedKey, claimAfter, element, accepted, Accepted}
+use Rattle.protocol.specs.Rows.{keyRow, rowOf, Cause, endCause, held, cause, allAccepted, AllAccepted}
 use Rattle.protocol.proofs.Tests.{and-split, and-intro, every-at, every-intro, least-first}
 
 module _ (S : Settings) (key : List ℕ) (T : Transcript) where
@@ -37,18 +38,34 @@ module _ (S : Settings) (key : List ℕ) (T : Transcript) where
       (every-intro (λ i l. every-intro (λ k m. eq-eqb _ _ (a .every-round i l k m))))
       (and-intro (every-intro (λ k m. le-leb _ _ (a .in-bound k m))) (every-intro (λ k m. eq-eqb _ _ (a .at-end k m))))
 
+-- ---- all rows
+
+module _ (S : Settings) (key : List ℕ) (T : Transcript) where
+  pub all-accepted-states : allAccepted S key T ≡ true → AllAccepted S key T
+  unfolding allAccepted
+  all-accepted-states t r l = accepted-states S (keyRow S key r) (rowOf S T r) (every-at (S .rows) (λ r. accepted S (keyRow S key r) (rowOf S T r)) t r l)
+
+  pub all-accepted-test : AllAccepted S key T → allAccepted S key T ≡ true
+  unfolding allAccepted
+  all-accepted-test a = every-intro (λ r l. accepted-test S (keyRow S key r) (rowOf S T r) (a r l))
+
 -- ---- the cause
 
-held-all : (S : Settings) (T : Transcript) → every (S .depth) (holdsAt S T) ≡ true → held S T ≡ S .depth
-unfolding held
-held-all S T t = elim (decLt (least (S .depth) (λ i. not (holdsAt S T i))) (S .depth)) [
-  | yes l ↦ absurd (false≢true (sym (ap not (every-at (S .depth) (holdsAt S T) t _ l)) ∙ least-first _ _ .holds l))
-  | no g ↦ omega (arith, least-first (S .depth) (λ i. not (holdsAt S T i)) .at-most)
-]
+module _ (S : Settings) (T : Transcript) where
+  -- does round t + 1 hold in every row
+  abbrev holds : ℕ → Bool
+  holds t = every (S .rows) (λ r. holdsAt S (rowOf S T r) t)
 
-all-held : (S : Settings) (T : Transcript) → S .depth ≤ held S T → every (S .depth) (holdsAt S T) ≡ true
-unfolding held
-all-held S T l = every-intro (λ i h. not-false (holdsAt S T i) (least-first (S .depth) (λ i. not (holdsAt S T i)) .none-before i (omega arith)))
+  held-all : ((t : ℕ) → t < S .depth → holds t ≡ true) → held S T ≡ S .depth
+  unfolding held
+  held-all h = elim (decLt (least (S .depth) (λ t. not (holds t))) (S .depth)) [
+    | yes l ↦ absurd (false≢true (sym (ap not (h _ l)) ∙ least-first _ _ .holds l))
+    | no g ↦ omega (arith, least-first (S .depth) (λ t. not (holds t)) .at-most)
+  ]
+
+  all-held : S .depth ≤ held S T → (t : ℕ) → t < S .depth → holds t ≡ true
+  unfolding held
+  all-held l t h = not-false (holds t) (least-first (S .depth) (λ t. not (holds t)) .none-before t (omega arith))
 
 end-none : (a b : Bool) → endCause a b ≡ Cause.none → (a ≡ true) × (b ≡ true)
 unfolding endCause
@@ -57,26 +74,38 @@ end-none true false e = absurd (let z : _≡_ {A = ℕ} 0 1 = cc in omega arith)
 end-none false b e = absurd (let z : _≡_ {A = ℕ} 0 1 = cc in omega arith)
 
 module _ (S : Settings) (key : List ℕ) (T : Transcript) where
+  abbrev closesAt : ℕ → Bool
+  closesAt r = closes S (keyRow S key r) (rowOf S T r)
+
   abbrev ends : Cause
-  ends = endCause (finalBounded S (signed (T .last))) (closes S key T)
+  ends = endCause (finalBounded S (signed (T .last))) (every (S .rows) closesAt)
 
-  pub cause-none : accepted S key T ≡ true → cause S key T ≡ Cause.none
-  unfolding accepted cause
-  cause-none t =
-      ap (λ b. elim b as (λ _. Cause) [ true ↦ Cause.round (held S T + 1) | false ↦ ends ]) (le-ltb (held S T) (S .depth) (Nat.le-of-eq (sym (held-all S T (whole .0)))))
-      ∙ unfold endCause in (λ i. endCause (end .0 i) (end .1 i))
+  -- what a row's acceptance is
+  parts : (r : ℕ) → accepted S (keyRow S key r) (rowOf S T r) ≡ true
+      → (every (S .depth) (holdsAt S (rowOf S T r)) ≡ true) × (finalBounded S (signed (T .last)) ≡ true) × (closesAt r ≡ true)
+  unfolding accepted rowOf
+  parts r t = let (rounds, end) = and-split {a = every (S .depth) (holdsAt S (rowOf S T r))} t in let (bound, equation) = and-split {a = finalBounded S (signed (T .last))} end in (rounds, bound, equation)
+
+  -- there is a row, in which the bound is tested
+  pub cause-none : 0 < S .rows → allAccepted S key T ≡ true → cause S key T ≡ Cause.none
+  unfolding allAccepted cause
+  cause-none p t =
+      ap (λ b. elim b as (λ _. Cause) [ true ↦ Cause.round (held S T + 1) | false ↦ ends ]) (le-ltb (held S T) (S .depth) (Nat.le-of-eq (sym (held-all S T every-round))))
+      ∙ unfold endCause in (λ i. endCause (row 0 p .1 i) (every-intro {n = S .rows} {f = closesAt} (λ r l. row r l .2) i))
     where
-      whole : (every (S .depth) (holdsAt S T) ≡ true) × ((finalBounded S (signed (T .last)) && closes S key T) ≡ true)
-      whole = and-split t
+      row : (r : ℕ) → r < S .rows → (every (S .depth) (holdsAt S (rowOf S T r)) ≡ true) × (finalBounded S (signed (T .last)) ≡ true) × (closesAt r ≡ true)
+      row r l = parts r (every-at (S .rows) (λ r. accepted S (keyRow S key r) (rowOf S T r)) t r l)
 
-      end : (finalBounded S (signed (T .last)) ≡ true) × (closes S key T ≡ true)
-      end = and-split (whole .1)
+      every-round : (i : ℕ) → i < S .depth → every (S .rows) (λ r. holdsAt S (rowOf S T r) i) ≡ true
+      every-round i h = every-intro (λ r l. every-at (S .depth) (holdsAt S (rowOf S T r)) (row r l .0) i h)
 
-  pub none-accepted : cause S key T ≡ Cause.none → accepted S key T ≡ true
-  unfolding accepted cause
+  pub none-accepted : cause S key T ≡ Cause.none → allAccepted S key T ≡ true
+  unfolding allAccepted cause accepted rowOf
   none-accepted e = go (ltb (held S T) (S .depth)) refl e
     where
       go : (b : Bool) → ltb (held S T) (S .depth) ≡ b → (elim b as (λ _. Cause) [ true ↦ Cause.round (held S T + 1) | false ↦ ends ]) ≡ Cause.none
-          → (every (S .depth) (holdsAt S T) && (finalBounded S (signed (T .last)) && closes S key T)) ≡ true
+          → every (S .rows) (λ r. accepted S (keyRow S key r) (rowOf S T r)) ≡ true
       go true l f = absurd (let z : _≡_ {A = ℕ} 0 1 = cc in omega arith)
-      go false l f = and-intro (all-held S T (ltb-false _ _ l)) (let end = end-none _ _ f in and-intro (end .0) (end .1))
+      go false l f = let (bound, equation) = end-none _ _ f in every-intro (λ r m. and-intro
+          (every-intro (λ i h. every-at (S .rows) (λ r. holdsAt S (rowOf S T r) i) (all-held S T (ltb-false _ _ l) i h) r m))
+          (and-intro bound (every-at (S .rows) closesAt equation r m)))

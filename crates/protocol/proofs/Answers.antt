@@ -19,7 +19,7 @@ use Rattle.protocol.specs.declared.Verified.the-variants as Verify
 use Rattle.protocol.specs.Basic.{choose, granted}
 use Rattle.protocol.specs.Session.{verdict, verdictNumber, roundNumber, endNumber, advanced, shut, refusedMove, round, sessionRoundRefusal, sessionRoundHolds, sessionRoundNumber}
 use Rattle.protocol.specs.Session.{end, sessionEndRefusal, sessionEndHolds, sessionEndNumber}
-use Rattle.protocol.specs.Transcript.{accepted, transcriptOf}
+use Rattle.protocol.specs.Rows.{together, transcriptsOf, allAccepted}
 use Rattle.protocol.specs.Calls.{openingRefusal, openingAnswer, openingNumber, checkRefusal, checkAnswer, checkNumber}
 use Rattle.protocol.specs.Text.{Line, linesOf, settingsIn, tablesIn, reading, numberAnswer}
 use Rattle.protocol.specs.Lines.{givenNumber, lineReading, givenLine, lineAnswer}
@@ -76,11 +76,11 @@ session-end-number r f key = end-moves (sessionEndRefusal r key) (sessionEndHold
 
 pub opening-number : (S : Settings) (key : List ℕ) (message : List ℤ) (E rounds : List ℕ) → verdictNumber (openingAnswer S key message E rounds .verdict) ≡ openingNumber S key message E rounds
 unfolding openingAnswer openingNumber
-opening-number S key message E rounds = end-says (openingRefusal S key message E rounds) (accepted S key (transcriptOf S key message E))
+opening-number S key message E rounds = end-says (openingRefusal S key message E rounds) (allAccepted S key (transcriptsOf S key message E))
 
 pub check-number : (S : Settings) (C : List ℕ) (f : List ℤ) (key rounds E : List ℕ) → verdictNumber (checkAnswer S C f key rounds E .verdict) ≡ checkNumber S C f key rounds E
 unfolding checkAnswer checkNumber
-check-number S C f key rounds E = end-says (checkRefusal S C key rounds E) (accepted S key (record { commitment = C; rounds = rounds; challenges = E; last = f }))
+check-number S C f key rounds E = end-says (checkRefusal S C key rounds E) (allAccepted S key (record { commitment = together S C; rounds = rounds; challenges = E; last = f }))
 
 -- ---- `verify`
 

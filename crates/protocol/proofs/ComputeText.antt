@@ -3,14 +3,15 @@ use mathlib.Core.List.{flatMap, zipWith}
 use mathlib.Core.Option.{bind}
 use Rattle.protocol.specs.Basic.{sum, every, least, tabulate, flat, all, among, within, choose, first, unless, granted}
 use Rattle.protocol.specs.Element.{modulo, flips, around, rotate, product, plus, times, signed, signedAt, residueAt, coefficients, reduced}
-use Rattle.protocol.specs.Settings.{degreeAllowed, depthAllowed, modulusAllowed, boundAllowed, settingsRefusal, size, half, hasLength, allBelow}
+use Rattle.protocol.specs.Settings.{degreeAllowed, depthAllowed, modulusAllowed, boundAllowed, rowsAllowed, settingsRefusal, size, cells, half, hasLength, allBelow}
 use Rattle.protocol.specs.Settings.{allWithin, exponent, exponents}
 use Rattle.protocol.specs.Opening.{inner, second, cross, foldSigned, foldResidues, commitment, halfLeft, roundElement, foldMessage, foldKey}
 use Rattle.protocol.specs.Opening.{messageAfter, keyAfter, finalElement, roundTable}
 use Rattle.protocol.specs.Transcript.{doubled, roundHolds, nextClaim, finalBounded, ending, endHolds, element, claimAfter, holdsAt, closes}
-use Rattle.protocol.specs.Transcript.{accepted, transcriptOf}
+use Rattle.protocol.specs.Transcript.{accepted}
+use Rattle.protocol.specs.Rows.{keyRow, rowItems, interleaved, rowOf, commitments, roundTables, transcriptsOf, allAccepted}
 use Rattle.protocol.specs.Text.{textLimit, valueLimit, narrowLimit, limitOf, bytes, names, digitCount, lowDigits, decimal, numeral, lineText, linesText, shape}
-use Rattle.protocol.specs.Text.{settingsShape, shapes, shapeSize, spotAt, spots, wanted, contents, block, blocks, blockLines, textOf, blockFits}
+use Rattle.protocol.specs.Text.{settingsShape, shapes, shapeSize, spotAt, spots, wanted, settingsValues, contents, block, blocks, blockLines, textOf, blockFits}
 use Rattle.protocol.specs.Text.{fits, keep, digit, digitRun, digitFirst, properDigits, readCount, plain, negative, readNumber, byte, readIndex}
 use Rattle.protocol.specs.Text.{readLine, readLines, begins, beginsWithNames, parsed, linesOf, sameSpot, sameSpots, spotsOf, valuesOf}
 use Rattle.protocol.specs.Text.{wellFormed, unsigned, column, unsignedColumn, settingIn, settingsIn, tablesIn, noSettings, lookRefusal, loaded}
@@ -27,11 +28,12 @@ unfolding
     bind flatMap zipWith
     sum every least tabulate flat all among within choose first unless granted
     modulo flips around rotate product plus times signed signedAt residueAt coefficients reduced
-    degreeAllowed depthAllowed modulusAllowed boundAllowed settingsRefusal size half hasLength allBelow allWithin exponent exponents
+    degreeAllowed depthAllowed modulusAllowed boundAllowed rowsAllowed settingsRefusal size cells half hasLength allBelow allWithin exponent exponents
     inner second cross foldSigned foldResidues commitment halfLeft roundElement foldMessage foldKey messageAfter keyAfter finalElement roundTable
-    doubled roundHolds nextClaim finalBounded ending endHolds element claimAfter holdsAt closes accepted transcriptOf
+    doubled roundHolds nextClaim finalBounded ending endHolds element claimAfter holdsAt closes accepted
+    keyRow rowItems interleaved rowOf commitments roundTables transcriptsOf allAccepted
     textLimit valueLimit narrowLimit limitOf bytes names digitCount lowDigits decimal numeral lineText linesText shape settingsShape shapes shapeSize spotAt spots wanted
-    contents block blocks blockLines textOf blockFits fits keep digit digitRun digitFirst properDigits readCount plain negative readNumber byte readIndex
+    settingsValues contents block blocks blockLines textOf blockFits fits keep digit digitRun digitFirst properDigits readCount plain negative readNumber byte readIndex
     readLine readLines begins beginsWithNames parsed linesOf sameSpot sameSpots spotsOf valuesOf wellFormed unsigned column unsignedColumn settingIn
     settingsIn tablesIn noSettings lookRefusal loaded lookAnswer entriesRefusal textRefusal readRefusal readAnswer readExit outputRefusal
     writeRefusal written overwritten writeAnswer writeExit reading numberAnswer readNumberAt readCountAt

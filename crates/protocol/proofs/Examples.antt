@@ -3,19 +3,23 @@ use mathlib.Core.Path.{_≡_, refl, ap, ap₂}
 use mathlib.Core.Bool.{Bool, true, false, _&&_, false≢true}
 use mathlib.Core.List.{List, [], _∷_, _++_, map}
 use borrow.Author.Tests.{eqb-true}
+use Prim.Native.Nat.{ℕ}
 use lib.Dec.{eqb}
 use lib.IntN.{ℤ, pos, negsuc}
 use Rattle.protocol.specs.declared.Session.{Session}
 use Rattle.protocol.specs.declared.Moved.{Moved}
 use Rattle.protocol.specs.declared.Verdict.{Verdict}
 use Rattle.protocol.specs.Basic.{choose}
-use Rattle.protocol.specs.Transcript.{Cause}
+use Rattle.protocol.specs.Rows.{Cause}
 use Rattle.protocol.specs.Session.{verdictNumber}
 use Rattle.protocol.proofs.Tests.{and-split}
 
 pub record Example : Type 0 where
   pub given : List ℤ
   pub wanted : List ℤ
+
+abbrev pub number : ℕ → ℕ → Example
+number given wanted = record { given = pos given ∷ []; wanted = pos wanted ∷ [] }
 
 unfoldable pub sameNumber : ℤ → ℤ → Bool
 sameNumber (pos a) (pos b) = eqb a b
@@ -47,13 +51,13 @@ causeNumber Cause.equation = pos 101 ∷ []
 unfoldable pub verdictAsNumber : Verdict → ℤ
 verdictAsNumber v = pos (verdictNumber v)
 
--- a record as numbers: settings, rounds done, closed, the challenges, and the claim's places
+-- a record as numbers: settings, rounds done, closed, the challenges, and the claims' places
 unfoldable pub recordNumbers : Session → List ℤ
 recordNumbers r =
-    map pos (r .settings .degree ∷ r .settings .depth ∷ r .settings .modulus ∷ r .settings .bound ∷ r .done ∷ [])
+    map pos (r .settings .degree ∷ r .settings .depth ∷ r .settings .modulus ∷ r .settings .bound ∷ r .settings .rows ∷ r .done ∷ [])
     ++ asNumber (r .closed)
     ++ map pos (r .challenges)
-    ++ map pos (r .claim)
+    ++ map pos (r .claims)
 
 -- a move's answer as numbers: the refusal, the verdict, the record
 unfoldable pub moveNumbers : Moved → List ℤ

@@ -1,4 +1,4 @@
--- The tests of refusals 3 to 10 against the plain statements of Inputs: settings, residues, bounds, exponents.
+-- The tests of refusals 3 to 10 and 16 against the plain statements of Inputs: settings, residues, bounds, exponents.
 use mathlib.Core.Path.{_≡_, refl, sym, ap, _∙_, subst}
 use mathlib.Core.Logic.{inl, inr}
 use mathlib.Core.Bool.{Bool, true, false, _&&_, _||_, false≢true}
@@ -14,7 +14,7 @@ use lib.IntN.{ℤ, pos}
 use Rattle.protocol.specs.declared.Settings.{Settings}
 use Rattle.protocol.specs.Basic.{all, among, within}
 use Rattle.protocol.specs.Layout.{width}
-use Rattle.protocol.specs.Settings.{transformModulus, degreeAllowed, depthAllowed, modulusAllowed, boundAllowed, settingsRefusal, hasLength, allWithin}
+use Rattle.protocol.specs.Settings.{transformModulus, degreeAllowed, depthAllowed, modulusAllowed, boundAllowed, rowsAllowed, settingsRefusal, hasLength, allWithin}
 use Rattle.protocol.specs.Inputs.{Valid, Below, Within}
 use Rattle.protocol.proofs.Tests.{and-split, and-intro, or-split, or-left, or-right, all-at, all-intro}
 use Rattle.protocol.proofs.Refusals.{all-passed, passed-all}
@@ -72,15 +72,16 @@ power-degree S (suc i) e l h w = elim (decLt i 6) [
       )
 ]
 
--- refusals 3 to 6 are 0 exactly for allowed settings
+-- refusals 3 to 6 and 16 are 0 exactly for allowed settings
 pub settings-valid : (S : Settings) → settingsRefusal S ≡ 0 → Valid S
-unfolding settingsRefusal depthAllowed modulusAllowed boundAllowed
+unfolding settingsRefusal depthAllowed modulusAllowed boundAllowed rowsAllowed
 settings-valid S e =
-    let (t3, (t4, (t5, (t6, _)))) = all-passed ((2, _) ∷ (3, _) ∷ (4, _) ∷ (5, _) ∷ []) e in
+    let (t3, (t4, (t5, (t6, (t16, _))))) = all-passed ((2, _) ∷ (3, _) ∷ (4, _) ∷ (5, _) ∷ (15, _) ∷ []) e in
     let (i, power, few, widest) = degree-power S t3 in
     let (more, most) = and-split t5 in
     let (odd, least) = and-split more in
     let (low, high) = and-split t6 in
+    let (some, few-rows) = and-split t16 in
     record {
       log = suc i;
       degree-is = power;
@@ -93,18 +94,23 @@ settings-valid S e =
       modulus-most = leb-true _ _ most;
       bound-least = leb-true _ _ low;
       bound-most = leb-true _ _ high;
+      rows-least = leb-true _ _ some;
+      rows-most = leb-true _ _ few-rows;
     }
 
 pub valid-settings : (S : Settings) → Valid S → settingsRefusal S ≡ 0
-unfolding settingsRefusal depthAllowed modulusAllowed boundAllowed
+unfolding settingsRefusal depthAllowed modulusAllowed boundAllowed rowsAllowed
 valid-settings S v =
-    passed-all ((2, _) ∷ (3, _) ∷ (4, _) ∷ (5, _) ∷ []) (
+    passed-all ((2, _) ∷ (3, _) ∷ (4, _) ∷ (5, _) ∷ (15, _) ∷ []) (
       power-degree S (v .log) (v .degree-is) (v .log-least) (v .log-most) (v .widest),
       (
         le-leb _ _ (v .depth-most),
         (
           and-intro (and-intro (eq-eqb _ _ (v .modulus-odd)) (le-leb _ _ (v .modulus-least))) (le-leb _ _ (v .modulus-most)),
-          (and-intro (le-leb _ _ (v .bound-least)) (le-leb _ _ (v .bound-most)), tt),
+          (
+            and-intro (le-leb _ _ (v .bound-least)) (le-leb _ _ (v .bound-most)),
+            (and-intro (le-leb _ _ (v .rows-least)) (le-leb _ _ (v .rows-most)), tt),
+          ),
         ),
       ),
     )

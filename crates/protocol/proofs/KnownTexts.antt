@@ -20,7 +20,7 @@ use Rattle.protocol.proofs.ReaderLaws.{too-long-to-read, too-long-to-wr
 use Rattle.protocol.proofs.TextExamples.{names, settings, key, message, commitment, rounds, challenge, final, input, withFinal, noDepth, wideModulus, moreDepth, listing}
 use Rattle.protocol.proofs.TextExamples.{example, tables, noParts, challengeOnly, finalOnly, allParts, residues₂, residues₆, listed, finalElement, lent, proveTables}
 use Rattle.protocol.proofs.TextExamples.{lentListed, nothing, everything, deep, shallow, shallowLent, lentVerify, lentDeep, onlyChallenges, onlyFinal, widest, extremes}
-use Rattle.protocol.proofs.TextExamples.{withSettings}
+use Rattle.protocol.proofs.TextExamples.{withSettings, boundAndRows, bounded, weights, secondʷ, listingʷ, withSecond, tablesʷ, lentʷ}
 use Rattle.protocol.proofs.TextRows.{Row, given, expected}
 use Rattle.protocol.proofs.TextRows.Row.{proves, verifies, lookGives, checks, callRefused, callGives, readRefused, readGives, writeRefused, writeGives, back, forth, number, count}
 use Rattle.protocol.proofs.TextRows.Row.{lineGives, lineRefused, begunGives}
@@ -38,6 +38,12 @@ table =
     -- with the largest modulus: −1 and −5
     ∷ proves (names ++ wideModulus ++ "1 0 0 1\n1 0 1 5\n2 0 0 -1\n2 0 1 0\n") (names ++ wideModulus ++ "3 0 0 2305843009213693950\n3 0 1 2305843009213693946\n6 0 0 -1\n6 0 1 0\n")
     ∷ verifies (names ++ wideModulus ++ "1 0 0 1\n1 0 1 5\n3 0 0 2305843009213693950\n3 0 1 2305843009213693946\n6 0 0 -1\n6 0 1 0\n") "accepted\n"
+    -- two rows, one of weights; and one whose second row is changed
+    ∷ proves (names ++ boundAndRows "1" "2" ++ key ++ weights ++ message ++ challenge) listingʷ
+    ∷ verifies (withSecond secondʷ) "accepted\n"
+    ∷ verifies (withSecond "3 1 0 12\n3 1 1 13\n") "rejected\n"
+    ∷ verifies (withSecond "3 1 0 12\n3 1 1 17\n") "refused 8\n"
+    ∷ verifies (withSecond "") "refused 7\n"
     ∷ checks (withFinal final) 0 Accepted
     ∷ checks (withFinal "6 0 0 2\n6 0 1 0\n") 0 Rejected
     ∷ checks (withFinal "") 7 Silent
@@ -47,22 +53,31 @@ table =
     ∷ proves (input key message "5 0 0 4\n") "refused 10\n"
     ∷ verifies (withFinal "") "refused 7\n"
     -- `prove` as a call, on an output slice that is long enough, exactly long enough, and too short; the text comes first
-    ∷ callGives (input key message challenge) 149 145 listing
-    ∷ callGives (input key message challenge) 145 145 listing
-    ∷ callRefused (input key message challenge) 144 7
+    ∷ callGives (input key message challenge) 157 153 listing
+    ∷ callGives (input key message challenge) 153 153 listing
+    ∷ callRefused (input key message challenge) 152 7
     ∷ callRefused (input key message "5 0 0 4\n") 0 10
     -- a first look asks for nothing behind the settings, but that it is of the stated shape
     ∷ lookGives (names ++ settings) 0 example
     ∷ lookGives (names ++ settings ++ "9 9 9 -9\n") 0 example
     ∷ lookGives (names ++ settings ++ "9 9 9 09\n") 2 noSettings
-    ∷ lookGives (names ++ "0 0 0 2\n0 0 1 1\n0 0 2 17\n0 0 3 -1\n") 6 noSettings
+    ∷ lookGives (names ++ "0 0 0 2\n0 0 1 1\n0 0 2 17\n0 0 3 -1\n0 0 4 1\n") 6 noSettings
     -- a setting that is too large is refused by its own number, and cut to no smaller one; past the limit of values it is no number
-    ∷ lookGives (names ++ "0 0 0 4294967298\n0 0 1 1\n0 0 2 17\n0 0 3 1\n") 3 noSettings
-    ∷ lookGives (names ++ "0 0 0 2\n0 0 1 4294967297\n0 0 2 17\n0 0 3 1\n") 4 noSettings
-    ∷ lookGives (names ++ "0 0 0 2\n0 0 1 1\n0 0 2 2305843009213693950\n0 0 3 1\n") 5 noSettings
-    ∷ lookGives (names ++ "0 0 0 2\n0 0 1 1\n0 0 2 2305843009213693952\n0 0 3 1\n") 2 noSettings
-    ∷ lookGives (names ++ "0 0 0 2\n0 0 1 1\n0 0 2 -17\n0 0 3 1\n") 5 noSettings
-    ∷ lookGives (names ++ "0 0 0 2\n0 0 1 1\n0 0 2 17\n0 0 3 4294967297\n") 6 noSettings
+    ∷ lookGives (names ++ "0 0 0 4294967298\n0 0 1 1\n0 0 2 17\n0 0 3 1\n0 0 4 1\n") 3 noSettings
+    ∷ lookGives (names ++ "0 0 0 2\n0 0 1 4294967297\n0 0 2 17\n0 0 3 1\n0 0 4 1\n") 4 noSettings
+    ∷ lookGives (names ++ "0 0 0 2\n0 0 1 1\n0 0 2 2305843009213693950\n0 0 3 1\n0 0 4 1\n") 5 noSettings
+    ∷ lookGives (names ++ "0 0 0 2\n0 0 1 1\n0 0 2 2305843009213693952\n0 0 3 1\n0 0 4 1\n") 2 noSettings
+    ∷ lookGives (names ++ "0 0 0 2\n0 0 1 1\n0 0 2 -17\n0 0 3 1\n0 0 4 1\n") 5 noSettings
+    ∷ lookGives (names ++ "0 0 0 2\n0 0 1 1\n0 0 2 17\n0 0 3 4294967297\n0 0 4 1\n") 6 noSettings
+    -- 16 after 6, and where not all five settings lines are there 2
+    ∷ lookGives (names ++ boundAndRows "0" "0") 6 noSettings
+    ∷ lookGives (names ++ boundAndRows "1" "0") 16 noSettings
+    ∷ lookGives (names ++ boundAndRows "1" "5") 16 noSettings
+    ∷ lookGives (names ++ boundAndRows "1" "-1") 16 noSettings
+    ∷ lookGives (names ++ boundAndRows "1" "4294967297") 16 noSettings
+    ∷ lookGives (names ++ boundAndRows "1" "4") 0 (bounded 1 4)
+    ∷ lookGives (names ++ "0 0 0 2\n0 0 1 1\n0 0 2 17\n0 0 3 1\n") 2 noSettings
+    ∷ lookGives (names ++ "0 0 0 2\n0 0 1 1\n0 0 2 17\n0 0 3 1\n" ++ key) 2 noSettings
     -- so is a residue; of messages and challenges there is none past the narrow limit
     ∷ readRefused proveReads (input "1 0 0 2305843009213693951\n1 0 1 5\n1 1 0 7\n1 1 1 2\n" message challenge) lent 8
     ∷ readRefused proveReads (input "1 0 0 2305843009213693952\n1 0 1 5\n1 1 0 7\n1 1 1 2\n" message challenge) lent 2
@@ -82,7 +97,9 @@ table =
     ∷ readRefused proveReads (input key message challenge) (tables (proveTables .key) (proveTables .message) [] [] [] []) 7
     ∷ readRefused proveReads (input key message challenge) (tables (proveTables .key) (proveTables .message) [] [] (9 ∷ []) (pos 9 ∷ [])) 7
     ∷ readRefused proveReads (input key message "5 0 0 4\n") nothing 7
-    ∷ readRefused proveReads (withSettings "0 0 0 2\n0 0 1 1\n0 0 2 17\n0 0 3 0\n") nothing 6
+    ∷ readRefused proveReads (withSettings "0 0 0 2\n0 0 1 1\n0 0 2 17\n0 0 3 0\n0 0 4 1\n") nothing 6
+    ∷ readRefused proveReads (withSettings (boundAndRows "1" "0")) nothing 16
+    ∷ readRefused proveReads (withSettings (boundAndRows "1" "2")) lent 7
     ∷ readGives provePrints listing lentListed example (listed finalElement)
     ∷ readGives finalOnly (names ++ noDepth ++ "6 0 0 2147483647\n6 0 1 -2147483647\n") (onlyFinal (pos 9 ∷ pos 9 ∷ [])) shallow (onlyFinal extremes)
     ∷ readGives noParts (names ++ settings) nothing example nothing
@@ -90,16 +107,19 @@ table =
     ∷ readGives challengeOnly (names ++ moreDepth ++ "5 0 0 1\n5 1 0 3\n") (onlyChallenges (9 ∷ 9 ∷ [])) deep (onlyChallenges (1 ∷ 3 ∷ []))
     ∷ readRefused challengeOnly (names ++ moreDepth ++ "5 0 0 1\n5 0 1 3\n") (onlyChallenges (9 ∷ 9 ∷ [])) 7
     -- the writer: what stands behind its text stays, and on a refusal all of it
-    ∷ writeGives example provePrints (listed finalElement) 149 145 listing
-    ∷ writeGives example noParts nothing 60 55 (names ++ settings)
-    ∷ writeGives example noParts nothing 55 55 (names ++ settings)
-    ∷ writeRefused example noParts nothing 54 7
+    ∷ writeGives example provePrints (listed finalElement) 157 153 listing
+    ∷ writeGives example noParts nothing 68 63 (names ++ settings)
+    ∷ writeGives example noParts nothing 63 63 (names ++ settings)
+    ∷ writeRefused example noParts nothing 62 7
     ∷ writeRefused example provePrints (listed finalElement) 0 7
     -- the writer's refusals; a bad table comes before a short output slice
-    ∷ writeRefused (record { degree = 3; depth = 9; modulus = 16; bound = 0 }) provePrints (listed finalElement) 4 3
-    ∷ writeRefused (record { degree = 2; depth = 9; modulus = 16; bound = 0 }) provePrints (listed finalElement) 4 4
-    ∷ writeRefused (record { degree = 2; depth = 1; modulus = 16; bound = 0 }) provePrints (listed finalElement) 4 5
-    ∷ writeRefused (record { degree = 2; depth = 1; modulus = 17; bound = 0 }) provePrints (listed finalElement) 4 6
+    ∷ writeRefused (record { degree = 3; depth = 9; modulus = 16; bound = 0; rows = 0 }) provePrints (listed finalElement) 4 3
+    ∷ writeRefused (record { degree = 2; depth = 9; modulus = 16; bound = 0; rows = 0 }) provePrints (listed finalElement) 4 4
+    ∷ writeRefused (record { degree = 2; depth = 1; modulus = 16; bound = 0; rows = 0 }) provePrints (listed finalElement) 4 5
+    ∷ writeRefused (record { degree = 2; depth = 1; modulus = 17; bound = 0; rows = 0 }) provePrints (listed finalElement) 4 6
+    ∷ writeRefused (bounded 1 0) provePrints (listed []) 4 16
+    ∷ writeRefused (bounded 1 5) provePrints (listed finalElement) 4 16
+    ∷ writeRefused (bounded 1 2) provePrints (listed finalElement) 999 7
     ∷ writeRefused example provePrints (listed []) 4 7
     ∷ writeRefused example provePrints (tables (3 ∷ []) [] residues₂ residues₆ (1 ∷ []) finalElement) 999 7
     ∷ writeRefused example provePrints (tables [] [] (17 ∷ 4 ∷ []) residues₆ (1 ∷ []) finalElement) 4 8
@@ -111,6 +131,7 @@ table =
     ∷ back example provePrints (listed finalElement) lentListed
     ∷ back example allParts everything everything
     ∷ back example noParts nothing nothing
+    ∷ back (bounded 1 2) allParts tablesʷ lentʷ
     ∷ back deep allParts (tables (replicate 8 16) (replicate 8 (negsuc 0)) (0 ∷ 1 ∷ []) (replicate 12 10) (0 ∷ 3 ∷ []) extremes) lentDeep
     ∷ back shallow allParts (tables (0 ∷ 16 ∷ []) (pos 1 ∷ negsuc 0 ∷ []) (8 ∷ 2 ∷ []) [] [] extremes) shallowLent
     ∷ back widest proveReads (tables (2_305_843_009_213_693_950 ∷ 10 ∷ []) (negsuc 126 ∷ pos 127 ∷ []) [] [] [] []) (tables (9 ∷ 9 ∷ []) (pos 9 ∷ pos 9 ∷ []) [] [] [] [])
@@ -160,8 +181,8 @@ table =
     ∷ lineRefused "1 0 2147483648 1\n" 0
     -- the settings that a text begins with: the lines behind them are looked at where the settings are not allowed
     ∷ begunGives (names ++ settings ++ "x") 0 example
-    ∷ begunGives (names ++ "0 0 0 3\n0 0 1 1\n0 0 2 17\n0 0 3 1\n") 3 noSettings
-    ∷ begunGives (names ++ "0 0 0 3\n0 0 1 1\n0 0 2 17\n0 0 3 1\nx") 2 noSettings
+    ∷ begunGives (names ++ "0 0 0 3\n0 0 1 1\n0 0 2 17\n0 0 3 1\n0 0 4 1\n") 3 noSettings
+    ∷ begunGives (names ++ "0 0 0 3\n0 0 1 1\n0 0 2 17\n0 0 3 1\n0 0 4 1\nx") 2 noSettings
     ∷ begunGives settings 2 noSettings
     ∷ []
 

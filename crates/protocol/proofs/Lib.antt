@@ -6,6 +6,7 @@ pub mod Modulo
 pub mod CommonDivisor
 pub mod OpeningLaws
 pub mod Ranges
+pub mod Rows
 pub mod Numbering
 pub mod Paths
 pub mod Places
@@ -21,6 +22,7 @@ pub mod Examples
 pub mod Listing
 pub mod Known
 pub mod Traps
+pub mod RowTraps
 pub mod ComputeText
 pub mod TextExamples
 pub mod TextRows

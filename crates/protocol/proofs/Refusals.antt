@@ -76,7 +76,7 @@ asked (suc x) number b t rest h = refl
 pub first-tested : {x number : ℕ} {t : Bool} {r : ℕ} (b : Bool) (rest : List ℕ) → Tested x number t r → (x ≡ 0 → t ≡ b) → first (x ∷ unless number b ∷ rest) ≡ first (r ∷ rest)
 first-tested {x} {number} {t} {r} b rest e h = sym (ap (λ y. first (y ∷ rest)) (e .is) ∙ sym (front-joined (x ∷ unless number t ∷ []) rest) ∙ asked x number b t rest h)
 
--- the head of most calls' lists: the settings, 3 to 6, and then the lengths, 7. The lengths that the code compares with are the definitions' where the settings are allowed
+-- the head of most calls' lists: the settings, 3 to 6 and 16, and then the lengths, 7. The lengths that the code compares with are the definitions' where the settings are allowed
 pub lengths-tested : {x s : ℕ} {t : Bool} {r : ℕ} (b : Bool) → x ≡ s → Tested x 7 t r → (s ≡ 0 → t ≡ b) → Tested s 7 b r
 lengths-tested b e asked same = record { is = sym (first-known _ _ e ∙ first-tested b [] asked (λ z. same (sym e ∙ z)) ∙ first-only _) }
 

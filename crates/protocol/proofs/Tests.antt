@@ -52,6 +52,12 @@ unfolding every
 every-intro {n = zero} {f} h = refl
 every-intro {n = suc n} {f} h = and-intro {a = every n f} {b = f n} (every-intro {n = n} {f = f} (λ i l. h i (omega arith))) (h n (omega arith))
 
+-- the order of two counts does not matter
+pub every-swap : (n m : ℕ) (f : ℕ → ℕ → Bool) → every n (λ i. every m (f i)) ≡ every m (λ j. every n (λ i. f i j))
+every-swap n m f = same-test
+    (λ t. every-intro (λ j h. every-intro (λ i l. every-at m (f i) (every-at n (λ i. every m (f i)) t i l) j h)))
+    (λ t. every-intro (λ i l. every-intro (λ j h. every-at n (λ i. f i j) (every-at m (λ j. every n (λ i. f i j)) t j h) i l)))
+
 -- ---- all
 
 pub all-at {ℓ} : {A : Type ℓ} (f : A → Bool) (l : List A) (z : A) → all f l ≡ true → (i : ℕ) → i < length l → f (getD l i z) ≡ true

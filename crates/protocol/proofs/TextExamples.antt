@@ -15,7 +15,7 @@ abbrev pub names : String
 names = "part item place value\n"
 
 abbrev pub settings : String
-settings = "0 0 0 2\n0 0 1 1\n0 0 2 17\n0 0 3 1\n"
+settings = "0 0 0 2\n0 0 1 1\n0 0 2 17\n0 0 3 1\n0 0 4 1\n"
 
 abbrev pub key : String
 key = "1 0 0 3\n1 0 1 5\n1 1 0 7\n1 1 1 2\n"
@@ -47,17 +47,21 @@ withSettings s = names ++ s ++ key ++ message ++ challenge
 abbrev pub withFinal : String → String
 withFinal f = names ++ settings ++ key ++ commitment ++ rounds ++ challenge ++ f
 
--- settings 2, 0, 17, 1, with no rounds
+-- settings 2, 0, 17, 1, 1, with no rounds
 abbrev pub noDepth : String
-noDepth = "0 0 0 2\n0 0 1 0\n0 0 2 17\n0 0 3 1\n"
+noDepth = "0 0 0 2\n0 0 1 0\n0 0 2 17\n0 0 3 1\n0 0 4 1\n"
 
 -- the same with the largest modulus
 abbrev pub wideModulus : String
-wideModulus = "0 0 0 2\n0 0 1 0\n0 0 2 2305843009213693951\n0 0 3 1\n"
+wideModulus = "0 0 0 2\n0 0 1 0\n0 0 2 2305843009213693951\n0 0 3 1\n0 0 4 1\n"
 
--- settings 2, 2, 17, 1
+-- settings 2, 2, 17, 1, 1
 abbrev pub moreDepth : String
-moreDepth = "0 0 0 2\n0 0 1 2\n0 0 2 17\n0 0 3 1\n"
+moreDepth = "0 0 0 2\n0 0 1 2\n0 0 2 17\n0 0 3 1\n0 0 4 1\n"
+
+-- the settings of the example, the value of the bound's line and of the rows' line being given
+abbrev pub boundAndRows : String → String → String
+boundAndRows b r = "0 0 0 2\n0 0 1 1\n0 0 2 17\n0 0 3 " ++ b ++ "\n0 0 4 " ++ r ++ "\n"
 
 -- what `prove` prints in PROTOCOL 12.1
 abbrev pub listing : String
@@ -67,6 +71,7 @@ listing =
     ++ "0 0 1 1\n"
     ++ "0 0 2 17\n"
     ++ "0 0 3 1\n"
+    ++ "0 0 4 1\n"
     ++ "3 0 0 15\n"
     ++ "3 0 1 4\n"
     ++ "4 0 0 4\n"
@@ -81,8 +86,12 @@ listing =
 
 -- ---- Tables
 
+-- the example's settings, bound and rows being given
+abbrev pub bounded : ℕ → ℕ → Settings
+bounded b r = record { degree = 2; depth = 1; modulus = 17; bound = b; rows = r }
+
 abbrev pub example : Settings
-example = record { degree = 2; depth = 1; modulus = 17; bound = 1 }
+example = bounded 1 1
 
 abbrev pub tables : List ℕ → List ℤ → List ℕ → List ℕ → List ℕ → List ℤ → Tables
 tables k m c r e f = record { key = k; message = m; commitment = c; rounds = r; challenges = e; last = f }
@@ -131,11 +140,11 @@ abbrev pub everything : Tables
 everything = tables (proveTables .key) (proveTables .message) residues₂ residues₆ (1 ∷ []) finalElement
 
 abbrev pub deep : Settings
-deep = record { degree = 2; depth = 2; modulus = 17; bound = 1 }
+deep = record { degree = 2; depth = 2; modulus = 17; bound = 1; rows = 1 }
 
 -- settings and tables with no rounds
 abbrev pub shallow : Settings
-shallow = record { degree = 2; depth = 0; modulus = 17; bound = 1 }
+shallow = record { degree = 2; depth = 0; modulus = 17; bound = 1; rows = 1 }
 
 abbrev pub shallowLent : Tables
 shallowLent = tables (9 ∷ 9 ∷ []) (pos 9 ∷ pos 9 ∷ []) (9 ∷ 9 ∷ []) [] [] (pos 9 ∷ pos 9 ∷ [])
@@ -155,8 +164,39 @@ onlyFinal f = tables [] [] [] [] [] f
 
 -- the largest modulus and bound
 abbrev pub widest : Settings
-widest = record { degree = 2; depth = 0; modulus = 2_305_843_009_213_693_951; bound = 127 }
+widest = record { degree = 2; depth = 0; modulus = 2_305_843_009_213_693_951; bound = 127; rows = 1 }
 
 -- the largest magnitudes of a final element's value
 abbrev pub extremes : List ℤ
 extremes = pos 2_147_483_647 ∷ negsuc 2_147_483_646 ∷ []
+
+-- ---- Two rows (PROTOCOL 12.7): behind the example's key a row of the weights 5 and 7
+
+abbrev pub weights : String
+weights = "1 2 0 5\n1 2 1 0\n1 3 0 7\n1 3 1 0\n"
+
+-- the lines of the commitment, those of the second row being given
+abbrev pub commitmentʷ : String → String
+commitmentʷ second = commitment ++ second
+
+abbrev pub secondʷ : String
+secondʷ = "3 1 0 12\n3 1 1 12\n"
+
+abbrev pub roundsʷ : String
+roundsʷ = "4 0 0 4\n4 0 1 1\n4 1 0 11\n4 1 1 6\n4 2 0 6\n4 2 1 0\n4 3 0 6\n4 3 1 5\n4 4 0 12\n4 4 1 1\n4 5 0 12\n4 5 1 0\n"
+
+abbrev pub listingʷ : String
+listingʷ = names ++ boundAndRows "1" "2" ++ commitmentʷ secondʷ ++ roundsʷ ++ challenge ++ final
+
+-- what `verify` reads, the commitment's lines of the second row being given
+abbrev pub withSecond : String → String
+withSecond second = names ++ boundAndRows "1" "2" ++ key ++ weights ++ commitmentʷ second ++ roundsʷ ++ challenge ++ final
+
+abbrev pub tablesʷ : Tables
+tablesʷ = tables
+    (3 ∷ 5 ∷ 7 ∷ 2 ∷ 5 ∷ 0 ∷ 7 ∷ 0 ∷ []) (proveTables .message) (15 ∷ 4 ∷ 12 ∷ 12 ∷ [])
+    (4 ∷ 1 ∷ 11 ∷ 6 ∷ 6 ∷ 0 ∷ 6 ∷ 5 ∷ 12 ∷ 1 ∷ 12 ∷ 0 ∷ []) (1 ∷ []) finalElement
+
+-- tables that are lent for all parts
+abbrev pub lentʷ : Tables
+lentʷ = tables (replicate 8 9) (replicate 4 (pos 9)) (replicate 4 9) (replicate 12 9) (9 ∷ []) (replicate 2 (pos 9))

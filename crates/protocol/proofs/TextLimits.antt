@@ -13,11 +13,11 @@ use borrow.Author.Tests.{leb-true, le-leb, ltb-true, eqb-true}
 use Rattle.protocol.specs.declared.Settings.{Settings}
 use Rattle.protocol.specs.declared.Parts.{Parts}
 use Rattle.protocol.specs.Basic.{tabulate, all, among, choose, within, first, unless}
-use Rattle.protocol.specs.Layout.{width}
+use Rattle.protocol.specs.Layout.{width, rowsMost, keyItems, roundItems}
 use Rattle.protocol.specs.Settings.{settingsRefusal, size, allBelow, allWithin}
 use Rattle.protocol.specs.Settings.{exponent, exponents}
 use Rattle.protocol.specs.Text.{Line, Shape, Tables, valueLimit, narrowLimit, limitOf, shape, settingsShape, shapes, shapeSize}
-use Rattle.protocol.specs.Text.{spotAt, contents, block, blockLines}
+use Rattle.protocol.specs.Text.{spotAt, settingsValues, contents, block, blockLines}
 use Rattle.protocol.specs.Text.{parsed, linesOf, column, entriesRefusal}
 use Rattle.protocol.proofs.Tests.{first-zero, unless-zero, all-weaken, all-map, all-getD, and-intro}
 use Rattle.protocol.proofs.Inputs.{settings-valid, degree-most}
@@ -30,10 +30,11 @@ pub record Allowed (S : Settings) : Type 0 where
   pub depth : S .depth ≤ 8
   pub modulus : S .modulus ≤ valueLimit
   pub bound : S .bound ≤ 127
+  pub rows : S .rows ≤ rowsMost
 
 pub allowed : (S : Settings) → settingsRefusal S ≡ 0 → Allowed S
 unfolding valueLimit
-allowed S h = let v = settings-valid S h in record { degree = degree-most S v; depth = v .depth-most; modulus = v .modulus-most; bound = v .bound-most }
+allowed S h = let v = settings-valid S h in record { degree = degree-most S v; depth = v .depth-most; modulus = v .modulus-most; bound = v .bound-most; rows = v .rows-most }
 
 pub size-le : (S : Settings) → Allowed S → size S ≤ 256
 unfolding size
@@ -152,8 +153,8 @@ small-limited S v a h =
     all-weaken (within (S .bound)) (within narrowLimit) (λ z e. le-leb (natAbs z) narrowLimit (omega (arith, leb-true (natAbs z) (S .bound) e, a .bound))) v h
 
 settings-limited : (S : Settings) → Allowed S
-    → all (within valueLimit) (pos (S .degree) ∷ pos (S .depth) ∷ pos (S .modulus) ∷ pos (S .bound) ∷ []) ≡ true
-unfolding all within
+    → all (within valueLimit) (settingsValues S) ≡ true
+unfolding settingsValues all within
 settings-limited S a =
     let wide : width ≤ valueLimit = unfold valueLimit in (omega arith) in
     rw (
@@ -161,26 +162,29 @@ settings-limited S a =
       le-leb (S .depth) valueLimit (omega (arith, a .depth)),
       le-leb (S .modulus) valueLimit (a .modulus),
       le-leb (S .bound) valueLimit (omega (arith, a .bound)),
+      le-leb (S .rows) valueLimit (omega (arith, a .rows)),
     )
 
 -- the values of parts 0 to 6 and the shapes of parts 0 to 6 are within their limits
 pub contents-limited : (S : Settings) (P : Parts) (t : Tables) → Allowed S → Passed S t → Limits (shapes S P) (contents S t)
 unfolding shapes contents settingsShape shape limitOf among choose
 contents-limited S P t a p =
-    let wide : 256 * width ≤ narrowLimit = unfold narrowLimit in (omega arith) in
+    let wide : rowsMost * 256 * width ≤ narrowLimit = unfold narrowLimit in (omega arith) in
     let n : size S ≤ 256 = size-le S a in
     let table : size S * S .degree ≤ narrowLimit = le-trans (mul-le-mul n (a .degree)) (omega arith) in
-    let items : 3 * S .depth ≤ 24 = omega (arith, a .depth) in
-    let rounds : 3 * S .depth * S .degree ≤ narrowLimit = le-trans (mul-le-mul items (a .degree)) (omega arith) in (
-      (shape-small 0 true 1 4 (omega arith) (omega arith), settings-limited S a),
+    let key : keyItems S * S .degree ≤ narrowLimit = le-trans (mul-le-mul (mul-le-mul (a .rows) n) (a .degree)) wide in
+    let element : S .rows * S .degree ≤ narrowLimit = le-trans (mul-le-mul (a .rows) (a .degree)) (omega arith) in
+    let items : roundItems S ≤ 256 = omega (arith, a .depth) in
+    let rounds : S .rows * roundItems S * S .degree ≤ narrowLimit = le-trans (mul-le-mul (mul-le-mul (a .rows) items) (a .degree)) wide in (
+      (shape-small 0 true 1 5 (omega arith) (omega arith), settings-limited S a),
       (
-        (shape-small 1 (P .key) (size S) (S .degree) (omega arith) table, residues-limited S (t .key) a (p .key)),
+        (shape-small 1 (P .key) (keyItems S) (S .degree) (omega arith) key, residues-limited S (t .key) a (p .key)),
         (
           (shape-small 2 (P .message) (size S) (S .degree) (omega arith) table, small-limited S (t .message) a (p .message)),
           (
-            (shape-small 3 (P .commitment) 1 (S .degree) (omega arith) (omega (arith, a .degree)), residues-limited S (t .commitment) a (p .commitment)),
+            (shape-small 3 (P .commitment) (S .rows) (S .degree) (omega arith) element, residues-limited S (t .commitment) a (p .commitment)),
             (
-              (shape-small 4 (P .rounds) (3 * S .depth) (S .degree) (omega arith) rounds, residues-limited S (t .rounds) a (p .rounds)),
+              (shape-small 4 (P .rounds) (S .rows * roundItems S) (S .degree) (omega arith) rounds, residues-limited S (t .rounds) a (p .rounds)),
               (
                 (shape-small 5 (P .challenges) (S .depth) 1 (omega arith) (omega (arith, a .depth)), exponents-limited S (t .challenges) a (p .challenges)),
                 ((shape-small 6 (P .last) 1 (S .degree) (omega arith) (omega (arith, a .degree)), p .last), tt),

@@ -1,25 +1,31 @@
 -- Small cases of the calls on tables, each of which pins an order of refusals, a bound or what is left unchanged, in one table.
-use mathlib.Core.Path.{_≡_, refl}
-use mathlib.Core.Bool.{true, false}
+use mathlib.Core.Path.{_≡_, refl, sym, ap, _∙_}
+use mathlib.Core.Bool.{Bool, true, false, false≢true}
 use mathlib.Core.List.{List, [], _∷_, _++_, map}
-use Prim.Native.Nat.{ℕ, _-_}
-use lib.ListN.{replicate}
+use Prim.Native.Nat.{ℕ, _+_, _*_, _<_}
+use native.Mathlib.Omega.{arith}
+use lib.ListN.{length, getD, replicate}
 use lib.IntN.{ℤ, pos, negsuc}
 use Rattle.protocol.specs.declared.Settings.{Settings}
 use Rattle.protocol.specs.declared.Session.{Session}
-use Rattle.protocol.specs.Basic.{all, flat}
-use Rattle.protocol.specs.Element.{power, rotate, coefficients}
-use Rattle.protocol.specs.Layout.{width}
+use Rattle.protocol.specs.Basic.{every, all, flat}
+use Rattle.protocol.specs.Element.{power, rotate, coefficients, valueRow}
+use Rattle.protocol.specs.Layout.{rowsWidth, treeChallenges}
 use Rattle.protocol.specs.Settings.{settingsRefusal}
 use Rattle.protocol.specs.Opening.{foldMessage, messageAfter, keyAfter}
-use Rattle.protocol.specs.Transcript.{cause}
+use Rattle.protocol.specs.Rows.{keyRow, rowItems, cause}
+use Rattle.protocol.specs.Transcript.{accepted}
+use Rattle.protocol.specs.Tree.{leaves, path, rowPath}
 use Rattle.protocol.specs.Session.{blank, shut, start, round, end}
 use Rattle.protocol.specs.Judge.{slack}
 use Rattle.protocol.specs.Calls.{commitRefusal, commitAnswer, roundRefusal, foldRefusal, foldMessageExit, endRefusal, openingAnswer, openingRoundsExit, checkRefusal}
-use Rattle.protocol.specs.Calls.{judgeRefusal, judgeAnswer, extractRefusal, extractExit}
+use Rattle.protocol.specs.Calls.{judgeRefusal, judgeAnswer, everyPath, treeTests, treeRefusal, extractRefusal, extractExit}
+use Rattle.protocol.proofs.Tests.{every-at}
+use Rattle.protocol.proofs.Reading.{flat-own, flat-ext}
+use Rattle.protocol.proofs.Refusals.{first-fails, front-passes}
 use Rattle.protocol.proofs.Compute.{computed}
-use Rattle.protocol.proofs.Listing.{set, S₁, key₁, message₁, rounds₁, leaves₁, S₀}
-use Rattle.protocol.proofs.Examples.{Example, agree, agreeing, asNumber, causeNumber, moveNumbers, recordNumbers, verdictAsNumber}
+use Rattle.protocol.proofs.Listing.{set, S₁, key₁, message₁, commitment₁, rounds₁, leaves₁, S₀, oneRow}
+use Rattle.protocol.proofs.Examples.{Example, agree, agreeing, number, asNumber, causeNumber, moveNumbers, recordNumbers, verdictAsNumber}
 
 -- ---- the inputs
 
@@ -33,21 +39,18 @@ S₂ = set 2 2 17 1
 abbrev message₂ : List ℤ
 message₂ = pos 1 ∷ pos 0 ∷ pos 0 ∷ pos 1 ∷ negsuc 0 ∷ pos 1 ∷ pos 1 ∷ pos 1 ∷ []
 
--- a record in the middle of a session: its settings, rounds done, claim, challenges, closed
+-- a record in the middle of a session: its settings, rounds done, claims, challenges, closed
 abbrev fresh : Session
-fresh = start S₁ (15 ∷ 4 ∷ []) .next
+fresh = start S₁ commitment₁ .next
 
 -- records at the end of a session whose claim, and whose last challenge, is out of range; both are closed and have too few rounds done
 abbrev spoiled : Session
-spoiled = record { settings = S₁; done = 0; claim = 9 ∷ 17 ∷ []; challenges = 4 ∷ replicate 7 0; closed = true }
+spoiled = record { settings = S₁; done = 0; claims = 9 ∷ 17 ∷ []; challenges = 4 ∷ replicate 7 0; closed = true }
 
 abbrev overfull : Session
-overfull = record { settings = S₁; done = 0; claim = 9 ∷ 6 ∷ []; challenges = 1 ∷ replicate 6 0 ++ (4 ∷ []); closed = true }
+overfull = record { settings = S₁; done = 0; claims = 9 ∷ 6 ∷ []; challenges = 1 ∷ replicate 6 0 ++ (4 ∷ []); closed = true }
 
--- ---- rows
-
-abbrev number : ℕ → ℕ → Example
-number given wanted = record { given = pos given ∷ []; wanted = pos wanted ∷ [] }
+-- ---- the table
 
 unfoldable pub traps : List Example
 traps =
@@ -100,8 +103,8 @@ traps =
     -- a refused fold leaves the table
     ∷ record { given = foldMessageExit S₁ 1 0 key₁ message₁; wanted = message₁ }
     -- a refused call answers zeros, and a new element is 0 from d on
-    ∷ record { given = map pos (commitAnswer S₁ key₁ (pos 2 ∷ pos 0 ∷ pos 0 ∷ pos 0 ∷ []) .commitment); wanted = map pos (replicate width 0) }
-    ∷ record { given = map pos (commitAnswer S₁ key₁ message₁ .commitment); wanted = pos 15 ∷ pos 4 ∷ map pos (replicate (width - 2) 0) }
+    ∷ record { given = map pos (commitAnswer S₁ key₁ (pos 2 ∷ pos 0 ∷ pos 0 ∷ pos 0 ∷ []) .commitment); wanted = replicate rowsWidth (pos 0) }
+    ∷ record { given = map pos (commitAnswer S₁ key₁ message₁ .commitment); wanted = map pos (oneRow 0 commitment₁) }
     -- the three zones of a rotation at d = 4: X^7·X^3 = X^2; X^0 and X^4 differ
     ∷ record { given = coefficients 4 (rotate 4 7 (power 4 3)); wanted = pos 0 ∷ pos 0 ∷ pos 1 ∷ pos 0 ∷ [] }
     ∷ record { given = coefficients 4 (power 4 4); wanted = negsuc 0 ∷ pos 0 ∷ pos 0 ∷ pos 0 ∷ [] }
@@ -113,18 +116,18 @@ traps =
     -- a round that fails is named before the end; the check of a transcript
     ∷ record { given = causeNumber (cause S₁ key₁ (record { commitment = 15 ∷ 5 ∷ []; rounds = rounds₁; challenges = 1 ∷ []; last = pos 3 ∷ pos 0 ∷ [] })); wanted = pos 1 ∷ [] }
     ∷ number (checkRefusal S₁ (15 ∷ 17 ∷ []) key₁ rounds₁ (4 ∷ [])) 8
-    ∷ number (checkRefusal S₁ (15 ∷ 4 ∷ []) key₁ rounds₁ (4 ∷ [])) 10
+    ∷ number (checkRefusal S₁ commitment₁ key₁ rounds₁ (4 ∷ [])) 10
     -- a session: a closed record of zeros answers 3; any other closed record 11, and is handed back unchanged
     ∷ number (round blank polynomial₁ 1 .refusal) 3
     ∷ record { given = moveNumbers (round (shut fresh) polynomial₁ 1); wanted = pos 11 ∷ pos 0 ∷ recordNumbers (shut fresh) }
     -- 8 and 10 before 11; all eight challenges are tested, and those in range are kept
-    ∷ number (round (record { settings = S₁; done = 0; claim = 17 ∷ 0 ∷ []; challenges = replicate 8 0; closed = true }) polynomial₁ 1 .refusal) 8
-    ∷ number (round (record { settings = S₁; done = 1; claim = 15 ∷ 4 ∷ []; challenges = replicate 7 0 ++ (4 ∷ []); closed = true }) polynomial₁ 1 .refusal) 10
+    ∷ number (round (record { settings = S₁; done = 0; claims = 17 ∷ 0 ∷ []; challenges = replicate 8 0; closed = true }) polynomial₁ 1 .refusal) 8
+    ∷ number (round (record { settings = S₁; done = 1; claims = commitment₁; challenges = replicate 7 0 ++ (4 ∷ []); closed = true }) polynomial₁ 1 .refusal) 10
     ∷ record {
-      given = moveNumbers (round (record { settings = S₁; done = 0; claim = 15 ∷ 4 ∷ []; challenges = replicate 7 0 ++ (3 ∷ []); closed = false }) polynomial₁ 1);
-      wanted = pos 0 ∷ pos 1 ∷ recordNumbers (record { settings = S₁; done = 1; claim = 9 ∷ 6 ∷ replicate (width - 2) 0; challenges = (1 ∷ replicate 6 0) ++ (3 ∷ []); closed = false });
+      given = moveNumbers (round (record { settings = S₁; done = 0; claims = commitment₁; challenges = replicate 7 0 ++ (3 ∷ []); closed = false }) polynomial₁ 1);
+      wanted = pos 0 ∷ pos 1 ∷ recordNumbers (record { settings = S₁; done = 1; claims = oneRow 0 (9 ∷ 6 ∷ []); challenges = (1 ∷ replicate 6 0) ++ (3 ∷ []); closed = false });
     }
-    ∷ number (round (record { settings = S₁; done = 4_294_967_295; claim = 15 ∷ 4 ∷ []; challenges = replicate 8 0; closed = false }) polynomial₁ 1 .refusal) 11
+    ∷ number (round (record { settings = S₁; done = 4_294_967_295; claims = commitment₁; challenges = replicate 8 0; closed = false }) polynomial₁ 1 .refusal) 11
     -- a rejected round sets closed and nothing else
     ∷ record { given = moveNumbers (round fresh ((5 ∷ 1 ∷ []) ∷ (6 ∷ 0 ∷ []) ∷ (12 ∷ 1 ∷ []) ∷ []) 1); wanted = pos 0 ∷ pos 3 ∷ recordNumbers (shut fresh) }
     -- an end before all rounds are done; an acceptance closes the record; a final coefficient of −2^31 is rejected and not refused
@@ -132,20 +135,20 @@ traps =
     -- an end tests its claim (8), then all eight challenges (10), both before 11; a refused end hands the record back
     ∷ record { given = moveNumbers (end spoiled (pos 1 ∷ pos 0 ∷ []) key₁); wanted = pos 8 ∷ pos 0 ∷ recordNumbers spoiled }
     ∷ record { given = moveNumbers (end overfull (pos 1 ∷ pos 0 ∷ []) key₁); wanted = pos 10 ∷ pos 0 ∷ recordNumbers overfull }
-    ∷ number (end (record { settings = S₁; done = 1; claim = 9 ∷ 6 ∷ []; challenges = 1 ∷ replicate 7 0; closed = false }) (pos 1 ∷ pos 0 ∷ []) (3 ∷ 5 ∷ 7 ∷ 17 ∷ []) .refusal) 8
+    ∷ number (end (record { settings = S₁; done = 1; claims = 9 ∷ 6 ∷ []; challenges = 1 ∷ replicate 7 0; closed = false }) (pos 1 ∷ pos 0 ∷ []) (3 ∷ 5 ∷ 7 ∷ 17 ∷ []) .refusal) 8
     ∷ record { given = moveNumbers (end (round fresh polynomial₁ 1 .next) (pos 1 ∷ pos 0 ∷ []) key₁); wanted = pos 0 ∷ pos 2 ∷ recordNumbers (shut (round fresh polynomial₁ 1 .next)) }
     ∷ record { given = verdictAsNumber (end (round fresh polynomial₁ 1 .next) (negsuc 2_147_483_647 ∷ pos 0 ∷ []) key₁ .verdict) ∷ []; wanted = pos 3 ∷ [] }
-    -- a refused start; a start does not copy what stands from d on
+    -- a refused start; a start does not copy what stands from d on, or past the rows
     ∷ record { given = pos (start S₁ (17 ∷ 4 ∷ []) .refusal) ∷ recordNumbers (start S₁ (17 ∷ 4 ∷ []) .next); wanted = pos 8 ∷ recordNumbers blank }
-    ∷ record { given = recordNumbers (start S₁ (15 ∷ 4 ∷ 9 ∷ []) .next); wanted = recordNumbers fresh }
+    ∷ record { given = recordNumbers (start S₁ (oneRow 99 (15 ∷ 4 ∷ [])) .next); wanted = recordNumbers fresh }
     -- the judge: 8 and 14 before 15, also where the slack shares a factor with q; −2^63 is beyond the bound and says no
     ∷ number (judgeRefusal (set 64 4 17 5) (replicate 64 0) 0 (replicate 1024 0) (replicate 1024 (pos 0))) 14
     ∷ number (judgeRefusal (set 64 4 17 5) (replicate 64 0) 17 (replicate 1024 0) (replicate 1024 (pos 0))) 14
     ∷ number (judgeRefusal S₁ (15 ∷ 17 ∷ []) 17 key₁ message₁) 8
-    ∷ number (judgeRefusal S₁ (15 ∷ 4 ∷ []) 65_537 key₁ message₁) 15
-    ∷ number (judgeRefusal S₁ (15 ∷ 4 ∷ []) 0 key₁ message₁) 15
+    ∷ number (judgeRefusal S₁ commitment₁ 65_537 key₁ message₁) 15
+    ∷ number (judgeRefusal S₁ commitment₁ 0 key₁ message₁) 15
     -- a slack in its range that shares a factor with q is refused, be it a multiple of q, a divisor of it or neither; one that shares none is not
-    ∷ number (judgeRefusal S₁ (15 ∷ 4 ∷ []) 34 key₁ message₁) 15
+    ∷ number (judgeRefusal S₁ commitment₁ 34 key₁ message₁) 15
     ∷ number (judgeRefusal (set 2 1 15 1) (0 ∷ 0 ∷ []) 3 key₁ message₁) 15
     ∷ number (judgeRefusal (set 2 1 15 1) (0 ∷ 0 ∷ []) 5 key₁ message₁) 15
     ∷ number (judgeRefusal (set 2 1 15 1) (0 ∷ 0 ∷ []) 6 key₁ message₁) 15
@@ -154,15 +157,14 @@ traps =
     ∷ record { given = asNumber (judgeAnswer S₁ (0 ∷ 0 ∷ []) 18 key₁ (negsuc 9_223_372_036_854_775_807 ∷ pos 0 ∷ pos 0 ∷ pos 0 ∷ []) .yes); wanted = pos 0 ∷ [] }
     -- the extractor's slack is 4^L, and the judge takes what it extracts
     ∷ number (slack (set 2 3 17 1)) 64
-    ∷ record { given = asNumber (judgeAnswer S₁ (15 ∷ 4 ∷ []) (slack S₁) key₁ (pos 4 ∷ negsuc 3 ∷ pos 4 ∷ pos 0 ∷ []) .yes); wanted = pos 1 ∷ [] }
+    ∷ record { given = asNumber (judgeAnswer S₁ commitment₁ (slack S₁) key₁ (pos 4 ∷ negsuc 3 ∷ pos 4 ∷ pos 0 ∷ []) .yes); wanted = pos 1 ∷ [] }
     -- the judge's bound is 8·d²·B = 32, and equality passes: 32·(3 + 5X) is 11 + 7X modulo 17, and 33·(3 + 5X) is 14 + 12X
     ∷ record { given = asNumber (judgeAnswer S₁ (11 ∷ 7 ∷ []) 1 key₁ (pos 32 ∷ pos 0 ∷ pos 0 ∷ pos 0 ∷ []) .yes); wanted = pos 1 ∷ [] }
     ∷ record { given = asNumber (judgeAnswer S₁ (14 ∷ 12 ∷ []) 1 key₁ (pos 33 ∷ pos 0 ∷ pos 0 ∷ pos 0 ∷ []) .yes); wanted = pos 0 ∷ [] }
-    -- the extractor: 12 before 13; 10 before 12; exponents 0 and d differ; too tall a leaf is a rejected path; 13 before 14; a refusal leaves w
-    ∷ number (extractRefusal S₁ (15 ∷ 4 ∷ []) key₁ rounds₁ (0 ∷ 1 ∷ 0 ∷ []) (replicate 6 (pos 0)) (replicate 4 (pos 0))) 12
-    ∷ number (extractRefusal S₁ (15 ∷ 4 ∷ []) key₁ rounds₁ (0 ∷ 4 ∷ 0 ∷ []) (replicate 6 (pos 0)) (replicate 4 (pos 0))) 10
-    ∷ number (extractRefusal S₁ (15 ∷ 4 ∷ []) key₁ rounds₁ (0 ∷ 1 ∷ 2 ∷ []) (pos 19 ∷ negsuc 0 ∷ pos 1 ∷ pos 0 ∷ pos 0 ∷ negsuc 0 ∷ []) (replicate 4 (pos 0))) 13
-    ∷ number (extractRefusal (set 64 4 17 5) (1 ∷ replicate 63 0) (replicate 1024 0) (replicate 7680 0) (flat 3 40 (λ i k. k)) (replicate 5184 (pos 0)) (replicate 1024 (pos 0))) 13
+    -- the extractor: 12 before 13; 10 before 12; exponents 0 and d differ; too tall a leaf is a rejected path; a refusal leaves w
+    ∷ number (extractRefusal S₁ commitment₁ key₁ rounds₁ (0 ∷ 1 ∷ 0 ∷ []) (replicate 6 (pos 0)) (replicate 4 (pos 0))) 12
+    ∷ number (extractRefusal S₁ commitment₁ key₁ rounds₁ (0 ∷ 4 ∷ 0 ∷ []) (replicate 6 (pos 0)) (replicate 4 (pos 0))) 10
+    ∷ number (extractRefusal S₁ commitment₁ key₁ rounds₁ (0 ∷ 1 ∷ 2 ∷ []) (pos 19 ∷ negsuc 0 ∷ pos 1 ∷ pos 0 ∷ pos 0 ∷ negsuc 0 ∷ []) (replicate 4 (pos 0))) 13
     ∷ record { given = extractExit S₁ (15 ∷ 5 ∷ []) key₁ rounds₁ (0 ∷ 1 ∷ 2 ∷ []) leaves₁ (pos 7 ∷ pos 7 ∷ pos 7 ∷ pos 7 ∷ []); wanted = pos 7 ∷ pos 7 ∷ pos 7 ∷ pos 7 ∷ [] }
     -- leaves within n·B = 2 that make w as large as 4·d²·B = 16, half of the bound: the three μ are −2X, 4 and 2X
     ∷ record {
@@ -174,3 +176,44 @@ traps =
 pub trapped : all agree traps ≡ true
 unfolding computed agreeing traps
 trapped = refl
+
+-- ---- the extractor's 13 before 14, at the smallest tree that is beyond the growth limit. It has 7,680 round numbers: too many to take their one row out of them
+-- by computing, so that it is the table itself is a law.
+
+one-row : (S : Settings) (n : ℕ) (t : List ℕ) → S .rows ≡ 1 → 0 < S .degree → length t ≡ n * S .degree → rowItems S n t 0 ≡ t
+unfolding rowItems
+one-row S n t e p l = flat-ext (S .degree) n p (λ i k hi hk. ap (λ x. getD t (x * S .degree + k) 0) (same i)) ∙ flat-own (S .degree) n t 0 p l
+  where
+    same : (i : ℕ) → S .rows * i + 0 ≡ i
+    same i = ap (λ r. r * i + 0) e ∙ omega arith
+
+first-path-rejected : (S : Settings) (C key rounds E : List ℕ) (finals : List ℤ) → S .rows ≡ 1 → 0 < S .degree → 0 < leaves S → length rounds ≡ treeChallenges S * S .degree
+    → accepted S (keyRow S key 0) (path S (valueRow C 0) rounds E finals 0) ≡ false → everyPath S C key rounds E finals ≡ false
+first-path-rejected S C key rounds E finals e p some l rejected = go (everyPath S C key rounds E finals) refl
+  where
+    rows : ℕ → ℕ → Bool
+    rows j r = accepted S (keyRow S key r) (rowPath S C rounds E finals r j)
+
+    go : (b : Bool) → everyPath S C key rounds E finals ≡ b → b ≡ false
+    go false t = refl
+    go true t = absurd (false≢true (sym rejected ∙ ap (λ rs. accepted S (keyRow S key 0) (path S (valueRow C 0) rs E finals 0)) (sym (one-row S (treeChallenges S) rounds e p l)) ∙ met))
+      where
+        met : accepted S (keyRow S key 0) (path S (valueRow C 0) (rowItems S (treeChallenges S) rounds 0) E finals 0) ≡ true
+        met = unfold everyPath rowPath in (every-at (S .rows) (rows 0) (every-at (leaves S) (λ j. every (S .rows) (rows j)) t 0 some) 0 (omega (arith, e)))
+
+paths-first : (S : Settings) (C key rounds E : List ℕ) (finals w : List ℤ) → treeRefusal S C key rounds E finals w ≡ 0 → everyPath S C key rounds E finals ≡ false
+    → extractRefusal S C key rounds E finals w ≡ 13
+unfolding treeRefusal extractRefusal
+paths-first S C key rounds E finals w passed rejected = front-passes (treeTests S C key rounds E finals w) _ passed ∙ first-fails 12 _ _ rejected
+
+abbrev S₄ : Settings
+S₄ = set 64 4 17 5
+
+abbrev E₄ : List ℕ
+E₄ = flat 3 40 (λ i k. k)
+
+pub paths-before-growth : extractRefusal S₄ (1 ∷ replicate 63 0) (replicate 1024 0) (replicate 7680 0) E₄ (replicate 5184 (pos 0)) (replicate 1024 (pos 0)) ≡ 13
+paths-before-growth =
+    paths-first S₄ (1 ∷ replicate 63 0) (replicate 1024 0) (replicate 7680 0) E₄ (replicate 5184 (pos 0)) (replicate 1024 (pos 0)) (unfold computed in refl)
+    (first-path-rejected S₄ (1 ∷ replicate 63 0) (replicate 1024 0) (replicate 7680 0) E₄ (replicate 5184 (pos 0))
+    refl (omega arith) (unfold computed in (omega arith)) (unfold computed in refl) (unfold computed in refl))

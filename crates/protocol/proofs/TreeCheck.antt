@@ -9,15 +9,17 @@ use lib.ListN.{getD}
 use lib.IntN.{ℤ, pos}
 use Rattle.protocol.specs.declared.Settings.{Settings}
 use Rattle.protocol.specs.Basic.{every}
-use Rattle.protocol.specs.Element.{signed, residueAt}
+use Rattle.protocol.specs.Element.{signed, residueAt, valueRow}
+use Rattle.protocol.specs.Layout.{treeChallenges}
 use Rattle.protocol.specs.Opening.{foldKey, keyAfter}
 use Rattle.protocol.specs.Transcript.{Transcript, nextClaim, finalBounded, endMet, foldedKey, element, claimAfter, holdsAt, closes, accepted}
-use Rattle.protocol.specs.Tree.{child, challenge, place, nodes, leaves, onPath, pathRounds, leaf, path}
+use Rattle.protocol.specs.Rows.{keyRow, rowItems}
+use Rattle.protocol.specs.Tree.{child, challenge, place, nodes, leaves, onPath, pathRounds, leaf, path, rowPath}
 use Rattle.protocol.specs.Calls.{everyPath}
-use Rattle.protocol.proofs.Tests.{and-split, and-intro, same-test, every-at, every-intro}
+use Rattle.protocol.proofs.Tests.{and-split, and-intro, same-test, every-at, every-intro, every-swap}
 use Rattle.protocol.proofs.Reading.{flat-at}
 use Rattle.protocol.specs.TreeCheck.{nodeElement, claimTo, nodeHolds, leafAccepted, treeAccepted}
-use Rattle.protocol.proofs.Agreement.{Same, claim-same, round-same}
+use Rattle.protocol.proofs.Agreement.{Same, claim-same, round-same, every-ext}
 use Rattle.protocol.proofs.Paths.{below-root, path-challenge}
 use Rattle.protocol.proofs.Walk.{three, stateOn, Walk, Visits, walk-visits, visits-walk}
 
@@ -124,11 +126,19 @@ module _ (S : Settings) (rounds E : List ℕ) (finals : List ℤ) where
         (every-intro (λ t l. path-round t l ∙ subst (Node (on t)) (path-state t (omega arith)) (v .at-node t l)))
         (path-end ∙ subst (Leaf (nodes S + j)) (path-state L (omega arith)) (v .at-leaf))
 
-  -- 13: every path is accepted exactly when the check node by node accepts the root
-  pub every-path-tree : (C key : List ℕ) → everyPath S C key rounds E finals ≡ treeAccepted S rounds E finals L 0 0 C key
-  unfolding everyPath leaves
-  every-path-tree C key = same-test
+  -- in one row every path is accepted exactly when the check node by node accepts the root
+  paths-tree : (C key : List ℕ) → every (leaves S) (λ j. accepted S key (path S C rounds E finals j)) ≡ treeAccepted S rounds E finals L 0 0 C key
+  unfolding leaves
+  paths-tree C key = same-test
       (λ a. walk-tree L 0 (0, C, key) (visits-walk hand Node Leaf L 0 (0, C, key) (λ j l.
       subst (λ n. Visits hand Node Leaf L n (0, C, key)) (sym (below-root S j)) (path-visits C key j (every-at _ (λ j. accepted S key (path S C rounds E finals j)) a j l)))))
       (λ b. every-intro (λ j l. visits-path C key j
       (subst (λ n. Visits hand Node Leaf L n (0, C, key)) (below-root S j) (walk-visits hand Node Leaf L 0 (0, C, key) (tree-walk L 0 (0, C, key) b) j l))))
+
+-- 13: every path is accepted in every row exactly when the check node by node accepts the root in every row
+pub every-path-tree : (S : Settings) (C key rounds E : List ℕ) (finals : List ℤ)
+    → everyPath S C key rounds E finals ≡ every (S .rows) (λ r. treeAccepted S (rowItems S (treeChallenges S) rounds r) E finals (S .depth) 0 0 (valueRow C r) (keyRow S key r))
+unfolding everyPath rowPath
+every-path-tree S C key rounds E finals =
+    every-swap (leaves S) (S .rows) (λ j r. accepted S (keyRow S key r) (rowPath S C rounds E finals r j))
+    ∙ every-ext (S .rows) (λ r _. paths-tree S (rowItems S (treeChallenges S) rounds r) E finals (valueRow C r) (keyRow S key r))

@@ -27,13 +27,14 @@ use Rattle.protocol.specs.declared.Opened.{Opened}
 use Rattle.protocol.specs.declared.Checked.{Checked}
 use Rattle.protocol.specs.declared.Judged.{Judged}
 use Rattle.protocol.specs.Basic.{every, tabulate, first, unless, granted}
-use Rattle.protocol.specs.Element.{width, zeros, signedZeros, padded, paddedSigned}
-use Rattle.protocol.specs.Settings.{settingsRefusal, cells, hasLength, allBelow, residueElement, allWithin, exponent, exponents}
-use Rattle.protocol.specs.Layout.{leftCells, roundCells, nodes, leaves, treeRoundCells, treeChallenges, leafCells}
-use Rattle.protocol.specs.Opening.{commitment, roundElement, foldMessage, foldKey, messageAfter, keyAfter, finalElement, roundTable}
-use Rattle.protocol.specs.Transcript.{accepted, transcriptOf}
+use Rattle.protocol.specs.Element.{width, zeros, signedZeros, paddedSigned}
+use Rattle.protocol.specs.Settings.{settingsRefusal, cells, hasLength, allBelow, residueRows, allWithin, exponent, exponents}
+use Rattle.protocol.specs.Layout.{rowsWidth, keyCells, leftCells, roundCells, nodes, leaves, treeRoundCells, treeChallenges, leafCells}
+use Rattle.protocol.specs.Opening.{commitment, roundElement, foldMessage, messageAfter, finalElement}
+use Rattle.protocol.specs.Transcript.{accepted}
+use Rattle.protocol.specs.Rows.{keyRow, atRows, together, roundTables, foldKeys, keysAfter, transcriptsOf, allAccepted}
 use Rattle.protocol.specs.Session.{verdict, endNumber}
-use Rattle.protocol.specs.Tree.{path, apart, rootVector, growthAllowed}
+use Rattle.protocol.specs.Tree.{rowPath, apart, rootVector, growthAllowed}
 use Rattle.protocol.specs.Judge.{slackAllowed, judged}
 
 -- ---- 1 commit
@@ -42,7 +43,7 @@ unfoldable pub commitRefusal : Settings → List ℕ → List ℤ → ℕ
 commitRefusal S key message =
     first
     (settingsRefusal S
-    ∷ unless 7 (hasLength (cells S) key && hasLength (cells S) message)
+    ∷ unless 7 (hasLength (keyCells S) key && hasLength (cells S) message)
     ∷ unless 8 (allBelow S key)
     ∷ unless 9 (allWithin (S .bound) message)
     ∷ [])
@@ -50,7 +51,7 @@ commitRefusal S key message =
 unfoldable pub commitAnswer : Settings → List ℕ → List ℤ → Committed
 commitAnswer S key message = record {
   refusal = commitRefusal S key message;
-  commitment = granted (commitRefusal S key message) (padded (S .degree) (commitment S key message)) (zeros width);
+  commitment = granted (commitRefusal S key message) (atRows S (λ r. commitment S (keyRow S key r) message)) (zeros rowsWidth);
 }
 
 -- ---- 2 the prover's round
@@ -67,7 +68,7 @@ unfoldable pub roundRefusal : Settings → ℕ → List ℕ → List ℤ → ℕ
 roundRefusal S t key message =
     first
     (settingsRefusal S
-    ∷ unless 7 (hasLength (cells S) key && hasLength (cells S) message)
+    ∷ unless 7 (hasLength (keyCells S) key && hasLength (cells S) message)
     ∷ unless 8 (allBelow S key)
     ∷ unless 9 (movingSmall S t message)
     ∷ unless 11 (ltb t (S .depth))
@@ -75,10 +76,10 @@ roundRefusal S t key message =
 
 -- PROTOCOL 2.3: the round polynomial by value
 unfoldable pub polynomial : Settings → ℕ → List ℕ → List ℤ → List (List ℕ)
-polynomial S t key message = tabulate 3 (λ j. padded (S .degree) (roundElement S t key message j))
+polynomial S t key message = tabulate 3 (λ j. atRows S (λ r. roundElement S t (keyRow S key r) message j))
 
 unfoldable pub noPolynomial : List (List ℕ)
-noPolynomial = tabulate 3 (λ j. zeros width)
+noPolynomial = tabulate 3 (λ j. zeros rowsWidth)
 
 unfoldable pub roundAnswer : Settings → ℕ → List ℕ → List ℤ → Polynomial
 roundAnswer S t key message = record {
@@ -92,7 +93,7 @@ unfoldable pub foldRefusal : Settings → ℕ → ℕ → List ℕ → List ℤ 
 foldRefusal S t e key message =
     first
     (settingsRefusal S
-    ∷ unless 7 (hasLength (cells S) key && hasLength (cells S) message)
+    ∷ unless 7 (hasLength (keyCells S) key && hasLength (cells S) message)
     ∷ unless 8 (allBelow S key)
     ∷ unless 9 (movingSmall S t message)
     ∷ unless 10 (exponent S e)
@@ -100,7 +101,7 @@ foldRefusal S t e key message =
     ∷ [])
 
 unfoldable pub foldKeyExit : Settings → ℕ → ℕ → List ℕ → List ℤ → List ℕ
-foldKeyExit S t e key message = granted (foldRefusal S t e key message) (foldKey S t e key) key
+foldKeyExit S t e key message = granted (foldRefusal S t e key message) (foldKeys S t e key) key
 
 unfoldable pub foldMessageExit : Settings → ℕ → ℕ → List ℕ → List ℤ → List ℤ
 foldMessageExit S t e key message = granted (foldRefusal S t e key message) (foldMessage S t e message) message
@@ -133,7 +134,7 @@ unfoldable pub openingRefusal : Settings → List ℕ → List ℤ → List ℕ 
 openingRefusal S key message E rounds =
     first
     (settingsRefusal S
-    ∷ unless 7 (hasLength (cells S) key && hasLength (cells S) message && hasLength (S .depth) E && hasLength (roundCells S) rounds)
+    ∷ unless 7 (hasLength (keyCells S) key && hasLength (cells S) message && hasLength (S .depth) E && hasLength (roundCells S) rounds)
     ∷ unless 8 (allBelow S key)
     ∷ unless 9 (allWithin (S .bound) message)
     ∷ unless 10 (exponents S E)
@@ -143,26 +144,26 @@ openingRefusal S key message E rounds =
 unfoldable pub openingAnswer : Settings → List ℕ → List ℤ → List ℕ → List ℕ → Opened
 openingAnswer S key message E rounds =
     let refusal = openingRefusal S key message E rounds in
-    let T = transcriptOf S key message E in
+    let T = transcriptsOf S key message E in
     record {
       refusal = refusal;
-      commitment = granted refusal (padded (S .degree) (T .commitment)) (zeros width);
+      commitment = granted refusal (atRows S (λ r. commitment S (keyRow S key r) message)) (zeros rowsWidth);
       last = granted refusal (paddedSigned (S .degree) (T .last)) (signedZeros width);
-      verdict = granted refusal (verdict (accepted S key T)) Silent;
+      verdict = granted refusal (verdict (allAccepted S key T)) Silent;
     }
 
 unfoldable pub openingNumber : Settings → List ℕ → List ℤ → List ℕ → List ℕ → ℕ
-openingNumber S key message E rounds = endNumber (openingRefusal S key message E rounds) (accepted S key (transcriptOf S key message E))
+openingNumber S key message E rounds = endNumber (openingRefusal S key message E rounds) (allAccepted S key (transcriptsOf S key message E))
 
 -- PROTOCOL 8.7: each table is left folded all the way
 unfoldable pub openingKeyExit : Settings → List ℕ → List ℤ → List ℕ → List ℕ → List ℕ
-openingKeyExit S key message E rounds = granted (openingRefusal S key message E rounds) (keyAfter S E (S .depth) key) key
+openingKeyExit S key message E rounds = granted (openingRefusal S key message E rounds) (keysAfter S E (S .depth) key) key
 
 unfoldable pub openingMessageExit : Settings → List ℕ → List ℤ → List ℕ → List ℕ → List ℤ
 openingMessageExit S key message E rounds = granted (openingRefusal S key message E rounds) (messageAfter S E (S .depth) message) message
 
 unfoldable pub openingRoundsExit : Settings → List ℕ → List ℤ → List ℕ → List ℕ → List ℕ
-openingRoundsExit S key message E rounds = granted (openingRefusal S key message E rounds) (roundTable S E key message) rounds
+openingRoundsExit S key message E rounds = granted (openingRefusal S key message E rounds) (roundTables S E key message) rounds
 
 -- ---- the check of a transcript
 
@@ -170,20 +171,20 @@ unfoldable pub checkRefusal : Settings → List ℕ → List ℕ → List ℕ �
 checkRefusal S C key rounds E =
     first
     (settingsRefusal S
-    ∷ unless 7 (hasLength (cells S) key && hasLength (roundCells S) rounds && hasLength (S .depth) E)
-    ∷ unless 8 (allBelow S key && residueElement S C && allBelow S rounds)
+    ∷ unless 7 (hasLength (keyCells S) key && hasLength (roundCells S) rounds && hasLength (S .depth) E)
+    ∷ unless 8 (allBelow S key && residueRows S C && allBelow S rounds)
     ∷ unless 10 (exponents S E)
     ∷ [])
 
 unfoldable pub checkAnswer : Settings → List ℕ → List ℤ → List ℕ → List ℕ → List ℕ → Checked
 checkAnswer S C f key rounds E = record {
   refusal = checkRefusal S C key rounds E;
-  verdict = granted (checkRefusal S C key rounds E) (verdict (accepted S key (record { commitment = C; rounds = rounds; challenges = E; last = f }))) Silent;
+  verdict = granted (checkRefusal S C key rounds E) (verdict (allAccepted S key (record { commitment = together S C; rounds = rounds; challenges = E; last = f }))) Silent;
 }
 
 unfoldable pub checkNumber : Settings → List ℕ → List ℤ → List ℕ → List ℕ → List ℕ → ℕ
 checkNumber S C f key rounds E =
-    endNumber (checkRefusal S C key rounds E) (accepted S key (record { commitment = C; rounds = rounds; challenges = E; last = f }))
+    endNumber (checkRefusal S C key rounds E) (allAccepted S key (record { commitment = together S C; rounds = rounds; challenges = E; last = f }))
 
 -- ---- the judge
 
@@ -191,8 +192,8 @@ unfoldable pub judgeRefusal : Settings → List ℕ → ℕ → List ℕ → Lis
 judgeRefusal S C c key w =
     first
     (settingsRefusal S
-    ∷ unless 7 (hasLength (cells S) key && hasLength (cells S) w)
-    ∷ unless 8 (allBelow S key && residueElement S C)
+    ∷ unless 7 (hasLength (keyCells S) key && hasLength (cells S) w)
+    ∷ unless 8 (allBelow S key && residueRows S C)
     ∷ unless 14 (growthAllowed S)
     ∷ unless 15 (slackAllowed S c)
     ∷ [])
@@ -207,14 +208,14 @@ judgeAnswer S C c key w = record {
 
 -- PROTOCOL 7.3, refusal 13: each path by itself
 unfoldable pub everyPath : Settings → List ℕ → List ℕ → List ℕ → List ℕ → List ℤ → Bool
-everyPath S C key rounds E finals = every (leaves S) (λ j. accepted S key (path S C rounds E finals j))
+everyPath S C key rounds E finals = every (leaves S) (λ j. every (S .rows) (λ r. accepted S (keyRow S key r) (rowPath S C rounds E finals r j)))
 
 -- what is tested before the verifier runs
 abbrev pub treeTests : Settings → List ℕ → List ℕ → List ℕ → List ℕ → List ℤ → List ℤ → List ℕ
 treeTests S C key rounds E finals w =
     settingsRefusal S
-    ∷ unless 7 (hasLength (cells S) key && hasLength (treeRoundCells S) rounds && hasLength (treeChallenges S) E && hasLength (leafCells S) finals && hasLength (cells S) w)
-    ∷ unless 8 (allBelow S key && residueElement S C && allBelow S rounds)
+    ∷ unless 7 (hasLength (keyCells S) key && hasLength (treeRoundCells S) rounds && hasLength (treeChallenges S) E && hasLength (leafCells S) finals && hasLength (cells S) w)
+    ∷ unless 8 (allBelow S key && residueRows S C && allBelow S rounds)
     ∷ unless 10 (exponents S E)
     ∷ unless 12 (every (nodes S) (apart E))
     ∷ []

@@ -23,19 +23,21 @@ use mathlib.Core.Logic.{_≢_}
 use mathlib.Core.Bool.{true}
 use mathlib.Core.List.{List, [], _∷_, _++_, map}
 use Prim.Native.Nat.{ℕ, zero, suc, _+_, _*_, _<_, _≤_}
-use lib.ListN.{length, getD, take, replicate}
+use lib.ListN.{length, getD, replicate}
 use lib.IntN.{ℤ, pos, _*ℤ_}
 use Rattle.protocol.specs.declared.Settings.{Settings}
 use Rattle.protocol.specs.declared.Session.{Session}
 use Rattle.protocol.specs.declared.Parts.{Parts}
 use Rattle.protocol.specs.declared.Verdict.{Verdict}
 use Rattle.protocol.specs.declared.Verdict.the-variants as Says
-use Rattle.protocol.specs.Layout.{roundCells, treeRoundCells, treeChallenges, leafCells, exponentCount}
+use Rattle.protocol.specs.Element.{valueRow}
+use Rattle.protocol.specs.Layout.{keyCells, roundCells, treeRoundCells, treeChallenges, leafCells, exponentCount}
 use Rattle.protocol.specs.Inputs.{Valid, Below, Within}
 use Rattle.protocol.specs.Settings.{cells}
 use Rattle.protocol.specs.Transcript.{Accepted}
+use Rattle.protocol.specs.Rows.{keyRow, together, AllAccepted}
 use Rattle.protocol.specs.Session as Verifier
-use Rattle.protocol.specs.Tree.{nodes, leaves, challenge, path, foldTo, leaf, rootVector, growth, growthLimit}
+use Rattle.protocol.specs.Tree.{nodes, leaves, challenge, rowPath, foldTo, leaf, rootVector, growth, growthLimit}
 use Rattle.protocol.specs.Judge.{slack, Opens}
 use Rattle.protocol.specs.Calls as Calls
 use Rattle.protocol.specs.Text as Text
@@ -184,12 +186,13 @@ hear n a = record { numbers = a .numbers ++ (n ∷ []); commitment = a .commitme
 unfoldable pub hearCommitment : List ℕ → Heard → Heard
 hearCommitment c a = record { numbers = a .numbers; commitment = c; polynomial = a .polynomial; rounds = a .rounds; last = a .last; verdict = a .verdict }
 
-unfoldable pub hearPolynomial : ℕ → List (List ℕ) → Heard → Heard
-hearPolynomial d p a = record {
+-- item by item, in each row by row
+unfoldable pub hearPolynomial : Settings → List (List ℕ) → Heard → Heard
+hearPolynomial S p a = record {
   numbers = a .numbers;
   commitment = a .commitment;
   polynomial = p;
-  rounds = a .rounds ++ take d (getD p 0 []) ++ take d (getD p 1 []) ++ take d (getD p 2 []);
+  rounds = a .rounds ++ together S (getD p 0 []) ++ together S (getD p 1 []) ++ together S (getD p 2 []);
   last = a .last;
   verdict = a .verdict;
 }
@@ -210,7 +213,7 @@ step S E Step.starts h a =
     record { held = backRecord Record.ours (x .next) h; heard = hear (x .refusal) a }
 step S E Step.proves h a =
     let x = Calls.roundAnswer S (h .folds) (h .key) (h .message) in
-    record { held = h; heard = hearPolynomial (S .degree) (x .elements) (hear (x .refusal) a) }
+    record { held = h; heard = hearPolynomial S (x .elements) (hear (x .refusal) a) }
 step S E Step.checks h a =
     let x = Verifier.round (h .session) (a .polynomial) (getD E (h .folds) 0) in
     record { held = backRecord Record.ours (x .next) h; heard = hearVerdict (x .verdict) (hear (x .refusal) a) }
@@ -267,8 +270,8 @@ pub record SameAsWhole (S : Settings) (G : List ℕ) (M : List ℤ) (E rounds : 
 pub record OpeningClaim (S : Settings) (G : List ℕ) (M : List ℤ) (E rounds : List ℕ) : Type 0 where
   pub not-refused : Calls.openingAnswer S G M E rounds .refusal ≡ 0
   pub says-accepted : Calls.openingAnswer S G M E rounds .verdict ≡ Says.Accepted
-  pub is-accepted : Accepted S G (record {
-    commitment = Calls.openingAnswer S G M E rounds .commitment;
+  pub is-accepted : AllAccepted S G (record {
+    commitment = together S (Calls.openingAnswer S G M E rounds .commitment);
     rounds = Calls.openingRoundsExit S G M E rounds;
     challenges = E;
     last = Calls.openingAnswer S G M E rounds .last;
@@ -284,7 +287,7 @@ pub record FullTree (S : Settings) (G C rounds E : List ℕ) (finals : List ℤ)
   pub challenges-below : Below (exponentCount S) (treeChallenges S) E
   pub finals-long : length finals ≡ leafCells S
   pub different : (k : ℕ) → k < nodes S → (challenge E k 0 ≢ challenge E k 1) × (challenge E k 0 ≢ challenge E k 2) × (challenge E k 1 ≢ challenge E k 2)
-  pub accepted : (j : ℕ) → j < leaves S → Accepted S G (path S C rounds E finals j)
+  pub accepted : (r : ℕ) → r < S .rows → (j : ℕ) → j < leaves S → Accepted S (keyRow S G r) (rowPath S C rounds E finals r j)
 
 -- PROTOCOL 5.7: every leaf is what m folds to along its path; nothing is asked of how large m is
 pub record FoldsOf (S : Settings) (E : List ℕ) (finals m : List ℤ) : Type 0 where
@@ -296,7 +299,7 @@ pub record ExtractionClaim (S : Settings) (G C rounds E : List ℕ) (finals w : 
   pub not-refused : Calls.extractRefusal S C G rounds E finals w ≡ 0
   pub is-root-vector : Calls.extractExit S C G rounds E finals w ≡ rootVector S E finals
   pub in-bound : Within (growth S) (cells S) (Calls.extractExit S C G rounds E finals w)
-  pub opens : Opens S G C (slack S) (Calls.extractExit S C G rounds E finals w)
+  pub opens : (r : ℕ) → r < S .rows → Opens S (keyRow S G r) (valueRow C r) (slack S) (Calls.extractExit S C G rounds E finals w)
   pub judge-says-yes : Calls.judgeAnswer S C (slack S) G (Calls.extractExit S C G rounds E finals w) ≡ record { refusal = 0; yes = true }
   pub exact : (m : List ℤ) → FoldsOf S E finals m → Calls.extractExit S C G rounds E finals w ≡ map (λ x. pos (slack S) *ℤ x) m
 
@@ -309,4 +312,4 @@ pub record Claim (S : Settings) (G : List ℕ) : Type 0 where
       → ExtractionClaim S G C rounds E finals w
 
 abbrev pub Demand3 : Type 0
-Demand3 = (S : Settings) (G : List ℕ) → Valid S → Below (S .modulus) (cells S) G → Claim S G
+Demand3 = (S : Settings) (G : List ℕ) → Valid S → Below (S .modulus) (keyCells S) G → Claim S G

@@ -15,11 +15,12 @@
 --   coefficients d a        the d coefficients of a
 --   reduced q d a           the d coefficients of a, modulo q
 --   width                   passed on from Layout
+--   valueRow C r            row r of what is passed by value for each row
 --   zeros n, signedZeros n  n zeros
 --   padded, paddedSigned    an element that is passed by value: its coefficients, then zeros
 use mathlib.Core.List.{List, _++_}
 use Prim.Native.Nat.{ℕ, zero, suc, _+_, _*_, _-_, _/_, _%_}
-use lib.ListN.{getD, replicate}
+use lib.ListN.{getD, drop, replicate}
 use lib.IntN.{ℤ, pos, negsuc, negℤ, _+ℤ_, _*ℤ_}
 use Rattle.protocol.specs.Basic.{sum, tabulate}
 unfoldable pub use Rattle.protocol.specs.Layout.{width}
@@ -80,6 +81,10 @@ coefficients d a = tabulate d a
 
 unfoldable pub reduced : ℕ → ℕ → Element → List ℕ
 reduced q d a = tabulate d (λ k. modulo q (a k))
+
+-- PROTOCOL 8.1: each row has the places of an element, and what stands behind them is not read
+unfoldable pub valueRow : List ℕ → ℕ → List ℕ
+valueRow C r = drop (r * width) C
 
 unfoldable pub zeros : ℕ → List ℕ
 zeros n = replicate n 0

@@ -9,6 +9,7 @@ use Prim.Native.Nat.{ℕ, _%_, _^_, _<_, _≤_}
 use lib.ListN.{length, getD}
 use lib.IntN.{ℤ, pos, natAbs}
 use Rattle.protocol.specs.declared.Settings.{Settings}
+use Rattle.protocol.specs.Layout.{rowsMost}
 use Rattle.protocol.specs.Settings.{transformModulus, modulusMost}
 
 -- PROTOCOL 1.1; the degree is 2^log, and the largest one has one modulus
@@ -24,6 +25,8 @@ pub record Valid (S : Settings) : Type 0 where
   pub modulus-most : S .modulus ≤ modulusMost
   pub bound-least : 1 ≤ S .bound
   pub bound-most : S .bound ≤ 127
+  pub rows-least : 1 ≤ S .rows
+  pub rows-most : S .rows ≤ rowsMost
 
 pub record Below (m n : ℕ) (t : List ℕ) : Type 0 where
   pub long : length t ≡ n

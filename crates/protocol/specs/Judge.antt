@@ -5,7 +5,7 @@
 --   scaledCommitment S C c   c times the commitment, modulo q
 --   combination S key w      the sum of w_i·G_i, modulo q
 --   opens S key C c w        are they equal, as a test; `Opens` is the same as a statement
---   judged S key C c w       what the judge says
+--   judged S key C c w       what the judge says of all rows, C being a commitment by value and key a key of all rows
 use mathlib.Core.Bool.{Bool, _&&_}
 use mathlib.Core.List.{List}
 use mathlib.Core.Path.{_≡_}
@@ -15,9 +15,10 @@ use lib.IntN.{ℤ, pos}
 use Rattle.protocol.specs.declared.Settings.{Settings}
 use Rattle.protocol.specs.Basic.{every}
 use Rattle.protocol.specs.CommonDivisor.{greatestCommonDivisor}
-use Rattle.protocol.specs.Element.{modulo, residue, times, signedAt, residueAt}
+use Rattle.protocol.specs.Element.{modulo, residue, times, signedAt, residueAt, valueRow}
 use Rattle.protocol.specs.Settings.{size, allWithin}
 use Rattle.protocol.specs.Opening.{inner}
+use Rattle.protocol.specs.Rows.{keyRow}
 use Rattle.protocol.specs.Tree.{growth}
 
 -- PROTOCOL 6: a factor in common with q would open commitments that have nothing behind them
@@ -41,6 +42,6 @@ opens S key C c w = every (S .degree) (λ k. eqb (scaledCommitment S C c k) (com
 abbrev pub Opens : Settings → List ℕ → List ℕ → ℕ → List ℤ → Type 0
 Opens S key C c w = (k : ℕ) → k < S .degree → scaledCommitment S C c k ≡ combination S key w k
 
--- PROTOCOL 6: the equation and the growth bound
+-- PROTOCOL 6: the equation in every row, and the growth bound
 unfoldable pub judged : Settings → List ℕ → List ℕ → ℕ → List ℤ → Bool
-judged S key C c w = opens S key C c w && allWithin (growth S) w
+judged S key C c w = every (S .rows) (λ r. opens S (keyRow S key r) (valueRow C r) c w) && allWithin (growth S) w

@@ -4,6 +4,7 @@ pub mod Element
 pub mod Settings
 pub mod Opening
 pub mod Transcript
+pub mod Rows
 pub mod Session
 pub mod Tree
 pub mod Nodes
@@ -22,3 +23,4 @@ pub mod Demand3
 pub mod Performed
 pub mod HonestTree
 pub mod ProveVerify
+pub mod Weights

@@ -14,7 +14,7 @@
 --   readValues                 the values of lines at these spots, one after the other
 --   settingsOf vs              the settings whose values are vs
 --   readSettings text          the values of the lines that every text begins with, and the bytes behind them
---   begunWith o                the settings of what was read; four zeros where nothing was
+--   begunWith o                the settings of what was read; five zeros where nothing was
 --   begunAnswer text           the settings that a text begins with, or a first look's answer where they are not allowed
 use mathlib.Core.Bool.{Bool, true, false}
 use mathlib.Core.List.{List, [], _∷_}
@@ -103,6 +103,7 @@ settingsOf vs = record {
   depth = unsigned narrowLimit (getD vs 1 (pos 0));
   modulus = unsigned valueLimit (getD vs 2 (pos 0));
   bound = unsigned narrowLimit (getD vs 3 (pos 0));
+  rows = unsigned narrowLimit (getD vs 4 (pos 0));
 }
 
 unfoldable pub readSettings : List ℕ → Option (List ℤ × List ℕ)

@@ -13,7 +13,7 @@ use mathlib.Core.Path.{_≡_}
 use mathlib.Core.Logic.{_≢_}
 use mathlib.Core.Bool.{true}
 use mathlib.Core.List.{List, [], _∷_, map}
-use Prim.Native.Nat.{ℕ, _+_, _*_, _≤_}
+use Prim.Native.Nat.{ℕ, _+_, _*_, _<_, _≤_}
 use lib.ListN.{length, getD, replicate}
 use lib.IntN.{ℤ, pos, _*ℤ_}
 use Rattle.protocol.specs.declared.Settings.{Settings}
@@ -30,10 +30,11 @@ use Rattle.protocol.specs.declared.Judged.{Judged}
 use Rattle.protocol.specs.declared.Loaded.{Loaded}
 use Rattle.protocol.specs.declared.Written.{Written}
 use Rattle.protocol.specs.declared.Verdict.the-variants as Says
-use Rattle.protocol.specs.Layout.{roundCells, exponentCount}
+use Rattle.protocol.specs.Layout.{keyCells, roundCells, exponentCount}
 use Rattle.protocol.specs.Inputs.{Valid, Below, Within}
 use Rattle.protocol.specs.Settings.{cells}
-use Rattle.protocol.specs.Transcript.{Accepted}
+use Rattle.protocol.specs.Element.{valueRow}
+use Rattle.protocol.specs.Rows.{keyRow, together, AllAccepted}
 use Rattle.protocol.specs.Session as Verifier
 use Rattle.protocol.specs.Tree.{growth, growthLimit}
 use Rattle.protocol.specs.Judge.{slack, Opens}
@@ -101,7 +102,7 @@ pub data Performs (S : Settings) (E : List ℕ) : Step → Held → Heard → St
       → Performs S E Step.starts h a (record { held = backRecord Record.ours (r .next) h; heard = hear (r .refusal) a })
   proves : {h : Held} {a : Heard} (r : Polynomial)
       → r ≡ Calls.roundAnswer S (h .folds) (h .key) (h .message)
-      → Performs S E Step.proves h a (record { held = h; heard = hearPolynomial (S .degree) (r .elements) (hear (r .refusal) a) })
+      → Performs S E Step.proves h a (record { held = h; heard = hearPolynomial S (r .elements) (hear (r .refusal) a) })
   checks : {h : Held} {a : Heard} (r : Moved)
       → r ≡ Verifier.round (h .session) (a .polynomial) (getD E (h .folds) 0)
       → Performs S E Step.checks h a (record { held = backRecord Record.ours (r .next) h; heard = hearVerdict (r .verdict) (hear (r .refusal) a) })
@@ -135,14 +136,14 @@ pub record SameAsAnswered (S : Settings) (G : List ℕ) (r : Opened) (key′ : L
 pub record OpeningPerformed (S : Settings) (G : List ℕ) (M : List ℤ) (E : List ℕ) (r : Opened) (key′ : List ℕ) (message′ : List ℤ) (rounds′ : List ℕ) : Type 0 where
   pub not-refused : r .refusal ≡ 0
   pub says-accepted : r .verdict ≡ Says.Accepted
-  pub is-accepted : Accepted S G (record { commitment = r .commitment; rounds = rounds′; challenges = E; last = r .last })
+  pub is-accepted : AllAccepted S G (record { commitment = together S (r .commitment); rounds = rounds′; challenges = E; last = r .last })
   pub by-moves : (s : Session) (st : State) → Performance S E (moves (S .depth)) (begun M G s) st → SameAsAnswered S G r key′ message′ rounds′ st
 
 -- n and w′ are what a call of the extractor answered and left; j is what a call of the judge answered
 pub record ExtractionPerformed (S : Settings) (G C E : List ℕ) (finals : List ℤ) (n : ℕ) (w′ : List ℤ) : Type 0 where
   pub not-refused : n ≡ 0
   pub in-bound : Within (growth S) (cells S) w′
-  pub opens : Opens S G C (slack S) w′
+  pub opens : (r : ℕ) → r < S .rows → Opens S (keyRow S G r) (valueRow C r) (slack S) w′
   pub judge-says-yes : (j : Judged) → j ≡ Calls.judgeAnswer S C (slack S) G w′ → j ≡ record { refusal = 0; yes = true }
   pub exact : (m : List ℤ) → FoldsOf S E finals m → w′ ≡ map (λ x. pos (slack S) *ℤ x) m
 
@@ -155,4 +156,4 @@ pub record PerformedClaim (S : Settings) (G : List ℕ) : Type 0 where
       → ExtractionPerformed S G C E finals n w′
 
 abbrev pub PerformedDemand3 : Type 0
-PerformedDemand3 = (S : Settings) (G : List ℕ) → Valid S → Below (S .modulus) (cells S) G → PerformedClaim S G
+PerformedDemand3 = (S : Settings) (G : List ℕ) → Valid S → Below (S .modulus) (keyCells S) G → PerformedClaim S G

@@ -24,7 +24,8 @@ use Rattle.protocol.specs.declared.Verified.{Verified}
 use Rattle.protocol.specs.declared.Verdict.the-variants.{Silent, Accepted as Accepts, Rejected as Rejects}
 use Rattle.protocol.specs.declared.Verified.the-variants.{Accepted, Rejected, Refused}
 use Rattle.protocol.specs.Basic.{choose, first, granted}
-use Rattle.protocol.specs.Transcript.{Transcript, accepted, transcriptOf}
+use Rattle.protocol.specs.Transcript.{Transcript}
+use Rattle.protocol.specs.Rows.{allAccepted, transcriptsOf}
 use Rattle.protocol.specs.Session.{verdict}
 use Rattle.protocol.specs.Text.{Tables, lineFeed, textLimit, bytes, decimal, textOf, linesOf, settingsIn, tablesIn, textRefusal, outputRefusal}
 use Rattle.protocol.specs.Text.{written, overwritten}
@@ -46,7 +47,7 @@ unfoldable pub printed : Transcript → Tables
 printed T = record { key = []; message = []; commitment = T .commitment; rounds = T .rounds; challenges = T .challenges; last = T .last }
 
 unfoldable pub proofText : Settings → Tables → List ℕ
-proofText S t = textOf S provePrints (printed (transcriptOf S (t .key) (t .message) (t .challenges)))
+proofText S t = textOf S provePrints (printed (transcriptsOf S (t .key) (t .message) (t .challenges)))
 
 unfoldable pub proveText : List ℕ → List ℕ
 proveText text = proofText (settingsIn (linesOf text)) (tablesIn (linesOf text))
@@ -67,7 +68,7 @@ unfoldable pub transcriptIn : Tables → Transcript
 transcriptIn t = record { commitment = t .commitment; rounds = t .rounds; challenges = t .challenges; last = t .last }
 
 unfoldable pub tablesAccepted : Settings → Tables → Bool
-tablesAccepted S t = accepted S (t .key) (transcriptIn t)
+tablesAccepted S t = allAccepted S (t .key) (transcriptIn t)
 
 unfoldable pub verifyRefusal : List ℕ → ℕ
 verifyRefusal text = textRefusal verifyReads true text

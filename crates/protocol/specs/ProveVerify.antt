@@ -8,22 +8,23 @@
 --   ProveVerify          that, for every text that `prove` does not refuse: as a call on text, and as a program
 use mathlib.Core.Path.{_≡_}
 use mathlib.Core.Bool.{true}
-use mathlib.Core.List.{List, [], _∷_, _++_, map}
+use mathlib.Core.List.{List, [], _++_, map}
 use Prim.Native.Nat.{ℕ, _+_, _<_, _≤_}
 use lib.ListN.{length, take, drop}
 use lib.IntN.{pos}
 use Rattle.protocol.specs.declared.Settings.{Settings}
 use Rattle.protocol.specs.declared.Verified.the-variants.{Accepted}
-use Rattle.protocol.specs.Settings.{size}
-use Rattle.protocol.specs.Transcript.{Transcript, transcriptOf}
-use Rattle.protocol.specs.Text.{Tables, textLimit, names, linesText, shape, settingsShape, block, blockLines, textOf, linesOf, settingsIn, tablesIn}
+use Rattle.protocol.specs.Layout.{keyItems}
+use Rattle.protocol.specs.Transcript.{Transcript}
+use Rattle.protocol.specs.Rows.{transcriptsOf}
+use Rattle.protocol.specs.Text.{Tables, textLimit, names, linesText, shape, settingsShape, settingsValues, block, blockLines, textOf, linesOf, settingsIn, tablesIn}
 use Rattle.protocol.specs.Programs.{verifyReads, proveRefusal, proveAnswer, proveExit, proveOutput, verifyRefusal, verifyAnswer}
 
 unfoldable pub keyLines : Settings → List ℕ → List ℕ
-keyLines S key = linesText (blockLines (block (shape 1 true (size S) (S .degree)) (map pos key)))
+keyLines S key = linesText (blockLines (block (shape 1 true (keyItems S) (S .degree)) (map pos key)))
 
 unfoldable pub headLength : Settings → ℕ
-headLength S = length (names ++ linesText (blockLines (block settingsShape (pos (S .degree) ∷ pos (S .depth) ∷ pos (S .modulus) ∷ pos (S .bound) ∷ []))))
+headLength S = length (names ++ linesText (blockLines (block settingsShape (settingsValues S))))
 
 unfoldable pub withKey : Settings → List ℕ → List ℕ → List ℕ
 withKey S key text = take (headLength S) text ++ (keyLines S key ++ drop (headLength S) text)
@@ -40,7 +41,7 @@ module _ (text listing : List ℕ) where
 
   -- with the key it may be too long to be read: then refusal 1, and no other
   pub record Accepts : Type 0 where
-    pub is-text : withKey S (t .key) listing ≡ textOf S verifyReads (keyed (t .key) (transcriptOf S (t .key) (t .message) (t .challenges)))
+    pub is-text : withKey S (t .key) listing ≡ textOf S verifyReads (keyed (t .key) (transcriptsOf S (t .key) (t .message) (t .challenges)))
     pub accepted : length (withKey S (t .key) listing) ≤ textLimit → verifyAnswer (withKey S (t .key) listing) ≡ Accepted
     pub too-long : textLimit < length (withKey S (t .key) listing) → verifyRefusal (withKey S (t .key) listing) ≡ 1
 

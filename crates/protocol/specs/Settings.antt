@@ -2,12 +2,13 @@
 --
 --   transformModulus                    12289: the modulus at which the largest degree is allowed
 --   modulusMost                         the largest modulus
---   degreeAllowed S .. boundAllowed S   is d, L, q, B allowed
---   settingsRefusal S                   refusals 3 to 6
+--   degreeAllowed S .. rowsAllowed S    is d, L, q, B, the number of rows allowed
+--   settingsRefusal S                   refusals 3 to 6, and 16
 --   size S, cells S                     passed on from Layout
 --   half S                              the inverse of 2 modulo q
 --   hasLength n t                       has the table t exactly n entries (refusal 7)
 --   allBelow S t, residueElement S a    are the numbers of a table, of an element by value, residues: below q (refusal 8)
+--   residueRows S C                     are those of an element of each row by value
 --   allWithin b t                       are the numbers of a table from −b to b (refusal 9)
 --   exponent S e, exponents S t         is e, is every number of a table, an exponent (refusal 10)
 use mathlib.Core.Bool.{Bool, _&&_, _||_}
@@ -18,7 +19,8 @@ use lib.ListN.{length, getD}
 use lib.IntN.{ℤ}
 use Rattle.protocol.specs.declared.Settings.{Settings}
 use Rattle.protocol.specs.Basic.{every, all, among, within, first, unless}
-use Rattle.protocol.specs.Layout.{exponentCount}
+use Rattle.protocol.specs.Layout.{exponentCount, rowsMost}
+use Rattle.protocol.specs.Element.{valueRow}
 unfoldable pub use Rattle.protocol.specs.Layout.{size, cells}
 
 -- PROTOCOL 1.1: 48·2^8 + 1, a prime
@@ -45,8 +47,19 @@ modulusAllowed S = eqb (S .modulus % 2) 1 && leb 3 (S .modulus) && leb (S .modul
 unfoldable pub boundAllowed : Settings → Bool
 boundAllowed S = leb 1 (S .bound) && leb (S .bound) 127
 
+-- PROTOCOL 1.1
+unfoldable pub rowsAllowed : Settings → Bool
+rowsAllowed S = leb 1 (S .rows) && leb (S .rows) rowsMost
+
 unfoldable pub settingsRefusal : Settings → ℕ
-settingsRefusal S = first (unless 3 (degreeAllowed S) ∷ unless 4 (depthAllowed S) ∷ unless 5 (modulusAllowed S) ∷ unless 6 (boundAllowed S) ∷ [])
+settingsRefusal S =
+    first
+    (unless 3 (degreeAllowed S)
+    ∷ unless 4 (depthAllowed S)
+    ∷ unless 5 (modulusAllowed S)
+    ∷ unless 6 (boundAllowed S)
+    ∷ unless 16 (rowsAllowed S)
+    ∷ [])
 
 -- PROTOCOL 1.1: twice this is q + 1
 unfoldable pub half : Settings → ℕ
@@ -62,6 +75,10 @@ allBelow S t = all (λ x. ltb x (S .modulus)) t
 
 unfoldable pub residueElement : Settings → List ℕ → Bool
 residueElement S a = every (S .degree) (λ k. ltb (getD a k 0) (S .modulus))
+
+-- places past the rows are not looked at
+unfoldable pub residueRows : Settings → List ℕ → Bool
+residueRows S C = every (S .rows) (λ r. residueElement S (valueRow C r))
 
 -- PROTOCOL 7.1, refusal 9: b is B before any fold, and larger later
 unfoldable pub allWithin : ℕ → List ℤ → Bool

@@ -17,7 +17,7 @@
 --   settingsShape, shapes S P     the shape of part 0, and the shapes of all parts of a text
 --   spotAt b p, spots b           the spot of line p of a part, and the spots of all its lines
 --   wanted S P                    the spots of a whole text, in order
---   contents S t                  the values of parts 0 to 6
+--   settingsValues S, contents S t  the values of part 0, and of parts 0 to 6
 --   Block, block, blocks S P t    a part's shape with its values; all parts of the tables t
 --   blockLines b                  the lines of a part
 --   textOf S P t                  the text of the tables t
@@ -38,14 +38,14 @@
 --   parsed text, linesOf text     the lines of values, or nothing where a line is not of the stated shape
 --   spotsOf ls, valuesOf ls       the spots and the values of lines
 --   sameSpot, sameSpots           are two spots the same; are these the same spots in the same order
---   wellFormed text               is every line of the stated shape, and are the first four value lines settings
+--   wellFormed text               is every line of the stated shape, and are the first five value lines settings
 --   unsigned most z               z, or one past `most` where z is not from 0 to `most`
 --   column p                      the values of part p
 --   unsignedColumn most p         the same as numbers from 0 on
 --   settingIn most, settingsIn    the value of a settings line, and the settings
 --   tablesIn ls                   the six tables in the lines
 -- The calls
---   noSettings                    four zeros
+--   noSettings                    five zeros
 --   loaded N text                 the reader's answer for a refusal N
 --   lookRefusal, lookAnswer       a first look at a text's settings
 --   entriesRefusal                refusals 8, 9 and 10, which reader and writer share
@@ -72,7 +72,7 @@ use Rattle.protocol.specs.declared.Loaded.{Loaded}
 use Rattle.protocol.specs.declared.Written.{Written}
 use Rattle.protocol.specs.declared.Number.{Number}
 use Rattle.protocol.specs.declared.Number.the-variants.{Value, Refused}
-use Rattle.protocol.specs.Layout.{roundItems}
+use Rattle.protocol.specs.Layout.{keyItems, roundItems}
 use Rattle.protocol.specs.Basic.{least, tabulate, all, among, choose, within, first, unless, granted}
 use Rattle.protocol.specs.Settings.{settingsRefusal, size, hasLength, allBelow, exponents, allWithin}
 
@@ -168,19 +168,19 @@ pub record Shape : Type 0 where
 unfoldable pub shape : ℕ → Bool → ℕ → ℕ → Shape
 shape part there items places = record { part = part; items = choose there items 0; places = places }
 
--- PROTOCOL 9.2: one item of four places, in every text
+-- PROTOCOL 9.2: one item of five places, in every text
 unfoldable pub settingsShape : Shape
-settingsShape = shape 0 true 1 4
+settingsShape = shape 0 true 1 5
 
--- PROTOCOL 9.2: the items of a part are elements and their places coefficients, three elements for each round; a challenge is
+-- PROTOCOL 9.2: the items of a part are elements and their places coefficients, three elements for each round and row; a challenge is
 -- an item of one place.
 unfoldable pub shapes : Settings → Parts → List Shape
 shapes S P =
     settingsShape
-    ∷ shape 1 (P .key) (size S) (S .degree)
+    ∷ shape 1 (P .key) (keyItems S) (S .degree)
     ∷ shape 2 (P .message) (size S) (S .degree)
-    ∷ shape 3 (P .commitment) 1 (S .degree)
-    ∷ shape 4 (P .rounds) (roundItems S) (S .degree)
+    ∷ shape 3 (P .commitment) (S .rows) (S .degree)
+    ∷ shape 4 (P .rounds) (S .rows * roundItems S) (S .degree)
     ∷ shape 5 (P .challenges) (S .depth) 1
     ∷ shape 6 (P .last) 1 (S .degree)
     ∷ []
@@ -199,9 +199,12 @@ spots b = tabulate (shapeSize b) (spotAt b)
 unfoldable pub wanted : Settings → Parts → List Spot
 wanted S P = flatMap spots (shapes S P)
 
+unfoldable pub settingsValues : Settings → List ℤ
+settingsValues S = pos (S .degree) ∷ pos (S .depth) ∷ pos (S .modulus) ∷ pos (S .bound) ∷ pos (S .rows) ∷ []
+
 unfoldable pub contents : Settings → Tables → List (List ℤ)
 contents S t =
-    (pos (S .degree) ∷ pos (S .depth) ∷ pos (S .modulus) ∷ pos (S .bound) ∷ [])
+    settingsValues S
     ∷ map pos (t .key)
     ∷ t .message
     ∷ map pos (t .commitment)
@@ -363,6 +366,7 @@ settingsIn ls = record {
   depth = settingIn narrowLimit ls 1;
   modulus = settingIn valueLimit ls 2;
   bound = settingIn narrowLimit ls 3;
+  rows = settingIn narrowLimit ls 4;
 }
 
 unfoldable pub tablesIn : List Line → Tables
@@ -379,9 +383,9 @@ tablesIn ls = record {
 
 -- PROTOCOL 7.4
 unfoldable pub noSettings : Settings
-noSettings = record { degree = 0; depth = 0; modulus = 0; bound = 0 }
+noSettings = record { degree = 0; depth = 0; modulus = 0; bound = 0; rows = 0 }
 
--- refusals 1 and 2 over the whole text, then 3 to 6
+-- refusals 1 and 2 over the whole text, then 3 to 6 and 16
 unfoldable pub lookRefusal : List ℕ → ℕ
 lookRefusal text =
     first
@@ -393,7 +397,7 @@ lookRefusal text =
 unfoldable pub loaded : ℕ → List ℕ → Loaded
 loaded refusal text = record { refusal = refusal; settings = granted refusal (settingsIn (linesOf text)) noSettings }
 
--- a caller learns d and L by it, and then lends tables of exactly their lengths
+-- a caller learns d, L and the number of rows by it, and then lends tables of exactly their lengths
 unfoldable pub lookAnswer : List ℕ → Loaded
 lookAnswer text = loaded (lookRefusal text) text
 

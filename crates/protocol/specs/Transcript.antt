@@ -1,4 +1,4 @@
--- PROTOCOL 3: what a verifier checks, when a transcript is accepted, and why one is rejected.
+-- PROTOCOL 3: what a verifier checks in one row, and when the transcript of one row is accepted. Rows has all rows.
 --
 --   Transcript              commitment, round elements, challenges, final element
 --   doubled S c0 c2         2·(c0 + c2) modulo q
@@ -13,17 +13,16 @@
 --   claimAfter S T t        the claim after t rounds
 --   holdsAt, closes         does round t + 1 hold; is the last equation met
 --   accepted S key T        is a transcript accepted, as a test; `Accepted` is the same as a statement
---   Cause, cause            why it is rejected: the first round that fails, else the bound, else the last equation
 --   transcriptOf            a message's transcript
 use mathlib.Core.Path.{_≡_}
-use mathlib.Core.Bool.{Bool, true, false, _&&_, not}
+use mathlib.Core.Bool.{Bool, _&&_}
 use mathlib.Core.List.{List}
 use Prim.Native.Nat.{ℕ, zero, suc, _+_, _*_, _^_, _<_, _≤_}
-use lib.Dec.{eqb, ltb}
+use lib.Dec.{eqb}
 use lib.ListN.{getD}
 use lib.IntN.{ℤ, pos, _+ℤ_, _*ℤ_, natAbs}
 use Rattle.protocol.specs.declared.Settings.{Settings}
-use Rattle.protocol.specs.Basic.{every, least, within}
+use Rattle.protocol.specs.Basic.{every, within}
 use Rattle.protocol.specs.Element.{Element, modulo, rotate, product, reduced, signed, residueAt}
 use Rattle.protocol.specs.Settings.{size, half}
 use Rattle.protocol.specs.Layout.{itemOf}
@@ -35,19 +34,6 @@ pub record Transcript : Type 0 where
   pub rounds : List ℕ
   pub challenges : List ℕ
   pub last : List ℤ
-
--- the rounds are counted from 1
-pub data Cause : Type 0 where
-  none : Cause
-  round : ℕ → Cause
-  bound : Cause
-  equation : Cause
-
--- PROTOCOL 3.5: at the end the bound comes before the equation; the example of 12.1 with final element 3 0 fails both
-unfoldable pub endCause : Bool → Bool → Cause
-endCause false met = Cause.bound
-endCause true false = Cause.equation
-endCause true true = Cause.none
 
 module _ (S : Settings) where
   open Settings S using (degree as d, depth as L, modulus as q, bound as B)
@@ -100,13 +86,6 @@ module _ (S : Settings) where
   -- PROTOCOL 3.4: every round, the bound, and the last equation
   unfoldable pub accepted : List ℕ → Transcript → Bool
   accepted key T = every L (holdsAt T) && (finalBounded (signed (T .last)) && closes key T)
-
-  -- how many rounds hold before the first that fails
-  unfoldable pub held : Transcript → ℕ
-  held T = least L (λ t. not (holdsAt T t))
-
-  unfoldable pub cause : List ℕ → Transcript → Cause
-  cause key T = elim (ltb (held T) L) [ true ↦ Cause.round (held T + 1) | false ↦ endCause (finalBounded (signed (T .last))) (closes key T) ]
 
 pub record Accepted (S : Settings) (key : List ℕ) (T : Transcript) : Type 0 where
   pub every-round : (t : ℕ) → t < S .depth → (k : ℕ) → k < S .degree → doubled S (element S T t 0) (element S T t 2) k ≡ getD (claimAfter S T t) k 0

@@ -1,5 +1,5 @@
 -- PROTOCOL 5: numbering, paths, s(a,b), μ, node vectors, growth.
--- Node k's round polynomial is elements 3k, 3k+1, 3k+2 of the flat table of rounds; its challenges are numbers 3k, 3k+1, 3k+2 of theirs.
+-- In a row, node k's round polynomial is elements 3k, 3k+1, 3k+2 of the flat table of rounds; its challenges are numbers 3k, 3k+1, 3k+2 of theirs.
 --
 --   child k j                   the children of node k, for j = 0, 1, 2
 --   parent k, place k           the node above node k, and which of its children k is
@@ -14,7 +14,7 @@
 --   growthFactor, growthLimit   8·d², 2^62
 --   nodes S, leaves S           passed on from Layout
 --   onPath S j t                the node that the path to leaf j meets after t steps
---   path S ..                   the path to leaf j, a transcript
+--   path S ..                   the path to leaf j in one row, a transcript; rowPath S .. r: that of row r of a tree
 --   leaf S finals j             the final element of leaf j; foldTo S E j m: what L folds of m by its path's challenges give
 --   vector S .. h k             the vector of node k, h steps above the leaves; rootVector S ..: that of the root
 --   growth S, growthAllowed S   (8·d²)^L·B, and is it at most 2^62 (refusal 14)
@@ -27,11 +27,12 @@ use lib.ListN.{getD}
 use lib.IntN.{ℤ, pos, negsuc, _+ℤ_, natAbs}
 use Rattle.protocol.specs.declared.Settings.{Settings}
 use Rattle.protocol.specs.Basic.{sum, least, tabulate, flat}
-use Rattle.protocol.specs.Element.{Element, one, power, rotate, product, plus, times, signed, signedAt, coefficients}
-use Rattle.protocol.specs.Layout.{itemOf, roundItems}
+use Rattle.protocol.specs.Element.{Element, one, power, rotate, product, plus, times, signed, signedAt, coefficients, valueRow}
+use Rattle.protocol.specs.Layout.{itemOf, roundItems, treeChallenges}
 unfoldable pub use Rattle.protocol.specs.Layout.{nodes, leaves}
 use Rattle.protocol.specs.Opening.{messageAfter, finalElement}
 use Rattle.protocol.specs.Transcript.{Transcript}
+use Rattle.protocol.specs.Rows.{rowItems}
 
 -- ---- numbering
 
@@ -137,6 +138,10 @@ module _ (S : Settings) where
   -- PROTOCOL 5.2
   unfoldable pub path : List ℕ → List ℕ → List ℕ → List ℤ → ℕ → Transcript
   path C rounds E finals j = record { commitment = C; rounds = pathRounds rounds j; challenges = pathChallenges E j; last = leaf finals j }
+
+  -- PROTOCOL 5.2: C is a commitment by value; a tree has three items for each node
+  unfoldable pub rowPath : List ℕ → List ℕ → List ℕ → List ℤ → ℕ → ℕ → Transcript
+  rowPath C rounds E finals r j = path (valueRow C r) (rowItems S (treeChallenges S) rounds r) E finals j
 
   -- PROTOCOL 5.7: what the leaf would be if m had been folded along its path
   unfoldable pub foldTo : List ℕ → ℕ → List ℤ → List ℤ

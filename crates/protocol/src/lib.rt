@@ -3,6 +3,12 @@
 // How many places an element has that is passed by value: `width` of the definitions.
 pub const WIDTH: usize = 128;
 
+// How many rows a key can have: `rowsMost` of the definitions.
+pub const ROWS: usize = 4;
+
+// How many places there are for an element of each row that is passed by value, WIDTH for each: `rowsWidth` of the definitions.
+pub const ROWS_WIDTH: usize = ROWS * WIDTH;
+
 // How many challenges a record holds, one for each round that there can be: `slots` of the definitions.
 pub const SLOTS: usize = 8;
 
@@ -25,6 +31,7 @@ pub struct Settings {
     pub depth: u32,
     pub modulus: Residue,
     pub bound: u32,
+    pub rows: u32,
 }
 
 // What a verifier says. `Silent` is the 0 of a refused call; a session's round that is met says `Holds`.
@@ -35,27 +42,28 @@ pub enum Verdict {
     Rejected,
 }
 
-// The record of a verifier (PROTOCOL 4.1).
+// The record of a verifier (PROTOCOL 4.1), with the claims of all rows.
 pub struct Session {
     pub settings: Settings,
     pub done: u32,
-    pub claim: [Residue; WIDTH],
+    pub claims: [Residue; ROWS_WIDTH],
     pub challenges: [u32; SLOTS],
     pub closed: bool,
 }
 
-// Every answer begins with the refusal's number, 0 where nothing is refused; then every other part is 0.
+// Every answer begins with the refusal's number, 0 where nothing is refused; then every other part is 0. What there is for each row
+// has room for four; the places past the rows are 0.
 
 // Commit.
 pub struct Committed {
     pub refusal: u32,
-    pub commitment: [Residue; WIDTH],
+    pub commitment: [Residue; ROWS_WIDTH],
 }
 
-// The prover's round (PROTOCOL 8.4): c0, c1 and c2.
+// The prover's round (PROTOCOL 8.4): c0, c1 and c2, each of all rows.
 pub struct Polynomial {
     pub refusal: u32,
-    pub elements: [[Residue; WIDTH]; 3],
+    pub elements: [[Residue; ROWS_WIDTH]; 3],
 }
 
 // The prover's end.
@@ -67,7 +75,7 @@ pub struct Ended {
 // The whole opening; its round elements are in the table lent for them.
 pub struct Opened {
     pub refusal: u32,
-    pub commitment: [Residue; WIDTH],
+    pub commitment: [Residue; ROWS_WIDTH],
     pub last: [i32; WIDTH],
     pub verdict: Verdict,
 }

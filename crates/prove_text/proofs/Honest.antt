@@ -1,13 +1,14 @@
 -- The transcript of an honest opening can be written: its tables have their lengths, so that only the length of its text and the output slice are left to test.
 --
---   commitment-front, last-front   commitment and final element stand first in what the opening gives
+--   commitment-flat   the commitment that the opening gives by value, as a table
+--   last-front        the final element stands first in what it gives
 --   given             the inputs of the opening, as the theorems have them
 --   honest-writable   the writer's core takes the tables of the transcript
 --   printed-by        what it promises for them
 use mathlib.Core.Path.{_≡_, refl, sym, ap, subst, _∙_}
 use mathlib.Core.Bool.{true, _&&_}
 use mathlib.Core.List.{List}
-use Prim.Native.Nat.{ℕ, _*_, _<_, _≤_}
+use Prim.Native.Nat.{ℕ, _<_, _≤_}
 use native.Mathlib.Nat as Nat
 use native.Mathlib.Omega.{arith}
 use lib.ListN.{length, take, length-append}
@@ -16,16 +17,20 @@ use lib.IntN.{ℤ}
 use Rattle.protocol.specs.declared.Settings.{Settings}
 use Rattle.protocol.specs.declared.Written.{Written}
 use Rattle.protocol.specs.Basic.{all, choose}
-use Rattle.protocol.specs.Element.{padded, paddedSigned}
+use Rattle.protocol.specs.Element.{paddedSigned}
 use Rattle.protocol.specs.Opening.{commitment, messageAfter, finalElement}
-use Rattle.protocol.specs.Transcript.{Transcript, transcriptOf}
+use Rattle.protocol.specs.Transcript.{Transcript}
+use Rattle.protocol.specs.Rows.{keyRow, atRows, together, transcriptsOf}
+use Rattle.protocol.specs.Layout.{itemCells, roundCells}
 use Rattle.protocol.specs.Settings.{allBelow}
-use Rattle.protocol.specs.Text.{Tables, valueLimit, shape, shapes, shapeSize, fits, textOf}
+use Rattle.protocol.specs.Text.{Tables, shape, shapes, shapeSize, fits, textOf}
 use Rattle.protocol.specs.Programs.{provePrints, printed}
-use Rattle.claims.proofs.Honest.{Given, modulus-positive}
-use Rattle.protocol.proofs.Inputs.{below-tested}
+use Rattle.protocol.specs.Inputs.{Below}
+use Rattle.claims.proofs.Honest.{Given, degree-positive, modulus-positive}
+use Rattle.claims.proofs.RowLaws.{commitments-together, commitments-below, tables-below}
+use Rattle.protocol.proofs.Inputs.{valid-settings, degree-most, below-tested}
 use Rattle.protocol.proofs.Tests.{and-intro}
-use Rattle.protocol.proofs.Ranges.{commitment-below, rounds-below, last-length}
+use Rattle.protocol.proofs.Ranges.{last-length}
 use Rattle.text_parts.specs.Parts.{partShape}
 use Rattle.text_parts.proofs.Exactly.{exact-fits}
 use Rattle.table_writer.specs.Tables.{Writable, Output}
@@ -38,7 +43,7 @@ module _ (S : Settings) (G : List ℕ) (M : List ℤ) (E rounds : List ℕ) (ok 
   given = record { settings = ok .settings; key = ok .key; message = ok .message; challenges = ok .challenges }
 
   abbrev T : Transcript
-  T = transcriptOf S G M E
+  T = transcriptsOf S G M E
 
   abbrev t : Tables
   t = printed T
@@ -47,54 +52,52 @@ module _ (S : Settings) (G : List ℕ) (M : List ℤ) (E rounds : List ℕ) (ok 
   pq = modulus-positive S (ok .settings)
 
   last-long : length (T .last) ≡ d
-  unfolding transcriptOf
+  unfolding transcriptsOf
   last-long = last-length S (messageAfter S E L M)
 
-  commitment-long : length (T .commitment) ≡ d
-  unfolding transcriptOf
-  commitment-long = commitment-below S pq G M .long
+  pd : 0 < d
+  pd = degree-positive S (ok .settings)
 
-  rounds-long : length (T .rounds) ≡ 3 * L * d
-  unfolding transcriptOf
-  rounds-long = rounds-below S pq E G M .long
+  commitment-residues : Below q (itemCells S) (T .commitment)
+  unfolding transcriptsOf
+  commitment-residues = commitments-below S pq pd G M
+
+  rounds-residues : Below q (roundCells S) (T .rounds)
+  unfolding transcriptsOf
+  rounds-residues = tables-below S pq (ok .settings .rows-least) pd E G M
 
   -- commitment and final element as the opening passes them by value
-  pub commitment-front : (r : List ℕ) → r ≡ padded d (commitment S G M) → (d ≤ length r) × (take d r ≡ T .commitment)
-  unfolding transcriptOf padded
-  commitment-front r e = (
-    omega (arith, ap length e ∙ length-append (commitment S G M) _, commitment-below S pq G M .long),
-    ap (take d) e ∙ take-at (commitment S G M) _ d (commitment-below S pq G M .long),
-  )
+  pub commitment-flat : (C : List ℕ) → C ≡ atRows S (λ r. commitment S (keyRow S G r) M) → together S C ≡ T .commitment
+  unfolding transcriptsOf
+  commitment-flat C e = ap (together S) e ∙ commitments-together S (ok .settings .rows-most) (degree-most S (ok .settings)) G M pd
 
   pub last-front : (r : List ℤ) → r ≡ paddedSigned d (finalElement S (messageAfter S E L M)) → (d ≤ length r) × (take d r ≡ T .last)
-  unfolding transcriptOf paddedSigned
+  unfolding transcriptsOf paddedSigned
   last-front r e = (
     omega (arith, ap length e ∙ length-append (finalElement S (messageAfter S E L M)) _, last-length S (messageAfter S E L M)),
     ap (take d) e ∙ take-at (finalElement S (messageAfter S E L M)) _ d (last-length S (messageAfter S E L M)),
   )
 
   fitting : fits S provePrints t ≡ true
-  unfolding partShape shapes shape shapeSize choose provePrints printed transcriptOf
+  unfolding partShape shapes shape shapeSize choose provePrints printed transcriptsOf
   fitting = exact-fits S provePrints t (record {
     key = sym (Nat.zero-mul d);
     message = sym (Nat.zero-mul d);
-    commitment = commitment-long ∙ sym (Nat.one-mul d);
-    rounds = rounds-long;
+    commitment = commitment-residues .long;
+    rounds = rounds-residues .long;
     challenges = ok .challenges .long ∙ sym (Nat.mul-one L);
     last = last-long ∙ sym (Nat.one-mul d);
   })
 
   residues : (allBelow S (t .key) && (allBelow S (t .commitment) && allBelow S (t .rounds))) ≡ true
-  unfolding printed transcriptOf allBelow all
-  residues = and-intro refl (and-intro (below-tested q _ (T .commitment) (commitment-below S pq G M)) (below-tested q _ (T .rounds) (rounds-below S pq E G M)))
+  unfolding printed transcriptsOf allBelow all
+  residues = and-intro refl (and-intro (below-tested q _ (T .commitment) commitment-residues) (below-tested q _ (T .rounds) rounds-residues))
 
   -- u is what stands in the tables
   module _ (u : Tables) (e : u ≡ t) where
     pub honest-writable : Writable S provePrints u
-    unfolding valueLimit
     honest-writable = record {
-      depth = ok .settings .depth-most;
-      modulus = ok .settings .modulus-most;
+      settings = valid-settings S (ok .settings);
       residues = ap (λ (x : Tables). allBelow S (x .key) && (allBelow S (x .commitment) && allBelow S (x .rounds))) e ∙ residues;
       fitting = ap (fits S provePrints) e ∙ fitting;
     }

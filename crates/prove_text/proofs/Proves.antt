@@ -3,28 +3,32 @@
 --   prove-refused    the answer for a text that is refused
 --   prove-done       and for one that is not
 --   openable         tables that were read and of which nothing is refused can be opened
+--   tables-few       a text with the lines that its settings ask for has room for its tables, and for the round elements
 --   lent-fitting     tables of the lengths that the settings ask for
 use mathlib.Core.Path.{_≡_, refl, sym, ap, _∙_}
 use mathlib.Core.Bool.{true}
 use mathlib.Core.List.{List, []}
-use Prim.Native.Nat.{ℕ, zero, suc, _*_}
+use Prim.Native.Nat.{ℕ, zero, suc, _*_, _≤_}
 use native.Mathlib.Nat as Nat
+use native.Mathlib.Omega.{arith}
 use borrow.Author.Tests.{eq-eqb}
 use lib.ListN.{length}
 use lib.IntN.{ℤ}
 use Rattle.protocol.specs.declared.Settings.{Settings}
 use Rattle.protocol.specs.declared.Written.{Written}
 use Rattle.protocol.specs.Basic.{choose, granted}
-use Rattle.protocol.specs.Layout.{roundCells}
+use Rattle.protocol.specs.Layout.{keyCells, roundCells}
 use Rattle.protocol.specs.Settings.{settingsRefusal, cells, hasLength, allBelow, exponent, exponents}
-use Rattle.protocol.specs.Text.{Tables, shape, shapes, shapeSize, fits, linesOf, settingsIn, tablesIn, entriesRefusal, textRefusal, outputRefusal, written, overwritten}
+use Rattle.protocol.specs.Text.{Tables, shape, shapes, shapeSize, fits, wanted, linesOf, spotsOf, sameSpots, settingsIn, tablesIn, lookRefusal, entriesRefusal, textRefusal, outputRefusal, written, overwritten}
 use Rattle.protocol.specs.Programs.{proveReads, proofText, proveText, proveRefusal, proveAnswer, proveExit}
 use Rattle.protocol.specs.Promises.{Proved}
 use Rattle.protocol.proofs.Tests.{and-split, first-zero, unless-zero}
 use Rattle.protocol.proofs.Refusals.{first-stops, first-passes, first-only}
 use Rattle.protocol.proofs.Inputs.{settings-valid, tested-below, tested-within}
-use Rattle.text_parts.specs.Parts.{partShape}
+use Rattle.text_parts.specs.Parts.{partShape, cellsRoom}
 use Rattle.text_parts.proofs.Exactly.{fits-exact, exact-fits}
+use Rattle.table_reader.proofs.Rooms.{rounds-few}
+use Rattle.table_writer.proofs.FewLines.{part-few}
 use Rattle.prove_text.specs.Printed.{Openable, proof, Printed}
 
 module _ (text out : List ℕ) where
@@ -70,8 +74,24 @@ module _ (S : Settings) (t : Tables) where
         rounds-long = long;
       }
 
+-- the numbers of the key, of the message and of the round elements
+pub record Few (S : Settings) : Type 0 where
+  pub key : keyCells S ≤ cellsRoom
+  pub message : cells S ≤ cellsRoom
+  pub rounds : roundCells S ≤ cellsRoom
+
+module _ (text : List ℕ) where
+  abbrev S : Settings
+  S = settingsIn (linesOf text)
+
+  pub tables-few : lookRefusal text ≡ 0 → sameSpots (spotsOf (linesOf text)) (wanted S proveReads) ≡ true → settingsRefusal S ≡ 0 → Few S
+  unfolding partShape shapes shape shapeSize choose proveReads cells
+  tables-few e same ok =
+      let key : keyCells S ≤ cellsRoom = part-few text proveReads e same 1 (omega arith) in
+      record { key = key; message = part-few text proveReads e same 2 (omega arith); rounds = rounds-few S ok key }
+
 -- key, message and challenges
-pub lent-fitting : (S : Settings) (G : List ℕ) (M : List ℤ) (E : List ℕ) → length G ≡ cells S → length M ≡ cells S → length E ≡ S .depth
+pub lent-fitting : (S : Settings) (G : List ℕ) (M : List ℤ) (E : List ℕ) → length G ≡ keyCells S → length M ≡ cells S → length E ≡ S .depth
     → fits S proveReads (record { key = G; message = M; commitment = []; rounds = []; challenges = E; last = [] }) ≡ true
 unfolding partShape shapes shape shapeSize choose proveReads cells
 lent-fitting S G M E key message challenges = exact-fits S proveReads _ (record {

@@ -1,25 +1,27 @@
 // The program `prove` as a call on text: its settings, its tables, the whole opening, and the text of the transcript.
 use protocol::Parts;
+use protocol::ROWS_WIDTH;
 use protocol::Residue;
 use protocol::SLOTS;
 use protocol::Settings;
 use protocol::TEXT_LIMIT;
 use protocol::Written;
 use text_parts::CELLS;
-use text_parts::ROUND_CELLS;
 ghost use mathlib.Core.Path.{_≡_};
 ghost use mathlib.Core.List.{[]};
 ghost use Prim.Native.Nat.{_≤_};
-ghost use lib.ListN.{length};
-ghost use Rattle.protocol.specs.Layout.{slots, roundCells};
-ghost use Rattle.protocol.specs.Text.{linesOf, settingsIn, lookRefusal};
+ghost use lib.ListN.{length, take};
+ghost use Rattle.protocol.specs.Basic.{Provided};
+ghost use Rattle.protocol.specs.Layout.{slots, itemCells};
+ghost use Rattle.protocol.specs.Rows.{together};
+ghost use Rattle.protocol.specs.Settings.{settingsRefusal};
 ghost use Rattle.protocol.specs.Programs.{proveReads, provePrints, proveOutput};
 ghost use Rattle.protocol.specs.Promises.{Proved};
-ghost use Rattle.text_parts.specs.Parts.{tablesOf, cellsRoom, roundCellsRoom};
+ghost use Rattle.text_parts.specs.Parts.{tablesOf, cellsRoom};
 ghost use Rattle.text_lines.specs.Header.{Begins};
 ghost use Rattle.table_reader.specs.Parts.{Lent};
 ghost use Rattle.table_writer.specs.Shown.{Shown, Within};
-ghost use Rattle.prove_text.specs.Printed.{Openable, Printed};
+ghost use Rattle.prove_text.specs.Printed.{Openable, Printed, RoundsLent};
 
 // The parts that the program reads, and those that it prints.
 fn reads() -> Parts
@@ -48,6 +50,16 @@ fn prints() -> Parts
     }
 }
 
+// A commitment by value as a table, with its rows one after the other at the front.
+fn flat(settings: Settings, commitment: [Residue; ROWS_WIDTH]) -> [Residue; ROWS_WIDTH]
+    ensures { λ r. ⌜ Provided (settingsRefusal settings ≡ 0) (take (itemCells settings) r ≡ together settings commitment) ⌝ }
+{
+    let mut table: [Residue; ROWS_WIDTH] = [0; ROWS_WIDTH];
+    let count = sizes::item_cells(settings);
+    slices::store_residues(settings, commitment, &mut table[..count]);
+    table
+}
+
 // The opening of tables of which nothing is refused, and its text.
 fn print_opening(
     settings: Settings,
@@ -62,7 +74,9 @@ fn print_opening(
 {
     let transcript = opening::opened(settings, key, message, challenges, rounds);
     let commitment = transcript.commitment;
+    let table = flat(settings, commitment);
     let last = transcript.last;
+    let item_cells = sizes::item_cells(settings);
     let degree = settings.degree as usize;
     let no_key = [0u64; 1];
     let no_message = [0i32; 1];
@@ -71,7 +85,7 @@ fn print_opening(
         prints(),
         &no_key[..0],
         &no_message[..0],
-        &commitment[..degree],
+        &table[..item_cells],
         rounds,
         challenges,
         &last[..degree],
@@ -91,7 +105,7 @@ fn prove_in(
     out: &mut [u8],
 ) -> Written
     requires { ⌜ Lent proveReads (now text) (tablesOf (now key) (now message) [] [] (now challenges) []) ⌝ }
-    requires { ⌜ (lookRefusal (now text) ≡ 0 → length (now rounds) ≡ roundCells (settingsIn (linesOf (now text)))) × Begins (now text) settings from ⌝ }
+    requires { ⌜ RoundsLent (now text) (now rounds) × Begins (now text) settings from ⌝ }
     ensures { λ r. ⌜ Proved (now (text .entry)) (now (out .entry)) r (now (out .exit)) ⌝ }
 {
     let mut no_commitment = [0u64; 1];
@@ -125,7 +139,7 @@ fn prove_within(
     rounds: &mut [Residue],
     out: &mut [u8],
 ) -> Written
-    requires { ⌜ (cellsRoom ≤ length (now key)) × (cellsRoom ≤ length (now message)) × (slots ≤ length (now challenges)) × (roundCellsRoom ≤ length (now rounds)) ⌝ }
+    requires { ⌜ (cellsRoom ≤ length (now key)) × (cellsRoom ≤ length (now message)) × (slots ≤ length (now challenges)) × (cellsRoom ≤ length (now rounds)) ⌝ }
     ensures { λ r. ⌜ Proved (now (text .entry)) (now (out .entry)) r (now (out .exit)) ⌝ }
 {
     let begun = text_lines::allowed_settings(text);
@@ -135,13 +149,14 @@ fn prove_within(
     }
     let settings = begun.loaded.settings;
     let depth = settings.depth as usize;
-    let cells = table_reader::lent_cells(settings);
-    let round_cells = sizes::round_cells(settings);
+    let key_cells = table_reader::lent_cells(sizes::key_cells(settings));
+    let cells = table_reader::lent_cells(sizes::cells(settings));
+    let round_cells = table_reader::lent_cells(sizes::round_cells(settings));
     prove_in(
         text,
         settings,
         begun.next,
-        &mut key[..cells],
+        &mut key[..key_cells],
         &mut message[..cells],
         &mut challenges[..depth],
         &mut rounds[..round_cells],
@@ -155,7 +170,7 @@ pub fn prove(text: &[u8], out: &mut [u8]) -> Written
     let mut key = [0u64; CELLS];
     let mut message = [0i32; CELLS];
     let mut challenges = [0u32; SLOTS];
-    let mut rounds = [0u64; ROUND_CELLS];
+    let mut rounds = [0u64; CELLS];
     prove_within(
         text,
         &mut key,

@@ -7,25 +7,28 @@ use Rattle.protocol.specs.declared.Settings.{Settings}
 use Rattle.protocol.specs.declared.Committed.{Committed}
 use Rattle.protocol.specs.declared.Polynomial.{Polynomial}
 use Rattle.protocol.specs.declared.Ended.{Ended}
-use Rattle.protocol.specs.Element.{width, zeros, signedZeros, padded, paddedSigned}
-use Rattle.protocol.specs.Opening.{commitment, foldSigned, foldResidues, halfLeft, foldMessage, foldKey, finalElement}
+use Rattle.protocol.specs.Element.{width, zeros, signedZeros, paddedSigned}
+use Rattle.protocol.specs.Layout.{rowsWidth}
+use Rattle.protocol.specs.Opening.{foldSigned, halfLeft, foldMessage, finalElement}
+use Rattle.protocol.specs.Rows.{atRows, foldKeys}
 use Rattle.protocol.specs.Calls.{commitRefusal, commitAnswer, polynomial, noPolynomial, roundRefusal, roundAnswer, foldRefusal, foldKeyExit, foldMessageExit, endRefusal, endAnswer}
 use Rattle.protocol.specs.Promises.{Folded}
 use Rattle.protocol.proofs.Tests.{granted-zero, granted-refused}
+use Rattle.prover.specs.Rowwise.{committed}
 
 -- ---- commit
 
 module _ (S : Settings) (key : List ℕ) (message : List ℤ) where
-  abbrev committed : List ℕ
-  committed = padded (S .degree) (commitment S key message)
+  abbrev all-rows : List ℕ
+  all-rows = atRows S (committed S key message)
 
-  pub commit-refused : (n : ℕ) → n ≡ commitRefusal S key message → (n ≡ 0 → ⊥) → _≡_ {A = Committed} (record { refusal = n; commitment = zeros width }) (commitAnswer S key message)
+  pub commit-refused : (n : ℕ) → n ≡ commitRefusal S key message → (n ≡ 0 → ⊥) → _≡_ {A = Committed} (record { refusal = n; commitment = zeros rowsWidth }) (commitAnswer S key message)
   unfolding commitAnswer
-  commit-refused n e r = let none = sym (granted-refused (commitRefusal S key message) committed (zeros width) (λ z. r (e ∙ z))) in λ i. record { refusal = e i; commitment = none i }
+  commit-refused n e r = let none = sym (granted-refused (commitRefusal S key message) all-rows (zeros rowsWidth) (λ z. r (e ∙ z))) in λ i. record { refusal = e i; commitment = none i }
 
-  pub commit-done : commitRefusal S key message ≡ 0 → (a : List ℕ) → a ≡ committed → _≡_ {A = Committed} (record { refusal = 0; commitment = a }) (commitAnswer S key message)
+  pub commit-done : commitRefusal S key message ≡ 0 → (a : List ℕ) → a ≡ all-rows → _≡_ {A = Committed} (record { refusal = 0; commitment = a }) (commitAnswer S key message)
   unfolding commitAnswer
-  commit-done z a g = let all = g ∙ sym (granted-zero _ committed (zeros width) z) in λ i. record { refusal = sym z i; commitment = all i }
+  commit-done z a g = let all = g ∙ sym (granted-zero _ all-rows (zeros rowsWidth) z) in λ i. record { refusal = sym z i; commitment = all i }
 
 -- ---- the round
 
@@ -47,8 +50,8 @@ module _ (S : Settings) (t e : ℕ) (key : List ℕ) (message : List ℤ) where
   fold-refused n e r = record { refusal = e; key-exit = sym (granted-refused _ _ _ (λ z. r (e ∙ z))); message-exit = sym (granted-refused _ _ _ (λ z. r (e ∙ z))) }
 
   pub fold-done : foldRefusal S t e key message ≡ 0 → (key′ : List ℕ) (message′ : List ℤ)
-      → key′ ≡ foldResidues (S .modulus) (S .degree) (halfLeft S t) e key → message′ ≡ foldSigned (S .degree) (halfLeft S t) e message → Folded S t e key message 0 key′ message′
-  unfolding foldKeyExit foldMessageExit foldKey foldMessage
+      → key′ ≡ foldKeys S t e key → message′ ≡ foldSigned (S .degree) (halfLeft S t) e message → Folded S t e key message 0 key′ message′
+  unfolding foldKeyExit foldMessageExit foldMessage
   fold-done z key′ message′ k m = record { refusal = sym z; key-exit = k ∙ sym (granted-zero _ _ _ z); message-exit = m ∙ sym (granted-zero _ _ _ z) }
 
 -- ---- the end

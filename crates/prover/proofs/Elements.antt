@@ -14,19 +14,19 @@ use denote.Plain.{uint-vals, uint-tells, uint-lawful}
 use denote.Array.{Array, array-vals, array-tells, array-lawful}
 use denote.Builtin.{u64}
 use denote.Steps.{only}
-use Rattle.protocol.specs.Element.{width}
+use Rattle.protocol.specs.Layout.{rowsWidth}
 
 abbrev pub Elements : RattleType
-Elements = Array (Array u64 width) 3
+Elements = Array (Array u64 rowsWidth) 3
 
 abbrev pub spelled : List (List ℕ) → Val
 spelled l = only (array-vals (array-vals (uint-vals w64)) l)
 
 pub told : (l : List (List ℕ)) (vs : List Val) → Is Elements l vs → Is Elements l (spelled l ∷ [])
-told l vs g = subst (λ ws. Is Elements l ws) (array-tells (Array u64 width) (array-vals (uint-vals w64)) (array-tells u64 (uint-vals w64) (uint-tells w64) width) 3 l vs g) g
+told l vs g = subst (λ ws. Is Elements l ws) (array-tells (Array u64 rowsWidth) (array-vals (uint-vals w64)) (array-tells u64 (uint-vals w64) (uint-tells w64) rowsWidth) 3 l vs g) g
 
 pub typed : {M : Type 1} (𝓤 : URA M) (H : Heap 𝓤) (A : Atoms 𝓤) → Given 𝓤 H A → (l : List (List ℕ)) → Is Elements l (spelled l ∷ []) → Typed (Elements .mir) (spelled l ∷ [])
-typed 𝓤 H A W l is = array-lawful 𝓤 H A W (Array u64 width) (array-lawful 𝓤 H A W u64 (uint-lawful 𝓤 H A W w64) width) 3 .typed l (spelled l ∷ []) is
+typed 𝓤 H A W l is = array-lawful 𝓤 H A W (Array u64 rowsWidth) (array-lawful 𝓤 H A W u64 (uint-lawful 𝓤 H A W w64) rowsWidth) 3 .typed l (spelled l ∷ []) is
 
 -- a field's value is read number by number, which changes nothing
 same : (l : List ℕ) → map (λ v. v) l ≡ l

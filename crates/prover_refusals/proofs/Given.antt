@@ -1,8 +1,8 @@
--- What is known of the inputs of a prover's call that nothing refuses.
+-- What is known of the inputs of a prover's call that nothing refuses: of the message, and of every row of the key.
 --
---   TablesGiven S key message    the settings are allowed, the key is n elements of residues, and the message has its length
---   FoldGiven S t e ..           the same in a fold: and what is left of the message is small, e is an exponent, and a round is left
---   RoundGiven, CommitGiven      the same in the prover's round and in a commit
+--   first-row                                  there is a row
+--   commit-key, round-key, fold-key            the settings are allowed, and the key has all its rows
+--   commit-given, round-given, fold-given      what each call's work in a row asks for
 use mathlib.Core.Path.{_≡_, sym, ap, _∙_}
 use mathlib.Core.Bool.{true, _&&_}
 use mathlib.Core.List.{List, [], _∷_}
@@ -16,50 +16,46 @@ use lib.Seq.{getD-take, length-take-le}
 use Rattle.protocol.specs.declared.Settings.{Settings}
 use Rattle.protocol.specs.Basic.{Tested, within}
 use Rattle.protocol.specs.Settings.{settingsRefusal, cells, hasLength, allBelow, allWithin, exponent}
-use Rattle.protocol.specs.Layout.{leftCells}
+use Rattle.protocol.specs.Layout.{keyCells, leftCells}
+use Rattle.protocol.specs.Rows.{keyRow}
 use Rattle.protocol.specs.Calls.{leftSmall, commitRefusal, roundRefusal, foldRefusal, endRefusal}
-use Rattle.protocol.specs.Inputs.{Valid, Below, Within}
+use Rattle.protocol.specs.Inputs.{Valid}
 use Rattle.protocol.proofs.Tests.{and-split, all-at}
 use Rattle.protocol.proofs.Inputs.{settings-valid, tested-below, tested-within}
 use Rattle.protocol.proofs.Refusals.{tested-before, tested-passed, none-refused, moving-tested}
 use Rattle.protocol.proofs.OpeningLaws.{left-inside}
+use Rattle.protocol.proofs.Rows.{keyRow-below}
+pub use Rattle.prover_refusals.specs.Given.{TablesGiven, SmallLeft, CommitGiven, RoundGiven, FoldGiven}
 
-pub record TablesGiven (S : Settings) (key : List ℕ) (message : List ℤ) : Type 0 where
-  pub allowed : settingsRefusal S ≡ 0
-  pub settings : Valid S
-  pub key-given : Below (S .modulus) (cells S) key
-  pub message-long : length message ≡ cells S
-
--- what is left lies within ±2^t·B
-abbrev pub SmallLeft : Settings → ℕ → List ℤ → Type 0
-SmallLeft S t message = (j : ℕ) → j < leftCells S t → natAbs (getD message j (pos 0)) ≤ 2 ^ t * S .bound
-
-pub record CommitGiven (S : Settings) (key : List ℕ) (message : List ℤ) : Type 0 where
-  pub tables : TablesGiven S key message
-  pub message-given : Within (S .bound) (cells S) message
-
-pub record RoundGiven (S : Settings) (t : ℕ) (key : List ℕ) (message : List ℤ) : Type 0 where
-  pub tables : TablesGiven S key message
-  pub small-left : SmallLeft S t message
-  pub turn : t < S .depth
-
-pub record FoldGiven (S : Settings) (t e : ℕ) (key : List ℕ) (message : List ℤ) : Type 0 where
-  pub tables : TablesGiven S key message
-  pub small-left : SmallLeft S t message
-  pub exponent-below : e < 2 * S .degree
-  pub turn : t < S .depth
+pub first-row : (S : Settings) → settingsRefusal S ≡ 0 → 0 < S .rows
+first-row S z = omega (arith, settings-valid S z .rows-least)
 
 module _ (S : Settings) (key : List ℕ) (message : List ℤ) where
-  -- 3 to 7 refuse nothing
-  pub lengths-given : {r : ℕ} → Tested (settingsRefusal S) 7 (hasLength (cells S) key && hasLength (cells S) message) r → r ≡ 0 → (settingsRefusal S ≡ 0) × (length message ≡ cells S)
+  -- 3 to 7, and 16, refuse nothing
+  pub lengths-given : {r : ℕ} → Tested (settingsRefusal S) 7 (hasLength (keyCells S) key && hasLength (cells S) message) r → r ≡ 0 → (settingsRefusal S ≡ 0) × (length message ≡ cells S)
   unfolding hasLength
-  lengths-given e z = (tested-before e z, eqb-true _ _ (and-split {a = hasLength (cells S) key} (tested-passed e z) .1))
+  lengths-given e z = (tested-before e z, eqb-true _ _ (and-split {a = hasLength (keyCells S) key} (tested-passed e z) .1))
 
-  tables-given : settingsRefusal S ≡ 0 → (hasLength (cells S) key && hasLength (cells S) message) ≡ true → allBelow S key ≡ true → TablesGiven S key message
+  abbrev Whole : Type 0
+  Whole = (settingsRefusal S ≡ 0) × (length key ≡ keyCells S)
+
+  key-given : settingsRefusal S ≡ 0 → (hasLength (keyCells S) key && hasLength (cells S) message) ≡ true → Whole
+  unfolding hasLength
+  key-given r6 t7 = (r6, eqb-true _ _ (and-split t7 .0))
+
+  abbrev Rows : Type 0
+  Rows = (r : ℕ) → r < S .rows → TablesGiven S (keyRow S key r) message
+
+  tables-given : settingsRefusal S ≡ 0 → (hasLength (keyCells S) key && hasLength (cells S) message) ≡ true → allBelow S key ≡ true → Rows
   unfolding hasLength allBelow
-  tables-given r6 t7 t8 =
+  tables-given r6 t7 t8 r h =
       let (k, m) = and-split t7 in
-      record { allowed = r6; settings = settings-valid S r6; key-given = tested-below (S .modulus) (cells S) key k t8; message-long = eqb-true _ _ m }
+      record {
+        allowed = r6;
+        settings = settings-valid S r6;
+        key-given = keyRow-below S (S .modulus) key (tested-below (S .modulus) (keyCells S) key k t8) r h;
+        message-long = eqb-true _ _ m;
+      }
 
   -- refusal 9
 
@@ -76,28 +72,40 @@ module _ (S : Settings) (key : List ℕ) (message : List ℤ) where
 
   -- ---- the prover's calls
 
-  pub commit-given : commitRefusal S key message ≡ 0 → CommitGiven S key message
+  pub commit-given : commitRefusal S key message ≡ 0 → (r : ℕ) → r < S .rows → CommitGiven S (keyRow S key r) message
   unfolding commitRefusal hasLength
-  commit-given z =
+  commit-given z r h =
       let (r6, (t7, (t8, (t9, _)))) = none-refused ((6, _) ∷ (7, _) ∷ (8, _) ∷ []) z in
-      let g = tables-given r6 t7 t8 in
+      let g = tables-given r6 t7 t8 r h in
       record { tables = g; message-given = tested-within (S .bound) (cells S) message (eq-eqb _ _ (g .message-long)) t9 }
 
-  pub round-given : (t : ℕ) → roundRefusal S t key message ≡ 0 → RoundGiven S t key message
+  pub commit-key : commitRefusal S key message ≡ 0 → Whole
+  unfolding commitRefusal
+  commit-key z = let (r6, (t7, _)) = none-refused ((6, _) ∷ (7, _) ∷ (8, _) ∷ []) z in key-given r6 t7
+
+  pub round-given : (t : ℕ) → roundRefusal S t key message ≡ 0 → (r : ℕ) → r < S .rows → RoundGiven S t (keyRow S key r) message
   unfolding roundRefusal
-  round-given t z =
+  round-given t z r h =
       let (r6, (t7, (t8, (t9, (t11, _))))) = none-refused ((6, _) ∷ (7, _) ∷ (8, _) ∷ (10, _) ∷ []) z in
       let l : t < S .depth = ltb-true _ _ t11 in
-      let g = tables-given r6 t7 t8 in
+      let g = tables-given r6 t7 t8 r h in
       record { tables = g; small-left = small-left-given t (g .message-long) (sym (moving-tested S t message l) ∙ t9); turn = l }
 
-  pub fold-given : (t e : ℕ) → foldRefusal S t e key message ≡ 0 → FoldGiven S t e key message
+  pub round-key : (t : ℕ) → roundRefusal S t key message ≡ 0 → Whole
+  unfolding roundRefusal
+  round-key t z = let (r6, (t7, _)) = none-refused ((6, _) ∷ (7, _) ∷ (8, _) ∷ (10, _) ∷ []) z in key-given r6 t7
+
+  pub fold-given : (t e : ℕ) → foldRefusal S t e key message ≡ 0 → (r : ℕ) → r < S .rows → FoldGiven S t e (keyRow S key r) message
   unfolding foldRefusal exponent
-  fold-given t e z =
+  fold-given t e z r h =
       let (r6, (t7, (t8, (t9, (t10, (t11, _)))))) = none-refused ((6, _) ∷ (7, _) ∷ (8, _) ∷ (9, _) ∷ (10, _) ∷ []) z in
       let l : t < S .depth = ltb-true _ _ t11 in
-      let g = tables-given r6 t7 t8 in
+      let g = tables-given r6 t7 t8 r h in
       record { tables = g; small-left = small-left-given t (g .message-long) (sym (moving-tested S t message l) ∙ t9); exponent-below = ltb-true _ _ t10; turn = l }
+
+  pub fold-key : (t e : ℕ) → foldRefusal S t e key message ≡ 0 → Whole
+  unfolding foldRefusal
+  fold-key t e z = let (r6, (t7, _)) = none-refused ((6, _) ∷ (7, _) ∷ (8, _) ∷ (9, _) ∷ (10, _) ∷ []) z in key-given r6 t7
 
 pub end-given : (S : Settings) (t : ℕ) (message : List ℤ) → endRefusal S t message ≡ 0 → Valid S × (length message ≡ cells S)
 unfolding endRefusal hasLength

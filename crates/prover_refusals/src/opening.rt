@@ -15,12 +15,13 @@ pub fn open(
 ) -> u32
     ensures { λ r. ⌜ r ≡ openingRefusal settings (now (key .entry)) (now (message .entry)) (now (challenges .entry)) (now (rounds .entry)) ⌝ }
 {
+    let key_cells = sizes::key_cells(settings);
     let cells = sizes::cells(settings);
     let r6 = tests::settings_refusal(settings);
     let r7 = refuse(
         r6,
         7,
-        (key.len() == cells)
+        (key.len() == key_cells)
             & (message.len() == cells)
             & (challenges.len() == (settings.depth as usize))
             & (rounds.len() == sizes::round_cells(settings)),

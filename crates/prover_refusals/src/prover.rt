@@ -8,16 +8,18 @@ ghost use mathlib.Core.Bool.{_&&_};
 ghost use Prim.Native.Nat.{_≤_};
 ghost use lib.ListN.{length};
 ghost use Rattle.protocol.specs.Basic.{Tested};
+ghost use Rattle.protocol.specs.Layout.{keyCells};
 ghost use Rattle.protocol.specs.Settings.{settingsRefusal, cells, hasLength};
 ghost use Rattle.protocol.specs.Calls.{leftSmall, movingSmall, endingSmall, commitRefusal, roundRefusal, foldRefusal, endRefusal};
 
-// 3 to 7 of a call on both tables.
+// 3 to 7 of a call on both tables, and 16, which belongs to the settings.
 fn lengths(settings: Settings, key: &[Residue], message: &[i32]) -> u32
-    ensures { λ r. ⌜ Tested (settingsRefusal settings) 7 (hasLength (cells settings) (now (key .entry)) && hasLength (cells settings) (now (message .entry))) r ⌝ }
+    ensures { λ r. ⌜ Tested (settingsRefusal settings) 7 (hasLength (keyCells settings) (now (key .entry)) && hasLength (cells settings) (now (message .entry))) r ⌝ }
 {
+    let key_cells = sizes::key_cells(settings);
     let cells = sizes::cells(settings);
     let r6 = tests::settings_refusal(settings);
-    refuse(r6, 7, (key.len() == cells) & (message.len() == cells))
+    refuse(r6, 7, (key.len() == key_cells) & (message.len() == cells))
 }
 
 // 9: does what is left of a message lie within ±2^t·B.

@@ -1,17 +1,19 @@
 // The tests that refusals go by.
+use protocol::ROWS;
 use protocol::Residue;
 use protocol::Settings;
 use protocol::TRANSFORM_MODULUS;
 use protocol::WIDTH;
 ghost use mathlib.Core.Path.{_≡_};
 ghost use mathlib.Core.Bool.{_&&_};
-ghost use Prim.Native.Nat.{_^_, _≤_};
+ghost use Prim.Native.Nat.{_^_, _<_, _≤_};
 ghost use lib.Dec.{ltb};
 ghost use lib.IntN.{natAbs};
 ghost use lib.ListN.{length, getD};
 ghost use Rattle.protocol.specs.Basic.{every, all, within, Provided, Tested};
-ghost use Rattle.protocol.specs.Layout.{width};
-ghost use Rattle.protocol.specs.Settings.{degreeAllowed, modulusAllowed, boundAllowed, settingsRefusal, allWithin};
+ghost use Rattle.protocol.specs.Element.{valueRow};
+ghost use Rattle.protocol.specs.Layout.{width, rowsMost, rowsWidth};
+ghost use Rattle.protocol.specs.Settings.{degreeAllowed, modulusAllowed, boundAllowed, rowsAllowed, settingsRefusal, allWithin};
 
 // The largest depth, one round for each slot of a record, the largest modulus and the largest bound (PROTOCOL 1.1): as `depthAllowed`, `modulusAllowed` and
 // `boundAllowed` have them.
@@ -61,14 +63,23 @@ fn bound_allowed(settings: Settings) -> bool
     (1 <= b) & (b <= BOUND_MOST)
 }
 
-// Refusals 3 to 6, the first that applies; 0 where the settings are allowed.
+// Refusal 16: is the number of rows in its range.
+fn rows_allowed(settings: Settings) -> bool
+    ensures { λ r. ⌜ r ≡ rowsAllowed settings ⌝ }
+{
+    let rows = settings.rows as usize;
+    (1 <= rows) & (rows <= ROWS)
+}
+
+// Refusals 3 to 6 and 16, the first that applies; 0 where the settings are allowed.
 pub fn settings_refusal(settings: Settings) -> u32
     ensures { λ r. ⌜ r ≡ settingsRefusal settings ⌝ }
 {
     let r3 = refuse(0, 3, degree_allowed(settings));
     let r4 = refuse(r3, 4, settings.depth <= DEPTH_MOST);
     let r5 = refuse(r4, 5, modulus_allowed(settings));
-    refuse(r5, 6, bound_allowed(settings))
+    let r6 = refuse(r5, 6, bound_allowed(settings));
+    refuse(r6, 16, rows_allowed(settings))
 }
 
 // One test more. The loops over tables ask all numbers, also after one that fails, so that the compiler takes several at a time.
@@ -147,11 +158,35 @@ fn front_below(limit: u64, n: usize, t: &[u64]) -> bool
     all_below_wide(limit, &t[..n])
 }
 
-// The same for the first d places of an element.
-pub fn element_below(limit: Residue, d: u32, a: &[Residue; WIDTH]) -> bool
-    ensures { λ r. ⌜ Provided (d ≤ width) (r ≡ every d (λ k. ltb (getD (now (a .entry)) k 0) limit)) ⌝ }
+// The same for the first d places of row i of what is passed by value for each row.
+fn row_below(limit: Residue, d: u32, i: usize, a: &[Residue]) -> bool
+    requires { ⌜ i < rowsMost ⌝ }
+    ensures { λ r. ⌜ Provided ((d ≤ width) × (length (now (a .entry)) ≡ rowsWidth)) (r ≡ every d (λ k. ltb (getD (valueRow (now (a .entry)) i) k 0) limit)) ⌝ }
 {
-    front_below(limit, d as usize, a)
+    let at = i * WIDTH;
+    if a.len() < at {
+        return false;
+    }
+    front_below(limit, d as usize, &a[at..])
+}
+
+// The same for every row. Places past the rows are not read.
+pub fn rows_below(limit: Residue, d: u32, rows: u32, a: &[Residue]) -> bool
+    ensures { λ r. ⌜ Provided ((d ≤ width) × (rows ≤ rowsMost) × (length (now (a .entry)) ≡ rowsWidth))
+        (r ≡ every rows (λ i. every d (λ k. ltb (getD (valueRow (now (a .entry)) i) k 0) limit))) ⌝ }
+{
+    let n = rows as usize;
+    if n > ROWS {
+        return false;
+    }
+    let mut i: usize = 0;
+    while i < n {
+        if !row_below(limit, d, i, a) {
+            return false;
+        }
+        i += 1;
+    }
+    true
 }
 
 // The magnitude of a number. One is added before the sign changes: the least number of a width has a magnitude that is no number of that width.

@@ -13,11 +13,12 @@ use lib.Dec.{eqb}
 use lib.IntN.{ℤ}
 use lib.ListN.{length, getD}
 use Rattle.protocol.specs.declared.Settings.{Settings}
-use Rattle.protocol.specs.Basic.{Tested}
-use Rattle.protocol.specs.Settings.{settingsRefusal, cells, hasLength, allBelow, residueElement, exponent, exponents}
-use Rattle.protocol.specs.Layout.{nodes, leaves, treeRoundCells, treeChallenges, leafCells, exponentCount}
+use Rattle.protocol.specs.Basic.{every, Tested}
+use Rattle.protocol.specs.Settings.{settingsRefusal, cells, hasLength, allBelow, residueRows, exponent, exponents}
+use Rattle.protocol.specs.Layout.{keyCells, nodes, leaves, treeRoundCells, treeChallenges, leafCells, exponentCount}
 use Rattle.protocol.specs.Transcript.{accepted}
-use Rattle.protocol.specs.Tree.{path, challenge, apart, growth, growthLimit, growthAllowed}
+use Rattle.protocol.specs.Rows.{keyRow}
+use Rattle.protocol.specs.Tree.{rowPath, challenge, apart, growth, growthLimit, growthAllowed}
 use Rattle.protocol.specs.Calls.{everyPath, treeTests, treeRefusal, extractRefusal}
 use Rattle.protocol.specs.Inputs.{Valid, Below}
 use Rattle.protocol.specs.Demand3.{FullTree}
@@ -28,10 +29,10 @@ use Rattle.protocol.proofs.Acceptance.{accepted-states}
 
 abbrev pub treeSized : Settings → List ℕ → List ℕ → List ℕ → List ℤ → List ℤ → Bool
 treeSized S key rounds E finals w =
-    hasLength (cells S) key && hasLength (treeRoundCells S) rounds && hasLength (treeChallenges S) E && hasLength (leafCells S) finals && hasLength (cells S) w
+    hasLength (keyCells S) key && hasLength (treeRoundCells S) rounds && hasLength (treeChallenges S) E && hasLength (leafCells S) finals && hasLength (cells S) w
 
 pub record Lengths (S : Settings) (key rounds E : List ℕ) (finals w : List ℤ) : Type 0 where
-  pub key-long : length key ≡ cells S
+  pub key-long : length key ≡ keyCells S
   pub rounds-long : length rounds ≡ treeRoundCells S
   pub challenges-long : length E ≡ treeChallenges S
   pub finals-long : length finals ≡ leafCells S
@@ -43,14 +44,14 @@ Apart E k = (challenge E k 0 ≢ challenge E k 1) × (challenge E k 0 ≢ challe
 pub record TreeGiven (S : Settings) (C key rounds E : List ℕ) (finals w : List ℤ) : Type 0 where
   pub allowed : settingsRefusal S ≡ 0
   pub lengths : Lengths S key rounds E finals w
-  pub key-below : Below (S .modulus) (cells S) key
+  pub key-below : Below (S .modulus) (keyCells S) key
   pub rounds-below : Below (S .modulus) (treeRoundCells S) rounds
   pub challenges-below : Below (exponentCount S) (treeChallenges S) E
   pub different : (k : ℕ) → k < nodes S → Apart E k
 
 pub record ExtractGiven (S : Settings) (C key rounds E : List ℕ) (finals w : List ℤ) : Type 0 where
   pub settings : Valid S
-  pub key-below : Below (S .modulus) (cells S) key
+  pub key-below : Below (S .modulus) (keyCells S) key
   pub tree : FullTree S key C rounds E finals
   pub room : growth S ≤ growthLimit
   pub w-long : length w ≡ cells S
@@ -83,14 +84,14 @@ module _ (S : Settings) (C key rounds E : List ℕ) (finals w : List ℤ) where
   pub tree-given : treeRefusal S C key rounds E finals w ≡ 0 → TreeGiven S C key rounds E finals w
   unfolding treeRefusal allBelow exponents exponent hasLength
   tree-given z =
-      let (r6, (t7, (t8, (t10, (t12, _))))) = none-refused ((6, _) ∷ (7, _) ∷ (9, _) ∷ (11, _) ∷ []) z in
+      let (r16, (t7, (t8, (t10, (t12, _))))) = none-refused ((6, _) ∷ (7, _) ∷ (9, _) ∷ (11, _) ∷ []) z in
       let l = sized-lengths S key rounds E finals w t7 in
-      let (two, of-rounds) = and-split {a = allBelow S key && residueElement S C} {b = allBelow S rounds} t8 in
-      let (of-key, of-commitment) = and-split {a = allBelow S key} {b = residueElement S C} two in
+      let (two, of-rounds) = and-split {a = allBelow S key && residueRows S C} {b = allBelow S rounds} t8 in
+      let (of-key, of-commitment) = and-split {a = allBelow S key} {b = residueRows S C} two in
       record {
-        allowed = r6;
+        allowed = r16;
         lengths = l;
-        key-below = tested-below (S .modulus) (cells S) key (eq-eqb _ _ (l .key-long)) of-key;
+        key-below = tested-below (S .modulus) (keyCells S) key (eq-eqb _ _ (l .key-long)) of-key;
         rounds-below = tested-below (S .modulus) (treeRoundCells S) rounds (eq-eqb _ _ (l .rounds-long)) of-rounds;
         challenges-below = tested-below (exponentCount S) (treeChallenges S) E (eq-eqb _ _ (l .challenges-long)) t10;
         different = λ k h. node-apart E k (every-at (nodes S) (apart E) t12 k h);
@@ -109,7 +110,9 @@ module _ (S : Settings) (C key rounds E : List ℕ) (finals w : List ℤ) where
           challenges-below = g .challenges-below;
           finals-long = g .lengths .finals-long;
           different = g .different;
-          accepted = λ j h. accepted-states S key _ (every-at (leaves S) (λ j. accepted S key (path S C rounds E finals j)) t13 j h);
+          accepted = λ r l j h.
+              let row = every-at (leaves S) (λ j. every (S .rows) (λ r. accepted S (keyRow S key r) (rowPath S C rounds E finals r j))) t13 j h in
+              accepted-states S (keyRow S key r) _ (every-at (S .rows) (λ r. accepted S (keyRow S key r) (rowPath S C rounds E finals r j)) row r l);
         };
         room = leb-true _ _ t14;
         w-long = g .lengths .w-long;

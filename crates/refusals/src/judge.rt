@@ -1,9 +1,10 @@
 // The refusals of the judge.
 use crate::refuse;
+use protocol::ROWS_WIDTH;
 use protocol::Residue;
 use protocol::Settings;
-use protocol::WIDTH;
 use ranges::tests;
+use verifier_refusals::rows_below;
 ghost use mathlib.Core.Path.{_≡_};
 ghost use Rattle.protocol.specs.Basic.{Provided};
 ghost use Rattle.protocol.specs.Settings.{settingsRefusal};
@@ -32,7 +33,7 @@ fn slack_allowed(settings: Settings, c: u32) -> bool
 
 pub fn judge(
     settings: Settings,
-    commitment: [Residue; WIDTH],
+    commitment: [Residue; ROWS_WIDTH],
     c: u32,
     key: &[Residue],
     w: &[i64],
@@ -41,15 +42,19 @@ pub fn judge(
 {
     let cells = sizes::cells(settings);
     let q = settings.modulus;
-    let r6 = tests::settings_refusal(settings);
-    let r7 = refuse(r6, 7, (key.len() == cells) & (w.len() == cells));
+    let r16 = tests::settings_refusal(settings);
+    let r7 = refuse(
+        r16,
+        7,
+        (key.len() == sizes::key_cells(settings)) & (w.len() == cells),
+    );
     if r7 != 0 {
         return r7;
     }
     let r8 = refuse(
         r7,
         8,
-        tests::all_below_wide(q, key) & tests::element_below(q, settings.degree, &commitment),
+        tests::all_below_wide(q, key) & rows_below(settings, &commitment),
     );
     let r14 = refuse(r8, 14, growth_allowed(settings));
     refuse(r14, 15, slack_allowed(settings, c))

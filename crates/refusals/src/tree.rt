@@ -1,9 +1,10 @@
-// The extractor's refusals before the verifier runs: 3 to 8, 10 and 12. 13 and 14 follow in the extractor.
+// The extractor's refusals before the verifier runs: 3 to 8, 16, 10 and 12. 13 and 14 follow in the extractor.
 use crate::refuse;
+use protocol::ROWS_WIDTH;
 use protocol::Residue;
 use protocol::Settings;
-use protocol::WIDTH;
 use ranges::tests;
+use verifier_refusals::rows_below;
 ghost use mathlib.Core.Path.{_≡_};
 ghost use Prim.Native.Nat.{_+_, _*_, _≤_};
 ghost use lib.ListN.{length};
@@ -39,7 +40,7 @@ fn all_differ(nodes: usize, challenges: &[u32]) -> bool
 
 pub fn extract(
     settings: Settings,
-    commitment: [Residue; WIDTH],
+    commitment: [Residue; ROWS_WIDTH],
     key: &[Residue],
     rounds: &[Residue],
     challenges: &[u32],
@@ -50,11 +51,11 @@ pub fn extract(
 {
     let cells = sizes::cells(settings);
     let q = settings.modulus;
-    let r6 = tests::settings_refusal(settings);
+    let r16 = tests::settings_refusal(settings);
     let r7 = refuse(
-        r6,
+        r16,
         7,
-        (key.len() == cells)
+        (key.len() == sizes::key_cells(settings))
             & (rounds.len() == sizes::tree_round_cells(settings))
             & (challenges.len() == sizes::tree_challenges(settings))
             & (leaves.len() == sizes::leaf_cells(settings))
@@ -67,7 +68,7 @@ pub fn extract(
         r7,
         8,
         tests::all_below_wide(q, key)
-            & tests::element_below(q, settings.degree, &commitment)
+            & rows_below(settings, &commitment)
             & tests::all_below_wide(q, rounds),
     );
     let limit = sizes::exponent_count(settings);

@@ -2,3 +2,4 @@ pub mod Less
 pub mod Products
 pub mod Halves
 pub mod Mixing
+pub mod Rowwise

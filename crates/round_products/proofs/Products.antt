@@ -13,7 +13,6 @@ use Rattle.protocol.specs.Basic.{tabulate}
 use Rattle.protocol.specs.Element.{Element, width, modulo, times, padded, reduced, signedAt, residueAt}
 use Rattle.protocol.specs.Settings.{size, cells, half}
 use Rattle.protocol.specs.Opening.{inner, second, cross, left, halfLeft, commitment, roundElement}
-use Rattle.protocol.specs.Calls.{polynomial}
 use Rattle.protocol.specs.Inputs.{Valid}
 use Rattle.protocol.proofs.Modulo.{modulo-times, modulo-lt}
 use Rattle.protocol.proofs.Reading.{tabulate-ext}
@@ -154,6 +153,6 @@ commitment-is S key message = ap (λ n. padded (S .degree) (reduced (S .modulus)
 
 pub polynomial-is : (S : Settings) (t : ℕ) (key : List ℕ) (message : List ℤ)
     → tabulate 3 (λ j. scaled (S .modulus) (S .degree) (((S .modulus + 1) / 2) ^ (t + 1))
-    (cross (S .degree) (halfLeft S t) (signedAt (S .degree) message) (residueAt (S .degree) key) j)) ≡ polynomial S t key message
-unfolding polynomial roundElement half scaled
+    (cross (S .degree) (halfLeft S t) (signedAt (S .degree) message) (residueAt (S .degree) key) j)) ≡ tabulate 3 (λ j. padded (S .degree) (roundElement S t key message j))
+unfolding roundElement half scaled
 polynomial-is S t key message = refl

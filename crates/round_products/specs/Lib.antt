@@ -1,2 +1,3 @@
 pub mod Messages
 pub mod Sums
+pub mod Rowwise

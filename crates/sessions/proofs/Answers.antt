@@ -3,7 +3,7 @@ use mathlib.Core.Path.{_≡_, refl, sym, ap, _∙_}
 use mathlib.Core.Logic.{_≢_}
 use mathlib.Core.Bool.{Bool, _&&_}
 use mathlib.Core.List.{List}
-use Prim.Native.Nat.{ℕ, _≤_}
+use Prim.Native.Nat.{ℕ}
 use native.Mathlib.Omega.{arith}
 use borrow.Author.Tests.{eq-eqb, eqb-true, ne-eqb}
 use lib.ListN.{length}
@@ -12,39 +12,39 @@ use Rattle.protocol.specs.declared.Session.{Session}
 use Rattle.protocol.specs.declared.Started.{Started}
 use Rattle.protocol.specs.declared.Moved.{Moved}
 use Rattle.protocol.specs.Basic.{granted}
-use Rattle.protocol.specs.Element.{width, padded}
-use Rattle.protocol.specs.Settings.{hasLength}
+use Rattle.protocol.specs.Layout.{itemCells}
+use Rattle.protocol.specs.Settings.{settingsRefusal, hasLength}
 use Rattle.protocol.specs.Session.{opened, blank, startRefusal, start}
 use Rattle.protocol.proofs.Tests.{and-split, granted-zero, granted-refused}
 use Rattle.protocol.proofs.Refusals.{first-fails, first-holds, first-only}
-use Rattle.slices.specs.Slices.{lent}
+use Rattle.slices.specs.Slices.{lent, valuesOf}
 use Rattle.protocol.specs.Session.{verdictNumber}
-use Rattle.slices.proofs.Lent.{lent-stops, lent-passes, lent-fits, lent-degree, kept}
+use Rattle.slices.proofs.Lent.{lent-stops, lent-passes, lent-fits, lent-allowed, kept}
 use Rattle.sessions.specs.Records.{recordWidth, sessionOf, flagged, recordStored}
 use Rattle.sessions.specs.Promises.{startNumber, startExit, StartStored, moveNumber, moveExit, moveVerdict, MoveStored, Answered}
 
 -- ---- the start
 
-module _ (S : Settings) (C rec : List ℕ) (n : ℕ) (e : n ≡ lent S (hasLength (S .degree) C && hasLength recordWidth rec) 0) where
+module _ (S : Settings) (C rec : List ℕ) (n : ℕ) (e : n ≡ lent S (hasLength (itemCells S) C && hasLength recordWidth rec) 0) where
   pub start-refused : (none : Session) (rec′ : List ℕ) → n ≢ 0 → none ≡ blank → rec′ ≡ recordStored none rec → StartStored S C rec n rec′
   unfolding startNumber startExit
   start-refused none rec′ h b p =
-      let refused : lent S (hasLength (S .degree) C && hasLength recordWidth rec) 0 ≢ 0 = λ z. h (e ∙ z) in
+      let refused : lent S (hasLength (itemCells S) C && hasLength recordWidth rec) 0 ≢ 0 = λ z. h (e ∙ z) in
       record {
         refusal = e ∙ lent-stops S _ _ refused;
         record-exit = p ∙ ap (λ r. recordStored r rec) (b ∙ kept S _ _ _ _ refused);
       }
 
-  pub start-made : (c : List ℕ) (r : Started) (rec′ : List ℕ) → n ≡ 0 → (S .degree ≤ width → length C ≡ S .degree → c ≡ padded (S .degree) C) → r ≡ start S c
+  pub start-made : (c : List ℕ) (r : Started) (rec′ : List ℕ) → n ≡ 0 → (settingsRefusal S ≡ 0 → length C ≡ itemCells S → c ≡ valuesOf S C) → r ≡ start S c
       → rec′ ≡ recordStored (r .next) rec → StartStored S C rec (r .refusal) rec′
   unfolding startNumber startExit start hasLength
   start-made c r rec′ h b q p =
-      let long = eqb-true _ _ (and-split (lent-fits S (hasLength (S .degree) C && hasLength recordWidth rec) (sym e ∙ h)) .0) in
-      let answer = q ∙ ap (start S) (b (lent-degree S _ (sym e ∙ h)) long) in
-      let same = lent-passes S _ (startRefusal S (padded (S .degree) C)) (sym e ∙ h) in
+      let long = eqb-true _ _ (and-split (lent-fits S (hasLength (itemCells S) C && hasLength recordWidth rec) (sym e ∙ h)) .0) in
+      let answer = q ∙ ap (start S) (b (lent-allowed S _ (sym e ∙ h)) long) in
+      let same = lent-passes S _ (startRefusal S (valuesOf S C)) (sym e ∙ h) in
       record {
         refusal = ap (λ (x : Started). x .refusal) answer ∙ same;
-        record-exit = p ∙ ap (λ (x : Started). recordStored (x .next) rec) answer ∙ ap (λ k. recordStored (granted k (opened S (padded (S .degree) C)) blank) rec) same;
+        record-exit = p ∙ ap (λ (x : Started). recordStored (x .next) rec) answer ∙ ap (λ k. recordStored (granted k (opened S (valuesOf S C)) blank) rec) same;
       }
 
 -- ---- a move

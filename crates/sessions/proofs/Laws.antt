@@ -10,33 +10,35 @@ use native.Mathlib.Omega.{arith}
 use borrow.Author.Tests.{lt-ltb, le-ltb, leb-true, ltb-true}
 use lib.Dec.{leb, ltb, eqb}
 use lib.IntN.{ℤ}
-use lib.ListN.{length, getD, set, length-append, length-set, List·getD-eq-default}
+use lib.ListN.{length, getD, set, length-set, List·getD-eq-default}
 use lib.Seq.{ext-getD, getD-set-same, getD-set-other}
 use Rattle.protocol.specs.declared.Settings.{Settings}
 use Rattle.protocol.specs.declared.Session.{Session}
 use Rattle.protocol.specs.declared.Verdict.the-variants.{Holds, Rejected}
 use Rattle.protocol.specs.Basic.{tabulate, choose, granted}
-use Rattle.protocol.specs.Element.{width, zeros, padded, reduced}
+use Rattle.protocol.specs.Element.{zeros}
+use Rattle.protocol.specs.Layout.{rowsWidth}
 use Rattle.protocol.specs.Settings.{settingsRefusal, exponent}
 use Rattle.protocol.specs.Settings as S
-use Rattle.protocol.specs.Transcript.{nextClaim}
 use Rattle.protocol.specs.Session.{slots, opened, blank, startRefusal, start, shut, sessionRoundRefusal, advanced, sessionRoundHolds, round, sessionEndRefusal, end, refusedMove, sessionEndHolds, verdict}
 use Rattle.protocol.proofs.Tests.{first-zero, unless-zero, and-split}
 use Rattle.protocol.proofs.Inputs.{settings-valid}
+use Rattle.protocol.proofs.Rows.{atRows-length}
 use Rattle.protocol.proofs.Reading.{tabulate-length, tabulate-at, tabulate-ext, tabulate-own}
 use Rattle.residues.proofs.Fill.{zeros-length, zeros-at}
 use Rattle.slices.specs.Slices.{capped}
 use Rattle.sizes.proofs.Limits.{degree-most}
-use Rattle.sessions.specs.Records.{recordWidth, challengesOf, claimOf, sessionOf, flagged, headOf, numberOf, numbersOf}
+use Rattle.sessions.specs.Records.{recordWidth, challengesOf, claimsOf, sessionOf, flagged, headOf, numberOf, numbersOf}
 use Rattle.sessions.proofs.Stored.{head-number, challenge-number, place-number}
 
--- a record whose arrays have their lengths, and whose numbers but for modulus and claim are of 32 bits, as every record has that is passed by value
+-- a record whose arrays have their lengths, and whose numbers but for modulus and claims are of 32 bits, as every record has that is passed by value
 pub record Whole (r : Session) : Type 0 where
-  pub claim : length (r .claim) ≡ width
+  pub claims : length (r .claims) ≡ rowsWidth
   pub challenges : length (r .challenges) ≡ 8
   pub degree : r .settings .degree < 2 ^ 32
   pub depth : r .settings .depth < 2 ^ 32
   pub bound : r .settings .bound < 2 ^ 32
+  pub rows : r .settings .rows < 2 ^ 32
   pub done : r .done < 2 ^ 32
   pub exponents-small : (k : ℕ) → getD (r .challenges) k 0 < 2 ^ 32
 
@@ -59,14 +61,14 @@ module _ (r : Session) where
   unfolding numbersOf recordWidth
   number-at k h = tabulate-at recordWidth (numberOf r) 0 k h
 
-  head-at : (k : ℕ) → k < 6 → getD (numbersOf r) k 0 ≡ getD (headOf r) k 0
+  head-at : (k : ℕ) → k < 7 → getD (numbersOf r) k 0 ≡ getD (headOf r) k 0
   head-at k h = number-at k (omega arith) ∙ sym (head-number r k h)
 
-  challenge-at : (k : ℕ) → k < 8 → getD (numbersOf r) (6 + k) 0 ≡ getD (r .challenges) k 0
-  challenge-at k h = number-at (6 + k) (omega arith) ∙ sym (challenge-number r k h)
+  challenge-at : (k : ℕ) → k < 8 → getD (numbersOf r) (7 + k) 0 ≡ getD (r .challenges) k 0
+  challenge-at k h = number-at (7 + k) (omega arith) ∙ sym (challenge-number r k h)
 
-  place-at : (k : ℕ) → k < width → getD (numbersOf r) (14 + k) 0 ≡ getD (r .claim) k 0
-  place-at k h = number-at (14 + k) (omega arith) ∙ sym (place-number r k h)
+  place-at : (k : ℕ) → k < rowsWidth → getD (numbersOf r) (15 + k) 0 ≡ getD (r .claims) k 0
+  place-at k h = number-at (15 + k) (omega arith) ∙ sym (place-number r k h)
 
   flag : (b : Bool) → eqb (choose b 1 0) 1 ≡ b
   unfolding choose
@@ -83,26 +85,26 @@ module _ (r : Session) where
 
   pub flagged-stored : flagged (numbersOf r) ≡ true
   unfolding flagged headOf choose
-  flagged-stored = ap (λ n. leb n 1) (head-at 5 (omega arith)) ∙ flag-small (r .closed)
+  flagged-stored = ap (λ n. leb n 1) (head-at 6 (omega arith)) ∙ flag-small (r .closed)
 
   pub load-stored : Whole r → sessionOf (numbersOf r) ≡ r
-  unfolding sessionOf challengesOf claimOf width headOf choose
+  unfolding sessionOf challengesOf claimsOf headOf choose
   load-stored w =
-      let claim = tabulate-ext width place-at ∙ tabulate-own width (r .claim) 0 (w .claim) in
+      let claims = tabulate-ext rowsWidth place-at ∙ tabulate-own rowsWidth (r .claims) 0 (w .claims) in
       let challenges = tabulate-ext 8 (λ k h. own (challenge-at k h) (w .exponents-small k)) ∙ tabulate-own 8 (r .challenges) 0 (w .challenges) in
-      let closed = ap (λ n. eqb n 1) (head-at 5 (omega arith)) ∙ flag (r .closed) in
+      let closed = ap (λ n. eqb n 1) (head-at 6 (omega arith)) ∙ flag (r .closed) in
       λ i. record {
-        settings = record { degree = own (head-at 0 (omega arith)) (w .degree) i; depth = own (head-at 1 (omega arith)) (w .depth) i; modulus = head-at 2 (omega arith) i; bound = own (head-at 3 (omega arith)) (w .bound) i };
-        done = own (head-at 4 (omega arith)) (w .done) i;
-        claim = claim i;
+        settings = record { degree = own (head-at 0 (omega arith)) (w .degree) i; depth = own (head-at 1 (omega arith)) (w .depth) i; modulus = head-at 2 (omega arith) i; bound = own (head-at 3 (omega arith)) (w .bound) i; rows = own (head-at 4 (omega arith)) (w .rows) i };
+        done = own (head-at 5 (omega arith)) (w .done) i;
+        claims = claims i;
         challenges = challenges i;
         closed = closed i;
       }
 
 -- ---- loading, then storing
 
-module _ (t : List ℕ) (long : length t ≡ recordWidth) (good : flagged t ≡ true) (small : (k : ℕ) → k < 14 → k ≢ 2 → getD t k 0 < 2 ^ 32) where
-  kept-at : (k : ℕ) → k < 14 → k ≢ 2 → capped (getD t k 0) ≡ getD t k 0
+module _ (t : List ℕ) (long : length t ≡ recordWidth) (good : flagged t ≡ true) (small : (k : ℕ) → k < 15 → k ≢ 2 → getD t k 0 < 2 ^ 32) where
+  kept-at : (k : ℕ) → k < 15 → k ≢ 2 → capped (getD t k 0) ≡ getD t k 0
   kept-at k h n = capped-small (getD t k 0) (small k h n)
 
   flag-number : (x : ℕ) → x ≤ 1 → choose (eqb x 1) 1 0 ≡ x
@@ -111,31 +113,32 @@ module _ (t : List ℕ) (long : length t ≡ recordWidth) (good : flagged t ≡ 
   flag-number (suc zero) h = refl
   flag-number (suc (suc x)) h = absurd (omega arith)
 
-  head-kept : (k : ℕ) → k < 6 → getD (headOf (sessionOf t)) k 0 ≡ getD t k 0
+  head-kept : (k : ℕ) → k < 7 → getD (headOf (sessionOf t)) k 0 ≡ getD t k 0
   unfolding headOf sessionOf choose flagged
   head-kept zero h = kept-at 0 (omega arith) (λ e. omega arith)
   head-kept (suc zero) h = kept-at 1 (omega arith) (λ e. omega arith)
   head-kept (suc (suc zero)) h = refl
   head-kept (suc (suc (suc zero))) h = kept-at 3 (omega arith) (λ e. omega arith)
   head-kept (suc (suc (suc (suc zero)))) h = kept-at 4 (omega arith) (λ e. omega arith)
-  head-kept (suc (suc (suc (suc (suc zero))))) h = flag-number (getD t 5 0) (leb-true _ _ good)
-  head-kept (suc (suc (suc (suc (suc (suc k)))))) h = absurd (omega arith)
+  head-kept (suc (suc (suc (suc (suc zero))))) h = kept-at 5 (omega arith) (λ e. omega arith)
+  head-kept (suc (suc (suc (suc (suc (suc zero)))))) h = flag-number (getD t 6 0) (leb-true _ _ good)
+  head-kept (suc (suc (suc (suc (suc (suc (suc k))))))) h = absurd (omega arith)
 
   number-kept : (k : ℕ) → k < recordWidth → numberOf (sessionOf t) k ≡ getD t k 0
   unfolding numberOf choose
-  number-kept k h = elim (decLt k 6) [
-    | yes l ↦ simp (lt-ltb k 6 l) (head-kept k l)
-    | no g ↦ elim (decLt k 14) [
-      | yes l ↦ simp (le-ltb k 6 (omega arith), lt-ltb k 14 l) (challenge-kept k (omega arith) l)
-      | no g′ ↦ simp (le-ltb k 6 (omega arith), le-ltb k 14 (omega arith)) (place-kept k (omega arith) h)
+  number-kept k h = elim (decLt k 7) [
+    | yes l ↦ simp (lt-ltb k 7 l) (head-kept k l)
+    | no g ↦ elim (decLt k 15) [
+      | yes l ↦ simp (le-ltb k 7 (omega arith), lt-ltb k 15 l) (challenge-kept k (omega arith) l)
+      | no g′ ↦ simp (le-ltb k 7 (omega arith), le-ltb k 15 (omega arith)) (place-kept k (omega arith) h)
     ]
   ]
     where
-      challenge-kept : (k : ℕ) → 6 ≤ k → k < 14 → getD (sessionOf t .challenges) (k - 6) 0 ≡ getD t k 0
-      challenge-kept k a b = unfold sessionOf in unfold challengesOf in tabulate-at 8 (λ j. capped (getD t (6 + j) 0)) 0 (k - 6) (omega arith) ∙ ap (λ n. capped (getD t n 0)) (omega arith) ∙ kept-at k (omega arith) (λ e. omega arith)
+      challenge-kept : (k : ℕ) → 7 ≤ k → k < 15 → getD (sessionOf t .challenges) (k - 7) 0 ≡ getD t k 0
+      challenge-kept k a b = unfold sessionOf in unfold challengesOf in tabulate-at 8 (λ j. capped (getD t (7 + j) 0)) 0 (k - 7) (omega arith) ∙ ap (λ n. capped (getD t n 0)) (omega arith) ∙ kept-at k (omega arith) (λ e. omega arith)
 
-      place-kept : (k : ℕ) → 14 ≤ k → k < recordWidth → getD (sessionOf t .claim) (k - 14) 0 ≡ getD t k 0
-      place-kept k a b = unfold sessionOf in unfold claimOf in unfold width in tabulate-at width (λ j. getD t (14 + j) 0) 0 (k - 14) (omega arith) ∙ ap (λ n. getD t n 0) (omega arith)
+      place-kept : (k : ℕ) → 15 ≤ k → k < recordWidth → getD (sessionOf t .claims) (k - 15) 0 ≡ getD t k 0
+      place-kept k a b = unfold sessionOf in unfold claimsOf in tabulate-at rowsWidth (λ j. getD t (15 + j) 0) 0 (k - 15) (omega arith) ∙ ap (λ n. getD t n 0) (omega arith)
 
   pub stored-load : numbersOf (sessionOf t) ≡ t
   unfolding numbersOf recordWidth
@@ -146,49 +149,47 @@ module _ (t : List ℕ) (long : length t ≡ recordWidth) (good : flagged t ≡ 
 -- ---- the records that moves hand back
 
 pub session-whole : (t : List ℕ) → Whole (sessionOf t)
-unfolding sessionOf claimOf challengesOf width
+unfolding sessionOf claimsOf challengesOf
 session-whole t = record {
-  claim = tabulate-length width _;
+  claims = tabulate-length rowsWidth _;
   challenges = tabulate-length 8 _;
   degree = capped-below (getD t 0 0);
   depth = capped-below (getD t 1 0);
   bound = capped-below (getD t 3 0);
-  done = capped-below (getD t 4 0);
+  rows = capped-below (getD t 4 0);
+  done = capped-below (getD t 5 0);
   exponents-small = λ k. elim (decLt k 8) [
-    | yes l ↦ subst (λ x. x < 2 ^ 32) (sym (tabulate-at 8 (λ j. capped (getD t (6 + j) 0)) 0 k l)) (capped-below (getD t (6 + k) 0))
-    | no g ↦ subst (λ x. x < 2 ^ 32) (sym (List·getD-eq-default (tabulate 8 (λ j. capped (getD t (6 + j) 0))) 0 (omega (arith, tabulate-length 8 (λ j. capped (getD t (6 + j) 0)))))) (omega arith)
+    | yes l ↦ subst (λ x. x < 2 ^ 32) (sym (tabulate-at 8 (λ j. capped (getD t (7 + j) 0)) 0 k l)) (capped-below (getD t (7 + k) 0))
+    | no g ↦ subst (λ x. x < 2 ^ 32) (sym (List·getD-eq-default (tabulate 8 (λ j. capped (getD t (7 + j) 0))) 0 (omega (arith, tabulate-length 8 (λ j. capped (getD t (7 + j) 0)))))) (omega arith)
   ];
 }
-
-padded-length : (d : ℕ) (l : List ℕ) → d ≤ width → length l ≡ d → length (padded d l) ≡ width
-unfolding padded width
-padded-length d l h e = length-append l (zeros (width - d)) ∙ omega (arith, zeros-length (width - d))
 
 zero-small : (k : ℕ) → getD (zeros 8) k 0 < 2 ^ 32
 zero-small k = omega (arith, zeros-at 8 k)
 
 pub start-whole : (S : Settings) (C : List ℕ) → Whole (start S C .next)
-unfolding start startRefusal granted opened blank slots width
+unfolding start startRefusal granted opened blank slots
 start-whole S C = go (startRefusal S C) refl
   where
     go : (n : ℕ) → startRefusal S C ≡ n → Whole (granted n (opened S C) blank)
     go zero e =
         let v = settings-valid S (first-zero _ _ e .0) in
         record {
-          claim = padded-length (S .degree) _ (degree-most S v) (tabulate-length (S .degree) _);
+          claims = atRows-length S _;
           challenges = zeros-length 8;
           degree = omega (arith, degree-most S v);
           depth = omega (arith, v .depth-most);
           bound = omega (arith, v .bound-most);
+          rows = omega (arith, v .rows-most);
           done = omega arith;
           exponents-small = zero-small;
         }
-    go (suc n) e = record { claim = zeros-length width; challenges = zeros-length 8; degree = omega arith; depth = omega arith; bound = omega arith; done = omega arith; exponents-small = zero-small }
+    go (suc n) e = record { claims = zeros-length rowsWidth; challenges = zeros-length 8; degree = omega arith; depth = omega arith; bound = omega arith; rows = omega arith; done = omega arith; exponents-small = zero-small }
 
 module _ (r : Session) (w : Whole r) where
   shut-whole : Whole (shut r)
   unfolding shut
-  shut-whole = record { claim = w .claim; challenges = w .challenges; degree = w .degree; depth = w .depth; bound = w .bound; done = w .done; exponents-small = w .exponents-small }
+  shut-whole = record { claims = w .claims; challenges = w .challenges; degree = w .degree; depth = w .depth; bound = w .bound; rows = w .rows; done = w .done; exponents-small = w .exponents-small }
 
   set-small : (i e : ℕ) → e < 2 ^ 32 → (k : ℕ) → getD (set (r .challenges) i e) k 0 < 2 ^ 32
   set-small i e h k = elim (ℕ-discrete k i) [
@@ -200,15 +201,16 @@ module _ (r : Session) (w : Whole r) where
   ]
 
   advanced-whole : (p : List (List ℕ)) (e : ℕ) → settingsRefusal (r .settings) ≡ 0 → exponent (r .settings) e ≡ true → r .done < r .settings .depth → Whole (advanced r p e)
-  unfolding advanced nextClaim reduced exponent
+  unfolding advanced exponent
   advanced-whole p e h small left =
       let v = settings-valid (r .settings) h in
       record {
-        claim = padded-length (r .settings .degree) _ (degree-most (r .settings) v) (tabulate-length (r .settings .degree) _);
+        claims = atRows-length (r .settings) _;
         challenges = simp length-set (w .challenges);
         degree = w .degree;
         depth = w .depth;
         bound = w .bound;
+        rows = w .rows;
         done = omega (arith, v .depth-most);
         exponents-small = set-small (r .done) e (omega (arith, ltb-true e (2 * r .settings .degree) small, degree-most (r .settings) v));
       }

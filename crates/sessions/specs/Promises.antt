@@ -14,22 +14,23 @@
 use mathlib.Core.Path.{_≡_}
 use mathlib.Core.Bool.{Bool, _&&_}
 use mathlib.Core.List.{List, [], _∷_}
-use Prim.Native.Nat.{ℕ, _*_}
+use Prim.Native.Nat.{ℕ}
 use lib.IntN.{ℤ}
 use Rattle.protocol.specs.declared.Settings.{Settings}
 use Rattle.protocol.specs.declared.Moved.{Moved}
 use Rattle.protocol.specs.Basic.{first, unless, granted}
-use Rattle.protocol.specs.Element.{padded, paddedSigned}
+use Rattle.protocol.specs.Element.{paddedSigned}
+use Rattle.protocol.specs.Layout.{itemCells, polynomialCells}
 use Rattle.protocol.specs.Settings.{hasLength}
 use Rattle.protocol.specs.Session.{opened, blank, startRefusal, round, end, verdictNumber}
-use Rattle.slices.specs.Slices.{lent, polynomialOf}
+use Rattle.slices.specs.Slices.{lent, valuesOf, polynomialOf}
 use Rattle.sessions.specs.Records.{recordWidth, sessionOf, flagged, recordStored}
 
 unfoldable pub startNumber : Settings → List ℕ → List ℕ → ℕ
-startNumber S C rec = lent S (hasLength (S .degree) C && hasLength recordWidth rec) (startRefusal S (padded (S .degree) C))
+startNumber S C rec = lent S (hasLength (itemCells S) C && hasLength recordWidth rec) (startRefusal S (valuesOf S C))
 
 unfoldable pub startExit : Settings → List ℕ → List ℕ → List ℕ
-startExit S C rec = recordStored (granted (startNumber S C rec) (opened S (padded (S .degree) C)) blank) rec
+startExit S C rec = recordStored (granted (startNumber S C rec) (opened S (valuesOf S C)) blank) rec
 
 pub record StartStored (S : Settings) (C rec : List ℕ) (r : ℕ) (rec′ : List ℕ) : Type 0 where
   pub refusal : r ≡ startNumber S C rec
@@ -50,10 +51,10 @@ pub record MoveStored (fits : Bool) (m : Moved) (rec : List ℕ) (r : ℕ) (rec�
   pub verdict-exit : verdict′ ≡ moveVerdict fits m rec
 
 unfoldable pub polynomialFits : List ℕ → List ℕ → Bool
-polynomialFits P rec = hasLength (3 * sessionOf rec .settings .degree) P
+polynomialFits P rec = hasLength (polynomialCells (sessionOf rec .settings)) P
 
 unfoldable pub roundOn : List ℕ → ℕ → List ℕ → Moved
-roundOn P e rec = round (sessionOf rec) (polynomialOf (sessionOf rec .settings .degree) P) e
+roundOn P e rec = round (sessionOf rec) (polynomialOf (sessionOf rec .settings) P) e
 
 unfoldable pub lastFits : List ℤ → List ℕ → Bool
 lastFits f rec = hasLength (sessionOf rec .settings .degree) f

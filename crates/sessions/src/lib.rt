@@ -2,6 +2,7 @@
 // record of zeros.
 mod records;
 
+use crate::records::CLOSED;
 use crate::records::RECORD;
 use protocol::Moved;
 use protocol::Residue;
@@ -14,14 +15,16 @@ pub fn start(settings: Settings, commitment: &[Residue], session: &mut [u64]) ->
     ensures { λ r. ⌜ StartStored settings (now (commitment .entry)) (now (session .entry)) r (now (session .exit)) ⌝ }
 {
     let none = verifier::blank();
-    let d = settings.degree;
-    let fits = slices::both(commitment.len() == d as usize, session.len() == RECORD);
+    let fits = slices::both(
+        commitment.len() == sizes::item_cells(settings),
+        session.len() == RECORD,
+    );
     let refusal = slices::refusal(settings, fits);
     if refusal != 0 {
         records::store(none, session);
         return refusal;
     }
-    let c = slices::residues(d, commitment);
+    let c = slices::residues(settings, commitment);
     let verifier = Verifier(none);
     let started = verifier.start(settings, c);
     let next = started.next;
@@ -55,13 +58,15 @@ pub fn round(polynomial: &[Residue], e: u32, session: &mut [u64], verdict: &mut 
     }
     let before = records::load(session);
     let settings = before.settings;
-    let d = settings.degree;
-    let fits = slices::both(polynomial.len() == 3 * (d as usize), session[5] <= 1);
+    let fits = slices::both(
+        polynomial.len() == 3 * sizes::item_cells(settings),
+        session[CLOSED] <= 1,
+    );
     let refusal = slices::refusal(settings, fits);
     if refusal != 0 {
         return refusal;
     }
-    let p = slices::polynomial(d, polynomial);
+    let p = slices::polynomial(settings, polynomial);
     let verifier = Verifier(before);
     let moved = verifier.round(p, e);
     answer(moved, session, verdict)
@@ -79,7 +84,7 @@ pub fn end(last: &[i32], key: &[Residue], session: &mut [u64], verdict: &mut u32
     let before = records::load(session);
     let settings = before.settings;
     let d = settings.degree;
-    let fits = slices::both(last.len() == d as usize, session[5] <= 1);
+    let fits = slices::both(last.len() == d as usize, session[CLOSED] <= 1);
     let refusal = slices::refusal(settings, fits);
     if refusal != 0 {
         return refusal;

@@ -1,18 +1,22 @@
-// Session records in slices of RECORD numbers: degree, depth, modulus, bound, rounds done, closed, then the challenges, then the places of the claim.
+// Session records in slices of RECORD numbers: degree, depth, modulus, bound, rows, rounds done, closed, then the challenges, then the places of the claims.
+use protocol::ROWS_WIDTH;
+use protocol::Residue;
 use protocol::SLOTS;
 use protocol::Session;
 use protocol::Settings;
-use protocol::WIDTH;
 ghost use mathlib.Core.Path.{_≡_};
 ghost use lib.ListN.{length};
-ghost use Rattle.sessions.specs.Records.{recordWidth, challengesOf, sessionOf, headOf, recordStored};
+ghost use Rattle.sessions.specs.Records.{recordWidth, challengesOf, claimsOf, sessionOf, headOf, recordStored};
 
-// The numbers before the challenges, where the claim begins, and all numbers: `headWidth`, `claimAt` and `recordWidth` of the definitions.
-const HEAD: usize = 6;
+// The numbers before the challenges, the last of which says whether the record is closed, where the claims begin, and all numbers: `headWidth`, `claimsAt` and
+// `recordWidth` of the definitions.
+const HEAD: usize = 7;
 
-const CLAIM_AT: usize = HEAD + SLOTS;
+pub const CLOSED: usize = HEAD - 1;
 
-pub const RECORD: usize = CLAIM_AT + WIDTH;
+const CLAIMS_AT: usize = HEAD + SLOTS;
+
+pub const RECORD: usize = CLAIMS_AT + ROWS_WIDTH;
 
 // The challenges of a record that stands in a slice, and as numbers for one.
 fn challenges(t: &[u64]) -> [u32; SLOTS]
@@ -40,6 +44,16 @@ fn widened(e: [u32; SLOTS]) -> [u64; SLOTS]
     x
 }
 
+// The claims of a record that stands in a slice.
+fn claims(t: &[u64]) -> [Residue; ROWS_WIDTH]
+    requires { ⌜ length (now t) ≡ recordWidth ⌝ }
+    ensures { λ r. ⌜ r ≡ claimsOf (now (t .entry)) ⌝ }
+{
+    let mut a: [Residue; ROWS_WIDTH] = [0; ROWS_WIDTH];
+    residues::store(ROWS_WIDTH, &t[CLAIMS_AT..], 0, &mut a);
+    a
+}
+
 // The record that a slice holds.
 pub fn load(t: &[u64]) -> Session
     requires { ⌜ length (now t) ≡ recordWidth ⌝ }
@@ -50,15 +64,16 @@ pub fn load(t: &[u64]) -> Session
         depth: slices::capped(t[1]),
         modulus: t[2],
         bound: slices::capped(t[3]),
+        rows: slices::capped(t[4]),
     };
-    let claim = slices::residues(WIDTH as u32, &t[CLAIM_AT..]);
+    let a = claims(t);
     let e = challenges(t);
     Session {
         settings: s,
-        done: slices::capped(t[4]),
-        claim: claim,
+        done: slices::capped(t[5]),
+        claims: a,
         challenges: e,
-        closed: t[5] == 1,
+        closed: t[CLOSED] == 1,
     }
 }
 
@@ -72,6 +87,7 @@ fn head(r: Session) -> [u64; HEAD]
         slices::wide(s.depth),
         s.modulus,
         slices::wide(s.bound),
+        slices::wide(s.rows),
         slices::wide(r.done),
         r.closed as u64,
     ]
@@ -87,8 +103,8 @@ pub fn store(r: Session, t: &mut [u64])
     let first = head(r);
     let exponents = r.challenges;
     let challenges = widened(exponents);
-    let claim = r.claim;
+    let claims = r.claims;
     residues::store(HEAD, &first, 0, t);
     residues::store(SLOTS, &challenges, HEAD, t);
-    residues::store(WIDTH, &claim, CLAIM_AT, t);
+    residues::store(ROWS_WIDTH, &claims, CLAIMS_AT, t);
 }

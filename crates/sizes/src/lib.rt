@@ -1,5 +1,6 @@
 // The layout in code: how many elements, numbers, challenges and nodes there are, how many of them are left after t rounds, and how large numbers become.
 // Each function is safe for every input, and says what it gives for settings that are allowed.
+use protocol::ROWS;
 use protocol::Settings;
 use protocol::WIDTH;
 use ranges::tests::BOUND_MOST;
@@ -8,7 +9,7 @@ ghost use mathlib.Core.Path.{_≡_};
 ghost use Prim.Native.Nat.{_*_, _^_, _<_, _≤_};
 ghost use Rattle.protocol.specs.Basic.{Provided};
 ghost use Rattle.protocol.specs.Layout as layout;
-ghost use Rattle.protocol.specs.Layout.{width, leftCells, halfLeft, roundCells, itemOf, polynomialAt, treeChallenges, treeRoundCells, leafCells, exponentCount};
+ghost use Rattle.protocol.specs.Layout.{width, rowsMost, rowsWidth, keyCells, itemCells, leftCells, halfLeft, roundCells, itemOf, polynomialAt, treeChallenges, treeRoundCells, leafCells, exponentCount};
 ghost use Rattle.protocol.specs.Settings.{settingsRefusal};
 ghost use Rattle.protocol.specs.Tree.{growthLimit};
 ghost use Rattle.protocol.specs.GrowthTest.{cappedTimes, cappedGrowth};
@@ -46,11 +47,54 @@ pub fn half_left(settings: Settings, t: u32) -> u32
     left(settings, t + 1)
 }
 
-// The numbers of a key or a message: n elements of d.
+// The numbers of a row of a key, or of a message: n elements of d.
 pub fn cells(settings: Settings) -> usize
     ensures { λ r. ⌜ Provided (settingsRefusal settings ≡ 0) (r ≡ layout.cells settings) ⌝ }
 {
     left_cells(settings, 0)
+}
+
+// The rows to count with. Where there are more than can be, which are refused, there are none.
+fn rows(settings: Settings) -> usize
+    ensures { λ r. ⌜ (Provided (settingsRefusal settings ≡ 0) (r ≡ settings .rows) × (r ≤ rowsMost)) ⌝ }
+{
+    let rows = settings.rows as usize;
+    if rows > ROWS {
+        return 0;
+    }
+    rows
+}
+
+// The places of an element; none where there are too many.
+fn places(settings: Settings) -> usize
+    ensures { λ r. ⌜ (Provided (settingsRefusal settings ≡ 0) (r ≡ settings .degree) × (r ≤ width)) ⌝ }
+{
+    let d = settings.degree as usize;
+    if d > WIDTH {
+        return 0;
+    }
+    d
+}
+
+// The numbers of so many elements in each row.
+fn all_rows(settings: Settings, items: u32) -> usize
+    ensures { λ r. ⌜ Provided (settingsRefusal settings ≡ 0) (r ≡ settings .rows * items * settings .degree) ⌝ }
+{
+    rows(settings) * (items as usize) * places(settings)
+}
+
+// The numbers of a key: rows·n elements of d.
+pub fn key_cells(settings: Settings) -> usize
+    ensures { λ r. ⌜ Provided (settingsRefusal settings ≡ 0) (r ≡ keyCells settings) ⌝ }
+{
+    all_rows(settings, left(settings, 0))
+}
+
+// The numbers of an element for each row: of a commitment, and of c_j of a round.
+pub fn item_cells(settings: Settings) -> usize
+    ensures { λ r. ⌜ (Provided (settingsRefusal settings ≡ 0) (r ≡ itemCells settings) × (r ≤ rowsWidth)) ⌝ }
+{
+    rows(settings) * places(settings)
 }
 
 // The numbers of the elements that are left.
@@ -104,14 +148,14 @@ pub fn exponent_count(settings: Settings) -> u32
     2 * settings.degree
 }
 
-// The numbers of a transcript's round polynomials: 3·L elements of d.
+// The numbers of a transcript's round polynomials: rows·3·L elements of d.
 pub fn round_cells(settings: Settings) -> usize
     ensures { λ r. ⌜ Provided (settingsRefusal settings ≡ 0) (r ≡ roundCells settings) ⌝ }
 {
     if settings.depth > DEPTH_MOST {
         return 0;
     }
-    3 * (settings.depth as usize) * (settings.degree as usize)
+    all_rows(settings, 3 * settings.depth)
 }
 
 // The item of c_j of round k + 1 or of node k, and of challenge j of node k. No tree has more than `nodesMost` branching nodes.
@@ -128,16 +172,13 @@ pub fn item_of(k: u32, j: u32) -> u32
 }
 
 // Where the polynomial of round k + 1, or of node k, begins.
-pub fn polynomial_at(d: u32, k: u32) -> usize
-    ensures { λ r. ⌜ (Provided (d ≤ width) (Provided (k ≤ nodesMost) (r ≡ polynomialAt d k)) × (r ≤ polynomialAtMost)) ⌝ }
+pub fn polynomial_at(settings: Settings, k: u32) -> usize
+    ensures { λ r. ⌜ (Provided (settingsRefusal settings ≡ 0) (Provided (k ≤ nodesMost) (r ≡ polynomialAt settings k)) × (r ≤ polynomialAtMost)) ⌝ }
 {
-    let n = d as usize;
-    if n > WIDTH {
-        return 0;
-    }
     if k > NODES_MOST {
         return 0;
     }
+    let n = item_cells(settings);
     3 * (k as usize) * n
 }
 
@@ -151,7 +192,7 @@ pub fn tree_challenges(settings: Settings) -> usize
 pub fn tree_round_cells(settings: Settings) -> usize
     ensures { λ r. ⌜ Provided (settingsRefusal settings ≡ 0) (r ≡ treeRoundCells settings) ⌝ }
 {
-    tree_challenges(settings) * (settings.degree as usize)
+    all_rows(settings, tree_challenges(settings) as u32)
 }
 
 pub fn leaf_cells(settings: Settings) -> usize

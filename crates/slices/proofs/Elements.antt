@@ -2,25 +2,19 @@
 use mathlib.Core.Path.{_≡_, refl, sym, ap, _∙_}
 use mathlib.Core.Bool.{Bool, true, false}
 use mathlib.Core.List.{List, [], _++_, append-nil, append-assoc}
-use Prim.Native.Nat.{ℕ, _+_, _*_, _/_, _%_, _≤_}
+use Prim.Native.Nat.{ℕ, _+_, _*_, _≤_}
 use native.Mathlib.Nat as Nat
 use native.Mathlib.Omega.{arith}
 use mir.Val.{boolByte}
 use lib.IntN.{ℤ, pos}
 use lib.ListN.{length, getD, take, drop, length-append, length-drop}
 use lib.Seq.{take-at, drop-at, drop-length, getD-take, length-take-le}
-use Rattle.protocol.specs.Basic.{tabulate, flat, choose}
-use Rattle.protocol.specs.Element.{padded, paddedSigned, coefficients, signedAt}
-use Rattle.protocol.proofs.Reading.{tabulate-length, tabulate-ext, tabulate-own, flat-suc}
-use Rattle.residues.specs.Elements.{elementAt}
-use Rattle.residues.specs.Lists.{spliced}
-use Rattle.residues.specs.Lists.{filled}
+use Rattle.protocol.specs.Basic.{tabulate, choose}
+use Rattle.protocol.specs.Element.{paddedSigned, coefficients, signedAt}
+use Rattle.protocol.proofs.Reading.{tabulate-length, tabulate-ext, tabulate-own}
+use Rattle.residues.specs.Lists.{filled, spliced}
 
 -- a slice of d numbers is the first element of a table
-pub whole : (d : ℕ) (t : List ℕ) → length t ≡ d → elementAt d t 0 ≡ padded d t
-unfolding elementAt
-whole d t e = ap (padded d) (tabulate-ext d (λ k h. ap (λ n. getD t (n + k) 0) (Nat.zero-mul d) ∙ ap (λ n. getD t n 0) (Nat.zero-add k)) ∙ tabulate-own d t 0 e)
-
 pub whole-signed : (d : ℕ) (t : List ℤ) → length t ≡ d → paddedSigned d (coefficients d (signedAt d t 0)) ≡ paddedSigned d t
 unfolding coefficients signedAt
 whole-signed d t e = ap (paddedSigned d) (tabulate-ext d (λ k h. ap (λ n. getD t (n + k) (pos 0)) (Nat.zero-mul d) ∙ ap (λ n. getD t n (pos 0)) (Nat.zero-add k)) ∙ tabulate-own d t (pos 0) e)
@@ -38,9 +32,9 @@ unfolding filled
 filled-whole d k a l h e p =
     ap (λ n. filled (λ j. getD a j (pos 0)) n l) p ∙ (λ i. first-places d a (pos 0) h i ++ drop-end d l e i) ∙ append-nil _
 
-pub stored-whole : (d : ℕ) (a l : List ℕ) → d ≤ length a → length l ≡ d → spliced (λ k. getD a k 0) 0 d l ≡ take d a
+pub stored-whole {ℓ} : {A : Type ℓ} (n : ℕ) (f : ℕ → A) (l : List A) → length l ≡ n → spliced f 0 n l ≡ tabulate n f
 unfolding spliced
-stored-whole d a l h e = (λ i. first-places d a 0 h i ++ drop-end d l e i) ∙ append-nil _
+stored-whole n f l e = ap (λ t. tabulate n f ++ t) (drop-end n l e) ∙ append-nil _
 
 -- three elements that are written one after the other
 module _ (d : ℕ) (f g h : ℕ → ℕ) (l : List ℕ) (e : length l ≡ 3 * d) where
@@ -79,16 +73,6 @@ module _ (d : ℕ) (f g h : ℕ → ℕ) (l : List ℕ) (e : length l ≡ 3 * d)
           ∙ ap (λ t. (X ++ Y) ++ (tabulate d h ++ t)) (drop-end d R rest)
           ∙ ap (λ t. (X ++ Y) ++ t) (append-nil (tabulate d h))
           ∙ append-assoc X Y (tabulate d h)
-
--- the three rows of a flat table
-pub three-rows {ℓ} : {A : Type ℓ} (d : ℕ) (F : ℕ → ℕ → A) → flat d 3 F ≡ tabulate d (F 0) ++ (tabulate d (F 1) ++ tabulate d (F 2))
-three-rows d F =
-    flat-suc d 2 F
-    ∙ ap (λ t. t ++ tabulate d (F 2)) (flat-suc d 1 F ∙ ap (λ t. t ++ tabulate d (F 1)) (flat-suc d 0 F ∙ ap (λ t. t ++ tabulate d (F 0)) none))
-    ∙ append-assoc (tabulate d (F 0)) (tabulate d (F 1)) (tabulate d (F 2))
-  where
-    none : flat d 0 F ≡ []
-    none = unfold flat in unfold tabulate in ap (λ n. tabulate n (λ p. F (p / d) (p % d))) (Nat.zero-mul d)
 
 -- a test as a number
 pub as-number : (b : Bool) → boolByte b ≡ choose b 1 0

@@ -1,27 +1,27 @@
 -- The laws of elements and round polynomials in slices, for a reader: what was written to a slice and is read again is what it was, and the other way round.
-use mathlib.Core.Path.{_≡_, ap, _∙_}
-use mathlib.Core.List.{List, [], _∷_}
-use Prim.Native.Nat.{ℕ, zero, suc, _+_, _*_, _<_}
+use mathlib.Core.Path.{_≡_, sym, ap, _∙_}
+use mathlib.Core.List.{List, [], _∷_, _++_, append-nil}
+use Prim.Native.Nat.{ℕ, _+_, _*_, _<_, _≤_}
+use native.Mathlib.Nat as Nat
+use native.Mathlib.Decide.{decLt}
 use native.Mathlib.Omega.{arith}
 use lib.IntN.{ℤ}
-use lib.ListN.{length, getD, take, List·getD-append}
-use lib.Seq.{take-at}
-use Rattle.protocol.specs.Basic.{tabulate}
-use Rattle.protocol.specs.Element.{padded, paddedSigned}
+use lib.ListN.{length, getD, take, drop, take-append-drop, length-append, length-drop, List·getD-append}
+use lib.Seq.{take-at, take-all, drop-at, drop-drop, getD-take, getD-drop, length-take-le}
+use Rattle.protocol.specs.declared.Settings.{Settings}
+use Rattle.protocol.specs.Basic.{tabulate, flat, choose}
+use Rattle.protocol.specs.Element.{width, paddedSigned, valueRow}
+use Rattle.protocol.specs.Layout.{rowsMost, itemCells, polynomialCells}
+use Rattle.protocol.specs.Inputs.{Valid}
+use Rattle.protocol.specs.Rows.{atRows, together}
 use Rattle.protocol.specs.Session.{part}
-use Rattle.protocol.proofs.Reading.{tabulate-ext, tabulate-own, flat-at, flat-ext, flat-own}
-use Rattle.residues.specs.Elements.{elementAt}
-use Rattle.residues.proofs.Padding.{padded-at}
-use Rattle.slices.specs.Slices.{polynomialOf, laid}
+use Rattle.protocol.proofs.Reading.{cell-inside, tabulate-at, flat-length, flat-ext, flat-own}
+use Rattle.protocol.proofs.Rows.{atRows-at, together-at, together-atRows}
+use Rattle.sizes.proofs.Limits.{degree-least, degree-most}
+use Rattle.slices.specs.Slices.{valuesOf, polynomialOf, laid}
+use Rattle.slices.proofs.Rows.{atRows-ext}
 
--- ---- elements
-
-pub element-back : (d : ℕ) (t : List ℕ) → length t ≡ d → take d (padded d t) ≡ t
-unfolding padded
-element-back d t e = take-at t _ d e
-
-pub element-there : (d : ℕ) (c : List ℕ) → length c ≡ d → padded d (take d (padded d c)) ≡ padded d c
-element-there d c e = ap (padded d) (element-back d c e)
+-- ---- elements of whole numbers
 
 pub whole-back : (d : ℕ) (t : List ℤ) → length t ≡ d → take d (paddedSigned d t) ≡ t
 unfolding paddedSigned
@@ -30,34 +30,76 @@ whole-back d t e = take-at t _ d e
 pub whole-there : (d : ℕ) (c : List ℤ) → length c ≡ d → paddedSigned d (take d (paddedSigned d c)) ≡ paddedSigned d c
 whole-there d c e = ap (paddedSigned d) (whole-back d c e)
 
--- ---- round polynomials
+module _ (S : Settings) (ok : Valid S) where
+  open Settings S using (degree as d, rows as rows)
 
-pub polynomial-back : (d : ℕ) (t : List ℕ) → 0 < d → length t ≡ 3 * d → laid d (polynomialOf d t) ≡ t
-unfolding laid
-polynomial-back d t p e = flat-ext d 3 p entry ∙ flat-own d 3 t 0 p e
-  where
-    entry : (i k : ℕ) → i < 3 → k < d → getD (part (polynomialOf d t) i) k 0 ≡ getD t (i * d + k) 0
-    entry zero k l h = unfold part in unfold polynomialOf in unfold elementAt in padded-at d (λ j. getD t (0 * d + j) 0) k h
-    entry (suc zero) k l h = unfold part in unfold polynomialOf in unfold elementAt in padded-at d (λ j. getD t (1 * d + j) 0) k h
-    entry (suc (suc zero)) k l h = unfold part in unfold polynomialOf in unfold elementAt in padded-at d (λ j. getD t (2 * d + j) 0) k h
-    entry (suc (suc (suc i))) k l h = absurd (omega arith)
+  abbrev n : ℕ
+  n = itemCells S
 
--- c j are the coefficients of its elements
-module _ (d : ℕ) (c : ℕ → List ℕ) (long : (j : ℕ) → length (c j) ≡ d) where
-  abbrev p : List (List ℕ)
-  p = tabulate 3 (λ j. padded d (c j))
+  positive : 0 < d
+  positive = omega (arith, degree-least S ok)
 
-  place : (i k : ℕ) → i < 3 → k < d → getD (part p i) k 0 ≡ getD (c i) k 0
-  unfolding part tabulate padded
-  place zero k l h = List·getD-append (c 0) _ 0 k (omega (arith, long 0))
-  place (suc zero) k l h = List·getD-append (c 1) _ 0 k (omega (arith, long 1))
-  place (suc (suc zero)) k l h = List·getD-append (c 2) _ 0 k (omega (arith, long 2))
-  place (suc (suc (suc i))) k l h = absurd (omega arith)
+  together-length : (C : List ℕ) → length (together S C) ≡ n
+  unfolding together
+  together-length C = flat-length d rows _
 
-  one : (i : ℕ) → i < 3 → elementAt d (laid d p) i ≡ padded d (c i)
-  unfolding elementAt laid
-  one i l = ap (padded d) (tabulate-ext d (λ k h. flat-at d 3 (λ i k. getD (part p i) k 0) 0 i k l h ∙ place i k l h) ∙ tabulate-own d (c i) 0 (long i))
+  twice : (t : List ℕ) → drop n (drop n t) ≡ drop (2 * n) t
+  twice t = drop-drop n n t ∙ ap (λ x. drop x t) {x = n + n} {y = 2 * n} (omega arith)
 
-  pub polynomial-there : polynomialOf d (laid d p) ≡ p
-  unfolding polynomialOf tabulate
-  polynomial-there = λ i. one 0 (omega arith) i ∷ one 1 (omega arith) i ∷ one 2 (omega arith) i ∷ []
+  -- ---- elements of each row
+
+  -- of a slice only its first rows·d numbers are read
+  pub element-front : (t : List ℕ) → n ≤ length t → together S (valuesOf S t) ≡ take n t
+  unfolding valuesOf
+  element-front t h =
+      together-atRows S (λ r. tabulate d (λ k. getD t (r * d + k) 0)) positive (ok .rows-most) (degree-most S ok)
+      ∙ flat-ext d rows positive (λ r k l m. tabulate-at d (λ k. getD t (r * d + k) 0) 0 k m ∙ sym (getD-take n t (r * d + k) 0 (cell-inside d rows r k l m)))
+      ∙ flat-own d rows (take n t) 0 positive (length-take-le n t h)
+
+  pub element-back : (t : List ℕ) → length t ≡ n → together S (valuesOf S t) ≡ t
+  element-back t e = element-front t (Nat.le-of-eq (sym e)) ∙ take-all n t (Nat.le-of-eq e)
+
+  pub element-there : (f : ℕ → List ℕ) (rest : List ℕ) → valuesOf S (together S (atRows S f) ++ rest) ≡ atRows S f
+  unfolding valuesOf
+  element-there f rest = atRows-ext S _ f (λ r k l m.
+      tabulate-at d (λ k. getD (together S (atRows S f) ++ rest) (r * d + k) 0) 0 k m
+      ∙ List·getD-append (together S (atRows S f)) rest 0 (r * d + k) (omega (arith, together-length (atRows S f), cell-inside d rows r k l m))
+      ∙ together-at S (atRows S f) r k l m
+      ∙ atRows-at S f r k (ok .rows-most) (degree-most S ok) l m)
+
+  -- ---- round polynomials
+
+  pub polynomial-back : (t : List ℕ) → length t ≡ polynomialCells S → laid S (polynomialOf S t) ≡ t
+  unfolding laid polynomialOf part
+  polynomial-back t e =
+      (λ i. element-front t (omega arith) i ++ (element-front (drop n t) (omega (arith, length-drop n t)) i ++ third i))
+      ∙ ap (λ l. take n t ++ l) (ap (λ l. take n (drop n t) ++ l) (sym (twice t)) ∙ take-append-drop n (drop n t))
+      ∙ take-append-drop n t
+    where
+      third : together S (valuesOf S (drop (2 * n) t)) ≡ drop (2 * n) t
+      third = element-back (drop (2 * n) t) (omega (arith, length-drop (2 * n) t))
+
+  -- c j are the elements of each row
+  pub polynomial-there : (c : ℕ → ℕ → List ℕ) → polynomialOf S (laid S (tabulate 3 (λ j. atRows S (c j)))) ≡ tabulate 3 (λ j. atRows S (c j))
+  unfolding polynomialOf laid part tabulate
+  polynomial-there c = λ i. element-there (c 0) (Y ++ Z) i ∷ second i ∷ third i ∷ []
+    where
+      X : List ℕ
+      X = together S (atRows S (c 0))
+
+      Y : List ℕ
+      Y = together S (atRows S (c 1))
+
+      Z : List ℕ
+      Z = together S (atRows S (c 2))
+
+      behind : drop n (X ++ (Y ++ Z)) ≡ Y ++ Z
+      behind = drop-at X (Y ++ Z) n (together-length (atRows S (c 0)))
+
+      second : valuesOf S (drop n (X ++ (Y ++ Z))) ≡ atRows S (c 1)
+      second = ap (valuesOf S) behind ∙ element-there (c 1) Z
+
+      third : valuesOf S (drop (2 * n) (X ++ (Y ++ Z))) ≡ atRows S (c 2)
+      third =
+          ap (valuesOf S) (sym (twice (X ++ (Y ++ Z))) ∙ ap (drop n) behind ∙ drop-at Y Z n (together-length (atRows S (c 1))) ∙ sym (append-nil Z))
+          ∙ element-there (c 2) []

@@ -1,5 +1,5 @@
 -- The refusal of a call that is lent slices beside what it tests itself.
-use mathlib.Core.Path.{_≡_, refl, sym, _∙_}
+use mathlib.Core.Path.{_≡_, refl, sym, ap, _∙_}
 use mathlib.Core.Logic.{_≢_}
 use mathlib.Core.Bool.{Bool, true, false, _&&_}
 use mathlib.Core.List.{List, [], _∷_}
@@ -56,13 +56,25 @@ module _ (S : Settings) (fits : Bool) (N : ℕ) where
       let (b, _) = first-zero _ _ more in
       sym (first-passes _ _ a ∙ first-passes _ _ b ∙ first-only N)
 
+-- the lengths that the code compares with are the definitions' where the settings are allowed
+pub lent-same : (S : Settings) (a b : Bool) (N : ℕ) → (settingsRefusal S ≡ 0 → a ≡ b) → lent S a N ≡ lent S b N
+unfolding lent first
+lent-same S a b N = go (settingsRefusal S)
+  where
+    go : (n : ℕ) → (n ≡ 0 → a ≡ b) → first (n ∷ unless 7 a ∷ N ∷ []) ≡ first (n ∷ unless 7 b ∷ N ∷ [])
+    go zero h = ap (λ x. first (unless 7 x ∷ N ∷ [])) (h refl)
+    go (suc n) h = refl
+
 pub lent-fits : (S : Settings) (fits : Bool) → lent S fits 0 ≡ 0 → fits ≡ true
 unfolding lent
 lent-fits S fits h = unless-zero 6 fits (first-zero _ _ (first-zero _ _ h .1) .0)
 
-pub lent-valid : (S : Settings) (fits : Bool) → lent S fits 0 ≡ 0 → Valid S
+pub lent-allowed : (S : Settings) (fits : Bool) → lent S fits 0 ≡ 0 → settingsRefusal S ≡ 0
 unfolding lent
-lent-valid S fits h = settings-valid S (first-zero _ _ h .0)
+lent-allowed S fits h = first-zero _ _ h .0
+
+pub lent-valid : (S : Settings) (fits : Bool) → lent S fits 0 ≡ 0 → Valid S
+lent-valid S fits h = settings-valid S (lent-allowed S fits h)
 
 pub lent-degree : (S : Settings) (fits : Bool) → lent S fits 0 ≡ 0 → S .degree ≤ width
 lent-degree S fits h = degree-most S (lent-valid S fits h)

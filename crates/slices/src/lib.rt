@@ -1,5 +1,7 @@
-// Elements and round polynomials in slices of exactly their lengths, and verdicts as numbers: what the calls for C and Rust share. Each function is safe for
-// every input, and says what it gives for a degree of at most `width` and slices that have their lengths.
+// Elements and round polynomials in slices of exactly their lengths, and verdicts as numbers: what the calls for C and Rust share. Each public function is safe
+// for every input, and says what it gives for settings that are allowed and slices that have their lengths.
+use protocol::ROWS;
+use protocol::ROWS_WIDTH;
 use protocol::Residue;
 use protocol::Settings;
 use protocol::Verdict;
@@ -11,13 +13,16 @@ ghost use mathlib.Core.Bool.{_&&_};
 ghost use Prim.Native.Nat.{_+_, _*_, _≤_};
 ghost use lib.ListN.{length, getD, take};
 ghost use Rattle.protocol.specs.Basic.{Provided};
-ghost use Rattle.protocol.specs.Element.{width, padded, paddedSigned};
-ghost use Rattle.residues.specs.Lists.{spliced};
-ghost use Rattle.slices.specs.Slices.{lent, polynomialOf, laid};
-ghost use Rattle.slices.specs.Slices as slices;
+ghost use Rattle.protocol.specs.Element.{width, valueRow, paddedSigned};
+ghost use Rattle.protocol.specs.Layout.{rowsMost, rowsWidth, itemCells, polynomialCells};
+ghost use Rattle.protocol.specs.Rows.{together};
 ghost use Rattle.protocol.specs.Session.{verdictNumber};
+ghost use Rattle.protocol.specs.Settings.{settingsRefusal};
+ghost use Rattle.residues.specs.Lists.{spliced, splicedRows};
+ghost use Rattle.slices.specs.Slices.{lent, valuesOf, polynomialOf, laid, placed};
+ghost use Rattle.slices.specs.Slices as slices;
 
-// Refusals 3 to 6, then 7 where the slices that are lent beside have not their lengths.
+// Refusals 3 to 6 and 16, then 7 where the slices that are lent beside have not their lengths.
 pub fn refusal(settings: Settings, fits: bool) -> u32
     ensures { λ r. ⌜ r ≡ lent settings fits 0 ⌝ }
 {
@@ -51,11 +56,61 @@ pub fn wide(x: u32) -> u64
     x as u64
 }
 
-// An element of residues.
-pub fn residues(d: u32, t: &[Residue]) -> [Residue; WIDTH]
-    ensures { λ r. ⌜ Provided (d ≤ width) (Provided (length (now (t .entry)) ≡ d) (r ≡ padded d (now (t .entry)))) ⌝ }
+// Copies d numbers of a table, from place `from` on, to another from place `at` on.
+fn copy_row(d: usize, t: &[Residue], from: usize, at: usize, out: &mut [Residue])
+    ensures { λ _. ⌜ Provided ((from + d ≤ length (now (t .entry))) × (at + d ≤ length (now (out .entry))))
+        (now (out .exit) ≡ spliced (λ k. getD (now (t .entry)) (from + k) 0) at d (now (out .entry))) ⌝ }
 {
-    elements::element_at(d, t, 0)
+    if t.len() < from {
+        return;
+    }
+    residues::store(d, &t[from..], at, out);
+}
+
+// Writes the elements of a flat table to their rows by value.
+fn place_rows(d: usize, rows: usize, t: &[Residue], out: &mut [Residue])
+    ensures { λ _. ⌜ Provided ((d ≤ width) × (rows ≤ rowsMost) × (rows * d ≤ length (now (t .entry))) × (length (now (out .entry)) ≡ rowsWidth))
+        (now (out .exit) ≡ placed d rows (now (t .entry)) (now (out .entry))) ⌝ }
+{
+    if d > WIDTH {
+        return;
+    }
+    if rows > ROWS {
+        return;
+    }
+    let mut r: usize = 0;
+    while r < rows {
+        copy_row(d, t, r * d, r * WIDTH, out);
+        r += 1;
+    }
+}
+
+// Writes the elements of the rows by value to a flat table from place `at` on.
+fn lay_rows(d: usize, rows: usize, a: &[Residue], at: usize, out: &mut [Residue])
+    requires { ⌜ at ≤ 2 * rowsWidth ⌝ }
+    ensures { λ _. ⌜ Provided ((d ≤ width) × (rows ≤ rowsMost) × (length (now (a .entry)) ≡ rowsWidth) × (at + rows * d ≤ length (now (out .entry))))
+        (now (out .exit) ≡ splicedRows (λ r k. getD (valueRow (now (a .entry)) r) k 0) at d rows (now (out .entry))) ⌝ }
+{
+    if d > WIDTH {
+        return;
+    }
+    if rows > ROWS {
+        return;
+    }
+    let mut r: usize = 0;
+    while r < rows {
+        copy_row(d, a, r * WIDTH, at + r * d, out);
+        r += 1;
+    }
+}
+
+// An element of residues of each row.
+pub fn residues(settings: Settings, t: &[Residue]) -> [Residue; ROWS_WIDTH]
+    ensures { λ r. ⌜ Provided (settingsRefusal settings ≡ 0) (Provided (length (now (t .entry)) ≡ itemCells settings) (r ≡ valuesOf settings (now (t .entry)))) ⌝ }
+{
+    let mut a: [Residue; ROWS_WIDTH] = [0; ROWS_WIDTH];
+    place_rows(settings.degree as usize, settings.rows as usize, t, &mut a);
+    a
 }
 
 // An element of whole numbers.
@@ -66,32 +121,28 @@ pub fn wholes(d: u32, t: &[i32]) -> [i32; WIDTH]
 }
 
 // A round polynomial, its elements written to their places.
-pub fn polynomial(d: u32, t: &[Residue]) -> [[Residue; WIDTH]; 3]
-    ensures { λ r. ⌜ Provided (d ≤ width) (Provided (length (now (t .entry)) ≡ 3 * d) (r ≡ polynomialOf d (now (t .entry)))) ⌝ }
+pub fn polynomial(settings: Settings, t: &[Residue]) -> [[Residue; ROWS_WIDTH]; 3]
+    ensures { λ r. ⌜ Provided (settingsRefusal settings ≡ 0)
+        (Provided (length (now (t .entry)) ≡ polynomialCells settings) (r ≡ polynomialOf settings (now (t .entry)))) ⌝ }
 {
-    let n = d as usize;
-    let mut p: [[Residue; WIDTH]; 3] = [[0; WIDTH]; 3];
+    let d = settings.degree as usize;
+    let rows = settings.rows as usize;
+    let n = sizes::item_cells(settings);
+    let mut p: [[Residue; ROWS_WIDTH]; 3] = [[0; ROWS_WIDTH]; 3];
     if t.len() < 2 * n {
         return p;
     }
-    residues::store(n, t, 0, &mut p[0]);
-    residues::store(n, &t[n..], 0, &mut p[1]);
-    residues::store(n, &t[2 * n..], 0, &mut p[2]);
+    place_rows(d, rows, t, &mut p[0]);
+    place_rows(d, rows, &t[n..], &mut p[1]);
+    place_rows(d, rows, &t[2 * n..], &mut p[2]);
     p
 }
 
-// Writes the first n places of an element to a slice from place `at` on.
-fn store_at(n: usize, a: [Residue; WIDTH], at: usize, out: &mut [Residue])
-    ensures { λ _. ⌜ Provided ((n ≤ width) × (at + n ≤ length (now (out .entry)))) (now (out .exit) ≡ spliced (λ k. getD a k 0) at n (now (out .entry))) ⌝ }
+// Writes an element of each row to a slice of rows·d numbers.
+pub fn store_residues(settings: Settings, a: [Residue; ROWS_WIDTH], out: &mut [Residue])
+    ensures { λ _. ⌜ Provided (settingsRefusal settings ≡ 0) (Provided (length (now (out .entry)) ≡ itemCells settings) (now (out .exit) ≡ together settings a)) ⌝ }
 {
-    residues::store(n, &a, at, out);
-}
-
-// Writes the first d places of an element to a slice of d numbers.
-pub fn store_residues(d: u32, a: [Residue; WIDTH], out: &mut [Residue])
-    ensures { λ _. ⌜ Provided (d ≤ width) (Provided (length (now (out .entry)) ≡ d) (now (out .exit) ≡ take d a)) ⌝ }
-{
-    store_at(d as usize, a, 0, out);
+    lay_rows(settings.degree as usize, settings.rows as usize, &a, 0, out);
 }
 
 pub fn store_wholes(d: u32, a: [i32; WIDTH], out: &mut [i32])
@@ -100,14 +151,17 @@ pub fn store_wholes(d: u32, a: [i32; WIDTH], out: &mut [i32])
     elements::store_signed(d as usize, &a, out);
 }
 
-// Writes the three elements of a round polynomial one after the other to a slice of 3·d numbers.
-pub fn store_polynomial(d: u32, p: [[Residue; WIDTH]; 3], out: &mut [Residue])
-    ensures { λ _. ⌜ Provided (d ≤ width) (Provided (length (now (out .entry)) ≡ 3 * d) (now (out .exit) ≡ laid d p)) ⌝ }
+// Writes the three items of a round polynomial one after the other to a slice of 3·rows·d numbers.
+pub fn store_polynomial(settings: Settings, p: [[Residue; ROWS_WIDTH]; 3], out: &mut [Residue])
+    ensures { λ _. ⌜ Provided (settingsRefusal settings ≡ 0)
+        (Provided (length (now (out .entry)) ≡ polynomialCells settings) (now (out .exit) ≡ laid settings p)) ⌝ }
 {
-    let n = d as usize;
-    store_at(n, p[0], 0, out);
-    store_at(n, p[1], n, out);
-    store_at(n, p[2], 2 * n, out);
+    let d = settings.degree as usize;
+    let rows = settings.rows as usize;
+    let n = sizes::item_cells(settings);
+    lay_rows(d, rows, &p[0], 0, out);
+    lay_rows(d, rows, &p[1], n, out);
+    lay_rows(d, rows, &p[2], 2 * n, out);
 }
 
 // A verdict as a number.

@@ -50,7 +50,7 @@ columns-are S P ls e =
 
 settings-elsewhere : (p : ℕ) → AllParts (λ q. ¬ (q ≡ suc p)) settingsSpots
 unfolding spots tabulate shapeSize settingsShape shape choose spotAt
-settings-elsewhere p = (apart, (apart, (apart, (apart, tt))))
+settings-elsewhere p = (apart, (apart, (apart, (apart, (apart, tt)))))
   where
     apart : ¬ (0 ≡ suc p)
     apart e = omega arith

@@ -3,7 +3,7 @@
 --   look-refusal                   a text whose settings are refused
 --   same-refusal, number-is        where the lent tables have their lengths, the reader refuses what the program refuses; of a text that a first look
 --                                  refuses, or that has other lines, nothing is asked
---   settings-unrefused             where nothing is refused, a first look refuses nothing
+--   settings-unrefused, same-lines where nothing is refused, a first look refuses nothing, and the text has the lines that its settings ask for
 --   settings-are, tables-are       what the reader gives then
 --   settings-allowed, entries-passed   and what is known of that
 --   still-fitting                  tables keep their lengths
@@ -67,7 +67,7 @@ module _ (text : List ℕ) where
       unfolding textRefusal
       settings-unrefused = first-zero _ _ unrefused .0
 
-      same-lines : sameSpots (spotsOf (linesOf text)) (wanted S P) ≡ true
+      pub same-lines : sameSpots (spotsOf (linesOf text)) (wanted S P) ≡ true
       unfolding textRefusal
       same-lines = and-split (unless-zero 6 _ (first-zero _ _ (first-zero _ _ unrefused .1) .0)) .0
 

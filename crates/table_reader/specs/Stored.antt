@@ -33,7 +33,7 @@ linesRefusal P n text = first (lookRefusal text ∷ unless 7 (inOrder P text && 
 abbrev pub First : List ℤ → List ℤ → Type 0
 First vs values = take (length vs) values ≡ vs
 
--- lines that were followed to the text's end leave nothing to refuse by 1 to 6; the answer for a text that is refused by them is no
+-- lines that were followed to the text's end leave nothing to refuse by 1 to 6 or 16; the answer for a text that is refused by them is no
 pub record Followed (P : Parts) (text : List ℕ) (r : Bool) (values : List ℤ) : Type 0 where
   pub unrefused : r ≡ true → lookRefusal text ≡ 0
   pub answer : lookRefusal text ≡ 0 → r ≡ inOrder P text

@@ -11,12 +11,10 @@ use protocol::Settings;
 use text_parts::CELLS;
 use text_parts::VALUES;
 ghost use mathlib.Core.Path.{_≡_};
-ghost use Prim.Native.Nat.{_≤_};
 ghost use lib.ListN.{length};
 ghost use Rattle.protocol.specs.Basic.{Provided};
 ghost use Rattle.protocol.specs.Promises.{Read};
-ghost use Rattle.protocol.specs.Settings.{settingsRefusal};
-ghost use Rattle.text_parts.specs.Parts.{tablesOf, cellsRoom, lentCells};
+ghost use Rattle.text_parts.specs.Parts.{tablesOf, lentCells};
 ghost use Rattle.text_lines.specs.Header.{Begins};
 ghost use Rattle.table_reader.specs.Parts.{Roomy};
 
@@ -59,11 +57,10 @@ fn read_by(
     loaded
 }
 
-// How many numbers of a key or a message to lend for a text with these settings: as many as they ask for, and no more than a text has lines for.
-pub fn lent_cells(settings: Settings) -> usize
-    ensures { λ r. ⌜ Provided (settingsRefusal settings ≡ 0) (r ≡ lentCells settings) × (r ≤ cellsRoom) ⌝ }
+// How many numbers of a table to lend for a text whose settings ask for so many: all of them, and no more than a text has lines for.
+pub fn lent_cells(cells: usize) -> usize
+    ensures { λ r. ⌜ r ≡ lentCells cells ⌝ }
 {
-    let cells = sizes::cells(settings);
     if cells <= CELLS {
         return cells;
     }

@@ -14,6 +14,7 @@ ghost use mathlib.Core.Bool.{true};
 ghost use Prim.Native.Nat.{_*_, _≤_};
 ghost use lib.ListN.{length};
 ghost use Rattle.protocol.specs.Basic.{Provided};
+ghost use Rattle.protocol.specs.Settings.{settingsRefusal};
 ghost use Rattle.protocol.specs.Text.{shapeSize, spots};
 ghost use Rattle.text_parts.specs.Parts.{asShape};
 ghost use Rattle.table_reader.specs.Parts.{partSpots, Took, RoomFor};
@@ -65,7 +66,7 @@ pub fn read_parts(
     values: &mut [i64],
 ) -> Taken
     requires { ⌜ length (now text) ≤ 8 * length (now values) ⌝ }
-    ensures lines { λ r. ⌜ Provided ((settings .depth ≤ 8) × (from ≤ length (now (text .entry))))
+    ensures lines { λ r. ⌜ Provided ((settingsRefusal settings ≡ 0) × (from ≤ length (now (text .entry))))
         (Took (now (text .entry)) from (partSpots settings parts) r (now (values .exit))) ⌝ }
     ensures room { λ r. ⌜ (r .found ≡ true → RoomFor settings parts (length (now (values .exit)))) ⌝ }
 {

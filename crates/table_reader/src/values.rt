@@ -19,7 +19,7 @@ ghost use Rattle.table_reader.specs.Parts.{RoomFor, Roomy};
 ghost use Rattle.table_reader.specs.Stored.{Followed, Gathered};
 
 // Do the lines of a text that begins with these settings go on with the required ones up to its end, where its length is allowed. All lines are then of the
-// stated shape, and one walk has read them: refusals 1 to 6 do not apply.
+// stated shape, and one walk has read them: refusals 1 to 6 and 16 do not apply.
 fn read_wanted(
     parts: Parts,
     settings: Settings,

@@ -22,7 +22,6 @@ use Rattle.protocol.specs.Text.{Tables, textLimit, narrowLimit, textOf, entries
 use Rattle.protocol.specs.Promises.{Wrote}
 use Rattle.protocol.proofs.Tests.{first-nothing, first-zero, unless-zero}
 use Rattle.protocol.proofs.Refusals.{first-only, first-fails, first-holds, front-stops, front-passes}
-use Rattle.protocol.proofs.TextLimits.{allowed}
 use Rattle.table_writer.specs.Tables.{tablesRefusal, Writable, Output}
 
 abbrev answer : ℕ → ℕ → Written
@@ -69,12 +68,10 @@ module _ (S : Settings) (P : Parts) (t : Tables) (out : List ℕ) where
     pub passed : Writable S P t
     unfolding tablesRefusal
     passed =
-        let bounds = allowed S (first-zero _ _ fine .0) in
         let (lengths, more) = first-zero _ _ (first-zero _ _ fine .1) in
         let entries : entriesRefusal S (all (within narrowLimit) (t .last)) t ≡ 0 = first-zero _ _ more .0 in
         record {
-          depth = bounds .depth;
-          modulus = bounds .modulus;
+          settings = first-zero _ _ fine .0;
           residues = residues-passed S _ t entries;
           fitting = unless-zero 6 _ lengths;
         }

@@ -19,13 +19,13 @@ use Rattle.protocol.specs.declared.Settings.{Settings}
 use Rattle.protocol.specs.declared.Parts.{Parts}
 use Rattle.protocol.specs.Basic.{all}
 use Rattle.protocol.specs.Settings.{allBelow}
-use Rattle.protocol.specs.Text.{Line, Shape, Tables, textLimit, valueLimit, names, settingsShape, shapes, shapeSize, contents, lineText, linesText, block, blocks, blockLines, textOf}
+use Rattle.protocol.specs.Text.{Line, Shape, Tables, textLimit, valueLimit, names, settingsShape, shapes, shapeSize, settingsValues, contents, lineText, linesText, block, blocks, blockLines, textOf}
 use Rattle.protocol.proofs.Tests.{every-at, and-split}
-use Rattle.protocol.proofs.TextLimits.{below-limited}
+use Rattle.protocol.proofs.TextLimits.{allowed, below-limited}
 use Rattle.protocol.proofs.LineLaws.{lines-append}
 use Rattle.text_parts.specs.Parts.{tableCount, valuesRoom, partShape, partOf, lengthsOf, lengthsAre}
 use Rattle.text_parts.specs.Flat.{start, total, piece, joined, tableValues}
-use Rattle.text_parts.proofs.Shallow.{part-of, lengths-shallow}
+use Rattle.text_parts.proofs.Counted.{part-of, lengths-counted}
 use Rattle.text_parts.proofs.Exactly.{lengths-fit}
 use Rattle.text_parts.proofs.Flat.{piece-joined, values-lengths}
 use Rattle.table_writer.specs.Put.{partText}
@@ -107,7 +107,7 @@ all-shapes S P = drop 1 (shapes S P)
 module _ (S : Settings) (P : Parts) (t : Tables) (w : Writable S P t) where
   shape-at : (i : ℕ) → partOf S P (i + 1) ≡ getD (all-shapes S P) i settingsShape
   unfolding partShape shapes
-  shape-at i = part-of S P (i + 1) (w .depth) ∙ ap (λ j. getD (shapes S P) j settingsShape) (add-one i)
+  shape-at i = part-of S P (w .settings) (i + 1) ∙ ap (λ j. getD (shapes S P) j settingsShape) (add-one i)
 
   six-tables : length (tableValues t) ≡ tableCount
   unfolding tableValues contents
@@ -118,12 +118,15 @@ module _ (S : Settings) (P : Parts) (t : Tables) (w : Writable S P t) where
   shapes-count = refl
 
   pub lengths-are : lengthsAre (partOf S P) (lengthsOf t) ≡ true
-  lengths-are = lengths-shallow S P (lengthsOf t) (w .depth) ∙ lengths-fit S P t ∙ w .fitting
+  lengths-are = lengths-counted S P (w .settings) (lengthsOf t) ∙ lengths-fit S P t ∙ w .fitting
+
+  modulus-limited : S .modulus ≤ valueLimit
+  modulus-limited = allowed S (w .settings) .modulus
 
   -- no residue is past the limit
   capped-list : (v : List ℕ) → allBelow S v ≡ true → map capped v ≡ map pos v
   unfolding allBelow
-  capped-list v h = capped-within v (below-limited valueLimit (S .modulus) v (w .modulus) h)
+  capped-list v h = capped-within v (below-limited valueLimit (S .modulus) v modulus-limited h)
 
   pub gathered-are : gathered t ≡ tableValues t
   unfolding gathered tableValues contents
@@ -133,11 +136,11 @@ module _ (S : Settings) (P : Parts) (t : Tables) (w : Writable S P t) where
       λ j. capped-list (t .key) k j ∷ t .message ∷ capped-list (t .commitment) c j ∷ capped-list (t .rounds) r j ∷ map pos (t .challenges) ∷ t .last ∷ []
 
   settings-first : settingsText S ++ linesText (flatMap blockLines (zipWith block (all-shapes S P) (tableValues t))) ≡ textOf S P t
-  unfolding settingsText partText textOf blocks shapes contents tableValues zipWith flatMap
+  unfolding settingsText partText textOf blocks shapes contents settingsValues tableValues zipWith flatMap
   settings-first =
       let more = linesText (flatMap blockLines (zipWith block (all-shapes S P) (tableValues t))) in
       append-assoc names _ _
-      ∙ ap (λ q. names ++ (partText settingsShape (pos (S .degree) ∷ pos (S .depth) ∷ q ∷ pos (S .bound) ∷ []) ++ more)) (capped-is (S .modulus) (w .modulus))
+      ∙ ap (λ q. names ++ (partText settingsShape (pos (S .degree) ∷ pos (S .depth) ∷ q ∷ pos (S .bound) ∷ pos (S .rows) ∷ []) ++ more)) (capped-is (S .modulus) modulus-limited)
       ∙ ap (λ l. names ++ l) (sym (lines-append _ _))
 
   pub text-values : (values rest : List ℤ) → values ≡ joined (tableValues t) ++ rest → valuesText S P (lengthsOf t) values ≡ textOf S P t

@@ -6,13 +6,13 @@
 --   parted b v k text       a text, and behind it the lines of k parts: part i has the shape b i and the values v i
 --   behindText S P n vs k   the first k tables behind a text, their lengths being n and their values vs, one table after the other
 --   valuesText S P n vs     the text of such values
---   tablesRefusal           refusals 3 to 10 of the writer
---   Writable S P t          what the writer's core asks: depth and modulus are allowed, the tables have their lengths, and residues are below q
+--   tablesRefusal           refusals 3 to 10, and 16, of the writer
+--   Writable S P t          what the writer's core asks: the settings are allowed, the tables have their lengths, and residues are below q
 --   Output text out r out′  what is answered and left in the output slice where the text is all that can be refused
 use mathlib.Core.Path.{_≡_}
 use mathlib.Core.Bool.{true, _&&_}
 use mathlib.Core.List.{List, [], _∷_, _++_, map}
-use Prim.Native.Nat.{ℕ, zero, suc, _+_, _≤_, min}
+use Prim.Native.Nat.{ℕ, zero, suc, _+_, min}
 use lib.ListN.{length}
 use lib.IntN.{ℤ, pos}
 use Rattle.protocol.specs.declared.Settings.{Settings}
@@ -39,7 +39,7 @@ gathered t =
     ∷ []
 
 unfoldable pub settingsText : Settings → List ℕ
-settingsText S = names ++ partText settingsShape (pos (S .degree) ∷ pos (S .depth) ∷ capped (S .modulus) ∷ pos (S .bound) ∷ [])
+settingsText S = names ++ partText settingsShape (pos (S .degree) ∷ pos (S .depth) ∷ capped (S .modulus) ∷ pos (S .bound) ∷ pos (S .rows) ∷ [])
 
 unfoldable pub parted : (ℕ → Shape) → (ℕ → List ℤ) → ℕ → List ℕ → List ℕ
 parted b v zero text = text
@@ -56,8 +56,7 @@ unfoldable pub tablesRefusal : Settings → Parts → Tables → ℕ
 tablesRefusal S P t = first (settingsRefusal S ∷ unless 7 (fits S P t) ∷ entriesRefusal S (all (within narrowLimit) (t .last)) t ∷ [])
 
 pub record Writable (S : Settings) (P : Parts) (t : Tables) : Type 0 where
-  pub depth : S .depth ≤ 8
-  pub modulus : S .modulus ≤ valueLimit
+  pub settings : settingsRefusal S ≡ 0
   pub residues : allBelow S (t .key) && (allBelow S (t .commitment) && allBelow S (t .rounds)) ≡ true
   pub fitting : fits S P t ≡ true
 

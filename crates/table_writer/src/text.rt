@@ -41,6 +41,7 @@ pub fn put_settings(settings: Settings, out: &mut [u8]) -> usize
         value_of(settings.depth),
         residue_value(settings.modulus),
         value_of(settings.bound),
+        value_of(settings.rows),
     ];
     put_part(settings_shape(), &values, 22, out)
 }

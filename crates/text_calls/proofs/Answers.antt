@@ -41,17 +41,17 @@ module _ (text : List ℕ) (l : Loaded) (e : l ≡ lookAnswer text) where
         same : l .refusal ≡ lookNumber text settings
         same = unfold lookNumber in look-number ∙ sym (first-stops _ _ (λ z. h (look-number ∙ z)))
 
-    pub look-unfit : l .refusal ≡ 0 → length settings ≢ 4 → Looked text settings 7 settings
+    pub look-unfit : l .refusal ≡ 0 → length settings ≢ settingsWidth → Looked text settings 7 settings
     look-unfit h s = record { refusal = same; settings-exit = sym (granted-refused _ _ _ (λ z. let no : _≡_ {A = ℕ} 7 0 = same ∙ z in omega arith)) }
       where
         same : 7 ≡ lookNumber text settings
-        same = unfold lookNumber in unfold hasLength in unfold settingsWidth in sym (first-passes _ _ (sym look-number ∙ h) ∙ first-fails 6 _ _ (ne-eqb _ _ s))
+        same = unfold lookNumber in unfold hasLength in sym (first-passes _ _ (sym look-number ∙ h) ∙ first-fails 6 _ _ (ne-eqb _ _ s))
 
-    pub look-made : l .refusal ≡ 0 → length settings ≡ 4 → (settings′ : List ℕ) → settings′ ≡ settingsNumbers (l .settings) → Looked text settings 0 settings′
+    pub look-made : l .refusal ≡ 0 → length settings ≡ settingsWidth → (settings′ : List ℕ) → settings′ ≡ settingsNumbers (l .settings) → Looked text settings 0 settings′
     look-made h s settings′ p = record { refusal = same; settings-exit = p ∙ ap settingsNumbers (look-settings h) ∙ sym (granted-zero _ _ _ (sym same)) }
       where
         same : 0 ≡ lookNumber text settings
-        same = unfold lookNumber in unfold hasLength in unfold settingsWidth in sym (first-passes _ _ (sym look-number ∙ h) ∙ first-holds 7 _ _ (eq-eqb _ _ s) ∙ unfold first in refl)
+        same = unfold lookNumber in unfold hasLength in sym (first-passes _ _ (sym look-number ∙ h) ∙ first-holds 7 _ _ (eq-eqb _ _ s) ∙ unfold first in refl)
 
 -- ---- the table reader
 

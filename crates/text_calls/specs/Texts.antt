@@ -2,8 +2,8 @@
 --
 --   partsOf n          the parts that a number below 64 names
 --   partsNamed n       is it one: a bit that names no part is refusal 7
---   settingsWidth      4
---   settingsNumbers S  the four settings
+--   settingsWidth      5: how many settings there are
+--   settingsNumbers S  the settings
 use mathlib.Core.Bool.{Bool}
 use mathlib.Core.List.{List, [], _∷_}
 use Prim.Native.Nat.{ℕ, _/_, _%_}
@@ -24,8 +24,8 @@ partsOf n = record {
 unfoldable pub partsNamed : ℕ → Bool
 partsNamed n = ltb n 64
 
-unfoldable pub settingsWidth : ℕ
-settingsWidth = 4
+abbrev pub settingsWidth : ℕ
+settingsWidth = 5
 
 unfoldable pub settingsNumbers : Settings → List ℕ
-settingsNumbers S = S .degree ∷ S .depth ∷ S .modulus ∷ S .bound ∷ []
+settingsNumbers S = S .degree ∷ S .depth ∷ S .modulus ∷ S .bound ∷ S .rows ∷ []

@@ -1,9 +1,10 @@
 // The calls on text with numbers and slices only, for C and Rust.
 //
-// Settings go to a slice of four numbers: degree, depth, modulus, bound. Which of parts 1 to 6 are there is a number below 64: bit 0 is the key, bit 5 the
+// Settings go to a slice of five numbers: degree, depth, modulus, bound, rows. Which of parts 1 to 6 are there is a number below 64: bit 0 is the key, bit 5 the
 // final element. A refused call writes nothing to a slice.
 mod settings;
 
+use crate::settings::SETTINGS;
 use protocol::Parts;
 use protocol::Residue;
 use protocol::Settings;
@@ -40,7 +41,7 @@ pub fn look(text: &[u8], settings: &mut [u64]) -> u32
     if loaded.refusal != 0 {
         return loaded.refusal;
     }
-    if settings.len() != 4 {
+    if settings.len() != SETTINGS {
         return 7;
     }
     settings::store(loaded.settings, settings);
@@ -74,7 +75,7 @@ pub fn read(
         (tablesOf (now (key .entry)) (now (message .entry)) (now (commitment .entry)) (now (rounds .entry)) (now (challenges .entry)) (now (last .entry))) r
         (now (settings .exit)) (tablesOf (now (key .exit)) (now (message .exit)) (now (commitment .exit)) (now (rounds .exit)) (now (challenges .exit)) (now (last .exit))) ⌝ }
 {
-    if !slices::both(settings.len() == 4, parts < 64) {
+    if !slices::both(settings.len() == SETTINGS, parts < 64) {
         return refused(text);
     }
     let there = parts_of(parts);

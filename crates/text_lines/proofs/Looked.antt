@@ -98,7 +98,7 @@ module _ (text : List ℕ) (r : Loaded) (r-is : r ≡ lookAnswer text) where
 
 -- ---- the settings that a text begins with
 
--- four zeros are not allowed
+-- five zeros are not allowed
 no-settings : settingsRefusal noSettings ≡ 3
 unfolding settingsRefusal noSettings degreeAllowed among first unless
 no-settings = refl

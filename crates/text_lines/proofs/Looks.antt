@@ -1,4 +1,4 @@
--- A first look at a text: refusals 1 to 6 by the lines that it begins with and by the shape of those behind them.
+-- A first look at a text: refusals 1 to 6 and 16 by the lines that it begins with and by the shape of those behind them.
 --
 --   parsed-named, parsed-unnamed  the lines of a text, by its names line
 --   header-missing              a text that does not begin with settings is not well formed
@@ -85,17 +85,18 @@ values-append = map-append (λ (l : Line). l .value)
 take-front : (ls ms : List Line) (n : ℕ) → length ls ≡ n → take n (spotsOf (ls ++ ms)) ≡ spotsOf ls
 take-front ls ms n e = ap (take n) (spots-append ls ms) ∙ take-at (spotsOf ls) (spotsOf ms) n (map-length ls ∙ e)
 
-front-count : (ls : List Line) → spotsOf ls ≡ settingsSpots → length ls ≡ 4
+front-count : (ls : List Line) → spotsOf ls ≡ settingsSpots → length ls ≡ 5
 unfolding shapeSize settingsShape shape choose
 front-count ls e = sym (map-length ls) ∙ ap length e ∙ settings-count
 
-settings-front : (vs ws : List ℤ) → length vs ≡ 4 → settingsOf (vs ++ ws) ≡ settingsOf vs
+settings-front : (vs ws : List ℤ) → length vs ≡ 5 → settingsOf (vs ++ ws) ≡ settingsOf vs
 unfolding settingsOf
 settings-front vs ws e = λ j. record {
   degree = unsigned narrowLimit (List·getD-append vs ws (pos 0) 0 (omega arith) j);
   depth = unsigned narrowLimit (List·getD-append vs ws (pos 0) 1 (omega arith) j);
   modulus = unsigned valueLimit (List·getD-append vs ws (pos 0) 2 (omega arith) j);
   bound = unsigned narrowLimit (List·getD-append vs ws (pos 0) 3 (omega arith) j);
+  rows = unsigned narrowLimit (List·getD-append vs ws (pos 0) 4 (omega arith) j);
 }
 
 -- ---- a text that does not begin with settings
@@ -120,7 +121,7 @@ pub record Settled (text : List ℕ) (vs : List ℤ) (rest : List ℕ) : Type 0 
   pub spots-are : spotsOf front ≡ settingsSpots
   pub values-are : valuesOf front ≡ vs
   pub parsed-is : parsed text ≡ lines-before front (allLines rest)
-  pub shorter : length rest + 54 ≤ length text
+  pub shorter : length rest + 62 ≤ length text
   pub place-is : drop (length text - length rest) text ≡ rest
 
 settled-by : (text : List ℕ) (vs : List ℤ) (rest : List ℕ) → readSettings text ≡ some (vs, rest) → (b : Bool) → beginsWithNames text ≡ b → Settled text vs rest
@@ -161,7 +162,7 @@ module _ (text : List ℕ) (vs : List ℤ) (rest : List ℕ) (h : Settled text v
       ap settingsIn (settled-lines more e) ∙ ap settingsOf (values-append (h .front) more ∙ ap (λ l. l ++ valuesOf more) (h .values-are))
       ∙ settings-front vs (valuesOf more) (ap length (sym (h .values-are)) ∙ length-map (h .front) (λ l. l .value) ∙ front-count (h .front) (h .spots-are))
 
-  -- refusals 2 to 6
+  -- refusals 2 to 6 and 16
   settled-refusal : (o : Option (List Line)) → allLines rest ≡ o →
       first (unless 2 (wellFormed text) ∷ settingsRefusal (settingsIn (linesOf text)) ∷ []) ≡ choose (present o) (settingsRefusal (settingsOf vs)) 2
   unfolding choose present

@@ -40,6 +40,7 @@ fn no_settings() -> Settings
         depth: 0,
         modulus: 0,
         bound: 0,
+        rows: 0,
     }
 }
 
@@ -90,7 +91,7 @@ pub fn unsigned_narrow(value: i64) -> u32
     unsigned(NARROW_LIMIT as u64, value) as u32
 }
 
-// The names line and the lines of part 0: degree, depth, modulus and bound.
+// The names line and the lines of part 0: degree, depth, modulus, bound and rows.
 pub fn read_header(text: &[u8]) -> Header
     ensures { λ r. ⌜ r ≡ headerAnswer (now (text .entry)) (readSettings (now (text .entry))) ⌝ }
 {
@@ -118,7 +119,14 @@ pub fn read_header(text: &[u8]) -> Header
     else {
         return no_header();
     };
-    let Number::Value { value: bound, next } = value_at(text, bound_on, 0, 0, 3) else {
+    let Number::Value {
+        value: bound,
+        next: rows_on,
+    } = value_at(text, bound_on, 0, 0, 3)
+    else {
+        return no_header();
+    };
+    let Number::Value { value: rows, next } = value_at(text, rows_on, 0, 0, 4) else {
         return no_header();
     };
     let settings = Settings {
@@ -126,6 +134,7 @@ pub fn read_header(text: &[u8]) -> Header
         depth: unsigned_narrow(depth),
         modulus: unsigned_wide(modulus),
         bound: unsigned_narrow(bound),
+        rows: unsigned_narrow(rows),
     };
     Header {
         found: true,
@@ -144,7 +153,7 @@ pub fn or_malformed(text: &[u8], from: usize, refusal: u32) -> u32
     refusal
 }
 
-// A first look at a text's settings: refusals 1 to 6.
+// A first look at a text's settings: refusals 1 to 6 and 16.
 pub fn read_settings(text: &[u8]) -> Loaded
     ensures { λ r. ⌜ r ≡ lookAnswer (now (text .entry)) ⌝ }
 {

@@ -17,7 +17,7 @@ use Rattle.protocol.specs.declared.Settings.{Settings}
 use Rattle.protocol.specs.declared.Parts.{Parts}
 use Rattle.protocol.specs.Basic.{all, every, choose}
 use Rattle.protocol.specs.Settings.{hasLength}
-use Rattle.protocol.specs.Text.{Tables, shape, settingsShape, shapes, shapeSize, contents, block, blocks, blockFits, fits}
+use Rattle.protocol.specs.Text.{Tables, shape, settingsShape, shapes, shapeSize, settingsValues, contents, block, blocks, blockFits, fits}
 use Rattle.protocol.proofs.Tests.{every-at}
 use Rattle.text_parts.specs.Parts.{tableCount, partShape, lengthsOf, lengthsAre, lengthsFit, Exact}
 
@@ -30,7 +30,7 @@ and-assoc true b c = refl
 and-assoc false b c = refl
 
 pub lengths-fit : (S : Settings) (P : Parts) (t : Tables) → lengthsFit S P (lengthsOf t) ≡ fits S P t
-unfolding lengthsAre every lengthsOf partShape fits blocks shapes contents zipWith all blockFits block hasLength settingsShape shape choose shapeSize
+unfolding lengthsAre every lengthsOf partShape fits blocks shapes contents settingsValues zipWith all blockFits block hasLength settingsShape shape choose shapeSize
 lengths-fit S P t = simp (and-assoc, same-count (t .key), same-count (t .commitment), same-count (t .rounds), same-count (t .challenges), and-true)
 
 module _ (S : Settings) (P : Parts) (t : Tables) (h : fits S P t ≡ true) where

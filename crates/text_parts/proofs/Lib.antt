@@ -1,5 +1,5 @@
 pub mod From
 pub mod Cells
-pub mod Shallow
+pub mod Counted
 pub mod Exactly
 pub mod Flat

@@ -5,7 +5,8 @@
 --   cellAt places p       line p of a part: its item and its place
 --   nextCell places c     the line behind a line; a line outside its item, or of the last item that there can be, stays
 --   partShape S P part    the shape of a part
---   partOf S P part       the same, and part 0 where the depth is not allowed
+--   counted S             are depth and rows not more than are allowed, so that items can be counted
+--   partOf S P part       the same, and part 0 where they are
 --   tableCount            6: how many parts there are behind the settings, each with a table
 --   lengthsOf t           how long the tables are; the table of part k + 1 has place k
 --   lengthsAre b n        has every table the length of its part, part k being b k
@@ -13,20 +14,19 @@
 --   Exact S P t           the lengths of tables that fit
 --   testedBy k            the refusal that tests the values of the table at place k; 0 where none does
 --   valuesRoom            8,192: the room for the values of every text that is not too long
---   cellsRoom             as many: the room for the key and the message of such a text
---   lentCells S           how many numbers of a key or a message are lent to the reader of such a text
---   roundCellsRoom        1,536: the room for the round polynomials of every transcript
+--   cellsRoom             as many: the room for each of its tables
+--   lentCells n           how many numbers of a table of n are lent to the reader of such a text
 use mathlib.Core.Path.{_≡_}
-use mathlib.Core.Bool.{Bool}
+use mathlib.Core.Bool.{Bool, _&&_}
 use mathlib.Core.List.{List, [], _∷_}
-use Prim.Native.Nat.{ℕ, _+_, _*_, _/_, _%_}
+use Prim.Native.Nat.{ℕ, _+_, _/_, _%_, min}
 use lib.Dec.{leb, ltb, eqb}
 use lib.ListN.{length, getD}
 use lib.IntN.{ℤ}
 use Rattle.protocol.specs.declared.Settings.{Settings}
 use Rattle.protocol.specs.declared.Parts.{Parts}
 use Rattle.protocol.specs.Basic.{choose, every}
-use Rattle.protocol.specs.Layout.{width, slots, cells}
+use Rattle.protocol.specs.Layout.{rowsMost}
 use Rattle.protocol.specs.Settings.{depthAllowed}
 use Rattle.protocol.specs.Text.{Tables, Shape, settingsShape, shapes, shapeSize}
 use Rattle.text_parts.specs.declared.Shape.{Shape as Part}
@@ -55,8 +55,11 @@ nextCell places c =
 unfoldable pub partShape : Settings → Parts → ℕ → Shape
 partShape S P part = getD (shapes S P) part settingsShape
 
+unfoldable pub counted : Settings → Bool
+counted S = depthAllowed S && leb (S .rows) rowsMost
+
 unfoldable pub partOf : Settings → Parts → ℕ → Shape
-partOf S P part = choose (depthAllowed S) (partShape S P part) settingsShape
+partOf S P part = choose (counted S) (partShape S P part) settingsShape
 
 abbrev pub tableCount : ℕ
 tableCount = 6
@@ -100,8 +103,5 @@ abbrev pub cellsRoom : ℕ
 cellsRoom = valuesRoom
 
 -- a text has no lines for more
-unfoldable pub lentCells : Settings → ℕ
-lentCells S = choose (leb (cells S) cellsRoom) (cells S) cellsRoom
-
-abbrev pub roundCellsRoom : ℕ
-roundCellsRoom = 3 * slots * width
+abbrev pub lentCells : ℕ → ℕ
+lentCells n = min n cellsRoom

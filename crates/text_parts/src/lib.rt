@@ -1,10 +1,9 @@
 // The parts of a text: what their lines are. One description for the reader and for the writer.
 use protocol::Parts;
+use protocol::ROWS;
 use protocol::Residue;
-use protocol::SLOTS;
 use protocol::Settings;
 use protocol::TEXT_LIMIT;
-use protocol::WIDTH;
 ghost use mathlib.Core.Path.{_≡_};
 ghost use Rattle.protocol.specs.Text.{shape, settingsShape, shapeSize};
 ghost use Rattle.text_parts.specs.Parts.{tablesOf, asShape, nextCell, partOf, lengthsOf, lengthsAre, testedBy};
@@ -15,10 +14,8 @@ pub const TABLES: usize = 6;
 // The room for the values of every text that is not too long, since a line has at least eight bytes: `valuesRoom` of the definitions.
 pub const VALUES: usize = TEXT_LIMIT / 8;
 
-// The largest key or message of a text, with a line for each number, and the largest table of round polynomials: `cellsRoom` and `roundCellsRoom` of the definitions.
+// The largest key, message or table of round polynomials of a text, with a line for each number: `cellsRoom` of the definitions.
 pub const CELLS: usize = VALUES;
-
-pub const ROUND_CELLS: usize = 3 * SLOTS * WIDTH;
 
 // A part: its number, its items and the places of an item.
 pub struct Shape {
@@ -58,11 +55,11 @@ pub fn settings_shape() -> Shape
     Shape {
         part: 0,
         items: 1,
-        places: 4,
+        places: 5,
     }
 }
 
-// The part of a number; part 0 where there is none of that number, and where the depth is not allowed.
+// The part of a number; part 0 where there is none of that number, and where the depth or the rows are more than are allowed.
 pub fn shape_of(settings: Settings, parts: Parts, part: u32) -> Shape
     ensures { λ r. ⌜ asShape r ≡ partOf settings parts part ⌝ }
 {
@@ -71,11 +68,15 @@ pub fn shape_of(settings: Settings, parts: Parts, part: u32) -> Shape
     if depth > 8 {
         return settings_shape();
     }
+    let rows = settings.rows;
+    if (rows as usize) > ROWS {
+        return settings_shape();
+    }
     match part {
-        1 => part_of(1, parts.key, 1u32 << depth, degree),
+        1 => part_of(1, parts.key, rows * (1u32 << depth), degree),
         2 => part_of(2, parts.message, 1u32 << depth, degree),
-        3 => part_of(3, parts.commitment, 1, degree),
-        4 => part_of(4, parts.rounds, 3 * depth, degree),
+        3 => part_of(3, parts.commitment, rows, degree),
+        4 => part_of(4, parts.rounds, rows * (3 * depth), degree),
         5 => part_of(5, parts.challenges, depth, 1),
         6 => part_of(6, parts.last, 1, degree),
         _ => settings_shape(),

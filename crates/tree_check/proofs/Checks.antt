@@ -7,7 +7,8 @@ use native.Mathlib.Omega.{arith}
 use lib.IntN.{ℤ, pos}
 use lib.ListN.{getD}
 use Rattle.protocol.specs.declared.Settings.{Settings}
-use Rattle.protocol.specs.Element.{signed, residue, signedAt, coefficients}
+use Rattle.protocol.specs.Element.{signed, residue, residueAt, signedAt, coefficients}
+use Rattle.protocol.specs.Layout.{itemCells, itemOf, treeChallenges}
 use Rattle.protocol.specs.Transcript.{endMet}
 use Rattle.protocol.specs.Tree.{nodes, leaves, leaf}
 use Rattle.protocol.proofs.Inputs.{settings-valid}
@@ -15,12 +16,14 @@ use Rattle.protocol.proofs.Reading.{tabulate-at}
 use Rattle.residues.proofs.Parts.{tail-at}
 use Rattle.equations.proofs.Polynomials.{part}
 pub use Rattle.equations.proofs.Polynomials.{part-long}
+use Rattle.equations.specs.Items.{rowElement}
+use Rattle.equations.proofs.Items.{items-cells, table-element}
 use Rattle.protocol.proofs.Agreement.{Same, end-same, first-same}
 use Rattle.protocol.proofs.Numbering.{before, before-power}
 use Rattle.protocol.proofs.Paths.{nodes-before}
 use Rattle.protocol.proofs.Places as Places
 use Rattle.protocol.proofs.Places.{AtNode}
-use Rattle.tree_check.specs.Nodes.{Tables, Round, leafMet}
+use Rattle.tree_check.specs.Nodes.{treeRow, Tables, Round, leafMet}
 
 module _ (S : Settings) where
   open Settings S using (degree as d, depth as L)
@@ -34,6 +37,12 @@ module _ (S : Settings) where
     unfolding leafMet
     leaf-is claim folded = end-same S leaf-same (first-same d folded) claim claim (λ _ _. refl)
 
+  -- ---- the elements of a node, in the row's part of the rounds
+
+  module _ (k n : ℕ) (rounds : List ℕ) (R : Round S k n) where
+    pub node-same : (j : ℕ) → j < 3 → Same d (rowElement S rounds (itemOf k j)) (residueAt d (treeRow S rounds) (itemOf k j))
+    node-same j h i l = sym (table-element S (treeChallenges S) rounds (itemOf k j) (omega (arith, R .branching)) i l)
+
   -- ---- a full tree's tables
 
   module _ (h k first space rounds finals : ℕ) (A : AtNode S h k first space) (T : Tables S rounds finals) where
@@ -41,11 +50,15 @@ module _ (S : Settings) where
     round-inside up = record {
       allowed = T .allowed;
       index = Places.node-most S h k first space A up (settings-valid S (T .allowed) .depth-most);
-      inside = omega (arith, T .rounds-long, Nat.mul-le-mul-right d fewer, Nat.add-mul (3 * k) 3 d);
+      branching = below-nodes;
+      inside = omega (arith, T .rounds-long, items-cells S (treeChallenges S), Nat.mul-le-mul-right (itemCells S) fewer, Nat.add-mul (3 * k) 3 (itemCells S));
     }
       where
+        below-nodes : k < nodes S
+        below-nodes = omega (arith, Places.branching-node S h k first space A up)
+
         fewer : 3 * k + 3 ≤ 3 * nodes S
-        fewer = omega (arith, Places.branching-node S h k first space A up)
+        fewer = omega (arith, below-nodes)
 
     pub leaf-inside : h ≡ 0 → (k - first) * d + d ≤ finals
     unfolding leaves before

@@ -13,13 +13,11 @@ use Rattle.protocol.specs.Basic.{every}
 use Rattle.protocol.specs.Element.{width}
 use Rattle.protocol.specs.Settings.{settingsRefusal, size, cells}
 use Rattle.protocol.specs.Opening.{halfLeft, foldResidues, foldKey}
-use Rattle.protocol.specs.Calls.{everyPath}
 use Rattle.protocol.specs.Tree.{child, challenge, nodes}
 use Rattle.protocol.specs.TreeCheck.{claimTo, nodeHolds, leafAccepted, treeAccepted}
 use Rattle.protocol.proofs.Agreement.{Alike, key-alike}
 use Rattle.protocol.proofs.Inputs.{settings-valid}
 use Rattle.protocol.proofs.Places.{at-root, twice-cells}
-use Rattle.protocol.proofs.TreeCheck.{every-path-tree}
 use Rattle.protocol.proofs.TreeKeys.{tree-alike}
 use Rattle.sizes.proofs.Limits.{cells-most}
 use Rattle.residues.specs.Lists.{spliced}
@@ -125,16 +123,14 @@ module _ (S : Settings) where
         go false b = refl
 
     module _ (C key : List ℕ) where
-      pub root-leaf : L ≡ 0 → leafMet S finals 0 C key ≡ everyPath S C key rounds E finals
+      pub root-leaf : L ≡ 0 → leafMet S finals 0 C key ≡ treeAccepted S rounds E finals L 0 0 C key
       unfolding leafMet treeAccepted leafAccepted
       root-leaf low =
           ap (λ j. leafMet S finals j C key) (sym (Nat.zero-sub (nodes S)))
           ∙ ap (λ h. treeAccepted S rounds E finals h 0 0 C key) (sym low)
-          ∙ sym (every-path-tree S rounds E finals C key)
 
-      pub root-tests : 0 < L → (nodeHolds S rounds 0 C && every 3 (below-root key)) ≡ everyPath S C key rounds E finals
+      pub root-tests : 0 < L → (nodeHolds S rounds 0 C && every 3 (below-root key)) ≡ treeAccepted S rounds E finals L 0 0 C key
       root-tests up =
           ap (λ b. nodeHolds S rounds 0 C && b) (sym (three (below-root key)))
           ∙ sym (node-tests S rounds E finals L 0 (nodes S) (2 * cells S) (at-root S (nodes S) (2 * cells S) refl refl) up C key)
           ∙ ap (λ t. treeAccepted S rounds E finals L 0 t C key) (Nat.sub-self L)
-          ∙ sym (every-path-tree S rounds E finals C key)

@@ -1,9 +1,10 @@
 // The check of every path of a tree (refusal 13).
 mod nodes;
+mod rows;
 
+use protocol::ROWS_WIDTH;
 use protocol::Residue;
 use protocol::Settings;
-use protocol::WIDTH;
 ghost use mathlib.Core.Path.{_≡_};
 ghost use Rattle.protocol.specs.Basic.{Provided};
 ghost use Rattle.protocol.specs.Calls.{everyPath};
@@ -12,7 +13,7 @@ ghost use Rattle.tree_check.specs.Nodes.{TreeGiven};
 // Is every path of a tree accepted. The key and the tree's tables stay as they are.
 pub fn every_path_accepted(
     settings: Settings,
-    commitment: [Residue; WIDTH],
+    commitment: [Residue; ROWS_WIDTH],
     key: &[Residue],
     rounds: &[Residue],
     challenges: &[u32],
@@ -24,7 +25,7 @@ pub fn every_path_accepted(
     if ranges::tests::settings_refusal(settings) != 0 {
         return false;
     }
-    if key.len() != sizes::cells(settings) {
+    if key.len() != sizes::key_cells(settings) {
         return false;
     }
     if rounds.len() != sizes::tree_round_cells(settings) {
@@ -33,5 +34,5 @@ pub fn every_path_accepted(
     if leaves.len() != sizes::leaf_cells(settings) {
         return false;
     }
-    nodes::root_accepted(settings, commitment, key, rounds, challenges, leaves)
+    rows::every_row_accepted(settings, &commitment, key, rounds, challenges, leaves)
 }

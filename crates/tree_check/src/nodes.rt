@@ -1,4 +1,5 @@
-// The check of a tree node by node. Each node hands its next claim and its folded key to its children, so that no fold is done twice.
+// The check of one row of a tree node by node: the rounds are lent from the row's first element on, and the key is the row's.
+// Each node hands its next claim and its folded key to its children, so that no fold is done twice.
 // All below a child of the root share one workspace: a node's key stands in the second half of its part, and its children work in the first half.
 use protocol::Residue;
 use protocol::Settings;
@@ -10,11 +11,10 @@ ghost use lib.ListN.{length, drop};
 ghost use Rattle.protocol.specs.Basic.{every, Provided};
 ghost use Rattle.protocol.specs.Settings.{settingsRefusal, cells};
 ghost use Rattle.protocol.specs.Tree as tree;
-ghost use Rattle.protocol.specs.Calls.{everyPath};
 ghost use Rattle.folds.specs.Folds.{foldDown};
 ghost use Rattle.protocol.specs.TreeCheck.{claimTo, nodeHolds, treeAccepted};
 ghost use Rattle.protocol.specs.Nodes.{AtNode, Alike};
-ghost use Rattle.tree_check.specs.Nodes.{Folding, RootFolding, RootFolded, Tables, Round, Reduced, Read, TreeGiven, leafMet, childAccepted};
+ghost use Rattle.tree_check.specs.Nodes.{Folding, RootFolding, RootFolded, Tables, Round, Reduced, Read, treeRow, leafMet, childAccepted};
 
 // Challenge j of node k.
 fn challenge(challenges: &[u32], k: u32, j: u32) -> u32
@@ -27,7 +27,7 @@ fn challenge(challenges: &[u32], k: u32, j: u32) -> u32
 // Does the round of node k hold.
 fn node_holds(settings: Settings, k: u32, claim: &[Residue], rounds: &[Residue]) -> bool
     requires { ⌜ Round settings k (length (now rounds)) × (settings .degree ≤ length (now claim)) ⌝ }
-    ensures { λ r. ⌜ r ≡ nodeHolds settings (now (rounds .entry)) k (now (claim .entry)) ⌝ }
+    ensures { λ r. ⌜ r ≡ nodeHolds settings (treeRow settings (now (rounds .entry))) k (now (claim .entry)) ⌝ }
 {
     equations::rounds::polynomial_holds(settings, k, claim, rounds)
 }
@@ -42,7 +42,8 @@ fn claim_to(
     claim: &mut [Residue],
 )
     requires { ⌜ Round settings k (length (now rounds)) × (j < 3) × (settings .degree ≤ length (now claim)) ⌝ }
-    ensures { λ _. ⌜ Provided (Reduced settings (now (rounds .entry))) (Alike (settings .degree) (now (claim .exit)) (claimTo settings (now (rounds .entry)) (now (challenges .entry)) k j)) ⌝ }
+    ensures { λ _. ⌜ Provided (Reduced settings (now (rounds .entry)))
+        (Alike (settings .degree) (now (claim .exit)) (claimTo settings (treeRow settings (now (rounds .entry))) (now (challenges .entry)) k j)) ⌝ }
 {
     let e = challenge(challenges, k, j);
     equations::rounds::next_claim(settings, k, e, rounds, claim);
@@ -91,7 +92,7 @@ fn child_accepted(
     requires { ⌜ Tables settings (length (now rounds)) (length (now leaves)) × (0 < h) × (j < 3) ⌝ }
     requires { ⌜ AtNode settings h k first (length (now ws)) ⌝ }
     ensures { λ r. ⌜ Provided (Read settings h (now (rounds .entry)) (now (ws .entry)))
-        ((r ≡ childAccepted settings (now (rounds .entry)) (now (challenges .entry)) (now (leaves .entry)) h k (drop (2 ^ h * settings .degree) (now (ws .entry))) j)
+        ((r ≡ childAccepted settings (treeRow settings (now (rounds .entry))) (now (challenges .entry)) (now (leaves .entry)) h k (drop (2 ^ h * settings .degree) (now (ws .entry))) j)
         × (drop (2 ^ h * settings .degree) (now (ws .exit)) ≡ drop (2 ^ h * settings .degree) (now (ws .entry)))) ⌝ }
 {
     let mut claim = [0u64; WIDTH];
@@ -126,7 +127,7 @@ fn subtree_accepted(
     requires { ⌜ Tables settings (length (now rounds)) (length (now leaves)) × (settings .degree ≤ length (now claim)) ⌝ }
     requires { ⌜ AtNode settings h k first (length (now ws)) ⌝ }
     ensures { λ r. ⌜ Provided (Read settings h (now (rounds .entry)) (now (ws .entry)))
-        (r ≡ treeAccepted settings (now (rounds .entry)) (now (challenges .entry)) (now (leaves .entry)) h k (settings .depth - h) (now (claim .entry))
+        (r ≡ treeAccepted settings (treeRow settings (now (rounds .entry))) (now (challenges .entry)) (now (leaves .entry)) h k (settings .depth - h) (now (claim .entry))
         (drop (2 ^ h * settings .degree) (now (ws .entry)))) ⌝ }
 {
     if h == 0 {
@@ -183,7 +184,7 @@ fn root_child_accepted(
 ) -> bool
     requires { ⌜ Tables settings (length (now rounds)) (length (now leaves)) × RootFolding settings (length (now key)) (length (now ws)) × (j < 3) ⌝ }
     ensures { λ r. ⌜ Provided (Reduced settings (now (rounds .entry)) × Reduced settings (now (key .entry)))
-        (r ≡ childAccepted settings (now (rounds .entry)) (now (challenges .entry)) (now (leaves .entry)) (settings .depth) 0 (now (key .entry)) j) ⌝ }
+        (r ≡ childAccepted settings (treeRow settings (now (rounds .entry))) (now (challenges .entry)) (now (leaves .entry)) (settings .depth) 0 (now (key .entry)) j) ⌝ }
 {
     let mut claim = [0u64; WIDTH];
     claim_to(settings, 0, j, rounds, challenges, &mut claim);
@@ -214,7 +215,7 @@ fn root_children_accepted(
 ) -> bool
     requires { ⌜ Tables settings (length (now rounds)) (length (now leaves)) × RootFolding settings (length (now key)) (length (now ws)) ⌝ }
     ensures { λ r. ⌜ Provided (Reduced settings (now (rounds .entry)) × Reduced settings (now (key .entry)))
-        (r ≡ every 3 (childAccepted settings (now (rounds .entry)) (now (challenges .entry)) (now (leaves .entry)) (settings .depth) 0 (now (key .entry)))) ⌝ }
+        (r ≡ every 3 (childAccepted settings (treeRow settings (now (rounds .entry))) (now (challenges .entry)) (now (leaves .entry)) (settings .depth) 0 (now (key .entry)))) ⌝ }
 {
     for j in 0..3u32 {
         if !root_child_accepted(settings, j, key, rounds, challenges, leaves, ws) {
@@ -227,20 +228,20 @@ fn root_children_accepted(
 // The root: its claim is the commitment and its key the unfolded one.
 pub(crate) fn root_accepted(
     settings: Settings,
-    commitment: [Residue; WIDTH],
+    commitment: &[Residue],
     key: &[Residue],
     rounds: &[Residue],
     challenges: &[u32],
     leaves: &[i32],
 ) -> bool
-    requires { ⌜ Tables settings (length (now rounds)) (length (now leaves)) × (length (now key) ≡ cells settings) ⌝ }
-    ensures { λ r. ⌜ Provided (TreeGiven settings (now (key .entry)) (now (rounds .entry)) (now (leaves .entry)))
-        (r ≡ everyPath settings commitment (now (key .entry)) (now (rounds .entry)) (now (challenges .entry)) (now (leaves .entry))) ⌝ }
+    requires { ⌜ Tables settings (length (now rounds)) (length (now leaves)) × (length (now key) ≡ cells settings) × (settings .degree ≤ length (now commitment)) ⌝ }
+    ensures { λ r. ⌜ Provided (Reduced settings (now (rounds .entry)) × Reduced settings (now (key .entry)))
+        (r ≡ treeAccepted settings (treeRow settings (now (rounds .entry))) (now (challenges .entry)) (now (leaves .entry)) (settings .depth) 0 0 (now (commitment .entry)) (now (key .entry))) ⌝ }
 {
     if settings.depth == 0 {
-        return leaf_accepted(settings, 0, &commitment, leaves, key);
+        return leaf_accepted(settings, 0, commitment, leaves, key);
     }
-    if !node_holds(settings, 0, &commitment, rounds) {
+    if !node_holds(settings, 0, commitment, rounds) {
         return false;
     }
     if key.len() <= FEW {

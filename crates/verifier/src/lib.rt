@@ -1,5 +1,7 @@
 // The verifier's session (PROTOCOL 4): moves by value, from one record to the next.
 use protocol::Moved;
+use protocol::ROWS;
+use protocol::ROWS_WIDTH;
 use protocol::Residue;
 use protocol::SLOTS;
 use protocol::Session;
@@ -8,9 +10,15 @@ use protocol::Started;
 use protocol::Verdict;
 use protocol::WIDTH;
 ghost use mathlib.Core.Path.{_≡_};
-ghost use Prim.Native.Nat.{_+_, _<_};
+ghost use Prim.Native.Nat.{_+_, _<_, _≤_};
+ghost use lib.ListN.{length};
+ghost use Rattle.protocol.specs.Basic.{Provided};
+ghost use Rattle.protocol.specs.Element.{zeros};
+ghost use Rattle.protocol.specs.Layout.{rowsMost, rowsWidth};
+ghost use Rattle.protocol.specs.Rows.{atRows};
 ghost use Rattle.protocol.specs.Session as moves;
-ghost use Rattle.verifier.specs.Records.{counted};
+ghost use Rattle.protocol.specs.Settings.{settingsRefusal};
+ghost use Rattle.verifier.specs.Records.{counted, rowRead};
 
 // A verifier holds its session's record. (A method stands in the crate of its type, and the record's type in the crate of the definitions.)
 pub struct Verifier(pub Session);
@@ -24,11 +32,12 @@ pub fn blank() -> Session
         depth: 0,
         modulus: 0,
         bound: 0,
+        rows: 0,
     };
     Session {
         settings: settings,
         done: 0,
-        claim: [0; WIDTH],
+        claims: [0; ROWS_WIDTH],
         challenges: [0u32; SLOTS],
         closed: true,
     }
@@ -44,21 +53,48 @@ fn shut(session: Session) -> Session
 }
 
 // The record after a round that holds.
-fn counted(session: Session, e: u32, claim: [Residue; WIDTH]) -> Session
+fn counted(session: Session, e: u32, claims: [Residue; ROWS_WIDTH]) -> Session
     requires { ⌜ session .done < 8 ⌝ }
-    ensures { λ r. ⌜ r ≡ counted session e claim ⌝ }
+    ensures { λ r. ⌜ r ≡ counted session e claims ⌝ }
 {
     let t = session.done as usize;
     let mut next = session;
     next.challenges[t] = e;
     next.done = next.done + 1;
-    next.claim = claim;
+    next.claims = claims;
     next
+}
+
+// Writes the first d places of each row of a commitment over zeros.
+fn read_rows(settings: Settings, commitment: &[Residue], claims: &mut [Residue])
+    requires { ⌜ (settings .rows ≤ rowsMost) × (length (now commitment) ≡ rowsWidth) × (length (now claims) ≡ rowsWidth) ⌝ }
+    ensures { λ _. ⌜ Provided ((settingsRefusal settings ≡ 0) × (now (claims .entry) ≡ zeros rowsWidth))
+        (now (claims .exit) ≡ atRows settings (rowRead settings (now (commitment .entry)))) ⌝ }
+{
+    let n = settings.rows as usize;
+    let mut i: usize = 0;
+    while i < n {
+        let at = i * WIDTH;
+        residues::store(settings.degree as usize, &commitment[at..], at, claims);
+        i += 1;
+    }
+}
+
+// The claims that a session starts with.
+fn first_claims(settings: Settings, commitment: [Residue; ROWS_WIDTH]) -> [Residue; ROWS_WIDTH]
+    ensures { λ r. ⌜ Provided (settingsRefusal settings ≡ 0) (r ≡ atRows settings (rowRead settings commitment)) ⌝ }
+{
+    let mut claims: [Residue; ROWS_WIDTH] = [0; ROWS_WIDTH];
+    if (settings.rows as usize) > ROWS {
+        return claims;
+    }
+    read_rows(settings, &commitment, &mut claims);
+    claims
 }
 
 impl Verifier {
     // A session starts at a commitment, whatever record there was before.
-    pub fn start(self, settings: Settings, commitment: [Residue; WIDTH]) -> Started
+    pub fn start(self, settings: Settings, commitment: [Residue; ROWS_WIDTH]) -> Started
         ensures { λ r. ⌜ r ≡ moves.start settings commitment ⌝ }
     {
         let refusal = verifier_refusals::session::start(settings, commitment);
@@ -72,7 +108,7 @@ impl Verifier {
         let next = Session {
             settings: settings,
             done: 0,
-            claim: residues::elements::element_at(settings.degree, &commitment, 0),
+            claims: first_claims(settings, commitment),
             challenges: [0u32; SLOTS],
             closed: false,
         };
@@ -82,8 +118,8 @@ impl Verifier {
         }
     }
 
-    // A round: the equation 2·(c0 + c2) = claim, and the next claim.
-    pub fn round(self, polynomial: [[Residue; WIDTH]; 3], e: u32) -> Moved
+    // A round: the equation 2·(c0 + c2) = claim of every row, and the next claims.
+    pub fn round(self, polynomial: [[Residue; ROWS_WIDTH]; 3], e: u32) -> Moved
         ensures answer { λ r. ⌜ r ≡ moves.round (self .0) polynomial e ⌝ }
         ensures verdict { λ r. ⌜ moves.verdictNumber (r .verdict) ≡ moves.sessionRoundNumber (self .0) polynomial e ⌝ }
     {
@@ -97,8 +133,8 @@ impl Verifier {
             };
         }
         let settings = session.settings;
-        let claim = session.claim;
-        if !equations::by_value::round_holds(settings, &claim, &polynomial) {
+        let claims = session.claims;
+        if !equations::by_value::round_holds(settings, &claims, &polynomial) {
             let closed = shut(session);
             return Moved {
                 refusal: 0,
@@ -106,7 +142,7 @@ impl Verifier {
                 next: closed,
             };
         }
-        let after = equations::by_value::next_claim(settings, e, &polynomial);
+        let after = equations::by_value::next_claims(settings, e, &polynomial);
         let next = counted(session, e, after);
         Moved {
             refusal: 0,
@@ -115,7 +151,7 @@ impl Verifier {
         }
     }
 
-    // The end: the bound on the final element, and the last equation with the key folded by the record's challenges.
+    // The end: the bound on the final element, and the last equation of every row with its part of the key folded by the record's challenges.
     pub fn end(self, last: [i32; WIDTH], key: &[Residue]) -> Moved
         ensures answer { λ r. ⌜ r ≡ moves.end (self .0) last (now (key .entry)) ⌝ }
         ensures verdict { λ r. ⌜ moves.verdictNumber (r .verdict) ≡ moves.sessionEndNumber (self .0) last (now (key .entry)) ⌝ }
@@ -130,10 +166,10 @@ impl Verifier {
             };
         }
         let settings = session.settings;
-        let claim = session.claim;
+        let claims = session.claims;
         let challenges = session.challenges;
         let closed = shut(session);
-        if equations::end_holds_for_key(settings, &claim, &last, key, &challenges) {
+        if equations::by_value::ends_hold(settings, &claims, &last, key, &challenges) {
             return Moved {
                 refusal: 0,
                 verdict: Verdict::Accepted,

@@ -1,7 +1,8 @@
 // The refusals of the check of a transcript.
+use crate::rows_below;
+use protocol::ROWS_WIDTH;
 use protocol::Residue;
 use protocol::Settings;
-use protocol::WIDTH;
 use ranges::tests;
 use ranges::tests::refuse;
 ghost use mathlib.Core.Path.{_≡_};
@@ -9,7 +10,7 @@ ghost use Rattle.protocol.specs.Calls.{checkRefusal};
 
 pub fn check(
     settings: Settings,
-    commitment: [Residue; WIDTH],
+    commitment: [Residue; ROWS_WIDTH],
     key: &[Residue],
     rounds: &[Residue],
     challenges: &[u32],
@@ -17,11 +18,11 @@ pub fn check(
     ensures { λ r. ⌜ r ≡ checkRefusal settings commitment (now (key .entry)) (now (rounds .entry)) (now (challenges .entry)) ⌝ }
 {
     let q = settings.modulus;
-    let r6 = tests::settings_refusal(settings);
+    let r16 = tests::settings_refusal(settings);
     let r7 = refuse(
-        r6,
+        r16,
         7,
-        (key.len() == sizes::cells(settings))
+        (key.len() == sizes::key_cells(settings))
             & (rounds.len() == sizes::round_cells(settings))
             & (challenges.len() == (settings.depth as usize)),
     );
@@ -32,7 +33,7 @@ pub fn check(
         r7,
         8,
         tests::all_below_wide(q, key)
-            & tests::element_below(q, settings.degree, &commitment)
+            & rows_below(settings, &commitment)
             & tests::all_below_wide(q, rounds),
     );
     let limit = sizes::exponent_count(settings);

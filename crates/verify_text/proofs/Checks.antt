@@ -13,8 +13,8 @@ use lib.IntN.{ℤ}
 use lib.ListN.{length}
 use Rattle.protocol.specs.declared.Settings.{Settings}
 use Rattle.protocol.specs.Basic.{choose}
-use Rattle.protocol.specs.Layout.{roundCells}
-use Rattle.protocol.specs.Settings.{cells, hasLength, allBelow}
+use Rattle.protocol.specs.Layout.{keyCells, itemCells, roundCells}
+use Rattle.protocol.specs.Settings.{hasLength, allBelow}
 use Rattle.protocol.specs.Text.{Tables, shape, shapes, shapeSize, entriesRefusal}
 use Rattle.protocol.specs.Programs.{verifyReads}
 use Rattle.protocol.proofs.Tests.{and-split, first-zero, unless-zero}
@@ -25,22 +25,22 @@ use Rattle.transcripts.specs.Given.{TranscriptGiven}
 use Rattle.verify_text.specs.Given.{Given}
 
 pub record Long (S : Settings) (t : Tables) : Type 0 where
-  pub key : length (t .key) ≡ cells S
+  pub key : length (t .key) ≡ keyCells S
   pub message : length (t .message) ≡ 0
-  pub commitment : length (t .commitment) ≡ S .degree
+  pub commitment : length (t .commitment) ≡ itemCells S
   pub rounds : length (t .rounds) ≡ roundCells S
   pub challenges : length (t .challenges) ≡ S .depth
   pub last : length (t .last) ≡ S .degree
 
 module _ (S : Settings) (t : Tables) (g : Given S t) where
   pub long : Long S t
-  unfolding partShape shapes shape shapeSize choose verifyReads cells
+  unfolding partShape shapes shape shapeSize choose verifyReads
   long =
       let e = fits-exact S verifyReads t (g .fitting) in
       record {
         key = e .key;
         message = e .message ∙ Nat.zero-mul (S .degree);
-        commitment = e .commitment ∙ Nat.one-mul (S .degree);
+        commitment = e .commitment;
         rounds = e .rounds;
         challenges = e .challenges ∙ Nat.mul-one (S .depth);
         last = e .last ∙ Nat.one-mul (S .degree);

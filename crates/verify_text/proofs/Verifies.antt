@@ -4,26 +4,29 @@
 --   verify-refused     the answer for a text that the reader refuses
 --   verify-given       one that it does not: nothing is refused of its tables
 --   verify-done        and the answer is whether they are accepted
+--   tables-few         a text with the lines that its settings ask for has room for key and rounds
 --   lent-fitting       tables of the lengths that the settings ask for
 use mathlib.Core.Path.{_≡_, sym, ap, _∙_}
 use mathlib.Core.Bool.{true}
 use mathlib.Core.List.{List}
-use Prim.Native.Nat.{ℕ}
+use Prim.Native.Nat.{ℕ, _≤_}
 use native.Mathlib.Nat as Nat
+use native.Mathlib.Omega.{arith}
 use Rattle.protocol.specs.declared.Settings.{Settings}
 use Rattle.protocol.specs.declared.Loaded.{Loaded}
 use Rattle.protocol.specs.declared.Verified.{Verified}
 use Rattle.protocol.specs.declared.Verified.the-variants.{Accepted, Rejected, Refused}
 use Rattle.protocol.specs.Basic.{choose}
-use Rattle.protocol.specs.Settings.{cells}
-use Rattle.protocol.specs.Text.{Tables, shape, shapes, shapeSize, fits, linesOf, settingsIn, lookRefusal, lookAnswer}
+use Rattle.protocol.specs.Layout.{keyCells, roundCells}
+use Rattle.protocol.specs.Text.{Tables, shape, shapes, shapeSize, fits, wanted, linesOf, spotsOf, sameSpots, settingsIn, lookRefusal, lookAnswer}
 use Rattle.protocol.specs.Promises.{Read}
 use Rattle.protocol.specs.Programs.{verifyReads, tablesAccepted, verifyRefusal, verifyAnswer}
 use Rattle.protocol.proofs.Tests.{granted-zero, granted-refused}
-use Rattle.text_parts.specs.Parts.{partShape, lengthsOf}
+use Rattle.text_parts.specs.Parts.{partShape, lengthsOf, cellsRoom}
 use Rattle.text_parts.proofs.Exactly.{exact-fits}
 use Rattle.table_reader.specs.Parts.{Lent}
 use Rattle.table_reader.proofs.OnText.{look-refusal, number-is, settings-are, tables-are, settings-allowed, entries-passed, still-fitting}
+use Rattle.table_writer.proofs.FewLines.{part-few}
 use Rattle.verify_text.specs.Given.{Given}
 use Rattle.verify_text.proofs.Checks.{Long}
 
@@ -41,6 +44,10 @@ module _ (text : List ℕ) where
   verify-stops r r-is h = refused-is (r .refusal) (unfold verifyRefusal in (look-refusal text r r-is verifyReads h)) h
 
   -- ---- tables of their lengths
+
+  pub tables-few : lookRefusal text ≡ 0 → sameSpots (spotsOf (linesOf text)) (wanted S verifyReads) ≡ true → (keyCells S ≤ cellsRoom) × (roundCells S ≤ cellsRoom)
+  unfolding partShape shapes shape shapeSize choose verifyReads
+  tables-few e same = (part-few text verifyReads e same 1 (omega arith), part-few text verifyReads e same 4 (omega arith))
 
   module _ (t t′ : Tables) (fit : Lent verifyReads text t) (r : Loaded) (h : Read verifyReads text t r t′) where
     refusal-is : r .refusal ≡ verifyRefusal text
@@ -66,11 +73,11 @@ module _ (text : List ℕ) where
           ∙ sym (granted-zero _ _ _ (sym refusal-is ∙ e))
 
 pub lent-fitting : (S : Settings) (t : Tables) → Long S t → fits S verifyReads t ≡ true
-unfolding partShape shapes shape shapeSize choose verifyReads cells
+unfolding partShape shapes shape shapeSize choose verifyReads
 lent-fitting S t l = exact-fits S verifyReads t (record {
   key = l .key;
   message = l .message ∙ sym (Nat.zero-mul (S .degree));
-  commitment = l .commitment ∙ sym (Nat.one-mul (S .degree));
+  commitment = l .commitment;
   rounds = l .rounds;
   challenges = l .challenges ∙ sym (Nat.mul-one (S .depth));
   last = l .last ∙ sym (Nat.one-mul (S .degree));

@@ -1,20 +1,20 @@
 // The program `verify` as a call on text: its settings, its tables, and the check of its transcript.
 use protocol::Parts;
+use protocol::ROWS_WIDTH;
 use protocol::Residue;
 use protocol::SLOTS;
 use protocol::Settings;
 use protocol::Verified;
 use protocol::WIDTH;
 use text_parts::CELLS;
-use text_parts::ROUND_CELLS;
 ghost use mathlib.Core.Path.{_≡_};
 ghost use mathlib.Core.List.{[]};
 ghost use Prim.Native.Nat.{_≤_};
 ghost use lib.ListN.{length};
 ghost use Rattle.protocol.specs.Basic.{choose};
-ghost use Rattle.protocol.specs.Layout.{width, slots};
+ghost use Rattle.protocol.specs.Layout.{width, rowsWidth, slots};
 ghost use Rattle.protocol.specs.Programs.{verifyReads, tablesAccepted, verifyAnswer, checked, verifyGives, verdictLine, verifyOutput};
-ghost use Rattle.text_parts.specs.Parts.{tablesOf, cellsRoom, roundCellsRoom};
+ghost use Rattle.text_parts.specs.Parts.{tablesOf, cellsRoom};
 ghost use Rattle.text_lines.specs.Header.{Begins};
 ghost use Rattle.table_reader.specs.Parts.{Lent};
 ghost use Rattle.table_writer.specs.Shown.{Shown, Within};
@@ -97,7 +97,7 @@ fn verify_within(
     challenges: &mut [u32],
     last: &mut [i32],
 ) -> Verified
-    requires { ⌜ (cellsRoom ≤ length (now key)) × (width ≤ length (now commitment)) × (roundCellsRoom ≤ length (now rounds)) × (slots ≤ length (now challenges)) × (width ≤ length (now last)) ⌝ }
+    requires { ⌜ (cellsRoom ≤ length (now key)) × (rowsWidth ≤ length (now commitment)) × (cellsRoom ≤ length (now rounds)) × (slots ≤ length (now challenges)) × (width ≤ length (now last)) ⌝ }
     ensures { λ r. ⌜ r ≡ verifyAnswer (now (text .entry)) ⌝ }
 {
     let begun = text_lines::allowed_settings(text);
@@ -108,15 +108,16 @@ fn verify_within(
     let settings = looked.settings;
     let degree = settings.degree as usize;
     let depth = settings.depth as usize;
-    let cells = table_reader::lent_cells(settings);
-    let round_cells = sizes::round_cells(settings);
+    let key_cells = table_reader::lent_cells(sizes::key_cells(settings));
+    let item_cells = sizes::item_cells(settings);
+    let round_cells = table_reader::lent_cells(sizes::round_cells(settings));
     verify_in(
         text,
         settings,
         begun.next,
-        &mut key[..cells],
+        &mut key[..key_cells],
         &mut message[..0],
-        &mut commitment[..degree],
+        &mut commitment[..item_cells],
         &mut rounds[..round_cells],
         &mut challenges[..depth],
         &mut last[..degree],
@@ -130,8 +131,8 @@ pub fn verify(text: &[u8]) -> Verified
 {
     let mut key = [0u64; CELLS];
     let mut message = [0i32; 1];
-    let mut commitment = [0u64; WIDTH];
-    let mut rounds = [0u64; ROUND_CELLS];
+    let mut commitment = [0u64; ROWS_WIDTH];
+    let mut rounds = [0u64; CELLS];
     let mut challenges = [0u32; SLOTS];
     let mut last = [0i32; WIDTH];
     verify_within(

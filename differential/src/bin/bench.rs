@@ -10,13 +10,12 @@
 //! heading: for a reference that is built for this machine.
 
 use differential::baseline::Baseline;
-use differential::honest;
+use differential::honest::Honest;
 use differential::timing::{median, timed};
 use differential::verified;
-use reference::draw::base::shape;
+use reference::draw::base::{row_coefficients, shape};
 use reference::draw::tables::{opening_at, OpeningInput};
 use reference::draw::text::{self, Tables};
-use reference::draw::transcript;
 use reference::draw::tree::{honest_at, Tree};
 use reference::fast;
 use reference::random::Random;
@@ -107,12 +106,12 @@ impl Table {
 
     /// The transcript of a message, which is accepted.
     fn check(&self, s: Settings) {
-        let t = transcript::honest_at(&mut Random::new(7), s);
+        let honest = Honest::at(s);
         self.row(
             &name("check", s),
-            &mut || honest::check(black_box(&t)),
+            &mut || black_box(&honest).check(),
             &mut || {
-                let t = black_box(&t);
+                let t = &black_box(&honest).transcript;
                 let (c, f) = (t.commitment, t.final_element);
                 let answer = fast::check(s, c, f, &t.key, &t.rounds, &t.challenges);
                 assert_eq!(answer.verdict, ACCEPTED);
@@ -124,13 +123,14 @@ impl Table {
     fn judge(&self, s: Settings) {
         let OpeningInput { key, message, .. } = opening_at(&mut Random::new(7), s);
         let commitment = fast::commit(s, &key, &message).commitment;
+        let lent = row_coefficients(&shape(s), &commitment);
         let w: Vec<i64> = message.iter().map(|&x| i64::from(x)).collect();
         self.row(
             &name("judge", s),
             &mut || {
                 let mut yes = 0;
-                let c = &commitment[..s.degree as usize];
-                let number = verified::judge(s, c, 1, black_box(&key), black_box(&w), &mut yes);
+                let (key, w) = (black_box(&key), black_box(&w));
+                let number = verified::judge(s, &lent, 1, key, w, &mut yes);
                 assert_eq!((number, yes), (0, 1));
             },
             &mut || {
@@ -234,11 +234,12 @@ impl Table {
     /// A session of all rounds and the end, beside the check of the same
     /// transcript.
     fn session(&self, s: Settings) {
-        let t = transcript::honest_at(&mut Random::new(7), s);
+        let honest = Honest::at(s);
+        let t = &honest.transcript;
         let (c, f) = (t.commitment, t.final_element);
         self.row(
             &name("session", s),
-            &mut || honest::session(black_box(&t)),
+            &mut || black_box(&honest).session(),
             &mut || {
                 let answer = fast::check(s, black_box(c), f, &t.key, &t.rounds, &t.challenges);
                 assert_eq!(answer.verdict, ACCEPTED);
@@ -250,6 +251,7 @@ impl Table {
     fn extract(&self, s: Settings, tree: &Tree, number: u32) {
         let t = tree;
         let (mut w, mut other) = (t.w.clone(), t.w.clone());
+        let lent = row_coefficients(&t.shape, &t.commitment);
         let what = if number == GROWTH {
             "tree check"
         } else {
@@ -257,7 +259,7 @@ impl Table {
         };
         self.row(
             &name(what, s),
-            &mut || assert_eq!(verified_extract(black_box(t), &mut w), number),
+            &mut || assert_eq!(verified_extract(black_box(t), &lent, &mut w), number),
             &mut || {
                 let t = black_box(t);
                 let (key, rounds, leaves) = (&t.key, &t.rounds, &t.leaves);
@@ -276,20 +278,20 @@ impl Table {
             .map(|leaf| (path_rounds(t, leaf), t.path_challenges(leaf)))
             .collect();
         let mut w = t.w.clone();
+        let lent = row_coefficients(&t.shape, &t.commitment);
         self.turns(
             &name("tree check", s),
             "verified, path by path",
             &mut || {
                 timed(|| {
-                    black_box(verified_extract(black_box(t), &mut w));
+                    black_box(verified_extract(black_box(t), &lent, &mut w));
                 })
             },
             &mut || {
                 timed(|| {
                     for ((rounds, challenges), f) in paths.iter().zip(t.leaves.chunks(d)) {
                         let mut verdict = 0;
-                        let c = &t.commitment[..d];
-                        verified::check(s, c, f, &t.key, rounds, challenges, &mut verdict);
+                        verified::check(s, &lent, f, &t.key, rounds, challenges, &mut verdict);
                         assert_eq!(verdict, ACCEPTED);
                     }
                 })
@@ -372,15 +374,17 @@ impl Table {
             &mut || assert_eq!(fast::prove(black_box(&text), &mut theirs).number, 0),
         );
         assert_eq!(ours, theirs);
-        let t = transcript::honest_at(&mut Random::new(7), s);
-        let d = t.shape.d;
+        let Honest {
+            transcript: t,
+            commitment,
+        } = Honest::at(s);
         let tables = Tables {
             key: t.key,
             message: vec![],
-            commitment: t.commitment[..d].to_vec(),
+            commitment,
             rounds: t.rounds,
             challenges: t.challenges,
-            final_element: t.final_element[..d].to_vec(),
+            final_element: t.final_element[..t.shape.d].to_vec(),
         };
         let text = text::lines(s, &tables).concat();
         self.row(
@@ -413,11 +417,11 @@ fn text_rows(table: &Table) {
     table.programs(Settings::new(64, 4, 99_991, 127));
 }
 
-fn verified_extract(t: &Tree, w: &mut [i64]) -> u32 {
+fn verified_extract(t: &Tree, commitment: &[Residue], w: &mut [i64]) -> u32 {
     let (key, rounds, leaves) = (&t.key, &t.rounds, &t.leaves);
     verified::extract(
         t.settings,
-        &t.commitment[..t.shape.d],
+        commitment,
         key,
         rounds,
         &t.challenges,
@@ -428,7 +432,7 @@ fn verified_extract(t: &Tree, w: &mut [i64]) -> u32 {
 
 /// The round polynomials from the root to a leaf.
 fn path_rounds(t: &Tree, leaf: usize) -> Vec<Residue> {
-    let size = 3 * t.shape.d;
+    let size = t.shape.polynomial();
     let mut node = t.shape.nodes() + leaf;
     let mut list = Vec::new();
     while node != 0 {

@@ -13,7 +13,7 @@
 //! prints, and where 20,000 texts or more never gave an answer that a call can give.
 
 use differential::calls::stretch;
-use differential::verified;
+use differential::verified::{self, SETTINGS};
 use reference::draw::text::{self, Tables, TextInput};
 use reference::draw::Limits;
 use reference::random::Random;
@@ -53,23 +53,23 @@ impl Counts {
 
 /// The answers that each call can give.
 const ANSWERS: [(&str, &[&str]); 5] = [
-    ("look", &["0", "1", "2", "3", "4", "5", "6"]),
+    ("look", &["0", "1", "2", "3", "4", "5", "6", "16"]),
     (
         "read",
-        &["0", "1", "2", "3", "4", "5", "6", "7", "8", "9", "10"],
+        &["0", "1", "2", "3", "4", "5", "6", "16", "7", "8", "9", "10"],
     ),
     (
         "write",
-        &["0", "1", "3", "4", "5", "6", "7", "8", "9", "10"],
+        &["0", "1", "3", "4", "5", "6", "16", "7", "8", "9", "10"],
     ),
     (
         "prove",
-        &["0", "1", "2", "3", "4", "5", "6", "7", "8", "9", "10"],
+        &["0", "1", "2", "3", "4", "5", "6", "16", "7", "8", "9", "10"],
     ),
     (
         "verify",
         &[
-            "accepted", "rejected", "1", "2", "3", "4", "5", "6", "7", "8", "10",
+            "accepted", "rejected", "1", "2", "3", "4", "5", "6", "16", "7", "8", "10",
         ],
     ),
 ];
@@ -131,9 +131,9 @@ fn of_program(input: TextInput) -> Seed {
     let text = input.text();
     let shape = input.shape;
     let sizes = [
+        shape.key(),
         shape.table(),
-        shape.table(),
-        shape.d,
+        shape.commitment(),
         shape.rounds(),
         shape.l,
         shape.d,
@@ -431,7 +431,7 @@ fn mutate_tables(random: &mut Random, seed: &mut Seed) {
         i32::MIN,
     ];
     let exponents = [0, 1, (2 * d).wrapping_sub(1), 2 * d, u32::MAX];
-    match random.below(11) {
+    match random.below(12) {
         0 => change(random, &mut t.key, &residues),
         1 => change(random, &mut t.message, &wholes),
         2 => change(random, &mut t.commitment, &residues),
@@ -442,16 +442,18 @@ fn mutate_tables(random: &mut Random, seed: &mut Seed) {
         7 => seed.settings.degree = random.pick(&[2, 4, 8, 128, 128, 3, 0]),
         8 => seed.settings.depth = random.pick(&[0, 1, 2, 8, 9]),
         9 => seed.settings.modulus = random.pick(&MODULI),
+        10 => seed.settings.rows = random.pick(&[1, 2, 3, 4, 0, 5, 1 << 31, u32::MAX]),
         _ => seed.settings.bound = random.pick(&[1, 2, 127, 128, 0]),
     }
 }
 
 /// What stands in a slice for the settings that held the largest numbers.
-fn stored(answer: &ReadAnswer) -> [Residue; 4] {
+fn stored(answer: &ReadAnswer) -> [Residue; SETTINGS] {
     let s = answer.settings;
+    let [degree, depth, bound, rows] = [s.degree, s.depth, s.bound, s.rows].map(Residue::from);
     match answer.number {
-        0 => [s.degree.into(), s.depth.into(), s.modulus, s.bound.into()],
-        _ => [Residue::MAX; 4],
+        0 => [degree, depth, s.modulus, bound, rows],
+        _ => [Residue::MAX; SETTINGS],
     }
 }
 
@@ -481,7 +483,7 @@ impl Fuzz {
             }
         }
         let mut found = Tables::to_be_written(lengths);
-        let mut settings = [Residue::MAX; 4];
+        let mut settings = [Residue::MAX; SETTINGS];
         let number = verified::read(bits, text, &mut settings, &mut found);
         let s = answer.settings;
         if (number, settings) != (answer.number, stored(&answer)) || found != wanted {
@@ -501,7 +503,7 @@ impl Fuzz {
 
     fn look(&mut self, text: &[u8]) -> Result<(), String> {
         let answer = plain::look(text);
-        let mut settings = [Residue::MAX; 4];
+        let mut settings = [Residue::MAX; SETTINGS];
         let number = verified::look(text, &mut settings);
         if (number, settings) != (answer.number, stored(&answer)) {
             return Err(format!("look: {} and {number}", answer.number));

@@ -6,11 +6,11 @@
 //!
 //! `docs/pictures/growth.py` makes tables and a picture of it.
 
-use differential::honest;
+use differential::honest::Honest;
 use differential::timing::timed;
 use differential::verified;
+use reference::draw::base::row_coefficients;
 use reference::draw::tables::opening_at;
-use reference::draw::transcript;
 use reference::draw::tree::honest_at;
 use reference::random::Random;
 use reference::refuse::GROWTH;
@@ -59,12 +59,12 @@ fn open(s: Settings, repetitions: usize) {
 
 /// The check of a transcript, and a session of it.
 fn verify(s: Settings, repetitions: usize) {
-    let t = transcript::honest_at(&mut Random::new(7), s);
+    let t = Honest::at(s);
     line("check", s, repetitions, &mut || {
-        timed(|| honest::check(black_box(&t)))
+        timed(|| black_box(&t).check())
     });
     line("session", s, repetitions, &mut || {
-        timed(|| honest::session(black_box(&t)))
+        timed(|| black_box(&t).session())
     });
 }
 
@@ -72,9 +72,10 @@ fn verify(s: Settings, repetitions: usize) {
 fn extract(s: Settings, repetitions: usize) {
     let (t, _) = honest_at(&mut Random::new(7), s);
     let mut w = t.w.clone();
+    let commitment = row_coefficients(&t.shape, &t.commitment);
     let mut run = || {
         let t = black_box(&t);
-        let (c, key, rounds) = (&t.commitment[..t.shape.d], &t.key, &t.rounds);
+        let (c, key, rounds) = (&commitment, &t.key, &t.rounds);
         verified::extract(s, c, key, rounds, &t.challenges, &t.leaves, &mut w)
     };
     let number = run();

@@ -9,8 +9,10 @@
 //! the shortest text that shows it, and every run must leave with status 0.
 //! Then input and output misbehave: closed, a folder, stopped in the middle, endless, one byte at a time, a full
 //! disk, a disk that is full in the middle of a listing, a narrow pipe, a pipe
-//! that nobody reads. Every answer that a program can give must come up.
+//! that nobody reads. A text is among them that can be read and whose listing
+//! is too long. Every answer that a program can give must come up.
 
+use differential::calls::long_listing;
 use reference::draw::base::OTHER_MODULI;
 use reference::draw::text::{damage_text, provable, provable_at, verifiable};
 use reference::draw::Limits;
@@ -31,6 +33,9 @@ use std::process::{Child, Command, ExitCode, Stdio};
 const ENOUGH: u64 = 300;
 
 const NAMES: &[u8] = b"part item place value\n";
+
+/// Lines of the names and the settings.
+const SETTINGS: usize = 6;
 
 struct Difference {
     program: &'static str,
@@ -57,6 +62,7 @@ const PRINTED: [(&str, &[&str]); 2] = [
             "refused 4",
             "refused 5",
             "refused 6",
+            "refused 16",
             "refused 7",
             "refused 8",
             "refused 9",
@@ -74,6 +80,7 @@ const PRINTED: [(&str, &[&str]); 2] = [
             "refused 4",
             "refused 5",
             "refused 6",
+            "refused 16",
             "refused 7",
             "refused 8",
             "refused 10",
@@ -192,7 +199,7 @@ fn with_key(listing: &[u8], text: &[u8]) -> Vec<u8> {
     };
     let (listing, text) = (lines(listing), lines(text));
     let key = text.into_iter().filter(|line| line.starts_with(b"1 "));
-    let (settings, rest) = listing.split_at(5);
+    let (settings, rest) = listing.split_at(SETTINGS);
     settings
         .iter()
         .cloned()
@@ -217,11 +224,12 @@ fn at_the_limits() -> Vec<Vec<u8>> {
     ]
 }
 
-/// Texts of degree 128 at every depth that a text has room for, each with the record of its listing; and the smallest with other moduli.
+/// Texts of degree 128 at every depth that a text has room for, and of several rows, each with the record of its listing; and the smallest with other moduli.
 fn of_largest_degree(random: &mut Random) -> Vec<Vec<u8>> {
     let mut texts = Vec::new();
-    for depth in 0..=4 {
-        let settings = Settings::new(LARGEST_DEGREE, depth, ITS_MODULUS, 127);
+    let rows = (0..=4).map(|depth| (depth, 1));
+    for (depth, rows) in rows.chain([(0, 4), (1, 3), (2, 2), (2, 4)]) {
+        let settings = Settings::new(LARGEST_DEGREE, depth, ITS_MODULUS, 127).with_rows(rows);
         let text = provable_at(random, settings).text();
         texts.push(with_key(&prove_prints(&text), &text));
         texts.push(text);
@@ -262,7 +270,7 @@ const FAULTS: &[(&str, &str)] = &[
     ("timeout 10 \"$P/NAME\" </dev/null; echo $?", "refused 2\n0\n"),
     ("yes | timeout 10 \"$P/NAME\"; echo $?", "refused 1\n0\n"),
     ("printf 'part item' | timeout 10 \"$P/NAME\"; echo $?", "refused 2\n0\n"),
-    ("(printf 'part item '; sleep 0.1; printf 'place value\\n'; sleep 0.1; printf '0 0 0 3\\n0 0 1 1\\n0 0 2 17\\n0 0 3 1\\n') | timeout 10 \"$P/NAME\"; echo $?", "refused 3\n0\n"),
+    ("(printf 'part item '; sleep 0.1; printf 'place value\\n'; sleep 0.1; printf '0 0 0 3\\n0 0 1 1\\n0 0 2 17\\n0 0 3 1\\n0 0 4 1\\n') | timeout 10 \"$P/NAME\"; echo $?", "refused 3\n0\n"),
     // A full disk and a closed output: the program says so and ends.
     ("timeout 10 \"$P/NAME\" </dev/null 2>said >/dev/full; echo $?; cat said", "0\nNAME: cannot write standard output\n"),
     ("timeout 10 \"$P/NAME\" <NAME.in 2>said >/dev/full; echo $?; cat said", "0\nNAME: cannot write standard output\n"),
@@ -356,6 +364,7 @@ fn main() -> ExitCode {
     for text in at_the_limits()
         .into_iter()
         .chain(of_largest_degree(&mut random))
+        .chain([long_listing(&mut random).text()])
     {
         run.both(&text);
     }

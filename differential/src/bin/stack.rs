@@ -5,16 +5,16 @@
 //! What an empty call uses is taken off. It leaves with 1 where a call uses
 //! more than is allowed.
 
-use differential::honest;
+use differential::honest::Honest;
 use differential::verified;
+use reference::draw::base::row_coefficients;
 use reference::draw::tables::opening_at;
 use reference::draw::text::{lines, tables_of_length, Tables};
-use reference::draw::transcript;
 use reference::draw::tree::{free_at, Tree};
 use reference::random::Random;
 use reference::refuse::GROWTH;
 use reference::types::{
-    Residue, Settings, ACCEPTED, ITS_MODULUS, LARGEST_DEGREE, LARGEST_MODULUS, LONGEST_TEXT,
+    Residue, Settings, ACCEPTED, ITS_MODULUS, LARGEST_DEGREE, LARGEST_MODULUS, LONGEST_TEXT, ROWS,
 };
 use std::ffi::c_void;
 use std::process::ExitCode;
@@ -71,35 +71,40 @@ fn used(mut call: Call) -> usize {
     STACK - untouched
 }
 
-/// Numbers of an element of the largest degree.
+/// Numbers of an element of the largest degree, and of one a row.
 const LARGEST: usize = LARGEST_DEGREE as usize;
+const MOST: usize = ROWS * LARGEST;
 
-/// Every call at the largest settings of this degree and modulus that it does
-/// not refuse; texts of the longest length where the modulus is long.
-fn calls(degree: u32, q: Residue) -> Vec<(String, Call<'static>)> {
-    let large = Settings::new(degree, 8, q, 127);
-    let bounded = Settings::new(4, 8, q, 2);
+/// Every call at the largest settings of this degree, modulus and number of
+/// rows that it does not refuse; texts of the longest length where the modulus
+/// is long.
+fn calls(degree: u32, q: Residue, rows: u32) -> Vec<(String, Call<'static>)> {
+    let settings = |d, l, b| Settings::new(d, l, q, b).with_rows(rows);
+    let large = settings(degree, 8, 127);
+    let bounded = settings(4, 8, 2);
     // The deepest tree of this degree that growth allows.
     let (depth, bound) = if degree == LARGEST_DEGREE {
         (3, 127)
     } else {
         (4, 4)
     };
-    let grown = Settings::new(degree, depth, q, bound);
-    let texts = Settings::new(degree, 4, q, 127);
+    let grown = settings(degree, depth, bound);
+    // A text of more rows has room for fewer elements.
+    let texts = settings(degree, if rows == 1 { 4 } else { 1 }, 127);
     let input = opening_at(&mut Random::new(7), large);
     let (commit, round, mut fold, end) =
         (input.clone(), input.clone(), input.clone(), input.clone());
-    let check = transcript::honest_at(&mut Random::new(7), large);
+    let check = Honest::at(large);
     let session = check.clone();
     let judge = opening_at(&mut Random::new(7), bounded);
     let d = degree as usize;
+    let of_commitment = rows as usize * d;
     let mut list: Vec<(&str, Settings, Call<'static>)> = vec![
         (
             "commit",
             large,
             Box::new(move || {
-                let out = &mut [0; LARGEST][..d];
+                let out = &mut [0; MOST][..of_commitment];
                 let number = verified::commit(large, &commit.key, &commit.message, out);
                 assert_eq!(number, 0);
             }),
@@ -108,7 +113,7 @@ fn calls(degree: u32, q: Residue) -> Vec<(String, Call<'static>)> {
             "round",
             large,
             Box::new(move || {
-                let out = &mut [0; 3 * LARGEST][..3 * d];
+                let out = &mut [0; 3 * MOST][..3 * of_commitment];
                 let number = verified::round(large, 0, &round.key, &round.message, out);
                 assert_eq!(number, 0);
             }),
@@ -130,19 +135,16 @@ fn calls(degree: u32, q: Residue) -> Vec<(String, Call<'static>)> {
                 assert_eq!(number, 0);
             }),
         ),
-        ("check", large, Box::new(move || honest::check(&check))),
-        (
-            "session",
-            large,
-            Box::new(move || honest::session(&session)),
-        ),
+        ("check", large, Box::new(move || check.check())),
+        ("session", large, Box::new(move || session.session())),
         (
             "judge",
             bounded,
             Box::new(move || {
-                let w = vec![0; judge.key.len()];
+                let w = vec![0; judge.message.len()];
                 let mut yes = 0;
-                let number = verified::judge(bounded, &[0; 4], 1, &judge.key, &w, &mut yes);
+                let c = &[0; 4 * ROWS][..4 * rows as usize];
+                let number = verified::judge(bounded, c, 1, &judge.key, &w, &mut yes);
                 assert_eq!((number, yes), (0, 1));
             }),
         ),
@@ -158,7 +160,7 @@ fn calls(degree: u32, q: Residue) -> Vec<(String, Call<'static>)> {
         .drain(..)
         .map(|(name, s, call)| (at(name, s), call))
         .collect();
-    if q > 1 << 30 {
+    if q > 1 << 30 && rows == 1 {
         named.push(("read, 65,536 bytes".to_string(), read(q)));
         named.push(("write, 65,536 bytes".to_string(), write(q)));
     }
@@ -168,12 +170,13 @@ fn calls(degree: u32, q: Residue) -> Vec<(String, Call<'static>)> {
 fn open(s: Settings) -> Call<'static> {
     let mut t = opening_at(&mut Random::new(7), s);
     Box::new(move || {
-        let d = s.degree as usize;
-        let (mut c, mut f) = ([0; LARGEST], [0; LARGEST]);
-        let (key, message, rounds) = (&mut t.key, &mut t.message, &mut t.rounds);
+        let (d, rows) = (s.degree as usize, s.rows as usize);
+        let (mut c, mut f) = ([0; MOST], [0; LARGEST]);
+        let (key, message, rounds_out) = (&mut t.key, &mut t.message, &mut t.rounds);
         let mut verdict = 0;
-        let (c, f) = (&mut c[..d], &mut f[..d]);
-        verified::open(s, key, message, &t.challenges, rounds, c, f, &mut verdict);
+        let (c, f) = (&mut c[..rows * d], &mut f[..d]);
+        let challenges = &t.challenges;
+        verified::open(s, key, message, challenges, rounds_out, c, f, &mut verdict);
         assert_eq!(verdict, ACCEPTED);
     })
 }
@@ -181,9 +184,10 @@ fn open(s: Settings) -> Call<'static> {
 /// An accepted tree; `number` is 0 or 14.
 fn extract(s: Settings, number: u32) -> Call<'static> {
     let mut t: Tree = free_at(&mut Random::new(7), s);
+    let commitment = row_coefficients(&t.shape, &t.commitment);
     Box::new(move || {
         let (key, rounds, leaves) = (&t.key, &t.rounds, &t.leaves);
-        let (c, e) = (&t.commitment[..t.shape.d], &t.challenges);
+        let (c, e) = (&commitment, &t.challenges);
         let found = verified::extract(s, c, key, rounds, e, leaves, &mut t.w);
         assert_eq!(found, number);
     })
@@ -230,15 +234,17 @@ fn prove(s: Settings) -> Call<'static> {
 
 /// A transcript that is accepted, as text.
 fn verify(s: Settings) -> Call<'static> {
-    let t = transcript::honest_at(&mut Random::new(7), s);
-    let d = t.shape.d;
+    let Honest {
+        transcript: t,
+        commitment,
+    } = Honest::at(s);
     let tables = Tables {
         key: t.key,
         message: vec![],
-        commitment: t.commitment[..d].to_vec(),
+        commitment,
         rounds: t.rounds,
         challenges: t.challenges,
-        final_element: t.final_element[..d].to_vec(),
+        final_element: t.final_element[..t.shape.d].to_vec(),
     };
     let text = lines(s, &tables).concat();
     Box::new(move || {
@@ -251,15 +257,17 @@ fn verify(s: Settings) -> Call<'static> {
 fn main() -> ExitCode {
     let empty = used(Box::new(|| ()));
     let mut most = 0;
-    for (degree, q, modulus) in [
-        (64, (1 << 31) - 1, ""),
-        (64, LARGEST_MODULUS, ", q = 2^61-1"),
-        (64, ITS_MODULUS, ", q = 12289"),
-        (LARGEST_DEGREE, ITS_MODULUS, ", q = 12289"),
+    for (degree, q, rows, others) in [
+        (64, (1 << 31) - 1, 1, ""),
+        (64, LARGEST_MODULUS, 1, ", q = 2^61-1"),
+        (64, ITS_MODULUS, 1, ", q = 12289"),
+        (LARGEST_DEGREE, ITS_MODULUS, 1, ", q = 12289"),
+        (64, LARGEST_MODULUS, 4, ", q = 2^61-1, 4 rows"),
+        (LARGEST_DEGREE, ITS_MODULUS, 4, ", q = 12289, 4 rows"),
     ] {
-        for (name, call) in calls(degree, q) {
+        for (name, call) in calls(degree, q, rows) {
             let bytes = used(call).saturating_sub(empty);
-            let name = format!("{name}{modulus}");
+            let name = format!("{name}{others}");
             println!("{name:<44} {bytes:>9} bytes of stack");
             most = most.max(bytes);
         }

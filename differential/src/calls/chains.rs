@@ -1,13 +1,14 @@
 //! Lists of calls, each on what the last one left, with refused calls
 //! between: a session, and an opening move by move.
 
-use super::lent::{flat, numbers, places, polynomial};
+use super::lent::{numbers, places, polynomial, rows};
 use super::opening::all;
 use super::VERDICTS;
 use crate::case::{Case, Outcome, Table};
 use crate::verified::{self, SESSION};
 use reference::cases::{chains, Page};
-use reference::draw::base::{damage_length, damage_settings};
+use reference::draw::base::{damage_length, damage_settings, shape};
+use reference::draw::base::{polynomial_coefficients, row_coefficients};
 use reference::draw::session::{self, Move, Session};
 use reference::draw::tables::{self, OpeningInput};
 use reference::draw::{damage_some, Limits};
@@ -65,16 +66,21 @@ impl Case for Sessions {
 
     fn verified(&self) -> Outcome {
         let mut t = vec![Residue::MAX; SESSION];
-        let d = self.0.settings.degree as usize;
-        let commitment = &self.0.commitment[..d];
-        let number = verified::session_start(self.0.settings, commitment, &mut t);
+        let shape = shape(self.0.settings);
+        let commitment = row_coefficients(&shape, &self.0.commitment);
+        let number = verified::session_start(self.0.settings, &commitment, &mut t);
         let (mut said, mut records): (Said, Vec<Residue>) = (vec![number], t.clone());
         let mut verdicts = Vec::new();
         for (step, _) in &self.0.moves {
             let mut verdict = u32::MAX;
             let number = match step {
-                Move::Round(c, e) => verified::session_round(&flat(c, d), *e, &mut t, &mut verdict),
-                Move::End(f, key) => verified::session_end(&f[..d], key, &mut t, &mut verdict),
+                Move::Round(c, e) => {
+                    let c = polynomial_coefficients(&shape, c);
+                    verified::session_round(&c, *e, &mut t, &mut verdict)
+                }
+                Move::End(f, key) => {
+                    verified::session_end(&f[..shape.d], key, &mut t, &mut verdict)
+                }
             };
             said.extend([number, verdict]);
             records.extend(&t);
@@ -102,7 +108,7 @@ enum Refused {
 fn refused(random: &mut Random, input: &OpeningInput) -> Refused {
     let good = input.settings;
     let mut bad = good;
-    let number = random.pick(&[3, 4, 5, 6]);
+    let number = random.pick(&[3, 4, 5, 6, 16]);
     if !damage_settings(random, &mut bad, number) {
         damage_settings(random, &mut bad, DEGREE);
     }
@@ -141,7 +147,7 @@ struct Verified(Vec<Residue>);
 
 impl Calls for Verified {
     fn commit(&mut self, t: &OpeningInput) -> (u32, Vec<Residue>) {
-        let mut out = vec![Residue::MAX; t.shape.d];
+        let mut out = vec![Residue::MAX; t.shape.commitment()];
         let number = verified::commit(t.settings, &t.key, &t.message, &mut out);
         (number, out)
     }
@@ -151,7 +157,7 @@ impl Calls for Verified {
     }
 
     fn round(&mut self, s: Settings, t: u32, tables: &OpeningInput) -> (u32, Vec<Residue>) {
-        let mut out = vec![Residue::MAX; 3 * tables.shape.d];
+        let mut out = vec![Residue::MAX; tables.shape.polynomial()];
         let number = verified::round(s, t, &tables.key, &tables.message, &mut out);
         (number, out)
     }
@@ -195,22 +201,22 @@ fn written<T: Copy>(number: u32, answer: &[T], before: T) -> Vec<T> {
 impl Calls for Plain {
     fn commit(&mut self, t: &OpeningInput) -> (u32, Vec<Residue>) {
         let answer = plain::commit(t.settings, &t.key, &t.message);
-        let d = t.shape.d;
+        let commitment = row_coefficients(&t.shape, &answer.commitment);
         (
             answer.number,
-            written(answer.number, &answer.commitment[..d], Residue::MAX),
+            written(answer.number, &commitment, Residue::MAX),
         )
     }
 
     fn start(&mut self, s: Settings, commitment: &[Residue]) -> u32 {
-        let answer = plain::session_start(s, places(commitment));
+        let answer = plain::session_start(s, rows(commitment, s.degree));
         self.0 = answer.record;
         answer.number
     }
 
     fn round(&mut self, s: Settings, t: u32, tables: &OpeningInput) -> (u32, Vec<Residue>) {
         let answer = plain::prover_round(s, t, &tables.key, &tables.message);
-        let c = flat(&answer.polynomial, tables.shape.d);
+        let c = polynomial_coefficients(&tables.shape, &answer.polynomial);
         (answer.number, written(answer.number, &c, Residue::MAX))
     }
 
@@ -225,7 +231,8 @@ impl Calls for Plain {
     }
 
     fn session_round(&mut self, c: &[Residue], e: u32) -> (u32, u32) {
-        let answer = plain::session_round(self.0, polynomial(c), e);
+        let c = polynomial(c, self.0.settings.degree);
+        let answer = plain::session_round(self.0, c, e);
         self.0 = answer.record;
         (answer.number, answer.verdict)
     }
@@ -292,8 +299,8 @@ impl Moves {
                 Refused::Fold(s, done, e) => calls.fold(s, done, e, t),
                 Refused::End(s, done) => calls.end(s, done, t).0,
                 Refused::SessionRound(x, e) => {
-                    let mut c = vec![0; 3 * d];
-                    c[d] = x;
+                    let mut c = vec![0; t.shape.polynomial()];
+                    *c.last_mut().expect("a polynomial is not empty") = x;
                     calls.session_round(&c, e).0
                 }
                 Refused::SessionEnd(length) => calls.session_end(&vec![0; d], &vec![0; length]).0,
@@ -305,7 +312,7 @@ impl Moves {
 
 impl Case for Moves {
     const NAME: &'static str = "open by moves";
-    const NUMBERS: &'static [u32] = &[0, 3, 4, 5, 6, 7, 8, 9, 10, 11];
+    const NUMBERS: &'static [u32] = &[0, 3, 4, 5, 6, 16, 7, 8, 9, 10, 11];
     const WORDS: &'static [&'static str] = &["accepted"];
 
     fn draw(random: &mut Random, limits: &Limits) -> Moves {
@@ -337,9 +344,9 @@ impl Case for Moves {
         if answer.number != 0 {
             return None;
         }
-        let d = t.shape.d;
-        let (c, f) = (&answer.commitment[..d], &answer.final_element[..d]);
-        Some(all(0, &t, c, f, answer.verdict))
+        let c = row_coefficients(&t.shape, &answer.commitment);
+        let f = &answer.final_element[..t.shape.d];
+        Some(all(0, &t, &c, f, answer.verdict))
     }
 
     fn verified(&self) -> Outcome {

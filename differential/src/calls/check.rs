@@ -1,14 +1,15 @@
 //! The check of a transcript.
 
-use super::lent::{four, places};
+use super::lent::{five, places, rows};
 use super::VERDICTS;
 use crate::case::{Call, Outcome, Table};
 use crate::verified;
+use reference::draw::base::row_coefficients;
 use reference::draw::session::any_transcript;
 use reference::draw::{damage_some, Limits};
 use reference::plain::refusals::Lengths;
 use reference::random::Random;
-use reference::types::{CheckAnswer, Residue, Residues, Settings, Wholes};
+use reference::types::{CheckAnswer, Residue, Rows, Settings, Wholes};
 use reference::{fast, plain};
 
 #[derive(Clone)]
@@ -23,13 +24,13 @@ pub struct Check {
 }
 
 /// The check by one of the references.
-type Checker = fn(Settings, Residues, Wholes, &[Residue], &[Residue], &[u32]) -> CheckAnswer;
+type Checker = fn(Settings, Rows, Wholes, &[Residue], &[Residue], &[u32]) -> CheckAnswer;
 
 impl Check {
     fn check(&mut self, check: Checker) -> u32 {
         let answer = check(
             self.settings,
-            places(&self.commitment),
+            rows(&self.commitment, self.settings.degree),
             places(&self.last),
             &self.key,
             &self.rounds,
@@ -42,7 +43,7 @@ impl Check {
 
 impl Call for Check {
     const NAME: &'static str = "check";
-    const NUMBERS: &'static [u32] = &[0, 3, 4, 5, 6, 7, 8, 10];
+    const NUMBERS: &'static [u32] = &[0, 3, 4, 5, 6, 16, 7, 8, 10];
     const WORDS: &'static [&'static str] = &["accepted", "rejected"];
     const SLICES: &'static [&'static str] = &["commitment", "last", "key", "rounds", "challenges"];
     const FAST: bool = true;
@@ -55,7 +56,7 @@ impl Call for Check {
         let d = input.shape.d;
         Check {
             settings: input.settings,
-            commitment: input.commitment[..d].to_vec(),
+            commitment: row_coefficients(&input.shape, &input.commitment),
             last: input.final_element[..d].to_vec(),
             key: input.key,
             rounds: input.rounds,
@@ -70,9 +71,9 @@ impl Call for Check {
 
     fn pairs(&self, of: &Lengths) -> Vec<(usize, usize)> {
         vec![
-            (self.commitment.len(), of.element),
+            (self.commitment.len(), of.commitment),
             (self.last.len(), of.element),
-            (self.key.len(), of.table),
+            (self.key.len(), of.key),
             (self.rounds.len(), of.rounds),
             (self.challenges.len(), of.challenges),
         ]
@@ -117,6 +118,6 @@ impl Call for Check {
     }
 
     fn numbers(&self) -> Vec<u64> {
-        four(self.settings).to_vec()
+        five(self.settings).to_vec()
     }
 }

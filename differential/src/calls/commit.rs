@@ -1,8 +1,9 @@
 //! Commit.
 
-use super::lent::four;
+use super::lent::five;
 use crate::case::{Call, Outcome, Table};
 use crate::verified;
+use reference::draw::base::{row_coefficients, shape};
 use reference::draw::tables::{self, CommitInput};
 use reference::draw::{damage_some, Limits};
 use reference::plain::refusals::Lengths;
@@ -20,15 +21,14 @@ pub struct Commit {
 
 impl Commit {
     fn store(&mut self, answer: CommitAnswer) -> u32 {
-        let d = self.commitment.len();
-        self.commitment.copy_from_slice(&answer.commitment[..d]);
+        self.commitment = row_coefficients(&shape(self.settings), &answer.commitment);
         answer.number
     }
 }
 
 impl Call for Commit {
     const NAME: &'static str = "commit";
-    const NUMBERS: &'static [u32] = &[0, 3, 4, 5, 6, 7, 8, 9];
+    const NUMBERS: &'static [u32] = &[0, 3, 4, 5, 6, 16, 7, 8, 9];
     const SLICES: &'static [&'static str] = &["key", "message", "commitment"];
     const FAST: bool = true;
 
@@ -38,7 +38,7 @@ impl Call for Commit {
             damage_some(random, &mut input);
         }
         Commit {
-            commitment: vec![Residue::MAX; input.0.shape.d],
+            commitment: vec![Residue::MAX; input.0.shape.commitment()],
             settings: input.0.settings,
             key: input.0.key,
             message: input.0.message,
@@ -51,9 +51,9 @@ impl Call for Commit {
 
     fn pairs(&self, of: &Lengths) -> Vec<(usize, usize)> {
         vec![
-            (self.key.len(), of.table),
+            (self.key.len(), of.key),
             (self.message.len(), of.table),
-            (self.commitment.len(), of.element),
+            (self.commitment.len(), of.commitment),
         ]
     }
 
@@ -87,6 +87,6 @@ impl Call for Commit {
     }
 
     fn numbers(&self) -> Vec<u64> {
-        four(self.settings).to_vec()
+        five(self.settings).to_vec()
     }
 }

@@ -1,9 +1,10 @@
 //! The whole opening.
 
-use super::lent::four;
+use super::lent::five;
 use super::VERDICTS;
 use crate::case::{Call, Outcome, Table};
 use crate::verified;
+use reference::draw::base::{row_coefficients, shape};
 use reference::draw::tables::{self, OpeningInput};
 use reference::draw::{damage_some, Limits};
 use reference::plain::refusals::Lengths;
@@ -32,9 +33,8 @@ impl Opening {
             &t.challenges,
             &mut t.rounds,
         );
-        let d = self.commitment.len();
-        self.commitment = answer.commitment[..d].to_vec();
-        self.last = answer.final_element[..d].to_vec();
+        self.commitment = row_coefficients(&shape(t.settings), &answer.commitment);
+        self.last = answer.final_element[..self.last.len()].to_vec();
         self.verdict = answer.verdict;
         answer.number
     }
@@ -59,7 +59,7 @@ pub fn all(
 
 impl Call for Opening {
     const NAME: &'static str = "open";
-    const NUMBERS: &'static [u32] = &[0, 3, 4, 5, 6, 7, 8, 9, 10];
+    const NUMBERS: &'static [u32] = &[0, 3, 4, 5, 6, 16, 7, 8, 9, 10];
     const WORDS: &'static [&'static str] = &["accepted"];
     const SLICES: &'static [&'static str] = &[
         "key",
@@ -77,7 +77,7 @@ impl Call for Opening {
             damage_some(random, &mut input);
         }
         Opening {
-            commitment: vec![Residue::MAX; input.shape.d],
+            commitment: vec![Residue::MAX; input.shape.commitment()],
             last: vec![i32::MIN; input.shape.d],
             verdict: u32::MAX,
             input,
@@ -91,11 +91,11 @@ impl Call for Opening {
     fn pairs(&self, of: &Lengths) -> Vec<(usize, usize)> {
         let t = &self.input;
         vec![
-            (t.key.len(), of.table),
+            (t.key.len(), of.key),
             (t.message.len(), of.table),
             (t.challenges.len(), of.challenges),
             (t.rounds.len(), of.rounds),
-            (self.commitment.len(), of.element),
+            (self.commitment.len(), of.commitment),
             (self.last.len(), of.element),
         ]
     }
@@ -148,6 +148,6 @@ impl Call for Opening {
     }
 
     fn numbers(&self) -> Vec<u64> {
-        four(self.input.settings).to_vec()
+        five(self.input.settings).to_vec()
     }
 }

@@ -1,8 +1,9 @@
 //! The prover's calls on its tables.
 
-use super::lent::{flat, four, number_of};
+use super::lent::{five, number_of};
 use crate::case::{Call, Outcome, Table};
 use crate::verified;
+use reference::draw::base::{polynomial_coefficients, shape};
 use reference::draw::tables::{self, ProverCall, ProverInput};
 use reference::draw::{damage_some, Limits};
 use reference::plain::refusals::Lengths;
@@ -27,13 +28,13 @@ pub struct ProverRound {
 
 impl Call for ProverRound {
     const NAME: &'static str = "round";
-    const NUMBERS: &'static [u32] = &[0, 3, 4, 5, 6, 7, 8, 9, 11];
+    const NUMBERS: &'static [u32] = &[0, 3, 4, 5, 6, 16, 7, 8, 9, 11];
     const SLICES: &'static [&'static str] = &["key", "message", "polynomial"];
 
     fn draw(random: &mut Random, limits: &Limits) -> ProverRound {
         let input = drawn(random, limits, ProverCall::Round);
         ProverRound {
-            polynomial: vec![Residue::MAX; 3 * input.shape.d],
+            polynomial: vec![Residue::MAX; input.shape.polynomial()],
             input,
         }
     }
@@ -44,7 +45,7 @@ impl Call for ProverRound {
 
     fn pairs(&self, of: &Lengths) -> Vec<(usize, usize)> {
         vec![
-            (self.input.key.len(), of.table),
+            (self.input.key.len(), of.key),
             (self.input.message.len(), of.table),
             (self.polynomial.len(), of.polynomial),
         ]
@@ -53,7 +54,7 @@ impl Call for ProverRound {
     fn by_plain(&mut self) -> u32 {
         let i = &self.input;
         let answer = plain::prover_round(i.settings, i.t, &i.key, &i.message);
-        self.polynomial = flat(&answer.polynomial, i.settings.degree as usize);
+        self.polynomial = polynomial_coefficients(&shape(i.settings), &answer.polynomial);
         answer.number
     }
 
@@ -80,7 +81,7 @@ impl Call for ProverRound {
     }
 
     fn numbers(&self) -> Vec<u64> {
-        [&four(self.input.settings)[..], &[self.input.t.into()]].concat()
+        [&five(self.input.settings)[..], &[self.input.t.into()]].concat()
     }
 }
 
@@ -89,7 +90,7 @@ pub struct Fold(ProverInput);
 
 impl Call for Fold {
     const NAME: &'static str = "fold";
-    const NUMBERS: &'static [u32] = &[0, 3, 4, 5, 6, 7, 8, 9, 10, 11];
+    const NUMBERS: &'static [u32] = &[0, 3, 4, 5, 6, 16, 7, 8, 9, 10, 11];
     const SLICES: &'static [&'static str] = &["key", "message"];
 
     fn draw(random: &mut Random, limits: &Limits) -> Fold {
@@ -101,10 +102,7 @@ impl Call for Fold {
     }
 
     fn pairs(&self, of: &Lengths) -> Vec<(usize, usize)> {
-        vec![
-            (self.0.key.len(), of.table),
-            (self.0.message.len(), of.table),
-        ]
+        vec![(self.0.key.len(), of.key), (self.0.message.len(), of.table)]
     }
 
     fn by_plain(&mut self) -> u32 {
@@ -137,7 +135,7 @@ impl Call for Fold {
 
     fn numbers(&self) -> Vec<u64> {
         [
-            &four(self.0.settings)[..],
+            &five(self.0.settings)[..],
             &[self.0.t.into(), self.0.e.into()],
         ]
         .concat()
@@ -152,7 +150,7 @@ pub struct End {
 
 impl Call for End {
     const NAME: &'static str = "end";
-    const NUMBERS: &'static [u32] = &[0, 3, 4, 5, 6, 7, 9, 11];
+    const NUMBERS: &'static [u32] = &[0, 3, 4, 5, 6, 16, 7, 9, 11];
     const SLICES: &'static [&'static str] = &["message", "last"];
 
     fn draw(random: &mut Random, limits: &Limits) -> End {
@@ -203,6 +201,6 @@ impl Call for End {
     }
 
     fn numbers(&self) -> Vec<u64> {
-        [&four(self.input.settings)[..], &[self.input.t.into()]].concat()
+        [&five(self.input.settings)[..], &[self.input.t.into()]].concat()
     }
 }

@@ -1,13 +1,13 @@
 //! The judge of relaxed openings.
 
-use super::lent::{four, places};
+use super::lent::{five, rows};
 use crate::case::{Call, Outcome, Table};
 use crate::verified;
 use reference::draw::{base, tables};
 use reference::draw::{damage_some, Limits};
 use reference::plain::refusals::Lengths;
 use reference::random::Random;
-use reference::types::{JudgeAnswer, Residue, Residues, Settings, ITS_MODULUS, LARGEST_DEGREE};
+use reference::types::{JudgeAnswer, Residue, Rows, Settings, ITS_MODULUS, LARGEST_DEGREE};
 use reference::{fast, plain};
 
 /// What a judge that does not refuse says.
@@ -31,22 +31,23 @@ pub struct Judge {
 /// Settings whose growth is 2^62 itself, which passes, or with a bound that is
 /// one larger, which is refused by 14; or the largest degree at the depths on
 /// both sides of that limit.
-fn at_the_limit(random: &mut Random) -> Settings {
+fn at_the_limit(random: &mut Random, limits: &Limits) -> Settings {
+    let rows = base::rows(random, limits);
     if random.one_in(3) {
-        let depth = random.pick(&[3, 4]);
-        return Settings::new(LARGEST_DEGREE, depth, ITS_MODULUS, base::bound(random));
+        let (depth, bound) = (random.pick(&[3, 4]), base::bound(random));
+        return Settings::new(LARGEST_DEGREE, depth, ITS_MODULUS, bound).with_rows(rows);
     }
     let (degree, depth, most) = random.pick(&[(64, 4, 4), (4, 8, 64)]);
     let bound = most + random.below(2) as u32;
-    Settings::new(degree, depth, base::modulus(random), bound)
+    Settings::new(degree, depth, base::modulus(random), bound).with_rows(rows)
 }
 
 /// The judge by one of the references.
-type Judging = fn(Settings, Residues, u32, &[Residue], &[i64]) -> JudgeAnswer;
+type Judging = fn(Settings, Rows, u32, &[Residue], &[i64]) -> JudgeAnswer;
 
 impl Judge {
     fn judge(&mut self, judge: Judging) -> u32 {
-        let commitment = places(&self.commitment);
+        let commitment = rows(&self.commitment, self.settings.degree);
         let answer = judge(self.settings, commitment, self.slack, &self.key, &self.w);
         self.yes = u32::from(answer.yes);
         answer.number
@@ -55,14 +56,14 @@ impl Judge {
 
 impl Call for Judge {
     const NAME: &'static str = "judge";
-    const NUMBERS: &'static [u32] = &[0, 3, 4, 5, 6, 7, 8, 14, 15];
+    const NUMBERS: &'static [u32] = &[0, 3, 4, 5, 6, 16, 7, 8, 14, 15];
     const WORDS: &'static [&'static str] = &["no", "yes", COMMON, NOTHING];
     const SLICES: &'static [&'static str] = &["commitment", "key", "w"];
     const FAST: bool = true;
 
     fn draw(random: &mut Random, limits: &Limits) -> Judge {
         let (mut input, _) = if limits.table >= 1024 && random.one_in(16) {
-            let settings = at_the_limit(random);
+            let settings = at_the_limit(random, limits);
             if random.one_in(2) {
                 tables::judge_any_at(random, settings)
             } else {
@@ -79,7 +80,7 @@ impl Call for Judge {
         }
         Judge {
             settings: input.settings,
-            commitment: input.commitment[..input.shape.d].to_vec(),
+            commitment: base::row_coefficients(&input.shape, &input.commitment),
             slack: input.c,
             key: input.key,
             w: input.w,
@@ -93,8 +94,8 @@ impl Call for Judge {
 
     fn pairs(&self, of: &Lengths) -> Vec<(usize, usize)> {
         vec![
-            (self.commitment.len(), of.element),
-            (self.key.len(), of.table),
+            (self.commitment.len(), of.commitment),
+            (self.key.len(), of.key),
             (self.w.len(), of.table),
         ]
     }
@@ -145,6 +146,6 @@ impl Call for Judge {
     }
 
     fn numbers(&self) -> Vec<u64> {
-        [&four(self.settings)[..], &[self.slack.into()]].concat()
+        [&five(self.settings)[..], &[self.slack.into()]].concat()
     }
 }

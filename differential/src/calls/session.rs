@@ -1,14 +1,15 @@
 //! The moves of a verifier's session, on records in lent slices.
 
-use super::lent::{flat, four, number_of, numbers, places, polynomial, record, NARROW};
+use super::lent::{five, number_of, numbers, places, polynomial, record, rows, CLOSED, NARROW};
 use super::VERDICTS;
 use crate::case::{Call, Outcome, Table};
 use crate::verified::{self, SESSION};
+use reference::draw::base::{polynomial_coefficients, row_coefficients};
 use reference::draw::session;
 use reference::draw::{damage_some, Limits};
 use reference::plain::refusals::Lengths;
 use reference::random::Random;
-use reference::types::{MoveAnswer, Record, Residue, Settings};
+use reference::types::{MoveAnswer, Polynomial, Record, Residue, Rows, Settings};
 use reference::{admit, plain};
 
 /// The slice that is lent for a record: now and then with a number in place
@@ -17,7 +18,7 @@ use reference::{admit, plain};
 fn lend_record(random: &mut Random, r: &Record) -> Vec<Residue> {
     let mut t = numbers(r);
     if random.one_in(12) {
-        t[5] = random.pick(&[2, 3, 256, 1 << 32, (1 << 32) + 1, Residue::MAX]);
+        t[CLOSED] = random.pick(&[2, 3, 256, 1 << 32, (1 << 32) + 1, Residue::MAX]);
     }
     if random.one_in(12) {
         let place = random.pick(&NARROW);
@@ -40,7 +41,7 @@ fn settings_of(t: &[Residue]) -> Option<Settings> {
     (t.len() == SESSION).then(|| record(t).settings)
 }
 
-/// A slice of another length than 142 holds no record: 7 at once.
+/// A slice of another length than 527 holds no record: 7 at once.
 fn no_record(t: &[Residue]) -> u32 {
     if t.len() == SESSION {
         0
@@ -52,15 +53,15 @@ fn no_record(t: &[Residue]) -> u32 {
 /// The number that says whether a record is closed, and the nearest one
 /// that it may be.
 fn closed(t: &[Residue]) -> (usize, usize) {
-    (t[5] as usize, t[5].min(1) as usize)
+    (t[CLOSED] as usize, t[CLOSED].min(1) as usize)
 }
 
 /// The move was refused for the number of closed alone.
 fn closed_remark(t: &[Residue], number: u32, lengths_right: bool) -> Option<String> {
-    if number == 7 && lengths_right && t.len() == SESSION && t[5] > 1 {
+    if number == 7 && lengths_right && t.len() == SESSION && t[CLOSED] > 1 {
         return Some("closed neither 0 nor 1".to_string());
     }
-    (number == 11 && t[5] == 1).then(|| "closed".to_string())
+    (number == 11 && t[CLOSED] == 1).then(|| "closed".to_string())
 }
 
 /// What is counted of a refused move's record.
@@ -76,9 +77,15 @@ pub struct Start {
     session: Vec<Residue>,
 }
 
+impl Start {
+    fn commitment(&self) -> Rows {
+        rows(&self.commitment, self.settings.degree)
+    }
+}
+
 impl Call for Start {
     const NAME: &'static str = "session start";
-    const NUMBERS: &'static [u32] = &[0, 3, 4, 5, 6, 7, 8];
+    const NUMBERS: &'static [u32] = &[0, 3, 4, 5, 6, 16, 7, 8];
     const SLICES: &'static [&'static str] = &["commitment", "session"];
 
     fn draw(random: &mut Random, limits: &Limits) -> Start {
@@ -88,7 +95,7 @@ impl Call for Start {
         }
         Start {
             settings: input.settings,
-            commitment: input.commitment[..input.shape.d].to_vec(),
+            commitment: row_coefficients(&input.shape, &input.commitment),
             session: vec![Residue::MAX; SESSION],
         }
     }
@@ -99,20 +106,19 @@ impl Call for Start {
 
     fn pairs(&self, of: &Lengths) -> Vec<(usize, usize)> {
         vec![
-            (self.commitment.len(), of.element),
+            (self.commitment.len(), of.commitment),
             (self.session.len(), SESSION),
         ]
     }
 
     fn by_plain(&mut self) -> u32 {
-        let answer = plain::session_start(self.settings, places(&self.commitment));
+        let answer = plain::session_start(self.settings, self.commitment());
         self.session = numbers(&answer.record);
         answer.number
     }
 
     fn by_admission(&self) -> Option<u32> {
-        let commitment = places(&self.commitment);
-        number_of(admit::session_start(self.settings, &commitment))
+        number_of(admit::session_start(self.settings, &self.commitment()))
     }
 
     fn by_verified(&mut self) -> u32 {
@@ -138,7 +144,7 @@ impl Call for Start {
     }
 
     fn numbers(&self) -> Vec<u64> {
-        four(self.settings).to_vec()
+        five(self.settings).to_vec()
     }
 }
 
@@ -151,6 +157,10 @@ pub struct SessionRound {
 }
 
 impl SessionRound {
+    fn polynomial(&self) -> Polynomial {
+        polynomial(&self.polynomial, record(&self.session).settings.degree)
+    }
+
     fn store(&mut self, answer: MoveAnswer) -> u32 {
         self.session = numbers(&answer.record);
         self.verdict = answer.verdict;
@@ -160,7 +170,7 @@ impl SessionRound {
 
 impl Call for SessionRound {
     const NAME: &'static str = "session round";
-    const NUMBERS: &'static [u32] = &[0, 3, 4, 5, 6, 7, 8, 10, 11];
+    const NUMBERS: &'static [u32] = &[0, 3, 4, 5, 6, 16, 7, 8, 10, 11];
     const WORDS: &'static [&'static str] = &[
         "holds",
         "rejected",
@@ -176,7 +186,7 @@ impl Call for SessionRound {
             damage_some(random, &mut input);
         }
         SessionRound {
-            polynomial: flat(&input.polynomial, input.shape.d),
+            polynomial: polynomial_coefficients(&input.shape, &input.polynomial),
             session: lend_record(random, &input.record),
             e: input.e,
             verdict: u32::MAX,
@@ -210,12 +220,12 @@ impl Call for SessionRound {
     }
 
     fn by_plain(&mut self) -> u32 {
-        let c = polynomial(&self.polynomial);
+        let c = self.polynomial();
         self.store(plain::session_round(record(&self.session), c, self.e))
     }
 
     fn by_admission(&self) -> Option<u32> {
-        let c = polynomial(&self.polynomial);
+        let c = self.polynomial();
         number_of(admit::session_round(&record(&self.session), &c, self.e))
     }
 
@@ -266,7 +276,7 @@ pub struct SessionEnd {
 
 impl Call for SessionEnd {
     const NAME: &'static str = "session end";
-    const NUMBERS: &'static [u32] = &[0, 3, 4, 5, 6, 7, 8, 10, 11];
+    const NUMBERS: &'static [u32] = &[0, 3, 4, 5, 6, 16, 7, 8, 10, 11];
     const WORDS: &'static [&'static str] = &[
         "accepted",
         "rejected",
@@ -300,7 +310,7 @@ impl Call for SessionEnd {
     fn pairs(&self, of: &Lengths) -> Vec<(usize, usize)> {
         vec![
             (self.last.len(), of.element),
-            (self.key.len(), of.table),
+            (self.key.len(), of.key),
             (self.session.len(), SESSION),
             closed(&self.session),
         ]

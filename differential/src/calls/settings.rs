@@ -14,13 +14,14 @@ pub struct SettingsCase(Settings);
 
 impl Case for SettingsCase {
     const NAME: &'static str = "settings";
-    const NUMBERS: &'static [u32] = &[0, 3, 4, 5, 6];
+    const NUMBERS: &'static [u32] = &[0, 3, 4, 5, 6, 16];
     const OF_SETTINGS: &'static [&'static str] = &[WIDE, LARGEST, SIXTEENS, OTHER];
+    const OF_ROWS: bool = true;
 
     fn draw(random: &mut Random, limits: &Limits) -> SettingsCase {
         let mut s = settings(random, limits, false);
         for _ in 0..random.below(4) {
-            let number = random.pick(&[3, 4, 5, 6]);
+            let number = random.pick(&[3, 4, 5, 6, 16]);
             damage_settings(random, &mut s, number);
         }
         if random.one_in(8) {
@@ -35,6 +36,7 @@ impl Case for SettingsCase {
             s.depth = random.below(12) as u32;
             s.modulus = random.word() >> random.below(64);
             s.bound = random.below(140) as u32;
+            s.rows = random.below(7) as u32;
         }
         SettingsCase(s)
     }

@@ -1,7 +1,7 @@
 //! The calls on text: a first look, the table reader, the table writer and
 //! the programs `prove` and `verify`.
 
-use super::lent::four;
+use super::lent::five;
 use super::stretch::stretch;
 use super::VERDICTS;
 use crate::case::{Call, Outcome, Table};
@@ -101,14 +101,34 @@ fn longest(random: &mut Random) -> TextInput {
     input
 }
 
+/// A text that `prove` can read and whose listing is too long to be written: a
+/// key of four rows with numbers of one digit, and a large modulus.
+pub fn long_listing(random: &mut Random) -> TextInput {
+    let modulus = LARGEST_MODULUS - 2 * random.below(9) as Residue;
+    let settings = Settings::new(64, 4, modulus, 1).with_rows(4);
+    let shape = base::shape(settings);
+    let tables = Tables {
+        key: base::residues(random, shape.key(), 9),
+        message: base::wholes(random, shape.table(), shape.b),
+        challenges: base::exponents(random, shape.l, shape.d),
+        ..Tables::default()
+    };
+    TextInput {
+        shape,
+        parts: [true, true, false, false, true, false],
+        lines: text::lines(settings, &tables),
+        lengths: None,
+    }
+}
+
 /// The lengths of the tables of a text: the drawn ones, or those that its
 /// settings ask for.
 fn lengths(input: &TextInput) -> [usize; 6] {
     let shape = &input.shape;
     let all = [
+        shape.key(),
         shape.table(),
-        shape.table(),
-        shape.d,
+        shape.commitment(),
         shape.rounds(),
         shape.l,
         shape.d,
@@ -120,7 +140,7 @@ fn lengths(input: &TextInput) -> [usize; 6] {
 /// A short text that is cut at each place of its names line, or has another
 /// byte at one of its places: all of them, and the text itself.
 pub fn names_lines() -> Vec<Vec<u8>> {
-    const TEXT: &[u8] = b"part item place value\n0 0 0 2\n0 0 1 0\n0 0 2 17\n0 0 3 1\n";
+    const TEXT: &[u8] = b"part item place value\n0 0 0 2\n0 0 1 0\n0 0 2 17\n0 0 3 1\n0 0 4 1\n";
     const NAMES: usize = 22;
     let mut texts = vec![TEXT.to_vec()];
     for place in 0..NAMES {
@@ -164,11 +184,11 @@ pub fn large_numbers() -> Vec<TextInput> {
     const PROVE: Parts = [true, true, false, false, true, false];
     const VERIFY: Parts = [true, false, true, true, true, true];
     let mut texts = Vec::new();
-    for (q, parts) in [17, LARGEST_MODULUS]
-        .map(|q| [PROVE, VERIFY, ALL].map(|p| (q, p)))
+    for (rows, q, parts) in [(1, 17), (1, LARGEST_MODULUS), (2, LARGEST_MODULUS)]
+        .map(|(rows, q)| [PROVE, VERIFY, ALL].map(|p| (rows, q, p)))
         .concat()
     {
-        let mut input = listing(q, parts);
+        let mut input = listing(rows, q, parts);
         texts.push(input.clone());
         for place in 1..input.lines.len() {
             texts.extend(with_numbers(&input, place));
@@ -179,17 +199,28 @@ pub fn large_numbers() -> Vec<TextInput> {
     texts
 }
 
-/// The listing with this modulus as a text of these parts.
-fn listing(q: Residue, parts: Parts) -> TextInput {
+/// The listing with this modulus as a text of these parts; with one row, or
+/// with a second one, of weights 2 and 5.
+fn listing(rows: u32, q: Residue, parts: Parts) -> TextInput {
     fn given<T: Clone>(there: bool, values: &[T]) -> Vec<T> {
         values[..if there { values.len() } else { 0 }].to_vec()
     }
-    let settings = Settings::new(2, 1, q, 1);
+    let settings = Settings::new(2, 1, q, 1).with_rows(rows);
+    let c2 = [(7 + q) / 2, 1];
+    let (key, commitment, rounds) = if rows == 1 {
+        let rounds = [&[4, 1, 6, 0][..], &c2].concat();
+        (vec![3, 5, 7, 2], vec![15, 4], rounds)
+    } else {
+        let weighted = [[1, q - 1], [(7 + q) / 2, (q - 5) / 2], [(5 + q) / 2, 0]];
+        let [c0, c1, last] = weighted;
+        let rounds = [[4, 1], c0, [6, 0], c1, c2, last].concat();
+        (vec![3, 5, 7, 2, 2, 0, 5, 0], vec![15, 4, 7, q - 2], rounds)
+    };
     let tables = Tables {
-        key: given(parts[0], &[3, 5, 7, 2]),
+        key: given(parts[0], &key),
         message: given(parts[1], &[1, -1, 1, 0]),
-        commitment: given(parts[2], &[15, 4]),
-        rounds: given(parts[3], &[4, 1, 6, 0, (7 + q) / 2, 1]),
+        commitment: given(parts[2], &commitment),
+        rounds: given(parts[3], &rounds),
         challenges: given(parts[4], &[1]),
         final_element: given(parts[5], &[1, 0]),
     };
@@ -232,7 +263,7 @@ fn stored_settings(answer: ReadAnswer, slice: &mut Vec<Residue>) -> u32 {
     if answer.number == 0 && slice.len() != SETTINGS {
         return 7;
     }
-    *slice = four(answer.settings).to_vec();
+    *slice = five(answer.settings).to_vec();
     answer.number
 }
 
@@ -247,7 +278,7 @@ impl Look {
 
 impl Call for Look {
     const NAME: &'static str = "look";
-    const NUMBERS: &'static [u32] = &[0, 1, 2, 3, 4, 5, 6, 7];
+    const NUMBERS: &'static [u32] = &[0, 1, 2, 3, 4, 5, 6, 16, 7];
     const SLICES: &'static [&'static str] = &["settings"];
 
     fn draw(random: &mut Random, limits: &Limits) -> Look {
@@ -334,7 +365,7 @@ impl Read {
     }
 
     /// The number of parts and the slice for the settings are tested with
-    /// the lengths of the tables, after refusals 1 to 6.
+    /// the lengths of the tables, after refusals 1 to 6 and 16.
     fn read(&mut self, read: Reader) -> u32 {
         let t = &mut self.tables;
         let answer = read(
@@ -347,7 +378,7 @@ impl Read {
             &mut t.challenges,
             &mut t.final_element,
         );
-        if (1..=6).contains(&answer.number) {
+        if matches!(answer.number, 1..=6 | 16) {
             return answer.number;
         }
         if self.settings.len() != SETTINGS || no_parts(self.parts) != 0 {
@@ -359,7 +390,7 @@ impl Read {
 
 impl Call for Read {
     const NAME: &'static str = "read";
-    const NUMBERS: &'static [u32] = &[0, 1, 2, 3, 4, 5, 6, 7, 8, 9, 10];
+    const NUMBERS: &'static [u32] = &[0, 1, 2, 3, 4, 5, 6, 16, 7, 8, 9, 10];
     const WORDS: &'static [&'static str] = &["no such part"];
     const SLICES: &'static [&'static str] = &[
         "settings",
@@ -505,7 +536,7 @@ impl Write {
 
 impl Call for Write {
     const NAME: &'static str = "write";
-    const NUMBERS: &'static [u32] = &[0, 1, 3, 4, 5, 6, 7, 8, 9, 10];
+    const NUMBERS: &'static [u32] = &[0, 1, 3, 4, 5, 6, 16, 7, 8, 9, 10];
     const WORDS: &'static [&'static str] = &["no such part", "out short", "out exact", "out long"];
     const SLICES: &'static [&'static str] = &[
         "key",
@@ -595,7 +626,7 @@ impl Call for Write {
     }
 
     fn numbers(&self) -> Vec<u64> {
-        [&four(self.input.settings)[..], &[self.parts.into()]].concat()
+        [&five(self.input.settings)[..], &[self.parts.into()]].concat()
     }
 
     fn show(&self, page: &mut Page) {
@@ -621,6 +652,9 @@ fn room_remark(number: u32, room: usize, length: usize) -> Option<String> {
         _ => None,
     }
 }
+
+/// 1 for a listing, of a text that is not too long itself.
+const LONG_LISTING: &str = "too long a listing";
 
 /// The program `prove` as a call on text.
 #[derive(Clone)]
@@ -654,12 +688,18 @@ impl Prove {
 
 impl Call for Prove {
     const NAME: &'static str = "prove";
-    const NUMBERS: &'static [u32] = &[0, 1, 2, 3, 4, 5, 6, 7, 8, 9, 10];
-    const WORDS: &'static [&'static str] = &["out short", "out exact", "out long"];
+    const NUMBERS: &'static [u32] = &[0, 1, 2, 3, 4, 5, 6, 16, 7, 8, 9, 10];
+    const WORDS: &'static [&'static str] = &["out short", "out exact", "out long", LONG_LISTING];
     const SLICES: &'static [&'static str] = &[];
     const FAST: bool = true;
 
     fn draw(random: &mut Random, limits: &Limits) -> Prove {
+        if limits.table >= 1024 && random.one_in(100) {
+            return Prove::of(
+                long_listing(random).text(),
+                random.pick(&[0, 1, LONGEST_TEXT]),
+            );
+        }
         let input = match random.below(20) {
             0 => text::readable(random, limits).0,
             _ => text::provable(random, limits),
@@ -716,8 +756,10 @@ impl Call for Prove {
     }
 
     fn other_remarks(&self, number: u32) -> Vec<String> {
+        let long = number == 1 && self.text.len() <= LONGEST_TEXT;
+        let long = long.then(|| LONG_LISTING.to_string());
         let remark = room_remark(number, self.out.len(), self.length);
-        remark.into_iter().collect()
+        remark.into_iter().chain(long).collect()
     }
 
     fn numbers(&self) -> Vec<u64> {
@@ -757,7 +799,7 @@ impl Verify {
 
 impl Call for Verify {
     const NAME: &'static str = "verify";
-    const NUMBERS: &'static [u32] = &[0, 1, 2, 3, 4, 5, 6, 7, 8, 10];
+    const NUMBERS: &'static [u32] = &[0, 1, 2, 3, 4, 5, 6, 16, 7, 8, 10];
     const WORDS: &'static [&'static str] = &["accepted", "rejected"];
     const SLICES: &'static [&'static str] = &[];
     const FAST: bool = true;

@@ -1,6 +1,6 @@
 //! The extractor.
 
-use super::lent::{four, places};
+use super::lent::{five, rows};
 use crate::case::{Call, Case, Outcome, Table, LARGEST, OTHER, WIDE};
 use crate::verified;
 use reference::cases::Page;
@@ -10,7 +10,7 @@ use reference::draw::{damage_by, damage_some, Limits};
 use reference::plain::refusals::Lengths;
 use reference::random::Random;
 use reference::refuse::BRANCH;
-use reference::types::{Residue, Residues, Settings, ITS_MODULUS, LARGEST_DEGREE};
+use reference::types::{Residue, Rows, Settings, ITS_MODULUS, LARGEST_DEGREE};
 use reference::{fast, plain};
 
 #[derive(Clone)]
@@ -20,11 +20,11 @@ pub struct Extract {
 }
 
 /// The extractor by one of the references.
-type Extractor = fn(Settings, Residues, &[Residue], &[Residue], &[u32], &[i32], &mut [i64]) -> u32;
+type Extractor = fn(Settings, Rows, &[Residue], &[Residue], &[u32], &[i32], &mut [i64]) -> u32;
 
 impl Extract {
     fn new(tree: Tree) -> Extract {
-        let commitment = tree.commitment[..tree.shape.d].to_vec();
+        let commitment = base::row_coefficients(&tree.shape, &tree.commitment);
         Extract { tree, commitment }
     }
 
@@ -32,7 +32,7 @@ impl Extract {
         let t = &mut self.tree;
         extract(
             t.settings,
-            places(&self.commitment),
+            rows(&self.commitment, t.settings.degree),
             &t.key,
             &t.rounds,
             &t.challenges,
@@ -50,13 +50,15 @@ fn growing(random: &mut Random) -> Settings {
     sized_settings(random, degree, depth, bound)
 }
 
-/// Settings of a size with any modulus that the degree has.
+/// Settings of a size with any modulus that the degree has and any number of
+/// rows.
 fn sized_settings(random: &mut Random, degree: u32, depth: u32, bound: u32) -> Settings {
     let modulus = match degree {
         LARGEST_DEGREE => ITS_MODULUS,
         _ => base::modulus(random),
     };
-    Settings::new(degree, depth, modulus, bound)
+    let rows = random.between(1, 4) as u32;
+    Settings::new(degree, depth, modulus, bound).with_rows(rows)
 }
 
 /// An accepted tree: of a message, or with leaves that are in general no
@@ -74,7 +76,7 @@ fn accepted(random: &mut Random, mut settings: Settings) -> Tree {
 
 impl Call for Extract {
     const NAME: &'static str = "extract";
-    const NUMBERS: &'static [u32] = &[0, 3, 4, 5, 6, 7, 8, 10, 12, 13, 14];
+    const NUMBERS: &'static [u32] = &[0, 3, 4, 5, 6, 16, 7, 8, 10, 12, 13, 14];
     const SLICES: &'static [&'static str] =
         &["commitment", "key", "rounds", "challenges", "leaves", "w"];
     // Trees that are not refused are too small for sixteen elements.
@@ -101,8 +103,8 @@ impl Call for Extract {
     fn pairs(&self, of: &Lengths) -> Vec<(usize, usize)> {
         let t = &self.tree;
         vec![
-            (self.commitment.len(), of.element),
-            (t.key.len(), of.table),
+            (self.commitment.len(), of.commitment),
+            (t.key.len(), of.key),
             (t.rounds.len(), of.tree_rounds),
             (t.challenges.len(), of.tree_challenges),
             (t.leaves.len(), of.leaves),
@@ -147,7 +149,7 @@ impl Call for Extract {
     }
 
     fn numbers(&self) -> Vec<u64> {
-        four(self.tree.settings).to_vec()
+        five(self.tree.settings).to_vec()
     }
 }
 

@@ -22,16 +22,16 @@ pub use text::{bits, look, prove, read, verify, write};
 use reference::types::Settings;
 
 /// Numbers of settings in a lent slice.
-pub const SETTINGS: usize = 4;
+pub const SETTINGS: usize = 5;
 
 /// Numbers of a session record in a lent slice.
-pub const SESSION: usize = 142;
+pub const SESSION: usize = 527;
 
 extern "C" {
-    fn wovenrock_settings(degree: u32, depth: u32, modulus: u64, bound: u32) -> u32;
+    fn wovenrock_settings(degree: u32, depth: u32, modulus: u64, bound: u32, rows: u32) -> u32;
 }
 
-/// Refusals 3 to 6.
+/// Refusals 3 to 6, 16.
 pub fn settings(s: Settings) -> u32 {
-    unsafe { wovenrock_settings(s.degree, s.depth, s.modulus, s.bound) }
+    unsafe { wovenrock_settings(s.degree, s.depth, s.modulus, s.bound, s.rows) }
 }

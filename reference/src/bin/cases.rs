@@ -14,13 +14,14 @@
 //! is printed as the cases of its calls, one after another.
 //!
 //! Kinds of lines:
-//! - settings: d L q B
+//! - settings: d L q B rows
 //! - table: its length, then its numbers (a text is a table of bytes)
 //! - element: like a table; of an element's 128 places those behind the ones
 //!   written are 0
-//! - polynomial: three elements, a line each
-//! - record: four lines: settings; rounds done, closed (0 or 1); claim
-//!   (element); the eight challenges
+//! - rows: what is passed by value for each row: four elements, a line each
+//! - polynomial: twelve elements, a line each: rows of c0, of c1 and of c2
+//! - record: seven lines: settings; rounds done, closed (0 or 1); claims
+//!   (rows); the eight challenges
 //! - parts: six numbers, 1 when part 1 to 6 is there, else 0
 //! - tables: six tables, a line each: key, message, commitment, rounds,
 //!   challenges, final element
@@ -29,17 +30,17 @@
 //!
 //! | Name | Inputs | Outputs |
 //! |---|---|---|
-//! | commit | settings; key; message | number; commitment (element) |
+//! | commit | settings; key; message | number; commitment (rows) |
 //! | round | settings; t; key; message | number; polynomial |
 //! | fold | settings; t e; key; message | number; key; message |
 //! | end | settings; t; message | number; final (element) |
-//! | opening | settings; key; message; challenges; rounds | number verdict; commitment (element); final (element); key; message; rounds |
-//! | start | settings; commitment (element) | number; record |
+//! | opening | settings; key; message; challenges; rounds | number verdict; commitment (rows); final (element); key; message; rounds |
+//! | start | settings; commitment (rows) | number; record |
 //! | session_round | record; polynomial; e | number verdict; record |
 //! | session_end | record; final (element); key | number verdict; record |
-//! | check | settings; commitment (element); final (element); key; rounds; challenges | number verdict; cause round |
-//! | judge | settings; commitment (element); c; key; w | number yes |
-//! | extract | settings; commitment (element); key; rounds; challenges; leaves; w | number; w |
+//! | check | settings; commitment (rows); final (element); key; rounds; challenges | number verdict; cause round |
+//! | judge | settings; commitment (rows); c; key; w | number yes |
+//! | extract | settings; commitment (rows); key; rounds; challenges; leaves; w | number; w |
 //! | read | parts; text; tables | number; settings; tables |
 //! | write | settings; parts; tables; room | number length; text |
 //! | prove | text; room | number length; text |
@@ -76,10 +77,7 @@ fn parse(words: &[String]) -> Option<Wanted> {
             valid.then_some(Limits {
                 degree,
                 depth,
-                table: usize::MAX,
-                tree: usize::MAX,
-                wide: true,
-                transform: false,
+                ..Limits::new(usize::MAX, usize::MAX)
             })?
         }
         _ => return None,

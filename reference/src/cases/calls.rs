@@ -19,7 +19,7 @@ pub fn commit(page: &mut Page, input: &OpeningInput) {
     page.table(&input.message);
     let answer = plain::commit(input.settings, &input.key, &input.message);
     page.numbers([answer.number]);
-    page.element(&answer.commitment, input.settings.degree);
+    page.rows(&answer.commitment, input.settings);
 }
 
 pub fn round(page: &mut Page, input: &ProverInput) {
@@ -30,7 +30,7 @@ pub fn round(page: &mut Page, input: &ProverInput) {
     page.table(&input.message);
     let answer = plain::prover_round(input.settings, input.t, &input.key, &input.message);
     page.numbers([answer.number]);
-    page.polynomial(&answer.polynomial, input.settings.degree);
+    page.polynomial(&answer.polynomial, input.settings);
 }
 
 /// Answers the tables after the fold.
@@ -74,7 +74,7 @@ pub fn opening(page: &mut Page, input: &OpeningInput) {
         &mut after.rounds,
     );
     page.numbers([answer.number, answer.verdict]);
-    page.element(&answer.commitment, input.settings.degree);
+    page.rows(&answer.commitment, input.settings);
     page.element(&answer.final_element, input.settings.degree);
     page.table(&after.key);
     page.table(&after.message);
@@ -85,7 +85,7 @@ pub fn opening(page: &mut Page, input: &OpeningInput) {
 pub fn start(page: &mut Page, input: &StartInput) -> Record {
     page.header("start");
     page.settings(input.settings);
-    page.element(&input.commitment, input.settings.degree);
+    page.rows(&input.commitment, input.settings);
     let answer = plain::session_start(input.settings, input.commitment);
     page.numbers([answer.number]);
     page.record(&answer.record);
@@ -96,7 +96,7 @@ pub fn start(page: &mut Page, input: &StartInput) -> Record {
 pub fn session_round(page: &mut Page, input: &RoundInput) -> Record {
     page.header("session_round");
     page.record(&input.record);
-    page.polynomial(&input.polynomial, input.record.settings.degree);
+    page.polynomial(&input.polynomial, input.record.settings);
     page.numbers([input.e]);
     let answer = plain::session_round(input.record, input.polynomial, input.e);
     move_answer(page, &answer)
@@ -122,7 +122,7 @@ pub fn check(page: &mut Page, input: &Transcript) {
     page.header("check");
     let s = input.settings;
     page.settings(s);
-    page.element(&input.commitment, s.degree);
+    page.rows(&input.commitment, s);
     page.element(&input.final_element, s.degree);
     page.table(&input.key);
     page.table(&input.rounds);
@@ -143,7 +143,7 @@ pub fn check(page: &mut Page, input: &Transcript) {
 pub fn judge(page: &mut Page, input: &JudgeInput) {
     page.header("judge");
     page.settings(input.settings);
-    page.element(&input.commitment, input.settings.degree);
+    page.rows(&input.commitment, input.settings);
     page.numbers([input.c]);
     page.table(&input.key);
     page.table(&input.w);
@@ -155,7 +155,7 @@ pub fn judge(page: &mut Page, input: &JudgeInput) {
 pub fn extract(page: &mut Page, input: &Tree) {
     page.header("extract");
     page.settings(input.settings);
-    page.element(&input.commitment, input.settings.degree);
+    page.rows(&input.commitment, input.settings);
     page.table(&input.key);
     page.table(&input.rounds);
     page.table(&input.challenges);

@@ -116,7 +116,7 @@ fn refused_calls(page: &mut Page, random: &mut Random, prover: &ProverInput) {
         let mut input = prover.clone();
         match random.below(3) {
             0 => {
-                let number = random.pick(&[3, 4, 5, 6]);
+                let number = random.pick(&[3, 4, 5, 6, 16]);
                 if !damage_settings(random, &mut input.settings, number) {
                     damage_settings(random, &mut input.settings, refuse::DEGREE);
                 }

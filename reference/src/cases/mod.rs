@@ -36,7 +36,8 @@ impl Page {
     }
 
     pub fn settings(&mut self, s: Settings) {
-        self.numbers([s.degree.into(), s.depth.into(), s.modulus, s.bound.into()]);
+        let [d, l, b, rows] = [s.degree, s.depth, s.bound, s.rows].map(Residue::from);
+        self.numbers([d, l, s.modulus, b, rows]);
     }
 
     /// An element by value: d places where those behind are 0, or all 128.
@@ -49,17 +50,26 @@ impl Page {
         }
     }
 
-    pub fn polynomial(&mut self, c: &Polynomial, d: u32) {
-        for element in c {
-            self.element(element, d);
+    /// What is passed by value for each row: four elements. Of one past the
+    /// rows that is 0 no place is written.
+    pub fn rows(&mut self, rows: &Rows, s: Settings) {
+        for (row, element) in rows.iter().enumerate() {
+            let there = row < s.rows as usize || *element != ZERO_RESIDUES;
+            self.element(element, if there { s.degree } else { 0 });
         }
     }
 
-    /// A session record in four lines.
+    pub fn polynomial(&mut self, c: &Polynomial, s: Settings) {
+        for rows in c {
+            self.rows(rows, s);
+        }
+    }
+
+    /// A session record.
     pub fn record(&mut self, record: &Record) {
         self.settings(record.settings);
         self.numbers([record.done, u32::from(record.closed)]);
-        self.element(&record.claim, record.settings.degree);
+        self.rows(&record.claims, record.settings);
         self.numbers(record.challenges);
     }
 }

@@ -1,15 +1,17 @@
-//! About sixty small cases, degree 2 or 4 and depth 0 to 2, with the listing
-//! of document 01 among them, and a few of degree 128.
+//! About a hundred small cases, degree 2 or 4 and depth 0 to 2, with the
+//! listing of document 01 among them, some with several rows, and a few of
+//! degree 128.
 
 use super::{calls, chains, Page};
-use crate::draw::session::{self, Move, StartInput};
-use crate::draw::tables::{self, OpeningInput, ProverCall, ProverInput};
+use crate::draw::session::{self, EndInput, Move, RoundInput, StartInput};
+use crate::draw::tables::{self, JudgeInput, OpeningInput, ProverCall, ProverInput};
 use crate::draw::text::{self, Tables, TextInput, WriteInput};
 use crate::draw::transcript::{self, Transcript};
 use crate::draw::tree::{self, Tree};
 use crate::draw::{base, damage_by, Limits};
 use crate::plain;
 use crate::random::Random;
+use crate::refuse::Shape;
 use crate::types::*;
 
 pub fn print(page: &mut Page, random: &mut Random) {
@@ -21,6 +23,9 @@ pub fn print(page: &mut Page, random: &mut Random) {
     texts(page, random);
     wide(page, random);
     largest_degree(page, random);
+    several_rows(page, random);
+    past_the_rows(page);
+    refused_rows(page, random);
 }
 
 /// Zeros behind the degree, to keep the cases small.
@@ -28,6 +33,12 @@ fn tidy<T: Default>(places: &mut [T; PLACES], d: usize) {
     for place in &mut places[d..] {
         *place = T::default();
     }
+}
+
+/// The same of what is passed by value for each row, and past the rows.
+fn tidy_rows(rows: &mut Rows, shape: &Shape) {
+    rows[shape.rows..].fill(ZERO_RESIDUES);
+    rows.iter_mut().for_each(|places| tidy(places, shape.d));
 }
 
 /// The opening of document 01's listing.
@@ -40,6 +51,18 @@ fn listing() -> OpeningInput {
         message: vec![1, -1, 1, 0],
         challenges: vec![1],
         rounds: vec![0; 6],
+    }
+}
+
+/// The same with a second row, of the weights 2 and 5.
+fn with_weights() -> OpeningInput {
+    let settings = Settings::new(2, 1, 17, 1).with_rows(2);
+    OpeningInput {
+        shape: base::shape(settings),
+        settings,
+        key: vec![3, 5, 7, 2, 2, 0, 5, 0],
+        rounds: vec![0; 12],
+        ..listing()
     }
 }
 
@@ -91,7 +114,7 @@ fn drawn_until<T>(random: &mut Random, draw: impl Fn(&mut Random) -> Option<T>) 
 }
 
 fn tidy_transcript(mut input: Transcript) -> Transcript {
-    tidy(&mut input.commitment, input.shape.d);
+    tidy_rows(&mut input.commitment, &input.shape);
     tidy(&mut input.final_element, input.shape.d);
     input
 }
@@ -143,7 +166,7 @@ fn judgements(page: &mut Page, random: &mut Random) {
             let fits = input.shape.l == 1 && number == 0 && found == wanted.unwrap_or(found);
             fits.then_some(input)
         });
-        tidy(&mut input.commitment, input.shape.d);
+        tidy_rows(&mut input.commitment, &input.shape);
         if wanted.is_none() {
             damage_by(random, &mut input, &[15]);
         }
@@ -173,7 +196,7 @@ fn judged(input: &tables::JudgeInput) -> (bool, bool) {
 }
 
 fn tidy_tree(mut tree: Tree) -> Tree {
-    tidy(&mut tree.commitment, tree.shape.d);
+    tidy_rows(&mut tree.commitment, &tree.shape);
     tree.w.fill(0);
     tree
 }
@@ -217,11 +240,10 @@ fn sessions(page: &mut Page, random: &mut Random) {
     chains::print_moves(page, random, &listing(), false);
     let round = drawn_until(random, |random| {
         let mut input = session::round(random, &Limits::small()).0;
-        input
-            .polynomial
-            .iter_mut()
-            .for_each(|c| tidy(c, input.shape.d));
-        tidy(&mut input.record.claim, input.shape.d);
+        let shape = input.shape;
+        let elements = input.polynomial.iter_mut();
+        elements.for_each(|c| tidy_rows(c, &shape));
+        tidy_rows(&mut input.record.claims, &shape);
         let answer = plain::session_round(input.record, input.polynomial, input.e);
         (answer.verdict == REJECTED).then_some(input)
     });
@@ -237,12 +259,12 @@ fn sessions(page: &mut Page, random: &mut Random) {
 }
 
 fn tidy_session(mut session: session::Session) -> session::Session {
-    let d = session.settings.degree as usize;
-    tidy(&mut session.commitment, d);
+    let shape = base::shape(session.settings);
+    tidy_rows(&mut session.commitment, &shape);
     for (step, _) in &mut session.moves {
         match step {
-            Move::Round(c, _) => c.iter_mut().for_each(|c| tidy(c, d)),
-            Move::End(f, _) => tidy(f, d),
+            Move::Round(c, _) => c.iter_mut().for_each(|c| tidy_rows(c, &shape)),
+            Move::End(f, _) => tidy(f, shape.d),
         }
     }
     session
@@ -250,7 +272,11 @@ fn tidy_session(mut session: session::Session) -> session::Session {
 
 /// The listing's input of `prove`.
 fn provable_listing() -> TextInput {
-    let input = listing();
+    provable(listing())
+}
+
+/// An opening as a text for `prove`.
+fn provable(input: OpeningInput) -> TextInput {
     let tables = Tables {
         key: input.key,
         message: input.message,
@@ -269,7 +295,7 @@ fn texts(page: &mut Page, random: &mut Random) {
     let input = provable_listing();
     calls::read(page, &input);
     calls::prove(page, &input.text(), 200);
-    for numbers in [&[2][..], &[3], &[7, 9], &[8]] {
+    for numbers in [&[2][..], &[16], &[7, 9], &[8]] {
         let mut input = provable_listing();
         damage_by(random, &mut input, numbers);
         calls::read(page, &input);
@@ -287,7 +313,7 @@ fn texts(page: &mut Page, random: &mut Random) {
             },
         );
     }
-    calls::verify(page, &verifiable_listing());
+    calls::verify(page, &verifiable(listing()));
 }
 
 /// Tables of parts 3 and 6 at depth 0.
@@ -301,18 +327,21 @@ fn written_tables() -> (Settings, Parts, Tables) {
     (Settings::new(2, 0, 2_147_483_647, 127), parts, tables)
 }
 
-/// The transcript of the listing as a text.
-fn verifiable_listing() -> Vec<u8> {
-    let input = listing();
+/// The transcript of an opening as a text for `verify`.
+fn verifiable(input: OpeningInput) -> Vec<u8> {
+    let mut after = input.clone();
+    let (s, e) = (input.settings, &input.challenges);
+    let (key, message) = (&mut after.key, &mut after.message);
+    let answer = plain::whole_opening(s, key, message, e, &mut after.rounds);
     let tables = Tables {
         key: input.key,
         message: vec![],
-        commitment: vec![15, 4],
-        rounds: vec![4, 1, 6, 0, 12, 1],
-        challenges: vec![1],
-        final_element: vec![1, 0],
+        commitment: base::row_coefficients(&input.shape, &answer.commitment),
+        rounds: after.rounds,
+        challenges: input.challenges,
+        final_element: answer.final_element[..input.shape.d].to_vec(),
     };
-    text::lines(input.settings, &tables).concat()
+    text::lines(s, &tables).concat()
 }
 
 /// Moduli past 31 bits: the largest, and one past 32 that is not prime.
@@ -326,13 +355,13 @@ fn wide(page: &mut Page, random: &mut Random) {
     let round = spoiled(random, Settings::new(2, 1, most, 2), Cause::Round(1));
     calls::check(page, &round);
     let (mut judged, _) = tables::judge_any_at(random, Settings::new(2, 1, most, 127));
-    tidy(&mut judged.commitment, judged.shape.d);
+    tidy_rows(&mut judged.commitment, &judged.shape);
     calls::judge(page, &judged);
     for q in [most, other] {
         let tree = tree::free_at(random, Settings::new(2, 1, q, 2));
         calls::extract(page, &tidy_tree(tree));
     }
-    let mut listing = listing();
+    let mut listing = with_weights();
     listing.settings.modulus = most;
     chains::print_moves(page, random, &listing, false);
     wide_texts(page);
@@ -350,6 +379,7 @@ fn wide_texts(page: &mut Page) {
     let most = "0 0 2 2305843009213693951\n";
     calls::prove(page, &changed("0 0 2 17\n", most).text(), 200);
     for (old, new) in [
+        ("0 0 4 1\n", ""),
         ("1 0 0 3\n", "1 0 0 2305843009213693951\n"),
         ("1 0 0 3\n", "1 0 0 2305843009213693952\n"),
         ("2 0 0 1\n", "2 0 0 2147483648\n"),
@@ -369,10 +399,12 @@ fn largest_degree(page: &mut Page, random: &mut Random) {
         let mut start = StartInput {
             shape,
             settings,
-            commitment: ZERO_RESIDUES,
+            commitment: ZERO_ROWS,
         };
         start.settings.modulus = modulus;
-        start.commitment.copy_from_slice(&coefficients);
+        if modulus == ITS_MODULUS {
+            start.commitment[0].copy_from_slice(&coefficients);
+        }
         calls::start(page, &start);
     }
     let input = opening(random, settings);
@@ -401,4 +433,201 @@ fn largest_degree(page: &mut Page, random: &mut Random) {
         };
         calls::read(page, &input);
     }
+}
+
+/// Two to four rows: a row of weights as a whole opening and as texts, and
+/// drawn tables, transcripts and trees.
+fn several_rows(page: &mut Page, random: &mut Random) {
+    calls::opening(page, &with_weights());
+    calls::prove(page, &provable(with_weights()).text(), 250);
+    calls::verify(page, &verifiable(with_weights()));
+    calls::commit(
+        page,
+        &opening(random, Settings::new(4, 0, 9, 3).with_rows(4)),
+    );
+    calls::opening(
+        page,
+        &opening(random, Settings::new(2, 2, 15, 2).with_rows(3)),
+    );
+    for (l, rows, cause) in [
+        (2, 2, Cause::Round(2)),
+        (1, 3, Cause::Bound),
+        (1, 4, Cause::Equation),
+    ] {
+        let input = spoiled(random, Settings::new(2, l, 17, 2).with_rows(rows), cause);
+        calls::check(page, &input);
+    }
+    for rows in [3, 2] {
+        let settings = Settings::new(2, 1, 9, 2).with_rows(rows);
+        let mut tree = tree::free_at(random, settings);
+        if rows == 2 {
+            damage_by(random, &mut tree, &[13]);
+        }
+        calls::extract(page, &tidy_tree(tree));
+    }
+    judged_rows(page, random);
+}
+
+/// A vector that opens three rows, and then all but the last.
+fn judged_rows(page: &mut Page, random: &mut Random) {
+    let settings = Settings::new(2, 1, 17, 2).with_rows(3);
+    let mut input = drawn_until(random, |random| {
+        let (input, _) = tables::judge_any_at(random, settings);
+        let rows: Vec<_> = input.key.chunks(4).collect();
+        let differ = rows[0] != rows[1] && rows[1] != rows[2];
+        (differ && input.c == 16).then_some(input)
+    });
+    tidy_rows(&mut input.commitment, &input.shape);
+    calls::judge(page, &input);
+    input.commitment[2][0] = (input.commitment[2][0] + 1) % 17;
+    calls::judge(page, &input);
+}
+
+/// Numbers that are no residues, in rows that are not there.
+fn put_behind(mut rows: Rows, shape: &Shape) -> Rows {
+    for row in &mut rows[shape.rows..] {
+        row[..shape.d].fill(shape.q);
+    }
+    rows
+}
+
+/// The listing with the weights, and other numbers past its rows in all that
+/// is passed by value for each row.
+fn past_the_rows(page: &mut Page) {
+    let OpeningInput {
+        shape,
+        settings,
+        key,
+        message,
+        challenges,
+        ..
+    } = with_weights();
+    let commitment = plain::commit(settings, &key, &message).commitment;
+    let commitment = put_behind(commitment, &shape);
+    let start = StartInput {
+        shape,
+        settings,
+        commitment,
+    };
+    let mut record = calls::start(page, &start);
+    record.claims = put_behind(record.claims, &shape);
+    let polynomial = plain::prover_round(settings, 0, &key, &message).polynomial;
+    let round = RoundInput {
+        shape,
+        record,
+        polynomial: polynomial.map(|c| put_behind(c, &shape)),
+        e: challenges[0],
+    };
+    let mut wrong = round.clone();
+    wrong.polynomial[2][1][0] += 1;
+    calls::session_round(page, &wrong);
+    let mut record = calls::session_round(page, &round);
+    record.claims = put_behind(record.claims, &shape);
+    let mut final_element = ZERO_WHOLES;
+    final_element[0] = 1;
+    let end = EndInput {
+        shape,
+        record,
+        final_element,
+        key: key.clone(),
+    };
+    calls::session_end(page, &end);
+    let rounds = base::polynomial_coefficients(&shape, &polynomial);
+    let transcript = Transcript {
+        shape,
+        settings,
+        key: key.clone(),
+        commitment,
+        rounds: rounds.clone(),
+        challenges,
+        final_element,
+    };
+    calls::check(page, &transcript);
+    let tree = Tree {
+        shape,
+        settings,
+        commitment,
+        key: key.clone(),
+        rounds,
+        challenges: vec![0, 1, 2],
+        leaves: vec![2, -1, 1, 0, 0, -1],
+        w: vec![0; 4],
+    };
+    calls::extract(page, &tree);
+    let judged = JudgeInput {
+        shape,
+        settings,
+        commitment,
+        c: 4,
+        key,
+        w: vec![4, -4, 4, 0],
+    };
+    calls::judge(page, &judged);
+}
+
+/// Numbers of rows that are refused, in every call on tables.
+fn refused_rows(page: &mut Page, random: &mut Random) {
+    const LARGE: u32 = 1 << 31;
+    let refused = |rows: u32| listing().settings.with_rows(rows);
+    let opening = |rows: u32| OpeningInput {
+        settings: refused(rows),
+        ..listing()
+    };
+    calls::commit(page, &opening(0));
+    calls::opening(page, &opening(5));
+    let prover = |call: ProverCall, rows: u32| ProverInput {
+        call,
+        shape: listing().shape,
+        settings: refused(rows),
+        t: 0,
+        e: 1,
+        key: listing().key,
+        message: listing().message,
+    };
+    calls::round(page, &prover(ProverCall::Round, LARGE));
+    calls::fold(page, &prover(ProverCall::Fold, 5));
+    calls::end(page, &prover(ProverCall::End, 0));
+    let start = StartInput {
+        shape: listing().shape,
+        settings: refused(5),
+        commitment: ZERO_ROWS,
+    };
+    calls::start(page, &start);
+    let (mut round, _) = session::round(random, &Limits::small());
+    round.record = Record {
+        settings: refused(LARGE),
+        claims: ZERO_ROWS,
+        ..round.record
+    };
+    round.polynomial = ZERO_POLYNOMIAL;
+    calls::session_round(page, &round);
+    let end = EndInput {
+        shape: round.shape,
+        record: round.record,
+        final_element: ZERO_WHOLES,
+        key: vec![],
+    };
+    calls::session_end(page, &end);
+    let mut check = tidy_transcript(transcript::honest_at(random, refused(1)));
+    check.settings.rows = 0;
+    calls::check(page, &check);
+    let (mut judged, _) = tables::judge_any_at(random, refused(1));
+    tidy_rows(&mut judged.commitment, &judged.shape);
+    judged.settings.rows = 5;
+    calls::judge(page, &judged);
+    let mut tree = tidy_tree(tree::free_at(random, refused(1)));
+    tree.settings.rows = LARGE;
+    calls::extract(page, &tree);
+    // The bound comes before the rows.
+    tree.settings.bound = 0;
+    calls::extract(page, &tree);
+    let (settings, parts, tables) = written_tables();
+    let write = WriteInput {
+        shape: base::shape(settings),
+        settings: settings.with_rows(5),
+        parts,
+        tables,
+        room: 100,
+    };
+    calls::write(page, &write);
 }

@@ -3,8 +3,8 @@
 use super::Limits;
 use crate::random::Random;
 use crate::refuse::{self, Shape};
-use crate::types::{Residue, Residues, Settings, Wholes, PLACES};
-use crate::types::{ITS_MODULUS, LARGEST_DEGREE, LARGEST_MODULUS};
+use crate::types::{Polynomial, Residue, Residues, Rows, Settings, Wholes, PLACES};
+use crate::types::{ITS_MODULUS, LARGEST_DEGREE, LARGEST_MODULUS, ZERO_RESIDUES};
 
 /// The shape of settings that are known to be valid.
 pub fn shape(s: Settings) -> Shape {
@@ -16,7 +16,8 @@ pub fn settings(random: &mut Random, limits: &Limits, for_tree: bool) -> Setting
     if limits.transform {
         let degree = random.pick(&[32, 64, LARGEST_DEGREE]);
         let depth = random.between(3, limits.depth.into()) as u32;
-        return Settings::new(degree, depth, ITS_MODULUS, bound(random));
+        let settings = Settings::new(degree, depth, ITS_MODULUS, bound(random));
+        return settings.with_rows(rows(random, limits));
     }
     loop {
         let degree = degree(random, limits);
@@ -26,8 +27,18 @@ pub fn settings(random: &mut Random, limits: &Limits, for_tree: bool) -> Setting
         let fits = table <= limits.table && (!for_tree || tree <= limits.tree);
         if degree <= limits.degree && fits {
             let modulus = modulus_at(random, limits, degree);
-            return Settings::new(degree, depth, modulus, bound(random));
+            let settings = Settings::new(degree, depth, modulus, bound(random));
+            return settings.with_rows(rows(random, limits));
         }
+    }
+}
+
+/// A number of rows: one as often as several.
+pub fn rows(random: &mut Random, limits: &Limits) -> u32 {
+    if random.one_in(3) {
+        1
+    } else {
+        random.between(1, limits.rows.into()) as u32
     }
 }
 
@@ -177,7 +188,36 @@ pub fn residues_by_value(random: &mut Random, coefficients: &[Residue]) -> Resid
     places
 }
 
-/// The same for whole numbers.
+/// One element a row by value, from the coefficients of all rows. The places
+/// past the rows are not read by any call either, and at times hold anything.
+pub fn rows_by_value(random: &mut Random, shape: &Shape, coefficients: &[Residue]) -> Rows {
+    let junk = random.one_in(3);
+    let mut rows = coefficients.chunks_exact(shape.d);
+    std::array::from_fn(|_| match rows.next() {
+        Some(row) => residues_by_value(random, row),
+        None if junk => std::array::from_fn(|_| random.word()),
+        None => ZERO_RESIDUES,
+    })
+}
+
+/// The coefficients of all rows, from what is passed by value for each row.
+pub fn row_coefficients(shape: &Shape, rows: &Rows) -> Vec<Residue> {
+    let rows = rows[..shape.rows].iter();
+    rows.flat_map(|a| a[..shape.d].to_vec()).collect()
+}
+
+/// The coefficients of a round polynomial: element rows·j + row is c_j of the
+/// row.
+pub fn polynomial_coefficients(shape: &Shape, c: &Polynomial) -> Vec<Residue> {
+    c.iter().flat_map(|c| row_coefficients(shape, c)).collect()
+}
+
+/// The coefficients of a drawn row, by value.
+pub fn any_row<'a>(random: &mut Random, shape: &Shape, rows: &'a mut Rows) -> &'a mut [Residue] {
+    &mut rows[random.below(shape.rows)][..shape.d]
+}
+
+/// An element of whole numbers by value.
 pub fn wholes_by_value(random: &mut Random, coefficients: &[i32]) -> Wholes {
     let junk = random.one_in(3);
     let mut places = [0; PLACES];
@@ -212,9 +252,13 @@ fn no_degree(random: &mut Random, modulus: Residue) -> u32 {
     random.pick(&[0, 1, 3, 6, 12, 63, 65, most, u32::MAX])
 }
 
-/// Damages one setting: refusals 3 to 6. With the largest degree another
-/// modulus is refused by 3, whether it is refused by 5 elsewhere or not, so
-/// that 5 cannot be brought about.
+/// Numbers of rows that are refused. Of some of them a key's length that is
+/// worked out in 32 bits is that of few rows.
+pub const NO_ROWS: [u32; 8] = [0, 5, 6, 8, (1 << 24) + 1, 1 << 31, (1 << 31) + 1, u32::MAX];
+
+/// Damages one setting: refusals 3 to 6, and 16. With the largest degree
+/// another modulus is refused by 3, whether it is refused by 5 elsewhere or
+/// not, so that 5 cannot be brought about.
 pub fn damage_settings(random: &mut Random, s: &mut Settings, number: u32) -> bool {
     let largest = s.degree == LARGEST_DEGREE;
     match number {
@@ -235,6 +279,7 @@ pub fn damage_settings(random: &mut Random, s: &mut Settings, number: u32) -> bo
             s.modulus = random.pick(&[&list[..], &high].concat());
         }
         refuse::BOUND => s.bound = random.pick(&[0, 128, 255, u32::MAX]),
+        refuse::ROWS => s.rows = random.pick(&NO_ROWS),
         _ => return false,
     }
     true
@@ -269,6 +314,12 @@ pub fn damage_residue(random: &mut Random, table: &mut [Residue], q: Residue) ->
     ];
     table[place] = random.pick(&[list, over].concat());
     true
+}
+
+/// The same in one of the rows of what is passed by value for each row.
+pub fn damage_rows(random: &mut Random, shape: &Shape, rows: &mut Rows) -> bool {
+    let row = any_row(random, shape, rows);
+    damage_residue(random, row, shape.q)
 }
 
 /// Puts a number beyond the bound at one place.

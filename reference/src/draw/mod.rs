@@ -3,7 +3,7 @@
 //!
 //! Every input keeps the shape of its settings from before any damage, so
 //! that several damages can be put on one input. What a damaged input must
-//! be refused with is the smallest of the numbers put on it.
+//! be refused with is the number put on it that is tested first.
 
 pub mod base;
 pub mod session;
@@ -13,6 +13,7 @@ pub mod transcript;
 pub mod tree;
 
 use crate::random::Random;
+use crate::refuse;
 use crate::types::LARGEST_DEGREE;
 
 /// The largest sizes to draw.
@@ -20,7 +21,9 @@ use crate::types::LARGEST_DEGREE;
 pub struct Limits {
     pub degree: u32,
     pub depth: u32,
-    /// Coefficients of a table of n elements.
+    /// Rows of a key.
+    pub rows: u32,
+    /// Coefficients of a table of n elements: a message, a row of a key.
     pub table: usize,
     /// Coefficients of all leaves of a tree.
     pub tree: usize,
@@ -32,12 +35,13 @@ pub struct Limits {
 }
 
 impl Limits {
-    /// All degrees, depths and moduli, with a limit on the number of
+    /// All degrees, depths, rows and moduli, with a limit on the number of
     /// coefficients.
     pub fn new(table: usize, tree: usize) -> Limits {
         Limits {
             degree: LARGEST_DEGREE,
             depth: 8,
+            rows: 4,
             table,
             tree,
             wide: true,
@@ -55,11 +59,12 @@ impl Limits {
         }
     }
 
-    /// Degrees 2 and 4, depths 0 to 2, moduli below 2^31.
+    /// Degrees 2 and 4, depths 0 to 2, all rows, moduli below 2^31.
     pub fn small() -> Limits {
         Limits {
             degree: 4,
             depth: 2,
+            rows: 4,
             table: 16,
             tree: 36,
             wide: false,
@@ -75,7 +80,8 @@ impl Limits {
 
 /// An input that can be damaged.
 pub trait Damage {
-    /// The refusals that `damage` can bring about.
+    /// The refusals that `damage` can bring about; one that is named twice is
+    /// drawn twice as often.
     const NUMBERS: &'static [u32];
 
     /// Damages the input so that this refusal applies, and answers whether
@@ -83,11 +89,11 @@ pub trait Damage {
     fn damage(&mut self, random: &mut Random, number: u32) -> bool;
 }
 
-/// Puts the given refusals on an input, the largest number first, and
-/// answers the smallest that took; 0 for none.
+/// Puts the given refusals on an input, the one that is tested last first, and
+/// answers the last that took, which is tested before the others; 0 for none.
 pub fn damage_by<T: Damage>(random: &mut Random, input: &mut T, numbers: &[u32]) -> u32 {
     let mut numbers = numbers.to_vec();
-    numbers.sort_unstable_by(|a, b| b.cmp(a));
+    numbers.sort_unstable_by_key(|&number| std::cmp::Reverse(refuse::place(number)));
     numbers.dedup();
     let mut expected = 0;
     for number in numbers {
@@ -107,9 +113,10 @@ pub fn damage_some<T: Damage>(random: &mut Random, input: &mut T) -> u32 {
 
 /// The refusal of an input that has one of its own and one put on it, where
 /// 0 stands for none.
-pub fn smaller(own: u32, put: u32) -> u32 {
+pub fn earlier(own: u32, put: u32) -> u32 {
     match (own, put) {
         (0, number) | (number, 0) => number,
-        (a, b) => a.min(b),
+        (a, b) if refuse::place(a) < refuse::place(b) => a,
+        (_, b) => b,
     }
 }

@@ -2,7 +2,7 @@
 
 use super::base::*;
 use super::transcript::{self, Transcript};
-use super::{damage_some, smaller, Damage, Limits};
+use super::{damage_some, earlier, Damage, Limits};
 use crate::plain;
 use crate::random::Random;
 use crate::refuse::{self, Shape};
@@ -13,27 +13,26 @@ use crate::types::*;
 pub struct StartInput {
     pub shape: Shape,
     pub settings: Settings,
-    pub commitment: Residues,
+    pub commitment: Rows,
 }
 
 pub fn start(random: &mut Random, limits: &Limits) -> StartInput {
     let settings = settings(random, limits, false);
     let shape = shape(settings);
-    let coefficients = residues(random, shape.d, shape.q);
+    let coefficients = residues(random, shape.commitment(), shape.q);
     StartInput {
         shape,
         settings,
-        commitment: residues_by_value(random, &coefficients),
+        commitment: rows_by_value(random, &shape, &coefficients),
     }
 }
 
 impl Damage for StartInput {
-    const NUMBERS: &'static [u32] = &[3, 4, 5, 6, 8];
+    const NUMBERS: &'static [u32] = &[3, 4, 5, 6, 16, 16, 8];
 
     fn damage(&mut self, random: &mut Random, number: u32) -> bool {
-        let Shape { d, q, .. } = self.shape;
         match number {
-            refuse::RESIDUE => damage_residue(random, &mut self.commitment[..d], q),
+            refuse::RESIDUE => damage_rows(random, &self.shape, &mut self.commitment),
             _ => damage_settings(random, &mut self.settings, number),
         }
     }
@@ -58,11 +57,12 @@ pub struct EndInput {
 
 /// The round polynomial of round `t`+1 of a transcript.
 pub fn polynomial(random: &mut Random, transcript: &Transcript, t: usize) -> Polynomial {
-    let d = transcript.shape.d;
+    let shape = transcript.shape;
+    let size = shape.commitment();
     let mut c = ZERO_POLYNOMIAL;
     for (j, places) in c.iter_mut().enumerate() {
-        let start = (3 * t + j) * d;
-        *places = residues_by_value(random, &transcript.rounds[start..start + d]);
+        let start = shape.item(t, j, 0) * shape.d;
+        *places = rows_by_value(random, &shape, &transcript.rounds[start..start + size]);
     }
     c
 }
@@ -96,11 +96,13 @@ fn record_after(random: &mut Random, transcript: &Transcript, rounds: usize) -> 
     record
 }
 
-/// Fills what no move reads or stores there with other numbers: the claim's
-/// places from the degree on, and challenges that are not used yet.
+/// Fills what no move reads or stores there with other numbers: places of the
+/// claims from the degree on and past the rows, and challenges that are not
+/// used yet.
 fn loosen(random: &mut Random, shape: &Shape, record: &mut Record) {
     if random.one_in(3) {
-        record.claim = residues_by_value(random, &record.claim[..shape.d]);
+        let claims = row_coefficients(shape, &record.claims);
+        record.claims = rows_by_value(random, shape, &claims);
     }
     if random.one_in(3) {
         for place in &mut record.challenges[record.done as usize..] {
@@ -149,10 +151,10 @@ pub fn end(random: &mut Random, limits: &Limits) -> (EndInput, u32) {
     (input, if wrong { refuse::TURN } else { 0 })
 }
 
-/// Damages that a round and an end share: settings, claim, list, turn.
+/// Damages that a round and an end share: settings, claims, list, turn.
 fn damage_record(random: &mut Random, shape: &Shape, record: &mut Record, number: u32) -> bool {
     match number {
-        refuse::RESIDUE => damage_residue(random, &mut record.claim[..shape.d], shape.q),
+        refuse::RESIDUE => damage_rows(random, shape, &mut record.claims),
         refuse::CHALLENGE => damage_exponent(random, &mut record.challenges, shape.d),
         refuse::TURN => {
             record.closed = true;
@@ -163,18 +165,17 @@ fn damage_record(random: &mut Random, shape: &Shape, record: &mut Record, number
 }
 
 impl Damage for RoundInput {
-    const NUMBERS: &'static [u32] = &[3, 4, 5, 6, 8, 10, 11];
+    const NUMBERS: &'static [u32] = &[3, 4, 5, 6, 16, 16, 8, 10, 11];
 
     fn damage(&mut self, random: &mut Random, number: u32) -> bool {
-        let Shape { d, q, .. } = self.shape;
         match number {
             refuse::RESIDUE if random.one_in(2) => {
                 let j = random.below(3);
-                damage_residue(random, &mut self.polynomial[j][..d], q)
+                damage_rows(random, &self.shape, &mut self.polynomial[j])
             }
             refuse::CHALLENGE if random.one_in(2) => {
                 let mut list = [self.e];
-                damage_exponent(random, &mut list, d);
+                damage_exponent(random, &mut list, self.shape.d);
                 self.e = list[0];
                 true
             }
@@ -189,7 +190,7 @@ impl Damage for RoundInput {
 }
 
 impl Damage for EndInput {
-    const NUMBERS: &'static [u32] = &[3, 4, 5, 6, 7, 8, 10, 11];
+    const NUMBERS: &'static [u32] = &[3, 4, 5, 6, 16, 16, 7, 8, 10, 11];
 
     fn damage(&mut self, random: &mut Random, number: u32) -> bool {
         match number {
@@ -220,7 +221,7 @@ pub enum Move {
 #[derive(Clone, Debug)]
 pub struct Session {
     pub settings: Settings,
-    pub commitment: Residues,
+    pub commitment: Rows,
     pub moves: Vec<(Move, u32)>,
     /// Why the last played move rejects, or none for an acceptance.
     pub cause: Option<Cause>,
@@ -277,7 +278,7 @@ fn stand_in(transcript: &Transcript) -> Record {
     Record {
         settings: transcript.settings,
         done: 0,
-        claim: ZERO_RESIDUES,
+        claims: ZERO_ROWS,
         challenges: [0; ROUNDS],
         closed: false,
     }
@@ -298,19 +299,19 @@ fn refused_round(
     let mut put = 0;
     if random.one_in(2) {
         let j = random.below(3);
-        damage_residue(random, &mut c[j][..shape.d], shape.q);
+        damage_rows(random, &shape, &mut c[j]);
         put = refuse::RESIDUE;
     }
     if random.one_in(2) {
         e = 2 * shape.d as u32;
-        put = smaller(put, refuse::CHALLENGE);
+        put = earlier(put, refuse::CHALLENGE);
     }
     let own = if t >= shape.l || closed {
         refuse::TURN
     } else {
         0
     };
-    (Move::Round(c, e), smaller(own, put))
+    (Move::Round(c, e), earlier(own, put))
 }
 
 fn refused_end(
@@ -335,5 +336,5 @@ fn refused_end(
     if input.record != stand_in(transcript) {
         return (Move::End(input.final_element, input.key), 0);
     }
-    (Move::End(input.final_element, input.key), smaller(own, put))
+    (Move::End(input.final_element, input.key), earlier(own, put))
 }

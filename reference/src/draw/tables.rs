@@ -31,7 +31,7 @@ pub fn opening_at(random: &mut Random, settings: Settings) -> OpeningInput {
     OpeningInput {
         shape,
         settings,
-        key: residues(random, shape.table(), shape.q),
+        key: residues(random, shape.key(), shape.q),
         message: wholes(random, shape.table(), shape.b),
         challenges: exponents(random, shape.l, shape.d),
         rounds: vec![Residue::MAX; shape.rounds()],
@@ -39,7 +39,7 @@ pub fn opening_at(random: &mut Random, settings: Settings) -> OpeningInput {
 }
 
 impl Damage for OpeningInput {
-    const NUMBERS: &'static [u32] = &[3, 4, 5, 6, 7, 8, 9, 10];
+    const NUMBERS: &'static [u32] = &[3, 4, 5, 6, 16, 16, 7, 8, 9, 10];
 
     fn damage(&mut self, random: &mut Random, number: u32) -> bool {
         let Shape { d, q, b, .. } = self.shape;
@@ -63,7 +63,7 @@ impl Damage for OpeningInput {
 pub struct CommitInput(pub OpeningInput);
 
 impl Damage for CommitInput {
-    const NUMBERS: &'static [u32] = &[3, 4, 5, 6, 7, 8, 9];
+    const NUMBERS: &'static [u32] = &[3, 4, 5, 6, 16, 16, 7, 8, 9];
 
     fn damage(&mut self, random: &mut Random, number: u32) -> bool {
         match number {
@@ -119,7 +119,7 @@ pub fn prover(random: &mut Random, limits: &Limits, call: ProverCall) -> (Prover
         settings,
         t,
         e: random.below(2 * shape.d) as u32,
-        key: residues(random, shape.table(), shape.q),
+        key: residues(random, shape.key(), shape.q),
         message,
     };
     (input, if wrong { refuse::TURN } else { 0 })
@@ -155,7 +155,7 @@ impl ProverInput {
 }
 
 impl Damage for ProverInput {
-    const NUMBERS: &'static [u32] = &[3, 4, 5, 6, 7, 8, 9, 10];
+    const NUMBERS: &'static [u32] = &[3, 4, 5, 6, 16, 16, 7, 8, 9, 10];
 
     fn damage(&mut self, random: &mut Random, number: u32) -> bool {
         let Shape { d, q, b, .. } = self.shape;
@@ -186,7 +186,7 @@ impl Damage for ProverInput {
 pub struct JudgeInput {
     pub shape: Shape,
     pub settings: Settings,
-    pub commitment: Residues,
+    pub commitment: Rows,
     pub c: u32,
     pub key: Vec<Residue>,
     pub w: Vec<i64>,
@@ -194,7 +194,7 @@ pub struct JudgeInput {
 
 /// Draws an input of the judge and answers with it refusal 14, 15 or 0. The
 /// commitment is one that w opens, or w goes beyond its bound or the
-/// equation is spoiled, or w is zero and the slack makes the commitment zero.
+/// equation of some row is spoiled, or w is zero and the slack makes the commitment zero.
 pub fn judge(random: &mut Random, limits: &Limits) -> (JudgeInput, u32) {
     let settings = settings(random, limits, false);
     judge_at(random, settings)
@@ -202,7 +202,7 @@ pub fn judge(random: &mut Random, limits: &Limits) -> (JudgeInput, u32) {
 
 pub fn judge_at(random: &mut Random, settings: Settings) -> (JudgeInput, u32) {
     let shape = shape(settings);
-    let key = residues(random, shape.table(), shape.q);
+    let key = residues(random, shape.key(), shape.q);
     let growth = refuse::growth(&shape);
     let bound = growth.unwrap_or(1 << 62);
     let c = random.pick(&[1, 2, 4, 16, 65_536, 65_535]);
@@ -219,7 +219,7 @@ pub fn judge_at(random: &mut Random, settings: Settings) -> (JudgeInput, u32) {
     let mut input = JudgeInput {
         shape,
         settings,
-        commitment: residues_by_value(random, &commitment[..shape.d]),
+        commitment: rows_by_value(random, &shape, &row_coefficients(&shape, &commitment)),
         c,
         key,
         w,
@@ -248,12 +248,15 @@ pub fn judge_any_at(random: &mut Random, settings: Settings) -> (JudgeInput, u32
             random.between(-bound, bound)
         };
     }
-    let (w, g) = (elements(&input.w, shape.d), elements(&input.key, shape.d));
-    let opened = inner_product_modulo(&w, &g, shape.d, shape.q);
+    let w = elements(&input.w, shape.d);
     let inverse = inverse(input.c, shape.q);
-    let commitment = reduce(&scale(&opened, inverse), shape.q);
-    for (place, x) in input.commitment.iter_mut().zip(commitment) {
-        *place = x as Residue;
+    let rows = input.key.chunks_exact(shape.table());
+    for (row, element) in rows.zip(&mut input.commitment) {
+        let opened = inner_product_modulo(&w, &elements(row, shape.d), shape.d, shape.q);
+        let wanted = reduce(&scale(&opened, inverse), shape.q);
+        for (place, x) in element.iter_mut().zip(wanted) {
+            *place = x as Residue;
+        }
     }
     (input, 0)
 }
@@ -282,8 +285,10 @@ fn empty(random: &mut Random, input: &mut JudgeInput) {
     input.c = c;
     input.w.fill(0);
     let common = refuse::common_divisor(c.into(), q);
-    for x in &mut input.commitment[..input.shape.d] {
-        *x = q / common * random.residue(common);
+    for row in &mut input.commitment[..input.shape.rows] {
+        for x in &mut row[..input.shape.d] {
+            *x = q / common * random.residue(common);
+        }
     }
 }
 
@@ -292,13 +297,16 @@ fn spoil_judged(
     random: &mut Random,
     shape: &Shape,
     bound: i64,
-    commitment: &mut Residues,
+    commitment: &mut Rows,
     w: &mut [i64],
 ) {
     let place = random.below(w.len());
     let q = shape.q as i64;
     match random.below(8) {
-        0 => commitment[random.below(shape.d)] = random.residue(shape.q),
+        0 => {
+            let row = any_row(random, shape, commitment);
+            row[random.below(shape.d)] = random.residue(shape.q);
+        }
         1 => w[place] = random.pick(&[bound, -bound, bound + 1, -bound - 1]),
         2 => w[place] = random.pick(&[i64::MAX, i64::MIN]),
         // A multiple of q more, which leaves the equation as it is, just
@@ -312,15 +320,15 @@ fn spoil_judged(
 }
 
 impl Damage for JudgeInput {
-    const NUMBERS: &'static [u32] = &[3, 4, 5, 6, 7, 8, 15];
+    const NUMBERS: &'static [u32] = &[3, 4, 5, 6, 16, 16, 7, 8, 15];
 
     fn damage(&mut self, random: &mut Random, number: u32) -> bool {
-        let Shape { d, q, .. } = self.shape;
+        let q = self.shape.q;
         match number {
             refuse::SIZE if random.one_in(2) => damage_length(random, &mut self.key),
             refuse::SIZE => damage_length(random, &mut self.w),
             refuse::RESIDUE if random.one_in(2) => damage_residue(random, &mut self.key, q),
-            refuse::RESIDUE => damage_residue(random, &mut self.commitment[..d], q),
+            refuse::RESIDUE => damage_rows(random, &self.shape, &mut self.commitment),
             refuse::SLACK => {
                 self.c = match sharing(random, q) {
                     Some(c) if random.one_in(2) => c,

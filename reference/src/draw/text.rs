@@ -7,6 +7,9 @@ use crate::random::Random;
 use crate::refuse::{self, Shape};
 use crate::types::*;
 
+/// Lines of the settings, which stand behind the names line.
+const SETTINGS: usize = 5;
+
 /// The tables of parts 1 to 6; an absent one is empty.
 #[derive(Clone, Debug, PartialEq, Eq, Default)]
 pub struct Tables {
@@ -64,9 +67,9 @@ fn tables(random: &mut Random, shape: &Shape, parts: Parts) -> Tables {
     let there = |part: usize, length: usize| if parts[part - 1] { length } else { 0 };
     let final_bound = random.pick(&[shape.final_bound(), 9, 2_147_483_647]);
     Tables {
-        key: residues(random, there(1, shape.table()), q),
+        key: residues(random, there(1, shape.key()), q),
         message: wholes(random, there(2, shape.table()), shape.b),
-        commitment: residues(random, there(3, d), q),
+        commitment: residues(random, there(3, shape.commitment()), q),
         rounds: residues(random, there(4, shape.rounds()), q),
         challenges: exponents(random, there(5, l), d),
         final_element: wholes(random, there(6, d), final_bound),
@@ -81,9 +84,9 @@ fn parts(random: &mut Random) -> Parts {
 /// Every line of a text with its line feed, the names line first.
 pub fn lines(s: Settings, tables: &Tables) -> Vec<Vec<u8>> {
     let mut lines = vec![b"part item place value\n".to_vec()];
-    let (d, l, b) = (s.degree.into(), s.depth.into(), s.bound.into());
-    let settings: [i128; 4] = [d, l, s.modulus.into(), b];
-    add_lines(&mut lines, 0, 4, &settings);
+    let [d, l, b, rows] = [s.degree, s.depth, s.bound, s.rows].map(i128::from);
+    let settings = [d, l, s.modulus.into(), b, rows];
+    add_lines(&mut lines, 0, SETTINGS, &settings);
     for part in 1..=6 {
         let size = if part == 5 { 1 } else { s.degree as usize };
         add_lines(&mut lines, part, size, &tables.values(part));
@@ -161,7 +164,7 @@ pub fn verifiable(random: &mut Random, limits: &Limits) -> (TextInput, bool) {
     let tables = Tables {
         key: transcript.key,
         message: vec![],
-        commitment: transcript.commitment[..d].to_vec(),
+        commitment: row_coefficients(&transcript.shape, &transcript.commitment),
         rounds: transcript.rounds,
         challenges: transcript.challenges,
         final_element,
@@ -213,7 +216,8 @@ impl TextInput {
     /// Gives a drawn line of one of these parts another value.
     fn set_value(&mut self, random: &mut Random, parts: &[u8], values: &[i64]) -> bool {
         let of_parts = |i: &usize| parts.contains(&part_of(&self.lines[*i]));
-        let places: Vec<usize> = (5..self.lines.len()).filter(of_parts).collect();
+        let behind = 1 + SETTINGS..self.lines.len();
+        let places: Vec<usize> = behind.filter(of_parts).collect();
         if places.is_empty() {
             return false;
         }
@@ -241,7 +245,7 @@ impl TextInput {
                 return;
             }
         }
-        let first = 5;
+        let first = 1 + SETTINGS;
         let count = self.lines.len() - first;
         let place = first + random.below(count.max(1));
         match random.below(6) {
@@ -310,13 +314,13 @@ impl TextInput {
     }
 
     fn damage_settings_lines(&mut self, random: &mut Random) {
-        let place = 1 + random.below(4);
+        let place = 1 + random.below(SETTINGS);
         match random.below(4) {
-            0 => self.lines.swap(place, 1 + place % 4),
-            1 if place < 4 => {
+            0 => self.lines.swap(place, 1 + place % SETTINGS),
+            1 => {
                 self.lines.remove(place);
             }
-            2 if place < 4 => {
+            2 if place < SETTINGS => {
                 let line = self.lines[place].clone();
                 self.lines.insert(place, line);
             }
@@ -331,7 +335,7 @@ impl TextInput {
     fn damage_end(&mut self, random: &mut Random) {
         match random.below(4) {
             0 => self.lines.clear(),
-            1 => self.lines.truncate(1 + random.below(4)),
+            1 => self.lines.truncate(1 + random.below(SETTINGS)),
             2 => self.lines.push(b"\n".to_vec()),
             _ => {
                 if let Some(last) = self.lines.last_mut() {
@@ -426,7 +430,7 @@ fn too_large(random: &mut Random, part: &str, column: usize) -> &'static str {
 }
 
 impl Damage for TextInput {
-    const NUMBERS: &'static [u32] = &[1, 2, 2, 3, 4, 5, 6, 7, 7, 8, 9, 10];
+    const NUMBERS: &'static [u32] = &[1, 2, 2, 3, 4, 5, 6, 16, 16, 7, 7, 8, 9, 10];
 
     fn damage(&mut self, random: &mut Random, number: u32) -> bool {
         let Shape { d, q, b, .. } = self.shape;
@@ -458,6 +462,10 @@ impl Damage for TextInput {
             refuse::BOUND => {
                 let list = [0, 128, -1, NARROW, NARROW + 1, past(1), WIDE, -WIDE];
                 self.set_value_at(4, random.pick(&list));
+            }
+            refuse::ROWS => {
+                let list = [0, 5, -1, 1 << 31, NARROW, past(1), past(4), WIDE, -WIDE];
+                self.set_value_at(5, random.pick(&list));
             }
             refuse::SIZE => self.damage_size(random),
             refuse::RESIDUE => {
@@ -503,7 +511,7 @@ pub fn writable(random: &mut Random, limits: &Limits) -> (WriteInput, Vec<u8>) {
 }
 
 impl Damage for WriteInput {
-    const NUMBERS: &'static [u32] = &[3, 4, 5, 6, 7, 8, 9, 10];
+    const NUMBERS: &'static [u32] = &[3, 4, 5, 6, 16, 16, 7, 8, 9, 10];
 
     fn damage(&mut self, random: &mut Random, number: u32) -> bool {
         let Shape { d, q, b, .. } = self.shape;

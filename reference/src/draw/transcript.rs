@@ -16,7 +16,7 @@ pub struct Transcript {
     pub shape: Shape,
     pub settings: Settings,
     pub key: Vec<Residue>,
-    pub commitment: Residues,
+    pub commitment: Rows,
     pub rounds: Vec<Residue>,
     pub challenges: Vec<u32>,
     pub final_element: Wholes,
@@ -38,12 +38,14 @@ pub fn honest_at(random: &mut Random, settings: Settings) -> Transcript {
         &input.challenges,
         &mut input.rounds,
     );
-    let d = input.shape.d;
+    let shape = input.shape;
+    let d = shape.d;
+    let commitment = row_coefficients(&shape, &answer.commitment);
     Transcript {
-        shape: input.shape,
+        shape,
         settings,
         key,
-        commitment: residues_by_value(random, &answer.commitment[..d]),
+        commitment: rows_by_value(random, &shape, &commitment),
         rounds: input.rounds,
         challenges: input.challenges,
         final_element: wholes_by_value(random, &answer.final_element[..d]),
@@ -51,33 +53,46 @@ pub fn honest_at(random: &mut Random, settings: Settings) -> Transcript {
 }
 
 /// An accepted transcript that belongs to no message in particular: the
-/// final element, c1 and c2 are drawn, and the rest follows from the end.
+/// final element, and c1 and c2 of each row, are drawn, and the rest follows
+/// from the end.
 pub fn free(random: &mut Random, limits: &Limits) -> Transcript {
     let settings = settings(random, limits, false);
     let shape = shape(settings);
-    let key = residues(random, shape.table(), shape.q);
+    let key = residues(random, shape.key(), shape.q);
     let challenges = exponents(random, shape.l, shape.d);
     let final_element = wholes(random, shape.d, shape.final_bound());
-    let mut claim = last_claim(&shape, &key, &challenges, &final_element);
-    let mut rounds = Vec::new();
-    for &e in challenges.iter().rev() {
-        let c1 = element(&residues(random, shape.d, shape.q));
-        let c2 = element(&residues(random, shape.d, shape.q));
-        let e = e as usize;
-        let rest = subtract(&claim, &rotate(&c1, e));
-        let c0 = reduce(&subtract(&rest, &rotate(&c2, 2 * e)), shape.q);
-        claim = reduce(&scale(&add(&c0, &c2), 2), shape.q);
-        rounds.push([c0, c1, c2].concat());
+    let mut rounds = vec![0; shape.rounds()];
+    let mut commitment = Vec::new();
+    for (row, g) in key.chunks_exact(shape.table()).enumerate() {
+        let mut claim = last_claim(&shape, g, &challenges, &final_element);
+        for (t, &e) in challenges.iter().enumerate().rev() {
+            let c1 = element(&residues(random, shape.d, shape.q));
+            let c2 = element(&residues(random, shape.d, shape.q));
+            let e = e as usize;
+            let rest = subtract(&claim, &rotate(&c1, e));
+            let c0 = reduce(&subtract(&rest, &rotate(&c2, 2 * e)), shape.q);
+            claim = reduce(&scale(&add(&c0, &c2), 2), shape.q);
+            store_row(&shape, &mut rounds, t, row, &[c0, c1, c2]);
+        }
+        commitment.extend(narrow(&claim));
     }
-    rounds.reverse();
     Transcript {
         shape,
         settings,
         key,
-        commitment: residues_by_value(random, &narrow(&claim)),
-        rounds: narrow(&rounds.concat()),
+        commitment: rows_by_value(random, &shape, &commitment),
+        rounds,
         challenges,
         final_element: wholes_by_value(random, &final_element),
+    }
+}
+
+/// Stores the round polynomial of one row in round `t`+1, or at node `t` of a
+/// tree.
+pub fn store_row(shape: &Shape, rounds: &mut [Residue], t: usize, row: usize, c: &[Element; 3]) {
+    for (j, c) in c.iter().enumerate() {
+        let start = shape.item(t, j, row) * shape.d;
+        rounds[start..start + shape.d].copy_from_slice(&narrow(c));
     }
 }
 
@@ -86,14 +101,14 @@ pub fn narrow(a: &[i128]) -> Vec<Residue> {
     a.iter().map(|&x| x as Residue).collect()
 }
 
-/// The claim that a final element meets: half^L·f·G'.
+/// The claim that a final element meets in one row of a key: half^L·f·G'.
 pub fn last_claim(
     shape: &Shape,
-    key: &[Residue],
+    row: &[Residue],
     challenges: &[u32],
     final_element: &[i32],
 ) -> Element {
-    let mut left = elements(key, shape.d);
+    let mut left = elements(row, shape.d);
     for &e in challenges {
         let second = left.split_off(left.len() / 2);
         for (a, b) in left.iter_mut().zip(&second) {
@@ -107,13 +122,41 @@ pub fn last_claim(
 /// Spoils an accepted transcript in a drawn way, and answers the cause of
 /// the rejection; none where the transcript stays accepted.
 pub fn spoil(random: &mut Random, transcript: &mut Transcript) -> Option<Cause> {
-    match random.below(6) {
-        0 => spoil_commitment(random, transcript),
-        1 | 2 if transcript.shape.l > 0 => spoil_round(random, transcript),
+    let shape = transcript.shape;
+    let row = random.below(shape.rows);
+    match random.below(7) {
+        0 => spoil_commitment(random, transcript, row),
+        1 | 2 if shape.l > 0 => spoil_round(random, transcript, row),
         3 => spoil_bound(random, transcript),
-        4 if transcript.shape.q < 1 << 31 => add_modulus(random, transcript),
-        _ => spoil_equation(random, transcript),
+        4 if shape.q < 1 << 31 => add_modulus(random, transcript),
+        5 if shape.rows > 1 => spoil_two(random, transcript, row),
+        _ => spoil_equation(random, transcript, row),
     }
+}
+
+/// Spoils two rows, or one and the bound: what is tested first is the cause.
+fn spoil_two(random: &mut Random, transcript: &mut Transcript, row: usize) -> Option<Cause> {
+    let shape = transcript.shape;
+    let mut spoil_row = |random: &mut Random, row: usize| match shape.l {
+        0 => spoil_commitment(random, transcript, row),
+        _ => spoil_round(random, transcript, row),
+    };
+    let one = spoil_row(random, row);
+    if random.one_in(3) {
+        return earlier(one, spoil_bound(random, transcript));
+    }
+    let other = (row + 1 + random.below(shape.rows - 1)) % shape.rows;
+    earlier(one, spoil_row(random, other))
+}
+
+/// The cause that is tested first.
+fn earlier(one: Option<Cause>, other: Option<Cause>) -> Option<Cause> {
+    let place = |cause: &Cause| match cause {
+        Cause::Round(round) => *round,
+        Cause::Bound => u32::MAX - 1,
+        Cause::Equation => u32::MAX,
+    };
+    one.into_iter().chain(other).min_by_key(place)
 }
 
 /// Another residue at one place.
@@ -123,7 +166,7 @@ fn change(random: &mut Random, coefficients: &mut [Residue], q: Residue) {
     coefficients[place] = (coefficients[place] + more) % q;
 }
 
-/// The next test of the claim after `done` rounds fails.
+/// The next test of a claim after `done` rounds fails.
 fn cause_after(shape: &Shape, done: usize) -> Option<Cause> {
     if done < shape.l {
         Some(Cause::Round(done as u32 + 1))
@@ -132,21 +175,25 @@ fn cause_after(shape: &Shape, done: usize) -> Option<Cause> {
     }
 }
 
-fn spoil_commitment(random: &mut Random, transcript: &mut Transcript) -> Option<Cause> {
+fn spoil_commitment(random: &mut Random, transcript: &mut Transcript, row: usize) -> Option<Cause> {
     let shape = transcript.shape;
-    change(random, &mut transcript.commitment[..shape.d], shape.q);
+    change(random, &mut transcript.commitment[row][..shape.d], shape.q);
     cause_after(&shape, 0)
 }
 
 /// A change of c0 or c2 is seen in its round, one of c1 in the next test.
-fn spoil_round(random: &mut Random, transcript: &mut Transcript) -> Option<Cause> {
+fn spoil_round(random: &mut Random, transcript: &mut Transcript, row: usize) -> Option<Cause> {
     let shape = transcript.shape;
     let round = random.below(shape.l);
     let j = random.below(3);
-    let start = (3 * round + j) * shape.d;
-    let range = start..start + shape.d;
-    change(random, &mut transcript.rounds[range], shape.q);
+    change_round(random, transcript, shape.item(round, j, row));
     cause_after(&shape, if j == 1 { round + 1 } else { round })
+}
+
+/// Changes one item of the rounds.
+fn change_round(random: &mut Random, transcript: &mut Transcript, item: usize) {
+    let Shape { d, q, .. } = transcript.shape;
+    change(random, &mut transcript.rounds[item * d..(item + 1) * d], q);
 }
 
 fn spoil_bound(random: &mut Random, transcript: &mut Transcript) -> Option<Cause> {
@@ -173,20 +220,19 @@ fn add_modulus(random: &mut Random, transcript: &mut Transcript) -> Option<Cause
     (new.abs() > shape.final_bound()).then_some(Cause::Bound)
 }
 
-/// Draws the last claim anew by c1 of the last round, or the commitment.
-fn spoil_equation(random: &mut Random, transcript: &mut Transcript) -> Option<Cause> {
+/// Draws the last claim of a row anew by c1 of the last round, or the
+/// commitment.
+fn spoil_equation(random: &mut Random, transcript: &mut Transcript, row: usize) -> Option<Cause> {
     let shape = transcript.shape;
     if shape.l == 0 {
-        return spoil_commitment(random, transcript);
+        return spoil_commitment(random, transcript, row);
     }
-    let start = (3 * shape.l - 2) * shape.d;
-    let range = start..start + shape.d;
-    change(random, &mut transcript.rounds[range], shape.q);
+    change_round(random, transcript, shape.item(shape.l - 1, 1, row));
     Some(Cause::Equation)
 }
 
 impl Damage for Transcript {
-    const NUMBERS: &'static [u32] = &[3, 4, 5, 6, 7, 8, 10];
+    const NUMBERS: &'static [u32] = &[3, 4, 5, 6, 16, 16, 7, 8, 10];
 
     fn damage(&mut self, random: &mut Random, number: u32) -> bool {
         let Shape { d, q, .. } = self.shape;
@@ -199,7 +245,7 @@ impl Damage for Transcript {
             refuse::RESIDUE => match random.below(3) {
                 0 => damage_residue(random, &mut self.key, q),
                 1 => damage_residue(random, &mut self.rounds, q),
-                _ => damage_residue(random, &mut self.commitment[..d], q),
+                _ => damage_rows(random, &self.shape, &mut self.commitment),
             },
             refuse::CHALLENGE => damage_exponent(random, &mut self.challenges, d),
             _ => damage_settings(random, &mut self.settings, number),

@@ -2,7 +2,7 @@
 //! within their bound, and refused ones.
 
 use super::base::*;
-use super::transcript::{last_claim, narrow};
+use super::transcript::{last_claim, narrow, store_row};
 use super::{Damage, Limits};
 use crate::plain;
 use crate::plain::ring::{add, doubled_inverse, half_power, multiply, reduce, rotate, scale};
@@ -15,7 +15,7 @@ use crate::types::*;
 pub struct Tree {
     pub shape: Shape,
     pub settings: Settings,
-    pub commitment: Residues,
+    pub commitment: Rows,
     pub key: Vec<Residue>,
     pub rounds: Vec<Residue>,
     pub challenges: Vec<u32>,
@@ -31,9 +31,9 @@ impl Tree {
         Tree {
             shape,
             settings,
-            commitment: ZERO_RESIDUES,
-            key: residues(random, shape.table(), shape.q),
-            rounds: vec![0; 3 * shape.nodes() * shape.d],
+            commitment: ZERO_ROWS,
+            key: residues(random, shape.key(), shape.q),
+            rounds: vec![0; shape.tree_rounds()],
             challenges: node_exponents(random, shape.nodes(), shape.d),
             leaves: vec![0; shape.leaves() * shape.d],
             w: vec![i64::MIN; shape.table()],
@@ -43,11 +43,6 @@ impl Tree {
     /// Refusal 14 or 0.
     pub fn growth(&self) -> u32 {
         refuse::growth(&self.shape).err().unwrap_or(0)
-    }
-
-    fn store_polynomial(&mut self, node: usize, c: &[Residue]) {
-        let size = 3 * self.shape.d;
-        self.rounds[node * size..][..size].copy_from_slice(c);
     }
 
     /// The exponents from the root to a leaf.
@@ -64,25 +59,33 @@ impl Tree {
         list
     }
 
+    /// Takes a commitment; what is not read of it at times holds anything.
+    fn loosen(&mut self, random: &mut Random, commitment: &Rows) {
+        let coefficients = row_coefficients(&self.shape, commitment);
+        self.commitment = rows_by_value(random, &self.shape, &coefficients);
+    }
+
     /// Fills in the one commitment and the one set of round polynomials that
     /// make every path accepted with the leaves as they are.
     pub fn interpolate(&mut self) {
-        let claim = self.claim_below(0, self.shape.l);
-        self.commitment[..self.shape.d].copy_from_slice(&narrow(&claim));
+        for row in 0..self.shape.rows {
+            let claim = self.claim_below(row, 0, self.shape.l);
+            self.commitment[row][..self.shape.d].copy_from_slice(&narrow(&claim));
+        }
     }
 
-    /// The claim at a node, from the leaves up. The round polynomial takes
+    /// The claim of one row at a node, from the leaves up. The round polynomial takes
     /// the three claims below at the three challenges: half·s(a,b) inverts
     /// X^a - X^b.
-    fn claim_below(&mut self, node: usize, depth: usize) -> Element {
+    fn claim_below(&mut self, row: usize, node: usize, depth: usize) -> Element {
         let Shape { d, q, .. } = self.shape;
         if depth == 0 {
-            return self.leaf_claim(node - self.shape.nodes());
+            return self.leaf_claim(row, node - self.shape.nodes());
         }
         let r = [0, 1, 2].map(|j| self.challenges[3 * node + j] as usize);
         let mut c = [zero(d), zero(d), zero(d)];
         for j in 0..3 {
-            let claim = self.claim_below(3 * node + 1 + j, depth - 1);
+            let claim = self.claim_below(row, 3 * node + 1 + j, depth - 1);
             let (k, l) = (r[(j + 1) % 3], r[(j + 2) % 3]);
             let inverse = multiply(&doubled_inverse(d, r[j], k), &doubled_inverse(d, r[j], l));
             let product = reduce(&multiply(&inverse, &claim), q);
@@ -94,14 +97,16 @@ impl Tree {
             c[2] = add(&c[2], &weight);
         }
         let c = c.map(|c| reduce(&c, q));
-        self.store_polynomial(node, &narrow(&c.concat()));
+        store_row(&self.shape, &mut self.rounds, node, row, &c);
         reduce(&scale(&add(&c[0], &c[2]), 2), q)
     }
 
-    fn leaf_claim(&self, leaf: usize) -> Element {
+    fn leaf_claim(&self, row: usize, leaf: usize) -> Element {
         let d = self.shape.d;
         let f = &self.leaves[leaf * d..(leaf + 1) * d];
-        last_claim(&self.shape, &self.key, &self.path_challenges(leaf), f)
+        let size = self.shape.table();
+        let g = &self.key[row * size..(row + 1) * size];
+        last_claim(&self.shape, g, &self.path_challenges(leaf), f)
     }
 
     /// Fills in the round polynomials and leaves that the prover gives below
@@ -114,7 +119,9 @@ impl Tree {
             return;
         }
         let answer = plain::prover_round(self.settings, t, key, message);
-        self.store_polynomial(node, &answer.polynomial.map(|c| c[..d].to_vec()).concat());
+        let size = self.shape.polynomial();
+        let c = polynomial_coefficients(&self.shape, &answer.polynomial);
+        self.rounds[node * size..(node + 1) * size].copy_from_slice(&c);
         for j in 0..3 {
             let (mut key, mut message) = (key.to_vec(), message.to_vec());
             let e = self.challenges[3 * node + j];
@@ -137,7 +144,7 @@ pub fn honest_at(random: &mut Random, settings: Settings) -> (Tree, Vec<i32>) {
     let key = tree.key.clone();
     tree.fill_honest(0, 0, &key, &message);
     let answer = plain::commit(settings, &key, &message);
-    tree.commitment = residues_by_value(random, &answer.commitment[..tree.shape.d]);
+    tree.loosen(random, &answer.commitment);
     (tree, message)
 }
 
@@ -153,21 +160,23 @@ pub fn free_at(random: &mut Random, settings: Settings) -> Tree {
     let bound = tree.shape.final_bound();
     tree.leaves = wholes(random, tree.leaves.len(), bound);
     tree.interpolate();
-    tree.commitment = residues_by_value(random, &tree.commitment[..tree.shape.d]);
+    let commitment = tree.commitment;
+    tree.loosen(random, &commitment);
     tree
 }
 
 /// The smallest settings at which an accepted tree is refused by 14: of the
 /// largest degree, where it is within the limits, or of degree 64.
 pub fn growth_settings(random: &mut Random, limits: &Limits) -> Settings {
+    let rows = rows(random, limits);
     if limits.degree == LARGEST_DEGREE && random.one_in(2) {
-        return Settings::new(LARGEST_DEGREE, 4, ITS_MODULUS, bound(random));
+        return Settings::new(LARGEST_DEGREE, 4, ITS_MODULUS, bound(random)).with_rows(rows);
     }
-    Settings::new(64, 4, modulus(random), random.between(5, 127) as u32)
+    Settings::new(64, 4, modulus(random), random.between(5, 127) as u32).with_rows(rows)
 }
 
 impl Damage for Tree {
-    const NUMBERS: &'static [u32] = &[3, 4, 5, 6, 7, 8, 10, 12, 13];
+    const NUMBERS: &'static [u32] = &[3, 4, 5, 6, 16, 16, 7, 8, 10, 12, 13];
 
     fn damage(&mut self, random: &mut Random, number: u32) -> bool {
         let Shape { d, q, .. } = self.shape;
@@ -182,7 +191,7 @@ impl Damage for Tree {
             refuse::RESIDUE => match random.below(3) {
                 0 => damage_residue(random, &mut self.key, q),
                 1 => damage_residue(random, &mut self.rounds, q),
-                _ => damage_residue(random, &mut self.commitment[..d], q),
+                _ => damage_rows(random, &self.shape, &mut self.commitment),
             },
             refuse::CHALLENGE => damage_exponent(random, &mut self.challenges, d),
             refuse::TWIN => self.damage_twin(random),
@@ -210,16 +219,16 @@ impl Tree {
     fn damage_branch(&mut self, random: &mut Random) -> bool {
         let Shape { d, q, .. } = self.shape;
         let bound = self.shape.final_bound();
-        let more = |x: Residue| (x + 1) % q;
+        let more = |x: &mut Residue| *x = (*x + 1) % q;
         match random.below(3) {
             0 => return damage_whole(random, &mut self.leaves, bound),
             1 if !self.rounds.is_empty() => {
                 let place = random.below(self.rounds.len());
-                self.rounds[place] = more(self.rounds[place]);
+                more(&mut self.rounds[place]);
             }
             _ => {
-                let place = random.below(d);
-                self.commitment[place] = more(self.commitment[place]);
+                let row = any_row(random, &self.shape, &mut self.commitment);
+                more(&mut row[random.below(d)]);
             }
         }
         true

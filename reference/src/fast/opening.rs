@@ -1,7 +1,7 @@
 //! Commitment, whole opening and check of a transcript.
 
-use super::ring::{add_rotated, add_rotated_residues, by_value, first_places, inner_product};
-use super::ring::{store, words, Modulus, Sum};
+use super::ring::{add_rotated, add_rotated_residues, first_places, first_rows, inner_product};
+use super::ring::{rows_by_value, store, words, Modulus, Sum};
 use super::{at_degree, Narrow, Wide};
 use crate::admit;
 use crate::refuse::{within, Checked, Shape};
@@ -11,18 +11,26 @@ use crate::types::*;
 pub fn commit(s: Settings, key: &[Residue], message: &[i32]) -> CommitAnswer {
     let (number, commitment) = match admit::commit(s, key, message) {
         Ok(shape) => (0, at_degree!(shape, commitment(&shape, key, message))),
-        Err(number) => (number, ZERO_RESIDUES),
+        Err(number) => (number, ZERO_ROWS),
     };
     CommitAnswer { number, commitment }
 }
 
-fn commitment<const D: usize, M: Modulus>(
-    shape: &Shape,
-    key: &[Residue],
-    message: &[i32],
-) -> Residues {
+fn commitment<const D: usize, M: Modulus>(shape: &Shape, key: &[Residue], message: &[i32]) -> Rows {
     let (m, g) = (message.as_chunks::<D>().0, words::<D, M>(key));
-    by_value::<D, M>(&inner_product(m, &g, shape.b, M::new(shape.q)))
+    rows_by_value::<D, M>(&row_products(shape, m, &g, M::new(shape.q)))
+}
+
+/// The sum of m_i·G_i in each row.
+fn row_products<const D: usize, M: Modulus>(
+    shape: &Shape,
+    m: &[[i32; D]],
+    key: &[[M::Word; D]],
+    modulus: M,
+) -> Vec<[M::Word; D]> {
+    let rows = key.chunks_exact(shape.n);
+    rows.map(|g| inner_product(m, g, shape.b, modulus))
+        .collect()
 }
 
 /// Call 5.
@@ -37,7 +45,7 @@ pub fn whole_opening(
         Ok(shape) => at_degree!(shape, opening(&shape, key, message, challenges, rounds)),
         Err(number) => OpeningAnswer {
             number,
-            commitment: ZERO_RESIDUES,
+            commitment: ZERO_ROWS,
             final_element: ZERO_WHOLES,
             verdict: NONE,
         },
@@ -55,36 +63,42 @@ fn opening<const D: usize, M: Modulus>(
     let table = key;
     let mut key = words::<D, M>(table);
     let message = message.as_chunks_mut::<D>().0;
-    let commitment = inner_product(message, &key, shape.b, modulus);
-    let mut claim = commitment;
+    let commitment = row_products(shape, message, &key, modulus);
+    let mut claims = commitment.clone();
     let mut holds = true;
     for (t, &e) in challenges.iter().enumerate() {
         let left = shape.n >> t;
         let (m0, m1) = message[..left].split_at_mut(left / 2);
-        let (g0, g1) = key[..left].split_at_mut(left / 2);
         let half = modulus.half_power(t + 1);
-        let c = round_polynomial(m0, m1, g0, g1, shape.b << t, half, modulus);
-        holds &= round_holds(&c, &claim, modulus);
-        claim = next_claim(&c, e, modulus);
-        store::<D, M>(&c, &mut rounds[3 * t * D..]);
+        for (row, g) in key.chunks_exact_mut(shape.n).enumerate() {
+            let (g0, g1) = g[..left].split_at_mut(left / 2);
+            let c = round_polynomial(m0, m1, g0, g1, shape.b << t, half, modulus);
+            holds &= round_holds(c.each_ref(), &claims[row], modulus);
+            claims[row] = next_claim(c.each_ref(), e, modulus);
+            for (j, c) in c.iter().enumerate() {
+                let at = shape.item(t, j, row) * D;
+                store::<D, M>(std::slice::from_ref(c), &mut rounds[at..]);
+            }
+            fold_key(g0, g1, e, modulus);
+        }
         fold_message(m0, m1, e);
-        fold_key(g0, g1, e, modulus);
     }
+    let folded = key.iter().step_by(shape.n);
     let meets = within(&message[0], shape.final_bound())
-        && last_equation(shape, &message[0], &key[0], &claim, modulus);
+        && last_equations(shape, &message[0], folded, &claims, modulus);
     store::<D, M>(&key, table);
     let mut final_element = ZERO_WHOLES;
     final_element[..D].copy_from_slice(&message[0]);
     OpeningAnswer {
         number: 0,
-        commitment: by_value::<D, M>(&commitment),
+        commitment: rows_by_value::<D, M>(&commitment),
         final_element,
         verdict: if holds && meets { ACCEPTED } else { REJECTED },
     }
 }
 
-/// The round polynomial after t rounds. The two cross products come from one
-/// product of sums, less the outer ones.
+/// The round polynomial of one row after t rounds. The two cross products come
+/// from one product of sums, less the outer ones.
 fn round_polynomial<const D: usize, M: Modulus>(
     m0: &[[i32; D]],
     m1: &[[i32; D]],
@@ -117,7 +131,7 @@ fn fold_message<const D: usize>(m0: &mut [[i32; D]], m1: &[[i32; D]], e: u32) {
     }
 }
 
-/// Folds the second half of the key into the first.
+/// Folds the second half of a row of the key into the first.
 pub(super) fn fold_key<const D: usize, M: Modulus>(
     g0: &mut [[M::Word; D]],
     g1: &[[M::Word; D]],
@@ -129,9 +143,9 @@ pub(super) fn fold_key<const D: usize, M: Modulus>(
     }
 }
 
-/// Whether 2·(c0+c2) equals the claim.
+/// Whether 2·(c0+c2) equals the claim, in one row.
 pub(super) fn round_holds<const D: usize, M: Modulus>(
-    c: &[[M::Word; D]],
+    c: [&[M::Word; D]; 3],
     claim: &[M::Word; D],
     modulus: M,
 ) -> bool {
@@ -141,21 +155,35 @@ pub(super) fn round_holds<const D: usize, M: Modulus>(
     })
 }
 
-/// c0 + r·c1 + r²·c2 with r = X^e.
+/// c0 + r·c1 + r²·c2 with r = X^e, in one row.
 pub(super) fn next_claim<const D: usize, M: Modulus>(
-    c: &[[M::Word; D]],
+    c: [&[M::Word; D]; 3],
     e: u32,
     modulus: M,
 ) -> [M::Word; D] {
     let e = e as usize;
-    let mut claim = c[0];
-    add_rotated_residues(&mut claim, &c[1], e, modulus);
-    add_rotated_residues(&mut claim, &c[2], 2 * e, modulus);
+    let mut claim = *c[0];
+    add_rotated_residues(&mut claim, c[1], e, modulus);
+    add_rotated_residues(&mut claim, c[2], 2 * e, modulus);
     claim
 }
 
-/// Whether the claim equals half^L·f·G', for f within its bound.
-pub(super) fn last_equation<const D: usize, M: Modulus>(
+/// Whether in every row the claim equals half^L·f·G', for f within its bound.
+pub(super) fn last_equations<'a, const D: usize, M: Modulus>(
+    shape: &Shape,
+    final_element: &[i32; D],
+    folded_key: impl IntoIterator<Item = &'a [M::Word; D]>,
+    claims: &[[M::Word; D]],
+    modulus: M,
+) -> bool
+where
+    M::Word: 'a,
+{
+    let mut rows = folded_key.into_iter().zip(claims);
+    rows.all(|(g, claim)| last_equation(shape, final_element, g, claim, modulus))
+}
+
+fn last_equation<const D: usize, M: Modulus>(
     shape: &Shape,
     final_element: &[i32; D],
     folded_key: &[M::Word; D],
@@ -174,7 +202,7 @@ pub(super) fn last_equation<const D: usize, M: Modulus>(
 /// Call 9.
 pub fn check(
     s: Settings,
-    commitment: Residues,
+    commitment: Rows,
     final_element: Wholes,
     key: &[Residue],
     rounds: &[Residue],
@@ -192,7 +220,7 @@ pub fn check(
 /// The check of a transcript with the cause of a rejection.
 pub fn check_cause(
     s: Settings,
-    commitment: Residues,
+    commitment: Rows,
     final_element: Wholes,
     key: &[Residue],
     rounds: &[Residue],
@@ -207,41 +235,60 @@ pub fn check_cause(
 
 fn transcript_cause<const D: usize, M: Modulus>(
     shape: &Shape,
-    commitment: &Residues,
+    commitment: &Rows,
     final_element: &Wholes,
     key: &[Residue],
     rounds: &[Residue],
     challenges: &[u32],
 ) -> Option<Cause> {
     let modulus = M::new(shape.q);
-    let mut claim = first_places(commitment).map(M::word);
-    let polynomials = rounds.as_chunks::<D>().0.as_chunks::<3>().0;
-    for (t, (c, &e)) in polynomials.iter().zip(challenges).enumerate() {
-        let c = &c.map(|element| element.map(M::word));
-        if !round_holds(c, &claim, modulus) {
+    let mut claims = first_rows::<D, M>(&commitment[..shape.rows]);
+    let rounds = words::<D, M>(rounds);
+    for (t, &e) in challenges.iter().enumerate() {
+        if !next_claims(shape, &mut claims, &rounds, t, e, modulus) {
             return Some(Cause::Round(t as u32 + 1));
         }
-        claim = next_claim(c, e, modulus);
     }
     let final_element: [i32; D] = first_places(final_element);
     if !within(&final_element, shape.final_bound()) {
         return Some(Cause::Bound);
     }
-    let folded = folded_key(key.as_chunks::<D>().0, challenges, modulus);
-    let meets = last_equation(shape, &final_element, &folded, &claim, modulus);
+    let rows = key.as_chunks::<D>().0.chunks_exact(shape.n);
+    let folded: Vec<_> = rows
+        .map(|row| folded_row(row, challenges, modulus))
+        .collect();
+    let meets = last_equations(shape, &final_element, &folded, &claims, modulus);
     (!meets).then_some(Cause::Equation)
 }
 
-/// The key folded by all challenges: the sum of X^E·G_i, where E adds up the
-/// challenges of the bits of i, the first challenge at the highest bit.
-fn folded_key<const D: usize, M: Modulus>(
-    key: &[[Residue; D]],
+/// Moves the claims past one round, row by row; answers whether the round
+/// holds in every row.
+fn next_claims<const D: usize, M: Modulus>(
+    shape: &Shape,
+    claims: &mut [[M::Word; D]],
+    rounds: &[[M::Word; D]],
+    t: usize,
+    e: u32,
+    modulus: M,
+) -> bool {
+    claims.iter_mut().enumerate().all(|(row, claim)| {
+        let c = [0, 1, 2].map(|j| &rounds[shape.item(t, j, row)]);
+        let holds = round_holds(c, claim, modulus);
+        *claim = next_claim(c, e, modulus);
+        holds
+    })
+}
+
+/// A row of the key folded by all challenges: the sum of X^E·G_i, where E adds
+/// up the challenges of the bits of i, the first challenge at the highest bit.
+fn folded_row<const D: usize, M: Modulus>(
+    row: &[[Residue; D]],
     challenges: &[u32],
     modulus: M,
 ) -> [M::Word; D] {
     let mut exponents = [0; 256];
     let mut sum = [M::Total::default(); D];
-    for (i, g) in key.iter().enumerate() {
+    for (i, g) in row.iter().enumerate() {
         if i > 0 {
             let bit = i.trailing_zeros() as usize;
             let e = challenges[challenges.len() - 1 - bit] as usize;

@@ -1,14 +1,14 @@
 //! The judge and the extractor.
 
-use super::opening::{fold_key, last_equation, next_claim, round_holds};
-use super::ring::{add_rotated_wholes, divide_two, first_places, words, Modulus};
+use super::opening::{fold_key, last_equations, next_claim, round_holds};
+use super::ring::{add_rotated_wholes, divide_two, first_rows, words, Modulus};
 use super::{at_degree, Narrow, Wide};
 use crate::admit;
 use crate::refuse::{self, within, Checked, Shape};
 use crate::types::*;
 
 /// Call 10.
-pub fn judge(s: Settings, commitment: Residues, c: u32, key: &[Residue], w: &[i64]) -> JudgeAnswer {
+pub fn judge(s: Settings, commitment: Rows, c: u32, key: &[Residue], w: &[i64]) -> JudgeAnswer {
     let (number, yes) = match admit::judge(s, &commitment, c, key, w) {
         Ok((shape, bound)) => {
             let small = w.iter().all(|&x| -bound <= x && x <= bound);
@@ -20,23 +20,28 @@ pub fn judge(s: Settings, commitment: Residues, c: u32, key: &[Residue], w: &[i6
     JudgeAnswer { number, yes }
 }
 
+/// Whether w opens c times the commitment in every row.
 fn opens<const D: usize, M: Modulus>(
     shape: &Shape,
-    commitment: &Residues,
+    commitment: &Rows,
     c: u32,
     key: &[Residue],
     w: &[i64],
 ) -> bool {
     let modulus = M::new(shape.q);
-    let found = modulus.inner_product_any(w.as_chunks::<D>().0, &words::<D, M>(key));
+    let (w, key) = (w.as_chunks::<D>().0, words::<D, M>(key));
+    let mut rows = key.chunks_exact(shape.n).zip(commitment);
     let wanted = |&x: &Residue| modulus.scaled(M::word(x), c);
-    found.into_iter().eq(commitment[..D].iter().map(wanted))
+    rows.all(|(row, element)| {
+        let found = modulus.inner_product_any(w, row);
+        found.into_iter().eq(element[..D].iter().map(wanted))
+    })
 }
 
 /// Call 11.
 pub fn extract(
     s: Settings,
-    commitment: Residues,
+    commitment: Rows,
     key: &[Residue],
     rounds: &[Residue],
     challenges: &[u32],
@@ -57,7 +62,7 @@ pub fn extract(
 
 fn extract_at<const D: usize, M: Modulus>(
     shape: &Shape,
-    commitment: &Residues,
+    commitment: &Rows,
     key: &[Residue],
     rounds: &[Residue],
     challenges: &[u32],
@@ -71,11 +76,12 @@ fn extract_at<const D: usize, M: Modulus>(
         challenges: challenges.as_chunks().0,
         leaves: leaves.as_chunks().0,
     };
-    let claim = first_places(commitment).map(M::word);
-    // What the levels below a node need: n/2 + n/4 + ... + 1 elements.
-    let mut folded = vec![[M::Word::default(); D]; shape.n];
+    let claims = first_rows::<D, M>(&commitment[..shape.rows]);
+    // What the levels below a node need a row: n/2 + n/4 + ... + 1 elements
+    // of the key, and a claim for each level.
+    let mut scratch = vec![[M::Word::default(); D]; shape.rows * (shape.n + shape.l)];
     let key = words::<D, M>(key);
-    refuse::branch(tree.accepted(0, &claim, &key, &mut folded))?;
+    refuse::branch(tree.accepted(0, &claims, &key, &mut scratch))?;
     refuse::growth(shape)?;
     let mut below = vec![[0; D]; shape.n];
     tree.vector(0, w.as_chunks_mut().0, &mut below);
@@ -91,36 +97,54 @@ struct Tree<'a, const D: usize, M: Modulus> {
 }
 
 impl<const D: usize, M: Modulus> Tree<'_, D, M> {
-    /// Whether the verifier accepts every path below a node, given the claim
-    /// there and the key folded so far. The key is folded once per child.
+    /// Whether the verifier accepts every path below a node, given the claims
+    /// there and the key folded so far, one row behind the other. The key is
+    /// folded once per child.
     fn accepted(
         &self,
         node: usize,
-        claim: &[M::Word; D],
+        claims: &[[M::Word; D]],
         key: &[[M::Word; D]],
         scratch: &mut [[M::Word; D]],
     ) -> bool {
-        if key.len() == 1 {
-            return self.leaf_accepted(node, claim, &key[0]);
+        if key.len() == claims.len() {
+            return self.leaf_accepted(node, claims, key);
         }
-        let c = &self.rounds[3 * node..3 * node + 3];
-        if !round_holds(c, claim, self.modulus) {
+        let holds = |(row, claim)| round_holds(self.polynomial(node, row), claim, self.modulus);
+        if !claims.iter().enumerate().all(holds) {
             return false;
         }
-        let (g0, g1) = key.split_at(key.len() / 2);
-        let (folded, rest) = scratch.split_at_mut(g0.len());
+        let (folded, rest) = scratch.split_at_mut(key.len() / 2);
+        let (next, rest) = rest.split_at_mut(claims.len());
         self.challenges[node].iter().enumerate().all(|(j, &e)| {
-            folded.copy_from_slice(g0);
-            fold_key(folded, g1, e, self.modulus);
-            let claim = next_claim(c, e, self.modulus);
-            self.accepted(3 * node + 1 + j, &claim, folded, rest)
+            self.fold_rows(key, folded, e);
+            for (row, claim) in next.iter_mut().enumerate() {
+                *claim = next_claim(self.polynomial(node, row), e, self.modulus);
+            }
+            self.accepted(3 * node + 1 + j, next, folded, rest)
         })
     }
 
-    fn leaf_accepted(&self, node: usize, claim: &[M::Word; D], folded_key: &[M::Word; D]) -> bool {
+    /// The round polynomial of one row at a node.
+    fn polynomial(&self, node: usize, row: usize) -> [&[M::Word; D]; 3] {
+        [0, 1, 2].map(|j| &self.rounds[self.shape.item(node, j, row)])
+    }
+
+    /// Folds each row of a key into a shorter one.
+    fn fold_rows(&self, key: &[[M::Word; D]], folded: &mut [[M::Word; D]], e: u32) {
+        let left = key.len() / self.shape.rows;
+        let rows = key.chunks_exact(left);
+        for (row, folded) in rows.zip(folded.chunks_exact_mut(left / 2)) {
+            let (g0, g1) = row.split_at(left / 2);
+            folded.copy_from_slice(g0);
+            fold_key(folded, g1, e, self.modulus);
+        }
+    }
+
+    fn leaf_accepted(&self, node: usize, claims: &[[M::Word; D]], key: &[[M::Word; D]]) -> bool {
         let f = &self.leaves[node - self.challenges.len()];
         within(f, self.shape.final_bound())
-            && last_equation(self.shape, f, folded_key, claim, self.modulus)
+            && last_equations(self.shape, f, key, claims, self.modulus)
     }
 
     /// Writes the vector of a node to `out`, whose length says the depth.

@@ -1,6 +1,6 @@
 //! Arithmetic at a constant degree D, over a modulus of either width.
 
-use crate::types::{Residue, Residues, PLACES};
+use crate::types::{Residue, Residues, Rows, PLACES, ZERO_ROWS};
 
 /// A modulus with arithmetic on words that hold a residue: `Narrow` takes
 /// those below 2^31, `Wide` takes all.
@@ -218,10 +218,25 @@ pub fn store<const D: usize, M: Modulus>(elements: &[[M::Word; D]], table: &mut 
 }
 
 /// An element by value; places from the degree on are 0.
-pub fn by_value<const D: usize, M: Modulus>(a: &[M::Word; D]) -> Residues {
+fn by_value<const D: usize, M: Modulus>(a: &[M::Word; D]) -> Residues {
     let mut places = [0; PLACES];
     store::<D, M>(std::slice::from_ref(a), &mut places);
     places
+}
+
+/// One element a row by value; those past the rows are 0.
+pub fn rows_by_value<const D: usize, M: Modulus>(elements: &[[M::Word; D]]) -> Rows {
+    let mut rows = ZERO_ROWS;
+    for (row, a) in rows.iter_mut().zip(elements) {
+        *row = by_value::<D, M>(a);
+    }
+    rows
+}
+
+/// The elements of the first rows, from what is passed by value for each.
+pub fn first_rows<const D: usize, M: Modulus>(rows: &[Residues]) -> Vec<[M::Word; D]> {
+    let words = |a: &Residues| first_places(a).map(M::word);
+    rows.iter().map(words).collect()
 }
 
 /// The first D places of an element by value.

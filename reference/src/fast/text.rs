@@ -9,8 +9,10 @@ const NAMES: &[u8] = b"part item place value\n";
 
 /// Items and places of each of parts 1 to 6, none for an absent part.
 fn part_sizes(shape: &Shape, parts: Parts) -> [(usize, usize); 6] {
-    let Shape { d, l, n, .. } = *shape;
-    let all = [(n, d), (n, d), (1, d), (3 * l, d), (l, 1), (1, d)];
+    let Shape { d, l, n, rows, .. } = *shape;
+    let key = (rows * n, d);
+    let rounds = (3 * rows * l, d);
+    let all = [key, (n, d), (rows, d), rounds, (l, 1), (1, d)];
     std::array::from_fn(|i| if parts[i] { all[i] } else { (0, 0) })
 }
 
@@ -98,10 +100,10 @@ impl Reader<'_> {
         Ok(())
     }
 
-    /// The settings of the first four value lines; below zero, or without
-    /// room, they become a number that is out of range for each of the four.
+    /// The settings of the first five value lines; below zero, or without
+    /// room, they become a number that is out of range for each of the five.
     fn settings(&mut self) -> Checked<Settings> {
-        let mut values = [0; 4];
+        let mut values = [0; 5];
         for (place, value) in values.iter_mut().enumerate() {
             let (found, x) = self.line()?;
             if found != [0, 0, place as u32] {
@@ -110,9 +112,9 @@ impl Reader<'_> {
             *value = x;
         }
         let narrow = |x: i64| u32::try_from(x).unwrap_or(u32::MAX);
-        let [d, l, q, b] = values;
+        let [d, l, q, b, rows] = values;
         let q = Residue::try_from(q).unwrap_or(Residue::MAX);
-        Ok(Settings::new(narrow(d), narrow(l), q, narrow(b)))
+        Ok(Settings::new(narrow(d), narrow(l), q, narrow(b)).with_rows(narrow(rows)))
     }
 
     /// The values of the required lines, or refusal 7 at the first line that
@@ -403,8 +405,8 @@ fn digits(x: u64) -> usize {
 /// Writes the settings and the given parts.
 fn render(s: Settings, sizes: &[(usize, usize); 6], tables: &Tables, sink: &mut impl Sink) {
     sink.bytes(NAMES);
-    let settings = [s.degree.into(), s.depth.into(), s.modulus, s.bound.into()];
-    render_part(0, 4, &settings, sink);
+    let [d, l, b, rows] = [s.degree, s.depth, s.bound, s.rows].map(Residue::from);
+    render_part(0, 5, &[d, l, s.modulus, b, rows], sink);
     let places = sizes.map(|size| size.1);
     render_part(1, places[0], tables.key, sink);
     render_part(2, places[1], tables.message, sink);
@@ -451,12 +453,13 @@ fn try_prove(text: &[u8], out: &mut [u8]) -> Checked<usize> {
     let mut key = table(key, |x| x as Residue);
     let mut message = table(message, |x| x as i32);
     let challenges = table(challenges, |x| x as u32);
-    let mut rounds = vec![0; 3 * challenges.len() * d];
+    let mut rounds = vec![0; refuse::settings(s)?.rounds()];
     let opening = whole_opening(s, &mut key, &mut message, &challenges, &mut rounds);
+    let commitment = opening.commitment[..s.rows as usize].iter();
     let tables = Tables {
         key: &[],
         message: &[],
-        commitment: &opening.commitment[..d],
+        commitment: &commitment.flat_map(|a| a[..d].to_vec()).collect::<Vec<_>>(),
         rounds: &rounds,
         challenges: &challenges,
         final_element: &opening.final_element[..d],
@@ -476,8 +479,11 @@ pub fn verify(text: &[u8]) -> Verification {
 fn try_verify(text: &[u8]) -> Checked<bool> {
     let content = read_text([true, false, true, true, true, true], text, None)?;
     let [key, _, commitment, rounds, challenges, final_element] = content.parts();
-    let mut by_value = ZERO_RESIDUES;
-    store(commitment, &mut by_value, |x| x as Residue);
+    let mut by_value = ZERO_ROWS;
+    let elements = commitment.chunks_exact(content.settings.degree as usize);
+    for (row, element) in by_value.iter_mut().zip(elements) {
+        store(element, row, |x| x as Residue);
+    }
     let mut final_by_value = ZERO_WHOLES;
     store(final_element, &mut final_by_value, |x| x as i32);
     let answer = check(

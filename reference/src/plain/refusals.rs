@@ -2,13 +2,13 @@
 //! table read off call by call. Each call is a straight list of numbers in
 //! the order in which they are tested, each with the test that says whether
 //! it applies. A test may rely on the ones before it: lengths are worked out
-//! from settings that have passed 3 to 6, and numbers are looked at in tables
-//! whose lengths have passed 7.
+//! from settings that have passed 3 to 6 and 16, and numbers are looked at in
+//! tables whose lengths have passed 7.
 //!
 //! Nothing here is shared with `refuse` and `admit`, which the fast version
 //! uses.
 
-use crate::types::{Parts, Polynomial, Record, Residue, Residues, Settings};
+use crate::types::{Parts, Polynomial, Record, Residue, Residues, Rows, Settings};
 
 /// A number of the table, and whether it applies.
 pub type Line<'a> = (u32, &'a dyn Fn() -> bool);
@@ -30,6 +30,7 @@ pub struct Whole {
     l: i128,
     q: i128,
     b: i128,
+    rows: i128,
 }
 
 impl Whole {
@@ -39,6 +40,7 @@ impl Whole {
             l: s.depth.into(),
             q: s.modulus.into(),
             b: s.bound.into(),
+            rows: s.rows.into(),
         }
     }
 
@@ -58,7 +60,11 @@ impl Whole {
         self.b == 0 || self.b > 127
     }
 
-    /// Elements of a table.
+    fn no_rows(self) -> bool {
+        ![1, 2, 3, 4].contains(&self.rows)
+    }
+
+    /// Elements of a message, and of a row of a key.
     fn n(self) -> i128 {
         (0..self.l).fold(1, |n, _| 2 * n)
     }
@@ -66,6 +72,21 @@ impl Whole {
     /// Leaves of a tree.
     fn leaves(self) -> i128 {
         (0..self.l).fold(1, |leaves, _| 3 * leaves)
+    }
+
+    /// The length of a message, and of w.
+    fn table(self) -> i128 {
+        self.n() * self.d
+    }
+
+    /// The length of a key.
+    fn key(self) -> i128 {
+        self.rows * self.n() * self.d
+    }
+
+    /// The length of so many round polynomials.
+    fn polynomials(self, count: i128) -> i128 {
+        self.rows * 3 * count * self.d
     }
 
     /// Branching nodes: 1 + 3 + .. + 3^(L-1).
@@ -90,6 +111,12 @@ impl Whole {
     /// The same of an element by value, whose places from d on are not read.
     fn element_no_residue(self, places: &Residues) -> bool {
         (0..self.d as usize).any(|k| self.no_residue(places[k]))
+    }
+
+    /// The same of what is passed by value for each row, of which nothing past
+    /// the rows is read.
+    fn rows_no_residue(self, places: &Rows) -> bool {
+        (0..self.rows as usize).any(|row| self.element_no_residue(&places[row]))
     }
 
     fn some_no_challenge(self, list: &[u32]) -> bool {
@@ -128,7 +155,10 @@ impl Whole {
 #[derive(Clone, Copy, Debug, PartialEq, Eq)]
 pub struct Lengths {
     pub element: usize,
+    /// A message, or the vector of a root.
     pub table: usize,
+    pub key: usize,
+    pub commitment: usize,
     pub polynomial: usize,
     pub rounds: usize,
     pub challenges: usize,
@@ -142,11 +172,13 @@ pub fn lengths(s: Settings) -> Lengths {
     let w = Whole::of(s);
     Lengths {
         element: w.d as usize,
-        table: (w.n() * w.d) as usize,
-        polynomial: (3 * w.d) as usize,
-        rounds: (3 * w.l * w.d) as usize,
+        table: w.table() as usize,
+        key: w.key() as usize,
+        commitment: (w.rows * w.d) as usize,
+        polynomial: w.polynomials(1) as usize,
+        rounds: w.polynomials(w.l) as usize,
         challenges: w.l as usize,
-        tree_rounds: (3 * w.nodes() * w.d) as usize,
+        tree_rounds: w.polynomials(w.nodes()) as usize,
         tree_challenges: (3 * w.nodes()) as usize,
         leaves: (w.leaves() * w.d) as usize,
     }
@@ -157,7 +189,7 @@ fn other(pairs: &[(usize, i128)]) -> bool {
     pairs.iter().any(|&(found, wanted)| found as i128 != wanted)
 }
 
-/// 3 to 6.
+/// 3 to 6, and 16.
 pub fn settings(s: Settings) -> u32 {
     let w = Whole::of(s);
     first(&[
@@ -165,6 +197,7 @@ pub fn settings(s: Settings) -> u32 {
         (4, &|| w.no_depth()),
         (5, &|| w.no_modulus()),
         (6, &|| w.no_bound()),
+        (16, &|| w.no_rows()),
     ])
 }
 
@@ -176,8 +209,9 @@ pub fn commit(s: Settings, key: &[Residue], message: &[i32]) -> u32 {
         (4, &|| w.no_depth()),
         (5, &|| w.no_modulus()),
         (6, &|| w.no_bound()),
+        (16, &|| w.no_rows()),
         (7, &|| {
-            other(&[(key.len(), w.n() * w.d), (message.len(), w.n() * w.d)])
+            other(&[(key.len(), w.key()), (message.len(), w.table())])
         }),
         (8, &|| w.some_no_residue(key)),
         (9, &|| w.too_tall(message, w.n(), 1)),
@@ -192,8 +226,9 @@ pub fn prover_round(s: Settings, t: u32, key: &[Residue], message: &[i32]) -> u3
         (4, &|| w.no_depth()),
         (5, &|| w.no_modulus()),
         (6, &|| w.no_bound()),
+        (16, &|| w.no_rows()),
         (7, &|| {
-            other(&[(key.len(), w.n() * w.d), (message.len(), w.n() * w.d)])
+            other(&[(key.len(), w.key()), (message.len(), w.table())])
         }),
         (8, &|| w.some_no_residue(key)),
         (9, &|| i128::from(t) < w.l && w.left_too_tall(message, t)),
@@ -209,8 +244,9 @@ pub fn fold(s: Settings, t: u32, e: u32, key: &[Residue], message: &[i32]) -> u3
         (4, &|| w.no_depth()),
         (5, &|| w.no_modulus()),
         (6, &|| w.no_bound()),
+        (16, &|| w.no_rows()),
         (7, &|| {
-            other(&[(key.len(), w.n() * w.d), (message.len(), w.n() * w.d)])
+            other(&[(key.len(), w.key()), (message.len(), w.table())])
         }),
         (8, &|| w.some_no_residue(key)),
         (9, &|| i128::from(t) < w.l && w.left_too_tall(message, t)),
@@ -227,7 +263,8 @@ pub fn prover_end(s: Settings, t: u32, message: &[i32]) -> u32 {
         (4, &|| w.no_depth()),
         (5, &|| w.no_modulus()),
         (6, &|| w.no_bound()),
-        (7, &|| other(&[(message.len(), w.n() * w.d)])),
+        (16, &|| w.no_rows()),
+        (7, &|| other(&[(message.len(), w.table())])),
         (9, &|| i128::from(t) <= w.l && w.left_too_tall(message, t)),
         (11, &|| i128::from(t) != w.l),
     ])
@@ -244,10 +281,10 @@ pub fn opening(
     let w = Whole::of(s);
     let lengths = || {
         [
-            (key.len(), w.n() * w.d),
-            (message.len(), w.n() * w.d),
+            (key.len(), w.key()),
+            (message.len(), w.table()),
             (challenges.len(), w.l),
-            (rounds.len(), 3 * w.l * w.d),
+            (rounds.len(), w.polynomials(w.l)),
         ]
     };
     first(&[
@@ -255,6 +292,7 @@ pub fn opening(
         (4, &|| w.no_depth()),
         (5, &|| w.no_modulus()),
         (6, &|| w.no_bound()),
+        (16, &|| w.no_rows()),
         (7, &|| other(&lengths())),
         (8, &|| w.some_no_residue(key)),
         (9, &|| w.too_tall(message, w.n(), 1)),
@@ -263,14 +301,15 @@ pub fn opening(
 }
 
 /// Call 6.
-pub fn session_start(s: Settings, commitment: &Residues) -> u32 {
+pub fn session_start(s: Settings, commitment: &Rows) -> u32 {
     let w = Whole::of(s);
     first(&[
         (3, &|| w.no_degree()),
         (4, &|| w.no_depth()),
         (5, &|| w.no_modulus()),
         (6, &|| w.no_bound()),
-        (8, &|| w.element_no_residue(commitment)),
+        (16, &|| w.no_rows()),
+        (8, &|| w.rows_no_residue(commitment)),
     ])
 }
 
@@ -282,8 +321,9 @@ pub fn session_round(record: &Record, polynomial: &Polynomial, e: u32) -> u32 {
         (4, &|| w.no_depth()),
         (5, &|| w.no_modulus()),
         (6, &|| w.no_bound()),
-        (8, &|| w.element_no_residue(&record.claim)),
-        (8, &|| polynomial.iter().any(|c| w.element_no_residue(c))),
+        (16, &|| w.no_rows()),
+        (8, &|| w.rows_no_residue(&record.claims)),
+        (8, &|| polynomial.iter().any(|c| w.rows_no_residue(c))),
         (10, &|| {
             w.some_no_challenge(&record.challenges) || w.no_challenge(e)
         }),
@@ -299,9 +339,10 @@ pub fn session_end(record: &Record, key: &[Residue]) -> u32 {
         (4, &|| w.no_depth()),
         (5, &|| w.no_modulus()),
         (6, &|| w.no_bound()),
-        (7, &|| other(&[(key.len(), w.n() * w.d)])),
+        (16, &|| w.no_rows()),
+        (7, &|| other(&[(key.len(), w.key())])),
         (8, &|| {
-            w.some_no_residue(key) || w.element_no_residue(&record.claim)
+            w.some_no_residue(key) || w.rows_no_residue(&record.claims)
         }),
         (10, &|| w.some_no_challenge(&record.challenges)),
         (11, &|| record.closed || i128::from(record.done) != w.l),
@@ -311,7 +352,7 @@ pub fn session_end(record: &Record, key: &[Residue]) -> u32 {
 /// Call 9.
 pub fn check(
     s: Settings,
-    commitment: &Residues,
+    commitment: &Rows,
     key: &[Residue],
     rounds: &[Residue],
     challenges: &[u32],
@@ -319,8 +360,8 @@ pub fn check(
     let w = Whole::of(s);
     let lengths = || {
         [
-            (key.len(), w.n() * w.d),
-            (rounds.len(), 3 * w.l * w.d),
+            (key.len(), w.key()),
+            (rounds.len(), w.polynomials(w.l)),
             (challenges.len(), w.l),
         ]
     };
@@ -329,26 +370,28 @@ pub fn check(
         (4, &|| w.no_depth()),
         (5, &|| w.no_modulus()),
         (6, &|| w.no_bound()),
+        (16, &|| w.no_rows()),
         (7, &|| other(&lengths())),
-        (8, &|| w.element_no_residue(commitment)),
+        (8, &|| w.rows_no_residue(commitment)),
         (8, &|| w.some_no_residue(key) || w.some_no_residue(rounds)),
         (10, &|| w.some_no_challenge(challenges)),
     ])
 }
 
 /// Call 10.
-pub fn judge(s: Settings, commitment: &Residues, c: u32, key: &[Residue], vector: &[i64]) -> u32 {
+pub fn judge(s: Settings, commitment: &Rows, c: u32, key: &[Residue], vector: &[i64]) -> u32 {
     let w = Whole::of(s);
     first(&[
         (3, &|| w.no_degree()),
         (4, &|| w.no_depth()),
         (5, &|| w.no_modulus()),
         (6, &|| w.no_bound()),
+        (16, &|| w.no_rows()),
         (7, &|| {
-            other(&[(key.len(), w.n() * w.d), (vector.len(), w.n() * w.d)])
+            other(&[(key.len(), w.key()), (vector.len(), w.table())])
         }),
         (8, &|| {
-            w.some_no_residue(key) || w.element_no_residue(commitment)
+            w.some_no_residue(key) || w.rows_no_residue(commitment)
         }),
         (14, &|| w.grows()),
         (15, &|| c == 0 || c > 65_536 || w.shares_a_factor(c)),
@@ -358,7 +401,7 @@ pub fn judge(s: Settings, commitment: &Residues, c: u32, key: &[Residue], vector
 /// A tree with what is lent beside it.
 pub struct Tree<'a> {
     pub settings: Settings,
-    pub commitment: &'a Residues,
+    pub commitment: &'a Rows,
     pub key: &'a [Residue],
     pub rounds: &'a [Residue],
     pub challenges: &'a [u32],
@@ -372,11 +415,11 @@ pub fn extract(tree: &Tree, rejected: &dyn Fn() -> bool) -> u32 {
     let w = Whole::of(tree.settings);
     let lengths = || {
         [
-            (tree.key.len(), w.n() * w.d),
-            (tree.rounds.len(), 3 * w.nodes() * w.d),
+            (tree.key.len(), w.key()),
+            (tree.rounds.len(), w.polynomials(w.nodes())),
             (tree.challenges.len(), 3 * w.nodes()),
             (tree.leaves.len(), w.leaves() * w.d),
-            (tree.w.len(), w.n() * w.d),
+            (tree.w.len(), w.table()),
         ]
     };
     let equal = |a: usize, b: usize| tree.challenges[a] == tree.challenges[b];
@@ -388,8 +431,9 @@ pub fn extract(tree: &Tree, rejected: &dyn Fn() -> bool) -> u32 {
         (4, &|| w.no_depth()),
         (5, &|| w.no_modulus()),
         (6, &|| w.no_bound()),
+        (16, &|| w.no_rows()),
         (7, &|| other(&lengths())),
-        (8, &|| w.element_no_residue(tree.commitment)),
+        (8, &|| w.rows_no_residue(tree.commitment)),
         (8, &|| {
             w.some_no_residue(tree.key) || w.some_no_residue(tree.rounds)
         }),
@@ -403,7 +447,8 @@ pub fn extract(tree: &Tree, rejected: &dyn Fn() -> bool) -> u32 {
 /// The wanted lengths of the tables of parts 1 to 6.
 pub fn part_lengths(s: Settings, parts: Parts) -> [usize; 6] {
     let w = Whole::of(s);
-    let wanted = [w.n() * w.d, w.n() * w.d, w.d, 3 * w.l * w.d, w.l, w.d];
+    let rounds = w.polynomials(w.l);
+    let wanted = [w.key(), w.table(), w.rows * w.d, rounds, w.l, w.d];
     std::array::from_fn(|i| if parts[i] { wanted[i] as usize } else { 0 })
 }
 

@@ -1,13 +1,15 @@
 //! Relaxed openings: the judge, the tree and the extractor.
 
-use super::ring::{add, doubled_inverse, element, elements, inner_product_modulo, multiply};
+use super::prover::key_rows;
+use super::ring::{add, doubled_inverse, elements, inner_product_modulo, multiply};
 use super::ring::{power, reduce, rotate, scale, zero, Element};
 use super::verifier::transcript_cause;
-use super::{refusals, shape, Shape};
+use super::{refusals, row_elements, shape, Shape};
 use crate::types::*;
 
-/// Call 10: whether w opens c times the commitment within the bound.
-pub fn judge(s: Settings, commitment: Residues, c: u32, key: &[Residue], w: &[i64]) -> JudgeAnswer {
+/// Call 10: whether w opens c times the commitment in every row, within the
+/// bound.
+pub fn judge(s: Settings, commitment: Rows, c: u32, key: &[Residue], w: &[i64]) -> JudgeAnswer {
     let (number, yes) = match refusals::judge(s, &commitment, c, key, w) {
         0 => {
             let bound = vector_bound(&shape(s));
@@ -24,17 +26,21 @@ fn vector_bound(shape: &Shape) -> i128 {
     (8 * (shape.d * shape.d) as i128).pow(shape.l as u32) * shape.b
 }
 
-fn opens(shape: &Shape, commitment: &Residues, c: u32, key: &[Residue], w: &[i64]) -> bool {
-    let wanted = scale(&element(&commitment[..shape.d]), i128::from(c));
-    let (w, key) = (elements(w, shape.d), elements(key, shape.d));
-    reduce(&wanted, shape.q) == inner_product_modulo(&w, &key, shape.d, shape.q)
+fn opens(shape: &Shape, commitment: &Rows, c: u32, key: &[Residue], w: &[i64]) -> bool {
+    let w = elements(w, shape.d);
+    let opens_row = |(element, row): (&Element, &Vec<Element>)| {
+        let wanted = reduce(&scale(element, i128::from(c)), shape.q);
+        wanted == inner_product_modulo(&w, row, shape.d, shape.q)
+    };
+    let commitment = row_elements(shape, commitment);
+    commitment.iter().zip(&key_rows(shape, key)).all(opens_row)
 }
 
 /// Call 11: the vector w of the root of a full tree whose paths are all
 /// accepted.
 pub fn extract(
     s: Settings,
-    commitment: Residues,
+    commitment: Rows,
     key: &[Residue],
     rounds: &[Residue],
     challenges: &[u32],
@@ -54,8 +60,8 @@ pub fn extract(
     let rejected = || {
         let shape = shape();
         let tree = Tree::new(&shape, rounds, challenges, leaves);
-        let commitment = element(&commitment[..shape.d]);
-        let key = elements(key, shape.d);
+        let commitment = row_elements(&shape, &commitment);
+        let key = key_rows(&shape, key);
         (0..shape.leaves).any(|leaf| !tree.path_accepted(&commitment, &key, leaf))
     };
     let number = refusals::extract(&lent, &rejected);
@@ -107,11 +113,12 @@ impl<'a> Tree<'a> {
     }
 
     /// Whether the verifier accepts the path to a leaf.
-    fn path_accepted(&self, commitment: &Element, key: &[Element], leaf: usize) -> bool {
+    fn path_accepted(&self, commitment: &[Element], key: &[Vec<Element>], leaf: usize) -> bool {
+        let size = 3 * self.shape.rows;
         let mut rounds = Vec::new();
         let mut challenges = Vec::new();
         for (node, child) in self.path(leaf) {
-            rounds.extend_from_slice(&self.rounds[3 * node..3 * node + 3]);
+            rounds.extend_from_slice(&self.rounds[size * node..size * (node + 1)]);
             challenges.push(self.challenges[3 * node + child]);
         }
         let final_element = &self.leaves[leaf];

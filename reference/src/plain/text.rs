@@ -78,11 +78,11 @@ fn value_lines(text: &[u8]) -> Option<Vec<Line>> {
     lines.map(line).collect()
 }
 
-/// The settings of the first four value lines, or nothing when these are
+/// The settings of the first five value lines, or nothing when these are
 /// other lines. A setting that is below zero or has no room becomes a number
-/// that is out of range for each of the four.
+/// that is out of range for each of the five.
 fn text_settings(lines: &[Line]) -> Option<Settings> {
-    let mut values = [0; 4];
+    let mut values = [0; 5];
     for (place, value) in values.iter_mut().enumerate() {
         let &(part, item, found, x) = lines.get(place)?;
         if (part, item, found) != (0, 0, place as i128) {
@@ -91,20 +91,32 @@ fn text_settings(lines: &[Line]) -> Option<Settings> {
         *value = x;
     }
     let narrow = |x: i128| u32::try_from(x).unwrap_or(u32::MAX);
-    let [d, l, q, b] = values;
-    let q = Residue::try_from(q).unwrap_or(Residue::MAX);
-    Some(Settings::new(narrow(d), narrow(l), q, narrow(b)))
+    let [d, l, q, b, rows] = values;
+    Some(Settings {
+        degree: narrow(d),
+        depth: narrow(l),
+        modulus: Residue::try_from(q).unwrap_or(Residue::MAX),
+        bound: narrow(b),
+        rows: narrow(rows),
+    })
 }
 
 /// Items and places of each of parts 1 to 6.
 fn part_sizes(shape: &Shape) -> [(usize, usize); 6] {
-    let Shape { d, l, n, .. } = *shape;
-    [(n, d), (n, d), (1, d), (3 * l, d), (l, 1), (1, d)]
+    let Shape { d, l, n, rows, .. } = *shape;
+    [
+        (rows * n, d),
+        (n, d),
+        (rows, d),
+        (rows * 3 * l, d),
+        (l, 1),
+        (1, d),
+    ]
 }
 
 /// Part, item and place of every required line, settings included.
 fn required(shape: &Shape, parts: Parts) -> Vec<(i128, i128, i128)> {
-    let mut places: Vec<_> = (0..4).map(|place| (0, 0, place)).collect();
+    let mut places: Vec<_> = (0..5).map(|place| (0, 0, place)).collect();
     for (i, (items, size)) in part_sizes(shape).into_iter().enumerate() {
         if parts[i] {
             for item in 0..items as i128 {
@@ -130,7 +142,7 @@ fn lines_of(text: &[u8]) -> Option<Lines> {
     Some(Lines { settings, lines })
 }
 
-/// Refusals 1 to 6 of a text.
+/// Refusals 1 to 6, and 16, of a text.
 fn open_text(text: &[u8]) -> Checked<Lines> {
     if text.len() > LONGEST_TEXT {
         return Err(1);
@@ -280,11 +292,12 @@ fn try_write(s: Settings, parts: Parts, values: &[Vec<i128>; 6], out: &mut [u8])
 
 /// The text of the settings and the given parts.
 fn render(s: Settings, shape: &Shape, parts: Parts, values: &[Vec<i128>; 6]) -> String {
-    let settings: [i128; 4] = [
+    let settings: [i128; 5] = [
         s.degree.into(),
         s.depth.into(),
         s.modulus.into(),
         s.bound.into(),
+        s.rows.into(),
     ];
     let given = settings.iter().chain(values.iter().flatten());
     let mut text = String::from("part item place value\n");
@@ -320,13 +333,15 @@ fn try_prove(text: &[u8], out: &mut [u8]) -> Checked<usize> {
     let mut key = table(&values[0]);
     let mut message = table(&values[1]);
     let challenges: Vec<u32> = table(&values[4]);
-    let mut rounds = vec![0; 3 * (s.depth * s.degree) as usize];
+    let mut rounds = vec![0; refusals::lengths(s).rounds];
     let opening = whole_opening(s, &mut key, &mut message, &challenges, &mut rounds);
     let d = s.degree as usize;
+    let rows = &opening.commitment[..s.rows as usize];
+    let commitment: Vec<_> = rows.iter().flat_map(|c| wide(&c[..d])).collect();
     let written = [
         vec![],
         vec![],
-        wide(&opening.commitment[..d]),
+        commitment,
         wide(&rounds),
         wide(&challenges),
         wide(&opening.final_element[..d]),
@@ -345,9 +360,14 @@ pub fn verify(text: &[u8]) -> Verification {
 
 fn try_verify(text: &[u8]) -> Checked<bool> {
     let (s, values) = try_read([true, false, true, true, true, true], text, None)?;
+    let elements = values[2].chunks_exact(s.degree as usize);
+    let mut commitment = ZERO_ROWS;
+    for (row, element) in commitment.iter_mut().zip(elements) {
+        *row = places(&table(element));
+    }
     let answer = check(
         s,
-        places(&table(&values[2])),
+        commitment,
         places(&table(&values[5])),
         &table::<Residue>(&values[0]),
         &table::<Residue>(&values[3]),

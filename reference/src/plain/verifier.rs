@@ -1,64 +1,90 @@
 //! The verifier: session moves and the check of a transcript.
 
-use super::prover::folded_key;
+use super::prover::{folded_row, key_rows};
 use super::ring::{add, element, elements, half_power, multiply, reduce, rotate, scale, Element};
-use super::{by_value, refusals, shape, Shape};
+use super::{refusals, row_elements, rows_by_value, shape, Shape};
 use crate::types::*;
 
-/// Whether 2·(c0+c2) equals the claim.
+/// Whether 2·(c0+c2) equals the claim, in one row.
 fn round_holds(shape: &Shape, claim: &Element, c: &[Element]) -> bool {
     reduce(&scale(&add(&c[0], &c[2]), 2), shape.q) == *claim
 }
 
-/// c0 + r·c1 + r²·c2 with r = X^e, reduced.
+/// c0 + r·c1 + r²·c2 with r = X^e, reduced, in one row.
 fn next_claim(shape: &Shape, c: &[Element], e: u32) -> Element {
     let e = e as usize;
     let sum = add(&c[0], &rotate(&c[1], e));
     reduce(&add(&sum, &rotate(&c[2], 2 * e)), shape.q)
 }
 
-/// The end: first the bound of the final element, then the last equation.
+/// The claims after a round, one a row, or nothing where the round fails in
+/// some row. `c` holds three elements for each row.
+fn claims_after(
+    shape: &Shape,
+    claims: &[Element],
+    c: &[Vec<Element>],
+    e: u32,
+) -> Option<Vec<Element>> {
+    let mut rows = claims.iter().zip(c);
+    let holds = rows.all(|(claim, c)| round_holds(shape, claim, c));
+    holds.then(|| c.iter().map(|c| next_claim(shape, c, e)).collect())
+}
+
+/// The end: first the bound of the final element, then the last equation of
+/// every row.
 fn end_cause(
     shape: &Shape,
-    claim: &Element,
+    claims: &[Element],
     challenges: &[u32],
     final_element: &Element,
-    key: &[Element],
+    key: &[Vec<Element>],
 ) -> Option<Cause> {
     let bound = shape.n as i128 * shape.b;
     if final_element.iter().any(|x| x.abs() > bound) {
         return Some(Cause::Bound);
     }
-    let g = folded_key(shape, key, challenges);
     let half = half_power(shape.q, shape.l);
-    let product = reduce(&multiply(final_element, &g), shape.q);
-    let wanted = reduce(&scale(&product, half), shape.q);
-    (wanted != *claim).then_some(Cause::Equation)
+    let wanted = |row: &Vec<Element>| {
+        let g = folded_row(shape, row, challenges);
+        let product = reduce(&multiply(final_element, &g), shape.q);
+        reduce(&scale(&product, half), shape.q)
+    };
+    let mut rows = claims.iter().zip(key);
+    let meets = rows.all(|(claim, row)| wanted(row) == *claim);
+    (!meets).then_some(Cause::Equation)
+}
+
+/// The three elements of each row from those of one round: number
+/// rows·j + row is c_j of the row.
+fn by_row(shape: &Shape, round: &[Element]) -> Vec<Vec<Element>> {
+    let of_row = |row: usize| [0, 1, 2].map(|j| round[shape.rows * j + row].clone());
+    (0..shape.rows).map(|row| of_row(row).to_vec()).collect()
 }
 
 /// The verifier on one transcript: the first cause of a rejection, or none.
-/// `rounds` holds three elements for each round.
+/// `rounds` holds three elements for each round and row, `key` the rows.
 pub(super) fn transcript_cause(
     shape: &Shape,
-    commitment: &Element,
+    commitment: &[Element],
     rounds: &[Element],
     challenges: &[u32],
     final_element: &Element,
-    key: &[Element],
+    key: &[Vec<Element>],
 ) -> Option<Cause> {
-    let mut claim = commitment.clone();
+    let mut claims = commitment.to_vec();
     for (t, &e) in challenges.iter().enumerate() {
-        let c = &rounds[3 * t..3 * t + 3];
-        if !round_holds(shape, &claim, c) {
-            return Some(Cause::Round(t as u32 + 1));
+        let size = 3 * shape.rows;
+        let c = by_row(shape, &rounds[size * t..size * (t + 1)]);
+        match claims_after(shape, &claims, &c, e) {
+            Some(next) => claims = next,
+            None => return Some(Cause::Round(t as u32 + 1)),
         }
-        claim = next_claim(shape, c, e);
     }
-    end_cause(shape, &claim, challenges, final_element, key)
+    end_cause(shape, &claims, challenges, final_element, key)
 }
 
 /// Call 6: a session starts at a commitment.
-pub fn session_start(s: Settings, commitment: Residues) -> StartAnswer {
+pub fn session_start(s: Settings, commitment: Rows) -> StartAnswer {
     let (number, record) = match refusals::session_start(s, &commitment) {
         0 => (0, new_record(&shape(s), s, &commitment)),
         number => (number, Record::refused()),
@@ -67,11 +93,11 @@ pub fn session_start(s: Settings, commitment: Residues) -> StartAnswer {
 }
 
 /// A new record at a commitment.
-fn new_record(shape: &Shape, s: Settings, commitment: &Residues) -> Record {
+fn new_record(shape: &Shape, s: Settings, commitment: &Rows) -> Record {
     Record {
         settings: s,
         done: 0,
-        claim: by_value(&element(&commitment[..shape.d])),
+        claims: rows_by_value(&row_elements(shape, commitment)),
         challenges: [0; ROUNDS],
         closed: false,
     }
@@ -115,14 +141,15 @@ pub fn session_round(record: Record, polynomial: Polynomial, e: u32) -> MoveAnsw
 }
 
 fn played_round(shape: &Shape, record: Record, polynomial: &Polynomial, e: u32) -> MoveAnswer {
-    let c: Vec<Element> = polynomial.iter().map(|c| element(&c[..shape.d])).collect();
-    if !round_holds(shape, &element(&record.claim[..shape.d]), &c) {
+    let c: Vec<Vec<Element>> = polynomial.iter().map(|c| row_elements(shape, c)).collect();
+    let claims = row_elements(shape, &record.claims);
+    let Some(claims) = claims_after(shape, &claims, &by_row(shape, &c.concat()), e) else {
         return closed(record, REJECTED);
-    }
+    };
     let mut next = record;
     next.challenges[record.done as usize] = e;
     next.done = record.done + 1;
-    next.claim = by_value(&next_claim(shape, &c, e));
+    next.claims = rows_by_value(&claims);
     MoveAnswer {
         number: 0,
         verdict: HOLDS,
@@ -146,10 +173,10 @@ fn played_end(
 ) -> MoveAnswer {
     let cause = end_cause(
         shape,
-        &element(&record.claim[..shape.d]),
+        &row_elements(shape, &record.claims),
         &record.challenges[..shape.l],
         &element(&final_element[..shape.d]),
-        &elements(key, shape.d),
+        &key_rows(shape, key),
     );
     closed(record, verdict(cause))
 }
@@ -157,7 +184,7 @@ fn played_end(
 /// Call 9: the check of a transcript.
 pub fn check(
     s: Settings,
-    commitment: Residues,
+    commitment: Rows,
     final_element: Wholes,
     key: &[Residue],
     rounds: &[Residue],
@@ -174,7 +201,7 @@ pub fn check(
 /// The check of a transcript with the cause of a rejection.
 pub fn check_cause(
     s: Settings,
-    commitment: Residues,
+    commitment: Rows,
     final_element: Wholes,
     key: &[Residue],
     rounds: &[Residue],
@@ -187,10 +214,10 @@ pub fn check_cause(
     let shape = shape(s);
     Ok(transcript_cause(
         &shape,
-        &element(&commitment[..shape.d]),
+        &row_elements(&shape, &commitment),
         &elements(rounds, shape.d),
         challenges,
         &element(&final_element[..shape.d]),
-        &elements(key, shape.d),
+        &key_rows(&shape, key),
     ))
 }

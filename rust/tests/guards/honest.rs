@@ -26,7 +26,8 @@ impl Opening {
             state % below
         };
         let (cells, bound) = (settings.table_len(), settings.bound());
-        let key = (0..cells).map(|_| draw(settings.modulus())).collect();
+        let of_key = 0..settings.key_len();
+        let key = of_key.map(|_| draw(settings.modulus())).collect();
         let small = |x: u64| x as i32 - bound as i32;
         let message = (0..cells)
             .map(|_| small(draw(u64::from(2 * bound + 1))))
@@ -39,9 +40,9 @@ impl Opening {
 
     /// A key and a message of zeros.
     pub fn zeros(settings: Settings) -> Opening {
-        let cells = settings.table_len();
+        let (key, message) = (vec![0; settings.key_len()], vec![0; settings.table_len()]);
         let challenges = vec![0; settings.challenges_len()];
-        Opening::of(settings, vec![0; cells], vec![0; cells], challenges)
+        Opening::of(settings, key, message, challenges)
     }
 
     fn of(settings: Settings, key: Vec<u64>, message: Vec<i32>, challenges: Vec<u32>) -> Opening {
@@ -116,13 +117,13 @@ impl Opening {
     pub fn text(&self, parts: u32) -> String {
         let s = self.settings;
         let (d, l, b) = (s.degree().into(), s.depth().into(), s.bound().into());
-        let settings = [d, l, s.modulus(), b];
+        let settings = [d, l, s.modulus(), b, s.rows().into()];
         let mut tables = vec![Table::u64("settings", Use::Read, &settings)];
         tables.extend(self.parts(parts));
         let mut text = String::from("part item place value\n");
         for (part, table) in tables.iter().enumerate() {
             let width = match part {
-                0 => 4,
+                0 => settings.len(),
                 5 => 1,
                 _ => s.element_len(),
             };
@@ -138,7 +139,7 @@ impl Opening {
     pub fn input(&self, tables: Vec<Table>) -> Input {
         let s = self.settings;
         Input {
-            settings: (s.degree(), s.depth(), s.modulus(), s.bound()),
+            settings: (s.degree(), s.depth(), s.modulus(), s.bound(), s.rows()),
             done: 0,
             exponent: self.challenges.first().copied().unwrap_or(0),
             slack: s.slack(),

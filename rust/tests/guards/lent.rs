@@ -92,7 +92,7 @@ impl Table {
 /// What a call is given.
 #[derive(Clone)]
 pub struct Input {
-    pub settings: (u32, u32, u64, u32),
+    pub settings: (u32, u32, u64, u32, u32),
     pub done: u32,
     pub exponent: u32,
     pub slack: u32,
@@ -153,7 +153,7 @@ fn left(table: &Table) -> Vec<i64> {
         Use::Single => values = vec![0],
         Use::Started if values.len() == Session::RECORD => {
             values.fill(0);
-            values[5] = 1;
+            values[6] = 1;
         }
         _ => {}
     }

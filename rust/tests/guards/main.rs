@@ -22,40 +22,40 @@ use wovenrock::Settings;
 
 /// The calls, and every refusal that each can give.
 const REFUSALS: [(&str, &[u32]); 17] = [
-    ("settings", &[3, 4, 5, 6]),
-    ("commit", &[3, 4, 5, 6, 7, 8, 9]),
-    ("round", &[3, 4, 5, 6, 7, 8, 9, 11]),
-    ("fold", &[3, 4, 5, 6, 7, 8, 9, 10, 11]),
-    ("end", &[3, 4, 5, 6, 7, 9, 11]),
-    ("open", &[3, 4, 5, 6, 7, 8, 9, 10]),
-    ("session_start", &[3, 4, 5, 6, 7, 8]),
-    ("session_round", &[3, 4, 5, 6, 7, 8, 10, 11]),
-    ("session_end", &[3, 4, 5, 6, 7, 8, 10, 11]),
-    ("check", &[3, 4, 5, 6, 7, 8, 10]),
-    ("judge", &[3, 4, 5, 6, 7, 8, 14, 15]),
-    ("extract", &[3, 4, 5, 6, 7, 8, 10, 12, 13, 14]),
-    ("look", &[1, 2, 3, 4, 5, 6, 7]),
-    ("read", &[1, 2, 3, 4, 5, 6, 7, 8, 9, 10]),
-    ("write", &[1, 3, 4, 5, 6, 7, 8, 9, 10]),
-    ("prove", &[1, 2, 3, 4, 5, 6, 7, 8, 9, 10]),
-    ("verify", &[1, 2, 3, 4, 5, 6, 7, 8, 10]),
+    ("settings", &[3, 4, 5, 6, 16]),
+    ("commit", &[3, 4, 5, 6, 16, 7, 8, 9]),
+    ("round", &[3, 4, 5, 6, 16, 7, 8, 9, 11]),
+    ("fold", &[3, 4, 5, 6, 16, 7, 8, 9, 10, 11]),
+    ("end", &[3, 4, 5, 6, 16, 7, 9, 11]),
+    ("open", &[3, 4, 5, 6, 16, 7, 8, 9, 10]),
+    ("session_start", &[3, 4, 5, 6, 16, 7, 8]),
+    ("session_round", &[3, 4, 5, 6, 16, 7, 8, 10, 11]),
+    ("session_end", &[3, 4, 5, 6, 16, 7, 8, 10, 11]),
+    ("check", &[3, 4, 5, 6, 16, 7, 8, 10]),
+    ("judge", &[3, 4, 5, 6, 16, 7, 8, 14, 15]),
+    ("extract", &[3, 4, 5, 6, 16, 7, 8, 10, 12, 13, 14]),
+    ("look", &[1, 2, 3, 4, 5, 6, 16, 7]),
+    ("read", &[1, 2, 3, 4, 5, 6, 16, 7, 8, 9, 10]),
+    ("write", &[1, 3, 4, 5, 6, 16, 7, 8, 9, 10]),
+    ("prove", &[1, 2, 3, 4, 5, 6, 16, 7, 8, 9, 10]),
+    ("verify", &[1, 2, 3, 4, 5, 6, 16, 7, 8, 10]),
 ];
 
 #[test]
 fn every_call_between_guards() {
-    let settings = |d, l, q, b| Settings::new(d, l, q, b).unwrap();
+    let settings = |d, l, q, b, rows| Settings::new(d, l, q, b, rows).unwrap();
     let mut list = Vec::new();
     for s in [
-        settings(2, 1, 17, 1),
-        settings(2, 0, 3, 127),
-        settings(4, 2, 12_289, 3),
-        settings(8, 3, 2_147_483_647, 127),
-        settings(16, 1, 255, 5),
-        settings(32, 2, 65_537, 1),
-        settings(64, 1, 12_289, 1),
-        settings(128, 1, 12_289, 1),
-        settings(2, 2, (1 << 32) + 1, 5),
-        settings(8, 2, Settings::LARGEST_MODULUS, 127),
+        settings(2, 1, 17, 1, 1),
+        settings(2, 0, 3, 127, 4),
+        settings(4, 2, 12_289, 3, 2),
+        settings(8, 3, 2_147_483_647, 127, 1),
+        settings(16, 1, 255, 5, 3),
+        settings(32, 2, 65_537, 1, 1),
+        settings(64, 1, 12_289, 1, 2),
+        settings(128, 1, 12_289, 1, 4),
+        settings(2, 2, (1 << 32) + 1, 5, 4),
+        settings(8, 2, Settings::LARGEST_MODULUS, 127, 3),
     ] {
         let opening = Opening::drawn(s);
         let mut of_opening = scenarios::of_prover(&opening);
@@ -67,14 +67,14 @@ fn every_call_between_guards() {
         }
         list.extend(of_opening);
     }
-    let growing = Opening::zeros(settings(64, 4, 17, 5));
+    let growing = Opening::zeros(settings(64, 4, 17, 5, 2));
     list.extend(scenarios::of_relaxed(&growing, 14));
-    let largest = Opening::zeros(settings(128, 4, 12_289, 1));
+    let largest = Opening::zeros(settings(128, 4, 12_289, 1, 1));
     let mut of_largest = scenarios::of_relaxed(&largest, 14);
     another_modulus_is_3(&mut of_largest);
     list.extend(of_largest);
     list.push(scenarios::of_long_text(&Opening::zeros(settings(
-        64, 8, 17, 1,
+        64, 8, 17, 1, 1,
     ))));
 
     let mut met = BTreeSet::new();
@@ -138,15 +138,17 @@ fn met_by(scenario: &Scenario) -> BTreeSet<u32> {
 }
 
 /// What a call that answers `number` answers where a slice has a wrong length
-/// as well: 7 stands behind 1 to 6. An output may be longer than its text, and
-/// is tested last where it is shorter; the writer tests the length of its text
-/// just before that. A record that is not of 142 numbers is refused at once.
+/// as well: 7 stands behind 1 to 6 and 16. An output may be longer than its
+/// text, and is tested last where it is shorter; the writer tests the length of
+/// its text just before that. A record that is not of 527 numbers is refused at
+/// once.
 fn with_wrong_length(name: &str, table: &Table, longer: bool, number: u32) -> u32 {
     let writer = name == "write" && number == 1;
     let record = table.name == "session" && table.used == Use::Written;
     match table.used {
         Use::Out if longer || number != 0 => number,
         _ if number == 0 || writer || record => 7,
+        _ if number == 16 => 16,
         _ => number.min(7),
     }
 }

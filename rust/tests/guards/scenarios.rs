@@ -56,6 +56,7 @@ fn line(from: impl Into<String>, to: impl Into<String>) -> Fault {
 fn settings_and(others: Vec<(u32, Fault)>) -> Vec<(u32, Fault)> {
     let modulus = |value| change(move |input| input.settings.2 = value);
     let bound = |value| change(move |input| input.settings.3 = value);
+    let rows = |value| change(move |input| input.settings.4 = value);
     let mut faults = vec![
         (3, change(|input| input.settings.0 = 3)),
         (4, change(|input| input.settings.1 = 9)),
@@ -65,6 +66,10 @@ fn settings_and(others: Vec<(u32, Fault)>) -> Vec<(u32, Fault)> {
         (5, modulus(u64::MAX)),
         (6, bound(0)),
         (6, bound(128)),
+        (16, rows(0)),
+        (16, rows(5)),
+        (16, rows(1 << 31)),
+        (16, rows(u32::MAX)),
     ];
     faults.extend(others);
     faults
@@ -79,6 +84,10 @@ fn text_and(others: Vec<(u32, Fault)>) -> Vec<(u32, Fault)> {
         (4, line("\n0 0 1 ", "\n0 0 1 9")),
         (5, line("\n0 0 2 ", "\n0 0 2 -")),
         (6, line("\n0 0 3 ", "\n0 0 3 -")),
+        (16, line("\n0 0 4 ", "\n0 0 4 -")),
+        (16, line("\n0 0 4 ", "\n0 0 4 429496729600")),
+        // four lines of settings, as there were before there were rows
+        (2, line("\n0 0 4 ", "\n1 0 0 ")),
     ];
     faults.extend(others);
     faults
@@ -88,24 +97,31 @@ fn text_and(others: Vec<(u32, Fault)>) -> Vec<(u32, Fault)> {
 fn record_and(at: usize, o: &Opening, others: Vec<(u32, Fault)>) -> Vec<(u32, Fault)> {
     let s = o.settings;
     let exponents = i64::from(s.exponents());
+    // Where the claim of a row begins, and the last number that is read of it.
+    let claim = |row| 15 + 128 * row as usize;
+    let last_claim = claim(s.rows() - 1) + s.element_len() - 1;
     let mut faults = vec![
         (3, number(at, 0, 0)),
         (4, number(at, 1, 9)),
         (5, number(at, 2, 4)),
         (6, number(at, 3, 0)),
-        (7, number(at, 5, 2)),
-        (8, number(at, 14, s.modulus() as i64)),
-        (10, number(at, 6, exponents)),
-        (10, number(at, 13, exponents)),
-        (11, number(at, 5, 1)),
-        (11, number(at, 4, i64::from(s.depth()) + 1)),
+        (16, number(at, 4, 0)),
+        (16, number(at, 4, 5)),
+        (7, number(at, 6, 2)),
+        (8, number(at, claim(0), s.modulus() as i64)),
+        (8, number(at, last_claim, s.modulus() as i64)),
+        (10, number(at, 7, exponents)),
+        (10, number(at, 14, exponents)),
+        (11, number(at, 6, 1)),
+        (11, number(at, 5, i64::from(s.depth()) + 1)),
         // The record's own numbers, but for a bit behind 32.
         (3, number(at, 0, (1 << 32) + i64::from(s.degree()))),
         (4, number(at, 1, (1 << 32) + i64::from(s.depth()))),
         (6, number(at, 3, (1 << 32) + i64::from(s.bound()))),
-        (7, number(at, 5, 1 << 32)),
-        (10, number(at, 13, 1 << 32)),
-        (11, number(at, 4, 1 << 32)),
+        (16, number(at, 4, (1 << 32) + i64::from(s.rows()))),
+        (7, number(at, 6, 1 << 32)),
+        (10, number(at, 14, 1 << 32)),
+        (11, number(at, 5, 1 << 32)),
     ];
     faults.extend(others);
     faults
@@ -114,7 +130,8 @@ fn record_and(at: usize, o: &Opening, others: Vec<(u32, Fault)>) -> Vec<(u32, Fa
 pub fn of_prover(o: &Opening) -> Vec<Scenario> {
     let s = o.settings;
     let (q, exponents, depth) = (s.modulus() as i64, s.exponents(), s.depth());
-    let (tall, last_number) = (i64::from(s.bound()) + 1, o.key.len() - 1);
+    let tall = i64::from(s.bound()) + 1;
+    let (last_residue, last_number) = (o.key.len() - 1, o.message.len() - 1);
     // Without a round to do, a round and a fold are refused, and 9 is not tested.
     let (turn, tall_turn) = if depth == 0 { (11, 11) } else { (0, 9) };
     let tables = |used, others: Vec<Table>| {
@@ -124,20 +141,20 @@ pub fn of_prover(o: &Opening) -> Vec<Scenario> {
     };
     let last = || Table::i32("last", Use::Written, &vec![BEFORE as i32; s.element_len()]);
 
-    let commitment = Table::blank("commitment", s.element_len());
+    let commitment = Table::blank("commitment", s.commitment_len());
     let commit = settings_and(vec![
-        (8, number(0, last_number, q)),
+        (8, number(0, last_residue, q)),
         (9, number(1, last_number, tall)),
     ]);
     let polynomial = Table::blank("polynomial", s.polynomial_len());
     let round = settings_and(vec![
-        (8, number(0, last_number, q)),
+        (8, number(0, last_residue, q)),
         (tall_turn, number(1, last_number, -tall)),
         (11, change(move |i| i.done = depth)),
         (11, change(|i| i.done = u32::MAX)),
     ]);
     let fold = settings_and(vec![
-        (8, number(0, last_number, q)),
+        (8, number(0, last_residue, q)),
         (tall_turn, number(1, last_number, tall)),
         (10, change(move |i| i.exponent = exponents)),
         (11, change(move |i| i.done = depth)),
@@ -155,7 +172,7 @@ pub fn of_prover(o: &Opening) -> Vec<Scenario> {
     let opened = vec![
         Table::u32("challenges", Use::Read, &o.challenges),
         Table::blank("rounds", s.rounds_len()),
-        Table::blank("commitment", s.element_len()),
+        Table::blank("commitment", s.commitment_len()),
         last(),
         Table::single("verdict", 4),
     ];
@@ -198,9 +215,10 @@ pub fn of_verifier(o: &Opening) -> Vec<Scenario> {
     let record = |done| Table::u64("session", Use::Written, &o.record(done));
 
     let fresh = Table::u64("session", Use::Started, &[BEFORE.into(); Session::RECORD]);
-    let start = settings_and(vec![(8, number(0, s.element_len() - 1, q))]);
-    let end = record_and(2, o, vec![(8, number(1, 0, q))]);
-    let mut check = settings_and(vec![(8, number(0, 0, q)), (8, number(2, 0, q))]);
+    let start = settings_and(vec![(8, number(0, s.commitment_len() - 1, q))]);
+    let last_residue = o.key.len() - 1;
+    let end = record_and(2, o, vec![(8, number(1, last_residue, q))]);
+    let mut check = settings_and(vec![(8, number(0, 0, q)), (8, number(2, last_residue, q))]);
     if s.depth() > 0 {
         check.push((8, number(3, 0, q)));
         check.push((10, number(4, 0, i64::from(exponents))));
@@ -312,7 +330,7 @@ pub fn of_text(o: &Opening) -> Vec<Scenario> {
     let s = o.settings;
     let q = s.modulus();
     let text = |parts| Table::bytes("text", Use::Text, o.text(parts).as_bytes());
-    let settings = || Table::blank("settings", 4);
+    let settings = || Table::blank("settings", 5);
     let first =
         |part: u32, value: i64| (format!("\n{part} 0 0 {value}\n"), format!("\n{part} 0 0 "));
     let residue = || {

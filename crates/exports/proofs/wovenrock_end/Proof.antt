@@ -16,7 +16,7 @@ returns : tie.Need-returns
 unfolding endNumber endExit hasLength
 returns c =
     let a = c .before .before .args in
-    let S = given (a .degree) (a .depth) (a .modulus) (a .bound) in
+    let S = given (a .degree) (a .depth) (a .modulus) (a .bound) (a .rows) in
     let answer = endAnswer S (a .done) (a .message .now) in
     let (p, q) = unfit S (hasLength (a .degree) (a .last .now)) (answer .refusal) (take (a .degree) (answer .last)) (a .last .now) _ (c .before .refusal .ensures) (c .if1 .taken) in
     record { refusal = p; last-exit = q }
@@ -28,7 +28,7 @@ returns-2 c =
     let at-if1 = at-end .before in
     let at-refusal = at-if1 .before in
     let a = at-refusal .before .args in
-    let S = given (a .degree) (a .depth) (a .modulus) (a .bound) in
+    let S = given (a .degree) (a .depth) (a .modulus) (a .bound) (a .rows) in
     let answer = endAnswer S (a .done) (a .message .now) in
     let same = ap (λ (r : Ended). r .refusal) (at-end .end .ensures) in
     let (p, q) =
@@ -40,7 +40,7 @@ returns-3 : tie.Need-returns-3
 unfolding endNumber endExit hasLength
 returns-3 c =
     let a = c .before .before .before .before .before .before .before .before .before .args in
-    let S = given (a .degree) (a .depth) (a .modulus) (a .bound) in
+    let S = given (a .degree) (a .depth) (a .modulus) (a .bound) (a .rows) in
     let answer = endAnswer S (a .done) (a .message .now) in
     let given-answer = c .before .before .before .before .before .before .end .ensures in
     let border = c .before .before .before .before .before .before .before .before .refusal .ensures in

@@ -1,8 +1,10 @@
 use mathlib.Core.Path.{ap, _∙_}
-use lib.ListN.{take}
+use native.Mathlib.Omega.{arith}
+use lib.ListN.{getD}
 use Rattle.protocol.specs.Element.{reduced}
-use Rattle.protocol.proofs.Reading.{tabulate-length}
-use Rattle.slices.proofs.Laws.{element-back}
+use Rattle.protocol.proofs.Reading.{tabulate-ext}
+use Rattle.residues.proofs.Padding.{padded-at}
+use Rattle.slices.proofs.Elements.{stored-whole}
 use borrow.Author.Needs.{needs}
 use Rattle.measured.proofs.measured_plain_inner.Statement.{statement}
 use Rattle.measured.proofs.measured_plain_inner.Tie as tie
@@ -10,10 +12,11 @@ use Rattle.measured.proofs.measured_plain_inner.Tie as tie
 returns : tie.Need-returns
 unfolding reduced
 returns c = λ z long.
-    let a = c .before .before .before .before .before .before .before .args in
-    c .before .before .store-residues .ensures (z .elements .degree-most) long
-    ∙ ap (take (a .degree)) (c .before .before .before .before .plain-inner .ensures z)
-    ∙ element-back (a .degree) _ (tabulate-length (a .degree) _)
+    let a = c .before .before .before .before .before .before .before .before .args in
+    let is = c .before .before .before .before .before .plain-inner .ensures z in
+    c .before .before .store .ensures (record { there = omega (arith, z .elements .degree-most); room = omega (arith, long) })
+    ∙ stored-whole (a .degree) _ (a .out .now) long
+    ∙ tabulate-ext (a .degree) (λ k h. ap (λ l. getD l k 0) is ∙ padded-at (a .degree) _ k h)
 
 pub measured-plain-inner-spec : {M : Type 1} → statement M
-measured-plain-inner-spec = tie.close (tie.spec (λ c κs. search needs) (λ c κs. search needs) (λ c. search needs) returns)
+measured-plain-inner-spec = tie.close (tie.spec (λ c κs. search needs) (λ c. search needs) (λ c κs. search needs) (λ c. search needs) returns)

@@ -1,119 +1,90 @@
-use mathlib.Core.Path.{_≡_, ap, _∙_}
-use Prim.Native.Nat.{ℕ, _+_, _*_, _/_, _^_, _≤_}
-use native.Mathlib.Nat as Nat
+use mathlib.Core.Path.{_≡_, refl, sym, _∙_, subst}
+use Prim.Native.Nat.{_+_, _-_, _≤_}
 use native.Mathlib.Omega.{arith}
-use borrow.Author.Tests.{not-true, not-false}
-use lib.ListN.{length}
-use Rattle.protocol.specs.Settings.{half}
-use lib.IntN.{pos}
-use Rattle.protocol.specs.Element.{Element, width, times, reduced, signedAt, residueAt}
-use Rattle.protocol.specs.Opening.{inner, left}
-use Rattle.residues.specs.Lists.{filled}
-use Rattle.prover_refusals.proofs.Given.{CommitGiven, commit-given}
-use Rattle.round_products.specs.Messages.{Sized, Tables}
-use Rattle.opening_rounds.specs.Rounds.{elementPlaces}
-use Rattle.round_products.proofs.Products.{summable, tables-sized, commit-tables}
-use Rattle.opening_rounds.proofs.Continued.{first-part, second-part, inner-parts, value-residues, value-halvable, written-element, written-sum, half-whole, whole-is, first-is}
+use lib.ListN.{length, take, drop}
+use Rattle.protocol.specs.Basic.{Provided}
+use Rattle.protocol.specs.Layout.{itemCells}
+use Rattle.protocol.specs.Calls.{commitRefusal}
+use Rattle.protocol.specs.Opening.{commitment, roundElement}
+use Rattle.sizes.proofs.Limits.{degree-least}
+use Rattle.residues.proofs.Parts.{tail-length}
+use Rattle.prover_refusals.proofs.Given.{CommitGiven, commit-given, commit-key}
+use Rattle.round_products.proofs.Rowwise.{Written, written-none, written-all, table-room, key-room, lent, row-done, row-placed, put-length, put-same}
+use Rattle.opening_rounds.specs.Rounds.{commitmentItem, roundItem}
 use borrow.Author.Needs.{needs}
 use Rattle.opening_rounds.proofs.begin.Statement.{statement}
 use Rattle.opening_rounds.proofs.begin.Tie as tie
 
-all : (c : tie.After-left) → let a = c .before .before .before .before .args in CommitGiven (a .settings) (a .key .now) (a .message .now) → c .left .result ≡ left (a .settings) 0
-all c g = c .left .ensures (record { allowed = g .tables .allowed; most = omega arith })
+abbrev Inv-loop : tie.InvT-loop
+Inv-loop settings key message commitments₀ rounds₀ cells d from₀ at₀ r₀ commitments rounds from at r =
+    (r ≤ settings .rows) × (from ≤ length key) × (at ≤ length commitments₀) × (length commitments ≡ length commitments₀) × (length rounds ≡ length rounds₀)
+    × Provided (commitRefusal settings key message ≡ 0) (Provided (itemCells settings ≤ length commitments₀) (
+    Written settings (settings .degree) (commitmentItem settings key message) commitments₀ r from at commitments
+    × Provided (itemCells settings ≤ length rounds₀) (Written settings (settings .degree) (roundItem settings 0 key message 0) rounds₀ r from at rounds)
+    × Provided (length rounds₀ ≡ 0) (rounds ≡ rounds₀)))
 
-long : (c : tie.Else1) → let a = c .before .before .before .before .before .before .args in
-    Sized (a .settings .degree) (c .before .before .left .result) (length (a .message .now)) (length (a .key .now))
-long c = c .before .sized .ensures .0 (not-false (c .before .sized .result) (c .if1 .left))
+abbrev μ-loop : tie.MeasureT-loop
+μ-loop settings key message commitments₀ rounds₀ cells d from₀ at₀ r₀ commitments rounds from at r = settings .rows - r
 
-returns : tie.Need-returns
+loop-holds : tie.Need-loop-holds Inv-loop μ-loop
+loop-holds c = (omega arith, omega arith, omega arith, refl, refl, λ _ _. (written-none _ _ _ _, (λ _. written-none _ _ _ _), λ _. refl))
+
+returns : tie.Need-returns Inv-loop μ-loop
 returns c = λ z.
-    let a = c .before .before .before .before .before .before .args in
-    let g = commit-given (a .settings) (a .key .now) (a .message .now) z in
-    let no = not-true (c .before .sized .result) (c .if1 .taken) in
-    let yes = c .before .sized .ensures .1 (rw (all (c .before .before) g) (tables-sized _ _ _ (a .message .now) (a .key .now) (commit-tables (a .settings) (a .key .now) (a .message .now) g))) in
-    let wrong : _≡_ {A = ℕ} 0 1 = cc in
-    absurd (omega arith)
+    let a = c .before .before .before .before .before .before .before .before .before .args in
+    let (ok, long) = commit-key (a .settings) (a .key .now) (a .message .now) z in
+    let none : itemCells (a .settings) ≤ length (a .commitments .now) → ⊥ = λ room. let w = c .before .before .before .loop .inv .5 z room .0 in omega (arith, key-room _ _ _ _ w (omega arith) (a .key .now) long, c .before .before .before .before .before .cells .ensures ok) in
+    record { commits = λ room. absurd (none room); first = λ room _. absurd (none room); none = λ room _. absurd (none room) }
 
--- the first part has few numbers, and stands in both tables
-few : (c : tie.Else1) → let a = c .before .before .before .before .before .before .args in let half = c .before .before .left .result / 2 * a .settings .degree in
-    (half ≤ 256 * width) × (half ≤ length (a .message .now)) × (half ≤ length (a .key .now))
-few c =
-    let a = c .before .before .before .before .before .before .args in
-    let z = long c in
-    let n = c .before .before .left .result in
-    let most = Nat.mul-le-mul {n₁ = n / 2} {n₂ = 256} {m₂ = width} (omega (arith, z .elements)) (z .degree-most) in
-    let part = Nat.mul-le-mul-right {m = n / 2} {n = n} (a .settings .degree) (omega arith) in
-    (omega (arith, most), omega (arith, part, z .message-long), omega (arith, part, z .key-long))
-
-mul-half : tie.Need-mul-half
-mul-half c = omega (arith, few c .0)
-
-write-halved-requires : tie.Need-write-halved-requires
-write-halved-requires c κs = let z = long (c .before .before .before) in omega (arith, z .degree-most)
-
-mul-inner : tie.Need-mul-inner
-mul-inner c = omega (arith, few (c .before .before .before .before .before .before) .0)
-
-sub-inner-2 : tie.Need-sub-inner-2
-sub-inner-2 c = omega (arith, few (c .before .before .before .before .before .before) .1)
-
-part-inner-start : tie.Need-part-inner-start
-part-inner-start c = omega (arith, few (c .before .before .before .before .before .before) .1)
-
-mul-inner-2 : tie.Need-mul-inner-2
-mul-inner-2 c = omega (arith, few (c .before .before .before .before .before .before .before) .0)
-
-sub-inner-3 : tie.Need-sub-inner-3
-sub-inner-3 c = omega (arith, few (c .before .before .before .before .before .before .before) .2)
-
-part-inner-start-2 : tie.Need-part-inner-start-2
-part-inner-start-2 c = omega (arith, few (c .before .before .before .before .before .before .before) .2)
-
-write-sum-requires : tie.Need-write-sum-requires
-write-sum-requires c κs =
-    let z = long (c .before .before .before .before .before .before .before .before .before .before .before .before) in
-    (omega (arith, z .degree-most), omega (arith, z .degree-most))
-
-returns-2 : tie.Need-returns-2
-unfolding half
+returns-2 : tie.Need-returns-2 Inv-loop μ-loop
 returns-2 c = λ z.
-    let a = c .before .before .before .before .before .before .before .before .before .before .before .before .before .before .before .before .before .before .before .before .before .args in
+    let a = c .before .before .before .before .before .before .before .before .before .before .args in
+    let (ok, long) = commit-key (a .settings) (a .key .now) (a .message .now) z in
+    let none : itemCells (a .settings) ≤ length (a .commitments .now) → ⊥ = λ room. let w = c .before .before .before .before .loop .inv .5 z room .0 in omega (arith, table-room _ _ _ _ w (omega arith) room) in
+    record { commits = λ room. absurd (none room); first = λ room _. absurd (none room); none = λ room _. absurd (none room) }
+
+loop-again : tie.Need-loop-again Inv-loop μ-loop
+loop-again c =
+    let a = c .before .before .before .before .before .before .before .before .before .before .before .before .before .before .before .before .before .before .before .args in
+    let l = c .before .before .before .before .before .before .before .before .before .before .before .before .before .loop in
+    let place = c .before .before .before .before .before .before .before .before .least in
+    let call = c .before .before .before .before .begin-row in
     let S = a .settings in
-    let d = S .degree in
-    let q = S .modulus in
-    let m = a .message .now in
     let G = a .key .now in
-    let g = commit-given S G m z in
-    let n = c .before .before .before .before .before .before .before .before .before .before .before .before .before .before .before .before .before .left .result in
-    let n-is : n ≡ left S 0 = all (c .before .before .before .before .before .before .before .before .before .before .before .before .before .before .before .before .before) g in
-    let T : Tables q d n m G = rw n-is (commit-tables S G m g) in
-    let product : ℕ → Element = λ i. inner d i (signedAt d m) (residueAt d G) in
-    let one = c .before .before .before .before .before .before .before .before .before .before .before .before .before .before .inner in
-    let two = c .before .before .before .before .before .before .inner2 in
-    let one-is = one .ensures (summable _ _ _ _ _ (first-part q d n (n / 2) m G T (omega arith))) in
-    let two-is = two .ensures (summable _ _ _ _ _ (second-part q d n (n / 2) m G T (omega arith))) in
-    let wide = long (c .before .before .before .before .before .before .before .before .before .before .before .before .before .before .before) .degree-most in
-    let below-one = value-residues q d (T .modulus) (product (n / 2)) (one .result) one-is (omega (arith, wide)) in
-    let below-two = value-residues q d (T .modulus) _ (two .result) two-is (omega (arith, wide)) in
-    record {
-      commits = λ room.
-          c .before .before .write-sum .ensures room (below-one, below-two)
-          ∙ written-sum q d (T .modulus) (product (n / 2)) _ (product n) (inner-parts q d n (n / 2) m G T (omega arith)) (one .result) (two .result) one-is two-is (a .commitment .now)
-          ∙ ap (λ i. filled (elementPlaces (reduced q d (product i))) d (a .commitment .now)) n-is
-          ∙ ap (λ l. filled (elementPlaces l) d (a .commitment .now)) (whole-is S G m);
-      first = λ room.
-          c .before .before .before .before .before .before .before .before .before .before .before .write-halved .ensures .0 room
-          (value-halvable q d (T .modulus) (T .modulus-odd) (product (n / 2)) (one .result) one-is)
-          ∙ written-element q d (half S ^ (0 + 1)) (T .modulus) (product (n / 2)) (one .result) one-is (a .rounds .now)
-          ∙ ap (λ i. filled (elementPlaces (reduced q d (times (pos (half S ^ (0 + 1))) (product i)))) d (a .rounds .now)) (ap (λ i. i / 2) n-is ∙ half-whole S)
-          ∙ ap (λ l. filled (elementPlaces l) d (a .rounds .now)) (first-is S 0 G m);
-      none = λ short. c .before .before .before .before .before .before .before .before .before .before .before .write-halved .ensures .1 short;
-    }
+    let m = a .message .now in (
+      omega arith,
+      omega arith,
+      omega arith,
+      put-length (l .at) (l .commitments) (call .last .1 .1 .1 .0) (omega arith) (call .kept .1 .1 .1 .0) ∙ l .inv .3,
+      put-length (place .result) (l .rounds) (call .last .1 .1 .1 .1 .0) (place .ensures .0) (call .kept .1 .1 .1 .1 .0) ∙ l .inv .4,
+      (λ z room.
+          let (ok, long) = commit-key S G m z in
+          let size = c .before .before .before .before .before .before .before .before .before .before .before .before .before .before .before .cells .ensures ok in
+          let w = l .inv .5 z room in
+          let given = commit-given S G m z in (
+            row-done S G long (λ k. CommitGiven S k m) given (S .degree) (λ k. commitment S k m) (a .commitments .now) room (w .0) (omega arith) (l .inv .3) _ size _ (λ g. call .ensures g .commits),
+            (λ more.
+                row-placed S G long (λ k. CommitGiven S k m) given (S .degree) (λ k. roundElement S 0 k m 0) (a .rounds .now) more (w .1 more) (omega arith) (l .inv .4) _ size _
+                (place .result) (place .ensures .1 (omega (arith, table-room _ _ _ _ (w .1 more) (omega arith) more, l .inv .4))) (λ g. call .ensures g .first)),
+            (λ short.
+                let row : CommitGiven S (take (l .from + c .before .before .before .before .before .before .before .before .before .before .before .before .before .before .before .cells .result - l .from) (drop (l .from) G)) m =
+                subst (λ k. CommitGiven S k m) (sym (lent S (S .degree) (commitmentItem S G m) (a .commitments .now) (w .0) (omega arith) G long (l .from + c .before .before .before .before .before .before .before .before .before .before .before .before .before .before .before .cells .result - l .from) (omega (arith, size)))) (given (l .r) (omega arith)) in
+                put-same (place .result) (l .rounds) _ (call .ensures row .none (omega (arith, tail-length (place .result) (l .rounds), l .inv .4, degree-least S (row .tables .settings)))) ∙ w .2 short),
+          )),
+    )
+
+returns-3 : tie.Need-returns-3 Inv-loop μ-loop
+returns-3 c = λ z. let l = c .before .before .loop in record {
+  commits = λ room. written-all _ _ _ _ (l .inv .5 z room .0) (omega arith);
+  first = λ room more. written-all _ _ _ _ (l .inv .5 z room .1 more) (omega arith);
+  none = λ room short. l .inv .5 z room .2 short;
+}
 
 pub begin-spec : {M : Type 1} → statement M
 begin-spec =
     tie.close
-    (tie.spec (λ c κs. search needs) (λ c κs. search needs) returns (λ c. search needs) (λ c. search needs) mul-half (λ c κs. search needs)
-    (λ c. search needs) (λ c. search needs) write-halved-requires (λ c. search needs) mul-inner sub-inner-2 part-inner-start (λ c. search needs)
-    mul-inner-2 sub-inner-3 part-inner-start-2 (λ c. search needs) (λ c κs. search needs) (λ c. search needs) (λ c. search needs)
-    (λ c. search needs) write-sum-requires (λ c. search needs) (λ c. search needs) returns-2)
+    (tie.spec Inv-loop μ-loop (λ c κs. search needs) (λ c. search needs) loop-holds (λ c. search needs) (λ c. search needs) (λ c. search needs) returns
+    (λ c. search needs) (λ c. search needs) (λ c. search needs) returns-2 (λ c. search needs) (λ c κs. search needs) (λ c. search needs) (λ c. search needs)
+    (λ c. search needs) (λ c. search needs) (λ c. search needs) (λ c. search needs) (λ c. search needs) (λ c. search needs) (λ c. search needs) (λ c. search needs)
+    (λ c. search needs) (λ c. search needs) (λ c κs. search needs) (λ c. search needs) (λ c. search needs) (λ c. search needs) loop-again
+    (λ c. search needs) (λ c. search needs) returns-3)

@@ -7,9 +7,9 @@ use Rattle.protocol.specs.Settings.{half}
 use Rattle.protocol.specs.Element.{Element, padded, reduced, signedAt, residueAt}
 use Rattle.protocol.specs.Opening.{inner, halfLeft}
 use Rattle.residues.specs.Lists.{filled}
-use Rattle.prover_refusals.proofs.Given.{RoundGiven, round-given}
+use Rattle.prover_refusals.specs.Given.{RoundGiven}
 use Rattle.round_products.specs.Messages.{Sized, Tables}
-use Rattle.opening_rounds.specs.Rounds.{elementPlaces}
+use Rattle.round_products.specs.Rowwise.{elementPlaces}
 use Rattle.round_products.proofs.Halves.{round-tables}
 use Rattle.round_products.proofs.Products.{summable, tables-sized, first-halves}
 use Rattle.opening_rounds.proofs.Continued.{value-halvable, written-element, first-is}
@@ -33,12 +33,11 @@ long : (c : tie.Else2) → let a = c .before .before .before .before .before .be
 long c = c .before .sized .ensures .0 (not-false (c .before .sized .result) (c .if2 .left))
 
 returns : tie.Need-returns
-returns c = λ z _. let a = c .before .before .before .before .args in absurd (omega (arith, round-given (a .settings) (a .key .now) (a .message .now) (a .t) z .turn))
+returns c = λ g _. absurd (omega (arith, g .turn))
 
 returns-2 : tie.Need-returns-2
-returns-2 c = λ z _.
+returns-2 c = λ g _.
     let a = c .before .before .before .before .before .before .before .args in
-    let g = round-given (a .settings) (a .key .now) (a .message .now) (a .t) z in
     let h = c .before .before in
     let no = not-true (c .before .sized .result) (c .if2 .taken) in
     let yes = c .before .sized .ensures .1 (rw (half-is h g) (tables-sized _ _ _ (a .message .now) (a .key .now) (tables h g))) in
@@ -50,10 +49,9 @@ write-halved-requires c κs = let z = long (c .before .before .before) in omega 
 
 returns-3 : tie.Need-returns-3
 unfolding half
-returns-3 c = λ z room.
+returns-3 c = λ g room.
     let a = c .before .before .before .before .before .before .before .before .before .before .before .before .before .args in
     let S = a .settings in
-    let g = round-given S (a .key .now) (a .message .now) (a .t) z in
     let h = c .before .before .before .before .before .before .before .before in
     let first = c .before .before .before .before .before .inner in
     let product : ℕ → Element = λ n. inner (S .degree) n (signedAt (S .degree) (a .message .now)) (residueAt (S .degree) (a .key .now)) in

@@ -16,10 +16,10 @@ use Rattle.opening_rounds.proofs.write_last.Statement.{statement}
 use Rattle.opening_rounds.proofs.write_last.Tie as tie
 
 abbrev Inv-loop : tie.InvT-loop
-Inv-loop q d claim p₀ k₀ p k = (k ≤ d) × Provided (Residues q d 0 p₀ × Halvables q d claim) (p ≡ spliced (lastAt q claim p₀) (2 * d) k p₀) × (length p ≡ length p₀)
+Inv-loop q n claim p₀ k₀ p k = (k ≤ n) × Provided (Residues q n 0 p₀ × Halvables q n claim) (p ≡ spliced (lastAt q claim p₀) (2 * n) k p₀) × (length p ≡ length p₀)
 
 abbrev μ-loop : tie.MeasureT-loop
-μ-loop q d claim p₀ k₀ p k = d - k
+μ-loop q n claim p₀ k₀ p k = n - k
 
 loop-holds : tie.Need-loop-holds Inv-loop μ-loop
 loop-holds c = (omega arith, (λ _. spliced-none _ _ _), refl)
@@ -31,7 +31,7 @@ loop-again c =
       omega arith,
       (λ h.
           let was : getD (l .p) (l .k) 0 ≡ getD (a .p .now) (l .k) 0 =
-          ap (λ t. getD t (l .k) 0) (l .inv .1 h) ∙ spliced-before _ (2 * a .d) (l .k) (a .p .now) (omega arith) (l .k) (omega arith) in
+          ap (λ t. getD t (l .k) 0) (l .inv .1 h) ∙ spliced-before _ (2 * a .n) (l .k) (a .p .now) (omega arith) (l .k) (omega arith) in
           let here : getD (a .p .now) (l .k) 0 ≡ getD (a .p .now) (0 + l .k) 0 = ap (λ j. getD (a .p .now) j 0) (sym (zero-add (l .k))) in
           let fine = h .1 (l .k) (omega arith) in
           let half = c .before .halved .ensures fine in

@@ -2,22 +2,25 @@
 use mathlib.Core.Path.{_≡_, sym, ap, subst, _∙_}
 use mathlib.Core.List.{List, []}
 use Prim.Native.Nat.{ℕ, _≤_}
+use native.Mathlib.Omega.{arith}
 use borrow.Author.Needs.{needs}
 use lib.ListN.{length, take}
 use lib.Seq.{length-take-le}
 use lib.IntN.{ℤ}
 use Rattle.protocol.specs.declared.Settings.{Settings}
-use Rattle.protocol.specs.Opening.{roundTable}
-use Rattle.protocol.specs.Transcript.{transcriptOf}
+use Rattle.protocol.specs.Layout.{rowsWidth}
+use Rattle.protocol.specs.Opening.{commitment}
+use Rattle.protocol.specs.Rows.{keyRow, atRows, roundTables, transcriptsOf}
 use Rattle.protocol.specs.Basic.{Provided}
 use Rattle.protocol.specs.Calls.{openingRefusal}
 use Rattle.protocol.specs.Text.{textOf}
 use Rattle.protocol.specs.Programs.{printed}
+use Rattle.protocol.proofs.Inputs.{valid-settings}
 use Rattle.claims.proofs.Honest.{opening-granted, opening-commitment, opening-last, opening-rounds}
 use Rattle.text_parts.specs.Parts.{tablesOf}
 use Rattle.table_writer.specs.Tables.{Writable, Output}
 use Rattle.prove_text.specs.Printed.{Openable}
-use Rattle.prove_text.proofs.Honest.{given, commitment-front, last-front, honest-writable, printed-by}
+use Rattle.prove_text.proofs.Honest.{given, commitment-flat, last-front, honest-writable, printed-by}
 use Rattle.prove_text.proofs.print_opening.Statement.{statement}
 use Rattle.prove_text.proofs.print_opening.Tie as tie
 
@@ -47,38 +50,60 @@ module _ (c : tie.After-opened) where
   granted : openingRefusal S G M E R ≡ 0
   granted = opening-granted (given S G M E R ok) R (ok .rounds-long)
 
-  commitment-given : (S .degree ≤ length (c .opened .result .commitment)) × (take (S .degree) (c .opened .result .commitment) ≡ transcriptOf S G M E .commitment)
-  commitment-given = commitment-front S G M E R ok _ (ap (λ r. r .commitment) (c .opened .ensures granted .answer) ∙ opening-commitment (given S G M E R ok) R (ok .rounds-long))
+  -- the commitment by value, and then as a table
+  commitment-value : c .opened .result .commitment ≡ atRows S (λ r. commitment S (keyRow S G r) M)
+  commitment-value = ap (λ r. r .commitment) (c .opened .ensures granted .answer) ∙ opening-commitment (given S G M E R ok) R (ok .rounds-long)
 
-  last-given : (S .degree ≤ length (c .opened .result .last)) × (take (S .degree) (c .opened .result .last) ≡ transcriptOf S G M E .last)
+  last-given : (S .degree ≤ length (c .opened .result .last)) × (take (S .degree) (c .opened .result .last) ≡ transcriptsOf S G M E .last)
   last-given = last-front S G M E R ok _ (ap (λ r. r .last) (c .opened .ensures granted .answer) ∙ opening-last (given S G M E R ok) R (ok .rounds-long))
 
-  rounds-given : c .opened .last .1 .1 .1 .1 .0 ≡ roundTable S E G M
+  rounds-given : c .opened .last .1 .1 .1 .1 .0 ≡ roundTables S E G M
   rounds-given = c .opened .ensures granted .rounds-exit ∙ opening-rounds (given S G M E R ok) R (ok .rounds-long)
 
-array-share-prefix-commitment : tie.Need-array-share-prefix-commitment
-array-share-prefix-commitment c = commitment-given (c .before .before .before .before .before .before .before .before .before .before .before) .0
+-- the commitment as a table
+module _ (c : tie.After-item-cells) where
+  abbrev made : tie.After-flat
+  made = c .before .before
+
+  abbrev from : tie.After-opened
+  from = made .before .before .before .before .before .before .before
+
+  abbrev count : ℕ
+  count = c .item-cells .result
+
+  room : count ≤ rowsWidth
+  room = c .item-cells .ensures .1
+
+  commitment-given : take count (made .flat .result) ≡ transcriptsOf (S from) (G from) (M from) (E from) .commitment
+  commitment-given =
+      let allowed = valid-settings (S from) (ok from .settings) in
+      ap (λ n. take n (made .flat .result)) (c .item-cells .ensures .0 allowed) ∙ made .flat .ensures allowed
+      ∙ commitment-flat (S from) (G from) (M from) (E from) (R from) (ok from) _ (commitment-value from)
 
 slice-aggregate-write-tables-3 : tie.Need-slice-aggregate-write-tables-3
-slice-aggregate-write-tables-3 c = sym (length-take-le _ _ (commitment-given (c .before .before .before .before .before .before .before .before .before .before .before .before) .0))
+slice-aggregate-write-tables-3 c =
+    let i = c .before .before .before .before .before in
+    let long : length (made i .flat .result) ≡ rowsWidth = search needs in
+    sym (length-take-le _ _ (omega (arith, room i)))
 
 array-share-prefix-last : tie.Need-array-share-prefix-last
-array-share-prefix-last c = last-given (c .before .before .before .before .before .before .before .before .before .before .before .before .before) .0
+array-share-prefix-last c = last-given (c .before .before .before .before .before .before .before .before .before .before .before .before .before .before .before) .0
 
 slice-aggregate-write-tables-4 : tie.Need-slice-aggregate-write-tables-4
-slice-aggregate-write-tables-4 c = sym (length-take-le _ _ (last-given (c .before .before .before .before .before .before .before .before .before .before .before .before .before .before) .0))
+slice-aggregate-write-tables-4 c = sym (length-take-le _ _ (last-given (c .before .before .before .before .before .before .before .before .before .before .before .before .before .before .before .before) .0))
 
 returns : tie.Need-returns
-unfolding printed transcriptOf
+unfolding printed transcriptsOf
 returns c =
     let w = c .before .before in
-    let o = c .before .before .before .before .before .before .before .before .before .before .before .before .before .before .before .before .before .before in
     let p = c .before .before .before .before .before .before .before .before .before in
-    let u = tablesOf [] [] (take (S o .degree) (o .opened .result .commitment)) (o .opened .last .1 .1 .1 .1 .0) (E o) (take (S o .degree) (o .opened .result .last)) in
+    let i = p .before .before in
+    let o = from i in
+    let u = tablesOf [] [] (take (count i) (made i .flat .result)) (o .opened .last .1 .1 .1 .1 .0) (E o) (take (S o .degree) (o .opened .result .last)) in
     let out = start o .args .out .now in
     let r = w .write-tables .result in
     let out′ = w .write-tables .last .1 .1 .1 .1 .1 .1 .1 .1 .0 in
-    let same : u ≡ printed (transcriptOf (S o) (G o) (M o) (E o)) = λ j. tablesOf [] [] (commitment-given o .1 j) (rounds-given o j) (E o) (last-given o .1 j) in
+    let same : u ≡ printed (transcriptsOf (S o) (G o) (M o) (E o)) = λ j. tablesOf [] [] (commitment-given i j) (rounds-given o j) (E o) (last-given o .1 j) in
     printed-by (S o) (G o) (M o) (E o) (R o) (ok o) u same out r out′
     (subst (λ P. Provided (Writable (S o) P u) (Output (textOf (S o) P u) out r out′)) (p .prints .ensures) (w .write-tables .ensures)
     (honest-writable (S o) (G o) (M o) (E o) (R o) (ok o) u same))
@@ -86,6 +111,6 @@ returns c =
 pub print-opening-spec : {M : Type 1} → statement M
 print-opening-spec =
     tie.close
-    (tie.spec (λ c κs. search needs) (λ c. search needs) (λ c κs. search needs) (λ c. search needs) (λ c. search needs) (λ c. search needs)
-    (λ c. search needs) array-share-prefix-commitment slice-aggregate-write-tables-3 array-share-prefix-last slice-aggregate-write-tables-4 (λ c κs. search needs)
-    (λ c. search needs) (λ c. search needs) (λ c. search needs) (λ c. search needs) returns)
+    (tie.spec (λ c κs. search needs) (λ c κs. search needs) (λ c κs. search needs) (λ c. search needs) (λ c κs. search needs) (λ c. search needs)
+    (λ c. search needs) (λ c. search needs) (λ c. search needs) (λ c. search needs) slice-aggregate-write-tables-3 array-share-prefix-last
+    slice-aggregate-write-tables-4 (λ c κs. search needs) (λ c. search needs) (λ c. search needs) (λ c. search needs) (λ c. search needs) returns)

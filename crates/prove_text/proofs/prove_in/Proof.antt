@@ -11,7 +11,7 @@ use Rattle.protocol.specs.Promises.{Read}
 use Rattle.protocol.specs.Programs.{proveReads}
 use Rattle.text_parts.specs.Parts.{tablesOf, lengthsOf}
 use Rattle.table_reader.specs.Parts.{Lent}
-use Rattle.table_reader.proofs.OnText.{number-is, settings-unrefused, settings-are, tables-are, settings-allowed, entries-passed, still-fitting}
+use Rattle.table_reader.proofs.OnText.{number-is, settings-unrefused, same-lines, settings-are, tables-are, settings-allowed, entries-passed, still-fitting}
 use Rattle.prove_text.proofs.Proves.{prove-refused, prove-done, openable}
 use Rattle.prove_text.proofs.prove_in.Statement.{statement}
 use Rattle.prove_text.proofs.prove_in.Tie as tie
@@ -73,7 +73,8 @@ print-opening-requires c κs =
     (settings-allowed (text r) proveReads (t r) (t′ r) (fit r) (r .read-tables .result) (promise r) (e .if1 .left))
     (still-fitting (text r) proveReads (t r) (t′ r) (fit r) (r .read-tables .result) (promise r) (e .if1 .left) (lengths e))
     (entries-passed (text r) proveReads (t r) (t′ r) (fit r) (r .read-tables .result) (promise r) (e .if1 .left))
-    (start r .pre .1 .0 (settings-unrefused (text r) proveReads (t r) (t′ r) (fit r) (r .read-tables .result) (promise r) (e .if1 .left)) ∙ sym (ap roundCells (same-settings e)))
+    (start r .pre .1 .0 (settings-unrefused (text r) proveReads (t r) (t′ r) (fit r) (r .read-tables .result) (promise r) (e .if1 .left))
+    (same-lines (text r) proveReads (t r) (t′ r) (fit r) (r .read-tables .result) (promise r) (e .if1 .left)) ∙ sym (ap roundCells (same-settings e)))
 
 returns-2 : tie.Need-returns-2
 returns-2 c =

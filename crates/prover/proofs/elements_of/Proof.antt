@@ -30,7 +30,7 @@ use denote.Triple.Spec.{Meets, tripleOf}
 use denote.Triple.Table.{entered}
 use denote.Triple.Walked.{says, Stays, stay-none, walkOf, goes-none, Walks, ends-at, walked, walk-meets}
 use denote.Exit.{yes}
-use Rattle.protocol.specs.Element.{width}
+use Rattle.protocol.specs.Layout.{rowsWidth}
 use Rattle.protocol.specs.declared.Polynomial.{Polynomial}
 use Rattle.protocol.proofs.Polynomial as T
 use Rattle.protocol.proofs.Polynomial.Laws as T′
@@ -62,7 +62,7 @@ module _ {M : Type 1} (𝓤 : URA M) (H : Heap 𝓤) (A : Atoms 𝓤) (W : Given
       suffices ! _ (ends-at 𝓤 H A elements-of.ended stayed (elements-of.clauses 𝓤 H A mem run) W ((tt, tt, tt, (answer, tt), (value ∷ [], tt)), tt) (spelled field) field
       (tt, tt) (tt, tt)) $ says ! (same-twice (answer .elements)) $
       nothing ! $ move ! (1 ∷ 0 ∷ []) $ fjoin ! $
-      owned ! Elements (Is Elements) (array-makes 𝓤 H A W (Array u64 width) (array-makes 𝓤 H A W u64 (uint-makes 𝓤 H A W w64) width) 3) field _ is $
+      owned ! Elements (Is Elements) (array-makes 𝓤 H A W (Array u64 rowsWidth) (array-makes 𝓤 H A W u64 (uint-makes 𝓤 H A W w64) rowsWidth) 3) field _ is $
       move ! (1 ∷ 0 ∷ []) $ nothing ! $ done !
 
   module _ (C : Calls 𝓤 H) (Λ : Loops 𝓤 H) where

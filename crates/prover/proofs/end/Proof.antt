@@ -1,6 +1,6 @@
 use mathlib.Core.Path.{_≡_, sym, _∙_}
 use borrow.Author.Needs.{needs}
-use Rattle.protocol.specs.Element.{width, signedZeros}
+use Rattle.protocol.specs.Element.{signedZeros}
 use Rattle.protocol.specs.Opening.{finalElement}
 use Rattle.protocol.specs.Calls.{endRefusal}
 use Rattle.sizes.proofs.Limits.{degree-most}
@@ -13,7 +13,7 @@ passed : (c : tie.Else1) → let a = c .before .before .args in endRefusal (a .s
 passed c = sym (c .before .end .ensures) ∙ c .if1 .left
 
 returns : tie.Need-returns
-unfolding signedZeros width
+unfolding signedZeros
 returns c = let a = c .before .before .args in end-refused (a .settings) (a .done) (a .message .now) _ (c .before .end .ensures) (c .if1 .taken)
 
 returns-2 : tie.Need-returns-2

@@ -29,7 +29,7 @@ use denote.Triple.Spec.{Meets, tripleOf}
 use denote.Triple.Table.{entered}
 use denote.Triple.Walked.{says, Stays, stay-none, walkOf, goes-none, Walks, ends-at, walked, walk-meets}
 use denote.Exit.{yes}
-use Rattle.protocol.specs.Element.{width}
+use Rattle.protocol.specs.Layout.{rowsWidth}
 use Rattle.protocol.specs.declared.Polynomial.{Polynomial}
 use Rattle.protocol.proofs.Polynomial as T
 use Rattle.protocol.proofs.Polynomial.Laws as T′
@@ -84,7 +84,7 @@ module _ {M : Type 1} (𝓤 : URA M) (H : Heap 𝓤) (A : Atoms 𝓤) (W : Given
 module _ {M : Type 1} (𝓤 : URA M) (H : Heap 𝓤) (A : Atoms 𝓤) (W : Given 𝓤 H A) (mem : Memory → SProp 𝓤) (run : Routine → Fun 𝓤) where
   walks : (C : Calls 𝓤 H) (Λ : Loops 𝓤 H) → Walks 𝓤 H A polynomial-of.ended stayed (WpFn 𝓤 H C Λ code.function) (polynomial-of.clauses 𝓤 H A mem run)
   walks C Λ = walked 𝓤 H A polynomial-of.ended stayed (polynomial-of.clauses 𝓤 H A mem run) (WpFn 𝓤 H C Λ code.function) (λ κs. (uint-vals w32, (array-vals (array-vals (uint-vals w64)), tt)))
-      (λ κs. (uint-tells w32, (array-tells (Array u64 width) (array-vals (uint-vals w64)) (array-tells u64 (uint-vals w64) (uint-tells w64) width) 3, tt)))
+      (λ κs. (uint-tells w32, (array-tells (Array u64 rowsWidth) (array-vals (uint-vals w64)) (array-tells u64 (uint-vals w64) (uint-tells w64) rowsWidth) 3, tt)))
       (λ κs qs bounds a g are. via 𝓤 _ (fst∗ 𝓤 _ (emp 𝓤)) (walk 𝓤 H A W mem run (a .0) (are .0 .1) (a .1 .0) (are .1 .0) C Λ))
 
 meets : {M : Type 1} (𝓤 : URA M) (H : Heap 𝓤) (A : Atoms 𝓤) → Given 𝓤 H A → (mem : Memory → SProp 𝓤) (run : Routine → Fun 𝓤) (𝓣 : Tables 𝓤 H)

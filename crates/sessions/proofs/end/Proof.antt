@@ -27,7 +27,7 @@ returns-2 c =
     let loaded = c .before .before .before .before .before .load in
     let lengths =
     ap (λ b. lent (loaded .result .settings) b 0) (c .before .before .both .ensures)
-    ∙ ap (λ (s : Session). lent (s .settings) (eqb (length (a .last .now)) (s .settings .degree) && leb (getD (a .session .now) 5 0) 1) 0) (loaded .ensures) in
+    ∙ ap (λ (s : Session). lent (s .settings) (eqb (length (a .last .now)) (s .settings .degree) && leb (getD (a .session .now) 6 0) 1) 0) (loaded .ensures) in
     move-refused _ _ (a .session .now) (c .before .before .before .before .before .before .before .if1 .left) _ (c .before .refusal .ensures ∙ lengths) (c .if2 .taken)
 
 returns-3 : tie.Need-returns-3
@@ -48,7 +48,7 @@ returns-3 c =
     let both = at-both .both in
     let lengths =
     ap (λ b. lent (loaded .result .settings) b 0) (both .ensures)
-    ∙ ap (λ (s : Session). lent (s .settings) (eqb (length (a .last .now)) (s .settings .degree) && leb (getD (a .session .now) 5 0) 1) 0) (loaded .ensures) in
+    ∙ ap (λ (s : Session). lent (s .settings) (eqb (length (a .last .now)) (s .settings .degree) && leb (getD (a .session .now) 6 0) 1) 0) (loaded .ensures) in
     let passed = sym (refusal .ensures) ∙ nothing in
     let long = eqb-true _ _ (and-split (sym (both .ensures) ∙ lent-fits (loaded .result .settings) _ passed) .0) in
     let element = at-wholes .wholes .ensures (lent-degree (loaded .result .settings) _ passed) long in

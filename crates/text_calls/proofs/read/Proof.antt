@@ -3,14 +3,14 @@ use borrow.Author.Tests.{not-true, not-false, eqb-true}
 use Rattle.protocol.specs.Settings.{hasLength}
 use Rattle.protocol.proofs.Tests.{and-split}
 use Rattle.text_parts.specs.Parts.{tablesOf}
-use Rattle.text_calls.specs.Texts.{partsNamed, settingsWidth}
+use Rattle.text_calls.specs.Texts.{partsNamed}
 use Rattle.text_calls.proofs.Answers.{read-unfit, read-refused, read-made}
 use borrow.Author.Needs.{needs}
 use Rattle.text_calls.proofs.read.Statement.{statement}
 use Rattle.text_calls.proofs.read.Tie as tie
 
 returns : tie.Need-returns
-unfolding hasLength settingsWidth partsNamed
+unfolding hasLength partsNamed
 returns c =
     let at-if1 = c .before in
     let at-both = at-if1 .before in
@@ -19,7 +19,7 @@ returns c =
     (c .refused .ensures) (sym (at-both .both .ensures) ∙ not-true _ (at-if1 .if1 .taken))
 
 returns-2 : tie.Need-returns-2
-unfolding hasLength settingsWidth partsNamed
+unfolding hasLength partsNamed
 returns-2 c =
     let at-read = c .before .before .before .before .before .before .before .before .before .before .before .before in
     let at-parts-of = at-read .before .before .before .before .before .before .before in
@@ -36,7 +36,7 @@ store-requires c κs =
     eqb-true _ _ (and-split (sym (at-both .both .ensures) ∙ not-false _ (at-if1 .if1 .left)) .0)
 
 returns-3 : tie.Need-returns-3
-unfolding hasLength settingsWidth partsNamed
+unfolding hasLength partsNamed
 returns-3 c =
     let at-store = c .before .before in
     let at-if2 = at-store .before .before in

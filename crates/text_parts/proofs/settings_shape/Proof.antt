@@ -1,4 +1,4 @@
--- `settings_shape`: one item of four places.
+-- `settings_shape`: one item of five places.
 use mathlib.Core.Path.{refl}
 use Rattle.protocol.specs.Basic.{choose}
 use Rattle.protocol.specs.Text.{shape, settingsShape}

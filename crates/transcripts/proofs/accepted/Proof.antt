@@ -1,52 +1,44 @@
-use mathlib.Core.Path.{_≡_, sym, _∙_}
-use Prim.Native.Nat.{_≤_}
+use mathlib.Core.Path.{sym, _∙_}
 use native.Mathlib.Nat.{le-of-eq}
-use native.Mathlib.Omega.{arith}
-use borrow.Author.Tests.{not-true, not-false}
-use lib.ListN.{length}
-use Rattle.protocol.specs.Settings.{settingsRefusal}
+use borrow.Author.Needs.{needs}
 use Rattle.protocol.proofs.Inputs.{settings-valid}
 use Rattle.sizes.proofs.Limits.{degree-most}
-use Rattle.transcripts.proofs.Replaying.{rejects, ends}
-use borrow.Author.Needs.{needs}
+use Rattle.transcripts.proofs.RowParts.{flat-accepts}
 use Rattle.transcripts.proofs.accepted.Statement.{statement}
 use Rattle.transcripts.proofs.accepted.Tie as tie
 
-slice-aggregate-rounds-hold : tie.Need-slice-aggregate-rounds-hold
-slice-aggregate-rounds-hold c = search needs
-
-slice-aggregate-end-holds-for-key : tie.Need-slice-aggregate-end-holds-for-key
-slice-aggregate-end-holds-for-key c = search needs
-
--- the claim has room for an element
-wide : (c : tie.After-rounds-hold) → let S = c .before .before .before .before .before .before .before .args .settings in
-    settingsRefusal S ≡ 0 → S .degree ≤ length (c .before .before .element-at .result)
-wide c e = omega (arith, slice-aggregate-rounds-hold (c .before), degree-most _ (settings-valid _ e))
-
 returns : tie.Need-returns
-returns c = λ g.
-    let w = c .before .before in
-    let a = w .before .before .before .before .before .before .before .args in
-    let held = w .rounds-hold .ensures (record { allowed = g .allowed; rounds-below = g .rounds-below; claim-long = wide w (g .allowed) }) in
-    rejects (a .settings) (a .commitment .now) _ (a .rounds .now) (a .challenges .now) (a .last .now) (w .before .before .element-at .ensures (degree-most _ (settings-valid _ (g .allowed))))
-    (sym (held .every-round) ∙ not-true _ (c .if1 .taken)) (a .key .now)
+returns c = λ g _. absurd (c .if1 .taken (c .before .settings-refusal .ensures ∙ g .allowed))
 
 returns-2 : tie.Need-returns-2
-returns-2 c = λ g.
-    let w = c .before .before .before .before in
-    let a = w .before .before .before .before .before .before .before .args in
-    let held = w .rounds-hold .ensures (record { allowed = g .allowed; rounds-below = g .rounds-below; claim-long = wide w (g .allowed) }) in
-    let holds = not-false _ (c .before .before .if1 .left) in
-    c .end-holds-for-key .ensures (record {
-      of-key = record { allowed = g .allowed; key-below = g .key-below; challenges-long = le-of-eq (sym (g .challenges-long)) };
-      claim-long = omega (arith, slice-aggregate-end-holds-for-key (c .before), degree-most _ (settings-valid _ (g .allowed)));
-      final-long = g .final-long;
-    })
-    ∙ ends (a .settings) (a .commitment .now) _ (a .rounds .now) (a .challenges .now) (a .last .now) (w .before .before .element-at .ensures (degree-most _ (settings-valid _ (g .allowed))))
-    (sym (held .every-round) ∙ holds) (a .key .now) _ (held .claim-is holds)
+returns-2 c = λ g e. absurd (c .if2 .taken (e ∙ sym (c .before .item-cells .ensures .0 (g .allowed))))
+
+returns-3 : tie.Need-returns-3
+returns-3 c = λ g _. absurd (c .if3 .taken (g .key-below .long ∙ sym (c .before .key-cells .ensures (g .allowed))))
+
+returns-4 : tie.Need-returns-4
+returns-4 c = λ g _. absurd (c .if4 .taken (g .rounds-below .long ∙ sym (c .before .round-cells .ensures (g .allowed))))
+
+every-row-accepted-requires : tie.Need-every-row-accepted-requires
+every-row-accepted-requires c κs =
+    let four = c .before in
+    let three = four .before .before in
+    let two = three .before .before in
+    let one = two .before .before in
+    let e = sym (one .before .settings-refusal .ensures) ∙ one .if1 .left in
+    record {
+      allowed = e;
+      wide = degree-most _ (settings-valid _ e);
+      commitment-long = le-of-eq (sym (two .if2 .left ∙ two .before .item-cells .ensures .0 e));
+      key-long = three .if3 .left ∙ three .before .key-cells .ensures e;
+      rounds-long = four .if4 .left ∙ four .before .round-cells .ensures e;
+    }
+
+returns-5 : tie.Need-returns-5
+returns-5 c = λ g _. c .every-row-accepted .ensures g ∙ flat-accepts _ _ _ _ _ _
 
 pub accepted-spec : {M : Type 1} → statement M
 accepted-spec =
     tie.close
-    (tie.spec (λ c κs. search needs) slice-aggregate-rounds-hold (λ c κs. search needs) returns slice-aggregate-end-holds-for-key
-    (λ c κs. search needs) returns-2)
+    (tie.spec (λ c κs. search needs) returns (λ c κs. search needs) returns-2 (λ c κs. search needs) returns-3 (λ c κs. search needs) returns-4
+    (λ c. search needs) every-row-accepted-requires returns-5)

@@ -7,14 +7,14 @@ use Rattle.protocol.specs.declared.Verified.the-variants.{Accepted, Rejected}
 use Rattle.protocol.specs.Basic.{choose}
 use Rattle.protocol.specs.Programs.{transcriptIn, tablesAccepted}
 use Rattle.text_parts.specs.Parts.{tablesOf}
-use Rattle.verify_text.proofs.Checks.{transcript-given}
+use Rattle.verify_text.proofs.Checks.{long, transcript-given}
 use Rattle.verify_text.proofs.answer.Statement.{statement}
 use Rattle.verify_text.proofs.answer.Tie as tie
 
 says : (c : tie.After-accepted) → let a = c .before .before .before .before .before .args in
     c .accepted .result ≡ tablesAccepted (a .settings) (tablesOf (a .key .now) [] (a .commitment .now) (a .rounds .now) (a .challenges .now) (a .last .now))
 unfolding tablesAccepted transcriptIn
-says c = c .accepted .ensures (transcript-given _ _ (c .before .before .before .before .before .pre))
+says c = let g = c .before .before .before .before .before .pre in c .accepted .ensures (transcript-given _ _ g) (long _ _ g .commitment)
 
 returns : tie.Need-returns
 unfolding choose

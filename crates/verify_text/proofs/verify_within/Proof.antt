@@ -1,5 +1,5 @@
 -- `verify_within`: the settings, and then tables of exactly the lengths that the settings ask for.
-use mathlib.Core.Path.{_≡_, refl, sym, ap, subst, _∙_}
+use mathlib.Core.Path.{_≡_, sym, ap, subst, _∙_}
 use mathlib.Core.Bool.{true}
 use mathlib.Core.List.{List, []}
 use Prim.Native.Nat.{ℕ, _≤_}
@@ -8,24 +8,23 @@ use borrow.Author.Needs.{needs}
 use lib.ListN.{length, take}
 use lib.Seq.{length-take-le}
 use Rattle.protocol.specs.declared.Settings.{Settings}
-use Rattle.protocol.specs.Layout.{roundCells}
-use Rattle.protocol.specs.Settings.{settingsRefusal, cells}
+use Rattle.protocol.specs.Layout.{keyCells, roundCells}
+use Rattle.protocol.specs.Settings.{settingsRefusal}
 use Rattle.protocol.specs.Text.{Tables, fits, wanted, linesOf, spotsOf, sameSpots, settingsIn, lookRefusal}
 use Rattle.protocol.specs.Programs.{verifyReads}
-use Rattle.text_parts.specs.Parts.{tablesOf, cellsRoom}
+use Rattle.text_parts.specs.Parts.{tablesOf, cellsRoom, lentCells}
 use Rattle.verify_text.proofs.Checks.{Long}
-use Rattle.verify_text.proofs.Verifies.{verify-stops, lent-fitting}
-use Rattle.table_reader.proofs.Rooms.{rooms, lent-whole}
-use Rattle.table_writer.proofs.FewLines.{lines-few}
+use Rattle.verify_text.proofs.Verifies.{verify-stops, tables-few, lent-fitting}
+use Rattle.table_reader.proofs.Rooms.{rooms}
 use Rattle.text_lines.specs.Header.{Begins}
 use Rattle.text_lines.proofs.Looked.{Begun, begun, begun-begins}
 use Rattle.verify_text.proofs.verify_within.Statement.{statement}
 use Rattle.verify_text.proofs.verify_within.Tie as tie
 
 -- settings that are not refused
-module _ (c : tie.After-round-cells) where
+module _ (c : tie.After-lent-cells2) where
   abbrev left : tie.Else1
-  left = c .before .before .before .before .before
+  left = c .before .before .before .before .before .before .before .before
 
   abbrev seen : tie.After-allowed-settings
   seen = left .before .before .before
@@ -48,23 +47,31 @@ module _ (c : tie.After-round-cells) where
   allowed : settingsRefusal S ≡ 0
   allowed = known .allowed (left .if1 .left)
 
-  -- where the text has a line for each number
-  cells-is : lookRefusal text ≡ 0 → sameSpots (spotsOf (linesOf text)) (wanted (settingsIn (linesOf text)) verifyReads) ≡ true → c .before .lent-cells .result ≡ cells S
-  unfolding verifyReads
-  cells-is e same = c .before .lent-cells .ensures .0 allowed ∙ lent-whole S (subst (λ x. cells x ≤ cellsRoom) (sym (known .settings-are e)) (lines-few text verifyReads e same refl))
+  -- what is lent
+  abbrev key-lent : ℕ
+  key-lent = c .before .before .before .lent-cells .result
 
-  rounds-is : c .round-cells .result ≡ roundCells S
-  rounds-is = c .round-cells .ensures allowed
+  abbrev item-lent : ℕ
+  item-lent = c .before .before .item-cells .result
+
+  abbrev rounds-lent : ℕ
+  rounds-lent = c .lent-cells2 .result
+
+  key-is : key-lent ≡ lentCells (keyCells S)
+  key-is = c .before .before .before .lent-cells .ensures ∙ ap lentCells (c .before .before .before .before .key-cells .ensures allowed)
+
+  rounds-is : rounds-lent ≡ lentCells (roundCells S)
+  rounds-is = c .lent-cells2 .ensures ∙ ap lentCells (c .before .round-cells .ensures allowed)
 
   -- there is room for every table
-  key-room : c .before .lent-cells .result ≤ length (start .args .key .now)
-  key-room = omega (arith, c .before .lent-cells .ensures .1, start .pre .0)
+  key-room : key-lent ≤ length (start .args .key .now)
+  key-room = omega (arith, key-is, start .pre .0)
 
-  commitment-room : S .degree ≤ length (start .args .commitment .now)
-  commitment-room = omega (arith, rooms S allowed .element, start .pre .1)
+  commitment-room : item-lent ≤ length (start .args .commitment .now)
+  commitment-room = omega (arith, c .before .before .item-cells .ensures .1, start .pre .1)
 
-  rounds-room : c .round-cells .result ≤ length (start .args .rounds .now)
-  rounds-room = omega (arith, rounds-is, rooms S allowed .rounds, start .pre .2)
+  rounds-room : rounds-lent ≤ length (start .args .rounds .now)
+  rounds-room = omega (arith, rounds-is, start .pre .2)
 
   challenges-room : S .depth ≤ length (start .args .challenges .now)
   challenges-room = omega (arith, rooms S allowed .challenges, start .pre .3)
@@ -73,18 +80,21 @@ module _ (c : tie.After-round-cells) where
   last-room = omega (arith, rooms S allowed .element, start .pre .4)
 
   abbrev t : Tables
-  t = tablesOf (take (c .before .lent-cells .result) (start .args .key .now)) [] (take (S .degree) (start .args .commitment .now)) (take (c .round-cells .result) (start .args .rounds .now))
+  t = tablesOf (take key-lent (start .args .key .now)) [] (take item-lent (start .args .commitment .now)) (take rounds-lent (start .args .rounds .now))
       (take (S .depth) (start .args .challenges .now)) (take (S .degree) (start .args .last .now))
 
+  -- where the text has a line for each number
   long : lookRefusal text ≡ 0 → sameSpots (spotsOf (linesOf text)) (wanted (settingsIn (linesOf text)) verifyReads) ≡ true → Long S t
-  long e same = record {
-    key = length-take-le _ _ key-room ∙ cells-is e same;
-    message = λ _. 0;
-    commitment = length-take-le _ _ commitment-room;
-    rounds = length-take-le _ _ rounds-room ∙ rounds-is;
-    challenges = length-take-le _ _ challenges-room;
-    last = length-take-le _ _ last-room;
-  }
+  long e same =
+      let few = subst (λ x. (keyCells x ≤ cellsRoom) × (roundCells x ≤ cellsRoom)) (sym (known .settings-are e)) (tables-few text e same) in
+      record {
+        key = length-take-le _ _ key-room ∙ key-is ∙ omega (arith, few .0);
+        message = λ _. 0;
+        commitment = length-take-le _ _ commitment-room ∙ c .before .before .item-cells .ensures .0 allowed;
+        rounds = length-take-le _ _ rounds-room ∙ rounds-is ∙ omega (arith, few .1);
+        challenges = length-take-le _ _ challenges-room;
+        last = length-take-le _ _ last-room;
+      }
 
 returns : tie.Need-returns
 returns c =
@@ -132,7 +142,7 @@ pub verify-within-spec : {M : Type 1} → statement M
 verify-within-spec =
     tie.close
     (tie.spec (λ c κs. search needs) returns (λ c. search needs) (λ c. search needs) (λ c κs. search needs) (λ c κs. search needs)
-    slice-relend-prefix-verify-in slice-aggregate-verify-in (λ c. search needs) (λ c. search needs) slice-relend-prefix-verify-in-3
+    (λ c κs. search needs) (λ c κs. search needs) (λ c κs. search needs) slice-relend-prefix-verify-in slice-aggregate-verify-in (λ c. search needs) (λ c. search needs) slice-relend-prefix-verify-in-3
     slice-aggregate-verify-in-3 slice-relend-prefix-verify-in-4 slice-aggregate-verify-in-4 slice-relend-prefix-verify-in-5
     slice-aggregate-verify-in-5 slice-relend-prefix-verify-in-6 slice-aggregate-verify-in-6 verify-in-requires (λ c. search needs) (λ c. search needs)
     (λ c. search needs) (λ c. search needs) (λ c. search needs) (λ c. search needs) (λ c. search needs))

@@ -1,13 +1,19 @@
 use native.Mathlib.Omega.{arith}
 use borrow.Author.Needs.{needs}
 use Rattle.protocol.specs.Session.{part}
-use Rattle.equations.proofs.Ready.{ready}
+use Rattle.protocol.proofs.Inputs.{settings-valid}
 use Rattle.equations.proofs.by_value.round_holds.Statement.{statement}
 use Rattle.equations.proofs.by_value.round_holds.Tie as tie
 
 returns : tie.Need-returns
+returns c = λ e _. absurd (let ok = settings-valid _ e in omega (arith, ok .rows-most))
+
+returns-2 : tie.Need-returns-2
+returns-2 c = λ e h. absurd (omega (arith, h))
+
+returns-3 : tie.Need-returns-3
 unfolding part
-returns c = λ e. let r = ready _ e in c .round-holds .ensures (record { allowed = e; first = omega arith; second = omega arith; third = omega arith })
+returns-3 c = λ e _. c .rows-hold .ensures e
 
 pub round-holds-spec : {M : Type 1} → statement M
-round-holds-spec = tie.close (tie.spec (λ c. search needs) (λ c. search needs) (λ c κs. search needs) returns)
+round-holds-spec = tie.close (tie.spec (λ c. search needs) returns returns-2 (λ c. search needs) (λ c. search needs) (λ c κs. search needs) returns-3)

@@ -38,48 +38,53 @@ same-is S key C c w sums e = every-ext (S .degree) (λ k l. ap (eqb (c * getD C 
         ∙ tabulate-at (S .degree) (combination S key w) 0 k l
 
 abbrev Inv-loop : tie.InvT-loop
-Inv-loop c key w commitment sums q d factor k₀ k = (k ≤ d) × (every k (same q c commitment sums) ≡ true)
+Inv-loop commitment c key w sums q d factor k₀ k = (k ≤ d) × (every k (same q c commitment sums) ≡ true)
 
 abbrev μ-loop : tie.MeasureT-loop
-μ-loop c key w commitment sums q d factor k₀ k = d - k
+μ-loop commitment c key w sums q d factor k₀ k = d - k
 
 -- places are small
-small : (c : tie.In-loop Inv-loop μ-loop) → c .before .loop .k < width
-small c = let g = c .before .before .before .before .before .before in omega (arith, degree-most (g .args .settings) (settings-valid (g .args .settings) (g .pre .0 .allowed)))
+module _ (c : tie.In-loop Inv-loop μ-loop) where
+  abbrev s : tie.Start Inv-loop μ-loop
+  s = c .before .before .before .before .before .before .before
+
+  small : c .before .loop .k < width
+  small = omega (arith, degree-most (s .args .settings) (settings-valid (s .args .settings) (s .pre .0 .allowed)))
 
 prepared-requires : tie.Need-prepared-requires Inv-loop μ-loop
-prepared-requires c κs = let g = c .before .before .before in (modulus-given (g .args .settings) (g .args .key .now) (g .args .w .now) (g .pre .0), omega (arith, g .fits .c .fits))
+prepared-requires c κs =
+    let g = c .before .before .before .before in (modulus-given (g .args .settings) (g .args .key .now) (g .args .w .now) (g .pre .0), omega (arith, g .fits .c .fits))
 
 loop-holds : tie.Need-loop-holds Inv-loop μ-loop
 loop-holds c = (omega arith, every-none _)
 
-array-read-scaled-is : tie.Need-array-read-scaled-is Inv-loop μ-loop
-array-read-scaled-is c = small c
+shared-slice-read-scaled-is : tie.Need-shared-slice-read-scaled-is Inv-loop μ-loop
+shared-slice-read-scaled-is c = omega (arith, s (c .before) .pre .1)
 
-array-read-scaled-is-2 : tie.Need-array-read-scaled-is-2 Inv-loop μ-loop
-array-read-scaled-is-2 c = small c
+array-read-scaled-is : tie.Need-array-read-scaled-is Inv-loop μ-loop
+array-read-scaled-is c = small (c .before)
 
 scaled-is-requires : tie.Need-scaled-is-requires Inv-loop μ-loop
-scaled-is-requires c κs = (c .before .before .prepared .ensures, c .before .before .before .before .before .before .pre .1 (c .before .loop .k) (omega arith))
+scaled-is-requires c κs = (c .before .before .before .prepared .ensures, s (c .before) .pre .2 (c .before .before .loop .k) (omega arith))
 
 returns : tie.Need-returns Inv-loop μ-loop
 returns c =
-    let g = c .before .before .before .before .before .before .before .before in let a = g .args in let l = c .before .before .before .loop in
-    every-fails (same (a .settings .modulus) (a .c) (a .t2) (c .before .before .before .before .before .before .combination .result)) (a .settings .degree) (l .k) (omega arith)
+    let i = c .before .before .before in let a = s i .args in let sums = i .before .before .before .before .combination in
+    every-fails (same (a .settings .modulus) (a .c) (a .commitment .now) (sums .result)) (a .settings .degree) (i .before .loop .k) (omega arith)
     (sym (c .before .scaled-is .ensures) ∙ not-true _ (c .if1 .taken))
-    ∙ same-is (a .settings) (a .key .now) (a .t2) (a .c) (a .w .now) _ (c .before .before .before .before .before .before .combination .ensures)
+    ∙ same-is (a .settings) (a .key .now) (a .commitment .now) (a .c) (a .w .now) _ (sums .ensures)
 
 loop-again : tie.Need-loop-again Inv-loop μ-loop
-loop-again c = let l = c .before .before .before .loop in (omega arith, every-goes-on _ (l .k) (l .inv .1) (sym (c .before .scaled-is .ensures) ∙ not-false _ (c .if1 .left)))
+loop-again c = let l = c .before .before .before .before .loop in (omega arith, every-goes-on _ (l .k) (l .inv .1) (sym (c .before .scaled-is .ensures) ∙ not-false _ (c .if1 .left)))
 
 returns-2 : tie.Need-returns-2 Inv-loop μ-loop
 returns-2 c =
-    let g = c .before .before .before .before .before .before in let a = g .args in let l = c .before .loop in
-    every-ends (same (a .settings .modulus) (a .c) (a .t2) (c .before .before .before .before .combination .result)) (a .settings .degree) (l .k) (l .inv .1) (omega arith)
-    ∙ same-is (a .settings) (a .key .now) (a .t2) (a .c) (a .w .now) _ (c .before .before .before .before .combination .ensures)
+    let a = c .before .before .before .before .before .before .before .args in let l = c .before .loop in let sums = c .before .before .before .before .combination in
+    every-ends (same (a .settings .modulus) (a .c) (a .commitment .now) (sums .result)) (a .settings .degree) (l .k) (l .inv .1) (omega arith)
+    ∙ same-is (a .settings) (a .key .now) (a .commitment .now) (a .c) (a .w .now) _ (sums .ensures)
 
 pub opens-spec : {M : Type 1} → statement M
 opens-spec =
     tie.close
-    (tie.spec Inv-loop μ-loop (λ c κs. search needs) (λ c. search needs) prepared-requires loop-holds (λ c. search needs) array-read-scaled-is
-    (λ c. search needs) array-read-scaled-is-2 scaled-is-requires returns (λ c. search needs) (λ c. search needs) loop-again returns-2)
+    (tie.spec Inv-loop μ-loop (λ c κs. search needs) (λ c. search needs) prepared-requires loop-holds (λ c. search needs) shared-slice-read-scaled-is
+    (λ c. search needs) array-read-scaled-is scaled-is-requires returns (λ c. search needs) (λ c. search needs) loop-again returns-2)

@@ -53,7 +53,7 @@ verifier-calls t = (check-round-reads.Asked, check-round-reads.Learnt, prover-tu
 
 prover-turn-returns : (t : ℕ) → prover-turn-lts.Need-returns (prover-calls t) (prover-turn-at t) prover-turn.Post
 prover-turn-returns t c = let a = c .before .before .before .before .before .before .args in
-    prover-stops (a .settings) (a .challenges .now) (a .state) (a .claim .now) (a .key .now) (a .message .now) (a .rounds .now) (omega arith)
+    prover-stops (a .settings) (a .challenges .now) (a .state) (a .claims .now) (a .key .now) (a .message .now) (a .rounds .now) (omega arith)
 
 prover-turn-cast-entry : (t : ℕ) → prover-turn-lts.Need-cast-entry (prover-calls t) (prover-turn-at t) prover-turn.Post
 prover-turn-cast-entry t c = search needs
@@ -85,7 +85,7 @@ prover-turn-returns-2 t c =
     let proved = rest .before .before .before .before .before .before .before .before .before .before in
     let read = proved .before .before .before .before .before in
     let a = read .before .before .before .before .before .before .before .args in
-    prover-goes (a .settings) (a .challenges .now) (a .state) (a .claim .now) (a .key .now) (a .message .now) (a .rounds .now) (omega arith) _ _ _ _ _ _ _ _ _
+    prover-goes (a .settings) (a .challenges .now) (a .state) (a .claims .now) (a .key .now) (a .message .now) (a .rounds .now) (omega arith) _ _ _ _ _ _ _ _ _
     (read .entry .ensures) (proved .prove-round .ensures) (rest .verifier-turn .ensures)
 
 verifier-turn-check-round-requires : (t : ℕ) → verifier-turn-lts.Need-check-round-requires (verifier-calls t) (verifier-turn-at t) verifier-turn.Post
@@ -111,7 +111,7 @@ verifier-turn-returns t c =
     let rest = c .before .before .before .before .before .before .before in
     let checked = rest .before .before .before .before .before .before .before in
     let a = checked .before .before .before .before .before .before .before .args in
-    verifier-goes (a .settings) (a .challenges .now) (a .state) (a .claim .now) (a .key .now) (a .message .now) (a .rounds .now) (omega arith) (a .e) _ _ _ _ _ _ _
+    verifier-goes (a .settings) (a .challenges .now) (a .state) (a .claims .now) (a .key .now) (a .message .now) (a .rounds .now) (omega arith) (a .e) _ _ _ _ _ _ _
     (checked .check-round .ensures) (rest .prover-turn .ensures)
 
 pub +prover-turn+verifier-turn-spec : {M : Type 1} → statement M

@@ -9,7 +9,7 @@ returns c =
     let folded = first .before .before .before .before .before .before .before in
     let rest = folded .before .before .before .before .before in
     let a = rest .before .before .before .before .before .before .before .args in
-    prover-moves (a .settings) (a .t) (a .e) (a .claim .now) (a .key .now) (a .message .now) (a .rounds .now) _ _ _ _
+    prover-moves (a .settings) (a .t) (a .e) (a .claims .now) (a .key .now) (a .message .now) (a .rounds .now) _ _ _ _
     (rest .write-rest .ensures) (folded .fold-tables .ensures) (first .write-first .ensures .0) (first .write-first .ensures .1)
 
 pub prove-round-spec : {M : Type 1} → statement M

@@ -12,9 +12,9 @@ returns c =
     let c6 = c .before in
     record {
       is = sym (first-known _ _ (c6 .settings-refusal .ensures)
-          ∙ first-tested _ _ (c .refuse .ensures) (λ z. rw (c6 .before .cells .ensures (sym (c6 .settings-refusal .ensures) ∙ z)))
+          ∙ first-tested _ _ (c .refuse .ensures) (λ z. let ok = sym (c6 .settings-refusal .ensures) ∙ z in rw (c6 .before .before .key-cells .ensures ok, c6 .before .cells .ensures ok))
           ∙ first-only _);
     }
 
 pub lengths-spec : {M : Type 1} → statement M
-lengths-spec = tie.close (tie.spec (λ c κs. search needs) (λ c κs. search needs) (λ c κs. search needs) returns)
+lengths-spec = tie.close (tie.spec (λ c κs. search needs) (λ c κs. search needs) (λ c κs. search needs) (λ c κs. search needs) returns)

@@ -13,7 +13,7 @@ use Rattle.sessions.proofs.records.challenges.Statement.{statement}
 use Rattle.sessions.proofs.records.challenges.Tie as tie
 
 abbrev Inv-loop : tie.InvT-loop
-Inv-loop t e₀ k₀ e k = (k ≤ 8) × (recordWidth ≤ length t) × (e ≡ filled (λ (j : ℕ). capped (getD t (6 + j) 0)) k (zeros 8))
+Inv-loop t e₀ k₀ e k = (k ≤ 8) × (recordWidth ≤ length t) × (e ≡ filled (λ (j : ℕ). capped (getD t (7 + j) 0)) k (zeros 8))
 
 abbrev μ-loop : tie.MeasureT-loop
 μ-loop t e₀ k₀ e k = 8 - k

@@ -1,7 +1,7 @@
 use mathlib.Core.Path.{ap, _∙_}
 use native.Mathlib.Omega.{arith}
 use lib.ListN.{getD}
-use Rattle.protocol.specs.Element.{width}
+use Rattle.protocol.specs.Layout.{rowsWidth}
 use Rattle.residues.specs.Lists.{spliced}
 use Rattle.sessions.proofs.Stored.{stays, parts-stored}
 use borrow.Author.Needs.{needs}
@@ -17,8 +17,8 @@ first-long c = search needs
 challenges-long : tie.Need-slice-aggregate-store-2
 challenges-long c = search needs
 
-claim-long : tie.Need-slice-aggregate-store-3
-claim-long c = search needs
+claims-long : tie.Need-slice-aggregate-store-3
+claims-long c = search needs
 
 returns-2 : tie.Need-returns-2
 returns-2 c =
@@ -29,12 +29,12 @@ returns-2 c =
     let taken = first .before .before .before .before .before .before in
     let r = taken .before .before .before .args .r in
     let head-stored = first .store .ensures (record { there = omega (arith, first-long (first .before .before)); room = omega arith }) in
-    third .store3 .ensures (record { there = omega (arith, claim-long (third .before .before)); room = omega (arith, first .store .kept .1 .1 .1 .0, second .store2 .kept .1 .1 .1 .0) })
-    ∙ ap (spliced (λ k. getD (r .claim) k 0) 14 width)
+    third .store3 .ensures (record { there = omega (arith, claims-long (third .before .before)); room = omega (arith, first .store .kept .1 .1 .1 .0, second .store2 .kept .1 .1 .1 .0) })
+    ∙ ap (spliced (λ k. getD (r .claims) k 0) 15 rowsWidth)
     (second .store2 .ensures (record { there = omega (arith, challenges-long (second .before .before)); room = omega (arith, first .store .kept .1 .1 .1 .0) }))
-    ∙ (λ i. spliced (λ k. getD (r .claim) k 0) 14 width (spliced (λ k. getD (wide i) k 0) 6 8 (head-stored i)))
+    ∙ (λ i. spliced (λ k. getD (r .claims) k 0) 15 rowsWidth (spliced (λ k. getD (wide i) k 0) 7 8 (head-stored i)))
     ∙ parts-stored r _ _ (taken .head .ensures) (omega arith)
 
 pub store-spec : {M : Type 1} → statement M
 store-spec =
-    tie.close (tie.spec returns (λ c κs. search needs) (λ c κs. search needs) first-long (λ c κs. search needs) challenges-long (λ c κs. search needs) claim-long (λ c κs. search needs) (λ c. search needs) returns-2)
+    tie.close (tie.spec returns (λ c κs. search needs) (λ c κs. search needs) first-long (λ c κs. search needs) challenges-long (λ c κs. search needs) claims-long (λ c κs. search needs) (λ c. search needs) returns-2)

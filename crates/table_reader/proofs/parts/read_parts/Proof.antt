@@ -12,6 +12,7 @@ use lib.Seq.{length-take-le, take-append-add, take-append-le}
 use lib.IntN.{ℤ}
 use Rattle.protocol.specs.declared.Settings.{Settings}
 use Rattle.protocol.specs.declared.Parts.{Parts}
+use Rattle.protocol.specs.Settings.{settingsRefusal}
 use Rattle.protocol.specs.Text.{Spot, shapeSize, spots}
 use Rattle.protocol.proofs.Tests.{every-at}
 use Rattle.protocol.specs.Lines.{readValues}
@@ -25,13 +26,13 @@ use Rattle.text_parts.proofs.Cells.{spots-count}
 use Rattle.table_reader.proofs.Cells.{taken-missed, taken-found, took-missed, took-done, took-place}
 use Rattle.text_lines.proofs.Follow.{values-room}
 use Rattle.table_reader.proofs.Wants.{partCount, spotsFrom, spots-from-next, spots-from-end, spots-from-one, values-then, values-never}
-use Rattle.text_parts.proofs.Shallow.{part-of}
+use Rattle.text_parts.proofs.Counted.{part-of}
 use Rattle.table_reader.proofs.parts.read_parts.Statement.{statement}
 use Rattle.table_reader.proofs.parts.read_parts.Tie as tie
 
 -- what is asked of the settings and of the place that is read from
 abbrev Asked : Settings → ℕ → List ℕ → Type 0
-Asked S from text = (S .depth ≤ 8) × (from ≤ length text)
+Asked S from text = (settingsRefusal S ≡ 0) × (from ≤ length text)
 
 abbrev Inv-loop : tie.InvT-loop
 Inv-loop settings parts text from values₀ at₀ start₀ part₀ values at start part =
@@ -106,7 +107,7 @@ module _ (c : tie.After-size-of Inv-loop μ-loop) where
 
   module _ (g : Asked S from text) where
     next-spots : spotsFrom S P now-part ≡ spots-here ++ spots-next
-    next-spots = spots-from-next S P now-part (omega arith) ∙ ap (λ b. spots b ++ spots-next) (sym (c .before .shape-of .ensures ∙ part-of S P now-part (g .0)))
+    next-spots = spots-from-next S P now-part (omega arith) ∙ ap (λ b. spots b ++ spots-next) (sym (c .before .shape-of .ensures ∙ part-of S P (g .0) now-part))
 
     counts : length (spotsFrom S P now-part) ≡ size + length spots-next
     counts = ap length next-spots ∙ length-append spots-here spots-next ∙ ap (λ n. n + length spots-next) (sym size-is)

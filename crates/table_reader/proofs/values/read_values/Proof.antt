@@ -11,7 +11,6 @@ use Rattle.protocol.specs.declared.Parts.{Parts}
 use Rattle.protocol.specs.declared.Loaded.{Loaded}
 use Rattle.protocol.specs.Text.{linesOf, settingsIn, lookRefusal, lookAnswer}
 use Rattle.protocol.proofs.Tests.{and-intro}
-use Rattle.protocol.proofs.Inputs.{settings-valid}
 use Rattle.protocol.proofs.Refusals.{and-fails-left, and-fails-right}
 use Rattle.text_parts.specs.Parts.{lengthsFit}
 use Rattle.text_lines.specs.Header.{Begins}
@@ -19,7 +18,7 @@ use Rattle.table_reader.specs.Stored.{inOrder}
 use Rattle.text_lines.proofs.Looks.{loaded-granted}
 use Rattle.text_lines.proofs.Looked.{header-settings, look-number}
 use Rattle.table_reader.proofs.Gathers.{gathered-look, gathered-refused, gathered-granted}
-use Rattle.text_parts.proofs.Shallow.{lengths-shallow}
+use Rattle.text_parts.proofs.Counted.{lengths-counted}
 use Rattle.table_reader.proofs.values.read_values.Statement.{statement}
 use Rattle.table_reader.proofs.values.read_values.Tie as tie
 
@@ -74,7 +73,7 @@ module _ (c : tie.After-fits2) where
   fitted : Begins (text followed) (S followed) (start followed .args .from) → c .fits2 .result ≡ fitting followed
   fitted b =
       c .fits2 .ensures
-      ∙ lengths-shallow (S followed) (parts followed) (lengths followed) (settings-valid _ (b .allowed) .depth-most)
+      ∙ lengths-counted (S followed) (parts followed) (b .allowed) (lengths followed)
       ∙ ap (λ x. lengthsFit x (parts followed) (lengths followed)) (sym (settings-are followed reached b))
 
 returns : tie.Need-returns

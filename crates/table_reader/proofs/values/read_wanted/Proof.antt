@@ -8,8 +8,8 @@ use borrow.Author.Needs.{needs}
 use borrow.Author.Tests.{not-true, not-false}
 use lib.ListN.{length}
 use Rattle.protocol.specs.declared.Settings.{Settings}
+use Rattle.protocol.specs.Settings.{settingsRefusal}
 use Rattle.protocol.specs.Text.{textLimit}
-use Rattle.protocol.proofs.Inputs.{settings-valid}
 use Rattle.text_lines.specs.declared.header.Header.{Header}
 use Rattle.text_lines.specs.Header.{Begins}
 use Rattle.text_lines.proofs.Looks.{header-within}
@@ -20,8 +20,8 @@ use Rattle.table_reader.proofs.values.read_wanted.Tie as tie
 abbrev header : Settings → ℕ → Header
 header S next = record { found = true; settings = S; next = next }
 
-asked : (text : List ℕ) (S : Settings) (from : ℕ) → Begins text S from → (S .depth ≤ 8) × (from ≤ length text)
-asked text S from b = (settings-valid S (b .allowed) .depth-most, header-within text (header S from) (b .header))
+asked : (text : List ℕ) (S : Settings) (from : ℕ) → Begins text S from → (settingsRefusal S ≡ 0) × (from ≤ length text)
+asked text S from b = (b .allowed, header-within text (header S from) (b .header))
 
 -- a text whose length is allowed
 short : (c : tie.Else1) → length (c .before .before .args .text .now) ≤ textLimit

@@ -9,10 +9,9 @@ use Rattle.protocol.specs.declared.Parts.{Parts}
 use Rattle.protocol.specs.Settings.{settingsRefusal, allBelow, allWithin, exponent, exponents}
 use Rattle.protocol.specs.Basic.{first, unless}
 use Rattle.protocol.specs.Text.{Tables, narrowLimit, fits, entriesRefusal}
-use Rattle.protocol.proofs.Inputs.{settings-valid}
 use Rattle.protocol.proofs.Refusals.{first-stops, first-known, first-tested, tested-before, first-only}
 use Rattle.text_parts.specs.Parts.{tablesOf, partOf, lengthsAre}
-use Rattle.text_parts.proofs.Shallow.{lengths-shallow}
+use Rattle.text_parts.proofs.Counted.{lengths-counted}
 use Rattle.text_parts.proofs.Exactly.{lengths-fit}
 use Rattle.table_writer.specs.Tables.{tablesRefusal}
 use Rattle.table_writer.proofs.refusal.tables_refusal.Statement.{statement}
@@ -27,7 +26,7 @@ last-flat (suc x) rest = refl
 allowed : (c : tie.After-settings-refusal) → c .settings-refusal .result ≡ 0 → settingsRefusal (c .before .before .before .before .before .before .args .settings) ≡ 0
 allowed c z = sym (c .settings-refusal .ensures) ∙ z
 
--- refusals 3 to 7
+-- refusals 3 to 7, and 16
 module _ (c : tie.After-refuse) where
   abbrev c₆ : tie.After-settings-refusal
   c₆ = c .before .before
@@ -48,7 +47,7 @@ module _ (c : tie.After-refuse) where
   known rest =
       first-known _ _ (c₆ .settings-refusal .ensures)
       ∙ first-tested _ _ (c .refuse .ensures) (λ z. c .before .fits2 .ensures
-      ∙ ap (lengthsAre (partOf S P)) (c₆ .before .lengths-of .ensures) ∙ lengths-shallow S P _ (settings-valid _ (allowed c₆ z) .depth-most) ∙ lengths-fit S P t)
+      ∙ ap (lengthsAre (partOf S P)) (c₆ .before .lengths-of .ensures) ∙ lengths-counted S P (allowed c₆ z) _ ∙ lengths-fit S P t)
 
 returns : tie.Need-returns
 unfolding tablesRefusal

@@ -24,10 +24,11 @@ returns : tie.Need-returns
 unfolding settingsText settingsShape shape choose shapeSize names bytes
 returns c =
     let p = c .before .before in
-    let k = p .before .before .before .before .before .before .before .before .before .before in
+    let k = p .before .before .before .before .before .before .before .before .before .before .before in
     let a = k .before .before .before .before .args in
     let b = p .before .before .before in
-    let v₄ = b .before in
+    let v₅ = b .before in
+    let v₄ = v₅ .before in
     let v₃ = v₄ .before in
     let v₂ = v₃ .before in
     let v₁ = v₂ .before in
@@ -35,12 +36,13 @@ returns c =
     let depth = through-bits w64 _ (v₂ .value-of2 .ok) ∙ v₂ .value-of2 .ensures in
     let modulus = through-bits w64 _ (v₃ .residue-value .ok) ∙ v₃ .residue-value .ensures in
     let bound = through-bits w64 _ (v₄ .value-of3 .ok) ∙ v₄ .value-of3 .ensures in
+    let rows = through-bits w64 _ (v₅ .value-of4 .ok) ∙ v₅ .value-of4 .ensures in
     subst (λ l. Held (names ++ l) (p .put-part .result) (p .put-part .last .1 .1 .1 .0))
-    (λ j. partText (b .settings-shape .ensures j) (degree j ∷ depth j ∷ modulus j ∷ bound j ∷ []))
+    (λ j. partText (b .settings-shape .ensures j) (degree j ∷ depth j ∷ modulus j ∷ bound j ∷ rows j ∷ []))
     (p .put-part .ensures (sym (ap shapeSize (b .settings-shape .ensures))) names (subst (Held names 22) (sym (k .copy .ensures)) (named (a .out .now))))
 
 pub put-settings-spec : {M : Type 1} → statement M
 put-settings-spec =
     tie.close
     (tie.spec (λ c. search needs) (λ c κs. search needs) (λ c κs. search needs) (λ c κs. search needs) (λ c κs. search needs) (λ c κs. search needs)
-    (λ c κs. search needs) (λ c. search needs) (λ c κs. search needs) (λ c. search needs) returns)
+    (λ c κs. search needs) (λ c κs. search needs) (λ c. search needs) (λ c κs. search needs) (λ c. search needs) returns)

@@ -1,4 +1,4 @@
--- `no_settings`: four zeros.
+-- `no_settings`: five zeros.
 use mathlib.Core.Path.{refl}
 use Rattle.protocol.specs.Text.{noSettings}
 use Rattle.text_lines.proofs.header.no_settings.Statement.{statement}

@@ -1,4 +1,4 @@
--- `look`: the length, the first lines, and then refusals 2 to 6 of what stands behind them.
+-- `look`: the length, the first lines, and then refusals 2 to 6 and 16 of what stands behind them.
 use mathlib.Core.Path.{_≡_, sym, ap, _∙_}
 use mathlib.Core.List.{List}
 use Prim.Native.Nat.{ℕ, _≤_}

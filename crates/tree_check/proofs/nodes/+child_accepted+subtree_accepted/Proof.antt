@@ -15,7 +15,7 @@ use Rattle.sizes.proofs.Limits.{degree-most}
 use Rattle.folds.specs.Folds.{foldDown}
 use Rattle.protocol.proofs.Places as Places
 use Rattle.protocol.proofs.Places.{AtNode}
-use Rattle.tree_check.specs.Nodes.{Round, Reduced, Read}
+use Rattle.tree_check.specs.Nodes.{Round, Reduced, Read, treeRow}
 use Rattle.tree_check.proofs.Checks as Checks
 use Rattle.tree_check.proofs.Descent as Descent
 use Rattle.tree_check.proofs.Stages as Stages
@@ -214,13 +214,13 @@ child-accepted-returns t c = λ read.
     let half = half-is t g U (folded-long t b) in
     let folded = folded-is t b (read .key-below) in
     let pq : 0 < a .settings .modulus = omega (arith, settings-valid (a .settings) (allowed t g) .modulus-least) in
-    let down = Descent.child-read (a .settings) (a .rounds .now) (a .challenges .now) (a .leaves .now) (a .h) (a .k) (a .first) (space t g) (place t g) (higher t g)
+    let down = Descent.child-read (a .settings) (treeRow (a .settings) (a .rounds .now)) (a .challenges .now) (a .leaves .now) (a .h) (a .k) (a .first) (space t g) (place t g) (higher t g)
     (a .j) (length U / 2) (a .ws .now) U (λ _. space t g) half folded pq in
     let f = c .before .before .subtree-accepted in (
       f .ensures (record { rounds-below = read .rounds-below; key-below = down })
-          ∙ Descent.child-tests (a .settings) (a .rounds .now) (a .challenges .now) (a .leaves .now) (a .h) (a .k) (a .first) (space t g) (place t g) (higher t g) (a .j)
+          ∙ Descent.child-tests (a .settings) (treeRow (a .settings) (a .rounds .now)) (a .challenges .now) (a .leaves .now) (a .h) (a .k) (a .first) (space t g) (place t g) (higher t g) (a .j)
           (length U / 2) (a .ws .now) U (λ _. space t g) half folded _ (b .before .before .before .before .before .before .claim-to .ensures (read .rounds-below)),
-      Descent.key-kept (a .settings) (a .rounds .now) (a .challenges .now) (a .leaves .now) (a .h) (a .k) (a .first) (space t g) (place t g) (higher t g) (a .j)
+      Descent.key-kept (a .settings) (treeRow (a .settings) (a .rounds .now)) (a .challenges .now) (a .leaves .now) (a .h) (a .k) (a .first) (space t g) (place t g) (higher t g) (a .j)
           (length U / 2) (a .ws .now) U (λ _. space t g) half folded (f .last .1 .1 .1 .1 .1 .1 .1 .1 .0) (f .kept .1 .1 .1 .1 .1 .1 .1 .1 .0) (omega arith),
     )
 
@@ -250,7 +250,7 @@ module _ (t : ℕ) (g : subtree-accepted-lts.Start (subtree-calls t) (subtree-ac
   Reading = Read (g .args .settings) (g .args .h) (g .args .rounds .now) (g .args .ws .now)
 
   abbrev Stage : ℕ → List ℕ → Type 0
-  Stage = Stages.Stage (g .args .settings) (g .args .rounds .now) (g .args .challenges .now) (g .args .leaves .now) (g .args .h) (g .args .k) (g .args .first) (g .args .claim .now) (g .args .ws .now)
+  Stage = Stages.Stage (g .args .settings) (treeRow (g .args .settings) (g .args .rounds .now)) (g .args .challenges .now) (g .args .leaves .now) (g .args .h) (g .args .k) (g .args .first) (g .args .claim .now) (g .args .ws .now)
 
   stays : {n : ℕ} → n ≡ length (g .args .ws .now) → AtNode (g .args .settings) (g .args .h) (g .args .k) (g .args .first) n
   stays long = subst (AtNode (g .args .settings) (g .args .h) (g .args .k) (g .args .first)) (sym long) position
@@ -268,7 +268,7 @@ module _ (t : ℕ) where
   stage-0 c =
       let g = c .before .before .before .before .before .before .before in
       let a = g .args in
-      Stages.stage-first (a .settings) (a .rounds .now) (a .challenges .now) (a .leaves .now) (a .h) (a .k) (a .first) (a .claim .now) (a .ws .now) (position t g)
+      Stages.stage-first (a .settings) (treeRow (a .settings) (a .rounds .now)) (a .challenges .now) (a .leaves .now) (a .h) (a .k) (a .first) (a .claim .now) (a .ws .now) (position t g)
       (upper (c .before .before)) (sym (c .before .node-holds .ensures) ∙ not-false _ (c .if2 .left))
 
   long-1 : (c : subtree-accepted-lts.Else3 (subtree-calls t) (subtree-accepted-at t) subtree-accepted.Post) →
@@ -287,7 +287,7 @@ module _ (t : ℕ) where
   stage-1 c read =
       let a = c .before .before .before .before .before .before .before .before .before .before .before .before .args in
       let f = c .before .before .before .child-accepted in
-      Stages.stage-next (a .settings) (a .rounds .now) (a .challenges .now) (a .leaves .now) (a .h) (a .k) (a .first) (a .claim .now) (a .ws .now) 0
+      Stages.stage-next (a .settings) (treeRow (a .settings) (a .rounds .now)) (a .challenges .now) (a .leaves .now) (a .h) (a .k) (a .first) (a .claim .now) (a .ws .now) 0
       (stage-0 (c .before .before .before .before .before)) (f .ensures read .0) (omega arith) (not-false _ (c .if3 .left)) _ (f .ensures read .1) (f .kept .1 .1 .1 .1 .1 .1 .1 .1 .0)
 
   stage-2 : (c : subtree-accepted-lts.Else4 (subtree-calls t) (subtree-accepted-at t) subtree-accepted.Post) →
@@ -299,7 +299,7 @@ module _ (t : ℕ) where
       let f = c .before .before .before .child-accepted2 in
       let one = stage-1 (c .before .before .before .before .before) read in
       let same = again t (c .before .before .before .before .before .before .before .before .before .before .before .before .before .before .before .before .before) one read in
-      Stages.stage-next (a .settings) (a .rounds .now) (a .challenges .now) (a .leaves .now) (a .h) (a .k) (a .first) (a .claim .now) (a .ws .now) 1 one
+      Stages.stage-next (a .settings) (treeRow (a .settings) (a .rounds .now)) (a .challenges .now) (a .leaves .now) (a .h) (a .k) (a .first) (a .claim .now) (a .ws .now) 1 one
       (f .ensures same .0) (omega arith) (not-false _ (c .if4 .left)) _ (f .ensures same .1) (f .kept .1 .1 .1 .1 .1 .1 .1 .1 .0)
 
 subtree-accepted-cast-d : (t : ℕ) → subtree-accepted-lts.Need-cast-d (subtree-calls t) (subtree-accepted-at t) subtree-accepted.Post
@@ -342,7 +342,7 @@ subtree-accepted-returns : (t : ℕ) → subtree-accepted-lts.Need-returns (subt
 subtree-accepted-returns t c = λ read.
     let g = c .before .before .before .before .before .before .before .before .before in
     let a = g .args in
-    c .leaf-accepted .ensures (Descent.leaf-below (a .settings) (a .rounds .now) (a .challenges .now) (a .leaves .now) (a .h) (a .k) (a .first) _ (position t g) (omega arith) (a .ws .now) (read .key-below)) ∙ Descent.leaf-tests (a .settings) (a .rounds .now) (a .challenges .now) (a .leaves .now) (a .h) (a .k) (a .first) _ (position t g)
+    c .leaf-accepted .ensures (Descent.leaf-below (a .settings) (treeRow (a .settings) (a .rounds .now)) (a .challenges .now) (a .leaves .now) (a .h) (a .k) (a .first) _ (position t g) (omega arith) (a .ws .now) (read .key-below)) ∙ Descent.leaf-tests (a .settings) (treeRow (a .settings) (a .rounds .now)) (a .challenges .now) (a .leaves .now) (a .h) (a .k) (a .first) _ (position t g)
     (omega arith) (a .claim .now) (a .ws .now)
 
 subtree-accepted-node-holds-requires : (t : ℕ) → subtree-accepted-lts.Need-node-holds-requires (subtree-calls t) (subtree-accepted-at t) subtree-accepted.Post
@@ -353,7 +353,7 @@ subtree-accepted-returns-2 : (t : ℕ) → subtree-accepted-lts.Need-returns-2 (
 subtree-accepted-returns-2 t c = λ read.
     let g = c .before .before .before .before .before .before .before in
     let a = g .args in
-    Stages.node-stops (a .settings) (a .rounds .now) (a .challenges .now) (a .leaves .now) (a .h) (a .k) (a .first) (a .claim .now) (a .ws .now) (position t g)
+    Stages.node-stops (a .settings) (treeRow (a .settings) (a .rounds .now)) (a .challenges .now) (a .leaves .now) (a .h) (a .k) (a .first) (a .claim .now) (a .ws .now) (position t g)
     (upper t (c .before .before)) (sym (c .before .node-holds .ensures) ∙ not-true _ (c .if2 .taken))
 
 subtree-accepted-child-accepted-requires :
@@ -367,7 +367,7 @@ subtree-accepted-same-length-2 t c = search needs
 subtree-accepted-returns-3 : (t : ℕ) → subtree-accepted-lts.Need-returns-3 (subtree-calls t) (subtree-accepted-at t) subtree-accepted.Post
 subtree-accepted-returns-3 t c = λ read.
     let a = c .before .before .before .before .before .before .before .before .before .before .before .before .args in
-    Stages.stage-stops (a .settings) (a .rounds .now) (a .challenges .now) (a .leaves .now) (a .h) (a .k) (a .first) (a .claim .now) (a .ws .now) 0
+    Stages.stage-stops (a .settings) (treeRow (a .settings) (a .rounds .now)) (a .challenges .now) (a .leaves .now) (a .h) (a .k) (a .first) (a .claim .now) (a .ws .now) 0
     (stage-0 t (c .before .before .before .before .before)) (c .before .before .before .child-accepted .ensures read .0) (omega arith) (not-true _ (c .if3 .taken))
 
 subtree-accepted-child-accepted-requires-2 :
@@ -382,7 +382,7 @@ subtree-accepted-returns-4 : (t : ℕ) → subtree-accepted-lts.Need-returns-4 (
 subtree-accepted-returns-4 t c = λ read.
     let a = c .before .before .before .before .before .before .before .before .before .before .before .before .before .before .before .before .before .args in
     let one = stage-1 t (c .before .before .before .before .before) read in
-    Stages.stage-stops (a .settings) (a .rounds .now) (a .challenges .now) (a .leaves .now) (a .h) (a .k) (a .first) (a .claim .now) (a .ws .now) 1 one
+    Stages.stage-stops (a .settings) (treeRow (a .settings) (a .rounds .now)) (a .challenges .now) (a .leaves .now) (a .h) (a .k) (a .first) (a .claim .now) (a .ws .now) 1 one
     (c .before .before .before .child-accepted2 .ensures
     (again t (c .before .before .before .before .before .before .before .before .before .before .before .before .before .before .before .before .before) one read) .0)
     (omega arith) (not-true _ (c .if4 .taken))
@@ -405,7 +405,7 @@ subtree-accepted-returns-5 : (t : ℕ) → subtree-accepted-lts.Need-returns-5 (
 subtree-accepted-returns-5 t c = λ read.
     let a = c .before .before .before .before .before .before .before .before .before .before .before .before .before .before .before .before .before .before .before .before .before .args in
     let two = stage-2 t (c .before .before .before .before) read in
-    Stages.stage-last (a .settings) (a .rounds .now) (a .challenges .now) (a .leaves .now) (a .h) (a .k) (a .first) (a .claim .now) (a .ws .now) two
+    Stages.stage-last (a .settings) (treeRow (a .settings) (a .rounds .now)) (a .challenges .now) (a .leaves .now) (a .h) (a .k) (a .first) (a .claim .now) (a .ws .now) two
     (c .before .before .child-accepted3 .ensures
     (again t (c .before .before .before .before .before .before .before .before .before .before .before .before .before .before .before .before .before .before
     .before .before .before) two read) .0)

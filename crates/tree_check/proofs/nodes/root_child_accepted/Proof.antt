@@ -9,7 +9,7 @@ use Rattle.protocol.specs.Tree.{child, challenge, nodes}
 use Rattle.protocol.proofs.Inputs.{settings-valid}
 use Rattle.protocol.proofs.Places.{AtNode, at-root, at-child}
 use Rattle.sizes.proofs.Limits.{degree-most}
-use Rattle.tree_check.specs.Nodes.{RootFolded}
+use Rattle.tree_check.specs.Nodes.{RootFolded, treeRow}
 use Rattle.tree_check.proofs.Checks.{round-inside}
 use Rattle.tree_check.proofs.Root.{root-child}
 use borrow.Author.Needs.{needs}
@@ -67,7 +67,7 @@ returns c = λ z.
     let turn = b .before .before .before .before .before .before .before .before .challenge in
     let folded : RootFolded S (challenge E 0 (a .j)) (key b) (ws b) = subst (λ e. RootFolded S e (key b) (ws b)) (turn .ensures) (b .before .before .before .before .before .before .fold-root .ensures (z .1)) in
     c .before .before .subtree-accepted .ensures (record { rounds-below = z .0; key-below = folded .below })
-    ∙ root-child S (a .rounds .now) E (a .leaves .now) (a .j) (key b) (ws b) _ (g .pre .1 .up) folded (b .before .before .before .before .before .before .before .before .before .before .claim-to .ensures (z .0))
+    ∙ root-child S (treeRow S (a .rounds .now)) E (a .leaves .now) (a .j) (key b) (ws b) _ (g .pre .1 .up) folded (b .before .before .before .before .before .before .before .before .before .before .claim-to .ensures (z .0))
 
 pub root-child-accepted-spec : {M : Type 1} → statement M
 root-child-accepted-spec =

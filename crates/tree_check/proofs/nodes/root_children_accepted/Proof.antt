@@ -7,14 +7,14 @@ use lib.ListN.{length}
 use borrow.Author.Tests.{not-true, not-false}
 use Rattle.protocol.specs.Basic.{every}
 use Rattle.ranges.proofs.Scan.{every-none, every-goes-on, every-fails, every-ends}
-use Rattle.tree_check.specs.Nodes.{RootFolding, Reduced, childAccepted}
+use Rattle.tree_check.specs.Nodes.{RootFolding, Reduced, treeRow, childAccepted}
 use borrow.Author.Needs.{needs}
 use Rattle.tree_check.proofs.nodes.root_children_accepted.Statement.{statement}
 use Rattle.tree_check.proofs.nodes.root_children_accepted.Tie as tie
 
 abbrev Inv-loop : tie.InvT-loop
 Inv-loop settings key rounds challenges leaves ws₀ j₀ ws j =
-    (j ≤ 3) × (Reduced settings rounds × Reduced settings key → every j (childAccepted settings rounds challenges leaves (settings .depth) 0 key) ≡ true) × (length ws ≡ length ws₀)
+    (j ≤ 3) × (Reduced settings rounds × Reduced settings key → every j (childAccepted settings (treeRow settings rounds) challenges leaves (settings .depth) 0 key) ≡ true) × (length ws ≡ length ws₀)
 
 abbrev μ-loop : tie.MeasureT-loop
 μ-loop settings key rounds challenges leaves ws₀ j₀ ws j = 3 - j

@@ -18,28 +18,30 @@ returns c =
     let a = c .before .before .before .before .args in
     end-answered (a .self .0) (a .t2) (a .key .now) _ (end-refused (a .self .0) (a .t2) (a .key .now) _ (c .before .end .ensures) (c .if1 .taken))
 
-slice-aggregate-end-holds-for-key : tie.Need-slice-aggregate-end-holds-for-key
-slice-aggregate-end-holds-for-key c = search needs
+slice-aggregate-ends-hold : tie.Need-slice-aggregate-ends-hold
+slice-aggregate-ends-hold c = search needs
 
-slice-aggregate-end-holds-for-key-2 : tie.Need-slice-aggregate-end-holds-for-key-2
-slice-aggregate-end-holds-for-key-2 c = search needs
+slice-aggregate-ends-hold-2 : tie.Need-slice-aggregate-ends-hold-2
+slice-aggregate-ends-hold-2 c = search needs
 
-slice-aggregate-end-holds-for-key-3 : tie.Need-slice-aggregate-end-holds-for-key-3
-slice-aggregate-end-holds-for-key-3 c = search needs
+slice-aggregate-ends-hold-3 : tie.Need-slice-aggregate-ends-hold-3
+slice-aggregate-ends-hold-3 c = search needs
 
 -- the verdict is that of the last equation and the bound
-met : (c : tie.After-end-holds-for-key) → let a = c .before .before .before .before .before .before .before .before .before .before .before .before .args in
-    c .end-holds-for-key .result ≡ sessionEndHolds (a .self .0) (a .t2) (a .key .now)
+met : (c : tie.After-ends-hold) → let a = c .before .before .before .before .before .before .before .before .before .before .before .before .args in
+    c .ends-hold .result ≡ sessionEndHolds (a .self .0) (a .t2) (a .key .now)
 unfolding sessionEndHolds
 met c =
     let one = c .before .before .before .before .before .before .before .before in
     let g = end-given _ (one .before .before .before .before .args .t2) _ (passed one) in
     let ok = settings-valid _ (g .allowed) in
     let most = degree-most _ ok in
-    c .end-holds-for-key .ensures (record {
-      of-key = record { allowed = g .allowed; key-below = g .key-below; challenges-long = omega (arith, ok .depth-most, slice-aggregate-end-holds-for-key-3 (c .before)) };
-      claim-long = omega (arith, most, slice-aggregate-end-holds-for-key (c .before .before .before));
-      final-long = omega (arith, most, slice-aggregate-end-holds-for-key-2 (c .before .before));
+    c .ends-hold .ensures (record {
+      allowed = g .allowed;
+      key-below = g .key-below;
+      challenges-long = omega (arith, ok .depth-most, slice-aggregate-ends-hold-3 (c .before));
+      claims-long = omega (arith, slice-aggregate-ends-hold (c .before .before .before));
+      final-long = omega (arith, most, slice-aggregate-ends-hold-2 (c .before .before));
     })
 
 returns-2 : tie.Need-returns-2
@@ -61,5 +63,5 @@ returns-3 c =
 pub end-spec : {M : Type 1} → statement M
 end-spec =
     tie.close
-    (tie.spec (λ c κs. search needs) returns (λ c κs. search needs) slice-aggregate-end-holds-for-key slice-aggregate-end-holds-for-key-2
-    slice-aggregate-end-holds-for-key-3 (λ c κs. search needs) returns-2 returns-3)
+    (tie.spec (λ c κs. search needs) returns (λ c κs. search needs) slice-aggregate-ends-hold slice-aggregate-ends-hold-2
+    slice-aggregate-ends-hold-3 (λ c κs. search needs) returns-2 returns-3)

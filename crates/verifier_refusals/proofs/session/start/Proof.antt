@@ -2,19 +2,16 @@
 use mathlib.Core.Path.{_≡_, sym, _∙_}
 use borrow.Author.Needs.{needs}
 use Rattle.protocol.specs.Session.{startRefusal}
-use Rattle.protocol.specs.Settings.{residueElement}
-use Rattle.protocol.proofs.Inputs.{settings-valid}
 use Rattle.protocol.proofs.Refusals.{first-known, first-tested, first-only}
-use Rattle.sizes.proofs.Limits.{degree-most}
 use Rattle.verifier_refusals.proofs.session.start.Statement.{statement}
 use Rattle.verifier_refusals.proofs.session.start.Tie as tie
 
 returns : tie.Need-returns
-unfolding startRefusal residueElement
+unfolding startRefusal
 returns c =
-    let c6 = c .before .before .before in
-    sym (first-known _ _ (c6 .settings-refusal .ensures)
-    ∙ first-tested _ _ (c .refuse .ensures) (λ z. c .before .element-below .ensures (degree-most _ (settings-valid _ (sym (c6 .settings-refusal .ensures) ∙ z))))
+    let c16 = c .before .before .before in
+    sym (first-known _ _ (c16 .settings-refusal .ensures)
+    ∙ first-tested _ _ (c .refuse .ensures) (λ z. c .before .rows-below .ensures (sym (c16 .settings-refusal .ensures) ∙ z))
     ∙ first-only _)
 
 pub start-spec : {M : Type 1} → statement M

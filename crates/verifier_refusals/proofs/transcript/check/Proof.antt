@@ -4,31 +4,29 @@ use mathlib.Core.Path.{refl, sym, _∙_}
 use borrow.Author.Needs.{needs}
 use Rattle.protocol.specs.Basic.{Tested}
 use Rattle.protocol.specs.Calls.{checkRefusal}
-use Rattle.protocol.specs.Layout.{roundCells}
-use Rattle.protocol.specs.Settings.{settingsRefusal, cells, hasLength, allBelow, residueElement, exponent, exponents}
-use Rattle.protocol.proofs.Inputs.{settings-valid}
+use Rattle.protocol.specs.Layout.{keyCells, roundCells}
+use Rattle.protocol.specs.Settings.{settingsRefusal, hasLength, allBelow, exponent, exponents}
 use Rattle.protocol.proofs.Refusals.{first-stops, first-tested, tested-before, first-only, lengths-tested}
-use Rattle.sizes.proofs.Limits.{degree-most}
 use Rattle.verifier_refusals.proofs.transcript.check.Statement.{statement}
 use Rattle.verifier_refusals.proofs.transcript.check.Tie as tie
 
 -- 3 to 7
 lengths : (c : tie.After-refuse) → let a = c .before .before .before .before .before .before .before .before .args in
     Tested (settingsRefusal (a .settings)) 7
-    (hasLength (cells (a .settings)) (a .key .now) && hasLength (roundCells (a .settings)) (a .rounds .now)
+    (hasLength (keyCells (a .settings)) (a .key .now) && hasLength (roundCells (a .settings)) (a .rounds .now)
     && hasLength (a .settings .depth) (a .challenges .now))
     (c .refuse .result)
 unfolding hasLength
 lengths c =
     let rounds = c .before .before in
-    lengths-tested _ (rounds .before .before .settings-refusal .ensures) (c .refuse .ensures) (λ z. rw (rounds .before .cells .ensures z, rounds .round-cells .ensures z))
+    lengths-tested _ (rounds .before .before .settings-refusal .ensures) (c .refuse .ensures) (λ z. rw (rounds .before .key-cells .ensures z, rounds .round-cells .ensures z))
 
 returns : tie.Need-returns
 unfolding checkRefusal
 returns c = sym (first-tested _ _ (lengths (c .before)) (λ z. refl) ∙ first-stops _ _ (c .if1 .taken))
 
 returns-2 : tie.Need-returns-2
-unfolding checkRefusal allBelow residueElement exponents exponent
+unfolding checkRefusal allBelow exponents exponent
 returns-2 c =
     let c8 = c .before .before .before in
     let no = c8 .before .before .before .before .before in
@@ -36,7 +34,7 @@ returns-2 c =
     sym (first-tested _ _ (lengths (no .before)) (λ z. refl)
     ∙ first-tested _ _ (c8 .refuse2 .ensures) (λ z. rw (
       c8 .before .before .before .before .all-below-wide .ensures,
-      c8 .before .before .element-below .ensures (degree-most _ (settings-valid _ ok)),
+      c8 .before .before .rows-below .ensures ok,
       c8 .before .all-below-wide2 .ensures,
     ))
     ∙ first-tested _ _ (c .refuse3 .ensures) (λ z. rw (c .before .all-below .ensures, c .before .before .exponent-count .ensures ok))
