@@ -34,6 +34,7 @@ SMALL, PLAIN = ', L = 8, q = 12289', 'verified, plain product'
 GOALS += [('commit, d = 64' + SMALL, 'verified, q = 12347', 0.65), ('open, d = 64' + SMALL, 'verified, q = 12347', 0.6),
           ('commit, d = 128' + SMALL, PLAIN, 0.42), ('open, d = 128' + SMALL, PLAIN, 0.35)]
 GOALS += [('%s, d = 64, L = 8%s, four rows' % (call, q), 'verified, one row', 3.6) for q in ('', ', q = 12289') for call in ('commit', 'open')]
+GOALS += [('%s a key, 1024 numbers, four rows' % call, 'verified, one row', 1.05) for call in ('write', 'read')]
 
 
 def origin(names):

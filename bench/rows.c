@@ -1,6 +1,6 @@
 /* Four rows of a key beside one: `rows TURNS` prints rows of the table of times, whose ratio is four rows / one row. The message is the same, and so is the first row of
  * the key, so that its element of the commitment and of each round must be the same too. A commitment and a whole opening, with modulus 2^31 - 1 and with 12289, where
- * products go through the transform. */
+ * products go through the transform. Then a key of as many numbers as a text, of four rows and of one, equally long. */
 #include "../include/wovenrock.h"
 #include <stdbool.h>
 #include <stdio.h>
@@ -91,6 +91,35 @@ static bool same(void) {
   return good;
 }
 
+/* A key of NUMBERS numbers as a text: one row of 16 elements, or four of 4. The lines behind the settings are the same. */
+#define NUMBERS ((size_t)16 * DEGREE)
+static uint8_t text_of_one[WOVENROCK_TEXT], text_of_four[WOVENROCK_TEXT];
+static size_t length_of_one, length_of_four;
+
+static double write_with(uint32_t rows, uint32_t depth, uint8_t *text, size_t *length) {
+  double start = now();
+  uint32_t number = wovenrock_write(DEGREE, depth, modulus, BOUND, rows, WOVENROCK_KEY, key, NUMBERS, message, 0, folded_key, 0, folded_key, 0, challenges, 0, message, 0,
+                                    text, WOVENROCK_TEXT, length);
+  double time = now() - start;
+  need(number == 0, "a text is not written");
+  return time;
+}
+
+static double read_of(const uint8_t *text, size_t length) {
+  uint64_t settings[WOVENROCK_SETTINGS];
+  double start = now();
+  uint32_t number = wovenrock_read(WOVENROCK_KEY, text, length, settings, WOVENROCK_SETTINGS, folded_key, NUMBERS, folded_message, 0, folded_key, 0, folded_key, 0, challenges, 0,
+                                   folded_message, 0);
+  double time = now() - start;
+  need(number == 0 && memcmp(folded_key, key, NUMBERS * sizeof *key) == 0, "a text is not read as it was written");
+  return time;
+}
+
+static double write_one(void) { return write_with(1, 4, text_of_one, &length_of_one); }
+static double write_four(void) { return write_with(ROWS, 2, text_of_four, &length_of_four); }
+static double read_one(void) { return read_of(text_of_one, length_of_one); }
+static double read_four(void) { return read_of(text_of_four, length_of_four); }
+
 static int order(const void *a, const void *b) {
   double x = *(const double *)a, y = *(const double *)b;
   return (x > y) - (x < y);
@@ -98,10 +127,8 @@ static int order(const void *a, const void *b) {
 
 static int turns;
 
-static void row(const char *call, const char *q, double (*four)(void), double (*one)(void)) {
+static void row(const char *name, double (*four)(void), double (*one)(void)) {
   double *a = malloc(turns * sizeof *a), *b = malloc(turns * sizeof *b);
-  char name[64];
-  snprintf(name, sizeof name, "%s, d = %d, L = %d%s, four rows", call, DEGREE, DEPTH, q);
   for (int i = 0; i < turns; i++) {
     a[i] = four();
     b[i] = one();
@@ -111,6 +138,12 @@ static void row(const char *call, const char *q, double (*four)(void), double (*
   printf("%-44s %-24s %11.1f %11.1f %7.3f\n", name, "verified, one row", a[turns / 2], b[turns / 2], a[turns / 2] / b[turns / 2]);
   free(a);
   free(b);
+}
+
+static void row_at(const char *call, const char *q, double (*four)(void), double (*one)(void)) {
+  char name[64];
+  snprintf(name, sizeof name, "%s, d = %d, L = %d%s, four rows", call, DEGREE, DEPTH, q);
+  row(name, four, one);
 }
 
 int main(int count, char **words) {
@@ -125,8 +158,11 @@ int main(int count, char **words) {
   } moduli[] = {{2147483647u, ""}, {12289, ", q = 12289"}};
   for (size_t i = 0; i < sizeof moduli / sizeof *moduli; i++) {
     fill(moduli[i].q);
-    row("commit", moduli[i].name, commit_four, commit_one);
-    row("open", moduli[i].name, open_four, open_one);
+    row_at("commit", moduli[i].name, commit_four, commit_one);
+    row_at("open", moduli[i].name, open_four, open_one);
     need(same(), "the first of four rows is not as one row alone");
   }
+  row("write a key, 1024 numbers, four rows", write_four, write_one);
+  row("read a key, 1024 numbers, four rows", read_four, read_one);
+  need(length_of_one == length_of_four, "the two texts are not equally long");
 }
