@@ -11,7 +11,8 @@ ghost use lib.ListN.{length};
 ghost use Rattle.protocol.specs.Layout.{width};
 ghost use Rattle.cases.specs.Counted.{Counted};
 
-// Room for a key or a message, which have 2^8 elements at most, for the rounds, challenges or leaves of a tree, and for a vector.
+// Room for a message or a row of a key, which have 2^8 elements at most, for the rounds, challenges or leaves of a tree, and for a vector. A key of several
+// rows is a case only where it fits.
 const ROOM: usize = 256 * WIDTH;
 
 pub fn residue_room() -> [u64; ROOM]

@@ -1,6 +1,6 @@
 -- The largest sizes that allowed settings have: at depth 8 and degree `width`.
 --
---   elementsMost        2^8 elements: a key or a message
+--   elementsMost        2^8 elements: a row of a key, or a message
 --   cellsMost           their numbers, in one row
 --   leavesMost          3^8
 --   nodesMost           (3^8 − 1)/2 branching nodes
