@@ -2,6 +2,7 @@
 --
 --   round-inside, row-inside   an item is of a round and of a row
 --   claim-read, claim-is       what the code reads of its round, and that it gives the claim
+--   claims-few                 there is room for all claims
 --   item-whole                 an item by its round and row
 --   written-item               what is written for an item
 --   all-written                every item is every round and row
@@ -40,7 +41,7 @@ use Rattle.equations.proofs.Polynomials.{part}
 use Rattle.transcripts.specs.Given.{whole, RoundsGiven}
 use Rattle.transcripts.proofs.Replaying as replayed
 use Rattle.transcripts.proofs.RowParts.{row-long, row-below}
-use Rattle.claim_tables.specs.Claims.{claimed, itemClaim, Given}
+use Rattle.claim_tables.specs.Claims.{claimed, itemClaim, claimsRoom, Given}
 
 module _ (S : Settings) (allowed : settingsRefusal S ≡ 0) where
   open Settings S using (degree as d, depth as L, rows as rows)
@@ -50,6 +51,10 @@ module _ (S : Settings) (allowed : settingsRefusal S ≡ 0) where
 
   pub some-places : 0 < d
   some-places = omega (arith, degree-least S (settings-valid S allowed))
+
+  -- there is room for all
+  pub claims-few : claimCells S ≤ claimsRoom
+  claims-few = let v = settings-valid S allowed in Nat.mul-le-mul (Nat.mul-le-mul (v .rows-most) (v .depth-most)) (degree-most S v)
 
   module _ (i : ℕ) (h : i < claimItems S) where
     pub round-inside : i / rows < L

@@ -2,6 +2,7 @@
 // Every function is safe for every input; what it gives is said under a condition that the refusals ensure.
 use protocol::ROWS;
 use protocol::Residue;
+use protocol::SLOTS;
 use protocol::Settings;
 use protocol::WIDTH;
 use ranges::tests::DEPTH_MOST;
@@ -16,6 +17,9 @@ ghost use Rattle.protocol.specs.Nodes.{Alike};
 ghost use Rattle.protocol.specs.Settings.{settingsRefusal};
 ghost use Rattle.protocol.specs.WrittenClaims.{claimTable, claimWritten, claimsWritten};
 ghost use Rattle.claim_tables.specs.Claims.{claimed, itemClaim, itemsMost, Given};
+
+// The room for the claims of every transcript: `claimsRoom` of the definitions.
+pub const ROOM: usize = ROWS * SLOTS * WIDTH;
 
 // How many claims there are.
 fn items(settings: Settings) -> u32
