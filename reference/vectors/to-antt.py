@@ -62,12 +62,13 @@ def record():
 
 
 def tables():
-    key, message, commitment, rounds, challenges, last = (table() for _ in range(6))
-    return '(sixTables %s %s %s %s %s %s)' % (naturals(key), integers(message), naturals(commitment), naturals(rounds), naturals(challenges), integers(last))
+    key, message, commitment, rounds, challenges, last, claims = (table() for _ in range(7))
+    residues = [naturals(l) for l in (commitment, rounds, challenges)]
+    return '(sevenTables %s %s %s %s %s)' % (naturals(key), integers(message), ' '.join(residues), integers(last), naturals(claims))
 
 
 def parts():
-    return '(sixParts %s)' % ' '.join('true' if p else 'false' for p in take())
+    return '(sevenParts %s)' % ' '.join('true' if p else 'false' for p in take())
 
 
 def verdict(v):
@@ -156,7 +157,7 @@ use Rattle.protocol.specs.Rows.{Cause}
 use Rattle.protocol.proofs.Examples.{Example, agree, agreeing}
 use Rattle.protocol.proofs.Compute.{computed}
 use Rattle.protocol.proofs.ComputeText.{computedText}
-use Rattle.drawn.proofs.Rows.{rowsUnfolded, set, session, byRow, fullSigned, sixTables, sixParts, commitRow, roundRow, foldRow, endRow, openingRow}
+use Rattle.drawn.proofs.Rows.{rowsUnfolded, set, session, byRow, fullSigned, sevenTables, sevenParts, commitRow, roundRow, foldRow, endRow, openingRow}
 use Rattle.drawn.proofs.Rows.{startRow, moveRow, closeRow, checkRow, judgeRow, extractRow, readRow, writeRow, proveRow, verifyRow}''')
 for name, examples in groups.items():
     print('''
