@@ -391,7 +391,7 @@ pub extern "C" fn wovenrock_read(
     rounds: &mut [u64],
     challenges: &mut [u32],
     last: &mut [i32],
-    claims: &mut [Residue],
+    claims: &mut [u64],
 ) -> u32
     ensures { λ r. ⌜ ReadStored parts (now (text .entry)) (now (settings .entry))
         (tablesOf (now (key .entry)) (now (message .entry)) (now (commitment .entry)) (now (rounds .entry)) (now (challenges .entry)) (now (last .entry)) (now (claims .entry))) r
@@ -426,7 +426,7 @@ pub extern "C" fn wovenrock_write(
     rounds: &[u64],
     challenges: &[u32],
     last: &[i32],
-    claims: &[Residue],
+    claims: &[u64],
     out: &mut [u8],
     count: &mut usize,
 ) -> u32
