@@ -115,8 +115,8 @@ pub fn written(
     ensures { λ r. ⌜ Provided (Given settings (now (rounds .entry))) (Provided (length (now (claims .entry)) ≡ claimCells settings)
         (r ≡ claimsWritten settings (claimed (now (rounds .entry)) (now (challenges .entry))) (now (claims .entry)))) ⌝ }
 {
-    let count = items(settings);
-    for i in 0..count {
+    let total = items(settings);
+    for i in 0..total {
         if !item_written(settings, i, rounds, challenges, claims) {
             return false;
         }

@@ -50,10 +50,9 @@ fn answer(
     ensures { λ r. ⌜ r ≡ choose (tablesAccepted settings
         (tablesOf (now (key .entry)) [] (now (commitment .entry)) (now (rounds .entry)) (now (challenges .entry)) (now (last .entry)) (now (claims .entry)))) Verified.Accepted Verified.Rejected ⌝ }
 {
-    if !transcripts::accepted(settings, commitment, last, key, rounds, challenges) {
-        return Verified::Rejected;
-    }
-    if !claim_tables::written(settings, rounds, challenges, claims) {
+    let accepted = transcripts::accepted(settings, commitment, last, key, rounds, challenges);
+    let written = claim_tables::written(settings, rounds, challenges, claims);
+    if !(accepted & written) {
         return Verified::Rejected;
     }
     Verified::Accepted

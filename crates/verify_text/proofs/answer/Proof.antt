@@ -1,6 +1,6 @@
 -- `answer`: the core of the check, which tests nothing again, and then the comparison of the claims.
 use mathlib.Core.Path.{_≡_, sym, ap, _∙_}
-use mathlib.Core.Bool.{true, false, _&&_}
+use mathlib.Core.Bool.{_&&_}
 use mathlib.Core.List.{[]}
 use borrow.Author.Needs.{needs}
 use borrow.Author.Tests.{not-true, not-false}
@@ -25,31 +25,21 @@ unfolding transcriptIn
 accepted-is c = let g = c .before .before .before .before .before .before .pre in c .accepted .ensures (transcript-given _ _ g) (long _ _ g .commitment)
 
 -- a claim reads nothing but rounds and challenges
-written-is : (c : tie.After-written) → let s = c .before .before .before .before .before .before .before .before in c .written .result ≡ claimsWritten (s .args .settings) (transcriptIn (t s)) (t s .claims)
+written-is : (c : tie.After-written) → let s = c .before .before .before .before .before .before .before in c .written .result ≡ claimsWritten (s .args .settings) (transcriptIn (t s)) (t s .claims)
 unfolding claimsWritten claimWritten claimOf claimAfter element rowOf transcriptIn
-written-is c = let g = c .before .before .before .before .before .before .before .before .pre in c .written .ensures (claims-given _ _ g) (long _ _ g .claims)
+written-is c = let g = c .before .before .before .before .before .before .before .pre in c .written .ensures (claims-given _ _ g) (long _ _ g .claims)
+
+both : (c : tie.After-written) → let s = c .before .before .before .before .before .before .before in tablesAccepted (s .args .settings) (t s) ≡ c .before .accepted .result && c .written .result
+unfolding tablesAccepted
+both c = sym (λ j. accepted-is (c .before) j && written-is c j)
 
 returns : tie.Need-returns
-unfolding choose tablesAccepted
-returns c =
-    let s = c .before .before .before .before .before .before .before in
-    sym (ap (λ b. choose (b && claimsWritten (s .args .settings) (transcriptIn (t s)) (t s .claims)) Accepted Rejected) (sym (accepted-is (c .before)) ∙ not-true _ (c .if1 .taken)))
-
--- both tests, where the first passes
-both : (c : tie.After-written) → let s = c .before .before .before .before .before .before .before .before in tablesAccepted (s .args .settings) (t s) ≡ c .written .result
-unfolding tablesAccepted
-both c =
-    let s = c .before .before .before .before .before .before .before .before in
-    ap (λ b. b && claimsWritten (s .args .settings) (transcriptIn (t s)) (t s .claims)) (sym (accepted-is (c .before .before)) ∙ not-false _ (c .before .if1 .left))
-    ∙ sym (written-is c)
+unfolding choose
+returns c = sym (ap (λ b. choose b Accepted Rejected) (both (c .before) ∙ not-true _ (c .if1 .taken)))
 
 returns-2 : tie.Need-returns-2
 unfolding choose
-returns-2 c = sym (ap (λ b. choose b Accepted Rejected) (both (c .before) ∙ not-true _ (c .if2 .taken)))
-
-returns-3 : tie.Need-returns-3
-unfolding choose
-returns-3 c = sym (ap (λ b. choose b Accepted Rejected) (both (c .before) ∙ not-false _ (c .if2 .left)))
+returns-2 c = sym (ap (λ b. choose b Accepted Rejected) (both (c .before) ∙ not-false _ (c .if1 .left)))
 
 pub answer-spec : {M : Type 1} → statement M
-answer-spec = tie.close (tie.spec (λ c κs. search needs) returns (λ c κs. search needs) returns-2 returns-3)
+answer-spec = tie.close (tie.spec (λ c κs. search needs) (λ c κs. search needs) returns returns-2)
