@@ -85,7 +85,7 @@ pub fn report(text: &[u8]) -> Result<String, Box<dyn std::error::Error>> {
 
     // Nor is a claim taken that is not the one of its round.
     let mut other = claims.clone();
-    for claim in other.first_mut() {
+    if let Some(claim) = other.first_mut() {
         *claim = (*claim + 1) % modulus;
     }
     let tables = Tables {

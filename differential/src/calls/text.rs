@@ -229,7 +229,7 @@ fn listing(rows: u32, q: Residue, parts: Parts) -> TextInput {
     }
     let settings = Settings::new(2, 1, q, 1).with_rows(rows);
     let c2 = [(7 + q) / 2, 1];
-    let claim = [(1 + q) / 2, 6];
+    let claim = [q / 2 + 1, 6];
     let (key, commitment, rounds, claims) = if rows == 1 {
         let rounds = [&[4, 1, 6, 0][..], &c2].concat();
         (vec![3, 5, 7, 2], vec![15, 4], rounds, claim.to_vec())
@@ -548,11 +548,16 @@ const CLAIM_NO_RESIDUE: &str = "a claim that is no residue";
 const CLAIM_ROUNDS: [&str; 2] = ["wrong claim of round 1", "wrong claim of a later round"];
 const CLAIM_ROWS: [&str; 2] = ["wrong claim of row 0", "wrong claim of a later row"];
 
-/// A text without its lines of part 7, and whether it had any.
-fn without_claims(text: &[u8]) -> (Vec<u8>, bool) {
+/// A text without its lines of a part, and whether it had any.
+fn without(text: &[u8], part: &[u8]) -> (Vec<u8>, bool) {
     let lines = text.split_inclusive(|&b| b == b'\n');
-    let (claims, rest): (Vec<_>, Vec<_>) = lines.partition(|line| line.starts_with(b"7 "));
-    (rest.concat(), !claims.is_empty())
+    let (of_part, rest): (Vec<_>, Vec<_>) = lines.partition(|line| line.starts_with(part));
+    (rest.concat(), !of_part.is_empty())
+}
+
+/// A text without its claims, and whether it had any.
+fn without_claims(text: &[u8]) -> (Vec<u8>, bool) {
+    without(text, b"7 ")
 }
 
 impl Read {
@@ -1016,15 +1021,25 @@ impl Verify {
     }
 }
 
+/// Whether a text is of the parts that `prove` prints.
+fn is_listing(text: &[u8]) -> bool {
+    tables_of(text, PROVE_PRINTS).is_some()
+}
+
 /// Settings and tables of a text of all that `verify` reads but the claims,
 /// where such a text is not refused.
 fn transcript(text: &[u8]) -> Option<(Settings, Tables)> {
+    let mut parts = VERIFY_READS;
+    parts[6] = false;
+    tables_of(text, parts)
+}
+
+/// Settings and tables of a text of these parts, where it is not refused.
+fn tables_of(text: &[u8], parts: Parts) -> Option<(Settings, Tables)> {
     let looked = plain::look(text);
     if looked.number != 0 {
         return None;
     }
-    let mut parts = VERIFY_READS;
-    parts[6] = false;
     let mut t = Tables::to_be_written(refusals::part_lengths(looked.settings, parts));
     let answer = fast::read(
         parts,
@@ -1111,8 +1126,11 @@ impl Call for Verify {
     }
 
     fn other_remarks(&self, number: u32) -> Vec<String> {
-        let of_record = number == 1 || fast::verify(&self.text) == Verification::Accepted;
-        let length = of_length(self.text.len(), &RECORDS).filter(|_| of_record);
+        let length = of_length(self.text.len(), &RECORDS);
+        let length = length.filter(|_| match number {
+            1 => is_listing(&without(&self.text, b"1 ").0),
+            _ => fast::verify(&self.text) == Verification::Accepted,
+        });
         self.of_claims(number).into_iter().chain(length).collect()
     }
 
