@@ -1,4 +1,4 @@
--- PROTOCOL 3.6: claims that are written beside a transcript, as part 7 of a text has them: an element for each row after each round. A claim is fixed by the
+-- PROTOCOL 3.8: claims that are written beside a transcript, as part 7 of a text has them: an element for each row after each round. A claim is fixed by the
 -- round's elements and its challenge, so that what is written can be compared with what they give.
 --
 --   claimOf S T t r               the claim after round t + 1 in row r
