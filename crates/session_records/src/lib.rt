@@ -6,7 +6,8 @@ use protocol::Session;
 use protocol::Settings;
 ghost use mathlib.Core.Path.{_≡_};
 ghost use lib.ListN.{length};
-ghost use Rattle.sessions.specs.Records.{recordWidth, challengesOf, claimsOf, sessionOf, headOf, recordStored};
+ghost use Rattle.protocol.specs.Basic.{Provided};
+ghost use Rattle.session_records.specs.Records.{recordWidth, challengesOf, claimsOf, sessionOf, headOf, recordStored};
 
 // The numbers before the challenges, the last of which says whether the record is closed, where the claims begin, and all numbers: `headWidth`, `claimsAt` and
 // `recordWidth` of the definitions.
@@ -54,8 +55,7 @@ fn claims(t: &[u64]) -> [Residue; ROWS_WIDTH]
     a
 }
 
-// The record that a slice holds.
-pub fn load(t: &[u64]) -> Session
+fn read(t: &[u64]) -> Session
     requires { ⌜ length (now t) ≡ recordWidth ⌝ }
     ensures { λ r. ⌜ r ≡ sessionOf (now (t .entry)) ⌝ }
 {
@@ -75,6 +75,34 @@ pub fn load(t: &[u64]) -> Session
         challenges: e,
         closed: t[CLOSED] == 1,
     }
+}
+
+// A slice of another length holds no record.
+fn nothing() -> Session {
+    let none = Settings {
+        degree: 0,
+        depth: 0,
+        modulus: 0,
+        bound: 0,
+        rows: 0,
+    };
+    Session {
+        settings: none,
+        done: 0,
+        claims: [0; ROWS_WIDTH],
+        challenges: [0; SLOTS],
+        closed: true,
+    }
+}
+
+// The record that a slice holds.
+pub fn load(t: &[u64]) -> Session
+    ensures { λ r. ⌜ Provided (length (now (t .entry)) ≡ recordWidth) (r ≡ sessionOf (now (t .entry))) ⌝ }
+{
+    if t.len() != RECORD {
+        return nothing();
+    }
+    read(t)
 }
 
 // The numbers of a record before the challenges.

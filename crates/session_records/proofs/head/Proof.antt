@@ -2,10 +2,10 @@ use mathlib.Core.Path.{sym, ap}
 use mathlib.Core.List.{[], _∷_}
 use Rattle.protocol.specs.Basic.{choose}
 use Rattle.slices.proofs.Elements.{as-number}
-use Rattle.sessions.specs.Records.{headOf}
+use Rattle.session_records.specs.Records.{headOf}
 use borrow.Author.Needs.{needs}
-use Rattle.sessions.proofs.records.head.Statement.{statement}
-use Rattle.sessions.proofs.records.head.Tie as tie
+use Rattle.session_records.proofs.head.Statement.{statement}
+use Rattle.session_records.proofs.head.Tie as tie
 
 returns : tie.Need-returns
 unfolding headOf choose

@@ -1,10 +1,10 @@
 use lib.Dec.{eqb}
 use lib.ListN.{getD}
 use Rattle.slices.specs.Slices.{given}
-use Rattle.sessions.specs.Records.{sessionOf}
+use Rattle.session_records.specs.Records.{sessionOf}
 use borrow.Author.Needs.{needs}
-use Rattle.sessions.proofs.records.load.Statement.{statement}
-use Rattle.sessions.proofs.records.load.Tie as tie
+use Rattle.session_records.proofs.read.Statement.{statement}
+use Rattle.session_records.proofs.read.Tie as tie
 
 returns : tie.Need-returns
 unfolding sessionOf
@@ -31,6 +31,6 @@ returns c =
       closed = eqb (getD t 6 0) 1;
     }
 
-pub load-spec : {M : Type 1} → statement M
-load-spec =
+pub read-spec : {M : Type 1} → statement M
+read-spec =
     tie.close (tie.spec (λ c. search needs) (λ c κs. search needs) (λ c. search needs) (λ c κs. search needs) (λ c. search needs) (λ c. search needs) (λ c κs. search needs) (λ c. search needs) (λ c κs. search needs) (λ c κs. search needs) (λ c κs. search needs) (λ c. search needs) (λ c κs. search needs) (λ c. search needs) returns)

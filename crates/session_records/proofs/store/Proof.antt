@@ -3,10 +3,10 @@ use native.Mathlib.Omega.{arith}
 use lib.ListN.{getD}
 use Rattle.protocol.specs.Layout.{rowsWidth}
 use Rattle.residues.specs.Lists.{spliced}
-use Rattle.sessions.proofs.Stored.{stays, parts-stored}
+use Rattle.session_records.proofs.Stored.{stays, parts-stored}
 use borrow.Author.Needs.{needs}
-use Rattle.sessions.proofs.records.store.Statement.{statement}
-use Rattle.sessions.proofs.records.store.Tie as tie
+use Rattle.session_records.proofs.store.Statement.{statement}
+use Rattle.session_records.proofs.store.Tie as tie
 
 returns : tie.Need-returns
 returns c = let a = c .before .before .args in stays (a .r) (a .t .now) (c .if1 .taken)

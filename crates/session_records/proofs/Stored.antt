@@ -14,7 +14,7 @@ use Rattle.protocol.specs.Settings.{hasLength}
 use Rattle.protocol.proofs.Reading.{tabulate-length}
 use Rattle.residues.specs.Lists.{spliced}
 use Rattle.residues.proofs.Splice.{spliced-ext, spliced-twice}
-use Rattle.sessions.specs.Records.{recordWidth, headOf, numberOf, numbersOf, recordStored}
+use Rattle.session_records.specs.Records.{recordWidth, headOf, numberOf, numbersOf, recordStored}
 
 module _ (r : Session) where
   pub stays : (t : List ℕ) → length t ≢ recordWidth → t ≡ recordStored r t

@@ -6,10 +6,10 @@ use Rattle.protocol.specs.Layout.{rowsWidth}
 use Rattle.protocol.proofs.Reading.{tabulate-ext}
 use Rattle.residues.proofs.Parts.{tail-at, tail-length}
 use Rattle.slices.proofs.Elements.{stored-whole}
-use Rattle.sessions.specs.Records.{claimsAt, claimsOf}
+use Rattle.session_records.specs.Records.{claimsAt, claimsOf}
 use borrow.Author.Needs.{needs}
-use Rattle.sessions.proofs.records.claims.Statement.{statement}
-use Rattle.sessions.proofs.records.claims.Tie as tie
+use Rattle.session_records.proofs.claims.Statement.{statement}
+use Rattle.session_records.proofs.claims.Tie as tie
 
 returns : tie.Need-returns
 unfolding claimsOf

@@ -8,8 +8,8 @@ use Rattle.protocol.specs.Element.{zeros}
 use Rattle.protocol.proofs.Reading.{tabulate-own}
 use Rattle.residues.proofs.Fill.{filled, fill-none, fill-more, fill-done}
 use borrow.Author.Needs.{needs}
-use Rattle.sessions.proofs.records.widened.Statement.{statement}
-use Rattle.sessions.proofs.records.widened.Tie as tie
+use Rattle.session_records.proofs.widened.Statement.{statement}
+use Rattle.session_records.proofs.widened.Tie as tie
 
 abbrev Inv-loop : tie.InvT-loop
 Inv-loop e x₀ k₀ x k = (k ≤ 8) × (length e ≡ 8) × (x ≡ filled (λ (j : ℕ). getD e j 0) k (zeros 8))

@@ -7,10 +7,10 @@ use lib.ListN.{length, getD}
 use Rattle.protocol.specs.Element.{zeros}
 use Rattle.residues.proofs.Fill.{filled, fill-none, fill-more, fill-done}
 use Rattle.slices.specs.Slices.{capped}
-use Rattle.sessions.specs.Records.{recordWidth, challengesOf}
+use Rattle.session_records.specs.Records.{recordWidth, challengesOf}
 use borrow.Author.Needs.{needs}
-use Rattle.sessions.proofs.records.challenges.Statement.{statement}
-use Rattle.sessions.proofs.records.challenges.Tie as tie
+use Rattle.session_records.proofs.challenges.Statement.{statement}
+use Rattle.session_records.proofs.challenges.Tie as tie
 
 abbrev Inv-loop : tie.InvT-loop
 Inv-loop t e₀ k₀ e k = (k ≤ 8) × (recordWidth ≤ length t) × (e ≡ filled (λ (j : ℕ). capped (getD t (7 + j) 0)) k (zeros 8))
