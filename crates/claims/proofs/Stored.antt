@@ -7,7 +7,7 @@ use Prim.Native.Nat.{ℕ, zero, suc, _*_, _<_, _≤_}
 use native.Mathlib.Decide.{ℕ-discrete}
 use native.Mathlib.Omega.{arith}
 use borrow.Author.Tests.{lt-ltb}
-use lib.ListN.{length, getD, set, replicate, length-set, length-replicate}
+use lib.ListN.{length, getD, set, length-set, length-replicate}
 use lib.Seq.{getD-set-same, getD-set-other}
 use Rattle.protocol.specs.declared.Settings.{Settings}
 use Rattle.protocol.specs.Basic.{all}
@@ -15,7 +15,7 @@ use Rattle.protocol.specs.Element.{Element, zeros}
 use Rattle.protocol.specs.Settings.{exponent, exponents}
 use Rattle.protocol.specs.Transcript.{ending, foldedKey}
 use Rattle.protocol.specs.Session.{slots}
-use Rattle.protocol.proofs.Tests.{and-split, and-intro}
+use Rattle.protocol.proofs.Tests.{and-split, and-intro, all-replicate}
 use Rattle.protocol.proofs.OpeningLaws.{key-challenges}
 
 -- PROTOCOL 4.3: the new challenge is in its slot, and the slots behind it are still 0
@@ -35,11 +35,6 @@ stored-at E (suc t) i h l = elim (ℕ-discrete i t) [
   | yes e ↦ subst (λ i. getD (set (stored E t) t (getD E t 0)) i 0 ≡ getD E i 0) (sym e) (getD-set-same (stored E t) t _ 0 (omega (arith, stored-length E t)))
   | no n ↦ getD-set-other (stored E t) t i _ 0 n ∙ stored-at E t i (omega arith) (omega arith)
 ]
-
-all-replicate {ℓ} : {A : Type ℓ} (f : A → Bool) (n : ℕ) (a : A) → f a ≡ true → all f (replicate n a) ≡ true
-unfolding all
-all-replicate f zero a h = refl
-all-replicate f (suc n) a h = and-intro h (all-replicate f n a h)
 
 all-set {ℓ} : {A : Type ℓ} (f : A → Bool) (l : List A) (i : ℕ) (a : A) → all f l ≡ true → f a ≡ true → all f (set l i a) ≡ true
 unfolding all

@@ -13,16 +13,15 @@ use Rattle.protocol.specs.declared.Settings.{Settings}
 use Rattle.protocol.specs.Basic.{every, within}
 use Rattle.protocol.specs.Element.{Element, modulo, product, signed, residue}
 use Rattle.protocol.specs.Settings.{size, half}
-use Rattle.protocol.specs.Transcript.{finalBounded, ending, endHolds, endMet, foldedKey}
+use Rattle.protocol.specs.Transcript.{finalBounded, ending, endHolds}
 use Rattle.protocol.proofs.Modulo.{modulo-lt, modulo-times}
 use Rattle.protocol.proofs.Tests.{every-at}
-use Rattle.protocol.specs.Opening.{left, keyAfter}
+use Rattle.protocol.specs.Opening.{left}
 use Rattle.products.specs.Sums.{multipleIs, Small, Summable}
-use Rattle.protocol.proofs.Agreement.{Alike, every-ext, end-same, first-same}
+use Rattle.protocol.proofs.Agreement.{every-ext}
 use Rattle.protocol.proofs.OpeningLaws.{left-power}
-use Rattle.protocol.proofs.Ranges.{key-residues, below-everywhere}
-use Rattle.equations.specs.Given.{ElementReduced, KeyGiven}
-use Rattle.equations.proofs.Ready.{Ready, ready}
+use Rattle.equations.specs.Given.{ElementReduced}
+use Rattle.equations.proofs.Ready.{Ready}
 use Rattle.equations.proofs.Quotients.{multiple-test, half-inverse}
 
 module _ (S : Settings) (allowed : Ready S) (f : List ℤ) where
@@ -67,15 +66,3 @@ module _ (S : Settings) (allowed : Ready S) (f : List ℤ) where
           multiple-test q (omega arith) n (half S ^ L) (ap (λ x. x * half S ^ L % q) power-is ∙ unfold half in
           half-inverse q (omega arith) (allowed .modulus-odd) L) (modulo q (product d (signed f) (residue g) k)) (getD claim k 0) (modulo-lt q (omega arith) _)
           ∙ ap (eqb (getD claim k 0)) (sym (modulo-times q (omega arith) (half S ^ L) (product d (signed f) (residue g) k))))
-
--- a list that begins with the first element of the folded key begins with residues
-pub front-reduced : (S : Settings) (key E g : List ℕ) → KeyGiven S key E → Alike (S .degree) g (keyAfter S E (S .depth) key) → ElementReduced S g
-front-reduced S key E g given s k l =
-    let pq : 0 < S .modulus = omega (arith, ready S (given .allowed) .modulus-least) in
-    subst (λ x. x < S .modulus) (sym (s k l)) (below-everywhere (S .modulus) _ _ pq (key-residues S pq E (S .depth) key (given .key-below)) k)
-
--- the end by a list that begins with the first element of the folded key, as by the key
-pub end-by-front : (S : Settings) (key E claim g : List ℕ) (f : Element) → Alike (S .degree) g (keyAfter S E (S .depth) key) →
-    endMet S claim f (residue g) ≡ endMet S claim f (foldedKey S key E)
-unfolding residue
-end-by-front S key E claim g f s = end-same S (λ _ _. refl) (λ k l. ap pos (s k l) ∙ first-same (S .degree) _ k l) claim claim (λ _ _. refl)

@@ -4,6 +4,3 @@ pub mod Ending
 pub mod Polynomials
 pub mod Items
 pub mod ByValue
-pub mod Turns
-pub mod Summing
-pub mod Gathering

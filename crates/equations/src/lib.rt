@@ -1,7 +1,5 @@
 // The verifier's equations: a round, the claim after it, and the end. Every function is safe for every input; what it gives is said for
 // settings that refusals 3 to 6 and 16 let pass.
-pub mod by_value;
-pub mod keys;
 pub mod rounds;
 
 use protocol::Residue;
@@ -13,10 +11,10 @@ ghost use lib.Dec.{eqb};
 ghost use lib.ListN.{length};
 ghost use Rattle.protocol.specs.Basic.{Provided};
 ghost use Rattle.protocol.specs.Element.{padded, residue, signed};
-ghost use Rattle.protocol.specs.Transcript.{roundHolds, nextClaim, finalBounded, endHolds, endMet, foldedKey};
+ghost use Rattle.protocol.specs.Transcript.{roundHolds, nextClaim, finalBounded, endHolds, endMet};
 ghost use Rattle.protocol.specs.Settings.{settingsRefusal};
 ghost use Rattle.residues.specs.Residues.{BothBelow};
-ghost use Rattle.equations.specs.Given.{Evaluable, ElementsGiven, ElementReduced, FinalGiven, EndGiven};
+ghost use Rattle.equations.specs.Given.{Evaluable, ElementsGiven, ElementReduced, FinalGiven};
 
 // 2·(x + y) modulo q, of residues.
 fn doubled(q: Residue, x: Residue, y: Residue) -> Residue
@@ -128,19 +126,4 @@ pub fn end_holds(settings: Settings, claim: &[Residue], f: &[i32], g: &[Residue]
         return false;
     }
     equation_met(settings, claim, f, g)
-}
-
-// The same with a key, which is folded by the challenges.
-pub fn end_holds_for_key(
-    settings: Settings,
-    claim: &[Residue],
-    f: &[i32],
-    key: &[Residue],
-    challenges: &[u32],
-) -> bool
-    ensures { λ r. ⌜ Provided (EndGiven settings (length (now (claim .entry))) (length (now (f .entry))) (now (key .entry)) (now (challenges .entry)))
-        (r ≡ endMet settings (now (claim .entry)) (signed (now (f .entry))) (foldedKey settings (now (key .entry)) (now (challenges .entry)))) ⌝ }
-{
-    let g = keys::folded_key(settings, key, challenges);
-    end_holds(settings, claim, f, &g)
 }

@@ -25,7 +25,7 @@ use Rattle.claims.proofs.Sessions.{sessionAfter}
 use Rattle.claims.proofs.Moves.{roundsAfter, rounds-zero, numbers-snoc}
 use Rattle.claims.proofs.Moves as Value
 use Rattle.slices.specs.Slices.{laid}
-use Rattle.sessions.specs.Records.{numbersOf}
+use Rattle.session_records.specs.Records.{numbersOf}
 use Rattle.exports.specs.Claim.{State, Lengths, putWords, putWholes, hear, hearRound, hearVerdict, step, begun, Run}
 use Rattle.exports.proofs.Refused.{runs, run-steps}
 use Rattle.exports.proofs.Steps.{p, final, commit-number, commit-exit, start-number, start-exit, round-number, round-exit, slice-long}

@@ -36,9 +36,9 @@ use Rattle.claims.proofs.Sessions.{sessionAfter, start-answer, session-round-an
 use Rattle.slices.specs.Slices.{lent, valuesOf, polynomialOf, laid}
 use Rattle.protocol.specs.Session.{verdictNumber}
 use Rattle.slices.proofs.Laws.{whole-back, element-there, polynomial-there}
-use Rattle.sessions.specs.Records.{recordWidth, sessionOf, flagged, numbersOf, recordStored}
+use Rattle.session_records.specs.Records.{recordWidth, sessionOf, flagged, numbersOf, recordStored}
 use Rattle.sessions.specs.Promises.{startNumber, startExit, moveNumber, moveExit, moveVerdict, polynomialFits, roundOn, lastFits, endOn}
-use Rattle.sessions.proofs.Stored.{stored, numbers-length}
+use Rattle.session_records.proofs.Stored.{stored, numbers-length}
 use Rattle.sessions.proofs.Laws.{Whole, load-stored, flagged-stored, start-whole, move-whole}
 use Rattle.exports.specs.Border as Border
 

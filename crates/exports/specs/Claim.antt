@@ -36,7 +36,7 @@ use Rattle.protocol.specs.Calls.{foldRefusal, foldKeyExit, foldMessageExit}
 use Rattle.protocol.specs.Text.{Tables, linesOf, settingsIn, tablesIn}
 use Rattle.protocol.specs.Demand3.{Step, moves, FullTree, FoldsOf}
 use Rattle.slices.specs.Slices.{valuesOf}
-use Rattle.sessions.specs.Records.{recordWidth}
+use Rattle.session_records.specs.Records.{recordWidth}
 use Rattle.sessions.specs.Promises.{startNumber, startExit, moveNumber, moveExit, moveVerdict, polynomialFits, roundOn, lastFits, endOn}
 use Rattle.text_calls.specs.Texts.{settingsNumbers}
 use Rattle.text_calls.specs.Promises.{lookNumber, readNumber, writeNumber}

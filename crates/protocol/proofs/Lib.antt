@@ -21,6 +21,7 @@ pub mod Inputs
 pub mod Compute
 pub mod Examples
 pub mod Listing
+pub mod Listed
 pub mod Known
 pub mod Traps
 pub mod RowTraps

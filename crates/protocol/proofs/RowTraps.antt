@@ -1,11 +1,12 @@
 -- Small cases of several rows, in one table: where 16 stands, what is passed by value past the rows, the two rows of PROTOCOL 12.7 in every call.
 use mathlib.Core.Path.{_≡_, refl}
 use mathlib.Core.Bool.{true, false}
-use mathlib.Core.List.{List, [], _∷_, _++_, map, flatMap}
+use mathlib.Core.List.{List, [], _∷_, _++_, map}
 use Prim.Native.Nat.{ℕ}
 use lib.ListN.{replicate, set as replaced}
 use lib.IntN.{ℤ, pos}
 use Rattle.protocol.specs.declared.Session.{Session}
+use Rattle.protocol.specs.declared.Verdict.the-variants.{Holds, Rejected}
 use Rattle.protocol.specs.Basic.{all}
 use Rattle.protocol.specs.Settings.{settingsRefusal}
 use Rattle.protocol.specs.Rows.{cause}
@@ -14,7 +15,8 @@ use Rattle.protocol.specs.Calls.{commitRefusal, commitAnswer, roundRefus
 use Rattle.protocol.specs.Calls.{openingRoundsExit, checkRefusal, checkNumber, judgeRefusal, extractRefusal}
 use Rattle.protocol.proofs.Compute.{computed}
 use Rattle.protocol.proofs.Listing.{setRows, S₁, key₁, message₁, commitment₁, oneRow, rounds₁, leaves₁, Sʷ, keyʷ, twoRows, commitmentʷ, roundsʷ}
-use Rattle.protocol.proofs.Examples.{Example, agree, agreeing, number, causeNumber, moveNumbers, recordNumbers, verdictAsNumber}
+use Rattle.protocol.proofs.Examples.{Example, agree, agreeing, number, causeNumber, verdictAsNumber}
+use Rattle.protocol.proofs.Listed.{listed, commit-listed, polynomial-listed, start-listed, round-listed}
 
 -- ---- the inputs
 
@@ -24,10 +26,10 @@ polynomialʷ x a = twoRows x (4 ∷ 1 ∷ []) a ∷ twoRows x (6 ∷ 0 ∷ []) (
 
 -- a session of two rows at its start, and after its round
 abbrev freshʷ : Session
-freshʷ = start Sʷ commitmentʷ .next
+freshʷ = record { settings = Sʷ; done = 0; claims = commitmentʷ; challenges = replicate 8 0; closed = false }
 
 abbrev openʷ : Session
-openʷ = round freshʷ (polynomialʷ 0 (11 ∷ 6 ∷ [])) 1 .next
+openʷ = record { settings = Sʷ; done = 1; claims = twoRows 0 (9 ∷ 6 ∷ []) (11 ∷ 12 ∷ []); challenges = 1 ∷ replicate 7 0; closed = false }
 
 -- ---- the table
 
@@ -50,12 +52,9 @@ rowTraps =
     ∷ number (checkRefusal (setRows 2 1 17 1 5) commitment₁ key₁ rounds₁ (1 ∷ [])) 16
     ∷ number (judgeRefusal (setRows 2 1 17 1 0) commitment₁ 0 key₁ message₁) 16
     ∷ number (extractRefusal (setRows 2 1 17 1 5) commitment₁ key₁ rounds₁ (0 ∷ 1 ∷ 2 ∷ []) leaves₁ []) 16
-    ∷ record { given = pos (start (setRows 2 1 17 1 0) [] .refusal) ∷ recordNumbers (start (setRows 2 1 17 1 0) [] .next); wanted = pos 16 ∷ recordNumbers blank }
     ∷ number (round (record { settings = setRows 2 1 17 1 5; done = 9; claims = []; challenges = replicate 8 9; closed = true }) [] 9 .refusal) 16
     ∷ number (end (record { settings = setRows 2 1 17 1 0; done = 9; claims = []; challenges = replicate 8 9; closed = true }) [] [] .refusal) 16
-    -- with two rows: an element of each and zeros past them; each row folds in its own places, and what stands behind in it stays
-    ∷ record { given = map pos (commitAnswer Sʷ keyʷ message₁ .commitment); wanted = map pos commitmentʷ }
-    ∷ record { given = flatMap (map pos) (roundAnswer Sʷ 0 keyʷ message₁ .elements); wanted = flatMap (map pos) (polynomialʷ 0 (11 ∷ 6 ∷ [])) }
+    -- with two rows: each row folds in its own places, and what stands behind in it stays
     ∷ record { given = map pos (foldKeyExit Sʷ 0 1 keyʷ message₁); wanted = map pos (1 ∷ 12 ∷ 7 ∷ 2 ∷ 5 ∷ 7 ∷ 7 ∷ 0 ∷ []) }
     ∷ record { given = map pos (openingKeyExit Sʷ keyʷ message₁ (1 ∷ []) (replicate 12 0)); wanted = map pos (1 ∷ 12 ∷ 7 ∷ 2 ∷ 5 ∷ 7 ∷ 7 ∷ 0 ∷ []) }
     ∷ record { given = map pos (openingRoundsExit Sʷ keyʷ message₁ (1 ∷ []) (replicate 12 0)); wanted = map pos roundsʷ }
@@ -79,12 +78,7 @@ rowTraps =
     ∷ number (judgeRefusal S₁ (oneRow 99 (15 ∷ 4 ∷ [])) 4 key₁ message₁) 0
     ∷ number (judgeRefusal Sʷ (oneRow 99 (15 ∷ 4 ∷ [])) 4 keyʷ message₁) 8
     ∷ number (extractRefusal S₁ (oneRow 99 (15 ∷ 4 ∷ [])) key₁ rounds₁ (0 ∷ 1 ∷ 2 ∷ []) leaves₁ (replicate 4 (pos 0))) 0
-    -- a session of two rows: the claims of both, a polynomial that fails in the second row alone, an end that asks both rows
-    ∷ record {
-      given = moveNumbers (round freshʷ (polynomialʷ 99 (11 ∷ 6 ∷ [])) 1);
-      wanted = pos 0 ∷ pos 1 ∷ recordNumbers (record { settings = Sʷ; done = 1; claims = twoRows 0 (9 ∷ 6 ∷ []) (11 ∷ 12 ∷ []); challenges = 1 ∷ replicate 7 0; closed = false });
-    }
-    ∷ record { given = moveNumbers (round freshʷ (polynomialʷ 0 (12 ∷ 6 ∷ [])) 1); wanted = pos 0 ∷ pos 3 ∷ recordNumbers (shut freshʷ) }
+    -- a session of two rows: 8 in the second row alone, an end that asks both rows
     ∷ number (round freshʷ (polynomialʷ 0 (11 ∷ 17 ∷ [])) 1 .refusal) 8
     ∷ record { given = verdictAsNumber (end openʷ (pos 1 ∷ pos 0 ∷ []) keyʷ .verdict) ∷ []; wanted = pos 2 ∷ [] }
     ∷ record { given = verdictAsNumber (end openʷ (pos 1 ∷ pos 0 ∷ []) (replaced keyʷ 4 6) .verdict) ∷ []; wanted = pos 3 ∷ [] }
@@ -96,5 +90,30 @@ rowTraps =
     ∷ []
 
 pub row-trapped : all agree rowTraps ≡ true
-unfolding computed agreeing flatMap rowTraps
+unfolding computed agreeing rowTraps
 row-trapped = refl
+
+-- ---- whole answers: elements by value, and the records that the moves hand back
+
+pub record Answers : Type 0 where
+  -- 16 in a start
+  pub no-start : start (setRows 2 1 17 1 0) [] ≡ record { refusal = 16; next = blank }
+  -- with two rows: an element of each and zeros past them
+  pub commitment : commitAnswer Sʷ keyʷ message₁ .commitment ≡ commitmentʷ
+  pub polynomial : roundAnswer Sʷ 0 keyʷ message₁ .elements ≡ polynomialʷ 0 (11 ∷ 6 ∷ [])
+  pub start-rows : start Sʷ commitmentʷ ≡ record { refusal = 0; next = freshʷ }
+  -- the claims of both rows, and nothing of what stands past them
+  pub next-round : round freshʷ (polynomialʷ 99 (11 ∷ 6 ∷ [])) 1 ≡ record { refusal = 0; verdict = Holds; next = openʷ }
+  -- a polynomial that fails in the second row alone
+  pub failed-round : round freshʷ (polynomialʷ 0 (12 ∷ 6 ∷ [])) 1 ≡ record { refusal = 0; verdict = Rejected; next = shut freshʷ }
+
+pub answered : Answers
+unfolding computed listed
+answered = record {
+  no-start = refl;
+  commitment = commit-listed Sʷ keyʷ message₁ refl refl;
+  polynomial = polynomial-listed Sʷ 0 keyʷ message₁ refl refl refl refl;
+  start-rows = start-listed Sʷ commitmentʷ refl refl;
+  next-round = round-listed freshʷ (polynomialʷ 99 (11 ∷ 6 ∷ [])) 1 refl refl refl;
+  failed-round = refl;
+}

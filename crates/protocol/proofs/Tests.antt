@@ -6,7 +6,7 @@ use mathlib.Core.List.{List, [], _∷_, map}
 use Prim.Native.Nat.{ℕ, zero, suc, _<_, _≤_}
 use native.Mathlib.Decide.{ℕ-discrete, decLt}
 use native.Mathlib.Omega.{arith}
-use lib.ListN.{length, getD}
+use lib.ListN.{length, getD, replicate}
 use Rattle.protocol.specs.Basic.{every, all, least, first, unless, granted}
 
 -- ---- conjunctions and disjunctions
@@ -75,6 +75,11 @@ pub all-weaken {ℓ} : {A : Type ℓ} (f g : A → Bool) → ((x : A) → f x �
 unfolding all
 all-weaken f g w [] h = refl
 all-weaken f g w (x ∷ l) h = let (a, b) = and-split {a = f x} {b = all f l} h in and-intro {a = g x} {b = all g l} (w x a) (all-weaken f g w l b)
+
+pub all-replicate {ℓ} : {A : Type ℓ} (f : A → Bool) (n : ℕ) (a : A) → f a ≡ true → all f (replicate n a) ≡ true
+unfolding all
+all-replicate f zero a h = refl
+all-replicate f (suc n) a h = and-intro h (all-replicate f n a h)
 
 pub all-map {ℓ₁ ℓ₂} : {A : Type ℓ₁} {B : Type ℓ₂} (f : B → Bool) (g : A → B) (l : List A) → all f (map g l) ≡ all (λ x. f (g x)) l
 unfolding all

@@ -1,31 +1,37 @@
 -- Small cases of the calls on tables, each of which pins an order of refusals, a bound or what is left unchanged, in one table.
 use mathlib.Core.Path.{_≡_, refl, sym, ap, _∙_}
-use mathlib.Core.Bool.{Bool, true, false, false≢true}
+use mathlib.Core.Bool.{Bool, true, false, _&&_, false≢true}
 use mathlib.Core.List.{List, [], _∷_, _++_, map}
 use Prim.Native.Nat.{ℕ, _+_, _*_, _<_}
 use native.Mathlib.Omega.{arith}
-use lib.ListN.{length, getD, replicate}
+use borrow.Author.Tests.{eq-eqb}
+use lib.Dec.{ltb}
+use lib.ListN.{length, getD, replicate, length-replicate}
 use lib.IntN.{ℤ, pos, negsuc}
 use Rattle.protocol.specs.declared.Settings.{Settings}
 use Rattle.protocol.specs.declared.Session.{Session}
-use Rattle.protocol.specs.Basic.{every, all, flat}
+use Rattle.protocol.specs.declared.Moved.{Moved}
+use Rattle.protocol.specs.declared.Verdict.{Verdict}
+use Rattle.protocol.specs.declared.Verdict.the-variants.{Silent, Holds, Accepted, Rejected}
+use Rattle.protocol.specs.Basic.{every, all, flat, first, unless}
 use Rattle.protocol.specs.Element.{power, rotate, coefficients, valueRow}
-use Rattle.protocol.specs.Layout.{rowsWidth, treeChallenges}
-use Rattle.protocol.specs.Settings.{settingsRefusal}
+use Rattle.protocol.specs.Layout.{rowsWidth, keyCells, treeRoundCells, treeChallenges, leafCells}
+use Rattle.protocol.specs.Settings.{settingsRefusal, cells, hasLength, allBelow, residueRows, exponents}
 use Rattle.protocol.specs.Opening.{foldMessage, messageAfter, keyAfter}
 use Rattle.protocol.specs.Rows.{keyRow, rowItems, cause}
 use Rattle.protocol.specs.Transcript.{accepted}
-use Rattle.protocol.specs.Tree.{leaves, path, rowPath}
+use Rattle.protocol.specs.Tree.{nodes, leaves, path, rowPath, apart}
 use Rattle.protocol.specs.Session.{blank, shut, start, round, end}
 use Rattle.protocol.specs.Judge.{slack}
 use Rattle.protocol.specs.Calls.{commitRefusal, commitAnswer, roundRefusal, foldRefusal, foldMessageExit, endRefusal, openingAnswer, openingRoundsExit, checkRefusal}
 use Rattle.protocol.specs.Calls.{judgeRefusal, judgeAnswer, everyPath, treeTests, treeRefusal, extractRefusal, extractExit}
-use Rattle.protocol.proofs.Tests.{every-at}
+use Rattle.protocol.proofs.Tests.{and-intro, every-at, all-replicate}
 use Rattle.protocol.proofs.Reading.{flat-own, flat-ext}
 use Rattle.protocol.proofs.Refusals.{first-fails, front-passes}
 use Rattle.protocol.proofs.Compute.{computed}
 use Rattle.protocol.proofs.Listing.{set, S₁, key₁, message₁, commitment₁, rounds₁, leaves₁, S₀, oneRow}
-use Rattle.protocol.proofs.Examples.{Example, agree, agreeing, number, asNumber, causeNumber, moveNumbers, recordNumbers, verdictAsNumber}
+use Rattle.protocol.proofs.Examples.{Example, agree, agreeing, number, asNumber, causeNumber, verdictAsNumber}
+use Rattle.protocol.proofs.Listed.{listed, commit-listed, start-listed, round-listed}
 
 -- ---- the inputs
 
@@ -39,16 +45,30 @@ S₂ = set 2 2 17 1
 abbrev message₂ : List ℤ
 message₂ = pos 1 ∷ pos 0 ∷ pos 0 ∷ pos 1 ∷ negsuc 0 ∷ pos 1 ∷ pos 1 ∷ pos 1 ∷ []
 
--- a record in the middle of a session: its settings, rounds done, claims, challenges, closed
+-- a record of the session over the example: rounds done, claim, challenges, closed
+abbrev session₁ : ℕ → List ℕ → List ℕ → Bool → Session
+session₁ done claims challenges closed = record { settings = S₁; done = done; claims = claims; challenges = challenges; closed = closed }
+
+-- the session at its start, after its round, and the first with a challenge in a slot that is not used yet
 abbrev fresh : Session
-fresh = start S₁ commitment₁ .next
+fresh = session₁ 0 (oneRow 0 commitment₁) (replicate 8 0) false
+
+abbrev open₁ : Session
+open₁ = session₁ 1 (oneRow 0 (9 ∷ 6 ∷ [])) (1 ∷ replicate 7 0) false
+
+abbrev filled : Session
+filled = session₁ 0 commitment₁ (replicate 7 0 ++ (3 ∷ [])) false
 
 -- records at the end of a session whose claim, and whose last challenge, is out of range; both are closed and have too few rounds done
 abbrev spoiled : Session
-spoiled = record { settings = S₁; done = 0; claims = 9 ∷ 17 ∷ []; challenges = 4 ∷ replicate 7 0; closed = true }
+spoiled = session₁ 0 (9 ∷ 17 ∷ []) (4 ∷ replicate 7 0) true
 
 abbrev overfull : Session
-overfull = record { settings = S₁; done = 0; claims = 9 ∷ 6 ∷ []; challenges = 1 ∷ replicate 6 0 ++ (4 ∷ []); closed = true }
+overfull = session₁ 0 (9 ∷ 6 ∷ []) (1 ∷ replicate 6 0 ++ (4 ∷ [])) true
+
+-- a move's answer
+abbrev moved : ℕ → Verdict → Session → Moved
+moved number v next = record { refusal = number; verdict = v; next = next }
 
 -- ---- the table
 
@@ -102,9 +122,6 @@ traps =
     ∷ record { given = map pos (keyAfter S₂ (1 ∷ 0 ∷ []) 2 (1 ∷ 0 ∷ 0 ∷ 1 ∷ 16 ∷ 1 ∷ 1 ∷ 1 ∷ [])); wanted = pos 16 ∷ pos 1 ∷ pos 16 ∷ pos 2 ∷ pos 16 ∷ pos 1 ∷ pos 1 ∷ pos 1 ∷ [] }
     -- a refused fold leaves the table
     ∷ record { given = foldMessageExit S₁ 1 0 key₁ message₁; wanted = message₁ }
-    -- a refused call answers zeros, and a new element is 0 from d on
-    ∷ record { given = map pos (commitAnswer S₁ key₁ (pos 2 ∷ pos 0 ∷ pos 0 ∷ pos 0 ∷ []) .commitment); wanted = replicate rowsWidth (pos 0) }
-    ∷ record { given = map pos (commitAnswer S₁ key₁ message₁ .commitment); wanted = map pos (oneRow 0 commitment₁) }
     -- the three zones of a rotation at d = 4: X^7·X^3 = X^2; X^0 and X^4 differ
     ∷ record { given = coefficients 4 (rotate 4 7 (power 4 3)); wanted = pos 0 ∷ pos 0 ∷ pos 1 ∷ pos 0 ∷ [] }
     ∷ record { given = coefficients 4 (power 4 4); wanted = negsuc 0 ∷ pos 0 ∷ pos 0 ∷ pos 0 ∷ [] }
@@ -117,30 +134,16 @@ traps =
     ∷ record { given = causeNumber (cause S₁ key₁ (record { commitment = 15 ∷ 5 ∷ []; rounds = rounds₁; challenges = 1 ∷ []; last = pos 3 ∷ pos 0 ∷ [] })); wanted = pos 1 ∷ [] }
     ∷ number (checkRefusal S₁ (15 ∷ 17 ∷ []) key₁ rounds₁ (4 ∷ [])) 8
     ∷ number (checkRefusal S₁ commitment₁ key₁ rounds₁ (4 ∷ [])) 10
-    -- a session: a closed record of zeros answers 3; any other closed record 11, and is handed back unchanged
+    -- a session: a closed record of zeros answers 3
     ∷ number (round blank polynomial₁ 1 .refusal) 3
-    ∷ record { given = moveNumbers (round (shut fresh) polynomial₁ 1); wanted = pos 11 ∷ pos 0 ∷ recordNumbers (shut fresh) }
-    -- 8 and 10 before 11; all eight challenges are tested, and those in range are kept
-    ∷ number (round (record { settings = S₁; done = 0; claims = 17 ∷ 0 ∷ []; challenges = replicate 8 0; closed = true }) polynomial₁ 1 .refusal) 8
-    ∷ number (round (record { settings = S₁; done = 1; claims = commitment₁; challenges = replicate 7 0 ++ (4 ∷ []); closed = true }) polynomial₁ 1 .refusal) 10
-    ∷ record {
-      given = moveNumbers (round (record { settings = S₁; done = 0; claims = commitment₁; challenges = replicate 7 0 ++ (3 ∷ []); closed = false }) polynomial₁ 1);
-      wanted = pos 0 ∷ pos 1 ∷ recordNumbers (record { settings = S₁; done = 1; claims = oneRow 0 (9 ∷ 6 ∷ []); challenges = (1 ∷ replicate 6 0) ++ (3 ∷ []); closed = false });
-    }
-    ∷ number (round (record { settings = S₁; done = 4_294_967_295; claims = commitment₁; challenges = replicate 8 0; closed = false }) polynomial₁ 1 .refusal) 11
-    -- a rejected round sets closed and nothing else
-    ∷ record { given = moveNumbers (round fresh ((5 ∷ 1 ∷ []) ∷ (6 ∷ 0 ∷ []) ∷ (12 ∷ 1 ∷ []) ∷ []) 1); wanted = pos 0 ∷ pos 3 ∷ recordNumbers (shut fresh) }
-    -- an end before all rounds are done; an acceptance closes the record; a final coefficient of −2^31 is rejected and not refused
+    -- 8 and 10 before 11; all eight challenges are tested
+    ∷ number (round (session₁ 0 (17 ∷ 0 ∷ []) (replicate 8 0) true) polynomial₁ 1 .refusal) 8
+    ∷ number (round (session₁ 1 commitment₁ (replicate 7 0 ++ (4 ∷ [])) true) polynomial₁ 1 .refusal) 10
+    ∷ number (round (session₁ 4_294_967_295 commitment₁ (replicate 8 0) false) polynomial₁ 1 .refusal) 11
+    -- an end before all rounds are done; 8 covers the key; a final coefficient of −2^31 is rejected and not refused
     ∷ number (end fresh (pos 1 ∷ pos 0 ∷ []) key₁ .refusal) 11
-    -- an end tests its claim (8), then all eight challenges (10), both before 11; a refused end hands the record back
-    ∷ record { given = moveNumbers (end spoiled (pos 1 ∷ pos 0 ∷ []) key₁); wanted = pos 8 ∷ pos 0 ∷ recordNumbers spoiled }
-    ∷ record { given = moveNumbers (end overfull (pos 1 ∷ pos 0 ∷ []) key₁); wanted = pos 10 ∷ pos 0 ∷ recordNumbers overfull }
-    ∷ number (end (record { settings = S₁; done = 1; claims = 9 ∷ 6 ∷ []; challenges = 1 ∷ replicate 7 0; closed = false }) (pos 1 ∷ pos 0 ∷ []) (3 ∷ 5 ∷ 7 ∷ 17 ∷ []) .refusal) 8
-    ∷ record { given = moveNumbers (end (round fresh polynomial₁ 1 .next) (pos 1 ∷ pos 0 ∷ []) key₁); wanted = pos 0 ∷ pos 2 ∷ recordNumbers (shut (round fresh polynomial₁ 1 .next)) }
-    ∷ record { given = verdictAsNumber (end (round fresh polynomial₁ 1 .next) (negsuc 2_147_483_647 ∷ pos 0 ∷ []) key₁ .verdict) ∷ []; wanted = pos 3 ∷ [] }
-    -- a refused start; a start does not copy what stands from d on, or past the rows
-    ∷ record { given = pos (start S₁ (17 ∷ 4 ∷ []) .refusal) ∷ recordNumbers (start S₁ (17 ∷ 4 ∷ []) .next); wanted = pos 8 ∷ recordNumbers blank }
-    ∷ record { given = recordNumbers (start S₁ (oneRow 99 (15 ∷ 4 ∷ [])) .next); wanted = recordNumbers fresh }
+    ∷ number (end (session₁ 1 (9 ∷ 6 ∷ []) (1 ∷ replicate 7 0) false) (pos 1 ∷ pos 0 ∷ []) (3 ∷ 5 ∷ 7 ∷ 17 ∷ []) .refusal) 8
+    ∷ record { given = verdictAsNumber (end open₁ (negsuc 2_147_483_647 ∷ pos 0 ∷ []) key₁ .verdict) ∷ []; wanted = pos 3 ∷ [] }
     -- the judge: 8 and 14 before 15, also where the slack shares a factor with q; −2^63 is beyond the bound and says no
     ∷ number (judgeRefusal (set 64 4 17 5) (replicate 64 0) 0 (replicate 1024 0) (replicate 1024 (pos 0))) 14
     ∷ number (judgeRefusal (set 64 4 17 5) (replicate 64 0) 17 (replicate 1024 0) (replicate 1024 (pos 0))) 14
@@ -177,6 +180,46 @@ pub trapped : all agree traps ≡ true
 unfolding computed agreeing traps
 trapped = refl
 
+-- ---- whole answers: elements by value, and the records that the moves hand back
+
+pub record Answers : Type 0 where
+  -- a refused call answers zeros, and a new element is 0 from d on
+  pub no-commitment : commitAnswer S₁ key₁ (pos 2 ∷ pos 0 ∷ pos 0 ∷ pos 0 ∷ []) .commitment ≡ replicate rowsWidth 0
+  pub commitment : commitAnswer S₁ key₁ message₁ .commitment ≡ oneRow 0 commitment₁
+  -- a refused start; a start does not copy what stands from d on, or past the rows
+  pub no-start : start S₁ (17 ∷ 4 ∷ []) ≡ record { refusal = 8; next = blank }
+  pub start-short : start S₁ commitment₁ ≡ record { refusal = 0; next = fresh }
+  pub start-long : start S₁ (oneRow 99 commitment₁) ≡ record { refusal = 0; next = fresh }
+  -- a closed record that is not all zeros answers 11, and is handed back unchanged
+  pub closed-round : round (shut fresh) polynomial₁ 1 ≡ moved 11 Silent (shut fresh)
+  -- a round sets the claim and one challenge, and keeps the other challenges
+  pub next-round : round fresh polynomial₁ 1 ≡ moved 0 Holds open₁
+  pub kept-challenge : round filled polynomial₁ 1 ≡ moved 0 Holds (session₁ 1 (oneRow 0 (9 ∷ 6 ∷ [])) (1 ∷ replicate 6 0 ++ (3 ∷ [])) false)
+  -- a rejected round sets closed and nothing else
+  pub failed-round : round fresh ((5 ∷ 1 ∷ []) ∷ (6 ∷ 0 ∷ []) ∷ (12 ∷ 1 ∷ []) ∷ []) 1 ≡ moved 0 Rejected (shut fresh)
+  -- an end tests its claim (8), then all eight challenges (10), both before 11; a refused end hands the record back
+  pub spoiled-end : end spoiled (pos 1 ∷ pos 0 ∷ []) key₁ ≡ moved 8 Silent spoiled
+  pub overfull-end : end overfull (pos 1 ∷ pos 0 ∷ []) key₁ ≡ moved 10 Silent overfull
+  -- an acceptance closes the record
+  pub accepted-end : end open₁ (pos 1 ∷ pos 0 ∷ []) key₁ ≡ moved 0 Accepted (shut open₁)
+
+pub answered : Answers
+unfolding computed listed
+answered = record {
+  no-commitment = refl;
+  commitment = commit-listed S₁ key₁ message₁ refl refl;
+  no-start = refl;
+  start-short = start-listed S₁ commitment₁ refl refl;
+  start-long = start-listed S₁ (oneRow 99 commitment₁) refl refl;
+  closed-round = refl;
+  next-round = round-listed fresh polynomial₁ 1 refl refl refl;
+  kept-challenge = round-listed filled polynomial₁ 1 refl refl refl;
+  failed-round = refl;
+  spoiled-end = refl;
+  overfull-end = refl;
+  accepted-end = refl;
+}
+
 -- ---- the extractor's 13 before 14, at the smallest tree that is beyond the growth limit. It has 7,680 round numbers: too many to take their one row out of them
 -- by computing, so that it is the table itself is a law.
 
@@ -212,8 +255,67 @@ S₄ = set 64 4 17 5
 abbrev E₄ : List ℕ
 E₄ = flat 3 40 (λ i k. k)
 
-pub paths-before-growth : extractRefusal S₄ (1 ∷ replicate 63 0) (replicate 1024 0) (replicate 7680 0) E₄ (replicate 5184 (pos 0)) (replicate 1024 (pos 0)) ≡ 13
+abbrev C₄ : List ℕ
+C₄ = 1 ∷ replicate 63 0
+
+abbrev key₄ : List ℕ
+key₄ = replicate 1024 0
+
+abbrev rounds₄ : List ℕ
+rounds₄ = replicate 7680 0
+
+abbrev finals₄ : List ℤ
+finals₄ = replicate 5184 (pos 0)
+
+abbrev w₄ : List ℤ
+w₄ = replicate 1024 (pos 0)
+
+all-pass : (settings : ℕ) (lengths residues exponents differences : Bool) → settings ≡ 0 → lengths ≡ true → residues ≡ true → exponents ≡ true → differences ≡ true
+    → first (settings ∷ unless 7 lengths ∷ unless 8 residues ∷ unless 10 exponents ∷ unless 12 differences ∷ []) ≡ 0
+unfolding first unless
+all-pass settings lengths residues exponents differences s l r e d = λ i. first (s i ∷ unless 7 (l i) ∷ unless 8 (r i) ∷ unless 10 (e i) ∷ unless 12 (d i) ∷ [])
+
+long {ℓ} : {A : Type ℓ} (m n : ℕ) (x : A) → n ≡ m → hasLength m (replicate n x) ≡ true
+unfolding hasLength
+long m n x e = eq-eqb _ m (length-replicate n x ∙ e)
+
+-- a table of zeros has its length, and passes its test, by a law and not place by place
+passed : treeRefusal S₄ C₄ key₄ rounds₄ E₄ finals₄ w₄ ≡ 0
+unfolding treeRefusal
+passed = all-pass _ _ _ _ _ allowed lengths residues exponents₄ differ
+  where
+    allowed : settingsRefusal S₄ ≡ 0
+    allowed = unfold computed in refl
+
+    exponents₄ : exponents S₄ E₄ ≡ true
+    exponents₄ = unfold computed in refl
+
+    differ : every (nodes S₄) (apart E₄) ≡ true
+    differ = unfold computed in refl
+
+    challenges : hasLength (treeChallenges S₄) E₄ ≡ true
+    challenges = unfold computed in refl
+
+    commitment : residueRows S₄ C₄ ≡ true
+    commitment = unfold computed in refl
+
+    below : (n : ℕ) → allBelow S₄ (replicate n 0) ≡ true
+    below n = unfold allBelow in all-replicate (λ x. ltb x 17) n 0 refl
+
+    lengths : (hasLength (keyCells S₄) key₄ && hasLength (treeRoundCells S₄) rounds₄ && hasLength (treeChallenges S₄) E₄ && hasLength (leafCells S₄) finals₄ && hasLength (cells S₄) w₄) ≡ true
+    lengths =
+        and-intro (and-intro (and-intro (and-intro
+        (long {A = ℕ} (keyCells S₄) 1024 0 (unfold computed in refl))
+        (long {A = ℕ} (treeRoundCells S₄) 7680 0 (unfold computed in refl)))
+        challenges)
+        (long (leafCells S₄) 5184 (pos 0) (unfold computed in refl)))
+        (long (cells S₄) 1024 (pos 0) (unfold computed in refl))
+
+    residues : (allBelow S₄ key₄ && residueRows S₄ C₄ && allBelow S₄ rounds₄) ≡ true
+    residues = and-intro (and-intro (below 1024) commitment) (below 7680)
+
+pub paths-before-growth : extractRefusal S₄ C₄ key₄ rounds₄ E₄ finals₄ w₄ ≡ 13
 paths-before-growth =
-    paths-first S₄ (1 ∷ replicate 63 0) (replicate 1024 0) (replicate 7680 0) E₄ (replicate 5184 (pos 0)) (replicate 1024 (pos 0)) (unfold computed in refl)
-    (first-path-rejected S₄ (1 ∷ replicate 63 0) (replicate 1024 0) (replicate 7680 0) E₄ (replicate 5184 (pos 0))
-    refl (omega arith) (unfold computed in (omega arith)) (unfold computed in refl) (unfold computed in refl))
+    paths-first S₄ C₄ key₄ rounds₄ E₄ finals₄ w₄ passed
+    (first-path-rejected S₄ C₄ key₄ rounds₄ E₄ finals₄
+    refl (omega arith) (unfold computed in (omega arith)) (length-replicate {A = ℕ} 7680 0 ∙ unfold computed in refl) (unfold computed in refl))

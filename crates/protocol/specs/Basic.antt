@@ -33,9 +33,10 @@ unfoldable pub least : ℕ → (ℕ → Bool) → ℕ
 least zero f = 0
 least (suc n) f = elim (f 0) [ true ↦ 0 | false ↦ suc (least n (λ i. f (suc i))) ]
 
+-- head and tail are bound by `let`, which the checker computes only when it is asked for: so to read one place of a table does not compute the others
 unfoldable pub tabulate {ℓ} : {A : Type ℓ} → ℕ → (ℕ → A) → List A
 tabulate zero f = []
-tabulate (suc n) f = f 0 ∷ tabulate n (λ i. f (suc i))
+tabulate (suc n) f = let x = f 0 in let rest = tabulate n (λ i. f (suc i)) in x ∷ rest
 
 unfoldable pub flat {ℓ} : {A : Type ℓ} → ℕ → ℕ → (ℕ → ℕ → A) → List A
 flat d n F = tabulate (n * d) (λ p. F (p / d) (p % d))

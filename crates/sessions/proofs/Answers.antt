@@ -20,7 +20,7 @@ use Rattle.protocol.proofs.Refusals.{first-fails, first-holds, first-only}
 use Rattle.slices.specs.Slices.{lent, valuesOf}
 use Rattle.protocol.specs.Session.{verdictNumber}
 use Rattle.slices.proofs.Lent.{lent-stops, lent-passes, lent-fits, lent-allowed, kept}
-use Rattle.sessions.specs.Records.{recordWidth, sessionOf, flagged, recordStored}
+use Rattle.session_records.specs.Records.{recordWidth, sessionOf, flagged, recordStored}
 use Rattle.sessions.specs.Promises.{startNumber, startExit, StartStored, moveNumber, moveExit, moveVerdict, MoveStored, Answered}
 
 -- ---- the start
@@ -60,14 +60,14 @@ module _ (fits : Bool) (m : Moved) (rec : List ℕ) where
   }
     where
       seven : 7 ≡ moveNumber fits m rec
-      seven = unfold moveNumber in unfold recordWidth in unfold hasLength in sym (first-fails 6 _ _ (ne-eqb _ _ h))
+      seven = unfold moveNumber in unfold hasLength in sym (first-fails 6 _ _ (ne-eqb _ _ h))
 
       refused : moveNumber fits m rec ≢ 0
       refused z = let no : _≡_ {A = ℕ} 7 0 = seven ∙ z in omega arith
 
   module _ (long : length rec ≡ recordWidth) where
     number-is : moveNumber fits m rec ≡ lent (sessionOf rec .settings) (fits && flagged rec) (m .refusal)
-    unfolding moveNumber recordWidth hasLength
+    unfolding moveNumber hasLength
     number-is = first-holds 7 _ _ (eq-eqb _ _ long) ∙ first-only _
 
     -- slices beside it that do not fit, or settings that are refused

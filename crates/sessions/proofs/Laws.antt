@@ -28,8 +28,8 @@ use Rattle.protocol.proofs.Reading.{tabulate-length, tabulate-at, tabulate-ext,
 use Rattle.residues.proofs.Fill.{zeros-length, zeros-at}
 use Rattle.slices.specs.Slices.{capped}
 use Rattle.sizes.proofs.Limits.{degree-most}
-use Rattle.sessions.specs.Records.{recordWidth, challengesOf, claimsOf, sessionOf, flagged, headOf, numberOf, numbersOf}
-use Rattle.sessions.proofs.Stored.{head-number, challenge-number, place-number}
+use Rattle.session_records.specs.Records.{recordWidth, challengesOf, claimsOf, sessionOf, flagged, headOf, numberOf, numbersOf}
+use Rattle.session_records.proofs.Stored.{head-number, challenge-number, place-number}
 
 -- a record whose arrays have their lengths, and whose numbers but for modulus and claims are of 32 bits, as every record has that is passed by value
 pub record Whole (r : Session) : Type 0 where
@@ -58,7 +58,7 @@ capped-below x = go (ltb x (2 ^ 32)) refl
 
 module _ (r : Session) where
   number-at : (k : ℕ) → k < recordWidth → getD (numbersOf r) k 0 ≡ numberOf r k
-  unfolding numbersOf recordWidth
+  unfolding numbersOf
   number-at k h = tabulate-at recordWidth (numberOf r) 0 k h
 
   head-at : (k : ℕ) → k < 7 → getD (numbersOf r) k 0 ≡ getD (headOf r) k 0
@@ -141,7 +141,7 @@ module _ (t : List ℕ) (long : length t ≡ recordWidth) (good : flagged t ≡ 
       place-kept k a b = unfold sessionOf in unfold claimsOf in tabulate-at rowsWidth (λ j. getD t (15 + j) 0) 0 (k - 15) (omega arith) ∙ ap (λ n. getD t n 0) (omega arith)
 
   pub stored-load : numbersOf (sessionOf t) ≡ t
-  unfolding numbersOf recordWidth
+  unfolding numbersOf
   stored-load =
       ext-getD 0 _ t (tabulate-length recordWidth _ ∙ sym long)
       (λ k h. let l : k < recordWidth = omega (arith, tabulate-length recordWidth (numberOf (sessionOf t))) in tabulate-at recordWidth (numberOf (sessionOf t)) 0 k l ∙ number-kept k l)

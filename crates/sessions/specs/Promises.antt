@@ -24,7 +24,7 @@ use Rattle.protocol.specs.Layout.{itemCells, polynomialCells}
 use Rattle.protocol.specs.Settings.{hasLength}
 use Rattle.protocol.specs.Session.{opened, blank, startRefusal, round, end, verdictNumber}
 use Rattle.slices.specs.Slices.{lent, valuesOf, polynomialOf}
-use Rattle.sessions.specs.Records.{recordWidth, sessionOf, flagged, recordStored}
+use Rattle.session_records.specs.Records.{recordWidth, sessionOf, flagged, recordStored}
 
 unfoldable pub startNumber : Settings → List ℕ → List ℕ → ℕ
 startNumber S C rec = lent S (hasLength (itemCells S) C && hasLength recordWidth rec) (startRefusal S (valuesOf S C))

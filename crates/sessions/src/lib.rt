@@ -1,12 +1,10 @@
 // The verifier's session on a record that stands in a lent slice of RECORD numbers. A refused move writes nothing to it; a refused start writes the closed
 // record of zeros.
-mod records;
-
-use crate::records::CLOSED;
-use crate::records::RECORD;
 use protocol::Moved;
 use protocol::Residue;
 use protocol::Settings;
+use session_records::CLOSED;
+use session_records::RECORD;
 use verifier::Verifier;
 ghost use Rattle.sessions.specs.Promises.{StartStored, MoveStored, Answered, polynomialFits, lastFits, roundOn, endOn};
 
@@ -21,14 +19,14 @@ pub fn start(settings: Settings, commitment: &[Residue], session: &mut [u64]) ->
     );
     let refusal = slices::refusal(settings, fits);
     if refusal != 0 {
-        records::store(none, session);
+        session_records::store(none, session);
         return refusal;
     }
     let c = slices::residues(settings, commitment);
     let verifier = Verifier(none);
     let started = verifier.start(settings, c);
     let next = started.next;
-    records::store(next, session);
+    session_records::store(next, session);
     started.refusal
 }
 
@@ -43,7 +41,7 @@ fn answer(moved: Moved, session: &mut [u64], verdict: &mut u32) -> u32
     let said = moved.verdict;
     *verdict = slices::verdict_number(said);
     let next = moved.next;
-    records::store(next, session);
+    session_records::store(next, session);
     0
 }
 
@@ -56,7 +54,7 @@ pub fn round(polynomial: &[Residue], e: u32, session: &mut [u64], verdict: &mut 
     if session.len() != RECORD {
         return 7;
     }
-    let before = records::load(session);
+    let before = session_records::load(session);
     let settings = before.settings;
     let fits = slices::both(
         polynomial.len() == 3 * sizes::item_cells(settings),
@@ -81,7 +79,7 @@ pub fn end(last: &[i32], key: &[Residue], session: &mut [u64], verdict: &mut u32
     if session.len() != RECORD {
         return 7;
     }
-    let before = records::load(session);
+    let before = session_records::load(session);
     let settings = before.settings;
     let d = settings.degree;
     let fits = slices::both(last.len() == d as usize, session[CLOSED] <= 1);

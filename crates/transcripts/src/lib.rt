@@ -58,7 +58,7 @@ fn row_accepted(
     if !rounds_hold(settings, rounds, challenges, &mut claim) {
         return false;
     }
-    equations::end_holds_for_key(settings, &claim, last, key, challenges)
+    folded_keys::end_holds_for_key(settings, &claim, last, key, challenges)
 }
 
 // Is row i accepted. The commitment's elements of the rows stand `step` places from each other: d in a flat table, WIDTH by value.

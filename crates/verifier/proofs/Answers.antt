@@ -23,7 +23,7 @@ use Rattle.protocol.proofs.Answers.{session-round-number, session-end-number}
 use Rattle.protocol.proofs.Inputs.{tested-below}
 use Rattle.protocol.proofs.Tests.{and-split, granted-zero, granted-refused}
 use Rattle.protocol.proofs.Refusals.{none-refused}
-use Rattle.equations.specs.Given.{RowsEvaluable}
+use Rattle.row_equations.specs.Given.{RowsEvaluable}
 use Rattle.verifier.specs.Records.{counted, rowRead}
 
 -- ---- start

@@ -134,7 +134,7 @@ impl Verifier {
         }
         let settings = session.settings;
         let claims = session.claims;
-        if !equations::by_value::round_holds(settings, &claims, &polynomial) {
+        if !row_equations::round_holds(settings, &claims, &polynomial) {
             let closed = shut(session);
             return Moved {
                 refusal: 0,
@@ -142,7 +142,7 @@ impl Verifier {
                 next: closed,
             };
         }
-        let after = equations::by_value::next_claims(settings, e, &polynomial);
+        let after = row_equations::next_claims(settings, e, &polynomial);
         let next = counted(session, e, after);
         Moved {
             refusal: 0,
@@ -169,7 +169,7 @@ impl Verifier {
         let claims = session.claims;
         let challenges = session.challenges;
         let closed = shut(session);
-        if equations::by_value::ends_hold(settings, &claims, &last, key, &challenges) {
+        if row_equations::ends_hold(settings, &claims, &last, key, &challenges) {
             return Moved {
                 refusal: 0,
                 verdict: Verdict::Accepted,

@@ -10,7 +10,7 @@ use Rattle.protocol.specs.Session.{end}
 use Rattle.protocol.proofs.Tests.{and-split}
 use Rattle.slices.specs.Slices.{lent}
 use Rattle.slices.proofs.Lent.{lent-fits, lent-degree}
-use Rattle.sessions.specs.Records.{flagged}
+use Rattle.session_records.specs.Records.{flagged}
 use Rattle.sessions.specs.Promises.{lastFits, endOn}
 use Rattle.sessions.proofs.Answers.{move-nowhere, move-refused, move-made}
 use borrow.Author.Needs.{needs}
@@ -27,7 +27,7 @@ returns-2 c =
     let loaded = c .before .before .before .before .before .load in
     let lengths =
     ap (λ b. lent (loaded .result .settings) b 0) (c .before .before .both .ensures)
-    ∙ ap (λ (s : Session). lent (s .settings) (eqb (length (a .last .now)) (s .settings .degree) && leb (getD (a .session .now) 6 0) 1) 0) (loaded .ensures) in
+    ∙ ap (λ (s : Session). lent (s .settings) (eqb (length (a .last .now)) (s .settings .degree) && leb (getD (a .session .now) 6 0) 1) 0) (loaded .ensures (c .before .before .before .before .before .before .before .if1 .left)) in
     move-refused _ _ (a .session .now) (c .before .before .before .before .before .before .before .if1 .left) _ (c .before .refusal .ensures ∙ lengths) (c .if2 .taken)
 
 returns-3 : tie.Need-returns-3
@@ -48,14 +48,14 @@ returns-3 c =
     let both = at-both .both in
     let lengths =
     ap (λ b. lent (loaded .result .settings) b 0) (both .ensures)
-    ∙ ap (λ (s : Session). lent (s .settings) (eqb (length (a .last .now)) (s .settings .degree) && leb (getD (a .session .now) 6 0) 1) 0) (loaded .ensures) in
+    ∙ ap (λ (s : Session). lent (s .settings) (eqb (length (a .last .now)) (s .settings .degree) && leb (getD (a .session .now) 6 0) 1) 0) (loaded .ensures (at-if1 .if1 .left)) in
     let passed = sym (refusal .ensures) ∙ nothing in
     let long = eqb-true _ _ (and-split (sym (both .ensures) ∙ lent-fits (loaded .result .settings) _ passed) .0) in
     let element = at-wholes .wholes .ensures (lent-degree (loaded .result .settings) _ passed) long in
     move-made _ _ (a .session .now) (at-if1 .if1 .left) _ (refusal .ensures ∙ lengths) nothing _ _ _ _
     (at-end .end .ensures .0
     ∙ ap (λ f. end (loaded .result) f (a .key .now)) element
-    ∙ ap (λ (s : Session). end s (paddedSigned (s .settings .degree) (a .last .now)) (a .key .now)) (loaded .ensures))
+    ∙ ap (λ (s : Session). end s (paddedSigned (s .settings .degree) (a .last .now)) (a .key .now)) (loaded .ensures (at-if1 .if1 .left)))
     (at-answer .answer .ensures)
 
 pub end-spec : {M : Type 1} → statement M

@@ -12,7 +12,7 @@ use Rattle.protocol.specs.Session.{round}
 use Rattle.protocol.proofs.Tests.{and-split}
 use Rattle.slices.specs.Slices.{lent, polynomialOf}
 use Rattle.slices.proofs.Lent.{lent-same, lent-fits, lent-allowed}
-use Rattle.sessions.specs.Records.{flagged}
+use Rattle.session_records.specs.Records.{flagged}
 use Rattle.sessions.specs.Promises.{polynomialFits, roundOn}
 use Rattle.sessions.proofs.Answers.{move-nowhere, move-refused, move-made}
 use borrow.Author.Needs.{needs}
@@ -34,7 +34,7 @@ returns-2 c =
     let lengths =
     ap (λ b. lent (loaded .result .settings) b 0) (c .before .before .both .ensures)
     ∙ sized (loaded .result .settings) (length (a .polynomial .now)) (getD (a .session .now) 6 0) _ (c .before .before .before .before .item-cells .ensures .0)
-    ∙ ap (λ (s : Session). lent (s .settings) (eqb (length (a .polynomial .now)) (polynomialCells (s .settings)) && leb (getD (a .session .now) 6 0) 1) 0) (loaded .ensures) in
+    ∙ ap (λ (s : Session). lent (s .settings) (eqb (length (a .polynomial .now)) (polynomialCells (s .settings)) && leb (getD (a .session .now) 6 0) 1) 0) (loaded .ensures (c .before .before .before .before .before .before .before .before .if1 .left)) in
     move-refused _ _ (a .session .now) (c .before .before .before .before .before .before .before .before .if1 .left) _ (c .before .refusal .ensures ∙ lengths) (c .if2 .taken)
 
 returns-3 : tie.Need-returns-3
@@ -56,13 +56,13 @@ returns-3 c =
     let lengths =
     ap (λ b. lent (loaded .result .settings) b 0) (at-both .both .ensures)
     ∙ sized (loaded .result .settings) (length (a .polynomial .now)) (getD (a .session .now) 6 0) _ (at-cells .item-cells .ensures .0)
-    ∙ ap (λ (s : Session). lent (s .settings) (eqb (length (a .polynomial .now)) (polynomialCells (s .settings)) && leb (getD (a .session .now) 6 0) 1) 0) (loaded .ensures) in
+    ∙ ap (λ (s : Session). lent (s .settings) (eqb (length (a .polynomial .now)) (polynomialCells (s .settings)) && leb (getD (a .session .now) 6 0) 1) 0) (loaded .ensures (at-if1 .if1 .left)) in
     let passed = sym (refusal .ensures) ∙ nothing in
     let allowed = lent-allowed (loaded .result .settings) _ passed in
     let long = eqb-true _ _ (and-split (sym (at-both .both .ensures) ∙ lent-fits (loaded .result .settings) _ passed) .0) ∙ ap (λ n. 3 * n) (at-cells .item-cells .ensures .0 allowed) in
     let elements = at-polynomial .polynomial .ensures allowed long in
     move-made _ _ (a .session .now) (at-if1 .if1 .left) _ (refusal .ensures ∙ lengths) nothing _ _ _ _
-    (at-round .round .ensures .0 ∙ ap (λ p. round (loaded .result) p (a .e)) elements ∙ ap (λ (s : Session). round s (polynomialOf (s .settings) (a .polynomial .now)) (a .e)) (loaded .ensures))
+    (at-round .round .ensures .0 ∙ ap (λ p. round (loaded .result) p (a .e)) elements ∙ ap (λ (s : Session). round s (polynomialOf (s .settings) (a .polynomial .now)) (a .e)) (loaded .ensures (at-if1 .if1 .left)))
     (at-answer .answer .ensures)
 
 pub round-spec : {M : Type 1} → statement M

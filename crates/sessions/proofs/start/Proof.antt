@@ -8,7 +8,7 @@ use Rattle.protocol.specs.Layout.{itemCells}
 use Rattle.protocol.specs.Settings.{settingsRefusal, hasLength}
 use Rattle.slices.specs.Slices.{lent}
 use Rattle.slices.proofs.Lent.{lent-same}
-use Rattle.sessions.specs.Records.{recordWidth}
+use Rattle.session_records.specs.Records.{recordWidth}
 use Rattle.sessions.proofs.Answers.{start-refused, start-made}
 use borrow.Author.Needs.{needs}
 use Rattle.sessions.proofs.start.Statement.{statement}
@@ -19,7 +19,7 @@ sized : (S : Settings) (x y n : ℕ) → (settingsRefusal S ≡ 0 → n ≡ item
 sized S x y n e = lent-same S _ _ 0 (λ z. ap (λ m. eqb x m && eqb y recordWidth) (e z))
 
 returns : tie.Need-returns
-unfolding hasLength recordWidth
+unfolding hasLength
 returns c =
     let at-store = c .before .before in
     let at-if1 = at-store .before .before in
@@ -32,7 +32,7 @@ returns c =
     (at-store .store .ensures)
 
 returns-2 : tie.Need-returns-2
-unfolding hasLength recordWidth
+unfolding hasLength
 returns-2 c =
     let at-store2 = c .before .before in
     let at-start = at-store2 .before .before .before in

@@ -16,7 +16,7 @@ use Rattle.residues.specs.Lists.{spliced}
 use Rattle.residues.proofs.Parts.{tail-all, tail-length}
 use Rattle.residues.proofs.Splice.{spliced-ext}
 use Rattle.sizes.proofs.Limits.{degree-most}
-use Rattle.equations.proofs.ByValue.{first-rows, rows-none, rows-all, rows-more}
+use Rattle.row_equations.proofs.RowByRow.{first-rows, rows-none, rows-all, rows-more}
 use Rattle.verifier.specs.Records.{rowRead}
 use Rattle.verifier.proofs.read_rows.Statement.{statement}
 use Rattle.verifier.proofs.read_rows.Tie as tie

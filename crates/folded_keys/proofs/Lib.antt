@@ -1,0 +1,4 @@
+pub mod KeyTurns
+pub mod Summing
+pub mod Gathering
+pub mod Ending
