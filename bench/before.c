@@ -1,7 +1,8 @@
 /* This library beside an earlier one: `before NEW.so OLD.so TURNS` times each call of both in turns, on the same input, by the processor time of the thread, and prints
  * medians and their ratio. What they answer is compared; where it differs the program says so and leaves with 1. Up to version 0.2 residues and modulus had 32 bits,
  * since then they have 64; up to 0.3 a record had 78 numbers, up to 0.4 it had 142; since 0.5 settings have a fifth number, that of rows, which is 1 here, and a record
- * has 527. Either library may be of any kind. `bench/before` builds both and runs it. */
+ * has 527; since 0.6 a listing has the claims as its last part, and a record for `verify` has to have them. Either library may be of any kind. `bench/before` builds both
+ * and runs it. */
 #include "../include/wovenrock.h"
 #include <dlfcn.h>
 #include <stdbool.h>
@@ -21,13 +22,19 @@
 /* Numbers of a record before there were rows, and what a text has since then, from the line before on. */
 #define OLD_SESSION 142
 #define ROWS_LINE "\n0 0 4 1\n"
+/* How the claims begin, and a record that has some; it is refused where there were none yet. */
+#define CLAIMS_LINE "\n7 0 0 "
+#define WITH_CLAIMS                                                                                                                                      \
+  "part item place value\n0 0 0 2\n0 0 1 1\n0 0 2 17\n0 0 3 1\n0 0 4 1\n1 0 0 3\n1 0 1 5\n1 1 0 7\n1 1 1 2\n3 0 0 15\n3 0 1 4\n4 0 0 4\n4 0 1 1\n4 1 0 6\n4 1 1 0\n" \
+  "4 2 0 12\n4 2 1 1\n5 0 0 1\n6 0 0 1\n6 0 1 0\n7 0 0 9\n7 0 1 6\n"
 #define MODULUS 2147483647u
 /* The one with a transform, since version 0.4. */
 #define SMALL 12289u
 
 /* What `prove` reads, and what `verify` reads. */
 #define WITNESS (WOVENROCK_KEY | WOVENROCK_MESSAGE | WOVENROCK_CHALLENGES)
-#define RECORD (WOVENROCK_KEY | WOVENROCK_COMMITMENT | WOVENROCK_ROUNDS | WOVENROCK_CHALLENGES | WOVENROCK_LAST)
+#define OLD_RECORD (WOVENROCK_KEY | WOVENROCK_COMMITMENT | WOVENROCK_ROUNDS | WOVENROCK_CHALLENGES | WOVENROCK_LAST)
+#define RECORD (OLD_RECORD | WOVENROCK_CLAIMS)
 
 /* The functions of a library. */
 #define CALLS(X)                                                                                                                                          \
@@ -52,6 +59,13 @@ static uint32_t draw(uint32_t below) {
 
 #define RESIDUE uint64_t
 #define HAS_ROWS 1
+#define HAS_CLAIMS 1
+#define NAMED(name) name##_claims
+#include "side.h"
+#undef HAS_CLAIMS
+#undef NAMED
+
+#define HAS_CLAIMS 0
 #define NAMED(name) name##_rows
 #include "side.h"
 #undef HAS_ROWS
@@ -68,10 +82,11 @@ static uint32_t draw(uint32_t below) {
 #include "side.h"
 #undef RESIDUE
 #undef HAS_ROWS
+#undef HAS_CLAIMS
 #undef NAMED
 
-/* The side with rows is declared as the header is. */
-#define DECLARED(name) _Static_assert(__builtin_types_compatible_p(__typeof__(((struct library_rows *)0)->name), __typeof__(&wovenrock_##name)), #name);
+/* The side with claims is declared as the header is. */
+#define DECLARED(name) _Static_assert(__builtin_types_compatible_p(__typeof__(((struct library_claims *)0)->name), __typeof__(&wovenrock_##name)), #name);
 CALLS(DECLARED)
 
 /* A side with the functions for it. */
@@ -91,8 +106,13 @@ static struct side load(const char *path) {
   }
   /* A library that knows of rows refuses to have none; another one does not see the fifth number. */
   __typeof__(&wovenrock_settings) settings = (__typeof__(settings))dlsym(file, "wovenrock_settings");
-  if (settings(2, 0, 17, 1, 0) != 0)
+  if (settings(2, 0, 17, 1, 0) != 0) {
+    __typeof__(&wovenrock_verify) verify = (__typeof__(verify))dlsym(file, "wovenrock_verify");
+    uint32_t verdict;
+    if (verify((const uint8_t *)WITH_CLAIMS, strlen(WITH_CLAIMS), &verdict) == 0)
+      return (struct side){load_claims(file), fill_claims, call_claims, answer_claims, clear_claims};
     return (struct side){load_rows(file), fill_rows, call_rows, answer_rows, clear_rows};
+  }
   /* This modulus is refused, but its low half alone is not. */
   struct side_64 *wide = load_64(file);
   if (wide->lib.settings(2, 0, (UINT64_C(1) << 63) + 17, 1) != 0)

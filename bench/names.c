@@ -38,7 +38,7 @@ static bool by_reader(const uint8_t *whole) {
   uint64_t settings[WOVENROCK_SETTINGS], key[4], none[1];
   uint32_t challenges[1];
   int32_t message[4], no_last[1];
-  return wovenrock_read(PARTS, whole, sizeof text - 1, settings, WOVENROCK_SETTINGS, key, 4, message, 4, none, 0, none, 0, challenges, 1, no_last, 0) == 0;
+  return wovenrock_read(PARTS, whole, sizeof text - 1, settings, WOVENROCK_SETTINGS, key, 4, message, 4, none, 0, none, 0, challenges, 1, no_last, 0, none, 0) == 0;
 }
 
 static double now(void) {

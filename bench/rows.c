@@ -99,7 +99,7 @@ static size_t length_of_one, length_of_four;
 static double write_with(uint32_t rows, uint32_t depth, uint8_t *text, size_t *length) {
   double start = now();
   uint32_t number = wovenrock_write(DEGREE, depth, modulus, BOUND, rows, WOVENROCK_KEY, key, NUMBERS, message, 0, folded_key, 0, folded_key, 0, challenges, 0, message, 0,
-                                    text, WOVENROCK_TEXT, length);
+                                    folded_key, 0, text, WOVENROCK_TEXT, length);
   double time = now() - start;
   need(number == 0, "a text is not written");
   return time;
@@ -109,7 +109,7 @@ static double read_of(const uint8_t *text, size_t length) {
   uint64_t settings[WOVENROCK_SETTINGS];
   double start = now();
   uint32_t number = wovenrock_read(WOVENROCK_KEY, text, length, settings, WOVENROCK_SETTINGS, folded_key, NUMBERS, folded_message, 0, folded_key, 0, folded_key, 0, challenges, 0,
-                                   folded_message, 0);
+                                   folded_message, 0, folded_key, 0);
   double time = now() - start;
   need(number == 0 && memcmp(folded_key, key, NUMBERS * sizeof *key) == 0, "a text is not read as it was written");
   return time;

@@ -1,5 +1,5 @@
 /* One side of the comparison of two libraries: its calls, the input of a row and what they answer, with residues and modulus of type RESIDUE. HAS_ROWS is 1 where settings
- * have a fifth number, that of rows, else 0. before.c includes this once for each kind; NAMED(x) makes a name of x that no other inclusion has. */
+ * have a fifth number, that of rows, else 0, and HAS_CLAIMS where texts have claims. before.c includes this once for each kind; NAMED(x) makes a name of x that no other inclusion has. */
 
 #if HAS_ROWS
 #define SHAPE uint32_t, uint32_t, RESIDUE, uint32_t, uint32_t
@@ -9,6 +9,11 @@
 #define SHAPE uint32_t, uint32_t, RESIDUE, uint32_t
 #define SETTINGS in->d, in->l, in->q, in->b
 #define SMALLEST 2, 0, 17, 1
+#endif
+#if HAS_CLAIMS
+#define AND_CLAIMS(...) , __VA_ARGS__
+#else
+#define AND_CLAIMS(...)
 #endif
 #define READ(type) const type *, size_t
 #define WRITTEN(type) type *, size_t
@@ -26,8 +31,10 @@ struct NAMED(library) {
   uint32_t (*check)(SHAPE, READ(RESIDUE), READ(int32_t), READ(RESIDUE), READ(RESIDUE), READ(uint32_t), uint32_t *);
   uint32_t (*judge)(SHAPE, READ(RESIDUE), uint32_t, READ(RESIDUE), READ(int64_t), uint32_t *);
   uint32_t (*extract)(SHAPE, READ(RESIDUE), READ(RESIDUE), READ(RESIDUE), READ(uint32_t), READ(int32_t), WRITTEN(int64_t));
-  uint32_t (*read)(uint32_t, READ(uint8_t), WRITTEN(RESIDUE), WRITTEN(RESIDUE), WRITTEN(int32_t), WRITTEN(RESIDUE), WRITTEN(RESIDUE), WRITTEN(uint32_t), WRITTEN(int32_t));
-  uint32_t (*write)(SHAPE, uint32_t, READ(RESIDUE), READ(int32_t), READ(RESIDUE), READ(RESIDUE), READ(uint32_t), READ(int32_t), WRITTEN(uint8_t), size_t *);
+  uint32_t (*read)(uint32_t, READ(uint8_t), WRITTEN(RESIDUE), WRITTEN(RESIDUE), WRITTEN(int32_t), WRITTEN(RESIDUE), WRITTEN(RESIDUE), WRITTEN(uint32_t), WRITTEN(int32_t)
+                   AND_CLAIMS(WRITTEN(RESIDUE)));
+  uint32_t (*write)(SHAPE, uint32_t, READ(RESIDUE), READ(int32_t), READ(RESIDUE), READ(RESIDUE), READ(uint32_t), READ(int32_t)
+                    AND_CLAIMS(READ(RESIDUE)), WRITTEN(uint8_t), size_t *);
   uint32_t (*prove)(READ(uint8_t), WRITTEN(uint8_t), size_t *);
   uint32_t (*verify)(READ(uint8_t), uint32_t *);
 };
@@ -90,10 +97,11 @@ static void NAMED(call)(void *side, enum call which) {
     return;
   case READ_TEXT:
     out->refusal = lib->read(WITNESS, in->text, in->text_length, out->settings, 4 + HAS_ROWS, out->key, in->n, out->message, in->n, none, 0, none, 0,
-                             out->challenges, in->l, no_last, 0);
+                             out->challenges, in->l, no_last, 0 AND_CLAIMS(none, 0));
     return;
   case WRITE_TEXT:
-    out->refusal = lib->write(SETTINGS, WITNESS, in->key, in->n, in->message, in->n, none, 0, none, 0, in->challenges, in->l, no_last, 0, out->text, TEXT, &out->count);
+    out->refusal = lib->write(SETTINGS, WITNESS, in->key, in->n, in->message, in->n, none, 0, none, 0, in->challenges, in->l, no_last, 0 AND_CLAIMS(none, 0), out->text, TEXT,
+                              &out->count);
     return;
   case PROVE:
     out->refusal = lib->prove(in->text, in->text_length, out->text, TEXT, &out->count);
@@ -157,21 +165,37 @@ static void NAMED(fill)(void *side, uint32_t d, uint32_t l, uint32_t q, uint32_t
     NAMED(call)(in, WRITE_TEXT);
     memcpy(in->text, in->out.text, in->out.count);
     in->text_length = in->out.count;
-    lib.write(SETTINGS, RECORD, in->key, in->n, none, 0, in->commitment, d, in->rounds, 3 * l * d, in->challenges, l, in->last, d, in->record, TEXT, &in->record_length);
+#if HAS_CLAIMS
+    /* The claims of a session after each round: a record has that of the first row from number 15 on. */
+    RESIDUE claims[DEPTH * WIDTH], record[WOVENROCK_SESSION];
+    uint32_t verdict;
+    lib.session_start(SETTINGS, in->commitment, d, record, session);
+    for (uint32_t i = 0; i < l; i++) {
+      lib.session_round(in->rounds + 3 * i * d, 3 * d, in->challenges[i], record, session, &verdict);
+      memcpy(claims + i * d, record + 15, d * sizeof *claims);
+    }
+#endif
+    uint32_t parts = HAS_CLAIMS ? RECORD : OLD_RECORD;
+    lib.write(SETTINGS, parts, in->key, in->n, none, 0, in->commitment, d, in->rounds, 3 * l * d, in->challenges, l, in->last, d AND_CLAIMS(claims, l * d), in->record, TEXT,
+              &in->record_length);
   }
 }
 
-/* A number that stands for all that was answered, which is the same for sides of every kind: the number of rows and its line in a text are left out, and the room for
- * the claims of other rows. */
+/* A number that stands for all that was answered, which is the same for sides of every kind: the number of rows and its line in a text are left out, the claims behind a
+ * listing, and the room for the claims of other rows. */
 static uint64_t NAMED(answer)(const void *side) {
   const struct NAMED(output) *out = &((const struct NAMED(side) *)side)->out;
-  size_t line = 0;
+  size_t line = 0, count = out->count;
+#if HAS_CLAIMS
+  const char *claims = count == 0 ? NULL : strstr((const char *)out->text, CLAIMS_LINE);
+  count = claims ? (size_t)(claims - (const char *)out->text) + 1 : count;
+#endif
 #if HAS_ROWS
   const char *found = out->count == 0 ? NULL : strstr((const char *)out->text, ROWS_LINE);
   line = found ? (size_t)(found - (const char *)out->text) : 0;
 #endif
   size_t skipped = line ? sizeof ROWS_LINE - 2 : 0;
-  uint64_t sum = mix(mix(out->refusal, out->number), out->count - skipped);
+  uint64_t sum = mix(mix(out->refusal, out->number), count - skipped);
 #define MIX(table)                                            \
   for (size_t i = 0; i < sizeof table / sizeof *table; i++) \
     sum = mix(sum, (uint64_t)table[i])
@@ -186,8 +210,10 @@ static uint64_t NAMED(answer)(const void *side) {
   MIX(out->message);
   MIX(out->last);
   MIX(out->w);
-  for (size_t i = 0; i < TEXT - sizeof ROWS_LINE; i++)
-    sum = mix(sum, out->text[i < line || line == 0 ? i : i + skipped]);
+  for (size_t i = 0; i < TEXT - sizeof ROWS_LINE; i++) {
+    size_t place = i < line || line == 0 ? i : i + skipped;
+    sum = mix(sum, place < count ? out->text[place] : 0);
+  }
 #undef MIX
   return sum;
 }
@@ -211,5 +237,6 @@ static void *NAMED(load)(void *file) {
 #undef SMALLEST
 #undef SETTINGS
 #undef SHAPE
+#undef AND_CLAIMS
 #undef READ
 #undef WRITTEN

@@ -40,7 +40,7 @@ ROWS = (1, 4)
 LONG, GROWTH, SLACK = 1, 14, 15
 
 PROVE_READS = ("key", "message", "challenges")
-PROVE_PRINTS = ("commitment", "rounds", "challenges", "last")
+PROVE_PRINTS = ("commitment", "rounds", "challenges", "last", "claims")
 VERIFY_READS = ("key", *PROVE_PRINTS)
 
 
@@ -102,10 +102,10 @@ def text_size(library, degree, depth, rows, parts, longest):
     """Bytes of the longest or the shortest text with these parts, None where the writer refuses it by 1."""
     largest = modulus_of(degree) - 1
     settings = library.settings(degree, depth, modulus_of(degree), LARGEST if longest else 1, rows)
-    lengths = (settings.key, settings.table, settings.commitment, settings.rounds, settings.challenges, settings.element)
+    lengths = (settings.key, settings.table, settings.commitment, settings.rounds, settings.challenges, settings.element, settings.claims)
     # of the final coefficients that a verifier can accept, -n*B has most bytes
     last = -(settings.bound << depth)
-    values = (largest, -settings.bound, largest, largest, 2 * degree - 1, last) if longest else (0,) * len(PARTS)
+    values = (largest, -settings.bound, largest, largest, 2 * degree - 1, last, largest) if longest else (0,) * len(PARTS)
     tables = {name: [value] * length for name, value, length in zip(PARTS, values, lengths) if name in parts}
     try:
         return len(library.write(settings, tables))

@@ -53,8 +53,8 @@
  *     5  modulus     q is even or out of range
  *     6  bound       B is out of range
  *     7  size        a slice has not exactly its length, value lines are not the required ones in order, a slice for text is shorter than the text,
- *                    a number of parts is not below 64, or a session record is neither open nor closed
- *     8  residue     a coefficient of a key, commitment, round polynomial or claim is not 0 to q - 1
+ *                    a number of parts is not below 128, or a session record is neither open nor closed
+ *     8  residue     a coefficient of a key, commitment, round polynomial or claim, in a record or a text, is not 0 to q - 1
  *     9  tall        a message coefficient is beyond its bound; in the writer, a final coefficient is -2147483648
  *    10  challenge   an exponent is not 0 to 2d - 1
  *    11  turn        a round with L or more rounds done, an end with other than L done, a closed record
@@ -89,10 +89,13 @@
  *   part 4   rounds       item rows*(3*(i-1)+j) + r: c_j of round i in row r
  *   part 5   challenges   item i-1: that of round i; place 0
  *   part 6   last         item 0: the final element
+ *   part 7   claims       item rows*(i-1) + r: the claim of row r after round i, which is c0 + X^e*c1 + X^(2e)*c2 modulo q of that round and row, e being the
+ *                         round's challenge
  *
- * Part 0 is always there. Which others are there is a number below 64: WOVENROCK_KEY for part 1 to WOVENROCK_LAST for part 6, added up. The slice
+ * Part 0 is always there. Which others are there is a number below 128: WOVENROCK_KEY for part 1 to WOVENROCK_CLAIMS for part 7, added up. The slice
  * that belongs to an absent part has length 0; each other one has exactly its length: key rows*n*d, message n*d, commitment rows*d, rounds rows*3*L*d,
- * challenges L, last d. Settings go to a slice of 5 numbers of 64 bits, in the order of part 0.
+ * challenges L, last d, claims rows*L*d. With L = 0 the rounds, challenges and claims have no lines, there or not. Settings go to a slice of 5 numbers of 64 bits,
+ * in the order of part 0.
  */
 #ifndef WOVENROCK_H
 #define WOVENROCK_H
@@ -105,7 +108,7 @@ extern "C" {
 #endif
 
 /* The version of this header, which is that of the archive it was installed with. */
-#define WOVENROCK_VERSION "0.5.0"
+#define WOVENROCK_VERSION "0.6.0"
 
 /* The largest degree and depth, and the most rows: for room that fits all settings, of which a call is lent the part that has its length. */
 #define WOVENROCK_DEGREE_MAX 128
@@ -132,6 +135,7 @@ extern "C" {
 #define WOVENROCK_ROUNDS 8
 #define WOVENROCK_CHALLENGES 16
 #define WOVENROCK_LAST 32
+#define WOVENROCK_CLAIMS 64
 
 /* What a function returns: the number of the refusal. */
 #define WOVENROCK_NOT_REFUSED 0   /* not refused; this is no verdict */
@@ -267,7 +271,8 @@ uint32_t wovenrock_look(const uint8_t *text, size_t text_length,
                         uint64_t *settings, size_t settings_length);
 
 /* The table reader: the settings of a text are written to `settings`, and the values of the parts that are there to their tables. Nothing is written
- * before the whole text has passed all tests. Lengths: settings 5, tables as above. Refusals 1 to 10, 16. */
+ * before the whole text has passed all tests. Claims are read as numbers; whether they are those of the rounds, `wovenrock_verify` says. Lengths: settings 5,
+ * tables as above. Refusals 1 to 10, 16. */
 uint32_t wovenrock_read(uint32_t parts,
                         const uint8_t *text, size_t text_length,
                         uint64_t *settings, size_t settings_length,
@@ -276,7 +281,8 @@ uint32_t wovenrock_read(uint32_t parts,
                         uint64_t *commitment, size_t commitment_length,
                         uint64_t *rounds, size_t rounds_length,
                         uint32_t *challenges, size_t challenges_length,
-                        int32_t *last, size_t last_length);
+                        int32_t *last, size_t last_length,
+                        uint64_t *claims, size_t claims_length);
 
 /* The table writer: the text of the parts that are there is written to `out`, and its length to `*count`. Bytes behind the text stay. Lengths: tables as
  * above; `out` may be longer than the text. Refusals 3 to 10, 16, then 1 (the text is over 65536 bytes), then 7 (`out` is shorter than the text). */
@@ -288,18 +294,19 @@ uint32_t wovenrock_write(uint32_t degree, uint32_t depth, uint64_t modulus, uint
                          const uint64_t *rounds, size_t rounds_length,
                          const uint32_t *challenges, size_t challenges_length,
                          const int32_t *last, size_t last_length,
+                         const uint64_t *claims, size_t claims_length,
                          uint8_t *out, size_t out_length,
                          size_t *count);
 
-/* The program `prove`: the whole opening of the key, message and challenges in a text of these three parts. The text of settings, commitment, rounds, challenges
- * and final element is written to `out`, and its length to `*count`. Bytes behind it stay. Refusals 1 to 10, 16, then 1 and 7 as in the table writer;
+/* The program `prove`: the whole opening of the key, message and challenges in a text of these three parts. The text of settings, commitment, rounds, challenges,
+ * final element and claims is written to `out`, and its length to `*count`. Bytes behind it stay. Refusals 1 to 10, 16, then 1 and 7 as in the table writer;
  * with WOVENROCK_TEXT bytes it is never 7. */
 uint32_t wovenrock_prove(const uint8_t *text, size_t text_length,
                          uint8_t *out, size_t out_length,
                          size_t *count);
 
-/* The program `verify`: is the transcript in a text of settings, key, commitment, rounds, challenges and final element accepted? `*verdict` becomes 2 or 3.
- * Refusals 1 to 8, 10, 16. */
+/* The program `verify`: is the transcript in a text of settings, key, commitment, rounds, challenges, final element and claims accepted? `*verdict` becomes 2 or 3:
+ * 3 also where a claim in the text is not the one of its round and row. Refusals 1 to 8, 10, 16. */
 uint32_t wovenrock_verify(const uint8_t *text, size_t text_length, uint32_t *verdict);
 
 /* What follows is compiled with the caller's program and is no part of the archive: the version, the word of a refusal, and the lengths that the calls above want. A
@@ -363,6 +370,11 @@ static inline size_t wovenrock_challenges_length(uint32_t depth) {
 /* rows*3*L*d: the round elements of a transcript. */
 static inline size_t wovenrock_rounds_length(uint32_t degree, uint32_t depth, uint32_t rows) {
     return wovenrock_challenges_length(depth) * wovenrock_polynomial_length(degree, rows);
+}
+
+/* rows*L*d: the claims after each round of a transcript. */
+static inline size_t wovenrock_claims_length(uint32_t degree, uint32_t depth, uint32_t rows) {
+    return wovenrock_challenges_length(depth) * wovenrock_commitment_length(degree, rows);
 }
 
 /* 3^L: how many leaves a full tree has. */

@@ -326,6 +326,7 @@ fn sizes(shape: &Shape) -> Lengths {
         polynomial: shape.polynomial(),
         rounds: shape.rounds(),
         challenges: shape.l,
+        claims: shape.claims(),
         tree_rounds: shape.tree_rounds(),
         tree_challenges: 3 * shape.nodes(),
         leaves: shape.leaves() * shape.d,

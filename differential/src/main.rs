@@ -141,7 +141,7 @@ impl Run {
         self.names()?;
         self.large_numbers()?;
         self.call::<Look>(10_000, 100)?;
-        self.call::<Read>(12_000, 200)?;
+        self.call::<Read>(16_000, 200)?;
         self.call::<Write>(10_000, 200)?;
         self.call::<Prove>(10_000, 100)?;
         self.call::<Verify>(10_000, 200)

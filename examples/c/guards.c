@@ -137,10 +137,10 @@ static uint32_t judge(struct input *in) { return wovenrock_judge(SETTINGS, SLICE
 static uint32_t extract(struct input *in) { return wovenrock_extract(SETTINGS, SLICE(0), SLICE(1), SLICE(2), SLICE(3), SLICE(4), SLICE(5)); }
 static uint32_t look(struct input *in) { return wovenrock_look(SLICE(0), SLICE(1)); }
 static uint32_t reads(struct input *in) {
-    return wovenrock_read(in->parts, SLICE(0), SLICE(1), SLICE(2), SLICE(3), SLICE(4), SLICE(5), SLICE(6), SLICE(7));
+    return wovenrock_read(in->parts, SLICE(0), SLICE(1), SLICE(2), SLICE(3), SLICE(4), SLICE(5), SLICE(6), SLICE(7), SLICE(8));
 }
 static uint32_t writes(struct input *in) {
-    return wovenrock_write(SETTINGS, in->parts, SLICE(0), SLICE(1), SLICE(2), SLICE(3), SLICE(4), SLICE(5), SLICE(6), AT(7));
+    return wovenrock_write(SETTINGS, in->parts, SLICE(0), SLICE(1), SLICE(2), SLICE(3), SLICE(4), SLICE(5), SLICE(6), SLICE(7), AT(8));
 }
 static uint32_t prove(struct input *in) { return wovenrock_prove(SLICE(0), SLICE(1), AT(2)); }
 static uint32_t verify(struct input *in) { return wovenrock_verify(SLICE(0), AT(1)); }
@@ -407,6 +407,7 @@ static void run(const struct scenario *scenario) {
 #define COMMITMENT U64("commitment", READ, 15, 4)
 #define ROUNDS U64("rounds", READ, 4, 1, 6, 0, 12, 1)
 #define LAST I32("last", READ, 1, 0)
+#define CLAIMS U64("claims", READ, 9, 6)
 #define VERDICT ZEROS("verdict", SINGLE, 4, false, 1)
 
 static struct input worked(void) {
@@ -633,7 +634,8 @@ static struct input large_extract_input(void) {
 #define TEXT_SETTINGS "part item place value\n0 0 0 2\n0 0 1 1\n0 0 2 17\n0 0 3 1\n0 0 4 1\n"
 #define TEXT_KEY "1 0 0 3\n1 0 1 5\n1 1 0 7\n1 1 1 2\n"
 #define TEXT_MESSAGE "2 0 0 1\n2 0 1 -1\n2 1 0 1\n2 1 1 0\n"
-#define TEXT_OPENING "3 0 0 15\n3 0 1 4\n4 0 0 4\n4 0 1 1\n4 1 0 6\n4 1 1 0\n4 2 0 12\n4 2 1 1\n5 0 0 1\n6 0 0 1\n6 0 1 0\n"
+#define TEXT_OPENING "3 0 0 15\n3 0 1 4\n4 0 0 4\n4 0 1 1\n4 1 0 6\n4 1 1 0\n4 2 0 12\n4 2 1 1\n5 0 0 1\n6 0 0 1\n6 0 1 0\n7 0 0 9\n7 0 1 6\n"
+#define ALL_PARTS 127
 
 static struct input look_input(void) {
     struct input in = worked();
@@ -644,7 +646,7 @@ static struct input look_input(void) {
 
 static struct input read_input(void) {
     struct input in = worked();
-    in.parts = 63;
+    in.parts = ALL_PARTS;
     lend(&in, BYTES("text", TEXT, TEXT_SETTINGS TEXT_KEY TEXT_MESSAGE TEXT_OPENING));
     lend(&in, U64("settings", WRITTEN, 21, 22, 23, 24, 25));
     lend(&in, U64("key", WRITTEN, 21, 22, 23, 24));
@@ -653,6 +655,7 @@ static struct input read_input(void) {
     lend(&in, U64("rounds", WRITTEN, 21, 22, 23, 24, 25, 26));
     lend(&in, U32("challenges", WRITTEN, 21));
     lend(&in, I32("last", WRITTEN, 21, 22));
+    lend(&in, U64("claims", WRITTEN, 21, 22));
     return in;
 }
 
@@ -660,11 +663,11 @@ static struct input read_input(void) {
 #define TWO_TEXT_KEY TEXT_KEY "1 2 0 2\n1 2 1 0\n1 3 0 5\n1 3 1 0\n"
 #define TWO_OPENING \
     "3 0 0 15\n3 0 1 4\n3 1 0 7\n3 1 1 15\n4 0 0 4\n4 0 1 1\n4 1 0 1\n4 1 1 16\n4 2 0 6\n4 2 1 0\n4 3 0 12\n4 3 1 6\n4 4 0 12\n4 4 1 1\n4 5 0 11\n4 5 1 0\n" \
-    "5 0 0 1\n6 0 0 1\n6 0 1 0\n"
+    "5 0 0 1\n6 0 0 1\n6 0 1 0\n7 0 0 9\n7 0 1 6\n7 1 0 1\n7 1 1 11\n"
 
 static struct input two_read_input(void) {
     struct input in = two();
-    in.parts = 63;
+    in.parts = ALL_PARTS;
     lend(&in, BYTES("text", TEXT, TWO_SETTINGS TWO_TEXT_KEY TEXT_MESSAGE TWO_OPENING));
     lend(&in, U64("settings", WRITTEN, 21, 22, 23, 24, 25));
     lend(&in, U64("key", WRITTEN, 21, 22, 23, 24, 25, 26, 27, 28));
@@ -673,6 +676,7 @@ static struct input two_read_input(void) {
     lend(&in, U64("rounds", WRITTEN, 21, 22, 23, 24, 25, 26, 27, 28, 29, 30, 31, 32));
     lend(&in, U32("challenges", WRITTEN, 21));
     lend(&in, I32("last", WRITTEN, 21, 22));
+    lend(&in, U64("claims", WRITTEN, 21, 22, 23, 24));
     return in;
 }
 
@@ -703,18 +707,20 @@ static struct input read_key_input(void) {
     lend(&in, ZEROS("rounds", WRITTEN, 8, false, 0));
     lend(&in, ZEROS("challenges", WRITTEN, 4, false, 0));
     lend(&in, ZEROS("last", WRITTEN, 4, true, 0));
+    lend(&in, ZEROS("claims", WRITTEN, 8, false, 0));
     return in;
 }
 
 static struct input write_input(void) {
     struct input in = worked();
-    in.parts = 63;
+    in.parts = ALL_PARTS;
     lend(&in, KEY(READ));
     lend(&in, MESSAGE(READ));
     lend(&in, COMMITMENT);
     lend(&in, ROUNDS);
     lend(&in, U32("challenges", READ, 1));
     lend(&in, LAST);
+    lend(&in, CLAIMS);
     lend(&in, ZEROS("out", OUT, 1, false, strlen(TEXT_SETTINGS TEXT_KEY TEXT_MESSAGE TEXT_OPENING)));
     lend(&in, ZEROS("count", SINGLE, 8, false, 1));
     return in;
@@ -729,6 +735,7 @@ static struct input write_long_input(void) {
     lend(&in, ZEROS("rounds", READ, 8, false, 0));
     lend(&in, ZEROS("challenges", READ, 4, false, 0));
     lend(&in, ZEROS("last", READ, 4, true, 0));
+    lend(&in, ZEROS("claims", READ, 8, false, 0));
     lend(&in, ZEROS("out", OUT, 1, false, 0));
     lend(&in, ZEROS("count", SINGLE, 8, false, 1));
     return in;
@@ -782,22 +789,27 @@ static const struct scenario scenarios[] = {
     {"look", look, look_input, 0, {FAULTY_TEXT, NO_MORE}},
     {"read", reads, read_input, 0, {FAULTY_TEXT, IN_LINE(7, "2 1 1 0\n", ""), IN_LINE(8, "1 0 0 3\n", "1 0 0 17\n"), IN_LINE(8, "1 0 0 3\n", "1 0 0 -1\n"),
         IN_LINE(2, "2 0 0 1\n", "2 0 0 4294967296\n"), IN_LINE(8, "1 0 0 3\n", "1 0 0 2305843009213693951\n"),
-        IN_LINE(9, "2 0 0 1\n", "2 0 0 2\n"), IN_LINE(10, "5 0 0 1\n", "5 0 0 4\n"), IN_PARTS(7, 62), IN_PARTS(7, 127),
-        IN_PARTS(7, 63 + (INT64_C(1) << 31)), NO_MORE}},
+        IN_LINE(9, "2 0 0 1\n", "2 0 0 2\n"), IN_LINE(10, "5 0 0 1\n", "5 0 0 4\n"), IN_LINE(8, "7 0 0 9\n", "7 0 0 17\n"),
+        IN_LINE(7, "7 0 1 6\n", ""), IN_LINE(7, "7 0 0 9\n7 0 1 6\n", ""), IN_PARTS(7, ALL_PARTS - 1), IN_PARTS(7, ALL_PARTS - WOVENROCK_CLAIMS), IN_PARTS(7, 255),
+        IN_PARTS(7, ALL_PARTS + (INT64_C(1) << 31)), NO_MORE}},
     {"read, two rows", reads, two_read_input, 0, {IN_LINE(16, "0 0 4 2\n", "0 0 4 0\n"), IN_LINE(7, "0 0 4 2\n", "0 0 4 1\n"), IN_LINE(7, "0 0 4 2\n", "0 0 4 3\n"),
         IN_LINE(7, "1 3 1 0\n", ""), IN_LINE(8, "1 3 0 5\n", "1 3 0 17\n"), IN_LINE(8, "3 1 1 15\n", "3 1 1 17\n"), IN_LINE(8, "4 5 0 11\n", "4 5 0 17\n"),
-        NO_MORE}},
-    {"read, a key", reads, read_key_input, 0, {FAULTY_TEXT, IN_PARTS(7, 0), IN_PARTS(7, 65), NO_MORE}},
+        IN_LINE(8, "7 1 1 11\n", "7 1 1 17\n"), IN_LINE(7, "7 1 1 11\n", ""), NO_MORE}},
+    {"read, a key", reads, read_key_input, 0, {FAULTY_TEXT, IN_PARTS(7, 0), IN_PARTS(7, WOVENROCK_KEY + WOVENROCK_CLAIMS),
+        IN_PARTS(7, WOVENROCK_KEY + 128), NO_MORE}},
     {"write", writes, write_input, 0, {FAULTY_SETTINGS, IN_SLICE(8, 0, 0, 17), IN_SLICE(8, 2, 0, 17), IN_SLICE(8, 3, 0, 17), IN_SLICE(9, 1, 0, 2),
-        IN_SLICE(9, 5, 0, INT32_MIN), IN_SLICE(10, 4, 0, 4), IN_PARTS(7, 62), IN_PARTS(7, 127), NO_MORE}},
-    {"write, too long", writes, write_long_input, 1, {FAULTY_SETTINGS, IN_SLICE(8, 0, 0, 17), IN_PARTS(7, 65), NO_MORE}},
+        IN_SLICE(9, 5, 0, INT32_MIN), IN_SLICE(10, 4, 0, 4), IN_SLICE(8, 6, 1, 17), IN_PARTS(7, ALL_PARTS - 1), IN_PARTS(7, ALL_PARTS - WOVENROCK_CLAIMS),
+        IN_PARTS(7, 255), NO_MORE}},
+    {"write, too long", writes, write_long_input, 1, {FAULTY_SETTINGS, IN_SLICE(8, 0, 0, 17), IN_PARTS(7, WOVENROCK_KEY + WOVENROCK_CLAIMS),
+        IN_PARTS(7, WOVENROCK_KEY + 128), NO_MORE}},
     {"prove", prove, prove_input, 0, {FAULTY_TEXT, IN_LINE(7, "2 1 1 0\n", ""), IN_LINE(8, "1 0 0 3\n", "1 0 0 17\n"), IN_LINE(9, "2 0 0 1\n", "2 0 0 2\n"),
         IN_LINE(10, "5 0 0 1\n", "5 0 0 4\n"), NO_MORE}},
     {"prove, two rows", prove, two_prove_input, 0, {IN_LINE(16, "0 0 4 2\n", "0 0 4 5\n"), IN_LINE(7, "0 0 4 2\n", "0 0 4 1\n"), IN_LINE(8, "1 3 0 5\n", "1 3 0 17\n"),
         NO_MORE}},
     {"verify", verify, verify_input, 0, {FAULTY_TEXT, IN_LINE(7, "3 0 1 4\n", ""), IN_LINE(8, "4 2 1 1\n", "4 2 1 17\n"), IN_LINE(10, "5 0 0 1\n", "5 0 0 4\n"),
-        NO_MORE}},
-    {"verify, two rows", verify, two_verify_input, 0, {IN_LINE(16, "0 0 4 2\n", "0 0 4 5\n"), IN_LINE(7, "3 1 1 15\n", ""), IN_LINE(8, "4 5 0 11\n", "4 5 0 17\n"), NO_MORE}},
+        IN_LINE(7, "7 0 0 9\n7 0 1 6\n", ""), IN_LINE(7, "7 0 1 6\n", "7 0 1 6\n7 1 0 0\n"), IN_LINE(8, "7 0 1 6\n", "7 0 1 17\n"), NO_MORE}},
+    {"verify, two rows", verify, two_verify_input, 0, {IN_LINE(16, "0 0 4 2\n", "0 0 4 5\n"), IN_LINE(7, "3 1 1 15\n", ""), IN_LINE(8, "4 5 0 11\n", "4 5 0 17\n"),
+        IN_LINE(7, "7 1 1 11\n", ""), IN_LINE(8, "7 1 1 11\n", "7 1 1 -1\n"), NO_MORE}},
 };
 
 int main(void) {

@@ -34,7 +34,7 @@ static void try(struct shape at) {
     size_t of_key = wovenrock_key_length(d, depth, rows), of_commitment = wovenrock_commitment_length(d, rows);
     size_t rounds = wovenrock_rounds_length(d, depth, rows), challenges = wovenrock_challenges_length(depth);
     size_t tree_rounds = wovenrock_tree_rounds_length(d, depth, rows), tree_challenges = wovenrock_tree_challenges_length(depth);
-    size_t leaves = wovenrock_leaves_length(d, depth), polynomial = wovenrock_polynomial_length(d, rows);
+    size_t leaves = wovenrock_leaves_length(d, depth), polynomial = wovenrock_polynomial_length(d, rows), claims = wovenrock_claims_length(d, depth, rows);
     uint64_t *key = zeros(of_key, 8), *commitment = zeros(of_commitment, 8), *elements = zeros(tree_rounds + rounds + polynomial, 8), session[WOVENROCK_SESSION];
     uint32_t *exponents = zeros(tree_challenges + challenges, 4), verdict, yes;
     int32_t *message = zeros(table, 4), *last = zeros(element, 4), *wholes = zeros(leaves, 4);
@@ -56,6 +56,11 @@ static void try(struct shape at) {
     uint32_t number = wovenrock_judge(d, depth, q, bound, rows, commitment, of_commitment, wovenrock_extracted_slack(depth), key, of_key, w, table, &yes);
     if (number != WOVENROCK_REFUSED_GROWTH)
         want("judge", at, 1, number == 0 ? yes : number + 100);
+    /* The text of so many claims is not too long at any settings. */
+    static uint8_t out[WOVENROCK_TEXT];
+    size_t count;
+    want("write of claims", at, 0, wovenrock_write(d, depth, q, bound, rows, WOVENROCK_CLAIMS, key, 0, message, 0, commitment, 0, elements, 0, exponents, 0, last, 0, elements,
+                                                   claims, out, sizeof out, &count));
     free(key), free(commitment), free(elements), free(exponents), free(message), free(last), free(wholes), free(w);
 }
 
@@ -63,6 +68,7 @@ static void try(struct shape at) {
 static void try_refused(struct shape at) {
     want("key of no length", at, 0, (uint32_t)wovenrock_key_length(at.degree, at.depth, at.rows));
     want("rounds of no length", at, 0, (uint32_t)wovenrock_rounds_length(at.degree, at.depth, at.rows));
+    want("claims of no length", at, 0, (uint32_t)wovenrock_claims_length(at.degree, at.depth, at.rows));
     want("tree's rounds of no length", at, 0, (uint32_t)wovenrock_tree_rounds_length(at.degree, at.depth, at.rows));
     if (at.rows < 1 || at.rows > WOVENROCK_ROWS_MAX) {
         want("commitment of no length", at, 0, (uint32_t)wovenrock_commitment_length(at.degree, at.rows));

@@ -8,7 +8,7 @@
 
 /* Where the extractor's growth is not refused, a message has at most 1024 numbers. */
 enum { ROOM = 1 << 20, TABLE_MOST = 1024, KEY_MOST = WOVENROCK_ROWS_MAX * TABLE_MOST, COMMITMENT_MOST = WOVENROCK_ROWS_MAX * WOVENROCK_DEGREE_MAX };
-enum { PATH_MOST = 3 * WOVENROCK_DEPTH_MAX * COMMITMENT_MOST };
+enum { CLAIMS_MOST = WOVENROCK_DEPTH_MAX * COMMITMENT_MOST, PATH_MOST = 3 * CLAIMS_MOST };
 
 static uint8_t input[ROOM + 1];
 
@@ -64,18 +64,19 @@ int main(void) {
     uint32_t *no_challenges = room(0, sizeof *no_challenges);
     int32_t *no_message = room(0, sizeof *no_message);
     not_refused("read", wovenrock_read(WOVENROCK_KEY, text, text_length(text), settings, WOVENROCK_SETTINGS, key, key_length, no_message, 0, none, 0, none, 0,
-                                       no_challenges, 0, no_message, 0));
+                                       no_challenges, 0, no_message, 0, none, 0));
     uint64_t *rounds = room(wovenrock_tree_rounds_length(degree, depth, rows), sizeof *rounds);
     uint32_t *challenges = room(wovenrock_tree_challenges_length(depth), sizeof *challenges);
     int32_t *leaves = room(wovenrock_leaves_length(degree, depth), sizeof *leaves);
 
     for (size_t leaf = 0; leaf < leaves_count; leaf++) {
         text += text_length(text);
-        uint64_t path_rounds[PATH_MOST], found[WOVENROCK_SETTINGS];
+        uint64_t path_rounds[PATH_MOST], path_claims[CLAIMS_MOST], found[WOVENROCK_SETTINGS];
         uint32_t path_challenges[WOVENROCK_DEPTH_MAX];
-        const uint32_t parts = WOVENROCK_COMMITMENT | WOVENROCK_ROUNDS | WOVENROCK_CHALLENGES | WOVENROCK_LAST;
+        const uint32_t parts = WOVENROCK_COMMITMENT | WOVENROCK_ROUNDS | WOVENROCK_CHALLENGES | WOVENROCK_LAST | WOVENROCK_CLAIMS;
         not_refused("read", wovenrock_read(parts, text, text_length(text), found, WOVENROCK_SETTINGS, none, 0, no_message, 0, commitment, commitment_length,
-                                           path_rounds, wovenrock_rounds_length(degree, depth, rows), path_challenges, depth, &leaves[leaf * d], d));
+                                           path_rounds, wovenrock_rounds_length(degree, depth, rows), path_challenges, depth, &leaves[leaf * d], d, path_claims,
+                                           wovenrock_claims_length(degree, depth, rows)));
         if (memcmp(found, settings, sizeof settings) != 0)
             stop("a listing has other settings");
         share(first_commitment, commitment, commitment_length * sizeof *commitment, leaf > 0);

@@ -14,6 +14,14 @@ static void *room(size_t count, size_t width) {
     return numbers;
 }
 
+/* A line with the numbers of a table. */
+static void print_table(const char *what, const uint64_t *table, size_t count) {
+    printf("%s:", what);
+    for (size_t k = 0; k < count; k++)
+        printf(" %" PRIu64, table[k]);
+    printf("\n");
+}
+
 /* What `verify` says of a text. */
 static void print_verdict(const char *what, const uint8_t *text, size_t count) {
     uint32_t verdict;
@@ -42,25 +50,24 @@ int main(void) {
     /* The settings give every length; the message is absent, and its slice has length 0. */
     size_t key_length = wovenrock_key_length(degree, depth, rows), commitment_length = wovenrock_commitment_length(degree, rows);
     size_t rounds_length = wovenrock_rounds_length(degree, depth, rows), challenges_length = wovenrock_challenges_length(depth);
-    size_t element = wovenrock_element_length(degree);
+    size_t element = wovenrock_element_length(degree), claims_length = wovenrock_claims_length(degree, depth, rows);
     uint64_t *key = room(key_length, sizeof *key), *commitment = room(commitment_length, sizeof *commitment), *rounds = room(rounds_length, sizeof *rounds);
+    uint64_t *claims = room(claims_length, sizeof *claims);
     uint32_t *challenges = room(challenges_length, sizeof *challenges);
     int32_t *last = room(element, sizeof *last), *message = room(0, sizeof *message);
-    uint32_t parts = WOVENROCK_KEY | WOVENROCK_COMMITMENT | WOVENROCK_ROUNDS | WOVENROCK_CHALLENGES | WOVENROCK_LAST;
+    uint32_t parts = WOVENROCK_KEY | WOVENROCK_COMMITMENT | WOVENROCK_ROUNDS | WOVENROCK_CHALLENGES | WOVENROCK_LAST | WOVENROCK_CLAIMS;
     number = wovenrock_read(parts, text, read, settings, WOVENROCK_SETTINGS, key, key_length, message, 0, commitment, commitment_length, rounds, rounds_length, challenges,
-                            challenges_length, last, element);
+                            challenges_length, last, element, claims, claims_length);
     if (number != WOVENROCK_NOT_REFUSED) {
         printf("read: refused %u: %s\n", number, wovenrock_word(number));
         return 1;
     }
-    printf("commitment:");
-    for (size_t k = 0; k < commitment_length; k++)
-        printf(" %" PRIu64, commitment[k]);
-    printf("\n");
+    print_table("commitment", commitment, commitment_length);
+    print_table("claims", claims, claims_length);
 
     size_t written;
     number = wovenrock_write(degree, depth, modulus, bound, rows, parts, key, key_length, message, 0, commitment, commitment_length, rounds, rounds_length, challenges,
-                             challenges_length, last, element, out, sizeof out, &written);
+                             challenges_length, last, element, claims, claims_length, out, sizeof out, &written);
     if (number != WOVENROCK_NOT_REFUSED) {
         printf("write: refused %u: %s\n", number, wovenrock_word(number));
         return 1;
@@ -70,17 +77,27 @@ int main(void) {
     print_verdict("as it was read", text, read);
 
     /* Another final element is well formed, and is rejected. */
-    last[0] = last[0] == 0 ? 1 : 0;
+    int32_t final = last[0];
+    last[0] = final == 0 ? 1 : 0;
     number = wovenrock_write(degree, depth, modulus, bound, rows, parts, key, key_length, message, 0, commitment, commitment_length, rounds, rounds_length, challenges,
-                             challenges_length, last, element, out, sizeof out, &written);
+                             challenges_length, last, element, claims, claims_length, out, sizeof out, &written);
     if (number == WOVENROCK_NOT_REFUSED)
         print_verdict("with another final element", out, written);
+
+    /* Nor is a claim taken that is not the one of its round. */
+    last[0] = final;
+    if (claims_length > 0)
+        claims[0] = (claims[0] + 1) % modulus;
+    number = wovenrock_write(degree, depth, modulus, bound, rows, parts, key, key_length, message, 0, commitment, commitment_length, rounds, rounds_length, challenges,
+                             challenges_length, last, element, claims, claims_length, out, sizeof out, &written);
+    if (number == WOVENROCK_NOT_REFUSED)
+        print_verdict("with another claim", out, written);
 
     /* A second way to write the same numbers is no text. */
     memcpy(out, text, read);
     out[read - 1] = ' ';
     print_verdict("with a space for the last line feed", out, read);
 
-    free(key), free(commitment), free(rounds), free(challenges), free(last), free(message);
+    free(key), free(commitment), free(rounds), free(challenges), free(last), free(claims), free(message);
     return !same;
 }

@@ -6,11 +6,11 @@ import unittest
 from wovenrock import Library, Refused
 
 KEY, MESSAGE, COMMITMENT = [3, 5, 7, 2], [1, -1, 1, 0], [15, 4]
-ROUNDS, LAST = [4, 1, 6, 0, 12, 1], [1, 0]
+ROUNDS, LAST, CLAIMS = [4, 1, 6, 0, 12, 1], [1, 0], [9, 6]
 # the same with a second row in the key, of weights 2 and 5
 TWO_KEY, TWO_COMMITMENT = KEY + [2, 0, 5, 0], COMMITMENT + [7, 15]
-TWO_ROUNDS = [4, 1, 1, 16, 6, 0, 12, 6, 12, 1, 11, 0]
-TRANSCRIPT = {"key": KEY, "commitment": COMMITMENT, "rounds": ROUNDS, "challenges": [1], "last": LAST}
+TWO_ROUNDS, TWO_CLAIMS = [4, 1, 1, 16, 6, 0, 12, 6, 12, 1, 11, 0], CLAIMS + [1, 11]
+TRANSCRIPT = {"key": KEY, "commitment": COMMITMENT, "rounds": ROUNDS, "challenges": [1], "last": LAST, "claims": CLAIMS}
 
 
 class WorkedExample(unittest.TestCase):
@@ -74,8 +74,29 @@ class WorkedExample(unittest.TestCase):
         self.refused(7, self.library.read, text, ["key"])
         self.assertRaises(ValueError, self.library.read, text, ["keys"])
         asked = self.library.write(self.settings, {"key": KEY, "message": MESSAGE, "challenges": [1]})
-        listing = {name: TRANSCRIPT[name] for name in ("commitment", "rounds", "challenges", "last")}
+        listing = {name: TRANSCRIPT[name] for name in ("commitment", "rounds", "challenges", "last", "claims")}
         self.assertEqual(self.library.prove(asked), self.library.write(self.settings, listing))
+
+    def test_claims(self):
+        text = self.library.write(self.settings, TRANSCRIPT)
+        self.assertTrue(text.endswith(b"6 0 1 0\n7 0 0 9\n7 0 1 6\n"))
+        # one that is wrong is rejected, one that is no residue or missing refused
+        self.assertFalse(self.library.verify(text.replace(b"7 0 1 6\n", b"7 0 1 7\n")))
+        self.refused(8, self.library.verify, text.replace(b"7 0 1 6\n", b"7 0 1 17\n"))
+        self.refused(7, self.library.verify, text.replace(b"7 0 1 6\n", b""))
+        self.refused(7, self.library.verify, text + b"7 1 0 0\n")
+        without = {name: table for name, table in TRANSCRIPT.items() if name != "claims"}
+        text = self.library.write(self.settings, without)
+        self.refused(7, self.library.verify, text)
+        self.refused(7, self.library.read, text, TRANSCRIPT)
+        self.refused(7, self.library.write, self.settings, {**without, "claims": CLAIMS[:1]})
+        self.refused(8, self.library.write, self.settings, {**without, "claims": [9, 17]})
+        # with depth 0 there are none
+        flat = self.library.settings(2, 0, 17, 1)
+        tables = {"key": [3, 5], "commitment": [8, 2], "rounds": [], "challenges": [], "last": [1, -1], "claims": []}
+        text = self.library.write(flat, tables)
+        self.assertTrue(text.endswith(b"6 0 1 -1\n") and self.library.verify(text))
+        self.assertEqual(self.library.read(text, tables), (flat, tables))
 
     def test_two_rows(self):
         library = self.library
@@ -97,10 +118,14 @@ class WorkedExample(unittest.TestCase):
         self.assertFalse(library.judge(settings, COMMITMENT + [7, 14], 4, TWO_KEY, w))
         self.assertFalse(library.check(settings, COMMITMENT + [7, 14], LAST, TWO_KEY, TWO_ROUNDS, [1]))
         tables = {"key": TWO_KEY, "commitment": TWO_COMMITMENT, "rounds": TWO_ROUNDS, "challenges": [1], "last": LAST}
+        tables["claims"] = TWO_CLAIMS
         text = library.write(settings, tables)
         self.assertIn(b"0 0 4 2\n1 0 0 3\n", text)
         self.assertEqual(library.read(text, tables), (settings, tables))
         self.assertTrue(library.verify(text))
+        # a wrong claim of either row is enough
+        for line in (b"7 0 0 9\n", b"7 1 1 11\n"):
+            self.assertFalse(library.verify(text.replace(line, line[:6] + b"0\n")))
 
     def test_largest_modulus(self):
         library, q = self.library, 2**61 - 1
@@ -140,7 +165,7 @@ class WorkedExample(unittest.TestCase):
         lengths = (deep.element, deep.polynomial, deep.table, deep.rounds, deep.challenges, deep.nodes, deep.leaves, deep.slack)
         self.assertEqual(lengths, (4, 12, 16, 24, 2, 4, 9, 16))
         deep = self.library.settings(4, 2, 17, 1, 3)
-        self.assertEqual((deep.commitment, deep.polynomial, deep.key, deep.table, deep.rounds), (12, 36, 48, 16, 72))
+        self.assertEqual((deep.commitment, deep.polynomial, deep.key, deep.table, deep.rounds, deep.claims), (12, 36, 48, 16, 72, 24))
 
 
 if __name__ == "__main__":

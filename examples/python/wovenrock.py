@@ -15,7 +15,7 @@ from collections import namedtuple
 WORDS = (
     "long text degree depth modulus bound size residue tall challenge turn twin branch growth slack rows".split()
 )
-PARTS = ("key", "message", "commitment", "rounds", "challenges", "last")
+PARTS = ("key", "message", "commitment", "rounds", "challenges", "last", "claims")
 LONGEST_TEXT = 65536
 RECORD = 527
 SETTINGS = 5
@@ -41,6 +41,7 @@ class Settings(namedtuple("Settings", "degree depth modulus bound rows")):
     key = property(lambda s: s.rows * s.table)
     rounds = property(lambda s: s.depth * s.polynomial)
     challenges = property(lambda s: s.depth)
+    claims = property(lambda s: s.depth * s.commitment)
     leaves = property(lambda s: 3**s.depth)
     nodes = property(lambda s: s.leaves // 2)
     slack = property(lambda s: 4**s.depth)
@@ -65,7 +66,7 @@ _u32 = _numbers(ctypes.c_uint32, 0, 2**32 - 1)
 _u64 = _numbers(ctypes.c_uint64, 0, 2**64 - 1)
 _i32 = _numbers(ctypes.c_int32, -(2**31), 2**31 - 1)
 _i64 = _numbers(ctypes.c_int64, -(2**63), 2**63 - 1)
-_LEND = {"key": _u64, "message": _i32, "commitment": _u64, "rounds": _u64, "challenges": _u32, "last": _i32}
+_LEND = {"key": _u64, "message": _i32, "commitment": _u64, "rounds": _u64, "challenges": _u32, "last": _i32, "claims": _u64}
 
 
 def _lent(slices):
@@ -192,7 +193,7 @@ class Library:
     def read(self, text, parts):
         """The settings of a text, and a dictionary of the parts that are named; the text has these and no others. Refusals 1 to 10, 16."""
         found = self.look(text)
-        lengths = dict(zip(PARTS, (found.key, found.table, found.commitment, found.rounds, found.challenges, found.element)))
+        lengths = dict(zip(PARTS, (found.key, found.table, found.commitment, found.rounds, found.challenges, found.element, found.claims)))
         tables = {name: _LEND[name]([0] * (lengths[name] if name in parts else 0)) for name in PARTS}
         out = _u64([0] * SETTINGS)
         slices = [out, *tables.values()]
@@ -209,13 +210,13 @@ class Library:
         return out.raw[: count.value]
 
     def prove(self, text):
-        """The listing of the opening in a text. Refusals 1 to 10, 16, then 1."""
+        """The listing of the opening in a text, its claims among it. Refusals 1 to 10, 16, then 1."""
         out, count = ctypes.create_string_buffer(LONGEST_TEXT), ctypes.c_size_t()
         self._call("prove", bytes(text), ctypes.c_size_t(len(text)), out, ctypes.c_size_t(LONGEST_TEXT), ctypes.byref(count))
         return out.raw[: count.value]
 
     def verify(self, text):
-        """Whether the transcript in a text is accepted. Refusals 1 to 8, 10, 16."""
+        """Whether the transcript in a text is accepted; a claim that is not the one of its round is a reason to reject. Refusals 1 to 8, 10, 16."""
         verdict = ctypes.c_uint32()
         self._call("verify", bytes(text), ctypes.c_size_t(len(text)), ctypes.byref(verdict))
         return verdict.value == ACCEPTED

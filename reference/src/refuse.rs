@@ -76,6 +76,11 @@ impl Shape {
         self.l * self.polynomial()
     }
 
+    /// Coefficients of the claims after each round of one transcript.
+    pub fn claims(&self) -> usize {
+        self.l * self.commitment()
+    }
+
     /// Coefficients of the round elements of a full tree.
     pub fn tree_rounds(&self) -> usize {
         self.nodes() * self.polynomial()

@@ -41,9 +41,21 @@ pub type Rows = [Residues; ROWS];
 /// A round polynomial by value: c0, c1, c2, each with an element a row.
 pub type Polynomial = [Rows; 3];
 
-/// Which of the text's parts 1 to 6 are there: key, message, commitment,
-/// rounds, challenges, final element. Part 0, the settings, always is.
-pub type Parts = [bool; 6];
+/// Parts of a text behind the settings.
+pub const PARTS: usize = 7;
+
+/// Which of the text's parts 1 to 7 are there: key, message, commitment,
+/// rounds, challenges, final element, claims. Part 0, the settings, always is.
+pub type Parts = [bool; PARTS];
+
+/// What `prove` reads: key, message, challenges.
+pub const PROVE_READS: Parts = [true, true, false, false, true, false, false];
+
+/// What `prove` prints: all but key and message.
+pub const PROVE_PRINTS: Parts = [false, false, true, true, true, true, true];
+
+/// What `verify` reads: all but the message.
+pub const VERIFY_READS: Parts = [true, false, true, true, true, true, true];
 
 pub const ZERO_RESIDUES: Residues = [0; PLACES];
 pub const ZERO_WHOLES: Wholes = [0; PLACES];

@@ -36,6 +36,7 @@ fn read_into(input: &TextInput, tables: &mut Tables) -> ReadAnswer {
         &mut tables.rounds,
         &mut tables.challenges,
         &mut tables.final_element,
+        &mut tables.claims,
     )
 }
 
@@ -49,6 +50,7 @@ fn write_out(s: Settings, parts: Parts, tables: &Tables, out: &mut [u8]) -> Writ
         &tables.rounds,
         &tables.challenges,
         &tables.final_element,
+        &tables.claims,
         out,
     )
 }
@@ -183,11 +185,16 @@ fn prove_and_verify_on_drawn_texts() {
         let answer = prove(&input.text(), &mut out);
         assert_eq!(answer.number, expected);
         if expected == 0 {
-            // The printed text with the key put in is accepted.
+            // The printed text with the key put in is accepted, where that is
+            // not too long.
             let printed = out[..answer.length].split_inclusive(|&b| b == b'\n');
             let mut lines: Vec<Vec<u8>> = printed.map(|x| x.to_vec()).collect();
             lines.splice(6..6, key);
-            assert_eq!(verify(&lines.concat()), Verification::Accepted);
+            let wanted = match lines.concat().len() {
+                ..=LONGEST_TEXT => Verification::Accepted,
+                _ => Verification::Refused(1),
+            };
+            assert_eq!(verify(&lines.concat()), wanted);
         } else {
             assert!(answer.length == 0 && out.iter().all(|&b| b == 170));
         }

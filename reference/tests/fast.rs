@@ -243,6 +243,7 @@ fn read_both(input: &TextInput) {
         &mut a.rounds,
         &mut a.challenges,
         &mut a.final_element,
+        &mut a.claims,
     );
     let plain = plain::read(
         input.parts,
@@ -253,6 +254,7 @@ fn read_both(input: &TextInput) {
         &mut b.rounds,
         &mut b.challenges,
         &mut b.final_element,
+        &mut b.claims,
     );
     assert_eq!(
         (fast, a),
@@ -334,6 +336,7 @@ fn write_both(input: &text::WriteInput) {
             &x.rounds,
             &x.challenges,
             &x.final_element,
+            &x.claims,
             &mut out,
         );
         (answer, out)

@@ -127,7 +127,8 @@ fn two_rows_as_texts() {
         4 0 0 4\n4 0 1 1\n4 1 0 1\n4 1 1 16\n\
         4 2 0 6\n4 2 1 0\n4 3 0 12\n4 3 1 6\n\
         4 4 0 12\n4 4 1 1\n4 5 0 11\n4 5 1 0\n\
-        5 0 0 1\n6 0 0 1\n6 0 1 0\n";
+        5 0 0 1\n6 0 0 1\n6 0 1 0\n\
+        7 0 0 9\n7 0 1 6\n7 1 0 1\n7 1 1 11\n";
     let mut out = [170; 400];
     let input = [settings, key, message, "5 0 0 1\n"].concat();
     let answer = prove(input.as_bytes(), &mut out);
@@ -141,6 +142,10 @@ fn two_rows_as_texts() {
         ("1 3 1 0\n", "1 3 1 1\n", Verification::Rejected),
         ("4 5 1 0\n", "4 5 1 1\n", Verification::Rejected),
         ("4 3 1 6\n", "4 3 1 7\n", Verification::Rejected),
+        ("7 0 1 6\n", "7 0 1 7\n", Verification::Rejected),
+        ("7 1 0 1\n", "7 1 0 9\n", Verification::Rejected),
+        ("7 1 1 11\n", "7 1 1 17\n", Verification::Refused(8)),
+        ("7 1 1 11\n", "", Verification::Refused(7)),
         ("3 1 1 15\n", "3 1 1 17\n", Verification::Refused(8)),
         ("3 1 1 15\n", "", Verification::Refused(7)),
         ("0 0 4 2\n", "0 0 4 1\n", Verification::Refused(7)),
@@ -531,13 +536,13 @@ fn numbers(s: Settings) -> Vec<u32> {
         check(s, bad, f, &key, &rounds, &e).number,
         judge(s, bad, 0, &key, &[]).number,
         extract(s, bad, &key, &rounds, &e, &[], &mut []),
-        write(s, [true; 6], &[], &[], &[], &[], &[], &[], &mut []).number,
+        write(s, [true; 7], &[], &[], &[], &[], &[], &[], &[], &mut []).number,
         fast::commit(s, &key, &message).number,
         fast::whole_opening(s, &mut key, &mut message, &e, &mut rounds).number,
         fast::check(s, bad, f, &key, &rounds, &e).number,
         fast::judge(s, bad, 0, &key, &[]).number,
         fast::extract(s, bad, &key, &rounds, &e, &[], &mut []),
-        fast::write(s, [true; 6], &[], &[], &[], &[], &[], &[], &mut []).number,
+        fast::write(s, [true; 7], &[], &[], &[], &[], &[], &[], &[], &mut []).number,
     ]
 }
 

@@ -37,6 +37,8 @@ const OUTPUT: &str = "part item place value
 5 0 0 1
 6 0 0 1
 6 0 1 0
+7 0 0 9
+7 0 1 6
 ";
 
 /// What `verify` reads: the output with the key put in after the settings.
@@ -140,6 +142,7 @@ fn shapes_of_lines() {
         ("5 0 0 1\n", "5 0 0 1\n2 0 0 4294967296\n"),
         ("5 0 0 1\n", "5 0 0 1\n3 0 2147483648 1\n"),
         ("5 0 0 1\n", "5 0 0 1\n7 0 0 2305843009213693952\n"),
+        ("5 0 0 1\n", "5 0 0 1\n8 0 0 2305843009213693952\n"),
         ("1 0 0 3\n", "1 0 0 2305843009213693952\n"),
         ("1 0 0 3\n", "1 0 0 -2305843009213693952\n"),
         ("1 0 0 3\n", "1 0 0 9223372036854775808\n"),
@@ -232,6 +235,8 @@ fn required_lines_and_values() {
         ("0 0 4 1\n", "0 0 4 1\n0 0 5 1\n", 7),
         ("5 0 0 1\n", "5 0 0 1\n6 0 0 1\n", 7),
         ("5 0 0 1\n", "5 0 0 1\n7 0 0 1\n", 7),
+        ("5 0 0 1\n", "5 0 0 1\n7 0 0 9\n7 0 1 6\n", 7),
+        ("5 0 0 1\n", "5 0 0 1\n8 0 0 1\n", 7),
         ("5 0 0 1\n", "5 0 0 1\n2147483647 0 0 1\n", 7),
         ("1 0 0 3\n", "3 0 0 3\n", 7),
         ("1 0 0 3\n", "1 0 0 17\n", 8),
@@ -285,7 +290,7 @@ fn numbers_of_a_text_are_tested_in_order() {
 
 #[test]
 fn reader_wants_its_tables() {
-    let parts = [true, true, false, false, true, false];
+    let parts = PROVE_READS;
     let number = |key: usize, message: usize, other: usize, challenges: usize| {
         let (mut key, mut message) = (vec![9; key], vec![9; message]);
         let (mut other, mut challenges) = (vec![9; other], vec![9; challenges]);
@@ -297,6 +302,7 @@ fn reader_wants_its_tables() {
             &mut other,
             &mut [],
             &mut challenges,
+            &mut [],
             &mut [],
         );
         if answer.number == 0 {
@@ -322,11 +328,22 @@ fn reader_wants_its_tables() {
 #[test]
 fn largest_residues() {
     let s = Settings::new(2, 0, LARGEST_MODULUS, 1);
-    let parts = [true, false, true, false, false, false];
+    let parts = [true, false, true, false, false, false, false];
     let key = [LARGEST_MODULUS - 1, 1 << 32];
     let commitment = [0, 1 << 60];
     let mut out = [170; 200];
-    let written = write(s, parts, &key, &[], &commitment, &[], &[], &[], &mut out);
+    let written = write(
+        s,
+        parts,
+        &key,
+        &[],
+        &commitment,
+        &[],
+        &[],
+        &[],
+        &[],
+        &mut out,
+    );
     let text = "part item place value\n0 0 0 2\n0 0 1 0\n0 0 2 2305843009213693951\n0 0 3 1\n\
         0 0 4 1\n1 0 0 2305843009213693950\n1 0 1 4294967296\n3 0 0 0\n3 0 1 1152921504606846976\n";
     assert_eq!((written.number, written.length), (0, text.len()));
@@ -341,6 +358,7 @@ fn largest_residues() {
         &mut [],
         &mut [],
         &mut [],
+        &mut [],
     );
     assert_eq!((read.number, read.settings), (0, s));
     assert_eq!((a, b), (key, commitment));
@@ -349,10 +367,10 @@ fn largest_residues() {
 #[test]
 fn writer_tests_its_text_last() {
     let s = Settings::new(2, 0, 17, 1);
-    let parts = [true, false, false, false, false, true];
+    let parts = [true, false, false, false, false, true, false];
     let number = |s, key: &[Residue], last: &[i32], room: usize| {
         let mut out = vec![170; room];
-        let answer = write(s, parts, key, &[], &[], &[], &[], last, &mut out);
+        let answer = write(s, parts, key, &[], &[], &[], &[], last, &[], &mut out);
         if answer.number != 0 {
             assert!(answer.length == 0 && out.iter().all(|&b| b == 170));
         }
@@ -381,11 +399,11 @@ fn text_of_65536_bytes() {
 
 /// The same with digits of a modulus.
 fn text_of_65536_bytes_at(s: Settings, digits: usize) {
-    let parts = [true, false, false, false, false, false];
+    let parts = [true, false, false, false, false, false, false];
     let mut key = vec![0; 4096];
     let length = |key: &[Residue]| {
         let mut out = vec![0; 70_000];
-        write(s, parts, key, &[], &[], &[], &[], &[], &mut out).length
+        write(s, parts, key, &[], &[], &[], &[], &[], &[], &mut out).length
     };
     let mut missing = 65_536 - length(&key);
     for x in key.iter_mut() {
@@ -394,7 +412,7 @@ fn text_of_65536_bytes_at(s: Settings, digits: usize) {
         missing -= more;
     }
     let mut out = vec![170; 65_537];
-    let answer = write(s, parts, &key, &[], &[], &[], &[], &[], &mut out);
+    let answer = write(s, parts, &key, &[], &[], &[], &[], &[], &[], &mut out);
     assert_eq!((answer.number, answer.length), (0, 65_536));
     assert_eq!(out[65_536], 170);
     let reading = |text: &[u8], found: &mut [Residue]| {
@@ -402,6 +420,7 @@ fn text_of_65536_bytes_at(s: Settings, digits: usize) {
             parts,
             text,
             found,
+            &mut [],
             &mut [],
             &mut [],
             &mut [],
@@ -417,7 +436,7 @@ fn text_of_65536_bytes_at(s: Settings, digits: usize) {
     assert_eq!(*last, 1);
     *last = 10;
     let mut other = vec![170; 70_000];
-    let answer = write(s, parts, &key, &[], &[], &[], &[], &[], &mut other);
+    let answer = write(s, parts, &key, &[], &[], &[], &[], &[], &[], &mut other);
     assert_eq!((answer.number, answer.length), (1, 0));
     let mut text = out[..65_535].to_vec();
     text.extend_from_slice(b"0\n");

@@ -31,6 +31,18 @@ def naturals(l):
     return listed([str(n) for n in l])
 
 
+def text(l):
+    """Bytes as a quoted text, in pieces that end with a line feed or are long enough; as numbers where one has no character here."""
+    if not l or any(not (32 <= n < 127 or n == 10) or n in (34, 92) for n in l):
+        return naturals(l)
+    pieces = ['']
+    for n in l:
+        pieces[-1] += '\\n' if n == 10 else '·' if n == 32 else chr(n)
+        if len(pieces[-1]) > (100 if n == 10 else 140):
+            pieces.append('')
+    return '(bytes (%s))' % ' ++ '.join('"%s"' % piece for piece in pieces if piece)
+
+
 def integer(z):
     return 'pos %d' % z if z >= 0 else 'negsuc %d' % (-z - 1)
 
@@ -62,12 +74,13 @@ def record():
 
 
 def tables():
-    key, message, commitment, rounds, challenges, last = (table() for _ in range(6))
-    return '(sixTables %s %s %s %s %s %s)' % (naturals(key), integers(message), naturals(commitment), naturals(rounds), naturals(challenges), integers(last))
+    key, message, commitment, rounds, challenges, last, claims = (table() for _ in range(7))
+    residues = [naturals(l) for l in (commitment, rounds, challenges)]
+    return '(sevenTables %s %s %s %s %s)' % (naturals(key), integers(message), ' '.join(residues), integers(last), naturals(claims))
 
 
 def parts():
-    return '(sixParts %s)' % ' '.join('true' if p else 'false' for p in take())
+    return '(sevenParts %s)' % ' '.join('true' if p else 'false' for p in take())
 
 
 def verdict(v):
@@ -119,21 +132,21 @@ def case(name):
         s = settings(take()); c = rows(); key = naturals(table()); rounds = naturals(table()); e = naturals(table()); leaves = integers(table()); w = integers(table())
         return 'extractRow %s %s %s %s %s %s %s %d %s' % (s, c, key, rounds, e, leaves, w, take()[0], integers(table()))
     if name == 'read':
-        p = parts(); text = naturals(table()); t = tables()
+        p = parts(); given = text(table()); t = tables()
         n = take()[0]
-        return 'readRow %s %s %s %d %s %s' % (p, text, t, n, settings(take()), tables())
+        return 'readRow %s %s %s %d %s %s' % (p, given, t, n, settings(take()), tables())
     if name == 'write':
         s = settings(take()); p = parts(); t = tables(); room, byte = take()
         n, length = take()
-        return 'writeRow %s %s %s %d %d %d %d %s' % (s, p, t, room, byte, n, length, naturals(table()))
+        return 'writeRow %s %s %s %d %d %d %d %s' % (s, p, t, room, byte, n, length, text(table()))
     if name == 'prove':
-        text = naturals(table()); room, byte = take()
+        given = text(table()); room, byte = take()
         n, length = take()
-        return 'proveRow %s %d %d %d %d %s' % (text, room, byte, n, length, naturals(table()))
+        return 'proveRow %s %d %d %d %d %s' % (given, room, byte, n, length, text(table()))
     if name == 'verify':
-        text = naturals(table())
+        given = text(table())
         n, v = take()
-        return 'verifyRow %s %d %s' % (text, n, verdict(v))
+        return 'verifyRow %s %d %s' % (given, n, verdict(v))
     raise SystemExit('unknown case ' + name)
 
 
@@ -149,14 +162,16 @@ print('''-- Made by reference/vectors/to-antt.py from reference/vectors/small.tx
 use mathlib.Core.Path.{_≡_, refl}
 use mathlib.Core.Bool.{true, false}
 use mathlib.Core.List.{List, [], _∷_}
+use Prim.Native.String.{_++_}
 use lib.IntN.{pos, negsuc}
 use Rattle.protocol.specs.declared.Verdict.the-variants.{Silent, Holds, Accepted, Rejected}
 use Rattle.protocol.specs.Basic.{all}
 use Rattle.protocol.specs.Rows.{Cause}
+use Rattle.protocol.specs.Text.{bytes}
 use Rattle.protocol.proofs.Examples.{Example, agree, agreeing}
 use Rattle.protocol.proofs.Compute.{computed}
 use Rattle.protocol.proofs.ComputeText.{computedText}
-use Rattle.drawn.proofs.Rows.{rowsUnfolded, set, session, byRow, fullSigned, sixTables, sixParts, commitRow, roundRow, foldRow, endRow, openingRow}
+use Rattle.drawn.proofs.Rows.{rowsUnfolded, set, session, byRow, fullSigned, sevenTables, sevenParts, commitRow, roundRow, foldRow, endRow, openingRow}
 use Rattle.drawn.proofs.Rows.{startRow, moveRow, closeRow, checkRow, judgeRow, extractRow, readRow, writeRow, proveRow, verifyRow}''')
 for name, examples in groups.items():
     print('''
@@ -164,7 +179,8 @@ unfoldable pub %ss : List Example
 %ss =''' % (name, name))
     for row in examples:
         head = '    ' if row is examples[0] else '    ∷ '
-        print(textwrap.fill(row, width=180, initial_indent=head, subsequent_indent='    ', break_long_words=False, break_on_hyphens=False))
+        # a dot stands for a space in a quoted text, so that no line is broken there
+        print(textwrap.fill(row, width=180, initial_indent=head, subsequent_indent='    ', break_long_words=False, break_on_hyphens=False).replace('·', ' '))
     print('''    ∷ []
 
 pub %ss-agree : all agree %ss ≡ true

@@ -33,17 +33,21 @@ pub fn report(text: &[u8]) -> Result<String, Box<dyn std::error::Error>> {
     let mut rounds = vec![0; s.rounds_len()];
     let mut challenges = vec![0; s.challenges_len()];
     let mut last = vec![0; s.element_len()];
+    let mut claims = vec![0; s.claims_len()];
     let wanted = TablesMut {
         key: Some(&mut key),
         commitment: Some(&mut commitment),
         rounds: Some(&mut rounds),
         challenges: Some(&mut challenges),
         last: Some(&mut last),
+        claims: Some(&mut claims),
         ..TablesMut::default()
     };
     read(text, wanted)?;
-    let words: Vec<String> = commitment.iter().map(u64::to_string).collect();
-    writeln!(said, "commitment: {}", words.join(" "))?;
+    for (name, table) in [("commitment", &commitment), ("claims", &claims)] {
+        let words: Vec<String> = table.iter().map(u64::to_string).collect();
+        writeln!(said, "{name}: {}", words.join(" "))?;
+    }
 
     let mut out = vec![0; LONGEST_TEXT];
     let tables = Tables {
@@ -52,6 +56,7 @@ pub fn report(text: &[u8]) -> Result<String, Box<dyn std::error::Error>> {
         rounds: Some(&rounds),
         challenges: Some(&challenges),
         last: Some(&last),
+        claims: Some(&claims),
         ..Tables::default()
     };
     let written = write(s, tables, &mut out)?;
@@ -77,6 +82,19 @@ pub fn report(text: &[u8]) -> Result<String, Box<dyn std::error::Error>> {
     };
     let written = write(s, tables, &mut out)?;
     writeln!(said, "with another final element: {}", verdict(written))?;
+
+    // Nor is a claim taken that is not the one of its round.
+    let mut other = claims.clone();
+    if let Some(claim) = other.first_mut() {
+        *claim = (*claim + 1) % modulus;
+    }
+    let tables = Tables {
+        last: Some(&last),
+        claims: Some(&other),
+        ..tables
+    };
+    let written = write(s, tables, &mut out)?;
+    writeln!(said, "with another claim: {}", verdict(written))?;
 
     // A second way to write the same numbers is no text.
     let mut spaced = text.to_vec();

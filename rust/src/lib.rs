@@ -127,9 +127,9 @@
 //!
 //! A text has a line of names and then a line for each number: its part, item
 //! and place, and its value. Parts are 0 settings, 1 key, 2 message,
-//! 3 commitment, 4 rounds, 5 challenges, 6 final element. There is one text
-//! for the same tables, and a text is read only where it is that one. An
-//! opening from text to text:
+//! 3 commitment, 4 rounds, 5 challenges, 6 final element, 7 claims. There is
+//! one text for the same tables, and a text is read only where it is that one.
+//! An opening from text to text, whose last lines are the claim after its round:
 //!
 //! ```
 //! use wovenrock::{prove, LONGEST_TEXT};
@@ -152,7 +152,7 @@
 //! ";
 //! let mut out = [0; LONGEST_TEXT];
 //! let listing = prove(text, &mut out)?;
-//! assert!(listing.ends_with(b"5 0 0 1\n6 0 0 1\n6 0 1 0\n"));
+//! assert!(listing.ends_with(b"6 0 0 1\n6 0 1 0\n7 0 0 9\n7 0 1 6\n"));
 //! # Ok::<(), wovenrock::Refusal>(())
 //! ```
 //!
@@ -182,6 +182,8 @@
 //! 5 0 0 1
 //! 6 0 0 1
 //! 6 0 1 0
+//! 7 0 0 9
+//! 7 0 1 6
 //! ";
 //! assert!(verify(text)?.is_accepted());
 //!
@@ -191,16 +193,19 @@
 //! let mut rounds = vec![0; settings.rounds_len()];
 //! let mut challenges = vec![0; settings.challenges_len()];
 //! let mut last = vec![0; settings.element_len()];
+//! let mut claims = vec![0; settings.claims_len()];
 //! let tables = TablesMut {
 //!     key: Some(&mut key),
 //!     commitment: Some(&mut commitment),
 //!     rounds: Some(&mut rounds),
 //!     challenges: Some(&mut challenges),
 //!     last: Some(&mut last),
+//!     claims: Some(&mut claims),
 //!     ..TablesMut::default()
 //! };
 //! read(text, tables)?;
 //! assert_eq!((key, commitment.clone()), (vec![3, 5, 7, 2], vec![15, 4]));
+//! assert_eq!(claims, [9, 6]);
 //!
 //! let mut out = [0; 1000];
 //! let tables = Tables {

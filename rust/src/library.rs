@@ -202,6 +202,8 @@ extern "C" {
         challenges_length: usize,
         last: *mut i32,
         last_length: usize,
+        claims: *mut u64,
+        claims_length: usize,
     ) -> u32;
 
     pub fn wovenrock_write(
@@ -223,6 +225,8 @@ extern "C" {
         challenges_length: usize,
         last: *const i32,
         last_length: usize,
+        claims: *const u64,
+        claims_length: usize,
         out: *mut u8,
         out_length: usize,
         count: *mut usize,

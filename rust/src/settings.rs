@@ -299,6 +299,22 @@ impl Settings {
         self.challenges_len() * self.polynomial_len()
     }
 
+    /// Numbers of a transcript's claims, as a text has them: rows·L·d. The
+    /// claim of a row after round i is element rows·(i−1) + row, so the claims
+    /// after that round, as [`Session::claims`](crate::Session::claims) has
+    /// them, are numbers rows·d·(i−1) to rows·d·i.
+    ///
+    /// ```
+    /// # use wovenrock::Settings;
+    /// assert_eq!(Settings::new(4, 2, 17, 3, 1)?.claims_len(), 8);
+    /// assert_eq!(Settings::new(4, 2, 17, 3, 4)?.claims_len(), 32);
+    /// assert_eq!(Settings::new(4, 0, 17, 3, 4)?.claims_len(), 0);
+    /// # Ok::<(), wovenrock::Refusal>(())
+    /// ```
+    pub fn claims_len(self) -> usize {
+        self.challenges_len() * self.commitment_len()
+    }
+
     /// Challenges of a transcript: L.
     ///
     /// ```

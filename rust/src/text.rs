@@ -17,9 +17,10 @@ pub const LONGEST_TEXT: usize = 65_536;
 /// exactly its length: [`Settings::key_len`] for the key,
 /// [`Settings::table_len`] for the message, [`Settings::commitment_len`] for
 /// the commitment, [`Settings::rounds_len`] for the round elements,
-/// [`Settings::challenges_len`] for the challenges and
-/// [`Settings::element_len`] for the final element. A later version may have
-/// more of them, so end the list by `..TablesMut::default()`.
+/// [`Settings::challenges_len`] for the challenges,
+/// [`Settings::element_len`] for the final element and
+/// [`Settings::claims_len`] for the claims. A later version may have more of
+/// them, so end the list by `..TablesMut::default()`.
 ///
 /// ```
 /// use wovenrock::{read, TablesMut};
@@ -53,6 +54,9 @@ pub struct TablesMut<'a> {
     pub challenges: Option<&'a mut [u32]>,
     /// Part 6: the final element.
     pub last: Option<&'a mut [i32]>,
+    /// Part 7: the claims, that of a row after round i as element
+    /// rows·(i−1) + row. Whether they are right, [`verify`] says.
+    pub claims: Option<&'a mut [u64]>,
 }
 
 /// Tables of which a text is written, one for each part that is to be there,
@@ -84,12 +88,15 @@ pub struct Tables<'a> {
     pub challenges: Option<&'a [u32]>,
     /// Part 6: the final element.
     pub last: Option<&'a [i32]>,
+    /// Part 7: the claims, that of a row after round i as element
+    /// rows·(i−1) + row.
+    pub claims: Option<&'a [u64]>,
 }
 
-/// The library's number for which of parts 1 to 6 are there.
-fn parts(there: [bool; 6]) -> u32 {
+/// The library's number for which of parts 1 to 7 are there.
+fn parts(there: [bool; 7]) -> u32 {
     let bit = |i: usize| u32::from(there[i]) << i;
-    (0..6).map(bit).sum()
+    (0..7).map(bit).sum()
 }
 
 /// The settings of a text, from which the lengths of its tables are known.
@@ -151,6 +158,7 @@ pub fn read(text: &[u8], tables: TablesMut<'_>) -> Result<Settings, Refusal> {
         tables.rounds.is_some(),
         tables.challenges.is_some(),
         tables.last.is_some(),
+        tables.claims.is_some(),
     ]);
     let key = tables.key.unwrap_or_default();
     let message = tables.message.unwrap_or_default();
@@ -158,6 +166,7 @@ pub fn read(text: &[u8], tables: TablesMut<'_>) -> Result<Settings, Refusal> {
     let rounds = tables.rounds.unwrap_or_default();
     let challenges = tables.challenges.unwrap_or_default();
     let last = tables.last.unwrap_or_default();
+    let claims = tables.claims.unwrap_or_default();
     let number = unsafe {
         library::wovenrock_read(
             parts,
@@ -177,6 +186,8 @@ pub fn read(text: &[u8], tables: TablesMut<'_>) -> Result<Settings, Refusal> {
             challenges.len(),
             last.as_mut_ptr(),
             last.len(),
+            claims.as_mut_ptr(),
+            claims.len(),
         )
     };
     Refusal::answer(number).map(|()| Settings::tested(settings))
@@ -214,6 +225,7 @@ pub fn write<'o>(
         tables.rounds.is_some(),
         tables.challenges.is_some(),
         tables.last.is_some(),
+        tables.claims.is_some(),
     ]);
     let key = tables.key.unwrap_or_default();
     let message = tables.message.unwrap_or_default();
@@ -221,6 +233,7 @@ pub fn write<'o>(
     let rounds = tables.rounds.unwrap_or_default();
     let challenges = tables.challenges.unwrap_or_default();
     let last = tables.last.unwrap_or_default();
+    let claims = tables.claims.unwrap_or_default();
     let number = unsafe {
         library::wovenrock_write(
             s.degree(),
@@ -241,6 +254,8 @@ pub fn write<'o>(
             challenges.len(),
             last.as_ptr(),
             last.len(),
+            claims.as_ptr(),
+            claims.len(),
             out.as_mut_ptr(),
             out.len(),
             &mut count,
@@ -251,9 +266,10 @@ pub fn write<'o>(
 
 /// The program `prove` as a call: opens the key and message in a text by its
 /// challenges, which are its three parts. The text of settings, commitment,
-/// round elements, challenges and final element goes to the front of `out`,
-/// for which no more than [`LONGEST_TEXT`] bytes are wanted, and is the answer.
-/// Refusals 1 to 10, 16, then 1 and 7 as in [`write()`].
+/// round elements, challenges, final element and claims goes to the front of
+/// `out`, for which no more than [`LONGEST_TEXT`] bytes are wanted, and is the
+/// answer. With depth 0 it has no claims. Refusals 1 to 10, 16, then 1 and 7 as
+/// in [`write()`].
 ///
 /// ```
 /// use wovenrock::{prove, LONGEST_TEXT};
@@ -289,27 +305,47 @@ pub fn prove<'o>(text: &[u8], out: &'o mut [u8]) -> Result<&'o [u8], Refusal> {
 }
 
 /// The program `verify` as a call: is the transcript in a text accepted? The
-/// text has settings, key, commitment, round elements, challenges and final
-/// element. Refusals 1 to 8, 10, 16.
+/// text has settings, key, commitment, round elements, challenges, final
+/// element and, where the depth is not 0, claims. A claim that is not the one
+/// of its round and row is a reason to reject. Refusals 1 to 8, 10, 16.
 ///
 /// ```
-/// use wovenrock::verify;
+/// use wovenrock::{verify, Refusal};
 ///
-/// let text = b"part item place value
+/// let text = "part item place value
 /// 0 0 0 2
-/// 0 0 1 0
+/// 0 0 1 1
 /// 0 0 2 17
 /// 0 0 3 1
 /// 0 0 4 1
 /// 1 0 0 3
 /// 1 0 1 5
-/// 3 0 0 8
-/// 3 0 1 2
+/// 1 1 0 7
+/// 1 1 1 2
+/// 3 0 0 15
+/// 3 0 1 4
+/// 4 0 0 4
+/// 4 0 1 1
+/// 4 1 0 6
+/// 4 1 1 0
+/// 4 2 0 12
+/// 4 2 1 1
+/// 5 0 0 1
 /// 6 0 0 1
-/// 6 0 1 -1
+/// 6 0 1 0
+/// 7 0 0 9
+/// 7 0 1 6
 /// ";
-/// assert!(verify(text)?.is_accepted());
-/// # Ok::<(), wovenrock::Refusal>(())
+/// assert!(verify(text.as_bytes())?.is_accepted());
+///
+/// // another claim, one that is no residue, and none
+/// let changed = text.replace("7 0 1 6", "7 0 1 5");
+/// assert!(!verify(changed.as_bytes())?.is_accepted());
+/// let changed = text.replace("7 0 1 6", "7 0 1 17");
+/// assert_eq!(verify(changed.as_bytes()), Err(Refusal::Residue));
+/// let changed = text.replace("7 0 0 9\n7 0 1 6\n", "");
+/// assert_eq!(verify(changed.as_bytes()), Err(Refusal::Size));
+/// # Ok::<(), Refusal>(())
 /// ```
 pub fn verify(text: &[u8]) -> Result<EndVerdict, Refusal> {
     let mut verdict = 0;

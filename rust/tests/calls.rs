@@ -2,7 +2,7 @@
 //! are saved and restored.
 
 use wovenrock::{
-    check, commit, end, extract, fold, judge, open, read, round, verify, write, EndVerdict,
+    check, commit, end, extract, fold, judge, open, prove, read, round, verify, write, EndVerdict,
     Judgement, Refusal, RoundVerdict, Session, Settings, Tables, TablesMut, LONGEST_TEXT,
 };
 
@@ -292,6 +292,7 @@ fn what_is_written_is_read_again() -> Result<(), Refusal> {
         rounds: Some(&ROUNDS),
         challenges: Some(&[1]),
         last: Some(&[1, 0]),
+        claims: Some(&[9, 6]),
         ..Tables::default()
     };
     let mut out = vec![0; LONGEST_TEXT];
@@ -299,20 +300,106 @@ fn what_is_written_is_read_again() -> Result<(), Refusal> {
     assert!(verify(text)?.is_accepted());
 
     let (mut key, mut commitment, mut rounds) = ([0; 4], [0; 2], [0; 6]);
-    let (mut challenges, mut last) = ([0], [0; 2]);
+    let (mut challenges, mut last, mut claims) = ([0], [0; 2], [0; 2]);
     let wanted = TablesMut {
         key: Some(&mut key),
         commitment: Some(&mut commitment),
         rounds: Some(&mut rounds),
         challenges: Some(&mut challenges),
         last: Some(&mut last),
+        claims: Some(&mut claims),
         ..TablesMut::default()
     };
     assert_eq!(read(text, wanted)?, s);
     assert_eq!((key, commitment, rounds), (KEY, COMMITMENT, ROUNDS));
-    assert_eq!((challenges, last), ([1], [1, 0]));
+    assert_eq!((challenges, last, claims), ([1], [1, 0], [9, 6]));
 
     // a part that the text has is not left out in silence
     assert_eq!(read(text, TablesMut::default()), Err(Refusal::Size));
+    Ok(())
+}
+
+#[test]
+fn claims_in_a_text() -> Result<(), Refusal> {
+    // two rounds, two rows: the claims of a session are those that prove writes
+    let s = Settings::new(2, 2, 17, 1, 2)?;
+    let key: Vec<u64> = (0..s.key_len() as u64).map(|i| i * i % 17).collect();
+    let message = [1, -1, 0, 1, 1, 1, -1, 0];
+    let challenges = [3, 1];
+    let mut rounds = vec![0; s.rounds_len()];
+    let (mut folded, mut moved) = (key.clone(), message);
+    let opened = open(s, &mut folded, &mut moved, &challenges, &mut rounds)?;
+    let mut session = Session::start(s, &opened.commitment)?;
+    let mut claims = Vec::new();
+    for (polynomial, &e) in rounds.chunks(s.polynomial_len()).zip(&challenges) {
+        assert!(session.round(polynomial, e)?.holds());
+        claims.extend_from_slice(&session.claims());
+    }
+    assert_eq!(claims.len(), s.claims_len());
+
+    let mut out = vec![0; LONGEST_TEXT];
+    let given = Tables {
+        key: Some(&key),
+        message: Some(&message),
+        challenges: Some(&challenges),
+        ..Tables::default()
+    };
+    let input = write(s, given, &mut out)?.to_vec();
+    let mut printed = vec![0; LONGEST_TEXT];
+    let listing = prove(&input, &mut printed)?;
+    let tables = Tables {
+        commitment: Some(&opened.commitment),
+        rounds: Some(&rounds),
+        challenges: Some(&challenges),
+        last: Some(&opened.last),
+        claims: Some(&claims),
+        ..Tables::default()
+    };
+    assert_eq!(listing, write(s, tables, &mut out)?);
+
+    // a wrong claim at any place is rejected, and one that is no residue refused
+    let record = Tables {
+        key: Some(&key),
+        ..tables
+    };
+    assert!(verify(write(s, record, &mut out)?)?.is_accepted());
+    for place in 0..claims.len() {
+        let mut other = claims.clone();
+        other[place] = (other[place] + 1) % 17;
+        let changed = Tables {
+            claims: Some(&other),
+            ..record
+        };
+        let text = write(s, changed, &mut out)?;
+        assert_eq!(verify(text)?, EndVerdict::Rejected);
+        other[place] = 17;
+        let changed = Tables {
+            claims: Some(&other),
+            ..record
+        };
+        assert_eq!(write(s, changed, &mut out), Err(Refusal::Residue));
+    }
+
+    // without the part, and with a table of another length
+    let without = Tables {
+        claims: None,
+        ..record
+    };
+    let text = write(s, without, &mut out)?;
+    assert_eq!(verify(text), Err(Refusal::Size));
+    for length in [0, claims.len() - 1] {
+        let short = Tables {
+            claims: Some(&claims[..length]),
+            ..record
+        };
+        assert_eq!(write(s, short, &mut out), Err(Refusal::Size));
+    }
+    let mut table = vec![7; claims.len()];
+    let wanted = TablesMut {
+        claims: Some(&mut table),
+        ..TablesMut::default()
+    };
+    assert_eq!(read(&input, wanted), Err(Refusal::Size));
+    assert_eq!(table, vec![7; claims.len()]);
     Ok(())
 }

@@ -268,7 +268,7 @@ pub fn session(input: Input) -> SessionTaken {
     }
 }
 
-// Six numbers: 1 where part 1 to 6 is there, else 0.
+// Seven numbers: 1 where part 1 to 7 is there, else 0.
 pub struct PartsTaken {
     pub parts: Parts,
     pub next: Input,
@@ -281,6 +281,7 @@ pub fn parts(input: Input) -> PartsTaken {
     let round = commitment.next.number();
     let challenge = round.next.number();
     let last = challenge.next.number();
+    let claims = last.next.number();
     let parts = Parts {
         key: key.value.magnitude != 0,
         message: message.value.magnitude != 0,
@@ -288,8 +289,9 @@ pub fn parts(input: Input) -> PartsTaken {
         rounds: round.value.magnitude != 0,
         challenges: challenge.value.magnitude != 0,
         last: last.value.magnitude != 0,
+        claims: claims.value.magnitude != 0,
     };
-    let next = last.next;
+    let next = claims.next;
     PartsTaken {
         parts: parts,
         next: next,

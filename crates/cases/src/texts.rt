@@ -1,5 +1,5 @@
-// The calls on texts: the table reader, the table writer, and `verify`. Reader and writer are lent six tables: `run_tables` and `run_last` read them,
-// three each. Each `answer` makes the call and prints what it gives.
+// The calls on texts: the table reader, the table writer, and `verify`. Reader and writer are lent seven tables: `run_tables` reads the
+// first three and `run_last` the others. Each `answer` makes the call and prints what it gives.
 use crate::input::Input;
 use crate::output;
 use crate::tables;
@@ -23,6 +23,7 @@ fn answer_read(
     rounds: &mut [u64],
     challenges: &mut [u32],
     last: &mut [i32],
+    claims: &mut [u64],
 ) {
     let answer = table_reader::read(
         parts,
@@ -33,6 +34,7 @@ fn answer_read(
         rounds,
         challenges,
         last,
+        claims,
     );
     let settings = answer.settings;
     output::first(answer.refusal);
@@ -43,6 +45,7 @@ fn answer_read(
     output::residues(rounds);
     output::challenges(challenges);
     output::signeds(last);
+    output::residues(claims);
     output::end();
 }
 
@@ -55,6 +58,7 @@ fn answer_write(
     rounds: &[u64],
     challenges: &[u32],
     last: &[i32],
+    claims: &[u64],
     out: &mut [u8],
 ) {
     let answer = table_writer::write(
@@ -66,6 +70,7 @@ fn answer_write(
         rounds,
         challenges,
         last,
+        claims,
         out,
     );
     output::first(answer.refusal);
@@ -83,6 +88,7 @@ fn answer(
     rounds: &mut [u64],
     challenges: &mut [u32],
     last: &mut [i32],
+    claims: &mut [u64],
 ) {
     let parts = task.parts;
     if task.writes {
@@ -95,6 +101,7 @@ fn answer(
             rounds,
             challenges,
             last,
+            claims,
             text,
         );
     } else {
@@ -107,6 +114,7 @@ fn answer(
             rounds,
             challenges,
             last,
+            claims,
         );
     }
 }
@@ -127,7 +135,10 @@ fn run_last(
     let lasts = tables::signeds(challenges.next, &mut last);
     let k = rounds.count;
     let l = challenges.count;
+    let mut claim = tables::residue_room();
+    let claims = tables::residues(lasts.next, &mut claim);
     let m = lasts.count;
+    let n = claims.count;
     answer(
         task,
         text,
@@ -137,8 +148,9 @@ fn run_last(
         &mut round[..k],
         &mut challenge[..l],
         &mut last[..m],
+        &mut claim[..n],
     );
-    lasts.next
+    claims.next
 }
 
 fn run_tables(task: Task, text: &mut [u8], input: Input) -> Input {

@@ -51,8 +51,9 @@ answers-after (Answers.session-end {h} {s} r e) = ap (λ x. backRecord s (x .nex
 answers-after (Answers.check r e) = refl
 answers-after (Answers.judge r e) = refl
 answers-after (Answers.extract r w′ p) = refl
-answers-after (Answers.read {h} {k} {m} {c} {o} {e} {f} r t′ p) = ap
-    (λ x. backKey k (x .key) (backMessage m (x .message) (backKey c (x .commitment) (backKey o (x .rounds) (backKey e (x .challenges) (backMessage f (x .last) h)))))) (p .tables-exit)
+answers-after (Answers.read {h} {k} {m} {c} {o} {e} {f} {v} r t′ p) = ap
+    (λ x. backKey k (x .key) (backMessage m (x .message) (backKey c (x .commitment)
+    (backKey o (x .rounds) (backKey e (x .challenges) (backMessage f (x .last) (backKey v (x .claims) h))))))) (p .tables-exit)
 answers-after (Answers.write r out′ p) = refl
 
 refusals-gap : {h h′ : Held} → Refusals h h′ → Gap h h′

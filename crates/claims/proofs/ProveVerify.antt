@@ -1,5 +1,5 @@
 -- What `prove` prints, `verify` accepts: the listing with the key's lines put in is the text of the transcript's tables with the key, which is read back as they are, and the
--- transcript of an honest opening is accepted.
+-- transcript of an honest opening is accepted, with the claims that it gives.
 use mathlib.Core.Path.{_≡_, refl, sym, ap, _∙_, subst}
 use mathlib.Core.Bool.{true, false}
 use mathlib.Core.List.{List, [], _++_, append-assoc, map, flatMap, zipWith}
@@ -14,20 +14,22 @@ use Rattle.protocol.specs.declared.Settings.{Settings}
 use Rattle.protocol.specs.declared.Verified.the-variants.{Accepted}
 use Rattle.protocol.specs.Basic.{tabulate, all, choose, first, unless, granted}
 use Rattle.protocol.specs.Element.{signed}
-use Rattle.protocol.specs.Layout.{keyItems, keyCells, itemCells, roundCells, exponentCount}
+use Rattle.protocol.specs.Layout.{keyItems, keyCells, itemCells, roundCells, claimCells, exponentCount}
 use Rattle.protocol.specs.Settings.{cells, hasLength, allBelow, allWithin, exponent, exponents}
 use Rattle.protocol.specs.Inputs.{Below, Within}
 use Rattle.protocol.specs.Opening.{messageAfter}
 use Rattle.protocol.specs.Transcript.{Transcript, transcriptOf}
 use Rattle.protocol.specs.Rows.{commitments, roundTables, transcriptsOf}
+use Rattle.protocol.specs.WrittenClaims.{claimTable}
 use Rattle.protocol.specs.Text.{Line, Tables, textLimit, narrowLimit, names, linesText, shape, settingsShape, shapes, shapeSize, settingsValues, contents, block, blocks, blockLines, textOf}
 use Rattle.protocol.specs.Text.{linesOf, settingsIn, tablesIn, lookRefusal, textRefusal, written, overwritten}
 use Rattle.protocol.specs.Programs.{proveReads, provePrints, verifyReads, printed, proofText, proveText, proveRefusal, proveAnswer, proveExit, proveOutput}
 use Rattle.protocol.specs.Programs.{transcriptIn, tablesAccepted, verifyRefusal, verifyAnswer}
 use Rattle.protocol.specs.ProveVerify.{keyLines, headLength, withKey, keyed, Accepts, ProveVerify}
-use Rattle.protocol.proofs.Tests.{first-zero, granted-zero}
+use Rattle.protocol.proofs.Tests.{and-intro, first-zero, granted-zero}
 use Rattle.protocol.proofs.Inputs.{settings-valid, valid-settings, tested-below, tested-within, below-tested, within-tested}
 use Rattle.protocol.proofs.Acceptance.{all-accepted-test}
+use Rattle.protocol.proofs.WrittenClaims.{claims-written-test, claim-table-written, claim-table-below}
 use Rattle.protocol.proofs.LineLaws.{lines-append}
 use Rattle.protocol.proofs.TableLaws.{Fit}
 use Rattle.protocol.proofs.Ranges.{last-length}
@@ -54,6 +56,9 @@ module _ {S : Settings} {G : List ℕ} {M : List ℤ} {E : List ℕ} (ok : Given
   tables-given : Below q (roundCells S) (roundTables S E G M)
   tables-given = tables-below S (modulus-positive S (ok .settings)) (ok .settings .rows-least) some-degree E G M
 
+  claims-given : Below q (claimCells S) (claimTable S T)
+  claims-given = claim-table-below S T (modulus-positive S (ok .settings)) some-degree
+
   last-long : length (T .last) ≡ d
   unfolding transcriptsOf
   last-long = last-length S (messageAfter S E L M)
@@ -68,7 +73,7 @@ module _ {S : Settings} {G : List ℕ} {M : List ℤ} {E : List ℕ} (ok : Given
         (Nat.le-trans (Nat.mul-le-mul (size-le S (allowed S (valid-settings S (ok .settings)))) (ok .settings .bound-most)) (omega arith));
   }
 
-  tables-passed : Passed S (keyed G T)
+  tables-passed : Passed S (keyed S G T)
   unfolding keyed transcriptsOf allBelow allWithin exponents exponent all
   tables-passed = record {
     key = below-tested q (keyCells S) G (ok .key);
@@ -77,9 +82,10 @@ module _ {S : Settings} {G : List ℕ} {M : List ℤ} {E : List ℕ} (ok : Given
     message = refl;
     challenges = below-tested (exponentCount S) L E (ok .challenges);
     last = within-tested narrowLimit d (T .last) last-within;
+    claims = below-tested q (claimCells S) (claimTable S T) claims-given;
   }
 
-  tables-fit : Fit (shapes S verifyReads) (contents S (keyed G T))
+  tables-fit : Fit (shapes S verifyReads) (contents S (keyed S G T))
   unfolding shapes settingsShape shape shapeSize choose contents settingsValues verifyReads keyed transcriptsOf
   tables-fit = (
     refl,
@@ -91,21 +97,24 @@ module _ {S : Settings} {G : List ℕ} {M : List ℤ} {E : List ℕ} (ok : Given
           length-map (commitments S G M) pos ∙ commitments-given .long,
           (
             length-map (roundTables S E G M) pos ∙ tables-given .long,
-            (length-map E pos ∙ ok .challenges .long ∙ sym (Nat.mul-one L), (last-long ∙ sym (Nat.one-mul d), tt)),
+            (
+              length-map E pos ∙ ok .challenges .long ∙ sym (Nat.mul-one L),
+              (last-long ∙ sym (Nat.one-mul d), (length-map (claimTable S T) pos ∙ claims-given .long, tt)),
+            ),
           ),
         ),
       ),
     ),
   )
 
-  tables-accepted : tablesAccepted S (keyed G T) ≡ true
+  tables-accepted : tablesAccepted S (keyed S G T) ≡ true
   unfolding tablesAccepted transcriptIn keyed
-  tables-accepted = all-accepted-test S G T (transcripts-accepted ok)
+  tables-accepted = and-intro (all-accepted-test S G T (transcripts-accepted ok)) (claims-written-test S T (claimTable S T) (claim-table-written S T))
 
-  keyed-accepted : length (textOf S verifyReads (keyed G T)) ≤ textLimit → verifyAnswer (textOf S verifyReads (keyed G T)) ≡ Accepted
+  keyed-accepted : length (textOf S verifyReads (keyed S G T)) ≤ textLimit → verifyAnswer (textOf S verifyReads (keyed S G T)) ≡ Accepted
   unfolding verifyAnswer verifyRefusal granted choose
   keyed-accepted n =
-      let (none, settings, tables) = tables-readable S verifyReads (keyed G T) (valid-settings S (ok .settings)) tables-fit tables-passed n in
+      let (none, settings, tables) = tables-readable S verifyReads (keyed S G T) (valid-settings S (ok .settings)) tables-fit tables-passed n in
       rw (none, settings, tables, tables-accepted)
 
 -- ---- the listing
@@ -125,16 +134,16 @@ module _ (S : Settings) (key : List ℕ) (T : Transcript) where
 
   -- what both texts have behind the settings and the key
   abbrev rest : List Line
-  rest = flatMap blockLines (drop 2 (blocks S verifyReads (keyed key T)))
+  rest = flatMap blockLines (drop 2 (blocks S verifyReads (keyed S key T)))
 
-  listing-parts : textOf S provePrints (printed T) ≡ head ++ linesText rest
+  listing-parts : textOf S provePrints (printed S T) ≡ head ++ linesText rest
   unfolding textOf blocks shapes contents flatMap zipWith provePrints verifyReads printed keyed
   listing-parts =
       ap (λ l. names ++ linesText (front ++ (l ++ rest))) (absent-lines 1 (keyItems S) d [])
       ∙ ap (λ l. names ++ l) (lines-append front rest)
       ∙ sym (append-assoc names (linesText front) (linesText rest))
 
-  keyed-parts : textOf S verifyReads (keyed key T) ≡ head ++ (keyLines S key ++ linesText rest)
+  keyed-parts : textOf S verifyReads (keyed S key T) ≡ head ++ (keyLines S key ++ linesText rest)
   unfolding textOf blocks shapes contents flatMap zipWith verifyReads keyed keyLines
   keyed-parts =
       ap (λ l. names ++ l) (lines-append front (mine ++ rest) ∙ ap (λ l. linesText front ++ l) (lines-append mine rest))
@@ -143,7 +152,7 @@ module _ (S : Settings) (key : List ℕ) (T : Transcript) where
       mine : List Line
       mine = blockLines (block (shape 1 true (keyItems S) d) (map pos key))
 
-  listing-keyed : withKey S key (textOf S provePrints (printed T)) ≡ textOf S verifyReads (keyed key T)
+  listing-keyed : withKey S key (textOf S provePrints (printed S T)) ≡ textOf S verifyReads (keyed S key T)
   unfolding withKey headLength
   listing-keyed =
       ap (λ l. take (length head) l ++ (keyLines S key ++ drop (length head) l)) listing-parts
@@ -171,7 +180,7 @@ module _ (text : List ℕ) where
   abbrev t : Tables
   t = tablesIn (linesOf text)
 
-  text-keyed : withKey S (t .key) (proveText text) ≡ textOf S verifyReads (keyed (t .key) (transcriptsOf S (t .key) (t .message) (t .challenges)))
+  text-keyed : withKey S (t .key) (proveText text) ≡ textOf S verifyReads (keyed S (t .key) (transcriptsOf S (t .key) (t .message) (t .challenges)))
   unfolding proveText proofText
   text-keyed = listing-keyed S (t .key) (transcriptsOf S (t .key) (t .message) (t .challenges))
 

@@ -64,11 +64,11 @@ refused-keeps (Call.session-end s f k) h r = back-record s (move-kept _ _ (hande
 refused-keeps (Call.check S C f k o e) h r = refl
 refused-keeps (Call.judge S C c k w) h r = refl
 refused-keeps (Call.extract S C k o e f w) h r = refl
-refused-keeps (Call.read P text k m c o e f) h r =
-    let kept : Text.readExit P text (tables h k m c o e f) ≡ tables h k m c o e f = granted-refused _ _ _ r in
+refused-keeps (Call.read P text k m c o e f v) h r =
+    let kept : Text.readExit P text (tables h k m c o e f v) ≡ tables h k m c o e f v = granted-refused _ _ _ r in
     back-key k (ap (λ x. x .key) kept) (back-message m (ap (λ x. x .message) kept) (back-key c (ap (λ x. x .commitment) kept)
-    (back-key o (ap (λ x. x .rounds) kept) (back-key e (ap (λ x. x .challenges) kept) (back-message f (ap (λ x. x .last) kept) refl)))))
-refused-keeps (Call.write S P k m c o e f out) h r = refl
+    (back-key o (ap (λ x. x .rounds) kept) (back-key e (ap (λ x. x .challenges) kept) (back-message f (ap (λ x. x .last) kept) (back-key v (ap (λ x. x .claims) kept) refl))))))
+refused-keeps (Call.write S P k m c o e f v out) h r = refl
 
 -- ---- gaps
 

@@ -29,7 +29,7 @@ use Rattle.protocol.proofs.TableLaws.{Split, split}
 use Rattle.protocol.proofs.TextLimits.{Allowed, allowed, Passed, passed, unrefused, below-limited, exponent-le, column-limited}
 use Rattle.protocol.proofs.ColumnLaws.{sameSpots-eq, valuesOf-append}
 use Rattle.claims.proofs.Unsigned.{unsigned-pos, unsigned-forth}
-use Rattle.claims.proofs.WrittenRead.{shapes-rise, fit-all, lines-read, settings-back, tables-back, read-back, Writable, writable-refusal, back}
+use Rattle.claims.proofs.WrittenRead.{partNumbers, shapes-rise, fit-all, lines-read, settings-back, tables-back, read-back, Writable, writable-refusal, back}
 
 -- what the reader asks of a text
 record Readable (P : Parts) (text : List ℕ) : Type 0 where
@@ -91,7 +91,7 @@ module _ (P : Parts) (text : List ℕ) (r : Readable P text) where
   unfolding wanted shapes settingsShape shape flatMap
   zeroth = split settingsShape (drop 1 (shapes S P)) ls (shapes-rise S P .1) (r .order)
 
-  fitting : Fit (shapes S P) (columns (0 ∷ 1 ∷ 2 ∷ 3 ∷ 4 ∷ 5 ∷ 6 ∷ []) ls)
+  fitting : Fit (shapes S P) (columns partNumbers ls)
   unfolding wanted shapes settingsShape shape
   fitting = read-fit 0 (shapes S P) ls (shapes-rise S P) (r .order)
 
@@ -128,14 +128,15 @@ module _ (P : Parts) (text : List ℕ) (r : Readable P text) where
   unfolding exponents exponent
   plain-exponents v h = unsigned-forth narrowLimit v (below-limited narrowLimit (2 * S .degree) (map (unsigned narrowLimit) v) (exponent-le S bounds) h)
 
-  contents-forth : contents S t ≡ columns (0 ∷ 1 ∷ 2 ∷ 3 ∷ 4 ∷ 5 ∷ 6 ∷ []) ls
+  contents-forth : contents S t ≡ columns partNumbers ls
   unfolding contents tablesIn unsignedColumn
   contents-forth =
       let k = plain-residues (column 1 ls) (fine .key) in
       let c = plain-residues (column 3 ls) (fine .commitment) in
       let o = plain-residues (column 4 ls) (fine .rounds) in
       let e = plain-exponents (column 5 ls) (fine .challenges) in
-      λ i. settings-forth i ∷ k i ∷ column 2 ls ∷ c i ∷ o i ∷ e i ∷ column 6 ls ∷ []
+      let v = plain-residues (column 7 ls) (fine .claims) in
+      λ i. settings-forth i ∷ k i ∷ column 2 ls ∷ c i ∷ o i ∷ e i ∷ column 6 ls ∷ v i ∷ []
 
   lines-forth : flatMap blockLines (blocks S P t) ≡ ls
   unfolding blocks wanted shapes settingsShape shape

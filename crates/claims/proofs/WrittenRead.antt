@@ -30,9 +30,13 @@ use Rattle.claims.proofs.Unsigned.{unsigned-small, unsigned-back}
 
 -- ---- The parts
 
+-- the numbers of all parts, which are those of the shapes
+abbrev pub partNumbers : List ℕ
+partNumbers = 0 ∷ 1 ∷ 2 ∷ 3 ∷ 4 ∷ 5 ∷ 6 ∷ 7 ∷ []
+
 pub shapes-rise : (S : Settings) (P : Parts) → Rising 0 (parts (shapes S P))
 unfolding shapes shape settingsShape
-shapes-rise S P = (omega arith, (omega arith, (omega arith, (omega arith, (omega arith, (omega arith, (omega arith, tt)))))))
+shapes-rise S P = (omega arith, (omega arith, (omega arith, (omega arith, (omega arith, (omega arith, (omega arith, (omega arith, tt))))))))
 
 fit : (bs : List Shape) (vs : List (List ℤ)) → length vs ≡ length bs → all blockFits (zipWith block bs vs) ≡ true → Fit bs vs
 unfolding all zipWith blockFits block hasLength
@@ -91,11 +95,11 @@ module _ (S : Settings) (P : Parts) (t : Tables) where
     unfolding wanted blocks
     spots-wanted = written-spots (shapes S P) (contents S t) f
 
-    columns-back : columns (0 ∷ 1 ∷ 2 ∷ 3 ∷ 4 ∷ 5 ∷ 6 ∷ []) lines ≡ contents S t
+    columns-back : columns partNumbers lines ≡ contents S t
     unfolding blocks shapes settingsShape shape
     columns-back = written-columns 0 (shapes S P) (contents S t) (shapes-rise S P) f
 
-    column-back : (p : ℕ) → getD (columns (0 ∷ 1 ∷ 2 ∷ 3 ∷ 4 ∷ 5 ∷ 6 ∷ []) lines) p [] ≡ getD (contents S t) p []
+    column-back : (p : ℕ) → getD (columns partNumbers lines) p [] ≡ getD (contents S t) p []
     column-back p = ap (λ (vs : List (List ℤ)). getD vs p []) columns-back
 
     -- the residues of a part that are below q, and the challenges
@@ -114,7 +118,8 @@ module _ (S : Settings) (P : Parts) (t : Tables) where
         let c = residues-back a 3 (t .commitment) (column-back 3) (p .commitment) in
         let r = residues-back a 4 (t .rounds) (column-back 4) (p .rounds) in
         let e = exponents-back a (t .challenges) (column-back 5) (p .challenges) in
-        λ i. record { key = k i; message = column-back 2 i; commitment = c i; rounds = r i; challenges = e i; last = column-back 6 i }
+        let v = residues-back a 7 (t .claims) (column-back 7) (p .claims) in
+        λ i. record { key = k i; message = column-back 2 i; commitment = c i; rounds = r i; challenges = e i; last = column-back 6 i; claims = v i }
 
     well-formed : Allowed S → Passed S t → wellFormed (textOf S P t) ≡ true
     unfolding wellFormed wanted shapes flatMap settingsShape shape choose shapeSize spots spotAt tabulate sameSpots sameSpot

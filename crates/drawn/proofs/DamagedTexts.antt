@@ -4,7 +4,7 @@ use mathlib.Core.Bool.{true, false}
 use mathlib.Core.List.{List, [], _∷_, map}
 use Prim.Native.String.{_++_}
 use Rattle.protocol.proofs.ComputeText.{computedText}
-use Rattle.protocol.proofs.TextExamples.{names, settings, key, message, commitment, rounds, challenge, final, input, withSettings, noDepth, listing}
+use Rattle.protocol.proofs.TextExamples.{names, settings, key, message, commitment, rounds, challenge, final, claim, input, withSettings, noDepth, listing}
 use Rattle.protocol.proofs.TextExamples.{boundAndRows, weights}
 use Rattle.protocol.proofs.TextRows.{Row, given, expected}
 use Rattle.protocol.proofs.TextRows.Row.{prove, verify, begins}
@@ -126,7 +126,9 @@ table =
     ∷ prove (withSettings (settings ++ "0 0 5 1\n")) 7
     ∷ prove (withSettings (settings ++ settings)) 7
     ∷ prove (withSettings noDepth) 7
-    ∷ verify (names ++ settings ++ key ++ message ++ commitment ++ rounds ++ challenge ++ final) 7
+    ∷ verify (names ++ settings ++ key ++ message ++ commitment ++ rounds ++ challenge ++ final ++ claim) 7
+    ∷ verify (names ++ settings ++ key ++ commitment ++ rounds ++ challenge ++ claim ++ final) 7
+    ∷ verify (names ++ settings ++ key ++ commitment ++ rounds ++ challenge ++ final) 7
     ∷ verify listing 7
     -- 7: the lines of fewer rows, of more, and of a key whose rows alternate
     ∷ prove (withSettings (boundAndRows "1" "2")) 7
@@ -139,8 +141,10 @@ table =
     ∷ prove (names ++ boundAndRows "1" "2" ++ key ++ "1 2 0 5\n1 2 1 0\n1 3 0 7\n1 3 1 17\n" ++ message ++ challenge) 8
     ∷ prove (input "1 0 0 16\n1 0 1 0\n1 1 0 7\n1 1 1 2\n" message challenge) 0
     ∷ prove (input "1 0 0 17\n1 0 1 5\n1 1 0 7\n1 1 1 2\n" message "") 7
-    ∷ verify (names ++ settings ++ key ++ "3 0 0 17\n3 0 1 4\n" ++ rounds ++ challenge ++ final) 8
-    ∷ verify (names ++ settings ++ key ++ commitment ++ "4 0 0 4\n4 0 1 1\n4 1 0 6\n4 1 1 0\n4 2 0 12\n4 2 1 -1\n" ++ challenge ++ final) 8
+    ∷ verify (names ++ settings ++ key ++ "3 0 0 17\n3 0 1 4\n" ++ rounds ++ challenge ++ final ++ claim) 8
+    ∷ verify (names ++ settings ++ key ++ commitment ++ "4 0 0 4\n4 0 1 1\n4 1 0 6\n4 1 1 0\n4 2 0 12\n4 2 1 -1\n" ++ challenge ++ final ++ claim) 8
+    ∷ verify (names ++ settings ++ key ++ commitment ++ rounds ++ challenge ++ final ++ "7 0 0 9\n7 0 1 17\n") 8
+    ∷ verify (names ++ settings ++ key ++ commitment ++ rounds ++ "5 0 0 4\n" ++ final ++ "7 0 0 9\n7 0 1 17\n") 8
     -- 9: a message coefficient beyond the bound, after 8 and before 10
     ∷ prove (input key "2 0 0 1\n2 0 1 -1\n2 1 0 1\n2 1 1 2\n" challenge) 9
     ∷ prove (input key "2 0 0 1\n2 0 1 -2\n2 1 0 1\n2 1 1 0\n" challenge) 9

@@ -37,13 +37,13 @@ byRow a b c d = full a ++ full b ++ full c ++ full d
 abbrev pub session : Settings → ℕ → List ℕ → List ℕ → Bool → Session
 session S done claims challenges closed = record { settings = S; done = done; claims = claims; challenges = challenges; closed = closed }
 
-abbrev pub sixTables : List ℕ → List ℤ → List ℕ → List ℕ → List ℕ → List ℤ → Tables
-sixTables key message commitment rounds challenges last = record
-    { key = key; message = message; commitment = commitment; rounds = rounds; challenges = challenges; last = last }
+abbrev pub sevenTables : List ℕ → List ℤ → List ℕ → List ℕ → List ℕ → List ℤ → List ℕ → Tables
+sevenTables key message commitment rounds challenges last claims = record
+    { key = key; message = message; commitment = commitment; rounds = rounds; challenges = challenges; last = last; claims = claims }
 
-abbrev pub sixParts : Bool → Bool → Bool → Bool → Bool → Bool → Parts
-sixParts key message commitment round challenge last = record
-    { key = key; message = message; commitment = commitment; rounds = round; challenges = challenge; last = last }
+abbrev pub sevenParts : Bool → Bool → Bool → Bool → Bool → Bool → Bool → Parts
+sevenParts key message commitment round challenge last claims = record
+    { key = key; message = message; commitment = commitment; rounds = round; challenges = challenge; last = last; claims = claims }
 
 -- ---- outputs as numbers
 
@@ -56,7 +56,7 @@ counted l = pos (length l) ∷ l
 unfoldable pub tablesNumbers : Tables → List ℤ
 tablesNumbers t =
     counted (map pos (t .key)) ++ counted (t .message) ++ counted (map pos (t .commitment))
-    ++ counted (map pos (t .rounds)) ++ counted (map pos (t .challenges)) ++ counted (t .last)
+    ++ counted (map pos (t .rounds)) ++ counted (map pos (t .challenges)) ++ counted (t .last) ++ counted (map pos (t .claims))
 
 unfoldable pub polynomialNumbers : List (List ℕ) → List ℤ
 polynomialNumbers [] = []

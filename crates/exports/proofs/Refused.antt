@@ -59,12 +59,12 @@ refused-keeps (Call.check S c f k o e) h r = refl
 refused-keeps (Call.judge S c s k w) h r = refl
 refused-keeps (Call.extract S c k o e f w) h r = refl
 refused-keeps (Call.look text s) h r = back-words s (granted-refused _ _ _ r) refl
-refused-keeps (Call.read n text s k m c o e f) h r =
-    let kept : granted (readNumber n text (words h s) (tables h k m c o e f)) (tablesIn (linesOf text)) (tables h k m c o e f) ≡ tables h k m c o e f = granted-refused _ _ _ r in
+refused-keeps (Call.read n text s k m c o e f v) h r =
+    let kept : granted (readNumber n text (words h s) (tables h k m c o e f v)) (tablesIn (linesOf text)) (tables h k m c o e f v) ≡ tables h k m c o e f v = granted-refused _ _ _ r in
     back-words s (granted-refused _ _ _ r)
     (back-words k (ap (λ x. x .key) kept) (back-wholes m (ap (λ x. x .message) kept) (back-words c (ap (λ x. x .commitment) kept)
-    (back-words o (ap (λ x. x .rounds) kept) (back-words e (ap (λ x. x .challenges) kept) (back-wholes f (ap (λ x. x .last) kept) refl))))))
-refused-keeps (Call.write S n k m c o e f out) h r = refl
+    (back-words o (ap (λ x. x .rounds) kept) (back-words e (ap (λ x. x .challenges) kept) (back-wholes f (ap (λ x. x .last) kept) (back-words v (ap (λ x. x .claims) kept) refl)))))))
+refused-keeps (Call.write S n k m c o e f v out) h r = refl
 
 -- ---- gaps
 

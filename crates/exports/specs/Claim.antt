@@ -97,11 +97,19 @@ pub data Call : Type 0 where
   judge : Settings → Words → ℕ → Words → List ℤ → Call
   extract : Settings → Words → Words → Words → Words → Wholes → List ℤ → Call
   look : List ℕ → Words → Call
-  read : ℕ → List ℕ → Words → Words → Wholes → Words → Words → Words → Wholes → Call
-  write : Settings → ℕ → Words → Wholes → Words → Words → Words → Wholes → List ℕ → Call
+  read : ℕ → List ℕ → Words → Words → Wholes → Words → Words → Words → Wholes → Words → Call
+  write : Settings → ℕ → Words → Wholes → Words → Words → Words → Wholes → Words → List ℕ → Call
 
-unfoldable pub tables : Held → Words → Wholes → Words → Words → Words → Wholes → Tables
-tables h k m c r e f = record { key = words h k; message = wholes h m; commitment = words h c; rounds = words h r; challenges = words h e; last = wholes h f }
+unfoldable pub tables : Held → Words → Wholes → Words → Words → Words → Wholes → Words → Tables
+tables h k m c r e f v = record {
+  key = words h k;
+  message = wholes h m;
+  commitment = words h c;
+  rounds = words h r;
+  challenges = words h e;
+  last = wholes h f;
+  claims = words h v;
+}
 
 unfoldable pub refusal : Held → Call → ℕ
 refusal h (Call.commit S k m c) = Border.commitNumber S (words h k) (wholes h m) (words h c)
@@ -115,8 +123,8 @@ refusal h (Call.check S c f k r e) = Border.checkNumber S (words h c) (wholes h 
 refusal h (Call.judge S c s k w) = Border.judgeNumber S (words h c) s (words h k) w
 refusal h (Call.extract S c k r e f w) = Border.extractNumber S (words h c) (words h k) (words h r) (words h e) (wholes h f) w
 refusal h (Call.look text s) = lookNumber text (words h s)
-refusal h (Call.read n text s k m c r e f) = readNumber n text (words h s) (tables h k m c r e f)
-refusal h (Call.write S n k m c r e f out) = writeNumber S n (tables h k m c r e f) out
+refusal h (Call.read n text s k m c r e f v) = readNumber n text (words h s) (tables h k m c r e f v)
+refusal h (Call.write S n k m c r e f v out) = writeNumber S n (tables h k m c r e f v) out
 
 -- ---- what a call leaves behind: a slice at exit goes to whose it is
 
@@ -151,13 +159,13 @@ after (Call.check S c f k r e) h = h
 after (Call.judge S c s k w) h = h
 after (Call.extract S c k r e f w) h = h
 after (Call.look text s) h = putWords s (granted (lookNumber text (words h s)) (settingsNumbers (settingsIn (linesOf text))) (words h s)) h
-after (Call.read n text s k m c r e f) h =
-    let N = readNumber n text (words h s) (tables h k m c r e f) in
-    let exit = granted N (tablesIn (linesOf text)) (tables h k m c r e f) in
+after (Call.read n text s k m c r e f v) h =
+    let N = readNumber n text (words h s) (tables h k m c r e f v) in
+    let exit = granted N (tablesIn (linesOf text)) (tables h k m c r e f v) in
     putWords s (granted N (settingsNumbers (settingsIn (linesOf text))) (words h s))
     (putWords k (exit .key) (putWholes m (exit .message) (putWords c (exit .commitment)
-    (putWords r (exit .rounds) (putWords e (exit .challenges) (putWholes f (exit .last) h))))))
-after (Call.write S n k m c r e f out) h = h
+    (putWords r (exit .rounds) (putWords e (exit .challenges) (putWholes f (exit .last) (putWords v (exit .claims) h)))))))
+after (Call.write S n k m c r e f v out) h = h
 
 -- ---- the steps
 

@@ -391,10 +391,11 @@ pub extern "C" fn wovenrock_read(
     rounds: &mut [u64],
     challenges: &mut [u32],
     last: &mut [i32],
+    claims: &mut [u64],
 ) -> u32
     ensures { λ r. ⌜ ReadStored parts (now (text .entry)) (now (settings .entry))
-        (tablesOf (now (key .entry)) (now (message .entry)) (now (commitment .entry)) (now (rounds .entry)) (now (challenges .entry)) (now (last .entry))) r
-        (now (settings .exit)) (tablesOf (now (key .exit)) (now (message .exit)) (now (commitment .exit)) (now (rounds .exit)) (now (challenges .exit)) (now (last .exit))) ⌝ }
+        (tablesOf (now (key .entry)) (now (message .entry)) (now (commitment .entry)) (now (rounds .entry)) (now (challenges .entry)) (now (last .entry)) (now (claims .entry))) r
+        (now (settings .exit)) (tablesOf (now (key .exit)) (now (message .exit)) (now (commitment .exit)) (now (rounds .exit)) (now (challenges .exit)) (now (last .exit)) (now (claims .exit))) ⌝ }
 {
     text_calls::read(
         parts,
@@ -406,6 +407,7 @@ pub extern "C" fn wovenrock_read(
         rounds,
         challenges,
         last,
+        claims,
     )
 }
 
@@ -424,11 +426,12 @@ pub extern "C" fn wovenrock_write(
     rounds: &[u64],
     challenges: &[u32],
     last: &[i32],
+    claims: &[u64],
     out: &mut [u8],
     count: &mut usize,
 ) -> u32
     ensures { λ r. ⌜ WroteStored (given degree depth modulus bound rows) parts
-        (tablesOf (now (key .entry)) (now (message .entry)) (now (commitment .entry)) (now (rounds .entry)) (now (challenges .entry)) (now (last .entry)))
+        (tablesOf (now (key .entry)) (now (message .entry)) (now (commitment .entry)) (now (rounds .entry)) (now (challenges .entry)) (now (last .entry)) (now (claims .entry)))
         (now (out .entry)) r (now (out .exit)) (now (count .exit)) ⌝ }
 {
     let s = Settings {
@@ -447,6 +450,7 @@ pub extern "C" fn wovenrock_write(
         rounds,
         challenges,
         last,
+        claims,
         out,
         count,
     )

@@ -10,6 +10,7 @@ use Rattle.protocol.specs.Opening.{messageAfter, keyAfter, finalElement,
 use Rattle.protocol.specs.Transcript.{doubled, roundHolds, nextClaim, finalBounded, ending, endHolds, element, claimAfter, holdsAt, closes}
 use Rattle.protocol.specs.Transcript.{accepted}
 use Rattle.protocol.specs.Rows.{keyRow, rowItems, interleaved, rowOf, commitments, roundTables, transcriptsOf, allAccepted}
+use Rattle.protocol.specs.WrittenClaims.{claimOf, claimTable, claimWritten, claimsWritten}
 use Rattle.protocol.specs.Text.{textLimit, valueLimit, narrowLimit, limitOf, bytes, names, digitCount, lowDigits, decimal, numeral, lineText, linesText, shape}
 use Rattle.protocol.specs.Text.{settingsShape, shapes, shapeSize, spotAt, spots, wanted, settingsValues, contents, block, blocks, blockLines, textOf, blockFits}
 use Rattle.protocol.specs.Text.{fits, keep, digit, digitRun, digitFirst, properDigits, readCount, plain, negative, readNumber, byte, readIndex}
@@ -31,7 +32,7 @@ unfolding
     degreeAllowed depthAllowed modulusAllowed boundAllowed rowsAllowed settingsRefusal size cells half hasLength allBelow allWithin exponent exponents
     inner second cross foldSigned foldResidues commitment halfLeft roundElement foldMessage foldKey messageAfter keyAfter finalElement roundTable
     doubled roundHolds nextClaim finalBounded ending endHolds element claimAfter holdsAt closes accepted
-    keyRow rowItems interleaved rowOf commitments roundTables transcriptsOf allAccepted
+    keyRow rowItems interleaved rowOf commitments roundTables transcriptsOf allAccepted claimOf claimTable claimWritten claimsWritten
     textLimit valueLimit narrowLimit limitOf bytes names digitCount lowDigits decimal numeral lineText linesText shape settingsShape shapes shapeSize spotAt spots wanted
     settingsValues contents block blocks blockLines textOf blockFits fits keep digit digitRun digitFirst properDigits readCount plain negative readNumber byte readIndex
     readLine readLines begins beginsWithNames parsed linesOf sameSpot sameSpots spotsOf valuesOf wellFormed unsigned column unsignedColumn settingIn

@@ -17,8 +17,8 @@ use Rattle.protocol.specs.Programs.{proveReads, provePrints, verifyReads
 use Rattle.protocol.specs.ProveVerify.{keyLines, headLength, withKey}
 use Rattle.protocol.proofs.ComputeText.{computedText}
 use Rattle.protocol.proofs.ReaderLaws.{too-long-to-read, too-long-to-write}
-use Rattle.protocol.proofs.TextExamples.{names, settings, key, message, commitment, rounds, challenge, final, input, withFinal, noDepth, wideModulus, moreDepth, listing}
-use Rattle.protocol.proofs.TextExamples.{example, tables, noParts, challengeOnly, finalOnly, allParts, residues₂, residues₆, listed, finalElement, lent, proveTables}
+use Rattle.protocol.proofs.TextExamples.{names, settings, key, message, commitment, rounds, challenge, final, claim, input, withFinal, withClaim, noDepth, wideModulus, moreDepth, listing}
+use Rattle.protocol.proofs.TextExamples.{example, tables, noParts, challengeOnly, finalOnly, allParts, residues₂, residues₆, claims₂, listed, finalElement, lent, proveTables}
 use Rattle.protocol.proofs.TextExamples.{lentListed, nothing, everything, deep, shallow, shallowLent, lentVerify, lentDeep, onlyChallenges, onlyFinal, widest, extremes}
 use Rattle.protocol.proofs.TextExamples.{withSettings, boundAndRows, bounded, weights, secondʷ, listingʷ, withSecond, tablesʷ, lentʷ}
 use Rattle.protocol.proofs.TextRows.{Row, given, expected}
@@ -32,6 +32,16 @@ table =
     ∷ verifies (withFinal final) "accepted\n"
     ∷ verifies (withFinal "6 0 0 2\n6 0 1 0\n") "rejected\n"
     ∷ verifies (withFinal "6 0 0 3\n6 0 1 0\n") "rejected\n"
+    -- a written claim is compared, and never refused for its value; the part has to be there, whole and of residues
+    ∷ verifies (withClaim claim) "accepted\n"
+    ∷ verifies (withClaim "7 0 0 9\n7 0 1 7\n") "rejected\n"
+    ∷ verifies (withClaim "7 0 0 15\n7 0 1 4\n") "rejected\n"
+    ∷ verifies (withClaim "7 0 0 17\n7 0 1 6\n") "refused 8\n"
+    ∷ verifies (withClaim "7 0 0 9\n7 0 1 -1\n") "refused 8\n"
+    ∷ verifies (withClaim "7 0 0 9\n") "refused 7\n"
+    ∷ verifies (withClaim "") "refused 7\n"
+    ∷ verifies (withClaim "7 0 0 9\n7 0 1 6\n7 1 0 9\n") "refused 7\n"
+    ∷ proves (input key message challenge ++ claim) "refused 7\n"
     -- with L = 0 there are no lines of rounds and challenges
     ∷ proves (names ++ noDepth ++ "1 0 0 3\n1 0 1 5\n2 0 0 1\n2 0 1 -1\n") (names ++ noDepth ++ "3 0 0 8\n3 0 1 2\n6 0 0 1\n6 0 1 -1\n")
     ∷ verifies (names ++ noDepth ++ "1 0 0 3\n1 0 1 5\n3 0 0 8\n3 0 1 2\n6 0 0 1\n6 0 1 -1\n") "accepted\n"
@@ -40,10 +50,11 @@ table =
     ∷ verifies (names ++ wideModulus ++ "1 0 0 1\n1 0 1 5\n3 0 0 2305843009213693950\n3 0 1 2305843009213693946\n6 0 0 -1\n6 0 1 0\n") "accepted\n"
     -- two rows, one of weights; and one whose second row is changed
     ∷ proves (names ++ boundAndRows "1" "2" ++ key ++ weights ++ message ++ challenge) listingʷ
-    ∷ verifies (withSecond secondʷ) "accepted\n"
-    ∷ verifies (withSecond "3 1 0 12\n3 1 1 13\n") "rejected\n"
-    ∷ verifies (withSecond "3 1 0 12\n3 1 1 17\n") "refused 8\n"
-    ∷ verifies (withSecond "") "refused 7\n"
+    ∷ verifies (withSecond secondʷ "11") "accepted\n"
+    ∷ verifies (withSecond secondʷ "12") "rejected\n"
+    ∷ verifies (withSecond "3 1 0 12\n3 1 1 13\n" "11") "rejected\n"
+    ∷ verifies (withSecond "3 1 0 12\n3 1 1 17\n" "11") "refused 8\n"
+    ∷ verifies (withSecond "" "11") "refused 7\n"
     ∷ checks (withFinal final) 0 Accepted
     ∷ checks (withFinal "6 0 0 2\n6 0 1 0\n") 0 Rejected
     ∷ checks (withFinal "") 7 Silent
@@ -53,9 +64,9 @@ table =
     ∷ proves (input key message "5 0 0 4\n") "refused 10\n"
     ∷ verifies (withFinal "") "refused 7\n"
     -- `prove` as a call, on an output slice that is long enough, exactly long enough, and too short; the text comes first
-    ∷ callGives (input key message challenge) 157 153 listing
-    ∷ callGives (input key message challenge) 153 153 listing
-    ∷ callRefused (input key message challenge) 152 7
+    ∷ callGives (input key message challenge) 173 169 listing
+    ∷ callGives (input key message challenge) 169 169 listing
+    ∷ callRefused (input key message challenge) 168 7
     ∷ callRefused (input key message "5 0 0 4\n") 0 10
     -- a first look asks for nothing behind the settings, but that it is of the stated shape
     ∷ lookGives (names ++ settings) 0 example
@@ -93,21 +104,23 @@ table =
     ∷ readGives proveReads (input key message challenge) lent example proveTables
     ∷ readRefused proveReads (input key message "5 0 0 4\n") lent 10
     ∷ readRefused proveReads (input key message "5 0 0 1") lent 2
-    ∷ readRefused proveReads (input key message challenge) (tables (9 ∷ 9 ∷ 9 ∷ []) (proveTables .message) [] [] (9 ∷ []) []) 7
-    ∷ readRefused proveReads (input key message challenge) (tables (proveTables .key) (proveTables .message) [] [] [] []) 7
-    ∷ readRefused proveReads (input key message challenge) (tables (proveTables .key) (proveTables .message) [] [] (9 ∷ []) (pos 9 ∷ [])) 7
+    ∷ readRefused proveReads (input key message challenge) (tables (9 ∷ 9 ∷ 9 ∷ []) (proveTables .message) [] [] (9 ∷ []) [] []) 7
+    ∷ readRefused proveReads (input key message challenge) (tables (proveTables .key) (proveTables .message) [] [] [] [] []) 7
+    ∷ readRefused proveReads (input key message challenge) (tables (proveTables .key) (proveTables .message) [] [] (9 ∷ []) (pos 9 ∷ []) []) 7
+    ∷ readRefused proveReads (input key message challenge) (tables (proveTables .key) (proveTables .message) [] [] (9 ∷ []) [] (9 ∷ [])) 7
     ∷ readRefused proveReads (input key message "5 0 0 4\n") nothing 7
     ∷ readRefused proveReads (withSettings "0 0 0 2\n0 0 1 1\n0 0 2 17\n0 0 3 0\n0 0 4 1\n") nothing 6
     ∷ readRefused proveReads (withSettings (boundAndRows "1" "0")) nothing 16
     ∷ readRefused proveReads (withSettings (boundAndRows "1" "2")) lent 7
     ∷ readGives provePrints listing lentListed example (listed finalElement)
+    ∷ readRefused provePrints listing (tables [] [] (9 ∷ 9 ∷ []) (replicate 6 9) (9 ∷ []) (pos 9 ∷ pos 9 ∷ []) (3 ∷ [])) 7
     ∷ readGives finalOnly (names ++ noDepth ++ "6 0 0 2147483647\n6 0 1 -2147483647\n") (onlyFinal (pos 9 ∷ pos 9 ∷ [])) shallow (onlyFinal extremes)
     ∷ readGives noParts (names ++ settings) nothing example nothing
     -- with L = 2: items go first, and a challenge is an item of its own
     ∷ readGives challengeOnly (names ++ moreDepth ++ "5 0 0 1\n5 1 0 3\n") (onlyChallenges (9 ∷ 9 ∷ [])) deep (onlyChallenges (1 ∷ 3 ∷ []))
     ∷ readRefused challengeOnly (names ++ moreDepth ++ "5 0 0 1\n5 0 1 3\n") (onlyChallenges (9 ∷ 9 ∷ [])) 7
     -- the writer: what stands behind its text stays, and on a refusal all of it
-    ∷ writeGives example provePrints (listed finalElement) 157 153 listing
+    ∷ writeGives example provePrints (listed finalElement) 173 169 listing
     ∷ writeGives example noParts nothing 68 63 (names ++ settings)
     ∷ writeGives example noParts nothing 63 63 (names ++ settings)
     ∷ writeRefused example noParts nothing 62 7
@@ -121,20 +134,22 @@ table =
     ∷ writeRefused (bounded 1 5) provePrints (listed finalElement) 4 16
     ∷ writeRefused (bounded 1 2) provePrints (listed finalElement) 999 7
     ∷ writeRefused example provePrints (listed []) 4 7
-    ∷ writeRefused example provePrints (tables (3 ∷ []) [] residues₂ residues₆ (1 ∷ []) finalElement) 999 7
-    ∷ writeRefused example provePrints (tables [] [] (17 ∷ 4 ∷ []) residues₆ (1 ∷ []) finalElement) 4 8
-    ∷ writeRefused example provePrints (tables [] [] residues₂ (4 ∷ 1 ∷ 6 ∷ 0 ∷ 12 ∷ 17 ∷ []) (4 ∷ []) finalElement) 4 8
-    ∷ writeRefused example proveReads (tables (3 ∷ 5 ∷ 7 ∷ 2 ∷ []) (pos 1 ∷ negsuc 1 ∷ pos 1 ∷ pos 0 ∷ []) [] [] (4 ∷ []) []) 4 9
+    ∷ writeRefused example provePrints (tables (3 ∷ []) [] residues₂ residues₆ (1 ∷ []) finalElement claims₂) 999 7
+    ∷ writeRefused example provePrints (tables [] [] residues₂ residues₆ (1 ∷ []) finalElement []) 999 7
+    ∷ writeRefused example provePrints (tables [] [] (17 ∷ 4 ∷ []) residues₆ (1 ∷ []) finalElement claims₂) 4 8
+    ∷ writeRefused example provePrints (tables [] [] residues₂ (4 ∷ 1 ∷ 6 ∷ 0 ∷ 12 ∷ 17 ∷ []) (4 ∷ []) finalElement claims₂) 4 8
+    ∷ writeRefused example provePrints (tables [] [] residues₂ residues₆ (4 ∷ []) finalElement (9 ∷ 17 ∷ [])) 4 8
+    ∷ writeRefused example proveReads (tables (3 ∷ 5 ∷ 7 ∷ 2 ∷ []) (pos 1 ∷ negsuc 1 ∷ pos 1 ∷ pos 0 ∷ []) [] [] (4 ∷ []) [] []) 4 9
     ∷ writeRefused example provePrints (listed (pos 1 ∷ negsuc 2_147_483_647 ∷ [])) 999 9
-    ∷ writeRefused example provePrints (tables [] [] residues₂ residues₆ (4 ∷ []) finalElement) 4 10
+    ∷ writeRefused example provePrints (tables [] [] residues₂ residues₆ (4 ∷ []) finalElement claims₂) 4 10
     -- the round trip: all parts there, none, L = 0, and the largest magnitudes
     ∷ back example provePrints (listed finalElement) lentListed
     ∷ back example allParts everything everything
     ∷ back example noParts nothing nothing
     ∷ back (bounded 1 2) allParts tablesʷ lentʷ
-    ∷ back deep allParts (tables (replicate 8 16) (replicate 8 (negsuc 0)) (0 ∷ 1 ∷ []) (replicate 12 10) (0 ∷ 3 ∷ []) extremes) lentDeep
-    ∷ back shallow allParts (tables (0 ∷ 16 ∷ []) (pos 1 ∷ negsuc 0 ∷ []) (8 ∷ 2 ∷ []) [] [] extremes) shallowLent
-    ∷ back widest proveReads (tables (2_305_843_009_213_693_950 ∷ 10 ∷ []) (negsuc 126 ∷ pos 127 ∷ []) [] [] [] []) (tables (9 ∷ 9 ∷ []) (pos 9 ∷ pos 9 ∷ []) [] [] [] [])
+    ∷ back deep allParts (tables (replicate 8 16) (replicate 8 (negsuc 0)) (0 ∷ 1 ∷ []) (replicate 12 10) (0 ∷ 3 ∷ []) extremes (1 ∷ 2 ∷ 3 ∷ 16 ∷ [])) lentDeep
+    ∷ back shallow allParts (tables (0 ∷ 16 ∷ []) (pos 1 ∷ negsuc 0 ∷ []) (8 ∷ 2 ∷ []) [] [] extremes []) shallowLent
+    ∷ back widest proveReads (tables (2_305_843_009_213_693_950 ∷ 10 ∷ []) (negsuc 126 ∷ pos 127 ∷ []) [] [] [] [] []) (tables (9 ∷ 9 ∷ []) (pos 9 ∷ pos 9 ∷ []) [] [] [] [] [])
     ∷ forth proveReads (input key message challenge) lent
     ∷ forth provePrints listing lentListed
     ∷ forth verifyReads (withFinal "6 0 0 -2147483647\n6 0 1 2147483647\n") lentVerify

@@ -16,6 +16,7 @@ pub mod TreeCheck
 pub mod TreeKeys
 pub mod GrowthTest
 pub mod Acceptance
+pub mod WrittenClaims
 pub mod Inputs
 pub mod Compute
 pub mod Examples

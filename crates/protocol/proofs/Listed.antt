@@ -23,7 +23,7 @@ use Rattle.protocol.specs.Rows.{keyRow, atRows}
 use Rattle.protocol.specs.Session.{blank, start, startRefusal, opened, part, round, sessionRoundRefusal, sessionRoundHolds, advanced}
 use Rattle.protocol.specs.Transcript.{nextClaim}
 use Rattle.protocol.specs.Opening.{commitment, roundElement}
-use Rattle.protocol.specs.Calls.{commitRefusal, commitAnswer, openingRefusal, openingAnswer, roundRefusal, polynomial, roundAnswer}
+use Rattle.protocol.specs.Calls.{commitRefusal, commitAnswer, roundRefusal, polynomial, roundAnswer}
 use Rattle.protocol.proofs.Tests.{granted-zero}
 
 unfoldable pub listed {ℓ} : {A : Type ℓ} → ℕ → ℕ → (ℕ → A) → List A
@@ -60,11 +60,6 @@ pub commit-listed : (S : Settings) (key : List ℕ) (message : List ℤ) {C : Li
     → listedRows S (λ r. commitment S (keyRow S key r) message) ≡ C → commitAnswer S key message .commitment ≡ C
 unfolding commitAnswer
 commit-listed S key message passed e = granted-zero _ _ _ passed ∙ atRows-listed S _ ∙ e
-
-pub opening-listed : (S : Settings) (key : List ℕ) (message : List ℤ) (E rounds : List ℕ) {C : List ℕ} → openingRefusal S key message E rounds ≡ 0
-    → listedRows S (λ r. commitment S (keyRow S key r) message) ≡ C → openingAnswer S key message E rounds .commitment ≡ C
-unfolding openingAnswer
-opening-listed S key message E rounds passed e = granted-zero _ _ _ passed ∙ atRows-listed S _ ∙ e
 
 pub polynomial-listed : (S : Settings) (t : ℕ) (key : List ℕ) (message : List ℤ) {c0 c1 c2 : List ℕ} → roundRefusal S t key message ≡ 0
     → listedRows S (λ r. roundElement S t (keyRow S key r) message 0) ≡ c0

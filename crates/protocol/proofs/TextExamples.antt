@@ -35,6 +35,9 @@ challenge = "5 0 0 1\n"
 abbrev pub final : String
 final = "6 0 0 1\n6 0 1 0\n"
 
+abbrev pub claim : String
+claim = "7 0 0 9\n7 0 1 6\n"
+
 -- what `prove` reads, the key's lines, the message's lines and the challenge's line being given
 abbrev pub input : String → String → String → String
 input k m e = names ++ settings ++ k ++ m ++ e
@@ -45,7 +48,11 @@ withSettings s = names ++ s ++ key ++ message ++ challenge
 
 -- what `verify` reads, the final element's lines being given
 abbrev pub withFinal : String → String
-withFinal f = names ++ settings ++ key ++ commitment ++ rounds ++ challenge ++ f
+withFinal f = names ++ settings ++ key ++ commitment ++ rounds ++ challenge ++ f ++ claim
+
+-- the same with the claim's lines being given
+abbrev pub withClaim : String → String
+withClaim v = names ++ settings ++ key ++ commitment ++ rounds ++ challenge ++ final ++ v
 
 -- settings 2, 0, 17, 1, 1, with no rounds
 abbrev pub noDepth : String
@@ -83,6 +90,8 @@ listing =
     ++ "5 0 0 1\n"
     ++ "6 0 0 1\n"
     ++ "6 0 1 0\n"
+    ++ "7 0 0 9\n"
+    ++ "7 0 1 6\n"
 
 -- ---- Tables
 
@@ -93,21 +102,21 @@ bounded b r = record { degree = 2; depth = 1; modulus = 17; bound = b; rows = r 
 abbrev pub example : Settings
 example = bounded 1 1
 
-abbrev pub tables : List ℕ → List ℤ → List ℕ → List ℕ → List ℕ → List ℤ → Tables
-tables k m c r e f = record { key = k; message = m; commitment = c; rounds = r; challenges = e; last = f }
+abbrev pub tables : List ℕ → List ℤ → List ℕ → List ℕ → List ℕ → List ℤ → List ℕ → Tables
+tables k m c r e f v = record { key = k; message = m; commitment = c; rounds = r; challenges = e; last = f; claims = v }
 
 -- part 0 alone
 abbrev pub noParts : Parts
-noParts = record { key = false; message = false; commitment = false; rounds = false; challenges = false; last = false }
+noParts = record { key = false; message = false; commitment = false; rounds = false; challenges = false; last = false; claims = false }
 
 abbrev pub challengeOnly : Parts
-challengeOnly = record { key = false; message = false; commitment = false; rounds = false; challenges = true; last = false }
+challengeOnly = record { key = false; message = false; commitment = false; rounds = false; challenges = true; last = false; claims = false }
 
 abbrev pub finalOnly : Parts
-finalOnly = record { key = false; message = false; commitment = false; rounds = false; challenges = false; last = true }
+finalOnly = record { key = false; message = false; commitment = false; rounds = false; challenges = false; last = true; claims = false }
 
 abbrev pub allParts : Parts
-allParts = record { key = true; message = true; commitment = true; rounds = true; challenges = true; last = true }
+allParts = record { key = true; message = true; commitment = true; rounds = true; challenges = true; last = true; claims = true }
 
 abbrev pub residues₂ : List ℕ
 residues₂ = 15 ∷ 4 ∷ []
@@ -115,29 +124,32 @@ residues₂ = 15 ∷ 4 ∷ []
 abbrev pub residues₆ : List ℕ
 residues₆ = 4 ∷ 1 ∷ 6 ∷ 0 ∷ 12 ∷ 1 ∷ []
 
+abbrev pub claims₂ : List ℕ
+claims₂ = 9 ∷ 6 ∷ []
+
 -- the tables of the listing, the final element being given
 abbrev pub listed : List ℤ → Tables
-listed f = tables [] [] residues₂ residues₆ (1 ∷ []) f
+listed f = tables [] [] residues₂ residues₆ (1 ∷ []) f claims₂
 
 abbrev pub finalElement : List ℤ
 finalElement = pos 1 ∷ pos 0 ∷ []
 
 -- tables that are lent for what `prove` reads
 abbrev pub lent : Tables
-lent = tables (9 ∷ 9 ∷ 9 ∷ 9 ∷ []) (pos 9 ∷ pos 9 ∷ pos 9 ∷ pos 9 ∷ []) [] [] (9 ∷ []) []
+lent = tables (9 ∷ 9 ∷ 9 ∷ 9 ∷ []) (pos 9 ∷ pos 9 ∷ pos 9 ∷ pos 9 ∷ []) [] [] (9 ∷ []) [] []
 
 abbrev pub proveTables : Tables
-proveTables = tables (3 ∷ 5 ∷ 7 ∷ 2 ∷ []) (pos 1 ∷ negsuc 0 ∷ pos 1 ∷ pos 0 ∷ []) [] [] (1 ∷ []) []
+proveTables = tables (3 ∷ 5 ∷ 7 ∷ 2 ∷ []) (pos 1 ∷ negsuc 0 ∷ pos 1 ∷ pos 0 ∷ []) [] [] (1 ∷ []) [] []
 
 -- tables that are lent for what `prove` prints
 abbrev pub lentListed : Tables
-lentListed = tables [] [] (9 ∷ 9 ∷ []) (replicate 6 9) (9 ∷ []) (pos 9 ∷ pos 9 ∷ [])
+lentListed = tables [] [] (9 ∷ 9 ∷ []) (replicate 6 9) (9 ∷ []) (pos 9 ∷ pos 9 ∷ []) (3 ∷ 3 ∷ [])
 
 abbrev pub nothing : Tables
-nothing = tables [] [] [] [] [] []
+nothing = tables [] [] [] [] [] [] []
 
 abbrev pub everything : Tables
-everything = tables (proveTables .key) (proveTables .message) residues₂ residues₆ (1 ∷ []) finalElement
+everything = tables (proveTables .key) (proveTables .message) residues₂ residues₆ (1 ∷ []) finalElement claims₂
 
 abbrev pub deep : Settings
 deep = record { degree = 2; depth = 2; modulus = 17; bound = 1; rows = 1 }
@@ -147,20 +159,20 @@ abbrev pub shallow : Settings
 shallow = record { degree = 2; depth = 0; modulus = 17; bound = 1; rows = 1 }
 
 abbrev pub shallowLent : Tables
-shallowLent = tables (9 ∷ 9 ∷ []) (pos 9 ∷ pos 9 ∷ []) (9 ∷ 9 ∷ []) [] [] (pos 9 ∷ pos 9 ∷ [])
+shallowLent = tables (9 ∷ 9 ∷ []) (pos 9 ∷ pos 9 ∷ []) (9 ∷ 9 ∷ []) [] [] (pos 9 ∷ pos 9 ∷ []) []
 
 -- tables that are lent for what `verify` reads, and for all parts with L = 2
 abbrev pub lentVerify : Tables
-lentVerify = tables (replicate 4 9) [] (replicate 2 9) (replicate 6 9) (9 ∷ []) (replicate 2 (pos 9))
+lentVerify = tables (replicate 4 9) [] (replicate 2 9) (replicate 6 9) (9 ∷ []) (replicate 2 (pos 9)) (replicate 2 3)
 
 abbrev pub lentDeep : Tables
-lentDeep = tables (replicate 8 9) (replicate 8 (pos 9)) (replicate 2 9) (replicate 12 9) (replicate 2 9) (replicate 2 (pos 9))
+lentDeep = tables (replicate 8 9) (replicate 8 (pos 9)) (replicate 2 9) (replicate 12 9) (replicate 2 9) (replicate 2 (pos 9)) (replicate 4 3)
 
 abbrev pub onlyChallenges : List ℕ → Tables
-onlyChallenges e = tables [] [] [] [] e []
+onlyChallenges e = tables [] [] [] [] e [] []
 
 abbrev pub onlyFinal : List ℤ → Tables
-onlyFinal f = tables [] [] [] [] [] f
+onlyFinal f = tables [] [] [] [] [] f []
 
 -- the largest modulus and bound
 abbrev pub widest : Settings
@@ -185,18 +197,22 @@ secondʷ = "3 1 0 12\n3 1 1 12\n"
 abbrev pub roundsʷ : String
 roundsʷ = "4 0 0 4\n4 0 1 1\n4 1 0 11\n4 1 1 6\n4 2 0 6\n4 2 1 0\n4 3 0 6\n4 3 1 5\n4 4 0 12\n4 4 1 1\n4 5 0 12\n4 5 1 0\n"
 
-abbrev pub listingʷ : String
-listingʷ = names ++ boundAndRows "1" "2" ++ commitmentʷ secondʷ ++ roundsʷ ++ challenge ++ final
+-- the lines of the claims, the first value of the second row being given
+abbrev pub claimsʷ : String → String
+claimsʷ v = claim ++ "7 1 0 " ++ v ++ "\n7 1 1 12\n"
 
--- what `verify` reads, the commitment's lines of the second row being given
-abbrev pub withSecond : String → String
-withSecond second = names ++ boundAndRows "1" "2" ++ key ++ weights ++ commitmentʷ second ++ roundsʷ ++ challenge ++ final
+abbrev pub listingʷ : String
+listingʷ = names ++ boundAndRows "1" "2" ++ commitmentʷ secondʷ ++ roundsʷ ++ challenge ++ final ++ claimsʷ "11"
+
+-- what `verify` reads, the commitment's lines of the second row and a value of its claim being given
+abbrev pub withSecond : String → String → String
+withSecond second v = names ++ boundAndRows "1" "2" ++ key ++ weights ++ commitmentʷ second ++ roundsʷ ++ challenge ++ final ++ claimsʷ v
 
 abbrev pub tablesʷ : Tables
 tablesʷ = tables
     (3 ∷ 5 ∷ 7 ∷ 2 ∷ 5 ∷ 0 ∷ 7 ∷ 0 ∷ []) (proveTables .message) (15 ∷ 4 ∷ 12 ∷ 12 ∷ [])
-    (4 ∷ 1 ∷ 11 ∷ 6 ∷ 6 ∷ 0 ∷ 6 ∷ 5 ∷ 12 ∷ 1 ∷ 12 ∷ 0 ∷ []) (1 ∷ []) finalElement
+    (4 ∷ 1 ∷ 11 ∷ 6 ∷ 6 ∷ 0 ∷ 6 ∷ 5 ∷ 12 ∷ 1 ∷ 12 ∷ 0 ∷ []) (1 ∷ []) finalElement (9 ∷ 6 ∷ 11 ∷ 12 ∷ [])
 
 -- tables that are lent for all parts
 abbrev pub lentʷ : Tables
-lentʷ = tables (replicate 8 9) (replicate 4 (pos 9)) (replicate 4 9) (replicate 12 9) (9 ∷ []) (replicate 2 (pos 9))
+lentʷ = tables (replicate 8 9) (replicate 4 (pos 9)) (replicate 4 9) (replicate 12 9) (9 ∷ []) (replicate 2 (pos 9)) (replicate 4 3)

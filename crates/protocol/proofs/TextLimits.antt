@@ -13,7 +13,7 @@ use borrow.Author.Tests.{leb-true, le-leb, ltb-true, eqb-true}
 use Rattle.protocol.specs.declared.Settings.{Settings}
 use Rattle.protocol.specs.declared.Parts.{Parts}
 use Rattle.protocol.specs.Basic.{tabulate, all, among, choose, within, first, unless}
-use Rattle.protocol.specs.Layout.{width, rowsMost, keyItems, roundItems}
+use Rattle.protocol.specs.Layout.{width, rowsMost, keyItems, roundItems, claimItems}
 use Rattle.protocol.specs.Settings.{settingsRefusal, size, allBelow, allWithin}
 use Rattle.protocol.specs.Settings.{exponent, exponents}
 use Rattle.protocol.specs.Text.{Line, Shape, Tables, valueLimit, narrowLimit, limitOf, shape, settingsShape, shapes, shapeSize}
@@ -114,6 +114,7 @@ pub record Passed (S : Settings) (t : Tables) : Type 0 where
   pub message : allWithin (S .bound) (t .message) ≡ true
   pub challenges : exponents S (t .challenges) ≡ true
   pub last : all (within narrowLimit) (t .last) ≡ true
+  pub claims : allBelow S (t .claims) ≡ true
 
 pub passed : (S : Settings) (lastFits : Bool) (t : Tables) → entriesRefusal S lastFits t ≡ 0
     → (lastFits ≡ true → all (within narrowLimit) (t .last) ≡ true) → Passed S t
@@ -123,13 +124,14 @@ passed S lastFits t h f =
     let (h₉, r₉) = first-zero _ _ r₈ in
     let (h₁₀, r₁₀) = first-zero _ _ r₉ in
     let (k, cr) = and-eq-true-iff (allBelow S (t .key)) _ .0 (unless-zero 7 _ h₈) in
-    let (c, r) = and-eq-true-iff (allBelow S (t .commitment)) _ .0 cr in
+    let (c, rv) = and-eq-true-iff (allBelow S (t .commitment)) _ .0 cr in
+    let (r, v) = and-eq-true-iff (allBelow S (t .rounds)) _ .0 rv in
     let (m, l) = and-eq-true-iff (allWithin (S .bound) (t .message)) lastFits .0 (unless-zero 8 _ h₉) in
-    record { key = k; commitment = c; rounds = r; message = m; challenges = unless-zero 9 _ h₁₀; last = f l }
+    record { key = k; commitment = c; rounds = r; message = m; challenges = unless-zero 9 _ h₁₀; last = f l; claims = v }
 
 pub unrefused : (S : Settings) (lastFits : Bool) (t : Tables) → Passed S t → lastFits ≡ true → entriesRefusal S lastFits t ≡ 0
 unfolding entriesRefusal first unless
-unrefused S lastFits t p l = rw (p .key, p .commitment, p .rounds, p .message, l, p .challenges)
+unrefused S lastFits t p l = rw (p .key, p .commitment, p .rounds, p .claims, p .message, l, p .challenges)
 
 pub below-limited : (most m : ℕ) (v : List ℕ) → m ≤ most → all (λ x. ltb x m) v ≡ true → all (λ x. leb x most) v ≡ true
 below-limited most m v l h = all-weaken (λ x. ltb x m) (λ x. leb x most) (λ x e. le-leb x most (omega (arith, ltb-true x m e))) v h
@@ -165,7 +167,7 @@ settings-limited S a =
       le-leb (S .rows) valueLimit (omega (arith, a .rows)),
     )
 
--- the values of parts 0 to 6 and the shapes of parts 0 to 6 are within their limits
+-- the values of parts 0 to 7 and the shapes of parts 0 to 7 are within their limits
 pub contents-limited : (S : Settings) (P : Parts) (t : Tables) → Allowed S → Passed S t → Limits (shapes S P) (contents S t)
 unfolding shapes contents settingsShape shape limitOf among choose
 contents-limited S P t a p =
@@ -175,7 +177,9 @@ contents-limited S P t a p =
     let key : keyItems S * S .degree ≤ narrowLimit = le-trans (mul-le-mul (mul-le-mul (a .rows) n) (a .degree)) wide in
     let element : S .rows * S .degree ≤ narrowLimit = le-trans (mul-le-mul (a .rows) (a .degree)) (omega arith) in
     let items : roundItems S ≤ 256 = omega (arith, a .depth) in
-    let rounds : S .rows * roundItems S * S .degree ≤ narrowLimit = le-trans (mul-le-mul (mul-le-mul (a .rows) items) (a .degree)) wide in (
+    let rounds : S .rows * roundItems S * S .degree ≤ narrowLimit = le-trans (mul-le-mul (mul-le-mul (a .rows) items) (a .degree)) wide in
+    let deep : S .depth ≤ 256 = omega (arith, a .depth) in
+    let claims : claimItems S * S .degree ≤ narrowLimit = le-trans (mul-le-mul (mul-le-mul (a .rows) deep) (a .degree)) wide in (
       (shape-small 0 true 1 5 (omega arith) (omega arith), settings-limited S a),
       (
         (shape-small 1 (P .key) (keyItems S) (S .degree) (omega arith) key, residues-limited S (t .key) a (p .key)),
@@ -187,7 +191,10 @@ contents-limited S P t a p =
               (shape-small 4 (P .rounds) (S .rows * roundItems S) (S .degree) (omega arith) rounds, residues-limited S (t .rounds) a (p .rounds)),
               (
                 (shape-small 5 (P .challenges) (S .depth) 1 (omega arith) (omega (arith, a .depth)), exponents-limited S (t .challenges) a (p .challenges)),
-                ((shape-small 6 (P .last) 1 (S .degree) (omega arith) (omega (arith, a .degree)), p .last), tt),
+                (
+                  (shape-small 6 (P .last) 1 (S .degree) (omega arith) (omega (arith, a .degree)), p .last),
+                  ((shape-small 7 (P .claims) (claimItems S) (S .degree) (omega arith) claims, residues-limited S (t .claims) a (p .claims)), tt),
+                ),
               ),
             ),
           ),

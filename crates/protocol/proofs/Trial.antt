@@ -41,7 +41,7 @@ ran = tt
 -- ---- refused calls, of every kind
 
 abbrev keyAndMessage : Parts
-keyAndMessage = record { key = true; message = true; commitment = false; rounds = false; challenges = false; last = false }
+keyAndMessage = record { key = true; message = true; commitment = false; rounds = false; challenges = false; last = false; claims = false }
 
 abbrev nothing : KeyTable
 nothing = KeyTable.other []
@@ -96,11 +96,11 @@ leafless = Call.extract S₁ commitment₁ KeyTable.ours (KeyTable.other rounds�
 
 -- a text that is none, read into both tables (2)
 abbrev junk : Call
-junk = Call.read keyAndMessage (1 ∷ []) KeyTable.ours MessageTable.ours nothing nothing nothing (MessageTable.other [])
+junk = Call.read keyAndMessage (1 ∷ []) KeyTable.ours MessageTable.ours nothing nothing nothing (MessageTable.other []) nothing
 
 -- our tables written where there is no room (7)
 abbrev roomless : Call
-roomless = Call.write S₁ keyAndMessage KeyTable.ours MessageTable.ours nothing nothing nothing (MessageTable.other []) []
+roomless = Call.write S₁ keyAndMessage KeyTable.ours MessageTable.ours nothing nothing nothing (MessageTable.other []) nothing []
 
 nonzero : (n : ℕ) → suc n ≢ 0
 nonzero n e = omega arith

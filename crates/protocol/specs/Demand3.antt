@@ -105,12 +105,19 @@ pub data Call : Type 0 where
   check : Settings → List ℕ → List ℤ → KeyTable → KeyTable → KeyTable → Call
   judge : Settings → List ℕ → ℕ → KeyTable → List ℤ → Call
   extract : Settings → List ℕ → KeyTable → KeyTable → KeyTable → MessageTable → List ℤ → Call
-  read : Parts → List ℕ → KeyTable → MessageTable → KeyTable → KeyTable → KeyTable → MessageTable → Call
-  write : Settings → Parts → KeyTable → MessageTable → KeyTable → KeyTable → KeyTable → MessageTable → List ℕ → Call
+  read : Parts → List ℕ → KeyTable → MessageTable → KeyTable → KeyTable → KeyTable → MessageTable → KeyTable → Call
+  write : Settings → Parts → KeyTable → MessageTable → KeyTable → KeyTable → KeyTable → MessageTable → KeyTable → List ℕ → Call
 
-unfoldable pub tables : Held → KeyTable → MessageTable → KeyTable → KeyTable → KeyTable → MessageTable → Tables
-tables h k m c r e f = record
-    { key = lentKey h k; message = lentMessage h m; commitment = lentKey h c; rounds = lentKey h r; challenges = lentKey h e; last = lentMessage h f }
+unfoldable pub tables : Held → KeyTable → MessageTable → KeyTable → KeyTable → KeyTable → MessageTable → KeyTable → Tables
+tables h k m c r e f v = record {
+  key = lentKey h k;
+  message = lentMessage h m;
+  commitment = lentKey h c;
+  rounds = lentKey h r;
+  challenges = lentKey h e;
+  last = lentMessage h f;
+  claims = lentKey h v;
+}
 
 unfoldable pub refusal : Held → Call → ℕ
 refusal h (Call.commit S k m) = Calls.commitAnswer S (lentKey h k) (lentMessage h m) .refusal
@@ -123,8 +130,8 @@ refusal h (Call.session-end r f k) = Verifier.end (handed h r) f (lentKey h k) .
 refusal h (Call.check S C f k r e) = Calls.checkAnswer S C f (lentKey h k) (lentKey h r) (lentKey h e) .refusal
 refusal h (Call.judge S C c k w) = Calls.judgeAnswer S C c (lentKey h k) w .refusal
 refusal h (Call.extract S C k r e f w) = Calls.extractRefusal S C (lentKey h k) (lentKey h r) (lentKey h e) (lentMessage h f) w
-refusal h (Call.read P text k m c r e f) = Text.readAnswer P text (tables h k m c r e f) .refusal
-refusal h (Call.write S P k m c r e f out) = Text.writeAnswer S P (tables h k m c r e f) out .refusal
+refusal h (Call.read P text k m c r e f v) = Text.readAnswer P text (tables h k m c r e f v) .refusal
+refusal h (Call.write S P k m c r e f v out) = Text.writeAnswer S P (tables h k m c r e f v) out .refusal
 
 -- ---- what a call leaves behind
 
@@ -159,11 +166,11 @@ after (Call.session-end r f k) h = backRecord r (Verifier.end (handed h r) f (le
 after (Call.check S C f k r e) h = h
 after (Call.judge S C c k w) h = h
 after (Call.extract S C k r e f w) h = h
-after (Call.read P text k m c r e f) h =
-    let exit = Text.readExit P text (tables h k m c r e f) in
+after (Call.read P text k m c r e f v) h =
+    let exit = Text.readExit P text (tables h k m c r e f v) in
     backKey k (exit .key) (backMessage m (exit .message) (backKey c (exit .commitment)
-    (backKey r (exit .rounds) (backKey e (exit .challenges) (backMessage f (exit .last) h)))))
-after (Call.write S P k m c r e f out) h = h
+    (backKey r (exit .rounds) (backKey e (exit .challenges) (backMessage f (exit .last) (backKey v (exit .claims) h))))))
+after (Call.write S P k m c r e f v out) h = h
 
 -- ---- an opening as a list of calls, PROTOCOL 11.1
 

@@ -15,6 +15,7 @@
 --   polynomialAt S k            3·k·rows·d: where the polynomial of round k + 1, or of node k, begins
 --   roundItems S                3·L elements: the round polynomials of a transcript in one row
 --   roundCells S                rows·3·L·d numbers: those of all rows
+--   claimItems S, claimCells S  rows·L elements, and rows·L·d numbers: the claims after each round
 --   nodes S, leaves S           N = (3^L − 1)/2 branching nodes, and 3^L leaves
 --   treeRoundCells S            rows·3·N·d numbers: the round polynomials of a tree
 --   treeChallenges S            3·N numbers: the challenges of a tree
@@ -81,6 +82,12 @@ roundItems S = 3 * S .depth
 
 abbrev pub roundCells : Settings → ℕ
 roundCells S = S .rows * roundItems S * S .degree
+
+abbrev pub claimItems : Settings → ℕ
+claimItems S = S .rows * S .depth
+
+abbrev pub claimCells : Settings → ℕ
+claimCells S = claimItems S * S .degree
 
 abbrev pub itemOf : ℕ → ℕ → ℕ
 itemOf k j = 3 * k + j

@@ -5,6 +5,7 @@ pub mod Settings
 pub mod Opening
 pub mod Transcript
 pub mod Rows
+pub mod WrittenClaims
 pub mod Session
 pub mod Tree
 pub mod Nodes

@@ -78,13 +78,15 @@ pub data Answers : Call → Held → ℕ → Held → Type 0 where
   extract : {h : Held} {S : Settings} {C : List ℕ} {k o e : KeyTable} {f : MessageTable} {w : List ℤ} (r : ℕ) (w′ : List ℤ)
       → Extracted S C (lentKey h k) (lentKey h o) (lentKey h e) (lentMessage h f) w r w′
       → Answers (Call.extract S C k o e f w) h r h
-  read : {h : Held} {P : Parts} {text : List ℕ} {k : KeyTable} {m : MessageTable} {c o e : KeyTable} {f : MessageTable} (r : Loaded) (t′ : Tables)
-      → Read P text (tables h k m c o e f) r t′
-      → Answers (Call.read P text k m c o e f) h (r .refusal)
-      (backKey k (t′ .key) (backMessage m (t′ .message) (backKey c (t′ .commitment) (backKey o (t′ .rounds) (backKey e (t′ .challenges) (backMessage f (t′ .last) h))))))
-  write : {h : Held} {S : Settings} {P : Parts} {k : KeyTable} {m : MessageTable} {c o e : KeyTable} {f : MessageTable} {out : List ℕ} (r : Written) (out′ : List ℕ)
-      → Wrote S P (tables h k m c o e f) out r out′
-      → Answers (Call.write S P k m c o e f out) h (r .refusal) h
+  read : {h : Held} {P : Parts} {text : List ℕ} {k : KeyTable} {m : MessageTable} {c o e : KeyTable} {f : MessageTable} {v : KeyTable} (r : Loaded) (t′ : Tables)
+      → Read P text (tables h k m c o e f v) r t′
+      → Answers (Call.read P text k m c o e f v) h (r .refusal)
+      (backKey k (t′ .key) (backMessage m (t′ .message) (backKey c (t′ .commitment)
+      (backKey o (t′ .rounds) (backKey e (t′ .challenges) (backMessage f (t′ .last) (backKey v (t′ .claims) h)))))))
+  write : {h : Held} {S : Settings} {P : Parts} {k : KeyTable} {m : MessageTable} {c o e : KeyTable} {f : MessageTable} {v : KeyTable} {out : List ℕ}
+      (r : Written) (out′ : List ℕ)
+      → Wrote S P (tables h k m c o e f v) out r out′
+      → Answers (Call.write S P k m c o e f v out) h (r .refusal) h
 
 pub data Refusals : Held → Held → Type 0 where
   none : {h : Held} → Refusals h h

@@ -1,18 +1,18 @@
 -- PROTOCOL 10: the programs `prove` and `verify`, as calls on text and as what they print.
 --
 --   proveReads, provePrints, verifyReads   which parts a program reads and prints
---   printed T                              the tables that `prove` prints of a transcript
+--   printed S T                            the tables that `prove` prints of a transcript: the transcript and its claims
 --   proofText S t                          the text of the transcript of the tables t, as `prove` prints it
 --   proveText text                         what `prove` writes where nothing is refused
 --   proveRefusal, proveAnswer, proveExit   `prove` on a text and an output slice: its refusals, its answer, the slice as it leaves it
 --   transcriptIn t                         the transcript in the tables that `verify` reads
---   tablesAccepted S t                     is it accepted
+--   tablesAccepted S t                     is it accepted, and is every written claim the one that is worked out
 --   verifyRefusal, verifyAnswer            `verify` on a text: its refusals and its answer
 --   checked r                              the number and the verdict for each case of that answer
 --   verifyGives text                       the number and the verdict for a text
 --   refusedLine N, verdictLine r           the line that is printed for a refusal, and for an answer of `verify`
 --   proveOutput, verifyOutput              the bytes that a program prints for a standard input
-use mathlib.Core.Bool.{Bool, true, false}
+use mathlib.Core.Bool.{Bool, true, false, _&&_}
 use mathlib.Core.List.{List, [], _∷_, _++_}
 use Prim.Native.Nat.{ℕ}
 use lib.ListN.{length}
@@ -26,28 +26,37 @@ use Rattle.protocol.specs.declared.Verified.the-variants.{Accepted, Reje
 use Rattle.protocol.specs.Basic.{choose, first, granted}
 use Rattle.protocol.specs.Transcript.{Transcript}
 use Rattle.protocol.specs.Rows.{allAccepted, transcriptsOf}
+use Rattle.protocol.specs.WrittenClaims.{claimTable, claimsWritten}
 use Rattle.protocol.specs.Session.{verdict}
 use Rattle.protocol.specs.Text.{Tables, lineFeed, textLimit, bytes, decimal, textOf, linesOf, settingsIn, tablesIn, textRefusal, outputRefusal}
 use Rattle.protocol.specs.Text.{written, overwritten}
 
--- PROTOCOL 10.1: what goes into an opening, and the transcript that comes out
+-- PROTOCOL 10.1: what goes into an opening, and the transcript that comes out, with its claims
 unfoldable pub proveReads : Parts
-proveReads = record { key = true; message = true; commitment = false; rounds = false; challenges = true; last = false }
+proveReads = record { key = true; message = true; commitment = false; rounds = false; challenges = true; last = false; claims = false }
 
 unfoldable pub provePrints : Parts
-provePrints = record { key = false; message = false; commitment = true; rounds = true; challenges = true; last = true }
+provePrints = record { key = false; message = false; commitment = true; rounds = true; challenges = true; last = true; claims = true }
 
--- PROTOCOL 10.2: a key and a transcript
+-- PROTOCOL 10.2: a key and a transcript with its claims
 unfoldable pub verifyReads : Parts
-verifyReads = record { key = true; message = false; commitment = true; rounds = true; challenges = true; last = true }
+verifyReads = record { key = true; message = false; commitment = true; rounds = true; challenges = true; last = true; claims = true }
 
 -- ---- prove
 
-unfoldable pub printed : Transcript → Tables
-printed T = record { key = []; message = []; commitment = T .commitment; rounds = T .rounds; challenges = T .challenges; last = T .last }
+unfoldable pub printed : Settings → Transcript → Tables
+printed S T = record {
+  key = [];
+  message = [];
+  commitment = T .commitment;
+  rounds = T .rounds;
+  challenges = T .challenges;
+  last = T .last;
+  claims = claimTable S T;
+}
 
 unfoldable pub proofText : Settings → Tables → List ℕ
-proofText S t = textOf S provePrints (printed (transcriptsOf S (t .key) (t .message) (t .challenges)))
+proofText S t = textOf S provePrints (printed S (transcriptsOf S (t .key) (t .message) (t .challenges)))
 
 unfoldable pub proveText : List ℕ → List ℕ
 proveText text = proofText (settingsIn (linesOf text)) (tablesIn (linesOf text))
@@ -67,8 +76,9 @@ proveExit text out = overwritten (proveRefusal text (length out)) (proveText tex
 unfoldable pub transcriptIn : Tables → Transcript
 transcriptIn t = record { commitment = t .commitment; rounds = t .rounds; challenges = t .challenges; last = t .last }
 
+-- PROTOCOL 10.2: a claim that is not the one worked out is among the equations
 unfoldable pub tablesAccepted : Settings → Tables → Bool
-tablesAccepted S t = allAccepted S (t .key) (transcriptIn t)
+tablesAccepted S t = allAccepted S (t .key) (transcriptIn t) && claimsWritten S (transcriptIn t) (t .claims)
 
 unfoldable pub verifyRefusal : List ℕ → ℕ
 verifyRefusal text = textRefusal verifyReads true text

@@ -36,7 +36,7 @@ pub record Extracted (S : Settings) (C key rounds E : List ℕ) (finals w : List
   pub refusal : r ≡ extractRefusal S C key rounds E finals w
   pub w-exit : w′ ≡ extractExit S C key rounds E finals w
 
--- t holds the six tables at entry, t′ at exit
+-- t holds the seven tables at entry, t′ at exit
 pub record Read (P : Parts) (text : List ℕ) (t : Tables) (r : Loaded) (t′ : Tables) : Type 0 where
   pub answer : r ≡ readAnswer P text t
   pub tables-exit : t′ ≡ readExit P text t

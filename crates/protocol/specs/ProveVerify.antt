@@ -3,7 +3,7 @@
 --   keyLines S key       the lines of part 1
 --   headLength S         how many bytes a listing has up to its last line of settings
 --   withKey S key text   the listing `text` with the key's lines put there
---   keyed key T          the tables that stand in it, T being the transcript
+--   keyed S key T        the tables that stand in it, T being the transcript
 --   Accepts text ..      what is owed of a listing, `text` being what `prove` read
 --   ProveVerify          that, for every text that `prove` does not refuse: as a call on text, and as a program
 use mathlib.Core.Path.{_≡_}
@@ -17,6 +17,7 @@ use Rattle.protocol.specs.declared.Verified.the-variants.{Accepted}
 use Rattle.protocol.specs.Layout.{keyItems}
 use Rattle.protocol.specs.Transcript.{Transcript}
 use Rattle.protocol.specs.Rows.{transcriptsOf}
+use Rattle.protocol.specs.WrittenClaims.{claimTable}
 use Rattle.protocol.specs.Text.{Tables, textLimit, names, linesText, shape, settingsShape, settingsValues, block, blockLines, textOf, linesOf, settingsIn, tablesIn}
 use Rattle.protocol.specs.Programs.{verifyReads, proveRefusal, proveAnswer, proveExit, proveOutput, verifyRefusal, verifyAnswer}
 
@@ -29,8 +30,16 @@ headLength S = length (names ++ linesText (blockLines (block settingsShape (sett
 unfoldable pub withKey : Settings → List ℕ → List ℕ → List ℕ
 withKey S key text = take (headLength S) text ++ (keyLines S key ++ drop (headLength S) text)
 
-unfoldable pub keyed : List ℕ → Transcript → Tables
-keyed key T = record { key = key; message = []; commitment = T .commitment; rounds = T .rounds; challenges = T .challenges; last = T .last }
+unfoldable pub keyed : Settings → List ℕ → Transcript → Tables
+keyed S key T = record {
+  key = key;
+  message = [];
+  commitment = T .commitment;
+  rounds = T .rounds;
+  challenges = T .challenges;
+  last = T .last;
+  claims = claimTable S T;
+}
 
 module _ (text listing : List ℕ) where
   abbrev S : Settings
@@ -41,7 +50,7 @@ module _ (text listing : List ℕ) where
 
   -- with the key it may be too long to be read: then refusal 1, and no other
   pub record Accepts : Type 0 where
-    pub is-text : withKey S (t .key) listing ≡ textOf S verifyReads (keyed (t .key) (transcriptsOf S (t .key) (t .message) (t .challenges)))
+    pub is-text : withKey S (t .key) listing ≡ textOf S verifyReads (keyed S (t .key) (transcriptsOf S (t .key) (t .message) (t .challenges)))
     pub accepted : length (withKey S (t .key) listing) ≤ textLimit → verifyAnswer (withKey S (t .key) listing) ≡ Accepted
     pub too-long : textLimit < length (withKey S (t .key) listing) → verifyRefusal (withKey S (t .key) listing) ≡ 1
 

@@ -12,12 +12,12 @@
 --   decimal n, numeral z          a number from 0 on, and any number, as text
 --   Spot, Line                    where a line stands (part, item, place); a line: its spot and its value
 --   lineText l, linesText ls      the text of a line, and of lines
---   Tables                        the six tables, parts 1 to 6
+--   Tables                        the seven tables, parts 1 to 7
 --   Shape, shape, shapeSize       a part's number, items and places; how many lines it has
 --   settingsShape, shapes S P     the shape of part 0, and the shapes of all parts of a text
 --   spotAt b p, spots b           the spot of line p of a part, and the spots of all its lines
 --   wanted S P                    the spots of a whole text, in order
---   settingsValues S, contents S t  the values of part 0, and of parts 0 to 6
+--   settingsValues S, contents S t  the values of part 0, and of parts 0 to 7
 --   Block, block, blocks S P t    a part's shape with its values; all parts of the tables t
 --   blockLines b                  the lines of a part
 --   textOf S P t                  the text of the tables t
@@ -43,14 +43,14 @@
 --   column p                      the values of part p
 --   unsignedColumn most p         the same as numbers from 0 on
 --   settingIn most, settingsIn    the value of a settings line, and the settings
---   tablesIn ls                   the six tables in the lines
+--   tablesIn ls                   the seven tables in the lines
 -- The calls
 --   noSettings                    five zeros
 --   loaded N text                 the reader's answer for a refusal N
 --   lookRefusal, lookAnswer       a first look at a text's settings
 --   entriesRefusal                refusals 8, 9 and 10, which reader and writer share
 --   textRefusal, readRefusal      the reader's refusals, for a text alone and with the lent tables
---   readAnswer, readExit          the reader's answer, and the six tables as it leaves them
+--   readAnswer, readExit          the reader's answer, and the seven tables as it leaves them
 --   outputRefusal, writeRefusal   the writer's last refusals, and all of them, for an output slice of `room` bytes
 --   written, overwritten          an answer, and an output slice, for a refusal and a text
 --   writeAnswer, writeExit        the writer's answer, and its output slice as it leaves it
@@ -72,7 +72,7 @@ use Rattle.protocol.specs.declared.Loaded.{Loaded}
 use Rattle.protocol.specs.declared.Written.{Written}
 use Rattle.protocol.specs.declared.Number.{Number}
 use Rattle.protocol.specs.declared.Number.the-variants.{Value, Refused}
-use Rattle.protocol.specs.Layout.{keyItems, roundItems}
+use Rattle.protocol.specs.Layout.{keyItems, roundItems, claimItems}
 use Rattle.protocol.specs.Basic.{least, tabulate, all, among, choose, within, first, unless, granted}
 use Rattle.protocol.specs.Settings.{settingsRefusal, size, hasLength, allBelow, exponents, allWithin}
 
@@ -158,6 +158,7 @@ pub record Tables : Type 0 where
   pub rounds : List ℕ
   pub challenges : List ℕ
   pub last : List ℤ
+  pub claims : List ℕ
 
 pub record Shape : Type 0 where
   pub part : ℕ
@@ -172,8 +173,8 @@ shape part there items places = record { part = part; items = choose there items
 unfoldable pub settingsShape : Shape
 settingsShape = shape 0 true 1 5
 
--- PROTOCOL 9.2: the items of a part are elements and their places coefficients, three elements for each round and row; a challenge is
--- an item of one place.
+-- PROTOCOL 9.2: the items of a part are elements and their places coefficients, three elements for each round and row, and one, the claim, in part 7; a challenge
+-- is an item of one place.
 unfoldable pub shapes : Settings → Parts → List Shape
 shapes S P =
     settingsShape
@@ -183,6 +184,7 @@ shapes S P =
     ∷ shape 4 (P .rounds) (S .rows * roundItems S) (S .degree)
     ∷ shape 5 (P .challenges) (S .depth) 1
     ∷ shape 6 (P .last) 1 (S .degree)
+    ∷ shape 7 (P .claims) (claimItems S) (S .degree)
     ∷ []
 
 unfoldable pub shapeSize : Shape → ℕ
@@ -211,6 +213,7 @@ contents S t =
     ∷ map pos (t .rounds)
     ∷ map pos (t .challenges)
     ∷ t .last
+    ∷ map pos (t .claims)
     ∷ []
 
 pub record Block : Type 0 where
@@ -377,6 +380,7 @@ tablesIn ls = record {
   rounds = unsignedColumn valueLimit 4 ls;
   challenges = unsignedColumn narrowLimit 5 ls;
   last = column 6 ls;
+  claims = unsignedColumn valueLimit 7 ls;
 }
 
 -- ---- The calls
@@ -401,12 +405,12 @@ loaded refusal text = record { refusal = refusal; settings = granted refusal (se
 unfoldable pub lookAnswer : List ℕ → Loaded
 lookAnswer text = loaded (lookRefusal text) text
 
--- PROTOCOL 9.5 and 9.6: 8 over key, commitment and rounds, 9 over the message, 10 over the challenges;
+-- PROTOCOL 9.5 and 9.6: 8 over key, commitment, rounds and claims, 9 over the message, 10 over the challenges;
 -- `lastFits` is what 9 asks of the final element: nothing in the reader
 unfoldable pub entriesRefusal : Settings → Bool → Tables → ℕ
 entriesRefusal S lastFits t =
     first
-    (unless 8 (allBelow S (t .key) && (allBelow S (t .commitment) && allBelow S (t .rounds)))
+    (unless 8 (allBelow S (t .key) && (allBelow S (t .commitment) && (allBelow S (t .rounds) && allBelow S (t .claims))))
     ∷ unless 9 (allWithin (S .bound) (t .message) && lastFits)
     ∷ unless 10 (exponents S (t .challenges))
     ∷ [])

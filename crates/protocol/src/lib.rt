@@ -113,6 +113,7 @@ pub struct Parts {
     pub rounds: bool,
     pub challenges: bool,
     pub last: bool,
+    pub claims: bool,
 }
 
 // The table reader; its tables are in what was lent for them.

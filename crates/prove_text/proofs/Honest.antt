@@ -1,6 +1,8 @@
 -- The transcript of an honest opening can be written: its tables have their lengths, so that only the length of its text and the output slice are left to test.
 --
 --   commitment-flat   the commitment that the opening gives by value, as a table
+--   claims-same, claims-given
+--                     the claims of its rounds and challenges, and what working them out asks for
 --   last-front        the final element stands first in what it gives
 --   given             the inputs of the opening, as the theorems have them
 --   honest-writable   the writer's core takes the tables of the transcript
@@ -19,9 +21,10 @@ use Rattle.protocol.specs.declared.Written.{Written}
 use Rattle.protocol.specs.Basic.{all, choose}
 use Rattle.protocol.specs.Element.{paddedSigned}
 use Rattle.protocol.specs.Opening.{commitment, messageAfter, finalElement}
-use Rattle.protocol.specs.Transcript.{Transcript}
-use Rattle.protocol.specs.Rows.{keyRow, atRows, together, transcriptsOf}
-use Rattle.protocol.specs.Layout.{itemCells, roundCells}
+use Rattle.protocol.specs.Transcript.{Transcript, element, claimAfter}
+use Rattle.protocol.specs.Rows.{keyRow, atRows, together, rowOf, roundTables, transcriptsOf}
+use Rattle.protocol.specs.WrittenClaims.{claimOf, claimTable}
+use Rattle.protocol.specs.Layout.{itemCells, roundCells, claimCells}
 use Rattle.protocol.specs.Settings.{allBelow}
 use Rattle.protocol.specs.Text.{Tables, shape, shapes, shapeSize, fits, textOf}
 use Rattle.protocol.specs.Programs.{provePrints, printed}
@@ -31,6 +34,9 @@ use Rattle.claims.proofs.RowLaws.{commitments-together, commitments-below, tabl
 use Rattle.protocol.proofs.Inputs.{valid-settings, degree-most, below-tested}
 use Rattle.protocol.proofs.Tests.{and-intro}
 use Rattle.protocol.proofs.Ranges.{last-length}
+use Rattle.protocol.proofs.WrittenClaims.{claim-table-below}
+use Rattle.claim_tables.specs.Claims.{claimed}
+use Rattle.claim_tables.specs.Claims as claim-tables
 use Rattle.text_parts.specs.Parts.{partShape}
 use Rattle.text_parts.proofs.Exactly.{exact-fits}
 use Rattle.table_writer.specs.Tables.{Writable, Output}
@@ -46,7 +52,7 @@ module _ (S : Settings) (G : List ℕ) (M : List ℤ) (E rounds : List ℕ) (ok 
   T = transcriptsOf S G M E
 
   abbrev t : Tables
-  t = printed T
+  t = printed S T
 
   pq : 0 < q
   pq = modulus-positive S (ok .settings)
@@ -65,6 +71,18 @@ module _ (S : Settings) (G : List ℕ) (M : List ℤ) (E rounds : List ℕ) (ok 
   rounds-residues : Below q (roundCells S) (T .rounds)
   unfolding transcriptsOf
   rounds-residues = tables-below S pq (ok .settings .rows-least) pd E G M
+
+  claims-residues : Below q (claimCells S) (claimTable S T)
+  claims-residues = claim-table-below S T pq pd
+
+  -- the claims of its rounds and challenges are its own
+  pub claims-same : claimTable S (claimed (roundTables S E G M) E) ≡ claimTable S T
+  unfolding claimTable claimOf claimAfter element rowOf transcriptsOf
+  claims-same = refl
+
+  pub claims-given : claim-tables.Given S (roundTables S E G M)
+  unfolding transcriptsOf
+  claims-given = record { allowed = valid-settings S (ok .settings); rounds-below = rounds-residues }
 
   -- commitment and final element as the opening passes them by value
   pub commitment-flat : (C : List ℕ) → C ≡ atRows S (λ r. commitment S (keyRow S G r) M) → together S C ≡ T .commitment
@@ -87,18 +105,21 @@ module _ (S : Settings) (G : List ℕ) (M : List ℤ) (E rounds : List ℕ) (ok 
     rounds = rounds-residues .long;
     challenges = ok .challenges .long ∙ sym (Nat.mul-one L);
     last = last-long ∙ sym (Nat.one-mul d);
+    claims = claims-residues .long;
   })
 
-  residues : (allBelow S (t .key) && (allBelow S (t .commitment) && allBelow S (t .rounds))) ≡ true
+  residues : (allBelow S (t .key) && (allBelow S (t .commitment) && (allBelow S (t .rounds) && allBelow S (t .claims)))) ≡ true
   unfolding printed transcriptsOf allBelow all
-  residues = and-intro refl (and-intro (below-tested q _ (T .commitment) commitment-residues) (below-tested q _ (T .rounds) rounds-residues))
+  residues =
+      and-intro refl (and-intro (below-tested q _ (T .commitment) commitment-residues)
+      (and-intro (below-tested q _ (T .rounds) rounds-residues) (below-tested q _ (claimTable S T) claims-residues)))
 
   -- u is what stands in the tables
   module _ (u : Tables) (e : u ≡ t) where
     pub honest-writable : Writable S provePrints u
     honest-writable = record {
       settings = valid-settings S (ok .settings);
-      residues = ap (λ (x : Tables). allBelow S (x .key) && (allBelow S (x .commitment) && allBelow S (x .rounds))) e ∙ residues;
+      residues = ap (λ (x : Tables). allBelow S (x .key) && (allBelow S (x .commitment) && (allBelow S (x .rounds) && allBelow S (x .claims)))) e ∙ residues;
       fitting = ap (fits S provePrints) e ∙ fitting;
     }
 

@@ -92,7 +92,7 @@ module _ (text : List ℕ) where
 
 -- key, message and challenges
 pub lent-fitting : (S : Settings) (G : List ℕ) (M : List ℤ) (E : List ℕ) → length G ≡ keyCells S → length M ≡ cells S → length E ≡ S .depth
-    → fits S proveReads (record { key = G; message = M; commitment = []; rounds = []; challenges = E; last = [] }) ≡ true
+    → fits S proveReads (record { key = G; message = M; commitment = []; rounds = []; challenges = E; last = []; claims = [] }) ≡ true
 unfolding partShape shapes shape shapeSize choose proveReads cells
 lent-fitting S G M E key message challenges = exact-fits S proveReads _ (record {
   key = key;
@@ -101,4 +101,5 @@ lent-fitting S G M E key message challenges = exact-fits S proveReads _ (record 
   rounds = sym (Nat.zero-mul (S .degree));
   challenges = challenges ∙ sym (Nat.mul-one (S .depth));
   last = sym (Nat.zero-mul (S .degree));
+  claims = sym (Nat.zero-mul (S .degree));
 })

@@ -1,7 +1,7 @@
 -- An opening of tables of which nothing is refused, and its text.
 --
 --   Openable S G M E rounds   the settings are allowed, key, message and challenges have their lengths and ranges, and there is room for the round elements
---   proof S G M E             the text of the message's transcript
+--   proof S G M E             the text of the message's transcript, with its claims
 --   Printed                   what is answered and stored where that text is all that can be refused
 --   RoundsLent text rounds    the table for the round elements has its length, where the text has the lines that its settings ask for
 use mathlib.Core.Path.{_≡_}
@@ -28,7 +28,7 @@ pub record Openable (S : Settings) (G : List ℕ) (M : List ℤ) (E rounds : Lis
   pub rounds-long : length rounds ≡ roundCells S
 
 abbrev pub proof : Settings → List ℕ → List ℤ → List ℕ → List ℕ
-proof S G M E = textOf S provePrints (printed (transcriptsOf S G M E))
+proof S G M E = textOf S provePrints (printed S (transcriptsOf S G M E))
 
 abbrev pub Printed : Settings → List ℕ → List ℤ → List ℕ → List ℕ → Written → List ℕ → Type 0
 Printed S G M E out r out′ = Output (proof S G M E) out r out′

@@ -12,12 +12,14 @@ ghost use mathlib.Core.List.{[]};
 ghost use Prim.Native.Nat.{_≤_};
 ghost use lib.ListN.{length, take};
 ghost use Rattle.protocol.specs.Basic.{Provided};
-ghost use Rattle.protocol.specs.Layout.{slots, itemCells};
+ghost use Rattle.protocol.specs.Layout.{slots, itemCells, claimCells};
 ghost use Rattle.protocol.specs.Rows.{together};
+ghost use Rattle.protocol.specs.WrittenClaims.{claimTable};
 ghost use Rattle.protocol.specs.Settings.{settingsRefusal};
 ghost use Rattle.protocol.specs.Programs.{proveReads, provePrints, proveOutput};
 ghost use Rattle.protocol.specs.Promises.{Proved};
 ghost use Rattle.text_parts.specs.Parts.{tablesOf, cellsRoom};
+ghost use Rattle.claim_tables.specs.Claims.{claimed, Given};
 ghost use Rattle.text_lines.specs.Header.{Begins};
 ghost use Rattle.table_reader.specs.Parts.{Lent};
 ghost use Rattle.table_writer.specs.Shown.{Shown, Within};
@@ -34,6 +36,7 @@ fn reads() -> Parts
         rounds: false,
         challenges: true,
         last: false,
+        claims: false,
     }
 }
 
@@ -47,6 +50,7 @@ fn prints() -> Parts
         rounds: true,
         challenges: true,
         last: true,
+        claims: true,
     }
 }
 
@@ -60,7 +64,24 @@ fn flat(settings: Settings, commitment: [Residue; ROWS_WIDTH]) -> [Residue; ROWS
     table
 }
 
-// The opening of tables of which nothing is refused, and its text.
+// The claims of a transcript with these rounds and challenges, at the front of a table that has room for those of every transcript.
+fn claims_of(
+    settings: Settings,
+    rounds: &[Residue],
+    challenges: &[u32],
+) -> [Residue; claim_tables::ROOM]
+    ensures { λ r. ⌜ Provided (Given settings (now (rounds .entry))) (take (claimCells settings) r ≡ claimTable settings (claimed (now (rounds .entry)) (now (challenges .entry)))) ⌝ }
+{
+    let mut table: [Residue; claim_tables::ROOM] = [0; claim_tables::ROOM];
+    let count = sizes::claim_cells(settings);
+    if count > claim_tables::ROOM {
+        return table;
+    }
+    claim_tables::store(settings, rounds, challenges, &mut table[..count]);
+    table
+}
+
+// The opening of tables of which nothing is refused, and the text of its transcript with the claims.
 fn print_opening(
     settings: Settings,
     key: &mut [Residue],
@@ -76,6 +97,8 @@ fn print_opening(
     let commitment = transcript.commitment;
     let table = flat(settings, commitment);
     let last = transcript.last;
+    let claims = claims_of(settings, rounds, challenges);
+    let claim_cells = sizes::claim_cells(settings);
     let item_cells = sizes::item_cells(settings);
     let degree = settings.degree as usize;
     let no_key = [0u64; 1];
@@ -89,6 +112,7 @@ fn print_opening(
         rounds,
         challenges,
         &last[..degree],
+        &claims[..claim_cells],
         out,
     )
 }
@@ -104,13 +128,14 @@ fn prove_in(
     rounds: &mut [Residue],
     out: &mut [u8],
 ) -> Written
-    requires { ⌜ Lent proveReads (now text) (tablesOf (now key) (now message) [] [] (now challenges) []) ⌝ }
+    requires { ⌜ Lent proveReads (now text) (tablesOf (now key) (now message) [] [] (now challenges) [] []) ⌝ }
     requires { ⌜ RoundsLent (now text) (now rounds) × Begins (now text) settings from ⌝ }
     ensures { λ r. ⌜ Proved (now (text .entry)) (now (out .entry)) r (now (out .exit)) ⌝ }
 {
     let mut no_commitment = [0u64; 1];
     let mut no_rounds = [0u64; 1];
     let mut no_last = [0i32; 1];
+    let mut no_claims = [0u64; 1];
     let loaded = table_reader::read_tables(
         reads(),
         settings,
@@ -122,6 +147,7 @@ fn prove_in(
         &mut no_rounds[..0],
         challenges,
         &mut no_last[..0],
+        &mut no_claims[..0],
     );
     let refusal = loaded.refusal;
     if refusal != 0 {

@@ -9,7 +9,7 @@ ghost use mathlib.Core.Path.{_≡_};
 ghost use Prim.Native.Nat.{_*_, _^_, _<_, _≤_};
 ghost use Rattle.protocol.specs.Basic.{Provided};
 ghost use Rattle.protocol.specs.Layout as layout;
-ghost use Rattle.protocol.specs.Layout.{width, rowsMost, rowsWidth, keyCells, itemCells, leftCells, halfLeft, roundCells, itemOf, polynomialAt, treeChallenges, treeRoundCells, leafCells, exponentCount};
+ghost use Rattle.protocol.specs.Layout.{width, rowsMost, rowsWidth, keyCells, itemCells, leftCells, halfLeft, roundCells, claimCells, itemOf, polynomialAt, treeChallenges, treeRoundCells, leafCells, exponentCount};
 ghost use Rattle.protocol.specs.Settings.{settingsRefusal};
 ghost use Rattle.protocol.specs.Tree.{growthLimit};
 ghost use Rattle.protocol.specs.GrowthTest.{cappedTimes, cappedGrowth};
@@ -156,6 +156,13 @@ pub fn round_cells(settings: Settings) -> usize
         return 0;
     }
     all_rows(settings, 3 * settings.depth)
+}
+
+// The numbers of a transcript's claims: rows·L elements of d.
+pub fn claim_cells(settings: Settings) -> usize
+    ensures { λ r. ⌜ Provided (settingsRefusal settings ≡ 0) (r ≡ claimCells settings) ⌝ }
+{
+    all_rows(settings, settings.depth)
 }
 
 // The item of c_j of round k + 1 or of node k, and of challenge j of node k. No tree has more than `nodesMost` branching nodes.

@@ -35,7 +35,7 @@ behind-parts S P = refl
 
 pub behind-rise : (S : Settings) (P : Parts) → Rising 1 (parts (drop 1 (shapes S P)))
 unfolding shapes shape settingsShape
-behind-rise S P = (omega arith, (omega arith, (omega arith, (omega arith, (omega arith, (omega arith, tt))))))
+behind-rise S P = (omega arith, (omega arith, (omega arith, (omega arith, (omega arith, (omega arith, (omega arith, tt)))))))
 
 -- the values of the parts, part by part
 pub columns-flat : (ps : List ℕ) (ls : List Line) → joined (columns ps ls) ≡ flatMap (λ p. column p ls) ps

@@ -59,7 +59,7 @@ tables-narrow text =
     let t = tablesIn ls in
     let message = narrow-list (column 2 ls) (column-limited 2 ls (lines-read-limited text)) in
     let last = narrow-list (column 6 ls) (column-limited 6 ls (lines-read-limited text)) in
-    λ j. tablesOf (t .key) (message j) (t .commitment) (t .rounds) (t .challenges) (last j)
+    λ j. tablesOf (t .key) (message j) (t .commitment) (t .rounds) (t .challenges) (last j) (t .claims)
 
 below-one : (n most most′ : ℕ) (z : ℤ) → n ≤ most → n ≤ most′ → ltb (unsigned most z) n ≡ true → ltb (unsigned most′ z) n ≡ true
 unfolding unsigned

@@ -67,9 +67,9 @@ fit-long (b ∷ bs) [] z f k h = absurd f
 fit-long (b ∷ bs) (v ∷ vs) z f zero h = f .0
 fit-long (b ∷ bs) (v ∷ vs) z f (suc k) h = fit-long bs vs z (f .1) k (omega arith)
 
-six-tables : (t : Tables) → length (lengthsOf t) ≡ tableCount
+table-count : (t : Tables) → length (lengthsOf t) ≡ tableCount
 unfolding lengthsOf
-six-tables t = refl
+table-count t = refl
 
 shapes-rise : (S : Settings) (P : Parts) → Rising 0 (parts (shapes S P))
 unfolding shapes shape settingsShape
@@ -120,7 +120,7 @@ module _ (P : Parts) (text : List ℕ) (n : List ℕ) (few : length n ≡ tableC
   tables-are =
       (λ j. cutTables (lengths-are j) (values-are j))
       ∙ (λ j. tablesOf (map (unsigned valueLimit) (at 0 (omega arith) j)) (at 1 (omega arith) j) (map (unsigned valueLimit) (at 2 (omega arith) j))
-      (map (unsigned valueLimit) (at 3 (omega arith) j)) (map (unsigned narrowLimit) (at 4 (omega arith) j)) (at 5 (omega arith) j))
+      (map (unsigned valueLimit) (at 3 (omega arith) j)) (map (unsigned narrowLimit) (at 4 (omega arith) j)) (at 5 (omega arith) j) (map (unsigned valueLimit) (at 6 (omega arith) j)))
     where
       at : (k : ℕ) → k < tableCount → piece (map length all-columns) k (joined all-columns ++ behind) ≡ getD all-columns k []
       at = piece-joined all-columns behind
@@ -156,13 +156,13 @@ module _ (P : Parts) (text : List ℕ) (t : Tables) (r : Loaded) (values : List 
     settings-are = ap (λ x. x .settings) (g .answer) ∙ granted-zero _ _ _ unrefused
 
     pub read-allowed : settingsRefusal (r .settings) ≡ 0
-    read-allowed = ap settingsRefusal settings-are ∙ read-settings P text (lengthsOf t) (six-tables t) values unrefused (g .stored unrefused)
+    read-allowed = ap settingsRefusal settings-are ∙ read-settings P text (lengthsOf t) (table-count t) values unrefused (g .stored unrefused)
 
     pub read-room : total (lengthsOf t) ≤ length values
-    read-room = tables-room P text (lengthsOf t) (six-tables t) values unrefused (g .stored unrefused)
+    read-room = tables-room P text (lengthsOf t) (table-count t) values unrefused (g .stored unrefused)
 
     stored : cutTables (lengthsOf t) values ≡ tablesIn (linesOf text)
-    stored = tables-are P text (lengthsOf t) (six-tables t) values unrefused (g .stored unrefused)
+    stored = tables-are P text (lengthsOf t) (table-count t) values unrefused (g .stored unrefused)
 
     module _ (m : ℕ) (m-is : m ≡ entriesRefusal (r .settings) true (cutTables (lengthsOf t) values)) where
       decided : readRefusal P text t ≡ m

@@ -26,6 +26,7 @@ cutTables n vs = record {
   rounds = map (unsigned valueLimit) (piece n 3 vs);
   challenges = map (unsigned narrowLimit) (piece n 4 vs);
   last = piece n 5 vs;
+  claims = map (unsigned valueLimit) (piece n 6 vs);
 }
 
 unfoldable pub narrowed : ℤ → ℤ
@@ -39,6 +40,7 @@ narrowTables t = record {
   rounds = t .rounds;
   challenges = t .challenges;
   last = map narrowed (t .last);
+  claims = t .claims;
 }
 
 unfoldable pub tests : Settings → ℕ → List ℤ → Bool

@@ -19,7 +19,7 @@ use Rattle.protocol.specs.Text.{Line, wanted, linesOf, sameSpots, spotsOf, colu
 use Rattle.text_parts.specs.Parts.{lengthsFit}
 
 abbrev pub tableParts : List ℕ
-tableParts = 1 ∷ 2 ∷ 3 ∷ 4 ∷ 5 ∷ 6 ∷ []
+tableParts = 1 ∷ 2 ∷ 3 ∷ 4 ∷ 5 ∷ 6 ∷ 7 ∷ []
 
 unfoldable pub columnsIn : List Line → List ℤ
 columnsIn ls = flatMap (λ p. column p ls) tableParts

@@ -31,11 +31,12 @@ fn read_by(
     rounds: &mut [Residue],
     challenges: &mut [u32],
     last: &mut [i32],
+    claims: &mut [Residue],
 ) -> Loaded
     requires { ⌜ Roomy (length (now text)) (length (now values)) ⌝ }
     ensures { λ r. ⌜ Provided (Begins (now (text .entry)) settings from) (Read parts (now (text .entry))
-        (tablesOf (now (key .entry)) (now (message .entry)) (now (commitment .entry)) (now (rounds .entry)) (now (challenges .entry)) (now (last .entry))) r
-        (tablesOf (now (key .exit)) (now (message .exit)) (now (commitment .exit)) (now (rounds .exit)) (now (challenges .exit)) (now (last .exit)))) ⌝ }
+        (tablesOf (now (key .entry)) (now (message .entry)) (now (commitment .entry)) (now (rounds .entry)) (now (challenges .entry)) (now (last .entry)) (now (claims .entry))) r
+        (tablesOf (now (key .exit)) (now (message .exit)) (now (commitment .exit)) (now (rounds .exit)) (now (challenges .exit)) (now (last .exit)) (now (claims .exit)))) ⌝ }
 {
     let lengths = [
         key.len(),
@@ -44,6 +45,7 @@ fn read_by(
         rounds.len(),
         challenges.len(),
         last.len(),
+        claims.len(),
     ];
     let loaded = values::read_values(parts, settings, from, text, lengths, values);
     if loaded.refusal != 0 {
@@ -53,7 +55,16 @@ fn read_by(
     if refusal != 0 {
         return text_lines::refused(refusal);
     }
-    store::all(values, key, message, commitment, rounds, challenges, last);
+    store::all(
+        values,
+        key,
+        message,
+        commitment,
+        rounds,
+        challenges,
+        last,
+        claims,
+    );
     loaded
 }
 
@@ -82,10 +93,11 @@ pub fn read_tables(
     rounds: &mut [Residue],
     challenges: &mut [u32],
     last: &mut [i32],
+    claims: &mut [Residue],
 ) -> Loaded
     ensures { λ r. ⌜ Provided (Begins (now (text .entry)) settings from) (Read parts (now (text .entry))
-        (tablesOf (now (key .entry)) (now (message .entry)) (now (commitment .entry)) (now (rounds .entry)) (now (challenges .entry)) (now (last .entry))) r
-        (tablesOf (now (key .exit)) (now (message .exit)) (now (commitment .exit)) (now (rounds .exit)) (now (challenges .exit)) (now (last .exit)))) ⌝ }
+        (tablesOf (now (key .entry)) (now (message .entry)) (now (commitment .entry)) (now (rounds .entry)) (now (challenges .entry)) (now (last .entry)) (now (claims .entry))) r
+        (tablesOf (now (key .exit)) (now (message .exit)) (now (commitment .exit)) (now (rounds .exit)) (now (challenges .exit)) (now (last .exit)) (now (claims .exit)))) ⌝ }
 {
     if text.len() <= SHORT {
         let mut values = [0i64; SHORT / 8];
@@ -101,6 +113,7 @@ pub fn read_tables(
             rounds,
             challenges,
             last,
+            claims,
         );
     }
     let mut values = [0i64; VALUES];
@@ -116,6 +129,7 @@ pub fn read_tables(
         rounds,
         challenges,
         last,
+        claims,
     )
 }
 
@@ -129,10 +143,11 @@ pub fn read(
     rounds: &mut [Residue],
     challenges: &mut [u32],
     last: &mut [i32],
+    claims: &mut [Residue],
 ) -> Loaded
     ensures { λ r. ⌜ Read parts (now (text .entry))
-        (tablesOf (now (key .entry)) (now (message .entry)) (now (commitment .entry)) (now (rounds .entry)) (now (challenges .entry)) (now (last .entry))) r
-        (tablesOf (now (key .exit)) (now (message .exit)) (now (commitment .exit)) (now (rounds .exit)) (now (challenges .exit)) (now (last .exit))) ⌝ }
+        (tablesOf (now (key .entry)) (now (message .entry)) (now (commitment .entry)) (now (rounds .entry)) (now (challenges .entry)) (now (last .entry)) (now (claims .entry))) r
+        (tablesOf (now (key .exit)) (now (message .exit)) (now (commitment .exit)) (now (rounds .exit)) (now (challenges .exit)) (now (last .exit)) (now (claims .exit))) ⌝ }
 {
     let begun = text_lines::allowed_settings(text);
     let loaded = begun.loaded;
@@ -150,5 +165,6 @@ pub fn read(
         rounds,
         challenges,
         last,
+        claims,
     )
 }

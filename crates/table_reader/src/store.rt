@@ -62,7 +62,7 @@ fn exponents(values: &[i64], from: usize, table: &mut [u32]) -> usize
     from + table.len()
 }
 
-// The values of the six tables, one table after the other.
+// The values of the seven tables, one table after the other.
 pub fn all(
     values: &[i64],
     key: &mut [Residue],
@@ -71,16 +71,18 @@ pub fn all(
     rounds: &mut [Residue],
     challenges: &mut [u32],
     last: &mut [i32],
+    claims: &mut [Residue],
 )
-    requires { ⌜ total (lengthsOf (tablesOf (now key) (now message) (now commitment) (now rounds) (now challenges) (now last))) ≤ length (now values) ⌝ }
+    requires { ⌜ total (lengthsOf (tablesOf (now key) (now message) (now commitment) (now rounds) (now challenges) (now last) (now claims))) ≤ length (now values) ⌝ }
     ensures { λ _. ⌜ tablesOf (now (key .exit)) (now (message .exit)) (now (commitment .exit)) (now (rounds .exit)) (now (challenges .exit))
-        (now (last .exit)) ≡ narrowTables (cutTables
-        (lengthsOf (tablesOf (now (key .entry)) (now (message .entry)) (now (commitment .entry)) (now (rounds .entry)) (now (challenges .entry)) (now (last .entry)))) (now (values .entry))) ⌝ }
+        (now (last .exit)) (now (claims .exit)) ≡ narrowTables (cutTables
+        (lengthsOf (tablesOf (now (key .entry)) (now (message .entry)) (now (commitment .entry)) (now (rounds .entry)) (now (challenges .entry)) (now (last .entry)) (now (claims .entry)))) (now (values .entry))) ⌝ }
 {
     let after_key = residues(values, 0, key);
     let after_message = signed(values, after_key, message);
     let after_commitment = residues(values, after_message, commitment);
     let after_rounds = residues(values, after_commitment, rounds);
     let after_challenges = exponents(values, after_rounds, challenges);
-    signed(values, after_challenges, last);
+    let after_last = signed(values, after_challenges, last);
+    residues(values, after_last, claims);
 }

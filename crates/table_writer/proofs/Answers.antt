@@ -52,7 +52,7 @@ module _ (text out : List ℕ) where
 -- ---- the refusals before it
 
 residues-passed : (S : Settings) (lastFits : Bool) (t : Tables) → entriesRefusal S lastFits t ≡ 0
-    → allBelow S (t .key) && (allBelow S (t .commitment) && allBelow S (t .rounds)) ≡ true
+    → allBelow S (t .key) && (allBelow S (t .commitment) && (allBelow S (t .rounds) && allBelow S (t .claims))) ≡ true
 unfolding entriesRefusal
 residues-passed S lastFits t h = unless-zero 7 _ (first-zero _ _ h .0)
 

@@ -109,9 +109,9 @@ module _ (S : Settings) (P : Parts) (t : Tables) (w : Writable S P t) where
   unfolding partShape shapes
   shape-at i = part-of S P (w .settings) (i + 1) ∙ ap (λ j. getD (shapes S P) j settingsShape) (add-one i)
 
-  six-tables : length (tableValues t) ≡ tableCount
+  table-count : length (tableValues t) ≡ tableCount
   unfolding tableValues contents
-  six-tables = refl
+  table-count = refl
 
   shapes-count : length (all-shapes S P) ≡ tableCount
   unfolding shapes
@@ -132,8 +132,9 @@ module _ (S : Settings) (P : Parts) (t : Tables) (w : Writable S P t) where
   unfolding gathered tableValues contents
   gathered-are =
       let (k, cr) = and-split {a = allBelow S (t .key)} (w .residues) in
-      let (c, r) = and-split {a = allBelow S (t .commitment)} cr in
-      λ j. capped-list (t .key) k j ∷ t .message ∷ capped-list (t .commitment) c j ∷ capped-list (t .rounds) r j ∷ map pos (t .challenges) ∷ t .last ∷ []
+      let (c, rv) = and-split {a = allBelow S (t .commitment)} cr in
+      let (r, v) = and-split {a = allBelow S (t .rounds)} rv in
+      λ j. capped-list (t .key) k j ∷ t .message ∷ capped-list (t .commitment) c j ∷ capped-list (t .rounds) r j ∷ map pos (t .challenges) ∷ t .last ∷ capped-list (t .claims) v j ∷ []
 
   settings-first : settingsText S ++ linesText (flatMap blockLines (zipWith block (all-shapes S P) (tableValues t))) ≡ textOf S P t
   unfolding settingsText partText textOf blocks shapes contents settingsValues tableValues zipWith flatMap
@@ -148,10 +149,10 @@ module _ (S : Settings) (P : Parts) (t : Tables) (w : Writable S P t) where
   text-values values rest e =
       parted-ext _ _ (λ i. getD (all-shapes S P) i settingsShape) (λ i. getD (tableValues t) i []) tableCount (settingsText S) (λ i l. shape-at i) piece-at
       ∙ ap (λ k. parted (λ i. getD (all-shapes S P) i settingsShape) (λ i. getD (tableValues t) i []) k (settingsText S)) (sym shapes-count)
-      ∙ parted-list (all-shapes S P) (tableValues t) settingsShape (settingsText S) (shapes-count ∙ sym six-tables) ∙ settings-first
+      ∙ parted-list (all-shapes S P) (tableValues t) settingsShape (settingsText S) (shapes-count ∙ sym table-count) ∙ settings-first
     where
       piece-at : (i : ℕ) → i < tableCount → piece (lengthsOf t) i values ≡ getD (tableValues t) i []
-      piece-at i l = (λ j. piece (sym (values-lengths t) j) i (e j)) ∙ piece-joined (tableValues t) rest i (omega (arith, six-tables))
+      piece-at i l = (λ j. piece (sym (values-lengths t) j) i (e j)) ∙ piece-joined (tableValues t) rest i (omega (arith, table-count))
 
   pub text-over : valuesRoom < total (lengthsOf t) → textLimit < length (textOf S P t)
   unfolding textLimit total valuesText lengthsAre

@@ -36,6 +36,7 @@ gathered t =
     ∷ map capped (t .rounds)
     ∷ map pos (t .challenges)
     ∷ t .last
+    ∷ map capped (t .claims)
     ∷ []
 
 unfoldable pub settingsText : Settings → List ℕ
@@ -57,7 +58,7 @@ tablesRefusal S P t = first (settingsRefusal S ∷ unless 7 (fits S P t) ∷ ent
 
 pub record Writable (S : Settings) (P : Parts) (t : Tables) : Type 0 where
   pub settings : settingsRefusal S ≡ 0
-  pub residues : allBelow S (t .key) && (allBelow S (t .commitment) && allBelow S (t .rounds)) ≡ true
+  pub residues : allBelow S (t .key) && (allBelow S (t .commitment) && (allBelow S (t .rounds) && allBelow S (t .claims))) ≡ true
   pub fitting : fits S P t ≡ true
 
 pub record Output (text out : List ℕ) (r : Written) (out′ : List ℕ) : Type 0 where

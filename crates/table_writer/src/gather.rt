@@ -96,7 +96,7 @@ fn signed(table: &[i32], from: usize, values: &mut [i64]) -> usize
     from + table.len()
 }
 
-// The values of the six tables; how many they are.
+// The values of the seven tables; how many they are.
 pub fn all(
     key: &[Residue],
     message: &[i32],
@@ -104,16 +104,18 @@ pub fn all(
     rounds: &[Residue],
     challenges: &[u32],
     last: &[i32],
+    claims: &[Residue],
     values: &mut [i64],
 ) -> usize
-    requires { ⌜ total (lengthsOf (tablesOf (now key) (now message) (now commitment) (now rounds) (now challenges) (now last))) ≤ length (now values) ⌝ }
+    requires { ⌜ total (lengthsOf (tablesOf (now key) (now message) (now commitment) (now rounds) (now challenges) (now last) (now claims))) ≤ length (now values) ⌝ }
     ensures { λ r. ⌜ Put (now (values .entry)) 0 (joined (gathered
-        (tablesOf (now (key .entry)) (now (message .entry)) (now (commitment .entry)) (now (rounds .entry)) (now (challenges .entry)) (now (last .entry))))) r (now (values .exit)) ⌝ }
+        (tablesOf (now (key .entry)) (now (message .entry)) (now (commitment .entry)) (now (rounds .entry)) (now (challenges .entry)) (now (last .entry)) (now (claims .entry))))) r (now (values .exit)) ⌝ }
 {
     let after_key = residues(key, 0, values);
     let after_message = signed(message, after_key, values);
     let after_commitment = residues(commitment, after_message, values);
     let after_rounds = residues(rounds, after_commitment, values);
     let after_challenges = exponents(challenges, after_rounds, values);
-    signed(last, after_challenges, values)
+    let after_last = signed(last, after_challenges, values);
+    residues(claims, after_last, values)
 }

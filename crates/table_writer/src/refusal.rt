@@ -24,12 +24,13 @@ pub fn tables_refusal(
     rounds: &[Residue],
     challenges: &[u32],
     last: &[i32],
+    claims: &[Residue],
 ) -> u32
     ensures { λ r. ⌜ r ≡ tablesRefusal settings parts
-        (tablesOf (now (key .entry)) (now (message .entry)) (now (commitment .entry)) (now (rounds .entry)) (now (challenges .entry)) (now (last .entry))) ⌝ }
+        (tablesOf (now (key .entry)) (now (message .entry)) (now (commitment .entry)) (now (rounds .entry)) (now (challenges .entry)) (now (last .entry)) (now (claims .entry))) ⌝ }
 {
     let q = settings.modulus;
-    let lengths = lengths_of(key, message, commitment, rounds, challenges, last);
+    let lengths = lengths_of(key, message, commitment, rounds, challenges, last, claims);
     let r6 = settings_refusal(settings);
     let r7 = refuse(r6, 7, fits(settings, parts, lengths));
     if r7 != 0 {
@@ -38,7 +39,9 @@ pub fn tables_refusal(
     let r8 = refuse(
         r7,
         8,
-        all_below_wide(q, key) & (all_below_wide(q, commitment) & all_below_wide(q, rounds)),
+        all_below_wide(q, key)
+            & (all_below_wide(q, commitment)
+                & (all_below_wide(q, rounds) & all_below_wide(q, claims))),
     );
     let r9 = refuse(
         r8,

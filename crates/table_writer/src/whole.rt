@@ -68,15 +68,16 @@ pub fn write_tables(
     rounds: &[Residue],
     challenges: &[u32],
     last: &[i32],
+    claims: &[Residue],
     out: &mut [u8],
 ) -> Written
     ensures { λ r. ⌜ Provided (Writable settings parts
-        (tablesOf (now (key .entry)) (now (message .entry)) (now (commitment .entry)) (now (rounds .entry)) (now (challenges .entry)) (now (last .entry))))
+        (tablesOf (now (key .entry)) (now (message .entry)) (now (commitment .entry)) (now (rounds .entry)) (now (challenges .entry)) (now (last .entry)) (now (claims .entry))))
         (Output (textOf settings parts
-        (tablesOf (now (key .entry)) (now (message .entry)) (now (commitment .entry)) (now (rounds .entry)) (now (challenges .entry)) (now (last .entry))))
+        (tablesOf (now (key .entry)) (now (message .entry)) (now (commitment .entry)) (now (rounds .entry)) (now (challenges .entry)) (now (last .entry)) (now (claims .entry))))
         (now (out .entry)) r (now (out .exit))) ⌝ }
 {
-    let lengths = lengths_of(key, message, commitment, rounds, challenges, last);
+    let lengths = lengths_of(key, message, commitment, rounds, challenges, last, claims);
     if !gather::room(lengths) {
         return Written {
             refusal: 1,
@@ -91,6 +92,7 @@ pub fn write_tables(
         rounds,
         challenges,
         last,
+        claims,
         &mut values,
     );
     write_values(settings, parts, lengths, &values, out)
@@ -105,10 +107,11 @@ pub fn write(
     rounds: &[Residue],
     challenges: &[u32],
     last: &[i32],
+    claims: &[Residue],
     out: &mut [u8],
 ) -> Written
     ensures { λ r. ⌜ Wrote settings parts (tablesOf (now (key .entry)) (now (message .entry)) (now (commitment .entry)) (now (rounds .entry)) (now (challenges .entry))
-        (now (last .entry))) (now (out .entry)) r (now (out .exit)) ⌝ }
+        (now (last .entry)) (now (claims .entry))) (now (out .entry)) r (now (out .exit)) ⌝ }
 {
     let refusal = tables_refusal(
         settings,
@@ -119,6 +122,7 @@ pub fn write(
         rounds,
         challenges,
         last,
+        claims,
     );
     if refusal != 0 {
         return Written { refusal, count: 0 };
@@ -132,6 +136,7 @@ pub fn write(
         rounds,
         challenges,
         last,
+        claims,
         out,
     )
 }

@@ -2,7 +2,7 @@
 -- the parts. A refused call writes nothing to a slice, and what it answers beside its number is 0.
 --
 --   lookNumber, Looked        a first look at a text's settings; the slice for them is tested last, by 7
---   readNumber, ReadStored    the table reader, t holding the six tables: its own refusals, 7 being asked of the number and of the slice for the settings too
+--   readNumber, ReadStored    the table reader, t holding the seven tables: its own refusals, 7 being asked of the number and of the slice for the settings too
 --   writeNumber, WroteStored  the table writer; 7 is asked of the number as of the tables
 --   Verdicts                  an answer with a verdict: r is its number
 --   ProvedStored              the program `prove` as a call on text

@@ -1,6 +1,7 @@
 -- How the calls on text for C and Rust take and give what is not a number or a slice of its own.
 --
---   partsOf n          the parts that a number below 64 names
+--   partsOf n          the parts that a number below 128 names
+--   partsCount         128: a bit for each part
 --   partsNamed n       is it one: a bit that names no part is refusal 7
 --   settingsWidth      5: how many settings there are
 --   settingsNumbers S  the settings
@@ -19,10 +20,14 @@ partsOf n = record {
   rounds = eqb (n / 8 % 2) 1;
   challenges = eqb (n / 16 % 2) 1;
   last = eqb (n / 32 % 2) 1;
+  claims = eqb (n / 64 % 2) 1;
 }
 
+abbrev pub partsCount : ℕ
+partsCount = 128
+
 unfoldable pub partsNamed : ℕ → Bool
-partsNamed n = ltb n 64
+partsNamed n = ltb n partsCount
 
 abbrev pub settingsWidth : ℕ
 settingsWidth = 5

@@ -1,7 +1,7 @@
 // The calls on text with numbers and slices only, for C and Rust.
 //
-// Settings go to a slice of five numbers: degree, depth, modulus, bound, rows. Which of parts 1 to 6 are there is a number below 64: bit 0 is the key, bit 5 the
-// final element. A refused call writes nothing to a slice.
+// Settings go to a slice of five numbers: degree, depth, modulus, bound, rows. Which of parts 1 to 7 are there is a number below 128: bit 0 is the key, bit 6 the
+// claims. A refused call writes nothing to a slice.
 mod settings;
 
 use crate::settings::SETTINGS;
@@ -19,6 +19,9 @@ ghost use Rattle.protocol.specs.Programs.{checked, verifyAnswer};
 ghost use Rattle.text_calls.specs.Texts.{partsOf};
 ghost use Rattle.text_calls.specs.Promises.{Looked, ReadStored, WroteStored, Verdicts, ProvedStored};
 
+// One past the largest number that names parts, with a bit for each: `partsCount` of the definitions.
+const PARTS: u32 = 128;
+
 // The parts that a number names.
 fn parts_of(bits: u32) -> Parts
     ensures { λ r. ⌜ r ≡ partsOf bits ⌝ }
@@ -30,6 +33,7 @@ fn parts_of(bits: u32) -> Parts
         rounds: bits / 8 % 2 == 1,
         challenges: bits / 16 % 2 == 1,
         last: bits / 32 % 2 == 1,
+        claims: bits / 64 % 2 == 1,
     }
 }
 
@@ -70,12 +74,13 @@ pub fn read(
     rounds: &mut [Residue],
     challenges: &mut [u32],
     last: &mut [i32],
+    claims: &mut [Residue],
 ) -> u32
     ensures { λ r. ⌜ ReadStored parts (now (text .entry)) (now (settings .entry))
-        (tablesOf (now (key .entry)) (now (message .entry)) (now (commitment .entry)) (now (rounds .entry)) (now (challenges .entry)) (now (last .entry))) r
-        (now (settings .exit)) (tablesOf (now (key .exit)) (now (message .exit)) (now (commitment .exit)) (now (rounds .exit)) (now (challenges .exit)) (now (last .exit))) ⌝ }
+        (tablesOf (now (key .entry)) (now (message .entry)) (now (commitment .entry)) (now (rounds .entry)) (now (challenges .entry)) (now (last .entry)) (now (claims .entry))) r
+        (now (settings .exit)) (tablesOf (now (key .exit)) (now (message .exit)) (now (commitment .exit)) (now (rounds .exit)) (now (challenges .exit)) (now (last .exit)) (now (claims .exit))) ⌝ }
 {
-    if !slices::both(settings.len() == SETTINGS, parts < 64) {
+    if !slices::both(settings.len() == SETTINGS, parts < PARTS) {
         return refused(text);
     }
     let there = parts_of(parts);
@@ -88,6 +93,7 @@ pub fn read(
         rounds,
         challenges,
         last,
+        claims,
     );
     if loaded.refusal != 0 {
         return loaded.refusal;
@@ -106,14 +112,15 @@ pub fn write(
     rounds: &[Residue],
     challenges: &[u32],
     last: &[i32],
+    claims: &[Residue],
     out: &mut [u8],
     count: &mut usize,
 ) -> u32
     ensures { λ r. ⌜ WroteStored settings parts
-        (tablesOf (now (key .entry)) (now (message .entry)) (now (commitment .entry)) (now (rounds .entry)) (now (challenges .entry)) (now (last .entry)))
+        (tablesOf (now (key .entry)) (now (message .entry)) (now (commitment .entry)) (now (rounds .entry)) (now (challenges .entry)) (now (last .entry)) (now (claims .entry)))
         (now (out .entry)) r (now (out .exit)) (now (count .exit)) ⌝ }
 {
-    let refusal = slices::refusal(settings, parts < 64);
+    let refusal = slices::refusal(settings, parts < PARTS);
     if refusal != 0 {
         *count = 0;
         return refusal;
@@ -128,6 +135,7 @@ pub fn write(
         rounds,
         challenges,
         last,
+        claims,
         out,
     );
     *count = written.count;

@@ -31,7 +31,7 @@ and-assoc false b c = refl
 
 pub lengths-fit : (S : Settings) (P : Parts) (t : Tables) → lengthsFit S P (lengthsOf t) ≡ fits S P t
 unfolding lengthsAre every lengthsOf partShape fits blocks shapes contents settingsValues zipWith all blockFits block hasLength settingsShape shape choose shapeSize
-lengths-fit S P t = simp (and-assoc, same-count (t .key), same-count (t .commitment), same-count (t .rounds), same-count (t .challenges), and-true)
+lengths-fit S P t = simp (and-assoc, same-count (t .key), same-count (t .commitment), same-count (t .rounds), same-count (t .challenges), same-count (t .claims), and-true)
 
 module _ (S : Settings) (P : Parts) (t : Tables) (h : fits S P t ≡ true) where
   fits-at : (k : ℕ) → k < tableCount → getD (lengthsOf t) k 0 ≡ shapeSize (partShape S P (k + 1))
@@ -47,6 +47,7 @@ module _ (S : Settings) (P : Parts) (t : Tables) (h : fits S P t ≡ true) where
     rounds = fits-at 3 (omega arith);
     challenges = fits-at 4 (omega arith);
     last = fits-at 5 (omega arith);
+    claims = fits-at 6 (omega arith);
   }
 
 -- tables of their lengths fit
@@ -54,4 +55,4 @@ pub exact-fits : (S : Settings) (P : Parts) (t : Tables) → Exact S P t → fit
 unfolding lengthsAre every lengthsOf
 exact-fits S P t e =
     sym (lengths-fit S P t)
-    ∙ simp (eq-eqb _ _ (e .key), eq-eqb _ _ (e .message), eq-eqb _ _ (e .commitment), eq-eqb _ _ (e .rounds), eq-eqb _ _ (e .challenges), eq-eqb _ _ (e .last))
+    ∙ simp (eq-eqb _ _ (e .key), eq-eqb _ _ (e .message), eq-eqb _ _ (e .commitment), eq-eqb _ _ (e .rounds), eq-eqb _ _ (e .challenges), eq-eqb _ _ (e .last), eq-eqb _ _ (e .claims))

@@ -1,13 +1,13 @@
 -- The parts of a text in the shape in which the code goes through their lines.
 --
---   tablesOf              the tables of parts 1 to 6
+--   tablesOf              the tables of parts 1 to 7
 --   asShape b             a part as the definitions have it
 --   cellAt places p       line p of a part: its item and its place
 --   nextCell places c     the line behind a line; a line outside its item, or of the last item that there can be, stays
 --   partShape S P part    the shape of a part
 --   counted S             are depth and rows not more than are allowed, so that items can be counted
 --   partOf S P part       the same, and part 0 where they are
---   tableCount            6: how many parts there are behind the settings, each with a table
+--   tableCount            7: how many parts there are behind the settings, each with a table
 --   lengthsOf t           how long the tables are; the table of part k + 1 has place k
 --   lengthsAre b n        has every table the length of its part, part k being b k
 --   lengthsFit S P n      has every table its length
@@ -32,9 +32,9 @@ use Rattle.protocol.specs.Text.{Tables, Shape, settingsShape, shapes, shapeSize
 use Rattle.text_parts.specs.declared.Shape.{Shape as Part}
 use Rattle.text_parts.specs.declared.Cell.{Cell}
 
-abbrev pub tablesOf : List ℕ → List ℤ → List ℕ → List ℕ → List ℕ → List ℤ → Tables
-tablesOf key message commitment rounds challenges last =
-    record { key = key; message = message; commitment = commitment; rounds = rounds; challenges = challenges; last = last }
+abbrev pub tablesOf : List ℕ → List ℤ → List ℕ → List ℕ → List ℕ → List ℤ → List ℕ → Tables
+tablesOf key message commitment rounds challenges last claims =
+    record { key = key; message = message; commitment = commitment; rounds = rounds; challenges = challenges; last = last; claims = claims }
 
 abbrev pub asShape : Part → Shape
 asShape b = record { part = b .part; items = b .items; places = b .places }
@@ -62,7 +62,7 @@ unfoldable pub partOf : Settings → Parts → ℕ → Shape
 partOf S P part = choose (counted S) (partShape S P part) settingsShape
 
 abbrev pub tableCount : ℕ
-tableCount = 6
+tableCount = 7
 
 unfoldable pub lengthsOf : Tables → List ℕ
 lengthsOf t =
@@ -72,6 +72,7 @@ lengthsOf t =
     ∷ length (t .rounds)
     ∷ length (t .challenges)
     ∷ length (t .last)
+    ∷ length (t .claims)
     ∷ []
 
 unfoldable pub lengthsAre : (ℕ → Shape) → List ℕ → Bool
@@ -87,10 +88,11 @@ pub record Exact (S : Settings) (P : Parts) (t : Tables) : Type 0 where
   pub rounds : length (t .rounds) ≡ shapeSize (partShape S P 4)
   pub challenges : length (t .challenges) ≡ shapeSize (partShape S P 5)
   pub last : length (t .last) ≡ shapeSize (partShape S P 6)
+  pub claims : length (t .claims) ≡ shapeSize (partShape S P 7)
 
--- key, commitment and rounds are residues, the message is within the bound, challenges are exponents
+-- key, commitment, rounds and claims are residues, the message is within the bound, challenges are exponents
 unfoldable pub testedBy : ℕ → ℕ
-testedBy k = getD (8 ∷ 9 ∷ 8 ∷ 8 ∷ 10 ∷ 0 ∷ []) k 0
+testedBy k = getD (8 ∷ 9 ∷ 8 ∷ 8 ∷ 10 ∷ 0 ∷ 8 ∷ []) k 0
 
 -- ---- rooms
 

@@ -9,12 +9,12 @@ ghost use Rattle.protocol.specs.Text.{shape, settingsShape, shapeSize};
 ghost use Rattle.text_parts.specs.Parts.{tablesOf, asShape, nextCell, partOf, lengthsOf, lengthsAre, testedBy};
 
 // How many parts there are behind the settings, each with a table: `tableCount` of the definitions. The table of part k + 1 has place k in a list of them.
-pub const TABLES: usize = 6;
+pub const TABLES: usize = 7;
 
 // The room for the values of every text that is not too long, since a line has at least eight bytes: `valuesRoom` of the definitions.
 pub const VALUES: usize = TEXT_LIMIT / 8;
 
-// The largest key, message or table of round polynomials of a text, with a line for each number: `cellsRoom` of the definitions.
+// The largest key, message or table of round polynomials or claims of a text, with a line for each number: `cellsRoom` of the definitions.
 pub const CELLS: usize = VALUES;
 
 // A part: its number, its items and the places of an item.
@@ -79,6 +79,7 @@ pub fn shape_of(settings: Settings, parts: Parts, part: u32) -> Shape
         4 => part_of(4, parts.rounds, rows * (3 * depth), degree),
         5 => part_of(5, parts.challenges, depth, 1),
         6 => part_of(6, parts.last, 1, degree),
+        7 => part_of(7, parts.claims, rows * depth, degree),
         _ => settings_shape(),
     }
 }
@@ -126,7 +127,7 @@ pub fn tested_by(k: usize) -> u32
     if k >= TABLES {
         return 0;
     }
-    let tests: [u32; TABLES] = [8, 9, 8, 8, 10, 0];
+    let tests: [u32; TABLES] = [8, 9, 8, 8, 10, 0, 8];
     tests[k]
 }
 
@@ -138,9 +139,10 @@ pub fn lengths_of(
     rounds: &[Residue],
     challenges: &[u32],
     last: &[i32],
+    claims: &[Residue],
 ) -> [usize; TABLES]
     ensures { λ r. ⌜ r ≡ lengthsOf
-        (tablesOf (now (key .entry)) (now (message .entry)) (now (commitment .entry)) (now (rounds .entry)) (now (challenges .entry)) (now (last .entry))) ⌝ }
+        (tablesOf (now (key .entry)) (now (message .entry)) (now (commitment .entry)) (now (rounds .entry)) (now (challenges .entry)) (now (last .entry)) (now (claims .entry))) ⌝ }
 {
     [
         key.len(),
@@ -149,6 +151,7 @@ pub fn lengths_of(
         rounds.len(),
         challenges.len(),
         last.len(),
+        claims.len(),
     ]
 }
 

@@ -1,14 +1,16 @@
 -- The rows of a transcript: what is given of all rows gives it of each, and the parts that the code lends for a row make up its transcript.
 use mathlib.Core.Path.{_≡_, sym, ap, _∙_, subst}
 use mathlib.Core.List.{List}
-use Prim.Native.Nat.{ℕ, _+_, _*_, _<_}
+use Prim.Native.Nat.{ℕ, _+_, _*_, _<_, _≤_}
 use native.Mathlib.Omega.{arith}
 use lib.IntN.{ℤ}
-use lib.ListN.{length}
+use lib.ListN.{length, getD}
 use Rattle.protocol.specs.declared.Settings.{Settings}
 use Rattle.protocol.specs.Basic.{every}
 use Rattle.protocol.specs.Element.{width, valueRow}
-use Rattle.protocol.specs.Layout.{roundItems}
+use Rattle.protocol.specs.Layout.{itemCells, roundItems, roundCells}
+use Rattle.protocol.specs.Inputs.{Below}
+use Rattle.protocol.specs.Settings.{settingsRefusal}
 use Rattle.protocol.specs.Transcript.{Transcript, accepted}
 use Rattle.protocol.specs.Rows.{keyRow, together, rowOf, allAccepted}
 use Rattle.protocol.proofs.Agreement.{every-ext}
@@ -31,13 +33,20 @@ module _ (S : Settings) (rounds E : List ℕ) (f : List ℤ) where
     abbrev start : ℕ
     start = rowStart S (length rounds) i
 
+    -- the part of the rounds that begins with the row has its L polynomials
+    pub row-long : length rounds ≡ roundCells S → roundCells S + d ≤ length (part start rounds) + itemCells S
+    row-long e = omega (arith, tail-length start rounds, e, start-most S (length rounds) i .0, start-most S (length rounds) i .1, row-inside d rows i h)
+
+    pub row-below : settingsRefusal S ≡ 0 → Below (S .modulus) (roundCells S) rounds → (j : ℕ) → getD (part start rounds) j 0 < S .modulus
+    row-below ok b j = subst (λ x. x < S .modulus) (sym (tail-at start rounds j 0))
+        (below-everywhere (S .modulus) _ rounds (omega (arith, settings-valid S ok .modulus-least)) b (start + j))
+
     pub row-given : (key : List ℕ) → TranscriptGiven S (length f) key rounds E → RowGiven S (length f) (keyRow S key i) (part start rounds) E
     row-given key g = record {
       allowed = g .allowed;
       key-below = keyRow-below S (S .modulus) key (g .key-below) i h;
-      rounds-long = omega (arith, tail-length start rounds, g .rounds-below .long, start-most S (length rounds) i .0, start-most S (length rounds) i .1, row-inside d rows i h);
-      rounds-below = λ j. subst (λ x. x < S .modulus) (sym (tail-at start rounds j 0))
-          (below-everywhere (S .modulus) _ rounds (omega (arith, settings-valid S (g .allowed) .modulus-least)) (g .rounds-below) (start + j));
+      rounds-long = row-long (g .rounds-below .long);
+      rounds-below = row-below (g .allowed) (g .rounds-below);
       challenges-long = g .challenges-long;
       final-long = g .final-long;
     }

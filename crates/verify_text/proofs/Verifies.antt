@@ -81,4 +81,5 @@ lent-fitting S t l = exact-fits S verifyReads t (record {
   rounds = l .rounds;
   challenges = l .challenges ∙ sym (Nat.mul-one (S .depth));
   last = l .last ∙ sym (Nat.one-mul (S .degree));
+  claims = l .claims;
 })

@@ -1,4 +1,4 @@
-// The program `verify` as a call on text: its settings, its tables, and the check of its transcript.
+// The program `verify` as a call on text: its settings, its tables, the check of its transcript and of the claims that are written beside it.
 use protocol::Parts;
 use protocol::ROWS_WIDTH;
 use protocol::Residue;
@@ -15,6 +15,7 @@ ghost use Rattle.protocol.specs.Basic.{choose};
 ghost use Rattle.protocol.specs.Layout.{width, rowsWidth, slots};
 ghost use Rattle.protocol.specs.Programs.{verifyReads, tablesAccepted, verifyAnswer, checked, verifyGives, verdictLine, verifyOutput};
 ghost use Rattle.text_parts.specs.Parts.{tablesOf, cellsRoom};
+ghost use Rattle.claim_tables.specs.Claims.{claimsRoom};
 ghost use Rattle.text_lines.specs.Header.{Begins};
 ghost use Rattle.table_reader.specs.Parts.{Lent};
 ghost use Rattle.table_writer.specs.Shown.{Shown, Within};
@@ -31,10 +32,11 @@ fn reads() -> Parts
         rounds: true,
         challenges: true,
         last: true,
+        claims: true,
     }
 }
 
-// The answer for tables of which nothing is refused.
+// The answer for tables of which nothing is refused: the transcript is accepted, and every written claim is the one that it gives.
 fn answer(
     settings: Settings,
     key: &[Residue],
@@ -42,12 +44,15 @@ fn answer(
     rounds: &[Residue],
     challenges: &[u32],
     last: &[i32],
+    claims: &[Residue],
 ) -> Verified
-    requires { ⌜ Given settings (tablesOf (now key) [] (now commitment) (now rounds) (now challenges) (now last)) ⌝ }
+    requires { ⌜ Given settings (tablesOf (now key) [] (now commitment) (now rounds) (now challenges) (now last) (now claims)) ⌝ }
     ensures { λ r. ⌜ r ≡ choose (tablesAccepted settings
-        (tablesOf (now (key .entry)) [] (now (commitment .entry)) (now (rounds .entry)) (now (challenges .entry)) (now (last .entry)))) Verified.Accepted Verified.Rejected ⌝ }
+        (tablesOf (now (key .entry)) [] (now (commitment .entry)) (now (rounds .entry)) (now (challenges .entry)) (now (last .entry)) (now (claims .entry)))) Verified.Accepted Verified.Rejected ⌝ }
 {
-    if !transcripts::accepted(settings, commitment, last, key, rounds, challenges) {
+    let accepted = transcripts::accepted(settings, commitment, last, key, rounds, challenges);
+    let written = claim_tables::written(settings, rounds, challenges, claims);
+    if !(accepted & written) {
         return Verified::Rejected;
     }
     Verified::Accepted
@@ -64,8 +69,9 @@ fn verify_in(
     rounds: &mut [Residue],
     challenges: &mut [u32],
     last: &mut [i32],
+    claims: &mut [Residue],
 ) -> Verified
-    requires { ⌜ Lent verifyReads (now text) (tablesOf (now key) (now message) (now commitment) (now rounds) (now challenges) (now last)) ⌝ }
+    requires { ⌜ Lent verifyReads (now text) (tablesOf (now key) (now message) (now commitment) (now rounds) (now challenges) (now last) (now claims)) ⌝ }
     requires { ⌜ Begins (now text) settings from ⌝ }
     ensures { λ r. ⌜ r ≡ verifyAnswer (now (text .entry)) ⌝ }
 {
@@ -80,11 +86,20 @@ fn verify_in(
         rounds,
         challenges,
         last,
+        claims,
     );
     if loaded.refusal != 0 {
         return Verified::Refused(loaded.refusal);
     }
-    answer(loaded.settings, key, commitment, rounds, challenges, last)
+    answer(
+        loaded.settings,
+        key,
+        commitment,
+        rounds,
+        challenges,
+        last,
+        claims,
+    )
 }
 
 // The call with tables that have room for every text: their first numbers, as many as the settings ask for, are lent.
@@ -96,8 +111,9 @@ fn verify_within(
     rounds: &mut [Residue],
     challenges: &mut [u32],
     last: &mut [i32],
+    claims: &mut [Residue],
 ) -> Verified
-    requires { ⌜ (cellsRoom ≤ length (now key)) × (rowsWidth ≤ length (now commitment)) × (cellsRoom ≤ length (now rounds)) × (slots ≤ length (now challenges)) × (width ≤ length (now last)) ⌝ }
+    requires { ⌜ (cellsRoom ≤ length (now key)) × (rowsWidth ≤ length (now commitment)) × (cellsRoom ≤ length (now rounds)) × (slots ≤ length (now challenges)) × (width ≤ length (now last)) × (claimsRoom ≤ length (now claims)) ⌝ }
     ensures { λ r. ⌜ r ≡ verifyAnswer (now (text .entry)) ⌝ }
 {
     let begun = text_lines::allowed_settings(text);
@@ -111,6 +127,7 @@ fn verify_within(
     let key_cells = table_reader::lent_cells(sizes::key_cells(settings));
     let item_cells = sizes::item_cells(settings);
     let round_cells = table_reader::lent_cells(sizes::round_cells(settings));
+    let claim_cells = sizes::claim_cells(settings);
     verify_in(
         text,
         settings,
@@ -121,6 +138,7 @@ fn verify_within(
         &mut rounds[..round_cells],
         &mut challenges[..depth],
         &mut last[..degree],
+        &mut claims[..claim_cells],
     )
 }
 
@@ -135,6 +153,7 @@ pub fn verify(text: &[u8]) -> Verified
     let mut rounds = [0u64; CELLS];
     let mut challenges = [0u32; SLOTS];
     let mut last = [0i32; WIDTH];
+    let mut claims = [0u64; claim_tables::ROOM];
     verify_within(
         text,
         &mut key,
@@ -143,6 +162,7 @@ pub fn verify(text: &[u8]) -> Verified
         &mut rounds,
         &mut challenges,
         &mut last,
+        &mut claims,
     )
 }
 

@@ -17,13 +17,13 @@ use reference::draw::base::{row_coefficients, shape};
 use reference::draw::tables::{opening_at, OpeningInput};
 use reference::draw::text::{self, Tables};
 use reference::draw::tree::{honest_at, Tree};
-use reference::fast;
 use reference::random::Random;
 use reference::refuse::GROWTH;
 use reference::types::{
     Parts, Residue, Settings, Verification, ACCEPTED, ITS_MODULUS, LARGEST_DEGREE, LARGEST_MODULUS,
     LONGEST_TEXT,
 };
+use reference::{fast, plain};
 use std::hint::black_box;
 use std::time::Duration;
 
@@ -322,6 +322,7 @@ impl Table {
                     &mut t.rounds,
                     &mut t.challenges,
                     &mut t.final_element,
+                    &mut t.claims,
                 );
                 assert_eq!(answer.number, 0);
             },
@@ -345,6 +346,7 @@ impl Table {
                     &t.rounds,
                     &t.challenges,
                     &t.final_element,
+                    &t.claims,
                     &mut theirs,
                 );
                 assert_eq!(answer.length, text.len());
@@ -379,6 +381,7 @@ impl Table {
             commitment,
         } = Honest::at(s);
         let tables = Tables {
+            claims: plain::claims(s, &t.rounds, &t.challenges),
             key: t.key,
             message: vec![],
             commitment,

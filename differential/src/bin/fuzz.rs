@@ -137,6 +137,7 @@ fn of_program(input: TextInput) -> Seed {
         shape.rounds(),
         shape.l,
         shape.d,
+        shape.claims(),
     ];
     let there = |i: usize| if input.parts[i] { sizes[i] } else { 0 };
     let mut tables = Tables::to_be_written(std::array::from_fn(there));
@@ -159,6 +160,7 @@ fn plain_read(parts: Parts, text: &[u8], t: &mut Tables) -> ReadAnswer {
         &mut t.rounds,
         &mut t.challenges,
         &mut t.final_element,
+        &mut t.claims,
     )
 }
 
@@ -172,6 +174,7 @@ fn fast_read(parts: Parts, text: &[u8], t: &mut Tables) -> ReadAnswer {
         &mut t.rounds,
         &mut t.challenges,
         &mut t.final_element,
+        &mut t.claims,
     )
 }
 
@@ -185,6 +188,7 @@ fn plain_write(s: Settings, parts: Parts, t: &Tables, out: &mut [u8]) -> WriteAn
         &t.rounds,
         &t.challenges,
         &t.final_element,
+        &t.claims,
         out,
     )
 }
@@ -199,6 +203,7 @@ fn fast_write(s: Settings, parts: Parts, t: &Tables, out: &mut [u8]) -> WriteAns
         &t.rounds,
         &t.challenges,
         &t.final_element,
+        &t.claims,
         out,
     )
 }
@@ -431,14 +436,15 @@ fn mutate_tables(random: &mut Random, seed: &mut Seed) {
         i32::MIN,
     ];
     let exponents = [0, 1, (2 * d).wrapping_sub(1), 2 * d, u32::MAX];
-    match random.below(12) {
+    match random.below(13) {
         0 => change(random, &mut t.key, &residues),
         1 => change(random, &mut t.message, &wholes),
         2 => change(random, &mut t.commitment, &residues),
         3 => change(random, &mut t.rounds, &residues),
         4 => change(random, &mut t.challenges, &exponents),
         5 => change(random, &mut t.final_element, &wholes),
-        6 => seed.parts[random.below(6)] ^= true,
+        12 => change(random, &mut t.claims, &residues),
+        6 => seed.parts[random.below(PARTS)] ^= true,
         7 => seed.settings.degree = random.pick(&[2, 4, 8, 128, 128, 3, 0]),
         8 => seed.settings.depth = random.pick(&[0, 1, 2, 8, 9]),
         9 => seed.settings.modulus = random.pick(&MODULI),
@@ -469,7 +475,7 @@ impl Fuzz {
     fn read(
         &mut self,
         parts: Parts,
-        lengths: [usize; 6],
+        lengths: [usize; PARTS],
         text: &[u8],
         simple: bool,
     ) -> Result<(), String> {
@@ -599,7 +605,7 @@ impl Fuzz {
         }
         let mut lengths = seed.tables.lengths();
         if random.one_in(30) {
-            lengths[random.below(6)] += 1;
+            lengths[random.below(PARTS)] += 1;
         }
         let mut tables = Seed {
             text: vec![],

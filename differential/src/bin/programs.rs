@@ -9,12 +9,15 @@
 //! the shortest text that shows it, and every run must leave with status 0.
 //! Then input and output misbehave: closed, a folder, stopped in the middle, endless, one byte at a time, a full
 //! disk, a disk that is full in the middle of a listing, a narrow pipe, a pipe
-//! that nobody reads. A text is among them that can be read and whose listing
-//! is too long. Every answer that a program can give must come up.
+//! that nobody reads. Texts are among them that can be read and whose listings
+//! are too long, or have 65,535, 65,536 or 65,537 bytes, by themselves or with
+//! the key. Every answer that a program can give must come up.
 
-use differential::calls::long_listing;
+use differential::calls::{long_listing, LIMITS};
 use reference::draw::base::OTHER_MODULI;
-use reference::draw::text::{damage_text, provable, provable_at, verifiable};
+use reference::draw::text::{
+    damage_text, listing, listing_of_length, provable, provable_at, verifiable,
+};
 use reference::draw::Limits;
 use reference::plain;
 use reference::random::Random;
@@ -242,6 +245,25 @@ fn of_largest_degree(random: &mut Random) -> Vec<Vec<u8>> {
     texts
 }
 
+/// Texts whose listings have each of the lengths at the limit; and, for `verify`, listings that have them with the key.
+fn at_the_length(random: &mut Random) -> Vec<Vec<u8>> {
+    let mut texts = Vec::new();
+    for length in LIMITS {
+        let text = listing_of_length(random, &[length], false).text();
+        let printed = prove_prints(&text);
+        if length > LONGEST_TEXT {
+            assert_eq!(printed, b"refused 1\n");
+        } else {
+            assert_eq!(printed.len(), length);
+        }
+        texts.push(text);
+        let text = listing_of_length(random, &[length], true).text();
+        texts.push(listing(&text, true));
+        texts.push(text);
+    }
+    texts
+}
+
 /// What a shell's line prints that starts a program with odd input or output; a program that does not end within ten seconds has status 124.
 fn fault(folder: &Path, work: &Path, line: &str) -> String {
     let output = Command::new("sh")
@@ -365,6 +387,7 @@ fn main() -> ExitCode {
         .into_iter()
         .chain(of_largest_degree(&mut random))
         .chain([long_listing(&mut random).text()])
+        .chain(at_the_length(&mut random))
     {
         run.both(&text);
     }

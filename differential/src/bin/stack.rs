@@ -11,6 +11,7 @@ use reference::draw::base::row_coefficients;
 use reference::draw::tables::opening_at;
 use reference::draw::text::{lines, tables_of_length, Tables};
 use reference::draw::tree::{free_at, Tree};
+use reference::plain;
 use reference::random::Random;
 use reference::refuse::GROWTH;
 use reference::types::{
@@ -239,6 +240,7 @@ fn verify(s: Settings) -> Call<'static> {
         commitment,
     } = Honest::at(s);
     let tables = Tables {
+        claims: plain::claims(s, &t.rounds, &t.challenges),
         key: t.key,
         message: vec![],
         commitment,

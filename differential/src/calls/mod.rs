@@ -22,7 +22,8 @@ pub use relaxed::Judge;
 pub use session::{SessionEnd, SessionRound, Start};
 pub use settings::SettingsCase;
 pub use stretch::stretch;
-pub use text::{large_numbers, long_listing, names_lines, Look, Prove, Read, Verify, Write};
+pub use text::{large_numbers, long_listing, names_lines, LIMITS};
+pub use text::{Look, Prove, Read, Verify, Write};
 pub use tree::{Extract, Large, Largest};
 
 /// What a verifier says, by number.

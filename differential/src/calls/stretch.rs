@@ -27,13 +27,13 @@ fn missing(random: &mut Random, lines: &[Vec<u8>]) -> usize {
 
 /// Lines of the stated shape that no text has.
 fn lines_of_length(length: usize) -> Vec<u8> {
-    const LINE: &[u8] = b"7 0 0 0\n";
+    const LINE: &[u8] = b"8 0 0 0\n";
     if length < LINE.len() {
         return vec![b'\n'; length];
     }
     let mut lines = LINE.repeat(length / LINE.len() - 1);
     let digits = "1".repeat(1 + length % LINE.len());
-    lines.extend_from_slice(format!("7 0 0 {digits}\n").as_bytes());
+    lines.extend_from_slice(format!("8 0 0 {digits}\n").as_bytes());
     lines
 }
 

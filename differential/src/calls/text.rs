@@ -26,17 +26,18 @@ fn with_tables(outcome: Outcome, tables: &Tables) -> Outcome {
         .with("rounds", &tables.rounds)
         .with("challenges", &tables.challenges)
         .with("final element", &tables.final_element)
+        .with("claims", &tables.claims)
 }
 
 /// The bits of a number of parts that name no part: refused by 7.
 fn no_parts(bits: u32) -> usize {
-    (bits >> 6) as usize
+    (bits >> PARTS) as usize
 }
 
-/// Bits past those of the six parts, now and then.
+/// Bits past those of the seven parts, now and then.
 fn beyond(random: &mut Random) -> u32 {
     if random.one_in(16) {
-        return random.pick(&[64, 128, 1 << 31, u32::MAX << 6]);
+        return random.pick(&[128, 256, 1 << 31, u32::MAX << PARTS]);
     }
     0
 }
@@ -46,13 +47,13 @@ fn of_largest_degree(text: &[u8]) -> bool {
     text.starts_with(b"part item place value\n0 0 0 128\n")
 }
 
-/// Found and wanted lengths of six tables.
+/// Found and wanted lengths of seven tables.
 fn table_pairs(s: Settings, parts: Parts, tables: &Tables) -> Vec<(usize, usize)> {
     let wanted = refusals::part_lengths(s, parts);
     tables.lengths().into_iter().zip(wanted).collect()
 }
 
-/// The six tables' slices.
+/// The seven tables' slices.
 fn table_slices(tables: &mut Tables) -> Vec<Table<'_>> {
     vec![
         Table::Residues(&mut tables.key),
@@ -61,6 +62,7 @@ fn table_slices(tables: &mut Tables) -> Vec<Table<'_>> {
         Table::Residues(&mut tables.rounds),
         Table::Unsigned(&mut tables.challenges),
         Table::Signed(&mut tables.final_element),
+        Table::Residues(&mut tables.claims),
     ]
 }
 
@@ -115,15 +117,36 @@ pub fn long_listing(random: &mut Random) -> TextInput {
     };
     TextInput {
         shape,
-        parts: [true, true, false, false, true, false],
+        parts: PROVE_READS,
         lines: text::lines(settings, &tables),
         lengths: None,
     }
 }
 
+/// The lengths at which a text is read, or written, or not.
+pub const LIMITS: [usize; 3] = [LONGEST_TEXT - 1, LONGEST_TEXT, LONGEST_TEXT + 1];
+
+/// What is counted of these lengths, of a listing and of one with its key.
+const LISTINGS: [&str; 3] = [
+    "listing of 65,535 bytes",
+    "listing of 65,536 bytes",
+    "listing of 65,537 bytes",
+];
+const RECORDS: [&str; 3] = [
+    "with its key 65,535 bytes",
+    "with its key 65,536 bytes",
+    "with its key 65,537 bytes",
+];
+
+/// The word of a length that is one of the three.
+fn of_length(length: usize, words: &[&str; 3]) -> Option<String> {
+    let place = LIMITS.iter().position(|&limit| limit == length)?;
+    Some(words[place].to_string())
+}
+
 /// The lengths of the tables of a text: the drawn ones, or those that its
 /// settings ask for.
-fn lengths(input: &TextInput) -> [usize; 6] {
+fn lengths(input: &TextInput) -> [usize; PARTS] {
     let shape = &input.shape;
     let all = [
         shape.key(),
@@ -132,6 +155,7 @@ fn lengths(input: &TextInput) -> [usize; 6] {
         shape.rounds(),
         shape.l,
         shape.d,
+        shape.claims(),
     ];
     let wanted = std::array::from_fn(|i| if input.parts[i] { all[i] } else { 0 });
     input.lengths.unwrap_or(wanted)
@@ -180,12 +204,10 @@ const NUMBERS: [&str; 18] = [
 /// in every column of every line of texts for `prove`, for `verify` and with
 /// all parts, and in a line of a part that there is none of.
 pub fn large_numbers() -> Vec<TextInput> {
-    const ALL: Parts = [true; 6];
-    const PROVE: Parts = [true, true, false, false, true, false];
-    const VERIFY: Parts = [true, false, true, true, true, true];
+    const ALL: Parts = [true; PARTS];
     let mut texts = Vec::new();
     for (rows, q, parts) in [(1, 17), (1, LARGEST_MODULUS), (2, LARGEST_MODULUS)]
-        .map(|(rows, q)| [PROVE, VERIFY, ALL].map(|p| (rows, q, p)))
+        .map(|(rows, q)| [PROVE_READS, VERIFY_READS, ALL].map(|p| (rows, q, p)))
         .concat()
     {
         let mut input = listing(rows, q, parts);
@@ -193,7 +215,7 @@ pub fn large_numbers() -> Vec<TextInput> {
         for place in 1..input.lines.len() {
             texts.extend(with_numbers(&input, place));
         }
-        input.lines.push(b"7 0 0 0\n".to_vec());
+        input.lines.push(b"8 0 0 0\n".to_vec());
         texts.extend(with_numbers(&input, input.lines.len() - 1));
     }
     texts
@@ -207,14 +229,17 @@ fn listing(rows: u32, q: Residue, parts: Parts) -> TextInput {
     }
     let settings = Settings::new(2, 1, q, 1).with_rows(rows);
     let c2 = [(7 + q) / 2, 1];
-    let (key, commitment, rounds) = if rows == 1 {
+    let claim = [q / 2 + 1, 6];
+    let (key, commitment, rounds, claims) = if rows == 1 {
         let rounds = [&[4, 1, 6, 0][..], &c2].concat();
-        (vec![3, 5, 7, 2], vec![15, 4], rounds)
+        (vec![3, 5, 7, 2], vec![15, 4], rounds, claim.to_vec())
     } else {
         let weighted = [[1, q - 1], [(7 + q) / 2, (q - 5) / 2], [(5 + q) / 2, 0]];
         let [c0, c1, last] = weighted;
         let rounds = [[4, 1], c0, [6, 0], c1, c2, last].concat();
-        (vec![3, 5, 7, 2, 2, 0, 5, 0], vec![15, 4, 7, q - 2], rounds)
+        let claims = [claim, [1, (5 + q) / 2]].concat();
+        let key = vec![3, 5, 7, 2, 2, 0, 5, 0];
+        (key, vec![15, 4, 7, q - 2], rounds, claims)
     };
     let tables = Tables {
         key: given(parts[0], &key),
@@ -223,6 +248,7 @@ fn listing(rows: u32, q: Residue, parts: Parts) -> TextInput {
         rounds: given(parts[3], &rounds),
         challenges: given(parts[4], &[1]),
         final_element: given(parts[5], &[1, 0]),
+        claims: given(parts[6], &claims),
     };
     TextInput {
         shape: base::shape(settings),
@@ -351,6 +377,7 @@ type Reader = fn(
     &mut [Residue],
     &mut [u32],
     &mut [i32],
+    &mut [Residue],
 ) -> ReadAnswer;
 
 impl Read {
@@ -377,6 +404,7 @@ impl Read {
             &mut t.rounds,
             &mut t.challenges,
             &mut t.final_element,
+            &mut t.claims,
         );
         if matches!(answer.number, 1..=6 | 16) {
             return answer.number;
@@ -391,7 +419,14 @@ impl Read {
 impl Call for Read {
     const NAME: &'static str = "read";
     const NUMBERS: &'static [u32] = &[0, 1, 2, 3, 4, 5, 6, 16, 7, 8, 9, 10];
-    const WORDS: &'static [&'static str] = &["no such part"];
+    const WORDS: &'static [&'static str] = &[
+        "no such part",
+        CLAIMS_MISSING,
+        CLAIMS_LINES,
+        CLAIMS_UNASKED,
+        CLAIMS_LENT,
+        CLAIM_NO_RESIDUE,
+    ];
     const SLICES: &'static [&'static str] = &[
         "settings",
         "key",
@@ -400,11 +435,23 @@ impl Call for Read {
         "rounds",
         "challenges",
         "last",
+        "claims",
     ];
     const FAST: bool = true;
 
     fn draw(random: &mut Random, limits: &Limits) -> Read {
-        let mut read = Read::of(any_text(random, limits));
+        let mut input = any_text(random, limits);
+        match random.below(16) {
+            0 => input.parts[6] ^= true,
+            2 if input.parts[6] => input.lines.retain(|line| !line.starts_with(b"7 ")),
+            1 if !input.parts[6] => {
+                let mut lent = lengths(&input);
+                lent[6] = random.pick(&[1, input.shape.d, input.shape.claims().max(1)]);
+                input.lengths = Some(lent);
+            }
+            _ => (),
+        }
+        let mut read = Read::of(input);
         read.parts |= beyond(random);
         read
     }
@@ -462,7 +509,9 @@ impl Call for Read {
     }
 
     fn other_remarks(&self, number: u32) -> Vec<String> {
-        no_such_part(number, self.parts, self.known_pairs())
+        let mut remarks = no_such_part(number, self.parts, self.known_pairs());
+        remarks.extend(self.of_claims(number));
+        remarks
     }
 
     fn numbers(&self) -> Vec<u64> {
@@ -480,6 +529,66 @@ impl Call for Read {
         );
         page.header("number of parts:");
         page.numbers(self.numbers());
+    }
+}
+
+/// What is counted where the claims alone are refused: 7 for a text that has no
+/// line of part 7, for one that has others than are wanted, for one that has
+/// some where none are asked for, for a table of another length, and for a table
+/// that is lent though the part is absent; 8 for a claim that is no residue.
+const CLAIMS_MISSING: &str = "no line of claims";
+const CLAIMS_LINES: &str = "other lines of claims";
+const CLAIMS_UNASKED: &str = "claims not asked for";
+const CLAIMS_ABSENT: &str = "no table of claims";
+const CLAIMS_LENT: &str = "claims lent and absent";
+const CLAIM_NO_RESIDUE: &str = "a claim that is no residue";
+
+/// What is counted where a written claim alone is the reason of a rejection: in
+/// the first round or a later one, of the first row or a later one.
+const CLAIM_ROUNDS: [&str; 2] = ["wrong claim of round 1", "wrong claim of a later round"];
+const CLAIM_ROWS: [&str; 2] = ["wrong claim of row 0", "wrong claim of a later row"];
+
+/// A text without its lines of a part, and whether it had any.
+fn without(text: &[u8], part: &[u8]) -> (Vec<u8>, bool) {
+    let lines = text.split_inclusive(|&b| b == b'\n');
+    let (of_part, rest): (Vec<_>, Vec<_>) = lines.partition(|line| line.starts_with(part));
+    (rest.concat(), !of_part.is_empty())
+}
+
+/// A text without its claims, and whether it had any.
+fn without_claims(text: &[u8]) -> (Vec<u8>, bool) {
+    without(text, b"7 ")
+}
+
+impl Read {
+    /// Which refusal by the claims alone this is: without part 7 in text, parts
+    /// and tables nothing is refused.
+    fn of_claims(&self, number: u32) -> Option<String> {
+        if !matches!(number, 7 | 8) {
+            return None;
+        }
+        let there = self.input.parts[6];
+        let (rest, lines) = without_claims(&self.text);
+        let settings = plain::look(&self.text).settings;
+        let lent = self.tables.claims.len();
+        let wanted = refusals::part_lengths(settings, self.input.parts)[6];
+        let mut other = self.clone();
+        other.text = rest;
+        other.input.parts[6] = false;
+        other.tables.claims.clear();
+        if other.read(fast::read) != 0 {
+            return None;
+        }
+        let word = match number {
+            8 => CLAIM_NO_RESIDUE,
+            _ if lent != wanted && there => return None,
+            _ if lent != wanted && lines => return None,
+            _ if lent != wanted => CLAIMS_LENT,
+            _ if !there => CLAIMS_UNASKED,
+            _ if !lines => CLAIMS_MISSING,
+            _ => CLAIMS_LINES,
+        };
+        Some(word.to_string())
     }
 }
 
@@ -512,6 +621,7 @@ type Writer = fn(
     &[Residue],
     &[u32],
     &[i32],
+    &[Residue],
     &mut [u8],
 ) -> WriteAnswer;
 
@@ -527,17 +637,51 @@ impl Write {
             &t.rounds,
             &t.challenges,
             &t.final_element,
+            &t.claims,
             &mut self.out,
         );
         self.count = answer.length;
         answer.number
+    }
+
+    /// Which refusal by the claims alone this is: without their part and table
+    /// nothing is refused, room being enough.
+    fn of_claims(&self, number: u32) -> Option<String> {
+        if !matches!(number, 7 | 8) || no_parts(self.parts) != 0 {
+            return None;
+        }
+        let there = self.input.parts[6];
+        let lent = self.input.tables.claims.len();
+        let wanted = refusals::part_lengths(self.input.settings, self.input.parts)[6];
+        let mut other = self.clone();
+        other.out = vec![FILL; LONGEST_TEXT];
+        other.input.parts[6] = false;
+        other.input.tables.claims.clear();
+        if other.write(fast::write) != 0 {
+            return None;
+        }
+        let word = match number {
+            8 => CLAIM_NO_RESIDUE,
+            _ if !there && lent > 0 => CLAIMS_LENT,
+            _ if there && lent == 0 && wanted > 0 => CLAIMS_ABSENT,
+            _ => return None,
+        };
+        Some(word.to_string())
     }
 }
 
 impl Call for Write {
     const NAME: &'static str = "write";
     const NUMBERS: &'static [u32] = &[0, 1, 3, 4, 5, 6, 16, 7, 8, 9, 10];
-    const WORDS: &'static [&'static str] = &["no such part", "out short", "out exact", "out long"];
+    const WORDS: &'static [&'static str] = &[
+        "no such part",
+        "out short",
+        "out exact",
+        "out long",
+        CLAIMS_ABSENT,
+        CLAIMS_LENT,
+        CLAIM_NO_RESIDUE,
+    ];
     const SLICES: &'static [&'static str] = &[
         "key",
         "message",
@@ -545,6 +689,7 @@ impl Call for Write {
         "rounds",
         "challenges",
         "last",
+        "claims",
     ];
     const FAST: bool = true;
 
@@ -556,10 +701,11 @@ impl Call for Write {
             (input.settings, input.parts, input.tables) = text::tables_of_length(length, q);
             input.room = length + random.pick(&[0, 1, 9]);
         }
-        match random.below(8) {
+        match random.below(9) {
             0 => input.room = input.room.saturating_sub(1 + random.below(12)),
             1 => input.room = 0,
-            2 => input.parts[random.below(6)] ^= true,
+            2 => input.parts[random.below(PARTS)] ^= true,
+            8 => disturb_claims(random, &mut input),
             3..=5 => {
                 damage_some(random, &mut input);
             }
@@ -617,6 +763,7 @@ impl Call for Write {
 
     fn other_remarks(&self, number: u32) -> Vec<String> {
         let mut remarks = no_such_part(number, self.parts, self.known_pairs());
+        remarks.extend(self.of_claims(number));
         let mut enough = self.clone();
         enough.out = vec![FILL; LONGEST_TEXT];
         if no_parts(self.parts) == 0 && enough.write(fast::write) == 0 {
@@ -633,6 +780,22 @@ impl Call for Write {
         calls::write(page, &self.input);
         page.header("number of parts:");
         page.numbers([self.parts]);
+    }
+}
+
+/// Claims of another length, where they are to be written and where not, or one
+/// that is no residue.
+fn disturb_claims(random: &mut Random, input: &mut WriteInput) {
+    let q = input.shape.q;
+    let claims = &mut input.tables.claims;
+    if !input.parts[6] {
+        let length = random.pick(&[1, input.shape.d, input.shape.claims().max(1)]);
+        claims.resize(length, 0);
+    } else if random.one_in(2) {
+        claims.clear();
+    } else if !claims.is_empty() {
+        let place = random.below(claims.len());
+        claims[place] = random.pick(&[q, q + 1, 1 << 61, Residue::MAX]);
     }
 }
 
@@ -689,7 +852,15 @@ impl Prove {
 impl Call for Prove {
     const NAME: &'static str = "prove";
     const NUMBERS: &'static [u32] = &[0, 1, 2, 3, 4, 5, 6, 16, 7, 8, 9, 10];
-    const WORDS: &'static [&'static str] = &["out short", "out exact", "out long", LONG_LISTING];
+    const WORDS: &'static [&'static str] = &[
+        "out short",
+        "out exact",
+        "out long",
+        LONG_LISTING,
+        LISTINGS[0],
+        LISTINGS[1],
+        LISTINGS[2],
+    ];
     const SLICES: &'static [&'static str] = &[];
     const FAST: bool = true;
 
@@ -699,6 +870,10 @@ impl Call for Prove {
                 long_listing(random).text(),
                 random.pick(&[0, 1, LONGEST_TEXT]),
             );
+        }
+        if limits.table >= 1024 && random.one_in(50) {
+            let text = text::listing_of_length(random, &LIMITS, false).text();
+            return Prove::of(text, random.pick(&[0, 0, 1, 9]));
         }
         let input = match random.below(20) {
             0 => text::readable(random, limits).0,
@@ -757,9 +932,15 @@ impl Call for Prove {
 
     fn other_remarks(&self, number: u32) -> Vec<String> {
         let long = number == 1 && self.text.len() <= LONGEST_TEXT;
+        let length = if long {
+            text::listing(&self.text, false).len()
+        } else {
+            self.length
+        };
         let long = long.then(|| LONG_LISTING.to_string());
         let remark = room_remark(number, self.out.len(), self.length);
-        remark.into_iter().chain(long).collect()
+        let limit = of_length(length, &LISTINGS).filter(|_| matches!(number, 0 | 1));
+        remark.into_iter().chain(long).chain(limit).collect()
     }
 
     fn numbers(&self) -> Vec<u64> {
@@ -795,16 +976,110 @@ impl Verify {
         self.verdict = verdict;
         number
     }
+
+    /// Which refusal by the claims alone this is, or which rejection: with the
+    /// claims that are worked out it is accepted.
+    fn of_claims(&self, number: u32) -> Vec<String> {
+        if !matches!(number, 0 | 7 | 8) {
+            return Vec::new();
+        }
+        let (mut rest, lines) = without_claims(&self.text);
+        let Some((settings, tables)) = transcript(&rest) else {
+            return Vec::new();
+        };
+        let claims = plain::claims(settings, &tables.rounds, &tables.challenges);
+        let right = text::lines(
+            settings,
+            &Tables {
+                claims,
+                ..Tables::default()
+            },
+        );
+        let right = right[1 + SETTINGS..].to_vec();
+        let word = |word: &str| vec![word.to_string()];
+        match number {
+            7 if !lines => return word(CLAIMS_MISSING),
+            7 => return word(CLAIMS_LINES),
+            8 => return word(CLAIM_NO_RESIDUE),
+            _ => (),
+        }
+        let found = self.text.split_inclusive(|&b| b == b'\n');
+        let found: Vec<&[u8]> = found.filter(|line| line.starts_with(b"7 ")).collect();
+        rest.extend(right.concat());
+        let wrong = found.iter().zip(&right).position(|(a, b)| a != b);
+        match (wrong, fast::verify(&rest)) {
+            (Some(place), Verification::Accepted) => {
+                let item = place / settings.degree as usize;
+                let rows = settings.rows as usize;
+                let (round, row) = (item / rows, item % rows);
+                [CLAIM_ROUNDS[round.min(1)], CLAIM_ROWS[row.min(1)]]
+                    .map(str::to_string)
+                    .to_vec()
+            }
+            _ => Vec::new(),
+        }
+    }
+}
+
+/// Whether a text is of the parts that `prove` prints.
+fn is_listing(text: &[u8]) -> bool {
+    tables_of(text, PROVE_PRINTS).is_some()
+}
+
+/// Settings and tables of a text of all that `verify` reads but the claims,
+/// where such a text is not refused.
+fn transcript(text: &[u8]) -> Option<(Settings, Tables)> {
+    let mut parts = VERIFY_READS;
+    parts[6] = false;
+    tables_of(text, parts)
+}
+
+/// Settings and tables of a text of these parts, where it is not refused.
+fn tables_of(text: &[u8], parts: Parts) -> Option<(Settings, Tables)> {
+    let looked = plain::look(text);
+    if looked.number != 0 {
+        return None;
+    }
+    let mut t = Tables::to_be_written(refusals::part_lengths(looked.settings, parts));
+    let answer = fast::read(
+        parts,
+        text,
+        &mut t.key,
+        &mut t.message,
+        &mut t.commitment,
+        &mut t.rounds,
+        &mut t.challenges,
+        &mut t.final_element,
+        &mut t.claims,
+    );
+    (answer.number == 0).then_some((looked.settings, t))
 }
 
 impl Call for Verify {
     const NAME: &'static str = "verify";
     const NUMBERS: &'static [u32] = &[0, 1, 2, 3, 4, 5, 6, 16, 7, 8, 10];
-    const WORDS: &'static [&'static str] = &["accepted", "rejected"];
+    const WORDS: &'static [&'static str] = &[
+        "accepted",
+        "rejected",
+        CLAIMS_MISSING,
+        CLAIMS_LINES,
+        CLAIM_NO_RESIDUE,
+        CLAIM_ROUNDS[0],
+        CLAIM_ROUNDS[1],
+        CLAIM_ROWS[0],
+        CLAIM_ROWS[1],
+        RECORDS[0],
+        RECORDS[1],
+        RECORDS[2],
+    ];
     const SLICES: &'static [&'static str] = &[];
     const FAST: bool = true;
 
     fn draw(random: &mut Random, limits: &Limits) -> Verify {
+        if limits.table >= 1024 && random.one_in(50) {
+            let input = text::listing_of_length(random, &LIMITS, true);
+            return Verify::of(text::listing(&input.text(), true));
+        }
         Verify::of(any_text(random, limits).text())
     }
 
@@ -848,6 +1123,15 @@ impl Call for Verify {
 
     fn outcome(&self, number: u32) -> Outcome {
         Outcome::new(number).with_word("verdict", self.verdict, &VERDICTS)
+    }
+
+    fn other_remarks(&self, number: u32) -> Vec<String> {
+        let length = of_length(self.text.len(), &RECORDS);
+        let length = length.filter(|_| match number {
+            1 => is_listing(&without(&self.text, b"1 ").0),
+            _ => fast::verify(&self.text) == Verification::Accepted,
+        });
+        self.of_claims(number).into_iter().chain(length).collect()
     }
 
     fn numbers(&self) -> Vec<u64> {

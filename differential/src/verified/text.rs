@@ -1,7 +1,7 @@
 //! The calls on text.
 
 use reference::draw::text::Tables;
-use reference::types::{Parts, Residue, Settings};
+use reference::types::{Parts, Residue, Settings, PARTS};
 
 extern "C" {
     fn wovenrock_look(
@@ -29,6 +29,8 @@ extern "C" {
         challenges_length: usize,
         last: *mut i32,
         last_length: usize,
+        claims: *mut u64,
+        claims_length: usize,
     ) -> u32;
 
     fn wovenrock_write(
@@ -50,6 +52,8 @@ extern "C" {
         challenges_length: usize,
         last: *const i32,
         last_length: usize,
+        claims: *const u64,
+        claims_length: usize,
         out: *mut u8,
         out_length: usize,
         count: *mut usize,
@@ -66,11 +70,10 @@ extern "C" {
     fn wovenrock_verify(text: *const u8, text_length: usize, verdict: *mut u32) -> u32;
 }
 
-/// The number that names these parts: bit 0 is the key, bit 5 the final
-/// element.
+/// The number that names these parts: bit 0 is the key, bit 6 the claims.
 pub fn bits(parts: Parts) -> u32 {
     let bit = |i: usize| u32::from(parts[i]) << i;
-    (0..6).map(bit).sum()
+    (0..PARTS).map(bit).sum()
 }
 
 /// A first look at a text's settings.
@@ -106,6 +109,8 @@ pub fn read(parts: u32, text: &[u8], settings: &mut [Residue], tables: &mut Tabl
             tables.challenges.len(),
             tables.final_element.as_mut_ptr(),
             tables.final_element.len(),
+            tables.claims.as_mut_ptr(),
+            tables.claims.len(),
         )
     }
 }
@@ -132,6 +137,8 @@ pub fn write(s: Settings, parts: u32, tables: &Tables, out: &mut [u8], count: &m
             tables.challenges.len(),
             tables.final_element.as_ptr(),
             tables.final_element.len(),
+            tables.claims.as_ptr(),
+            tables.claims.len(),
             out.as_mut_ptr(),
             out.len(),
             count,

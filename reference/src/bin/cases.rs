@@ -22,9 +22,9 @@
 //! - polynomial: twelve elements, a line each: rows of c0, of c1 and of c2
 //! - record: seven lines: settings; rounds done, closed (0 or 1); claims
 //!   (rows); the eight challenges
-//! - parts: six numbers, 1 when part 1 to 6 is there, else 0
-//! - tables: six tables, a line each: key, message, commitment, rounds,
-//!   challenges, final element
+//! - parts: seven numbers, 1 when part 1 to 7 is there, else 0
+//! - tables: seven tables, a line each: key, message, commitment, rounds,
+//!   challenges, final element, claims
 //! - room: the length of the output slice and the byte at all its places
 //! - numbers: as named
 //!

@@ -182,6 +182,7 @@ fn tables(page: &mut Page, tables: &Tables) {
     page.table(&tables.rounds);
     page.table(&tables.challenges);
     page.table(&tables.final_element);
+    page.table(&tables.claims);
 }
 
 pub fn read(page: &mut Page, input: &TextInput) {
@@ -199,6 +200,7 @@ pub fn read(page: &mut Page, input: &TextInput) {
         &mut found.rounds,
         &mut found.challenges,
         &mut found.final_element,
+        &mut found.claims,
     );
     page.numbers([answer.number]);
     page.settings(answer.settings);
@@ -221,6 +223,7 @@ pub fn write(page: &mut Page, input: &WriteInput) {
         &input.tables.rounds,
         &input.tables.challenges,
         &input.tables.final_element,
+        &input.tables.claims,
         &mut out,
     );
     written(page, &answer, &out);

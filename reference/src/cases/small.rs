@@ -26,6 +26,7 @@ pub fn print(page: &mut Page, random: &mut Random) {
     several_rows(page, random);
     past_the_rows(page);
     refused_rows(page, random);
+    written_claims(page, random);
 }
 
 /// Zeros behind the degree, to keep the cases small.
@@ -285,7 +286,7 @@ fn provable(input: OpeningInput) -> TextInput {
     };
     TextInput {
         shape: input.shape,
-        parts: [true, true, false, false, true, false],
+        parts: PROVE_READS,
         lines: text::lines(input.settings, &tables),
         lengths: Some(tables.lengths()),
     }
@@ -323,7 +324,7 @@ fn written_tables() -> (Settings, Parts, Tables) {
         final_element: vec![-2_147_483_647, 10],
         ..Tables::default()
     };
-    let parts = [false, false, true, false, false, true];
+    let parts = [false, false, true, false, false, true, false];
     (Settings::new(2, 0, 2_147_483_647, 127), parts, tables)
 }
 
@@ -333,6 +334,7 @@ fn verifiable(input: OpeningInput) -> Vec<u8> {
     let (s, e) = (input.settings, &input.challenges);
     let (key, message) = (&mut after.key, &mut after.message);
     let answer = plain::whole_opening(s, key, message, e, &mut after.rounds);
+    let claims = plain::claims(s, &after.rounds, e);
     let tables = Tables {
         key: input.key,
         message: vec![],
@@ -340,6 +342,7 @@ fn verifiable(input: OpeningInput) -> Vec<u8> {
         rounds: after.rounds,
         challenges: input.challenges,
         final_element: answer.final_element[..input.shape.d].to_vec(),
+        claims,
     };
     text::lines(s, &tables).concat()
 }
@@ -377,7 +380,7 @@ fn wide_texts(page: &mut Page) {
         input
     };
     let most = "0 0 2 2305843009213693951\n";
-    calls::prove(page, &changed("0 0 2 17\n", most).text(), 200);
+    calls::prove(page, &changed("0 0 2 17\n", most).text(), 300);
     for (old, new) in [
         ("0 0 4 1\n", ""),
         ("1 0 0 3\n", "1 0 0 2305843009213693951\n"),
@@ -427,9 +430,9 @@ fn largest_degree(page: &mut Page, random: &mut Random) {
         };
         let input = TextInput {
             shape,
-            parts: [false; 6],
+            parts: [false; PARTS],
             lines: text::lines(settings, &Tables::default()),
-            lengths: Some([0; 6]),
+            lengths: Some([0; PARTS]),
         };
         calls::read(page, &input);
     }
@@ -439,7 +442,7 @@ fn largest_degree(page: &mut Page, random: &mut Random) {
 /// drawn tables, transcripts and trees.
 fn several_rows(page: &mut Page, random: &mut Random) {
     calls::opening(page, &with_weights());
-    calls::prove(page, &provable(with_weights()).text(), 250);
+    calls::prove(page, &provable(with_weights()).text(), 300);
     calls::verify(page, &verifiable(with_weights()));
     calls::commit(
         page,
@@ -630,4 +633,64 @@ fn refused_rows(page: &mut Page, random: &mut Random) {
         room: 100,
     };
     calls::write(page, &write);
+}
+
+/// Claims in texts: `verify` on the listing with its two rows and on a depth of
+/// 0, with a claim that is wrong, missing, too many or no residue; the reader
+/// and the writer with the part, and with its table where it is absent.
+fn written_claims(page: &mut Page, random: &mut Random) {
+    let text = String::from_utf8_lossy(&verifiable(with_weights())).into_owned();
+    for (old, new) in [
+        ("7 0 0 9\n", "7 0 0 10\n"),
+        ("7 1 1 11\n", "7 1 1 0\n"),
+        ("7 1 1 11\n", "7 1 1 17\n"),
+        ("7 1 1 11\n", ""),
+        ("7 1 1 11\n", "7 1 1 11\n7 2 0 0\n"),
+    ] {
+        calls::verify(page, text.replacen(old, new, 1).as_bytes());
+    }
+    let without = text.split_inclusive('\n').filter(|x| !x.starts_with("7 "));
+    calls::verify(page, without.collect::<String>().as_bytes());
+    let settings = Settings::new(2, 0, 17, 1);
+    calls::verify(page, &verifiable(opening(random, settings)));
+    let settings = Settings::new(2, 2, 17, 3).with_rows(2);
+    let tables = Tables {
+        claims: base::residues(random, base::shape(settings).claims(), 17),
+        ..Tables::default()
+    };
+    let mut parts = [false; PARTS];
+    for there in [true, false] {
+        parts[PARTS - 1] = there;
+        for length in [8, 7] {
+            let mut lengths = tables.lengths();
+            lengths[PARTS - 1] = length;
+            let input = TextInput {
+                shape: base::shape(settings),
+                parts,
+                lines: text::lines(settings, &tables),
+                lengths: Some(lengths),
+            };
+            calls::read(page, &input);
+        }
+        calls::write(
+            page,
+            &WriteInput {
+                shape: base::shape(settings),
+                settings,
+                parts,
+                tables: tables.clone(),
+                room: 150,
+            },
+        );
+    }
+    let mut input = WriteInput {
+        shape: base::shape(settings),
+        settings,
+        parts,
+        tables,
+        room: 150,
+    };
+    input.parts[PARTS - 1] = true;
+    input.tables.claims[7] = 17;
+    calls::write(page, &input);
 }

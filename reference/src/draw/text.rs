@@ -2,15 +2,17 @@
 
 use super::base::*;
 use super::session::any_transcript;
+use super::transcript::change;
 use super::{damage_by, Damage, Limits};
 use crate::random::Random;
 use crate::refuse::{self, Shape};
 use crate::types::*;
+use crate::{fast, plain};
 
 /// Lines of the settings, which stand behind the names line.
 const SETTINGS: usize = 5;
 
-/// The tables of parts 1 to 6; an absent one is empty.
+/// The tables of parts 1 to 7; an absent one is empty.
 #[derive(Clone, Debug, PartialEq, Eq, Default)]
 pub struct Tables {
     pub key: Vec<Residue>,
@@ -19,10 +21,11 @@ pub struct Tables {
     pub rounds: Vec<Residue>,
     pub challenges: Vec<u32>,
     pub final_element: Vec<i32>,
+    pub claims: Vec<Residue>,
 }
 
 impl Tables {
-    pub fn lengths(&self) -> [usize; 6] {
+    pub fn lengths(&self) -> [usize; PARTS] {
         [
             self.key.len(),
             self.message.len(),
@@ -30,10 +33,11 @@ impl Tables {
             self.rounds.len(),
             self.challenges.len(),
             self.final_element.len(),
+            self.claims.len(),
         ]
     }
 
-    /// The values of part 1 to 6.
+    /// The values of part 1 to 7.
     fn values(&self, part: usize) -> Vec<i128> {
         fn whole<T: Copy + Into<i128>>(table: &[T]) -> Vec<i128> {
             table.iter().map(|&x| x.into()).collect()
@@ -44,12 +48,13 @@ impl Tables {
             3 => whole(&self.commitment),
             4 => whole(&self.rounds),
             5 => whole(&self.challenges),
-            _ => whole(&self.final_element),
+            6 => whole(&self.final_element),
+            _ => whole(&self.claims),
         }
     }
 
     /// Tables of the given lengths that hold numbers to be overwritten.
-    pub fn to_be_written(lengths: [usize; 6]) -> Tables {
+    pub fn to_be_written(lengths: [usize; PARTS]) -> Tables {
         Tables {
             key: vec![Residue::MAX; lengths[0]],
             message: vec![i32::MIN; lengths[1]],
@@ -57,6 +62,7 @@ impl Tables {
             rounds: vec![Residue::MAX; lengths[3]],
             challenges: vec![u32::MAX; lengths[4]],
             final_element: vec![i32::MIN; lengths[5]],
+            claims: vec![Residue::MAX; lengths[6]],
         }
     }
 }
@@ -73,11 +79,12 @@ fn tables(random: &mut Random, shape: &Shape, parts: Parts) -> Tables {
         rounds: residues(random, there(4, shape.rounds()), q),
         challenges: exponents(random, there(5, l), d),
         final_element: wholes(random, there(6, d), final_bound),
+        claims: residues(random, there(7, shape.claims()), q),
     }
 }
 
 fn parts(random: &mut Random) -> Parts {
-    let bits = random.below(64);
+    let bits = random.below(1 << PARTS);
     std::array::from_fn(|i| bits >> i & 1 == 1)
 }
 
@@ -87,7 +94,7 @@ pub fn lines(s: Settings, tables: &Tables) -> Vec<Vec<u8>> {
     let [d, l, b, rows] = [s.degree, s.depth, s.bound, s.rows].map(i128::from);
     let settings = [d, l, s.modulus.into(), b, rows];
     add_lines(&mut lines, 0, SETTINGS, &settings);
-    for part in 1..=6 {
+    for part in 1..=PARTS {
         let size = if part == 5 { 1 } else { s.degree as usize };
         add_lines(&mut lines, part, size, &tables.values(part));
     }
@@ -108,7 +115,7 @@ pub struct TextInput {
     pub parts: Parts,
     pub lines: Vec<Vec<u8>>,
     /// Lengths of the lent tables; the programs lend none.
-    pub lengths: Option<[usize; 6]>,
+    pub lengths: Option<[usize; PARTS]>,
 }
 
 impl TextInput {
@@ -141,17 +148,23 @@ pub fn provable(random: &mut Random, limits: &Limits) -> TextInput {
 /// The same with given settings.
 pub fn provable_at(random: &mut Random, settings: Settings) -> TextInput {
     let shape = shape(settings);
-    let parts = [true, true, false, false, true, false];
-    let tables = tables(random, &shape, parts);
+    let tables = tables(random, &shape, PROVE_READS);
+    of_prove(settings, &tables)
+}
+
+/// The text of these tables for `prove`.
+fn of_prove(settings: Settings, tables: &Tables) -> TextInput {
     TextInput {
-        shape,
-        parts,
-        lines: lines(settings, &tables),
+        shape: shape(settings),
+        parts: PROVE_READS,
+        lines: lines(settings, tables),
         lengths: None,
     }
 }
 
-/// A text for `verify`, and whether it must be accepted.
+/// A text for `verify`, and whether it must be accepted. Three in four have
+/// the claims that are worked out, the others another number at one place of
+/// one round and row.
 pub fn verifiable(random: &mut Random, limits: &Limits) -> (TextInput, bool) {
     let (transcript, mut cause) = any_transcript(random, limits);
     let d = transcript.shape.d;
@@ -161,6 +174,15 @@ pub fn verifiable(random: &mut Random, limits: &Limits) -> (TextInput, bool) {
         *x += 1;
         cause = cause.or(Some(Cause::Bound));
     }
+    let mut claims = plain::claims(
+        transcript.settings,
+        &transcript.rounds,
+        &transcript.challenges,
+    );
+    let wrong = !claims.is_empty() && random.one_in(4);
+    if wrong {
+        change(random, &mut claims, transcript.shape.q);
+    }
     let tables = Tables {
         key: transcript.key,
         message: vec![],
@@ -168,14 +190,86 @@ pub fn verifiable(random: &mut Random, limits: &Limits) -> (TextInput, bool) {
         rounds: transcript.rounds,
         challenges: transcript.challenges,
         final_element,
+        claims,
     };
     let input = TextInput {
         shape: transcript.shape,
-        parts: [true, false, true, true, true, true],
+        parts: VERIFY_READS,
         lines: lines(transcript.settings, &tables),
         lengths: None,
     };
-    (input, cause.is_none())
+    (input, cause.is_none() && !wrong)
+}
+
+/// The tables of a text for `prove` that is not refused.
+fn provable_tables(text: &[u8]) -> (Settings, Tables) {
+    let settings = plain::look(text).settings;
+    let lengths = plain::refusals::part_lengths(settings, PROVE_READS);
+    let mut t = Tables::to_be_written(lengths);
+    fast::read(
+        PROVE_READS,
+        text,
+        &mut t.key,
+        &mut t.message,
+        &mut [],
+        &mut [],
+        &mut t.challenges,
+        &mut [],
+        &mut [],
+    );
+    (settings, t)
+}
+
+/// What `prove` has to print for a text of its that can be read, however long
+/// that is; with the key's lines, which `verify` wants, or without.
+pub fn listing(text: &[u8], with_key: bool) -> Vec<u8> {
+    let (s, mut given) = provable_tables(text);
+    let key = if with_key {
+        given.key.clone()
+    } else {
+        Vec::new()
+    };
+    let shape = shape(s);
+    let mut rounds = vec![0; shape.rounds()];
+    let (challenges, message) = (given.challenges, &mut given.message);
+    let answer = fast::whole_opening(s, &mut given.key, message, &challenges, &mut rounds);
+    let claims = plain::claims(s, &rounds, &challenges);
+    let tables = Tables {
+        key,
+        message: vec![],
+        commitment: row_coefficients(&shape, &answer.commitment),
+        rounds,
+        challenges,
+        final_element: answer.final_element[..shape.d].to_vec(),
+        claims,
+    };
+    lines(s, &tables).concat()
+}
+
+/// A text for `prove` whose listing has one of these lengths, near 65,536, with
+/// the key's lines or without them. Degree 64 with four rows at depth 3 and a
+/// modulus of 12 digits, or with three rows at depth 2 and one of 18, have
+/// listings of about that length; tables are drawn until one fits.
+pub fn listing_of_length(random: &mut Random, lengths: &[usize], with_key: bool) -> TextInput {
+    let (depth, rows, modulus) = match with_key {
+        true => (2, 3, 970_000_000_000_000_001),
+        false => (3, 4, 123_500_000_001),
+    };
+    loop {
+        let q = modulus + 2 * random.below(1000) as Residue;
+        let settings = Settings::new(64, depth, q, 1).with_rows(rows);
+        let shape = shape(settings);
+        let tables = Tables {
+            key: (0..shape.key()).map(|_| random.residue(q)).collect(),
+            message: wholes(random, shape.table(), 1),
+            challenges: exponents(random, shape.l, shape.d),
+            ..Tables::default()
+        };
+        let input = of_prove(settings, &tables);
+        if lengths.contains(&listing(&input.text(), with_key).len()) {
+            return input;
+        }
+    }
 }
 
 /// Settings with this modulus, of 10 digits or more, and tables whose text has
@@ -194,7 +288,9 @@ pub fn tables_of_length(length: usize, q: Residue) -> (Settings, Parts, Tables) 
         *x = 10u64.pow(more as u32);
         missing -= more;
     }
-    (settings, [true, false, false, false, false, false], tables)
+    let mut parts = [false; PARTS];
+    parts[0] = true;
+    (settings, parts, tables)
 }
 
 /// Part of a value line, if the line has one.
@@ -232,12 +328,42 @@ impl TextInput {
         self.lines[place] = joined(&fields);
     }
 
+    /// Refusal 7 by the claims alone: no line of part 7, one missing, one too
+    /// many, or another length of the lent table.
+    fn damage_claims(&mut self, random: &mut Random) {
+        let of_claims = |i: &usize| part_of(&self.lines[*i]) == b'7';
+        let places: Vec<usize> = (1 + SETTINGS..self.lines.len()).filter(of_claims).collect();
+        match random.below(4) {
+            0 if !places.is_empty() => self.lines.retain(|line| part_of(line) != b'7'),
+            1 if !places.is_empty() => {
+                self.lines.remove(random.pick(&places));
+            }
+            2 if self.lengths.is_some() => {
+                let length = self.lengths.iter_mut().map(|lengths| &mut lengths[6]);
+                for length in length {
+                    *length = match *length {
+                        0 => random.pick(&[1, self.shape.d, self.shape.claims().max(1)]),
+                        length => random.pick(&[0, length - 1, length + 1]),
+                    };
+                }
+            }
+            _ => {
+                let Shape { l, rows, .. } = self.shape;
+                let line = format!("7 {} 0 {}\n", rows * l, random.pick(&[0, 1]));
+                self.lines.push(line.into_bytes());
+            }
+        }
+    }
+
     /// Refusal 7: another length of a lent table, or other lines behind the
     /// settings.
     fn damage_size(&mut self, random: &mut Random) {
+        if self.parts[6] && random.one_in(3) {
+            return self.damage_claims(random);
+        }
         if let Some(lengths) = &mut self.lengths {
             if random.one_in(3) {
-                let i = random.below(6);
+                let i = random.below(PARTS);
                 lengths[i] = match lengths[i] {
                     0 => random.pick(&[1, 2, 64]),
                     length => random.pick(&[0, length - 1, length + 1]),
@@ -275,6 +401,7 @@ impl TextInput {
             _ => {
                 let list = [
                     "7 0 0 0",
+                    "8 0 0 0",
                     "0 0 0 2",
                     "6 1 0 0",
                     "2147483647 0 0 0",
@@ -471,7 +598,9 @@ impl Damage for TextInput {
             refuse::RESIDUE => {
                 let over = (q + 1).min(WIDE);
                 let list = [q, over, WIDE, -1, -WIDE, q.max(1 << 32)];
-                return self.set_value(random, b"134", &list);
+                let claims =
+                    self.parts[6] && random.one_in(4) && self.set_value(random, b"7", &list);
+                return claims || self.set_value(random, b"1347", &list);
             }
             refuse::TALL => {
                 return self.set_value(random, b"2", &[b + 1, -b - 1, NARROW, -NARROW]);
@@ -517,19 +646,21 @@ impl Damage for WriteInput {
         let Shape { d, q, b, .. } = self.shape;
         let tables = &mut self.tables;
         match number {
-            refuse::SIZE => match random.below(6) {
+            refuse::SIZE => match random.below(PARTS) {
                 0 => damage_length(random, &mut tables.key),
                 1 => damage_length(random, &mut tables.message),
                 2 => damage_length(random, &mut tables.commitment),
                 3 => damage_length(random, &mut tables.rounds),
                 4 => damage_length(random, &mut tables.challenges),
-                _ => damage_length(random, &mut tables.final_element),
+                5 => damage_length(random, &mut tables.final_element),
+                _ => damage_length(random, &mut tables.claims),
             },
             refuse::RESIDUE => {
-                let table = match random.below(3) {
+                let table = match random.below(4) {
                     0 => &mut tables.key,
                     1 => &mut tables.commitment,
-                    _ => &mut tables.rounds,
+                    2 => &mut tables.rounds,
+                    _ => &mut tables.claims,
                 };
                 damage_residue(random, table, q)
             }

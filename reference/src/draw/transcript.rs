@@ -160,7 +160,7 @@ fn earlier(one: Option<Cause>, other: Option<Cause>) -> Option<Cause> {
 }
 
 /// Another residue at one place.
-fn change(random: &mut Random, coefficients: &mut [Residue], q: Residue) {
+pub(super) fn change(random: &mut Random, coefficients: &mut [Residue], q: Residue) {
     let place = random.below(coefficients.len());
     let more = random.between(1, q as i64 - 1) as Residue;
     coefficients[place] = (coefficients[place] + more) % q;

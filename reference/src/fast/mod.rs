@@ -12,6 +12,7 @@ mod text;
 mod wide;
 
 use narrow::Narrow;
+use opening::claims;
 use wide::Wide;
 
 pub use opening::{check, check_cause, commit, whole_opening};

@@ -261,6 +261,30 @@ fn transcript_cause<const D: usize, M: Modulus>(
     (!meets).then_some(Cause::Equation)
 }
 
+/// The claims after each round, one a row, from round elements and challenges
+/// that have been tested; no round's equation is looked at.
+pub(super) fn claims(shape: &Shape, rounds: &[Residue], challenges: &[u32]) -> Vec<Residue> {
+    at_degree!(shape, worked_out(shape, rounds, challenges))
+}
+
+fn worked_out<const D: usize, M: Modulus>(
+    shape: &Shape,
+    rounds: &[Residue],
+    challenges: &[u32],
+) -> Vec<Residue> {
+    let modulus = M::new(shape.q);
+    let rounds = words::<D, M>(rounds);
+    let mut claims = vec![0; shape.claims()];
+    let mut rest = claims.as_chunks_mut::<D>().0.iter_mut();
+    for (t, &e) in challenges.iter().enumerate() {
+        for (row, place) in rest.by_ref().take(shape.rows).enumerate() {
+            let c = [0, 1, 2].map(|j| &rounds[shape.item(t, j, row)]);
+            store::<D, M>(&[next_claim(c, e, modulus)], place);
+        }
+    }
+    claims
+}
+
 /// Moves the claims past one round, row by row; answers whether the round
 /// holds in every row.
 fn next_claims<const D: usize, M: Modulus>(

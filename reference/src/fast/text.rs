@@ -1,18 +1,19 @@
 //! Text tables and the two programs: the text is read in one pass, and
 //! written in place after its length has been counted.
 
-use super::{check, whole_opening};
+use super::{check, claims, whole_opening};
 use crate::refuse::{self, Checked, Shape};
 use crate::types::*;
 
 const NAMES: &[u8] = b"part item place value\n";
 
-/// Items and places of each of parts 1 to 6, none for an absent part.
-fn part_sizes(shape: &Shape, parts: Parts) -> [(usize, usize); 6] {
+/// Items and places of each of parts 1 to 7, none for an absent part.
+fn part_sizes(shape: &Shape, parts: Parts) -> [(usize, usize); PARTS] {
     let Shape { d, l, n, rows, .. } = *shape;
     let key = (rows * n, d);
     let rounds = (3 * rows * l, d);
-    let all = [key, (n, d), (rows, d), rounds, (l, 1), (1, d)];
+    let claims = (rows * l, d);
+    let all = [key, (n, d), (rows, d), rounds, (l, 1), (1, d), claims];
     std::array::from_fn(|i| if parts[i] { all[i] } else { (0, 0) })
 }
 
@@ -119,7 +120,7 @@ impl Reader<'_> {
 
     /// The values of the required lines, or refusal 7 at the first line that
     /// is another, or 2 at the first of the wrong shape.
-    fn values(&mut self, sizes: &[(usize, usize); 6]) -> Checked<Vec<i64>> {
+    fn values(&mut self, sizes: &[(usize, usize); PARTS]) -> Checked<Vec<i64>> {
         let length = sizes.iter().map(|(items, places)| items * places).sum();
         let mut values = Vec::with_capacity(length);
         for (i, &(items, places)) in sizes.iter().enumerate() {
@@ -146,13 +147,13 @@ impl Reader<'_> {
 /// Settings, sizes of the parts and all values behind the settings.
 struct Content {
     settings: Settings,
-    sizes: [(usize, usize); 6],
+    sizes: [(usize, usize); PARTS],
     values: Vec<i64>,
 }
 
 impl Content {
-    /// The values of the six parts.
-    fn parts(&self) -> [&[i64]; 6] {
+    /// The values of the seven parts.
+    fn parts(&self) -> [&[i64]; PARTS] {
         let mut rest = &self.values[..];
         self.sizes.map(|(items, places)| {
             let (part, behind) = rest.split_at(items * places);
@@ -163,7 +164,7 @@ impl Content {
 }
 
 /// Reads a text. The programs lend no tables and so give no lengths.
-fn read_text(parts: Parts, text: &[u8], lent: Option<[usize; 6]>) -> Checked<Content> {
+fn read_text(parts: Parts, text: &[u8], lent: Option<[usize; PARTS]>) -> Checked<Content> {
     if text.len() > LONGEST_TEXT {
         return Err(refuse::LONG);
     }
@@ -187,7 +188,7 @@ fn read_values(
     reader: &mut Reader,
     parts: Parts,
     settings: Settings,
-    lent: Option<[usize; 6]>,
+    lent: Option<[usize; PARTS]>,
 ) -> Checked<Content> {
     let shape = refuse::settings(settings)?;
     let sizes = part_sizes(&shape, parts);
@@ -204,9 +205,11 @@ fn read_values(
 }
 
 /// Refusal 7 for the lent tables.
-fn lent_sizes(sizes: &[(usize, usize); 6], lengths: [usize; 6]) -> Checked<()> {
+fn lent_sizes(sizes: &[(usize, usize); PARTS], lengths: [usize; PARTS]) -> Checked<()> {
     let wanted = sizes.map(|(items, places)| items * places);
-    refuse::sizes(&std::array::from_fn::<_, 6, _>(|i| (lengths[i], wanted[i])))
+    refuse::sizes(&std::array::from_fn::<_, PARTS, _>(|i| {
+        (lengths[i], wanted[i])
+    }))
 }
 
 /// Whether every value is 0 to end-1; a negative one turns large.
@@ -215,9 +218,10 @@ fn below(values: &[i64], end: u64) -> bool {
 }
 
 /// Refusals 8 to 10 of a text that has been read.
-fn refuse_values(shape: &Shape, parts: &[&[i64]; 6]) -> Checked<()> {
-    let [key, message, commitment, rounds, challenges, _] = parts;
-    if ![key, commitment, rounds].iter().all(|x| below(x, shape.q)) {
+fn refuse_values(shape: &Shape, parts: &[&[i64]; PARTS]) -> Checked<()> {
+    let [key, message, commitment, rounds, challenges, _, claims] = parts;
+    let residues = [key, commitment, rounds, claims];
+    if !residues.iter().all(|x| below(x, shape.q)) {
         return Err(refuse::RESIDUE);
     }
     refuse::tall(message, shape.b)?;
@@ -238,6 +242,7 @@ pub fn read(
     rounds: &mut [Residue],
     challenges: &mut [u32],
     final_element: &mut [i32],
+    claims: &mut [Residue],
 ) -> ReadAnswer {
     let lengths = [
         key.len(),
@@ -246,6 +251,7 @@ pub fn read(
         rounds.len(),
         challenges.len(),
         final_element.len(),
+        claims.len(),
     ];
     match read_text(parts, text, Some(lengths)) {
         Ok(content) => {
@@ -256,6 +262,7 @@ pub fn read(
             store(values[3], rounds, |x| x as Residue);
             store(values[4], challenges, |x| x as u32);
             store(values[5], final_element, |x| x as i32);
+            store(values[6], claims, |x| x as Residue);
             ReadAnswer {
                 number: 0,
                 settings: content.settings,
@@ -275,7 +282,7 @@ fn store<T>(values: &[i64], table: &mut [T], cast: impl Fn(i64) -> T) {
     }
 }
 
-/// The tables of the six parts for the writer.
+/// The tables of the seven parts for the writer.
 struct Tables<'a> {
     key: &'a [Residue],
     message: &'a [i32],
@@ -283,10 +290,11 @@ struct Tables<'a> {
     rounds: &'a [Residue],
     challenges: &'a [u32],
     final_element: &'a [i32],
+    claims: &'a [Residue],
 }
 
 impl Tables<'_> {
-    fn lengths(&self) -> [usize; 6] {
+    fn lengths(&self) -> [usize; PARTS] {
         [
             self.key.len(),
             self.message.len(),
@@ -294,6 +302,7 @@ impl Tables<'_> {
             self.rounds.len(),
             self.challenges.len(),
             self.final_element.len(),
+            self.claims.len(),
         ]
     }
 }
@@ -309,6 +318,7 @@ pub fn write(
     rounds: &[Residue],
     challenges: &[u32],
     final_element: &[i32],
+    claims: &[Residue],
     out: &mut [u8],
 ) -> WriteAnswer {
     let tables = Tables {
@@ -318,6 +328,7 @@ pub fn write(
         rounds,
         challenges,
         final_element,
+        claims,
     };
     answer(write_tables(s, parts, &tables, out))
 }
@@ -336,6 +347,7 @@ fn write_tables(s: Settings, parts: Parts, tables: &Tables, out: &mut [u8]) -> C
     refuse::residues(tables.key, shape.q)?;
     refuse::residues(tables.commitment, shape.q)?;
     refuse::residues(tables.rounds, shape.q)?;
+    refuse::residues(tables.claims, shape.q)?;
     refuse::tall(tables.message, shape.b)?;
     refuse::tall(tables.final_element, 2_147_483_647)?;
     refuse::challenges(tables.challenges, &shape)?;
@@ -403,7 +415,7 @@ fn digits(x: u64) -> usize {
 }
 
 /// Writes the settings and the given parts.
-fn render(s: Settings, sizes: &[(usize, usize); 6], tables: &Tables, sink: &mut impl Sink) {
+fn render(s: Settings, sizes: &[(usize, usize); PARTS], tables: &Tables, sink: &mut impl Sink) {
     sink.bytes(NAMES);
     let [d, l, b, rows] = [s.degree, s.depth, s.bound, s.rows].map(Residue::from);
     render_part(0, 5, &[d, l, s.modulus, b, rows], sink);
@@ -414,6 +426,7 @@ fn render(s: Settings, sizes: &[(usize, usize); 6], tables: &Tables, sink: &mut 
     render_part(4, places[3], tables.rounds, sink);
     render_part(5, places[4], tables.challenges, sink);
     render_part(6, places[5], tables.final_element, sink);
+    render_part(7, places[6], tables.claims, sink);
 }
 
 /// Writes the lines of one part with `places` values to an item.
@@ -446,14 +459,15 @@ pub fn prove(text: &[u8], out: &mut [u8]) -> WriteAnswer {
 }
 
 fn try_prove(text: &[u8], out: &mut [u8]) -> Checked<usize> {
-    let content = read_text([true, true, false, false, true, false], text, None)?;
-    let [key, message, _, _, challenges, _] = content.parts();
+    let content = read_text(PROVE_READS, text, None)?;
+    let [key, message, _, _, challenges, ..] = content.parts();
     let s = content.settings;
     let d = s.degree as usize;
     let mut key = table(key, |x| x as Residue);
     let mut message = table(message, |x| x as i32);
     let challenges = table(challenges, |x| x as u32);
-    let mut rounds = vec![0; refuse::settings(s)?.rounds()];
+    let shape = refuse::settings(s)?;
+    let mut rounds = vec![0; shape.rounds()];
     let opening = whole_opening(s, &mut key, &mut message, &challenges, &mut rounds);
     let commitment = opening.commitment[..s.rows as usize].iter();
     let tables = Tables {
@@ -463,8 +477,9 @@ fn try_prove(text: &[u8], out: &mut [u8]) -> Checked<usize> {
         rounds: &rounds,
         challenges: &challenges,
         final_element: &opening.final_element[..d],
+        claims: &claims(&shape, &rounds, &challenges),
     };
-    write_tables(s, [false, false, true, true, true, true], &tables, out)
+    write_tables(s, PROVE_PRINTS, &tables, out)
 }
 
 /// Call 15.
@@ -477,8 +492,8 @@ pub fn verify(text: &[u8]) -> Verification {
 }
 
 fn try_verify(text: &[u8]) -> Checked<bool> {
-    let content = read_text([true, false, true, true, true, true], text, None)?;
-    let [key, _, commitment, rounds, challenges, final_element] = content.parts();
+    let content = read_text(VERIFY_READS, text, None)?;
+    let [key, _, commitment, rounds, challenges, final_element, written] = content.parts();
     let mut by_value = ZERO_ROWS;
     let elements = commitment.chunks_exact(content.settings.degree as usize);
     for (row, element) in by_value.iter_mut().zip(elements) {
@@ -486,13 +501,18 @@ fn try_verify(text: &[u8]) -> Checked<bool> {
     }
     let mut final_by_value = ZERO_WHOLES;
     store(final_element, &mut final_by_value, |x| x as i32);
+    let shape = refuse::settings(content.settings)?;
+    let rounds = table(rounds, |x| x as Residue);
+    let challenges = table(challenges, |x| x as u32);
     let answer = check(
         content.settings,
         by_value,
         final_by_value,
         &table(key, |x| x as Residue),
-        &table(rounds, |x| x as Residue),
-        &table(challenges, |x| x as u32),
+        &rounds,
+        &challenges,
     );
-    Ok(answer.verdict == ACCEPTED)
+    let found = claims(&shape, &rounds, &challenges);
+    let as_written = found == table(written, |x| x as Residue);
+    Ok(answer.verdict == ACCEPTED && as_written)
 }

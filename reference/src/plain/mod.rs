@@ -13,7 +13,7 @@ mod verifier;
 pub use prover::{commit, fold, prover_end, prover_round, whole_opening};
 pub use relaxed::{extract, judge};
 pub use text::{look, prove, read, verify, write};
-pub use verifier::{check, check_cause, session_end, session_round, session_start};
+pub use verifier::{check, check_cause, claims, session_end, session_round, session_start};
 
 use crate::types::{Residue, Residues, Rows, Settings, PLACES, ZERO_ROWS};
 use ring::{element, Element};

@@ -8,7 +8,7 @@
 //! Nothing here is shared with `refuse` and `admit`, which the fast version
 //! uses.
 
-use crate::types::{Parts, Polynomial, Record, Residue, Residues, Rows, Settings};
+use crate::types::{Parts, Polynomial, Record, Residue, Residues, Rows, Settings, PARTS};
 
 /// A number of the table, and whether it applies.
 pub type Line<'a> = (u32, &'a dyn Fn() -> bool);
@@ -89,6 +89,11 @@ impl Whole {
         self.rows * 3 * count * self.d
     }
 
+    /// The length of the claims: one element a row after each round.
+    fn claims(self) -> i128 {
+        self.rows * self.l * self.d
+    }
+
     /// Branching nodes: 1 + 3 + .. + 3^(L-1).
     fn nodes(self) -> i128 {
         (0..self.l).fold(0, |nodes, _| 3 * nodes + 1)
@@ -162,6 +167,7 @@ pub struct Lengths {
     pub polynomial: usize,
     pub rounds: usize,
     pub challenges: usize,
+    pub claims: usize,
     pub tree_rounds: usize,
     pub tree_challenges: usize,
     pub leaves: usize,
@@ -178,6 +184,7 @@ pub fn lengths(s: Settings) -> Lengths {
         polynomial: w.polynomials(1) as usize,
         rounds: w.polynomials(w.l) as usize,
         challenges: w.l as usize,
+        claims: w.claims() as usize,
         tree_rounds: w.polynomials(w.nodes()) as usize,
         tree_challenges: (3 * w.nodes()) as usize,
         leaves: (w.leaves() * w.d) as usize,
@@ -444,17 +451,24 @@ pub fn extract(tree: &Tree, rejected: &dyn Fn() -> bool) -> u32 {
     ])
 }
 
-/// The wanted lengths of the tables of parts 1 to 6.
-pub fn part_lengths(s: Settings, parts: Parts) -> [usize; 6] {
+/// The wanted lengths of the tables of parts 1 to 7.
+pub fn part_lengths(s: Settings, parts: Parts) -> [usize; PARTS] {
     let w = Whole::of(s);
-    let rounds = w.polynomials(w.l);
-    let wanted = [w.key(), w.table(), w.rows * w.d, rounds, w.l, w.d];
+    let wanted = [
+        w.key(),
+        w.table(),
+        w.rows * w.d,
+        w.polynomials(w.l),
+        w.l,
+        w.d,
+        w.claims(),
+    ];
     std::array::from_fn(|i| if parts[i] { wanted[i] as usize } else { 0 })
 }
 
-/// Values of parts 1 to 6, as a text or tables have them: 8 to 10. A final
+/// Values of parts 1 to 7, as a text or tables have them: 8 to 10. A final
 /// coefficient of -2,147,483,648 only a table can have.
-pub fn values(s: Settings, values: &[Vec<i128>; 6]) -> u32 {
+pub fn values(s: Settings, values: &[Vec<i128>; PARTS]) -> u32 {
     let w = Whole::of(s);
     let beyond = |part: usize, low: i128, high: i128| {
         let mut coefficients = values[part - 1].iter();
@@ -462,7 +476,7 @@ pub fn values(s: Settings, values: &[Vec<i128>; 6]) -> u32 {
     };
     let no_residues = |part: usize| beyond(part, 0, w.q - 1);
     first(&[
-        (8, &|| no_residues(1) || no_residues(3) || no_residues(4)),
+        (8, &|| [1, 3, 4, 7].into_iter().any(no_residues)),
         (9, &|| beyond(2, -w.b, w.b)),
         (9, &|| beyond(6, -2_147_483_647, i128::MAX)),
         (10, &|| beyond(5, 0, 2 * w.d - 1)),

@@ -1,7 +1,7 @@
 //! Text tables: reader, writer, and the two programs as calls on text.
 
 use super::refusals::{self, first};
-use super::{check, shape, whole_opening, Shape};
+use super::{check, claims, shape, whole_opening, Shape};
 use crate::types::*;
 
 /// What is asked for, or the number of a refusal.
@@ -101,8 +101,8 @@ fn text_settings(lines: &[Line]) -> Option<Settings> {
     })
 }
 
-/// Items and places of each of parts 1 to 6.
-fn part_sizes(shape: &Shape) -> [(usize, usize); 6] {
+/// Items and places of each of parts 1 to 7.
+fn part_sizes(shape: &Shape) -> [(usize, usize); PARTS] {
     let Shape { d, l, n, rows, .. } = *shape;
     [
         (rows * n, d),
@@ -111,6 +111,7 @@ fn part_sizes(shape: &Shape) -> [(usize, usize); 6] {
         (rows * 3 * l, d),
         (l, 1),
         (1, d),
+        (rows * l, d),
     ]
 }
 
@@ -189,6 +190,7 @@ pub fn read(
     rounds: &mut [Residue],
     challenges: &mut [u32],
     final_element: &mut [i32],
+    claims: &mut [Residue],
 ) -> ReadAnswer {
     let lengths = [
         key.len(),
@@ -197,6 +199,7 @@ pub fn read(
         rounds.len(),
         challenges.len(),
         final_element.len(),
+        claims.len(),
     ];
     match try_read(parts, text, Some(lengths)) {
         Ok((settings, values)) => {
@@ -206,6 +209,7 @@ pub fn read(
             store(&values[3], rounds);
             store(&values[4], challenges);
             store(&values[5], final_element);
+            store(&values[6], claims);
             ReadAnswer {
                 number: 0,
                 settings,
@@ -227,15 +231,15 @@ fn store<T: TryFrom<i128>>(values: &[i128], table: &mut [T]) {
     }
 }
 
-/// Settings and the values of parts 1 to 6. The programs lend no tables and
+/// Settings and the values of parts 1 to 7. The programs lend no tables and
 /// so have no lengths to test.
 fn try_read(
     parts: Parts,
     text: &[u8],
-    lengths: Option<[usize; 6]>,
-) -> Checked<(Settings, [Vec<i128>; 6])> {
+    lengths: Option<[usize; PARTS]>,
+) -> Checked<(Settings, [Vec<i128>; PARTS])> {
     let Lines { settings, lines } = open_text(text)?;
-    let values = [1, 2, 3, 4, 5, 6].map(|part| part_values(&lines, part));
+    let values = [1, 2, 3, 4, 5, 6, 7].map(|part| part_values(&lines, part));
     let wanted = refusals::part_lengths(settings, parts);
     unrefused(first(&[
         (7, &|| lengths.is_some_and(|found| found != wanted)),
@@ -256,6 +260,7 @@ pub fn write(
     rounds: &[Residue],
     challenges: &[u32],
     final_element: &[i32],
+    claims: &[Residue],
     out: &mut [u8],
 ) -> WriteAnswer {
     let values = [
@@ -265,6 +270,7 @@ pub fn write(
         wide(rounds),
         wide(challenges),
         wide(final_element),
+        wide(claims),
     ];
     match try_write(s, parts, &values, out) {
         Ok(length) => WriteAnswer { number: 0, length },
@@ -276,9 +282,14 @@ fn wide<T: Copy + Into<i128>>(table: &[T]) -> Vec<i128> {
     table.iter().map(|&x| x.into()).collect()
 }
 
-fn try_write(s: Settings, parts: Parts, values: &[Vec<i128>; 6], out: &mut [u8]) -> Checked<usize> {
+fn try_write(
+    s: Settings,
+    parts: Parts,
+    values: &[Vec<i128>; PARTS],
+    out: &mut [u8],
+) -> Checked<usize> {
     unrefused(refusals::settings(s))?;
-    let found = [0, 1, 2, 3, 4, 5].map(|i| values[i].len());
+    let found = values.each_ref().map(Vec::len);
     unrefused(first(&[(7, &|| found != refusals::part_lengths(s, parts))]))?;
     unrefused(refusals::values(s, values))?;
     let text = render(s, &shape(s), parts, values);
@@ -291,7 +302,7 @@ fn try_write(s: Settings, parts: Parts, values: &[Vec<i128>; 6], out: &mut [u8])
 }
 
 /// The text of the settings and the given parts.
-fn render(s: Settings, shape: &Shape, parts: Parts, values: &[Vec<i128>; 6]) -> String {
+fn render(s: Settings, shape: &Shape, parts: Parts, values: &[Vec<i128>; PARTS]) -> String {
     let settings: [i128; 5] = [
         s.degree.into(),
         s.depth.into(),
@@ -320,7 +331,7 @@ fn places<T: Copy + Default>(table: &[T]) -> [T; PLACES] {
     places
 }
 
-/// Call 14: `prove` on a text. Parts 0, 1, 2, 5 become 0, 3, 4, 5, 6.
+/// Call 14: `prove` on a text. Parts 0, 1, 2, 5 become 0, 3, 4, 5, 6, 7.
 pub fn prove(text: &[u8], out: &mut [u8]) -> WriteAnswer {
     match try_prove(text, out) {
         Ok(length) => WriteAnswer { number: 0, length },
@@ -329,7 +340,7 @@ pub fn prove(text: &[u8], out: &mut [u8]) -> WriteAnswer {
 }
 
 fn try_prove(text: &[u8], out: &mut [u8]) -> Checked<usize> {
-    let (s, values) = try_read([true, true, false, false, true, false], text, None)?;
+    let (s, values) = try_read(PROVE_READS, text, None)?;
     let mut key = table(&values[0]);
     let mut message = table(&values[1]);
     let challenges: Vec<u32> = table(&values[4]);
@@ -345,11 +356,13 @@ fn try_prove(text: &[u8], out: &mut [u8]) -> Checked<usize> {
         wide(&rounds),
         wide(&challenges),
         wide(&opening.final_element[..d]),
+        wide(&claims(s, &rounds, &challenges)),
     ];
-    try_write(s, [false, false, true, true, true, true], &written, out)
+    try_write(s, PROVE_PRINTS, &written, out)
 }
 
-/// Call 15: `verify` on a text of parts 0, 1, 3, 4, 5, 6.
+/// Call 15: `verify` on a text of parts 0, 1, 3, 4, 5, 6, 7. A written claim that
+/// is not the one worked out is rejected like a wrong equation.
 pub fn verify(text: &[u8]) -> Verification {
     match try_verify(text) {
         Ok(true) => Verification::Accepted,
@@ -359,19 +372,23 @@ pub fn verify(text: &[u8]) -> Verification {
 }
 
 fn try_verify(text: &[u8]) -> Checked<bool> {
-    let (s, values) = try_read([true, false, true, true, true, true], text, None)?;
+    let (s, values) = try_read(VERIFY_READS, text, None)?;
     let elements = values[2].chunks_exact(s.degree as usize);
     let mut commitment = ZERO_ROWS;
     for (row, element) in commitment.iter_mut().zip(elements) {
         *row = places(&table(element));
     }
+    let rounds: Vec<Residue> = table(&values[3]);
+    let challenges: Vec<u32> = table(&values[4]);
     let answer = check(
         s,
         commitment,
         places(&table(&values[5])),
         &table::<Residue>(&values[0]),
-        &table::<Residue>(&values[3]),
-        &table::<u32>(&values[4]),
+        &rounds,
+        &challenges,
     );
-    Ok(answer.verdict == ACCEPTED)
+    let written: Vec<Residue> = table(&values[6]);
+    let as_written = claims(s, &rounds, &challenges) == written;
+    Ok(answer.verdict == ACCEPTED && as_written)
 }

@@ -83,6 +83,22 @@ pub(super) fn transcript_cause(
     end_cause(shape, &claims, challenges, final_element, key)
 }
 
+/// The claims after each round, one a row, as part 7 of a text has them: worked
+/// out from the round elements and the challenges, whether the rounds hold or
+/// not. For settings that are not refused, and tables of their lengths.
+pub fn claims(s: Settings, rounds: &[Residue], challenges: &[u32]) -> Vec<Residue> {
+    let shape = shape(s);
+    let rounds = elements(rounds, shape.d);
+    let mut claims = Vec::new();
+    for (round, &e) in rounds.chunks(3 * shape.rows).zip(challenges) {
+        for c in by_row(&shape, round) {
+            let claim = next_claim(&shape, &c, e);
+            claims.extend(claim.iter().map(|&x| x as Residue));
+        }
+    }
+    claims
+}
+
 /// Call 6: a session starts at a commitment.
 pub fn session_start(s: Settings, commitment: Rows) -> StartAnswer {
     let (number, record) = match refusals::session_start(s, &commitment) {

@@ -75,21 +75,21 @@ pub fn look(_: &Input, rooms: &mut [Room]) -> u32 {
 }
 
 pub fn read(i: &Input, rooms: &mut [Room]) -> u32 {
-    let [t, s, k, m, c, p, e, f] = rooms else { unreachable!() };
+    let [t, s, k, m, c, p, e, f, a] = rooms else { unreachable!() };
     unsafe {
         wovenrock_read(
             i.parts, t.at(), t.len(), s.at(), s.len(),
-            k.at(), k.len(), m.at(), m.len(), c.at(), c.len(), p.at(), p.len(), e.at(), e.len(), f.at(), f.len(),
+            k.at(), k.len(), m.at(), m.len(), c.at(), c.len(), p.at(), p.len(), e.at(), e.len(), f.at(), f.len(), a.at(), a.len(),
         )
     }
 }
 
 pub fn write(i: &Input, rooms: &mut [Room]) -> u32 {
-    let ((d, l, q, b, r), [k, m, c, p, e, f, out, n]) = (i.settings, rooms) else { unreachable!() };
+    let ((d, l, q, b, r), [k, m, c, p, e, f, a, out, n]) = (i.settings, rooms) else { unreachable!() };
     unsafe {
         wovenrock_write(
             d, l, q, b, r, i.parts,
-            k.at(), k.len(), m.at(), m.len(), c.at(), c.len(), p.at(), p.len(), e.at(), e.len(), f.at(), f.len(),
+            k.at(), k.len(), m.at(), m.len(), c.at(), c.len(), p.at(), p.len(), e.at(), e.len(), f.at(), f.len(), a.at(), a.len(),
             out.at(), out.len(), n.at(),
         )
     }

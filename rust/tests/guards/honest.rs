@@ -11,6 +11,8 @@ pub struct Opening {
     pub rounds: Vec<u64>,
     pub commitment: Vec<u64>,
     pub last: Vec<i32>,
+    /// The claims after each round.
+    pub claims: Vec<u64>,
     /// The message as L folds leave it.
     pub folded: Vec<i32>,
 }
@@ -51,7 +53,15 @@ impl Opening {
         let tables = (&mut folded_key, &mut folded);
         let opened = open(settings, tables.0, tables.1, &challenges, &mut rounds).unwrap();
         assert!(opened.verdict.is_accepted());
+        let mut session = Session::start(settings, &opened.commitment).unwrap();
+        let mut claims = Vec::new();
+        let polynomials = rounds.chunks(settings.polynomial_len());
+        for (polynomial, &challenge) in polynomials.zip(&challenges) {
+            assert!(session.round(polynomial, challenge).unwrap().holds());
+            claims.extend_from_slice(&session.claims());
+        }
         Opening {
+            claims,
             settings,
             key,
             message,
@@ -95,7 +105,7 @@ impl Opening {
         session.save().to_vec()
     }
 
-    /// The six tables of a text, those of absent parts of length 0.
+    /// The seven tables of a text, those of absent parts of length 0.
     pub fn parts(&self, parts: u32) -> Vec<Table> {
         let mut tables = vec![
             Table::u64("key", Use::Read, &self.key),
@@ -104,6 +114,7 @@ impl Opening {
             Table::u64("rounds", Use::Read, &self.rounds),
             Table::u32("challenges", Use::Read, &self.challenges),
             Table::i32("last", Use::Read, &self.last),
+            Table::u64("claims", Use::Read, &self.claims),
         ];
         for (i, table) in tables.iter_mut().enumerate() {
             if parts >> i & 1 == 0 {
@@ -143,7 +154,7 @@ impl Opening {
             done: 0,
             exponent: self.challenges.first().copied().unwrap_or(0),
             slack: s.slack(),
-            parts: 63,
+            parts: 127,
             tables,
         }
     }

@@ -324,7 +324,11 @@ pub fn of_relaxed(o: &Opening, answer: u32) -> Vec<Scenario> {
 
 /// The parts of the texts that `prove` and `verify` read.
 const PROVED: u32 = 1 + 2 + 16;
-const VERIFIED: u32 = 1 + 4 + 8 + 16 + 32;
+const VERIFIED: u32 = 1 + 4 + 8 + 16 + 32 + 64;
+
+/// The parts of the text that `prove` writes, and all parts.
+const PRINTED: u32 = 4 + 8 + 16 + 32 + 64;
+const ALL: u32 = 127;
 
 pub fn of_text(o: &Opening) -> Vec<Scenario> {
     let s = o.settings;
@@ -347,6 +351,18 @@ pub fn of_text(o: &Opening) -> Vec<Scenario> {
             (10, line(from, format!("{to}{}\n", s.exponents())))
         })
     };
+    // A claim that is no residue, and the claims missing.
+    let claim = || {
+        o.claims.first().map(|&claim| {
+            let (from, to) = first(7, claim as i64);
+            (8, line(from, format!("{to}{q}\n")))
+        })
+    };
+    let no_claims = || {
+        let all = o.text(64);
+        let claims = all.find("\n7 ").map(|at| all[at..].to_string());
+        claims.map(|claims| (7, line(claims, "\n")))
+    };
     // A line of the key that is missing.
     let missing = || line(format!("\n1 0 0 {}\n", o.key[0]), "\n");
     let parts = |value| change(move |i| i.parts = value);
@@ -356,20 +372,25 @@ pub fn of_text(o: &Opening) -> Vec<Scenario> {
         (2, line("\n2 0 0 ", "\n2 0 0 4294967296")),
         (2, line("\n1 0 0 ", "\n1 0 0 2305843009213693952")),
         (7, missing()),
-        (7, parts(62)),
-        (7, parts(64 + 63)),
-        (7, parts((1 << 31) + 63)),
+        (7, parts(ALL - 1)),
+        (7, parts(128 + ALL)),
+        (7, parts((1 << 31) + ALL)),
         (8, residue()),
         (9, tall()),
     ]);
     read.extend(challenge());
+    read.extend(claim());
+    read.extend(no_claims());
+    if s.depth() > 0 {
+        read.push((7, parts(ALL - 64)));
+    }
     let blank = |t: Table| t.used(Use::Written);
-    let tables = o.parts(63).into_iter().map(blank);
-    let reading = [vec![text(63), settings()], tables.collect()].concat();
+    let tables = o.parts(ALL).into_iter().map(blank);
+    let reading = [vec![text(ALL), settings()], tables.collect()].concat();
 
     let mut write = settings_and(vec![
-        (7, parts(62)),
-        (7, parts(64 + 63)),
+        (7, parts(ALL - 1)),
+        (7, parts(128 + ALL)),
         (8, number(0, 0, q as i64)),
         (8, number(2, 0, q as i64)),
         (9, number(1, 0, i64::from(s.bound()) + 1)),
@@ -377,19 +398,19 @@ pub fn of_text(o: &Opening) -> Vec<Scenario> {
     ]);
     if s.depth() > 0 {
         write.push((10, number(4, 0, i64::from(s.exponents()))));
+        write.push((7, parts(ALL - 64)));
+        write.push((8, number(6, o.claims.len() - 1, q as i64)));
     }
     let out = |parts| Table::bytes("out", Use::Out, &vec![1; o.text(parts).len()]);
-    let writing = [o.parts(63), vec![out(63), Table::single("count", 8)]].concat();
+    let writing = [o.parts(ALL), vec![out(ALL), Table::single("count", 8)]].concat();
 
     let mut prove = text_and(vec![(7, missing()), (8, residue()), (9, tall())]);
     prove.extend(challenge());
-    let proving = vec![
-        text(PROVED),
-        out(4 + 8 + 16 + 32),
-        Table::single("count", 8),
-    ];
+    let proving = vec![text(PROVED), out(PRINTED), Table::single("count", 8)];
     let mut verify = text_and(vec![(7, missing()), (8, residue())]);
     verify.extend(challenge());
+    verify.extend(claim());
+    verify.extend(no_claims());
     let verifying = vec![text(VERIFIED), Table::single("verdict", 4)];
     vec![
         scenario(
@@ -412,7 +433,7 @@ pub fn of_long_text(o: &Opening) -> Scenario {
     let q = o.settings.modulus() as i64;
     let faults = settings_and(vec![
         (7, change(|i| i.parts = 0)),
-        (7, change(|i| i.parts = 65)),
+        (7, change(|i| i.parts = 129)),
         (8, number(0, 0, q)),
     ]);
     let out = vec![

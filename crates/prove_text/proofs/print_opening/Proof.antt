@@ -11,16 +11,20 @@ use Rattle.protocol.specs.declared.Settings.{Settings}
 use Rattle.protocol.specs.Layout.{rowsWidth}
 use Rattle.protocol.specs.Opening.{commitment}
 use Rattle.protocol.specs.Rows.{keyRow, atRows, roundTables, transcriptsOf}
+use Rattle.protocol.specs.WrittenClaims.{claimTable}
 use Rattle.protocol.specs.Basic.{Provided}
+use Rattle.protocol.specs.Settings.{settingsRefusal}
 use Rattle.protocol.specs.Calls.{openingRefusal}
 use Rattle.protocol.specs.Text.{textOf}
 use Rattle.protocol.specs.Programs.{printed}
 use Rattle.protocol.proofs.Inputs.{valid-settings}
 use Rattle.claims.proofs.Honest.{opening-granted, opening-commitment, opening-last, opening-rounds}
+use Rattle.claim_tables.specs.Claims.{claimed, claimsRoom, Given}
+use Rattle.claim_tables.proofs.Claiming.{claims-few}
 use Rattle.text_parts.specs.Parts.{tablesOf}
 use Rattle.table_writer.specs.Tables.{Writable, Output}
 use Rattle.prove_text.specs.Printed.{Openable}
-use Rattle.prove_text.proofs.Honest.{given, commitment-flat, last-front, honest-writable, printed-by}
+use Rattle.prove_text.proofs.Honest.{given, commitment-flat, claims-same, claims-given, last-front, honest-writable, printed-by}
 use Rattle.prove_text.proofs.print_opening.Statement.{statement}
 use Rattle.prove_text.proofs.print_opening.Tie as tie
 
@@ -63,7 +67,7 @@ module _ (c : tie.After-opened) where
 -- the commitment as a table
 module _ (c : tie.After-item-cells) where
   abbrev made : tie.After-flat
-  made = c .before .before
+  made = c .before .before .before .before .before
 
   abbrev from : tie.After-opened
   from = made .before .before .before .before .before .before .before
@@ -74,11 +78,32 @@ module _ (c : tie.After-item-cells) where
   room : count ≤ rowsWidth
   room = c .item-cells .ensures .1
 
+  allowed : settingsRefusal (S from) ≡ 0
+  allowed = valid-settings (S from) (ok from .settings)
+
   commitment-given : take count (made .flat .result) ≡ transcriptsOf (S from) (G from) (M from) (E from) .commitment
   commitment-given =
-      let allowed = valid-settings (S from) (ok from .settings) in
       ap (λ n. take n (made .flat .result)) (c .item-cells .ensures .0 allowed) ∙ made .flat .ensures allowed
       ∙ commitment-flat (S from) (G from) (M from) (E from) (R from) (ok from) _ (commitment-value from)
+
+  -- the claims of its rounds and challenges
+  abbrev claimed-in : tie.After-claims-of
+  claimed-in = c .before .before
+
+  abbrev claim-count : ℕ
+  claim-count = c .before .claim-cells .result
+
+  claim-room : claim-count ≤ claimsRoom
+  claim-room = omega (arith, claims-few (S from) allowed, c .before .claim-cells .ensures allowed)
+
+  claims-are : take claim-count (claimed-in .claims-of .result) ≡ claimTable (S from) (transcriptsOf (S from) (G from) (M from) (E from))
+  claims-are =
+      let rounds = rounds-given from in
+      let own = claims-given (S from) (G from) (M from) (E from) (R from) (ok from) in
+      ap (λ n. take n (claimed-in .claims-of .result)) (c .before .claim-cells .ensures allowed)
+      ∙ claimed-in .claims-of .ensures (subst (Given (S from)) (sym rounds) own)
+      ∙ ap (λ r. claimTable (S from) (claimed r (E from))) rounds
+      ∙ claims-same (S from) (G from) (M from) (E from) (R from) (ok from)
 
 slice-aggregate-write-tables-3 : tie.Need-slice-aggregate-write-tables-3
 slice-aggregate-write-tables-3 c =
@@ -87,23 +112,49 @@ slice-aggregate-write-tables-3 c =
     sym (length-take-le _ _ (omega (arith, room i)))
 
 array-share-prefix-last : tie.Need-array-share-prefix-last
-array-share-prefix-last c = last-given (c .before .before .before .before .before .before .before .before .before .before .before .before .before .before .before) .0
+array-share-prefix-last c = last-given (c .before .before .before .before .before .before .before .before .before .before .before .before .before .before .before .before .before .before) .0
 
 slice-aggregate-write-tables-4 : tie.Need-slice-aggregate-write-tables-4
-slice-aggregate-write-tables-4 c = sym (length-take-le _ _ (last-given (c .before .before .before .before .before .before .before .before .before .before .before .before .before .before .before .before) .0))
+slice-aggregate-write-tables-4 c = sym (length-take-le _ _ (last-given (c .before .before .before .before .before .before .before .before .before .before .before .before .before .before .before .before .before .before .before) .0))
+
+claims-long : (i : tie.After-item-cells) → length (claimed-in i .claims-of .result) ≡ claimsRoom
+claims-long i = search needs
+
+array-share-prefix-claims : tie.Need-array-share-prefix-claims
+array-share-prefix-claims c = let i = c .before .before .before .before .before .before .before in omega (arith, claim-room i, claims-long i)
+
+slice-aggregate-write-tables-5 : tie.Need-slice-aggregate-write-tables-5
+slice-aggregate-write-tables-5 c = let i = c .before .before .before .before .before .before .before .before in sym (length-take-le _ _ (omega (arith, claim-room i, claims-long i)))
+
+-- the opening keeps the lengths of its tables
+opening-of : tie.After-slice-known6 → tie.After-opened
+opening-of c = from (c .before .before .before .before .before .before .before .before .before .before .before .before)
+
+same-length : tie.Need-same-length
+unfolding opening-of
+same-length c = opening-of c .opened .kept .1 .0
+
+same-length-2 : tie.Need-same-length-2
+unfolding opening-of
+same-length-2 c = opening-of c .opened .kept .1 .1 .0
+
+same-length-3 : tie.Need-same-length-3
+unfolding opening-of
+same-length-3 c = opening-of c .opened .kept .1 .1 .1 .1 .0
 
 returns : tie.Need-returns
 unfolding printed transcriptsOf
 returns c =
     let w = c .before .before in
-    let p = c .before .before .before .before .before .before .before .before .before in
+    let p = c .before .before .before .before .before .before .before .before .before .before in
     let i = p .before .before in
     let o = from i in
-    let u = tablesOf [] [] (take (count i) (made i .flat .result)) (o .opened .last .1 .1 .1 .1 .0) (E o) (take (S o .degree) (o .opened .result .last)) in
+    let u = tablesOf [] [] (take (count i) (made i .flat .result)) (o .opened .last .1 .1 .1 .1 .0) (E o) (take (S o .degree) (o .opened .result .last))
+    (take (claim-count i) (claimed-in i .claims-of .result)) in
     let out = start o .args .out .now in
     let r = w .write-tables .result in
-    let out′ = w .write-tables .last .1 .1 .1 .1 .1 .1 .1 .1 .0 in
-    let same : u ≡ printed (transcriptsOf (S o) (G o) (M o) (E o)) = λ j. tablesOf [] [] (commitment-given i j) (rounds-given o j) (E o) (last-given o .1 j) in
+    let out′ = w .write-tables .last .1 .1 .1 .1 .1 .1 .1 .1 .1 .0 in
+    let same : u ≡ printed (S o) (transcriptsOf (S o) (G o) (M o) (E o)) = λ j. tablesOf [] [] (commitment-given i j) (rounds-given o j) (E o) (last-given o .1 j) (claims-are i j) in
     printed-by (S o) (G o) (M o) (E o) (R o) (ok o) u same out r out′
     (subst (λ P. Provided (Writable (S o) P u) (Output (textOf (S o) P u) out r out′)) (p .prints .ensures) (w .write-tables .ensures)
     (honest-writable (S o) (G o) (M o) (E o) (R o) (ok o) u same))
@@ -111,6 +162,6 @@ returns c =
 pub print-opening-spec : {M : Type 1} → statement M
 print-opening-spec =
     tie.close
-    (tie.spec (λ c κs. search needs) (λ c κs. search needs) (λ c κs. search needs) (λ c. search needs) (λ c κs. search needs) (λ c. search needs)
+    (tie.spec (λ c κs. search needs) (λ c κs. search needs) (λ c κs. search needs) (λ c κs. search needs) (λ c κs. search needs) (λ c. search needs) (λ c κs. search needs) (λ c. search needs)
     (λ c. search needs) (λ c. search needs) (λ c. search needs) (λ c. search needs) slice-aggregate-write-tables-3 array-share-prefix-last
-    slice-aggregate-write-tables-4 (λ c κs. search needs) (λ c. search needs) (λ c. search needs) (λ c. search needs) (λ c. search needs) returns)
+    slice-aggregate-write-tables-4 array-share-prefix-claims slice-aggregate-write-tables-5 (λ c κs. search needs) same-length same-length-2 same-length-3 (λ c. search needs) returns)

@@ -18,29 +18,29 @@ use Rattle.prove_text.proofs.prove_in.Tie as tie
 
 module _ (c : tie.After-read-tables) where
   abbrev start : tie.Start
-  start = c .before .before .before .before .before .before .before .before .before .before .before .before .before
+  start = c .before .before .before .before .before .before .before .before .before .before .before .before .before .before
 
   abbrev text : List ℕ
   text = start .args .text .now
 
   abbrev t : Tables
-  t = tablesOf (start .args .key .now) (start .args .message .now) [] [] (start .args .challenges .now) []
+  t = tablesOf (start .args .key .now) (start .args .message .now) [] [] (start .args .challenges .now) [] []
 
   abbrev t′ : Tables
   t′ =
       let l = c .read-tables .last .1 .1 .1 .1 in
-      tablesOf (l .0) (l .1 .0) (l .1 .1 .0) (l .1 .1 .1 .0) (l .1 .1 .1 .1 .0) (l .1 .1 .1 .1 .1 .0)
+      tablesOf (l .0) (l .1 .0) (l .1 .1 .0) (l .1 .1 .1 .0) (l .1 .1 .1 .1 .0) (l .1 .1 .1 .1 .1 .0) (l .1 .1 .1 .1 .1 .1 .0)
 
   fit : Lent proveReads text t
   fit = start .pre .0
 
   promise : Read proveReads text t (c .read-tables .result) t′
-  promise = subst (λ P. Read P text t (c .read-tables .result) t′) (c .before .before .before .before .before .before .before .reads .ensures) (c .read-tables .ensures (start .pre .1 .1))
+  promise = subst (λ P. Read P text t (c .read-tables .result) t′) (c .before .before .before .before .before .before .before .before .reads .ensures) (c .read-tables .ensures (start .pre .1 .1))
 
 -- a text that is not refused
 module _ (c : tie.Else1) where
   abbrev got : tie.After-read-tables
-  got = c .before .before .before .before .before .before .before .before .before
+  got = c .before .before .before .before .before .before .before .before .before .before
 
   abbrev S : Settings
   S = got .read-tables .result .settings
@@ -58,11 +58,12 @@ module _ (c : tie.Else1) where
       let rounds : length (t′ got .rounds) ≡ 0 = search needs in
       let challenges : length (t′ got .challenges) ≡ length (a .challenges .now) = search needs in
       let last : length (t′ got .last) ≡ 0 = search needs in
-      λ j. key j ∷ message j ∷ commitment j ∷ rounds j ∷ challenges j ∷ last j ∷ []
+      let claims : length (t′ got .claims) ≡ 0 = search needs in
+      λ j. key j ∷ message j ∷ commitment j ∷ rounds j ∷ challenges j ∷ last j ∷ claims j ∷ []
 
 returns : tie.Need-returns
 returns c =
-    let r = c .before .before .before .before .before .before .before .before .before in
+    let r = c .before .before .before .before .before .before .before .before .before .before in
     prove-refused (text r) (start r .args .out .now) (r .read-tables .result .refusal) (c .if1 .taken) (sym (number-is (text r) proveReads (t r) (t′ r) (fit r) (r .read-tables .result) (promise r)))
 
 print-opening-requires : tie.Need-print-opening-requires
@@ -89,6 +90,6 @@ returns-2 c =
 pub prove-in-spec : {M : Type 1} → statement M
 prove-in-spec =
     tie.close
-    (tie.spec (λ c κs. search needs) (λ c. search needs) (λ c. search needs) (λ c. search needs) (λ c. search needs) (λ c. search needs)
+    (tie.spec (λ c κs. search needs) (λ c. search needs) (λ c. search needs) (λ c. search needs) (λ c. search needs) (λ c. search needs) (λ c. search needs) (λ c. search needs)
     (λ c. search needs) (λ c κs. search needs) (λ c. search needs) (λ c. search needs) (λ c. search needs) returns print-opening-requires
     (λ c. search needs) (λ c. search needs) (λ c. search needs) (λ c. search needs) (λ c. search needs) returns-2)

@@ -135,7 +135,7 @@ prove-in-requires c κs =
     let G = take (key-lent k) (a .key .now) in
     let M = take (message-lent k) (a .message .now) in
     let E = take (S k .depth) (a .challenges .now) in (
-      λ e same. ap (λ x. fits x proveReads (tablesOf G M [] [] E [])) (sym (same-settings k e))
+      λ e same. ap (λ x. fits x proveReads (tablesOf G M [] [] E [] [])) (sym (same-settings k e))
           ∙ lent-fitting (S k) G M E (length-take-le _ _ (key-room k) ∙ key-whole k e same) (length-take-le _ _ (message-room k) ∙ message-whole k e same)
           (length-take-le _ _ (challenges-room k)),
       (λ e same. length-take-le _ _ (rounds-room k) ∙ rounds-whole k e same ∙ ap roundCells (same-settings k e), begins k),

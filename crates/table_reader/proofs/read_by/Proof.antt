@@ -14,7 +14,7 @@ use Rattle.table_reader.proofs.read_by.Tie as tie
 
 module _ (c : tie.After-read-values) where
   abbrev start : tie.Start
-  start = c .before .before .before .before .before .before .before
+  start = c .before .before .before .before .before .before .before .before
 
   abbrev P : Parts
   P = start .args .parts
@@ -23,7 +23,7 @@ module _ (c : tie.After-read-values) where
   text = start .args .text .now
 
   abbrev t : Tables
-  t = tablesOf (start .args .key .now) (start .args .message .now) (start .args .commitment .now) (start .args .rounds .now) (start .args .challenges .now) (start .args .last .now)
+  t = tablesOf (start .args .key .now) (start .args .message .now) (start .args .commitment .now) (start .args .rounds .now) (start .args .challenges .now) (start .args .last .now) (start .args .claims .now)
 
   abbrev values : List ℤ
   values = c .read-values .last .1 .1 .1 .1 .1 .0
@@ -51,22 +51,22 @@ returns-2 c b =
 all-requires : tie.Need-all-requires
 unfolding lengthsOf
 all-requires c κs =
-    let f = c .before .before .before .before .before .before .before .before in
+    let f = c .before .before .before .before .before .before .before .before .before in
     f .before .before .before .before .before .read-values .ensures .1 (f .before .before .if1 .left)
 
 returns-3 : tie.Need-returns-3
 unfolding lengthsOf
 returns-3 c b =
-    let a = c .before .before .before .before .before .before .before .before .before .before in
-    let f = a .before .before .before .before .before .before .before .before .before in
+    let a = c .before .before .before .before .before .before .before .before .before .before .before .before in
+    let f = a .before .before .before .before .before .before .before .before .before .before in
     let g = f .before .before .before .before .before in
     let r = g .read-values .result in
     let none = f .before .before .if1 .left in
     read-done (P g) (text g) (t g) r (values g) (gathered g b) none (f .refusal .result) (f .refusal .ensures (read-allowed (P g) (text g) (t g) r (values g) (gathered g b) none))
-    (a .before .before .before .before .before .before .before .before .if2 .left) _ (a .all .ensures)
+    (a .before .before .before .before .before .before .before .before .before .if2 .left) _ (a .all .ensures)
 
 pub read-by-spec : {M : Type 1} → statement M
 read-by-spec =
     tie.close
     (tie.spec (λ c κs. search needs) (λ c. search needs) returns refusal-requires (λ c κs. search needs) (λ c. search needs) returns-2 all-requires
-    (λ c. search needs) (λ c. search needs) (λ c. search needs) (λ c. search needs) (λ c. search needs) (λ c. search needs) (λ c. search needs) returns-3)
+    (λ c. search needs) (λ c. search needs) (λ c. search needs) (λ c. search needs) (λ c. search needs) (λ c. search needs) (λ c. search needs) (λ c. search needs) returns-3)

@@ -12,8 +12,8 @@ returns : tie.Need-returns
 unfolding partsNamed
 returns c =
     let at-refusal = c .before in
-    let a = at-refusal .before .before .before .before .before .before .args in
-    write-unfit (a .settings) (a .parts) (tablesOf (a .key .now) (a .message .now) (a .commitment .now) (a .rounds .now) (a .challenges .now) (a .last .now)) (a .out .now) _
+    let a = at-refusal .before .before .before .before .before .before .before .args in
+    write-unfit (a .settings) (a .parts) (tablesOf (a .key .now) (a .message .now) (a .commitment .now) (a .rounds .now) (a .challenges .now) (a .last .now) (a .claims .now)) (a .out .now) _
     (at-refusal .refusal .ensures) (c .if1 .taken)
 
 parts-of-requires : tie.Need-parts-of-requires
@@ -32,8 +32,8 @@ returns-2 c =
     let at-parts-of = at-write .before .before in
     let at-if1 = at-parts-of .before in
     let at-refusal = at-if1 .before in
-    let a = at-refusal .before .before .before .before .before .before .args in
-    write-made (a .settings) (a .parts) (tablesOf (a .key .now) (a .message .now) (a .commitment .now) (a .rounds .now) (a .challenges .now) (a .last .now)) (a .out .now) _
+    let a = at-refusal .before .before .before .before .before .before .before .args in
+    write-made (a .settings) (a .parts) (tablesOf (a .key .now) (a .message .now) (a .commitment .now) (a .rounds .now) (a .challenges .now) (a .last .now) (a .claims .now)) (a .out .now) _
     (at-refusal .refusal .ensures) (at-if1 .if1 .left) _ (at-parts-of .parts-of .ensures) _ _ (at-write .write .ensures)
 
 pub write-spec : {M : Type 1} → statement M

@@ -21,17 +21,21 @@ use Rattle.text_parts.proofs.shape_of.Tie as tie
 shifted : (depth : ℕ) → depth ≤ 8 → (1 * 2 ^ depth) % 2 ^ 32 ≡ 2 ^ depth
 shifted depth h = ap (λ x. x % 2 ^ 32) (Nat.one-mul (2 ^ depth)) ∙ Nat.mod-eq-of-lt (omega (arith, pow-mono h))
 
--- a number that is none of 1 to 6
-none-such : (S : Settings) (P : Parts) (k : ℕ) → (1 ≤ k → 7 ≤ k) → partShape S P k ≡ settingsShape
+-- a number that is none of 1 to 7
+abbrev Not : ℕ → ℕ → Type 0
+Not k n = k ≡ n → ⊥
+
+none-such : (S : Settings) (P : Parts) (k : ℕ) → ((((((Unit {0} × Not k 1) × Not k 2) × Not k 3) × Not k 4) × Not k 5) × Not k 6) × Not k 7 → partShape S P k ≡ settingsShape
 unfolding partShape shapes
 none-such S P zero h = refl
-none-such S P (suc zero) h = absurd (omega (arith, h (omega arith)))
-none-such S P (suc (suc zero)) h = absurd (omega (arith, h (omega arith)))
-none-such S P (suc (suc (suc zero))) h = absurd (omega (arith, h (omega arith)))
-none-such S P (suc (suc (suc (suc zero)))) h = absurd (omega (arith, h (omega arith)))
-none-such S P (suc (suc (suc (suc (suc zero))))) h = absurd (omega (arith, h (omega arith)))
-none-such S P (suc (suc (suc (suc (suc (suc zero)))))) h = absurd (omega (arith, h (omega arith)))
-none-such S P (suc (suc (suc (suc (suc (suc (suc k))))))) h = refl
+none-such S P (suc zero) h = absurd (h .0 .0 .0 .0 .0 .0 .1 refl)
+none-such S P (suc (suc zero)) h = absurd (h .0 .0 .0 .0 .0 .1 refl)
+none-such S P (suc (suc (suc zero))) h = absurd (h .0 .0 .0 .0 .1 refl)
+none-such S P (suc (suc (suc (suc zero)))) h = absurd (h .0 .0 .0 .1 refl)
+none-such S P (suc (suc (suc (suc (suc zero))))) h = absurd (h .0 .0 .1 refl)
+none-such S P (suc (suc (suc (suc (suc (suc zero)))))) h = absurd (h .0 .1 refl)
+none-such S P (suc (suc (suc (suc (suc (suc (suc zero))))))) h = absurd (h .1 refl)
+none-such S P (suc (suc (suc (suc (suc (suc (suc (suc k)))))))) h = refl
 
 -- the part of a number whose items can be counted
 named : (S : Settings) (P : Parts) (k n : ℕ) (b : Shape) → S .depth ≤ 8 → S .rows ≤ rowsMost → k ≡ n → b ≡ partShape S P n → b ≡ partOf S P k
@@ -54,6 +58,9 @@ mul-part-of c =
 
 mul-part-of-3 : tie.Need-mul-part-of-3
 mul-part-of-3 c = let S = c .before .before .before .args .settings in items-fit (S .rows) _ (omega arith) (omega arith)
+
+mul-part-of-4 : tie.Need-mul-part-of-4
+mul-part-of-4 c = let S = c .before .before .before .args .settings in items-fit (S .rows) _ (omega arith) (omega arith)
 
 returns-3 : tie.Need-returns-3
 unfolding partShape shapes size
@@ -98,14 +105,21 @@ returns-8 c =
     named (a .settings) (a .parts) (a .part) 6 _ deep (omega arith) (c .before .match .keys6) (c .part-of6 .ensures)
 
 returns-9 : tie.Need-returns-9
+unfolding partShape shapes size
 returns-9 c =
     let a = c .before .before .before .before .args in
+    let deep : a .settings .depth ≤ 8 = omega arith in
+    named (a .settings) (a .parts) (a .part) 7 _ deep (omega arith) (c .before .match .keys7) (c .part-of7 .ensures)
+
+returns-10 : tie.Need-returns-10
+returns-10 c =
+    let a = c .before .before .before .before .args in
     named (a .settings) (a .parts) (a .part) (a .part) _ (omega arith) (omega arith) refl
-    (c .settings-shape3 .ensures ∙ sym (none-such (a .settings) (a .parts) (a .part) (λ l. omega arith)))
+    (c .settings-shape3 .ensures ∙ sym (none-such (a .settings) (a .parts) (a .part) (c .before .match .rest)))
 
 pub shape-of-spec : {M : Type 1} → statement M
 shape-of-spec =
     tie.close
     (tie.spec (λ c κs. search needs) returns (λ c. search needs) (λ c κs. search needs) returns-2 (λ c. search needs) mul-part-of (λ c κs. search needs)
     (λ c. search needs) (λ c κs. search needs) (λ c κs. search needs) (λ c. search needs) mul-part-of-3 (λ c κs. search needs) (λ c κs. search needs)
-    (λ c κs. search needs) (λ c κs. search needs) returns-3 returns-4 returns-5 returns-6 returns-7 returns-8 returns-9)
+    (λ c κs. search needs) mul-part-of-4 (λ c κs. search needs) (λ c κs. search needs) returns-3 returns-4 returns-5 returns-6 returns-7 returns-8 returns-9 returns-10)

@@ -11,7 +11,7 @@ use Rattle.text_parts.proofs.tested_by.Tie as tie
 
 returns : tie.Need-returns
 unfolding testedBy
-returns c = sym (List·getD-eq-default (8 ∷ 9 ∷ 8 ∷ 8 ∷ 10 ∷ 0 ∷ []) 0 {n = c .before .args .k} (omega arith))
+returns c = sym (List·getD-eq-default (8 ∷ 9 ∷ 8 ∷ 8 ∷ 10 ∷ 0 ∷ 8 ∷ []) 0 {n = c .before .args .k} (omega arith))
 
 returns-2 : tie.Need-returns-2
 unfolding testedBy

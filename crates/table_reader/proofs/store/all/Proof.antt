@@ -18,14 +18,14 @@ module _ (c : tie.Start) where
   values = c .args .values .now
 
   abbrev n : List ℕ
-  n = lengthsOf (tablesOf (c .args .key .now) (c .args .message .now) (c .args .commitment .now) (c .args .rounds .now) (c .args .challenges .now) (c .args .last .now))
+  n = lengthsOf (tablesOf (c .args .key .now) (c .args .message .now) (c .args .commitment .now) (c .args .rounds .now) (c .args .challenges .now) (c .args .last .now) (c .args .claims .now))
 
   room : total n ≤ length values
   room = c .pre
 
 -- the entry, from each of the calls
 at-key : tie.After-residues → tie.Start
-at-key c = c .before .before .before .before .before .before
+at-key c = c .before .before .before .before .before .before .before
 
 at-message : tie.After-signed → tie.Start
 at-message c = at-key (c .before .before .before .before)
@@ -38,6 +38,9 @@ at-rounds c = at-commitment (c .before .before .before .before)
 
 at-challenges : tie.After-exponents → tie.Start
 at-challenges c = at-rounds (c .before .before .before .before)
+
+at-last : tie.After-signed2 → tie.Start
+at-last c = at-challenges (c .before .before .before .before)
 
 -- the place behind each table
 key-end : (c : tie.After-residues) → c .residues .result ≡ start (n (at-key c)) 1
@@ -60,9 +63,13 @@ challenges-end : (c : tie.After-exponents) → c .exponents .result ≡ start (n
 unfolding at-challenges at-rounds at-commitment at-message at-key start total lengthsOf
 challenges-end c = c .exponents .ensures .0 ∙ ap (λ a. a + length (at-challenges c .args .challenges .now)) (rounds-end (c .before .before .before .before))
 
+last-end : (c : tie.After-signed2) → c .signed2 .result ≡ start (n (at-last c)) 6
+unfolding at-last at-challenges at-rounds at-commitment at-message at-key start total lengthsOf
+last-end c = c .signed2 .ensures .0 ∙ ap (λ a. a + length (at-last c .args .last .now)) (challenges-end (c .before .before .before .before))
+
 residues-requires : tie.Need-residues-requires
 unfolding start total lengthsOf
-residues-requires c κs = omega (arith, room (c .before .before .before .before .before))
+residues-requires c κs = omega (arith, room (c .before .before .before .before .before .before))
 
 signed-requires : tie.Need-signed-requires
 unfolding at-key start total lengthsOf
@@ -84,10 +91,15 @@ signed-requires-2 : tie.Need-signed-requires-2
 unfolding at-challenges at-rounds at-commitment at-message at-key start total lengthsOf
 signed-requires-2 c κs = let h = c .before .before .before in omega (arith, room (at-challenges h), challenges-end h)
 
+residues-requires-4 : tie.Need-residues-requires-4
+unfolding at-last at-challenges at-rounds at-commitment at-message at-key start total lengthsOf
+residues-requires-4 c κs = let l = c .before .before in omega (arith, room (at-last l), last-end l)
+
 returns : tie.Need-returns
-unfolding at-challenges at-rounds at-commitment at-message at-key start cutTables narrowTables lengthsOf
+unfolding at-last at-challenges at-rounds at-commitment at-message at-key start cutTables narrowTables lengthsOf
 returns c =
-    let l = c .before in
+    let v = c .before .before in
+    let l = v .before .before .before in
     let h = l .before .before .before .before in
     let r = h .before .before .before .before in
     let p = r .before .before .before .before in
@@ -100,10 +112,12 @@ returns c =
     let rounds = r .residues3 .ensures .1 ∙ ap (λ from. map (unsigned valueLimit) (cut from (length (a .rounds .now)) vs)) (commitment-end p) in
     let challenges = h .exponents .ensures .1 ∙ ap (λ from. map (unsigned narrowLimit) (cut from (length (a .challenges .now)) vs)) (rounds-end r) in
     let last = l .signed2 .ensures .1 ∙ ap (λ from. map narrowed (cut from (length (a .last .now)) vs)) (challenges-end h) in
-    λ j. tablesOf (k .residues .ensures .1 j) (message j) (commitment j) (rounds j) (challenges j) (last j)
+    let claims = v .residues4 .ensures .1 ∙ ap (λ from. map (unsigned valueLimit) (cut from (length (a .claims .now)) vs)) (last-end l) in
+    λ j. tablesOf (k .residues .ensures .1 j) (message j) (commitment j) (rounds j) (challenges j) (last j) (claims j)
 
 pub all-spec : {M : Type 1} → statement M
 all-spec =
     tie.close
-    (tie.spec residues-requires signed-requires residues-requires-2 residues-requires-3 exponents-requires signed-requires-2 (λ c. search needs)
+    (tie.spec residues-requires signed-requires residues-requires-2 residues-requires-3 exponents-requires signed-requires-2 residues-requires-4 (λ c. search needs)
+    (λ c. search needs)
     (λ c. search needs) (λ c. search needs) (λ c. search needs) (λ c. search needs) (λ c. search needs) returns)

@@ -23,7 +23,7 @@ unfolding first
 last-flat zero rest = first-only (first rest)
 last-flat (suc x) rest = refl
 
-allowed : (c : tie.After-settings-refusal) → c .settings-refusal .result ≡ 0 → settingsRefusal (c .before .before .before .before .before .before .args .settings) ≡ 0
+allowed : (c : tie.After-settings-refusal) → c .settings-refusal .result ≡ 0 → settingsRefusal (c .before .before .before .before .before .before .before .args .settings) ≡ 0
 allowed c z = sym (c .settings-refusal .ensures) ∙ z
 
 -- refusals 3 to 7, and 16
@@ -32,7 +32,7 @@ module _ (c : tie.After-refuse) where
   c₆ = c .before .before
 
   abbrev start : tie.Start
-  start = c₆ .before .before .before .before .before .before
+  start = c₆ .before .before .before .before .before .before .before
 
   abbrev S : Settings
   S = start .args .settings
@@ -41,7 +41,7 @@ module _ (c : tie.After-refuse) where
   P = start .args .parts
 
   abbrev t : Tables
-  t = let a = start .args in tablesOf (a .key .now) (a .message .now) (a .commitment .now) (a .rounds .now) (a .challenges .now) (a .last .now)
+  t = let a = start .args in tablesOf (a .key .now) (a .message .now) (a .commitment .now) (a .rounds .now) (a .challenges .now) (a .last .now) (a .claims .now)
 
   known : (rest : List ℕ) → first (settingsRefusal S ∷ unless 7 (fits S P t) ∷ rest) ≡ first (c .refuse .result ∷ rest)
   known rest =
@@ -58,11 +58,16 @@ unfolding tablesRefusal entriesRefusal allBelow allWithin exponents exponent nar
 returns-2 c =
     let c₉ = c .before .before .before in
     let c₈ = c₉ .before .before .before in
-    let no = c₈ .before .before .before .before in
+    let no = c₈ .before .before .before .before .before in
     let c₇ = no .before in
     let ok = allowed (c₆ c₇) (tested-before (c₇ .refuse .ensures) (no .if1 .left)) in
     sym (known c₇ _ ∙ last-flat _ _
-    ∙ first-tested _ _ (c₈ .refuse2 .ensures) (λ z. rw (c₈ .before .before .before .all-below-wide .ensures, c₈ .before .before .all-below-wide2 .ensures, c₈ .before .all-below-wide3 .ensures))
+    ∙ first-tested _ _ (c₈ .refuse2 .ensures) (λ z. rw (
+      c₈ .before .before .before .before .all-below-wide .ensures,
+      c₈ .before .before .before .all-below-wide2 .ensures,
+      c₈ .before .before .all-below-wide3 .ensures,
+      c₈ .before .all-below-wide4 .ensures,
+    ))
     ∙ first-tested _ _ (c₉ .refuse3 .ensures) (λ z. rw (c₉ .before .before .all-within .ensures, c₉ .before .all-within2 .ensures))
     ∙ first-tested _ _ (c .refuse4 .ensures) (λ z. rw (c .before .all-below .ensures, c .before .before .exponent-count .ensures ok))
     ∙ first-only _)
@@ -72,4 +77,4 @@ tables-refusal-spec =
     tie.close
     (tie.spec (λ c κs. search needs) (λ c κs. search needs) (λ c κs. search needs) (λ c κs. search needs) returns (λ c κs. search needs) (λ c κs. search needs)
     (λ c κs. search needs) (λ c κs. search needs) (λ c κs. search needs) (λ c κs. search needs) (λ c κs. search needs) (λ c κs. search needs)
-    (λ c κs. search needs) (λ c κs. search needs) returns-2)
+    (λ c κs. search needs) (λ c κs. search needs) (λ c κs. search needs) returns-2)

@@ -9,8 +9,8 @@ use Rattle.table_writer.proofs.whole.write.Statement.{statement}
 use Rattle.table_writer.proofs.whole.write.Tie as tie
 
 -- nothing is refused before the text
-fine : (c : tie.Else1) → let a = c .before .before .before .before .before .before .before .args in
-    tablesRefusal (a .settings) (a .parts) (tablesOf (a .key .now) (a .message .now) (a .commitment .now) (a .rounds .now) (a .challenges .now) (a .last .now)) ≡ 0
+fine : (c : tie.Else1) → let a = c .before .before .before .before .before .before .before .before .args in
+    tablesRefusal (a .settings) (a .parts) (tablesOf (a .key .now) (a .message .now) (a .commitment .now) (a .rounds .now) (a .challenges .now) (a .last .now) (a .claims .now)) ≡ 0
 fine c = sym (c .before .tables-refusal .ensures) ∙ c .if1 .left
 
 returns : tie.Need-returns

@@ -19,10 +19,10 @@ use Rattle.table_writer.proofs.whole.write_tables.Tie as tie
 -- the tables and their lengths
 module _ (c : tie.After-room) where
   abbrev start : tie.Start
-  start = c .before .before .before .before .before .before .before
+  start = c .before .before .before .before .before .before .before .before
 
   abbrev t : Tables
-  t = let a = start .args in tablesOf (a .key .now) (a .message .now) (a .commitment .now) (a .rounds .now) (a .challenges .now) (a .last .now)
+  t = let a = start .args in tablesOf (a .key .now) (a .message .now) (a .commitment .now) (a .rounds .now) (a .challenges .now) (a .last .now) (a .claims .now)
 
   lengths-is : c .before .lengths-of .result ≡ lengthsOf t
   lengths-is = c .before .lengths-of .ensures
@@ -43,7 +43,7 @@ write-values-requires : tie.Need-write-values-requires
 write-values-requires c κs =
     let a = c .before .before .before in
     let e = c .before .before .before .before .before in
-    let same : length (a .all .last .1 .1 .1 .1 .1 .1 .0) ≡ valuesRoom = search needs in
+    let same : length (a .all .last .1 .1 .1 .1 .1 .1 .1 .0) ≡ valuesRoom = search needs in
     omega (arith, room e, ap total (lengths-is (e .before)))
 
 returns-2 : tie.Need-returns-2
@@ -53,7 +53,7 @@ returns-2 c w =
     let m = g .before .before .before in
     let S = start m .args .settings in
     let P = start m .args .parts in
-    let values = g .all .last .1 .1 .1 .1 .1 .1 .0 in
+    let values = g .all .last .1 .1 .1 .1 .1 .1 .1 .0 in
     let r = g .all .result in
     let front : values ≡ joined (tableValues (t m)) ++ drop r values =
     sym (take-append-drop r values) ∙ ap (λ x. x ++ drop r values) (g .all .ensures .front ∙ ap joined (gathered-are S P (t m) w)) in
