@@ -159,8 +159,55 @@ fn write_rows(
     }
 }
 
+// The same by the transform: what it needs of f is worked out once for all rows, in x.
+fn send_rows(
+    sums: bool,
+    level: u32,
+    q: Residue,
+    d: u32,
+    n: u32,
+    rows: u32,
+    stride: usize,
+    f: &[i32],
+    x: &mut [u16],
+    g: &[Residue],
+    out: &mut [Residue],
+)
+    ensures { λ _. ⌜ ((G : ℕ → List ℕ) → Provided (RowsGiven sums q d n rows stride (now (f .entry)) (now (g .entry)) G × (rows * d ≤ length (now (out .entry)))
+        × Suits q d n level × (n * d ≤ length (now (x .entry))) × Zero (now (x .entry)))
+        (now (out .exit) ≡ filled (rowPlaces d (λ r. innerElement sums q d n (now (f .entry)) (G r))) (rows * d) (now (out .entry)))) ⌝ }
+{
+    batches::prepare(sums, level, d as usize, n as usize, f, x);
+    write_rows(sums, level, q, d, n, rows, stride, f, x, g, out);
+}
+
+// The same with as much room as it takes. A short table takes less, since all of it is set to 0 first.
+fn transformed_rows(
+    sums: bool,
+    level: u32,
+    q: Residue,
+    d: u32,
+    n: u32,
+    rows: u32,
+    stride: usize,
+    f: &[i32],
+    g: &[Residue],
+    out: &mut [Residue],
+)
+    ensures { λ _. ⌜ ((G : ℕ → List ℕ) → Provided (RowsGiven sums q d n rows stride (now (f .entry)) (now (g .entry)) G × (rows * d ≤ length (now (out .entry))) × Suits q d n level)
+        (now (out .exit) ≡ filled (rowPlaces d (λ r. innerElement sums q d n (now (f .entry)) (G r))) (rows * d) (now (out .entry)))) ⌝ }
+{
+    if (n as u64) * (d as u64) <= 8192 {
+        let mut x = [0u16; 8192];
+        send_rows(sums, level, q, d, n, rows, stride, f, &mut x, g, out);
+        return;
+    }
+    let mut x = [0u16; TABLE];
+    send_rows(sums, level, q, d, n, rows, stride, f, &mut x, g, out);
+}
+
 // The inner product of the first n elements of f with those of every row of g, or of the sums of their halves, which have n elements, modulo q: an element for each row, one
-// behind the other. The rows begin at the distance `stride`. What the transform needs of f is worked out once for all rows.
+// behind the other. The rows begin at the distance `stride`.
 pub fn inner_rows(
     sums: bool,
     q: Residue,
@@ -180,17 +227,19 @@ pub fn inner_rows(
         write_rows(sums, 0, q, d, n, rows, stride, f, &[], g, out);
         return;
     }
-    let mut x = [0u16; TABLE];
-    batches::prepare(sums, level, d as usize, n as usize, f, &mut x);
-    write_rows(sums, level, q, d, n, rows, stride, f, &x, g, out);
+    transformed_rows(sums, level, q, d, n, rows, stride, f, g, out);
 }
 
 // The same for one row.
 pub fn inner(q: Residue, d: u32, n: u32, f: &[i32], g: &[Residue]) -> [Residue; WIDTH]
     ensures { λ r. ⌜ Provided (Summable q d n (now (f .entry)) (now (g .entry))) (r ≡ padded d (reduced q d (opening.inner d n (signedAt d (now (f .entry))) (residueAt d (now (g .entry)))))) ⌝ }
 {
+    let level = batches::level(q, d, n);
+    if level == 0 {
+        return plain_inner(q, d, n, f, g);
+    }
     let mut a = [0u64; WIDTH];
-    inner_rows(false, q, d, n, 1, 0, f, g, &mut a);
+    transformed_rows(false, level, q, d, n, 1, 0, f, g, &mut a);
     a
 }
 
