@@ -1,4 +1,4 @@
--- Sixteen elements of two tables, or of the sums of their halves, as they are handed on to be transformed.
+-- Sixteen elements of a message or of a key, or of the sums of their halves, as they are handed on to be transformed, and the batches of a message.
 use mathlib.Core.Path.{_≡_, refl, sym, ap, _∙_, subst}
 use mathlib.Core.Bool.{Bool, true, false}
 use mathlib.Core.List.{List, [], _∷_}
@@ -21,54 +21,77 @@ use Rattle.protocol.proofs.SumLaws.{sum-split}
 use Rattle.protocol.proofs.Reading.{row-inside}
 use Rattle.residues.proofs.Parts.{tail-at, tail-length}
 use Rattle.powers.specs.Powers.{modulus, positive, K, res, seen}
-use Rattle.transform.specs.Strands.{strands, valueAt, Room, Filled, Placed, Stands}
-use Rattle.half_sums.specs.Halves.{messageSums, keySums, Halves, HalfSums}
-use Rattle.batches.specs.Batches.{Zero, Suits, Tables, Source, sizeOf}
-use Rattle.half_sums.proofs.Elements.{sums-small, sums-below}
+use Rattle.transform.specs.Strands.{strands, valueAt, Room, Filled, Values, MessagePlaced, ResiduesPlaced, Stands}
+use Rattle.half_sums.specs.Halves.{MessageAt, MessageSum, KeyAt, KeySum, sizeOf, messagesOf, keysOf}
+use Rattle.half_sums.proofs.Elements.{message-sum-small, key-sum-below}
+use Rattle.batches.specs.Batches.{Zero, Suits, most, MessageGiven, KeyGiven, Ready}
 
 pub filled-none : (D : ℕ) (F : ℕ → Element) (x : List ℕ) → Room D x → Filled D 0 F x
 filled-none D F x r = record { room = r; each = λ l k h m. absurd (omega arith) }
 
-module _ (D d n from l : ℕ) (f : List ℤ) (g x y : List ℕ) (degree : d ≡ 2 ^ D) (inside : l < strands) (most : from + strands ≤ n) where
-  -- element `from` + l ends inside both tables
-  row : (from + l) * d + d ≤ n * d
-  row = row-inside d n (from + l) (omega arith)
+-- ---- element i of a message or of a key, which is to be strand l
+
+module _ (D d n i l : ℕ) (degree : d ≡ 2 ^ D) (inside : i < n) (strand : l < strands) where
+  -- it ends inside the table
+  pub row : i * d + d ≤ n * d
+  row = row-inside d n i inside
 
   abbrev part {ℓ} : {A : Type ℓ} → List A → List A
-  part t = take (length t - (from + l) * d) (drop ((from + l) * d) t)
+  part t = take (length t - i * d) (drop (i * d) t)
 
-  pub table-placed : Tables d n f g → Filled D l (λ i. signedAt d f (from + i)) x → Filled D l (λ i. residueAt d g (from + i)) y
-      → Placed D d l (part f) (part g) (λ i. signedAt d f (from + i)) (λ i. residueAt d g (from + i)) x y
-  unfolding signed residue signedAt residueAt
-  table-placed z fx fy = record {
-    degree = degree;
-    inside = inside;
-    f-long = omega (arith, row, z .f-long, tail-length ((from + l) * d) f);
-    g-long = omega (arith, row, z .g-long, tail-length ((from + l) * d) g);
-    small = λ k h. subst (λ v. natAbs v ≤ 2 ^ 16) (sym (tail-at ((from + l) * d) f k (pos 0))) (z .small ((from + l) * d + k) (omega (arith, row)));
-    residues = λ k h. subst (λ v. v < 12289) (sym (tail-at ((from + l) * d) g k 0)) (z .residues ((from + l) * d + k) (omega (arith, row)));
-    f-is = λ k _. tail-at ((from + l) * d) f k (pos 0);
-    g-is = λ k _. ap pos (tail-at ((from + l) * d) g k 0);
-    before-x = fx;
-    before-y = fy;
-  }
+  module _ (f : List ℤ) (F : ℕ → Element) (x : List ℕ) (filled : Filled D l F x) where
+    pub message-placed : MessageGiven false d n f → F l ≡ messagesOf false d n f i → MessagePlaced D d l (part f) F x
+    unfolding signed signedAt messagesOf sizeOf most
+    message-placed z is = record {
+      degree = degree;
+      inside = strand;
+      long = omega (arith, row, z .long, tail-length (i * d) f);
+      small = λ k h. subst (λ v. natAbs v ≤ 2 ^ 16) (sym (tail-at (i * d) f k (pos 0))) (z .small (i * d + k) (omega (arith, row)));
+      is = λ k _. tail-at (i * d) f k (pos 0) ∙ ap (λ e. e k) (sym is);
+      before = filled;
+    }
 
-  pub sums-placed : (z : Halves 12289 d n f g) (m : List ℤ) (k : List ℕ) → HalfSums 12289 d n f g (from + l) m k → d ≤ length m → d ≤ length k
-      → Filled D l (λ i. messageSums d n f (from + i)) x → Filled D l (λ i. keySums 12289 d n g (from + i)) y
-      → Placed D d l m k (λ i. messageSums d n f (from + i)) (λ i. keySums 12289 d n g (from + i)) x y
-  unfolding signed residue
-  sums-placed z m k is lm lk fx fy = record {
-    degree = degree;
-    inside = inside;
-    f-long = lm;
-    g-long = lk;
-    small = sums-small 12289 d n (from + l) f g z (omega arith) m k is;
-    residues = sums-below 12289 d n (from + l) f g z (omega arith) m k is;
-    f-is = is .message;
-    g-is = λ j h. ap pos (is .key j h);
-    before-x = fx;
-    before-y = fy;
-  }
+    pub message-at : MessageGiven true d n f → MessageAt d n i (i * d) (n * d + i * d) f
+    unfolding sizeOf most
+    message-at z = record { long = z .long; small = z .small; inside = inside; first = refl; second-at = refl }
+
+    pub message-sum-placed : MessageGiven true d n f → F l ≡ messagesOf true d n f i → (m : List ℤ) → MessageSum d n f i m → d ≤ length m → MessagePlaced D d l m F x
+    unfolding signed messagesOf sizeOf most
+    message-sum-placed z is m sum long = record {
+      degree = degree;
+      inside = strand;
+      long = long;
+      small = message-sum-small d n i f (z .small) inside m sum;
+      is = λ k h. sum k h ∙ ap (λ e. e k) (sym is);
+      before = filled;
+    }
+
+  module _ (g : List ℕ) (G : ℕ → Element) (y : List ℕ) (filled : Filled D l G y) where
+    pub key-placed : KeyGiven false d n g → G l ≡ keysOf false 12289 d n g i → ResiduesPlaced D d l (part g) G y
+    unfolding residue residueAt keysOf sizeOf
+    key-placed z is = record {
+      degree = degree;
+      inside = strand;
+      long = omega (arith, row, z .long, tail-length (i * d) g);
+      residues = λ k h. subst (λ v. v < 12289) (sym (tail-at (i * d) g k 0)) (z .residues (i * d + k) (omega (arith, row)));
+      is = λ k _. ap pos (tail-at (i * d) g k 0) ∙ ap (λ e. e k) (sym is);
+      before = filled;
+    }
+
+    pub key-at : KeyGiven true d n g → KeyAt 12289 d n i (i * d) (n * d + i * d) g
+    unfolding sizeOf
+    key-at z = record { long = z .long; residues = z .residues; inside = inside; first = refl; second-at = refl }
+
+    pub key-sum-placed : G l ≡ keysOf true 12289 d n g i → (k : List ℕ) → KeySum 12289 d n g i k → d ≤ length k → ResiduesPlaced D d l k G y
+    unfolding residue keysOf
+    key-sum-placed is k sum long = record {
+      degree = degree;
+      inside = strand;
+      long = long;
+      residues = key-sum-below 12289 d n i (omega arith) g k sum;
+      is = λ j h. ap pos (sum j h) ∙ ap (λ e. e j) (sym is);
+      before = filled;
+    }
 
 -- ---- the sums, sixteen elements more at a time
 
@@ -118,11 +141,6 @@ zero-stands D n l e m z = record {
 pub suits-width : (q d n r : ℕ) → Suits q d n r → d ≤ width
 suits-width q d n r suits = omega (arith, suits .degree, Nat.pow-le-pow-right {n = 2} (omega arith) (suits .most))
 
-pub source-long : (sums : Bool) (d n : ℕ) (f : List ℤ) (g : List ℕ) → Source sums d n f g → (sizeOf sums d n ≤ length f) × (sizeOf sums d n ≤ length g)
-unfolding Source sizeOf
-source-long true d n f g z = (omega (arith, z .elements .f-long, Nat.mul-assoc 2 n d), omega (arith, z .elements .g-long, Nat.mul-assoc 2 n d))
-source-long false d n f g z = (z .f-long, z .g-long)
-
 pub sums-size : (b : Bool) → b ≡ true → (d n : ℕ) → sizeOf b d n ≡ 2 * (n * d)
 unfolding sizeOf
 sums-size b e d n = rw e
@@ -130,3 +148,8 @@ sums-size b e d n = rw e
 pub table-size : (b : Bool) → b ≡ false → (d n : ℕ) → sizeOf b d n ≡ n * d
 unfolding sizeOf
 table-size b e d n = rw e
+
+pub least-size : (b : Bool) (d n : ℕ) → n * d ≤ sizeOf b d n
+unfolding sizeOf
+least-size true d n = omega arith
+least-size false d n = omega arith

@@ -1,1 +1,2 @@
 pub mod Batching
+pub mod Sending

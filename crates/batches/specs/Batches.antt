@@ -1,19 +1,20 @@
--- When an inner product goes by the transform, and what is transformed.
+-- When an inner product goes by the transform, and what is transformed. `sums` says that the tables' halves are added: then these have n elements.
 --
---   Zero l                every number of l is 0
---   Suits q d n r         the transform of level r suits inner products of n elements of degree d modulo q
---   Tables d n f g        two tables of n elements, small enough to be transformed
---   Source sums d n f g   two tables of n elements, or two whose halves have n elements, which are added
---   sizeOf sums d n       how many numbers such a table has
---   messagesOf, keysOf    the elements that are multiplied: those of the tables or the sums of their halves
+--   Zero l                  every number of l is 0
+--   Suits q d n r           the transform of level r suits inner products of n elements of degree d modulo q
+--   most sums               how far from 0 the numbers of a message may be
+--   MessageGiven sums d n f a message of n elements, small enough to be transformed
+--   KeyGiven sums d n g     a key of n elements
+--   Ready D d n F x         the elements F 0, …, F (n − 1) are transformed in x, sixteen behind the other sixteen
 use mathlib.Core.Bool.{Bool, true, false}
 use mathlib.Core.List.{List}
 use mathlib.Core.Path.{_≡_}
-use Prim.Native.Nat.{ℕ, _+_, _*_, _%_, _^_, _<_, _≤_}
-use lib.IntN.{ℤ, pos, natAbs}
-use lib.ListN.{length, getD}
-use Rattle.protocol.specs.Element.{Element, signedAt, residueAt}
-use Rattle.half_sums.specs.Halves.{messageSums, keySums, Halves}
+use Prim.Native.Nat.{ℕ, _+_, _*_, _/_, _%_, _^_, _<_, _≤_}
+use lib.IntN.{ℤ}
+use lib.ListN.{length, getD, take, drop}
+use Rattle.protocol.specs.Element.{Element}
+use Rattle.transform.specs.Strands.{strands, Values}
+use Rattle.half_sums.specs.Halves.{Small, sizeOf}
 
 abbrev pub Zero : List ℕ → Type 0
 Zero l = (k : ℕ) → getD l k 0 ≡ 0
@@ -25,24 +26,17 @@ pub record Suits (q d n r : ℕ) : Type 0 where
   pub whole : n % 16 ≡ 0
   pub few : n ≤ 256
 
-pub record Tables (d n : ℕ) (f : List ℤ) (g : List ℕ) : Type 0 where
-  pub f-long : n * d ≤ length f
-  pub g-long : n * d ≤ length g
-  pub small : (j : ℕ) → j < n * d → natAbs (getD f j (pos 0)) ≤ 2 ^ 16
-  pub residues : (j : ℕ) → j < n * d → getD g j 0 < 12289
+unfoldable pub most : Bool → ℕ
+most true = 2 ^ 15
+most false = 2 ^ 16
 
-unfoldable pub Source : Bool → ℕ → ℕ → List ℤ → List ℕ → Type 0
-Source true d n = Halves 12289 d n
-Source false d n = Tables d n
+pub record MessageGiven (sums : Bool) (d n : ℕ) (f : List ℤ) : Type 0 where
+  pub long : sizeOf sums d n ≤ length f
+  pub small : Small (most sums) (sizeOf sums d n) f
 
-unfoldable pub sizeOf : Bool → ℕ → ℕ → ℕ
-sizeOf true d n = 2 * (n * d)
-sizeOf false d n = n * d
+pub record KeyGiven (sums : Bool) (d n : ℕ) (g : List ℕ) : Type 0 where
+  pub long : sizeOf sums d n ≤ length g
+  pub residues : (j : ℕ) → j < sizeOf sums d n → getD g j 0 < 12289
 
-unfoldable pub messagesOf : Bool → ℕ → ℕ → List ℤ → ℕ → Element
-messagesOf true d n f = messageSums d n f
-messagesOf false d n f = signedAt d f
-
-unfoldable pub keysOf : Bool → ℕ → ℕ → List ℕ → ℕ → Element
-keysOf true d n g = keySums 12289 d n g
-keysOf false d n g = residueAt d g
+abbrev pub Ready : ℕ → ℕ → ℕ → (ℕ → Element) → List ℕ → Type 0
+Ready D d n F x = (t : ℕ) → t < n / strands → Values D (λ l. F (t * strands + l)) (take (d * strands) (drop (t * (d * strands)) x))

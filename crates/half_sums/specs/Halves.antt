@@ -6,8 +6,13 @@
 --   keySumAt q d h g i j   coefficient j of element i of g0 + g1, modulo q
 --   keySums q d h g i      that element
 --   Halves q d h f g       two tables, whose halves have h elements and may be added before their inner product is taken
---   HalvesAt q d h i ..    element i of their first halves, and that of their second halves, begin at these places
---   HalfSums q .. i m k    m and k begin with element i of these sums
+--   MessageAt d h i ..     element i of a message's first half, and that of its second half, begin at these places
+--   MessageSum d h f i m   m begins with element i of these sums
+--   KeyAt, KeySum          the same of a key
+--   HalvesAt, HalfSums     the same of both tables
+--   sizeOf sums d n        how many numbers a table of n elements has, or one whose halves have n elements, which are added
+--   messagesOf, keysOf     the elements that are multiplied: those of the tables or the sums of their halves
+use mathlib.Core.Bool.{Bool, true, false}
 use mathlib.Core.List.{List}
 use mathlib.Core.Path.{_≡_}
 use Prim.Native.Nat.{ℕ, _+_, _*_, _^_, _<_, _≤_}
@@ -43,6 +48,26 @@ pub record Halves (q d h : ℕ) (f : List ℤ) (g : List ℕ) : Type 0 where
   pub residues : (j : ℕ) → j < 2 * (h * d) → getD g j 0 < q
   pub modulus-most : q ≤ modulusMost
 
+pub record MessageAt (d h i at behind : ℕ) (f : List ℤ) : Type 0 where
+  pub long : 2 * (h * d) ≤ length f
+  pub small : Small (2 ^ 15) (2 * (h * d)) f
+  pub inside : i < h
+  pub first : at ≡ i * d
+  pub second-at : behind ≡ h * d + i * d
+
+abbrev pub MessageSum : ℕ → ℕ → List ℤ → ℕ → List ℤ → Type 0
+MessageSum d h f i m = (j : ℕ) → j < d → getD m j (pos 0) ≡ messageSums d h f i j
+
+pub record KeyAt (q d h i at behind : ℕ) (g : List ℕ) : Type 0 where
+  pub long : 2 * (h * d) ≤ length g
+  pub residues : (j : ℕ) → j < 2 * (h * d) → getD g j 0 < q
+  pub inside : i < h
+  pub first : at ≡ i * d
+  pub second-at : behind ≡ h * d + i * d
+
+abbrev pub KeySum : ℕ → ℕ → ℕ → List ℕ → ℕ → List ℕ → Type 0
+KeySum q d h g i k = (j : ℕ) → j < d → getD k j 0 ≡ keySumAt q d h g i j
+
 pub record HalvesAt (q d h i at behind : ℕ) (f : List ℤ) (g : List ℕ) : Type 0 where
   pub halves : Halves q d h f g
   pub inside : i < h
@@ -50,5 +75,17 @@ pub record HalvesAt (q d h i at behind : ℕ) (f : List ℤ) (g : List ℕ) : Ty
   pub second-at : behind ≡ h * d + i * d
 
 pub record HalfSums (q d h : ℕ) (f : List ℤ) (g : List ℕ) (i : ℕ) (m : List ℤ) (k : List ℕ) : Type 0 where
-  pub message : (j : ℕ) → j < d → getD m j (pos 0) ≡ messageSums d h f i j
-  pub key : (j : ℕ) → j < d → getD k j 0 ≡ keySumAt q d h g i j
+  pub message : MessageSum d h f i m
+  pub key : KeySum q d h g i k
+
+unfoldable pub sizeOf : Bool → ℕ → ℕ → ℕ
+sizeOf true d n = 2 * (n * d)
+sizeOf false d n = n * d
+
+unfoldable pub messagesOf : Bool → ℕ → ℕ → List ℤ → ℕ → Element
+messagesOf true d n f = messageSums d n f
+messagesOf false d n f = signedAt d f
+
+unfoldable pub keysOf : Bool → ℕ → ℕ → ℕ → List ℕ → ℕ → Element
+keysOf true q d n g = keySums q d n g
+keysOf false q d n g = residueAt d g

@@ -9,7 +9,7 @@ ghost use Rattle.protocol.specs.Basic.{Provided};
 ghost use Rattle.residues.specs.Lists.{filled};
 ghost use Rattle.residues.specs.Residues.{Residues};
 ghost use Rattle.half_sums.specs.Room.{Room, Long};
-ghost use Rattle.half_sums.specs.Halves.{HalvesAt, HalfSums};
+ghost use Rattle.half_sums.specs.Halves.{MessageAt, MessageSum, KeyAt, KeySum, HalvesAt, HalfSums};
 
 // x, or 0 where it is so large that two such numbers may have no sum of 32 bits.
 fn limited(x: i32) -> i32
@@ -65,7 +65,35 @@ pub fn key_sums(q: Residue, n: usize, first: &[Residue], second: &[Residue], sum
     }
 }
 
-// Element i of the sums of two tables' halves, written to the front of m and of k: of either table the elements that begin at these two places are added.
+// Element i of the sums of a message's halves, written to the front of m: the elements that begin at these two places are added.
+pub fn add_message(d: usize, at: usize, behind: usize, f: &[i32], m: &mut [i32])
+    ensures { λ _. ⌜ ((h i : ℕ) → Provided (MessageAt d h i at behind (now (f .entry)) × (d ≤ length (now (m .entry))))
+        (MessageSum d h (now (f .entry)) i (now (m .exit)))) ⌝ }
+{
+    if f.len() < at {
+        return;
+    }
+    if f.len() < behind {
+        return;
+    }
+    message_sums(d, &f[at..], &f[behind..], m);
+}
+
+// The same of a key, modulo q.
+pub fn add_key(q: Residue, d: usize, at: usize, behind: usize, g: &[Residue], k: &mut [Residue])
+    ensures { λ _. ⌜ ((h i : ℕ) → Provided (KeyAt q d h i at behind (now (g .entry)) × (d ≤ length (now (k .entry))))
+        (KeySum q d h (now (g .entry)) i (now (k .exit)))) ⌝ }
+{
+    if g.len() < at {
+        return;
+    }
+    if g.len() < behind {
+        return;
+    }
+    key_sums(q, d, &g[at..], &g[behind..], k);
+}
+
+// The same of both.
 pub fn add_halves(
     q: Residue,
     d: usize,
@@ -79,15 +107,6 @@ pub fn add_halves(
     ensures { λ _. ⌜ ((h i : ℕ) → Provided (HalvesAt q d h i at behind (now (f .entry)) (now (g .entry)) × (d ≤ length (now (m .entry))) × (d ≤ length (now (k .entry))))
         (HalfSums q d h (now (f .entry)) (now (g .entry)) i (now (m .exit)) (now (k .exit)))) ⌝ }
 {
-    if behind < at {
-        return;
-    }
-    if f.len() < behind {
-        return;
-    }
-    if g.len() < behind {
-        return;
-    }
-    message_sums(d, &f[at..], &f[behind..], m);
-    key_sums(q, d, &g[at..], &g[behind..], k);
+    add_message(d, at, behind, f, m);
+    add_key(q, d, at, behind, g, k);
 }

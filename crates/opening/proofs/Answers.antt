@@ -11,7 +11,7 @@ use lib.ListN.{length, getD}
 use Rattle.protocol.specs.declared.Settings.{Settings}
 use Rattle.protocol.specs.declared.Verdict.{Verdict}
 use Rattle.protocol.specs.declared.Verdict.the-variants.{Silent}
-use Rattle.protocol.specs.Basic.{every, tabulate}
+use Rattle.protocol.specs.Basic.{every}
 use Rattle.protocol.specs.Element.{width, zeros, signedZeros, paddedSigned, coefficients, signedAt, signed, residue}
 use Rattle.protocol.specs.Settings.{settingsRefusal, cells}
 use Rattle.protocol.specs.Layout.{rowsMost, rowsWidth, keyCells, itemCells}
@@ -25,18 +25,17 @@ use Rattle.protocol.specs.Promises.{Opening}
 use Rattle.protocol.proofs.Tests.{granted-zero, granted-refused}
 use Rattle.protocol.proofs.Answers.{opening-number}
 use Rattle.protocol.proofs.Ranges.{key-residues}
-use Rattle.protocol.proofs.Reading.{tabulate-length, tabulate-at, cell-element, cell-place, cell-inside}
 use Rattle.protocol.proofs.Rows.{keys-zero, keys-row, keyRow-below, stacked-length}
 use Rattle.claims.proofs.Honest.{Given, degree-positive, modulus-positive, opening-commitment, opening-last, opening-key, opening-message, opening-rounds}
 use Rattle.claims.proofs.Prover.{commit-answer}
-use Rattle.claims.proofs.RowLaws.{cells-positive, keys-below, atRows-ext}
+use Rattle.claims.proofs.RowLaws.{cells-positive, keys-below}
 use Rattle.sizes.proofs.Limits.{degree-most}
 use Rattle.residues.specs.Lists.{filled, spliced}
-use Rattle.residues.specs.Elements.{elementAt}
-use Rattle.residues.proofs.Fill.{zeros-length, filled-at, filled-length}
-use Rattle.round_products.specs.Rowwise.{rowPlaces}
+use Rattle.residues.proofs.Fill.{zeros-length, filled-length}
+use Rattle.products.specs.Rowwise.{rowPlaces}
 use Rattle.opening_rounds.specs.Rounds.{roundItem, commitmentItem, ItemsBegun}
-use Rattle.prover.proofs.Values.{by-value}
+use Rattle.slices.specs.Slices.{valuesOf}
+use Rattle.prover.proofs.Values.{item-by-value}
 use Rattle.opening.specs.declared.turns.State.{State}
 use Rattle.opening.specs.Turns.{rowClaim, TablesAt, EndsRead, Finished, ProverTurn}
 use Rattle.opening.proofs.Inputs.{Lent, lent}
@@ -47,14 +46,6 @@ use Rattle.opening.proofs.Checking.{checked-none, accepted-is}
 begun-front : (f : ℕ → ℕ) (R : List ℕ) (n : ℕ) → filled f n R ≡ spliced f (3 * 0 * n) n R
 unfolding filled spliced
 begun-front f R n = ap (λ m. spliced f m n R) {x = 0} (sym (Nat.zero-mul n))
-
--- the elements of the rows, from a flat table to what is passed by value
-spread-out : (S : Settings) → Valid S → (flat : List ℕ) (f : ℕ → List ℕ) → ((r k : ℕ) → r < S .rows → k < S .degree → getD flat (r * S .degree + k) 0 ≡ getD (f r) k 0)
-    → filled (rowPlaces width (elementAt (S .degree) flat)) (S .rows * width) (zeros rowsWidth) ≡ atRows S f
-unfolding elementAt
-spread-out S ok flat f same =
-    by-value S (λ r. tabulate (S .degree) (λ k. getD flat (r * S .degree + k) 0)) (ok .rows-most) (λ r _. tabulate-length (S .degree) _)
-    ∙ atRows-ext S (λ r. tabulate (S .degree) (λ k. getD flat (r * S .degree + k) 0)) f (λ r k hr hk. tabulate-at (S .degree) _ 0 k hk ∙ same r k hr hk)
 
 module _ (S : Settings) (G : List ℕ) (M : List ℤ) (E R : List ℕ) where
   open Settings S using (degree as d, depth as L, rows as rows)
@@ -86,7 +77,7 @@ module _ (S : Settings) (G : List ℕ) (M : List ℤ) (E R : List ℕ) where
 
   module _ (passed : openingRefusal S G M E R ≡ 0) (C W : List ℕ) (f : List ℤ) (v : Verdict) (r : State) (begun-rounds claims key : List ℕ) (message : List ℤ) (rounds : List ℕ)
       (begins : commitRefusal S G M ≡ 0 → ItemsBegun S G M (zeros rowsWidth) R C begun-rounds)
-      (spreads : settingsRefusal S ≡ 0 → rows * width ≤ length (zeros rowsWidth) → W ≡ filled (rowPlaces width (elementAt d C)) (rows * width) (zeros rowsWidth))
+      (values : settingsRefusal S ≡ 0 → itemCells S ≤ length C → W ≡ valuesOf S C)
       (turn : ProverTurn S E (record { done = 0; holds = true }) C G M begun-rounds r claims key message rounds)
       (ends : d ≤ width → f ≡ paddedSigned d (coefficients d (signedAt d message 0)))
       (says : EndsRead S (length claims) (length f) key → v ≡ verdict (r .holds && every rows (λ i. endMet S (rowClaim S claims i) (signed f) (residue (keyRow S key i)))))
@@ -127,10 +118,7 @@ module _ (S : Settings) (G : List ℕ) (M : List ℤ) (E R : List ℕ) where
     C-long = omega (arith, ap length C-is, filled-length (rowPlaces d (commitmentItem S G M)) n (zeros rowsWidth) room, room)
 
     W-is : W ≡ value
-    W-is = spreads (given .allowed) (omega (arith, zeros-length rowsWidth, valid .rows-most)) ∙ spread-out S valid C (commitmentItem S G M) (λ i k hi hk.
-        ap (λ c. getD c (i * d + k) 0) C-is
-        ∙ filled-at (rowPlaces d (commitmentItem S G M)) n (zeros rowsWidth) 0 (i * d + k) (cell-inside d rows i k hi hk)
-        ∙ (λ j. getD (commitmentItem S G M (cell-element d i k hk j)) (cell-place d i k hk j) 0))
+    W-is = values (given .allowed) C-long ∙ item-by-value S (commitmentItem S G M) (zeros rowsWidth) C C-is
 
     -- c0 of round 1 stands in its place, where there are rounds
     rounds-are : begun-rounds ≡ front (roundTables S E G M) R (3 * 0 * n + n)

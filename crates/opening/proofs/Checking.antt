@@ -26,7 +26,7 @@ use Rattle.residues.specs.Lists.{filled}
 use Rattle.residues.proofs.Fill.{filled-at}
 use Rattle.equations.specs.Given.{ClaimRead}
 use Rattle.equations.specs.Items.{rowElement}
-use Rattle.round_products.specs.Rowwise.{rowPlaces}
+use Rattle.products.specs.Rowwise.{rowPlaces}
 use Rattle.opening_rounds.specs.Rounds.{commitmentItem}
 use Rattle.opening.specs.declared.turns.State.{State}
 use Rattle.opening.specs.Turns.{rowClaim, ClaimsAt, CheckedAt, RowsRead, sentElement, RowsChecked, VerifierMove}

@@ -32,8 +32,9 @@ use Rattle.residues.proofs.Parts.{tail-all, tail-length}
 use Rattle.residues.proofs.Splice.{spliced-before, spliced-inside, spliced-behind}
 use Rattle.equations.specs.Given.{RoundRead, ClaimRead, ElementsGiven, ElementReduced}
 use Rattle.equations.specs.Items.{rowElement}
-use Rattle.round_products.specs.Rowwise.{elementPlaces, rowPlaces}
-use Rattle.round_products.proofs.Rowwise.{row-long, lent-row, put-part, part-turn}
+use Rattle.products.specs.Rowwise.{elementPlaces, rowPlaces}
+use Rattle.products.proofs.Rowwise.{put-part}
+use Rattle.round_products.proofs.Rowwise.{row-long, lent-row}
 use Rattle.opening.specs.Turns.{rowClaim, RowsRead, sentElement, EndsRead}
 use Rattle.opening.proofs.Checking.{row-read}
 
@@ -182,13 +183,3 @@ module _ (S : Settings) (claims : List ℕ) (f : List ℤ) (key : List ℕ) wher
           third = omega (arith, ap length Q-is, keyRow-length S key r, degree-inside S (settings-valid S (g .allowed)));
         }) Q-below ∙ λ i. endMet S (P-is i) (signed f) (residue (Q-is i)));
       }
-
--- ---- an element of each row, passed by value
-
-pub value-more : (f : ℕ → List ℕ) (r at : ℕ) (l s : List ℕ) → at ≡ r * width → r * width + width ≤ length l → s ≡ filled (rowPlaces width f) (r * width) l
-    → (a s′ : List ℕ) → length a ≡ width → a ≡ f r → s′ ≡ spliced (elementPlaces a) at width s → s′ ≡ filled (rowPlaces width f) ((r + 1) * width) l
-value-more f r at l s at-is room is a s′ long a-is wrote =
-    wrote
-    ∙ ap (λ n. spliced (elementPlaces a) n width s) at-is
-    ∙ sym (put-part (r * width) width s a long)
-    ∙ part-turn width f r l s room is a long a-is

@@ -32,7 +32,7 @@ use Rattle.protocol.specs.Rows.{keyRow, keysAfter, roundTables}
 use Rattle.protocol.specs.Calls.{openingRefusal}
 use Rattle.residues.specs.Lists.{spliced}
 use Rattle.equations.specs.Items.{rowElement}
-use Rattle.round_products.specs.Rowwise.{rowPlaces}
+use Rattle.products.specs.Rowwise.{rowPlaces}
 use Rattle.opening_rounds.specs.Rounds.{roundItem}
 use Rattle.opening.specs.declared.turns.State.{State}
 

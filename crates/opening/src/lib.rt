@@ -29,9 +29,8 @@ pub fn opened(
         (Opening settings (now (key .entry)) (now (message .entry)) (now (challenges .entry)) (now (rounds .entry)) r (now (key .exit)) (now (message .exit)) (now (rounds .exit))) ⌝ }
 {
     let mut claims: [Residue; ROWS_WIDTH] = [0; ROWS_WIDTH];
-    let mut commitment: [Residue; ROWS_WIDTH] = [0; ROWS_WIDTH];
     opening_rounds::begin(settings, key, message, &mut claims, rounds);
-    storage::spread(settings, &claims, &mut commitment);
+    let commitment = prover::by_value(settings, &claims);
     let begun = State {
         done: 0,
         holds: true,

@@ -3,13 +3,11 @@
 --
 --   sumAt                   number k of a sum of two elements
 --   halfOf q y              y/2 modulo q, of a residue y and an odd q
---   Halvables q n l         q is odd, and l begins with n residues
 --   middleAt, lastAt        number k of c1 and of c2
 --   sumElement S t ..       c0 + c1 + c2 of round t + 1 in one row, as one inner product
---   roundItem, sumItem      c_j of round t + 1, and that sum, row by row
+--   sumItem S t ..          that sum, row by row
 --   commitmentItem          the commitment, row by row
---   Begun S ..              the commitment is written, and c0 of round 1 where there is room for it, in one row
---   ItemsBegun S ..         so they are in every row
+--   ItemsBegun S ..         the commitment is written in every row, and c0 of round 1 where there is room for it
 --   Continuing S t ..       p begins with c0 of round t + 1, and the claim is 2·(c0 + c2), in every row
 use mathlib.Core.Path.{_≡_}
 use mathlib.Core.List.{List}
@@ -20,23 +18,20 @@ use Rattle.protocol.specs.declared.Settings.{Settings}
 use Rattle.protocol.specs.Element.{times, reduced, signedAt, residueAt}
 use Rattle.protocol.specs.Settings as settings
 use Rattle.protocol.specs.Layout.{itemCells}
-use Rattle.protocol.specs.Opening.{halfLeft, commitment, roundElement}
+use Rattle.protocol.specs.Opening.{halfLeft, commitment}
 use Rattle.protocol.specs.Rows.{keyRow}
 use Rattle.protocol.specs.Calls.{roundRefusal}
 use Rattle.residues.specs.Lists.{filled}
-use Rattle.modular.specs.Factors.{Halvable}
 use Rattle.round_products.specs.Sums.{innerOfSums}
-use Rattle.round_products.specs.Rowwise.{elementPlaces, rowPlaces}
-pub use Rattle.round_products.specs.Sums.{half}
+pub use Rattle.round_products.specs.Items.{roundItem}
+use Rattle.products.specs.Rowwise.{rowPlaces}
+pub use Rattle.round_products.specs.Sums.{half, Halvables}
 
 abbrev pub sumAt : ℕ → List ℕ → List ℕ → ℕ → ℕ
 sumAt q x y k = (getD x k 0 + getD y k 0) % q
 
 abbrev pub halfOf : ℕ → ℕ → ℕ
 halfOf q y = half q * y % q
-
-abbrev pub Halvables : ℕ → ℕ → List ℕ → Type 0
-Halvables q n l = (k : ℕ) → k < n → Halvable q (getD l k 0)
 
 abbrev pub middleAt : ℕ → ℕ → List ℕ → List ℕ → ℕ → ℕ
 middleAt q n claim p k = (getD p (n + k) 0 + (q - halfOf q (getD claim k 0))) % q
@@ -49,19 +44,11 @@ sumElement S t key message =
     let d = S .degree in
     reduced (S .modulus) d (times (pos (settings.half S ^ (t + 1))) (innerOfSums d (halfLeft S t) (signedAt d message) (residueAt d key)))
 
-abbrev pub roundItem : Settings → ℕ → List ℕ → List ℤ → ℕ → ℕ → List ℕ
-roundItem S t key message j r = roundElement S t (keyRow S key r) message j
-
 abbrev pub sumItem : Settings → ℕ → List ℕ → List ℤ → ℕ → List ℕ
 sumItem S t key message r = sumElement S t (keyRow S key r) message
 
 abbrev pub commitmentItem : Settings → List ℕ → List ℤ → ℕ → List ℕ
 commitmentItem S key message r = commitment S (keyRow S key r) message
-
-pub record Begun (S : Settings) (key : List ℕ) (message : List ℤ) (C R C′ R′ : List ℕ) : Type 0 where
-  pub commits : S .degree ≤ length C → C′ ≡ filled (elementPlaces (commitment S key message)) (S .degree) C
-  pub first : S .degree ≤ length R → R′ ≡ filled (elementPlaces (roundElement S 0 key message 0)) (S .degree) R
-  pub none : length R < S .degree → R′ ≡ R
 
 pub record ItemsBegun (S : Settings) (key : List ℕ) (message : List ℤ) (C R C′ R′ : List ℕ) : Type 0 where
   pub commits : itemCells S ≤ length C → C′ ≡ filled (rowPlaces (S .degree) (commitmentItem S key message)) (itemCells S) C

@@ -7,18 +7,24 @@
 --   Addable q d m f g ..   one element of each kind, the first within ±m, whose product may be added to sums, with room for x numbers
 --   Finished q d F s t     sums that may be joined
 --   Summable q d n f g     two tables, whose inner product is of n elements; the first is within ±magnitude
-use mathlib.Core.Bool.{Bool, _&&_}
+--   Given sums q d n f g   two such tables, or two whose halves have n elements and may be added
+--   innerElement sums ..   their inner product, or that of the sums of their halves
+--   RowGiven ..            two such tables, the first of which is transformed in x where the transform of a level is taken
+--   RowsGiven ..           a table f and the rows of a key g, which begin at the distance `stride`: row r begins with the numbers of G r
+use mathlib.Core.Bool.{Bool, true, false, _&&_}
 use mathlib.Core.List.{List}
 use mathlib.Core.Path.{_≡_}
-use Prim.Native.Nat.{ℕ, _*_, _%_, _^_, _<_, _≤_}
+use Prim.Native.Nat.{ℕ, _+_, _*_, _%_, _^_, _<_, _≤_}
 use lib.Dec.{eqb, ltb}
 use lib.IntN.{ℤ}
 use lib.ListN.{length, getD}
-use Rattle.protocol.specs.Element.{Element, width, modulo}
+use Rattle.protocol.specs.Element.{Element, width, modulo, reduced}
 use Rattle.protocol.specs.Settings.{modulusMost}
+use Rattle.protocol.specs.Opening.{inner}
+use Rattle.batches.specs.Batches.{Suits, Ready}
 use Rattle.joins.specs.Sums as joined
 pub use Rattle.half_sums.specs.Halves.{Elements, Small, keySums, Halves}
-unfoldable pub use Rattle.half_sums.specs.Halves.{messageSums, keySumAt}
+unfoldable pub use Rattle.half_sums.specs.Halves.{messageSums, keySumAt, sizeOf, messagesOf, keysOf}
 
 -- 256 elements of 128 numbers of 15 bits
 abbrev pub capacity : ℕ
@@ -58,3 +64,22 @@ pub record Summable (q d n : ℕ) (f : List ℤ) (g : List ℕ) : Type 0 where
   pub small : Small magnitude (n * d) f
   pub modulus-most : q ≤ modulusMost
   pub residues : (j : ℕ) → j < n * d → getD g j 0 < q
+
+unfoldable pub Given : Bool → ℕ → ℕ → ℕ → List ℤ → List ℕ → Type 0
+Given true q d n = Halves q d n
+Given false q d n = Summable q d n
+
+abbrev pub innerElement : Bool → ℕ → ℕ → ℕ → List ℤ → List ℕ → List ℕ
+innerElement sums q d n f g = reduced q d (inner d n (messagesOf sums d n f) (keysOf sums q d n g))
+
+pub record RowGiven (sums : Bool) (level q d n : ℕ) (f : List ℤ) (x g : List ℕ) : Type 0 where
+  pub given : Given sums q d n f g
+  pub suits : 0 < level → Suits q d n level
+  pub ready : 0 < level → Ready level d n (messagesOf sums d n f) x
+  pub room : 0 < level → n * d ≤ length x
+
+pub record RowsGiven (sums : Bool) (q d n rows stride : ℕ) (f : List ℤ) (g : List ℕ) (G : ℕ → List ℕ) : Type 0 where
+  pub some : 0 < rows
+  pub long : (r : ℕ) → r < rows → r * stride + sizeOf sums d n ≤ length g
+  pub alike : (r p : ℕ) → r < rows → p < sizeOf sums d n → getD g (r * stride + p) 0 ≡ getD (G r) p 0
+  pub given : (r : ℕ) → r < rows → Given sums q d n f (G r)

@@ -7,24 +7,29 @@ use joins::Joint;
 use protocol::Residue;
 use protocol::WIDTH;
 ghost use mathlib.Core.Path.{_≡_};
-ghost use Prim.Native.Nat.{ℕ, _*_, _^_, _≤_};
+ghost use mathlib.Core.List.{List};
+ghost use Prim.Native.Nat.{ℕ, _+_, _*_, _^_, _<_, _≤_};
 ghost use lib.IntN.{ℤ};
 ghost use lib.ListN.{length, getD};
 ghost use Rattle.protocol.specs.Basic.{every, Provided};
 ghost use Rattle.protocol.specs.Element.{Element, reduced, padded, product, signed, residue, signedAt, residueAt};
 ghost use Rattle.protocol.specs.Opening as opening;
+ghost use Rattle.residues.specs.Lists.{filled};
 ghost use Rattle.modular.specs.Factors.{Modulus};
-ghost use Rattle.joins.specs.Sums.{Ready};
 ghost use Rattle.joins.specs.Sums as joined;
-ghost use Rattle.half_sums.specs.Halves.{Elements, messageSums, keySums, Halves};
-ghost use Rattle.batches.specs.Batches.{Zero};
-ghost use Rattle.products.specs.Sums.{Stands, Finished, multipleIs, Summable};
+ghost use Rattle.half_sums.specs.Halves.{Elements, messageSums, keySums, Halves, messagesOf};
+ghost use Rattle.batches.specs.Batches.{Zero, Suits, Ready};
+ghost use Rattle.products.specs.Rowwise.{rowPlaces};
+ghost use Rattle.products.specs.Sums.{Stands, Finished, multipleIs, Summable, innerElement, RowGiven, RowsGiven};
 
 // A sum of products, modulo 2^64.
 type Sum = u64;
 
 // A small degree.
 const FEW: usize = 16;
+
+// Room for a table of 256 elements, of the largest degree.
+const TABLE: usize = 256 * WIDTH;
 
 // The element that the sums stand for.
 fn finish(q: Residue, d: u32, s: &[Sum], t: &[Sum]) -> [Residue; WIDTH]
@@ -59,17 +64,6 @@ pub fn plain_inner(q: Residue, d: u32, n: u32, f: &[i32], g: &[Residue]) -> [Res
     finish(q, d, &s, &t)
 }
 
-// The same by whichever way is the quicker: by the transform where it can be had.
-pub fn inner(q: Residue, d: u32, n: u32, f: &[i32], g: &[Residue]) -> [Residue; WIDTH]
-    ensures { λ r. ⌜ Provided (Summable q d n (now (f .entry)) (now (g .entry))) (r ≡ padded d (reduced q d (opening.inner d n (signedAt d (now (f .entry))) (residueAt d (now (g .entry)))))) ⌝ }
-{
-    let level = batches::level(q, d, n);
-    if level == 0 {
-        return plain_inner(q, d, n, f, g);
-    }
-    batches::inner(false, level, d as usize, n as usize, f, g)
-}
-
 // ⟨f0 + f1, g0 + g1⟩ modulo q, the halves having h elements, coefficient by coefficient.
 fn plain_inner_of_sums(q: Residue, d: u32, h: u32, f: &[i32], g: &[Residue]) -> [Residue; WIDTH]
     ensures { λ r. ⌜ Provided (Halves q d h (now (f .entry)) (now (g .entry))) (r ≡ padded d (reduced q d (opening.inner d h (messageSums d h (now (f .entry))) (keySums q d h (now (g .entry)))))) ⌝ }
@@ -96,20 +90,162 @@ fn plain_inner_of_sums(q: Residue, d: u32, h: u32, f: &[i32], g: &[Residue]) -> 
     finish(q, d, &s, &t)
 }
 
-// The same by whichever way is the quicker.
-pub fn inner_of_sums(q: Residue, d: u32, h: u32, f: &[i32], g: &[Residue]) -> [Residue; WIDTH]
-    ensures { λ r. ⌜ Provided (Halves q d h (now (f .entry)) (now (g .entry))) (r ≡ padded d (reduced q d (opening.inner d h (messageSums d h (now (f .entry))) (keySums q d h (now (g .entry)))))) ⌝ }
+// Whichever of the two, by whichever way is the quicker: where a level is given, by the transform, for which f is prepared in x.
+fn inner_row(
+    sums: bool,
+    level: u32,
+    q: Residue,
+    d: u32,
+    n: u32,
+    f: &[i32],
+    x: &[u16],
+    g: &[Residue],
+) -> [Residue; WIDTH]
+    ensures { λ r. ⌜ Provided (RowGiven sums level q d n (now (f .entry)) (now (x .entry)) (now (g .entry))) (r ≡ padded d (innerElement sums q d n (now (f .entry)) (now (g .entry)))) ⌝ }
 {
-    let level = batches::level(q, d, h);
-    if level == 0 {
-        return plain_inner_of_sums(q, d, h, f, g);
+    if level > 0 {
+        return batches::inner(sums, level, d as usize, n as usize, x, g);
     }
-    batches::inner(true, level, d as usize, h as usize, f, g)
+    if sums {
+        return plain_inner_of_sums(q, d, n, f, g);
+    }
+    plain_inner(q, d, n, f, g)
+}
+
+// The place `stride` behind another, or the end.
+fn further(from: usize, stride: usize, end: usize) -> usize
+    ensures { λ r. ⌜ (r ≤ end) × Provided (from + stride ≤ end) (r ≡ from + stride) ⌝ }
+{
+    if from > end {
+        return end;
+    }
+    if end - from < stride {
+        return end;
+    }
+    from + stride
+}
+
+// The same with every row of a key, written one behind the other.
+fn write_rows(
+    sums: bool,
+    level: u32,
+    q: Residue,
+    d: u32,
+    n: u32,
+    rows: u32,
+    stride: usize,
+    f: &[i32],
+    x: &[u16],
+    g: &[Residue],
+    out: &mut [Residue],
+)
+    ensures { λ _. ⌜ ((G : ℕ → List ℕ) → Provided (RowsGiven sums q d n rows stride (now (f .entry)) (now (g .entry)) G × (rows * d ≤ length (now (out .entry)))
+        × (0 < level → Suits q d n level) × (0 < level → Ready level d n (messagesOf sums d n (now (f .entry))) (now (x .entry))) × (0 < level → n * d ≤ length (now (x .entry))))
+        (now (out .exit) ≡ filled (rowPlaces d (λ r. innerElement sums q d n (now (f .entry)) (G r))) (rows * d) (now (out .entry)))) ⌝ }
+{
+    let cells = d as usize;
+    let mut from: usize = 0;
+    let mut at: usize = 0;
+    let mut r: u32 = 0;
+    while r < rows {
+        if out.len() - at < cells {
+            return;
+        }
+        let element = inner_row(sums, level, q, d, n, f, x, &g[from..]);
+        residues::store(cells, &element, 0, &mut out[at..]);
+        from = further(from, stride, g.len());
+        at += cells;
+        r += 1;
+    }
+}
+
+// The same by the transform: what it needs of f is worked out once for all rows, in x.
+fn send_rows(
+    sums: bool,
+    level: u32,
+    q: Residue,
+    d: u32,
+    n: u32,
+    rows: u32,
+    stride: usize,
+    f: &[i32],
+    x: &mut [u16],
+    g: &[Residue],
+    out: &mut [Residue],
+)
+    ensures { λ _. ⌜ ((G : ℕ → List ℕ) → Provided (RowsGiven sums q d n rows stride (now (f .entry)) (now (g .entry)) G × (rows * d ≤ length (now (out .entry)))
+        × Suits q d n level × (n * d ≤ length (now (x .entry))) × Zero (now (x .entry)))
+        (now (out .exit) ≡ filled (rowPlaces d (λ r. innerElement sums q d n (now (f .entry)) (G r))) (rows * d) (now (out .entry)))) ⌝ }
+{
+    batches::prepare(sums, level, d as usize, n as usize, f, x);
+    write_rows(sums, level, q, d, n, rows, stride, f, x, g, out);
+}
+
+// The same with as much room as it takes. A short table takes less, since all of it is set to 0 first.
+fn transformed_rows(
+    sums: bool,
+    level: u32,
+    q: Residue,
+    d: u32,
+    n: u32,
+    rows: u32,
+    stride: usize,
+    f: &[i32],
+    g: &[Residue],
+    out: &mut [Residue],
+)
+    ensures { λ _. ⌜ ((G : ℕ → List ℕ) → Provided (RowsGiven sums q d n rows stride (now (f .entry)) (now (g .entry)) G × (rows * d ≤ length (now (out .entry))) × Suits q d n level)
+        (now (out .exit) ≡ filled (rowPlaces d (λ r. innerElement sums q d n (now (f .entry)) (G r))) (rows * d) (now (out .entry)))) ⌝ }
+{
+    if (n as u64) * (d as u64) <= 8192 {
+        let mut x = [0u16; 8192];
+        send_rows(sums, level, q, d, n, rows, stride, f, &mut x, g, out);
+        return;
+    }
+    let mut x = [0u16; TABLE];
+    send_rows(sums, level, q, d, n, rows, stride, f, &mut x, g, out);
+}
+
+// The inner product of the first n elements of f with those of every row of g, or of the sums of their halves, which have n elements, modulo q: an element for each row, one
+// behind the other. The rows begin at the distance `stride`.
+pub fn inner_rows(
+    sums: bool,
+    q: Residue,
+    d: u32,
+    n: u32,
+    rows: u32,
+    stride: usize,
+    f: &[i32],
+    g: &[Residue],
+    out: &mut [Residue],
+)
+    ensures { λ _. ⌜ ((G : ℕ → List ℕ) → Provided (RowsGiven sums q d n rows stride (now (f .entry)) (now (g .entry)) G × (rows * d ≤ length (now (out .entry))))
+        (now (out .exit) ≡ filled (rowPlaces d (λ r. innerElement sums q d n (now (f .entry)) (G r))) (rows * d) (now (out .entry)))) ⌝ }
+{
+    let level = batches::level(q, d, n);
+    if level == 0 {
+        write_rows(sums, 0, q, d, n, rows, stride, f, &[], g, out);
+        return;
+    }
+    transformed_rows(sums, level, q, d, n, rows, stride, f, g, out);
+}
+
+// The same for one row.
+pub fn inner(q: Residue, d: u32, n: u32, f: &[i32], g: &[Residue]) -> [Residue; WIDTH]
+    ensures { λ r. ⌜ Provided (Summable q d n (now (f .entry)) (now (g .entry))) (r ≡ padded d (reduced q d (opening.inner d n (signedAt d (now (f .entry))) (residueAt d (now (g .entry)))))) ⌝ }
+{
+    let level = batches::level(q, d, n);
+    if level == 0 {
+        return plain_inner(q, d, n, f, g);
+    }
+    let mut a = [0u64; WIDTH];
+    transformed_rows(false, level, q, d, n, 1, 0, f, g, &mut a);
+    a
 }
 
 // Do two sums stand for c·a modulo q, a being a residue: q divides that and c·(q − a).
 fn sum_is(joint: Joint, s: Sum, t: Sum, c: u32, a: Residue) -> bool
-    ensures { λ r. ⌜ ((q : ℕ) (z : ℤ) → Provided (Ready q joint × joined.Halves q z (2 ^ 61) s t × (c ≤ 2 ^ 13)) (r ≡ multipleIs q c z a)) ⌝ }
+    ensures { λ r. ⌜ ((q : ℕ) (z : ℤ) → Provided (joined.Ready q joint × joined.Halves q z (2 ^ 61) s t × (c ≤ 2 ^ 13)) (r ≡ multipleIs q c z a)) ⌝ }
 {
     if a >= joint.modulus {
         return false;

@@ -1,91 +1,79 @@
--- Elements of the rows, written with all their places into zeros: what is passed by value for each row.
-use mathlib.Core.Path.{_≡_, refl, sym, ap, _∙_}
-use mathlib.Core.Bool.{true, false, _&&_}
+-- The items of the prover's answers, as they are passed by value.
+use mathlib.Core.Path.{_≡_, sym, ap, _∙_}
+use mathlib.Core.Bool.{false}
 use mathlib.Core.List.{List, [], _∷_}
-use Prim.Native.Nat.{ℕ, _+_, _*_, _-_, _/_, _%_, _<_, _≤_}
-use native.Mathlib.Nat as Nat
-use native.Mathlib.Decide.{decLt}
+use Prim.Native.Nat.{ℕ, _+_, _*_, _<_, _≤_}
+use native.Mathlib.Nat.{mul-le-mul}
 use native.Mathlib.Omega.{arith}
-use borrow.Author.Tests.{lt-ltb, le-ltb}
-use lib.Dec.{ltb}
 use lib.IntN.{ℤ}
-use lib.ListN.{length, getD, List·getD-append}
-use lib.Seq.{ext-getD, getD-append-add}
+use lib.ListN.{length, getD, take}
+use lib.Seq.{getD-take}
 use Rattle.protocol.specs.declared.Settings.{Settings}
-use Rattle.protocol.specs.Basic.{flat, tabulate, choose}
-use Rattle.protocol.specs.Element.{width, zeros, padded, reduced}
-use Rattle.protocol.specs.Layout.{rowsMost, rowsWidth}
-use Rattle.protocol.specs.Settings.{settingsRefusal}
-use Rattle.protocol.specs.Opening.{commitment, roundElement}
-use Rattle.protocol.specs.Rows.{atRows}
-use Rattle.protocol.specs.Calls.{polynomial}
+use Rattle.protocol.specs.Basic.{tabulate}
+use Rattle.protocol.specs.Element.{zeros, reduced, signedAt, residueAt}
+use Rattle.protocol.specs.Settings.{settingsRefusal, size, cells}
+use Rattle.protocol.specs.Layout.{itemCells, rowsWidth}
+use Rattle.protocol.specs.Opening.{inner, left, commitment}
+use Rattle.protocol.specs.Rows.{keyRow, atRows}
+use Rattle.protocol.specs.Calls.{commitRefusal, polynomial}
 use Rattle.protocol.proofs.Inputs.{settings-valid}
-use Rattle.protocol.proofs.Reading.{by-cells, tabulate-length, flat-length, flat-at, cell-element, cell-place, cell-inside}
-use Rattle.protocol.proofs.Refusals.{and-fails-left, and-fails-right}
+use Rattle.protocol.proofs.Rows.{keyRow-length}
+use Rattle.protocol.proofs.Reading.{cell-inside, cell-element, cell-place, tabulate-at}
 use Rattle.residues.specs.Lists.{filled}
-use Rattle.residues.proofs.Fill.{zeros-length, zeros-at, filled-at, filled-behind, filled-length}
-use Rattle.prover.specs.Rowwise.{valuePlaces, committed, sent, RowsWritten}
+use Rattle.residues.proofs.Fill.{zeros-length, filled-at}
+use Rattle.sizes.proofs.Limits.{degree-most}
+use Rattle.prover_refusals.proofs.Given.{first-row, commit-given, commit-key}
+use Rattle.products.specs.Sums.{sizeOf, messagesOf, keysOf, Given, innerElement, RowsGiven}
+use Rattle.products.specs.Rowwise.{rowPlaces}
+use Rattle.round_products.specs.Items.{roundItem, Sent}
+use Rattle.round_products.proofs.Products.{summable, left-whole, commit-tables}
+use Rattle.round_products.proofs.Rowwise.{keys-given}
+use Rattle.slices.specs.Slices.{valuesOf}
+use Rattle.slices.proofs.Rows.{atRows-ext}
+use Rattle.prover.specs.Rowwise.{committed}
 
--- an element behind its d coefficients
-padded-behind : (d : ℕ) (l : List ℕ) (k : ℕ) → length l ≡ d → d ≤ k → getD (padded d l) k 0 ≡ 0
-unfolding padded
-padded-behind d l k e h = ap (λ n. getD (padded d l) n 0) {y = length l + (k - d)} (omega (arith, e)) ∙ getD-append-add l (zeros (width - d)) (k - d) 0 ∙ zeros-at (width - d) (k - d)
+-- an item of the elements f r of the rows r
+pub item-by-value : (S : Settings) (f : ℕ → List ℕ) (l s : List ℕ) → s ≡ filled (rowPlaces (S .degree) f) (itemCells S) l → valuesOf S s ≡ atRows S f
+unfolding valuesOf
+item-by-value S f l s e = atRows-ext S _ f (λ r k a b.
+    tabulate-at (S .degree) (λ k. getD s (r * S .degree + k) 0) 0 k b
+    ∙ ap (λ x. getD x (r * S .degree + k) 0) e
+    ∙ filled-at (rowPlaces (S .degree) f) (itemCells S) l 0 (r * S .degree + k) (cell-inside (S .degree) (S .rows) r k a b)
+    ∙ λ i. getD (f (cell-element (S .degree) r k b i)) (cell-place (S .degree) r k b i) 0)
 
-padded-before : (d : ℕ) (l : List ℕ) (k : ℕ) → length l ≡ d → k < d → getD (padded d l) k 0 ≡ getD l k 0
-unfolding padded
-padded-before d l k e h = List·getD-append l (zeros (width - d)) 0 k (omega (arith, e))
+-- of a table only the item is read, with which it begins
+pub item-front : (S : Settings) (n : ℕ) → n ≡ itemCells S → (l : List ℕ) → valuesOf S (take n l) ≡ valuesOf S l
+unfolding valuesOf
+item-front S n e l = atRows-ext S _ _ (λ r k a b.
+    tabulate-at (S .degree) (λ k. getD (take n l) (r * S .degree + k) 0) 0 k b
+    ∙ getD-take n l (r * S .degree + k) 0 (omega (arith, cell-inside (S .degree) (S .rows) r k a b))
+    ∙ sym (tabulate-at (S .degree) (λ k. getD l (r * S .degree + k) 0) 0 k b))
 
-module _ (S : Settings) (f : ℕ → List ℕ) (few : S .rows ≤ rowsMost) (long : (r : ℕ) → r < S .rows → length (f r) ≡ S .degree) where
-  open Settings S using (degree as d, rows as rows)
+pub item-room : (S : Settings) → settingsRefusal S ≡ 0 → itemCells S ≤ length (zeros rowsWidth)
+item-room S ok = omega (arith, settings-valid S ok .rows-most, degree-most S (settings-valid S ok), mul-le-mul {n₁ = S .rows} {m₁ = S .degree} {n₂ = 4} {m₂ = 128} (settings-valid S ok .rows-most) (degree-most S (settings-valid S ok)), zeros-length rowsWidth)
 
-  abbrev written : List ℕ
-  written = filled (valuePlaces S f) (rows * width) (zeros rowsWidth)
+-- ---- the commitment
 
-  -- number k of row r
-  place : (r k : ℕ) → r < rowsMost → k < width → getD written (r * width + k) 0 ≡ choose (ltb r rows && ltb k d) (getD (f r) k 0) 0
-  unfolding choose
-  place r k hr hk = elim (decLt r rows) [
-    | yes lr ↦
-        filled-at (valuePlaces S f) (rows * width) (zeros rowsWidth) 0 (r * width + k) (cell-inside width rows r k lr hk)
-        ∙ (λ i. getD (padded d (f (cell-element width r k hk i))) (cell-place width r k hk i) 0)
-        ∙ elim (decLt k d) [
-          | yes lk ↦ padded-before d (f r) k (long r lr) lk ∙ sym (λ i. choose (lt-ltb r rows lr i && lt-ltb k d lk i) (getD (f r) k 0) 0)
-          | no gk ↦ padded-behind d (f r) k (long r lr) (omega arith) ∙ sym (ap (λ b. choose b (getD (f r) k 0) 0) (and-fails-right (ltb r rows) (ltb k d) (le-ltb k d (omega arith))))
-        ]
-    | no gr ↦
-        filled-behind (valuePlaces S f) (rows * width) (zeros rowsWidth) 0 (r * width + k) (omega arith)
-        ∙ zeros-at rowsWidth (r * width + k)
-        ∙ sym (ap (λ b. choose b (getD (f r) k 0) 0) (and-fails-left (ltb r rows) (ltb k d) (le-ltb r rows (omega arith))))
-  ]
+module _ (S : Settings) (key : List ℕ) (message : List ℤ) (z : commitRefusal S key message ≡ 0) where
+  pub commit-rows-given : RowsGiven false (S .modulus) (S .degree) (left S 0) (S .rows) (cells S) message key (keyRow S key)
+  unfolding sizeOf Given
+  commit-rows-given =
+      let (ok, long) = commit-key S key message z in
+      keys-given S key ok long false (left S 0) message (omega (arith, commit-tables S (keyRow S key 0) message (commit-given S key message z 0 (first-row S ok)) .key-long, keyRow-length S key 0))
+      (λ r l. summable _ _ _ _ _ (commit-tables S (keyRow S key r) message (commit-given S key message z r l))) .rows
 
-  pub by-value : written ≡ atRows S f
-  unfolding atRows
-  by-value = ext-getD 0 written (flat width rowsMost (λ r k. choose (ltb r rows && ltb k d) (getD (f r) k 0) 0))
-      (filled-length (valuePlaces S f) (rows * width) (zeros rowsWidth) (omega (arith, zeros-length rowsWidth)) ∙ zeros-length rowsWidth ∙ sym (flat-length width rowsMost _))
-      (λ j h. by-cells width rowsMost (omega arith) (λ j. getD written j 0 ≡ getD (flat width rowsMost (λ r k. choose (ltb r rows && ltb k d) (getD (f r) k 0) 0)) j 0)
-      (λ r k hr hk. place r k hr hk ∙ sym (flat-at width rowsMost (λ r k. choose (ltb r rows && ltb k d) (getD (f r) k 0) 0) 0 r k hr hk)) j
-      (omega (arith, h, filled-length (valuePlaces S f) (rows * width) (zeros rowsWidth) (omega (arith, zeros-length rowsWidth)), zeros-length rowsWidth)))
+  pub commitment-item : (l : List ℕ)
+      → filled (rowPlaces (S .degree) (λ r. innerElement false (S .modulus) (S .degree) (left S 0) message (keyRow S key r))) (itemCells S) l ≡ filled (rowPlaces (S .degree) (committed S key message)) (itemCells S) l
+  unfolding commitment messagesOf keysOf
+  commitment-item l = ap (λ n. filled (rowPlaces (S .degree) (λ r. reduced (S .modulus) (S .degree) (inner (S .degree) n (signedAt (S .degree) message) (residueAt (S .degree) (keyRow S key r))))) (itemCells S) l) (left-whole S)
 
--- ---- the prover's answers
+-- ---- the round polynomial
 
-module _ (S : Settings) (ok : settingsRefusal S ≡ 0) where
-  few-rows : S .rows ≤ rowsMost
-  few-rows = settings-valid S ok .rows-most
-
-  pub rows-room : S .rows * width ≤ length (zeros rowsWidth)
-  rows-room = omega (arith, few-rows, zeros-length rowsWidth)
-
-  module _ (key : List ℕ) (message : List ℤ) where
-    pub commitment-by-value : filled (valuePlaces S (committed S key message)) (S .rows * width) (zeros rowsWidth) ≡ atRows S (committed S key message)
-    commitment-by-value = by-value S (committed S key message) few-rows (λ r _. unfold commitment reduced in tabulate-length (S .degree) _)
-
-    element-by-value : (t j : ℕ) → filled (valuePlaces S (sent S t key message j)) (S .rows * width) (zeros rowsWidth) ≡ atRows S (sent S t key message j)
-    element-by-value t j = by-value S (sent S t key message j) few-rows (λ r _. unfold roundElement reduced in tabulate-length (S .degree) _)
-
-    pub polynomial-by-value : (t : ℕ) (c0 c1 c2 : List ℕ) → RowsWritten S t key message (zeros rowsWidth) (zeros rowsWidth) (zeros rowsWidth) c0 c1 c2 → c0 ∷ c1 ∷ c2 ∷ [] ≡ polynomial S t key message
-    unfolding polynomial tabulate
-    polynomial-by-value t c0 c1 c2 w =
-        let first = w .first ∙ element-by-value t 0 in
-        let middle = w .middle ∙ element-by-value t 1 in
-        let last = w .last ∙ element-by-value t 2 in
-        λ i. first i ∷ middle i ∷ last i ∷ []
+pub polynomial-by-value : (S : Settings) (t : ℕ) (key : List ℕ) (message : List ℤ) (l0 l1 l2 c0 c1 c2 : List ℕ) → Sent S t key message l0 l1 l2 c0 c1 c2
+    → valuesOf S c0 ∷ valuesOf S c1 ∷ valuesOf S c2 ∷ [] ≡ polynomial S t key message
+unfolding polynomial tabulate
+polynomial-by-value S t key message l0 l1 l2 c0 c1 c2 w =
+    let first = item-by-value S (roundItem S t key message 0) l0 c0 (w .first) in
+    let middle = item-by-value S (roundItem S t key message 1) l1 c1 (w .middle) in
+    let last = item-by-value S (roundItem S t key message 2) l2 c2 (w .last) in
+    λ i. first i ∷ middle i ∷ last i ∷ []

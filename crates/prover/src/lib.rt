@@ -8,60 +8,26 @@ use protocol::Settings;
 use protocol::WIDTH;
 use residues::elements;
 ghost use mathlib.Core.Path.{_≡_};
-ghost use Prim.Native.Nat.{_*_, _≤_};
+ghost use Prim.Native.Nat.{_≤_};
 ghost use lib.ListN.{length};
 ghost use Rattle.protocol.specs.Basic.{Provided};
-ghost use Rattle.protocol.specs.Element.{width, padded};
-ghost use Rattle.protocol.specs.Opening as opening;
+ghost use Rattle.protocol.specs.Layout.{itemCells};
+ghost use Rattle.protocol.specs.Settings.{settingsRefusal};
 ghost use Rattle.protocol.specs.Rows.{foldKeys};
-ghost use Rattle.protocol.specs.Calls.{commitRefusal, commitAnswer, roundRefusal, roundAnswer, foldRefusal, endAnswer};
+ghost use Rattle.protocol.specs.Calls.{commitAnswer, roundAnswer, foldRefusal, endAnswer};
 ghost use Rattle.protocol.specs.Promises.{Folded};
-ghost use Rattle.residues.specs.Lists.{filled};
-ghost use Rattle.prover_refusals.specs.Given.{CommitGiven, RoundGiven};
-ghost use Rattle.round_products.specs.Rowwise.{elementPlaces};
-ghost use Rattle.prover.specs.Rowwise.{valuePlaces, committed, RowWritten, RowsWritten, KeysGiven};
+ghost use Rattle.slices.specs.Slices.{valuesOf};
+ghost use Rattle.prover.specs.Rowwise.{KeysGiven};
 
-// An element with all its places, written to the front of out.
-fn put_element(element: [Residue; WIDTH], out: &mut [Residue])
-    ensures { λ _. ⌜ Provided (width ≤ length (now (out .entry))) (now (out .exit) ≡ filled (elementPlaces element) width (now (out .entry))) ⌝ }
+// An item, with which a table begins, as it is passed by value.
+pub fn by_value(settings: Settings, item: &[Residue]) -> [Residue; ROWS_WIDTH]
+    ensures { λ r. ⌜ Provided (settingsRefusal settings ≡ 0) (Provided (itemCells settings ≤ length (now (item .entry))) (r ≡ valuesOf settings (now (item .entry)))) ⌝ }
 {
-    residues::store(WIDTH, &element, 0, out);
-}
-
-// The commitment in one row, as an element with all its places, written to the front of out.
-fn commit_row(settings: Settings, key: &[Residue], message: &[i32], out: &mut [Residue])
-    ensures { λ _. ⌜ Provided (CommitGiven settings (now (key .entry)) (now (message .entry)))
-        (Provided (width ≤ length (now (out .entry)))
-        (now (out .exit) ≡ filled (elementPlaces (padded (settings .degree) (opening.commitment settings (now (key .entry)) (now (message .entry))))) width (now (out .entry)))) ⌝ }
-{
-    let n = sizes::left(settings, 0);
-    let c = products::inner(settings.modulus, settings.degree, n, message, key);
-    put_element(c, out);
-}
-
-// The same in every row: row r from place r·WIDTH on.
-fn commit_rows(settings: Settings, key: &[Residue], message: &[i32], out: &mut [Residue])
-    ensures { λ _. ⌜ Provided (commitRefusal settings (now (key .entry)) (now (message .entry)) ≡ 0)
-        (Provided (settings .rows * width ≤ length (now (out .entry)))
-        (now (out .exit) ≡ filled (valuePlaces settings (committed settings (now (key .entry)) (now (message .entry)))) (settings .rows * width) (now (out .entry)))) ⌝ }
-{
-    let cells = sizes::cells(settings);
-    let mut from: usize = 0;
-    let mut at: usize = 0;
-    let mut r: u32 = 0;
-    while r < settings.rows {
-        if key.len() - from < cells {
-            return;
-        }
-        if out.len() - at < WIDTH {
-            return;
-        }
-        let to = from + cells;
-        commit_row(settings, &key[from..to], message, &mut out[at..]);
-        from = to;
-        at += WIDTH;
-        r += 1;
+    let n = sizes::item_cells(settings);
+    if item.len() < n {
+        return [0; ROWS_WIDTH];
     }
+    slices::residues(settings, &item[..n])
 }
 
 // The commitment to a message.
@@ -75,11 +41,21 @@ pub fn commit(settings: Settings, key: &[Residue], message: &[i32]) -> Committed
             commitment: [0; ROWS_WIDTH],
         };
     }
-    let mut commitment: [Residue; ROWS_WIDTH] = [0; ROWS_WIDTH];
-    commit_rows(settings, key, message, &mut commitment);
+    let mut item: [Residue; ROWS_WIDTH] = [0; ROWS_WIDTH];
+    products::inner_rows(
+        false,
+        settings.modulus,
+        settings.degree,
+        sizes::left(settings, 0),
+        settings.rows,
+        sizes::cells(settings),
+        message,
+        key,
+        &mut item,
+    );
     Committed {
         refusal: 0,
-        commitment: commitment,
+        commitment: by_value(settings, &item),
     }
 }
 
@@ -97,83 +73,6 @@ pub fn elements_of(answer: Polynomial) -> [[Residue; ROWS_WIDTH]; 3]
     answer.elements
 }
 
-// The round polynomial of round t + 1 in one row, three elements with all their places, each written to the front of a table of its own.
-fn round_row(
-    settings: Settings,
-    done: u32,
-    key: &[Residue],
-    message: &[i32],
-    c0: &mut [Residue],
-    c1: &mut [Residue],
-    c2: &mut [Residue],
-)
-    ensures { λ _. ⌜ Provided (RoundGiven settings done (now (key .entry)) (now (message .entry)))
-        (RowWritten settings done (now (key .entry)) (now (message .entry)) (now (c0 .entry)) (now (c1 .entry)) (now (c2 .entry)) (now (c0 .exit)) (now (c1 .exit)) (now (c2 .exit))) ⌝ }
-{
-    if done >= settings.depth {
-        return;
-    }
-    let h = sizes::half_left(settings, done);
-    let p = round_products::polynomial(
-        settings.modulus,
-        settings.degree,
-        h,
-        done + 1,
-        message,
-        key,
-    );
-    put_element(p[0], c0);
-    put_element(p[1], c1);
-    put_element(p[2], c2);
-}
-
-// The same in every row: row r from place r·WIDTH on.
-fn round_rows(
-    settings: Settings,
-    done: u32,
-    key: &[Residue],
-    message: &[i32],
-    c0: &mut [Residue],
-    c1: &mut [Residue],
-    c2: &mut [Residue],
-)
-    ensures { λ _. ⌜ Provided (roundRefusal settings done (now (key .entry)) (now (message .entry)) ≡ 0)
-        (Provided ((settings .rows * width ≤ length (now (c0 .entry))) × (length (now (c1 .entry)) ≡ length (now (c0 .entry))) × (length (now (c2 .entry)) ≡ length (now (c0 .entry))))
-        (RowsWritten settings done (now (key .entry)) (now (message .entry)) (now (c0 .entry)) (now (c1 .entry)) (now (c2 .entry)) (now (c0 .exit)) (now (c1 .exit)) (now (c2 .exit)))) ⌝ }
-{
-    let cells = sizes::cells(settings);
-    if c1.len() != c0.len() {
-        return;
-    }
-    if c2.len() != c0.len() {
-        return;
-    }
-    let mut from: usize = 0;
-    let mut at: usize = 0;
-    let mut r: u32 = 0;
-    while r < settings.rows {
-        if key.len() - from < cells {
-            return;
-        }
-        if c0.len() - at < WIDTH {
-            return;
-        }
-        let to = from + cells;
-        round_row(
-            settings,
-            done,
-            &key[from..to],
-            message,
-            &mut c0[at..],
-            &mut c1[at..],
-            &mut c2[at..],
-        );
-        from = to;
-        at += WIDTH;
-        r += 1;
-    }
-}
-
 // The prover's round: the round polynomial of round t + 1.
 pub fn round(settings: Settings, done: u32, key: &[Residue], message: &[i32]) -> Polynomial
     ensures { λ r. ⌜ r ≡ roundAnswer settings done (now (key .entry)) (now (message .entry)) ⌝ }
@@ -186,8 +85,11 @@ pub fn round(settings: Settings, done: u32, key: &[Residue], message: &[i32]) ->
     let mut c0: [Residue; ROWS_WIDTH] = [0; ROWS_WIDTH];
     let mut c1: [Residue; ROWS_WIDTH] = [0; ROWS_WIDTH];
     let mut c2: [Residue; ROWS_WIDTH] = [0; ROWS_WIDTH];
-    round_rows(settings, done, key, message, &mut c0, &mut c1, &mut c2);
-    polynomial_of(0, [c0, c1, c2])
+    round_products::polynomial(settings, done, message, key, &mut c0, &mut c1, &mut c2);
+    let first = by_value(settings, &c0);
+    let middle = by_value(settings, &c1);
+    let last = by_value(settings, &c2);
+    polynomial_of(0, [first, middle, last])
 }
 
 // The fold of every row of a key by X^e, each in its own places.

@@ -3,3 +3,4 @@ pub mod Products
 pub mod Halves
 pub mod Mixing
 pub mod Rowwise
+pub mod Itemwise

@@ -1,26 +1,22 @@
 -- The middle element of a round polynomial, by one inner product of the halves' sums: it is what that has more than the other two elements.
-use mathlib.Core.Path.{_≡_, refl, sym, ap, ap₂, _∙_, subst}
+use mathlib.Core.Path.{_≡_, refl, sym, ap, ap₂, _∙_}
 use mathlib.Core.List.{List}
 use Prim.Native.Nat.{ℕ, _+_, _*_, _-_, _%_, _<_}
 use native.Mathlib.Nat as Nat
 use native.Mathlib.Omega.{arith}
 use lib.IntN.{ℤ, pos, _+ℤ_, _*ℤ_}
-use lib.ListN.{getD}
 use Rattle.algebra.specs.Ring.{CommRing}
 use Rattle.algebra.specs.Integers.{ℤ-ring}
 use Rattle.algebra.specs.Residues.{Zmod}
 use Rattle.algebra.specs.Negacyclic.{negacyclic}
 use Rattle.algebra.specs.Inner as I
-use Rattle.protocol.specs.Basic.{tabulate}
-use Rattle.protocol.specs.Element.{Element, width, modulo, plus, times, padded, reduced, signedAt, residueAt}
+use Rattle.protocol.specs.Element.{Element, width, modulo, plus, signedAt, residueAt}
 use Rattle.protocol.specs.Opening.{inner, second, cross}
-use Rattle.protocol.proofs.Modulo.{modulo-lt, modulo-residue, modulo-add, modulo-times}
-use Rattle.protocol.proofs.Reading.{tabulate-ext}
+use Rattle.protocol.proofs.Modulo.{modulo-lt, modulo-residue, modulo-add}
 use Rattle.claims.proofs.Readings.{readℤ-inj, readq-ext, readq-inj, read-plus, read-inner}
-use Rattle.residues.proofs.Padding.{padded-at}
 use Rattle.products.specs.Sums.{messageSums, keySumAt, keySums, Halves}
 use Rattle.round_products.specs.Messages.{Halved}
-use Rattle.round_products.specs.Sums.{Reduced, lessBoth, scaled, innerOfSums}
+use Rattle.round_products.specs.Sums.{lessBoth, innerOfSums}
 
 -- ---- the inner product of the halves' sums: that of the key is reduced before it is taken, which changes nothing modulo q
 
@@ -44,7 +40,7 @@ module _ (q d h : ℕ) (m : List ℤ) (G : List ℕ) (t : Halved q d h m G) wher
   unfolding keySumAt
   key-sum i k = modulo-residue q (t .tables .modulus) _ (modulo-lt q (t .tables .modulus) _)
 
-  inner-mixed : (k : ℕ) → k < d → modulo q (inner d h (messageSums d h m) (keySums q d h G) k) ≡ modulo q (innerOfSums d h (signedAt d m) (residueAt d G) k)
+  pub inner-mixed : (k : ℕ) → k < d → modulo q (inner d h (messageSums d h m) (keySums q d h G) k) ≡ modulo q (innerOfSums d h (signedAt d m) (residueAt d G) k)
   unfolding innerOfSums messageSums
   inner-mixed = readq-inj q (t .tables .modulus) d p _ _
       (read-inner K d p h _ _
@@ -56,10 +52,6 @@ module _ (q d h : ℕ) (m : List ℤ) (G : List ℕ) (t : Halved q d h m G) wher
 
       p : 0 < d
       p = t .tables .degree
-
-  pub sums-mixed : (s : ℕ) → scaled q d s (inner d h (messageSums d h m) (keySums q d h G)) ≡ scaled q d s (innerOfSums d h (signedAt d m) (residueAt d G))
-  unfolding scaled reduced times
-  sums-mixed s = ap (padded d) (tabulate-ext d (λ k l. modulo-times q (t .tables .modulus) s _ ∙ ap (λ x. s * x % q) (inner-mixed k l) ∙ sym (modulo-times q (t .tables .modulus) s _)))
 
 -- ---- the law of the three products
 
@@ -84,7 +76,7 @@ mixed-parts d h p m G = readℤ-inj d p _ _
 
 -- ---- what is left of the innerOfSums product
 
-less-is : (q a y b : ℕ) → a < q → y < q → b < q → lessBoth q (((a + y) % q + b) % q) a b ≡ y
+pub less-is : (q a y b : ℕ) → a < q → y < q → b < q → lessBoth q (((a + y) % q + b) % q) a b ≡ y
 less-is q a y b la ly lb =
     Nat.mod-add-mod (((a + y) % q + b) % q + (q - a)) q (q - b)
     ∙ (λ i. (Nat.mod-add-mod (a + y) q b i + (q - a) + (q - b)) % q)
@@ -99,13 +91,6 @@ module _ (q d h s : ℕ) (p : 0 < q) (pd : 0 < d) (m G : ℕ → Element) where
   abbrev part : ℕ → ℕ → ℤ
   part j k = pos s *ℤ cross d h m G j k
 
-  pub scaled-at : (a : Element) (l : List ℕ) → l ≡ scaled q d s a → (k : ℕ) → k < d → getD l k 0 ≡ modulo q (pos s *ℤ a k)
-  unfolding scaled reduced times
-  scaled-at a l e k h = ap (λ x. getD x k 0) e ∙ padded-at d (λ j. modulo q (pos s *ℤ a j)) k h
-
-  pub scaled-reduced : (a : Element) (l : List ℕ) → l ≡ scaled q d s a → Reduced q d l
-  scaled-reduced a l e k b = subst (λ x. x < q) (sym (scaled-at a l e k b)) (modulo-lt q p _)
-
   pub spread : (k : ℕ) → k < d → modulo q (pos s *ℤ innerOfSums d h m G k) ≡ ((modulo q (part 0 k) + modulo q (part 1 k)) % q + modulo q (part 2 k)) % q
   unfolding plus
   spread k l =
@@ -114,10 +99,3 @@ module _ (q d h s : ℕ) (p : 0 < q) (pd : 0 < d) (m G : ℕ → Element) where
       ∙ ap (modulo q) (ℤ-ring .mul-add (pos s) (c 0 +ℤ c 1) (c 2) ∙ ap (λ z. z +ℤ part 2 k) (ℤ-ring .mul-add (pos s) (c 0) (c 1)))
       ∙ modulo-add q p (part 0 k +ℤ part 1 k) (part 2 k)
       ∙ ap (λ x. (x + modulo q (part 2 k)) % q) (modulo-add q p (part 0 k) (part 1 k))
-
-  pub difference-is : (x a b : List ℕ) → x ≡ scaled q d s (innerOfSums d h m G) → a ≡ scaled q d s (cross d h m G 0) → b ≡ scaled q d s (cross d h m G 2)
-      → padded d (tabulate d (λ k. lessBoth q (getD x k 0) (getD a k 0) (getD b k 0))) ≡ scaled q d s (cross d h m G 1)
-  difference-is x a b ex ea eb = ap (padded d) (tabulate-ext d (λ k l.
-      (λ i. lessBoth q ((scaled-at (innerOfSums d h m G) x ex k l ∙ spread k l) i) (scaled-at (cross d h m G 0) a ea k l i) (scaled-at (cross d h m G 2) b eb k l i))
-      ∙ less-is q (modulo q (part 0 k)) (modulo q (part 1 k)) (modulo q (part 2 k)) (modulo-lt q p _) (modulo-lt q p _) (modulo-lt q p _)))
-      ∙ unfold scaled reduced times in refl

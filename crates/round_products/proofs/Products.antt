@@ -1,42 +1,25 @@
--- Inner products of two tables and of halves of them, the commitment and the round polynomial, from the sums that the code reduces.
-use mathlib.Core.Path.{_≡_, refl, sym, ap, _∙_, subst}
+-- Inner products of two tables and of halves of them, and the tables of a commitment.
+use mathlib.Core.Path.{_≡_, sym, ap, _∙_, subst}
 use mathlib.Core.List.{List}
-use Prim.Native.Nat.{ℕ, _+_, _*_, _-_, _/_, _%_, _^_, _<_, _≤_}
+use Prim.Native.Nat.{ℕ, _+_, _*_, _-_, _^_, _<_, _≤_}
 use native.Mathlib.Nat as Nat
 use native.Mathlib.Omega.{arith}
-use lib.IntN.{ℤ, pos, natAbs, _*ℤ_}
+use lib.IntN.{ℤ, pos, natAbs}
 use lib.ListN.{length, getD, take, drop, length-drop}
 use lib.Pow as Pow
 use lib.Seq.{getD-drop}
 use Rattle.protocol.specs.declared.Settings.{Settings}
-use Rattle.protocol.specs.Basic.{tabulate}
-use Rattle.protocol.specs.Element.{Element, width, modulo, times, padded, reduced, signedAt, residueAt}
-use Rattle.protocol.specs.Settings.{size, cells, half}
-use Rattle.protocol.specs.Opening.{inner, second, cross, left, halfLeft, commitment, roundElement}
+use Rattle.protocol.specs.Element.{width, signedAt, residueAt}
+use Rattle.protocol.specs.Settings.{size, cells}
+use Rattle.protocol.specs.Opening.{inner, second, cross, left}
 use Rattle.protocol.specs.Inputs.{Valid}
-use Rattle.protocol.proofs.Modulo.{modulo-times, modulo-lt}
-use Rattle.protocol.proofs.Reading.{tabulate-ext}
-use Rattle.protocol.proofs.Agreement.{Same, sum-ext, product-same}
+use Rattle.protocol.proofs.Agreement.{Same}
 use Rattle.sizes.proofs.Limits.{degree-least, degree-most}
 use Rattle.products.specs.Sums.{Summable}
+use Rattle.products.proofs.Rows.{inner-same}
 use Rattle.residues.proofs.Parts.{tail-all}
-use Rattle.residues.proofs.Padding.{padded-at}
 use Rattle.prover_refusals.proofs.Given.{CommitGiven}
-use Rattle.round_products.specs.Messages.{Sized, Tables}
-use Rattle.round_products.specs.Sums.{Reduced, scaled}
-
-pub inner-same : (d h : ℕ) → 0 < d → {m m′ G G′ : ℕ → Element} → ((i : ℕ) → i < h → Same d (m i) (m′ i)) → ((i : ℕ) → i < h → Same d (G i) (G′ i)) → (k : ℕ) → inner d h m G k ≡ inner d h m′ G′ k
-unfolding inner
-inner-same d h p a b k = sum-ext h (λ i l. product-same p (a i l) (b i l) k)
-
-pub tables-sized : (q d n : ℕ) (m : List ℤ) (G : List ℕ) → Tables q d n m G → Sized d n (length m) (length G)
-tables-sized q d n m G t = record {
-  degree = t .degree;
-  degree-most = t .degree-most;
-  elements = t .elements;
-  message-long = t .message-long;
-  key-long = t .key-long;
-}
+use Rattle.round_products.specs.Messages.{Tables}
 
 -- small enough for a sum
 pub summable : (q d n : ℕ) (m : List ℤ) (G : List ℕ) → Tables q d n m G → Summable q d n m G
@@ -55,16 +38,6 @@ summable q d n m G t = record {
   modulus-most = t .modulus-most;
   residues = t .key-residues;
 }
-
--- a multiple of an element that is reduced
-pub scaled-is : (q d s : ℕ) → 0 < q → (a : Element) (l : List ℕ) → l ≡ padded d (reduced q d a) → padded d (tabulate d (λ k. s * getD l k 0 % q)) ≡ scaled q d s a
-unfolding scaled reduced times
-scaled-is q d s p a l e = ap (padded d) (tabulate-ext d (λ k h. ap (λ x. s * x % q) (ap (λ x. getD x k 0) e ∙ padded-at d (λ j. modulo q (a j)) k h) ∙ sym (modulo-times q p s (a k))))
-
--- an element that is reduced and passed by value
-pub value-reduced : (q d : ℕ) → 0 < q → (a : Element) (l : List ℕ) → l ≡ padded d (reduced q d a) → Reduced q d l
-unfolding reduced
-value-reduced q d p a l e k h = subst (λ x. x < q) (sym (ap (λ x. getD x k 0) e ∙ padded-at d (λ j. modulo q (a j)) k h)) (modulo-lt q p (a k))
 
 -- ---- halves
 
@@ -109,16 +82,9 @@ module _ (q d h : ℕ) (m : List ℤ) (G : List ℕ) (t : Tables q d (2 * h) m G
   unfolding residueAt second
   second-key i k l = ap pos (ap (λ x. getD x (i * d + k) 0) (tail-all (h * d) G) ∙ getD-drop (h * d) G (i * d + k) 0 ∙ ap (λ n. getD G n 0) (omega (arith, Nat.add-mul h i d)))
 
-  abbrev crossing : ℕ → Element
-  crossing = cross d h (signedAt d m) (residueAt d G)
-
-  pub cross-first : inner d h (signedAt d m) (residueAt d G) ≡ crossing 0
+  pub cross-last : (k : ℕ) → inner d h (signedAt d m1) (residueAt d G1) k ≡ cross d h (signedAt d m) (residueAt d G) 2 k
   unfolding cross
-  cross-first = refl
-
-  pub cross-last : (s : ℕ) → scaled q d s (inner d h (signedAt d m1) (residueAt d G1)) ≡ scaled q d s (crossing 2)
-  unfolding cross scaled reduced times
-  cross-last s = ap (padded d) (tabulate-ext d (λ k l. ap (λ z. modulo q (pos s *ℤ z)) (inner-same d h (t .degree) (λ i l. second-message i) (λ i l. second-key i) k)))
+  cross-last k = inner-same d h (t .degree) (λ i l. second-message i) (λ i l. second-key i) k
 
 -- ---- the commitment
 
@@ -143,16 +109,3 @@ commit-tables S key message g = subst (λ n. Tables (S .modulus) (S .degree) n m
   where
     ok : Valid S
     ok = g .tables .settings
-
-pub commitment-is : (S : Settings) (key : List ℕ) (message : List ℤ)
-    → padded (S .degree) (reduced (S .modulus) (S .degree) (inner (S .degree) (left S 0) (signedAt (S .degree) message) (residueAt (S .degree) key))) ≡ padded (S .degree) (commitment S key message)
-unfolding commitment
-commitment-is S key message = ap (λ n. padded (S .degree) (reduced (S .modulus) (S .degree) (inner (S .degree) n (signedAt (S .degree) message) (residueAt (S .degree) key)))) (left-whole S)
-
--- ---- the round polynomial
-
-pub polynomial-is : (S : Settings) (t : ℕ) (key : List ℕ) (message : List ℤ)
-    → tabulate 3 (λ j. scaled (S .modulus) (S .degree) (((S .modulus + 1) / 2) ^ (t + 1))
-    (cross (S .degree) (halfLeft S t) (signedAt (S .degree) message) (residueAt (S .degree) key) j)) ≡ tabulate 3 (λ j. padded (S .degree) (roundElement S t key message j))
-unfolding roundElement half scaled
-polynomial-is S t key message = refl

@@ -1,3 +1,3 @@
 pub mod Messages
 pub mod Sums
-pub mod Rowwise
+pub mod Items

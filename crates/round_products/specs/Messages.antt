@@ -2,7 +2,6 @@
 --
 --   from l p           the element whose coefficients stand from place p of the table l on
 --   Small n l          they are small enough for inner products
---   Sized d n ..       degree and lengths allow inner products of n elements
 --   Tables q d n ..    both have n elements, the key of residues, for inner products modulo an odd q
 --   Halved q d h ..    both have two halves of h elements, for inner products of the halves' sums
 use mathlib.Core.List.{List}
@@ -18,13 +17,6 @@ from l p k = getD l (p + k) (pos 0)
 
 abbrev pub Small : ℕ → List ℤ → Type 0
 Small n l = (j : ℕ) → j < n → natAbs (getD l j (pos 0)) ≤ 2 ^ 15
-
-pub record Sized (d n message key : ℕ) : Type 0 where
-  pub degree : 0 < d
-  pub degree-most : d ≤ width
-  pub elements : n ≤ 256
-  pub message-long : n * d ≤ message
-  pub key-long : n * d ≤ key
 
 pub record Tables (q d n : ℕ) (message : List ℤ) (key : List ℕ) : Type 0 where
   pub modulus : 0 < q

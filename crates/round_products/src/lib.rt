@@ -1,86 +1,58 @@
-// Inner products of messages and keys, of halves of them and of the sums of halves, times a power of half, and the round polynomial that they make. Every
-// public function is safe for every input; what it gives is said by a definition under a condition that the refusals ensure.
+// Inner products of messages and keys in every row, of halves of them and of the sums of halves, times a power of half, and the round polynomial that they make. What
+// there is for each row is an item: an element for each row, one behind the other. Every public function is safe for every input; what it gives is said by a definition
+// under a condition that the refusals ensure.
 use protocol::Residue;
-use protocol::WIDTH;
+use protocol::Settings;
 ghost use mathlib.Core.Path.{_≡_};
-ghost use mathlib.Core.Bool.{true};
-ghost use Prim.Native.Nat.{_*_, _%_, _^_, _<_, _≤_};
+ghost use mathlib.Core.List.{List};
+ghost use Prim.Native.Nat.{ℕ, _*_, _%_, _^_, _<_, _≤_};
 ghost use lib.ListN.{length, getD};
-ghost use Rattle.protocol.specs.Basic.{tabulate, Provided};
-ghost use Rattle.protocol.specs.Element.{width, padded, signedAt, residueAt};
-ghost use Rattle.protocol.specs.Opening.{cross};
-ghost use Rattle.protocol.specs.Opening as opening;
-ghost use Rattle.round_products.specs.Messages.{Sized, Tables, Halved};
-ghost use Rattle.round_products.specs.Sums.{half, Reduced, lessBoth};
-ghost use Rattle.round_products.specs.Sums as sums;
+ghost use Rattle.protocol.specs.Basic.{Provided};
+ghost use Rattle.protocol.specs.Layout.{itemCells};
+ghost use Rattle.protocol.specs.Calls.{roundRefusal};
+ghost use Rattle.residues.specs.Lists.{filled};
+ghost use Rattle.products.specs.Rowwise.{rowPlaces};
+ghost use Rattle.round_products.specs.Sums.{half, Halvables, lessBoth};
+ghost use Rattle.round_products.specs.Items.{innerItem, ItemsGiven, Sent};
 
-// Do the degree and the lengths of the tables allow inner products of n elements.
-pub fn sized(d: u32, n: u32, message: usize, key: usize) -> bool
-    ensures { λ r. ⌜ (r ≡ true → Sized d n message key) × (Sized d n message key → r ≡ true) ⌝ }
+// The first n numbers of a table of residues, each halved t times modulo q.
+pub fn halve(q: Residue, n: usize, t: u32, p: &mut [Residue])
+    ensures { λ _. ⌜ Provided (n ≤ length (now (p .entry)))
+        (Provided (Halvables q n (now (p .entry))) (now (p .exit) ≡ filled (λ k. half q ^ t * getD (now (p .entry)) k 0 % q) n (now (p .entry)))) ⌝ }
 {
-    if d == 0 {
-        return false;
+    if p.len() < n {
+        return;
     }
-    if (d as usize) > WIDTH {
-        return false;
+    for k in 0..n {
+        p[k] = modular::halves::halved_times(q, t, p[k]);
     }
-    if n > 256 {
-        return false;
-    }
-    let cells = (n as usize) * (d as usize);
-    if cells > message {
-        return false;
-    }
-    cells <= key
 }
 
-// half^t·a modulo q, of an element of residues: each is halved t times.
-fn halved(q: Residue, d: u32, t: u32, a: [Residue; WIDTH]) -> [Residue; WIDTH]
-    requires { ⌜ d ≤ width ⌝ }
-    ensures { λ r. ⌜ Provided ((q % 2 ≡ 1) × Reduced q d a) (r ≡ padded d (tabulate d (λ k. half q ^ t * getD a k 0 % q))) ⌝ }
-{
-    let mut r: [Residue; WIDTH] = [0; WIDTH];
-    let n = d as usize;
-    let mut k: usize = 0;
-    while k < n {
-        r[k] = modular::halves::halved_times(q, t, a[k]);
-        k += 1;
-    }
-    r
-}
-
-// half^t·⟨m, G⟩ modulo q, of the first h elements
-fn inner_halved(
-    q: Residue,
-    d: u32,
+// half^t·⟨m, G⟩ modulo q of the first h elements in every row, or of the sums of halves that have h elements.
+pub fn items(
+    sums: bool,
+    settings: Settings,
     h: u32,
     t: u32,
     message: &[i32],
     key: &[Residue],
-) -> [Residue; WIDTH]
-    requires { ⌜ d ≤ width ⌝ }
-    ensures { λ r. ⌜ Provided (Tables q d h (now (message .entry)) (now (key .entry)))
-        (r ≡ sums.scaled q d (half q ^ t) (opening.inner d h (signedAt d (now (message .entry))) (residueAt d (now (key .entry))))) ⌝ }
+    out: &mut [Residue],
+)
+    ensures { λ _. ⌜ ((G : ℕ → List ℕ) → Provided (ItemsGiven sums settings h (now (message .entry)) (now (key .entry)) G × (itemCells settings ≤ length (now (out .entry))))
+        (now (out .exit) ≡ filled (rowPlaces (settings .degree) (innerItem sums settings h (half (settings .modulus) ^ t) (now (message .entry)) G)) (itemCells settings) (now (out .entry)))) ⌝ }
 {
-    halved(q, d, t, products::inner(q, d, h, message, key))
-}
-
-// half^t·⟨m0 + m1, G0 + G1⟩ modulo q, the halves having h elements
-pub fn inner_of_sums(
-    q: Residue,
-    d: u32,
-    h: u32,
-    t: u32,
-    message: &[i32],
-    key: &[Residue],
-) -> [Residue; WIDTH]
-    ensures { λ r. ⌜ Provided (Halved q d h (now (message .entry)) (now (key .entry)))
-        (r ≡ sums.scaled q d (half q ^ t) (sums.innerOfSums d h (signedAt d (now (message .entry))) (residueAt d (now (key .entry))))) ⌝ }
-{
-    if (d as usize) > WIDTH {
-        return [0; WIDTH];
-    }
-    halved(q, d, t, products::inner_of_sums(q, d, h, message, key))
+    products::inner_rows(
+        sums,
+        settings.modulus,
+        settings.degree,
+        h,
+        settings.rows,
+        sizes::cells(settings),
+        message,
+        key,
+        out,
+    );
+    halve(settings.modulus, sizes::item_cells(settings), t, out);
 }
 
 // x − a − b modulo q, of residues
@@ -90,67 +62,63 @@ fn minus_both(q: Residue, x: Residue, a: Residue, b: Residue) -> Residue
     residues::minus(q, residues::minus(q, x, a), b)
 }
 
-// The same for elements.
-fn difference(
-    q: Residue,
-    d: u32,
-    x: [Residue; WIDTH],
-    a: [Residue; WIDTH],
-    b: [Residue; WIDTH],
-) -> [Residue; WIDTH]
-    requires { ⌜ d ≤ width ⌝ }
-    ensures { λ r. ⌜ Provided (Reduced q d x × Reduced q d a × Reduced q d b) (r ≡ padded d (tabulate d (λ k. lessBoth q (getD x k 0) (getD a k 0) (getD b k 0)))) ⌝ }
+// The same for the first n numbers of tables.
+fn difference(q: Residue, n: usize, a: &[Residue], b: &[Residue], x: &mut [Residue])
+    requires { ⌜ (n ≤ length (now a)) × (n ≤ length (now b)) × (n ≤ length (now x)) ⌝ }
+    ensures { λ _. ⌜ Provided ((k : ℕ) → k < n → (getD (now (x .entry)) k 0 < q) × (getD (now (a .entry)) k 0 < q) × (getD (now (b .entry)) k 0 < q))
+        (now (x .exit) ≡ filled (λ k. lessBoth q (getD (now (x .entry)) k 0) (getD (now (a .entry)) k 0) (getD (now (b .entry)) k 0)) n (now (x .entry))) ⌝ }
 {
-    let mut r: [Residue; WIDTH] = [0; WIDTH];
-    let n = d as usize;
-    let mut k: usize = 0;
-    while k < n {
-        r[k] = minus_both(q, x[k], a[k], b[k]);
-        k += 1;
+    for k in 0..n {
+        x[k] = minus_both(q, x[k], a[k], b[k]);
     }
-    r
 }
 
-// The three elements of a round polynomial, times half^t. The middle one is what the product of the sums has more than the other two, so that
-// a round takes three inner products.
-fn three_elements(
-    q: Residue,
-    d: u32,
-    h: u32,
-    t: u32,
-    message: &[i32],
-    key: &[Residue],
-) -> [[Residue; WIDTH]; 3]
-    requires { ⌜ Sized d (2 * h) (length (now message)) (length (now key)) ⌝ }
-    ensures { λ r. ⌜ Provided (Halved q d h (now (message .entry)) (now (key .entry)))
-        (r ≡ tabulate 3 (λ j. sums.scaled q d (half q ^ t) (cross d h (signedAt d (now (message .entry))) (residueAt d (now (key .entry))) j))) ⌝ }
-{
-    let half = (h as usize) * (d as usize);
-    let c0 = inner_halved(q, d, h, t, message, key);
-    let c2 = inner_halved(q, d, h, t, &message[half..], &key[half..]);
-    let x = inner_of_sums(q, d, h, t, message, key);
-    let c1 = difference(q, d, x, c0, c2);
-    [c0, c1, c2]
-}
-
-// The same for every input.
+// The three items of the round polynomial of round t + 1. The middle one is what the product of the sums has more than the other two, so that a round takes three
+// inner products.
 pub fn polynomial(
-    q: Residue,
-    d: u32,
-    h: u32,
+    settings: Settings,
     t: u32,
     message: &[i32],
     key: &[Residue],
-) -> [[Residue; WIDTH]; 3]
-    ensures { λ r. ⌜ Provided (Halved q d h (now (message .entry)) (now (key .entry)))
-        (r ≡ tabulate 3 (λ j. sums.scaled q d (half q ^ t) (cross d h (signedAt d (now (message .entry))) (residueAt d (now (key .entry))) j))) ⌝ }
+    c0: &mut [Residue],
+    c1: &mut [Residue],
+    c2: &mut [Residue],
+)
+    ensures { λ _. ⌜ Provided (roundRefusal settings t (now (key .entry)) (now (message .entry)) ≡ 0)
+        (Provided ((itemCells settings ≤ length (now (c0 .entry))) × (itemCells settings ≤ length (now (c1 .entry))) × (itemCells settings ≤ length (now (c2 .entry))))
+        (Sent settings t (now (key .entry)) (now (message .entry)) (now (c0 .entry)) (now (c1 .entry)) (now (c2 .entry)) (now (c0 .exit)) (now (c1 .exit)) (now (c2 .exit)))) ⌝ }
 {
-    let none: [Residue; WIDTH] = [0; WIDTH];
-    if h > 128 {
-        return [none, none, none];
+    if t >= settings.depth {
+        return;
     }
-    if !sized(d, 2 * h, message.len(), key.len()) {
-        return [none, none, none];
+    let n = sizes::item_cells(settings);
+    if c0.len() < n {
+        return;
     }
-    three_elements(q, d, h, t, message, key)
+    if c1.len() < n {
+        return;
+    }
+    if c2.len() < n {
+        return;
+    }
+    let h = sizes::half_left(settings, t);
+    let half = (h as usize) * (settings.degree as usize);
+    if message.len() < half {
+        return;
+    }
+    if key.len() < half {
+        return;
+    }
+    items(false, settings, h, t + 1, message, key, c0);
+    items(
+        false,
+        settings,
+        h,
+        t + 1,
+        &message[half..],
+        &key[half..],
+        c2,
+    );
+    items(true, settings, h, t + 1, message, key, c1);
+    difference(settings.modulus, n, c0, c2, c1);
 }

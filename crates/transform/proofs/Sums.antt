@@ -19,7 +19,7 @@ use Rattle.protocol.proofs.Reading.{tabulate-ext}
 use Rattle.powers.specs.Powers.{modulus, positive, K, res, root, Below, seen}
 use Rattle.levels.specs.Levels.{Sent, Returned}
 use Rattle.residues.proofs.Fill.{filled-at, filled-behind, filled-length}
-use Rattle.transform.specs.Strands.{strands, valueAt, Room, Filled, Stands, Added}
+use Rattle.transform.specs.Strands.{strands, valueAt, Room, Filled, Values, Stands, Added}
 use Rattle.transform.specs.Steps.{withProducts, total, gathered, Multiple}
 use Rattle.transform.proofs.Values.{valueAt-plus, valueAt-inner, recovered, by-degree}
 open CommRing K using (add as _⊕_, mul as _⊗_)
@@ -28,37 +28,36 @@ infixl 60 _⊕_
 infixl 70 _⊗_
 -- ---- a batch
 
--- an element of a filled room, transformed
-strand-value : (D : ℕ) (F : ℕ → Element) (x x′ : List ℕ) → Filled D strands F x → Sent D strands 128 x x′ → (j l : ℕ) → j < 2 ^ D → l < strands → seen x′ (j * strands + l) ≡ valueAt D (F l) j
+-- the elements of a filled room, transformed
+pub values-sent : (D : ℕ) (F : ℕ → Element) (x x′ : List ℕ) → Filled D strands F x → Sent D strands 128 x x′ → Values D F x′
 unfolding valueAt
-strand-value D F x x′ f to j l b c = to .is j l b c ∙ value-ext K (2 ^ D) (root D 128 j) (λ k h. f .each l k c h)
-
-room-sent : (D : ℕ) (F : ℕ → Element) (x x′ : List ℕ) → Filled D strands F x → Sent D strands 128 x x′ → Room D x′
-room-sent D F x x′ f to = record { long = to .same ∙ f .room .long; below = to .below }
+values-sent D F x x′ f to = record {
+  room = record { long = to .same ∙ f .room .long; below = to .below };
+  each = λ j l b c. to .is j l b c ∙ value-ext K (2 ^ D) (root D 128 j) (λ k h. f .each l k c h);
+}
 
 module _ (D : ℕ) (F G : ℕ → Element) (H : Element) (count : ℕ) (x y s : List ℕ) (given : Added D F G H count x y s)
-    (x′ y′ s′ : List ℕ) (to-x : Sent D strands 128 x x′) (to-y : Sent D strands 128 y y′) (to-s : s′ ≡ withProducts x′ y′ s) where
-  product-most : (k : ℕ) → getD x′ k 0 % modulus * (getD y′ k 0 % modulus) ≤ 12288 * 12288
+    (y′ s′ : List ℕ) (to-y : Values D G y′) (to-s : s′ ≡ withProducts x y′ s) where
+  product-most : (k : ℕ) → getD x k 0 % modulus * (getD y′ k 0 % modulus) ≤ 12288 * 12288
   product-most k = Nat.mul-le-mul {n₂ = 12288} {m₂ = 12288} (omega arith) (omega arith)
 
   -- no sum leaves its 32 bits
-  sum-at : (k : ℕ) → k < length s → getD s′ k 0 ≡ getD s k 0 + getD x′ k 0 % modulus * (getD y′ k 0 % modulus)
+  sum-at : (k : ℕ) → k < length s → getD s′ k 0 ≡ getD s k 0 + getD x k 0 % modulus * (getD y′ k 0 % modulus)
   sum-at k h = ap (λ t. getD t k 0) to-s ∙ filled-at _ (length s) s 0 k h ∙ Nat.mod-eq-of-lt (omega (arith, given .fits, given .stands .most k, product-most k))
 
   sum-behind : (k : ℕ) → length s ≤ k → getD s′ k 0 ≡ getD s k 0
   sum-behind k h = ap (λ t. getD t k 0) to-s ∙ filled-behind _ (length s) s 0 k h
 
-  sum-seen : (k : ℕ) → k < length s → seen s′ k ≡ seen s k ⊕ seen x′ k ⊗ seen y′ k
+  sum-seen : (k : ℕ) → k < length s → seen s′ k ≡ seen s k ⊕ seen x k ⊗ seen y′ k
   unfolding seen
   sum-seen k h =
       ap res (sum-at k h)
       ∙ res-add modulus positive _ _
       ∙ ap (λ t. res (getD s k 0) ⊕ t) (res-mul modulus positive _ _ ∙ ap₂ _⊗_ (res-mod modulus positive _) (res-mod modulus positive _))
 
-  pub batch-added : Room D x′ × Room D y′ × Stands D (plus H (inner (2 ^ D) strands F G)) (count + 1) s′
+  pub batch-added : Room D y′ × Stands D (plus H (inner (2 ^ D) strands F G)) (count + 1) s′
   batch-added = (
-    room-sent D F x x′ (given .x-filled) to-x,
-    room-sent D G y y′ (given .y-filled) to-y,
+    to-y .room,
     record {
       long = ap length to-s ∙ filled-length _ (length s) s (Nat.le-refl _) ∙ given .stands .long;
       most = λ k. elim (decLt k (length s)) [
@@ -69,7 +68,7 @@ module _ (D : ℕ) (F G : ℕ → Element) (H : Element) (count : ℕ) (x y s : 
           sum-ext K strands (λ l c. sum-seen (j * strands + l) (omega (arith, given .stands .long)))
           ∙ sum-add K strands _ _
           ∙ ap₂ _⊕_ (given .stands .is j b)
-          (sum-ext K strands (λ l c. ap₂ _⊗_ (strand-value D F x x′ (given .x-filled) to-x j l b c) (strand-value D G y y′ (given .y-filled) to-y j l b c))
+          (sum-ext K strands (λ l c. ap₂ _⊗_ (given .x-values .each j l b c) (to-y .each j l b c))
           ∙ sym (valueAt-inner D strands (given .most) F G j b))
           ∙ sym (valueAt-plus D H (inner (2 ^ D) strands F G) j);
     },

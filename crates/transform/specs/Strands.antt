@@ -4,7 +4,9 @@
 --   valueAt D F j         the value of the element F of degree 2^D at the root of place j
 --   Room D x              room for sixteen elements of degree 2^D, in numbers that may be transformed
 --   Filled D n F x        such a room whose first n strands stand for the elements F 0, F 1, …, modulo 12289
---   Placed D d l f g F .. an element f of whole numbers and one g of residues, which are to be strand l of two rooms
+--   Values D F x          such a room in which the elements F 0, F 1, … are transformed: each place has their values at its root
+--   MessagePlaced D d l .. an element f of whole numbers, which is to be strand l of a room
+--   ResiduesPlaced D d l .. an element g of residues, which is to be
 --   Stands D F count s    sums that stand for the element F: at each place the sixteen sums add up to the value of F; `count` products were added to each
 --   capacity              28: how many products a sum has room for
 --   Added D F G H ..      what has to hold so that a batch of products is added to sums that stand for H
@@ -34,17 +36,25 @@ pub record Filled (D n : ℕ) (F : ℕ → Element) (x : List ℕ) : Type 0 wher
   pub room : Room D x
   pub each : (l k : ℕ) → l < n → k < 2 ^ D → seen x (k * strands + l) ≡ ofℤ K (F l k)
 
-pub record Placed (D d l : ℕ) (f : List ℤ) (g : List ℕ) (F G : ℕ → Element) (x y : List ℕ) : Type 0 where
+pub record Values (D : ℕ) (F : ℕ → Element) (x : List ℕ) : Type 0 where
+  pub room : Room D x
+  pub each : (j l : ℕ) → j < 2 ^ D → l < strands → seen x (j * strands + l) ≡ valueAt D (F l) j
+
+pub record MessagePlaced (D d l : ℕ) (f : List ℤ) (F : ℕ → Element) (x : List ℕ) : Type 0 where
   pub degree : d ≡ 2 ^ D
   pub inside : l < strands
-  pub f-long : d ≤ length f
-  pub g-long : d ≤ length g
+  pub long : d ≤ length f
   pub small : (k : ℕ) → k < d → natAbs (getD f k (pos 0)) ≤ 2 ^ 16
+  pub is : (k : ℕ) → k < d → signed f k ≡ F l k
+  pub before : Filled D l F x
+
+pub record ResiduesPlaced (D d l : ℕ) (g : List ℕ) (G : ℕ → Element) (y : List ℕ) : Type 0 where
+  pub degree : d ≡ 2 ^ D
+  pub inside : l < strands
+  pub long : d ≤ length g
   pub residues : (k : ℕ) → k < d → getD g k 0 < modulus
-  pub f-is : (k : ℕ) → k < d → signed f k ≡ F l k
-  pub g-is : (k : ℕ) → k < d → residue g k ≡ G l k
-  pub before-x : Filled D l F x
-  pub before-y : Filled D l G y
+  pub is : (k : ℕ) → k < d → residue g k ≡ G l k
+  pub before : Filled D l G y
 
 pub record Stands (D : ℕ) (F : Element) (count : ℕ) (s : List ℕ) : Type 0 where
   pub long : length s ≡ 2 ^ D * strands
@@ -57,6 +67,6 @@ capacity = 28
 pub record Added (D : ℕ) (F G : ℕ → Element) (H : Element) (count : ℕ) (x y s : List ℕ) : Type 0 where
   pub most : D ≤ 7
   pub fits : count < capacity
-  pub x-filled : Filled D strands F x
+  pub x-values : Values D F x
   pub y-filled : Filled D strands G y
   pub stands : Stands D H count s

@@ -1,5 +1,5 @@
 // Inner products modulo 12289 by the transform. Sixteen elements of either table are transformed side by side, their products are added up place by place, and the
-// sums come back once. Every function is safe for every input.
+// sums come back once. What is transformed of a message serves every row of a key. Every function is safe for every input.
 use protocol::Residue;
 use protocol::WIDTH;
 ghost use mathlib.Core.Path.{_≡_};
@@ -12,7 +12,7 @@ ghost use Rattle.protocol.specs.Element.{Element, width, plus, padded};
 ghost use Rattle.protocol.specs.Element as element;
 ghost use Rattle.protocol.specs.Opening.{inner};
 ghost use Rattle.powers.specs.Powers.{K, res, Below};
-ghost use Rattle.transform.specs.Strands.{strands, Room, Filled, Placed, Stands, Added};
+ghost use Rattle.transform.specs.Strands.{strands, Room, Filled, Values, MessagePlaced, ResiduesPlaced, Stands, Added};
 ghost use Rattle.transform.specs.Steps.{Whole, Written, withProducts, total, gathered, Multiple};
 
 // How many elements are transformed together, and room for them.
@@ -30,7 +30,7 @@ fn reduced(x: i32) -> u16
 }
 
 // The first d numbers of f, to strand l.
-fn place_message(d: usize, l: usize, f: &[i32], x: &mut [u16])
+fn write_message(d: usize, l: usize, f: &[i32], x: &mut [u16])
     requires { ⌜ (l < strands) × (d ≤ length (now f)) × (d * strands ≤ length (now x)) ⌝ }
     ensures { λ _. ⌜ Written (Whole (now (f .entry))) l d (now (x .entry)) (now (x .exit)) ⌝ }
 {
@@ -40,7 +40,7 @@ fn place_message(d: usize, l: usize, f: &[i32], x: &mut [u16])
 }
 
 // The same for residues.
-fn place_residues(d: usize, l: usize, g: &[Residue], y: &mut [u16])
+fn write_residues(d: usize, l: usize, g: &[Residue], y: &mut [u16])
     requires { ⌜ (l < strands) × (d ≤ length (now g)) × (d * strands ≤ length (now y)) ⌝ }
     ensures { λ _. ⌜ Written (λ k v. v ≡ getD (now (g .entry)) k 0 % 2 ^ 16) l d (now (y .entry)) (now (y .exit)) ⌝ }
 {
@@ -49,10 +49,9 @@ fn place_residues(d: usize, l: usize, g: &[Residue], y: &mut [u16])
     }
 }
 
-// An element of whole numbers and one of residues, each to strand l of its room.
-pub fn place(d: usize, l: usize, f: &[i32], g: &[Residue], x: &mut [u16], y: &mut [u16])
-    ensures { λ _. ⌜ ((D : ℕ) (F G : ℕ → Element) → Provided (Placed D d l (now (f .entry)) (now (g .entry)) F G (now (x .entry)) (now (y .entry)))
-        (Filled D (l + 1) F (now (x .exit)) × Filled D (l + 1) G (now (y .exit)))) ⌝ }
+// An element of whole numbers, to strand l of a room.
+pub fn place_message(d: usize, l: usize, f: &[i32], x: &mut [u16])
+    ensures { λ _. ⌜ ((D : ℕ) (F : ℕ → Element) → Provided (MessagePlaced D d l (now (f .entry)) F (now (x .entry))) (Filled D (l + 1) F (now (x .exit)))) ⌝ }
 {
     if l >= STRANDS {
         return;
@@ -60,17 +59,33 @@ pub fn place(d: usize, l: usize, f: &[i32], g: &[Residue], x: &mut [u16], y: &mu
     if f.len() < d {
         return;
     }
-    if g.len() < d {
+    if x.len() / STRANDS < d {
         return;
     }
-    if x.len() / STRANDS < d {
+    write_message(d, l, f, x);
+}
+
+// The same for residues.
+pub fn place_residues(d: usize, l: usize, g: &[Residue], y: &mut [u16])
+    ensures { λ _. ⌜ ((D : ℕ) (G : ℕ → Element) → Provided (ResiduesPlaced D d l (now (g .entry)) G (now (y .entry))) (Filled D (l + 1) G (now (y .exit)))) ⌝ }
+{
+    if l >= STRANDS {
+        return;
+    }
+    if g.len() < d {
         return;
     }
     if y.len() / STRANDS < d {
         return;
     }
-    place_message(d, l, f, x);
-    place_residues(d, l, g, y);
+    write_residues(d, l, g, y);
+}
+
+// The transform of sixteen elements.
+pub fn send(level: u32, x: &mut [u16])
+    ensures { λ _. ⌜ ((F : ℕ → Element) → Provided ((level ≤ 7) × Filled level strands F (now (x .entry))) (Values level F (now (x .exit)))) ⌝ }
+{
+    levels::forward(level, x);
 }
 
 // The residue of a number below 4·12289.
@@ -91,10 +106,10 @@ fn add_products(x: &[u16], y: &[u16], sums: &mut [u32])
     }
 }
 
-// The products of sixteen pairs of elements, added to sums; x and y are used up.
-pub fn add_batch(level: u32, x: &mut [u16], y: &mut [u16], sums: &mut [u32])
+// The products of sixteen pairs of elements, added to sums. Those of x come transformed, and stay; y is used up.
+pub fn add_batch(level: u32, x: &[u16], y: &mut [u16], sums: &mut [u32])
     ensures { λ _. ⌜ ((F G : ℕ → Element) (H : Element) (count : ℕ) → Provided (Added level F G H count (now (x .entry)) (now (y .entry)) (now (sums .entry)))
-        (Room level (now (x .exit)) × Room level (now (y .exit)) × Stands level (plus H (inner (2 ^ level) 16 F G)) (count + 1) (now (sums .exit)))) ⌝ }
+        (Room level (now (y .exit)) × Stands level (plus H (inner (2 ^ level) 16 F G)) (count + 1) (now (sums .exit)))) ⌝ }
 {
     if x.len() < sums.len() {
         return;
@@ -102,8 +117,7 @@ pub fn add_batch(level: u32, x: &mut [u16], y: &mut [u16], sums: &mut [u32])
     if y.len() < sums.len() {
         return;
     }
-    levels::forward(level, x);
-    levels::forward(level, y);
+    send(level, y);
     add_products(x, y, sums);
 }
 

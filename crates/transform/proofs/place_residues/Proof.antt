@@ -1,37 +1,38 @@
--- The loop keeps: the first k places of the strand are written.
-use mathlib.Core.Path.{_≡_, refl, subst}
-use Prim.Native.Nat.{_-_, _%_, _^_, _≤_}
+use mathlib.Core.Path.{_≡_, ap, _∙_}
+use Prim.Native.Nat.{ℕ, _%_, _^_}
 use native.Mathlib.Omega.{arith}
-use lib.ListN.{length, getD, length-set}
-use Rattle.transform.specs.Steps.{Written}
-use Rattle.transform.proofs.Placing.{written-none, written-turn}
+use lib.IntN.{pos}
+use lib.ListN.{getD}
+use Rattle.algebra.specs.Integers.{ofℤ}
+use Rattle.protocol.specs.Element.{residue, modulo}
+use Rattle.powers.specs.Powers.{modulus, K}
+use Rattle.transform.proofs.Reducing.{stands-for}
+use Rattle.transform.proofs.Placing.{strand-filled}
 use borrow.Author.Needs.{needs}
 use Rattle.transform.proofs.place_residues.Statement.{statement}
 use Rattle.transform.proofs.place_residues.Tie as tie
 
-abbrev Inv-loop : tie.InvT-loop
-Inv-loop d l g y₀ k₀ y k = (k ≤ d) × Written (λ i v. v ≡ getD g i 0 % 2 ^ 16) l k y₀ y × (length y ≡ length y₀)
+returns : tie.Need-returns
+returns c = λ D G p. absurd (omega (arith, p .inside))
 
-abbrev μ-loop : tie.MeasureT-loop
-μ-loop d l g y₀ k₀ y k = d - k
+returns-2 : tie.Need-returns-2
+returns-2 c = λ D G p. absurd (omega (arith, p .long))
 
-loop-holds : tie.Need-loop-holds Inv-loop μ-loop
-loop-holds c = let a = c .args in (omega arith, written-none _ (a .l) (omega arith) (a .y .now), refl)
+returns-3 : tie.Need-returns-3
+returns-3 c = λ D G p. absurd (omega (arith, p .degree, p .before .room .long))
 
-loop-again : tie.Need-loop-again Inv-loop μ-loop
-loop-again c =
-    let l = c .before .before .loop in
-    let a = c .before .before .before .args in
-    (omega arith, written-turn _ (a .l) (omega arith) (a .y .now) (l .k) (l .y) _ (l .inv .1) (omega arith) refl, simp length-set (omega arith))
-
-returns : tie.Need-returns Inv-loop μ-loop
-returns c =
-    let l = c .before .loop in
-    let a = c .before .before .args in
-    subst (λ n. Written (λ i v. v ≡ getD (a .g .now) i 0 % 2 ^ 16) (a .l) n (a .y .now) (l .y)) (omega arith) (l .inv .1)
+returns-4 : tie.Need-returns-4
+unfolding residue modulo
+returns-4 c = λ D G p.
+    let a = (c .before .before .before .before .before .before .before .before .before .args) in
+    let r : ℕ → ℕ → Type 0 = λ k v. v ≡ getD (a .g .now) k 0 % 2 ^ 16 in
+    strand-filled r D (a .d) (a .l) (p .degree) (p .inside) G (a .y .now) _ (p .before) ((c .before .before .write-residues) .ensures)
+    (λ k v h w.
+    let small = p .residues k h in
+    let same : v ≡ getD (a .g .now) k 0 = omega arith in
+    (omega arith, stands-for (pos (getD (a .g .now) k 0)) v (ap (λ n. n % modulus) same) ∙ ap (ofℤ K) (p .is k h)))
 
 pub place-residues-spec : {M : Type 1} → statement M
 place-residues-spec =
     tie.close
-    (tie.spec Inv-loop μ-loop loop-holds (λ c. search needs) (λ c. search needs) (λ c. search needs) (λ c. search needs) (λ c. search needs)
-    (λ c. search needs) (λ c. search needs) (λ c. search needs) (λ c. search needs) loop-again (λ c. search needs) returns)
+    (tie.spec returns returns-2 returns-3 (λ c κs. search needs) (λ c. search needs) returns-4)
