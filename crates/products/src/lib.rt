@@ -28,8 +28,10 @@ type Sum = u64;
 // A small degree.
 const FEW: usize = 16;
 
-// Room for a table of 256 elements, of the largest degree.
+// Room for a table of 256 elements, of the largest degree, and for a short one.
 const TABLE: usize = 256 * WIDTH;
+
+const SHORT_TABLE: usize = 64 * WIDTH;
 
 // The element that the sums stand for.
 fn finish(q: Residue, d: u32, s: &[Sum], t: &[Sum]) -> [Residue; WIDTH]
@@ -197,8 +199,8 @@ fn transformed_rows(
     ensures { λ _. ⌜ ((G : ℕ → List ℕ) → Provided (RowsGiven sums q d n rows stride (now (f .entry)) (now (g .entry)) G × (rows * d ≤ length (now (out .entry))) × Suits q d n level)
         (now (out .exit) ≡ filled (rowPlaces d (λ r. innerElement sums q d n (now (f .entry)) (G r))) (rows * d) (now (out .entry)))) ⌝ }
 {
-    if (n as u64) * (d as u64) <= 8192 {
-        let mut x = [0u16; 8192];
+    if (n as usize) * (d as usize) <= SHORT_TABLE {
+        let mut x = [0u16; SHORT_TABLE];
         send_rows(sums, level, q, d, n, rows, stride, f, &mut x, g, out);
         return;
     }
