@@ -13,7 +13,7 @@ use Rattle.protocol.specs.declared.Parts.{Parts}
 use Rattle.protocol.specs.Text.{Spot, settingsShape, shapes, spots, wanted}
 use Rattle.protocol.specs.Lines.{readValue, readValues}
 use Rattle.text_parts.specs.Parts.{tableCount, partShape}
-use Rattle.table_reader.specs.Parts.{partSpots}
+use Rattle.text_values.specs.Parts.{partSpots}
 use Rattle.text_parts.proofs.From.{from-cons}
 use Rattle.text_lines.proofs.Values.{prefix, prefix-nothing, prefix-prefix, values-step, values-stop}
 

@@ -1,6 +1,6 @@
 -- `read_part`: up to line p the lines are the wanted ones and their values are stored, so what is left decides.
 use mathlib.Core.Path.{_≡_, refl, sym, ap, subst, _∙_}
-use mathlib.Core.List.{List, [], _∷_}
+use mathlib.Core.List.{List, _∷_}
 use mathlib.Core.Option.{Option, none, some}
 use Prim.Native.Nat.{ℕ, _+_, _-_, _^_, _≤_, _<_}
 use native.Mathlib.Omega.{arith}
@@ -19,9 +19,9 @@ use Rattle.text_parts.specs.Parts.{asShape, cellAt}
 use Rattle.text_lines.proofs.Counts.{Found}
 use Rattle.text_lines.proofs.Values.{prefix, prefix-nothing, valued, unvalued, values-more, values-over, values-done}
 use Rattle.text_parts.proofs.Cells.{cell, cell-first, cell-inside, next-cell, spots-count, spots-next, spots-end}
-use Rattle.table_reader.proofs.Cells.{took-missed, took-done}
-use Rattle.table_reader.proofs.parts.read_part.Statement.{statement}
-use Rattle.table_reader.proofs.parts.read_part.Tie as tie
+use Rattle.text_values.proofs.Cells.{took-missed, took-done}
+use Rattle.text_values.proofs.parts.read_part.Statement.{statement}
+use Rattle.text_values.proofs.parts.read_part.Tie as tie
 
 abbrev Inv-loop : tie.InvT-loop
 Inv-loop text from shape values₀ size at₀ cell₀ p₀ values at cell p =

@@ -15,8 +15,8 @@ use Rattle.protocol.specs.Basic.{tabulate, choose}
 use Rattle.protocol.specs.Text.{Line, Shape, shape, settingsShape, shapes, shapeSize, spotAt, spots, spotsOf, valuesOf, column}
 use Rattle.protocol.proofs.TableLaws.{AllParts, Rising, parts, columns, column-append, column-none, split}
 use Rattle.text_parts.specs.Flat.{joined}
-use Rattle.table_reader.specs.Parts.{partSpots}
-use Rattle.table_reader.specs.Stored.{tableParts, columnsIn}
+use Rattle.text_values.specs.Parts.{partSpots}
+use Rattle.text_values.specs.Stored.{tableParts, columnsIn}
 use Rattle.text_lines.proofs.Looks.{settingsSpots, values-append}
 
 columns-joined : (q : ℕ) (bs : List Shape) (ls : List Line) → Rising q (parts bs) → spotsOf ls ≡ flatMap spots bs → joined (columns (parts bs) ls) ≡ valuesOf ls

@@ -17,22 +17,22 @@ use Rattle.protocol.specs.declared.Parts.{Parts}
 use Rattle.protocol.specs.declared.Loaded.{Loaded}
 use Rattle.protocol.specs.Basic.{choose, unless}
 use Rattle.protocol.specs.Settings.{settingsRefusal}
-use Rattle.protocol.specs.Text.{Spot, Line, textLimit, shape, spots, wanted, linesOf, spotsOf, valuesOf, settingsIn, noSettings, lookRefusal, loaded, lookAnswer}
+use Rattle.protocol.specs.Text.{Spot, Line, textLimit, linesOf, spotsOf, valuesOf, settingsIn, noSettings, lookRefusal, loaded, lookAnswer}
 use Rattle.protocol.proofs.Refusals.{first-stops, first-passes, first-only}
 use Rattle.protocol.specs.Lines.{present, readValues, allLines, settingsOf, readSettings}
 use Rattle.text_lines.specs.Header.{headerAnswer}
 use Rattle.text_parts.specs.Parts.{lengthsFit}
-use Rattle.table_reader.specs.Parts.{partSpots, Took}
+use Rattle.text_values.specs.Parts.{partSpots, Took}
 use Rattle.text_lines.specs.declared.header.Header.{Header}
-use Rattle.table_reader.specs.declared.parts.Taken.{Taken}
-use Rattle.table_reader.specs.Stored.{columnsIn, inOrder, linesRefusal, First, Followed, Gathered}
+use Rattle.text_values.specs.declared.parts.Taken.{Taken}
+use Rattle.text_values.specs.Stored.{columnsIn, inOrder, linesRefusal, First, Followed, Gathered}
 use Rattle.text_lines.proofs.Counts.{suffix-length}
 use Rattle.text_lines.proofs.Rows.{all-end}
-use Rattle.table_reader.proofs.Cells.{taken-missed, taken-found}
+use Rattle.text_values.proofs.Cells.{taken-missed, taken-found}
 use Rattle.text_lines.proofs.Follow.{lines-before, values-lines}
 use Rattle.text_lines.proofs.Looks.{settled-look, loaded-refused, header-found}
 use Rattle.text_lines.proofs.Looked.{Looked, looked, opened, opened-settings, look-number}
-use Rattle.table_reader.proofs.Orders.{looked-order, looked-columns, order-missed, order-values, order-spots, order-found}
+use Rattle.text_values.proofs.Orders.{looked-order, looked-columns, order-missed, order-values, order-spots, order-found}
 
 spots-values : (ls : List Line) → length (spotsOf ls) ≡ length (valuesOf ls)
 unfolding spotsOf valuesOf

@@ -4,8 +4,9 @@ use mathlib.Core.Bool.{Bool, true}
 use mathlib.Core.List.{List}
 use Prim.Native.Nat.{ℕ}
 use native.Mathlib.Omega.{arith}
-use borrow.Author.Needs.{needs}
 use borrow.Author.Tests.{not-true, not-false}
+use lib.ListN.{length}
+use lib.IntN.{ℤ}
 use Rattle.protocol.specs.declared.Settings.{Settings}
 use Rattle.protocol.specs.declared.Parts.{Parts}
 use Rattle.protocol.specs.declared.Loaded.{Loaded}
@@ -14,13 +15,17 @@ use Rattle.protocol.proofs.Tests.{and-intro}
 use Rattle.protocol.proofs.Refusals.{and-fails-left, and-fails-right}
 use Rattle.text_parts.specs.Parts.{lengthsFit}
 use Rattle.text_lines.specs.Header.{Begins}
-use Rattle.table_reader.specs.Stored.{inOrder}
+use Rattle.text_values.specs.Parts.{Roomy}
+use Rattle.text_values.specs.Stored.{inOrder}
 use Rattle.text_lines.proofs.Looks.{loaded-granted}
 use Rattle.text_lines.proofs.Looked.{header-settings, look-number}
-use Rattle.table_reader.proofs.Gathers.{gathered-look, gathered-refused, gathered-granted}
+use Rattle.text_values.proofs.Gathers.{gathered-look, gathered-refused, gathered-granted}
 use Rattle.text_parts.proofs.Counted.{lengths-counted}
-use Rattle.table_reader.proofs.values.read_values.Statement.{statement}
-use Rattle.table_reader.proofs.values.read_values.Tie as tie
+use Rattle.text_values.proofs.read_values.Statement.{statement}
+use Rattle.text_values.proofs.read_values.Tie as tie
+
+abbrev Asked : List ℕ → Settings → ℕ → List ℤ → Type 0
+Asked text S from values = Begins text S from × Roomy (length text) (length values)
 
 -- a text whose lines were followed
 module _ (c : tie.After-values) where
@@ -49,12 +54,12 @@ module _ (c : tie.After-values) where
   answer = record { refusal = 0; settings = S }
 
   -- to its end
-  module _ (found : c .before .read-wanted .result ≡ true) (b : Begins text S (start .args .from)) where
+  module _ (found : c .before .read-wanted .result ≡ true) (b : Asked text S (start .args .from) (start .args .values .now)) where
     unrefused : lookRefusal text ≡ 0
     unrefused = c .before .read-wanted .ensures .0 b .unrefused found
 
     settings-are : settingsIn (linesOf text) ≡ S
-    settings-are = header-settings text _ (b .header) unrefused
+    settings-are = header-settings text _ (b .0 .header) unrefused
 
     looks : answer ≡ lookAnswer text
     unfolding lookAnswer
@@ -70,10 +75,10 @@ module _ (c : tie.After-fits2) where
   reached : followed .before .read-wanted .result ≡ true
   reached = not-false _ (c .before .if1 .left)
 
-  fitted : Begins (text followed) (S followed) (start followed .args .from) → c .fits2 .result ≡ fitting followed
+  fitted : Asked (text followed) (S followed) (start followed .args .from) (start followed .args .values .now) → c .fits2 .result ≡ fitting followed
   fitted b =
       c .fits2 .ensures
-      ∙ lengths-counted (S followed) (parts followed) (b .allowed) (lengths followed)
+      ∙ lengths-counted (S followed) (parts followed) (b .0 .allowed) (lengths followed)
       ∙ ap (λ x. lengthsFit x (parts followed) (lengths followed)) (sym (settings-are followed reached b))
 
 returns : tie.Need-returns
@@ -114,5 +119,5 @@ returns-4 c =
 pub read-values-spec : {M : Type 1} → statement M
 read-values-spec =
     tie.close
-    (tie.spec (λ c κs. search needs) (λ c κs. search needs) (λ c. search needs) returns (λ c κs. search needs) (λ c. search needs) returns-2
-    (λ c κs. search needs) (λ c κs. search needs) (λ c. search needs) returns-3 (λ c. search needs) returns-4)
+    (tie.spec (λ c κs. search) (λ c κs. search) (λ c. search) returns (λ c κs. search) (λ c. search) returns-2
+    (λ c κs. search) (λ c κs. search) (λ c. search) returns-3 (λ c. search) returns-4)

@@ -1,5 +1,6 @@
 // All values of a text, gathered part after part before any of them is tested or stored.
-use crate::parts::read_parts;
+mod parts;
+
 use protocol::Loaded;
 use protocol::Parts;
 use protocol::Settings;
@@ -15,8 +16,8 @@ ghost use lib.ListN.{length};
 ghost use Rattle.protocol.specs.Basic.{Provided};
 ghost use Rattle.text_parts.specs.Flat.{total};
 ghost use Rattle.text_lines.specs.Header.{Begins};
-ghost use Rattle.table_reader.specs.Parts.{RoomFor, Roomy};
-ghost use Rattle.table_reader.specs.Stored.{Followed, Gathered};
+ghost use Rattle.text_values.specs.Parts.{RoomFor, Roomy};
+ghost use Rattle.text_values.specs.Stored.{Followed, Gathered};
 
 // Do the lines of a text that begins with these settings go on with the required ones up to its end, where its length is allowed. All lines are then of the
 // stated shape, and one walk has read them: refusals 1 to 6 and 16 do not apply.
@@ -27,14 +28,13 @@ fn read_wanted(
     text: &[u8],
     values: &mut [i64],
 ) -> bool
-    requires { ⌜ Roomy (length (now text)) (length (now values)) ⌝ }
-    ensures followed { λ r. ⌜ Provided (Begins (now (text .entry)) settings from) (Followed parts (now (text .entry)) r (now (values .exit))) ⌝ }
+    ensures followed { λ r. ⌜ Provided (Begins (now (text .entry)) settings from × Roomy (length (now (text .entry))) (length (now (values .entry)))) (Followed parts (now (text .entry)) r (now (values .exit))) ⌝ }
     ensures room { λ r. ⌜ (r ≡ true → RoomFor settings parts (length (now (values .exit)))) ⌝ }
 {
     if text.len() > TEXT_LIMIT {
         return false;
     }
-    let taken = read_parts(settings, parts, text, from, values);
+    let taken = parts::read_parts(settings, parts, text, from, values);
     if !taken.found {
         return false;
     }
@@ -42,7 +42,7 @@ fn read_wanted(
 }
 
 // Refusals 1 to 7 of a text that begins with these settings and is read into tables of these lengths. Where nothing is refused its values stand first in
-// `values`, which has room for the values of a text of this length: a line has at least eight bytes.
+// `values`, where that has room for the values of a text of this length: a line has at least eight bytes.
 pub fn read_values(
     parts: Parts,
     settings: Settings,
@@ -51,8 +51,7 @@ pub fn read_values(
     lengths: [usize; TABLES],
     values: &mut [i64],
 ) -> Loaded
-    requires { ⌜ Roomy (length (now text)) (length (now values)) ⌝ }
-    ensures gathered { λ r. ⌜ Provided (Begins (now (text .entry)) settings from) (Gathered parts lengths (now (text .entry)) r (now (values .exit))) ⌝ }
+    ensures gathered { λ r. ⌜ Provided (Begins (now (text .entry)) settings from × Roomy (length (now (text .entry))) (length (now (values .entry)))) (Gathered parts lengths (now (text .entry)) r (now (values .exit))) ⌝ }
     ensures room { λ r. ⌜ (r .refusal ≡ 0 → total lengths ≤ length (now (values .exit))) ⌝ }
 {
     if !read_wanted(parts, settings, from, text, values) {

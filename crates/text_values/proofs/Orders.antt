@@ -15,19 +15,19 @@ use lib.Seq.{take-all}
 use lib.IntN.{ℤ}
 use Rattle.protocol.specs.declared.Settings.{Settings}
 use Rattle.protocol.specs.declared.Parts.{Parts}
-use Rattle.protocol.specs.Text.{Spot, Line, spots, wanted, readLine, linesOf, sameSpots, spotsOf, valuesOf, settingsIn}
+use Rattle.protocol.specs.Text.{Spot, Line, wanted, readLine, linesOf, sameSpots, spotsOf, valuesOf, settingsIn}
 use Rattle.protocol.proofs.Tests.{same-test}
 use Rattle.protocol.specs.Lines.{readValues, allLines, settingsOf}
-use Rattle.table_reader.specs.Parts.{partSpots}
-use Rattle.table_reader.specs.Stored.{columnsIn, inOrder}
+use Rattle.text_values.specs.Parts.{partSpots}
+use Rattle.text_values.specs.Stored.{columnsIn, inOrder}
 use Rattle.text_lines.proofs.Counts.{suffix-length}
 use Rattle.text_lines.proofs.Rows.{all-end, all-next, all-none}
 use Rattle.text_lines.proofs.Values.{same-spot}
 use Rattle.text_lines.proofs.Follow.{same-spots-self, spots-same, lines-before, values-lines, values-elsewhere}
 use Rattle.text_lines.proofs.Looks.{settingsSpots, spots-append, settled-lines, settled-settings}
 use Rattle.text_lines.proofs.Looked.{Looked}
-use Rattle.table_reader.proofs.Wants.{wanted-is}
-use Rattle.table_reader.proofs.Columns.{columns-behind}
+use Rattle.text_values.proofs.Wants.{wanted-is}
+use Rattle.text_values.proofs.Columns.{columns-behind}
 
 -- ---- the same spots
 

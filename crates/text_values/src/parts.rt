@@ -17,7 +17,7 @@ ghost use Rattle.protocol.specs.Basic.{Provided};
 ghost use Rattle.protocol.specs.Settings.{settingsRefusal};
 ghost use Rattle.protocol.specs.Text.{shapeSize, spots};
 ghost use Rattle.text_parts.specs.Parts.{asShape};
-ghost use Rattle.table_reader.specs.Parts.{partSpots, Took, RoomFor};
+ghost use Rattle.text_values.specs.Parts.{partSpots, Took, RoomFor};
 
 // How many parts there are, the settings being part 0.
 const PARTS: u32 = (TABLES as u32) + 1;
@@ -65,8 +65,7 @@ pub fn read_parts(
     from: usize,
     values: &mut [i64],
 ) -> Taken
-    requires { ⌜ length (now text) ≤ 8 * length (now values) ⌝ }
-    ensures lines { λ r. ⌜ Provided ((settingsRefusal settings ≡ 0) × (from ≤ length (now (text .entry))))
+    ensures lines { λ r. ⌜ Provided ((settingsRefusal settings ≡ 0) × (from ≤ length (now (text .entry))) × (length (now (text .entry)) ≤ 8 * length (now (values .entry))))
         (Took (now (text .entry)) from (partSpots settings parts) r (now (values .exit))) ⌝ }
     ensures room { λ r. ⌜ (r .found ≡ true → RoomFor settings parts (length (now (values .exit)))) ⌝ }
 {

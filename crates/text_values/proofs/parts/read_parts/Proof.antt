@@ -3,7 +3,7 @@ use mathlib.Core.Path.{_≡_, refl, sym, ap, _∙_}
 use mathlib.Core.Bool.{true, false≢true}
 use mathlib.Core.List.{List, [], _++_}
 use mathlib.Core.Option.{Option, none, some}
-use Prim.Native.Nat.{ℕ, _+_, _-_, _≤_, _<_}
+use Prim.Native.Nat.{ℕ, _+_, _*_, _-_, _≤_, _<_}
 use native.Mathlib.Omega.{arith}
 use borrow.Author.Needs.{needs}
 use borrow.Author.Tests.{eqb-true, not-true, not-false}
@@ -20,25 +20,25 @@ use Rattle.text_parts.specs.Parts.{tableCount, asShape, partOf, lengthsAre}
 use Rattle.text_parts.specs.Flat as Flat
 use Rattle.text_parts.specs.Flat.{total}
 use Rattle.text_parts.proofs.Flat.{start-next}
-use Rattle.table_reader.specs.Parts.{partSpots, Took}
+use Rattle.text_values.specs.Parts.{partSpots, Took}
 use Rattle.text_lines.proofs.Values.{prefix, prefix-nothing, prefix-prefix, values-done}
 use Rattle.text_parts.proofs.Cells.{spots-count}
-use Rattle.table_reader.proofs.Cells.{taken-missed, taken-found, took-missed, took-done, took-place}
+use Rattle.text_values.proofs.Cells.{taken-missed, taken-found, took-missed, took-done, took-place}
 use Rattle.text_lines.proofs.Follow.{values-room}
-use Rattle.table_reader.proofs.Wants.{partCount, spotsFrom, spots-from-next, spots-from-end, spots-from-one, values-then, values-never}
+use Rattle.text_values.proofs.Wants.{partCount, spotsFrom, spots-from-next, spots-from-end, spots-from-one, values-then, values-never}
 use Rattle.text_parts.proofs.Counted.{part-of}
-use Rattle.table_reader.proofs.parts.read_parts.Statement.{statement}
-use Rattle.table_reader.proofs.parts.read_parts.Tie as tie
+use Rattle.text_values.proofs.parts.read_parts.Statement.{statement}
+use Rattle.text_values.proofs.parts.read_parts.Tie as tie
 
--- what is asked of the settings and of the place that is read from
-abbrev Asked : Settings → ℕ → List ℕ → Type 0
-Asked S from text = (settingsRefusal S ≡ 0) × (from ≤ length text)
+-- what is asked of the settings, of the place that is read from and of the room for values
+abbrev Asked : Settings → ℕ → List ℕ → List ℤ → Type 0
+Asked S from text values = (settingsRefusal S ≡ 0) × (from ≤ length text) × (length text ≤ 8 * length values)
 
 abbrev Inv-loop : tie.InvT-loop
 Inv-loop settings parts text from values₀ at₀ start₀ part₀ values at start part =
     (1 ≤ part) × (part ≤ partCount) × (start ≤ length values) × (length values ≡ length values₀)
     × ((n : List ℕ) → lengthsAre (partOf settings parts) n ≡ true → start ≡ Flat.start n (part - 1))
-    × (Asked settings from text → (at ≤ length text) × (start + length (spotsFrom settings parts part) ≡ length (partSpots settings parts))
+    × (Asked settings from text values₀ → (at ≤ length text) × (start + length (spotsFrom settings parts part) ≡ length (partSpots settings parts))
     × (readValues (partSpots settings parts) (drop from text) ≡ prefix (take start values) (readValues (spotsFrom settings parts part) (drop at text))))
 
 abbrev μ-loop : tie.MeasureT-loop
@@ -65,6 +65,9 @@ module _ (c : tie.After-size-of Inv-loop μ-loop) where
 
   abbrev text : List ℕ
   text = c .before .before .before .before .before .args .text .now
+
+  abbrev lent : List ℤ
+  lent = c .before .before .before .before .before .args .values .now
 
   abbrev from : ℕ
   from = c .before .before .before .before .before .args .from
@@ -105,7 +108,7 @@ module _ (c : tie.After-size-of Inv-loop μ-loop) where
       ∙ sym (eqb-true _ _ (every-at tableCount _ f k (omega arith))) in
       (λ j. c .before .before .before .loop .inv .4 n f j + long j) ∙ sym (start-next n k) ∙ ap (Flat.start n) {x = k + 1} {y = now-part + 1 - 1} (omega arith)
 
-  module _ (g : Asked S from text) where
+  module _ (g : Asked S from text lent) where
     next-spots : spotsFrom S P now-part ≡ spots-here ++ spots-next
     next-spots = spots-from-next S P now-part (omega arith) ∙ ap (λ b. spots b ++ spots-next) (sym (c .before .shape-of .ensures ∙ part-of S P (g .0) now-part))
 
@@ -123,7 +126,7 @@ module _ (c : tie.After-size-of Inv-loop μ-loop) where
         by none e = e
         by (some (vs, rest)) e =
             let count = c .before .before .before .loop .inv .5 g .1 in
-            absurd (omega (arith, values-room (partSpots S P) (drop from text) vs rest e, length-drop from text, counts, count, c .before .before .before .before .before .pre))
+            absurd (omega (arith, values-room (partSpots S P) (drop from text) vs rest e, length-drop from text, counts, count, g .2, c .before .before .before .loop .inv .3))
 
 -- what was read of it
 module _ (c : tie.After-values Inv-loop μ-loop) where
@@ -136,7 +139,7 @@ module _ (c : tie.After-values Inv-loop μ-loop) where
   room : start at-part + size at-part ≤ length (values at-part)
   room = omega arith
 
-  took : Asked (S at-part) (from at-part) (text at-part) → Took (text at-part) (now-at at-part) (spots-here at-part) (c .before .read-part .result) last
+  took : Asked (S at-part) (from at-part) (text at-part) (lent at-part) → Took (text at-part) (now-at at-part) (spots-here at-part) (c .before .read-part .result) last
   took g = c .before .read-part .ensures (at-part .before .before .before .loop .inv .5 g .0)
 
 loop-holds : tie.Need-loop-holds Inv-loop μ-loop
