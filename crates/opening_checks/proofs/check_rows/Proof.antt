@@ -1,10 +1,10 @@
 use mathlib.Core.Path.{_≡_, refl, ap, _∙_}
 use Prim.Native.Nat.{_+_, _-_, _≤_}
 use native.Mathlib.Omega.{arith}
+use borrow.Rule.Slice.PartMut.{same-len-mid}
 use lib.ListN.{length}
 use Rattle.protocol.specs.Basic.{every, Provided}
 use Rattle.protocol.specs.Transcript.{roundHolds}
-use Rattle.prover.proofs.Folding.{part-length}
 use Rattle.opening_checks.specs.Checks.{rowClaim, RowsRead, sentElement}
 use Rattle.opening_checks.proofs.Rowwise.{RowsSoFar, rows-none, row-room, rows-more}
 use borrow.Author.Needs.{needs}
@@ -42,7 +42,7 @@ loop-again c =
     let writes = c .before .before .next-claim in (
       omega arith,
       omega arith,
-      part-length (l .at) (l .at + a .settings .degree - l .at) (l .claims) (writes .last .1 .1 .1 .1 .0) (omega (arith, l .inv .2)) (writes .kept .1 .1 .1 .1 .0) ∙ l .inv .2,
+      same-len-mid (l .at) (l .at + a .settings .degree - l .at) (l .claims) (writes .last .1 .1 .1 .1 .0) (writes .kept .1 .1 .1 .1 .0) ∙ l .inv .2,
       (λ g.
           rows-more (a .settings) (a .t) (a .e) (a .claims .now) (a .rounds .now) g (l .inv .3 g) (omega arith) (l .inv .2) _ (c .before .before .before .before .before .polynomial-holds .ensures) (writes .last .1 .1 .1 .1 .0)
           (writes .kept .1 .1 .1 .1 .0) (writes .ensures)),
