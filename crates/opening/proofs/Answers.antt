@@ -7,16 +7,16 @@ use native.Mathlib.Nat as Nat
 use native.Mathlib.Decide.{decLt}
 use native.Mathlib.Omega.{arith}
 use lib.IntN.{ℤ}
-use lib.ListN.{length, getD}
+use lib.ListN.{length}
 use Rattle.protocol.specs.declared.Settings.{Settings}
 use Rattle.protocol.specs.declared.Verdict.{Verdict}
 use Rattle.protocol.specs.declared.Verdict.the-variants.{Silent}
 use Rattle.protocol.specs.Basic.{every}
 use Rattle.protocol.specs.Element.{width, zeros, signedZeros, paddedSigned, coefficients, signedAt, signed, residue}
-use Rattle.protocol.specs.Settings.{settingsRefusal, cells}
+use Rattle.protocol.specs.Settings.{settingsRefusal}
 use Rattle.protocol.specs.Layout.{rowsMost, rowsWidth, keyCells, itemCells}
 use Rattle.protocol.specs.Inputs.{Valid, Below}
-use Rattle.protocol.specs.Opening.{commitment, keyAfter, messageAfter, finalElement}
+use Rattle.protocol.specs.Opening.{commitment, messageAfter, finalElement}
 use Rattle.protocol.specs.Transcript.{Transcript, endMet}
 use Rattle.protocol.specs.Rows.{keyRow, atRows, keysAfter, roundTables, transcriptsOf, allAccepted}
 use Rattle.protocol.specs.Session.{verdict, verdictNumber}
@@ -24,8 +24,7 @@ use Rattle.protocol.specs.Calls.{commitRefusal, commitAnswer, openingRefusal, o
 use Rattle.protocol.specs.Promises.{Opening}
 use Rattle.protocol.proofs.Tests.{granted-zero, granted-refused}
 use Rattle.protocol.proofs.Answers.{opening-number}
-use Rattle.protocol.proofs.Ranges.{key-residues}
-use Rattle.protocol.proofs.Rows.{keys-zero, keys-row, keyRow-below, stacked-length}
+use Rattle.protocol.proofs.Rows.{keys-zero, keyRow-below}
 use Rattle.claims.proofs.Honest.{Given, degree-positive, modulus-positive, opening-commitment, opening-last, opening-key, opening-message, opening-rounds}
 use Rattle.claims.proofs.Prover.{commit-answer}
 use Rattle.claims.proofs.RowLaws.{cells-positive, keys-below}
@@ -36,11 +35,12 @@ use Rattle.products.specs.Rowwise.{rowPlaces}
 use Rattle.opening_rounds.specs.Rounds.{roundItem, commitmentItem, ItemsBegun}
 use Rattle.slices.specs.Slices.{valuesOf}
 use Rattle.prover.proofs.Values.{item-by-value}
-use Rattle.opening.specs.declared.turns.State.{State}
-use Rattle.opening.specs.Turns.{rowClaim, TablesAt, EndsRead, Finished, ProverTurn}
-use Rattle.opening.proofs.Inputs.{Lent, lent}
-use Rattle.opening.proofs.Storing.{front, inside, round-items, front-none, front-past, front-first}
-use Rattle.opening.proofs.Checking.{checked-none, accepted-is}
+use Rattle.opening_turns.specs.declared.State.{State}
+use Rattle.opening_checks.specs.Checks.{rowClaim, EndsRead}
+use Rattle.opening_turns.specs.Turns.{TablesAt, Finished, ProverTurn}
+use Rattle.opening_turns.proofs.Inputs.{Lent, lent}
+use Rattle.opening_turns.proofs.Storing.{front, inside, round-items, front-none, front-past, front-first}
+use Rattle.opening_turns.proofs.Checking.{checked-none, accepted-is}
 
 -- a front that is written is a part from place 0 on
 begun-front : (f : ℕ → ℕ) (R : List ℕ) (n : ℕ) → filled f n R ≡ spliced f (3 * 0 * n) n R

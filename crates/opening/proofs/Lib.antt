@@ -1,6 +1,1 @@
-pub mod Inputs
-pub mod Storing
-pub mod Checking
-pub mod Turning
-pub mod Rowwise
 pub mod Answers

@@ -1,9 +1,5 @@
 // The whole opening: turns of the prover and the verifier, on tables that are folded in place.
-mod ending;
-mod storage;
-mod turns;
-
-use crate::turns::State;
+use opening_turns::State;
 use protocol::Opened;
 use protocol::ROWS_WIDTH;
 use protocol::Residue;
@@ -35,7 +31,7 @@ pub fn opened(
         done: 0,
         holds: true,
     };
-    let ended = turns::prover_turn(
+    let ended = opening_turns::prover_turn(
         settings,
         begun,
         &mut claims,
@@ -45,7 +41,7 @@ pub fn opened(
         rounds,
     );
     let last = elements::signed_element_at(settings.degree, message, 0);
-    let verdict = ending::verdict(settings, ended.holds, &claims, &last, key);
+    let verdict = opening_checks::verdict(settings, ended.holds, &claims, &last, key);
     Opened {
         refusal: 0,
         commitment: commitment,

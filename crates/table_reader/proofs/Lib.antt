@@ -1,11 +1,6 @@
 pub mod Cuts
 pub mod Narrow
 pub mod Refuses
-pub mod Cells
-pub mod Wants
-pub mod Columns
-pub mod Orders
-pub mod Gathers
 pub mod Whole
 pub mod OnText
 pub mod Rooms

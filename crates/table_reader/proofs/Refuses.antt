@@ -3,7 +3,7 @@
 --   untested          a table that a refusal does not test
 --   tested-..         the test of a refusal, by its number
 --   entries-tested    the three tests, one after the other
-use mathlib.Core.Path.{_≡_, refl, sym, ap, _∙_}
+use mathlib.Core.Path.{_≡_, sym, ap, _∙_}
 use mathlib.Core.Bool.{Bool, true, and-true}
 use mathlib.Core.List.{List, [], _∷_, map}
 use Prim.Native.Nat.{ℕ}
@@ -12,7 +12,7 @@ use lib.IntN.{ℤ}
 use Rattle.protocol.specs.declared.Settings.{Settings}
 use Rattle.protocol.specs.Basic.{choose, every, first, unless}
 use Rattle.protocol.specs.Settings.{allBelow, allWithin, exponents}
-use Rattle.protocol.specs.Text.{Tables, valueLimit, narrowLimit, unsigned, entriesRefusal}
+use Rattle.protocol.specs.Text.{valueLimit, narrowLimit, unsigned, entriesRefusal}
 use Rattle.text_parts.specs.Parts.{testedBy}
 use Rattle.text_parts.proofs.Exactly.{and-assoc}
 use Rattle.table_reader.specs.Cut.{cutTables, tests, passes, allPass}

@@ -28,12 +28,12 @@ use Rattle.protocol.proofs.Refusals.{front-stops, front-passes, first-only}
 use Rattle.protocol.proofs.TableLaws.{Rising, Fit, parts, columns, read-fit}
 use Rattle.text_parts.specs.Parts.{tablesOf, tableCount, partShape, lengthsOf, lengthsAre, lengthsFit}
 use Rattle.text_parts.proofs.Exactly.{lengths-fit}
-use Rattle.table_reader.specs.Stored.{tableParts, columnsIn, inOrder, linesRefusal, First, Gathered}
+use Rattle.text_values.specs.Stored.{tableParts, columnsIn, inOrder, linesRefusal, First, Gathered}
 use Rattle.text_lines.proofs.Follow.{spots-same}
 use Rattle.text_lines.proofs.Looks.{loaded-refused}
 use Rattle.text_parts.specs.Flat.{start, total, piece, joined}
 use Rattle.text_parts.proofs.Flat.{piece-joined, start-joined}
-use Rattle.table_reader.proofs.Columns.{behind-rise, columns-flat}
+use Rattle.text_values.proofs.Columns.{behind-rise, columns-flat}
 use Rattle.table_reader.specs.Cut.{cutTables, narrowTables}
 use Rattle.table_reader.proofs.Narrow.{tables-narrow}
 

@@ -1,8 +1,6 @@
 // The table reader: the tables of a text, in what is lent for them. Nothing is written before the whole text has passed refusals 1 to 10.
 mod entries;
-mod parts;
 mod store;
-mod values;
 
 use protocol::Loaded;
 use protocol::Parts;
@@ -16,7 +14,7 @@ ghost use Rattle.protocol.specs.Basic.{Provided};
 ghost use Rattle.protocol.specs.Promises.{Read};
 ghost use Rattle.text_parts.specs.Parts.{tablesOf, lentCells};
 ghost use Rattle.text_lines.specs.Header.{Begins};
-ghost use Rattle.table_reader.specs.Parts.{Roomy};
+ghost use Rattle.text_values.specs.Parts.{Roomy};
 
 // The core of the reader, with a place for the values that has room for those of this text.
 fn read_by(
@@ -47,7 +45,7 @@ fn read_by(
         last.len(),
         claims.len(),
     ];
-    let loaded = values::read_values(parts, settings, from, text, lengths, values);
+    let loaded = text_values::read_values(parts, settings, from, text, lengths, values);
     if loaded.refusal != 0 {
         return loaded;
     }

@@ -108,7 +108,7 @@ module _ (c : tie.After-item-cells) where
 slice-aggregate-write-tables-3 : tie.Need-slice-aggregate-write-tables-3
 slice-aggregate-write-tables-3 c =
     let i = c .before .before .before .before .before in
-    let long : length (made i .flat .result) ≡ rowsWidth = search needs in
+    let long : length (made i .flat .result) ≡ rowsWidth = search in
     sym (length-take-le _ _ (omega (arith, room i)))
 
 array-share-prefix-last : tie.Need-array-share-prefix-last
@@ -118,7 +118,7 @@ slice-aggregate-write-tables-4 : tie.Need-slice-aggregate-write-tables-4
 slice-aggregate-write-tables-4 c = sym (length-take-le _ _ (last-given (c .before .before .before .before .before .before .before .before .before .before .before .before .before .before .before .before .before .before .before) .0))
 
 claims-long : (i : tie.After-item-cells) → length (claimed-in i .claims-of .result) ≡ claimsRoom
-claims-long i = search needs
+claims-long i = search
 
 array-share-prefix-claims : tie.Need-array-share-prefix-claims
 array-share-prefix-claims c = let i = c .before .before .before .before .before .before .before in omega (arith, claim-room i, claims-long i)
@@ -162,6 +162,6 @@ returns c =
 pub print-opening-spec : {M : Type 1} → statement M
 print-opening-spec =
     tie.close
-    (tie.spec (λ c κs. search needs) (λ c κs. search needs) (λ c κs. search needs) (λ c κs. search needs) (λ c κs. search needs) (λ c. search needs) (λ c κs. search needs) (λ c. search needs)
-    (λ c. search needs) (λ c. search needs) (λ c. search needs) (λ c. search needs) slice-aggregate-write-tables-3 array-share-prefix-last
-    slice-aggregate-write-tables-4 array-share-prefix-claims slice-aggregate-write-tables-5 (λ c κs. search needs) same-length same-length-2 same-length-3 (λ c. search needs) returns)
+    (tie.spec (λ c κs. search) (λ c κs. search) (λ c κs. search) (λ c κs. search) (λ c κs. search) (λ c. search needs) (λ c κs. search) (λ c. search needs)
+    (λ c. search) (λ c. search needs) (λ c. search) (λ c. search needs) slice-aggregate-write-tables-3 array-share-prefix-last
+    slice-aggregate-write-tables-4 array-share-prefix-claims slice-aggregate-write-tables-5 (λ c κs. search) same-length same-length-2 same-length-3 (λ c. search) returns)

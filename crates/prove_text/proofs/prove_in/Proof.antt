@@ -52,13 +52,13 @@ module _ (c : tie.Else1) where
   unfolding lengthsOf
   lengths =
       let a = start got .args in
-      let key : length (t′ got .key) ≡ length (a .key .now) = search needs in
-      let message : length (t′ got .message) ≡ length (a .message .now) = search needs in
-      let commitment : length (t′ got .commitment) ≡ 0 = search needs in
-      let rounds : length (t′ got .rounds) ≡ 0 = search needs in
-      let challenges : length (t′ got .challenges) ≡ length (a .challenges .now) = search needs in
-      let last : length (t′ got .last) ≡ 0 = search needs in
-      let claims : length (t′ got .claims) ≡ 0 = search needs in
+      let key : length (t′ got .key) ≡ length (a .key .now) = search in
+      let message : length (t′ got .message) ≡ length (a .message .now) = search in
+      let commitment : length (t′ got .commitment) ≡ 0 = search in
+      let rounds : length (t′ got .rounds) ≡ 0 = search in
+      let challenges : length (t′ got .challenges) ≡ length (a .challenges .now) = search in
+      let last : length (t′ got .last) ≡ 0 = search in
+      let claims : length (t′ got .claims) ≡ 0 = search in
       λ j. key j ∷ message j ∷ commitment j ∷ rounds j ∷ challenges j ∷ last j ∷ claims j ∷ []
 
 returns : tie.Need-returns
@@ -90,6 +90,6 @@ returns-2 c =
 pub prove-in-spec : {M : Type 1} → statement M
 prove-in-spec =
     tie.close
-    (tie.spec (λ c κs. search needs) (λ c. search needs) (λ c. search needs) (λ c. search needs) (λ c. search needs) (λ c. search needs) (λ c. search needs) (λ c. search needs)
-    (λ c. search needs) (λ c κs. search needs) (λ c. search needs) (λ c. search needs) (λ c. search needs) returns print-opening-requires
-    (λ c. search needs) (λ c. search needs) (λ c. search needs) (λ c. search needs) (λ c. search needs) returns-2)
+    (tie.spec (λ c κs. search) (λ c. search needs) (λ c. search) (λ c. search needs) (λ c. search) (λ c. search needs) (λ c. search) (λ c. search needs)
+    (λ c. search) (λ c κs. search) (λ c. search) (λ c. search) (λ c. search) returns print-opening-requires
+    (λ c. search needs) (λ c. search needs) (λ c. search) (λ c. search) (λ c. search) returns-2)

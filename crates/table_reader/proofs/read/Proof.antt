@@ -1,9 +1,8 @@
 -- `read`: the settings, and then the core.
 use mathlib.Core.List.{[]}
-use borrow.Author.Needs.{needs}
 use Rattle.text_parts.specs.Parts.{tablesOf, lengthsOf}
 use Rattle.text_lines.proofs.Looked.{begun, begun-begins}
-use Rattle.table_reader.proofs.Gathers.{gathered-look}
+use Rattle.text_values.proofs.Gathers.{gathered-look}
 use Rattle.table_reader.proofs.Whole.{read-refused}
 use Rattle.table_reader.proofs.read.Statement.{statement}
 use Rattle.table_reader.proofs.read.Tie as tie
@@ -29,5 +28,5 @@ returns-2 c =
 pub read-spec : {M : Type 1} → statement M
 read-spec =
     tie.close
-    (tie.spec (λ c κs. search needs) returns (λ c κs. search needs) (λ c. search needs) (λ c. search needs) (λ c. search needs) (λ c. search needs)
-    (λ c. search needs) (λ c. search needs) (λ c. search needs) returns-2)
+    (tie.spec (λ c κs. search) returns (λ c κs. search) (λ c. search) (λ c. search) (λ c. search) (λ c. search)
+    (λ c. search) (λ c. search) (λ c. search) returns-2)

@@ -1,13 +1,12 @@
 -- `read_by`: the values are gathered, then tested, then stored.
 use mathlib.Core.List.{List}
 use Prim.Native.Nat.{ℕ}
-use borrow.Author.Needs.{needs}
 use lib.IntN.{ℤ}
 use Rattle.protocol.specs.declared.Parts.{Parts}
 use Rattle.protocol.specs.Text.{Tables}
 use Rattle.text_parts.specs.Parts.{tablesOf, lengthsOf}
 use Rattle.text_lines.specs.Header.{Begins}
-use Rattle.table_reader.specs.Stored.{Gathered}
+use Rattle.text_values.specs.Stored.{Gathered}
 use Rattle.table_reader.proofs.Whole.{read-refused, read-allowed, read-refused-entries, read-done}
 use Rattle.table_reader.proofs.read_by.Statement.{statement}
 use Rattle.table_reader.proofs.read_by.Tie as tie
@@ -30,7 +29,7 @@ module _ (c : tie.After-read-values) where
 
   gathered : Begins text (start .args .settings) (start .args .from) → Gathered P (lengthsOf t) text (c .read-values .result) values
   unfolding lengthsOf
-  gathered b = c .read-values .ensures .0 b
+  gathered b = c .read-values .ensures .0 (b, start .pre)
 
 returns : tie.Need-returns
 returns c b = let g = c .before .before .before in read-refused (P g) (text g) (t g) (g .read-values .result) (values g) (gathered g b) (c .if1 .taken)
@@ -68,5 +67,5 @@ returns-3 c b =
 pub read-by-spec : {M : Type 1} → statement M
 read-by-spec =
     tie.close
-    (tie.spec (λ c κs. search needs) (λ c. search needs) returns refusal-requires (λ c κs. search needs) (λ c. search needs) returns-2 all-requires
-    (λ c. search needs) (λ c. search needs) (λ c. search needs) (λ c. search needs) (λ c. search needs) (λ c. search needs) (λ c. search needs) (λ c. search needs) returns-3)
+    (tie.spec (λ c κs. search) (λ c. search) returns refusal-requires (λ c κs. search) (λ c. search) returns-2 all-requires
+    (λ c. search) (λ c. search) (λ c. search) (λ c. search) (λ c. search) (λ c. search) (λ c. search) (λ c. search) returns-3)

@@ -5,7 +5,6 @@ use Rattle.protocol.proofs.Tests.{and-split}
 use Rattle.text_parts.specs.Parts.{tablesOf}
 use Rattle.text_calls.specs.Texts.{partsNamed}
 use Rattle.text_calls.proofs.Answers.{read-unfit, read-refused, read-made}
-use borrow.Author.Needs.{needs}
 use Rattle.text_calls.proofs.read.Statement.{statement}
 use Rattle.text_calls.proofs.read.Tie as tie
 
@@ -52,6 +51,6 @@ returns-3 c =
 pub read-spec : {M : Type 1} → statement M
 read-spec =
     tie.close
-    (tie.spec (λ c κs. search needs) (λ c κs. search needs) returns (λ c κs. search needs) (λ c κs. search needs) (λ c. search needs)
-    (λ c. search needs) (λ c. search needs) (λ c. search needs) (λ c. search needs) (λ c. search needs) (λ c. search needs) returns-2 store-requires (λ c. search needs) (λ c. search needs)
-    (λ c. search needs) (λ c. search needs) (λ c. search needs) (λ c. search needs) (λ c. search needs) (λ c. search needs) returns-3)
+    (tie.spec (λ c κs. search) (λ c κs. search) returns (λ c κs. search) (λ c κs. search) (λ c. search)
+    (λ c. search) (λ c. search) (λ c. search) (λ c. search) (λ c. search) (λ c. search) returns-2 store-requires (λ c. search) (λ c. search)
+    (λ c. search) (λ c. search) (λ c. search) (λ c. search) (λ c. search) (λ c. search) returns-3)

@@ -1,19 +1,18 @@
 -- `print`: the line of the answer.
 use mathlib.Core.Path.{ap}
-use borrow.Author.Needs.{needs}
 use Rattle.protocol.specs.Programs.{verdictLine, verifyOutput}
 use Rattle.table_writer.proofs.Shows.{shown-as, shown-told}
 use Rattle.verify_text.proofs.print.Statement.{statement}
 use Rattle.verify_text.proofs.print.Tie as tie
 
 verify-requires : tie.Need-verify-requires
-verify-requires c κs = search needs
+verify-requires c κs = search
 
 show-verdict-requires : tie.Need-show-verdict-requires
-show-verdict-requires c κs = search needs
+show-verdict-requires c κs = search
 
 same-length : tie.Need-same-length
-same-length c = search needs
+same-length c = search
 
 returns : tie.Need-returns
 unfolding verifyOutput

@@ -13,10 +13,10 @@ told : (text : List ℕ) (r : Verified) → r ≡ verifyAnswer text → (r ≡ v
 told text r e = (e, ap checked e ∙ verify-given text)
 
 returns : tie.Need-returns
-returns c = told _ _ (search needs)
+returns c = told _ _ (search)
 
 pub verify-spec : {M : Type 1} → statement M
 verify-spec =
     tie.close
-    (tie.spec (λ c. search needs) (λ c. search needs) (λ c. search needs) (λ c. search needs) (λ c. search needs) (λ c. search needs) (λ c. search needs)
+    (tie.spec (λ c. search) (λ c. search) (λ c. search) (λ c. search) (λ c. search) (λ c. search) (λ c. search)
     (λ c κs. search needs) returns)

@@ -2,7 +2,6 @@
 use mathlib.Core.Path.{_≡_, subst}
 use mathlib.Core.List.{List, [], _∷_}
 use Prim.Native.Nat.{ℕ}
-use borrow.Author.Needs.{needs}
 use lib.ListN.{length}
 use Rattle.protocol.specs.Text.{Tables}
 use Rattle.protocol.specs.Promises.{Read}
@@ -40,13 +39,13 @@ unfolding lengthsOf
 lengths c =
     let r = c .before .before .before .before .before .before .before .before .before .before .before in
     let a = start r .args in
-    let key : length (t′ r .key) ≡ length (a .key .now) = search needs in
-    let message : length (t′ r .message) ≡ length (a .message .now) = search needs in
-    let commitment : length (t′ r .commitment) ≡ length (a .commitment .now) = search needs in
-    let rounds : length (t′ r .rounds) ≡ length (a .rounds .now) = search needs in
-    let challenges : length (t′ r .challenges) ≡ length (a .challenges .now) = search needs in
-    let last : length (t′ r .last) ≡ length (a .last .now) = search needs in
-    let claims : length (t′ r .claims) ≡ length (a .claims .now) = search needs in
+    let key : length (t′ r .key) ≡ length (a .key .now) = search in
+    let message : length (t′ r .message) ≡ length (a .message .now) = search in
+    let commitment : length (t′ r .commitment) ≡ length (a .commitment .now) = search in
+    let rounds : length (t′ r .rounds) ≡ length (a .rounds .now) = search in
+    let challenges : length (t′ r .challenges) ≡ length (a .challenges .now) = search in
+    let last : length (t′ r .last) ≡ length (a .last .now) = search in
+    let claims : length (t′ r .claims) ≡ length (a .claims .now) = search in
     λ j. key j ∷ message j ∷ commitment j ∷ rounds j ∷ challenges j ∷ last j ∷ claims j ∷ []
 
 returns : tie.Need-returns
@@ -70,6 +69,6 @@ returns-2 c =
 pub verify-in-spec : {M : Type 1} → statement M
 verify-in-spec =
     tie.close
-    (tie.spec (λ c κs. search needs) (λ c κs. search needs) (λ c. search needs) (λ c. search needs) (λ c. search needs) (λ c. search needs)
-    (λ c. search needs) (λ c. search needs) (λ c. search needs) returns answer-requires (λ c. search needs) (λ c. search needs) (λ c. search needs) (λ c. search needs)
-    (λ c. search needs) (λ c. search needs) (λ c. search needs) returns-2)
+    (tie.spec (λ c κs. search) (λ c κs. search) (λ c. search) (λ c. search) (λ c. search) (λ c. search)
+    (λ c. search) (λ c. search) (λ c. search) returns answer-requires (λ c. search) (λ c. search) (λ c. search) (λ c. search)
+    (λ c. search) (λ c. search) (λ c. search) returns-2)

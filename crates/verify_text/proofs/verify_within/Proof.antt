@@ -155,8 +155,8 @@ verify-in-requires c κs =
 pub verify-within-spec : {M : Type 1} → statement M
 verify-within-spec =
     tie.close
-    (tie.spec (λ c κs. search needs) returns (λ c. search needs) (λ c. search needs) (λ c κs. search needs) (λ c κs. search needs)
-    (λ c κs. search needs) (λ c κs. search needs) (λ c κs. search needs) (λ c κs. search needs) slice-relend-prefix-verify-in slice-aggregate-verify-in (λ c. search needs) (λ c. search needs) slice-relend-prefix-verify-in-3
+    (tie.spec (λ c κs. search) returns (λ c. search needs) (λ c. search needs) (λ c κs. search) (λ c κs. search)
+    (λ c κs. search) (λ c κs. search) (λ c κs. search) (λ c κs. search) slice-relend-prefix-verify-in slice-aggregate-verify-in (λ c. search needs) (λ c. search) slice-relend-prefix-verify-in-3
     slice-aggregate-verify-in-3 slice-relend-prefix-verify-in-4 slice-aggregate-verify-in-4 slice-relend-prefix-verify-in-5
-    slice-aggregate-verify-in-5 slice-relend-prefix-verify-in-6 slice-aggregate-verify-in-6 slice-relend-prefix-verify-in-7 slice-aggregate-verify-in-7 verify-in-requires (λ c. search needs) (λ c. search needs) (λ c. search needs)
-    (λ c. search needs) (λ c. search needs) (λ c. search needs) (λ c. search needs) (λ c. search needs))
+    slice-aggregate-verify-in-5 slice-relend-prefix-verify-in-6 slice-aggregate-verify-in-6 slice-relend-prefix-verify-in-7 slice-aggregate-verify-in-7 verify-in-requires (λ c. search) (λ c. search) (λ c. search)
+    (λ c. search) (λ c. search) (λ c. search) (λ c. search) (λ c. search))

@@ -1,6 +1,5 @@
 -- `refusal`: each of the three tests in its turn.
-use mathlib.Core.Path.{_≡_, sym, _∙_}
-use borrow.Author.Needs.{needs}
+use mathlib.Core.Path.{sym, _∙_}
 use Rattle.protocol.proofs.Refusals.{first-tested, first-only}
 use Rattle.table_reader.proofs.Refuses.{entries-tested}
 use Rattle.table_reader.proofs.entries.refusal.Statement.{statement}
@@ -19,5 +18,5 @@ returns c ok =
 pub refusal-spec : {M : Type 1} → statement M
 refusal-spec =
     tie.close
-    (tie.spec (λ c κs. search needs) (λ c κs. search needs) (λ c κs. search needs) (λ c κs. search needs) (λ c κs. search needs) (λ c κs. search needs)
+    (tie.spec (λ c κs. search) (λ c κs. search) (λ c κs. search) (λ c κs. search) (λ c κs. search) (λ c κs. search)
     returns)

@@ -3,7 +3,6 @@ use mathlib.Core.Path.{_≡_, ap, _∙_}
 use mathlib.Core.List.{List, map}
 use Prim.Native.Nat.{ℕ, _+_, _≤_}
 use native.Mathlib.Omega.{arith}
-use borrow.Author.Needs.{needs}
 use lib.ListN.{length}
 use lib.IntN.{ℤ}
 use Rattle.protocol.specs.Text.{valueLimit, narrowLimit, unsigned}
@@ -118,6 +117,6 @@ returns c =
 pub all-spec : {M : Type 1} → statement M
 all-spec =
     tie.close
-    (tie.spec residues-requires signed-requires residues-requires-2 residues-requires-3 exponents-requires signed-requires-2 residues-requires-4 (λ c. search needs)
-    (λ c. search needs)
-    (λ c. search needs) (λ c. search needs) (λ c. search needs) (λ c. search needs) (λ c. search needs) returns)
+    (tie.spec residues-requires signed-requires residues-requires-2 residues-requires-3 exponents-requires signed-requires-2 residues-requires-4 (λ c. search)
+    (λ c. search)
+    (λ c. search) (λ c. search) (λ c. search) (λ c. search) (λ c. search) returns)

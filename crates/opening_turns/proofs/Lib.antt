@@ -1,0 +1,4 @@
+pub mod Inputs
+pub mod Storing
+pub mod Checking
+pub mod Turning
