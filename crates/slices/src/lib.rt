@@ -13,7 +13,7 @@ ghost use mathlib.Core.Bool.{_&&_};
 ghost use Prim.Native.Nat.{_+_, _*_, _≤_};
 ghost use lib.ListN.{length, getD, take};
 ghost use Rattle.protocol.specs.Basic.{Provided};
-ghost use Rattle.protocol.specs.Element.{width, valueRow, paddedSigned};
+ghost use Rattle.protocol.specs.Element.{width, valueRow, zeros, paddedSigned};
 ghost use Rattle.protocol.specs.Layout.{rowsMost, rowsWidth, itemCells, polynomialCells};
 ghost use Rattle.protocol.specs.Rows.{together};
 ghost use Rattle.protocol.specs.Session.{verdictNumber};
@@ -54,6 +54,17 @@ pub fn wide(x: u32) -> u64
     ensures { λ r. ⌜ r ≡ x ⌝ }
 {
     x as u64
+}
+
+// Writes zeros to all places of a table.
+pub fn clear(t: &mut [Residue])
+    ensures { λ _. ⌜ now (t .exit) ≡ zeros (length (now (t .entry))) ⌝ }
+{
+    let mut i: usize = 0;
+    while i < t.len() {
+        t[i] = 0;
+        i += 1;
+    }
 }
 
 // Copies d numbers of a table, from place `from` on, to another from place `at` on.
