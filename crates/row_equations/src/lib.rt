@@ -15,7 +15,7 @@ ghost use Rattle.protocol.specs.Rows.{keyRow, atRows};
 ghost use Rattle.protocol.specs.Transcript.{roundHolds, nextClaim, endMet, foldedKey};
 ghost use Rattle.protocol.specs.Settings.{settingsRefusal};
 ghost use Rattle.residues.specs.Lists.{spliced};
-ghost use Rattle.verifier_refusals.specs.Lent.{lentRows, RowsLent};
+ghost use Rattle.verifier_refusals.specs.Lent.{lentRows};
 ghost use Rattle.row_equations.specs.Given.{RoundGiven, RowsEvaluable, EndsGiven};
 
 // Does the round hold in row i.

@@ -1,15 +1,13 @@
 -- Elements of all rows that are lent: a row of them by value is the row as it stands in the slice, and what is tested of them.
 use mathlib.Core.Path.{_≡_, sym, ap, _∙_}
 use mathlib.Core.List.{List}
-use Prim.Native.Nat.{ℕ, _+_, _*_, _-_, _<_, _≤_}
+use Prim.Native.Nat.{ℕ, _+_, _*_, _<_, _≤_}
 use native.Mathlib.Omega.{arith}
 use lib.Dec.{ltb}
-use lib.ListN.{length, getD, take, drop, length-drop}
-use lib.Seq.{getD-drop, take-all}
+use lib.ListN.{length, getD}
 use Rattle.protocol.specs.declared.Settings.{Settings}
 use Rattle.protocol.specs.Basic.{every, tabulate}
 use Rattle.protocol.specs.Element.{valueRow}
-use Rattle.protocol.specs.Layout.{width}
 use Rattle.protocol.specs.Settings.{settingsRefusal, residueElement, residueRows}
 use Rattle.protocol.proofs.Agreement.{every-ext}
 use Rattle.protocol.proofs.Inputs.{settings-valid}

@@ -1,6 +1,6 @@
-use mathlib.Core.Path.{_≡_, sym, ap, _∙_}
+use mathlib.Core.Path.{sym, ap, _∙_}
 use Rattle.protocol.specs.Element.{zeros}
-use Rattle.protocol.specs.Session.{slots, startRefusal}
+use Rattle.protocol.specs.Session.{slots}
 use Rattle.verifier_refusals.specs.Lent.{recordOf, lentRows}
 use Rattle.verifier.proofs.Answers.{start-allowed, start-refused, start-done}
 use borrow.Author.Needs.{needs}

@@ -1,6 +1,5 @@
-use mathlib.Core.Path.{_≡_, ap, _∙_}
+use mathlib.Core.Path.{ap, _∙_}
 use Rattle.protocol.specs.declared.Session.{Session}
-use Rattle.protocol.specs.declared.Moved.{Moved}
 use Rattle.protocol.specs.Session.{round}
 use Rattle.verifier.proofs.Answers.{round-answered}
 use borrow.Author.Needs.{needs}

@@ -1,7 +1,6 @@
-use mathlib.Core.Path.{_≡_, ap, _∙_}
+use mathlib.Core.Path.{ap, _∙_}
 use native.Mathlib.Omega.{arith}
 use Rattle.protocol.specs.declared.Session.{Session}
-use Rattle.protocol.specs.declared.Started.{Started}
 use Rattle.verifier.proofs.ByValue.{by-value, start-same}
 use borrow.Author.Needs.{needs}
 use Rattle.verifier.proofs.Verifier.start.Statement.{statement}

@@ -1,5 +1,5 @@
 -- Each test in its turn.
-use mathlib.Core.Path.{_≡_, sym, _∙_}
+use mathlib.Core.Path.{sym, _∙_}
 use borrow.Author.Needs.{needs}
 use Rattle.protocol.specs.Session.{startRefusal}
 use Rattle.protocol.proofs.Refusals.{first-known, first-tested, first-only}
