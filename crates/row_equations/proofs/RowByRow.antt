@@ -12,20 +12,24 @@ use borrow.Rule.Slice.PartMut.{putMid}
 use lib.ListN.{length, getD, take, drop, replicate, length-drop, length-replicate, drop-of-length-le}
 use Rattle.protocol.specs.declared.Settings.{Settings}
 use Rattle.protocol.specs.Basic.{tabulate, flat, choose}
+use lib.IntN.{pos}
 use Rattle.protocol.specs.Element.{width, zeros, valueRow, residue, reduced}
 use Rattle.protocol.specs.Layout.{rowsMost, rowsWidth}
-use Rattle.protocol.specs.Transcript.{nextClaim}
+use Rattle.protocol.specs.Settings.{settingsRefusal, residueRows}
+use Rattle.protocol.specs.Transcript.{roundHolds, nextClaim}
 use Rattle.protocol.specs.Rows.{atRows}
+use Rattle.protocol.proofs.Agreement.{Same, claim-same, round-same}
 use Rattle.protocol.proofs.Reading.{tabulate-at, flat-length, flat-at, flat-own, flat-ext}
 use Rattle.residues.specs.Lists.{spliced}
 use Rattle.residues.specs.Residues.{Residues}
 use Rattle.rotations.specs.Values.{valueAt}
 use Rattle.residues.proofs.Fill.{replicate-at}
-use Rattle.residues.proofs.Parts.{tail-all}
+use Rattle.residues.proofs.Parts.{tail-all, tail-at}
 use Rattle.residues.proofs.Splice.{spliced-length, spliced-before, spliced-inside, spliced-behind}
-use Rattle.equations.specs.Given.{ElementReduced}
 use Rattle.equations.proofs.Polynomials.{part, part-long}
-use Rattle.equations.proofs.ByValue.{value-part}
+use Rattle.equations.proofs.ByValue.{value-part, row-reduced}
+use Rattle.verifier_refusals.specs.Lent.{lentRows, RowsLent}
+use Rattle.verifier_refusals.proofs.Lent.{lent-at, lent-inside}
 
 -- a list that is written from a place on, in the part of it that begins there
 append-none : (l : List ℕ) → l ++ [] ≡ l
@@ -43,20 +47,29 @@ part-back f at n l e =
 module _ (S : Settings) where
   open Settings S using (degree as d, rows as rows)
 
-  pub row-residues : (C : List ℕ) (i : ℕ) → i < rowsMost → d ≤ width → length C ≡ rowsWidth → ElementReduced S (valueRow C i) → Residues (S .modulus) d 0 (part (i * width) C)
-  row-residues C i h w long below = record {
-    long = omega (arith, part-long (i * width) d C (omega arith));
-    each = λ k l. subst (λ t. getD t (0 + k) 0 < S .modulus) (sym (value-part C i)) (below (0 + k) (omega arith));
-  }
+  -- row i of elements that are lent, as the code lends it on
+  module _ (allowed : settingsRefusal S ≡ 0) (w : ℕ) (i : ℕ) (h : i < rows) where
+    row-same : (t : List ℕ) → Same d (residue (part (i * w) t)) (residue (valueRow (lentRows S w t) i))
+    unfolding residue
+    row-same t k l = ap pos (tail-at (i * w) t k 0 ∙ sym (lent-at S allowed w t i k h l))
 
-  -- the claim that is written for a row
-  module _ (e i : ℕ) (c0 c1 c2 : List ℕ) where
-    pub row-value : (k : ℕ) → k < d → valueAt (S .modulus) d e (residue (part (i * width) c0)) (residue (part (i * width) c1)) (residue (part (i * width) c2)) k
-        ≡ getD (nextClaim S e (residue (valueRow c0 i)) (residue (valueRow c1 i)) (residue (valueRow c2 i))) k 0
+    pub row-residues : (t : List ℕ) → RowsLent S w (length t) → residueRows S (lentRows S w t) ≡ true → Residues (S .modulus) d 0 (part (i * w) t)
+    row-residues t lent below = record {
+      long = omega (arith, part-long (i * w) d t (lent-inside S allowed w t lent i h));
+      each = λ k l. subst (λ x. x < S .modulus) (lent-at S allowed w t i (0 + k) h (omega arith) ∙ sym (tail-at (i * w) t (0 + k) 0)) (row-reduced S (lentRows S w t) below i h (0 + k) (omega arith));
+    }
+
+    pub row-holds : (claim c0 c2 : List ℕ) → roundHolds S (part (i * width) claim) (residue (part (i * w) c0)) (residue (part (i * w) c2))
+        ≡ roundHolds S (valueRow claim i) (residue (valueRow (lentRows S w c0) i)) (residue (valueRow (lentRows S w c2) i))
+    row-holds claim c0 c2 = round-same S {c1 = residue []} (row-same c0) (λ _ _. refl) (row-same c2) _ _ (λ k _. ap (λ t. getD t k 0) (value-part claim i))
+
+    -- the claim that is written for a row
+    pub row-value : (e : ℕ) (c0 c1 c2 : List ℕ) (k : ℕ) → k < d → valueAt (S .modulus) d e (residue (part (i * w) c0)) (residue (part (i * w) c1)) (residue (part (i * w) c2)) k
+        ≡ getD (nextClaim S e (residue (valueRow (lentRows S w c0) i)) (residue (valueRow (lentRows S w c1) i)) (residue (valueRow (lentRows S w c2) i))) k 0
     unfolding valueAt nextClaim reduced
-    row-value k l =
-        sym (tabulate-at d (valueAt (S .modulus) d e (residue (part (i * width) c0)) (residue (part (i * width) c1)) (residue (part (i * width) c2))) 0 k l)
-        ∙ λ z. getD (nextClaim S e (residue (value-part c0 i z)) (residue (value-part c1 i z)) (residue (value-part c2 i z))) k 0
+    row-value e c0 c1 c2 k l =
+        sym (tabulate-at d (valueAt (S .modulus) d e (residue (part (i * w) c0)) (residue (part (i * w) c1)) (residue (part (i * w) c2))) 0 k l)
+        ∙ ap (λ s. getD s k 0) (claim-same S (row-same c0) (row-same c1) (row-same c2) e)
 
   -- ---- row by row
 

@@ -1,4 +1,5 @@
-// The equations of all rows, on claims and a round polynomial as they are passed by value: for each row WIDTH places. They are lent here, so that no element is copied.
+// The equations of all rows. The claims are as they are passed by value, for each row WIDTH places; the elements of a round polynomial stand `step` places from each
+// other: d in a flat table, WIDTH by value. All are lent here, so that no element is copied.
 use protocol::ROWS;
 use protocol::ROWS_WIDTH;
 use protocol::Residue;
@@ -10,40 +11,49 @@ ghost use lib.ListN.{length, getD};
 ghost use Rattle.protocol.specs.Basic.{every, Provided};
 ghost use Rattle.protocol.specs.Element.{width, valueRow, residue, signed, zeros};
 ghost use Rattle.protocol.specs.Layout.{rowsMost, rowsWidth, keyCells};
-ghost use Rattle.protocol.specs.Session.{part};
 ghost use Rattle.protocol.specs.Rows.{keyRow, atRows};
 ghost use Rattle.protocol.specs.Transcript.{roundHolds, nextClaim, endMet, foldedKey};
 ghost use Rattle.protocol.specs.Settings.{settingsRefusal};
 ghost use Rattle.residues.specs.Lists.{spliced};
-ghost use Rattle.equations.specs.Given.{Evaluable};
-ghost use Rattle.row_equations.specs.Given.{RowsEvaluable, EndsGiven};
+ghost use Rattle.verifier_refusals.specs.Lent.{lentRows};
+ghost use Rattle.row_equations.specs.Given.{RoundGiven, RowsEvaluable, EndsGiven};
 
 // Does the round hold in row i.
 fn row_holds(
     settings: Settings,
     i: usize,
     claims: &[Residue],
+    step: usize,
     c0: &[Residue],
     c2: &[Residue],
 ) -> bool
-    requires { ⌜ (i < rowsMost) × (length (now claims) ≡ rowsWidth) × (length (now c0) ≡ rowsWidth) × (length (now c2) ≡ rowsWidth) ⌝ }
-    ensures { λ r. ⌜ Provided (settingsRefusal settings ≡ 0)
-        (r ≡ roundHolds settings (valueRow (now (claims .entry)) i) (residue (valueRow (now (c0 .entry)) i)) (residue (valueRow (now (c2 .entry)) i))) ⌝ }
+    requires { ⌜ (i < rowsMost) × (step ≤ width) × (length (now claims) ≡ rowsWidth) × (i * step ≤ length (now c0)) × (i * step ≤ length (now c2)) ⌝ }
+    ensures { λ r. ⌜ Provided (RoundGiven settings step (length (now (c0 .entry))) (length (now (c2 .entry))) × (i < settings .rows))
+        (r ≡ roundHolds settings (valueRow (now (claims .entry)) i) (residue (valueRow (lentRows settings step (now (c0 .entry))) i))
+        (residue (valueRow (lentRows settings step (now (c2 .entry))) i))) ⌝ }
 {
-    let at = i * WIDTH;
-    equations::round_holds(settings, &claims[at..], &c0[at..], &c2[at..])
+    let from = i * WIDTH;
+    let at = i * step;
+    equations::round_holds(settings, &claims[from..], &c0[at..], &c2[at..])
 }
 
 // Does it hold in every row.
-fn rows_hold(settings: Settings, claims: &[Residue], c0: &[Residue], c2: &[Residue]) -> bool
-    requires { ⌜ (settings .rows ≤ rowsMost) × (length (now claims) ≡ rowsWidth) × (length (now c0) ≡ rowsWidth) × (length (now c2) ≡ rowsWidth) ⌝ }
-    ensures { λ r. ⌜ Provided (settingsRefusal settings ≡ 0)
-        (r ≡ every (settings .rows) (λ i. roundHolds settings (valueRow (now (claims .entry)) i) (residue (valueRow (now (c0 .entry)) i)) (residue (valueRow (now (c2 .entry)) i)))) ⌝ }
+fn rows_hold(
+    settings: Settings,
+    claims: &[Residue],
+    step: usize,
+    c0: &[Residue],
+    c2: &[Residue],
+) -> bool
+    requires { ⌜ (settings .rows ≤ rowsMost) × (step ≤ width) × (length (now claims) ≡ rowsWidth) × (settings .rows * step ≤ length (now c0)) × (settings .rows * step ≤ length (now c2)) ⌝ }
+    ensures { λ r. ⌜ Provided (RoundGiven settings step (length (now (c0 .entry))) (length (now (c2 .entry))))
+        (r ≡ every (settings .rows) (λ i. roundHolds settings (valueRow (now (claims .entry)) i) (residue (valueRow (lentRows settings step (now (c0 .entry))) i))
+        (residue (valueRow (lentRows settings step (now (c2 .entry))) i)))) ⌝ }
 {
     let n = settings.rows as usize;
     let mut i: usize = 0;
     while i < n {
-        if !row_holds(settings, i, claims, c0, c2) {
+        if !row_holds(settings, i, claims, step, c0, c2) {
             return false;
         }
         i += 1;
@@ -55,20 +65,33 @@ fn rows_hold(settings: Settings, claims: &[Residue], c0: &[Residue], c2: &[Resid
 pub fn round_holds(
     settings: Settings,
     claims: &[Residue],
-    polynomial: &[[Residue; ROWS_WIDTH]; 3],
+    step: usize,
+    c0: &[Residue],
+    c2: &[Residue],
 ) -> bool
-    ensures { λ r. ⌜ Provided (settingsRefusal settings ≡ 0)
+    ensures { λ r. ⌜ Provided (RoundGiven settings step (length (now (c0 .entry))) (length (now (c2 .entry))))
         (Provided (length (now (claims .entry)) ≡ rowsWidth)
-        (r ≡ every (settings .rows) (λ i. roundHolds settings (valueRow (now (claims .entry)) i) (residue (valueRow (part (now (polynomial .entry)) 0) i))
-        (residue (valueRow (part (now (polynomial .entry)) 2) i))))) ⌝ }
+        (r ≡ every (settings .rows) (λ i. roundHolds settings (valueRow (now (claims .entry)) i) (residue (valueRow (lentRows settings step (now (c0 .entry))) i))
+        (residue (valueRow (lentRows settings step (now (c2 .entry))) i))))) ⌝ }
 {
-    if (settings.rows as usize) > ROWS {
+    let n = settings.rows as usize;
+    if n > ROWS {
+        return false;
+    }
+    if step > WIDTH {
         return false;
     }
     if claims.len() != ROWS_WIDTH {
         return false;
     }
-    rows_hold(settings, claims, &polynomial[0], &polynomial[2])
+    let all = n * step;
+    if c0.len() < all {
+        return false;
+    }
+    if c2.len() < all {
+        return false;
+    }
+    rows_hold(settings, claims, step, c0, c2)
 }
 
 // Writes the claim of row i after a round: c0 + r·c1 + r²·c2, r = X^e.
@@ -76,17 +99,20 @@ fn next_row(
     settings: Settings,
     e: u32,
     i: usize,
+    step: usize,
     c0: &[Residue],
     c1: &[Residue],
     c2: &[Residue],
     claims: &mut [Residue],
 )
-    requires { ⌜ (i < rowsMost) × (length (now c0) ≡ rowsWidth) × (length (now c1) ≡ rowsWidth) × (length (now c2) ≡ rowsWidth) × (length (now claims) ≡ rowsWidth) ⌝ }
-    ensures { λ _. ⌜ Provided (Evaluable settings (valueRow (now (c0 .entry)) i) (valueRow (now (c1 .entry)) i) (valueRow (now (c2 .entry)) i))
-        (now (claims .exit) ≡ spliced (λ k. getD (nextClaim settings e (residue (valueRow (now (c0 .entry)) i)) (residue (valueRow (now (c1 .entry)) i)) (residue (valueRow (now (c2 .entry)) i))) k 0)
+    requires { ⌜ (i < rowsMost) × (step ≤ width) × (i * step ≤ length (now c0)) × (i * step ≤ length (now c1)) × (i * step ≤ length (now c2)) × (length (now claims) ≡ rowsWidth) ⌝ }
+    ensures { λ _. ⌜ Provided (RowsEvaluable settings step (now (c0 .entry)) (now (c1 .entry)) (now (c2 .entry)) × (i < settings .rows))
+        (now (claims .exit) ≡ spliced (λ k. getD (nextClaim settings e (residue (valueRow (lentRows settings step (now (c0 .entry))) i))
+        (residue (valueRow (lentRows settings step (now (c1 .entry))) i)) (residue (valueRow (lentRows settings step (now (c2 .entry))) i))) k 0)
         (i * width) (settings .degree) (now (claims .entry))) ⌝ }
 {
-    let at = i * WIDTH;
+    let to = i * WIDTH;
+    let at = i * step;
     rotations::value(
         settings.modulus,
         settings.degree,
@@ -94,7 +120,7 @@ fn next_row(
         &c0[at..],
         &c1[at..],
         &c2[at..],
-        &mut claims[at..],
+        &mut claims[to..],
     );
 }
 
@@ -102,47 +128,61 @@ fn next_row(
 fn next_rows(
     settings: Settings,
     e: u32,
+    step: usize,
     c0: &[Residue],
     c1: &[Residue],
     c2: &[Residue],
     claims: &mut [Residue],
 )
-    requires { ⌜ (settings .rows ≤ rowsMost) × (length (now c0) ≡ rowsWidth) × (length (now c1) ≡ rowsWidth) × (length (now c2) ≡ rowsWidth) × (length (now claims) ≡ rowsWidth) ⌝ }
-    ensures { λ _. ⌜ Provided (RowsEvaluable settings (now (c0 .entry)) (now (c1 .entry)) (now (c2 .entry)) × (now (claims .entry) ≡ zeros rowsWidth))
-        (now (claims .exit) ≡ atRows settings (λ i. nextClaim settings e (residue (valueRow (now (c0 .entry)) i)) (residue (valueRow (now (c1 .entry)) i))
-        (residue (valueRow (now (c2 .entry)) i)))) ⌝ }
+    requires { ⌜ (settings .rows ≤ rowsMost) × (step ≤ width) × (settings .rows * step ≤ length (now c0)) × (settings .rows * step ≤ length (now c1)) × (settings .rows * step ≤ length (now c2)) × (length (now claims) ≡ rowsWidth) ⌝ }
+    ensures { λ _. ⌜ Provided (RowsEvaluable settings step (now (c0 .entry)) (now (c1 .entry)) (now (c2 .entry)) × (now (claims .entry) ≡ zeros rowsWidth))
+        (now (claims .exit) ≡ atRows settings (λ i. nextClaim settings e (residue (valueRow (lentRows settings step (now (c0 .entry))) i))
+        (residue (valueRow (lentRows settings step (now (c1 .entry))) i)) (residue (valueRow (lentRows settings step (now (c2 .entry))) i)))) ⌝ }
 {
     let n = settings.rows as usize;
     let mut i: usize = 0;
     while i < n {
-        next_row(settings, e, i, c0, c1, c2, claims);
+        next_row(settings, e, i, step, c0, c1, c2, claims);
         i += 1;
     }
 }
 
-// The claims after a round.
+// Writes the claims after a round, whatever stood there.
 pub fn next_claims(
     settings: Settings,
     e: u32,
-    polynomial: &[[Residue; ROWS_WIDTH]; 3],
-) -> [Residue; ROWS_WIDTH]
-    ensures { λ r. ⌜ Provided (RowsEvaluable settings (part (now (polynomial .entry)) 0) (part (now (polynomial .entry)) 1) (part (now (polynomial .entry)) 2))
-        (r ≡ atRows settings (λ i. nextClaim settings e (residue (valueRow (part (now (polynomial .entry)) 0) i)) (residue (valueRow (part (now (polynomial .entry)) 1) i))
-        (residue (valueRow (part (now (polynomial .entry)) 2) i)))) ⌝ }
+    step: usize,
+    c0: &[Residue],
+    c1: &[Residue],
+    c2: &[Residue],
+    claims: &mut [Residue],
+)
+    ensures { λ _. ⌜ Provided (RowsEvaluable settings step (now (c0 .entry)) (now (c1 .entry)) (now (c2 .entry)) × (length (now (claims .entry)) ≡ rowsWidth))
+        (now (claims .exit) ≡ atRows settings (λ i. nextClaim settings e (residue (valueRow (lentRows settings step (now (c0 .entry))) i))
+        (residue (valueRow (lentRows settings step (now (c1 .entry))) i)) (residue (valueRow (lentRows settings step (now (c2 .entry))) i)))) ⌝ }
 {
-    let mut claims: [Residue; ROWS_WIDTH] = [0; ROWS_WIDTH];
-    if (settings.rows as usize) > ROWS {
-        return claims;
+    let n = settings.rows as usize;
+    if n > ROWS {
+        return;
     }
-    next_rows(
-        settings,
-        e,
-        &polynomial[0],
-        &polynomial[1],
-        &polynomial[2],
-        &mut claims,
-    );
-    claims
+    if step > WIDTH {
+        return;
+    }
+    let all = n * step;
+    if c0.len() < all {
+        return;
+    }
+    if c1.len() < all {
+        return;
+    }
+    if c2.len() < all {
+        return;
+    }
+    if claims.len() != ROWS_WIDTH {
+        return;
+    }
+    slices::clear(claims);
+    next_rows(settings, e, step, c0, c1, c2, claims);
 }
 
 // Is the end met in row i, by its part of the key.

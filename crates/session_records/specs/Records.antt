@@ -5,6 +5,7 @@
 --   headWidth          7: the numbers before the challenges
 --   claimsAt           15: where the claims begin
 --   recordWidth        527: all numbers
+--   progressOf t       the record that the slice t holds, beside its claims
 --   sessionOf t        the record that the slice t holds
 --   flagged t          is the number that says whether it is closed 0 or 1; any other is refusal 7
 --   numberOf r k       number k of the record r
@@ -20,6 +21,8 @@ use Rattle.protocol.specs.Basic.{tabulate, choose}
 use Rattle.protocol.specs.Layout.{rowsWidth, slots}
 use Rattle.protocol.specs.Settings.{hasLength}
 use Rattle.slices.specs.Slices.{given, capped}
+use Rattle.verifier_refusals.specs.declared.Progress.{Progress}
+use Rattle.verifier_refusals.specs.Lent.{recordOf}
 
 abbrev pub headWidth : ℕ
 headWidth = 7
@@ -36,14 +39,16 @@ challengesOf t = tabulate slots (λ k. capped (getD t (headWidth + k) 0))
 unfoldable pub claimsOf : List ℕ → List ℕ
 claimsOf t = tabulate rowsWidth (λ k. getD t (claimsAt + k) 0)
 
-unfoldable pub sessionOf : List ℕ → Session
-sessionOf t = record {
+abbrev pub progressOf : List ℕ → Progress
+progressOf t = record {
   settings = given (capped (getD t 0 0)) (capped (getD t 1 0)) (getD t 2 0) (capped (getD t 3 0)) (capped (getD t 4 0));
   done = capped (getD t 5 0);
-  claims = claimsOf t;
   challenges = challengesOf t;
   closed = eqb (getD t 6 0) 1;
 }
+
+unfoldable pub sessionOf : List ℕ → Session
+sessionOf t = recordOf (progressOf t) (claimsOf t)
 
 unfoldable pub flagged : List ℕ → Bool
 flagged t = leb (getD t 6 0) 1

@@ -1,13 +1,16 @@
-// Session records in slices of RECORD numbers: degree, depth, modulus, bound, rows, rounds done, closed, then the challenges, then the places of the claims.
+// Session records in slices of RECORD numbers: degree, depth, modulus, bound, rows, rounds done, closed, then the challenges, then the places of the claims. The
+// claims stay in the slice, and are lent from it.
 use protocol::ROWS_WIDTH;
-use protocol::Residue;
 use protocol::SLOTS;
-use protocol::Session;
 use protocol::Settings;
+use verifier_refusals::Progress;
 ghost use mathlib.Core.Path.{_≡_};
 ghost use lib.ListN.{length};
+ghost use mathlib.Core.List.{[]};
 ghost use Rattle.protocol.specs.Basic.{Provided};
-ghost use Rattle.session_records.specs.Records.{recordWidth, challengesOf, claimsOf, sessionOf, headOf, recordStored};
+ghost use Rattle.protocol.specs.Session.{blank};
+ghost use Rattle.verifier_refusals.specs.Lent.{recordOf};
+ghost use Rattle.session_records.specs.Records.{recordWidth, challengesOf, claimsOf, progressOf, headOf, recordStored};
 
 // The numbers before the challenges, the last of which says whether the record is closed, where the claims begin, and all numbers: `headWidth`, `claimsAt` and
 // `recordWidth` of the definitions.
@@ -15,7 +18,7 @@ const HEAD: usize = 7;
 
 pub const CLOSED: usize = HEAD - 1;
 
-const CLAIMS_AT: usize = HEAD + SLOTS;
+pub const CLAIMS_AT: usize = HEAD + SLOTS;
 
 pub const RECORD: usize = CLAIMS_AT + ROWS_WIDTH;
 
@@ -45,19 +48,9 @@ fn widened(e: [u32; SLOTS]) -> [u64; SLOTS]
     x
 }
 
-// The claims of a record that stands in a slice.
-fn claims(t: &[u64]) -> [Residue; ROWS_WIDTH]
+fn read(t: &[u64]) -> Progress
     requires { ⌜ length (now t) ≡ recordWidth ⌝ }
-    ensures { λ r. ⌜ r ≡ claimsOf (now (t .entry)) ⌝ }
-{
-    let mut a: [Residue; ROWS_WIDTH] = [0; ROWS_WIDTH];
-    residues::store(ROWS_WIDTH, &t[CLAIMS_AT..], 0, &mut a);
-    a
-}
-
-fn read(t: &[u64]) -> Session
-    requires { ⌜ length (now t) ≡ recordWidth ⌝ }
-    ensures { λ r. ⌜ r ≡ sessionOf (now (t .entry)) ⌝ }
+    ensures { λ r. ⌜ r ≡ progressOf (now (t .entry)) ⌝ }
 {
     let s = Settings {
         degree: slices::capped(t[0]),
@@ -66,48 +59,28 @@ fn read(t: &[u64]) -> Session
         bound: slices::capped(t[3]),
         rows: slices::capped(t[4]),
     };
-    let a = claims(t);
     let e = challenges(t);
-    Session {
+    Progress {
         settings: s,
         done: slices::capped(t[5]),
-        claims: a,
         challenges: e,
         closed: t[CLOSED] == 1,
     }
 }
 
-// A slice of another length holds no record.
-fn nothing() -> Session {
-    let none = Settings {
-        degree: 0,
-        depth: 0,
-        modulus: 0,
-        bound: 0,
-        rows: 0,
-    };
-    Session {
-        settings: none,
-        done: 0,
-        claims: [0; ROWS_WIDTH],
-        challenges: [0; SLOTS],
-        closed: true,
-    }
-}
-
-// The record that a slice holds.
-pub fn load(t: &[u64]) -> Session
-    ensures { λ r. ⌜ Provided (length (now (t .entry)) ≡ recordWidth) (r ≡ sessionOf (now (t .entry))) ⌝ }
+// The record that a slice holds, beside its claims. A slice of another length holds none.
+pub fn load(t: &[u64]) -> Progress
+    ensures { λ r. ⌜ Provided (length (now (t .entry)) ≡ recordWidth) (r ≡ progressOf (now (t .entry))) ⌝ }
 {
     if t.len() != RECORD {
-        return nothing();
+        return verifier_refusals::blank();
     }
     read(t)
 }
 
 // The numbers of a record before the challenges.
-fn head(r: Session) -> [u64; HEAD]
-    ensures { λ x. ⌜ x ≡ headOf r ⌝ }
+fn head(r: Progress) -> [u64; HEAD]
+    ensures { λ x. ⌜ x ≡ headOf (recordOf r []) ⌝ }
 {
     let s = r.settings;
     [
@@ -121,9 +94,9 @@ fn head(r: Session) -> [u64; HEAD]
     ]
 }
 
-// Writes a record to a slice of RECORD numbers, part after part; any other stays as it is.
-pub fn store(r: Session, t: &mut [u64])
-    ensures { λ _. ⌜ now (t .exit) ≡ recordStored r (now (t .entry)) ⌝ }
+// Writes a record to a slice of RECORD numbers in which its claims stand; any other slice stays as it is.
+pub fn store(r: Progress, t: &mut [u64])
+    ensures { λ _. ⌜ now (t .exit) ≡ recordStored (recordOf r (claimsOf (now (t .entry)))) (now (t .entry)) ⌝ }
 {
     if t.len() != RECORD {
         return;
@@ -131,8 +104,18 @@ pub fn store(r: Session, t: &mut [u64])
     let first = head(r);
     let exponents = r.challenges;
     let challenges = widened(exponents);
-    let claims = r.claims;
     residues::store(HEAD, &first, 0, t);
     residues::store(SLOTS, &challenges, HEAD, t);
-    residues::store(ROWS_WIDTH, &claims, CLAIMS_AT, t);
+}
+
+// Writes the closed record of zeros to such a slice.
+pub fn store_blank(t: &mut [u64])
+    ensures { λ _. ⌜ now (t .exit) ≡ recordStored blank (now (t .entry)) ⌝ }
+{
+    if t.len() != RECORD {
+        return;
+    }
+    slices::clear(t);
+    let none = verifier_refusals::blank();
+    store(none, t);
 }

@@ -8,11 +8,12 @@ use native.Mathlib.Omega.{arith}
 use mir.Val.{boolByte}
 use lib.IntN.{ℤ, pos}
 use lib.ListN.{length, getD, take, drop, length-append, length-drop}
-use lib.Seq.{take-at, drop-at, drop-length, getD-take, length-take-le}
+use lib.Seq.{ext-getD, take-at, drop-at, drop-length, getD-take, length-take-le}
 use Rattle.protocol.specs.Basic.{tabulate, choose}
-use Rattle.protocol.specs.Element.{paddedSigned, coefficients, signedAt}
+use Rattle.protocol.specs.Element.{zeros, paddedSigned, coefficients, signedAt}
 use Rattle.protocol.proofs.Reading.{tabulate-length, tabulate-ext, tabulate-own}
 use Rattle.residues.specs.Lists.{filled, spliced}
+use Rattle.residues.proofs.Fill.{filled-at, filled-length, zeros-length, zeros-at}
 
 -- a slice of d numbers is the first element of a table
 pub whole-signed : (d : ℕ) (t : List ℤ) → length t ≡ d → paddedSigned d (coefficients d (signedAt d t 0)) ≡ paddedSigned d t
@@ -79,3 +80,11 @@ pub as-number : (b : Bool) → boolByte b ≡ choose b 1 0
 unfolding choose
 as-number true = refl
 as-number false = refl
+
+-- zeros over all places
+pub filled-zeros : (l : List ℕ) → filled (λ _. 0) (length l) l ≡ zeros (length l)
+filled-zeros l =
+    ext-getD 0 _ (zeros (length l)) (long ∙ sym (zeros-length (length l))) (λ k h. filled-at (λ _. 0) (length l) l 0 k (omega (arith, long)) ∙ sym (zeros-at (length l) k))
+  where
+    long : length (filled (λ _. 0) (length l) l) ≡ length l
+    long = filled-length (λ _. 0) (length l) l (Nat.le-refl _)

@@ -13,13 +13,13 @@ ghost use mathlib.Core.Bool.{_&&_};
 ghost use Prim.Native.Nat.{_+_, _*_, _≤_};
 ghost use lib.ListN.{length, getD, take};
 ghost use Rattle.protocol.specs.Basic.{Provided};
-ghost use Rattle.protocol.specs.Element.{width, valueRow, paddedSigned};
+ghost use Rattle.protocol.specs.Element.{width, valueRow, zeros, paddedSigned};
 ghost use Rattle.protocol.specs.Layout.{rowsMost, rowsWidth, itemCells, polynomialCells};
 ghost use Rattle.protocol.specs.Rows.{together};
 ghost use Rattle.protocol.specs.Session.{verdictNumber};
 ghost use Rattle.protocol.specs.Settings.{settingsRefusal};
 ghost use Rattle.residues.specs.Lists.{spliced, splicedRows};
-ghost use Rattle.slices.specs.Slices.{lent, valuesOf, polynomialOf, laid, placed};
+ghost use Rattle.slices.specs.Slices.{lent, valuesOf, laid, placed};
 ghost use Rattle.slices.specs.Slices as slices;
 
 // Refusals 3 to 6 and 16, then 7 where the slices that are lent beside have not their lengths.
@@ -54,6 +54,17 @@ pub fn wide(x: u32) -> u64
     ensures { λ r. ⌜ r ≡ x ⌝ }
 {
     x as u64
+}
+
+// Writes zeros to all places of a table.
+pub fn clear(t: &mut [Residue])
+    ensures { λ _. ⌜ now (t .exit) ≡ zeros (length (now (t .entry))) ⌝ }
+{
+    let mut i: usize = 0;
+    while i < t.len() {
+        t[i] = 0;
+        i += 1;
+    }
 }
 
 // Copies d numbers of a table, from place `from` on, to another from place `at` on.
@@ -118,24 +129,6 @@ pub fn wholes(d: u32, t: &[i32]) -> [i32; WIDTH]
     ensures { λ r. ⌜ Provided (d ≤ width) (Provided (length (now (t .entry)) ≡ d) (r ≡ paddedSigned d (now (t .entry)))) ⌝ }
 {
     elements::signed_element_at(d, t, 0)
-}
-
-// A round polynomial, its elements written to their places.
-pub fn polynomial(settings: Settings, t: &[Residue]) -> [[Residue; ROWS_WIDTH]; 3]
-    ensures { λ r. ⌜ Provided (settingsRefusal settings ≡ 0)
-        (Provided (length (now (t .entry)) ≡ polynomialCells settings) (r ≡ polynomialOf settings (now (t .entry)))) ⌝ }
-{
-    let d = settings.degree as usize;
-    let rows = settings.rows as usize;
-    let n = sizes::item_cells(settings);
-    let mut p: [[Residue; ROWS_WIDTH]; 3] = [[0; ROWS_WIDTH]; 3];
-    if t.len() < 2 * n {
-        return p;
-    }
-    place_rows(d, rows, t, &mut p[0]);
-    place_rows(d, rows, &t[n..], &mut p[1]);
-    place_rows(d, rows, &t[2 * n..], &mut p[2]);
-    p
 }
 
 // Writes an element of each row to a slice of rows·d numbers.

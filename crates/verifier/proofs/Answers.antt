@@ -1,10 +1,11 @@
--- The session's moves: what is known of their inputs with no refusal, and their answers with one and without.
+-- The session's moves on lent parts: what is known of these with no refusal, and the answers with one and without. Then the same moves by value.
 use mathlib.Core.Path.{_≡_, sym, ap, _∙_}
 use mathlib.Core.Bool.{Bool, true, false, _&&_}
 use mathlib.Core.List.{List, [], _∷_}
 use Prim.Native.Nat.{ℕ, _<_}
 use borrow.Author.Tests.{ltb-true}
 use lib.IntN.{ℤ}
+use lib.ListN.{length}
 use Rattle.protocol.specs.declared.Settings.{Settings}
 use Rattle.protocol.specs.declared.Session.{Session}
 use Rattle.protocol.specs.declared.Started.{Started}
@@ -24,7 +25,9 @@ use Rattle.protocol.proofs.Inputs.{tested-below}
 use Rattle.protocol.proofs.Tests.{and-split, granted-zero, granted-refused}
 use Rattle.protocol.proofs.Refusals.{none-refused}
 use Rattle.row_equations.specs.Given.{RowsEvaluable}
-use Rattle.verifier.specs.Records.{counted, rowRead}
+use Rattle.verifier_refusals.specs.declared.Progress.{Progress}
+use Rattle.verifier_refusals.specs.Lent.{recordOf, lentRows, lentPolynomial, RoundLent}
+use Rattle.verifier.specs.Records.{shutOf, countedOf, rowRead}
 
 -- ---- start
 
@@ -46,25 +49,33 @@ module _ (S : Settings) (C : List ℕ) where
 
 -- ---- round
 
-module _ (r : Session) (p : List (List ℕ)) (e : ℕ) where
-  -- an answer, and the number of its verdict
-  pub round-answered : (m : Moved) → m ≡ round r p e → (m ≡ round r p e) × (verdictNumber (m .verdict) ≡ sessionRoundNumber r p e)
-  round-answered m is = (is, ap (λ x. verdictNumber (x .verdict)) is ∙ session-round-number r p e)
+-- an answer, and the number of its verdict
+pub round-answered : (r : Session) (p : List (List ℕ)) (e : ℕ) (m : Moved) → m ≡ round r p e → (m ≡ round r p e) × (verdictNumber (m .verdict) ≡ sessionRoundNumber r p e)
+round-answered r p e m is = (is, ap (λ x. verdictNumber (x .verdict)) is ∙ session-round-number r p e)
 
-  pub record RoundGiven : Type 0 where
-    pub read : RowsEvaluable (r .settings) (part p 0) (part p 1) (part p 2)
-    pub turn : r .done < r .settings .depth
+module _ (b : Progress) (own : List ℕ) (w : ℕ) (c0 c1 c2 : List ℕ) (e : ℕ) where
+  abbrev r : Session
+  r = recordOf b own
 
-  pub round-given : sessionRoundRefusal r p e ≡ 0 → RoundGiven
-  unfolding sessionRoundRefusal
-  round-given z =
+  abbrev S : Settings
+  S = b .settings
+
+  abbrev p : List (List ℕ)
+  p = lentPolynomial S w c0 c1 c2
+
+  pub record Passed : Type 0 where
+    pub read : RowsEvaluable S w c0 c1 c2
+    pub turn : b .done < S .depth
+
+  pub round-passed : RoundLent S (length own) w (length c0) (length c1) (length c2) → sessionRoundRefusal r p e ≡ 0 → Passed
+  unfolding sessionRoundRefusal part
+  round-passed lent z =
       let (r16, (t8, (_, (t11, _)))) = none-refused ((7, _) ∷ (9, _) ∷ (10, _) ∷ []) z in
-      let S = r .settings in
-      let (three, last) = and-split {a = residueRows S (r .claims) && residueRows S (part p 0) && residueRows S (part p 1)} {b = residueRows S (part p 2)} t8 in
-      let (two, middle) = and-split {a = residueRows S (r .claims) && residueRows S (part p 0)} {b = residueRows S (part p 1)} three in
-      let (own, front) = and-split {a = residueRows S (r .claims)} {b = residueRows S (part p 0)} two in
+      let (three, last) = and-split {a = residueRows S own && residueRows S (part p 0) && residueRows S (part p 1)} {b = residueRows S (part p 2)} t8 in
+      let (two, middle) = and-split {a = residueRows S own && residueRows S (part p 0)} {b = residueRows S (part p 1)} three in
+      let (_, front) = and-split {a = residueRows S own} {b = residueRows S (part p 0)} two in
       record {
-        read = record { allowed = r16; first = front; second = middle; third = last };
+        read = record { allowed = r16; first-lent = lent .first r16; second-lent = lent .second r16; third-lent = lent .third r16; first = front; second = middle; third = last };
         turn = ltb-true _ _ (and-split t11 .0);
       }
 
@@ -72,46 +83,49 @@ module _ (r : Session) (p : List (List ℕ)) (e : ℕ) where
   unfolding round refusedMove
   round-refused n f s = (λ i. record { refusal = f i; verdict = Silent; next = r }) ∙ sym (granted-refused (sessionRoundRefusal r p e) _ _ (λ z. s (f ∙ z)))
 
-  made : sessionRoundRefusal r p e ≡ 0 → (b : Bool) → sessionRoundHolds r p ≡ b →
-      round r p e ≡ choose b (record { refusal = 0; verdict = Holds; next = advanced r p e }) (record { refusal = 0; verdict = Rejected; next = shut r })
+  made : sessionRoundRefusal r p e ≡ 0 → (t : Bool) → sessionRoundHolds r p ≡ t →
+      round r p e ≡ choose t (record { refusal = 0; verdict = Holds; next = advanced r p e }) (record { refusal = 0; verdict = Rejected; next = shut r })
   unfolding round
-  made z b h = granted-zero (sessionRoundRefusal r p e) _ _ z
+  made z t h = granted-zero (sessionRoundRefusal r p e) _ _ z
       ∙ ap (λ t. choose t (record { refusal = 0; verdict = Holds; next = advanced r p e }) (record { refusal = 0; verdict = Rejected; next = shut r })) h
 
-  pub round-rejected : sessionRoundRefusal r p e ≡ 0 → sessionRoundHolds r p ≡ false → (next : Session) → next ≡ shut r → _≡_ {A = Moved} (record { refusal = 0; verdict = Rejected; next = next }) (round r p e)
-  unfolding choose
-  round-rejected z h next s = (λ i. record { refusal = 0; verdict = Rejected; next = s i }) ∙ sym (made z false h)
+  pub round-rejected : sessionRoundRefusal r p e ≡ 0 → sessionRoundHolds r p ≡ false → (next : Progress) → next ≡ shutOf b →
+      _≡_ {A = Moved} (record { refusal = 0; verdict = Rejected; next = recordOf next own }) (round r p e)
+  unfolding choose shut
+  round-rejected z h next s = (λ i. record { refusal = 0; verdict = Rejected; next = recordOf (s i) own }) ∙ sym (made z false h)
 
-  pub round-counted : sessionRoundRefusal r p e ≡ 0 → sessionRoundHolds r p ≡ true → (next : Session) (claims : List ℕ) → next ≡ counted r e claims
-      → claims ≡ atRows (r .settings) (λ i. nextClaim (r .settings) e (residue (valueRow (part p 0) i)) (residue (valueRow (part p 1) i)) (residue (valueRow (part p 2) i))) →
-      _≡_ {A = Moved} (record { refusal = 0; verdict = Holds; next = next }) (round r p e)
-  unfolding choose advanced
-  round-counted z h next claims s c = (λ i. record { refusal = 0; verdict = Holds; next = (s ∙ ap (counted r e) c) i }) ∙ sym (made z true h)
+  pub round-counted : sessionRoundRefusal r p e ≡ 0 → sessionRoundHolds r p ≡ true → (next : Progress) (claims : List ℕ) → next ≡ countedOf b e
+      → claims ≡ atRows S (λ i. nextClaim S e (residue (valueRow (lentRows S w c0) i)) (residue (valueRow (lentRows S w c1) i)) (residue (valueRow (lentRows S w c2) i))) →
+      _≡_ {A = Moved} (record { refusal = 0; verdict = Holds; next = recordOf next claims }) (round r p e)
+  unfolding choose advanced part
+  round-counted z h next claims s c = (λ i. record { refusal = 0; verdict = Holds; next = recordOf (s i) (c i) }) ∙ sym (made z true h)
 
 -- ---- end
 
-module _ (r : Session) (f : List ℤ) (key : List ℕ) where
-  -- an answer, and the number of its verdict
-  pub end-answered : (m : Moved) → m ≡ end r f key → (m ≡ end r f key) × (verdictNumber (m .verdict) ≡ sessionEndNumber r f key)
-  end-answered m is = (is, ap (λ x. verdictNumber (x .verdict)) is ∙ session-end-number r f key)
+pub end-answered : (r : Session) (f : List ℤ) (key : List ℕ) (m : Moved) → m ≡ end r f key → (m ≡ end r f key) × (verdictNumber (m .verdict) ≡ sessionEndNumber r f key)
+end-answered r f key m is = (is, ap (λ x. verdictNumber (x .verdict)) is ∙ session-end-number r f key)
+
+module _ (b : Progress) (own : List ℕ) (f : List ℤ) (key : List ℕ) where
+  abbrev closing : Session
+  closing = recordOf b own
 
   pub record EndGiven : Type 0 where
-    pub allowed : settingsRefusal (r .settings) ≡ 0
-    pub key-below : Below (r .settings .modulus) (keyCells (r .settings)) key
+    pub allowed : settingsRefusal (b .settings) ≡ 0
+    pub key-below : Below (b .settings .modulus) (keyCells (b .settings)) key
 
-  pub end-given : sessionEndRefusal r key ≡ 0 → EndGiven
+  pub end-given : sessionEndRefusal closing key ≡ 0 → EndGiven
   unfolding sessionEndRefusal allBelow
   end-given z =
       let (r16, (t7, (t8, _))) = none-refused ((6, _) ∷ (7, _) ∷ (9, _) ∷ (10, _) ∷ []) z in
-      let S = r .settings in
-      let (of-key, of-claim) = and-split {a = allBelow S key} {b = residueRows S (r .claims)} t8 in
+      let S = b .settings in
+      let (of-key, of-claim) = and-split {a = allBelow S key} {b = residueRows S own} t8 in
       record { allowed = r16; key-below = tested-below (S .modulus) (keyCells S) key t7 of-key }
 
-  pub end-refused : (n : ℕ) → n ≡ sessionEndRefusal r key → (n ≡ 0 → ⊥) → _≡_ {A = Moved} (record { refusal = n; verdict = Silent; next = r }) (end r f key)
+  pub end-refused : (n : ℕ) → n ≡ sessionEndRefusal closing key → (n ≡ 0 → ⊥) → _≡_ {A = Moved} (record { refusal = n; verdict = Silent; next = closing }) (end closing f key)
   unfolding end refusedMove
-  end-refused n e s = (λ i. record { refusal = e i; verdict = Silent; next = r }) ∙ sym (granted-refused (sessionEndRefusal r key) _ _ (λ z. s (e ∙ z)))
+  end-refused n e s = (λ i. record { refusal = e i; verdict = Silent; next = closing }) ∙ sym (granted-refused (sessionEndRefusal closing key) _ _ (λ z. s (e ∙ z)))
 
-  pub end-done : sessionEndRefusal r key ≡ 0 → (b : Bool) → sessionEndHolds r f key ≡ b → (next : Session) → next ≡ shut r →
-      _≡_ {A = Moved} (record { refusal = 0; verdict = verdict b; next = next }) (end r f key)
-  unfolding end
-  end-done z b h next s = (λ i. record { refusal = 0; verdict = verdict (sym h i); next = s i }) ∙ sym (granted-zero (sessionEndRefusal r key) _ _ z)
+  pub end-done : sessionEndRefusal closing key ≡ 0 → (t : Bool) → sessionEndHolds closing f key ≡ t → (next : Progress) → next ≡ shutOf b →
+      _≡_ {A = Moved} (record { refusal = 0; verdict = verdict t; next = recordOf next own }) (end closing f key)
+  unfolding end shut
+  end-done z t h next s = (λ i. record { refusal = 0; verdict = verdict (sym h i); next = recordOf (s i) own }) ∙ sym (granted-zero (sessionEndRefusal closing key) _ _ z)

@@ -1,25 +1,24 @@
-use mathlib.Core.Path.{_≡_, sym, _∙_}
-use Rattle.protocol.specs.Element.{zeros}
-use Rattle.protocol.specs.Session.{slots, startRefusal}
-use Rattle.verifier.proofs.Answers.{start-allowed, start-refused, start-done}
+use mathlib.Core.Path.{ap, _∙_}
+use native.Mathlib.Omega.{arith}
+use Rattle.protocol.specs.declared.Session.{Session}
+use Rattle.verifier.proofs.ByValue.{by-value, start-same}
 use borrow.Author.Needs.{needs}
 use Rattle.verifier.proofs.Verifier.start.Statement.{statement}
 use Rattle.verifier.proofs.Verifier.start.Tie as tie
 
-passed : (c : tie.Else1) → startRefusal (c .before .before .args .settings) (c .before .before .args .commitment) ≡ 0
-passed c = sym (c .before .start .ensures) ∙ c .if1 .left
+commitment-long : tie.Need-slice-aggregate-start-on
+commitment-long c = search needs
+
+claims-long : tie.Need-slice-aggregate-start-on-2
+claims-long c = search needs
 
 returns : tie.Need-returns
-returns c = let a = c .before .before .before .args in start-refused (a .settings) (a .commitment) _ _ (c .before .before .start .ensures) (c .before .if1 .taken) (c .blank .ensures)
-
-returns-2 : tie.Need-returns-2
-unfolding zeros slots
-returns-2 c =
-    let a = c .before .before .before .args in
-    let z = passed (c .before) in
-    start-done (a .settings) (a .commitment) z _ (c .first-claims .ensures (start-allowed _ _ z))
+returns c =
+    let began = c .before .before .before in
+    let a = began .before .before .before .args in
+    ap (λ (s : Session). record { refusal = began .start-on .result .refusal; next = s }) (c .joined .ensures)
+    ∙ began .start-on .ensures (by-value (a .settings) _ (omega (arith, commitment-long (began .before .before)))) (omega (arith, claims-long (began .before)))
+    ∙ start-same (a .settings) (a .t3)
 
 pub start-spec : {M : Type 1} → statement M
-start-spec =
-    tie.close
-    (tie.spec (λ c κs. search needs) (λ c κs. search needs) returns (λ c κs. search needs) returns-2)
+start-spec = tie.close (tie.spec commitment-long claims-long (λ c κs. search needs) (λ c κs. search needs) returns)

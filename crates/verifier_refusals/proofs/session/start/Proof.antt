@@ -1,5 +1,5 @@
 -- Each test in its turn.
-use mathlib.Core.Path.{_≡_, sym, _∙_}
+use mathlib.Core.Path.{sym, _∙_}
 use borrow.Author.Needs.{needs}
 use Rattle.protocol.specs.Session.{startRefusal}
 use Rattle.protocol.proofs.Refusals.{first-known, first-tested, first-only}
@@ -8,10 +8,10 @@ use Rattle.verifier_refusals.proofs.session.start.Tie as tie
 
 returns : tie.Need-returns
 unfolding startRefusal
-returns c =
-    let c16 = c .before .before .before in
+returns c = λ lent.
+    let c16 = c .before .before in
     sym (first-known _ _ (c16 .settings-refusal .ensures)
-    ∙ first-tested _ _ (c .refuse .ensures) (λ z. c .before .rows-below .ensures (sym (c16 .settings-refusal .ensures) ∙ z))
+    ∙ first-tested _ _ (c .refuse .ensures) (λ z. let ok = sym (c16 .settings-refusal .ensures) ∙ z in c .before .lent-below .ensures ok (lent ok))
     ∙ first-only _)
 
 pub start-spec : {M : Type 1} → statement M
