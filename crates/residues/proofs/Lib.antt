@@ -2,6 +2,8 @@ pub mod Around
 pub mod Fill
 pub mod SignedFill
 pub mod Splice
+pub mod Added
+pub mod Turns
 pub mod Parts
 pub mod Padding
 pub mod Signs

@@ -9,7 +9,7 @@ use lib.ListN.{length, getD, take, drop, set, replicate, length-append, length-d
 use lib.Seq.{length-take-le, getD-append-add, getD-drop, getD-take, ext-getD, take-at, drop-at, take-append-le, drop-append-le, drop-drop}
 use Rattle.protocol.specs.Basic.{tabulate}
 use Rattle.protocol.specs.Element.{width, zeros, padded}
-use Rattle.protocol.proofs.Reading.{tabulate-at, tabulate-length, tabulate-ext, tabulate-add}
+use Rattle.protocol.proofs.Reading.{tabulate-length, tabulate-ext, tabulate-add}
 use Rattle.residues.specs.Lists.{spliced}
 use Rattle.residues.proofs.Fill.{filled, filled-more, filled-at, filled-behind, filled-length, filled-again, element-done}
 
@@ -119,6 +119,21 @@ module _ {ℓ} {A : Type ℓ} where
         ∙ unfold head in append-assoc (take at l) (tabulate n f) _
         ∙ ap (λ t. take at l ++ t) (sym (append-assoc (tabulate n f) (tabulate m g) _) ∙ (λ i. both i ++ drop-drop m n (drop at l) i))
 
+  -- a list that is known entry by entry
+  pub spliced-known : (z : A) (f : ℕ → A) (at n : ℕ) (l s : List A) → at + n ≤ length l → length s ≡ length l
+      → ((j : ℕ) → j < at → getD s j z ≡ getD l j z) → ((m : ℕ) → m < n → getD s (at + m) z ≡ f m) → ((j : ℕ) → at + n ≤ j → getD s j z ≡ getD l j z) → s ≡ spliced f at n l
+  spliced-known z f at n l s h long front inside behind =
+      ext-getD z s (spliced f at n l) (long ∙ sym (spliced-length f at n l (omega arith) h)) (λ j _. elim (decLt j at) [
+        | yes before ↦ front j before ∙ sym (entry-before f at n l (omega arith) z j before)
+        | no after ↦ elim (decLt j (at + n)) [
+          | yes within ↦
+              ap (λ x. getD s x z) {y = at + (j - at)} (omega arith)
+              ∙ inside (j - at) (omega arith)
+              ∙ sym (ap (λ x. getD (spliced f at n l) x z) {y = at + (j - at)} (omega arith) ∙ entry-inside f at n l (omega arith) z (j - at) (omega arith))
+          | no past ↦ behind j (omega arith) ∙ sym (entry-behind f at n l (omega arith) z j (omega arith))
+        ]
+      ])
+
 -- ---- of numbers: 0 is read behind the end
 
 module _ (f : ℕ → ℕ) (at n : ℕ) (l : List ℕ) (inside : at ≤ length l) where
@@ -133,19 +148,7 @@ module _ (f : ℕ → ℕ) (at n : ℕ) (l : List ℕ) (inside : at ≤ length l
 
 -- what is written as it was
 pub spliced-same : (at n : ℕ) (l : List ℕ) → at + n ≤ length l → l ≡ spliced (λ k. getD l (at + k) 0) at n l
-spliced-same at n l h =
-    ext-getD 0 l (spliced f at n l) (sym (spliced-length f at n l (omega arith) h)) (λ j _. elim (decLt j at) [
-      | yes before ↦ sym (spliced-before f at n l (omega arith) j before)
-      | no after ↦ elim (decLt j (at + n)) [
-        | yes inside ↦
-            ap (λ x. getD l x 0) {y = at + (j - at)} (omega arith)
-            ∙ sym (ap (λ x. getD (spliced f at n l) x 0) {y = at + (j - at)} (omega arith) ∙ spliced-inside f at n l (omega arith) (j - at) (omega arith))
-        | no behind ↦ sym (spliced-behind f at n l (omega arith) j (omega arith))
-      ]
-    ])
-  where
-    f : ℕ → ℕ
-    f = λ k. getD l (at + k) 0
+spliced-same at n l h = spliced-known 0 (λ k. getD l (at + k) 0) at n l l h refl (λ j _. refl) (λ m _. refl) (λ j _. refl)
 
 -- over zeros; in particular an element that is passed by value
 spliced-zeros : (f : ℕ → ℕ) (n d : ℕ) → spliced f 0 d (replicate n 0) ≡ filled f d (zeros n)

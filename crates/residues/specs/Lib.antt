@@ -1,3 +1,4 @@
 pub mod Lists
 pub mod Residues
 pub mod Elements
+pub mod Places

@@ -12,10 +12,15 @@ ghost use lib.ListN.{length, getD, drop};
 ghost use Rattle.protocol.specs.Basic.{Provided};
 ghost use Rattle.protocol.specs.Element.{width, modulo};
 ghost use Rattle.residues.specs.Lists.{spliced};
+ghost use Rattle.residues.specs.Places.{SecondRow};
 ghost use Rattle.residues.specs.Residues.{BothBelow, Copyable, signed};
 
 // 2^63. Where no modulus is larger, a difference that is below zero is seen by its highest bit, which the compiler asks for several numbers at a time.
 const SIGN: u64 = 9223372036854775808;
+
+// From this degree on a table is folded row by row, of which the compiler takes several numbers at a time. Rows of a smaller degree are so short that going down the
+// columns of the table, where a loop ends only with the last element, is quicker; measured at every degree.
+pub const ROWS_FROM: usize = 16;
 
 // x + y modulo q, of residues, for every q.
 fn plus_any(q: Residue, x: Residue, y: Residue) -> Residue
@@ -100,6 +105,19 @@ pub fn on_circle(d: usize, e: usize) -> usize
         return e;
     }
     e % (2 * d)
+}
+
+// Where the second of the two rows begins that X^e·a is made of, with different signs; it is a place of the element, or its end, for every e.
+pub fn row_start(d: usize, e: usize) -> usize
+    ensures { λ r. ⌜ (r ≤ d) × Provided (e < 2 * d) (SecondRow d e r) ⌝ }
+{
+    if e < d {
+        return e;
+    }
+    if e - d > d {
+        return d;
+    }
+    e - d
 }
 
 // The first n numbers of a row, written to a table from a place on. The table stays as it is where they do not stand in the row, or have no room.

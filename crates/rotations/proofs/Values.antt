@@ -4,57 +4,30 @@ use mathlib.Core.Bool.{not}
 use mathlib.Core.List.{List}
 use Prim.Native.Nat.{ℕ, _+_, _*_, _-_, _%_, _<_, _≤_}
 use native.Mathlib.Nat as Nat
-use native.Mathlib.Decide.{decLt}
 use native.Mathlib.Omega.{arith}
-use borrow.Author.Tests.{lt-ltb, le-ltb}
 use lib.Dec.{ltb}
-use lib.IntN.{pos, negℤ, _+ℤ_}
+use lib.IntN.{pos, _+ℤ_}
 use lib.ListN.{length, getD}
 use Rattle.protocol.specs.Element.{Element, modulo, rotate, residue}
 use Rattle.protocol.proofs.Modulo.{modulo-lt, modulo-again}
 use Rattle.rotations.specs.Values.{Summands, plusTurned, valueAt, Coefficients}
 use Rattle.residues.specs.Lists.{spliced}
+use Rattle.residues.specs.Places.{SecondRow}
 use Rattle.residues.specs.Residues.{Residues, signed}
-use Rattle.residues.proofs.Around.{around-first, around-second, around-third, rotate-at, rotate-mod, rotate-rotate}
+use Rattle.residues.proofs.Around.{rotate-mod, rotate-rotate}
+use Rattle.residues.proofs.Turns.{front-turn, back-turn}
 use Rattle.residues.proofs.Splice.{spliced-length, spliced-inside, spliced-ext, spliced-twice, spliced-again}
 use Rattle.residues.proofs.Parts.{residues-part, residues-kept, residues-written, residues-alike, as-was}
 
--- ---- X^e·a is two rows of a, with different signs; the second begins at place s
-
-module _ (d e s : ℕ) (most : e < 2 * d) (low : e < d → s ≡ e) (high : d ≤ e → s ≡ e - d) (a : Element) (k : ℕ) where
-  front-turn : k < s → signed (ltb e d) (a (d - s + k)) ≡ rotate d e a k
-  unfolding signed
-  front-turn l = elim (decLt e d) [
-    | yes b ↦
-        ap (λ z. signed z (a (d - s + k))) (lt-ltb e d b)
-        ∙ sym (rotate-at d e a k most ∙ around-second d a (k + (d + d - e)) (omega arith) (omega (arith, low b)) ∙ ap (λ n. negℤ (a n)) (omega (arith, low b)))
-    | no b ↦
-        let g : d ≤ e = omega arith in
-        ap (λ z. signed z (a (d - s + k))) (le-ltb e d g)
-        ∙ sym (rotate-at d e a k most ∙ around-first d a (k + (d + d - e)) (omega (arith, high g)) ∙ ap a (omega (arith, high g)))
-  ]
-
-  back-turn : k < d - s → signed (not (ltb e d)) (a k) ≡ rotate d e a (s + k)
-  unfolding signed
-  back-turn l = elim (decLt e d) [
-    | yes b ↦
-        ap (λ z. signed (not z) (a k)) (lt-ltb e d b)
-        ∙ sym (rotate-at d e a (s + k) most ∙ around-third d a (s + k + (d + d - e)) (omega (arith, low b)) (omega (arith, low b)) ∙ ap a (omega (arith, low b)))
-    | no b ↦
-        let g : d ≤ e = omega arith in
-        ap (λ z. signed (not z) (a k)) (le-ltb e d g)
-        ∙ sym (rotate-at d e a (s + k) most ∙ around-second d a (s + k + (d + d - e)) (omega (arith, high g)) (omega (arith, high g)) ∙ ap (λ n. negℤ (a n)) (omega (arith, high g)))
-  ]
-
 -- ---- X^e·a added to the element at place `to`, one row after the other
 
-module _ (q d e s to : ℕ) (most : e < 2 * d) (inside : s ≤ d) (low : e < d → s ≡ e) (high : d ≤ e → s ≡ e - d) (a out : List ℕ) where
+module _ (q d e s to : ℕ) (most : e < 2 * d) (inside : s ≤ d) (row : SecondRow d e s) (a out : List ℕ) where
   abbrev front : ℕ → ℕ
   front k = modulo q (pos (getD out (to + k) 0) +ℤ signed (ltb e d) (pos (getD a (d - s + k) 0)))
 
   front-is : (k : ℕ) → k < s → front k ≡ plusTurned q d e a to out k
   unfolding residue
-  front-is k h = λ i. modulo q (pos (getD out (to + k) 0) +ℤ front-turn d e s most low high (residue a) k h i)
+  front-is k h = λ i. modulo q (pos (getD out (to + k) 0) +ℤ front-turn d e s most row (residue a) k h i)
 
   module _ (long : to + d ≤ length out) (t : List ℕ) (is : t ≡ spliced front to s out) where
     abbrev back : ℕ → ℕ
@@ -64,7 +37,7 @@ module _ (q d e s to : ℕ) (most : e < 2 * d) (inside : s ≤ d) (low : e < d �
     unfolding residue
     back-is k h =
         (λ i. modulo q (pos (as-was front to s out t (omega (arith, long)) is (to + s + k) (omega arith) i) +ℤ signed (not (ltb e d)) (pos (getD a (Nat.zero-add k i) 0))))
-        ∙ (λ i. modulo q (pos (getD out (Nat.add-assoc to s k i) 0) +ℤ back-turn d e s most low high (residue a) k h i))
+        ∙ (λ i. modulo q (pos (getD out (Nat.add-assoc to s k i) 0) +ℤ back-turn d e s most row (residue a) k h i))
 
     pub turned-done : spliced back (to + s) (d - s) t ≡ spliced (plusTurned q d e a to out) to d out
     turned-done =

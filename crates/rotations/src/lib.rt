@@ -4,7 +4,7 @@
 use protocol::Residue;
 use residues::signed_sum;
 ghost use mathlib.Core.Path.{_≡_};
-ghost use Prim.Native.Nat.{_+_, _*_, _-_, _^_, _<_, _≤_};
+ghost use Prim.Native.Nat.{_+_, _^_, _≤_};
 ghost use lib.IntN.{pos, _+ℤ_};
 ghost use lib.ListN.{length};
 ghost use Rattle.protocol.specs.Basic.{Provided};
@@ -12,17 +12,6 @@ ghost use Rattle.protocol.specs.Element.{modulo};
 ghost use Rattle.residues.specs.Lists.{spliced};
 ghost use Rattle.residues.specs.Residues.{signed};
 ghost use Rattle.rotations.specs.Values.{Addable, RowAdded, Turnable, Gatherable, Valued, plusRow, plusTurned};
-
-// Where the first of the two rows ends that X^e·a is made of.
-fn row_start(d: usize, e: usize) -> usize
-    requires { ⌜ e < 2 * d ⌝ }
-    ensures { λ r. ⌜ (r ≤ d) × (e < d → r ≡ e) × (d ≤ e → r ≡ e - d) ⌝ }
-{
-    if e < d {
-        return e;
-    }
-    e - d
-}
 
 // Adds a row of a to a row of out, or takes it away, modulo q.
 fn accumulate_row(
@@ -68,7 +57,7 @@ pub fn accumulate_turned(
         return;
     }
     let low = e < d;
-    let s = row_start(d, e);
+    let s = residues::row_start(d, e);
     let n = d - s;
     accumulate_row(q, s, low, a, n, out, to);
     accumulate_row(q, n, !low, a, 0, out, to + s);
@@ -121,7 +110,7 @@ pub fn gather_turned(d: u32, e: u32, a: &[Residue], sums: &mut [u64])
         return;
     }
     let low = once < n;
-    let s = row_start(n, once);
+    let s = residues::row_start(n, once);
     let rest = n - s;
     gather_row(s, low, a, rest, sums, 0);
     gather_row(rest, !low, a, 0, sums, s);

@@ -28,7 +28,7 @@ returns-5 : tie.Need-returns-5
 returns-5 c = λ g. absurd (omega (arith, g .long))
 
 returns-6 : tie.Need-returns-6
-returns-6 c = λ g. c .before .fold-numbers .ensures (g .room)
+returns-6 c = λ g. c .before .fold-halves .ensures (g .room)
 
 pub fold-message-spec : {M : Type 1} → statement M
 fold-message-spec =

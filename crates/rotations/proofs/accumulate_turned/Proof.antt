@@ -23,10 +23,10 @@ returns-5 c = λ f.
     let r = c .before .before .before .before .before .before .before .before .row-start in
     let a = c .before .before .before .before .before .before .before .before .before .before .before .before .before .before .before .args in
     let first = c .before .before .before .before .before .before .accumulate-row .ensures
-    (front-summands (a .q) (a .d) (a .e) (r .result) (a .to) (f .exponent) (r .ensures .0) (r .ensures .1) (r .ensures .2) (a .a .now) (a .out .now) (f .summands)) in
+    (front-summands (a .q) (a .d) (a .e) (r .result) (a .to) (f .exponent) (r .ensures .0) (r .ensures .1 (f .exponent)) (a .a .now) (a .out .now) (f .summands)) in
     c .before .before .accumulate-row2 .ensures
-    (back-summands (a .q) (a .d) (a .e) (r .result) (a .to) (f .exponent) (r .ensures .0) (r .ensures .1) (r .ensures .2) (a .a .now) (a .out .now) (f .summands) _ first)
-    ∙ turned-done (a .q) (a .d) (a .e) (r .result) (a .to) (f .exponent) (r .ensures .0) (r .ensures .1) (r .ensures .2) (a .a .now) (a .out .now) (f .summands .own .long) _ first
+    (back-summands (a .q) (a .d) (a .e) (r .result) (a .to) (f .exponent) (r .ensures .0) (r .ensures .1 (f .exponent)) (a .a .now) (a .out .now) (f .summands) _ first)
+    ∙ turned-done (a .q) (a .d) (a .e) (r .result) (a .to) (f .exponent) (r .ensures .0) (r .ensures .1 (f .exponent)) (a .a .now) (a .out .now) (f .summands .own .long) _ first
 
 pub accumulate-turned-spec : {M : Type 1} → statement M
 accumulate-turned-spec =

@@ -1,7 +1,7 @@
 -- One row after the other; the second is as it was when it is reached.
 use mathlib.Core.Path.{sym, ap, _∙_}
 use mathlib.Core.Bool.{not}
-use Prim.Native.Nat.{_+_, _*_, _-_, _^_}
+use Prim.Native.Nat.{_+_, _*_, _-_, _^_, _<_}
 use native.Mathlib.Nat.{mod-lt, zero-add}
 use native.Mathlib.Omega.{arith}
 use lib.Dec.{ltb}
@@ -38,12 +38,12 @@ returns-4 c = λ f.
     let a = o .before .before .before .args in
     let once = o .on-circle .result in
     let is = o .on-circle .ensures .0 (f .degree, f .degree-most) in
+    let most : once < 2 * a .d = omega (arith, is, mod-lt (a .e) {m = 2 * a .d} (omega (arith, f .degree))) in
     let s = r .row-start .result in
     let t = first .gather-row .last .1 .1 .1 .1 .0 in
     second .gather-row2 .ensures
     ∙ ap (λ m. spliced (λ k. modulo (2 ^ 64) (pos (getD t (m + k) 0) +ℤ signed (not (ltb once (a .d))) (pos (getD (a .a .now) (0 + k) 0)))) m (a .d - s) t) (sym (zero-add s))
-    ∙ turned-done (2 ^ 64) (a .d) once s 0 (omega (arith, is, mod-lt (a .e) {m = 2 * a .d} (omega (arith, f .degree)))) (r .row-start .ensures .0) (r .row-start .ensures .1) (r .row-start .ensures .2) (a .a .now)
-    (a .sums .now) (omega (arith, f .room)) t (first .gather-row .ensures)
+    ∙ turned-done (2 ^ 64) (a .d) once s 0 most (r .row-start .ensures .0) (r .row-start .ensures .1 most) (a .a .now) (a .sums .now) (omega (arith, f .room)) t (first .gather-row .ensures)
     ∙ spliced-ext _ _ 0 (a .d) (a .sums .now) (λ k l.
     ap (λ z. modulo (2 ^ 64) (pos (getD (a .sums .now) (0 + k) 0) +ℤ z)) (ap (λ n. rotate (a .d) n (residue (a .a .now)) k) is ∙ rotate-mod (a .d) (a .e) (residue (a .a .now)) k))
 
