@@ -12,7 +12,7 @@ use Rattle.protocol.specs.Element.{Element, width, modulo, around, rotate, redu
 use Rattle.residues.proofs.Padding.{padded-at}
 use Rattle.joins.specs.Sums.{room, Halves, Stand}
 use Rattle.joins.proofs.Joining.{halves-lower}
-use Rattle.products.proofs.Standing.{sum-most, flips-size}
+use Rattle.plain_products.proofs.Standing.{sum-most, flips-size}
 use Rattle.folded_keys.specs.Turns.{Summed}
 
 module _ (S : Settings) (key x : List ℕ) (n : ℕ) where
@@ -33,9 +33,8 @@ module _ (S : Settings) (key x : List ℕ) (n : ℕ) where
     gathered-most : (k : ℕ) → natAbs (gatheredKey k) ≤ room
     gathered-most k = Nat.le-trans (sum-most n q _ (λ j _. turned-most (getD x j 0) j k)) (Nat.le-trans (Nat.mul-le-mul {n₂ = 256} {m₂ = 2 ^ 54} few most) (omega arith))
 
-    pub gathered-stand : d ≤ width → (sums none : List ℕ) → d ≤ length sums → d ≤ length none → ((k : ℕ) → k < d → getD none k 0 ≡ 0) → Summed (2 ^ 64) S key x n sums → Stand q d gatheredKey sums none
-    gathered-stand wide sums none long long-none empty s = record {
-      degree = wide;
+    pub gathered-stand : (sums none : List ℕ) → d ≤ length sums → d ≤ length none → ((k : ℕ) → k < d → getD none k 0 ≡ 0) → Summed (2 ^ 64) S key x n sums → Stand q d gatheredKey sums none
+    gathered-stand sums none long long-none empty s = record {
       lowers = long;
       uppers = long-none;
       each = λ k l. subst (λ t. Halves q (gatheredKey k) room (getD sums k 0) t) (sym (empty k l))

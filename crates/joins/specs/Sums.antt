@@ -9,12 +9,14 @@
 --   Ready q j           j joins sums modulo q: its offset is a multiple of q that makes a sum positive and leaves it below 2^64; the weight is ready where
 --                       there are upper halves
 --   Stand q d F s t     the first d sums of s and of t stand for the element F modulo q, and may be joined
+--   Strands c r d out   strand r of c, which have d numbers each, has room in a list of `out` numbers
 use mathlib.Core.List.{List}
 use mathlib.Core.Path.{_≡_}
 use Prim.Native.Nat.{ℕ, _*_, _/_, _%_, _^_, _<_, _≤_}
 use lib.IntN.{ℤ, pos, natAbs, _+ℤ_, _*ℤ_}
 use lib.ListN.{length, getD}
 use Rattle.protocol.specs.Element.{Element, width, modulo}
+use Rattle.protocol.specs.Layout.{rowsMost}
 use Rattle.modular.specs.Factors.{Modulus, Prepared}
 use Rattle.joins.specs.declared.Joint.{Joint}
 
@@ -49,7 +51,12 @@ pub record Ready (q : ℕ) (j : Joint) : Type 0 where
   pub most : j .offset ≤ 2 ^ 63
 
 pub record Stand (q d : ℕ) (F : Element) (s t : List ℕ) : Type 0 where
-  pub degree : d ≤ width
   pub lowers : d ≤ length s
   pub uppers : d ≤ length t
   pub each : (k : ℕ) → k < d → Halves q (F k) room (getD s k 0) (getD t k 0)
+
+pub record Strands (c r d out : ℕ) : Type 0 where
+  pub few : c ≤ rowsMost
+  pub degree : d ≤ width
+  pub inside : r < c
+  pub room : d ≤ out

@@ -5,7 +5,7 @@ ghost use Rattle.protocol.specs.Basic.{Provided};
 ghost use Rattle.protocol.specs.Element.{reduced, signedAt, residueAt};
 ghost use Rattle.protocol.specs.Opening.{inner};
 ghost use Rattle.protocol.specs.Text.{beginsWithNames};
-ghost use Rattle.products.specs.Sums.{Summable};
+ghost use Rattle.plain_products.specs.Sums.{Summable};
 
 // Does a text begin with the names line.
 #[no_mangle]
@@ -27,6 +27,6 @@ pub extern "C" fn measured_plain_inner(
     ensures { λ _. ⌜ Provided (Summable 12289 degree count (now (message .entry)) (now (key .entry))) (Provided (length (now (out .entry)) ≡ degree)
         (now (out .exit) ≡ reduced 12289 degree (inner degree count (signedAt degree (now (message .entry))) (residueAt degree (now (key .entry)))))) ⌝ }
 {
-    let sum = products::plain_inner(12289, degree, count, message, key);
+    let sum = plain_products::inner(12289, degree, count, message, key);
     residues::store(degree as usize, &sum, 0, out);
 }

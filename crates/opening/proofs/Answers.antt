@@ -31,7 +31,7 @@ use Rattle.claims.proofs.RowLaws.{cells-positive, keys-below}
 use Rattle.sizes.proofs.Limits.{degree-most}
 use Rattle.residues.specs.Lists.{filled, spliced}
 use Rattle.residues.proofs.Fill.{zeros-length, filled-length}
-use Rattle.products.specs.Rowwise.{rowPlaces}
+use Rattle.plain_products.specs.Rowwise.{rowPlaces}
 use Rattle.opening_rounds.specs.Rounds.{roundItem, commitmentItem, ItemsBegun}
 use Rattle.slices.specs.Slices.{valuesOf}
 use Rattle.prover.proofs.Values.{item-by-value}

@@ -32,8 +32,8 @@ use Rattle.residues.proofs.Parts.{tail-all, tail-length}
 use Rattle.residues.proofs.Splice.{spliced-before, spliced-inside, spliced-behind}
 use Rattle.equations.specs.Given.{RoundRead, ClaimRead, ElementsGiven, ElementReduced}
 use Rattle.equations.specs.Items.{rowElement}
-use Rattle.products.specs.Rowwise.{elementPlaces}
-use Rattle.products.proofs.Rowwise.{put-part}
+use Rattle.plain_products.specs.Rowwise.{elementPlaces}
+use Rattle.plain_products.proofs.Rowwise.{put-part}
 use Rattle.round_products.proofs.Rowwise.{row-long, lent-row}
 use Rattle.opening_checks.specs.Checks.{rowClaim, RowsRead, sentElement, EndsRead}
 

@@ -25,9 +25,9 @@ use Rattle.residues.proofs.Fill.{filled-ext, filled-again}
 use Rattle.residues.proofs.Parts.{tail-at, tail-length}
 use Rattle.prover_refusals.proofs.Given.{first-row, commit-given, commit-key}
 use Rattle.sizes.proofs.Limits.{degree-least}
-use Rattle.products.specs.Sums.{sizeOf, messagesOf, keysOf, Given, innerElement, RowsGiven}
-use Rattle.products.specs.Rowwise.{rowPlaces}
-use Rattle.products.proofs.Rows.{inner-same}
+use Rattle.plain_products.specs.Sums.{sizeOf, messagesOf, keysOf, Given, innerElement, RowsGiven}
+use Rattle.plain_products.specs.Rowwise.{rowPlaces}
+use Rattle.plain_products.proofs.Rows.{inner-same}
 use Rattle.round_products.specs.Messages.{Tables}
 use Rattle.round_products.specs.Sums.{Halvables}
 use Rattle.round_products.proofs.Products.{summable, left-whole, commit-tables}

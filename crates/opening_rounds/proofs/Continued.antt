@@ -22,7 +22,7 @@ use Rattle.residues.proofs.Parts.{same-long}
 use Rattle.residues.proofs.Splice.{spliced-ext, spliced-over, spliced-before, spliced-inside}
 use Rattle.prover_refusals.proofs.Given.{RoundGiven, round-given, round-key}
 use Rattle.sizes.proofs.Limits.{degree-least}
-use Rattle.products.specs.Rowwise.{rowPlaces}
+use Rattle.plain_products.specs.Rowwise.{rowPlaces}
 use Rattle.round_products.specs.Messages.{Halved}
 use Rattle.round_products.specs.Sums.{Halvables}
 use Rattle.round_products.proofs.Halves.{round-tables}

@@ -24,7 +24,7 @@ use Rattle.protocol.specs.Calls.{roundRefusal}
 use Rattle.residues.specs.Lists.{filled}
 use Rattle.round_products.specs.Sums.{innerOfSums}
 pub use Rattle.round_products.specs.Items.{roundItem}
-use Rattle.products.specs.Rowwise.{rowPlaces}
+use Rattle.plain_products.specs.Rowwise.{rowPlaces}
 pub use Rattle.round_products.specs.Sums.{half, Halvables}
 
 abbrev pub sumAt : ℕ → List ℕ → List ℕ → ℕ → ℕ

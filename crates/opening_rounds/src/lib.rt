@@ -13,7 +13,7 @@ ghost use Rattle.protocol.specs.Layout.{itemCells};
 ghost use Rattle.protocol.specs.Calls.{commitRefusal, roundRefusal};
 ghost use Rattle.residues.specs.Lists.{filled, spliced};
 ghost use Rattle.residues.specs.Residues.{Residues};
-ghost use Rattle.products.specs.Rowwise.{rowPlaces};
+ghost use Rattle.plain_products.specs.Rowwise.{rowPlaces};
 ghost use Rattle.opening_rounds.specs.Rounds.{sumAt, half, Halvables, middleAt, lastAt, roundItem, sumItem, ItemsBegun, Continuing};
 
 // The first d numbers of a table of residues, each halved t times modulo q, written to the front of out where there is room for them.

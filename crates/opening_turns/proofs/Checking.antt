@@ -25,7 +25,7 @@ use Rattle.protocol.proofs.Agreement.{Same, every-ext, claim-same, round-same, 
 use Rattle.residues.specs.Lists.{filled}
 use Rattle.residues.proofs.Fill.{filled-at}
 use Rattle.equations.specs.Items.{rowElement}
-use Rattle.products.specs.Rowwise.{rowPlaces}
+use Rattle.plain_products.specs.Rowwise.{rowPlaces}
 use Rattle.opening_rounds.specs.Rounds.{commitmentItem}
 use Rattle.opening_turns.specs.declared.State.{State}
 use Rattle.opening_checks.specs.Checks.{rowClaim, RowsRead, sentElement}

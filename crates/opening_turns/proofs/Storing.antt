@@ -24,8 +24,8 @@ use Rattle.claims.proofs.RowLaws.{tables-below}
 use Rattle.sizes.proofs.Limits.{degree-least}
 use Rattle.residues.specs.Lists.{spliced}
 use Rattle.residues.proofs.Parts.{tail-all}
-use Rattle.products.specs.Rowwise.{rowPlaces}
-use Rattle.products.proofs.Rowwise.{empty, put-tail}
+use Rattle.plain_products.specs.Rowwise.{rowPlaces}
+use Rattle.plain_products.proofs.Rowwise.{empty, put-tail}
 use Rattle.opening_rounds.specs.Rounds.{roundItem}
 use Rattle.opening_turns.specs.Turns.{restStored}
 

@@ -24,7 +24,7 @@ use Rattle.claims.proofs.Prover.{round-answer, fold-granted, fold-key, fold-mes
 use Rattle.protocol.proofs.OpeningLaws.{round-at}
 use Rattle.protocol.proofs.Rows.{keys-row}
 use Rattle.residues.specs.Lists.{spliced}
-use Rattle.products.specs.Rowwise.{rowPlaces}
+use Rattle.plain_products.specs.Rowwise.{rowPlaces}
 use Rattle.opening_rounds.specs.Rounds.{roundItem, Continuing}
 use Rattle.opening_turns.specs.declared.State.{State}
 use Rattle.opening_turns.specs.Turns.{restStored, TablesAt, ClaimsAt, CheckedAt, ProverMove, VerifierMove, ProverTurn, VerifierTurn}

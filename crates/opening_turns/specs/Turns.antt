@@ -24,7 +24,7 @@ use Rattle.protocol.specs.Transcript.{Transcript, claimAfter, holdsAt, transcri
 use Rattle.protocol.specs.Rows.{keyRow, keysAfter, roundTables}
 use Rattle.protocol.specs.Calls.{openingRefusal}
 use Rattle.residues.specs.Lists.{spliced}
-use Rattle.products.specs.Rowwise.{rowPlaces}
+use Rattle.plain_products.specs.Rowwise.{rowPlaces}
 use Rattle.opening_rounds.specs.Rounds.{roundItem}
 use Rattle.opening_checks.specs.Checks.{RowsChecked}
 use Rattle.opening_turns.specs.declared.State.{State}

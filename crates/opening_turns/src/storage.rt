@@ -8,7 +8,7 @@ ghost use Rattle.protocol.specs.Basic.{Provided};
 ghost use Rattle.protocol.specs.Layout.{itemCells, polynomialAt};
 ghost use Rattle.protocol.specs.Calls.{roundRefusal};
 ghost use Rattle.residues.specs.Lists.{spliced};
-ghost use Rattle.products.specs.Rowwise.{rowPlaces};
+ghost use Rattle.plain_products.specs.Rowwise.{rowPlaces};
 ghost use Rattle.opening_rounds.specs.Rounds.{roundItem, Continuing};
 ghost use Rattle.opening_turns.specs.Turns.{restStored};
 

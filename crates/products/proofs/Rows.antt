@@ -1,4 +1,4 @@
--- Rows of a key that begin with the numbers of other tables: an inner product is the same with either. And a loop over rows that writes an element for each.
+-- Rows of a key that begin with the numbers of other tables: an inner product by the transform is the same with either. And a loop over rows that writes an element for each.
 use mathlib.Core.Path.{_≡_, refl, sym, ap, _∙_, subst}
 use mathlib.Core.Bool.{Bool, true, false}
 use mathlib.Core.List.{List}
@@ -18,67 +18,17 @@ use Rattle.residues.proofs.Padding.{padded-at}
 use Rattle.half_sums.specs.Halves.{keySumAt, sizeOf, keysOf}
 use Rattle.batches.specs.Batches.{Suits, most, MessageGiven, KeyGiven}
 use Rattle.batches.proofs.Batching.{suits-width}
-use Rattle.products.specs.Sums.{Summable, Given, innerElement, RowsGiven}
-use Rattle.products.specs.Rowwise.{elementPlaces, rowPlaces}
-use Rattle.products.proofs.Rowwise.{row-turn}
+use Rattle.strands.proofs.Weaving.{keys-alike}
+use Rattle.plain_products.specs.Sums.{Given, innerElement}
+use Rattle.plain_products.specs.Rowwise.{elementPlaces, rowPlaces}
+use Rattle.plain_products.proofs.Rowwise.{row-turn}
+use Rattle.plain_products.proofs.Rows.{inner-same}
 
-pub inner-same : (d h : ℕ) → 0 < d → {m m′ G G′ : ℕ → Element} → ((i : ℕ) → i < h → Same d (m i) (m′ i)) → ((i : ℕ) → i < h → Same d (G i) (G′ i)) → (k : ℕ) → inner d h m G k ≡ inner d h m′ G′ k
-unfolding inner
-inner-same d h p a b k = sum-ext h (λ i l. product-same p (a i l) (b i l) k)
-
-pub given-degree : (sums : Bool) (q d n : ℕ) (f : List ℤ) (g : List ℕ) → Given sums q d n f g → 0 < d
-unfolding Given
-given-degree true q d n f g z = z .elements .degree
-given-degree false q d n f g z = z .elements .degree
-
-pub given-width : (sums : Bool) (q d n : ℕ) (f : List ℤ) (g : List ℕ) → Given sums q d n f g → d ≤ width
-unfolding Given
-given-width true q d n f g z = z .elements .degree-most
-given-width false q d n f g z = z .elements .degree-most
-
+-- a row of the key as it is lent, which begins with the numbers of G
 module _ (q d n : ℕ) (f : List ℤ) (g G : List ℕ) where
-  pub given-alike : (sums : Bool) → Given sums q d n f G → sizeOf sums d n ≤ length g → ((p : ℕ) → p < sizeOf sums d n → getD g p 0 ≡ getD G p 0) → Given sums q d n f g
-  unfolding Given sizeOf
-  given-alike true z long same = record {
-    elements = record {
-      modulus = z .elements .modulus;
-      degree = z .elements .degree;
-      degree-most = z .elements .degree-most;
-      f-long = z .elements .f-long;
-      g-long = omega (arith, Nat.mul-assoc 2 n d);
-    };
-    few = z .few;
-    small = z .small;
-    residues = λ j l. subst (λ v. v < q) (sym (same j l)) (z .residues j l);
-    modulus-most = z .modulus-most;
-  }
-  given-alike false z long same = record {
-    elements = record {
-      modulus = z .elements .modulus;
-      degree = z .elements .degree;
-      degree-most = z .elements .degree-most;
-      f-long = z .elements .f-long;
-      g-long = long;
-    };
-    magnitude = z .magnitude;
-    magnitude-most = z .magnitude-most;
-    few = z .few;
-    small = z .small;
-    modulus-most = z .modulus-most;
-    residues = λ j l. subst (λ v. v < q) (sym (same j l)) (z .residues j l);
-  }
-
-  keys-alike : (sums : Bool) → ((p : ℕ) → p < sizeOf sums d n → getD g p 0 ≡ getD G p 0) → (i : ℕ) → i < n → Same d (keysOf sums q d n g i) (keysOf sums q d n G i)
-  unfolding sizeOf keysOf keySumAt plus second residueAt
-  keys-alike true same i l j h =
-      let one = same (i * d + j) (omega (arith, cell-inside d n i j l h)) in
-      let two = same ((n + i) * d + j) (omega (arith, cell-inside d n i j l h, Nat.add-mul n i d)) in
-      λ t. pos (modulo q (pos (one t) +ℤ pos (two t)))
-  keys-alike false same i l j h = ap pos (same (i * d + j) (cell-inside d n i j l h))
-
   pub element-alike : (sums : Bool) → 0 < d → ((p : ℕ) → p < sizeOf sums d n → getD g p 0 ≡ getD G p 0) → innerElement sums q d n f g ≡ innerElement sums q d n f G
   unfolding reduced
-  element-alike sums pd same = tabulate-ext d (λ k l. ap (modulo q) (inner-same d n pd (λ i m j h. refl) (keys-alike sums same) k))
+  element-alike sums pd same = tabulate-ext d (λ k l. ap (modulo q) (inner-same d n pd (λ i m j h. refl) (keys-alike q d n g G sums same) k))
 
 -- ---- what the transform asks of them
 
@@ -105,24 +55,6 @@ padded-reduced q d F k h = padded-at d (λ j. modulo q (F j)) k h ∙ sym (tabul
 pub row-stored : (q d : ℕ) (F : Element) (a part last : List ℕ) → a ≡ padded d (reduced q d F) → last ≡ spliced (λ k. getD a k 0) 0 d part → last ≡ filled (elementPlaces (reduced q d F)) d part
 unfolding spliced filled
 row-stored q d F a part last e is = is ∙ filled-ext _ _ d part (λ k h. ap (λ l. getD l k 0) e ∙ padded-reduced q d F k h)
-
--- ---- one row alone
-
-pub row-given : (q d n : ℕ) (f : List ℤ) (g : List ℕ) → Summable q d n f g → RowsGiven false q d n 1 0 f g (λ _. g)
-unfolding Given sizeOf
-row-given q d n f g z = record {
-  some = omega arith;
-  long = λ r _. omega (arith, z .elements .g-long);
-  alike = λ r p _ _. ap (λ i. getD g i 0) {x = r * 0 + p} (omega arith);
-  given = λ _ _. z;
-}
-
-pub one-row : (q d : ℕ) (F : Element) → filled (rowPlaces d (λ _. reduced q d F)) (1 * d) (zeros width) ≡ padded d (reduced q d F)
-unfolding reduced
-one-row q d F =
-    ap (λ n. filled (rowPlaces d (λ _. reduced q d F)) n (zeros width)) (Nat.one-mul d)
-    ∙ filled-ext _ (λ k. modulo q (F k)) d (zeros width) (λ k h. ap (λ i. getD (reduced q d F) i 0) (Nat.mod-eq-of-lt h) ∙ tabulate-at d (λ j. modulo q (F j)) 0 k h)
-    ∙ element-done (λ k. modulo q (F k)) d d _ refl refl
 
 -- ---- all rows
 

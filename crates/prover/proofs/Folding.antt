@@ -24,9 +24,9 @@ use Rattle.residues.proofs.Fill.{filled-behind}
 use Rattle.prover_refusals.proofs.Given.{FoldGiven, first-row, fold-key, fold-given}
 use Rattle.folds.specs.Folds as residues
 use Rattle.message_folds.specs.Messages as messages
-use Rattle.products.specs.Rowwise.{rowPlaces}
+use Rattle.plain_products.specs.Rowwise.{rowPlaces}
 use Rattle.round_products.proofs.Halves.{left-halves, halves-inside, half-most, left-most}
-use Rattle.products.proofs.Rowwise.{empty, part-turn}
+use Rattle.plain_products.proofs.Rowwise.{empty, part-turn}
 use Rattle.round_products.proofs.Rowwise.{lent-row, Written, written-all}
 use Rattle.prover.specs.Rowwise.{KeysGiven}
 

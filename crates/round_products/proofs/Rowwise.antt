@@ -14,6 +14,7 @@ use lib.ListN.{length, getD, take, drop, length-drop}
 use lib.Seq.{length-take-le, getD-drop, getD-take}
 use Rattle.protocol.specs.declared.Settings.{Settings}
 use Rattle.protocol.specs.Settings.{settingsRefusal, cells}
+use Rattle.protocol.proofs.Inputs.{settings-valid}
 use Rattle.protocol.specs.Layout.{keyCells}
 use Rattle.protocol.specs.Rows.{keyRow}
 use Rattle.protocol.proofs.Reading.{row-inside, tabulate-at, tabulate-own, tabulate-ext}
@@ -22,8 +23,8 @@ use Rattle.prover_refusals.proofs.Given.{first-row}
 use Rattle.residues.specs.Lists.{filled}
 use Rattle.residues.proofs.Fill.{filled-none}
 use Rattle.residues.proofs.Parts.{tail-at, tail-length}
-use Rattle.products.specs.Rowwise.{rowPlaces}
-use Rattle.products.specs.Sums.{sizeOf, Given}
+use Rattle.plain_products.specs.Rowwise.{rowPlaces}
+use Rattle.plain_products.specs.Sums.{sizeOf, Given}
 use Rattle.round_products.specs.Items.{ItemsGiven}
 
 -- a table from place s on, as the code lends it
@@ -56,6 +57,7 @@ module _ (S : Settings) (key : List ℕ) (ok : settingsRefusal S ≡ 0) (long : 
     allowed = ok;
     rows = record {
       some = first-row S ok;
+      most = settings-valid S ok .rows-most;
       long = λ r l. omega (arith, row-long S key r long l);
       alike = λ r p _ m. row-at r p (omega arith);
       given = given;
@@ -68,6 +70,7 @@ module _ (S : Settings) (key : List ℕ) (ok : settingsRefusal S ≡ 0) (long : 
     allowed = ok;
     rows = record {
       some = first-row S ok;
+      most = settings-valid S ok .rows-most;
       long = λ r l. omega (arith, row-long S key r long l, tail-length s key);
       alike = λ r p _ m.
           tail-at s key (r * cells S + p) 0

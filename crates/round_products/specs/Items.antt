@@ -16,8 +16,8 @@ use Rattle.protocol.specs.Layout.{itemCells}
 use Rattle.protocol.specs.Opening.{inner, roundElement}
 use Rattle.protocol.specs.Rows.{keyRow}
 use Rattle.residues.specs.Lists.{filled}
-use Rattle.products.specs.Sums.{messagesOf, keysOf, RowsGiven}
-use Rattle.products.specs.Rowwise.{rowPlaces}
+use Rattle.plain_products.specs.Sums.{messagesOf, keysOf, RowsGiven}
+use Rattle.plain_products.specs.Rowwise.{rowPlaces}
 
 abbrev pub innerItem : Bool → Settings → ℕ → ℕ → List ℤ → (ℕ → List ℕ) → ℕ → List ℕ
 innerItem sums S h s f G r = reduced (S .modulus) (S .degree) (times (pos s) (inner (S .degree) h (messagesOf sums (S .degree) h f) (keysOf sums (S .modulus) (S .degree) h (G r))))

@@ -11,7 +11,7 @@ ghost use Rattle.protocol.specs.Basic.{Provided};
 ghost use Rattle.protocol.specs.Layout.{itemCells};
 ghost use Rattle.protocol.specs.Calls.{roundRefusal};
 ghost use Rattle.residues.specs.Lists.{filled};
-ghost use Rattle.products.specs.Rowwise.{rowPlaces};
+ghost use Rattle.plain_products.specs.Rowwise.{rowPlaces};
 ghost use Rattle.round_products.specs.Sums.{half, Halvables, lessBoth};
 ghost use Rattle.round_products.specs.Items.{innerItem, ItemsGiven, Sent};
 

@@ -10,6 +10,8 @@ use lib.IntN.{ℤ, pos, negsuc}
 use lib.ListN.{length, getD, drop, set, List·getD-append}
 use lib.Signed.{ltZ}
 use Rattle.protocol.specs.Basic.{tabulate}
+use Rattle.protocol.specs.Element.{width}
+use Rattle.protocol.specs.Layout.{rowsMost, rowsWidth}
 use Rattle.protocol.proofs.Reading.{tabulate-at, tabulate-length, tabulate-ext}
 use Rattle.rows.specs.Rows.{start, addRow, nextRow, addRows, addFour}
 use Rattle.residues.proofs.Fill.{filled, filled-behind, filled-ext, filled-at, filled-turn, filled-again}
@@ -81,25 +83,31 @@ module _ (m0 at0 m1 at1 m2 at2 m3 at3 : ℕ) (x : ℕ → ℕ) where
       (one ∙ ap (over m0 at0) (ap (λ l. getD l k 0) e ∙ filled-behind (fourCell s₀) k s₀ 0 k (Nat.le-refl k))))))
       h
 
--- ---- all rows
+-- ---- all rows, in c strands
 
-pub four-more : (d : ℕ) (f : List ℤ) (x : ℕ → ℕ) (j : ℕ) (s : List ℕ) → addFour d f x j (addRows d f x j s) ≡ addRows d f x (j + 4) s
+pub four-more : (c d : ℕ) (f : List ℤ) (x : ℕ → ℕ) (j : ℕ) (s : List ℕ) → addFour c d f x j (addRows c d f x j s) ≡ addRows c d f x (j + 4) s
 unfolding addFour addRows
-four-more d f x j s =
+four-more c d f x j s =
     let one : j + 1 ≡ suc j = omega arith in
     let two : j + 2 ≡ suc (suc j) = omega arith in
     let three : j + 3 ≡ suc (suc (suc j)) = omega arith in
     let four : suc (suc (suc (suc j))) ≡ j + 4 = omega arith in
-    (λ i. nextRow d f x (three i) (nextRow d f x (two i) (nextRow d f x (one i) (nextRow d f x j (addRows d f x j s)))))
-    ∙ ap (λ n. addRows d f x n s) four
+    (λ i. nextRow c d f x (three i) (nextRow c d f x (two i) (nextRow c d f x (one i) (nextRow c d f x j (addRows c d f x j s)))))
+    ∙ ap (λ n. addRows c d f x n s) four
 
--- a product reads the places below 3d alone
-module _ (d : ℕ) (f : List ℤ) (x x′ : ℕ → ℕ) (e : (y : ℕ) → y < 3 * d → x y ≡ x′ y) where
-  row-front : (m at : ℕ) (s : List ℕ) → at ≤ d + d → addRow d m at x s ≡ addRow d m at x′ s
+pub cells-most : (c d : ℕ) → c ≤ rowsMost → d ≤ width → d * c ≤ rowsWidth
+cells-most c d few most = omega (arith, Nat.mul-le-mul {n₂ = width} {m₂ = rowsMost} most few)
+
+pub start-inside : (c d j : ℕ) (z : ℤ) → start d z j * c ≤ d * c + d * c
+start-inside c d j z = omega (arith, Nat.mul-le-mul-right c (start-most d j z), Nat.add-mul d d c)
+
+-- a product reads the places below 3d of each strand alone
+module _ (c d : ℕ) (f : List ℤ) (x x′ : ℕ → ℕ) (e : (y : ℕ) → y < 3 * (d * c) → x y ≡ x′ y) where
+  row-front : (m at : ℕ) (s : List ℕ) → at ≤ d * c + d * c → addRow (d * c) m at x s ≡ addRow (d * c) m at x′ s
   unfolding addRow
-  row-front m at s h = ap (λ l. l ++ drop d s) (tabulate-ext d (λ k l. ap (λ y. (getD s k 0 + m * y) % 2 ^ 64) (e (at + k) (omega arith))))
+  row-front m at s h = ap (λ l. l ++ drop (d * c) s) (tabulate-ext (d * c) (λ k l. ap (λ y. (getD s k 0 + m * y) % 2 ^ 64) (e (at + k) (omega arith))))
 
-  pub rows-front : (n : ℕ) (s : List ℕ) → addRows d f x n s ≡ addRows d f x′ n s
+  pub rows-front : (n : ℕ) (s : List ℕ) → addRows c d f x n s ≡ addRows c d f x′ n s
   unfolding addRows
   rows-front zero s = refl
-  rows-front (suc n) s = row-front _ _ (addRows d f x n s) (start-most d n (getD f n (pos 0))) ∙ ap (nextRow d f x′ n) (rows-front n s)
+  rows-front (suc n) s = row-front _ _ (addRows c d f x n s) (start-inside c d n (getD f n (pos 0))) ∙ ap (nextRow c d f x′ n) (rows-front n s)

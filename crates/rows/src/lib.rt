@@ -1,5 +1,8 @@
-// The product of an element of whole numbers with an element of residues, added to sums modulo 2^64. Residues stand in 64 bits, and four rows are added
-// at a time: so a row costs one product and one sum for each of its numbers.
+// The products of an element of whole numbers with elements of residues, added to sums modulo 2^64. Residues stand in 64 bits, and four rows are added
+// at a time: so a row costs one product and one sum for each of its numbers. The elements of residues are strands of one woven element: with c of them,
+// number k of strand r stands at place k·c + r, so that a row of all strands is one row, c times as long.
+use protocol::ROWS;
+use protocol::ROWS_WIDTH;
 use protocol::Residue;
 use protocol::WIDTH;
 use ranges::tests;
@@ -8,7 +11,8 @@ ghost use mathlib.Core.List.{List};
 ghost use Prim.Native.Nat.{ℕ, _+_, _*_, _%_, _^_, _<_, _≤_};
 ghost use lib.ListN.{length};
 ghost use Rattle.protocol.specs.Basic.{Provided};
-ghost use Rattle.protocol.specs.Element.{width};
+ghost use Rattle.protocol.specs.Element.{width, residue};
+ghost use Rattle.protocol.specs.Layout.{rowsMost, rowsWidth};
 ghost use Rattle.residues.specs.Lists.{spliced};
 ghost use Rattle.rows.specs.Rows.{turned, narrowed, start, addRow, addRows, addFour, Rows, Preparable, Prepared};
 
@@ -26,8 +30,8 @@ fn reduce(q: Residue, x: Residue) -> Residue
 // The residues that stand at the places 0 to 3d − 1 of a, going round by X^d = −1, written to the front of y: each residue, its negative, and
 // the residue again.
 fn write_rows(q: Residue, d: usize, a: &[Residue], y: &mut [u64])
-    requires { ⌜ (0 < q) × (d ≤ width) × (d ≤ length (now a)) × (3 * d ≤ length (now y)) ⌝ }
-    ensures { λ _. ⌜ now (y .exit) ≡ spliced (turned q d (now (a .entry))) 0 (3 * d) (now (y .entry)) ⌝ }
+    requires { ⌜ (0 < q) × (d ≤ rowsWidth) × (d ≤ length (now a)) × (3 * d ≤ length (now y)) ⌝ }
+    ensures { λ _. ⌜ now (y .exit) ≡ spliced (turned q d (residue (now (a .entry)))) 0 (3 * d) (now (y .entry)) ⌝ }
 {
     for k in 0..d {
         let x = reduce(q, a[k]);
@@ -37,18 +41,16 @@ fn write_rows(q: Residue, d: usize, a: &[Residue], y: &mut [u64])
     }
 }
 
-// The room that a prepared element takes: its residues, their negatives, and the residues again.
-pub const ROOM: usize = 3 * WIDTH;
-
-// Prepares an element at the front of a lent room: every rotation of it, with either sign, is then d places in a row. What stands behind it stays.
+// Prepares an element of d numbers, woven or not, at the front of a lent room: every rotation of it, with either sign, is then d places in a row. What stands
+// behind it stays.
 pub fn prepare(q: Residue, d: u32, a: &[Residue], x: &mut [u64])
-    ensures { λ _. ⌜ Provided (Preparable q d (length (now (a .entry))) (length (now (x .entry)))) (Prepared q d (now (a .entry)) (now (x .exit))) ⌝ }
+    ensures { λ _. ⌜ Provided (Preparable q d (length (now (a .entry))) (length (now (x .entry)))) (Prepared q d (residue (now (a .entry))) (now (x .exit))) ⌝ }
 {
     let n = d as usize;
     if q == 0 {
         return;
     }
-    if n > WIDTH {
+    if n > ROWS_WIDTH {
         return;
     }
     if a.len() < n {
@@ -114,85 +116,100 @@ fn add_four(
     }
 }
 
-// Where the row of coefficient j begins: a negative one takes the row d places before, which has the other sign.
-fn row_start(d: usize, c: i32, j: usize) -> usize
-    requires { ⌜ (d ≤ width) × (j < d) ⌝ }
-    ensures { λ r. ⌜ r ≡ start d c j ⌝ }
+// Where the row of coefficient j begins: a negative one takes the row d places before, in each strand, which has the other sign.
+fn row_start(strands: usize, d: usize, c: i32, j: usize) -> usize
+    requires { ⌜ (strands ≤ rowsMost) × (d ≤ width) × (j < d) ⌝ }
+    ensures { λ r. ⌜ r ≡ start d c j * strands ⌝ }
 {
     if c < 0 {
-        return d - j;
+        return (d - j) * strands;
     }
-    d + d - j
+    (d + d - j) * strands
 }
 
-// The rows of the four coefficients from coefficient j on.
-fn add_block(d: usize, j: usize, f: &[i32], x: &[u64], sums: &mut [u64])
-    requires { ⌜ Rows d (length (now f)) (length (now x)) (length (now sums)) × (j + 4 ≤ d) ⌝ }
-    ensures { λ _. ⌜ now (sums .exit) ≡ addFour d (now (f .entry)) (narrowed (now (x .entry))) j (now (sums .entry)) ⌝ }
+// The rows of the four coefficients from coefficient j on, in all strands.
+fn add_block(strands: usize, d: usize, j: usize, f: &[i32], x: &[u64], sums: &mut [u64])
+    requires { ⌜ Rows strands d (length (now f)) (length (now x)) (length (now sums)) × (j + 4 ≤ d) ⌝ }
+    ensures { λ _. ⌜ now (sums .exit) ≡ addFour strands d (now (f .entry)) (narrowed (now (x .entry))) j (now (sums .entry)) ⌝ }
 {
     let c0 = f[j];
     let c1 = f[j + 1];
     let c2 = f[j + 2];
     let c3 = f[j + 3];
     add_four(
-        d,
+        d * strands,
         tests::magnitude(c0),
-        row_start(d, c0, j),
+        row_start(strands, d, c0, j),
         tests::magnitude(c1),
-        row_start(d, c1, j + 1),
+        row_start(strands, d, c1, j + 1),
         tests::magnitude(c2),
-        row_start(d, c2, j + 2),
+        row_start(strands, d, c2, j + 2),
         tests::magnitude(c3),
-        row_start(d, c3, j + 3),
+        row_start(strands, d, c3, j + 3),
         x,
         sums,
     );
 }
 
 // The rows from coefficient `done` on, those before it being added.
-fn add_rest(d: usize, done: usize, f: &[i32], x: &[u64], sums: &mut [u64])
-    requires { ⌜ Rows d (length (now f)) (length (now x)) (length (now sums)) × (done ≤ d) ⌝ }
-    ensures { λ _. ⌜ ((s : List ℕ) → now (sums .entry) ≡ addRows d (now (f .entry)) (narrowed (now (x .entry))) done s →
-        now (sums .exit) ≡ addRows d (now (f .entry)) (narrowed (now (x .entry))) d s) ⌝ }
+fn add_rest(strands: usize, d: usize, done: usize, f: &[i32], x: &[u64], sums: &mut [u64])
+    requires { ⌜ Rows strands d (length (now f)) (length (now x)) (length (now sums)) × (done ≤ d) ⌝ }
+    ensures { λ _. ⌜ ((s : List ℕ) → now (sums .entry) ≡ addRows strands d (now (f .entry)) (narrowed (now (x .entry))) done s →
+        now (sums .exit) ≡ addRows strands d (now (f .entry)) (narrowed (now (x .entry))) d s) ⌝ }
 {
     let mut j: usize = done;
     while j < d {
         let c = f[j];
-        add_row(d, tests::magnitude(c), row_start(d, c, j), x, sums);
+        add_row(
+            d * strands,
+            tests::magnitude(c),
+            row_start(strands, d, c, j),
+            x,
+            sums,
+        );
         j += 1;
     }
 }
 
 // The rows of all coefficients of f.
-fn add_rows(d: usize, f: &[i32], x: &[u64], sums: &mut [u64])
-    requires { ⌜ Rows d (length (now f)) (length (now x)) (length (now sums)) ⌝ }
-    ensures { λ _. ⌜ now (sums .exit) ≡ addRows d (now (f .entry)) (narrowed (now (x .entry))) d (now (sums .entry)) ⌝ }
+fn add_rows(strands: usize, d: usize, f: &[i32], x: &[u64], sums: &mut [u64])
+    requires { ⌜ Rows strands d (length (now f)) (length (now x)) (length (now sums)) ⌝ }
+    ensures { λ _. ⌜ now (sums .exit) ≡ addRows strands d (now (f .entry)) (narrowed (now (x .entry))) d (now (sums .entry)) ⌝ }
 {
     let mut j: usize = 0;
     while j + 4 <= d {
-        add_block(d, j, f, x, sums);
+        add_block(strands, d, j, f, x, sums);
         j += 4;
     }
-    add_rest(d, j, f, x, sums);
+    add_rest(strands, d, j, f, x, sums);
 }
 
-// Adds the rows of f, x being what they read, modulo 2^32: the product of f with the element that is prepared at the front of x.
-pub fn add_product(d: u32, f: &[i32], x: &[u64], sums: &mut [u64])
-    ensures { λ _. ⌜ Provided (Rows d (length (now (f .entry))) (length (now (x .entry))) (length (now (sums .entry))))
-        (now (sums .exit) ≡ addRows d (now (f .entry)) (narrowed (now (x .entry))) d (now (sums .entry))) ⌝ }
+// Adds the rows of f, x being what they read, modulo 2^32: in each strand the product of f with the strand of the element that is prepared at the front of x.
+// That one strand stands here as a number lets the compiler take its rows without a product for each place.
+pub fn add_product(strands: u32, d: u32, f: &[i32], x: &[u64], sums: &mut [u64])
+    ensures { λ _. ⌜ Provided (Rows strands d (length (now (f .entry))) (length (now (x .entry))) (length (now (sums .entry))))
+        (now (sums .exit) ≡ addRows strands d (now (f .entry)) (narrowed (now (x .entry))) d (now (sums .entry))) ⌝ }
 {
+    let c = strands as usize;
     let n = d as usize;
+    if c > ROWS {
+        return;
+    }
     if n > WIDTH {
         return;
     }
     if f.len() < n {
         return;
     }
-    if x.len() < 3 * n {
+    if x.len() < 3 * (n * c) {
         return;
     }
-    if sums.len() < n {
+    if sums.len() < n * c {
         return;
     }
-    add_rows(n, f, x, sums);
+    if c == 1 {
+        add_rows(1, n, f, x, sums);
+        return;
+    }
+    add_rows(c, n, f, x, sums);
 }

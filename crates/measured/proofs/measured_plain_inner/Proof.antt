@@ -13,7 +13,7 @@ returns : tie.Need-returns
 unfolding reduced
 returns c = λ z long.
     let a = c .before .before .before .before .before .before .before .before .args in
-    let is = c .before .before .before .before .before .plain-inner .ensures z in
+    let is = c .before .before .before .before .before .inner .ensures z in
     c .before .before .store .ensures (record { there = omega (arith, z .elements .degree-most); room = omega (arith, long) })
     ∙ stored-whole (a .degree) _ (a .out .now) long
     ∙ tabulate-ext (a .degree) (λ k h. ap (λ l. getD l k 0) is ∙ padded-at (a .degree) _ k h)

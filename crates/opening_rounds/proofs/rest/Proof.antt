@@ -4,8 +4,8 @@ use Rattle.protocol.specs.Layout.{itemCells}
 use Rattle.residues.specs.Lists.{spliced}
 use Rattle.residues.proofs.Parts.{tail-length}
 use Rattle.prover_refusals.proofs.Given.{round-key}
-use Rattle.products.specs.Rowwise.{rowPlaces}
-use Rattle.products.proofs.Rowwise.{put-first}
+use Rattle.plain_products.specs.Rowwise.{rowPlaces}
+use Rattle.plain_products.proofs.Rowwise.{put-first}
 use Rattle.opening_rounds.specs.Rounds.{sumItem, Continuing}
 use Rattle.opening_rounds.proofs.Continued.{claim-halves, sum-residues, front-residues, rest-is}
 use borrow.Author.Needs.{needs}

@@ -21,4 +21,4 @@ returns-2 c = λ G z. (c .before .before .before .send-rows2) .ensures G (z .0, 
 pub transformed-rows-spec : {M : Type 1} → statement M
 transformed-rows-spec =
     tie.close
-    (tie.spec mul-if1 (λ c. search needs) (λ c κs. search needs) (λ c. search needs) returns (λ c. search needs) (λ c κs. search needs) (λ c. search needs) returns-2)
+    (tie.spec mul-if1 (λ c. search needs) (λ c κs. search needs) (λ c. search) returns (λ c. search needs) (λ c κs. search needs) (λ c. search) returns-2)

@@ -8,8 +8,8 @@ use Rattle.protocol.specs.Rows.{keyRow}
 use Rattle.protocol.specs.Calls.{commitRefusal}
 use Rattle.residues.specs.Lists.{filled}
 use Rattle.prover_refusals.proofs.Given.{commit-key}
-use Rattle.products.specs.Sums.{innerElement, RowsGiven}
-use Rattle.products.specs.Rowwise.{rowPlaces}
+use Rattle.plain_products.specs.Sums.{innerElement, RowsGiven}
+use Rattle.plain_products.specs.Rowwise.{rowPlaces}
 use Rattle.prover.specs.Rowwise.{committed}
 use Rattle.prover.proofs.Values.{item-by-value, item-room, commit-rows-given, commitment-item}
 use Rattle.prover.proofs.Answers.{commit-refused, commit-done}

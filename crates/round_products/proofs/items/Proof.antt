@@ -7,8 +7,8 @@ use Rattle.protocol.specs.Layout.{itemCells}
 use Rattle.protocol.specs.Opening.{inner}
 use Rattle.protocol.proofs.Inputs.{settings-valid}
 use Rattle.residues.specs.Lists.{filled}
-use Rattle.products.specs.Sums.{messagesOf, keysOf, RowsGiven}
-use Rattle.products.proofs.Rows.{given-degree}
+use Rattle.plain_products.specs.Sums.{messagesOf, keysOf, RowsGiven}
+use Rattle.plain_products.proofs.Rows.{known}
 use Rattle.round_products.specs.Sums.{half, Halvables}
 use Rattle.round_products.proofs.Itemwise.{written-halvable, written-times}
 use borrow.Author.Needs.{needs}
@@ -24,7 +24,7 @@ returns c = λ G z.
     let given = z .0 .rows in
     let ok = settings-valid S (z .0 .allowed) in
     let pq : 0 < q = omega (arith, ok .modulus-least) in
-    let pd : 0 < d = given-degree (a .sums) _ _ _ _ _ (given .given 0 (given .some)) in
+    let pd : 0 < d = known (a .sums) _ _ _ _ _ (given .given 0 (given .some)) .degree in
     let F : ℕ → Element = λ r. inner d (a .h) (messagesOf (a .sums) d (a .h) (a .message .now)) (keysOf (a .sums) q d (a .h) (G r)) in
     let cells = (c .before .before .before .before .before .before .before .before .before .cells) .ensures (z .0 .allowed) in
     let n = (c .before .before .before .before .item-cells) .ensures .0 (z .0 .allowed) in

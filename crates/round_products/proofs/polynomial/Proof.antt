@@ -8,7 +8,7 @@ use Rattle.protocol.specs.Layout.{itemCells}
 use Rattle.protocol.specs.Opening.{halfLeft}
 use Rattle.protocol.specs.Rows.{keyRow}
 use Rattle.residues.specs.Lists.{filled}
-use Rattle.products.specs.Rowwise.{rowPlaces}
+use Rattle.plain_products.specs.Rowwise.{rowPlaces}
 use Rattle.round_products.specs.Items.{innerItem, ItemsGiven}
 use Rattle.round_products.proofs.Rowwise.{tail}
 use Rattle.round_products.proofs.Itemwise.{allowed, turn, half-inside, first-given, second-given, sum-given, first-item, last-item, sum-item, three-below, middle-item}

@@ -1,7 +1,7 @@
 -- The loop keeps: if the rows before `done` were added at the start, the first j rows are added.
 use mathlib.Core.Path.{_≡_, sym, ap, _∙_}
 use mathlib.Core.List.{List}
-use Prim.Native.Nat.{ℕ, _-_, _≤_}
+use Prim.Native.Nat.{ℕ, _*_, _-_, _≤_}
 use native.Mathlib.Numerals.{add-one}
 use native.Mathlib.Omega.{arith}
 use lib.IntN.{ℤ, pos, natAbs}
@@ -10,16 +10,16 @@ use mir.Syntax.{w32}
 use mir.Val.{toZ, ofZ}
 use Rattle.rows.specs.Rows.{narrowed, start, addRow, addRows}
 use Rattle.ranges.proofs.Magnitude.{through-bits}
-use Rattle.rows.proofs.Rows.{start-most}
+use Rattle.rows.proofs.Rows.{cells-most, start-inside}
 use borrow.Author.Needs.{needs}
 use Rattle.rows.proofs.add_rest.Statement.{statement}
 use Rattle.rows.proofs.add_rest.Tie as tie
 
 abbrev Inv-loop : tie.InvT-loop
-Inv-loop d done f x sums₀ j₀ sums j = (j ≤ d) × ((s : List ℕ) → sums₀ ≡ addRows d f (narrowed x) done s → sums ≡ addRows d f (narrowed x) j s) × (length sums ≡ length sums₀)
+Inv-loop strands d done f x sums₀ j₀ sums j = (j ≤ d) × ((s : List ℕ) → sums₀ ≡ addRows strands d f (narrowed x) done s → sums ≡ addRows strands d f (narrowed x) j s) × (length sums ≡ length sums₀)
 
 abbrev μ-loop : tie.MeasureT-loop
-μ-loop d done f x sums₀ j₀ sums j = d - j
+μ-loop strands d done f x sums₀ j₀ sums j = d - j
 
 -- the coefficient that the turn looks at
 abbrev coefficient : tie.In-loop Inv-loop μ-loop → ℤ
@@ -29,10 +29,12 @@ value : (c : tie.After-c Inv-loop μ-loop) → toZ w32 (ofZ w32 (coefficient (c 
 value c = through-bits w32 (coefficient (c .before)) (c .c .given)
 
 begins : (c : tie.After-row-start Inv-loop μ-loop) → let l = c .before .before .before in
-    c .row-start .result ≡ start (l .before .before .before .before .args .d) (coefficient l) (l .before .loop .j)
+    let a = l .before .before .before .before .args in
+    c .row-start .result ≡ start (a .d) (coefficient l) (l .before .loop .j) * a .strands
 begins c =
     let l = c .before .before .before in
-    c .row-start .ensures ∙ ap (λ z. start (l .before .before .before .before .args .d) z (l .before .loop .j)) (value (c .before .before))
+    let a = l .before .before .before .before .args in
+    c .row-start .ensures ∙ ap (λ z. start (a .d) z (l .before .loop .j) * a .strands) (value (c .before .before))
 
 loop-holds : tie.Need-loop-holds Inv-loop μ-loop
 loop-holds c = (omega arith, λ s e. e, search needs)
@@ -40,7 +42,8 @@ loop-holds c = (omega arith, λ s e. e, search needs)
 add-row-requires : tie.Need-add-row-requires Inv-loop μ-loop
 add-row-requires c κs =
     let l = c .before .before .before .before in
-    omega (arith, begins (c .before), start-most (l .before .before .before .before .args .d) (l .before .loop .j) (coefficient l))
+    let a = l .before .before .before .before .args in
+    omega (arith, begins (c .before), start-inside (a .strands) (a .d) (l .before .loop .j) (coefficient l))
 
 loop-again : tie.Need-loop-again Inv-loop μ-loop
 unfolding addRows
@@ -52,18 +55,21 @@ loop-again c =
       omega arith,
       λ r e.
           c .before .before .add-row .ensures
-          ∙ (λ i. addRow (a .d) ((s .before .magnitude .ensures ∙ ap natAbs (value (s .before .before))) i) (begins s i) (narrowed (a .x .now)) (k .inv .1 r e i))
-          ∙ ap (λ n. addRows (a .d) (a .f .now) (narrowed (a .x .now)) n r) (sym (add-one (k .j))),
+          ∙ (λ i. addRow (a .d * a .strands) ((s .before .magnitude .ensures ∙ ap natAbs (value (s .before .before))) i) (begins s i) (narrowed (a .x .now)) (k .inv .1 r e i))
+          ∙ ap (λ n. addRows (a .strands) (a .d) (a .f .now) (narrowed (a .x .now)) n r) (sym (add-one (k .j))),
       c .before .before .add-row .kept .1 .1 .1 .1 .0 ∙ k .inv .2,
     )
 
 returns : tie.Need-returns Inv-loop μ-loop
 returns c =
     let a = c .before .before .before .before .args in
-    λ s e. c .before .loop .inv .1 s e ∙ ap (λ n. addRows (a .d) (a .f .now) (narrowed (a .x .now)) n s) (omega arith)
+    λ s e. c .before .loop .inv .1 s e ∙ ap (λ n. addRows (a .strands) (a .d) (a .f .now) (narrowed (a .x .now)) n s) (omega arith)
+
+mul-add-row : tie.Need-mul-add-row Inv-loop μ-loop
+mul-add-row c = let ok = c .before .before .before .before .before .pre .0 in omega (arith, cells-most _ _ (ok .strands) (ok .degree))
 
 pub add-rest-spec : {M : Type 1} → statement M
 add-rest-spec =
     tie.close
-    (tie.spec Inv-loop μ-loop loop-holds (λ c. search needs) (λ c. search needs) (λ c κs. search needs) (λ c κs. search needs) add-row-requires
+    (tie.spec Inv-loop μ-loop loop-holds (λ c. search needs) (λ c. search needs) mul-add-row (λ c κs. search needs) (λ c κs. search needs) add-row-requires
     (λ c. search needs) (λ c. search needs) loop-again (λ c. search needs) returns)

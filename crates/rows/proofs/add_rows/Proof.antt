@@ -10,10 +10,10 @@ use Rattle.rows.proofs.add_rows.Statement.{statement}
 use Rattle.rows.proofs.add_rows.Tie as tie
 
 abbrev Inv-loop : tie.InvT-loop
-Inv-loop d f x sums₀ j₀ sums j = (j ≤ d) × (sums ≡ addRows d f (narrowed x) j sums₀) × (length sums ≡ length sums₀)
+Inv-loop strands d f x sums₀ j₀ sums j = (j ≤ d) × (sums ≡ addRows strands d f (narrowed x) j sums₀) × (length sums ≡ length sums₀)
 
 abbrev μ-loop : tie.MeasureT-loop
-μ-loop d f x sums₀ j₀ sums j = d - j
+μ-loop strands d f x sums₀ j₀ sums j = d - j
 
 loop-holds : tie.Need-loop-holds Inv-loop μ-loop
 unfolding addRows
@@ -24,8 +24,8 @@ loop-again c =
     let l = c .before .before .before .before .before .loop in
     let a = c .before .before .before .before .before .before .before .before .args in (
       omega arith,
-      c .before .before .add-block .ensures ∙ ap (addFour (a .d) (a .f .now) (narrowed (a .x .now)) (l .j)) (l .inv .1) ∙ four-more (a .d) (a .f .now) (narrowed (a .x .now)) (l .j) (a .sums .now),
-      c .before .before .add-block .kept .1 .1 .1 .1 .0 ∙ l .inv .2,
+      c .before .before .add-block .ensures ∙ ap (addFour (a .strands) (a .d) (a .f .now) (narrowed (a .x .now)) (l .j)) (l .inv .1) ∙ four-more (a .strands) (a .d) (a .f .now) (narrowed (a .x .now)) (l .j) (a .sums .now),
+      c .before .before .add-block .kept .1 .1 .1 .1 .1 .0 ∙ l .inv .2,
     )
 
 returns : tie.Need-returns Inv-loop μ-loop

@@ -1,4 +1,5 @@
 use native.Mathlib.Omega.{arith}
+use Rattle.protocol.specs.Element.{residue}
 use Rattle.rows.proofs.Extension.{front-prepared}
 use borrow.Author.Needs.{needs}
 use Rattle.rows.proofs.prepare.Statement.{statement}
@@ -19,7 +20,7 @@ returns-4 c = λ g. absurd (omega arith)
 returns-5 : tie.Need-returns-5
 returns-5 c = λ g.
     let a = c .before .before .before .before .before .before .before .before .before .before .args in
-    front-prepared (a .q) (a .d) (g .modulus) (g .degree) (a .a .now) (a .x .now) _ (g .places) (c .before .before .write-rows .ensures)
+    front-prepared (a .q) (a .d) (g .modulus) (g .degree) (residue (a .a .now)) (a .x .now) _ (g .places) (c .before .before .write-rows .ensures)
 
 pub prepare-spec : {M : Type 1} → statement M
 prepare-spec =

@@ -16,13 +16,13 @@ abbrev μ-loop : tie.MeasureT-loop
 μ-loop joint d s t a₀ k₀ a k = d - k
 
 returns : tie.Need-returns Inv-loop μ-loop
-returns c = λ q F g. absurd (omega (arith, g .1 .degree))
+returns c = λ q F g. absurd (omega arith)
 
 returns-2 : tie.Need-returns-2 Inv-loop μ-loop
-returns-2 c = λ q F g. absurd (omega (arith, g .1 .lowers))
+returns-2 c = λ q F g. absurd (omega (arith, g .2 .lowers))
 
 returns-3 : tie.Need-returns-3 Inv-loop μ-loop
-returns-3 c = λ q F g. absurd (omega (arith, g .1 .uppers))
+returns-3 c = λ q F g. absurd (omega (arith, g .2 .uppers))
 
 loop-holds : tie.Need-loop-holds Inv-loop μ-loop
 loop-holds c = (omega arith, omega arith, λ q F R S. fill-none width _)
@@ -37,7 +37,7 @@ loop-again c =
 
 returns-4 : tie.Need-returns-4 Inv-loop μ-loop
 unfolding reduced
-returns-4 c = λ q F g. let l = c .before .loop in element-done _ (l .k) _ (l .a) (l .inv .2 q F (g .0) (g .1)) (omega arith)
+returns-4 c = λ q F g. let l = c .before .loop in element-done _ (l .k) _ (l .a) (l .inv .2 q F (g .0) (g .2)) (omega arith)
 
 pub join-all-spec : {M : Type 1} → statement M
 join-all-spec =

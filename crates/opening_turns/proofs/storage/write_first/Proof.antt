@@ -5,8 +5,8 @@ use Rattle.protocol.specs.Calls.{roundRefusal}
 use Rattle.prover_refusals.proofs.Given.{first-row, round-given, round-key}
 use Rattle.residues.specs.Lists.{spliced}
 use Rattle.residues.proofs.Parts.{tail-length}
-use Rattle.products.specs.Rowwise.{rowPlaces}
-use Rattle.products.proofs.Rowwise.{put-first}
+use Rattle.plain_products.specs.Rowwise.{rowPlaces}
+use Rattle.plain_products.proofs.Rowwise.{put-first}
 use Rattle.opening_rounds.specs.Rounds.{roundItem}
 use borrow.Author.Needs.{needs}
 use Rattle.opening_turns.proofs.storage.write_first.Statement.{statement}

@@ -6,7 +6,7 @@ use Rattle.protocol.specs.Layout.{itemCells, polynomialAt}
 use Rattle.prover_refusals.proofs.Given.{first-row, round-given, round-key}
 use Rattle.residues.specs.Lists.{spliced}
 use Rattle.residues.proofs.Parts.{tail-all}
-use Rattle.products.specs.Rowwise.{rowPlaces}
+use Rattle.plain_products.specs.Rowwise.{rowPlaces}
 use Rattle.opening_rounds.specs.Rounds.{roundItem, Continuing}
 use Rattle.opening_turns.specs.Turns.{restStored}
 use Rattle.opening_turns.proofs.Storing.{item-positive, put-rest}

@@ -1,0 +1,5 @@
+pub mod Standing
+pub mod SumsOfHalves
+pub mod Ends
+pub mod Rowwise
+pub mod Rows
