@@ -39,7 +39,7 @@ module _ (q c d : ℕ) (p : 0 < q) (most : q ≤ 2 ^ 61) (f : List ℤ) (x : ℕ
   rows-halves z b s t H zero small = rw (+ℤ-idr z, Nat.zero-mul (m * weight), Nat.add-zero b) H
   rows-halves z b s t H (suc n) small =
       let size = natAbs (getD f n (pos 0)) in
-      let at = start d (getD f n (pos 0)) n * c in
+      let at = start (d * c) (getD f n (pos 0)) (n * c) in
       let before = rows-halves z b s t H n (λ j l. small j (omega arith)) in
       let next = row-halves _ _ size at (addRows c d f lowers n s) (addRows c d f uppers n t) (small n (omega arith)) before in
       rw (Nat.suc-mul n (m * weight), ← Nat.add-assoc b (n * (m * weight)) (m * weight)) (rw (+ℤ-assoc z (pos (total n (term c d f x k))) (pos (size * x (at + k)))) at next)

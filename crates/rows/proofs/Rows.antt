@@ -98,8 +98,10 @@ four-more c d f x j s =
 pub cells-most : (c d : ℕ) → c ≤ rowsMost → d ≤ width → d * c ≤ rowsWidth
 cells-most c d few most = omega (arith, Nat.mul-le-mul {n₂ = width} {m₂ = rowsMost} most few)
 
-pub start-inside : (c d j : ℕ) (z : ℤ) → start d z j * c ≤ d * c + d * c
-start-inside c d j z = omega (arith, Nat.mul-le-mul-right c (start-most d j z), Nat.add-mul d d c)
+pub start-strand : (c d j : ℕ) → j ≤ d → (z : ℤ) → start (d * c) z (j * c) ≡ start d z j * c
+unfolding start
+start-strand c d j l (pos n) = omega (arith, Nat.add-mul (d + d - j) j c, ap (λ m. m * c) {x = d + d - j + j} {y = d + d} (omega arith), Nat.add-mul d d c)
+start-strand c d j l (negsuc n) = omega (arith, Nat.add-mul (d - j) j c, ap (λ m. m * c) {x = d - j + j} {y = d} (omega arith))
 
 -- a product reads the places below 3d of each strand alone
 module _ (c d : ℕ) (f : List ℤ) (x x′ : ℕ → ℕ) (e : (y : ℕ) → y < 3 * (d * c) → x y ≡ x′ y) where
@@ -110,4 +112,4 @@ module _ (c d : ℕ) (f : List ℤ) (x x′ : ℕ → ℕ) (e : (y : ℕ) → y 
   pub rows-front : (n : ℕ) (s : List ℕ) → addRows c d f x n s ≡ addRows c d f x′ n s
   unfolding addRows
   rows-front zero s = refl
-  rows-front (suc n) s = row-front _ _ (addRows c d f x n s) (start-inside c d n (getD f n (pos 0))) ∙ ap (nextRow c d f x′ n) (rows-front n s)
+  rows-front (suc n) s = row-front _ _ (addRows c d f x n s) (start-most (d * c) (n * c) (getD f n (pos 0))) ∙ ap (nextRow c d f x′ n) (rows-front n s)

@@ -12,6 +12,7 @@ use Rattle.protocol.proofs.Modulo.{modulo-add, modulo-times}
 use Rattle.residues.proofs.Around.{around-next, rotate-at}
 use Rattle.rows.specs.Rows.{strand, turned, start, total, term}
 use Rattle.rows.proofs.Extension.{strand-around}
+use Rattle.rows.proofs.Rows.{start-strand}
 
 -- ---- sums of natural numbers
 
@@ -54,4 +55,5 @@ module _ (q c d : ℕ) (p : 0 < q) (pd : 0 < d) (a : Element) (r k : ℕ) (lr : 
   pub added-residue : total d (term c d f (turned q (d * c) a) (k * c + r)) % q ≡ modulo q (product d (signed f) (strand c r a) k)
   unfolding term product signed
   added-residue = total-residue q p d _ _ (λ j l.
-      ap (λ y. natAbs (getD f j (pos 0)) * y % q) (strand-turned (start d (getD f j (pos 0)) j)) ∙ by-sign q d p pd (strand c r a) k lk j l (getD f j (pos 0)))
+      ap (λ y. natAbs (getD f j (pos 0)) * turned q (d * c) a (y + (k * c + r)) % q) (start-strand c d j (omega arith) (getD f j (pos 0)))
+      ∙ ap (λ y. natAbs (getD f j (pos 0)) * y % q) (strand-turned (start d (getD f j (pos 0)) j)) ∙ by-sign q d p pd (strand c r a) k lk j l (getD f j (pos 0)))

@@ -44,7 +44,7 @@ unfoldable pub addRow : ℕ → ℕ → ℕ → (ℕ → ℕ) → List ℕ → L
 addRow d m at x s = tabulate d (λ k. (getD s k 0 + m * x (at + k)) % 2 ^ 64) ++ drop d s
 
 abbrev pub nextRow : ℕ → ℕ → List ℤ → (ℕ → ℕ) → ℕ → List ℕ → List ℕ
-nextRow c d f x j s = addRow (d * c) (natAbs (getD f j (pos 0))) (start d (getD f j (pos 0)) j * c) x s
+nextRow c d f x j s = addRow (d * c) (natAbs (getD f j (pos 0))) (start (d * c) (getD f j (pos 0)) (j * c)) x s
 
 unfoldable pub addRows : ℕ → ℕ → List ℤ → (ℕ → ℕ) → ℕ → List ℕ → List ℕ
 addRows c d f x zero s = s
@@ -58,10 +58,11 @@ total zero f = 0
 total (suc n) f = total n f + f n
 
 unfoldable pub term : ℕ → ℕ → List ℤ → (ℕ → ℕ) → ℕ → ℕ → ℕ
-term c d f x p j = natAbs (getD f j (pos 0)) * x (start d (getD f j (pos 0)) j * c + p)
+term c d f x p j = natAbs (getD f j (pos 0)) * x (start (d * c) (getD f j (pos 0)) (j * c) + p)
 
 -- f has d coefficients, x has room for a prepared element of c strands, and there are so many sums
 pub record Rows (c d f x s : ℕ) : Type 0 where
+  pub some : 0 < c
   pub strands : c ≤ rowsMost
   pub degree : d ≤ width
   pub coefficients : d ≤ f

@@ -116,15 +116,15 @@ fn add_four(
     }
 }
 
-// Where the row of coefficient j begins: a negative one takes the row d places before, in each strand, which has the other sign.
-fn row_start(strands: usize, d: usize, c: i32, j: usize) -> usize
-    requires { ⌜ (strands ≤ rowsMost) × (d ≤ width) × (j < d) ⌝ }
-    ensures { λ r. ⌜ r ≡ start d c j * strands ⌝ }
+// Where the row of a coefficient begins, `at` being its place in a strand times their number: a negative one takes the row n places before, which has the other sign.
+fn row_start(n: usize, c: i32, at: usize) -> usize
+    requires { ⌜ (n ≤ rowsWidth) × (at < n) ⌝ }
+    ensures { λ r. ⌜ r ≡ start n c at ⌝ }
 {
     if c < 0 {
-        return (d - j) * strands;
+        return n - at;
     }
-    (d + d - j) * strands
+    n + n - at
 }
 
 // The rows of the four coefficients from coefficient j on, in all strands.
@@ -132,20 +132,25 @@ fn add_block(strands: usize, d: usize, j: usize, f: &[i32], x: &[u64], sums: &mu
     requires { ⌜ Rows strands d (length (now f)) (length (now x)) (length (now sums)) × (j + 4 ≤ d) ⌝ }
     ensures { λ _. ⌜ now (sums .exit) ≡ addFour strands d (now (f .entry)) (narrowed (now (x .entry))) j (now (sums .entry)) ⌝ }
 {
+    let n = d * strands;
+    let at0 = j * strands;
+    let at1 = at0 + strands;
+    let at2 = at1 + strands;
+    let at3 = at2 + strands;
     let c0 = f[j];
     let c1 = f[j + 1];
     let c2 = f[j + 2];
     let c3 = f[j + 3];
     add_four(
-        d * strands,
+        n,
         tests::magnitude(c0),
-        row_start(strands, d, c0, j),
+        row_start(n, c0, at0),
         tests::magnitude(c1),
-        row_start(strands, d, c1, j + 1),
+        row_start(n, c1, at1),
         tests::magnitude(c2),
-        row_start(strands, d, c2, j + 2),
+        row_start(n, c2, at2),
         tests::magnitude(c3),
-        row_start(strands, d, c3, j + 3),
+        row_start(n, c3, at3),
         x,
         sums,
     );
@@ -160,13 +165,9 @@ fn add_rest(strands: usize, d: usize, done: usize, f: &[i32], x: &[u64], sums: &
     let mut j: usize = done;
     while j < d {
         let c = f[j];
-        add_row(
-            d * strands,
-            tests::magnitude(c),
-            row_start(strands, d, c, j),
-            x,
-            sums,
-        );
+        let n = d * strands;
+        let at = j * strands;
+        add_row(n, tests::magnitude(c), row_start(n, c, at), x, sums);
         j += 1;
     }
 }
@@ -185,13 +186,15 @@ fn add_rows(strands: usize, d: usize, f: &[i32], x: &[u64], sums: &mut [u64])
 }
 
 // Adds the rows of f, x being what they read, modulo 2^32: in each strand the product of f with the strand of the element that is prepared at the front of x.
-// That one strand stands here as a number lets the compiler take its rows without a product for each place.
 pub fn add_product(strands: u32, d: u32, f: &[i32], x: &[u64], sums: &mut [u64])
     ensures { λ _. ⌜ Provided (Rows strands d (length (now (f .entry))) (length (now (x .entry))) (length (now (sums .entry))))
         (now (sums .exit) ≡ addRows strands d (now (f .entry)) (narrowed (now (x .entry))) d (now (sums .entry))) ⌝ }
 {
     let c = strands as usize;
     let n = d as usize;
+    if c == 0 {
+        return;
+    }
     if c > ROWS {
         return;
     }
@@ -205,10 +208,6 @@ pub fn add_product(strands: u32, d: u32, f: &[i32], x: &[u64], sums: &mut [u64])
         return;
     }
     if sums.len() < n * c {
-        return;
-    }
-    if c == 1 {
-        add_rows(1, n, f, x, sums);
         return;
     }
     add_rows(c, n, f, x, sums);

@@ -13,7 +13,7 @@ returns c = λ F G count m z.
     let a = s .args in
     let ok = z .0 in
     lower-stand (a .q) (a .strands) (a .d) m (a .f .now) _ _ ok F G count (a .x .now) (a .s .now) (a .t .now) (z .1) (z .2) (omega arith) _
-    (c .before .before .before .add-product .ensures (record { strands = ok .strands; degree = ok .degree-most; coefficients = ok .long; residues = z .1 .places; sums = ok .lowers }))
+    (c .before .before .before .add-product .ensures (record { some = ok .some; strands = ok .strands; degree = ok .degree-most; coefficients = ok .long; residues = z .1 .places; sums = ok .lowers }))
 
 mul-upper-halves : tie.Need-mul-upper-halves
 mul-upper-halves c = let s = c .before .before .before .before .before .before .before .before .before in omega (arith, cells-most (s .args .strands) (s .args .d) (s .pre .1) (s .pre .0))
@@ -29,8 +29,8 @@ returns-2 c = λ F G count m z.
     let ok = z .0 in
     both-stand (a .q) (a .strands) (a .d) m (a .f .now) _ _ ok F G count (a .x .now) (a .s .now) (a .t .now) (z .1) (z .2) _ _ _
     (c .before .before .before .before .before .before .before .upper-halves .ensures (z .1 .places))
-    (c .before .before .before .before .before .before .before .before .before .before .before .before .add-product .ensures (record { strands = ok .strands; degree = ok .degree-most; coefficients = ok .long; residues = z .1 .places; sums = ok .lowers }))
-    (c .before .before .add-product2 .ensures (record { strands = ok .strands; degree = ok .degree-most; coefficients = ok .long; residues = omega (arith, z .1 .places); sums = ok .uppers }))
+    (c .before .before .before .before .before .before .before .before .before .before .before .before .add-product .ensures (record { some = ok .some; strands = ok .strands; degree = ok .degree-most; coefficients = ok .long; residues = z .1 .places; sums = ok .lowers }))
+    (c .before .before .add-product2 .ensures (record { some = ok .some; strands = ok .strands; degree = ok .degree-most; coefficients = ok .long; residues = omega (arith, z .1 .places); sums = ok .uppers }))
 
 pub add-prepared-spec : {M : Type 1} → statement M
 add-prepared-spec =
