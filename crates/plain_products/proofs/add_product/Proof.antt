@@ -1,6 +1,7 @@
 use mathlib.Core.Path.{_≡_, sym, subst}
 use mathlib.Core.List.{List}
 use Prim.Native.Nat.{ℕ, _*_}
+use native.Mathlib.Nat as Nat
 use native.Mathlib.Omega.{arith}
 use borrow.Author.Tests.{ltb-true}
 use lib.IntN.{ℤ, pos}
@@ -35,7 +36,7 @@ returns-2 c = λ z g.
     let s = c .before .before .before .before .before .before .before .before .before .before .before .before .before .before .before .before .before .before .before in
     let a = s .args in
     let e = z .elements in
-    let ready = c .before .before .before .before .before .before .before .before .before .before .before .before .prepare .ensures (record { modulus = e .modulus; degree = e .degree; degree-most = omega (arith, e .degree-most); coefficients = s .pre .2; places = g .0 }) in
+    let ready = c .before .before .before .before .before .before .before .before .before .before .before .before .prepare .ensures (record { degree = e .degree; degree-most = omega (arith, e .degree-most); coefficients = s .pre .2; residues = record { each = λ j l. z .residues j (omega (arith, Nat.one-mul (a .d))) }; places = g .0 }) in
     one-done (a .q) (a .d) (a .f .now) (a .g .now) z _ _
     (c .before .before .before .before .before .before .add-prepared .ensures (λ _ _. pos 0) (λ _. residue (a .g .now)) 0 (z .magnitude) (
       one-addable (a .q) (a .d) (a .f .now) (a .g .now) z _ _ (s .pre .1) (s .pre .3) (g .1),

@@ -4,7 +4,7 @@ use native.Mathlib.Nat as Nat
 use native.Mathlib.Omega.{arith}
 use Rattle.half_sums.specs.Halves.{keysOf}
 use Rattle.rows.proofs.Rows.{cells-most}
-use Rattle.strands.proofs.Weaving.{all-woven, first-given, one-row}
+use Rattle.strands.proofs.Weaving.{all-woven, woven-below, keys-below, first-given, one-row}
 use borrow.Author.Needs.{needs}
 use Rattle.strands.proofs.prepare.Statement.{statement}
 use Rattle.strands.proofs.prepare.Tie as tie
@@ -39,12 +39,15 @@ returns-6 c = λ G z.
     let s = c .before .before .before .before .before .before .before .before .before .before .before .before .before .before .before .before .before .before .before .before .before in
     let a = s .args in
     let first = z .0 .given 0 (z .0 .some) in
-    all-woven (a .q) (a .rows) (a .d) (z .0 .some) (first .degree) (λ r. keysOf (a .sums) (a .q) (a .d) (a .n) (G r) (a .i)) _ _ (c .before .before .before .before .before .before .before .before .before .weave-keys .ensures G (z .0, z .2))
+    let keys = c .before .before .before .before .before .before .before .before .before .weave-keys in
+    let strands = keys .ensures G (z .0, z .2) in
+    all-woven (a .rows) (a .d) (z .0 .some) (λ r. keysOf (a .sums) (a .q) (a .d) (a .n) (G r) (a .i)) _ strands (a .q) (first .degree) _
     (c .before .before .prepare .ensures record {
-      modulus = first .modulus;
       degree = Nat.mul-pos (first .degree) (z .0 .some);
       degree-most = cells-most (a .rows) (a .d) (z .0 .most) (first .degree-most);
-      coefficients = omega (arith, z .3, c .before .before .before .before .before .before .before .before .before .weave-keys .kept .1 .1 .1 .1 .1 .1 .1 .1 .1 .0);
+      coefficients = omega (arith, z .3, keys .kept .1 .1 .1 .1 .1 .1 .1 .1 .1 .0);
+      residues = woven-below (a .rows) (a .d) (z .0 .some) (λ r. keysOf (a .sums) (a .q) (a .d) (a .n) (G r) (a .i)) _ strands (a .q)
+          (λ r j v lr lj. keys-below (a .sums) (a .q) (a .d) (a .n) (a .i) j (G r) (z .0 .given r lr) (z .1) lj v);
       places = z .4;
     })
 
