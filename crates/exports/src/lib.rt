@@ -60,12 +60,10 @@ pub extern "C" fn wovenrock_commit(
     if refusal != 0 {
         return refusal;
     }
-    let committed = prover::commit(s, key, message);
-    if committed.refusal != 0 {
-        return committed.refusal;
+    let committed = prover::commit_to(s, key, message, commitment);
+    if committed != 0 {
+        return committed;
     }
-    let element = committed.commitment;
-    slices::store_residues(s, element, commitment);
     0
 }
 
