@@ -1,6 +1,6 @@
 // The vectors of a tree's nodes, over whole numbers: flat lists of elements, d numbers each.
-use crate::elements::add_spread;
-use crate::elements::spread;
+use crate::elements::add_rotated;
+use crate::elements::store;
 use crate::elements::weigh;
 use protocol::Settings;
 use protocol::WIDTH;
@@ -16,12 +16,9 @@ ghost use Rattle.extraction.specs.Vectors.{scaled, Scalable, turned, Tur
 ghost use Rattle.protocol.specs.Nodes.{AtNode};
 ghost use Rattle.extraction.specs.Nodes.{Extractable};
 
-// Room for an element that is spread over three times as many places.
-const SPREAD: usize = 3 * WIDTH;
-
-// Multiplies each of the first n elements of v by X^(2a)·μ, from the exponents that μ's quotients and sum go by; x is room for one spread element.
+// Multiplies each of the first n elements of v by X^(2a)·μ, from the exponents that μ's quotients and sum go by; x is room for one element.
 fn scale(d: usize, n: usize, k: usize, m: usize, e: usize, v: &mut [i64], x: &mut [i64])
-    requires { ⌜ (3 * d ≤ length (now x)) × Scalable d n k m e (now v) ⌝ }
+    requires { ⌜ (d ≤ length (now x)) × Scalable d n k m e (now v) ⌝ }
     ensures { λ _. ⌜ now (v .exit) ≡ scaled d n k m e (now (v .entry)) ⌝ }
 {
     for i in 0..n {
@@ -30,19 +27,19 @@ fn scale(d: usize, n: usize, k: usize, m: usize, e: usize, v: &mut [i64], x: &mu
     }
 }
 
-// Adds X^e times each of the first n elements to the n behind them, and X^f times each to the n behind those. Each is spread once; x is room for that.
+// Adds X^e times each of the first n elements to the n behind them, and X^f times each to the n behind those. x is room for a copy of one.
 fn add_turned(d: usize, n: usize, e: usize, f: usize, l: &mut [i64], x: &mut [i64])
-    requires { ⌜ (3 * d ≤ length (now x)) × Turnable d n e f (now l) ⌝ }
+    requires { ⌜ (d ≤ length (now x)) × Turnable d n e f (now l) ⌝ }
     ensures { λ _. ⌜ now (l .exit) ≡ turned d n e f n (now (l .entry)) ⌝ }
 {
     let cells = n * d;
     for i in 0..n {
         let at = i * d;
-        spread(d, &l[at..], x);
+        store(d, &l[at..], x);
         let low = cells + at;
-        add_spread(d, e, x, &mut l[low..]);
+        add_rotated(d, e, x, &mut l[low..]);
         let high = cells + low;
-        add_spread(d, f, x, &mut l[high..]);
+        add_rotated(d, f, x, &mut l[high..]);
     }
 }
 
@@ -57,7 +54,7 @@ fn add_share(d: usize, n: usize, a: usize, b: usize, c: usize, l: &mut [i64])
     let m = on_circle(d, c + back);
     let e = on_circle(d, b + c);
     let cells = n * d;
-    let mut x = [0i64; SPREAD];
+    let mut x = [0i64; WIDTH];
     scale(d, n, k, m, e, &mut l[..cells], &mut x);
     let once = on_circle(d, back);
     let twice = on_circle(d, 2 * once);

@@ -1,28 +1,24 @@
--- The rotation is read from the spread element.
+-- The rotation is that of a copy.
 use mathlib.Core.Path.{_∙_}
-use native.Mathlib.Omega.{arith}
 use borrow.Author.Needs.{needs}
-use Rattle.extraction.proofs.Sums.{spreadable, addable, spread-rotated}
+use Rattle.extraction.proofs.Sums.{copy-summable, copy-rotated}
 use Rattle.extraction.proofs.elements.add_own.Statement.{statement}
 use Rattle.extraction.proofs.elements.add_own.Tie as tie
 
-spread-requires : tie.Need-spread-requires
-spread-requires c κs = let g = c .before .before in spreadable (g .args .d) (g .args .a .now) (g .args .a .now) (g .pre .4) _ (g .pre .3)
+store-requires : tie.Need-store-requires
+store-requires c κs = let g = c .before .before in (g .pre .4 .long, g .pre .3)
 
-add-spread-requires : tie.Need-add-spread-requires
-add-spread-requires c κs =
-    let g = c .before .before .before .before .before .before in let s = c .before .before .before .spread in (
-      g .pre .1,
-      omega (arith, g .pre .2),
-      addable (g .args .d) (g .args .a .now) (g .args .a .now) (g .pre .4) _ (omega (arith, g .pre .3, s .kept .1 .1 .0)) (g .pre .0) (g .args .e) (g .pre .2) (s .ensures),
-    )
+add-rotated-requires : tie.Need-add-rotated-requires
+add-rotated-requires c κs =
+    let g = c .before .before .before .before .before .before in let a = g .args in
+    (g .pre .0, g .pre .1, g .pre .2, copy-summable (a .d) (g .pre .0) (a .a .now) (a .x .now) (g .pre .4) (g .pre .3) (c .before .before .before .store .ensures))
 
 returns : tie.Need-returns
 returns c =
-    let g = c .before .before .before .before .before .before .before .before in let s = c .before .before .before .before .before .spread in
-    c .before .add-spread .ensures
-    ∙ spread-rotated (g .args .d) (g .args .a .now) (g .args .a .now) (g .pre .4) _ (omega (arith, g .pre .3, s .kept .1 .1 .0)) (g .pre .0) (g .args .e) (g .pre .2) (s .ensures)
+    let g = c .before .before .before .before .before .before .before .before in let a = g .args in
+    c .before .add-rotated .ensures
+    ∙ copy-rotated (a .d) (g .pre .0) (a .a .now) (a .x .now) (g .pre .4) (g .pre .3) (c .before .before .before .before .before .store .ensures) (a .e)
 
 pub add-own-spec : {M : Type 1} → statement M
 add-own-spec =
-    tie.close (tie.spec spread-requires add-spread-requires (λ c. search needs) (λ c. search needs) returns)
+    tie.close (tie.spec store-requires add-rotated-requires (λ c. search needs) (λ c. search needs) returns)

@@ -57,8 +57,8 @@ products c =
 abbrev whole : (c : tie.After-scale) → List ℤ
 whole c = c .scale .last .1 .1 .1 .1 .1 .0 ++ drop (at-scale c .args .n * at-scale c .args .d) (at-scale c .args .l .now)
 
--- the room for a spread element keeps its length
-room : (c : tie.After-scale) → 3 * at-scale c .args .d ≤ length (c .scale .last .1 .1 .1 .1 .1 .1 .0)
+-- the room for a copy of an element keeps its length
+room : (c : tie.After-scale) → at-scale c .args .d ≤ length (c .scale .last .1 .1 .1 .1 .1 .1 .0)
 room c = omega (arith, at-scale c .pre .small, c .scale .kept .1 .1 .1 .1 .1 .1 .0)
 
 mul-back : tie.Need-mul-back
