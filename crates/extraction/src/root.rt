@@ -2,6 +2,7 @@
 use crate::elements::store;
 use crate::vectors::node;
 use protocol::Settings;
+use protocol::WIDTH;
 ghost use mathlib.Core.Path.{_≡_};
 ghost use Prim.Native.Nat.{_*_};
 ghost use lib.ListN.{length};
@@ -20,7 +21,7 @@ fn workspace() -> [i64; WORKSPACE]
     [0i64; WORKSPACE]
 }
 
-// The nodes' vectors are worked out in a local list.
+// The nodes' vectors are worked out in a local list, with room for a copy of one element beside it.
 pub(crate) fn root(settings: Settings, challenges: &[u32], leaves: &[i32], w: &mut [i64])
     requires { ⌜ Extractable settings (now challenges) (now leaves) ⌝ }
     requires { ⌜ length (now w) ≡ cells settings ⌝ }
@@ -30,6 +31,7 @@ pub(crate) fn root(settings: Settings, challenges: &[u32], leaves: &[i32], w: &m
     let first = sizes::nodes(settings);
     let end = 2 * cells;
     let mut ws = workspace();
+    let mut room = [0i64; WIDTH];
     node(
         settings,
         settings.depth,
@@ -38,6 +40,7 @@ pub(crate) fn root(settings: Settings, challenges: &[u32], leaves: &[i32], w: &m
         challenges,
         leaves,
         &mut ws[..end],
+        &mut room,
     );
     store(cells, &ws[cells..], w);
 }
