@@ -1,28 +1,25 @@
--- Sums with rows of numbers, and with a rotation, which is two rows with different signs.
+-- Sums with rows of numbers, and with a rotation, which is a row of two copies with different signs.
 use mathlib.Core.Path.{_≡_, refl, sym, ap, _∙_, subst}
 use mathlib.Core.Bool.{Bool, true, false, not}
-use mathlib.Core.List.{List, _++_}
+use mathlib.Core.List.{List}
 use Prim.Native.Nat.{ℕ, _+_, _*_, _-_, _^_, _<_, _≤_}
 use native.Mathlib.Decide.{decLt}
 use native.Mathlib.Omega.{arith}
-use borrow.Rule.Slice.PartMut.{putMid}
 use lib.Dec.{ltb}
-use lib.ListN.{length, getD, take, drop, set, length-append, List·getD-append}
-use lib.Seq.{length-take-le, getD-take, getD-append-add}
-use lib.IntN.{ℤ, pos, natAbs, _+ℤ_}
+use lib.ListN.{length, getD, take, drop, set, length-drop}
+use lib.Seq.{getD-drop}
+use lib.IntN.{ℤ, pos, negℤ, negℤ-negℤ, natAbs, _+ℤ_}
 use Rattle.algebra.specs.Magnitude.{natAbs-add, natAbs-neg}
 use Rattle.protocol.specs.Element.{rotate, plus, signed}
 use Rattle.protocol.proofs.Agreement.{rotate-same}
-use Rattle.residues.specs.Lists.{spliced}
+use Rattle.claims.proofs.Bounds.{rotate-bounded}
 use Rattle.residues.specs.Places.{SecondRow}
 use Rattle.residues.specs.Residues as R
-use Rattle.residues.proofs.Fill.{filled, filled-at, filled-behind, filled-length, filled-ext, filled-turn}
+use Rattle.residues.proofs.Fill.{filled, filled-behind, filled-ext, filled-turn}
 use Rattle.residues.proofs.Parts.{tail-at, tail-length}
-use Rattle.residues.proofs.Splice.{spliced-known}
 use Rattle.residues.proofs.Turns.{front-turn, back-turn}
-use Rattle.extraction.specs.Bounds.{Summable}
-use Rattle.extraction.specs.Steps.{rowAdded, rotatedAdded}
-use Rattle.extraction.proofs.Splicing.{put-end}
+use Rattle.extraction.specs.Bounds.{Mirrorable, Summable}
+use Rattle.extraction.specs.Steps.{Mirrored, rowAdded, rotatedAdded}
 
 -- ---- a row
 
@@ -49,128 +46,82 @@ module _ (negative : Bool) (n : ℕ) (x l : List ℤ) (S : Summable n x l) (k : 
   pub row-turn : {r : ℤ} → r ≡ u +ℤ R.signed negative v → set m k r ≡ filled (sums negative x l) (k + 1) l
   row-turn h = filled-turn (sums negative x l) k l e (h ∙ both) (omega (arith, S .long-to))
 
--- ---- a rotation
+-- ---- a rotation: d numbers of x from place d − s on, with a sign
 
-module _ (d : ℕ) (x l : List ℤ) (S : Summable d x l) (e s : ℕ) (le : e < 2 * d) (part : s ≤ d) (row : SecondRow d e s) where
-  -- the row that comes first in the sum stands last in x
-  abbrev last : List ℤ
-  last = take (length x - (d - s)) (drop (d - s) x)
+signed-not : (b : Bool) (y : ℤ) → R.signed (not b) (negℤ y) ≡ R.signed b y
+unfolding R.signed
+signed-not true y = refl
+signed-not false y = negℤ-negℤ y
 
-  pub first-summable : Summable s last l
-  first-summable = record {
-    long = omega (arith, tail-length (d - s) x, S .long);
-    long-to = omega (arith, S .long-to);
-    bound = S .bound;
-    bound-to = S .bound-to;
-    within = λ k h. subst (λ z. natAbs z ≤ S .bound) (sym (tail-at (d - s) x k (pos 0))) (S .within (d - s + k) (omega arith));
-    within-to = λ k h. S .within-to k (omega arith);
-    room = S .room;
-  }
+module _ (d : ℕ) (p : 0 < d) (x l : List ℤ) (M : Mirrored d (drop d x) x) (S : Summable d (drop d x) l) (long : 2 * d ≤ length x)
+    (e s : ℕ) (le : e < 2 * d) (part : s ≤ d) (row : SecondRow d e s) where
+  abbrev window : List ℤ
+  window = take (length x - (d - s)) (drop (d - s) x)
 
-  module _ {m : List ℤ} (is-m : m ≡ rowAdded (ltb e d) s last l) where
-    m-length : length m ≡ length l
-    unfolding rowAdded
-    m-length = ap length is-m ∙ filled-length (sums (ltb e d) last l) s l (omega (arith, S .long-to))
-
-    m-front : (k : ℕ) → k < s → getD m k (pos 0) ≡ getD l k (pos 0) +ℤ rotate d e (signed x) k
-    unfolding rowAdded signed
-    m-front k h =
-        ap (λ t. getD t k (pos 0)) is-m
-        ∙ filled-at (sums (ltb e d) last l) s l (pos 0) k h
-        ∙ ap (λ z. getD l k (pos 0) +ℤ R.signed (ltb e d) z) (tail-at (d - s) x k (pos 0))
-        ∙ ap (λ z. getD l k (pos 0) +ℤ z) (front-turn d e s le row (signed x) k h)
-
-    m-behind : (k : ℕ) → s ≤ k → getD m k (pos 0) ≡ getD l k (pos 0)
-    unfolding rowAdded
-    m-behind k h = ap (λ t. getD t k (pos 0)) is-m ∙ filled-behind (sums (ltb e d) last l) s l (pos 0) k h
-
-    abbrev behind : List ℤ
-    behind = take (length m - s) (drop s m)
-
-    behind-at : (k : ℕ) → getD behind k (pos 0) ≡ getD l (s + k) (pos 0)
-    behind-at k = tail-at s m k (pos 0) ∙ m-behind (s + k) (omega arith)
-
-    pub last-summable : Summable (d - s) x behind
-    last-summable = record {
-      long = omega (arith, S .long);
-      long-to = omega (arith, tail-length s m, m-length, S .long-to);
-      bound = S .bound;
-      bound-to = S .bound-to;
-      within = λ k h. S .within k (omega arith);
-      within-to = λ k h. subst (λ z. natAbs z ≤ S .bound-to) (sym (behind-at k)) (S .within-to (s + k) (omega arith));
-      room = S .room;
-    }
-
-    module _ {q : List ℤ} (is-q : q ≡ rowAdded (not (ltb e d)) (d - s) x behind) where
-      abbrev out : List ℤ
-      out = putMid s (length m - s) m q
-
-      front-long : length (take s m) ≡ s
-      front-long = length-take-le s m (omega (arith, m-length, S .long-to))
-
-      q-length : length q ≡ length l - s
-      unfolding rowAdded
-      q-length =
-          ap length is-q ∙ filled-length (sums (not (ltb e d)) x behind) (d - s) behind (omega (arith, tail-length s m, m-length, S .long-to)) ∙ omega (arith, tail-length s m, m-length)
-
-      out-length : length out ≡ length l
-      out-length = ap length (put-end s m q) ∙ length-append (take s m) q ∙ omega (arith, front-long, q-length, S .long-to)
-
-      out-front : (k : ℕ) → k < s → getD out k (pos 0) ≡ getD m k (pos 0)
-      out-front k h = ap (λ t. getD t k (pos 0)) (put-end s m q) ∙ List·getD-append (take s m) q (pos 0) k (omega (arith, front-long)) ∙ getD-take s m k (pos 0) h
-
-      out-behind : (k : ℕ) → getD out (s + k) (pos 0) ≡ getD q k (pos 0)
-      out-behind k = ap (λ t. getD t (s + k) (pos 0)) (put-end s m q) ∙ ap (λ n. getD (take s m ++ q) (n + k) (pos 0)) (sym front-long) ∙ getD-append-add (take s m) q k (pos 0)
-
-      sum-at : (k : ℕ) → k < d → getD out k (pos 0) ≡ getD l k (pos 0) +ℤ rotate d e (signed x) k
-      unfolding rowAdded signed
-      sum-at k h = elim (decLt k s) [
-        | yes b ↦ out-front k b ∙ m-front k b
-        | no b ↦
-            let is-k : s + (k - s) ≡ k = omega arith in
-            ap (λ n. getD out n (pos 0)) (sym is-k)
-            ∙ out-behind (k - s)
-            ∙ ap (λ t. getD t (k - s) (pos 0)) is-q
-            ∙ filled-at (sums (not (ltb e d)) x behind) (d - s) behind (pos 0) (k - s) (omega arith)
-            ∙ (λ i. behind-at (k - s) i +ℤ back-turn d e s le row (signed x) (k - s) (omega arith) i)
-            ∙ ap (λ n. getD l n (pos 0) +ℤ rotate d e (signed x) n) is-k
-      ]
-
-      past : (k : ℕ) → d ≤ k → getD out k (pos 0) ≡ getD l k (pos 0)
-      unfolding rowAdded
-      past k h =
-          let is-k : s + (k - s) ≡ k = omega arith in
-          ap (λ n. getD out n (pos 0)) (sym is-k)
-          ∙ out-behind (k - s)
-          ∙ ap (λ t. getD t (k - s) (pos 0)) is-q
-          ∙ filled-behind (sums (not (ltb e d)) x behind) (d - s) behind (pos 0) (k - s) (omega arith)
-          ∙ behind-at (k - s)
-          ∙ ap (λ n. getD l n (pos 0)) is-k
-
-      pub two-rows : out ≡ rotatedAdded d e x l
-      unfolding rotatedAdded plus signed filled spliced
-      two-rows =
-          spliced-known (pos 0) (λ k. getD l k (pos 0) +ℤ rotate d e (signed x) k) 0 d l out (omega (arith, S .long-to)) out-length (λ j h. absurd (omega arith))
-          (λ k h. ap (λ n. getD out n (pos 0)) (omega arith) ∙ sum-at k h) (λ k h. past k (omega arith))
-
--- ---- an element and its own rotation, from a copy
-
-module _ (d : ℕ) (p : 0 < d) (a x : List ℤ) (S : Summable d a a) (room : d ≤ length x) {y : List ℤ} (is-y : y ≡ filled (signed a) d x) where
-  copy-at : (k : ℕ) → k < d → getD y k (pos 0) ≡ getD a k (pos 0)
+  window-at : (k : ℕ) → k < d → R.signed (not (ltb e d)) (getD window k (pos 0)) ≡ rotate d e (signed (drop d x)) k
   unfolding signed
-  copy-at k h = ap (λ t. getD t k (pos 0)) is-y ∙ filled-at (signed a) d x (pos 0) k h
+  window-at k h = ap (R.signed (not (ltb e d))) (tail-at (d - s) x k (pos 0)) ∙ elim (decLt k s) [
+    | yes b ↦
+        ap (R.signed (not (ltb e d))) (M .front (d - s + k) (omega arith))
+        ∙ signed-not (ltb e d) (getD (drop d x) (d - s + k) (pos 0))
+        ∙ front-turn d e s le row (signed (drop d x)) k b
+    | no b ↦
+        let is-k : s + (k - s) ≡ k = omega arith in
+        ap (λ n. R.signed (not (ltb e d)) (getD x n (pos 0))) {y = d + (k - s)} (omega arith)
+        ∙ ap (R.signed (not (ltb e d))) (M .back (k - s) (omega arith))
+        ∙ back-turn d e s le row (signed (drop d x)) (k - s) (omega arith)
+        ∙ ap (rotate d e (signed (drop d x))) is-k
+  ]
 
-  pub copy-summable : Summable d y a
-  copy-summable = record {
-    long = omega (arith, ap length is-y ∙ filled-length (signed a) d x room);
+  pub window-summable : Summable d window l
+  window-summable = record {
+    long = omega (arith, tail-length (d - s) x);
     long-to = S .long-to;
     bound = S .bound;
     bound-to = S .bound-to;
-    within = λ k h. subst (λ z. natAbs z ≤ S .bound) (sym (copy-at k h)) (S .within k h);
+    within = λ k h. omega (
+      arith,
+      signed-natAbs (not (ltb e d)) (getD window k (pos 0)),
+      ap natAbs (window-at k h),
+      rotate-bounded d p (S .bound) e (signed (drop d x)) (unfold signed in S .within) k h,
+    );
     within-to = S .within-to;
     room = S .room;
   }
 
-  pub copy-rotated : (e : ℕ) → rotatedAdded d e y a ≡ rotatedAdded d e a a
-  unfolding rotatedAdded plus signed
-  copy-rotated e = filled-ext _ _ d a (λ k h i. getD a k (pos 0) +ℤ rotate-same p e copy-at k i)
+  pub window-rotated : rowAdded (not (ltb e d)) d window l ≡ rotatedAdded d e (drop d x) l
+  unfolding rowAdded rotatedAdded plus signed
+  window-rotated = filled-ext _ _ d l (λ k h. ap (λ z. getD l k (pos 0) +ℤ z) (window-at k h))
+
+-- ---- an element as x holds it
+
+module _ (d : ℕ) (a x : List ℤ) (M : Mirrored d a x) where
+  pub half-at : (k : ℕ) → k < d → getD (drop d x) k (pos 0) ≡ getD a k (pos 0)
+  half-at k h = getD-drop d x k (pos 0) ∙ M .back k h
+
+  pub half-mirrored : Mirrored d (drop d x) x
+  half-mirrored = record {
+    front = λ k h. M .front k h ∙ ap negℤ (sym (half-at k h));
+    back = λ k h. M .back k h ∙ sym (half-at k h);
+  }
+
+-- its own rotation
+module _ (d : ℕ) (p : 0 < d) (a : List ℤ) (S : Summable d a a) (x : List ℤ) (long : 2 * d ≤ length x) where
+  pub own-mirrorable : Mirrorable d a x
+  own-mirrorable = record { long = S .long; long-to = long; within = λ k h. omega (arith, S .within k h, S .room) }
+
+  module _ (M : Mirrored d a x) where
+    pub own-summable : Summable d (drop d x) a
+    own-summable = record {
+      long = omega (arith, length-drop d x);
+      long-to = S .long-to;
+      bound = S .bound;
+      bound-to = S .bound-to;
+      within = λ k h. subst (λ z. natAbs z ≤ S .bound) (sym (half-at d a x M k h)) (S .within k h);
+      within-to = S .within-to;
+      room = S .room;
+    }
+
+    pub own-rotated : (e : ℕ) → rotatedAdded d e (drop d x) a ≡ rotatedAdded d e a a
+    unfolding rotatedAdded plus signed
+    own-rotated e = filled-ext _ _ d a (λ k h i. getD a k (pos 0) +ℤ rotate-same p e (half-at d a x M) k i)

@@ -1,23 +1,24 @@
--- One turn of the sums with a child's elements: an element is copied once, and added in two places, turned.
+-- One turn of the sums with a child's elements: an element is copied to the room x once, and added in two places, turned.
 use mathlib.Core.Path.{_≡_, refl, sym, ap, _∙_, subst}
 use mathlib.Core.List.{List}
 use Prim.Native.Nat.{ℕ, _+_, _*_, _-_, _<_, _≤_}
 use native.Mathlib.Nat as Nat
 use native.Mathlib.Omega.{arith}
 use borrow.Rule.Slice.PartMut.{putMid}
-use lib.ListN.{length, getD, take, drop}
+use lib.ListN.{length, getD, take, drop, length-drop}
 use lib.IntN.{ℤ, pos, natAbs, _+ℤ_}
 use Rattle.protocol.specs.Element.{rotate, plus, signed, signedAt}
 use Rattle.protocol.specs.Layout.{width}
 use Rattle.residues.specs.Lists.{filled, splicedRows}
-use Rattle.residues.proofs.Fill.{filled-at, filled-length, filled-ext}
+use Rattle.residues.proofs.Fill.{filled-ext}
 use Rattle.residues.proofs.Parts.{tail-at, tail-length}
 use Rattle.residues.proofs.Splice.{spliced-length, entry-before, entry-behind}
 use Rattle.protocol.proofs.Reading.{row-inside}
 use Rattle.protocol.proofs.Agreement.{rotate-same}
-use Rattle.extraction.specs.Bounds.{Summable}
-use Rattle.extraction.specs.Steps.{rotatedAdded}
+use Rattle.extraction.specs.Bounds.{Mirrorable, Summable}
+use Rattle.extraction.specs.Steps.{Mirrored, rotatedAdded}
 use Rattle.extraction.specs.Vectors.{turnedRow, turned, Turnable}
+use Rattle.extraction.proofs.Sums.{half-at, half-mirrored}
 use Rattle.extraction.proofs.Splicing.{spliced-apart, rows-none, lent-at, rows-turn}
 
 module _ (d n e f : ℕ) (l : List ℤ) (T : Turnable d n e f l) where
@@ -26,6 +27,10 @@ module _ (d n e f : ℕ) (l : List ℤ) (T : Turnable d n e f l) where
 
   abbrev high : ℕ → List ℤ → List ℤ
   high j m = splicedRows (turnedRow d f (n * d + n * d) l) (n * d + n * d) d j m
+
+  -- what a sum asks
+  abbrev Adding : ℕ → List ℤ → List ℤ → Type 0
+  Adding g x target = (0 < d) × (d ≤ width) × (g < 2 * d) × (2 * d ≤ length x) × Mirrored d (drop d x) x × Summable d (drop d x) target
 
   pub turned-none : l ≡ turned d n e f 0 l
   turned-none = rows-none (turnedRow d e (n * d) l) (n * d) d l ∙ rows-none (turnedRow d f (n * d + n * d) l) (n * d + n * d) d (low 0 l)
@@ -58,16 +63,18 @@ module _ (d n e f : ℕ) (l : List ℤ) (T : Turnable d n e f l) where
     le-next = omega arith
 
     -- the room x, which holds element i, and an element at its place behind `to`
-    module _ (x : List ℤ) (x-long : d ≤ length x) (reads : (k : ℕ) → k < d → getD x k (pos 0) ≡ getD l (i * d + k) (pos 0))
+    module _ (x : List ℤ) (x-long : 2 * d ≤ length x) (mirrored : Mirrored d (drop d x) x) (reads : (k : ℕ) → k < d → getD (drop d x) k (pos 0) ≡ getD l (i * d + k) (pos 0))
         (target : List ℤ) (t-long : d ≤ length target) (to : ℕ) (behind : n * d ≤ to) (adds : (k : ℕ) → k < d → getD target k (pos 0) ≡ getD l (to + (i * d + k)) (pos 0))
         (g : ℕ) (small : g < 2 * d) where
-      can-add : (0 < d) × (d ≤ width) × (g < 2 * d) × Summable d x target
+      can-add : Adding g x target
       can-add = (
         T .some,
         T .small,
         small,
+        x-long,
+        mirrored,
         record {
-          long = x-long;
+          long = omega (arith, length-drop d x);
           long-to = t-long;
           bound = T .bound;
           bound-to = T .bound-to;
@@ -77,12 +84,13 @@ module _ (d n e f : ℕ) (l : List ℤ) (T : Turnable d n e f l) where
         },
       )
 
-      added : rotatedAdded d g x target ≡ filled (turnedRow d g to l i) d target
+      added : rotatedAdded d g (drop d x) target ≡ filled (turnedRow d g to l i) d target
       unfolding rotatedAdded plus signed signedAt
-      added = filled-ext (λ k. signed target k +ℤ rotate d g (signed x) k) (turnedRow d g to l i) d target (λ k lk j. adds k lk j +ℤ rotate-same (T .some) g {b = signedAt d l i} reads k j)
+      added =
+          filled-ext (λ k. signed target k +ℤ rotate d g (signed (drop d x)) k) (turnedRow d g to l i) d target (λ k lk j. adds k lk j +ℤ rotate-same (T .some) g {b = signedAt d l i} reads k j)
 
-    -- the list w before the turn, x the room for the copy
-    module _ {w : List ℤ} (is : w ≡ turned d n e f i l) (same : length w ≡ length l) (x : List ℤ) (room : d ≤ length x) where
+    -- the list w before the turn
+    module _ {w : List ℤ} (is : w ≡ turned d n e f i l) (same : length w ≡ length l) where
       abbrev source : List ℤ
       source = take (length w - i * d) (drop (i * d) w)
 
@@ -96,8 +104,12 @@ module _ (d n e f : ℕ) (l : List ℤ) (T : Turnable d n e f l) where
           ∙ entry-before _ (n * d + n * d) (i * d) (low i l) (omega (arith, low-length i le-i, T .long)) (pos 0) (i * d + k) (omega (arith, in-row))
           ∙ entry-before _ (n * d) (i * d) l (omega (arith, T .long)) (pos 0) (i * d + k) (omega (arith, in-row))
 
-      pub can-copy : (d ≤ length source) × (d ≤ length x)
-      can-copy = (source-long, room)
+      pub can-mirror : (x : List ℤ) → 2 * d ≤ length x → Mirrorable d source x
+      can-mirror x room = record {
+        long = source-long;
+        long-to = room;
+        within = λ k lk. omega (arith, ap natAbs (source-at k lk), T .within (i * d + k) (omega (arith, in-row)), T .room);
+      }
 
       -- the first sum
       abbrev below : List ℤ
@@ -118,25 +130,24 @@ module _ (d n e f : ℕ) (l : List ℤ) (T : Turnable d n e f l) where
           ∙ entry-before _ (n * d + n * d) (i * d) l (omega (arith, T .long)) (pos 0) (n * d + i * d + k) (omega (arith, in-row))
           ∙ ap (λ j. getD l j (pos 0)) (let j : n * d + i * d + k ≡ n * d + (i * d + k) = omega arith in j)
 
-      module _ {y : List ℤ} (is-y : y ≡ filled (signed source) d x) where
-        y-long : d ≤ length y
-        y-long = omega (arith, ap length is-y ∙ filled-length (signed source) d x room)
+      module _ {x : List ℤ} (x-long : 2 * d ≤ length x) (M : Mirrored d source x) where
+        mirrored : Mirrored d (drop d x) x
+        mirrored = half-mirrored d source x M
 
-        reads : (k : ℕ) → k < d → getD y k (pos 0) ≡ getD l (i * d + k) (pos 0)
-        unfolding signed
-        reads k lk = ap (λ t. getD t k (pos 0)) is-y ∙ filled-at (signed source) d x (pos 0) k lk ∙ source-at k lk
+        reads : (k : ℕ) → k < d → getD (drop d x) k (pos 0) ≡ getD l (i * d + k) (pos 0)
+        reads k lk = half-at d source x M k lk ∙ source-at k lk
 
-        pub can-add-low : (0 < d) × (d ≤ width) × (e < 2 * d) × Summable d y below
-        can-add-low = can-add y y-long reads below below-long (n * d) (Nat.le-refl (n * d)) below-reads e (T .exponents .0)
+        pub can-add-low : Adding e x below
+        can-add-low = can-add x x-long mirrored reads below below-long (n * d) (Nat.le-refl (n * d)) below-reads e (T .exponents .0)
 
-        module _ {p : List ℤ} (is-p : p ≡ rotatedAdded d e y below) where
+        module _ {p : List ℤ} (is-p : p ≡ rotatedAdded d e (drop d x) below) where
           abbrev w₁ : List ℤ
           w₁ = putMid (n * d + i * d) (length w - (n * d + i * d)) w p
 
           is-w₁ : w₁ ≡ high i (low (i + 1) l)
           is-w₁ =
               rows-turn (turnedRow d e (n * d) l) (n * d) d (high i l) i (n * d + i * d) refl low-fits is-low
-              (is-p ∙ added y y-long reads below below-long (n * d) (Nat.le-refl (n * d)) below-reads e (T .exponents .0))
+              (is-p ∙ added x x-long mirrored reads below below-long (n * d) (Nat.le-refl (n * d)) below-reads e (T .exponents .0))
               ∙ sym (swapped (i + 1) le-next i)
 
           pub after-low : length w₁ ≡ length l
@@ -165,11 +176,11 @@ module _ (d n e f : ℕ) (l : List ℤ) (T : Turnable d n e f l) where
               ∙ entry-behind _ (n * d) ((i + 1) * d) l (omega (arith, T .long)) (pos 0) (n * d + (n * d + i * d) + k) (omega (arith, few (i + 1) le-next))
               ∙ ap (λ j. getD l j (pos 0)) (let j : n * d + (n * d + i * d) + k ≡ n * d + n * d + (i * d + k) = omega arith in j)
 
-          pub can-add-high : (0 < d) × (d ≤ width) × (f < 2 * d) × Summable d y above
-          can-add-high = can-add y y-long reads above above-long (n * d + n * d) (omega arith) above-reads f (T .exponents .1)
+          pub can-add-high : Adding f x above
+          can-add-high = can-add x x-long mirrored reads above above-long (n * d + n * d) (omega arith) above-reads f (T .exponents .1)
 
-          pub after-high : {r : List ℤ} → r ≡ rotatedAdded d f y above →
+          pub after-high : {r : List ℤ} → r ≡ rotatedAdded d f (drop d x) above →
               putMid (n * d + (n * d + i * d)) (length w₁ - (n * d + (n * d + i * d))) w₁ r ≡ turned d n e f (i + 1) l
           after-high is-r =
               rows-turn (turnedRow d f (n * d + n * d) l) (n * d + n * d) d (low (i + 1) l) i (n * d + (n * d + i * d)) place high-fits is-w₁
-              (is-r ∙ added y y-long reads above above-long (n * d + n * d) (omega arith) above-reads f (T .exponents .1))
+              (is-r ∙ added x x-long mirrored reads above above-long (n * d + n * d) (omega arith) above-reads f (T .exponents .1))

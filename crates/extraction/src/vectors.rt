@@ -1,6 +1,6 @@
 // The vectors of a tree's nodes, over whole numbers: flat lists of elements, d numbers each.
 use crate::elements::add_rotated;
-use crate::elements::store;
+use crate::elements::mirror;
 use crate::elements::weigh;
 use protocol::Settings;
 use residues::on_circle;
@@ -15,9 +15,9 @@ ghost use Rattle.extraction.specs.Vectors.{scaled, Scalable, turned, Tur
 ghost use Rattle.protocol.specs.Nodes.{AtNode};
 ghost use Rattle.extraction.specs.Nodes.{Extractable};
 
-// Multiplies each of the first n elements of v by X^(2a)·μ, from the exponents that μ's quotients and sum go by; x is room for one element.
+// Multiplies each of the first n elements of v by X^(2a)·μ, from the exponents that μ's quotients and sum go by; x is room for two copies of one.
 fn scale(d: usize, n: usize, k: usize, m: usize, e: usize, v: &mut [i64], x: &mut [i64])
-    requires { ⌜ (d ≤ length (now x)) × Scalable d n k m e (now v) ⌝ }
+    requires { ⌜ (2 * d ≤ length (now x)) × Scalable d n k m e (now v) ⌝ }
     ensures { λ _. ⌜ now (v .exit) ≡ scaled d n k m e (now (v .entry)) ⌝ }
 {
     for i in 0..n {
@@ -26,15 +26,15 @@ fn scale(d: usize, n: usize, k: usize, m: usize, e: usize, v: &mut [i64], x: &mu
     }
 }
 
-// Adds X^e times each of the first n elements to the n behind them, and X^f times each to the n behind those. x is room for a copy of one.
+// Adds X^e times each of the first n elements to the n behind them, and X^f times each to the n behind those. x is room for two copies of one.
 fn add_turned(d: usize, n: usize, e: usize, f: usize, l: &mut [i64], x: &mut [i64])
-    requires { ⌜ (d ≤ length (now x)) × Turnable d n e f (now l) ⌝ }
+    requires { ⌜ (2 * d ≤ length (now x)) × Turnable d n e f (now l) ⌝ }
     ensures { λ _. ⌜ now (l .exit) ≡ turned d n e f n (now (l .entry)) ⌝ }
 {
     let cells = n * d;
     for i in 0..n {
         let at = i * d;
-        store(d, &l[at..], x);
+        mirror(d, &l[at..], x);
         let low = cells + at;
         add_rotated(d, e, x, &mut l[low..]);
         let high = cells + low;
@@ -45,7 +45,7 @@ fn add_turned(d: usize, n: usize, e: usize, f: usize, l: &mut [i64], x: &mut [i6
 // Adds one child's share to a node's vector. The list is the child's vector, n elements, which is used up, and the node's, twice as long.
 // X^a is the challenge that leads to the child, X^b and X^c are the other two. The products are ahead of μ's by X^(2a), so the sums turn back.
 fn add_share(d: usize, n: usize, a: usize, b: usize, c: usize, l: &mut [i64], x: &mut [i64])
-    requires { ⌜ (d ≤ length (now x)) × Sharing d n a b c (now l) ⌝ }
+    requires { ⌜ (2 * d ≤ length (now x)) × Sharing d n a b c (now l) ⌝ }
     ensures { λ _. ⌜ drop (n * d) (now (l .exit)) ≡ withShare d n a (mu d a b c) (take (n * d) (now (l .entry))) (drop (n * d) (now (l .entry))) ⌝ }
 {
     let back = 2 * d - a;
@@ -113,7 +113,7 @@ fn add_branch(
     ws: &mut [i64],
     room: &mut [i64],
 )
-    requires { ⌜ (d ≤ length (now room)) × Branching d n k j x y (now challenges) (now ws) ⌝ }
+    requires { ⌜ (2 * d ≤ length (now room)) × Branching d n k j x y (now challenges) (now ws) ⌝ }
     ensures { λ _. ⌜ drop (2 * (n * d)) (now (ws .exit)) ≡ branchAdded d n k j x y (now (challenges .entry)) (now (ws .entry)) ⌝ }
 {
     let a = challenge_of(challenges, k, j);
@@ -144,7 +144,7 @@ pub(crate) fn node(
     room: &mut [i64],
 )
     requires { ⌜ Extractable settings (now challenges) (now leaves) ⌝ }
-    requires { ⌜ AtNode settings h k first (length (now ws)) × (width ≤ length (now room)) ⌝ }
+    requires { ⌜ AtNode settings h k first (length (now ws)) × (2 * width ≤ length (now room)) ⌝ }
     ensures { λ _. ⌜ drop (2 ^ h * settings .degree) (now (ws .exit)) ≡ vector settings (now (challenges .entry)) (now (leaves .entry)) h k ⌝ }
 {
     let d = settings.degree as usize;

@@ -113,7 +113,7 @@ module _ (t : ℕ) where
       (child .node3 .kept .1 .1 .1 .1 .1 .1 .0) (child .node3 .ensures) (c .before .before .add-branch3 .ensures) (c .before .before .add-branch3 .kept .1 .1 .1 .1 .1 .1 .1 .0)
 
   -- the room keeps its length
-  held : (g : Start) → width ≤ length (g .args .room .now)
+  held : (g : Start) → 2 * width ≤ length (g .args .room .now)
   held g = g .pre .1 .1 .1
 
   same-1 : (c : First) → length (c .before .before .add-branch .last .1 .1 .1 .1 .1 .1 .1 .1 .0) ≡ length (start (above (zeros c)) .args .room .now)

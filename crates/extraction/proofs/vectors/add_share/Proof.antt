@@ -1,5 +1,5 @@
 -- The products, then the sums with the first half and with the second. The products are ahead by X^(2a), which the sums turn back.
-use mathlib.Core.Path.{_≡_, refl, sym, ap, _∙_}
+use mathlib.Core.Path.{_≡_, sym, ap, _∙_}
 use Prim.Native.Nat.{_+_, _*_, _-_, _%_, _<_, _≤_}
 use native.Mathlib.Nat as Nat
 use native.Mathlib.Omega.{arith}
@@ -57,8 +57,8 @@ products c =
 abbrev whole : (c : tie.After-scale) → List ℤ
 whole c = c .scale .last .1 .1 .1 .1 .1 .0 ++ drop (at-scale c .args .n * at-scale c .args .d) (at-scale c .args .l .now)
 
--- the room for a copy of an element keeps its length
-room : (c : tie.After-scale) → at-scale c .args .d ≤ length (c .scale .last .1 .1 .1 .1 .1 .1 .0)
+-- the room for two copies of an element keeps its length
+room : (c : tie.After-scale) → 2 * at-scale c .args .d ≤ length (c .scale .last .1 .1 .1 .1 .1 .1 .0)
 room c = omega (arith, at-scale c .pre .0, c .scale .kept .1 .1 .1 .1 .1 .1 .0)
 
 mul-back : tie.Need-mul-back

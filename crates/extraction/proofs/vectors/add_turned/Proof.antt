@@ -6,7 +6,7 @@ use borrow.Author.Needs.{needs}
 use borrow.Rule.Slice.PartMut.{putMid}
 use lib.ListN.{length}
 use Rattle.extraction.specs.Vectors.{turned}
-use Rattle.extraction.proofs.Turning.{turned-none, turned-length, in-row, can-copy, can-add-low, after-low, can-add-high, after-high}
+use Rattle.extraction.proofs.Turning.{turned-none, turned-length, in-row, can-mirror, can-add-low, after-low, can-add-high, after-high}
 use Rattle.extraction.proofs.vectors.add_turned.Statement.{statement}
 use Rattle.extraction.proofs.vectors.add_turned.Tie as tie
 
@@ -33,19 +33,19 @@ loop-holds c = let a = c .args in (omega arith, turned-none (a .d) (a .n) (a .e)
 mul-at : tie.Need-mul-at Inv-loop μ-loop
 mul-at c = let h = here c in record { fits = omega arith }
 
-mul-store : tie.Need-mul-store Inv-loop μ-loop
-mul-store c = let h = here c in record { fits = omega arith }
+mul-mirror : tie.Need-mul-mirror Inv-loop μ-loop
+mul-mirror c = let h = here c in record { fits = omega arith }
 
-sub-store : tie.Need-sub-store Inv-loop μ-loop
-sub-store c = let h = here c in omega arith
+sub-mirror : tie.Need-sub-mirror Inv-loop μ-loop
+sub-mirror c = let h = here c in omega arith
 
-part-store-start : tie.Need-part-store-start Inv-loop μ-loop
-part-store-start c = let h = here (c .before) in omega arith
+part-mirror-start : tie.Need-part-mirror-start Inv-loop μ-loop
+part-mirror-start c = let h = here (c .before) in omega arith
 
-store-requires : tie.Need-store-requires Inv-loop μ-loop
-store-requires c κs =
+mirror-requires : tie.Need-mirror-requires Inv-loop μ-loop
+mirror-requires c κs =
     let at = c .before .before .before in let g = at .before .before in let l = at .before .loop in let a = g .args in
-    can-copy (a .d) (a .n) (a .e) (a .f) (a .l .now) (g .pre .1) (l .i) (here at .0) (l .inv .1) (l .inv .2) (l .x) (omega (arith, g .pre .0, l .inv .3))
+    can-mirror (a .d) (a .n) (a .e) (a .f) (a .l .now) (g .pre .1) (l .i) (here at .0) (l .inv .1) (l .inv .2) (l .x) (omega (arith, g .pre .0, l .inv .3))
 
 add-low : tie.Need-add-low Inv-loop μ-loop
 add-low c = let h = here (c .before .before .before .before .before) in record { fits = omega arith }
@@ -61,16 +61,16 @@ part-add-rotated-start c = let h = here (c .before .before .before .before .befo
 
 add-rotated-requires : tie.Need-add-rotated-requires Inv-loop μ-loop
 add-rotated-requires c κs =
-    let s = c .before .before .before .store in let at = c .before .before .before .before .before .before .before in let g = at .before .before in let l = at .before .loop in let a = g .args in
-    can-add-low (a .d) (a .n) (a .e) (a .f) (a .l .now) (g .pre .1) (l .i) (here at .0) (l .inv .1) (l .inv .2) _ (omega (arith, g .pre .0, l .inv .3, s .kept .1 .1 .0)) (s .ensures)
+    let s = c .before .before .before .mirror in let at = c .before .before .before .before .before .before .before in let g = at .before .before in let l = at .before .loop in let a = g .args in
+    can-add-low (a .d) (a .n) (a .e) (a .f) (a .l .now) (g .pre .1) (l .i) (here at .0) (l .inv .1) (l .inv .2) (omega (arith, g .pre .0, l .inv .3, s .kept .1 .1 .0)) (s .ensures)
 
 -- the list keeps its length in the first sum
 after : (c : tie.After-add-rotated Inv-loop μ-loop) → let at = c .before .before .before .before .before .before .before .before in let a = at .before .before .args in let l = at .before .loop in
     let low = a .n * a .d + l .i * a .d in
     length (putMid low (length (l .l) - low) (l .l) (c .add-rotated .last .1 .1 .1 .0)) ≡ length (a .l .now)
 after c =
-    let s = c .before .before .before .before .store in let at = c .before .before .before .before .before .before .before .before in let g = at .before .before in let l = at .before .loop in let a = g .args in
-    after-low (a .d) (a .n) (a .e) (a .f) (a .l .now) (g .pre .1) (l .i) (here at .0) (l .inv .1) (l .inv .2) _ (omega (arith, g .pre .0, l .inv .3, s .kept .1 .1 .0)) (s .ensures) (c .add-rotated .ensures)
+    let s = c .before .before .before .before .mirror in let at = c .before .before .before .before .before .before .before .before in let g = at .before .before in let l = at .before .loop in let a = g .args in
+    after-low (a .d) (a .n) (a .e) (a .f) (a .l .now) (g .pre .1) (l .i) (here at .0) (l .inv .1) (l .inv .2) (omega (arith, g .pre .0, l .inv .3, s .kept .1 .1 .0)) (s .ensures) (c .add-rotated .ensures)
 
 add-high : tie.Need-add-high Inv-loop μ-loop
 add-high c = let h = here (c .before .before .before .before .before .before .before .before .before) in record { fits = omega arith }
@@ -86,14 +86,14 @@ part-add-rotated-start-2 c = let h = here (c .before .before .before .before .be
 
 add-rotated-requires-2 : tie.Need-add-rotated-requires-2 Inv-loop μ-loop
 add-rotated-requires-2 c κs =
-    let s = c .before .before .before .before .before .before .before .store in let at = c .before .before .before .before .before .before .before .before .before .before .before in let g = at .before .before in let l = at .before .loop in let a = g .args in
-    can-add-high (a .d) (a .n) (a .e) (a .f) (a .l .now) (g .pre .1) (l .i) (here at .0) (l .inv .1) (l .inv .2) _ (omega (arith, g .pre .0, l .inv .3, s .kept .1 .1 .0)) (s .ensures)
+    let s = c .before .before .before .before .before .before .before .mirror in let at = c .before .before .before .before .before .before .before .before .before .before .before in let g = at .before .before in let l = at .before .loop in let a = g .args in
+    can-add-high (a .d) (a .n) (a .e) (a .f) (a .l .now) (g .pre .1) (l .i) (here at .0) (l .inv .1) (l .inv .2) (omega (arith, g .pre .0, l .inv .3, s .kept .1 .1 .0)) (s .ensures)
     (c .before .before .before .add-rotated .ensures)
 
 loop-again : tie.Need-loop-again Inv-loop μ-loop
 loop-again c =
-    let s = c .before .before .before .before .before .before .before .before .before .store in let at = c .before .before .before .before .before .before .before .before .before .before .before .before .before in let g = at .before .before in let l = at .before .loop in let a = g .args in
-    let same = after-high (a .d) (a .n) (a .e) (a .f) (a .l .now) (g .pre .1) (l .i) (here at .0) (l .inv .1) (l .inv .2) _ (omega (arith, g .pre .0, l .inv .3, s .kept .1 .1 .0)) (s .ensures)
+    let s = c .before .before .before .before .before .before .before .before .before .mirror in let at = c .before .before .before .before .before .before .before .before .before .before .before .before .before in let g = at .before .before in let l = at .before .loop in let a = g .args in
+    let same = after-high (a .d) (a .n) (a .e) (a .f) (a .l .now) (g .pre .1) (l .i) (here at .0) (l .inv .1) (l .inv .2) (omega (arith, g .pre .0, l .inv .3, s .kept .1 .1 .0)) (s .ensures)
     (c .before .before .before .before .before .add-rotated .ensures) (c .before .add-rotated2 .ensures) in (
       omega (arith, here at .0),
       same,
@@ -109,6 +109,6 @@ returns c =
 pub add-turned-spec : {M : Type 1} → statement M
 add-turned-spec =
     tie.close
-    (tie.spec Inv-loop μ-loop mul-cells loop-holds mul-at mul-store sub-store part-store-start (λ c. search needs) store-requires add-low mul-add-rotated
+    (tie.spec Inv-loop μ-loop mul-cells loop-holds mul-at mul-mirror sub-mirror part-mirror-start (λ c. search needs) mirror-requires add-low mul-add-rotated
     sub-add-rotated part-add-rotated-start (λ c. search needs) add-rotated-requires add-high mul-add-rotated-2 sub-add-rotated-2 part-add-rotated-start-2 (λ c. search needs)
     add-rotated-requires-2 (λ c. search needs) (λ c. search needs) loop-again (λ c. search needs) (λ c. search needs) returns)
