@@ -60,11 +60,7 @@ pub extern "C" fn wovenrock_commit(
     if refusal != 0 {
         return refusal;
     }
-    let committed = prover::commit_to(s, key, message, commitment);
-    if committed != 0 {
-        return committed;
-    }
-    0
+    prover::commit_to(s, key, message, commitment)
 }
 
 // The prover's round: the round polynomial of round done + 1 goes to the slice `polynomial`.
