@@ -73,7 +73,8 @@ module _ (q d m : ℕ) (f : List ℤ) (g : List ℕ) (ok : Columned q d m f g) (
         let y = product d (signed f) (residue g) k in
         halves-within q _ _ _ _ _ (omega (arith, Nat.mul-assoc d m weight)) (
         halves-add q p (F k) y _ (d * (m * weight)) _ _ _ _ (modulo (2 ^ 64) y) 0 H (halves-lower q y (d * (m * weight)) (product-most d m (ok .elements .degree) f g k (ok .small) below))
-        (ap (λ l. getD l k 0) e ∙ filled-at _ d s 0 k l ∙ ap (λ z. modulo (2 ^ 64) (pos (getD s k 0) +ℤ z)) (narrow-same d m (ok .elements .degree) f g k (ok .small) below) ∙ sym (word-add (getD s k 0) _ y refl))
+        (ap (λ l. getD l k 0) e ∙ filled-at _ d s 0 k l ∙ ap (λ z. modulo (2 ^ 64) (pos (getD s k 0) +ℤ z)) (narrow-same d m (ok .elements .degree) f g k (ok .small) below) ∙ sym
+        (word-add (getD s k 0) _ y refl))
         (omega (arith, H .none few)));
   }
 

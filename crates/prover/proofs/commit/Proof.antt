@@ -26,7 +26,8 @@ returns-2 c =
     let z : commitRefusal S G m ≡ 0 = sym (to .ensures .refusal) ∙ c .before .before .if1 .left in
     let ok = commit-key S G m z .0 in
     let room = item-room S ok in
-    commit-done S G m z _ (c .by-value .ensures ok (omega (arith, room, to .kept .1 .1 .1 .0)) ∙ item-by-value S (committed S G m) (zeros rowsWidth) _ (to .ensures .written (c .before .before .if1 .left) room))
+    commit-done S G m z _ (c .by-value .ensures ok (omega (arith, room, to .kept .1 .1 .1 .0)) ∙ item-by-value S (committed S G m) (zeros rowsWidth) _
+    (to .ensures .written (c .before .before .if1 .left) room))
 
 pub commit-spec : {M : Type 1} → statement M
 commit-spec = tie.close (tie.spec (λ c. search needs) (λ c κs. search needs) returns (λ c. search needs) (λ c κs. search needs) returns-2)

@@ -56,5 +56,6 @@ pub write-rows-spec : {M : Type 1} → statement M
 write-rows-spec =
     tie.close
     (tie.spec Inv-loop μ-loop loop-holds (λ c. search needs) (λ c. search needs) (λ c. search needs) (λ c. search needs) (λ c κs. search needs)
-    (λ c. search needs) (λ c. search needs) slice-write-y-2 (λ c. search needs) (λ c. search needs) (λ c. search needs) slice-write-y-3 (λ c. search needs) (λ c. search needs) loop-again (λ c. search needs)
+    (λ c. search needs) (λ c. search needs) slice-write-y-2 (λ c. search needs) (λ c. search needs) (λ c. search needs) slice-write-y-3 (λ c. search needs) (λ c. search needs) loop-again
+    (λ c. search needs)
     returns)

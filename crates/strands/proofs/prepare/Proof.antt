@@ -20,7 +20,12 @@ returns-3 c = λ G z.
     let s = c .before .before .before .before .before .before .before .before .before .before .before .before .before .before in
     let a = s .args in
     one-row (a .sums) (a .q) (a .d) (a .n) (a .rows) (a .stride) (a .g .now) G (z .0) (omega arith) (a .i) (z .1) _
-    (c .before .before .before .before .prepare-key .ensures (first-given (a .sums) (a .q) (a .d) (a .n) (a .rows) (a .stride) (a .g .now) G (z .0), z .2, omega (arith, z .4, ap (λ m. a .d * m) {x = a .rows} {y = 1} (omega arith), Nat.mul-one (a .d))))
+    (c .before .before .before .before .prepare-key .ensures (
+      first-given (a .sums) (a .q) (a .d) (a .n) (a .rows) (a .stride) (a .g .now) G (z .0),
+      z .2,
+      omega
+          (arith, z .4, ap (λ m. a .d * m) {x = a .rows} {y = 1} (omega arith), Nat.mul-one (a .d)),
+    ))
 
 returns-4 : tie.Need-returns-4
 returns-4 c = λ G z. absurd (omega (arith, z .0 .most))
@@ -32,7 +37,8 @@ returns-5 : tie.Need-returns-5
 returns-5 c = λ G z. absurd (omega (arith, z .3))
 
 mul-prepare : tie.Need-mul-prepare
-mul-prepare c = let s = c .before .before .before .before .before .before .before .before .before .before .before .before .before .before .before .before in let a = s .args in omega (arith, cells-most (a .rows) (a .d) (omega arith) (omega arith))
+mul-prepare c = let s = c .before .before .before .before .before .before .before .before .before .before .before .before .before .before .before .before in let a = s .args in omega
+    (arith, cells-most (a .rows) (a .d) (omega arith) (omega arith))
 
 returns-6 : tie.Need-returns-6
 returns-6 c = λ G z.
@@ -54,4 +60,5 @@ returns-6 c = λ G z.
 pub prepare-spec : {M : Type 1} → statement M
 prepare-spec =
     tie.close
-    (tie.spec returns returns-2 (λ c κs. search needs) (λ c. search) (λ c. search) returns-3 returns-4 mul-if5 returns-5 (λ c κs. search needs) mul-prepare (λ c κs. search needs) (λ c. search) (λ c. search) (λ c. search) returns-6)
+    (tie.spec returns returns-2 (λ c κs. search needs) (λ c. search) (λ c. search) returns-3 returns-4 mul-if5 returns-5 (λ c κs. search needs) mul-prepare (λ c κs. search needs) (λ c. search)
+    (λ c. search) (λ c. search) returns-6)

@@ -17,7 +17,12 @@ mul-add-key c = let s = c .before .before .before .before in omega (arith, place
 
 add-add-key : tie.Need-add-add-key
 add-add-key c = let s = c .before .before .before .before in
-    omega (arith, place-most (s .args .d) (s .args .n) (s .args .n) (s .pre .1) (s .pre .0) (omega arith), place-most (s .args .d) (s .args .n) (s .args .i) (s .pre .1) (s .pre .0) (omega (arith, s .pre .2)))
+    omega (
+      arith,
+      place-most (s .args .d) (s .args .n) (s .args .n) (s .pre .1) (s .pre .0) (omega arith),
+      place-most (s .args .d) (s .args .n) (s .args .i) (s .pre .1) (s .pre .0)
+          (omega (arith, s .pre .2)),
+    )
 
 returns : tie.Need-returns
 returns c = λ z.
@@ -59,4 +64,5 @@ returns-3 c = λ z.
 pub prepare-key-spec : {M : Type 1} → statement M
 prepare-key-spec =
     tie.close
-    (tie.spec mul-at mul-add-key add-add-key (λ c κs. search needs) (λ c κs. search needs) (λ c. search) (λ c. search) returns returns-2 (λ c. search needs) (λ c. search needs) (λ c. search needs) (λ c. search needs) (λ c κs. search needs) (λ c. search) returns-3)
+    (tie.spec mul-at mul-add-key add-add-key (λ c κs. search needs) (λ c κs. search needs) (λ c. search) (λ c. search) returns returns-2 (λ c. search needs) (λ c. search needs)
+    (λ c. search needs) (λ c. search needs) (λ c κs. search needs) (λ c. search) returns-3)

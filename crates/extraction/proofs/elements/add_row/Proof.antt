@@ -45,7 +45,8 @@ unfolding signed
 loop-again c =
     let l = c .before .before .before .before .loop in let g = c .before .before .before .before .before .before in let a = g .args in (
       search needs,
-      row-turn true (a .n) (a .x .now) (a .out .now) (g .pre) (l .k) (omega arith) (l .inv .1) (through-bits w64 _ (c .before .before .minus-arg .given)) (through-bits w64 _ (c .before .minus-arg2 .given))
+      row-turn true (a .n) (a .x .now) (a .out .now) (g .pre) (l .k) (omega arith) (l .inv .1) (through-bits w64 _ (c .before .before .minus-arg .given))
+          (through-bits w64 _ (c .before .minus-arg2 .given))
           (through-bits w64 _ (c .minus .ok) ∙ c .minus .ensures),
       simp length-set (search needs),
     )
@@ -67,7 +68,8 @@ unfolding signed
 loop2-again c =
     let l = c .before .before .before .before .loop2 in let g = c .before .before .before .before .before .before in let a = g .args in (
       search needs,
-      row-turn false (a .n) (a .x .now) (a .out .now) (g .pre) (l .k) (omega arith) (l .inv .1) (through-bits w64 _ (c .before .before .plus-arg .given)) (through-bits w64 _ (c .before .plus-arg2 .given))
+      row-turn false (a .n) (a .x .now) (a .out .now) (g .pre) (l .k) (omega arith) (l .inv .1) (through-bits w64 _ (c .before .before .plus-arg .given))
+          (through-bits w64 _ (c .before .plus-arg2 .given))
           (through-bits w64 _ (c .plus .ok) ∙ c .plus .ensures),
       simp length-set (search needs),
     )

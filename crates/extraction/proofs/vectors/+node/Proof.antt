@@ -155,8 +155,11 @@ module _ (t : ℕ) where
   node-add-branch-requires : node-lts.Need-add-branch-requires (calls t) (node-at t) node.Post
   node-add-branch-requires c κs =
       let child = c .before .before .before .before in let at = child .before .before .before .before in
-      let g = start (above at) in
-      (omega (arith, L.small (g .pre .1 .0), held g, child .node .kept .1 .1 .1 .1 .1 .1 .1 .0), N.stage-branching (branch (above at)) 0 (omega arith) _ (stage-0 at) (child .before .before .before .child-of .ensures) (child .node .kept .1 .1 .1 .1 .1 .1 .0) (child .node .ensures))
+      let g = start (above at) in (
+        omega (arith, L.small (g .pre .1 .0), held g, child .node .kept .1 .1 .1 .1 .1 .1 .1 .0),
+        N.stage-branching (branch (above at)) 0 (omega arith) _ (stage-0 at)
+            (child .before .before .before .child-of .ensures) (child .node .kept .1 .1 .1 .1 .1 .1 .0) (child .node .ensures),
+      )
 
   node-child-of-requires-2 : node-lts.Need-child-of-requires-2 (calls t) (node-at t) node.Post
   node-child-of-requires-2 c κs = omega (arith, inner (above (zeros c)))
@@ -172,8 +175,11 @@ module _ (t : ℕ) where
   node-add-branch-requires-2 : node-lts.Need-add-branch-requires-2 (calls t) (node-at t) node.Post
   node-add-branch-requires-2 c κs =
       let child = c .before .before .before .before in let at = child .before .before .before .before in
-      let g = start (above (zeros at)) in
-      (omega (arith, L.small (g .pre .1 .0), held g, same-1 at, child .node2 .kept .1 .1 .1 .1 .1 .1 .1 .0), N.stage-branching (branch (above (zeros at))) 1 (omega arith) _ (stage-1 at) (child .before .before .before .child-of2 .ensures) (child .node2 .kept .1 .1 .1 .1 .1 .1 .0) (child .node2 .ensures))
+      let g = start (above (zeros at)) in (
+        omega (arith, L.small (g .pre .1 .0), held g, same-1 at, child .node2 .kept .1 .1 .1 .1 .1 .1 .1 .0),
+        N.stage-branching (branch (above (zeros at))) 1 (omega arith) _ (stage-1 at)
+            (child .before .before .before .child-of2 .ensures) (child .node2 .kept .1 .1 .1 .1 .1 .1 .0) (child .node2 .ensures),
+      )
 
   node-sub-node-3 : node-lts.Need-sub-node-3 (calls t) (node-at t) node.Post
   node-sub-node-3 c = omega (arith, branch (above (zeros (first c))) .up)
@@ -189,14 +195,26 @@ module _ (t : ℕ) where
 
   node-node-requires-3 : node-lts.Need-node-requires-3 (calls t) (node-at t) node.Post
   node-node-requires-3 c κs =
-      let at = c .before .before .before in let b = branch (above (zeros (first at))) in
-      (lower (above (zeros (first at))), (b .tree, (N.child-place b 2 (omega arith) (c .before .before .child-of3 .ensures) (stage-2 at), omega (arith, held (start (above (zeros (first at)))), same-2 at))))
+      let at = c .before .before .before in let b = branch (above (zeros (first at))) in (
+        lower (above (zeros (first at))),
+        (
+          b .tree,
+          (
+            N.child-place b 2 (omega arith) (c .before .before .child-of3 .ensures) (stage-2 at),
+            omega
+                (arith, held (start (above (zeros (first at)))), same-2 at),
+          ),
+        ),
+      )
 
   node-add-branch-requires-3 : node-lts.Need-add-branch-requires-3 (calls t) (node-at t) node.Post
   node-add-branch-requires-3 c κs =
       let child = c .before .before .before .before in let at = child .before .before .before .before in
-      let g = start (above (zeros (first at))) in
-      (omega (arith, L.small (g .pre .1 .0), held g, same-2 at, child .node3 .kept .1 .1 .1 .1 .1 .1 .1 .0), N.stage-branching (branch (above (zeros (first at)))) 2 (omega arith) _ (stage-2 at) (child .before .before .before .child-of3 .ensures) (child .node3 .kept .1 .1 .1 .1 .1 .1 .0) (child .node3 .ensures))
+      let g = start (above (zeros (first at))) in (
+        omega (arith, L.small (g .pre .1 .0), held g, same-2 at, child .node3 .kept .1 .1 .1 .1 .1 .1 .1 .0),
+        N.stage-branching (branch (above (zeros (first at)))) 2 (omega arith) _ (stage-2 at)
+            (child .before .before .before .child-of3 .ensures) (child .node3 .kept .1 .1 .1 .1 .1 .1 .0) (child .node3 .ensures),
+      )
 
   node-same-length-2 : node-lts.Need-same-length-2 (calls t) (node-at t) node.Post
   node-same-length-2 c = stage-3 c .long

@@ -69,8 +69,10 @@ after : (c : tie.After-add-rotated Inv-loop μ-loop) → let at = c .before .bef
     let low = a .n * a .d + l .i * a .d in
     length (putMid low (length (l .l) - low) (l .l) (c .add-rotated .last .1 .1 .1 .0)) ≡ length (a .l .now)
 after c =
-    let s = c .before .before .before .before .mirror in let at = c .before .before .before .before .before .before .before .before in let g = at .before .before in let l = at .before .loop in let a = g .args in
-    after-low (a .d) (a .n) (a .e) (a .f) (a .l .now) (g .pre .1) (l .i) (here at .0) (l .inv .1) (l .inv .2) (omega (arith, g .pre .0, l .inv .3, s .kept .1 .1 .0)) (s .ensures) (c .add-rotated .ensures)
+    let s = c .before .before .before .before .mirror in let at = c .before .before .before .before .before .before .before .before in let g = at .before .before in let l = at .before .loop in
+    let a = g .args in
+    after-low (a .d) (a .n) (a .e) (a .f) (a .l .now) (g .pre .1) (l .i) (here at .0) (l .inv .1) (l .inv .2) (omega (arith, g .pre .0, l .inv .3, s .kept .1 .1 .0)) (s .ensures)
+    (c .add-rotated .ensures)
 
 add-high : tie.Need-add-high Inv-loop μ-loop
 add-high c = let h = here (c .before .before .before .before .before .before .before .before .before) in record { fits = omega arith }
@@ -86,13 +88,15 @@ part-add-rotated-start-2 c = let h = here (c .before .before .before .before .be
 
 add-rotated-requires-2 : tie.Need-add-rotated-requires-2 Inv-loop μ-loop
 add-rotated-requires-2 c κs =
-    let s = c .before .before .before .before .before .before .before .mirror in let at = c .before .before .before .before .before .before .before .before .before .before .before in let g = at .before .before in let l = at .before .loop in let a = g .args in
+    let s = c .before .before .before .before .before .before .before .mirror in let at = c .before .before .before .before .before .before .before .before .before .before .before in let g = at
+    .before .before in let l = at .before .loop in let a = g .args in
     can-add-high (a .d) (a .n) (a .e) (a .f) (a .l .now) (g .pre .1) (l .i) (here at .0) (l .inv .1) (l .inv .2) (omega (arith, g .pre .0, l .inv .3, s .kept .1 .1 .0)) (s .ensures)
     (c .before .before .before .add-rotated .ensures)
 
 loop-again : tie.Need-loop-again Inv-loop μ-loop
 loop-again c =
-    let s = c .before .before .before .before .before .before .before .before .before .mirror in let at = c .before .before .before .before .before .before .before .before .before .before .before .before .before in let g = at .before .before in let l = at .before .loop in let a = g .args in
+    let s = c .before .before .before .before .before .before .before .before .before .mirror in let at = c .before .before .before .before .before .before .before .before .before .before
+    .before .before .before in let g = at .before .before in let l = at .before .loop in let a = g .args in
     let same = after-high (a .d) (a .n) (a .e) (a .f) (a .l .now) (g .pre .1) (l .i) (here at .0) (l .inv .1) (l .inv .2) (omega (arith, g .pre .0, l .inv .3, s .kept .1 .1 .0)) (s .ensures)
     (c .before .before .before .before .before .add-rotated .ensures) (c .before .add-rotated2 .ensures) in (
       omega (arith, here at .0),
