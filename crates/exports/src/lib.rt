@@ -292,7 +292,7 @@ pub extern "C" fn wovenrock_check(
     }
     let c = slices::residues(s, commitment);
     let f = slices::wholes(degree, last);
-    let answer = transcripts::check(s, c, f, key, rounds, challenges);
+    let answer = transcripts::check_lent(s, &c, &f, key, rounds, challenges);
     let said = answer.verdict;
     *verdict = slices::verdict_number(said);
     answer.refusal
