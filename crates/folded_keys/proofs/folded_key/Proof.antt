@@ -1,6 +1,6 @@
 use mathlib.Core.Path.{_≡_, sym, subst}
 use mathlib.Core.List.{List}
-use Prim.Native.Nat.{ℕ, _*_, _^_, _<_, _≤_}
+use Prim.Native.Nat.{ℕ, _+_, _*_, _^_, _<_, _≤_}
 use native.Mathlib.Nat.{le-of-eq, pow-le-pow-right}
 use native.Mathlib.Omega.{arith}
 use lib.ListN.{length, getD, replicate, getD-replicate}
@@ -62,9 +62,9 @@ returns-5 c = λ g.
     let sums = n .ensures (summable S key (a .challenges .now) g (t .result) (t .ensures .0) _
     (omega (arith, r .degree-most, slice-aggregate-gather-elements-2 (prepared .before .before .before))) (λ k l. getD-replicate width k 0 0 (omega (arith, r .degree-most)))) in
     let ready-joint = prepared .prepare .ensures (record { positive = pq; most = omega (arith, r .modulus-most) }) in
-    let stand = gathered-stand S key x (t .result) pd (below-everywhere (S .modulus) _ key pq (g .key-below)) few (omega arith) (n .last .1 .1 .1 .1 .0) (replicate width 0)
+    let stand = gathered-stand S key x (t .result) pd (below-everywhere (S .modulus) _ key pq (g .key-below)) few (omega arith) (n .last .1 .1 .1 .1 .0) (replicate (width + 1) 0)
     (omega (arith, r .degree-most, slice-aggregate-join-all (c .before .before))) (omega (arith, r .degree-most, slice-aggregate-join-all-2 (c .before)))
-    (λ k l. getD-replicate width k 0 0 (omega (arith, r .degree-most))) sums in
+    (λ k l. getD-replicate (width + 1) k 0 0 (omega (arith, r .degree-most))) sums in
     folded-is S (a .challenges .now) pd key g x (t .ensures .1 (getD-replicate 256 0 0 0 (omega arith))) (t .result) (t .ensures .0) (c .join-all .result)
     (gathered-joined S key x (t .result) (c .join-all .result) (c .join-all .ensures (S .modulus) (gatheredKey S key x (t .result)) (ready-joint, r .degree-most, stand)))
 
