@@ -8,7 +8,7 @@ ghost use lib.IntN.{pos, _+ℤ_, _*ℤ_};
 ghost use lib.ListN.{length, getD};
 ghost use Rattle.protocol.specs.Basic.{Provided};
 ghost use Rattle.protocol.specs.Element.{width, modulo, rotate, product, signed};
-ghost use Rattle.columns.specs.Columns.{narrow, addColumns, Columns};
+ghost use Rattle.columns.specs.Columns.{narrow, addColumns, addTable, Columns, Tables};
 
 // 2^31 more than c, which is not below zero.
 fn raised(c: i32) -> u64
@@ -79,4 +79,46 @@ pub fn add_product(d: u32, f: &[i32], g: &[Residue], sums: &mut [u64])
         return;
     }
     add_columns(n, f, g, sums);
+}
+
+// The four sums are locals, so that they stay in registers over all elements; degree and columns stand here as numbers, so that the compiler unrolls them.
+fn add_elements(n: u32, f: &[i32], g: &[Residue], sums: &mut [u64])
+    requires { ⌜ Tables n (length (now f)) (length (now g)) (length (now sums)) ⌝ }
+    ensures { λ _. ⌜ now (sums .exit) ≡ addTable (now (f .entry)) (now (g .entry)) n (now (sums .entry)) ⌝ }
+{
+    let mut a = sums[0];
+    let mut b = sums[1];
+    let mut c = sums[2];
+    let mut e = sums[3];
+    for i in 0..n {
+        let at = (i as usize) * 4;
+        let p = &f[at..];
+        let r = &g[at..];
+        a = column(4, 0, p, r, a);
+        b = column(4, 1, p, r, b);
+        c = column(4, 2, p, r, c);
+        e = column(4, 3, p, r, e);
+    }
+    sums[0] = a;
+    sums[1] = b;
+    sums[2] = c;
+    sums[3] = e;
+}
+
+// Adds the products of the first n elements of two tables, of degree 4.
+pub fn add_table(n: u32, f: &[i32], g: &[Residue], sums: &mut [u64])
+    ensures { λ _. ⌜ Provided (Tables n (length (now (f .entry))) (length (now (g .entry))) (length (now (sums .entry))))
+        (now (sums .exit) ≡ addTable (now (f .entry)) (now (g .entry)) n (now (sums .entry))) ⌝ }
+{
+    let size = (n as usize) * 4;
+    if f.len() < size {
+        return;
+    }
+    if g.len() < size {
+        return;
+    }
+    if sums.len() < 4 {
+        return;
+    }
+    add_elements(n, f, g, sums);
 }

@@ -60,13 +60,7 @@ pub extern "C" fn wovenrock_commit(
     if refusal != 0 {
         return refusal;
     }
-    let committed = prover::commit(s, key, message);
-    if committed.refusal != 0 {
-        return committed.refusal;
-    }
-    let element = committed.commitment;
-    slices::store_residues(s, element, commitment);
-    0
+    prover::commit_to(s, key, message, commitment)
 }
 
 // The prover's round: the round polynomial of round done + 1 goes to the slice `polynomial`.
@@ -298,7 +292,7 @@ pub extern "C" fn wovenrock_check(
     }
     let c = slices::residues(s, commitment);
     let f = slices::wholes(degree, last);
-    let answer = transcripts::check(s, c, f, key, rounds, challenges);
+    let answer = transcripts::check_lent(s, &c, &f, key, rounds, challenges);
     let said = answer.verdict;
     *verdict = slices::verdict_number(said);
     answer.refusal

@@ -1,11 +1,11 @@
--- One turn of the sums with a child's elements: an element is spread once, and added in two places, turned.
+-- One turn of the sums with a child's elements: an element is copied to the room x once, and added in two places, turned.
 use mathlib.Core.Path.{_≡_, refl, sym, ap, _∙_, subst}
 use mathlib.Core.List.{List}
 use Prim.Native.Nat.{ℕ, _+_, _*_, _-_, _<_, _≤_}
 use native.Mathlib.Nat as Nat
 use native.Mathlib.Omega.{arith}
 use borrow.Rule.Slice.PartMut.{putMid}
-use lib.ListN.{length, getD, take, drop}
+use lib.ListN.{length, getD, take, drop, length-drop}
 use lib.IntN.{ℤ, pos, natAbs, _+ℤ_}
 use Rattle.protocol.specs.Element.{rotate, plus, signed, signedAt}
 use Rattle.protocol.specs.Layout.{width}
@@ -15,11 +15,11 @@ use Rattle.residues.proofs.Parts.{tail-at, tail-length}
 use Rattle.residues.proofs.Splice.{spliced-length, entry-before, entry-behind}
 use Rattle.protocol.proofs.Reading.{row-inside}
 use Rattle.protocol.proofs.Agreement.{rotate-same}
-use Rattle.extraction.specs.Bounds.{Spreadable, Addable, Summable}
-use Rattle.extraction.specs.Steps.{Spread, spreadAdded, rotatedAdded}
+use Rattle.extraction.specs.Bounds.{Mirrorable, Summable}
+use Rattle.extraction.specs.Steps.{Mirrored, rotatedAdded}
 use Rattle.extraction.specs.Vectors.{turnedRow, turned, Turnable}
+use Rattle.extraction.proofs.Sums.{half-at, half-mirrored}
 use Rattle.extraction.proofs.Splicing.{spliced-apart, rows-none, lent-at, rows-turn}
-use Rattle.extraction.proofs.Sums.{addable, spread-rotated}
 
 module _ (d n e f : ℕ) (l : List ℤ) (T : Turnable d n e f l) where
   abbrev low : ℕ → List ℤ → List ℤ
@@ -27,6 +27,10 @@ module _ (d n e f : ℕ) (l : List ℤ) (T : Turnable d n e f l) where
 
   abbrev high : ℕ → List ℤ → List ℤ
   high j m = splicedRows (turnedRow d f (n * d + n * d) l) (n * d + n * d) d j m
+
+  -- what a sum asks
+  abbrev Adding : ℕ → List ℤ → List ℤ → Type 0
+  Adding g x target = (0 < d) × (d ≤ width) × (g < 2 * d) × (2 * d ≤ length x) × Mirrored d (drop d x) x × Summable d (drop d x) target
 
   pub turned-none : l ≡ turned d n e f 0 l
   turned-none = rows-none (turnedRow d e (n * d) l) (n * d) d l ∙ rows-none (turnedRow d f (n * d + n * d) l) (n * d + n * d) d (low 0 l)
@@ -58,53 +62,54 @@ module _ (d n e f : ℕ) (l : List ℤ) (T : Turnable d n e f l) where
     le-next : i + 1 ≤ n
     le-next = omega arith
 
-    -- an element that is element i, and one that stands at its place behind `to`
-    module _ (source : List ℤ) (s-long : d ≤ length source) (reads : (k : ℕ) → k < d → getD source k (pos 0) ≡ getD l (i * d + k) (pos 0)) (x : List ℤ) (room : 3 * d ≤ length x) where
-      source-within : (k : ℕ) → k < d → natAbs (getD source k (pos 0)) ≤ T .bound
-      source-within k lk = subst (λ z. natAbs z ≤ T .bound) (sym (reads k lk)) (T .within (i * d + k) (omega (arith, in-row)))
-
-      spreads : Spreadable d source x
-      spreads = record { long = s-long; long-to = room; within = λ k lk. omega (arith, source-within k lk, T .room) }
-
-      module _ (target : List ℤ) (t-long : d ≤ length target) (to : ℕ) (behind : n * d ≤ to) (adds : (k : ℕ) → k < d → getD target k (pos 0) ≡ getD l (to + (i * d + k)) (pos 0))
-          (g : ℕ) (small : g < 2 * d) (spread : Spread d source x) where
-        summable : Summable d source target
-        summable = record {
-          long = s-long;
+    -- the room x, which holds element i, and an element at its place behind `to`
+    module _ (x : List ℤ) (x-long : 2 * d ≤ length x) (mirrored : Mirrored d (drop d x) x) (reads : (k : ℕ) → k < d → getD (drop d x) k (pos 0) ≡ getD l (i * d + k) (pos 0))
+        (target : List ℤ) (t-long : d ≤ length target) (to : ℕ) (behind : n * d ≤ to) (adds : (k : ℕ) → k < d → getD target k (pos 0) ≡ getD l (to + (i * d + k)) (pos 0))
+        (g : ℕ) (small : g < 2 * d) where
+      can-add : Adding g x target
+      can-add = (
+        T .some,
+        T .small,
+        small,
+        x-long,
+        mirrored,
+        record {
+          long = omega (arith, length-drop d x);
           long-to = t-long;
           bound = T .bound;
           bound-to = T .bound-to;
-          within = source-within;
+          within = λ k lk. subst (λ z. natAbs z ≤ T .bound) (sym (reads k lk)) (T .within (i * d + k) (omega (arith, in-row)));
           within-to = λ k lk. subst (λ z. natAbs z ≤ T .bound-to) (sym (adds k lk)) (T .within-to (to + (i * d + k)) (omega arith));
           room = T .room;
-        }
+        },
+      )
 
-        can-add : (d ≤ width) × (g ≤ 2 * d) × Addable d (2 * d - g) x target
-        can-add = (T .small, omega arith, addable d source target summable x room (T .some) g small spread)
+      added : rotatedAdded d g (drop d x) target ≡ filled (turnedRow d g to l i) d target
+      unfolding rotatedAdded plus signed signedAt
+      added =
+          filled-ext (λ k. signed target k +ℤ rotate d g (signed (drop d x)) k) (turnedRow d g to l i) d target (λ k lk j. adds k lk j +ℤ rotate-same (T .some) g {b = signedAt d l i} reads k j)
 
-        added : spreadAdded d (2 * d - g) x target ≡ filled (turnedRow d g to l i) d target
-        unfolding rotatedAdded plus signed signedAt
-        added =
-            spread-rotated d source target summable x room (T .some) g small spread
-            ∙ filled-ext (λ k. signed target k +ℤ rotate d g (signed source) k) (turnedRow d g to l i) d target (λ k lk j. adds k lk j +ℤ rotate-same (T .some) g {b = signedAt d l i} reads k j)
-
-    -- the list w before the turn, x the room for the spread element
-    module _ {w : List ℤ} (is : w ≡ turned d n e f i l) (same : length w ≡ length l) (x : List ℤ) (room : 3 * d ≤ length x) where
+    -- the list w before the turn
+    module _ {w : List ℤ} (is : w ≡ turned d n e f i l) (same : length w ≡ length l) where
       abbrev source : List ℤ
       source = take (length w - i * d) (drop (i * d) w)
 
       source-long : d ≤ length source
       source-long = omega (arith, tail-length (i * d) w, in-row, T .long)
 
-      reads : (k : ℕ) → k < d → getD source k (pos 0) ≡ getD l (i * d + k) (pos 0)
-      reads k lk =
+      source-at : (k : ℕ) → k < d → getD source k (pos 0) ≡ getD l (i * d + k) (pos 0)
+      source-at k lk =
           tail-at (i * d) w k (pos 0)
           ∙ ap (λ s. getD s (i * d + k) (pos 0)) is
           ∙ entry-before _ (n * d + n * d) (i * d) (low i l) (omega (arith, low-length i le-i, T .long)) (pos 0) (i * d + k) (omega (arith, in-row))
           ∙ entry-before _ (n * d) (i * d) l (omega (arith, T .long)) (pos 0) (i * d + k) (omega (arith, in-row))
 
-      pub can-spread : Spreadable d source x
-      can-spread = spreads source source-long reads x room
+      pub can-mirror : (x : List ℤ) → 2 * d ≤ length x → Mirrorable d source x
+      can-mirror x room = record {
+        long = source-long;
+        long-to = room;
+        within = λ k lk. omega (arith, ap natAbs (source-at k lk), T .within (i * d + k) (omega (arith, in-row)), T .room);
+      }
 
       -- the first sum
       abbrev below : List ℤ
@@ -125,18 +130,24 @@ module _ (d n e f : ℕ) (l : List ℤ) (T : Turnable d n e f l) where
           ∙ entry-before _ (n * d + n * d) (i * d) l (omega (arith, T .long)) (pos 0) (n * d + i * d + k) (omega (arith, in-row))
           ∙ ap (λ j. getD l j (pos 0)) (let j : n * d + i * d + k ≡ n * d + (i * d + k) = omega arith in j)
 
-      module _ (spread : Spread d source x) where
-        pub can-add-low : (d ≤ width) × (e ≤ 2 * d) × Addable d (2 * d - e) x below
-        can-add-low = can-add source source-long reads x room below below-long (n * d) (Nat.le-refl (n * d)) below-reads e (T .exponents .0) spread
+      module _ {x : List ℤ} (x-long : 2 * d ≤ length x) (M : Mirrored d source x) where
+        mirrored : Mirrored d (drop d x) x
+        mirrored = half-mirrored d source x M
 
-        module _ {p : List ℤ} (is-p : p ≡ spreadAdded d (2 * d - e) x below) where
+        reads : (k : ℕ) → k < d → getD (drop d x) k (pos 0) ≡ getD l (i * d + k) (pos 0)
+        reads k lk = half-at d source x M k lk ∙ source-at k lk
+
+        pub can-add-low : Adding e x below
+        can-add-low = can-add x x-long mirrored reads below below-long (n * d) (Nat.le-refl (n * d)) below-reads e (T .exponents .0)
+
+        module _ {p : List ℤ} (is-p : p ≡ rotatedAdded d e (drop d x) below) where
           abbrev w₁ : List ℤ
           w₁ = putMid (n * d + i * d) (length w - (n * d + i * d)) w p
 
           is-w₁ : w₁ ≡ high i (low (i + 1) l)
           is-w₁ =
               rows-turn (turnedRow d e (n * d) l) (n * d) d (high i l) i (n * d + i * d) refl low-fits is-low
-              (is-p ∙ added source source-long reads x room below below-long (n * d) (Nat.le-refl (n * d)) below-reads e (T .exponents .0) spread)
+              (is-p ∙ added x x-long mirrored reads below below-long (n * d) (Nat.le-refl (n * d)) below-reads e (T .exponents .0))
               ∙ sym (swapped (i + 1) le-next i)
 
           pub after-low : length w₁ ≡ length l
@@ -165,11 +176,11 @@ module _ (d n e f : ℕ) (l : List ℤ) (T : Turnable d n e f l) where
               ∙ entry-behind _ (n * d) ((i + 1) * d) l (omega (arith, T .long)) (pos 0) (n * d + (n * d + i * d) + k) (omega (arith, few (i + 1) le-next))
               ∙ ap (λ j. getD l j (pos 0)) (let j : n * d + (n * d + i * d) + k ≡ n * d + n * d + (i * d + k) = omega arith in j)
 
-          pub can-add-high : (d ≤ width) × (f ≤ 2 * d) × Addable d (2 * d - f) x above
-          can-add-high = can-add source source-long reads x room above above-long (n * d + n * d) (omega arith) above-reads f (T .exponents .1) spread
+          pub can-add-high : Adding f x above
+          can-add-high = can-add x x-long mirrored reads above above-long (n * d + n * d) (omega arith) above-reads f (T .exponents .1)
 
-          pub after-high : {r : List ℤ} → r ≡ spreadAdded d (2 * d - f) x above →
+          pub after-high : {r : List ℤ} → r ≡ rotatedAdded d f (drop d x) above →
               putMid (n * d + (n * d + i * d)) (length w₁ - (n * d + (n * d + i * d))) w₁ r ≡ turned d n e f (i + 1) l
           after-high is-r =
               rows-turn (turnedRow d f (n * d + n * d) l) (n * d + n * d) d (low (i + 1) l) i (n * d + (n * d + i * d)) place high-fits is-w₁
-              (is-r ∙ added source source-long reads x room above above-long (n * d + n * d) (omega arith) above-reads f (T .exponents .1) spread)
+              (is-r ∙ added x x-long mirrored reads above above-long (n * d + n * d) (omega arith) above-reads f (T .exponents .1))

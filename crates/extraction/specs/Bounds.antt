@@ -1,7 +1,6 @@
 -- How large whole numbers are: what the functions on signed 64-bit numbers ask, so that no sum and no change of sign overflows.
 --
---   Spreadable d a x  the first d numbers of a are there, with room for three times as many in x, and their signs can be changed
---   Addable d i x l   d numbers of x, from place i on, and the first d of l are there, and their sums fit
+--   Mirrorable d a x  the first d numbers of a are there, with room for twice as many in x, and their signs can be changed
 --   Summable d a l    the first d numbers of a and of l are there, and small enough to be added
 --   Doubling d k a    the first d numbers of a are there, and small enough to be divided by 1 − X^k; d is a power of two
 --   Factors d k m e bound   numbers up to `bound` are small enough to be divided by 1 − X^k and by 1 − X^m and multiplied by 1 + X^e
@@ -10,17 +9,12 @@ use mathlib.Core.Path.{_≡_}
 use mathlib.Core.List.{List}
 use Prim.Native.Nat.{ℕ, _+_, _*_, _^_, _<_, _≤_}
 use lib.ListN.{length, getD}
-use lib.IntN.{ℤ, pos, natAbs, _+ℤ_}
+use lib.IntN.{ℤ, pos, natAbs}
 
-pub record Spreadable (d : ℕ) (a x : List ℤ) : Type 0 where
+pub record Mirrorable (d : ℕ) (a x : List ℤ) : Type 0 where
   pub long : d ≤ length a
-  pub long-to : 3 * d ≤ length x
+  pub long-to : 2 * d ≤ length x
   pub within : (k : ℕ) → k < d → natAbs (getD a k (pos 0)) < 2 ^ 63
-
-pub record Addable (d i : ℕ) (x l : List ℤ) : Type 0 where
-  pub long : i + d ≤ length x
-  pub long-to : d ≤ length l
-  pub within : (k : ℕ) → k < d → natAbs (getD l k (pos 0) +ℤ getD x (i + k) (pos 0)) < 2 ^ 63
 
 pub record Summable (d : ℕ) (a l : List ℤ) : Type 0 where
   pub long : d ≤ length a

@@ -1,7 +1,7 @@
 -- What single steps on elements and lists leave, in the shape in which the code leaves it.
 --
---   Spread d a x             the first 3d numbers of x are those that stand there of a, going round by X^d = −1
---   spreadAdded d i x l      the list l with d numbers of x, from place i on, added to its first d numbers
+--   Mirrored d a x           the first 2d numbers of x are those of a with the other sign, and then with their own
+--   rowAdded negative n x l  l with the first n numbers of x added to its first n numbers, or taken away
 --   rotatedAdded d e a l     l with X^e·a added to its first d numbers
 --   summed d k j a           a·(1 + X^k)·(1 + X^2k)·(1 + X^4k)·…, j factors
 --   doublingsMost            8: one more than an odd k takes at the largest degree, 2^7
@@ -9,20 +9,23 @@
 --   divided d k a            2·a divided by 1 − X^k, where d is a power of two and k no multiple of 2d (Mu)
 --   weighted d k₁ k₂ e a     the same for two k, times 1 + X^e
 use mathlib.Core.Path.{_≡_}
+use mathlib.Core.Bool.{Bool}
 use mathlib.Core.List.{List}
 use Prim.Native.Nat.{ℕ, zero, suc, _+_, _*_, _%_, _^_, _<_}
 use lib.Dec.{eqb}
 use lib.ListN.{getD}
-use lib.IntN.{ℤ, pos, _+ℤ_}
+use lib.IntN.{ℤ, pos, negℤ, _+ℤ_}
 use Rattle.protocol.specs.Basic.{least}
-use Rattle.protocol.specs.Element.{Element, around, rotate, plus, signed}
+use Rattle.protocol.specs.Element.{Element, rotate, plus, signed}
 use Rattle.residues.specs.Lists.{filled}
+use Rattle.residues.specs.Residues as R
 
-pub record Spread (d : ℕ) (a x : List ℤ) : Type 0 where
-  pub each : (j : ℕ) → j < 3 * d → getD x j (pos 0) ≡ around d (signed a) j
+pub record Mirrored (d : ℕ) (a x : List ℤ) : Type 0 where
+  pub front : (k : ℕ) → k < d → getD x k (pos 0) ≡ negℤ (getD a k (pos 0))
+  pub back : (k : ℕ) → k < d → getD x (d + k) (pos 0) ≡ getD a k (pos 0)
 
-unfoldable pub spreadAdded : ℕ → ℕ → List ℤ → List ℤ → List ℤ
-spreadAdded d i x l = filled (λ k. getD l k (pos 0) +ℤ getD x (i + k) (pos 0)) d l
+unfoldable pub rowAdded : Bool → ℕ → List ℤ → List ℤ → List ℤ
+rowAdded negative n x l = filled (λ k. getD l k (pos 0) +ℤ R.signed negative (getD x k (pos 0))) n l
 
 unfoldable pub rotatedAdded : ℕ → ℕ → List ℤ → List ℤ → List ℤ
 rotatedAdded d e a l = filled (plus (signed l) (rotate d e (signed a))) d l

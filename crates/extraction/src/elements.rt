@@ -1,15 +1,16 @@
 // Elements over whole numbers, in signed 64-bit numbers and in place: sums with rotations, and the quotients that multiplication by μ is made of.
 // What a function asks of magnitudes leaves room for all its sums.
 use residues::on_circle;
+use residues::row_start;
 ghost use mathlib.Core.Path.{_≡_};
-ghost use Prim.Native.Nat.{_+_, _*_, _-_, _^_, _<_, _≤_};
-ghost use lib.ListN.{length};
+ghost use Prim.Native.Nat.{_*_, _^_, _<_, _≤_};
+ghost use lib.ListN.{length, drop};
 ghost use lib.IntN.{natAbs, negℤ, _+ℤ_};
 ghost use Rattle.protocol.specs.Element.{signed};
 ghost use Rattle.protocol.specs.Layout.{width};
 ghost use Rattle.residues.specs.Lists.{filled};
-ghost use Rattle.extraction.specs.Bounds.{Spreadable, Addable, Summable, Doubling, Weighable};
-ghost use Rattle.extraction.specs.Steps.{Spread, spreadAdded, rotatedAdded, divided, weighted};
+ghost use Rattle.extraction.specs.Bounds.{Mirrorable, Summable, Doubling, Weighable};
+ghost use Rattle.extraction.specs.Steps.{Mirrored, rowAdded, rotatedAdded, divided, weighted};
 
 // Copies the first n numbers of a.
 pub(crate) fn store(n: usize, a: &[i64], out: &mut [i64])
@@ -28,44 +29,59 @@ fn plus(x: i64, y: i64) -> i64
     x + y
 }
 
-fn minus(x: i64) -> i64
-    requires { ⌜ natAbs x < 2 ^ 63 ⌝ }
-    ensures { λ r. ⌜ r ≡ negℤ x ⌝ }
+fn minus(x: i64, y: i64) -> i64
+    requires { ⌜ natAbs (x +ℤ negℤ y) < 2 ^ 63 ⌝ }
+    ensures { λ r. ⌜ r ≡ x +ℤ negℤ y ⌝ }
 {
-    -x
+    x - y
 }
 
-// Spreads the first d numbers of a over the first 3d of x, going round by X^d = −1: a, −a, a. Every X^e·a, e < 2d, is then d numbers of x in a row.
-pub(crate) fn spread(d: usize, a: &[i64], x: &mut [i64])
-    requires { ⌜ Spreadable d (now a) (now x) ⌝ }
-    ensures { λ _. ⌜ Spread d (now (a .entry)) (now (x .exit)) ⌝ }
+// Adds the first n numbers of x to those of `out`, or takes them away. The sign is tested once, so that the compiler takes several numbers at a time.
+fn add_row(negative: bool, n: usize, x: &[i64], out: &mut [i64])
+    requires { ⌜ Summable n (now x) (now out) ⌝ }
+    ensures { λ _. ⌜ now (out .exit) ≡ rowAdded negative n (now (x .entry)) (now (out .entry)) ⌝ }
+{
+    if negative {
+        for k in 0..n {
+            out[k] = minus(out[k], x[k]);
+        }
+        return;
+    }
+    for k in 0..n {
+        out[k] = plus(out[k], x[k]);
+    }
+}
+
+// Copies the first d numbers of a to x twice, with the other sign and then with their own: every X^e·a, e < d, is then d numbers of x in a row.
+pub(crate) fn mirror(d: usize, a: &[i64], x: &mut [i64])
+    requires { ⌜ Mirrorable d (now a) (now x) ⌝ }
+    ensures { λ _. ⌜ Mirrored d (now (a .entry)) (now (x .exit)) ⌝ }
 {
     for k in 0..d {
         let y = a[k];
-        x[k] = y;
-        x[d + k] = minus(y);
-        x[2 * d + k] = y;
+        x[k] = minus(0, y);
+        x[d + k] = y;
     }
 }
 
-// Adds X^e·a to the first d numbers of `out`, a being spread over x.
-pub(crate) fn add_spread(d: usize, e: usize, x: &[i64], out: &mut [i64])
-    requires { ⌜ (d ≤ width) × (e ≤ 2 * d) × Addable d (2 * d - e) (now x) (now out) ⌝ }
-    ensures { λ _. ⌜ now (out .exit) ≡ spreadAdded d (2 * d - e) (now (x .entry)) (now (out .entry)) ⌝ }
+// Adds X^e·a to the first d numbers of `out`, a being the second of x's two halves, which differ in their signs. It is one row of d numbers for every e: at small degrees
+// loops whose lengths depend on e cost more than the second copy.
+pub(crate) fn add_rotated(d: usize, e: usize, x: &[i64], out: &mut [i64])
+    requires { ⌜ (0 < d) × (d ≤ width) × (e < 2 * d) × (2 * d ≤ length (now x)) × Mirrored d (drop d (now x)) (now x) × Summable d (drop d (now x)) (now out) ⌝ }
+    ensures { λ _. ⌜ now (out .exit) ≡ rotatedAdded d e (drop d (now (x .entry))) (now (out .entry)) ⌝ }
 {
-    let from = 2 * d - e;
-    for k in 0..d {
-        out[k] = plus(out[k], x[from + k]);
-    }
+    let low = e < d;
+    let from = d - row_start(d, e);
+    add_row(!low, d, &x[from..], out);
 }
 
-// a + X^e·a in place of a; x is room for the spread a.
+// a + X^e·a in place of a; x is room for two copies of a.
 fn add_own(d: usize, e: usize, a: &mut [i64], x: &mut [i64])
-    requires { ⌜ (0 < d) × (d ≤ width) × (e < 2 * d) × (3 * d ≤ length (now x)) × Summable d (now a) (now a) ⌝ }
+    requires { ⌜ (0 < d) × (d ≤ width) × (e < 2 * d) × (2 * d ≤ length (now x)) × Summable d (now a) (now a) ⌝ }
     ensures { λ _. ⌜ now (a .exit) ≡ rotatedAdded d e (now (a .entry)) (now (a .entry)) ⌝ }
 {
-    spread(d, a, x);
-    add_spread(d, e, x, a);
+    mirror(d, a, x);
+    add_rotated(d, e, x, a);
 }
 
 // Doublings from any exponent to that of −1, and one more: `doublingsMost` of the definitions.
@@ -73,7 +89,7 @@ const DOUBLINGS_MOST: usize = 8;
 
 // 2·a divided by 1 − X^k, in place of a: a·(1 + X^k)·(1 + X^2k)·(1 + X^4k) and so on, until the next power is X^d, which is −1.
 fn divide(d: usize, k: usize, a: &mut [i64], x: &mut [i64])
-    requires { ⌜ (3 * d ≤ length (now x)) × Doubling d k (now a) ⌝ }
+    requires { ⌜ (2 * d ≤ length (now x)) × Doubling d k (now a) ⌝ }
     ensures { λ _. ⌜ now (a .exit) ≡ filled (divided d k (signed (now (a .entry)))) d (now (a .entry)) ⌝ }
 {
     let mut e = k;
@@ -88,7 +104,7 @@ fn divide(d: usize, k: usize, a: &mut [i64], x: &mut [i64])
 
 // Both quotients, by 1 − X^k and by 1 − X^m, and then times 1 + X^e.
 pub(crate) fn weigh(d: usize, k: usize, m: usize, e: usize, a: &mut [i64], x: &mut [i64])
-    requires { ⌜ (3 * d ≤ length (now x)) × Weighable d k m e (now a) ⌝ }
+    requires { ⌜ (2 * d ≤ length (now x)) × Weighable d k m e (now a) ⌝ }
     ensures { λ _. ⌜ now (a .exit) ≡ filled (weighted d k m e (signed (now (a .entry)))) d (now (a .entry)) ⌝ }
 {
     divide(d, k, a, x);

@@ -2,6 +2,7 @@
 use crate::elements::store;
 use crate::vectors::node;
 use protocol::Settings;
+use protocol::WIDTH;
 ghost use mathlib.Core.Path.{_≡_};
 ghost use Prim.Native.Nat.{_*_};
 ghost use lib.ListN.{length};
@@ -14,13 +15,15 @@ const VECTOR: usize = 1024;
 
 const WORKSPACE: usize = 2 * VECTOR;
 
+const ROOM: usize = 2 * WIDTH;
+
 fn workspace() -> [i64; WORKSPACE]
     ensures { λ r. ⌜ length r ≡ 2 * vectorRoom ⌝ }
 {
     [0i64; WORKSPACE]
 }
 
-// The nodes' vectors are worked out in a local list.
+// The nodes' vectors are worked out in a local list, with room for two copies of one element beside it.
 pub(crate) fn root(settings: Settings, challenges: &[u32], leaves: &[i32], w: &mut [i64])
     requires { ⌜ Extractable settings (now challenges) (now leaves) ⌝ }
     requires { ⌜ length (now w) ≡ cells settings ⌝ }
@@ -30,6 +33,7 @@ pub(crate) fn root(settings: Settings, challenges: &[u32], leaves: &[i32], w: &m
     let first = sizes::nodes(settings);
     let end = 2 * cells;
     let mut ws = workspace();
+    let mut room = [0i64; ROOM];
     node(
         settings,
         settings.depth,
@@ -38,6 +42,7 @@ pub(crate) fn root(settings: Settings, challenges: &[u32], leaves: &[i32], w: &m
         challenges,
         leaves,
         &mut ws[..end],
+        &mut room,
     );
     store(cells, &ws[cells..], w);
 }

@@ -1,9 +1,8 @@
 // The vectors of a tree's nodes, over whole numbers: flat lists of elements, d numbers each.
-use crate::elements::add_spread;
-use crate::elements::spread;
+use crate::elements::add_rotated;
+use crate::elements::mirror;
 use crate::elements::weigh;
 use protocol::Settings;
-use protocol::WIDTH;
 use residues::on_circle;
 ghost use mathlib.Core.Path.{_≡_};
 ghost use Prim.Native.Nat.{_+_, _*_, _-_, _^_, _<_, _≤_};
@@ -16,12 +15,9 @@ ghost use Rattle.extraction.specs.Vectors.{scaled, Scalable, turned, Tur
 ghost use Rattle.protocol.specs.Nodes.{AtNode};
 ghost use Rattle.extraction.specs.Nodes.{Extractable};
 
-// Room for an element that is spread over three times as many places.
-const SPREAD: usize = 3 * WIDTH;
-
-// Multiplies each of the first n elements of v by X^(2a)·μ, from the exponents that μ's quotients and sum go by; x is room for one spread element.
+// Multiplies each of the first n elements of v by X^(2a)·μ, from the exponents that μ's quotients and sum go by; x is room for two copies of one.
 fn scale(d: usize, n: usize, k: usize, m: usize, e: usize, v: &mut [i64], x: &mut [i64])
-    requires { ⌜ (3 * d ≤ length (now x)) × Scalable d n k m e (now v) ⌝ }
+    requires { ⌜ (2 * d ≤ length (now x)) × Scalable d n k m e (now v) ⌝ }
     ensures { λ _. ⌜ now (v .exit) ≡ scaled d n k m e (now (v .entry)) ⌝ }
 {
     for i in 0..n {
@@ -30,26 +26,26 @@ fn scale(d: usize, n: usize, k: usize, m: usize, e: usize, v: &mut [i64], x: &mu
     }
 }
 
-// Adds X^e times each of the first n elements to the n behind them, and X^f times each to the n behind those. Each is spread once; x is room for that.
+// Adds X^e times each of the first n elements to the n behind them, and X^f times each to the n behind those. x is room for two copies of one.
 fn add_turned(d: usize, n: usize, e: usize, f: usize, l: &mut [i64], x: &mut [i64])
-    requires { ⌜ (3 * d ≤ length (now x)) × Turnable d n e f (now l) ⌝ }
+    requires { ⌜ (2 * d ≤ length (now x)) × Turnable d n e f (now l) ⌝ }
     ensures { λ _. ⌜ now (l .exit) ≡ turned d n e f n (now (l .entry)) ⌝ }
 {
     let cells = n * d;
     for i in 0..n {
         let at = i * d;
-        spread(d, &l[at..], x);
+        mirror(d, &l[at..], x);
         let low = cells + at;
-        add_spread(d, e, x, &mut l[low..]);
+        add_rotated(d, e, x, &mut l[low..]);
         let high = cells + low;
-        add_spread(d, f, x, &mut l[high..]);
+        add_rotated(d, f, x, &mut l[high..]);
     }
 }
 
 // Adds one child's share to a node's vector. The list is the child's vector, n elements, which is used up, and the node's, twice as long.
 // X^a is the challenge that leads to the child, X^b and X^c are the other two. The products are ahead of μ's by X^(2a), so the sums turn back.
-fn add_share(d: usize, n: usize, a: usize, b: usize, c: usize, l: &mut [i64])
-    requires { ⌜ Sharing d n a b c (now l) ⌝ }
+fn add_share(d: usize, n: usize, a: usize, b: usize, c: usize, l: &mut [i64], x: &mut [i64])
+    requires { ⌜ (2 * d ≤ length (now x)) × Sharing d n a b c (now l) ⌝ }
     ensures { λ _. ⌜ drop (n * d) (now (l .exit)) ≡ withShare d n a (mu d a b c) (take (n * d) (now (l .entry))) (drop (n * d) (now (l .entry))) ⌝ }
 {
     let back = 2 * d - a;
@@ -57,11 +53,10 @@ fn add_share(d: usize, n: usize, a: usize, b: usize, c: usize, l: &mut [i64])
     let m = on_circle(d, c + back);
     let e = on_circle(d, b + c);
     let cells = n * d;
-    let mut x = [0i64; SPREAD];
-    scale(d, n, k, m, e, &mut l[..cells], &mut x);
+    scale(d, n, k, m, e, &mut l[..cells], x);
     let once = on_circle(d, back);
     let twice = on_circle(d, 2 * once);
-    add_turned(d, n, twice, once, l, &mut x);
+    add_turned(d, n, twice, once, l, x);
 }
 
 fn clear(l: &mut [i64])
@@ -116,15 +111,16 @@ fn add_branch(
     y: usize,
     challenges: &[u32],
     ws: &mut [i64],
+    room: &mut [i64],
 )
-    requires { ⌜ Branching d n k j x y (now challenges) (now ws) ⌝ }
+    requires { ⌜ (2 * d ≤ length (now room)) × Branching d n k j x y (now challenges) (now ws) ⌝ }
     ensures { λ _. ⌜ drop (2 * (n * d)) (now (ws .exit)) ≡ branchAdded d n k j x y (now (challenges .entry)) (now (ws .entry)) ⌝ }
 {
     let a = challenge_of(challenges, k, j);
     let b = challenge_of(challenges, k, x);
     let c = challenge_of(challenges, k, y);
     let cells = n * d;
-    add_share(d, n, a, b, c, &mut ws[cells..]);
+    add_share(d, n, a, b, c, &mut ws[cells..], room);
 }
 
 // The vector of leaf j, in the second half of ws.
@@ -145,9 +141,10 @@ pub(crate) fn node(
     challenges: &[u32],
     leaves: &[i32],
     ws: &mut [i64],
+    room: &mut [i64],
 )
     requires { ⌜ Extractable settings (now challenges) (now leaves) ⌝ }
-    requires { ⌜ AtNode settings h k first (length (now ws)) ⌝ }
+    requires { ⌜ AtNode settings h k first (length (now ws)) × (2 * width ≤ length (now room)) ⌝ }
     ensures { λ _. ⌜ drop (2 ^ h * settings .degree) (now (ws .exit)) ≡ vector settings (now (challenges .entry)) (now (leaves .entry)) h k ⌝ }
 {
     let d = settings.degree as usize;
@@ -166,8 +163,9 @@ pub(crate) fn node(
         challenges,
         leaves,
         &mut ws[..half],
+        room,
     );
-    add_branch(d, n, k, 0, 1, 2, challenges, ws);
+    add_branch(d, n, k, 0, 1, 2, challenges, ws, room);
     node(
         settings,
         h - 1,
@@ -176,8 +174,9 @@ pub(crate) fn node(
         challenges,
         leaves,
         &mut ws[..half],
+        room,
     );
-    add_branch(d, n, k, 1, 0, 2, challenges, ws);
+    add_branch(d, n, k, 1, 0, 2, challenges, ws, room);
     node(
         settings,
         h - 1,
@@ -186,6 +185,7 @@ pub(crate) fn node(
         challenges,
         leaves,
         &mut ws[..half],
+        room,
     );
-    add_branch(d, n, k, 2, 0, 1, challenges, ws);
+    add_branch(d, n, k, 2, 0, 1, challenges, ws, room);
 }

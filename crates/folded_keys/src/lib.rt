@@ -133,7 +133,8 @@ pub fn folded_key(settings: Settings, key: &[Residue], challenges: &[u32]) -> [R
     let n = turns(settings, challenges, &mut x);
     if settings.modulus <= GATHERED_MOST {
         gather_elements(settings, n, key, &x, &mut sum);
-        let none = [0u64; WIDTH];
+        // the number more, which nothing reads, lets `sum` begin at a multiple of sixteen bytes
+        let none = [0u64; WIDTH + 1];
         let joint = joins::prepare(settings.modulus);
         return joins::elements::join_all(joint, settings.degree as usize, &sum, &none);
     }

@@ -52,7 +52,11 @@ module _ (d h i at behind : ℕ) (f : List ℤ) (z : MessageAt d h i at behind f
   room s l = record { each = λ j m. subst (λ x. natAbs x < 2 ^ 30) (sym (tail-at s f j (pos 0))) (omega (arith, z .small (s + j) (omega arith))) }
 
   pub message-inside : (at ≤ length f) × (behind ≤ length f)
-  message-inside = (omega (arith, z .long, first-inside d h i at behind (z .inside) (z .first) (z .second-at)), omega (arith, z .long, second-inside d h i at behind (z .inside) (z .first) (z .second-at)))
+  message-inside = (
+    omega (arith, z .long, first-inside d h i at behind (z .inside) (z .first) (z .second-at)),
+    omega
+        (arith, z .long, second-inside d h i at behind (z .inside) (z .first) (z .second-at)),
+  )
 
   pub message-sum-is : (m m′ : List ℤ) → d ≤ length m
       → (Long d (length (take (length f - at) (drop at f))) (length (take (length f - behind) (drop behind f))) (length m)

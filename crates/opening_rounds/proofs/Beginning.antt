@@ -165,7 +165,8 @@ module _ (S : Settings) (key : List ℕ) (message : List ℤ) (z : commitRefusal
     pub first-begun : (out : List ℕ) → filled (λ k. half S ^ 1 * getD C1 k 0 % q) (itemCells S) out ≡ filled (rowPlaces d (roundItem S 0 key message 0)) (itemCells S) out
     unfolding roundElement cross
     first-begun out = copied-times q d (itemCells S) pq pd one C C1 table1 (half S ^ 1) out
-        ∙ ap (λ i. filled (rowPlaces d (λ r. reduced q d (times (pos (half S ^ 1)) (inner d i (signedAt d message) (residueAt d (keyRow S key r)))))) (itemCells S) out) (ap (λ i. i / 2) n-is ∙ half-whole S)
+        ∙ ap (λ i. filled (rowPlaces d (λ r. reduced q d (times (pos (half S ^ 1)) (inner d i (signedAt d message) (residueAt d (keyRow S key r)))))) (itemCells S) out)
+        (ap (λ i. i / 2) n-is ∙ half-whole S)
 
     module _ (Z C2 : List ℕ) (is2 : C2 ≡ filled (rowPlaces d (λ r. innerElement false q d (n - h) (tail (h * d) message) (tail (h * d) (keyRow S key r)))) (itemCells S) Z)
         (long1 : itemCells S ≤ length C1) (long2 : itemCells S ≤ length C2) where

@@ -149,13 +149,15 @@ module _ (S : Settings) (ok : Valid S) (G : List ℕ) (M : List ℤ) (E R : List
     next = sym (Nat.add-mul (3 * t) 3 n) ∙ ap (λ m. m * n) (omega arith)
 
     pub front-first : spliced (rowPlaces d (c 0)) (3 * t * n) n (front X R (3 * t * n)) ≡ front X R (3 * t * n + n)
-    front-first = front-more X R (3 * t * n) n (omega (arith, inside, X-long)) (rowPlaces d (c 0)) (λ k h. entry 0 k (omega arith) h ∙ ap (λ m. getD X m 0) {x = 3 * t * n + 0 * n + k} (omega (arith, Nat.zero-mul n)))
+    front-first = front-more X R (3 * t * n) n (omega (arith, inside, X-long)) (rowPlaces d (c 0))
+        (λ k h. entry 0 k (omega arith) h ∙ ap (λ m. getD X m 0) {x = 3 * t * n + 0 * n + k} (omega (arith, Nat.zero-mul n)))
 
     pub front-rest : restStored S t (keysAfter S E t G) (messageAfter S E t M) (front X R (3 * t * n + n)) ≡ front X R (3 * suc t * n)
     unfolding restStored
     front-rest =
         ap (λ r. spliced (rowPlaces d (c 2)) (3 * t * n + 2 * n) n r)
-        (front-more X R (3 * t * n + n) n (omega (arith, inside, X-long)) (rowPlaces d (c 1)) (λ k h. entry 1 k (omega arith) h ∙ ap (λ m. getD X m 0) {x = 3 * t * n + 1 * n + k} (omega (arith, Nat.one-mul n))))
+        (front-more X R (3 * t * n + n) n (omega (arith, inside, X-long)) (rowPlaces d (c 1))
+        (λ k h. entry 1 k (omega arith) h ∙ ap (λ m. getD X m 0) {x = 3 * t * n + 1 * n + k} (omega (arith, Nat.one-mul n))))
         ∙ ap (λ m. spliced (rowPlaces d (c 2)) (3 * t * n + 2 * n) n (front X R m)) {x = 3 * t * n + n + n} {y = 3 * t * n + 2 * n} (omega arith)
         ∙ front-more X R (3 * t * n + 2 * n) n (omega (arith, inside, X-long)) (rowPlaces d (c 2)) (λ k h. entry 2 k (omega arith) h)
         ∙ ap (λ m. front X R m) {x = 3 * t * n + 2 * n + n} {y = 3 * suc t * n} (omega (arith, next))

@@ -15,7 +15,7 @@ use Rattle.protocol.proofs.Agreement.{Same, product-same}
 use Rattle.protocol.proofs.Reading.{row-inside, cell-inside}
 use Rattle.residues.proofs.Parts.{tail-at, tail-length}
 use Rattle.residues.proofs.Fill.{filled, filled-at, zeros-at}
-use Rattle.columns.specs.Columns.{narrow, addColumns}
+use Rattle.columns.specs.Columns.{narrow, addColumns, addTable}
 use Rattle.columns.proofs.Words.{word-add}
 use Rattle.rows.specs.Rows.{strand, woven, narrowed, addRows, Prepared}
 use Rattle.rows.proofs.Extension.{woven-at}
@@ -73,7 +73,8 @@ module _ (q d m : ℕ) (f : List ℤ) (g : List ℕ) (ok : Columned q d m f g) (
         let y = product d (signed f) (residue g) k in
         halves-within q _ _ _ _ _ (omega (arith, Nat.mul-assoc d m weight)) (
         halves-add q p (F k) y _ (d * (m * weight)) _ _ _ _ (modulo (2 ^ 64) y) 0 H (halves-lower q y (d * (m * weight)) (product-most d m (ok .elements .degree) f g k (ok .small) below))
-        (ap (λ l. getD l k 0) e ∙ filled-at _ d s 0 k l ∙ ap (λ z. modulo (2 ^ 64) (pos (getD s k 0) +ℤ z)) (narrow-same d m (ok .elements .degree) f g k (ok .small) below) ∙ sym (word-add (getD s k 0) _ y refl))
+        (ap (λ l. getD l k 0) e ∙ filled-at _ d s 0 k l ∙ ap (λ z. modulo (2 ^ 64) (pos (getD s k 0) +ℤ z)) (narrow-same d m (ok .elements .degree) f g k (ok .small) below) ∙ sym
+        (word-add (getD s k 0) _ y refl))
         (omega (arith, H .none few)));
   }
 
@@ -142,7 +143,7 @@ module _ (q d n i : ℕ) (f : List ℤ) (g : List ℕ) (z : Summable q d n f g) 
   row : i * d + d ≤ n * d
   row = row-inside d n i inside
 
-  pub table-columned : Columned q d (z .magnitude) (part f) (part g)
+  table-columned : Columned q d (z .magnitude) (part f) (part g)
   table-columned =
       let e = z .elements in
       record {
@@ -157,11 +158,20 @@ module _ (q d n i : ℕ) (f : List ℤ) (g : List ℕ) (z : Summable q d n f g) 
         residues = λ j l. subst (λ y. y < q) (sym (tail-at (i * d) g j 0)) (z .residues (i * d + j) (omega (arith, row)));
       }
 
-  pub table-more : (s t : List ℕ) → Stands q d (plus (inner d i (signedAt d f) (residueAt d g)) (product d (signed (part f)) (residue (part g)))) (i * (d * z .magnitude) + d * z .magnitude) s t
+  table-more : (s t : List ℕ) → Stands q d (plus (inner d i (signedAt d f) (residueAt d g)) (product d (signed (part f)) (residue (part g)))) (i * (d * z .magnitude) + d * z .magnitude) s t
       → Stands q d (inner d (i + 1) (signedAt d f) (residueAt d g)) ((i + 1) * (d * z .magnitude)) s t
   unfolding signed residue signedAt residueAt
   table-more s t = stands-more q d (d * z .magnitude) (z .elements .degree) (signedAt d f) (residueAt d g) i (part f) (part g) s t
       (λ j _. tail-at (i * d) f j (pos 0)) (λ j _. ap pos (tail-at (i * d) g j 0))
+
+-- the first i elements of two tables, at degree 4
+module _ (q n : ℕ) (f : List ℤ) (g : List ℕ) (z : Summable q 4 n f g) (few : q < weight) (s t : List ℕ) (none : Stands q 4 (inner 4 0 (signedAt 4 f) (residueAt 4 g)) 0 s t) where
+  pub table-stands : (i : ℕ) → i ≤ n → Stands q 4 (inner 4 i (signedAt 4 f) (residueAt 4 g)) (i * (4 * z .magnitude)) (addTable f g i s) t
+  unfolding addTable
+  table-stands zero l = stands-first q 4 (4 * z .magnitude) _ s t none
+  table-stands (suc i) l =
+      subst (λ m. Stands q 4 (inner 4 m (signedAt 4 f) (residueAt 4 g)) (m * (4 * z .magnitude)) (addTable f g (suc i) s) t) (add-one i)
+      (table-more q 4 n i f g z l _ t (columns-stand q 4 (z .magnitude) _ _ (table-columned q 4 n i f g z l) _ _ (addTable f g i s) t (table-stands i (omega arith)) few _ refl))
 
 -- an inner product of one element
 pub stands-one : (q d w : ℕ) (f : List ℤ) (g s t : List ℕ) → Stands q d (inner d 1 (signedAt d f) (residueAt d g)) (1 * w) s t → Stands q d (product d (signed f) (residue g)) w s t

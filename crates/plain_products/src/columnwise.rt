@@ -19,10 +19,7 @@ pub(crate) fn add_elements(n: u32, f: &[i32], g: &[Residue], s: &mut [Sum])
         → Provided ((q < 2 ^ 32) × Stands q 4 (inner 4 0 (signedAt 4 (now (f .entry))) (residueAt 4 (now (g .entry)))) 0 (now (s .entry)) t)
         (Stands q 4 (inner 4 n (signedAt 4 (now (f .entry))) (residueAt 4 (now (g .entry)))) (n * (4 * z .magnitude)) (now (s .exit)) t)) ⌝ }
 {
-    for j in 0..n {
-        let at = (j as usize) * 4;
-        columns::add_product(4, &f[at..], &g[at..], s);
-    }
+    columns::add_table(n, f, g, s);
 }
 
 // Adds those of the sums of two tables' halves, which have h elements; m and k are room for one of each.

@@ -15,8 +15,9 @@ ghost use Rattle.half_sums.specs.Halves.{messagesOf};
 ghost use Rattle.batches.specs.Batches.{Zero, Suits, Ready};
 ghost use Rattle.plain_products.specs.Sums.{Summable, RowsGiven, RowsWritten};
 
-// Room for a table of 256 elements, of the largest degree, and for a short one.
-const TABLE: usize = 256 * WIDTH;
+// Room for a table of 256 elements, of the largest degree, and for a short one. The four numbers more, which nothing reads, are eight bytes: with them the rooms that share
+// its place on the stack begin at a multiple of sixteen, where a row of four strands takes a fifth less time.
+const TABLE: usize = 256 * WIDTH + 4;
 
 const SHORT_TABLE: usize = 64 * WIDTH;
 

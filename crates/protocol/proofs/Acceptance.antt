@@ -84,7 +84,8 @@ module _ (S : Settings) (key : List ℕ) (T : Transcript) where
   parts : (r : ℕ) → accepted S (keyRow S key r) (rowOf S T r) ≡ true
       → (every (S .depth) (holdsAt S (rowOf S T r)) ≡ true) × (finalBounded S (signed (T .last)) ≡ true) × (closesAt r ≡ true)
   unfolding accepted rowOf
-  parts r t = let (rounds, end) = and-split {a = every (S .depth) (holdsAt S (rowOf S T r))} t in let (bound, equation) = and-split {a = finalBounded S (signed (T .last))} end in (rounds, bound, equation)
+  parts r t = let (rounds, end) = and-split {a = every (S .depth) (holdsAt S (rowOf S T r))} t in let (bound, equation) = and-split {a = finalBounded S (signed (T .last))} end in
+      (rounds, bound, equation)
 
   -- there is a row, in which the bound is tested
   pub cause-none : 0 < S .rows → allAccepted S key T ≡ true → cause S key T ≡ Cause.none

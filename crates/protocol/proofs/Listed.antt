@@ -80,7 +80,14 @@ unfolding start
 start-listed S C {claims} passed e = λ i. record { refusal = passed i; next = (granted-zero (startRefusal S C) (opened S C) blank passed ∙ next) i }
   where
     next : opened S C ≡ record { settings = S; done = 0; claims = claims; challenges = zeros slots; closed = false }
-    next = unfold opened in λ i. record { settings = S; done = 0; claims = (atRows-listed S (λ r. tabulate (S .degree) (λ k. getD (valueRow C r) k 0)) ∙ e) i; challenges = zeros slots; closed = false }
+    next = unfold opened in λ i. record {
+      settings = S;
+      done = 0;
+      claims = (atRows-listed S (λ r. tabulate (S .degree) (λ k. getD (valueRow C r) k 0)) ∙ e) i;
+      challenges = zeros slots;
+      closed =
+          false;
+    }
 
 chosen : (b : Bool) (x y : Moved) → b ≡ true → choose b x y ≡ x
 unfolding choose

@@ -19,7 +19,25 @@ use Rattle.protocol.specs.declared.Written.{Written}
 use Rattle.protocol.specs.Basic.{choose, granted}
 use Rattle.protocol.specs.Layout.{keyCells, roundCells}
 use Rattle.protocol.specs.Settings.{settingsRefusal, cells, hasLength, allBelow, exponent, exponents}
-use Rattle.protocol.specs.Text.{Tables, shape, shapes, shapeSize, fits, wanted, linesOf, spotsOf, sameSpots, settingsIn, tablesIn, lookRefusal, entriesRefusal, textRefusal, outputRefusal, written, overwritten}
+use Rattle.protocol.specs.Text.{
+  Tables,
+  shape,
+  shapes,
+  shapeSize,
+  fits,
+  wanted,
+  linesOf,
+  spotsOf,
+  sameSpots,
+  settingsIn,
+  tablesIn,
+  lookRefusal,
+  entriesRefusal,
+  textRefusal,
+  outputRefusal,
+  written,
+  overwritten,
+}
 use Rattle.protocol.specs.Programs.{proveReads, proofText, proveText, proveRefusal, proveAnswer, proveExit}
 use Rattle.protocol.specs.Promises.{Proved}
 use Rattle.protocol.proofs.Tests.{and-split, first-zero, unless-zero}

@@ -14,9 +14,10 @@ use Rattle.protocol.specs.Element.{zeros, reduced, signedAt, residueAt}
 use Rattle.protocol.specs.Settings.{settingsRefusal, size, cells}
 use Rattle.protocol.specs.Layout.{itemCells, rowsWidth}
 use Rattle.protocol.specs.Opening.{inner, left, commitment}
-use Rattle.protocol.specs.Rows.{keyRow, atRows}
-use Rattle.protocol.specs.Calls.{commitRefusal, polynomial}
+use Rattle.protocol.specs.Rows.{keyRow, atRows, together}
+use Rattle.protocol.specs.Calls.{commitRefusal, commitAnswer, polynomial}
 use Rattle.protocol.proofs.Inputs.{settings-valid}
+use Rattle.protocol.proofs.Tests.{granted-zero}
 use Rattle.protocol.proofs.Rows.{keyRow-length}
 use Rattle.protocol.proofs.Reading.{cell-inside, cell-element, cell-place, tabulate-at}
 use Rattle.residues.specs.Lists.{filled}
@@ -29,6 +30,7 @@ use Rattle.round_products.specs.Items.{roundItem, Sent}
 use Rattle.round_products.proofs.Products.{summable, left-whole, commit-tables}
 use Rattle.round_products.proofs.Rowwise.{keys-given}
 use Rattle.slices.specs.Slices.{valuesOf}
+use Rattle.slices.proofs.Laws.{element-back}
 use Rattle.slices.proofs.Rows.{atRows-ext}
 use Rattle.prover.specs.Rowwise.{committed}
 
@@ -50,7 +52,14 @@ item-front S n e l = atRows-ext S _ _ (λ r k a b.
     ∙ sym (tabulate-at (S .degree) (λ k. getD l (r * S .degree + k) 0) 0 k b))
 
 pub item-room : (S : Settings) → settingsRefusal S ≡ 0 → itemCells S ≤ length (zeros rowsWidth)
-item-room S ok = omega (arith, settings-valid S ok .rows-most, degree-most S (settings-valid S ok), mul-le-mul {n₁ = S .rows} {m₁ = S .degree} {n₂ = 4} {m₂ = 128} (settings-valid S ok .rows-most) (degree-most S (settings-valid S ok)), zeros-length rowsWidth)
+item-room S ok = omega (
+  arith,
+  settings-valid S ok .rows-most,
+  degree-most S (settings-valid S ok),
+  mul-le-mul {n₁ = S .rows} {m₁ = S .degree} {n₂ = 4} {m₂ = 128}
+      (settings-valid S ok .rows-most) (degree-most S (settings-valid S ok)),
+  zeros-length rowsWidth,
+)
 
 -- ---- the commitment
 
@@ -63,9 +72,19 @@ module _ (S : Settings) (key : List ℕ) (message : List ℤ) (z : commitRefusal
       (λ r l. summable _ _ _ _ _ (commit-tables S (keyRow S key r) message (commit-given S key message z r l))) .rows
 
   pub commitment-item : (l : List ℕ)
-      → filled (rowPlaces (S .degree) (λ r. innerElement false (S .modulus) (S .degree) (left S 0) message (keyRow S key r))) (itemCells S) l ≡ filled (rowPlaces (S .degree) (committed S key message)) (itemCells S) l
+      → filled (rowPlaces (S .degree) (λ r. innerElement false (S .modulus) (S .degree) (left S 0) message (keyRow S key r))) (itemCells S) l ≡ filled
+      (rowPlaces (S .degree) (committed S key message)) (itemCells S) l
   unfolding commitment messagesOf keysOf
-  commitment-item l = ap (λ n. filled (rowPlaces (S .degree) (λ r. reduced (S .modulus) (S .degree) (inner (S .degree) n (signedAt (S .degree) message) (residueAt (S .degree) (keyRow S key r))))) (itemCells S) l) (left-whole S)
+  commitment-item l = ap (λ n. filled (rowPlaces (S .degree) (λ r. reduced (S .modulus) (S .degree)
+      (inner (S .degree) n (signedAt (S .degree) message) (residueAt (S .degree) (keyRow S key r))))) (itemCells S) l) (left-whole S)
+
+-- a table that is nothing but the commitment
+pub commit-stored : (S : Settings) → settingsRefusal S ≡ 0 → (key : List ℕ) (message : List ℤ) → commitRefusal S key message ≡ 0 → (l s : List ℕ) → length s ≡ itemCells S
+    → s ≡ filled (rowPlaces (S .degree) (committed S key message)) (itemCells S) l → s ≡ together S (commitAnswer S key message .commitment)
+unfolding commitAnswer
+commit-stored S ok key message z l s long e =
+    sym (element-back S (settings-valid S ok) s long) ∙ ap (together S) (item-by-value S (committed S key message) l s e ∙ sym
+    (granted-zero _ (atRows S (committed S key message)) (zeros rowsWidth) z))
 
 -- ---- the round polynomial
 

@@ -17,7 +17,7 @@ ghost use Rattle.protocol.specs.Rows.{foldKeys};
 ghost use Rattle.protocol.specs.Calls.{commitAnswer, roundAnswer, foldRefusal, endAnswer};
 ghost use Rattle.protocol.specs.Promises.{Folded};
 ghost use Rattle.slices.specs.Slices.{valuesOf};
-ghost use Rattle.prover.specs.Rowwise.{KeysGiven};
+ghost use Rattle.prover.specs.Rowwise.{CommitTo, KeysGiven};
 
 // An item, with which a table begins, as it is passed by value.
 pub fn by_value(settings: Settings, item: &[Residue]) -> [Residue; ROWS_WIDTH]
@@ -30,18 +30,14 @@ pub fn by_value(settings: Settings, item: &[Residue]) -> [Residue; ROWS_WIDTH]
     slices::residues(settings, &item[..n])
 }
 
-// The commitment to a message.
-pub fn commit(settings: Settings, key: &[Residue], message: &[i32]) -> Committed
-    ensures { λ r. ⌜ r ≡ commitAnswer settings (now (key .entry)) (now (message .entry)) ⌝ }
+// The commitment to a message, written to the front of a table; a refused call leaves it as it is.
+pub fn commit_to(settings: Settings, key: &[Residue], message: &[i32], out: &mut [Residue]) -> u32
+    ensures { λ r. ⌜ CommitTo settings (now (key .entry)) (now (message .entry)) (now (out .entry)) r (now (out .exit)) ⌝ }
 {
     let refusal = prover_refusals::prover::commit(settings, key, message);
     if refusal != 0 {
-        return Committed {
-            refusal,
-            commitment: [0; ROWS_WIDTH],
-        };
+        return refusal;
     }
-    let mut item: [Residue; ROWS_WIDTH] = [0; ROWS_WIDTH];
     products::inner_rows(
         false,
         settings.modulus,
@@ -51,8 +47,23 @@ pub fn commit(settings: Settings, key: &[Residue], message: &[i32]) -> Committed
         sizes::cells(settings),
         message,
         key,
-        &mut item,
+        out,
     );
+    0
+}
+
+// The same by value.
+pub fn commit(settings: Settings, key: &[Residue], message: &[i32]) -> Committed
+    ensures { λ r. ⌜ r ≡ commitAnswer settings (now (key .entry)) (now (message .entry)) ⌝ }
+{
+    let mut item: [Residue; ROWS_WIDTH] = [0; ROWS_WIDTH];
+    let refusal = commit_to(settings, key, message, &mut item);
+    if refusal != 0 {
+        return Committed {
+            refusal,
+            commitment: [0; ROWS_WIDTH],
+        };
+    }
     Committed {
         refusal: 0,
         commitment: by_value(settings, &item),

@@ -112,11 +112,13 @@ module _ (S : Settings) (t : ℕ) (key : List ℕ) (message : List ℤ) (z : rou
 
   pub first-given : ItemsGiven false S h message key (keyRow S key)
   unfolding sizeOf Given
-  first-given = keys-given S key allowed long false h message (omega (arith, inside)) (λ r l. summable q d h message (keyRow S key r) (first-halves q d h message (keyRow S key r) (tables r l .tables)))
+  first-given = keys-given S key allowed long false h message (omega (arith, inside)) (λ r l. summable q d h message (keyRow S key r)
+      (first-halves q d h message (keyRow S key r) (tables r l .tables)))
 
   pub second-given : ItemsGiven false S h (tail (h * d) message) (tail (h * d) key) (λ r. tail (h * d) (keyRow S key r))
   unfolding sizeOf Given
-  second-given = tails-given S key allowed long false h (tail (h * d) message) (h * d) (omega (arith, inside)) (λ r l. summable q d h _ _ (second-halves q d h message (keyRow S key r) (tables r l .tables)))
+  second-given = tails-given S key allowed long false h (tail (h * d) message) (h * d) (omega (arith, inside))
+      (λ r l. summable q d h _ _ (second-halves q d h message (keyRow S key r) (tables r l .tables)))
 
   pub sum-given : ItemsGiven true S h message key (keyRow S key)
   unfolding sizeOf Given
@@ -131,10 +133,12 @@ module _ (S : Settings) (t : ℕ) (key : List ℕ) (message : List ℤ) (z : rou
     unfolding roundElement cross messagesOf keysOf
     first-item = λ i. filled (rowPlaces d (innerItem false S h s message (keyRow S key))) (itemCells S) l
 
-    pub last-item : filled (rowPlaces d (innerItem false S h s (tail (h * d) message) (λ r. tail (h * d) (keyRow S key r)))) (itemCells S) l ≡ filled (rowPlaces d (roundItem S t key message 2)) (itemCells S) l
+    pub last-item : filled (rowPlaces d (innerItem false S h s (tail (h * d) message) (λ r. tail (h * d) (keyRow S key r)))) (itemCells S) l ≡ filled (rowPlaces d (roundItem S t key message 2))
+        (itemCells S) l
     unfolding roundElement messagesOf keysOf times
     last-item = item-same q d (itemCells S) pd (λ r. times (pos s) (inner d h (signedAt d (tail (h * d) message)) (residueAt d (tail (h * d) (keyRow S key r)))))
-        (λ r. times (pos s) (cross d h (signedAt d message) (residueAt d (keyRow S key r)) 2)) (λ k m. ap (λ v. modulo q (pos s *ℤ v)) (cross-last q d h message (keyRow S key (k / d)) (tables (k / d) (row k m) .tables) (k % d))) l
+        (λ r. times (pos s) (cross d h (signedAt d message) (residueAt d (keyRow S key r)) 2))
+        (λ k m. ap (λ v. modulo q (pos s *ℤ v)) (cross-last q d h message (keyRow S key (k / d)) (tables (k / d) (row k m) .tables) (k % d))) l
 
     pub sum-item : filled (rowPlaces d (innerItem true S h s message (keyRow S key))) (itemCells S) l
         ≡ filled (rowPlaces d (λ r. reduced q d (times (pos s) (innerOfSums d h (signedAt d message) (residueAt d (keyRow S key r)))))) (itemCells S) l

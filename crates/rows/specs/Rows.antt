@@ -13,7 +13,8 @@
 --   total n f         f 0 + f 1 + … + f (n − 1)
 --   term c d f x p j  what row j adds to sum p
 --   Rows c d ..       are the tables of a product long enough
---   Preparable q d .. may an element of a length be prepared in a room of another
+--   Residues q d a    the first d numbers of a are residues
+--   Preparable q d a .. may the element a be prepared in a room of a length
 --   Prepared q d a x  the element a is prepared at the front of x
 use mathlib.Core.List.{List, _++_}
 use mathlib.Core.Path.{_≡_}
@@ -69,11 +70,14 @@ pub record Rows (c d f x s : ℕ) : Type 0 where
   pub residues : 3 * (d * c) ≤ x
   pub sums : d * c ≤ s
 
-pub record Preparable (q d a room : ℕ) : Type 0 where
-  pub modulus : 0 < q
+pub record Residues (q d : ℕ) (a : List ℕ) : Type 0 where
+  pub each : (k : ℕ) → k < d → getD a k 0 < q
+
+pub record Preparable (q d : ℕ) (a : List ℕ) (room : ℕ) : Type 0 where
   pub degree : 0 < d
   pub degree-most : d ≤ rowsWidth
-  pub coefficients : d ≤ a
+  pub coefficients : d ≤ length a
+  pub residues : Residues q d a
   pub places : 3 * d ≤ room
 
 pub record Prepared (q d : ℕ) (a : Element) (x : List ℕ) : Type 0 where

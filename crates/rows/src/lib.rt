@@ -14,42 +14,28 @@ ghost use Rattle.protocol.specs.Basic.{Provided};
 ghost use Rattle.protocol.specs.Element.{width, residue};
 ghost use Rattle.protocol.specs.Layout.{rowsMost, rowsWidth};
 ghost use Rattle.residues.specs.Lists.{spliced};
-ghost use Rattle.rows.specs.Rows.{turned, narrowed, start, addRow, addRows, addFour, Rows, Preparable, Prepared};
-
-// x modulo q; a residue is not divided.
-fn reduce(q: Residue, x: Residue) -> Residue
-    requires { ⌜ 0 < q ⌝ }
-    ensures { λ r. ⌜ r ≡ x % q ⌝ }
-{
-    if x < q {
-        return x;
-    }
-    x % q
-}
+ghost use Rattle.rows.specs.Rows.{turned, narrowed, start, addRow, addRows, addFour, Rows, Residues, Preparable, Prepared};
 
 // The residues that stand at the places 0 to 3d − 1 of a, going round by X^d = −1, written to the front of y: each residue, its negative, and
 // the residue again.
 fn write_rows(q: Residue, d: usize, a: &[Residue], y: &mut [u64])
-    requires { ⌜ (0 < q) × (d ≤ rowsWidth) × (d ≤ length (now a)) × (3 * d ≤ length (now y)) ⌝ }
-    ensures { λ _. ⌜ now (y .exit) ≡ spliced (turned q d (residue (now (a .entry)))) 0 (3 * d) (now (y .entry)) ⌝ }
+    requires { ⌜ (d ≤ rowsWidth) × (d ≤ length (now a)) × (3 * d ≤ length (now y)) ⌝ }
+    ensures { λ _. ⌜ Provided (Residues q d (now (a .entry))) (now (y .exit) ≡ spliced (turned q d (residue (now (a .entry)))) 0 (3 * d) (now (y .entry))) ⌝ }
 {
     for k in 0..d {
-        let x = reduce(q, a[k]);
+        let x = a[k];
         y[k] = x;
         y[d + k] = residues::negated(q, x);
         y[2 * d + k] = x;
     }
 }
 
-// Prepares an element of d numbers, woven or not, at the front of a lent room: every rotation of it, with either sign, is then d places in a row. What stands
+// Prepares an element of d residues, woven or not, at the front of a lent room: every rotation of it, with either sign, is then d places in a row. What stands
 // behind it stays.
 pub fn prepare(q: Residue, d: u32, a: &[Residue], x: &mut [u64])
-    ensures { λ _. ⌜ Provided (Preparable q d (length (now (a .entry))) (length (now (x .entry)))) (Prepared q d (residue (now (a .entry))) (now (x .exit))) ⌝ }
+    ensures { λ _. ⌜ Provided (Preparable q d (now (a .entry)) (length (now (x .entry)))) (Prepared q d (residue (now (a .entry))) (now (x .exit))) ⌝ }
 {
     let n = d as usize;
-    if q == 0 {
-        return;
-    }
     if n > ROWS_WIDTH {
         return;
     }

@@ -20,7 +20,23 @@ use Rattle.protocol.specs.Element.{zeros}
 use Rattle.protocol.specs.Layout.{rowsWidth}
 use Rattle.protocol.specs.Settings.{settingsRefusal, exponent}
 use Rattle.protocol.specs.Settings as S
-use Rattle.protocol.specs.Session.{slots, opened, blank, startRefusal, start, shut, sessionRoundRefusal, advanced, sessionRoundHolds, round, sessionEndRefusal, end, refusedMove, sessionEndHolds, verdict}
+use Rattle.protocol.specs.Session.{
+  slots,
+  opened,
+  blank,
+  startRefusal,
+  start,
+  shut,
+  sessionRoundRefusal,
+  advanced,
+  sessionRoundHolds,
+  round,
+  sessionEndRefusal,
+  end,
+  refusedMove,
+  sessionEndHolds,
+  verdict,
+}
 use Rattle.protocol.proofs.Tests.{first-zero, unless-zero, and-split}
 use Rattle.protocol.proofs.Inputs.{settings-valid}
 use Rattle.protocol.proofs.Rows.{atRows-length}
@@ -94,7 +110,14 @@ module _ (r : Session) where
       let challenges = tabulate-ext 8 (λ k h. own (challenge-at k h) (w .exponents-small k)) ∙ tabulate-own 8 (r .challenges) 0 (w .challenges) in
       let closed = ap (λ n. eqb n 1) (head-at 6 (omega arith)) ∙ flag (r .closed) in
       λ i. record {
-        settings = record { degree = own (head-at 0 (omega arith)) (w .degree) i; depth = own (head-at 1 (omega arith)) (w .depth) i; modulus = head-at 2 (omega arith) i; bound = own (head-at 3 (omega arith)) (w .bound) i; rows = own (head-at 4 (omega arith)) (w .rows) i };
+        settings = record {
+          degree = own (head-at 0 (omega arith)) (w .degree) i;
+          depth = own (head-at 1 (omega arith)) (w .depth) i;
+          modulus = head-at 2 (omega arith) i;
+          bound = own
+              (head-at 3 (omega arith)) (w .bound) i;
+          rows = own (head-at 4 (omega arith)) (w .rows) i;
+        };
         done = own (head-at 5 (omega arith)) (w .done) i;
         claims = claims i;
         challenges = challenges i;
@@ -135,7 +158,8 @@ module _ (t : List ℕ) (long : length t ≡ recordWidth) (good : flagged t ≡ 
   ]
     where
       challenge-kept : (k : ℕ) → 7 ≤ k → k < 15 → getD (sessionOf t .challenges) (k - 7) 0 ≡ getD t k 0
-      challenge-kept k a b = unfold sessionOf in unfold challengesOf in tabulate-at 8 (λ j. capped (getD t (7 + j) 0)) 0 (k - 7) (omega arith) ∙ ap (λ n. capped (getD t n 0)) (omega arith) ∙ kept-at k (omega arith) (λ e. omega arith)
+      challenge-kept k a b = unfold sessionOf in unfold challengesOf in tabulate-at 8 (λ j. capped (getD t (7 + j) 0)) 0 (k - 7) (omega arith) ∙ ap (λ n. capped (getD t n 0)) (omega arith) ∙
+          kept-at k (omega arith) (λ e. omega arith)
 
       place-kept : (k : ℕ) → 15 ≤ k → k < recordWidth → getD (sessionOf t .claims) (k - 15) 0 ≡ getD t k 0
       place-kept k a b = unfold sessionOf in unfold claimsOf in tabulate-at rowsWidth (λ j. getD t (15 + j) 0) 0 (k - 15) (omega arith) ∙ ap (λ n. getD t n 0) (omega arith)
@@ -184,7 +208,16 @@ start-whole S C = go (startRefusal S C) refl
           done = omega arith;
           exponents-small = zero-small;
         }
-    go (suc n) e = record { claims = zeros-length rowsWidth; challenges = zeros-length 8; degree = omega arith; depth = omega arith; bound = omega arith; rows = omega arith; done = omega arith; exponents-small = zero-small }
+    go (suc n) e = record {
+      claims = zeros-length rowsWidth;
+      challenges = zeros-length 8;
+      degree = omega arith;
+      depth = omega arith;
+      bound = omega arith;
+      rows = omega arith;
+      done = omega arith;
+      exponents-small = zero-small;
+    }
 
 module _ (r : Session) (w : Whole r) where
   shut-whole : Whole (shut r)

@@ -59,7 +59,8 @@ module _ (d : ℕ) (t l : List ℕ) where
 
   pub placed-none : length l ≡ rowsWidth → l ≡ placed d 0 t l
   unfolding placed
-  placed-none e = sym (flat-ext width rowsMost (omega arith) (λ r k h m. other (ltb r 0 && ltb k d) (getD t (r * d + k) 0) (getD l (r * width + k) 0) (row-past r 0 k d (omega arith))) ∙ flat-own width rowsMost l 0 (omega arith) e)
+  placed-none e = sym (flat-ext width rowsMost (omega arith) (λ r k h m. other (ltb r 0 && ltb k d) (getD t (r * d + k) 0) (getD l (r * width + k) 0) (row-past r 0 k d (omega arith))) ∙ flat-own
+      width rowsMost l 0 (omega arith) e)
 
   module _ (n : ℕ) (wide : d ≤ width) (h : n < rowsMost) where
     abbrev f : ℕ → ℕ
@@ -99,7 +100,8 @@ module _ (d : ℕ) (t l : List ℕ) where
 
     pub placed-more : spliced f (n * width) d (placed d n t l) ≡ placed d (n + 1) t l
     placed-more = ext-getD 0 _ (placed d (n + 1) t l) (long ∙ placed-length n ∙ sym (placed-length (n + 1))) (λ p m. by-cells width rowsMost (omega arith)
-        (λ p. getD (spliced f (n * width) d (placed d n t l)) p 0 ≡ getD (placed d (n + 1) t l) p 0) (λ r k hr hk. one r k hr hk ∙ sym (placed-at (n + 1) r k hr hk)) p (omega (arith, long, placed-length n)))
+        (λ p. getD (spliced f (n * width) d (placed d n t l)) p 0 ≡ getD (placed d (n + 1) t l) p 0) (λ r k hr hk. one r k hr hk ∙ sym (placed-at (n + 1) r k hr hk)) p
+        (omega (arith, long, placed-length n)))
       where
         long : length (spliced f (n * width) d (placed d n t l)) ≡ length (placed d n t l)
         long = spliced-length f (n * width) d (placed d n t l) (omega (arith, room)) room

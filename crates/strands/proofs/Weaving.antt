@@ -7,17 +7,18 @@ use Prim.Native.Nat.{ℕ, _+_, _*_, _-_, _/_, _%_, _^_, _<_, _≤_}
 use native.Mathlib.Nat as Nat
 use native.Mathlib.Decide.{decLt}
 use native.Mathlib.Omega.{arith}
-use lib.IntN.{pos, _+ℤ_}
+use lib.IntN.{pos, natAbs, _+ℤ_}
 use lib.ListN.{length, getD, set, take, drop}
 use lib.Seq.{getD-set-same, getD-set-other}
 use Rattle.protocol.specs.Element.{Element, width, modulo, around, residue, residueAt, plus}
 use Rattle.protocol.specs.Opening.{second}
 use Rattle.protocol.proofs.Agreement.{Same}
+use Rattle.protocol.proofs.Modulo.{modulo-lt}
 use Rattle.protocol.proofs.Reading.{cell-inside, cell-element, cell-place, row-inside}
 use Rattle.residues.proofs.Parts.{tail-at, tail-length}
 use Rattle.residues.proofs.Around.{around-ext}
 use Rattle.half_sums.specs.Halves.{sizeOf, keySumAt, keysOf, KeyAt, KeySum}
-use Rattle.rows.specs.Rows.{woven, turned, Prepared}
+use Rattle.rows.specs.Rows.{woven, turned, Residues, Prepared}
 use Rattle.rows.proofs.Extension.{woven-at}
 use Rattle.strands.specs.Strands.{StrandIn, Woven, KeyGiven, KeyRows}
 
@@ -59,10 +60,17 @@ pub prepared-same : (q d : ℕ) → 0 < d → {A B : Element} (x : List ℕ) →
 unfolding turned
 prepared-same q d pd x e ready = record { places = ready .places; each = λ y l. ready .each y l ∙ ap (modulo q) (around-ext d y pd e) }
 
-pub all-woven : (q c d : ℕ) → 0 < c → 0 < d → (F : ℕ → Element) (k x : List ℕ) → Woven c c d F k → Prepared q (d * c) (residue k) x → Prepared q (d * c) (woven c F) x
-unfolding residue woven
-all-woven q c d pc pd F k x w = prepared-same q (d * c) (Nat.mul-pos pd pc) x (λ p l.
-    ap (λ n. pos (getD k n 0)) (sym (Nat.div-add-mod' p c)) ∙ w (p % c) (p / c) (Nat.mod-lt p pc) (Nat.div-lt-iff-lt-mul pc .1 l))
+module _ (c d : ℕ) (pc : 0 < c) (F : ℕ → Element) (k : List ℕ) (w : Woven c c d F k) where
+  woven-place : (p : ℕ) → p < d * c → pos (getD k p 0) ≡ F (p % c) (p / c)
+  woven-place p l = ap (λ n. pos (getD k n 0)) (sym (Nat.div-add-mod' p c)) ∙ w (p % c) (p / c) (Nat.mod-lt p pc) (Nat.div-lt-iff-lt-mul pc .1 l)
+
+  pub all-woven : (q : ℕ) → 0 < d → (x : List ℕ) → Prepared q (d * c) (residue k) x → Prepared q (d * c) (woven c F) x
+  unfolding residue woven
+  all-woven q pd x = prepared-same q (d * c) (Nat.mul-pos pd pc) x woven-place
+
+  -- if the numbers of every strand are residues, so are all of them
+  pub woven-below : (q : ℕ) → ((r j v : ℕ) → r < c → j < d → pos v ≡ F r j → v < q) → Residues q (d * c) k
+  woven-below q below = record { each = λ p l. below (p % c) (p / c) (getD k p 0) (Nat.mod-lt p pc) (Nat.div-lt-iff-lt-mul pc .1 l) (woven-place p l) }
 
 pub one-woven : (q d : ℕ) → 0 < d → (F : ℕ → Element) (x : List ℕ) → Prepared q d (F 0) x → Prepared q (d * 1) (woven 1 F) x
 unfolding woven
@@ -89,6 +97,22 @@ module _ (q d n i : ℕ) (g : List ℕ) (inside : i < n) where
   pub part-long : KeyGiven false q d n g → i * d + d ≤ length g
   unfolding sizeOf
   part-long z = omega (arith, z .long, row)
+
+-- ---- the numbers of an element of a key are residues
+
+pub keys-below : (sums : Bool) (q d n i j : ℕ) (g : List ℕ) → KeyGiven sums q d n g → i < n → j < d → (v : ℕ) → pos v ≡ keysOf sums q d n g i j → v < q
+unfolding keysOf keySumAt sizeOf residueAt
+keys-below true q d n i j g z li lj v e = subst (λ m. m < q) (sym (ap natAbs e)) (modulo-lt q (z .modulus) _)
+keys-below false q d n i j g z li lj v e = subst (λ m. m < q) (sym (ap natAbs e)) (z .residues (i * d + j) (cell-inside d n i j li lj))
+
+module _ (q d n i : ℕ) (g : List ℕ) (inside : i < n) where
+  pub sums-below : KeyGiven true q d n g → (a : List ℕ) → KeySum q d n g i a → Residues q d a
+  unfolding residue
+  sums-below z a is = record { each = λ j l. keys-below true q d n i j g z inside l (getD a j 0) (sums-are q d n i g inside a is j l) }
+
+  pub part-below : KeyGiven false q d n g → Residues q d (take (length g - i * d) (drop (i * d) g))
+  unfolding residue
+  part-below z = record { each = λ j l. keys-below false q d n i j g z inside l _ (part-is q d n i g inside j l) }
 
 -- ---- rows in a table
 

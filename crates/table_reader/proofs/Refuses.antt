@@ -41,7 +41,8 @@ module _ (S : Settings) (refusal : ℕ) (vs : List ℤ) where
   pub tests-nothing : (refusal ≡ 8 → ⊥) → (refusal ≡ 9 → ⊥) → (refusal ≡ 10 → ⊥) → tests S refusal vs ≡ true
   unfolding tests choose
   tests-nothing a b c =
-      λ j. choose (ne-eqb _ _ a j) (allBelow S (map (unsigned valueLimit) vs)) (choose (ne-eqb _ _ b j) (allWithin (S .bound) vs) (choose (ne-eqb _ _ c j) (exponents S (map (unsigned narrowLimit) vs)) true))
+      λ j. choose (ne-eqb _ _ a j) (allBelow S (map (unsigned valueLimit) vs)) (choose (ne-eqb _ _ b j) (allWithin (S .bound) vs)
+      (choose (ne-eqb _ _ c j) (exponents S (map (unsigned narrowLimit) vs)) true))
 
 -- ---- the three tests
 

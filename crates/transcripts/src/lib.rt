@@ -159,17 +159,16 @@ pub fn accepted(
     )
 }
 
-// The check of a transcript, as a call.
-pub fn check(
+// The check of a transcript, as a call that is lent the elements.
+pub fn check_lent(
     settings: Settings,
-    commitment: [Residue; ROWS_WIDTH],
-    last: [i32; WIDTH],
+    commitment: &[Residue; ROWS_WIDTH],
+    last: &[i32; WIDTH],
     key: &[Residue],
     rounds: &[Residue],
     challenges: &[u32],
 ) -> Checked
-    ensures answer { λ r. ⌜ r ≡ checkAnswer settings commitment last (now (key .entry)) (now (rounds .entry)) (now (challenges .entry)) ⌝ }
-    ensures verdict { λ r. ⌜ verdictNumber (r .verdict) ≡ checkNumber settings commitment last (now (key .entry)) (now (rounds .entry)) (now (challenges .entry)) ⌝ }
+    ensures { λ r. ⌜ r ≡ checkAnswer settings (now (commitment .entry)) (now (last .entry)) (now (key .entry)) (now (rounds .entry)) (now (challenges .entry)) ⌝ }
 {
     let refusal = verifier_refusals::transcript::check(
         settings,
@@ -184,7 +183,7 @@ pub fn check(
             verdict: Verdict::Silent,
         };
     }
-    if every_row_accepted(settings, WIDTH, &commitment, &last, key, rounds, challenges) {
+    if every_row_accepted(settings, WIDTH, commitment, last, key, rounds, challenges) {
         return Checked {
             refusal: 0,
             verdict: Verdict::Accepted,
@@ -194,4 +193,19 @@ pub fn check(
         refusal: 0,
         verdict: Verdict::Rejected,
     }
+}
+
+// The same by value.
+pub fn check(
+    settings: Settings,
+    commitment: [Residue; ROWS_WIDTH],
+    last: [i32; WIDTH],
+    key: &[Residue],
+    rounds: &[Residue],
+    challenges: &[u32],
+) -> Checked
+    ensures answer { λ r. ⌜ r ≡ checkAnswer settings commitment last (now (key .entry)) (now (rounds .entry)) (now (challenges .entry)) ⌝ }
+    ensures verdict { λ r. ⌜ verdictNumber (r .verdict) ≡ checkNumber settings commitment last (now (key .entry)) (now (rounds .entry)) (now (challenges .entry)) ⌝ }
+{
+    check_lent(settings, &commitment, &last, key, rounds, challenges)
 }

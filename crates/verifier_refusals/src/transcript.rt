@@ -10,12 +10,12 @@ ghost use Rattle.protocol.specs.Calls.{checkRefusal};
 
 pub fn check(
     settings: Settings,
-    commitment: [Residue; ROWS_WIDTH],
+    commitment: &[Residue; ROWS_WIDTH],
     key: &[Residue],
     rounds: &[Residue],
     challenges: &[u32],
 ) -> u32
-    ensures { λ r. ⌜ r ≡ checkRefusal settings commitment (now (key .entry)) (now (rounds .entry)) (now (challenges .entry)) ⌝ }
+    ensures { λ r. ⌜ r ≡ checkRefusal settings (now (commitment .entry)) (now (key .entry)) (now (rounds .entry)) (now (challenges .entry)) ⌝ }
 {
     let q = settings.modulus;
     let r16 = tests::settings_refusal(settings);
@@ -33,7 +33,7 @@ pub fn check(
         r7,
         8,
         tests::all_below_wide(q, key)
-            & rows_below(settings, &commitment)
+            & rows_below(settings, commitment)
             & tests::all_below_wide(q, rounds),
     );
     let limit = sizes::exponent_count(settings);

@@ -28,7 +28,12 @@ add-put-key : tie.Need-add-put-key Inv-loop μ-loop
 add-put-key c = omega (arith, (c .before .before .before .before .pre) .0)
 
 put-key-requires : tie.Need-put-key-requires Inv-loop μ-loop
-put-key-requires c κs = (omega (arith, (c .before .before .before .before .before .before .pre) .0, (c .before .before .loop-test) .taken), (c .before .before .before .before .before .before .pre) .1, (c .before .before .before .before .before .before .pre) .2, (c .before .before .before .loop) .inv .3)
+put-key-requires c κs = (
+  omega (arith, (c .before .before .before .before .before .before .pre) .0, (c .before .before .loop-test) .taken),
+  (c .before .before .before .before .before .before .pre) .1,
+  (c .before .before .before .before .before .before .pre) .2,
+  (c .before .before .before .loop) .inv .3,
+)
 
 loop-again : tie.Need-loop-again Inv-loop μ-loop
 loop-again c = let a = (c .before .before .before .before .before .before .before .before .before .before .args) in

@@ -28,7 +28,12 @@ add-put-message : tie.Need-add-put-message Inv-loop μ-loop
 add-put-message c = omega (arith, (c .before .before .before .pre) .0)
 
 put-message-requires : tie.Need-put-message-requires Inv-loop μ-loop
-put-message-requires c κs = (omega (arith, (c .before .before .before .before .before .pre) .0, (c .before .before .loop-test) .taken), (c .before .before .before .before .before .pre) .1, (c .before .before .before .before .before .pre) .2, (c .before .before .before .loop) .inv .3)
+put-message-requires c κs = (
+  omega (arith, (c .before .before .before .before .before .pre) .0, (c .before .before .loop-test) .taken),
+  (c .before .before .before .before .before .pre) .1,
+  (c .before .before .before .before .before .pre) .2,
+  (c .before .before .before .loop) .inv .3,
+)
 
 loop-again : tie.Need-loop-again Inv-loop μ-loop
 loop-again c = let a = (c .before .before .before .before .before .before .before .before .before .args) in

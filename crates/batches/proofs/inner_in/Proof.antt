@@ -22,4 +22,5 @@ returns c = λ F z.
 pub inner-in-spec : {M : Type 1} → statement M
 inner-in-spec =
     tie.close
-    (tie.spec (λ c. search needs) (λ c. search needs) slice-aggregate-sum-batches (λ c. search needs) slice-aggregate-sum-batches-2 (λ c κs. search needs) (λ c. search needs) (λ c. search needs) returns)
+    (tie.spec (λ c. search needs) (λ c. search needs) slice-aggregate-sum-batches (λ c. search needs) slice-aggregate-sum-batches-2 (λ c κs. search needs) (λ c. search needs) (λ c. search needs)
+    returns)

@@ -16,7 +16,11 @@ returns-3 : tie.Need-returns-3
 returns-3 c = λ z. absurd (omega (arith, z .1 .long, (c .before .size) .ensures))
 
 mul-if4 : tie.Need-mul-if4
-mul-if4 c = omega (arith, mul-le-mul {n₁ = (c .before .before .before .before .before .args) .n} {m₁ = (c .before .before .before .before .before .args) .d} {n₂ = 256} {m₂ = width} (omega arith) (omega arith))
+mul-if4 c = omega (
+  arith,
+  mul-le-mul {n₁ = (c .before .before .before .before .before .args) .n} {m₁ = (c .before .before .before .before .before .args) .d} {n₂ = 256} {m₂ = width} (omega arith)
+      (omega arith),
+)
 
 returns-4 : tie.Need-returns-4
 returns-4 c = λ z. absurd (omega (arith, z .3))

@@ -48,9 +48,24 @@ returns c = λ D G z.
     let t = (c .before .before .before .before .before .before .before .before .before .if1) .taken in
     let given = subst (λ b. KeyGiven b (a .d) (a .n) (a .g .now)) t (z .0) in
     let is = z .3 ∙ ap (λ b. keysOf b 12289 (a .d) (a .n) (a .g .now) (a .i)) t in
-    let sum = (c .before .before .before .before .before .before .before .add-key) .ensures (a .n) (a .i) (key-at D (a .d) (a .n) (a .i) (a .l) (z .1) ((c .before .before .before .before .before .before .before .before .before .before .before .before .before .pre) .0) (z .2) (a .g .now) G _ (z .4) given, omega (arith, (c .before .before .before .before .before .before .before .before .before .before .before .before .before .pre) .1, (c .before .before .before .before .before .before .before .before .before .before .before .before .before .pre) .3)) in
-    (c .before .before .place-residues) .ensures D G (key-sum-placed D (a .d) (a .n) (a .i) (a .l) (z .1) ((c .before .before .before .before .before .before .before .before .before .before .before .before .before .pre) .0) (z .2) (a .g .now) G _ (z .4) is _ sum
-    (omega (arith, (c .before .before .before .before .before .before .before .before .before .before .before .before .before .pre) .1, (c .before .before .before .before .before .before .before .before .before .before .before .before .before .pre) .3, (c .before .before .before .before .before .before .before .add-key) .kept .1 .1 .1 .1 .1 .0)))
+    let sum = (c .before .before .before .before .before .before .before .add-key) .ensures (a .n) (a .i) (
+      key-at D (a .d) (a .n) (a .i) (a .l) (z .1) ((c .before .before .before .before .before .before .before .before .before .before .before .before .before .pre) .0) (z .2) (a .g .now) G _
+          (z .4) given,
+      omega (
+        arith,
+        (c .before .before .before .before .before .before .before .before .before .before .before .before .before .pre) .1,
+        (c .before .before .before .before .before .before .before .before .before .before .before .before .before .pre) .3,
+      ),
+    ) in
+    (c .before .before .place-residues) .ensures D G (key-sum-placed D (a .d) (a .n) (a .i) (a .l) (z .1)
+    ((c .before .before .before .before .before .before .before .before .before .before .before .before .before .pre) .0) (z .2) (a .g .now) G _ (z .4) is _ sum
+    (omega (
+      arith,
+      (c .before .before .before .before .before .before .before .before .before .before .before .before .before .pre) .1,
+      (c .before .before .before .before .before .before .before .before .before .before .before .before .before .pre) .3,
+      (c .before .before .before .before .before .before .before .add-key)
+          .kept .1 .1 .1 .1 .1 .0,
+    )))
 
 returns-2 : tie.Need-returns-2
 returns-2 c = λ D G z.
@@ -58,9 +73,11 @@ returns-2 c = λ D G z.
     let t = (c .before .before .before .before .before .if1) .left in
     let given = subst (λ b. KeyGiven b (a .d) (a .n) (a .g .now)) t (z .0) in
     let is = z .3 ∙ ap (λ b. keysOf b 12289 (a .d) (a .n) (a .g .now) (a .i)) t in
-    (c .before .before .place-residues2) .ensures D G (key-placed D (a .d) (a .n) (a .i) (a .l) (z .1) ((c .before .before .before .before .before .before .before .before .before .pre) .0) (z .2) (a .g .now) G _ (z .4) given is)
+    (c .before .before .place-residues2) .ensures D G (key-placed D (a .d) (a .n) (a .i) (a .l) (z .1) ((c .before .before .before .before .before .before .before .before .before .pre) .0)
+    (z .2) (a .g .now) G _ (z .4) given is)
 
 pub put-key-spec : {M : Type 1} → statement M
 put-key-spec =
     tie.close
-    (tie.spec mul-at mul-add-key add-add-key (λ c κs. search needs) (λ c κs. search needs) mul-place-residues sub-place-residues part-place-residues-start (λ c. search needs) (λ c κs. search needs) (λ c. search needs) (λ c. search needs) returns (λ c. search needs) returns-2)
+    (tie.spec mul-at mul-add-key add-add-key (λ c κs. search needs) (λ c κs. search needs) mul-place-residues sub-place-residues part-place-residues-start (λ c. search needs)
+    (λ c κs. search needs) (λ c. search needs) (λ c. search needs) returns (λ c. search needs) returns-2)

@@ -48,9 +48,22 @@ returns c = λ D F z.
     let t = (c .before .before .before .before .before .before .before .before .if1) .taken in
     let given = subst (λ b. MessageGiven b (a .d) (a .n) (a .f .now)) t (z .0) in
     let is = z .3 ∙ ap (λ b. messagesOf b (a .d) (a .n) (a .f .now) (a .i)) t in
-    let sum = (c .before .before .before .before .before .before .add-message) .ensures (a .n) (a .i) (message-at D (a .d) (a .n) (a .i) (a .l) (z .1) ((c .before .before .before .before .before .before .before .before .before .before .pre) .0) (z .2) (a .f .now) F _ (z .4) given, omega (arith, (c .before .before .before .before .before .before .before .before .before .before .pre) .1, (c .before .before .before .before .before .before .before .before .before .before .pre) .3)) in
-    (c .before .before .place-message) .ensures D F (message-sum-placed D (a .d) (a .n) (a .i) (a .l) (z .1) ((c .before .before .before .before .before .before .before .before .before .before .pre) .0) (z .2) (a .f .now) F _ (z .4) given is _ sum
-    (omega (arith, (c .before .before .before .before .before .before .before .before .before .before .pre) .1, (c .before .before .before .before .before .before .before .before .before .before .pre) .3, (c .before .before .before .before .before .before .add-message) .kept .1 .1 .1 .1 .0)))
+    let sum = (c .before .before .before .before .before .before .add-message) .ensures (a .n) (a .i) (
+      message-at D (a .d) (a .n) (a .i) (a .l) (z .1) ((c .before .before .before .before .before .before .before .before .before .before .pre) .0) (z .2) (a .f .now) F _ (z .4) given,
+      omega (
+        arith,
+        (c .before .before .before .before .before .before .before .before .before .before .pre) .1,
+        (c .before .before .before .before .before .before .before .before .before .before .pre) .3,
+      ),
+    ) in
+    (c .before .before .place-message) .ensures D F (message-sum-placed D (a .d) (a .n) (a .i) (a .l) (z .1)
+    ((c .before .before .before .before .before .before .before .before .before .before .pre) .0) (z .2) (a .f .now) F _ (z .4) given is _ sum
+    (omega (
+      arith,
+      (c .before .before .before .before .before .before .before .before .before .before .pre) .1,
+      (c .before .before .before .before .before .before .before .before .before .before .pre) .3,
+      (c .before .before .before .before .before .before .add-message) .kept .1 .1 .1 .1 .0,
+    )))
 
 returns-2 : tie.Need-returns-2
 returns-2 c = λ D F z.
@@ -58,9 +71,11 @@ returns-2 c = λ D F z.
     let t = (c .before .before .before .before .before .if1) .left in
     let given = subst (λ b. MessageGiven b (a .d) (a .n) (a .f .now)) t (z .0) in
     let is = z .3 ∙ ap (λ b. messagesOf b (a .d) (a .n) (a .f .now) (a .i)) t in
-    (c .before .before .place-message2) .ensures D F (message-placed D (a .d) (a .n) (a .i) (a .l) (z .1) ((c .before .before .before .before .before .before .before .pre) .0) (z .2) (a .f .now) F _ (z .4) given is)
+    (c .before .before .place-message2) .ensures D F (message-placed D (a .d) (a .n) (a .i) (a .l) (z .1) ((c .before .before .before .before .before .before .before .pre) .0) (z .2) (a .f .now)
+    F _ (z .4) given is)
 
 pub put-message-spec : {M : Type 1} → statement M
 put-message-spec =
     tie.close
-    (tie.spec mul-at mul-add-message add-add-message (λ c κs. search needs) (λ c κs. search needs) mul-place-message sub-place-message part-place-message-start (λ c. search needs) (λ c κs. search needs) (λ c. search needs) (λ c. search needs) returns (λ c. search needs) returns-2)
+    (tie.spec mul-at mul-add-message add-add-message (λ c κs. search needs) (λ c κs. search needs) mul-place-message sub-place-message part-place-message-start (λ c. search needs)
+    (λ c κs. search needs) (λ c. search needs) (λ c. search needs) returns (λ c. search needs) returns-2)

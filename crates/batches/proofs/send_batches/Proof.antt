@@ -28,25 +28,50 @@ loop-holds : tie.Need-loop-holds Inv-loop μ-loop
 loop-holds c = (omega arith, refl, λ z. begun-none _ _ _ _ (z .2))
 
 mul-at : tie.Need-mul-at Inv-loop μ-loop
-mul-at c = omega (arith, batch-inside ((c .before .before .before .args) .d) ((c .before .before .before .args) .n) ((c .before .loop) .t) ((c .loop-test) .taken), (c .before .before .before .pre) .3, (c .before .loop) .inv .1)
+mul-at c = omega (
+  arith,
+  batch-inside ((c .before .before .before .args) .d) ((c .before .before .before .args) .n) ((c .before .loop) .t) ((c .loop-test) .taken),
+  (c .before .before .before .pre) .3,
+  (c .before .loop) .inv .1,
+)
 
 add-to : tie.Need-add-to Inv-loop μ-loop
-add-to c = omega (arith, batch-inside ((c .before .before .before .args) .d) ((c .before .before .before .args) .n) ((c .before .loop) .t) ((c .loop-test) .taken), (c .before .before .before .pre) .3, (c .before .loop) .inv .1)
+add-to c = omega (
+  arith,
+  batch-inside ((c .before .before .before .args) .d) ((c .before .before .before .args) .n) ((c .before .loop) .t) ((c .loop-test) .taken),
+  (c .before .before .before .pre) .3,
+  (c .before .loop) .inv .1,
+)
 
 mul-send-batch : tie.Need-mul-send-batch Inv-loop μ-loop
 mul-send-batch c = omega (arith, (c .before .before .before .pre) .0)
 
 mul-send-batch-2 : tie.Need-mul-send-batch-2 Inv-loop μ-loop
-mul-send-batch-2 c = omega (arith, batch-inside ((c .before .before .before .args) .d) ((c .before .before .before .args) .n) ((c .before .loop) .t) ((c .loop-test) .taken), (c .before .before .before .pre) .3, (c .before .loop) .inv .1)
+mul-send-batch-2 c = omega (
+  arith,
+  batch-inside ((c .before .before .before .args) .d) ((c .before .before .before .args) .n) ((c .before .loop) .t) ((c .loop-test) .taken),
+  (c .before .before .before .pre) .3,
+  (c .before .loop) .inv .1,
+)
 
 sub-send-batch : tie.Need-sub-send-batch Inv-loop μ-loop
 sub-send-batch c = omega arith
 
 part-send-batch-start : tie.Need-part-send-batch-start Inv-loop μ-loop
-part-send-batch-start c = omega (arith, batch-inside ((c .before .before .before .args) .d) ((c .before .before .before .args) .n) ((c .before .loop) .t) ((c .loop-test) .taken), (c .before .before .before .pre) .3, (c .before .loop) .inv .1)
+part-send-batch-start c = omega (
+  arith,
+  batch-inside ((c .before .before .before .args) .d) ((c .before .before .before .args) .n) ((c .before .loop) .t) ((c .loop-test) .taken),
+  (c .before .before .before .pre) .3,
+  (c .before .loop) .inv .1,
+)
 
 part-send-batch-end : tie.Need-part-send-batch-end Inv-loop μ-loop
-part-send-batch-end c = omega (arith, batch-inside ((c .before .before .before .args) .d) ((c .before .before .before .args) .n) ((c .before .loop) .t) ((c .loop-test) .taken), (c .before .before .before .pre) .3, (c .before .loop) .inv .1)
+part-send-batch-end c = omega (
+  arith,
+  batch-inside ((c .before .before .before .args) .d) ((c .before .before .before .args) .n) ((c .before .loop) .t) ((c .loop-test) .taken),
+  (c .before .before .before .pre) .3,
+  (c .before .loop) .inv .1,
+)
 
 send-batch-requires : tie.Need-send-batch-requires Inv-loop μ-loop
 send-batch-requires c κs = (omega (arith, (c .before .loop-test) .taken), (c .before .before .before .before .pre) .1, (c .before .before .before .before .pre) .2)
@@ -59,7 +84,13 @@ loop-again c = let a = (c .before .before .before .before .before .before .befor
     let at = l .t * C in
     let M = messagesOf (a .sums) (a .d) (a .n) (a .f .now) in
     let size : at + C - at ≡ C = omega arith in
-    let room : at + C ≤ length (l .x) = omega (arith, batch-inside ((c .before .before .before .before .before .before .before .args) .d) ((c .before .before .before .before .before .before .before .args) .n) ((c .before .before .before .before .before .loop) .t) ((c .before .before .before .before .loop-test) .taken), (c .before .before .before .before .before .before .before .pre) .3, (c .before .before .before .before .before .loop) .inv .1) in
+    let room : at + C ≤ length (l .x) = omega (
+      arith,
+      batch-inside ((c .before .before .before .before .before .before .before .args) .d)
+          ((c .before .before .before .before .before .before .before .args) .n) ((c .before .before .before .before .before .loop) .t) ((c .before .before .before .before .loop-test) .taken),
+      (c .before .before .before .before .before .before .before .pre) .3,
+      (c .before .before .before .before .before .loop) .inv .1,
+    ) in
     let lent : length (call .last .1 .1 .1 .1 .1 .1 .0) ≡ C = call .kept .1 .1 .1 .1 .1 .1 .0 ∙ ap (λ m. length (take m (drop at (l .x)))) size ∙ part-length C (l .t) (l .x) room in (
       omega arith,
       ap (λ m. length (putMid at m (l .x) (call .last .1 .1 .1 .1 .1 .1 .0))) size ∙ put-length C (l .t) (l .x) (call .last .1 .1 .1 .1 .1 .1 .0) lent room ∙ l .inv .1,
@@ -77,4 +108,5 @@ returns c = λ z t h. (c .before .loop) .inv .2 z .done t (omega arith)
 pub send-batches-spec : {M : Type 1} → statement M
 send-batches-spec =
     tie.close
-    (tie.spec Inv-loop μ-loop mul-cells loop-holds mul-at add-to mul-send-batch mul-send-batch-2 sub-send-batch part-send-batch-start part-send-batch-end send-batch-requires (λ c. search needs) (λ c. search needs) loop-again (λ c. search needs) returns)
+    (tie.spec Inv-loop μ-loop mul-cells loop-holds mul-at add-to mul-send-batch mul-send-batch-2 sub-send-batch part-send-batch-start part-send-batch-end send-batch-requires (λ c. search needs)
+    (λ c. search needs) loop-again (λ c. search needs) returns)

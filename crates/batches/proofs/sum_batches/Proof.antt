@@ -34,28 +34,60 @@ unfolding inner sum
 loop-holds c = (omega arith, (λ F z. (z .3, z .4)), refl, refl)
 
 mul-at : tie.Need-mul-at Inv-loop μ-loop
-mul-at c = omega (arith, batch-inside ((c .before .before .before .before .before .before .args) .d) ((c .before .before .before .before .before .before .args) .n) ((c .before .loop) .t) ((c .loop-test) .taken), (c .before .before .before .before .before .before .pre) .2)
+mul-at c = omega (
+  arith,
+  batch-inside ((c .before .before .before .before .before .before .args) .d) ((c .before .before .before .before .before .before .args) .n) ((c .before .loop) .t)
+      ((c .loop-test) .taken),
+  (c .before .before .before .before .before .before .pre) .2,
+)
 
 add-to : tie.Need-add-to Inv-loop μ-loop
-add-to c = omega (arith, batch-inside ((c .before .before .before .before .before .before .args) .d) ((c .before .before .before .before .before .before .args) .n) ((c .before .loop) .t) ((c .loop-test) .taken), (c .before .before .before .before .before .before .pre) .2)
+add-to c = omega (
+  arith,
+  batch-inside ((c .before .before .before .before .before .before .args) .d) ((c .before .before .before .before .before .before .args) .n) ((c .before .loop) .t)
+      ((c .loop-test) .taken),
+  (c .before .before .before .before .before .before .pre) .2,
+)
 
 mul-fill-key : tie.Need-mul-fill-key Inv-loop μ-loop
 mul-fill-key c = omega (arith, (c .before .before .before .before .before .before .pre) .0)
 
 fill-key-requires : tie.Need-fill-key-requires Inv-loop μ-loop
-fill-key-requires c κs = (omega (arith, (c .before .loop-test) .taken), (c .before .before .before .before .before .before .before .pre) .1, (c .before .before .before .before .before .before .before .pre) .3)
+fill-key-requires c κs = (
+  omega (arith, (c .before .loop-test) .taken),
+  (c .before .before .before .before .before .before .before .pre) .1,
+  (c .before .before .before .before .before .before .before .pre) .3,
+)
 
 mul-add-batch : tie.Need-mul-add-batch Inv-loop μ-loop
-mul-add-batch c = omega (arith, batch-inside ((c .before .before .before .before .before .before .before .before .before .before .args) .d) ((c .before .before .before .before .before .before .before .before .before .before .args) .n) ((c .before .before .before .before .before .loop) .t) ((c .before .before .before .before .loop-test) .taken), (c .before .before .before .before .before .before .before .before .before .before .pre) .2)
+mul-add-batch c = omega (
+  arith,
+  batch-inside ((c .before .before .before .before .before .before .before .before .before .before .args) .d)
+      ((c .before .before .before .before .before .before .before .before .before .before .args) .n) ((c .before .before .before .before .before .loop) .t)
+      ((c .before .before .before .before .loop-test) .taken),
+  (c .before .before .before .before .before .before .before .before .before .before .pre) .2,
+)
 
 sub-add-batch : tie.Need-sub-add-batch Inv-loop μ-loop
 sub-add-batch c = omega arith
 
 part-add-batch-start : tie.Need-part-add-batch-start Inv-loop μ-loop
-part-add-batch-start c = omega (arith, batch-inside ((c .before .before .before .before .before .before .before .before .before .before .args) .d) ((c .before .before .before .before .before .before .before .before .before .before .args) .n) ((c .before .before .before .before .before .loop) .t) ((c .before .before .before .before .loop-test) .taken), (c .before .before .before .before .before .before .before .before .before .before .pre) .2)
+part-add-batch-start c = omega (
+  arith,
+  batch-inside ((c .before .before .before .before .before .before .before .before .before .before .args) .d)
+      ((c .before .before .before .before .before .before .before .before .before .before .args) .n) ((c .before .before .before .before .before .loop) .t)
+      ((c .before .before .before .before .loop-test) .taken),
+  (c .before .before .before .before .before .before .before .before .before .before .pre) .2,
+)
 
 part-add-batch-end : tie.Need-part-add-batch-end Inv-loop μ-loop
-part-add-batch-end c = omega (arith, batch-inside ((c .before .before .before .before .before .before .before .before .before .before .args) .d) ((c .before .before .before .before .before .before .before .before .before .before .args) .n) ((c .before .before .before .before .before .loop) .t) ((c .before .before .before .before .loop-test) .taken), (c .before .before .before .before .before .before .before .before .before .before .pre) .2)
+part-add-batch-end c = omega (
+  arith,
+  batch-inside ((c .before .before .before .before .before .before .before .before .before .before .args) .d)
+      ((c .before .before .before .before .before .before .before .before .before .before .args) .n) ((c .before .before .before .before .before .loop) .t)
+      ((c .before .before .before .before .loop-test) .taken),
+  (c .before .before .before .before .before .before .before .before .before .before .pre) .2,
+)
 
 loop-again : tie.Need-loop-again Inv-loop μ-loop
 loop-again c = let a = (c .before .before .before .before .before .before .before .before .before .before .before .before .before .before .before .before .before .before .args) in
@@ -70,9 +102,22 @@ loop-again c = let a = (c .before .before .before .before .before .before .befor
       (λ F z.
           let before = l .inv .1 F z in
           let full = fill .ensures (a .level) (z .2, z .0 .degree, before .0) in
-          let values = subst (λ m. Values (a .level) (λ i. F (l .t * 16 + i)) (take m (drop at (a .x .now)))) (sym size) (z .1 (l .t) ((c .before .before .before .before .before .before .before .before .before .before .before .before .loop-test) .taken)) in
+          let values = subst (λ m. Values (a .level) (λ i. F (l .t * 16 + i)) (take m (drop at (a .x .now)))) (sym size)
+          (z .1 (l .t) ((c .before .before .before .before .before .before .before .before .before .before .before .before .loop-test) .taken)) in
           let more = add .ensures (λ i. F (l .t * 16 + i)) (λ i. G (l .t * 16 + i)) (inner (a .d) (l .t * 16) F G) (l .t)
-          (record { most = z .0 .most; fits = omega (arith, (c .before .before .before .before .before .before .before .before .before .before .before .before .before .before .before .before .before .before .pre) .0, (c .before .before .before .before .before .before .before .before .before .before .before .before .loop-test) .taken); x-values = values; y-filled = full; stands = before .1 }) in
+          (record {
+            most = z .0 .most;
+            fits = omega (
+              arith,
+              (c .before .before .before .before .before .before .before .before .before .before .before .before .before .before .before .before
+                  .before .before .pre) .0,
+              (c .before .before .before .before .before .before .before .before .before .before .before .before .loop-test) .taken,
+            );
+            x-values = values;
+            y-filled =
+                full;
+            stands = before .1;
+          }) in
           (more .0, batch-stands (a .level) (a .d) (l .t) F G _ (z .0 .degree) (more .1))),
       add .kept .1 .1 .0 ∙ fill .kept .1 .1 .1 .1 .1 .0 ∙ l .inv .2,
       add .kept .1 .1 .1 .0 ∙ l .inv .3,
@@ -89,4 +134,5 @@ returns c = λ F z.
 pub sum-batches-spec : {M : Type 1} → statement M
 sum-batches-spec =
     tie.close
-    (tie.spec Inv-loop μ-loop mul-cells loop-holds mul-at add-to mul-fill-key fill-key-requires mul-add-batch sub-add-batch part-add-batch-start part-add-batch-end (λ c κs. search needs) (λ c. search needs) (λ c. search needs) loop-again (λ c κs. search needs) (λ c. search needs) (λ c. search needs) returns)
+    (tie.spec Inv-loop μ-loop mul-cells loop-holds mul-at add-to mul-fill-key fill-key-requires mul-add-batch sub-add-batch part-add-batch-start part-add-batch-end (λ c κs. search needs)
+    (λ c. search needs) (λ c. search needs) loop-again (λ c κs. search needs) (λ c. search needs) (λ c. search needs) returns)

@@ -25,7 +25,13 @@ returns c = λ l g.
     c .before .value .ensures (record {
       degree = omega arith;
       degree-most = omega arith;
-      coefficients = record { modulus = omega arith; first = row (a .c0 .now) (l .first) (g .first); second = row (a .c1 .now) (l .second) (g .second); third = row (a .c2 .now) (l .third) (g .third) };
+      coefficients = record {
+        modulus = omega arith;
+        first = row (a .c0 .now) (l .first) (g .first);
+        second = row (a .c1 .now) (l .second) (g .second);
+        third = row (a .c2 .now) (l .third)
+            (g .third);
+      };
       room = omega arith;
     })
     ∙ spliced-element _ (valueAt (S .modulus) (S .degree) (a .e) (residue (a .c0 .now)) (residue (a .c1 .now)) (residue (a .c2 .now))) (S .degree) (λ k l. refl)

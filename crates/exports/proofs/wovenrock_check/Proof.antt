@@ -34,7 +34,7 @@ returns-2 : tie.Need-returns-2
 unfolding checkNumber checkVerdict checkAnswer hasLength
 returns-2 c =
     let at-check = c .before in
-    let at-wholes = at-check .before in
+    let at-wholes = at-check .before .before .before in
     let at-residues = at-wholes .before in
     let at-if1 = at-residues .before in
     let at-refusal = at-if1 .before in
@@ -49,7 +49,7 @@ returns-2 c =
     let (c-long, f-long) = and-split (lent-fits S _ passed) in
     let commitment = at-residues .residues .ensures (lent-allowed S _ passed) (eqb-true _ _ c-long) in
     let last = at-wholes .wholes .ensures (lent-degree S _ passed) (eqb-true _ _ f-long) in
-    let answer = at-check .check .ensures .0 ∙ (λ i. checkAnswer S (commitment i) (last i) (a .key .now) (a .rounds .now) (a .challenges .now)) in
+    let answer = at-check .check-lent .ensures ∙ (λ i. checkAnswer S (commitment i) (last i) (a .key .now) (a .rounds .now) (a .challenges .now)) in
     let N = checkRefusal S (valuesOf S (a .commitment .now)) (a .key .now) (a .rounds .now) (a .challenges .now) in
     record {
       refusal = ap (λ (r : Checked). r .refusal) answer ∙ lent-passes S fits N passed;

@@ -1,12 +1,14 @@
-use mathlib.Core.Path.{sym, ap, _∙_}
+use mathlib.Core.Path.{sym, _∙_}
+use native.Mathlib.Nat as Nat
+use native.Mathlib.Decide.{ℕ-discrete}
 use borrow.Author.Tests.{eqb-true}
-use Rattle.protocol.specs.declared.Committed.{Committed}
 use Rattle.protocol.specs.Layout.{itemCells}
 use Rattle.protocol.specs.Settings.{hasLength}
 use Rattle.protocol.specs.Rows.{together}
 use Rattle.protocol.specs.Calls.{commitAnswer}
 use Rattle.slices.specs.Slices.{given}
 use Rattle.slices.proofs.Lent.{lent-fits, lent-allowed}
+use Rattle.prover.proofs.Values.{commit-stored}
 use Rattle.exports.specs.Border.{commitNumber, commitExit}
 use Rattle.exports.proofs.Answers.{counted, unfit, refused, made}
 use borrow.Author.Needs.{needs}
@@ -25,46 +27,36 @@ returns c =
     let (p, q) = unfit S (hasLength (itemCells S) (a .commitment .now)) (answer .refusal) (together S (answer .commitment)) (a .commitment .now) _ border (c .if1 .taken) in
     record { refusal = p; commitment-exit = q }
 
+-- what the call leaves, whether it is refused or not
 returns-2 : tie.Need-returns-2
-unfolding commitNumber commitExit hasLength
+unfolding commitNumber commitExit hasLength commitAnswer
 returns-2 c =
     let at-commit = c .before .before in
-    let at-if1 = at-commit .before in
+    let at-if1 = at-commit .before .before in
     let at-refusal = at-if1 .before in
     let at-item-cells = at-refusal .before in
     let a = at-item-cells .before .before .before .args in
     let S = given (a .degree) (a .depth) (a .modulus) (a .bound) (a .rows) in
-    let border = counted S (at-item-cells .item-cells .ensures .0) (a .commitment .now) (at-refusal .refusal .ensures) in
-    let answer = commitAnswer S (a .key .now) (a .message .now) in
-    let same = ap (λ (r : Committed). r .refusal) (at-commit .commit .ensures) in
-    let (p, q) =
-    refused S (hasLength (itemCells S) (a .commitment .now)) (answer .refusal) (together S (answer .commitment)) (a .commitment .now) _ border (at-if1 .if1 .left)
-    _ same (c .if2 .taken) in
-    record { refusal = p; commitment-exit = q }
-
-returns-3 : tie.Need-returns-3
-unfolding commitNumber commitExit hasLength
-returns-3 c =
-    let at-store-residues = c .before .before in
-    let at-if2 = at-store-residues .before .before .before in
-    let at-commit = at-if2 .before .before in
-    let at-if1 = at-commit .before in
-    let at-refusal = at-if1 .before in
-    let at-item-cells = at-refusal .before in
-    let a = at-item-cells .before .before .before .args in
-    let S = given (a .degree) (a .depth) (a .modulus) (a .bound) (a .rows) in
-    let border = counted S (at-item-cells .item-cells .ensures .0) (a .commitment .now) (at-refusal .refusal .ensures) in
-    let answer = commitAnswer S (a .key .now) (a .message .now) in
-    let given-answer = at-commit .commit .ensures in
+    let C = a .commitment .now in
+    let border = counted S (at-item-cells .item-cells .ensures .0) C (at-refusal .refusal .ensures) in
+    let G = a .key .now in
+    let m = a .message .now in
+    let answer = commitAnswer S G m in
+    let to = at-commit .commit-to in
     let nothing = at-if1 .if1 .left in
     let passed = sym border ∙ nothing in
-    let stored = at-store-residues .store-residues .ensures (lent-allowed S _ passed) (eqb-true _ _ (lent-fits S _ passed)) in
-    let (p, q) =
-    made S (hasLength (itemCells S) (a .commitment .now)) (answer .refusal) (together S (answer .commitment)) (a .commitment .now) _ border nothing
-    _ (ap (λ (r : Committed). r .refusal) given-answer) (at-if2 .if2 .left) _ (stored ∙ ap (λ (r : Committed). together S (r .commitment)) given-answer) in
-    record { refusal = p; commitment-exit = q }
+    let long = eqb-true _ _ (lent-fits S _ passed) in
+    elim (ℕ-discrete (to .result) 0) [
+      | yes none ↦
+          let stored = commit-stored S (lent-allowed S _ passed) G m (sym (to .ensures .refusal) ∙ none) C _ (to .kept .1 .1 .1 .0 ∙ long) (to .ensures .written none (Nat.le-of-eq (sym long))) in
+          let (p, q) = made S (hasLength (itemCells S) C) (answer .refusal) (together S (answer .commitment)) C _ border nothing _ (to .ensures .refusal) none _ stored in
+          record { refusal = none ∙ p; commitment-exit = q }
+      | no some ↦
+          let (p, q) = refused S (hasLength (itemCells S) C) (answer .refusal) (together S (answer .commitment)) C _ border nothing _ (to .ensures .refusal) some in
+          record { refusal = p; commitment-exit = to .ensures .kept some ∙ q }
+    ]
 
 pub wovenrock-commit-spec : {M : Type 1} → statement M
 wovenrock-commit-spec =
     tie.close
-    (tie.spec (λ c κs. search needs) (λ c κs. search needs) returns (λ c κs. search needs) returns-2 (λ c κs. search needs) (λ c. search needs) returns-3)
+    (tie.spec (λ c κs. search needs) (λ c κs. search needs) returns (λ c κs. search needs) (λ c. search needs) returns-2)

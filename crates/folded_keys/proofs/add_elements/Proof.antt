@@ -30,7 +30,8 @@ loop-again c =
       n .kept .1 .1 .1 .1 .0 ∙ l .inv .1,
       λ g.
           let read = element-read S (a .n) (a .key .now) (a .sum .now) g (a .x .now) (l .i) (omega arith) (l .sum) (l .inv .1) (l .inv .2 g) in
-          summed-more S (a .n) (a .key .now) (a .sum .now) g (a .x .now) (S .modulus) (l .i) (omega (arith, ready S (g .allowed) .modulus-least)) (l .sum) (l .inv .2 g) (n .last .1 .1 .1 .1 .0) (n .ensures read),
+          summed-more S (a .n) (a .key .now) (a .sum .now) g (a .x .now) (S .modulus) (l .i) (omega (arith, ready S (g .allowed) .modulus-least)) (l .sum) (l .inv .2 g) (n .last .1 .1 .1 .1 .0)
+          (n .ensures read),
     )
 
 returns : tie.Need-returns Inv-loop μ-loop

@@ -1,6 +1,6 @@
 use mathlib.Core.Path.{_≡_, sym, subst}
 use mathlib.Core.List.{List}
-use Prim.Native.Nat.{ℕ, _*_, _^_, _<_, _≤_}
+use Prim.Native.Nat.{ℕ, _+_, _*_, _^_, _<_, _≤_}
 use native.Mathlib.Nat.{le-of-eq, pow-le-pow-right}
 use native.Mathlib.Omega.{arith}
 use lib.ListN.{length, getD, replicate, getD-replicate}
@@ -59,10 +59,12 @@ returns-5 c = λ g.
     let pq : 0 < S .modulus = omega (arith, r .modulus-least) in
     let x = t .last .1 .1 .0 in
     let few : t .result ≤ 256 = omega (arith, t .ensures .0, pow-le-pow-right {n = 2} (omega arith) {i = S .depth} {j = 8} (r .depth-most)) in
-    let sums = n .ensures (summable S key (a .challenges .now) g (t .result) (t .ensures .0) _ (omega (arith, r .degree-most, slice-aggregate-gather-elements-2 (prepared .before .before .before))) (λ k l. getD-replicate width k 0 0 (omega (arith, r .degree-most)))) in
+    let sums = n .ensures (summable S key (a .challenges .now) g (t .result) (t .ensures .0) _
+    (omega (arith, r .degree-most, slice-aggregate-gather-elements-2 (prepared .before .before .before))) (λ k l. getD-replicate width k 0 0 (omega (arith, r .degree-most)))) in
     let ready-joint = prepared .prepare .ensures (record { positive = pq; most = omega (arith, r .modulus-most) }) in
-    let stand = gathered-stand S key x (t .result) pd (below-everywhere (S .modulus) _ key pq (g .key-below)) few (omega arith) (n .last .1 .1 .1 .1 .0) (replicate width 0)
-    (omega (arith, r .degree-most, slice-aggregate-join-all (c .before .before))) (omega (arith, r .degree-most, slice-aggregate-join-all-2 (c .before))) (λ k l. getD-replicate width k 0 0 (omega (arith, r .degree-most))) sums in
+    let stand = gathered-stand S key x (t .result) pd (below-everywhere (S .modulus) _ key pq (g .key-below)) few (omega arith) (n .last .1 .1 .1 .1 .0) (replicate (width + 1) 0)
+    (omega (arith, r .degree-most, slice-aggregate-join-all (c .before .before))) (omega (arith, r .degree-most, slice-aggregate-join-all-2 (c .before)))
+    (λ k l. getD-replicate (width + 1) k 0 0 (omega (arith, r .degree-most))) sums in
     folded-is S (a .challenges .now) pd key g x (t .ensures .1 (getD-replicate 256 0 0 0 (omega arith))) (t .result) (t .ensures .0) (c .join-all .result)
     (gathered-joined S key x (t .result) (c .join-all .result) (c .join-all .ensures (S .modulus) (gatheredKey S key x (t .result)) (ready-joint, r .degree-most, stand)))
 
@@ -74,8 +76,11 @@ returns-6 c = λ g.
     let S = a .settings in
     let r = ready S (g .allowed) in
     folded-is S (a .challenges .now) (omega (arith, r .degree-least)) (a .key .now) g (t .last .1 .1 .0) (t .ensures .1 (getD-replicate 256 0 0 0 (omega arith))) (t .result) (t .ensures .0)
-    (n .last .1 .1 .1 .1 .0) (n .ensures (summable S (a .key .now) (a .challenges .now) g (t .result) (t .ensures .0) _ (omega (arith, r .degree-most, slice-aggregate-add-elements-2 (c .before .before)))
+    (n .last .1 .1 .1 .1 .0) (n .ensures (summable S (a .key .now) (a .challenges .now) g (t .result) (t .ensures .0) _
+    (omega (arith, r .degree-most, slice-aggregate-add-elements-2 (c .before .before)))
     (λ k l. getD-replicate width k 0 0 (omega (arith, r .degree-most)))))
 
 pub folded-key-spec : {M : Type 1} → statement M
-folded-key-spec = tie.close (tie.spec (λ c. search needs) (λ c. search needs) returns-2 returns-3 (λ c. search needs) (λ c. search needs) (λ c. search needs) (λ c κs. search needs) (λ c. search needs) slice-aggregate-gather-elements-2 (λ c κs. search needs) (λ c κs. search needs) (λ c. search needs) slice-aggregate-join-all slice-aggregate-join-all-2 (λ c κs. search needs) returns-5 (λ c. search needs) slice-aggregate-add-elements-2 (λ c κs. search needs) returns-6)
+folded-key-spec = tie.close (tie.spec (λ c. search needs) (λ c. search needs) returns-2 returns-3 (λ c. search needs) (λ c. search needs) (λ c. search needs) (λ c κs. search needs)
+    (λ c. search needs) slice-aggregate-gather-elements-2 (λ c κs. search needs) (λ c κs. search needs) (λ c. search needs) slice-aggregate-join-all slice-aggregate-join-all-2
+    (λ c κs. search needs) returns-5 (λ c. search needs) slice-aggregate-add-elements-2 (λ c κs. search needs) returns-6)

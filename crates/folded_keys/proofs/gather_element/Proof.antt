@@ -17,9 +17,11 @@ returns-2 c = λ g.
     let a = c .before .before .before .before .before .before .before .before .before .before .before .args in
     let r = ready (a .settings) (g .allowed) in
     let d = a .settings .degree in
-    added-is (a .settings) (2 ^ 64) (a .i) (a .key .now) (a .sums .now) (omega (arith, r .degree-least)) (g .room) (a .x .now) (c .before .before .before .before .before .entry .ensures) (n .last .1 .1 .1 .0)
+    added-is (a .settings) (2 ^ 64) (a .i) (a .key .now) (a .sums .now) (omega (arith, r .degree-least)) (g .room) (a .x .now) (c .before .before .before .before .before .entry .ensures)
+    (n .last .1 .1 .1 .0)
     (n .ensures (record { degree = omega (arith, r .degree-least); degree-most = r .degree-most; there = part-long (a .i * d) d (a .key .now) (g .inside); room = g .room }))
 
 pub gather-element-spec : {M : Type 1} → statement M
 gather-element-spec =
-    tie.close (tie.spec (λ c. search needs) mul-at (λ c. search needs) (λ c κs. search needs) (λ c. search needs) (λ c. search needs) (λ c. search needs) (λ c. search needs) (λ c κs. search needs) (λ c. search needs) returns-2)
+    tie.close (tie.spec (λ c. search needs) mul-at (λ c. search needs) (λ c κs. search needs) (λ c. search needs) (λ c. search needs) (λ c. search needs) (λ c. search needs)
+    (λ c κs. search needs) (λ c. search needs) returns-2)

@@ -19,7 +19,8 @@ abbrev μ-loop : tie.MeasureT-loop
 
 -- a row is a line of steps of 1
 add-row-requires : tie.Need-add-row-requires Inv-loop μ-loop
-add-row-requires c κs = let s = c .before .before .before in let a = s .args in subst (λ step. Apart (Line (a .at) step (a .n)) (a .from) (a .to) (length (a .t .now))) (c .before .if1 .taken) (s .pre .1)
+add-row-requires c κs = let s = c .before .before .before in let a = s .args in subst (λ step. Apart (Line (a .at) step (a .n)) (a .from) (a .to) (length (a .t .now))) (c .before .if1 .taken)
+    (s .pre .1)
 
 returns : tie.Need-returns Inv-loop μ-loop
 returns c =

@@ -49,8 +49,10 @@ module _ (t : ℕ) where
       let h = length l / 2 in
       let first = c .before .before .before .before .before .before .before .before .up in
       let second = c .before .before .before .before .up2 in
-      let long : length (first .last .1 .1 .0) ≡ h = first .ensures .same ∙ length-take-le h l (omega arith) in
-      (omega (arith, c .before .power .ensures, power-below (128 - c .before .before .before .before .before .before .before .before .before .before .before .before .args .e / 2) (omega arith)), omega (arith, second-long h l (first .last .1 .1 .0) long (second .last .1 .1 .0) (second .ensures .same), length-drop h l))
+      let long : length (first .last .1 .1 .0) ≡ h = first .ensures .same ∙ length-take-le h l (omega arith) in (
+        omega (arith, c .before .power .ensures, power-below (128 - c .before .before .before .before .before .before .before .before .before .before .before .before .args .e / 2) (omega arith)),
+        omega (arith, second-long h l (first .last .1 .1 .0) long (second .last .1 .1 .0) (second .ensures .same), length-drop h l),
+      )
 
   returns : up-lts.Need-returns-2 (calls t) (up-at t) up.Post
   returns c =

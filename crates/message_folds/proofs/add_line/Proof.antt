@@ -47,5 +47,6 @@ add-line-spec =
     tie.close
     (tie.spec Inv-loop μ-loop (λ c. (omega arith, among-none _ _)) (λ c. omega (arith, room c .0)) (λ c. omega (arith, room c .0)) (λ c. omega (arith, room c .1))
     (λ c. omega (arith, room c .1)) (λ c. room c .1) (λ c. omega (arith, room (c .before) .0)) (λ c. omega (arith, room (c .before) .0)) (λ c. room (c .before) .0) (λ c κs. search needs)
-    (λ c. omega (arith, room (c .before .before .before) .1)) (λ c. omega (arith, room (c .before .before .before) .1)) (λ c. room (c .before .before .before) .1) (λ c. search needs) (λ c. search needs) loop-again
+    (λ c. omega (arith, room (c .before .before .before) .1)) (λ c. omega (arith, room (c .before .before .before) .1)) (λ c. room (c .before .before .before) .1) (λ c. search needs)
+    (λ c. search needs) loop-again
     (λ c. c .before .loop .inv .1 .long) returns)

@@ -22,15 +22,22 @@ add-part-requires-2 c κs =
     let s = c .before .before .before .before .before in
     let a = s .args in
     let r = c .before .before .before .before .row-start in
-    let first = c .before .before .add-part .ensures in
-    (s .pre .0, s .pre .1, s .pre .2, omega arith, last-apart (a .d) (a .h) (r .result) 0 (r .result) (a .h * a .d) _ (r .ensures .0) (omega arith) (omega arith) (omega (arith, s .pre .4, first .long)))
+    let first = c .before .before .add-part .ensures in (
+      s .pre .0,
+      s .pre .1,
+      s .pre .2,
+      omega arith,
+      last-apart (a .d) (a .h) (r .result) 0 (r .result) (a .h * a .d) _ (r .ensures .0) (omega arith) (omega arith)
+          (omega (arith, s .pre .4, first .long)),
+    )
 
 returns : tie.Need-returns
 returns c = λ room.
     let s = c .before .before .before .before .before .before .before in
     let a = s .args in
     let r = c .before .before .before .before .before .before .row-start in
-    turned-half (pos 0) (λ x. x) (λ x. x) BothSmall (a .d) (a .h) (a .e) (r .result) 0 (r .result) (a .h * a .d) (s .pre .3) (r .ensures .0) (r .ensures .1 (s .pre .3)) (omega arith) (a .message .now) _ _
+    turned-half (pos 0) (λ x. x) (λ x. x) BothSmall (a .d) (a .h) (a .e) (r .result) 0 (r .result) (a .h * a .d) (s .pre .3) (r .ensures .0) (r .ensures .1 (s .pre .3)) (omega arith)
+    (a .message .now) _ _
     (omega arith) (omega (arith, s .pre .4)) (c .before .before .before .before .add-part .ensures) (c .before .add-part2 .ensures)
     (λ x y lx ly. record { left = room .each (0 + x) (omega arith); right = room .each (a .h * a .d + y) (omega arith) })
     ∙ folded (a .d) (a .h) (a .e) (a .message .now)

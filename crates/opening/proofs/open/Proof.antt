@@ -10,7 +10,8 @@ unfolding zeros signedZeros width
 returns c = opening-refused _ _ _ _ _ _ (c .before .open .ensures) (c .if1 .taken)
 
 returns-2 : tie.Need-returns-2
-returns-2 c = let no = c .before .before .before .before .before .before .before .before .before in c .before .before .before .before .before .opened .ensures (sym (no .before .open .ensures) ∙ no .if1 .left)
+returns-2 c = let no = c .before .before .before .before .before .before .before .before .before in c .before .before .before .before .before .opened .ensures
+    (sym (no .before .open .ensures) ∙ no .if1 .left)
 
 pub open-spec : {M : Type 1} → statement M
 open-spec =

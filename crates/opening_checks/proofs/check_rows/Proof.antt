@@ -25,7 +25,12 @@ returns : tie.Need-returns Inv-loop μ-loop
 returns c =
     let a = c .before .before .before .before .before .before .before .args in
     let none : RowsRead (a .settings) (a .t) (length (a .claims .now)) (a .rounds .now) → ⊥ =
-    λ g. omega (arith, row-room (a .settings) (a .t) (a .e) (a .claims .now) (a .rounds .now) g (c .before .before .before .loop .inv .3 g) (omega arith) .0, c .before .before .before .loop .inv .2) in
+    λ g. omega (
+      arith,
+      row-room (a .settings) (a .t) (a .e) (a .claims .now) (a .rounds .now) g (c .before .before .before .loop .inv .3 g) (omega arith) .0,
+      c .before .before .before .loop .inv
+          .2,
+    ) in
     record { holds-is = λ g. absurd (none g); claims-are = λ g r k hr hk. absurd (none g) }
 
 returns-2 : tie.Need-returns-2 Inv-loop μ-loop
@@ -44,7 +49,8 @@ loop-again c =
       omega arith,
       same-len-mid (l .at) (l .at + a .settings .degree - l .at) (l .claims) (writes .last .1 .1 .1 .1 .0) (writes .kept .1 .1 .1 .1 .0) ∙ l .inv .2,
       (λ g.
-          rows-more (a .settings) (a .t) (a .e) (a .claims .now) (a .rounds .now) g (l .inv .3 g) (omega arith) (l .inv .2) _ (c .before .before .before .before .before .polynomial-holds .ensures) (writes .last .1 .1 .1 .1 .0)
+          rows-more (a .settings) (a .t) (a .e) (a .claims .now) (a .rounds .now) g (l .inv .3 g) (omega arith) (l .inv .2) _
+          (c .before .before .before .before .before .polynomial-holds .ensures) (writes .last .1 .1 .1 .1 .0)
           (writes .kept .1 .1 .1 .1 .0) (writes .ensures)),
     )
 

@@ -25,7 +25,12 @@ loop-holds c = (omega arith, omega arith, omega arith, λ _. ends-none _ _ _ _)
 returns : tie.Need-returns Inv-loop μ-loop
 returns c = λ g.
     let a = c .before .before .before .before .before .before .before .before .args in
-    absurd (omega (arith, end-room (a .settings) (a .claims .now) (a .last .now) (a .key .now) g (c .before .before .before .loop .inv .3 g) (omega arith) .0, c .before .before .before .before .before .cells .ensures (g .allowed)))
+    absurd (omega (
+      arith,
+      end-room (a .settings) (a .claims .now) (a .last .now) (a .key .now) g (c .before .before .before .loop .inv .3 g) (omega arith) .0,
+      c .before .before .before .before
+          .before .cells .ensures (g .allowed),
+    ))
 
 returns-2 : tie.Need-returns-2 Inv-loop μ-loop
 returns-2 c = λ g.
@@ -40,7 +45,9 @@ loop-again c =
       omega arith,
       omega arith,
       (λ g.
-          ends-more (a .settings) (a .claims .now) (a .last .now) (a .key .now) g (l .inv .3 g) (omega arith) (c .before .before .before .before .before .before .before .before .before .cells .result) (c .before .before .before .before .before .before .before .before .before .cells .ensures (g .allowed)) _
+          ends-more (a .settings) (a .claims .now) (a .last .now) (a .key .now) g (l .inv .3 g) (omega arith)
+          (c .before .before .before .before .before .before .before .before .before .cells .result)
+          (c .before .before .before .before .before .before .before .before .before .cells .ensures (g .allowed)) _
           (c .end-holds .ensures)),
     )
 

@@ -14,7 +14,8 @@ returns c = λ _. sym (ap verdict (and-fails-left (c .before .before .before .ar
 
 returns-2 : tie.Need-returns-2
 unfolding verdict choose
-returns-2 c = λ given. sym (ap verdict (and-intro (not-false (c .before .before .before .before .before .args .holds) (c .before .before .if1 .left)) (sym (c .before .ends-hold .ensures given) ∙ c .if2 .taken)))
+returns-2 c = λ given. sym (ap verdict (and-intro (not-false (c .before .before .before .before .before .args .holds) (c .before .before .if1 .left))
+    (sym (c .before .ends-hold .ensures given) ∙ c .if2 .taken)))
 
 returns-3 : tie.Need-returns-3
 unfolding verdict choose

@@ -25,7 +25,8 @@ returns-2 c = λ z room.
     let t = a .t in
     let m = a .message .now in
     let G = a .key .now in
-    let is : (c .before .before .before .before .half-left) .result ≡ halfLeft S t = (c .before .before .before .before .half-left) .ensures (record { allowed = allowed S t G m z; turn = turn S t G m z }) in
+    let is : (c .before .before .before .before .half-left) .result ≡ halfLeft S t = (c .before .before .before .before .half-left) .ensures
+    (record { allowed = allowed S t G m z; turn = turn S t G m z }) in
     (c .before .before .items) .ensures (keyRow S G) (subst (λ h. ItemsGiven false S h m G (keyRow S G)) (sym is) (first-given S t G m z), room)
     ∙ ap (λ h. filled (rowPlaces (S .degree) (innerItem false S h (half S ^ (t + 1)) m (keyRow S G))) (itemCells S) (a .out .now)) is
     ∙ first-item S t G m z (a .out .now)

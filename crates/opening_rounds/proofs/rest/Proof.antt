@@ -12,7 +12,8 @@ use borrow.Author.Needs.{needs}
 use Rattle.opening_rounds.proofs.rest.Statement.{statement}
 use Rattle.opening_rounds.proofs.rest.Tie as tie
 
-size : (c : tie.After-item-cells) → let a = c .before .before .before .before .args in Continuing (a .settings) (a .t) (a .key .now) (a .message .now) (a .claim .now) (a .p .now) → c .item-cells .result ≡ itemCells (a .settings)
+size : (c : tie.After-item-cells) → let a = c .before .before .before .before .args in Continuing (a .settings) (a .t) (a .key .now) (a .message .now) (a .claim .now) (a .p .now) → c .item-cells
+    .result ≡ itemCells (a .settings)
 size c z = let a = c .before .before .before .before .args in c .item-cells .ensures .0 (round-key (a .settings) (a .key .now) (a .message .now) (a .t) (z .passed) .0)
 
 returns : tie.Need-returns

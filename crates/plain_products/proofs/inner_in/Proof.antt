@@ -11,7 +11,8 @@ use Rattle.plain_products.proofs.inner_in.Tie as tie
 
 returns : tie.Need-returns
 returns c = λ G z.
-    let s = c .before .before .before .before .before .before .before .before .before .before .before .before .before .before .before .before .before .before .before .before .before .before .before .before .before .before .before .before .before .before .before in
+    let s = c .before .before .before .before .before .before .before .before .before .before .before .before .before .before .before .before .before .before .before .before .before .before
+    .before .before .before .before .before .before .before .before .before in
     let a = s .args in
     let known = first-known (a .sums) (a .q) (a .d) (a .n) (a .rows) (a .stride) (a .f .now) (a .g .now) G (z .0) in
     let sum = c .before .before .before .before .before .before .before .before .before .before .before .before .before .before .before .before .before .sum-products in

@@ -106,4 +106,7 @@ returns-8 c = λ G z. c .before .before .before .before .before .before .before 
 pub inner-rows-spec : {M : Type 1} → statement M
 inner-rows-spec =
     tie.close
-    (tie.spec returns returns-2 returns-3 (λ c κs. search needs) returns-4 returns-5 mul-cells (λ c. search needs) (λ c. search needs) (λ c. search needs) (λ c. search needs) (λ c. search needs) (λ c. search needs) inner-in-requires (λ c. search) returns-6 (λ c. search needs) (λ c. search needs) (λ c. search needs) (λ c. search needs) (λ c. search needs) (λ c. search needs) inner-in-requires-2 (λ c. search) returns-7 (λ c. search needs) (λ c. search needs) (λ c. search needs) (λ c. search needs) (λ c. search needs) (λ c. search needs) inner-in-requires-3 (λ c. search) returns-8)
+    (tie.spec returns returns-2 returns-3 (λ c κs. search needs) returns-4 returns-5 mul-cells (λ c. search needs) (λ c. search needs) (λ c. search needs) (λ c. search needs) (λ c. search needs)
+    (λ c. search needs) inner-in-requires (λ c. search) returns-6 (λ c. search needs) (λ c. search needs) (λ c. search needs) (λ c. search needs) (λ c. search needs) (λ c. search needs)
+    inner-in-requires-2 (λ c. search) returns-7 (λ c. search needs) (λ c. search needs) (λ c. search needs) (λ c. search needs) (λ c. search needs) (λ c. search needs)
+    inner-in-requires-3 (λ c. search) returns-8)

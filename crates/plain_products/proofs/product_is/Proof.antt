@@ -34,4 +34,5 @@ returns-8 c = λ g. c .before .before .before .product-in2 .ensures (g .0, omega
 pub product-is-spec : {M : Type 1} → statement M
 product-is-spec =
     tie.close
-    (tie.spec returns returns-2 returns-3 returns-4 returns-5 returns-6 (λ c. search needs) (λ c. search needs) (λ c. search needs) (λ c κs. search needs) returns-7 (λ c. search needs) (λ c. search needs) (λ c. search needs) (λ c κs. search needs) returns-8)
+    (tie.spec returns returns-2 returns-3 returns-4 returns-5 returns-6 (λ c. search needs) (λ c. search needs) (λ c. search needs) (λ c κs. search needs) returns-7 (λ c. search needs)
+    (λ c. search needs) (λ c. search needs) (λ c κs. search needs) returns-8)

@@ -29,18 +29,33 @@ returns : tie.Need-returns
 returns c = λ G z.
     let s = c .before .before .before .before .before .before .before .before .before .before .before .before .before .before .before .before .before .before in
     let a = s .args in
-    one-summed (a .sums) (a .q) (a .d) (a .n) (a .rows) (a .stride) (a .f .now) (a .g .now) G (z .0) (eqb-true _ _ (c .before .before .before .before .before .before .before .before .before .before .if2 .taken)) _ _
-    (c .before .before .before .before .before .add-products .ensures (a .d) (a .t .now) (c .before .before .before .before .before .before .before .before .before .before .before .if1 .taken, ltb-true _ _ (c .before .before .before .before .before .before .before .before .before .if3 .taken), front-given (a .sums) (a .q) (a .d) (a .n) (a .rows) (a .stride) (a .f .now) (a .g .now) G (z .0), z .1, z .2))
+    one-summed (a .sums) (a .q) (a .d) (a .n) (a .rows) (a .stride) (a .f .now) (a .g .now) G (z .0)
+    (eqb-true _ _ (c .before .before .before .before .before .before .before .before .before .before .if2 .taken)) _ _
+    (c .before .before .before .before .before .add-products .ensures (a .d) (a .t .now) (
+      c .before .before .before .before .before .before .before .before .before .before .before .if1 .taken,
+      ltb-true _ _ (c .before .before .before .before .before .before .before .before .before .if3 .taken),
+      front-given (a .sums) (a .q) (a .d) (a .n) (a .rows) (a .stride) (a .f .now)
+          (a .g .now) G (z .0),
+      z .1,
+      z .2,
+    ))
 
 -- by rows
 returns-2 : tie.Need-returns-2
 returns-2 c = λ G z.
-    let s = c .before .before .before .before .before .before .before .before .before .before .before .before .before .before .before .before .before .before .before .before .before .before .before .before .before in
+    let s = c .before .before .before .before .before .before .before .before .before .before .before .before .before .before .before .before .before .before .before .before .before .before
+    .before .before .before in
     let a = s .args in
     let known = first-known (a .sums) (a .q) (a .d) (a .n) (a .rows) (a .stride) (a .f .now) (a .g .now) G (z .0) in
-    record { count = a .n * (a .d * known .magnitude); few = known .few; stands = c .before .before .before .before .before .before .before .before .before .before .before .add-elements .ensures G (known .magnitude) (z .0, known .within, s .pre .5, z .1, z .2) }
+    record {
+      count = a .n * (a .d * known .magnitude);
+      few = known .few;
+      stands = c .before .before .before .before .before .before .before .before .before .before .before .add-elements .ensures
+          G (known .magnitude) (z .0, known .within, s .pre .5, z .1, z .2);
+    }
 
 pub sum-products-spec : {M : Type 1} → statement M
 sum-products-spec =
     tie.close
-    (tie.spec add-products-requires (λ c. search) (λ c. search) (λ c. search) returns (λ c κs. search needs) (λ c. search) (λ c. search) (λ c. search) (λ c. search) (λ c. search) (λ c. search) returns-2)
+    (tie.spec add-products-requires (λ c. search) (λ c. search) (λ c. search) returns (λ c κs. search needs) (λ c. search) (λ c. search) (λ c. search) (λ c. search) (λ c. search) (λ c. search)
+    returns-2)

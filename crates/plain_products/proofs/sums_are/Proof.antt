@@ -27,7 +27,8 @@ loop-holds : tie.Need-loop-holds Inv-loop μ-loop
 loop-holds c = (omega arith, c .prepare .ensures, λ F count z. every-none _)
 
 -- the test of the turn
-tested : (c : tie.After-sum-is Inv-loop μ-loop) → let l = c .before .before .before .before .before .loop in let a = c .before .before .before .before .before .before .before .before .before .before .args in (F : Element) (count : ℕ)
+tested : (c : tie.After-sum-is Inv-loop μ-loop) → let l = c .before .before .before .before .before .loop in let a = c .before .before .before .before .before .before .before .before .before
+    .before .args in (F : Element) (count : ℕ)
     → Modulus (a .q) × (count ≤ 2 ^ 29) × Stands (a .q) (a .d) F count (a .s .now) (a .t .now) × (a .c ≤ 2 ^ 13)
     → c .sum-is .result ≡ multipleIs (a .q) (a .c) (F (l .k)) (getD (a .a .now) (l .k) 0)
 tested c F count z =

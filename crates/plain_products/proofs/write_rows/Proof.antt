@@ -47,7 +47,8 @@ loop-holds c =
     )
 
 returns : tie.Need-returns Inv-loop μ-loop
-returns c = λ F z. let s = c .before .before .before .before .before .before .before in let l = c .before .before .loop in absurd (omega (arith, l .inv .3 F z .0, row-inside (s .args .d) (s .args .rows) (l .r) (omega arith), z .5))
+returns c = λ F z. let s = c .before .before .before .before .before .before .before in let l = c .before .before .loop in absurd
+    (omega (arith, l .inv .3 F z .0, row-inside (s .args .d) (s .args .rows) (l .r) (omega arith), z .5))
 
 reduced-places : (q d : ℕ) (F : Element) (out : List ℕ) → filled (λ k. modulo q (F k)) d out ≡ filled (elementPlaces (reduced q d F)) d out
 unfolding reduced
@@ -87,4 +88,5 @@ returns-2 c = λ F z.
 pub write-rows-spec : {M : Type 1} → statement M
 write-rows-spec =
     tie.close
-    (tie.spec Inv-loop μ-loop (λ c κs. search needs) loop-holds (λ c. search needs) (λ c. search) returns (λ c. search needs) (λ c. search needs) (λ c. search needs) (λ c. search needs) (λ c κs. search needs) (λ c. search needs) (λ c. search needs) (λ c. search needs) loop-again (λ c. search) returns-2)
+    (tie.spec Inv-loop μ-loop (λ c κs. search needs) loop-holds (λ c. search needs) (λ c. search) returns (λ c. search needs) (λ c. search needs) (λ c. search needs) (λ c. search needs)
+    (λ c κs. search needs) (λ c. search needs) (λ c. search needs) (λ c. search needs) loop-again (λ c. search) returns-2)

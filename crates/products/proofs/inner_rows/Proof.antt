@@ -23,7 +23,8 @@ returns-2 c = λ G z.
     let s = c .before .before .before .before .before .before .before .before in
     let a = s .args in
     let e = c .before .before .before .before .before .level .ensures (omega arith) in
-    subst (Become (a .sums) _ (a .d) (a .n) (a .rows) (a .stride) (a .f .now) (a .g .now) (a .out .now) _) {x = 12289} {y = a .q} (sym (e .modulus)) (c .before .before .transformed-rows .ensures) G (z .0, z .1, e)
+    subst (Become (a .sums) _ (a .d) (a .n) (a .rows) (a .stride) (a .f .now) (a .g .now) (a .out .now) _) {x = 12289} {y = a .q} (sym (e .modulus))
+    (c .before .before .transformed-rows .ensures) G (z .0, z .1, e)
 
 pub inner-rows-spec : {M : Type 1} → statement M
 inner-rows-spec = tie.close (tie.spec (λ c κs. search needs) (λ c κs. search needs) (λ c. search) returns (λ c κs. search needs) (λ c. search) returns-2)

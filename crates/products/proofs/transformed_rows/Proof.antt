@@ -16,7 +16,7 @@ returns c = λ G z. (c .before .before .before .send-rows) .ensures G (z .0, z .
 
 returns-2 : tie.Need-returns-2
 unfolding zeros
-returns-2 c = λ G z. (c .before .before .before .send-rows2) .ensures G (z .0, z .1, z .2, omega (arith, table-few _ _ _ _ (z .2)), zeros-at 32768)
+returns-2 c = λ G z. (c .before .before .before .send-rows2) .ensures G (z .0, z .1, z .2, omega (arith, table-few _ _ _ _ (z .2)), zeros-at 32772)
 
 pub transformed-rows-spec : {M : Type 1} → statement M
 transformed-rows-spec =

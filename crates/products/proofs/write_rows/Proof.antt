@@ -56,7 +56,8 @@ loop-again c =
           let long : sizeOf (a .sums) (a .d) (a .n) ≤ length row = omega (arith, tail-length (l .from) (a .g .now), given .long (l .r) h) in
           let here = given-alike 12289 (a .d) (a .n) f row (G (l .r)) (a .sums) (given .given (l .r) h) long same in
           let all = known (a .sums) 12289 (a .d) (a .n) f row here in
-          let element = c .before .before .before .before .before .before .inner .ensures (messagesOf (a .sums) (a .d) (a .n) f) (z .2, z .3, z .4, key-given (a .sums) 12289 (a .d) (a .n) f row here refl) in
+          let element = c .before .before .before .before .before .before .inner .ensures (messagesOf (a .sums) (a .d) (a .n) f)
+          (z .2, z .3, z .4, key-given (a .sums) 12289 (a .d) (a .n) f row here refl) in
           written-more (a .d) (a .rows) (a .stride) (λ i. innerElement (a .sums) 12289 (a .d) (a .n) f (G i)) (a .out .now) w h (z .1) _
           (λ m. next .ensures .1 (omega (arith, from, given .long (l .r + 1) m, Nat.add-mul (l .r) 1 (a .stride)))) (store .last .1 .1 .1 .0)
           (row-stored 12289 (a .d) _ _ _ _ element (store .ensures (record { there = omega (arith, all .degree-most); room = omega (arith, tail-length (l .at) (l .out)) }))
@@ -73,4 +74,6 @@ returns-2 c = λ f G z.
 pub write-rows-spec : {M : Type 1} → statement M
 write-rows-spec =
     tie.close
-    (tie.spec Inv-loop μ-loop loop-holds (λ c. search needs) (λ c. search) returns (λ c. search needs) (λ c. search needs) (λ c. search needs) (λ c. search needs) (λ c κs. search needs) (λ c. search needs) (λ c. search needs) (λ c. search needs) (λ c. search needs) (λ c. search needs) (λ c κs. search needs) (λ c κs. search needs) (λ c. search needs) (λ c. search needs) (λ c. search needs) loop-again (λ c. search) returns-2)
+    (tie.spec Inv-loop μ-loop loop-holds (λ c. search needs) (λ c. search) returns (λ c. search needs) (λ c. search needs) (λ c. search needs) (λ c. search needs) (λ c κs. search needs)
+    (λ c. search needs) (λ c. search needs) (λ c. search needs) (λ c. search needs) (λ c. search needs) (λ c κs. search needs) (λ c κs. search needs) (λ c. search needs) (λ c. search needs)
+    (λ c. search needs) loop-again (λ c. search) returns-2)

@@ -115,7 +115,8 @@ array-share-prefix-last : tie.Need-array-share-prefix-last
 array-share-prefix-last c = last-given (c .before .before .before .before .before .before .before .before .before .before .before .before .before .before .before .before .before .before) .0
 
 slice-aggregate-write-tables-4 : tie.Need-slice-aggregate-write-tables-4
-slice-aggregate-write-tables-4 c = sym (length-take-le _ _ (last-given (c .before .before .before .before .before .before .before .before .before .before .before .before .before .before .before .before .before .before .before) .0))
+slice-aggregate-write-tables-4 c = sym (length-take-le _ _ (last-given (c .before .before .before .before .before .before .before .before .before .before .before .before .before .before .before
+    .before .before .before .before) .0))
 
 claims-long : (i : tie.After-item-cells) → length (claimed-in i .claims-of .result) ≡ claimsRoom
 claims-long i = search

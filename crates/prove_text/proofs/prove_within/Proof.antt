@@ -145,6 +145,7 @@ pub prove-within-spec : {M : Type 1} → statement M
 prove-within-spec =
     tie.close
     (tie.spec (λ c κs. search) returns (λ c. search needs) (λ c κs. search) (λ c κs. search) (λ c κs. search)
-    (λ c κs. search) (λ c κs. search) (λ c κs. search) slice-relend-prefix-prove-in slice-aggregate-prove-in slice-relend-prefix-prove-in-2 slice-aggregate-prove-in-2 slice-relend-prefix-prove-in-3 slice-aggregate-prove-in-3
+    (λ c κs. search) (λ c κs. search) (λ c κs. search) slice-relend-prefix-prove-in slice-aggregate-prove-in slice-relend-prefix-prove-in-2 slice-aggregate-prove-in-2
+    slice-relend-prefix-prove-in-3 slice-aggregate-prove-in-3
     slice-relend-prefix-prove-in-4 slice-aggregate-prove-in-4 prove-in-requires (λ c. search) (λ c. search) (λ c. search)
     (λ c. search) (λ c. search) (λ c. search))

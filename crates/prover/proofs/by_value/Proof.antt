@@ -16,7 +16,8 @@ returns-2 : tie.Need-returns-2
 returns-2 c = λ ok room.
     let a = (c .before .before .before .before .before .args) in
     let n = (c .before .before .before .item-cells) .ensures .0 ok in
-    (c .residues) .ensures ok (length-take-le ((c .before .before .before .item-cells) .result) (a .item .now) (omega arith) ∙ n) ∙ item-front (a .settings) ((c .before .before .before .item-cells) .result) n (a .item .now)
+    (c .residues) .ensures ok (length-take-le ((c .before .before .before .item-cells) .result) (a .item .now) (omega arith) ∙ n) ∙ item-front (a .settings)
+    ((c .before .before .before .item-cells) .result) n (a .item .now)
 
 pub by-value-spec : {M : Type 1} → statement M
 by-value-spec =

@@ -48,4 +48,5 @@ returns-4 c = λ f.
     ap (λ z. modulo (2 ^ 64) (pos (getD (a .sums .now) (0 + k) 0) +ℤ z)) (ap (λ n. rotate (a .d) n (residue (a .a .now)) k) is ∙ rotate-mod (a .d) (a .e) (residue (a .a .now)) k))
 
 pub gather-turned-spec : {M : Type 1} → statement M
-gather-turned-spec = tie.close (tie.spec (λ c κs. search needs) returns returns-2 (λ c. search needs) returns-3 (λ c κs. search needs) (λ c. search needs) (λ c κs. search needs) (λ c κs. search needs) (λ c. search needs) returns-4)
+gather-turned-spec = tie.close (tie.spec (λ c κs. search needs) returns returns-2 (λ c. search needs) returns-3 (λ c κs. search needs) (λ c. search needs) (λ c κs. search needs)
+    (λ c κs. search needs) (λ c. search needs) returns-4)

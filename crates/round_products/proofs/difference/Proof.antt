@@ -30,7 +30,8 @@ loop-again c = let l = (c .before .before .before .before .before .loop) in
           let was : getD (l .x) (l .k) 0 ≡ getD (a .x .now) (l .k) 0 = ap (λ s. getD s (l .k) 0) (l .inv .2 h) ∙ filled-behind _ (l .k) (a .x .now) 0 (l .k) (le-refl (l .k)) in
           let below = h (l .k) (omega arith) in
           filled-turn _ (l .k) _ (l .inv .2 h)
-          ((c .minus-both) .ensures (subst (λ v. v < a .q) (sym was) (below .0), below .1, below .2) ∙ ap (λ v. lessBoth (a .q) v (getD (a .a .now) (l .k) 0) (getD (a .b .now) (l .k) 0)) was) (omega arith)),
+          ((c .minus-both) .ensures (subst (λ v. v < a .q) (sym was) (below .0), below .1, below .2) ∙ ap (λ v. lessBoth (a .q) v (getD (a .a .now) (l .k) 0) (getD (a .b .now) (l .k) 0)) was)
+          (omega arith)),
     )
 
 returns : tie.Need-returns Inv-loop μ-loop
@@ -39,4 +40,5 @@ returns c = λ h. filled-end _ _ ((c .before .loop) .inv .2 h) (omega arith)
 pub difference-spec : {M : Type 1} → statement M
 difference-spec =
     tie.close
-    (tie.spec Inv-loop μ-loop loop-holds (λ c. search needs) (λ c. search needs) (λ c. search needs) (λ c. search needs) (λ c. search needs) (λ c. search needs) (λ c κs. search needs) (λ c. search needs) (λ c. search needs) (λ c. search needs) (λ c. search needs) loop-again (λ c. search needs) returns)
+    (tie.spec Inv-loop μ-loop loop-holds (λ c. search needs) (λ c. search needs) (λ c. search needs) (λ c. search needs) (λ c. search needs) (λ c. search needs) (λ c κs. search needs)
+    (λ c. search needs) (λ c. search needs) (λ c. search needs) (λ c. search needs) loop-again (λ c. search needs) returns)

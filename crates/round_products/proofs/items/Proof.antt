@@ -28,9 +28,13 @@ returns c = λ G z.
     let F : ℕ → Element = λ r. inner d (a .h) (messagesOf (a .sums) d (a .h) (a .message .now)) (keysOf (a .sums) q d (a .h) (G r)) in
     let cells = (c .before .before .before .before .before .before .before .before .before .cells) .ensures (z .0 .allowed) in
     let n = (c .before .before .before .before .item-cells) .ensures .0 (z .0 .allowed) in
-    let is = (c .before .before .before .before .before .before .before .inner-rows) .ensures G (subst (λ m. RowsGiven (a .sums) q d (a .h) (S .rows) m (a .message .now) (a .key .now) G) (sym cells) given, z .1) in
-    (c .before .before .halve) .ensures (omega (arith, n, z .1, (c .before .before .before .before .before .before .before .inner-rows) .kept .1 .1 .1 .1 .1 .1 .1 .1 .0)) (subst (λ m. Halvables q m ((c .before .before .before .before .before .before .before .inner-rows) .last .1 .1 .1 .1 .1 .1 .1 .1 .0)) (sym n) (written-halvable q d (itemCells S) pq pd F (a .out .now) _ is (ok .modulus-odd)))
-    ∙ ap (λ m. filled (λ k. half q ^ a .t * getD ((c .before .before .before .before .before .before .before .inner-rows) .last .1 .1 .1 .1 .1 .1 .1 .1 .0) k 0 % q) m ((c .before .before .before .before .before .before .before .inner-rows) .last .1 .1 .1 .1 .1 .1 .1 .1 .0)) n
+    let is = (c .before .before .before .before .before .before .before .inner-rows) .ensures G
+    (subst (λ m. RowsGiven (a .sums) q d (a .h) (S .rows) m (a .message .now) (a .key .now) G) (sym cells) given, z .1) in
+    (c .before .before .halve) .ensures (omega (arith, n, z .1, (c .before .before .before .before .before .before .before .inner-rows) .kept .1 .1 .1 .1 .1 .1 .1 .1 .0))
+    (subst (λ m. Halvables q m ((c .before .before .before .before .before .before .before .inner-rows) .last .1 .1 .1 .1 .1 .1 .1 .1 .0)) (sym n)
+    (written-halvable q d (itemCells S) pq pd F (a .out .now) _ is (ok .modulus-odd)))
+    ∙ ap (λ m. filled (λ k. half q ^ a .t * getD ((c .before .before .before .before .before .before .before .inner-rows) .last .1 .1 .1 .1 .1 .1 .1 .1 .0) k 0 % q) m
+    ((c .before .before .before .before .before .before .before .inner-rows) .last .1 .1 .1 .1 .1 .1 .1 .1 .0)) n
     ∙ written-times q d (itemCells S) pq pd F (a .out .now) _ is (half q ^ a .t)
 
 pub items-spec : {M : Type 1} → statement M

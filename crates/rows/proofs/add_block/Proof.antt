@@ -27,7 +27,8 @@ module _ (z : ℤ) (fits : mag z < 2 ^ hbits w32) {r : ℕ} where
 size0 : (c : tie.After-magnitude) → let a = c .before .before .before .before .before .before .before .args in c .magnitude .result ≡ natAbs (getD (a .f .now) (a .j) (pos 0))
 size0 c = let a = c .before .before .before .before .before .before .before .args in size (getD (a .f .now) (a .j) (pos 0)) (c .before .before .before .before .c0 .given) (c .magnitude .ensures)
 
-begin0 : (c : tie.After-row-start) → let a = c .before .before .before .before .before .before .before .before .args in c .row-start .result ≡ start (a .d * a .strands) (getD (a .f .now) (a .j) (pos 0)) ((a .j) * a .strands)
+begin0 : (c : tie.After-row-start) → let a = c .before .before .before .before .before .before .before .before .args in c .row-start .result ≡ start (a .d * a .strands)
+    (getD (a .f .now) (a .j) (pos 0)) ((a .j) * a .strands)
 begin0 c =
     let a = c .before .before .before .before .before .before .before .before .args in
     begin (getD (a .f .now) (a .j) (pos 0)) (c .before .before .before .before .before .c0 .given) (a .d * a .strands) (a .j * a .strands) (c .row-start .ensures) ((a .j) * a .strands) (refl)
@@ -41,7 +42,8 @@ begin1 : (c : tie.After-row-start2) → let a = c .before .before .before .befor
     c .row-start2 .result ≡ start (a .d * a .strands) (getD (a .f .now) (a .j + 1) (pos 0)) ((a .j + 1) * a .strands)
 begin1 c =
     let a = c .before .before .before .before .before .before .before .before .before .before .args in
-    begin (getD (a .f .now) (a .j + 1) (pos 0)) (c .before .before .before .before .before .before .c1 .given) (a .d * a .strands) (a .j * a .strands + a .strands) (c .row-start2 .ensures) ((a .j + 1) * a .strands) (omega (arith, Nat.add-mul (a .j) 1 (a .strands)))
+    begin (getD (a .f .now) (a .j + 1) (pos 0)) (c .before .before .before .before .before .before .c1 .given) (a .d * a .strands) (a .j * a .strands + a .strands) (c .row-start2 .ensures)
+    ((a .j + 1) * a .strands) (omega (arith, Nat.add-mul (a .j) 1 (a .strands)))
 
 size2 : (c : tie.After-magnitude3) → let a = c .before .before .before .before .before .before .before .before .before .before .before .args in
     c .magnitude3 .result ≡ natAbs (getD (a .f .now) (a .j + 2) (pos 0))
@@ -53,7 +55,8 @@ begin2 : (c : tie.After-row-start3) → let a = c .before .before .before .befor
     c .row-start3 .result ≡ start (a .d * a .strands) (getD (a .f .now) (a .j + 2) (pos 0)) ((a .j + 2) * a .strands)
 begin2 c =
     let a = c .before .before .before .before .before .before .before .before .before .before .before .before .args in
-    begin (getD (a .f .now) (a .j + 2) (pos 0)) (c .before .before .before .before .before .before .before .c2 .given) (a .d * a .strands) (a .j * a .strands + a .strands + a .strands) (c .row-start3 .ensures) ((a .j + 2) * a .strands) (omega (arith, Nat.add-mul (a .j) 2 (a .strands)))
+    begin (getD (a .f .now) (a .j + 2) (pos 0)) (c .before .before .before .before .before .before .before .c2 .given) (a .d * a .strands) (a .j * a .strands + a .strands + a .strands)
+    (c .row-start3 .ensures) ((a .j + 2) * a .strands) (omega (arith, Nat.add-mul (a .j) 2 (a .strands)))
 
 size3 : (c : tie.After-magnitude4) → let a = c .before .before .before .before .before .before .before .before .before .before .before .before .before .args in
     c .magnitude4 .result ≡ natAbs (getD (a .f .now) (a .j + 3) (pos 0))
@@ -65,7 +68,8 @@ begin3 : (c : tie.After-row-start4) → let a = c .before .before .before .befor
     c .row-start4 .result ≡ start (a .d * a .strands) (getD (a .f .now) (a .j + 3) (pos 0)) ((a .j + 3) * a .strands)
 begin3 c =
     let a = c .before .before .before .before .before .before .before .before .before .before .before .before .before .before .args in
-    begin (getD (a .f .now) (a .j + 3) (pos 0)) (c .before .before .before .before .before .before .before .before .c3 .given) (a .d * a .strands) (a .j * a .strands + a .strands + a .strands + a .strands) (c .row-start4 .ensures) ((a .j + 3) * a .strands) (omega (arith, Nat.add-mul (a .j) 3 (a .strands)))
+    begin (getD (a .f .now) (a .j + 3) (pos 0)) (c .before .before .before .before .before .before .before .before .c3 .given) (a .d * a .strands)
+    (a .j * a .strands + a .strands + a .strands + a .strands) (c .row-start4 .ensures) ((a .j + 3) * a .strands) (omega (arith, Nat.add-mul (a .j) 3 (a .strands)))
 
 add-four-requires : tie.Need-add-four-requires
 add-four-requires c κs =
@@ -135,4 +139,6 @@ row-start-requires-4 c κs =
 pub add-block-spec : {M : Type 1} → statement M
 add-block-spec =
     tie.close
-    (tie.spec mul-n mul-at0 add-at1 add-at2 add-at3 (λ c. search needs) (λ c. search needs) (λ c. search needs) (λ c. search needs) (λ c. search needs) (λ c. search needs) (λ c. search needs) (λ c. search needs) (λ c. search needs) (λ c. search needs) (λ c. search needs) (λ c κs. search needs) row-start-requires (λ c κs. search needs) row-start-requires-2 (λ c κs. search needs) row-start-requires-3 (λ c κs. search needs) row-start-requires-4 add-four-requires (λ c. search needs) returns)
+    (tie.spec mul-n mul-at0 add-at1 add-at2 add-at3 (λ c. search needs) (λ c. search needs) (λ c. search needs) (λ c. search needs) (λ c. search needs) (λ c. search needs) (λ c. search needs)
+    (λ c. search needs) (λ c. search needs) (λ c. search needs) (λ c. search needs) (λ c κs. search needs) row-start-requires (λ c κs. search needs) row-start-requires-2
+    (λ c κs. search needs) row-start-requires-3 (λ c κs. search needs) row-start-requires-4 add-four-requires (λ c. search needs) returns)

@@ -86,4 +86,5 @@ row-start-requires c κs =
 pub add-rest-spec : {M : Type 1} → statement M
 add-rest-spec =
     tie.close
-    (tie.spec Inv-loop μ-loop loop-holds (λ c. search needs) (λ c. search needs) mul-n mul-at (λ c κs. search needs) row-start-requires add-row-requires (λ c. search needs) (λ c. search needs) loop-again (λ c. search needs) returns)
+    (tie.spec Inv-loop μ-loop loop-holds (λ c. search needs) (λ c. search needs) mul-n mul-at (λ c κs. search needs) row-start-requires add-row-requires (λ c. search needs) (λ c. search needs)
+    loop-again (λ c. search needs) returns)

@@ -24,7 +24,8 @@ loop-again c =
     let l = c .before .before .before .before .before .loop in
     let a = c .before .before .before .before .before .before .before .before .args in (
       omega arith,
-      c .before .before .add-block .ensures ∙ ap (addFour (a .strands) (a .d) (a .f .now) (narrowed (a .x .now)) (l .j)) (l .inv .1) ∙ four-more (a .strands) (a .d) (a .f .now) (narrowed (a .x .now)) (l .j) (a .sums .now),
+      c .before .before .add-block .ensures ∙ ap (addFour (a .strands) (a .d) (a .f .now) (narrowed (a .x .now)) (l .j)) (l .inv .1) ∙ four-more (a .strands) (a .d) (a .f .now)
+          (narrowed (a .x .now)) (l .j) (a .sums .now),
       c .before .before .add-block .kept .1 .1 .1 .1 .1 .0 ∙ l .inv .2,
     )
 

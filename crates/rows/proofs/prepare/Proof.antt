@@ -15,14 +15,11 @@ returns-3 : tie.Need-returns-3
 returns-3 c = λ g. absurd (omega arith)
 
 returns-4 : tie.Need-returns-4
-returns-4 c = λ g. absurd (omega arith)
-
-returns-5 : tie.Need-returns-5
-returns-5 c = λ g.
-    let a = c .before .before .before .before .before .before .before .before .before .before .args in
-    front-prepared (a .q) (a .d) (g .modulus) (g .degree) (residue (a .a .now)) (a .x .now) _ (g .places) (c .before .before .write-rows .ensures)
+returns-4 c = λ g.
+    let a = c .before .before .before .before .before .before .before .before .before .args in
+    front-prepared (a .q) (a .d) (omega (arith, g .residues .each 0 (g .degree))) (g .degree) (residue (a .a .now)) (a .x .now) _ (g .places) (c .before .before .write-rows .ensures (g .residues))
 
 pub prepare-spec : {M : Type 1} → statement M
 prepare-spec =
     tie.close
-    (tie.spec returns returns-2 returns-3 (λ c. search needs) returns-4 (λ c κs. search needs) (λ c. search needs) returns-5)
+    (tie.spec returns returns-2 (λ c. search needs) returns-3 (λ c κs. search needs) (λ c. search needs) returns-4)

@@ -28,4 +28,5 @@ unfolding zeros
 returns c = let l = c .before .loop in fill-done 8 _ (l .k) 8 (l .x) (l .inv .2) (omega arith) ∙ append-nil _ ∙ tabulate-own 8 _ 0 (l .inv .1)
 
 pub widened-spec : {M : Type 1} → statement M
-widened-spec = tie.close (tie.spec Inv-loop μ-loop loop-holds (λ c. search needs) (λ c. search needs) (λ c κs. search needs) (λ c. search needs) (λ c. search needs) (λ c. search needs) (λ c. search needs) loop-again returns)
+widened-spec = tie.close (tie.spec Inv-loop μ-loop loop-holds (λ c. search needs) (λ c. search needs) (λ c κs. search needs) (λ c. search needs) (λ c. search needs) (λ c. search needs)
+    (λ c. search needs) loop-again returns)

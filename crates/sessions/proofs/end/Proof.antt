@@ -34,7 +34,8 @@ returns-2 c =
     let loaded = c .before .before .before .before .before .load in
     let lengths =
     ap (λ b. lent (loaded .result .settings) b 0) (c .before .before .both .ensures)
-    ∙ ap (λ (s : Progress). lent (s .settings) (eqb (length (a .last .now)) (s .settings .degree) && leb (getD (a .session .now) 6 0) 1) 0) (loaded .ensures (c .before .before .before .before .before .before .before .if1 .left)) in
+    ∙ ap (λ (s : Progress). lent (s .settings) (eqb (length (a .last .now)) (s .settings .degree) && leb (getD (a .session .now) 6 0) 1) 0)
+    (loaded .ensures (c .before .before .before .before .before .before .before .if1 .left)) in
     move-refused _ _ (a .session .now) (c .before .before .before .before .before .before .before .if1 .left) _ (c .before .refusal .ensures ∙ lengths) (c .if2 .taken)
 
 slice-aggregate-end-on : tie.Need-slice-aggregate-end-on

@@ -38,7 +38,8 @@ returns-2 c =
     let lengths =
     ap (λ b. lent (loaded .result .settings) b 0) (c .before .before .both .ensures)
     ∙ sized (loaded .result .settings) (length (a .polynomial .now)) (getD (a .session .now) 6 0) _ (c .before .before .before .before .item-cells .ensures .0)
-    ∙ ap (λ (s : Progress). lent (s .settings) (eqb (length (a .polynomial .now)) (polynomialCells (s .settings)) && leb (getD (a .session .now) 6 0) 1) 0) (loaded .ensures (c .before .before .before .before .before .before .before .before .if1 .left)) in
+    ∙ ap (λ (s : Progress). lent (s .settings) (eqb (length (a .polynomial .now)) (polynomialCells (s .settings)) && leb (getD (a .session .now) 6 0) 1) 0)
+    (loaded .ensures (c .before .before .before .before .before .before .before .before .if1 .left)) in
     move-refused _ _ (a .session .now) (c .before .before .before .before .before .before .before .before .if1 .left) _ (c .before .refusal .ensures ∙ lengths) (c .if2 .taken)
 
 -- what is known where nothing beside the record is refused

@@ -27,11 +27,13 @@ sized : (S : Settings) (x y n : ℕ) → (settingsRefusal S ≡ 0 → n ≡ item
 sized S x y n e = lent-same S _ _ 0 (λ z. ap (λ m. eqb x m && eqb y recordWidth) (e z))
 
 -- the refusal, and what is known where there is none
-refused : (c : tie.After-refusal) → let a = c .before .before .before .before .before .args in c .refusal .result ≡ lent (a .settings) (hasLength (itemCells (a .settings)) (a .commitment .now) && hasLength recordWidth (a .session .now)) 0
+refused : (c : tie.After-refusal) → let a = c .before .before .before .before .before .args in c .refusal .result ≡ lent (a .settings)
+    (hasLength (itemCells (a .settings)) (a .commitment .now) && hasLength recordWidth (a .session .now)) 0
 unfolding hasLength
 refused c =
     let a = c .before .before .before .before .before .args in
-    c .refusal .ensures ∙ ap (λ b. lent (a .settings) b 0) (c .before .both .ensures) ∙ sized (a .settings) (length (a .commitment .now)) (length (a .session .now)) _ (c .before .before .item-cells .ensures .0)
+    c .refusal .ensures ∙ ap (λ b. lent (a .settings) b 0) (c .before .both .ensures) ∙ sized (a .settings) (length (a .commitment .now)) (length (a .session .now)) _
+    (c .before .before .item-cells .ensures .0)
 
 module _ (c : tie.Else1) where
   abbrev s : tie.Start

@@ -17,8 +17,11 @@ mul-result-2 c = record { fits = product-fits (3 * c .before .before .args .k) (
 
 returns-2 : tie.Need-returns-2
 returns-2 c =
-    let k = c .before .before .args .k in
-    (λ e l. ap (λ n. 3 * k * n) (c .item-cells .ensures .0 e), mul-le-mul {n₁ = 3 * k} {m₁ = c .item-cells .result} {n₂ = treeChallengesMost} {m₂ = rowsWidth} (omega arith) (c .item-cells .ensures .1))
+    let k = c .before .before .args .k in (
+      λ e l. ap (λ n. 3 * k * n) (c .item-cells .ensures .0 e),
+      mul-le-mul {n₁ = 3 * k} {m₁ = c .item-cells .result} {n₂ = treeChallengesMost} {m₂ = rowsWidth} (omega arith)
+          (c .item-cells .ensures .1),
+    )
 
 pub polynomial-at-spec : {M : Type 1} → statement M
 polynomial-at-spec = tie.close (tie.spec returns (λ c κs. search needs) (λ c. search needs) mul-result-2 returns-2)

@@ -47,7 +47,8 @@ loop-again c =
     let l = c .before .before .before .before .before .loop in (
       omega arith,
       c .before .before .copy-row .kept .1 .1 .1 .1 .0 ∙ l .inv .1,
-      λ h. c .before .before .copy-row .ensures (omega (arith, row-inside (g .d) (g .rows) (l .r) (omega arith), h .0), omega (arith, h .1, l .inv .1)) ∙ ap (spliced (λ k. lists.getD (g .t .now) (l .r * g .d + k) 0) (l .r * width) (g .d)) (l .inv .2 h) ∙ placed-more (g .d) (g .t .now) (g .out .now) (l .r) (omega arith) (omega arith),
+      λ h. c .before .before .copy-row .ensures (omega (arith, row-inside (g .d) (g .rows) (l .r) (omega arith), h .0), omega (arith, h .1, l .inv .1)) ∙ ap
+          (spliced (λ k. lists.getD (g .t .now) (l .r * g .d + k) 0) (l .r * width) (g .d)) (l .inv .2 h) ∙ placed-more (g .d) (g .t .now) (g .out .now) (l .r) (omega arith) (omega arith),
     )
 
 same-length : tie.Need-same-length Inv-loop μ-loop

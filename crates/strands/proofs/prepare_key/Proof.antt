@@ -4,7 +4,7 @@ use native.Mathlib.Omega.{arith}
 use Rattle.residues.proofs.Parts.{tail-length}
 use Rattle.half_sums.specs.Halves.{keysOf}
 use Rattle.strands.specs.Strands.{KeyGiven}
-use Rattle.strands.proofs.Weaving.{prepared-same, sums-at, sums-are, part-is, part-long, place-most}
+use Rattle.strands.proofs.Weaving.{prepared-same, sums-below, part-below, sums-at, sums-are, part-is, part-long, place-most}
 use borrow.Author.Needs.{needs}
 use Rattle.strands.proofs.prepare_key.Statement.{statement}
 use Rattle.strands.proofs.prepare_key.Tie as tie
@@ -17,7 +17,12 @@ mul-add-key c = let s = c .before .before .before .before in omega (arith, place
 
 add-add-key : tie.Need-add-add-key
 add-add-key c = let s = c .before .before .before .before in
-    omega (arith, place-most (s .args .d) (s .args .n) (s .args .n) (s .pre .1) (s .pre .0) (omega arith), place-most (s .args .d) (s .args .n) (s .args .i) (s .pre .1) (s .pre .0) (omega (arith, s .pre .2)))
+    omega (
+      arith,
+      place-most (s .args .d) (s .args .n) (s .args .n) (s .pre .1) (s .pre .0) (omega arith),
+      place-most (s .args .d) (s .args .n) (s .args .i) (s .pre .1) (s .pre .0)
+          (omega (arith, s .pre .2)),
+    )
 
 returns : tie.Need-returns
 returns c = λ z.
@@ -29,10 +34,10 @@ returns c = λ z.
     prepared-same (a .q) (a .d) (given .degree) _
     (λ j l. sums-are (a .q) (a .d) (a .n) (a .i) (a .g .now) (s .pre .2) _ sum j l ∙ ap (λ b. keysOf b (a .q) (a .d) (a .n) (a .g .now) (a .i) j) (sym t))
     (c .before .before .prepare .ensures record {
-      modulus = given .modulus;
       degree = given .degree;
       degree-most = omega (arith, given .degree-most);
       coefficients = omega (arith, z .1, c .before .before .before .before .before .before .before .add-key .kept .1 .1 .1 .1 .1 .0);
+      residues = sums-below (a .q) (a .d) (a .n) (a .i) (a .g .now) (s .pre .2) given _ sum;
       places = z .2;
     })
 
@@ -49,14 +54,15 @@ returns-3 c = λ z.
     prepared-same (a .q) (a .d) (given .degree) _
     (λ j l. part-is (a .q) (a .d) (a .n) (a .i) (a .g .now) (s .pre .2) j l ∙ ap (λ b. keysOf b (a .q) (a .d) (a .n) (a .g .now) (a .i) j) (sym t))
     (c .before .before .prepare2 .ensures record {
-      modulus = given .modulus;
       degree = given .degree;
       degree-most = omega (arith, given .degree-most);
       coefficients = omega (arith, part-long (a .q) (a .d) (a .n) (a .i) (a .g .now) (s .pre .2) given, tail-length (a .i * a .d) (a .g .now));
+      residues = part-below (a .q) (a .d) (a .n) (a .i) (a .g .now) (s .pre .2) given;
       places = z .2;
     })
 
 pub prepare-key-spec : {M : Type 1} → statement M
 prepare-key-spec =
     tie.close
-    (tie.spec mul-at mul-add-key add-add-key (λ c κs. search needs) (λ c κs. search needs) (λ c. search) (λ c. search) returns returns-2 (λ c. search needs) (λ c. search needs) (λ c. search needs) (λ c. search needs) (λ c κs. search needs) (λ c. search) returns-3)
+    (tie.spec mul-at mul-add-key add-add-key (λ c κs. search needs) (λ c κs. search needs) (λ c. search) (λ c. search) returns returns-2 (λ c. search needs) (λ c. search needs)
+    (λ c. search needs) (λ c. search needs) (λ c κs. search needs) (λ c. search) returns-3)

@@ -28,10 +28,12 @@ mul-k-2 : tie.Need-mul-k-2 Inv-loop μ-loop
 mul-k-2 c = let s = c .before .before .before .before in let l = c .before .before .loop in omega (arith, cells-most (s .args .strands) (l .j) (s .pre .0) (omega (arith, s .pre .2)))
 
 add-k : tie.Need-add-k Inv-loop μ-loop
-add-k c = let s = c .before .before .before .before in let l = c .before .before .loop in omega (arith, cells-most (s .args .strands) (l .j) (s .pre .0) (omega (arith, s .pre .2)), s .pre .0, s .pre .1)
+add-k c = let s = c .before .before .before .before in let l = c .before .before .loop in omega
+    (arith, cells-most (s .args .strands) (l .j) (s .pre .0) (omega (arith, s .pre .2)), s .pre .0, s .pre .1)
 
 mul-k-3 : tie.Need-mul-k-3 Inv-loop μ-loop
-mul-k-3 c = let s = c .before .before .before .before in let l = c .before .before .loop in omega (arith, cells-most (s .args .strands) (l .j) (s .pre .0) (omega (arith, s .pre .2)), s .pre .0, s .pre .1)
+mul-k-3 c = let s = c .before .before .before .before in let l = c .before .before .loop in omega
+    (arith, cells-most (s .args .strands) (l .j) (s .pre .0) (omega (arith, s .pre .2)), s .pre .0, s .pre .1)
 
 slice-write-k : tie.Need-slice-write-k Inv-loop μ-loop
 slice-write-k c =
@@ -51,7 +53,8 @@ loop-again c =
     )
 
 returns-2 : tie.Need-returns-2 Inv-loop μ-loop
-returns-2 c = λ _. let s = c .before .before .before in let l = c .before .loop in subst (λ n. StrandIn (s .args .strands) (s .args .r) n (s .args .a .now) (s .args .k .now) (l .k)) (omega arith) (l .inv .3)
+returns-2 c = λ _. let s = c .before .before .before in let l = c .before .loop in subst (λ n. StrandIn (s .args .strands) (s .args .r) n (s .args .a .now) (s .args .k .now) (l .k))
+    (omega arith) (l .inv .3)
 
 pub weave-spec : {M : Type 1} → statement M
 weave-spec =

@@ -40,7 +40,8 @@ loop-again c =
           let from = w .0 h in
           let given = subst (λ v. KeyGiven (a .sums) (a .q) (a .d) (a .n) (take (length (a .g .now) - v) (drop v (a .g .now)))) (sym from)
           (row-given (a .sums) (a .q) (a .d) (a .n) (a .strands) (a .stride) (a .g .now) G z (l .r) h) in
-          let same : (j : ℕ) → j < a .d → keysOf (a .sums) (a .q) (a .d) (a .n) (take (length (a .g .now) - l .from) (drop (l .from) (a .g .now))) (a .i) j ≡ keysOf (a .sums) (a .q) (a .d) (a .n) (G (l .r)) (a .i) j =
+          let same : (j : ℕ) → j < a .d → keysOf (a .sums) (a .q) (a .d) (a .n) (take (length (a .g .now) - l .from) (drop (l .from) (a .g .now))) (a .i) j ≡ keysOf (a .sums) (a .q) (a .d)
+          (a .n) (G (l .r)) (a .i) j =
           λ j m. ap (λ v. keysOf (a .sums) (a .q) (a .d) (a .n) (take (length (a .g .now) - v) (drop v (a .g .now))) (a .i) j) from
           ∙ row-same (a .sums) (a .q) (a .d) (a .n) (a .strands) (a .stride) (a .g .now) G z (l .r) h (a .i) (s .pre .3) j m in (
             λ m. next .ensures .1 (omega (arith, from, z .long (l .r + 1) m, Nat.add-mul (l .r) 1 (a .stride))) ∙ omega (arith, from, Nat.add-mul (l .r) 1 (a .stride)),
@@ -58,4 +59,5 @@ returns c = λ G z.
 pub weave-keys-spec : {M : Type 1} → statement M
 weave-keys-spec =
     tie.close
-    (tie.spec Inv-loop μ-loop loop-holds (λ c. search needs) (λ c. search needs) (λ c. search needs) (λ c. search needs) (λ c κs. search needs) (λ c κs. search needs) (λ c. search needs) (λ c. search needs) loop-again (λ c. search) (λ c. search) returns)
+    (tie.spec Inv-loop μ-loop loop-holds (λ c. search needs) (λ c. search needs) (λ c. search needs) (λ c. search needs) (λ c κs. search needs) (λ c κs. search needs) (λ c. search needs)
+    (λ c. search needs) loop-again (λ c. search) (λ c. search) returns)

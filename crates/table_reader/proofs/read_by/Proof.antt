@@ -22,7 +22,8 @@ module _ (c : tie.After-read-values) where
   text = start .args .text .now
 
   abbrev t : Tables
-  t = tablesOf (start .args .key .now) (start .args .message .now) (start .args .commitment .now) (start .args .rounds .now) (start .args .challenges .now) (start .args .last .now) (start .args .claims .now)
+  t = tablesOf (start .args .key .now) (start .args .message .now) (start .args .commitment .now) (start .args .rounds .now) (start .args .challenges .now) (start .args .last .now)
+      (start .args .claims .now)
 
   abbrev values : List ℤ
   values = c .read-values .last .1 .1 .1 .1 .1 .0

@@ -30,7 +30,8 @@ returns-2 c =
 
 store-requires : tie.Need-store-requires
 store-requires c κs =
-    let at-if1 = c .before .before .before .before .before .before .before .before .before .before .before .before .before .before .before .before .before .before .before .before .before .before .before .before in
+    let at-if1 = c .before .before .before .before .before .before .before .before .before .before .before .before .before .before .before .before .before .before .before .before .before .before
+    .before .before in
     let at-both = at-if1 .before in
     eqb-true _ _ (and-split (sym (at-both .both .ensures) ∙ not-false _ (at-if1 .if1 .left)) .0)
 

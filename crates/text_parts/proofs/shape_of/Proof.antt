@@ -67,14 +67,16 @@ unfolding partShape shapes size
 returns-3 c =
     let a = c .before .before .before .before .args in
     let deep : a .settings .depth ≤ 8 = omega arith in
-    named (a .settings) (a .parts) (a .part) 1 _ deep (omega arith) (c .before .match .keys1) (c .part-of .ensures ∙ (λ j. shape 1 (a .parts .key) (a .settings .rows * shifted (a .settings .depth) deep j) (a .settings .degree)))
+    named (a .settings) (a .parts) (a .part) 1 _ deep (omega arith) (c .before .match .keys1)
+    (c .part-of .ensures ∙ (λ j. shape 1 (a .parts .key) (a .settings .rows * shifted (a .settings .depth) deep j) (a .settings .degree)))
 
 returns-4 : tie.Need-returns-4
 unfolding partShape shapes size
 returns-4 c =
     let a = c .before .before .before .before .args in
     let deep : a .settings .depth ≤ 8 = omega arith in
-    named (a .settings) (a .parts) (a .part) 2 _ deep (omega arith) (c .before .match .keys2) (c .part-of2 .ensures ∙ (λ j. shape 2 (a .parts .message) (shifted (a .settings .depth) deep j) (a .settings .degree)))
+    named (a .settings) (a .parts) (a .part) 2 _ deep (omega arith) (c .before .match .keys2)
+    (c .part-of2 .ensures ∙ (λ j. shape 2 (a .parts .message) (shifted (a .settings .depth) deep j) (a .settings .degree)))
 
 returns-5 : tie.Need-returns-5
 unfolding partShape shapes size

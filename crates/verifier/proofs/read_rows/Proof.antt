@@ -32,7 +32,8 @@ same S ok w C i k h l =
 
 abbrev Inv-loop : tie.InvT-loop
 Inv-loop settings step commitment claims₀ n i₀ claims i =
-    (i ≤ n) × (lists.length claims ≡ rowsWidth) × Provided ((settingsRefusal settings ≡ 0) × RowsLent settings step (lists.length commitment) × (claims₀ ≡ zeros rowsWidth)) (claims ≡ first-rows settings (rowRead settings (lentRows settings step commitment)) i)
+    (i ≤ n) × (lists.length claims ≡ rowsWidth) × Provided ((settingsRefusal settings ≡ 0) × RowsLent settings step (lists.length commitment) × (claims₀ ≡ zeros rowsWidth))
+    (claims ≡ first-rows settings (rowRead settings (lentRows settings step commitment)) i)
 
 abbrev μ-loop : tie.MeasureT-loop
 μ-loop settings step commitment claims₀ n i₀ claims i = n - i
@@ -92,5 +93,6 @@ part-store-start c = sub-store c
 pub read-rows-spec : {M : Type 1} → statement M
 read-rows-spec =
     tie.close
-    (tie.spec Inv-loop μ-loop (λ c. search needs) loop-holds mul-from (λ c. record { fits = omega arith }) (λ c. search needs) mul-store sub-store part-store-start (λ c. search needs) (λ c κs. search needs)
+    (tie.spec Inv-loop μ-loop (λ c. search needs) loop-holds mul-from (λ c. record { fits = omega arith }) (λ c. search needs) mul-store sub-store part-store-start (λ c. search needs)
+    (λ c κs. search needs)
     (λ c. search needs) (λ c. omega arith) loop-again (λ c. search needs) returns)

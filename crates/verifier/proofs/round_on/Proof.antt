@@ -42,7 +42,8 @@ returns-2 : tie.Need-returns-2
 returns-2 c = λ lent.
     let one = c .before .before .before .before .before in
     let a = s one .args in
-    round-rejected (a .progress) (a .claims .now) (a .step) (a .c0 .now) (a .c1 .now) (a .c2 .now) (a .e) (passed one lent) (sym (held (c .before .before) lent) ∙ not-true _ (c .before .if2 .taken)) _ (c .shut .ensures)
+    round-rejected (a .progress) (a .claims .now) (a .step) (a .c0 .now) (a .c1 .now) (a .c2 .now) (a .e) (passed one lent)
+    (sym (held (c .before .before) lent) ∙ not-true _ (c .before .if2 .taken)) _ (c .shut .ensures)
 
 returns-3 : tie.Need-returns-3
 returns-3 c = λ lent.

@@ -11,7 +11,13 @@ unfolding part
 returns c =
     let a = c .before .before .before .before .before .before .before .before .args in
     let lent = by-value (a .progress .settings) _ in
-    c .round-on .ensures (record { claims-long = search needs; first = lent (search needs); second = by-value (a .progress .settings) _ (search needs); third = by-value (a .progress .settings) _ (search needs) })
+    c .round-on .ensures (record {
+      claims-long = search needs;
+      first = lent (search needs);
+      second = by-value (a .progress .settings) _ (search needs);
+      third = by-value (a .progress .settings) _
+          (search needs);
+    })
     ∙ turn-same (recordOf (a .progress) (a .claims .now)) (a .polynomial .now) (a .e)
 
 pub round-with-spec : {M : Type 1} → statement M

@@ -21,7 +21,8 @@ module _ (c : tie.After-read-tables) where
   text = start .args .text .now
 
   abbrev t : Tables
-  t = tablesOf (start .args .key .now) (start .args .message .now) (start .args .commitment .now) (start .args .rounds .now) (start .args .challenges .now) (start .args .last .now) (start .args .claims .now)
+  t = tablesOf (start .args .key .now) (start .args .message .now) (start .args .commitment .now) (start .args .rounds .now) (start .args .challenges .now) (start .args .last .now)
+      (start .args .claims .now)
 
   abbrev t′ : Tables
   t′ =

@@ -158,5 +158,6 @@ verify-within-spec =
     (tie.spec (λ c κs. search) returns (λ c. search needs) (λ c. search needs) (λ c κs. search) (λ c κs. search)
     (λ c κs. search) (λ c κs. search) (λ c κs. search) (λ c κs. search) slice-relend-prefix-verify-in slice-aggregate-verify-in (λ c. search needs) (λ c. search) slice-relend-prefix-verify-in-3
     slice-aggregate-verify-in-3 slice-relend-prefix-verify-in-4 slice-aggregate-verify-in-4 slice-relend-prefix-verify-in-5
-    slice-aggregate-verify-in-5 slice-relend-prefix-verify-in-6 slice-aggregate-verify-in-6 slice-relend-prefix-verify-in-7 slice-aggregate-verify-in-7 verify-in-requires (λ c. search) (λ c. search) (λ c. search)
+    slice-aggregate-verify-in-5 slice-relend-prefix-verify-in-6 slice-aggregate-verify-in-6 slice-relend-prefix-verify-in-7 slice-aggregate-verify-in-7 verify-in-requires (λ c. search)
+    (λ c. search) (λ c. search)
     (λ c. search) (λ c. search) (λ c. search) (λ c. search) (λ c. search))

@@ -24,15 +24,21 @@ room c = omega (arith, cells-are c, root-room _ _ _ (c .before .before .pre .0))
 nodes-are : (c : tie.After-nodes) → c .nodes .result ≡ nodes (c .before .before .before .args .settings)
 nodes-are c = let g = c .before .before .before in c .nodes .ensures .0 (valid-settings (g .args .settings) (g .pre .0 .valid))
 
--- what the call leaves in its part of the list, and the list before it
+-- the list before the call, and what the call leaves in its part of the list
+abbrev made : tie.After-node → tie.After-workspace
+made c = c .before .before .before
+
+abbrev counted : tie.After-node → tie.After-cells
+counted c = made c .before .before
+
+abbrev given : tie.After-node → List ℤ
+given c = made c .workspace .result
+
 abbrev left : tie.After-node → List ℤ
 left c = c .node .last .1 .1 .1 .1 .1 .1 .0
 
-abbrev given : tie.After-node → List ℤ
-given c = c .before .before .workspace .result
-
-lent : (c : tie.After-node) → length (left c) ≡ 2 * c .before .before .before .before .cells .result
-lent c = c .node .kept .1 .1 .1 .1 .1 .1 .0 ∙ length-take-le _ (given c) (omega (arith, room (c .before .before .before .before), c .before .before .workspace .ensures))
+lent : (c : tie.After-node) → length (left c) ≡ 2 * counted c .cells .result
+lent c = c .node .kept .1 .1 .1 .1 .1 .1 .0 ∙ length-take-le _ (given c) (omega (arith, room (counted c), made c .workspace .ensures))
 
 mul-end : tie.Need-mul-end
 mul-end c = omega (arith, room (c .before))
@@ -45,39 +51,41 @@ slice-aggregate-node c = sym (length-take-le _ _ (omega (arith, room (c .before 
 
 node-requires : tie.Need-node-requires
 node-requires c κs =
-    let g = c .before .before .before .before .before in let z = c .before .workspace in (
+    let z = c .before .before in let k = z .before .before in let g = k .before .before in (
       g .pre .0,
-      root-at (g .args .settings) (g .args .challenges .now) (g .args .leaves .now) (g .pre .0) _ _ (z .result)
-          (nodes-are (c .before .before)) (cells-are (c .before .before .before)) (z .ensures),
+      (
+        root-at (g .args .settings) (g .args .challenges .now) (g .args .leaves .now) (g .pre .0) _ _ (z .workspace .result) (nodes-are (z .before)) (cells-are k) (z .workspace .ensures),
+        omega arith,
+      ),
     )
 
 mul-store : tie.Need-mul-store
-mul-store c = omega (arith, room (c .before .before .before .before .before))
+mul-store c = omega (arith, room (counted (c .before .before)))
 
 sub-store : tie.Need-sub-store
-sub-store c = omega (arith, room (c .before .before .before .before .before))
+sub-store c = omega (arith, room (counted (c .before .before)))
 
 part-store-start : tie.Need-part-store-start
-part-store-start c = omega (arith, room (c .before .before .before .before .before .before))
+part-store-start c = omega (arith, room (counted (c .before .before .before)))
 
 part-store-end : tie.Need-part-store-end
-part-store-end c = let n = c .before .before in omega (arith, kept-long _ (left n) (given n) (room (n .before .before .before .before)) (lent n) (n .before .before .workspace .ensures))
+part-store-end c = let n = c .before .before .before in omega (arith, kept-long _ (left n) (given n) (room (counted n)) (lent n) (made n .workspace .ensures))
 
 store-requires : tie.Need-store-requires
 store-requires c κs =
-    let n = c .before .before .before .before in let k = n .before .before .before .before in let g = k .before .before in
-    (omega (arith, part-room _ (left n) (given n) (room k) (lent n) (n .before .before .workspace .ensures)), omega (arith, g .pre .1, cells-are k))
+    let n = c .before .before .before .before .before in let k = counted n in let g = k .before .before in
+    (omega (arith, part-room _ (left n) (given n) (room k) (lent n) (made n .workspace .ensures)), omega (arith, g .pre .1, cells-are k))
 
 returns : tie.Need-returns
 unfolding rootVector cells size
 returns c =
-    let n = c .before .before .before .before .before .before in let k = n .before .before .before .before in let g = k .before .before in
-    copied (k .cells .result) (left n) (given n) (room k) (lent n) (n .before .before .workspace .ensures) (g .args .w .now) _ (g .pre .1 ∙ sym (cells-are k)) (c .before .store .ensures)
+    let n = c .before .before .before .before .before .before .before in let k = counted n in let g = k .before .before in
+    copied (k .cells .result) (left n) (given n) (room k) (lent n) (made n .workspace .ensures) (g .args .w .now) _ (g .pre .1 ∙ sym (cells-are k)) (c .before .store .ensures)
     ∙ ap (λ m. drop m (left n)) (cells-are k)
     ∙ n .node .ensures
 
 pub root-spec : {M : Type 1} → statement M
 root-spec =
     tie.close
-    (tie.spec (λ c κs. search needs) (λ c κs. search needs) mul-end (λ c κs. search needs) array-borrow-prefix-ws slice-aggregate-node node-requires
-    mul-store sub-store part-store-start part-store-end store-requires (λ c. search needs) returns)
+    (tie.spec (λ c κs. search needs) (λ c κs. search needs) mul-end (λ c κs. search needs) array-borrow-prefix-ws slice-aggregate-node (λ c. search needs)
+    node-requires mul-store sub-store part-store-start part-store-end store-requires (λ c. search needs) returns)

@@ -32,19 +32,20 @@ module _ (d n k j x y : ℕ) (E : List ℕ) (ws : List ℤ) (B : Branching d n k
 
 add-share-requires : tie.Need-add-share-requires
 add-share-requires c κs =
-    let g = c .before .before .before .before .before in let a = g .args in
-    sharing (a .d) (a .n) (a .k) (a .j) (a .x) (a .y) (a .challenges .now) (a .ws .now) (g .pre)
-    (c .before .before .before .challenge-of .ensures) (c .before .before .challenge-of2 .ensures) (c .before .challenge-of3 .ensures)
+    let h = c .before .before in let g = h .before .before .before .before in let a = g .args in (
+      g .pre .0,
+      sharing (a .d) (a .n) (a .k) (a .j) (a .x) (a .y) (a .challenges .now) (a .ws .now) (g .pre .1)
+          (h .before .before .challenge-of .ensures) (h .before .challenge-of2 .ensures) (h .challenge-of3 .ensures),
+    )
 
 returns : tie.Need-returns
 returns c =
-    let h = c .before .before in
-    let g = h .before .before .before .before .before in let a = g .args in
-    added (a .d) (a .n) (a .k) (a .j) (a .x) (a .y) (a .challenges .now) (a .ws .now) (g .pre)
-    (h .before .before .before .challenge-of .ensures) (h .before .before .challenge-of2 .ensures) (h .before .challenge-of3 .ensures) _ (c .before .add-share .ensures)
+    let s = c .before .before in let h = s .before .before .before in let g = h .before .before .before .before in let a = g .args in
+    added (a .d) (a .n) (a .k) (a .j) (a .x) (a .y) (a .challenges .now) (a .ws .now) (g .pre .1)
+    (h .before .before .challenge-of .ensures) (h .before .challenge-of2 .ensures) (h .challenge-of3 .ensures) _ (s .add-share .ensures)
 
 pub add-branch-spec : {M : Type 1} → statement M
 add-branch-spec =
     tie.close
     (tie.spec (λ c κs. search needs) (λ c κs. search needs) (λ c κs. search needs) (λ c. search needs) (λ c. search needs) (λ c. search needs)
-    (λ c. search needs) (λ c. search needs) add-share-requires (λ c. search needs) returns)
+    (λ c. search needs) (λ c. search needs) add-share-requires (λ c. search needs) (λ c. search needs) returns)

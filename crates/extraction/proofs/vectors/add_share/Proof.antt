@@ -1,5 +1,5 @@
 -- The products, then the sums with the first half and with the second. The products are ahead by X^(2a), which the sums turn back.
-use mathlib.Core.Path.{_≡_, refl, sym, ap, _∙_}
+use mathlib.Core.Path.{_≡_, sym, ap, _∙_}
 use Prim.Native.Nat.{_+_, _*_, _-_, _%_, _<_, _≤_}
 use native.Mathlib.Nat as Nat
 use native.Mathlib.Omega.{arith}
@@ -17,7 +17,7 @@ use Rattle.extraction.proofs.vectors.add_share.Tie as tie
 
 -- the degree is one, so that exponents go round
 circle : (g : tie.Start) → (0 < g .args .d) × (g .args .d ≤ width)
-circle g = (g .pre .some, g .pre .small)
+circle g = (g .pre .1 .some, g .pre .1 .small)
 
 -- the exponents
 first : (c : tie.After-on-circle) → let a = c .before .args in c .on-circle .result ≡ gap (a .d) (a .a) (a .b)
@@ -40,7 +40,7 @@ unfolding backOnce
 once c = c .on-circle4 .ensures .0 (circle (at-once c))
 
 once-small : (c : tie.After-on-circle4) → c .on-circle4 .result < 2 * at-once c .args .d
-once-small c = let g = at-once c in let p : 0 < 2 * g .args .d = omega (arith, g .pre .some) in omega (arith, c .on-circle4 .ensures .0 (circle g), Nat.mod-lt (2 * g .args .d - g .args .a) p)
+once-small c = let g = at-once c in let p : 0 < 2 * g .args .d = omega (arith, g .pre .1 .some) in omega (arith, c .on-circle4 .ensures .0 (circle g), Nat.mod-lt (2 * g .args .d - g .args .a) p)
 
 twice : (c : tie.After-on-circle5) → let a = at-once (c .before) .args in c .on-circle5 .result ≡ backTwice (a .d) (a .a)
 unfolding backTwice
@@ -57,33 +57,33 @@ products c =
 abbrev whole : (c : tie.After-scale) → List ℤ
 whole c = c .scale .last .1 .1 .1 .1 .1 .0 ++ drop (at-scale c .args .n * at-scale c .args .d) (at-scale c .args .l .now)
 
--- the room for a spread element keeps its length
-room : (c : tie.After-scale) → 3 * at-scale c .args .d ≤ length (c .scale .last .1 .1 .1 .1 .1 .1 .0)
-room c = omega (arith, at-scale c .pre .small, c .scale .kept .1 .1 .1 .1 .1 .1 .0)
+-- the room for two copies of an element keeps its length
+room : (c : tie.After-scale) → 2 * at-scale c .args .d ≤ length (c .scale .last .1 .1 .1 .1 .1 .1 .0)
+room c = omega (arith, at-scale c .pre .0, c .scale .kept .1 .1 .1 .1 .1 .1 .0)
 
 mul-back : tie.Need-mul-back
-mul-back c = omega (arith, c .pre .small)
+mul-back c = omega (arith, c .pre .1 .small)
 
 add-on-circle : tie.Need-add-on-circle
-add-on-circle c = omega (arith, c .pre .small, c .pre .others .0)
+add-on-circle c = omega (arith, c .pre .1 .small, c .pre .1 .others .0)
 
 add-on-circle-2 : tie.Need-add-on-circle-2
-add-on-circle-2 c = omega (arith, c .before .pre .small, c .before .pre .others .1)
+add-on-circle-2 c = omega (arith, c .before .pre .1 .small, c .before .pre .1 .others .1)
 
 add-on-circle-3 : tie.Need-add-on-circle-3
-add-on-circle-3 c = let g = c .before .before in omega (arith, g .pre .small, g .pre .others .0, g .pre .others .1)
+add-on-circle-3 c = let g = c .before .before in omega (arith, g .pre .1 .small, g .pre .1 .others .0, g .pre .1 .others .1)
 
 slice-aggregate-scale : tie.Need-slice-aggregate-scale
-slice-aggregate-scale c = let g = c .before .before .before .before in sym (length-take-le _ _ (omega (arith, g .pre .long)))
+slice-aggregate-scale c = let g = c .before .before .before .before in sym (length-take-le _ _ (omega (arith, g .pre .1 .long)))
 
 scale-requires : tie.Need-scale-requires
 scale-requires c κs =
     let g = c .before .before .before .before .before in let a = g .args in
     let is-e = c .before .before .on-circle3 .ensures .0 (circle g) in
-    (omega (arith, g .pre .small), rw (first (c .before .before .before .before), second (c .before .before .before), is-e) (share-scalable (a .d) (a .n) (a .a) (a .b) (a .c) (a .l .now) (g .pre)))
+    (g .pre .0, rw (first (c .before .before .before .before), second (c .before .before .before), is-e) (share-scalable (a .d) (a .n) (a .a) (a .b) (a .c) (a .l .now) (g .pre .1)))
 
 mul-on-circle : tie.Need-mul-on-circle
-mul-on-circle c = omega (arith, once-small c, at-once c .pre .small)
+mul-on-circle c = omega (arith, once-small c, at-once c .pre .1 .small)
 
 -- the sums follow the products
 abbrev at-sums : (c : tie.After-on-circle5) → tie.After-scale
@@ -92,17 +92,17 @@ at-sums c = c .before .before .before .before
 add-turned-requires : tie.Need-add-turned-requires
 add-turned-requires c κs =
     let at = c .before .before in let s = at-sums at in let g = at-scale s in let a = g .args in
-    (room s, rw (twice at, once (at .before)) (share-turnable (a .d) (a .n) (a .a) (a .b) (a .c) (a .l .now) (g .pre) (products s)))
+    (room s, rw (twice at, once (at .before)) (share-turnable (a .d) (a .n) (a .a) (a .b) (a .c) (a .l .now) (g .pre .1) (products s)))
 
 returns : tie.Need-returns
 returns c =
     let t = c .before .before in let at = t .before .before .before in let s = at-sums at in let g = at-scale s in let a = g .args in
-    share-added (a .d) (a .n) (a .a) (a .b) (a .c) (a .l .now) (g .pre) (products s)
+    share-added (a .d) (a .n) (a .a) (a .b) (a .c) (a .l .now) (g .pre .1) (products s)
     (t .add-turned .ensures ∙ (λ i. turned (a .d) (a .n) (twice at i) (once (at .before) i) (a .n) (whole s)))
 
 pub add-share-spec : {M : Type 1} → statement M
 add-share-spec =
     tie.close
     (tie.spec mul-back (λ c. search needs) add-on-circle (λ c κs. search needs) add-on-circle-2 (λ c κs. search needs) add-on-circle-3
-    (λ c κs. search needs) (λ c. search needs) (λ c. search needs) slice-aggregate-scale (λ c. search needs) scale-requires (λ c κs. search needs)
-    mul-on-circle (λ c κs. search needs) (λ c. search needs) add-turned-requires (λ c. search needs) returns)
+    (λ c κs. search needs) (λ c. search needs) (λ c. search needs) slice-aggregate-scale scale-requires (λ c κs. search needs) mul-on-circle
+    (λ c κs. search needs) add-turned-requires (λ c. search needs) (λ c. search needs) returns)

@@ -1,13 +1,12 @@
 -- The loop keeps: i elements are added in both places, everything else is as it was.
 use mathlib.Core.Path.{_≡_, refl, ap, _∙_}
 use Prim.Native.Nat.{_+_, _*_, _-_, _<_, _≤_}
-use native.Mathlib.Nat as Nat
 use native.Mathlib.Omega.{arith}
 use borrow.Author.Needs.{needs}
 use borrow.Rule.Slice.PartMut.{putMid}
 use lib.ListN.{length}
 use Rattle.extraction.specs.Vectors.{turned}
-use Rattle.extraction.proofs.Turning.{turned-none, turned-length, in-row, can-spread, can-add-low, after-low, can-add-high, after-high}
+use Rattle.extraction.proofs.Turning.{turned-none, turned-length, in-row, can-mirror, can-add-low, after-low, can-add-high, after-high}
 use Rattle.extraction.proofs.vectors.add_turned.Statement.{statement}
 use Rattle.extraction.proofs.vectors.add_turned.Tie as tie
 
@@ -34,68 +33,72 @@ loop-holds c = let a = c .args in (omega arith, turned-none (a .d) (a .n) (a .e)
 mul-at : tie.Need-mul-at Inv-loop μ-loop
 mul-at c = let h = here c in record { fits = omega arith }
 
-mul-spread : tie.Need-mul-spread Inv-loop μ-loop
-mul-spread c = let h = here c in record { fits = omega arith }
+mul-mirror : tie.Need-mul-mirror Inv-loop μ-loop
+mul-mirror c = let h = here c in record { fits = omega arith }
 
-sub-spread : tie.Need-sub-spread Inv-loop μ-loop
-sub-spread c = let h = here c in omega arith
+sub-mirror : tie.Need-sub-mirror Inv-loop μ-loop
+sub-mirror c = let h = here c in omega arith
 
-part-spread-start : tie.Need-part-spread-start Inv-loop μ-loop
-part-spread-start c = let h = here (c .before) in omega arith
+part-mirror-start : tie.Need-part-mirror-start Inv-loop μ-loop
+part-mirror-start c = let h = here (c .before) in omega arith
 
-spread-requires : tie.Need-spread-requires Inv-loop μ-loop
-spread-requires c κs =
+mirror-requires : tie.Need-mirror-requires Inv-loop μ-loop
+mirror-requires c κs =
     let at = c .before .before .before in let g = at .before .before in let l = at .before .loop in let a = g .args in
-    can-spread (a .d) (a .n) (a .e) (a .f) (a .l .now) (g .pre .1) (l .i) (here at .0) (l .inv .1) (l .inv .2) (l .x) (omega (arith, g .pre .0, l .inv .3))
+    can-mirror (a .d) (a .n) (a .e) (a .f) (a .l .now) (g .pre .1) (l .i) (here at .0) (l .inv .1) (l .inv .2) (l .x) (omega (arith, g .pre .0, l .inv .3))
 
 add-low : tie.Need-add-low Inv-loop μ-loop
 add-low c = let h = here (c .before .before .before .before .before) in record { fits = omega arith }
 
-mul-add-spread : tie.Need-mul-add-spread Inv-loop μ-loop
-mul-add-spread c = let h = here (c .before .before .before .before .before .before) in record { fits = omega arith }
+mul-add-rotated : tie.Need-mul-add-rotated Inv-loop μ-loop
+mul-add-rotated c = let h = here (c .before .before .before .before .before .before) in record { fits = omega arith }
 
-sub-add-spread : tie.Need-sub-add-spread Inv-loop μ-loop
-sub-add-spread c = let h = here (c .before .before .before .before .before .before) in omega arith
+sub-add-rotated : tie.Need-sub-add-rotated Inv-loop μ-loop
+sub-add-rotated c = let h = here (c .before .before .before .before .before .before) in omega arith
 
-part-add-spread-start : tie.Need-part-add-spread-start Inv-loop μ-loop
-part-add-spread-start c = let h = here (c .before .before .before .before .before .before) in omega arith
+part-add-rotated-start : tie.Need-part-add-rotated-start Inv-loop μ-loop
+part-add-rotated-start c = let h = here (c .before .before .before .before .before .before) in omega arith
 
-add-spread-requires : tie.Need-add-spread-requires Inv-loop μ-loop
-add-spread-requires c κs =
-    let s = c .before .before .before .spread in let at = c .before .before .before .before .before .before .before in let g = at .before .before in let l = at .before .loop in let a = g .args in
-    can-add-low (a .d) (a .n) (a .e) (a .f) (a .l .now) (g .pre .1) (l .i) (here at .0) (l .inv .1) (l .inv .2) _ (omega (arith, g .pre .0, l .inv .3, s .kept .1 .1 .0)) (s .ensures)
+add-rotated-requires : tie.Need-add-rotated-requires Inv-loop μ-loop
+add-rotated-requires c κs =
+    let s = c .before .before .before .mirror in let at = c .before .before .before .before .before .before .before in let g = at .before .before in let l = at .before .loop in let a = g .args in
+    can-add-low (a .d) (a .n) (a .e) (a .f) (a .l .now) (g .pre .1) (l .i) (here at .0) (l .inv .1) (l .inv .2) (omega (arith, g .pre .0, l .inv .3, s .kept .1 .1 .0)) (s .ensures)
 
 -- the list keeps its length in the first sum
-after : (c : tie.After-add-spread Inv-loop μ-loop) → let at = c .before .before .before .before .before .before .before .before in let a = at .before .before .args in let l = at .before .loop in
+after : (c : tie.After-add-rotated Inv-loop μ-loop) → let at = c .before .before .before .before .before .before .before .before in let a = at .before .before .args in let l = at .before .loop in
     let low = a .n * a .d + l .i * a .d in
-    length (putMid low (length (l .l) - low) (l .l) (c .add-spread .last .1 .1 .1 .0)) ≡ length (a .l .now)
+    length (putMid low (length (l .l) - low) (l .l) (c .add-rotated .last .1 .1 .1 .0)) ≡ length (a .l .now)
 after c =
-    let s = c .before .before .before .before .spread in let at = c .before .before .before .before .before .before .before .before in let g = at .before .before in let l = at .before .loop in let a = g .args in
-    after-low (a .d) (a .n) (a .e) (a .f) (a .l .now) (g .pre .1) (l .i) (here at .0) (l .inv .1) (l .inv .2) _ (omega (arith, g .pre .0, l .inv .3, s .kept .1 .1 .0)) (s .ensures) (c .add-spread .ensures)
+    let s = c .before .before .before .before .mirror in let at = c .before .before .before .before .before .before .before .before in let g = at .before .before in let l = at .before .loop in
+    let a = g .args in
+    after-low (a .d) (a .n) (a .e) (a .f) (a .l .now) (g .pre .1) (l .i) (here at .0) (l .inv .1) (l .inv .2) (omega (arith, g .pre .0, l .inv .3, s .kept .1 .1 .0)) (s .ensures)
+    (c .add-rotated .ensures)
 
 add-high : tie.Need-add-high Inv-loop μ-loop
 add-high c = let h = here (c .before .before .before .before .before .before .before .before .before) in record { fits = omega arith }
 
-mul-add-spread-2 : tie.Need-mul-add-spread-2 Inv-loop μ-loop
-mul-add-spread-2 c = let h = here (c .before .before .before .before .before .before .before .before .before .before) in let w = after (c .before .before) in record { fits = omega arith }
+mul-add-rotated-2 : tie.Need-mul-add-rotated-2 Inv-loop μ-loop
+mul-add-rotated-2 c = let h = here (c .before .before .before .before .before .before .before .before .before .before) in let w = after (c .before .before) in record { fits = omega arith }
 
-sub-add-spread-2 : tie.Need-sub-add-spread-2 Inv-loop μ-loop
-sub-add-spread-2 c = let h = here (c .before .before .before .before .before .before .before .before .before .before) in let w = after (c .before .before) in omega arith
+sub-add-rotated-2 : tie.Need-sub-add-rotated-2 Inv-loop μ-loop
+sub-add-rotated-2 c = let h = here (c .before .before .before .before .before .before .before .before .before .before) in let w = after (c .before .before) in omega arith
 
-part-add-spread-start-2 : tie.Need-part-add-spread-start-2 Inv-loop μ-loop
-part-add-spread-start-2 c = let h = here (c .before .before .before .before .before .before .before .before .before .before) in let w = after (c .before .before) in omega arith
+part-add-rotated-start-2 : tie.Need-part-add-rotated-start-2 Inv-loop μ-loop
+part-add-rotated-start-2 c = let h = here (c .before .before .before .before .before .before .before .before .before .before) in let w = after (c .before .before) in omega arith
 
-add-spread-requires-2 : tie.Need-add-spread-requires-2 Inv-loop μ-loop
-add-spread-requires-2 c κs =
-    let s = c .before .before .before .before .before .before .before .spread in let at = c .before .before .before .before .before .before .before .before .before .before .before in let g = at .before .before in let l = at .before .loop in let a = g .args in
-    can-add-high (a .d) (a .n) (a .e) (a .f) (a .l .now) (g .pre .1) (l .i) (here at .0) (l .inv .1) (l .inv .2) _ (omega (arith, g .pre .0, l .inv .3, s .kept .1 .1 .0)) (s .ensures)
-    (c .before .before .before .add-spread .ensures)
+add-rotated-requires-2 : tie.Need-add-rotated-requires-2 Inv-loop μ-loop
+add-rotated-requires-2 c κs =
+    let s = c .before .before .before .before .before .before .before .mirror in let at = c .before .before .before .before .before .before .before .before .before .before .before in let g = at
+    .before .before in let l = at .before .loop in let a = g .args in
+    can-add-high (a .d) (a .n) (a .e) (a .f) (a .l .now) (g .pre .1) (l .i) (here at .0) (l .inv .1) (l .inv .2) (omega (arith, g .pre .0, l .inv .3, s .kept .1 .1 .0)) (s .ensures)
+    (c .before .before .before .add-rotated .ensures)
 
 loop-again : tie.Need-loop-again Inv-loop μ-loop
 loop-again c =
-    let s = c .before .before .before .before .before .before .before .before .before .spread in let at = c .before .before .before .before .before .before .before .before .before .before .before .before .before in let g = at .before .before in let l = at .before .loop in let a = g .args in
-    let same = after-high (a .d) (a .n) (a .e) (a .f) (a .l .now) (g .pre .1) (l .i) (here at .0) (l .inv .1) (l .inv .2) _ (omega (arith, g .pre .0, l .inv .3, s .kept .1 .1 .0)) (s .ensures)
-    (c .before .before .before .before .before .add-spread .ensures) (c .before .add-spread2 .ensures) in (
+    let s = c .before .before .before .before .before .before .before .before .before .mirror in let at = c .before .before .before .before .before .before .before .before .before .before
+    .before .before .before in let g = at .before .before in let l = at .before .loop in let a = g .args in
+    let same = after-high (a .d) (a .n) (a .e) (a .f) (a .l .now) (g .pre .1) (l .i) (here at .0) (l .inv .1) (l .inv .2) (omega (arith, g .pre .0, l .inv .3, s .kept .1 .1 .0)) (s .ensures)
+    (c .before .before .before .before .before .add-rotated .ensures) (c .before .add-rotated2 .ensures) in (
       omega (arith, here at .0),
       same,
       ap length same ∙ turned-length (a .d) (a .n) (a .e) (a .f) (a .l .now) (g .pre .1) (l .i + 1) (omega (arith, here at .0)),
@@ -110,6 +113,6 @@ returns c =
 pub add-turned-spec : {M : Type 1} → statement M
 add-turned-spec =
     tie.close
-    (tie.spec Inv-loop μ-loop mul-cells loop-holds mul-at mul-spread sub-spread part-spread-start (λ c. search needs) spread-requires add-low mul-add-spread
-    sub-add-spread part-add-spread-start (λ c. search needs) add-spread-requires add-high mul-add-spread-2 sub-add-spread-2 part-add-spread-start-2 (λ c. search needs)
-    add-spread-requires-2 (λ c. search needs) (λ c. search needs) loop-again (λ c. search needs) (λ c. search needs) returns)
+    (tie.spec Inv-loop μ-loop mul-cells loop-holds mul-at mul-mirror sub-mirror part-mirror-start (λ c. search needs) mirror-requires add-low mul-add-rotated
+    sub-add-rotated part-add-rotated-start (λ c. search needs) add-rotated-requires add-high mul-add-rotated-2 sub-add-rotated-2 part-add-rotated-start-2 (λ c. search needs)
+    add-rotated-requires-2 (λ c. search needs) (λ c. search needs) loop-again (λ c. search needs) (λ c. search needs) returns)

@@ -21,7 +21,14 @@ place c z =
     c .polynomial-at .ensures .0 ok (omega (arith, g .turn, g .tables .settings .depth-most))
 
 returns : tie.Need-returns
-returns c = ((λ z _. let a = c .before .before .before .before .args in absurd (omega (arith, round-given (a .settings) (a .key .now) (a .message .now) (a .t) z 0 (first-row (a .settings) (round-key (a .settings) (a .key .now) (a .message .now) (a .t) z .0)) .turn))), λ _. refl)
+returns c = (
+  (λ z _. let a = c .before .before .before .before .args in absurd (omega (
+    arith,
+    round-given (a .settings) (a .key .now) (a .message .now) (a .t) z 0
+        (first-row (a .settings) (round-key (a .settings) (a .key .now) (a .message .now) (a .t) z .0)) .turn,
+  ))),
+  λ _. refl,
+)
 
 returns-2 : tie.Need-returns-2
 returns-2 c = ((λ z room. absurd (omega (arith, place (c .before) z, room))), λ stop. absurd (omega arith))

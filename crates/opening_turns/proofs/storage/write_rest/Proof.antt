@@ -26,7 +26,14 @@ place c z =
 returns : tie.Need-returns
 returns c = λ z.
     let a = c .before .before .before .before .before .args in
-    absurd (omega (arith, place (c .before) z, z .room, length-drop (polynomialAt (a .settings) (a .t)) (a .rounds .now), item-positive (a .settings) (round-key (a .settings) (a .key .now) (a .message .now) (a .t) (z .passed) .0)))
+    absurd (omega (
+      arith,
+      place (c .before) z,
+      z .room,
+      length-drop (polynomialAt (a .settings) (a .t)) (a .rounds .now),
+      item-positive (a .settings)
+          (round-key (a .settings) (a .key .now) (a .message .now) (a .t) (z .passed) .0),
+    ))
 
 returns-2 : tie.Need-returns-2
 unfolding restStored

@@ -64,7 +64,8 @@ unfolding Given
 returns c = λ d t z.
     let s = c .before .before .before .before .before .before .before .before .before .before .before .before .before in
     let a = s .args in
-    at-four (a .sums) true (c .before .before .before .before .before .before .before .before .before .if1 .taken) (a .q) (a .n) (a .f .now) (a .g .now) (a .s .now) t _ d (z .0) (sums-become (a .q) (a .n) (a .f .now) (a .g .now) (a .s .now) t _ (z .1) (c .before .before .before .before .before .add-sums .ensures))
+    at-four (a .sums) true (c .before .before .before .before .before .before .before .before .before .if1 .taken) (a .q) (a .n) (a .f .now) (a .g .now) (a .s .now) t _ d (z .0)
+    (sums-become (a .q) (a .n) (a .f .now) (a .g .now) (a .s .now) t _ (z .1) (c .before .before .before .before .before .add-sums .ensures))
     (z .2) (z .3) (z .4)
 
 add-elements-requires : tie.Need-add-elements-requires
@@ -78,7 +79,8 @@ returns-2 : tie.Need-returns-2
 returns-2 c = λ d t z.
     let s = c .before .before .before .before .before .before .before .before in
     let a = s .args in
-    at-four (a .sums) false (c .before .before .before .before .if1 .left) (a .q) (a .n) (a .f .now) (a .g .now) (a .s .now) t _ d (z .0) (tables-become (a .q) (a .n) (a .f .now) (a .g .now) (a .s .now) t _ (z .1) (c .before .before .add-elements .ensures))
+    at-four (a .sums) false (c .before .before .before .before .if1 .left) (a .q) (a .n) (a .f .now) (a .g .now) (a .s .now) t _ d (z .0)
+    (tables-become (a .q) (a .n) (a .f .now) (a .g .now) (a .s .now) t _ (z .1) (c .before .before .add-elements .ensures))
     (z .2) (z .3) (z .4)
 
 pub add-products-spec : {M : Type 1} → statement M

@@ -17,7 +17,8 @@ use Rattle.plain_products.proofs.strandwise.add_elements.Tie as tie
 abbrev Inv-loop : tie.InvT-loop
 Inv-loop sums q d n rows stride f g m₀ a₀ k₀ x₀ s₀ t₀ i₀ m a k x s t i =
     (i ≤ n) × (length m ≡ length m₀) × (length a ≡ length a₀) × (length k ≡ length k₀) × (length x ≡ length x₀) × (length s ≡ length s₀) × (length t ≡ length t₀)
-    × ((G : ℕ → List ℕ) (c : ℕ) → RowsGiven sums q d n rows stride f g G × Within sums d n c f × Rooms d rows (length m₀) (length a₀) (length k₀) (length x₀) (length s₀) (length t₀) × Zero s₀ × Zero t₀
+    × ((G : ℕ → List ℕ) (c : ℕ) → RowsGiven sums q d n rows stride f g G × Within sums d n c f × Rooms d rows (length m₀) (length a₀) (length k₀) (length x₀) (length s₀) (length t₀) × Zero s₀ ×
+    Zero t₀
     → Stands q (d * rows) (woven rows (λ r. inner d i (messagesOf sums d n f) (keysOf sums q d n (G r)))) (i * (d * c)) s t)
 
 abbrev μ-loop : tie.MeasureT-loop
@@ -41,7 +42,8 @@ loop-holds c =
 
 loop-again : tie.Need-loop-again Inv-loop μ-loop
 loop-again c =
-    let s = c .before .before .before .before .before .before .before .before .before .before .before .before .before .before .before .before .before .before .before .before .before .before .before .before .before .before in
+    let s = c .before .before .before .before .before .before .before .before .before .before .before .before .before .before .before .before .before .before .before .before .before .before
+    .before .before .before .before in
     let a = s .args in
     let l = c .before .before .before .before .before .before .before .before .before .before .before .before .before .before .before .before .before .before .before .loop in
     let test = c .before .before .before .before .before .before .before .before .before .before .before .before .before .before .before .before .before .before .loop-test .taken in
@@ -75,10 +77,12 @@ returns c = λ G m z.
     let s = c .before .before .before .before .before .before .before .before in
     let a = s .args in
     let l = c .before .loop in
-    subst (λ n. Stands (a .q) (a .d * a .rows) (woven (a .rows) (λ r. inner (a .d) n (messagesOf (a .sums) (a .d) (a .n) (a .f .now)) (keysOf (a .sums) (a .q) (a .d) (a .n) (G r)))) (n * (a .d * m)) (l .s) (l .t))
+    subst (λ n. Stands (a .q) (a .d * a .rows) (woven (a .rows) (λ r. inner (a .d) n (messagesOf (a .sums) (a .d) (a .n) (a .f .now)) (keysOf (a .sums) (a .q) (a .d) (a .n) (G r))))
+    (n * (a .d * m)) (l .s) (l .t))
     {x = l .i} {y = a .n} (omega arith) (l .inv .7 G m z)
 
 pub add-elements-spec : {M : Type 1} → statement M
 add-elements-spec =
     tie.close
-    (tie.spec Inv-loop μ-loop loop-holds (λ c κs. search needs) (λ c. search needs) (λ c. search needs) loop-again (λ c. search) (λ c. search) (λ c. search) (λ c. search) (λ c. search) (λ c. search) returns)
+    (tie.spec Inv-loop μ-loop loop-holds (λ c κs. search needs) (λ c. search needs) (λ c. search needs) loop-again (λ c. search) (λ c. search) (λ c. search) (λ c. search) (λ c. search)
+    (λ c. search) returns)

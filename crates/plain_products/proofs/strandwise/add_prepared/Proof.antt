@@ -29,10 +29,20 @@ returns-2 c = λ F G count m z.
     let ok = z .0 in
     both-stand (a .q) (a .strands) (a .d) m (a .f .now) _ _ ok F G count (a .x .now) (a .s .now) (a .t .now) (z .1) (z .2) _ _ _
     (c .before .before .before .before .before .before .before .upper-halves .ensures (z .1 .places))
-    (c .before .before .before .before .before .before .before .before .before .before .before .before .add-product .ensures (record { some = ok .some; strands = ok .strands; degree = ok .degree-most; coefficients = ok .long; residues = z .1 .places; sums = ok .lowers }))
-    (c .before .before .add-product2 .ensures (record { some = ok .some; strands = ok .strands; degree = ok .degree-most; coefficients = ok .long; residues = omega (arith, z .1 .places); sums = ok .uppers }))
+    (c .before .before .before .before .before .before .before .before .before .before .before .before .add-product .ensures
+    (record { some = ok .some; strands = ok .strands; degree = ok .degree-most; coefficients = ok .long; residues = z .1 .places; sums = ok .lowers }))
+    (c .before .before .add-product2 .ensures (record {
+      some = ok .some;
+      strands = ok .strands;
+      degree = ok .degree-most;
+      coefficients = ok .long;
+      residues = omega (arith, z .1 .places);
+      sums =
+          ok .uppers;
+    }))
 
 pub add-prepared-spec : {M : Type 1} → statement M
 add-prepared-spec =
     tie.close
-    (tie.spec (λ c κs. search needs) (λ c. search) (λ c. search) returns mul-upper-halves mul-upper-halves-2 (λ c κs. search needs) (λ c κs. search needs) (λ c. search) (λ c. search) (λ c. search) returns-2)
+    (tie.spec (λ c κs. search needs) (λ c. search) (λ c. search) returns mul-upper-halves mul-upper-halves-2 (λ c κs. search needs) (λ c κs. search needs) (λ c. search) (λ c. search)
+    (λ c. search) returns-2)

@@ -17,7 +17,8 @@ lengths : (c : tie.After-refuse) → let a = c .before .before .before .before .
     && hasLength (a .settings .depth) (a .challenges .now) && hasLength (roundCells (a .settings)) (a .rounds .now))
     (c .refuse .result)
 unfolding hasLength
-lengths c = let c6 = c .before .before .before in lengths-tested _ (c6 .settings-refusal .ensures) (c .refuse .ensures) (λ z. rw (c6 .before .before .key-cells .ensures z, c6 .before .cells .ensures z, c .before .round-cells .ensures z))
+lengths c = let c6 = c .before .before .before in lengths-tested _ (c6 .settings-refusal .ensures) (c .refuse .ensures)
+    (λ z. rw (c6 .before .before .key-cells .ensures z, c6 .before .cells .ensures z, c .before .round-cells .ensures z))
 
 returns : tie.Need-returns
 unfolding openingRefusal

@@ -21,10 +21,17 @@ loop-holds : tie.Need-loop-holds Inv-loop μ-loop
 loop-holds c = (omega arith, refl, omega arith, refl)
 
 loop-again : tie.Need-loop-again Inv-loop μ-loop
-loop-again c = let l = c .before .before .before .loop in (omega arith, l .inv .1, l .inv .2, asked-goes-on _ _ 0 (l .i) (ltb (l .signs) (2 ^ 63)) (l .inv .3) (omega arith) (c .with-signs .ensures (l .inv .2)))
+loop-again c = let l = c .before .before .before .loop in (
+  omega arith,
+  l .inv .1,
+  l .inv .2,
+  asked-goes-on _ _ 0 (l .i) (ltb (l .signs) (2 ^ 63)) (l .inv .3) (omega arith)
+      (c .with-signs .ensures (l .inv .2)),
+)
 
 returns-2 : tie.Need-returns-2 Inv-loop μ-loop
 returns-2 c = let l = c .before .loop in asked-ends _ _ 0 (l .i) (ltb (l .signs) (2 ^ 63)) (l .inv .3) (omega arith)
 
 pub all-below-wide-spec : {M : Type 1} → statement M
-all-below-wide-spec = tie.close (tie.spec Inv-loop μ-loop (λ c κs. search needs) (λ c. search needs) loop-holds (λ c. search needs) (λ c. search needs) (λ c κs. search needs) (λ c. search needs) (λ c. search needs) loop-again returns-2)
+all-below-wide-spec = tie.close (tie.spec Inv-loop μ-loop (λ c κs. search needs) (λ c. search needs) loop-holds (λ c. search needs) (λ c. search needs) (λ c κs. search needs) (λ c. search needs)
+    (λ c. search needs) loop-again returns-2)

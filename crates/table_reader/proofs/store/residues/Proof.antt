@@ -36,8 +36,11 @@ loop-again c =
 returns : tie.Need-returns Inv-loop μ-loop
 returns c =
     let l = c .before .loop in
-    let a = c .before .before .before .args in
-    (omega arith, cut-mapped (a .values .now) (a .from) (length (a .table .now)) (c .before .before .before .pre) (unsigned valueLimit) (a .table .now) (l .table) (l .i) refl (omega arith) (l .inv .2))
+    let a = c .before .before .before .args in (
+      omega arith,
+      cut-mapped (a .values .now) (a .from) (length (a .table .now)) (c .before .before .before .pre) (unsigned valueLimit) (a .table .now) (l .table) (l .i) refl (omega arith)
+          (l .inv .2),
+    )
 
 pub residues-spec : {M : Type 1} → statement M
 residues-spec =

@@ -250,7 +250,8 @@ module _ (t : ℕ) (g : subtree-accepted-lts.Start (subtree-calls t) (subtree-ac
   Reading = Read (g .args .settings) (g .args .h) (g .args .rounds .now) (g .args .ws .now)
 
   abbrev Stage : ℕ → List ℕ → Type 0
-  Stage = Stages.Stage (g .args .settings) (treeRow (g .args .settings) (g .args .rounds .now)) (g .args .challenges .now) (g .args .leaves .now) (g .args .h) (g .args .k) (g .args .first) (g .args .claim .now) (g .args .ws .now)
+  Stage = Stages.Stage (g .args .settings) (treeRow (g .args .settings) (g .args .rounds .now)) (g .args .challenges .now) (g .args .leaves .now) (g .args .h) (g .args .k) (g .args .first)
+      (g .args .claim .now) (g .args .ws .now)
 
   stays : {n : ℕ} → n ≡ length (g .args .ws .now) → AtNode (g .args .settings) (g .args .h) (g .args .k) (g .args .first) n
   stays long = subst (AtNode (g .args .settings) (g .args .h) (g .args .k) (g .args .first)) (sym long) position
@@ -342,7 +343,9 @@ subtree-accepted-returns : (t : ℕ) → subtree-accepted-lts.Need-returns (subt
 subtree-accepted-returns t c = λ read.
     let g = c .before .before .before .before .before .before .before .before .before in
     let a = g .args in
-    c .leaf-accepted .ensures (Descent.leaf-below (a .settings) (treeRow (a .settings) (a .rounds .now)) (a .challenges .now) (a .leaves .now) (a .h) (a .k) (a .first) _ (position t g) (omega arith) (a .ws .now) (read .key-below)) ∙ Descent.leaf-tests (a .settings) (treeRow (a .settings) (a .rounds .now)) (a .challenges .now) (a .leaves .now) (a .h) (a .k) (a .first) _ (position t g)
+    c .leaf-accepted .ensures (Descent.leaf-below (a .settings) (treeRow (a .settings) (a .rounds .now)) (a .challenges .now) (a .leaves .now) (a .h) (a .k) (a .first) _ (position t g)
+    (omega arith) (a .ws .now) (read .key-below)) ∙ Descent.leaf-tests (a .settings) (treeRow (a .settings) (a .rounds .now)) (a .challenges .now) (a .leaves .now) (a .h) (a .k) (a .first) _
+    (position t g)
     (omega arith) (a .claim .now) (a .ws .now)
 
 subtree-accepted-node-holds-requires : (t : ℕ) → subtree-accepted-lts.Need-node-holds-requires (subtree-calls t) (subtree-accepted-at t) subtree-accepted.Post

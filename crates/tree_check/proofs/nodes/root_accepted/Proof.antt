@@ -76,7 +76,8 @@ returns-3 c = λ g.
     children e _ (c .before .root-children-accepted .ensures g)
 
 root-children-accepted-requires-2 : tie.Need-root-children-accepted-requires-2
-root-children-accepted-requires-2 c κs = let s = c .before .before .before .before .before .before .before .before .before .before .before in (s .pre .0, folding s _ (omega arith) (omega (arith, root-most (s .args .settings) (s .pre .0 .allowed), s .pre .1)))
+root-children-accepted-requires-2 c κs = let s = c .before .before .before .before .before .before .before .before .before .before .before in
+    (s .pre .0, folding s _ (omega arith) (omega (arith, root-most (s .args .settings) (s .pre .0 .allowed), s .pre .1)))
 
 returns-4 : tie.Need-returns-4
 returns-4 c = λ g.

@@ -65,9 +65,11 @@ returns c = λ z.
     let S = a .settings in
     let E = a .challenges .now in
     let turn = b .before .before .before .before .before .before .before .before .challenge in
-    let folded : RootFolded S (challenge E 0 (a .j)) (key b) (ws b) = subst (λ e. RootFolded S e (key b) (ws b)) (turn .ensures) (b .before .before .before .before .before .before .fold-root .ensures (z .1)) in
+    let folded : RootFolded S (challenge E 0 (a .j)) (key b) (ws b) = subst (λ e. RootFolded S e (key b) (ws b)) (turn .ensures)
+    (b .before .before .before .before .before .before .fold-root .ensures (z .1)) in
     c .before .before .subtree-accepted .ensures (record { rounds-below = z .0; key-below = folded .below })
-    ∙ root-child S (treeRow S (a .rounds .now)) E (a .leaves .now) (a .j) (key b) (ws b) _ (g .pre .1 .up) folded (b .before .before .before .before .before .before .before .before .before .before .claim-to .ensures (z .0))
+    ∙ root-child S (treeRow S (a .rounds .now)) E (a .leaves .now) (a .j) (key b) (ws b) _ (g .pre .1 .up) folded
+    (b .before .before .before .before .before .before .before .before .before .before .claim-to .ensures (z .0))
 
 pub root-child-accepted-spec : {M : Type 1} → statement M
 root-child-accepted-spec =

@@ -28,7 +28,8 @@ root-child-accepted-requires c κs =
     (s .pre .0, subst (RootFolding (s .args .settings) (length (s .args .key .now))) (sym (c .before .before .loop .inv .2)) (s .pre .1), omega arith)
 
 returns : tie.Need-returns Inv-loop μ-loop
-returns c = λ z. let l = c .before .before .before .before .before .before .loop in every-fails _ 3 (l .j) (omega arith) (sym (c .before .before .before .root-child-accepted .ensures z) ∙ not-true _ (c .if1 .taken))
+returns c = λ z. let l = c .before .before .before .before .before .before .loop in every-fails _ 3 (l .j) (omega arith)
+    (sym (c .before .before .before .root-child-accepted .ensures z) ∙ not-true _ (c .if1 .taken))
 
 loop-again : tie.Need-loop-again Inv-loop μ-loop
 loop-again c =
@@ -40,4 +41,5 @@ returns-2 : tie.Need-returns-2 Inv-loop μ-loop
 returns-2 c = λ z. let l = c .before .loop in every-ends _ 3 (l .j) (l .inv .1 z) (omega arith)
 
 pub root-children-accepted-spec : {M : Type 1} → statement M
-root-children-accepted-spec = tie.close (tie.spec Inv-loop μ-loop loop-holds root-child-accepted-requires (λ c. search needs) returns (λ c. search needs) (λ c. search needs) loop-again (λ c. search needs) returns-2)
+root-children-accepted-spec = tie.close (tie.spec Inv-loop μ-loop loop-holds root-child-accepted-requires (λ c. search needs) returns (λ c. search needs) (λ c. search needs) loop-again
+    (λ c. search needs) returns-2)

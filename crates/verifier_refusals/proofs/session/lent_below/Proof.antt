@@ -24,7 +24,8 @@ abbrev below : Settings → ℕ → List ℕ → ℕ → Bool
 below settings step a i = every (settings .degree) (λ k. ltb (getD a (i * step + k) 0) (settings .modulus))
 
 abbrev Inv-loop : tie.InvT-loop
-Inv-loop settings step a n i₀ i = (i ≤ n) × (n ≤ rowsMost) × (step ≤ width) × Provided (settingsRefusal settings ≡ 0) (Provided (RowsLent settings step (length a)) (every i (below settings step a) ≡ true))
+Inv-loop settings step a n i₀ i = (i ≤ n) × (n ≤ rowsMost) × (step ≤ width) × Provided (settingsRefusal settings ≡ 0)
+    (Provided (RowsLent settings step (length a)) (every i (below settings step a) ≡ true))
 
 abbrev μ-loop : tie.MeasureT-loop
 μ-loop settings step a n i₀ i = n - i

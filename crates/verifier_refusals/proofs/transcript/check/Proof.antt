@@ -29,11 +29,11 @@ returns-2 : tie.Need-returns-2
 unfolding checkRefusal allBelow exponents exponent
 returns-2 c =
     let c8 = c .before .before .before in
-    let no = c8 .before .before .before .before .before in
+    let no = c8 .before .before .before .before in
     let ok = tested-before (lengths (no .before)) (no .if1 .left) in
     sym (first-tested _ _ (lengths (no .before)) (λ z. refl)
     ∙ first-tested _ _ (c8 .refuse2 .ensures) (λ z. rw (
-      c8 .before .before .before .before .all-below-wide .ensures,
+      c8 .before .before .before .all-below-wide .ensures,
       c8 .before .before .rows-below .ensures ok,
       c8 .before .all-below-wide2 .ensures,
     ))
