@@ -109,7 +109,7 @@ impl Prepared<'_> {
 }
 
 /// Clears the upper halves of the vector registers, as the platform's convention asks of whoever used them. A library that leaves numbers there, as FLINT does, makes
-/// the next code for plain x86-64 take two to four times as long, since its instructions keep what stands there.
+/// the next code for plain x86-64 take several times as long, since its instructions keep what stands there.
 fn clear_upper_halves() {
     if std::arch::is_x86_feature_detected!("avx") {
         unsafe { std::arch::asm!("vzeroupper", options(nomem, nostack, preserves_flags)) }
