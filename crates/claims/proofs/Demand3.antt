@@ -25,7 +25,7 @@
 --   12 two theorems                              one type, one name, below
 --   13 hypotheses carried by a `requires`        no public function has one
 --   14 some rows, or a vector for each row       `AllAccepted`, `FullTree` and `opens` are over every row of the key, with one list of challenges, one of leaves and one w; `Valid` has 1 to 4 rows
-use Rattle.protocol.specs.Demand3.{Demand3}
+use Rattle.one_claim.specs.Demand3.{Demand3}
 use Rattle.claims.proofs.Opening.{opening-claim}
 use Rattle.claims.proofs.Extractor.{extraction-claim}
 

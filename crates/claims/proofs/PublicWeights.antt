@@ -19,8 +19,8 @@ use Rattle.protocol.specs.Rows.{keyRow}
 use Rattle.protocol.specs.Tree.{growth, growthLimit}
 use Rattle.protocol.specs.Judge.{slack, scaledCommitment, combination}
 use Rattle.protocol.specs.Calls.{commitRefusal, commitAnswer, extractExit}
-use Rattle.protocol.specs.Demand3.{FullTree}
-use Rattle.protocol.specs.Weights.{constant, weightRow, weightedSum, Weights}
+use Rattle.one_claim.specs.Demand3.{FullTree}
+use Rattle.one_claim.specs.Weights.{constant, weightRow, weightedSum, Weights}
 use Rattle.protocol.proofs.Tests.{first-zero, granted-zero}
 use Rattle.protocol.proofs.Reading.{flat-at}
 use Rattle.protocol.proofs.Inputs.{settings-valid, degree-most}

@@ -15,8 +15,8 @@ ghost use mathlib.Core.Bool.{false};
 ghost use Prim.Native.Nat.{_≤_};
 ghost use lib.ListN.{drop};
 ghost use Rattle.protocol.specs.Basic.{choose};
-ghost use Rattle.protocol.specs.Text.{valueLimit, narrowLimit, unsigned as unsignedOf, noSettings, lookAnswer};
-ghost use Rattle.protocol.specs.Lines.{present, allLines, readSettings, begunAnswer};
+ghost use Rattle.text_format.specs.Text.{valueLimit, narrowLimit, unsigned as unsignedOf, noSettings, lookAnswer};
+ghost use Rattle.text_format.specs.Lines.{present, allLines, readSettings, begunAnswer};
 ghost use Rattle.text_lines.specs.Header.{headerAnswer};
 
 // The settings of a text and the place behind them; `found` is false where the text does not begin with them.

@@ -7,7 +7,7 @@ use native.Mathlib.Omega.{arith}
 use borrow.Author.Needs.{needs}
 use lib.ListN.{length, take, drop}
 use lib.Seq.{length-take-le}
-use Rattle.protocol.specs.Text.{textLimit}
+use Rattle.text_format.specs.Text.{textLimit}
 use Rattle.text_parts.specs.Parts.{partOf, lengthsAre}
 use Rattle.table_writer.specs.Put.{textRoom, Held}
 use Rattle.table_writer.specs.Tables.{valuesText}

@@ -9,9 +9,9 @@ use mathlib.Core.Bool.{true}
 use mathlib.Core.List.{List, _++_}
 use Prim.Native.Nat.{ℕ, _≤_}
 use lib.ListN.{length, take, drop}
 use Rattle.protocol.specs.declared.Settings.{Settings}
 use Rattle.protocol.specs.declared.Parts.{Parts}
-use Rattle.protocol.specs.Text.{Tables, fits, readAnswer, readExit, writeAnswer, writeExit}
+use Rattle.text_format.specs.Text.{Tables, fits, readAnswer, readExit, writeAnswer, writeExit}
 
 unfoldable pub outcome : Settings → Parts → Tables → List ℕ → List ℕ
 outcome S P t out = take (writeAnswer S P t out .count) (writeExit S P t out)

@@ -8,9 +8,9 @@ use lib.Dec.{eqb}
 use lib.ListN.{length, length-map}
 use lib.IntN.{ℤ}
 use borrow.Author.Tests.{eq-eqb, eqb-true, ne-eqb}
 use Rattle.protocol.specs.Basic.{tabulate, choose}
-use Rattle.protocol.specs.Text.{Spot, Line, Shape, shapeSize, spotAt, spots, spotsOf, valuesOf, column, sameSpot, sameSpots}
+use Rattle.text_format.specs.Text.{Spot, Line, Shape, shapeSize, spotAt, spots, spotsOf, valuesOf, column, sameSpot, sameSpots}
 use Rattle.protocol.proofs.Reading.{tabulate-length}
 
 -- does Q hold of the part of every spot
 abbrev pub AllParts : (ℕ → Type 0) → List Spot → Type 0

@@ -25,23 +25,23 @@ use mathlib.Core.List.{List, [], _∷_, _++_, map}
 use Prim.Native.Nat.{ℕ, zero, suc, _+_, _*_, _<_, _≤_}
 use lib.ListN.{length, getD, replicate}
 use lib.IntN.{ℤ, pos, _*ℤ_}
 use Rattle.protocol.specs.declared.Settings.{Settings}
 use Rattle.protocol.specs.declared.Session.{Session}
 use Rattle.protocol.specs.declared.Parts.{Parts}
 use Rattle.protocol.specs.declared.Verdict.{Verdict}
 use Rattle.protocol.specs.declared.Verdict.the-variants as Says
 use Rattle.protocol.specs.Element.{valueRow}
 use Rattle.protocol.specs.Layout.{keyCells, roundCells, treeRoundCells, treeChallenges, leafCells, exponentCount}
 use Rattle.protocol.specs.Inputs.{Valid, Below, Within}
 use Rattle.protocol.specs.Settings.{cells}
 use Rattle.protocol.specs.Transcript.{Accepted}
 use Rattle.protocol.specs.Rows.{keyRow, together, AllAccepted}
 use Rattle.protocol.specs.Session as Verifier
 use Rattle.protocol.specs.Tree.{nodes, leaves, challenge, rowPath, foldTo, leaf, rootVector, growth, growthLimit}
 use Rattle.protocol.specs.Judge.{slack, Opens}
 use Rattle.protocol.specs.Calls as Calls
-use Rattle.protocol.specs.Text as Text
-use Rattle.protocol.specs.Text.{Tables}
+use Rattle.text_format.specs.Text as Text
+use Rattle.text_format.specs.Text.{Tables}
 
 -- ════ the list of calls
 

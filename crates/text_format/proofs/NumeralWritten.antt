@@ -11,10 +11,10 @@ use lib.Dec.{ltb, eqb, eqb·suc-zero}
 use lib.ListN.{length}
 use lib.IntN.{ℤ, pos, negsuc, natAbs}
 use borrow.Author.Tests.{le-leb, ne-eqb}
 use Rattle.protocol.specs.Basic.{least}
-use Rattle.protocol.specs.Text.{valueLimit, digitCount, lowDigits, decimal, numeral, keep, digit, digitRun, digitFirst, properDigits, readCount}
-use Rattle.protocol.specs.Text.{plain, negative, readNumber}
-use Rattle.protocol.proofs.DigitLaws.{decimal-length, digit-of, digitRun-stop, ten-pos, digitRun-low, lowDigits-cons, Digits, digitCount-digits}
+use Rattle.text_format.specs.Text.{valueLimit, digitCount, lowDigits, decimal, numeral, keep, digit, digitRun, digitFirst, properDigits, readCount}
+use Rattle.text_format.specs.Text.{plain, negative, readNumber}
+use Rattle.text_format.proofs.DigitLaws.{decimal-length, digit-of, digitRun-stop, ten-pos, digitRun-low, lowDigits-cons, Digits, digitCount-digits}
 
 -- every number of a text has at most nineteen digits
 pub few-digits : (n : ℕ) → n ≤ valueLimit → n < 10 ^ 19

@@ -11,17 +11,17 @@ use mathlib.Core.List.{List}
 use Prim.Native.Nat.{ℕ, zero, suc, _*_, _%_, _<_, _≤_}
 use lib.ListN.{length, getD}
 use lib.IntN.{ℤ, pos, _*ℤ_}
 use Rattle.protocol.specs.declared.Settings.{Settings}
 use Rattle.protocol.specs.Basic.{sum, flat}
 use Rattle.protocol.specs.Element.{modulo, signedAt, valueRow}
 use Rattle.protocol.specs.Layout.{keyCells}
 use Rattle.protocol.specs.Settings.{size, cells}
 use Rattle.protocol.specs.Inputs.{Valid, Below}
 use Rattle.protocol.specs.Rows.{keyRow}
 use Rattle.protocol.specs.Tree.{growth, growthLimit}
 use Rattle.protocol.specs.Judge.{slack}
 use Rattle.protocol.specs.Calls.{commitAnswer, extractExit}
-use Rattle.protocol.specs.Demand3.{FullTree}
+use Rattle.one_claim.specs.Demand3.{FullTree}
 
 unfoldable pub constant : ℕ → ℕ → ℕ
 constant w zero = w

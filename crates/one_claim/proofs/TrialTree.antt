@@ -10,24 +10,24 @@ use Prim.Native.Nat.{ℕ, zero, suc, _<_, _≤_}
 use native.Mathlib.Omega.{arith}
 use lib.ListN.{replicate}
 use lib.IntN.{ℤ, pos}
 use Rattle.protocol.specs.declared.Judged.{Judged}
 use Rattle.protocol.specs.Basic.{every}
 use Rattle.protocol.specs.Element.{valueRow}
 use Rattle.protocol.specs.Transcript.{accepted, Accepted}
 use Rattle.protocol.specs.Rows.{keyRow}
 use Rattle.protocol.specs.Tree.{challenge, rowPath, leaf, foldTo, leaves, nodes, rootVector, growth, growthLimit}
 use Rattle.protocol.specs.Judge.{Opens}
 use Rattle.protocol.specs.Calls.{extractRefusal, extractExit, judgeAnswer}
 use Rattle.protocol.specs.Inputs.{Within}
 use Rattle.protocol.specs.Promises.{Extracted}
-use Rattle.protocol.specs.Demand3.{FullTree, FoldsOf, ExtractionClaim, Demand3}
-use Rattle.protocol.specs.Performed.{PerformedDemand3}
+use Rattle.one_claim.specs.Demand3.{FullTree, FoldsOf, ExtractionClaim, Demand3}
+use Rattle.one_claim.specs.Performed.{PerformedDemand3}
 use Rattle.protocol.proofs.Compute.{computed}
 use Rattle.protocol.proofs.Listing.{Sʷ, keyʷ, twoRows}
 use Rattle.protocol.proofs.Tests.{every-at}
 use Rattle.protocol.proofs.Inputs.{tested-below}
 use Rattle.protocol.proofs.Acceptance.{accepted-states}
-use Rattle.protocol.proofs.Trial.{validʷ, key-below}
+use Rattle.one_claim.proofs.Trial.{validʷ, key-below}
 
 -- m = 2 and 0 is beyond B = 1, and its three folds are all 2: within n·B
 abbrev wide : List ℤ

@@ -5,10 +5,10 @@ use mathlib.Core.List.{List}
 use Prim.Native.Nat.{ℕ, suc, _<_}
 use lib.ListN.{length}
 use borrow.Author.Tests.{lt-leb}
 use Rattle.protocol.specs.declared.Parts.{Parts}
 use Rattle.protocol.specs.Basic.{first, unless}
-use Rattle.protocol.specs.Text.{Tables, textLimit, lookRefusal, loaded, lookAnswer, textRefusal, readRefusal, readAnswer, outputRefusal}
+use Rattle.text_format.specs.Text.{Tables, textLimit, lookRefusal, loaded, lookAnswer, textRefusal, readRefusal, readAnswer, outputRefusal}
 use Rattle.protocol.proofs.Tests.{first-zero}
 
 -- whatever stands in it
 pub too-long-to-read : (text : List ℕ) → textLimit < length text → lookRefusal text ≡ 1

@@ -10,10 +10,10 @@ use lib.ListN.{length, getD, drop, length-append, length-drop, drop-of-length-le
 use lib.Dec.{eqb}
 use lib.Seq.{drop-append-seam, drop-drop, drop-cons}
 use lib.IntN.{ℤ}
 use Rattle.protocol.specs.declared.Number.the-variants.{Value, Refused}
-use Rattle.protocol.specs.Text.{Line, valueLimit, lineText, numeral, keep, digit, digitRun, digitFirst, readCount, readNumber, plain, byte, readLine, numberAnswer, readNumberAt, readCountAt}
-use Rattle.protocol.proofs.NumeralLaws.{Numbered, digitRun-on, readNumber-text, plain-numbered, numeral-some}
-use Rattle.protocol.proofs.LineLaws.{readLine-text, lineText-length}
+use Rattle.text_format.specs.Text.{Line, valueLimit, lineText, numeral, keep, digit, digitRun, digitFirst, readCount, readNumber, plain, byte, readLine, numberAnswer, readNumberAt, readCountAt}
+use Rattle.text_format.proofs.NumeralLaws.{Numbered, digitRun-on, readNumber-text, plain-numbered, numeral-some}
+use Rattle.text_format.proofs.LineLaws.{readLine-text, lineText-length}
 
 -- ---- Bytes at a place
 

@@ -9,28 +9,28 @@ use mathlib.Core.Logic.{_≢_}
 use mathlib.Core.Bool.{true, false}
 use mathlib.Core.List.{List, [], _∷_}
 use Prim.Native.Nat.{ℕ, suc, _-_}
 use Rattle.protocol.specs.Layout.{width, keyCells}
 use native.Mathlib.Omega.{arith}
 use lib.ListN.{replicate}
 use lib.IntN.{ℤ, pos}
 use Rattle.protocol.specs.declared.Session.{Session}
 use Rattle.protocol.specs.declared.Parts.{Parts}
 use Rattle.protocol.specs.declared.Opened.{Opened}
 use Rattle.protocol.specs.declared.Verdict.{Verdict}
 use Rattle.protocol.specs.declared.Verdict.the-variants as Says
 use Rattle.protocol.specs.Settings.{cells}
 use Rattle.protocol.specs.Rows.{together, AllAccepted}
 use Rattle.protocol.specs.Session.{blank}
 use Rattle.protocol.specs.Calls.{openingAnswer}
 use Rattle.protocol.specs.Inputs.{Valid, Below, Within}
 use Rattle.protocol.specs.Promises.{Opening}
-use Rattle.protocol.specs.Demand3.{State, KeyTable, MessageTable, Record, Call, turns, moves, step, begun, Gap, Run, OpeningClaim, Demand3}
-use Rattle.protocol.specs.Demand3.{lentKey, lentMessage, handed, tables, refusal, backKey, backMessage, backRecord, after, hear, hearCommitment, hearPolynomial, hearLast, hearVerdict}
-use Rattle.protocol.specs.Performed.{Performance, PerformedDemand3}
+use Rattle.one_claim.specs.Demand3.{State, KeyTable, MessageTable, Record, Call, turns, moves, step, begun, Gap, Run, OpeningClaim, Demand3}
+use Rattle.one_claim.specs.Demand3.{lentKey, lentMessage, handed, tables, refusal, backKey, backMessage, backRecord, after, hear, hearCommitment, hearPolynomial, hearLast, hearVerdict}
+use Rattle.one_claim.specs.Performed.{Performance, PerformedDemand3}
 use Rattle.protocol.proofs.Compute.{computed}
 use Rattle.protocol.proofs.Listing.{S₁, key₁, message₁, commitment₁, rounds₁, Sʷ, keyʷ, commitmentʷ, roundsʷ}
-use Rattle.protocol.proofs.ComputeText.{computedText}
+use Rattle.text_format.proofs.ComputeText.{computedText}
 use Rattle.protocol.proofs.Inputs.{settings-valid, tested-below, tested-within}
 
 unfoldable ran : Unit {0}
 unfolding

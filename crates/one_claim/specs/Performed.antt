@@ -16,33 +16,34 @@ use mathlib.Core.List.{List, [], _∷_, map}
 use Prim.Native.Nat.{ℕ, _+_, _*_, _<_, _≤_}
 use lib.ListN.{length, getD, replicate}
 use lib.IntN.{ℤ, pos, _*ℤ_}
 use Rattle.protocol.specs.declared.Settings.{Settings}
 use Rattle.protocol.specs.declared.Session.{Session}
 use Rattle.protocol.specs.declared.Parts.{Parts}
 use Rattle.protocol.specs.declared.Committed.{Committed}
 use Rattle.protocol.specs.declared.Polynomial.{Polynomial}
 use Rattle.protocol.specs.declared.Ended.{Ended}
 use Rattle.protocol.specs.declared.Opened.{Opened}
 use Rattle.protocol.specs.declared.Started.{Started}
 use Rattle.protocol.specs.declared.Moved.{Moved}
 use Rattle.protocol.specs.declared.Checked.{Checked}
 use Rattle.protocol.specs.declared.Judged.{Judged}
 use Rattle.protocol.specs.declared.Loaded.{Loaded}
 use Rattle.protocol.specs.declared.Written.{Written}
 use Rattle.protocol.specs.declared.Verdict.the-variants as Says
 use Rattle.protocol.specs.Layout.{keyCells, roundCells, exponentCount}
 use Rattle.protocol.specs.Inputs.{Valid, Below, Within}
 use Rattle.protocol.specs.Settings.{cells}
 use Rattle.protocol.specs.Element.{valueRow}
 use Rattle.protocol.specs.Rows.{keyRow, together, AllAccepted}
 use Rattle.protocol.specs.Session as Verifier
 use Rattle.protocol.specs.Tree.{growth, growthLimit}
 use Rattle.protocol.specs.Judge.{slack, Opens}
 use Rattle.protocol.specs.Calls as Calls
-use Rattle.protocol.specs.Text.{Tables}
-use Rattle.protocol.specs.Promises.{Folded, Opening, Extracted, Read, Wrote}
-use Rattle.protocol.specs.Demand3.{Held, Heard, State, KeyTable, MessageTable, Record, Call, Step, moves, begun, FullTree, FoldsOf}
-use Rattle.protocol.specs.Demand3.{lentKey, lentMessage, handed, tables, backKey, backMessage, backRecord, hear, hearCommitment, hearPolynomial, hearLast, hearVerdict}
+use Rattle.text_format.specs.Text.{Tables}
+use Rattle.protocol.specs.Promises.{Folded, Opening, Extracted}
+use Rattle.text_format.specs.Promises.{Read, Wrote}
+use Rattle.one_claim.specs.Demand3.{Held, Heard, State, KeyTable, MessageTable, Record, Call, Step, moves, begun, FullTree, FoldsOf}
+use Rattle.one_claim.specs.Demand3.{lentKey, lentMessage, handed, tables, backKey, backMessage, backRecord, hear, hearCommitment, hearPolynomial, hearLast, hearVerdict}
 
 -- ════ calls
 

@@ -11,9 +11,9 @@ use native.Mathlib.Nat.{pow-suc, mod-one, mul-one, div-one, one-le-pow, pow-le-p
 use lib.Dec.{leb, ltb}
 use lib.ListN.{length, length-append}
 use borrow.Author.Tests.{le-leb, lt-ltb, le-ltb, ltb-true, ltb-false, leb-true}
 use Rattle.protocol.specs.Basic.{least}
-use Rattle.protocol.specs.Text.{digitCount, lowDigits, decimal, digit, digitRun, digitFirst}
+use Rattle.text_format.specs.Text.{digitCount, lowDigits, decimal, digit, digitRun, digitFirst}
 use Rattle.protocol.proofs.Tests.{First, least-first, least-is}
 
 -- ---- Digits
 

@@ -5,18 +5,18 @@ use Prim.Native.Nat.{ℕ, _-_}
 use Prim.Native.String.{String}
 use lib.ListN.{length, replicate}
 use lib.IntN.{ℤ, pos}
 use Rattle.protocol.specs.declared.Settings.{Settings}
 use Rattle.protocol.specs.declared.Parts.{Parts}
 use Rattle.protocol.specs.declared.Loaded.{Loaded}
 use Rattle.protocol.specs.declared.Written.{Written}
 use Rattle.protocol.specs.declared.Checked.{Checked}
 use Rattle.protocol.specs.declared.Verdict.{Verdict}
-use Rattle.protocol.specs.Text.{Tables, Reading, valueLimit, narrowLimit, bytes, noSettings, beginsWithNames, lookAnswer, readAnswer, readExit}
-use Rattle.protocol.specs.Text.{writeAnswer, writeExit, reading, readNumberAt, readCountAt}
-use Rattle.protocol.specs.Lines.{LineReading, lineReading, readLineAt, begunAnswer}
-use Rattle.protocol.specs.Programs.{proveRefusal, proveAnswer, proveExit, proveOutput}
-use Rattle.protocol.specs.Programs.{verifyRefusal, verifyAnswer, verifyOutput, checked}
-use Rattle.protocol.specs.RoundTrip.{outcome}
+use Rattle.text_format.specs.Text.{Tables, Reading, valueLimit, narrowLimit, bytes, noSettings, beginsWithNames, lookAnswer, readAnswer, readExit}
+use Rattle.text_format.specs.Text.{writeAnswer, writeExit, reading, readNumberAt, readCountAt}
+use Rattle.text_format.specs.Lines.{LineReading, lineReading, readLineAt, begunAnswer}
+use Rattle.text_format.specs.Programs.{proveRefusal, proveAnswer, proveExit, proveOutput}
+use Rattle.text_format.specs.Programs.{verifyRefusal, verifyAnswer, verifyOutput, checked}
+use Rattle.text_format.specs.RoundTrip.{outcome}
 
 pub data Row : Type 0 where
   -- a program prints the second text for the first

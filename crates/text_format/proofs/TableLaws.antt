@@ -6,10 +6,10 @@ use Prim.Native.Nat.{ℕ, zero, suc, _≤_}
 use native.Mathlib.Omega.{arith}
 use lib.ListN.{length, getD}
 use lib.IntN.{ℤ, pos}
 use Rattle.protocol.specs.Basic.{tabulate}
-use Rattle.protocol.specs.Text.{Spot, Line, Shape, shapeSize, spotAt, spots, block, blockLines, spotsOf, valuesOf, column}
-use Rattle.protocol.proofs.ColumnLaws.{column-all, column-below, spots-part, spots-rise, columns-skip, spotsOf-append, spotsOf-length, spots-length}
-pub use Rattle.protocol.proofs.ColumnLaws.{AllParts, Rising, parts, columns, column-append, column-none}
+use Rattle.text_format.specs.Text.{Spot, Line, Shape, shapeSize, spotAt, spots, block, blockLines, spotsOf, valuesOf, column}
+use Rattle.text_format.proofs.ColumnLaws.{column-all, column-below, spots-part, spots-rise, columns-skip, spotsOf-append, spotsOf-length, spots-length}
+pub use Rattle.text_format.proofs.ColumnLaws.{AllParts, Rising, parts, columns, column-append, column-none}
 
 -- a list of values for each shape, of its length
 abbrev pub Fit : List Shape → List (List ℤ) → Type 0

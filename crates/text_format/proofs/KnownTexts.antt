@@ -8,22 +8,22 @@ use native.Mathlib.Omega.{arith}
 use borrow.Author.Tests.{le-leb}
 use lib.ListN.{length, replicate, length-replicate}
 use lib.IntN.{pos, negsuc}
 use Rattle.protocol.specs.declared.Settings.{Settings}
 use Rattle.protocol.specs.declared.Verdict.the-variants.{Silent, Accepted, Rejected}
 use Rattle.protocol.specs.Basic.{first, unless, choose, tabulate}
-use Rattle.protocol.specs.Text.{bytes, names as namesLine, textLimit, noSettings, begins, beginsWithNames, parsed, linesOf, spotsOf, wellFormed, lookRefusal, outputRefusal}
-use Rattle.protocol.specs.Text.{settingsShape, shape, shapeSize, spots, sameSpots}
-use Rattle.protocol.specs.Programs.{proveReads, provePrints, verifyReads, proveOutput}
-use Rattle.protocol.specs.ProveVerify.{keyLines, headLength, withKey}
-use Rattle.protocol.proofs.ComputeText.{computedText}
-use Rattle.protocol.proofs.ReaderLaws.{too-long-to-read, too-long-to-write}
-use Rattle.protocol.proofs.TextExamples.{names, settings, key, message, commitment, rounds, challenge, final, claim, input, withFinal, withClaim, noDepth, wideModulus, moreDepth, listing}
-use Rattle.protocol.proofs.TextExamples.{example, tables, noParts, challengeOnly, finalOnly, allParts, residues₂, residues₆, claims₂, listed, finalElement, lent, proveTables}
-use Rattle.protocol.proofs.TextExamples.{lentListed, nothing, everything, deep, shallow, shallowLent, lentVerify, lentDeep, onlyChallenges, onlyFinal, widest, extremes}
-use Rattle.protocol.proofs.TextExamples.{withSettings, boundAndRows, bounded, weights, secondʷ, listingʷ, withSecond, tablesʷ, lentʷ}
-use Rattle.protocol.proofs.TextRows.{Row, given, expected}
-use Rattle.protocol.proofs.TextRows.Row.{proves, verifies, lookGives, checks, callRefused, callGives, readRefused, readGives, writeRefused, writeGives, back, forth, number, count}
-use Rattle.protocol.proofs.TextRows.Row.{lineGives, lineRefused, begunGives}
+use Rattle.text_format.specs.Text.{bytes, names as namesLine, textLimit, noSettings, begins, beginsWithNames, parsed, linesOf, spotsOf, wellFormed, lookRefusal, outputRefusal}
+use Rattle.text_format.specs.Text.{settingsShape, shape, shapeSize, spots, sameSpots}
+use Rattle.text_format.specs.Programs.{proveReads, provePrints, verifyReads, proveOutput}
+use Rattle.text_format.specs.ProveVerify.{keyLines, headLength, withKey}
+use Rattle.text_format.proofs.ComputeText.{computedText}
+use Rattle.text_format.proofs.ReaderLaws.{too-long-to-read, too-long-to-write}
+use Rattle.text_format.proofs.TextExamples.{names, settings, key, message, commitment, rounds, challenge, final, claim, input, withFinal, withClaim, noDepth, wideModulus, moreDepth, listing}
+use Rattle.text_format.proofs.TextExamples.{example, tables, noParts, challengeOnly, finalOnly, allParts, residues₂, residues₆, claims₂, listed, finalElement, lent, proveTables}
+use Rattle.text_format.proofs.TextExamples.{lentListed, nothing, everything, deep, shallow, shallowLent, lentVerify, lentDeep, onlyChallenges, onlyFinal, widest, extremes}
+use Rattle.text_format.proofs.TextExamples.{withSettings, boundAndRows, bounded, weights, secondʷ, listingʷ, withSecond, tablesʷ, lentʷ}
+use Rattle.text_format.proofs.TextRows.{Row, given, expected}
+use Rattle.text_format.proofs.TextRows.Row.{proves, verifies, lookGives, checks, callRefused, callGives, readRefused, readGives, writeRefused, writeGives, back, forth, number, count}
+use Rattle.text_format.proofs.TextRows.Row.{lineGives, lineRefused, begunGives}
 
 abbrev table : List Row
 table =

@@ -12,12 +12,12 @@ use native.Mathlib.Nat.{pow-suc, div-one, le-div-iff-mul-le, div-lt-iff-lt-mul, 
 use lib.Dec.{leb, eqb}
 use lib.IntN.{ℤ, pos, negsuc, natAbs}
 use borrow.Author.Tests.{leb-true, eqb-true, eqb-false, not-true}
-use Rattle.protocol.specs.Text.{valueLimit, lowDigits, decimal, numeral, keep, digit, digitRun, digitFirst, properDigits, readCount}
-use Rattle.protocol.specs.Text.{plain, negative, readNumber}
-use Rattle.protocol.proofs.DigitLaws.{digit-of, ten-pos, ten-le, lowDigits-cons, Digits}
-use Rattle.protocol.proofs.NumeralWritten.{few-digits, readNumber-plain}
-pub use Rattle.protocol.proofs.DigitLaws.{lowDigits-length, decimal-length, digitRun-on, digitRun-stop, digits-count, digit-bounds}
-pub use Rattle.protocol.proofs.NumeralWritten.{readNumber-numeral, readCount-decimal, numeral-some}
+use Rattle.text_format.specs.Text.{valueLimit, lowDigits, decimal, numeral, keep, digit, digitRun, digitFirst, properDigits, readCount}
+use Rattle.text_format.specs.Text.{plain, negative, readNumber}
+use Rattle.text_format.proofs.DigitLaws.{digit-of, ten-pos, ten-le, lowDigits-cons, Digits}
+use Rattle.text_format.proofs.NumeralWritten.{few-digits, readNumber-plain}
+pub use Rattle.text_format.proofs.DigitLaws.{lowDigits-length, decimal-length, digitRun-on, digitRun-stop, digits-count, digit-bounds}
+pub use Rattle.text_format.proofs.NumeralWritten.{readNumber-numeral, readCount-decimal, numeral-some}
 
 -- the digits at the front of bs, behind digits that stand for m: they stand for v, and rest is behind them
 pub record Run (m : ℕ) (bs : List ℕ) (v : ℕ) (rest : List ℕ) : Type 0 where

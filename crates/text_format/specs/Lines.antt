@@ -22,15 +22,15 @@ use mathlib.Core.Option.{Option, none, some, bind as _>>=_}
 use Prim.Native.Nat.{ℕ, suc, _-_}
 use lib.ListN.{length, getD, drop}
 use lib.IntN.{ℤ, pos}
 use Rattle.protocol.specs.declared.Settings.{Settings}
 use Rattle.protocol.specs.declared.Loaded.{Loaded}
 use Rattle.protocol.specs.declared.Number.{Number}
 use Rattle.protocol.specs.declared.Entry.{Entry}
 use Rattle.protocol.specs.declared.Entry.the-variants.{Found, Malformed}
 use Rattle.protocol.specs.Basic.{granted}
 use Rattle.protocol.specs.Settings.{settingsRefusal}
-use Rattle.protocol.specs.Text.{Spot, Line, Reading, valueLimit, narrowLimit, names, keep, plain, readIndex, readLine, readLines, beginsWithNames, sameSpot, spots, settingsShape, unsigned}
-use Rattle.protocol.specs.Text.{noSettings, lookAnswer, numberAnswer}
+use Rattle.text_format.specs.Text.{Spot, Line, Reading, valueLimit, narrowLimit, names, keep, plain, readIndex, readLine, readLines, beginsWithNames, sameSpot, spots, settingsShape, unsigned}
+use Rattle.text_format.specs.Text.{noSettings, lookAnswer, numberAnswer}
 
 unfoldable pub present {ℓ} : {A : Type ℓ} → Option A → Bool
 present none = false

@@ -10,18 +10,18 @@ use native.Mathlib.Nat.{le-trans, zero-mul, pow-le-pow-right, mul-le-mul, div-le
 use lib.Dec.{leb, ltb, eqb}
 use lib.IntN.{ℤ, pos, natAbs}
 use borrow.Author.Tests.{leb-true, le-leb, ltb-true, eqb-true}
 use Rattle.protocol.specs.declared.Settings.{Settings}
 use Rattle.protocol.specs.declared.Parts.{Parts}
 use Rattle.protocol.specs.Basic.{tabulate, all, among, choose, within, first, unless}
 use Rattle.protocol.specs.Layout.{width, rowsMost, keyItems, roundItems, claimItems}
 use Rattle.protocol.specs.Settings.{settingsRefusal, size, allBelow, allWithin}
 use Rattle.protocol.specs.Settings.{exponent, exponents}
-use Rattle.protocol.specs.Text.{Line, Shape, Tables, valueLimit, narrowLimit, limitOf, shape, settingsShape, shapes, shapeSize}
-use Rattle.protocol.specs.Text.{spotAt, settingsValues, contents, block, blockLines}
-use Rattle.protocol.specs.Text.{parsed, linesOf, column, entriesRefusal}
+use Rattle.text_format.specs.Text.{Line, Shape, Tables, valueLimit, narrowLimit, limitOf, shape, settingsShape, shapes, shapeSize}
+use Rattle.text_format.specs.Text.{spotAt, settingsValues, contents, block, blockLines}
+use Rattle.text_format.specs.Text.{parsed, linesOf, column, entriesRefusal}
 use Rattle.protocol.proofs.Tests.{first-zero, unless-zero, all-weaken, all-map, all-getD, and-intro}
 use Rattle.protocol.proofs.Inputs.{settings-valid, degree-most}
-use Rattle.protocol.proofs.LineLaws.{Limited, AllLimited, parsed-text}
+use Rattle.text_format.proofs.LineLaws.{Limited, AllLimited, parsed-text}
 
 -- ---- Settings that are not refused
 

@@ -11,10 +11,10 @@ use lib.ListN.{length, drop, length-append}
 use lib.Seq.{drop-append-seam}
 use lib.IntN.{natAbs}
 use borrow.Author.Tests.{eqb-true, eq-eqb}
 use Rattle.protocol.specs.Basic.{among, choose}
-use Rattle.protocol.specs.Text.{Line, valueLimit, narrowLimit, limitOf, bytes, names, decimal, numeral, lineText, linesText, keep, digit, digitFirst, properDigits}
-use Rattle.protocol.specs.Text.{readCount, readNumber, byte, readIndex, readLine, readLines, begins, beginsWithNames, parsed, linesOf}
-use Rattle.protocol.proofs.NumeralLaws.{keep-some, readCount-decimal, readNumber-numeral, readCount-text, readNumber-text}
+use Rattle.text_format.specs.Text.{Line, valueLimit, narrowLimit, limitOf, bytes, names, decimal, numeral, lineText, linesText, keep, digit, digitFirst, properDigits}
+use Rattle.text_format.specs.Text.{readCount, readNumber, byte, readIndex, readLine, readLines, begins, beginsWithNames, parsed, linesOf}
+use Rattle.text_format.proofs.NumeralLaws.{keep-some, readCount-decimal, readNumber-numeral, readCount-text, readNumber-text}
 
 -- ---- Limits
 

@@ -16,20 +16,20 @@ use mathlib.Core.Bool.{Bool, true, false, _&&_}
 use mathlib.Core.List.{List, [], _∷_, _++_}
 use Prim.Native.Nat.{ℕ}
 use lib.ListN.{length}
 use Rattle.protocol.specs.declared.Settings.{Settings}
 use Rattle.protocol.specs.declared.Parts.{Parts}
 use Rattle.protocol.specs.declared.Written.{Written}
 use Rattle.protocol.specs.declared.Checked.{Checked}
 use Rattle.protocol.specs.declared.Verified.{Verified}
 use Rattle.protocol.specs.declared.Verdict.the-variants.{Silent, Accepted as Accepts, Rejected as Rejects}
 use Rattle.protocol.specs.declared.Verified.the-variants.{Accepted, Rejected, Refused}
 use Rattle.protocol.specs.Basic.{choose, first, granted}
 use Rattle.protocol.specs.Transcript.{Transcript}
 use Rattle.protocol.specs.Rows.{allAccepted, transcriptsOf}
 use Rattle.protocol.specs.WrittenClaims.{claimTable, claimsWritten}
 use Rattle.protocol.specs.Session.{verdict}
-use Rattle.protocol.specs.Text.{Tables, lineFeed, textLimit, bytes, decimal, textOf, linesOf, settingsIn, tablesIn, textRefusal, outputRefusal}
-use Rattle.protocol.specs.Text.{written, overwritten}
+use Rattle.text_format.specs.Text.{Tables, lineFeed, textLimit, bytes, decimal, textOf, linesOf, settingsIn, tablesIn, textRefusal, outputRefusal}
+use Rattle.text_format.specs.Text.{written, overwritten}
 
 -- PROTOCOL 10.1: what goes into an opening, and the transcript that comes out, with its claims
 unfoldable pub proveReads : Parts

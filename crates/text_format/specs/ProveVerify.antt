@@ -12,14 +12,14 @@ use mathlib.Core.List.{List, [], _++_, map}
 use Prim.Native.Nat.{ℕ, _+_, _<_, _≤_}
 use lib.ListN.{length, take, drop}
 use lib.IntN.{pos}
 use Rattle.protocol.specs.declared.Settings.{Settings}
 use Rattle.protocol.specs.declared.Verified.the-variants.{Accepted}
 use Rattle.protocol.specs.Layout.{keyItems}
 use Rattle.protocol.specs.Transcript.{Transcript}
 use Rattle.protocol.specs.Rows.{transcriptsOf}
 use Rattle.protocol.specs.WrittenClaims.{claimTable}
-use Rattle.protocol.specs.Text.{Tables, textLimit, names, linesText, shape, settingsShape, settingsValues, block, blockLines, textOf, linesOf, settingsIn, tablesIn}
-use Rattle.protocol.specs.Programs.{verifyReads, proveRefusal, proveAnswer, proveExit, proveOutput, verifyRefusal, verifyAnswer}
+use Rattle.text_format.specs.Text.{Tables, textLimit, names, linesText, shape, settingsShape, settingsValues, block, blockLines, textOf, linesOf, settingsIn, tablesIn}
+use Rattle.text_format.specs.Programs.{verifyReads, proveRefusal, proveAnswer, proveExit, proveOutput, verifyRefusal, verifyAnswer}
 
 unfoldable pub keyLines : Settings → List ℕ → List ℕ
 keyLines S key = linesText (blockLines (block (shape 1 true (keyItems S) (S .degree)) (map pos key)))
