@@ -1,4 +1,4 @@
--- Rows of public weights, proved (protocol/specs/Weights): a product by a constant is a multiple, so the combination of such a row is the weighted sum.
+-- Rows of public weights, proved (one_claim/specs/Weights): a product by a constant is a multiple, so the combination of such a row is the weighted sum.
 -- (The file Weights is about others, those of a node's children.)
 use mathlib.Core.Path.{_≡_, refl, sym, ap, _∙_}
 use mathlib.Core.List.{List}

@@ -1,7 +1,7 @@
 // Values of a text, stored in the tables that are lent for them.
-use protocol::NARROW_LIMIT;
 use protocol::Residue;
 use ranges::tests::magnitude_wide;
+use text_format::NARROW_LIMIT;
 ghost use mathlib.Core.Path.{_≡_};
 ghost use Prim.Native.Nat.{_+_, _≤_};
 ghost use lib.ListN.{length};

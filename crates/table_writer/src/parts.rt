@@ -2,7 +2,7 @@
 use crate::lines::put_line;
 use protocol::Parts;
 use protocol::Settings;
-use protocol::TEXT_LIMIT;
+use text_format::TEXT_LIMIT;
 use text_parts::Cell;
 use text_parts::Shape;
 use text_parts::TABLES;

@@ -2,13 +2,13 @@
 use crate::lines::all_lines;
 use crate::lines::value_at;
 use protocol::Loaded;
-use protocol::NARROW_LIMIT;
 use protocol::Number;
 use protocol::Residue;
 use protocol::Settings;
-use protocol::TEXT_LIMIT;
-use protocol::VALUE_LIMIT;
 use ranges::tests::settings_refusal;
+use text_format::NARROW_LIMIT;
+use text_format::TEXT_LIMIT;
+use text_format::VALUE_LIMIT;
 use text_names::begins_with_names;
 ghost use mathlib.Core.Path.{_≡_};
 ghost use mathlib.Core.Bool.{false};

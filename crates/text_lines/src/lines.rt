@@ -2,9 +2,9 @@
 use crate::numbers::number_within;
 use crate::numbers::read_count;
 use protocol::Entry;
-use protocol::NARROW_LIMIT;
 use protocol::Number;
-use protocol::VALUE_LIMIT;
+use text_format::NARROW_LIMIT;
+use text_format::VALUE_LIMIT;
 ghost use mathlib.Core.Path.{_≡_};
 ghost use lib.ListN.{drop};
 ghost use Rattle.text_format.specs.Text.{limitOf, byte as behindByte, plain, readIndex, readLine, numberAnswer, readNumberAt, reading};

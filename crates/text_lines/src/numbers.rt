@@ -1,7 +1,7 @@
 // The number readers.
-use protocol::NARROW_LIMIT;
 use protocol::Number;
-use protocol::VALUE_LIMIT;
+use text_format::NARROW_LIMIT;
+use text_format::VALUE_LIMIT;
 ghost use mathlib.Core.Path.{_≡_};
 ghost use mathlib.Core.Bool.{true};
 ghost use Prim.Native.Nat.{_+_, _*_, _≤_, min};

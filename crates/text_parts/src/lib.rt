@@ -3,7 +3,7 @@ use protocol::Parts;
 use protocol::ROWS;
 use protocol::Residue;
 use protocol::Settings;
-use protocol::TEXT_LIMIT;
+use text_format::TEXT_LIMIT;
 ghost use mathlib.Core.Path.{_≡_};
 ghost use Rattle.text_format.specs.Text.{shape, settingsShape, shapeSize};
 ghost use Rattle.text_parts.specs.Parts.{tablesOf, asShape, nextCell, partOf, lengthsOf, lengthsAre, testedBy};
