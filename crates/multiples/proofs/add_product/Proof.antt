@@ -6,33 +6,30 @@ use native.Mathlib.Omega.{arith}
 use borrow.Author.Tests.{ltb-true}
 use lib.IntN.{ℤ, pos}
 use Rattle.protocol.specs.Element.{product, signed, residue, signedAt, residueAt}
+use Rattle.protocol.specs.Opening.{inner}
 use Rattle.strands.proofs.Weaving.{one-woven}
-use Rattle.plain_products.specs.Sums.{Stands, Summable, Zero}
-use Rattle.plain_products.proofs.Standing.{stands-zero, stands-one, one-addable, none-one, one-done}
-use borrow.Author.Needs.{needs}
-use Rattle.plain_products.proofs.add_product.Statement.{statement}
-use Rattle.plain_products.proofs.add_product.Tie as tie
+use Rattle.product_sums.specs.Sums.{Stands, Summable, Zero}
+use Rattle.product_sums.proofs.Standing.{stands-zero, table-stands}
+use Rattle.multiples.proofs.OneProduct.{stands-one, one-addable, none-one, one-done}
+use Rattle.multiples.proofs.add_product.Statement.{statement}
+use Rattle.multiples.proofs.add_product.Tie as tie
 
 -- what the sums become, at every degree that is 4
 abbrev Become : ℕ → List ℤ → List ℕ → List ℕ → List ℕ → List ℕ → ℕ → Type 0
 Become q f g s t s′ d = (z : Summable q d 1 f g) → Zero s → Zero t → Stands q d (product d (signed f) (residue g)) (d * z .magnitude) s′ t
-
-add-elements-requires : tie.Need-add-elements-requires
-add-elements-requires c κs = let s = c .before .before .before .before .before .before .before in let is : s .args .d ≡ 4 = c .before .before .if1 .taken in
-    (omega (arith, is, s .pre .1), omega (arith, is, s .pre .2), omega (arith, is, s .pre .3))
 
 -- by columns
 returns : tie.Need-returns
 returns c = λ z g.
     let s = c .before .before .before .before .before .before .before .before .before .before in
     let a = s .args in
-    subst (Become (a .q) (a .f .now) (a .g .now) (a .s .now) (a .t .now) _) {x = 4} {y = a .d} (sym (c .before .before .before .before .before .if1 .taken))
+    let is : a .d ≡ 4 = c .before .before .before .before .before .if1 .taken in
+    subst (Become (a .q) (a .f .now) (a .g .now) (a .s .now) (a .t .now) _) {x = 4} {y = a .d} (sym is)
     (λ z zs zt. stands-one (a .q) 4 (4 * z .magnitude) (a .f .now) (a .g .now) _ _
-    (c .before .before .add-elements .ensures (a .q) (a .t .now) z (
-      ltb-true _ _ (c .before .before .before .before .if2 .taken),
-      stands-zero (a .q) 4 (z .elements .modulus)
-          (signedAt 4 (a .f .now)) (residueAt 4 (a .g .now)) _ _ zs zt,
-    )))
+    (subst (λ l. Stands (a .q) 4 (inner 4 1 (signedAt 4 (a .f .now)) (residueAt 4 (a .g .now))) (1 * (4 * z .magnitude)) l (a .t .now))
+    (sym (c .before .before .add-table .ensures (record { coefficients = omega (arith, is, s .pre .1); residues = omega (arith, is, s .pre .2); sums = omega (arith, is, s .pre .3) })))
+    (table-stands (a .q) 1 (a .f .now) (a .g .now) z (ltb-true _ _ (c .before .before .before .before .if2 .taken)) (a .s .now) (a .t .now)
+    (stands-zero (a .q) 4 (z .elements .modulus) (signedAt 4 (a .f .now)) (residueAt 4 (a .g .now)) _ _ zs zt) 1 (omega arith))))
     z (g .2) (g .3)
 
 -- by rows, in one strand
@@ -58,4 +55,4 @@ returns-2 c = λ z g.
     ))
 
 pub add-product-spec : {M : Type 1} → statement M
-add-product-spec = tie.close (tie.spec add-elements-requires (λ c. search) returns (λ c κs. search needs) (λ c κs. search needs) (λ c. search) (λ c. search) (λ c. search) returns-2)
+add-product-spec = tie.close (tie.spec (λ c κs. search) (λ c. search) returns (λ c κs. search) (λ c κs. search) (λ c. search) (λ c. search) (λ c. search) returns-2)

@@ -3,8 +3,8 @@ use native.Mathlib.Nat.{mul-le-mul}
 use native.Mathlib.Omega.{arith}
 use Rattle.protocol.specs.Element.{width, product, signed, residue}
 use borrow.Author.Needs.{needs}
-use Rattle.plain_products.proofs.product_in.Statement.{statement}
-use Rattle.plain_products.proofs.product_in.Tie as tie
+use Rattle.multiples.proofs.product_in.Statement.{statement}
+use Rattle.multiples.proofs.product_in.Tie as tie
 
 returns : tie.Need-returns
 returns c = λ g.
@@ -19,4 +19,4 @@ returns c = λ g.
     )
 
 pub product-in-spec : {M : Type 1} → statement M
-product-in-spec = tie.close (tie.spec (λ c κs. search needs) (λ c κs. search needs) (λ c. search) (λ c. search) (λ c. search) returns)
+product-in-spec = tie.close (tie.spec (λ c κs. search) (λ c κs. search needs) (λ c. search) (λ c. search) (λ c. search) returns)

@@ -1,9 +1,8 @@
 use native.Mathlib.Omega.{arith}
 use Rattle.protocol.specs.Element.{width, zeros}
 use Rattle.residues.proofs.Fill.{zeros-at}
-use borrow.Author.Needs.{needs}
-use Rattle.plain_products.proofs.product_is.Statement.{statement}
-use Rattle.plain_products.proofs.product_is.Tie as tie
+use Rattle.multiples.proofs.product_is.Statement.{statement}
+use Rattle.multiples.proofs.product_is.Tie as tie
 
 returns : tie.Need-returns
 returns c = λ g. absurd (omega (arith, g .0 .elements .modulus))
@@ -34,5 +33,5 @@ returns-8 c = λ g. c .before .before .before .product-in2 .ensures (g .0, omega
 pub product-is-spec : {M : Type 1} → statement M
 product-is-spec =
     tie.close
-    (tie.spec returns returns-2 returns-3 returns-4 returns-5 returns-6 (λ c. search needs) (λ c. search needs) (λ c. search needs) (λ c κs. search needs) returns-7 (λ c. search needs)
-    (λ c. search needs) (λ c. search needs) (λ c κs. search needs) returns-8)
+    (tie.spec returns returns-2 returns-3 returns-4 returns-5 returns-6 (λ c. search) (λ c. search) (λ c. search) (λ c κs. search) returns-7 (λ c. search)
+    (λ c. search) (λ c. search) (λ c κs. search) returns-8)

@@ -1,18 +1,18 @@
 -- The loop keeps: the sums stand for the inner products of the first i elements. Of the rooms nothing is kept but their lengths.
 use mathlib.Core.Path.{_≡_, refl, subst}
 use mathlib.Core.List.{List}
-use Prim.Native.Nat.{ℕ, _+_, _*_, _-_, _<_, _≤_}
+use Prim.Native.Nat.{ℕ, _*_, _-_, _≤_}
 use native.Mathlib.Omega.{arith}
 use lib.ListN.{length}
 use Rattle.protocol.specs.Opening.{inner}
 use Rattle.half_sums.specs.Halves.{messagesOf, keysOf}
 use Rattle.rows.specs.Rows.{woven}
-use Rattle.plain_products.specs.Sums.{Stands, Zero, Rooms, RowsGiven, Within}
-use Rattle.plain_products.proofs.Standing.{woven-none}
-use Rattle.plain_products.proofs.Rows.{first-known, inner-more}
+use Rattle.product_sums.specs.Sums.{Stands, Zero, Rooms, RowsGiven, Within}
+use Rattle.product_sums.proofs.Standing.{woven-none}
+use Rattle.product_sums.proofs.Rows.{first-known, inner-more}
 use borrow.Author.Needs.{needs}
-use Rattle.plain_products.proofs.strandwise.add_elements.Statement.{statement}
-use Rattle.plain_products.proofs.strandwise.add_elements.Tie as tie
+use Rattle.product_sums.proofs.add_elements.Statement.{statement}
+use Rattle.product_sums.proofs.add_elements.Tie as tie
 
 abbrev Inv-loop : tie.InvT-loop
 Inv-loop sums q d n rows stride f g m₀ a₀ k₀ x₀ s₀ t₀ i₀ m a k x s t i =
@@ -24,9 +24,12 @@ Inv-loop sums q d n rows stride f g m₀ a₀ k₀ x₀ s₀ t₀ i₀ m a k x s
 abbrev μ-loop : tie.MeasureT-loop
 μ-loop sums q d n rows stride f g m₀ a₀ k₀ x₀ s₀ t₀ i₀ m a k x s t i = n - i
 
+returns : tie.Need-returns Inv-loop μ-loop
+returns c = λ G m z. absurd (omega (arith, first-known _ _ _ _ _ _ _ _ G (z .0) .degree-most))
+
 loop-holds : tie.Need-loop-holds Inv-loop μ-loop
 loop-holds c =
-    let s = c .before .before .before .before .before .before in
+    let s = c .before .before .before .before .before .before .before in
     let a = s .args in (
       omega arith,
       refl,
@@ -43,7 +46,7 @@ loop-holds c =
 loop-again : tie.Need-loop-again Inv-loop μ-loop
 loop-again c =
     let s = c .before .before .before .before .before .before .before .before .before .before .before .before .before .before .before .before .before .before .before .before .before .before
-    .before .before .before .before in
+    .before .before .before .before .before in
     let a = s .args in
     let l = c .before .before .before .before .before .before .before .before .before .before .before .before .before .before .before .before .before .before .before .loop in
     let test = c .before .before .before .before .before .before .before .before .before .before .before .before .before .before .before .before .before .before .loop-test .taken in
@@ -72,9 +75,9 @@ loop-again c =
           )),
     )
 
-returns : tie.Need-returns Inv-loop μ-loop
-returns c = λ G m z.
-    let s = c .before .before .before .before .before .before .before .before in
+returns-2 : tie.Need-returns-2 Inv-loop μ-loop
+returns-2 c = λ G m z.
+    let s = c .before .before .before .before .before .before .before .before .before in
     let a = s .args in
     let l = c .before .loop in
     subst (λ n. Stands (a .q) (a .d * a .rows) (woven (a .rows) (λ r. inner (a .d) n (messagesOf (a .sums) (a .d) (a .n) (a .f .now)) (keysOf (a .sums) (a .q) (a .d) (a .n) (G r))))
@@ -84,5 +87,5 @@ returns c = λ G m z.
 pub add-elements-spec : {M : Type 1} → statement M
 add-elements-spec =
     tie.close
-    (tie.spec Inv-loop μ-loop loop-holds (λ c κs. search needs) (λ c. search needs) (λ c. search needs) loop-again (λ c. search) (λ c. search) (λ c. search) (λ c. search) (λ c. search)
-    (λ c. search) returns)
+    (tie.spec Inv-loop μ-loop returns loop-holds (λ c κs. search) (λ c. search needs) (λ c. search needs) loop-again (λ c. search) (λ c. search) (λ c. search) (λ c. search) (λ c. search)
+    (λ c. search) returns-2)

@@ -2,10 +2,10 @@ use mathlib.Core.Path.{ap, _∙_}
 use Prim.Native.Nat.{_+_, _*_, _-_, _/_, _%_, _^_}
 use native.Mathlib.Nat.{mul-le-mul}
 use native.Mathlib.Omega.{arith}
-use Rattle.plain_products.proofs.Ends.{multiple-past, sums-raised, multiple-test}
+use Rattle.multiples.proofs.Ends.{multiple-past, sums-raised, multiple-test}
 use borrow.Author.Needs.{needs}
-use Rattle.plain_products.proofs.sum_is.Statement.{statement}
-use Rattle.plain_products.proofs.sum_is.Tie as tie
+use Rattle.multiples.proofs.sum_is.Statement.{statement}
+use Rattle.multiples.proofs.sum_is.Tie as tie
 
 returns : tie.Need-returns
 returns c = λ q z h. let a = c .before .before .args in multiple-past q (h .0 .allowed .positive) z (a .c) (a .a) (omega (arith, h .0 .modulus))
@@ -40,4 +40,4 @@ returns-2 c = λ q z h.
 pub sum-is-spec : {M : Type 1} → statement M
 sum-is-spec =
     tie.close
-    (tie.spec returns (λ c. search needs) (λ c κs. search needs) mul-lower (λ c κs. search needs) mul-upper (λ c κs. search needs) (λ c κs. search needs) (λ c κs. search needs) returns-2)
+    (tie.spec returns (λ c. search needs) (λ c κs. search) mul-lower (λ c κs. search) mul-upper (λ c κs. search) (λ c κs. search) (λ c κs. search) returns-2)

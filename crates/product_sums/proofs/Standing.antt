@@ -5,25 +5,25 @@ use Prim.Native.Nat.{ℕ, zero, suc, _+_, _*_, _-_, _/_, _%_, _^_, _<_, _≤_}
 use native.Mathlib.Nat as Nat
 use native.Mathlib.Numerals.{add-one}
 use native.Mathlib.Omega.{arith}
-use lib.IntN.{ℤ, pos, natAbs, _+ℤ_, +ℤ-idl}
+use lib.IntN.{ℤ, pos, natAbs, _+ℤ_}
 use lib.ListN.{length, getD, take, drop}
 use Rattle.algebra.specs.Magnitude.{natAbs-neg, natAbs-add, natAbs-mul}
 use Rattle.protocol.specs.Basic.{sum}
-use Rattle.protocol.specs.Element.{Element, width, modulo, flips, around, rotate, plus, product, residue, signed, residueAt, signedAt, zeros}
+use Rattle.protocol.specs.Element.{Element, modulo, flips, around, rotate, plus, product, residue, signed, residueAt, signedAt}
 use Rattle.protocol.specs.Opening.{inner}
 use Rattle.protocol.proofs.Agreement.{Same, product-same}
 use Rattle.protocol.proofs.Reading.{row-inside, cell-inside}
 use Rattle.residues.proofs.Parts.{tail-at, tail-length}
-use Rattle.residues.proofs.Fill.{filled, filled-at, zeros-at}
+use Rattle.residues.proofs.Fill.{filled, filled-at}
 use Rattle.columns.specs.Columns.{narrow, addColumns, addTable}
 use Rattle.columns.proofs.Words.{word-add}
 use Rattle.rows.specs.Rows.{strand, woven, narrowed, addRows, Prepared}
 use Rattle.rows.proofs.Extension.{woven-at}
-use Rattle.joins.specs.Sums.{weight, upperHalf, Halves, Stand}
+use Rattle.joins.specs.Sums.{weight, upperHalf, Halves}
 use Rattle.joins.proofs.Joining.{halves-none, halves-within, halves-lower, halves-add}
 use Rattle.joins.proofs.RowHalves.{lower-adds, both-add}
 use Rattle.half_sums.specs.Halves.{Small}
-use Rattle.plain_products.specs.Sums.{Stands, Summed, Columned, Addable, Summable, Zero}
+use Rattle.product_sums.specs.Sums.{Stands, Columned, Addable, Summable, Zero}
 
 -- ---- one product by columns: where the numbers of f are within ±m it is at most d·m·2^32 from 0
 
@@ -172,67 +172,3 @@ module _ (q n : ℕ) (f : List ℤ) (g : List ℕ) (z : Summable q 4 n f g) (few
   table-stands (suc i) l =
       subst (λ m. Stands q 4 (inner 4 m (signedAt 4 f) (residueAt 4 g)) (m * (4 * z .magnitude)) (addTable f g (suc i) s) t) (add-one i)
       (table-more q 4 n i f g z l _ t (columns-stand q 4 (z .magnitude) _ _ (table-columned q 4 n i f g z l) _ _ (addTable f g i s) t (table-stands i (omega arith)) few _ refl))
-
--- an inner product of one element
-pub stands-one : (q d w : ℕ) (f : List ℤ) (g s t : List ℕ) → Stands q d (inner d 1 (signedAt d f) (residueAt d g)) (1 * w) s t → Stands q d (product d (signed f) (residue g)) w s t
-unfolding inner sum signedAt residueAt signed residue
-stands-one q d w f g s t at = record { each = λ k l. subst (λ z. Halves q z (w * 2 ^ 32) (getD s k 0) (getD t k 0)) (one k) (rw (Nat.one-mul w) at (at .each k l)) }
-  where
-    front : (j : ℕ) → 0 * d + j ≡ j
-    front j = omega (arith, Nat.zero-mul d)
-
-    one : (k : ℕ) → pos 0 +ℤ product d (λ j. getD f (0 * d + j) (pos 0)) (λ j. pos (getD g (0 * d + j) 0)) k ≡ product d (λ j. getD f j (pos 0)) (λ j. pos (getD g j 0)) k
-    one k = +ℤ-idl _ ∙ (λ i. product d (λ j. getD f (front j i) (pos 0)) (λ j. pos (getD g (front j i) 0)) k)
-
--- sums that are done may be joined
-pub summed-stand : (q d : ℕ) (F : Element) (s t : List ℕ) → d ≤ length s → d ≤ length t → Summed q d F s t → Stand q d F s t
-summed-stand q d F s t ls lt ok = record {
-  lowers = ls;
-  uppers = lt;
-  each = λ k l. halves-within q _ _ _ _ _ (omega (arith, ok .few)) (ok .stands .each k l);
-}
-
-pub stands-same : (q d count : ℕ) (s t : List ℕ) {F F′ : Element} → ((k : ℕ) → F k ≡ F′ k) → Stands q d F count s t → Stands q d F′ count s t
-stands-same q d count s t e at = record { each = λ k l. subst (λ z. Halves q z (count * 2 ^ 32) (getD s k 0) (getD t k 0)) (e k) (at .each k l) }
-
--- ---- one strand
-
-pub one-strand : (q d : ℕ) (F : ℕ → Element) (count : ℕ) (s t : List ℕ) → Stands q d (F 0) count s t → Stands q (d * 1) (woven 1 F) count s t
-unfolding woven
-one-strand q d F count s t at = subst (λ n. Stands q n (woven 1 F) count s t) (sym (Nat.mul-one d))
-    (record { each = λ k l. subst (λ z. Halves q z (count * 2 ^ 32) (getD s k 0) (getD t k 0)) (λ i. F (sym (Nat.mod-one k) i) (sym (Nat.div-one k) i)) (at .each k l) })
-
-pub of-one-strand : (q d : ℕ) (F : ℕ → Element) (count : ℕ) (s t : List ℕ) → Stands q (d * 1) (woven 1 F) count s t → Stands q d (F 0) count s t
-unfolding woven
-of-one-strand q d F count s t at = record {
-  each = λ k l. subst (λ z. Halves q z (count * 2 ^ 32) (getD s k 0) (getD t k 0)) (λ i. F (Nat.mod-one k i) (Nat.div-one k i)) (at .each k (omega (arith, Nat.mul-one d)));
-}
-
--- ---- one product
-
-module _ (q d : ℕ) (f : List ℤ) (g : List ℕ) (z : Summable q d 1 f g) where
-  pub one-addable : (s t : ℕ) → d ≤ length f → d ≤ s → d ≤ t → Addable q 1 d (z .magnitude) f s t
-  one-addable s t lf ls lt = record {
-    modulus = z .elements .modulus;
-    modulus-most = omega (arith, z .modulus-most);
-    some = omega arith;
-    strands = omega arith;
-    degree = z .elements .degree;
-    degree-most = z .elements .degree-most;
-    long = lf;
-    small = λ j l. z .small j (omega (arith, Nat.one-mul d));
-    lowers = omega (arith, Nat.mul-one d);
-    uppers = omega (arith, Nat.mul-one d);
-  }
-
-  pub none-one : (s t : List ℕ) → Zero s → Zero t → Stands q (d * 1) (woven 1 (λ _ _. pos 0)) 0 s t
-  unfolding woven
-  none-one s t zs zt = record { each = λ k l. rw (zs k, zt k) (halves-none q (z .elements .modulus)) }
-
-  pub one-done : (s t : List ℕ) → Stands q (d * 1) (woven 1 (λ r. plus (λ _. pos 0) (product d (signed f) (residue g)))) (0 + d * z .magnitude) s t
-      → Stands q d (product d (signed f) (residue g)) (d * z .magnitude) s t
-  unfolding plus
-  one-done s t at = record {
-    each = λ k l. subst (λ y. Halves q y (d * z .magnitude * 2 ^ 32) (getD s k 0) (getD t k 0)) (+ℤ-idl _)
-        (rw (Nat.zero-add (d * z .magnitude)) at (of-one-strand q d (λ r k. pos 0 +ℤ product d (signed f) (residue g) k) _ s t at .each k l));
-  }

@@ -11,7 +11,7 @@ use Rattle.protocol.specs.Element.{modulo}
 use Rattle.protocol.proofs.Modulo.{modulo-lt, modulo-add}
 use Rattle.joins.specs.Sums.{weight, lowerHalf, upperHalf, room, Halves}
 use Rattle.joins.proofs.Joining.{halves-product, halves-add, halves-within}
-use Rattle.plain_products.specs.Sums.{multipleIs}
+use Rattle.multiples.specs.Multiples.{multipleIs}
 
 module _ (q : ℕ) (p : 0 < q) where
   -- what q divides may be added

@@ -11,10 +11,11 @@ use Rattle.ranges.proofs.Scan.{every-none, every-goes-on, every-fails, every-en
 use Rattle.modular.specs.Factors.{Modulus}
 use Rattle.joins.specs.Sums.{Ready}
 use Rattle.joins.proofs.Joining.{halves-within}
-use Rattle.plain_products.specs.Sums.{Stands, multipleIs}
+use Rattle.product_sums.specs.Sums.{Stands}
+use Rattle.multiples.specs.Multiples.{multipleIs}
 use borrow.Author.Needs.{needs}
-use Rattle.plain_products.proofs.sums_are.Statement.{statement}
-use Rattle.plain_products.proofs.sums_are.Tie as tie
+use Rattle.multiples.proofs.sums_are.Statement.{statement}
+use Rattle.multiples.proofs.sums_are.Tie as tie
 
 abbrev Inv-loop : tie.InvT-loop
 Inv-loop q d s t c a joint k₀ k = (k ≤ d) × (Modulus q → Ready q joint) × ((F : Element) (count : ℕ) → Modulus q × (count ≤ 2 ^ 29) × Stands q d F count s t × (c ≤ 2 ^ 13)
@@ -50,5 +51,5 @@ returns-2 c = λ F count z. let l = c .before .loop in every-ends _ _ (l .k) (l 
 pub sums-are-spec : {M : Type 1} → statement M
 sums-are-spec =
     tie.close
-    (tie.spec Inv-loop μ-loop (λ c κs. search needs) loop-holds (λ c. search needs) (λ c. search needs) (λ c. search needs) (λ c. search needs) (λ c. search needs) (λ c. search needs)
-    (λ c κs. search needs) returns (λ c. search needs) (λ c. search needs) loop-again returns-2)
+    (tie.spec Inv-loop μ-loop (λ c κs. search) loop-holds (λ c. search needs) (λ c. search needs) (λ c. search needs) (λ c. search needs) (λ c. search needs) (λ c. search needs)
+    (λ c κs. search) returns (λ c. search needs) (λ c. search needs) loop-again returns-2)
