@@ -4,8 +4,8 @@
 //! Usage: differential [SEED [TIMES]]
 //!
 //! Without arguments it runs the quick set: seed 1, once. TIMES multiplies
-//! the number of drawn inputs. Calls on tables and calls on text are run beside
-//! each other, each from the seed. It leaves with 1 where any answer or any lent
+//! the number of drawn inputs. Calls of an opening, on trees and on texts are run
+//! beside each other, each from the seed. It leaves with 1 where any answer or any lent
 //! table differs, and prints the smallest such case that it finds; and where
 //! an answer that a call can give never came up.
 
@@ -120,7 +120,7 @@ impl Run {
         Ok(())
     }
 
-    fn tables(&mut self) -> Result<(), Difference> {
+    fn openings(&mut self) -> Result<(), Difference> {
         self.call::<SettingsCase>(20_000, 0)?;
         self.call::<Commit>(10_000, 200)?;
         self.call::<ProverRound>(10_000, 200)?;
@@ -139,7 +139,10 @@ impl Run {
         self.transform::<Opening>(80)?;
         self.transform::<Moves>(40)?;
         self.transform::<Check>(60)?;
-        self.transform::<SessionEnd>(60)?;
+        self.transform::<SessionEnd>(60)
+    }
+
+    fn trees(&mut self) -> Result<(), Difference> {
         self.call::<Extract>(5_000, 120)?;
         self.call::<Large>(0, 24)?;
         self.call::<Largest>(0, 6)
@@ -175,15 +178,21 @@ fn main() -> ExitCode {
         };
         part(&mut run).map(|()| run.report)
     };
-    let both = thread::scope(|scope| {
-        let tables = thread::Builder::new()
-            .stack_size(STACK)
-            .spawn_scoped(scope, || run(Run::tables))
-            .expect("a thread");
-        let texts = run(Run::texts);
-        Ok([tables.join().expect("the thread's answer")?, texts?])
+    let parts = [Run::openings, Run::trees, Run::texts];
+    let reports: Result<Vec<Report>, Difference> = thread::scope(|scope| {
+        let run = &run;
+        let started = parts.map(|part| {
+            thread::Builder::new()
+                .stack_size(STACK)
+                .spawn_scoped(scope, move || run(part))
+                .expect("a thread")
+        });
+        let ended = started
+            .into_iter()
+            .map(|part| part.join().expect("its report"));
+        ended.collect()
     });
-    match both {
+    match reports {
         Ok(reports) => {
             let cases: usize = reports.iter().map(Report::total).sum();
             println!("differential: seed {seed}, {cases} cases, no difference");
