@@ -4,7 +4,8 @@
 //! Usage: differential [SEED [TIMES]]
 //!
 //! Without arguments it runs the quick set: seed 1, once. TIMES multiplies
-//! the number of drawn inputs. It leaves with 1 where any answer or any lent
+//! the number of drawn inputs. Calls of an opening, on trees and on texts are run
+//! beside each other, each from the seed. It leaves with 1 where any answer or any lent
 //! table differs, and prints the smallest such case that it finds; and where
 //! an answer that a call can give never came up.
 
@@ -18,6 +19,10 @@ use differential::report::Report;
 use reference::draw::Limits;
 use reference::random::Random;
 use std::process::ExitCode;
+use std::thread;
+
+/// As much stack as a process has for its first thread.
+const STACK: usize = 8 << 20;
 
 struct Run {
     random: Random,
@@ -115,7 +120,7 @@ impl Run {
         Ok(())
     }
 
-    fn all(&mut self) -> Result<(), Difference> {
+    fn openings(&mut self) -> Result<(), Difference> {
         self.call::<SettingsCase>(20_000, 0)?;
         self.call::<Commit>(10_000, 200)?;
         self.call::<ProverRound>(10_000, 200)?;
@@ -134,10 +139,16 @@ impl Run {
         self.transform::<Opening>(80)?;
         self.transform::<Moves>(40)?;
         self.transform::<Check>(60)?;
-        self.transform::<SessionEnd>(60)?;
+        self.transform::<SessionEnd>(60)
+    }
+
+    fn trees(&mut self) -> Result<(), Difference> {
         self.call::<Extract>(5_000, 120)?;
         self.call::<Large>(0, 24)?;
-        self.call::<Largest>(0, 6)?;
+        self.call::<Largest>(0, 6)
+    }
+
+    fn texts(&mut self) -> Result<(), Difference> {
         self.names()?;
         self.large_numbers()?;
         self.call::<Look>(10_000, 100)?;
@@ -159,25 +170,42 @@ fn main() -> ExitCode {
             return ExitCode::FAILURE;
         }
     };
-    let mut run = Run {
-        random: Random::new(seed),
-        times,
-        report: Report::default(),
+    let run = |part: fn(&mut Run) -> Result<(), Difference>| {
+        let mut run = Run {
+            random: Random::new(seed),
+            times,
+            report: Report::default(),
+        };
+        part(&mut run).map(|()| run.report)
     };
-    match run.all() {
-        Ok(()) => {
-            println!(
-                "differential: seed {seed}, {} cases, no difference",
-                run.report.total()
-            );
+    let parts = [Run::openings, Run::trees, Run::texts];
+    let reports: Result<Vec<Report>, Difference> = thread::scope(|scope| {
+        let run = &run;
+        let started = parts.map(|part| {
+            thread::Builder::new()
+                .stack_size(STACK)
+                .spawn_scoped(scope, move || run(part))
+                .expect("a thread")
+        });
+        let ended = started
+            .into_iter()
+            .map(|part| part.join().expect("its report"));
+        ended.collect()
+    });
+    match reports {
+        Ok(reports) => {
+            let cases: usize = reports.iter().map(Report::total).sum();
+            println!("differential: seed {seed}, {cases} cases, no difference");
             println!(
                 "by call and number (0: not refused), and the references that answered the same"
             );
-            run.report.print();
+            for report in &reports {
+                report.print();
+            }
             ExitCode::SUCCESS
         }
-        Err(difference) => {
-            println!("differential: seed {seed}, FAILED\n{}", difference.text);
+        Err(Difference { text }) => {
+            println!("differential: seed {seed}, FAILED\n{text}");
             ExitCode::FAILURE
         }
     }

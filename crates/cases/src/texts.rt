@@ -5,7 +5,6 @@ use crate::output;
 use crate::tables;
 use protocol::Parts;
 use protocol::Settings;
-use protocol::Verified;
 
 // Which of the two calls it is, and what it is told. A reader is told no settings.
 struct Task {
@@ -211,19 +210,12 @@ pub fn run_write(input: Input) -> Input {
 }
 
 // A refusal's number and a verdict, as the other calls print them.
-fn verdict(number: u32, verdict: u32) {
+fn answer_verify(text: &[u8]) {
+    let mut verdict: u32 = 0;
+    let number = text_calls::verify(text, &mut verdict);
     output::first(number);
     output::number(verdict);
     output::end();
-}
-
-fn answer_verify(text: &[u8]) {
-    let answer = verify_text::verify(text);
-    match answer {
-        Verified::Accepted => verdict(0, 2),
-        Verified::Rejected => verdict(0, 3),
-        Verified::Refused(number) => verdict(number, 0),
-    }
 }
 
 pub fn run_verify(input: Input) -> Input {

@@ -1,14 +1,14 @@
 -- Demand 3, proved (PROTOCOL 11.2): all calls of an opening in their order, and all of a tree, in one claim.
 --
--- What is claimed is the type `Demand3` of protocol/specs/Demand3: for all allowed settings and every key,
+-- What is claimed is the type `Demand3` of one_claim/specs/Demand3: for all allowed settings and every key,
 --   · an opening of any message within its bound, by any challenges, is not refused, says accepted and gives a transcript that is accepted in every row, and so does every list of calls that makes it
 --     move by move, refused calls of any kind standing anywhere between: no step of it is refused, and it ends with the same answers and tables;
 --   · from every full tree whose paths are all accepted, whatever was answered in it, the extractor is not refused within the growth limit and leaves the root vector: within its
 --     bound, opening 4^L times every row's commitment, and exactly 4^L·m where all leaves are folds of one m.
 --
 -- From here to the functions. The claim speaks of definitions such as `openingAnswer`, `foldKeyExit`, `round` and `extractExit`. Each public function promises an equation with its
--- definition, for every input and with no `requires`. `PerformedDemand3` (protocol/specs/Performed) is the claim over values of which only these promises are known; Performed proves it from this one.
--- That there is something to claim, a run for every message and a full tree for every choice of challenges, is `NeverVacuous` (protocol/specs/HonestTree), proved in HonestTree.
+-- definition, for every input and with no `requires`. `PerformedDemand3` (one_claim/specs/Performed) is the claim over values of which only these promises are known; Performed proves it from this one.
+-- That there is something to claim, a run for every message and a full tree for every choice of challenges, is `NeverVacuous` (one_claim/specs), proved in HonestTree.
 --
 -- What rules out a weaker claim, in the order of the ways in which one could slip in:
 --    1 refused calls of some kinds only          `Call` has every call that can be lent one of the tables or given the record: the table reader and writer, the whole opening, the extractor too
@@ -25,7 +25,7 @@
 --   12 two theorems                              one type, one name, below
 --   13 hypotheses carried by a `requires`        no public function has one
 --   14 some rows, or a vector for each row       `AllAccepted`, `FullTree` and `opens` are over every row of the key, with one list of challenges, one of leaves and one w; `Valid` has 1 to 4 rows
-use Rattle.protocol.specs.Demand3.{Demand3}
+use Rattle.one_claim.specs.Demand3.{Demand3}
 use Rattle.claims.proofs.Opening.{opening-claim}
 use Rattle.claims.proofs.Extractor.{extraction-claim}
 

@@ -22,7 +22,7 @@ use Rattle.protocol.specs.Tree.{nodes, leaves, leaf, path, rowPath, challenge, 
 use Rattle.protocol.specs.Judge.{slack, slackAllowed, opens, judged, Opens}
 use Rattle.protocol.specs.Calls.{everyPath, extractRefusal, extractExit, judgeRefusal, judgeAnswer}
 use Rattle.protocol.specs.Inputs.{Valid, Below, Within}
-use Rattle.protocol.specs.Demand3.{FullTree, ExtractionClaim}
+use Rattle.one_claim.specs.Demand3.{FullTree, ExtractionClaim}
 use Rattle.protocol.proofs.Tests.{and-intro, every-intro, first-nothing}
 use Rattle.protocol.proofs.Refusals.{first-passes, first-holds, first-fails}
 use Rattle.protocol.proofs.Inputs.{valid-settings, below-tested, below-sized, within-tested}

@@ -14,7 +14,7 @@ use Rattle.protocol.specs.Inputs.{Valid, Below}
 use Rattle.protocol.specs.Tree.{growth, growthFactor, growthLimit}
 use Rattle.protocol.specs.Judge.{slackAllowed}
 use Rattle.protocol.specs.Calls.{judgeRefusal, extractRefusal}
-use Rattle.protocol.specs.Demand3.{FullTree}
+use Rattle.one_claim.specs.Demand3.{FullTree}
 use Rattle.protocol.proofs.Listing.{setRows}
 use Rattle.claims.proofs.Extractor.{growth-refused, growth-passed}
 

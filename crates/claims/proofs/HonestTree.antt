@@ -18,9 +18,10 @@ use Rattle.protocol.specs.Opening.{commitment, roundElement, roundTable, messag
 use Rattle.protocol.specs.Transcript.{Accepted}
 use Rattle.protocol.specs.Rows.{keyRow, rowItems, atRows}
 use Rattle.protocol.specs.Tree.{parent, challenge, challengeTo, nodes, leaves, onPath, pathChallenges, pathRounds, leaf, path, rowPath, foldTo}
-use Rattle.protocol.specs.Demand3.{Held, Heard, State, Step, Gap, Run, step, begun, moves}
-use Rattle.protocol.specs.Performed.{Refusals, Performs, Performance}
-use Rattle.protocol.specs.HonestTree.{wayTo, answerAt, honestRounds, honestTable, honestFinals, ThreeEach, HonestTree, NeverVacuous}
+use Rattle.one_claim.specs.Demand3.{Held, Heard, State, Step, Gap, Run, step, begun, moves}
+use Rattle.one_claim.specs.Performed.{Refusals, Performs, Performance}
+use Rattle.protocol.specs.HonestTree.{wayTo, answerAt, honestRounds, honestTable, honestFinals}
+use Rattle.one_claim.specs.NeverVacuous.{ThreeEach, HonestTree, NeverVacuous}
 use Rattle.protocol.proofs.Reading.{tabulate-length, tabulate-at, tabulate-ext, tabulate-own, flat-length, flat-at, flat-ext}
 use Rattle.protocol.proofs.OpeningLaws.{key-challenges, message-challenges}
 use Rattle.protocol.proofs.Inputs.{degree-most}

@@ -22,7 +22,7 @@ use Rattle.protocol.specs.Opening.{commitment, roundElement, roundTable, messag
 use Rattle.protocol.specs.Rows.{keyRow, interleaved, atRows, together, keysAfter}
 use Rattle.protocol.specs.Session.{shut}
 use Rattle.protocol.specs.Calls.{polynomial}
-use Rattle.protocol.specs.Demand3.{State, Step, turns, moves, hear, hearCommitment, hearPolynomial, hearLast, hearVerdict, step, begun, backRecord, Run}
+use Rattle.one_claim.specs.Demand3.{State, Step, turns, moves, hear, hearCommitment, hearPolynomial, hearLast, hearVerdict, step, begun, backRecord, Run}
 use Rattle.protocol.proofs.Reading.{flat-ext}
 use Rattle.protocol.proofs.OpeningLaws.{round-at}
 use Rattle.protocol.proofs.Inputs.{degree-most}

@@ -11,7 +11,7 @@ use Rattle.protocol.specs.Settings.{cells}
 use Rattle.protocol.specs.Rows.{roundTables}
 use Rattle.protocol.specs.Calls.{openingAnswer}
 use Rattle.protocol.specs.Inputs.{Valid, Below, Within}
-use Rattle.protocol.specs.Demand3.{State, Run, begun, moves, SameAsWhole, OpeningClaim}
+use Rattle.one_claim.specs.Demand3.{State, Run, begun, moves, SameAsWhole, OpeningClaim}
 use Rattle.claims.proofs.Honest.{Given, opening-granted, opening-commitment, opening-rounds, opening-last, opening-key, opening-message, opening-verdict, opening-accepted}
 use Rattle.claims.proofs.Moves.{roundsAfter, finished, run-finished}
 

@@ -15,9 +15,9 @@ use Rattle.protocol.specs.Tree.{growth}
 use Rattle.protocol.specs.Judge.{slack, Opens}
 use Rattle.protocol.specs.Calls.{judgeAnswer}
 use Rattle.protocol.specs.Promises.{Opening, Extracted}
-use Rattle.protocol.specs.Demand3.{Held, Heard, State, Record, Call, Step, refusal, backKey, backMessage, backRecord, after, hear, hearCommitment, hearPolynomial, hearLast, hearVerdict}
-use Rattle.protocol.specs.Demand3.{step, begun, moves, Gap, Run, OpeningClaim, ExtractionClaim, Demand3}
-use Rattle.protocol.specs.Performed.{Answers, Refusals, Performs, Performance, SameAsAnswered, OpeningPerformed, ExtractionPerformed, PerformedDemand3}
+use Rattle.one_claim.specs.Demand3.{Held, Heard, State, Record, Call, Step, refusal, backKey, backMessage, backRecord, after, hear, hearCommitment, hearPolynomial, hearLast, hearVerdict}
+use Rattle.one_claim.specs.Demand3.{step, begun, moves, Gap, Run, OpeningClaim, ExtractionClaim, Demand3}
+use Rattle.one_claim.specs.Performed.{Answers, Refusals, Performs, Performance, SameAsAnswered, OpeningPerformed, ExtractionPerformed, PerformedDemand3}
 use Rattle.claims.proofs.Demand3.{demand3}
 
 -- ---- calls

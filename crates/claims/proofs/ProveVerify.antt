@@ -21,22 +21,22 @@ use Rattle.protocol.specs.Opening.{messageAfter}
 use Rattle.protocol.specs.Transcript.{Transcript, transcriptOf}
 use Rattle.protocol.specs.Rows.{commitments, roundTables, transcriptsOf}
 use Rattle.protocol.specs.WrittenClaims.{claimTable}
-use Rattle.protocol.specs.Text.{Line, Tables, textLimit, narrowLimit, names, linesText, shape, settingsShape, shapes, shapeSize, settingsValues, contents, block, blocks, blockLines, textOf}
-use Rattle.protocol.specs.Text.{linesOf, settingsIn, tablesIn, lookRefusal, textRefusal, written, overwritten}
-use Rattle.protocol.specs.Programs.{proveReads, provePrints, verifyReads, printed, proofText, proveText, proveRefusal, proveAnswer, proveExit, proveOutput}
-use Rattle.protocol.specs.Programs.{transcriptIn, tablesAccepted, verifyRefusal, verifyAnswer}
-use Rattle.protocol.specs.ProveVerify.{keyLines, headLength, withKey, keyed, Accepts, ProveVerify}
+use Rattle.text_format.specs.Text.{Line, Tables, textLimit, narrowLimit, names, linesText, shape, settingsShape, shapes, shapeSize, settingsValues, contents, block, blocks, blockLines, textOf}
+use Rattle.text_format.specs.Text.{linesOf, settingsIn, tablesIn, lookRefusal, textRefusal, written, overwritten}
+use Rattle.text_format.specs.Programs.{proveReads, provePrints, verifyReads, printed, proofText, proveText, proveRefusal, proveAnswer, proveExit, proveOutput}
+use Rattle.text_format.specs.Programs.{transcriptIn, tablesAccepted, verifyRefusal, verifyAnswer}
+use Rattle.text_format.specs.ProveVerify.{keyLines, headLength, withKey, keyed, Accepts, ProveVerify}
 use Rattle.protocol.proofs.Tests.{and-intro, first-zero, granted-zero}
 use Rattle.protocol.proofs.Inputs.{settings-valid, valid-settings, tested-below, tested-within, below-tested, within-tested}
 use Rattle.protocol.proofs.Acceptance.{all-accepted-test}
 use Rattle.protocol.proofs.WrittenClaims.{claims-written-test, claim-table-written, claim-table-below}
-use Rattle.protocol.proofs.LineLaws.{lines-append}
-use Rattle.protocol.proofs.TableLaws.{Fit}
+use Rattle.text_format.proofs.LineLaws.{lines-append}
+use Rattle.text_format.proofs.TableLaws.{Fit}
 use Rattle.protocol.proofs.Ranges.{last-length}
 use Rattle.claims.proofs.Completeness.{complete}
 use Rattle.claims.proofs.RowLaws.{commitments-below, tables-below}
 use Rattle.claims.proofs.Honest.{Given, degree-positive, modulus-positive, transcripts-accepted}
-use Rattle.protocol.proofs.TextLimits.{allowed, size-le, Passed}
+use Rattle.text_format.proofs.TextLimits.{allowed, size-le, Passed}
 use Rattle.claims.proofs.RoundTrip.{readable-tables, tables-readable}
 
 -- ---- the tables

@@ -1,4 +1,4 @@
--- Rows of public weights, proved (protocol/specs/Weights): a product by a constant is a multiple, so the combination of such a row is the weighted sum.
+-- Rows of public weights, proved (one_claim/specs/Weights): a product by a constant is a multiple, so the combination of such a row is the weighted sum.
 -- (The file Weights is about others, those of a node's children.)
 use mathlib.Core.Path.{_≡_, refl, sym, ap, _∙_}
 use mathlib.Core.List.{List}
@@ -19,8 +19,8 @@ use Rattle.protocol.specs.Rows.{keyRow}
 use Rattle.protocol.specs.Tree.{growth, growthLimit}
 use Rattle.protocol.specs.Judge.{slack, scaledCommitment, combination}
 use Rattle.protocol.specs.Calls.{commitRefusal, commitAnswer, extractExit}
-use Rattle.protocol.specs.Demand3.{FullTree}
-use Rattle.protocol.specs.Weights.{constant, weightRow, weightedSum, Weights}
+use Rattle.one_claim.specs.Demand3.{FullTree}
+use Rattle.one_claim.specs.Weights.{constant, weightRow, weightedSum, Weights}
 use Rattle.protocol.proofs.Tests.{first-zero, granted-zero}
 use Rattle.protocol.proofs.Reading.{flat-at}
 use Rattle.protocol.proofs.Inputs.{settings-valid, degree-most}

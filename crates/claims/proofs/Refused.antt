@@ -13,9 +13,9 @@ use Rattle.protocol.specs.Basic.{choose, granted}
 use Rattle.protocol.specs.Session as Verifier
 use Rattle.protocol.specs.Session.{refusedMove}
 use Rattle.protocol.specs.Calls as Calls
-use Rattle.protocol.specs.Text as Text
-use Rattle.protocol.specs.Demand3.{Held, State, KeyTable, MessageTable, Record, Call, Step, lentKey, lentMessage, handed, tables, refusal, backKey, backMessage, backRecord, after}
-use Rattle.protocol.specs.Demand3.{step, Gap, none, refused, Run, stop, go}
+use Rattle.text_format.specs.Text as Text
+use Rattle.one_claim.specs.Demand3.{Held, State, KeyTable, MessageTable, Record, Call, Step, lentKey, lentMessage, handed, tables, refusal, backKey, backMessage, backRecord, after}
+use Rattle.one_claim.specs.Demand3.{step, Gap, none, refused, Run, stop, go}
 use Rattle.protocol.proofs.Tests.{granted-refused}
 
 -- ---- what comes back as it was lent, to what is as it was

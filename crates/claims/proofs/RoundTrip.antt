@@ -14,20 +14,20 @@ use Rattle.protocol.specs.declared.Parts.{Parts}
 use Rattle.protocol.specs.Basic.{tabulate, among, choose, granted}
 use Rattle.protocol.specs.Settings.{settingsRefusal, allBelow}
 use Rattle.protocol.specs.Settings.{exponent, exponents}
-use Rattle.protocol.specs.Text.{Line, Tables, textLimit, valueLimit, narrowLimit, limitOf, names, linesText, shape, settingsShape, shapes, shapeSize}
-use Rattle.protocol.specs.Text.{spots, wanted, settingsValues, contents, block, blocks, blockLines, textOf, fits}
-use Rattle.protocol.specs.Text.{parsed, linesOf, sameSpots, spotsOf, valuesOf, wellFormed, unsigned, column, unsignedColumn}
-use Rattle.protocol.specs.Text.{settingIn, settingsIn, tablesIn, lookRefusal, loaded, entriesRefusal, textRefusal, readRefusal, readAnswer}
-use Rattle.protocol.specs.Text.{readExit}
-use Rattle.protocol.specs.Text.{written, overwritten, writeAnswer, writeExit}
-use Rattle.protocol.specs.RoundTrip.{Forth, RoundTrip, OneText}
+use Rattle.text_format.specs.Text.{Line, Tables, textLimit, valueLimit, narrowLimit, limitOf, names, linesText, shape, settingsShape, shapes, shapeSize}
+use Rattle.text_format.specs.Text.{spots, wanted, settingsValues, contents, block, blocks, blockLines, textOf, fits}
+use Rattle.text_format.specs.Text.{parsed, linesOf, sameSpots, spotsOf, valuesOf, wellFormed, unsigned, column, unsignedColumn}
+use Rattle.text_format.specs.Text.{settingIn, settingsIn, tablesIn, lookRefusal, loaded, entriesRefusal, textRefusal, readRefusal, readAnswer}
+use Rattle.text_format.specs.Text.{readExit}
+use Rattle.text_format.specs.Text.{written, overwritten, writeAnswer, writeExit}
+use Rattle.text_format.specs.RoundTrip.{Forth, RoundTrip, OneText}
 use Rattle.protocol.proofs.Tests.{first-zero, unless-zero}
 use Rattle.protocol.proofs.Reading.{tabulate-own}
-use Rattle.protocol.proofs.LineLaws.{AllLimited, parsed-text}
-use Rattle.protocol.proofs.TableLaws.{Fit, parts, columns, read-lines, read-fit}
-use Rattle.protocol.proofs.TableLaws.{Split, split}
-use Rattle.protocol.proofs.TextLimits.{Allowed, allowed, Passed, passed, unrefused, below-limited, exponent-le, column-limited}
-use Rattle.protocol.proofs.ColumnLaws.{sameSpots-eq, valuesOf-append}
+use Rattle.text_format.proofs.LineLaws.{AllLimited, parsed-text}
+use Rattle.text_format.proofs.TableLaws.{Fit, parts, columns, read-lines, read-fit}
+use Rattle.text_format.proofs.TableLaws.{Split, split}
+use Rattle.text_format.proofs.TextLimits.{Allowed, allowed, Passed, passed, unrefused, below-limited, exponent-le, column-limited}
+use Rattle.text_format.proofs.ColumnLaws.{sameSpots-eq, valuesOf-append}
 use Rattle.claims.proofs.Unsigned.{unsigned-pos, unsigned-forth}
 use Rattle.claims.proofs.WrittenRead.{partNumbers, shapes-rise, fit-all, lines-read, settings-back, tables-back, read-back, Writable, writable-refusal, back}
 

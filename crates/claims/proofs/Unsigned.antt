@@ -8,7 +8,7 @@ use borrow.Author.Tests.{leb-true}
 use lib.Dec.{leb}
 use lib.IntN.{ℤ, pos, negsuc}
 use Rattle.protocol.specs.Basic.{all}
-use Rattle.protocol.specs.Text.{unsigned}
+use Rattle.text_format.specs.Text.{unsigned}
 
 module _ (most : ℕ) where
   pub unsigned-small : (n : ℕ) → n ≤ most → unsigned most (pos n) ≡ n

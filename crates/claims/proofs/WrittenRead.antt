@@ -14,18 +14,18 @@ use Rattle.protocol.specs.declared.Settings.{Settings}
 use Rattle.protocol.specs.declared.Parts.{Parts}
 use Rattle.protocol.specs.Basic.{tabulate, all, choose, within, first, unless, granted}
 use Rattle.protocol.specs.Settings.{settingsRefusal, hasLength, allBelow, exponent, exponents}
-use Rattle.protocol.specs.Text.{Line, Shape, Tables, textLimit, valueLimit, narrowLimit, shape, settingsShape, shapes, shapeSize}
-use Rattle.protocol.specs.Text.{spotAt, spots, wanted, settingsValues, contents, block, blocks, blockLines, textOf, blockFits, fits}
-use Rattle.protocol.specs.Text.{linesOf, sameSpot, sameSpots, spotsOf, valuesOf, wellFormed, unsigned, column, unsignedColumn}
-use Rattle.protocol.specs.Text.{settingIn, settingsIn, tablesIn, lookRefusal, loaded, entriesRefusal, textRefusal, readRefusal, readAnswer}
-use Rattle.protocol.specs.Text.{readExit}
-use Rattle.protocol.specs.Text.{outputRefusal, writeRefusal, written, overwritten, writeAnswer, writeExit}
-use Rattle.protocol.specs.RoundTrip.{outcome, Back}
+use Rattle.text_format.specs.Text.{Line, Shape, Tables, textLimit, valueLimit, narrowLimit, shape, settingsShape, shapes, shapeSize}
+use Rattle.text_format.specs.Text.{spotAt, spots, wanted, settingsValues, contents, block, blocks, blockLines, textOf, blockFits, fits}
+use Rattle.text_format.specs.Text.{linesOf, sameSpot, sameSpots, spotsOf, valuesOf, wellFormed, unsigned, column, unsignedColumn}
+use Rattle.text_format.specs.Text.{settingIn, settingsIn, tablesIn, lookRefusal, loaded, entriesRefusal, textRefusal, readRefusal, readAnswer}
+use Rattle.text_format.specs.Text.{readExit}
+use Rattle.text_format.specs.Text.{outputRefusal, writeRefusal, written, overwritten, writeAnswer, writeExit}
+use Rattle.text_format.specs.RoundTrip.{outcome, Back}
 use Rattle.protocol.proofs.Tests.{first-zero, unless-zero, and-intro}
-use Rattle.protocol.proofs.LineLaws.{linesOf-written}
-use Rattle.protocol.proofs.TableLaws.{Rising, Fit, parts, columns, written-spots, written-columns, blockLines-values}
-use Rattle.protocol.proofs.TextLimits.{Allowed, allowed, Passed, passed, unrefused, lines-limited, contents-limited, below-limited, exponent-le}
-use Rattle.protocol.proofs.ColumnLaws.{sameSpots-refl, valuesOf-append}
+use Rattle.text_format.proofs.LineLaws.{linesOf-written}
+use Rattle.text_format.proofs.TableLaws.{Rising, Fit, parts, columns, written-spots, written-columns, blockLines-values}
+use Rattle.text_format.proofs.TextLimits.{Allowed, allowed, Passed, passed, unrefused, lines-limited, contents-limited, below-limited, exponent-le}
+use Rattle.text_format.proofs.ColumnLaws.{sameSpots-refl, valuesOf-append}
 use Rattle.claims.proofs.Unsigned.{unsigned-small, unsigned-back}
 
 -- ---- The parts

@@ -3,11 +3,11 @@ use mathlib.Core.Path.{_≡_, refl}
 use mathlib.Core.Bool.{true, false}
 use mathlib.Core.List.{List, [], _∷_, map}
 use Prim.Native.String.{_++_}
-use Rattle.protocol.proofs.ComputeText.{computedText}
-use Rattle.protocol.proofs.TextExamples.{names, settings, key, message, commitment, rounds, challenge, final, claim, input, withSettings, noDepth, listing}
-use Rattle.protocol.proofs.TextExamples.{boundAndRows, weights}
-use Rattle.protocol.proofs.TextRows.{Row, given, expected}
-use Rattle.protocol.proofs.TextRows.Row.{prove, verify, begins}
+use Rattle.text_format.proofs.ComputeText.{computedText}
+use Rattle.text_format.proofs.TextExamples.{names, settings, key, message, commitment, rounds, challenge, final, claim, input, withSettings, noDepth, listing}
+use Rattle.text_format.proofs.TextExamples.{boundAndRows, weights}
+use Rattle.text_format.proofs.TextRows.{Row, given, expected}
+use Rattle.text_format.proofs.TextRows.Row.{prove, verify, begins}
 
 abbrev table : List Row
 table =

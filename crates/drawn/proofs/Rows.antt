@@ -14,8 +14,8 @@ use Rattle.protocol.specs.Rows.{Cause, cause, together}
 use Rattle.protocol.specs.Session.{start, round, end}
 use Rattle.protocol.specs.Calls.{commitAnswer, roundAnswer, foldRefusal, foldKeyExit, foldMessageExit, endAnswer, openingAnswer, openingKeyExit, openingMessageExit}
 use Rattle.protocol.specs.Calls.{openingRoundsExit, checkAnswer, judgeAnswer, extractRefusal, extractExit}
-use Rattle.protocol.specs.Text.{Tables, readAnswer, readExit, writeAnswer, writeExit}
-use Rattle.protocol.specs.Programs.{proveAnswer, proveExit, verifyAnswer, checked}
+use Rattle.text_format.specs.Text.{Tables, readAnswer, readExit, writeAnswer, writeExit}
+use Rattle.text_format.specs.Programs.{proveAnswer, proveExit, verifyAnswer, checked}
 use Rattle.protocol.proofs.Examples.{Example, asNumber, causeNumber, verdictAsNumber, recordNumbers, moveNumbers}
 
 -- ---- inputs

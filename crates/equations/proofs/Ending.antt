@@ -17,7 +17,8 @@ use Rattle.protocol.specs.Transcript.{finalBounded, ending, endHolds}
 use Rattle.protocol.proofs.Modulo.{modulo-lt, modulo-times}
 use Rattle.protocol.proofs.Tests.{every-at}
 use Rattle.protocol.specs.Opening.{left}
-use Rattle.plain_products.specs.Sums.{multipleIs, Small, Summable}
+use Rattle.product_sums.specs.Sums.{Small, Summable}
+use Rattle.multiples.specs.Multiples.{multipleIs}
 use Rattle.protocol.proofs.Agreement.{every-ext}
 use Rattle.protocol.proofs.OpeningLaws.{left-power}
 use Rattle.equations.specs.Given.{ElementReduced}

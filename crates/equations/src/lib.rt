@@ -104,7 +104,7 @@ fn equation_met(settings: Settings, claim: &[Residue], f: &[i32], g: &[Residue])
     ensures { λ r. ⌜ Provided (FinalGiven settings (signed (now (f .entry))) (now (g .entry))) (r ≡ endHolds settings (now (claim .entry)) (signed (now (f .entry))) (residue (now (g .entry)))) ⌝ }
 {
     let power = sizes::left(settings, 0);
-    plain_products::product_is(settings.modulus, settings.degree, f, g, power, claim)
+    multiples::product_is(settings.modulus, settings.degree, f, g, power, claim)
 }
 
 // Is the end met, by an element of residues: the bound first, then the equation.

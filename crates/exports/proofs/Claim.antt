@@ -19,8 +19,8 @@ use Rattle.protocol.specs.Tree.{growth, growthLimit}
 use Rattle.protocol.specs.Judge.{slack, scaledCommitment, Opens}
 use Rattle.protocol.specs.Calls as Calls
 use Rattle.protocol.specs.Session.{blank}
-use Rattle.protocol.specs.Demand3.{Step, moves, FullTree}
-use Rattle.protocol.specs.Demand3 as Demand
+use Rattle.one_claim.specs.Demand3.{Step, moves, FullTree}
+use Rattle.one_claim.specs.Demand3 as Demand
 use Rattle.protocol.proofs.Tests.{and-intro, granted-zero}
 use Rattle.protocol.proofs.Inputs.{degree-most}
 use Rattle.protocol.proofs.Reading.{tabulate-at}

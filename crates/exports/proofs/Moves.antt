@@ -16,7 +16,7 @@ use Rattle.protocol.specs.Layout.{polynomialCells, polynomialAt}
 use Rattle.protocol.specs.Opening.{roundElement, messageAfter}
 use Rattle.protocol.specs.Rows.{keyRow, atRows, together, commitments, keysAfter}
 use Rattle.protocol.specs.Session.{part, shut}
-use Rattle.protocol.specs.Demand3.{Step, turns, moves}
+use Rattle.one_claim.specs.Demand3.{Step, turns, moves}
 use Rattle.protocol.proofs.Rows.{interleaved-length, keys-zero}
 use Rattle.claims.proofs.RowLaws.{cells-positive, part-at}
 use Rattle.claims.proofs.Honest.{Given, degree-positive}

@@ -9,8 +9,8 @@ use lib.IntN.{ℤ}
 use Rattle.protocol.specs.declared.Settings.{Settings}
 use Rattle.protocol.specs.Basic.{granted}
 use Rattle.protocol.specs.Calls.{foldKeyExit, foldMessageExit}
-use Rattle.protocol.specs.Text.{linesOf, tablesIn}
-use Rattle.protocol.specs.Demand3.{Step}
+use Rattle.text_format.specs.Text.{linesOf, tablesIn}
+use Rattle.one_claim.specs.Demand3.{Step}
 use Rattle.protocol.proofs.Tests.{granted-refused}
 use Rattle.sessions.specs.Promises.{moveExit}
 use Rattle.text_calls.specs.Promises.{readNumber}

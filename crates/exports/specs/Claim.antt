@@ -33,8 +33,8 @@ use Rattle.protocol.specs.Rows.{keyRow, keysAfter}
 use Rattle.protocol.specs.Tree.{rootVector, growth, growthLimit}
 use Rattle.protocol.specs.Judge.{slack, Opens}
 use Rattle.protocol.specs.Calls.{foldRefusal, foldKeyExit, foldMessageExit}
-use Rattle.protocol.specs.Text.{Tables, linesOf, settingsIn, tablesIn}
-use Rattle.protocol.specs.Demand3.{Step, moves, FullTree, FoldsOf}
+use Rattle.text_format.specs.Text.{Tables, linesOf, settingsIn, tablesIn}
+use Rattle.one_claim.specs.Demand3.{Step, moves, FullTree, FoldsOf}
 use Rattle.slices.specs.Slices.{valuesOf}
 use Rattle.session_records.specs.Records.{recordWidth}
 use Rattle.sessions.specs.Promises.{startNumber, startExit, moveNumber, moveExit, moveVerdict, polynomialFits, roundOn, lastFits, endOn}

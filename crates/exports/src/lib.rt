@@ -10,7 +10,7 @@ ghost use Rattle.protocol.specs.Promises.{Folded};
 ghost use Rattle.slices.specs.Slices.{given};
 ghost use Rattle.sessions.specs.Promises.{StartStored, MoveStored, polynomialFits, lastFits, roundOn, endOn};
 ghost use Rattle.text_parts.specs.Parts.{tablesOf};
-ghost use Rattle.protocol.specs.Programs.{checked, verifyAnswer};
+ghost use Rattle.text_format.specs.Programs.{checked, verifyAnswer};
 ghost use Rattle.text_calls.specs.Promises.{Looked, ReadStored, WroteStored, Verdicts, ProvedStored};
 ghost use Rattle.exports.specs.Promises.{CommitStored, RoundStored, EndStored, OpeningStored, CheckStored, JudgeStored, ExtractStored};
 

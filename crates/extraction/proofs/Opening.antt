@@ -15,7 +15,7 @@ use Rattle.protocol.specs.Judge.{slack, Opens}
 use Rattle.protocol.specs.Calls.{judgeAnswer}
 use Rattle.protocol.specs.Inputs.{Valid, Below, Within}
 use Rattle.protocol.specs.Promises.{Extracted}
-use Rattle.protocol.specs.Demand3.{FullTree, FoldsOf, ExtractionClaim}
+use Rattle.one_claim.specs.Demand3.{FullTree, FoldsOf, ExtractionClaim}
 use Rattle.claims.proofs.Extractor.{extraction-claim}
 use Rattle.refusals.proofs.GivenTree.{extract-given}
 

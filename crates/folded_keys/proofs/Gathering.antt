@@ -12,7 +12,7 @@ use Rattle.protocol.specs.Element.{Element, width, modulo, around, rotate, redu
 use Rattle.residues.proofs.Padding.{padded-at}
 use Rattle.joins.specs.Sums.{room, Halves, Stand}
 use Rattle.joins.proofs.Joining.{halves-lower}
-use Rattle.plain_products.proofs.Standing.{sum-most, flips-size}
+use Rattle.product_sums.proofs.Standing.{sum-most, flips-size}
 use Rattle.folded_keys.specs.Turns.{Summed}
 
 module _ (S : Settings) (key x : List ℕ) (n : ℕ) where

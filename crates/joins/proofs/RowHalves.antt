@@ -15,7 +15,7 @@ use Rattle.rows.proofs.Rows.{row-at, rows-front}
 use Rattle.rows.proofs.Extension.{turned-lt}
 use Rattle.rows.proofs.Terms.{added-residue}
 use Rattle.joins.specs.Sums.{weight, lowerHalf, upperHalf, Halves}
-use Rattle.joins.proofs.Joining.{halves-add, halves-product, halves-same}
+use Rattle.joins.proofs.Joining.{halves-add, halves-product, halves-same, halves-within}
 
 row-adds : (d m at : ℕ) (y : ℕ → ℕ) (r : List ℕ) (k : ℕ) → k < d → getD (addRow d m at y r) k 0 ≡ (getD r k 0 + m * y (at + k) % 2 ^ 64) % 2 ^ 64
 row-adds d m at y r k l = row-at m at y d r k l ∙ sym (Nat.add-mod-mod (getD r k 0) (m * y (at + k)) (2 ^ 64))
@@ -28,21 +28,19 @@ module _ (q c d : ℕ) (p : 0 < q) (most : q ≤ 2 ^ 61) (f : List ℤ) (x : ℕ
   abbrev uppers : ℕ → ℕ
   uppers y = upperHalf (x y)
 
-  row-halves : (z : ℤ) (b n at : ℕ) (s t : List ℕ) → n ≤ m → Halves q z b (getD s k 0) (getD t k 0)
-      → Halves q (z +ℤ pos (n * x (at + k))) (b + m * weight) (getD (addRow (d * c) n at lowers s) k 0) (getD (addRow (d * c) n at uppers t) k 0)
-  row-halves z b n at s t small H = halves-add q p z (pos n *ℤ pos (x (at + k))) b (m * weight) (getD s k 0) (getD t k 0) _ _ (n * lowers (at + k) % 2 ^ 64) (n * uppers (at + k) % 2 ^ 64) H
-      (unfold modulo in halves-product q (pos n) (x (at + k)) m most small (Nat.le-of-lt (below (at + k)))) (row-adds (d * c) n at lowers s k lk) (row-adds (d * c) n at uppers t k lk)
+  row-halves : (z : ℤ) (b v j n at : ℕ) (s t : List ℕ) → n ≤ m → Halves q (z +ℤ pos v) (b + j * (m * weight)) (getD s k 0) (getD t k 0)
+      → Halves q (z +ℤ pos (v + n * x (at + k))) (b + suc j * (m * weight)) (getD (addRow (d * c) n at lowers s) k 0) (getD (addRow (d * c) n at uppers t) k 0)
+  row-halves z b v j n at s t small H =
+      halves-within q _ (b + j * (m * weight) + m * weight) _ _ _ (omega arith)
+      (halves-same q (z +ℤ pos v +ℤ pos n *ℤ pos (x (at + k))) _ _ _ _ (ap (modulo q) (+ℤ-assoc z (pos v) (pos (n * x (at + k)))))
+      (halves-add q p (z +ℤ pos v) (pos n *ℤ pos (x (at + k))) _ (m * weight) (getD s k 0) (getD t k 0) _ _ (n * lowers (at + k) % 2 ^ 64) (n * uppers (at + k) % 2 ^ 64) H
+      (unfold modulo in halves-product q (pos n) (x (at + k)) m most small (Nat.le-of-lt (below (at + k)))) (row-adds (d * c) n at lowers s k lk) (row-adds (d * c) n at uppers t k lk)))
 
   rows-halves : (z : ℤ) (b : ℕ) (s t : List ℕ) → Halves q z b (getD s k 0) (getD t k 0) → (n : ℕ) → ((j : ℕ) → j < n → natAbs (getD f j (pos 0)) ≤ m)
       → Halves q (z +ℤ pos (total n (term c d f x k))) (b + n * (m * weight)) (getD (addRows c d f lowers n s) k 0) (getD (addRows c d f uppers n t) k 0)
   unfolding addRows total term
   rows-halves z b s t H zero small = rw (+ℤ-idr z, Nat.zero-mul (m * weight), Nat.add-zero b) H
-  rows-halves z b s t H (suc n) small =
-      let size = natAbs (getD f n (pos 0)) in
-      let at = start (d * c) (getD f n (pos 0)) (n * c) in
-      let before = rows-halves z b s t H n (λ j l. small j (omega arith)) in
-      let next = row-halves _ _ size at (addRows c d f lowers n s) (addRows c d f uppers n t) (small n (omega arith)) before in
-      rw (Nat.suc-mul n (m * weight), ← Nat.add-assoc b (n * (m * weight)) (m * weight)) (rw (+ℤ-assoc z (pos (total n (term c d f x k))) (pos (size * x (at + k)))) at next)
+  rows-halves z b s t H (suc n) small = row-halves z b _ n _ _ _ _ (small n (omega arith)) (rows-halves z b s t H n (λ j l. small j (omega arith)))
 
 -- the same for an element's own rows, x being where it is prepared: number k of its strand r
 module _ (q c d : ℕ) (p : 0 < q) (most : q ≤ 2 ^ 61) (pd : 0 < d) (a : Element) (f : List ℤ) (m : ℕ) (small : (j : ℕ) → j < d → natAbs (getD f j (pos 0)) ≤ m)

@@ -18,7 +18,7 @@ use Rattle.protocol.proofs.Modulo.{modulo-lt}
 use Rattle.protocol.proofs.Reading.{cell-inside, tabulate-ext}
 use Rattle.protocol.proofs.Agreement.{sum-ext, product-same}
 use Rattle.modular.specs.Factors.{Modulus}
-use Rattle.plain_products.specs.Sums.{Summable}
+use Rattle.product_sums.specs.Sums.{Summable}
 use Rattle.residues.proofs.Fill.{filled, filled-at, filled-length, filled-again, element-done}
 use Rattle.residues.proofs.SignedFill.{signed-zeros-length}
 use Rattle.residues.proofs.Padding.{padded-at}

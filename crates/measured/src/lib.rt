@@ -4,8 +4,8 @@ ghost use lib.ListN.{length};
 ghost use Rattle.protocol.specs.Basic.{Provided};
 ghost use Rattle.protocol.specs.Element.{reduced, signedAt, residueAt};
 ghost use Rattle.protocol.specs.Opening.{inner};
-ghost use Rattle.protocol.specs.Text.{beginsWithNames};
-ghost use Rattle.plain_products.specs.Sums.{Summable};
+ghost use Rattle.product_sums.specs.Sums.{Summable};
+ghost use Rattle.text_format.specs.Text.{beginsWithNames};
 
 // Does a text begin with the names line.
 #[no_mangle]

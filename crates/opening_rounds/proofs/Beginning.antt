@@ -25,7 +25,8 @@ use Rattle.residues.proofs.Fill.{filled-ext, filled-again}
 use Rattle.residues.proofs.Parts.{tail-at, tail-length}
 use Rattle.prover_refusals.proofs.Given.{first-row, commit-given, commit-key}
 use Rattle.sizes.proofs.Limits.{degree-least}
-use Rattle.plain_products.specs.Sums.{sizeOf, messagesOf, keysOf, Given, innerElement, RowsGiven}
+use Rattle.product_sums.specs.Sums.{sizeOf, messagesOf, keysOf, Given, RowsGiven}
+use Rattle.plain_products.specs.Sums.{innerElement}
 use Rattle.plain_products.specs.Rowwise.{rowPlaces}
 use Rattle.plain_products.proofs.Rows.{inner-same}
 use Rattle.round_products.specs.Messages.{Tables}

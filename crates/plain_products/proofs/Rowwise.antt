@@ -12,7 +12,6 @@ use native.Mathlib.Nat as Nat
 use native.Mathlib.Omega.{arith}
 use lib.ListN.{length, getD, take, drop, length-append, length-drop, take-append-drop}
 use lib.Seq.{length-take-le}
-use Rattle.protocol.specs.Basic.{tabulate}
 use Rattle.protocol.proofs.Reading.{cell-element, cell-place, tabulate-own}
 use Rattle.residues.specs.Lists.{filled, spliced}
 use Rattle.residues.proofs.Parts.{tail-all, tail-length}

@@ -10,8 +10,8 @@ use Rattle.protocol.specs.Element.{plus, product, signed, residue}
 use Rattle.protocol.specs.Opening.{inner}
 use Rattle.half_sums.specs.Halves.{messageSums, keySums, Halves, HalfSums}
 use Rattle.half_sums.proofs.Elements.{sums-small, sums-below}
-use Rattle.plain_products.specs.Sums.{Stands, Columned}
-use Rattle.plain_products.proofs.Standing.{stands-more}
+use Rattle.product_sums.specs.Sums.{Stands, Columned}
+use Rattle.product_sums.proofs.Standing.{stands-more}
 
 module _ (q d h i : ℕ) (f : List ℤ) (g : List ℕ) (z : Halves q d h f g) (inside : i < h) (m : List ℤ) (k : List ℕ) (is : HalfSums q d h f g i m k) where
   pub sums-columned : d ≤ length m → d ≤ length k → Columned q d (2 ^ 16) m k

@@ -1,6 +1,6 @@
 // Sums of products at degree 4, where rows are not worth preparing, of one row of a key and for a modulus of 32 bits. That the degree stands here as a number lets the
 // compiler unroll it.
-use crate::Sum;
+use product_sums::Sum;
 use protocol::Residue;
 ghost use mathlib.Core.Path.{_≡_};
 ghost use mathlib.Core.List.{List};
@@ -10,7 +10,8 @@ ghost use Rattle.protocol.specs.Basic.{Provided};
 ghost use Rattle.protocol.specs.Element.{signedAt, residueAt};
 ghost use Rattle.protocol.specs.Opening.{inner};
 ghost use Rattle.half_sums.specs.Halves.{messageSums, keySums, sizeOf, messagesOf, keysOf, Elements, Halves};
-ghost use Rattle.plain_products.specs.Sums.{Stands, Summed, Summable, Given, Zero};
+ghost use Rattle.product_sums.specs.Sums.{Stands, Summable, Given, Zero};
+ghost use Rattle.plain_products.specs.Sums.{Summed};
 
 // Adds the products of the first n elements of two tables.
 pub(crate) fn add_elements(n: u32, f: &[i32], g: &[Residue], s: &mut [Sum])

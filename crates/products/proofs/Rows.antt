@@ -19,7 +19,8 @@ use Rattle.half_sums.specs.Halves.{keySumAt, sizeOf, keysOf}
 use Rattle.batches.specs.Batches.{Suits, most, MessageGiven, KeyGiven}
 use Rattle.batches.proofs.Batching.{suits-width}
 use Rattle.strands.proofs.Weaving.{keys-alike}
-use Rattle.plain_products.specs.Sums.{Given, innerElement}
+use Rattle.product_sums.specs.Sums.{Given}
+use Rattle.plain_products.specs.Sums.{innerElement}
 use Rattle.plain_products.specs.Rowwise.{elementPlaces, rowPlaces}
 use Rattle.plain_products.proofs.Rowwise.{row-turn}
 use Rattle.plain_products.proofs.Rows.{inner-same}

@@ -13,7 +13,8 @@ ghost use Rattle.protocol.specs.Element.{reduced, padded, signedAt, residueAt};
 ghost use Rattle.protocol.specs.Opening as opening;
 ghost use Rattle.half_sums.specs.Halves.{messagesOf};
 ghost use Rattle.batches.specs.Batches.{Zero, Suits, Ready};
-ghost use Rattle.plain_products.specs.Sums.{Summable, RowsGiven, RowsWritten};
+ghost use Rattle.product_sums.specs.Sums.{Summable, RowsGiven};
+ghost use Rattle.plain_products.specs.Sums.{RowsWritten};
 
 // Room for a table of 256 elements, of the largest degree, and for a short one. The four numbers more, which nothing reads, are eight bytes: with them the rooms that share
 // its place on the stack begin at a multiple of sixteen, where a row of four strands takes a fifth less time.

@@ -1,44 +1,21 @@
 -- Answers that are enums, by the numbers and values that PROTOCOL gives them.
 --
---   number-given, line-given          the number reader's answer, and the line reader's
 --   session-round-number, session-end-number         the verdict of a session's round, and of its end
 --   check-number, opening-number      the verdict of a transcript, and of a whole opening
---   verify-given                      the answer of `verify`
 use mathlib.Core.Path.{_≡_, refl}
 use mathlib.Core.Bool.{Bool, true, false}
 use mathlib.Core.List.{List}
-use mathlib.Core.Option.{Option, none, some}
 use Prim.Native.Nat.{ℕ, zero, suc}
 use lib.IntN.{ℤ}
 use Rattle.protocol.specs.declared.Settings.{Settings}
 use Rattle.protocol.specs.declared.Session.{Session}
 use Rattle.protocol.specs.declared.Moved.{Moved}
-use Rattle.protocol.specs.declared.Checked.{Checked}
 use Rattle.protocol.specs.declared.Verdict.the-variants.{Silent, Holds, Rejected}
-use Rattle.protocol.specs.declared.Verified.the-variants as Verify
 use Rattle.protocol.specs.Basic.{choose, granted}
 use Rattle.protocol.specs.Session.{verdict, verdictNumber, roundNumber, endNumber, advanced, shut, refusedMove, round, sessionRoundRefusal, sessionRoundHolds, sessionRoundNumber}
 use Rattle.protocol.specs.Session.{end, sessionEndRefusal, sessionEndHolds, sessionEndNumber}
 use Rattle.protocol.specs.Rows.{together, transcriptsOf, allAccepted}
 use Rattle.protocol.specs.Calls.{openingRefusal, openingAnswer, openingNumber, checkRefusal, checkAnswer, checkNumber}
-use Rattle.protocol.specs.Text.{Line, linesOf, settingsIn, tablesIn, reading, numberAnswer}
-use Rattle.protocol.specs.Lines.{givenNumber, lineReading, givenLine, lineAnswer}
-use Rattle.protocol.specs.Programs.{tablesAccepted, verifyRefusal, verifyAnswer, checked, verifyGives}
-
--- ---- the readers
-
-module _ (text : List ℕ) where
-  pub number-given : (o : Option (ℤ × List ℕ)) → reading (numberAnswer text o) ≡ givenNumber text o
-  unfolding reading numberAnswer givenNumber
-  number-given none = refl
-  number-given (some (value, rest)) = refl
-
-  pub line-given : (o : Option (Line × List ℕ)) → lineReading (lineAnswer text o) ≡ givenLine text o
-  unfolding lineReading lineAnswer givenLine
-  line-given none = refl
-  line-given (some (l, rest)) = refl
-
--- ---- verdicts
 
 -- a round's, by its refusal and whether it holds
 abbrev held : Session → Moved
@@ -81,16 +58,3 @@ opening-number S key message E rounds = end-says (openingRefusal S key message E
 pub check-number : (S : Settings) (C : List ℕ) (f : List ℤ) (key rounds E : List ℕ) → verdictNumber (checkAnswer S C f key rounds E .verdict) ≡ checkNumber S C f key rounds E
 unfolding checkAnswer checkNumber
 check-number S C f key rounds E = end-says (checkRefusal S C key rounds E) (allAccepted S key (record { commitment = together S C; rounds = rounds; challenges = E; last = f }))
-
--- ---- `verify`
-
-verify-says : (n : ℕ) (b : Bool) →
-    _≡_ {A = Checked} (checked (granted n (choose b Verify.Accepted Verify.Rejected) (Verify.Refused n))) (record { refusal = n; verdict = granted n (verdict b) Silent })
-unfolding checked granted choose verdict
-verify-says zero true = refl
-verify-says zero false = refl
-verify-says (suc n) b = refl
-
-pub verify-given : (text : List ℕ) → checked (verifyAnswer text) ≡ verifyGives text
-unfolding verifyAnswer verifyGives
-verify-given text = verify-says (verifyRefusal text) (tablesAccepted (settingsIn (linesOf text)) (tablesIn (linesOf text)))

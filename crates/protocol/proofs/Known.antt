@@ -63,6 +63,8 @@ examples =
     ∷ record { given = honestFinals S₁ (0 ∷ 1 ∷ 2 ∷ []) message₁; wanted = leaves₁ }
     -- PROTOCOL 12.3: w, as the root vector, and as what the call leaves
     ∷ record { given = rootVector S₁ (0 ∷ 1 ∷ 2 ∷ []) leaves₁; wanted = pos 4 ∷ negsuc 3 ∷ pos 4 ∷ pos 0 ∷ [] }
+    -- the same w from the folds by 0, 1 and 3, where no child's weight is zero (of 0, 1 and 2 the second's is)
+    ∷ record { given = rootVector S₁ (0 ∷ 1 ∷ 3 ∷ []) (pos 2 ∷ negsuc 0 ∷ pos 1 ∷ pos 0 ∷ pos 1 ∷ negsuc 1 ∷ []); wanted = pos 4 ∷ negsuc 3 ∷ pos 4 ∷ pos 0 ∷ [] }
     ∷ record { given = extractExit S₁ commitment₁ key₁ (T₁ .rounds) (0 ∷ 1 ∷ 2 ∷ []) leaves₁ w₁; wanted = pos 4 ∷ negsuc 3 ∷ pos 4 ∷ pos 0 ∷ [] }
     ∷ record { given = pos (extractRefusal S₁ commitment₁ key₁ (T₁ .rounds) (0 ∷ 1 ∷ 2 ∷ []) leaves₁ w₁) ∷ []; wanted = pos 0 ∷ [] }
     -- PROTOCOL 12.5: depth 0

@@ -15,13 +15,5 @@ pub mod CommonDivisor
 pub mod Judge
 pub mod Calls
 pub mod Inputs
-pub mod Text
-pub mod Lines
-pub mod Programs
-pub mod RoundTrip
 pub mod Promises
-pub mod Demand3
-pub mod Performed
 pub mod HonestTree
-pub mod ProveVerify
-pub mod Weights

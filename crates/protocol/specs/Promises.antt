@@ -4,21 +4,14 @@
 --   Folded       3 the fold of both tables
 --   Opening      5 the whole opening
 --   Extracted    the extractor
---   Read, Wrote  the table reader and the table writer
---   Proved       the program `prove` as a call on text
 use mathlib.Core.Path.{_≡_}
 use mathlib.Core.List.{List}
 use Prim.Native.Nat.{ℕ}
 use lib.IntN.{ℤ}
 use Rattle.protocol.specs.declared.Settings.{Settings}
-use Rattle.protocol.specs.declared.Parts.{Parts}
 use Rattle.protocol.specs.declared.Opened.{Opened}
-use Rattle.protocol.specs.declared.Loaded.{Loaded}
-use Rattle.protocol.specs.declared.Written.{Written}
 use Rattle.protocol.specs.Session.{verdictNumber}
 use Rattle.protocol.specs.Calls.{foldRefusal, foldKeyExit, foldMessageExit, openingAnswer, openingNumber, openingKeyExit, openingMessageExit, openingRoundsExit, extractRefusal, extractExit}
-use Rattle.protocol.specs.Text.{Tables, readAnswer, readExit, writeAnswer, writeExit}
-use Rattle.protocol.specs.Programs.{proveAnswer, proveExit}
 
 pub record Folded (S : Settings) (t e : ℕ) (key : List ℕ) (message : List ℤ) (r : ℕ) (key′ : List ℕ) (message′ : List ℤ) : Type 0 where
   pub refusal : r ≡ foldRefusal S t e key message
@@ -35,16 +28,3 @@ pub record Opening (S : Settings) (key : List ℕ) (message : List ℤ) (E round
 pub record Extracted (S : Settings) (C key rounds E : List ℕ) (finals w : List ℤ) (r : ℕ) (w′ : List ℤ) : Type 0 where
   pub refusal : r ≡ extractRefusal S C key rounds E finals w
   pub w-exit : w′ ≡ extractExit S C key rounds E finals w
-
--- t holds the seven tables at entry, t′ at exit
-pub record Read (P : Parts) (text : List ℕ) (t : Tables) (r : Loaded) (t′ : Tables) : Type 0 where
-  pub answer : r ≡ readAnswer P text t
-  pub tables-exit : t′ ≡ readExit P text t
-
-pub record Wrote (S : Settings) (P : Parts) (t : Tables) (out : List ℕ) (r : Written) (out′ : List ℕ) : Type 0 where
-  pub answer : r ≡ writeAnswer S P t out
-  pub out-exit : out′ ≡ writeExit S P t out
-
-pub record Proved (text out : List ℕ) (r : Written) (out′ : List ℕ) : Type 0 where
-  pub answer : r ≡ proveAnswer text out
-  pub out-exit : out′ ≡ proveExit text out

@@ -12,13 +12,6 @@ pub const ROWS_WIDTH: usize = ROWS * WIDTH;
 // How many challenges a record holds, one for each round that there can be: `slots` of the definitions.
 pub const SLOTS: usize = 8;
 
-// The longest text, and the largest magnitude of a value and of every other number in it: `textLimit`, `valueLimit` and `narrowLimit` of the definitions.
-pub const TEXT_LIMIT: usize = 65536;
-
-pub const VALUE_LIMIT: u64 = 2305843009213693951;
-
-pub const NARROW_LIMIT: u32 = 2147483647;
-
 // The residues of a key, a commitment, a round polynomial or a claim.
 pub type Residue = u64;
 

@@ -26,8 +26,8 @@ use Rattle.protocol.specs.Rows.{keyRow, atRows, together, rowOf, roundTables, t
 use Rattle.protocol.specs.WrittenClaims.{claimOf, claimTable}
 use Rattle.protocol.specs.Layout.{itemCells, roundCells, claimCells}
 use Rattle.protocol.specs.Settings.{allBelow}
-use Rattle.protocol.specs.Text.{Tables, shape, shapes, shapeSize, fits, textOf}
-use Rattle.protocol.specs.Programs.{provePrints, printed}
+use Rattle.text_format.specs.Text.{Tables, shape, shapes, shapeSize, fits, textOf}
+use Rattle.text_format.specs.Programs.{provePrints, printed}
 use Rattle.protocol.specs.Inputs.{Below}
 use Rattle.claims.proofs.Honest.{Given, degree-positive, modulus-positive}
 use Rattle.claims.proofs.RowLaws.{commitments-together, commitments-below, tables-below}

@@ -10,9 +10,9 @@ use native.Mathlib.Omega.{arith}
 use lib.ListN.{length, take, drop, length-append}
 use lib.Seq.{take-append-seam}
 use Rattle.protocol.specs.declared.Written.{Written}
-use Rattle.protocol.specs.Text.{textLimit, written, overwritten}
-use Rattle.protocol.specs.Programs.{proveText, proveRefusal, proveAnswer, proveExit, refusedLine, proveOutput}
-use Rattle.protocol.specs.Promises.{Proved}
+use Rattle.text_format.specs.Text.{textLimit, written, overwritten}
+use Rattle.text_format.specs.Programs.{proveText, proveRefusal, proveAnswer, proveExit, refusedLine, proveOutput}
+use Rattle.text_format.specs.Promises.{Proved}
 use Rattle.protocol.proofs.Tests.{granted-zero, granted-refused}
 
 module _ (text out out′ : List ℕ) (r : Written) (p : Proved text out r out′) (long : length out ≡ textLimit) where

@@ -19,7 +19,7 @@ use Rattle.protocol.specs.declared.Written.{Written}
 use Rattle.protocol.specs.Basic.{choose, granted}
 use Rattle.protocol.specs.Layout.{keyCells, roundCells}
 use Rattle.protocol.specs.Settings.{settingsRefusal, cells, hasLength, allBelow, exponent, exponents}
-use Rattle.protocol.specs.Text.{
+use Rattle.text_format.specs.Text.{
   Tables,
   shape,
   shapes,
@@ -38,8 +38,8 @@ use Rattle.protocol.specs.Text.{
   written,
   overwritten,
 }
-use Rattle.protocol.specs.Programs.{proveReads, proofText, proveText, proveRefusal, proveAnswer, proveExit}
-use Rattle.protocol.specs.Promises.{Proved}
+use Rattle.text_format.specs.Programs.{proveReads, proofText, proveText, proveRefusal, proveAnswer, proveExit}
+use Rattle.text_format.specs.Promises.{Proved}
 use Rattle.protocol.proofs.Tests.{and-split, first-zero, unless-zero}
 use Rattle.protocol.proofs.Refusals.{first-stops, first-passes, first-only}
 use Rattle.protocol.proofs.Inputs.{settings-valid, tested-below, tested-within}

@@ -16,8 +16,8 @@ use Rattle.protocol.specs.Layout.{keyCells, roundCells, exponentCount}
 use Rattle.protocol.specs.Settings.{cells}
 use Rattle.protocol.specs.Inputs.{Valid, Below, Within}
 use Rattle.protocol.specs.Rows.{transcriptsOf}
-use Rattle.protocol.specs.Text.{textOf, wanted, linesOf, spotsOf, sameSpots, settingsIn, lookRefusal}
-use Rattle.protocol.specs.Programs.{proveReads, provePrints, printed}
+use Rattle.text_format.specs.Text.{textOf, wanted, linesOf, spotsOf, sameSpots, settingsIn, lookRefusal}
+use Rattle.text_format.specs.Programs.{proveReads, provePrints, printed}
 use Rattle.table_writer.specs.Tables.{Output}
 
 pub record Openable (S : Settings) (G : List ℕ) (M : List ℤ) (E rounds : List ℕ) : Type 0 where

@@ -24,7 +24,8 @@ use Rattle.residues.specs.Lists.{filled}
 use Rattle.residues.proofs.Fill.{zeros-length, filled-at}
 use Rattle.sizes.proofs.Limits.{degree-most}
 use Rattle.prover_refusals.proofs.Given.{first-row, commit-given, commit-key}
-use Rattle.plain_products.specs.Sums.{sizeOf, messagesOf, keysOf, Given, innerElement, RowsGiven}
+use Rattle.product_sums.specs.Sums.{sizeOf, messagesOf, keysOf, Given, RowsGiven}
+use Rattle.plain_products.specs.Sums.{innerElement}
 use Rattle.plain_products.specs.Rowwise.{rowPlaces}
 use Rattle.round_products.specs.Items.{roundItem, Sent}
 use Rattle.round_products.proofs.Products.{summable, left-whole, commit-tables}

@@ -21,7 +21,7 @@ use Rattle.protocol.specs.Rows.{keyRow}
 use Rattle.protocol.specs.Tree.{rowPath, challenge, apart, growth, growthLimit, growthAllowed}
 use Rattle.protocol.specs.Calls.{everyPath, treeTests, treeRefusal, extractRefusal}
 use Rattle.protocol.specs.Inputs.{Valid, Below}
-use Rattle.protocol.specs.Demand3.{FullTree}
+use Rattle.one_claim.specs.Demand3.{FullTree}
 use Rattle.protocol.proofs.Tests.{and-split, every-at}
 use Rattle.protocol.proofs.Inputs.{settings-valid, tested-below}
 use Rattle.protocol.proofs.Refusals.{front-joined, tested-passed, none-refused}

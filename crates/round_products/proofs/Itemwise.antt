@@ -24,7 +24,8 @@ use Rattle.residues.specs.Lists.{filled}
 use Rattle.residues.proofs.Fill.{filled-at, filled-ext, filled-again}
 use Rattle.prover_refusals.proofs.Given.{RoundGiven, first-row, round-given, round-key}
 use Rattle.sizes.proofs.Limits.{degree-least}
-use Rattle.plain_products.specs.Sums.{sizeOf, messageSums, keySums, messagesOf, keysOf, Given, innerElement}
+use Rattle.product_sums.specs.Sums.{sizeOf, messageSums, keySums, messagesOf, keysOf, Given}
+use Rattle.plain_products.specs.Sums.{innerElement}
 use Rattle.plain_products.specs.Rowwise.{rowPlaces}
 use Rattle.round_products.specs.Messages.{Halved}
 use Rattle.round_products.specs.Sums.{half, Halvables, lessBoth, innerOfSums}

@@ -14,7 +14,7 @@ use Rattle.protocol.specs.Element.{Element, width, modulo, plus, signedAt, resi
 use Rattle.protocol.specs.Opening.{inner, second, cross}
 use Rattle.protocol.proofs.Modulo.{modulo-lt, modulo-residue, modulo-add}
 use Rattle.claims.proofs.Readings.{readℤ-inj, readq-ext, readq-inj, read-plus, read-inner}
-use Rattle.plain_products.specs.Sums.{messageSums, keySumAt, keySums, Halves}
+use Rattle.product_sums.specs.Sums.{messageSums, keySumAt, keySums, Halves}
 use Rattle.round_products.specs.Messages.{Halved}
 use Rattle.round_products.specs.Sums.{lessBoth, innerOfSums}
 

@@ -15,7 +15,7 @@ use Rattle.protocol.specs.Opening.{inner, second, cross, left}
 use Rattle.protocol.specs.Inputs.{Valid}
 use Rattle.protocol.proofs.Agreement.{Same}
 use Rattle.sizes.proofs.Limits.{degree-least, degree-most}
-use Rattle.plain_products.specs.Sums.{Summable}
+use Rattle.product_sums.specs.Sums.{Summable}
 use Rattle.plain_products.proofs.Rows.{inner-same}
 use Rattle.residues.proofs.Parts.{tail-all}
 use Rattle.prover_refusals.proofs.Given.{CommitGiven}

@@ -24,7 +24,7 @@ use Rattle.residues.specs.Lists.{filled}
 use Rattle.residues.proofs.Fill.{filled-none}
 use Rattle.residues.proofs.Parts.{tail-at, tail-length}
 use Rattle.plain_products.specs.Rowwise.{rowPlaces}
-use Rattle.plain_products.specs.Sums.{sizeOf, Given}
+use Rattle.product_sums.specs.Sums.{sizeOf, Given}
 use Rattle.round_products.specs.Items.{ItemsGiven}
 
 -- a table from place s on, as the code lends it

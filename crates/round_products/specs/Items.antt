@@ -16,7 +16,7 @@ use Rattle.protocol.specs.Layout.{itemCells}
 use Rattle.protocol.specs.Opening.{inner, roundElement}
 use Rattle.protocol.specs.Rows.{keyRow}
 use Rattle.residues.specs.Lists.{filled}
-use Rattle.plain_products.specs.Sums.{messagesOf, keysOf, RowsGiven}
+use Rattle.product_sums.specs.Sums.{messagesOf, keysOf, RowsGiven}
 use Rattle.plain_products.specs.Rowwise.{rowPlaces}
 
 abbrev pub innerItem : Bool → Settings → ℕ → ℕ → List ℤ → (ℕ → List ℕ) → ℕ → List ℕ

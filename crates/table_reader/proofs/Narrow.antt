@@ -17,9 +17,9 @@ use mir.Syntax.{w32}
 use mir.Val.{SFits, toZ, ofZ}
 use mir.Facts.{toZ-ofZ}
 use Rattle.protocol.specs.Basic.{all, among, within, choose}
-use Rattle.protocol.specs.Text.{narrowLimit, limitOf, linesOf, unsigned, column, tablesIn}
+use Rattle.text_format.specs.Text.{narrowLimit, limitOf, linesOf, unsigned, column, tablesIn}
 use Rattle.protocol.proofs.Tests.{and-split, same-test}
-use Rattle.protocol.proofs.TextLimits.{lines-read-limited, column-limited}
+use Rattle.text_format.proofs.TextLimits.{lines-read-limited, column-limited}
 use Rattle.text_parts.specs.Parts.{tablesOf}
 use Rattle.table_reader.specs.Cut.{narrowed, narrowTables}
 

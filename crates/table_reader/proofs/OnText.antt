@@ -17,9 +17,9 @@ use Rattle.protocol.specs.declared.Parts.{Parts}
 use Rattle.protocol.specs.declared.Loaded.{Loaded}
 use Rattle.protocol.specs.Basic.{first, unless}
 use Rattle.protocol.specs.Settings.{settingsRefusal}
-use Rattle.protocol.specs.Text.{spotsOf, sameSpots, wanted}
-use Rattle.protocol.specs.Text.{Tables, fits, linesOf, settingsIn, tablesIn, lookRefusal, loaded, lookAnswer, entriesRefusal, textRefusal, readRefusal, readAnswer, readExit}
-use Rattle.protocol.specs.Promises.{Read}
+use Rattle.text_format.specs.Text.{spotsOf, sameSpots, wanted}
+use Rattle.text_format.specs.Text.{Tables, fits, linesOf, settingsIn, tablesIn, lookRefusal, loaded, lookAnswer, entriesRefusal, textRefusal, readRefusal, readAnswer, readExit}
+use Rattle.text_format.specs.Promises.{Read}
 use Rattle.protocol.proofs.Tests.{and-split, first-zero, unless-zero, granted-zero}
 use Rattle.protocol.proofs.Refusals.{first-stops}
 use Rattle.text_parts.specs.Parts.{lengthsOf, lengthsFit}

@@ -12,7 +12,7 @@ use lib.IntN.{ℤ}
 use Rattle.protocol.specs.declared.Settings.{Settings}
 use Rattle.protocol.specs.Basic.{choose, every, first, unless}
 use Rattle.protocol.specs.Settings.{allBelow, allWithin, exponents}
-use Rattle.protocol.specs.Text.{valueLimit, narrowLimit, unsigned, entriesRefusal}
+use Rattle.text_format.specs.Text.{valueLimit, narrowLimit, unsigned, entriesRefusal}
 use Rattle.text_parts.specs.Parts.{testedBy}
 use Rattle.text_parts.proofs.Exactly.{and-assoc}
 use Rattle.table_reader.specs.Cut.{cutTables, tests, passes, allPass}

@@ -20,12 +20,12 @@ use Rattle.protocol.specs.declared.Parts.{Parts}
 use Rattle.protocol.specs.declared.Loaded.{Loaded}
 use Rattle.protocol.specs.Basic.{first, unless}
 use Rattle.protocol.specs.Settings.{settingsRefusal}
-use Rattle.protocol.specs.Text.{Line, Shape, Tables, valueLimit, narrowLimit, shape, settingsShape, shapes, shapeSize, wanted, linesOf, unsigned, unsignedColumn, settingsIn, tablesIn, noSettings}
-use Rattle.protocol.specs.Text.{lookRefusal, loaded, entriesRefusal, textRefusal, readRefusal, readAnswer, readExit}
-use Rattle.protocol.specs.Promises.{Read}
+use Rattle.text_format.specs.Text.{Line, Shape, Tables, valueLimit, narrowLimit, shape, settingsShape, shapes, shapeSize, wanted, linesOf, unsigned, unsignedColumn, settingsIn, tablesIn, noSettings}
+use Rattle.text_format.specs.Text.{lookRefusal, loaded, entriesRefusal, textRefusal, readRefusal, readAnswer, readExit}
+use Rattle.text_format.specs.Promises.{Read}
 use Rattle.protocol.proofs.Tests.{and-split, every-at, first-zero, unless-zero, granted-zero, granted-refused}
 use Rattle.protocol.proofs.Refusals.{front-stops, front-passes, first-only}
-use Rattle.protocol.proofs.TableLaws.{Rising, Fit, parts, columns, read-fit}
+use Rattle.text_format.proofs.TableLaws.{Rising, Fit, parts, columns, read-fit}
 use Rattle.text_parts.specs.Parts.{tablesOf, tableCount, partShape, lengthsOf, lengthsAre, lengthsFit}
 use Rattle.text_parts.proofs.Exactly.{lengths-fit}
 use Rattle.text_values.specs.Stored.{tableParts, columnsIn, inOrder, linesRefusal, First, Gathered}

@@ -14,7 +14,7 @@ use lib.IntN.{ℤ, pos}
 use Rattle.protocol.specs.declared.Settings.{Settings}
 use Rattle.protocol.specs.Basic.{within, choose, every}
 use Rattle.protocol.specs.Settings.{allBelow, exponents, allWithin}
-use Rattle.protocol.specs.Text.{Tables, valueLimit, narrowLimit, unsigned}
+use Rattle.text_format.specs.Text.{Tables, valueLimit, narrowLimit, unsigned}
 use Rattle.text_parts.specs.Parts.{tableCount, testedBy}
 use Rattle.text_parts.specs.Flat.{piece}
 

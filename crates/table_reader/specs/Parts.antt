@@ -6,7 +6,7 @@ use mathlib.Core.Bool.{true}
 use mathlib.Core.List.{List}
 use Prim.Native.Nat.{ℕ}
 use Rattle.protocol.specs.declared.Parts.{Parts}
-use Rattle.protocol.specs.Text.{Tables, wanted, fits, linesOf, spotsOf, sameSpots, settingsIn, lookRefusal}
+use Rattle.text_format.specs.Text.{Tables, wanted, fits, linesOf, spotsOf, sameSpots, settingsIn, lookRefusal}
 
 abbrev pub Lent : Parts → List ℕ → Tables → Type 0
 Lent P text t =

@@ -12,7 +12,7 @@ ghost use lib.Dec.{ltb};
 ghost use lib.ListN.{length};
 ghost use Rattle.protocol.specs.Basic.{all, Provided};
 ghost use Rattle.protocol.specs.Settings.{settingsRefusal};
-ghost use Rattle.protocol.specs.Text.{valueLimit, unsigned, entriesRefusal};
+ghost use Rattle.text_format.specs.Text.{valueLimit, unsigned, entriesRefusal};
 ghost use Rattle.text_parts.specs.Flat.{total};
 ghost use Rattle.table_reader.specs.Cut.{cutTables, passes, allPass};
 

@@ -11,7 +11,7 @@ use text_parts::VALUES;
 ghost use mathlib.Core.Path.{_≡_};
 ghost use lib.ListN.{length};
 ghost use Rattle.protocol.specs.Basic.{Provided};
-ghost use Rattle.protocol.specs.Promises.{Read};
+ghost use Rattle.text_format.specs.Promises.{Read};
 ghost use Rattle.text_parts.specs.Parts.{tablesOf, lentCells};
 ghost use Rattle.text_lines.specs.Header.{Begins};
 ghost use Rattle.text_values.specs.Parts.{Roomy};

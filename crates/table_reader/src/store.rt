@@ -1,12 +1,12 @@
 // Values of a text, stored in the tables that are lent for them.
-use protocol::NARROW_LIMIT;
 use protocol::Residue;
 use ranges::tests::magnitude_wide;
+use text_format::NARROW_LIMIT;
 ghost use mathlib.Core.Path.{_≡_};
 ghost use Prim.Native.Nat.{_+_, _≤_};
 ghost use lib.ListN.{length};
 ghost use mathlib.Core.List.{map};
-ghost use Rattle.protocol.specs.Text.{valueLimit, narrowLimit, unsigned as unsignedOf};
+ghost use Rattle.text_format.specs.Text.{valueLimit, narrowLimit, unsigned as unsignedOf};
 ghost use Rattle.text_parts.specs.Parts.{tablesOf, lengthsOf};
 ghost use Rattle.text_parts.specs.Flat.{cut, total};
 ghost use Rattle.table_reader.specs.Cut.{cutTables, narrowed, narrowTables};

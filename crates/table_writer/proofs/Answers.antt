@@ -18,8 +18,8 @@ use Rattle.protocol.specs.declared.Parts.{Parts}
 use Rattle.protocol.specs.declared.Written.{Written}
 use Rattle.protocol.specs.Basic.{all, within, granted}
 use Rattle.protocol.specs.Settings.{allBelow}
-use Rattle.protocol.specs.Text.{Tables, textLimit, narrowLimit, textOf, entriesRefusal, outputRefusal, writeRefusal, written, overwritten, writeAnswer, writeExit}
-use Rattle.protocol.specs.Promises.{Wrote}
+use Rattle.text_format.specs.Text.{Tables, textLimit, narrowLimit, textOf, entriesRefusal, outputRefusal, writeRefusal, written, overwritten, writeAnswer, writeExit}
+use Rattle.text_format.specs.Promises.{Wrote}
 use Rattle.protocol.proofs.Tests.{first-nothing, first-zero, unless-zero}
 use Rattle.protocol.proofs.Refusals.{first-only, first-fails, first-holds, front-stops, front-passes}
 use Rattle.table_writer.specs.Tables.{tablesRefusal, Writable, Output}

@@ -16,9 +16,9 @@ use native.Mathlib.Nat as Nat
 use borrow.Author.Tests.{le-ltb}
 use lib.Dec.{ltb}
 use lib.ListN.{length, take, drop, set, length-append}
-use Rattle.protocol.specs.Text.{digitCount, lowDigits, decimal}
+use Rattle.text_format.specs.Text.{digitCount, lowDigits, decimal}
 use Rattle.protocol.proofs.Tests.{least-first, least-is}
-use Rattle.protocol.proofs.NumeralLaws.{decimal-length}
+use Rattle.text_format.proofs.NumeralLaws.{decimal-length}
 use Rattle.table_writer.specs.Put.{field}
 use Rattle.table_writer.proofs.Puts.{drop-set-here}
 

@@ -11,9 +11,9 @@ use borrow.Author.Tests.{leb-true}
 use lib.ListN.{length, getD, length-append, length-map}
 use Rattle.protocol.specs.declared.Settings.{Settings}
 use Rattle.protocol.specs.declared.Parts.{Parts}
-use Rattle.protocol.specs.Text.{Line, Shape, names, textLimit, shapes, shapeSize, settingsShape, spots, wanted, linesText, parsed, linesOf, spotsOf, sameSpots, settingsIn, lookRefusal}
-use Rattle.protocol.proofs.ColumnLaws.{sameSpots-eq}
-use Rattle.protocol.proofs.LineLaws.{parsed-text}
+use Rattle.text_format.specs.Text.{Line, Shape, names, textLimit, shapes, shapeSize, settingsShape, spots, wanted, linesText, parsed, linesOf, spotsOf, sameSpots, settingsIn, lookRefusal}
+use Rattle.text_format.proofs.ColumnLaws.{sameSpots-eq}
+use Rattle.text_format.proofs.LineLaws.{parsed-text}
 use Rattle.protocol.proofs.Tests.{first-zero, unless-zero}
 use Rattle.text_parts.specs.Parts.{tableCount, partShape, cellsRoom}
 use Rattle.text_parts.proofs.Cells.{spots-count}

@@ -16,8 +16,8 @@ use lib.Signed.{ltZ}
 use mir.Syntax.{w64}
 use mir.Val.{SFits, ofZ, toZ}
 use mir.Facts.{toZ-ofZ}
-use Rattle.protocol.specs.Text.{Line, space, lineFeed, minus, digitCount, decimal, numeral, lineText}
-use Rattle.protocol.proofs.NumeralLaws.{decimal-length}
+use Rattle.text_format.specs.Text.{Line, space, lineFeed, minus, digitCount, decimal, numeral, lineText}
+use Rattle.text_format.proofs.NumeralLaws.{decimal-length}
 use Rattle.text_parts.specs.declared.Cell.{Cell}
 use Rattle.table_writer.specs.Put.{fieldRoom, spotRoom, lineRoom, field, spotText, lineAt}
 use Rattle.table_writer.proofs.Digits.{digits-most, field-length}

@@ -12,9 +12,9 @@ use native.Mathlib.Numerals.{add-one}
 use lib.ListN.{length, getD, take, drop, length-append, take-append-drop}
 use lib.Seq.{take-suc, take-all}
 use lib.IntN.{ℤ, pos}
-use Rattle.protocol.specs.Text.{Line, Shape, textLimit, lineText, linesText, shapeSize, spotAt, block, blockLines}
+use Rattle.text_format.specs.Text.{Line, Shape, textLimit, lineText, linesText, shapeSize, spotAt, block, blockLines}
 use Rattle.protocol.proofs.Reading.{tabulate-length, tabulate-at}
-use Rattle.protocol.proofs.LineLaws.{lines-append}
+use Rattle.text_format.proofs.LineLaws.{lines-append}
 use Rattle.text_parts.specs.declared.Cell.{Cell}
 use Rattle.text_parts.specs.Parts.{cellAt}
 use Rattle.table_writer.specs.Put.{Put, lineAt, partText, Held, Adds}

@@ -19,10 +19,10 @@ use Rattle.protocol.specs.declared.Settings.{Settings}
 use Rattle.protocol.specs.declared.Parts.{Parts}
 use Rattle.protocol.specs.Basic.{all}
 use Rattle.protocol.specs.Settings.{allBelow}
-use Rattle.protocol.specs.Text.{Line, Shape, Tables, textLimit, valueLimit, names, settingsShape, shapes, shapeSize, settingsValues, contents, lineText, linesText, block, blocks, blockLines, textOf}
+use Rattle.text_format.specs.Text.{Line, Shape, Tables, textLimit, valueLimit, names, settingsShape, shapes, shapeSize, settingsValues, contents, lineText, linesText, block, blocks, blockLines, textOf}
 use Rattle.protocol.proofs.Tests.{every-at, and-split}
-use Rattle.protocol.proofs.TextLimits.{allowed, below-limited}
-use Rattle.protocol.proofs.LineLaws.{lines-append}
+use Rattle.text_format.proofs.TextLimits.{allowed, below-limited}
+use Rattle.text_format.proofs.LineLaws.{lines-append}
 use Rattle.text_parts.specs.Parts.{tableCount, valuesRoom, partShape, partOf, lengthsOf, lengthsAre}
 use Rattle.text_parts.specs.Flat.{start, total, piece, joined, tableValues}
 use Rattle.text_parts.proofs.Counted.{part-of, lengths-counted}

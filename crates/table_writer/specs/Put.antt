@@ -14,7 +14,7 @@ use mathlib.Core.List.{List, [], _∷_, _++_}
 use Prim.Native.Nat.{ℕ, _+_, _*_, _<_, _≤_}
 use lib.ListN.{length, take}
 use lib.IntN.{ℤ}
-use Rattle.protocol.specs.Text.{Line, Shape, textLimit, space, decimal, linesText, block, blockLines}
+use Rattle.text_format.specs.Text.{Line, Shape, textLimit, space, decimal, linesText, block, blockLines}
 use Rattle.text_parts.specs.declared.Cell.{Cell}
 
 -- nineteen digits and the byte behind them

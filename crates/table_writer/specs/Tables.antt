@@ -20,7 +20,7 @@ use Rattle.protocol.specs.declared.Parts.{Parts}
 use Rattle.protocol.specs.declared.Written.{Written}
 use Rattle.protocol.specs.Basic.{all, within, first, unless}
 use Rattle.protocol.specs.Settings.{settingsRefusal, allBelow}
-use Rattle.protocol.specs.Text.{Shape, Tables, valueLimit, narrowLimit, names, settingsShape, fits, entriesRefusal, outputRefusal, written, overwritten}
+use Rattle.text_format.specs.Text.{Shape, Tables, valueLimit, narrowLimit, names, settingsShape, fits, entriesRefusal, outputRefusal, written, overwritten}
 use Rattle.text_parts.specs.Parts.{tableCount, partOf}
 use Rattle.text_parts.specs.Flat.{piece}
 use Rattle.table_writer.specs.Put.{partText}

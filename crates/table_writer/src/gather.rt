@@ -1,6 +1,6 @@
 // The values of tables, one table after the other, in one table of a type that has room for all of them.
 use protocol::Residue;
-use protocol::VALUE_LIMIT;
+use text_format::VALUE_LIMIT;
 use text_parts::TABLES;
 use text_parts::VALUES;
 ghost use mathlib.Core.Path.{_≡_};

@@ -4,7 +4,7 @@ use ranges::tests::magnitude_wide;
 use text_parts::Cell;
 ghost use Prim.Native.Nat.{_+_, _≤_};
 ghost use lib.ListN.{length};
-ghost use Rattle.protocol.specs.Text.{lineText};
+ghost use Rattle.text_format.specs.Text.{lineText};
 ghost use Rattle.table_writer.specs.Put.{spotRoom, lineRoom, spotText, lineAt, Put};
 
 // Part, item and place of a line.

@@ -2,8 +2,8 @@
 ghost use mathlib.Core.Path.{_≡_};
 ghost use Prim.Native.Nat.{_+_, _≤_};
 ghost use lib.ListN.{length};
-ghost use Rattle.protocol.specs.Text as text;
-ghost use Rattle.protocol.specs.Text.{digitCount, lowDigits};
+ghost use Rattle.text_format.specs.Text as text;
+ghost use Rattle.text_format.specs.Text.{digitCount, lowDigits};
 ghost use Rattle.table_writer.specs.Put.{fieldRoom, field, Put};
 
 // How many digits a number has, up to nineteen; `bound` is 10^count.

@@ -2,7 +2,7 @@
 use crate::lines::put_line;
 use protocol::Parts;
 use protocol::Settings;
-use protocol::TEXT_LIMIT;
+use text_format::TEXT_LIMIT;
 use text_parts::Cell;
 use text_parts::Shape;
 use text_parts::TABLES;
@@ -13,7 +13,7 @@ ghost use mathlib.Core.Bool.{true};
 ghost use Prim.Native.Nat.{_≤_};
 ghost use lib.ListN.{length};
 ghost use Rattle.protocol.specs.Basic.{Provided};
-ghost use Rattle.protocol.specs.Text.{shapeSize};
+ghost use Rattle.text_format.specs.Text.{shapeSize};
 ghost use Rattle.text_parts.specs.Parts.{asShape, partOf, lengthsAre, tableCount};
 ghost use Rattle.text_parts.specs.Flat.{total};
 ghost use Rattle.table_writer.specs.Put.{textRoom, partText, Adds, Follows};

@@ -1,5 +1,4 @@
 // What the writer refuses before it looks at the text.
-use protocol::NARROW_LIMIT;
 use protocol::Parts;
 use protocol::Residue;
 use protocol::Settings;
@@ -8,6 +7,7 @@ use ranges::tests::all_below_wide;
 use ranges::tests::all_within;
 use ranges::tests::refuse;
 use ranges::tests::settings_refusal;
+use text_format::NARROW_LIMIT;
 use text_parts::fits;
 use text_parts::lengths_of;
 ghost use mathlib.Core.Path.{_≡_};

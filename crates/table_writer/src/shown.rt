@@ -1,7 +1,7 @@
 // Bytes for a program to print, put at the front of a slice that has room for them.
 use crate::numbers::put_field;
 use crate::text::copy;
-ghost use Rattle.protocol.specs.Programs.{refusedLine};
+ghost use Rattle.text_format.specs.Programs.{refusedLine};
 ghost use Rattle.table_writer.specs.Shown.{Shown};
 
 // How many bytes were put: all of them, or none where there is no room for all.

@@ -13,9 +13,9 @@ use Rattle.protocol.specs.declared.Loaded.{Loaded}
 use Rattle.protocol.specs.declared.Written.{Written}
 use Rattle.protocol.specs.Basic.{first, unless, granted}
 use Rattle.protocol.specs.Settings.{hasLength}
-use Rattle.protocol.specs.Text.{Tables, wanted, fits, linesOf, spotsOf, sameSpots, entriesRefusal, settingsIn, tablesIn, loaded, lookRefusal}
-use Rattle.protocol.specs.Text.{lookAnswer, textRefusal, readRefusal, readAnswer, readExit, textOf, written, overwritten, writeRefusal, writeAnswer, writeExit}
-use Rattle.protocol.specs.Promises.{Read, Wrote}
+use Rattle.text_format.specs.Text.{Tables, wanted, fits, linesOf, spotsOf, sameSpots, entriesRefusal, settingsIn, tablesIn, loaded, lookRefusal}
+use Rattle.text_format.specs.Text.{lookAnswer, textRefusal, readRefusal, readAnswer, readExit, textOf, written, overwritten, writeRefusal, writeAnswer, writeExit}
+use Rattle.text_format.specs.Promises.{Read, Wrote}
 use Rattle.protocol.proofs.Tests.{granted-zero, granted-refused}
 use Rattle.protocol.proofs.Refusals.{first-stops, first-passes, first-fails, first-holds, and-fails-right}
 use Rattle.slices.specs.Slices.{lent}

@@ -15,8 +15,8 @@ use Rattle.protocol.specs.declared.Settings.{Settings}
 use Rattle.protocol.specs.declared.Checked.{Checked}
 use Rattle.protocol.specs.Basic.{first, unless, granted}
 use Rattle.protocol.specs.Settings.{hasLength}
-use Rattle.protocol.specs.Text.{Tables, fits, linesOf, settingsIn, tablesIn, lookRefusal, textRefusal, textOf, writeRefusal, overwritten}
-use Rattle.protocol.specs.Programs.{proveAnswer, proveExit}
+use Rattle.text_format.specs.Text.{Tables, fits, linesOf, settingsIn, tablesIn, lookRefusal, textRefusal, textOf, writeRefusal, overwritten}
+use Rattle.text_format.specs.Programs.{proveAnswer, proveExit}
 use Rattle.slices.specs.Slices.{lent}
 use Rattle.protocol.specs.Session.{verdictNumber}
 use Rattle.text_calls.specs.Texts.{partsOf, partsNamed, settingsWidth, settingsNumbers}

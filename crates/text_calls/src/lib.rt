@@ -14,8 +14,8 @@ ghost use mathlib.Core.Path.{_≡_};
 ghost use mathlib.Core.List.{[], _∷_};
 ghost use Rattle.text_parts.specs.Parts.{tablesOf};
 ghost use Rattle.protocol.specs.Basic.{first};
-ghost use Rattle.protocol.specs.Text.{lookRefusal};
-ghost use Rattle.protocol.specs.Programs.{checked, verifyAnswer};
+ghost use Rattle.text_format.specs.Text.{lookRefusal};
+ghost use Rattle.text_format.specs.Programs.{checked, verifyAnswer};
 ghost use Rattle.text_calls.specs.Texts.{partsOf};
 ghost use Rattle.text_calls.specs.Promises.{Looked, ReadStored, WroteStored, Verdicts, ProvedStored};
 

@@ -22,11 +22,11 @@ use lib.Seq.{drop-drop}
 use lib.IntN.{ℤ, pos, negℤ}
 use Rattle.protocol.specs.declared.Number.{Number}
 use Rattle.protocol.specs.declared.Number.the-variants.{Value, Refused}
-use Rattle.protocol.specs.Text.{minus, keep, digit, digitFirst, digitRun, properDigits, readCount, plain, negative, readNumber, numberAnswer, readNumberAt, readCountAt, reading}
-use Rattle.protocol.specs.Lines.{givenNumber}
-use Rattle.protocol.proofs.Answers.{number-given}
+use Rattle.text_format.specs.Text.{minus, keep, digit, digitFirst, digitRun, properDigits, readCount, plain, negative, readNumber, numberAnswer, readNumberAt, readCountAt, reading}
+use Rattle.text_format.specs.Lines.{givenNumber}
+use Rattle.text_format.proofs.Answers.{number-given}
 use Rattle.protocol.proofs.Tests.{and-split, and-intro}
-use Rattle.protocol.proofs.NumeralLaws.{keep-some, digitRun-on}
+use Rattle.text_format.proofs.NumeralLaws.{keep-some, digitRun-on}
 use Rattle.text_parts.proofs.From.{from-cons}
 
 -- ---- suffixes

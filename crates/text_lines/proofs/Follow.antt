@@ -13,9 +13,9 @@ use Prim.Native.Nat.{ℕ, _+_, _-_, _*_, _≤_}
 use native.Mathlib.Omega.{arith}
 use lib.ListN.{length, take, length-map}
 use lib.IntN.{ℤ}
-use Rattle.protocol.specs.Text.{Spot, Line, readLine, sameSpot, sameSpots, spotsOf, valuesOf}
+use Rattle.text_format.specs.Text.{Spot, Line, readLine, sameSpot, sameSpots, spotsOf, valuesOf}
 use Rattle.protocol.proofs.Tests.{and-split, and-intro}
-use Rattle.protocol.specs.Lines.{readValue, readValues, allLines}
+use Rattle.text_format.specs.Lines.{readValue, readValues, allLines}
 use Rattle.text_lines.proofs.Counts.{Suffix, suffix-of}
 use Rattle.text_lines.proofs.Rows.{line-suffix, line-shorter, all-next, all-some}
 use Rattle.text_lines.proofs.Values.{same-spot, spot-same, value-of, value-read, prefix, values-step, values-stop}

@@ -20,8 +20,8 @@ use Rattle.protocol.specs.declared.Settings.{Settings}
 use Rattle.protocol.specs.declared.Loaded.{Loaded}
 use Rattle.protocol.specs.Basic.{choose, granted, among, first, unless}
 use Rattle.protocol.specs.Settings.{degreeAllowed, settingsRefusal}
-use Rattle.protocol.specs.Text.{Line, textLimit, linesOf, settingsIn, noSettings, lookRefusal, loaded, lookAnswer}
-use Rattle.protocol.specs.Lines.{present, allLines, settingsOf, readSettings, begunWith, begunAnswer}
+use Rattle.text_format.specs.Text.{Line, textLimit, linesOf, settingsIn, noSettings, lookRefusal, loaded, lookAnswer}
+use Rattle.text_format.specs.Lines.{present, allLines, settingsOf, readSettings, begunWith, begunAnswer}
 use Rattle.protocol.proofs.Tests.{first-zero, unless-zero, granted-zero, granted-refused}
 use Rattle.text_lines.specs.declared.header.Header.{Header}
 use Rattle.text_lines.specs.Header.{headerAnswer, Begins}

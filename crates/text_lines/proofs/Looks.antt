@@ -18,11 +18,11 @@ use Rattle.protocol.specs.declared.Settings.{Settings}
 use Rattle.protocol.specs.declared.Loaded.{Loaded}
 use Rattle.protocol.specs.Basic.{tabulate, choose, first, unless, granted}
 use Rattle.protocol.specs.Settings.{settingsRefusal}
-use Rattle.protocol.specs.Text.{Spot, Line, textLimit, shape, settingsShape, shapeSize, spots, names, readLines, beginsWithNames, parsed, linesOf, sameSpots, spotsOf}
-use Rattle.protocol.specs.Text.{valueLimit, narrowLimit, valuesOf, wellFormed, unsigned, settingIn, settingsIn, noSettings, lookRefusal, loaded}
+use Rattle.text_format.specs.Text.{Spot, Line, textLimit, shape, settingsShape, shapeSize, spots, names, readLines, beginsWithNames, parsed, linesOf, sameSpots, spotsOf}
+use Rattle.text_format.specs.Text.{valueLimit, narrowLimit, valuesOf, wellFormed, unsigned, settingIn, settingsIn, noSettings, lookRefusal, loaded}
 use Rattle.protocol.proofs.Refusals.{first-fails, first-holds, first-only}
 use Rattle.text_lines.specs.declared.header.Header.{Header}
-use Rattle.protocol.specs.Lines.{present, readValues, allLines, settingsOf, readSettings}
+use Rattle.text_format.specs.Lines.{present, readValues, allLines, settingsOf, readSettings}
 use Rattle.text_lines.specs.Header.{headerAnswer}
 use Rattle.text_lines.proofs.Counts.{suffix-place}
 use Rattle.text_lines.proofs.Rows.{all-turns}

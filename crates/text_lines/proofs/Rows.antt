@@ -21,12 +21,12 @@ use lib.IntN.{ℤ, pos}
 use Rattle.protocol.specs.declared.Number.{Number}
 use Rattle.protocol.specs.declared.Number.the-variants.{Value, Refused}
 use Rattle.protocol.specs.declared.Entry.{Entry}
-use Rattle.protocol.specs.Text.{Line, space, lineFeed, narrowLimit, limitOf, keep, properDigits, readCount, readNumber, byte, plain, readIndex, readLine, readLines, reading}
+use Rattle.text_format.specs.Text.{Line, space, lineFeed, narrowLimit, limitOf, keep, properDigits, readCount, readNumber, byte, plain, readIndex, readLine, readLines, reading}
 use Rattle.protocol.specs.declared.Entry.the-variants.{Found as Line-at, Malformed}
-use Rattle.protocol.specs.Lines.{present, givenNumber, readIndexAt, lineReading, givenLine, lineAnswer, readLineAt, allLines}
-use Rattle.protocol.proofs.Answers.{line-given}
+use Rattle.text_format.specs.Lines.{present, givenNumber, readIndexAt, lineReading, givenLine, lineAnswer, readLineAt, allLines}
+use Rattle.text_format.proofs.Answers.{line-given}
 use Rattle.text_parts.proofs.From.{from-cons}
-use Rattle.protocol.proofs.NumeralLaws.{keep-some}
+use Rattle.text_format.proofs.NumeralLaws.{keep-some}
 use Rattle.text_lines.proofs.Counts.{Suffix, suffix-self, suffix-more, suffix-of, Found, found, keep-yes, count-small, count-suffix, count-shorter, number-suffix}
 use Rattle.text_lines.proofs.Counts.{number-shorter, plain-found, plain-missed, answer-both}
 

@@ -12,9 +12,9 @@ use native.Mathlib.Omega.{arith}
 use borrow.Author.Tests.{le-leb, lt-leb, eq-eqb, ne-eqb}
 use lib.Dec.{leb, eqb}
 use lib.ListN.{length, getD, drop, length-drop}
-use Rattle.protocol.specs.Text.{digit, digitFirst, properDigits, digitRun}
-use Rattle.protocol.proofs.NumeralLaws.{digitRun-on, digitRun-stop}
-use Rattle.protocol.proofs.PlaceLaws.{digitFirst-inside}
+use Rattle.text_format.specs.Text.{digit, digitFirst, properDigits, digitRun}
+use Rattle.text_format.proofs.NumeralLaws.{digitRun-on, digitRun-stop}
+use Rattle.text_format.proofs.PlaceLaws.{digitFirst-inside}
 use Rattle.text_lines.specs.Digits.{pastLimit}
 use Rattle.text_parts.proofs.From.{from-cons}
 

@@ -16,10 +16,10 @@ use lib.Dec.{eqb}
 use lib.ListN.{length, drop}
 use lib.IntN.{ℤ}
 use Rattle.protocol.specs.declared.Number.the-variants.{Value, Refused}
-use Rattle.protocol.specs.Text.{Spot, Line, bytes, names, settingsShape, spots, keep, readLine, beginsWithNames, sameSpot, numberAnswer}
+use Rattle.text_format.specs.Text.{Spot, Line, bytes, names, settingsShape, spots, keep, readLine, beginsWithNames, sameSpot, numberAnswer}
 use Rattle.protocol.proofs.Tests.{and-split, and-intro}
-use Rattle.protocol.specs.Lines.{spot, readValue, readValues, readSettings}
-use Rattle.protocol.proofs.NumeralLaws.{keep-some}
+use Rattle.text_format.specs.Lines.{spot, readValue, readValues, readSettings}
+use Rattle.text_format.proofs.NumeralLaws.{keep-some}
 use Rattle.text_names.proofs.Names.{names-short}
 use Rattle.text_lines.proofs.Counts.{Suffix, Found, found, keep-yes, keep-no, answer-value, answer-refused}
 use Rattle.text_lines.proofs.Rows.{bind-some, bind-none, line-suffix}

@@ -15,7 +15,7 @@ use lib.Signed.{nonNeg, ltZ}
 use mir.Syntax.{Width, w32, w64}
 use mir.Val.{Fits, SFits, ofZ, toZ}
 use mir.Facts.{toZ-pos, toZ-ofZ}
-use Rattle.protocol.specs.Text.{narrowLimit}
+use Rattle.text_format.specs.Text.{narrowLimit}
 
 module _ (v : ℤ) (n : ℕ) (e : v ≡ pos n) (h : n < 2 ^ 63) where
   pub word-pos : toZ w64 (ofZ w64 v) ≡ pos n

@@ -11,8 +11,8 @@ use lib.ListN.{length}
 use lib.IntN.{ℤ}
 use Rattle.protocol.specs.declared.Settings.{Settings}
 use Rattle.protocol.specs.Settings.{settingsRefusal}
-use Rattle.protocol.specs.Text.{noSettings}
-use Rattle.protocol.specs.Lines.{settingsOf, readSettings}
+use Rattle.text_format.specs.Text.{noSettings}
+use Rattle.text_format.specs.Lines.{settingsOf, readSettings}
 use Rattle.text_lines.specs.declared.header.Header.{Header}
 
 unfoldable pub headerAnswer : List ℕ → Option (List ℤ × List ℕ) → Header

@@ -2,21 +2,21 @@
 use crate::lines::all_lines;
 use crate::lines::value_at;
 use protocol::Loaded;
-use protocol::NARROW_LIMIT;
 use protocol::Number;
 use protocol::Residue;
 use protocol::Settings;
-use protocol::TEXT_LIMIT;
-use protocol::VALUE_LIMIT;
 use ranges::tests::settings_refusal;
+use text_format::NARROW_LIMIT;
+use text_format::TEXT_LIMIT;
+use text_format::VALUE_LIMIT;
 use text_names::begins_with_names;
 ghost use mathlib.Core.Path.{_≡_};
 ghost use mathlib.Core.Bool.{false};
 ghost use Prim.Native.Nat.{_≤_};
 ghost use lib.ListN.{drop};
 ghost use Rattle.protocol.specs.Basic.{choose};
-ghost use Rattle.protocol.specs.Text.{valueLimit, narrowLimit, unsigned as unsignedOf, noSettings, lookAnswer};
-ghost use Rattle.protocol.specs.Lines.{present, allLines, readSettings, begunAnswer};
+ghost use Rattle.text_format.specs.Text.{valueLimit, narrowLimit, unsigned as unsignedOf, noSettings, lookAnswer};
+ghost use Rattle.text_format.specs.Lines.{present, allLines, readSettings, begunAnswer};
 ghost use Rattle.text_lines.specs.Header.{headerAnswer};
 
 // The settings of a text and the place behind them; `found` is false where the text does not begin with them.

@@ -2,13 +2,13 @@
 use crate::numbers::number_within;
 use crate::numbers::read_count;
 use protocol::Entry;
-use protocol::NARROW_LIMIT;
 use protocol::Number;
-use protocol::VALUE_LIMIT;
+use text_format::NARROW_LIMIT;
+use text_format::VALUE_LIMIT;
 ghost use mathlib.Core.Path.{_≡_};
 ghost use lib.ListN.{drop};
-ghost use Rattle.protocol.specs.Text.{limitOf, byte as behindByte, plain, readIndex, readLine, numberAnswer, readNumberAt, reading};
-ghost use Rattle.protocol.specs.Lines.{present, givenNumber, readIndexAt, lineReading, givenLine, readLineAt, allLines, spot, readValue};
+ghost use Rattle.text_format.specs.Text.{limitOf, byte as behindByte, plain, readIndex, readLine, numberAnswer, readNumberAt, reading};
+ghost use Rattle.text_format.specs.Lines.{present, givenNumber, readIndexAt, lineReading, givenLine, readLineAt, allLines, spot, readValue};
 
 // Does this byte stand at a place.
 fn stands(text: &[u8], at: usize, byte: u8) -> bool

@@ -1,13 +1,13 @@
 // The number readers.
-use protocol::NARROW_LIMIT;
 use protocol::Number;
-use protocol::VALUE_LIMIT;
+use text_format::NARROW_LIMIT;
+use text_format::VALUE_LIMIT;
 ghost use mathlib.Core.Path.{_≡_};
 ghost use mathlib.Core.Bool.{true};
 ghost use Prim.Native.Nat.{_+_, _*_, _≤_, min};
 ghost use lib.ListN.{drop};
-ghost use Rattle.protocol.specs.Text.{valueLimit, narrowLimit, digitFirst, properDigits, digitRun, plain, readCount, readNumber, readCountAt, readNumberAt, reading};
-ghost use Rattle.protocol.specs.Lines.{givenNumber};
+ghost use Rattle.text_format.specs.Text.{valueLimit, narrowLimit, digitFirst, properDigits, digitRun, plain, readCount, readNumber, readCountAt, readNumberAt, reading};
+ghost use Rattle.text_format.specs.Lines.{givenNumber};
 ghost use Rattle.text_lines.specs.Digits.{pastLimit, full, keptRun, runAnswer};
 
 // Ten times this is past the largest magnitude, and has 64 bits: a number is held at it before it is multiplied. `full` of the definitions.

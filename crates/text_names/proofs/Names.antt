@@ -11,7 +11,7 @@ use native.Mathlib.Omega.{arith}
 use lib.Dec.{eqb}
 use lib.ListN.{length, getD, take, drop, length-drop}
 use lib.Seq.{take-all, drop-drop, getD-drop}
-use Rattle.protocol.specs.Text.{bytes, names, begins, beginsWithNames}
+use Rattle.text_format.specs.Text.{bytes, names, begins, beginsWithNames}
 use Rattle.text_names.specs.Words.{word}
 use Rattle.text_names.proofs.Words.{begins-word, begins-parts, begins-short}
 

@@ -14,7 +14,7 @@ use borrow.Author.Tests.{eq-eqb, ne-eqb, eqb-true, eqb-false}
 use lib.Dec.{eqb}
 use lib.ListN.{length, getD, take, drop}
 use Rattle.protocol.specs.Basic.{tabulate}
-use Rattle.protocol.specs.Text.{begins}
+use Rattle.text_format.specs.Text.{begins}
 use Rattle.text_names.specs.Words.{word}
 
 -- every number of a list is a byte

@@ -3,7 +3,7 @@ ghost use mathlib.Core.Path.{_≡_};
 ghost use mathlib.Core.List.{[], _∷_};
 ghost use Prim.Native.Nat.{_≤_};
 ghost use lib.ListN.{length, take};
-ghost use Rattle.protocol.specs.Text.{begins as beginsWith, beginsWithNames};
+ghost use Rattle.text_format.specs.Text.{begins as beginsWith, beginsWithNames};
 ghost use Rattle.text_names.specs.Words.{word};
 
 // The line has 22 bytes: those of "part ite" and of "m place " as numbers, the first byte the lowest, and then "value" and the line feed.

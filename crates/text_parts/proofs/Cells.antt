@@ -16,7 +16,7 @@ use borrow.Author.Tests.{lt-ltb, le-ltb, le-leb, lt-leb, eq-eqb, ne-eqb}
 use lib.Dec.{eqb, ltb}
 use lib.ListN.{length, drop, drop-of-length-le}
 use Rattle.protocol.specs.Basic.{choose}
-use Rattle.protocol.specs.Text.{Shape, shapeSize, spotAt, spots}
+use Rattle.text_format.specs.Text.{Shape, shapeSize, spotAt, spots}
 use Rattle.protocol.proofs.Reading.{cell-element, cell-place, tabulate-length, tabulate-at}
 use Rattle.text_parts.specs.declared.Cell.{Cell}
 use Rattle.text_parts.specs.Parts.{cellAt, nextCell}

@@ -14,7 +14,7 @@ use Rattle.protocol.specs.declared.Parts.{Parts}
 use Rattle.protocol.specs.Basic.{choose}
 use Rattle.protocol.specs.Layout.{rowsMost}
 use Rattle.protocol.specs.Settings.{depthAllowed, settingsRefusal}
-use Rattle.protocol.specs.Text.{settingsShape}
+use Rattle.text_format.specs.Text.{settingsShape}
 use Rattle.protocol.proofs.Inputs.{settings-valid}
 use Rattle.text_parts.specs.Parts.{counted, partShape, partOf, lengthsAre, lengthsFit}
 

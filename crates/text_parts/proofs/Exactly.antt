@@ -17,7 +17,7 @@ use Rattle.protocol.specs.declared.Settings.{Settings}
 use Rattle.protocol.specs.declared.Parts.{Parts}
 use Rattle.protocol.specs.Basic.{all, every, choose}
 use Rattle.protocol.specs.Settings.{hasLength}
-use Rattle.protocol.specs.Text.{Tables, shape, settingsShape, shapes, shapeSize, settingsValues, contents, block, blocks, blockFits, fits}
+use Rattle.text_format.specs.Text.{Tables, shape, settingsShape, shapes, shapeSize, settingsValues, contents, block, blocks, blockFits, fits}
 use Rattle.protocol.proofs.Tests.{every-at}
 use Rattle.text_parts.specs.Parts.{tableCount, partShape, lengthsOf, lengthsAre, lengthsFit, Exact}
 

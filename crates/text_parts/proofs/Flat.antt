@@ -13,7 +13,7 @@ use native.Mathlib.Numerals.{add-one}
 use lib.ListN.{length, getD, take, drop, length-append, length-map}
 use lib.Seq.{take-append-seam, drop-append-add}
 use lib.IntN.{ℤ, pos}
-use Rattle.protocol.specs.Text.{Tables, contents}
+use Rattle.text_format.specs.Text.{Tables, contents}
 use Rattle.text_parts.specs.Parts.{tableCount, lengthsOf}
 use Rattle.text_parts.specs.Flat.{start, total, piece, joined, tableValues}
 

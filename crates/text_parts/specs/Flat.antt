@@ -10,7 +10,7 @@ use mathlib.Core.List.{List, flatMap}
 use Prim.Native.Nat.{ℕ, zero, suc, _+_}
 use lib.ListN.{getD, take, drop}
 use lib.IntN.{ℤ}
-use Rattle.protocol.specs.Text.{Tables, noSettings, contents}
+use Rattle.text_format.specs.Text.{Tables, noSettings, contents}
 use Rattle.text_parts.specs.Parts.{tableCount}
 
 abbrev pub cut : ℕ → ℕ → List ℤ → List ℤ

@@ -28,7 +28,7 @@ use Rattle.protocol.specs.declared.Parts.{Parts}
 use Rattle.protocol.specs.Basic.{choose, every}
 use Rattle.protocol.specs.Layout.{rowsMost}
 use Rattle.protocol.specs.Settings.{depthAllowed}
-use Rattle.protocol.specs.Text.{Tables, Shape, settingsShape, shapes, shapeSize}
+use Rattle.text_format.specs.Text.{Tables, Shape, settingsShape, shapes, shapeSize}
 use Rattle.text_parts.specs.declared.Shape.{Shape as Part}
 use Rattle.text_parts.specs.declared.Cell.{Cell}
 

@@ -3,9 +3,9 @@ use protocol::Parts;
 use protocol::ROWS;
 use protocol::Residue;
 use protocol::Settings;
-use protocol::TEXT_LIMIT;
+use text_format::TEXT_LIMIT;
 ghost use mathlib.Core.Path.{_≡_};
-ghost use Rattle.protocol.specs.Text.{shape, settingsShape, shapeSize};
+ghost use Rattle.text_format.specs.Text.{shape, settingsShape, shapeSize};
 ghost use Rattle.text_parts.specs.Parts.{tablesOf, asShape, nextCell, partOf, lengthsOf, lengthsAre, testedBy};
 
 // How many parts there are behind the settings, each with a table: `tableCount` of the definitions. The table of part k + 1 has place k in a list of them.

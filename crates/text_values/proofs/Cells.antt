@@ -12,9 +12,9 @@ use native.Mathlib.Omega.{arith}
 use lib.ListN.{length, drop, take}
 use lib.Seq.{drop-drop}
 use lib.IntN.{ℤ}
-use Rattle.protocol.specs.Text.{Spot}
+use Rattle.text_format.specs.Text.{Spot}
 use Rattle.text_values.specs.declared.parts.Taken.{Taken}
-use Rattle.protocol.specs.Lines.{readValues}
+use Rattle.text_format.specs.Lines.{readValues}
 use Rattle.text_values.specs.Parts.{takenAnswer, Took}
 use Rattle.text_lines.proofs.Counts.{suffix-place, suffix-back}
 use Rattle.text_lines.proofs.Follow.{values-lines}

@@ -12,8 +12,8 @@ use lib.IntN.{ℤ}
 use Rattle.protocol.specs.declared.Settings.{Settings}
 use Rattle.protocol.specs.declared.Parts.{Parts}
 use Rattle.protocol.specs.Basic.{tabulate, choose}
-use Rattle.protocol.specs.Text.{Line, Shape, shape, settingsShape, shapes, shapeSize, spotAt, spots, spotsOf, valuesOf, column}
-use Rattle.protocol.proofs.TableLaws.{AllParts, Rising, parts, columns, column-append, column-none, split}
+use Rattle.text_format.specs.Text.{Line, Shape, shape, settingsShape, shapes, shapeSize, spotAt, spots, spotsOf, valuesOf, column}
+use Rattle.text_format.proofs.TableLaws.{AllParts, Rising, parts, columns, column-append, column-none, split}
 use Rattle.text_parts.specs.Flat.{joined}
 use Rattle.text_values.specs.Parts.{partSpots}
 use Rattle.text_values.specs.Stored.{tableParts, columnsIn}

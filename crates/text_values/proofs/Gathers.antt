@@ -17,9 +17,9 @@ use Rattle.protocol.specs.declared.Parts.{Parts}
 use Rattle.protocol.specs.declared.Loaded.{Loaded}
 use Rattle.protocol.specs.Basic.{choose, unless}
 use Rattle.protocol.specs.Settings.{settingsRefusal}
-use Rattle.protocol.specs.Text.{Spot, Line, textLimit, linesOf, spotsOf, valuesOf, settingsIn, noSettings, lookRefusal, loaded, lookAnswer}
+use Rattle.text_format.specs.Text.{Spot, Line, textLimit, linesOf, spotsOf, valuesOf, settingsIn, noSettings, lookRefusal, loaded, lookAnswer}
 use Rattle.protocol.proofs.Refusals.{first-stops, first-passes, first-only}
-use Rattle.protocol.specs.Lines.{present, readValues, allLines, settingsOf, readSettings}
+use Rattle.text_format.specs.Lines.{present, readValues, allLines, settingsOf, readSettings}
 use Rattle.text_lines.specs.Header.{headerAnswer}
 use Rattle.text_parts.specs.Parts.{lengthsFit}
 use Rattle.text_values.specs.Parts.{partSpots, Took}

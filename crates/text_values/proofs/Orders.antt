@@ -15,9 +15,9 @@ use lib.Seq.{take-all}
 use lib.IntN.{ℤ}
 use Rattle.protocol.specs.declared.Settings.{Settings}
 use Rattle.protocol.specs.declared.Parts.{Parts}
-use Rattle.protocol.specs.Text.{Spot, Line, wanted, readLine, linesOf, sameSpots, spotsOf, valuesOf, settingsIn}
+use Rattle.text_format.specs.Text.{Spot, Line, wanted, readLine, linesOf, sameSpots, spotsOf, valuesOf, settingsIn}
 use Rattle.protocol.proofs.Tests.{same-test}
-use Rattle.protocol.specs.Lines.{readValues, allLines, settingsOf}
+use Rattle.text_format.specs.Lines.{readValues, allLines, settingsOf}
 use Rattle.text_values.specs.Parts.{partSpots}
 use Rattle.text_values.specs.Stored.{columnsIn, inOrder}
 use Rattle.text_lines.proofs.Counts.{suffix-length}

@@ -10,8 +10,8 @@ use lib.ListN.{drop}
 use lib.IntN.{ℤ}
 use Rattle.protocol.specs.declared.Settings.{Settings}
 use Rattle.protocol.specs.declared.Parts.{Parts}
-use Rattle.protocol.specs.Text.{Spot, settingsShape, shapes, spots, wanted}
-use Rattle.protocol.specs.Lines.{readValue, readValues}
+use Rattle.text_format.specs.Text.{Spot, settingsShape, shapes, spots, wanted}
+use Rattle.text_format.specs.Lines.{readValue, readValues}
 use Rattle.text_parts.specs.Parts.{tableCount, partShape}
 use Rattle.text_values.specs.Parts.{partSpots}
 use Rattle.text_parts.proofs.From.{from-cons}

@@ -14,9 +14,9 @@ use lib.ListN.{length, drop, take}
 use lib.IntN.{ℤ}
 use Rattle.protocol.specs.declared.Settings.{Settings}
 use Rattle.protocol.specs.declared.Parts.{Parts}
-use Rattle.protocol.specs.Text.{Spot, textLimit, shapes, spots}
+use Rattle.text_format.specs.Text.{Spot, textLimit, shapes, spots}
 use Rattle.text_values.specs.declared.parts.Taken.{Taken}
-use Rattle.protocol.specs.Lines.{readValues}
+use Rattle.text_format.specs.Lines.{readValues}
 use Rattle.text_parts.specs.Parts.{partOf, lengthsAre}
 use Rattle.text_parts.specs.Flat.{total}
 

@@ -15,7 +15,7 @@ use lib.IntN.{ℤ}
 use Rattle.protocol.specs.declared.Parts.{Parts}
 use Rattle.protocol.specs.declared.Loaded.{Loaded}
 use Rattle.protocol.specs.Basic.{first, unless}
-use Rattle.protocol.specs.Text.{Line, wanted, linesOf, sameSpots, spotsOf, column, settingsIn, lookRefusal, loaded}
+use Rattle.text_format.specs.Text.{Line, wanted, linesOf, sameSpots, spotsOf, column, settingsIn, lookRefusal, loaded}
 use Rattle.text_parts.specs.Parts.{lengthsFit}
 
 abbrev pub tableParts : List ℕ

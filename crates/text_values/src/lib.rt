@@ -4,7 +4,7 @@ mod parts;
 use protocol::Loaded;
 use protocol::Parts;
 use protocol::Settings;
-use protocol::TEXT_LIMIT;
+use text_format::TEXT_LIMIT;
 use text_lines::read_settings;
 use text_lines::refused;
 use text_parts::TABLES;

@@ -15,7 +15,7 @@ ghost use Prim.Native.Nat.{_*_, _≤_};
 ghost use lib.ListN.{length};
 ghost use Rattle.protocol.specs.Basic.{Provided};
 ghost use Rattle.protocol.specs.Settings.{settingsRefusal};
-ghost use Rattle.protocol.specs.Text.{shapeSize, spots};
+ghost use Rattle.text_format.specs.Text.{shapeSize, spots};
 ghost use Rattle.text_parts.specs.Parts.{asShape};
 ghost use Rattle.text_values.specs.Parts.{partSpots, Took, RoomFor};
 

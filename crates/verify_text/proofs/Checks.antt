@@ -17,8 +17,8 @@ use Rattle.protocol.specs.Basic.{choose}
 use Rattle.protocol.specs.Layout.{keyCells, itemCells, roundCells, claimCells}
 use Rattle.protocol.specs.Inputs.{Below}
 use Rattle.protocol.specs.Settings.{hasLength, allBelow}
-use Rattle.protocol.specs.Text.{Tables, shape, shapes, shapeSize, entriesRefusal}
-use Rattle.protocol.specs.Programs.{verifyReads}
+use Rattle.text_format.specs.Text.{Tables, shape, shapes, shapeSize, entriesRefusal}
+use Rattle.text_format.specs.Programs.{verifyReads}
 use Rattle.protocol.proofs.Tests.{and-split, first-zero, unless-zero}
 use Rattle.protocol.proofs.Inputs.{tested-below}
 use Rattle.text_parts.specs.Parts.{partShape}

@@ -18,9 +18,9 @@ use Rattle.protocol.specs.declared.Verified.{Verified}
 use Rattle.protocol.specs.declared.Verified.the-variants.{Accepted, Rejected, Refused}
 use Rattle.protocol.specs.Basic.{choose}
 use Rattle.protocol.specs.Layout.{keyCells, roundCells}
-use Rattle.protocol.specs.Text.{Tables, shape, shapes, shapeSize, fits, wanted, linesOf, spotsOf, sameSpots, settingsIn, lookRefusal, lookAnswer}
-use Rattle.protocol.specs.Promises.{Read}
-use Rattle.protocol.specs.Programs.{verifyReads, tablesAccepted, verifyRefusal, verifyAnswer}
+use Rattle.text_format.specs.Text.{Tables, shape, shapes, shapeSize, fits, wanted, linesOf, spotsOf, sameSpots, settingsIn, lookRefusal, lookAnswer}
+use Rattle.text_format.specs.Promises.{Read}
+use Rattle.text_format.specs.Programs.{verifyReads, tablesAccepted, verifyRefusal, verifyAnswer}
 use Rattle.protocol.proofs.Tests.{granted-zero, granted-refused}
 use Rattle.text_parts.specs.Parts.{partShape, lengthsOf, cellsRoom}
 use Rattle.text_parts.proofs.Exactly.{exact-fits}

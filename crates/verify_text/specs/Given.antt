@@ -5,8 +5,8 @@ use mathlib.Core.Path.{_≡_}
 use mathlib.Core.Bool.{true}
 use Rattle.protocol.specs.declared.Settings.{Settings}
 use Rattle.protocol.specs.Settings.{settingsRefusal}
-use Rattle.protocol.specs.Text.{Tables, fits, entriesRefusal}
-use Rattle.protocol.specs.Programs.{verifyReads}
+use Rattle.text_format.specs.Text.{Tables, fits, entriesRefusal}
+use Rattle.text_format.specs.Programs.{verifyReads}
 
 pub record Given (S : Settings) (t : Tables) : Type 0 where
   pub settings : settingsRefusal S ≡ 0

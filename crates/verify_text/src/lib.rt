@@ -13,7 +13,7 @@ ghost use Prim.Native.Nat.{_≤_};
 ghost use lib.ListN.{length};
 ghost use Rattle.protocol.specs.Basic.{choose};
 ghost use Rattle.protocol.specs.Layout.{width, rowsWidth, slots};
-ghost use Rattle.protocol.specs.Programs.{verifyReads, tablesAccepted, verifyAnswer, checked, verifyGives, verdictLine, verifyOutput};
+ghost use Rattle.text_format.specs.Programs.{verifyReads, tablesAccepted, verifyAnswer, checked, verifyGives, verdictLine, verifyOutput};
 ghost use Rattle.text_parts.specs.Parts.{tablesOf, cellsRoom};
 ghost use Rattle.claim_tables.specs.Claims.{claimsRoom};
 ghost use Rattle.text_lines.specs.Header.{Begins};

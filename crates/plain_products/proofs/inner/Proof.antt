@@ -4,7 +4,6 @@ use Rattle.protocol.specs.Element.{zeros, signedAt, residueAt}
 use Rattle.protocol.specs.Opening.{inner}
 use Rattle.half_sums.specs.Halves.{messagesOf, keysOf}
 use Rattle.plain_products.proofs.Rows.{row-given, one-row}
-use borrow.Author.Needs.{needs}
 use Rattle.plain_products.proofs.inner.Statement.{statement}
 use Rattle.plain_products.proofs.inner.Tie as tie
 
@@ -17,4 +16,4 @@ returns c = λ z.
     ∙ one-row (a .q) (a .d) (inner (a .d) (a .n) (signedAt (a .d) (a .f .now)) (residueAt (a .d) (a .g .now)))
 
 pub inner-spec : {M : Type 1} → statement M
-inner-spec = tie.close (tie.spec (λ c. search needs) (λ c κs. search needs) returns)
+inner-spec = tie.close (tie.spec (λ c. search) (λ c κs. search) returns)

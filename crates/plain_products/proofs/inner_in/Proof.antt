@@ -1,11 +1,9 @@
-use mathlib.Core.List.{List}
-use Prim.Native.Nat.{ℕ, _*_}
+use Prim.Native.Nat.{ℕ}
 use native.Mathlib.Omega.{arith}
 use Rattle.protocol.specs.Element.{Element}
 use Rattle.protocol.specs.Opening.{inner}
 use Rattle.half_sums.specs.Halves.{messagesOf, keysOf}
-use Rattle.plain_products.proofs.Rows.{first-known}
-use borrow.Author.Needs.{needs}
+use Rattle.product_sums.proofs.Rows.{first-known}
 use Rattle.plain_products.proofs.inner_in.Statement.{statement}
 use Rattle.plain_products.proofs.inner_in.Tie as tie
 
@@ -28,4 +26,4 @@ returns c = λ G z.
     )
 
 pub inner-in-spec : {M : Type 1} → statement M
-inner-in-spec = tie.close (tie.spec (λ c κs. search needs) (λ c κs. search needs) (λ c. search) (λ c. search) (λ c. search) (λ c. search) (λ c. search) (λ c. search) (λ c. search) returns)
+inner-in-spec = tie.close (tie.spec (λ c κs. search) (λ c κs. search) (λ c. search) (λ c. search) (λ c. search) (λ c. search) (λ c. search) (λ c. search) (λ c. search) returns)

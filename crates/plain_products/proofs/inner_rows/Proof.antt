@@ -4,8 +4,7 @@ use Rattle.protocol.specs.Element.{width, zeros}
 use Rattle.protocol.specs.Layout.{rowsWidth}
 use Rattle.residues.proofs.Fill.{zeros-at}
 use Rattle.rows.proofs.Rows.{cells-most}
-use Rattle.plain_products.proofs.Rows.{first-known}
-use borrow.Author.Needs.{needs}
+use Rattle.product_sums.proofs.Rows.{first-known}
 use Rattle.plain_products.proofs.inner_rows.Statement.{statement}
 use Rattle.plain_products.proofs.inner_rows.Tie as tie
 
@@ -106,7 +105,7 @@ returns-8 c = λ G z. c .before .before .before .before .before .before .before 
 pub inner-rows-spec : {M : Type 1} → statement M
 inner-rows-spec =
     tie.close
-    (tie.spec returns returns-2 returns-3 (λ c κs. search needs) returns-4 returns-5 mul-cells (λ c. search needs) (λ c. search needs) (λ c. search needs) (λ c. search needs) (λ c. search needs)
-    (λ c. search needs) inner-in-requires (λ c. search) returns-6 (λ c. search needs) (λ c. search needs) (λ c. search needs) (λ c. search needs) (λ c. search needs) (λ c. search needs)
-    inner-in-requires-2 (λ c. search) returns-7 (λ c. search needs) (λ c. search needs) (λ c. search needs) (λ c. search needs) (λ c. search needs) (λ c. search needs)
+    (tie.spec returns returns-2 returns-3 (λ c κs. search) returns-4 returns-5 mul-cells (λ c. search) (λ c. search) (λ c. search) (λ c. search) (λ c. search)
+    (λ c. search) inner-in-requires (λ c. search) returns-6 (λ c. search) (λ c. search) (λ c. search) (λ c. search) (λ c. search) (λ c. search)
+    inner-in-requires-2 (λ c. search) returns-7 (λ c. search) (λ c. search) (λ c. search) (λ c. search) (λ c. search) (λ c. search)
     inner-in-requires-3 (λ c. search) returns-8)

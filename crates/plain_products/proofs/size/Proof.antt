@@ -1,9 +1,7 @@
-use mathlib.Core.Path.{sym}
 use native.Mathlib.Nat.{mul-le-mul}
 use native.Mathlib.Omega.{arith}
 use Rattle.protocol.specs.Element.{width}
 use Rattle.half_sums.specs.Halves.{sizeOf}
-use borrow.Author.Needs.{needs}
 use Rattle.plain_products.proofs.size.Statement.{statement}
 use Rattle.plain_products.proofs.size.Tie as tie
 

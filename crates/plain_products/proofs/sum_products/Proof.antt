@@ -5,8 +5,8 @@ use native.Mathlib.Omega.{arith}
 use borrow.Author.Tests.{eqb-true, ltb-true}
 use lib.ListN.{length}
 use Rattle.half_sums.specs.Halves.{sizeOf}
-use Rattle.plain_products.proofs.Rows.{first-known, front-given, one-summed}
-use borrow.Author.Needs.{needs}
+use Rattle.product_sums.proofs.Rows.{first-known}
+use Rattle.plain_products.proofs.Rows.{front-given, one-summed}
 use Rattle.plain_products.proofs.sum_products.Statement.{statement}
 use Rattle.plain_products.proofs.sum_products.Tie as tie
 
@@ -57,5 +57,5 @@ returns-2 c = λ G z.
 pub sum-products-spec : {M : Type 1} → statement M
 sum-products-spec =
     tie.close
-    (tie.spec add-products-requires (λ c. search) (λ c. search) (λ c. search) returns (λ c κs. search needs) (λ c. search) (λ c. search) (λ c. search) (λ c. search) (λ c. search) (λ c. search)
+    (tie.spec add-products-requires (λ c. search) (λ c. search) (λ c. search) returns (λ c κs. search) (λ c. search) (λ c. search) (λ c. search) (λ c. search) (λ c. search) (λ c. search)
     returns-2)

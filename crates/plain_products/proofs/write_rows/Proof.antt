@@ -1,11 +1,11 @@
 -- The loop keeps: the elements of the first r rows are written.
 use mathlib.Core.Path.{_≡_, refl, sym, ap, _∙_}
 use mathlib.Core.List.{List}
-use Prim.Native.Nat.{ℕ, _+_, _*_, _-_, _<_, _≤_}
+use Prim.Native.Nat.{ℕ, _*_, _-_, _<_, _≤_}
 use borrow.Rule.Slice.PartMut.{putMid}
 use native.Mathlib.Nat as Nat
 use native.Mathlib.Omega.{arith}
-use lib.ListN.{length, getD, take, drop}
+use lib.ListN.{length, take, drop}
 use Rattle.protocol.specs.Element.{Element, width, modulo, reduced}
 use Rattle.protocol.specs.Layout.{rowsMost}
 use Rattle.protocol.proofs.Reading.{row-inside, tabulate-at}
@@ -14,13 +14,22 @@ use Rattle.residues.proofs.Fill.{filled-none, filled-ext}
 use Rattle.residues.proofs.Parts.{tail-length}
 use Rattle.modular.specs.Factors.{Modulus}
 use Rattle.rows.specs.Rows.{woven}
+use Rattle.joins.specs.Sums.{Stand}
+use Rattle.joins.proofs.Joining.{halves-within}
 use Rattle.plain_products.specs.Sums.{Summed}
 use Rattle.plain_products.specs.Rowwise.{elementPlaces, rowPlaces}
-use Rattle.plain_products.proofs.Standing.{summed-stand}
 use Rattle.plain_products.proofs.Rowwise.{put-length, row-turn}
 use borrow.Author.Needs.{needs}
 use Rattle.plain_products.proofs.write_rows.Statement.{statement}
 use Rattle.plain_products.proofs.write_rows.Tie as tie
+
+-- sums that are done may be joined
+summed-stand : (q d : ℕ) (F : Element) (s t : List ℕ) → d ≤ length s → d ≤ length t → Summed q d F s t → Stand q d F s t
+summed-stand q d F s t ls lt ok = record {
+  lowers = ls;
+  uppers = lt;
+  each = λ k l. halves-within q _ _ _ _ _ (omega (arith, ok .few)) (ok .stands .each k l);
+}
 
 abbrev Given : ℕ → ℕ → ℕ → List ℕ → List ℕ → List ℕ → (ℕ → Element) → Type 0
 Given q d rows s t out F = Modulus q × (d ≤ width) × (rows ≤ rowsMost) × (d * rows ≤ length s) × (d * rows ≤ length t) × (rows * d ≤ length out) × Summed q (d * rows) (woven rows F) s t
@@ -88,5 +97,5 @@ returns-2 c = λ F z.
 pub write-rows-spec : {M : Type 1} → statement M
 write-rows-spec =
     tie.close
-    (tie.spec Inv-loop μ-loop (λ c κs. search needs) loop-holds (λ c. search needs) (λ c. search) returns (λ c. search needs) (λ c. search needs) (λ c. search needs) (λ c. search needs)
-    (λ c κs. search needs) (λ c. search needs) (λ c. search needs) (λ c. search needs) loop-again (λ c. search) returns-2)
+    (tie.spec Inv-loop μ-loop (λ c κs. search) loop-holds (λ c. search needs) (λ c. search) returns (λ c. search needs) (λ c. search needs) (λ c. search needs) (λ c. search needs)
+    (λ c κs. search) (λ c. search needs) (λ c. search needs) (λ c. search needs) loop-again (λ c. search) returns-2)

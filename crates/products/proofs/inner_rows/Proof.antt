@@ -6,7 +6,8 @@ use native.Mathlib.Omega.{arith}
 use lib.IntN.{ℤ}
 use lib.ListN.{length}
 use Rattle.batches.specs.Batches.{Suits}
-use Rattle.plain_products.specs.Sums.{RowsGiven, RowsWritten}
+use Rattle.product_sums.specs.Sums.{RowsGiven}
+use Rattle.plain_products.specs.Sums.{RowsWritten}
 use borrow.Author.Needs.{needs}
 use Rattle.products.proofs.inner_rows.Statement.{statement}
 use Rattle.products.proofs.inner_rows.Tie as tie

@@ -10,10 +10,12 @@ use Rattle.residues.specs.Lists.{filled}
 use Rattle.residues.proofs.Parts.{tail-at, tail-length}
 use Rattle.half_sums.specs.Halves.{sizeOf, messagesOf}
 use Rattle.batches.specs.Batches.{Suits, Ready}
-use Rattle.plain_products.specs.Sums.{innerElement, RowsGiven}
+use Rattle.product_sums.specs.Sums.{RowsGiven}
+use Rattle.plain_products.specs.Sums.{innerElement}
 use Rattle.plain_products.specs.Rowwise.{elementPlaces, rowPlaces}
 use Rattle.plain_products.proofs.Rowwise.{put-length}
-use Rattle.plain_products.proofs.Rows.{known, given-alike}
+use Rattle.product_sums.proofs.Rows.{known}
+use Rattle.plain_products.proofs.Rows.{given-alike}
 use Rattle.products.proofs.Rows.{key-given, element-alike, row-stored, Written, written-none, table-room, written-more}
 use borrow.Author.Needs.{needs}
 use Rattle.products.proofs.write_rows.Statement.{statement}

@@ -3,7 +3,7 @@ use mathlib.Core.Path.{sym}
 use Prim.Native.Nat.{_≤_}
 use lib.ListN.{length}
 use lib.Seq.{length-take-le}
-use Rattle.protocol.specs.Text.{textLimit}
+use Rattle.text_format.specs.Text.{textLimit}
 use Rattle.table_writer.proofs.Shows.{shown-as, shown-told}
 use Rattle.prove_text.proofs.Output.{prints-refusal, listing-within, prints-listing}
 use Rattle.prove_text.proofs.print.Statement.{statement}

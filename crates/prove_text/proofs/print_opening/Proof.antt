@@ -15,8 +15,8 @@ use Rattle.protocol.specs.WrittenClaims.{claimTable}
 use Rattle.protocol.specs.Basic.{Provided}
 use Rattle.protocol.specs.Settings.{settingsRefusal}
 use Rattle.protocol.specs.Calls.{openingRefusal}
-use Rattle.protocol.specs.Text.{textOf}
-use Rattle.protocol.specs.Programs.{printed}
+use Rattle.text_format.specs.Text.{textOf}
+use Rattle.text_format.specs.Programs.{printed}
 use Rattle.protocol.proofs.Inputs.{valid-settings}
 use Rattle.claims.proofs.Honest.{opening-granted, opening-commitment, opening-last, opening-rounds}
 use Rattle.claim_tables.specs.Claims.{claimed, claimsRoom, Given}

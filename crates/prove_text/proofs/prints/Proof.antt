@@ -1,6 +1,6 @@
 -- `prints`: parts 0, 3, 4, 5, 6 and 7.
 use mathlib.Core.Path.{refl}
-use Rattle.protocol.specs.Programs.{provePrints}
+use Rattle.text_format.specs.Programs.{provePrints}
 use Rattle.prove_text.proofs.prints.Statement.{statement}
 use Rattle.prove_text.proofs.prints.Tie as tie
 

@@ -6,9 +6,9 @@ use borrow.Author.Needs.{needs}
 use lib.ListN.{length}
 use Rattle.protocol.specs.declared.Settings.{Settings}
 use Rattle.protocol.specs.Layout.{roundCells}
-use Rattle.protocol.specs.Text.{Tables, linesOf, settingsIn}
-use Rattle.protocol.specs.Promises.{Read}
-use Rattle.protocol.specs.Programs.{proveReads}
+use Rattle.text_format.specs.Text.{Tables, linesOf, settingsIn}
+use Rattle.text_format.specs.Promises.{Read}
+use Rattle.text_format.specs.Programs.{proveReads}
 use Rattle.text_parts.specs.Parts.{tablesOf, lengthsOf}
 use Rattle.table_reader.specs.Parts.{Lent}
 use Rattle.table_reader.proofs.OnText.{number-is, settings-unrefused, same-lines, settings-are, tables-are, settings-allowed, entries-passed, still-fitting}

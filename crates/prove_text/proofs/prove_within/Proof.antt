@@ -10,8 +10,8 @@ use lib.Seq.{length-take-le}
 use Rattle.protocol.specs.declared.Settings.{Settings}
 use Rattle.protocol.specs.Layout.{keyCells, roundCells}
 use Rattle.protocol.specs.Settings.{settingsRefusal, cells}
-use Rattle.protocol.specs.Text.{fits, wanted, linesOf, spotsOf, sameSpots, settingsIn, lookRefusal}
-use Rattle.protocol.specs.Programs.{proveReads}
+use Rattle.text_format.specs.Text.{fits, wanted, linesOf, spotsOf, sameSpots, settingsIn, lookRefusal}
+use Rattle.text_format.specs.Programs.{proveReads}
 use Rattle.text_parts.specs.Parts.{tablesOf, lentCells}
 use Rattle.table_reader.proofs.Rooms.{rooms}
 use Rattle.table_reader.proofs.OnText.{look-refusal}

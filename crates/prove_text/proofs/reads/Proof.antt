@@ -1,6 +1,6 @@
 -- `reads`: parts 0, 1, 2 and 5.
 use mathlib.Core.Path.{refl}
-use Rattle.protocol.specs.Programs.{proveReads}
+use Rattle.text_format.specs.Programs.{proveReads}
 use Rattle.prove_text.proofs.reads.Statement.{statement}
 use Rattle.prove_text.proofs.reads.Tie as tie
 

@@ -8,7 +8,8 @@ use Rattle.protocol.specs.Rows.{keyRow}
 use Rattle.protocol.specs.Calls.{commitRefusal}
 use Rattle.residues.specs.Lists.{filled}
 use Rattle.prover_refusals.proofs.Given.{commit-key}
-use Rattle.plain_products.specs.Sums.{innerElement, RowsGiven}
+use Rattle.product_sums.specs.Sums.{RowsGiven}
+use Rattle.plain_products.specs.Sums.{innerElement}
 use Rattle.plain_products.specs.Rowwise.{rowPlaces}
 use Rattle.prover.proofs.Values.{commit-rows-given, commitment-item}
 use borrow.Author.Needs.{needs}

@@ -7,8 +7,8 @@ use Rattle.protocol.specs.Layout.{itemCells}
 use Rattle.protocol.specs.Opening.{inner}
 use Rattle.protocol.proofs.Inputs.{settings-valid}
 use Rattle.residues.specs.Lists.{filled}
-use Rattle.plain_products.specs.Sums.{messagesOf, keysOf, RowsGiven}
-use Rattle.plain_products.proofs.Rows.{known}
+use Rattle.product_sums.specs.Sums.{messagesOf, keysOf, RowsGiven}
+use Rattle.product_sums.proofs.Rows.{known}
 use Rattle.round_products.specs.Sums.{half, Halvables}
 use Rattle.round_products.proofs.Itemwise.{written-halvable, written-times}
 use borrow.Author.Needs.{needs}

@@ -92,6 +92,6 @@ returns-7 c = λ z room.
 pub polynomial-spec : {M : Type 1} → statement M
 polynomial-spec =
     tie.close
-    (tie.spec returns (λ c κs. search needs) returns-2 returns-3 returns-4 (λ c κs. search needs) (λ c. search needs) (λ c. search needs) mul-half returns-5 returns-6 (λ c. search needs)
-    (λ c κs. search needs) (λ c. search needs) (λ c. search needs) (λ c. search needs) (λ c. search needs) (λ c. search needs) (λ c. search needs) (λ c. search needs) (λ c. search needs)
-    (λ c. search needs) (λ c κs. search needs) (λ c. search needs) (λ c κs. search needs) (λ c κs. search needs) (λ c. search needs) (λ c. search needs) (λ c. search needs) returns-7)
+    (tie.spec returns (λ c κs. search) returns-2 returns-3 returns-4 (λ c κs. search) (λ c. search needs) (λ c. search needs) mul-half returns-5 returns-6 (λ c. search needs)
+    (λ c κs. search) (λ c. search needs) (λ c. search needs) (λ c. search) (λ c. search) (λ c. search needs) (λ c. search needs) (λ c. search) (λ c. search)
+    (λ c. search needs) (λ c κs. search) (λ c. search needs) (λ c κs. search) (λ c κs. search needs) (λ c. search) (λ c. search) (λ c. search) returns-7)

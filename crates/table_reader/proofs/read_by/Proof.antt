@@ -3,7 +3,7 @@ use mathlib.Core.List.{List}
 use Prim.Native.Nat.{ℕ}
 use lib.IntN.{ℤ}
 use Rattle.protocol.specs.declared.Parts.{Parts}
-use Rattle.protocol.specs.Text.{Tables}
+use Rattle.text_format.specs.Text.{Tables}
 use Rattle.text_parts.specs.Parts.{tablesOf, lengthsOf}
 use Rattle.text_lines.specs.Header.{Begins}
 use Rattle.text_values.specs.Stored.{Gathered}

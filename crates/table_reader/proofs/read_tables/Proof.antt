@@ -1,6 +1,6 @@
 -- `read_tables`: a short text by a small place, every other by one that has room for all.
 use native.Mathlib.Omega.{arith}
-use Rattle.protocol.specs.Text.{textLimit}
+use Rattle.text_format.specs.Text.{textLimit}
 use Rattle.table_reader.proofs.read_tables.Statement.{statement}
 use Rattle.table_reader.proofs.read_tables.Tie as tie
 

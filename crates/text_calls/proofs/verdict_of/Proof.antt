@@ -1,6 +1,6 @@
 use mathlib.Core.Path.{sym, ap, _∙_}
 use Rattle.protocol.specs.declared.Verified.{Verified}
-use Rattle.protocol.specs.Programs.{checked}
+use Rattle.text_format.specs.Programs.{checked}
 use Rattle.protocol.specs.Session.{verdictNumber}
 use borrow.Author.Needs.{needs}
 use Rattle.text_calls.proofs.verdict_of.Statement.{statement}

@@ -8,7 +8,7 @@ use borrow.Author.Needs.{needs}
 use borrow.Author.Tests.{eq-eqb, ne-eqb}
 use lib.Dec.{eqb}
 use lib.ListN.{length, getD, drop, drop-of-length-le}
-use Rattle.protocol.specs.Text.{begins}
+use Rattle.text_format.specs.Text.{begins}
 use Rattle.text_parts.proofs.From.{from-cons}
 use Rattle.text_names.proofs.begins.Statement.{statement}
 use Rattle.text_names.proofs.begins.Tie as tie

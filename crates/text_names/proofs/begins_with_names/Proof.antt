@@ -8,7 +8,7 @@ use borrow.Author.Needs.{needs}
 use borrow.Author.Tests.{eq-eqb, ne-eqb}
 use lib.Dec.{eqb}
 use lib.ListN.{take}
-use Rattle.protocol.specs.Text.{bytes, begins, beginsWithNames}
+use Rattle.text_format.specs.Text.{bytes, begins, beginsWithNames}
 use Rattle.text_names.specs.Words.{word}
 use Rattle.text_names.proofs.Names.{one, two, six, from, names-words, names-short}
 use Rattle.text_names.proofs.begins_with_names.Statement.{statement}

@@ -11,7 +11,7 @@ use lib.ListN.{getD}
 use Rattle.protocol.specs.declared.Settings.{Settings}
 use Rattle.protocol.specs.declared.Parts.{Parts}
 use Rattle.protocol.specs.Basic.{every}
-use Rattle.protocol.specs.Text.{shapeSize}
+use Rattle.text_format.specs.Text.{shapeSize}
 use Rattle.ranges.proofs.Scan.{every-none, every-goes-on, every-fails, every-ends}
 use Rattle.text_parts.specs.Parts.{tableCount, partOf, lengthsAre}
 use Rattle.text_parts.proofs.fits.Statement.{statement}

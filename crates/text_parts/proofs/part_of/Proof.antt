@@ -1,7 +1,7 @@
 -- `part_of`: by the test whether the part is there.
 use mathlib.Core.Path.{sym, ap}
 use Rattle.protocol.specs.Basic.{choose}
-use Rattle.protocol.specs.Text.{shape}
+use Rattle.text_format.specs.Text.{shape}
 use Rattle.text_parts.proofs.part_of.Statement.{statement}
 use Rattle.text_parts.proofs.part_of.Tie as tie
 

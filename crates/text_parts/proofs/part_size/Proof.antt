@@ -1,7 +1,7 @@
 -- `part_size`: the lines of the part's shape.
 use mathlib.Core.Path.{ap, _∙_}
 use borrow.Author.Needs.{needs}
-use Rattle.protocol.specs.Text.{shapeSize}
+use Rattle.text_format.specs.Text.{shapeSize}
 use Rattle.text_parts.proofs.part_size.Statement.{statement}
 use Rattle.text_parts.proofs.part_size.Tie as tie
 

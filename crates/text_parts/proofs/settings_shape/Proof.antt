@@ -1,7 +1,7 @@
 -- `settings_shape`: one item of five places.
 use mathlib.Core.Path.{refl}
 use Rattle.protocol.specs.Basic.{choose}
-use Rattle.protocol.specs.Text.{shape, settingsShape}
+use Rattle.text_format.specs.Text.{shape, settingsShape}
 use Rattle.text_parts.proofs.settings_shape.Statement.{statement}
 use Rattle.text_parts.proofs.settings_shape.Tie as tie
 

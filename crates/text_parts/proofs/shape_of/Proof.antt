@@ -11,7 +11,7 @@ use Rattle.protocol.specs.Settings.{size}
 use Rattle.protocol.specs.declared.Settings.{Settings}
 use Rattle.protocol.specs.declared.Parts.{Parts}
 use Rattle.protocol.specs.Layout.{rowsMost}
-use Rattle.protocol.specs.Text.{Shape, shape, settingsShape, shapes}
+use Rattle.text_format.specs.Text.{Shape, shape, settingsShape, shapes}
 use Rattle.text_parts.specs.Parts.{partShape, partOf}
 use Rattle.text_parts.proofs.Counted.{part-counted, part-deep, part-many}
 use Rattle.text_parts.proofs.shape_of.Statement.{statement}

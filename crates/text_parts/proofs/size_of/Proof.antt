@@ -4,7 +4,7 @@ use Prim.Native.Nat.{_≤_}
 use native.Mathlib.Omega.{arith}
 use native.Mathlib.Nat as Nat
 use borrow.Author.Needs.{needs}
-use Rattle.protocol.specs.Text.{shapeSize}
+use Rattle.text_format.specs.Text.{shapeSize}
 use Rattle.text_parts.proofs.size_of.Statement.{statement}
 use Rattle.text_parts.proofs.size_of.Tie as tie
 

@@ -10,7 +10,7 @@ use lib.IntN.{ℤ}
 use Rattle.protocol.specs.declared.Settings.{Settings}
 use Rattle.protocol.specs.declared.Parts.{Parts}
 use Rattle.protocol.specs.declared.Loaded.{Loaded}
-use Rattle.protocol.specs.Text.{linesOf, settingsIn, lookRefusal, lookAnswer}
+use Rattle.text_format.specs.Text.{linesOf, settingsIn, lookRefusal, lookAnswer}
 use Rattle.protocol.proofs.Tests.{and-intro}
 use Rattle.protocol.proofs.Refusals.{and-fails-left, and-fails-right}
 use Rattle.text_parts.specs.Parts.{lengthsFit}

@@ -9,7 +9,7 @@ use borrow.Author.Tests.{not-true, not-false}
 use lib.ListN.{length}
 use Rattle.protocol.specs.declared.Settings.{Settings}
 use Rattle.protocol.specs.Settings.{settingsRefusal}
-use Rattle.protocol.specs.Text.{textLimit}
+use Rattle.text_format.specs.Text.{textLimit}
 use Rattle.text_lines.specs.declared.header.Header.{Header}
 use Rattle.text_lines.specs.Header.{Begins}
 use Rattle.text_lines.proofs.Looks.{header-within}

@@ -12,13 +12,12 @@ returns c =
     let a = c .before .before .before .before .before .before .before .before .args in
     let lent = by-value (a .progress .settings) _ in
     c .round-on .ensures (record {
-      claims-long = search needs;
-      first = lent (search needs);
-      second = by-value (a .progress .settings) _ (search needs);
-      third = by-value (a .progress .settings) _
-          (search needs);
+      claims-long = search;
+      first = lent (search);
+      second = by-value (a .progress .settings) _ (search);
+      third = by-value (a .progress .settings) _ (search);
     })
     ∙ turn-same (recordOf (a .progress) (a .claims .now)) (a .polynomial .now) (a .e)
 
 pub round-with-spec : {M : Type 1} → statement M
-round-with-spec = tie.close (tie.spec (λ c. search needs) (λ c. search needs) (λ c. search needs) (λ c κs. search needs) returns)
+round-with-spec = tie.close (tie.spec (λ c. search needs) (λ c. search needs) (λ c. search needs) (λ c κs. search) returns)

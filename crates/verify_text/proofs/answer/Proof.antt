@@ -9,8 +9,8 @@ use Rattle.protocol.specs.Basic.{choose}
 use Rattle.protocol.specs.Rows.{rowOf, allAccepted}
 use Rattle.protocol.specs.Transcript.{element, claimAfter}
 use Rattle.protocol.specs.WrittenClaims.{claimOf, claimWritten, claimsWritten}
-use Rattle.protocol.specs.Text.{Tables}
-use Rattle.protocol.specs.Programs.{transcriptIn, tablesAccepted}
+use Rattle.text_format.specs.Text.{Tables}
+use Rattle.text_format.specs.Programs.{transcriptIn, tablesAccepted}
 use Rattle.text_parts.specs.Parts.{tablesOf}
 use Rattle.verify_text.proofs.Checks.{long, claims-given, transcript-given}
 use Rattle.verify_text.proofs.answer.Statement.{statement}

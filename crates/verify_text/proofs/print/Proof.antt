@@ -1,6 +1,6 @@
 -- `print`: the line of the answer.
 use mathlib.Core.Path.{ap}
-use Rattle.protocol.specs.Programs.{verdictLine, verifyOutput}
+use Rattle.text_format.specs.Programs.{verdictLine, verifyOutput}
 use Rattle.table_writer.proofs.Shows.{shown-as, shown-told}
 use Rattle.verify_text.proofs.print.Statement.{statement}
 use Rattle.verify_text.proofs.print.Tie as tie

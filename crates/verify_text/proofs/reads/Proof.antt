@@ -1,6 +1,6 @@
 -- `reads`: parts 0, 1, 3, 4, 5, 6 and 7.
 use mathlib.Core.Path.{refl}
-use Rattle.protocol.specs.Programs.{verifyReads}
+use Rattle.text_format.specs.Programs.{verifyReads}
 use Rattle.verify_text.proofs.reads.Statement.{statement}
 use Rattle.verify_text.proofs.reads.Tie as tie
 

@@ -1,8 +1,8 @@
 -- `show_verdict`: the line of each case.
 use mathlib.Core.Path.{_≡_, sym, ap}
 use borrow.Author.Needs.{needs}
-use Rattle.protocol.specs.Text.{bytes}
-use Rattle.protocol.specs.Programs.{verdictLine}
+use Rattle.text_format.specs.Text.{bytes}
+use Rattle.text_format.specs.Programs.{verdictLine}
 use Rattle.table_writer.proofs.Shows.{shown-as}
 use Rattle.verify_text.proofs.show_verdict.Statement.{statement}
 use Rattle.verify_text.proofs.show_verdict.Tie as tie

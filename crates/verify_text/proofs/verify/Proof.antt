@@ -4,8 +4,8 @@ use mathlib.Core.List.{List}
 use Prim.Native.Nat.{ℕ}
 use borrow.Author.Needs.{needs}
 use Rattle.protocol.specs.declared.Verified.{Verified}
-use Rattle.protocol.specs.Programs.{verifyAnswer, checked, verifyGives}
-use Rattle.protocol.proofs.Answers.{verify-given}
+use Rattle.text_format.specs.Programs.{verifyAnswer, checked, verifyGives}
+use Rattle.text_format.proofs.Answers.{verify-given}
 use Rattle.verify_text.proofs.verify.Statement.{statement}
 use Rattle.verify_text.proofs.verify.Tie as tie
 

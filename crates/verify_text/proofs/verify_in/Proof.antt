@@ -3,9 +3,9 @@ use mathlib.Core.Path.{_≡_, subst}
 use mathlib.Core.List.{List, [], _∷_}
 use Prim.Native.Nat.{ℕ}
 use lib.ListN.{length}
-use Rattle.protocol.specs.Text.{Tables}
-use Rattle.protocol.specs.Promises.{Read}
-use Rattle.protocol.specs.Programs.{verifyReads, transcriptIn, tablesAccepted}
+use Rattle.text_format.specs.Text.{Tables}
+use Rattle.text_format.specs.Promises.{Read}
+use Rattle.text_format.specs.Programs.{verifyReads, transcriptIn, tablesAccepted}
 use Rattle.text_parts.specs.Parts.{tablesOf, lengthsOf}
 use Rattle.table_reader.specs.Parts.{Lent}
 use Rattle.verify_text.proofs.Checks.{given-bare}

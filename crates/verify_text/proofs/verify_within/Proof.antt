@@ -10,8 +10,8 @@ use lib.Seq.{length-take-le}
 use Rattle.protocol.specs.declared.Settings.{Settings}
 use Rattle.protocol.specs.Layout.{keyCells, roundCells}
 use Rattle.protocol.specs.Settings.{settingsRefusal}
-use Rattle.protocol.specs.Text.{Tables, fits, wanted, linesOf, spotsOf, sameSpots, settingsIn, lookRefusal}
-use Rattle.protocol.specs.Programs.{verifyReads}
+use Rattle.text_format.specs.Text.{Tables, fits, wanted, linesOf, spotsOf, sameSpots, settingsIn, lookRefusal}
+use Rattle.text_format.specs.Programs.{verifyReads}
 use Rattle.text_parts.specs.Parts.{tablesOf, cellsRoom, lentCells}
 use Rattle.verify_text.proofs.Checks.{Long}
 use Rattle.verify_text.proofs.Verifies.{verify-stops, tables-few, lent-fitting}

@@ -84,12 +84,12 @@ loop-again c =
     let l = c .before .before .before .before .loop in
     let a = c .before .before .before .before .before .before .before .before .before .before .before .before .before .before .args in (
       omega arith,
-      omega arith,
-      omega arith,
-      omega arith,
-      omega arith,
-      omega arith,
-      omega arith,
+      l .inv .1,
+      l .inv .2,
+      l .inv .3,
+      l .inv .4,
+      l .inv .5,
+      l .inv .6,
       simp length-set (omega arith),
       λ q F R S. filled-turn _ (l .k) _ (l .inv .8 q F R S)
           (c .join .ensures q (F (a .r) (l .k)) (R, strand-halves q (a .strands) (a .d) (a .r) (l .k) F (a .s .now) (a .t .now) (l .inv .3) (omega arith) S))

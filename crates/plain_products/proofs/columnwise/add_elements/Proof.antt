@@ -3,9 +3,8 @@ use Prim.Native.Nat.{_*_}
 use native.Mathlib.Nat as Nat
 use Rattle.protocol.specs.Element.{signedAt, residueAt}
 use Rattle.protocol.specs.Opening.{inner}
-use Rattle.plain_products.specs.Sums.{Stands}
-use Rattle.plain_products.proofs.Standing.{table-stands}
-use borrow.Author.Needs.{needs}
+use Rattle.product_sums.specs.Sums.{Stands}
+use Rattle.product_sums.proofs.Standing.{table-stands}
 use Rattle.plain_products.proofs.columnwise.add_elements.Statement.{statement}
 use Rattle.plain_products.proofs.columnwise.add_elements.Tie as tie
 
@@ -18,4 +17,4 @@ returns c = λ q t z h.
     (table-stands q (a .n) (a .f .now) (a .g .now) z (h .0) (a .s .now) t (h .1) (a .n) (Nat.le-refl (a .n)))
 
 pub add-elements-spec : {M : Type 1} → statement M
-add-elements-spec = tie.close (tie.spec (λ c κs. search needs) (λ c. search needs) returns)
+add-elements-spec = tie.close (tie.spec (λ c κs. search) (λ c. search) returns)

@@ -9,9 +9,9 @@ use lib.ListN.{length}
 use Rattle.protocol.specs.Element.{signedAt, residueAt}
 use Rattle.protocol.specs.Opening.{inner}
 use Rattle.half_sums.specs.Halves.{sizeOf, messageSums, keySums, messagesOf, keysOf}
-use Rattle.plain_products.specs.Sums.{Stands, Summed, Summable, Given, Zero}
-use Rattle.plain_products.proofs.Standing.{stands-zero}
-use borrow.Author.Needs.{needs}
+use Rattle.product_sums.specs.Sums.{Stands, Summable, Given, Zero}
+use Rattle.plain_products.specs.Sums.{Summed}
+use Rattle.product_sums.proofs.Standing.{stands-zero}
 use Rattle.plain_products.proofs.columnwise.add_products.Statement.{statement}
 use Rattle.plain_products.proofs.columnwise.add_products.Tie as tie
 

@@ -6,8 +6,8 @@ use native.Mathlib.Omega.{arith}
 use lib.ListN.{length}
 use Rattle.protocol.specs.Opening.{inner}
 use Rattle.half_sums.specs.Halves.{messageSums, keySums, Halves}
-use Rattle.plain_products.specs.Sums.{Stands}
-use Rattle.plain_products.proofs.Standing.{stands-first, columns-stand}
+use Rattle.product_sums.specs.Sums.{Stands}
+use Rattle.product_sums.proofs.Standing.{stands-first, columns-stand}
 use Rattle.plain_products.proofs.SumsOfHalves.{sums-columned, sums-more}
 use borrow.Author.Needs.{needs}
 use Rattle.plain_products.proofs.columnwise.add_sums.Statement.{statement}
@@ -58,5 +58,5 @@ returns c = λ t z.
 pub add-sums-spec : {M : Type 1} → statement M
 add-sums-spec =
     tie.close
-    (tie.spec Inv-loop μ-loop (λ c. search needs) loop-holds (λ c. search needs) (λ c. search needs) (λ c. search needs) (λ c κs. search needs) (λ c κs. search needs) (λ c. search needs)
+    (tie.spec Inv-loop μ-loop (λ c. search needs) loop-holds (λ c. search needs) (λ c. search needs) (λ c. search needs) (λ c κs. search) (λ c κs. search) (λ c. search needs)
     (λ c. search needs) loop-again (λ c. search) (λ c. search) (λ c. search) returns)

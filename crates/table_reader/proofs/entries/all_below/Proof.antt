@@ -10,7 +10,7 @@ use lib.ListN.{length, getD, drop}
 use lib.IntN.{ℤ, pos}
 use mir.Syntax.{w64}
 use Rattle.protocol.specs.Basic.{all}
-use Rattle.protocol.specs.Text.{valueLimit, unsigned}
+use Rattle.text_format.specs.Text.{valueLimit, unsigned}
 use Rattle.protocol.proofs.Tests.{all-map}
 use Rattle.ranges.proofs.Magnitude.{through-bits}
 use Rattle.ranges.proofs.Scan.{all-goes-on, all-fails, all-ends}

@@ -7,9 +7,9 @@ use lib.Dec.{ltb}
 use mathlib.Core.List.{map}
 use Rattle.protocol.specs.Basic.{all}
 use Rattle.protocol.specs.Settings.{allBelow, exponent, exponents}
-use Rattle.protocol.specs.Text.{valueLimit, narrowLimit, unsigned}
+use Rattle.text_format.specs.Text.{valueLimit, narrowLimit, unsigned}
 use Rattle.text_parts.specs.Parts.{testedBy}
-use Rattle.protocol.proofs.TextLimits.{allowed, exponent-le}
+use Rattle.text_format.proofs.TextLimits.{allowed, exponent-le}
 use Rattle.table_reader.proofs.Narrow.{below-either}
 use Rattle.table_reader.proofs.Refuses.{untested, tested, tests-residues, tests-bound, tests-exponents, tests-nothing}
 use Rattle.table_reader.proofs.entries.pass.Statement.{statement}

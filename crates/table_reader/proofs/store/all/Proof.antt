@@ -5,7 +5,7 @@ use Prim.Native.Nat.{ℕ, _+_, _≤_}
 use native.Mathlib.Omega.{arith}
 use lib.ListN.{length}
 use lib.IntN.{ℤ}
-use Rattle.protocol.specs.Text.{valueLimit, narrowLimit, unsigned}
+use Rattle.text_format.specs.Text.{valueLimit, narrowLimit, unsigned}
 use Rattle.text_parts.specs.Parts.{tablesOf, lengthsOf}
 use Rattle.text_parts.specs.Flat.{cut, start, total}
 use Rattle.table_reader.specs.Cut.{cutTables, narrowed, narrowTables}

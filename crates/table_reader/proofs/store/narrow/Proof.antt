@@ -7,7 +7,7 @@ use lib.IntN.{natAbs}
 use mir.Syntax.{w32}
 use mir.Val.{SFits, toZ, ofZ}
 use mir.Facts.{toZ-ofZ}
-use Rattle.protocol.specs.Text.{narrowLimit}
+use Rattle.text_format.specs.Text.{narrowLimit}
 use Rattle.table_reader.proofs.Narrow.{narrow-fits, narrowed-is, narrowed-past}
 use Rattle.table_reader.proofs.store.narrow.Statement.{statement}
 use Rattle.table_reader.proofs.store.narrow.Tie as tie

@@ -4,7 +4,7 @@ use native.Mathlib.Omega.{arith}
 use lib.IntN.{pos}
 use mir.Facts.{toZ-pos}
 use mir.Syntax.{w64}
-use Rattle.protocol.specs.Text.{valueLimit}
+use Rattle.text_format.specs.Text.{valueLimit}
 use Rattle.table_writer.specs.Tables.{capped}
 use Rattle.table_writer.proofs.gather.residue_value.Statement.{statement}
 use Rattle.table_writer.proofs.gather.residue_value.Tie as tie

@@ -2,7 +2,7 @@
 use mathlib.Core.Path.{_≡_, refl, sym}
 use Prim.Native.Nat.{_-_, _^_, _<_, _≤_}
 use native.Mathlib.Omega.{arith}
-use Rattle.protocol.proofs.NumeralLaws.{digits-count}
+use Rattle.text_format.proofs.NumeralLaws.{digits-count}
 use Rattle.table_writer.proofs.Digits.{Reached, reached-next, ten-next, counted-most}
 use Rattle.table_writer.proofs.numbers.digit_count.Statement.{statement}
 use Rattle.table_writer.proofs.numbers.digit_count.Tie as tie

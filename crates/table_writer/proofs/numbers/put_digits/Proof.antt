@@ -7,8 +7,8 @@ use native.Mathlib.Nat as Nat
 use borrow.Author.Needs.{needs}
 use lib.ListN.{length, take, drop, length-set}
 use lib.Seq.{take-set-le, take-add}
-use Rattle.protocol.specs.Text.{lowDigits}
-use Rattle.protocol.proofs.NumeralLaws.{lowDigits-length}
+use Rattle.text_format.specs.Text.{lowDigits}
+use Rattle.text_format.proofs.NumeralLaws.{lowDigits-length}
 use Rattle.table_writer.proofs.Digits.{digit-step, digits-done}
 use Rattle.table_writer.proofs.numbers.put_digits.Statement.{statement}
 use Rattle.table_writer.proofs.numbers.put_digits.Tie as tie

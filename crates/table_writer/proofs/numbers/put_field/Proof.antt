@@ -5,8 +5,8 @@ use Prim.Native.Nat.{ℕ, _<_}
 use native.Mathlib.Omega.{arith}
 use borrow.Author.Needs.{needs}
 use lib.ListN.{length}
-use Rattle.protocol.specs.Text.{digitCount, lowDigits, decimal}
-use Rattle.protocol.proofs.NumeralLaws.{lowDigits-length}
+use Rattle.text_format.specs.Text.{digitCount, lowDigits, decimal}
+use Rattle.text_format.proofs.NumeralLaws.{lowDigits-length}
 use Rattle.table_writer.specs.Put.{field, Put}
 use Rattle.table_writer.proofs.Puts.{put-byte, put-then, put-as}
 use Rattle.table_writer.proofs.Digits.{digits-most}

@@ -8,7 +8,7 @@ use lib.IntN.{pos}
 use mir.Syntax.{w64}
 use mir.Val.{ofZ, toZ}
 use Rattle.ranges.proofs.Magnitude.{through-bits}
-use Rattle.protocol.specs.Text.{textLimit, shapeSize}
+use Rattle.text_format.specs.Text.{textLimit, shapeSize}
 use Rattle.text_parts.specs.Parts.{asShape, cellAt}
 use Rattle.text_parts.proofs.Cells.{cell-first, cell-inside, next-cell}
 use Rattle.table_writer.proofs.PartTexts.{Upto, upto-none, upto-line, upto-end, upto-over}

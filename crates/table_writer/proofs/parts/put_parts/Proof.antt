@@ -7,7 +7,7 @@ use native.Mathlib.Omega.{arith}
 use borrow.Author.Needs.{needs}
 use borrow.Author.Tests.{eqb-true}
 use lib.ListN.{length, getD, take, drop, length-take, length-drop}
-use Rattle.protocol.specs.Text.{shapeSize}
+use Rattle.text_format.specs.Text.{shapeSize}
 use Rattle.protocol.proofs.Tests.{every-at}
 use Rattle.text_parts.specs.Parts.{tableCount, asShape, partOf, lengthsAre}
 use Rattle.text_parts.specs.Flat.{start, piece}

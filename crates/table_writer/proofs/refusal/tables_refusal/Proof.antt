@@ -8,7 +8,7 @@ use Rattle.protocol.specs.declared.Settings.{Settings}
 use Rattle.protocol.specs.declared.Parts.{Parts}
 use Rattle.protocol.specs.Settings.{settingsRefusal, allBelow, allWithin, exponent, exponents}
 use Rattle.protocol.specs.Basic.{first, unless}
-use Rattle.protocol.specs.Text.{Tables, narrowLimit, fits, entriesRefusal}
+use Rattle.text_format.specs.Text.{Tables, narrowLimit, fits, entriesRefusal}
 use Rattle.protocol.proofs.Refusals.{first-stops, first-known, first-tested, tested-before, first-only}
 use Rattle.text_parts.specs.Parts.{tablesOf, partOf, lengthsAre}
 use Rattle.text_parts.proofs.Counted.{lengths-counted}

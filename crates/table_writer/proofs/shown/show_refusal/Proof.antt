@@ -6,8 +6,8 @@ use native.Mathlib.Omega.{arith}
 use borrow.Author.Needs.{needs}
 use lib.ListN.{length, take}
 use lib.Seq.{length-take-le, take-append-seam}
-use Rattle.protocol.specs.Text.{bytes}
-use Rattle.protocol.specs.Programs.{refusedLine}
+use Rattle.text_format.specs.Text.{bytes}
+use Rattle.text_format.specs.Programs.{refusedLine}
 use Rattle.table_writer.specs.Put.{field, Put}
 use Rattle.table_writer.proofs.Digits.{digits-most, field-length}
 use Rattle.table_writer.proofs.Shows.{shown-as}

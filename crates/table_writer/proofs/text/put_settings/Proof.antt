@@ -9,7 +9,7 @@ use lib.Seq.{take-append-seam}
 use mir.Syntax.{w64}
 use Rattle.ranges.proofs.Magnitude.{through-bits}
 use Rattle.protocol.specs.Basic.{choose}
-use Rattle.protocol.specs.Text.{textLimit, bytes, names, shape, settingsShape, shapeSize}
+use Rattle.text_format.specs.Text.{textLimit, bytes, names, shape, settingsShape, shapeSize}
 use Rattle.table_writer.specs.Put.{Held, partText}
 use Rattle.table_writer.specs.Tables.{settingsText}
 use Rattle.table_writer.proofs.text.put_settings.Statement.{statement}

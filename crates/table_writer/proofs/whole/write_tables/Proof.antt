@@ -7,7 +7,7 @@ use borrow.Author.Needs.{needs}
 use borrow.Author.Tests.{leb-true, leb-false, not-true, not-false}
 use lib.Dec.{leb}
 use lib.ListN.{length, drop, take-append-drop}
-use Rattle.protocol.specs.Text.{Tables}
+use Rattle.text_format.specs.Text.{Tables}
 use Rattle.text_parts.specs.Parts.{tablesOf, partOf, lengthsOf, lengthsAre, valuesRoom}
 use Rattle.text_parts.specs.Flat.{total, joined, tableValues}
 use Rattle.table_writer.specs.Tables.{valuesText, Output}

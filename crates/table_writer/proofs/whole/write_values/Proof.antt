@@ -7,7 +7,7 @@ use native.Mathlib.Omega.{arith}
 use borrow.Author.Needs.{needs}
 use lib.ListN.{length, take, drop}
 use lib.Seq.{length-take-le}
-use Rattle.protocol.specs.Text.{textLimit}
+use Rattle.text_format.specs.Text.{textLimit}
 use Rattle.text_parts.specs.Parts.{partOf, lengthsAre}
 use Rattle.table_writer.specs.Put.{textRoom, Held}
 use Rattle.table_writer.specs.Tables.{valuesText}
@@ -32,7 +32,7 @@ module _ (c : tie.Else1) where
   put = c .before .before
 
   front : length (take (count put) (place put)) ≡ count put
-  front = let same : length (place put) ≡ textRoom = search needs in length-take-le (count put) (place put) (omega arith)
+  front = let same : length (place put) ≡ textRoom = search in length-take-le (count put) (place put) (omega arith)
 
   -- so all of it is there
   module _ (fits : let a = put .before .before .before .args in lengthsAre (partOf (a .settings) (a .parts)) (a .lengths) ≡ true) where
@@ -68,5 +68,5 @@ returns-3 c fits =
 pub write-values-spec : {M : Type 1} → statement M
 write-values-spec =
     tie.close
-    (tie.spec (λ c. search needs) (λ c κs. search needs) returns returns-2 (λ c. search needs) slice-aggregate-copy copy-requires (λ c. search needs)
+    (tie.spec (λ c. search) (λ c κs. search needs) returns returns-2 (λ c. search needs) slice-aggregate-copy copy-requires (λ c. search)
     returns-3)

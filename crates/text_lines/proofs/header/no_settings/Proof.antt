@@ -1,6 +1,6 @@
 -- `no_settings`: five zeros.
 use mathlib.Core.Path.{refl}
-use Rattle.protocol.specs.Text.{noSettings}
+use Rattle.text_format.specs.Text.{noSettings}
 use Rattle.text_lines.proofs.header.no_settings.Statement.{statement}
 use Rattle.text_lines.proofs.header.no_settings.Tie as tie
 

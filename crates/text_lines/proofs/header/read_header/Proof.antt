@@ -12,8 +12,8 @@ use mir.Syntax.{w64}
 use mir.Val.{ofZ, toZ}
 use mir.Facts.{toZ-ofZ}
 use Rattle.protocol.specs.Basic.{tabulate, choose}
-use Rattle.protocol.specs.Text.{Spot, valueLimit, narrowLimit, shape, settingsShape, shapeSize, spotAt, spots, beginsWithNames, unsigned, noSettings}
-use Rattle.protocol.specs.Lines.{spot, readValue, readValues, settingsOf, readSettings}
+use Rattle.text_format.specs.Text.{Spot, valueLimit, narrowLimit, shape, settingsShape, shapeSize, spotAt, spots, beginsWithNames, unsigned, noSettings}
+use Rattle.text_format.specs.Lines.{spot, readValue, readValues, settingsOf, readSettings}
 use Rattle.text_lines.specs.declared.header.Header.{Header}
 use Rattle.text_lines.specs.Header.{headerAnswer}
 use Rattle.text_lines.proofs.Counts.{Found, suffix-back}

@@ -9,8 +9,8 @@ use lib.ListN.{length, drop}
 use lib.IntN.{ℤ}
 use Rattle.protocol.specs.Basic.{choose}
 use Rattle.protocol.specs.Settings.{settingsRefusal}
-use Rattle.protocol.specs.Text.{textLimit, lookRefusal, lookAnswer}
-use Rattle.protocol.specs.Lines.{present, allLines, settingsOf}
+use Rattle.text_format.specs.Text.{textLimit, lookRefusal, lookAnswer}
+use Rattle.text_format.specs.Lines.{present, allLines, settingsOf}
 use Rattle.text_lines.proofs.Looks.{Settled, settled-look, settled-granted, look-long, look-missing, loaded-refused, loaded-granted, header-found, header-unfound}
 use Rattle.text_lines.proofs.header.read_settings.Statement.{statement}
 use Rattle.text_lines.proofs.header.read_settings.Tie as tie

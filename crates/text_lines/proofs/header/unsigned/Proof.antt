@@ -5,7 +5,7 @@ use native.Mathlib.Omega.{arith}
 use lib.IntN.{pos}
 use mir.Syntax.{w64}
 use mir.Val.{Fits}
-use Rattle.protocol.specs.Text.{valueLimit, unsigned}
+use Rattle.text_format.specs.Text.{valueLimit, unsigned}
 use Rattle.text_lines.proofs.Words.{word-below, word-from, word-value, word-cast}
 use Rattle.text_lines.proofs.header.unsigned.Statement.{statement}
 use Rattle.text_lines.proofs.header.unsigned.Tie as tie

@@ -5,7 +5,7 @@ use native.Mathlib.Omega.{arith}
 use borrow.Author.Needs.{needs}
 use lib.IntN.{ℤ, pos, negsuc}
 use mir.Facts.{toZ-ofZ}
-use Rattle.protocol.specs.Text.{valueLimit, narrowLimit, unsigned}
+use Rattle.text_format.specs.Text.{valueLimit, narrowLimit, unsigned}
 use Rattle.text_lines.proofs.header.unsigned_narrow.Statement.{statement}
 use Rattle.text_lines.proofs.header.unsigned_narrow.Tie as tie
 

@@ -2,7 +2,7 @@
 use mathlib.Core.Path.{ap, _∙_}
 use native.Mathlib.Omega.{arith}
 use mir.Facts.{toZ-ofZ}
-use Rattle.protocol.specs.Text.{valueLimit, unsigned}
+use Rattle.text_format.specs.Text.{valueLimit, unsigned}
 use Rattle.text_lines.proofs.header.unsigned_wide.Statement.{statement}
 use Rattle.text_lines.proofs.header.unsigned_wide.Tie as tie
 

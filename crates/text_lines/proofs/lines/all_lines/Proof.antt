@@ -5,8 +5,8 @@ use Prim.Native.Nat.{ℕ, _-_, _<_}
 use native.Mathlib.Omega.{arith}
 use borrow.Author.Needs.{needs}
 use lib.ListN.{length, drop, length-drop, drop-of-length-le}
-use Rattle.protocol.specs.Text.{Line, readLine}
-use Rattle.protocol.specs.Lines.{present, allLines}
+use Rattle.text_format.specs.Text.{Line, readLine}
+use Rattle.text_format.specs.Lines.{present, allLines}
 use Rattle.text_lines.proofs.Counts.{Found}
 use Rattle.text_lines.proofs.Rows.{present-bind, line, line-found, line-missed, line-shorter, all-end, all-next, all-none}
 use Rattle.text_lines.proofs.lines.all_lines.Statement.{statement}

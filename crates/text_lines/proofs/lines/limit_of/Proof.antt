@@ -5,7 +5,7 @@ use native.Mathlib.Omega.{arith}
 use borrow.Author.Needs.{needs}
 use borrow.Author.Tests.{ne-eqb}
 use Rattle.protocol.specs.Basic.{among, choose}
-use Rattle.protocol.specs.Text.{valueLimit, narrowLimit, limitOf}
+use Rattle.text_format.specs.Text.{valueLimit, narrowLimit, limitOf}
 use Rattle.text_lines.proofs.lines.limit_of.Statement.{statement}
 use Rattle.text_lines.proofs.lines.limit_of.Tie as tie
 

@@ -10,8 +10,8 @@ use borrow.Author.Tests.{not-true, not-false}
 use lib.ListN.{length, drop}
 use lib.IntN.{ℤ, pos}
 use Rattle.protocol.specs.declared.Number.the-variants.{Value}
-use Rattle.protocol.specs.Text.{space, narrowLimit, readCount, plain, byte, numberAnswer}
-use Rattle.protocol.specs.Lines.{present, readIndexAt}
+use Rattle.text_format.specs.Text.{space, narrowLimit, readCount, plain, byte, numberAnswer}
+use Rattle.text_format.specs.Lines.{present, readIndexAt}
 use Rattle.text_lines.proofs.Counts.{Found, suffix-back, counted, uncounted, count-small}
 use Rattle.text_lines.proofs.Rows.{present-none, byte-place, byte-stands, column-uncounted, column-unspaced, column-read, index-both}
 use Rattle.text_lines.proofs.Words.{word-pos}

@@ -12,10 +12,10 @@ use lib.IntN.{ℤ, pos, natAbs}
 use mir.Syntax.{w64}
 use mir.Val.{ofZ, toZ}
 use mir.Facts.{toZ-ofZ}
-use Rattle.protocol.specs.Text.{lineFeed, narrowLimit, limitOf, readNumber, readNumberAt, byte, readIndex, readLine}
+use Rattle.text_format.specs.Text.{lineFeed, narrowLimit, limitOf, readNumber, readNumberAt, byte, readIndex, readLine}
 use Rattle.protocol.specs.declared.Number.{Number}
 use Rattle.protocol.specs.declared.Entry.the-variants.{Found as Line-at}
-use Rattle.protocol.specs.Lines.{present, lineAnswer, readLineAt}
+use Rattle.text_format.specs.Lines.{present, lineAnswer, readLineAt}
 use Rattle.text_lines.proofs.Counts.{Found, suffix-back, numbered, unnumbered}
 use Rattle.text_lines.proofs.Rows.{bind-some, bind-none, present-none, byte-place, byte-stands, columned, uncolumned, column-small, line-columns, line-both, line₁, line₂, line₃, line₄}
 use Rattle.text_lines.proofs.Words.{narrow-value, narrow-cast}

@@ -1,8 +1,8 @@
 -- `stands`: the byte at the place, where there is one.
 use mathlib.Core.Path.{sym, ap, _∙_}
 use borrow.Author.Needs.{needs}
-use Rattle.protocol.specs.Lines.{present}
-use Rattle.protocol.proofs.PlaceLaws.{byte-past}
+use Rattle.text_format.specs.Lines.{present}
+use Rattle.text_format.proofs.PlaceLaws.{byte-past}
 use Rattle.text_lines.proofs.Rows.{byte-inside, present-keep}
 use Rattle.text_lines.proofs.lines.stands.Statement.{statement}
 use Rattle.text_lines.proofs.lines.stands.Tie as tie

@@ -10,8 +10,8 @@ use mir.Syntax.{w64}
 use mir.Val.{ofZ, toZ}
 use mir.Facts.{toZ-ofZ}
 use Rattle.protocol.specs.declared.Number.the-variants.{Value, Refused}
-use Rattle.protocol.specs.Text.{Spot, Line, readLine, sameSpot, numberAnswer, reading}
-use Rattle.protocol.specs.Lines.{spot, readValue, givenNumber}
+use Rattle.text_format.specs.Text.{Spot, Line, readLine, sameSpot, numberAnswer, reading}
+use Rattle.text_format.specs.Lines.{spot, readValue, givenNumber}
 use Rattle.text_lines.proofs.Counts.{Found, suffix-back, answer-both}
 use Rattle.text_lines.proofs.Rows.{line, line-found, line-missed}
 use Rattle.text_lines.proofs.Values.{same-spot, other-part, other-item, other-place, value-unread, value-elsewhere, value-read}

@@ -2,8 +2,8 @@
 use mathlib.Core.Path.{ap, _∙_}
 use native.Mathlib.Omega.{arith}
 use borrow.Author.Needs.{needs}
-use Rattle.protocol.specs.Text.{readNumberAt}
-use Rattle.protocol.proofs.LineLaws.{limit-few}
+use Rattle.text_format.specs.Text.{readNumberAt}
+use Rattle.text_format.proofs.LineLaws.{limit-few}
 use Rattle.text_lines.proofs.lines.value_of.Statement.{statement}
 use Rattle.text_lines.proofs.lines.value_of.Tie as tie
 

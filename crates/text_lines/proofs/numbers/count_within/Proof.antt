@@ -12,9 +12,9 @@ use lib.IntN.{pos}
 use mir.Syntax.{w64}
 use mir.Facts.{toZ-pos}
 use Rattle.protocol.specs.declared.Number.the-variants.{Value}
-use Rattle.protocol.specs.Text.{valueLimit, digitRun, properDigits, plain, numberAnswer, readCountAt}
+use Rattle.text_format.specs.Text.{valueLimit, digitRun, properDigits, plain, numberAnswer, readCountAt}
 use Rattle.text_lines.specs.Digits.{pastLimit, keptRun, runAnswer}
-use Rattle.protocol.proofs.NumeralLaws.{proper-first}
+use Rattle.text_format.proofs.NumeralLaws.{proper-first}
 use Rattle.text_lines.proofs.Counts.{count-improper, count-large, count-read, count-both}
 use Rattle.text_lines.proofs.numbers.count_within.Statement.{statement}
 use Rattle.text_lines.proofs.numbers.count_within.Tie as tie

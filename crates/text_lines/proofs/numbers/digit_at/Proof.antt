@@ -1,7 +1,7 @@
 -- `digit_at`: the byte's range.
 use mathlib.Core.Path.{sym, _∙_}
 use borrow.Author.Needs.{needs}
-use Rattle.protocol.proofs.PlaceLaws.{digitFirst-inside, digitFirst-past}
+use Rattle.text_format.proofs.PlaceLaws.{digitFirst-inside, digitFirst-past}
 use Rattle.text_lines.proofs.Runs.{digit-below, digit-from}
 use Rattle.text_lines.proofs.numbers.digit_at.Statement.{statement}
 use Rattle.text_lines.proofs.numbers.digit_at.Tie as tie

@@ -6,10 +6,10 @@ use Prim.Native.Nat.{ℕ, _+_, _-_, _*_, _≤_, _<_, min}
 use native.Mathlib.Omega.{arith}
 use borrow.Author.Needs.{needs}
 use lib.ListN.{length, getD, drop, length-drop}
-use Rattle.protocol.specs.Text.{digitFirst, digitRun}
+use Rattle.text_format.specs.Text.{digitFirst, digitRun}
 use Rattle.text_lines.specs.declared.numbers.Run.{Run}
 use Rattle.text_lines.specs.Digits.{pastLimit, keptRun, runAnswer}
-use Rattle.protocol.proofs.NumeralLaws.{digit-bounds}
+use Rattle.text_format.proofs.NumeralLaws.{digit-bounds}
 use Rattle.text_lines.proofs.Runs.{first-place, first-digit, kept, kept-same, run-digit, run-end}
 use Rattle.text_lines.proofs.numbers.digit_run.Statement.{statement}
 use Rattle.text_lines.proofs.numbers.digit_run.Tie as tie

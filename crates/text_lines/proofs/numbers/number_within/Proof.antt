@@ -11,7 +11,7 @@ use mir.Val.{SFits, ofZ, toZ}
 use mir.ValLaws.{toZ-ofZ}
 use mir.Facts.{toZ-pos}
 use Rattle.protocol.specs.declared.Number.the-variants.{Value}
-use Rattle.protocol.specs.Text.{valueLimit, readCount, negative, readNumber, numberAnswer, readNumberAt, readCountAt}
+use Rattle.text_format.specs.Text.{valueLimit, readCount, negative, readNumber, numberAnswer, readNumberAt, readCountAt}
 use Rattle.text_lines.proofs.Counts.{Found, suffix-back, counted, uncounted, count-small, number-outside, number-plain, number-minus, negative-number, negative-zero, negative-none, number-both}
 use Rattle.text_lines.proofs.numbers.number_within.Statement.{statement}
 use Rattle.text_lines.proofs.numbers.number_within.Tie as tie

@@ -5,7 +5,7 @@ use native.Mathlib.Omega.{arith}
 use borrow.Author.Needs.{needs}
 use borrow.Author.Tests.{not-true, not-false}
 use lib.ListN.{drop}
-use Rattle.protocol.specs.Text.{digitFirst}
+use Rattle.text_format.specs.Text.{digitFirst}
 use Rattle.text_lines.proofs.Runs.{first-place, proper-none, proper-large, proper-zero}
 use Rattle.text_lines.proofs.numbers.proper_digits.Statement.{statement}
 use Rattle.text_lines.proofs.numbers.proper_digits.Tie as tie

@@ -1,7 +1,7 @@
 -- `read_count`: the limit by its name.
 use native.Mathlib.Omega.{arith}
 use borrow.Author.Needs.{needs}
-use Rattle.protocol.specs.Text.{valueLimit, narrowLimit}
+use Rattle.text_format.specs.Text.{valueLimit, narrowLimit}
 use Rattle.text_lines.proofs.numbers.read_count.Statement.{statement}
 use Rattle.text_lines.proofs.numbers.read_count.Tie as tie
 

@@ -1,6 +1,6 @@
 -- `read_number`: the limit by its name.
 use native.Mathlib.Omega.{arith}
-use Rattle.protocol.specs.Text.{valueLimit}
+use Rattle.text_format.specs.Text.{valueLimit}
 use Rattle.text_lines.proofs.numbers.read_number.Statement.{statement}
 use Rattle.text_lines.proofs.numbers.read_number.Tie as tie
 

@@ -12,9 +12,9 @@ use lib.IntN.{ℤ}
 use mir.Syntax.{w64}
 use mir.Val.{ofZ, toZ}
 use mir.Facts.{toZ-ofZ}
-use Rattle.protocol.specs.Text.{Shape, shapeSize, spotAt, spots}
+use Rattle.text_format.specs.Text.{Shape, shapeSize, spotAt, spots}
 use Rattle.text_parts.specs.declared.Shape.{Shape as Part}
-use Rattle.protocol.specs.Lines.{spot, readValue, readValues}
+use Rattle.text_format.specs.Lines.{spot, readValue, readValues}
 use Rattle.text_parts.specs.Parts.{asShape, cellAt}
 use Rattle.text_lines.proofs.Counts.{Found}
 use Rattle.text_lines.proofs.Values.{prefix, prefix-nothing, valued, unvalued, values-more, values-over, values-done}

@@ -13,9 +13,9 @@ use lib.IntN.{ℤ}
 use Rattle.protocol.specs.declared.Settings.{Settings}
 use Rattle.protocol.specs.declared.Parts.{Parts}
 use Rattle.protocol.specs.Settings.{settingsRefusal}
-use Rattle.protocol.specs.Text.{Spot, shapeSize, spots}
+use Rattle.text_format.specs.Text.{Spot, shapeSize, spots}
 use Rattle.protocol.proofs.Tests.{every-at}
-use Rattle.protocol.specs.Lines.{readValues}
+use Rattle.text_format.specs.Lines.{readValues}
 use Rattle.text_parts.specs.Parts.{tableCount, asShape, partOf, lengthsAre}
 use Rattle.text_parts.specs.Flat as Flat
 use Rattle.text_parts.specs.Flat.{total}

@@ -1,0 +1,2 @@
+pub mod OneProduct
+pub mod Ends

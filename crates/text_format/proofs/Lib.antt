@@ -1,0 +1,14 @@
+pub mod ComputeText
+pub mod TextExamples
+pub mod TextRows
+pub mod KnownTexts
+pub mod DigitLaws
+pub mod NumeralWritten
+pub mod NumeralLaws
+pub mod LineLaws
+pub mod PlaceLaws
+pub mod ReaderLaws
+pub mod ColumnLaws
+pub mod TableLaws
+pub mod Answers
+pub mod TextLimits

@@ -1,0 +1,6 @@
+pub mod Text
+pub mod Lines
+pub mod Programs
+pub mod RoundTrip
+pub mod Promises
+pub mod ProveVerify
