@@ -1,7 +1,7 @@
 // Decimal numbers from standard input. Anything that is no digit and no minus sign stands between two numbers.
 
 // What was read: the bytes from `at` to `end` are still to be used.
-#[derive(Drop)]
+#[derive(Clone, Copy)]
 pub struct Input {
     pub bytes: [u8; 4096],
     pub end: usize,
@@ -9,7 +9,7 @@ pub struct Input {
 }
 
 // A number as far as it was read: whether it has begun, and whether the byte behind it was seen.
-#[derive(Drop)]
+#[derive(Clone, Copy)]
 pub struct Value {
     pub magnitude: u64,
     pub negative: bool,
@@ -17,14 +17,14 @@ pub struct Value {
     pub whole: bool,
 }
 
-#[derive(Drop)]
+#[derive(Clone, Copy)]
 struct Scanned {
     value: Value,
     at: usize,
 }
 
 // A number and what is left of the input. At the end of the input every number is 0, and `ended` is true.
-#[derive(Drop)]
+#[derive(Clone, Copy)]
 pub struct Taken {
     pub value: Value,
     pub ended: bool,
@@ -32,7 +32,7 @@ pub struct Taken {
 }
 
 // A byte as it is, and what is left of the input. At the end of the input every byte is 0.
-#[derive(Drop)]
+#[derive(Clone, Copy)]
 pub struct ByteTaken {
     pub byte: u8,
     pub next: Input,

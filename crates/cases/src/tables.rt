@@ -42,7 +42,7 @@ pub fn text_room() -> [u8; 65600]
 }
 
 // How many numbers were put at the start of a table, and what is left of the input.
-#[derive(Drop)]
+#[derive(Clone, Copy)]
 pub struct Filled {
     pub count: usize,
     pub next: Input,
@@ -179,7 +179,7 @@ pub fn blank(input: Input, t: &mut [u8]) -> Filled
 }
 
 // Five numbers: d, L, q, B, rows.
-#[derive(Drop)]
+#[derive(Clone, Copy)]
 pub struct SettingsTaken {
     pub settings: Settings,
     pub next: Input,
@@ -206,7 +206,7 @@ pub fn settings(input: Input) -> SettingsTaken {
 }
 
 // An element of each row by value: a table whose places behind the ones given are 0.
-#[derive(Drop)]
+#[derive(Clone, Copy)]
 pub struct ElementTaken {
     pub places: [u64; ROWS_WIDTH],
     pub next: Input,
@@ -222,7 +222,7 @@ pub fn element(input: Input) -> ElementTaken {
     }
 }
 
-#[derive(Drop)]
+#[derive(Clone, Copy)]
 pub struct SignedTaken {
     pub places: [i32; WIDTH],
     pub next: Input,
@@ -239,7 +239,7 @@ pub fn signed_element(input: Input) -> SignedTaken {
 }
 
 // A session record: settings, rounds done, 1 where it is closed, the claims and the eight challenges.
-#[derive(Drop)]
+#[derive(Clone, Copy)]
 pub struct SessionTaken {
     pub session: Session,
     pub next: Input,
@@ -269,7 +269,7 @@ pub fn session(input: Input) -> SessionTaken {
 }
 
 // Seven numbers: 1 where part 1 to 7 is there, else 0.
-#[derive(Drop)]
+#[derive(Clone, Copy)]
 pub struct PartsTaken {
     pub parts: Parts,
     pub next: Input,

@@ -5,7 +5,7 @@ use crate::{output, tables};
 use protocol::{Parts, Settings};
 
 // Which of the two calls it is, and what it is told. A reader is told no settings.
-#[derive(Drop)]
+#[derive(Clone, Copy)]
 struct Task {
     writes: bool,
     settings: Settings,

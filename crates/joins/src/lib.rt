@@ -26,7 +26,7 @@ pub fn upper_half(x: u64) -> u64
 }
 
 // What joins sums modulo q: the weight of an upper half, and a multiple of q that makes a sum positive.
-#[derive(Drop)]
+#[derive(Clone, Copy)]
 pub struct Joint {
     pub modulus: u64,
     pub weight: Factor,

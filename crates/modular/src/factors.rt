@@ -7,7 +7,7 @@ ghost use Rattle.modular.specs.Factors.{Modulus, Prepared};
 use crate::words;
 
 // A factor modulo q: its residue, and what share of q that is, in parts of 2^64.
-#[derive(Drop)]
+#[derive(Clone, Copy)]
 pub struct Factor {
     pub modulus: u64,
     pub residue: u64,

@@ -9,7 +9,7 @@ use protocol::{Residue, Settings};
 use residues::elements;
 
 // Where an opening stands: the rounds done, and whether every round so far held.
-#[derive(Drop)]
+#[derive(Clone, Copy)]
 pub struct State {
     pub done: u32,
     pub holds: bool,

@@ -19,7 +19,7 @@ pub type Residue = u64;
 pub const TRANSFORM_MODULUS: Residue = 12289;
 
 // PROTOCOL 1.1.
-#[derive(Drop)]
+#[derive(Clone, Copy)]
 pub struct Settings {
     pub degree: u32,
     pub depth: u32,
@@ -29,7 +29,7 @@ pub struct Settings {
 }
 
 // What a verifier says. `Silent` is the 0 of a refused call; a session's round that is met says `Holds`.
-#[derive(Drop)]
+#[derive(Clone, Copy)]
 pub enum Verdict {
     Silent,
     Holds,
@@ -38,7 +38,7 @@ pub enum Verdict {
 }
 
 // The record of a verifier (PROTOCOL 4.1), with the claims of all rows.
-#[derive(Drop)]
+#[derive(Clone, Copy)]
 pub struct Session {
     pub settings: Settings,
     pub done: u32,
@@ -51,28 +51,28 @@ pub struct Session {
 // has room for four; the places past the rows are 0.
 
 // Commit.
-#[derive(Drop)]
+#[derive(Clone, Copy)]
 pub struct Committed {
     pub refusal: u32,
     pub commitment: [Residue; ROWS_WIDTH],
 }
 
 // The prover's round (PROTOCOL 8.4): c0, c1 and c2, each of all rows.
-#[derive(Drop)]
+#[derive(Clone, Copy)]
 pub struct Polynomial {
     pub refusal: u32,
     pub elements: [[Residue; ROWS_WIDTH]; 3],
 }
 
 // The prover's end.
-#[derive(Drop)]
+#[derive(Clone, Copy)]
 pub struct Ended {
     pub refusal: u32,
     pub last: [i32; WIDTH],
 }
 
 // The whole opening; its round elements are in the table lent for them.
-#[derive(Drop)]
+#[derive(Clone, Copy)]
 pub struct Opened {
     pub refusal: u32,
     pub commitment: [Residue; ROWS_WIDTH],
@@ -81,14 +81,14 @@ pub struct Opened {
 }
 
 // A session's start.
-#[derive(Drop)]
+#[derive(Clone, Copy)]
 pub struct Started {
     pub refusal: u32,
     pub next: Session,
 }
 
 // A session's round or end.
-#[derive(Drop)]
+#[derive(Clone, Copy)]
 pub struct Moved {
     pub refusal: u32,
     pub verdict: Verdict,
@@ -96,21 +96,21 @@ pub struct Moved {
 }
 
 // The check of a transcript.
-#[derive(Drop)]
+#[derive(Clone, Copy)]
 pub struct Checked {
     pub refusal: u32,
     pub verdict: Verdict,
 }
 
 // The judge of relaxed openings.
-#[derive(Drop)]
+#[derive(Clone, Copy)]
 pub struct Judged {
     pub refusal: u32,
     pub yes: bool,
 }
 
 // Which parts a text has (PROTOCOL 9.2).
-#[derive(Drop)]
+#[derive(Clone, Copy)]
 pub struct Parts {
     pub key: bool,
     pub message: bool,
@@ -122,28 +122,28 @@ pub struct Parts {
 }
 
 // The table reader; its tables are in what was lent for them.
-#[derive(Drop)]
+#[derive(Clone, Copy)]
 pub struct Loaded {
     pub refusal: u32,
     pub settings: Settings,
 }
 
 // The table writer, and the program `prove` as a call on text: how many bytes were written.
-#[derive(Drop)]
+#[derive(Clone, Copy)]
 pub struct Written {
     pub refusal: u32,
     pub count: usize,
 }
 
 // The number reader (PROTOCOL 9.4).
-#[derive(Drop)]
+#[derive(Clone, Copy)]
 pub enum Number {
     Value { value: i64, next: usize },
     Refused(u32),
 }
 
 // The line reader: a line of the stated shape with the place behind it, or none.
-#[derive(Drop)]
+#[derive(Clone, Copy)]
 pub enum Entry {
     Found {
         part: u32,
@@ -156,7 +156,7 @@ pub enum Entry {
 }
 
 // The program `verify` as a call on text.
-#[derive(Drop)]
+#[derive(Clone, Copy)]
 pub enum Verified {
     Accepted,
     Rejected,

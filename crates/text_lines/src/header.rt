@@ -12,7 +12,7 @@ use text_format::{NARROW_LIMIT, TEXT_LIMIT, VALUE_LIMIT};
 use text_names::begins_with_names;
 
 // The settings of a text and the place behind them; `found` is false where the text does not begin with them.
-#[derive(Drop)]
+#[derive(Clone, Copy)]
 pub struct Header {
     pub found: bool,
     pub settings: Settings,
@@ -20,7 +20,7 @@ pub struct Header {
 }
 
 // What a text begins with: its settings or the refusal, and the place behind the settings.
-#[derive(Drop)]
+#[derive(Clone, Copy)]
 pub struct Begun {
     pub loaded: Loaded,
     pub next: usize,

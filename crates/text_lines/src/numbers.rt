@@ -11,7 +11,7 @@ use text_format::{NARROW_LIMIT, VALUE_LIMIT};
 const FULL: u64 = (VALUE_LIMIT + 1) / 2;
 
 // A run of digits: its number, or some number past the largest magnitude where it is past it; and the place behind it.
-#[derive(Drop)]
+#[derive(Clone, Copy)]
 pub struct Run {
     pub value: u64,
     pub next: usize,

@@ -16,7 +16,7 @@ pub const VALUES: usize = TEXT_LIMIT / 8;
 pub const CELLS: usize = VALUES;
 
 // A part: its number, its items and the places of an item.
-#[derive(Drop)]
+#[derive(Clone, Copy)]
 pub struct Shape {
     pub part: u32,
     pub items: u32,
@@ -24,7 +24,7 @@ pub struct Shape {
 }
 
 // A line of a part.
-#[derive(Drop)]
+#[derive(Clone, Copy)]
 pub struct Cell {
     pub item: u32,
     pub place: u32,

@@ -14,7 +14,7 @@ use text_parts::{Cell, Shape, TABLES, next_cell, shape_of, size_of};
 const PARTS: u32 = (TABLES as u32) + 1;
 
 // Were all lines found, and the place behind them.
-#[derive(Drop)]
+#[derive(Clone, Copy)]
 pub struct Taken {
     pub found: bool,
     pub next: usize,

@@ -15,17 +15,17 @@ use protocol::{
 use verifier_refusals::Progress;
 
 // A verifier holds its session's record. (A method stands in the crate of its type, and the record's type in the crate of the definitions.)
-#[derive(Drop)]
+#[derive(Clone, Copy)]
 pub struct Verifier(pub Session);
 
 // What a start, and what a move, answers on lent claims: the next record's claims stand where they were lent.
-#[derive(Drop)]
+#[derive(Clone, Copy)]
 pub struct Begun {
     pub refusal: u32,
     pub next: Progress,
 }
 
-#[derive(Drop)]
+#[derive(Clone, Copy)]
 pub struct Said {
     pub refusal: u32,
     pub verdict: Verdict,

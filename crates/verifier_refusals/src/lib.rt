@@ -14,7 +14,7 @@ use protocol::{ROWS_WIDTH, Residue, SLOTS, Settings};
 use ranges::tests;
 
 // A record (PROTOCOL 4.1) beside its claims. These are many numbers, and are lent.
-#[derive(Drop)]
+#[derive(Clone, Copy)]
 pub struct Progress {
     pub settings: Settings,
     pub done: u32,

@@ -30,30 +30,30 @@ calls t = (power-reads.Asked, power-reads.Learnt, split-reads.Asked, split-reads
 module _ (t : ℕ) where
   at_none : down-lts.Need-returns (calls t) (down-at t) down.Post
   at_none c =
-      let a = c.before.before.args in
+      let a = c.args in
       let none : a.level ≡ 0 = omega arith in
-      subst (λ n. Down n a.e a.s.now a.s.now) (sym none) (down-none a.e a.s.now)
+      subst (λ n. Down n a.e a.s-1.now a.s-1.now) (sym none) (down-none a.e a.s-1.now)
 
   split-requires : down-lts.Need-split-requires (calls t) (down-at t) down.Post
-  split-requires c κs = (omega (arith, c.before.power.ensures, power_below (c.before.before.before.before.args.e / 2) (omega arith)), omega arith)
+  split-requires c κs = (omega (arith, c.power.ensures, power_below (c.args.e / 2) (omega arith)), omega arith)
 
-  lent : down-lts.Need-slice-aggregate-down (calls t) (down-at t) down.Post
+  lent : down-lts.Need-slice_aggregate-down (calls t) (down-at t) down.Post
   lent c =
-      let l = c.before.before.before.before.before.before.before.before.args.s.now in
-      let split = c.before.before.before.split in
+      let l = c.args.s.now in
+      let split = c.split in
       sym (length-take-le (length l / 2) split.new.1.1.0 (omega (arith, split.ensures.same)))
 
   returns : down-lts.Need-returns-2 (calls t) (down-at t) down.Post
   returns c =
-      let a = c.before.before.before.before.before.before.before.before.before.before.before.before.before.before.before.args in
-      let l = a.s.now in
+      let a = c.args in
+      let l = a.s-1.now in
       let h = length l / 2 in
-      let power = c.before.before.before.before.before.before.before.before.before.before.before.before.power in
-      let split = c.before.before.before.before.before.before.before.before.before.before.split in
+      let power = c.power in
+      let split = c.split in
       let m = split.new.1.1.0 in
-      let first = c.before.before.before.before.before.before.down in
+      let first = c.down in
       let p = first.new.1.1.0 in
-      let second = c.before.before.down2 in
+      let second = c.down-2 in
       let q = second.new.1.1.0 in
       let up : a.level ≡ suc (a.level - 1) = omega arith in
       let long : length p ≡ h = first.ensures.same ∙ length-take-le h m (omega (arith, split.ensures.same)) in
@@ -62,7 +62,7 @@ module _ (t : ℕ) where
       (subst (λ n. Down (a.level - 1) (a.e / 2 + 128) n q) (second_part h m p long) second.ensures))
 
   second-requires : down-lts.Need-down-requires-2 (calls t) (down-at t) down.Post
-  second-requires c κs = (omega arith, (omega arith, c.before.before.before.before.before.before.before.before.before.before.before.before.requires.1.1))
+  second-requires c κs = (omega arith, (omega arith, c.requires.1.1))
 
 pub +down_spec : {M : Type 1} → statement M
 +down_spec = close μ-down λ t. down-lts.spec (calls t) (down-at t) down.Post (at_none t) (λ c κs. search rules) (split-requires t) (λ c. search rules) (λ c. search rules) (lent t)

@@ -31,35 +31,35 @@ calls t = (up-below t, up.Post, power-reads.Asked, power-reads.Learnt, join-read
 module _ (t : ℕ) where
   at_none : up-lts.Need-returns (calls t) (up_at t) up.Post
   at_none c =
-      let a = c.before.before.args in
+      let a = c.args in
       let none : a.level ≡ 0 = omega arith in
-      subst (λ n. Up n a.e a.s.now a.s.now) (sym none) (up_none a.e a.s.now)
+      subst (λ n. Up n a.e a.s-1.now a.s-1.now) (sym none) (up_none a.e a.s-1.now)
 
-  lent : up-lts.Need-slice-aggregate-up (calls t) (up_at t) up.Post
-  lent c = let l = c.before.before.before.args.s.now in sym (length-take-le (length l / 2) l (omega arith))
+  lent : up-lts.Need-slice_aggregate-up (calls t) (up_at t) up.Post
+  lent c = let l = c.args.s.now in sym (length-take-le (length l / 2) l (omega arith))
 
   join-requires : up-lts.Need-join-requires (calls t) (up_at t) up.Post
   join-requires c κs =
-      let l = c.before.before.before.before.before.before.before.before.before.before.before.before.args.s.now in
+      let l = c.args.s.now in
       let h = length l / 2 in
-      let first = c.before.before.before.before.before.before.before.before.up in
-      let second = c.before.before.before.before.up2 in
+      let first = c.up in
+      let second = c.up-2 in
       let long : length first.new.1.1.0 ≡ h = first.ensures.same ∙ length-take-le h l (omega arith) in (
-        omega (arith, c.before.power.ensures, power_below (128 - c.before.before.before.before.before.before.before.before.before.before.before.before.args.e / 2) (omega arith)),
+        omega (arith, c.power.ensures, power_below (128 - c.args.e / 2) (omega arith)),
         omega (arith, second_long h l first.new.1.1.0 long second.new.1.1.0 second.ensures.same, length-drop h l),
       )
 
   returns : up-lts.Need-returns-2 (calls t) (up_at t) up.Post
   returns c =
-      let a = c.before.before.before.before.before.before.before.before.before.before.before.before.before.before.before.args in
-      let l = a.s.now in
+      let a = c.args in
+      let l = a.s-1.now in
       let h = length l / 2 in
-      let first = c.before.before.before.before.before.before.before.before.before.before.before.up in
+      let first = c.up in
       let p = first.new.1.1.0 in
-      let second = c.before.before.before.before.before.before.before.up2 in
+      let second = c.up-2 in
       let q = second.new.1.1.0 in
-      let power = c.before.before.before.before.power in
-      let join = c.before.before.join in
+      let power = c.power in
+      let join = c.join in
       let m = join.new.1.1.0 in
       let above : a.level ≡ suc (a.level - 1) = omega arith in
       let long : length p ≡ h = first.ensures.same ∙ length-take-le h l (omega arith) in

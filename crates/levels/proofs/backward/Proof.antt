@@ -4,11 +4,11 @@ use Rattle.levels.proofs.Blocks.{whole-block}
 use Rattle.levels.proofs.backward.Statement.{statement}
 use Rattle.levels.proofs.backward.Tie as tie
 
-returns : tie.Need-returns
-returns c = λ h. absurd (omega (arith, h.0))
+returns-then-level-gt7 : tie.Need-returns-then-level-gt7
+returns-then-level-gt7 c = λ h. absurd (omega (arith, h.0))
 
-returns-2 : tie.Need-returns-2
-returns-2 c = λ h. c.before.before.up.ensures.returned (whole-block _ h.0) h.1 h.2
+returns : tie.Need-returns
+returns c = λ h. c.up.ensures.returned (whole-block _ h.0) h.1 h.2
 
 pub backward_spec : {M : Type 1} → statement M
-backward_spec = tie.close (tie.spec returns (λ c κs. search rules) (λ c κs. search rules) (λ c. search rules) returns-2)
+backward_spec = tie.close (tie.spec returns-then-level-gt7 (λ c κs. search rules) (λ c κs. search rules) (λ c. search rules) returns)

@@ -4,13 +4,13 @@ use Rattle.residues.proofs.Signs.{negative-none, negative-residue}
 use Rattle.residues.proofs.negated.Statement.{statement}
 use Rattle.residues.proofs.negated.Tie as tie
 
-returns : tie.Need-returns
-returns c = λ h. let a = c.before.args in negative-none a.q (omega arith) ∙ ap (λ y. modulo a.q (neg_ℤ (pos y))) (sym c.if1.true)
+returns-then-y-eq0 : tie.Need-returns-then-y-eq0
+returns-then-y-eq0 c = λ h. let a = c.args in negative-none a.q (omega arith) ∙ ap (λ y. modulo a.q (neg_ℤ (pos y))) (sym c.if-y-eq0.true)
 
-returns-2 : tie.Need-returns-2
-returns-2 c = λ h. let a = c.before.before.args in
-    let is : c.wrapping-sub-u64.result ≡ a.q - a.y = omega (arith, c.wrapping-sub-u64.ensures) in
+returns : tie.Need-returns
+returns c = λ h. let a = c.args in
+    let is : c.wrapping_sub_u64.result ≡ a.q - a.y = omega (arith, c.wrapping_sub_u64.ensures) in
     is ∙ negative-residue a.q (omega arith) a.y (omega arith) h
 
 pub negated_spec : {M : Type 1} → statement M
-negated_spec = tie.close (tie.spec returns (λ c κs. search rules) returns-2)
+negated_spec = tie.close (tie.spec returns-then-y-eq0 (λ c κs. search rules) returns)

@@ -4,13 +4,13 @@ use Rattle.residues.specs.Residues.{signed}
 use Rattle.residues.proofs.signed_sum.Statement.{statement}
 use Rattle.residues.proofs.signed_sum.Tie as tie
 
-returns : tie.Need-returns
+returns-then-negative : tie.Need-returns-then-negative
 unfolding signed
-returns c = λ h. let a = c.before.before.args in c.minus.ensures h ∙ ap (λ b. modulo a.q (pos a.x +ℤ signed b (pos a.y))) (sym c.before.if1.true)
+returns-then-negative c = λ h. let a = c.args in c.minus.ensures h ∙ ap (λ b. modulo a.q (pos a.x +ℤ signed b (pos a.y))) (sym c.if-negative.true)
 
-returns-2 : tie.Need-returns-2
+returns : tie.Need-returns
 unfolding signed modulo
-returns-2 c = λ h. let a = c.before.before.args in c.plus.ensures h ∙ ap (λ b. modulo a.q (pos a.x +ℤ signed b (pos a.y))) (sym c.before.if1.false)
+returns c = λ h. let a = c.args in c.plus.ensures h ∙ ap (λ b. modulo a.q (pos a.x +ℤ signed b (pos a.y))) (sym c.if-negative.false)
 
 pub signed_sum_spec : {M : Type 1} → statement M
-signed_sum_spec = tie.close (tie.spec (λ c κs. search rules) returns (λ c κs. search rules) returns-2)
+signed_sum_spec = tie.close (tie.spec (λ c κs. search rules) returns-then-negative (λ c κs. search rules) returns)

@@ -10,7 +10,7 @@ use Rattle.sizes.proofs.cells.Tie as tie
 
 returns : tie.Need-returns
 unfolding cells left
-returns c = λ e. let S = c.before.args.settings in c.left-cells.ensures (record { allowed = e; most = omega arith }) ∙ ap (λ n. n * S.degree) (Nat.div-one (size S))
+returns c = λ e. let S = c.args.settings in c.left_cells.ensures (record { allowed = e; most = omega arith }) ∙ ap (λ n. n * S.degree) (Nat.div-one (size S))
 
 pub cells_spec : {M : Type 1} → statement M
 cells_spec = tie.close (tie.spec (λ c κs. search rules) returns)

@@ -4,12 +4,12 @@ use borrow.Author.Rules.{rules}
 use Rattle.sizes.proofs.half_left.Statement.{statement}
 use Rattle.sizes.proofs.half_left.Tie as tie
 
-returns : tie.Need-returns
-returns c = λ g. absurd (omega arith)
+returns-then-t-settings : tie.Need-returns-then-t-settings
+returns-then-t-settings c = λ g. absurd (omega arith)
 
-returns-2 : tie.Need-returns-2
+returns : tie.Need-returns
 unfolding left half_left
-returns-2 c = λ g. c.left.ensures (record { allowed = g.allowed; most = omega (arith, g.turn) })
+returns c = λ g. c.left.ensures (record { allowed = g.allowed; most = omega (arith, g.turn) })
 
 pub half_left_spec : {M : Type 1} → statement M
-half_left_spec = tie.close (tie.spec returns (λ c. search rules) (λ c κs. search rules) returns-2)
+half_left_spec = tie.close (tie.spec returns-then-t-settings (λ c. search rules) (λ c κs. search rules) returns)

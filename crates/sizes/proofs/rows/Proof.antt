@@ -5,11 +5,11 @@ use Rattle.protocol.proofs.Inputs.{settings-valid}
 use Rattle.sizes.proofs.rows.Statement.{statement}
 use Rattle.sizes.proofs.rows.Tie as tie
 
-returns : tie.Need-returns
-returns c = (λ e. absurd (omega (arith, (settings-valid _ e).rows_most_holds, c.if1.true)), omega arith)
+returns-then-rows-gt-ROWS : tie.Need-returns-then-rows-gt-ROWS
+returns-then-rows-gt-ROWS c = (λ e. absurd (omega (arith, (settings-valid _ e).rows_most_holds, c.if-rows-gt-ROWS.true)), omega arith)
 
-returns-2 : tie.Need-returns-2
-returns-2 c = (λ e. refl, omega arith)
+returns : tie.Need-returns
+returns c = (λ e. refl, omega arith)
 
 pub rows_spec : {M : Type 1} → statement M
-rows_spec = tie.close (tie.spec (λ c. search rules) returns returns-2)
+rows_spec = tie.close (tie.spec (λ c. search rules) returns-then-rows-gt-ROWS returns)

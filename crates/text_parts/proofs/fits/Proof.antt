@@ -20,32 +20,32 @@ use Rattle.text_parts.proofs.fits.Tie as tie
 abbrev test : Settings → Parts → List ℕ → ℕ → Bool
 test S P n k = eqb (get_or n k 0) (shape_size (part_of S P (k + 1)))
 
-abbrev invariant-loop : tie.invariant-loop
-invariant-loop S P n k₀ k = (k ≤ table_count) × (every k (test S P n) ≡ true)
+abbrev invariant-loop-k : tie.invariant-loop-k
+invariant-loop-k S P n k₀ k = (k ≤ table_count) × (every k (test S P n) ≡ true)
 
-abbrev decreases-loop : tie.decreases-loop
-decreases-loop S P n k₀ k = table_count - k
+abbrev decreases-loop-k : tie.decreases-loop-k
+decreases-loop-k S P n k₀ k = table_count - k
 
-loop-holds : tie.Need-loop-init invariant-loop decreases-loop
-loop-holds c = (omega arith, every-none _)
+loop-k-init : tie.Need-loop-k-init invariant-loop-k decreases-loop-k
+loop-k-init c = (omega arith, every-none _)
 
-returns : tie.Need-returns invariant-loop decreases-loop
+returns-then-lengths-k : tie.Need-returns-then-lengths-k invariant-loop-k decreases-loop-k
 unfolding lengths_are
-returns c =
+returns-then-lengths-k c =
     let s = c.before in
-    every_fails _ table_count _ (omega arith) (ne_eqb _ _ (λ e. c.if1.true (e ∙ sym s.part-size.ensures)))
+    every_fails _ table_count _ (omega arith) (ne_eqb _ _ (λ e. c.if-lengths-k.true (e ∙ sym s.part_size.ensures)))
 
-loop-again : tie.Need-loop-preserved invariant-loop decreases-loop
-loop-again c =
+loop-k-preserved : tie.Need-loop-k-preserved invariant-loop-k decreases-loop-k
+loop-k-preserved c =
     let s = c.before in
-    (omega arith, every_goes_on _ _ s.before.before.loop.invariant.1 (eq-eqb _ _ (c.if1.false ∙ s.part-size.ensures)))
+    (omega arith, every_goes_on _ _ s.loop-k.invariant.1 (eq-eqb _ _ (c.if-lengths-k.false ∙ s.part_size.ensures)))
 
-returns-2 : tie.Need-returns-2 invariant-loop decreases-loop
+returns : tie.Need-returns invariant-loop-k decreases-loop-k
 unfolding lengths_are
-returns-2 c = every_ends _ table_count _ c.before.loop.invariant.1 (omega arith)
+returns c = every_ends _ table_count _ c.loop-k.invariant.1 (omega arith)
 
 pub fits_spec : {M : Type 1} → statement M
 fits_spec =
     tie.close
-    (tie.spec invariant-loop decreases-loop loop-holds (λ c. search rules) (λ c. search rules) (λ c. search rules) (λ c. search rules) (λ c κs. search rules)
-    returns (λ c. search rules) (λ c. search rules) loop-again returns-2)
+    (tie.spec invariant-loop-k decreases-loop-k loop-k-init (λ c. search rules) (λ c. search rules) (λ c. search rules) (λ c. search rules) (λ c κs. search rules)
+    returns-then-lengths-k (λ c. search rules) (λ c. search rules) loop-k-preserved returns)

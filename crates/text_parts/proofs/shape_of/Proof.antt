@@ -41,87 +41,87 @@ none-such S P (suc (suc (suc (suc (suc (suc (suc (suc k)))))))) h = refl
 named : (S : Settings) (P : Parts) (k n : ℕ) (b : Shape) → S.depth ≤ 8 → S.rows ≤ rows_most → k ≡ n → b ≡ part_shape S P n → b ≡ part_of S P k
 named S P k n b deep many e is = is ∙ sym (ap (part_shape S P) e) ∙ sym (part-counted S P k deep many)
 
-returns : tie.Need-returns
-returns c = let a = c.before.before.args in c.settings-shape.ensures ∙ sym (part-deep a.settings a.parts a.part (omega arith))
+returns-then-depth-gt8 : tie.Need-returns-then-depth-gt8
+returns-then-depth-gt8 c = let a = c.args in c.settings_shape.ensures ∙ sym (part-deep a.settings a.parts a.part (omega arith))
 
-returns-2 : tie.Need-returns-2
-returns-2 c = let a = c.before.before.before.args in c.settings-shape2.ensures ∙ sym (part-many a.settings a.parts a.part (omega arith) (omega arith))
+returns-then-rows-gt-ROWS : tie.Need-returns-then-rows-gt-ROWS
+returns-then-rows-gt-ROWS c = let a = c.args in c.settings_shape-then-rows-gt-ROWS.ensures ∙ sym (part-many a.settings a.parts a.part (omega arith) (omega arith))
 
 -- items of every row
 items-fit : (rows n : ℕ) → rows ≤ rows_most → n ≤ 256 → Fits w32 (rows * n)
 items-fit rows n many most = record { fits = omega (arith, Nat.mul-le-mul many most) }
 
-mul-part-of : tie.Need-overflow-mul-part-of
-mul-part-of c =
-    let S = c.before.before.before.args.settings in
+overflow_mul-rows : tie.Need-overflow_mul-rows
+overflow_mul-rows c =
+    let S = c.args.settings in
     items-fit S.rows _ (omega arith) (omega (arith, shifted S.depth (omega arith), pow_mono {i = S.depth} {j = 8} (omega arith)))
 
-mul-part-of-3 : tie.Need-overflow-mul-part-of-3
-mul-part-of-3 c = let S = c.before.before.before.args.settings in items-fit S.rows _ (omega arith) (omega arith)
+overflow_mul-rows-in-4 : tie.Need-overflow_mul-rows-in-4
+overflow_mul-rows-in-4 c = let S = c.args.settings in items-fit S.rows _ (omega arith) (omega arith)
 
-mul-part-of-4 : tie.Need-overflow-mul-part-of-4
-mul-part-of-4 c = let S = c.before.before.before.args.settings in items-fit S.rows _ (omega arith) (omega arith)
+overflow_mul-rows-in-7 : tie.Need-overflow_mul-rows-in-7
+overflow_mul-rows-in-7 c = let S = c.args.settings in items-fit S.rows _ (omega arith) (omega arith)
 
-returns-3 : tie.Need-returns-3
+returns-in-1 : tie.Need-returns-in-1
 unfolding part_shape shapes size
-returns-3 c =
-    let a = c.before.before.before.before.args in
+returns-in-1 c =
+    let a = c.args in
     let deep : a.settings.depth ≤ 8 = omega arith in
-    named a.settings a.parts a.part 1 _ deep (omega arith) c.before.match.keys1
+    named a.settings a.parts a.part 1 _ deep (omega arith) c.in_default.keys1
     (c.part_of_holds.ensures ∙ (λ j. shape 1 a.parts.key (a.settings.rows * shifted a.settings.depth deep j) a.settings.degree))
 
-returns-4 : tie.Need-returns-4
+returns-in-2 : tie.Need-returns-in-2
 unfolding part_shape shapes size
-returns-4 c =
-    let a = c.before.before.before.before.args in
+returns-in-2 c =
+    let a = c.args in
     let deep : a.settings.depth ≤ 8 = omega arith in
-    named a.settings a.parts a.part 2 _ deep (omega arith) c.before.match.keys2
-    (c.part-of2.ensures ∙ (λ j. shape 2 a.parts.message (shifted a.settings.depth deep j) a.settings.degree))
+    named a.settings a.parts a.part 2 _ deep (omega arith) c.in_default.keys2
+    (c.part_of-in-2.ensures ∙ (λ j. shape 2 a.parts.message (shifted a.settings.depth deep j) a.settings.degree))
 
-returns-5 : tie.Need-returns-5
+returns-in-3 : tie.Need-returns-in-3
 unfolding part_shape shapes size
-returns-5 c =
-    let a = c.before.before.before.before.args in
+returns-in-3 c =
+    let a = c.args in
     let deep : a.settings.depth ≤ 8 = omega arith in
-    named a.settings a.parts a.part 3 _ deep (omega arith) c.before.match.keys3 c.part-of3.ensures
+    named a.settings a.parts a.part 3 _ deep (omega arith) c.in_default.keys3 c.part_of-in-3.ensures
 
-returns-6 : tie.Need-returns-6
+returns-in-4 : tie.Need-returns-in-4
 unfolding part_shape shapes size
-returns-6 c =
-    let a = c.before.before.before.before.args in
+returns-in-4 c =
+    let a = c.args in
     let deep : a.settings.depth ≤ 8 = omega arith in
-    named a.settings a.parts a.part 4 _ deep (omega arith) c.before.match.keys4 c.part-of4.ensures
+    named a.settings a.parts a.part 4 _ deep (omega arith) c.in_default.keys4 c.part_of-in-4.ensures
 
-returns-7 : tie.Need-returns-7
+returns-in-5 : tie.Need-returns-in-5
 unfolding part_shape shapes size
-returns-7 c =
-    let a = c.before.before.before.before.args in
+returns-in-5 c =
+    let a = c.args in
     let deep : a.settings.depth ≤ 8 = omega arith in
-    named a.settings a.parts a.part 5 _ deep (omega arith) c.before.match.keys5 c.part-of5.ensures
+    named a.settings a.parts a.part 5 _ deep (omega arith) c.in_default.keys5 c.part_of-in-5.ensures
 
-returns-8 : tie.Need-returns-8
+returns-in-6 : tie.Need-returns-in-6
 unfolding part_shape shapes size
-returns-8 c =
-    let a = c.before.before.before.before.args in
+returns-in-6 c =
+    let a = c.args in
     let deep : a.settings.depth ≤ 8 = omega arith in
-    named a.settings a.parts a.part 6 _ deep (omega arith) c.before.match.keys6 c.part-of6.ensures
+    named a.settings a.parts a.part 6 _ deep (omega arith) c.in_default.keys6 c.part_of-in-6.ensures
 
-returns-9 : tie.Need-returns-9
+returns-in-7 : tie.Need-returns-in-7
 unfolding part_shape shapes size
-returns-9 c =
-    let a = c.before.before.before.before.args in
+returns-in-7 c =
+    let a = c.args in
     let deep : a.settings.depth ≤ 8 = omega arith in
-    named a.settings a.parts a.part 7 _ deep (omega arith) c.before.match.keys7 c.part-of7.ensures
+    named a.settings a.parts a.part 7 _ deep (omega arith) c.in_default.keys7 c.part_of-in-7.ensures
 
-returns-10 : tie.Need-returns-10
-returns-10 c =
-    let a = c.before.before.before.before.args in
+returns-in_default : tie.Need-returns-in_default
+returns-in_default c =
+    let a = c.args in
     named a.settings a.parts a.part a.part _ (omega arith) (omega arith) refl
-    (c.settings-shape3.ensures ∙ sym (none-such a.settings a.parts a.part c.before.match.rest))
+    (c.settings_shape-in_default.ensures ∙ sym (none-such a.settings a.parts a.part c.in_default.rest))
 
 pub shape_of_spec : {M : Type 1} → statement M
 shape_of_spec =
     tie.close
-    (tie.spec (λ c κs. search rules) returns (λ c. search rules) (λ c κs. search rules) returns-2 (λ c. search rules) mul-part-of (λ c κs. search rules)
-    (λ c. search rules) (λ c κs. search rules) (λ c κs. search rules) (λ c. search rules) mul-part-of-3 (λ c κs. search rules) (λ c κs. search rules)
-    (λ c κs. search rules) mul-part-of-4 (λ c κs. search rules) (λ c κs. search rules) returns-3 returns-4 returns-5 returns-6 returns-7 returns-8 returns-9 returns-10)
+    (tie.spec (λ c κs. search rules) returns-then-depth-gt8 (λ c. search rules) (λ c κs. search rules) returns-then-rows-gt-ROWS (λ c. search rules) overflow_mul-rows (λ c κs. search rules)
+    (λ c. search rules) (λ c κs. search rules) (λ c κs. search rules) (λ c. search rules) overflow_mul-rows-in-4 (λ c κs. search rules) (λ c κs. search rules)
+    (λ c κs. search rules) overflow_mul-rows-in-7 (λ c κs. search rules) (λ c κs. search rules) returns-in-1 returns-in-2 returns-in-3 returns-in-4 returns-in-5 returns-in-6 returns-in-7 returns-in_default)

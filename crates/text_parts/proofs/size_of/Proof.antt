@@ -8,15 +8,15 @@ use Rattle.text_format.specs.Text.{shape_size}
 use Rattle.text_parts.proofs.size_of.Statement.{statement}
 use Rattle.text_parts.proofs.size_of.Tie as tie
 
-cast-result : tie.Need-overflow-cast-result
-cast-result c = search rules
+overflow_cast-result : tie.Need-overflow_cast-result
+overflow_cast-result c = search rules
 
-cast-result-2 : tie.Need-overflow-cast-result-2
-cast-result-2 c = search rules
+overflow_cast-result-2 : tie.Need-overflow_cast-result-2
+overflow_cast-result-2 c = search rules
 
-mul-result : tie.Need-overflow-mul-result
-mul-result c =
-    let b = c.before.before.args.shape in
+overflow_mul-result : tie.Need-overflow_mul-result
+overflow_mul-result c =
+    let b = c.args.shape in
     let few : b.items ≤ 4294967295 = search rules in
     let short : b.places ≤ 4294967295 = search rules in
     record { fits = omega (arith, Nat.mul-le-mul few short) }
@@ -26,4 +26,4 @@ unfolding shape_size
 returns c = refl
 
 pub size_of_spec : {M : Type 1} → statement M
-size_of_spec = tie.close (tie.spec cast-result cast-result-2 mul-result returns)
+size_of_spec = tie.close (tie.spec overflow_cast-result overflow_cast-result-2 overflow_mul-result returns)

@@ -5,23 +5,23 @@ use Rattle.ranges.proofs.Scan.{asked_goes_on, asked_ends}
 use Rattle.ranges.proofs.tests.all_below.Statement.{statement}
 use Rattle.ranges.proofs.tests.all_below.Tie as tie
 
-abbrev invariant-loop : tie.invariant-loop
-invariant-loop limit t good₀ i₀ i-end good i = (i ≤ length t) × (i-end ≡ length t) × (all (λ x. ltb x limit) t ≡ (good && all (λ x. ltb x limit) (drop i t)))
+abbrev invariant-loop-i : tie.invariant-loop-i
+invariant-loop-i limit t good₀ i₀ i-end good i = (i ≤ length t) × (i-end ≡ length t) × (all (λ x. ltb x limit) t ≡ (good && all (λ x. ltb x limit) (drop i t)))
 
-abbrev decreases-loop : tie.decreases-loop
-decreases-loop limit t good₀ i₀ i-end good i = length t - i
+abbrev decreases-loop-i : tie.decreases-loop-i
+decreases-loop-i limit t good₀ i₀ i-end good i = length t - i
 
-loop-holds : tie.Need-loop-init invariant-loop decreases-loop
-loop-holds c = (omega arith, refl, refl)
+loop-i-init : tie.Need-loop-i-init invariant-loop-i decreases-loop-i
+loop-i-init c = (omega arith, refl, refl)
 
-loop-again : tie.Need-loop-preserved invariant-loop decreases-loop
-loop-again c = let l = c.before.before.before.loop in (omega arith, l.invariant.1, asked_goes_on _ _ 0 l.i l.good l.invariant.2 (omega arith) c.and_below.ensures)
+loop-i-preserved : tie.Need-loop-i-preserved invariant-loop-i decreases-loop-i
+loop-i-preserved c = let l = c.loop-i in (omega arith, l.invariant.1, asked_goes_on _ _ 0 l.i l.good l.invariant.2 (omega arith) c.and_below-good.ensures)
 
-returns : tie.Need-returns invariant-loop decreases-loop
-returns c = let l = c.before.loop in asked_ends _ _ 0 l.i l.good l.invariant.2 (omega arith)
+returns : tie.Need-returns invariant-loop-i decreases-loop-i
+returns c = let l = c.loop-i in asked_ends _ _ 0 l.i l.good l.invariant.2 (omega arith)
 
 pub all_below_spec : {M : Type 1} → statement M
 all_below_spec =
     tie.close
-    (tie.spec invariant-loop decreases-loop loop-holds (λ c. search rules) (λ c. search rules) (λ c κs. search rules) (λ c. search rules) (λ c. search rules)
-    loop-again returns)
+    (tie.spec invariant-loop-i decreases-loop-i loop-i-init (λ c. search rules) (λ c. search rules) (λ c κs. search rules) (λ c. search rules) (λ c. search rules)
+    loop-i-preserved returns)

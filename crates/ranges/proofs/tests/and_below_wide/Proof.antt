@@ -3,11 +3,11 @@ use Rattle.ranges.proofs.Scan.{and-true, and-false}
 use Rattle.ranges.proofs.tests.and_below_wide.Statement.{statement}
 use Rattle.ranges.proofs.tests.and_below_wide.Tie as tie
 
-returns : tie.Need-returns
-returns c = let g = c.before.args.good in sym (ap (λ b. g && b) (le-ltb _ _ c.if1.taken) ∙ and-false g)
+returns-then-x-limit : tie.Need-returns-then-x-limit
+returns-then-x-limit c = let g = c.args.good in sym (ap (λ b. g && b) (le-ltb _ _ c.if-x-limit.true) ∙ and-false g)
 
-returns-2 : tie.Need-returns-2
-returns-2 c = let g = c.before.args.good in sym (ap (λ b. g && b) (lt-ltb _ _ c.if1.left) ∙ and-true g)
+returns : tie.Need-returns
+returns c = let g = c.args.good in sym (ap (λ b. g && b) (lt-ltb _ _ c.if-x-limit.false) ∙ and-true g)
 
 pub and_below_wide_spec : {M : Type 1} → statement M
-and_below_wide_spec = tie.close (tie.spec returns returns-2)
+and_below_wide_spec = tie.close (tie.spec returns-then-x-limit returns)

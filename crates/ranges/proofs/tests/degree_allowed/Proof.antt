@@ -4,15 +4,15 @@ use Rattle.protocol.specs.Settings.{degree_allowed}
 use Rattle.ranges.proofs.tests.degree_allowed.Statement.{statement}
 use Rattle.ranges.proofs.tests.degree_allowed.Tie as tie
 
-returns : tie.Need-returns
+returns-in-2 : tie.Need-returns-in-2
 unfolding degree_allowed among
-returns c =
-    ⊎_elim (λ e. rw e) (⊎_elim (λ e. rw e) (⊎_elim (λ e. rw e) (⊎_elim (λ e. rw e) (⊎_elim (λ e. rw e) (λ e. rw e))))) c.match.keys1
+returns-in-2 c =
+    ⊎_elim (λ e. rw e) (⊎_elim (λ e. rw e) (⊎_elim (λ e. rw e) (⊎_elim (λ e. rw e) (⊎_elim (λ e. rw e) (λ e. rw e))))) c.in-2.is
 
-returns-2 : tie.Need-returns-2
+returns-in_default : tie.Need-returns-in_default
 unfolding degree_allowed among
-returns-2 c =
-    let no = c.before.match.rest.1 in
+returns-in_default c =
+    let no = c.in_default.in_default-own.rest.1 in
     simp (
       ne_eqb _ 2 (λ e. no (inl e)),
       ne_eqb _ 4 (λ e. no (inr (inl e))),
@@ -23,4 +23,4 @@ returns-2 c =
     )
 
 pub degree_allowed_spec : {M : Type 1} → statement M
-degree_allowed_spec = tie.close (tie.spec returns returns-2)
+degree_allowed_spec = tie.close (tie.spec returns-in-2 returns-in_default)

@@ -3,11 +3,11 @@ use Rattle.ranges.proofs.Magnitude.{Negative, Whole, negative, whole}
 use Rattle.ranges.proofs.tests.magnitude_wide.Statement.{statement}
 use Rattle.ranges.proofs.tests.magnitude_wide.Tie as tie
 
-below : (c : tie.Then1) → Negative w64 (lit< tt) c.before.args.x
-below c = negative w64 (lit< tt) c.before.args.x c.before.fits.x c.if1.taken
+below : (c : tie.Then-x-lt0) → Negative w64 (lit< tt) c.args.x
+below c = negative w64 (lit< tt) c.args.x c.ranges.x c.if-x-lt0.true
 
-above : (c : tie.Else1) → Whole w64 (lit< tt) c.before.args.x
-above c = whole w64 (lit< tt) c.before.args.x c.before.fits.x c.if1.left
+above : (c : tie.Else-x-lt0) → Whole w64 (lit< tt) c.args.x
+above c = whole w64 (lit< tt) c.args.x c.ranges.x c.if-x-lt0.false
 
 pub magnitude_wide_spec : {M : Type 1} → statement M
 magnitude_wide_spec =

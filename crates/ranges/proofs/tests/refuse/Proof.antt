@@ -6,15 +6,15 @@ use Rattle.protocol.proofs.Refusals.{first_stops, first_passes, first_holds, fir
 use Rattle.ranges.proofs.tests.refuse.Statement.{statement}
 use Rattle.ranges.proofs.tests.refuse.Tie as tie
 
+returns-then-earlier-ne0 : tie.Need-returns-then-earlier-ne0
+returns-then-earlier-ne0 c = record { is = sym (first_stops _ _ c.if-earlier-ne0.true) }
+
+returns-then-holds : tie.Need-returns-then-holds
+returns-then-holds c = record { is = sym (first_passes _ _ c.if-earlier-ne0.false ∙ first_holds _ _ _ c.if-holds.true ∙ first_nothing) }
+
 returns : tie.Need-returns
-returns c = record { is = sym (first_stops _ _ c.if1.taken) }
-
-returns-2 : tie.Need-returns-2
-returns-2 c = record { is = sym (first_passes _ _ c.before.if1.left ∙ first_holds _ _ _ c.if2.taken ∙ first_nothing) }
-
-returns-3 : tie.Need-returns-3
 unfolding unless
-returns-3 c = record { is = sym (first_passes _ _ c.before.if1.left ∙ ap (λ b. first (unless c.before.before.args.number b ∷ [])) c.if2.left ∙ first_only _) }
+returns c = record { is = sym (first_passes _ _ c.if-earlier-ne0.false ∙ ap (λ b. first (unless c.args.number b ∷ [])) c.if-holds.false ∙ first_only _) }
 
 pub refuse_spec : {M : Type 1} → statement M
-refuse_spec = tie.close (tie.spec returns returns-2 returns-3)
+refuse_spec = tie.close (tie.spec returns-then-earlier-ne0 returns-then-holds returns)

@@ -11,30 +11,30 @@ use Rattle.ranges.proofs.tests.rows_below.Tie as tie
 abbrev below : ℕ → ℕ → List ℕ → ℕ → Bool
 below limit d a i = every d (λ k. ltb (get_or (value_row a i) k 0) limit)
 
-abbrev invariant-loop : tie.invariant-loop
-invariant-loop limit d rows a n i₀ i = (i ≤ n) × Provided ((d ≤ width) × (length a ≡ rows_width)) (every i (below limit d a) ≡ true)
+abbrev invariant-loop-i : tie.invariant-loop-i
+invariant-loop-i limit d rows a n i₀ i = (i ≤ n) × Provided ((d ≤ width) × (length a ≡ rows_width)) (every i (below limit d a) ≡ true)
 
-abbrev decreases-loop : tie.decreases-loop
-decreases-loop limit d rows a n i₀ i = n - i
+abbrev decreases-loop-i : tie.decreases-loop-i
+decreases-loop-i limit d rows a n i₀ i = n - i
 
-returns : tie.Need-returns invariant-loop decreases-loop
-returns c = λ h. absurd (omega (arith, h.1))
+returns-then-n-gt-ROWS : tie.Need-returns-then-n-gt-ROWS invariant-loop-i decreases-loop-i
+returns-then-n-gt-ROWS c = λ h. absurd (omega (arith, h.1))
 
-loop-holds : tie.Need-loop-init invariant-loop decreases-loop
-loop-holds c = (omega arith, λ _. every-none _)
+loop-i-init : tie.Need-loop-i-init invariant-loop-i decreases-loop-i
+loop-i-init c = (omega arith, λ _. every-none _)
 
-returns-2 : tie.Need-returns-2 invariant-loop decreases-loop
-returns-2 c = λ h. every_fails _ _ c.before.before.before.loop.i (omega arith) (sym (c.before.row_below.ensures (h.0, h.2)) ∙ not-true _ c.if2.true)
+returns-then-not-row_below : tie.Need-returns-then-not-row_below invariant-loop-i decreases-loop-i
+returns-then-not-row_below c = λ h. every_fails _ _ c.loop-i.i (omega arith) (sym (c.row_below.ensures (h.0, h.2)) ∙ not-true _ c.if-not-row_below.true-raw)
 
-loop-again : tie.Need-loop-preserved invariant-loop decreases-loop
-loop-again c =
-    let l = c.before.before.before.loop in
-    (omega arith, λ h. every_goes_on _ l.i (l.invariant.1 h) (sym (c.before.row_below.ensures h) ∙ not-false _ c.if2.false))
+loop-i-preserved : tie.Need-loop-i-preserved invariant-loop-i decreases-loop-i
+loop-i-preserved c =
+    let l = c.loop-i in
+    (omega arith, λ h. every_goes_on _ l.i (l.invariant.1 h) (sym (c.row_below.ensures h) ∙ not-false _ c.if-not-row_below.false-raw))
 
-returns-3 : tie.Need-returns-3 invariant-loop decreases-loop
-returns-3 c = λ h. let l = c.before.loop in every_ends _ _ l.i (l.invariant.1 (h.0, h.2)) (omega arith)
+returns : tie.Need-returns invariant-loop-i decreases-loop-i
+returns c = λ h. let l = c.loop-i in every_ends _ _ l.i (l.invariant.1 (h.0, h.2)) (omega arith)
 
 pub rows_below_spec : {M : Type 1} → statement M
 rows_below_spec =
     tie.close
-    (tie.spec invariant-loop decreases-loop returns loop-holds (λ c κs. omega arith) returns-2 (λ c. search rules) (λ c. search rules) loop-again returns-3)
+    (tie.spec invariant-loop-i decreases-loop-i returns-then-n-gt-ROWS loop-i-init (λ c κs. omega arith) returns-then-not-row_below (λ c. search rules) (λ c. search rules) loop-i-preserved returns)

@@ -13,11 +13,11 @@ returns c =
     let c4 = c5.before.before in
     let c3 = c4.before.before in
     sym (sym (first_passes 0 _ refl)
-    ∙ first_tested _ _ c3.refuse.ensures (λ z. c3.before.degree-allowed.ensures)
-    ∙ first_tested _ _ c4.refuse2.ensures (λ z. refl)
-    ∙ first_tested _ _ c5.refuse3.ensures (λ z. c5.before.modulus-allowed.ensures)
-    ∙ first_tested _ _ c6.refuse4.ensures (λ z. c6.before.bound-allowed.ensures)
-    ∙ first_tested _ _ c.refuse5.ensures (λ z. c.before.rows-allowed.ensures)
+    ∙ first_tested _ _ c3.refuse-r3.ensures (λ z. c3.degree_allowed.ensures)
+    ∙ first_tested _ _ c4.refuse-r4.ensures (λ z. refl)
+    ∙ first_tested _ _ c5.refuse-r5.ensures (λ z. c5.modulus_allowed.ensures)
+    ∙ first_tested _ _ c6.refuse-r6.ensures (λ z. c6.bound_allowed.ensures)
+    ∙ first_tested _ _ c.refuse.ensures (λ z. c.rows_allowed.ensures)
     ∙ first_only _)
 
 pub settings_refusal_spec : {M : Type 1} → statement M

@@ -30,9 +30,9 @@ and_assoc false b c = λ i. false
 
 returns : tie.Need-returns
 returns c = λ most.
-    let less = c.before.wrapping-sub-u64 in
-    let up = c.wrapping-add-u64 in
-    let a = c.before.before.args in
+    let less = c.wrapping_sub_u64 in
+    let up = c.wrapping_add_u64-raised in
+    let a = c.args in
     either (bit_or a.signs a.x) up.result
     ∙ ap (λ b. b && ltb up.result (2 ^ 63)) (either a.signs a.x)
     ∙ and_assoc (ltb a.signs (2 ^ 63)) (ltb a.x (2 ^ 63)) (ltb up.result (2 ^ 63))

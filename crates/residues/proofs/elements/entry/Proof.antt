@@ -3,8 +3,8 @@ use lib.ListN.{get_or-eq_default}
 use Rattle.residues.proofs.elements.entry.Statement.{statement}
 use Rattle.residues.proofs.elements.entry.Tie as tie
 
-returns-2 : tie.Need-returns-2
-returns-2 c = sym (get_or-eq_default c.before.args.t.now 0 c.if1.false)
+returns : tie.Need-returns
+returns c = sym (get_or-eq_default c.args.t.now 0 c.if-p-t.false)
 
 pub entry_spec : {M : Type 1} → statement M
-entry_spec = tie.close (tie.spec (λ c. search rules) (λ c. search rules) (λ c. search rules) returns-2)
+entry_spec = tie.close (tie.spec (λ c. search rules) (λ c. search rules) (λ c. search rules) returns)

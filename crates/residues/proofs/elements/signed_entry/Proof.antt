@@ -3,8 +3,8 @@ use lib.ListN.{get_or-eq_default}
 use Rattle.residues.proofs.elements.signed_entry.Statement.{statement}
 use Rattle.residues.proofs.elements.signed_entry.Tie as tie
 
-returns-2 : tie.Need-returns-2
-returns-2 c = sym (get_or-eq_default c.before.args.t.now (pos 0) c.if1.false)
+returns : tie.Need-returns
+returns c = sym (get_or-eq_default c.args.t.now (pos 0) c.if-p-t.false)
 
 pub signed_entry_spec : {M : Type 1} → statement M
-signed_entry_spec = tie.close (tie.spec (λ c. search rules) (λ c. search rules) (λ c. search rules) returns-2)
+signed_entry_spec = tie.close (tie.spec (λ c. search rules) (λ c. search rules) (λ c. search rules) returns)
