@@ -28,33 +28,33 @@ abbrev calls : ℕ → down-lts.Claims
 calls t = (power-reads.Asked, power-reads.Learnt, split-reads.Asked, split-reads.Learnt, down-below t, down.Post)
 
 module _ (t : ℕ) where
-  at_none : down-lts.Need-returns (calls t) (down-at t) down.Post
+  at_none : down-lts.Need-returns-then-level-eq0 (calls t) (down-at t) down.Post
   at_none c =
       let a = c.args in
       let none : a.level ≡ 0 = omega arith in
-      subst (λ n. Down n a.e a.s-1.now a.s-1.now) (sym none) (down-none a.e a.s-1.now)
+      subst (λ n. Down n a.e a.s.now a.s.now) (sym none) (down-none a.e a.s.now)
 
   split-requires : down-lts.Need-split-requires (calls t) (down-at t) down.Post
   split-requires c κs = (omega (arith, c.power.ensures, power_below (c.args.e / 2) (omega arith)), omega arith)
 
-  lent : down-lts.Need-slice_aggregate-down (calls t) (down-at t) down.Post
+  lent : down-lts.Need-slice_bounds-down-end-2 (calls t) (down-at t) down.Post
   lent c =
       let l = c.args.s.now in
       let split = c.split in
-      sym (length-take-le (length l / 2) split.new.1.1.0 (omega (arith, split.ensures.same)))
+      sym (length-take-le (length l / 2) split.new.s (omega (arith, split.ensures.same)))
 
-  returns : down-lts.Need-returns-2 (calls t) (down-at t) down.Post
+  returns : down-lts.Need-returns (calls t) (down-at t) down.Post
   returns c =
       let a = c.args in
-      let l = a.s-1.now in
+      let l = a.s.now in
       let h = length l / 2 in
       let power = c.power in
       let split = c.split in
-      let m = split.new.1.1.0 in
+      let m = split.new.s in
       let first = c.down in
-      let p = first.new.1.1.0 in
+      let p = first.new.s in
       let second = c.down-2 in
-      let q = second.new.1.1.0 in
+      let q = second.new.s in
       let up : a.level ≡ suc (a.level - 1) = omega arith in
       let long : length p ≡ h = first.ensures.same ∙ length-take-le h m (omega (arith, split.ensures.same)) in
       subst (λ r. Down a.level a.e l r) (sym (second_back h m p long q))

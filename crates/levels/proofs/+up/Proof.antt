@@ -29,13 +29,13 @@ abbrev calls : ℕ → up-lts.Claims
 calls t = (up-below t, up.Post, power-reads.Asked, power-reads.Learnt, join-reads.Asked, join-reads.Learnt)
 
 module _ (t : ℕ) where
-  at_none : up-lts.Need-returns (calls t) (up_at t) up.Post
+  at_none : up-lts.Need-returns-then-level-eq0 (calls t) (up_at t) up.Post
   at_none c =
       let a = c.args in
       let none : a.level ≡ 0 = omega arith in
-      subst (λ n. Up n a.e a.s-1.now a.s-1.now) (sym none) (up_none a.e a.s-1.now)
+      subst (λ n. Up n a.e a.s.now a.s.now) (sym none) (up_none a.e a.s.now)
 
-  lent : up-lts.Need-slice_aggregate-up (calls t) (up_at t) up.Post
+  lent : up-lts.Need-slice_bounds-up-end-2 (calls t) (up_at t) up.Post
   lent c = let l = c.args.s.now in sym (length-take-le (length l / 2) l (omega arith))
 
   join-requires : up-lts.Need-join-requires (calls t) (up_at t) up.Post
@@ -44,23 +44,23 @@ module _ (t : ℕ) where
       let h = length l / 2 in
       let first = c.up in
       let second = c.up-2 in
-      let long : length first.new.1.1.0 ≡ h = first.ensures.same ∙ length-take-le h l (omega arith) in (
+      let long : length first.new.s ≡ h = first.ensures.same ∙ length-take-le h l (omega arith) in (
         omega (arith, c.power.ensures, power_below (128 - c.args.e / 2) (omega arith)),
-        omega (arith, second_long h l first.new.1.1.0 long second.new.1.1.0 second.ensures.same, length-drop h l),
+        omega (arith, second_long h l first.new.s long second.new.s second.ensures.same, length-drop h l),
       )
 
-  returns : up-lts.Need-returns-2 (calls t) (up_at t) up.Post
+  returns : up-lts.Need-returns (calls t) (up_at t) up.Post
   returns c =
       let a = c.args in
-      let l = a.s-1.now in
+      let l = a.s.now in
       let h = length l / 2 in
       let first = c.up in
-      let p = first.new.1.1.0 in
+      let p = first.new.s in
       let second = c.up-2 in
-      let q = second.new.1.1.0 in
+      let q = second.new.s in
       let power = c.power in
       let join = c.join in
-      let m = join.new.1.1.0 in
+      let m = join.new.s in
       let above : a.level ≡ suc (a.level - 1) = omega arith in
       let long : length p ≡ h = first.ensures.same ∙ length-take-le h l (omega arith) in
       up_turn a.level (a.level - 1) a.e power.result above l m p q power.ensures first.ensures

@@ -6,7 +6,7 @@ use Rattle.residues.proofs.copy.Tie as tie
 returns : tie.Need-returns
 returns c = λ h.
     let a = c.args in
-    c.store.ensures (record { there = omega arith; room = omega arith }) ∙ front-own a.table.now a.to-1.now
+    c.store.ensures (record { there = omega arith; room = omega arith }) ∙ front-own a.table.now a.to.now
 
 pub copy_spec : {M : Type 1} → statement M
 copy_spec = tie.close (tie.spec (λ c κs. search rules) (λ c. search rules) returns)

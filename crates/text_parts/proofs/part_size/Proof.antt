@@ -12,7 +12,7 @@ size_of-requires : tie.Need-size_of-requires
 size_of-requires c κs = search rules
 
 returns : tie.Need-returns
-returns c = c.type_size.ensures ∙ ap shape_size c.shape_of.ensures
+returns c = c.size_of.ensures ∙ ap shape_size c.shape_of.ensures
 
 pub part_size_spec : {M : Type 1} → statement M
 part_size_spec = tie.close (tie.spec shape_of-requires size_of-requires returns)

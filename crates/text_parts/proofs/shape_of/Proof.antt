@@ -67,15 +67,15 @@ unfolding part_shape shapes size
 returns-in-1 c =
     let a = c.args in
     let deep : a.settings.depth ≤ 8 = omega arith in
-    named a.settings a.parts a.part 1 _ deep (omega arith) c.in_default.keys1
-    (c.part_of_holds.ensures ∙ (λ j. shape 1 a.parts.key (a.settings.rows * shifted a.settings.depth deep j) a.settings.degree))
+    named a.settings a.parts a.part 1 _ deep (omega arith) c.in-1.is
+    (c.part_of.ensures ∙ (λ j. shape 1 a.parts.key (a.settings.rows * shifted a.settings.depth deep j) a.settings.degree))
 
 returns-in-2 : tie.Need-returns-in-2
 unfolding part_shape shapes size
 returns-in-2 c =
     let a = c.args in
     let deep : a.settings.depth ≤ 8 = omega arith in
-    named a.settings a.parts a.part 2 _ deep (omega arith) c.in_default.keys2
+    named a.settings a.parts a.part 2 _ deep (omega arith) c.in-2.is
     (c.part_of-in-2.ensures ∙ (λ j. shape 2 a.parts.message (shifted a.settings.depth deep j) a.settings.degree))
 
 returns-in-3 : tie.Need-returns-in-3
@@ -83,41 +83,41 @@ unfolding part_shape shapes size
 returns-in-3 c =
     let a = c.args in
     let deep : a.settings.depth ≤ 8 = omega arith in
-    named a.settings a.parts a.part 3 _ deep (omega arith) c.in_default.keys3 c.part_of-in-3.ensures
+    named a.settings a.parts a.part 3 _ deep (omega arith) c.in-3.is c.part_of-in-3.ensures
 
 returns-in-4 : tie.Need-returns-in-4
 unfolding part_shape shapes size
 returns-in-4 c =
     let a = c.args in
     let deep : a.settings.depth ≤ 8 = omega arith in
-    named a.settings a.parts a.part 4 _ deep (omega arith) c.in_default.keys4 c.part_of-in-4.ensures
+    named a.settings a.parts a.part 4 _ deep (omega arith) c.in-4.is c.part_of-in-4.ensures
 
 returns-in-5 : tie.Need-returns-in-5
 unfolding part_shape shapes size
 returns-in-5 c =
     let a = c.args in
     let deep : a.settings.depth ≤ 8 = omega arith in
-    named a.settings a.parts a.part 5 _ deep (omega arith) c.in_default.keys5 c.part_of-in-5.ensures
+    named a.settings a.parts a.part 5 _ deep (omega arith) c.in-5.is c.part_of-in-5.ensures
 
 returns-in-6 : tie.Need-returns-in-6
 unfolding part_shape shapes size
 returns-in-6 c =
     let a = c.args in
     let deep : a.settings.depth ≤ 8 = omega arith in
-    named a.settings a.parts a.part 6 _ deep (omega arith) c.in_default.keys6 c.part_of-in-6.ensures
+    named a.settings a.parts a.part 6 _ deep (omega arith) c.in-6.is c.part_of-in-6.ensures
 
 returns-in-7 : tie.Need-returns-in-7
 unfolding part_shape shapes size
 returns-in-7 c =
     let a = c.args in
     let deep : a.settings.depth ≤ 8 = omega arith in
-    named a.settings a.parts a.part 7 _ deep (omega arith) c.in_default.keys7 c.part_of-in-7.ensures
+    named a.settings a.parts a.part 7 _ deep (omega arith) c.in-7.is c.part_of-in-7.ensures
 
 returns-in_default : tie.Need-returns-in_default
 returns-in_default c =
     let a = c.args in
     named a.settings a.parts a.part a.part _ (omega arith) (omega arith) refl
-    (c.settings_shape-in_default.ensures ∙ sym (none-such a.settings a.parts a.part c.in_default.rest))
+    (c.settings_shape-in_default.ensures ∙ sym (none-such a.settings a.parts a.part c.in_default.in_default-own.rest))
 
 pub shape_of_spec : {M : Type 1} → statement M
 shape_of_spec =

@@ -6,6 +6,7 @@ use Rattle.residues.proofs.Splice.{spliced-none}
 use Rattle.residues.proofs.Parts.{tail-length, residue-part}
 use Rattle.residues.proofs.elements.element_at.Statement.{statement}
 use Rattle.residues.proofs.elements.element_at.Tie as tie
+use Rattle.residues.proofs.elements.element_at.Lts.{then-there-n, else-there-n}
 
 returns-then-n-gt-WIDTH : tie.Need-returns-then-n-gt-WIDTH
 returns-then-n-gt-WIDTH c = λ h. absurd (omega arith)
@@ -22,10 +23,10 @@ unfolding element_at
 returns c = λ h.
     let a = c.args in
     let there = c.if-there-n in
-    let less : there.there ≤ a.d = ⊎_elim (λ w. omega arith) (λ w. omega arith) there.branch in
-    let all : there.there < a.d → length a.t.now ≤ a.i * a.d + there.there = λ l. ⊎_elim (λ w. omega arith) (λ w. omega arith) there.branch in
+    let less : there.there ≤ a.d = elim there.branch [ then-there-n w ↦ omega arith | else-there-n w ↦ omega arith ] in
+    let all : there.there < a.d → length a.t.now ≤ a.i * a.d + there.there = λ l. elim there.branch [ then-there-n w ↦ omega arith | else-there-n w ↦ omega arith ] in
     let room : there.there ≤ length (take (length a.t.now - a.i * a.d) (drop (a.i * a.d) a.t.now)) =
-    ⊎_elim (λ w. omega (arith, tail-length (a.i * a.d) a.t.now)) (λ w. omega (arith, tail-length (a.i * a.d) a.t.now)) there.branch in
+    elim there.branch [ then-there-n w ↦ omega (arith, tail-length (a.i * a.d) a.t.now) | else-there-n w ↦ omega (arith, tail-length (a.i * a.d) a.t.now) ] in
     c.store.ensures (record { there = room; room = omega arith })
     ∙ residue-part a.d there.there (a.i * a.d) less h a.t.now all
 
