@@ -8,19 +8,19 @@ use Rattle.columns.proofs.Words.{word}
 use Rattle.columns.proofs.add_columns.Statement.{statement}
 use Rattle.columns.proofs.add_columns.Tie as tie
 
-abbrev invariant-loop : tie.invariant-loop
-invariant-loop d f g sums₀ k₀ sums k = (k ≤ d) × (sums ≡ filled (λ (i : ℕ). word (pos (get_or sums₀ i 0) +ℤ product d (signed f) (narrow g) i)) k sums₀) × (length sums ≡ length sums₀)
+abbrev invariant-loop-k : tie.invariant-loop-k
+invariant-loop-k d f g sums₀ k₀ sums k = (k ≤ d) × (sums ≡ filled (λ (i : ℕ). word (pos (get_or sums₀ i 0) +ℤ product d (signed f) (narrow g) i)) k sums₀) × (length sums ≡ length sums₀)
 
-abbrev decreases-loop : tie.decreases-loop
-decreases-loop d f g sums₀ k₀ sums k = d - k
+abbrev decreases-loop-k : tie.decreases-loop-k
+decreases-loop-k d f g sums₀ k₀ sums k = d - k
 
-loop-holds : tie.Need-loop-init invariant-loop decreases-loop
-loop-holds c = (omega arith, filled_none _ _, refl)
+loop-k-init : tie.Need-loop-k-init invariant-loop-k decreases-loop-k
+loop-k-init c = (omega arith, filled_none _ _, refl)
 
-loop-again : tie.Need-loop-preserved invariant-loop decreases-loop
-loop-again c =
-    let l = c.before.before.before.loop in
-    let a = c.before.before.before.before.before.before.args in
+loop-k-preserved : tie.Need-loop-k-preserved invariant-loop-k decreases-loop-k
+loop-k-preserved c =
+    let l = c.loop-k in
+    let a = c.args in
     let cell : ℕ → ℕ = λ i. word (pos (get_or a.sums.now i 0) +ℤ product a.d (signed a.f.now) (narrow a.g.now) i) in (
       omega arith,
       filled-turn cell l.k a.sums.now l.invariant.1
@@ -30,12 +30,12 @@ loop-again c =
       simp length-set (omega arith),
     )
 
-returns : tie.Need-returns invariant-loop decreases-loop
+returns : tie.Need-returns invariant-loop-k decreases-loop-k
 unfolding add_columns
-returns c = filled-end _ _ c.before.loop.invariant.1 (omega arith)
+returns c = filled-end _ _ c.loop-k.invariant.1 (omega arith)
 
 pub add_columns_spec : {M : Type 1} → statement M
 add_columns_spec =
     tie.close
-    (tie.spec invariant-loop decreases-loop loop-holds (λ c. search rules) (λ c. search rules) (λ c κs. search rules) (λ c. search rules) (λ c. search rules)
-    (λ c. search rules) (λ c. search rules) loop-again (λ c. search rules) returns)
+    (tie.spec invariant-loop-k decreases-loop-k loop-k-init (λ c. search rules) (λ c. search rules) (λ c κs. search rules) (λ c. search rules) (λ c. search rules)
+    (λ c. search rules) (λ c. search rules) loop-k-preserved (λ c. search rules) returns)

@@ -9,17 +9,17 @@ sum c = rw (wide_back c.args.c c.ranges.c) (moved_is c.args.c c.ranges.c.sfits)
 sum_fits : (c : tie.Start) → SFits w64 (pos (moved c.args.c))
 sum_fits c = record { sfits = omega (arith, moved-below c.args.c c.ranges.c.sfits) }
 
-cast-result : tie.Need-overflow-cast-result
-cast-result c = rw (to_z-of_z c.ranges.c) (record { sfits = omega (arith, c.ranges.c.sfits) })
+overflow_cast-result : tie.Need-overflow_cast-result
+overflow_cast-result c = rw (to_z-of_z c.ranges.c) (record { sfits = omega (arith, c.ranges.c.sfits) })
 
-add-result : tie.Need-overflow-add-result
-add-result c = rw (sum c) (sum_fits c)
+overflow_add-result : tie.Need-overflow_add-result
+overflow_add-result c = rw (sum c) (sum_fits c)
 
-cast-result-2 : tie.Need-overflow-cast-result-2
-cast-result-2 c = rw (sum c, to_z-of_z (sum_fits c)) (tt, omega (arith, moved-below c.args.c c.ranges.c.sfits))
+overflow_cast-result-2 : tie.Need-overflow_cast-result-2
+overflow_cast-result-2 c = rw (sum c, to_z-of_z (sum_fits c)) (tt, omega (arith, moved-below c.args.c c.ranges.c.sfits))
 
 returns : tie.Need-returns
 returns c = rw (sum c, to_z-of_z (sum_fits c)) (sym (moved_is c.args.c c.ranges.c.sfits), moved-below c.args.c c.ranges.c.sfits)
 
 pub raised_spec : {M : Type 1} → statement M
-raised_spec = tie.close (tie.spec cast-result add-result cast-result-2 returns)
+raised_spec = tie.close (tie.spec overflow_cast-result overflow_add-result overflow_cast-result-2 returns)

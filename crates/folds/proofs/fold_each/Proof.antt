@@ -10,32 +10,32 @@ use borrow.Author.Rules.{rules}
 use Rattle.folds.proofs.fold_each.Statement.{statement}
 use Rattle.folds.proofs.fold_each.Tie as tie
 
-add-part-requires : tie.Need-add-part-requires
-add-part-requires c κs =
+add_part-requires : tie.Need-add_part-requires
+add_part-requires c κs =
     let s = c.before.before.before in
     let a = s.args in
-    let r = c.before.row-start in
+    let r = c.row_start-s in
     (s.requires.0, s.requires.1, s.requires.3, r.ensures.0, first_apart a.d a.h r.result a.to _ a.second _ r.ensures.0 refl s.requires.4 s.requires.5)
 
-add-part-requires-2 : tie.Need-add-part-requires-2
-add-part-requires-2 c κs =
+add_part-requires-2 : tie.Need-add_part-requires-2
+add_part-requires-2 c κs =
     let s = c.before.before.before.before.before.before.before in
     let a = s.args in
-    let r = c.before.before.before.before.before.row-start in
-    let first = c.before.before.before.add-part.ensures in
+    let r = c.row_start-s in
+    let first = c.add_part.ensures in
     (s.requires.0, s.requires.1, s.requires.3, omega arith, last_apart a.d a.h r.result a.to _ a.second _ r.ensures.0 refl s.requires.4 (omega (arith, s.requires.5, first.long)))
 
 returns : tie.Need-returns
 unfolding fold_halves
 returns c = λ f.
-    let r = c.before.before.before.before.before.before.before.before.row-start in
+    let r = c.row_start-s in
     let s = c.before.before.before.before.before.before.before.before.before.before in
     let a = s.args in
     turned-half 0 pos (modulo a.q) (BothBelow a.q) a.d a.h a.e r.result a.to _ a.second s.requires.2 r.ensures.0 (r.ensures.1 s.requires.2) refl a.t.now _ _
-    s.requires.4 s.requires.5 c.before.before.before.before.before.before.add-part.ensures c.before.before.add-part2.ensures
+    s.requires.4 s.requires.5 c.add_part.ensures c.add_part-2.ensures
     (λ x y lx ly. record { left = f.first.each x lx; right = f.last.each y ly })
 
 pub fold_each_spec : {M : Type 1} → statement M
 fold_each_spec =
     tie.close
-    (tie.spec (λ c κs. search rules) (λ c. search rules) (λ c. search rules) add-part-requires (λ c. search rules) add-part-requires-2 (λ c. search rules) returns)
+    (tie.spec (λ c κs. search rules) (λ c. search rules) (λ c. search rules) add_part-requires (λ c. search rules) add_part-requires-2 (λ c. search rules) returns)

@@ -8,19 +8,19 @@ use borrow.Author.Rules.{rules}
 use Rattle.folds.proofs.fold_elements.Statement.{statement}
 use Rattle.folds.proofs.fold_elements.Tie as tie
 
-fold-each-requires : tie.Need-fold-each-requires
-fold-each-requires c κs =
+fold_each-requires : tie.Need-fold_each-requires
+fold_each-requires c κs =
     let s = c.before.before.before.before.before.before.before in
-    let once = c.before.before.before.before.before.on-circle in
+    let once = c.on_circle-once in
     (s.requires.0, s.requires.1, omega (arith, once.ensures.0 (s.requires.0, s.requires.1), mod-lt s.args.e {m = 2 * s.args.d} (omega arith)), s.requires.2, search rules, search rules)
 
 returns : tie.Need-returns
 returns c = λ f.
     let s = c.before.before.before.before.before.before.before.before.before.before in
     let a = s.args in
-    let once = c.before.before.before.before.before.before.before.before.on-circle in
-    let moved = c.before.before.before.before.before.before.move_down.ensures in
-    c.before.before.fold-each.ensures (halves a.q a.d a.h once.result a.from a.to a.t.now _ f moved)
+    let once = c.on_circle-once in
+    let moved = c.move_down.ensures in
+    c.fold_each.ensures (halves a.q a.d a.h once.result a.from a.to a.t.now _ f moved)
     ∙ fold_done a.q a.d a.h once.result a.from a.to a.t.now _ f moved
     ∙ ap (λ n. fold_down a.q a.d a.h n a.from a.to a.t.now) (once.ensures.0 (s.requires.0, s.requires.1))
     ∙ fold_once a.q a.d a.h a.e a.from a.to a.t.now
@@ -28,4 +28,4 @@ returns c = λ f.
 pub fold_elements_spec : {M : Type 1} → statement M
 fold_elements_spec =
     tie.close
-    (tie.spec (λ c. search rules) (λ c κs. search rules) (λ c κs. search rules) (λ c. search rules) fold-each-requires (λ c. search rules) returns)
+    (tie.spec (λ c. search rules) (λ c κs. search rules) (λ c κs. search rules) (λ c. search rules) fold_each-requires (λ c. search rules) returns)

@@ -5,7 +5,7 @@ use Rattle.folds.proofs.fold_residues.Statement.{statement}
 use Rattle.folds.proofs.fold_residues.Tie as tie
 
 returns : tie.Need-returns
-returns c = λ f. c.before.before.fold-down.ensures f ∙ fold_in_place _ _ _ _ _
+returns c = λ f. c.fold_down.ensures f ∙ fold_in_place _ _ _ _ _
 
 pub fold_residues_spec : {M : Type 1} → statement M
 fold_residues_spec = tie.close (tie.spec (λ c κs. search rules) (λ c. search rules) returns)

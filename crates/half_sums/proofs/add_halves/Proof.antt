@@ -5,8 +5,8 @@ use Rattle.half_sums.proofs.add_halves.Tie as tie
 
 returns : tie.Need-returns
 returns c = λ h i z. record {
-  message = c.before.before.before.before.before.add-message.ensures h i (message_at _ _ _ _ _ _ _ _ z.0, z.1);
-  key = c.before.before.add-key.ensures h i (key_at _ _ _ _ _ _ _ _ z.0, z.2);
+  message = c.add_message.ensures h i (message_at _ _ _ _ _ _ _ _ z.0, z.1);
+  key = c.add_key.ensures h i (key_at _ _ _ _ _ _ _ _ z.0, z.2);
 }
 
 pub add_halves_spec : {M : Type 1} → statement M

@@ -11,29 +11,29 @@ use borrow.Author.Rules.{rules}
 use Rattle.half_sums.proofs.key_sums.Statement.{statement}
 use Rattle.half_sums.proofs.key_sums.Tie as tie
 
-abbrev invariant-loop : tie.invariant-loop
-invariant-loop q n first second sums₀ p₀ sums p =
+abbrev invariant-loop-p : tie.invariant-loop-p
+invariant-loop-p q n first second sums₀ p₀ sums p =
     (p ≤ n) × Provided (Residues q n 0 first × Residues q n 0 second) (sums ≡ filled (λ (j : ℕ). (get_or first j 0 + get_or second j 0) % q) p sums₀) × (length sums ≡ length sums₀)
 
-abbrev decreases-loop : tie.decreases-loop
-decreases-loop q n first second sums₀ p₀ sums p = n - p
+abbrev decreases-loop-p : tie.decreases-loop-p
+decreases-loop-p q n first second sums₀ p₀ sums p = n - p
 
-returns : tie.Need-returns invariant-loop decreases-loop
-returns c = λ l. absurd (omega (arith, l.first-long))
+returns-then-first-n : tie.Need-returns-then-first-n invariant-loop-p decreases-loop-p
+returns-then-first-n c = λ l. absurd (omega (arith, l.first-long))
 
-returns-2 : tie.Need-returns-2 invariant-loop decreases-loop
-returns-2 c = λ l. absurd (omega (arith, l.second_long))
+returns-then-second-n : tie.Need-returns-then-second-n invariant-loop-p decreases-loop-p
+returns-then-second-n c = λ l. absurd (omega (arith, l.second_long))
 
-returns-3 : tie.Need-returns-3 invariant-loop decreases-loop
-returns-3 c = λ l. absurd (omega (arith, l.room))
+returns-then-sums-n : tie.Need-returns-then-sums-n invariant-loop-p decreases-loop-p
+returns-then-sums-n c = λ l. absurd (omega (arith, l.room))
 
-loop-holds : tie.Need-loop-init invariant-loop decreases-loop
-loop-holds c = (omega arith, (λ _. filled_none _ _), refl)
+loop-p-init : tie.Need-loop-p-init invariant-loop-p decreases-loop-p
+loop-p-init c = (omega arith, (λ _. filled_none _ _), refl)
 
-loop-again : tie.Need-loop-preserved invariant-loop decreases-loop
-loop-again c =
+loop-p-preserved : tie.Need-loop-p-preserved invariant-loop-p decreases-loop-p
+loop-p-preserved c =
     let s = c.before.before.before.before.before.before.before.before.before.before.before in
-    let l = c.before.before.before.before.loop in
+    let l = c.loop-p in
     let one = ap (λ j. get_or s.args.first.now j 0) (zero-add l.p) in
     let two = ap (λ j. get_or s.args.second.now j 0) (zero-add l.p) in
     let small : Residues s.args.q s.args.n 0 s.args.first.now × Residues s.args.q s.args.n 0 s.args.second.now
@@ -41,11 +41,11 @@ loop-again c =
     λ h. record { left = omega (arith, one, h.0.each l.p (omega arith)); right = omega (arith, two, h.1.each l.p (omega arith)) } in
     (omega arith, (λ h. filled-turn _ l.p _ (l.invariant.1 h) (c.plus.ensures (small h)) (omega arith)), simp length-set (omega arith))
 
-returns-4 : tie.Need-returns-4 invariant-loop decreases-loop
-returns-4 c = λ _ h. filled-end _ _ (c.before.loop.invariant.1 h) (omega arith)
+returns : tie.Need-returns invariant-loop-p decreases-loop-p
+returns c = λ _ h. filled-end _ _ (c.loop-p.invariant.1 h) (omega arith)
 
 pub key_sums_spec : {M : Type 1} → statement M
 key_sums_spec =
     tie.close
-    (tie.spec invariant-loop decreases-loop returns returns-2 returns-3 loop-holds (λ c. search rules) (λ c. search rules) (λ c. search rules) (λ c. search rules) (λ c κs. search rules)
-    (λ c. search rules) (λ c. search rules) (λ c. search rules) (λ c. search rules) loop-again (λ c. search rules) returns-4)
+    (tie.spec invariant-loop-p decreases-loop-p returns-then-first-n returns-then-second-n returns-then-sums-n loop-p-init (λ c. search rules) (λ c. search rules) (λ c. search rules) (λ c. search rules) (λ c κs. search rules)
+    (λ c. search rules) (λ c. search rules) (λ c. search rules) (λ c. search rules) loop-p-preserved (λ c. search rules) returns)

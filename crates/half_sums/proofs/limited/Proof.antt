@@ -6,8 +6,8 @@ use borrow.Author.Rules.{rules}
 use Rattle.half_sums.proofs.limited.Statement.{statement}
 use Rattle.half_sums.proofs.limited.Tie as tie
 
-returns-2 : tie.Need-returns-2
-returns-2 c = let is = ap nat_abs (to_z-of_z c.before.before.ranges.x) in (omega arith, λ h. absurd (omega (arith, c.before.magnitude.ensures, is)))
+returns : tie.Need-returns
+returns c = let is = ap nat_abs (to_z-of_z c.ranges.x) in (omega arith, λ h. absurd (omega (arith, c.magnitude.ensures, is)))
 
 pub limited_spec : {M : Type 1} → statement M
-limited_spec = tie.close (tie.spec (λ c κs. search rules) (λ c. search rules) returns-2)
+limited_spec = tie.close (tie.spec (λ c κs. search rules) (λ c. search rules) returns)

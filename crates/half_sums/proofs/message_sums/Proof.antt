@@ -12,28 +12,28 @@ use Rattle.half_sums.proofs.Words.{read, read_small, plus_is}
 use Rattle.half_sums.proofs.message_sums.Statement.{statement}
 use Rattle.half_sums.proofs.message_sums.Tie as tie
 
-abbrev invariant-loop : tie.invariant-loop
-invariant-loop n first second sums₀ p₀ sums p =
+abbrev invariant-loop-p : tie.invariant-loop-p
+invariant-loop-p n first second sums₀ p₀ sums p =
     (p ≤ n) × Provided (Room n first × Room n second) (sums ≡ filled (λ (j : ℕ). get_or first j (pos 0) +ℤ get_or second j (pos 0)) p sums₀) × (length sums ≡ length sums₀)
 
-abbrev decreases-loop : tie.decreases-loop
-decreases-loop n first second sums₀ p₀ sums p = n - p
+abbrev decreases-loop-p : tie.decreases-loop-p
+decreases-loop-p n first second sums₀ p₀ sums p = n - p
 
-returns : tie.Need-returns invariant-loop decreases-loop
-returns c = λ l. absurd (omega (arith, l.first-long))
+returns-then-first-n : tie.Need-returns-then-first-n invariant-loop-p decreases-loop-p
+returns-then-first-n c = λ l. absurd (omega (arith, l.first-long))
 
-returns-2 : tie.Need-returns-2 invariant-loop decreases-loop
-returns-2 c = λ l. absurd (omega (arith, l.second_long))
+returns-then-second-n : tie.Need-returns-then-second-n invariant-loop-p decreases-loop-p
+returns-then-second-n c = λ l. absurd (omega (arith, l.second_long))
 
-returns-3 : tie.Need-returns-3 invariant-loop decreases-loop
-returns-3 c = λ l. absurd (omega (arith, l.room))
+returns-then-sums-n : tie.Need-returns-then-sums-n invariant-loop-p decreases-loop-p
+returns-then-sums-n c = λ l. absurd (omega (arith, l.room))
 
-loop-holds : tie.Need-loop-init invariant-loop decreases-loop
-loop-holds c = (omega arith, (λ _. filled_none _ _), refl)
+loop-p-init : tie.Need-loop-p-init invariant-loop-p decreases-loop-p
+loop-p-init c = (omega arith, (λ _. filled_none _ _), refl)
 
-loop-again : tie.Need-loop-preserved invariant-loop decreases-loop
-loop-again c =
-    let l = c.before.before.before.before.loop in
+loop-p-preserved : tie.Need-loop-p-preserved invariant-loop-p decreases-loop-p
+loop-p-preserved c =
+    let l = c.loop-p in
     let s = c.before.before.before.before.before.before.before.before in
     let x = get_or s.args.first.now l.p (pos 0) in
     let y = get_or s.args.second.now l.p (pos 0) in
@@ -46,11 +46,11 @@ loop-again c =
       simp length-set (omega arith),
     )
 
-returns-4 : tie.Need-returns-4 invariant-loop decreases-loop
-returns-4 c = λ _ h. filled-end _ _ (c.before.loop.invariant.1 h) (omega arith)
+returns : tie.Need-returns invariant-loop-p decreases-loop-p
+returns c = λ _ h. filled-end _ _ (c.loop-p.invariant.1 h) (omega arith)
 
 pub message_sums_spec : {M : Type 1} → statement M
 message_sums_spec =
     tie.close
-    (tie.spec invariant-loop decreases-loop returns returns-2 returns-3 loop-holds (λ c. search rules) (λ c. search rules) (λ c. search rules) (λ c. search rules) (λ c κs. search rules)
-    (λ c. search rules) (λ c. search rules) (λ c. search rules) (λ c. search rules) loop-again (λ c. search rules) returns-4)
+    (tie.spec invariant-loop-p decreases-loop-p returns-then-first-n returns-then-second-n returns-then-sums-n loop-p-init (λ c. search rules) (λ c. search rules) (λ c. search rules) (λ c. search rules) (λ c κs. search rules)
+    (λ c. search rules) (λ c. search rules) (λ c. search rules) (λ c. search rules) loop-p-preserved (λ c. search rules) returns)

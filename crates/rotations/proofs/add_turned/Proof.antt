@@ -9,10 +9,10 @@ use Rattle.rotations.proofs.add_turned.Tie as tie
 returns : tie.Need-returns
 returns c = λ f.
     let o = c.before.before.before.before in
-    let a = o.before.before.before.args in
+    let a = o.args in
     let d : (0 < a.d) × (a.d ≤ width) = (f.degree, f.degree_most) in
-    let once = o.on-circle.ensures.0 d in
-    c.before.before.accumulate-turned.ensures (record { exponent = omega (arith, once, mod-lt a.e {m = 2 * a.d} (omega arith)); summands = f.summands })
+    let once = o.on_circle-once.ensures.0 d in
+    c.accumulate_turned.ensures (record { exponent = omega (arith, once, mod-lt a.e {m = 2 * a.d} (omega arith)); summands = f.summands })
     ∙ spliced_ext _ _ 0 a.d a.out.now (λ k l.
     ap (λ z. modulo a.q (pos (get_or a.out.now (0 + k) 0) +ℤ z))
     (ap (λ n. rotate a.d n (residue a.a.now) k) once ∙ rotate-mod a.d a.e (residue a.a.now) k))

@@ -8,19 +8,19 @@ use Rattle.residues.proofs.Splice.{spliced-none, spliced-turn, spliced-end, spli
 use Rattle.rotations.proofs.gather_row.Statement.{statement}
 use Rattle.rotations.proofs.gather_row.Tie as tie
 
-abbrev invariant-loop : tie.invariant-loop
-invariant-loop n negative a from sums₀ to k₀ sums k = (k ≤ n) × (sums ≡ spliced (plus_row (2 ^ 64) negative a from sums₀ to) to k sums₀) × (length sums ≡ length sums₀)
+abbrev invariant-loop-k : tie.invariant-loop-k
+invariant-loop-k n negative a from sums₀ to k₀ sums k = (k ≤ n) × (sums ≡ spliced (plus_row (2 ^ 64) negative a from sums₀ to) to k sums₀) × (length sums ≡ length sums₀)
 
-abbrev decreases-loop : tie.decreases-loop
-decreases-loop n negative a from sums₀ to k₀ sums k = n - k
+abbrev decreases-loop-k : tie.decreases-loop-k
+decreases-loop-k n negative a from sums₀ to k₀ sums k = n - k
 
-loop-holds : tie.Need-loop-init invariant-loop decreases-loop
-loop-holds c = (omega arith, spliced-none _ _ _, refl)
+loop-k-init : tie.Need-loop-k-init invariant-loop-k decreases-loop-k
+loop-k-init c = (omega arith, spliced-none _ _ _, refl)
 
-loop-again : tie.Need-loop-preserved invariant-loop decreases-loop
-loop-again c =
-    let a = c.before.before.before.before.before.before.before.args in
-    let l = c.before.before.before.before.loop in
+loop-k-preserved : tie.Need-loop-k-preserved invariant-loop-k decreases-loop-k
+loop-k-preserved c =
+    let a = c.args in
+    let l = c.loop-k in
     let was : get_or l.sums (a.to + l.k) 0 ≡ get_or a.sums.now (a.to + l.k) 0 =
     ap (λ t. get_or t (a.to + l.k) 0) l.invariant.1 ∙ spliced-behind _ a.to l.k a.sums.now (omega arith) (a.to + l.k) (omega arith)
     in (
@@ -30,9 +30,9 @@ loop-again c =
       simp length-set (omega arith),
     )
 
-returns : tie.Need-returns invariant-loop decreases-loop
-returns c = spliced-end _ _ _ c.before.loop.invariant.1 (omega arith)
+returns : tie.Need-returns invariant-loop-k decreases-loop-k
+returns c = spliced-end _ _ _ c.loop-k.invariant.1 (omega arith)
 
 pub gather_row_spec : {M : Type 1} → statement M
-gather_row_spec = tie.close (tie.spec invariant-loop decreases-loop loop-holds (λ c. search rules) (λ c. search rules) (λ c. search rules) (λ c. search rules) (λ c. search rules) (λ c. search rules)
-    (λ c κs. search rules) (λ c. search rules) (λ c. search rules) (λ c. search rules) (λ c. search rules) (λ c. search rules) loop-again (λ c. search rules) returns)
+gather_row_spec = tie.close (tie.spec invariant-loop-k decreases-loop-k loop-k-init (λ c. search rules) (λ c. search rules) (λ c. search rules) (λ c. search rules) (λ c. search rules) (λ c. search rules)
+    (λ c κs. search rules) (λ c. search rules) (λ c. search rules) (λ c. search rules) (λ c. search rules) (λ c. search rules) loop-k-preserved (λ c. search rules) returns)

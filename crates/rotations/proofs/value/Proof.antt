@@ -5,34 +5,34 @@ use Rattle.rotations.proofs.Values.{first_summands, second_summands, value-done}
 use Rattle.rotations.proofs.value.Statement.{statement}
 use Rattle.rotations.proofs.value.Tie as tie
 
-add-on-circle : tie.Need-overflow-add-on-circle
-add-on-circle c = omega (arith, c.on-circle.ensures.1)
+overflow_add-once : tie.Need-overflow_add-once
+overflow_add-once c = omega (arith, c.on_circle-once.ensures.1)
 
 returns : tie.Need-returns
 returns c = λ f.
     let o = c.before.before.before.before.before.before.before.before.before.before.before.before.before in
     let w = c.before.before.before.before.before.before.before.before.before.before.before.before in
-    let a = o.before.before.before.before.before.args in
+    let a = o.args in
     let d : (0 < a.d) × (a.d ≤ width) = (f.degree, f.degree_most) in
-    let once = o.on-circle.ensures.0 d in
-    let twice = w.on-circle2.ensures.0 d in
-    let copied = c.before.before.before.before.before.before.before.before.before.before.store.ensures
+    let once = o.on_circle-once.ensures.0 d in
+    let twice = w.on_circle-twice.ensures.0 d in
+    let copied = c.store.ensures
     (record { there = omega (arith, f.coefficients.first.long); room = omega (arith, f.room) }) in
-    let first = c.before.before.before.before.before.before.accumulate-turned.ensures (record {
+    let first = c.accumulate_turned.ensures (record {
       exponent = omega (arith, once, mod-lt a.e {m = 2 * a.d} (omega arith));
       summands = first_summands a.q a.d a.e f.degree a.c0.now a.c1.now a.c2.now a.out.now _ a.out.now f.coefficients
-          o.on-circle.result w.on-circle2.result f.room once twice copied;
+          o.on_circle-once.result w.on_circle-twice.result f.room once twice copied;
     }) in
-    c.before.before.accumulate-turned2.ensures (record {
-      exponent = omega (arith, twice, mod-lt (o.on-circle.result + o.on-circle.result) {m = 2 * a.d} (omega arith));
+    c.accumulate_turned-2.ensures (record {
+      exponent = omega (arith, twice, mod-lt (o.on_circle-once.result + o.on_circle-once.result) {m = 2 * a.d} (omega arith));
       summands = second_summands a.q a.d a.e f.degree a.c0.now a.c1.now a.c2.now a.out.now _ _ f.coefficients
-          o.on-circle.result w.on-circle2.result f.room once twice copied first;
+          o.on_circle-once.result w.on_circle-twice.result f.room once twice copied first;
     })
     ∙ value-done a.q a.d a.e f.degree a.c0.now a.c1.now a.c2.now a.out.now _ _ f.coefficients
-    o.on-circle.result w.on-circle2.result f.room once twice copied first
+    o.on_circle-once.result w.on_circle-twice.result f.room once twice copied first
 
 pub value_spec : {M : Type 1} → statement M
 value_spec =
     tie.close
-    (tie.spec (λ c κs. search rules) add-on-circle (λ c κs. search rules) (λ c κs. search rules) (λ c κs. search rules) (λ c κs. search rules)
+    (tie.spec (λ c κs. search rules) overflow_add-once (λ c κs. search rules) (λ c κs. search rules) (λ c κs. search rules) (λ c κs. search rules)
     (λ c. search rules) returns)

@@ -18,56 +18,56 @@ module _ (z : ℤ) (fits : mag z < 2 ^ hbits w32) {r : ℕ} where
   begin : (n at : ℕ) → r ≡ start n (to_z w32 (of_z w32 z)) at → (place : ℕ) → at ≡ place → r ≡ start n z place
   begin n at e place is = e ∙ (λ i. start n (through-bits w32 z fits i) (is i))
 
-size0 : (c : tie.After-magnitude) → let a = c.before.before.before.before.before.before.before.args in c.magnitude.result ≡ nat_abs (get_or a.f.now a.j (pos 0))
-size0 c = let a = c.before.before.before.before.before.before.before.args in size (get_or a.f.now a.j (pos 0)) c.before.before.before.before.c0.given c.magnitude.ensures
+size0 : (c : tie.After-magnitude) → let a = c.args in c.magnitude.result ≡ nat_abs (get_or a.f.now a.j (pos 0))
+size0 c = let a = c.args in size (get_or a.f.now a.j (pos 0)) c.c0-1.given c.magnitude.ensures
 
-begin0 : (c : tie.After-row-start) → let a = c.before.before.before.before.before.before.before.before.args in c.row-start.result ≡ start (a.d * a.strands)
+begin0 : (c : tie.After-row_start) → let a = c.args in c.row_start.result ≡ start (a.d * a.strands)
     (get_or a.f.now a.j (pos 0)) (a.j * a.strands)
 begin0 c =
-    let a = c.before.before.before.before.before.before.before.before.args in
-    begin (get_or a.f.now a.j (pos 0)) c.before.before.before.before.before.c0.given (a.d * a.strands) (a.j * a.strands) c.row-start.ensures (a.j * a.strands) (refl)
+    let a = c.args in
+    begin (get_or a.f.now a.j (pos 0)) c.c0-1.given (a.d * a.strands) (a.j * a.strands) c.row_start.ensures (a.j * a.strands) (refl)
 
-size1 : (c : tie.After-magnitude2) → let a = c.before.before.before.before.before.before.before.before.before.args in c.magnitude2.result ≡ nat_abs (get_or a.f.now (a.j + 1) (pos 0))
+size1 : (c : tie.After-magnitude-2) → let a = c.args in c.magnitude-2.result ≡ nat_abs (get_or a.f.now (a.j + 1) (pos 0))
 size1 c =
-    let a = c.before.before.before.before.before.before.before.before.before.args in
-    size (get_or a.f.now (a.j + 1) (pos 0)) c.before.before.before.before.before.c1.given c.magnitude2.ensures
+    let a = c.args in
+    size (get_or a.f.now (a.j + 1) (pos 0)) c.c1-1.given c.magnitude-2.ensures
 
-begin1 : (c : tie.After-row-start2) → let a = c.before.before.before.before.before.before.before.before.before.before.args in
-    c.row-start2.result ≡ start (a.d * a.strands) (get_or a.f.now (a.j + 1) (pos 0)) ((a.j + 1) * a.strands)
+begin1 : (c : tie.After-row_start-2) → let a = c.args in
+    c.row_start-2.result ≡ start (a.d * a.strands) (get_or a.f.now (a.j + 1) (pos 0)) ((a.j + 1) * a.strands)
 begin1 c =
-    let a = c.before.before.before.before.before.before.before.before.before.before.args in
-    begin (get_or a.f.now (a.j + 1) (pos 0)) c.before.before.before.before.before.before.c1.given (a.d * a.strands) (a.j * a.strands + a.strands) c.row-start2.ensures
+    let a = c.args in
+    begin (get_or a.f.now (a.j + 1) (pos 0)) c.c1-1.given (a.d * a.strands) (a.j * a.strands + a.strands) c.row_start-2.ensures
     ((a.j + 1) * a.strands) (omega (arith, Nat.add-mul a.j 1 a.strands))
 
-size2 : (c : tie.After-magnitude3) → let a = c.before.before.before.before.before.before.before.before.before.before.before.args in
-    c.magnitude3.result ≡ nat_abs (get_or a.f.now (a.j + 2) (pos 0))
+size2 : (c : tie.After-magnitude-3) → let a = c.args in
+    c.magnitude-3.result ≡ nat_abs (get_or a.f.now (a.j + 2) (pos 0))
 size2 c =
-    let a = c.before.before.before.before.before.before.before.before.before.before.before.args in
-    size (get_or a.f.now (a.j + 2) (pos 0)) c.before.before.before.before.before.before.c2.given c.magnitude3.ensures
+    let a = c.args in
+    size (get_or a.f.now (a.j + 2) (pos 0)) c.c2-1.given c.magnitude-3.ensures
 
-begin2 : (c : tie.After-row-start3) → let a = c.before.before.before.before.before.before.before.before.before.before.before.before.args in
-    c.row-start3.result ≡ start (a.d * a.strands) (get_or a.f.now (a.j + 2) (pos 0)) ((a.j + 2) * a.strands)
+begin2 : (c : tie.After-row_start-3) → let a = c.args in
+    c.row_start-3.result ≡ start (a.d * a.strands) (get_or a.f.now (a.j + 2) (pos 0)) ((a.j + 2) * a.strands)
 begin2 c =
-    let a = c.before.before.before.before.before.before.before.before.before.before.before.before.args in
-    begin (get_or a.f.now (a.j + 2) (pos 0)) c.before.before.before.before.before.before.before.c2.given (a.d * a.strands) (a.j * a.strands + a.strands + a.strands)
-    c.row-start3.ensures ((a.j + 2) * a.strands) (omega (arith, Nat.add-mul a.j 2 a.strands))
+    let a = c.args in
+    begin (get_or a.f.now (a.j + 2) (pos 0)) c.c2-1.given (a.d * a.strands) (a.j * a.strands + a.strands + a.strands)
+    c.row_start-3.ensures ((a.j + 2) * a.strands) (omega (arith, Nat.add-mul a.j 2 a.strands))
 
-size3 : (c : tie.After-magnitude4) → let a = c.before.before.before.before.before.before.before.before.before.before.before.before.before.args in
-    c.magnitude4.result ≡ nat_abs (get_or a.f.now (a.j + 3) (pos 0))
+size3 : (c : tie.After-magnitude-4) → let a = c.args in
+    c.magnitude-4.result ≡ nat_abs (get_or a.f.now (a.j + 3) (pos 0))
 size3 c =
-    let a = c.before.before.before.before.before.before.before.before.before.before.before.before.before.args in
-    size (get_or a.f.now (a.j + 3) (pos 0)) c.before.before.before.before.before.before.before.c3.given c.magnitude4.ensures
+    let a = c.args in
+    size (get_or a.f.now (a.j + 3) (pos 0)) c.c3-1.given c.magnitude-4.ensures
 
-begin3 : (c : tie.After-row-start4) → let a = c.before.before.before.before.before.before.before.before.before.before.before.before.before.before.args in
-    c.row-start4.result ≡ start (a.d * a.strands) (get_or a.f.now (a.j + 3) (pos 0)) ((a.j + 3) * a.strands)
+begin3 : (c : tie.After-row_start-4) → let a = c.args in
+    c.row_start-4.result ≡ start (a.d * a.strands) (get_or a.f.now (a.j + 3) (pos 0)) ((a.j + 3) * a.strands)
 begin3 c =
-    let a = c.before.before.before.before.before.before.before.before.before.before.before.before.before.before.args in
-    begin (get_or a.f.now (a.j + 3) (pos 0)) c.before.before.before.before.before.before.before.before.c3.given (a.d * a.strands)
-    (a.j * a.strands + a.strands + a.strands + a.strands) c.row-start4.ensures ((a.j + 3) * a.strands) (omega (arith, Nat.add-mul a.j 3 a.strands))
+    let a = c.args in
+    begin (get_or a.f.now (a.j + 3) (pos 0)) c.c3-1.given (a.d * a.strands)
+    (a.j * a.strands + a.strands + a.strands + a.strands) c.row_start-4.ensures ((a.j + 3) * a.strands) (omega (arith, Nat.add-mul a.j 3 a.strands))
 
-add-four-requires : tie.Need-add-four-requires
-add-four-requires c κs =
-    let a = c.before.before.before.before.before.before.before.before.before.before.before.before.before.before.before.args in (
+add_four-requires : tie.Need-add_four-requires
+add_four-requires c κs =
+    let a = c.args in (
       omega (arith, begin0 c.before.before.before.before.before.before.before, start_most (a.d * a.strands) (a.j * a.strands) (get_or a.f.now a.j (pos 0))),
       omega (arith, begin1 c.before.before.before.before.before, start_most (a.d * a.strands) ((a.j + 1) * a.strands) (get_or a.f.now (a.j + 1) (pos 0))),
       omega (arith, begin2 c.before.before.before, start_most (a.d * a.strands) ((a.j + 2) * a.strands) (get_or a.f.now (a.j + 2) (pos 0))),
@@ -78,9 +78,9 @@ add-four-requires c κs =
 returns : tie.Need-returns
 unfolding add_four
 returns c =
-    let a = c.before.before.before.before.before.before.before.before.before.before.before.before.before.before.before.before.before.before.args in
+    let a = c.args in
     let x = narrowed a.x.now in
-    c.before.before.add-four.ensures
+    c.add_four.ensures
     ∙ λ i. add_row (a.d * a.strands) (size3 c.before.before.before.before.before i) (begin3 c.before.before.before.before i) x
     (add_row (a.d * a.strands) (size2 c.before.before.before.before.before.before.before i) (begin2 c.before.before.before.before.before.before i) x
     (add_row (a.d * a.strands) (size1 c.before.before.before.before.before.before.before.before.before i) (begin1 c.before.before.before.before.before.before.before.before i) x
@@ -91,48 +91,48 @@ returns c =
 room : (c d j : ℕ) → c ≤ rows_most → d ≤ width → j + 4 ≤ d → (j * c + 4 * c ≤ d * c) × (d * c ≤ rows_width)
 room c d j few most inside = (omega (arith, Nat.mul-le-mul_right c inside, Nat.add-mul j 4 c), cells_most_lem c d few most)
 
-mul-n : tie.Need-mul-n
-mul-n c = let s = c.before.before in let r = room s.args.strands s.args.d s.args.j s.pre.0.strands s.pre.0.degree s.pre.1 in omega (arith, r.0, r.1)
+overflow_mul-n : tie.Need-overflow_mul-n
+overflow_mul-n c = let s = c.before.before in let r = room s.args.strands s.args.d s.args.j s.requires.0.strands s.requires.0.degree s.requires.1 in omega (arith, r.0, r.1)
 
-mul-at0 : tie.Need-mul-at0
-mul-at0 c = let s = c.before.before in let r = room s.args.strands s.args.d s.args.j s.pre.0.strands s.pre.0.degree s.pre.1 in omega (arith, r.0, r.1)
+overflow_mul-at0 : tie.Need-overflow_mul-at0
+overflow_mul-at0 c = let s = c.before.before in let r = room s.args.strands s.args.d s.args.j s.requires.0.strands s.requires.0.degree s.requires.1 in omega (arith, r.0, r.1)
 
-add-at1 : tie.Need-add-at1
-add-at1 c = let s = c.before.before in let r = room s.args.strands s.args.d s.args.j s.pre.0.strands s.pre.0.degree s.pre.1 in omega (arith, r.0, r.1)
+overflow_add-at1 : tie.Need-overflow_add-at1
+overflow_add-at1 c = let s = c.before.before in let r = room s.args.strands s.args.d s.args.j s.requires.0.strands s.requires.0.degree s.requires.1 in omega (arith, r.0, r.1)
 
-add-at2 : tie.Need-add-at2
-add-at2 c = let s = c.before.before in let r = room s.args.strands s.args.d s.args.j s.pre.0.strands s.pre.0.degree s.pre.1 in omega (arith, r.0, r.1)
+overflow_add-at2 : tie.Need-overflow_add-at2
+overflow_add-at2 c = let s = c.before.before in let r = room s.args.strands s.args.d s.args.j s.requires.0.strands s.requires.0.degree s.requires.1 in omega (arith, r.0, r.1)
 
-add-at3 : tie.Need-add-at3
-add-at3 c = let s = c.before.before in let r = room s.args.strands s.args.d s.args.j s.pre.0.strands s.pre.0.degree s.pre.1 in omega (arith, r.0, r.1)
+overflow_add-at3 : tie.Need-overflow_add-at3
+overflow_add-at3 c = let s = c.before.before in let r = room s.args.strands s.args.d s.args.j s.requires.0.strands s.requires.0.degree s.requires.1 in omega (arith, r.0, r.1)
 
-row-start-requires : tie.Need-row-start-requires
-row-start-requires c κs =
+row_start-requires : tie.Need-row_start-requires
+row_start-requires c κs =
     let s = c.before.before.before.before.before.before.before in
-    let r = room s.args.strands s.args.d s.args.j s.pre.0.strands s.pre.0.degree s.pre.1 in
-    (r.1, omega (arith, r.0, s.pre.0.some))
+    let r = room s.args.strands s.args.d s.args.j s.requires.0.strands s.requires.0.degree s.requires.1 in
+    (r.1, omega (arith, r.0, s.requires.0.some))
 
-row-start-requires-2 : tie.Need-row-start-requires-2
-row-start-requires-2 c κs =
+row_start-requires-2 : tie.Need-row_start-requires-2
+row_start-requires-2 c κs =
     let s = c.before.before.before.before.before.before.before.before.before in
-    let r = room s.args.strands s.args.d s.args.j s.pre.0.strands s.pre.0.degree s.pre.1 in
-    (r.1, omega (arith, r.0, s.pre.0.some))
+    let r = room s.args.strands s.args.d s.args.j s.requires.0.strands s.requires.0.degree s.requires.1 in
+    (r.1, omega (arith, r.0, s.requires.0.some))
 
-row-start-requires-3 : tie.Need-row-start-requires-3
-row-start-requires-3 c κs =
+row_start-requires-3 : tie.Need-row_start-requires-3
+row_start-requires-3 c κs =
     let s = c.before.before.before.before.before.before.before.before.before.before.before in
-    let r = room s.args.strands s.args.d s.args.j s.pre.0.strands s.pre.0.degree s.pre.1 in
-    (r.1, omega (arith, r.0, s.pre.0.some))
+    let r = room s.args.strands s.args.d s.args.j s.requires.0.strands s.requires.0.degree s.requires.1 in
+    (r.1, omega (arith, r.0, s.requires.0.some))
 
-row-start-requires-4 : tie.Need-row-start-requires-4
-row-start-requires-4 c κs =
+row_start-requires-4 : tie.Need-row_start-requires-4
+row_start-requires-4 c κs =
     let s = c.before.before.before.before.before.before.before.before.before.before.before.before.before in
-    let r = room s.args.strands s.args.d s.args.j s.pre.0.strands s.pre.0.degree s.pre.1 in
-    (r.1, omega (arith, r.0, s.pre.0.some))
+    let r = room s.args.strands s.args.d s.args.j s.requires.0.strands s.requires.0.degree s.requires.1 in
+    (r.1, omega (arith, r.0, s.requires.0.some))
 
 pub add_block_spec : {M : Type 1} → statement M
 add_block_spec =
     tie.close
-    (tie.spec mul-n mul-at0 add-at1 add-at2 add-at3 (λ c. search rules) (λ c. search rules) (λ c. search rules) (λ c. search rules) (λ c. search rules) (λ c. search rules) (λ c. search rules)
-    (λ c. search rules) (λ c. search rules) (λ c. search rules) (λ c. search rules) (λ c κs. search rules) row-start-requires (λ c κs. search rules) row-start-requires-2
-    (λ c κs. search rules) row-start-requires-3 (λ c κs. search rules) row-start-requires-4 add-four-requires (λ c. search rules) returns)
+    (tie.spec overflow_mul-n overflow_mul-at0 overflow_add-at1 overflow_add-at2 overflow_add-at3 (λ c. search rules) (λ c. search rules) (λ c. search rules) (λ c. search rules) (λ c. search rules) (λ c. search rules) (λ c. search rules)
+    (λ c. search rules) (λ c. search rules) (λ c. search rules) (λ c. search rules) (λ c κs. search rules) row_start-requires (λ c κs. search rules) row_start-requires-2
+    (λ c κs. search rules) row_start-requires-3 (λ c κs. search rules) row_start-requires-4 add_four-requires (λ c. search rules) returns)

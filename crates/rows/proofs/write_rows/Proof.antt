@@ -8,26 +8,26 @@ use Rattle.rows.proofs.ThreeRows.{ThreeRows, three_none, three_turn, three_done}
 use Rattle.rows.proofs.write_rows.Statement.{statement}
 use Rattle.rows.proofs.write_rows.Tie as tie
 
-abbrev invariant-loop : tie.invariant-loop
-invariant-loop q d a y₀ k₀ y k = (k ≤ d) × (Residues q d a → ThreeRows (turned q d (residue a)) d k y₀ y) × (length y ≡ length y₀)
+abbrev invariant-loop-k : tie.invariant-loop-k
+invariant-loop-k q d a y₀ k₀ y k = (k ≤ d) × (Residues q d a → ThreeRows (turned q d (residue a)) d k y₀ y) × (length y ≡ length y₀)
 
-abbrev decreases-loop : tie.decreases-loop
-decreases-loop q d a y₀ k₀ y k = d - k
+abbrev decreases-loop-k : tie.decreases-loop-k
+decreases-loop-k q d a y₀ k₀ y k = d - k
 
-loop-holds : tie.Need-loop-init invariant-loop decreases-loop
-loop-holds c = (omega arith, λ _. three_none _ _ _, refl)
+loop-k-init : tie.Need-loop-k-init invariant-loop-k decreases-loop-k
+loop-k-init c = (omega arith, λ _. three_none _ _ _, refl)
 
-slice-write-y-2 : tie.Need-slice-write-y-2 invariant-loop decreases-loop
-slice-write-y-2 c = simp length-set (omega arith)
+bounds-y-d : tie.Need-bounds-y-d invariant-loop-k decreases-loop-k
+bounds-y-d c = simp length-set (omega arith)
 
-slice-write-y-3 : tie.Need-slice-write-y-3 invariant-loop decreases-loop
-slice-write-y-3 c = simp length-set (omega arith)
+bounds-y-d-in-loop-k : tie.Need-bounds-y-d-in-loop-k invariant-loop-k decreases-loop-k
+bounds-y-d-in-loop-k c = simp length-set (omega arith)
 
-loop-again : tie.Need-loop-preserved invariant-loop decreases-loop
+loop-k-preserved : tie.Need-loop-k-preserved invariant-loop-k decreases-loop-k
 unfolding modulo residue
-loop-again c =
-    let a = c.before.before.before.before.before.before.args in
-    let l = c.before.before.before.loop in
+loop-k-preserved c =
+    let a = c.args in
+    let l = c.loop-k in
     let small : l.k < a.d = omega arith in (
       omega arith,
       λ below.
@@ -41,17 +41,17 @@ loop-again c =
       simp length-set (omega arith),
     )
 
-returns : tie.Need-returns invariant-loop decreases-loop
+returns : tie.Need-returns invariant-loop-k decreases-loop-k
 returns c = λ below.
-    let a = c.before.before.before.before.args in
-    let l = c.before.loop in
+    let a = c.args in
+    let l = c.loop-k in
     three_done (turned a.q a.d (residue a.a.now)) a.d a.y.now l.y
     (subst (λ n. ThreeRows (turned a.q a.d (residue a.a.now)) a.d n a.y.now l.y) (omega arith) (l.invariant.1 below)) (omega arith)
 
 pub write_rows_spec : {M : Type 1} → statement M
 write_rows_spec =
     tie.close
-    (tie.spec invariant-loop decreases-loop loop-holds (λ c. search rules) (λ c. search rules) (λ c. search rules) (λ c. search rules) (λ c κs. search rules)
-    (λ c. search rules) (λ c. search rules) slice-write-y-2 (λ c. search rules) (λ c. search rules) (λ c. search rules) slice-write-y-3 (λ c. search rules) (λ c. search rules) loop-again
+    (tie.spec invariant-loop-k decreases-loop-k loop-k-init (λ c. search rules) (λ c. search rules) (λ c. search rules) (λ c. search rules) (λ c κs. search rules)
+    (λ c. search rules) (λ c. search rules) bounds-y-d (λ c. search rules) (λ c. search rules) (λ c. search rules) bounds-y-d-in-loop-k (λ c. search rules) (λ c. search rules) loop-k-preserved
     (λ c. search rules)
     returns)

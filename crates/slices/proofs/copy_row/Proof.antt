@@ -7,16 +7,16 @@ use Rattle.residues.proofs.Splice.{spliced_ext}
 use Rattle.slices.proofs.copy_row.Statement.{statement}
 use Rattle.slices.proofs.copy_row.Tie as tie
 
-returns : tie.Need-returns
-returns c = λ h. absurd (omega (arith, h.0))
+returns-then-t-from : tie.Need-returns-then-t-from
+returns-then-t-from c = λ h. absurd (omega (arith, h.0))
 
-returns-2 : tie.Need-returns-2
-returns-2 c = λ h.
-    let a = c.before.before.before.before.before.before.before.before.args in
-    c.before.before.store.ensures (record { there = omega (arith, tail-length a.from a.t.now, h.0); room = h.1 })
+returns : tie.Need-returns
+returns c = λ h.
+    let a = c.args in
+    c.store.ensures (record { there = omega (arith, tail-length a.from a.t.now, h.0); room = h.1 })
     ∙ spliced_ext _ _ a.at a.d a.out.now (λ k _. tail_at a.from a.t.now k 0)
 
 pub copy_row_spec : {M : Type 1} → statement M
 copy_row_spec =
     tie.close
-    (tie.spec returns (λ c. search rules) (λ c. search rules) (λ c. search rules) (λ c. search rules) (λ c κs. search rules) (λ c. search rules) returns-2)
+    (tie.spec returns-then-t-from (λ c. search rules) (λ c. search rules) (λ c. search rules) (λ c. search rules) (λ c κs. search rules) (λ c. search rules) returns)

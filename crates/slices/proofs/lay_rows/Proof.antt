@@ -19,64 +19,64 @@ use Rattle.slices.proofs.lay_rows.Tie as tie
 abbrev rows_of : List ℕ → ℕ → ℕ → ℕ
 rows_of a i k = lists.get_or (value_row a i) k 0
 
-abbrev invariant-loop : tie.invariant-loop
-invariant-loop d rows a at out₀ r₀ out r =
+abbrev invariant-loop-r : tie.invariant-loop-r
+invariant-loop-r d rows a at out₀ r₀ out r =
     (r ≤ rows) × (lists.length out ≡ lists.length out₀)
     × Provided ((lists.length a ≡ rows_width) × (at + rows * d ≤ lists.length out₀)) (out ≡ spliced_rows (rows_of a) at d r out₀)
 
-abbrev decreases-loop : tie.decreases-loop
-decreases-loop d rows a at out₀ r₀ out r = rows - r
+abbrev decreases-loop-r : tie.decreases-loop-r
+decreases-loop-r d rows a at out₀ r₀ out r = rows - r
 
-returns : tie.Need-returns invariant-loop decreases-loop
-returns c = λ h. absurd (omega (arith, h.0))
+returns-then-d-gt-WIDTH : tie.Need-returns-then-d-gt-WIDTH invariant-loop-r decreases-loop-r
+returns-then-d-gt-WIDTH c = λ h. absurd (omega (arith, h.0))
 
-returns-2 : tie.Need-returns-2 invariant-loop decreases-loop
-returns-2 c = λ h. absurd (omega (arith, h.1))
+returns-then-rows-gt-ROWS : tie.Need-returns-then-rows-gt-ROWS invariant-loop-r decreases-loop-r
+returns-then-rows-gt-ROWS c = λ h. absurd (omega (arith, h.1))
 
-loop-holds : tie.Need-loop-init invariant-loop decreases-loop
-loop-holds c = (omega arith, omega arith, λ h. let g = c.before.before.before.before.args in rows_none (rows_of g.a.now) g.at g.d g.out.now)
+loop-r-init : tie.Need-loop-r-init invariant-loop-r decreases-loop-r
+loop-r-init c = (omega arith, omega arith, λ h. let g = c.args in rows_none (rows_of g.a.now) g.at g.d g.out.now)
 
-mul-copy-row : tie.Need-overflow-mul-copy-row invariant-loop decreases-loop
-mul-copy-row c = record { fits = omega arith }
+overflow_mul-r : tie.Need-overflow_mul-r invariant-loop-r decreases-loop-r
+overflow_mul-r c = record { fits = omega arith }
 
-mul-copy-row-2 : tie.Need-overflow-mul-copy-row-2 invariant-loop decreases-loop
-mul-copy-row-2 c =
-    let g = c.before.before.before.before.before.before.args in
-    let few : c.before.loop.r ≤ rows_most = omega arith in
+overflow_mul-r-in-loop-r : tie.Need-overflow_mul-r-in-loop-r invariant-loop-r decreases-loop-r
+overflow_mul-r-in-loop-r c =
+    let g = c.args in
+    let few : c.loop-r.r ≤ rows_most = omega arith in
     let short : g.d ≤ width = omega arith in
     record { fits = omega (arith, Nat.mul-le-mul few short) }
 
-add-copy-row : tie.Need-overflow-add-copy-row invariant-loop decreases-loop
-add-copy-row c =
-    let g = c.before.before.before.before.before.before.args in
-    let few : c.before.loop.r ≤ rows_most = omega arith in
+overflow_add-at : tie.Need-overflow_add-at invariant-loop-r decreases-loop-r
+overflow_add-at c =
+    let g = c.args in
+    let few : c.loop-r.r ≤ rows_most = omega arith in
     let short : g.d ≤ width = omega arith in
     record { fits = omega (arith, Nat.mul-le-mul few short) }
 
-loop-again : tie.Need-loop-preserved invariant-loop decreases-loop
+loop-r-preserved : tie.Need-loop-r-preserved invariant-loop-r decreases-loop-r
 unfolding value_row
-loop-again c =
-    let g = c.before.before.before.before.before.before.before.before.before.before.args in
-    let l = c.before.before.before.before.before.loop in (
+loop-r-preserved c =
+    let g = c.args in
+    let l = c.loop-r in (
       omega arith,
-      c.before.before.copy-row.auto.1.1.1.1.0 ∙ l.invariant.1,
+      c.copy_row.auto.out ∙ l.invariant.1,
       λ h.
           let inside = row_inside g.d g.rows l.r (omega arith) in
-          c.before.before.copy-row.ensures (omega (arith, h.0), omega (arith, h.1, l.invariant.1, inside))
+          c.copy_row.ensures (omega (arith, h.0), omega (arith, h.1, l.invariant.1, inside))
           ∙ ap (spliced (λ k. lists.get_or g.a.now (l.r * width + k) 0) (g.at + l.r * g.d) g.d) (l.invariant.2 h)
           ∙ rows_more (rows_of g.a.now) g.at g.d g.out.now l.r (omega (arith, h.1, inside)) (λ k _. sym (get_or-drop (l.r * width) g.a.now k 0)),
     )
 
-same_length : tie.Need-same-length invariant-loop decreases-loop
-same_length c = c.before.loop.invariant.1
+shape_of-out : tie.Need-shape_of-out invariant-loop-r decreases-loop-r
+shape_of-out c = c.loop-r.invariant.1
 
-returns-3 : tie.Need-returns-3 invariant-loop decreases-loop
-returns-3 c = λ h.
-    let g = c.before.before.before.before.before.before.args in
-    let l = c.before.loop in
+returns : tie.Need-returns invariant-loop-r decreases-loop-r
+returns c = λ h.
+    let g = c.args in
+    let l = c.loop-r in
     l.invariant.2 (h.2, h.3) ∙ ap (λ n. spliced_rows (rows_of g.a.now) g.at g.d n g.out.now) {y = g.rows} (omega arith)
 
 pub lay_rows_spec : {M : Type 1} → statement M
 lay_rows_spec =
     tie.close
-    (tie.spec invariant-loop decreases-loop returns returns-2 loop-holds mul-copy-row mul-copy-row-2 add-copy-row (λ c κs. search rules) (λ c. search rules) (λ c. omega arith) loop-again same_length returns-3)
+    (tie.spec invariant-loop-r decreases-loop-r returns-then-d-gt-WIDTH returns-then-rows-gt-ROWS loop-r-init overflow_mul-r overflow_mul-r-in-loop-r overflow_add-at (λ c κs. search rules) (λ c. search rules) (λ c. omega arith) loop-r-preserved shape_of-out returns)

@@ -11,7 +11,7 @@ use Rattle.slices.proofs.refusal.Tie as tie
 returns : tie.Need-returns
 unfolding lent
 returns c =
-    sym (first_known _ _ c.before.settings-refusal.ensures ∙ first_tested _ _ c.refuse.ensures (λ z. refl) ∙ last _)
+    sym (first_known _ _ c.settings_refusal.ensures ∙ first_tested _ _ c.refuse.ensures (λ z. refl) ∙ last _)
   where
     last : (r : ℕ) → first (r ∷ 0 ∷ []) ≡ r
     last zero = unfold first in refl

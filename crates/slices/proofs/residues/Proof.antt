@@ -11,9 +11,9 @@ use Rattle.slices.proofs.residues.Tie as tie
 returns : tie.Need-returns
 unfolding zeros
 returns c = λ ok long.
-    let a = c.before.before.before.before.before.before.args in
+    let a = c.args in
     let valid = settings-valid _ ok in
-    c.before.place-rows.ensures (degree_most _ valid, valid.rows_most_holds, Nat.le_of_eq (sym long), refl) ∙ placed-values a.settings a.t.now
+    c.place_rows.ensures (degree_most _ valid, valid.rows_most_holds, Nat.le_of_eq (sym long), refl) ∙ placed-values a.settings a.t.now
 
 pub residues_spec : {M : Type 1} → statement M
 residues_spec = tie.close (tie.spec (λ c. search rules) (λ c. search rules) (λ c. search rules) (λ c κs. search rules) returns)

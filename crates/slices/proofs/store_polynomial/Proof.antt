@@ -24,16 +24,16 @@ returns c = λ ok long.
     let second = third.before.before.before.before.before.before in
     let first = second.before.before.before.before.before.before in
     let sized = first.before.before.before.before in
-    let x = sized.before.before.before.before.args in
+    let x = sized.args in
     let S = x.settings in
     let n = item_cells S in
     let valid = settings-valid S ok in
     let f : ℕ → ℕ → ℕ = λ j p. get_or (value_row (get_or x.t2 j []) (p / S.degree)) (p % S.degree) 0 in
-    let is : sized.item-cells.result ≡ n = sized.item-cells.ensures.0 ok in
-    let kept = first.lay-rows.auto.1.1.1.1.0 in
-    let at_first = first.lay-rows.ensures (degree_most S valid, valid.rows_most_holds, omega arith, omega (arith, long)) in
-    let at_second = second.lay-rows2.ensures (degree_most S valid, valid.rows_most_holds, omega arith, omega (arith, long, is, kept)) in
-    third.lay-rows3.ensures (degree_most S valid, valid.rows_most_holds, omega arith, omega (arith, long, is, kept, second.lay-rows2.auto.1.1.1.1.0))
+    let is : sized.item_cells-n.result ≡ n = sized.item_cells-n.ensures.0 ok in
+    let kept = first.lay_rows.auto.out in
+    let at_first = first.lay_rows.ensures (degree_most S valid, valid.rows_most_holds, omega arith, omega (arith, long)) in
+    let at_second = second.lay_rows-2.ensures (degree_most S valid, valid.rows_most_holds, omega arith, omega (arith, long, is, kept)) in
+    third.lay_rows-3.ensures (degree_most S valid, valid.rows_most_holds, omega arith, omega (arith, long, is, kept, second.lay_rows-2.auto.out))
     ∙ (λ i. spliced (f 2) (2 * is i) n ((at_second ∙ (λ j. spliced (f 1) (is j) n (at_first j))) i))
     ∙ stored-three n (f 0) (f 1) (f 2) x.out.now long
 

@@ -13,9 +13,9 @@ use Rattle.slices.proofs.store_residues.Tie as tie
 returns : tie.Need-returns
 unfolding together flat
 returns c = λ ok long.
-    let a = c.before.before.before.before.before.before.before.before.args in
+    let a = c.args in
     let valid = settings-valid _ ok in
-    c.before.before.lay-rows.ensures (degree_most _ valid, valid.rows_most_holds, omega arith, omega (arith, long)) ∙ stored-whole _ _ a.out.now long
+    c.lay_rows.ensures (degree_most _ valid, valid.rows_most_holds, omega arith, omega (arith, long)) ∙ stored-whole _ _ a.out.now long
 
 pub store_residues_spec : {M : Type 1} → statement M
 store_residues_spec = tie.close (tie.spec (λ c. search rules) (λ c. search rules) (λ c. search rules) (λ c κs. search rules) (λ c. search rules) returns)

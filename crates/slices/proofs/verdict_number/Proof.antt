@@ -3,23 +3,23 @@ use borrow.Author.Rules.{rules}
 use Rattle.slices.proofs.verdict_number.Statement.{statement}
 use Rattle.slices.proofs.verdict_number.Tie as tie
 
-returns : tie.Need-returns
+returns-in-Silent : tie.Need-returns-in-Silent
 unfolding verdict_number
-returns c = rw c.enum_told.given.1
+returns-in-Silent c = rw c.enum_told-1.is.1
 
-returns-2 : tie.Need-returns-2
+returns-in-Holds : tie.Need-returns-in-Holds
 unfolding verdict_number
-returns-2 c = rw c.enum-told2.given.1
+returns-in-Holds c = rw c.enum_told-in-Holds-1.is.1
 
-returns-3 : tie.Need-returns-3
+returns-in-Accepted : tie.Need-returns-in-Accepted
 unfolding verdict_number
-returns-3 c = rw c.enum-told3.given.1
+returns-in-Accepted c = rw c.enum_told-in-Accepted-1.is.1
 
-returns-4 : tie.Need-returns-4
+returns-in-Rejected : tie.Need-returns-in-Rejected
 unfolding verdict_number
-returns-4 c = rw c.enum-told4.given.1
+returns-in-Rejected c = rw c.enum_told-in-Rejected-1.is.1
 
 pub verdict_number_spec : {M : Type 1} → statement M
 verdict_number_spec =
     tie.close
-    (tie.spec (λ c. search rules) (λ c. search rules) (λ c. search rules) (λ c. search rules) returns returns-2 returns-3 returns-4)
+    (tie.spec (λ c. search rules) (λ c. search rules) (λ c. search rules) (λ c. search rules) returns-in-Silent returns-in-Holds returns-in-Accepted returns-in-Rejected)

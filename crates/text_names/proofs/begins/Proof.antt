@@ -17,11 +17,11 @@ use Rattle.text_names.proofs.begins.Tie as tie
 abbrev left : List ℕ → List ℕ → ℕ → Bool
 left text with i = begins (drop i with) (drop i text)
 
-abbrev invariant-loop : tie.invariant-loop
-invariant-loop text with i₀ i = (i ≤ length with) × (begins with text ≡ left text with i)
+abbrev invariant-loop-i : tie.invariant-loop-i
+invariant-loop-i text with i₀ i = (i ≤ length with) × (begins with text ≡ left text with i)
 
-abbrev decreases-loop : tie.decreases-loop
-decreases-loop text with i₀ i = length with - i
+abbrev decreases-loop-i : tie.decreases-loop-i
+decreases-loop-i text with i₀ i = length with - i
 
 module _ (text with : List ℕ) (i : ℕ) (h : i < length with) where
   next : i < length text → left text with i ≡ (eqb (get_or text i 0) (get_or with i 0) && left text with (i + 1))
@@ -42,34 +42,34 @@ done : (text with : List ℕ) (i : ℕ) → length with ≤ i → true ≡ left 
 unfolding begins
 done text with i h = ap (λ w. begins w (drop i text)) (sym (drop_of_length-le with h))
 
-loop-holds : tie.Need-loop-init invariant-loop decreases-loop
-loop-holds c = (search rules, refl)
+loop-i-init : tie.Need-loop-i-init invariant-loop-i decreases-loop-i
+loop-i-init c = (search rules, refl)
 
-returns : tie.Need-returns invariant-loop decreases-loop
-returns c = let l = c.before.before.loop in over _ _ l.i (omega arith) (omega arith) ∙ sym l.invariant.1
+returns-then-i-text : tie.Need-returns-then-i-text invariant-loop-i decreases-loop-i
+returns-then-i-text c = let l = c.loop-i in over _ _ l.i (omega arith) (omega arith) ∙ sym l.invariant.1
 
-shared-slice-read-if2 : tie.Need-shared-slice-read-if2 invariant-loop decreases-loop
-shared-slice-read-if2 c = search rules
+bounds-text-i : tie.Need-bounds-text-i invariant-loop-i decreases-loop-i
+bounds-text-i c = search rules
 
-shared-slice-read-if2-2 : tie.Need-shared-slice-read-if2-2 invariant-loop decreases-loop
-shared-slice-read-if2-2 c = search rules
+bounds-with-i : tie.Need-bounds-with-i invariant-loop-i decreases-loop-i
+bounds-with-i c = search rules
 
-returns-2 : tie.Need-returns-2 invariant-loop decreases-loop
-returns-2 c = let l = c.before.before.before.before.before.loop in differs _ _ l.i (omega arith) (omega arith) c.if2.true ∙ sym l.invariant.1
+returns-then-text-i : tie.Need-returns-then-text-i invariant-loop-i decreases-loop-i
+returns-then-text-i c = let l = c.loop-i in differs _ _ l.i (omega arith) (omega arith) c.if-text-i.true ∙ sym l.invariant.1
 
-add-i : tie.Need-overflow-add-i invariant-loop decreases-loop
-add-i c = search rules
+overflow_add-i : tie.Need-overflow_add-i invariant-loop-i decreases-loop-i
+overflow_add-i c = search rules
 
-loop-less : tie.Need-loop-smaller invariant-loop decreases-loop
-loop-less c = search rules
+loop-i-smaller : tie.Need-loop-i-smaller invariant-loop-i decreases-loop-i
+loop-i-smaller c = search rules
 
-loop-again : tie.Need-loop-preserved invariant-loop decreases-loop
-loop-again c = let l = c.before.before.before.before.before.loop in (omega arith, l.invariant.1 ∙ agrees _ _ l.i (omega arith) (omega arith) c.if2.false)
+loop-i-preserved : tie.Need-loop-i-preserved invariant-loop-i decreases-loop-i
+loop-i-preserved c = let l = c.loop-i in (omega arith, l.invariant.1 ∙ agrees _ _ l.i (omega arith) (omega arith) c.if-text-i.false)
 
-returns-3 : tie.Need-returns-3 invariant-loop decreases-loop
-returns-3 c = let l = c.before.loop in done _ _ l.i (omega arith) ∙ sym l.invariant.1
+returns : tie.Need-returns invariant-loop-i decreases-loop-i
+returns c = let l = c.loop-i in done _ _ l.i (omega arith) ∙ sym l.invariant.1
 
 pub begins_spec : {M : Type 1} → statement M
 begins_spec =
     tie.close
-    (tie.spec invariant-loop decreases-loop loop-holds returns shared-slice-read-if2 shared-slice-read-if2-2 returns-2 add-i loop-less loop-again returns-3)
+    (tie.spec invariant-loop-i decreases-loop-i loop-i-init returns-then-i-text bounds-text-i bounds-with-i returns-then-text-i overflow_add-i loop-i-smaller loop-i-preserved returns)

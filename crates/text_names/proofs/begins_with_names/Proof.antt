@@ -15,9 +15,9 @@ use Rattle.text_names.proofs.begins_with_names.Statement.{statement}
 use Rattle.text_names.proofs.begins_with_names.Tie as tie
 
 -- the text is long enough: two tests and the loop over six bytes are left
-module _ (c : tie.Else1) where
+module _ (c : tie.Else-text-lt-LENGTH) where
   abbrev text : List ℕ
-  text = c.before.before.args.text.now
+  text = c.args.text.now
 
   abbrev test_one : Bool
   test_one = eqb (word (take 8 text)) (word one)
@@ -27,34 +27,34 @@ module _ (c : tie.Else1) where
 
   by_tests : (s t : Bool) → test_one ≡ s → test_two ≡ t → (s && (t && begins six (from 16 text))) ≡ begins_with_names text
   by_tests s t e f =
-      sym (names-words text (λ i. omega (arith, c.before.shared-slice-known.given i)) (search rules) ∙ (λ j. e j && (f j && begins six (from 16 text))))
+      sym (names-words text (λ i. omega (arith, c.shared_slice_known-1.given i)) (search rules) ∙ (λ j. e j && (f j && begins six (from 16 text))))
 
-first : (c : tie.Else2) → test_one c.before.before ≡ true
+first : (c : tie.Else-first_word-ne-PART_ITE) → test_one c.before.before ≡ true
 unfolding bytes
-first c = eq-eqb _ _ (sym c.before.first_word.ensures ∙ c.if2.false)
+first c = eq-eqb _ _ (sym c.first_word.ensures ∙ c.if-first_word-ne-PART_ITE.false)
+
+returns-then-text-lt-LENGTH : tie.Need-returns-then-text-lt-LENGTH
+returns-then-text-lt-LENGTH c = sym (names-short c.args.text.now (search rules))
+
+returns-then-first_word-ne-PART_ITE : tie.Need-returns-then-first_word-ne-PART_ITE
+unfolding bytes
+returns-then-first_word-ne-PART_ITE c = by_tests c.before.before false _ (ne_eqb _ _ (λ w. c.if-first_word-ne-PART_ITE.true (c.first_word.ensures ∙ w))) refl
+
+returns-then-first_word-ne-M_PLACE : tie.Need-returns-then-first_word-ne-M_PLACE
+unfolding bytes
+returns-then-first_word-ne-M_PLACE c =
+    let same = c.before.before.before in
+    by_tests same.before.before true false (first same) (ne_eqb _ _ (λ w. c.if-first_word-ne-M_PLACE.true (c.first_word-2.ensures ∙ w)))
 
 returns : tie.Need-returns
-returns c = sym (names-short c.before.before.args.text.now (search rules))
-
-returns-2 : tie.Need-returns-2
 unfolding bytes
-returns-2 c = by_tests c.before.before false _ (ne_eqb _ _ (λ w. c.if2.true (c.before.first_word.ensures ∙ w))) refl
-
-returns-3 : tie.Need-returns-3
-unfolding bytes
-returns-3 c =
-    let same = c.before.before.before in
-    by_tests same.before.before true false (first same) (ne_eqb _ _ (λ w. c.if3.true (c.before.first-word2.ensures ∙ w)))
-
-returns-4 : tie.Need-returns-4
-unfolding bytes
-returns-4 c =
+returns c =
     let both = c.before.before.before in
     let same = both.before.before.before in
-    c.begins.ensures ∙ by_tests same.before.before true true (first same) (eq-eqb _ _ (sym both.before.first-word2.ensures ∙ both.if3.false))
+    c.begins.ensures ∙ by_tests same.before.before true true (first same) (eq-eqb _ _ (sym both.first_word-2.ensures ∙ both.if-first_word-ne-M_PLACE.false))
 
 pub begins_with_names_spec : {M : Type 1} → statement M
 begins_with_names_spec =
     tie.close
-    (tie.spec returns (λ c κs. search rules) returns-2 (λ c. search rules) (λ c. search rules) (λ c. search rules) (λ c κs. search rules) returns-3
-    (λ c. search rules) (λ c. search rules) (λ c. search rules) (λ c. search rules) (λ c κs. search rules) returns-4)
+    (tie.spec returns-then-text-lt-LENGTH (λ c κs. search rules) returns-then-first_word-ne-PART_ITE (λ c. search rules) (λ c. search rules) (λ c. search rules) (λ c κs. search rules) returns-then-first_word-ne-M_PLACE
+    (λ c. search rules) (λ c. search rules) (λ c. search rules) (λ c. search rules) (λ c κs. search rules) returns)

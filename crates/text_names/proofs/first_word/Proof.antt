@@ -10,7 +10,7 @@ use Rattle.text_names.proofs.first_word.Tie as tie
 returns : tie.Need-returns
 unfolding tabulate
 returns c =
-    let a = c.before.before.before.before.before.before.before.before.before.before.args in
+    let a = c.args in
     c.word_of.ensures ∙ sym (ap word (take_places 8 a.text.now (search rules)))
 
 pub first_word_spec : {M : Type 1} → statement M

@@ -6,23 +6,23 @@ use Rattle.transform.specs.Steps.{total}
 use Rattle.transform.proofs.gather.Statement.{statement}
 use Rattle.transform.proofs.gather.Tie as tie
 
-abbrev invariant-loop : tie.invariant-loop
-invariant-loop sums out₀ k₀ k-end out k = (k ≤ length out₀) × (k-end ≡ length out₀) × (out ≡ filled (λ (i : ℕ). total sums (i * strands) strands % 12289) k out₀) × (length out ≡ length out₀)
+abbrev invariant-loop-k : tie.invariant-loop-k
+invariant-loop-k sums out₀ k₀ k-end out k = (k ≤ length out₀) × (k-end ≡ length out₀) × (out ≡ filled (λ (i : ℕ). total sums (i * strands) strands % 12289) k out₀) × (length out ≡ length out₀)
 
-abbrev decreases-loop : tie.decreases-loop
-decreases-loop sums out₀ k₀ k-end out k = length out₀ - k
+abbrev decreases-loop-k : tie.decreases-loop-k
+decreases-loop-k sums out₀ k₀ k-end out k = length out₀ - k
 
-loop-holds : tie.Need-loop-init invariant-loop decreases-loop
-loop-holds c = (omega arith, refl, filled_none _ _, refl)
+loop-k-init : tie.Need-loop-k-init invariant-loop-k decreases-loop-k
+loop-k-init c = (omega arith, refl, filled_none _ _, refl)
 
-loop-again : tie.Need-loop-preserved invariant-loop decreases-loop
-loop-again c = let l = c.before.before.loop in (omega arith, refl, filled-turn _ l.k _ l.invariant.2 c.added.ensures (omega arith), simp length-set (omega arith))
+loop-k-preserved : tie.Need-loop-k-preserved invariant-loop-k decreases-loop-k
+loop-k-preserved c = let l = c.loop-k in (omega arith, refl, filled-turn _ l.k _ l.invariant.2 c.added.ensures (omega arith), simp length-set (omega arith))
 
-returns : tie.Need-returns invariant-loop decreases-loop
-returns c = filled-end _ _ c.before.loop.invariant.2 (omega arith)
+returns : tie.Need-returns invariant-loop-k decreases-loop-k
+returns c = filled-end _ _ c.loop-k.invariant.2 (omega arith)
 
 pub gather_spec : {M : Type 1} → statement M
 gather_spec =
     tie.close
-    (tie.spec invariant-loop decreases-loop loop-holds (λ c. search rules) (λ c κs. search rules) (λ c. search rules) (λ c. search rules)
-    (λ c. search rules) (λ c. search rules) loop-again (λ c. search rules) returns)
+    (tie.spec invariant-loop-k decreases-loop-k loop-k-init (λ c. search rules) (λ c κs. search rules) (λ c. search rules) (λ c. search rules)
+    (λ c. search rules) (λ c. search rules) loop-k-preserved (λ c. search rules) returns)

@@ -4,8 +4,8 @@ use Rattle.transform.proofs.least.Tie as tie
 
 returns : tie.Need-returns
 returns c =
-    let y = c.before.before.if1 in
-    let r = c.before.if2 in
+    let y = c.if-x-ge24578 in
+    let r = c.if-y-ge12289 in
     ⊎_elim (λ u. ⊎_elim (λ v. (omega arith, λ h. omega arith)) (λ v. (omega arith, λ h. omega arith)) r.branch)
     (λ u. ⊎_elim (λ v. (omega arith, λ h. omega arith)) (λ v. (omega arith, λ h. omega arith)) r.branch) y.branch
 

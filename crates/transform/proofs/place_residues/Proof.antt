@@ -7,21 +7,21 @@ use Rattle.transform.proofs.Placing.{strand-filled}
 use Rattle.transform.proofs.place_residues.Statement.{statement}
 use Rattle.transform.proofs.place_residues.Tie as tie
 
+returns-then-l-ge-STRANDS : tie.Need-returns-then-l-ge-STRANDS
+returns-then-l-ge-STRANDS c = λ D G p. absurd (omega (arith, p.inside))
+
+returns-then-g-d : tie.Need-returns-then-g-d
+returns-then-g-d c = λ D G p. absurd (omega (arith, p.long))
+
+returns-then-y-d : tie.Need-returns-then-y-d
+returns-then-y-d c = λ D G p. absurd (omega (arith, p.degree, p.before.room.long))
+
 returns : tie.Need-returns
-returns c = λ D G p. absurd (omega (arith, p.inside))
-
-returns-2 : tie.Need-returns-2
-returns-2 c = λ D G p. absurd (omega (arith, p.long))
-
-returns-3 : tie.Need-returns-3
-returns-3 c = λ D G p. absurd (omega (arith, p.degree, p.before.room.long))
-
-returns-4 : tie.Need-returns-4
 unfolding residue modulo
-returns-4 c = λ D G p.
-    let a = c.before.before.before.before.before.before.before.before.before.args in
+returns c = λ D G p.
+    let a = c.args in
     let r : ℕ → ℕ → Type 0 = λ k v. v ≡ get_or a.g.now k 0 % 2 ^ 16 in
-    strand-filled r D a.d a.l p.degree p.inside G a.y.now _ p.before c.before.before.write-residues.ensures
+    strand-filled r D a.d a.l p.degree p.inside G a.y.now _ p.before c.write_residues.ensures
     (λ k v h w.
     let small = p.residues k h in
     let same : v ≡ get_or a.g.now k 0 = omega arith in
@@ -30,4 +30,4 @@ returns-4 c = λ D G p.
 pub place_residues_spec : {M : Type 1} → statement M
 place_residues_spec =
     tie.close
-    (tie.spec returns returns-2 returns-3 (λ c κs. search rules) (λ c. search rules) returns-4)
+    (tie.spec returns-then-l-ge-STRANDS returns-then-g-d returns-then-y-d (λ c κs. search rules) (λ c. search rules) returns)

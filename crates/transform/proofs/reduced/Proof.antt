@@ -9,14 +9,14 @@ sum c = rw (wide_back c.args.x c.ranges.x) (moved_is c.args.x c.ranges.x.sfits)
 sum_fits : (c : tie.Start) → SFits w64 (pos (moved c.args.x))
 sum_fits c = record { sfits = omega (arith, moved-below c.args.x c.ranges.x.sfits) }
 
-cast_t : tie.Need-overflow-cast-t
-cast_t c = rw (to_z-of_z c.ranges.x) (record { sfits = omega (arith, c.ranges.x.sfits) })
+overflow_cast-t : tie.Need-overflow_cast-t
+overflow_cast-t c = rw (to_z-of_z c.ranges.x) (record { sfits = omega (arith, c.ranges.x.sfits) })
 
-add-t : tie.Need-overflow-add-t
-add-t c = rw (sum c) (sum_fits c)
+overflow_add-t : tie.Need-overflow_add-t
+overflow_add-t c = rw (sum c) (sum_fits c)
 
-cast-t-2 : tie.Need-overflow-cast-t-2
-cast-t-2 c = rw (sum c, to_z-of_z (sum_fits c)) (tt, omega (arith, moved-below c.args.x c.ranges.x.sfits))
+overflow_cast-t-2 : tie.Need-overflow_cast-t-2
+overflow_cast-t-2 c = rw (sum c, to_z-of_z (sum_fits c)) (tt, omega (arith, moved-below c.args.x c.ranges.x.sfits))
 
 returns : tie.Need-returns
 returns c =
@@ -26,5 +26,5 @@ returns c =
 pub reduced_spec : {M : Type 1} → statement M
 reduced_spec =
     tie.close
-    (tie.spec cast_t add-t cast-t-2 (λ c. search rules) (λ c. search rules) (λ c. search rules) (λ c. search rules) (λ c. search rules)
+    (tie.spec overflow_cast-t overflow_add-t overflow_cast-t-2 (λ c. search rules) (λ c. search rules) (λ c. search rules) (λ c. search rules) (λ c. search rules)
     (λ c. search rules) (λ c. search rules) returns)

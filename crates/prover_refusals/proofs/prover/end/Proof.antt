@@ -8,36 +8,36 @@ use Rattle.protocol.proofs.Refusals.{first_stops, first_known, first_tested, tes
 use Rattle.prover_refusals.proofs.prover.end.Statement.{statement}
 use Rattle.prover_refusals.proofs.prover.end.Tie as tie
 
-allowed : (c : tie.After-cells) → c.before.settings-refusal.result ≡ 0 → settings_refusal c.before.before.args.settings ≡ 0
-allowed c z = sym c.before.settings-refusal.ensures ∙ z
+allowed : (c : tie.After-cells) → c.settings_refusal-r6.result ≡ 0 → settings_refusal c.args.settings ≡ 0
+allowed c z = sym c.settings_refusal-r6.ensures ∙ z
+
+returns-then-r7-ne0 : tie.Need-returns-then-r7-ne0
+unfolding end_refusal hasLength
+returns-then-r7-ne0 c =
+    let c7 = c.before in
+    sym (first_known _ _ c7.settings_refusal-r6.ensures
+    ∙ first_tested _ _ c7.refuse-r7.ensures (λ z. rw (c7.cells.ensures (allowed c7.before z)))
+    ∙ first_stops _ _ c.if-r7-ne0.true)
+
+ending_small-requires : tie.Need-ending_small-requires
+ending_small-requires c κs =
+    let c7 = c.before in
+    let ok = allowed c7.before (tested-before c7.refuse-r7.ensures c.if-r7-ne0.false) in
+    (ok, eqb-true _ _ (tested-passed c7.refuse-r7.ensures c.if-r7-ne0.false) ∙ c7.cells.ensures ok)
 
 returns : tie.Need-returns
 unfolding end_refusal hasLength
 returns c =
-    let c7 = c.before in
-    sym (first_known _ _ c7.before.before.settings-refusal.ensures
-    ∙ first_tested _ _ c7.refuse.ensures (λ z. rw (c7.before.cells.ensures (allowed c7.before z)))
-    ∙ first_stops _ _ c.if1.true)
-
-ending-small-requires : tie.Need-ending-small-requires
-ending-small-requires c κs =
-    let c7 = c.before in
-    let ok = allowed c7.before (tested-before c7.refuse.ensures c.if1.false) in
-    (ok, eqb-true _ _ (tested-passed c7.refuse.ensures c.if1.false) ∙ c7.before.cells.ensures ok)
-
-returns-2 : tie.Need-returns-2
-unfolding end_refusal hasLength
-returns-2 c =
     let c9 = c.before.before in
     let c7 = c9.before.before.before in
-    sym (first_known _ _ c7.before.before.settings-refusal.ensures
-    ∙ first_tested _ _ c7.refuse.ensures (λ z. rw (c7.before.cells.ensures (allowed c7.before z)))
-    ∙ first_tested _ _ c9.refuse2.ensures (λ z. c9.before.ending-small.ensures)
-    ∙ first_tested _ _ c.refuse3.ensures (λ z. refl)
+    sym (first_known _ _ c7.settings_refusal-r6.ensures
+    ∙ first_tested _ _ c7.refuse-r7.ensures (λ z. rw (c7.cells.ensures (allowed c7.before z)))
+    ∙ first_tested _ _ c9.refuse-r9.ensures (λ z. c9.ending_small.ensures)
+    ∙ first_tested _ _ c.refuse.ensures (λ z. refl)
     ∙ first_only _)
 
 pub end_spec : {M : Type 1} → statement M
 end_spec =
     tie.close
-    (tie.spec (λ c κs. search rules) (λ c κs. search rules) (λ c κs. search rules) returns ending-small-requires (λ c κs. search rules)
-    (λ c κs. search rules) returns-2)
+    (tie.spec (λ c κs. search rules) (λ c κs. search rules) (λ c κs. search rules) returns-then-r7-ne0 ending_small-requires (λ c κs. search rules)
+    (λ c κs. search rules) returns)

@@ -11,8 +11,8 @@ unfolding hasLength
 returns c =
     let c6 = c.before in
     record {
-      is = sym (first_known _ _ c6.settings-refusal.ensures
-          ∙ first_tested _ _ c.refuse.ensures (λ z. let ok = sym c6.settings-refusal.ensures ∙ z in rw (c6.before.before.key-cells.ensures ok, c6.before.cells.ensures ok))
+      is = sym (first_known _ _ c6.settings_refusal-r6.ensures
+          ∙ first_tested _ _ c.refuse.ensures (λ z. let ok = sym c6.settings_refusal-r6.ensures ∙ z in rw (c6.key_cells-key_cells.ensures ok, c6.cells-cells.ensures ok))
           ∙ first_only _);
     }
 

@@ -9,16 +9,16 @@ use Rattle.table_writer.specs.Tables.{capped}
 use Rattle.table_writer.proofs.gather.residue_value.Statement.{statement}
 use Rattle.table_writer.proofs.gather.residue_value.Tie as tie
 
+returns-then-x-gt-VALUE_LIMIT : tie.Need-returns-then-x-gt-VALUE_LIMIT
+unfolding capped value_limit
+returns-then-x-gt-VALUE_LIMIT c = ap pos (omega arith)
+
+overflow_cast-result : tie.Need-overflow_cast-result
+overflow_cast-result c = record { sfits = omega arith }
+
 returns : tie.Need-returns
 unfolding capped value_limit
-returns c = ap pos (omega arith)
-
-cast-result : tie.Need-overflow-cast-result
-cast-result c = record { sfits = omega arith }
-
-returns-2 : tie.Need-returns-2
-unfolding capped value_limit
-returns-2 c = to_z_pos w64 {n = c.before.args.x} (omega arith) ∙ ap pos (omega arith)
+returns c = to_z_pos w64 {n = c.args.x} (omega arith) ∙ ap pos (omega arith)
 
 pub residue_value_spec : {M : Type 1} → statement M
-residue_value_spec = tie.close (tie.spec returns cast-result returns-2)
+residue_value_spec = tie.close (tie.spec returns-then-x-gt-VALUE_LIMIT overflow_cast-result returns)

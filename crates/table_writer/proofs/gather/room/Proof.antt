@@ -11,41 +11,41 @@ use Rattle.text_parts.proofs.Flat.{start_next, start_most}
 use Rattle.table_writer.proofs.gather.room.Statement.{statement}
 use Rattle.table_writer.proofs.gather.room.Tie as tie
 
-abbrev invariant-loop : tie.invariant-loop
-invariant-loop n from₀ k₀ from k = (k ≤ table_count) × (from ≡ start n k) × (from ≤ values_room)
+abbrev invariant-loop-k : tie.invariant-loop-k
+invariant-loop-k n from₀ k₀ from k = (k ≤ table_count) × (from ≡ start n k) × (from ≤ values_room)
 
-abbrev decreases-loop : tie.decreases-loop
-decreases-loop n from₀ k₀ from k = table_count - k
+abbrev decreases-loop-k : tie.decreases-loop-k
+decreases-loop-k n from₀ k₀ from k = table_count - k
 
-loop-holds : tie.Need-loop-init invariant-loop decreases-loop
+loop-k-init : tie.Need-loop-k-init invariant-loop-k decreases-loop-k
 unfolding start
-loop-holds c = (omega arith, refl, omega arith)
+loop-k-init c = (omega arith, refl, omega arith)
 
-returns : tie.Need-returns invariant-loop decreases-loop
-returns c =
-    let l = c.before.before.loop in
-    let n = c.before.before.before.args.t1 in
+returns-then-lengths-k : tie.Need-returns-then-lengths-k invariant-loop-k decreases-loop-k
+returns-then-lengths-k c =
+    let l = c.loop-k in
+    let n = c.args.t1 in
     sym (lt-leb (total n) values_room (omega (arith, start_most n l.k (omega arith), l.invariant.1)))
 
-add_start : tie.Need-overflow-add-start invariant-loop decreases-loop
-add_start c = record { fits = omega arith }
+overflow_add-start : tie.Need-overflow_add-start invariant-loop-k decreases-loop-k
+overflow_add-start c = record { fits = omega arith }
 
-loop-again : tie.Need-loop-preserved invariant-loop decreases-loop
-loop-again c =
-    let l = c.before.before.loop in
-    let n = c.before.before.before.args.t1 in
+loop-k-preserved : tie.Need-loop-k-preserved invariant-loop-k decreases-loop-k
+loop-k-preserved c =
+    let l = c.loop-k in
+    let n = c.args.t1 in
     (omega arith, ap (λ s. s + get_or n l.k 0) l.invariant.1 ∙ sym (start_next n l.k), omega arith)
 
-returns-2 : tie.Need-returns-2 invariant-loop decreases-loop
+returns : tie.Need-returns invariant-loop-k decreases-loop-k
 unfolding total
-returns-2 c =
-    let l = c.before.loop in
-    let n = c.before.before.args.t1 in
+returns c =
+    let l = c.loop-k in
+    let n = c.args.t1 in
     let end : l.k ≡ table_count = omega arith in
     sym (le-leb (total n) values_room (omega (arith, l.invariant.1, ap (start n) end)))
 
 pub room_spec : {M : Type 1} → statement M
 room_spec =
     tie.close
-    (tie.spec invariant-loop decreases-loop loop-holds (λ c. search rules) (λ c. search rules) (λ c. search rules) returns (λ c. search rules) (λ c. search rules)
-    add_start (λ c. search rules) (λ c. search rules) loop-again returns-2)
+    (tie.spec invariant-loop-k decreases-loop-k loop-k-init (λ c. search rules) (λ c. search rules) (λ c. search rules) returns-then-lengths-k (λ c. search rules) (λ c. search rules)
+    overflow_add-start (λ c. search rules) (λ c. search rules) loop-k-preserved returns)

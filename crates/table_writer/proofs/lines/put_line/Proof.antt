@@ -14,32 +14,49 @@ use Rattle.table_writer.proofs.lines.put_line.Statement.{statement}
 use Rattle.table_writer.proofs.lines.put_line.Tie as tie
 
 -- the place behind the spot
-module _ (c : tie.After-put-spot) where
+module _ (c : tie.After-put_spot-value_on) where
   abbrev after : List ℕ
-  after = c.put-spot.new.1.1.1.0
+  after = c.put_spot-value_on.new.out
 
-  room : c.put-spot.result + 1 + field_room ≤ length after
+  room : c.put_spot-value_on.result + 1 + field_room ≤ length after
   room =
-      let a = c.before.before.before.args in
+      let a = c.args in
       let same : length after ≡ length a.out.now = search rules in
-      omega (arith, c.put-spot.ensures.next, spot_most a.part a.cell)
+      omega (arith, c.put_spot-value_on.ensures.next, spot_most a.part a.cell)
 
-slice-write-out : tie.Need-slice-write-out
-slice-write-out c = omega (arith, room c.before.before.before)
+bounds-out-value_on : tie.Need-bounds-out-value_on
+bounds-out-value_on c = omega (arith, room c.before.before.before)
 
-add-put-field : tie.Need-overflow-add-put-field
-add-put-field c = record { fits = omega (arith, room c.before.before.before.before) }
+overflow_add-value_on : tie.Need-overflow_add-value_on
+overflow_add-value_on c = record { fits = omega (arith, room c.before.before.before.before) }
 
-put-field-requires : tie.Need-put-field-requires
-put-field-requires c κs = simp length-set (omega (arith, room c.before.before.before.before.before))
+put_field-requires : tie.Need-put_field-requires
+put_field-requires c κs = simp length-set (omega (arith, room c.before.before.before.before.before))
 
-same_length : tie.Need-same-length
-same_length c =
+shape_of-out-then-value-lt0 : tie.Need-shape_of-out-then-value-lt0
+shape_of-out-then-value-lt0 c =
     let f = c.before.before in
     let s = f.before.before.before.before.before.before in
-    let put : length f.put-field.new.1.1.1.0 ≡ length (set (after s) s.put-spot.result 45) = search rules in
-    let spot : length (after s) ≡ length s.before.before.before.args.out.now = search rules in
-    put ∙ length-set (after s) s.put-spot.result 45 ∙ spot
+    let put : length f.put_field.new.out ≡ length (set (after s) s.put_spot-value_on.result 45) = search rules in
+    let spot : length (after s) ≡ length s.args.out.now = search rules in
+    put ∙ length-set (after s) s.put_spot-value_on.result 45 ∙ spot
+
+returns-then-value-lt0 : tie.Need-returns-then-value-lt0
+returns-then-value-lt0 c =
+    let f = c.before.before in
+    let m = f.before.before in
+    let t = m.before in
+    let s = m.before.before.before.before in
+    let a = s.args in
+    let fits = s.ranges.value in
+    put_as
+    (ap (λ n. spot_text a.part a.cell ++ (45 ∷ field n 10)) (m.magnitude_wide.ensures ∙ ap nat_abs (to_z-of_z fits))
+    ∙ ap (λ e. spot_text a.part a.cell ++ e) (value-below a.value fits t.if-value-lt0.true)
+    ∙ line-spot a.part a.cell a.value)
+    (put_then s.put_spot-value_on.ensures (put_then (put_byte (after s) s.put_spot-value_on.result 45 (omega (arith, room s))) f.put_field.ensures))
+
+put_field-requires-2 : tie.Need-put_field-requires-2
+put_field-requires-2 c κs = omega (arith, room c.before.before.before.before.before)
 
 returns : tie.Need-returns
 returns c =
@@ -47,33 +64,16 @@ returns c =
     let m = f.before.before in
     let t = m.before in
     let s = m.before.before.before.before in
-    let a = s.before.before.before.args in
-    let fits = s.before.before.before.ranges.value in
+    let a = s.args in
+    let fits = s.ranges.value in
     put_as
-    (ap (λ n. spot_text a.part a.cell ++ (45 ∷ field n 10)) (m.magnitude-wide.ensures ∙ ap nat_abs (to_z-of_z fits))
-    ∙ ap (λ e. spot_text a.part a.cell ++ e) (value-below a.value fits t.if1.true)
+    (ap (λ n. spot_text a.part a.cell ++ field n 10) (m.magnitude_wide-2.ensures ∙ ap nat_abs (to_z-of_z fits))
+    ∙ ap (λ e. spot_text a.part a.cell ++ e) (value-from a.value fits t.if-value-lt0.false)
     ∙ line-spot a.part a.cell a.value)
-    (put_then s.put-spot.ensures (put_then (put_byte (after s) s.put-spot.result 45 (omega (arith, room s))) f.put-field.ensures))
-
-put-field-requires-2 : tie.Need-put-field-requires-2
-put-field-requires-2 c κs = omega (arith, room c.before.before.before.before.before)
-
-returns-2 : tie.Need-returns-2
-returns-2 c =
-    let f = c.before.before in
-    let m = f.before.before in
-    let t = m.before in
-    let s = m.before.before.before.before in
-    let a = s.before.before.before.args in
-    let fits = s.before.before.before.ranges.value in
-    put_as
-    (ap (λ n. spot_text a.part a.cell ++ field n 10) (m.magnitude-wide2.ensures ∙ ap nat_abs (to_z-of_z fits))
-    ∙ ap (λ e. spot_text a.part a.cell ++ e) (value-from a.value fits t.if1.false)
-    ∙ line-spot a.part a.cell a.value)
-    (put_then s.put-spot.ensures f.put-field2.ensures)
+    (put_then s.put_spot-value_on.ensures f.put_field-2.ensures)
 
 pub put_line_spec : {M : Type 1} → statement M
 put_line_spec =
     tie.close
-    (tie.spec (λ c κs. search rules) slice-write-out (λ c κs. search rules) add-put-field put-field-requires same_length returns
-    (λ c κs. search rules) put-field-requires-2 (λ c. search rules) returns-2)
+    (tie.spec (λ c κs. search rules) bounds-out-value_on (λ c κs. search rules) overflow_add-value_on put_field-requires shape_of-out-then-value-lt0 returns-then-value-lt0
+    (λ c κs. search rules) put_field-requires-2 (λ c. search rules) returns)

@@ -13,15 +13,15 @@ use Rattle.table_writer.proofs.Digits.{digit-step, digits_done}
 use Rattle.table_writer.proofs.numbers.put_digits.Statement.{statement}
 use Rattle.table_writer.proofs.numbers.put_digits.Tie as tie
 
-abbrev invariant-loop : tie.invariant-loop
-invariant-loop n count at out₀ rest₀ k₀ out rest k =
+abbrev invariant-loop-k : tie.invariant-loop-k
+invariant-loop-k n count at out₀ rest₀ k₀ out rest k =
     (k ≤ count) × (length out ≡ length out₀) × (take at out ≡ take at out₀) × (low_digits k rest ++ take (count - k) (drop (at + k) out) ≡ low_digits count n)
 
-abbrev decreases-loop : tie.decreases-loop
-decreases-loop n count at out₀ rest₀ k₀ out rest k = k
+abbrev decreases-loop-k : tie.decreases-loop-k
+decreases-loop-k n count at out₀ rest₀ k₀ out rest k = k
 
-loop-holds : tie.Need-loop-init invariant-loop decreases-loop
-loop-holds c =
+loop-k-init : tie.Need-loop-k-init invariant-loop-k decreases-loop-k
+loop-k-init c =
     let a = c.args in (
       omega arith,
       refl,
@@ -29,20 +29,20 @@ loop-holds c =
       ap (λ n. low_digits a.count a.n ++ take n (drop (a.at + a.count) a.out.now)) (Nat.sub_self a.count) ∙ append-nil _,
     )
 
-loop-again : tie.Need-loop-preserved invariant-loop decreases-loop
-loop-again c =
-    let l = c.before.loop in
-    let a = c.before.before.args in (
+loop-k-preserved : tie.Need-loop-k-preserved invariant-loop-k decreases-loop-k
+loop-k-preserved c =
+    let l = c.loop-k in
+    let a = c.args in (
       omega arith,
       simp length-set l.invariant.1,
       take-set-le a.at l.out (a.at + (l.k - 1)) _ (omega arith) ∙ l.invariant.2,
       sym (digit-step l.rest a.count a.at (l.k - 1) l.k (omega arith) l.out l.invariant.0 (omega (arith, l.invariant.1))) ∙ l.invariant.3,
     )
 
-returns : tie.Need-returns invariant-loop decreases-loop
+returns : tie.Need-returns invariant-loop-k decreases-loop-k
 returns c =
-    let l = c.before.loop in
-    let a = c.before.before.args in
+    let l = c.loop-k in
+    let a = c.args in
     record {
       next = ap (λ n. a.at + n) (sym (low_digits-length a.count a.n));
       front = take-add a.at a.count l.out
@@ -53,5 +53,5 @@ returns c =
 pub put_digits_spec : {M : Type 1} → statement M
 put_digits_spec =
     tie.close
-    (tie.spec invariant-loop decreases-loop loop-holds (λ c. search rules) (λ c. search rules) (λ c. search rules) (λ c. search rules) (λ c. search rules)
-    (λ c. search rules) loop-again (λ c. search rules) (λ c. search rules) returns)
+    (tie.spec invariant-loop-k decreases-loop-k loop-k-init (λ c. search rules) (λ c. search rules) (λ c. search rules) (λ c. search rules) (λ c. search rules)
+    (λ c. search rules) loop-k-preserved (λ c. search rules) (λ c. search rules) returns)

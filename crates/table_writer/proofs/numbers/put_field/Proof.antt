@@ -13,48 +13,48 @@ use Rattle.table_writer.proofs.Digits.{digits_most}
 use Rattle.table_writer.proofs.numbers.put_field.Statement.{statement}
 use Rattle.table_writer.proofs.numbers.put_field.Tie as tie
 
-digit-count-requires : tie.Need-digit-count-requires
-digit-count-requires c κs = search rules
+digit_count-requires : tie.Need-digit_count-requires
+digit_count-requires c κs = search rules
 
-put-digits-requires : tie.Need-put-digits-requires
-put-digits-requires c κs = omega (arith, c.before.digit-count.ensures, digits_most c.before.before.before.args.n)
+put_digits-next-requires : tie.Need-put_digits-next-requires
+put_digits-next-requires c κs = omega (arith, c.digit_count.ensures, digits_most c.args.n)
 
 -- the digits
-module _ (c : tie.After-slice-known2) where
+module _ (c : tie.After-slice_known-2-1) where
   abbrev n : ℕ
-  n = c.before.before.before.before.before.before.args.n
+  n = c.args.n
 
   abbrev at : ℕ
-  at = c.before.before.before.before.before.before.args.at
+  at = c.args.at
 
   abbrev before : List ℕ
-  before = c.before.before.before.before.before.before.args.out.now
+  before = c.args.out.now
 
   abbrev after : List ℕ
-  after = c.before.before.put-digits.new.1.1.1.0
+  after = c.put_digits-next.new.out
 
-  digits : Put before at (decimal n) c.before.before.put-digits.result after
+  digits : Put before at (decimal n) c.put_digits-next.result after
   unfolding decimal
-  digits = put_as (ap (λ k. low_digits k n) c.before.before.before.before.digit-count.ensures) c.before.before.put-digits.ensures
+  digits = put_as (ap (λ k. low_digits k n) c.digit_count.ensures) c.put_digits-next.ensures
 
-  room : c.before.before.put-digits.result < length after
+  room : c.put_digits-next.result < length after
   unfolding decimal
   room =
       let same : length after ≡ length before = search rules in
       omega (arith, digits.next, low_digits-length (digit_count n) n, digits_most n)
 
-slice-write-out : tie.Need-slice-write-out
-slice-write-out c = room c
+bounds-out-next : tie.Need-bounds-out-next
+bounds-out-next c = room c
 
-add-result : tie.Need-overflow-add-result
-add-result c = record { fits = omega (arith, room c) }
+overflow_add-result : tie.Need-overflow_add-result
+overflow_add-result c = record { fits = omega (arith, room c) }
 
-same_length : tie.Need-same-length
-same_length c = search rules
+shape_of-out : tie.Need-shape_of-out
+shape_of-out c = search rules
 
 returns : tie.Need-returns
 unfolding field
 returns c = put_then (digits c) (put_byte (after c) _ _ (room c))
 
 pub put_field_spec : {M : Type 1} → statement M
-put_field_spec = tie.close (tie.spec digit-count-requires put-digits-requires slice-write-out add-result same_length returns)
+put_field_spec = tie.close (tie.spec digit_count-requires put_digits-next-requires bounds-out-next overflow_add-result shape_of-out returns)

@@ -23,12 +23,12 @@ unfolding first
 last_flat zero rest = first_only (first rest)
 last_flat (suc x) rest = refl
 
-allowed : (c : tie.After-settings-refusal) → c.settings-refusal.result ≡ 0 → settings_refusal c.before.before.before.before.before.before.before.args.settings ≡ 0
-allowed c z = sym c.settings-refusal.ensures ∙ z
+allowed : (c : tie.After-settings_refusal-r6) → c.settings_refusal-r6.result ≡ 0 → settings_refusal c.args.settings ≡ 0
+allowed c z = sym c.settings_refusal-r6.ensures ∙ z
 
 -- refusals 3 to 7, and 16
-module _ (c : tie.After-refuse) where
-  abbrev c₆ : tie.After-settings-refusal
+module _ (c : tie.After-refuse-r7) where
+  abbrev c₆ : tie.After-settings_refusal-r6
   c₆ = c.before.before
 
   abbrev start : tie.Start
@@ -43,38 +43,38 @@ module _ (c : tie.After-refuse) where
   abbrev t : Tables
   t = let a = start.args in tables_of a.key.now a.message.now a.commitment.now a.rounds.now a.challenges.now a.last.now a.claims.now
 
-  known : (rest : List ℕ) → first (settings_refusal S ∷ unless 7 (fits S P t) ∷ rest) ≡ first (c.refuse.result ∷ rest)
+  known : (rest : List ℕ) → first (settings_refusal S ∷ unless 7 (fits S P t) ∷ rest) ≡ first (c.refuse-r7.result ∷ rest)
   known rest =
-      first_known _ _ c₆.settings-refusal.ensures
-      ∙ first_tested _ _ c.refuse.ensures (λ z. c.before.fits2.ensures
-      ∙ ap (lengths_are (part_of S P)) c₆.before.lengths-of.ensures ∙ lengths-counted S P (allowed c₆ z) _ ∙ lengths-fit S P t)
+      first_known _ _ c₆.settings_refusal.ensures
+      ∙ first_tested _ _ c.refuse-r7.ensures (λ z. c.before.fits2.ensures
+      ∙ ap (lengths_are (part_of S P)) c₆.before.lengths_of.ensures ∙ lengths-counted S P (allowed c₆ z) _ ∙ lengths-fit S P t)
+
+returns-then-r7-ne0 : tie.Need-returns-then-r7-ne0
+unfolding tables_refusal
+returns-then-r7-ne0 c = sym (known c.before _ ∙ first_stops _ _ c.if-r7-ne0.true)
 
 returns : tie.Need-returns
-unfolding tables_refusal
-returns c = sym (known c.before _ ∙ first_stops _ _ c.if1.true)
-
-returns-2 : tie.Need-returns-2
 unfolding tables_refusal entries_refusal all_below all_within exponents exponent narrow_limit
-returns-2 c =
+returns c =
     let c₉ = c.before.before.before in
     let c₈ = c₉.before.before.before in
     let no = c₈.before.before.before.before.before in
     let c₇ = no.before in
-    let ok = allowed (c₆ c₇) (tested-before c₇.refuse.ensures no.if1.false) in
+    let ok = allowed (c₆ c₇) (tested-before c₇.refuse-r7.ensures no.if-r7-ne0.false) in
     sym (known c₇ _ ∙ last_flat _ _
-    ∙ first_tested _ _ c₈.refuse2.ensures (λ z. rw (
-      c₈.before.before.before.before.all-below-wide.ensures,
-      c₈.before.before.before.all-below-wide2.ensures,
-      c₈.before.before.all-below-wide3.ensures,
-      c₈.before.all-below-wide4.ensures,
+    ∙ first_tested _ _ c₈.refuse-r8.ensures (λ z. rw (
+      c₈.all_below_wide.ensures,
+      c₈.all_below_wide-2.ensures,
+      c₈.all_below_wide-3.ensures,
+      c₈.all_below_wide-4.ensures,
     ))
-    ∙ first_tested _ _ c₉.refuse3.ensures (λ z. rw (c₉.before.before.all-within.ensures, c₉.before.all-within2.ensures))
-    ∙ first_tested _ _ c.refuse4.ensures (λ z. rw (c.before.all-below.ensures, c.before.before.exponent-count.ensures ok))
+    ∙ first_tested _ _ c₉.refuse-r9.ensures (λ z. rw (c₉.all_within.ensures, c₉.all_within-2.ensures))
+    ∙ first_tested _ _ c.refuse.ensures (λ z. rw (c.all_below.ensures, c.exponent_count-limit.ensures ok))
     ∙ first_only _)
 
 pub tables_refusal_spec : {M : Type 1} → statement M
 tables_refusal_spec =
     tie.close
-    (tie.spec (λ c κs. search rules) (λ c κs. search rules) (λ c κs. search rules) (λ c κs. search rules) returns (λ c κs. search rules) (λ c κs. search rules)
+    (tie.spec (λ c κs. search rules) (λ c κs. search rules) (λ c κs. search rules) (λ c κs. search rules) returns-then-r7-ne0 (λ c κs. search rules) (λ c κs. search rules)
     (λ c κs. search rules) (λ c κs. search rules) (λ c κs. search rules) (λ c κs. search rules) (λ c κs. search rules) (λ c κs. search rules)
-    (λ c κs. search rules) (λ c κs. search rules) (λ c κs. search rules) returns-2)
+    (λ c κs. search rules) (λ c κs. search rules) (λ c κs. search rules) returns)

@@ -19,33 +19,33 @@ unfolding bytes
 fronted line rest e = ap (take 8) e ∙ take-append_seam (bytes "refused ") rest
 
 -- the whole line
-module _ (c : tie.After-put-field) where
+module _ (c : tie.After-put_field-count) where
   abbrev number : ℕ
-  number = c.before.before.before.before.before.before.before.args.refusal
+  number = c.args.refusal
 
   abbrev before : List ℕ
-  before = c.before.before.before.copy.new.1.0
+  before = c.copy.new.out
 
   abbrev after : List ℕ
-  after = c.put-field.new.1.1.1.0
+  after = c.put_field-count.new.out
 
-  put : Put before 8 (field number 10) c.put-field.result after
-  put = c.put-field.ensures
+  put : Put before 8 (field number 10) c.put_field-count.result after
+  put = c.put_field-count.ensures
 
-  within : c.put-field.result ≤ length after
+  within : c.put_field-count.result ≤ length after
   within =
       let same : length after ≡ 28 = search rules in
       omega (arith, put.next, field-length number 10, digits_most number)
 
-  whole : take c.put-field.result after ≡ refused_line number
+  whole : take c.put_field-count.result after ≡ refused_line number
   unfolding refused_line field bytes
-  whole = put.front ∙ ap (λ l. l ++ field number 10) (fronted before _ c.before.before.before.copy.ensures)
+  whole = put.front ∙ ap (λ l. l ++ field number 10) (fronted before _ c.copy.ensures)
 
-array-share-prefix-line : tie.Need-array-share-prefix-line
-array-share-prefix-line c = within c.before
+slice_bounds-line-end : tie.Need-slice_bounds-line-end
+slice_bounds-line-end c = within c.before
 
-slice-aggregate-show : tie.Need-slice-aggregate-show
-slice-aggregate-show c = sym (length-take-le _ _ (within c.before.before))
+slice_bounds-show-end : tie.Need-slice_bounds-show-end
+slice_bounds-show-end c = sym (length-take-le _ _ (within c.before.before))
 
 returns : tie.Need-returns
 returns c = let s = c.before.before in shown_as (whole s.before.before.before.before) s.show.ensures
@@ -53,5 +53,5 @@ returns c = let s = c.before.before in shown_as (whole s.before.before.before.be
 pub show_refusal_spec : {M : Type 1} → statement M
 show_refusal_spec =
     tie.close
-    (tie.spec (λ c. search rules) (λ c. search rules) (λ c κs. search rules) (λ c. search rules) (λ c κs. search rules) array-share-prefix-line
-    slice-aggregate-show (λ c κs. search rules) (λ c. search rules) returns)
+    (tie.spec (λ c. search rules) (λ c. search rules) (λ c κs. search rules) (λ c. search rules) (λ c κs. search rules) slice_bounds-line-end
+    slice_bounds-show-end (λ c κs. search rules) (λ c. search rules) returns)

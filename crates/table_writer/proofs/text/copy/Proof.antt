@@ -11,19 +11,19 @@ use lib.Seq.{paste, paste-zero, paste-suc, take-length}
 use Rattle.table_writer.proofs.text.copy.Statement.{statement}
 use Rattle.table_writer.proofs.text.copy.Tie as tie
 
-abbrev invariant-loop : tie.invariant-loop
-invariant-loop bytes out₀ i₀ out i = (i ≤ length bytes) × (length out ≡ length out₀) × (out ≡ paste out₀ 0 bytes i)
+abbrev invariant-loop-i : tie.invariant-loop-i
+invariant-loop-i bytes out₀ i₀ out i = (i ≤ length bytes) × (length out ≡ length out₀) × (out ≡ paste out₀ 0 bytes i)
 
-abbrev decreases-loop : tie.decreases-loop
-decreases-loop bytes out₀ i₀ out i = length bytes - i
+abbrev decreases-loop-i : tie.decreases-loop-i
+decreases-loop-i bytes out₀ i₀ out i = length bytes - i
 
-loop-holds : tie.Need-loop-init invariant-loop decreases-loop
-loop-holds c = let a = c.args in (omega arith, refl, paste-zero a.out.now 0 a.bytes.now)
+loop-i-init : tie.Need-loop-i-init invariant-loop-i decreases-loop-i
+loop-i-init c = let a = c.args in (omega arith, refl, paste-zero a.out.now 0 a.bytes.now)
 
-loop-again : tie.Need-loop-preserved invariant-loop decreases-loop
-loop-again c =
-    let l = c.before.before.loop in
-    let a = c.before.before.before.args in (
+loop-i-preserved : tie.Need-loop-i-preserved invariant-loop-i decreases-loop-i
+loop-i-preserved c =
+    let l = c.loop-i in
+    let a = c.args in (
       omega arith,
       simp length-set l.invariant.1,
       (λ j. set (l.invariant.2 j) (sym (Nat.zero-add l.i) j) (get_or a.bytes.now l.i 0))
@@ -31,10 +31,10 @@ loop-again c =
           ∙ ap (paste a.out.now 0 a.bytes.now) (sym (add-one l.i)),
     )
 
-returns : tie.Need-returns invariant-loop decreases-loop
+returns : tie.Need-returns invariant-loop-i decreases-loop-i
 returns c =
-    let l = c.before.loop in
-    let a = c.before.before.args in
+    let l = c.loop-i in
+    let a = c.args in
     let n = length a.bytes.now in
     l.invariant.2
     ∙ ap (paste a.out.now 0 a.bytes.now) {x = l.i} {y = n} (omega arith)
@@ -43,5 +43,5 @@ returns c =
 pub copy_spec : {M : Type 1} → statement M
 copy_spec =
     tie.close
-    (tie.spec invariant-loop decreases-loop loop-holds (λ c. search rules) (λ c. search rules) (λ c. search rules) (λ c. search rules) loop-again
+    (tie.spec invariant-loop-i decreases-loop-i loop-i-init (λ c. search rules) (λ c. search rules) (λ c. search rules) (λ c. search rules) loop-i-preserved
     (λ c. search rules) returns)

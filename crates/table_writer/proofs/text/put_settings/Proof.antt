@@ -25,7 +25,7 @@ unfolding settings_text settings_shape shape choose shape_size names bytes
 returns c =
     let p = c.before.before in
     let k = p.before.before.before.before.before.before.before.before.before.before.before in
-    let a = k.before.before.before.before.args in
+    let a = k.args in
     let b = p.before.before.before in
     let v₅ = b.before in
     let v₄ = v₅.before in
@@ -33,13 +33,13 @@ returns c =
     let v₂ = v₃.before in
     let v₁ = v₂.before in
     let degree = through-bits w64 _ v₁.value_of.ok ∙ v₁.value_of.ensures in
-    let depth = through-bits w64 _ v₂.value-of2.ok ∙ v₂.value-of2.ensures in
-    let modulus = through-bits w64 _ v₃.residue-value.ok ∙ v₃.residue-value.ensures in
-    let bound = through-bits w64 _ v₄.value-of3.ok ∙ v₄.value-of3.ensures in
-    let rows = through-bits w64 _ v₅.value-of4.ok ∙ v₅.value-of4.ensures in
-    subst (λ l. Held (names ++ l) p.put-part.result p.put-part.last.1.1.1.0)
-    (λ j. part_text (b.settings-shape.ensures j) (degree j ∷ depth j ∷ modulus j ∷ bound j ∷ rows j ∷ []))
-    (p.put-part.ensures (sym (ap shape_size b.settings-shape.ensures)) names (subst (Held names 22) (sym k.copy.ensures) (named a.out.now)))
+    let depth = through-bits w64 _ v₂.value_of-2.ok ∙ v₂.value_of-2.ensures in
+    let modulus = through-bits w64 _ v₃.residue_value.ok ∙ v₃.residue_value.ensures in
+    let bound = through-bits w64 _ v₄.value_of-3.ok ∙ v₄.value_of-3.ensures in
+    let rows = through-bits w64 _ v₅.value_of-4.ok ∙ v₅.value_of-4.ensures in
+    subst (λ l. Held (names ++ l) p.put_part.result p.put_part.new.out)
+    (λ j. part_text (b.settings_shape.ensures j) (degree j ∷ depth j ∷ modulus j ∷ bound j ∷ rows j ∷ []))
+    (p.put_part.ensures (sym (ap shape_size b.settings_shape.ensures)) names (subst (Held names 22) (sym k.copy.ensures) (named a.out.now)))
 
 pub put_settings_spec : {M : Type 1} → statement M
 put_settings_spec =

@@ -9,7 +9,7 @@ unfolding values_text
 returns c fits =
     let p = c.before.before in
     let s = p.before.before.before.before in
-    p.put-parts.ensures fits _ s.put-settings.ensures
+    p.put_parts.ensures fits _ s.put_settings-tables_on.ensures
 
 pub put_text_spec : {M : Type 1} → statement M
 put_text_spec = tie.close (tie.spec (λ c κs. search rules) (λ c κs. search rules) (λ c. search rules) returns)

@@ -9,18 +9,18 @@ use Rattle.table_writer.proofs.whole.write.Statement.{statement}
 use Rattle.table_writer.proofs.whole.write.Tie as tie
 
 -- nothing is refused before the text
-fine : (c : tie.Else1) → let a = c.before.before.before.before.before.before.before.before.args in
+fine : (c : tie.Else-refusal-ne0) → let a = c.args in
     tables_refusal a.settings a.parts (tables_of a.key.now a.message.now a.commitment.now a.rounds.now a.challenges.now a.last.now a.claims.now) ≡ 0
-fine c = sym c.before.tables-refusal.ensures ∙ c.if1.false
+fine c = sym c.tables_refusal-refusal.ensures ∙ c.if-refusal-ne0.false
+
+returns-then-refusal-ne0 : tie.Need-returns-then-refusal-ne0
+returns-then-refusal-ne0 c = stopped _ _ _ _ _ c.tables_refusal-refusal.ensures c.if-refusal-ne0.true
 
 returns : tie.Need-returns
-returns c = stopped _ _ _ _ _ c.before.tables-refusal.ensures c.if1.true
-
-returns-2 : tie.Need-returns-2
-returns-2 c =
+returns c =
     let w = c.before.before in
     let e = w.before.before in
-    wrote _ _ _ _ (fine e) w.write-tables.result _ (w.write-tables.ensures (passed _ _ _ [] (fine e)))
+    wrote _ _ _ _ (fine e) w.write_tables.result _ (w.write_tables.ensures (passed _ _ _ [] (fine e)))
 
 pub write_spec : {M : Type 1} → statement M
-write_spec = tie.close (tie.spec (λ c κs. search rules) returns (λ c κs. search rules) (λ c. search rules) returns-2)
+write_spec = tie.close (tie.spec (λ c κs. search rules) returns-then-refusal-ne0 (λ c κs. search rules) (λ c. search rules) returns)

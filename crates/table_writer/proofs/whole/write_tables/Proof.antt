@@ -24,45 +24,45 @@ module _ (c : tie.After-room) where
   abbrev t : Tables
   t = let a = start.args in tables_of a.key.now a.message.now a.commitment.now a.rounds.now a.challenges.now a.last.now a.claims.now
 
-  lengths_is : c.before.lengths-of.result ≡ lengths_of t
-  lengths_is = c.before.lengths-of.ensures
+  lengths_is : c.lengths_of-lengths.result ≡ lengths_of t
+  lengths_is = c.lengths_of-lengths.ensures
 
   tested : c.room.result ≡ leb (total (lengths_of t)) values_room
   tested = c.room.ensures ∙ ap (λ n. leb (total n) values_room) lengths_is
 
-room : (c : tie.Else1) → total (lengths_of (t c.before)) ≤ values_room
-room c = leb-true _ _ (sym (tested c.before) ∙ not-false _ c.if1.false)
+room : (c : tie.Else-not-room) → total (lengths_of (t c.before)) ≤ values_room
+room c = leb-true _ _ (sym (tested c.before) ∙ not-false _ c.if-not-room.false-raw)
 
-returns : tie.Need-returns
-returns c w = long _ _ (text-over _ _ (t c.before) w (leb-false _ _ (sym (tested c.before) ∙ not-true _ c.if1.true)))
+returns-then-not-room : tie.Need-returns-then-not-room
+returns-then-not-room c w = long _ _ (text-over _ _ (t c.before) w (leb-false _ _ (sym (tested c.before) ∙ not-true _ c.if-not-room.true-raw)))
 
 all-requires : tie.Need-all-requires
 all-requires c κs = omega (arith, room c.before)
 
-write-values-requires : tie.Need-write-values-requires
-write-values-requires c κs =
+write_values-requires : tie.Need-write_values-requires
+write_values-requires c κs =
     let a = c.before.before.before in
     let e = c.before.before.before.before.before in
-    let same : length a.all.new.1.1.1.1.1.1.1.0 ≡ values_room = search rules in
+    let same : length a.all.new.values ≡ values_room = search rules in
     omega (arith, room e, ap total (lengths_is e.before))
 
-returns-2 : tie.Need-returns-2
-returns-2 c w =
+returns : tie.Need-returns
+returns c w =
     let v = c.before.before in
     let g = v.before.before.before.before in
     let m = g.before.before.before in
     let S = (start m).args.settings in
     let P = (start m).args.parts in
-    let values = g.all.new.1.1.1.1.1.1.1.0 in
+    let values = g.all.new.values in
     let r = g.all.result in
     let front : values ≡ joined (table_values (t m)) ++ drop r values =
     sym (take-append-drop r values) ∙ ap (λ x. x ++ drop r values) (g.all.ensures.front ∙ ap joined (gathered_are S P (t m) w)) in
-    subst (λ x. Output x (start m).args.out.now v.write-values.result v.write-values.new.1.1.1.1.0)
+    subst (λ x. Output x (start m).args.out.now v.write_values.result v.write_values.new.out)
     (ap (λ n. values_text S P n values) (lengths_is m) ∙ text-values S P (t m) w values (drop r values) front)
-    (v.write-values.ensures (ap (lengths_are (part_of S P)) (lengths_is m) ∙ lengths_are_lem S P (t m) w))
+    (v.write_values.ensures (ap (lengths_are (part_of S P)) (lengths_is m) ∙ lengths_are_lem S P (t m) w))
 
 pub write_tables_spec : {M : Type 1} → statement M
 write_tables_spec =
     tie.close
-    (tie.spec (λ c κs. search rules) (λ c κs. search rules) returns (λ c. search rules) all-requires (λ c. search rules) write-values-requires (λ c. search rules)
-    returns-2)
+    (tie.spec (λ c κs. search rules) (λ c κs. search rules) returns-then-not-room (λ c. search rules) all-requires (λ c. search rules) write_values-requires (λ c. search rules)
+    returns)

@@ -16,19 +16,19 @@ use Rattle.table_writer.proofs.whole.write_values.Statement.{statement}
 use Rattle.table_writer.proofs.whole.write_values.Tie as tie
 
 -- the text in its place
-module _ (c : tie.After-put-text) where
+module _ (c : tie.After-put_text-count) where
   abbrev place : List ℕ
-  place = c.put-text.new.1.1.1.1.0
+  place = c.put_text-count.new.out
 
   abbrev count : ℕ
-  count = c.put-text.result
+  count = c.put_text-count.result
 
   abbrev text : List ℕ
-  text = let a = c.before.before.before.args in values_text a.settings a.parts a.lengths a.values.now
+  text = let a = c.args in values_text a.settings a.parts a.lengths a.values.now
 
 -- it is not too long
-module _ (c : tie.Else1) where
-  abbrev put : tie.After-put-text
+module _ (c : tie.Else-count-gt-TEXT_LIMIT) where
+  abbrev put : tie.After-put_text-count
   put = c.before.before
 
   front : length (take (count put) (place put)) ≡ count put
@@ -38,35 +38,35 @@ module _ (c : tie.Else1) where
   module _ (fits : let a = put.before.before.before.args in lengths_are (part_of a.settings a.parts) a.lengths ≡ true) where
     kept : (count put ≡ length (text put)) × (take (count put) (place put) ≡ text put)
     unfolding text_limit
-    kept = (put.put-text.ensures fits).kept (omega arith)
+    kept = (put.put_text.ensures fits).kept (omega arith)
 
     short : length (text put) ≤ text_limit
     unfolding text_limit
     short = omega (arith, kept.0)
 
-returns : tie.Need-returns
+returns-then-count-gt-TEXT_LIMIT : tie.Need-returns-then-count-gt-TEXT_LIMIT
 unfolding text_limit
-returns c fits = long _ _ ((c.before.before.put-text.ensures fits).over c.if1.true)
+returns-then-count-gt-TEXT_LIMIT c fits = long _ _ ((c.put_text-count.ensures fits).over c.if-count-gt-TEXT_LIMIT.true)
 
-returns-2 : tie.Need-returns-2
-returns-2 c fits = cramped _ _ (short c.before fits) (omega (arith, (kept c.before fits).0))
+returns-then-count-out : tie.Need-returns-then-count-out
+returns-then-count-out c fits = cramped _ _ (short c.before fits) (omega (arith, (kept c.before fits).0))
 
-slice-aggregate-copy : tie.Need-slice-aggregate-copy
-slice-aggregate-copy c = sym (front c.before.before)
+slice_bounds-copy-end : tie.Need-slice_bounds-copy-end
+slice_bounds-copy-end c = sym (front c.before.before)
 
 copy-requires : tie.Need-copy-requires
 copy-requires c κs = omega (arith, front c.before.before.before)
 
-returns-3 : tie.Need-returns-3
-returns-3 c fits =
+returns : tie.Need-returns
+returns c fits =
     let k = c.before.before in
     let l = k.before.before.before.before in
-    let out = (put l).before.before.before.args.out.now in
+    let out = (put l).args.out.now in
     let (long, is) = kept l fits in
     done _ _ (short l fits) _ _ long (omega arith) (k.copy.ensures ∙ ap (λ x. x ++ drop (length x) out) is)
 
 pub write_values_spec : {M : Type 1} → statement M
 write_values_spec =
     tie.close
-    (tie.spec (λ c. search) (λ c κs. search rules) returns returns-2 (λ c. search rules) slice-aggregate-copy copy-requires (λ c. search)
-    returns-3)
+    (tie.spec (λ c. search) (λ c κs. search rules) returns-then-count-gt-TEXT_LIMIT returns-then-count-out (λ c. search rules) slice_bounds-copy-end copy-requires (λ c. search)
+    returns)

@@ -10,32 +10,32 @@ use Rattle.verifier_refusals.proofs.session.end.Statement.{statement}
 use Rattle.verifier_refusals.proofs.session.end.Tie as tie
 
 -- 3 to 7
-lengths : (c : tie.After-refuse) → let a = c.before.before.before.before.before.before.before.args in
+lengths : (c : tie.After-refuse-r7) → let a = c.args in
     Tested (settings_refusal a.progress.settings) 7
     (hasLength (key_cells a.progress.settings) a.key.now)
-    c.refuse.result
+    c.refuse-r7.result
 unfolding hasLength
-lengths c = lengths-tested _ c.before.before.settings-refusal.ensures c.refuse.ensures (λ z. rw (c.before.key-cells.ensures z))
+lengths c = lengths-tested _ c.settings_refusal-r16.ensures c.refuse-r7.ensures (λ z. rw (c.key_cells.ensures z))
+
+returns-then-r7-ne0 : tie.Need-returns-then-r7-ne0
+unfolding session_end_refusal
+returns-then-r7-ne0 c = λ long. sym (first_tested _ _ (lengths c.before) (λ z. refl) ∙ first_stops _ _ c.if-r7-ne0.true)
 
 returns : tie.Need-returns
-unfolding session_end_refusal
-returns c = λ long. sym (first_tested _ _ (lengths c.before) (λ z. refl) ∙ first_stops _ _ c.if1.true)
-
-returns-2 : tie.Need-returns-2
 unfolding session_end_refusal all_below exponents exponent
-returns-2 c = λ long.
+returns c = λ long.
     let c10 = c.before.before.before.before in
     let c8 = c10.before.before.before.before in
     let no = c8.before.before.before in
-    let ok = tested-before (lengths no.before) no.if1.false in
+    let ok = tested-before (lengths no.before) no.if-r7-ne0.false in
     sym (first_tested _ _ (lengths no.before) (λ z. refl)
-    ∙ first_tested _ _ c8.refuse2.ensures (λ z. rw (c8.before.before.all-below-wide.ensures, c8.before.claims-below.ensures ok long))
-    ∙ first_tested _ _ c10.refuse3.ensures (λ z. rw (c10.before.all-below.ensures, c10.before.before.before.exponent-count.ensures ok))
-    ∙ first_tested _ _ c.refuse4.ensures (λ z. refl)
+    ∙ first_tested _ _ c8.refuse-r8.ensures (λ z. rw (c8.all_below_wide.ensures, c8.claims_below.ensures ok long))
+    ∙ first_tested _ _ c10.refuse-r10.ensures (λ z. rw (c10.all_below.ensures, c10.exponent_count-limit.ensures ok))
+    ∙ first_tested _ _ c.refuse.ensures (λ z. refl)
     ∙ first_only _)
 
 pub end_spec : {M : Type 1} → statement M
 end_spec =
     tie.close
-    (tie.spec (λ c κs. search rules) (λ c κs. search rules) (λ c κs. search rules) returns (λ c κs. search rules) (λ c κs. search rules)
-    (λ c κs. search rules) (λ c κs. search rules) (λ c. search rules) (λ c κs. search rules) (λ c κs. search rules) (λ c κs. search rules) returns-2)
+    (tie.spec (λ c κs. search rules) (λ c κs. search rules) (λ c κs. search rules) returns-then-r7-ne0 (λ c κs. search rules) (λ c κs. search rules)
+    (λ c κs. search rules) (λ c κs. search rules) (λ c. search rules) (λ c κs. search rules) (λ c κs. search rules) (λ c κs. search rules) returns)

@@ -7,8 +7,8 @@ use Rattle.protocol.proofs.Refusals.{first_known, first_tested, tested-before, f
 use Rattle.verifier_refusals.proofs.session.round.Statement.{statement}
 use Rattle.verifier_refusals.proofs.session.round.Tie as tie
 
-allowed : (c : tie.After-settings-refusal) → c.settings-refusal.result ≡ 0 → settings_refusal c.before.before.before.before.before.before.before.before.args.progress.settings ≡ 0
-allowed c z = sym c.settings-refusal.ensures ∙ z
+allowed : (c : tie.After-settings_refusal-r16) → c.settings_refusal-r16.result ≡ 0 → settings_refusal c.args.progress.settings ≡ 0
+allowed c z = sym c.settings_refusal-r16.ensures ∙ z
 
 returns : tie.Need-returns
 unfolding session_round_refusal part exponents exponent
@@ -16,10 +16,10 @@ returns c = λ lent.
     let c10 = c.before.before.before.before in
     let c8 = c10.before.before.before in
     let c16 = c8.before.before in
-    sym (first_known _ _ c16.settings-refusal.ensures
-    ∙ first_tested _ _ c8.refuse.ensures (λ z. c8.before.round-below.ensures (allowed c16 z) lent)
-    ∙ first_tested _ _ c10.refuse2.ensures (λ z. rw (c10.before.all-below.ensures, c16.before.exponent-count.ensures (allowed c16 (tested-before c8.refuse.ensures z))))
-    ∙ first_tested _ _ c.refuse3.ensures (λ z. refl)
+    sym (first_known _ _ c16.settings_refusal-r16.ensures
+    ∙ first_tested _ _ c8.refuse-r8.ensures (λ z. c8.round_below.ensures (allowed c16 z) lent)
+    ∙ first_tested _ _ c10.refuse-r10.ensures (λ z. rw (c10.all_below.ensures, c16.exponent_count-limit.ensures (allowed c16 (tested-before c8.refuse-r8.ensures z))))
+    ∙ first_tested _ _ c.refuse.ensures (λ z. refl)
     ∙ first_only _)
 
 pub round_spec : {M : Type 1} → statement M

@@ -10,8 +10,8 @@ returns : tie.Need-returns
 unfolding start_refusal
 returns c = λ lent.
     let c16 = c.before.before in
-    sym (first_known _ _ c16.settings-refusal.ensures
-    ∙ first_tested _ _ c.refuse.ensures (λ z. let ok = sym c16.settings-refusal.ensures ∙ z in c.before.lent_below.ensures ok (lent ok))
+    sym (first_known _ _ c16.settings_refusal-r16.ensures
+    ∙ first_tested _ _ c.refuse.ensures (λ z. let ok = sym c16.settings_refusal-r16.ensures ∙ z in c.lent_below.ensures ok (lent ok))
     ∙ first_only _)
 
 pub start_spec : {M : Type 1} → statement M
