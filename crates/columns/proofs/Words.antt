@@ -61,4 +61,4 @@ moved-below (pos n) h = omega arith
 moved-below (negsuc n) h = omega arith
 
 pub wide_back : (c : ℤ) → SFits w32 c → to_z w64 (of_z w64 (to_z w32 (of_z w32 c))) ≡ c
-wide_back c h = rw (to_z-of_z h) (to_z-of_z (record { sfits = omega (arith, h.sfits) }))
+wide_back c h = rw (to_z-of_z h) (to_z-of_z {w = w64} (record { sfits = omega (arith, h.sfits) }))

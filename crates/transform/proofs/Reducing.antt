@@ -34,4 +34,4 @@ moved-residue (negsuc n) r part h e =
     sym (Nat.add-mul-mod_self_right r part 12289) ∙ ap (λ m. m % 12289) t ∙ omega arith
 
 pub wide_back : (x : ℤ) → SFits w32 x → to_z w64 (of_z w64 (to_z w32 (of_z w32 x))) ≡ x
-wide_back x h = rw (to_z-of_z h) (to_z-of_z (record { sfits = omega (arith, h.sfits) }))
+wide_back x h = rw (to_z-of_z h) (to_z-of_z {w = w64} (record { sfits = omega (arith, h.sfits) }))

@@ -15,7 +15,7 @@ decreases-loop-j strands d done f x sums₀ j₀ sums j = d - j
 
 -- the coefficient that the turn looks at
 abbrev coefficient : tie.In-loop-j invariant-loop-j decreases-loop-j → ℤ
-coefficient c = get_or c.before.before.before.before.args.f.now c.before.loop.j (pos 0)
+coefficient c = get_or c.args.f.now c.loop-j.j (pos 0)
 
 value : (c : tie.After-c-1 invariant-loop-j decreases-loop-j) → to_z w32 (of_z w32 (coefficient c.before)) ≡ coefficient c.before
 value c = through-bits w32 (coefficient c.before) c.c-1.given

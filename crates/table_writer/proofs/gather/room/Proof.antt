@@ -24,7 +24,7 @@ loop-k-init c = (omega arith, refl, omega arith)
 returns-then-lengths-k : tie.Need-returns-then-lengths-k invariant-loop-k decreases-loop-k
 returns-then-lengths-k c =
     let l = c.loop-k in
-    let n = c.args.t1 in
+    let n = c.args.lengths in
     sym (lt-leb (total n) values_room (omega (arith, start_most n l.k (omega arith), l.invariant.1)))
 
 overflow_add-start : tie.Need-overflow_add-start invariant-loop-k decreases-loop-k
@@ -33,14 +33,14 @@ overflow_add-start c = record { fits = omega arith }
 loop-k-preserved : tie.Need-loop-k-preserved invariant-loop-k decreases-loop-k
 loop-k-preserved c =
     let l = c.loop-k in
-    let n = c.args.t1 in
+    let n = c.args.lengths in
     (omega arith, ap (λ s. s + get_or n l.k 0) l.invariant.1 ∙ sym (start_next n l.k), omega arith)
 
 returns : tie.Need-returns invariant-loop-k decreases-loop-k
 unfolding total
 returns c =
     let l = c.loop-k in
-    let n = c.args.t1 in
+    let n = c.args.lengths in
     let end : l.k ≡ table_count = omega arith in
     sym (le-leb (total n) values_room (omega (arith, l.invariant.1, ap (start n) end)))
 

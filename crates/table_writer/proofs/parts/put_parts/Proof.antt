@@ -31,7 +31,7 @@ loop-k-init c = (omega arith, refl, refl, λ _ text t. t)
 
 module _ (c : tie.In-loop-k invariant-loop-k decreases-loop-k) where
   abbrev n : List ℕ
-  n = c.args.t3
+  n = c.args.lengths
 
   -- the table ends among the values
   inside : start n c.loop-k.k + get_or n c.loop-k.k 0 ≤ length c.args.values.now
@@ -55,7 +55,7 @@ loop-k-preserved c =
     let p = c.before.before in
     let l = p.loop-k in
     let a = p.args in
-    let n = a.t3 in
+    let n = a.lengths in
     let m = get_or n l.k 0 in
     let vs = a.values.now in
     let b = as_shape p.shape_of-shape.result in
@@ -77,7 +77,7 @@ returns : tie.Need-returns invariant-loop-k decreases-loop-k
 returns c fits =
     let l = c.loop-k in
     let a = c.args in
-    subst (λ k. Follows a.out.now a.from (behind_text a.settings a.parts a.t3 a.values.now k) l.at l.out) {x = l.k} {y = table_count} (omega arith) (l.invariant.3 fits)
+    subst (λ k. Follows a.out.now a.from (behind_text a.settings a.parts a.lengths a.values.now k) l.at l.out) {x = l.k} {y = table_count} (omega arith) (l.invariant.3 fits)
 
 pub put_parts_spec : {M : Type 1} → statement M
 put_parts_spec =

@@ -7,7 +7,7 @@ use Rattle.verifier_refusals.proofs.session.claims_below.Tie as tie
 
 returns : tie.Need-returns
 unfolding residue_rows residue_element
-returns c = λ ok long. let valid = settings-valid _ ok in c.rows_below_holds.ensures (degree_most _ valid, valid.rows_most_holds, long)
+returns c = λ ok long. let valid = settings-valid _ ok in c.rows_below.ensures (degree_most _ valid, valid.rows_most_holds, long)
 
 pub claims_below_spec : {M : Type 1} → statement M
 claims_below_spec = tie.close (tie.spec (λ c κs. search rules) returns)

@@ -34,7 +34,7 @@ returns c =
     sym (first_tested _ _ (lengths no.before) (λ z. refl)
     ∙ first_tested _ _ c8.refuse-r8.ensures (λ z. rw (
       c8.all_below_wide.ensures,
-      c8.before.before.rows_below_holds.ensures ok,
+      c8.rows_below.ensures ok,
       c8.all_below_wide-2.ensures,
     ))
     ∙ first_tested _ _ c.refuse.ensures (λ z. rw (c.all_below.ensures, c.exponent_count-limit.ensures ok))
