@@ -21,16 +21,16 @@ overflow_mul-j c = let a = c.args in omega (arith, row_inside a.gap a.m c.loop-j
 
 add_line-requires : tie.Need-add_line-requires invariant-loop-j decreases-loop-j
 add_line-requires c κs =
-    let p = c.before in
-    let s = p.before.before.before in
+    let p = c in
+    let s = p in
     let a = s.args in
     let l = p.loop-j in
     (s.requires.0, now_apart (λ j. Line (j * a.gap) a.step a.n) a.m l.j s.requires.2 s.requires.3 p.loop-j-test.true l.invariant.1)
 
 loop-j-preserved : tie.Need-loop-j-preserved invariant-loop-j decreases-loop-j
 loop-j-preserved c =
-    let p = c.before.before.before.before in
-    let s = p.before.before.before in
+    let p = c in
+    let s = p in
     let a = s.args in
     let l = p.loop-j in
     (omega arith, among_more (λ j. Line (j * a.gap) a.step a.n) a.m l.j s.requires.2 s.requires.3 p.loop-j-test.true l.invariant.1 c.add_line.ensures)
@@ -42,4 +42,4 @@ pub add_grid_spec : {M : Type 1} → statement M
 add_grid_spec =
     tie.close
     (tie.spec invariant-loop-j decreases-loop-j (λ c. (omega arith, among_none _ _)) overflow_mul-j add_line-requires (λ c. search rules) (λ c. search rules) loop-j-preserved
-    (λ c. c.before.loop.invariant.1.long) returns)
+    (λ c. c.loop-j.invariant.1.long) returns)

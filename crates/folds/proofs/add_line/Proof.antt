@@ -19,7 +19,7 @@ decreases-loop-i q negative at step n from to t₀ i₀ t i = n - i
 
 -- a row is a line of steps of 1
 add_row-requires : tie.Need-add_row-requires invariant-loop-i decreases-loop-i
-add_row-requires c κs = let s = c.before.before.before in let a = s.args in subst (λ step. Apart (Line a.at step a.n) a.from a.to (length a.t.now)) c.if-step-eq1.true
+add_row-requires c κs = let s = c in let a = s.args in subst (λ step. Apart (Line a.at step a.n) a.from a.to (length a.t.now)) c.if-step-eq1.true
     s.requires.1
 
 returns-then-step-eq1 : tie.Need-returns-then-step-eq1 invariant-loop-i decreases-loop-i
@@ -34,15 +34,15 @@ room : (c : tie.In-loop-i invariant-loop-i decreases-loop-i) → let a = c.args 
     let x = a.at + c.loop-i.i * a.step in
     (a.from + x < length c.loop-i.t) × (a.to + x < length c.loop-i.t)
 room c =
-    let s = c.before.before.before.before in
+    let s = c in
     let a = s.args in
     let l = c.loop-i in
     now-inside (λ i x. x ≡ a.at + i * a.step) a.n l.i (line-fresh a.at a.step a.n s.requires.0) s.requires.1 c.loop-i-test.true l.invariant.1 _ refl
 
 loop-i-preserved : tie.Need-loop-i-preserved invariant-loop-i decreases-loop-i
 loop-i-preserved c =
-    let p = c.before.before.before.before in
-    let s = p.before.before.before.before in
+    let p = c in
+    let s = p in
     let a = s.args in
     let l = p.loop-i in (
       omega arith,
@@ -56,4 +56,4 @@ pub add_line_spec : {M : Type 1} → statement M
 add_line_spec =
     tie.close
     (tie.spec invariant-loop-i decreases-loop-i add_row-requires (λ c. search rules) returns-then-step-eq1 (λ c. (omega arith, among_none _ _)) (λ c. omega (arith, (room c).0)) (λ c. omega (arith, (room c).0))
-    (λ c κs. room c.before) (λ c. search rules) (λ c. search rules) loop-i-preserved (λ c. c.before.loop.invariant.1.long) returns)
+    (λ c κs. room c.before) (λ c. search rules) (λ c. search rules) loop-i-preserved (λ c. c.loop-i.invariant.1.long) returns)

@@ -8,7 +8,7 @@ use Rattle.folds.proofs.add_part.Tie as tie
 
 add_grid-requires : tie.Need-add_grid-requires
 add_grid-requires c κs =
-    let s = c.before.before.before in
+    let s = c in
     let a = s.args in
     (s.requires.0, omega arith, columns-fresh a.d a.h a.m s.requires.3, crossed_apart a.m 1 a.d a.h s.requires.4)
 
@@ -17,7 +17,7 @@ returns-then-d-lt-ROWS_FROM c = let a = c.args in crossed-added a.h a.d 1 a.m c.
 
 add_grid-requires-2 : tie.Need-add_grid-requires-2
 add_grid-requires-2 c κs =
-    let s = c.before.before.before in
+    let s = c in
     let a = s.args in
     (omega arith, few a.d a.h s.requires.1 s.requires.2, rows_fresh a.d a.h a.m s.requires.3, s.requires.4)
 

@@ -22,15 +22,15 @@ room : (c : tie.In-loop-i invariant-loop-i decreases-loop-i) → let a = c.args 
     let x = a.at + c.loop-i.i in
     (a.from + x < length c.loop-i.t) × (a.to + x < length c.loop-i.t)
 room c =
-    let s = c.before.before.before in
+    let s = c in
     let a = s.args in
     let l = c.loop-i in
     now-inside (λ i x. x ≡ a.at + i * 1) a.n l.i (line-fresh a.at 1 a.n (omega arith)) s.requires c.loop-i-test.true l.invariant.1 _ (omega arith)
 
 loop-i-preserved : tie.Need-loop-i-preserved invariant-loop-i decreases-loop-i
 loop-i-preserved c =
-    let p = c.before.before.before.before in
-    let s = p.before.before.before in
+    let p = c in
+    let s = p in
     let a = s.args in
     let l = p.loop-i in (
       omega arith,
@@ -46,4 +46,4 @@ pub add_row_spec : {M : Type 1} → statement M
 add_row_spec =
     tie.close
     (tie.spec invariant-loop-i decreases-loop-i (λ c. (omega arith, among_none _ _)) (λ c. omega (arith, (room c).0)) (λ c κs. room c.before) (λ c. search rules) (λ c. search rules) loop-i-preserved
-    (λ c. c.before.loop.invariant.1.long) returns)
+    (λ c. c.loop-i.invariant.1.long) returns)

@@ -43,15 +43,15 @@ returns-then-first_word-ne-PART_ITE c = by_tests c.before.before false _ (ne_eqb
 returns-then-first_word-ne-M_PLACE : tie.Need-returns-then-first_word-ne-M_PLACE
 unfolding bytes
 returns-then-first_word-ne-M_PLACE c =
-    let same = c.before.before.before in
-    by_tests same.before.before true false (first same) (ne_eqb _ _ (λ w. c.if-first_word-ne-M_PLACE.true (c.first_word-2.ensures ∙ w)))
+    let same = c in
+    by_tests same.before.before.before.before.before true false (first same.before.before.before) (ne_eqb _ _ (λ w. c.if-first_word-ne-M_PLACE.true (c.first_word-2.ensures ∙ w)))
 
 returns : tie.Need-returns
 unfolding bytes
 returns c =
-    let both = c.before.before.before in
-    let same = both.before.before.before in
-    c.begins.ensures ∙ by_tests same.before.before true true (first same) (eq-eqb _ _ (sym both.first_word-2.ensures ∙ both.if-first_word-ne-M_PLACE.false))
+    let both = c in
+    let same = both in
+    c.begins.ensures ∙ by_tests same.before.before.before.before.before.before.before.before.before true true (first same.before.before.before.before.before.before.before) (eq-eqb _ _ (sym both.first_word-2.ensures ∙ both.if-first_word-ne-M_PLACE.false))
 
 pub begins_with_names_spec : {M : Type 1} → statement M
 begins_with_names_spec =

@@ -17,7 +17,7 @@ lengths : (c : tie.After-refuse-r7) → let a = c.args in
     && hasLength a.settings.depth a.challenges.now && hasLength (round_cells a.settings) a.rounds.now)
     c.refuse-r7.result
 unfolding hasLength
-lengths c = let c6 = c.before.before.before in lengths-tested _ c6.settings_refusal-r6.ensures c.refuse-r7.ensures
+lengths c = let c6 = c in lengths-tested _ c6.settings_refusal-r6.ensures c.refuse-r7.ensures
     (λ z. rw (c6.key_cells-key_cells.ensures z, c6.cells-cells.ensures z, c.round_cells.ensures z))
 
 returns-then-r7-ne0 : tie.Need-returns-then-r7-ne0
@@ -27,11 +27,11 @@ returns-then-r7-ne0 c = sym (first_tested _ _ (lengths c.before) (λ z. refl) �
 returns : tie.Need-returns
 unfolding opening_refusal all_below exponents exponent
 returns c =
-    let c9 = c.before.before.before in
-    let c8 = c9.before.before in
-    let no = c8.before.before in
-    let ok = tested-before (lengths no.before) no.if-r7-ne0.false in
-    sym (first_tested _ _ (lengths no.before) (λ z. refl)
+    let c9 = c in
+    let c8 = c9 in
+    let no = c8 in
+    let ok = tested-before (lengths no.before.before.before.before.before.before.before.before) no.if-r7-ne0.false in
+    sym (first_tested _ _ (lengths no.before.before.before.before.before.before.before.before) (λ z. refl)
     ∙ first_tested _ _ c8.refuse-r8.ensures (λ z. c8.all_below_wide.ensures)
     ∙ first_tested _ _ c9.refuse-r9.ensures (λ z. c9.all_within.ensures)
     ∙ first_tested _ _ c.refuse.ensures (λ z. rw (c.all_below.ensures, c.exponent_count-limit.ensures ok))

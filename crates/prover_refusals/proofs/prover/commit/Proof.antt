@@ -14,8 +14,8 @@ returns-then-r7-ne0 c = sym (first_tested _ _ c.lengths-r7.ensures (λ z. refl) 
 returns : tie.Need-returns
 unfolding commit_refusal all_below
 returns c =
-    let c8 = c.before.before in
-    let no = c8.before.before in
+    let c8 = c in
+    let no = c8 in
     sym (first_tested _ _ no.lengths-r7.ensures (λ z. refl)
     ∙ first_tested _ _ c8.refuse-r8.ensures (λ z. c8.all_below_wide.ensures)
     ∙ first_tested _ _ c.refuse.ensures (λ z. c.all_within.ensures)

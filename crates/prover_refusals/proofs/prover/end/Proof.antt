@@ -14,24 +14,24 @@ allowed c z = sym c.settings_refusal-r6.ensures ∙ z
 returns-then-r7-ne0 : tie.Need-returns-then-r7-ne0
 unfolding end_refusal hasLength
 returns-then-r7-ne0 c =
-    let c7 = c.before in
+    let c7 = c in
     sym (first_known _ _ c7.settings_refusal-r6.ensures
-    ∙ first_tested _ _ c7.refuse-r7.ensures (λ z. rw (c7.cells.ensures (allowed c7.before z)))
+    ∙ first_tested _ _ c7.refuse-r7.ensures (λ z. rw (c7.cells.ensures (allowed c7.before.before z)))
     ∙ first_stops _ _ c.if-r7-ne0.true)
 
 ending_small-requires : tie.Need-ending_small-requires
 ending_small-requires c κs =
-    let c7 = c.before in
-    let ok = allowed c7.before (tested-before c7.refuse-r7.ensures c.if-r7-ne0.false) in
+    let c7 = c in
+    let ok = allowed c7.before.before (tested-before c7.refuse-r7.ensures c.if-r7-ne0.false) in
     (ok, eqb-true _ _ (tested-passed c7.refuse-r7.ensures c.if-r7-ne0.false) ∙ c7.cells.ensures ok)
 
 returns : tie.Need-returns
 unfolding end_refusal hasLength
 returns c =
-    let c9 = c.before.before in
-    let c7 = c9.before.before.before in
+    let c9 = c in
+    let c7 = c9 in
     sym (first_known _ _ c7.settings_refusal-r6.ensures
-    ∙ first_tested _ _ c7.refuse-r7.ensures (λ z. rw (c7.cells.ensures (allowed c7.before z)))
+    ∙ first_tested _ _ c7.refuse-r7.ensures (λ z. rw (c7.cells.ensures (allowed c7.before.before.before.before.before.before z)))
     ∙ first_tested _ _ c9.refuse-r9.ensures (λ z. c9.ending_small.ensures)
     ∙ first_tested _ _ c.refuse.ensures (λ z. refl)
     ∙ first_only _)

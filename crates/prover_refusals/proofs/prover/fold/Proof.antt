@@ -13,15 +13,15 @@ unfolding fold_refusal
 returns-then-r7-ne0 c = sym (first_tested _ _ c.lengths-r7.ensures (λ z. refl) ∙ first_stops _ _ c.if-r7-ne0.true)
 
 moving_small-requires : tie.Need-moving_small-requires
-moving_small-requires c κs = let no = c.before.before in lengths_given _ _ _ no.lengths-r7.ensures no.if-r7-ne0.false
+moving_small-requires c κs = let no = c in lengths_given _ _ _ no.lengths-r7.ensures no.if-r7-ne0.false
 
 returns : tie.Need-returns
 unfolding fold_refusal all_below exponent
 returns c =
-    let c10 = c.before.before in
-    let c9 = c10.before.before in
-    let c8 = c9.before.before in
-    let no = c8.before.before in
+    let c10 = c in
+    let c9 = c10 in
+    let c8 = c9 in
+    let no = c8 in
     let (ok, _) = lengths_given _ _ _ no.lengths-r7.ensures no.if-r7-ne0.false in
     sym (first_tested _ _ no.lengths-r7.ensures (λ z. refl)
     ∙ first_tested _ _ c8.refuse-r8.ensures (λ z. c8.all_below_wide.ensures)

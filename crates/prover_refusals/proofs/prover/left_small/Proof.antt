@@ -14,13 +14,13 @@ part : (c : tie.After-left_cells-end) → c.left_cells-end.result ≡ left_cells
 part c = c.left_cells-end.ensures (record { allowed = c.requires.0; most = c.requires.1 })
 
 slice_bounds-all_within-end : tie.Need-slice_bounds-all_within-end
-slice_bounds-all_within-end c = let p = c.before.before in sym (length-take-le _ _ (omega (arith, part p, left_inside p.args.settings p.args.t, p.requires.2)))
+slice_bounds-all_within-end c = let p = c in sym (length-take-le _ _ (omega (arith, part p.before, left_inside p.args.settings p.args.t, p.requires.2)))
 
 returns : tie.Need-returns
 unfolding left_small
 returns c =
-    let b = c.before.before in let s = b.before.before in
-    c.all_within.ensures ∙ (λ i. all_within (b.left_bound-bound.ensures (record { allowed = s.requires.0; most = s.requires.1 }) i) (take (part b.before i) s.args.message.now))
+    let b = c in let s = b in
+    c.all_within.ensures ∙ (λ i. all_within (b.left_bound-bound.ensures (record { allowed = s.requires.0; most = s.requires.1 }) i) (take (part b.before.before i) s.args.message.now))
 
 pub left_small_spec : {M : Type 1} → statement M
 left_small_spec = tie.close (tie.spec (λ c κs. search rules) (λ c κs. search rules) slice_bounds-all_within-end (λ c κs. search rules) returns)

@@ -9,7 +9,7 @@ use Rattle.prover_refusals.proofs.prover.lengths.Tie as tie
 returns : tie.Need-returns
 unfolding hasLength
 returns c =
-    let c6 = c.before in
+    let c6 = c in
     record {
       is = sym (first_known _ _ c6.settings_refusal-r6.ensures
           ∙ first_tested _ _ c.refuse.ensures (λ z. let ok = sym c6.settings_refusal-r6.ensures ∙ z in rw (c6.key_cells-key_cells.ensures ok, c6.cells-cells.ensures ok))

@@ -36,7 +36,7 @@ returns-then-at-gt-TEXT_LIMIT c fits =
 loop-p-preserved : tie.Need-loop-p-preserved invariant-loop-p decreases-loop-p
 unfolding text_limit
 loop-p-preserved c =
-    let w = c.before.before.before in
+    let w = c in
     let l = w.loop-p in
     let a = w.args in
     let b = as_shape a.shape in

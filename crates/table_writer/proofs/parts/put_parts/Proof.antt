@@ -44,15 +44,15 @@ offset_bounds-values-start : tie.Need-offset_bounds-values-start invariant-loop-
 offset_bounds-values-start c = let i = inside c.before in let s = c.loop-k.invariant.1 in search rules
 
 part-put_part-start : tie.Need-slice_bounds-put_part-start invariant-loop-k decreases-loop-k
-part-put_part-start c = let i = inside c.before in let s = c.loop-k.invariant.1 in search rules
+part-put_part-start c = let i = inside c in let s = c.loop-k.invariant.1 in search rules
 
 part-put_part-end : tie.Need-slice_bounds-put_part-end invariant-loop-k decreases-loop-k
-part-put_part-end c = let i = inside c.before in let s = c.loop-k.invariant.1 in search rules
+part-put_part-end c = let i = inside c in let s = c.loop-k.invariant.1 in search rules
 
 loop-k-preserved : tie.Need-loop-k-preserved invariant-loop-k decreases-loop-k
 unfolding lengths_are
 loop-k-preserved c =
-    let p = c.before.before in
+    let p = c in
     let l = p.loop-k in
     let a = p.args in
     let n = a.lengths in
@@ -66,7 +66,7 @@ loop-k-preserved c =
       ap (λ s. s + m) l.invariant.1 ∙ sym (start_next n l.k),
       same ∙ l.invariant.2,
       λ fits text t.
-          let long : length (take (l.start + m - l.start) (drop l.start vs)) ≡ m = simp (length-take, length-drop) (omega (arith, inside p.before.before.before.before, l.invariant.1)) in
+          let long : length (take (l.start + m - l.start) (drop l.start vs)) ≡ m = simp (length-take, length-drop) (omega (arith, inside p.before.before.before.before.before.before, l.invariant.1)) in
           let sized : m ≡ shape_size (part_of a.settings a.parts (l.k + 1)) = eqb-true _ _ (every_at table_count _ fits l.k (omega arith)) in
           subst (λ x. Held x p.put_part-at.result p.put_part-at.new.out)
           ((λ j. behind_text a.settings a.parts n vs l.k text ++ part_text (shape_is j) (piece_is j)) ∙ sym (parted_next _ _ l.k text))

@@ -45,9 +45,9 @@ module _ (c : tie.After-refuse-r7) where
 
   known : (rest : List ℕ) → first (settings_refusal S ∷ unless 7 (fits S P t) ∷ rest) ≡ first (c.refuse-r7.result ∷ rest)
   known rest =
-      first_known _ _ c₆.settings_refusal.ensures
+      first_known _ _ c₆.settings_refusal-r6.ensures
       ∙ first_tested _ _ c.refuse-r7.ensures (λ z. c.before.fits2.ensures
-      ∙ ap (lengths_are (part_of S P)) c₆.before.lengths_of.ensures ∙ lengths-counted S P (allowed c₆ z) _ ∙ lengths-fit S P t)
+      ∙ ap (lengths_are (part_of S P)) c₆.lengths_of-lengths.ensures ∙ lengths-counted S P (allowed c₆ z) _ ∙ lengths-fit S P t)
 
 returns-then-r7-ne0 : tie.Need-returns-then-r7-ne0
 unfolding tables_refusal
@@ -56,12 +56,12 @@ returns-then-r7-ne0 c = sym (known c.before _ ∙ first_stops _ _ c.if-r7-ne0.tr
 returns : tie.Need-returns
 unfolding tables_refusal entries_refusal all_below all_within exponents exponent narrow_limit
 returns c =
-    let c₉ = c.before.before.before in
-    let c₈ = c₉.before.before.before in
-    let no = c₈.before.before.before.before.before in
-    let c₇ = no.before in
-    let ok = allowed (c₆ c₇) (tested-before c₇.refuse-r7.ensures no.if-r7-ne0.false) in
-    sym (known c₇ _ ∙ last_flat _ _
+    let c₉ = c in
+    let c₈ = c₉ in
+    let no = c₈ in
+    let c₇ = no in
+    let ok = allowed (c₆ c₇.before.before.before.before.before.before.before.before.before.before.before.before) (tested-before c₇.refuse-r7.ensures no.if-r7-ne0.false) in
+    sym (known c₇.before.before.before.before.before.before.before.before.before.before.before.before _ ∙ last_flat _ _
     ∙ first_tested _ _ c₈.refuse-r8.ensures (λ z. rw (
       c₈.all_below_wide.ensures,
       c₈.all_below_wide-2.ensures,

@@ -7,8 +7,8 @@ use Rattle.table_writer.proofs.text.put_text.Tie as tie
 returns : tie.Need-returns
 unfolding values_text
 returns c fits =
-    let p = c.before.before in
-    let s = p.before.before.before.before in
+    let p = c in
+    let s = p in
     p.put_parts.ensures fits _ s.put_settings-tables_on.ensures
 
 pub put_text_spec : {M : Type 1} → statement M

@@ -41,25 +41,25 @@ all-requires c κs = omega (arith, room c.before)
 
 write_values-requires : tie.Need-write_values-requires
 write_values-requires c κs =
-    let a = c.before.before.before in
-    let e = c.before.before.before.before.before in
+    let a = c in
+    let e = c in
     let same : length a.all.new.values ≡ values_room = search rules in
-    omega (arith, room e, ap total (lengths_is e.before))
+    omega (arith, room e.before.before.before.before.before, ap total (lengths_is e.before.before.before.before.before.before))
 
 returns : tie.Need-returns
 returns c w =
-    let v = c.before.before in
-    let g = v.before.before.before.before in
-    let m = g.before.before.before in
-    let S = (start m).args.settings in
-    let P = (start m).args.parts in
+    let v = c in
+    let g = v in
+    let m = g in
+    let S = (start m.before.before.before.before.before.before.before.before.before).args.settings in
+    let P = (start m.before.before.before.before.before.before.before.before.before).args.parts in
     let values = g.all.new.values in
     let r = g.all.result in
-    let front : values ≡ joined (table_values (t m)) ++ drop r values =
-    sym (take-append-drop r values) ∙ ap (λ x. x ++ drop r values) (g.all.ensures.front ∙ ap joined (gathered_are S P (t m) w)) in
-    subst (λ x. Output x (start m).args.out.now v.write_values.result v.write_values.new.out)
-    (ap (λ n. values_text S P n values) (lengths_is m) ∙ text-values S P (t m) w values (drop r values) front)
-    (v.write_values.ensures (ap (lengths_are (part_of S P)) (lengths_is m) ∙ lengths_are_lem S P (t m) w))
+    let front : values ≡ joined (table_values (t m.before.before.before.before.before.before.before.before.before)) ++ drop r values =
+    sym (take-append-drop r values) ∙ ap (λ x. x ++ drop r values) (g.all.ensures.front ∙ ap joined (gathered_are S P (t m.before.before.before.before.before.before.before.before.before) w)) in
+    subst (λ x. Output x (start m.before.before.before.before.before.before.before.before.before).args.out.now v.write_values.result v.write_values.new.out)
+    (ap (λ n. values_text S P n values) (lengths_is m.before.before.before.before.before.before.before.before.before) ∙ text-values S P (t m.before.before.before.before.before.before.before.before.before) w values (drop r values) front)
+    (v.write_values.ensures (ap (lengths_are (part_of S P)) (lengths_is m.before.before.before.before.before.before.before.before.before) ∙ lengths_are_lem S P (t m.before.before.before.before.before.before.before.before.before) w))
 
 pub write_tables_spec : {M : Type 1} → statement M
 write_tables_spec =

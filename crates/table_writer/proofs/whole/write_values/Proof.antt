@@ -35,10 +35,10 @@ module _ (c : tie.Else-count-gt-TEXT_LIMIT) where
   front = let same : length (place put) ≡ text_room = search in length-take-le (count put) (place put) (omega arith)
 
   -- so all of it is there
-  module _ (fits : let a = put.before.before.before.args in lengths_are (part_of a.settings a.parts) a.lengths ≡ true) where
+  module _ (fits : let a = put.args in lengths_are (part_of a.settings a.parts) a.lengths ≡ true) where
     kept : (count put ≡ length (text put)) × (take (count put) (place put) ≡ text put)
     unfolding text_limit
-    kept = (put.put_text.ensures fits).kept (omega arith)
+    kept = (put.put_text-count.ensures fits).kept (omega arith)
 
     short : length (text put) ≤ text_limit
     unfolding text_limit
@@ -59,11 +59,11 @@ copy-requires c κs = omega (arith, front c.before.before.before)
 
 returns : tie.Need-returns
 returns c fits =
-    let k = c.before.before in
-    let l = k.before.before.before.before in
-    let out = (put l).args.out.now in
-    let (long, is) = kept l fits in
-    done _ _ (short l fits) _ _ long (omega arith) (k.copy.ensures ∙ ap (λ x. x ++ drop (length x) out) is)
+    let k = c in
+    let l = k in
+    let out = (put l.before.before.before.before.before.before).args.out.now in
+    let (long, is) = kept l.before.before.before.before.before.before fits in
+    done _ _ (short l.before.before.before.before.before.before fits) _ _ long (omega arith) (k.copy.ensures ∙ ap (λ x. x ++ drop (length x) out) is)
 
 pub write_values_spec : {M : Type 1} → statement M
 write_values_spec =
