@@ -57,4 +57,4 @@ pub begins_with_names_spec : {M : Type 1} → statement M
 begins_with_names_spec =
     tie.close
     (tie.spec returns-then-text-lt-LENGTH (λ c κs. search rules) returns-then-first_word-ne-PART_ITE (λ c. search rules) (λ c. search rules) (λ c. search rules) (λ c κs. search rules) returns-then-first_word-ne-M_PLACE
-    (λ c. search rules) (λ c. search rules) (λ c. search rules) (λ c. search rules) (λ c κs. search rules) returns)
+    (λ c. search rules) (λ c. search rules) (λ c. search rules) (λ c κs. search rules) returns)

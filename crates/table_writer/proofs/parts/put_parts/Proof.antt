@@ -43,11 +43,11 @@ overflow_add-end c = record { fits = omega (arith, inside c, c.loop-k.invariant.
 offset_bounds-values-start : tie.Need-offset_bounds-values-start invariant-loop-k decreases-loop-k
 offset_bounds-values-start c = let i = inside c.before in let s = c.loop-k.invariant.1 in search rules
 
-part-put_part-start : tie.Need-slice_bounds-put_part-start invariant-loop-k decreases-loop-k
-part-put_part-start c = let i = inside c in let s = c.loop-k.invariant.1 in search rules
+slice_bounds-put_part-start : tie.Need-slice_bounds-put_part-start invariant-loop-k decreases-loop-k
+slice_bounds-put_part-start c = let i = inside c.before in let s = c.loop-k.invariant.1 in search rules
 
-part-put_part-end : tie.Need-slice_bounds-put_part-end invariant-loop-k decreases-loop-k
-part-put_part-end c = let i = inside c in let s = c.loop-k.invariant.1 in search rules
+slice_bounds-put_part-end : tie.Need-slice_bounds-put_part-end invariant-loop-k decreases-loop-k
+slice_bounds-put_part-end c = let i = inside c.before in let s = c.loop-k.invariant.1 in search rules
 
 loop-k-preserved : tie.Need-loop-k-preserved invariant-loop-k decreases-loop-k
 unfolding lengths_are
@@ -83,5 +83,5 @@ pub put_parts_spec : {M : Type 1} → statement M
 put_parts_spec =
     tie.close
     (tie.spec invariant-loop-k decreases-loop-k loop-k-init (λ c. search rules) (λ c. search rules) overflow_add-end (λ c. search rules) (λ c. search rules) (λ c κs. search rules)
-    offset_bounds-values-start (λ c. search rules) part-put_part-start part-put_part-end (λ c κs. search rules) (λ c. search rules) (λ c. search rules) loop-k-preserved
+    offset_bounds-values-start (λ c. search rules) slice_bounds-put_part-start slice_bounds-put_part-end (λ c κs. search rules) (λ c. search rules) (λ c. search rules) loop-k-preserved
     (λ c. search rules) returns)

@@ -46,7 +46,7 @@ module _ (c : tie.After-refuse-r7) where
   known : (rest : List ℕ) → first (settings_refusal S ∷ unless 7 (fits S P t) ∷ rest) ≡ first (c.refuse-r7.result ∷ rest)
   known rest =
       first_known _ _ c₆.settings_refusal-r6.ensures
-      ∙ first_tested _ _ c.refuse-r7.ensures (λ z. c.before.fits2.ensures
+      ∙ first_tested _ _ c.refuse-r7.ensures (λ z. c.fits.ensures
       ∙ ap (lengths_are (part_of S P)) c₆.lengths_of-lengths.ensures ∙ lengths-counted S P (allowed c₆ z) _ ∙ lengths-fit S P t)
 
 returns-then-r7-ne0 : tie.Need-returns-then-r7-ne0

@@ -53,5 +53,5 @@ returns c = let s = c in shown_as (whole s.before.before.before.before.before.be
 pub show_refusal_spec : {M : Type 1} → statement M
 show_refusal_spec =
     tie.close
-    (tie.spec (λ c. search rules) (λ c. search rules) (λ c κs. search rules) (λ c. search rules) (λ c κs. search rules) slice_bounds-line-end
+    (tie.spec (λ c. search rules) (λ c κs. search rules) (λ c. search rules) (λ c κs. search rules) slice_bounds-line-end
     slice_bounds-show-end (λ c κs. search rules) (λ c. search rules) returns)
