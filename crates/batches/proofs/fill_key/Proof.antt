@@ -12,46 +12,46 @@ use borrow.Author.Rules.{rules}
 use Rattle.batches.proofs.fill_key.Statement.{statement}
 use Rattle.batches.proofs.fill_key.Tie as tie
 
-abbrev invariant-loop : tie.invariant-loop
-invariant-loop sums d n from g y₀ k₀ l₀ y k l =
+abbrev invariant-loop-l : tie.invariant-loop-l
+invariant-loop-l sums d n from g y₀ k₀ l₀ y k l =
     (l ≤ 16)
     × ((D : ℕ) → KeyGiven sums d n g × (d ≡ 2 ^ D) × Room D y₀ → Filled D l (λ i. keys_of sums 12289 d n g (from + i)) y)
     × (length y ≡ length y₀) × (length k ≡ width)
 
-abbrev decreases-loop : tie.decreases-loop
-decreases-loop sums d n from g y₀ k₀ l₀ y k l = 16 - l
+abbrev decreases-loop-l : tie.decreases-loop-l
+decreases-loop-l sums d n from g y₀ k₀ l₀ y k l = 16 - l
 
-loop-holds : tie.Need-loop-init invariant-loop decreases-loop
-loop-holds c = (omega arith, (λ D z. filled_none D _ _ z.2), refl, search rules)
+loop-l-init : tie.Need-loop-l-init invariant-loop-l decreases-loop-l
+loop-l-init c = (omega arith, (λ D z. filled_none D _ _ z.2), refl, search rules)
 
-add-put-key : tie.Need-overflow-add-put-key invariant-loop decreases-loop
-add-put-key c = omega (arith, c.before.before.before.before.requires.0)
+overflow_add-from : tie.Need-overflow_add-from invariant-loop-l decreases-loop-l
+overflow_add-from c = omega (arith, c.requires.0)
 
-put-key-requires : tie.Need-put-key-requires invariant-loop decreases-loop
-put-key-requires c κs = (
-  omega (arith, c.before.before.before.before.before.before.requires.0, c.before.before.loop-test.true),
-  c.before.before.before.before.before.before.requires.1,
-  c.before.before.before.before.before.before.requires.2,
-  c.before.before.before.loop.invariant.3,
+put_key-requires : tie.Need-put_key-requires invariant-loop-l decreases-loop-l
+put_key-requires c κs = (
+  omega (arith, c.requires.0, c.loop-l-test.true),
+  c.requires.1,
+  c.requires.2,
+  c.loop-l.invariant.3,
 )
 
-loop-again : tie.Need-loop-preserved invariant-loop decreases-loop
-loop-again c = let a = c.before.before.before.before.before.before.before.before.before.before.args in
-    let l = c.before.before.before.before.before.before.before.loop in
-    let call = c.before.before.before.put-key in (
+loop-l-preserved : tie.Need-loop-l-preserved invariant-loop-l decreases-loop-l
+loop-l-preserved c = let a = c.args in
+    let l = c.loop-l in
+    let call = c.put_key in (
       omega arith,
-      (λ D z. call.ensures D _ (z.0, z.1, c.before.before.before.before.before.before.loop-test.true, refl, l.invariant.1 D z)),
+      (λ D z. call.ensures D _ (z.0, z.1, c.loop-l-test.true, refl, l.invariant.1 D z)),
       search rules,
       search rules,
     )
 
-returns : tie.Need-returns invariant-loop decreases-loop
+returns : tie.Need-returns invariant-loop-l decreases-loop-l
 returns c = λ D z.
-    let l = c.before.loop in
+    let l = c.loop-l in
     let is : l.l ≡ 16 = omega arith in
     rw is at (l.invariant.1 D z)
 
 pub fill_key_spec : {M : Type 1} → statement M
 fill_key_spec =
     tie.close
-    (tie.spec invariant-loop decreases-loop loop-holds add-put-key (λ c. search rules) put-key-requires (λ c. search rules) (λ c. search rules) loop-again (λ c. search rules) returns)
+    (tie.spec invariant-loop-l decreases-loop-l loop-l-init overflow_add-from (λ c. search rules) put_key-requires (λ c. search rules) (λ c. search rules) loop-l-preserved (λ c. search rules) returns)

@@ -3,7 +3,7 @@ use Rattle.batches.proofs.send_batch.Statement.{statement}
 use Rattle.batches.proofs.send_batch.Tie as tie
 
 returns : tie.Need-returns
-returns c = λ z. c.before.before.send.ensures _ (z.2, c.before.before.before.before.before.before.fill-message.ensures _ (z.0, z.1, z.3))
+returns c = λ z. c.send.ensures _ (z.2, c.fill_message.ensures _ (z.0, z.1, z.3))
 
 pub send_batch_spec : {M : Type 1} → statement M
 send_batch_spec =

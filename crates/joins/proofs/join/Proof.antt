@@ -4,25 +4,25 @@ use Rattle.joins.proofs.Joining.{lower-joined, joined_is}
 use Rattle.joins.proofs.join.Statement.{statement}
 use Rattle.joins.proofs.join.Tie as tie
 
-returns-2 : tie.Need-returns-2
-returns-2 c = λ q z h.
-    let a = c.before.before.before.args in
+returns-then-q-lt4294967296 : tie.Need-returns-then-q-lt4294967296
+returns-then-q-lt4294967296 c = λ q z h.
+    let a = c.args in
     let R = h.0 in
-    ap (λ n. c.before.wrapping-add-u64.result % n) R.modulus
+    ap (λ n. c.wrapping_add_u64-lower.result % n) R.modulus
     ∙ lower-joined q R.allowed.positive a.joint.offset R.divided R.allowed.most R.least R.most z a.s a.t h.1
-    (omega (arith, R.modulus)) _ c.before.wrapping-add-u64.ensures
+    (omega (arith, R.modulus)) _ c.wrapping_add_u64-lower.ensures
 
-returns-3 : tie.Need-returns-3
-returns-3 c = λ q z h.
-    let w = c.before.before.before in
-    let a = w.before.before.before.args in
+returns : tie.Need-returns
+returns c = λ q z h.
+    let w = c in
+    let a = w.args in
     let R = h.0 in
-    ap (λ n. c.wrapping-add-u643.result % n) R.modulus
-    ∙ ap (λ n. n % q) c.wrapping-add-u643.ensures
-    ∙ joined_is q R.allowed.positive a.joint.offset R.divided R.allowed.most R.least R.most z a.s a.t h.1 _ _ w.before.wrapping-add-u64.ensures
-    (c.before.multiply.ensures q weight (R.weighted (omega (arith, R.modulus))) ∙ ap (λ n. n * weight % q) c.before.before.wrapping-add-u642.ensures)
+    ap (λ n. c.wrapping_add_u64-2.result % n) R.modulus
+    ∙ ap (λ n. n % q) c.wrapping_add_u64-2.ensures
+    ∙ joined_is q R.allowed.positive a.joint.offset R.divided R.allowed.most R.least R.most z a.s a.t h.1 _ _ w.wrapping_add_u64-lower.ensures
+    (c.multiply-upper.ensures q weight (R.weighted (omega (arith, R.modulus))) ∙ ap (λ n. n * weight % q) c.wrapping_add_u64.ensures)
 
 pub join_spec : {M : Type 1} → statement M
 join_spec =
     tie.close
-    (tie.spec (λ c. search rules) (λ c κs. search rules) (λ c. search rules) returns-2 (λ c κs. search rules) (λ c κs. search rules) (λ c κs. search rules) (λ c. search rules) returns-3)
+    (tie.spec (λ c. search rules) (λ c κs. search rules) (λ c. search rules) returns-then-q-lt4294967296 (λ c κs. search rules) (λ c κs. search rules) (λ c κs. search rules) (λ c. search rules) returns)

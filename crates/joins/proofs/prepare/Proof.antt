@@ -5,12 +5,12 @@ use Rattle.joins.proofs.prepare.Tie as tie
 
 returns : tie.Need-returns
 returns c = λ m.
-    let q = c.before.before.args.q in
+    let q = c.args.q in
     let is = c.multiple.ensures m.positive in
     record {
       allowed = m;
       modulus = refl;
-      weighted = c.before.weight.ensures m;
+      weighted = c.weight.ensures m;
       divided = ap (λ n. n % q) is ∙ multiple-divided q m.positive;
       least = omega (arith, is, mod-lt 9223372036854775808 {m = q} m.positive);
       most = omega (arith, is);

@@ -2,8 +2,8 @@ use Rattle.std.proofs.Common.{rules}
 use Rattle.joins.proofs.weight.Statement.{statement}
 use Rattle.joins.proofs.weight.Tie as tie
 
-returns-2 : tie.Need-returns-2
-returns-2 c = λ m _. c.prepare.ensures m
+returns : tie.Need-returns
+returns c = λ m _. c.prepare.ensures m
 
 pub weight_spec : {M : Type 1} → statement M
-weight_spec = tie.close (tie.spec (λ c. search rules) (λ c κs. search rules) returns-2)
+weight_spec = tie.close (tie.spec (λ c. search rules) (λ c κs. search rules) returns)

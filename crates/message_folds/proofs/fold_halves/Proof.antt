@@ -10,19 +10,19 @@ use borrow.Author.Rules.{rules}
 use Rattle.message_folds.proofs.fold_halves.Statement.{statement}
 use Rattle.message_folds.proofs.fold_halves.Tie as tie
 
-add-part-requires : tie.Need-add-part-requires
-add-part-requires c κs =
-    let s = c.before.before in
+add_part-requires : tie.Need-add_part-requires
+add_part-requires c κs =
+    let s = c in
     let a = s.args in
-    let r = c.before.row-start in
+    let r = c.row_start-s in
     (s.requires.0, s.requires.1, s.requires.2, r.ensures.0, first_apart a.d a.h r.result 0 r.result (a.h * a.d) _ r.ensures.0 (omega arith) (omega arith) (omega (arith, s.requires.4)))
 
-add-part-requires-2 : tie.Need-add-part-requires-2
-add-part-requires-2 c κs =
-    let s = c.before.before.before.before.before in
+add_part-requires-2 : tie.Need-add_part-requires-2
+add_part-requires-2 c κs =
+    let s = c in
     let a = s.args in
-    let r = c.before.before.before.before.row-start in
-    let first = c.before.before.add-part.ensures in (
+    let r = c.row_start-s in
+    let first = c.add_part.ensures in (
       s.requires.0,
       s.requires.1,
       s.requires.2,
@@ -33,16 +33,16 @@ add-part-requires-2 c κs =
 
 returns : tie.Need-returns
 returns c = λ room.
-    let s = c.before.before.before.before.before.before.before in
+    let s = c in
     let a = s.args in
-    let r = c.before.before.before.before.before.before.row-start in
+    let r = c.row_start-s in
     turned-half (pos 0) (λ x. x) (λ x. x) BothSmall a.d a.h a.e r.result 0 r.result (a.h * a.d) s.requires.3 r.ensures.0 (r.ensures.1 s.requires.3) (omega arith)
     a.message.now _ _
-    (omega arith) (omega (arith, s.requires.4)) c.before.before.before.before.add-part.ensures c.before.add-part2.ensures
+    (omega arith) (omega (arith, s.requires.4)) c.add_part.ensures c.add_part-2.ensures
     (λ x y lx ly. record { left = room.each (0 + x) (omega arith); right = room.each (a.h * a.d + y) (omega arith) })
     ∙ folded a.d a.h a.e a.message.now
 
 pub fold_halves_spec : {M : Type 1} → statement M
 fold_halves_spec =
     tie.close
-    (tie.spec (λ c. search rules) (λ c κs. search rules) (λ c. search rules) (λ c. search rules) add-part-requires add-part-requires-2 (λ c. search rules) returns)
+    (tie.spec (λ c. search rules) (λ c κs. search rules) (λ c. search rules) (λ c. search rules) add_part-requires add_part-requires-2 (λ c. search rules) returns)

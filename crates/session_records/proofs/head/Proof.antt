@@ -10,12 +10,12 @@ use Rattle.session_records.proofs.head.Tie as tie
 returns : tie.Need-returns
 unfolding head_of choose
 returns c =
-    let fifth = c.before in
-    let fourth = fifth.before in
-    let third = fourth.before in
-    let second = third.before in
-    let r = second.before.before.before.args.r in
-    λ i. second.before.wide.ensures i ∷ second.wide2.ensures i ∷ r.settings.modulus ∷ third.wide3.ensures i ∷ fourth.wide4.ensures i ∷ fifth.wide5.ensures i ∷ as_number r.closed i ∷ []
+    let fifth = c in
+    let fourth = fifth in
+    let third = fourth in
+    let second = third in
+    let r = second.args.r in
+    λ i. second.wide.ensures i ∷ second.wide-2.ensures i ∷ r.settings.modulus ∷ third.wide-3.ensures i ∷ fourth.wide-4.ensures i ∷ fifth.wide-5.ensures i ∷ as_number r.closed i ∷ []
 
 pub head_spec : {M : Type 1} → statement M
 head_spec = tie.close (tie.spec (λ c κs. search rules) (λ c κs. search rules) (λ c κs. search rules) (λ c κs. search rules) (λ c κs. search rules) (λ c. search rules) returns)

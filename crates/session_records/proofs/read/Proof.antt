@@ -7,19 +7,19 @@ use Rattle.session_records.proofs.read.Tie as tie
 
 returns : tie.Need-returns
 returns c =
-    let fifth = c.before in
-    let read = fifth.before.before in
-    let fourth = read.before in
-    let third = fourth.before.before in
-    let second = third.before.before.before in
-    let first = second.before.before in
-    let t = first.before.before.before.args.t.now in
+    let fifth = c in
+    let read = fifth in
+    let fourth = read in
+    let third = fourth in
+    let second = third in
+    let first = second in
+    let t = first.args.t.now in
     let degree = first.capped.ensures in
-    let depth = second.capped2.ensures in
-    let bound = third.capped3.ensures in
-    let rows = fourth.capped4.ensures in
-    let done = fifth.capped5.ensures in
-    let challenges = read.challenges.ensures in
+    let depth = second.capped-2.ensures in
+    let bound = third.capped-3.ensures in
+    let rows = fourth.capped-4.ensures in
+    let done = fifth.capped-5.ensures in
+    let challenges = read.challenges-e.ensures in
     λ i. record {
       settings = given (degree i) (depth i) (get_or t 2 0) (bound i) (rows i);
       done = done i;

@@ -11,21 +11,21 @@ use borrow.Author.Rules.{rules}
 use Rattle.session_records.proofs.store_blank.Statement.{statement}
 use Rattle.session_records.proofs.store_blank.Tie as tie
 
-returns : tie.Need-returns
-returns c = stays blank c.before.before.args.t.now c.if1.true
+returns-then-t-ne-RECORD : tie.Need-returns-then-t-ne-RECORD
+returns-then-t-ne-RECORD c = stays blank c.args.t.now c.if-t-ne-RECORD.true
 
-returns-2 : tie.Need-returns-2
-returns-2 c =
-    let stored = c.before.before in
-    let none = stored.before.before in
-    let cleared = none.before.before.before in
-    let t = cleared.before.before.before.before.args.t.now in
+returns : tie.Need-returns
+returns c =
+    let stored = c in
+    let none = stored in
+    let cleared = none in
+    let t = cleared.args.t.now in
     let zero = cleared.clear.ensures ∙ ap zeros {x = length t} {y = record_width} (omega arith) in
     stored.store.ensures
-    ∙ (λ i. record_stored (record_of none.blank.result (claims_of (zero i))) (zero i))
-    ∙ ap (λ claims. record_stored (record_of none.blank.result claims) (zeros record_width)) claims-zero
-    ∙ ap (λ r. record_stored r (zeros record_width)) none.blank.ensures
+    ∙ (λ i. record_stored (record_of none.blank-none.result (claims_of (zero i))) (zero i))
+    ∙ ap (λ claims. record_stored (record_of none.blank-none.result claims) (zeros record_width)) claims-zero
+    ∙ ap (λ r. record_stored r (zeros record_width)) none.blank-none.ensures
     ∙ stored-over blank (zeros record_width) t (zeros-length record_width) (omega arith)
 
 pub store_blank_spec : {M : Type 1} → statement M
-store_blank_spec = tie.close (tie.spec returns (λ c κs. search rules) (λ c κs. search rules) (λ c κs. search rules) (λ c. search rules) returns-2)
+store_blank_spec = tie.close (tie.spec returns-then-t-ne-RECORD (λ c κs. search rules) (λ c κs. search rules) (λ c κs. search rules) (λ c. search rules) returns)

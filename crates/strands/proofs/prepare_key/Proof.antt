@@ -9,14 +9,14 @@ use borrow.Author.Rules.{rules}
 use Rattle.strands.proofs.prepare_key.Statement.{statement}
 use Rattle.strands.proofs.prepare_key.Tie as tie
 
-mul_at : tie.Need-overflow-mul-at
-mul_at c = let s = c.before.before.before in omega (arith, place_most s.args.d s.args.n s.args.i s.requires.1 s.requires.0 (omega (arith, s.requires.2)))
+overflow_mul-at : tie.Need-overflow_mul-at
+overflow_mul-at c = let s = c in omega (arith, place_most s.args.d s.args.n s.args.i s.requires.1 s.requires.0 (omega (arith, s.requires.2)))
 
-mul-add-key : tie.Need-overflow-mul-add-key
-mul-add-key c = let s = c.before.before.before.before in omega (arith, place_most s.args.d s.args.n s.args.n s.requires.1 s.requires.0 (omega arith))
+overflow_mul-n : tie.Need-overflow_mul-n
+overflow_mul-n c = let s = c in omega (arith, place_most s.args.d s.args.n s.args.n s.requires.1 s.requires.0 (omega arith))
 
-add-add-key : tie.Need-overflow-add-add-key
-add-add-key c = let s = c.before.before.before.before in
+overflow_add-n : tie.Need-overflow_add-n
+overflow_add-n c = let s = c in
     omega (
       arith,
       place_most s.args.d s.args.n s.args.n s.requires.1 s.requires.0 (omega arith),
@@ -24,36 +24,36 @@ add-add-key c = let s = c.before.before.before.before in
           (omega (arith, s.requires.2)),
     )
 
-returns : tie.Need-returns
-returns c = λ z.
-    let s = c.before.before.before.before.before.before.before.before.before.before.before.before.before in
+returns-then-sums : tie.Need-returns-then-sums
+returns-then-sums c = λ z.
+    let s = c in
     let a = s.args in
-    let t = c.before.before.before.before.before.before.before.before.before.if1.true in
+    let t = c.if-sums.true in
     let given = subst (λ b. KeyGiven b a.q a.d a.n a.g.now) t z.0 in
-    let sum = c.before.before.before.before.before.before.before.add-key.ensures a.n a.i (sums_at a.q a.d a.n a.i a.g.now s.requires.2 given, z.1) in
+    let sum = c.add_key.ensures a.n a.i (sums_at a.q a.d a.n a.i a.g.now s.requires.2 given, z.1) in
     prepared_same a.q a.d given.degree _
     (λ j l. sums-are a.q a.d a.n a.i a.g.now s.requires.2 _ sum j l ∙ ap (λ b. keys_of b a.q a.d a.n a.g.now a.i j) (sym t))
-    (c.before.before.prepare.ensures record {
+    (c.prepare.ensures record {
       degree = given.degree;
       degree_most = omega (arith, given.degree_most);
-      coefficients = omega (arith, z.1, c.before.before.before.before.before.before.before.add-key.auto.1.1.1.1.1.0);
+      coefficients = omega (arith, z.1, c.add_key.auto.k);
       residues = sums-below a.q a.d a.n a.i a.g.now s.requires.2 given _ sum;
       places = z.2;
     })
 
-returns-2 : tie.Need-returns-2
-returns-2 c = λ z. let s = c.before.before.before.before.before in let a = s.args in
-    absurd (omega (arith, part-long a.q a.d a.n a.i a.g.now s.requires.2 (subst (λ b. KeyGiven b a.q a.d a.n a.g.now) c.before.if1.false z.0)))
+returns-then-g-at : tie.Need-returns-then-g-at
+returns-then-g-at c = λ z. let s = c in let a = s.args in
+    absurd (omega (arith, part-long a.q a.d a.n a.i a.g.now s.requires.2 (subst (λ b. KeyGiven b a.q a.d a.n a.g.now) c.if-sums.false z.0)))
 
-returns-3 : tie.Need-returns-3
-returns-3 c = λ z.
-    let s = c.before.before.before.before.before.before.before.before.before.before in
+returns : tie.Need-returns
+returns c = λ z.
+    let s = c in
     let a = s.args in
-    let t = c.before.before.before.before.before.before.if1.false in
+    let t = c.if-sums.false in
     let given = subst (λ b. KeyGiven b a.q a.d a.n a.g.now) t z.0 in
     prepared_same a.q a.d given.degree _
     (λ j l. part_is a.q a.d a.n a.i a.g.now s.requires.2 j l ∙ ap (λ b. keys_of b a.q a.d a.n a.g.now a.i j) (sym t))
-    (c.before.before.prepare2.ensures record {
+    (c.prepare-2.ensures record {
       degree = given.degree;
       degree_most = omega (arith, given.degree_most);
       coefficients = omega (arith, part-long a.q a.d a.n a.i a.g.now s.requires.2 given, tail-length (a.i * a.d) a.g.now);
@@ -64,5 +64,5 @@ returns-3 c = λ z.
 pub prepare_key_spec : {M : Type 1} → statement M
 prepare_key_spec =
     tie.close
-    (tie.spec mul_at mul-add-key add-add-key (λ c κs. search rules) (λ c κs. search rules) (λ c. search) (λ c. search) returns returns-2 (λ c. search rules) (λ c. search rules)
-    (λ c. search rules) (λ c. search rules) (λ c κs. search rules) (λ c. search) returns-3)
+    (tie.spec overflow_mul-at overflow_mul-n overflow_add-n (λ c κs. search rules) (λ c κs. search rules) (λ c. search) (λ c. search) returns-then-sums returns-then-g-at (λ c. search rules) (λ c. search rules)
+    (λ c. search rules) (λ c. search rules) (λ c κs. search rules) (λ c. search) returns)

@@ -11,40 +11,40 @@ use borrow.Author.Rules.{rules}
 use Rattle.strands.proofs.weave.Statement.{statement}
 use Rattle.strands.proofs.weave.Tie as tie
 
-abbrev invariant-loop : tie.invariant-loop
-invariant-loop strands r d a k₀ j₀ k j = (j ≤ d) × (d ≤ length a) × (length k ≡ length k₀) × StrandIn strands r j a k₀ k
+abbrev invariant-loop-j : tie.invariant-loop-j
+invariant-loop-j strands r d a k₀ j₀ k j = (j ≤ d) × (d ≤ length a) × (length k ≡ length k₀) × StrandIn strands r j a k₀ k
 
-abbrev decreases-loop : tie.decreases-loop
-decreases-loop strands r d a k₀ j₀ k j = d - j
+abbrev decreases-loop-j : tie.decreases-loop-j
+decreases-loop-j strands r d a k₀ j₀ k j = d - j
 
-returns : tie.Need-returns invariant-loop decreases-loop
-returns c = λ g. absurd (omega arith)
+returns-then-a-d : tie.Need-returns-then-a-d invariant-loop-j decreases-loop-j
+returns-then-a-d c = λ g. absurd (omega arith)
 
-loop-holds : tie.Need-loop-init invariant-loop decreases-loop
-loop-holds c = let s = c.before in (omega arith, omega arith, search rules, strand-none s.args.strands s.args.r s.requires.1 s.args.a.now s.args.k.now)
+loop-j-init : tie.Need-loop-j-init invariant-loop-j decreases-loop-j
+loop-j-init c = let s = c in (omega arith, omega arith, search rules, strand-none s.args.strands s.args.r s.requires.1 s.args.a.now s.args.k.now)
 
 -- where number j of the strand stands
-mul-k-2 : tie.Need-overflow-mul-k-2 invariant-loop decreases-loop
-mul-k-2 c = let s = c.before.before.before.before in let l = c.before.before.loop in omega (arith, cells_most_lem s.args.strands l.j s.requires.0 (omega (arith, s.requires.2)))
+overflow_mul-k : tie.Need-overflow_mul-k invariant-loop-j decreases-loop-j
+overflow_mul-k c = let s = c in let l = c.loop-j in omega (arith, cells_most_lem s.args.strands l.j s.requires.0 (omega (arith, s.requires.2)))
 
-add-k : tie.Need-overflow-add-k invariant-loop decreases-loop
-add-k c = let s = c.before.before.before.before in let l = c.before.before.loop in omega
+overflow_add-k : tie.Need-overflow_add-k invariant-loop-j decreases-loop-j
+overflow_add-k c = let s = c in let l = c.loop-j in omega
     (arith, cells_most_lem s.args.strands l.j s.requires.0 (omega (arith, s.requires.2)), s.requires.0, s.requires.1)
 
-mul-k-3 : tie.Need-overflow-mul-k-3 invariant-loop decreases-loop
-mul-k-3 c = let s = c.before.before.before.before in let l = c.before.before.loop in omega
+offset_bounds-k-j : tie.Need-offset_bounds-k-j invariant-loop-j decreases-loop-j
+offset_bounds-k-j c = let s = c in let l = c.loop-j in omega
     (arith, cells_most_lem s.args.strands l.j s.requires.0 (omega (arith, s.requires.2)), s.requires.0, s.requires.1)
 
-slice-write-k : tie.Need-slice-write-k invariant-loop decreases-loop
-slice-write-k c =
-    let s = c.before.before.before.before in
-    let l = c.before.before.loop in
+bounds-k-j : tie.Need-bounds-k-j invariant-loop-j decreases-loop-j
+bounds-k-j c =
+    let s = c in
+    let l = c.loop-j in
     omega (arith, cell-inside s.args.strands s.args.d l.j s.args.r (omega arith) s.requires.1, s.requires.3)
 
-loop-again : tie.Need-loop-preserved invariant-loop decreases-loop
-loop-again c =
-    let s = c.before.before.before.before in
-    let l = c.before.before.loop in (
+loop-j-preserved : tie.Need-loop-j-preserved invariant-loop-j decreases-loop-j
+loop-j-preserved c =
+    let s = c in
+    let l = c.loop-j in (
       omega arith,
       omega arith,
       simp length-set (omega arith),
@@ -52,11 +52,11 @@ loop-again c =
           (omega (arith, cell-inside s.args.strands s.args.d l.j s.args.r (omega arith) s.requires.1, s.requires.3)),
     )
 
-returns-2 : tie.Need-returns-2 invariant-loop decreases-loop
-returns-2 c = λ _. let s = c.before.before.before in let l = c.before.loop in subst (λ n. StrandIn s.args.strands s.args.r n s.args.a.now s.args.k.now l.k)
+returns : tie.Need-returns invariant-loop-j decreases-loop-j
+returns c = λ _. let s = c in let l = c.loop-j in subst (λ n. StrandIn s.args.strands s.args.r n s.args.a.now s.args.k.now l.k)
     (omega arith) l.invariant.3
 
 pub weave_spec : {M : Type 1} → statement M
 weave_spec =
     tie.close
-    (tie.spec invariant-loop decreases-loop returns loop-holds (λ c. search rules) (λ c. search rules) mul-k-2 add-k mul-k-3 slice-write-k (λ c. search rules) (λ c. search rules) loop-again (λ c. search) returns-2)
+    (tie.spec invariant-loop-j decreases-loop-j returns-then-a-d loop-j-init (λ c. search rules) (λ c. search rules) overflow_mul-k overflow_add-k offset_bounds-k-j bounds-k-j (λ c. search rules) (λ c. search rules) loop-j-preserved (λ c. search) returns)

@@ -12,28 +12,28 @@ use borrow.Author.Rules.{rules}
 use Rattle.strands.proofs.weave_keys.Statement.{statement}
 use Rattle.strands.proofs.weave_keys.Tie as tie
 
-abbrev invariant-loop : tie.invariant-loop
-invariant-loop sums q d n i strands stride g a₀ k₀ from₀ r₀ a k from r =
+abbrev invariant-loop-r : tie.invariant-loop-r
+invariant-loop-r sums q d n i strands stride g a₀ k₀ from₀ r₀ a k from r =
     (r ≤ strands) × (from ≤ length g) × (length a ≡ length a₀) × (length k ≡ length k₀)
     × ((G : ℕ → List ℕ) → KeyRows sums q d n strands stride g G → d ≤ length a₀ → (r < strands → from ≡ r * stride) × Woven strands r d (λ s. keys_of sums q d n (G s) i) k)
 
-abbrev decreases-loop : tie.decreases-loop
-decreases-loop sums q d n i strands stride g a₀ k₀ from₀ r₀ a k from r = strands - r
+abbrev decreases-loop-r : tie.decreases-loop-r
+decreases-loop-r sums q d n i strands stride g a₀ k₀ from₀ r₀ a k from r = strands - r
 
-loop-holds : tie.Need-loop-init invariant-loop decreases-loop
-loop-holds c = (omega arith, omega arith, refl, refl, λ G z _. (λ _. sym (Nat.zero-mul _), λ s j l _. absurd (omega arith)))
+loop-r-init : tie.Need-loop-r-init invariant-loop-r decreases-loop-r
+loop-r-init c = (omega arith, omega arith, refl, refl, λ G z _. (λ _. sym (Nat.zero-mul _), λ s j l _. absurd (omega arith)))
 
-loop-again : tie.Need-loop-preserved invariant-loop decreases-loop
-loop-again c =
-    let s = c.before.before.before.before.before.before.before.before.before.before.before.before.before.before in
+loop-r-preserved : tie.Need-loop-r-preserved invariant-loop-r decreases-loop-r
+loop-r-preserved c =
+    let s = c in
     let a = s.args in
-    let l = c.before.before.before.before.before.before.before.before.before.before.loop in
-    let move = c.before.before.before.before.before.weave-key in
-    let next = c.further in (
+    let l = c.loop-r in
+    let move = c.weave_key in
+    let next = c.further-from in (
       omega arith,
       next.ensures.0,
-      move.auto.1.1.1.1.1.1.1.1.0 ∙ l.invariant.2,
-      move.auto.1.1.1.1.1.1.1.1.1.0 ∙ l.invariant.3,
+      move.auto.a ∙ l.invariant.2,
+      move.auto.k ∙ l.invariant.3,
       λ G z room.
           let h : l.r < a.strands = omega arith in
           let w = l.invariant.4 G z room in
@@ -49,15 +49,15 @@ loop-again c =
           ),
     )
 
-returns : tie.Need-returns invariant-loop decreases-loop
+returns : tie.Need-returns invariant-loop-r decreases-loop-r
 returns c = λ G z.
-    let s = c.before.before.before.before.before in
+    let s = c in
     let a = s.args in
-    let l = c.before.loop in
+    let l = c.loop-r in
     subst (λ n. Woven a.strands n a.d (λ t. keys_of a.sums a.q a.d a.n (G t) a.i) l.k) (omega arith) (l.invariant.4 G z.0 z.1).1
 
 pub weave_keys_spec : {M : Type 1} → statement M
 weave_keys_spec =
     tie.close
-    (tie.spec invariant-loop decreases-loop loop-holds (λ c. search rules) (λ c. search rules) (λ c. search rules) (λ c. search rules) (λ c κs. search rules) (λ c κs. search rules) (λ c. search rules)
-    (λ c. search rules) loop-again (λ c. search) (λ c. search) returns)
+    (tie.spec invariant-loop-r decreases-loop-r loop-r-init (λ c. search rules) (λ c. search rules) (λ c. search rules) (λ c. search rules) (λ c κs. search rules) (λ c κs. search rules) (λ c. search rules)
+    (λ c. search rules) loop-r-preserved (λ c. search) (λ c. search) returns)

@@ -14,70 +14,70 @@ use Rattle.joins.proofs.elements.join_strand.Tie as tie
 strand-halves : (q c d r k : ℕ) (F : ℕ → Element) (s t : List ℕ) → r < c → k < d → Stand q (d * c) (woven c F) s t → Halves q (F r k) room (get_or s (k * c + r) 0) (get_or t (k * c + r) 0)
 strand-halves q c d r k F s t lr lk S = subst (λ z. Halves q z room (get_or s (k * c + r) 0) (get_or t (k * c + r) 0)) (woven_at c r lr F k) (S.each (k * c + r) (cell-inside c d k r lk lr))
 
-abbrev invariant-loop : tie.invariant-loop
-invariant-loop joint strands r d s t out₀ k₀ out k =
+abbrev invariant-loop-k : tie.invariant-loop-k
+invariant-loop-k joint strands r d s t out₀ k₀ out k =
     (k ≤ d) × (d ≤ width) × (strands ≤ rows_most) × (r < strands) × (d * strands ≤ length s) × (d * strands ≤ length t) × (d ≤ length out₀) × (length out ≡ length out₀)
     × ((q : ℕ) (F : ℕ → Element) → Ready q joint → Stand q (d * strands) (woven strands F) s t → out ≡ filled (λ j. modulo q (F r j)) k out₀)
 
-abbrev decreases-loop : tie.decreases-loop
-decreases-loop joint strands r d s t out₀ k₀ out k = d - k
+abbrev decreases-loop-k : tie.decreases-loop-k
+decreases-loop-k joint strands r d s t out₀ k₀ out k = d - k
 
-returns : tie.Need-returns invariant-loop decreases-loop
-returns c = λ q F g. absurd (omega (arith, g.1.few))
+returns-then-strands-gt-ROWS : tie.Need-returns-then-strands-gt-ROWS invariant-loop-k decreases-loop-k
+returns-then-strands-gt-ROWS c = λ q F g. absurd (omega (arith, g.1.few))
 
-returns-2 : tie.Need-returns-2 invariant-loop decreases-loop
-returns-2 c = λ q F g. absurd (omega (arith, g.1.degree))
+returns-then-d-gt-WIDTH : tie.Need-returns-then-d-gt-WIDTH invariant-loop-k decreases-loop-k
+returns-then-d-gt-WIDTH c = λ q F g. absurd (omega (arith, g.1.degree))
 
-returns-3 : tie.Need-returns-3 invariant-loop decreases-loop
-returns-3 c = λ q F g. absurd (omega (arith, g.1.inside))
+returns-then-r-strands : tie.Need-returns-then-r-strands invariant-loop-k decreases-loop-k
+returns-then-r-strands c = λ q F g. absurd (omega (arith, g.1.inside))
 
-mul-if4 : tie.Need-overflow-mul-if4 invariant-loop decreases-loop
-mul-if4 c = let a = c.before.before.before.before.before.before.args in omega (arith, cells_most_lem a.strands a.d (omega arith) (omega arith))
+overflow_mul-d : tie.Need-overflow_mul-d invariant-loop-k decreases-loop-k
+overflow_mul-d c = let a = c.args in omega (arith, cells_most_lem a.strands a.d (omega arith) (omega arith))
 
-returns-4 : tie.Need-returns-4 invariant-loop decreases-loop
-returns-4 c = λ q F g. absurd (omega (arith, g.2.lowers))
+returns-then-s-d : tie.Need-returns-then-s-d invariant-loop-k decreases-loop-k
+returns-then-s-d c = λ q F g. absurd (omega (arith, g.2.lowers))
 
-mul-if5 : tie.Need-overflow-mul-if5 invariant-loop decreases-loop
-mul-if5 c = let a = c.before.before.before.before.before.before.before.args in omega (arith, cells_most_lem a.strands a.d (omega arith) (omega arith))
+overflow_mul-d-2 : tie.Need-overflow_mul-d-2 invariant-loop-k decreases-loop-k
+overflow_mul-d-2 c = let a = c.args in omega (arith, cells_most_lem a.strands a.d (omega arith) (omega arith))
 
-returns-5 : tie.Need-returns-5 invariant-loop decreases-loop
-returns-5 c = λ q F g. absurd (omega (arith, g.2.uppers))
+returns-then-t-d : tie.Need-returns-then-t-d invariant-loop-k decreases-loop-k
+returns-then-t-d c = λ q F g. absurd (omega (arith, g.2.uppers))
 
-returns-6 : tie.Need-returns-6 invariant-loop decreases-loop
-returns-6 c = λ q F g. absurd (omega (arith, g.1.room))
+returns-then-out-d : tie.Need-returns-then-out-d invariant-loop-k decreases-loop-k
+returns-then-out-d c = λ q F g. absurd (omega (arith, g.1.room))
 
-loop-holds : tie.Need-loop-init invariant-loop decreases-loop
-loop-holds c = (omega arith, omega arith, omega arith, omega arith, omega arith, omega arith, omega arith, search rules, λ q F R S. filled_none _ _)
+loop-k-init : tie.Need-loop-k-init invariant-loop-k decreases-loop-k
+loop-k-init c = (omega arith, omega arith, omega arith, omega arith, omega arith, omega arith, omega arith, search rules, λ q F R S. filled_none _ _)
 
 -- where number k of the strand stands
-mul_at : tie.Need-overflow-mul-at invariant-loop decreases-loop
-mul_at c = let l = c.before.loop in omega (arith, cells_most_lem _ l.k l.invariant.2 (omega arith))
+overflow_mul-at : tie.Need-overflow_mul-at invariant-loop-k decreases-loop-k
+overflow_mul-at c = let l = c.loop-k in omega (arith, cells_most_lem _ l.k l.invariant.2 (omega arith))
 
-add_at : tie.Need-overflow-add-at invariant-loop decreases-loop
-add_at c = let l = c.before.loop in omega (arith, cells_most_lem _ l.k l.invariant.2 (omega arith))
+overflow_add-at : tie.Need-overflow_add-at invariant-loop-k decreases-loop-k
+overflow_add-at c = let l = c.loop-k in omega (arith, cells_most_lem _ l.k l.invariant.2 (omega arith))
 
-mul-join : tie.Need-overflow-mul-join invariant-loop decreases-loop
-mul-join c = let l = c.before.loop in omega (arith, cells_most_lem _ l.k l.invariant.2 (omega arith))
+offset_bounds-s-at : tie.Need-offset_bounds-s-at invariant-loop-k decreases-loop-k
+offset_bounds-s-at c = let l = c.loop-k in omega (arith, cells_most_lem _ l.k l.invariant.2 (omega arith))
 
-mul-join-2 : tie.Need-overflow-mul-join-2 invariant-loop decreases-loop
-mul-join-2 c = let l = c.before.before.loop in omega (arith, cells_most_lem _ l.k l.invariant.2 (omega arith))
+offset_bounds-t-at : tie.Need-offset_bounds-t-at invariant-loop-k decreases-loop-k
+offset_bounds-t-at c = let l = c.loop-k in omega (arith, cells_most_lem _ l.k l.invariant.2 (omega arith))
 
-shared-slice-read-join : tie.Need-shared-slice-read-join invariant-loop decreases-loop
-shared-slice-read-join c =
-    let l = c.before.before.loop in
-    let a = c.before.before.before.before.before.before.before.before.before.before.before.before.args in
+bounds-s-at : tie.Need-bounds-s-at invariant-loop-k decreases-loop-k
+bounds-s-at c =
+    let l = c.loop-k in
+    let a = c.args in
     omega (arith, cell-inside a.strands a.d l.k a.r (omega arith) l.invariant.3)
 
-shared-slice-read-join-2 : tie.Need-shared-slice-read-join-2 invariant-loop decreases-loop
-shared-slice-read-join-2 c =
-    let l = c.before.before.before.loop in
-    let a = c.before.before.before.before.before.before.before.before.before.before.before.before.before.args in
+bounds-t-at : tie.Need-bounds-t-at invariant-loop-k decreases-loop-k
+bounds-t-at c =
+    let l = c.loop-k in
+    let a = c.args in
     omega (arith, cell-inside a.strands a.d l.k a.r (omega arith) l.invariant.3)
 
-loop-again : tie.Need-loop-preserved invariant-loop decreases-loop
-loop-again c =
-    let l = c.before.before.before.before.loop in
-    let a = c.before.before.before.before.before.before.before.before.before.before.before.before.before.before.args in (
+loop-k-preserved : tie.Need-loop-k-preserved invariant-loop-k decreases-loop-k
+loop-k-preserved c =
+    let l = c.loop-k in
+    let a = c.args in (
       omega arith,
       l.invariant.1,
       l.invariant.2,
@@ -91,11 +91,11 @@ loop-again c =
           (omega arith),
     )
 
-returns-7 : tie.Need-returns-7 invariant-loop decreases-loop
-returns-7 c = λ q F g. let l = c.before.loop in filled-end _ _ (l.invariant.8 q F g.0 g.2) (omega arith)
+returns : tie.Need-returns invariant-loop-k decreases-loop-k
+returns c = λ q F g. let l = c.loop-k in filled-end _ _ (l.invariant.8 q F g.0 g.2) (omega arith)
 
 pub join_strand_spec : {M : Type 1} → statement M
 join_strand_spec =
     tie.close
-    (tie.spec invariant-loop decreases-loop returns returns-2 returns-3 mul-if4 returns-4 mul-if5 returns-5 returns-6 loop-holds mul_at add_at mul-join shared-slice-read-join
-    mul-join-2 shared-slice-read-join-2 (λ c κs. search rules) (λ c. search rules) (λ c. search rules) (λ c. search rules) (λ c. search rules) loop-again (λ c. search rules) returns-7)
+    (tie.spec invariant-loop-k decreases-loop-k returns-then-strands-gt-ROWS returns-then-d-gt-WIDTH returns-then-r-strands overflow_mul-d returns-then-s-d overflow_mul-d-2 returns-then-t-d returns-then-out-d loop-k-init overflow_mul-at overflow_add-at offset_bounds-s-at bounds-s-at
+    offset_bounds-t-at bounds-t-at (λ c κs. search rules) (λ c. search rules) (λ c. search rules) (λ c. search rules) (λ c. search rules) loop-k-preserved (λ c. search rules) returns)

@@ -12,7 +12,7 @@ use Rattle.refusals.proofs.judge.growth_allowed.Tie as tie
 
 returns : tie.Need-returns
 unfolding growth_limit
-returns c e = let S = c.before.args.settings in ap (λ g. leb g growth_limit) (c.growth.ensures e) ∙ growth-capped S (omega (arith, degree_least S (settings-valid S e)))
+returns c e = let S = c.args.settings in ap (λ g. leb g growth_limit) (c.growth.ensures e) ∙ growth-capped S (omega (arith, degree_least S (settings-valid S e)))
 
 pub growth_allowed_spec : {M : Type 1} → statement M
 growth_allowed_spec = tie.close (tie.spec (λ c κs. search rules) returns)

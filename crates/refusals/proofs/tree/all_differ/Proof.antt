@@ -11,25 +11,25 @@ use Rattle.ranges.proofs.Scan.{every-none, every_goes_on, every_fails, every_end
 use Rattle.refusals.proofs.tree.all_differ.Statement.{statement}
 use Rattle.refusals.proofs.tree.all_differ.Tie as tie
 
-abbrev invariant-loop : tie.invariant-loop
-invariant-loop nodes challenges k₀ k = (k ≤ nodes) × (every k (apart challenges) ≡ true)
+abbrev invariant-loop-k : tie.invariant-loop-k
+invariant-loop-k nodes challenges k₀ k = (k ≤ nodes) × (every k (apart challenges) ≡ true)
 
-abbrev decreases-loop : tie.decreases-loop
-decreases-loop nodes challenges k₀ k = nodes - k
+abbrev decreases-loop-k : tie.decreases-loop-k
+decreases-loop-k nodes challenges k₀ k = nodes - k
 
-loop-holds : tie.Need-loop-init invariant-loop decreases-loop
-loop-holds c = (omega arith, every-none _)
+loop-k-init : tie.Need-loop-k-init invariant-loop-k decreases-loop-k
+loop-k-init c = (omega arith, every-none _)
 
-returns : tie.Need-returns invariant-loop decreases-loop
-returns c = every_fails _ _ c.before.before.before.loop.k (omega arith) (sym c.before.differ.ensures ∙ not-true _ c.if1.true)
+returns-then-not-differ : tie.Need-returns-then-not-differ invariant-loop-k decreases-loop-k
+returns-then-not-differ c = every_fails _ _ c.loop-k.k (omega arith) (sym c.differ.ensures ∙ not-true _ c.if-not-differ.true-raw)
 
-loop-again : tie.Need-loop-preserved invariant-loop decreases-loop
-loop-again c = let l = c.before.before.before.loop in (omega arith, every_goes_on _ l.k l.invariant.1 (sym c.before.differ.ensures ∙ not-false _ c.if1.false))
+loop-k-preserved : tie.Need-loop-k-preserved invariant-loop-k decreases-loop-k
+loop-k-preserved c = let l = c.loop-k in (omega arith, every_goes_on _ l.k l.invariant.1 (sym c.differ.ensures ∙ not-false _ c.if-not-differ.false-raw))
 
-returns-2 : tie.Need-returns-2 invariant-loop decreases-loop
-returns-2 c = let l = c.before.loop in every_ends _ _ l.k l.invariant.1 (omega arith)
+returns : tie.Need-returns invariant-loop-k decreases-loop-k
+returns c = let l = c.loop-k in every_ends _ _ l.k l.invariant.1 (omega arith)
 
 pub all_differ_spec : {M : Type 1} → statement M
 all_differ_spec =
     tie.close
-    (tie.spec invariant-loop decreases-loop loop-holds (λ c κs. omega arith) returns (λ c. search rules) (λ c. search rules) loop-again returns-2)
+    (tie.spec invariant-loop-k decreases-loop-k loop-k-init (λ c κs. omega arith) returns-then-not-differ (λ c. search rules) (λ c. search rules) loop-k-preserved returns)

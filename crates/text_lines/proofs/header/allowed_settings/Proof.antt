@@ -5,20 +5,20 @@ use Rattle.text_lines.proofs.Looked.{begun_refused, begun_granted}
 use Rattle.text_lines.proofs.header.allowed_settings.Statement.{statement}
 use Rattle.text_lines.proofs.header.allowed_settings.Tie as tie
 
-returns : tie.Need-returns
-returns c =
-    let s = c.before.before in
-    let h = s.before.before in (
-      begun_refused _ h.read-header.result h.read-header.ensures c.read-settings.result c.read-settings.ensures (λ e. c.before.if1.true (s.settings-refusal.ensures ∙ e)),
-      ap (λ x. x.next) h.read-header.ensures,
+returns-then-settings_refusal-ne0 : tie.Need-returns-then-settings_refusal-ne0
+returns-then-settings_refusal-ne0 c =
+    let s = c in
+    let h = s in (
+      begun_refused _ h.read_header-header.result h.read_header-header.ensures c.read_settings-loaded.result c.read_settings-loaded.ensures (λ e. c.if-settings_refusal-ne0.true (s.settings_refusal.ensures ∙ e)),
+      ap (λ x. x.next) h.read_header-header.ensures,
     )
 
-returns-2 : tie.Need-returns-2
-returns-2 c =
-    let h = c.before.before.before in (
-      begun_granted _ h.read-header.result h.read-header.ensures (sym c.before.settings-refusal.ensures ∙ c.if1.false),
-      ap (λ x. x.next) h.read-header.ensures,
+returns : tie.Need-returns
+returns c =
+    let h = c in (
+      begun_granted _ h.read_header-header.result h.read_header-header.ensures (sym c.settings_refusal.ensures ∙ c.if-settings_refusal-ne0.false),
+      ap (λ x. x.next) h.read_header-header.ensures,
     )
 
 pub allowed_settings_spec : {M : Type 1} → statement M
-allowed_settings_spec = tie.close (tie.spec (λ c κs. search rules) (λ c κs. search rules) (λ c κs. search rules) returns returns-2)
+allowed_settings_spec = tie.close (tie.spec (λ c κs. search rules) (λ c κs. search rules) (λ c κs. search rules) returns-then-settings_refusal-ne0 returns)

@@ -4,11 +4,11 @@ use borrow.Author.Rules.{rules}
 use Rattle.text_lines.proofs.header.no_header.Statement.{statement}
 use Rattle.text_lines.proofs.header.no_header.Tie as tie
 
-no-settings-requires : tie.Need-no-settings-requires
-no-settings-requires c κs = search rules
+no_settings-settings-requires : tie.Need-no_settings-settings-requires
+no_settings-settings-requires c κs = search rules
 
 returns : tie.Need-returns
-returns c = λ j. record { found = false; settings = c.no-settings.ensures j; next = 0 }
+returns c = λ j. record { found = false; settings = c.no_settings-settings.ensures j; next = 0 }
 
 pub no_header_spec : {M : Type 1} → statement M
-no_header_spec = tie.close (tie.spec no-settings-requires returns)
+no_header_spec = tie.close (tie.spec no_settings-settings-requires returns)

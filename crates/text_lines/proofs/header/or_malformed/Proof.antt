@@ -6,16 +6,16 @@ use Rattle.protocol.specs.Basic.{choose}
 use Rattle.text_lines.proofs.header.or_malformed.Statement.{statement}
 use Rattle.text_lines.proofs.header.or_malformed.Tie as tie
 
-all-lines-requires : tie.Need-all-lines-requires
-all-lines-requires c κs = search rules
+all_lines-requires : tie.Need-all_lines-requires
+all_lines-requires c κs = search rules
+
+returns-then-not-all_lines : tie.Need-returns-then-not-all_lines
+unfolding choose
+returns-then-not-all_lines c = sym (ap (λ b. choose b c.args.refusal 2) (sym c.all_lines.ensures ∙ not-true _ c.if-not-all_lines.true-raw))
 
 returns : tie.Need-returns
 unfolding choose
-returns c = sym (ap (λ b. choose b c.before.before.before.args.refusal 2) (sym c.before.all_lines.ensures ∙ not-true _ c.if1.true))
-
-returns-2 : tie.Need-returns-2
-unfolding choose
-returns-2 c = sym (ap (λ b. choose b c.before.before.before.args.refusal 2) (sym c.before.all_lines.ensures ∙ not-false _ c.if1.false))
+returns c = sym (ap (λ b. choose b c.args.refusal 2) (sym c.all_lines.ensures ∙ not-false _ c.if-not-all_lines.false-raw))
 
 pub or_malformed_spec : {M : Type 1} → statement M
-or_malformed_spec = tie.close (tie.spec all-lines-requires returns returns-2)
+or_malformed_spec = tie.close (tie.spec all_lines-requires returns-then-not-all_lines returns)

@@ -15,32 +15,32 @@ unfolding value_limit
 past_fits most h = record { fits = omega arith }
 
 -- a value that is not below zero
-from_zero : (c : tie.Else1) → (n : ℕ) × (c.before.args.value ≡ pos n) × (n < 2 ^ 63)
-from_zero c = word-from _ c.before.ranges.value c.if1.false
+from_zero : (c : tie.Else-value-lt0) → (n : ℕ) × (c.args.value ≡ pos n) × (n < 2 ^ 63)
+from_zero c = word-from _ c.ranges.value c.if-value-lt0.false
+
+returns-then-value-lt0 : tie.Need-returns-then-value-lt0
+unfolding unsigned
+returns-then-value-lt0 c = omega arith ∙ sym (ap (unsigned c.args.most) (word_below _ c.ranges.value c.if-value-lt0.true).1)
+
+overflow_cast-value : tie.Need-overflow_cast-value
+overflow_cast-value c = let (n, e, h) = from_zero c in word-cast _ n e h w64 (record { fits = omega arith })
+
+returns-then-value-most : tie.Need-returns-then-value-most
+unfolding unsigned
+returns-then-value-most c =
+    let (n, e, h) = from_zero c.before in
+    omega (arith, word_value _ n e h) ∙ sym (ap (unsigned c.args.most) e)
+
+overflow_cast-result : tie.Need-overflow_cast-result
+overflow_cast-result c = let (n, e, h) = from_zero c.before in word-cast _ n e h w64 (record { fits = omega arith })
 
 returns : tie.Need-returns
 unfolding unsigned
-returns c = omega arith ∙ sym (ap (unsigned c.before.args.most) (word_below _ c.before.ranges.value c.if1.true).1)
-
-cast-if2 : tie.Need-overflow-cast-if2
-cast-if2 c = let (n, e, h) = from_zero c in word-cast _ n e h w64 (record { fits = omega arith })
-
-returns-2 : tie.Need-returns-2
-unfolding unsigned
-returns-2 c =
+returns c =
     let (n, e, h) = from_zero c.before in
-    omega (arith, word_value _ n e h) ∙ sym (ap (unsigned c.before.before.args.most) e)
-
-cast-result : tie.Need-overflow-cast-result
-cast-result c = let (n, e, h) = from_zero c.before in word-cast _ n e h w64 (record { fits = omega arith })
-
-returns-3 : tie.Need-returns-3
-unfolding unsigned
-returns-3 c =
-    let (n, e, h) = from_zero c.before in
-    omega (arith, word_value _ n e h) ∙ sym (ap (unsigned c.before.before.args.most) e)
+    omega (arith, word_value _ n e h) ∙ sym (ap (unsigned c.args.most) e)
 
 pub unsigned_spec : {M : Type 1} → statement M
 unsigned_spec =
     tie.close
-    (tie.spec (λ c. past_fits _ c.before.requires) returns cast-if2 (λ c. past_fits _ c.before.before.requires) returns-2 cast-result returns-3)
+    (tie.spec (λ c. past_fits _ c.requires) returns-then-value-lt0 overflow_cast-value (λ c. past_fits _ c.requires) returns-then-value-most overflow_cast-result returns)

@@ -14,20 +14,20 @@ unfolding unsigned
 past most (pos n) = omega arith
 past most (negsuc n) = omega arith
 
-given : (c : tie.After-unsigned) → c.unsigned.result ≡ unsigned narrow_limit c.before.args.value
+given : (c : tie.After-unsigned) → c.unsigned.result ≡ unsigned narrow_limit c.args.value
 unfolding narrow_limit
-given c = c.unsigned.ensures ∙ ap (unsigned narrow_limit) (to_z-of_z c.before.ranges.value)
+given c = c.unsigned.ensures ∙ ap (unsigned narrow_limit) (to_z-of_z c.ranges.value)
 
 unsigned-requires : tie.Need-unsigned-requires
 unfolding value_limit
 unsigned-requires c κs = omega arith
 
-cast-result : tie.Need-overflow-cast-result
+overflow_cast-result : tie.Need-overflow_cast-result
 unfolding narrow_limit
-cast-result c = record { fits = omega (arith, given c, past narrow_limit c.before.args.value) }
+overflow_cast-result c = record { fits = omega (arith, given c, past narrow_limit c.args.value) }
 
 returns : tie.Need-returns
 returns c = given c
 
 pub unsigned_narrow_spec : {M : Type 1} → statement M
-unsigned_narrow_spec = tie.close (tie.spec (λ c. search rules) unsigned-requires cast-result returns)
+unsigned_narrow_spec = tie.close (tie.spec (λ c. search rules) unsigned-requires overflow_cast-result returns)

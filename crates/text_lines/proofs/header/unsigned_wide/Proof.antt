@@ -12,7 +12,7 @@ unsigned-requires c κs = omega arith
 
 returns : tie.Need-returns
 unfolding value_limit
-returns c = c.unsigned.ensures ∙ ap (unsigned value_limit) (to_z-of_z c.before.ranges.value)
+returns c = c.unsigned.ensures ∙ ap (unsigned value_limit) (to_z-of_z c.ranges.value)
 
 pub unsigned_wide_spec : {M : Type 1} → statement M
 unsigned_wide_spec = tie.close (tie.spec unsigned-requires returns)

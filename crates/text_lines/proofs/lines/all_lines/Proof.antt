@@ -12,60 +12,60 @@ use Rattle.text_lines.proofs.Rows.{present-bind, line, line_found, line_missed, 
 use Rattle.text_lines.proofs.lines.all_lines.Statement.{statement}
 use Rattle.text_lines.proofs.lines.all_lines.Tie as tie
 
-abbrev invariant-loop : tie.invariant-loop
-invariant-loop text from at₀ at = present (all_lines (drop from text)) ≡ present (all_lines (drop at text))
+abbrev invariant-loop-at : tie.invariant-loop-at
+invariant-loop-at text from at₀ at = present (all_lines (drop from text)) ≡ present (all_lines (drop at text))
 
-abbrev decreases-loop : tie.decreases-loop
-decreases-loop text from at₀ at = length text - at
+abbrev decreases-loop-at : tie.decreases-loop-at
+decreases-loop-at text from at₀ at = length text - at
 
 -- the line that was read
-module _ (c : tie.After-known-told invariant-loop decreases-loop) where
+module _ (c : tie.In-Found invariant-loop-at decreases-loop-at) where
   abbrev text : List ℕ
-  text = c.before.before.before.before.before.before.before.args.text.now
+  text = c.args.text.now
 
   abbrev at : ℕ
-  at = c.before.before.before.before.before.loop.at
+  at = c.loop-at.at
 
   abbrev next : ℕ
-  next = c.before.next.given.0.1.1.1.1.0
+  next = c.in-Found.next
 
   abbrev read : Line
-  read = let g = c.before.next.given.0 in line g.0 g.1.0 g.1.1.0 g.1.1.1.0
+  read = let g = c.next-1.given.0 in line g.0 g.1.0 g.1.1.0 g.1.1.1.0
 
   got : Found read_line text at read next
-  got = let g = c.before.next.given.0 in line_found text at g.0 g.1.0 g.1.1.0 g.1.1.1.0 next (sym c.before.before.before.read-line.ensures.0 ∙ c.before.next.given.1)
+  got = let g = c.next-1.given.0 in line_found text at g.0 g.1.0 g.1.1.0 g.1.1.1.0 next (sym c.read_line.ensures.0 ∙ c.in-Found.is)
 
   rises : at < next
   rises = omega (arith, line_shorter (drop at text) read (drop next text) got.is, length-drop at text, length-drop next text, got.within)
 
-loop-holds : tie.Need-loop-init invariant-loop decreases-loop
-loop-holds c = refl
+loop-at-init : tie.Need-loop-at-init invariant-loop-at decreases-loop-at
+loop-at-init c = refl
 
-returns : tie.Need-returns invariant-loop decreases-loop
+returns-in_default : tie.Need-returns-in_default invariant-loop-at decreases-loop-at
 unfolding present
-returns c =
-    let l = c.before.before.before.before.loop in
-    let t = c.before.before.before.before.before.before.args.text.now in
+returns-in_default c =
+    let l = c.loop-at in
+    let t = c.args.text.now in
     let some_left : 0 < length (drop l.at t) = omega (arith, length-drop l.at t) in
-    let missed = line_missed t l.at (sym c.before.before.read-line.ensures.0 ∙ c.enum_told.given.1) in
+    let missed = line_missed t l.at (sym c.read_line.ensures.0 ∙ c.in_default.is) in
     sym (l.invariant ∙ ap present (all_none (drop l.at t) some_left missed))
 
-loop-less : tie.Need-loop-smaller invariant-loop decreases-loop
-loop-less c = omega (arith, rises c, (got c).within)
+loop-at-smaller : tie.Need-loop-at-smaller invariant-loop-at decreases-loop-at
+loop-at-smaller c = omega (arith, rises c, (got c).within)
 
-loop-again : tie.Need-loop-preserved invariant-loop decreases-loop
-loop-again c =
-    let l = c.before.before.before.before.before.loop in
+loop-at-preserved : tie.Need-loop-at-preserved invariant-loop-at decreases-loop-at
+loop-at-preserved c =
+    let l = c.loop-at in
     l.invariant ∙ ap present (all_next (drop (at c) (text c)) (read c) (drop (next c) (text c)) (got c).is) ∙ present-bind (all_lines (drop (next c) (text c))) (λ ls. read c ∷ ls)
 
-returns-2 : tie.Need-returns-2 invariant-loop decreases-loop
+returns : tie.Need-returns invariant-loop-at decreases-loop-at
 unfolding present
-returns-2 c =
-    let l = c.before.loop in
-    let t = c.before.before.before.args.text.now in
+returns c =
+    let l = c.loop-at in
+    let t = c.args.text.now in
     sym (l.invariant ∙ ap (λ bs. present (all_lines bs)) (drop_of_length-le t {i = l.at} (omega arith)) ∙ ap present all_end)
 
 pub all_lines_spec : {M : Type 1} → statement M
 all_lines_spec =
     tie.close
-    (tie.spec invariant-loop decreases-loop loop-holds (λ c κs. search rules) (λ c. search rules) (λ c. search rules) returns loop-less loop-again returns-2)
+    (tie.spec invariant-loop-at decreases-loop-at loop-at-init (λ c κs. search rules) (λ c. search rules) (λ c. search rules) returns-in_default loop-at-smaller loop-at-preserved returns)

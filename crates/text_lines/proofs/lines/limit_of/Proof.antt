@@ -14,20 +14,20 @@ others : (part : ℕ) → ¬ (part ≡ 2) → ¬ (part ≡ 5) → ¬ (part ≡ 6
 unfolding limit_of among choose value_limit
 others part a b c = rw (ne_eqb part 2 a, ne_eqb part 5 b, ne_eqb part 6 c)
 
-returns : tie.Need-returns
+returns-in-2 : tie.Need-returns-in-2
 unfolding limit_of among choose narrow_limit
-returns c = sym (ap limit_of c.match.keys1)
+returns-in-2 c = sym (ap limit_of c.in-2.is)
 
-returns-2 : tie.Need-returns-2
+returns-in-5 : tie.Need-returns-in-5
 unfolding limit_of among choose narrow_limit
-returns-2 c = sym (ap limit_of c.match.keys2)
+returns-in-5 c = sym (ap limit_of c.in-5.is)
 
-returns-3 : tie.Need-returns-3
+returns-in-6 : tie.Need-returns-in-6
 unfolding limit_of among choose narrow_limit
-returns-3 c = sym (ap limit_of c.match.keys3)
+returns-in-6 c = sym (ap limit_of c.in-6.is)
 
-returns-4 : tie.Need-returns-4
-returns-4 c = sym (others _ (λ e. absurd (omega arith)) (λ e. absurd (omega arith)) (λ e. absurd (omega arith)))
+returns-in_default : tie.Need-returns-in_default
+returns-in_default c = sym (others _ (λ e. absurd (omega arith)) (λ e. absurd (omega arith)) (λ e. absurd (omega arith)))
 
 pub limit_of_spec : {M : Type 1} → statement M
-limit_of_spec = tie.close (tie.spec (λ c. search rules) (λ c. search rules) (λ c. search rules) returns returns-2 returns-3 returns-4)
+limit_of_spec = tie.close (tie.spec (λ c. search rules) (λ c. search rules) (λ c. search rules) returns-in-2 returns-in-5 returns-in-6 returns-in_default)

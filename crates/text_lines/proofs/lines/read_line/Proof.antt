@@ -23,43 +23,43 @@ use Rattle.text_lines.proofs.lines.read_line.Statement.{statement}
 use Rattle.text_lines.proofs.lines.read_line.Tie as tie
 
 -- the part
-module _ (c : tie.After-known-told) where
+module _ (c : tie.In-Value) where
   abbrev text : List ℕ
-  text = c.before.before.before.before.before.args.text.now
+  text = c.args.text.now
 
   abbrev at : ℕ
-  at = c.before.before.before.before.before.args.at
+  at = c.args.at
 
   abbrev on₁ : ℕ
-  on₁ = c.before.part.given.0.1.0
+  on₁ = c.in-Value.item_on
 
-  part : (n : ℕ) × (c.before.part.given.0.0 ≡ pos n) × Found read_index text at n on₁
-  part = columned text at c.before.part.given.0.0 on₁ (sym c.before.before.before.read-index.ensures.0 ∙ c.before.part.given.1)
+  part : (n : ℕ) × (c.in-Value.part ≡ pos n) × Found read_index text at n on₁
+  part = columned text at c.in-Value.part on₁ (sym c.read_index.ensures.0 ∙ c.in-Value.is)
 
   part_small : part.0 ≤ narrow_limit
   part_small = column_small (drop at text) part.0 (drop on₁ text) part.2.is
 
-  first : nat_abs (to_z w64 (of_z w64 c.before.part.given.0.0)) ≡ part.0
+  first : nat_abs (to_z w64 (of_z w64 c.in-Value.part)) ≡ part.0
   first = narrow-value _ part.0 part.1 part_small
 
   left₁ : read_line (drop at text) ≡ line₁ (part.0, drop on₁ text)
   left₁ = line-columns (drop at text) ∙ bind-some _ _ line₁ part.2.is
 
 -- the item
-module _ (c : tie.After-known-told2) where
-  abbrev from₁ : tie.After-known-told
+module _ (c : tie.In-Value-read_index) where
+  abbrev from₁ : tie.In-Value
   from₁ = c.before.before.before.before
 
   abbrev on₂ : ℕ
-  on₂ = c.before.item.given.0.1.0
+  on₂ = c.in-Value-read_index.place_on
 
-  item : (n : ℕ) × (c.before.item.given.0.0 ≡ pos n) × Found read_index (text from₁) (on₁ from₁) n on₂
-  item = columned (text from₁) (on₁ from₁) c.before.item.given.0.0 on₂ (sym c.before.before.before.read-index2.ensures.0 ∙ c.before.item.given.1)
+  item : (n : ℕ) × (c.in-Value-read_index.item ≡ pos n) × Found read_index (text from₁) (on₁ from₁) n on₂
+  item = columned (text from₁) (on₁ from₁) c.in-Value-read_index.item on₂ (sym c.read_index-2.ensures.0 ∙ c.in-Value-read_index.is)
 
   item_small : item.0 ≤ narrow_limit
   item_small = column_small (drop (on₁ from₁) (text from₁)) item.0 (drop on₂ (text from₁)) item.2.is
 
-  second : nat_abs (to_z w64 (of_z w64 c.before.item.given.0.0)) ≡ item.0
+  second : nat_abs (to_z w64 (of_z w64 c.in-Value-read_index.item)) ≡ item.0
   second = narrow-value _ item.0 item.1 item_small
 
   left₂ : read_line (drop (at from₁) (text from₁)) ≡ line₂ (part from₁).0 (item.0, drop on₂ (text from₁))
@@ -67,26 +67,26 @@ module _ (c : tie.After-known-told2) where
   left₂ = left₁ from₁ ∙ bind-some _ _ (line₂ (part from₁).0) item.2.is
 
 -- the place
-module _ (c : tie.After-known-told3) where
-  abbrev from₂ : tie.After-known-told2
+module _ (c : tie.In-Value-read_index-2) where
+  abbrev from₂ : tie.In-Value-read_index
   from₂ = c.before.before.before.before
 
   abbrev text₂ : List ℕ
   text₂ = text (from₁ from₂)
 
   abbrev on₃ : ℕ
-  on₃ = c.before.place.given.0.1.0
+  on₃ = c.in-Value-read_index-2.value_on
 
-  place : (n : ℕ) × (c.before.place.given.0.0 ≡ pos n) × Found read_index text₂ (on₂ from₂) n on₃
-  place = columned text₂ (on₂ from₂) c.before.place.given.0.0 on₃ (sym c.before.before.before.read-index3.ensures.0 ∙ c.before.place.given.1)
+  place : (n : ℕ) × (c.in-Value-read_index-2.place ≡ pos n) × Found read_index text₂ (on₂ from₂) n on₃
+  place = columned text₂ (on₂ from₂) c.in-Value-read_index-2.place on₃ (sym c.read_index-3.ensures.0 ∙ c.in-Value-read_index-2.is)
 
   place_small : place.0 ≤ narrow_limit
   place_small = column_small (drop (on₂ from₂) text₂) place.0 (drop on₃ text₂) place.2.is
 
-  third : nat_abs (to_z w64 (of_z w64 c.before.place.given.0.0)) ≡ place.0
+  third : nat_abs (to_z w64 (of_z w64 c.in-Value-read_index-2.place)) ≡ place.0
   third = narrow-value _ place.0 place.1 place_small
 
-  part-value : (r : Number) → r ≡ read_number_at (limit_of (nat_abs (to_z w64 (of_z w64 (from₁ from₂).before.part.given.0.0)))) text₂ on₃
+  part-value : (r : Number) → r ≡ read_number_at (limit_of (nat_abs (to_z w64 (of_z w64 (from₁ from₂).in-Value.part)))) text₂ on₃
       → read_number_at (limit_of (part (from₁ from₂)).0) text₂ on₃ ≡ r
   part-value r e = ap (λ n. read_number_at (limit_of n) text₂ on₃) (sym (first (from₁ from₂))) ∙ sym e
 
@@ -95,8 +95,8 @@ module _ (c : tie.After-known-told3) where
   left₃ = left₂ from₂ ∙ bind-some _ _ (line₃ (part (from₁ from₂)).0 (item from₂).0) place.2.is
 
 -- the value
-module _ (c : tie.After-known-told4) where
-  abbrev from₃ : tie.After-known-told3
+module _ (c : tie.In-Value-value_of) where
+  abbrev from₃ : tie.In-Value-read_index-2
   from₃ = c.before.before.before.before
 
   abbrev text₃ : List ℕ
@@ -115,84 +115,84 @@ module _ (c : tie.After-known-told4) where
   k = (place from₃).0
 
   abbrev v : ℤ
-  v = c.before.value.given.0.0
+  v = c.in-Value-value_of.value
 
   abbrev on₄ : ℕ
-  on₄ = c.before.value.given.0.1.0
+  on₄ = c.in-Value-value_of.next
 
   value : Found (read_number (limit_of p)) text₃ (on₃ from₃) v on₄
-  value = numbered (limit_of p) text₃ (on₃ from₃) v on₄ (part-value from₃ _ c.before.before.before.value_of.ensures ∙ c.before.value.given.1)
+  value = numbered (limit_of p) text₃ (on₃ from₃) v on₄ (part-value from₃ _ c.value_of.ensures ∙ c.in-Value-value_of.is)
 
   word : to_z w64 (of_z w64 v) ≡ v
-  word = to_z-of_z {w = w64} {z = v} (record { sfits = c.known-told4.given.0.1 })
+  word = to_z-of_z {w = w64} {z = v} (record { sfits = c.in-Value-value_of.known_told-in-Value-value_of-1-own.given.0.1 })
 
   left₄ : read_line (drop at₃ text₃) ≡ line₄ p i k (v, drop on₄ text₃)
   unfolding line₃
   left₄ = left₃ from₃ ∙ bind-some _ _ (line₄ p i k) value.is
 
 -- a line feed stands behind it
-ends : (c : tie.Else1) → present (byte line_feed (drop (on₄ c.before.before) (text₃ c.before.before))) ≡ true
-ends c = sym c.before.stands.ensures ∙ not-false _ c.if1.false
+ends : (c : tie.Else-not-stands) → present (byte line_feed (drop (on₄ c.before.before) (text₃ c.before.before))) ≡ true
+ends c = sym c.stands.ensures ∙ not-false _ c.if-not-stands.false-raw
 
-returns : tie.Need-returns
+returns-in_default : tie.Need-returns-in_default
 unfolding read_line_at line_answer
-returns c =
-    let a = c.before.before.before.before.args in
-    let missed = uncolumned a.text.now a.at _ (sym c.before.before.read-index.ensures.0 ∙ c.enum_told.given.1) in
+returns-in_default c =
+    let a = c.args in
+    let missed = uncolumned a.text.now a.at _ (sym c.read_index.ensures.0 ∙ c.in_default.is) in
     line_both a.text.now a.at _ (sym (ap (line_answer a.text.now) (line-columns (drop a.at a.text.now) ∙ bind-none _ line₁ missed)))
 
-returns-2 : tie.Need-returns-2
+returns-in_default-read_index : tie.Need-returns-in_default-read_index
 unfolding read_line_at line_answer line₁
-returns-2 c =
-    let d = c.before.before.before in
-    let missed = uncolumned (text d) (on₁ d) _ (sym c.before.before.read-index2.ensures.0 ∙ c.enum-told2.given.1) in
-    line_both (text d) (at d) _ (sym (ap (line_answer (text d)) (left₁ d ∙ bind-none _ (line₂ (part d).0) missed)))
+returns-in_default-read_index c =
+    let d = c in
+    let missed = uncolumned (text d.before.before.before) (on₁ d.before.before.before) _ (sym c.read_index-2.ensures.0 ∙ c.in_default-read_index.is) in
+    line_both (text d.before.before.before) (at d.before.before.before) _ (sym (ap (line_answer (text d.before.before.before)) (left₁ d.before.before.before ∙ bind-none _ (line₂ (part d.before.before.before).0) missed)))
 
-returns-3 : tie.Need-returns-3
+returns-in_default-read_index-2 : tie.Need-returns-in_default-read_index-2
 unfolding read_line_at line_answer line₂
-returns-3 c =
-    let d = c.before.before.before in
-    let missed = uncolumned (text (from₁ d)) (on₂ d) _ (sym c.before.before.read-index3.ensures.0 ∙ c.enum-told3.given.1) in
-    line_both (text (from₁ d)) (at (from₁ d)) _ (sym (ap (line_answer (text (from₁ d))) (left₂ d ∙ bind-none _ (line₃ (part (from₁ d)).0 (item d).0) missed)))
+returns-in_default-read_index-2 c =
+    let d = c in
+    let missed = uncolumned (text (from₁ d.before.before.before)) (on₂ d.before.before.before) _ (sym c.read_index-3.ensures.0 ∙ c.in_default-read_index-2.is) in
+    line_both (text (from₁ d.before.before.before)) (at (from₁ d.before.before.before)) _ (sym (ap (line_answer (text (from₁ d.before.before.before))) (left₂ d.before.before.before ∙ bind-none _ (line₃ (part (from₁ d.before.before.before)).0 (item d.before.before.before).0) missed)))
 
-returns-4 : tie.Need-returns-4
+returns-in_default-value_of : tie.Need-returns-in_default-value_of
 unfolding read_line_at line_answer line₃
-returns-4 c =
-    let d = c.before.before.before in
-    let missed = unnumbered _ (text₂ d) (on₃ d) _ (part-value d _ c.before.before.value_of.ensures ∙ c.enum-told4.given.1) in
-    line_both (text₂ d) (at (from₁ (from₂ d))) _ (sym (ap (line_answer (text₂ d)) (left₃ d ∙ bind-none _ (line₄ (part (from₁ (from₂ d))).0 (item (from₂ d)).0 (place d).0) missed)))
+returns-in_default-value_of c =
+    let d = c in
+    let missed = unnumbered _ (text₂ d.before.before.before) (on₃ d.before.before.before) _ (part-value d.before.before.before _ c.value_of.ensures ∙ c.in_default-value_of.is) in
+    line_both (text₂ d.before.before.before) (at (from₁ (from₂ d.before.before.before))) _ (sym (ap (line_answer (text₂ d.before.before.before)) (left₃ d.before.before.before ∙ bind-none _ (line₄ (part (from₁ (from₂ d.before.before.before))).0 (item (from₂ d.before.before.before)).0 (place d.before.before.before).0) missed)))
 
-returns-5 : tie.Need-returns-5
+returns-then-not-stands : tie.Need-returns-then-not-stands
 unfolding read_line_at line_answer line₄
-returns-5 c =
-    let d = c.before.before in
-    let missed : byte line_feed (drop (on₄ d) (text₃ d)) ≡ none = present-none _ (sym c.before.stands.ensures ∙ not-true _ c.if1.true) in
-    line_both (text₃ d) (at₃ d) _ (sym (ap (line_answer (text₃ d)) (left₄ d ∙ bind-none _ _ missed)))
+returns-then-not-stands c =
+    let d = c in
+    let missed : byte line_feed (drop (on₄ d.before.before) (text₃ d.before.before)) ≡ none = present-none _ (sym c.stands.ensures ∙ not-true _ c.if-not-stands.true-raw) in
+    line_both (text₃ d.before.before) (at₃ d.before.before) _ (sym (ap (line_answer (text₃ d.before.before)) (left₄ d.before.before ∙ bind-none _ _ missed)))
 
-cast-part : tie.Need-overflow-cast-part
-cast-part c = let d = from₁ (from₂ c) in narrow-cast _ (part d).0 (part d).1 (part_small d)
+overflow_cast-part : tie.Need-overflow_cast-part
+overflow_cast-part c = let d = from₁ (from₂ c) in narrow-cast _ (part d).0 (part d).1 (part_small d)
 
-cast-t18 : tie.Need-overflow-cast-t18
-cast-t18 c = let d = from₂ (from₃ c.before.before) in narrow-cast _ (item d).0 (item d).1 (item_small d)
+overflow_cast-result : tie.Need-overflow_cast-result
+overflow_cast-result c = let d = from₂ (from₃ c.before.before) in narrow-cast _ (item d).0 (item d).1 (item_small d)
 
-cast-t19 : tie.Need-overflow-cast-t19
-cast-t19 c = let d = from₃ c.before.before in narrow-cast _ (place d).0 (place d).1 (place_small d)
+overflow_cast-result-2 : tie.Need-overflow_cast-result-2
+overflow_cast-result-2 c = let d = from₃ c.before.before in narrow-cast _ (place d).0 (place d).1 (place_small d)
 
-add-t20 : tie.Need-overflow-add-t20
-add-t20 c = let d = c.before.before in record { fits = omega (arith, byte-place line_feed (text₃ d) (on₄ d) (ends c), (from₁ (from₂ (from₃ d))).before.before.before.before.before.good.0.0) }
+overflow_add-result : tie.Need-overflow_add-result
+overflow_add-result c = let d = c in record { fits = omega (arith, byte-place line_feed (text₃ d.before.before) (on₄ d.before.before) (ends c), (from₁ (from₂ (from₃ d.before.before))).before.before.before.before.before.good.0.0) }
 
-returns-6 : tie.Need-returns-6
+returns : tie.Need-returns
 unfolding read_line_at line_answer line₄
-returns-6 c =
-    let d = c.before.before in
-    let on : on₄ d + 1 ≤ length (text₃ d) = omega (arith, byte-place line_feed (text₃ d) (on₄ d) (ends c)) in
-    line_both (text₃ d) (at₃ d) _
-    ((λ j. Line-at (first (from₁ (from₂ (from₃ d))) j) (second (from₂ (from₃ d)) j) (third (from₃ d) j) (word d j) (sym (suffix_back (text₃ d) (on₄ d + 1) on) j))
-    ∙ sym (ap (line_answer (text₃ d)) (left₄ d ∙ bind-some _ (drop (on₄ d + 1) (text₃ d)) _ (byte-stands line_feed (text₃ d) (on₄ d) (ends c)))))
+returns c =
+    let d = c in
+    let on : on₄ d.before.before + 1 ≤ length (text₃ d.before.before) = omega (arith, byte-place line_feed (text₃ d.before.before) (on₄ d.before.before) (ends c)) in
+    line_both (text₃ d.before.before) (at₃ d.before.before) _
+    ((λ j. Line-at (first (from₁ (from₂ (from₃ d.before.before))) j) (second (from₂ (from₃ d.before.before)) j) (third (from₃ d.before.before) j) (word d.before.before j) (sym (suffix_back (text₃ d.before.before) (on₄ d.before.before + 1) on) j))
+    ∙ sym (ap (line_answer (text₃ d.before.before)) (left₄ d.before.before ∙ bind-some _ (drop (on₄ d.before.before + 1) (text₃ d.before.before)) _ (byte-stands line_feed (text₃ d.before.before) (on₄ d.before.before) (ends c)))))
 
 pub read_line_spec : {M : Type 1} → statement M
 read_line_spec =
     tie.close
-    (tie.spec (λ c κs. search rules) (λ c. search rules) (λ c. search rules) returns (λ c κs. search rules) (λ c. search rules) (λ c. search rules)
-    returns-2 (λ c κs. search rules) (λ c. search rules) (λ c. search rules) returns-3 cast-part (λ c κs. search rules) (λ c. search rules)
-    (λ c. search rules) returns-4 (λ c κs. search rules) returns-5 cast-t18 cast-t19 add-t20 returns-6)
+    (tie.spec (λ c κs. search rules) (λ c. search rules) (λ c. search rules) returns-in_default (λ c κs. search rules) (λ c. search rules) (λ c. search rules)
+    returns-in_default-read_index (λ c κs. search rules) (λ c. search rules) (λ c. search rules) returns-in_default-read_index-2 overflow_cast-part (λ c κs. search rules) (λ c. search rules)
+    (λ c. search rules) returns-in_default-value_of (λ c κs. search rules) returns-then-not-stands overflow_cast-result overflow_cast-result-2 overflow_add-result returns)

@@ -7,13 +7,13 @@ use Rattle.text_format.proofs.LineLaws.{limit-few}
 use Rattle.text_lines.proofs.lines.value_of.Statement.{statement}
 use Rattle.text_lines.proofs.lines.value_of.Tie as tie
 
-number-within-requires : tie.Need-number-within-requires
-number-within-requires c κs = omega (arith, c.limit-of.ensures, limit-few c.before.before.args.part)
+number_within-requires : tie.Need-number_within-requires
+number_within-requires c κs = omega (arith, c.limit_of.ensures, limit-few c.args.part)
 
 returns : tie.Need-returns
 returns c =
-    let a = c.before.before.before.args in
-    c.number-within.ensures.0 ∙ ap (λ most. read_number_at most a.text.now a.at) c.before.limit-of.ensures
+    let a = c.args in
+    c.number_within.ensures.0 ∙ ap (λ most. read_number_at most a.text.now a.at) c.limit_of.ensures
 
 pub value_of_spec : {M : Type 1} → statement M
-value_of_spec = tie.close (tie.spec (λ c κs. search rules) number-within-requires returns)
+value_of_spec = tie.close (tie.spec (λ c κs. search rules) number_within-requires returns)

@@ -19,68 +19,68 @@ use Rattle.text_lines.proofs.Counts.{count_improper, count_large, count-read, co
 use Rattle.text_lines.proofs.numbers.count_within.Statement.{statement}
 use Rattle.text_lines.proofs.numbers.count_within.Tie as tie
 
-proper : (c : tie.Else1) → proper_digits (drop c.before.before.before.args.at c.before.before.before.args.text.now) ≡ true
-proper c = sym c.before.proper-digits.ensures ∙ not-false _ c.if1.false
+proper : (c : tie.Else-not-proper_digits) → proper_digits (drop c.args.at c.args.text.now) ≡ true
+proper c = sym c.proper_digits.ensures ∙ not-false _ c.if-not-proper_digits.false-raw
 
-module _ (c : tie.After-digit-run) where
+module _ (c : tie.After-digit_run-run) where
   abbrev text : List ℕ
-  text = c.before.before.before.before.args.text.now
+  text = c.args.text.now
 
   abbrev at : ℕ
-  at = c.before.before.before.before.args.at
+  at = c.args.at
 
   abbrev most : ℕ
-  most = c.before.before.before.before.args.most
+  most = c.args.most
 
   few : most < past_limit
   unfolding value_limit
-  few = omega (arith, c.before.before.before.before.requires)
+  few = omega (arith, c.requires)
 
-  kept : min c.digit-run.result.value past_limit ≡ min (digit_run 0 (drop at text)).0 past_limit
+  kept : min c.digit_run-run.result.value past_limit ≡ min (digit_run 0 (drop at text)).0 past_limit
   unfolding kept_run run_answer
-  kept = ap (λ r. r.value) c.digit-run.ensures
+  kept = ap (λ r. r.value) c.digit_run-run.ensures
 
-  behind : c.digit-run.result.next ≡ length text - length (digit_run 0 (drop at text)).1
+  behind : c.digit_run-run.result.next ≡ length text - length (digit_run 0 (drop at text)).1
   unfolding kept_run run_answer
-  behind = ap (λ r. r.next) c.digit-run.ensures
+  behind = ap (λ r. r.next) c.digit_run-run.ensures
 
-small : (c : tie.After-digit-run) → c.digit-run.result.value ≤ most c → (digit_run 0 (drop (at c) (text c))).0 ≤ most c
+small : (c : tie.After-digit_run-run) → c.digit_run-run.result.value ≤ most c → (digit_run 0 (drop (at c) (text c))).0 ≤ most c
 small c h = omega (arith, kept c, few c)
 
-proper-digits-requires : tie.Need-proper-digits-requires
-proper-digits-requires c κs = search rules
+proper_digits-requires : tie.Need-proper_digits-requires
+proper_digits-requires c κs = search rules
+
+returns-then-not-proper_digits : tie.Need-returns-then-not-proper_digits
+unfolding read_count_at number_answer plain bind
+returns-then-not-proper_digits c =
+    let a = c.args in
+    count_both a.most a.text.now a.at _
+    (sym (ap (λ o. number_answer a.text.now (plain o)) (count_improper a.most (drop a.at a.text.now) (sym c.proper_digits.ensures ∙ not-true _ c.if-not-proper_digits.true-raw))))
+
+digit_run-run-requires : tie.Need-digit_run-run-requires
+digit_run-run-requires c κs = proper_first _ (proper c)
+
+returns-then-run-most : tie.Need-returns-then-run-most
+unfolding read_count_at number_answer plain bind
+returns-then-run-most c =
+    let d = c in
+    count_both (most d.before.before) (text d.before.before) (at d.before.before) _ (sym (ap (λ o. number_answer (text d.before.before) (plain o)) (count_large (most d.before.before) (drop (at d.before.before) (text d.before.before)) (proper d.before.before.before) (omega (arith, kept d.before.before, few d.before.before)))))
+
+overflow_cast-result : tie.Need-overflow_cast-result
+overflow_cast-result c = record { sfits = omega (arith, few c.before.before.before) }
 
 returns : tie.Need-returns
 unfolding read_count_at number_answer plain bind
 returns c =
-    let a = c.before.before.before.args in
-    count_both a.most a.text.now a.at _
-    (sym (ap (λ o. number_answer a.text.now (plain o)) (count_improper a.most (drop a.at a.text.now) (sym c.before.proper-digits.ensures ∙ not-true _ c.if1.true))))
-
-digit-run-requires : tie.Need-digit-run-requires
-digit-run-requires c κs = proper_first _ (proper c)
-
-returns-2 : tie.Need-returns-2
-unfolding read_count_at number_answer plain bind
-returns-2 c =
-    let d = c.before.before in
-    count_both (most d) (text d) (at d) _ (sym (ap (λ o. number_answer (text d) (plain o)) (count_large (most d) (drop (at d) (text d)) (proper d.before) (omega (arith, kept d, few d)))))
-
-cast-t7 : tie.Need-overflow-cast-t7
-cast-t7 c = record { sfits = omega (arith, few c.before.before.before) }
-
-returns-3 : tie.Need-returns-3
-unfolding read_count_at number_answer plain bind
-returns-3 c =
-    let d = c.before.before.before in
-    let run = digit_run 0 (drop (at d) (text d)) in
-    let exact : d.digit-run.result.value ≡ run.0 = omega (arith, kept d, few d) in
-    count_both (most d) (text d) (at d) _
-    ((λ j. Value (to_z_pos w64 {n = d.digit-run.result.value} (omega (arith, few d)) j) (behind d j))
-    ∙ (λ j. Value (pos (exact j)) (length (text d) - length run.1))
-    ∙ sym (ap (λ o. number_answer (text d) (plain o)) (count-read (most d) (drop (at d) (text d)) (proper d.before) (small d c.before.if2.false))))
+    let d = c in
+    let run = digit_run 0 (drop (at d.before.before.before) (text d.before.before.before)) in
+    let exact : d.digit_run-run.result.value ≡ run.0 = omega (arith, kept d.before.before.before, few d.before.before.before) in
+    count_both (most d.before.before.before) (text d.before.before.before) (at d.before.before.before) _
+    ((λ j. Value (to_z_pos w64 {n = d.digit_run-run.result.value} (omega (arith, few d.before.before.before)) j) (behind d.before.before.before j))
+    ∙ (λ j. Value (pos (exact j)) (length (text d.before.before.before) - length run.1))
+    ∙ sym (ap (λ o. number_answer (text d.before.before.before) (plain o)) (count-read (most d.before.before.before) (drop (at d.before.before.before) (text d.before.before.before)) (proper d.before.before.before.before) (small d.before.before.before c.if-run-most.false))))
 
 pub count_within_spec : {M : Type 1} → statement M
 count_within_spec =
     tie.close
-    (tie.spec proper-digits-requires returns digit-run-requires returns-2 cast-t7 returns-3)
+    (tie.spec proper_digits-requires returns-then-not-proper_digits digit_run-run-requires returns-then-run-most overflow_cast-result returns)

@@ -14,12 +14,12 @@ use Rattle.text_lines.proofs.Runs.{first_place, first_digit, kept, kept_same, ru
 use Rattle.text_lines.proofs.numbers.digit_run.Statement.{statement}
 use Rattle.text_lines.proofs.numbers.digit_run.Tie as tie
 
-abbrev invariant-loop : tie.invariant-loop
-invariant-loop text at value₀ i₀ value i =
+abbrev invariant-loop-value : tie.invariant-loop-value
+invariant-loop-value text at value₀ i₀ value i =
     (i ≤ length text) × (kept (digit_run 0 (drop at text)) ≡ kept (digit_run value (drop i text)))
 
-abbrev decreases-loop : tie.decreases-loop
-decreases-loop text at value₀ i₀ value i = length text - i
+abbrev decreases-loop-value : tie.decreases-loop-value
+decreases-loop-value text at value₀ i₀ value i = length text - i
 
 -- a digit stands at the place that is read
 module _ (bytes : List ℕ) (place : ℕ) (first : digit_first (drop place bytes) ≡ true) where
@@ -32,15 +32,15 @@ module _ (bytes : List ℕ) (place : ℕ) (first : digit_first (drop place bytes
   high : get_or bytes place 0 ≤ 57
   high = (digit-bounds _ (first_digit bytes place first)).1
 
-module _ (c : tie.Then1 invariant-loop decreases-loop) where
+module _ (c : tie.In-loop-value invariant-loop-value decreases-loop-value) where
   abbrev bytes : List ℕ
-  bytes = c.before.before.before.before.before.args.text.now
+  bytes = c.args.text.now
 
   abbrev place : ℕ
-  place = c.before.before.loop.i
+  place = c.loop-value.i
 
   first : digit_first (drop place bytes) ≡ true
-  first = sym c.before.digit_at.ensures ∙ c.if1.true
+  first = sym c.digit_at.ensures ∙ c.loop-value-test.true
 
   within : place < length bytes
   within = inside bytes place first
@@ -49,7 +49,7 @@ module _ (c : tie.Then1 invariant-loop decreases-loop) where
 abbrev answer : List ℕ → ℕ × List ℕ → Run
 answer text r = record { value = r.0; next = length text - length r.1 }
 
-whole : (text : List ℕ) (at value i : ℕ) → invariant-loop text at 0 at value i → digit_first (drop i text) ≡ false
+whole : (text : List ℕ) (at value i : ℕ) → invariant-loop-value text at 0 at value i → digit_first (drop i text) ≡ false
     → kept_run (record { value = value; next = i }) ≡ run_answer text (digit_run 0 (drop at text))
 unfolding kept_run run_answer
 whole text at value i inv none =
@@ -59,47 +59,47 @@ whole text at value i inv none =
     place = omega (arith, length-drop i text, inv.0)
 
 -- the first digit
-module _ (c : tie.After-shared-slice-known2 invariant-loop decreases-loop) where
+module _ (c : tie.After-shared_slice_known-2-1 invariant-loop-value decreases-loop-value) where
   abbrev text₀ : List ℕ
-  text₀ = c.before.before.args.text.now
+  text₀ = c.args.text.now
 
   abbrev at₀ : ℕ
-  at₀ = c.before.before.args.at
+  at₀ = c.args.at
 
   begins : digit_first (drop at₀ text₀) ≡ true
-  begins = c.before.before.requires
+  begins = c.requires
 
-cast-value : tie.Need-overflow-cast-value invariant-loop decreases-loop
-cast-value c = record { fits = omega (arith, high (text₀ c) (at₀ c) (begins c)) }
+overflow_cast-value : tie.Need-overflow_cast-value invariant-loop-value decreases-loop-value
+overflow_cast-value c = record { fits = omega (arith, high (text₀ c) (at₀ c) (begins c)) }
 
-loop-holds : tie.Need-loop-init invariant-loop decreases-loop
-loop-holds c = (
+loop-value-init : tie.Need-loop-value-init invariant-loop-value decreases-loop-value
+loop-value-init c = (
   omega (arith, inside (text₀ c) (at₀ c) (begins c)),
   ap kept (run-digit (text₀ c) (at₀ c) 0 (begins c) ∙ ap (λ n. digit_run n (drop (at₀ c + 1) (text₀ c))) (omega arith)),
 )
 
-sub-with-digit : tie.Need-overflow-sub-with-digit invariant-loop decreases-loop
-sub-with-digit c = low (bytes c.before) (place c.before) (first c.before)
+overflow_sub-text : tie.Need-overflow_sub-text invariant-loop-value decreases-loop-value
+overflow_sub-text c = low (bytes c.before) (place c.before) (first c.before)
 
-loop-again : tie.Need-loop-preserved invariant-loop decreases-loop
-loop-again c =
-    let l = c.before.before.before.before.loop in
+loop-value-preserved : tie.Need-loop-value-preserved invariant-loop-value decreases-loop-value
+loop-value-preserved c =
+    let l = c.loop-value in
     let t = bytes c.before.before in
     let raw : ℕ = l.value * 10 + (get_or t l.i 0 - 48) in
-    let next : ℕ = c.with-digit.result in (
+    let next : ℕ = c.with_digit-value.result in (
       omega (arith, within c.before.before),
-      l.invariant.1 ∙ ap kept (run-digit t l.i l.value (first c.before.before)) ∙ kept_same raw next (drop (l.i + 1) t) (sym c.with-digit.ensures),
+      l.invariant.1 ∙ ap kept (run-digit t l.i l.value (first c.before.before)) ∙ kept_same raw next (drop (l.i + 1) t) (sym c.with_digit-value.ensures),
     )
 
-returns : tie.Need-returns invariant-loop decreases-loop
+returns : tie.Need-returns invariant-loop-value decreases-loop-value
 returns c =
-    let l = c.before.before.loop in
-    let a = c.before.before.before.before.before.args in
-    whole a.text.now a.at l.value l.i l.invariant (sym c.before.digit_at.ensures ∙ c.if1.false)
+    let l = c.loop-value in
+    let a = c.args in
+    whole a.text.now a.at l.value l.i l.invariant (sym c.digit_at.ensures ∙ c.loop-value-test.false)
 
 pub digit_run_spec : {M : Type 1} → statement M
 digit_run_spec =
     tie.close
-    (tie.spec invariant-loop decreases-loop (λ c. inside (text₀ c) (at₀ c) (begins c)) (λ c. low (text₀ c) (at₀ c) (begins c)) cast-value
-    (λ c. record { fits = omega (arith, inside (text₀ c) (at₀ c) (begins c)) }) loop-holds (λ c κs. search rules) (λ c. within c.before) sub-with-digit
-    (λ c κs. search rules) (λ c. record { fits = omega (arith, within c.before.before) }) (λ c. omega (arith, within c.before.before)) loop-again returns)
+    (tie.spec invariant-loop-value decreases-loop-value (λ c. inside (text₀ c) (at₀ c) (begins c)) (λ c. low (text₀ c) (at₀ c) (begins c)) overflow_cast-value
+    (λ c. record { fits = omega (arith, inside (text₀ c) (at₀ c) (begins c)) }) loop-value-init (λ c κs. search rules) (λ c. within c.before) overflow_sub-text
+    (λ c κs. search rules) (λ c. record { fits = omega (arith, within c.before.before) }) (λ c. omega (arith, within c.before.before)) loop-value-preserved returns)

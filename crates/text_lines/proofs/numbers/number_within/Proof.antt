@@ -25,78 +25,78 @@ neg_is : (v : ℤ) (n : ℕ) → v ≡ pos n → n < 2 ^ 63 → pos 0 -ℤ to_z 
 neg_is v n e h = ap (λ z. pos 0 -ℤ to_z w64 (of_z w64 z)) e ∙ ap (λ z. pos 0 -ℤ z) (to_z_pos w64 {n = n} (omega arith)) ∙ +ℤ_idl (neg_ℤ (pos n))
 
 -- behind a minus: the number without its sign
-module _ (c : tie.After-known-told) where
+module _ (c : tie.In-Value) where
   abbrev text : List ℕ
-  text = c.before.before.before.before.before.before.before.before.args.text.now
+  text = c.args.text.now
 
   abbrev at : ℕ
-  at = c.before.before.before.before.before.before.before.before.args.at
+  at = c.args.at
 
   abbrev most : ℕ
-  most = c.before.before.before.before.before.before.before.before.args.most
+  most = c.args.most
 
   abbrev v : ℤ
-  v = c.before.value.given.0.0
+  v = c.in-Value.value
 
   abbrev next : ℕ
-  next = c.before.value.given.0.1.0
+  next = c.in-Value.next
 
   got : (n : ℕ) × (v ≡ pos n) × Found (read_count most) text (at + 1) n next
-  got = counted most text (at + 1) v next (sym c.before.before.before.count-within2.ensures.0 ∙ c.before.value.given.1)
+  got = counted most text (at + 1) v next (sym c.count_within-2.ensures.0 ∙ c.in-Value.is)
 
   small : got.0 < 2 ^ 63
   unfolding value_limit
   small =
-      omega (arith, count_small most (drop (at + 1) text) got.0 (drop next text) got.2.is, c.before.before.before.before.before.before.before.before.requires)
+      omega (arith, count_small most (drop (at + 1) text) got.0 (drop next text) got.2.is, c.requires)
 
   signed : read_number most (drop at text) ≡ negative (read_count most (drop (at + 1) text))
-  signed = number-minus most text at (search rules) c.before.before.before.before.if2.false
+  signed = number-minus most text at (search rules) c.if-text-at-ne45.false
+
+returns-then-at-text : tie.Need-returns-then-at-text
+unfolding read_number_at number_answer
+returns-then-at-text c =
+    let a = c.args in
+    number_both a.most a.text.now a.at _ (sym (ap (number_answer a.text.now) (number-outside a.most a.text.now a.at c.if-at-text.true)))
+
+returns-then-text-at-ne45 : tie.Need-returns-then-text-at-ne45
+unfolding read_number_at read_count_at
+returns-then-text-at-ne45 c =
+    let a = c.args in
+    number_both a.most a.text.now a.at _
+    (c.count_within.ensures.0 ∙ sym (ap (number_answer a.text.now) (number-plain a.most a.text.now a.at (search rules) c.if-text-at-ne45.true)))
+
+returns-in_default : tie.Need-returns-in_default
+unfolding read_number_at number_answer
+returns-in_default c =
+    let d = c in
+    let a = d.args in
+    let none-behind = uncounted a.most a.text.now (a.at + 1) _ (sym c.count_within-2.ensures.0 ∙ c.in_default.is) in
+    number_both a.most a.text.now a.at _ (sym (ap (number_answer a.text.now) (number-minus a.most a.text.now a.at (search rules) d.if-text-at-ne45.false ∙ negative-none _ none-behind)))
+
+returns-then-value-eq0 : tie.Need-returns-then-value-eq0
+unfolding read_number_at number_answer
+returns-then-value-eq0 c =
+    let d = c in
+    number_both (most d.before) (text d.before) (at d.before) _
+    (sym (ap (number_answer (text d.before)) (signed d.before ∙ negative-zero _ (got d.before).0 (drop (next d.before) (text d.before)) (got d.before).2.is (sym (ap (of_z w64) (got d.before).1) ∙ c.if-value-eq0.true))))
+
+overflow_sub-result : tie.Need-overflow_sub-result
+overflow_sub-result c = let d = c in subst (SFits w64) (sym (neg_is (v d.before) (got d.before).0 (got d.before).1 (small d.before))) (neg-fits (got d.before).0 (small d.before))
 
 returns : tie.Need-returns
 unfolding read_number_at number_answer
 returns c =
-    let a = c.before.before.args in
-    number_both a.most a.text.now a.at _ (sym (ap (number_answer a.text.now) (number-outside a.most a.text.now a.at c.if1.true)))
-
-returns-2 : tie.Need-returns-2
-unfolding read_number_at read_count_at
-returns-2 c =
-    let a = c.before.before.before.before.before.args in
-    number_both a.most a.text.now a.at _
-    (c.count-within.ensures.0 ∙ sym (ap (number_answer a.text.now) (number-plain a.most a.text.now a.at (search rules) c.before.if2.true)))
-
-returns-3 : tie.Need-returns-3
-unfolding read_number_at number_answer
-returns-3 c =
-    let d = c.before.before.before in
-    let a = d.before.before.before.before.args in
-    let none-behind = uncounted a.most a.text.now (a.at + 1) _ (sym c.before.before.count-within2.ensures.0 ∙ c.enum_told.given.1) in
-    number_both a.most a.text.now a.at _ (sym (ap (number_answer a.text.now) (number-minus a.most a.text.now a.at (search rules) d.if2.false ∙ negative-none _ none-behind)))
-
-returns-4 : tie.Need-returns-4
-unfolding read_number_at number_answer
-returns-4 c =
-    let d = c.before in
-    number_both (most d) (text d) (at d) _
-    (sym (ap (number_answer (text d)) (signed d ∙ negative-zero _ (got d).0 (drop (next d) (text d)) (got d).2.is (sym (ap (of_z w64) (got d).1) ∙ c.if3.true))))
-
-sub-t11 : tie.Need-overflow-sub-t11
-sub-t11 c = let d = c.before in subst (SFits w64) (sym (neg_is (v d) (got d).0 (got d).1 (small d))) (neg-fits (got d).0 (small d))
-
-returns-5 : tie.Need-returns-5
-unfolding read_number_at number_answer
-returns-5 c =
-    let d = c.before in
-    let n = (got d).0 in
-    let whole : to_z w64 (of_z w64 (pos 0 -ℤ to_z w64 (of_z w64 (v d)))) ≡ neg_ℤ (pos n) =
-    ap (λ z. to_z w64 (of_z w64 z)) (neg_is (v d) n (got d).1 (small d)) ∙ to_z-of_z w64 (neg_ℤ (pos n)) (neg-fits n (small d)) in
-    let nonzero : n ≡ 0 → ⊥ = λ e. c.if3.false (ap (of_z w64) (got d).1 ∙ e) in
-    number_both (most d) (text d) (at d) _
-    ((λ j. Value (whole j) (sym (suffix_back (text d) (next d) (got d).2.within) j))
-    ∙ sym (ap (number_answer (text d)) (signed d ∙ negative-number _ n (drop (next d) (text d)) (got d).2.is nonzero)))
+    let d = c in
+    let n = (got d.before).0 in
+    let whole : to_z w64 (of_z w64 (pos 0 -ℤ to_z w64 (of_z w64 (v d.before)))) ≡ neg_ℤ (pos n) =
+    ap (λ z. to_z w64 (of_z w64 z)) (neg_is (v d.before) n (got d.before).1 (small d.before)) ∙ to_z-of_z w64 (neg_ℤ (pos n)) (neg-fits n (small d.before)) in
+    let nonzero : n ≡ 0 → ⊥ = λ e. c.if-value-eq0.false (ap (of_z w64) (got d.before).1 ∙ e) in
+    number_both (most d.before) (text d.before) (at d.before) _
+    ((λ j. Value (whole j) (sym (suffix_back (text d.before) (next d.before) (got d.before).2.within) j))
+    ∙ sym (ap (number_answer (text d.before)) (signed d.before ∙ negative-number _ n (drop (next d.before) (text d.before)) (got d.before).2.is nonzero)))
 
 pub number_within_spec : {M : Type 1} → statement M
 number_within_spec =
     tie.close
-    (tie.spec returns (λ c. search rules) (λ c κs. search rules) returns-2 (λ c. search rules) (λ c κs. search rules) (λ c. search rules)
-    (λ c. search rules) returns-3 returns-4 sub-t11 returns-5)
+    (tie.spec returns-then-at-text (λ c. search rules) (λ c κs. search rules) returns-then-text-at-ne45 (λ c. search rules) (λ c κs. search rules) (λ c. search rules)
+    (λ c. search rules) returns-in_default returns-then-value-eq0 overflow_sub-result returns)

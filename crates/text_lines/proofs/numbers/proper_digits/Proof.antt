@@ -11,38 +11,38 @@ use Rattle.text_lines.proofs.numbers.proper_digits.Statement.{statement}
 use Rattle.text_lines.proofs.numbers.proper_digits.Tie as tie
 
 -- a digit stands at the place
-module _ (c : tie.Else1) where
-  first : digit_first (drop c.before.before.before.args.at c.before.before.before.args.text.now) ≡ true
-  first = sym c.before.digit_at.ensures ∙ not-false _ c.if1.false
+module _ (c : tie.Else-not-digit_at) where
+  first : digit_first (drop c.args.at c.args.text.now) ≡ true
+  first = sym c.digit_at.ensures ∙ not-false _ c.if-not-digit_at.false-raw
 
-digit-at-requires : tie.Need-digit-at-requires
-digit-at-requires c κs = search rules
+digit_at-requires : tie.Need-digit_at-requires
+digit_at-requires c κs = search rules
 
-returns : tie.Need-returns
-returns c = let a = c.before.before.before.args in sym (proper_none a.text.now a.at (sym c.before.digit_at.ensures ∙ not-true _ c.if1.true))
+returns-then-not-digit_at : tie.Need-returns-then-not-digit_at
+returns-then-not-digit_at c = let a = c.args in sym (proper_none a.text.now a.at (sym c.digit_at.ensures ∙ not-true _ c.if-not-digit_at.true-raw))
 
-shared-slice-read-if2 : tie.Need-shared-slice-read-if2
-shared-slice-read-if2 c = let a = c.before.before.before.before.args in first_place a.text.now a.at (first c.before)
+bounds-text-at : tie.Need-bounds-text-at
+bounds-text-at c = let a = c.args in first_place a.text.now a.at (first c.before)
 
-returns-2 : tie.Need-returns-2
-returns-2 c =
-    let a = c.before.before.before.before.before.args in
-    sym (proper_large a.text.now a.at (first c.before.before) c.if2.true)
+returns-then-text-at-ne48 : tie.Need-returns-then-text-at-ne48
+returns-then-text-at-ne48 c =
+    let a = c.args in
+    sym (proper_large a.text.now a.at (first c.before.before) c.if-text-at-ne48.true)
 
-add-digit-at : tie.Need-overflow-add-digit-at
-add-digit-at c =
-    let a = c.before.before.before.before.before.args in
+overflow_add-at : tie.Need-overflow_add-at
+overflow_add-at c =
+    let a = c.args in
     omega (arith, first_place a.text.now a.at (first c.before.before))
 
-digit-at-requires-2 : tie.Need-digit-at-requires-2
-digit-at-requires-2 c κs = search rules
+digit_at-requires-2 : tie.Need-digit_at-requires-2
+digit_at-requires-2 c κs = search rules
 
-returns-3 : tie.Need-returns-3
-returns-3 c =
-    let a = c.before.before.before.before.before.before.args in
-    ap not c.digit-at2.ensures ∙ sym (proper_zero a.text.now a.at (first c.before.before.before) c.before.if2.false)
+returns : tie.Need-returns
+returns c =
+    let a = c.args in
+    ap not c.digit_at-2.ensures ∙ sym (proper_zero a.text.now a.at (first c.before.before.before) c.if-text-at-ne48.false)
 
 pub proper_digits_spec : {M : Type 1} → statement M
 proper_digits_spec =
     tie.close
-    (tie.spec digit-at-requires returns shared-slice-read-if2 returns-2 add-digit-at digit-at-requires-2 returns-3)
+    (tie.spec digit_at-requires returns-then-not-digit_at bounds-text-at returns-then-text-at-ne48 overflow_add-at digit_at-requires-2 returns)

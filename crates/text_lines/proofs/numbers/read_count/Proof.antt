@@ -5,13 +5,13 @@ use Rattle.text_format.specs.Text.{value_limit, narrow_limit}
 use Rattle.text_lines.proofs.numbers.read_count.Statement.{statement}
 use Rattle.text_lines.proofs.numbers.read_count.Tie as tie
 
-count-within-requires : tie.Need-count-within-requires
+count_within-requires : tie.Need-count_within-requires
 unfolding value_limit
-count-within-requires c κs = omega arith
+count_within-requires c κs = omega arith
 
 returns : tie.Need-returns
 unfolding narrow_limit
-returns c = c.count-within.ensures
+returns c = c.count_within.ensures
 
 pub read_count_spec : {M : Type 1} → statement M
-read_count_spec = tie.close (tie.spec (λ c. search rules) count-within-requires returns)
+read_count_spec = tie.close (tie.spec (λ c. search rules) count_within-requires returns)
