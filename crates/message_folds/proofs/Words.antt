@@ -24,7 +24,7 @@ abbrev pub wide : ℤ → ℤ
 wide x = read w64 (read w32 x)
 
 wide_is : (x : ℤ) → SFits w32 x → wide x ≡ x
-wide_is x f = ap (read w64) (to_z-of_z f) ∙ to_z-of_z (sfits_widen tt f)
+wide_is x f = ap (read w64) (to_z-of_z f) ∙ to_z-of_z {w = w64} (sfits_widen {w = w32} tt f)
 
 pub widened : (x : ℤ) → SFits w32 x → SFits w64 (read w32 x)
 widened x f = subst (SFits w64) (sym (to_z-of_z f)) (sfits_widen tt f)
@@ -57,7 +57,7 @@ module _ (op : ℤ → ℤ → ℤ) (bound : (a b : ℤ) → nat_abs (op a b) �
   -- brought back to 32 bits as r
   pub op_narrow : nat_abs x < 2 ^ 30 → nat_abs y < 2 ^ 30 → (r : ℤ) → (nat_abs (read w64 (op (wide x) (wide y))) < 2 ^ 31 → r ≡ read w64 (op (wide x) (wide y))) → read w32 r ≡ op x y
   op_narrow hx hy r is =
-      ap (read w32) (is (subst (λ z. nat_abs z < 2 ^ 31) (sym op_is) (omega (arith, bound x y))) ∙ op_is) ∙ to_z-of_z (sfits-nat_abs (op x y) (omega (arith, bound x y)))
+      ap (read w32) (is (subst (λ z. nat_abs z < 2 ^ 31) (sym op_is) (omega (arith, bound x y))) ∙ op_is) ∙ to_z-of_z {w = w32} (sfits-nat_abs (op x y) (omega (arith, bound x y)))
 
 -- ---- z modulo 2^32, between −2^31 and 2^31
 
@@ -148,10 +148,10 @@ signed-size false y = refl
 
 pub stored : (negative : Bool) (x y r : ℤ) → (BothSmall (read w32 x) (read w32 y) → r ≡ signed_sum negative (read w32 x) (read w32 y)) → BothSmall x y → read w32 r ≡ signed_sum negative x y
 stored negative x y r is b =
-    let own : (z : ℤ) → nat_abs z < 2 ^ 30 → read w32 z ≡ z = λ z h. to_z-of_z (sfits-nat_abs z (omega arith)) in
+    let own : (z : ℤ) → nat_abs z < 2 ^ 30 → read w32 z ≡ z = λ z h. to_z-of_z {w = w32} (sfits-nat_abs z (omega arith)) in
     let left = own x b.left in
     let right = own y b.right in
     ap (read w32) (
     is (record { left = subst (λ z. nat_abs z < 2 ^ 30) (sym left) b.left; right = subst (λ z. nat_abs z < 2 ^ 30) (sym right) b.right })
     ∙ λ i. signed_sum negative (left i) (right i))
-    ∙ to_z-of_z (sfits-nat_abs (signed_sum negative x y) (omega (arith, nat_abs-add x (signed negative y), signed-size negative y, b.left, b.right)))
+    ∙ to_z-of_z {w = w32} (sfits-nat_abs (signed_sum negative x y) (omega (arith, nat_abs-add x (signed negative y), signed-size negative y, b.left, b.right)))

@@ -10,16 +10,16 @@ use borrow.Author.Rules.{rules}
 use Rattle.product_sums.proofs.add_element.Statement.{statement}
 use Rattle.product_sums.proofs.add_element.Tie as tie
 
-mul_at : tie.Need-overflow-mul-at
-mul_at c = let s = c.before.before.before.before.before.before.before.before.before.before.before.before.before.before.before.before in omega
+overflow_mul-at : tie.Need-overflow_mul-at
+overflow_mul-at c = let s = c in omega
     (arith, place_most s.args.d s.args.n s.args.i (omega arith) s.requires.0 (omega (arith, s.requires.1)))
 
-mul-add-message : tie.Need-overflow-mul-add-message
-mul-add-message c = let s = c.before.before.before.before.before.before.before.before.before.before.before.before.before.before.before.before.before in omega
+overflow_mul-n : tie.Need-overflow_mul-n
+overflow_mul-n c = let s = c in omega
     (arith, place_most s.args.d s.args.n s.args.n (omega arith) s.requires.0 (omega arith))
 
-add-add-message : tie.Need-overflow-add-add-message
-add-add-message c = let s = c.before.before.before.before.before.before.before.before.before.before.before.before.before.before.before.before.before in
+overflow_add-n : tie.Need-overflow_add-n
+overflow_add-n c = let s = c in
     omega (
       arith,
       place_most s.args.d s.args.n s.args.n (omega arith) s.requires.0 (omega arith),
@@ -27,52 +27,52 @@ add-add-message c = let s = c.before.before.before.before.before.before.before.b
           (omega (arith, s.requires.1)),
     )
 
-returns : tie.Need-returns
-returns c = λ G F count m z.
-    let s = c.before.before.before.before.before.before.before.before.before.before.before.before.before.before.before.before.before.before.before.before.before.before.before.before.before.before.before.before.before.before.before in
+returns-then-sums : tie.Need-returns-then-sums
+returns-then-sums c = λ G F count m z.
+    let s = c in
     let a = s.args in
     let known = first_known a.sums a.q a.d a.n a.rows a.stride a.f.now a.g.now G z.0 in
-    let t = c.before.before.before.before.before.before.before.before.before.before.before.before.before.before.if1.true in
+    let t = c.if-sums.true in
     let K : ℕ → Element = λ r. keys_of a.sums a.q a.d a.n (G r) a.i in
-    let ready = c.before.before.before.before.before.before.before.before.before.before.before.before.before.before.before.before.before.before.before.before.before.prepare.ensures G (key_rows a.sums a.q a.d a.n a.rows a.stride a.f.now a.g.now G z.0, s.pre.1, z.2.key, z.2.strands, z.2.prepared) in
-    let sum = c.before.before.before.before.before.before.before.before.before.before.before.before.add-message.ensures a.n a.i
-    (message_at a.sums t a.q a.d a.n a.i a.f.now (G 0) (z.0.given 0 z.0.some) s.pre.1, z.2.message) in
+    let ready = c.prepare.ensures G (key_rows a.sums a.q a.d a.n a.rows a.stride a.f.now a.g.now G z.0, s.requires.1, z.2.key, z.2.strands, z.2.prepared) in
+    let sum = c.add_message.ensures a.n a.i
+    (message_at a.sums t a.q a.d a.n a.i a.f.now (G 0) (z.0.given 0 z.0.some) s.requires.1, z.2.message) in
     let is : (j : ℕ) → j < a.d → signed _ j ≡ messages_of a.sums a.d a.n a.f.now a.i j = λ j l. message-sums a.d a.n a.i a.f.now _ sum j l ∙ ap
     (λ b. messages_of b a.d a.n a.f.now a.i j) (sym t) in
-    element-added a.sums a.q a.rows a.d a.n m a.i a.f.now z.1 s.pre.1 _ is known.degree F K _ _ _
-    (c.before.before.before.before.before.before.add-prepared.ensures F K count m (
+    element-added a.sums a.q a.rows a.d a.n m a.i a.f.now z.1 s.requires.1 _ is known.degree F K _ _ _
+    (c.add_prepared.ensures F K count m (
       addable a.sums a.q a.rows a.d a.n m _ _ a.f.now _ (G 0) known z.0.some z.0.most
-          (omega (arith, z.2.message, c.before.before.before.before.before.before.before.before.before.before.before.before.add-message.auto.1.1.1.1.0))
-          (small_element a.sums a.q a.rows a.d a.n m a.i a.f.now z.1 s.pre.1 _ is) z.2.lowers z.2.uppers,
+          (omega (arith, z.2.message, c.add_message.auto.m))
+          (small_element a.sums a.q a.rows a.d a.n m a.i a.f.now z.1 s.requires.1 _ is) z.2.lowers z.2.uppers,
       ready,
       z.3,
     ))
 
-returns-2 : tie.Need-returns-2
-returns-2 c = λ G F count m z. let s = c.before.before.before.before.before.before.before.before.before.before.before.before.before.before.before.before.before.before in let a
+returns-then-f-at : tie.Need-returns-then-f-at
+returns-then-f-at c = λ G F count m z. let s = c in let a
     = s.args in
     absurd (omega (
       arith,
-      part-inside a.sums c.before.if1.false a.q a.d a.n a.i a.f.now (G 0)
+      part-inside a.sums c.if-sums.false a.q a.d a.n a.i a.f.now (G 0)
           (first_known a.sums a.q a.d a.n a.rows a.stride a.f.now a.g.now G z.0) s.requires.1,
     ))
 
-returns-3 : tie.Need-returns-3
-returns-3 c = λ G F count m z.
-    let s = c.before.before.before.before.before.before.before.before.before.before.before.before.before.before.before.before.before.before.before.before.before.before.before.before.before.before.before.before.before in
+returns : tie.Need-returns
+returns c = λ G F count m z.
+    let s = c in
     let a = s.args in
     let known = first_known a.sums a.q a.d a.n a.rows a.stride a.f.now a.g.now G z.0 in
-    let t = c.before.before.before.before.before.before.before.before.before.before.before.before.if1.false in
+    let t = c.if-sums.false in
     let K : ℕ → Element = λ r. keys_of a.sums a.q a.d a.n (G r) a.i in
-    let ready = c.before.before.before.before.before.before.before.before.before.before.before.before.before.before.before.before.before.before.before.prepare.ensures G
-    (key_rows a.sums a.q a.d a.n a.rows a.stride a.f.now a.g.now G z.0, s.pre.1, z.2.key, z.2.strands, z.2.prepared) in
+    let ready = c.prepare.ensures G
+    (key_rows a.sums a.q a.d a.n a.rows a.stride a.f.now a.g.now G z.0, s.requires.1, z.2.key, z.2.strands, z.2.prepared) in
     let is : (j : ℕ) → j < a.d → signed _ j ≡ messages_of a.sums a.d a.n a.f.now a.i j = λ j l. message-part a.d a.n a.i a.f.now j l ∙ ap
     (λ b. messages_of b a.d a.n a.f.now a.i j) (sym t) in
-    element-added a.sums a.q a.rows a.d a.n m a.i a.f.now z.1 s.pre.1 _ is known.degree F K _ _ _
-    (c.before.before.before.before.before.before.add-prepared2.ensures F K count m (
+    element-added a.sums a.q a.rows a.d a.n m a.i a.f.now z.1 s.requires.1 _ is known.degree F K _ _ _
+    (c.add_prepared-2.ensures F K count m (
       addable a.sums a.q a.rows a.d a.n m _ _ a.f.now _ (G 0) known z.0.some z.0.most
-          (omega (arith, part-inside a.sums t a.q a.d a.n a.i a.f.now (G 0) known s.pre.1, tail-length (a.i * a.d) a.f.now))
-          (small_element a.sums a.q a.rows a.d a.n m a.i a.f.now z.1 s.pre.1 _ is) z.2.lowers z.2.uppers,
+          (omega (arith, part-inside a.sums t a.q a.d a.n a.i a.f.now (G 0) known s.requires.1, tail-length (a.i * a.d) a.f.now))
+          (small_element a.sums a.q a.rows a.d a.n m a.i a.f.now z.1 s.requires.1 _ is) z.2.lowers z.2.uppers,
       ready,
       z.3,
     ))
@@ -80,6 +80,6 @@ returns-3 c = λ G F count m z.
 pub add_element_spec : {M : Type 1} → statement M
 add_element_spec =
     tie.close
-    (tie.spec (λ c κs. search) mul_at mul-add-message add-add-message (λ c κs. search) (λ c κs. search) (λ c. search) (λ c. search) (λ c. search)
-    (λ c. search rules) (λ c. search) (λ c. search) returns (λ c. search) (λ c. search) (λ c. search) returns-2 (λ c. search rules) (λ c. search)
-    (λ c. search) (λ c. search rules) (λ c κs. search) (λ c. search) (λ c. search) (λ c. search rules) (λ c. search) (λ c. search) returns-3)
+    (tie.spec (λ c κs. search) overflow_mul-at overflow_mul-n overflow_add-n (λ c κs. search) (λ c κs. search) (λ c. search) (λ c. search) (λ c. search)
+    (λ c. search rules) (λ c. search) (λ c. search) returns-then-sums (λ c. search) (λ c. search) (λ c. search) returns-then-f-at (λ c. search rules) (λ c. search)
+    (λ c. search) (λ c. search rules) (λ c κs. search) (λ c. search) (λ c. search) (λ c. search rules) (λ c. search) (λ c. search) returns)

@@ -14,22 +14,22 @@ use borrow.Author.Rules.{rules}
 use Rattle.product_sums.proofs.add_elements.Statement.{statement}
 use Rattle.product_sums.proofs.add_elements.Tie as tie
 
-abbrev invariant-loop : tie.invariant-loop
-invariant-loop sums q d n rows stride f g m₀ a₀ k₀ x₀ s₀ t₀ i₀ m a k x s t i =
+abbrev invariant-loop-i : tie.invariant-loop-i
+invariant-loop-i sums q d n rows stride f g m₀ a₀ k₀ x₀ s₀ t₀ i₀ m a k x s t i =
     (i ≤ n) × (length m ≡ length m₀) × (length a ≡ length a₀) × (length k ≡ length k₀) × (length x ≡ length x₀) × (length s ≡ length s₀) × (length t ≡ length t₀)
     × ((G : ℕ → List ℕ) (c : ℕ) → RowsGiven sums q d n rows stride f g G × Within sums d n c f × Rooms d rows (length m₀) (length a₀) (length k₀) (length x₀) (length s₀) (length t₀) × Zero s₀ ×
     Zero t₀
     → Stands q (d * rows) (woven rows (λ r. inner d i (messages_of sums d n f) (keys_of sums q d n (G r)))) (i * (d * c)) s t)
 
-abbrev decreases-loop : tie.decreases-loop
-decreases-loop sums q d n rows stride f g m₀ a₀ k₀ x₀ s₀ t₀ i₀ m a k x s t i = n - i
+abbrev decreases-loop-i : tie.decreases-loop-i
+decreases-loop-i sums q d n rows stride f g m₀ a₀ k₀ x₀ s₀ t₀ i₀ m a k x s t i = n - i
 
-returns : tie.Need-returns invariant-loop decreases-loop
-returns c = λ G m z. absurd (omega (arith, (first_known _ _ _ _ _ _ _ _ G z.0).degree_most))
+returns-then-d-gt-WIDTH : tie.Need-returns-then-d-gt-WIDTH invariant-loop-i decreases-loop-i
+returns-then-d-gt-WIDTH c = λ G m z. absurd (omega (arith, (first_known _ _ _ _ _ _ _ _ G z.0).degree_most))
 
-loop-holds : tie.Need-loop-init invariant-loop decreases-loop
-loop-holds c =
-    let s = c.before.before.before.before.before.before.before in
+loop-i-init : tie.Need-loop-i-init invariant-loop-i decreases-loop-i
+loop-i-init c =
+    let s = c in
     let a = s.args in (
       omega arith,
       refl,
@@ -43,13 +43,13 @@ loop-holds c =
           (messages_of a.sums a.d a.n a.f.now) (λ r. keys_of a.sums a.q a.d a.n (G r)) a.s.now a.t.now z.3 z.4,
     )
 
-loop-again : tie.Need-loop-preserved invariant-loop decreases-loop
-loop-again c =
-    let s = c.before.before.before.before.before.before.before.before.before.before.before.before.before.before.before.before.before.before.before.before.before.before.before.before.before.before.before in
+loop-i-preserved : tie.Need-loop-i-preserved invariant-loop-i decreases-loop-i
+loop-i-preserved c =
+    let s = c in
     let a = s.args in
-    let l = c.before.before.before.before.before.before.before.before.before.before.before.before.before.before.before.before.before.before.before.loop in
-    let test = c.before.before.before.before.before.before.before.before.before.before.before.before.before.before.before.before.before.before.loop-test.true in
-    let one = c.before.before.before.before.before.before.before.before.before.before.before.add-element in (
+    let l = c.loop-i in
+    let test = c.loop-i-test.true in
+    let one = c.add_element in (
       omega (arith, test),
       search rules,
       search rules,
@@ -74,11 +74,11 @@ loop-again c =
           )),
     )
 
-returns-2 : tie.Need-returns-2 invariant-loop decreases-loop
-returns-2 c = λ G m z.
-    let s = c.before.before.before.before.before.before.before.before.before in
+returns : tie.Need-returns invariant-loop-i decreases-loop-i
+returns c = λ G m z.
+    let s = c in
     let a = s.args in
-    let l = c.before.loop in
+    let l = c.loop-i in
     subst (λ n. Stands a.q (a.d * a.rows) (woven a.rows (λ r. inner a.d n (messages_of a.sums a.d a.n a.f.now) (keys_of a.sums a.q a.d a.n (G r))))
     (n * (a.d * m)) l.s l.t)
     {x = l.i} {y = a.n} (omega arith) (l.invariant.7 G m z)
@@ -86,5 +86,5 @@ returns-2 c = λ G m z.
 pub add_elements_spec : {M : Type 1} → statement M
 add_elements_spec =
     tie.close
-    (tie.spec invariant-loop decreases-loop returns loop-holds (λ c κs. search) (λ c. search rules) (λ c. search rules) loop-again (λ c. search) (λ c. search) (λ c. search) (λ c. search) (λ c. search)
-    (λ c. search) returns-2)
+    (tie.spec invariant-loop-i decreases-loop-i returns-then-d-gt-WIDTH loop-i-init (λ c κs. search) (λ c. search rules) (λ c. search rules) loop-i-preserved (λ c. search) (λ c. search) (λ c. search) (λ c. search) (λ c. search)
+    (λ c. search) returns)

@@ -26,8 +26,8 @@ returns c =
     let wide = first.widened-challenges.ensures in
     let taken = first in
     let a = taken.args in
-    let head-stored = first.store.ensures (record { there = omega (arith, slice_bounds-store-end first.before.before); room = omega arith }) in
-    second.store-2.ensures (record { there = omega (arith, slice_bounds-store-end-2 second.before.before); room = omega (arith, first.store.auto.out) })
+    let head-stored = first.store.ensures (record { there = omega (arith, slice_bounds-store-end first.before.before.before.before.before.before.before.before.before); room = omega arith }) in
+    second.store-2.ensures (record { there = omega (arith, slice_bounds-store-end-2 second.before.before.before.before); room = omega (arith, first.store.auto.out) })
     ∙ (λ i. spliced (λ k. get_or (wide i) k 0) 7 8 (head-stored i))
     ∙ front-stored (record_of a.r (claims_of a.t.now)) _ a.t.now taken.head-first.ensures refl (omega arith)
 

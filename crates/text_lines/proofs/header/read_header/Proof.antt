@@ -46,7 +46,7 @@ module _ (c : tie.Else-not-begins_with_names) where
 -- the degree
 module _ (c : tie.In-Value) where
   abbrev from₀ : tie.Else-not-begins_with_names
-  from₀ = c.before.before.before.before
+  from₀ = c.before.before
 
   abbrev v₁ : ℤ
   v₁ = c.in-Value.degree
@@ -66,7 +66,7 @@ module _ (c : tie.In-Value) where
 -- the depth
 module _ (c : tie.In-Value-value_at) where
   abbrev from₁ : tie.In-Value
-  from₁ = c.before.before.before.before
+  from₁ = c.before.before
 
   abbrev text₁ : List ℕ
   text₁ = text (from₀ from₁)
@@ -89,7 +89,7 @@ module _ (c : tie.In-Value-value_at) where
 -- the modulus
 module _ (c : tie.In-Value-value_at-2) where
   abbrev from₂ : tie.In-Value-value_at
-  from₂ = c.before.before.before.before
+  from₂ = c.before.before
 
   abbrev text₂ : List ℕ
   text₂ = text₁ from₂
@@ -112,7 +112,7 @@ module _ (c : tie.In-Value-value_at-2) where
 -- the bound
 module _ (c : tie.In-Value-value_at-3) where
   abbrev from₃ : tie.In-Value-value_at-2
-  from₃ = c.before.before.before.before
+  from₃ = c.before.before
 
   abbrev text₃ : List ℕ
   text₃ = text₂ from₃
@@ -138,7 +138,7 @@ module _ (c : tie.In-Value-value_at-3) where
 -- the rows
 module _ (c : tie.In-Value-value_at-4) where
   abbrev from₄ : tie.In-Value-value_at-3
-  from₄ = c.before.before.before.before
+  from₄ = c.before.before
 
   abbrev text₄ : List ℕ
   text₄ = text₃ from₄
@@ -166,41 +166,41 @@ refuses text r e o = e ∙ sym (ap (header_answer text) o)
 returns-then-not-begins_with_names : tie.Need-returns-then-not-begins_with_names
 returns-then-not-begins_with_names c =
     let t = c.args.text.now in
-    refuses t _ c.no_Header.ensures (settings-unnamed t (sym c.begins_with_names.ensures ∙ not-true _ c.if-not-begins_with_names.true-raw))
+    refuses t _ c.no_header.ensures (settings-unnamed t (sym c.begins_with_names.ensures ∙ not-true _ c.if-not-begins_with_names.true-raw))
 
 returns-in_default : tie.Need-returns-in_default
 returns-in_default c =
     let d = c in
-    let missed = unvalued (text d.before.before.before.before) (at_place 0) 22 _ (sym c.value_at.ensures.0 ∙ c.in_default.is) in
-    refuses (text d.before.before.before.before) _ c.no_header-in_default.ensures (values-over _ [] (at_place 0) _ _ (left₀ d.before.before.before.before) missed)
+    let missed = unvalued (text d.before.before.before) (at_place 0) 22 _ (sym c.value_at.ensures.0 ∙ c.in_default.is) in
+    refuses (text d.before.before.before) _ c.no_header-in_default.ensures (values-over _ [] (at_place 0) _ _ (left₀ d.before.before.before) missed)
 
 returns-in_default-value_at : tie.Need-returns-in_default-value_at
 returns-in_default-value_at c =
     let d = c in
-    let t = text (from₀ d.before.before.before.before) in
-    let missed = unvalued t (at_place 1) (on₁ d.before.before.before.before) _ (sym c.value_at-2.ensures.0 ∙ c.in_default-value_at.is) in
-    refuses t _ c.no_header-in_default-value_at.ensures (values-over _ (v₁ d.before.before.before.before ∷ []) (at_place 1) _ _ (left₁ d.before.before.before.before) missed)
+    let t = text (from₀ d.before.before.before) in
+    let missed = unvalued t (at_place 1) (on₁ d.before.before.before) _ (sym c.value_at-2.ensures.0 ∙ c.in_default-value_at.is) in
+    refuses t _ c.no_header-in_default-value_at.ensures (values-over _ (v₁ d.before.before.before ∷ []) (at_place 1) _ _ (left₁ d.before.before.before) missed)
 
 returns-in_default-value_at-2 : tie.Need-returns-in_default-value_at-2
 returns-in_default-value_at-2 c =
     let d = c in
-    let t = text₁ d.before.before.before.before in
-    let missed = unvalued t (at_place 2) (on₂ d.before.before.before.before) _ (sym c.value_at-3.ensures.0 ∙ c.in_default-value_at-2.is) in
-    refuses t _ c.no_header-in_default-value_at-2.ensures (values-over _ (v₁ (from₁ d.before.before.before.before) ∷ v₂ d.before.before.before.before ∷ []) (at_place 2) _ _ (left₂ d.before.before.before.before) missed)
+    let t = text₁ d.before.before.before in
+    let missed = unvalued t (at_place 2) (on₂ d.before.before.before) _ (sym c.value_at-3.ensures.0 ∙ c.in_default-value_at-2.is) in
+    refuses t _ c.no_header-in_default-value_at-2.ensures (values-over _ (v₁ (from₁ d.before.before.before) ∷ v₂ d.before.before.before ∷ []) (at_place 2) _ _ (left₂ d.before.before.before) missed)
 
 returns-in_default-value_at-3 : tie.Need-returns-in_default-value_at-3
 returns-in_default-value_at-3 c =
     let d = c in
-    let t = text₂ d.before.before.before.before in
-    let missed = unvalued t (at_place 3) (on₃ d.before.before.before.before) _ (sym c.value_at-4.ensures.0 ∙ c.in_default-value_at-3.is) in
-    refuses t _ c.no_header-in_default-value_at-3.ensures (values-over _ (v₁ (from₁ (from₂ d.before.before.before.before)) ∷ v₂ (from₂ d.before.before.before.before) ∷ v₃ d.before.before.before.before ∷ []) (at_place 3) _ _ (left₃ d.before.before.before.before) missed)
+    let t = text₂ d.before.before.before in
+    let missed = unvalued t (at_place 3) (on₃ d.before.before.before) _ (sym c.value_at-4.ensures.0 ∙ c.in_default-value_at-3.is) in
+    refuses t _ c.no_header-in_default-value_at-3.ensures (values-over _ (v₁ (from₁ (from₂ d.before.before.before)) ∷ v₂ (from₂ d.before.before.before) ∷ v₃ d.before.before.before ∷ []) (at_place 3) _ _ (left₃ d.before.before.before) missed)
 
 returns-in_default-value_at-4 : tie.Need-returns-in_default-value_at-4
 returns-in_default-value_at-4 c =
     let d = c in
-    let t = text₃ d.before.before.before.before in
-    let missed = unvalued t (at_place 4) (on₄ d.before.before.before.before) _ (sym c.value_at-5.ensures.0 ∙ c.in_default-value_at-4.is) in
-    refuses t _ c.no_header-in_default-value_at-4.ensures (values-over _ (four d.before.before.before.before) (at_place 4) [] _ (left₄ d.before.before.before.before) missed)
+    let t = text₃ d.before.before.before in
+    let missed = unvalued t (at_place 4) (on₄ d.before.before.before) _ (sym c.value_at-5.ensures.0 ∙ c.in_default-value_at-4.is) in
+    refuses t _ c.no_header-in_default-value_at-4.ensures (values-over _ (four d.before.before.before) (at_place 4) [] _ (left₄ d.before.before.before) missed)
 
 returns : tie.Need-returns
 unfolding header_answer settings_of

@@ -30,10 +30,10 @@ module _ (c : tie.In-Found invariant-loop-at decreases-loop-at) where
   next = c.in-Found.next
 
   abbrev read : Line
-  read = let g = c.next-1.given.0 in line g.0 g.1.0 g.1.1.0 g.1.1.1.0
+  read = let g = c.in-Found in line g.part g.item g.place g.value
 
   got : Found read_line text at read next
-  got = let g = c.next-1.given.0 in line_found text at g.0 g.1.0 g.1.1.0 g.1.1.1.0 next (sym c.read_line.ensures.0 ∙ c.in-Found.is)
+  got = let g = c.in-Found in line_found text at g.part g.item g.place g.value next (sym c.read_line.ensures.0 ∙ c.in-Found.is)
 
   rises : at < next
   rises = omega (arith, line_shorter (drop at text) read (drop next text) got.is, length-drop at text, length-drop next text, got.within)

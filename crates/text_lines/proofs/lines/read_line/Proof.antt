@@ -48,7 +48,7 @@ module _ (c : tie.In-Value) where
 -- the item
 module _ (c : tie.In-Value-read_index) where
   abbrev from₁ : tie.In-Value
-  from₁ = c.before.before.before.before
+  from₁ = c.before.before
 
   abbrev on₂ : ℕ
   on₂ = c.in-Value-read_index.place_on
@@ -69,7 +69,7 @@ module _ (c : tie.In-Value-read_index) where
 -- the place
 module _ (c : tie.In-Value-read_index-2) where
   abbrev from₂ : tie.In-Value-read_index
-  from₂ = c.before.before.before.before
+  from₂ = c.before.before
 
   abbrev text₂ : List ℕ
   text₂ = text (from₁ from₂)
@@ -97,7 +97,7 @@ module _ (c : tie.In-Value-read_index-2) where
 -- the value
 module _ (c : tie.In-Value-value_of) where
   abbrev from₃ : tie.In-Value-read_index-2
-  from₃ = c.before.before.before.before
+  from₃ = c.before.before
 
   abbrev text₃ : List ℕ
   text₃ = text₂ from₃
@@ -145,22 +145,22 @@ returns-in_default-read_index : tie.Need-returns-in_default-read_index
 unfolding read_line_at line_answer line₁
 returns-in_default-read_index c =
     let d = c in
-    let missed = uncolumned (text d.before.before.before) (on₁ d.before.before.before) _ (sym c.read_index-2.ensures.0 ∙ c.in_default-read_index.is) in
-    line_both (text d.before.before.before) (at d.before.before.before) _ (sym (ap (line_answer (text d.before.before.before)) (left₁ d.before.before.before ∙ bind-none _ (line₂ (part d.before.before.before).0) missed)))
+    let missed = uncolumned (text d.before.before) (on₁ d.before.before) _ (sym c.read_index-2.ensures.0 ∙ c.in_default-read_index.is) in
+    line_both (text d.before.before) (at d.before.before) _ (sym (ap (line_answer (text d.before.before)) (left₁ d.before.before ∙ bind-none _ (line₂ (part d.before.before).0) missed)))
 
 returns-in_default-read_index-2 : tie.Need-returns-in_default-read_index-2
 unfolding read_line_at line_answer line₂
 returns-in_default-read_index-2 c =
     let d = c in
-    let missed = uncolumned (text (from₁ d.before.before.before)) (on₂ d.before.before.before) _ (sym c.read_index-3.ensures.0 ∙ c.in_default-read_index-2.is) in
-    line_both (text (from₁ d.before.before.before)) (at (from₁ d.before.before.before)) _ (sym (ap (line_answer (text (from₁ d.before.before.before))) (left₂ d.before.before.before ∙ bind-none _ (line₃ (part (from₁ d.before.before.before)).0 (item d.before.before.before).0) missed)))
+    let missed = uncolumned (text (from₁ d.before.before)) (on₂ d.before.before) _ (sym c.read_index-3.ensures.0 ∙ c.in_default-read_index-2.is) in
+    line_both (text (from₁ d.before.before)) (at (from₁ d.before.before)) _ (sym (ap (line_answer (text (from₁ d.before.before))) (left₂ d.before.before ∙ bind-none _ (line₃ (part (from₁ d.before.before)).0 (item d.before.before).0) missed)))
 
 returns-in_default-value_of : tie.Need-returns-in_default-value_of
 unfolding read_line_at line_answer line₃
 returns-in_default-value_of c =
     let d = c in
-    let missed = unnumbered _ (text₂ d.before.before.before) (on₃ d.before.before.before) _ (part-value d.before.before.before _ c.value_of.ensures ∙ c.in_default-value_of.is) in
-    line_both (text₂ d.before.before.before) (at (from₁ (from₂ d.before.before.before))) _ (sym (ap (line_answer (text₂ d.before.before.before)) (left₃ d.before.before.before ∙ bind-none _ (line₄ (part (from₁ (from₂ d.before.before.before))).0 (item (from₂ d.before.before.before)).0 (place d.before.before.before).0) missed)))
+    let missed = unnumbered _ (text₂ d.before.before) (on₃ d.before.before) _ (part-value d.before.before _ c.value_of.ensures ∙ c.in_default-value_of.is) in
+    line_both (text₂ d.before.before) (at (from₁ (from₂ d.before.before))) _ (sym (ap (line_answer (text₂ d.before.before)) (left₃ d.before.before ∙ bind-none _ (line₄ (part (from₁ (from₂ d.before.before))).0 (item (from₂ d.before.before)).0 (place d.before.before).0) missed)))
 
 returns-then-not-stands : tie.Need-returns-then-not-stands
 unfolding read_line_at line_answer line₄
@@ -179,7 +179,7 @@ overflow_cast-result-2 : tie.Need-overflow_cast-result-2
 overflow_cast-result-2 c = let d = from₃ c.before.before in narrow-cast _ (place d).0 (place d).1 (place_small d)
 
 overflow_add-result : tie.Need-overflow_add-result
-overflow_add-result c = let d = c in record { fits = omega (arith, byte-place line_feed (text₃ d.before.before) (on₄ d.before.before) (ends c), (from₁ (from₂ (from₃ d.before.before))).before.before.before.before.before.good.0.0) }
+overflow_add-result c = let d = c in record { fits = omega (arith, byte-place line_feed (text₃ d.before.before) (on₄ d.before.before) (ends c), c.well_formed.0.0) }
 
 returns : tie.Need-returns
 unfolding read_line_at line_answer line₄

@@ -36,10 +36,10 @@ module _ (c : tie.In-Found) where
   next = c.in-Found.next
 
   abbrev read : Line
-  read = let g = c.p-1.given.0 in line g.0 g.1.0 g.1.1.0 v
+  read = let g = c.in-Found in line g.p g.i g.k v
 
   got : Found read_line text at read next
-  got = let g = c.p-1.given.0 in line_found text at g.0 g.1.0 g.1.1.0 v next (sym c.read_line.ensures.0 ∙ c.in-Found.is)
+  got = let g = c.in-Found in line_found text at g.p g.i g.k v next (sym c.read_line.ensures.0 ∙ c.in-Found.is)
 
   word : to_z w64 (of_z w64 v) ≡ v
   word = to_z-of_z {w = w64} {z = v} (record { sfits = c.in-Found.known_told-1-own.given.1.1.1.0.1 })

@@ -59,7 +59,7 @@ whole text at value i inv none =
     place = omega (arith, length-drop i text, inv.0)
 
 -- the first digit
-module _ (c : tie.After-shared_slice_known-2-1 invariant-loop-value decreases-loop-value) where
+module _ (c : tie.After-shared_slice_known-1 invariant-loop-value decreases-loop-value) where
   abbrev text₀ : List ℕ
   text₀ = c.args.text.now
 
@@ -70,12 +70,12 @@ module _ (c : tie.After-shared_slice_known-2-1 invariant-loop-value decreases-lo
   begins = c.requires
 
 overflow_cast-value : tie.Need-overflow_cast-value invariant-loop-value decreases-loop-value
-overflow_cast-value c = record { fits = omega (arith, high (text₀ c) (at₀ c) (begins c)) }
+overflow_cast-value c = record { fits = omega (arith, high (text₀ c.before) (at₀ c.before) (begins c.before)) }
 
 loop-value-init : tie.Need-loop-value-init invariant-loop-value decreases-loop-value
 loop-value-init c = (
-  omega (arith, inside (text₀ c) (at₀ c) (begins c)),
-  ap kept (run-digit (text₀ c) (at₀ c) 0 (begins c) ∙ ap (λ n. digit_run n (drop (at₀ c + 1) (text₀ c))) (omega arith)),
+  omega (arith, inside (text₀ c.before) (at₀ c.before) (begins c.before)),
+  ap kept (run-digit (text₀ c.before) (at₀ c.before) 0 (begins c.before) ∙ ap (λ n. digit_run n (drop (at₀ c.before + 1) (text₀ c.before))) (omega arith)),
 )
 
 overflow_sub-text : tie.Need-overflow_sub-text invariant-loop-value decreases-loop-value
@@ -100,6 +100,6 @@ returns c =
 pub digit_run_spec : {M : Type 1} → statement M
 digit_run_spec =
     tie.close
-    (tie.spec invariant-loop-value decreases-loop-value (λ c. inside (text₀ c) (at₀ c) (begins c)) (λ c. low (text₀ c) (at₀ c) (begins c)) overflow_cast-value
-    (λ c. record { fits = omega (arith, inside (text₀ c) (at₀ c) (begins c)) }) loop-value-init (λ c κs. search rules) (λ c. within c.before) overflow_sub-text
+    (tie.spec invariant-loop-value decreases-loop-value (λ c. inside (text₀ c.before) (at₀ c.before) (begins c.before)) (λ c. low (text₀ c.before) (at₀ c.before) (begins c.before)) overflow_cast-value
+    (λ c. record { fits = omega (arith, inside (text₀ c.before) (at₀ c.before) (begins c.before)) }) loop-value-init (λ c κs. search rules) (λ c. within c.before) overflow_sub-text
     (λ c κs. search rules) (λ c. record { fits = omega (arith, within c.before.before) }) (λ c. omega (arith, within c.before.before)) loop-value-preserved returns)
