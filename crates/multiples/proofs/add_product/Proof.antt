@@ -14,26 +14,26 @@ abbrev Become : ℕ → List ℤ → List ℕ → List ℕ → List ℕ → List
 Become q f g s t s' d = (z : Summable q d 1 f g) → Zero s → Zero t → Stands q d (product d (signed f) (residue g)) (d * z.magnitude) s' t
 
 -- by columns
-returns : tie.Need-returns
-returns c = λ z g.
-    let s = c.before.before.before.before.before.before.before.before.before.before in
+returns-then-q-lt4294967296 : tie.Need-returns-then-q-lt4294967296
+returns-then-q-lt4294967296 c = λ z g.
+    let s = c in
     let a = s.args in
-    let is : a.d ≡ 4 = c.before.before.before.before.before.if1.true in
+    let is : a.d ≡ 4 = c.if-d-eq4.true in
     subst (Become a.q a.f.now a.g.now a.s.now a.t.now _) {x = 4} {y = a.d} (sym is)
     (λ z zs zt. stands_one a.q 4 (4 * z.magnitude) a.f.now a.g.now _ _
     (subst (λ l. Stands a.q 4 (inner 4 1 (signed_at 4 a.f.now) (residue_at 4 a.g.now)) (1 * (4 * z.magnitude)) l a.t.now)
-    (sym (c.before.before.add-table.ensures (record { coefficients = omega (arith, is, s.requires.1); residues = omega (arith, is, s.requires.2); sums = omega (arith, is, s.requires.3) })))
-    (table_stands a.q 1 a.f.now a.g.now z (ltb-true _ _ c.before.before.before.before.if2.true) a.s.now a.t.now
+    (sym (c.add_table.ensures (record { coefficients = omega (arith, is, s.requires.1); residues = omega (arith, is, s.requires.2); sums = omega (arith, is, s.requires.3) })))
+    (table_stands a.q 1 a.f.now a.g.now z (ltb-true _ _ c.if-q-lt4294967296.true-raw) a.s.now a.t.now
     (stands-zero a.q 4 z.elements.modulus (signed_at 4 a.f.now) (residue_at 4 a.g.now) _ _ zs zt) 1 (omega arith))))
     z g.2 g.3
 
 -- by rows, in one strand
-returns-2 : tie.Need-returns-2
-returns-2 c = λ z g.
-    let s = c.before.before.before.before.before.before.before.before.before.before.before.before.before.before.before.before.before.before.before in
+returns : tie.Need-returns
+returns c = λ z g.
+    let s = c in
     let a = s.args in
     let e = z.elements in
-    let ready = c.before.before.before.before.before.before.before.before.before.before.before.before.prepare.ensures
+    let ready = c.prepare.ensures
     (record {
       degree = e.degree;
       degree_most = omega (arith, e.degree_most);
@@ -43,11 +43,11 @@ returns-2 c = λ z g.
       places = g.0;
     }) in
     one_done a.q a.d a.f.now a.g.now z _ _
-    (c.before.before.before.before.before.before.add-prepared.ensures (λ _ _. pos 0) (λ _. residue a.g.now) 0 z.magnitude (
+    (c.add_prepared.ensures (λ _ _. pos 0) (λ _. residue a.g.now) 0 z.magnitude (
       one_addable a.q a.d a.f.now a.g.now z _ _ s.requires.1 s.requires.3 g.1,
       one_woven a.q a.d e.degree (λ _. residue a.g.now) _ ready,
       none_one a.q a.d a.f.now a.g.now z _ _ g.2 g.3,
     ))
 
 pub add_product_spec : {M : Type 1} → statement M
-add_product_spec = tie.close (tie.spec (λ c κs. search) (λ c. search) returns (λ c κs. search) (λ c κs. search) (λ c. search) (λ c. search) (λ c. search) returns-2)
+add_product_spec = tie.close (tie.spec (λ c κs. search) (λ c. search) returns-then-q-lt4294967296 (λ c κs. search) (λ c κs. search) (λ c. search) (λ c. search) (λ c. search) returns)

@@ -8,30 +8,30 @@ use Rattle.product_sums.proofs.Rows.{first_known}
 use Rattle.plain_products.proofs.inner_rows.Statement.{statement}
 use Rattle.plain_products.proofs.inner_rows.Tie as tie
 
-returns : tie.Need-returns
-returns c = λ G z. absurd (omega (arith, (first_known _ _ _ _ _ _ _ _ G z.0).modulus))
+returns-then-q-eq0 : tie.Need-returns-then-q-eq0
+returns-then-q-eq0 c = λ G z. absurd (omega (arith, (first_known _ _ _ _ _ _ _ _ G z.0).modulus))
 
-returns-2 : tie.Need-returns-2
-returns-2 c = λ G z. absurd (omega (arith, (first_known _ _ _ _ _ _ _ _ G z.0).degree_most))
+returns-then-d-gt-WIDTH : tie.Need-returns-then-d-gt-WIDTH
+returns-then-d-gt-WIDTH c = λ G z. absurd (omega (arith, (first_known _ _ _ _ _ _ _ _ G z.0).degree_most))
 
-returns-3 : tie.Need-returns-3
-returns-3 c = λ G z. absurd (omega (arith, z.0.most))
+returns-then-rows-gt-ROWS : tie.Need-returns-then-rows-gt-ROWS
+returns-then-rows-gt-ROWS c = λ G z. absurd (omega (arith, z.0.most))
 
-returns-4 : tie.Need-returns-4
-returns-4 c = λ G z. absurd (omega (arith, c.before.size.ensures, (first_known _ _ _ _ _ _ _ _ G z.0).message_long))
+returns-then-f-long : tie.Need-returns-then-f-long
+returns-then-f-long c = λ G z. absurd (omega (arith, c.size-long.ensures, (first_known _ _ _ _ _ _ _ _ G z.0).message_long))
 
-returns-5 : tie.Need-returns-5
-returns-5 c = λ G z. absurd (omega (arith, c.before.before.size.ensures, z.0.long 0 z.0.some))
+returns-then-g-long : tie.Need-returns-then-g-long
+returns-then-g-long c = λ G z. absurd (omega (arith, c.size-long.ensures, z.0.long 0 z.0.some))
 
-mul-cells : tie.Need-overflow-mul-cells
-mul-cells c = let s = c.before.before.before.before.before.before.before.before in let a = s.args in omega (arith, cells_most_lem a.rows a.d (omega arith) (omega arith))
+overflow_mul-cells : tie.Need-overflow_mul-cells
+overflow_mul-cells c = let s = c in let a = s.args in omega (arith, cells_most_lem a.rows a.d (omega arith) (omega arith))
 
-inner-in-requires : tie.Need-inner-in-requires
-inner-in-requires c κs =
-    let s = c.before.before.before.before.before.before.before.before.before.before.before.before.before.before.before.before.before in
+inner_in-requires : tie.Need-inner_in-requires
+inner_in-requires c κs =
+    let s = c in
     let a = s.args in
-    let long = c.before.before.before.before.before.before.before.before.before.before.before.size.ensures in
-    let small = leb-true a.d 16 c.before.before.before.before.before.before.before.if7.true in
+    let long = c.size-long.ensures in
+    let small = leb-true a.d 16 c.if-d-le-FEW.true-raw in
     let few = cells_most_lem a.rows a.d (omega arith) (omega arith) in (
       omega arith,
       omega arith,
@@ -48,11 +48,11 @@ inner-in-requires c κs =
       },
     )
 
-inner-in-requires-2 : tie.Need-inner-in-requires-2
-inner-in-requires-2 c κs =
-    let s = c.before.before.before.before.before.before.before.before.before.before.before.before.before.before.before.before.before in
+inner_in-requires-then-cells-le-WIDTH : tie.Need-inner_in-requires-then-cells-le-WIDTH
+inner_in-requires-then-cells-le-WIDTH c κs =
+    let s = c in
     let a = s.args in
-    let long = c.before.before.before.before.before.before.before.before.before.before.before.size.ensures in
+    let long = c.size-long.ensures in
     let few = cells_most_lem a.rows a.d (omega arith) (omega arith) in (
       omega arith,
       omega arith,
@@ -69,11 +69,11 @@ inner-in-requires-2 c κs =
       },
     )
 
-inner-in-requires-3 : tie.Need-inner-in-requires-3
-inner-in-requires-3 c κs =
-    let s = c.before.before.before.before.before.before.before.before.before.before.before.before.before.before.before.before.before in
+inner_in-requires-2 : tie.Need-inner_in-requires-2
+inner_in-requires-2 c κs =
+    let s = c in
     let a = s.args in
-    let long = c.before.before.before.before.before.before.before.before.before.before.before.size.ensures in
+    let long = c.size-long.ensures in
     let few = cells_most_lem a.rows a.d (omega arith) (omega arith) in (
       omega arith,
       omega arith,
@@ -90,22 +90,22 @@ inner-in-requires-3 c κs =
       },
     )
 
-returns-6 : tie.Need-returns-6
+returns-then-d-le-FEW : tie.Need-returns-then-d-le-FEW
 unfolding zeros
-returns-6 c = λ G z. c.before.before.before.before.before.before.before.before.inner-in.ensures G (z.0, z.1, zeros_at 16, zeros_at 16)
+returns-then-d-le-FEW c = λ G z. c.inner_in.ensures G (z.0, z.1, zeros_at 16, zeros_at 16)
 
-returns-7 : tie.Need-returns-7
+returns-then-cells-le-WIDTH : tie.Need-returns-then-cells-le-WIDTH
 unfolding zeros
-returns-7 c = λ G z. c.before.before.before.before.before.before.before.before.inner-in2.ensures G (z.0, z.1, zeros_at width, zeros_at width)
+returns-then-cells-le-WIDTH c = λ G z. c.inner_in-then-cells-le-WIDTH.ensures G (z.0, z.1, zeros_at width, zeros_at width)
 
-returns-8 : tie.Need-returns-8
+returns : tie.Need-returns
 unfolding zeros
-returns-8 c = λ G z. c.before.before.before.before.before.before.before.before.inner-in3.ensures G (z.0, z.1, zeros_at rows_width, zeros_at rows_width)
+returns c = λ G z. c.inner_in-2.ensures G (z.0, z.1, zeros_at rows_width, zeros_at rows_width)
 
 pub inner_rows_spec : {M : Type 1} → statement M
 inner_rows_spec =
     tie.close
-    (tie.spec returns returns-2 returns-3 (λ c κs. search) returns-4 returns-5 mul-cells (λ c. search) (λ c. search) (λ c. search) (λ c. search) (λ c. search)
-    (λ c. search) inner-in-requires (λ c. search) returns-6 (λ c. search) (λ c. search) (λ c. search) (λ c. search) (λ c. search) (λ c. search)
-    inner-in-requires-2 (λ c. search) returns-7 (λ c. search) (λ c. search) (λ c. search) (λ c. search) (λ c. search) (λ c. search)
-    inner-in-requires-3 (λ c. search) returns-8)
+    (tie.spec returns-then-q-eq0 returns-then-d-gt-WIDTH returns-then-rows-gt-ROWS (λ c κs. search) returns-then-f-long returns-then-g-long overflow_mul-cells (λ c. search) (λ c. search) (λ c. search) (λ c. search) (λ c. search)
+    (λ c. search) inner_in-requires (λ c. search) returns-then-d-le-FEW (λ c. search) (λ c. search) (λ c. search) (λ c. search) (λ c. search) (λ c. search)
+    inner_in-requires-then-cells-le-WIDTH (λ c. search) returns-then-cells-le-WIDTH (λ c. search) (λ c. search) (λ c. search) (λ c. search) (λ c. search) (λ c. search)
+    inner_in-requires-2 (λ c. search) returns)

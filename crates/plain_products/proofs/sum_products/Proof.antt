@@ -10,12 +10,12 @@ use Rattle.plain_products.proofs.Rows.{front_given, one_summed}
 use Rattle.plain_products.proofs.sum_products.Statement.{statement}
 use Rattle.plain_products.proofs.sum_products.Tie as tie
 
-add-products-requires : tie.Need-add-products-requires
-add-products-requires c κs =
-    let s = c.before.before.before.before.before.before.before.before.before.before.before.before in
+add_products-requires : tie.Need-add_products-requires
+add_products-requires c κs =
+    let s = c in
     let a = s.args in
-    let is : a.d ≡ 4 = c.before.before.before.before.before.if1.true in
-    let one : a.rows ≡ 1 = eqb-true _ _ c.before.before.before.before.if2.true in (
+    let is : a.d ≡ 4 = c.if-d-eq4.true in
+    let one : a.rows ≡ 1 = eqb-true _ _ c.if-rows-eq1.true-raw in (
       s.requires.4,
       subst (λ d. size_of a.sums d a.n ≤ length a.f.now) is s.requires.2,
       subst (λ d. size_of a.sums d a.n ≤ length a.g.now) is s.requires.3,
@@ -25,15 +25,15 @@ add-products-requires c κs =
     )
 
 -- by columns
-returns : tie.Need-returns
-returns c = λ G z.
-    let s = c.before.before.before.before.before.before.before.before.before.before.before.before.before.before.before.before.before.before in
+returns-then-q-lt4294967296 : tie.Need-returns-then-q-lt4294967296
+returns-then-q-lt4294967296 c = λ G z.
+    let s = c in
     let a = s.args in
     one_summed a.sums a.q a.d a.n a.rows a.stride a.f.now a.g.now G z.0
-    (eqb-true _ _ c.before.before.before.before.before.before.before.before.before.before.if2.true) _ _
-    (c.before.before.before.before.before.add-products.ensures a.d a.t.now (
-      c.before.before.before.before.before.before.before.before.before.before.before.if1.true,
-      ltb-true _ _ c.before.before.before.before.before.before.before.before.before.if3.true,
+    (eqb-true _ _ c.if-rows-eq1.true-raw) _ _
+    (c.add_products.ensures a.d a.t.now (
+      c.if-d-eq4.true,
+      ltb-true _ _ c.if-q-lt4294967296.true-raw,
       front_given a.sums a.q a.d a.n a.rows a.stride a.f.now
           a.g.now G z.0,
       z.1,
@@ -41,20 +41,20 @@ returns c = λ G z.
     ))
 
 -- by rows
-returns-2 : tie.Need-returns-2
-returns-2 c = λ G z.
-    let s = c.before.before.before.before.before.before.before.before.before.before.before.before.before.before.before.before.before.before.before.before.before.before.before.before.before in
+returns : tie.Need-returns
+returns c = λ G z.
+    let s = c in
     let a = s.args in
     let known = first_known a.sums a.q a.d a.n a.rows a.stride a.f.now a.g.now G z.0 in
     record {
       count = a.n * (a.d * known.magnitude);
       few = known.few;
-      stands = c.before.before.before.before.before.before.before.before.before.before.before.add-elements.ensures
-          G known.magnitude (z.0, known.within, s.pre.5, z.1, z.2);
+      stands = c.add_elements.ensures
+          G known.magnitude (z.0, known.within, s.requires.5, z.1, z.2);
     }
 
 pub sum_products_spec : {M : Type 1} → statement M
 sum_products_spec =
     tie.close
-    (tie.spec add-products-requires (λ c. search) (λ c. search) (λ c. search) returns (λ c κs. search) (λ c. search) (λ c. search) (λ c. search) (λ c. search) (λ c. search) (λ c. search)
-    returns-2)
+    (tie.spec add_products-requires (λ c. search) (λ c. search) (λ c. search) returns-then-q-lt4294967296 (λ c κs. search) (λ c. search) (λ c. search) (λ c. search) (λ c. search) (λ c. search) (λ c. search)
+    returns)

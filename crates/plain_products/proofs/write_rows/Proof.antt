@@ -34,16 +34,16 @@ summed-stand q d F s t ls lt ok = record {
 abbrev Given : ℕ → ℕ → ℕ → List ℕ → List ℕ → List ℕ → (ℕ → Element) → Type 0
 Given q d rows s t out F = Modulus q × (d ≤ width) × (rows ≤ rows_most) × (d * rows ≤ length s) × (d * rows ≤ length t) × (rows * d ≤ length out) × Summed q (d * rows) (woven rows F) s t
 
-abbrev invariant-loop : tie.invariant-loop
-invariant-loop q d rows s t out₀ joint cells at₀ r₀ out at r =
+abbrev invariant-loop-r : tie.invariant-loop-r
+invariant-loop-r q d rows s t out₀ joint cells at₀ r₀ out at r =
     (r ≤ rows) × (at ≤ length out₀) × (length out ≡ length out₀) × ((F : ℕ → Element) → Given q d rows s t out₀ F → (at ≡ r * d) × (out ≡ filled (row_places d (λ i. reduced q d (F i))) (r * d) out₀))
 
-abbrev decreases-loop : tie.decreases-loop
-decreases-loop q d rows s t out₀ joint cells at₀ r₀ out at r = rows - r
+abbrev decreases-loop-r : tie.decreases-loop-r
+decreases-loop-r q d rows s t out₀ joint cells at₀ r₀ out at r = rows - r
 
-loop-holds : tie.Need-loop-init invariant-loop decreases-loop
-loop-holds c =
-    let s = c.before.before.before.before in
+loop-r-init : tie.Need-loop-r-init invariant-loop-r decreases-loop-r
+loop-r-init c =
+    let s = c in
     let a = s.args in (
       omega arith,
       omega arith,
@@ -55,47 +55,47 @@ loop-holds c =
       ),
     )
 
-returns : tie.Need-returns invariant-loop decreases-loop
-returns c = λ F z. let s = c.before.before.before.before.before.before.before in let l = c.before.before.loop in absurd
+returns-then-out-at : tie.Need-returns-then-out-at invariant-loop-r decreases-loop-r
+returns-then-out-at c = λ F z. let s = c in let l = c.loop-r in absurd
     (omega (arith, (l.invariant.3 F z).0, row_inside s.args.d s.args.rows l.r (omega arith), z.5))
 
 reduced-places : (q d : ℕ) (F : Element) (out : List ℕ) → filled (λ k. modulo q (F k)) d out ≡ filled (element_places (reduced q d F)) d out
 unfolding reduced
 reduced-places q d F out = filled_ext _ _ d out (λ k h. sym (tabulate_at d (λ j. modulo q (F j)) 0 k h))
 
-loop-again : tie.Need-loop-preserved invariant-loop decreases-loop
-loop-again c =
-    let s = c.before.before.before.before.before.before.before.before.before.before.before in
+loop-r-preserved : tie.Need-loop-r-preserved invariant-loop-r decreases-loop-r
+loop-r-preserved c =
+    let s = c in
     let a = s.args in
-    let l = c.before.before.before.before.before.before.loop in
-    let join = c.before.before.join-strand in (
+    let l = c.loop-r in
+    let join = c.join_strand in (
       omega arith,
       omega arith,
-      put-length l.at l.out join.new.1.1.1.1.1.1.0 (omega arith) join.auto.1.1.1.1.1.1.0 ∙ l.invariant.2,
+      put-length l.at l.out join.new.out (omega arith) join.auto.out ∙ l.invariant.2,
       λ F z.
           let w = l.invariant.3 F z in
           let h : l.r < a.rows = omega arith in
           let is = join.ensures a.q F (
-            c.before.before.before.before.before.before.before.prepare.ensures z.0,
+            c.prepare-joint.ensures z.0,
             record { few = z.2; degree = z.1; inside = h; room = omega (arith, tail-length l.at l.out) },
             summed-stand a.q (a.d * a.rows) (woven a.rows F) a.s.now a.t.now z.3 z.4 z.6,
           ) ∙ reduced-places a.q a.d (F l.r) _ in (
             omega (arith, w.0, Nat.add-mul l.r 1 a.d),
-            ap (λ n. put_mid n (length l.out - n) l.out join.new.1.1.1.1.1.1.0) w.0
+            ap (λ n. put_mid n (length l.out - n) l.out join.new.out) w.0
                 ∙ row_turn a.d (λ i. reduced a.q a.d (F i)) l.r a.out.now l.out (omega (arith, row_inside a.d a.rows l.r h, z.5)) w.1 _
                 (is ∙ ap (λ n. filled (element_places (reduced a.q a.d (F l.r))) a.d (take (length l.out - n) (drop n l.out))) w.0),
           ),
     )
 
-returns-2 : tie.Need-returns-2 invariant-loop decreases-loop
-returns-2 c = λ F z.
-    let s = c.before.before.before.before.before.before in
+returns : tie.Need-returns invariant-loop-r decreases-loop-r
+returns c = λ F z.
+    let s = c in
     let a = s.args in
-    let l = c.before.loop in
+    let l = c.loop-r in
     (l.invariant.3 F z).1 ∙ ap (λ m. filled (row_places a.d (λ i. reduced a.q a.d (F i))) (m * a.d) a.out.now) {x = l.r} {y = a.rows} (omega arith)
 
 pub write_rows_spec : {M : Type 1} → statement M
 write_rows_spec =
     tie.close
-    (tie.spec invariant-loop decreases-loop (λ c κs. search) loop-holds (λ c. search rules) (λ c. search) returns (λ c. search rules) (λ c. search rules) (λ c. search rules) (λ c. search rules)
-    (λ c κs. search) (λ c. search rules) (λ c. search rules) (λ c. search rules) loop-again (λ c. search) returns-2)
+    (tie.spec invariant-loop-r decreases-loop-r (λ c κs. search) loop-r-init (λ c. search rules) (λ c. search) returns-then-out-at (λ c. search rules) (λ c. search rules) (λ c. search rules) (λ c. search rules)
+    (λ c κs. search) (λ c. search rules) (λ c. search rules) (λ c. search rules) loop-r-preserved (λ c. search) returns)

@@ -28,7 +28,7 @@ abbrev Asked : List ℕ → Settings → ℕ → List ℤ → Type 0
 Asked text S from values = Begins text S from × Roomy (length text) (length values)
 
 -- a text whose lines were followed
-module _ (c : tie.After-values) where
+module _ (c : tie.After-values-1) where
   abbrev start : tie.Start
   start = c.before.before.before.before
 
@@ -54,9 +54,9 @@ module _ (c : tie.After-values) where
   answer = record { refusal = 0; settings = S }
 
   -- to its end
-  module _ (found : c.before.read-wanted.result ≡ true) (b : Asked text S start.args.from start.args.values.now) where
+  module _ (found : c.read_wanted.result ≡ true) (b : Asked text S start.args.from start.args.values.now) where
     unrefused : look_refusal text ≡ 0
-    unrefused = (c.before.read-wanted.ensures.0 b).unrefused found
+    unrefused = (c.read_wanted.ensures.0 b).unrefused found
 
     settings_are : settings_in (lines_of text) ≡ S
     settings_are = header-settings text _ b.0.header unrefused
@@ -66,14 +66,14 @@ module _ (c : tie.After-values) where
     looks = loaded-granted text S (look_refusal text) unrefused settings_are
 
     in_order_lem : ordered ≡ true
-    in_order_lem = sym ((c.before.read-wanted.ensures.0 b).answer unrefused) ∙ found
+    in_order_lem = sym ((c.read_wanted.ensures.0 b).answer unrefused) ∙ found
 
 module _ (c : tie.After-fits2) where
-  abbrev followed : tie.After-values
+  abbrev followed : tie.After-values-1
   followed = c.before.before
 
-  reached : followed.before.read-wanted.result ≡ true
-  reached = not-false _ c.before.if1.false
+  reached : followed.read_wanted.result ≡ true
+  reached = not-false _ c.if-not-read_wanted.false
 
   fitted : Asked (text followed) (S followed) (start followed).args.from (start followed).args.values.now → c.fits2.result ≡ fitting followed
   fitted b =
@@ -81,43 +81,43 @@ module _ (c : tie.After-fits2) where
       ∙ lengths-counted (S followed) (parts followed) b.0.allowed (lengths followed)
       ∙ ap (λ x. lengths_fit x (parts followed) (lengths followed)) (sym (settings_are followed reached b))
 
-returns : tie.Need-returns
-returns c = ((λ b. gathered-look _ _ _ c.before.before.read-settings.result c.before.before.read-settings.ensures _ c.if2.true), λ e. absurd (c.if2.true e))
+returns-then-loaded-ne0 : tie.Need-returns-then-loaded-ne0
+returns-then-loaded-ne0 c = ((λ b. gathered-look _ _ _ c.read_settings-loaded.result c.read_settings-loaded.ensures _ c.if-loaded-ne0.true), λ e. absurd (c.if-loaded-ne0.true e))
 
-returns-2 : tie.Need-returns-2
-returns-2 c =
-    let seen = c.before.before.before in
-    let v = seen.before.before in
-    let unrefused = sym (look-number (text v) seen.read-settings.result seen.read-settings.ensures) ∙ c.before.if2.false in (
+returns-then-not-read_wanted : tie.Need-returns-then-not-read_wanted
+returns-then-not-read_wanted c =
+    let seen = c in
+    let v = seen in
+    let unrefused = sym (look-number (text v.before.before.before.before.before) seen.read_settings-loaded.result seen.read_settings-loaded.ensures) ∙ c.if-loaded-ne0.false in (
       (λ b.
-          gathered_refused (parts v) (lengths v) (text v) seen.read-settings.result seen.read-settings.ensures _ c.before.if2.false c.refused.result c.refused.ensures
-          (and_fails_left (ordered v) (fitting v) (sym ((v.before.read-wanted.ensures.0 b).answer unrefused) ∙ not-true _ seen.before.if1.true))),
+          gathered_refused (parts v.before.before.before.before.before) (lengths v.before.before.before.before.before) (text v.before.before.before.before.before) seen.read_settings-loaded.result seen.read_settings-loaded.ensures _ c.if-loaded-ne0.false c.refused.result c.refused.ensures
+          (and_fails_left (ordered v.before.before.before.before.before) (fitting v.before.before.before.before.before) (sym ((v.read_wanted.ensures.0 b).answer unrefused) ∙ not-true _ seen.if-not-read_wanted.true-raw))),
       λ e. absurd (omega (arith, e, ap (λ r. r.refusal) c.refused.ensures)),
     )
 
-returns-3 : tie.Need-returns-3
-returns-3 c =
-    let f = c.before.before in
+returns-then-not-fits : tie.Need-returns-then-not-fits
+returns-then-not-fits c =
+    let f = c in
     let v = followed f in (
       (λ b.
-          gathered_refused (parts v) (lengths v) (text v) (answer v) (looks v (reached f) b) _ refl c.refused2.result c.refused2.ensures
-          (and_fails_right (ordered v) (fitting v) (sym (fitted f b) ∙ not-true _ c.before.if3.true))),
-      λ e. absurd (omega (arith, e, ap (λ r. r.refusal) c.refused2.ensures)),
+          gathered_refused (parts v) (lengths v) (text v) (answer v) (looks v (reached f) b) _ refl c.refused-then-not-fits.result c.refused-then-not-fits.ensures
+          (and_fails_right (ordered v) (fitting v) (sym (fitted f b) ∙ not-true _ c.if-not-fits.true-raw))),
+      λ e. absurd (omega (arith, e, ap (λ r. r.refusal) c.refused-then-not-fits.ensures)),
     )
 
-returns-4 : tie.Need-returns-4
-returns-4 c =
-    let f = c.before in
+returns : tie.Need-returns
+returns c =
+    let f = c in
     let v = followed f in (
       (λ b.
           gathered_granted (parts v) (lengths v) (text v) (answer v) (looks v (reached f) b) _ refl
-          (and_intro {a = ordered v} {b = fitting v} (in_order_lem v (reached f) b) (sym (fitted f b) ∙ not-false _ c.if3.false))
-          ((v.before.read-wanted.ensures.0 b).stored (reached f))),
-      λ _. v.before.read-wanted.ensures.1 (reached f) (lengths v) (sym f.fits2.ensures ∙ not-false _ c.if3.false),
+          (and_intro {a = ordered v} {b = fitting v} (in_order_lem v (reached f) b) (sym (fitted f b) ∙ not-false _ c.if-not-fits.false-raw))
+          ((v.before.read_wanted.ensures.0 b).stored (reached f))),
+      λ _. v.before.read_wanted.ensures.1 (reached f) (lengths v) (sym f.fits2.ensures ∙ not-false _ c.if-not-fits.false-raw),
     )
 
 pub read_values_spec : {M : Type 1} → statement M
 read_values_spec =
     tie.close
-    (tie.spec (λ c κs. search) (λ c κs. search) (λ c. search) returns (λ c κs. search) (λ c. search) returns-2
-    (λ c κs. search) (λ c κs. search) (λ c. search) returns-3 (λ c. search) returns-4)
+    (tie.spec (λ c κs. search) (λ c κs. search) (λ c. search) returns-then-loaded-ne0 (λ c κs. search) (λ c. search) returns-then-not-read_wanted
+    (λ c κs. search) (λ c κs. search) (λ c. search) returns-then-not-fits (λ c. search) returns)

@@ -26,38 +26,38 @@ asked : (text : List ℕ) (S : Settings) (from n : ℕ) → length text ≤ text
 asked text S from n short (b, roomy) = (b.allowed, header-within text (header S from) b.header, roomy short)
 
 -- a text whose length is allowed
-short : (c : tie.Else1) → length c.before.before.args.text.now ≤ text_limit
+short : (c : tie.Else-text-gt-TEXT_LIMIT) → length c.args.text.now ≤ text_limit
 unfolding text_limit
 short c = omega arith
 
-returns : tie.Need-returns
+returns-then-text-gt-TEXT_LIMIT : tie.Need-returns-then-text-gt-TEXT_LIMIT
 unfolding text_limit
-returns c =
-    let a = c.before.before.args in
-    ((λ b. followed_long a.text.now a.parts (header a.settings a.from) b.0.header _ c.if1.true), λ e. absurd (false≢true e))
+returns-then-text-gt-TEXT_LIMIT c =
+    let a = c.args in
+    ((λ b. followed_long a.text.now a.parts (header a.settings a.from) b.0.header _ c.if-text-gt-TEXT_LIMIT.true), λ e. absurd (false≢true e))
 
-returns-2 : tie.Need-returns-2
-returns-2 c =
-    let p = c.before.before.before in
-    let a = p.before.before.before.before.args in (
+returns-then-not-taken : tie.Need-returns-then-not-taken
+returns-then-not-taken c =
+    let p = c in
+    let a = p.args in (
       (λ b.
-          followed-missed a.text.now a.parts (header a.settings a.from) b.0.header _ p.read-parts.result
-          (p.read-parts.ensures.0 (asked a.text.now a.settings a.from _ (short p.before.before) b)) (not-true _ c.if2.true)),
+          followed-missed a.text.now a.parts (header a.settings a.from) b.0.header _ p.read_parts-taken.result
+          (p.read_parts-taken.ensures.0 (asked a.text.now a.settings a.from _ (short p.before.before.before.before.before) b)) (not-true _ c.if-not-taken.true)),
       λ e. absurd (false≢true e),
     )
 
-returns-3 : tie.Need-returns-3
-returns-3 c =
-    let p = c.before.before.before.before in
-    let a = p.before.before.before.before.args in
-    let found = not-false _ c.before.if2.false in (
+returns : tie.Need-returns
+returns c =
+    let p = c in
+    let a = p.args in
+    let found = not-false _ c.if-not-taken.false in (
       (λ b.
-          followed-found a.text.now a.parts (header a.settings a.from) b.0.header _ p.read-parts.result
-          (p.read-parts.ensures.0 (asked a.text.now a.settings a.from _ (short p.before.before) b)) (short p.before.before) refl b.0.allowed found),
-      λ _. p.read-parts.ensures.1 found,
+          followed-found a.text.now a.parts (header a.settings a.from) b.0.header _ p.read_parts-taken.result
+          (p.read_parts-taken.ensures.0 (asked a.text.now a.settings a.from _ (short p.before.before.before.before.before.before) b)) (short p.before.before.before.before.before.before) refl b.0.allowed found),
+      λ _. p.read_parts-taken.ensures.1 found,
     )
 
 pub read_wanted_spec : {M : Type 1} → statement M
 read_wanted_spec =
     tie.close
-    (tie.spec returns (λ c κs. search rules) (λ c. search rules) returns-2 (λ c. search rules) returns-3)
+    (tie.spec returns-then-text-gt-TEXT_LIMIT (λ c κs. search rules) (λ c. search rules) returns-then-not-taken (λ c. search rules) returns)

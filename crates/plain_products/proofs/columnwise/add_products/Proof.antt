@@ -42,11 +42,11 @@ module _ (q n : ℕ) (f : List ℤ) (g s t s' : List ℕ) (few : q < 2 ^ 32) whe
   tables_become e z zs zt =
       record { count = n * (4 * z.magnitude); few = omega (arith, z.few, Nat.mul_assoc n 4 z.magnitude); stands = e q t z (few, stands-zero q 4 z.elements.modulus _ _ s t zs zt) }
 
-add-sums-requires : tie.Need-add-sums-requires
-add-sums-requires c κs =
-    let s = c.before.before.before.before.before.before.before in
+add_sums-requires : tie.Need-add_sums-requires
+add_sums-requires c κs =
+    let s = c in
     let a = s.args in
-    let t = c.before.before.before.if1.true in (
+    let t = c.if-sums.true in (
       record {
         modulus = s.requires.0;
         degree = omega arith;
@@ -59,29 +59,29 @@ add-sums-requires c κs =
       s.requires.4,
     )
 
-returns : tie.Need-returns
+returns-then-sums : tie.Need-returns-then-sums
 unfolding Given
-returns c = λ d t z.
-    let s = c.before.before.before.before.before.before.before.before.before.before.before.before.before in
+returns-then-sums c = λ d t z.
+    let s = c in
     let a = s.args in
-    at_four a.sums true c.before.before.before.before.before.before.before.before.before.if1.true a.q a.n a.f.now a.g.now a.s.now t _ d z.0
-    (sums_become a.q a.n a.f.now a.g.now a.s.now t _ z.1 c.before.before.before.before.before.add-sums.ensures)
+    at_four a.sums true c.if-sums.true a.q a.n a.f.now a.g.now a.s.now t _ d z.0
+    (sums_become a.q a.n a.f.now a.g.now a.s.now t _ z.1 c.add_sums.ensures)
     z.2 z.3 z.4
 
-add-elements-requires : tie.Need-add-elements-requires
-add-elements-requires c κs =
-    let s = c.before.before.before.before.before in
+add_elements-requires : tie.Need-add_elements-requires
+add_elements-requires c κs =
+    let s = c in
     let a = s.args in
-    let t = c.before.if1.false in
+    let t = c.if-sums.false in
     (size-false a.sums t 4 a.n (length a.f.now) s.requires.1, size-false a.sums t 4 a.n (length a.g.now) s.requires.2, s.requires.5)
 
-returns-2 : tie.Need-returns-2
-returns-2 c = λ d t z.
-    let s = c.before.before.before.before.before.before.before.before in
+returns : tie.Need-returns
+returns c = λ d t z.
+    let s = c in
     let a = s.args in
-    at_four a.sums false c.before.before.before.before.if1.false a.q a.n a.f.now a.g.now a.s.now t _ d z.0
-    (tables_become a.q a.n a.f.now a.g.now a.s.now t _ z.1 c.before.before.add-elements.ensures)
+    at_four a.sums false c.if-sums.false a.q a.n a.f.now a.g.now a.s.now t _ d z.0
+    (tables_become a.q a.n a.f.now a.g.now a.s.now t _ z.1 c.add_elements.ensures)
     z.2 z.3 z.4
 
 pub add_products_spec : {M : Type 1} → statement M
-add_products_spec = tie.close (tie.spec add-sums-requires (λ c. search) (λ c. search) (λ c. search) returns add-elements-requires (λ c. search) returns-2)
+add_products_spec = tie.close (tie.spec add_sums-requires (λ c. search) (λ c. search) (λ c. search) returns-then-sums add_elements-requires (λ c. search) returns)

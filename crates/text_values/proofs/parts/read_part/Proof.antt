@@ -23,13 +23,13 @@ use Rattle.text_values.proofs.Cells.{took-missed, took-done}
 use Rattle.text_values.proofs.parts.read_part.Statement.{statement}
 use Rattle.text_values.proofs.parts.read_part.Tie as tie
 
-abbrev invariant-loop : tie.invariant-loop
-invariant-loop text from shape values₀ size at₀ cell₀ p₀ values at cell p =
+abbrev invariant-loop-p : tie.invariant-loop-p
+invariant-loop-p text from shape values₀ size at₀ cell₀ p₀ values at cell p =
     (p ≤ size) × (size ≡ shape_size (as_shape shape)) × (from ≤ length text → at ≤ length text) × (length values ≡ length values₀) × (cell ≡ cell_at shape.places p)
     × (read_values (spots (as_shape shape)) (drop from text) ≡ prefix (take p values) (read_values (drop p (spots (as_shape shape))) (drop at text)))
 
-abbrev decreases-loop : tie.decreases-loop
-decreases-loop text from shape values₀ size at₀ cell₀ p₀ values at cell p = size - p
+abbrev decreases-loop-p : tie.decreases-loop-p
+decreases-loop-p text from shape values₀ size at₀ cell₀ p₀ values at cell p = size - p
 
 -- one line more
 module _ (text : List ℕ) (from : ℕ) (b : Shape) where
@@ -56,24 +56,24 @@ module _ (text : List ℕ) (from : ℕ) (b : Shape) where
       values-done all_of (take p values) (drop at text) (left ∙ ap (λ ss. prefix (take p values) (read_values ss (drop at text))) (spots-end b p h))
 
 -- the line that is wanted
-module _ (c : tie.In-loop invariant-loop decreases-loop) where
+module _ (c : tie.In-loop-p invariant-loop-p decreases-loop-p) where
   abbrev text : List ℕ
-  text = c.before.before.before.before.args.text.now
+  text = c.args.text.now
 
   abbrev from : ℕ
-  from = c.before.before.before.before.args.from
+  from = c.args.from
 
   abbrev part : Part
-  part = c.before.before.before.before.args.shape
+  part = c.args.shape
 
   abbrev now_at : ℕ
-  now_at = c.before.loop.at
+  now_at = c.loop-p.at
 
   abbrev line : ℕ
-  line = c.before.loop.p
+  line = c.loop-p.p
 
   abbrev values : List ℤ
-  values = c.before.loop.values
+  values = c.loop-p.values
 
   inside : line < shape_size (as_shape part)
   inside = omega arith
@@ -81,70 +81,70 @@ module _ (c : tie.In-loop invariant-loop decreases-loop) where
   room : line < length values
   room = omega arith
 
-  wanted : spot part.part c.before.loop.cell.item c.before.loop.cell.place ≡ spot_at (as_shape part) line
+  wanted : spot part.part c.loop-p.cell.item c.loop-p.cell.place ≡ spot_at (as_shape part) line
   unfolding cell_at spot_at
-  wanted = λ j. spot part.part (c.before.loop.invariant.4 j).item (c.before.loop.invariant.4 j).place
+  wanted = λ j. spot part.part (c.loop-p.invariant.4 j).item (c.loop-p.invariant.4 j).place
 
-  within : (c.before.loop.cell.place < part.places) × (c.before.loop.cell.item + 1 < 2 ^ 32)
-  within = cell-inside (as_shape part) line inside c.before.loop.cell (search rules) c.before.loop.invariant.4
+  within : (c.loop-p.cell.place < part.places) × (c.loop-p.cell.item + 1 < 2 ^ 32)
+  within = cell-inside (as_shape part) line inside c.loop-p.cell (search rules) c.loop-p.invariant.4
 
 -- its value
-module _ (c : tie.After-known-told invariant-loop decreases-loop) where
-  abbrev turn : tie.In-loop invariant-loop decreases-loop
-  turn = c.before.before.before.before
+module _ (c : tie.In-Value invariant-loop-p decreases-loop-p) where
+  abbrev turn : tie.In-loop-p invariant-loop-p decreases-loop-p
+  turn = c.before.before
 
   abbrev v : ℤ
-  v = c.before.value.given.0.0
+  v = c.in-Value.value
 
   abbrev next : ℕ
-  next = c.before.value.given.0.1.0
+  next = c.in-Value.next
 
   got : Found (read_value (spot_at (as_shape (part turn)) (line turn))) (text turn) (now_at turn) v next
   got = subst (λ s. Found (read_value s) (text turn) (now_at turn) v next) (wanted turn)
-      (valued (text turn) _ (now_at turn) v next (sym c.before.before.before.value-at.ensures.0 ∙ c.before.value.given.1))
+      (valued (text turn) _ (now_at turn) v next (sym c.value_at.ensures.0 ∙ c.in-Value.is))
 
   word : to_z w64 (of_z w64 v) ≡ v
-  word = to_z-of_z {w = w64} {z = v} (record { sfits = c.known-told.given.0.1 })
+  word = to_z-of_z {w = w64} {z = v} (record { sfits = c.in-Value.known_told-1-own.given.0.1 })
 
-loop-holds : tie.Need-loop-init invariant-loop decreases-loop
-loop-holds c = (search rules, c.type_size.ensures, (λ h. h), refl, sym (cell_first _), sym (prefix-nothing _))
+loop-p-init : tie.Need-loop-p-init invariant-loop-p decreases-loop-p
+loop-p-init c = (search rules, c.type_size.ensures, (λ h. h), refl, sym (cell_first _), sym (prefix-nothing _))
 
-same_length : tie.Need-same-length invariant-loop decreases-loop
-same_length c = c.before.before.before.before.loop.invariant.3
+shape_of-values-in_default : tie.Need-shape_of-values-in_default invariant-loop-p decreases-loop-p
+shape_of-values-in_default c = c.loop-p.invariant.3
 
-returns : tie.Need-returns invariant-loop decreases-loop
-returns c _ =
-    let d = c.before.before.before in
-    let b = as_shape (part d) in
-    let none_here = unvalued (text d) _ (now_at d) _ (sym c.before.before.value-at.ensures.0 ∙ c.enum_told.given.1) in
-    took-missed (text d) (from d) (spots b) (values d)
-    (stop (text d) (from d) b (values d) (now_at d) (line d) (inside d) d.before.loop.invariant.5
-    (subst (λ s. read_value s (drop (now_at d) (text d)) ≡ none) (wanted d) none_here))
+returns-in_default : tie.Need-returns-in_default invariant-loop-p decreases-loop-p
+returns-in_default c _ =
+    let d = c in
+    let b = as_shape (part d.before.before) in
+    let none_here = unvalued (text d.before.before) _ (now_at d.before.before) _ (sym c.value_at.ensures.0 ∙ c.in_default.is) in
+    took-missed (text d.before.before) (from d.before.before) (spots b) (values d.before.before)
+    (stop (text d.before.before) (from d.before.before) b (values d.before.before) (now_at d.before.before) (line d.before.before) (inside d.before.before) d.loop-p.invariant.5
+    (subst (λ s. read_value s (drop (now_at d.before.before) (text d.before.before)) ≡ none) (wanted d.before.before) none_here))
 
-slice-set-from-value : tie.Need-slice-set-from-value invariant-loop decreases-loop
-slice-set-from-value c = room (turn c)
+bounds-values-p : tie.Need-bounds-values-p invariant-loop-p decreases-loop-p
+bounds-values-p c = room (turn c)
 
-loop-again : tie.Need-loop-preserved invariant-loop decreases-loop
-loop-again c =
-    let k = c.before in
-    let d = turn k in
-    let l = d.before.loop in (
+loop-p-preserved : tie.Need-loop-p-preserved invariant-loop-p decreases-loop-p
+loop-p-preserved c =
+    let k = c in
+    let d = turn k.before in
+    let l = d.loop-p in (
       omega arith,
-      l.inv.1,
-      (λ _. (got k).within),
-      simp length-set l.inv.3,
-      c.next-cell.ensures ∙ next-cell _ _ (within d).0 (within d).1 (line d) l.inv.4,
-      subst (λ w. Left (text d) (from d) (as_shape (part d)) (set (values d) (line d) w) (next k) (line d + 1)) (sym (word k))
-          (step (text d) (from d) (as_shape (part d)) (values d) (now_at d) (line d) (inside d) l.inv.5 (v k) (next k) (room d) (got k)),
+      l.invariant.1,
+      (λ _. (got k.before).within),
+      simp length-set l.invariant.3,
+      c.next_cell-cell.ensures ∙ next-cell _ _ (within d).0 (within d).1 (line d) l.invariant.4,
+      subst (λ w. Left (text d) (from d) (as_shape (part d)) (set (values d) (line d) w) (next k.before) (line d + 1)) (sym (word k.before))
+          (step (text d) (from d) (as_shape (part d)) (values d) (now_at d) (line d) (inside d) l.invariant.5 (v k.before) (next k.before) (room d) (got k.before)),
     )
 
-same-length-2 : tie.Need-same-length-2 invariant-loop decreases-loop
-same-length-2 c = c.before.loop.invariant.3
+shape_of-values : tie.Need-shape_of-values invariant-loop-p decreases-loop-p
+shape_of-values c = c.loop-p.invariant.3
 
-returns-2 : tie.Need-returns-2 invariant-loop decreases-loop
-returns-2 c h =
-    let l = c.before.loop in
-    let a = c.before.before.before.before.args in
+returns : tie.Need-returns invariant-loop-p decreases-loop-p
+returns c h =
+    let l = c.loop-p in
+    let a = c.args in
     let b = as_shape a.shape in
     took-done a.text.now a.from (spots b) l.values l.p l.at (omega (arith, spots-count b)) (l.invariant.2 h)
     (done a.text.now a.from b l.values l.at l.p (omega arith) l.invariant.5)
@@ -152,5 +152,5 @@ returns-2 c h =
 pub read_part_spec : {M : Type 1} → statement M
 read_part_spec =
     tie.close
-    (tie.spec invariant-loop decreases-loop (λ c κs. search rules) loop-holds (λ c κs. search rules) (λ c. search rules) (λ c. search rules) same_length returns
-    (λ c. search rules) slice-set-from-value (λ c κs. search rules) (λ c. search rules) (λ c. search rules) loop-again same-length-2 returns-2)
+    (tie.spec invariant-loop-p decreases-loop-p (λ c κs. search rules) loop-p-init (λ c κs. search rules) (λ c. search rules) (λ c. search rules) shape_of-values-in_default returns-in_default
+    (λ c. search rules) bounds-values-p (λ c κs. search rules) (λ c. search rules) (λ c. search rules) loop-p-preserved shape_of-values returns)

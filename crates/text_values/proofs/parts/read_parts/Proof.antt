@@ -34,15 +34,15 @@ use Rattle.text_values.proofs.parts.read_parts.Tie as tie
 abbrev Asked : Settings → ℕ → List ℕ → List ℤ → Type 0
 Asked S from text values = (settings_refusal S ≡ 0) × (from ≤ length text) × (length text ≤ 8 * length values)
 
-abbrev invariant-loop : tie.invariant-loop
-invariant-loop settings parts text from values₀ at₀ start₀ part₀ values at start part =
+abbrev invariant-loop-part : tie.invariant-loop-part
+invariant-loop-part settings parts text from values₀ at₀ start₀ part₀ values at start part =
     (1 ≤ part) × (part ≤ part_count) × (start ≤ length values) × (length values ≡ length values₀)
     × ((n : List ℕ) → lengths_are (part_of settings parts) n ≡ true → start ≡ Flat.start n (part - 1))
     × (Asked settings from text values₀ → (at ≤ length text) × (start + length (spots_from settings parts part) ≡ length (part_spots settings parts))
     × (read_values (part_spots settings parts) (drop from text) ≡ prefix (take start values) (read_values (spots_from settings parts part) (drop at text))))
 
-abbrev decreases-loop : tie.decreases-loop
-decreases-loop settings parts text from values₀ at₀ start₀ part₀ values at start part = part_count - part
+abbrev decreases-loop-part : tie.decreases-loop-part
+decreases-loop-part settings parts text from values₀ at₀ start₀ part₀ values at start part = part_count - part
 
 prefix-none : (vs : List ℤ) → prefix vs none ≡ none
 unfolding prefix
@@ -56,39 +56,39 @@ stored_next values last behind start size h k =
     ∙ take-append-add (take start values) (last ++ behind) size ∙ ap (λ l. take start values ++ l) (take-append-le size last behind k)
 
 -- the part that is read
-module _ (c : tie.After-size-of invariant-loop decreases-loop) where
+module _ (c : tie.After-size_of-size invariant-loop-part decreases-loop-part) where
   abbrev S : Settings
-  S = c.before.before.before.before.before.args.settings
+  S = c.args.settings
 
   abbrev P : Parts
-  P = c.before.before.before.before.before.args.parts
+  P = c.args.parts
 
   abbrev text : List ℕ
-  text = c.before.before.before.before.before.args.text.now
+  text = c.args.text.now
 
   abbrev lent : List ℤ
-  lent = c.before.before.before.before.before.args.values.now
+  lent = c.args.values.now
 
   abbrev from : ℕ
-  from = c.before.before.before.before.before.args.from
+  from = c.args.from
 
   abbrev now_part : ℕ
-  now_part = c.before.before.before.loop.part
+  now_part = c.loop-part.part
 
   abbrev now_at : ℕ
-  now_at = c.before.before.before.loop.at
+  now_at = c.loop-part.at
 
   abbrev start : ℕ
-  start = c.before.before.before.loop.start
+  start = c.loop-part.start
 
   abbrev values : List ℤ
-  values = c.before.before.before.loop.values
+  values = c.loop-part.values
 
   abbrev size : ℕ
   size = c.type_size.result
 
   abbrev spots_here : List Spot
-  spots_here = spots (as_shape c.before.shape_of.result)
+  spots_here = spots (as_shape c.shape_of-shape.result)
 
   abbrev spots_next : List Spot
   spots_next = spots_from S P (now_part + 1)
@@ -104,19 +104,19 @@ module _ (c : tie.After-size-of invariant-loop decreases-loop) where
   unfolding lengths_are
   start-behind n f =
       let k = now_part - 1 in
-      let long : size ≡ get_or n k 0 = c.type_size.ensures ∙ ap shape_size (c.before.shape_of.ensures ∙ ap (part_of S P) {x = now_part} {y = k + 1} (omega arith))
+      let long : size ≡ get_or n k 0 = c.type_size.ensures ∙ ap shape_size (c.shape_of-shape.ensures ∙ ap (part_of S P) {x = now_part} {y = k + 1} (omega arith))
       ∙ sym (eqb-true _ _ (every_at table_count _ f k (omega arith))) in
-      (λ j. c.before.before.before.loop.invariant.4 n f j + long j) ∙ sym (start_next n k) ∙ ap (Flat.start n) {x = k + 1} {y = now_part + 1 - 1} (omega arith)
+      (λ j. c.loop-part.invariant.4 n f j + long j) ∙ sym (start_next n k) ∙ ap (Flat.start n) {x = k + 1} {y = now_part + 1 - 1} (omega arith)
 
   module _ (g : Asked S from text lent) where
     next_spots : spots_from S P now_part ≡ spots_here ++ spots_next
-    next_spots = spots-from_next S P now_part (omega arith) ∙ ap (λ b. spots b ++ spots_next) (sym (c.before.shape_of.ensures ∙ part_of_holds S P g.0 now_part))
+    next_spots = spots-from_next S P now_part (omega arith) ∙ ap (λ b. spots b ++ spots_next) (sym (c.shape_of-shape.ensures ∙ part_of_holds S P g.0 now_part))
 
     counts : length (spots_from S P now_part) ≡ size + length spots_next
     counts = ap length next_spots ∙ length-append spots_here spots_next ∙ ap (λ n. n + length spots_next) (sym size_is)
 
     here : whole ≡ prefix (take start values) (read_values (spots_here ++ spots_next) (drop now_at text))
-    here = (c.before.before.before.loop.invariant.5 g).2 ∙ ap (λ ss. prefix (take start values) (read_values ss (drop now_at text))) next_spots
+    here = (c.loop-part.invariant.5 g).2 ∙ ap (λ ss. prefix (take start values) (read_values ss (drop now_at text))) next_spots
 
     -- where there is no room, not all lines are there
     crowded : length values < start + size → whole ≡ none
@@ -125,27 +125,27 @@ module _ (c : tie.After-size-of invariant-loop decreases-loop) where
         by : (o : Option (List ℤ × List ℕ)) → whole ≡ o → whole ≡ none
         by none e = e
         by (some (vs, rest)) e =
-            let count = (c.before.before.before.loop.invariant.5 g).1 in
-            absurd (omega (arith, values-room (part_spots S P) (drop from text) vs rest e, length-drop from text, counts, count, g.2, c.before.before.before.loop.invariant.3))
+            let count = (c.loop-part.invariant.5 g).1 in
+            absurd (omega (arith, values-room (part_spots S P) (drop from text) vs rest e, length-drop from text, counts, count, g.2, c.loop-part.invariant.3))
 
 -- what was read of it
-module _ (c : tie.After-values invariant-loop decreases-loop) where
-  abbrev at_part : tie.After-size-of invariant-loop decreases-loop
+module _ (c : tie.After-values-1 invariant-loop-part decreases-loop-part) where
+  abbrev at_part : tie.After-size_of-size invariant-loop-part decreases-loop-part
   at_part = c.before.before.before.before
 
   abbrev last : List ℤ
-  last = c.before.read-part.new.1.1.1.0
+  last = c.read_part-taken.new.values
 
   room : start at_part + size at_part ≤ length (values at_part)
   room = omega arith
 
-  took : Asked (S at_part) (from at_part) (text at_part) (lent at_part) → Took (text at_part) (now_at at_part) (spots_here at_part) c.before.read-part.result last
-  took g = c.before.read-part.ensures (at_part.before.before.before.loop.inv.5 g).0
+  took : Asked (S at_part) (from at_part) (text at_part) (lent at_part) → Took (text at_part) (now_at at_part) (spots_here at_part) c.read_part-taken.result last
+  took g = c.read_part-taken.ensures (at_part.loop-part.invariant.5 g).0
 
-loop-holds : tie.Need-loop-init invariant-loop decreases-loop
+loop-part-init : tie.Need-loop-part-init invariant-loop-part decreases-loop-part
 unfolding Flat.start
-loop-holds c =
-    let a = c.before.args in
+loop-part-init c =
+    let a = c.args in
     let one = spots-from_one a.settings a.parts in (
       search rules,
       search rules,
@@ -155,66 +155,66 @@ loop-holds c =
       λ g. (g.1, omega (arith, ap length one), ap (λ ss. read_values ss (drop a.from a.text.now)) one ∙ sym (prefix-nothing _)),
     )
 
-same_length : tie.Need-same-length invariant-loop decreases-loop
-same_length c = c.before.before.before.before.loop.invariant.3
+shape_of-values-then-size-values : tie.Need-shape_of-values-then-size-values invariant-loop-part decreases-loop-part
+shape_of-values-then-size-values c = c.loop-part.invariant.3
 
-returns : tie.Need-returns invariant-loop decreases-loop
-returns c = let d = c.before in ((λ g. took-missed (text d) (from d) _ _ (crowded d g (omega arith))), λ e. absurd (false≢true e))
+returns-then-size-values : tie.Need-returns-then-size-values invariant-loop-part decreases-loop-part
+returns-then-size-values c = let d = c in ((λ g. took-missed (text d.before) (from d.before) _ _ (crowded d.before g (omega arith))), λ e. absurd (false≢true e))
 
-read-part-requires : tie.Need-read-part-requires invariant-loop decreases-loop
-read-part-requires c κs = simp (length-take, length-drop) (omega (arith, c.before.before.type_size.ensures))
+read_part-taken-requires : tie.Need-read_part-taken-requires invariant-loop-part decreases-loop-part
+read_part-taken-requires c κs = simp (length-take, length-drop) (omega (arith, c.before.before.type_size.ensures))
 
-same-length-2 : tie.Need-same-length-2 invariant-loop decreases-loop
-same-length-2 c = c.before.before.values.given.1 ∙ (at_part c.before.before).before.before.before.loop.inv.3
+shape_of-values-then-not-taken : tie.Need-shape_of-values-then-not-taken invariant-loop-part decreases-loop-part
+shape_of-values-then-not-taken c = c.values-1.given.1 ∙ (at_part c.before.before).loop-part.invariant.3
 
-returns-2 : tie.Need-returns-2 invariant-loop decreases-loop
-returns-2 c =
-    let d = c.before.before in
-    let p = at_part d in (
+returns-then-not-taken : tie.Need-returns-then-not-taken invariant-loop-part decreases-loop-part
+returns-then-not-taken c =
+    let d = c in
+    let p = at_part d.before.before in (
       (λ g.
-          let missing = taken-missed (text p) _ d.before.read-part.result (took d g).answer (not-true _ c.if2.true) in
+          let missing = taken-missed (text p) _ d.read_part-taken.result (took d.before.before g).answer (not-true _ c.if-not-taken.true) in
           took-missed (text p) (from p) _ _
           (here p g ∙ ap (prefix (take (start p) (values p))) (values-never (spots_here p) (spots_next p) (drop (now_at p) (text p)) missing) ∙ prefix-none _)),
       λ e. absurd (false≢true e),
     )
 
-add_start : tie.Need-overflow-add-start invariant-loop decreases-loop
-add_start c = record { fits = omega (arith, room c.before.before) }
+overflow_add-start : tie.Need-overflow_add-start invariant-loop-part decreases-loop-part
+overflow_add-start c = record { fits = omega (arith, room c.before.before) }
 
-loop-again : tie.Need-loop-preserved invariant-loop decreases-loop
-loop-again c =
-    let d = c.before.before in
-    let p = at_part d in
+loop-part-preserved : tie.Need-loop-part-preserved invariant-loop-part decreases-loop-part
+loop-part-preserved c =
+    let d = c in
+    let p = at_part d.before.before in
     let bs = drop (now_at p) (text p) in
-    let r = d.before.read-part.result in
-    let long : length (last d) ≡ length (values p) - start p = d.values.given.0 ∙ simp (length-take, length-drop) (omega arith) in (
+    let r = d.read_part-taken.result in
+    let long : length (last d.before.before) ≡ length (values p) - start p = d.values-1.given.0 ∙ simp (length-take, length-drop) (omega arith) in (
       omega arith,
       omega arith,
-      omega (arith, room d, d.values.given.1),
-      d.values.given.1 ∙ p.before.before.before.loop.inv.3,
+      omega (arith, room d.before.before, d.values-1.given.1),
+      d.values-1.given.1 ∙ p.loop-part.invariant.3,
       start-behind p,
       λ g.
-          let (vs, rest, found, next-is) = taken-found (text p) (read_values (spots_here p) bs) r (took d g).answer (not-false _ c.if2.false) in
-          let behind = took-place (text p) (now_at p) (spots_here p) (last d) vs rest found in
-          let stored : take (size p) (last d) ≡ vs = ap (λ n. take n (last d)) (size_is p) ∙ (took d g).stored vs rest found in (
+          let (vs, rest, found, next-is) = taken-found (text p) (read_values (spots_here p) bs) r (took d.before.before g).answer (not-false _ c.if-not-taken.false) in
+          let behind = took-place (text p) (now_at p) (spots_here p) (last d.before.before) vs rest found in
+          let stored : take (size p) (last d.before.before) ≡ vs = ap (λ n. take n (last d.before.before)) (size_is p) ∙ (took d.before.before g).stored vs rest found in (
             omega (arith, next-is),
-            omega (arith, counts p g, (p.before.before.before.loop.inv.5 g).1),
+            omega (arith, counts p g, (p.loop-part.invariant.5 g).1),
             here p g ∙ ap (prefix (take (start p) (values p))) (values-then (spots_here p) (spots_next p) bs vs rest found)
                 ∙ prefix-prefix (take (start p) (values p)) vs _
                 ∙ (λ j. prefix (take (start p) (values p) ++ sym stored j) (read_values (spots_next p) ((sym behind ∙ ap (λ n. drop n (text p)) (sym next-is)) j)))
                 ∙ ap (λ l. prefix l (read_values (spots_next p) (drop r.next (text p))))
-                (sym (stored_next (values p) (last d) _ (start p) (size p) (omega (arith, room d)) (omega (arith, long, room d)))),
+                (sym (stored_next (values p) (last d.before.before) _ (start p) (size p) (omega (arith, room d.before.before)) (omega (arith, long, room d.before.before)))),
           ),
     )
 
-same-length-3 : tie.Need-same-length-3 invariant-loop decreases-loop
-same-length-3 c = c.before.loop.invariant.3
+shape_of-values : tie.Need-shape_of-values invariant-loop-part decreases-loop-part
+shape_of-values c = c.loop-part.invariant.3
 
-returns-3 : tie.Need-returns-3 invariant-loop decreases-loop
+returns : tie.Need-returns invariant-loop-part decreases-loop-part
 unfolding total
-returns-3 c =
-    let l = c.before.loop in
-    let a = c.before.before.before.args in
+returns c =
+    let l = c.loop-part in
+    let a = c.args in
     let end : l.part ≡ part_count = omega arith in
     let none_left : spots_from a.settings a.parts l.part ≡ [] = ap (spots_from a.settings a.parts) end ∙ spots-from-end a.settings a.parts in (
       (λ g.
@@ -227,6 +227,6 @@ returns-3 c =
 pub read_parts_spec : {M : Type 1} → statement M
 read_parts_spec =
     tie.close
-    (tie.spec invariant-loop decreases-loop loop-holds (λ c κs. search rules) (λ c κs. search rules) (λ c. search rules) same_length returns (λ c. search rules)
-    (λ c. search rules) (λ c. search rules) (λ c. search rules) read-part-requires same-length-2 returns-2 add_start (λ c. search rules)
-    (λ c. search rules) loop-again same-length-3 returns-3)
+    (tie.spec invariant-loop-part decreases-loop-part loop-part-init (λ c κs. search rules) (λ c κs. search rules) (λ c. search rules) shape_of-values-then-size-values returns-then-size-values (λ c. search rules)
+    (λ c. search rules) (λ c. search rules) (λ c. search rules) read_part-taken-requires shape_of-values-then-not-taken returns-then-not-taken overflow_add-start (λ c. search rules)
+    (λ c. search rules) loop-part-preserved shape_of-values returns)
