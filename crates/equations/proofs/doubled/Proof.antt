@@ -12,11 +12,11 @@ twice q n s p e = ap (λ m. m % q) {x = s + s} {y = 2 * s} (omega arith) ∙ ap 
 
 returns : tie.Need-returns
 returns c = λ h.
-    let a = c.before.before.args in
+    let a = c.args in
     let p : 0 < a.q = omega (arith, h.left) in
-    let sum = c.before.plus.ensures h in
-    let below : c.before.plus.result < a.q = omega (arith, sum, Nat.mod-lt (a.x + a.y) p) in
-    c.plus2.ensures (record { left = below; right = below }) ∙ twice a.q (a.x + a.y) _ p sum
+    let sum = c.plus-s.ensures h in
+    let below : c.plus-s.result < a.q = omega (arith, sum, Nat.mod-lt (a.x + a.y) p) in
+    c.plus.ensures (record { left = below; right = below }) ∙ twice a.q (a.x + a.y) _ p sum
 
 pub doubled_spec : {M : Type 1} → statement M
 doubled_spec = tie.close (tie.spec (λ c κs. search rules) (λ c κs. search rules) returns)

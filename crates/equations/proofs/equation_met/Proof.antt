@@ -8,10 +8,10 @@ use Rattle.equations.proofs.equation_met.Tie as tie
 
 returns : tie.Need-returns
 returns c = λ g.
-    let a = c.before.before.before.before.args in
+    let a = c.args in
     let r = ready a.settings g.allowed in
-    let all = c.before.left.ensures (record { allowed = g.allowed; most = omega arith }) in
-    c.product-is.ensures (
+    let all = c.left-power.ensures (record { allowed = g.allowed; most = omega arith }) in
+    c.product_is.ensures (
       final_summable a.settings r a.f.now g.bounded a.g.now (omega arith) (omega arith) g.residues,
       omega arith,
       power_most a.settings r a.f.now g.bounded a.g.now a.claim.now _ all,

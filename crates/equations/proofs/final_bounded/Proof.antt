@@ -19,55 +19,55 @@ use borrow.Author.Rules.{rules}
 use Rattle.equations.proofs.final_bounded.Statement.{statement}
 use Rattle.equations.proofs.final_bounded.Tie as tie
 
-abbrev invariant-loop : tie.invariant-loop
-invariant-loop f d limit k₀ k = (k ≤ d) × (d ≤ length f) × (every k (λ (j : ℕ). within limit (signed f j)) ≡ true)
+abbrev invariant-loop-k : tie.invariant-loop-k
+invariant-loop-k f d limit k₀ k = (k ≤ d) × (d ≤ length f) × (every k (λ (j : ℕ). within limit (signed f j)) ≡ true)
 
-abbrev decreases-loop : tie.decreases-loop
-decreases-loop f d limit k₀ k = d - k
+abbrev decreases-loop-k : tie.decreases-loop-k
+decreases-loop-k f d limit k₀ k = d - k
 
 -- the coefficient that the turn looks at
-abbrev coefficient : tie.In-loop invariant-loop decreases-loop → ℤ
-coefficient c = get_or c.before.before.before.before.args.f.now c.before.loop.k (pos 0)
+abbrev coefficient : tie.In-loop-k invariant-loop-k decreases-loop-k → ℤ
+coefficient c = get_or c.args.f.now c.loop-k.k (pos 0)
 
-size_is : (c : tie.After-magnitude invariant-loop decreases-loop) → nat_abs (coefficient c.before.before) ≡ c.magnitude.result
-size_is c = sym (c.magnitude.ensures ∙ ap nat_abs (through-bits w32 (coefficient c.before.before) c.before.magnitude-arg.given))
+size_is : (c : tie.After-magnitude invariant-loop-k decreases-loop-k) → nat_abs (coefficient c.before.before) ≡ c.magnitude.result
+size_is c = sym (c.magnitude.ensures ∙ ap nat_abs (through-bits w32 (coefficient c.before.before) c.magnitude-arg-1.given))
 
-limit_is : (c : tie.After-left-bound invariant-loop decreases-loop) → let S = c.before.before.args.settings in settings_refusal S ≡ 0 → c.left-bound.result ≡ size S * S.bound
+limit_is : (c : tie.After-left_bound-limit invariant-loop-k decreases-loop-k) → let S = c.args.settings in settings_refusal S ≡ 0 → c.left_bound-limit.result ≡ size S * S.bound
 unfolding size
-limit_is c e = c.left-bound.ensures (record { allowed = e; most = le_refl _ })
+limit_is c e = c.left_bound-limit.ensures (record { allowed = e; most = le_refl _ })
 
-loop-holds : tie.Need-loop-init invariant-loop decreases-loop
-loop-holds c = (omega arith, omega arith, every-none _)
+loop-k-init : tie.Need-loop-k-init invariant-loop-k decreases-loop-k
+loop-k-init c = (omega arith, omega arith, every-none _)
 
-returns : tie.Need-returns invariant-loop decreases-loop
+returns-then-magnitude-limit : tie.Need-returns-then-magnitude-limit invariant-loop-k decreases-loop-k
 unfolding final_bounded within signed
-returns c = λ e.
-    let w = c.before.before.before.before.before in
-    let a = w.before.before.args in
-    every_fails (λ j. within w.left-bound.result (signed a.f.now j)) a.settings.degree c.before.before.before.before.loop.k (omega arith)
-    (ap (λ m. leb m w.left-bound.result) (size_is c.before) ∙ lt-leb _ _ c.if1.true)
-    ∙ ap (λ n. every a.settings.degree (λ j. within n (signed a.f.now j))) (limit_is w e)
+returns-then-magnitude-limit c = λ e.
+    let w = c in
+    let a = w.args in
+    every_fails (λ j. within w.left_bound-limit.result (signed a.f.now j)) a.settings.degree c.loop-k.k (omega arith)
+    (ap (λ m. leb m w.left_bound-limit.result) (size_is c.before) ∙ lt-leb _ _ c.if-magnitude-limit.true)
+    ∙ ap (λ n. every a.settings.degree (λ j. within n (signed a.f.now j))) (limit_is w.before.before.before.before.before e)
 
-loop-again : tie.Need-loop-preserved invariant-loop decreases-loop
+loop-k-preserved : tie.Need-loop-k-preserved invariant-loop-k decreases-loop-k
 unfolding within signed
-loop-again c =
-    let l = c.before.before.before.before.loop in (
+loop-k-preserved c =
+    let l = c.loop-k in (
       omega arith,
       omega arith,
-      every_goes_on _ l.k l.invariant.2 (ap (λ m. leb m c.before.before.before.before.before.left-bound.result) (size_is c.before) ∙ le-leb _ _ c.if1.false),
+      every_goes_on _ l.k l.invariant.2 (ap (λ m. leb m c.left_bound-limit.result) (size_is c.before) ∙ le-leb _ _ c.if-magnitude-limit.false),
     )
 
-returns-2 : tie.Need-returns-2 invariant-loop decreases-loop
+returns : tie.Need-returns invariant-loop-k decreases-loop-k
 unfolding final_bounded
-returns-2 c = λ e.
-    let l = c.before.loop in
-    let w = c.before.before in
-    let a = w.before.before.args in
-    every_ends (λ j. within w.left-bound.result (signed a.f.now j)) a.settings.degree l.k l.invariant.2 (omega arith)
-    ∙ ap (λ n. every a.settings.degree (λ j. within n (signed a.f.now j))) (limit_is w e)
+returns c = λ e.
+    let l = c.loop-k in
+    let w = c in
+    let a = w.args in
+    every_ends (λ j. within w.left_bound-limit.result (signed a.f.now j)) a.settings.degree l.k l.invariant.2 (omega arith)
+    ∙ ap (λ n. every a.settings.degree (λ j. within n (signed a.f.now j))) (limit_is w.before.before e)
 
 pub final_bounded_spec : {M : Type 1} → statement M
 final_bounded_spec =
     tie.close
-    (tie.spec invariant-loop decreases-loop (λ c. search rules) (λ c κs. search rules) loop-holds (λ c. search rules) (λ c. search rules) (λ c κs. search rules)
-    returns (λ c. search rules) (λ c. search rules) loop-again returns-2)
+    (tie.spec invariant-loop-k decreases-loop-k (λ c. search rules) (λ c κs. search rules) loop-k-init (λ c. search rules) (λ c. search rules) (λ c κs. search rules)
+    returns-then-magnitude-limit (λ c. search rules) (λ c. search rules) loop-k-preserved returns)

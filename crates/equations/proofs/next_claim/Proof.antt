@@ -17,12 +17,12 @@ use Rattle.equations.proofs.next_claim.Tie as tie
 returns : tie.Need-returns
 unfolding next_claim reduced value_at
 returns c = λ l g.
-    let a = c.before.before.before.before.before.before.args in
+    let a = c.args in
     let S = a.settings in
     let r = ready S g.allowed in
     let row : (l : List ℕ) → S.degree ≤ length l → ((k : ℕ) → k < S.degree → get_or l k 0 < S.modulus) → Residues S.modulus S.degree 0 l =
     λ l long each. record { long = omega arith; each = λ k m. omega (arith, ap (λ j. get_or l j 0) (zero-add k), each k m) } in
-    c.before.value.ensures (record {
+    c.value.ensures (record {
       degree = omega arith;
       degree_most = omega arith;
       coefficients = record {

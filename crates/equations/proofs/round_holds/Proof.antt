@@ -15,42 +15,42 @@ use Rattle.equations.proofs.Ready.{ready}
 use Rattle.equations.proofs.round_holds.Statement.{statement}
 use Rattle.equations.proofs.round_holds.Tie as tie
 
-abbrev invariant-loop : tie.invariant-loop
-invariant-loop claim c0 c2 q d k₀ k = (k ≤ d) × (d ≤ length claim) × (d ≤ length c0) × (d ≤ length c2) × (0 < q) × (every k (λ (j : ℕ). eqb (2 * (get_or c0 j 0 + get_or c2 j 0) % q) (get_or claim j 0)) ≡ true)
+abbrev invariant-loop-k : tie.invariant-loop-k
+invariant-loop-k claim c0 c2 q d k₀ k = (k ≤ d) × (d ≤ length claim) × (d ≤ length c0) × (d ≤ length c2) × (0 < q) × (every k (λ (j : ℕ). eqb (2 * (get_or c0 j 0 + get_or c2 j 0) % q) (get_or claim j 0)) ≡ true)
 
-abbrev decreases-loop : tie.decreases-loop
-decreases-loop claim c0 c2 q d k₀ k = d - k
+abbrev decreases-loop-k : tie.decreases-loop-k
+decreases-loop-k claim c0 c2 q d k₀ k = d - k
 
-returns : tie.Need-returns invariant-loop decreases-loop
-returns c = λ g. absurd (let r = ready _ g.allowed in omega arith)
+returns-then-q-eq0 : tie.Need-returns-then-q-eq0 invariant-loop-k decreases-loop-k
+returns-then-q-eq0 c = λ g. absurd (let r = ready _ g.allowed in omega arith)
 
-returns-2 : tie.Need-returns-2 invariant-loop decreases-loop
-returns-2 c = λ g. absurd (omega arith)
+returns-then-claim-d : tie.Need-returns-then-claim-d invariant-loop-k decreases-loop-k
+returns-then-claim-d c = λ g. absurd (omega arith)
 
-returns-3 : tie.Need-returns-3 invariant-loop decreases-loop
-returns-3 c = λ g. absurd (omega arith)
+returns-then-c0-d : tie.Need-returns-then-c0-d invariant-loop-k decreases-loop-k
+returns-then-c0-d c = λ g. absurd (omega arith)
 
-returns-4 : tie.Need-returns-4 invariant-loop decreases-loop
-returns-4 c = λ g. absurd (omega arith)
+returns-then-c2-d : tie.Need-returns-then-c2-d invariant-loop-k decreases-loop-k
+returns-then-c2-d c = λ g. absurd (omega arith)
 
-loop-holds : tie.Need-loop-init invariant-loop decreases-loop
-loop-holds c = (omega arith, omega arith, omega arith, omega arith, omega arith, every-none _)
+loop-k-init : tie.Need-loop-k-init invariant-loop-k decreases-loop-k
+loop-k-init c = (omega arith, omega arith, omega arith, omega arith, omega arith, every-none _)
 
-returns-5 : tie.Need-returns-5 invariant-loop decreases-loop
+returns-then-not-doubled_is : tie.Need-returns-then-not-doubled_is invariant-loop-k decreases-loop-k
 unfolding round_holds doubled modulo residue
-returns-5 c = λ g. let l = c.before.before.before.before.before.before.loop in every_fails _ _ l.k (omega arith) (sym c.before.doubled-is.ensures ∙ not-true _ c.if5.true)
+returns-then-not-doubled_is c = λ g. let l = c.loop-k in every_fails _ _ l.k (omega arith) (sym c.doubled_is.ensures ∙ not-true _ c.if-not-doubled_is.true-raw)
 
-loop-again : tie.Need-loop-preserved invariant-loop decreases-loop
-loop-again c = let l = c.before.before.before.before.before.before.loop in
-    (omega arith, omega arith, omega arith, omega arith, omega arith, every_goes_on _ l.k l.invariant.5 (sym c.before.doubled-is.ensures ∙ not-false _ c.if5.false))
+loop-k-preserved : tie.Need-loop-k-preserved invariant-loop-k decreases-loop-k
+loop-k-preserved c = let l = c.loop-k in
+    (omega arith, omega arith, omega arith, omega arith, omega arith, every_goes_on _ l.k l.invariant.5 (sym c.doubled_is.ensures ∙ not-false _ c.if-not-doubled_is.false-raw))
 
-returns-6 : tie.Need-returns-6 invariant-loop decreases-loop
+returns : tie.Need-returns invariant-loop-k decreases-loop-k
 unfolding round_holds doubled modulo residue
-returns-6 c = λ g. let l = c.before.loop in every_ends _ _ l.k l.invariant.5 (omega arith)
+returns c = λ g. let l = c.loop-k in every_ends _ _ l.k l.invariant.5 (omega arith)
 
 pub round_holds_spec : {M : Type 1} → statement M
 round_holds_spec =
     tie.close
-    (tie.spec invariant-loop decreases-loop (λ c. search rules) returns returns-2 returns-3 returns-4 loop-holds (λ c. search rules) (λ c. search rules)
-    (λ c. search rules) (λ c. search rules) (λ c. search rules) (λ c. search rules) (λ c κs. search rules) returns-5 (λ c. search rules)
-    (λ c. search rules) loop-again returns-6)
+    (tie.spec invariant-loop-k decreases-loop-k (λ c. search rules) returns-then-q-eq0 returns-then-claim-d returns-then-c0-d returns-then-c2-d loop-k-init (λ c. search rules) (λ c. search rules)
+    (λ c. search rules) (λ c. search rules) (λ c. search rules) (λ c. search rules) (λ c κs. search rules) returns-then-not-doubled_is (λ c. search rules)
+    (λ c. search rules) loop-k-preserved returns)

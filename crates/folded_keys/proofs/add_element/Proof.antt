@@ -5,17 +5,17 @@ use Rattle.std.proofs.Common.{arith, rules}
 use Rattle.folded_keys.proofs.add_element.Statement.{statement}
 use Rattle.folded_keys.proofs.add_element.Tie as tie
 
-mul_at : tie.Need-overflow-mul-at
-mul_at c = record { fits = product-fits c.before.before.before.before.args.i c.before.before.before.before.args.settings.degree (omega arith) (omega arith) }
+overflow_mul-at : tie.Need-overflow_mul-at
+overflow_mul-at c = record { fits = product-fits c.args.i c.args.settings.degree (omega arith) (omega arith) }
 
-returns-2 : tie.Need-returns-2
-returns-2 c = λ g.
-    let a = c.before.before.before.before.before.before.before.before.before.before.before.args in
+returns : tie.Need-returns
+returns c = λ g.
+    let a = c.args in
     added_is a.settings a.settings.modulus a.i a.key.now a.sum.now (omega (arith, (ready a.settings g.allowed).degree_least)) g.room a.x.now
-    c.before.before.before.before.before.entry.ensures c.before.before.add_turned.new.1.1.1.1.0
-    (c.before.before.add_turned.ensures (turnable a.settings a.i a.key.now a.sum.now g))
+    c.entry-e.ensures c.add_turned.new.out
+    (c.add_turned.ensures (turnable a.settings a.i a.key.now a.sum.now g))
 
 pub add_element_spec : {M : Type 1} → statement M
 add_element_spec =
-    tie.close (tie.spec (λ c. search rules) mul_at (λ c. search rules) (λ c κs. search rules) (λ c. search rules) (λ c. search rules) (λ c. search rules) (λ c. search rules)
-    (λ c κs. search rules) (λ c. search rules) returns-2)
+    tie.close (tie.spec (λ c. search rules) overflow_mul-at (λ c. search rules) (λ c κs. search rules) (λ c. search rules) (λ c. search rules) (λ c. search rules) (λ c. search rules)
+    (λ c κs. search rules) (λ c. search rules) returns)

@@ -6,20 +6,20 @@ use Rattle.sizes.proofs.Shift.{product-fits}
 use Rattle.folded_keys.proofs.gather_element.Statement.{statement}
 use Rattle.folded_keys.proofs.gather_element.Tie as tie
 
-mul_at : tie.Need-overflow-mul-at
-mul_at c = record { fits = product-fits c.before.before.before.before.args.i c.before.before.before.before.args.settings.degree (omega arith) (omega arith) }
+overflow_mul-at : tie.Need-overflow_mul-at
+overflow_mul-at c = record { fits = product-fits c.args.i c.args.settings.degree (omega arith) (omega arith) }
 
-returns-2 : tie.Need-returns-2
-returns-2 c = λ g.
-    let n = c.before.before.gather_turned in
-    let a = c.before.before.before.before.before.before.before.before.before.before.before.args in
+returns : tie.Need-returns
+returns c = λ g.
+    let n = c.gather_turned in
+    let a = c.args in
     let r = ready a.settings g.allowed in
     let d = a.settings.degree in
-    added_is a.settings (2 ^ 64) a.i a.key.now a.sums.now (omega (arith, r.degree_least)) g.room a.x.now c.before.before.before.before.before.entry.ensures
-    n.new.1.1.1.0
+    added_is a.settings (2 ^ 64) a.i a.key.now a.sums.now (omega (arith, r.degree_least)) g.room a.x.now c.entry-e.ensures
+    n.new.sums
     (n.ensures (record { degree = omega (arith, r.degree_least); degree_most = r.degree_most; there = part-long (a.i * d) d a.key.now g.inside; room = g.room }))
 
 pub gather_element_spec : {M : Type 1} → statement M
 gather_element_spec =
-    tie.close (tie.spec (λ c. search rules) mul_at (λ c. search rules) (λ c κs. search rules) (λ c. search rules) (λ c. search rules) (λ c. search rules) (λ c. search rules)
-    (λ c κs. search rules) (λ c. search rules) returns-2)
+    tie.close (tie.spec (λ c. search rules) overflow_mul-at (λ c. search rules) (λ c κs. search rules) (λ c. search rules) (λ c. search rules) (λ c. search rules) (λ c. search rules)
+    (λ c κs. search rules) (λ c. search rules) returns)

@@ -7,22 +7,22 @@ use Rattle.folded_keys.specs.Turns.{OnCircle}
 use Rattle.folded_keys.proofs.second_half.Statement.{statement}
 use Rattle.folded_keys.proofs.second_half.Tie as tie
 
-abbrev invariant-loop : tie.invariant-loop
-invariant-loop c m e x₀ j₀ x j =
+abbrev invariant-loop-j : tie.invariant-loop-j
+invariant-loop-j c m e x₀ j₀ x j =
     (j ≤ m)
     × Provided (OnCircle c m e x₀) (x ≡ spliced (λ (i : ℕ). (get_or x₀ i 0 + e) % c) m j x₀)
     × (length x ≡ length x₀)
 
-abbrev decreases-loop : tie.decreases-loop
-decreases-loop c m e x₀ j₀ x j = m - j
+abbrev decreases-loop-j : tie.decreases-loop-j
+decreases-loop-j c m e x₀ j₀ x j = m - j
 
-loop-holds : tie.Need-loop-init invariant-loop decreases-loop
-loop-holds c = (omega arith, (λ h. spliced-none _ _ _), refl)
+loop-j-init : tie.Need-loop-j-init invariant-loop-j decreases-loop-j
+loop-j-init c = (omega arith, (λ h. spliced-none _ _ _), refl)
 
-loop-again : tie.Need-loop-preserved invariant-loop decreases-loop
-loop-again c =
-    let l = c.before.before.before.loop in
-    let a = c.before.before.before.before.before.args in (
+loop-j-preserved : tie.Need-loop-j-preserved invariant-loop-j decreases-loop-j
+loop-j-preserved c =
+    let l = c.loop-j in
+    let a = c.args in (
       omega arith,
       (λ h.
           let was = ap (λ s. get_or s l.j 0) (l.invariant.1 h) ∙ spliced-before _ a.m l.j a.x.now (omega arith) l.j (omega arith) in
@@ -32,11 +32,11 @@ loop-again c =
       simp length-set (omega arith),
     )
 
-returns : tie.Need-returns invariant-loop decreases-loop
-returns c = λ h. spliced-end _ _ _ (c.before.loop.invariant.1 h) (omega arith)
+returns : tie.Need-returns invariant-loop-j decreases-loop-j
+returns c = λ h. spliced-end _ _ _ (c.loop-j.invariant.1 h) (omega arith)
 
 pub second_half_spec : {M : Type 1} → statement M
 second_half_spec =
     tie.close
-    (tie.spec invariant-loop decreases-loop loop-holds (λ c. search rules) (λ c. search rules) (λ c κs. search rules) (λ c. search rules) (λ c. search rules)
-    (λ c. search rules) (λ c. search rules) (λ c. search rules) loop-again (λ c. search rules) returns)
+    (tie.spec invariant-loop-j decreases-loop-j loop-j-init (λ c. search rules) (λ c. search rules) (λ c κs. search rules) (λ c. search rules) (λ c. search rules)
+    (λ c. search rules) (λ c. search rules) (λ c. search rules) loop-j-preserved (λ c. search rules) returns)

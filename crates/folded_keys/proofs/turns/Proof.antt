@@ -7,8 +7,8 @@ use Rattle.folded_keys.proofs.Summing.{pow-few, turned_none, on-circle, turned_m
 use Rattle.folded_keys.proofs.turns.Statement.{statement}
 use Rattle.folded_keys.proofs.turns.Tie as tie
 
-abbrev invariant-loop : tie.invariant-loop
-invariant-loop challenges x₀ c depth m₀ s₀ x m s =
+abbrev invariant-loop-s : tie.invariant-loop-s
+invariant-loop-s challenges x₀ c depth m₀ s₀ x m s =
     (s ≤ depth)
     × (depth ≤ 8)
     × (depth ≤ length challenges)
@@ -19,12 +19,12 @@ invariant-loop challenges x₀ c depth m₀ s₀ x m s =
     × (length x ≡ length x₀)
     × Provided (get_or x₀ 0 0 ≡ 0) (Turned c depth challenges s x)
 
-abbrev decreases-loop : tie.decreases-loop
-decreases-loop challenges x₀ c depth m₀ s₀ x m s = depth - s
+abbrev decreases-loop-s : tie.decreases-loop-s
+decreases-loop-s challenges x₀ c depth m₀ s₀ x m s = depth - s
 
-loop-holds : tie.Need-loop-init invariant-loop decreases-loop
-loop-holds c =
-    let a = c.before.before.before.args in (
+loop-s-init : tie.Need-loop-s-init invariant-loop-s decreases-loop-s
+loop-s-init c =
+    let a = c.args in (
       omega arith,
       omega arith,
       omega arith,
@@ -37,17 +37,17 @@ loop-holds c =
           (omega arith) a.challenges.now a.x.now e,
     )
 
-second-half-requires : tie.Need-second-half-requires invariant-loop decreases-loop
-second-half-requires c κs =
-    let l = c.before.before.before.loop in
+second_half-requires : tie.Need-second_half-requires invariant-loop-s decreases-loop-s
+second_half-requires c κs =
+    let l = c.loop-s in
     let h : l.m + l.m ≤ length l.x = omega (arith, pow-few l.s (omega arith)) in
     h
 
-loop-again : tie.Need-loop-preserved invariant-loop decreases-loop
-loop-again c =
-    let l = c.before.before.before.before.before.before.loop in
-    let a = c.before.before.before.before.before.before.before.before.before.before.args in
-    let h = c.before.before.second-half in
+loop-s-preserved : tie.Need-loop-s-preserved invariant-loop-s decreases-loop-s
+loop-s-preserved c =
+    let l = c.loop-s in
+    let a = c.args in
+    let h = c.second_half in
     let d = 2 * a.settings.degree in
     let L = a.settings.depth in
     let E = a.challenges.now in
@@ -58,21 +58,21 @@ loop-again c =
       omega arith,
       omega arith,
       omega arith,
-      omega (arith, h.auto.1.1.1.0),
+      omega (arith, h.auto.x),
       omega arith,
       omega (arith, few),
       omega (arith, Nat.two-pow-succ l.s, ap (λ r. 2 ^ r) (add-one l.s)),
-      h.auto.1.1.1.0 ∙ l.invariant.7,
+      h.auto.x ∙ l.invariant.7,
       λ z.
           let t = l.invariant.8 z in
-          turned_more d L pc E l.s l.x t l.m e l.invariant.6 is-e (omega (arith, few)) h.new.1.1.1.0
+          turned_more d L pc E l.s l.x t l.m e l.invariant.6 is-e (omega (arith, few)) h.new.x
           (h.ensures (on-circle d L pc E l.s l.x t l.m e l.invariant.6 is-e)),
     )
 
-returns : tie.Need-returns invariant-loop decreases-loop
+returns : tie.Need-returns invariant-loop-s decreases-loop-s
 returns c =
-    let l = c.before.loop in
-    let a = c.before.before.before.before.before.args in
+    let l = c.loop-s in
+    let a = c.args in
     let L = a.settings.depth in
     let all : l.s ≡ L = omega arith in
     (l.invariant.6 ∙ ap (λ r. 2 ^ r) all, λ e. subst (λ r. Turned (2 * a.settings.degree) L a.challenges.now r l.x) all (l.invariant.8 e))
@@ -80,6 +80,6 @@ returns c =
 pub turns_spec : {M : Type 1} → statement M
 turns_spec =
     tie.close
-    (tie.spec invariant-loop decreases-loop (λ c. search rules) loop-holds (λ c. search rules) (λ c. search rules) (λ c. search rules) (λ c. search rules)
-    (λ c. search rules) (λ c. search rules) (λ c. search rules) second-half-requires (λ c. search rules) (λ c. search rules) (λ c. search rules)
-    loop-again (λ c. search rules) returns)
+    (tie.spec invariant-loop-s decreases-loop-s (λ c. search rules) loop-s-init (λ c. search rules) (λ c. search rules) (λ c. search rules) (λ c. search rules)
+    (λ c. search rules) (λ c. search rules) (λ c. search rules) second_half-requires (λ c. search rules) (λ c. search rules) (λ c. search rules)
+    loop-s-preserved (λ c. search rules) returns)

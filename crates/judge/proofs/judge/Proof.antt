@@ -10,37 +10,37 @@ use Rattle.judge.proofs.Answers.{growth-exact, JudgeGiven, judge_given, judge_re
 use Rattle.judge.proofs.judge.Statement.{statement}
 use Rattle.judge.proofs.judge.Tie as tie
 
-passed : (c : tie.Else1) → let a = c.before.before.before.args in judge_refusal a.settings a.t2 a.c a.key.now a.w.now ≡ 0
-passed c = sym c.before.judge.ensures ∙ c.if1.false
+passed : (c : tie.Else-refusal-ne0) → let a = c.args in judge_refusal a.settings a.commitment a.c a.key.now a.w.now ≡ 0
+passed c = sym c.judge-refusal.ensures ∙ c.if-refusal-ne0.false
 
-given : (c : tie.Else1) → let a = c.before.before.before.args in JudgeGiven a.settings a.t2 a.key.now a.w.now
+given : (c : tie.Else-refusal-ne0) → let a = c.args in JudgeGiven a.settings a.commitment a.key.now a.w.now
 given c = judge_given _ _ _ _ _ (passed c)
 
 -- the test of the bound is made with the growth itself
-tested : (c : tie.After-all-within-wide) → let a = c.before.before.before.before.before.args in c.all-within-wide.result ≡ all_within (growth a.settings) a.w.now
+tested : (c : tie.After-all_within_wide) → let a = c.args in c.all_within_wide.result ≡ all_within (growth a.settings) a.w.now
 tested c =
-    let a = c.before.before.before.before.before.args in
+    let a = c.args in
     let g = given c.before.before in
-    c.all-within-wide.ensures ∙ ap (λ n. all_within n a.w.now) (c.before.growth.ensures g.allowed ∙ growth-exact a.settings g.allowed g.limited)
+    c.all_within_wide.ensures ∙ ap (λ n. all_within n a.w.now) (c.growth.ensures g.allowed ∙ growth-exact a.settings g.allowed g.limited)
+
+returns-then-refusal-ne0 : tie.Need-returns-then-refusal-ne0
+returns-then-refusal-ne0 c = judge_refused _ _ _ _ _ _ c.judge-refusal.ensures c.if-refusal-ne0.true
+
+returns-then-not-all_within_wide : tie.Need-returns-then-not-all_within_wide
+returns-then-not-all_within_wide c = judge_done _ _ _ _ _ (passed c.before.before.before) false (beyond _ _ _ _ _ (sym (tested c.before) ∙ not-true _ c.if-not-all_within_wide.true-raw))
+
+slice_bounds-every_row_opens-end : tie.Need-slice_bounds-every_row_opens-end
+slice_bounds-every_row_opens-end c = search rules
+
+every_row_opens-requires : tie.Need-every_row_opens-requires
+every_row_opens-requires c κs = (given c.before.before.before.before).rows_given (sym (slice_bounds-every_row_opens-end c))
 
 returns : tie.Need-returns
-returns c = judge_refused _ _ _ _ _ _ c.before.judge.ensures c.if1.true
-
-returns-2 : tie.Need-returns-2
-returns-2 c = judge_done _ _ _ _ _ (passed c.before.before.before) false (beyond _ _ _ _ _ (sym (tested c.before) ∙ not-true _ c.if2.true))
-
-slice-aggregate-every-row-opens : tie.Need-slice-aggregate-every-row-opens
-slice-aggregate-every-row-opens c = search rules
-
-every-row-opens-requires : tie.Need-every-row-opens-requires
-every-row-opens-requires c κs = (given c.before.before.before.before).rows_given (sym (slice-aggregate-every-row-opens c))
-
-returns-3 : tie.Need-returns-3
-returns-3 c =
-    let no = c.before.before in
-    judge_done _ _ _ _ _ (passed no.before.before.before) _ (within _ _ _ _ _ _ (sym (tested no.before) ∙ not-false _ no.if2.false) c.every-row-opens.ensures)
+returns c =
+    let no = c in
+    judge_done _ _ _ _ _ (passed no.before.before.before.before.before) _ (within _ _ _ _ _ _ (sym (tested no.before.before.before) ∙ not-false _ no.if-not-all_within_wide.false-raw) c.every_row_opens.ensures)
 
 pub judge_spec : {M : Type 1} → statement M
 judge_spec =
     tie.close
-    (tie.spec (λ c κs. search rules) returns (λ c κs. search rules) (λ c κs. search rules) returns-2 slice-aggregate-every-row-opens every-row-opens-requires returns-3)
+    (tie.spec (λ c κs. search rules) returns-then-refusal-ne0 (λ c κs. search rules) (λ c κs. search rules) returns-then-not-all_within_wide slice_bounds-every_row_opens-end every_row_opens-requires returns)

@@ -12,9 +12,9 @@ use Rattle.measured.proofs.measured_plain_inner.Tie as tie
 returns : tie.Need-returns
 unfolding reduced
 returns c = λ z long.
-    let a = c.before.before.before.before.before.before.before.before.args in
-    let is = c.before.before.before.before.before.inner.ensures z in
-    c.before.before.store.ensures (record { there = omega (arith, z.elements.degree_most); room = omega (arith, long) })
+    let a = c.args in
+    let is = c.inner-sum.ensures z in
+    c.store.ensures (record { there = omega (arith, z.elements.degree_most); room = omega (arith, long) })
     ∙ stored-whole a.degree _ a.out.now long
     ∙ tabulate_ext a.degree (λ k h. ap (λ l. get_or l k 0) is ∙ padded_at a.degree _ k h)
 

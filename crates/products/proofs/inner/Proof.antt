@@ -11,9 +11,9 @@ use Rattle.products.proofs.inner.Tie as tie
 returns : tie.Need-returns
 unfolding zeros messages_of keys_of
 returns c = λ z.
-    let s = c.before.before.before.before in
+    let s = c in
     let a = s.args in
-    c.before.inner-rows.ensures (λ _. a.g.now) (row_given a.q a.d a.n a.f.now a.g.now z, omega (arith, z.elements.degree_most))
+    c.inner_rows.ensures (λ _. a.g.now) (row_given a.q a.d a.n a.f.now a.g.now z, omega (arith, z.elements.degree_most))
     ∙ one_row_lem a.q a.d (inner a.d a.n (signed_at a.d a.f.now) (residue_at a.d a.g.now))
 
 pub inner_spec : {M : Type 1} → statement M

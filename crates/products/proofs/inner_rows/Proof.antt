@@ -12,20 +12,20 @@ use borrow.Author.Rules.{rules}
 use Rattle.products.proofs.inner_rows.Statement.{statement}
 use Rattle.products.proofs.inner_rows.Tie as tie
 
-returns : tie.Need-returns
-returns c = λ G z. c.before.before.inner-rows.ensures G z
+returns-then-level-eq0 : tie.Need-returns-then-level-eq0
+returns-then-level-eq0 c = λ G z. c.inner_rows.ensures G z
 
 -- what the rows become, with every modulus for which there is the transform
 abbrev Become : Bool → ℕ → ℕ → ℕ → ℕ → ℕ → List ℤ → List ℕ → List ℕ → List ℕ → ℕ → Type 0
 Become sums level d n rows stride f g out after q = (G : ℕ → List ℕ) → RowsGiven sums q d n rows stride f g G × (rows * d ≤ length out) × Suits q d n level → RowsWritten sums q d n rows f G out after
 
-returns-2 : tie.Need-returns-2
-returns-2 c = λ G z.
-    let s = c.before.before.before.before.before.before.before.before in
+returns : tie.Need-returns
+returns c = λ G z.
+    let s = c in
     let a = s.args in
-    let e = c.before.before.before.before.before.level.ensures (omega arith) in
+    let e = c.level-level.ensures (omega arith) in
     subst (Become a.sums _ a.d a.n a.rows a.stride a.f.now a.g.now a.out.now _) {x = 12289} {y = a.q} (sym e.modulus)
-    c.before.before.transformed-rows.ensures G (z.0, z.1, e)
+    c.transformed_rows.ensures G (z.0, z.1, e)
 
 pub inner_rows_spec : {M : Type 1} → statement M
-inner_rows_spec = tie.close (tie.spec (λ c κs. search rules) (λ c κs. search rules) (λ c. search) returns (λ c κs. search rules) (λ c. search) returns-2)
+inner_rows_spec = tie.close (tie.spec (λ c κs. search rules) (λ c κs. search rules) (λ c. search) returns-then-level-eq0 (λ c κs. search rules) (λ c. search) returns)

@@ -10,35 +10,35 @@ use borrow.Author.Rules.{rules}
 use Rattle.round_products.proofs.difference.Statement.{statement}
 use Rattle.round_products.proofs.difference.Tie as tie
 
-abbrev invariant-loop : tie.invariant-loop
-invariant-loop q n a b x₀ k₀ x k =
+abbrev invariant-loop-k : tie.invariant-loop-k
+invariant-loop-k q n a b x₀ k₀ x k =
     (k ≤ n) × (length x ≡ length x₀)
     × (((j : ℕ) → j < n → (get_or x₀ j 0 < q) × (get_or a j 0 < q) × (get_or b j 0 < q)) → x ≡ filled (λ (j : ℕ). less_both q (get_or x₀ j 0) (get_or a j 0) (get_or b j 0)) k x₀)
 
-abbrev decreases-loop : tie.decreases-loop
-decreases-loop q n a b x₀ k₀ x k = n - k
+abbrev decreases-loop-k : tie.decreases-loop-k
+decreases-loop-k q n a b x₀ k₀ x k = n - k
 
-loop-holds : tie.Need-loop-init invariant-loop decreases-loop
-loop-holds c = (omega arith, refl, λ _. filled_none _ _)
+loop-k-init : tie.Need-loop-k-init invariant-loop-k decreases-loop-k
+loop-k-init c = (omega arith, refl, λ _. filled_none _ _)
 
-loop-again : tie.Need-loop-preserved invariant-loop decreases-loop
-loop-again c = let l = c.before.before.before.before.before.loop in
-    let a = c.before.before.before.before.before.before.before.before.before.args in (
+loop-k-preserved : tie.Need-loop-k-preserved invariant-loop-k decreases-loop-k
+loop-k-preserved c = let l = c.loop-k in
+    let a = c.args in (
       omega arith,
       simp length-set (omega arith),
       (λ h.
           let was : get_or l.x l.k 0 ≡ get_or a.x.now l.k 0 = ap (λ s. get_or s l.k 0) (l.invariant.2 h) ∙ filled-behind _ l.k a.x.now 0 l.k (le_refl l.k) in
           let below = h l.k (omega arith) in
           filled-turn _ l.k _ (l.invariant.2 h)
-          (c.minus-both.ensures (subst (λ v. v < a.q) (sym was) below.0, below.1, below.2) ∙ ap (λ v. less_both a.q v (get_or a.a.now l.k 0) (get_or a.b.now l.k 0)) was)
+          (c.minus_both.ensures (subst (λ v. v < a.q) (sym was) below.0, below.1, below.2) ∙ ap (λ v. less_both a.q v (get_or a.a.now l.k 0) (get_or a.b.now l.k 0)) was)
           (omega arith)),
     )
 
-returns : tie.Need-returns invariant-loop decreases-loop
-returns c = λ h. filled-end _ _ (c.before.loop.invariant.2 h) (omega arith)
+returns : tie.Need-returns invariant-loop-k decreases-loop-k
+returns c = λ h. filled-end _ _ (c.loop-k.invariant.2 h) (omega arith)
 
 pub difference_spec : {M : Type 1} → statement M
 difference_spec =
     tie.close
-    (tie.spec invariant-loop decreases-loop loop-holds (λ c. search rules) (λ c. search rules) (λ c. search rules) (λ c. search rules) (λ c. search rules) (λ c. search rules) (λ c κs. search rules)
-    (λ c. search rules) (λ c. search rules) (λ c. search rules) (λ c. search rules) loop-again (λ c. search rules) returns)
+    (tie.spec invariant-loop-k decreases-loop-k loop-k-init (λ c. search rules) (λ c. search rules) (λ c. search rules) (λ c. search rules) (λ c. search rules) (λ c. search rules) (λ c κs. search rules)
+    (λ c. search rules) (λ c. search rules) (λ c. search rules) (λ c. search rules) loop-k-preserved (λ c. search rules) returns)

@@ -17,7 +17,7 @@ use Rattle.round_products.proofs.items.Tie as tie
 
 returns : tie.Need-returns
 returns c = λ G z.
-    let a = c.before.before.before.before.before.before.before.before.before.before.before.before.args in
+    let a = c.args in
     let S = a.settings in
     let q = S.modulus in
     let d = S.degree in
@@ -26,15 +26,15 @@ returns c = λ G z.
     let pq : 0 < q = omega (arith, ok.modulus_least) in
     let pd : 0 < d = (known a.sums _ _ _ _ _ (given.given 0 given.some)).degree in
     let F : ℕ → Element = λ r. inner d a.h (messages_of a.sums d a.h a.message.now) (keys_of a.sums q d a.h (G r)) in
-    let cells = c.before.before.before.before.before.before.before.before.before.cells.ensures z.0.allowed in
-    let n = c.before.before.before.before.item-cells.ensures.0 z.0.allowed in
-    let is = c.before.before.before.before.before.before.before.inner-rows.ensures G
+    let cells = c.cells.ensures z.0.allowed in
+    let n = c.item_cells.ensures.0 z.0.allowed in
+    let is = c.inner_rows.ensures G
     (subst (λ m. RowsGiven a.sums q d a.h S.rows m a.message.now a.key.now G) (sym cells) given, z.1) in
-    c.before.before.halve.ensures (omega (arith, n, z.1, c.before.before.before.before.before.before.before.inner-rows.auto.1.1.1.1.1.1.1.1.0))
-    (subst (λ m. Halvables q m c.before.before.before.before.before.before.before.inner-rows.new.1.1.1.1.1.1.1.1.0) (sym n)
+    c.halve.ensures (omega (arith, n, z.1, c.inner_rows.auto.out))
+    (subst (λ m. Halvables q m c.inner_rows.new.out) (sym n)
     (written_halvable q d (item_cells S) pq pd F a.out.now _ is ok.modulus_odd))
-    ∙ ap (λ m. filled (λ k. half q ^ a.t * get_or c.before.before.before.before.before.before.before.inner-rows.new.1.1.1.1.1.1.1.1.0 k 0 % q) m
-    c.before.before.before.before.before.before.before.inner-rows.new.1.1.1.1.1.1.1.1.0) n
+    ∙ ap (λ m. filled (λ k. half q ^ a.t * get_or c.inner_rows.new.out k 0 % q) m
+    c.inner_rows.new.out) n
     ∙ written-times q d (item_cells S) pq pd F a.out.now _ is (half q ^ a.t)
 
 pub items_spec : {M : Type 1} → statement M

@@ -10,12 +10,12 @@ use Rattle.round_products.proofs.minus_both.Tie as tie
 
 returns : tie.Need-returns
 returns c = λ h.
-    let a = c.before.before.args in
+    let a = c.args in
     let q = a.q in
     let first : BothBelow q a.x a.a = record { left = h.0; right = h.1 } in
-    let is : c.before.minus.result ≡ (a.x + (q - a.a)) % q = c.before.minus.ensures first ∙ minus_is first in
-    let both : BothBelow q c.before.minus.result a.b = record { left = omega (arith, is, mod-lt (a.x + (q - a.a)) {m = q} (omega arith)); right = h.2 } in
-    c.minus2.ensures both ∙ minus_is both ∙ ap (λ y. (y + (q - a.b)) % q) is
+    let is : c.minus.result ≡ (a.x + (q - a.a)) % q = c.minus.ensures first ∙ minus_is first in
+    let both : BothBelow q c.minus.result a.b = record { left = omega (arith, is, mod-lt (a.x + (q - a.a)) {m = q} (omega arith)); right = h.2 } in
+    c.minus-2.ensures both ∙ minus_is both ∙ ap (λ y. (y + (q - a.b)) % q) is
 
 pub minus_both_spec : {M : Type 1} → statement M
 minus_both_spec = tie.close (tie.spec (λ c κs. search rules) (λ c κs. search rules) returns)

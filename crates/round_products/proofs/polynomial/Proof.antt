@@ -16,74 +16,74 @@ use borrow.Author.Rules.{rules}
 use Rattle.round_products.proofs.polynomial.Statement.{statement}
 use Rattle.round_products.proofs.polynomial.Tie as tie
 
-returns : tie.Need-returns
-returns c = λ z _. absurd (omega (arith, turn _ _ _ _ z))
+returns-then-t-settings : tie.Need-returns-then-t-settings
+returns-then-t-settings c = λ z _. absurd (omega (arith, turn _ _ _ _ z))
 
-returns-2 : tie.Need-returns-2
-returns-2 c = λ z room. absurd (omega (arith, room.0, c.before.item-cells.ensures.0 (allowed _ _ _ _ z)))
+returns-then-c0-n : tie.Need-returns-then-c0-n
+returns-then-c0-n c = λ z room. absurd (omega (arith, room.0, c.item_cells-n.ensures.0 (allowed _ _ _ _ z)))
 
-returns-3 : tie.Need-returns-3
-returns-3 c = λ z room. absurd (omega (arith, room.1, c.before.before.item-cells.ensures.0 (allowed _ _ _ _ z)))
+returns-then-c1-n : tie.Need-returns-then-c1-n
+returns-then-c1-n c = λ z room. absurd (omega (arith, room.1, c.item_cells-n.ensures.0 (allowed _ _ _ _ z)))
 
-returns-4 : tie.Need-returns-4
-returns-4 c = λ z room. absurd (omega (arith, room.2, c.before.before.before.item-cells.ensures.0 (allowed _ _ _ _ z)))
+returns-then-c2-n : tie.Need-returns-then-c2-n
+returns-then-c2-n c = λ z room. absurd (omega (arith, room.2, c.item_cells-n.ensures.0 (allowed _ _ _ _ z)))
 
-mul-half : tie.Need-overflow-mul-half
-mul-half c = omega (
+overflow_mul-half : tie.Need-overflow_mul-half
+overflow_mul-half c = omega (
   arith,
-  mul-le-mul {n₁ = c.before.half-left.result} {m₁ = c.before.before.before.before.before.before.before.before.before.before.before.before.args.settings.degree} {n₂ = 4294967295} {m₂ = 4294967295} (omega arith) (omega arith),
+  mul-le-mul {n₁ = c.half_left-h.result} {m₁ = c.args.settings.degree} {n₂ = 4294967295} {m₂ = 4294967295} (omega arith) (omega arith),
 )
 
-returns-5 : tie.Need-returns-5
-returns-5 c = λ z room.
-    let is = c.before.before.half-left.ensures (record { allowed = allowed _ _ _ _ z; turn = turn _ _ _ _ z }) in
+returns-then-message-half : tie.Need-returns-then-message-half
+returns-then-message-half c = λ z room.
+    let is = c.half_left-h.ensures (record { allowed = allowed _ _ _ _ z; turn = turn _ _ _ _ z }) in
     absurd (omega (
       arith,
       (half-inside _ _ _ _ z).0,
-      ap (λ n. n * c.before.before.before.before.before.before.before.before.before.before.before.before.before.args.settings.degree) is,
+      ap (λ n. n * c.args.settings.degree) is,
     ))
 
-returns-6 : tie.Need-returns-6
-returns-6 c = λ z room.
-    let is = c.before.before.before.half-left.ensures (record { allowed = allowed _ _ _ _ z; turn = turn _ _ _ _ z }) in
+returns-then-key-half : tie.Need-returns-then-key-half
+returns-then-key-half c = λ z room.
+    let is = c.half_left-h.ensures (record { allowed = allowed _ _ _ _ z; turn = turn _ _ _ _ z }) in
     absurd (omega (
       arith,
       (half-inside _ _ _ _ z).1,
-      ap (λ n. n * c.before.before.before.before.before.before.before.before.before.before.before.before.before.before.args.settings.degree) is,
+      ap (λ n. n * c.args.settings.degree) is,
     ))
 
-returns-7 : tie.Need-returns-7
+returns : tie.Need-returns
 unfolding half
-returns-7 c = λ z room.
-    let a = c.before.before.before.before.before.before.before.before.before.before.before.before.before.before.before.before.before.before.before.before.before.before.before.before.before.before.before.before.before.before.before.before.before.before.args in
+returns c = λ z room.
+    let a = c.args in
     let S = a.settings in
     let d = S.degree in
     let t = a.t in
     let m = a.message.now in
     let G = a.key.now in
     let s = half S ^ (t + 1) in
-    let n = c.before.before.before.before.before.before.before.before.before.before.before.before.before.before.before.before.before.before.before.before.before.before.before.before.before.before.before.item-cells.ensures.0 (allowed S t G m z) in
-    let is : c.before.before.before.before.before.before.before.before.before.before.before.before.before.before.before.before.before.before.before.before.before.before.before.half-left.result ≡ half_left S t = c.before.before.before.before.before.before.before.before.before.before.before.before.before.before.before.before.before.before.before.before.before.before.before.half-left.ensures (record { allowed = allowed S t G m z; turn = turn S t G m z }) in
-    let c0 = c.before.before.before.before.before.before.before.before.before.before.before.before.before.before.before.before.before.before.items.ensures (key_row S G)
+    let n = c.item_cells-n.ensures.0 (allowed S t G m z) in
+    let is : c.half_left-h.result ≡ half_left S t = c.half_left-h.ensures (record { allowed = allowed S t G m z; turn = turn S t G m z }) in
+    let c0 = c.items.ensures (key_row S G)
     (subst (λ h. ItemsGiven false S h m G (key_row S G)) (sym is) (first_given S t G m z), room.0)
     ∙ ap (λ h. filled (row_places d (inner_item false S h s m (key_row S G))) (item_cells S) a.c0.now) is ∙ first-item S t G m z a.c0.now in
-    let c2 = c.before.before.before.before.before.before.before.before.before.before.before.before.items2.ensures
-    (λ r. tail (c.before.before.before.before.before.before.before.before.before.before.before.before.before.before.before.before.before.before.before.before.before.before.before.half-left.result * d) (key_row S G r))
+    let c2 = c.items-2.ensures
+    (λ r. tail (c.half_left-h.result * d) (key_row S G r))
     (subst (λ h. ItemsGiven false S h (tail (h * d) m) (tail (h * d) G) (λ r. tail (h * d) (key_row S G r))) (sym is) (second_given S t G m z), room.2)
     ∙ ap (λ h. filled (row_places d (inner_item false S h s (tail (h * d) m) (λ r. tail (h * d) (key_row S G r)))) (item_cells S) a.c2.now) is ∙ last_item S t G m z a.c2.now in
-    let x = c.before.before.before.before.before.before.before.before.items3.ensures (key_row S G)
+    let x = c.items-3.ensures (key_row S G)
     (subst (λ h. ItemsGiven true S h m G (key_row S G)) (sym is) (sum_given S t G m z), room.1)
     ∙ ap (λ h. filled (row_places d (inner_item true S h s m (key_row S G))) (item_cells S) a.c1.now) is ∙ sum-item S t G m z a.c1.now in
     let below = three-below S t G m z _ _ _ a.c0.now a.c1.now a.c2.now x c0 c2 in
     record {
       first = c0;
-      middle = c.before.before.difference.ensures (λ k l. below k (omega (arith, n))) ∙ middle-item S t G m z _ _ _ a.c0.now a.c1.now a.c2.now x c0 c2 _ n;
+      middle = c.difference.ensures (λ k l. below k (omega (arith, n))) ∙ middle-item S t G m z _ _ _ a.c0.now a.c1.now a.c2.now x c0 c2 _ n;
       last = c2;
     }
 
 pub polynomial_spec : {M : Type 1} → statement M
 polynomial_spec =
     tie.close
-    (tie.spec returns (λ c κs. search) returns-2 returns-3 returns-4 (λ c κs. search) (λ c. search rules) (λ c. search rules) mul-half returns-5 returns-6 (λ c. search rules)
+    (tie.spec returns-then-t-settings (λ c κs. search) returns-then-c0-n returns-then-c1-n returns-then-c2-n (λ c κs. search) (λ c. search rules) (λ c. search rules) overflow_mul-half returns-then-message-half returns-then-key-half (λ c. search rules)
     (λ c κs. search) (λ c. search rules) (λ c. search rules) (λ c. search) (λ c. search) (λ c. search rules) (λ c. search rules) (λ c. search) (λ c. search)
-    (λ c. search rules) (λ c κs. search) (λ c. search rules) (λ c κs. search) (λ c κs. search rules) (λ c. search) (λ c. search) (λ c. search) returns-7)
+    (λ c. search rules) (λ c κs. search) (λ c. search rules) (λ c κs. search) (λ c κs. search rules) (λ c. search) (λ c. search) (λ c. search) returns)

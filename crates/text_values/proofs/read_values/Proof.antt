@@ -68,16 +68,16 @@ module _ (c : tie.After-values-1) where
     in_order_lem : ordered ≡ true
     in_order_lem = sym ((c.read_wanted.ensures.0 b).answer unrefused) ∙ found
 
-module _ (c : tie.After-fits2) where
+module _ (c : tie.After-fits) where
   abbrev followed : tie.After-values-1
   followed = c.before.before
 
   reached : followed.read_wanted.result ≡ true
-  reached = not-false _ c.if-not-read_wanted.false
+  reached = not-false _ c.if-not-read_wanted.false-raw
 
-  fitted : Asked (text followed) (S followed) (start followed).args.from (start followed).args.values.now → c.fits2.result ≡ fitting followed
+  fitted : Asked (text followed) (S followed) (start followed).args.from (start followed).args.values.now → c.fits.result ≡ fitting followed
   fitted b =
-      c.fits2.ensures
+      c.fits.ensures
       ∙ lengths-counted (S followed) (parts followed) b.0.allowed (lengths followed)
       ∙ ap (λ x. lengths_fit x (parts followed) (lengths followed)) (sym (settings_are followed reached b))
 
@@ -98,22 +98,22 @@ returns-then-not-read_wanted c =
 returns-then-not-fits : tie.Need-returns-then-not-fits
 returns-then-not-fits c =
     let f = c in
-    let v = followed f in (
+    let v = followed f.before.before in (
       (λ b.
-          gathered_refused (parts v) (lengths v) (text v) (answer v) (looks v (reached f) b) _ refl c.refused-then-not-fits.result c.refused-then-not-fits.ensures
-          (and_fails_right (ordered v) (fitting v) (sym (fitted f b) ∙ not-true _ c.if-not-fits.true-raw))),
+          gathered_refused (parts v) (lengths v) (text v) (answer v) (looks v (reached f.before.before) b) _ refl c.refused-then-not-fits.result c.refused-then-not-fits.ensures
+          (and_fails_right (ordered v) (fitting v) (sym (fitted f.before.before b) ∙ not-true _ c.if-not-fits.true-raw))),
       λ e. absurd (omega (arith, e, ap (λ r. r.refusal) c.refused-then-not-fits.ensures)),
     )
 
 returns : tie.Need-returns
 returns c =
     let f = c in
-    let v = followed f in (
+    let v = followed f.before in (
       (λ b.
-          gathered_granted (parts v) (lengths v) (text v) (answer v) (looks v (reached f) b) _ refl
-          (and_intro {a = ordered v} {b = fitting v} (in_order_lem v (reached f) b) (sym (fitted f b) ∙ not-false _ c.if-not-fits.false-raw))
-          ((v.before.read_wanted.ensures.0 b).stored (reached f))),
-      λ _. v.before.read_wanted.ensures.1 (reached f) (lengths v) (sym f.fits2.ensures ∙ not-false _ c.if-not-fits.false-raw),
+          gathered_granted (parts v) (lengths v) (text v) (answer v) (looks v (reached f.before) b) _ refl
+          (and_intro {a = ordered v} {b = fitting v} (in_order_lem v (reached f.before) b) (sym (fitted f.before b) ∙ not-false _ c.if-not-fits.false-raw))
+          ((v.before.read_wanted.ensures.0 b).stored (reached f.before))),
+      λ _. v.before.read_wanted.ensures.1 (reached f.before) (lengths v) (sym f.fits.ensures ∙ not-false _ c.if-not-fits.false-raw),
     )
 
 pub read_values_spec : {M : Type 1} → statement M

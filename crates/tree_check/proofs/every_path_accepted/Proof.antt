@@ -5,43 +5,43 @@ use borrow.Author.Rules.{rules}
 use Rattle.tree_check.proofs.every_path_accepted.Statement.{statement}
 use Rattle.tree_check.proofs.every_path_accepted.Tie as tie
 
-allowed : (c : tie.Else1) → settings_refusal c.before.before.before.before.before.args.settings ≡ 0
-allowed c = sym c.before.settings-refusal.ensures ∙ c.if1.false
+allowed : (c : tie.Else-settings_refusal-ne0) → settings_refusal c.args.settings ≡ 0
+allowed c = sym c.settings_refusal.ensures ∙ c.if-settings_refusal-ne0.false
 
-returns : tie.Need-returns
-returns c = λ g. absurd (c.if1.true (c.before.settings-refusal.ensures ∙ g.allowed))
+returns-then-settings_refusal-ne0 : tie.Need-returns-then-settings_refusal-ne0
+returns-then-settings_refusal-ne0 c = λ g. absurd (c.if-settings_refusal-ne0.true (c.settings_refusal.ensures ∙ g.allowed))
 
-returns-2 : tie.Need-returns-2
-returns-2 c = λ g. absurd (c.if2.true (g.key_below.long ∙ sym (c.before.key-cells.ensures g.allowed)))
+returns-then-key-key_cells : tie.Need-returns-then-key-key_cells
+returns-then-key-key_cells c = λ g. absurd (c.if-key-key_cells.true (g.key_below.long ∙ sym (c.key_cells.ensures g.allowed)))
 
-returns-3 : tie.Need-returns-3
-returns-3 c = λ g. absurd (c.if3.true (g.rounds_below.long ∙ sym (c.before.tree-round-cells.ensures g.allowed)))
+returns-then-rounds-tree_round_cells : tie.Need-returns-then-rounds-tree_round_cells
+returns-then-rounds-tree_round_cells c = λ g. absurd (c.if-rounds-tree_round_cells.true (g.rounds_below.long ∙ sym (c.tree_round_cells.ensures g.allowed)))
 
-returns-4 : tie.Need-returns-4
-returns-4 c = λ g. absurd (c.if4.true (g.finals_long ∙ sym (c.before.leaf-cells.ensures g.allowed)))
+returns-then-leaves-leaf_cells : tie.Need-returns-then-leaves-leaf_cells
+returns-then-leaves-leaf_cells c = λ g. absurd (c.if-leaves-leaf_cells.true (g.finals_long ∙ sym (c.leaf_cells.ensures g.allowed)))
 
-slice-aggregate-every-row-accepted : tie.Need-slice-aggregate-every-row-accepted
-slice-aggregate-every-row-accepted c = search rules
+slice_bounds-every_row_accepted-end : tie.Need-slice_bounds-every_row_accepted-end
+slice_bounds-every_row_accepted-end c = search rules
 
-every-row-accepted-requires : tie.Need-every-row-accepted-requires
-every-row-accepted-requires c κs =
-    let four = c.before in
-    let three = four.before.before in
-    let two = three.before.before in
-    let e = allowed two.before.before in
+every_row_accepted-requires : tie.Need-every_row_accepted-requires
+every_row_accepted-requires c κs =
+    let four = c in
+    let three = four in
+    let two = three in
+    let e = allowed two.before.before.before.before.before.before.before in
     record {
       allowed = e;
-      commitment-long = sym (slice-aggregate-every-row-accepted c);
-      key_long = two.if2.false ∙ two.before.key-cells.ensures e;
-      rounds_long = three.if3.false ∙ three.before.tree-round-cells.ensures e;
-      finals_long = four.if4.false ∙ four.before.leaf-cells.ensures e;
+      commitment-long = sym (slice_bounds-every_row_accepted-end c);
+      key_long = two.if-key-key_cells.false ∙ two.key_cells.ensures e;
+      rounds_long = three.if-rounds-tree_round_cells.false ∙ three.tree_round_cells.ensures e;
+      finals_long = four.if-leaves-leaf_cells.false ∙ four.leaf_cells.ensures e;
     }
 
-returns-5 : tie.Need-returns-5
-returns-5 c = λ g. c.every-row-accepted.ensures g ∙ sym (every-path-tree _ _ _ _ _ _)
+returns : tie.Need-returns
+returns c = λ g. c.every_row_accepted.ensures g ∙ sym (every-path-tree _ _ _ _ _ _)
 
 pub every_path_accepted_spec : {M : Type 1} → statement M
 every_path_accepted_spec =
     tie.close
-    (tie.spec (λ c κs. search rules) returns (λ c κs. search rules) returns-2 (λ c κs. search rules) returns-3 (λ c κs. search rules) returns-4
-    slice-aggregate-every-row-accepted every-row-accepted-requires returns-5)
+    (tie.spec (λ c κs. search rules) returns-then-settings_refusal-ne0 (λ c κs. search rules) returns-then-key-key_cells (λ c κs. search rules) returns-then-rounds-tree_round_cells (λ c κs. search rules) returns-then-leaves-leaf_cells
+    slice_bounds-every_row_accepted-end every_row_accepted-requires returns)

@@ -7,24 +7,24 @@ use borrow.Author.Rules.{rules}
 use Rattle.equations.proofs.rounds.next_claim.Statement.{statement}
 use Rattle.equations.proofs.rounds.next_claim.Tie as tie
 
+returns-then-rounds-third : tie.Need-returns-then-rounds-third
+returns-then-rounds-third c = λ g.
+    let h = g.of_round in
+    absurd (let at = c.polynomial_at-at.ensures.0 h.allowed h.index in let n = c.item_cells-n.ensures.0 h.allowed in omega (arith, at, n, h.inside))
+
 returns : tie.Need-returns
 returns c = λ g.
-    let h = g.of_round in
-    absurd (let at = c.before.polynomial-at.ensures.0 h.allowed h.index in let n = c.before.before.item-cells.ensures.0 h.allowed in omega (arith, at, n, h.inside))
-
-returns-2 : tie.Need-returns-2
-returns-2 c = λ g.
-    let p = c.before.before.before.before.before.before.before.before in
-    let a = p.before.before.before.before.args in
+    let p = c in
+    let a = p.args in
     let S = a.settings in
     let d = S.degree in
     let r = ready S g.of_round.allowed in
-    let is_at = p.polynomial-at.ensures.0 g.of_round.allowed g.of_round.index in
-    let is_n = p.before.item-cells.ensures.0 g.of_round.allowed in
-    let at = p.polynomial-at.result in
-    let n = p.before.item-cells.result in
+    let is_at = p.polynomial_at-at.ensures.0 g.of_round.allowed g.of_round.index in
+    let is_n = p.item_cells-n.ensures.0 g.of_round.allowed in
+    let at = p.polynomial_at-at.result in
+    let n = p.item_cells-n.result in
     claim-alike S a.rounds.now a.k at (at + 2 * n) is_at (ap (λ x. at + 2 * x) is_n) a.e (at + n) (ap (λ x. at + x) is_n) a.claim.now
-    (c.before.before.value.ensures (record {
+    (c.value.ensures (record {
       degree = omega arith;
       degree_most = r.degree_most;
       coefficients = record {
@@ -39,6 +39,6 @@ returns-2 c = λ g.
 pub next_claim_spec : {M : Type 1} → statement M
 next_claim_spec =
     tie.close
-    (tie.spec (λ c. search rules) (λ c κs. search rules) (λ c. search rules) (λ c. search rules) (λ c. search rules) returns (λ c. search rules)
+    (tie.spec (λ c. search rules) (λ c κs. search rules) (λ c. search rules) (λ c. search rules) (λ c. search rules) returns-then-rounds-third (λ c. search rules)
     (λ c. search rules) (λ c. search rules) (λ c. search rules) (λ c. search rules) (λ c. search rules) (λ c. search rules) (λ c. search rules)
-    (λ c. search rules) (λ c. search rules) (λ c. search rules) (λ c. search rules) (λ c κs. search rules) (λ c. search rules) returns-2)
+    (λ c. search rules) (λ c. search rules) (λ c. search rules) (λ c. search rules) (λ c κs. search rules) (λ c. search rules) returns)

@@ -6,20 +6,20 @@ use borrow.Author.Rules.{rules}
 use Rattle.equations.proofs.rounds.polynomial_holds.Statement.{statement}
 use Rattle.equations.proofs.rounds.polynomial_holds.Tie as tie
 
-returns : tie.Need-returns
-returns c = λ g. absurd (let at = c.before.polynomial-at.ensures.0 g.allowed g.index in let n = c.before.before.item-cells.ensures.0 g.allowed in omega (arith, at, n, g.inside))
+returns-then-rounds-last : tie.Need-returns-then-rounds-last
+returns-then-rounds-last c = λ g. absurd (let at = c.polynomial_at-at.ensures.0 g.allowed g.index in let n = c.item_cells-n.ensures.0 g.allowed in omega (arith, at, n, g.inside))
 
-returns-2 : tie.Need-returns-2
-returns-2 c = λ g.
-    let p = c.before.before.before.before in
-    let a = p.before.before.before.before.args in
+returns : tie.Need-returns
+returns c = λ g.
+    let p = c in
+    let a = p.args in
     let S = a.settings in
     let d = S.degree in
-    let is_at = p.polynomial-at.ensures.0 g.allowed g.index in
-    let is_n = p.before.item-cells.ensures.0 g.allowed in
-    let at = p.polynomial-at.result in
-    let third = at + 2 * p.before.item-cells.result in
-    c.round-holds.ensures (record {
+    let is_at = p.polynomial_at-at.ensures.0 g.allowed g.index in
+    let is_n = p.item_cells-n.ensures.0 g.allowed in
+    let at = p.polynomial_at-at.result in
+    let third = at + 2 * p.item_cells-n.result in
+    c.round_holds.ensures (record {
       allowed = g.allowed;
       first = g.claim_long;
       second = part-long at d a.rounds.now (omega (arith, is_at, is_n, g.inside));
@@ -30,6 +30,6 @@ returns-2 c = λ g.
 pub polynomial_holds_spec : {M : Type 1} → statement M
 polynomial_holds_spec =
     tie.close
-    (tie.spec (λ c. search rules) (λ c κs. search rules) (λ c. search rules) (λ c. search rules) returns (λ c. search rules) (λ c. search rules)
+    (tie.spec (λ c. search rules) (λ c κs. search rules) (λ c. search rules) (λ c. search rules) returns-then-rounds-last (λ c. search rules) (λ c. search rules)
     (λ c. search rules) (λ c. search rules) (λ c. search rules) (λ c. search rules) (λ c. search rules) (λ c. search rules) (λ c κs. search rules)
-    returns-2)
+    returns)

@@ -7,34 +7,34 @@ use borrow.Author.Rules.{rules}
 use Rattle.judge.proofs.combination.combination.Statement.{statement}
 use Rattle.judge.proofs.combination.combination.Tie as tie
 
-returns : tie.Need-returns
-returns c = let s = c.before.before.before in c.before.part.ensures ∙ part_only s.args.settings s.args.key.now s.args.w.now s.requires (omega arith)
+returns-then-q-le-NARROW : tie.Need-returns-then-q-le-NARROW
+returns-then-q-le-NARROW c = let s = c in c.part-sums.ensures ∙ part_only s.args.settings s.args.key.now s.args.w.now s.requires (omega arith)
 
-add-scaled-requires : tie.Need-add-scaled-requires
-add-scaled-requires c κs =
-    let second = c.before.before.before in
-    let first = second.before.before in
-    let s = first.before.before in
+add_scaled-requires : tie.Need-add_scaled-requires
+add_scaled-requires c κs =
+    let second = c in
+    let first = second in
+    let s = first in
     let a = s.args in
     let few = degree-few a.settings a.key.now a.w.now s.requires in (
       modulus_given a.settings a.key.now a.w.now s.requires,
       omega arith,
       omega (arith, few),
       omega (arith, few),
-      part-reduced a.settings a.key.now a.w.now s.requires (2 ^ 32) _ second.part2.ensures,
-      part-reduced a.settings a.key.now a.w.now s.requires 1 _ first.part.ensures,
+      part-reduced a.settings a.key.now a.w.now s.requires (2 ^ 32) _ second.part-upper.ensures,
+      part-reduced a.settings a.key.now a.w.now s.requires 1 _ first.part-sums.ensures,
     )
 
-returns-2 : tie.Need-returns-2
-returns-2 c =
-    let second = c.before.before.before.before.before in
-    let first = second.before.before in
-    let s = first.before.before in
+returns : tie.Need-returns
+returns c =
+    let second = c in
+    let first = second in
+    let s = first in
     let a = s.args in
-    c.before.add-scaled.ensures ∙ parts-joined a.settings a.key.now a.w.now s.requires _ _ first.part.ensures second.part2.ensures
+    c.add_scaled.ensures ∙ parts-joined a.settings a.key.now a.w.now s.requires _ _ first.part-sums.ensures second.part-upper.ensures
 
 pub combination_spec : {M : Type 1} → statement M
 combination_spec =
     tie.close
-    (tie.spec (λ c κs. search rules) returns (λ c κs. search rules) (λ c. search rules) (λ c. search rules) (λ c. search rules) add-scaled-requires
-    returns-2)
+    (tie.spec (λ c κs. search rules) returns-then-q-le-NARROW (λ c κs. search rules) (λ c. search rules) (λ c. search rules) (λ c. search rules) add_scaled-requires
+    returns)

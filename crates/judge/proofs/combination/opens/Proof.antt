@@ -37,54 +37,54 @@ same_is S key C c w sums e = every_ext S.degree (λ k l. ap (eqb (c * get_or C k
         ∙ get_or-append (tabulate S.degree (combination S key w)) _ 0 k (omega (arith, tabulate_length S.degree (combination S key w)))
         ∙ tabulate_at S.degree (combination S key w) 0 k l
 
-abbrev invariant-loop : tie.invariant-loop
-invariant-loop commitment c key w sums q d factor k₀ k = (k ≤ d) × (every k (same q c commitment sums) ≡ true)
+abbrev invariant-loop-k : tie.invariant-loop-k
+invariant-loop-k commitment c key w sums q d factor k₀ k = (k ≤ d) × (every k (same q c commitment sums) ≡ true)
 
-abbrev decreases-loop : tie.decreases-loop
-decreases-loop commitment c key w sums q d factor k₀ k = d - k
+abbrev decreases-loop-k : tie.decreases-loop-k
+decreases-loop-k commitment c key w sums q d factor k₀ k = d - k
 
 -- places are small
-module _ (c : tie.In-loop invariant-loop decreases-loop) where
-  abbrev s : tie.Start invariant-loop decreases-loop
+module _ (c : tie.In-loop-k invariant-loop-k decreases-loop-k) where
+  abbrev s : tie.Start invariant-loop-k decreases-loop-k
   s = c.before.before.before.before.before.before.before
 
-  small : c.before.loop.k < width
-  small = omega (arith, degree_most s.args.settings (settings-valid s.args.settings s.pre.0.allowed))
+  small : c.loop-k.k < width
+  small = omega (arith, degree_most s.args.settings (settings-valid s.args.settings s.requires.0.allowed))
 
-prepared-requires : tie.Need-prepared-requires invariant-loop decreases-loop
-prepared-requires c κs =
-    let g = c.before.before.before.before in (modulus_given g.args.settings g.args.key.now g.args.w.now g.requires.0, omega (arith, g.ranges.c.fits))
+prepared-factor-requires : tie.Need-prepared-factor-requires invariant-loop-k decreases-loop-k
+prepared-factor-requires c κs =
+    let g = c in (modulus_given g.args.settings g.args.key.now g.args.w.now g.requires.0, omega (arith, g.ranges.c.fits))
 
-loop-holds : tie.Need-loop-init invariant-loop decreases-loop
-loop-holds c = (omega arith, every-none _)
+loop-k-init : tie.Need-loop-k-init invariant-loop-k decreases-loop-k
+loop-k-init c = (omega arith, every-none _)
 
-shared-slice-read-scaled-is : tie.Need-shared-slice-read-scaled-is invariant-loop decreases-loop
-shared-slice-read-scaled-is c = omega (arith, (s c.before).pre.1)
+bounds-commitment-k : tie.Need-bounds-commitment-k invariant-loop-k decreases-loop-k
+bounds-commitment-k c = omega (arith, (s c.before).requires.1)
 
-array-read-scaled-is : tie.Need-array-read-scaled-is invariant-loop decreases-loop
-array-read-scaled-is c = small c.before
+bounds-sums-k : tie.Need-bounds-sums-k invariant-loop-k decreases-loop-k
+bounds-sums-k c = small c.before
 
-scaled-is-requires : tie.Need-scaled-is-requires invariant-loop decreases-loop
-scaled-is-requires c κs = (c.before.before.before.prepared.ensures, (s c.before).pre.2 c.before.before.loop.k (omega arith))
+scaled_is-requires : tie.Need-scaled_is-requires invariant-loop-k decreases-loop-k
+scaled_is-requires c κs = (c.prepared-factor.ensures, (s c.before).requires.2 c.loop-k.k (omega arith))
 
-returns : tie.Need-returns invariant-loop decreases-loop
-returns c =
-    let i = c.before.before.before in let a = (s i).args in let sums = i.before.before.before.before.combination in
-    every_fails (same a.settings.modulus a.c a.commitment.now sums.result) a.settings.degree i.before.loop.k (omega arith)
-    (sym c.before.scaled-is.ensures ∙ not-true _ c.if1.true)
+returns-then-not-scaled_is : tie.Need-returns-then-not-scaled_is invariant-loop-k decreases-loop-k
+returns-then-not-scaled_is c =
+    let i = c in let a = (s i.before.before.before).args in let sums = i.combination-sums in
+    every_fails (same a.settings.modulus a.c a.commitment.now sums.result) a.settings.degree i.loop-k.k (omega arith)
+    (sym c.scaled_is.ensures ∙ not-true _ c.if-not-scaled_is.true-raw)
     ∙ same_is a.settings a.key.now a.commitment.now a.c a.w.now _ sums.ensures
 
-loop-again : tie.Need-loop-preserved invariant-loop decreases-loop
-loop-again c = let l = c.before.before.before.before.loop in (omega arith, every_goes_on _ l.k l.invariant.1 (sym c.before.scaled-is.ensures ∙ not-false _ c.if1.false))
+loop-k-preserved : tie.Need-loop-k-preserved invariant-loop-k decreases-loop-k
+loop-k-preserved c = let l = c.loop-k in (omega arith, every_goes_on _ l.k l.invariant.1 (sym c.scaled_is.ensures ∙ not-false _ c.if-not-scaled_is.false-raw))
 
-returns-2 : tie.Need-returns-2 invariant-loop decreases-loop
-returns-2 c =
-    let a = c.before.before.before.before.before.before.before.args in let l = c.before.loop in let sums = c.before.before.before.before.combination in
+returns : tie.Need-returns invariant-loop-k decreases-loop-k
+returns c =
+    let a = c.args in let l = c.loop-k in let sums = c.combination-sums in
     every_ends (same a.settings.modulus a.c a.commitment.now sums.result) a.settings.degree l.k l.invariant.1 (omega arith)
     ∙ same_is a.settings a.key.now a.commitment.now a.c a.w.now _ sums.ensures
 
 pub opens_spec : {M : Type 1} → statement M
 opens_spec =
     tie.close
-    (tie.spec invariant-loop decreases-loop (λ c κs. search rules) (λ c. search rules) prepared-requires loop-holds (λ c. search rules) shared-slice-read-scaled-is
-    (λ c. search rules) array-read-scaled-is scaled-is-requires returns (λ c. search rules) (λ c. search rules) loop-again returns-2)
+    (tie.spec invariant-loop-k decreases-loop-k (λ c κs. search rules) (λ c. search rules) prepared-factor-requires loop-k-init (λ c. search rules) bounds-commitment-k
+    (λ c. search rules) bounds-sums-k scaled_is-requires returns-then-not-scaled_is (λ c. search rules) (λ c. search rules) loop-k-preserved returns)

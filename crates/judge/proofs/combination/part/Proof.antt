@@ -10,25 +10,25 @@ use Rattle.judge.proofs.combination.part.Statement.{statement}
 use Rattle.judge.proofs.combination.part.Tie as tie
 
 -- as many elements as the settings say
-count : (c : tie.After-left) → c.left.result ≡ size c.before.before.args.settings
-count c = let s = c.before.before in c.left.ensures (record { allowed = s.requires.0.allowed; most = omega arith }) ∙ left_none s.args.settings
+count : (c : tie.After-left-n) → c.left-n.result ≡ size c.args.settings
+count c = let s = c in c.left-n.ensures (record { allowed = s.requires.0.allowed; most = omega arith }) ∙ left_none s.args.settings
 
 split-requires : tie.Need-split-requires
 split-requires c κs =
-    let s = c.before.before.before.before in
+    let s = c in
     let a = s.args in
     let v = s.requires.0 in
     ((modulus_given a.settings a.key.now a.w.now v).positive, s.requires.1, omega (arith, v.few, v.long), omega (arith, v.few, v.long))
 
-add-scaled-requires : tie.Need-add-scaled-requires
+add_scaled-requires : tie.Need-add_scaled-requires
 unfolding signed_zeros
-add-scaled-requires c κs =
-    let second = c.before.before in
-    let first = second.before.before in
-    let digits = first.before.before.before.before in
-    let t = digits.before.before.before in
-    let a = t.before.before.args in
-    let v = t.before.before.requires.0 in
+add_scaled-requires c κs =
+    let second = c in
+    let first = second in
+    let digits = first in
+    let t = digits in
+    let a = t.args in
+    let v = t.requires.0 in
     let e = digits.split.ensures in
     let few = degree-few a.settings a.key.now a.w.now v in (
       modulus_given a.settings a.key.now a.w.now v,
@@ -36,28 +36,28 @@ add-scaled-requires c κs =
       omega (arith, few),
       omega (arith, few),
       product-reduced a.settings a.key.now a.w.now v _ _ _
-          (second.inner2.ensures (digits_summable a.settings a.key.now a.w.now v (2 ^ a.shift * 65536) _ e.1 _ (count t))),
+          (second.inner-upper.ensures (digits_summable a.settings a.key.now a.w.now v (2 ^ a.shift * 65536) _ e.1 _ (count t.before.before.before.before.before.before.before.before.before.before.before))),
       product-reduced a.settings a.key.now a.w.now v _ _ _
-          (first.inner.ensures (digits_summable a.settings a.key.now a.w.now v (2 ^ a.shift) _ e.0 _ (count t))),
+          (first.inner-sums.ensures (digits_summable a.settings a.key.now a.w.now v (2 ^ a.shift) _ e.0 _ (count t.before.before.before.before.before.before.before.before.before.before.before))),
     )
 
 returns : tie.Need-returns
 unfolding signed_zeros
 returns c =
-    let second = c.before.before.before.before in
-    let first = second.before.before in
-    let digits = first.before.before.before.before in
-    let t = digits.before.before.before in
-    let a = t.before.before.args in
-    let v = t.before.before.requires.0 in
+    let second = c in
+    let first = second in
+    let digits = first in
+    let t = digits in
+    let a = t.args in
+    let v = t.requires.0 in
     let e = digits.split.ensures in
-    c.before.add-scaled.ensures
-    ∙ digits-joined a.settings a.key.now a.w.now v t.left.result (count t) (2 ^ a.shift) _ _ e.0 e.1 _ _
-    (first.inner.ensures (digits_summable a.settings a.key.now a.w.now v (2 ^ a.shift) _ e.0 _ (count t)))
-    (second.inner2.ensures (digits_summable a.settings a.key.now a.w.now v (2 ^ a.shift * 65536) _ e.1 _ (count t)))
+    c.add_scaled.ensures
+    ∙ digits-joined a.settings a.key.now a.w.now v t.left-n.result (count t.before.before.before.before.before.before.before.before.before.before.before.before.before) (2 ^ a.shift) _ _ e.0 e.1 _ _
+    (first.inner-sums.ensures (digits_summable a.settings a.key.now a.w.now v (2 ^ a.shift) _ e.0 _ (count t.before.before.before.before.before.before.before.before.before.before.before.before.before)))
+    (second.inner-upper.ensures (digits_summable a.settings a.key.now a.w.now v (2 ^ a.shift * 65536) _ e.1 _ (count t.before.before.before.before.before.before.before.before.before.before.before.before.before)))
 
 pub part_spec : {M : Type 1} → statement M
 part_spec =
     tie.close
     (tie.spec (λ c κs. search rules) (λ c. search rules) (λ c. search rules) split-requires (λ c. search rules) (λ c κs. search rules)
-    (λ c. search rules) (λ c κs. search rules) (λ c. search rules) (λ c. search rules) (λ c. search rules) add-scaled-requires returns)
+    (λ c. search rules) (λ c κs. search rules) (λ c. search rules) (λ c. search rules) (λ c. search rules) add_scaled-requires returns)

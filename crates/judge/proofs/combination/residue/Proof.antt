@@ -13,23 +13,23 @@ use Rattle.judge.proofs.combination.residue.Statement.{statement}
 use Rattle.judge.proofs.combination.residue.Tie as tie
 
 -- the residue of the number passed, without its sign
-rest-is : (c : tie.After-remainder) → let a = c.before.before.args in c.remainder.result ≡ folded a.x % a.q
-rest-is c = let s = c.before.before in c.remainder.ensures ∙ ap (λ m. m % s.args.q) (c.before.folded.ensures ∙ ap folded (to_z-of_z s.ranges.x))
+rest-is : (c : tie.After-remainder-m) → let a = c.args in c.remainder-m.result ≡ folded a.x % a.q
+rest-is c = let s = c in c.remainder-m.ensures ∙ ap (λ m. m % s.args.q) (c.folded.ensures ∙ ap folded (to_z-of_z s.ranges.x))
 
-sub-result-2 : tie.Need-overflow-sub-result-2
-sub-result-2 c = let s = c.before.before.before in omega (arith, c.before.remainder.ensures, mod-lt c.before.before.folded.result s.requires)
+overflow_sub-result-then-x-lt0 : tie.Need-overflow_sub-result-then-x-lt0
+overflow_sub-result-then-x-lt0 c = let s = c in omega (arith, c.remainder-m.ensures, mod-lt c.folded.result s.requires)
+
+returns-then-x-lt0 : tie.Need-returns-then-x-lt0
+returns-then-x-lt0 c =
+    let r = c in
+    let s = r in
+    ap (λ m. s.args.q - 1 - m) (rest-is r.before) ∙ residue-below s.args.q s.args.x (sym (ap (λ z. lt_z z (pos 0)) (to_z-of_z s.ranges.x)) ∙ c.if-x-lt0.true)
 
 returns : tie.Need-returns
 returns c =
-    let r = c.before in
-    let s = r.before.before in
-    ap (λ m. s.args.q - 1 - m) (rest-is r) ∙ residue-below s.args.q s.args.x (sym (ap (λ z. lt_z z (pos 0)) (to_z-of_z s.ranges.x)) ∙ c.if1.true)
-
-returns-2 : tie.Need-returns-2
-returns-2 c =
-    let r = c.before in
-    let s = r.before.before in
-    rest-is r ∙ residue-above s.args.q s.args.x (sym (ap (λ z. lt_z z (pos 0)) (to_z-of_z s.ranges.x)) ∙ c.if1.false)
+    let r = c in
+    let s = r in
+    rest-is r.before ∙ residue-above s.args.q s.args.x (sym (ap (λ z. lt_z z (pos 0)) (to_z-of_z s.ranges.x)) ∙ c.if-x-lt0.false)
 
 pub residue_spec : {M : Type 1} → statement M
-residue_spec = tie.close (tie.spec (λ c κs. search rules) (λ c κs. search rules) (λ c. search rules) sub-result-2 returns returns-2)
+residue_spec = tie.close (tie.spec (λ c κs. search rules) (λ c κs. search rules) (λ c. search rules) overflow_sub-result-then-x-lt0 returns-then-x-lt0 returns)

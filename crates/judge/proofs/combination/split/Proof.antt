@@ -14,40 +14,40 @@ use borrow.Author.Rules.{rules}
 use Rattle.judge.proofs.combination.split.Statement.{statement}
 use Rattle.judge.proofs.combination.split.Tie as tie
 
-abbrev invariant-loop : tie.invariant-loop
-invariant-loop q shift w low₀ high₀ p₀ p-end low high p =
+abbrev invariant-loop-p : tie.invariant-loop-p
+invariant-loop-p q shift w low₀ high₀ p₀ p-end low high p =
     (p ≤ length w) × (low ≡ filled (λ (j : ℕ). pos (digit q (2 ^ shift) 65536 (get_or w j (pos 0)))) p low₀)
     × (high ≡ filled (λ (j : ℕ). pos (digit q (2 ^ shift * 65536) 65536 (get_or w j (pos 0)))) p high₀) × (length low ≡ length low₀) × (length high ≡ length high₀)
 
-abbrev decreases-loop : tie.decreases-loop
-decreases-loop q shift w low₀ high₀ p₀ p-end low high p = length w - p
+abbrev decreases-loop-p : tie.decreases-loop-p
+decreases-loop-p q shift w low₀ high₀ p₀ p-end low high p = length w - p
 
-loop-holds : tie.Need-loop-init invariant-loop decreases-loop
-loop-holds c = (omega arith, filled_none _ _, filled_none _ _, search rules, search rules)
+loop-p-init : tie.Need-loop-p-init invariant-loop-p decreases-loop-p
+loop-p-init c = (omega arith, filled_none _ _, filled_none _ _, search rules, search rules)
 
-loop-again : tie.Need-loop-preserved invariant-loop decreases-loop
+loop-p-preserved : tie.Need-loop-p-preserved invariant-loop-p decreases-loop-p
 unfolding digit
-loop-again c =
-    let first = c.before in
-    let r = first.before in
-    let l = r.before.before.before.loop in
-    let a = r.before.before.before.before.args in
-    let m-is : r.residue.result ≡ modulo a.q (get_or a.w.now l.p (pos 0)) = r.residue.ensures ∙ ap (modulo a.q) (through-bits w64 _ r.before.residue-arg.given) in (
+loop-p-preserved c =
+    let first = c in
+    let r = first in
+    let l = r.loop-p in
+    let a = r.args in
+    let m-is : r.residue.result ≡ modulo a.q (get_or a.w.now l.p (pos 0)) = r.residue.ensures ∙ ap (modulo a.q) (through-bits w64 _ r.residue-arg-1.given) in (
       omega arith,
-      filled-turn _ l.p _ l.invariant.1 (through-bits w32 first.digit-of.result first.digit-of.type-inv ∙ first.digit-of.ensures
+      filled-turn _ l.p _ l.invariant.1 (through-bits w32 first.digit_of.result first.digit_of.type_inv ∙ first.digit_of.ensures
           ∙ ap (λ m. pos (m / 2 ^ a.shift / 1 % 65536)) m-is ∙ ap pos (first_digit a.q (2 ^ a.shift) _)) (omega arith),
-      filled-turn _ l.p _ l.invariant.2 (through-bits w32 c.digit-of2.result c.digit-of2.type-inv ∙ c.digit-of2.ensures
+      filled-turn _ l.p _ l.invariant.2 (through-bits w32 c.digit_of-in-loop-p.result c.digit_of-in-loop-p.type_inv ∙ c.digit_of-in-loop-p.ensures
           ∙ ap (λ m. pos (m / 2 ^ a.shift / 65536 % 65536)) m-is ∙ ap pos (second_digit a.q (2 ^ a.shift) _)) (omega arith),
       simp length-set (omega arith),
       simp length-set (omega arith),
     )
 
-returns : tie.Need-returns invariant-loop decreases-loop
-returns c = let l = c.before.loop in (filled-end _ _ l.invariant.1 (omega arith), filled-end _ _ l.invariant.2 (omega arith))
+returns : tie.Need-returns invariant-loop-p decreases-loop-p
+returns c = let l = c.loop-p in (filled-end _ _ l.invariant.1 (omega arith), filled-end _ _ l.invariant.2 (omega arith))
 
 pub split_spec : {M : Type 1} → statement M
 split_spec =
     tie.close
-    (tie.spec invariant-loop decreases-loop loop-holds (λ c. search rules) (λ c. search rules) (λ c κs. search rules) (λ c. search rules) (λ c κs. search rules)
+    (tie.spec invariant-loop-p decreases-loop-p loop-p-init (λ c. search rules) (λ c. search rules) (λ c κs. search rules) (λ c. search rules) (λ c κs. search rules)
     (λ c. search rules) (λ c. search rules) (λ c κs. search rules) (λ c. search rules) (λ c. search rules) (λ c. search rules) (λ c. search rules)
-    loop-again (λ c. search rules) (λ c. search rules) returns)
+    loop-p-preserved (λ c. search rules) (λ c. search rules) returns)

@@ -13,28 +13,28 @@ use Rattle.ranges.proofs.Scan.{every-none, every_goes_on, every_fails, every_end
 use Rattle.judge.proofs.rows.every_row_opens.Statement.{statement}
 use Rattle.judge.proofs.rows.every_row_opens.Tie as tie
 
-abbrev invariant-loop : tie.invariant-loop
-invariant-loop settings commitment c key w rows i₀ i =
+abbrev invariant-loop-i : tie.invariant-loop-i
+invariant-loop-i settings commitment c key w rows i₀ i =
     (i ≤ rows) × (every i (λ (j : ℕ). opens settings (key_row settings key j) (value_row commitment j) c w) ≡ true)
 
-abbrev decreases-loop : tie.decreases-loop
-decreases-loop settings commitment c key w rows i₀ i = rows - i
+abbrev decreases-loop-i : tie.decreases-loop-i
+decreases-loop-i settings commitment c key w rows i₀ i = rows - i
 
-loop-holds : tie.Need-loop-init invariant-loop decreases-loop
-loop-holds c = (omega arith, every-none _)
+loop-i-init : tie.Need-loop-i-init invariant-loop-i decreases-loop-i
+loop-i-init c = (omega arith, every-none _)
 
-returns : tie.Need-returns invariant-loop decreases-loop
-returns c = every_fails _ _ c.before.before.before.loop.i (omega arith) (sym c.before.row_opens.ensures ∙ not-true _ c.if1.true)
+returns-then-not-row_opens : tie.Need-returns-then-not-row_opens invariant-loop-i decreases-loop-i
+returns-then-not-row_opens c = every_fails _ _ c.loop-i.i (omega arith) (sym c.row_opens.ensures ∙ not-true _ c.if-not-row_opens.true-raw)
 
-loop-again : tie.Need-loop-preserved invariant-loop decreases-loop
-loop-again c =
-    let l = c.before.before.before.loop in
-    (omega arith, every_goes_on _ l.i l.invariant.1 (sym c.before.row_opens.ensures ∙ not-false _ c.if1.false))
+loop-i-preserved : tie.Need-loop-i-preserved invariant-loop-i decreases-loop-i
+loop-i-preserved c =
+    let l = c.loop-i in
+    (omega arith, every_goes_on _ l.i l.invariant.1 (sym c.row_opens.ensures ∙ not-false _ c.if-not-row_opens.false-raw))
 
-returns-2 : tie.Need-returns-2 invariant-loop decreases-loop
-returns-2 c = let l = c.before.loop in every_ends _ _ l.i l.invariant.1 (omega arith)
+returns : tie.Need-returns invariant-loop-i decreases-loop-i
+returns c = let l = c.loop-i in every_ends _ _ l.i l.invariant.1 (omega arith)
 
 pub every_row_opens_spec : {M : Type 1} → statement M
 every_row_opens_spec =
     tie.close
-    (tie.spec invariant-loop decreases-loop (λ c. search rules) loop-holds (λ c κs. search rules) returns (λ c. search rules) (λ c. search rules) loop-again returns-2)
+    (tie.spec invariant-loop-i decreases-loop-i (λ c. search rules) loop-i-init (λ c κs. search rules) returns-then-not-row_opens (λ c. search rules) (λ c. search rules) loop-i-preserved returns)

@@ -8,41 +8,41 @@ use Rattle.residues.proofs.Fill.{filled, filled_none, filled-behind, filled-turn
 use Rattle.judge.proofs.scaling.add_scaled.Statement.{statement}
 use Rattle.judge.proofs.scaling.add_scaled.Tie as tie
 
-abbrev invariant-loop : tie.invariant-loop
-invariant-loop q d y b a₀ factor k₀ a k = (k ≤ d) × (a ≡ filled (λ j. (get_or a₀ j 0 + y * get_or b j 0) % q) k a₀) × (length a ≡ length a₀)
+abbrev invariant-loop-k : tie.invariant-loop-k
+invariant-loop-k q d y b a₀ factor k₀ a k = (k ≤ d) × (a ≡ filled (λ j. (get_or a₀ j 0 + y * get_or b j 0) % q) k a₀) × (length a ≡ length a₀)
 
-abbrev decreases-loop : tie.decreases-loop
-decreases-loop q d y b a₀ factor k₀ a k = d - k
+abbrev decreases-loop-k : tie.decreases-loop-k
+decreases-loop-k q d y b a₀ factor k₀ a k = d - k
 
-loop-holds : tie.Need-loop-init invariant-loop decreases-loop
-loop-holds c = (omega arith, filled_none _ _, refl)
+loop-k-init : tie.Need-loop-k-init invariant-loop-k decreases-loop-k
+loop-k-init c = (omega arith, filled_none _ _, refl)
 
 -- place k is as it was
-kept : (c : tie.In-loop invariant-loop decreases-loop) → let l = c.before.loop in get_or l.a l.k 0 ≡ get_or c.before.before.before.before.before.args.a.now l.k 0
-kept c = let l = c.before.loop in ap (λ x. get_or x l.k 0) l.invariant.1 ∙ filled-behind _ l.k _ 0 l.k (omega arith)
+kept : (c : tie.In-loop-k invariant-loop-k decreases-loop-k) → let l = c.loop-k in get_or l.a l.k 0 ≡ get_or c.args.a.now l.k 0
+kept c = let l = c.loop-k in ap (λ x. get_or x l.k 0) l.invariant.1 ∙ filled-behind _ l.k _ 0 l.k (omega arith)
 
-joined-requires : tie.Need-joined-requires invariant-loop decreases-loop
+joined-requires : tie.Need-joined-requires invariant-loop-k decreases-loop-k
 joined-requires c κs =
-    let i = c.before.before in
-    let l = i.before.loop in
-    let s = i.before.before.before.before.before in
-    (i.before.before.prepared.ensures, omega (arith, kept i, s.requires.5 l.k (omega arith)), s.requires.4 l.k (omega arith))
+    let i = c in
+    let l = i.loop-k in
+    let s = i in
+    (i.prepared-factor.ensures, omega (arith, kept i.before.before, s.requires.5 l.k (omega arith)), s.requires.4 l.k (omega arith))
 
-loop-again : tie.Need-loop-preserved invariant-loop decreases-loop
-loop-again c =
-    let i = c.before.before.before in
-    let l = i.before.loop in
-    let a = i.before.before.before.before.before.args in (
+loop-k-preserved : tie.Need-loop-k-preserved invariant-loop-k decreases-loop-k
+loop-k-preserved c =
+    let i = c in
+    let l = i.loop-k in
+    let a = i.args in (
       omega arith,
-      filled-turn _ l.k _ l.invariant.1 (c.joined.ensures ∙ ap (λ x. (x + a.y * get_or a.b.now l.k 0) % a.q) (kept i)) (omega arith),
+      filled-turn _ l.k _ l.invariant.1 (c.joined.ensures ∙ ap (λ x. (x + a.y * get_or a.b.now l.k 0) % a.q) (kept i.before.before.before)) (omega arith),
       simp length-set (omega arith),
     )
 
-returns : tie.Need-returns invariant-loop decreases-loop
-returns c = let l = c.before.loop in filled-end _ _ l.invariant.1 (omega arith)
+returns : tie.Need-returns invariant-loop-k decreases-loop-k
+returns c = let l = c.loop-k in filled-end _ _ l.invariant.1 (omega arith)
 
 pub add_scaled_spec : {M : Type 1} → statement M
 add_scaled_spec =
     tie.close
-    (tie.spec invariant-loop decreases-loop (λ c κs. search rules) loop-holds (λ c. search rules) (λ c. search rules) (λ c. search rules) (λ c. search rules)
-    joined-requires (λ c. search rules) (λ c. search rules) (λ c. search rules) (λ c. search rules) loop-again (λ c. search rules) returns)
+    (tie.spec invariant-loop-k decreases-loop-k (λ c κs. search rules) loop-k-init (λ c. search rules) (λ c. search rules) (λ c. search rules) (λ c. search rules)
+    joined-requires (λ c. search rules) (λ c. search rules) (λ c. search rules) (λ c. search rules) loop-k-preserved (λ c. search rules) returns)

@@ -8,8 +8,8 @@ use Rattle.judge.proofs.scaling.joined.Tie as tie
 
 returns : tie.Need-returns
 returns c =
-    let t = c.before in
-    let s = t.before in
+    let t = c in
+    let s = t in
     let a = s.args in
     c.plus.ensures (record { left = s.requires.1; right = omega (arith, t.times.ensures, mod-lt (a.y * a.b) s.requires.0.allowed.positive) })
     ∙ ap (λ x. (a.a + x) % a.q) t.times.ensures ∙ add-mod-mod a.a (a.y * a.b) a.q

@@ -3,11 +3,11 @@ use borrow.Author.Rules.{rules}
 use Rattle.judge.proofs.scaling.prepared.Statement.{statement}
 use Rattle.judge.proofs.scaling.prepared.Tie as tie
 
-returns : tie.Need-returns
-returns c = let s = c.before.before in record { allowed = s.requires.0; small = s.requires.1; wide = λ l. absurd (omega arith) }
+returns-then-q-le-NARROW : tie.Need-returns-then-q-le-NARROW
+returns-then-q-le-NARROW c = let s = c in record { allowed = s.requires.0; small = s.requires.1; wide = λ l. absurd (omega arith) }
 
-returns-2 : tie.Need-returns-2
-returns-2 c = let s = c.before.before in record { allowed = s.requires.0; small = s.requires.1; wide = λ l. c.prepare2.ensures s.requires.0 }
+returns : tie.Need-returns
+returns c = let s = c in record { allowed = s.requires.0; small = s.requires.1; wide = λ l. c.prepare-2.ensures s.requires.0 }
 
 pub prepared_spec : {M : Type 1} → statement M
-prepared_spec = tie.close (tie.spec (λ c κs. search rules) returns (λ c κs. search rules) returns-2)
+prepared_spec = tie.close (tie.spec (λ c κs. search rules) returns-then-q-le-NARROW (λ c κs. search rules) returns)

@@ -107,7 +107,7 @@ module _ (c : tie.In-Value invariant-loop-p decreases-loop-p) where
   word = to_z-of_z {w = w64} {z = v} (record { sfits = c.in-Value.known_told-1-own.given.0.1 })
 
 loop-p-init : tie.Need-loop-p-init invariant-loop-p decreases-loop-p
-loop-p-init c = (search rules, c.type_size.ensures, (λ h. h), refl, sym (cell_first _), sym (prefix-nothing _))
+loop-p-init c = (search rules, c.size_of-size.ensures, (λ h. h), refl, sym (cell_first _), sym (prefix-nothing _))
 
 shape_of-values-in_default : tie.Need-shape_of-values-in_default invariant-loop-p decreases-loop-p
 shape_of-values-in_default c = c.loop-p.invariant.3

@@ -85,7 +85,7 @@ module _ (c : tie.After-size_of-size invariant-loop-part decreases-loop-part) wh
   values = c.loop-part.values
 
   abbrev size : ℕ
-  size = c.type_size.result
+  size = c.size_of-size.result
 
   abbrev spots_here : List Spot
   spots_here = spots (as_shape c.shape_of-shape.result)
@@ -97,14 +97,14 @@ module _ (c : tie.After-size_of-size invariant-loop-part decreases-loop-part) wh
   whole = read_values (part_spots S P) (drop from text)
 
   size_is : size ≡ length spots_here
-  size_is = c.type_size.ensures ∙ sym (spots-count _)
+  size_is = c.size_of-size.ensures ∙ sym (spots-count _)
 
   -- where the tables have their lengths, the next one begins behind this part
   start-behind : (n : List ℕ) → lengths_are (part_of S P) n ≡ true → start + size ≡ Flat.start n (now_part + 1 - 1)
   unfolding lengths_are
   start-behind n f =
       let k = now_part - 1 in
-      let long : size ≡ get_or n k 0 = c.type_size.ensures ∙ ap shape_size (c.shape_of-shape.ensures ∙ ap (part_of S P) {x = now_part} {y = k + 1} (omega arith))
+      let long : size ≡ get_or n k 0 = c.size_of-size.ensures ∙ ap shape_size (c.shape_of-shape.ensures ∙ ap (part_of S P) {x = now_part} {y = k + 1} (omega arith))
       ∙ sym (eqb-true _ _ (every_at table_count _ f k (omega arith))) in
       (λ j. c.loop-part.invariant.4 n f j + long j) ∙ sym (start_next n k) ∙ ap (Flat.start n) {x = k + 1} {y = now_part + 1 - 1} (omega arith)
 
@@ -162,7 +162,7 @@ returns-then-size-values : tie.Need-returns-then-size-values invariant-loop-part
 returns-then-size-values c = let d = c in ((λ g. took-missed (text d.before) (from d.before) _ _ (crowded d.before g (omega arith))), λ e. absurd (false≢true e))
 
 read_part-taken-requires : tie.Need-read_part-taken-requires invariant-loop-part decreases-loop-part
-read_part-taken-requires c κs = simp (length-take, length-drop) (omega (arith, c.before.before.type_size.ensures))
+read_part-taken-requires c κs = simp (length-take, length-drop) (omega (arith, c.size_of-size.ensures))
 
 shape_of-values-then-not-taken : tie.Need-shape_of-values-then-not-taken invariant-loop-part decreases-loop-part
 shape_of-values-then-not-taken c = c.values-1.given.1 ∙ (at_part c.before.before).loop-part.invariant.3

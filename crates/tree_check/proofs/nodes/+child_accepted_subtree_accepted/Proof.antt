@@ -122,10 +122,10 @@ module _ (t : ℕ) (g : child-accepted-lts.Start (child-calls t) (child-accepted
       g.pre.1.0.2 (λ _. child g.args.k g.args.j) (lent U ∙ ap (λ n. n / 2) e)
 
 -- the workspace after the fold
-abbrev after : (t : ℕ) → child-accepted-lts.After-slice-known2 (child-calls t) (child-accepted-at t) child-accepted.Post → List ℕ
+abbrev after : (t : ℕ) → child-accepted-lts.After-slice_known-2-1 (child-calls t) (child-accepted-at t) child-accepted.Post → List ℕ
 after t c = c.before.before.fold_key_holds.new.1.1.1.0
 
-folded-is : (t : ℕ) (c : child-accepted-lts.After-slice-known2 (child-calls t) (child-accepted-at t) child-accepted.Post) →
+folded-is : (t : ℕ) (c : child-accepted-lts.After-slice_known-2-1 (child-calls t) (child-accepted-at t) child-accepted.Post) →
     let a = c.before.before.before.before.before.before.before.before.before.before.before.args in
     Reduced a.settings (drop (2 ^ a.h * a.settings.degree) a.ws.now)
     → after t c
@@ -137,40 +137,40 @@ folded-is t c below =
     ∙ ap (λ e. fold_down a.settings.modulus a.settings.degree (2 ^ (a.h - 1)) e (2 ^ a.h * a.settings.degree) (2 ^ (a.h - 1) * a.settings.degree)
     a.ws.now) c.before.before.before.before.challenge.ensures
 
-folded-long : (t : ℕ) (c : child-accepted-lts.After-slice-known2 (child-calls t) (child-accepted-at t) child-accepted.Post) →
+folded-long : (t : ℕ) (c : child-accepted-lts.After-slice_known-2-1 (child-calls t) (child-accepted-at t) child-accepted.Post) →
     length (after t c) ≡ length c.before.before.before.before.before.before.before.before.before.before.before.args.ws.now
 folded-long t c = c.before.before.fold_key_holds.auto.1.1.1.0
 
-claim-room : (t : ℕ) (c : child-accepted-lts.After-slice-known2 (child-calls t) (child-accepted-at t) child-accepted.Post) →
+claim-room : (t : ℕ) (c : child-accepted-lts.After-slice_known-2-1 (child-calls t) (child-accepted-at t) child-accepted.Post) →
     c.before.before.before.before.before.before.before.before.before.before.before.args.settings.degree ≤ length
-    c.before.before.before.before.before.before.claim-to.new.1.1.1.1.1.0
+    c.before.before.before.before.before.before.claim_to.new.1.1.1.1.1.0
 claim-room t c = let g = c.before.before.before.before.before.before.before.before.before.before.before in
-    omega (arith, c.before.before.before.before.before.before.claim-to.auto.1.1.1.1.1.0, degree_most g.args.settings (settings-valid g.args.settings (allowed t g)))
+    omega (arith, c.before.before.before.before.before.before.claim_to.auto.1.1.1.1.1.0, degree_most g.args.settings (settings-valid g.args.settings (allowed t g)))
 
-child-accepted-slice-aggregate-claim-to : (t : ℕ) → child-accepted-lts.Need-slice-aggregate-claim-to (child-calls t) (child-accepted-at t) child-accepted.Post
+child-accepted-slice-aggregate-claim-to : (t : ℕ) → child-accepted-lts.Need-slice_bounds-claim_to-end (child-calls t) (child-accepted-at t) child-accepted.Post
 child-accepted-slice-aggregate-claim-to t c = search rules
 
-child-accepted-claim-to-requires : (t : ℕ) → child-accepted-lts.Need-claim-to-requires (child-calls t) (child-accepted-at t) child-accepted.Post
+child-accepted-claim-to-requires : (t : ℕ) → child-accepted-lts.Need-claim_to-requires (child-calls t) (child-accepted-at t) child-accepted.Post
 child-accepted-claim-to-requires t c κs = let g = c.before.before.before.before in
     (round t g, omega (arith, g.requires.1.0.2), omega (arith, degree_most g.args.settings (settings-valid g.args.settings (allowed t g))))
 
 child-accepted-challenge-requires : (t : ℕ) → child-accepted-lts.Need-challenge-requires (child-calls t) (child-accepted-at t) child-accepted.Post
 child-accepted-challenge-requires t c κs = let g = c.before.before.before.before.before.before in (few t g, omega (arith, g.requires.1.0.2))
 
-child-accepted-fold-key-requires : (t : ℕ) → child-accepted-lts.Need-fold-key-requires (child-calls t) (child-accepted-at t) child-accepted.Post
+child-accepted-fold-key-requires : (t : ℕ) → child-accepted-lts.Need-fold_key-requires (child-calls t) (child-accepted-at t) child-accepted.Post
 child-accepted-fold-key-requires t c κs = let g = c.before.before.before.before.before.before.before.before in
     record { allowed = allowed t g; up = higher t g; height = (place t g).height; space_is = (place t g).space_is }
 
-child-accepted-sub-subtree-accepted : (t : ℕ) → child-accepted-lts.Need-overflow-sub-subtree-accepted (child-calls t) (child-accepted-at t) child-accepted.Post
+child-accepted-sub-subtree-accepted : (t : ℕ) → child-accepted-lts.Need-overflow_sub-h (child-calls t) (child-accepted-at t) child-accepted.Post
 child-accepted-sub-subtree-accepted t c = higher t c.before.before.before.before.before.before.before.before.before.before.before
 
-child-accepted-mul-subtree-accepted : (t : ℕ) → child-accepted-lts.Need-overflow-mul-subtree-accepted (child-calls t) (child-accepted-at t) child-accepted.Post
+child-accepted-mul-subtree-accepted : (t : ℕ) → child-accepted-lts.Need-overflow_mul-k (child-calls t) (child-accepted-at t) child-accepted.Post
 child-accepted-mul-subtree-accepted t c = record { fits = omega (arith, few t c.before.before.before.before.before.before.before.before.before.before.before) }
 
-child-accepted-add-subtree-accepted : (t : ℕ) → child-accepted-lts.Need-overflow-add-subtree-accepted (child-calls t) (child-accepted-at t) child-accepted.Post
+child-accepted-add-subtree-accepted : (t : ℕ) → child-accepted-lts.Need-overflow_add-k (child-calls t) (child-accepted-at t) child-accepted.Post
 child-accepted-add-subtree-accepted t c = record { fits = omega (arith, few t c.before.before.before.before.before.before.before.before.before.before.before) }
 
-child-accepted-add-subtree-accepted-2 : (t : ℕ) → child-accepted-lts.Need-overflow-add-subtree-accepted-2 (child-calls t) (child-accepted-at t) child-accepted.Post
+child-accepted-add-subtree-accepted-2 : (t : ℕ) → child-accepted-lts.Need-overflow_add-k-2 (child-calls t) (child-accepted-at t) child-accepted.Post
 child-accepted-add-subtree-accepted-2 t c =
     record {
       fits = omega (
@@ -181,29 +181,29 @@ child-accepted-add-subtree-accepted-2 t c =
     }
 
 child-accepted-slice-aggregate-subtree-accepted :
-    (t : ℕ) → child-accepted-lts.Need-slice-aggregate-subtree-accepted (child-calls t) (child-accepted-at t) child-accepted.Post
+    (t : ℕ) → child-accepted-lts.Need-slice_bounds-subtree_accepted-end (child-calls t) (child-accepted-at t) child-accepted.Post
 child-accepted-slice-aggregate-subtree-accepted t c = search rules
 
 child-accepted-slice-relend-prefix-subtree-accepted :
-    (t : ℕ) → child-accepted-lts.Need-slice-relend-prefix-subtree-accepted (child-calls t) (child-accepted-at t) child-accepted.Post
+    (t : ℕ) → child-accepted-lts.Need-slice_bounds-subtree_accepted-end-2 (child-calls t) (child-accepted-at t) child-accepted.Post
 child-accepted-slice-relend-prefix-subtree-accepted t c = search rules
 
 child-accepted-slice-aggregate-subtree-accepted-2 :
-    (t : ℕ) → child-accepted-lts.Need-slice-aggregate-subtree-accepted-2 (child-calls t) (child-accepted-at t) child-accepted.Post
+    (t : ℕ) → child-accepted-lts.Need-slice_bounds-subtree_accepted-end-3 (child-calls t) (child-accepted-at t) child-accepted.Post
 child-accepted-slice-aggregate-subtree-accepted-2 t c =
     sym (lent t c.before.before.before.before.before.before.before.before.before.before.before.before.before (after t c.before.before))
 
 child-accepted-subtree-accepted-requires :
-    (t : ℕ) → child-accepted-lts.Need-subtree-accepted-requires (child-calls t) (child-accepted-at t) child-accepted.Post
+    (t : ℕ) → child-accepted-lts.Need-subtree_accepted-requires (child-calls t) (child-accepted-at t) child-accepted.Post
 child-accepted-subtree-accepted-requires t c κs =
     let g = c.before.before.before.before.before.before.before.before.before.before.before.before.before in
     let b = c.before.before in
     (omega (arith, higher t g), ((g.requires.1.0.0, claim-room t b), below t g (after t b) (folded-long t b)))
 
-child-accepted-same-length : (t : ℕ) → child-accepted-lts.Need-same-length (child-calls t) (child-accepted-at t) child-accepted.Post
+child-accepted-same-length : (t : ℕ) → child-accepted-lts.Need-shape_of-ws (child-calls t) (child-accepted-at t) child-accepted.Post
 child-accepted-same-length t c = let U = after t c.before.before.before.before.before in
-    length_front U c.before.before.subtree-accepted.new.1.1.1.1.1.1.1.1.0 (length U / 2)
-    c.before.before.subtree-accepted.auto.1.1.1.1.1.1.1.1.0 ∙ folded-long t c.before.before.before.before.before
+    length_front U c.before.before.subtree_accepted.new.1.1.1.1.1.1.1.1.0 (length U / 2)
+    c.before.before.subtree_accepted.auto.1.1.1.1.1.1.1.1.0 ∙ folded-long t c.before.before.before.before.before
 
 child-accepted-returns : (t : ℕ) → child-accepted-lts.Need-returns (child-calls t) (child-accepted-at t) child-accepted.Post
 child-accepted-returns t c = λ read.
@@ -216,10 +216,10 @@ child-accepted-returns t c = λ read.
     let pq : 0 < a.settings.modulus = omega (arith, (settings-valid a.settings (allowed t g)).modulus_least) in
     let down = Descent.child-read a.settings (tree_row a.settings a.rounds.now) a.challenges.now a.leaves.now a.h a.k a.first (space t g) (place t g) (higher t g)
     a.j (length U / 2) a.ws.now U (λ _. space t g) half folded pq in
-    let f = c.before.before.subtree-accepted in (
+    let f = c.before.before.subtree_accepted in (
       f.ensures (record { rounds_below = read.rounds_below; key_below = down })
           ∙ Descent.child-tests a.settings (tree_row a.settings a.rounds.now) a.challenges.now a.leaves.now a.h a.k a.first (space t g) (place t g) (higher t g) a.j
-          (length U / 2) a.ws.now U (λ _. space t g) half folded _ (b.before.before.before.before.before.before.claim-to.ensures read.rounds_below),
+          (length U / 2) a.ws.now U (λ _. space t g) half folded _ (b.before.before.before.before.before.before.claim_to.ensures read.rounds_below),
       Descent.key-kept a.settings (tree_row a.settings a.rounds.now) a.challenges.now a.leaves.now a.h a.k a.first (space t g) (place t g) (higher t g) a.j
           (length U / 2) a.ws.now U (λ _. space t g) half folded f.new.1.1.1.1.1.1.1.1.0 f.auto.1.1.1.1.1.1.1.1.0 (omega arith),
     )
@@ -270,63 +270,63 @@ module _ (t : ℕ) where
       let g = c.before.before.before.before.before.before.before in
       let a = g.args in
       Stages.stage_first a.settings (tree_row a.settings a.rounds.now) a.challenges.now a.leaves.now a.h a.k a.first a.claim.now a.ws.now (position t g)
-      (upper c.before.before) (sym c.before.node-holds.ensures ∙ not-false _ c.if2.false)
+      (upper c.before.before) (sym c.before.node_holds.ensures ∙ not-false _ c.if2.false)
 
   long-1 : (c : subtree-accepted-lts.Else3 (subtree-calls t) (subtree-accepted-at t) subtree-accepted.Post) →
-      length c.before.before.before.child-accepted.new.1.1.1.1.1.1.1.1.0 ≡ length
+      length c.before.before.before.child_accepted.new.1.1.1.1.1.1.1.1.0 ≡ length
       c.before.before.before.before.before.before.before.before.before.before.before.before.args.ws.now
-  long-1 c = c.before.before.before.child-accepted.auto.1.1.1.1.1.1.1.1.0
+  long-1 c = c.before.before.before.child_accepted.auto.1.1.1.1.1.1.1.1.0
 
   long-2 : (c : subtree-accepted-lts.Else4 (subtree-calls t) (subtree-accepted-at t) subtree-accepted.Post) →
-      length c.before.before.before.child-accepted2.new.1.1.1.1.1.1.1.1.0 ≡ length
+      length c.before.before.before.child_accepted2.new.1.1.1.1.1.1.1.1.0 ≡ length
       c.before.before.before.before.before.before.before.before.before.before.before.before.before.before.before.before.before.args.ws.now
-  long-2 c = c.before.before.before.child-accepted2.auto.1.1.1.1.1.1.1.1.0 ∙ long-1 c.before.before.before.before.before
+  long-2 c = c.before.before.before.child_accepted2.auto.1.1.1.1.1.1.1.1.0 ∙ long-1 c.before.before.before.before.before
 
   stage-1 : (c : subtree-accepted-lts.Else3 (subtree-calls t) (subtree-accepted-at t) subtree-accepted.Post) →
       Reading t c.before.before.before.before.before.before.before.before.before.before.before.before →
-      Stage t c.before.before.before.before.before.before.before.before.before.before.before.before 1 c.before.before.before.child-accepted.new.1.1.1.1.1.1.1.1.0
+      Stage t c.before.before.before.before.before.before.before.before.before.before.before.before 1 c.before.before.before.child_accepted.new.1.1.1.1.1.1.1.1.0
   stage-1 c read =
       let a = c.before.before.before.before.before.before.before.before.before.before.before.before.args in
-      let f = c.before.before.before.child-accepted in
+      let f = c.before.before.before.child_accepted in
       Stages.stage_next a.settings (tree_row a.settings a.rounds.now) a.challenges.now a.leaves.now a.h a.k a.first a.claim.now a.ws.now 0
       (stage-0 c.before.before.before.before.before) (f.ensures read).0 (omega arith) (not-false _ c.if3.false) _ (f.ensures read).1 f.auto.1.1.1.1.1.1.1.1.0
 
   stage-2 : (c : subtree-accepted-lts.Else4 (subtree-calls t) (subtree-accepted-at t) subtree-accepted.Post) →
       Reading t c.before.before.before.before.before.before.before.before.before.before.before.before.before.before.before.before.before →
       Stage t c.before.before.before.before.before.before.before.before.before.before.before.before.before.before.before.before.before 2
-      c.before.before.before.child-accepted2.new.1.1.1.1.1.1.1.1.0
+      c.before.before.before.child_accepted2.new.1.1.1.1.1.1.1.1.0
   stage-2 c read =
       let a = c.before.before.before.before.before.before.before.before.before.before.before.before.before.before.before.before.before.args in
-      let f = c.before.before.before.child-accepted2 in
+      let f = c.before.before.before.child_accepted2 in
       let one = stage-1 c.before.before.before.before.before read in
       let same = again t c.before.before.before.before.before.before.before.before.before.before.before.before.before.before.before.before.before one read in
       Stages.stage_next a.settings (tree_row a.settings a.rounds.now) a.challenges.now a.leaves.now a.h a.k a.first a.claim.now a.ws.now 1 one
       (f.ensures same).0 (omega arith) (not-false _ c.if4.false) _ (f.ensures same).1 f.auto.1.1.1.1.1.1.1.1.0
 
-subtree-accepted-cast-d : (t : ℕ) → subtree-accepted-lts.Need-overflow-cast-d (subtree-calls t) (subtree-accepted-at t) subtree-accepted.Post
+subtree-accepted-cast-d : (t : ℕ) → subtree-accepted-lts.Need-overflow_cast-d (subtree-calls t) (subtree-accepted-at t) subtree-accepted.Post
 subtree-accepted-cast-d t c = search rules
 
-subtree-accepted-sub-leaf-accepted : (t : ℕ) → subtree-accepted-lts.Need-overflow-sub-leaf-accepted (subtree-calls t) (subtree-accepted-at t) subtree-accepted.Post
+subtree-accepted-sub-leaf-accepted : (t : ℕ) → subtree-accepted-lts.Need-overflow_sub-leaf_accepted (subtree-calls t) (subtree-accepted-at t) subtree-accepted.Post
 subtree-accepted-sub-leaf-accepted t c = let g = c.before.before.before.before.before.before in
     Places.leaf-number g.args.settings g.args.h g.args.k g.args.first _ (position t g) (omega arith)
 
-subtree-accepted-mul-leaf-accepted : (t : ℕ) → subtree-accepted-lts.Need-overflow-mul-leaf-accepted (subtree-calls t) (subtree-accepted-at t) subtree-accepted.Post
+subtree-accepted-mul-leaf-accepted : (t : ℕ) → subtree-accepted-lts.Need-overflow_mul-leaf_accepted (subtree-calls t) (subtree-accepted-at t) subtree-accepted.Post
 subtree-accepted-mul-leaf-accepted t c = let S = c.before.before.before.before.before.before.args.settings in
     record { fits = omega (arith, degree_most S (settings-valid S (granted t c.before.before.before.before.before.before))) }
 
-subtree-accepted-sub-leaf-accepted-2 : (t : ℕ) → subtree-accepted-lts.Need-overflow-sub-leaf-accepted-2 (subtree-calls t) (subtree-accepted-at t) subtree-accepted.Post
+subtree-accepted-sub-leaf-accepted-2 : (t : ℕ) → subtree-accepted-lts.Need-overflow_sub-leaf_accepted-2 (subtree-calls t) (subtree-accepted-at t) subtree-accepted.Post
 subtree-accepted-sub-leaf-accepted-2 t c = leaf_room t c.before.before.before.before.before.before (omega arith)
 
 subtree-accepted-part-leaf-accepted-start :
-    (t : ℕ) → subtree-accepted-lts.Need-slice-bounds-leaf-accepted-start (subtree-calls t) (subtree-accepted-at t) subtree-accepted.Post
+    (t : ℕ) → subtree-accepted-lts.Need-slice_bounds-leaf_accepted-start (subtree-calls t) (subtree-accepted-at t) subtree-accepted.Post
 subtree-accepted-part-leaf-accepted-start t c = leaf_room t c.before.before.before.before.before.before.before (omega arith)
 
 subtree-accepted-part-leaf-accepted-end :
-    (t : ℕ) → subtree-accepted-lts.Need-slice-bounds-leaf-accepted-end (subtree-calls t) (subtree-accepted-at t) subtree-accepted.Post
+    (t : ℕ) → subtree-accepted-lts.Need-slice_bounds-leaf_accepted-end (subtree-calls t) (subtree-accepted-at t) subtree-accepted.Post
 subtree-accepted-part-leaf-accepted-end t c = search rules
 
 subtree-accepted-leaf-accepted-requires :
-    (t : ℕ) → subtree-accepted-lts.Need-leaf-accepted-requires (subtree-calls t) (subtree-accepted-at t) subtree-accepted.Post
+    (t : ℕ) → subtree-accepted-lts.Need-leaf_accepted-requires (subtree-calls t) (subtree-accepted-at t) subtree-accepted.Post
 subtree-accepted-leaf-accepted-requires t c κs =
     let g = c.before.before.before.before.before.before.before.before in
     let a = g.args in (
@@ -336,19 +336,19 @@ subtree-accepted-leaf-accepted-requires t c κs =
       Checks.part-long a.settings.degree a.settings.degree a.ws.now (leaf-twice t g (omega arith)),
     )
 
-subtree-accepted-same-length : (t : ℕ) → subtree-accepted-lts.Need-same-length (subtree-calls t) (subtree-accepted-at t) subtree-accepted.Post
+subtree-accepted-same-length : (t : ℕ) → subtree-accepted-lts.Need-shape_of-ws (subtree-calls t) (subtree-accepted-at t) subtree-accepted.Post
 subtree-accepted-same-length t c = search rules
 
 subtree-accepted-returns : (t : ℕ) → subtree-accepted-lts.Need-returns (subtree-calls t) (subtree-accepted-at t) subtree-accepted.Post
 subtree-accepted-returns t c = λ read.
     let g = c.before.before.before.before.before.before.before.before.before in
     let a = g.args in
-    c.leaf-accepted.ensures (Descent.leaf-below a.settings (tree_row a.settings a.rounds.now) a.challenges.now a.leaves.now a.h a.k a.first _ (position t g)
+    c.leaf_accepted.ensures (Descent.leaf-below a.settings (tree_row a.settings a.rounds.now) a.challenges.now a.leaves.now a.h a.k a.first _ (position t g)
     (omega arith) a.ws.now read.key_below) ∙ Descent.leaf-tests a.settings (tree_row a.settings a.rounds.now) a.challenges.now a.leaves.now a.h a.k a.first _
     (position t g)
     (omega arith) a.claim.now a.ws.now
 
-subtree-accepted-node-holds-requires : (t : ℕ) → subtree-accepted-lts.Need-node-holds-requires (subtree-calls t) (subtree-accepted-at t) subtree-accepted.Post
+subtree-accepted-node-holds-requires : (t : ℕ) → subtree-accepted-lts.Need-node_holds-requires (subtree-calls t) (subtree-accepted-at t) subtree-accepted.Post
 subtree-accepted-node-holds-requires t c κs = let g = c.before.before.before.before.before in let a = g.args in
     (Checks.round-inside a.settings a.h a.k a.first _ (rounds-many t g) (finals-many t g) (position t g) g.requires.1.0.0 (upper t c), g.requires.1.0.1)
 
@@ -357,41 +357,41 @@ subtree-accepted-returns-2 t c = λ read.
     let g = c.before.before.before.before.before.before.before in
     let a = g.args in
     Stages.node_stops a.settings (tree_row a.settings a.rounds.now) a.challenges.now a.leaves.now a.h a.k a.first a.claim.now a.ws.now (position t g)
-    (upper t c.before.before) (sym c.before.node-holds.ensures ∙ not-true _ c.if2.true)
+    (upper t c.before.before) (sym c.before.node_holds.ensures ∙ not-true _ c.if2.true)
 
 subtree-accepted-child-accepted-requires :
-    (t : ℕ) → subtree-accepted-lts.Need-child-accepted-requires (subtree-calls t) (subtree-accepted-at t) subtree-accepted.Post
+    (t : ℕ) → subtree-accepted-lts.Need-child_accepted-requires (subtree-calls t) (subtree-accepted-at t) subtree-accepted.Post
 subtree-accepted-child-accepted-requires t c κs = let g = c.before.before.before.before.before.before.before.before in
     (omega arith, ((g.requires.1.0.0, upper t c.before.before.before, omega arith), position t g))
 
-subtree-accepted-same-length-2 : (t : ℕ) → subtree-accepted-lts.Need-same-length-2 (subtree-calls t) (subtree-accepted-at t) subtree-accepted.Post
+subtree-accepted-same-length-2 : (t : ℕ) → subtree-accepted-lts.Need-same_length-2 (subtree-calls t) (subtree-accepted-at t) subtree-accepted.Post
 subtree-accepted-same-length-2 t c = search rules
 
 subtree-accepted-returns-3 : (t : ℕ) → subtree-accepted-lts.Need-returns-3 (subtree-calls t) (subtree-accepted-at t) subtree-accepted.Post
 subtree-accepted-returns-3 t c = λ read.
     let a = c.before.before.before.before.before.before.before.before.before.before.before.before.args in
     Stages.stage_stops a.settings (tree_row a.settings a.rounds.now) a.challenges.now a.leaves.now a.h a.k a.first a.claim.now a.ws.now 0
-    (stage-0 t c.before.before.before.before.before) (c.before.before.before.child-accepted.ensures read).0 (omega arith) (not-true _ c.if3.true)
+    (stage-0 t c.before.before.before.before.before) (c.before.before.before.child_accepted.ensures read).0 (omega arith) (not-true _ c.if3.true)
 
 subtree-accepted-child-accepted-requires-2 :
-    (t : ℕ) → subtree-accepted-lts.Need-child-accepted-requires-2 (subtree-calls t) (subtree-accepted-at t) subtree-accepted.Post
+    (t : ℕ) → subtree-accepted-lts.Need-child_accepted-requires-2 (subtree-calls t) (subtree-accepted-at t) subtree-accepted.Post
 subtree-accepted-child-accepted-requires-2 t c κs = let g = c.before.before.before.before.before.before.before.before.before.before.before.before.before in
     (omega arith, ((g.requires.1.0.0, upper t c.before.before.before.before.before.before.before.before, omega arith), stays t g (long-1 t c.before)))
 
-subtree-accepted-same-length-3 : (t : ℕ) → subtree-accepted-lts.Need-same-length-3 (subtree-calls t) (subtree-accepted-at t) subtree-accepted.Post
-subtree-accepted-same-length-3 t c = c.before.before.before.child-accepted2.auto.1.1.1.1.1.1.1.1.0 ∙ long-1 t c.before.before.before.before.before
+subtree-accepted-same-length-3 : (t : ℕ) → subtree-accepted-lts.Need-same_length-3 (subtree-calls t) (subtree-accepted-at t) subtree-accepted.Post
+subtree-accepted-same-length-3 t c = c.before.before.before.child_accepted2.auto.1.1.1.1.1.1.1.1.0 ∙ long-1 t c.before.before.before.before.before
 
 subtree-accepted-returns-4 : (t : ℕ) → subtree-accepted-lts.Need-returns-4 (subtree-calls t) (subtree-accepted-at t) subtree-accepted.Post
 subtree-accepted-returns-4 t c = λ read.
     let a = c.before.before.before.before.before.before.before.before.before.before.before.before.before.before.before.before.before.args in
     let one = stage-1 t c.before.before.before.before.before read in
     Stages.stage_stops a.settings (tree_row a.settings a.rounds.now) a.challenges.now a.leaves.now a.h a.k a.first a.claim.now a.ws.now 1 one
-    (c.before.before.before.child-accepted2.ensures
+    (c.before.before.before.child_accepted2.ensures
     (again t c.before.before.before.before.before.before.before.before.before.before.before.before.before.before.before.before.before one read)).0
     (omega arith) (not-true _ c.if4.true)
 
 subtree-accepted-child-accepted-requires-3 :
-    (t : ℕ) → subtree-accepted-lts.Need-child-accepted-requires-3 (subtree-calls t) (subtree-accepted-at t) subtree-accepted.Post
+    (t : ℕ) → subtree-accepted-lts.Need-child_accepted-requires-3 (subtree-calls t) (subtree-accepted-at t) subtree-accepted.Post
 subtree-accepted-child-accepted-requires-3 t c κs = let g =
     c.before.before.before.before.before.before.before.before.before.before.before.before.before.before.before.before.before.before in (
       omega arith,
@@ -401,15 +401,15 @@ subtree-accepted-child-accepted-requires-3 t c κs = let g =
       ),
     )
 
-subtree-accepted-same-length-4 : (t : ℕ) → subtree-accepted-lts.Need-same-length-4 (subtree-calls t) (subtree-accepted-at t) subtree-accepted.Post
-subtree-accepted-same-length-4 t c = c.before.before.child-accepted3.auto.1.1.1.1.1.1.1.1.0 ∙ long-2 t c.before.before.before.before
+subtree-accepted-same-length-4 : (t : ℕ) → subtree-accepted-lts.Need-same_length-4 (subtree-calls t) (subtree-accepted-at t) subtree-accepted.Post
+subtree-accepted-same-length-4 t c = c.before.before.child_accepted3.auto.1.1.1.1.1.1.1.1.0 ∙ long-2 t c.before.before.before.before
 
 subtree-accepted-returns-5 : (t : ℕ) → subtree-accepted-lts.Need-returns-5 (subtree-calls t) (subtree-accepted-at t) subtree-accepted.Post
 subtree-accepted-returns-5 t c = λ read.
     let a = c.before.before.before.before.before.before.before.before.before.before.before.before.before.before.before.before.before.before.before.before.before.args in
     let two = stage-2 t c.before.before.before.before read in
     Stages.stage_last a.settings (tree_row a.settings a.rounds.now) a.challenges.now a.leaves.now a.h a.k a.first a.claim.now a.ws.now two
-    (c.before.before.child-accepted3.ensures
+    (c.before.before.child_accepted3.ensures
     (again t c.before.before.before.before.before.before.before.before.before.before.before.before.before.before.before.before.before.before.before.before.before two read)).0
 
 pub +child_accepted_subtree_accepted_spec : {M : Type 1} → statement M

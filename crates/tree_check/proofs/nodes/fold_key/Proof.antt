@@ -8,26 +8,26 @@ use borrow.Author.Rules.{rules}
 use Rattle.tree_check.proofs.nodes.fold_key.Statement.{statement}
 use Rattle.tree_check.proofs.nodes.fold_key.Tie as tie
 
-half : (c : tie.After-half-left) → let a = c.before.before.before.args in c.half-left.result ≡ half_left a.settings (a.settings.depth - a.h)
-half c = let s = c.before.before.before in c.half-left.ensures (record { allowed = s.requires.allowed; turn = omega (arith, s.requires.up, s.requires.height) })
+half : (c : tie.After-half_left-n) → let a = c.args in c.half_left-n.result ≡ half_left a.settings (a.settings.depth - a.h)
+half c = let s = c in c.half_left-n.ensures (record { allowed = s.requires.allowed; turn = omega (arith, s.requires.up, s.requires.height) })
 
-mul-to : tie.Need-overflow-mul-to
-mul-to c = let s = c.before.before.before in omega (arith, Workspace.cells-few s.args.settings s.args.h _ s.requires (half c))
+overflow_mul-to : tie.Need-overflow_mul-to
+overflow_mul-to c = let s = c in omega (arith, Workspace.cells-few s.args.settings s.args.h _ s.requires (half c))
 
-mul-fold-down : tie.Need-overflow-mul-fold-down
-mul-fold-down c = let s = c.before.before.before in omega (arith, Workspace.cells-few s.args.settings s.args.h _ s.requires (half c))
+overflow_mul-to-2 : tie.Need-overflow_mul-to-2
+overflow_mul-to-2 c = let s = c in omega (arith, Workspace.cells-few s.args.settings s.args.h _ s.requires (half c))
 
 returns : tie.Need-returns
 returns c = λ below.
-    let s = c.before.before.before.before.before.before.before in
+    let s = c in
     let a = s.args in
     let S = a.settings in
     let is = half c.before.before.before.before in
     let n = Workspace.half-power S a.h _ s.requires is in
-    c.before.before.fold-down.ensures (Workspace.key_foldable S a.h _ s.requires is a.ws.now refl below)
+    c.fold_down.ensures (Workspace.key_foldable S a.h _ s.requires is a.ws.now refl below)
     ∙ (λ i. fold_down S.modulus S.degree (n i) a.e (Workspace.key-cells S a.h _ s.requires is i) (n i * S.degree) a.ws.now)
 
 pub fold_key_spec : {M : Type 1} → statement M
 fold_key_spec =
     tie.close
-    (tie.spec (λ c. search rules) (λ c κs. search rules) mul-to mul-fold-down (λ c κs. search rules) (λ c. search rules) returns)
+    (tie.spec (λ c. search rules) (λ c κs. search rules) overflow_mul-to overflow_mul-to-2 (λ c κs. search rules) (λ c. search rules) returns)

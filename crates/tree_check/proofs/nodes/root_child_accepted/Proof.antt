@@ -23,14 +23,14 @@ root s first is = at_root s.args.settings first (2 * cells s.args.settings) is (
 wide : (s : tie.Start) → s.args.settings.degree ≤ 128
 wide s = degree_most s.args.settings (settings-valid s.args.settings s.requires.0.allowed)
 
-claim-to-requires : tie.Need-claim-to-requires
-claim-to-requires c κs =
-    let s = c.before.before.before.before.before in
+claim_to-requires : tie.Need-claim_to-requires
+claim_to-requires c κs =
+    let s = c in
     let S = s.args.settings in
-    (round-inside S S.depth 0 (nodes S) (2 * cells S) _ _ (root s (nodes S) (λ _. nodes S)) s.requires.0 s.requires.1.up, s.requires.2, omega (arith, wide s))
+    (round-inside S S.depth 0 (nodes S) (2 * cells S) _ _ (root s.before.before.before.before.before (nodes S) (λ _. nodes S)) s.requires.0 s.requires.1.up, s.requires.2, omega (arith, wide s.before.before.before.before.before))
 
 -- the workspace after the fold, and the part of it that the child gets
-module _ (c : tie.After-subtree-accepted-arg) where
+module _ (c : tie.After-subtree_accepted-arg-1) where
   abbrev s : tie.Start
   s = c.before.before.before.before.before.before.before.before.before.before.before.before.before.before.before.before
 
@@ -38,41 +38,41 @@ module _ (c : tie.After-subtree-accepted-arg) where
   key = s.args.key.now
 
   abbrev ws : List ℕ
-  ws = c.before.before.before.before.before.before.fold-root.new.1.1.1.0
+  ws = c.fold_root.new.ws
 
   lent : length (take (length key) ws) ≡ length key
-  lent = length-take-le (length key) ws (omega (arith, c.before.before.before.before.before.before.fold-root.auto.1.1.1.0, s.pre.1.room))
+  lent = length-take-le (length key) ws (omega (arith, c.fold_root.auto.ws, s.requires.1.room))
 
-slice-aggregate-subtree-accepted-2 : tie.Need-slice-aggregate-subtree-accepted-2
-slice-aggregate-subtree-accepted-2 c = sym (lent c)
+slice_bounds-subtree_accepted-end-3 : tie.Need-slice_bounds-subtree_accepted-end-3
+slice_bounds-subtree_accepted-end-3 c = sym (lent c)
 
-subtree-accepted-requires : tie.Need-subtree-accepted-requires
+subtree_accepted-requires : tie.Need-subtree_accepted-requires
 unfolding child
-subtree-accepted-requires b κs =
+subtree_accepted-requires b κs =
     let g = s b in
     let S = g.args.settings in
     let first = b.before.before.before.nodes in (
-      (g.pre.0, omega (arith, wide g, b.before.before.before.before.before.before.before.before.before.before.claim-to.auto.1.1.1.1.1.0)),
-      at-child S S.depth 0 first.result (2 * cells S) (root g first.result (first.ensures.0 g.pre.0.allowed)) g.pre.1.up g.args.j _ _ g.pre.2
-          (λ _. child 0 g.args.j) (omega (arith, lent b, g.pre.1.key_long)),
+      (g.requires.0, omega (arith, wide g, b.before.before.before.before.before.before.before.before.before.before.claim_to.auto.1.1.1.1.1.0)),
+      at-child S S.depth 0 first.result (2 * cells S) (root g first.result (first.ensures.0 g.requires.0.allowed)) g.requires.1.up g.args.j _ _ g.requires.2
+          (λ _. child 0 g.args.j) (omega (arith, lent b, g.requires.1.key_long)),
     )
 
 returns : tie.Need-returns
 returns c = λ z.
-    let b = c.before.before.before in
-    let g = s b in
+    let b = c in
+    let g = s b.before.before.before in
     let a = g.args in
     let S = a.settings in
     let E = a.challenges.now in
-    let turn = b.before.before.before.before.before.before.before.before.challenge in
-    let folded : RootFolded S (challenge E 0 a.j) (key b) (ws b) = subst (λ e. RootFolded S e (key b) (ws b)) turn.ensures
-    (b.before.before.before.before.before.before.fold-root.ensures z.1) in
-    c.before.before.subtree-accepted.ensures (record { rounds_below = z.0; key_below = folded.below })
-    ∙ root_child S (tree_row S a.rounds.now) E a.leaves.now a.j (key b) (ws b) _ g.pre.1.up folded
-    (b.before.before.before.before.before.before.before.before.before.before.claim-to.ensures z.0)
+    let turn = b.challenge in
+    let folded : RootFolded S (challenge E 0 a.j) (key b.before.before.before) (ws b.before.before.before) = subst (λ e. RootFolded S e (key b.before.before.before) (ws b.before.before.before)) turn.ensures
+    (b.fold_root.ensures z.1) in
+    c.subtree_accepted.ensures (record { rounds_below = z.0; key_below = folded.below })
+    ∙ root_child S (tree_row S a.rounds.now) E a.leaves.now a.j (key b.before.before.before) (ws b.before.before.before) _ g.requires.1.up folded
+    (b.claim_to.ensures z.0)
 
 pub root_child_accepted_spec : {M : Type 1} → statement M
 root_child_accepted_spec =
     tie.close
-    (tie.spec (λ c. search rules) claim-to-requires (λ c κs. search rules) (λ c κs. search rules) (λ c κs. search rules) (λ c. search rules) (λ c. search rules) (λ c. search rules)
-    (λ c. search rules) (λ c. search rules) slice-aggregate-subtree-accepted-2 subtree-accepted-requires (λ c. search rules) returns)
+    (tie.spec (λ c. search rules) claim_to-requires (λ c κs. search rules) (λ c κs. search rules) (λ c κs. search rules) (λ c. search rules) (λ c. search rules) (λ c. search rules)
+    (λ c. search rules) (λ c. search rules) slice_bounds-subtree_accepted-end-3 subtree_accepted-requires (λ c. search rules) returns)

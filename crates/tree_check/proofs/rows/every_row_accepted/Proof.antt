@@ -15,30 +15,30 @@ use Rattle.tree_check.specs.Nodes.{TreeGiven}
 use Rattle.tree_check.proofs.rows.every_row_accepted.Statement.{statement}
 use Rattle.tree_check.proofs.rows.every_row_accepted.Tie as tie
 
-abbrev invariant-loop : tie.invariant-loop
-invariant-loop settings commitment key rounds challenges leaves rows i₀ i =
+abbrev invariant-loop-i : tie.invariant-loop-i
+invariant-loop-i settings commitment key rounds challenges leaves rows i₀ i =
     (i ≤ rows)
     × Provided (TreeGiven settings key rounds leaves)
     (every i (λ (j : ℕ). tree_accepted settings (row_items settings (tree_challenges settings) rounds j) challenges leaves settings.depth 0 0 (value_row commitment j) (key_row settings key j)) ≡ true)
 
-abbrev decreases-loop : tie.decreases-loop
-decreases-loop settings commitment key rounds challenges leaves rows i₀ i = rows - i
+abbrev decreases-loop-i : tie.decreases-loop-i
+decreases-loop-i settings commitment key rounds challenges leaves rows i₀ i = rows - i
 
-loop-holds : tie.Need-loop-init invariant-loop decreases-loop
-loop-holds c = (omega arith, λ _. every-none _)
+loop-i-init : tie.Need-loop-i-init invariant-loop-i decreases-loop-i
+loop-i-init c = (omega arith, λ _. every-none _)
 
-returns : tie.Need-returns invariant-loop decreases-loop
-returns c = λ g. every_fails _ _ c.before.before.before.loop.i (omega arith) (sym (c.before.row_accepted.ensures g) ∙ not-true _ c.if1.true)
+returns-then-not-row_accepted : tie.Need-returns-then-not-row_accepted invariant-loop-i decreases-loop-i
+returns-then-not-row_accepted c = λ g. every_fails _ _ c.loop-i.i (omega arith) (sym (c.row_accepted.ensures g) ∙ not-true _ c.if-not-row_accepted.true-raw)
 
-loop-again : tie.Need-loop-preserved invariant-loop decreases-loop
-loop-again c =
-    let l = c.before.before.before.loop in
-    (omega arith, λ g. every_goes_on _ l.i (l.invariant.1 g) (sym (c.before.row_accepted.ensures g) ∙ not-false _ c.if1.false))
+loop-i-preserved : tie.Need-loop-i-preserved invariant-loop-i decreases-loop-i
+loop-i-preserved c =
+    let l = c.loop-i in
+    (omega arith, λ g. every_goes_on _ l.i (l.invariant.1 g) (sym (c.row_accepted.ensures g) ∙ not-false _ c.if-not-row_accepted.false-raw))
 
-returns-2 : tie.Need-returns-2 invariant-loop decreases-loop
-returns-2 c = λ g. let l = c.before.loop in every_ends _ _ l.i (l.invariant.1 g) (omega arith)
+returns : tie.Need-returns invariant-loop-i decreases-loop-i
+returns c = λ g. let l = c.loop-i in every_ends _ _ l.i (l.invariant.1 g) (omega arith)
 
 pub every_row_accepted_spec : {M : Type 1} → statement M
 every_row_accepted_spec =
     tie.close
-    (tie.spec invariant-loop decreases-loop (λ c. search rules) loop-holds (λ c κs. search rules) returns (λ c. search rules) (λ c. search rules) loop-again returns-2)
+    (tie.spec invariant-loop-i decreases-loop-i (λ c. search rules) loop-i-init (λ c κs. search rules) returns-then-not-row_accepted (λ c. search rules) (λ c. search rules) loop-i-preserved returns)
