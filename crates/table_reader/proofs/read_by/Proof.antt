@@ -11,7 +11,7 @@ use Rattle.table_reader.proofs.Whole.{read-refused, read_allowed, read_refused_e
 use Rattle.table_reader.proofs.read_by.Statement.{statement}
 use Rattle.table_reader.proofs.read_by.Tie as tie
 
-module _ (c : tie.After-read-values) where
+module _ (c : tie.After-read_values-loaded) where
   abbrev start : tie.Start
   start = c.before.before.before.before.before.before.before.before
 
@@ -26,47 +26,47 @@ module _ (c : tie.After-read-values) where
       start.args.claims.now
 
   abbrev values : List ℤ
-  values = c.read-values.new.1.1.1.1.1.0
+  values = c.read_values-loaded.new.values
 
-  gathered : Begins text start.args.settings start.args.from → Gathered P (lengths_of t) text c.read-values.result values
+  gathered : Begins text start.args.settings start.args.from → Gathered P (lengths_of t) text c.read_values-loaded.result values
   unfolding lengths_of
-  gathered b = c.read-values.ensures.0 (b, start.pre)
+  gathered b = c.read_values-loaded.ensures.0 (b, start.requires)
 
-returns : tie.Need-returns
-returns c b = let g = c.before.before.before in read-refused (P g) (text g) (t g) g.read-values.result (values g) (gathered g b) c.if1.true
+returns-then-loaded-ne0 : tie.Need-returns-then-loaded-ne0
+returns-then-loaded-ne0 c b = let g = c in read-refused (P g.before.before.before) (text g.before.before.before) (t g.before.before.before) g.read_values-loaded.result (values g.before.before.before) (gathered g.before.before.before b) c.if-loaded-ne0.true
 
-refusal-requires : tie.Need-refusal-requires
-refusal-requires c κs = c.before.before.before.before.read-values.ensures.1 c.before.if1.false
+refusal-refusal-requires : tie.Need-refusal-refusal-requires
+refusal-refusal-requires c κs = c.read_values-loaded.ensures.1 c.if-loaded-ne0.false
 
-returns-2 : tie.Need-returns-2
+returns-then-refusal-ne0 : tie.Need-returns-then-refusal-ne0
 unfolding lengths_of
-returns-2 c b =
-    let f = c.before.before in
-    let g = f.before.before.before.before.before in
-    let r = g.read-values.result in
-    let none = f.before.before.if1.false in
-    read_refused_entries (P g) (text g) (t g) r (values g) (gathered g b) none f.refusal.result
-    (f.refusal.ensures (read_allowed (P g) (text g) (t g) r (values g) (gathered g b) none)) c.refused.result c.refused.ensures c.before.if2.true
+returns-then-refusal-ne0 c b =
+    let f = c in
+    let g = f in
+    let r = g.read_values-loaded.result in
+    let none = f.if-loaded-ne0.false in
+    read_refused_entries (P g.before.before.before.before.before.before.before) (text g.before.before.before.before.before.before.before) (t g.before.before.before.before.before.before.before) r (values g.before.before.before.before.before.before.before) (gathered g.before.before.before.before.before.before.before b) none f.refusal-refusal.result
+    (f.refusal-refusal.ensures (read_allowed (P g.before.before.before.before.before.before.before) (text g.before.before.before.before.before.before.before) (t g.before.before.before.before.before.before.before) r (values g.before.before.before.before.before.before.before) (gathered g.before.before.before.before.before.before.before b) none)) c.refused.result c.refused.ensures c.if-refusal-ne0.true
 
 all-requires : tie.Need-all-requires
 unfolding lengths_of
 all-requires c κs =
-    let f = c.before.before.before.before.before.before.before.before.before in
-    f.before.before.before.before.before.read-values.ensures.1 f.before.before.if1.false
+    let f = c in
+    f.read_values-loaded.ensures.1 f.if-loaded-ne0.false
 
-returns-3 : tie.Need-returns-3
+returns : tie.Need-returns
 unfolding lengths_of
-returns-3 c b =
-    let a = c.before.before.before.before.before.before.before.before.before.before.before.before in
-    let f = a.before.before.before.before.before.before.before.before.before.before in
-    let g = f.before.before.before.before.before in
-    let r = g.read-values.result in
-    let none = f.before.before.if1.false in
-    read_done (P g) (text g) (t g) r (values g) (gathered g b) none f.refusal.result (f.refusal.ensures (read_allowed (P g) (text g) (t g) r (values g) (gathered g b) none))
-    a.before.before.before.before.before.before.before.before.before.if2.false _ a.all.ensures
+returns c b =
+    let a = c in
+    let f = a in
+    let g = f in
+    let r = g.read_values-loaded.result in
+    let none = f.if-loaded-ne0.false in
+    read_done (P g.before.before.before.before.before.before.before.before.before.before.before.before.before.before.before.before.before.before.before.before.before.before.before.before.before.before) (text g.before.before.before.before.before.before.before.before.before.before.before.before.before.before.before.before.before.before.before.before.before.before.before.before.before.before) (t g.before.before.before.before.before.before.before.before.before.before.before.before.before.before.before.before.before.before.before.before.before.before.before.before.before.before) r (values g.before.before.before.before.before.before.before.before.before.before.before.before.before.before.before.before.before.before.before.before.before.before.before.before.before.before) (gathered g.before.before.before.before.before.before.before.before.before.before.before.before.before.before.before.before.before.before.before.before.before.before.before.before.before.before b) none f.refusal-refusal.result (f.refusal-refusal.ensures (read_allowed (P g.before.before.before.before.before.before.before.before.before.before.before.before.before.before.before.before.before.before.before.before.before.before.before.before.before.before) (text g.before.before.before.before.before.before.before.before.before.before.before.before.before.before.before.before.before.before.before.before.before.before.before.before.before.before) (t g.before.before.before.before.before.before.before.before.before.before.before.before.before.before.before.before.before.before.before.before.before.before.before.before.before.before) r (values g.before.before.before.before.before.before.before.before.before.before.before.before.before.before.before.before.before.before.before.before.before.before.before.before.before.before) (gathered g.before.before.before.before.before.before.before.before.before.before.before.before.before.before.before.before.before.before.before.before.before.before.before.before.before.before b) none))
+    a.if-refusal-ne0.false _ a.all.ensures
 
 pub read_by_spec : {M : Type 1} → statement M
 read_by_spec =
     tie.close
-    (tie.spec (λ c κs. search) (λ c. search) returns refusal-requires (λ c κs. search) (λ c. search) returns-2 all-requires
-    (λ c. search) (λ c. search) (λ c. search) (λ c. search) (λ c. search) (λ c. search) (λ c. search) (λ c. search) returns-3)
+    (tie.spec (λ c κs. search) (λ c. search) returns-then-loaded-ne0 refusal-refusal-requires (λ c κs. search) (λ c. search) returns-then-refusal-ne0 all-requires
+    (λ c. search) (λ c. search) (λ c. search) (λ c. search) (λ c. search) (λ c. search) (λ c. search) (λ c. search) returns)

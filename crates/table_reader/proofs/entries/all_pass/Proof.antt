@@ -22,62 +22,62 @@ use Rattle.table_reader.proofs.entries.all_pass.Tie as tie
 abbrev test : Settings → ℕ → List ℕ → List ℤ → ℕ → Bool
 test S refusal n vs k = passes S refusal k (piece n k vs)
 
-abbrev invariant-loop : tie.invariant-loop
-invariant-loop S refusal values n from₀ k₀ from k = (k ≤ table_count) × (from ≡ start n k) × (settings_refusal S ≡ 0 → every k (test S refusal n values) ≡ true)
+abbrev invariant-loop-k : tie.invariant-loop-k
+invariant-loop-k S refusal values n from₀ k₀ from k = (k ≤ table_count) × (from ≡ start n k) × (settings_refusal S ≡ 0 → every k (test S refusal n values) ≡ true)
 
-abbrev decreases-loop : tie.decreases-loop
-decreases-loop S refusal values n from₀ k₀ from k = table_count - k
+abbrev decreases-loop-k : tie.decreases-loop-k
+decreases-loop-k S refusal values n from₀ k₀ from k = table_count - k
 
-loop-holds : tie.Need-loop-init invariant-loop decreases-loop
+loop-k-init : tie.Need-loop-k-init invariant-loop-k decreases-loop-k
 unfolding start
-loop-holds c = (omega arith, refl, λ _. every-none _)
+loop-k-init c = (omega arith, refl, λ _. every-none _)
 
-module _ (c : tie.In-loop invariant-loop decreases-loop) where
+module _ (c : tie.In-loop-k invariant-loop-k decreases-loop-k) where
   abbrev n : List ℕ
-  n = c.before.before.args.t3
+  n = c.args.lengths
 
   -- the table ends among the values
-  inside : start n c.before.loop.k + get_or n c.before.loop.k 0 ≤ length c.before.before.args.values.now
-  inside = omega (arith, start_most n c.before.loop.k (omega arith), c.before.before.requires)
+  inside : start n c.loop-k.k + get_or n c.loop-k.k 0 ≤ length c.args.values.now
+  inside = omega (arith, start_most n c.loop-k.k (omega arith), c.requires)
 
-add-end : tie.Need-overflow-add-end invariant-loop decreases-loop
-add-end c = record { fits = omega (arith, inside c, c.before.loop.invariant.1) }
+overflow_add-end : tie.Need-overflow_add-end invariant-loop-k decreases-loop-k
+overflow_add-end c = record { fits = omega (arith, inside c, c.loop-k.invariant.1) }
 
-mul-pass : tie.Need-overflow-mul-pass invariant-loop decreases-loop
-mul-pass c = let i = inside c in let s = c.before.loop.invariant.1 in search rules
+offset_bounds-values-start : tie.Need-offset_bounds-values-start invariant-loop-k decreases-loop-k
+offset_bounds-values-start c = let i = inside c in let s = c.loop-k.invariant.1 in search rules
 
-part-pass-start : tie.Need-slice-bounds-pass-start invariant-loop decreases-loop
-part-pass-start c = let i = inside c in let s = c.before.loop.invariant.1 in search rules
+slice_bounds-pass-start : tie.Need-slice_bounds-pass-start invariant-loop-k decreases-loop-k
+slice_bounds-pass-start c = let i = inside c in let s = c.loop-k.invariant.1 in search rules
 
-part-pass-end : tie.Need-slice-bounds-pass-end invariant-loop decreases-loop
-part-pass-end c = let i = inside c in let s = c.before.loop.invariant.1 in search rules
+slice_bounds-pass-end : tie.Need-slice_bounds-pass-end invariant-loop-k decreases-loop-k
+slice_bounds-pass-end c = let i = inside c in let s = c.loop-k.invariant.1 in search rules
 
 -- the values that are tested are those of the table at place k
-passed : (c : tie.After-pass invariant-loop decreases-loop) → let a = c.before.before.before.before.args in
-    let l = c.before.before.before.loop in settings_refusal a.settings ≡ 0 → c.pass.result ≡ test a.settings a.refusal a.t3 a.values.now l.k
+passed : (c : tie.After-pass invariant-loop-k decreases-loop-k) → let a = c.args in
+    let l = c.loop-k in settings_refusal a.settings ≡ 0 → c.pass.result ≡ test a.settings a.refusal a.lengths a.values.now l.k
 passed c ok =
-    let a = c.before.before.before.before.args in
-    let l = c.before.before.before.loop in
-    let m = get_or a.t3 l.k 0 in
+    let a = c.args in
+    let l = c.loop-k in
+    let m = get_or a.lengths l.k 0 in
     let vs = a.values.now in
     c.pass.ensures ok ∙ ap (passes a.settings a.refusal l.k) (part_of_holds vs l.start (l.start + m) m refl ∙ ap (λ from. take m (drop from vs)) l.invariant.1)
 
-returns : tie.Need-returns invariant-loop decreases-loop
+returns-then-not-pass : tie.Need-returns-then-not-pass invariant-loop-k decreases-loop-k
 unfolding all_pass
-returns c ok = every_fails _ table_count _ (omega arith) (sym (passed c.before ok) ∙ not-true _ c.if1.true)
+returns-then-not-pass c ok = every_fails _ table_count _ (omega arith) (sym (passed c.before ok) ∙ not-true _ c.if-not-pass.true-raw)
 
-loop-again : tie.Need-loop-preserved invariant-loop decreases-loop
-loop-again c =
-    let l = c.before.before.before.before.loop in
-    let n = c.before.before.before.before.before.args.t3 in
-    (omega arith, ap (λ s. s + get_or n l.k 0) l.invariant.1 ∙ sym (start_next n l.k), λ ok. every_goes_on _ _ (l.invariant.2 ok) (sym (passed c.before ok) ∙ not-false _ c.if1.false))
+loop-k-preserved : tie.Need-loop-k-preserved invariant-loop-k decreases-loop-k
+loop-k-preserved c =
+    let l = c.loop-k in
+    let n = c.args.lengths in
+    (omega arith, ap (λ s. s + get_or n l.k 0) l.invariant.1 ∙ sym (start_next n l.k), λ ok. every_goes_on _ _ (l.invariant.2 ok) (sym (passed c.before ok) ∙ not-false _ c.if-not-pass.false-raw))
 
-returns-2 : tie.Need-returns-2 invariant-loop decreases-loop
+returns : tie.Need-returns invariant-loop-k decreases-loop-k
 unfolding all_pass
-returns-2 c ok = every_ends _ table_count _ (c.before.loop.invariant.2 ok) (omega arith)
+returns c ok = every_ends _ table_count _ (c.loop-k.invariant.2 ok) (omega arith)
 
 pub all_pass_spec : {M : Type 1} → statement M
 all_pass_spec =
     tie.close
-    (tie.spec invariant-loop decreases-loop loop-holds (λ c. search rules) (λ c. search rules) add-end mul-pass (λ c. search rules) part-pass-start part-pass-end
-    (λ c κs. search rules) returns (λ c. search rules) (λ c. search rules) loop-again returns-2)
+    (tie.spec invariant-loop-k decreases-loop-k loop-k-init (λ c. search rules) (λ c. search rules) overflow_add-end offset_bounds-values-start (λ c. search rules) slice_bounds-pass-start slice_bounds-pass-end
+    (λ c κs. search rules) returns-then-not-pass (λ c. search rules) (λ c. search rules) loop-k-preserved returns)

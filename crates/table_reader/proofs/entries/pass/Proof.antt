@@ -16,35 +16,35 @@ use Rattle.table_reader.proofs.entries.pass.Statement.{statement}
 use Rattle.table_reader.proofs.entries.pass.Tie as tie
 
 -- the refusal tests the table
-tests_it : (c : tie.Else1) → tested_by c.before.before.args.k ≡ c.before.before.args.refusal
-tests_it c = sym c.before.tested-by.ensures ∙ c.if1.false
+tests_it : (c : tie.Else-tested_by-refusal) → tested_by c.args.k ≡ c.args.refusal
+tests_it c = sym c.tested_by.ensures ∙ c.if-tested_by-refusal.false
 
-returns : tie.Need-returns
-returns c ok = untested _ _ _ _ (λ e. c.if1.true (c.before.tested-by.ensures ∙ e))
+returns-then-tested_by-refusal : tie.Need-returns-then-tested_by-refusal
+returns-then-tested_by-refusal c ok = untested _ _ _ _ (λ e. c.if-tested_by-refusal.true (c.tested_by.ensures ∙ e))
 
-returns-2 : tie.Need-returns-2
+returns-in-8 : tie.Need-returns-in-8
 unfolding all_below
-returns-2 c ok = tested _ _ _ _ (tests_it c.before.before) _ (c.all-below.ensures ∙ sym (tests-residues _ _ _ c.before.match.keys1))
+returns-in-8 c ok = tested _ _ _ _ (tests_it c.before.before) _ (c.all_below.ensures ∙ sym (tests-residues _ _ _ c.in-8.is))
 
-returns-3 : tie.Need-returns-3
-returns-3 c ok = tested _ _ _ _ (tests_it c.before.before.before) _ (c.all-within-wide.ensures ∙ sym (tests-bound _ _ _ c.before.before.match.keys2))
+returns-in-9 : tie.Need-returns-in-9
+returns-in-9 c ok = tested _ _ _ _ (tests_it c.before.before.before) _ (c.all_within_wide.ensures ∙ sym (tests-bound _ _ _ c.in-9.is))
 
-returns-4 : tie.Need-returns-4
+returns-in-10 : tie.Need-returns-in-10
 unfolding exponents exponent narrow_limit value_limit
-returns-4 c ok =
-    let limit = c.before in
-    let a = limit.before.before.before.before.args in
+returns-in-10 c ok =
+    let limit = c in
+    let a = limit.args in
     let small = exponent-le a.settings (allowed a.settings ok) in
-    tested _ _ _ _ (tests_it limit.before.before) _
-    (c.all-below2.ensures ∙ ap (λ n. all (λ x. ltb x n) (map (unsigned value_limit) a.values.now)) (limit.exponent-count.ensures ok)
+    tested _ _ _ _ (tests_it limit.before.before.before) _
+    (c.all_below-in-10.ensures ∙ ap (λ n. all (λ x. ltb x n) (map (unsigned value_limit) a.values.now)) (limit.exponent_count.ensures ok)
     ∙ below-either (2 * a.settings.degree) value_limit narrow_limit (omega (arith, small)) small a.values.now
-    ∙ sym (tests-exponents _ _ _ limit.before.match.keys3))
+    ∙ sym (tests-exponents _ _ _ limit.in-10.is))
 
-returns-5 : tie.Need-returns-5
-returns-5 c ok = tested _ _ _ _ (tests_it c.before) _ (sym (tests-nothing _ _ _ (λ e. absurd (omega arith)) (λ e. absurd (omega arith)) (λ e. absurd (omega arith))))
+returns-in_default : tie.Need-returns-in_default
+returns-in_default c ok = tested _ _ _ _ (tests_it c.before) _ (sym (tests-nothing _ _ _ (λ e. absurd (omega arith)) (λ e. absurd (omega arith)) (λ e. absurd (omega arith))))
 
 pub pass_spec : {M : Type 1} → statement M
 pass_spec =
     tie.close
-    (tie.spec (λ c κs. search rules) returns (λ c κs. search rules) (λ c. search rules) (λ c κs. search rules) (λ c κs. search rules) (λ c. search rules)
-    (λ c κs. search rules) returns-2 returns-3 returns-4 returns-5)
+    (tie.spec (λ c κs. search rules) returns-then-tested_by-refusal (λ c κs. search rules) (λ c. search rules) (λ c κs. search rules) (λ c κs. search rules) (λ c. search rules)
+    (λ c κs. search rules) returns-in-8 returns-in-9 returns-in-10 returns-in_default)

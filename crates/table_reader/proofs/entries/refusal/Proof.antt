@@ -7,12 +7,12 @@ use Rattle.table_reader.proofs.entries.refusal.Tie as tie
 
 returns : tie.Need-returns
 returns c ok =
-    let r₉ = c.before.before in
-    let r₈ = r₉.before.before in
+    let r₉ = c in
+    let r₈ = r₉ in
     sym (entries-tested _ _ _
-    ∙ first_tested _ _ r₈.refuse.ensures (λ _. r₈.before.all_pass.ensures ok)
-    ∙ first_tested _ _ r₉.refuse2.ensures (λ _. r₉.before.all-pass2.ensures ok)
-    ∙ first_tested _ _ c.refuse3.ensures (λ _. c.before.all-pass3.ensures ok)
+    ∙ first_tested _ _ r₈.refuse-r8.ensures (λ _. r₈.all_pass.ensures ok)
+    ∙ first_tested _ _ r₉.refuse-r9.ensures (λ _. r₉.all_pass-2.ensures ok)
+    ∙ first_tested _ _ c.refuse.ensures (λ _. c.all_pass-3.ensures ok)
     ∙ first_only _)
 
 pub refusal_spec : {M : Type 1} → statement M

@@ -23,100 +23,100 @@ module _ (c : tie.Start) where
   room = c.requires
 
 -- the entry, from each of the calls
-at_key : tie.After-residues → tie.Start
+at_key : tie.After-residues-after_key → tie.Start
 at_key c = c.before.before.before.before.before.before.before
 
-at-message : tie.After-signed → tie.Start
+at-message : tie.After-signed-after_message → tie.Start
 at-message c = at_key c.before.before.before.before
 
-at-commitment : tie.After-residues2 → tie.Start
+at-commitment : tie.After-residues-after_commitment → tie.Start
 at-commitment c = at-message c.before.before.before
 
-at-rounds : tie.After-residues3 → tie.Start
+at-rounds : tie.After-residues-after_rounds → tie.Start
 at-rounds c = at-commitment c.before.before.before.before
 
-at-challenges : tie.After-exponents → tie.Start
+at-challenges : tie.After-exponents-after_challenges → tie.Start
 at-challenges c = at-rounds c.before.before.before.before
 
-at_last : tie.After-signed2 → tie.Start
+at_last : tie.After-signed-after_last → tie.Start
 at_last c = at-challenges c.before.before.before.before
 
 -- the place behind each table
-key-end : (c : tie.After-residues) → c.residues.result ≡ start (n (at_key c)) 1
+key-end : (c : tie.After-residues-after_key) → c.residues-after_key.result ≡ start (n (at_key c)) 1
 unfolding at_key start total lengths_of
-key-end c = omega (arith, c.residues.ensures.0)
+key-end c = omega (arith, c.residues-after_key.ensures.0)
 
-message-end : (c : tie.After-signed) → c.signed.result ≡ start (n (at-message c)) 2
+message-end : (c : tie.After-signed-after_message) → c.signed-after_message.result ≡ start (n (at-message c)) 2
 unfolding at-message at_key start total lengths_of
-message-end c = c.signed.ensures.0 ∙ ap (λ a. a + length (at-message c).args.message.now) (key-end c.before.before.before.before)
+message-end c = c.signed-after_message.ensures.0 ∙ ap (λ a. a + length (at-message c).args.message.now) (key-end c.before.before.before.before)
 
-commitment-end : (c : tie.After-residues2) → c.residues2.result ≡ start (n (at-commitment c)) 3
+commitment-end : (c : tie.After-residues-after_commitment) → c.residues-after_commitment.result ≡ start (n (at-commitment c)) 3
 unfolding at-commitment at-message at_key start total lengths_of
-commitment-end c = c.residues2.ensures.0 ∙ ap (λ a. a + length (at-commitment c).args.commitment.now) (message-end c.before.before.before)
+commitment-end c = c.residues-after_commitment.ensures.0 ∙ ap (λ a. a + length (at-commitment c).args.commitment.now) (message-end c.before.before.before)
 
-rounds-end : (c : tie.After-residues3) → c.residues3.result ≡ start (n (at-rounds c)) 4
+rounds-end : (c : tie.After-residues-after_rounds) → c.residues-after_rounds.result ≡ start (n (at-rounds c)) 4
 unfolding at-rounds at-commitment at-message at_key start total lengths_of
-rounds-end c = c.residues3.ensures.0 ∙ ap (λ a. a + length (at-rounds c).args.rounds.now) (commitment-end c.before.before.before.before)
+rounds-end c = c.residues-after_rounds.ensures.0 ∙ ap (λ a. a + length (at-rounds c).args.rounds.now) (commitment-end c.before.before.before.before)
 
-challenges-end : (c : tie.After-exponents) → c.exponents.result ≡ start (n (at-challenges c)) 5
+challenges-end : (c : tie.After-exponents-after_challenges) → c.exponents-after_challenges.result ≡ start (n (at-challenges c)) 5
 unfolding at-challenges at-rounds at-commitment at-message at_key start total lengths_of
-challenges-end c = c.exponents.ensures.0 ∙ ap (λ a. a + length (at-challenges c).args.challenges.now) (rounds-end c.before.before.before.before)
+challenges-end c = c.exponents-after_challenges.ensures.0 ∙ ap (λ a. a + length (at-challenges c).args.challenges.now) (rounds-end c.before.before.before.before)
 
-last_end : (c : tie.After-signed2) → c.signed2.result ≡ start (n (at_last c)) 6
+last_end : (c : tie.After-signed-after_last) → c.signed-after_last.result ≡ start (n (at_last c)) 6
 unfolding at_last at-challenges at-rounds at-commitment at-message at_key start total lengths_of
-last_end c = c.signed2.ensures.0 ∙ ap (λ a. a + length (at_last c).args.last.now) (challenges-end c.before.before.before.before)
+last_end c = c.signed-after_last.ensures.0 ∙ ap (λ a. a + length (at_last c).args.last.now) (challenges-end c.before.before.before.before)
+
+residues-after_key-requires : tie.Need-residues-after_key-requires
+unfolding start total lengths_of
+residues-after_key-requires c κs = omega (arith, room c.before.before.before.before.before.before)
+
+signed-after_message-requires : tie.Need-signed-after_message-requires
+unfolding at_key start total lengths_of
+signed-after_message-requires c κs = let k = c in omega (arith, room (at_key k.before.before.before), key-end k.before.before.before)
+
+residues-after_commitment-requires : tie.Need-residues-after_commitment-requires
+unfolding at-message at_key start total lengths_of
+residues-after_commitment-requires c κs = let m = c in omega (arith, room (at-message m.before.before), message-end m.before.before)
+
+residues-after_rounds-requires : tie.Need-residues-after_rounds-requires
+unfolding at-commitment at-message at_key start total lengths_of
+residues-after_rounds-requires c κs = let p = c in omega (arith, room (at-commitment p.before.before.before), commitment-end p.before.before.before)
+
+exponents-after_challenges-requires : tie.Need-exponents-after_challenges-requires
+unfolding at-rounds at-commitment at-message at_key start total lengths_of
+exponents-after_challenges-requires c κs = let r = c in omega (arith, room (at-rounds r.before.before.before), rounds-end r.before.before.before)
+
+signed-after_last-requires : tie.Need-signed-after_last-requires
+unfolding at-challenges at-rounds at-commitment at-message at_key start total lengths_of
+signed-after_last-requires c κs = let h = c in omega (arith, room (at-challenges h.before.before.before), challenges-end h.before.before.before)
 
 residues-requires : tie.Need-residues-requires
-unfolding start total lengths_of
-residues-requires c κs = omega (arith, room c.before.before.before.before.before.before)
-
-signed-requires : tie.Need-signed-requires
-unfolding at_key start total lengths_of
-signed-requires c κs = let k = c.before.before.before in omega (arith, room (at_key k), key-end k)
-
-residues-requires-2 : tie.Need-residues-requires-2
-unfolding at-message at_key start total lengths_of
-residues-requires-2 c κs = let m = c.before.before in omega (arith, room (at-message m), message-end m)
-
-residues-requires-3 : tie.Need-residues-requires-3
-unfolding at-commitment at-message at_key start total lengths_of
-residues-requires-3 c κs = let p = c.before.before.before in omega (arith, room (at-commitment p), commitment-end p)
-
-exponents-requires : tie.Need-exponents-requires
-unfolding at-rounds at-commitment at-message at_key start total lengths_of
-exponents-requires c κs = let r = c.before.before.before in omega (arith, room (at-rounds r), rounds-end r)
-
-signed-requires-2 : tie.Need-signed-requires-2
-unfolding at-challenges at-rounds at-commitment at-message at_key start total lengths_of
-signed-requires-2 c κs = let h = c.before.before.before in omega (arith, room (at-challenges h), challenges-end h)
-
-residues-requires-4 : tie.Need-residues-requires-4
 unfolding at_last at-challenges at-rounds at-commitment at-message at_key start total lengths_of
-residues-requires-4 c κs = let l = c.before.before in omega (arith, room (at_last l), last_end l)
+residues-requires c κs = let l = c in omega (arith, room (at_last l.before.before), last_end l.before.before)
 
 returns : tie.Need-returns
 unfolding at_last at-challenges at-rounds at-commitment at-message at_key start cut_tables narrow_tables lengths_of
 returns c =
-    let v = c.before.before in
-    let l = v.before.before.before in
-    let h = l.before.before.before.before in
-    let r = h.before.before.before.before in
-    let p = r.before.before.before.before in
-    let m = p.before.before.before in
-    let k = m.before.before.before.before in
-    let a = (at_key k).args in
+    let v = c in
+    let l = v in
+    let h = l in
+    let r = h in
+    let p = r in
+    let m = p in
+    let k = m in
+    let a = (at_key k.before.before.before.before.before.before.before.before.before.before.before.before.before.before.before.before.before.before.before.before.before.before.before.before).args in
     let vs = a.values.now in
-    let message = m.signed.ensures.1 ∙ ap (λ from. map narrowed (cut from (length a.message.now) vs)) (key-end k) in
-    let commitment = p.residues2.ensures.1 ∙ ap (λ from. map (unsigned value_limit) (cut from (length a.commitment.now) vs)) (message-end m) in
-    let rounds = r.residues3.ensures.1 ∙ ap (λ from. map (unsigned value_limit) (cut from (length a.rounds.now) vs)) (commitment-end p) in
-    let challenges = h.exponents.ensures.1 ∙ ap (λ from. map (unsigned narrow_limit) (cut from (length a.challenges.now) vs)) (rounds-end r) in
-    let last = l.signed2.ensures.1 ∙ ap (λ from. map narrowed (cut from (length a.last.now) vs)) (challenges-end h) in
-    let claims = v.residues4.ensures.1 ∙ ap (λ from. map (unsigned value_limit) (cut from (length a.claims.now) vs)) (last_end l) in
-    λ j. tables_of (k.residues.ensures.1 j) (message j) (commitment j) (rounds j) (challenges j) (last j) (claims j)
+    let message = m.signed-after_message.ensures.1 ∙ ap (λ from. map narrowed (cut from (length a.message.now) vs)) (key-end k.before.before.before.before.before.before.before.before.before.before.before.before.before.before.before.before.before.before.before.before.before.before.before.before) in
+    let commitment = p.residues-after_commitment.ensures.1 ∙ ap (λ from. map (unsigned value_limit) (cut from (length a.commitment.now) vs)) (message-end m.before.before.before.before.before.before.before.before.before.before.before.before.before.before.before.before.before.before.before.before) in
+    let rounds = r.residues-after_rounds.ensures.1 ∙ ap (λ from. map (unsigned value_limit) (cut from (length a.rounds.now) vs)) (commitment-end p.before.before.before.before.before.before.before.before.before.before.before.before.before.before.before.before.before) in
+    let challenges = h.exponents-after_challenges.ensures.1 ∙ ap (λ from. map (unsigned narrow_limit) (cut from (length a.challenges.now) vs)) (rounds-end r.before.before.before.before.before.before.before.before.before.before.before.before.before) in
+    let last = l.signed-after_last.ensures.1 ∙ ap (λ from. map narrowed (cut from (length a.last.now) vs)) (challenges-end h.before.before.before.before.before.before.before.before.before) in
+    let claims = v.residues.ensures.1 ∙ ap (λ from. map (unsigned value_limit) (cut from (length a.claims.now) vs)) (last_end l.before.before.before.before.before) in
+    λ j. tables_of (k.residues-after_key.ensures.1 j) (message j) (commitment j) (rounds j) (challenges j) (last j) (claims j)
 
 pub all_spec : {M : Type 1} → statement M
 all_spec =
     tie.close
-    (tie.spec residues-requires signed-requires residues-requires-2 residues-requires-3 exponents-requires signed-requires-2 residues-requires-4 (λ c. search)
+    (tie.spec residues-after_key-requires signed-after_message-requires residues-after_commitment-requires residues-after_rounds-requires exponents-after_challenges-requires signed-after_last-requires residues-requires (λ c. search)
     (λ c. search)
     (λ c. search) (λ c. search) (λ c. search) (λ c. search) (λ c. search) returns)

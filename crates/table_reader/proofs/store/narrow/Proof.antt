@@ -12,24 +12,24 @@ use Rattle.table_reader.proofs.Narrow.{narrow-fits, narrowed_is, narrowed-past}
 use Rattle.table_reader.proofs.store.narrow.Statement.{statement}
 use Rattle.table_reader.proofs.store.narrow.Tie as tie
 
-size : (c : tie.After-magnitude-wide) → c.magnitude-wide.result ≡ nat_abs c.before.args.value
-size c = c.magnitude-wide.ensures ∙ ap nat_abs (to_z-of_z c.before.ranges.value)
+size : (c : tie.After-magnitude_wide) → c.magnitude_wide.result ≡ nat_abs c.args.value
+size c = c.magnitude_wide.ensures ∙ ap nat_abs (to_z-of_z c.ranges.value)
 
 -- a value within the limit
-small : (c : tie.Else1) → nat_abs c.before.before.args.value ≤ narrow_limit
+small : (c : tie.Else-magnitude_wide) → nat_abs c.args.value ≤ narrow_limit
 unfolding narrow_limit
 small c = omega (arith, size c.before)
 
+returns-then-magnitude_wide : tie.Need-returns-then-magnitude_wide
+returns-then-magnitude_wide c = sym (narrowed-past c.args.value (unfold narrow_limit in (omega (arith, size c.before))))
+
+overflow_cast-result : tie.Need-overflow_cast-result
+overflow_cast-result c = subst (SFits w32) (sym (to_z-of_z c.ranges.value)) (narrow-fits _ (small c))
+
 returns : tie.Need-returns
-returns c = sym (narrowed-past c.before.before.args.value (unfold narrow_limit in (omega (arith, size c.before))))
-
-cast-result : tie.Need-overflow-cast-result
-cast-result c = subst (SFits w32) (sym (to_z-of_z c.before.before.ranges.value)) (narrow-fits _ (small c))
-
-returns-2 : tie.Need-returns-2
-returns-2 c =
-    ap (λ z. to_z w32 (of_z w32 z)) (to_z-of_z c.before.before.ranges.value) ∙ to_z-of_z (narrow-fits _ (small c))
+returns c =
+    ap (λ z. to_z w32 (of_z w32 z)) (to_z-of_z c.ranges.value) ∙ to_z-of_z (narrow-fits _ (small c))
     ∙ sym (narrowed_is _ (small c))
 
 pub narrow_spec : {M : Type 1} → statement M
-narrow_spec = tie.close (tie.spec (λ c κs. search rules) (λ c. search rules) returns cast-result returns-2)
+narrow_spec = tie.close (tie.spec (λ c κs. search rules) (λ c. search rules) returns-then-magnitude_wide overflow_cast-result returns)

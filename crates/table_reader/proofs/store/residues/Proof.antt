@@ -13,37 +13,37 @@ use Rattle.table_reader.proofs.Cuts.{cut-mapped}
 use Rattle.table_reader.proofs.store.residues.Statement.{statement}
 use Rattle.table_reader.proofs.store.residues.Tie as tie
 
-abbrev invariant-loop : tie.invariant-loop
-invariant-loop values from table₀ i₀ table i = (i ≤ length table) × (length table ≡ length table₀) × (table ≡ filled (λ j. unsigned value_limit (get_or values (from + j) (pos 0))) i table₀)
+abbrev invariant-loop-i : tie.invariant-loop-i
+invariant-loop-i values from table₀ i₀ table i = (i ≤ length table) × (length table ≡ length table₀) × (table ≡ filled (λ j. unsigned value_limit (get_or values (from + j) (pos 0))) i table₀)
 
-abbrev decreases-loop : tie.decreases-loop
-decreases-loop values from table₀ i₀ table i = length table₀ - i
+abbrev decreases-loop-i : tie.decreases-loop-i
+decreases-loop-i values from table₀ i₀ table i = length table₀ - i
 
-loop-holds : tie.Need-loop-init invariant-loop decreases-loop
-loop-holds c = (omega arith, refl, filled_none _ _)
+loop-i-init : tie.Need-loop-i-init invariant-loop-i decreases-loop-i
+loop-i-init c = (omega arith, refl, filled_none _ _)
 
-loop-again : tie.Need-loop-preserved invariant-loop decreases-loop
-loop-again c =
-    let l = c.before.before.before.loop in
-    let a = c.before.before.before.before.before.args in
+loop-i-preserved : tie.Need-loop-i-preserved invariant-loop-i decreases-loop-i
+loop-i-preserved c =
+    let l = c.loop-i in
+    let a = c.args in
     let v = get_or a.values.now (a.from + l.i) (pos 0) in (
       simp length-set (omega arith),
       simp length-set (omega arith),
       filled-turn (λ j. unsigned value_limit (get_or a.values.now (a.from + j) (pos 0))) l.i a.table.now l.invariant.2
-          (c.unsigned-wide.ensures ∙ ap (unsigned value_limit) (through-bits w64 v c.before.unsigned-wide-arg.given)) (omega arith),
+          (c.unsigned_wide.ensures ∙ ap (unsigned value_limit) (through-bits w64 v c.unsigned_wide-arg-1.given)) (omega arith),
     )
 
-returns : tie.Need-returns invariant-loop decreases-loop
+returns : tie.Need-returns invariant-loop-i decreases-loop-i
 returns c =
-    let l = c.before.loop in
-    let a = c.before.before.before.args in (
+    let l = c.loop-i in
+    let a = c.args in (
       omega arith,
-      cut-mapped a.values.now a.from (length a.table.now) c.before.before.before.requires (unsigned value_limit) a.table.now l.table l.i refl (omega arith)
+      cut-mapped a.values.now a.from (length a.table.now) c.requires (unsigned value_limit) a.table.now l.table l.i refl (omega arith)
           l.invariant.2,
     )
 
 pub residues_spec : {M : Type 1} → statement M
 residues_spec =
     tie.close
-    (tie.spec invariant-loop decreases-loop loop-holds (λ c. search rules) (λ c. search rules) (λ c. search rules) (λ c κs. search rules) (λ c. search rules)
-    (λ c. search rules) (λ c. search rules) (λ c. search rules) loop-again (λ c. search rules) (λ c. search rules) returns)
+    (tie.spec invariant-loop-i decreases-loop-i loop-i-init (λ c. search rules) (λ c. search rules) (λ c. search rules) (λ c κs. search rules) (λ c. search rules)
+    (λ c. search rules) (λ c. search rules) (λ c. search rules) loop-i-preserved (λ c. search rules) (λ c. search rules) returns)

@@ -96,16 +96,16 @@ module _ (t : ℕ) (g : child-accepted-lts.Start (child-calls t) (child-accepted
   space = length g.args.ws.now
 
   allowed : settings_refusal g.args.settings ≡ 0
-  allowed = g.pre.1.0.0.allowed
+  allowed = g.requires.1.0.0.allowed
 
   higher : 0 < g.args.h
-  higher = g.pre.1.0.1
+  higher = g.requires.1.0.1
 
   place : AtNode g.args.settings g.args.h g.args.k g.args.first space
-  place = g.pre.1.1
+  place = g.requires.1.1
 
   round : Round g.args.settings g.args.k (length g.args.rounds.now)
-  round = Checks.round-inside g.args.settings g.args.h g.args.k g.args.first space _ _ place g.pre.1.0.0 higher
+  round = Checks.round-inside g.args.settings g.args.h g.args.k g.args.first space _ _ place g.requires.1.0.0 higher
 
   few : g.args.k ≤ 3280
   few = round.index
@@ -119,33 +119,33 @@ module _ (t : ℕ) (g : child-accepted-lts.Start (child-calls t) (child-accepted
   below : (U : List ℕ) → length U ≡ space → AtNode g.args.settings (g.args.h - 1) (3 * g.args.k + 1 + g.args.j) g.args.first (length (take (length U / 2) U))
   unfolding child
   below U e = Places.at-child g.args.settings g.args.h g.args.k g.args.first space place higher g.args.j (child g.args.k g.args.j) _
-      g.pre.1.0.2 (λ _. child g.args.k g.args.j) (lent U ∙ ap (λ n. n / 2) e)
+      g.requires.1.0.2 (λ _. child g.args.k g.args.j) (lent U ∙ ap (λ n. n / 2) e)
 
 -- the workspace after the fold
 abbrev after : (t : ℕ) → child-accepted-lts.After-slice_known-2-1 (child-calls t) (child-accepted-at t) child-accepted.Post → List ℕ
 after t c = c.before.before.fold_key_holds.new.1.1.1.0
 
 folded-is : (t : ℕ) (c : child-accepted-lts.After-slice_known-2-1 (child-calls t) (child-accepted-at t) child-accepted.Post) →
-    let a = c.before.before.before.before.before.before.before.before.before.before.before.args in
+    let a = c.args in
     Reduced a.settings (drop (2 ^ a.h * a.settings.degree) a.ws.now)
     → after t c
     ≡ fold_down a.settings.modulus a.settings.degree (2 ^ (a.h - 1)) (challenge a.challenges.now a.k a.j) (2 ^ a.h * a.settings.degree)
     (2 ^ (a.h - 1) * a.settings.degree) a.ws.now
 folded-is t c below =
-    let a = c.before.before.before.before.before.before.before.before.before.before.before.args in
-    c.before.before.fold_key_holds.ensures below
+    let a = c.args in
+    c.fold_key.ensures below
     ∙ ap (λ e. fold_down a.settings.modulus a.settings.degree (2 ^ (a.h - 1)) e (2 ^ a.h * a.settings.degree) (2 ^ (a.h - 1) * a.settings.degree)
-    a.ws.now) c.before.before.before.before.challenge.ensures
+    a.ws.now) c.challenge.ensures
 
 folded-long : (t : ℕ) (c : child-accepted-lts.After-slice_known-2-1 (child-calls t) (child-accepted-at t) child-accepted.Post) →
-    length (after t c) ≡ length c.before.before.before.before.before.before.before.before.before.before.before.args.ws.now
-folded-long t c = c.before.before.fold_key_holds.auto.1.1.1.0
+    length (after t c) ≡ length c.args.ws.now
+folded-long t c = c.fold_key.auto.ws
 
 claim-room : (t : ℕ) (c : child-accepted-lts.After-slice_known-2-1 (child-calls t) (child-accepted-at t) child-accepted.Post) →
-    c.before.before.before.before.before.before.before.before.before.before.before.args.settings.degree ≤ length
-    c.before.before.before.before.before.before.claim_to.new.1.1.1.1.1.0
-claim-room t c = let g = c.before.before.before.before.before.before.before.before.before.before.before in
-    omega (arith, c.before.before.before.before.before.before.claim_to.auto.1.1.1.1.1.0, degree_most g.args.settings (settings-valid g.args.settings (allowed t g)))
+    c.args.settings.degree ≤ length
+    c.claim_to.new.claim
+claim-room t c = let g = c in
+    omega (arith, c.claim_to.auto.claim, degree_most g.args.settings (settings-valid g.args.settings (allowed t g)))
 
 child-accepted-slice-aggregate-claim-to : (t : ℕ) → child-accepted-lts.Need-slice_bounds-claim_to-end (child-calls t) (child-accepted-at t) child-accepted.Post
 child-accepted-slice-aggregate-claim-to t c = search rules
@@ -231,7 +231,7 @@ module _ (t : ℕ) (g : subtree-accepted-lts.Start (subtree-calls t) (subtree-ac
   granted = g.requires.1.0.0.allowed
 
   position : AtNode g.args.settings g.args.h g.args.k g.args.first (length g.args.ws.now)
-  position = g.pre.1.1
+  position = g.requires.1.1
 
   abbrev rounds-many : ℕ
   rounds-many = length g.args.rounds.now
@@ -261,60 +261,60 @@ module _ (t : ℕ) (g : subtree-accepted-lts.Start (subtree-calls t) (subtree-ac
   again st read = record { rounds_below = read.rounds_below; key_below = subst (Reduced g.args.settings) (sym st.key) read.key_below }
 
 module _ (t : ℕ) where
-  upper : (c : subtree-accepted-lts.Else1 (subtree-calls t) (subtree-accepted-at t) subtree-accepted.Post) → 0 < c.before.before.before.before.before.args.h
+  upper : (c : subtree-accepted-lts.Else-h-eq0 (subtree-calls t) (subtree-accepted-at t) subtree-accepted.Post) → 0 < c.args.h
   upper c = omega arith
 
-  stage-0 : (c : subtree-accepted-lts.Else2 (subtree-calls t) (subtree-accepted-at t) subtree-accepted.Post) →
-      Stage t c.before.before.before.before.before.before.before 0 c.before.before.before.before.before.before.before.args.ws.now
+  stage-0 : (c : subtree-accepted-lts.Else-not-node_holds (subtree-calls t) (subtree-accepted-at t) subtree-accepted.Post) →
+      Stage t c.before.before.before.before.before.before.before 0 c.args.ws.now
   stage-0 c =
-      let g = c.before.before.before.before.before.before.before in
+      let g = c in
       let a = g.args in
       Stages.stage_first a.settings (tree_row a.settings a.rounds.now) a.challenges.now a.leaves.now a.h a.k a.first a.claim.now a.ws.now (position t g)
-      (upper c.before.before) (sym c.before.node_holds.ensures ∙ not-false _ c.if2.false)
+      (upper c.before.before) (sym c.node_holds.ensures ∙ not-false _ c.if-not-node_holds.false-raw)
 
-  long-1 : (c : subtree-accepted-lts.Else3 (subtree-calls t) (subtree-accepted-at t) subtree-accepted.Post) →
-      length c.before.before.before.child_accepted.new.1.1.1.1.1.1.1.1.0 ≡ length
-      c.before.before.before.before.before.before.before.before.before.before.before.before.args.ws.now
-  long-1 c = c.before.before.before.child_accepted.auto.1.1.1.1.1.1.1.1.0
+  long-1 : (c : subtree-accepted-lts.Else-not-child_accepted (subtree-calls t) (subtree-accepted-at t) subtree-accepted.Post) →
+      length c.child_accepted.new.ws ≡ length
+      c.args.ws.now
+  long-1 c = c.child_accepted.auto.ws
 
-  long-2 : (c : subtree-accepted-lts.Else4 (subtree-calls t) (subtree-accepted-at t) subtree-accepted.Post) →
-      length c.before.before.before.child_accepted2.new.1.1.1.1.1.1.1.1.0 ≡ length
-      c.before.before.before.before.before.before.before.before.before.before.before.before.before.before.before.before.before.args.ws.now
-  long-2 c = c.before.before.before.child_accepted2.auto.1.1.1.1.1.1.1.1.0 ∙ long-1 c.before.before.before.before.before
+  long-2 : (c : subtree-accepted-lts.Else-not-child_accepted-2 (subtree-calls t) (subtree-accepted-at t) subtree-accepted.Post) →
+      length c.child_accepted-2.new.ws ≡ length
+      c.args.ws.now
+  long-2 c = c.child_accepted-2.auto.ws ∙ long-1 c.before.before.before.before.before
 
-  stage-1 : (c : subtree-accepted-lts.Else3 (subtree-calls t) (subtree-accepted-at t) subtree-accepted.Post) →
+  stage-1 : (c : subtree-accepted-lts.Else-not-child_accepted (subtree-calls t) (subtree-accepted-at t) subtree-accepted.Post) →
       Reading t c.before.before.before.before.before.before.before.before.before.before.before.before →
-      Stage t c.before.before.before.before.before.before.before.before.before.before.before.before 1 c.before.before.before.child_accepted.new.1.1.1.1.1.1.1.1.0
+      Stage t c.before.before.before.before.before.before.before.before.before.before.before.before 1 c.child_accepted.new.ws
   stage-1 c read =
-      let a = c.before.before.before.before.before.before.before.before.before.before.before.before.args in
-      let f = c.before.before.before.child_accepted in
+      let a = c.args in
+      let f = c.child_accepted in
       Stages.stage_next a.settings (tree_row a.settings a.rounds.now) a.challenges.now a.leaves.now a.h a.k a.first a.claim.now a.ws.now 0
-      (stage-0 c.before.before.before.before.before) (f.ensures read).0 (omega arith) (not-false _ c.if3.false) _ (f.ensures read).1 f.auto.1.1.1.1.1.1.1.1.0
+      (stage-0 c.before.before.before.before.before) (f.ensures read).0 (omega arith) (not-false _ c.if-not-child_accepted.false-raw) _ (f.ensures read).1 f.auto.ws
 
-  stage-2 : (c : subtree-accepted-lts.Else4 (subtree-calls t) (subtree-accepted-at t) subtree-accepted.Post) →
+  stage-2 : (c : subtree-accepted-lts.Else-not-child_accepted-2 (subtree-calls t) (subtree-accepted-at t) subtree-accepted.Post) →
       Reading t c.before.before.before.before.before.before.before.before.before.before.before.before.before.before.before.before.before →
       Stage t c.before.before.before.before.before.before.before.before.before.before.before.before.before.before.before.before.before 2
-      c.before.before.before.child_accepted2.new.1.1.1.1.1.1.1.1.0
+      c.child_accepted-2.new.ws
   stage-2 c read =
-      let a = c.before.before.before.before.before.before.before.before.before.before.before.before.before.before.before.before.before.args in
-      let f = c.before.before.before.child_accepted2 in
+      let a = c.args in
+      let f = c.child_accepted-2 in
       let one = stage-1 c.before.before.before.before.before read in
       let same = again t c.before.before.before.before.before.before.before.before.before.before.before.before.before.before.before.before.before one read in
       Stages.stage_next a.settings (tree_row a.settings a.rounds.now) a.challenges.now a.leaves.now a.h a.k a.first a.claim.now a.ws.now 1 one
-      (f.ensures same).0 (omega arith) (not-false _ c.if4.false) _ (f.ensures same).1 f.auto.1.1.1.1.1.1.1.1.0
+      (f.ensures same).0 (omega arith) (not-false _ c.if-not-child_accepted-2.false-raw) _ (f.ensures same).1 f.auto.ws
 
 subtree-accepted-cast-d : (t : ℕ) → subtree-accepted-lts.Need-overflow_cast-d (subtree-calls t) (subtree-accepted-at t) subtree-accepted.Post
 subtree-accepted-cast-d t c = search rules
 
-subtree-accepted-sub-leaf-accepted : (t : ℕ) → subtree-accepted-lts.Need-overflow_sub-leaf_accepted (subtree-calls t) (subtree-accepted-at t) subtree-accepted.Post
-subtree-accepted-sub-leaf-accepted t c = let g = c.before.before.before.before.before.before in
+subtree-accepted-sub-leaf-accepted : (t : ℕ) → subtree-accepted-lts.Need-overflow_sub-k (subtree-calls t) (subtree-accepted-at t) subtree-accepted.Post
+subtree-accepted-sub-leaf-accepted t c = let g = c in
     Places.leaf-number g.args.settings g.args.h g.args.k g.args.first _ (position t g) (omega arith)
 
-subtree-accepted-mul-leaf-accepted : (t : ℕ) → subtree-accepted-lts.Need-overflow_mul-leaf_accepted (subtree-calls t) (subtree-accepted-at t) subtree-accepted.Post
-subtree-accepted-mul-leaf-accepted t c = let S = c.before.before.before.before.before.before.args.settings in
+subtree-accepted-mul-leaf-accepted : (t : ℕ) → subtree-accepted-lts.Need-offset_bounds-ws-d (subtree-calls t) (subtree-accepted-at t) subtree-accepted.Post
+subtree-accepted-mul-leaf-accepted t c = let S = c.args.settings in
     record { fits = omega (arith, degree_most S (settings-valid S (granted t c.before.before.before.before.before.before))) }
 
-subtree-accepted-sub-leaf-accepted-2 : (t : ℕ) → subtree-accepted-lts.Need-overflow_sub-leaf_accepted-2 (subtree-calls t) (subtree-accepted-at t) subtree-accepted.Post
+subtree-accepted-sub-leaf-accepted-2 : (t : ℕ) → subtree-accepted-lts.Need-slice_bounds-leaf_accepted-count (subtree-calls t) (subtree-accepted-at t) subtree-accepted.Post
 subtree-accepted-sub-leaf-accepted-2 t c = leaf_room t c.before.before.before.before.before.before (omega arith)
 
 subtree-accepted-part-leaf-accepted-start :
@@ -328,7 +328,7 @@ subtree-accepted-part-leaf-accepted-end t c = search rules
 subtree-accepted-leaf-accepted-requires :
     (t : ℕ) → subtree-accepted-lts.Need-leaf_accepted-requires (subtree-calls t) (subtree-accepted-at t) subtree-accepted.Post
 subtree-accepted-leaf-accepted-requires t c κs =
-    let g = c.before.before.before.before.before.before.before.before in
+    let g = c in
     let a = g.args in (
       granted t g,
       Checks.leaf-inside a.settings a.h a.k a.first _ (rounds-many t g) (finals-many t g) (position t g) g.requires.1.0.0 (omega arith),
@@ -336,12 +336,12 @@ subtree-accepted-leaf-accepted-requires t c κs =
       Checks.part-long a.settings.degree a.settings.degree a.ws.now (leaf-twice t g (omega arith)),
     )
 
-subtree-accepted-same-length : (t : ℕ) → subtree-accepted-lts.Need-shape_of-ws (subtree-calls t) (subtree-accepted-at t) subtree-accepted.Post
+subtree-accepted-same-length : (t : ℕ) → subtree-accepted-lts.Need-shape_of-ws-then-h-eq0 (subtree-calls t) (subtree-accepted-at t) subtree-accepted.Post
 subtree-accepted-same-length t c = search rules
 
-subtree-accepted-returns : (t : ℕ) → subtree-accepted-lts.Need-returns (subtree-calls t) (subtree-accepted-at t) subtree-accepted.Post
+subtree-accepted-returns : (t : ℕ) → subtree-accepted-lts.Need-returns-then-h-eq0 (subtree-calls t) (subtree-accepted-at t) subtree-accepted.Post
 subtree-accepted-returns t c = λ read.
-    let g = c.before.before.before.before.before.before.before.before.before in
+    let g = c in
     let a = g.args in
     c.leaf_accepted.ensures (Descent.leaf-below a.settings (tree_row a.settings a.rounds.now) a.challenges.now a.leaves.now a.h a.k a.first _ (position t g)
     (omega arith) a.ws.now read.key_below) ∙ Descent.leaf-tests a.settings (tree_row a.settings a.rounds.now) a.challenges.now a.leaves.now a.h a.k a.first _
@@ -349,46 +349,46 @@ subtree-accepted-returns t c = λ read.
     (omega arith) a.claim.now a.ws.now
 
 subtree-accepted-node-holds-requires : (t : ℕ) → subtree-accepted-lts.Need-node_holds-requires (subtree-calls t) (subtree-accepted-at t) subtree-accepted.Post
-subtree-accepted-node-holds-requires t c κs = let g = c.before.before.before.before.before in let a = g.args in
+subtree-accepted-node-holds-requires t c κs = let g = c in let a = g.args in
     (Checks.round-inside a.settings a.h a.k a.first _ (rounds-many t g) (finals-many t g) (position t g) g.requires.1.0.0 (upper t c), g.requires.1.0.1)
 
-subtree-accepted-returns-2 : (t : ℕ) → subtree-accepted-lts.Need-returns-2 (subtree-calls t) (subtree-accepted-at t) subtree-accepted.Post
+subtree-accepted-returns-2 : (t : ℕ) → subtree-accepted-lts.Need-returns-then-not-node_holds (subtree-calls t) (subtree-accepted-at t) subtree-accepted.Post
 subtree-accepted-returns-2 t c = λ read.
-    let g = c.before.before.before.before.before.before.before in
+    let g = c in
     let a = g.args in
     Stages.node_stops a.settings (tree_row a.settings a.rounds.now) a.challenges.now a.leaves.now a.h a.k a.first a.claim.now a.ws.now (position t g)
-    (upper t c.before.before) (sym c.before.node_holds.ensures ∙ not-true _ c.if2.true)
+    (upper t c.before.before) (sym c.node_holds.ensures ∙ not-true _ c.if-not-node_holds.true-raw)
 
 subtree-accepted-child-accepted-requires :
     (t : ℕ) → subtree-accepted-lts.Need-child_accepted-requires (subtree-calls t) (subtree-accepted-at t) subtree-accepted.Post
-subtree-accepted-child-accepted-requires t c κs = let g = c.before.before.before.before.before.before.before.before in
+subtree-accepted-child-accepted-requires t c κs = let g = c in
     (omega arith, ((g.requires.1.0.0, upper t c.before.before.before, omega arith), position t g))
 
-subtree-accepted-same-length-2 : (t : ℕ) → subtree-accepted-lts.Need-same_length-2 (subtree-calls t) (subtree-accepted-at t) subtree-accepted.Post
+subtree-accepted-same-length-2 : (t : ℕ) → subtree-accepted-lts.Need-shape_of-ws-then-not-child_accepted (subtree-calls t) (subtree-accepted-at t) subtree-accepted.Post
 subtree-accepted-same-length-2 t c = search rules
 
-subtree-accepted-returns-3 : (t : ℕ) → subtree-accepted-lts.Need-returns-3 (subtree-calls t) (subtree-accepted-at t) subtree-accepted.Post
+subtree-accepted-returns-3 : (t : ℕ) → subtree-accepted-lts.Need-returns-then-not-child_accepted (subtree-calls t) (subtree-accepted-at t) subtree-accepted.Post
 subtree-accepted-returns-3 t c = λ read.
-    let a = c.before.before.before.before.before.before.before.before.before.before.before.before.args in
+    let a = c.args in
     Stages.stage_stops a.settings (tree_row a.settings a.rounds.now) a.challenges.now a.leaves.now a.h a.k a.first a.claim.now a.ws.now 0
-    (stage-0 t c.before.before.before.before.before) (c.before.before.before.child_accepted.ensures read).0 (omega arith) (not-true _ c.if3.true)
+    (stage-0 t c.before.before.before.before.before) (c.child_accepted.ensures read).0 (omega arith) (not-true _ c.if-not-child_accepted.true-raw)
 
 subtree-accepted-child-accepted-requires-2 :
     (t : ℕ) → subtree-accepted-lts.Need-child_accepted-requires-2 (subtree-calls t) (subtree-accepted-at t) subtree-accepted.Post
-subtree-accepted-child-accepted-requires-2 t c κs = let g = c.before.before.before.before.before.before.before.before.before.before.before.before.before in
+subtree-accepted-child-accepted-requires-2 t c κs = let g = c in
     (omega arith, ((g.requires.1.0.0, upper t c.before.before.before.before.before.before.before.before, omega arith), stays t g (long-1 t c.before)))
 
-subtree-accepted-same-length-3 : (t : ℕ) → subtree-accepted-lts.Need-same_length-3 (subtree-calls t) (subtree-accepted-at t) subtree-accepted.Post
-subtree-accepted-same-length-3 t c = c.before.before.before.child_accepted2.auto.1.1.1.1.1.1.1.1.0 ∙ long-1 t c.before.before.before.before.before
+subtree-accepted-same-length-3 : (t : ℕ) → subtree-accepted-lts.Need-shape_of-ws-then-not-child_accepted-2 (subtree-calls t) (subtree-accepted-at t) subtree-accepted.Post
+subtree-accepted-same-length-3 t c = c.child_accepted-2.auto.ws ∙ long-1 t c.before.before.before.before.before
 
-subtree-accepted-returns-4 : (t : ℕ) → subtree-accepted-lts.Need-returns-4 (subtree-calls t) (subtree-accepted-at t) subtree-accepted.Post
+subtree-accepted-returns-4 : (t : ℕ) → subtree-accepted-lts.Need-returns-then-not-child_accepted-2 (subtree-calls t) (subtree-accepted-at t) subtree-accepted.Post
 subtree-accepted-returns-4 t c = λ read.
-    let a = c.before.before.before.before.before.before.before.before.before.before.before.before.before.before.before.before.before.args in
+    let a = c.args in
     let one = stage-1 t c.before.before.before.before.before read in
     Stages.stage_stops a.settings (tree_row a.settings a.rounds.now) a.challenges.now a.leaves.now a.h a.k a.first a.claim.now a.ws.now 1 one
-    (c.before.before.before.child_accepted2.ensures
+    (c.child_accepted-2.ensures
     (again t c.before.before.before.before.before.before.before.before.before.before.before.before.before.before.before.before.before one read)).0
-    (omega arith) (not-true _ c.if4.true)
+    (omega arith) (not-true _ c.if-not-child_accepted-2.true-raw)
 
 subtree-accepted-child-accepted-requires-3 :
     (t : ℕ) → subtree-accepted-lts.Need-child_accepted-requires-3 (subtree-calls t) (subtree-accepted-at t) subtree-accepted.Post
@@ -396,20 +396,20 @@ subtree-accepted-child-accepted-requires-3 t c κs = let g =
     c.before.before.before.before.before.before.before.before.before.before.before.before.before.before.before.before.before.before in (
       omega arith,
       (
-        (g.pre.1.0.0, upper t c.before.before.before.before.before.before.before.before.before.before.before.before.before, omega arith),
+        (g.requires.1.0.0, upper t c.before.before.before.before.before.before.before.before.before.before.before.before.before, omega arith),
         stays t g (long-2 t c.before),
       ),
     )
 
-subtree-accepted-same-length-4 : (t : ℕ) → subtree-accepted-lts.Need-same_length-4 (subtree-calls t) (subtree-accepted-at t) subtree-accepted.Post
-subtree-accepted-same-length-4 t c = c.before.before.child_accepted3.auto.1.1.1.1.1.1.1.1.0 ∙ long-2 t c.before.before.before.before
+subtree-accepted-same-length-4 : (t : ℕ) → subtree-accepted-lts.Need-shape_of-ws (subtree-calls t) (subtree-accepted-at t) subtree-accepted.Post
+subtree-accepted-same-length-4 t c = c.child_accepted-3.auto.ws ∙ long-2 t c.before.before.before.before
 
-subtree-accepted-returns-5 : (t : ℕ) → subtree-accepted-lts.Need-returns-5 (subtree-calls t) (subtree-accepted-at t) subtree-accepted.Post
+subtree-accepted-returns-5 : (t : ℕ) → subtree-accepted-lts.Need-returns (subtree-calls t) (subtree-accepted-at t) subtree-accepted.Post
 subtree-accepted-returns-5 t c = λ read.
-    let a = c.before.before.before.before.before.before.before.before.before.before.before.before.before.before.before.before.before.before.before.before.before.args in
+    let a = c.args in
     let two = stage-2 t c.before.before.before.before read in
     Stages.stage_last a.settings (tree_row a.settings a.rounds.now) a.challenges.now a.leaves.now a.h a.k a.first a.claim.now a.ws.now two
-    (c.before.before.child_accepted3.ensures
+    (c.child_accepted-3.ensures
     (again t c.before.before.before.before.before.before.before.before.before.before.before.before.before.before.before.before.before.before.before.before.before two read)).0
 
 pub +child_accepted_subtree_accepted_spec : {M : Type 1} → statement M
