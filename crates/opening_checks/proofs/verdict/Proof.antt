@@ -8,18 +8,18 @@ use borrow.Author.Rules.{rules}
 use Rattle.opening_checks.proofs.verdict.Statement.{statement}
 use Rattle.opening_checks.proofs.verdict.Tie as tie
 
+returns-then-not-holds : tie.Need-returns-then-not-holds
+unfolding verdict choose
+returns-then-not-holds c = λ _. sym (ap verdict (and_fails_left c.args.holds _ (not-true _ c.if-not-holds.true-raw)))
+
+returns-then-ends_hold : tie.Need-returns-then-ends_hold
+unfolding verdict choose
+returns-then-ends_hold c = λ given. sym (ap verdict (and_intro (not-false c.args.holds c.if-not-holds.false-raw)
+    (sym (c.ends_hold.ensures given) ∙ c.if-ends_hold.true)))
+
 returns : tie.Need-returns
 unfolding verdict choose
-returns c = λ _. sym (ap verdict (and_fails_left c.before.before.before.args.holds _ (not-true _ c.if1.true)))
-
-returns-2 : tie.Need-returns-2
-unfolding verdict choose
-returns-2 c = λ given. sym (ap verdict (and_intro (not-false c.before.before.before.before.before.args.holds c.before.before.if1.false)
-    (sym (c.before.ends-hold.ensures given) ∙ c.if2.true)))
-
-returns-3 : tie.Need-returns-3
-unfolding verdict choose
-returns-3 c = λ given. sym (ap verdict (and_fails_right c.before.before.before.before.before.args.holds _ (sym (c.before.ends-hold.ensures given) ∙ c.if2.false)))
+returns c = λ given. sym (ap verdict (and_fails_right c.args.holds _ (sym (c.ends_hold.ensures given) ∙ c.if-ends_hold.false)))
 
 pub verdict_spec : {M : Type 1} → statement M
-verdict_spec = tie.close (tie.spec returns (λ c κs. search rules) returns-2 returns-3)
+verdict_spec = tie.close (tie.spec returns-then-not-holds (λ c κs. search rules) returns-then-ends_hold returns)

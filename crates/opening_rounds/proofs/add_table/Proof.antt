@@ -12,19 +12,19 @@ use borrow.Author.Rules.{rules}
 use Rattle.opening_rounds.proofs.add_table.Statement.{statement}
 use Rattle.opening_rounds.proofs.add_table.Tie as tie
 
-abbrev invariant-loop : tie.invariant-loop
-invariant-loop q n y out₀ k₀ out k =
+abbrev invariant-loop-k : tie.invariant-loop-k
+invariant-loop-k q n y out₀ k₀ out k =
     (k ≤ n) × (length out ≡ length out₀) × Provided (Residues q n 0 out₀ × Residues q n 0 y) (out ≡ filled (sum_at q out₀ y) k out₀)
 
-abbrev decreases-loop : tie.decreases-loop
-decreases-loop q n y out₀ k₀ out k = n - k
+abbrev decreases-loop-k : tie.decreases-loop-k
+decreases-loop-k q n y out₀ k₀ out k = n - k
 
-loop-holds : tie.Need-loop-init invariant-loop decreases-loop
-loop-holds c = (omega arith, refl, λ _. filled_none _ _)
+loop-k-init : tie.Need-loop-k-init invariant-loop-k decreases-loop-k
+loop-k-init c = (omega arith, refl, λ _. filled_none _ _)
 
-loop-again : tie.Need-loop-preserved invariant-loop decreases-loop
-loop-again c = let l = c.before.before.before.before.loop in
-    let a = c.before.before.before.before.before.before.before.args in (
+loop-k-preserved : tie.Need-loop-k-preserved invariant-loop-k decreases-loop-k
+loop-k-preserved c = let l = c.loop-k in
+    let a = c.args in (
       omega arith,
       simp length-set (omega arith),
       (λ h.
@@ -36,11 +36,11 @@ loop-again c = let l = c.before.before.before.before.loop in
           ∙ ap (λ v. (v + get_or a.y.now l.k 0) % a.q) was) (omega arith)),
     )
 
-returns : tie.Need-returns invariant-loop decreases-loop
-returns c = λ h. filled-end _ _ (c.before.loop.invariant.2 h) (omega arith)
+returns : tie.Need-returns invariant-loop-k decreases-loop-k
+returns c = λ h. filled-end _ _ (c.loop-k.invariant.2 h) (omega arith)
 
 pub add_table_spec : {M : Type 1} → statement M
 add_table_spec =
     tie.close
-    (tie.spec invariant-loop decreases-loop loop-holds (λ c. search rules) (λ c. search rules) (λ c. search rules) (λ c. search rules) (λ c κs. search rules) (λ c. search rules) (λ c. search rules)
-    (λ c. search rules) (λ c. search rules) loop-again (λ c. search rules) returns)
+    (tie.spec invariant-loop-k decreases-loop-k loop-k-init (λ c. search rules) (λ c. search rules) (λ c. search rules) (λ c. search rules) (λ c κs. search rules) (λ c. search rules) (λ c. search rules)
+    (λ c. search rules) (λ c. search rules) loop-k-preserved (λ c. search rules) returns)

@@ -15,24 +15,24 @@ use borrow.Author.Rules.{rules}
 use Rattle.opening_rounds.proofs.sum_item.Statement.{statement}
 use Rattle.opening_rounds.proofs.sum_item.Tie as tie
 
-returns : tie.Need-returns
-returns c = λ z _. absurd (omega (arith, turn _ _ _ _ z))
+returns-then-t-settings : tie.Need-returns-then-t-settings
+returns-then-t-settings c = λ z _. absurd (omega (arith, turn _ _ _ _ z))
 
-returns-2 : tie.Need-returns-2
+returns : tie.Need-returns
 unfolding half sum_element
-returns-2 c = λ z room.
-    let a = c.before.before.before.before.before.before.before.before.before.args in
+returns c = λ z room.
+    let a = c.args in
     let S = a.settings in
     let t = a.t in
     let m = a.message.now in
     let G = a.key.now in
-    let is : c.before.before.before.before.half-left.result ≡ half_left S t = c.before.before.before.before.half-left.ensures
+    let is : c.half_left-h.result ≡ half_left S t = c.half_left-h.ensures
     (record { allowed = allowed S t G m z; turn = turn S t G m z }) in
-    c.before.before.items.ensures (key_row S G) (subst (λ h. ItemsGiven true S h m G (key_row S G)) (sym is) (sum_given S t G m z), room)
+    c.items.ensures (key_row S G) (subst (λ h. ItemsGiven true S h m G (key_row S G)) (sym is) (sum_given S t G m z), room)
     ∙ ap (λ h. filled (row_places S.degree (inner_item true S h (half S ^ (t + 1)) m (key_row S G))) (item_cells S) a.out.now) is
     ∙ sum-item S t G m z a.out.now
 
 pub sum_item_spec : {M : Type 1} → statement M
 sum_item_spec =
     tie.close
-    (tie.spec returns (λ c κs. search rules) (λ c. search rules) (λ c κs. search rules) (λ c. search rules) returns-2)
+    (tie.spec returns-then-t-settings (λ c κs. search rules) (λ c. search rules) (λ c κs. search rules) (λ c. search rules) returns)

@@ -10,28 +10,28 @@ use borrow.Author.Rules.{rules}
 use Rattle.opening_rounds.proofs.write_halved.Statement.{statement}
 use Rattle.opening_rounds.proofs.write_halved.Tie as tie
 
-abbrev invariant-loop : tie.invariant-loop
-invariant-loop q d t element out₀ k₀ out k = (k ≤ d) × (d ≤ length out₀) × Provided (Halvables q d element) (out ≡ filled (λ (j : ℕ). half q ^ t * get_or element j 0 % q) k out₀) × (length out ≡ length out₀)
+abbrev invariant-loop-k : tie.invariant-loop-k
+invariant-loop-k q d t element out₀ k₀ out k = (k ≤ d) × (d ≤ length out₀) × Provided (Halvables q d element) (out ≡ filled (λ (j : ℕ). half q ^ t * get_or element j 0 % q) k out₀) × (length out ≡ length out₀)
 
-abbrev decreases-loop : tie.decreases-loop
-decreases-loop q d t element out₀ k₀ out k = d - k
+abbrev decreases-loop-k : tie.decreases-loop-k
+decreases-loop-k q d t element out₀ k₀ out k = d - k
 
-returns : tie.Need-returns invariant-loop decreases-loop
-returns c = ((λ h _. absurd (omega arith)), λ _. refl)
+returns-then-out-d : tie.Need-returns-then-out-d invariant-loop-k decreases-loop-k
+returns-then-out-d c = ((λ h _. absurd (omega arith)), λ _. refl)
 
-loop-holds : tie.Need-loop-init invariant-loop decreases-loop
-loop-holds c = (omega arith, omega arith, (λ _. filled_none _ _), refl)
+loop-k-init : tie.Need-loop-k-init invariant-loop-k decreases-loop-k
+loop-k-init c = (omega arith, omega arith, (λ _. filled_none _ _), refl)
 
-loop-again : tie.Need-loop-preserved invariant-loop decreases-loop
-loop-again c =
-    let l = c.before.before.before.loop in
-    (omega arith, omega arith, (λ h. filled-turn _ l.k _ (l.invariant.2 h) (c.halved-times.ensures (h l.k (omega arith))) (omega arith)), simp length-set (omega arith))
+loop-k-preserved : tie.Need-loop-k-preserved invariant-loop-k decreases-loop-k
+loop-k-preserved c =
+    let l = c.loop-k in
+    (omega arith, omega arith, (λ h. filled-turn _ l.k _ (l.invariant.2 h) (c.halved_times.ensures (h l.k (omega arith))) (omega arith)), simp length-set (omega arith))
 
-returns-2 : tie.Need-returns-2 invariant-loop decreases-loop
-returns-2 c = ((λ _ h. filled-end _ _ (c.before.loop.invariant.2 h) (omega arith)), λ h. absurd (omega arith))
+returns : tie.Need-returns invariant-loop-k decreases-loop-k
+returns c = ((λ _ h. filled-end _ _ (c.loop-k.invariant.2 h) (omega arith)), λ h. absurd (omega arith))
 
 pub write_halved_spec : {M : Type 1} → statement M
 write_halved_spec =
     tie.close
-    (tie.spec invariant-loop decreases-loop returns loop-holds (λ c. search rules) (λ c. search rules) (λ c κs. search rules) (λ c. search rules)
-    (λ c. search rules) (λ c. search rules) (λ c. search rules) loop-again (λ c. search rules) returns-2)
+    (tie.spec invariant-loop-k decreases-loop-k returns-then-out-d loop-k-init (λ c. search rules) (λ c. search rules) (λ c κs. search rules) (λ c. search rules)
+    (λ c. search rules) (λ c. search rules) (λ c. search rules) loop-k-preserved (λ c. search rules) returns)

@@ -9,17 +9,17 @@ use Rattle.prover.proofs.fold_tables.Tie as tie
 
 returns : tie.Need-returns
 returns c = λ z.
-    let a = c.before.before.before.before.before.before.before.before.before.args in
+    let a = c.args in
     let S = a.settings in
     let G = a.key.now in
     let m = a.message.now in
     let (ok, _) = fold_key_holds S G m a.done a.e z in
     let g = fold_given S G m a.done a.e z 0 (first_row S ok) in
-    let h = c.before.before.before.half-left in
+    let h = c.half_left-h in
     let is : h.result ≡ half_left S a.done = h.ensures (record { allowed = ok; turn = g.turn }) in
     fold_done S a.done a.e G m z _ _
-    (c.before.before.before.before.before.before.fold-keys.ensures (keys_given S a.done a.e G m z))
-    (c.before.fold-message.ensures (rw is (message_foldable S a.done a.e _ m g)) ∙ ap (λ n. fold_signed S.degree n a.e m) is)
+    (c.fold_keys.ensures (keys_given S a.done a.e G m z))
+    (c.fold_message.ensures (rw is (message_foldable S a.done a.e _ m g)) ∙ ap (λ n. fold_signed S.degree n a.e m) is)
 
 pub fold_tables_spec : {M : Type 1} → statement M
 fold_tables_spec =

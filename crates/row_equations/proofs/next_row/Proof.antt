@@ -12,12 +12,12 @@ use Rattle.row_equations.proofs.next_row.Tie as tie
 
 returns : tie.Need-returns
 returns c = λ g.
-    let a = c.before.before.before.before.before.before.before.before.before.before.before.args in
+    let a = c.args in
     let S = a.settings in
     let v = g.0 in
     let r = ready S v.allowed in
     let to = a.i * width in
-    part_back _ to S.degree a.claims.now (c.before.before.value.ensures (record {
+    part_back _ to S.degree a.claims.now (c.value.ensures (record {
       degree = omega arith;
       degree_most = r.degree_most;
       coefficients = record {

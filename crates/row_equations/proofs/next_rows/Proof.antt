@@ -23,53 +23,53 @@ abbrev claim : Settings → ℕ → ℕ → List ℕ → List ℕ → List ℕ �
 claim settings e step c0 c1 c2 i =
     next_claim settings e (residue (value_row (lent_rows settings step c0) i)) (residue (value_row (lent_rows settings step c1) i)) (residue (value_row (lent_rows settings step c2) i))
 
-abbrev invariant-loop : tie.invariant-loop
-invariant-loop settings e step c0 c1 c2 claims₀ n i₀ claims i =
+abbrev invariant-loop-i : tie.invariant-loop-i
+invariant-loop-i settings e step c0 c1 c2 claims₀ n i₀ claims i =
     (i ≤ n) × (length claims ≡ rows_width) × Provided (RowsEvaluable settings step c0 c1 c2 × (claims₀ ≡ zeros rows_width)) (claims ≡ first_rows settings (claim settings e step c0 c1 c2) i)
 
-abbrev decreases-loop : tie.decreases-loop
-decreases-loop settings e step c0 c1 c2 claims₀ n i₀ claims i = n - i
+abbrev decreases-loop-i : tie.decreases-loop-i
+decreases-loop-i settings e step c0 c1 c2 claims₀ n i₀ claims i = n - i
 
-cast-n : tie.Need-overflow-cast-n invariant-loop decreases-loop
-cast-n c = search rules
+overflow_cast-n : tie.Need-overflow_cast-n invariant-loop-i decreases-loop-i
+overflow_cast-n c = search rules
 
-loop-holds : tie.Need-loop-init invariant-loop decreases-loop
-loop-holds c = (omega arith, search rules, λ g. g.1 ∙ rows_none _ _)
+loop-i-init : tie.Need-loop-i-init invariant-loop-i decreases-loop-i
+loop-i-init c = (omega arith, search rules, λ g. g.1 ∙ rows_none _ _)
 
-next-row-requires : tie.Need-next-row-requires invariant-loop decreases-loop
-next-row-requires c κs =
-    let s = c.before.before.before.before.before.before.before.before in
+next_row-requires : tie.Need-next_row-requires invariant-loop-i decreases-loop-i
+next_row-requires c κs =
+    let s = c in
     let p = s.requires in
-    let l = c.before.before.loop in
+    let l = c.loop-i in
     let in_row = row_inside s.args.step s.args.settings.rows l.i (omega arith) in
     (omega (arith, p.0), p.1, omega (arith, in_row, p.2), omega (arith, in_row, p.3), omega (arith, in_row, p.4), l.invariant.1)
 
-loop-again : tie.Need-loop-preserved invariant-loop decreases-loop
-loop-again c =
-    let l = c.before.before.before.before.before.loop in
-    let s = c.before.before.before.before.before.before.before.before.before.before.before in
+loop-i-preserved : tie.Need-loop-i-preserved invariant-loop-i decreases-loop-i
+loop-i-preserved c =
+    let l = c.loop-i in
+    let s = c in
     let a = s.args in
     let S = a.settings in
-    let n = c.before.before.next_row in (
+    let n = c.next_row in (
       omega arith,
-      n.auto.1.1.1.1.1.1.1.0 ∙ l.invariant.1,
+      n.auto.claims ∙ l.invariant.1,
       λ g.
           n.ensures (g.0, omega arith)
           ∙ ap (spliced (λ k. get_or (claim S a.e a.step a.c0.now a.c1.now a.c2.now l.i) k 0) (l.i * width) S.degree) (l.invariant.2 g)
           ∙ rows_more S (claim S a.e a.step a.c0.now a.c1.now a.c2.now) l.i (omega (arith, s.requires.0)) (ready S g.0.allowed).degree_most,
     )
 
-same_length : tie.Need-same-length invariant-loop decreases-loop
-same_length c = search rules
+shape_of-claims : tie.Need-shape_of-claims invariant-loop-i decreases-loop-i
+shape_of-claims c = search rules
 
-returns : tie.Need-returns invariant-loop decreases-loop
+returns : tie.Need-returns invariant-loop-i decreases-loop-i
 returns c = λ g.
-    let l = c.before.loop in
-    let a = c.before.before.before.before.before.before.before.args in
+    let l = c.loop-i in
+    let a = c.args in
     let all : l.i ≡ a.settings.rows = omega arith in
     l.invariant.2 g ∙ ap (first_rows a.settings (claim a.settings a.e a.step a.c0.now a.c1.now a.c2.now)) all ∙ rows_all a.settings _
 
 pub next_rows_spec : {M : Type 1} → statement M
 next_rows_spec =
     tie.close
-    (tie.spec invariant-loop decreases-loop cast-n loop-holds next-row-requires (λ c. search rules) (λ c. search rules) loop-again same_length returns)
+    (tie.spec invariant-loop-i decreases-loop-i overflow_cast-n loop-i-init next_row-requires (λ c. search rules) (λ c. search rules) loop-i-preserved shape_of-claims returns)

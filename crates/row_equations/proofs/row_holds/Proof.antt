@@ -12,11 +12,11 @@ use Rattle.row_equations.proofs.row_holds.Tie as tie
 
 returns : tie.Need-returns
 returns c = λ g.
-    let a = c.before.before.before.before.before.before.before.args in
+    let a = c.args in
     let S = a.settings in
     let ok = g.0.allowed in
     let at = a.i * a.step in
-    c.round-holds.ensures (record {
+    c.round_holds.ensures (record {
       allowed = ok;
       first = part-long (a.i * width) S.degree a.claims.now (omega (arith, (ready S ok).degree_most));
       second = part-long at S.degree a.c0.now (lent_inside S ok a.step a.c0.now g.0.first a.i g.1);

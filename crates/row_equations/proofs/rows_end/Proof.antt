@@ -22,35 +22,35 @@ use Rattle.row_equations.proofs.rows_end.Tie as tie
 abbrev met : Settings → List ℕ → List ℤ → List ℕ → List ℕ → ℕ → Bool
 met settings claims last key challenges i = end_met settings (value_row claims i) (signed last) (folded_key settings (key_row settings key i) challenges)
 
-abbrev invariant-loop : tie.invariant-loop
-invariant-loop settings claims last key challenges n i₀ i = (i ≤ n) × Provided (EndsGiven settings (length claims) (length last) key challenges) (every i (met settings claims last key challenges) ≡ true)
+abbrev invariant-loop-i : tie.invariant-loop-i
+invariant-loop-i settings claims last key challenges n i₀ i = (i ≤ n) × Provided (EndsGiven settings (length claims) (length last) key challenges) (every i (met settings claims last key challenges) ≡ true)
 
-abbrev decreases-loop : tie.decreases-loop
-decreases-loop settings claims last key challenges n i₀ i = n - i
+abbrev decreases-loop-i : tie.decreases-loop-i
+decreases-loop-i settings claims last key challenges n i₀ i = n - i
 
-cast-n : tie.Need-overflow-cast-n invariant-loop decreases-loop
-cast-n c = search rules
+overflow_cast-n : tie.Need-overflow_cast-n invariant-loop-i decreases-loop-i
+overflow_cast-n c = search rules
 
-loop-holds : tie.Need-loop-init invariant-loop decreases-loop
-loop-holds c = (omega arith, λ _. every-none _)
+loop-i-init : tie.Need-loop-i-init invariant-loop-i decreases-loop-i
+loop-i-init c = (omega arith, λ _. every-none _)
 
-row-ends-requires : tie.Need-row-ends-requires invariant-loop decreases-loop
-row-ends-requires c κs =
-    let s = c.before.before.before.before.before.before in
+row_ends-requires : tie.Need-row_ends-requires invariant-loop-i decreases-loop-i
+row_ends-requires c κs =
+    let s = c in
     (s.requires.0, omega arith, omega (arith, (settings-valid s.args.settings s.requires.0).rows_most_holds), s.requires.1, s.requires.2)
 
-returns : tie.Need-returns invariant-loop decreases-loop
-returns c = λ g. every_fails _ _ c.before.before.before.loop.i (omega arith) (sym (c.before.row_ends.ensures g) ∙ not-true _ c.if1.true)
+returns-then-not-row_ends : tie.Need-returns-then-not-row_ends invariant-loop-i decreases-loop-i
+returns-then-not-row_ends c = λ g. every_fails _ _ c.loop-i.i (omega arith) (sym (c.row_ends.ensures g) ∙ not-true _ c.if-not-row_ends.true-raw)
 
-loop-again : tie.Need-loop-preserved invariant-loop decreases-loop
-loop-again c =
-    let l = c.before.before.before.loop in
-    (omega arith, λ g. every_goes_on _ l.i (l.invariant.1 g) (sym (c.before.row_ends.ensures g) ∙ not-false _ c.if1.false))
+loop-i-preserved : tie.Need-loop-i-preserved invariant-loop-i decreases-loop-i
+loop-i-preserved c =
+    let l = c.loop-i in
+    (omega arith, λ g. every_goes_on _ l.i (l.invariant.1 g) (sym (c.row_ends.ensures g) ∙ not-false _ c.if-not-row_ends.false-raw))
 
-returns-2 : tie.Need-returns-2 invariant-loop decreases-loop
-returns-2 c = λ g. let l = c.before.loop in every_ends _ _ l.i (l.invariant.1 g) (omega arith)
+returns : tie.Need-returns invariant-loop-i decreases-loop-i
+returns c = λ g. let l = c.loop-i in every_ends _ _ l.i (l.invariant.1 g) (omega arith)
 
 pub rows_end_spec : {M : Type 1} → statement M
 rows_end_spec =
     tie.close
-    (tie.spec invariant-loop decreases-loop cast-n loop-holds row-ends-requires returns (λ c. search rules) (λ c. search rules) loop-again returns-2)
+    (tie.spec invariant-loop-i decreases-loop-i overflow_cast-n loop-i-init row_ends-requires returns-then-not-row_ends (λ c. search rules) (λ c. search rules) loop-i-preserved returns)

@@ -7,38 +7,38 @@ use Rattle.transcripts.proofs.RowParts.{flat-accepts}
 use Rattle.transcripts.proofs.accepted.Statement.{statement}
 use Rattle.transcripts.proofs.accepted.Tie as tie
 
-returns : tie.Need-returns
-returns c = λ g _. absurd (c.if1.true (c.before.settings-refusal.ensures ∙ g.allowed))
+returns-then-settings_refusal-ne0 : tie.Need-returns-then-settings_refusal-ne0
+returns-then-settings_refusal-ne0 c = λ g _. absurd (c.if-settings_refusal-ne0.true (c.settings_refusal.ensures ∙ g.allowed))
 
-returns-2 : tie.Need-returns-2
-returns-2 c = λ g e. absurd (c.if2.true (e ∙ sym (c.before.item-cells.ensures.0 g.allowed)))
+returns-then-commitment-item_cells : tie.Need-returns-then-commitment-item_cells
+returns-then-commitment-item_cells c = λ g e. absurd (c.if-commitment-item_cells.true (e ∙ sym (c.item_cells.ensures.0 g.allowed)))
 
-returns-3 : tie.Need-returns-3
-returns-3 c = λ g _. absurd (c.if3.true (g.key_below.long ∙ sym (c.before.key-cells.ensures g.allowed)))
+returns-then-key-key_cells : tie.Need-returns-then-key-key_cells
+returns-then-key-key_cells c = λ g _. absurd (c.if-key-key_cells.true (g.key_below.long ∙ sym (c.key_cells.ensures g.allowed)))
 
-returns-4 : tie.Need-returns-4
-returns-4 c = λ g _. absurd (c.if4.true (g.rounds_below.long ∙ sym (c.before.round-cells.ensures g.allowed)))
+returns-then-rounds-round_cells : tie.Need-returns-then-rounds-round_cells
+returns-then-rounds-round_cells c = λ g _. absurd (c.if-rounds-round_cells.true (g.rounds_below.long ∙ sym (c.round_cells.ensures g.allowed)))
 
-every-row-accepted-requires : tie.Need-every-row-accepted-requires
-every-row-accepted-requires c κs =
-    let four = c.before in
-    let three = four.before.before in
-    let two = three.before.before in
-    let one = two.before.before in
-    let e = sym one.before.settings-refusal.ensures ∙ one.if1.false in
+every_row_accepted-requires : tie.Need-every_row_accepted-requires
+every_row_accepted-requires c κs =
+    let four = c in
+    let three = four in
+    let two = three in
+    let one = two in
+    let e = sym one.settings_refusal.ensures ∙ one.if-settings_refusal-ne0.false in
     record {
       allowed = e;
       wide = degree_most _ (settings-valid _ e);
-      commitment-long = le_of_eq (sym (two.if2.false ∙ two.before.item-cells.ensures.0 e));
-      key_long = three.if3.false ∙ three.before.key-cells.ensures e;
-      rounds_long = four.if4.false ∙ four.before.round-cells.ensures e;
+      commitment-long = le_of_eq (sym (two.if-commitment-item_cells.false ∙ two.item_cells.ensures.0 e));
+      key_long = three.if-key-key_cells.false ∙ three.key_cells.ensures e;
+      rounds_long = four.if-rounds-round_cells.false ∙ four.round_cells.ensures e;
     }
 
-returns-5 : tie.Need-returns-5
-returns-5 c = λ g _. c.every-row-accepted.ensures g ∙ flat-accepts _ _ _ _ _ _
+returns : tie.Need-returns
+returns c = λ g _. c.every_row_accepted.ensures g ∙ flat-accepts _ _ _ _ _ _
 
 pub accepted_spec : {M : Type 1} → statement M
 accepted_spec =
     tie.close
-    (tie.spec (λ c κs. search rules) returns (λ c κs. search rules) returns-2 (λ c κs. search rules) returns-3 (λ c κs. search rules) returns-4
-    (λ c. search rules) every-row-accepted-requires returns-5)
+    (tie.spec (λ c κs. search rules) returns-then-settings_refusal-ne0 (λ c κs. search rules) returns-then-commitment-item_cells (λ c κs. search rules) returns-then-key-key_cells (λ c κs. search rules) returns-then-rounds-round_cells
+    (λ c. search rules) every_row_accepted-requires returns)

@@ -24,52 +24,52 @@ module _ (s : tie.Start) where
       (omega (arith, s.requires.1, (settings-valid s.args.settings s.requires.0.allowed).rows_most_holds)) s.requires.0.wide
 
   place_inside : s.args.i * s.args.step ≤ length s.args.commitment.now
-  place_inside = omega (arith, row_inside s.args.step s.args.settings.rows s.args.i s.pre.1, s.pre.0.commitment-long)
+  place_inside = omega (arith, row_inside s.args.step s.args.settings.rows s.args.i s.requires.1, s.requires.0.commitment-long)
 
 -- its part of the key
-module _ (c : tie.After-cells) where
+module _ (c : tie.After-cells-n) where
   abbrev s : tie.Start
   s = c.before.before.before.before.before
 
-  lent : KeyPart s.args.settings s.args.key.now s.args.i c.cells.result
-  lent = key_part s.args.settings s.pre.0.allowed s.args.key.now s.args.i _ (c.cells.ensures s.pre.0.allowed) s.pre.1 s.pre.0.key_long
+  lent : KeyPart s.args.settings s.args.key.now s.args.i c.cells-n.result
+  lent = key_part s.args.settings s.requires.0.allowed s.args.key.now s.args.i _ (c.cells-n.ensures s.requires.0.allowed) s.requires.1 s.requires.0.key_long
 
-mul_at : tie.Need-overflow-mul-at
-mul_at c = record { fits = omega (arith, place-few c.before.before.before.before) }
+overflow_mul-at : tie.Need-overflow_mul-at
+overflow_mul-at c = record { fits = omega (arith, place-few c.before.before.before.before) }
 
-mul-from : tie.Need-overflow-mul-from
-mul-from c = record { fits = omega (arith, (lent c).inside, (lent c).few) }
+overflow_mul-from : tie.Need-overflow_mul-from
+overflow_mul-from c = record { fits = omega (arith, (lent c).inside, (lent c).few) }
 
-add-to : tie.Need-overflow-add-to
-add-to c = record { fits = omega (arith, (lent c).inside, (lent c).few) }
+overflow_add-to : tie.Need-overflow_add-to
+overflow_add-to c = record { fits = omega (arith, (lent c).inside, (lent c).few) }
 
-mul-row-accepted : tie.Need-overflow-mul-row-accepted
-mul-row-accepted c = record { fits = omega (arith, place-few (s c.before)) }
+offset_bounds-commitment-at : tie.Need-offset_bounds-commitment-at
+offset_bounds-commitment-at c = record { fits = omega (arith, place-few (s c.before)) }
 
-sub-row-accepted : tie.Need-overflow-sub-row-accepted
-sub-row-accepted c = place_inside (s c.before)
+slice_bounds-row_accepted-count : tie.Need-slice_bounds-row_accepted-count
+slice_bounds-row_accepted-count c = place_inside (s c.before)
 
-part-row-accepted-start : tie.Need-slice-bounds-row-accepted-start
-part-row-accepted-start c = place_inside (s c.before)
+slice_bounds-row_accepted-start : tie.Need-slice_bounds-row_accepted-start
+slice_bounds-row_accepted-start c = place_inside (s c.before)
 
-mul-row-accepted-2 : tie.Need-overflow-mul-row-accepted-2
-mul-row-accepted-2 c = record { fits = omega (arith, (lent c.before.before).inside, (lent c.before.before).few) }
+offset_bounds-key-from : tie.Need-offset_bounds-key-from
+offset_bounds-key-from c = record { fits = omega (arith, (lent c.before.before).inside, (lent c.before.before).few) }
 
-part-row-accepted-end-2 : tie.Need-slice-bounds-row-accepted-end-2
-part-row-accepted-end-2 c = (lent c.before.before).inside
+slice_bounds-row_accepted-end-2 : tie.Need-slice_bounds-row_accepted-end-2
+slice_bounds-row_accepted-end-2 c = (lent c.before.before).inside
 
 returns : tie.Need-returns
 returns c = λ g.
-    let b = c.before.before.before.before in
-    let w = b.before in
-    let p = (s w).requires in
-    let a = (s w).args in
+    let b = c in
+    let w = b in
+    let p = (s w.before.before.before.before.before).requires in
+    let a = (s w.before.before.before.before.before).args in
     let S = a.settings in
     let row = key_row S a.key.now a.i in
-    let key = (lent w).row in
-    let start = b.row-start.ensures.0 g.allowed p.1 in
+    let key = (lent w.before.before.before.before.before).row in
+    let start = b.row_start-start.ensures.0 g.allowed p.1 in
     c.row_accepted.ensures (
-    subst (λ k. RowGiven S (length a.last.now) k (part b.row-start.result a.rounds.now) a.challenges.now) (sym key)
+    subst (λ k. RowGiven S (length a.last.now) k (part b.row_start-start.result a.rounds.now) a.challenges.now) (sym key)
     (subst (λ at. RowGiven S (length a.last.now) row (part at a.rounds.now) a.challenges.now) (sym start)
     (row_given S a.rounds.now a.challenges.now a.last.now a.i p.1 a.key.now g)))
     ∙ (λ z. accepted S (key z) (lent_row S (part (a.i * a.step) a.commitment.now) (part (start z) a.rounds.now) a.challenges.now a.last.now))
@@ -79,6 +79,6 @@ returns c = λ g.
 pub accepted_at_spec : {M : Type 1} → statement M
 accepted_at_spec =
     tie.close
-    (tie.spec mul_at (λ c κs. search rules) mul-from add-to (λ c κs. search rules) mul-row-accepted sub-row-accepted part-row-accepted-start (λ c. search rules)
-    mul-row-accepted-2 (λ c. search rules) (λ c. search rules) part-row-accepted-end-2 (λ c. search rules) (λ c. search rules) (λ c. search rules) (λ c. search rules)
+    (tie.spec overflow_mul-at (λ c κs. search rules) overflow_mul-from overflow_add-to (λ c κs. search rules) offset_bounds-commitment-at slice_bounds-row_accepted-count slice_bounds-row_accepted-start (λ c. search rules)
+    offset_bounds-key-from (λ c. search rules) (λ c. search rules) slice_bounds-row_accepted-end-2 (λ c. search rules) (λ c. search rules) (λ c. search rules) (λ c. search rules)
     (λ c κs. search rules) returns)

@@ -22,53 +22,53 @@ use Rattle.transcripts.proofs.rounds_hold.Tie as tie
 abbrev row : Settings → List ℕ → List ℕ → List ℕ → Transcript
 row settings claim rounds challenges = whole claim (row_table settings (round_items settings) rounds) challenges
 
-abbrev invariant-loop : tie.invariant-loop
-invariant-loop settings rounds challenges claim₀ depth t₀ claim t =
+abbrev invariant-loop-t : tie.invariant-loop-t
+invariant-loop-t settings rounds challenges claim₀ depth t₀ claim t =
     (t ≤ settings.depth)
     × (length claim ≡ length claim₀)
     × Provided (RoundsGiven settings rounds (length claim₀)) (
     (every t (holds_at settings (row settings claim₀ rounds challenges)) ≡ true)
     × Alike settings.degree claim (claim_after settings (row settings claim₀ rounds challenges) t))
 
-abbrev decreases-loop : tie.decreases-loop
-decreases-loop settings rounds challenges claim₀ depth t₀ claim t = settings.depth - t
+abbrev decreases-loop-t : tie.decreases-loop-t
+decreases-loop-t settings rounds challenges claim₀ depth t₀ claim t = settings.depth - t
 
-loop-holds : tie.Need-loop-init invariant-loop decreases-loop
+loop-t-init : tie.Need-loop-t-init invariant-loop-t decreases-loop-t
 unfolding claim_after
-loop-holds c = (omega arith, search rules, λ g. (every-none _, λ k l. refl))
+loop-t-init c = (omega arith, search rules, λ g. (every-none _, λ k l. refl))
 
-returns : tie.Need-returns invariant-loop decreases-loop
-returns c = λ g.
-    let l = c.before.before.before.before.loop in
-    let a = c.before.before.before.before.before.before.before.before.args in
+returns-then-not-polynomial_holds : tie.Need-returns-then-not-polynomial_holds invariant-loop-t decreases-loop-t
+returns-then-not-polynomial_holds c = λ g.
+    let l = c.loop-t in
+    let a = c.args in
     let S = a.settings in
     let held = l.invariant.2 g in
-    let says = c.before.polynomial-holds.ensures (round-read S a.rounds.now _ _ g l.invariant.1 l.t (omega arith))
+    let says = c.polynomial_holds.ensures (round-read S a.rounds.now _ _ g l.invariant.1 l.t (omega arith))
     ∙ round_is S a.claim.now a.rounds.now a.challenges.now l.t (omega arith) l.claim held.1 in
-    record { every_round = every_fails _ _ l.t (omega arith) (sym says ∙ not-true _ c.if1.true); claim_is = λ e. absurd (true≢false (sym e)) }
+    record { every_round = every_fails _ _ l.t (omega arith) (sym says ∙ not-true _ c.if-not-polynomial_holds.true-raw); claim_is = λ e. absurd (true≢false (sym e)) }
 
-loop-again : tie.Need-loop-preserved invariant-loop decreases-loop
-loop-again c =
-    let l = c.before.before.before.before.before.before.before.before.before.loop in
-    let a = c.before.before.before.before.before.before.before.before.before.before.before.before.before.args in
+loop-t-preserved : tie.Need-loop-t-preserved invariant-loop-t decreases-loop-t
+loop-t-preserved c =
+    let l = c.loop-t in
+    let a = c.args in
     let S = a.settings in
-    let n = c.before.before.next-claim in (
+    let n = c.next_claim in (
       omega arith,
-      n.auto.1.1.1.1.0 ∙ l.invariant.1,
+      n.auto.claim ∙ l.invariant.1,
       λ g.
           let held = l.invariant.2 g in
-          let says = c.before.before.before.before.before.before.polynomial-holds.ensures (round-read S a.rounds.now _ _ g l.invariant.1 l.t (omega arith))
+          let says = c.polynomial_holds.ensures (round-read S a.rounds.now _ _ g l.invariant.1 l.t (omega arith))
           ∙ round_is S a.claim.now a.rounds.now a.challenges.now l.t (omega arith) l.claim held.1 in (
-            every_goes_on _ l.t held.0 (sym says ∙ not-false _ c.before.before.before.before.before.if1.false),
-            claim-goes-on S a.claim.now a.rounds.now a.challenges.now l.t (omega arith) c.before.before.before.before.entry.ensures n.new.1.1.1.1.0
+            every_goes_on _ l.t held.0 (sym says ∙ not-false _ c.if-not-polynomial_holds.false-raw),
+            claim-goes-on S a.claim.now a.rounds.now a.challenges.now l.t (omega arith) c.entry-e.ensures n.new.claim
                 (n.ensures (claim-read S a.rounds.now _ _ g l.invariant.1 l.t (omega arith))),
           ),
     )
 
-returns-2 : tie.Need-returns-2 invariant-loop decreases-loop
-returns-2 c = λ g.
-    let l = c.before.loop in
-    let a = c.before.before.before.before.before.args in
+returns : tie.Need-returns invariant-loop-t decreases-loop-t
+returns c = λ g.
+    let l = c.loop-t in
+    let a = c.args in
     let all : l.t ≡ a.settings.depth = omega arith in
     let held = l.invariant.2 g in
     record {
@@ -79,5 +79,5 @@ returns-2 c = λ g.
 pub rounds_hold_spec : {M : Type 1} → statement M
 rounds_hold_spec =
     tie.close
-    (tie.spec invariant-loop decreases-loop loop-holds (λ c κs. search rules) (λ c. search rules) returns (λ c. search rules) (λ c κs. search rules)
-    (λ c κs. search rules) (λ c. search rules) (λ c. search rules) loop-again (λ c. search rules) returns-2)
+    (tie.spec invariant-loop-t decreases-loop-t loop-t-init (λ c κs. search rules) (λ c. search rules) returns-then-not-polynomial_holds (λ c. search rules) (λ c κs. search rules)
+    (λ c κs. search rules) (λ c. search rules) (λ c. search rules) loop-t-preserved (λ c. search rules) returns)

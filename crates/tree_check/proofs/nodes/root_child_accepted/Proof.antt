@@ -51,8 +51,8 @@ unfolding child
 subtree_accepted-requires b κs =
     let g = s b in
     let S = g.args.settings in
-    let first = b.before.before.before.nodes in (
-      (g.requires.0, omega (arith, wide g, b.before.before.before.before.before.before.before.before.before.before.claim_to.auto.1.1.1.1.1.0)),
+    let first = b.nodes-first in (
+      (g.requires.0, omega (arith, wide g, b.claim_to.auto.claim)),
       at-child S S.depth 0 first.result (2 * cells S) (root g first.result (first.ensures.0 g.requires.0.allowed)) g.requires.1.up g.args.j _ _ g.requires.2
           (λ _. child 0 g.args.j) (omega (arith, lent b, g.requires.1.key_long)),
     )
