@@ -68,7 +68,7 @@ returns c = λ z.
     let long1 : item_cells S ≤ length C1 = omega (
       arith,
       room,
-      c.inner_rows.kept.1.1.1.1.1.1.1.1.0,
+      c.inner_rows.auto.out,
     ) in
     let long2 : item_cells S ≤ length C2 = omega (
       arith,

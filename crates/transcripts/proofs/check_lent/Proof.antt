@@ -38,7 +38,7 @@ says : (c : tie.After-every_row_accepted) → let a = c.args in
     c.every_row_accepted.result ≡ all_accepted a.settings a.key.now (T a.settings a.commitment.now a.key.now a.rounds.now a.challenges.now a.last.now)
 says c =
     let a = c.args in
-    c.every_row_accepted.ensures (given c.before.before.before _ c.every_row_accepted-arg-2-1.given.0)
+    c.every_row_accepted.ensures (given c.before.before.before _ c.every_row_accepted-arg-2-1.given)
     ∙ value-accepts a.settings a.rounds.now a.challenges.now a.last.now a.key.now a.commitment.now
 
 returns-then-refusal-ne0 : tie.Need-returns-then-refusal-ne0

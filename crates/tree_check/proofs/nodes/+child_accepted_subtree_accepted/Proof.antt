@@ -198,7 +198,7 @@ child-accepted-subtree-accepted-requires :
 child-accepted-subtree-accepted-requires t c κs =
     let g = c in
     let b = c in
-    (omega (arith, higher t g.before.before.before.before.before.before.before.before.before.before.before.before.before), ((g.requires.1.0.0, claim-room t b.before.before), below t g.before.before.before.before.before.before.before.before.before.before.before.before.before (after t b) (folded-long t b.before.before)))
+    (omega (arith, higher t g.before.before.before.before.before.before.before.before.before.before.before.before.before), ((g.requires.1.0.0, claim-room t b.before.before), below t g.before.before.before.before.before.before.before.before.before.before.before.before.before (after t b.before.before) (folded-long t b.before.before)))
 
 child-accepted-same-length : (t : ℕ) → child-accepted-lts.Need-shape_of-ws (child-calls t) (child-accepted-at t) child-accepted.Post
 child-accepted-same-length t c = let U = after t c.before.before.before.before.before in
@@ -210,7 +210,7 @@ child-accepted-returns t c = λ read.
     let g = c in
     let a = g.args in
     let b = c in
-    let U = after t b in
+    let U = after t b.before.before.before.before.before in
     let half = half_is t g.before.before.before.before.before.before.before.before.before.before.before.before.before.before.before.before U (folded-long t b.before.before.before.before.before) in
     let folded = folded-is t b.before.before.before.before.before read.key_below in
     let pq : 0 < a.settings.modulus = omega (arith, (settings-valid a.settings (allowed t g.before.before.before.before.before.before.before.before.before.before.before.before.before.before.before.before)).modulus_least) in

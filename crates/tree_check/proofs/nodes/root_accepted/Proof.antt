@@ -66,7 +66,7 @@ children e b is =
     let a = e.before.before.before.before.before.before.before.before.args in
     is
     ∙ sym (ap (λ b. b && every 3 (child_accepted a.settings (tree_row a.settings a.rounds.now) a.challenges.now a.leaves.now a.settings.depth 0 a.key.now))
-    (sym e.before.node_holds.ensures ∙ not-false _ e.if2.left))
+    (sym e.before.node_holds.ensures ∙ not-false _ e.if-not-node_holds.false-raw))
     ∙ root_tests a.settings (tree_row a.settings a.rounds.now) a.challenges.now a.leaves.now a.commitment.now a.key.now (omega arith)
 
 returns-then-key-le-FEW : tie.Need-returns-then-key-le-FEW
