@@ -20,40 +20,40 @@ use Rattle.claim_tables.proofs.written.Tie as tie
 abbrev item : Settings → List ℕ → List ℕ → List ℕ → ℕ → Bool
 item S rounds E claims i = claim_written S (claimed rounds E) claims (i / S.rows) (i % S.rows)
 
-abbrev invariant-loop : tie.invariant-loop
-invariant-loop settings rounds challenges claims count i₀ i =
+abbrev invariant-loop-i : tie.invariant-loop-i
+invariant-loop-i settings rounds challenges claims count i₀ i =
     (i ≤ count) × Provided (Given settings rounds) (Provided (length claims ≡ claim_cells settings) ((count ≡ claim_items settings) × (every i (item settings rounds challenges claims) ≡ true)))
 
-abbrev decreases-loop : tie.decreases-loop
-decreases-loop settings rounds challenges claims count i₀ i = count - i
+abbrev decreases-loop-i : tie.decreases-loop-i
+decreases-loop-i settings rounds challenges claims count i₀ i = count - i
 
-loop-holds : tie.Need-loop-init invariant-loop decreases-loop
-loop-holds c = (omega arith, λ g e. (c.items.ensures.0 g.allowed, every-none _))
+loop-i-init : tie.Need-loop-i-init invariant-loop-i decreases-loop-i
+loop-i-init c = (omega arith, λ g e. (c.items-total.ensures.0 g.allowed, every-none _))
 
-returns : tie.Need-returns invariant-loop decreases-loop
-returns c = λ g e.
-    let w = c.before in
-    let l = w.before.before.loop in
-    let a = w.before.before.before.before.before.before.before.args in
+returns-then-not-item_written : tie.Need-returns-then-not-item_written invariant-loop-i decreases-loop-i
+returns-then-not-item_written c = λ g e.
+    let w = c in
+    let l = w.loop-i in
+    let a = w.args in
     let (whole, before) = l.invariant.1 g e in
-    let says = w.item-written.ensures (g, omega arith, e) in
-    every_fails (item a.settings a.rounds.now a.challenges.now a.claims.now) (claim_items a.settings) l.i (omega arith) (sym says ∙ not-true _ c.if1.true)
+    let says = w.item_written.ensures (g, omega arith, e) in
+    every_fails (item a.settings a.rounds.now a.challenges.now a.claims.now) (claim_items a.settings) l.i (omega arith) (sym says ∙ not-true _ c.if-not-item_written.true-raw)
     ∙ all_written a.settings a.rounds.now a.challenges.now g a.claims.now
 
-loop-again : tie.Need-loop-preserved invariant-loop decreases-loop
-loop-again c =
-    let w = c.before in
-    let l = w.before.before.loop in (
+loop-i-preserved : tie.Need-loop-i-preserved invariant-loop-i decreases-loop-i
+loop-i-preserved c =
+    let w = c in
+    let l = w.loop-i in (
       omega arith,
       λ g e.
           let (whole, before) = l.invariant.1 g e in
-          (whole, every_goes_on _ _ before (sym (w.item-written.ensures (g, omega arith, e)) ∙ not-false _ c.if1.false)),
+          (whole, every_goes_on _ _ before (sym (w.item_written.ensures (g, omega arith, e)) ∙ not-false _ c.if-not-item_written.false-raw)),
     )
 
-returns-2 : tie.Need-returns-2 invariant-loop decreases-loop
-returns-2 c = λ g e.
-    let l = c.before.loop in
-    let a = c.before.before.before.before.before.before.args in
+returns : tie.Need-returns invariant-loop-i decreases-loop-i
+returns c = λ g e.
+    let l = c.loop-i in
+    let a = c.args in
     let (whole, before) = l.invariant.1 g e in
     every_ends (item a.settings a.rounds.now a.challenges.now a.claims.now) (claim_items a.settings) l.i before (omega arith)
     ∙ all_written a.settings a.rounds.now a.challenges.now g a.claims.now
@@ -61,4 +61,4 @@ returns-2 c = λ g e.
 pub written_spec : {M : Type 1} → statement M
 written_spec =
     tie.close
-    (tie.spec invariant-loop decreases-loop (λ c κs. search rules) loop-holds (λ c κs. search rules) returns (λ c. search rules) (λ c. search rules) loop-again returns-2)
+    (tie.spec invariant-loop-i decreases-loop-i (λ c κs. search rules) loop-i-init (λ c κs. search rules) returns-then-not-item_written (λ c. search rules) (λ c. search rules) loop-i-preserved returns)

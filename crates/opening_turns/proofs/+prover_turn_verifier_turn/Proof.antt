@@ -51,68 +51,68 @@ prover-calls t = (entry-reads.Asked, entry-reads.Learnt, prove-round-reads.Asked
 abbrev verifier-calls : ℕ → verifier-turn-lts.Claims
 verifier-calls t = (check-round-reads.Asked, check-round-reads.Learnt, prover-turn-below t, prover-turn.Post)
 
-prover-turn-returns : (t : ℕ) → prover-turn-lts.Need-returns (prover-calls t) (prover-turn-at t) prover-turn.Post
-prover-turn-returns t c = let a = c.before.before.before.before.before.before.args in
+prover-turn-returns : (t : ℕ) → prover-turn-lts.Need-returns-then-t-settings (prover-calls t) (prover-turn-at t) prover-turn.Post
+prover-turn-returns t c = let a = c.args in
     prover_stops a.settings a.challenges.now a.state a.claims.now a.key.now a.message.now a.rounds.now (omega arith)
 
-prover-turn-cast-entry : (t : ℕ) → prover-turn-lts.Need-overflow-cast-entry (prover-calls t) (prover-turn-at t) prover-turn.Post
+prover-turn-cast-entry : (t : ℕ) → prover-turn-lts.Need-overflow_cast-t (prover-calls t) (prover-turn-at t) prover-turn.Post
 prover-turn-cast-entry t c = search rules
 
-prover-turn-entry-requires : (t : ℕ) → prover-turn-lts.Need-entry-requires (prover-calls t) (prover-turn-at t) prover-turn.Post
+prover-turn-entry-requires : (t : ℕ) → prover-turn-lts.Need-entry-e-requires (prover-calls t) (prover-turn-at t) prover-turn.Post
 prover-turn-entry-requires t c κs = search rules
 
-prover-turn-prove-round-requires : (t : ℕ) → prover-turn-lts.Need-prove-round-requires (prover-calls t) (prover-turn-at t) prover-turn.Post
+prover-turn-prove-round-requires : (t : ℕ) → prover-turn-lts.Need-prove_round-requires (prover-calls t) (prover-turn-at t) prover-turn.Post
 prover-turn-prove-round-requires t c κs = omega arith
 
-prover-turn-verifier-turn-requires : (t : ℕ) → prover-turn-lts.Need-verifier-turn-requires (prover-calls t) (prover-turn-at t) prover-turn.Post
+prover-turn-verifier-turn-requires : (t : ℕ) → prover-turn-lts.Need-verifier_turn-requires (prover-calls t) (prover-turn-at t) prover-turn.Post
 prover-turn-verifier-turn-requires t c κs = (omega arith, omega arith)
 
-prover-turn-same-length : (t : ℕ) → prover-turn-lts.Need-same-length (prover-calls t) (prover-turn-at t) prover-turn.Post
+prover-turn-same-length : (t : ℕ) → prover-turn-lts.Need-shape_of-claims (prover-calls t) (prover-turn-at t) prover-turn.Post
 prover-turn-same-length t c = search rules
 
-prover-turn-same-length-2 : (t : ℕ) → prover-turn-lts.Need-same-length-2 (prover-calls t) (prover-turn-at t) prover-turn.Post
+prover-turn-same-length-2 : (t : ℕ) → prover-turn-lts.Need-shape_of-key (prover-calls t) (prover-turn-at t) prover-turn.Post
 prover-turn-same-length-2 t c = search rules
 
-prover-turn-same-length-3 : (t : ℕ) → prover-turn-lts.Need-same-length-3 (prover-calls t) (prover-turn-at t) prover-turn.Post
+prover-turn-same-length-3 : (t : ℕ) → prover-turn-lts.Need-shape_of-message (prover-calls t) (prover-turn-at t) prover-turn.Post
 prover-turn-same-length-3 t c = search rules
 
-prover-turn-same-length-4 : (t : ℕ) → prover-turn-lts.Need-same-length-4 (prover-calls t) (prover-turn-at t) prover-turn.Post
+prover-turn-same-length-4 : (t : ℕ) → prover-turn-lts.Need-shape_of-rounds (prover-calls t) (prover-turn-at t) prover-turn.Post
 prover-turn-same-length-4 t c = search rules
 
-prover-turn-returns-2 : (t : ℕ) → prover-turn-lts.Need-returns-2 (prover-calls t) (prover-turn-at t) prover-turn.Post
+prover-turn-returns-2 : (t : ℕ) → prover-turn-lts.Need-returns (prover-calls t) (prover-turn-at t) prover-turn.Post
 prover-turn-returns-2 t c =
-    let rest = c.before.before.before.before.before.before.before in
-    let proved = rest.before.before.before.before.before.before.before.before.before.before in
-    let read = proved.before.before.before.before.before in
-    let a = read.before.before.before.before.before.before.before.args in
+    let rest = c in
+    let proved = rest in
+    let read = proved in
+    let a = read.args in
     prover_goes a.settings a.challenges.now a.state a.claims.now a.key.now a.message.now a.rounds.now (omega arith) _ _ _ _ _ _ _ _ _
-    read.entry.ensures proved.prove-round.ensures rest.verifier-turn.ensures
+    read.entry-e.ensures proved.prove_round.ensures rest.verifier_turn.ensures
 
-verifier-turn-check-round-requires : (t : ℕ) → verifier-turn-lts.Need-check-round-requires (verifier-calls t) (verifier-turn-at t) verifier-turn.Post
+verifier-turn-check-round-requires : (t : ℕ) → verifier-turn-lts.Need-check_round-next-requires (verifier-calls t) (verifier-turn-at t) verifier-turn.Post
 verifier-turn-check-round-requires t c κs = omega arith
 
-verifier-turn-prover-turn-requires : (t : ℕ) → verifier-turn-lts.Need-prover-turn-requires (verifier-calls t) (verifier-turn-at t) verifier-turn.Post
-verifier-turn-prover-turn-requires t c κs = (omega (arith, c.before.before.before.before.before.before.check-round.ensures.done_is), tt)
+verifier-turn-prover-turn-requires : (t : ℕ) → verifier-turn-lts.Need-prover_turn-requires (verifier-calls t) (verifier-turn-at t) verifier-turn.Post
+verifier-turn-prover-turn-requires t c κs = (omega (arith, c.check_round-next.ensures.done_is), tt)
 
-verifier-turn-same-length : (t : ℕ) → verifier-turn-lts.Need-same-length (verifier-calls t) (verifier-turn-at t) verifier-turn.Post
+verifier-turn-same-length : (t : ℕ) → verifier-turn-lts.Need-shape_of-claims (verifier-calls t) (verifier-turn-at t) verifier-turn.Post
 verifier-turn-same-length t c = search rules
 
-verifier-turn-same-length-2 : (t : ℕ) → verifier-turn-lts.Need-same-length-2 (verifier-calls t) (verifier-turn-at t) verifier-turn.Post
+verifier-turn-same-length-2 : (t : ℕ) → verifier-turn-lts.Need-shape_of-key (verifier-calls t) (verifier-turn-at t) verifier-turn.Post
 verifier-turn-same-length-2 t c = search rules
 
-verifier-turn-same-length-3 : (t : ℕ) → verifier-turn-lts.Need-same-length-3 (verifier-calls t) (verifier-turn-at t) verifier-turn.Post
+verifier-turn-same-length-3 : (t : ℕ) → verifier-turn-lts.Need-shape_of-message (verifier-calls t) (verifier-turn-at t) verifier-turn.Post
 verifier-turn-same-length-3 t c = search rules
 
-verifier-turn-same-length-4 : (t : ℕ) → verifier-turn-lts.Need-same-length-4 (verifier-calls t) (verifier-turn-at t) verifier-turn.Post
+verifier-turn-same-length-4 : (t : ℕ) → verifier-turn-lts.Need-shape_of-rounds (verifier-calls t) (verifier-turn-at t) verifier-turn.Post
 verifier-turn-same-length-4 t c = search rules
 
 verifier-turn-returns : (t : ℕ) → verifier-turn-lts.Need-returns (verifier-calls t) (verifier-turn-at t) verifier-turn.Post
 verifier-turn-returns t c =
-    let rest = c.before.before.before.before.before.before.before in
-    let checked = rest.before.before.before.before.before.before.before in
-    let a = checked.before.before.before.before.before.before.before.args in
+    let rest = c in
+    let checked = rest in
+    let a = checked.args in
     verifier_goes a.settings a.challenges.now a.state a.claims.now a.key.now a.message.now a.rounds.now (omega arith) a.e _ _ _ _ _ _ _
-    checked.check-round.ensures rest.prover-turn.ensures
+    checked.check_round-next.ensures rest.prover_turn.ensures
 
 pub +prover_turn_verifier_turn_spec : {M : Type 1} → statement M
 +prover_turn_verifier_turn_spec = close μ-prover-turn μ-verifier-turn (λ t. prover-turn-lts.spec (prover-calls t)

@@ -5,8 +5,8 @@ use Rattle.opening_turns.proofs.check_round.Tie as tie
 
 returns : tie.Need-returns
 returns c =
-    let rows = c.before.before.before.check-rows in
-    record { done_is = refl; claims_kept = rows.auto.1.1.1.0; met = rows.result; holds_is = refl; checked = rows.ensures }
+    let rows = c.check_rows-met in
+    record { done_is = refl; claims_kept = rows.auto.claims; met = rows.result; holds_is = refl; checked = rows.ensures }
 
 pub check_round_spec : {M : Type 1} → statement M
 check_round_spec = tie.close (tie.spec (λ c κs. search rules) (λ c. search rules) (λ c. search rules) returns)

@@ -5,12 +5,12 @@ use Rattle.opening_turns.proofs.prove_round.Tie as tie
 
 returns : tie.Need-returns
 returns c =
-    let first = c.before.before in
-    let folded = first.before.before.before.before.before.before.before in
-    let rest = folded.before.before.before.before.before in
-    let a = rest.before.before.before.before.before.before.before.args in
+    let first = c in
+    let folded = first in
+    let rest = folded in
+    let a = rest.args in
     prover_moves a.settings a.t a.e a.claims.now a.key.now a.message.now a.rounds.now _ _ _ _
-    rest.write-rest.ensures folded.fold-tables.ensures first.write-first.ensures.0 first.write-first.ensures.1
+    rest.write_rest.ensures folded.fold_tables.ensures first.write_first.ensures.0 first.write_first.ensures.1
 
 pub prove_round_spec : {M : Type 1} → statement M
 prove_round_spec =

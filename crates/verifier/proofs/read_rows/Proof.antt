@@ -30,29 +30,29 @@ same : (S : Settings) → settings_refusal S ≡ 0 → (w : ℕ) (C : List ℕ) 
 same S ok w C i k h l =
     tail_at (i * w) C k 0 ∙ sym (lent_at S ok w C i k h l) ∙ sym (tabulate_at S.degree (λ k. lists.get_or (value_row (lent_rows S w C) i) k 0) 0 k l)
 
-abbrev invariant-loop : tie.invariant-loop
-invariant-loop settings step commitment claims₀ n i₀ claims i =
+abbrev invariant-loop-i : tie.invariant-loop-i
+invariant-loop-i settings step commitment claims₀ n i₀ claims i =
     (i ≤ n) × (lists.length claims ≡ rows_width) × Provided ((settings_refusal settings ≡ 0) × RowsLent settings step (lists.length commitment) × (claims₀ ≡ zeros rows_width))
     (claims ≡ first_rows settings (row_read settings (lent_rows settings step commitment)) i)
 
-abbrev decreases-loop : tie.decreases-loop
-decreases-loop settings step commitment claims₀ n i₀ claims i = n - i
+abbrev decreases-loop-i : tie.decreases-loop-i
+decreases-loop-i settings step commitment claims₀ n i₀ claims i = n - i
 
-loop-holds : tie.Need-loop-init invariant-loop decreases-loop
-loop-holds c = (omega arith, search rules, λ g. g.2 ∙ rows_none _ _)
+loop-i-init : tie.Need-loop-i-init invariant-loop-i decreases-loop-i
+loop-i-init c = (omega arith, search rules, λ g. g.2 ∙ rows_none _ _)
 
-loop-again : tie.Need-loop-preserved invariant-loop decreases-loop
-loop-again c =
-    let l = c.before.before.before.before.before.before.before.loop in
-    let s = c.before.before.before.before.before.before.before.before.before.before.before in
+loop-i-preserved : tie.Need-loop-i-preserved invariant-loop-i decreases-loop-i
+loop-i-preserved c =
+    let l = c.loop-i in
+    let s = c in
     let S = s.args.settings in
     let C = s.args.commitment.now in
     let w = s.args.step in
     let R = lent_rows S w C in
     let to = l.i * width in
-    let n = c.before.before.store in (
+    let n = c.store in (
       omega arith,
-      n.auto.1.1.1.0 ∙ l.invariant.1,
+      n.auto.out ∙ l.invariant.1,
       λ g.
           let wide = degree_most S (settings-valid S g.0) in
           let h : l.i < S.rows = omega arith in
@@ -62,37 +62,37 @@ loop-again c =
           ∙ rows_more S (row_read S R) l.i (omega (arith, s.requires.0)) wide,
     )
 
-returns : tie.Need-returns invariant-loop decreases-loop
+returns : tie.Need-returns invariant-loop-i decreases-loop-i
 returns c = λ g.
-    let l = c.before.loop in
-    let a = c.before.before.before.before.before.args in
+    let l = c.loop-i in
+    let a = c.args in
     let all : l.i ≡ a.settings.rows = omega arith in
     l.invariant.2 g ∙ ap (first_rows a.settings (row_read a.settings (lent_rows a.settings a.step a.commitment.now))) all ∙ rows_all a.settings _
 
-places : (s : tie.Start invariant-loop decreases-loop) (i : ℕ) → i < s.args.settings.rows → i * s.args.step ≤ rows_most * width
+places : (s : tie.Start invariant-loop-i decreases-loop-i) (i : ℕ) → i < s.args.settings.rows → i * s.args.step ≤ rows_most * width
 places s i h = Nat.mul-le-mul {n₁ = i} {m₁ = s.args.step} {n₂ = rows_most} {m₂ = width} (omega (arith, s.requires.0)) s.requires.1
 
-mul-from : tie.Need-overflow-mul-from invariant-loop decreases-loop
-mul-from c =
-    let s = c.before.before.before.before.before in
-    record { fits = omega (arith, places s c.before.loop.i (omega arith)) }
+overflow_mul-from : tie.Need-overflow_mul-from invariant-loop-i decreases-loop-i
+overflow_mul-from c =
+    let s = c in
+    record { fits = omega (arith, places s.before.before.before.before.before c.loop-i.i (omega arith)) }
 
-mul-store : tie.Need-overflow-mul-store invariant-loop decreases-loop
-mul-store c =
-    let s = c.before.before.before.before.before.before in
-    record { fits = omega (arith, places s c.before.before.loop.i (omega arith)) }
+offset_bounds-commitment-from : tie.Need-offset_bounds-commitment-from invariant-loop-i decreases-loop-i
+offset_bounds-commitment-from c =
+    let s = c in
+    record { fits = omega (arith, places s.before.before.before.before.before.before c.loop-i.i (omega arith)) }
 
-sub-store : tie.Need-overflow-sub-store invariant-loop decreases-loop
-sub-store c =
-    let s = c.before.before.before.before.before.before in
-    omega (arith, s.requires.2, row_inside s.args.step s.args.settings.rows c.before.before.loop.i (omega arith))
+slice_bounds-store-count : tie.Need-slice_bounds-store-count invariant-loop-i decreases-loop-i
+slice_bounds-store-count c =
+    let s = c in
+    omega (arith, s.requires.2, row_inside s.args.step s.args.settings.rows c.loop-i.i (omega arith))
 
-part-store-start : tie.Need-slice-bounds-store-start invariant-loop decreases-loop
-part-store-start c = sub-store c
+slice_bounds-store-start : tie.Need-slice_bounds-store-start invariant-loop-i decreases-loop-i
+slice_bounds-store-start c = slice_bounds-store-count c
 
 pub read_rows_spec : {M : Type 1} → statement M
 read_rows_spec =
     tie.close
-    (tie.spec invariant-loop decreases-loop (λ c. search rules) loop-holds mul-from (λ c. record { fits = omega arith }) (λ c. search rules) mul-store sub-store part-store-start (λ c. search rules)
+    (tie.spec invariant-loop-i decreases-loop-i (λ c. search rules) loop-i-init overflow_mul-from (λ c. record { fits = omega arith }) (λ c. search rules) offset_bounds-commitment-from slice_bounds-store-count slice_bounds-store-start (λ c. search rules)
     (λ c κs. search rules)
-    (λ c. search rules) (λ c. omega arith) loop-again (λ c. search rules) returns)
+    (λ c. search rules) (λ c. omega arith) loop-i-preserved (λ c. search rules) returns)

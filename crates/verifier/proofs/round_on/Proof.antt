@@ -11,51 +11,51 @@ use Rattle.verifier.proofs.round_on.Statement.{statement}
 use Rattle.verifier.proofs.round_on.Tie as tie
 
 -- what is lent, and what is known with no refusal
-module _ (c : tie.Else1) where
+module _ (c : tie.Else-refusal-ne0) where
   abbrev s : tie.Start
-  s = c.before.before.before.before.before.before.before
+  s = c.before.before.before.before.before.before
 
   abbrev Lent : Type 0
   Lent = let a = s.args in RoundLent a.progress.settings (length a.claims.now) a.step (length a.c0.now) (length a.c1.now) (length a.c2.now)
 
   passed : Lent → let a = s.args in session_round_refusal (record_of a.progress a.claims.now) (lent_polynomial a.progress.settings a.step a.c0.now a.c1.now a.c2.now) a.e ≡ 0
-  passed lent = sym (c.before.round.ensures lent) ∙ c.if1.false
+  passed lent = sym (c.round-refusal.ensures lent) ∙ c.if-refusal-ne0.false
 
   given : Lent → let a = s.args in Passed a.progress a.claims.now a.step a.c0.now a.c1.now a.c2.now a.e
   given lent = let a = s.args in round_passed a.progress a.claims.now a.step a.c0.now a.c1.now a.c2.now a.e lent (passed lent)
 
-returns : tie.Need-returns
-returns c = λ lent.
-    let a = c.before.before.before.before.before.before.before.args in
-    round_refused a.progress a.claims.now a.step a.c0.now a.c1.now a.c2.now a.e _ (c.before.round.ensures lent) c.if1.true
+returns-then-refusal-ne0 : tie.Need-returns-then-refusal-ne0
+returns-then-refusal-ne0 c = λ lent.
+    let a = c.args in
+    round_refused a.progress a.claims.now a.step a.c0.now a.c1.now a.c2.now a.e _ (c.round-refusal.ensures lent) c.if-refusal-ne0.true
 
 -- whether the equation holds
-held : (c : tie.After-round-holds) (lent : Lent c.before.before.before) → let a = (s c.before.before.before).args in
-    c.round-holds.result ≡ session_round_holds (record_of a.progress a.claims.now) (lent_polynomial a.progress.settings a.step a.c0.now a.c1.now a.c2.now)
+held : (c : tie.After-round_holds) (lent : Lent c.before.before) → let a = (s c.before.before).args in
+    c.round_holds.result ≡ session_round_holds (record_of a.progress a.claims.now) (lent_polynomial a.progress.settings a.step a.c0.now a.c1.now a.c2.now)
 unfolding session_round_holds part
 held c lent =
-    let one = c.before.before.before in
-    let v = (given one lent).read in
-    c.round-holds.ensures (record { allowed = v.allowed; first = v.first_lent; third = v.third_lent }) lent.claims-long
+    let one = c in
+    let v = (given one.before.before lent).read in
+    c.round_holds.ensures (record { allowed = v.allowed; first = v.first_lent; third = v.third_lent }) lent.claims-long
 
-returns-2 : tie.Need-returns-2
-returns-2 c = λ lent.
-    let one = c.before.before.before.before.before in
-    let a = (s one).args in
-    round_rejected a.progress a.claims.now a.step a.c0.now a.c1.now a.c2.now a.e (passed one lent)
-    (sym (held c.before.before lent) ∙ not-true _ c.before.if2.true) _ c.shut.ensures
+returns-then-not-round_holds : tie.Need-returns-then-not-round_holds
+returns-then-not-round_holds c = λ lent.
+    let one = c in
+    let a = (s one.before.before.before.before).args in
+    round_rejected a.progress a.claims.now a.step a.c0.now a.c1.now a.c2.now a.e (passed one.before.before.before.before lent)
+    (sym (held c.before.before lent) ∙ not-true _ c.if-not-round_holds.true-raw) _ c.shut-closed.ensures
 
-returns-3 : tie.Need-returns-3
-returns-3 c = λ lent.
-    let one = c.before.before.before.before.before.before.before.before.before in
-    let no = c.before.before.before.before.before in
-    let a = (s one).args in
-    let g = given one lent in
-    round_counted a.progress a.claims.now a.step a.c0.now a.c1.now a.c2.now a.e (passed one lent) (sym (held no.before lent) ∙ not-false _ no.if2.false) _ _
-    (c.counted.ensures (omega (arith, g.turn, (settings-valid _ g.read.allowed).depth_most))) (c.before.before.before.next-claims.ensures (g.read, lent.claims-long))
+returns : tie.Need-returns
+returns c = λ lent.
+    let one = c in
+    let no = c in
+    let a = (s one.before.before.before.before.before.before.before.before).args in
+    let g = given one.before.before.before.before.before.before.before.before lent in
+    round_counted a.progress a.claims.now a.step a.c0.now a.c1.now a.c2.now a.e (passed one.before.before.before.before.before.before.before.before lent) (sym (held no.before.before.before.before.before.before lent) ∙ not-false _ no.if-not-round_holds.false-raw) _ _
+    (c.counted-next.ensures (omega (arith, g.turn, (settings-valid _ g.read.allowed).depth_most))) (c.next_claims.ensures (g.read, lent.claims-long))
 
 pub round_on_spec : {M : Type 1} → statement M
 round_on_spec =
     tie.close
-    (tie.spec (λ c κs. search rules) (λ c. search rules) returns (λ c κs. search rules) (λ c κs. search rules) (λ c. search rules) returns-2 (λ c κs. search rules)
-    (λ c κs. search rules) (λ c. search rules) returns-3)
+    (tie.spec (λ c κs. search rules) (λ c. search rules) returns-then-refusal-ne0 (λ c κs. search rules) (λ c κs. search rules) (λ c. search rules) returns-then-not-round_holds (λ c κs. search rules)
+    (λ c κs. search rules) (λ c. search rules) returns)

@@ -9,9 +9,9 @@ use Rattle.verifier.proofs.round_with.Tie as tie
 returns : tie.Need-returns
 unfolding part
 returns c =
-    let a = c.before.before.before.before.before.before.before.before.args in
+    let a = c.args in
     let lent = by_value a.progress.settings _ in
-    c.round-on.ensures (record {
+    c.round_on.ensures (record {
       claims-long = search;
       first = lent (search);
       second = by_value a.progress.settings _ (search);

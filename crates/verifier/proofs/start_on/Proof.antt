@@ -7,24 +7,24 @@ use borrow.Author.Rules.{rules}
 use Rattle.verifier.proofs.start_on.Statement.{statement}
 use Rattle.verifier.proofs.start_on.Tie as tie
 
-returns : tie.Need-returns
-returns c = λ lent long.
-    let refused = c.before.before.before.before.before in
-    let a = refused.before.before.before.before.args in
-    start-refused a.settings (lent_rows a.settings a.step a.commitment.now) _ _ (refused.before.start.ensures lent) refused.if1.true
-    (ap (record_of c.blank.result) (c.before.before.before.clear.ensures ∙ ap zeros long) ∙ c.blank.ensures)
+returns-then-refusal-ne0 : tie.Need-returns-then-refusal-ne0
+returns-then-refusal-ne0 c = λ lent long.
+    let refused = c in
+    let a = refused.args in
+    start-refused a.settings (lent_rows a.settings a.step a.commitment.now) _ _ (refused.start-refusal.ensures lent) refused.if-refusal-ne0.true
+    (ap (record_of c.blank-none.result) (c.clear.ensures ∙ ap zeros long) ∙ c.blank-none.ensures)
 
-returns-2 : tie.Need-returns-2
+returns : tie.Need-returns
 unfolding zeros slots
-returns-2 c = λ lent long.
-    let taken = c.before.before.before.before in
-    let a = taken.before.before.before.before.args in
+returns c = λ lent long.
+    let taken = c in
+    let a = taken.args in
     let C = lent_rows a.settings a.step a.commitment.now in
-    let z = sym (taken.before.start.ensures lent) ∙ taken.if1.false in
+    let z = sym (taken.start-refusal.ensures lent) ∙ taken.if-refusal-ne0.false in
     let ok = start-allowed a.settings C z in
-    start-done a.settings C z _ (c.before.before.first-claims.ensures (ok, lent ok, long))
+    start-done a.settings C z _ (c.first_claims.ensures (ok, lent ok, long))
 
 pub start_on_spec : {M : Type 1} → statement M
 start_on_spec =
     tie.close
-    (tie.spec (λ c κs. search rules) (λ c κs. search rules) (λ c κs. search rules) (λ c. search rules) returns (λ c κs. search rules) (λ c. search rules) returns-2)
+    (tie.spec (λ c κs. search rules) (λ c κs. search rules) (λ c κs. search rules) (λ c. search rules) returns-then-refusal-ne0 (λ c κs. search rules) (λ c. search rules) returns)

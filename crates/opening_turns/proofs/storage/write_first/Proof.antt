@@ -12,17 +12,17 @@ use borrow.Author.Rules.{rules}
 use Rattle.opening_turns.proofs.storage.write_first.Statement.{statement}
 use Rattle.opening_turns.proofs.storage.write_first.Tie as tie
 
-place : (c : tie.After-polynomial-at) → let a = c.before.before.before.before.before.args in round_refusal a.settings a.t a.key.now a.message.now ≡ 0 →
-    c.polynomial-at.result ≡ polynomial_at a.settings a.t
+place : (c : tie.After-polynomial_at-at) → let a = c.args in round_refusal a.settings a.t a.key.now a.message.now ≡ 0 →
+    c.polynomial_at-at.result ≡ polynomial_at a.settings a.t
 place c z =
-    let a = c.before.before.before.before.before.args in
+    let a = c.args in
     let (ok, _) = round_key a.settings a.key.now a.message.now a.t z in
     let g = round_given a.settings a.key.now a.message.now a.t z 0 (first_row a.settings ok) in
-    c.polynomial-at.ensures.0 ok (omega (arith, g.turn, g.tables.settings.depth_most))
+    c.polynomial_at-at.ensures.0 ok (omega (arith, g.turn, g.tables.settings.depth_most))
 
-returns : tie.Need-returns
-returns c = (
-  (λ z _. let a = c.before.before.before.before.args in absurd (omega (
+returns-then-t-settings : tie.Need-returns-then-t-settings
+returns-then-t-settings c = (
+  (λ z _. let a = c.args in absurd (omega (
     arith,
     (round_given a.settings a.key.now a.message.now a.t z 0
         (first_row a.settings (round_key a.settings a.key.now a.message.now a.t z).0)).turn,
@@ -30,17 +30,17 @@ returns c = (
   λ _. refl,
 )
 
-returns-2 : tie.Need-returns-2
-returns-2 c = ((λ z room. absurd (omega (arith, place c.before z, room))), λ stop. absurd (omega arith))
+returns-then-rounds-at : tie.Need-returns-then-rounds-at
+returns-then-rounds-at c = ((λ z room. absurd (omega (arith, place c.before z, room))), λ stop. absurd (omega arith))
 
-returns-3 : tie.Need-returns-3
-returns-3 c = (
+returns : tie.Need-returns
+returns c = (
   (λ z room.
-      let a = c.before.before.before.before.before.before.before.before.before.before.args in
+      let a = c.args in
       let S = a.settings in
-      let at = c.before.before.before.before.before.polynomial-at.result in
+      let at = c.polynomial_at-at.result in
       put_first (row_places S.degree (round_item S a.t a.key.now a.message.now 0)) at (item_cells S) a.rounds.now _
-      (c.before.before.first-item.ensures z (omega (arith, tail-length at a.rounds.now, place c.before.before.before.before.before z, room)))
+      (c.first_item.ensures z (omega (arith, tail-length at a.rounds.now, place c.before.before.before.before.before z, room)))
       ∙ ap (λ n. spliced (row_places S.degree (round_item S a.t a.key.now a.message.now 0)) n (item_cells S) a.rounds.now) (place c.before.before.before.before.before z)),
   λ stop. absurd (omega arith),
 )
@@ -48,5 +48,5 @@ returns-3 c = (
 pub write_first_spec : {M : Type 1} → statement M
 write_first_spec =
     tie.close
-    (tie.spec returns (λ c κs. search rules) returns-2 (λ c. search rules) (λ c. search rules) (λ c. search rules) (λ c. search rules)
-    (λ c κs. search rules) (λ c. search rules) returns-3)
+    (tie.spec returns-then-t-settings (λ c κs. search rules) returns-then-rounds-at (λ c. search rules) (λ c. search rules) (λ c. search rules) (λ c. search rules)
+    (λ c κs. search rules) (λ c. search rules) returns)

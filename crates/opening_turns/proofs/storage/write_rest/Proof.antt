@@ -14,18 +14,18 @@ use borrow.Author.Rules.{rules}
 use Rattle.opening_turns.proofs.storage.write_rest.Statement.{statement}
 use Rattle.opening_turns.proofs.storage.write_rest.Tie as tie
 
-place : (c : tie.After-polynomial-at) → let a = c.before.before.before.before.args in
+place : (c : tie.After-polynomial_at-at) → let a = c.args in
     Continuing a.settings a.t a.key.now a.message.now a.claims.now (drop (polynomial_at a.settings a.t) a.rounds.now) →
-    c.polynomial-at.result ≡ polynomial_at a.settings a.t
+    c.polynomial_at-at.result ≡ polynomial_at a.settings a.t
 place c z =
-    let a = c.before.before.before.before.args in
+    let a = c.args in
     let (ok, _) = round_key a.settings a.key.now a.message.now a.t z.passed in
     let g = round_given a.settings a.key.now a.message.now a.t z.passed 0 (first_row a.settings ok) in
-    c.polynomial-at.ensures.0 ok (omega (arith, g.turn, g.tables.settings.depth_most))
+    c.polynomial_at-at.ensures.0 ok (omega (arith, g.turn, g.tables.settings.depth_most))
 
-returns : tie.Need-returns
-returns c = λ z.
-    let a = c.before.before.before.before.before.args in
+returns-then-rounds-at : tie.Need-returns-then-rounds-at
+returns-then-rounds-at c = λ z.
+    let a = c.args in
     absurd (omega (
       arith,
       place c.before z,
@@ -35,21 +35,21 @@ returns c = λ z.
           (round_key a.settings a.key.now a.message.now a.t z.passed).0,
     ))
 
-returns-2 : tie.Need-returns-2
+returns : tie.Need-returns
 unfolding rest_stored
-returns-2 c = λ z.
-    let a = c.before.before.before.before.before.before.before.before.before.args in
+returns c = λ z.
+    let a = c.args in
     let S = a.settings in
-    let at = c.before.before.before.before.before.polynomial-at.result in
+    let at = c.polynomial_at-at.result in
     let is = place c.before.before.before.before.before z in
     let one = row_places S.degree (round_item S a.t a.key.now a.message.now 1) in
     let two = row_places S.degree (round_item S a.t a.key.now a.message.now 2) in
     put_rest one two at (item_cells S) a.rounds.now _ (omega arith)
-    (c.before.before.rest.ensures (subst (Continuing S a.t a.key.now a.message.now a.claims.now) (sym (tail_all at a.rounds.now ∙ ap (λ n. drop n a.rounds.now) is)) z))
+    (c.rest.ensures (subst (Continuing S a.t a.key.now a.message.now a.claims.now) (sym (tail_all at a.rounds.now ∙ ap (λ n. drop n a.rounds.now) is)) z))
     ∙ ap (λ n. spliced two (n + 2 * item_cells S) (item_cells S) (spliced one (n + item_cells S) (item_cells S) a.rounds.now)) is
 
 pub write_rest_spec : {M : Type 1} → statement M
 write_rest_spec =
     tie.close
-    (tie.spec (λ c κs. search rules) returns (λ c. search rules) (λ c. search rules) (λ c. search rules) (λ c. search rules)
-    (λ c κs. search rules) (λ c. search rules) returns-2)
+    (tie.spec (λ c κs. search rules) returns-then-rounds-at (λ c. search rules) (λ c. search rules) (λ c. search rules) (λ c. search rules)
+    (λ c κs. search rules) (λ c. search rules) returns)

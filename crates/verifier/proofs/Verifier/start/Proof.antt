@@ -6,19 +6,19 @@ use borrow.Author.Rules.{rules}
 use Rattle.verifier.proofs.Verifier.start.Statement.{statement}
 use Rattle.verifier.proofs.Verifier.start.Tie as tie
 
-commitment-long : tie.Need-slice-aggregate-start-on
-commitment-long c = search rules
+slice_bounds-start_on-end : tie.Need-slice_bounds-start_on-end
+slice_bounds-start_on-end c = search rules
 
-claims-long : tie.Need-slice-aggregate-start-on-2
-claims-long c = search rules
+slice_bounds-start_on-end-2 : tie.Need-slice_bounds-start_on-end-2
+slice_bounds-start_on-end-2 c = search rules
 
 returns : tie.Need-returns
 returns c =
-    let began = c.before.before.before in
-    let a = began.before.before.before.args in
-    ap (λ (s : Session). record { refusal = began.start-on.result.refusal; next = s }) c.joined.ensures
-    ∙ began.start-on.ensures (by_value a.settings _ (omega (arith, commitment-long began.before.before))) (omega (arith, claims-long began.before))
-    ∙ start_same a.settings a.t3
+    let began = c in
+    let a = began.args in
+    ap (λ (s : Session). record { refusal = began.start_on-begun.result.refusal; next = s }) c.joined-next.ensures
+    ∙ began.start_on-begun.ensures (by_value a.settings _ (omega (arith, slice_bounds-start_on-end began.before.before.before.before.before))) (omega (arith, slice_bounds-start_on-end-2 began.before.before.before.before))
+    ∙ start_same a.settings a.commitment
 
 pub start_spec : {M : Type 1} → statement M
-start_spec = tie.close (tie.spec commitment-long claims-long (λ c κs. search rules) (λ c κs. search rules) returns)
+start_spec = tie.close (tie.spec slice_bounds-start_on-end slice_bounds-start_on-end-2 (λ c κs. search rules) (λ c κs. search rules) returns)
