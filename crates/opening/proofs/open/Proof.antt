@@ -5,15 +5,15 @@ use borrow.Author.Rules.{rules}
 use Rattle.opening.proofs.open.Statement.{statement}
 use Rattle.opening.proofs.open.Tie as tie
 
-returns : tie.Need-returns
+returns-then-refusal-ne0 : tie.Need-returns-then-refusal-ne0
 unfolding zeros signed_zeros width
-returns c = opening-refused _ _ _ _ _ _ c.before.open.ensures c.if1.true
+returns-then-refusal-ne0 c = opening-refused _ _ _ _ _ _ c.open-refusal.ensures c.if-refusal-ne0.true
 
-returns-2 : tie.Need-returns-2
-returns-2 c = let no = c.before.before.before.before.before.before.before.before.before in c.before.before.before.before.before.opened.ensures
-    (sym no.before.open.ensures ∙ no.if1.false)
+returns : tie.Need-returns
+returns c = let no = c in c.opened.ensures
+    (sym no.open-refusal.ensures ∙ no.if-refusal-ne0.false)
 
 pub open_spec : {M : Type 1} → statement M
 open_spec =
     tie.close
-    (tie.spec (λ c κs. search rules) (λ c. search rules) (λ c. search rules) (λ c. search rules) returns (λ c κs. search rules) (λ c. search rules) (λ c. search rules) (λ c. search rules) returns-2)
+    (tie.spec (λ c κs. search rules) (λ c. search rules) (λ c. search rules) (λ c. search rules) returns-then-refusal-ne0 (λ c κs. search rules) (λ c. search rules) (λ c. search rules) (λ c. search rules) returns)

@@ -6,16 +6,16 @@ use Rattle.opening.proofs.opened.Statement.{statement}
 use Rattle.opening.proofs.opened.Tie as tie
 
 -- the final element has all its places
-lent : tie.Need-slice-aggregate-verdict-2
-lent c = search rules
+slice_bounds-verdict-end-2 : tie.Need-slice_bounds-verdict-end-2
+slice_bounds-verdict-end-2 c = search rules
 
 returns : tie.Need-returns
 unfolding zeros
 returns c = λ passed.
-    opening-done _ _ _ _ _ passed _ _ _ _ c.before.before.before.before.before.before.before.before.before.before.before.before.prover-turn.result _ _ _ _ _
-    c.before.before.before.before.before.before.before.before.before.before.before.before.before.before.before.before.before.before.before.before.before.before.begin.ensures c.before.before.before.before.before.before.before.before.before.before.before.before.before.before.before.before.before.by_value.ensures
-    c.before.before.before.before.before.before.before.before.before.before.before.before.prover-turn.ensures
-    c.before.before.before.before.signed-element-at.ensures c.verdict.ensures (sym (lent c.before.before))
+    opening-done _ _ _ _ _ passed _ _ _ _ c.prover_turn-ended.result _ _ _ _ _
+    c.begin.ensures c.by_value-commitment.ensures
+    c.prover_turn-ended.ensures
+    c.signed_element_at-last.ensures c.verdict-verdict.ensures (sym (slice_bounds-verdict-end-2 c.before))
 
 pub opened_spec : {M : Type 1} → statement M
 opened_spec =

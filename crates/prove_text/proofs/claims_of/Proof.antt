@@ -10,22 +10,22 @@ use Rattle.claim_tables.proofs.Claiming.{claims-few}
 use Rattle.prove_text.proofs.claims_of.Statement.{statement}
 use Rattle.prove_text.proofs.claims_of.Tie as tie
 
-returns : tie.Need-returns
-returns c = λ g. absurd (omega (arith, claims-few _ g.allowed, c.before.claim-cells.ensures g.allowed, c.if1.true))
+returns-then-count-gt-ROOM : tie.Need-returns-then-count-gt-ROOM
+returns-then-count-gt-ROOM c = λ g. absurd (omega (arith, claims-few _ g.allowed, c.claim_cells-count.ensures g.allowed, c.if-count-gt-ROOM.true))
 
 -- the table has room for them
-room : (c : tie.Else1) → c.before.claim-cells.result ≤ claims_room
+room : (c : tie.Else-count-gt-ROOM) → c.claim_cells-count.result ≤ claims_room
 room c = omega arith
 
-slice-aggregate-store : tie.Need-slice-aggregate-store
-slice-aggregate-store c = sym (length-take-le _ _ (room c.before))
+slice_bounds-store-end : tie.Need-slice_bounds-store-end
+slice_bounds-store-end c = sym (length-take-le _ _ (room c.before))
 
-returns-2 : tie.Need-returns-2
-returns-2 c = λ g.
-    let s = c.before in
-    let e = s.before.before in
-    let lent = length-take-le _ _ (room e) ∙ e.before.claim-cells.ensures g.allowed in
-    take_at s.store.new.1.1.1.0 _ _ (c.table2.given ∙ lent) ∙ s.store.ensures g lent
+returns : tie.Need-returns
+returns c = λ g.
+    let s = c in
+    let e = s in
+    let lent = length-take-le _ _ (room e.before.before.before) ∙ e.claim_cells-count.ensures g.allowed in
+    take_at s.store.new.claims _ _ (c.table-2-1.given ∙ lent) ∙ s.store.ensures g lent
 
 pub claims_of_spec : {M : Type 1} → statement M
-claims_of_spec = tie.close (tie.spec (λ c κs. search rules) returns (λ c. search rules) slice-aggregate-store (λ c κs. search rules) returns-2)
+claims_of_spec = tie.close (tie.spec (λ c κs. search rules) returns-then-count-gt-ROOM (λ c. search rules) slice_bounds-store-end (λ c κs. search rules) returns)

@@ -8,18 +8,18 @@ use Rattle.prove_text.proofs.flat.Statement.{statement}
 use Rattle.prove_text.proofs.flat.Tie as tie
 
 -- the table has room for them
-room : (c : tie.After-item-cells) → c.item-cells.result ≤ rows_width
-room c = c.item-cells.ensures.1
+room : (c : tie.After-item_cells-count) → c.item_cells-count.result ≤ rows_width
+room c = c.item_cells-count.ensures.1
 
-slice-aggregate-store-residues : tie.Need-slice-aggregate-store-residues
-slice-aggregate-store-residues c = sym (length-take-le _ _ (room c.before))
+slice_bounds-store_residues-end : tie.Need-slice_bounds-store_residues-end
+slice_bounds-store_residues-end c = sym (length-take-le _ _ (room c.before))
 
 returns : tie.Need-returns
 returns c e =
-    let s = c.before in
-    let i = s.before.before in
-    let lent = length-take-le _ _ (room i) ∙ i.item-cells.ensures.0 e in
-    take_at s.store-residues.new.1.1.0 _ _ (c.table2.given ∙ lent) ∙ s.store-residues.ensures e lent
+    let s = c in
+    let i = s in
+    let lent = length-take-le _ _ (room i.before.before.before) ∙ i.item_cells-count.ensures.0 e in
+    take_at s.store_residues.new.out _ _ (c.table-2-1.given ∙ lent) ∙ s.store_residues.ensures e lent
 
 pub flat_spec : {M : Type 1} → statement M
-flat_spec = tie.close (tie.spec (λ c κs. search rules) (λ c. search rules) slice-aggregate-store-residues (λ c κs. search rules) returns)
+flat_spec = tie.close (tie.spec (λ c κs. search rules) (λ c. search rules) slice_bounds-store_residues-end (λ c κs. search rules) returns)

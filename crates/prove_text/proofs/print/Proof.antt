@@ -9,34 +9,34 @@ use Rattle.prove_text.proofs.Output.{prints-refusal, listing-within, prints-list
 use Rattle.prove_text.proofs.print.Statement.{statement}
 use Rattle.prove_text.proofs.print.Tie as tie
 
-within : (c : tie.Else1) → c.before.before.prove.result.count ≤ length c.before.before.prove.new.1.0
+within : (c : tie.Else-refusal-ne0) → c.prove-written.result.count ≤ length c.prove-written.new.out
 unfolding text_limit
-within c = let p = c.before.before in listing-within _ _ _ p.prove.result p.prove.ensures (search) c.if1.false
+within c = let p = c in listing-within _ _ _ p.prove-written.result p.prove-written.ensures (search) c.if-refusal-ne0.false
+
+returns-then-refusal-ne0 : tie.Need-returns-then-refusal-ne0
+unfolding text_limit
+returns-then-refusal-ne0 c =
+    let s = c in
+    let t = s in
+    let p = t in
+    shown-told (shown_as (prints-refusal _ _ _ p.prove-written.result p.prove-written.ensures (search) t.if-refusal-ne0.true) s.show_refusal.ensures)
+
+slice_bounds-listing-end : tie.Need-slice_bounds-listing-end
+slice_bounds-listing-end c = within c
+
+slice_bounds-show-end : tie.Need-slice_bounds-show-end
+slice_bounds-show-end c = sym (length-take-le _ _ (within c.before))
 
 returns : tie.Need-returns
 unfolding text_limit
 returns c =
-    let s = c.before.before in
-    let t = s.before.before in
-    let p = t.before.before in
-    shown-told (shown_as (prints-refusal _ _ _ p.prove.result p.prove.ensures (search) t.if1.true) s.show-refusal.ensures)
-
-array-share-prefix-listing : tie.Need-array-share-prefix-listing
-array-share-prefix-listing c = within c
-
-slice-aggregate-show : tie.Need-slice-aggregate-show
-slice-aggregate-show c = sym (length-take-le _ _ (within c.before))
-
-returns-2 : tie.Need-returns-2
-unfolding text_limit
-returns-2 c =
-    let s = c.before.before in
-    let e = s.before.before.before in
-    let p = e.before.before in
-    shown-told (shown_as (prints-listing _ _ _ p.prove.result p.prove.ensures (search) e.if1.false) s.show.ensures)
+    let s = c in
+    let e = s in
+    let p = e in
+    shown-told (shown_as (prints-listing _ _ _ p.prove-written.result p.prove-written.ensures (search) e.if-refusal-ne0.false) s.show.ensures)
 
 pub print_spec : {M : Type 1} → statement M
 print_spec =
     tie.close
-    (tie.spec (λ c. search) (λ c κs. search) (λ c κs. search) (λ c. search) returns array-share-prefix-listing
-    slice-aggregate-show (λ c κs. search) (λ c. search) returns-2)
+    (tie.spec (λ c. search) (λ c κs. search) (λ c κs. search) (λ c. search) returns-then-refusal-ne0 slice_bounds-listing-end
+    slice_bounds-show-end (λ c κs. search) (λ c. search) returns)

@@ -29,7 +29,7 @@ use Rattle.prove_text.proofs.print_opening.Statement.{statement}
 use Rattle.prove_text.proofs.print_opening.Tie as tie
 
 -- what the opening gives
-module _ (c : tie.After-opened) where
+module _ (c : tie.After-opened-transcript) where
   abbrev start : tie.Start
   start = c.before.before.before.before.before.before.before.before
 
@@ -49,119 +49,119 @@ module _ (c : tie.After-opened) where
   R = start.args.rounds.now
 
   ok : Openable S G M E R
-  ok = start.pre
+  ok = start.requires
 
   granted : opening_refusal S G M E R ≡ 0
   granted = opening-granted (given S G M E R ok) R ok.rounds_long
 
   -- the commitment by value, and then as a table
-  commitment-value : c.opened.result.commitment ≡ at_rows S (λ r. commitment S (key_row S G r) M)
-  commitment-value = ap (λ r. r.commitment) (c.opened.ensures granted).answer ∙ opening-commitment (given S G M E R ok) R ok.rounds_long
+  commitment-value : c.opened-transcript.result.commitment ≡ at_rows S (λ r. commitment S (key_row S G r) M)
+  commitment-value = ap (λ r. r.commitment) (c.opened-transcript.ensures granted).answer ∙ opening-commitment (given S G M E R ok) R ok.rounds_long
 
-  last_given : (S.degree ≤ length c.opened.result.last) × (take S.degree c.opened.result.last ≡ (transcripts_of S G M E).last)
-  last_given = last_front S G M E R ok _ (ap (λ r. r.last) (c.opened.ensures granted).answer ∙ opening_last (given S G M E R ok) R ok.rounds_long)
+  last_given : (S.degree ≤ length c.opened-transcript.result.last) × (take S.degree c.opened-transcript.result.last ≡ (transcripts_of S G M E).last-1)
+  last_given = last_front S G M E R ok _ (ap (λ r. r.last) (c.opened-transcript.ensures granted).answer ∙ opening_last (given S G M E R ok) R ok.rounds_long)
 
-  rounds_given : c.opened.new.1.1.1.1.0 ≡ round_tables S E G M
-  rounds_given = (c.opened.ensures granted).rounds_exit ∙ opening-rounds (given S G M E R ok) R ok.rounds_long
+  rounds_given : c.opened-transcript.new.rounds ≡ round_tables S E G M
+  rounds_given = (c.opened-transcript.ensures granted).rounds_exit ∙ opening-rounds (given S G M E R ok) R ok.rounds_long
 
 -- the commitment as a table
-module _ (c : tie.After-item-cells) where
-  abbrev made : tie.After-flat
-  made = c.before.before.before.before.before
+module _ (c : tie.After-item_cells-item_cells) where
+  abbrev made : tie.After-flat-table
+  made = c.before.before.before.before
 
-  abbrev from : tie.After-opened
+  abbrev from : tie.After-opened-transcript
   from = made.before.before.before.before.before.before.before
 
   abbrev count : ℕ
-  count = c.item-cells.result
+  count = c.item_cells-item_cells.result
 
   room : count ≤ rows_width
-  room = c.item-cells.ensures.1
+  room = c.item_cells-item_cells.ensures.1
 
   allowed : settings_refusal (S from) ≡ 0
   allowed = valid-settings (S from) (ok from).settings
 
-  commitment_given : take count made.flat.result ≡ (transcripts_of (S from) (G from) (M from) (E from)).commitment
+  commitment_given : take count made.flat-table.result ≡ (transcripts_of (S from) (G from) (M from) (E from)).commitment-1
   commitment_given =
-      ap (λ n. take n made.flat.result) (c.item-cells.ensures.0 allowed) ∙ made.flat.ensures allowed
+      ap (λ n. take n made.flat-table.result) (c.item_cells-item_cells.ensures.0 allowed) ∙ made.flat-table.ensures allowed
       ∙ commitment-flat (S from) (G from) (M from) (E from) (R from) (ok from) _ (commitment-value from)
 
   -- the claims of its rounds and challenges
-  abbrev claimed-in : tie.After-claims-of
+  abbrev claimed-in : tie.After-claims_of-claims
   claimed-in = c.before.before
 
   abbrev claim_count : ℕ
-  claim_count = c.before.claim-cells.result
+  claim_count = c.claim_cells-claim_cells.result
 
   claim-room : claim_count ≤ claims_room
-  claim-room = omega (arith, claims-few (S from) allowed, c.before.claim-cells.ensures allowed)
+  claim-room = omega (arith, claims-few (S from) allowed, c.claim_cells-claim_cells.ensures allowed)
 
-  claims_are : take claim_count claimed-in.claims-of.result ≡ claim_table (S from) (transcripts_of (S from) (G from) (M from) (E from))
+  claims_are : take claim_count claimed-in.claims_of-claims.result ≡ claim_table (S from) (transcripts_of (S from) (G from) (M from) (E from))
   claims_are =
       let rounds = rounds_given from in
       let own = claims_given (S from) (G from) (M from) (E from) (R from) (ok from) in
-      ap (λ n. take n claimed-in.claims-of.result) (c.before.claim-cells.ensures allowed)
-      ∙ claimed-in.claims-of.ensures (subst (Given (S from)) (sym rounds) own)
+      ap (λ n. take n claimed-in.claims_of-claims.result) (c.claim_cells-claim_cells.ensures allowed)
+      ∙ claimed-in.claims_of-claims.ensures (subst (Given (S from)) (sym rounds) own)
       ∙ ap (λ r. claim_table (S from) (claimed r (E from))) rounds
       ∙ claims_same (S from) (G from) (M from) (E from) (R from) (ok from)
 
-slice-aggregate-write-tables-3 : tie.Need-slice-aggregate-write-tables-3
-slice-aggregate-write-tables-3 c =
-    let i = c.before.before.before.before.before in
-    let long : length (made i).flat.result ≡ rows_width = search in
-    sym (length-take-le _ _ (omega (arith, room i)))
+slice_bounds-write_tables-end-3 : tie.Need-slice_bounds-write_tables-end-3
+slice_bounds-write_tables-end-3 c =
+    let i = c in
+    let long : length (made i.before.before.before.before.before).flat-table.result ≡ rows_width = search in
+    sym (length-take-le _ _ (omega (arith, room i.before.before.before.before.before)))
 
-array-share-prefix-last : tie.Need-array-share-prefix-last
-array-share-prefix-last c = (last_given c.before.before.before.before.before.before.before.before.before.before.before.before.before.before.before.before.before.before).0
+slice_bounds-last-end : tie.Need-slice_bounds-last-end
+slice_bounds-last-end c = (last_given c.before.before.before.before.before.before.before.before.before.before.before.before.before.before.before.before).0
 
-slice-aggregate-write-tables-4 : tie.Need-slice-aggregate-write-tables-4
-slice-aggregate-write-tables-4 c = sym (length-take-le _ _ (last_given c.before.before.before.before.before.before.before.before.before.before.before.before.before.before.before.before.before.before.before).0)
+slice_bounds-write_tables-end-4 : tie.Need-slice_bounds-write_tables-end-4
+slice_bounds-write_tables-end-4 c = sym (length-take-le _ _ (last_given c.before.before.before.before.before.before.before.before.before.before.before.before.before.before.before.before.before).0)
 
-claims-long : (i : tie.After-item-cells) → length (claimed-in i).claims-of.result ≡ claims_room
+claims-long : (i : tie.After-item_cells-item_cells) → length (claimed-in i).claims_of-claims.result ≡ claims_room
 claims-long i = search
 
-array-share-prefix-claims : tie.Need-array-share-prefix-claims
-array-share-prefix-claims c = let i = c.before.before.before.before.before.before.before in omega (arith, claim-room i, claims-long i)
+slice_bounds-claims-end : tie.Need-slice_bounds-claims-end
+slice_bounds-claims-end c = let i = c in omega (arith, claim-room i.before.before.before.before.before.before, claims-long i.before.before.before.before.before.before)
 
-slice-aggregate-write-tables-5 : tie.Need-slice-aggregate-write-tables-5
-slice-aggregate-write-tables-5 c = let i = c.before.before.before.before.before.before.before.before in sym (length-take-le _ _ (omega (arith, claim-room i, claims-long i)))
+slice_bounds-write_tables-end-5 : tie.Need-slice_bounds-write_tables-end-5
+slice_bounds-write_tables-end-5 c = let i = c in sym (length-take-le _ _ (omega (arith, claim-room i.before.before.before.before.before.before.before, claims-long i.before.before.before.before.before.before.before)))
 
 -- the opening keeps the lengths of its tables
-opening_of : tie.After-slice-known6 → tie.After-opened
-opening_of c = from c.before.before.before.before.before.before.before.before.before.before.before.before
+opening_of : tie.After-slice_known-6-1 → tie.After-opened-transcript
+opening_of c = from c.before.before.before.before.before.before.before.before.before.before.before
 
-same_length : tie.Need-same-length
+shape_of-key : tie.Need-shape_of-key
 unfolding opening_of
-same_length c = (opening_of c).opened.auto.1.0
+shape_of-key c = (opening_of c).opened-transcript.auto.key
 
-same-length-2 : tie.Need-same-length-2
+shape_of-message : tie.Need-shape_of-message
 unfolding opening_of
-same-length-2 c = (opening_of c).opened.auto.1.1.0
+shape_of-message c = (opening_of c).opened-transcript.auto.message
 
-same-length-3 : tie.Need-same-length-3
+shape_of-rounds : tie.Need-shape_of-rounds
 unfolding opening_of
-same-length-3 c = (opening_of c).opened.auto.1.1.1.1.0
+shape_of-rounds c = (opening_of c).opened-transcript.auto.rounds
 
 returns : tie.Need-returns
 unfolding printed transcripts_of
 returns c =
-    let w = c.before.before in
-    let p = c.before.before.before.before.before.before.before.before.before.before in
-    let i = p.before.before in
-    let o = from i in
-    let u = tables_of [] [] (take (count i) (made i).flat.result) o.opened.last.1.1.1.1.0 (E o) (take (S o).degree o.opened.result.last)
-    (take (claim_count i) (claimed-in i).claims-of.result) in
+    let w = c in
+    let p = c in
+    let i = p in
+    let o = from i.before.before.before.before.before.before.before.before.before.before.before in
+    let u = tables_of [] [] (take (count i.before.before.before.before.before.before.before.before.before.before.before) (made i.before.before.before.before.before.before.before.before.before.before.before).flat-table.result) o.opened-transcript.new.rounds (E o) (take (S o).degree o.opened-transcript.result.last)
+    (take (claim_count i.before.before.before.before.before.before.before.before.before.before.before) (claimed-in i.before.before.before.before.before.before.before.before.before.before.before).claims_of-claims.result) in
     let out = (start o).args.out.now in
-    let r = w.write-tables.result in
-    let out' = w.write-tables.new.1.1.1.1.1.1.1.1.1.0 in
-    let same : u ≡ printed (S o) (transcripts_of (S o) (G o) (M o) (E o)) = λ j. tables_of [] [] (commitment_given i j) (rounds_given o j) (E o) ((last_given o).1 j) (claims_are i j) in
+    let r = w.write_tables.result in
+    let out' = w.write_tables.new.out in
+    let same : u ≡ printed (S o) (transcripts_of (S o) (G o) (M o) (E o)) = λ j. tables_of [] [] (commitment_given i.before.before.before.before.before.before.before.before.before.before.before j) (rounds_given o j) (E o) ((last_given o).1 j) (claims_are i.before.before.before.before.before.before.before.before.before.before.before j) in
     printed_by (S o) (G o) (M o) (E o) (R o) (ok o) u same out r out'
-    (subst (λ P. Provided (Writable (S o) P u) (Output (text_of (S o) P u) out r out')) p.prints.ensures w.write-tables.ensures
+    (subst (λ P. Provided (Writable (S o) P u) (Output (text_of (S o) P u) out r out')) p.prints.ensures w.write_tables.ensures
     (honest_writable (S o) (G o) (M o) (E o) (R o) (ok o) u same))
 
 pub print_opening_spec : {M : Type 1} → statement M
 print_opening_spec =
     tie.close
     (tie.spec (λ c κs. search) (λ c κs. search) (λ c κs. search) (λ c κs. search) (λ c κs. search) (λ c. search rules) (λ c κs. search) (λ c. search rules)
-    (λ c. search) (λ c. search rules) (λ c. search) (λ c. search rules) slice-aggregate-write-tables-3 array-share-prefix-last
-    slice-aggregate-write-tables-4 array-share-prefix-claims slice-aggregate-write-tables-5 (λ c κs. search) same_length same-length-2 same-length-3 (λ c. search) returns)
+    (λ c. search) (λ c. search rules) (λ c. search) (λ c. search rules) slice_bounds-write_tables-end-3 slice_bounds-last-end
+    slice_bounds-write_tables-end-4 slice_bounds-claims-end slice_bounds-write_tables-end-5 (λ c κs. search) shape_of-key shape_of-message shape_of-rounds (λ c. search) returns)

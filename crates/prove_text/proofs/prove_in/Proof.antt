@@ -16,7 +16,7 @@ use Rattle.prove_text.proofs.Proves.{prove-refused, prove_done, openable}
 use Rattle.prove_text.proofs.prove_in.Statement.{statement}
 use Rattle.prove_text.proofs.prove_in.Tie as tie
 
-module _ (c : tie.After-read-tables) where
+module _ (c : tie.After-read_tables-loaded) where
   abbrev start : tie.Start
   start = c.before.before.before.before.before.before.before.before.before.before.before.before.before.before
 
@@ -28,68 +28,68 @@ module _ (c : tie.After-read-tables) where
 
   abbrev t' : Tables
   t' =
-      let l = c.read-tables.new.1.1.1.1 in
+      let l = c.read_tables-loaded.new.1.1.1.1 in
       tables_of l.0 l.1.0 l.1.1.0 l.1.1.1.0 l.1.1.1.1.0 l.1.1.1.1.1.0 l.1.1.1.1.1.1.0
 
   fit : Lent prove_reads text t
-  fit = start.pre.0
+  fit = start.requires.0
 
-  promise : Read prove_reads text t c.read-tables.result t'
-  promise = subst (λ P. Read P text t c.read-tables.result t') c.before.before.before.before.before.before.before.before.reads.ensures (c.read-tables.ensures start.pre.1.1)
+  promise : Read prove_reads text t c.read_tables-loaded.result t'
+  promise = subst (λ P. Read P text t c.read_tables-loaded.result t') c.reads.ensures (c.read_tables-loaded.ensures start.requires.1.1)
 
 -- a text that is not refused
-module _ (c : tie.Else1) where
-  abbrev got : tie.After-read-tables
+module _ (c : tie.Else-refusal-ne0) where
+  abbrev got : tie.After-read_tables-loaded
   got = c.before.before.before.before.before.before.before.before.before.before
 
   abbrev S : Settings
-  S = got.read-tables.result.settings
+  S = got.read_tables-loaded.result.settings
 
   same_settings : S ≡ settings_in (lines_of (text got))
-  same_settings = settings_are (text got) prove_reads (t got) (t' got) (fit got) got.read-tables.result (promise got) c.if1.false
+  same_settings = settings_are (text got) prove_reads (t got) (t' got) (fit got) got.read_tables-loaded.result (promise got) c.if-refusal-ne0.false
 
   lengths : lengths_of (t' got) ≡ lengths_of (t got)
   unfolding lengths_of
   lengths =
       let a = (start got).args in
-      let key : length (t' got).key ≡ length a.key.now = search in
-      let message : length (t' got).message ≡ length a.message.now = search in
+      let key : length (t' got).key-1 ≡ length a.key.now = search in
+      let message : length (t' got).message-1 ≡ length a.message.now = search in
       let commitment : length (t' got).commitment ≡ 0 = search in
-      let rounds : length (t' got).rounds ≡ 0 = search in
-      let challenges : length (t' got).challenges ≡ length a.challenges.now = search in
+      let rounds : length (t' got).rounds-1 ≡ 0 = search in
+      let challenges : length (t' got).challenges-1 ≡ length a.challenges.now = search in
       let last : length (t' got).last ≡ 0 = search in
       let claims : length (t' got).claims ≡ 0 = search in
       λ j. key j ∷ message j ∷ commitment j ∷ rounds j ∷ challenges j ∷ last j ∷ claims j ∷ []
 
+returns-then-refusal-ne0 : tie.Need-returns-then-refusal-ne0
+returns-then-refusal-ne0 c =
+    let r = c in
+    prove-refused (text r.before.before.before.before.before.before.before.before.before.before) (start r.before.before.before.before.before.before.before.before.before.before).args.out.now r.read_tables-loaded.result.refusal c.if-refusal-ne0.true (sym (number_is (text r.before.before.before.before.before.before.before.before.before.before) prove_reads (t r.before.before.before.before.before.before.before.before.before.before) (t' r.before.before.before.before.before.before.before.before.before.before) (fit r.before.before.before.before.before.before.before.before.before.before) r.read_tables-loaded.result (promise r.before.before.before.before.before.before.before.before.before.before)))
+
+print_opening-requires : tie.Need-print_opening-requires
+print_opening-requires c κs =
+    let e = c in
+    let r = got e.before.before.before.before.before in
+    openable (S e.before.before.before.before.before) (t' r) (start r).args.rounds.now
+    (settings-allowed (text r) prove_reads (t r) (t' r) (fit r) r.read_tables.result (promise r) e.if-refusal-ne0.false)
+    (still-fitting (text r) prove_reads (t r) (t' r) (fit r) r.read_tables.result (promise r) e.if-refusal-ne0.false (lengths e.before.before.before.before.before))
+    (entries-passed (text r) prove_reads (t r) (t' r) (fit r) r.read_tables.result (promise r) e.if-refusal-ne0.false)
+    ((start r).requires.1.0 (settings-unrefused (text r) prove_reads (t r) (t' r) (fit r) r.read_tables.result (promise r) e.if-refusal-ne0.false)
+    (same_lines (text r) prove_reads (t r) (t' r) (fit r) r.read_tables.result (promise r) e.if-refusal-ne0.false) ∙ sym (ap round_cells (same_settings e.before.before.before.before.before)))
+
 returns : tie.Need-returns
 returns c =
-    let r = c.before.before.before.before.before.before.before.before.before.before in
-    prove-refused (text r) (start r).args.out.now r.read-tables.result.refusal c.if1.true (sym (number_is (text r) prove_reads (t r) (t' r) (fit r) r.read-tables.result (promise r)))
-
-print-opening-requires : tie.Need-print-opening-requires
-print-opening-requires c κs =
-    let e = c.before.before.before.before.before in
-    let r = got e in
-    openable (S e) (t' r) (start r).args.rounds.now
-    (settings-allowed (text r) prove_reads (t r) (t' r) (fit r) r.read-tables.result (promise r) e.if1.false)
-    (still-fitting (text r) prove_reads (t r) (t' r) (fit r) r.read-tables.result (promise r) e.if1.false (lengths e))
-    (entries-passed (text r) prove_reads (t r) (t' r) (fit r) r.read-tables.result (promise r) e.if1.false)
-    ((start r).pre.1.0 (settings-unrefused (text r) prove_reads (t r) (t' r) (fit r) r.read-tables.result (promise r) e.if1.false)
-    (same_lines (text r) prove_reads (t r) (t' r) (fit r) r.read-tables.result (promise r) e.if1.false) ∙ sym (ap round_cells (same_settings e)))
-
-returns-2 : tie.Need-returns-2
-returns-2 c =
-    let p = c.before.before.before.before.before.before.before in
-    let e = p.before.before.before.before.before.before in
-    let r = got e in
-    prove_done (text r) (start r).args.out.now (S e) (t' r) (same_settings e)
-    (tables_are (text r) prove_reads (t r) (t' r) (fit r) r.read-tables.result (promise r) e.if1.false)
-    (sym (number_is (text r) prove_reads (t r) (t' r) (fit r) r.read-tables.result (promise r)) ∙ e.if1.false)
-    p.print-opening.result p.print-opening.new.1.1.1.1.1.0 p.print-opening.ensures
+    let p = c in
+    let e = p in
+    let r = got e.before.before.before.before.before.before.before.before.before.before.before.before.before in
+    prove_done (text r) (start r).args.out.now (S e.before.before.before.before.before.before.before.before.before.before.before.before.before) (t' r) (same_settings e.before.before.before.before.before.before.before.before.before.before.before.before.before)
+    (tables_are (text r) prove_reads (t r) (t' r) (fit r) r.read_tables.result (promise r) e.if-refusal-ne0.false)
+    (sym (number_is (text r) prove_reads (t r) (t' r) (fit r) r.read_tables.result (promise r)) ∙ e.if-refusal-ne0.false)
+    p.print_opening.result p.print_opening.new.out p.print_opening.ensures
 
 pub prove_in_spec : {M : Type 1} → statement M
 prove_in_spec =
     tie.close
     (tie.spec (λ c κs. search) (λ c. search rules) (λ c. search) (λ c. search rules) (λ c. search) (λ c. search rules) (λ c. search) (λ c. search rules)
-    (λ c. search) (λ c κs. search) (λ c. search) (λ c. search) (λ c. search) returns print-opening-requires
-    (λ c. search rules) (λ c. search rules) (λ c. search) (λ c. search) (λ c. search) returns-2)
+    (λ c. search) (λ c κs. search) (λ c. search) (λ c. search) (λ c. search) returns-then-refusal-ne0 print_opening-requires
+    (λ c. search rules) (λ c. search rules) (λ c. search) (λ c. search) (λ c. search) returns)

@@ -5,17 +5,17 @@ use borrow.Author.Rules.{rules}
 use Rattle.sessions.proofs.answer.Statement.{statement}
 use Rattle.sessions.proofs.answer.Tie as tie
 
-returns : tie.Need-returns
-returns c = let a = c.before.before.before.args in answer_refused (moved_with a.said (claims_of a.session.now)) a.session.now c.if1.true
+returns-then-said-ne0 : tie.Need-returns-then-said-ne0
+returns-then-said-ne0 c = let a = c.args in answer_refused (moved_with a.said (claims_of a.session.now)) a.session.now c.if-said-ne0.true
 
-returns-2 : tie.Need-returns-2
-returns-2 c =
-    let at_store = c.before.before in
-    let at-verdict-number = at_store.before.before.before in
-    let at-if1 = at-verdict-number.before in
-    let a = at-if1.before.before.before.args in
-    answer_made (moved_with a.said (claims_of a.session.now)) a.session.now _ _ at-if1.if1.false at_store.store.ensures at-verdict-number.verdict_number_holds.ensures
+returns : tie.Need-returns
+returns c =
+    let at_store = c in
+    let at-verdict-number = at_store in
+    let at-if1 = at-verdict-number in
+    let a = at-if1.args in
+    answer_made (moved_with a.said (claims_of a.session.now)) a.session.now _ _ at-if1.if-said-ne0.false at_store.store.ensures at-verdict-number.verdict_number.ensures
 
 pub answer_spec : {M : Type 1} → statement M
 answer_spec =
-    tie.close (tie.spec returns (λ c κs. search rules) (λ c κs. search rules) (λ c. search rules) returns-2)
+    tie.close (tie.spec returns-then-said-ne0 (λ c κs. search rules) (λ c κs. search rules) (λ c. search rules) returns)

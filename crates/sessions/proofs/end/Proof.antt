@@ -24,55 +24,55 @@ use borrow.Author.Rules.{rules}
 use Rattle.sessions.proofs.end.Statement.{statement}
 use Rattle.sessions.proofs.end.Tie as tie
 
-returns : tie.Need-returns
-returns c = move_nowhere _ _ c.before.before.before.args.session.now c.if1.true
+returns-then-session-ne-RECORD : tie.Need-returns-then-session-ne-RECORD
+returns-then-session-ne-RECORD c = move_nowhere _ _ c.args.session.now c.if-session-ne-RECORD.true
 
-returns-2 : tie.Need-returns-2
+returns-then-refusal-ne0 : tie.Need-returns-then-refusal-ne0
 unfolding last_fits flagged hasLength session_of
-returns-2 c =
-    let a = c.before.before.before.before.before.before.before.before.before.before.args in
-    let loaded = c.before.before.before.before.before.load in
+returns-then-refusal-ne0 c =
+    let a = c.args in
+    let loaded = c.load-before in
     let lengths =
-    ap (λ b. lent loaded.result.settings b 0) c.before.before.both.ensures
+    ap (λ b. lent loaded.result.settings b 0) c.both-fits.ensures
     ∙ ap (λ (s : Progress). lent s.settings (eqb (length a.last.now) s.settings.degree && leb (get_or a.session.now 6 0) 1) 0)
-    (loaded.ensures c.before.before.before.before.before.before.before.if1.false) in
-    move_refused _ _ a.session.now c.before.before.before.before.before.before.before.if1.false _ (c.before.refusal.ensures ∙ lengths) c.if2.true
+    (loaded.ensures c.if-session-ne-RECORD.false) in
+    move_refused _ _ a.session.now c.if-session-ne-RECORD.false _ (c.refusal-refusal.ensures ∙ lengths) c.if-refusal-ne0.true
 
-slice-aggregate-end-on : tie.Need-slice-aggregate-end-on
-slice-aggregate-end-on c = search rules
+slice_bounds-end_on-end-2 : tie.Need-slice_bounds-end_on-end-2
+slice_bounds-end_on-end-2 c = search rules
 
-returns-3 : tie.Need-returns-3
+returns : tie.Need-returns
 unfolding last_fits end_on flagged hasLength session_of
-returns-3 c =
-    let at-answer = c.before.before in
-    let at-end = at-answer.before.before.before in
-    let at-wholes = at-end.before.before.before.before in
-    let at-if2 = at-wholes.before in
-    let at-refusal = at-if2.before in
-    let at_both = at-refusal.before in
-    let at_load = at_both.before.before.before in
-    let at-if1 = at_load.before.before in
-    let a = at-if1.before.before.before.args in
+returns c =
+    let at-answer = c in
+    let at-end = at-answer in
+    let at-wholes = at-end in
+    let at-if2 = at-wholes in
+    let at-refusal = at-if2 in
+    let at_both = at-refusal in
+    let at_load = at_both in
+    let at-if1 = at_load in
+    let a = at-if1.args in
     let t = a.session.now in
-    let long = at-if1.if1.false in
-    let loaded = at_load.load in
-    let refusal = at-refusal.refusal in
-    let nothing = at-if2.if2.false in
-    let both = at_both.both in
+    let long = at-if1.if-session-ne-RECORD.false in
+    let loaded = at_load.load-before in
+    let refusal = at-refusal.refusal-refusal in
+    let nothing = at-if2.if-refusal-ne0.false in
+    let both = at_both.both-fits in
     let lengths =
     ap (λ b. lent loaded.result.settings b 0) both.ensures
     ∙ ap (λ (s : Progress). lent s.settings (eqb (length a.last.now) s.settings.degree && leb (get_or t 6 0) 1) 0) (loaded.ensures long) in
     let passed = sym refusal.ensures ∙ nothing in
     let whole = eqb-true _ _ (and_split (sym both.ensures ∙ lent_fits loaded.result.settings _ passed)).0 in
-    let element = at-wholes.wholes.ensures (lent_degree loaded.result.settings _ passed) whole in
+    let element = at-wholes.wholes-f.ensures (lent_degree loaded.result.settings _ passed) whole in
     let is =
-    at-end.end_on.ensures (record { claims-long = lent_long t long; final_long = λ ok. omega (arith, degree_most _ (settings-valid _ ok), slice-aggregate-end-on at-end.before) })
+    at-end.end_on-said.ensures (record { claims-long = lent_long t long; final_long = λ ok. omega (arith, degree_most _ (settings-valid _ ok), slice_bounds-end_on-end-2 at-end.before.before.before.before.before.before) })
     ∙ ap (λ f. end (record_of loaded.result (take (length t - 15) (drop 15 t))) f a.key.now) element
     ∙ (λ i. end (record_of (loaded.ensures long i) (claims_lent t long i)) (padded_signed (loaded.ensures long i).settings.degree a.last.now) a.key.now) in
-    move_made _ _ t long _ (refusal.ensures ∙ lengths) nothing _ _ _ _ (ap (moved_with at-end.end_on.result) (sym (claims_lent t long)) ∙ is) at-answer.answer.ensures
+    move_made _ _ t long _ (refusal.ensures ∙ lengths) nothing _ _ _ _ (ap (moved_with at-end.end_on-said.result) (sym (claims_lent t long)) ∙ is) at-answer.answer.ensures
 
 pub end_spec : {M : Type 1} → statement M
 end_spec =
     tie.close
-    (tie.spec returns (λ c κs. search rules) (λ c. search rules) (λ c. search rules) (λ c κs. search rules) (λ c κs. search rules) (λ c. search rules)
-    returns-2 (λ c κs. search rules) (λ c. search rules) (λ c. search rules) (λ c. search rules) slice-aggregate-end-on (λ c κs. search rules) (λ c κs. search rules) (λ c. search rules) returns-3)
+    (tie.spec returns-then-session-ne-RECORD (λ c κs. search rules) (λ c. search rules) (λ c. search rules) (λ c κs. search rules) (λ c κs. search rules) (λ c. search rules)
+    returns-then-refusal-ne0 (λ c κs. search rules) (λ c. search rules) (λ c. search rules) (λ c. search rules) slice_bounds-end_on-end-2 (λ c κs. search rules) (λ c κs. search rules) (λ c. search rules) returns)

@@ -27,99 +27,99 @@ use Rattle.sessions.proofs.round.Tie as tie
 sized : (S : Settings) (x y n : ℕ) → (settings_refusal S ≡ 0 → n ≡ item_cells S) → lent S (eqb x (3 * n) && leb y 1) 0 ≡ lent S (eqb x (polynomial_cells S) && leb y 1) 0
 sized S x y n e = lent_same S _ _ 0 (λ z. ap (λ m. eqb x (3 * m) && leb y 1) (e z))
 
-returns : tie.Need-returns
-returns c = move_nowhere _ _ c.before.before.before.args.session.now c.if1.true
+returns-then-session-ne-RECORD : tie.Need-returns-then-session-ne-RECORD
+returns-then-session-ne-RECORD c = move_nowhere _ _ c.args.session.now c.if-session-ne-RECORD.true
 
-returns-2 : tie.Need-returns-2
+returns-then-refusal-ne0 : tie.Need-returns-then-refusal-ne0
 unfolding polynomial_fits flagged hasLength session_of
-returns-2 c =
-    let a = c.before.before.before.before.before.before.before.before.before.before.before.args in
-    let loaded = c.before.before.before.before.before.before.load in
+returns-then-refusal-ne0 c =
+    let a = c.args in
+    let loaded = c.load-before in
     let lengths =
-    ap (λ b. lent loaded.result.settings b 0) c.before.before.both.ensures
-    ∙ sized loaded.result.settings (length a.polynomial.now) (get_or a.session.now 6 0) _ c.before.before.before.before.item-cells.ensures.0
+    ap (λ b. lent loaded.result.settings b 0) c.both-fits.ensures
+    ∙ sized loaded.result.settings (length a.polynomial.now) (get_or a.session.now 6 0) _ c.item_cells-n.ensures.0
     ∙ ap (λ (s : Progress). lent s.settings (eqb (length a.polynomial.now) (polynomial_cells s.settings) && leb (get_or a.session.now 6 0) 1) 0)
-    (loaded.ensures c.before.before.before.before.before.before.before.before.if1.false) in
-    move_refused _ _ a.session.now c.before.before.before.before.before.before.before.before.if1.false _ (c.before.refusal.ensures ∙ lengths) c.if2.true
+    (loaded.ensures c.if-session-ne-RECORD.false) in
+    move_refused _ _ a.session.now c.if-session-ne-RECORD.false _ (c.refusal-refusal.ensures ∙ lengths) c.if-refusal-ne0.true
 
 -- what is known where nothing beside the record is refused
-module _ (c : tie.Else2) where
-  abbrev at-refusal : tie.After-refusal
+module _ (c : tie.Else-refusal-ne0) where
+  abbrev at-refusal : tie.After-refusal-refusal
   at-refusal = c.before
 
-  abbrev at_both : tie.After-both
+  abbrev at_both : tie.After-both-fits
   at_both = at-refusal.before
 
-  abbrev at_cells : tie.After-item-cells
+  abbrev at_cells : tie.After-item_cells-n
   at_cells = at_both.before.before
 
-  abbrev at_load : tie.After-load
+  abbrev at_load : tie.After-load-before
   at_load = at_cells.before.before
 
-  abbrev at-if1 : tie.Else1
-  at-if1 = at_load.before.before
+  abbrev at-if1 : tie.Else-session-ne-RECORD
+  at-if1 = at_load.before
 
   abbrev s : tie.Start
   s = at-if1.before.before.before
 
   abbrev S : Settings
-  S = at_load.load.result.settings
+  S = at_load.load-before.result.settings
 
-  passed : lent S at_both.both.result 0 ≡ 0
-  passed = sym at-refusal.refusal.ensures ∙ c.if2.false
+  passed : lent S at_both.both-fits.result 0 ≡ 0
+  passed = sym at-refusal.refusal-refusal.ensures ∙ c.if-refusal-ne0.false
 
   allowed : settings_refusal S ≡ 0
   allowed = lent_allowed S _ passed
 
-  cells_are : at_cells.item-cells.result ≡ item_cells S
-  cells_are = at_cells.item-cells.ensures.0 allowed
+  cells_are : at_cells.item_cells-n.result ≡ item_cells S
+  cells_are = at_cells.item_cells-n.ensures.0 allowed
 
-  whole : length s.args.polynomial.now ≡ 3 * at_cells.item-cells.result
-  whole = eqb-true _ _ (and_split (sym at_both.both.ensures ∙ lent_fits S _ passed)).0
+  whole : length s.args.polynomial.now ≡ 3 * at_cells.item_cells-n.result
+  whole = eqb-true _ _ (and_split (sym at_both.both-fits.ensures ∙ lent_fits S _ passed)).0
 
-sub-round-on : tie.Need-overflow-sub-round-on
-sub-round-on c = omega (arith, whole c.before)
+slice_bounds-round_on-count : tie.Need-slice_bounds-round_on-count
+slice_bounds-round_on-count c = omega (arith, whole c.before)
 
-part-round-on-start : tie.Need-slice-bounds-round-on-start
-part-round-on-start c = omega (arith, whole c.before)
+slice_bounds-round_on-start : tie.Need-slice_bounds-round_on-start
+slice_bounds-round_on-start c = omega (arith, whole c.before)
 
-sub-round-on-2 : tie.Need-overflow-sub-round-on-2
-sub-round-on-2 c = omega (arith, whole c.before.before)
+slice_bounds-round_on-count-2 : tie.Need-slice_bounds-round_on-count-2
+slice_bounds-round_on-count-2 c = omega (arith, whole c.before.before)
 
-part-round-on-start-2 : tie.Need-slice-bounds-round-on-start-2
-part-round-on-start-2 c = omega (arith, whole c.before.before)
+slice_bounds-round_on-start-2 : tie.Need-slice_bounds-round_on-start-2
+slice_bounds-round_on-start-2 c = omega (arith, whole c.before.before)
 
-returns-3 : tie.Need-returns-3
+returns : tie.Need-returns
 unfolding polynomial_fits round_on flagged hasLength session_of
-returns-3 c =
-    let at-answer = c.before.before in
-    let at-round = at-answer.before.before.before.before.before in
-    let no = at-round.before.before.before.before.before in
-    let a = (s no).args in
+returns c =
+    let at-answer = c in
+    let at-round = at-answer in
+    let no = at-round in
+    let a = (s no.before.before.before.before.before.before.before.before.before.before.before.before).args in
     let t = a.session.now in
     let P = a.polynomial.now in
-    let n = (at_cells no).item-cells.result in
-    let loaded = (at_load no).load in
-    let long = (at-if1 no).if1.false in
+    let n = (at_cells no.before.before.before.before.before.before.before.before.before.before.before.before).item_cells-n.result in
+    let loaded = (at_load no.before.before.before.before.before.before.before.before.before.before.before.before).load-before in
+    let long = (at-if1 no.before.before.before.before.before.before.before.before.before.before.before.before).if-session-ne-RECORD.false in
     let lengths =
-    ap (λ b. lent loaded.result.settings b 0) (at_both no).both.ensures
-    ∙ sized loaded.result.settings (length P) (get_or t 6 0) _ (at_cells no).item-cells.ensures.0
+    ap (λ b. lent loaded.result.settings b 0) (at_both no.before.before.before.before.before.before.before.before.before.before.before.before).both-fits.ensures
+    ∙ sized loaded.result.settings (length P) (get_or t 6 0) _ (at_cells no.before.before.before.before.before.before.before.before.before.before.before.before).item_cells-n.ensures.0
     ∙ ap (λ (s : Progress). lent s.settings (eqb (length P) (polynomial_cells s.settings) && leb (get_or t 6 0) 1) 0) (loaded.ensures long) in
     let is =
-    at-round.round-on.ensures (record {
+    at-round.round_on-said.ensures (record {
       claims-long = lent_long t long;
-      first = λ ok. flat_lent (S no) ok _ (omega (arith, whole no, cells_are no));
-      second = λ ok. flat_lent (S no) ok _ (omega (arith, whole no, cells_are no, tail-length n P));
-      third = λ ok. flat_lent (S no) ok _ (omega (arith, whole no, cells_are no, tail-length (2 * n) P));
+      first = λ ok. flat_lent (S no.before.before.before.before.before.before.before.before.before.before.before.before) ok _ (omega (arith, whole no.before.before.before.before.before.before.before.before.before.before.before.before, cells_are no.before.before.before.before.before.before.before.before.before.before.before.before));
+      second = λ ok. flat_lent (S no.before.before.before.before.before.before.before.before.before.before.before.before) ok _ (omega (arith, whole no.before.before.before.before.before.before.before.before.before.before.before.before, cells_are no.before.before.before.before.before.before.before.before.before.before.before.before, tail-length n P));
+      third = λ ok. flat_lent (S no.before.before.before.before.before.before.before.before.before.before.before.before) ok _ (omega (arith, whole no.before.before.before.before.before.before.before.before.before.before.before.before, cells_are no.before.before.before.before.before.before.before.before.before.before.before.before, tail-length (2 * n) P));
     })
-    ∙ ap (λ p. round (record_of loaded.result (take (length t - 15) (drop 15 t))) p a.e) (flat-polynomial (S no) P n (cells_are no))
+    ∙ ap (λ p. round (record_of loaded.result (take (length t - 15) (drop 15 t))) p a.e) (flat-polynomial (S no.before.before.before.before.before.before.before.before.before.before.before.before) P n (cells_are no.before.before.before.before.before.before.before.before.before.before.before.before))
     ∙ (λ i. round (record_of (loaded.ensures long i) (claims_lent t long i)) (polynomial_of (loaded.ensures long i).settings P) a.e) in
-    move_made _ _ t long _ ((at-refusal no).refusal.ensures ∙ lengths) no.if2.false _ _ _ _ refl
-    (answered_lent t long _ (at-round.round-on.auto.1.1.1.1.1.1.0 ∙ lent_long t long) _ _ is (round_kept (session_of t) _ a.e) _ _ _ at-answer.answer.ensures)
+    move_made _ _ t long _ ((at-refusal no.before.before.before.before.before.before.before.before.before.before.before.before).refusal-refusal.ensures ∙ lengths) no.if-refusal-ne0.false _ _ _ _ refl
+    (answered_lent t long _ (at-round.round_on-said.auto.claims ∙ lent_long t long) _ _ is (round_kept (session_of t) _ a.e) _ _ _ at-answer.answer.ensures)
 
 pub round_spec : {M : Type 1} → statement M
 round_spec =
     tie.close
-    (tie.spec returns (λ c κs. search rules) (λ c κs. search rules) (λ c. search rules) (λ c. search rules) (λ c κs. search rules) (λ c κs. search rules)
-    (λ c. search rules) returns-2 (λ c. search rules) (λ c. search rules) (λ c. search rules) sub-round-on part-round-on-start (λ c. search rules) (λ c. search rules) sub-round-on-2
-    part-round-on-start-2 (λ c. search rules) (λ c. search rules) (λ c. search rules) (λ c. search rules) (λ c κs. search rules) (λ c κs. search rules) (λ c. search rules) returns-3)
+    (tie.spec returns-then-session-ne-RECORD (λ c κs. search rules) (λ c κs. search rules) (λ c. search rules) (λ c. search rules) (λ c κs. search rules) (λ c κs. search rules)
+    (λ c. search rules) returns-then-refusal-ne0 (λ c. search rules) (λ c. search rules) (λ c. search rules) slice_bounds-round_on-count slice_bounds-round_on-start (λ c. search rules) (λ c. search rules) slice_bounds-round_on-count-2
+    slice_bounds-round_on-start-2 (λ c. search rules) (λ c. search rules) (λ c. search rules) (λ c. search rules) (λ c κs. search rules) (λ c κs. search rules) (λ c. search rules) returns)

@@ -27,20 +27,20 @@ sized : (S : Settings) (x y n : ℕ) → (settings_refusal S ≡ 0 → n ≡ ite
 sized S x y n e = lent_same S _ _ 0 (λ z. ap (λ m. eqb x m && eqb y record_width) (e z))
 
 -- the refusal, and what is known where there is none
-refused : (c : tie.After-refusal) → let a = c.before.before.before.before.before.args in c.refusal.result ≡ lent a.settings
+refused : (c : tie.After-refusal-refusal) → let a = c.args in c.refusal-refusal.result ≡ lent a.settings
     (hasLength (item_cells a.settings) a.commitment.now && hasLength record_width a.session.now) 0
 unfolding hasLength
 refused c =
-    let a = c.before.before.before.before.before.args in
-    c.refusal.ensures ∙ ap (λ b. lent a.settings b 0) c.before.both.ensures ∙ sized a.settings (length a.commitment.now) (length a.session.now) _
-    c.before.before.item-cells.ensures.0
+    let a = c.args in
+    c.refusal-refusal.ensures ∙ ap (λ b. lent a.settings b 0) c.both-fits.ensures ∙ sized a.settings (length a.commitment.now) (length a.session.now) _
+    c.item_cells.ensures.0
 
-module _ (c : tie.Else1) where
+module _ (c : tie.Else-refusal-ne0) where
   abbrev s : tie.Start
   s = c.before.before.before.before.before.before
 
   passed : lent s.args.settings (hasLength (item_cells s.args.settings) s.args.commitment.now && hasLength record_width s.args.session.now) 0 ≡ 0
-  passed = sym (refused c.before) ∙ c.if1.false
+  passed = sym (refused c.before) ∙ c.if-refusal-ne0.false
 
   long : length s.args.session.now ≡ record_width
   unfolding hasLength
@@ -50,39 +50,39 @@ module _ (c : tie.Else1) where
   unfolding hasLength
   full = eqb-true _ _ (and_split {b = hasLength record_width s.args.session.now} (lent_fits s.args.settings _ passed)).0
 
+returns-then-refusal-ne0 : tie.Need-returns-then-refusal-ne0
+returns-then-refusal-ne0 c =
+    let at_store = c in
+    let at-if1 = at_store in
+    let a = at-if1.args in
+    start-refused a.settings a.commitment.now a.session.now _ (refused at-if1.before.before.before.before.before) _ _ at-if1.if-refusal-ne0.true refl at_store.store_blank.ensures
+
+slice_bounds-start_on-count : tie.Need-slice_bounds-start_on-count
+slice_bounds-start_on-count c = omega (arith, long c.before)
+
+slice_bounds-start_on-start : tie.Need-slice_bounds-start_on-start
+slice_bounds-start_on-start c = omega (arith, long c.before)
+
 returns : tie.Need-returns
 returns c =
-    let at_store = c.before.before in
-    let at-if1 = at_store.before.before in
-    let a = at-if1.before.before.before.before.before.before.args in
-    start-refused a.settings a.commitment.now a.session.now _ (refused at-if1.before) _ _ at-if1.if1.true refl at_store.store-blank.ensures
-
-sub-start-on : tie.Need-overflow-sub-start-on
-sub-start-on c = omega (arith, long c.before)
-
-part-start-on-start : tie.Need-slice-bounds-start-on-start
-part-start-on-start c = omega (arith, long c.before)
-
-returns-2 : tie.Need-returns-2
-returns-2 c =
-    let at_store = c.before.before in
-    let at-start = c.before.before.before.before.before.before.before in
-    let no = c.before.before.before.before.before.before.before.before.before.before in
-    let a = (s no).args in
+    let at_store = c in
+    let at-start = c in
+    let no = c in
+    let a = (s no.before.before.before.before.before.before.before.before.before.before).args in
     let t = a.session.now in
     let S = a.settings in
-    let begun = at-start.start-on.result in
-    let q = at-start.start-on.new.1.1.1.0 in
+    let begun = at-start.start_on-begun.result in
+    let q = at-start.start_on-begun.new.claims in
     let w = put_mid claims_at (length t - claims_at) t q in
-    let own = at-start.start-on.auto.1.1.1.0 ∙ lent_long t (long no) in
-    start_made S a.commitment.now t _ (refused no.before) (lent_rows S S.degree a.commitment.now) (started_with begun q) _ no.if1.false (λ _ _. flat-values S a.commitment.now)
-    (at-start.start-on.ensures (λ ok. flat_lent S ok _ (omega (arith, full no))) (lent_long t (long no)))
+    let own = at-start.start_on-begun.auto.claims ∙ lent_long t (long no.before.before.before.before.before.before.before.before.before.before) in
+    start_made S a.commitment.now t _ (refused no.before.before.before.before.before.before.before.before.before.before.before) (lent_rows S S.degree a.commitment.now) (started_with begun q) _ no.if-refusal-ne0.false (λ _ _. flat-values S a.commitment.now)
+    (at-start.start_on-begun.ensures (λ ok. flat_lent S ok _ (omega (arith, full no.before.before.before.before.before.before.before.before.before.before))) (lent_long t (long no.before.before.before.before.before.before.before.before.before.before)))
     (at_store.store.ensures
-    ∙ ap (λ claims. record_stored (record_of begun.next claims) w) (written-claims t (long no) q own)
-    ∙ stored-over (record_of begun.next q) w t (written_long t (long no) q own) (long no))
+    ∙ ap (λ claims. record_stored (record_of begun.next claims) w) (written-claims t (long no.before.before.before.before.before.before.before.before.before.before) q own)
+    ∙ stored-over (record_of begun.next q) w t (written_long t (long no.before.before.before.before.before.before.before.before.before.before) q own) (long no.before.before.before.before.before.before.before.before.before.before))
 
 pub start_spec : {M : Type 1} → statement M
 start_spec =
     tie.close
     (tie.spec (λ c κs. search rules) (λ c κs. search rules) (λ c κs. search rules) (λ c κs. search rules) (λ c. search rules)
-    returns (λ c. search rules) sub-start-on part-start-on-start (λ c. search rules) (λ c κs. search rules) (λ c κs. search rules) (λ c. search rules) returns-2)
+    returns-then-refusal-ne0 (λ c. search rules) slice_bounds-start_on-count slice_bounds-start_on-start (λ c. search rules) (λ c κs. search rules) (λ c κs. search rules) (λ c. search rules) returns)

@@ -20,26 +20,26 @@ module _ (c : tie.Start) where
   abbrev t : Tables
   t = let a = c.args in tables_of a.key.now [] a.commitment.now a.rounds.now a.challenges.now a.last.now a.claims.now
 
-accepted_is : (c : tie.After-accepted) → let s = c.before.before.before.before.before.before in c.accepted.result ≡ all_accepted s.args.settings (t s).key (transcript_in (t s))
+accepted_is : (c : tie.After-accepted-accepted) → let s = c in c.accepted-accepted.result ≡ all_accepted s.args.settings (t s.before.before.before.before.before.before).key (transcript_in (t s.before.before.before.before.before.before))
 unfolding transcript_in
-accepted_is c = let g = c.before.before.before.before.before.before.requires in c.accepted.ensures (transcript_given _ _ g) (long _ _ g).commitment
+accepted_is c = let g = c.requires in c.accepted-accepted.ensures (transcript_given _ _ g) (long _ _ g).commitment
 
 -- a claim reads nothing but rounds and challenges
-written_is : (c : tie.After-written) → let s = c.before.before.before.before.before.before.before in c.written.result ≡ claims_written s.args.settings (transcript_in (t s)) (t s).claims
+written_is : (c : tie.After-written-written) → let s = c in c.written-written.result ≡ claims_written s.args.settings (transcript_in (t s.before.before.before.before.before.before.before)) (t s.before.before.before.before.before.before.before).claims
 unfolding claims_written claim_written claim_of claim_after element row_of transcript_in
-written_is c = let g = c.before.before.before.before.before.before.before.requires in c.written.ensures (claims_given _ _ g) (long _ _ g).claims
+written_is c = let g = c.requires in c.written-written.ensures (claims_given _ _ g) (long _ _ g).claims
 
-both : (c : tie.After-written) → let s = c.before.before.before.before.before.before.before in tables_accepted s.args.settings (t s) ≡ c.before.accepted.result && c.written.result
+both : (c : tie.After-written-written) → let s = c in tables_accepted s.args.settings (t s.before.before.before.before.before.before.before) ≡ c.accepted-accepted.result && c.written-written.result
 unfolding tables_accepted
 both c = sym (λ j. accepted_is c.before j && written_is c j)
 
+returns-then-not-accepted-written : tie.Need-returns-then-not-accepted-written
+unfolding choose
+returns-then-not-accepted-written c = sym (ap (λ b. choose b Accepted Rejected) (both c.before ∙ not-true _ c.if-not-accepted-written.true-raw))
+
 returns : tie.Need-returns
 unfolding choose
-returns c = sym (ap (λ b. choose b Accepted Rejected) (both c.before ∙ not-true _ c.if1.true))
-
-returns-2 : tie.Need-returns-2
-unfolding choose
-returns-2 c = sym (ap (λ b. choose b Accepted Rejected) (both c.before ∙ not-false _ c.if1.false))
+returns c = sym (ap (λ b. choose b Accepted Rejected) (both c.before ∙ not-false _ c.if-not-accepted-written.false-raw))
 
 pub answer_spec : {M : Type 1} → statement M
-answer_spec = tie.close (tie.spec (λ c κs. search rules) (λ c κs. search rules) returns returns-2)
+answer_spec = tie.close (tie.spec (λ c κs. search rules) (λ c κs. search rules) returns-then-not-accepted-written returns)

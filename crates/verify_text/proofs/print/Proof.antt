@@ -8,15 +8,15 @@ use Rattle.verify_text.proofs.print.Tie as tie
 verify-requires : tie.Need-verify-requires
 verify-requires c κs = search
 
-show-verdict-requires : tie.Need-show-verdict-requires
-show-verdict-requires c κs = search
+show_verdict-requires : tie.Need-show_verdict-requires
+show_verdict-requires c κs = search
 
-same_length : tie.Need-same-length
-same_length c = search
+shape_of-out : tie.Need-shape_of-out
+shape_of-out c = search
 
 returns : tie.Need-returns
 unfolding verify_output
-returns c = let s = c.before.before in shown-told (shown_as (ap verdict_line s.before.before.verify.ensures.0) s.show-verdict.ensures)
+returns c = let s = c in shown-told (shown_as (ap verdict_line s.verify.ensures.0) s.show_verdict.ensures)
 
 pub print_spec : {M : Type 1} → statement M
-print_spec = tie.close (tie.spec verify-requires show-verdict-requires same_length returns)
+print_spec = tie.close (tie.spec verify-requires show_verdict-requires shape_of-out returns)

@@ -7,20 +7,20 @@ use Rattle.table_writer.proofs.Shows.{shown_as}
 use Rattle.verify_text.proofs.show_verdict.Statement.{statement}
 use Rattle.verify_text.proofs.show_verdict.Tie as tie
 
-returns : tie.Need-returns
+returns-in-Accepted : tie.Need-returns-in-Accepted
 unfolding verdict_line bytes
-returns c = let s = c.before.before in shown_as (sym (ap verdict_line s.before.before.before.enum_told.given.1)) s.show.ensures
+returns-in-Accepted c = let s = c in shown_as (sym (ap verdict_line s.in-Accepted.is)) s.show.ensures
 
-returns-2 : tie.Need-returns-2
+returns-in-Rejected : tie.Need-returns-in-Rejected
 unfolding verdict_line bytes
-returns-2 c = let s = c.before.before in shown_as (sym (ap verdict_line s.before.before.before.enum-told2.given.1)) s.show2.ensures
+returns-in-Rejected c = let s = c in shown_as (sym (ap verdict_line s.in-Rejected.is)) s.show-in-Rejected.ensures
 
-returns-3 : tie.Need-returns-3
+returns-in-Refused : tie.Need-returns-in-Refused
 unfolding verdict_line
-returns-3 c = let s = c.before.before in shown_as (sym (ap verdict_line s.before.before.before.answer.given.1)) s.show-refusal.ensures
+returns-in-Refused c = let s = c in shown_as (sym (ap verdict_line s.in-Refused.is)) s.show_refusal.ensures
 
 pub show_verdict_spec : {M : Type 1} → statement M
 show_verdict_spec =
     tie.close
-    (tie.spec (λ c. search rules) (λ c. search rules) (λ c κs. search rules) (λ c. search rules) (λ c. search rules) (λ c κs. search rules)
-    (λ c. search rules) (λ c κs. search rules) (λ c. search rules) returns (λ c. search rules) returns-2 (λ c. search rules) returns-3)
+    (tie.spec (λ c. search rules) (λ c κs. search rules) (λ c. search rules) (λ c κs. search rules)
+    (λ c. search rules) (λ c κs. search rules) (λ c. search rules) returns-in-Accepted (λ c. search rules) returns-in-Rejected (λ c. search rules) returns-in-Refused)

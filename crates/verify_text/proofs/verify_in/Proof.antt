@@ -13,7 +13,7 @@ use Rattle.verify_text.proofs.Verifies.{verify-refused, verify_given, verify-don
 use Rattle.verify_text.proofs.verify_in.Statement.{statement}
 use Rattle.verify_text.proofs.verify_in.Tie as tie
 
-module _ (c : tie.After-read-tables) where
+module _ (c : tie.After-read_tables-loaded) where
   abbrev start : tie.Start
   start = c.before.before.before.before.before.before.before.before.before.before.before.before.before.before.before
 
@@ -26,50 +26,50 @@ module _ (c : tie.After-read-tables) where
 
   abbrev t' : Tables
   t' =
-      let l = c.read-tables.new.1.1.1.1 in
-      tables_of l.0 l.1.0 l.1.1.0 l.1.1.1.0 l.1.1.1.1.0 l.1.1.1.1.1.0 l.1.1.1.1.1.1.0
+      let l = c.read_tables-loaded.new in
+      tables_of l.key l.message l.commitment l.rounds l.challenges l.last l.claims
 
   fit : Lent verify_reads text t
-  fit = start.pre.0
+  fit = start.requires.0
 
-  promise : Read verify_reads text t c.read-tables.result t'
-  promise = subst (λ P. Read P text t c.read-tables.result t') c.before.before.before.before.before.before.before.before.reads.ensures (c.read-tables.ensures start.pre.1)
+  promise : Read verify_reads text t c.read_tables-loaded.result t'
+  promise = subst (λ P. Read P text t c.read_tables-loaded.result t') c.reads.ensures (c.read_tables-loaded.ensures start.requires.1)
 
-lengths : (c : tie.After-claims) → let r = c.before.before.before.before.before.before.before.before.before.before.before in lengths_of (t' r) ≡ lengths_of (t r)
+lengths : (c : tie.After-claims-1) → let r = c in lengths_of (t' r.before.before.before.before.before.before.before.before.before.before.before) ≡ lengths_of (t r.before.before.before.before.before.before.before.before.before.before.before)
 unfolding lengths_of
 lengths c =
-    let r = c.before.before.before.before.before.before.before.before.before.before.before in
-    let a = (start r).args in
-    let key : length (t' r).key ≡ length a.key.now = search in
-    let message : length (t' r).message ≡ length a.message.now = search in
-    let commitment : length (t' r).commitment ≡ length a.commitment.now = search in
-    let rounds : length (t' r).rounds ≡ length a.rounds.now = search in
-    let challenges : length (t' r).challenges ≡ length a.challenges.now = search in
-    let last : length (t' r).last ≡ length a.last.now = search in
-    let claims : length (t' r).claims ≡ length a.claims.now = search in
+    let r = c in
+    let a = (start r.before.before.before.before.before.before.before.before.before.before.before).args in
+    let key : length (t' r.before.before.before.before.before.before.before.before.before.before.before).key ≡ length a.key.now = search in
+    let message : length (t' r.before.before.before.before.before.before.before.before.before.before.before).message ≡ length a.message.now = search in
+    let commitment : length (t' r.before.before.before.before.before.before.before.before.before.before.before).commitment ≡ length a.commitment.now = search in
+    let rounds : length (t' r.before.before.before.before.before.before.before.before.before.before.before).rounds ≡ length a.rounds.now = search in
+    let challenges : length (t' r.before.before.before.before.before.before.before.before.before.before.before).challenges ≡ length a.challenges.now = search in
+    let last : length (t' r.before.before.before.before.before.before.before.before.before.before.before).last ≡ length a.last.now = search in
+    let claims : length (t' r.before.before.before.before.before.before.before.before.before.before.before).claims ≡ length a.claims.now = search in
     λ j. key j ∷ message j ∷ commitment j ∷ rounds j ∷ challenges j ∷ last j ∷ claims j ∷ []
 
-returns : tie.Need-returns
-returns c = let r = c.before.before.before.before.before.before.before.before.before.before.before.before.before.before in
-    verify-refused (text r) (t r) (t' r) (fit r) r.read-tables.result (promise r) c.if1.true
+returns-then-loaded-ne0 : tie.Need-returns-then-loaded-ne0
+returns-then-loaded-ne0 c = let r = c in
+    verify-refused (text r.before.before.before.before.before.before.before.before.before.before.before.before.before.before) (t r.before.before.before.before.before.before.before.before.before.before.before.before.before.before) (t' r.before.before.before.before.before.before.before.before.before.before.before.before.before.before) (fit r.before.before.before.before.before.before.before.before.before.before.before.before.before.before) r.read_tables-loaded.result (promise r.before.before.before.before.before.before.before.before.before.before.before.before.before.before) c.if-loaded-ne0.true
 
 answer-requires : tie.Need-answer-requires
 answer-requires c κs =
-    let e = c.before.before.before.before.before.before in
-    let l = e.before.before.before in
-    let r = l.before.before.before.before.before.before.before.before.before.before.before in
-    given_bare _ _ (verify_given (text r) (t r) (t' r) (fit r) r.read-tables.result (promise r) e.if1.false (lengths l))
+    let e = c in
+    let l = e in
+    let r = l in
+    given_bare _ _ (verify_given (text r.before.before.before.before.before.before.before.before.before.before.before.before.before.before.before) (t r.before.before.before.before.before.before.before.before.before.before.before.before.before.before.before) (t' r.before.before.before.before.before.before.before.before.before.before.before.before.before.before.before) (fit r.before.before.before.before.before.before.before.before.before.before.before.before.before.before.before) r.read_tables-loaded.result (promise r.before.before.before.before.before.before.before.before.before.before.before.before.before.before.before) e.if-loaded-ne0.false (lengths l.before.before.before.before))
 
-returns-2 : tie.Need-returns-2
+returns : tie.Need-returns
 unfolding tables_accepted transcript_in
-returns-2 c =
-    let e = c.before.before.before.before.before.before.before in
-    let r = e.before.before.before.before.before.before.before.before.before.before.before.before.before.before in
-    verify-done (text r) (t r) (t' r) (fit r) r.read-tables.result (promise r) e.if1.false c.answer.result c.answer.ensures
+returns c =
+    let e = c in
+    let r = e in
+    verify-done (text r.before.before.before.before.before.before.before.before.before.before.before.before.before.before.before.before) (t r.before.before.before.before.before.before.before.before.before.before.before.before.before.before.before.before) (t' r.before.before.before.before.before.before.before.before.before.before.before.before.before.before.before.before) (fit r.before.before.before.before.before.before.before.before.before.before.before.before.before.before.before.before) r.read_tables-loaded.result (promise r.before.before.before.before.before.before.before.before.before.before.before.before.before.before.before.before) e.if-loaded-ne0.false c.answer.result c.answer.ensures
 
 pub verify_in_spec : {M : Type 1} → statement M
 verify_in_spec =
     tie.close
     (tie.spec (λ c κs. search) (λ c κs. search) (λ c. search) (λ c. search) (λ c. search) (λ c. search)
-    (λ c. search) (λ c. search) (λ c. search) returns answer-requires (λ c. search) (λ c. search) (λ c. search) (λ c. search)
-    (λ c. search) (λ c. search) (λ c. search) returns-2)
+    (λ c. search) (λ c. search) (λ c. search) returns-then-loaded-ne0 answer-requires (λ c. search) (λ c. search) (λ c. search) (λ c. search)
+    (λ c. search) (λ c. search) (λ c. search) returns)

@@ -23,68 +23,68 @@ use Rattle.verify_text.proofs.verify_within.Statement.{statement}
 use Rattle.verify_text.proofs.verify_within.Tie as tie
 
 -- settings that are not refused
-module _ (c : tie.After-claim-cells) where
-  abbrev left : tie.Else1
+module _ (c : tie.After-claim_cells-claim_cells) where
+  abbrev left : tie.Else-looked-ne0
   left = c.before.before.before.before.before.before.before.before.before
 
-  abbrev seen : tie.After-allowed-settings
+  abbrev seen : tie.After-allowed_settings-begun
   seen = left.before.before.before
 
   abbrev start : tie.Start
   start = seen.before.before.before.before.before.before.before
 
   abbrev S : Settings
-  S = seen.allowed-settings.result.loaded.settings
+  S = seen.allowed_settings-begun.result.loaded.settings
 
   abbrev text : List ℕ
   text = start.args.text.now
 
-  known : Begun text seen.allowed-settings.result.loaded
-  known = begun text seen.allowed-settings.result.loaded seen.allowed-settings.ensures.0
+  known : Begun text seen.allowed_settings-begun.result.loaded
+  known = begun text seen.allowed_settings-begun.result.loaded seen.allowed_settings-begun.ensures.0
 
-  begins : Begins text S seen.allowed-settings.result.next
-  begins = begun_begins text seen.allowed-settings.result.loaded _ seen.allowed-settings.ensures.0 seen.allowed-settings.ensures.1 left.if1.left
+  begins : Begins text S seen.allowed_settings-begun.result.next
+  begins = begun_begins text seen.allowed_settings-begun.result.loaded _ seen.allowed_settings-begun.ensures.0 seen.allowed_settings-begun.ensures.1 left.if-looked-ne0.false
 
   allowed : settings_refusal S ≡ 0
-  allowed = known.allowed left.if1.left
+  allowed = known.allowed left.if-looked-ne0.false
 
   -- what is lent
   abbrev key_lent : ℕ
-  key_lent = c.before.before.before.before.lent-cells.result
+  key_lent = c.lent_cells-key_cells.result
 
   abbrev item_lent : ℕ
-  item_lent = c.before.before.before.item-cells.result
+  item_lent = c.item_cells-item_cells.result
 
   abbrev rounds_lent : ℕ
-  rounds_lent = c.before.lent-cells2.result
+  rounds_lent = c.lent_cells-round_cells.result
 
   abbrev claims_lent : ℕ
-  claims_lent = c.claim-cells.result
+  claims_lent = c.claim_cells-claim_cells.result
 
   key_is : key_lent ≡ lent_cells (key_cells S)
-  key_is = c.before.before.before.before.lent-cells.ensures ∙ ap lent_cells (c.before.before.before.before.before.key-cells.ensures allowed)
+  key_is = c.lent_cells-key_cells.ensures ∙ ap lent_cells (c.key_cells.ensures allowed)
 
   rounds_is : rounds_lent ≡ lent_cells (round_cells S)
-  rounds_is = c.before.lent-cells2.ensures ∙ ap lent_cells (c.before.before.round-cells.ensures allowed)
+  rounds_is = c.lent_cells-round_cells.ensures ∙ ap lent_cells (c.round_cells.ensures allowed)
 
   -- there is room for every table
   key_room : key_lent ≤ length start.args.key.now
-  key_room = omega (arith, key_is, start.pre.0)
+  key_room = omega (arith, key_is, start.requires.0)
 
   commitment-room : item_lent ≤ length start.args.commitment.now
-  commitment-room = omega (arith, c.before.before.before.item-cells.ensures.1, start.pre.1)
+  commitment-room = omega (arith, c.item_cells-item_cells.ensures.1, start.requires.1)
 
   rounds-room : rounds_lent ≤ length start.args.rounds.now
-  rounds-room = omega (arith, rounds_is, start.pre.2)
+  rounds-room = omega (arith, rounds_is, start.requires.2)
 
   challenges-room : S.depth ≤ length start.args.challenges.now
-  challenges-room = omega (arith, (rooms S allowed).challenges, start.pre.3)
+  challenges-room = omega (arith, (rooms S allowed).challenges, start.requires.3)
 
   last_room : S.degree ≤ length start.args.last.now
-  last_room = omega (arith, (rooms S allowed).element, start.pre.4)
+  last_room = omega (arith, (rooms S allowed).element, start.requires.4)
 
   claims-room : claims_lent ≤ length start.args.claims.now
-  claims-room = omega (arith, c.claim-cells.ensures allowed, claims-few S allowed, start.pre.5)
+  claims-room = omega (arith, c.claim_cells-claim_cells.ensures allowed, claims-few S allowed, start.requires.5)
 
   abbrev t : Tables
   t = tables_of (take key_lent start.args.key.now) [] (take item_lent start.args.commitment.now) (take rounds_lent start.args.rounds.now)
@@ -97,67 +97,67 @@ module _ (c : tie.After-claim-cells) where
       record {
         key = length-take-le _ _ key_room ∙ key_is ∙ omega (arith, few.0);
         message = λ _. 0;
-        commitment = length-take-le _ _ commitment-room ∙ c.before.before.before.item-cells.ensures.0 allowed;
+        commitment = length-take-le _ _ commitment-room ∙ c.item_cells-item_cells.ensures.0 allowed;
         rounds = length-take-le _ _ rounds-room ∙ rounds_is ∙ omega (arith, few.1);
         challenges = length-take-le _ _ challenges-room;
         last = length-take-le _ _ last_room;
-        claims = length-take-le _ _ claims-room ∙ c.claim-cells.ensures allowed;
+        claims = length-take-le _ _ claims-room ∙ c.claim_cells-claim_cells.ensures allowed;
       }
 
-returns : tie.Need-returns
-returns c =
-    let l = c.before.before.before in
-    let t = l.before.before.before.before.before.before.before.args.text.now in
-    let r = l.allowed-settings.result.loaded in
-    verify-stops t r ((begun t r l.allowed-settings.ensures.0).refused c.if1.true) c.if1.true
+returns-then-looked-ne0 : tie.Need-returns-then-looked-ne0
+returns-then-looked-ne0 c =
+    let l = c in
+    let t = l.args.text.now in
+    let r = l.allowed_settings-begun.result.loaded in
+    verify-stops t r ((begun t r l.allowed_settings-begun.ensures.0).refused c.if-looked-ne0.true) c.if-looked-ne0.true
 
-slice-relend-prefix-verify-in : tie.Need-slice-relend-prefix-verify-in
-slice-relend-prefix-verify-in c = key_room c
+slice_bounds-verify_in-end : tie.Need-slice_bounds-verify_in-end
+slice_bounds-verify_in-end c = key_room c
 
-slice-aggregate-verify-in : tie.Need-slice-aggregate-verify-in
-slice-aggregate-verify-in c = sym (length-take-le _ _ (key_room c.before))
+slice_bounds-verify_in-end-2 : tie.Need-slice_bounds-verify_in-end-2
+slice_bounds-verify_in-end-2 c = sym (length-take-le _ _ (key_room c.before))
 
-slice-relend-prefix-verify-in-3 : tie.Need-slice-relend-prefix-verify-in-3
-slice-relend-prefix-verify-in-3 c = commitment-room c.before.before
+slice_bounds-verify_in-end-5 : tie.Need-slice_bounds-verify_in-end-5
+slice_bounds-verify_in-end-5 c = commitment-room c.before.before
 
-slice-aggregate-verify-in-3 : tie.Need-slice-aggregate-verify-in-3
-slice-aggregate-verify-in-3 c = sym (length-take-le _ _ (commitment-room c.before.before.before))
+slice_bounds-verify_in-end-6 : tie.Need-slice_bounds-verify_in-end-6
+slice_bounds-verify_in-end-6 c = sym (length-take-le _ _ (commitment-room c.before.before.before))
 
-slice-relend-prefix-verify-in-4 : tie.Need-slice-relend-prefix-verify-in-4
-slice-relend-prefix-verify-in-4 c = rounds-room c.before.before.before
+slice_bounds-verify_in-end-7 : tie.Need-slice_bounds-verify_in-end-7
+slice_bounds-verify_in-end-7 c = rounds-room c.before.before.before
 
-slice-aggregate-verify-in-4 : tie.Need-slice-aggregate-verify-in-4
-slice-aggregate-verify-in-4 c = sym (length-take-le _ _ (rounds-room c.before.before.before.before))
+slice_bounds-verify_in-end-8 : tie.Need-slice_bounds-verify_in-end-8
+slice_bounds-verify_in-end-8 c = sym (length-take-le _ _ (rounds-room c.before.before.before.before))
 
-slice-relend-prefix-verify-in-5 : tie.Need-slice-relend-prefix-verify-in-5
-slice-relend-prefix-verify-in-5 c = challenges-room c.before.before.before.before
+slice_bounds-verify_in-end-9 : tie.Need-slice_bounds-verify_in-end-9
+slice_bounds-verify_in-end-9 c = challenges-room c.before.before.before.before
 
-slice-aggregate-verify-in-5 : tie.Need-slice-aggregate-verify-in-5
-slice-aggregate-verify-in-5 c = sym (length-take-le _ _ (challenges-room c.before.before.before.before.before))
+slice_bounds-verify_in-end-10 : tie.Need-slice_bounds-verify_in-end-10
+slice_bounds-verify_in-end-10 c = sym (length-take-le _ _ (challenges-room c.before.before.before.before.before))
 
-slice-relend-prefix-verify-in-6 : tie.Need-slice-relend-prefix-verify-in-6
-slice-relend-prefix-verify-in-6 c = last_room c.before.before.before.before.before
+slice_bounds-verify_in-end-11 : tie.Need-slice_bounds-verify_in-end-11
+slice_bounds-verify_in-end-11 c = last_room c.before.before.before.before.before
 
-slice-aggregate-verify-in-6 : tie.Need-slice-aggregate-verify-in-6
-slice-aggregate-verify-in-6 c = sym (length-take-le _ _ (last_room c.before.before.before.before.before.before))
+slice_bounds-verify_in-end-12 : tie.Need-slice_bounds-verify_in-end-12
+slice_bounds-verify_in-end-12 c = sym (length-take-le _ _ (last_room c.before.before.before.before.before.before))
 
-slice-relend-prefix-verify-in-7 : tie.Need-slice-relend-prefix-verify-in-7
-slice-relend-prefix-verify-in-7 c = claims-room c.before.before.before.before.before.before
+slice_bounds-verify_in-end-13 : tie.Need-slice_bounds-verify_in-end-13
+slice_bounds-verify_in-end-13 c = claims-room c.before.before.before.before.before.before
 
-slice-aggregate-verify-in-7 : tie.Need-slice-aggregate-verify-in-7
-slice-aggregate-verify-in-7 c = sym (length-take-le _ _ (claims-room c.before.before.before.before.before.before.before))
+slice_bounds-verify_in-end-14 : tie.Need-slice_bounds-verify_in-end-14
+slice_bounds-verify_in-end-14 c = sym (length-take-le _ _ (claims-room c.before.before.before.before.before.before.before))
 
-verify-in-requires : tie.Need-verify-in-requires
-verify-in-requires c κs =
-    let k = c.before.before.before.before.before.before.before in
-    ((λ e same. ap (λ x. fits x verify_reads (t k)) (sym ((known k).settings_are e)) ∙ lent_fitting (S k) (t k) (long k e same)), begins k)
+verify_in-requires : tie.Need-verify_in-requires
+verify_in-requires c κs =
+    let k = c in
+    ((λ e same. ap (λ x. fits x verify_reads (t k.before.before.before.before.before.before.before)) (sym ((known k.before.before.before.before.before.before.before).settings_are e)) ∙ lent_fitting (S k.before.before.before.before.before.before.before) (t k.before.before.before.before.before.before.before) (long k.before.before.before.before.before.before.before e same)), begins k.before.before.before.before.before.before.before)
 
 pub verify_within_spec : {M : Type 1} → statement M
 verify_within_spec =
     tie.close
-    (tie.spec (λ c κs. search) returns (λ c. search rules) (λ c. search rules) (λ c κs. search) (λ c κs. search)
-    (λ c κs. search) (λ c κs. search) (λ c κs. search) (λ c κs. search) slice-relend-prefix-verify-in slice-aggregate-verify-in (λ c. search rules) (λ c. search) slice-relend-prefix-verify-in-3
-    slice-aggregate-verify-in-3 slice-relend-prefix-verify-in-4 slice-aggregate-verify-in-4 slice-relend-prefix-verify-in-5
-    slice-aggregate-verify-in-5 slice-relend-prefix-verify-in-6 slice-aggregate-verify-in-6 slice-relend-prefix-verify-in-7 slice-aggregate-verify-in-7 verify-in-requires (λ c. search)
+    (tie.spec (λ c κs. search) returns-then-looked-ne0 (λ c. search rules) (λ c. search rules) (λ c κs. search) (λ c κs. search)
+    (λ c κs. search) (λ c κs. search) (λ c κs. search) (λ c κs. search) slice_bounds-verify_in-end slice_bounds-verify_in-end-2 (λ c. search rules) (λ c. search) slice_bounds-verify_in-end-5
+    slice_bounds-verify_in-end-6 slice_bounds-verify_in-end-7 slice_bounds-verify_in-end-8 slice_bounds-verify_in-end-9
+    slice_bounds-verify_in-end-10 slice_bounds-verify_in-end-11 slice_bounds-verify_in-end-12 slice_bounds-verify_in-end-13 slice_bounds-verify_in-end-14 verify_in-requires (λ c. search)
     (λ c. search) (λ c. search)
     (λ c. search) (λ c. search) (λ c. search) (λ c. search) (λ c. search))

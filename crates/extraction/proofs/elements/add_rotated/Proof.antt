@@ -5,19 +5,19 @@ use Rattle.extraction.proofs.Sums.{window_summable, window-rotated}
 use Rattle.extraction.proofs.elements.add_rotated.Statement.{statement}
 use Rattle.extraction.proofs.elements.add_rotated.Tie as tie
 
-add-row-requires : tie.Need-add-row-requires
-add-row-requires c κs =
-    let r = c.before.before.row-start in let g = c.before.before.before in let a = g.args in
+add_row-requires : tie.Need-add_row-requires
+add_row-requires c κs =
+    let r = c.row_start in let g = c in let a = g.args in
     window_summable a.d g.requires.0 a.x.now a.out.now g.requires.4 g.requires.5 g.requires.3 a.e r.result g.requires.2 r.ensures.0 (r.ensures.1 g.requires.2)
 
 returns : tie.Need-returns
 returns c =
-    let r = c.before.before.before.before.row-start in let g = c.before.before.before.before.before in let a = g.args in
-    c.before.add_row.ensures
+    let r = c.row_start in let g = c in let a = g.args in
+    c.add_row.ensures
     ∙ window-rotated a.d g.requires.0 a.x.now a.out.now g.requires.4 g.requires.5 g.requires.3 a.e r.result g.requires.2 r.ensures.0 (r.ensures.1 g.requires.2)
 
 pub add_rotated_spec : {M : Type 1} → statement M
 add_rotated_spec =
     tie.close
-    (tie.spec (λ c κs. search rules) (λ c. search rules) (λ c. search rules) (λ c. search rules) (λ c. search rules) (λ c. search rules) add-row-requires
+    (tie.spec (λ c κs. search rules) (λ c. search rules) (λ c. search rules) (λ c. search rules) (λ c. search rules) (λ c. search rules) add_row-requires
     (λ c. search rules) returns)

@@ -22,17 +22,17 @@ use Rattle.extraction.proofs.elements.divide.Tie as tie
 abbrev Before : ℕ → ℕ → ℕ → Type 0
 Before d k j = (i : ℕ) → i < j → eqb (k * 2 ^ i % (2 * d)) d ≡ false
 
-abbrev invariant-loop : tie.invariant-loop
-invariant-loop d k a₀ x₀ e₀ j₀ a x e j =
+abbrev invariant-loop-j : tie.invariant-loop-j
+invariant-loop-j d k a₀ x₀ e₀ j₀ a x e j =
     (j ≤ doublings_most) × (e ≡ k * 2 ^ j % (2 * d)) × (a ≡ filled (summed d k j (signed a₀)) d a₀) × (length a ≡ length a₀) × (length x ≡ length x₀) × Before d k j
 
-abbrev decreases-loop : tie.decreases-loop
-decreases-loop d k a₀ x₀ e₀ j₀ a x e j = doublings_most - j
+abbrev decreases-loop-j : tie.decreases-loop-j
+decreases-loop-j d k a₀ x₀ e₀ j₀ a x e j = doublings_most - j
 
-some : (c : tie.Start invariant-loop decreases-loop) → 0 < c.args.d
+some : (c : tie.Start invariant-loop-j decreases-loop-j) → 0 < c.args.d
 some c = omega (arith, c.requires.1.degree_is, Pow.pow_pos c.requires.1.log)
 
-small : (c : tie.Start invariant-loop decreases-loop) → c.args.d ≤ width
+small : (c : tie.Start invariant-loop-j decreases-loop-j) → c.args.d ≤ width
 small c = omega (arith, c.requires.1.degree_is, Pow.pow_mono {i = c.requires.1.log} {j = 7} c.requires.1.log_most)
 
 -- where it is not met now either
@@ -46,11 +46,11 @@ done : (d k j : ℕ) → j ≤ doublings_most → (j < doublings_most → k * 2 
 unfolding divided
 done d k j h t none = ap (λ n. summed d k n) (sym (Q.doublings-are d k j h t none))
 
-turn-exponent : (g : tie.Start invariant-loop decreases-loop) (j e : ℕ) → e ≡ g.args.k * 2 ^ j % (2 * g.args.d) → e < 2 * g.args.d
+turn-exponent : (g : tie.Start invariant-loop-j decreases-loop-j) (j e : ℕ) → e ≡ g.args.k * 2 ^ j % (2 * g.args.d) → e < 2 * g.args.d
 turn-exponent g j e is = let p : 0 < 2 * g.args.d = omega (arith, some g) in omega (arith, Nat.mod-lt (g.args.k * 2 ^ j) p)
 
-loop-holds : tie.Need-loop-init invariant-loop decreases-loop
-loop-holds c = (
+loop-j-init : tie.Need-loop-j-init invariant-loop-j decreases-loop-j
+loop-j-init c = (
   omega arith,
   sym (ap (λ n. n % (2 * c.args.d)) (ap (λ n. c.args.k * n) (Nat.pow-zero 2) ∙ Nat.mul-one c.args.k) ∙ Nat.mod-eq_of_lt c.requires.1.exponent),
   unfold summed in Q.filled-own c.args.d c.args.a.now c.requires.1.long,
@@ -59,57 +59,57 @@ loop-holds c = (
   λ i h. absurd (omega arith),
 )
 
-same_length : tie.Need-same-length invariant-loop decreases-loop
-same_length c = c.before.before.loop.invariant.3
+shape_of-a-then-e-d : tie.Need-shape_of-a-then-e-d invariant-loop-j decreases-loop-j
+shape_of-a-then-e-d c = c.loop-j.invariant.3
 
-same-length-2 : tie.Need-same-length-2 invariant-loop decreases-loop
-same-length-2 c = c.before.before.loop.invariant.4
+shape_of-x-then-e-d : tie.Need-shape_of-x-then-e-d invariant-loop-j decreases-loop-j
+shape_of-x-then-e-d c = c.loop-j.invariant.4
 
-returns : tie.Need-returns invariant-loop decreases-loop
-returns c =
-    let g = c.before.before.before in let l = c.before.before.loop in
-    l.invariant.2 ∙ ap (λ f. filled (f (signed g.args.a.now)) g.args.d g.args.a.now) (done g.args.d g.args.k l.j l.invariant.0 (λ _. sym l.invariant.1 ∙ c.if1.true) l.invariant.5)
+returns-then-e-d : tie.Need-returns-then-e-d invariant-loop-j decreases-loop-j
+returns-then-e-d c =
+    let g = c in let l = c.loop-j in
+    l.invariant.2 ∙ ap (λ f. filled (f (signed g.args.a.now)) g.args.d g.args.a.now) (done g.args.d g.args.k l.j l.invariant.0 (λ _. sym l.invariant.1 ∙ c.if-e-d.true) l.invariant.5)
 
-add-own-requires : tie.Need-add-own-requires invariant-loop decreases-loop
-add-own-requires c κs =
-    let g = c.before.before.before.before.before in let l = c.before.before.before.before.loop in (
-      some g,
-      small g,
-      turn-exponent g l.j l.e l.invariant.1,
+add_own-requires : tie.Need-add_own-requires invariant-loop-j decreases-loop-j
+add_own-requires c κs =
+    let g = c in let l = c.loop-j in (
+      some g.before.before.before.before.before,
+      small g.before.before.before.before.before,
+      turn-exponent g.before.before.before.before.before l.j l.e l.invariant.1,
       omega (arith, g.requires.0, l.invariant.4),
-      Q.sum-summable g.args.d g.args.k (some g) g.args.a.now l.a l.j l.invariant.2 g.requires.1 l.invariant.3
-          (λ i h. further g.args.d g.args.k l.j l.e l.invariant.1 c.before.before.if1.false l.invariant.5 i (omega arith)),
+      Q.sum-summable g.args.d g.args.k (some g.before.before.before.before.before) g.args.a.now l.a l.j l.invariant.2 g.requires.1 l.invariant.3
+          (λ i h. further g.args.d g.args.k l.j l.e l.invariant.1 c.if-e-d.false l.invariant.5 i (omega arith)),
     )
 
-mul-on-circle : tie.Need-overflow-mul-on-circle invariant-loop decreases-loop
-mul-on-circle c =
-    let g = c.before.before.before.before.before.before.before.before in let l = c.before.before.before.before.before.before.before.loop in
-    omega (arith, small g, turn-exponent g l.j l.e l.invariant.1)
+overflow_mul-e : tie.Need-overflow_mul-e invariant-loop-j decreases-loop-j
+overflow_mul-e c =
+    let g = c in let l = c.loop-j in
+    omega (arith, small g.before.before.before.before.before.before.before.before, turn-exponent g.before.before.before.before.before.before.before.before l.j l.e l.invariant.1)
 
-loop-again : tie.Need-loop-preserved invariant-loop decreases-loop
-loop-again c =
-    let g = c.before.before.before.before.before.before.before.before.before in let l = c.before.before.before.before.before.before.before.before.loop in let a = g.args in (
+loop-j-preserved : tie.Need-loop-j-preserved invariant-loop-j decreases-loop-j
+loop-j-preserved c =
+    let g = c in let l = c.loop-j in let a = g.args in (
       omega arith,
-      c.on-circle.ensures.0 (some g, small g) ∙ ap (λ n. 2 * n % (2 * a.d)) l.invariant.1 ∙ Q.next-exponent a.d a.k l.j,
-      Q.next-sum a.d a.k (some g) a.a.now l.a l.j l.invariant.2 l.e l.invariant.1 _ c.before.before.before.add-own.ensures,
-      c.before.before.before.add-own.auto.1.1.0 ∙ l.invariant.3,
-      c.before.before.before.add-own.auto.1.1.1.0 ∙ l.invariant.4,
-      further a.d a.k l.j l.e l.invariant.1 c.before.before.before.before.before.before.if1.false l.invariant.5,
+      c.on_circle-e.ensures.0 (some g.before.before.before.before.before.before.before.before.before, small g.before.before.before.before.before.before.before.before.before) ∙ ap (λ n. 2 * n % (2 * a.d)) l.invariant.1 ∙ Q.next-exponent a.d a.k l.j,
+      Q.next-sum a.d a.k (some g.before.before.before.before.before.before.before.before.before) a.a.now l.a l.j l.invariant.2 l.e l.invariant.1 _ c.add_own.ensures,
+      c.add_own.auto.a ∙ l.invariant.3,
+      c.add_own.auto.x ∙ l.invariant.4,
+      further a.d a.k l.j l.e l.invariant.1 c.if-e-d.false l.invariant.5,
     )
 
-same-length-3 : tie.Need-same-length-3 invariant-loop decreases-loop
-same-length-3 c = c.before.loop.invariant.3
+shape_of-a : tie.Need-shape_of-a invariant-loop-j decreases-loop-j
+shape_of-a c = c.loop-j.invariant.3
 
-same-length-4 : tie.Need-same-length-4 invariant-loop decreases-loop
-same-length-4 c = c.before.loop.invariant.4
+shape_of-x : tie.Need-shape_of-x invariant-loop-j decreases-loop-j
+shape_of-x c = c.loop-j.invariant.4
 
-returns-2 : tie.Need-returns-2 invariant-loop decreases-loop
-returns-2 c =
-    let g = c.before.before in let l = c.before.loop in
+returns : tie.Need-returns invariant-loop-j decreases-loop-j
+returns c =
+    let g = c in let l = c.loop-j in
     l.invariant.2 ∙ ap (λ f. filled (f (signed g.args.a.now)) g.args.d g.args.a.now) (done g.args.d g.args.k l.j l.invariant.0 (λ h. absurd (omega arith)) l.invariant.5)
 
 pub divide_spec : {M : Type 1} → statement M
 divide_spec =
     tie.close
-    (tie.spec invariant-loop decreases-loop loop-holds same_length same-length-2 returns add-own-requires mul-on-circle (λ c κs. search rules) (λ c. search rules)
-    (λ c. search rules) loop-again same-length-3 same-length-4 returns-2)
+    (tie.spec invariant-loop-j decreases-loop-j loop-j-init shape_of-a-then-e-d shape_of-x-then-e-d returns-then-e-d add_own-requires overflow_mul-e (λ c κs. search rules) (λ c. search rules)
+    (λ c. search rules) loop-j-preserved shape_of-a shape_of-x returns)

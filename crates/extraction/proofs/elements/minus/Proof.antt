@@ -14,11 +14,11 @@ is c = λ i. to_z-of_z c.ranges.x i -ℤ to_z-of_z c.ranges.y i
 fits : (c : tie.Start) → SFits w64 (c.args.x +ℤ neg_ℤ c.args.y)
 fits c = sfits-nat_abs (c.args.x +ℤ neg_ℤ c.args.y) c.requires
 
-sub-result : tie.Need-overflow-sub-result
-sub-result c = subst (SFits w64) (sym (is c)) (fits c)
+overflow_sub-result : tie.Need-overflow_sub-result
+overflow_sub-result c = subst (SFits w64) (sym (is c)) (fits c)
 
 returns : tie.Need-returns
 returns c = ap (λ z. to_z w64 (of_z w64 z)) (is c) ∙ to_z-of_z (fits c)
 
 pub minus_spec : {M : Type 1} → statement M
-minus_spec = tie.close (tie.spec sub-result returns)
+minus_spec = tie.close (tie.spec overflow_sub-result returns)

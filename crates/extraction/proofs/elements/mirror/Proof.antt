@@ -18,11 +18,11 @@ use Rattle.extraction.proofs.elements.mirror.Tie as tie
 abbrev Halves : ℕ → List ℤ → List ℤ → ℕ → Type 0
 Halves d a x j = (get_or x j (pos 0) ≡ neg_ℤ (get_or a j (pos 0))) × (get_or x (d + j) (pos 0) ≡ get_or a j (pos 0))
 
-abbrev invariant-loop : tie.invariant-loop
-invariant-loop d a x₀ k₀ x k = (k ≤ d) × (length x ≡ length x₀) × ((j : ℕ) → j < k → Halves d a x j)
+abbrev invariant-loop-k : tie.invariant-loop-k
+invariant-loop-k d a x₀ k₀ x k = (k ≤ d) × (length x ≡ length x₀) × ((j : ℕ) → j < k → Halves d a x j)
 
-abbrev decreases-loop : tie.decreases-loop
-decreases-loop d a x₀ k₀ x k = d - k
+abbrev decreases-loop-k : tie.decreases-loop-k
+decreases-loop-k d a x₀ k₀ x k = d - k
 
 -- a turn over plain variables: z is stored, and then y
 module _ (d : ℕ) (x : List ℤ) (k : ℕ) (lt : k < d) (long : 2 * d ≤ length x) (y z : ℤ) where
@@ -45,34 +45,34 @@ module _ (d : ℕ) (x : List ℤ) (k : ℕ) (lt : k < d) (long : 2 * d ≤ lengt
     | no n ↦ (other j n (λ e. omega arith) ∙ (h j (omega arith)).0, other (d + j) (λ e. omega arith) (λ e. omega arith) ∙ (h j (omega arith)).1)
   ]
 
-loop-holds : tie.Need-loop-init invariant-loop decreases-loop
-loop-holds c = (omega arith, refl, λ j h. absurd (omega arith))
+loop-k-init : tie.Need-loop-k-init invariant-loop-k decreases-loop-k
+loop-k-init c = (omega arith, refl, λ j h. absurd (omega arith))
 
-minus-requires : tie.Need-minus-requires invariant-loop decreases-loop
+minus-requires : tie.Need-minus-requires invariant-loop-k decreases-loop-k
 minus-requires c κs =
-    let g = c.before.before.before in let k = c.before.before.loop.k in
-    subst (λ z. nat_abs z < 2 ^ 63) (sym (+ℤ_idl _ ∙ ap neg_ℤ (through-bits w64 (get_or g.args.a.now k (pos 0)) c.y.given)))
+    let g = c in let k = c.loop-k.k in
+    subst (λ z. nat_abs z < 2 ^ 63) (sym (+ℤ_idl _ ∙ ap neg_ℤ (through-bits w64 (get_or g.args.a.now k (pos 0)) c.y-1.given)))
     (omega (arith, g.requires.within k (omega arith), nat_abs-neg (get_or g.args.a.now k (pos 0))))
 
-loop-again : tie.Need-loop-preserved invariant-loop decreases-loop
-loop-again c =
-    let g = c.before.before.before.before in let l = c.before.before.before.loop in let a = g.args in
+loop-k-preserved : tie.Need-loop-k-preserved invariant-loop-k decreases-loop-k
+loop-k-preserved c =
+    let g = c in let l = c.loop-k in let a = g.args in
     let long : 2 * a.d ≤ length l.x = omega (arith, g.requires.long_to, l.invariant.1) in
-    let here = through-bits w64 (get_or a.a.now l.k (pos 0)) c.before.y.given in (
+    let here = through-bits w64 (get_or a.a.now l.k (pos 0)) c.y-1.given in (
       omega arith,
       simp length-set (search rules),
       turn a.d l.x l.k (omega arith) long _ _ a.a.now here
-          (through-bits w64 c.minus.result c.minus.type-inv ∙ c.minus.ensures ∙ +ℤ_idl _ ∙ ap neg_ℤ here) l.invariant.2,
+          (through-bits w64 c.minus.result c.minus.type_inv ∙ c.minus.ensures ∙ +ℤ_idl _ ∙ ap neg_ℤ here) l.invariant.2,
     )
 
-returns : tie.Need-returns invariant-loop decreases-loop
-returns c = let l = c.before.loop in record { front = λ k h. (l.invariant.2 k (omega arith)).0; back = λ k h. (l.invariant.2 k (omega arith)).1 }
+returns : tie.Need-returns invariant-loop-k decreases-loop-k
+returns c = let l = c.loop-k in record { front = λ k h. (l.invariant.2 k (omega arith)).0; back = λ k h. (l.invariant.2 k (omega arith)).1 }
 
-slice-set-from-y : tie.Need-slice-set-from-y invariant-loop decreases-loop
-slice-set-from-y c = simp length-set (search rules)
+bounds-x-d : tie.Need-bounds-x-d invariant-loop-k decreases-loop-k
+bounds-x-d c = simp length-set (search rules)
 
 pub mirror_spec : {M : Type 1} → statement M
 mirror_spec =
     tie.close
-    (tie.spec invariant-loop decreases-loop loop-holds (λ c. search rules) (λ c. search rules) minus-requires (λ c. search rules) (λ c. search rules) (λ c. search rules)
-    (λ c. search rules) slice-set-from-y (λ c. search rules) (λ c. search rules) loop-again (λ c. search rules) returns)
+    (tie.spec invariant-loop-k decreases-loop-k loop-k-init (λ c. search rules) (λ c. search rules) minus-requires (λ c. search rules) (λ c. search rules) (λ c. search rules)
+    (λ c. search rules) bounds-x-d (λ c. search rules) (λ c. search rules) loop-k-preserved (λ c. search rules) returns)

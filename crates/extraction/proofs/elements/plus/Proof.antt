@@ -14,11 +14,11 @@ is c = λ i. to_z-of_z c.ranges.x i +ℤ to_z-of_z c.ranges.y i
 fits : (c : tie.Start) → SFits w64 (c.args.x +ℤ c.args.y)
 fits c = sfits-nat_abs (c.args.x +ℤ c.args.y) c.requires
 
-add-result : tie.Need-overflow-add-result
-add-result c = subst (SFits w64) (sym (is c)) (fits c)
+overflow_add-result : tie.Need-overflow_add-result
+overflow_add-result c = subst (SFits w64) (sym (is c)) (fits c)
 
 returns : tie.Need-returns
 returns c = ap (λ z. to_z w64 (of_z w64 z)) (is c) ∙ to_z-of_z (fits c)
 
 pub plus_spec : {M : Type 1} → statement M
-plus_spec = tie.close (tie.spec add-result returns)
+plus_spec = tie.close (tie.spec overflow_add-result returns)

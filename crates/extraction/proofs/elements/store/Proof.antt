@@ -11,26 +11,26 @@ use Rattle.ranges.proofs.Magnitude.{through-bits}
 use Rattle.extraction.proofs.elements.store.Statement.{statement}
 use Rattle.extraction.proofs.elements.store.Tie as tie
 
-abbrev invariant-loop : tie.invariant-loop
-invariant-loop n a out₀ k₀ out k = (k ≤ n) × (out ≡ filled (signed a) k out₀) × (length out ≡ length out₀)
+abbrev invariant-loop-k : tie.invariant-loop-k
+invariant-loop-k n a out₀ k₀ out k = (k ≤ n) × (out ≡ filled (signed a) k out₀) × (length out ≡ length out₀)
 
-abbrev decreases-loop : tie.decreases-loop
-decreases-loop n a out₀ k₀ out k = n - k
+abbrev decreases-loop-k : tie.decreases-loop-k
+decreases-loop-k n a out₀ k₀ out k = n - k
 
-loop-holds : tie.Need-loop-init invariant-loop decreases-loop
-loop-holds c = (omega arith, filled_none _ _, refl)
+loop-k-init : tie.Need-loop-k-init invariant-loop-k decreases-loop-k
+loop-k-init c = (omega arith, filled_none _ _, refl)
 
-loop-again : tie.Need-loop-preserved invariant-loop decreases-loop
+loop-k-preserved : tie.Need-loop-k-preserved invariant-loop-k decreases-loop-k
 unfolding signed
-loop-again c =
-    let g = c.before.before.before in let l = c.before.before.loop in
-    (search rules, filled-turn (signed g.args.a.now) l.k g.args.out.now l.invariant.1 (through-bits w64 _ c.out.given) (omega arith), simp length-set (search rules))
+loop-k-preserved c =
+    let g = c in let l = c.loop-k in
+    (search rules, filled-turn (signed g.args.a.now) l.k g.args.out.now l.invariant.1 (through-bits w64 _ c.out-1.given) (omega arith), simp length-set (search rules))
 
-returns : tie.Need-returns invariant-loop decreases-loop
-returns c = filled-end _ _ c.before.loop.invariant.1 (omega arith)
+returns : tie.Need-returns invariant-loop-k decreases-loop-k
+returns c = filled-end _ _ c.loop-k.invariant.1 (omega arith)
 
 pub store_spec : {M : Type 1} → statement M
 store_spec =
     tie.close
-    (tie.spec invariant-loop decreases-loop loop-holds (λ c. search rules) (λ c. search rules) (λ c. search rules) (λ c. search rules) (λ c. search rules)
-    (λ c. search rules) loop-again (λ c. search rules) returns)
+    (tie.spec invariant-loop-k decreases-loop-k loop-k-init (λ c. search rules) (λ c. search rules) (λ c. search rules) (λ c. search rules) (λ c. search rules)
+    (λ c. search rules) loop-k-preserved (λ c. search rules) returns)

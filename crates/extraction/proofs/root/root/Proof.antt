@@ -15,77 +15,77 @@ use Rattle.extraction.proofs.Workspace.{kept_long, part_room, copied, root-room,
 use Rattle.extraction.proofs.root.root.Statement.{statement}
 use Rattle.extraction.proofs.root.root.Tie as tie
 
-cells_are : (c : tie.After-cells) → c.cells.result ≡ cells c.before.before.args.settings
-cells_are c = let g = c.before.before in c.cells.ensures (valid-settings g.args.settings g.requires.0.valid)
+cells_are : (c : tie.After-cells-cells) → c.cells-cells.result ≡ cells c.args.settings
+cells_are c = let g = c in c.cells-cells.ensures (valid-settings g.args.settings g.requires.0.valid)
 
-room : (c : tie.After-cells) → c.cells.result ≤ vector_room
-room c = omega (arith, cells_are c, root-room _ _ _ c.before.before.requires.0)
+room : (c : tie.After-cells-cells) → c.cells-cells.result ≤ vector_room
+room c = omega (arith, cells_are c, root-room _ _ _ c.requires.0)
 
-nodes_are : (c : tie.After-nodes) → c.nodes.result ≡ nodes c.before.before.before.args.settings
-nodes_are c = let g = c.before.before.before in c.nodes.ensures.0 (valid-settings g.args.settings g.requires.0.valid)
+nodes_are : (c : tie.After-nodes-first) → c.nodes-first.result ≡ nodes c.args.settings
+nodes_are c = let g = c in c.nodes-first.ensures.0 (valid-settings g.args.settings g.requires.0.valid)
 
 -- the list before the call, and what the call leaves in its part of the list
-abbrev made : tie.After-node → tie.After-workspace
+abbrev made : tie.After-node → tie.After-workspace-ws
 made c = c.before.before.before
 
-abbrev counted : tie.After-node → tie.After-cells
+abbrev counted : tie.After-node → tie.After-cells-cells
 counted c = (made c).before.before
 
 abbrev given : tie.After-node → List ℤ
-given c = (made c).workspace.result
+given c = (made c).workspace-ws.result
 
 abbrev left : tie.After-node → List ℤ
-left c = c.node.new.1.1.1.1.1.1.0
+left c = c.node.new.ws
 
-lent : (c : tie.After-node) → length (left c) ≡ 2 * (counted c).cells.result
-lent c = c.node.auto.1.1.1.1.1.1.0 ∙ length-take-le _ (given c) (omega (arith, room (counted c), (made c).workspace.ensures))
+lent : (c : tie.After-node) → length (left c) ≡ 2 * (counted c).cells-cells.result
+lent c = c.node.auto.ws ∙ length-take-le _ (given c) (omega (arith, room (counted c), (made c).workspace-ws.ensures))
 
-mul-end : tie.Need-overflow-mul-end
-mul-end c = omega (arith, room c.before)
+overflow_mul-end : tie.Need-overflow_mul-end
+overflow_mul-end c = omega (arith, room c.before)
 
-array-borrow-prefix-ws : tie.Need-array-borrow-prefix-ws
-array-borrow-prefix-ws c = omega (arith, room c.before.before, c.workspace.ensures)
+slice_bounds-ws-end : tie.Need-slice_bounds-ws-end
+slice_bounds-ws-end c = omega (arith, room c.before.before, c.workspace-ws.ensures)
 
-slice-aggregate-node : tie.Need-slice-aggregate-node
-slice-aggregate-node c = sym (length-take-le _ _ (omega (arith, room c.before.before.before, c.before.workspace.ensures)))
+slice_bounds-node-end : tie.Need-slice_bounds-node-end
+slice_bounds-node-end c = sym (length-take-le _ _ (omega (arith, room c.before.before.before, c.workspace-ws.ensures)))
 
 node-requires : tie.Need-node-requires
 node-requires c κs =
-    let z = c.before.before in let k = z.before.before in let g = k.before.before in (
+    let z = c in let k = z in let g = k in (
       g.requires.0,
       (
-        root_at g.args.settings g.args.challenges.now g.args.leaves.now g.requires.0 _ _ z.workspace.result (nodes_are z.before) (cells_are k) z.workspace.ensures,
+        root_at g.args.settings g.args.challenges.now g.args.leaves.now g.requires.0 _ _ z.workspace-ws.result (nodes_are z.before.before.before) (cells_are k.before.before.before.before) z.workspace-ws.ensures,
         omega arith,
       ),
     )
 
-mul-store : tie.Need-overflow-mul-store
-mul-store c = omega (arith, room (counted c.before.before))
+offset_bounds-ws-cells : tie.Need-offset_bounds-ws-cells
+offset_bounds-ws-cells c = omega (arith, room (counted c.before.before))
 
-sub-store : tie.Need-overflow-sub-store
-sub-store c = omega (arith, room (counted c.before.before))
+slice_bounds-store-count : tie.Need-slice_bounds-store-count
+slice_bounds-store-count c = omega (arith, room (counted c.before.before))
 
-part-store-start : tie.Need-slice-bounds-store-start
-part-store-start c = omega (arith, room (counted c.before.before.before))
+slice_bounds-store-start : tie.Need-slice_bounds-store-start
+slice_bounds-store-start c = omega (arith, room (counted c.before.before))
 
-part-store-end : tie.Need-slice-bounds-store-end
-part-store-end c = let n = c.before.before.before in omega (arith, kept_long _ (left n) (given n) (room (counted n)) (lent n) (made n).workspace.ensures)
+slice_bounds-store-end : tie.Need-slice_bounds-store-end
+slice_bounds-store-end c = let n = c in omega (arith, kept_long _ (left n.before.before) (given n.before.before) (room (counted n.before.before)) (lent n.before.before) (made n.before.before).workspace-ws.ensures)
 
 store-requires : tie.Need-store-requires
 store-requires c κs =
-    let n = c.before.before.before.before.before in let k = counted n in let g = k.before.before in
-    (omega (arith, part_room _ (left n) (given n) (room k) (lent n) (made n).workspace.ensures), omega (arith, g.pre.1, cells_are k))
+    let n = c in let k = counted n.before.before.before.before in let g = k in
+    (omega (arith, part_room _ (left n.before.before.before.before) (given n.before.before.before.before) (room k) (lent n.before.before.before.before) (made n.before.before.before.before).workspace-ws.ensures), omega (arith, g.requires.1, cells_are k))
 
 returns : tie.Need-returns
 unfolding root_vector cells size
 returns c =
-    let n = c.before.before.before.before.before.before.before in let k = counted n in let g = k.before.before in
-    copied k.cells.result (left n) (given n) (room k) (lent n) (made n).workspace.ensures g.args.w.now _ (g.pre.1 ∙ sym (cells_are k)) c.before.store.ensures
-    ∙ ap (λ m. drop m (left n)) (cells_are k)
+    let n = c in let k = counted n.before.before.before.before.before.before in let g = k in
+    copied k.cells-cells.result (left n.before.before.before.before.before.before) (given n.before.before.before.before.before.before) (room k) (lent n.before.before.before.before.before.before) (made n.before.before.before.before.before.before).workspace-ws.ensures g.args.w.now _ (g.requires.1 ∙ sym (cells_are k)) c.store.ensures
+    ∙ ap (λ m. drop m (left n.before.before.before.before.before.before)) (cells_are k)
     ∙ n.node.ensures
 
 pub root_spec : {M : Type 1} → statement M
 root_spec =
     tie.close
-    (tie.spec (λ c κs. search rules) (λ c κs. search rules) mul-end (λ c κs. search rules) array-borrow-prefix-ws slice-aggregate-node (λ c. search rules)
-    node-requires mul-store sub-store part-store-start part-store-end store-requires (λ c. search rules) returns)
+    (tie.spec (λ c κs. search rules) (λ c κs. search rules) overflow_mul-end (λ c κs. search rules) slice_bounds-ws-end slice_bounds-node-end (λ c. search rules)
+    node-requires offset_bounds-ws-cells slice_bounds-store-count slice_bounds-store-start slice_bounds-store-end store-requires (λ c. search rules) returns)

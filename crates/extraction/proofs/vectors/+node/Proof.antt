@@ -50,19 +50,19 @@ module _ (t : ℕ) where
   Start = node-lts.Start (calls t) (node_at t) node.Post
 
   abbrev Above : Type 0
-  Above = node-lts.Else1 (calls t) (node_at t) node.Post
+  Above = node-lts.Else-h-eq0 (calls t) (node_at t) node.Post
 
   abbrev Zeros : Type 0
-  Zeros = node-lts.After-ws2 (calls t) (node_at t) node.Post
+  Zeros = node-lts.After-ws-2-1 (calls t) (node_at t) node.Post
 
   abbrev First : Type 0
-  First = node-lts.After-room2 (calls t) (node_at t) node.Post
+  First = node-lts.After-room-2-1 (calls t) (node_at t) node.Post
 
   abbrev Second : Type 0
-  Second = node-lts.After-room4 (calls t) (node_at t) node.Post
+  Second = node-lts.After-room-4-1 (calls t) (node_at t) node.Post
 
   abbrev Third : Type 0
-  Third = node-lts.After-room6 (calls t) (node_at t) node.Post
+  Third = node-lts.After-room-6-1 (calls t) (node_at t) node.Post
 
   abbrev start : Above → Start
   start c = c.before.before.before
@@ -91,139 +91,139 @@ module _ (t : ℕ) where
   inner : (c : Above) → 3 * (start c).args.k + 3 < 2 ^ 64
   inner c = omega (arith, N.challenges_inside (branch c))
 
-  stage-0 : (c : Zeros) → let g = start (above c) in N.Stage (branch (above c)) 0 (put_mid (space g / 2) (space g - space g / 2) g.args.ws.now c.before.clear.new.0)
-  stage-0 c = N.stage_zero (branch (above c)) _ refl c.before.clear.ensures
+  stage-0 : (c : Zeros) → let g = start (above c) in N.Stage (branch (above c)) 0 (put_mid (space g / 2) (space g - space g / 2) g.args.ws.now c.clear.new.l)
+  stage-0 c = N.stage_zero (branch (above c)) _ refl c.clear.ensures
 
-  stage-1 : (c : First) → N.Stage (branch (above (zeros c))) 1 c.before.before.add-branch.new.1.1.1.1.1.1.1.0
+  stage-1 : (c : First) → N.Stage (branch (above (zeros c))) 1 c.add_branch.new.ws
   stage-1 c =
-      let child = c.before.before.before.before.before.before.before in
-      N.stage_next (branch (above (zeros c))) 0 (omega arith) _ (stage-0 (zeros c)) child.before.before.before.child-of.ensures
-      child.node.auto.1.1.1.1.1.1.0 child.node.ensures c.before.before.add-branch.ensures c.before.before.add-branch.auto.1.1.1.1.1.1.1.0
+      let child = c in
+      N.stage_next (branch (above (zeros c))) 0 (omega arith) _ (stage-0 (zeros c)) child.child_of.ensures
+      child.node.auto.ws child.node.ensures c.add_branch.ensures c.add_branch.auto.ws
 
-  stage-2 : (c : Second) → N.Stage (branch (above (zeros (first c)))) 2 c.before.before.add-branch2.new.1.1.1.1.1.1.1.0
+  stage-2 : (c : Second) → N.Stage (branch (above (zeros (first c)))) 2 c.add_branch-2.new.ws
   stage-2 c =
-      let child = c.before.before.before.before.before.before.before in
-      N.stage_next (branch (above (zeros (first c)))) 1 (omega arith) _ (stage-1 (first c)) child.before.before.before.child-of2.ensures
-      child.node2.auto.1.1.1.1.1.1.0 child.node2.ensures c.before.before.add-branch2.ensures c.before.before.add-branch2.auto.1.1.1.1.1.1.1.0
+      let child = c in
+      N.stage_next (branch (above (zeros (first c)))) 1 (omega arith) _ (stage-1 (first c)) child.child_of-2.ensures
+      child.node-2.auto.ws child.node-2.ensures c.add_branch-2.ensures c.add_branch-2.auto.ws
 
-  stage-3 : (c : Third) → N.Stage (branch (above (zeros (first (second c))))) 3 c.before.before.add-branch3.new.1.1.1.1.1.1.1.0
+  stage-3 : (c : Third) → N.Stage (branch (above (zeros (first (second c))))) 3 c.add_branch-3.new.ws
   stage-3 c =
-      let child = c.before.before.before.before.before.before.before in
-      N.stage_next (branch (above (zeros (first (second c))))) 2 (omega arith) _ (stage-2 (second c)) child.before.before.before.child-of3.ensures
-      child.node3.auto.1.1.1.1.1.1.0 child.node3.ensures c.before.before.add-branch3.ensures c.before.before.add-branch3.auto.1.1.1.1.1.1.1.0
+      let child = c in
+      N.stage_next (branch (above (zeros (first (second c))))) 2 (omega arith) _ (stage-2 (second c)) child.child_of-3.ensures
+      child.node-3.auto.ws child.node-3.ensures c.add_branch-3.ensures c.add_branch-3.auto.ws
 
   -- the room keeps its length
   held : (g : Start) → 2 * width ≤ length g.args.room.now
   held g = g.requires.1.1.1
 
-  same-1 : (c : First) → length c.before.before.add-branch.new.1.1.1.1.1.1.1.1.0 ≡ length (start (above (zeros c))).args.room.now
-  same-1 c = c.before.before.add-branch.auto.1.1.1.1.1.1.1.1.0 ∙ c.before.before.before.before.before.before.before.node.auto.1.1.1.1.1.1.1.0
+  same-1 : (c : First) → length c.add_branch.new.room ≡ length (start (above (zeros c))).args.room.now
+  same-1 c = c.add_branch.auto.room ∙ c.node.auto.room
 
-  same-2 : (c : Second) → length c.before.before.add-branch2.new.1.1.1.1.1.1.1.1.0 ≡ length (start (above (zeros (first c)))).args.room.now
+  same-2 : (c : Second) → length c.add_branch-2.new.room ≡ length (start (above (zeros (first c)))).args.room.now
   same-2 c =
-      c.before.before.add-branch2.auto.1.1.1.1.1.1.1.1.0 ∙ c.before.before.before.before.before.before.before.node2.auto.1.1.1.1.1.1.1.0 ∙ same-1 (first c)
+      c.add_branch-2.auto.room ∙ c.node-2.auto.room ∙ same-1 (first c)
 
-  node-cast-d : node-lts.Need-overflow-cast-d (calls t) (node_at t) node.Post
-  node-cast-d c = omega (arith, L.small c.before.before.requires.1.0)
+  node-cast-d : node-lts.Need-overflow_cast-d (calls t) (node_at t) node.Post
+  node-cast-d c = omega (arith, L.small c.requires.1.0)
 
-  node-sub-leaf-vector : node-lts.Need-overflow-sub-leaf-vector (calls t) (node_at t) node.Post
-  node-sub-leaf-vector c = let g = c.before.before.before in L.leaf-number g.requires.1.0 g.requires.1.1.0 (omega arith)
+  node-sub-leaf-vector : node-lts.Need-overflow_sub-k (calls t) (node_at t) node.Post
+  node-sub-leaf-vector c = let g = c in L.leaf-number g.requires.1.0 g.requires.1.1.0 (omega arith)
 
-  node-leaf-vector-requires : node-lts.Need-leaf-vector-requires (calls t) (node_at t) node.Post
+  node-leaf-vector-requires : node-lts.Need-leaf_vector-requires (calls t) (node_at t) node.Post
   node-leaf-vector-requires c κs =
-      let g = c.before.before.before.before in let tree = g.requires.1.0 in
+      let g = c in let tree = g.requires.1.0 in
       (L.small tree, L.leaf-inside tree g.requires.1.1.0 (omega arith), L.leaf-space tree g.requires.1.1.0 (omega arith))
 
-  node-returns : node-lts.Need-returns (calls t) (node_at t) node.Post
+  node-returns : node-lts.Need-returns-then-h-eq0 (calls t) (node_at t) node.Post
   node-returns c =
-      let g = c.before.before.before.before.before.before in L.leaf-is g.requires.1.0 g.requires.1.1.0 (omega arith) _ c.before.leaf-vector.ensures
+      let g = c in L.leaf-is g.requires.1.0 g.requires.1.1.0 (omega arith) _ c.leaf_vector.ensures
 
-  node-div-n : node-lts.Need-nonzero-div-n (calls t) (node_at t) node.Post
+  node-div-n : node-lts.Need-nonzero_div-n-2 (calls t) (node_at t) node.Post
   node-div-n c = L.some (start c).requires.1.0
 
-  node-child-of-requires : node-lts.Need-child-of-requires (calls t) (node_at t) node.Post
+  node-child-of-requires : node-lts.Need-child_of-requires (calls t) (node_at t) node.Post
   node-child-of-requires c κs = omega (arith, inner (above c))
 
-  node-slice-aggregate-node : node-lts.Need-slice-aggregate-node (calls t) (node_at t) node.Post
-  node-slice-aggregate-node c = let at = c.before.before in N.lent (branch (above at)) 0 (stage-0 at)
+  node-slice-aggregate-node : node-lts.Need-slice_bounds-node-end-2 (calls t) (node_at t) node.Post
+  node-slice-aggregate-node c = let at = c in N.lent (branch (above at.before.before)) 0 (stage-0 at.before.before)
 
   node-node-requires : node-lts.Need-node-requires (calls t) (node_at t) node.Post
   node-node-requires c κs =
-      let at = c.before.before.before in let b = branch (above at) in
-      (lower (above at), (b.tree, (N.child_place b 0 (omega arith) c.before.before.child-of.ensures (stage-0 at), held (start (above at)))))
+      let at = c in let b = branch (above at.before.before.before) in
+      (lower (above at.before.before.before), (b.tree, (N.child_place b 0 (omega arith) c.child_of.ensures (stage-0 at.before.before.before), held (start (above at.before.before.before)))))
 
-  node-add-branch-requires : node-lts.Need-add-branch-requires (calls t) (node_at t) node.Post
+  node-add-branch-requires : node-lts.Need-add_branch-requires (calls t) (node_at t) node.Post
   node-add-branch-requires c κs =
-      let child = c.before.before.before.before in let at = child.before.before.before.before in
-      let g = start (above at) in (
-        omega (arith, L.small g.pre.1.0, held g, child.node.auto.1.1.1.1.1.1.1.0),
-        N.stage_branching (branch (above at)) 0 (omega arith) _ (stage-0 at)
-            child.before.before.before.child-of.ensures child.node.auto.1.1.1.1.1.1.0 child.node.ensures,
+      let child = c in let at = child in
+      let g = start (above at.before.before.before.before.before.before.before.before) in (
+        omega (arith, L.small g.requires.1.0, held g, child.node.auto.room),
+        N.stage_branching (branch (above at.before.before.before.before.before.before.before.before)) 0 (omega arith) _ (stage-0 at.before.before.before.before.before.before.before.before)
+            child.child_of.ensures child.node.auto.ws child.node.ensures,
       )
 
-  node-child-of-requires-2 : node-lts.Need-child-of-requires-2 (calls t) (node_at t) node.Post
+  node-child-of-requires-2 : node-lts.Need-child_of-requires-2 (calls t) (node_at t) node.Post
   node-child-of-requires-2 c κs = omega (arith, inner (above (zeros c)))
 
-  node-slice-aggregate-node-2 : node-lts.Need-slice-aggregate-node-2 (calls t) (node_at t) node.Post
-  node-slice-aggregate-node-2 c = let at = c.before.before in N.lent (branch (above (zeros at))) 1 (stage-1 at)
+  node-slice-aggregate-node-2 : node-lts.Need-slice_bounds-node-end-4 (calls t) (node_at t) node.Post
+  node-slice-aggregate-node-2 c = let at = c in N.lent (branch (above (zeros at.before.before))) 1 (stage-1 at.before.before)
 
   node-node-requires-2 : node-lts.Need-node-requires-2 (calls t) (node_at t) node.Post
   node-node-requires-2 c κs =
-      let at = c.before.before.before in let b = branch (above (zeros at)) in
-      (lower (above (zeros at)), (b.tree, (N.child_place b 1 (omega arith) c.before.before.child-of2.ensures (stage-1 at), omega (arith, held (start (above (zeros at))), same-1 at))))
+      let at = c in let b = branch (above (zeros at.before.before.before)) in
+      (lower (above (zeros at.before.before.before)), (b.tree, (N.child_place b 1 (omega arith) c.child_of-2.ensures (stage-1 at.before.before.before), omega (arith, held (start (above (zeros at.before.before.before))), same-1 at.before.before.before))))
 
-  node-add-branch-requires-2 : node-lts.Need-add-branch-requires-2 (calls t) (node_at t) node.Post
+  node-add-branch-requires-2 : node-lts.Need-add_branch-requires-2 (calls t) (node_at t) node.Post
   node-add-branch-requires-2 c κs =
-      let child = c.before.before.before.before in let at = child.before.before.before.before in
-      let g = start (above (zeros at)) in (
-        omega (arith, L.small g.pre.1.0, held g, same-1 at, child.node2.auto.1.1.1.1.1.1.1.0),
-        N.stage_branching (branch (above (zeros at))) 1 (omega arith) _ (stage-1 at)
-            child.before.before.before.child-of2.ensures child.node2.auto.1.1.1.1.1.1.0 child.node2.ensures,
+      let child = c in let at = child in
+      let g = start (above (zeros at.before.before.before.before.before.before.before.before)) in (
+        omega (arith, L.small g.requires.1.0, held g, same-1 at.before.before.before.before.before.before.before.before, child.node-2.auto.room),
+        N.stage_branching (branch (above (zeros at.before.before.before.before.before.before.before.before))) 1 (omega arith) _ (stage-1 at.before.before.before.before.before.before.before.before)
+            child.child_of-2.ensures child.node-2.auto.ws child.node-2.ensures,
       )
 
-  node-sub-node-3 : node-lts.Need-overflow-sub-node-3 (calls t) (node_at t) node.Post
+  node-sub-node-3 : node-lts.Need-overflow_sub-h-3 (calls t) (node_at t) node.Post
   node-sub-node-3 c = omega (arith, (branch (above (zeros (first c)))).up)
 
-  node-child-of-requires-3 : node-lts.Need-child-of-requires-3 (calls t) (node_at t) node.Post
+  node-child-of-requires-3 : node-lts.Need-child_of-requires-3 (calls t) (node_at t) node.Post
   node-child-of-requires-3 c κs = omega (arith, inner (above (zeros (first c))))
 
-  node-slice-relend-prefix-node-3 : node-lts.Need-slice-relend-prefix-node-3 (calls t) (node_at t) node.Post
+  node-slice-relend-prefix-node-3 : node-lts.Need-slice_bounds-node-end-5 (calls t) (node_at t) node.Post
   node-slice-relend-prefix-node-3 c = omega (arith, (stage-2 c.before).long)
 
-  node-slice-aggregate-node-3 : node-lts.Need-slice-aggregate-node-3 (calls t) (node_at t) node.Post
-  node-slice-aggregate-node-3 c = let at = c.before.before in N.lent (branch (above (zeros (first at)))) 2 (stage-2 at)
+  node-slice-aggregate-node-3 : node-lts.Need-slice_bounds-node-end-6 (calls t) (node_at t) node.Post
+  node-slice-aggregate-node-3 c = let at = c in N.lent (branch (above (zeros (first at.before.before)))) 2 (stage-2 at.before.before)
 
   node-node-requires-3 : node-lts.Need-node-requires-3 (calls t) (node_at t) node.Post
   node-node-requires-3 c κs =
-      let at = c.before.before.before in let b = branch (above (zeros (first at))) in (
-        lower (above (zeros (first at))),
+      let at = c in let b = branch (above (zeros (first at.before.before.before))) in (
+        lower (above (zeros (first at.before.before.before))),
         (
           b.tree,
           (
-            N.child_place b 2 (omega arith) c.before.before.child-of3.ensures (stage-2 at),
+            N.child_place b 2 (omega arith) c.child_of-3.ensures (stage-2 at.before.before.before),
             omega
-                (arith, held (start (above (zeros (first at)))), same-2 at),
+                (arith, held (start (above (zeros (first at.before.before.before)))), same-2 at.before.before.before),
           ),
         ),
       )
 
-  node-add-branch-requires-3 : node-lts.Need-add-branch-requires-3 (calls t) (node_at t) node.Post
+  node-add-branch-requires-3 : node-lts.Need-add_branch-requires-3 (calls t) (node_at t) node.Post
   node-add-branch-requires-3 c κs =
-      let child = c.before.before.before.before in let at = child.before.before.before.before in
-      let g = start (above (zeros (first at))) in (
-        omega (arith, L.small g.pre.1.0, held g, same-2 at, child.node3.auto.1.1.1.1.1.1.1.0),
-        N.stage_branching (branch (above (zeros (first at)))) 2 (omega arith) _ (stage-2 at)
-            child.before.before.before.child-of3.ensures child.node3.auto.1.1.1.1.1.1.0 child.node3.ensures,
+      let child = c in let at = child in
+      let g = start (above (zeros (first at.before.before.before.before.before.before.before.before))) in (
+        omega (arith, L.small g.requires.1.0, held g, same-2 at.before.before.before.before.before.before.before.before, child.node-3.auto.room),
+        N.stage_branching (branch (above (zeros (first at.before.before.before.before.before.before.before.before)))) 2 (omega arith) _ (stage-2 at.before.before.before.before.before.before.before.before)
+            child.child_of-3.ensures child.node-3.auto.ws child.node-3.ensures,
       )
 
-  node-same-length-2 : node-lts.Need-same-length-2 (calls t) (node_at t) node.Post
+  node-same-length-2 : node-lts.Need-shape_of-ws (calls t) (node_at t) node.Post
   node-same-length-2 c = (stage-3 c).long
 
-  node-same-length-3 : node-lts.Need-same-length-3 (calls t) (node_at t) node.Post
+  node-same-length-3 : node-lts.Need-shape_of-room (calls t) (node_at t) node.Post
   node-same-length-3 c =
-      c.before.before.add-branch3.auto.1.1.1.1.1.1.1.1.0 ∙ c.before.before.before.before.before.before.before.node3.auto.1.1.1.1.1.1.1.0 ∙ same-2 (second c)
+      c.add_branch-3.auto.room ∙ c.node-3.auto.room ∙ same-2 (second c)
 
-  node-returns-2 : node-lts.Need-returns-2 (calls t) (node_at t) node.Post
+  node-returns-2 : node-lts.Need-returns (calls t) (node_at t) node.Post
   node-returns-2 c = N.stage_whole (branch (above (zeros (first (second c))))) (stage-3 c)
 
 pub +node_spec : {M : Type 1} → statement M

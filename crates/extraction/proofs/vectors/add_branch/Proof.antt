@@ -30,22 +30,22 @@ module _ (d n k j x y : ℕ) (E : List ℕ) (ws : List ℤ) (B : Branching d n k
       ∙ e
       ∙ λ i. with_share d n (is-a i) (mu d (is-a i) (is_b i) (is_c i)) (take (n * d) (tail_all (n * d) ws i)) (drop (n * d) (tail_all (n * d) ws i))
 
-add-share-requires : tie.Need-add-share-requires
-add-share-requires c κs =
-    let h = c.before.before in let g = h.before.before.before.before in let a = g.args in (
+add_share-requires : tie.Need-add_share-requires
+add_share-requires c κs =
+    let h = c in let g = h in let a = g.args in (
       g.requires.0,
       sharing a.d a.n a.k a.j a.x a.y a.challenges.now a.ws.now g.requires.1
-          h.before.before.challenge-of.ensures h.before.challenge-of2.ensures h.challenge-of3.ensures,
+          h.challenge_of-a.ensures h.challenge_of-b.ensures h.challenge_of-c.ensures,
     )
 
 returns : tie.Need-returns
 returns c =
-    let s = c.before.before in let h = s.before.before.before in let g = h.before.before.before.before in let a = g.args in
+    let s = c in let h = s in let g = h in let a = g.args in
     added a.d a.n a.k a.j a.x a.y a.challenges.now a.ws.now g.requires.1
-    h.before.before.challenge-of.ensures h.before.challenge-of2.ensures h.challenge-of3.ensures _ s.add-share.ensures
+    h.challenge_of-a.ensures h.challenge_of-b.ensures h.challenge_of-c.ensures _ s.add_share.ensures
 
 pub add_branch_spec : {M : Type 1} → statement M
 add_branch_spec =
     tie.close
     (tie.spec (λ c κs. search rules) (λ c κs. search rules) (λ c κs. search rules) (λ c. search rules) (λ c. search rules) (λ c. search rules)
-    (λ c. search rules) (λ c. search rules) add-share-requires (λ c. search rules) (λ c. search rules) returns)
+    (λ c. search rules) (λ c. search rules) add_share-requires (λ c. search rules) (λ c. search rules) returns)

@@ -20,89 +20,89 @@ circle : (g : tie.Start) → (0 < g.args.d) × (g.args.d ≤ width)
 circle g = (g.requires.1.some, g.requires.1.small)
 
 -- the exponents
-first : (c : tie.After-on-circle) → let a = c.before.args in c.on-circle.result ≡ gap a.d a.a a.b
+first : (c : tie.After-on_circle-k) → let a = c.args in c.on_circle-k.result ≡ gap a.d a.a a.b
 unfolding gap
-first c = c.on-circle.ensures.0 (circle c.before)
+first c = c.on_circle-k.ensures.0 (circle c.before)
 
-second : (c : tie.After-on-circle2) → let a = c.before.before.args in c.on-circle2.result ≡ gap a.d a.a a.c
+second : (c : tie.After-on_circle-m) → let a = c.args in c.on_circle-m.result ≡ gap a.d a.a a.c
 unfolding gap
-second c = c.on-circle2.ensures.0 (circle c.before.before)
+second c = c.on_circle-m.ensures.0 (circle c.before.before)
 
 -- where the function began
 abbrev at_scale : (c : tie.After-scale) → tie.Start
 at_scale c = c.before.before.before.before.before.before
 
-abbrev at_once : (c : tie.After-on-circle4) → tie.Start
+abbrev at_once : (c : tie.After-on_circle-once) → tie.Start
 at_once c = at_scale c.before.before.before
 
-once : (c : tie.After-on-circle4) → let a = (at_once c).args in c.on-circle4.result ≡ back_once a.d a.a
+once : (c : tie.After-on_circle-once) → let a = (at_once c).args in c.on_circle-once.result ≡ back_once a.d a.a
 unfolding back_once
-once c = c.on-circle4.ensures.0 (circle (at_once c))
+once c = c.on_circle-once.ensures.0 (circle (at_once c))
 
-once_small : (c : tie.After-on-circle4) → c.on-circle4.result < 2 * (at_once c).args.d
-once_small c = let g = at_once c in let p : 0 < 2 * g.args.d = omega (arith, g.pre.1.some) in omega (arith, c.on-circle4.ensures.0 (circle g), Nat.mod-lt (2 * g.args.d - g.args.a) p)
+once_small : (c : tie.After-on_circle-once) → c.on_circle-once.result < 2 * (at_once c).args.d
+once_small c = let g = at_once c in let p : 0 < 2 * g.args.d = omega (arith, g.requires.1.some) in omega (arith, c.on_circle-once.ensures.0 (circle g), Nat.mod-lt (2 * g.args.d - g.args.a) p)
 
-twice : (c : tie.After-on-circle5) → let a = (at_once c.before).args in c.on-circle5.result ≡ back_twice a.d a.a
+twice : (c : tie.After-on_circle-twice) → let a = (at_once c.before).args in c.on_circle-twice.result ≡ back_twice a.d a.a
 unfolding back_twice
-twice c = c.on-circle5.ensures.0 (circle (at_once c.before)) ∙ ap (λ x. 2 * x % (2 * (at_once c.before).args.d)) (once c.before)
+twice c = c.on_circle-twice.ensures.0 (circle (at_once c.before)) ∙ ap (λ x. 2 * x % (2 * (at_once c.before).args.d)) (once c.before)
 
 -- the products, and the node's vector behind them
 products : (c : tie.After-scale) → let a = (at_scale c).args in
-    c.scale.new.1.1.1.1.1.0 ≡ scaled a.d a.n (gap a.d a.a a.b) (gap a.d a.a a.c) ((a.b + a.c) % (2 * a.d)) (take (a.n * a.d) a.l.now)
+    c.scale.new.v ≡ scaled a.d a.n (gap a.d a.a a.b) (gap a.d a.a a.c) ((a.b + a.c) % (2 * a.d)) (take (a.n * a.d) a.l.now)
 products c =
     let a = (at_scale c).args in
-    let at = c.before.before.before in
-    c.scale.ensures ∙ (λ i. scaled a.d a.n (first at.before.before i) (second at.before i) (at.on-circle3.ensures.0 (circle (at_scale c)) i) (take (a.n * a.d) a.l.now))
+    let at = c in
+    c.scale.ensures ∙ (λ i. scaled a.d a.n (first at.before.before.before.before.before i) (second at.before.before.before.before i) (at.on_circle-e.ensures.0 (circle (at_scale c)) i) (take (a.n * a.d) a.l.now))
 
 abbrev whole : (c : tie.After-scale) → List ℤ
-whole c = c.scale.new.1.1.1.1.1.0 ++ drop ((at_scale c).args.n * (at_scale c).args.d) (at_scale c).args.l.now
+whole c = c.scale.new.v ++ drop ((at_scale c).args.n * (at_scale c).args.d) (at_scale c).args.l.now
 
 -- the room for two copies of an element keeps its length
-room : (c : tie.After-scale) → 2 * (at_scale c).args.d ≤ length c.scale.new.1.1.1.1.1.1.0
-room c = omega (arith, (at_scale c).requires.0, c.scale.auto.1.1.1.1.1.1.0)
+room : (c : tie.After-scale) → 2 * (at_scale c).args.d ≤ length c.scale.new.x
+room c = omega (arith, (at_scale c).requires.0, c.scale.auto.x)
 
-mul-back : tie.Need-overflow-mul-back
-mul-back c = omega (arith, c.requires.1.small)
+overflow_mul-back : tie.Need-overflow_mul-back
+overflow_mul-back c = omega (arith, c.requires.1.small)
 
-add-on-circle : tie.Need-overflow-add-on-circle
-add-on-circle c = omega (arith, c.requires.1.small, c.requires.1.others.0)
+overflow_add-b : tie.Need-overflow_add-b
+overflow_add-b c = omega (arith, c.requires.1.small, c.requires.1.others.0)
 
-add-on-circle-2 : tie.Need-overflow-add-on-circle-2
-add-on-circle-2 c = omega (arith, c.before.requires.1.small, c.before.requires.1.others.1)
+overflow_add-c : tie.Need-overflow_add-c
+overflow_add-c c = omega (arith, c.requires.1.small, c.requires.1.others.1)
 
-add-on-circle-3 : tie.Need-overflow-add-on-circle-3
-add-on-circle-3 c = let g = c.before.before in omega (arith, g.requires.1.small, g.requires.1.others.0, g.requires.1.others.1)
+overflow_add-b-2 : tie.Need-overflow_add-b-2
+overflow_add-b-2 c = let g = c in omega (arith, g.requires.1.small, g.requires.1.others.0, g.requires.1.others.1)
 
-slice-aggregate-scale : tie.Need-slice-aggregate-scale
-slice-aggregate-scale c = let g = c.before.before.before.before in sym (length-take-le _ _ (omega (arith, g.requires.1.long)))
+slice_bounds-scale-end-2 : tie.Need-slice_bounds-scale-end-2
+slice_bounds-scale-end-2 c = let g = c in sym (length-take-le _ _ (omega (arith, g.requires.1.long)))
 
 scale-requires : tie.Need-scale-requires
 scale-requires c κs =
-    let g = c.before.before.before.before.before in let a = g.args in
-    let is-e = c.before.before.on-circle3.ensures.0 (circle g) in
+    let g = c in let a = g.args in
+    let is-e = c.on_circle-e.ensures.0 (circle g.before.before.before.before.before) in
     (g.requires.0, rw (first c.before.before.before.before, second c.before.before.before, is-e) (share_scalable a.d a.n a.a a.b a.c a.l.now g.requires.1))
 
-mul-on-circle : tie.Need-overflow-mul-on-circle
-mul-on-circle c = omega (arith, once_small c, (at_once c).requires.1.small)
+overflow_mul-once : tie.Need-overflow_mul-once
+overflow_mul-once c = omega (arith, once_small c, (at_once c).requires.1.small)
 
 -- the sums follow the products
-abbrev at_sums : (c : tie.After-on-circle5) → tie.After-scale
+abbrev at_sums : (c : tie.After-on_circle-twice) → tie.After-scale
 at_sums c = c.before.before.before.before
 
-add-turned-requires : tie.Need-add-turned-requires
-add-turned-requires c κs =
-    let at = c.before.before in let s = at_sums at in let g = at_scale s in let a = g.args in
-    (room s, rw (twice at, once at.before) (share_turnable a.d a.n a.a a.b a.c a.l.now g.pre.1 (products s)))
+add_turned-requires : tie.Need-add_turned-requires
+add_turned-requires c κs =
+    let at = c in let s = at_sums at.before.before in let g = at_scale s in let a = g.args in
+    (room s, rw (twice at.before.before, once at.before.before.before) (share_turnable a.d a.n a.a a.b a.c a.l.now g.requires.1 (products s)))
 
 returns : tie.Need-returns
 returns c =
-    let t = c.before.before in let at = t.before.before.before in let s = at_sums at in let g = at_scale s in let a = g.args in
-    share-added a.d a.n a.a a.b a.c a.l.now g.pre.1 (products s)
-    (t.add_turned.ensures ∙ (λ i. turned a.d a.n (twice at i) (once at.before i) a.n (whole s)))
+    let t = c in let at = t in let s = at_sums at.before.before.before.before.before in let g = at_scale s in let a = g.args in
+    share-added a.d a.n a.a a.b a.c a.l.now g.requires.1 (products s)
+    (t.add_turned.ensures ∙ (λ i. turned a.d a.n (twice at.before.before.before.before.before i) (once at.before.before.before.before.before.before i) a.n (whole s)))
 
 pub add_share_spec : {M : Type 1} → statement M
 add_share_spec =
     tie.close
-    (tie.spec mul-back (λ c. search rules) add-on-circle (λ c κs. search rules) add-on-circle-2 (λ c κs. search rules) add-on-circle-3
-    (λ c κs. search rules) (λ c. search rules) (λ c. search rules) slice-aggregate-scale scale-requires (λ c κs. search rules) mul-on-circle
-    (λ c κs. search rules) add-turned-requires (λ c. search rules) (λ c. search rules) returns)
+    (tie.spec overflow_mul-back (λ c. search rules) overflow_add-b (λ c κs. search rules) overflow_add-c (λ c κs. search rules) overflow_add-b-2
+    (λ c κs. search rules) (λ c. search rules) (λ c. search rules) slice_bounds-scale-end-2 scale-requires (λ c κs. search rules) overflow_mul-once
+    (λ c κs. search rules) add_turned-requires (λ c. search rules) (λ c. search rules) returns)

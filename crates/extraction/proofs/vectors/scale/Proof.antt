@@ -26,11 +26,11 @@ use Rattle.extraction.proofs.vectors.scale.Tie as tie
 abbrev products : ℕ → ℕ → ℕ → ℕ → List ℤ → ℕ → Element
 products d k m e v i = weighted d k m e (signed_at d v i)
 
-abbrev invariant-loop : tie.invariant-loop
-invariant-loop d n k m e v₀ x₀ i₀ v x i = (i ≤ n) × (v ≡ spliced_rows (products d k m e v₀) 0 d i v₀) × (length v ≡ length v₀) × (length x ≡ length x₀)
+abbrev invariant-loop-i : tie.invariant-loop-i
+invariant-loop-i d n k m e v₀ x₀ i₀ v x i = (i ≤ n) × (v ≡ spliced_rows (products d k m e v₀) 0 d i v₀) × (length v ≡ length v₀) × (length x ≡ length x₀)
 
-abbrev decreases-loop : tie.decreases-loop
-decreases-loop d n k m e v₀ x₀ i₀ v x i = n - i
+abbrev decreases-loop-i : tie.decreases-loop-i
+decreases-loop-i d n k m e v₀ x₀ i₀ v x i = n - i
 
 -- a turn over plain variables
 module _ (d n k m e : ℕ) (v : List ℤ) (X : Scalable d n k m e v) (i : ℕ) (lt : i < n) where
@@ -59,47 +59,47 @@ module _ (d n k m e : ℕ) (v : List ℤ) (X : Scalable d n k m e v) (i : ℕ) (
         (eq ∙ filled_ext (weighted d k m e (signed rest)) (products d k m e v i) d rest (W.weighted-ext d k m e (W.some d k m e rest weighable) as_was))
 
 -- an element's place
-here : (c : tie.In-loop invariant-loop decreases-loop) → let g = c.before.before in c.before.loop.i * g.args.d + g.args.d ≤ length g.args.v.now
-here c = let g = c.before.before in let a = g.args in inside a.d a.n a.k a.m a.e a.v.now g.requires.1 c.before.loop.i (omega arith)
+here : (c : tie.In-loop-i invariant-loop-i decreases-loop-i) → let g = c in c.loop-i.i * g.args.d + g.args.d ≤ length g.args.v.now
+here c = let g = c in let a = g.args in inside a.d a.n a.k a.m a.e a.v.now g.requires.1 c.loop-i.i (omega arith)
 
-loop-holds : tie.Need-loop-init invariant-loop decreases-loop
-loop-holds c = let a = c.args in (omega arith, rows_none (products a.d a.k a.m a.e a.v.now) 0 a.d a.v.now, refl, refl)
+loop-i-init : tie.Need-loop-i-init invariant-loop-i decreases-loop-i
+loop-i-init c = let a = c.args in (omega arith, rows_none (products a.d a.k a.m a.e a.v.now) 0 a.d a.v.now, refl, refl)
 
-mul_at : tie.Need-overflow-mul-at invariant-loop decreases-loop
-mul_at c = record { fits = omega (arith, here c) }
+overflow_mul-at : tie.Need-overflow_mul-at invariant-loop-i decreases-loop-i
+overflow_mul-at c = record { fits = omega (arith, here c) }
 
-mul-weigh : tie.Need-overflow-mul-weigh invariant-loop decreases-loop
-mul-weigh c = record { fits = omega (arith, here c) }
+offset_bounds-v-at : tie.Need-offset_bounds-v-at invariant-loop-i decreases-loop-i
+offset_bounds-v-at c = record { fits = omega (arith, here c) }
 
-sub-weigh : tie.Need-overflow-sub-weigh invariant-loop decreases-loop
-sub-weigh c = omega (arith, here c)
+slice_bounds-weigh-count : tie.Need-slice_bounds-weigh-count invariant-loop-i decreases-loop-i
+slice_bounds-weigh-count c = omega (arith, here c)
 
-part-weigh-start : tie.Need-slice-bounds-weigh-start invariant-loop decreases-loop
-part-weigh-start c = omega (arith, here c)
+slice_bounds-weigh-start : tie.Need-slice_bounds-weigh-start invariant-loop-i decreases-loop-i
+slice_bounds-weigh-start c = omega (arith, here c)
 
-weigh-requires : tie.Need-weigh-requires invariant-loop decreases-loop
+weigh-requires : tie.Need-weigh-requires invariant-loop-i decreases-loop-i
 weigh-requires c κs =
-    let g = c.before.before.before.before in let l = c.before.before.before.loop in let a = g.args in
+    let g = c in let l = c.loop-i in let a = g.args in
     (omega (arith, g.requires.0, l.invariant.3), weighable a.d a.n a.k a.m a.e a.v.now g.requires.1 l.i (omega arith) l.v l.invariant.1 l.invariant.2)
 
-loop-again : tie.Need-loop-preserved invariant-loop decreases-loop
-loop-again c =
-    let g = c.before.before.before.before.before.before.before in let l = c.before.before.before.before.before.before.loop in let a = g.args in
-    let next = turn a.d a.n a.k a.m a.e a.v.now g.requires.1 l.i (omega arith) l.v l.invariant.1 l.invariant.2 _ c.before.before.weigh.ensures in (
+loop-i-preserved : tie.Need-loop-i-preserved invariant-loop-i decreases-loop-i
+loop-i-preserved c =
+    let g = c in let l = c.loop-i in let a = g.args in
+    let next = turn a.d a.n a.k a.m a.e a.v.now g.requires.1 l.i (omega arith) l.v l.invariant.1 l.invariant.2 _ c.weigh.ensures in (
       omega arith,
       next,
       ap length next ∙ spliced-length _ 0 ((l.i + 1) * a.d) a.v.now (omega arith) (omega (arith, here c.before.before.before.before.before, Nat.add-mul l.i 1 a.d)),
-      c.before.before.weigh.auto.1.1.1.1.1.0 ∙ l.invariant.3,
+      c.weigh.auto.x ∙ l.invariant.3,
     )
 
-returns : tie.Need-returns invariant-loop decreases-loop
+returns : tie.Need-returns invariant-loop-i decreases-loop-i
 unfolding scaled
 returns c =
-    let a = c.before.before.args in
-    c.before.loop.invariant.1 ∙ ap (λ j. spliced_rows (products a.d a.k a.m a.e a.v.now) 0 a.d j a.v.now) (omega arith)
+    let a = c.args in
+    c.loop-i.invariant.1 ∙ ap (λ j. spliced_rows (products a.d a.k a.m a.e a.v.now) 0 a.d j a.v.now) (omega arith)
 
 pub scale_spec : {M : Type 1} → statement M
 scale_spec =
     tie.close
-    (tie.spec invariant-loop decreases-loop loop-holds mul_at mul-weigh sub-weigh part-weigh-start (λ c. search rules) weigh-requires (λ c. search rules)
-    (λ c. search rules) loop-again (λ c. search rules) (λ c. search rules) returns)
+    (tie.spec invariant-loop-i decreases-loop-i loop-i-init overflow_mul-at offset_bounds-v-at slice_bounds-weigh-count slice_bounds-weigh-start (λ c. search rules) weigh-requires (λ c. search rules)
+    (λ c. search rules) loop-i-preserved (λ c. search rules) (λ c. search rules) returns)

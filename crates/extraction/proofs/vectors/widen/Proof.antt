@@ -8,11 +8,11 @@ use Rattle.extraction.proofs.vectors.widen.Tie as tie
 wide : (c : tie.Start) → SFits w64 c.args.x
 wide c = sfits_widen tt c.ranges.x
 
-cast-result : tie.Need-overflow-cast-result
-cast-result c = rw (to_z-of_z c.ranges.x) (wide c)
+overflow_cast-result : tie.Need-overflow_cast-result
+overflow_cast-result c = rw (to_z-of_z c.ranges.x) (wide c)
 
 returns : tie.Need-returns
 returns c = rw (to_z-of_z c.ranges.x, to_z-of_z (wide c))
 
 pub widen_spec : {M : Type 1} → statement M
-widen_spec = tie.close (tie.spec cast-result returns)
+widen_spec = tie.close (tie.spec overflow_cast-result returns)

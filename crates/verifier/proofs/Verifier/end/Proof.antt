@@ -23,7 +23,7 @@ returns c =
     end-answered a.self.0 a.last a.key.now _
     (ap (λ (s : Session). record { refusal = said.refusal; verdict = said.verdict; next = s }) c.joined-next.ensures
     ∙ moved.end_on-said.ensures (record {
-      slice_bounds-end_on-end = omega (arith, slice_bounds-end_on-end moved.before.before.before.before);
+      claims-long = omega (arith, slice_bounds-end_on-end moved.before.before.before.before);
       final_long = λ ok. omega (arith, degree_most _ (settings-valid _ ok), slice_bounds-end_on-end-2 moved.before.before.before);
     })
     ∙ ap (λ (s : Session). end s a.last a.key.now) moved.beside.ensures)
