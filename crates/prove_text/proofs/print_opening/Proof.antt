@@ -58,7 +58,7 @@ module _ (c : tie.After-opened-transcript) where
   commitment-value : c.opened-transcript.result.commitment ≡ at_rows S (λ r. commitment S (key_row S G r) M)
   commitment-value = ap (λ r. r.commitment) (c.opened-transcript.ensures granted).answer ∙ opening-commitment (given S G M E R ok) R ok.rounds_long
 
-  last_given : (S.degree ≤ length c.opened-transcript.result.last) × (take S.degree c.opened-transcript.result.last ≡ (transcripts_of S G M E).last-1)
+  last_given : (S.degree ≤ length c.opened-transcript.result.last) × (take S.degree c.opened-transcript.result.last ≡ (transcripts_of S G M E).last)
   last_given = last_front S G M E R ok _ (ap (λ r. r.last) (c.opened-transcript.ensures granted).answer ∙ opening_last (given S G M E R ok) R ok.rounds_long)
 
   rounds_given : c.opened-transcript.new.rounds ≡ round_tables S E G M
@@ -81,7 +81,7 @@ module _ (c : tie.After-item_cells-item_cells) where
   allowed : settings_refusal (S from) ≡ 0
   allowed = valid-settings (S from) (ok from).settings
 
-  commitment_given : take count made.flat-table.result ≡ (transcripts_of (S from) (G from) (M from) (E from)).commitment-1
+  commitment_given : take count made.flat-table.result ≡ (transcripts_of (S from) (G from) (M from) (E from)).commitment
   commitment_given =
       ap (λ n. take n made.flat-table.result) (c.item_cells-item_cells.ensures.0 allowed) ∙ made.flat-table.ensures allowed
       ∙ commitment-flat (S from) (G from) (M from) (E from) (R from) (ok from) _ (commitment-value from)

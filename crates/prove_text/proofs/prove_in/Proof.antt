@@ -28,8 +28,8 @@ module _ (c : tie.After-read_tables-loaded) where
 
   abbrev t' : Tables
   t' =
-      let l = c.read_tables-loaded.new.1.1.1.1 in
-      tables_of l.0 l.1.0 l.1.1.0 l.1.1.1.0 l.1.1.1.1.0 l.1.1.1.1.1.0 l.1.1.1.1.1.1.0
+      let l = c.read_tables-loaded.new in
+      tables_of l.key l.message l.commitment l.rounds l.challenges l.last l.claims
 
   fit : Lent prove_reads text t
   fit = start.requires.0
@@ -52,11 +52,11 @@ module _ (c : tie.Else-refusal-ne0) where
   unfolding lengths_of
   lengths =
       let a = (start got).args in
-      let key : length (t' got).key-1 ≡ length a.key.now = search in
-      let message : length (t' got).message-1 ≡ length a.message.now = search in
+      let key : length (t' got).key ≡ length a.key.now = search in
+      let message : length (t' got).message ≡ length a.message.now = search in
       let commitment : length (t' got).commitment ≡ 0 = search in
-      let rounds : length (t' got).rounds-1 ≡ 0 = search in
-      let challenges : length (t' got).challenges-1 ≡ length a.challenges.now = search in
+      let rounds : length (t' got).rounds ≡ 0 = search in
+      let challenges : length (t' got).challenges ≡ length a.challenges.now = search in
       let last : length (t' got).last ≡ 0 = search in
       let claims : length (t' got).claims ≡ 0 = search in
       λ j. key j ∷ message j ∷ commitment j ∷ rounds j ∷ challenges j ∷ last j ∷ claims j ∷ []
@@ -71,11 +71,11 @@ print_opening-requires c κs =
     let e = c in
     let r = got e.before.before.before.before.before in
     openable (S e.before.before.before.before.before) (t' r) (start r).args.rounds.now
-    (settings-allowed (text r) prove_reads (t r) (t' r) (fit r) r.read_tables.result (promise r) e.if-refusal-ne0.false)
-    (still-fitting (text r) prove_reads (t r) (t' r) (fit r) r.read_tables.result (promise r) e.if-refusal-ne0.false (lengths e.before.before.before.before.before))
-    (entries-passed (text r) prove_reads (t r) (t' r) (fit r) r.read_tables.result (promise r) e.if-refusal-ne0.false)
-    ((start r).requires.1.0 (settings-unrefused (text r) prove_reads (t r) (t' r) (fit r) r.read_tables.result (promise r) e.if-refusal-ne0.false)
-    (same_lines (text r) prove_reads (t r) (t' r) (fit r) r.read_tables.result (promise r) e.if-refusal-ne0.false) ∙ sym (ap round_cells (same_settings e.before.before.before.before.before)))
+    (settings-allowed (text r) prove_reads (t r) (t' r) (fit r) r.read_tables-loaded.result (promise r) e.if-refusal-ne0.false)
+    (still-fitting (text r) prove_reads (t r) (t' r) (fit r) r.read_tables-loaded.result (promise r) e.if-refusal-ne0.false (lengths e.before.before.before.before.before))
+    (entries-passed (text r) prove_reads (t r) (t' r) (fit r) r.read_tables-loaded.result (promise r) e.if-refusal-ne0.false)
+    ((start r).requires.1.0 (settings-unrefused (text r) prove_reads (t r) (t' r) (fit r) r.read_tables-loaded.result (promise r) e.if-refusal-ne0.false)
+    (same_lines (text r) prove_reads (t r) (t' r) (fit r) r.read_tables-loaded.result (promise r) e.if-refusal-ne0.false) ∙ sym (ap round_cells (same_settings e.before.before.before.before.before)))
 
 returns : tie.Need-returns
 returns c =
@@ -83,8 +83,8 @@ returns c =
     let e = p in
     let r = got e.before.before.before.before.before.before.before.before.before.before.before.before.before in
     prove_done (text r) (start r).args.out.now (S e.before.before.before.before.before.before.before.before.before.before.before.before.before) (t' r) (same_settings e.before.before.before.before.before.before.before.before.before.before.before.before.before)
-    (tables_are (text r) prove_reads (t r) (t' r) (fit r) r.read_tables.result (promise r) e.if-refusal-ne0.false)
-    (sym (number_is (text r) prove_reads (t r) (t' r) (fit r) r.read_tables.result (promise r)) ∙ e.if-refusal-ne0.false)
+    (tables_are (text r) prove_reads (t r) (t' r) (fit r) r.read_tables-loaded.result (promise r) e.if-refusal-ne0.false)
+    (sym (number_is (text r) prove_reads (t r) (t' r) (fit r) r.read_tables-loaded.result (promise r)) ∙ e.if-refusal-ne0.false)
     p.print_opening.result p.print_opening.new.out p.print_opening.ensures
 
 pub prove_in_spec : {M : Type 1} → statement M

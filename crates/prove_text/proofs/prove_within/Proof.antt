@@ -77,7 +77,7 @@ module _ (c : tie.After-lent_cells-round_cells) where
   message-room = omega (arith, message_is, start.requires.1)
 
   challenges-room : S.depth ≤ length start.args.challenges.now
-  challenges-room = omega (arith, (rooms S allowed).challenges-1, start.requires.2)
+  challenges-room = omega (arith, (rooms S allowed).challenges, start.requires.2)
 
   rounds-room : rounds_lent ≤ length start.args.rounds.now
   rounds-room = omega (arith, rounds_is, start.requires.3)
