@@ -16,48 +16,48 @@ use borrow.Author.Rules.{rules}
 use Rattle.exports.proofs.wovenrock_check.Statement.{statement}
 use Rattle.exports.proofs.wovenrock_check.Tie as tie
 
-returns : tie.Need-returns
+returns-then-refusal-ne0 : tie.Need-returns-then-refusal-ne0
 unfolding check_number check_verdict hasLength
-returns c =
-    let at-refusal = c.before in
-    let at_both = at-refusal.before in
-    let at-item-cells = at_both.before in
-    let a = at-item-cells.before.before.before.before.before.args in
+returns-then-refusal-ne0 c =
+    let at-refusal = c in
+    let at_both = at-refusal in
+    let at-item-cells = at_both in
+    let a = at-item-cells.args in
     let S = given a.degree a.depth a.modulus a.bound a.rows in
-    let border = both_counted S at-item-cells.item-cells.ensures.0 a.commitment.now a.degree a.last.now at_both.both.ensures at-refusal.refusal.ensures in
+    let border = both_counted S at-item-cells.item_cells.ensures.0 a.commitment.now a.degree a.last.now at_both.both-fits.ensures at-refusal.refusal-refusal.ensures in
     let answer = check_answer S (values_of S a.commitment.now) (padded_signed a.degree a.last.now) a.key.now a.rounds.now a.challenges.now in
     let fits = hasLength (item_cells S) a.commitment.now && hasLength a.degree a.last.now in
-    let (p, q) = unfit S fits answer.refusal (verdict_number answer.verdict) 0 _ border c.if1.true in
+    let (p, q) = unfit S fits answer.refusal (verdict_number answer.verdict) 0 _ border c.if-refusal-ne0.true in
     record { refusal = p; verdict_exit = q }
 
-returns-2 : tie.Need-returns-2
+returns : tie.Need-returns
 unfolding check_number check_verdict check_answer hasLength
-returns-2 c =
-    let at-check = c.before in
-    let at-wholes = at-check.before.before.before in
-    let at-residues = at-wholes.before in
-    let at-if1 = at-residues.before in
-    let at-refusal = at-if1.before in
-    let at_both = at-refusal.before in
-    let at-item-cells = at_both.before in
-    let a = at-item-cells.before.before.before.before.before.args in
+returns c =
+    let at-check = c in
+    let at-wholes = at-check in
+    let at-residues = at-wholes in
+    let at-if1 = at-residues in
+    let at-refusal = at-if1 in
+    let at_both = at-refusal in
+    let at-item-cells = at_both in
+    let a = at-item-cells.args in
     let S = given a.degree a.depth a.modulus a.bound a.rows in
     let fits = hasLength (item_cells S) a.commitment.now && hasLength a.degree a.last.now in
-    let border = both_counted S at-item-cells.item-cells.ensures.0 a.commitment.now a.degree a.last.now at_both.both.ensures at-refusal.refusal.ensures in
-    let nothing = at-if1.if1.false in
+    let border = both_counted S at-item-cells.item_cells.ensures.0 a.commitment.now a.degree a.last.now at_both.both-fits.ensures at-refusal.refusal-refusal.ensures in
+    let nothing = at-if1.if-refusal-ne0.false in
     let passed = sym border ∙ nothing in
     let (c_long, f_long) = and_split (lent_fits S _ passed) in
-    let commitment = at-residues.residues.ensures (lent_allowed S _ passed) (eqb-true _ _ c_long) in
-    let last = at-wholes.wholes.ensures (lent_degree S _ passed) (eqb-true _ _ f_long) in
-    let answer = at-check.check-lent.ensures ∙ (λ i. check_answer S (commitment i) (last i) a.key.now a.rounds.now a.challenges.now) in
+    let commitment = at-residues.residues-c.ensures (lent_allowed S _ passed) (eqb-true _ _ c_long) in
+    let last = at-wholes.wholes-f.ensures (lent_degree S _ passed) (eqb-true _ _ f_long) in
+    let answer = at-check.check_lent-answer.ensures ∙ (λ i. check_answer S (commitment i) (last i) a.key.now a.rounds.now a.challenges.now) in
     let N = check_refusal S (values_of S a.commitment.now) a.key.now a.rounds.now a.challenges.now in
     record {
       refusal = ap (λ (r : Checked). r.refusal) answer ∙ lent_passes S fits N passed;
-      verdict_exit = c.verdict_number_holds.ensures ∙ ap (λ (r : Checked). verdict_number r.verdict) answer ∙ says S fits N _ _ border nothing;
+      verdict_exit = c.verdict_number.ensures ∙ ap (λ (r : Checked). verdict_number r.verdict) answer ∙ says S fits N _ _ border nothing;
     }
 
 pub wovenrock_check_spec : {M : Type 1} → statement M
 wovenrock_check_spec =
     tie.close
-    (tie.spec (λ c κs. search rules) (λ c κs. search rules) (λ c κs. search rules) returns (λ c κs. search rules) (λ c κs. search rules) (λ c κs. search rules)
-    (λ c κs. search rules) returns-2)
+    (tie.spec (λ c κs. search rules) (λ c κs. search rules) (λ c κs. search rules) returns-then-refusal-ne0 (λ c κs. search rules) (λ c κs. search rules) (λ c κs. search rules)
+    (λ c κs. search rules) returns)

@@ -15,40 +15,40 @@ use borrow.Author.Rules.{rules}
 use Rattle.exports.proofs.wovenrock_commit.Statement.{statement}
 use Rattle.exports.proofs.wovenrock_commit.Tie as tie
 
-returns : tie.Need-returns
+returns-then-refusal-ne0 : tie.Need-returns-then-refusal-ne0
 unfolding commit_number commit_exit hasLength
-returns c =
-    let at-refusal = c.before in
-    let at-item-cells = at-refusal.before in
-    let a = at-item-cells.before.before.before.args in
+returns-then-refusal-ne0 c =
+    let at-refusal = c in
+    let at-item-cells = at-refusal in
+    let a = at-item-cells.args in
     let S = given a.degree a.depth a.modulus a.bound a.rows in
-    let border = counted S at-item-cells.item-cells.ensures.0 a.commitment.now at-refusal.refusal.ensures in
+    let border = counted S at-item-cells.item_cells.ensures.0 a.commitment.now at-refusal.refusal-refusal.ensures in
     let answer = commit_answer S a.key.now a.message.now in
-    let (p, q) = unfit S (hasLength (item_cells S) a.commitment.now) answer.refusal (together S answer.commitment) a.commitment.now _ border c.if1.true in
+    let (p, q) = unfit S (hasLength (item_cells S) a.commitment.now) answer.refusal (together S answer.commitment) a.commitment.now _ border c.if-refusal-ne0.true in
     record { refusal = p; commitment_exit = q }
 
 -- what the call leaves, whether it is refused or not
-returns-2 : tie.Need-returns-2
+returns : tie.Need-returns
 unfolding commit_number commit_exit hasLength commit_answer
-returns-2 c =
-    let at-commit = c.before.before in
-    let at-if1 = at-commit.before.before in
-    let at-refusal = at-if1.before in
-    let at-item-cells = at-refusal.before in
-    let a = at-item-cells.before.before.before.args in
+returns c =
+    let at-commit = c in
+    let at-if1 = at-commit in
+    let at-refusal = at-if1 in
+    let at-item-cells = at-refusal in
+    let a = at-item-cells.args in
     let S = given a.degree a.depth a.modulus a.bound a.rows in
     let C = a.commitment.now in
-    let border = counted S at-item-cells.item-cells.ensures.0 C at-refusal.refusal.ensures in
+    let border = counted S at-item-cells.item_cells.ensures.0 C at-refusal.refusal-refusal.ensures in
     let G = a.key.now in
     let m = a.message.now in
     let answer = commit_answer S G m in
-    let to = at-commit.commit-to in
-    let nothing = at-if1.if1.false in
+    let to = at-commit.commit_to in
+    let nothing = at-if1.if-refusal-ne0.false in
     let passed = sym border ∙ nothing in
     let long = eqb-true _ _ (lent_fits S _ passed) in
     elim (ℕ_discrete to.result 0) [
       | yes none ↦
-          let stored = commit-stored S (lent_allowed S _ passed) G m (sym to.ensures.refusal ∙ none) C _ (to.auto.1.1.1.0 ∙ long) (to.ensures.written none (Nat.le_of_eq (sym long))) in
+          let stored = commit-stored S (lent_allowed S _ passed) G m (sym to.ensures.refusal ∙ none) C _ (to.auto.out ∙ long) (to.ensures.written none (Nat.le_of_eq (sym long))) in
           let (p, q) = made S (hasLength (item_cells S) C) answer.refusal (together S answer.commitment) C _ border nothing _ to.ensures.refusal none _ stored in
           record { refusal = none ∙ p; commitment_exit = q }
       | no some ↦
@@ -59,4 +59,4 @@ returns-2 c =
 pub wovenrock_commit_spec : {M : Type 1} → statement M
 wovenrock_commit_spec =
     tie.close
-    (tie.spec (λ c κs. search rules) (λ c κs. search rules) returns (λ c κs. search rules) (λ c. search rules) returns-2)
+    (tie.spec (λ c κs. search rules) (λ c κs. search rules) returns-then-refusal-ne0 (λ c κs. search rules) (λ c. search rules) returns)

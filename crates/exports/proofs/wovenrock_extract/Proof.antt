@@ -11,50 +11,50 @@ use borrow.Author.Rules.{rules}
 use Rattle.exports.proofs.wovenrock_extract.Statement.{statement}
 use Rattle.exports.proofs.wovenrock_extract.Tie as tie
 
-item-cells-requires : tie.Need-item-cells-requires
-item-cells-requires c κs = search rules
+item_cells-requires : tie.Need-item_cells-requires
+item_cells-requires c κs = search rules
 
-refusal-requires : tie.Need-refusal-requires
-refusal-requires c κs = search rules
+refusal-refusal-requires : tie.Need-refusal-refusal-requires
+refusal-refusal-requires c κs = search rules
 
-returns : tie.Need-returns
+returns-then-refusal-ne0 : tie.Need-returns-then-refusal-ne0
 unfolding extract_number extract_exit hasLength
-returns c =
-    let at-refusal = c.before in
-    let at-item-cells = at-refusal.before in
-    let a = at-item-cells.before.before.before.before.before.args in
+returns-then-refusal-ne0 c =
+    let at-refusal = c in
+    let at-item-cells = at-refusal in
+    let a = at-item-cells.args in
     let S = given a.degree a.depth a.modulus a.bound a.rows in
-    let border = counted S at-item-cells.item-cells.ensures.0 a.commitment.now at-refusal.refusal.ensures in
+    let border = counted S at-item-cells.item_cells.ensures.0 a.commitment.now at-refusal.refusal-refusal.ensures in
     let C = values_of S a.commitment.now in
     let N = Calls.extract_refusal S C a.key.now a.rounds.now a.challenges.now a.leaves.now a.w.now in
     let exit = Calls.extract_exit S C a.key.now a.rounds.now a.challenges.now a.leaves.now a.w.now in
-    let (p, q) = unfit S (hasLength (item_cells S) a.commitment.now) N exit a.w.now _ border c.if1.true in
+    let (p, q) = unfit S (hasLength (item_cells S) a.commitment.now) N exit a.w.now _ border c.if-refusal-ne0.true in
     record { refusal = p; w_exit = q }
 
-residues-requires : tie.Need-residues-requires
-residues-requires c κs = search rules
+residues-c-requires : tie.Need-residues-c-requires
+residues-c-requires c κs = search rules
 
 extract-requires : tie.Need-extract-requires
 extract-requires c κs = search rules
 
-same_length : tie.Need-same-length
-same_length c = search rules
+shape_of-w : tie.Need-shape_of-w
+shape_of-w c = search rules
 
-returns-2 : tie.Need-returns-2
+returns : tie.Need-returns
 unfolding extract_number extract_exit Calls.extract_exit hasLength
-returns-2 c =
-    let at-extract = c.before in
-    let at-residues = at-extract.before.before in
-    let at-if1 = at-residues.before in
-    let at-refusal = at-if1.before in
-    let at-item-cells = at-refusal.before in
-    let a = at-item-cells.before.before.before.before.before.args in
+returns c =
+    let at-extract = c in
+    let at-residues = at-extract in
+    let at-if1 = at-residues in
+    let at-refusal = at-if1 in
+    let at-item-cells = at-refusal in
+    let a = at-item-cells.args in
     let S = given a.degree a.depth a.modulus a.bound a.rows in
     let fits = hasLength (item_cells S) a.commitment.now in
-    let border = counted S at-item-cells.item-cells.ensures.0 a.commitment.now at-refusal.refusal.ensures in
-    let nothing = at-if1.if1.false in
+    let border = counted S at-item-cells.item_cells.ensures.0 a.commitment.now at-refusal.refusal-refusal.ensures in
+    let nothing = at-if1.if-refusal-ne0.false in
     let passed = sym border ∙ nothing in
-    let commitment = at-residues.residues.ensures (lent_allowed S _ passed) (eqb-true _ _ (lent_fits S _ passed)) in
+    let commitment = at-residues.residues-c.ensures (lent_allowed S _ passed) (eqb-true _ _ (lent_fits S _ passed)) in
     let answer = at-extract.extract.ensures in
     let N = Calls.extract_refusal S (values_of S a.commitment.now) a.key.now a.rounds.now a.challenges.now a.leaves.now a.w.now in
     record {
@@ -65,4 +65,4 @@ returns-2 c =
 pub wovenrock_extract_spec : {M : Type 1} → statement M
 wovenrock_extract_spec =
     tie.close
-    (tie.spec item-cells-requires refusal-requires returns residues-requires extract-requires same_length returns-2)
+    (tie.spec item_cells-requires refusal-refusal-requires returns-then-refusal-ne0 residues-c-requires extract-requires shape_of-w returns)

@@ -4,15 +4,15 @@ use borrow.Author.Rules.{rules}
 use Rattle.text_calls.proofs.prove.Statement.{statement}
 use Rattle.text_calls.proofs.prove.Tie as tie
 
-prove-requires : tie.Need-prove-requires
-prove-requires c κs = search rules
+prove-written-requires : tie.Need-prove-written-requires
+prove-written-requires c κs = search rules
 
-same_length : tie.Need-same-length
-same_length c = search rules
+shape_of-out : tie.Need-shape_of-out
+shape_of-out c = search rules
 
 returns : tie.Need-returns
 returns c =
-    let given = c.before.before.prove.ensures in
+    let given = c.prove-written.ensures in
     record {
       refusal = ap (λ (r : Written). r.refusal) given.answer;
       out_exit = given.out_exit;
@@ -20,4 +20,4 @@ returns c =
     }
 
 pub prove_spec : {M : Type 1} → statement M
-prove_spec = tie.close (tie.spec prove-requires same_length returns)
+prove_spec = tie.close (tie.spec prove-written-requires shape_of-out returns)

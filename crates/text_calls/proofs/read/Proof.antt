@@ -8,49 +8,49 @@ use Rattle.text_calls.proofs.Answers.{read_unfit, read-refused, read_made}
 use Rattle.text_calls.proofs.read.Statement.{statement}
 use Rattle.text_calls.proofs.read.Tie as tie
 
-returns : tie.Need-returns
+returns-then-not-both : tie.Need-returns-then-not-both
 unfolding hasLength parts_named
-returns c =
-    let at-if1 = c.before in
-    let at_both = at-if1.before in
-    let a = at_both.before.before.before.before.before.before.before.before.args in
+returns-then-not-both c =
+    let at-if1 = c in
+    let at_both = at-if1 in
+    let a = at_both.args in
     read_unfit a.parts a.text.now a.settings.now (tables_of a.key.now a.message.now a.commitment.now a.rounds.now a.challenges.now a.last.now a.claims.now) _
-    c.refused.ensures (sym at_both.both.ensures ∙ not-true _ at-if1.if1.true)
+    c.refused.ensures (sym at_both.both.ensures ∙ not-true _ at-if1.if-not-both.true-raw)
 
-returns-2 : tie.Need-returns-2
+returns-then-loaded-ne0 : tie.Need-returns-then-loaded-ne0
 unfolding hasLength parts_named
-returns-2 c =
-    let at_read = c.before.before.before.before.before.before.before.before.before.before.before.before.before.before in
-    let at-parts-of = at_read.before.before.before.before.before.before.before.before in
-    let at-if1 = at-parts-of.before in
-    let at_both = at-if1.before in
-    let a = at_both.before.before.before.before.before.before.before.before.args in
+returns-then-loaded-ne0 c =
+    let at_read = c in
+    let at-parts-of = at_read in
+    let at-if1 = at-parts-of in
+    let at_both = at-if1 in
+    let a = at_both.args in
     read-refused a.parts a.text.now a.settings.now (tables_of a.key.now a.message.now a.commitment.now a.rounds.now a.challenges.now a.last.now a.claims.now)
-    (sym at_both.both.ensures ∙ not-false _ at-if1.if1.false) _ at-parts-of.parts-of.ensures _ _ at_read.read.ensures c.if2.true
+    (sym at_both.both.ensures ∙ not-false _ at-if1.if-not-both.false-raw) _ at-parts-of.parts_of-there.ensures _ _ at_read.read-loaded.ensures c.if-loaded-ne0.true
 
 store-requires : tie.Need-store-requires
 store-requires c κs =
-    let at-if1 = c.before.before.before.before.before.before.before.before.before.before.before.before.before.before.before.before.before.before.before.before.before.before.before.before in
-    let at_both = at-if1.before in
-    eqb-true _ _ (and_split (sym at_both.both.ensures ∙ not-false _ at-if1.if1.left)).0
+    let at-if1 = c in
+    let at_both = at-if1 in
+    eqb-true _ _ (and_split (sym at_both.both.ensures ∙ not-false _ at-if1.if-not-both.false-raw)).0
 
-returns-3 : tie.Need-returns-3
+returns : tie.Need-returns
 unfolding hasLength parts_named
-returns-3 c =
-    let at_store = c.before.before in
-    let at-if2 = at_store.before.before in
-    let at_read = at-if2.before.before.before.before.before.before.before.before.before.before.before.before.before.before in
-    let at-parts-of = at_read.before.before.before.before.before.before.before.before in
-    let at-if1 = at-parts-of.before in
-    let at_both = at-if1.before in
-    let a = at_both.before.before.before.before.before.before.before.before.args in
+returns c =
+    let at_store = c in
+    let at-if2 = at_store in
+    let at_read = at-if2 in
+    let at-parts-of = at_read in
+    let at-if1 = at-parts-of in
+    let at_both = at-if1 in
+    let a = at_both.args in
     read_made a.parts a.text.now a.settings.now (tables_of a.key.now a.message.now a.commitment.now a.rounds.now a.challenges.now a.last.now a.claims.now)
-    (sym at_both.both.ensures ∙ not-false _ at-if1.if1.false) _ at-parts-of.parts-of.ensures _ _ at_read.read.ensures at-if2.if2.false _
+    (sym at_both.both.ensures ∙ not-false _ at-if1.if-not-both.false-raw) _ at-parts-of.parts_of-there.ensures _ _ at_read.read-loaded.ensures at-if2.if-loaded-ne0.false _
     at_store.store.ensures
 
 pub read_spec : {M : Type 1} → statement M
 read_spec =
     tie.close
-    (tie.spec (λ c κs. search) (λ c κs. search) returns (λ c κs. search) (λ c κs. search) (λ c. search)
-    (λ c. search) (λ c. search) (λ c. search) (λ c. search) (λ c. search) (λ c. search) returns-2 store-requires (λ c. search) (λ c. search)
-    (λ c. search) (λ c. search) (λ c. search) (λ c. search) (λ c. search) (λ c. search) returns-3)
+    (tie.spec (λ c κs. search) (λ c κs. search) returns-then-not-both (λ c κs. search) (λ c κs. search) (λ c. search)
+    (λ c. search) (λ c. search) (λ c. search) (λ c. search) (λ c. search) (λ c. search) returns-then-loaded-ne0 store-requires (λ c. search) (λ c. search)
+    (λ c. search) (λ c. search) (λ c. search) (λ c. search) (λ c. search) (λ c. search) returns)

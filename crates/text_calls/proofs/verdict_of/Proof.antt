@@ -6,35 +6,35 @@ use borrow.Author.Rules.{rules}
 use Rattle.text_calls.proofs.verdict_of.Statement.{statement}
 use Rattle.text_calls.proofs.verdict_of.Tie as tie
 
-returns : tie.Need-returns
+returns-in-Accepted : tie.Need-returns-in-Accepted
 unfolding checked
-returns c =
-    let told = c.before.enum_told.given.1 in
+returns-in-Accepted c =
+    let told = c.in-Accepted.is in
     record {
       refusal = sym (ap (λ (v : Verified). (checked v).refusal) told);
-      verdict_exit = c.verdict_number_holds.ensures ∙ sym (ap (λ (v : Verified). verdict_number (checked v).verdict) told);
+      verdict_exit = c.verdict_number.ensures ∙ sym (ap (λ (v : Verified). verdict_number (checked v).verdict) told);
     }
 
-returns-2 : tie.Need-returns-2
+returns-in-Rejected : tie.Need-returns-in-Rejected
 unfolding checked
-returns-2 c =
-    let told = c.before.enum-told2.given.1 in
+returns-in-Rejected c =
+    let told = c.in-Rejected.is in
     record {
       refusal = sym (ap (λ (v : Verified). (checked v).refusal) told);
-      verdict_exit = c.verdict-number2.ensures ∙ sym (ap (λ (v : Verified). verdict_number (checked v).verdict) told);
+      verdict_exit = c.verdict_number-in-Rejected.ensures ∙ sym (ap (λ (v : Verified). verdict_number (checked v).verdict) told);
     }
 
-returns-3 : tie.Need-returns-3
+returns-in-Refused : tie.Need-returns-in-Refused
 unfolding checked
-returns-3 c =
-    let told = c.before.before.verified.given.1 in
+returns-in-Refused c =
+    let told = c.in-Refused.is in
     record {
       refusal = sym (ap (λ (v : Verified). (checked v).refusal) told);
-      verdict_exit = c.verdict-number3.ensures ∙ sym (ap (λ (v : Verified). verdict_number (checked v).verdict) told);
+      verdict_exit = c.verdict_number-in-Refused.ensures ∙ sym (ap (λ (v : Verified). verdict_number (checked v).verdict) told);
     }
 
 pub verdict_of_spec : {M : Type 1} → statement M
 verdict_of_spec =
     tie.close
-    (tie.spec (λ c. search rules) (λ c κs. search rules) (λ c. search rules) (λ c κs. search rules) (λ c. search rules) (λ c κs. search rules) returns
-    returns-2 returns-3)
+    (tie.spec (λ c. search rules) (λ c κs. search rules) (λ c. search rules) (λ c κs. search rules) (λ c. search rules) (λ c κs. search rules) returns-in-Accepted
+    returns-in-Rejected returns-in-Refused)

@@ -6,20 +6,20 @@ use borrow.Author.Rules.{rules}
 use Rattle.text_calls.proofs.verify.Statement.{statement}
 use Rattle.text_calls.proofs.verify.Tie as tie
 
-verify-requires : tie.Need-verify-requires
-verify-requires c κs = search rules
+verify-verified-requires : tie.Need-verify-verified-requires
+verify-verified-requires c κs = search rules
 
-verdict-of-requires : tie.Need-verdict-of-requires
-verdict-of-requires c κs = search rules
+verdict_of-requires : tie.Need-verdict_of-requires
+verdict_of-requires c κs = search rules
 
 returns : tie.Need-returns
 returns c =
-    let answer = c.before.before.verify.ensures.0 in
-    let given = c.verdict-of.ensures in
+    let answer = c.verify-verified.ensures.0 in
+    let given = c.verdict_of.ensures in
     record {
       refusal = given.refusal ∙ ap (λ (v : Verified). (checked v).refusal) answer;
       verdict_exit = given.verdict_exit ∙ ap (λ (v : Verified). verdict_number (checked v).verdict) answer;
     }
 
 pub verify_spec : {M : Type 1} → statement M
-verify_spec = tie.close (tie.spec verify-requires verdict-of-requires returns)
+verify_spec = tie.close (tie.spec verify-verified-requires verdict_of-requires returns)

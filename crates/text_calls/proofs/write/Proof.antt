@@ -5,38 +5,38 @@ use borrow.Author.Rules.{rules}
 use Rattle.text_calls.proofs.write.Statement.{statement}
 use Rattle.text_calls.proofs.write.Tie as tie
 
-refusal-requires : tie.Need-refusal-requires
-refusal-requires c κs = search rules
+refusal-refusal-requires : tie.Need-refusal-refusal-requires
+refusal-refusal-requires c κs = search rules
+
+returns-then-refusal-ne0 : tie.Need-returns-then-refusal-ne0
+unfolding parts_named
+returns-then-refusal-ne0 c =
+    let at-refusal = c in
+    let a = at-refusal.args in
+    write_unfit a.settings a.parts (tables_of a.key.now a.message.now a.commitment.now a.rounds.now a.challenges.now a.last.now a.claims.now) a.out.now _
+    at-refusal.refusal-refusal.ensures c.if-refusal-ne0.true
+
+parts_of-there-requires : tie.Need-parts_of-there-requires
+parts_of-there-requires c κs = search rules
+
+write-written-requires : tie.Need-write-written-requires
+write-written-requires c κs = search rules
+
+shape_of-out : tie.Need-shape_of-out
+shape_of-out c = search rules
 
 returns : tie.Need-returns
 unfolding parts_named
 returns c =
-    let at-refusal = c.before in
-    let a = at-refusal.before.before.before.before.before.before.before.args in
-    write_unfit a.settings a.parts (tables_of a.key.now a.message.now a.commitment.now a.rounds.now a.challenges.now a.last.now a.claims.now) a.out.now _
-    at-refusal.refusal.ensures c.if1.true
-
-parts-of-requires : tie.Need-parts-of-requires
-parts-of-requires c κs = search rules
-
-write-requires : tie.Need-write-requires
-write-requires c κs = search rules
-
-same_length : tie.Need-same-length
-same_length c = search rules
-
-returns-2 : tie.Need-returns-2
-unfolding parts_named
-returns-2 c =
-    let at-write = c.before.before in
-    let at-parts-of = at-write.before.before in
-    let at-if1 = at-parts-of.before in
-    let at-refusal = at-if1.before in
-    let a = at-refusal.before.before.before.before.before.before.before.args in
+    let at-write = c in
+    let at-parts-of = at-write in
+    let at-if1 = at-parts-of in
+    let at-refusal = at-if1 in
+    let a = at-refusal.args in
     write-made a.settings a.parts (tables_of a.key.now a.message.now a.commitment.now a.rounds.now a.challenges.now a.last.now a.claims.now) a.out.now _
-    at-refusal.refusal.ensures at-if1.if1.false _ at-parts-of.parts-of.ensures _ _ at-write.write.ensures
+    at-refusal.refusal-refusal.ensures at-if1.if-refusal-ne0.false _ at-parts-of.parts_of-there.ensures _ _ at-write.write-written.ensures
 
 pub write_spec : {M : Type 1} → statement M
 write_spec =
     tie.close
-    (tie.spec refusal-requires returns parts-of-requires write-requires same_length returns-2)
+    (tie.spec refusal-refusal-requires returns-then-refusal-ne0 parts_of-there-requires write-written-requires shape_of-out returns)
