@@ -2,7 +2,7 @@
 // handles a signal, so none is interrupted.
 #![tactic(auto)]
 
-ghost use Rattle.std.specs.Prelude.{◌≡◌, ◌<◌, ◌≤◌, IsTrue, IsFalse, length, take};
+ghost use Rattle.std.specs.Prelude.{◌≡◌, ℕ, ◌<◌, ◌≤◌, IsTrue, IsFalse, length, take};
 ghost use Rattle.std.specs.Io.KnownBytes.{Appends, Consumes, IsAtEnd};
 
 use std::io::{Read, Write};
@@ -45,9 +45,10 @@ pub fn read<R: Read>(from: &mut R, text: &mut [u8]) -> Input
     }
 }
 
-// Writes all of the bytes, and answers whether it did: it stops at the first write that takes nothing or fails, where some of them may have been written.
+// Writes all of the bytes, and answers whether it did: it stops at the first write that takes nothing or fails, where a front of them is written.
 pub fn write<W: Write>(to: &mut W, bytes: &[u8]) -> bool
-    ensures { IsTrue result → Appends (W.contents to.old) (W.contents to.new) bytes.now }
+    ensures all { IsTrue result → Appends (W.contents to.old) (W.contents to.new) bytes.now }
+    ensures front { (n : ℕ) × (n ≤ length bytes.now) × Appends (W.contents to.old) (W.contents to.new) (take n bytes.now) }
 {
     let mut done: usize = 0;
     while done < bytes.len() {
