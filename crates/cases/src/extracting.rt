@@ -4,14 +4,21 @@ use crate::input::Input;
 use crate::{output, tables};
 use protocol::{ROWS_WIDTH, Settings};
 
-fn answer_judge(settings: Settings, commitment: [u64; ROWS_WIDTH], c: u32, key: &[u64], w: &[i64]) {
+fn answer_judge(
+    rt: &impl Print,
+    settings: Settings,
+    commitment: [u64; ROWS_WIDTH],
+    c: u32,
+    key: &[u64],
+    w: &[i64],
+) {
     let answer = judge::judge(settings, commitment, c, key, w);
-    output::first(answer.refusal);
-    output::flag(answer.yes);
-    output::end();
+    output::first(rt, answer.refusal);
+    output::flag(rt, answer.yes);
+    output::end(rt);
 }
 
-pub fn run_judge(input: Input) -> Input {
+pub fn run_judge(rt: &impl Print, input: Input) -> Input {
     let given = tables::settings(input);
     let commitment = tables::element(given.next);
     let c = commitment.next.number();
@@ -22,11 +29,19 @@ pub fn run_judge(input: Input) -> Input {
     let places = commitment.places;
     let n = keys.count;
     let m = vector.count;
-    answer_judge(given.settings, places, c.value.narrow(), &key[..n], &w[..m]);
+    answer_judge(
+        rt,
+        given.settings,
+        places,
+        c.value.narrow(),
+        &key[..n],
+        &w[..m],
+    );
     vector.next
 }
 
 fn answer_extract(
+    rt: &impl Print,
     settings: Settings,
     commitment: [u64; ROWS_WIDTH],
     key: &[u64],
@@ -36,13 +51,14 @@ fn answer_extract(
     w: &mut [i64],
 ) {
     let number = extraction::extract(settings, commitment, key, rounds, challenges, leaves, w);
-    output::first(number);
-    output::wides(w);
-    output::end();
+    output::first(rt, number);
+    output::wides(rt, w);
+    output::end(rt);
 }
 
 // The second half of an extraction's inputs: challenges, leaves and what w holds before.
 fn run_tree(
+    rt: &impl Print,
     settings: Settings,
     commitment: [u64; ROWS_WIDTH],
     key: &[u64],
@@ -59,6 +75,7 @@ fn run_tree(
     let m = leaves.count;
     let v = vector.count;
     answer_extract(
+        rt,
         settings,
         commitment,
         key,
@@ -70,7 +87,7 @@ fn run_tree(
     vector.next
 }
 
-pub fn run_extract(input: Input) -> Input {
+pub fn run_extract(rt: &impl Print, input: Input) -> Input {
     let given = tables::settings(input);
     let commitment = tables::element(given.next);
     let mut key = tables::residue_room();
@@ -80,5 +97,12 @@ pub fn run_extract(input: Input) -> Input {
     let places = commitment.places;
     let n = keys.count;
     let k = rounds.count;
-    run_tree(given.settings, places, &key[..n], &round[..k], rounds.next)
+    run_tree(
+        rt,
+        given.settings,
+        places,
+        &key[..n],
+        &round[..k],
+        rounds.next,
+    )
 }

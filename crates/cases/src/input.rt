@@ -1,11 +1,13 @@
 // Decimal numbers from standard input. Anything that is no digit and no minus sign stands between two numbers.
+use std::io::Stdin;
 
-// What was read: the bytes from `at` to `end` are still to be used.
+// What was read: the bytes from `at` to `end` are still to be used. What follows them comes from `from`.
 #[derive(Clone, Copy)]
 pub struct Input {
     pub bytes: [u8; 4096],
     pub end: usize,
     pub at: usize,
+    pub from: Stdin,
 }
 
 // A number as far as it was read: whether it has begun, and whether the byte behind it was seen.
@@ -158,22 +160,26 @@ fn scan(bytes: &[u8; 4096], end: usize, at: usize, value: Value) -> Scanned {
 }
 
 impl Input {
-    pub fn none() -> Input {
+    // Nothing of the input is read yet.
+    pub fn none(from: Stdin) -> Input {
         Input {
-            bytes: io::buffer(),
+            bytes: [0; 4096],
             end: 0,
             at: 0,
+            from: from,
         }
     }
 
-    // The next bytes of standard input; none where it has ended.
-    fn read() -> Input {
-        let mut bytes = io::buffer();
-        let end = io::read_full(0, &mut bytes);
+    // The next bytes of standard input; none where it has ended, or a read fails.
+    fn read(from: Stdin) -> Input {
+        let mut bytes = [0u8; 4096];
+        let mut reader = from;
+        let read = streams::read(&mut reader, &mut bytes);
         Input {
             bytes: bytes,
-            end: end,
+            end: read.count,
             at: 0,
+            from: from,
         }
     }
 
@@ -190,7 +196,7 @@ impl Input {
             if value.whole {
                 break;
             }
-            input = Input::read();
+            input = Input::read(input.from);
             if input.end == 0 {
                 break;
             }
@@ -206,7 +212,7 @@ impl Input {
     pub fn byte(self) -> ByteTaken {
         let mut input = self;
         if input.at >= input.end {
-            input = Input::read();
+            input = Input::read(input.from);
         }
         let at = input.at;
         if at < input.end {

@@ -1,102 +1,92 @@
-// Answers on standard output: a line of numbers with single spaces. `first` begins a line, `end` ends it.
+// Answers on standard output: a line of numbers with single spaces. `first` begins a line, `end` ends it. A write that fails is passed over.
 ghost use Rattle.std.specs.Prelude.{◌≤◌};
 ghost use Rattle.protocol.specs.Layout.{width, rows_width};
 
 use protocol::{ROWS_WIDTH, Session, Settings, Verdict, WIDTH};
-use ranges::tests;
 
-pub fn first(x: u32) {
-    io::print_decimal(1, x as u64);
+pub fn first(rt: &impl Print, x: u32) {
+    let _ = print!(rt; "{x}");
 }
 
-fn more(x: u64) {
-    io::write_all(1, b" ");
-    io::print_decimal(1, x);
+fn more(rt: &impl Print, x: u64) {
+    let _ = print!(rt; " {x}");
 }
 
-pub fn number(x: u32) {
-    more(x as u64);
+pub fn number(rt: &impl Print, x: u32) {
+    more(rt, x as u64);
 }
 
-pub fn flag(x: bool) {
+pub fn flag(rt: &impl Print, x: bool) {
     if x {
-        number(1);
+        number(rt, 1);
     } else {
-        number(0);
+        number(rt, 0);
     }
 }
 
-pub fn count(x: usize) {
-    more(x as u64);
+pub fn count(rt: &impl Print, x: usize) {
+    more(rt, x as u64);
 }
 
-pub fn signed(x: i32) {
-    io::write_all(1, b" ");
-    if x < 0 {
-        io::write_all(1, b"-");
-    }
-    io::print_decimal(1, tests::magnitude(x) as u64);
+pub fn signed(rt: &impl Print, x: i32) {
+    let _ = print!(rt; " {x}");
 }
 
-pub fn wide(x: i64) {
-    io::write_all(1, b" ");
-    if x < 0 {
-        io::write_all(1, b"-");
-    }
-    io::print_decimal(1, tests::magnitude_wide(x));
+pub fn wide(rt: &impl Print, x: i64) {
+    let _ = print!(rt; " {x}");
 }
 
-pub fn end() {
-    io::write_all(1, b"\n");
+pub fn end(rt: &impl Print) {
+    let _ = println!(rt; "");
 }
 
 // Challenges, with no length before them.
-fn each(t: &[u32]) {
+fn each(rt: &impl Print, t: &[u32]) {
     let mut i: usize = 0;
     while i < t.len() {
-        number(t[i]);
+        number(rt, t[i]);
         i += 1;
     }
 }
 
 // A table: its length and its numbers.
-pub fn challenges(t: &[u32]) {
-    count(t.len());
-    each(t);
+pub fn challenges(rt: &impl Print, t: &[u32]) {
+    count(rt, t.len());
+    each(rt, t);
 }
 
-pub fn residues(t: &[u64]) {
-    count(t.len());
+pub fn residues(rt: &impl Print, t: &[u64]) {
+    count(rt, t.len());
     let mut i: usize = 0;
     while i < t.len() {
-        more(t[i]);
+        more(rt, t[i]);
         i += 1;
     }
 }
 
-pub fn signeds(t: &[i32]) {
-    count(t.len());
+pub fn signeds(rt: &impl Print, t: &[i32]) {
+    count(rt, t.len());
     let mut i: usize = 0;
     while i < t.len() {
-        signed(t[i]);
+        signed(rt, t[i]);
         i += 1;
     }
 }
 
-pub fn wides(t: &[i64]) {
-    count(t.len());
+pub fn wides(rt: &impl Print, t: &[i64]) {
+    count(rt, t.len());
     let mut i: usize = 0;
     while i < t.len() {
-        wide(t[i]);
+        wide(rt, t[i]);
         i += 1;
     }
 }
 
 // A text: its length, and on the next lines its bytes as they are.
-pub fn text(t: &[u8]) {
-    count(t.len());
-    end();
-    io::write_all(1, t);
+pub fn text(rt: &impl Print, t: &[u8]) {
+    count(rt, t.len());
+    end(rt);
+    let _ = rt.write_all(t);
 }
 
 // The places of an element of each row up to the last one that is not 0.
@@ -127,39 +117,39 @@ fn signed_places(a: &[i32; WIDTH]) -> usize
 }
 
 // An element of each row: how many places there are up to the last one that is not 0, and those places.
-pub fn element(a: [u64; ROWS_WIDTH]) {
+pub fn element(rt: &impl Print, a: [u64; ROWS_WIDTH]) {
     let n = places(&a);
-    residues(&a[..n]);
+    residues(rt, &a[..n]);
 }
 
-pub fn signed_element(a: [i32; WIDTH]) {
+pub fn signed_element(rt: &impl Print, a: [i32; WIDTH]) {
     let n = signed_places(&a);
-    signeds(&a[..n]);
+    signeds(rt, &a[..n]);
 }
 
-pub fn verdict(v: Verdict) {
+pub fn verdict(rt: &impl Print, v: Verdict) {
     match v {
-        Verdict::Silent => number(0),
-        Verdict::Holds => number(1),
-        Verdict::Accepted => number(2),
-        Verdict::Rejected => number(3),
+        Verdict::Silent => number(rt, 0),
+        Verdict::Holds => number(rt, 1),
+        Verdict::Accepted => number(rt, 2),
+        Verdict::Rejected => number(rt, 3),
     }
 }
 
-pub fn settings(s: Settings) {
-    number(s.degree);
-    number(s.depth);
-    more(s.modulus);
-    number(s.bound);
-    number(s.rows);
+pub fn settings(rt: &impl Print, s: Settings) {
+    number(rt, s.degree);
+    number(rt, s.depth);
+    more(rt, s.modulus);
+    number(rt, s.bound);
+    number(rt, s.rows);
 }
 
-pub fn session(s: Session) {
-    settings(s.settings);
-    number(s.done);
-    flag(s.closed);
+pub fn session(rt: &impl Print, s: Session) {
+    settings(rt, s.settings);
+    number(rt, s.done);
+    flag(rt, s.closed);
     let claims = s.claims;
-    element(claims);
+    element(rt, claims);
     let challenges = s.challenges;
-    each(&challenges);
+    each(rt, &challenges);
 }

@@ -13,6 +13,7 @@ struct Task {
 }
 
 fn answer_read(
+    rt: &impl Print,
     parts: Parts,
     text: &[u8],
     key: &mut [u64],
@@ -27,19 +28,20 @@ fn answer_read(
         parts, text, key, message, commitment, rounds, challenges, last, claims,
     );
     let settings = answer.settings;
-    output::first(answer.refusal);
-    output::settings(settings);
-    output::residues(key);
-    output::signeds(message);
-    output::residues(commitment);
-    output::residues(rounds);
-    output::challenges(challenges);
-    output::signeds(last);
-    output::residues(claims);
-    output::end();
+    output::first(rt, answer.refusal);
+    output::settings(rt, settings);
+    output::residues(rt, key);
+    output::signeds(rt, message);
+    output::residues(rt, commitment);
+    output::residues(rt, rounds);
+    output::challenges(rt, challenges);
+    output::signeds(rt, last);
+    output::residues(rt, claims);
+    output::end(rt);
 }
 
 fn answer_write(
+    rt: &impl Print,
     settings: Settings,
     parts: Parts,
     key: &[u64],
@@ -54,13 +56,14 @@ fn answer_write(
     let answer = table_writer::write(
         settings, parts, key, message, commitment, rounds, challenges, last, claims, out,
     );
-    output::first(answer.refusal);
-    output::count(answer.count);
-    output::text(out);
-    output::end();
+    output::first(rt, answer.refusal);
+    output::count(rt, answer.count);
+    output::text(rt, out);
+    output::end(rt);
 }
 
 fn answer(
+    rt: &impl Print,
     task: Task,
     text: &mut [u8],
     key: &mut [u64],
@@ -74,6 +77,7 @@ fn answer(
     let parts = task.parts;
     if task.writes {
         answer_write(
+            rt,
             task.settings,
             parts,
             key,
@@ -87,12 +91,13 @@ fn answer(
         );
     } else {
         answer_read(
-            parts, text, key, message, commitment, rounds, challenges, last, claims,
+            rt, parts, text, key, message, commitment, rounds, challenges, last, claims,
         );
     }
 }
 
 fn run_last(
+    rt: &impl Print,
     task: Task,
     text: &mut [u8],
     key: &mut [u64],
@@ -113,6 +118,7 @@ fn run_last(
     let m = lasts.count;
     let n = claims.count;
     answer(
+        rt,
         task,
         text,
         key,
@@ -126,7 +132,7 @@ fn run_last(
     claims.next
 }
 
-fn run_tables(task: Task, text: &mut [u8], input: Input) -> Input {
+fn run_tables(rt: &impl Print, task: Task, text: &mut [u8], input: Input) -> Input {
     let mut key = tables::residue_room();
     let keys = tables::residues(input, &mut key);
     let mut message = tables::signed_room();
@@ -137,6 +143,7 @@ fn run_tables(task: Task, text: &mut [u8], input: Input) -> Input {
     let m = messages.count;
     let k = commitments.count;
     run_last(
+        rt,
         task,
         text,
         &mut key[..n],
@@ -146,7 +153,7 @@ fn run_tables(task: Task, text: &mut [u8], input: Input) -> Input {
     )
 }
 
-pub fn run_read(input: Input) -> Input {
+pub fn run_read(rt: &impl Print, input: Input) -> Input {
     let told = tables::parts(input);
     let mut text = tables::text_room();
     let texts = tables::text(told.next, &mut text);
@@ -164,10 +171,10 @@ pub fn run_read(input: Input) -> Input {
         parts: parts,
     };
     let n = texts.count;
-    run_tables(task, &mut text[..n], texts.next)
+    run_tables(rt, task, &mut text[..n], texts.next)
 }
 
-pub fn run_write(input: Input) -> Input {
+pub fn run_write(rt: &impl Print, input: Input) -> Input {
     let given = tables::settings(input);
     let told = tables::parts(given.next);
     let mut out = tables::text_room();
@@ -180,22 +187,22 @@ pub fn run_write(input: Input) -> Input {
         parts: parts,
     };
     let n = outs.count;
-    run_tables(task, &mut out[..n], outs.next)
+    run_tables(rt, task, &mut out[..n], outs.next)
 }
 
 // A refusal's number and a verdict, as the other calls print them.
-fn answer_verify(text: &[u8]) {
+fn answer_verify(rt: &impl Print, text: &[u8]) {
     let mut verdict: u32 = 0;
     let number = text_calls::verify(text, &mut verdict);
-    output::first(number);
-    output::number(verdict);
-    output::end();
+    output::first(rt, number);
+    output::number(rt, verdict);
+    output::end(rt);
 }
 
-pub fn run_verify(input: Input) -> Input {
+pub fn run_verify(rt: &impl Print, input: Input) -> Input {
     let mut text = tables::text_room();
     let texts = tables::text(input, &mut text);
     let n = texts.count;
-    answer_verify(&text[..n]);
+    answer_verify(rt, &text[..n]);
     texts.next
 }

@@ -23,38 +23,38 @@ fn used() -> Session {
     }
 }
 
-fn answer_start(settings: Settings, commitment: [u64; ROWS_WIDTH]) {
+fn answer_start(rt: &impl Print, settings: Settings, commitment: [u64; ROWS_WIDTH]) {
     let verifier = Verifier(used());
     let answer = verifier.start(settings, commitment);
     let next = answer.next;
-    output::first(answer.refusal);
-    output::session(next);
-    output::end();
+    output::first(rt, answer.refusal);
+    output::session(rt, next);
+    output::end(rt);
 }
 
-pub fn run_start(input: Input) -> Input {
+pub fn run_start(rt: &impl Print, input: Input) -> Input {
     let given = tables::settings(input);
     let commitment = tables::element(given.next);
     let places = commitment.places;
-    answer_start(given.settings, places);
+    answer_start(rt, given.settings, places);
     commitment.next
 }
 
-fn answer_move(answer: Moved) {
+fn answer_move(rt: &impl Print, answer: Moved) {
     let verdict = answer.verdict;
     let next = answer.next;
-    output::first(answer.refusal);
-    output::verdict(verdict);
-    output::session(next);
-    output::end();
+    output::first(rt, answer.refusal);
+    output::verdict(rt, verdict);
+    output::session(rt, next);
+    output::end(rt);
 }
 
-fn answer_round(session: Session, polynomial: [[u64; ROWS_WIDTH]; 3], e: u32) {
+fn answer_round(rt: &impl Print, session: Session, polynomial: [[u64; ROWS_WIDTH]; 3], e: u32) {
     let verifier = Verifier(session);
-    answer_move(verifier.round(polynomial, e));
+    answer_move(rt, verifier.round(polynomial, e));
 }
 
-pub fn run_round(input: Input) -> Input {
+pub fn run_round(rt: &impl Print, input: Input) -> Input {
     let given = tables::session(input);
     let c0 = tables::element(given.next);
     let c1 = tables::element(c0.next);
@@ -64,16 +64,16 @@ pub fn run_round(input: Input) -> Input {
     let p0 = c0.places;
     let p1 = c1.places;
     let p2 = c2.places;
-    answer_round(session, [p0, p1, p2], e.value.narrow());
+    answer_round(rt, session, [p0, p1, p2], e.value.narrow());
     e.next
 }
 
-fn answer_end(session: Session, last: [i32; WIDTH], key: &[u64]) {
+fn answer_end(rt: &impl Print, session: Session, last: [i32; WIDTH], key: &[u64]) {
     let verifier = Verifier(session);
-    answer_move(verifier.end(last, key));
+    answer_move(rt, verifier.end(last, key));
 }
 
-pub fn run_end(input: Input) -> Input {
+pub fn run_end(rt: &impl Print, input: Input) -> Input {
     let given = tables::session(input);
     let last = tables::signed_element(given.next);
     let mut key = tables::residue_room();
@@ -81,11 +81,12 @@ pub fn run_end(input: Input) -> Input {
     let session = given.session;
     let places = last.places;
     let n = keys.count;
-    answer_end(session, places, &key[..n]);
+    answer_end(rt, session, places, &key[..n]);
     keys.next
 }
 
 fn answer_check(
+    rt: &impl Print,
     settings: Settings,
     commitment: [u64; ROWS_WIDTH],
     last: [i32; WIDTH],
@@ -95,12 +96,12 @@ fn answer_check(
 ) {
     let answer = transcripts::check(settings, commitment, last, key, rounds, challenges);
     let verdict = answer.verdict;
-    output::first(answer.refusal);
-    output::verdict(verdict);
-    output::end();
+    output::first(rt, answer.refusal);
+    output::verdict(rt, verdict);
+    output::end(rt);
 }
 
-pub fn run_check(input: Input) -> Input {
+pub fn run_check(rt: &impl Print, input: Input) -> Input {
     let given = tables::settings(input);
     let commitment = tables::element(given.next);
     let last = tables::signed_element(commitment.next);
@@ -116,6 +117,7 @@ pub fn run_check(input: Input) -> Input {
     let m = rounds.count;
     let k = challenges.count;
     answer_check(
+        rt,
         given.settings,
         element,
         signed,

@@ -1,17 +1,18 @@
 // The program `prove`: reads key, message and challenges as a text from standard input, and prints the text of their transcript.
+#![tactic(auto)]
 
 // One byte more than the longest text has is read, so that a longer one is seen to be longer.
-fn main() {
+fn main(rt: HostRuntime) {
     let mut text = [0u8; 65537];
-    let input = streams::read(&mut text);
+    let input = streams::read(&mut rt.stdin(), &mut text);
     if input.failed {
-        io::write_all(2, b"prove: cannot read standard input\n");
+        streams::write(&mut rt.stderr(), b"prove: cannot read standard input\n");
         return;
     }
     let n = input.count;
     let mut out = [0u8; 65536];
     let count = prove_text::print(&text[..n], &mut out);
-    if !io::write_all(1, &out[..count]) {
-        io::write_all(2, b"prove: cannot write standard output\n");
+    if !streams::write(&mut rt.stdout(), &out[..count]) {
+        streams::write(&mut rt.stderr(), b"prove: cannot write standard output\n");
     }
 }
