@@ -7,7 +7,7 @@
 --   round_refusal, round_answer                          2 the prover's round
 --   fold_refusal, fold_key_exit, fold_message_exit       3 the fold of both tables
 --   end_refusal, end_answer                              4 the prover's end
---   opening_refusal, opening_answer, opening…Exit        5 the whole opening
+--   opening_refusal, opening_answer, opening_…_exit      5 the whole opening
 --   check_refusal, check_answer                          the check of a transcript
 --   opening_number, check_number                         the number of the verdict of these two
 --   judge_refusal, judge_answer                          the judge
