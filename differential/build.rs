@@ -10,7 +10,7 @@ fn main() {
     let library = folder.join("libexports.a");
     println!("cargo:rerun-if-changed={}", library.display());
     if !library.exists() {
-        eprintln!("target/staticlib/libexports.a is missing: run `rt staticlib exports` in the repository's root first");
+        eprintln!("target/staticlib/libexports.a is missing: run `./build library` in the repository's root first");
         process::exit(1);
     }
     println!("cargo:rustc-link-search=native={}", folder.display());

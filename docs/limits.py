@@ -1,7 +1,7 @@
 #!/usr/bin/env python3
 """The tables of limits in README.md and of sizes in docs/BENCHMARKS.md, asked of the library.
 
-    rt staticlib exports
+    ./build library
     docs/limits.py            writes both tables between their markers
     docs/limits.py --check    writes nothing, and fails where a table is not what the library gives
 

@@ -1,5 +1,5 @@
 //! Finds the static library of the verified calls: in the folder that
-//! WOVENROCK_LIBRARY names, else where `rt staticlib exports` writes it. It is
+//! WOVENROCK_LIBRARY names, else where `./build library` writes it. It is
 //! `libwovenrock.a` where it was installed, `libexports.a` where it was built.
 
 use std::env;
@@ -21,7 +21,7 @@ fn main() {
     }
     let Some(name) = NAMES.iter().find(|name| archive(name).exists()) else {
         eprintln!(
-            "neither libwovenrock.a nor libexports.a is in {}: run `rt staticlib exports` in the \
+            "neither libwovenrock.a nor libexports.a is in {}: run `./build library` in the \
              repository's root, or name the folder of an installed library in WOVENROCK_LIBRARY",
             folder.display()
         );

@@ -13,7 +13,8 @@ import re
 import subprocess
 import sys
 
-KIT = "/opt/rattle"
+# the kit's folder, which `rt doc` names a page of
+KIT = os.path.dirname(subprocess.run(["rt", "doc"], stdout=subprocess.PIPE, text=True, check=True).stdout.strip())
 # lemmas that had a definition's name but for the spelling, and the files that name them
 LEMMAS = [
     ("digit_at", ["judge/proofs/Sums.antt"]),

@@ -69,8 +69,9 @@ def crates():
                 heading = line[1:].strip()
             elif ':' in line:
                 name, _, others = line.partition(':')
-                rests[name.strip()] = others.split()
-                headings[name.strip()] = heading
+                name = name.split()[0]  # 'staticlib' may stand behind it
+                rests[name] = others.split()
+                headings[name] = heading
     return {name: [other for other in others if other in rests] for name, others in rests.items()}, headings
 
 

@@ -57,7 +57,7 @@ def settings(s):
 
 def rows():
     """The elements of four rows that are passed by value, a line each."""
-    return '(byRow %s)' % ' '.join(naturals(table()) for _ in range(4))
+    return '(by_row %s)' % ' '.join(naturals(table()) for _ in range(4))
 
 
 def polynomial():
@@ -76,11 +76,11 @@ def record():
 def tables():
     key, message, commitment, rounds, challenges, last, claims = (table() for _ in range(7))
     residues = [naturals(l) for l in (commitment, rounds, challenges)]
-    return '(sevenTables %s %s %s %s %s)' % (naturals(key), integers(message), ' '.join(residues), integers(last), naturals(claims))
+    return '(seven_tables %s %s %s %s %s)' % (naturals(key), integers(message), ' '.join(residues), integers(last), naturals(claims))
 
 
 def parts():
-    return '(sevenParts %s)' % ' '.join('true' if p else 'false' for p in take())
+    return '(seven_parts %s)' % ' '.join('true' if p else 'false' for p in take())
 
 
 def verdict(v):
@@ -94,59 +94,59 @@ def cause(c, t):
 def case(name):
     if name == 'commit':
         s = settings(take()); key = naturals(table()); message = integers(table())
-        return 'commitRow %s %s %s %d %s' % (s, key, message, take()[0], rows())
+        return 'commit_row %s %s %s %d %s' % (s, key, message, take()[0], rows())
     if name == 'round':
         s = settings(take()); t = take()[0]; key = naturals(table()); message = integers(table())
-        return 'roundRow %s %d %s %s %d %s' % (s, t, key, message, take()[0], polynomial())
+        return 'round_row %s %d %s %s %d %s' % (s, t, key, message, take()[0], polynomial())
     if name == 'fold':
         s = settings(take()); t, e = take(); key = naturals(table()); message = integers(table())
-        return 'foldRow %s %d %d %s %s %d %s %s' % (s, t, e, key, message, take()[0], naturals(table()), integers(table()))
+        return 'fold_row %s %d %d %s %s %d %s %s' % (s, t, e, key, message, take()[0], naturals(table()), integers(table()))
     if name == 'end':
         s = settings(take()); t = take()[0]; message = integers(table())
-        return 'endRow %s %d %s %d %s' % (s, t, message, take()[0], integers(table()))
+        return 'end_row %s %d %s %d %s' % (s, t, message, take()[0], integers(table()))
     if name == 'opening':
         s = settings(take()); key = naturals(table()); message = integers(table()); e = naturals(table()); rounds = naturals(table())
         n, v = take()
-        return 'openingRow %s %s %s %s %s %d %s %s %s %s %s %s' % (s, key, message, e, rounds, n, verdict(v), rows(), integers(table()), naturals(table()), integers(table()), naturals(table()))
+        return 'opening_row %s %s %s %s %s %d %s %s %s %s %s %s' % (s, key, message, e, rounds, n, verdict(v), rows(), integers(table()), naturals(table()), integers(table()), naturals(table()))
     if name == 'start':
         s = settings(take()); c = rows()
-        return 'startRow %s %s %d %s' % (s, c, take()[0], record())
+        return 'start_row %s %s %d %s' % (s, c, take()[0], record())
     if name == 'session_round':
         r = record(); p = polynomial(); e = take()[0]
         n, v = take()
-        return 'moveRow %s %s %d %d %s %s' % (r, p, e, n, verdict(v), record())
+        return 'move_row %s %s %d %d %s %s' % (r, p, e, n, verdict(v), record())
     if name == 'session_end':
         r = record(); f = integers(table()); key = naturals(table())
         n, v = take()
-        return 'closeRow %s (fullSigned %s) %s %d %s %s' % (r, f, key, n, verdict(v), record())
+        return 'close_row %s (full_signed %s) %s %d %s %s' % (r, f, key, n, verdict(v), record())
     if name == 'check':
         s = settings(take()); c = rows(); f = integers(table()); key = naturals(table()); rounds = naturals(table()); e = naturals(table())
         n, v = take()
         why, t = take()
-        return 'checkRow %s %s (fullSigned %s) %s %s %s %d %s %s' % (s, c, f, key, rounds, e, n, verdict(v), cause(why, t))
+        return 'check_row %s %s (full_signed %s) %s %s %s %d %s %s' % (s, c, f, key, rounds, e, n, verdict(v), cause(why, t))
     if name == 'judge':
         s = settings(take()); c = rows(); slack = take()[0]; key = naturals(table()); w = integers(table())
         n, yes = take()
-        return 'judgeRow %s %s %d %s %s %d %s' % (s, c, slack, key, w, n, 'true' if yes else 'false')
+        return 'judge_row %s %s %d %s %s %d %s' % (s, c, slack, key, w, n, 'true' if yes else 'false')
     if name == 'extract':
         s = settings(take()); c = rows(); key = naturals(table()); rounds = naturals(table()); e = naturals(table()); leaves = integers(table()); w = integers(table())
-        return 'extractRow %s %s %s %s %s %s %s %d %s' % (s, c, key, rounds, e, leaves, w, take()[0], integers(table()))
+        return 'extract_row %s %s %s %s %s %s %s %d %s' % (s, c, key, rounds, e, leaves, w, take()[0], integers(table()))
     if name == 'read':
         p = parts(); given = text(table()); t = tables()
         n = take()[0]
-        return 'readRow %s %s %s %d %s %s' % (p, given, t, n, settings(take()), tables())
+        return 'read_row %s %s %s %d %s %s' % (p, given, t, n, settings(take()), tables())
     if name == 'write':
         s = settings(take()); p = parts(); t = tables(); room, byte = take()
         n, length = take()
-        return 'writeRow %s %s %s %d %d %d %d %s' % (s, p, t, room, byte, n, length, text(table()))
+        return 'write_row %s %s %s %d %d %d %d %s' % (s, p, t, room, byte, n, length, text(table()))
     if name == 'prove':
         given = text(table()); room, byte = take()
         n, length = take()
-        return 'proveRow %s %d %d %d %d %s' % (given, room, byte, n, length, text(table()))
+        return 'prove_row %s %d %d %d %d %s' % (given, room, byte, n, length, text(table()))
     if name == 'verify':
         given = text(table())
         n, v = take()
-        return 'verifyRow %s %d %s' % (given, n, verdict(v))
+        return 'verify_row %s %d %s' % (given, n, verdict(v))
     raise SystemExit('unknown case ' + name)
 
 
@@ -159,20 +159,20 @@ while at < len(lines):
         groups.setdefault(row.split()[0], []).append(row)
 print('''-- Made by reference/vectors/to-antt.py from reference/vectors/small.txt: drawn cases, whose outputs come from another author's implementation.
 -- For each call a table of its cases, and that the definitions give what the reference gave.
-use mathlib.Core.Path.{_≡_, refl}
+use mathlib.Core.Path.{◌≡◌, refl}
 use mathlib.Core.Bool.{true, false}
-use mathlib.Core.List.{List, [], _∷_}
-use Prim.Native.String.{_++_}
+use mathlib.Core.List.{List, [], ◌∷◌}
+use Prim.Native.String.{◌++◌}
 use lib.IntN.{pos, negsuc}
-use Rattle·protocol.specs.declared.Verdict.the-variants.{Silent, Holds, Accepted, Rejected}
-use Rattle·protocol.specs.Basic.{all}
-use Rattle·protocol.specs.Rows.{Cause}
-use Rattle·text_format.specs.Text.{bytes}
-use Rattle·protocol.proofs.Examples.{Example, agree, agreeing}
-use Rattle·protocol.proofs.Compute.{computed}
-use Rattle·text_format.proofs.ComputeText.{computedText}
-use Rattle·drawn·proofs.proofs.Rows.{rowsUnfolded, set, session, byRow, fullSigned, sevenTables, sevenParts, commitRow, roundRow, foldRow, endRow, openingRow}
-use Rattle·drawn·proofs.proofs.Rows.{startRow, moveRow, closeRow, checkRow, judgeRow, extractRow, readRow, writeRow, proveRow, verifyRow}''')
+use Rattle.protocol.specs.declared.Verdict.TheVariants.{Silent, Holds, Accepted, Rejected}
+use Rattle.protocol.specs.Basic.{all}
+use Rattle.protocol.specs.Rows.{Cause}
+use Rattle.text_format.specs.Text.{bytes}
+use Rattle.protocol.proofs.Examples.{Example, agree, agreeing}
+use Rattle.protocol.proofs.Compute.{computed}
+use Rattle.text_format.proofs.ComputeText.{computed_text}
+use Rattle.drawn.proofs.Rows.{rows_unfolded, set, session, by_row, full_signed, seven_tables, seven_parts, commit_row, round_row, fold_row, end_row, opening_row}
+use Rattle.drawn.proofs.Rows.{start_row, move_row, close_row, check_row, judge_row, extract_row, read_row, write_row, prove_row, verify_row}''')
 for name, examples in groups.items():
     print('''
 unfoldable pub %ss : List Example
@@ -184,5 +184,5 @@ unfoldable pub %ss : List Example
     print('''    ∷ []
 
 pub %ss-agree : all agree %ss ≡ true
-unfolding computed computedText agreeing rowsUnfolded %ss
+unfolding computed computed_text agreeing rows_unfolded %ss
 %ss-agree = refl''' % (name, name, name, name))

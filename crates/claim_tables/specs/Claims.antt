@@ -1,9 +1,9 @@
 -- Claims as the code works them out, item by item.
 --
 --   claimed rounds E           a transcript with these round elements and challenges: a claim reads nothing else of it
---   item_claim S rounds E i     the claim of item i: after round i / rows + 1, in row i % rows
---   items_most                  32: how many claims there can be
---   claims_room                 4,096: the room for the claims of every transcript
+--   item_claim S rounds E i    the claim of item i: after round i / rows + 1, in row i % rows
+--   items_most                 32: how many claims there can be
+--   claims_room                4,096: the room for the claims of every transcript
 --   Given S rounds             the settings are allowed, and the rounds are those of a transcript, residues only
 use Rattle.std.specs.Prelude.{List, [], ◌≡◌, ℕ, ◌*◌, ◌/◌, ◌%◌}
 use Rattle.protocol.specs.declared.Settings.{Settings}

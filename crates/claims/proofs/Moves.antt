@@ -2,7 +2,7 @@
 -- the elements of t rounds. So the list of calls ends as the whole opening does.
 --   rounds_after S G M E t     the elements of the first t rounds, flat: item by item, in each row by row
 --   state_after S G M E t p v  what is held and was heard after t rounds, p and v being the last polynomial and verdict
---   finished S G M E p        the same at the end
+--   finished S G M E p         the same at the end
 use mathlib.Core.Path.{◌≡◌, sym, ap, ◌∙◌}
 use mathlib.Core.List.{List, [], ◌∷◌, ◌++◌}
 use Prim.Native.Nat.{ℕ, zero, suc, ◌+◌, ◌*◌, ◌<◌}

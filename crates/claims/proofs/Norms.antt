@@ -1,7 +1,7 @@
 -- How large products are, and every sum on the way to them: by the sum of the magnitudes of one factor's coefficients and the largest magnitude of the other's. Then s(a,b) and μ.
 --   weight d a             the sum of the magnitudes of a's d coefficients (of algebra)
 --   running d a b k n      the first n of the d terms of place k of a·b
---   mu_weight d a b c       the weight of μ
+--   mu_weight d a b c      the weight of μ
 use mathlib.Core.Path.{◌≡◌, refl, sym, ap, ap₂, ◌∙◌, subst}
 use Prim.Native.Nat.{ℕ, zero, suc, ◌+◌, ◌*◌, ◌-◌, ◌<◌, ◌≤◌}
 use native.Mathlib.Nat as Nat

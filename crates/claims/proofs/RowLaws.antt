@@ -3,7 +3,7 @@
 --   cells-positive, flat-below                        a row has numbers; a table of residues
 --   stacked-below, keys_below                         a key of residues, and its folds
 --   interleaved-below, interleaved-suc                items of residues, and one item more
---   at_rows_ext, at_rows-tested                         by value: only the places below d of the rows matter, and residues are not refused
+--   at_rows_ext, at_rows-tested                       by value: only the places below d of the rows matter, and residues are not refused
 --   commitments-together, commitments-below           the commitment as a flat table
 --   tables-below                                      the round elements of a whole opening
 --   part_at                                           c_j of a polynomial by value

@@ -1,5 +1,5 @@
 -- The verifier's record in an opening, and what the three moves answer there: nothing is refused, every round holds, and the end is accepted.
---   transcript S G M E      a message's transcript in one row, with the final element as it is passed by value
+--   transcript S G M E       a message's transcript in one row, with the final element as it is passed by value
 --   session_after S G M E t  the record after t rounds
 use mathlib.Core.Path.{◌≡◌, refl, sym, ap, ◌∙◌}
 use mathlib.Core.Bool.{true, false}

@@ -1,10 +1,10 @@
 -- The product of an element of whole numbers with an element of residues, coefficient by coefficient, added to sums modulo 2^64.
 --
 --   narrow g             the element whose coefficients are the numbers of g modulo 2^32
---   add_columns d f g s   the sums s with the product of f and that element added
+--   add_columns d f g s  the sums s with the product of f and that element added
 --   Columns d f g s      are lists of f, g and s numbers long enough for that
 --   element i l          the numbers of a table of degree 4 from element i on, as the code lends them
---   add_table f g n s     the sums s with the products of the first n elements of two such tables added
+--   add_table f g n s    the sums s with the products of the first n elements of two such tables added
 --   Tables n f g s       are lists of f, g and s numbers long enough for that
 use Rattle.std.specs.Prelude.{ℕ, zero, suc, ◌-◌, ◌*◌, ◌%◌, ◌^◌, ◌≤◌, List, length, get_or, take, drop, ℤ, pos, ◌+ℤ◌}
 use Rattle.protocol.specs.Element.{Element, width, modulo, product, signed}

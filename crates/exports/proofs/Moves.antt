@@ -1,6 +1,6 @@
 -- An opening by the exported calls, move by move: after commitment, start and t rounds both tables are folded t times, the slices hold the record after t rounds
 -- and the commitment, and what was heard is no refusal and the elements of t rounds.
---   state_after S G M E t q f v   what is held and was heard then, q, f and v being the slices for polynomial and final element and the last verdict
+--   state_after S G M E t q f v  what is held and was heard then, q, f and v being the slices for polynomial and final element and the last verdict
 --   finished S G M E q           the same at the end
 use mathlib.Core.Path.{◌≡◌, sym, ap, ◌∙◌}
 use mathlib.Core.List.{List, [], ◌∷◌, ◌++◌, append-nil, append_assoc}

@@ -1,13 +1,13 @@
 -- The exported calls that take or give an element or a round polynomial in a slice: their refusals, and what each leaves in what it is lent. The names are
 -- those of the header. A refused call writes nothing to a slice, and what it answers beside its number is 0.
 --
---   commit_number, commit_exit               commit, and the slice `commitment` at exit
---   round_number, round_exit                 the prover's round, and the slice `polynomial`
---   end_number, end_exit                     the prover's end, and the slice `last`
---   open_number, open_key_exit, ..            the whole opening, each slice that it writes, and the verdict
---   check_number, check_verdict              the check of a transcript
---   judge_number, judge_yes                  the judge
---   extract_number, extract_exit             the extractor, and the slice `w`
+--   commit_number, commit_exit             commit, and the slice `commitment` at exit
+--   round_number, round_exit               the prover's round, and the slice `polynomial`
+--   end_number, end_exit                   the prover's end, and the slice `last`
+--   open_number, open_key_exit, ..         the whole opening, each slice that it writes, and the verdict
+--   check_number, check_verdict            the check of a transcript
+--   judge_number, judge_yes                the judge
+--   extract_number, extract_exit           the extractor, and the slice `w`
 -- The fold is `fold_refusal`, `fold_key_exit`, `fold_message_exit` of protocol as it stands; the session's moves are in sessions, the calls on text in texts.
 use Rattle.std.specs.Prelude.{◌&&◌, List, ℕ, ℤ, take}
 use Rattle.protocol.specs.declared.Settings.{Settings}

@@ -1,6 +1,6 @@
 -- A tree whose vectors can be worked out in 64 bits.
 --
---   vector_room                 1,024: the most numbers of a vector where the growth is within its limit (GrowthTest)
+--   vector_room                1,024: the most numbers of a vector where the growth is within its limit (GrowthTest)
 --   Extractable S E finals     challenges E and leaves `finals` of a full tree: exponents, three different ones at each node, within n·B, and no growth over the limit
 use Rattle.std.specs.Prelude.{◌≢◌, List, ℕ, ◌*◌, ◌<◌, ◌≤◌, ℤ}
 use Rattle.protocol.specs.declared.Settings.{Settings}

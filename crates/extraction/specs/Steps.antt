@@ -1,13 +1,13 @@
 -- What single steps on elements and lists leave, in the shape in which the code leaves it.
 --
---   Mirrored d a x           the first 2d numbers of x are those of a with the other sign, and then with their own
+--   Mirrored d a x            the first 2d numbers of x are those of a with the other sign, and then with their own
 --   row_added negative n x l  l with the first n numbers of x added to its first n numbers, or taken away
 --   rotated_added d e a l     l with X^e·a added to its first d numbers
---   summed d k j a           a·(1 + X^k)·(1 + X^2k)·(1 + X^4k)·…, j factors
+--   summed d k j a            a·(1 + X^k)·(1 + X^2k)·(1 + X^4k)·…, j factors
 --   doublings_most            8: one more than an odd k takes at the largest degree, 2^7
---   doublings d k            how often k is doubled until it is d on the circle of 2d exponents; `doublings_most` where that is not met
---   divided d k a            2·a divided by 1 − X^k, where d is a power of two and k no multiple of 2d (Mu)
---   weighted d k₁ k₂ e a     the same for two k, times 1 + X^e
+--   doublings d k             how often k is doubled until it is d on the circle of 2d exponents; `doublings_most` where that is not met
+--   divided d k a             2·a divided by 1 − X^k, where d is a power of two and k no multiple of 2d (Mu)
+--   weighted d k₁ k₂ e a      the same for two k, times 1 + X^e
 use Rattle.std.specs.Prelude.{◌≡◌, Bool, List, ℕ, zero, suc, ◌+◌, ◌*◌, ◌%◌, ◌^◌, ◌<◌, eqb, get_or, ℤ, pos, neg_ℤ, ◌+ℤ◌}
 use Rattle.protocol.specs.Basic.{least}
 use Rattle.protocol.specs.Element.{Element, rotate, plus, signed}

@@ -1,14 +1,14 @@
 -- What the steps on a node's vector leave.
 --
---   scaled d n k m e v    v with each of its first n elements `weighted`, which is multiplied by X^(2a)·μ (Mu)
---   Scalable d n k m e v  the places are there, and the numbers are small enough
+--   scaled d n k m e v     v with each of its first n elements `weighted`, which is multiplied by X^(2a)·μ (Mu)
+--   Scalable d n k m e v   the places are there, and the numbers are small enough
 --   turned_row d e to l i  the element i places behind place `to`, with X^e times element i added
---   turned d n e f i l    l with X^e times each of its first i elements added to that n elements behind it, and X^f times each to that 2n behind it
---   Turnable d n e f l    l has 3n elements, and the sums fit
+--   turned d n e f i l     l with X^e times each of its first i elements added to that n elements behind it, and X^f times each to that 2n behind it
+--   Turnable d n e f l     l has 3n elements, and the sums fit
 --   with_share d n e m v R a node's vector R, of 2n elements, with μ·v added to its first half and X^e·μ·v to its second, μ being m
---   Sharing d n a b c l   a child's vector, of n elements, then the node's: the degree is one, the exponents are different ones, and the sums fit, the share being bounded by μ's weight
+--   Sharing d n a b c l    a child's vector, of n elements, then the node's: the degree is one, the exponents are different ones, and the sums fit, the share being bounded by μ's weight
 --   branch_added d n k ..  the node's vector after the share of child j at node k, the child's vector standing before it
---   Branching d n k ..    the list is n free elements, the child's vector and the node's; the challenges of node k are there
+--   Branching d n k ..     the list is n free elements, the child's vector and the node's; the challenges of node k are there
 use Rattle.std.specs.Prelude.{◌≡◌, ◌≢◌, List, ◌++◌, ℕ, ◌+◌, ◌*◌, ◌-◌, ◌^◌, ◌<◌, ◌≤◌, length, get_or, take, drop, ℤ, pos, nat_abs, ◌+ℤ◌}
 use Rattle.algebra.specs.Magnitude.{weight}
 use Rattle.protocol.specs.Basic.{flat}

@@ -1,8 +1,8 @@
 -- Folds by all challenges as one sum of rotated elements.
 --
 --   turn w s j           the exponent that element j of 2^s gets: the sum of the challenges at its set bits, w r being the one at the bit of weight 2^r
---   at_bit L E s          the challenge at the bit of weight 2^s: bit 1, the most significant of L, has the first
---   turned_sum S E T n    the sum of the first n elements of the table T, each times X to its exponent
+--   at_bit L E s         the challenge at the bit of weight 2^s: bit 1, the most significant of L, has the first
+--   turned_sum S E T n   the sum of the first n elements of the table T, each times X to its exponent
 --   OnCircle c m e x     e and the first m numbers of x are exponents on a circle of c places
 --   Turned c L E s x     the first 2^s numbers of x are the exponents of 2^s elements, on a circle of c places
 --   ElementRead S i ..   the settings are allowed, the key has residues only and an element i, and `sums` begins with an element of residues

@@ -1,9 +1,9 @@
 -- Folds of flat tables of residues.
 --
---   half_most                128: how many elements a half has at most
+--   half_most               128: how many elements a half has at most
 --   folded q d h e G i k    coefficient k of element i of the table G of 2h elements after a fold by X^e
---   fold_down q d h e ..     the table t in which the fold of the 2h elements from place `from` on stands from place `to` on
---   fold_halves q d h e ..   the table t in which h elements from place `to` on have X^e times the h elements from place `second` on added
+--   fold_down q d h e ..    the table t in which the fold of the 2h elements from place `from` on stands from place `to` on
+--   fold_halves q d h e ..  the table t in which h elements from place `to` on have X^e times the h elements from place `second` on added
 --   signed_sum q negative .. the sum of two residues, or their difference
 --   Halves q n to second t  the n numbers of each half are residues
 --   Foldable q d h ..       may it be folded so: the fold stays inside the table, writes no place that it reads later, and the numbers are residues

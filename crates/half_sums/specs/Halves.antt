@@ -1,17 +1,17 @@
 -- A table of whole numbers and one of residues, whose halves are added, element by element.
 --
---   Elements q d n f g     tables of f and g numbers have n elements each
---   Small m n f            the first n numbers of f are at most m from 0
+--   Elements q d n f g      tables of f and g numbers have n elements each
+--   Small m n f             the first n numbers of f are at most m from 0
 --   message_sums d h f i    element i of f0 + f1, the halves of f having h elements
---   key_sum_at q d h g i j   coefficient j of element i of g0 + g1, modulo q
+--   key_sum_at q d h g i j  coefficient j of element i of g0 + g1, modulo q
 --   key_sums q d h g i      that element
---   Halves q d h f g       two tables, whose halves have h elements and may be added before their inner product is taken
---   MessageAt d h i ..     element i of a message's first half, and that of its second half, begin at these places
---   MessageSum d h f i m   m begins with element i of these sums
---   KeyAt, KeySum          the same of a key
---   HalvesAt, HalfSums     the same of both tables
+--   Halves q d h f g        two tables, whose halves have h elements and may be added before their inner product is taken
+--   MessageAt d h i ..      element i of a message's first half, and that of its second half, begin at these places
+--   MessageSum d h f i m    m begins with element i of these sums
+--   KeyAt, KeySum           the same of a key
+--   HalvesAt, HalfSums      the same of both tables
 --   size_of sums d n        how many numbers a table of n elements has, or one whose halves have n elements, which are added
---   messages_of, keys_of     the elements that are multiplied: those of the tables or the sums of their halves
+--   messages_of, keys_of    the elements that are multiplied: those of the tables or the sums of their halves
 use Rattle.std.specs.Prelude.{Bool, true, false, List, ◌≡◌, ℕ, ◌+◌, ◌*◌, ◌^◌, ◌<◌, ◌≤◌, ℤ, pos, nat_abs, length, get_or}
 use Rattle.protocol.specs.Element.{Element, width, modulo, plus, signed_at, residue_at}
 use Rattle.protocol.specs.Settings.{modulus_most}

@@ -1,8 +1,8 @@
 -- Sums over the two halves of residues, and what they stand for when they are joined.
 --
 --   weight              2^32: what an upper half counts for
---   lower_half x         the lower 32 bits of x
---   upper_half x         what is above them: x is lower_half x + weight·upperHalf x
+--   lower_half x        the lower 32 bits of x
+--   upper_half x        what is above them: x is lower_half x + weight·upper_half x
 --   room                2^62: how far from 0 a sum may be that is joined
 --   Halves q z b s t    the numbers s and t of 64 bits are sums over lower and over upper halves, at most b from 0, that stand for z modulo q; a modulus of 32
 --                       bits has no upper halves, and their sum stays 0

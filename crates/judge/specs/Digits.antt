@@ -2,8 +2,8 @@
 -- them make one of 32 bits, and two of those a residue.
 --
 --   digit q base size z      the digit of z modulo q that has the weight `base` and is below `size`
---   digit_at q base size a    that digit of each coefficient of a, an element
---   part_at S base key w k    coefficient k of the sum of the products of the key and the digits of 32 bits of w, modulo q
+--   digit_at q base size a   that digit of each coefficient of a, an element
+--   part_at S base key w k   coefficient k of the sum of the products of the key and the digits of 32 bits of w, modulo q
 --   Vector S key w           the settings are allowed, the key is one of residues, and w is a vector of its length, which the growth allows
 use Rattle.std.specs.Prelude.{List, ◌≡◌, ℕ, ◌/◌, ◌%◌, ◌^◌, ◌≤◌, ℤ, pos, length}
 use Rattle.protocol.specs.declared.Settings.{Settings}

@@ -1,4 +1,4 @@
-// The sum of typeof.w_i.G_i modulo q. Each number of w is reduced, and its residue is split into digits of 16 bits, which are small enough for sums of products; each
+// The sum of w_i·G_i modulo q. Each number of w is reduced, and its residue is split into digits of 16 bits, which are small enough for sums of products; each
 // digit makes an inner product of its own. Two digits are a residue where q has 32 bits, else four are.
 ghost use Rattle.std.specs.Prelude.{◌≡◌, ◌*◌, ◌/◌, ◌%◌, ◌^◌, ◌<◌, ◌≤◌, eqb, pos, length, get_or};
 ghost use Rattle.protocol.specs.Element.{modulo, padded};
@@ -107,7 +107,7 @@ fn scaled_is(q: Residue, c: u32, factor: Factor, x: Residue, y: Residue) -> bool
     scaling::times(q, c as u64, factor, x) == y
 }
 
-// Is c times the commitment the sum of typeof.w_i.G_i, in one row.
+// Is c times the commitment the sum of w_i·G_i, in one row.
 pub(crate) fn opens(
     settings: Settings,
     commitment: &[Residue],

@@ -9,7 +9,7 @@ ghost use Rattle.protocol.specs.Calls.{judge_answer};
 use protocol::{Judged, ROWS_WIDTH, Residue, Settings};
 use ranges::tests;
 
-// The judge: is c times the commitment the sum of typeof.w_i.G_i modulo q in every row, with no coefficient of w beyond the growth bound.
+// The judge: is c times the commitment the sum of w_i·G_i modulo q in every row, with no coefficient of w beyond the growth bound.
 pub fn judge(
     settings: Settings,
     commitment: [Residue; ROWS_WIDTH],

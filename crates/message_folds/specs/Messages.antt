@@ -1,8 +1,8 @@
 -- What the fold of a message asks of it.
 --
---   half_most           128: how many elements a half has at most
+--   half_most          128: how many elements a half has at most
 --   BothSmall x y      x and y are small enough that their sum is a signed number of 32 bits
---   signed_sum ..       the sum of two numbers, or their difference
+--   signed_sum ..      the sum of two numbers, or their difference
 --   Foldable d h e m   the message m has two halves of h elements, small enough to be added, and X^e is a power
 use Rattle.std.specs.Prelude.{Bool, List, ℕ, ◌*◌, ◌^◌, ◌<◌, ◌≤◌, ℤ, ◌+ℤ◌, nat_abs, length}
 use Rattle.protocol.specs.Element.{width}

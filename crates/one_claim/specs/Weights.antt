@@ -3,8 +3,8 @@
 -- that of the message behind the other rows too; the weighted sum of the one w that a full tree gives for all rows is 4^L times this commitment.
 --
 --   constant w               the number w as an element, at place 0
---   weight_row S ws           the row of the weights ws
---   weighted_sum S ws m k     the sum of ws_i·m_i[k] over the elements m_i of the table m, modulo q
+--   weight_row S ws          the row of the weights ws
+--   weighted_sum S ws m k    the sum of ws_i·m_i[k] over the elements m_i of the table m, modulo q
 --   Weights                  what is owed of a key that has such a row
 use Rattle.std.specs.Prelude.{◌≡◌, List, ℕ, zero, suc, ◌*◌, ◌%◌, ◌<◌, ◌≤◌, length, get_or, ℤ, pos, ◌*ℤ◌}
 use Rattle.protocol.specs.declared.Settings.{Settings}

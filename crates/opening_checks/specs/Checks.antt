@@ -1,6 +1,6 @@
 -- What the verifier's equations and its end read and give, in every row of an opening.
 --
---   row_claim S claims r    the claim of row r, with what stands behind it
+--   row_claim S claims r   the claim of row r, with what stands behind it
 --   RowsRead S t n rounds  polynomial t stands in the table of the rounds, which has residues up to that polynomial and in it, and a list of n numbers has a claim for each row
 --   RowsChecked ..         what the verifier's equations and the next claims are, for the polynomial that stands in a table, whatever that is
 --   EndsRead S x y key     the settings are allowed, every row of the key is residues, and lists of x and y numbers have a claim for each row and a final element

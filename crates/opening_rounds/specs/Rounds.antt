@@ -1,12 +1,12 @@
 -- What the prover writes in the rounds of a whole opening, where the commitment's products give what round 1 needs of them, and each claim gives c2.
 -- An item is an element for each row, one behind the other.
 --
---   sum_at                   number k of a sum of two elements
---   half_of q y              y/2 modulo q, of a residue y and an odd q
---   middle_at, last_at        number k of c1 and of c2
---   sum_element S t ..       c0 + c1 + c2 of round t + 1 in one row, as one inner product
---   sum_item S t ..          that sum, row by row
---   commitment_item          the commitment, row by row
+--   sum_at                  number k of a sum of two elements
+--   half_of q y             y/2 modulo q, of a residue y and an odd q
+--   middle_at, last_at      number k of c1 and of c2
+--   sum_element S t ..      c0 + c1 + c2 of round t + 1 in one row, as one inner product
+--   sum_item S t ..         that sum, row by row
+--   commitment_item         the commitment, row by row
 --   ItemsBegun S ..         the commitment is written in every row, and c0 of round 1 where there is room for it
 --   Continuing S t ..       p begins with c0 of round t + 1, and the claim is 2·(c0 + c2), in every row
 use Rattle.std.specs.Prelude.{◌≡◌, List, ℕ, ◌+◌, ◌*◌, ◌-◌, ◌%◌, ◌^◌, ◌<◌, ◌≤◌, ℤ, pos, length, get_or}

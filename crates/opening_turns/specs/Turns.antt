@@ -1,7 +1,7 @@
 -- The turns of a whole opening: what stands after t rounds, and what each turn does with it, in every row.
 -- G, M and R are the key, the message and the table for the round elements as they were lent, E the challenges.
 --
---   rest_stored S t .. l    the table l in which c1 and c2 stand as those of round t + 1
+--   rest_stored S t .. l   the table l in which c1 and c2 stand as those of round t + 1
 --   TablesAt .. t ..       the three tables after t rounds; of the round elements those of t rounds stand there, and c0 of the next round
 --   ClaimsAt .. t claims   the verifier's claims after t rounds; of the list only an element for each row counts
 --   CheckedAt .. t ..      those claims, and whether every round so far held

@@ -1,7 +1,7 @@
 -- Inner products that are summed, and written row by row.
 --
 --   Summed q d F s t       the sums s and t stand for the element F modulo q, and there is room for them
---   inner_element sums ..   the inner product of two tables, or that of the sums of their halves
+--   inner_element sums ..  the inner product of two tables, or that of the sums of their halves
 --   RowsWritten ..         the front of a table is overwritten with the inner product of each row, one behind the other
 use Rattle.std.specs.Prelude.{Bool, List, ◌≡◌, ℕ, ◌*◌, ◌≤◌, ℤ}
 use Rattle.protocol.specs.Element.{Element, reduced}

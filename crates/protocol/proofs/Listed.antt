@@ -1,7 +1,7 @@
 -- What is by value, computed place by place. `tabulate` hands its function on with one step more at each place, so that a list of n places takes n² steps to compute; `listed` takes n.
 --
 --   listed at n f            f at, f (at + 1), … , n places
---   at_rows-listed            the elements of the rows by value
+--   at_rows-listed           the elements of the rows by value
 --   commit-listed, start-listed, round-listed, polynomial-listed   the calls that answer with them
 use mathlib.Core.Path.{◌≡◌, refl, ap, ◌∙◌}
 use mathlib.Core.Bool.{Bool, true, false, ◌&&◌, false≢true}

@@ -1,9 +1,9 @@
 -- How rows are read: each of a table that was put together row by row is the one that was put there, and what is by value for each row has it in its place.
 --
 --   key-cells, round-cells, tree-cells     sizes of all rows, as so many times one row's
---   key_row-length, key_row_at, key_row-below, keyRow-own
+--   key_row-length, key_row_at, key_row-below, key_row-own
 --   stacked-length, stacked_row, stacked-own, stacked_ext
---   row_items-length, row_items_at, row_items-element, rowItems-below
+--   row_items-length, row_items_at, row_items-element, row_items-below
 --   interleaved-length, interleaved_at, interleaved_row
 --   value_row_at, at_rows-length, at_rows_at, together_at, together-at_rows
 --   keys-zero, keys-suc                    the folds of a key one after the other

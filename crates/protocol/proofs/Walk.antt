@@ -1,10 +1,10 @@
 -- A walk down a tree that hands a state from node to node, against the paths to the leaves: what holds at every node of the walk holds along every path, and the other way round.
 --
---   step k j x       the state that node k, whose own is x, hands to its child j
---   Node, Leaf       what is asked of a branching node, of a leaf, and its state
---   Walk h k x       it holds at node k with the state x, and at every node of the h steps below
+--   step k j x        the state that node k, whose own is x, hands to its child j
+--   Node, Leaf        what is asked of a branching node, of a leaf, and its state
+--   Walk h k x        it holds at node k with the state x, and at every node of the h steps below
 --   state_on h n x t  the state after t of the h steps that lead down to node n, x being the first
---   Visits h n x     it holds along these steps
+--   Visits h n x      it holds along these steps
 use mathlib.Core.Path.{◌≡◌, sym, ap, ◌∙◌, subst, subst₂}
 use Prim.Native.Nat.{ℕ, zero, suc, ◌+◌, ◌*◌, ◌-◌, ◌^◌, ◌<◌}
 use native.Mathlib.Nat as Nat

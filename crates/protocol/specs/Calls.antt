@@ -3,15 +3,15 @@
 -- A refusal is the first number of the call's own list whose test fails; all tests are over what was lent, and only that of 13 needs the verifier's equations (PROTOCOL 7.2, 7.3).
 -- In a refused call all other parts of the answer are 0, and a lent table is as it was (PROTOCOL 7.4).
 --
---   commit_refusal, commit_answer                          1 commit
---   round_refusal, round_answer                            2 the prover's round
---   fold_refusal, fold_key_exit, fold_message_exit            3 the fold of both tables
---   end_refusal, end_answer                                4 the prover's end
---   opening_refusal, opening_answer, opening…Exit          5 the whole opening
---   check_refusal, check_answer                            the check of a transcript
---   opening_number, check_number                           the number of the verdict of these two
---   judge_refusal, judge_answer                            the judge
---   tree_refusal, extract_refusal, extract_exit             the extractor; tree_refusal is what is tested before the verifier runs
+--   commit_refusal, commit_answer                        1 commit
+--   round_refusal, round_answer                          2 the prover's round
+--   fold_refusal, fold_key_exit, fold_message_exit       3 the fold of both tables
+--   end_refusal, end_answer                              4 the prover's end
+--   opening_refusal, opening_answer, opening_…_exit      5 the whole opening
+--   check_refusal, check_answer                          the check of a transcript
+--   opening_number, check_number                         the number of the verdict of these two
+--   judge_refusal, judge_answer                          the judge
+--   tree_refusal, extract_refusal, extract_exit          the extractor; tree_refusal is what is tested before the verifier runs
 use Rattle.std.specs.Prelude.{Bool, true, false, ◌&&◌, List, [], ◌∷◌, ◌++◌, ℕ, ◌*◌, ◌^◌, leb, ltb, eqb, take, ℤ}
 use Rattle.protocol.specs.declared.Settings.{Settings}
 use Rattle.protocol.specs.declared.Verdict.TheVariants.{Silent}

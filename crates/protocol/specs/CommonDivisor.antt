@@ -1,7 +1,7 @@
 -- PROTOCOL 6: the greatest common divisor of two numbers, by Euclid's algorithm.
 --
 --   euclid n a b                  at most n steps of it: (a, b) becomes (b, a mod b), until b is 0
---   greatest_common_divisor a b     the same to its end: b falls with every step, so b steps are enough
+--   greatest_common_divisor a b   the same to its end: b falls with every step, so b steps are enough
 --   Greatest a b g                what makes g the greatest common divisor; proved of the above in proofs/CommonDivisor
 use Rattle.std.specs.Prelude.{ℕ, zero, suc, ◌%◌}
 use Rattle.std.specs.Int.{◌∣◌}

@@ -2,19 +2,19 @@
 -- An element is a function from places to whole numbers, and only its places below d are read. A residue counts as the whole number that it is;
 -- each definition works over whole numbers and reduces once, at its end.
 --
---   Element                 d coefficients, that of X^0 first
---   modulo q z              z modulo q, from 0 to q − 1
---   around d a x            the coefficient of X^x, going round by X^d = −1
---   rotate d e a            X^e·a
---   product d a b           a·b
---   one, power d e          the elements 1 and X^e
---   plus a b, times z a     a + b, and z·a for a number z
---   signed l, residue l     the element whose coefficients are the list l, of whole numbers, of residues
+--   Element                  d coefficients, that of X^0 first
+--   modulo q z               z modulo q, from 0 to q − 1
+--   around d a x             the coefficient of X^x, going round by X^d = −1
+--   rotate d e a             X^e·a
+--   product d a b            a·b
+--   one, power d e           the elements 1 and X^e
+--   plus a b, times z a      a + b, and z·a for a number z
+--   signed l, residue l      the element whose coefficients are the list l, of whole numbers, of residues
 --   signed_at d t i          element i of the flat table t of whole numbers
 --   residue_at d t i         element i of the flat table t of residues
---   coefficients d a        the d coefficients of a
---   reduced q d a           the d coefficients of a, modulo q
---   width                   passed on from Layout
+--   coefficients d a         the d coefficients of a
+--   reduced q d a            the d coefficients of a, modulo q
+--   width                    passed on from Layout
 --   value_row C r            row r of what is passed by value for each row
 --   zeros n, signed_zeros n  n zeros
 --   padded, padded_signed    an element that is passed by value: its coefficients, then zeros

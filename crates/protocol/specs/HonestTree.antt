@@ -1,9 +1,9 @@
 -- What an honest prover answers in a whole tree.
 --
---   way_to E h k                 the challenges that lead from the root to node k, h being at least its depth
---   answer_at S E G M k j        c_j at node k as an honest prover gives it: both tables folded by the challenges that lead there
+--   way_to E h k                  the challenges that lead from the root to node k, h being at least its depth
+--   answer_at S E G M k j         c_j at node k as an honest prover gives it: both tables folded by the challenges that lead there
 --   honest_rounds, honest_finals  the round elements of the whole tree in one row, and the final elements, flat
---   honest_table S E G M         the round elements of all rows
+--   honest_table S E G M          the round elements of all rows
 use Rattle.std.specs.Prelude.{List, [], ◌∷◌, ◌++◌, ℕ, zero, suc, ◌/◌, ◌%◌, length, get_or, ℤ}
 use Rattle.protocol.specs.declared.Settings.{Settings}
 use Rattle.protocol.specs.Layout.{tree_challenges}

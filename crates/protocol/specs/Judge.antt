@@ -1,8 +1,8 @@
 -- PROTOCOL 6: the judge of relaxed openings.
 --
---   slack_allowed S c         is c in its range, with no factor in common with q (refusal 15)
+--   slack_allowed S c        is c in its range, with no factor in common with q (refusal 15)
 --   slack S                  the extractor's slack, 4^L
---   scaled_commitment S C c   c times the commitment, modulo q
+--   scaled_commitment S C c  c times the commitment, modulo q
 --   combination S key w      the sum of w_i·G_i, modulo q
 --   opens S key C c w        are they equal, as a test; `Opens` is the same as a statement
 --   judged S key C c w       what the judge says of all rows, C being a commitment by value and key a key of all rows

@@ -2,26 +2,26 @@
 -- The crate `sizes` gives the same in code.
 -- Tables are flat, d numbers to an element. A round polynomial is three elements in each row, and a branching node has one round polynomial and three challenges.
 --
---   width                       128: how many places an element has that is passed by value
---   rows_most                    4: how many rows there can be
---   rows_width                   512: how many places there are for an element of each row that is passed by value
---   slots                       8: how many challenges a record holds, one for each round that there can be
---   size S, cells S             n = 2^L elements, and n·d numbers: a row of a key, a message, the extractor's w
+--   width                         128: how many places an element has that is passed by value
+--   rows_most                     4: how many rows there can be
+--   rows_width                    512: how many places there are for an element of each row that is passed by value
+--   slots                         8: how many challenges a record holds, one for each round that there can be
+--   size S, cells S               n = 2^L elements, and n·d numbers: a row of a key, a message, the extractor's w
 --   key_items S, key_cells S      rows·n elements, and rows·n·d numbers: a key
---   left S t, left_cells S t     the elements that are left after t rounds, n/2^t, and their numbers
---   half_left S t                the elements of a half of what is left after t rounds
---   item_cells S                 rows·d numbers: an element for each row, as a commitment is, and c_j of a round
---   polynomial_cells S           3·rows·d numbers: a round polynomial
---   polynomial_at S k            3·k·rows·d: where the polynomial of round k + 1, or of node k, begins
---   round_items S                3·L elements: the round polynomials of a transcript in one row
---   round_cells S                rows·3·L·d numbers: those of all rows
+--   left S t, left_cells S t      the elements that are left after t rounds, n/2^t, and their numbers
+--   half_left S t                 the elements of a half of what is left after t rounds
+--   item_cells S                  rows·d numbers: an element for each row, as a commitment is, and c_j of a round
+--   polynomial_cells S            3·rows·d numbers: a round polynomial
+--   polynomial_at S k             3·k·rows·d: where the polynomial of round k + 1, or of node k, begins
+--   round_items S                 3·L elements: the round polynomials of a transcript in one row
+--   round_cells S                 rows·3·L·d numbers: those of all rows
 --   claim_items S, claim_cells S  rows·L elements, and rows·L·d numbers: the claims after each round
---   nodes S, leaves S           N = (3^L − 1)/2 branching nodes, and 3^L leaves
+--   nodes S, leaves S             N = (3^L − 1)/2 branching nodes, and 3^L leaves
 --   tree_round_cells S            rows·3·N·d numbers: the round polynomials of a tree
---   tree_challenges S            3·N numbers: the challenges of a tree
---   leaf_cells S                 3^L·d numbers: the final elements of a tree
---   exponent_count S             2·d: how many exponents there are
---   item_of k j                  3·k + j: c_j of round k + 1 among the elements of a row of a transcript, c_j of node k among those of a tree, challenge j of node k
+--   tree_challenges S             3·N numbers: the challenges of a tree
+--   leaf_cells S                  3^L·d numbers: the final elements of a tree
+--   exponent_count S              2·d: how many exponents there are
+--   item_of k j                   3·k + j: c_j of round k + 1 among the elements of a row of a transcript, c_j of node k among those of a tree, challenge j of node k
 use Rattle.std.specs.Prelude.{ℕ, ◌+◌, ◌*◌, ◌-◌, ◌/◌, ◌^◌}
 use Rattle.protocol.specs.declared.Settings.{Settings}
 

@@ -1,15 +1,15 @@
 -- PROTOCOL 2: commitment, round polynomial, folds and final element.
 -- Tables are flat, d numbers to an element; t is how many rounds are done, so the next round is round i = t + 1.
 --
---   inner d h m G              ⟨m, G⟩ of h elements
---   second h m                 what stands from element h on
---   cross d h m G j            ⟨m0,G0⟩, ⟨m0,G1⟩ + ⟨m1,G0⟩, ⟨m1,G1⟩ for j = 0, 1, 2, the halves having h elements
---   fold_signed, fold_residues   a table after a fold by X^e, the halves having h elements
---   commitment S key message   the commitment
+--   inner d h m G               ⟨m, G⟩ of h elements
+--   second h m                  what stands from element h on
+--   cross d h m G j             ⟨m0,G0⟩, ⟨m0,G1⟩ + ⟨m1,G0⟩, ⟨m1,G1⟩ for j = 0, 1, 2, the halves having h elements
+--   fold_signed, fold_residues  a table after a fold by X^e, the halves having h elements
+--   commitment S key message    the commitment
 --   left S t, half_left S t     passed on from Layout
 --   round_element S t .. j      c_j of round t + 1
---   fold_message, fold_key       a table after the fold of round t + 1
---   message_after, key_after     a table after t folds by the first t of the challenges E
+--   fold_message, fold_key      a table after the fold of round t + 1
+--   message_after, key_after    a table after t folds by the first t of the challenges E
 --   final_element S message     the final element
 --   round_table S E ..          the round elements of a whole opening, flat: element 3t + j is c_j of round t + 1
 use Rattle.std.specs.Prelude.{List, ◌++◌, ℕ, zero, suc, ◌+◌, ◌*◌, ◌/◌, ◌%◌, ◌^◌, get_or, drop, ℤ, pos, ◌+ℤ◌}

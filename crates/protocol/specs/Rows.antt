@@ -1,18 +1,18 @@
 -- PROTOCOL 1.4 and 3.4: several rows. A key has a row of n elements after the other; the elements of a commitment, of a round polynomial and of a tree stand
 -- item by item, and in each item row by row: element rows·i + r is item i of row r. What holds of one row (Opening, Transcript) is applied row by row.
 --
---   key_row S key r           row r of a key
+--   key_row S key r          row r of a key
 --   stacked S f              the key whose row r is f r
---   row_items S n t r         row r of a table of n items
+--   row_items S n t r        row r of a table of n items
 --   interleaved S n f        the table of n items whose row r is f r
---   at_rows S f               the elements f r of the rows r, by value: with zeros behind their places and in the places past the rows
+--   at_rows S f              the elements f r of the rows r, by value: with zeros behind their places and in the places past the rows
 --   together S C             elements of the rows that are passed by value, as a flat table
---   row_of S T r              row r of a transcript
+--   row_of S T r             row r of a transcript
 --   commitments S ..         the commitment, an element for each row
---   round_tables S E ..       the round elements of a whole opening
---   fold_keys, keys_after      a key after the fold of round t + 1, and after t folds, each row in its own n places
---   transcripts_of S ..       a message's transcript
---   all_accepted S key T      is a transcript accepted, as a test; `AllAccepted` is the same as a statement
+--   round_tables S E ..      the round elements of a whole opening
+--   fold_keys, keys_after    a key after the fold of round t + 1, and after t folds, each row in its own n places
+--   transcripts_of S ..      a message's transcript
+--   all_accepted S key T     is a transcript accepted, as a test; `AllAccepted` is the same as a statement
 --   Cause, cause             why it is rejected: the first round that fails in some row, else the bound, else the last equation
 use Rattle.std.specs.Prelude.{Bool, true, false, ◌&&◌, not, List, ℕ, ◌+◌, ◌*◌, ◌/◌, ◌%◌, ◌<◌, ltb, get_or, ℤ}
 use Rattle.protocol.specs.declared.Settings.{Settings}

@@ -2,15 +2,15 @@
 --
 --   slots                    how many challenges a record holds
 --   verdict met              what a verifier says of a transcript, or of its end
---   verdict_number v          a verdict as a number: 0 the 0 of a refusal, 1 a round that holds, 2 accepted, 3 rejected
---   round_number N met        the number of a round's verdict, for a refusal N and whether the round holds
---   end_number N met          the number of the verdict of an end, of a transcript or of a whole opening
+--   verdict_number v         a verdict as a number: 0 the 0 of a refusal, 1 a round that holds, 2 accepted, 3 rejected
+--   round_number N met       the number of a round's verdict, for a refusal N and whether the round holds
+--   end_number N met         the number of the verdict of an end, of a transcript or of a whole opening
 --   opened S C               the record of a session that starts at the commitment C, which has a place for each row
 --   blank                    the closed record of zeros that a refused start hands back
 --   shut r                   the record r, closed
 --   advanced r p e           the record r after a round that holds, p being the polynomial and e the challenge
 --   part p j                 c_j of a polynomial by value, of all rows
---   refused_move r number     a refused move: r unchanged
+--   refused_move r number    a refused move: r unchanged
 --   start, round, end        the three moves: refusal, verdict and record
 --   session_round_refusal, session_round_holds, session_round_number   a round's refusal, whether its equation is met, the number of its verdict; those of
 --                            the prover's round are in Calls

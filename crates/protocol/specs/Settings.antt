@@ -1,15 +1,15 @@
 -- PROTOCOL 1.1: which settings are allowed; PROTOCOL 7.1 and 7.3: the tests that several calls share.
 --
---   transform_modulus                    12289: the modulus at which the largest degree is allowed
---   modulus_most                         the largest modulus
---   degree_allowed S .. rows_allowed S    is d, L, q, B, the number of rows allowed
---   settings_refusal S                   refusals 3 to 6, and 16
+--   transform_modulus                   12289: the modulus at which the largest degree is allowed
+--   modulus_most                        the largest modulus
+--   degree_allowed S .. rows_allowed S  is d, L, q, B, the number of rows allowed
+--   settings_refusal S                  refusals 3 to 6, and 16
 --   size S, cells S                     passed on from Layout
 --   half S                              the inverse of 2 modulo q
 --   hasLength n t                       has the table t exactly n entries (refusal 7)
---   all_below S t, residue_element S a    are the numbers of a table, of an element by value, residues: below q (refusal 8)
---   residue_rows S C                     are those of an element of each row by value
---   all_within b t                       are the numbers of a table from −b to b (refusal 9)
+--   all_below S t, residue_element S a  are the numbers of a table, of an element by value, residues: below q (refusal 8)
+--   residue_rows S C                    are those of an element of each row by value
+--   all_within b t                      are the numbers of a table from −b to b (refusal 9)
 --   exponent S e, exponents S t         is e, is every number of a table, an exponent (refusal 10)
 use Rattle.std.specs.Prelude.{Bool, ◌&&◌, ◌||◌, List, [], ◌∷◌, ℕ, ◌+◌, ◌*◌, ◌/◌, ◌%◌, ◌^◌, leb, ltb, eqb, length, get_or, ℤ}
 use Rattle.protocol.specs.declared.Settings.{Settings}

@@ -1,18 +1,18 @@
 -- PROTOCOL 3: what a verifier checks in one row, and when the transcript of one row is accepted. Rows has all rows.
 --
---   Transcript              commitment, round elements, challenges, final element
---   doubled S c0 c2         2·(c0 + c2) modulo q
+--   Transcript               commitment, round elements, challenges, final element
+--   doubled S c0 c2          2·(c0 + c2) modulo q
 --   round_holds S claim ..   does a round hold
 --   next_claim S e c0 c1 c2  what the claim becomes, r = X^e
 --   final_bounded S f        has f no coefficient beyond ±n·B
 --   folded_key S key E       G', the first element of the key folded by the challenges E
---   ending S f G            half^L·f·G modulo q
+--   ending S f G             half^L·f·G modulo q
 --   end_holds S claim f G    does the claim equal it
 --   end_met S claim f G      does it, and has f no coefficient beyond ±n·B
---   element S T t j         c_j of round t + 1
+--   element S T t j          c_j of round t + 1
 --   claim_after S T t        the claim after t rounds
 --   holds_at, closes         does round t + 1 hold; is the last equation met
---   accepted S key T        is a transcript accepted, as a test; `Accepted` is the same as a statement
+--   accepted S key T         is a transcript accepted, as a test; `Accepted` is the same as a statement
 --   transcript_of            a message's transcript
 use Rattle.std.specs.Prelude.{◌≡◌, Bool, ◌&&◌, List, ℕ, zero, suc, ◌+◌, ◌*◌, ◌^◌, ◌<◌, ◌≤◌, eqb, get_or, ℤ, pos, ◌+ℤ◌, ◌*ℤ◌, nat_abs}
 use Rattle.protocol.specs.declared.Settings.{Settings}

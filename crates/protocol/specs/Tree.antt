@@ -1,22 +1,22 @@
 -- PROTOCOL 5: numbering, paths, s(a,b), μ, node vectors, growth.
 -- In a row, node k's round polynomial is elements 3k, 3k+1, 3k+2 of the flat table of rounds; its challenges are numbers 3k, 3k+1, 3k+2 of theirs.
 --
---   child k j                   the children of node k, for j = 0, 1, 2
---   parent k, place k           the node above node k, and which of its children k is
---   above h k                   the node h steps above node k
---   challenge E k j             challenge j of node k; challenge_to E k: the challenge that leads to node k
---   apart E k                   are the three challenges of node k different (refusal 12)
---   gap d a b, steps d k        b − a on the circle of 2d exponents; how many steps of k go half way round it
---   s d a b                     s(a,b); `Divisor` states what is owed of it
---   mu d a b c                  μ of the challenge X^a, the others being X^b and X^c
---   share d m v i               element i of μ·v
---   combined d n ..             a node's vector from its three children's, of n elements each
---   growth_factor, growth_limit   8·d², 2^62
---   nodes S, leaves S           passed on from Layout
+--   child k j                    the children of node k, for j = 0, 1, 2
+--   parent k, place k            the node above node k, and which of its children k is
+--   above h k                    the node h steps above node k
+--   challenge E k j              challenge j of node k; challenge_to E k: the challenge that leads to node k
+--   apart E k                    are the three challenges of node k different (refusal 12)
+--   gap d a b, steps d k         b − a on the circle of 2d exponents; how many steps of k go half way round it
+--   s d a b                      s(a,b); `Divisor` states what is owed of it
+--   mu d a b c                   μ of the challenge X^a, the others being X^b and X^c
+--   share d m v i                element i of μ·v
+--   combined d n ..              a node's vector from its three children's, of n elements each
+--   growth_factor, growth_limit  8·d², 2^62
+--   nodes S, leaves S            passed on from Layout
 --   on_path S j t                the node that the path to leaf j meets after t steps
---   path S ..                   the path to leaf j in one row, a transcript; row_path S .. r: that of row r of a tree
---   leaf S finals j             the final element of leaf j; fold_to S E j m: what L folds of m by its path's challenges give
---   vector S .. h k             the vector of node k, h steps above the leaves; root_vector S ..: that of the root
+--   path S ..                    the path to leaf j in one row, a transcript; row_path S .. r: that of row r of a tree
+--   leaf S finals j              the final element of leaf j; fold_to S E j m: what L folds of m by its path's challenges give
+--   vector S .. h k              the vector of node k, h steps above the leaves; root_vector S ..: that of the root
 --   growth S, growth_allowed S   (8·d²)^L·B, and is it at most 2^62 (refusal 14)
 use Rattle.std.specs.Prelude.{◌≡◌, Bool, ◌&&◌, not, List, ◌++◌, ℕ, zero, suc, ◌+◌, ◌*◌, ◌-◌, ◌/◌, ◌%◌, ◌^◌, ◌<◌, ◌≤◌, eqb, leb, get_or, ℤ, pos, negsuc, ◌+ℤ◌, nat_abs}
 use Rattle.protocol.specs.declared.Settings.{Settings}

@@ -1,7 +1,7 @@
 -- What is known of the inputs of a prover's call that nothing refuses: of the message, and of every row of the key.
 --
 --   first_row                                  there is a row
---   commit_key, round_key, fold_key_holds            the settings are allowed, and the key has all its rows
+--   commit_key, round_key, fold_key_holds      the settings are allowed, and the key has all its rows
 --   commit_given, round_given, fold_given      what each call's work in a row asks for
 use mathlib.Core.Path.{◌≡◌, sym, ap, ◌∙◌}
 use mathlib.Core.Bool.{true, ◌&&◌}

@@ -1,6 +1,6 @@
 -- What is known of the extractor's input where nothing is refused: it is a full tree, every path of it accepted, whose vectors stay within 2^62.
 --
---   tree_sized S key ..     refusal 7's test; Lengths S key .. is the same as a statement
+--   tree_sized S key ..    refusal 7's test; Lengths S key .. is the same as a statement
 --   TreeGiven S C ..       where the tests before the verifier pass
 --   ExtractGiven S C ..    where nothing is refused
 use mathlib.Core.Path.{◌≡◌, sym, ap, ◌∙◌}

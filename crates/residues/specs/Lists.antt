@@ -2,7 +2,7 @@
 --
 --   filled f n l             the list l with its first n entries replaced by f 0, f 1, …
 --   spliced f at n l         the list l with the n entries from place `at` on replaced by f 0, f 1, …
---   spliced_rows F at d n l   the flat list l with n elements of d entries from place `at` on replaced, entry k of element i by F i k
+--   spliced_rows F at d n l  the flat list l with n elements of d entries from place `at` on replaced, entry k of element i by F i k
 use Rattle.std.specs.Prelude.{ℕ, ◌*◌, ◌/◌, ◌%◌, List, ◌++◌, take, drop}
 use Rattle.protocol.specs.Basic.{tabulate}
 

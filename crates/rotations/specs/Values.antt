@@ -1,16 +1,16 @@
 -- Multiples X^e·a that are added, and the values of polynomials at X^e.
 --
---   Summands q n from ..      n numbers of a list that is added and n of the list that it is added to are there, and are residues
---   Addable q d e ..          may X^e·a be added so: such numbers, and an exponent below 2d
---   Turnable q d a out        the lists a and out begin with an element of residues each, of a degree that there is
---   Gatherable d a sums       lists of these lengths begin with an element each, of a degree that there is
+--   Summands q n from ..       n numbers of a list that is added and n of the list that it is added to are there, and are residues
+--   Addable q d e ..           may X^e·a be added so: such numbers, and an exponent below 2d
+--   Turnable q d a out         the lists a and out begin with an element of residues each, of a degree that there is
+--   Gatherable d a sums        lists of these lengths begin with an element each, of a degree that there is
 --   plus_row q negative ..     number k of a row to which a row is added, or from which it is taken, modulo q
 --   plus_turned q d e ..       coefficient k of the element at a place of a list, with X^e·a added, modulo q
 --   value_at q d e c0 c1 c2 k  coefficient k of c0 + X^e·c1 + X^2e·c2, modulo q
 --   values_of q d e ..         the same of elements in lists
---   Coefficients q d ..       three elements of residues
---   Valuable q d ..           such three of a degree that there is, with room for an element
---   RowAdded, Valued          the promises of `accumulate_row` and `value`
+--   Coefficients q d ..        three elements of residues
+--   Valuable q d ..            such three of a degree that there is, with room for an element
+--   RowAdded, Valued           the promises of `accumulate_row` and `value`
 use Rattle.std.specs.Prelude.{◌≡◌, ℕ, ◌+◌, ◌*◌, ◌<◌, ◌≤◌, Bool, List, length, pos, ◌+ℤ◌, slice_index}
 use Rattle.protocol.specs.Basic.{Provided}
 use Rattle.protocol.specs.Element.{Element, width, modulo, rotate, residue}

@@ -1,8 +1,8 @@
 -- Items: an element for each row of a key, one behind the other.
 --
---   inner_item sums S h s f G r   s times the inner product of h elements of f with those of G r, or of the sums of their halves, which have h elements
+--   inner_item sums S h s f G r  s times the inner product of h elements of f with those of G r, or of the sums of their halves, which have h elements
 --   ItemsGiven sums S h f key G  the rows of the key begin with the numbers of G 0, G 1, …, for such inner products
---   round_item S t ..             c_j of round t + 1, row by row
+--   round_item S t ..            c_j of round t + 1, row by row
 --   Sent S t ..                  the three items of round t + 1 are written
 use Rattle.std.specs.Prelude.{◌≡◌, Bool, List, ℕ, ℤ, pos}
 use Rattle.protocol.specs.declared.Settings.{Settings}

@@ -2,7 +2,7 @@
 --
 --   half q              the inverse of 2 modulo an odd q
 --   Halvables q n l     q is odd, and l begins with n residues
---   less_both q x a b    x − a − b modulo q, of residues
+--   less_both q x a b   x − a − b modulo q, of residues
 --   inner_of_sums d h m G ⟨m0 + m1, G0 + G1⟩, the halves having h elements
 use Rattle.std.specs.Prelude.{List, ℕ, ◌+◌, ◌-◌, ◌/◌, ◌%◌, ◌<◌, get_or}
 use Rattle.protocol.specs.Element.{Element, plus}

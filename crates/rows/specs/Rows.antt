@@ -1,11 +1,11 @@
 -- The products of an element of whole numbers with the strands of an element of residues, by rows that are added to sums modulo 2^64.
 --
---   strand c r a j    number j of strand r of the element a, which has c of them: it stands at place j·c + r
---   woven c F         the element whose strands are F 0, F 1, .. F (c − 1)
---   turned q d a y    what stands at place y of the element a, going round by X^d = −1, modulo q: at the places 0 to 3d − 1 each
---                     rotation of a, and its negative, is d of them in a row
---   start d z j       where X^j·a, or for a negative z its negative, begins among them
---   narrowed x y      number y of the list x modulo 2^32, which is what a row reads of it
+--   strand c r a j     number j of strand r of the element a, which has c of them: it stands at place j·c + r
+--   woven c F          the element whose strands are F 0, F 1, .. F (c − 1)
+--   turned q d a y     what stands at place y of the element a, going round by X^d = −1, modulo q: at the places 0 to 3d − 1 each
+--                      rotation of a, and its negative, is d of them in a row
+--   start d z j        where X^j·a, or for a negative z its negative, begins among them
+--   narrowed x y       number y of the list x modulo 2^32, which is what a row reads of it
 --   add_row d m at ..  the sums s with m times the d residues from place `at` on added
 --   next_row c d f x j s  the sums s with row j added, which is f_j·X^j·a in each of c strands a of d numbers
 --   add_rows c d f x j    the sums after the first j rows

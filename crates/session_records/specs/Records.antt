@@ -2,15 +2,15 @@
 -- of the claims. All are numbers of 64 bits, as modulus and claims need them; of the others one that is past 32 bits counts as the largest of 32 bits, which
 -- every call refuses.
 --
---   head_width          7: the numbers before the challenges
---   claims_at           15: where the claims begin
---   record_width        527: all numbers
---   progress_of t       the record that the slice t holds, beside its claims
---   session_of t        the record that the slice t holds
+--   head_width         7: the numbers before the challenges
+--   claims_at          15: where the claims begin
+--   record_width       527: all numbers
+--   progress_of t      the record that the slice t holds, beside its claims
+--   session_of t       the record that the slice t holds
 --   flagged t          is the number that says whether it is closed 0 or 1; any other is refusal 7
---   number_of r k       number k of the record r
---   numbers_of r        the numbers of the record r
---   record_stored r t   the slice t after the record r was written to it: a slice of another length stays as it is
+--   number_of r k      number k of the record r
+--   numbers_of r       the numbers of the record r
+--   record_stored r t  the slice t after the record r was written to it: a slice of another length stays as it is
 use Rattle.std.specs.Prelude.{Bool, List, [], ◌∷◌, ℕ, ◌+◌, ◌-◌, leb, ltb, eqb, get_or}
 use Rattle.protocol.specs.declared.Session.{Session}
 use Rattle.protocol.specs.Basic.{tabulate, choose}

@@ -1,12 +1,12 @@
 -- The promises of the session's moves on a record in a slice of `record_width` numbers. In a promise x is a slice or a number at entry, and x' the same at exit.
 --
---   start_number, start_exit   the start at the commitment in the slice C: its refusal, and the slice for the record at exit. A refused start writes the
---                            closed record of zeros
---   StartStored              the promise of the start
+--   start_number, start_exit  the start at the commitment in the slice C: its refusal, and the slice for the record at exit. A refused start writes the
+--                             closed record of zeros
+--   StartStored               the promise of the start
 --   move_number fits m rec    the refusal of the move m on the record in the slice rec, `fits` saying whether the slices lent beside it have their lengths.
---                            A slice of another length holds no record, so nothing of it is tested: that is 7 at once
---   move_exit, move_verdict    the slice for the record, and the verdict's number, at exit: a refused move writes nothing and says nothing
---   MoveStored               the promise of a move
+--                             A slice of another length holds no record, so nothing of it is tested: that is 7 at once
+--   move_exit, move_verdict   the slice for the record, and the verdict's number, at exit: a refused move writes nothing and says nothing
+--   MoveStored                the promise of a move
 --   round_on P e rec          the round with the polynomial in the slice P on the record in the slice rec
 --   end_on f key rec          the end with the final element in the slice f
 --   polynomial_fits, last_fits have these slices their lengths, which the record's settings give

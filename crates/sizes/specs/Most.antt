@@ -1,9 +1,9 @@
 -- The largest sizes that allowed settings have: at depth 8 and degree `width`.
 --
---   elements_most        2^8 elements: a row of a key, or a message
---   cells_most           their numbers, in one row
---   leaves_most          3^8
---   nodes_most           (3^8 − 1)/2 branching nodes
+--   elements_most         2^8 elements: a row of a key, or a message
+--   cells_most            their numbers, in one row
+--   leaves_most           3^8
+--   nodes_most            (3^8 − 1)/2 branching nodes
 --   tree_challenges_most  three challenges to a branching node
 --   polynomial_at_most    where the polynomial behind the last node's would begin
 use Rattle.std.specs.Prelude.{ℕ, ◌*◌}

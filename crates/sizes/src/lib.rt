@@ -145,7 +145,7 @@ pub fn exponent_count(settings: Settings) -> u32
     2 * settings.degree
 }
 
-// The numbers of a transcript's round polynomials: typeof.rows·3.L elements of d.
+// The numbers of a transcript's round polynomials: rows·3·L elements of d.
 pub fn round_cells(settings: Settings) -> usize
     ensures { Provided (settings_refusal settings ≡ 0) (result ≡ round_cells settings) }
 {
@@ -155,7 +155,7 @@ pub fn round_cells(settings: Settings) -> usize
     all_rows(settings, 3 * settings.depth)
 }
 
-// The numbers of a transcript's claims: typeof.rows.L elements of d.
+// The numbers of a transcript's claims: rows·L elements of d.
 pub fn claim_cells(settings: Settings) -> usize
     ensures { Provided (settings_refusal settings ≡ 0) (result ≡ claim_cells settings) }
 {

@@ -5,8 +5,8 @@
 --   capped x             x, or the largest number of 32 bits where x is larger: no number of 32 bits that a record holds may be as large
 --   lent S fits N        the refusal of a call with the settings S that N refuses by itself, and that is lent slices beside, which have their lengths or
 --                        not: 7 stands behind 3 to 6 and 16 and before all others
---   values_of S t         the elements by value of each row that the slice t stands for; its numbers are `together S C` of the elements C
---   polynomial_of S t     the round polynomial by value that the slice t stands for
+--   values_of S t        the elements by value of each row that the slice t stands for; its numbers are `together S C` of the elements C
+--   polynomial_of S t    the round polynomial by value that the slice t stands for
 --   laid S p             the numbers of the round polynomial p
 --   placed d n t l       the elements l by value with the first d places of its first n rows from the flat table t
 use Rattle.std.specs.Prelude.{Bool, ◌&&◌, List, [], ◌∷◌, ◌++◌, ℕ, ◌+◌, ◌*◌, ◌-◌, ◌^◌, ltb, get_or, drop}

@@ -1,8 +1,8 @@
 -- Values of tables that stand one after the other, as the reader gathers them.
 --
---   cut_tables n vs   the tables among the values, their lengths being n
+--   cut_tables n vs  the tables among the values, their lengths being n
 --   narrowed z       z, or 0 where it is past the narrow limit
---   narrow_tables t   the tables t with a message and a final element of 32 bits
+--   narrow_tables t  the tables t with a message and a final element of 32 bits
 --   tests S N vs     do values pass the test of refusal N
 --   passes S N k vs  do they where it tests the table at place k
 --   all_pass S N n vs do the values of all tables that it tests

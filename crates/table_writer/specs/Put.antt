@@ -3,9 +3,9 @@
 --   Put out at text r out'      what a function promises that puts a text, or other items, at a place: the place behind it, and what stands before that place
 --   field_room, spot_room, line_room, text_room   the room for a number and the byte behind it, for a spot, for a line, and for the longest text and one line
 --   field n behind              a number and the byte behind it
---   spot_text part c             the spot of a line
---   line_at part c value         a line
---   part_text b v                the lines of a part
+--   spot_text part c            the spot of a line
+--   line_at part c value        a line
+--   part_text b v               the lines of a part
 --   Held text at out            what a place and a slice keep of a text
 --   Follows out at f r out'     what a function promises that makes f of a text that stands in a slice, up to the limit
 --   Adds out at more r out'     the same, where it puts more behind it

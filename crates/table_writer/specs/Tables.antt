@@ -2,11 +2,11 @@
 --
 --   capped x                x as a value, or one past the limit of values where it is past the limit
 --   gathered t              the values of the tables t as the writer gathers them: no residue is past the limit
---   settings_text S          the names line and the settings
+--   settings_text S         the names line and the settings
 --   parted b v k text       a text, and behind it the lines of k parts: part i has the shape b i and the values v i
---   behind_text S P n vs k   the first k tables behind a text, their lengths being n and their values vs, one table after the other
---   values_text S P n vs     the text of such values
---   tables_refusal           refusals 3 to 10, and 16, of the writer
+--   behind_text S P n vs k  the first k tables behind a text, their lengths being n and their values vs, one table after the other
+--   values_text S P n vs    the text of such values
+--   tables_refusal          refusals 3 to 10, and 16, of the writer
 --   Writable S P t          what the writer's core asks: the settings are allowed, the tables have their lengths, and residues are below q
 --   Output text out r out'  what is answered and left in the output slice where the text is all that can be refused
 use Rattle.std.specs.Prelude.{◌≡◌, true, ◌&&◌, List, [], ◌∷◌, ◌++◌, map, ℕ, zero, suc, ◌+◌, min, length, ℤ, pos}

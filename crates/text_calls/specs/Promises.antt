@@ -4,8 +4,8 @@
 --   look_number, Looked        a first look at a text's settings; the slice for them is tested last, by 7
 --   read_number, ReadStored    the table reader, t holding the seven tables: its own refusals, 7 being asked of the number and of the slice for the settings too
 --   write_number, WroteStored  the table writer; 7 is asked of the number as of the tables
---   Verdicts                  an answer with a verdict: r is its number
---   ProvedStored              the program `prove` as a call on text
+--   Verdicts                   an answer with a verdict: r is its number
+--   ProvedStored               the program `prove` as a call on text
 use Rattle.std.specs.Prelude.{◌≡◌, ◌&&◌, List, [], ◌∷◌, ℕ, length}
 use Rattle.protocol.specs.declared.Settings.{Settings}
 use Rattle.protocol.specs.declared.Checked.{Checked}

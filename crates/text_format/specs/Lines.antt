@@ -2,20 +2,20 @@
 -- the lines that every text begins with. What a number and a line are is said in Text.
 --
 --   present r                  was anything read
---   given_number text o         what a reader of numbers gives for what it read: number, value and next place (`reading` has them for its enum)
---   read_index_at                a part, an item or a place and the space behind it, as a call on a text and a place
---   no_line                     a line of zeros
+--   given_number text o        what a reader of numbers gives for what it read: number, value and next place (`reading` has them for its enum)
+--   read_index_at              a part, an item or a place and the space behind it, as a call on a text and a place
+--   no_line                    a line of zeros
 --   LineReading, line_reading r the number and values for each case of the line reader's answer
---   given_line text o           the same for what was read
---   line_answer text o          what was read, as the line reader's answer
---   read_line_at                 the line reader as a call on a text and a place
---   all_lines bs                all lines up to the end
---   spot, read_value            a line's spot, and the value of a line at that spot
---   read_values                 the values of lines at these spots, one after the other
---   settings_of vs              the settings whose values are vs
---   read_settings text          the values of the lines that every text begins with, and the bytes behind them
---   begun_with o                the settings of what was read; five zeros where nothing was
---   begun_answer text           the settings that a text begins with, or a first look's answer where they are not allowed
+--   given_line text o          the same for what was read
+--   line_answer text o         what was read, as the line reader's answer
+--   read_line_at               the line reader as a call on a text and a place
+--   all_lines bs               all lines up to the end
+--   spot, read_value           a line's spot, and the value of a line at that spot
+--   read_values                the values of lines at these spots, one after the other
+--   settings_of vs             the settings whose values are vs
+--   read_settings text         the values of the lines that every text begins with, and the bytes behind them
+--   begun_with o               the settings of what was read; five zeros where nothing was
+--   begun_answer text          the settings that a text begins with, or a first look's answer where they are not allowed
 use Rattle.std.specs.Prelude.{Bool, true, false, List, [], ◌∷◌, ℕ, suc, ◌-◌, length, get_or, drop, ℤ, pos}
 use Rattle.std.proofs.Math.Option.{Option, none, some, bind as ◌>>=◌}
 use Rattle.protocol.specs.declared.Settings.{Settings}

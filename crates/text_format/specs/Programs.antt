@@ -1,15 +1,15 @@
 -- PROTOCOL 10: the programs `prove` and `verify`, as calls on text and as what they print.
 --
---   prove_reads, prove_prints, verify_reads   which parts a program reads and prints
---   printed S T                            the tables that `prove` prints of a transcript: the transcript and its claims
---   proof_text S t                          the text of the transcript of the tables t, as `prove` prints it
---   prove_text text                         what `prove` writes where nothing is refused
---   prove_refusal, prove_answer, prove_exit   `prove` on a text and an output slice: its refusals, its answer, the slice as it leaves it
---   transcript_in t                         the transcript in the tables that `verify` reads
---   tables_accepted S t                     is it accepted, and is every written claim the one that is worked out
+--   prove_reads, prove_prints, verify_reads  which parts a program reads and prints
+--   printed S T                              the tables that `prove` prints of a transcript: the transcript and its claims
+--   proof_text S t                           the text of the transcript of the tables t, as `prove` prints it
+--   prove_text text                          what `prove` writes where nothing is refused
+--   prove_refusal, prove_answer, prove_exit  `prove` on a text and an output slice: its refusals, its answer, the slice as it leaves it
+--   transcript_in t                          the transcript in the tables that `verify` reads
+--   tables_accepted S t                      is it accepted, and is every written claim the one that is worked out
 --   verify_refusal, verify_answer            `verify` on a text: its refusals and its answer
---   checked r                              the number and the verdict for each case of that answer
---   verify_gives text                       the number and the verdict for a text
+--   checked r                                the number and the verdict for each case of that answer
+--   verify_gives text                        the number and the verdict for a text
 --   refused_line N, verdict_line r           the line that is printed for a refusal, and for an answer of `verify`
 --   prove_output, verify_output              the bytes that a program prints for a standard input
 use Rattle.std.specs.Prelude.{Bool, true, false, ◌&&◌, List, [], ◌∷◌, ◌++◌, ℕ, length}

@@ -1,8 +1,8 @@
 -- What `prove` prints, `verify` accepts. A listing has no key, so `verify` is given the listing with the key's lines put behind those of the settings.
 --
---   key_lines S key       the lines of part 1
---   head_length S         how many bytes a listing has up to its last line of settings
---   with_key S key text   the listing `text` with the key's lines put there
+--   key_lines S key      the lines of part 1
+--   head_length S        how many bytes a listing has up to its last line of settings
+--   with_key S key text  the listing `text` with the key's lines put there
 --   keyed S key T        the tables that stand in it, T being the transcript
 --   Accepts text ..      what is owed of a listing, `text` being what `prove` read
 --   ProveVerify          that, for every text that `prove` does not refuse: as a call on text, and as a program

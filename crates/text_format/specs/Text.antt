@@ -3,60 +3,60 @@
 --
 -- Written
 --   text_limit                     the longest text
---   value_limit, narrow_limit       the largest magnitude of a value, and of every other number, in a text
+--   value_limit, narrow_limit      the largest magnitude of a value, and of every other number, in a text
 --   limit_of part                  the largest magnitude of a value in a line of this part
 --   line_feed, space, minus, ..    bytes by name
---   bytes s                       the bytes of a quoted text (each of its characters has one byte)
---   names                         the names line
---   digit_count n, low_digits k n   how many digits n has, and its last k digits
---   decimal n, numeral z          a number from 0 on, and any number, as text
---   Spot, Line                    where a line stands (part, item, place); a line: its spot and its value
---   line_text l, lines_text ls      the text of a line, and of lines
---   Tables                        the seven tables, parts 1 to 7
+--   bytes s                        the bytes of a quoted text (each of its characters has one byte)
+--   names                          the names line
+--   digit_count n, low_digits k n  how many digits n has, and its last k digits
+--   decimal n, numeral z           a number from 0 on, and any number, as text
+--   Spot, Line                     where a line stands (part, item, place); a line: its spot and its value
+--   line_text l, lines_text ls     the text of a line, and of lines
+--   Tables                         the seven tables, parts 1 to 7
 --   Shape, shape, shape_size       a part's number, items and places; how many lines it has
 --   settings_shape, shapes S P     the shape of part 0, and the shapes of all parts of a text
 --   spot_at b p, spots b           the spot of line p of a part, and the spots of all its lines
---   wanted S P                    the spots of a whole text, in order
+--   wanted S P                     the spots of a whole text, in order
 --   settings_values S, contents S t  the values of part 0, and of parts 0 to 7
 --   Block, block, blocks S P t    a part's shape with its values; all parts of the tables t
---   block_lines b                  the lines of a part
---   text_of S P t                  the text of the tables t
---   block_fits b, fits S P t       has a part as many values as lines; has every table its length
+--   block_lines b                 the lines of a part
+--   text_of S P t                 the text of the tables t
+--   block_fits b, fits S P t      has a part as many values as lines; has every table its length
 -- Read
 --   keep b a                      a where the test b passes, else nothing
---   digit b, digit_first bs        is b the byte of a digit; does one stand here
---   digit_run n bs                 the number whose digits stand here, n being what stood before, and the bytes behind it
---   proper_digits bs               do digits stand here, with no leading zero
---   read_count most bs             the number from 0 to `most` that stands here, with the bytes behind it
+--   digit b, digit_first bs       is b the byte of a digit; does one stand here
+--   digit_run n bs                the number whose digits stand here, n being what stood before, and the bytes behind it
+--   proper_digits bs              do digits stand here, with no leading zero
+--   read_count most bs            the number from 0 to `most` that stands here, with the bytes behind it
 --   plain r, negative r           what was read, with no sign before it, and with a minus before it
---   read_number most bs            the number from −most to `most` that stands here, with the bytes behind it
+--   read_number most bs           the number from −most to `most` that stands here, with the bytes behind it
 --   byte c bs                     the bytes behind a byte c
---   read_index bs                  a part, an item or a place and a space, with the bytes behind it
---   read_line, read_lines           a line with the bytes behind it; all lines up to the end
+--   read_index bs                 a part, an item or a place and a space, with the bytes behind it
+--   read_line, read_lines         a line with the bytes behind it; all lines up to the end
 --   begins cs bs                  do the bytes bs begin with the bytes cs
---   begins_with_names text          does a text begin with the names line
---   parsed text, lines_of text     the lines of values, or nothing where a line is not of the stated shape
---   spots_of ls, values_of ls       the spots and the values of lines
---   same_spot, same_spots           are two spots the same; are these the same spots in the same order
---   well_formed text               is every line of the stated shape, and are the first five value lines settings
+--   begins_with_names text        does a text begin with the names line
+--   parsed text, lines_of text    the lines of values, or nothing where a line is not of the stated shape
+--   spots_of ls, values_of ls     the spots and the values of lines
+--   same_spot, same_spots         are two spots the same; are these the same spots in the same order
+--   well_formed text              is every line of the stated shape, and are the first five value lines settings
 --   unsigned most z               z, or one past `most` where z is not from 0 to `most`
 --   column p                      the values of part p
---   unsigned_column most p         the same as numbers from 0 on
---   setting_in most, settings_in    the value of a settings line, and the settings
---   tables_in ls                   the seven tables in the lines
+--   unsigned_column most p        the same as numbers from 0 on
+--   setting_in most, settings_in  the value of a settings line, and the settings
+--   tables_in ls                  the seven tables in the lines
 -- The calls
 --   no_settings                    five zeros
---   loaded N text                 the reader's answer for a refusal N
---   look_refusal, look_answer       a first look at a text's settings
+--   loaded N text                  the reader's answer for a refusal N
+--   look_refusal, look_answer      a first look at a text's settings
 --   entries_refusal                refusals 8, 9 and 10, which reader and writer share
---   text_refusal, read_refusal      the reader's refusals, for a text alone and with the lent tables
---   read_answer, read_exit          the reader's answer, and the seven tables as it leaves them
---   output_refusal, write_refusal   the writer's last refusals, and all of them, for an output slice of `room` bytes
---   written, overwritten          an answer, and an output slice, for a refusal and a text
---   write_answer, write_exit        the writer's answer, and its output slice as it leaves it
---   Reading, reading r            the refusal's number and the values for each case of the number reader's answer
+--   text_refusal, read_refusal     the reader's refusals, for a text alone and with the lent tables
+--   read_answer, read_exit         the reader's answer, and the seven tables as it leaves them
+--   output_refusal, write_refusal  the writer's last refusals, and all of them, for an output slice of `room` bytes
+--   written, overwritten           an answer, and an output slice, for a refusal and a text
+--   write_answer, write_exit       the writer's answer, and its output slice as it leaves it
+--   Reading, reading r             the refusal's number and the values for each case of the number reader's answer
 --   number_answer                  what was read, as that answer
---   read_number_at, read_count_at     the number readers as calls on a limit, a text and a place
+--   read_number_at, read_count_at  the number readers as calls on a limit, a text and a place
 use Rattle.std.specs.Prelude.{Bool, true, false, ◌&&◌, not, ℕ, zero, suc, ◌+◌, ◌*◌, ◌-◌, ◌/◌, ◌%◌, ◌^◌, min, leb, ltb, eqb, length, get_or, take, drop, ℤ, pos, negsuc, neg_ℤ}
 use mathlib.Core.List.{List, [], ◌∷◌, ◌++◌, map, flat_map, zip_with}
 use Rattle.std.proofs.Math.Option

@@ -1,7 +1,7 @@
 -- Lines at wanted spots, among all lines of a text.
 --
 --   lines_before ls o      the lines ls, and then those of o
---   same-spots-..          the test whether spots are the same
+--   same_spots-..          the test whether spots are the same
 --   values-lines           values that were read are those of lines at these spots, and the other lines follow
 --   values-elsewhere       where they were not read, the lines are not at these spots
 --   values-room            every value takes at least eight bytes

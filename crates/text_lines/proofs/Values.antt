@@ -1,9 +1,9 @@
 -- Values of lines at wanted spots, one after the other.
 --
---   same_spot_lem, other_part ..   the test whether two spots are the same, and what it says
---   value-..                   the value of a line at a spot
---   prefix vs o                what was read before, and what is read next
---   values-..                  values of lines, one after the other
+--   same_spot_lem, other_part ..  the test whether two spots are the same, and what it says
+--   value-..                      the value of a line at a spot
+--   prefix vs o                   what was read before, and what is read next
+--   values-..                     values of lines, one after the other
 use mathlib.Core.Path.{◌≡◌, refl, sym, ap, subst, ◌∙◌}
 use mathlib.Core.Bool.{Bool, true, false, ◌&&◌, false≢true}
 use mathlib.Core.List.{List, [], ◌∷◌, ◌++◌, append_assoc, append-nil}

@@ -1,7 +1,7 @@
 -- A run of digits as the code reads it. Its number may be of any size; of one that is past the largest magnitude only that is kept.
 --
 --   past_limit         one past the largest magnitude
---   full              2^60: what a number is held at before it is multiplied by ten
+--   full               2^60: what a number is held at before it is multiplied by ten
 --   kept_run r         what is said of an answer r: its number, or one past the largest magnitude where it is past it
 --   run_answer text r  the answer for the run r: what is kept of its number, and the place behind it
 use Rattle.std.specs.Prelude.{List, ℕ, ◌-◌, min, length}

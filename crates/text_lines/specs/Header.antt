@@ -1,6 +1,6 @@
 -- What the reader of the names line and the settings answers.
 --
---   header_answer text o   its answer for the values and bytes that were read
+--   header_answer text o  its answer for the values and bytes that were read
 --   Begins text S next    the text begins with the settings S, which are allowed, and behind them stands the place next
 use Rattle.std.specs.Prelude.{◌≡◌, true, false, List, ℕ, ◌-◌, length, ℤ}
 use Rattle.std.proofs.Math.Option.{Option, none, some}

@@ -1,7 +1,7 @@
 -- Values of tables that stand one table after the other.
 --
 --   start_next, start_most     where a table ends, and that it ends among the values
---   part_of_holds                    a part of a list by its two ends
+--   part_of_holds              a part of a list by its two ends
 --   piece-joined, start-joined lists one after the other: the list at a place, and how long they are
 --   values-lengths             the lengths of the tables are those of their values
 use mathlib.Core.Path.{◌≡◌, refl, sym, ap, ◌∙◌}

@@ -5,7 +5,7 @@
 --   total n          how many values they have
 --   piece n k vs     the values of the table at place k
 --   joined vs        lists one after the other
---   table_values t    the values of the tables t, table by table
+--   table_values t   the values of the tables t, table by table
 use mathlib.Core.List.{List, flat_map}
 use Rattle.std.specs.Prelude.{ℕ, zero, suc, ◌+◌, get_or, take, drop, ℤ}
 use Rattle.text_format.specs.Text.{Tables, no_settings, contents}

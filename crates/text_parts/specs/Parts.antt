@@ -1,21 +1,21 @@
 -- The parts of a text in the shape in which the code goes through their lines.
 --
---   tables_of              the tables of parts 1 to 7
---   as_shape b             a part as the definitions have it
---   cell_at places p       line p of a part: its item and its place
---   next_cell places c     the line behind a line; a line outside its item, or of the last item that there can be, stays
---   part_shape S P part    the shape of a part
+--   tables_of             the tables of parts 1 to 7
+--   as_shape b            a part as the definitions have it
+--   cell_at places p      line p of a part: its item and its place
+--   next_cell places c    the line behind a line; a line outside its item, or of the last item that there can be, stays
+--   part_shape S P part   the shape of a part
 --   counted S             are depth and rows not more than are allowed, so that items can be counted
---   part_of S P part       the same, and part 0 where they are
---   table_count            7: how many parts there are behind the settings, each with a table
---   lengths_of t           how long the tables are; the table of part k + 1 has place k
---   lengths_are b n        has every table the length of its part, part k being b k
---   lengths_fit S P n      has every table its length
+--   part_of S P part      the same, and part 0 where they are
+--   table_count           7: how many parts there are behind the settings, each with a table
+--   lengths_of t          how long the tables are; the table of part k + 1 has place k
+--   lengths_are b n       has every table the length of its part, part k being b k
+--   lengths_fit S P n     has every table its length
 --   Exact S P t           the lengths of tables that fit
---   tested_by k            the refusal that tests the values of the table at place k; 0 where none does
---   values_room            8,192: the room for the values of every text that is not too long
---   cells_room             as many: the room for each of its tables
---   lent_cells n           how many numbers of a table of n are lent to the reader of such a text
+--   tested_by k           the refusal that tests the values of the table at place k; 0 where none does
+--   values_room           8,192: the room for the values of every text that is not too long
+--   cells_room            as many: the room for each of its tables
+--   lent_cells n          how many numbers of a table of n are lent to the reader of such a text
 use Rattle.std.specs.Prelude.{◌≡◌, Bool, ◌&&◌, List, [], ◌∷◌, ℕ, ◌+◌, ◌/◌, ◌%◌, min, leb, ltb, eqb, length, get_or, ℤ}
 use Rattle.protocol.specs.declared.Settings.{Settings}
 use Rattle.protocol.specs.declared.Parts.{Parts}

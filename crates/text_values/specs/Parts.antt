@@ -1,7 +1,7 @@
 -- The lines behind the settings, and what a reader of lines gives for them.
 --
---   part_spots S P         the spots of the lines behind the settings
---   taken_answer text o    the answer of a reader of lines at wanted spots
+--   part_spots S P        the spots of the lines behind the settings
+--   taken_answer text o   the answer of a reader of lines at wanted spots
 --   Took                  what such a reader promises
 --   RoomFor S P m         a table of m values has room for those of tables that have their lengths
 --   Roomy n m             a table of m values has room for those of a text of n bytes, where it is not too long

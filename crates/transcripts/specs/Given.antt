@@ -1,8 +1,8 @@
 -- What the check of a transcript asks of what it is given; the refusals ensure it.
 --
 --   whole C rounds E           the transcript of one row of these with no final element: no round reads it
---   lent_row S C rounds E f     the transcript of a row, from the parts of the commitment and of the rounds that begin with the row
---   row_at S w C rounds E f i   that of row i, the commitment having its elements w places from each other
+--   lent_row S C rounds E f    the transcript of a row, from the parts of the commitment and of the rounds that begin with the row
+--   row_at S w C rounds E f i  that of row i, the commitment having its elements w places from each other
 --   RoundsGiven S rounds x     the settings are allowed, there are L round polynomials of residues in a row's part of the rounds, and a list of x numbers has an element: the claim
 --   Held S rounds E C C' r     r tells whether every round holds from the claim C on, and where they all do C' is the claim after the last
 --   RowGiven S x ..            so it is with the key of a row and its part of the rounds, there are L challenges, and the final element is among x numbers

@@ -4,9 +4,9 @@
 --   Written P l n s m      m is the room s but for the first n places of strand l; there place k has a number of which P holds
 --   with_product x y s j  the sum s of place j with the product of x and y there added
 --   with_products x y s   the sums s with these products added
---   total s at n         the sum of n numbers of s from place `at` on
---   gathered s z         the list z filled with the sums of the numbers of each place of s, reduced
---   Multiple D F v       v stands for the element F, 2^D times
+--   total s at n          the sum of n numbers of s from place `at` on
+--   gathered s z          the list z filled with the sums of the numbers of each place of s, reduced
+--   Multiple D F v        v stands for the element F, 2^D times
 use Rattle.std.specs.Prelude.{◌≡◌, ℕ, zero, suc, ◌+◌, ◌*◌, ◌/◌, ◌%◌, ◌^◌, ◌<◌, ◌≤◌, List, length, ℤ, pos, slice_index, slice_index_or, unsigned_abs}
 use Rattle.algebra.specs.Ring.{CommRing, two, pow}
 use Rattle.algebra.specs.Integers.{ofℤ}

@@ -1,7 +1,7 @@
 -- Sixteen elements side by side, and sums of products of their transforms.
 --
 --   strands                 16: how many elements are transformed together
---   value_at D F j         the value of the element F of degree 2^D at the root of place j
+--   value_at D F j        the value of the element F of degree 2^D at the root of place j
 --   Room D x              room for sixteen elements of degree 2^D, in numbers that may be transformed
 --   Filled D n F x        such a room whose first n strands stand for the elements F 0, F 1, …, modulo 12289
 --   Values D F x          such a room in which the elements F 0, F 1, … are transformed: each place has their values at its root

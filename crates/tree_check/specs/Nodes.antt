@@ -1,6 +1,6 @@
 -- The check of a tree node by node, as the code goes through it, row by row.
 --
---   tree_row S rounds           the round polynomials of a row, from the part of the table that begins with the row
+--   tree_row S rounds          the round polynomials of a row, from the part of the table that begins with the row
 --   Folding S h space          the key of a node that is h steps above the leaves can be folded in a list of `space` numbers
 --   RootFolding S key space    so can the root's, of `key` numbers, behind room for half of it
 --   RootFolded S e key ws      the list ws, up to the length of the key, has the key folded by X^e in its second half
@@ -10,8 +10,8 @@
 --   Read S h rounds ws         so is every number of the rounds, and of the key of a node that is h steps above the leaves: the second half of ws
 --   Sized S C key ..           the settings are allowed, and the tables of all rows and the commitment by value have so many numbers
 --   TreeGiven S key ..         the settings are allowed, key and rounds are residues, and all tables have their lengths
---   leaf_met S finals j ..      is the end met at leaf j, with its claim and the folded key
---   child_accepted S .. h k j   is every path accepted that goes from node k, h steps above the leaves and with this key, to its child j
+--   leaf_met S finals j ..     is the end met at leaf j, with its claim and the folded key
+--   child_accepted S .. h k j  is every path accepted that goes from node k, h steps above the leaves and with this key, to its child j
 use Rattle.std.specs.Prelude.{◌≡◌, Bool, List, ℕ, suc, ◌+◌, ◌*◌, ◌-◌, ◌^◌, ◌<◌, ◌≤◌, ℤ, length, get_or, take, drop}
 use Rattle.protocol.specs.declared.Settings.{Settings}
 use Rattle.protocol.specs.Element.{signed, residue_at}

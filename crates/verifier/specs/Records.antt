@@ -3,7 +3,7 @@
 --   row_read S C i           the first d places of row i of a commitment
 --   shut_of p, counted_of p e a record beside its claims, closed, and after a round that holds: one round more is done, and its challenge e is stored
 --   started_with, moved_with  the answer of a start, and of a move, with the claims of the next record
---   LastLent S x y          x numbers have the claims, and y numbers an element, where the settings are allowed
+--   LastLent S x y            x numbers have the claims, and y numbers an element, where the settings are allowed
 use Rattle.std.specs.Prelude.{true, List, ◌≡◌, ℕ, ◌+◌, ◌≤◌, get_or, set}
 use Rattle.protocol.specs.declared.Settings.{Settings}
 use Rattle.protocol.specs.declared.Started.{Started}

@@ -1,9 +1,9 @@
 -- What the moves of a session are lent, so that nothing of it is copied: a record in two parts, of which the claims stand in a slice, and elements of all rows in
 -- slices, some places from each other: d in a flat table, `width` by value.
 --
---   record_of p claims          the record whose parts these are
---   lent_rows S w t             the elements by value of each row that stand w places from each other in t
---   lent_polynomial S w c0 ..   the round polynomial of three such slices
+--   record_of p claims         the record whose parts these are
+--   lent_rows S w t            the elements by value of each row that stand w places from each other in t
+--   lent_polynomial S w c0 ..  the round polynomial of three such slices
 --   RowsLent S w n             n numbers have an element of each row, w places from each other
 --   StartLent, RoundLent       so it is with what a start and a round are lent, where the settings are allowed; the claims have their places
 use Rattle.std.specs.Prelude.{List, [], ◌∷◌, ◌≡◌, ℕ, ◌+◌, ◌*◌, ◌≤◌, get_or}
