@@ -9,7 +9,7 @@ overflow_mul-cells : tie.Need-overflow_mul-cells
 overflow_mul-cells c = omega (arith, mul-le-mul c.requires.0 c.requires.1)
 
 overflow_mul-result : tie.Need-overflow_mul-result
-overflow_mul-result c = let s = c in omega (arith, mul-le-mul s.requires.0 s.requires.1)
+overflow_mul-result c = omega (arith, mul-le-mul c.requires.0 c.requires.1)
 
 returns-then-sums : tie.Need-returns-then-sums
 returns-then-sums c = let a = c.args in sym (sums-size a.sums c.if-sums.true a.d a.n)

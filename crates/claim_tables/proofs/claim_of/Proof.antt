@@ -21,13 +21,10 @@ overflow_cast-t c = let a = c.args in record { fits = omega (arith, Nat.div-le_s
 
 returns : tie.Need-returns
 returns c = λ g.
-    let n = c in
-    let e = n in
-    let s = e in
     let a = c.args in
-    let begins = s.row_start-start.ensures.0 g.0.allowed (row_inside a.settings g.0.allowed a.i g.1) in
-    claim_is a.settings a.rounds.now a.challenges.now g.0 a.i g.1 _ begins e.entry-e.ensures n.next_claim.new.claim
-    (n.next_claim.ensures (claim-read a.settings a.rounds.now a.challenges.now g.0 a.i g.1 _ begins _ (search rules)))
+    let begins = c.row_start-start.ensures.0 g.0.allowed (row_inside a.settings g.0.allowed a.i g.1) in
+    claim_is a.settings a.rounds.now a.challenges.now g.0 a.i g.1 _ begins c.entry-e.ensures c.next_claim.new.claim
+    (c.next_claim.ensures (claim-read a.settings a.rounds.now a.challenges.now g.0 a.i g.1 _ begins _ (search rules)))
 
 pub claim_of_spec : {M : Type 1} → statement M
 claim_of_spec =

@@ -32,22 +32,20 @@ loop-i-init c = (omega arith, λ g e. (c.items-total.ensures.0 g.allowed, every-
 
 returns-then-not-item_written : tie.Need-returns-then-not-item_written invariant-loop-i decreases-loop-i
 returns-then-not-item_written c = λ g e.
-    let w = c in
-    let l = w.loop-i in
-    let a = w.args in
+    let l = c.loop-i in
+    let a = c.args in
     let (whole, before) = l.invariant.1 g e in
-    let says = w.item_written.ensures (g, omega arith, e) in
+    let says = c.item_written.ensures (g, omega arith, e) in
     every_fails (item a.settings a.rounds.now a.challenges.now a.claims.now) (claim_items a.settings) l.i (omega arith) (sym says ∙ not-true _ c.if-not-item_written.true-raw)
     ∙ all_written a.settings a.rounds.now a.challenges.now g a.claims.now
 
 loop-i-preserved : tie.Need-loop-i-preserved invariant-loop-i decreases-loop-i
 loop-i-preserved c =
-    let w = c in
-    let l = w.loop-i in (
+    let l = c.loop-i in (
       omega arith,
       λ g e.
           let (whole, before) = l.invariant.1 g e in
-          (whole, every_goes_on _ _ before (sym (w.item_written.ensures (g, omega arith, e)) ∙ not-false _ c.if-not-item_written.false-raw)),
+          (whole, every_goes_on _ _ before (sym (c.item_written.ensures (g, omega arith, e)) ∙ not-false _ c.if-not-item_written.false-raw)),
     )
 
 returns : tie.Need-returns invariant-loop-i decreases-loop-i

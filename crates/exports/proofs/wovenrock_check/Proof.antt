@@ -19,12 +19,9 @@ use Rattle.exports.proofs.wovenrock_check.Tie as tie
 returns-then-refusal-ne0 : tie.Need-returns-then-refusal-ne0
 unfolding check_number check_verdict hasLength
 returns-then-refusal-ne0 c =
-    let at-refusal = c in
-    let at_both = at-refusal in
-    let at-item-cells = at_both in
-    let a = at-item-cells.args in
+    let a = c.args in
     let S = given a.degree a.depth a.modulus a.bound a.rows in
-    let border = both_counted S at-item-cells.item_cells.ensures.0 a.commitment.now a.degree a.last.now at_both.both-fits.ensures at-refusal.refusal-refusal.ensures in
+    let border = both_counted S c.item_cells.ensures.0 a.commitment.now a.degree a.last.now c.both-fits.ensures c.refusal-refusal.ensures in
     let answer = check_answer S (values_of S a.commitment.now) (padded_signed a.degree a.last.now) a.key.now a.rounds.now a.challenges.now in
     let fits = hasLength (item_cells S) a.commitment.now && hasLength a.degree a.last.now in
     let (p, q) = unfit S fits answer.refusal (verdict_number answer.verdict) 0 _ border c.if-refusal-ne0.true in
@@ -33,23 +30,16 @@ returns-then-refusal-ne0 c =
 returns : tie.Need-returns
 unfolding check_number check_verdict check_answer hasLength
 returns c =
-    let at-check = c in
-    let at-wholes = at-check in
-    let at-residues = at-wholes in
-    let at-if1 = at-residues in
-    let at-refusal = at-if1 in
-    let at_both = at-refusal in
-    let at-item-cells = at_both in
-    let a = at-item-cells.args in
+    let a = c.args in
     let S = given a.degree a.depth a.modulus a.bound a.rows in
     let fits = hasLength (item_cells S) a.commitment.now && hasLength a.degree a.last.now in
-    let border = both_counted S at-item-cells.item_cells.ensures.0 a.commitment.now a.degree a.last.now at_both.both-fits.ensures at-refusal.refusal-refusal.ensures in
-    let nothing = at-if1.if-refusal-ne0.false in
+    let border = both_counted S c.item_cells.ensures.0 a.commitment.now a.degree a.last.now c.both-fits.ensures c.refusal-refusal.ensures in
+    let nothing = c.if-refusal-ne0.false in
     let passed = sym border ∙ nothing in
     let (c_long, f_long) = and_split (lent_fits S _ passed) in
-    let commitment = at-residues.residues-c.ensures (lent_allowed S _ passed) (eqb-true _ _ c_long) in
-    let last = at-wholes.wholes-f.ensures (lent_degree S _ passed) (eqb-true _ _ f_long) in
-    let answer = at-check.check_lent-answer.ensures ∙ (λ i. check_answer S (commitment i) (last i) a.key.now a.rounds.now a.challenges.now) in
+    let commitment = c.residues-c.ensures (lent_allowed S _ passed) (eqb-true _ _ c_long) in
+    let last = c.wholes-f.ensures (lent_degree S _ passed) (eqb-true _ _ f_long) in
+    let answer = c.check_lent-answer.ensures ∙ (λ i. check_answer S (commitment i) (last i) a.key.now a.rounds.now a.challenges.now) in
     let N = check_refusal S (values_of S a.commitment.now) a.key.now a.rounds.now a.challenges.now in
     record {
       refusal = ap (λ (r : Checked). r.refusal) answer ∙ lent_passes S fits N passed;

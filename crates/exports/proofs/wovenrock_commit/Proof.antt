@@ -18,11 +18,9 @@ use Rattle.exports.proofs.wovenrock_commit.Tie as tie
 returns-then-refusal-ne0 : tie.Need-returns-then-refusal-ne0
 unfolding commit_number commit_exit hasLength
 returns-then-refusal-ne0 c =
-    let at-refusal = c in
-    let at-item-cells = at-refusal in
-    let a = at-item-cells.args in
+    let a = c.args in
     let S = given a.degree a.depth a.modulus a.bound a.rows in
-    let border = counted S at-item-cells.item_cells.ensures.0 a.commitment.now at-refusal.refusal-refusal.ensures in
+    let border = counted S c.item_cells.ensures.0 a.commitment.now c.refusal-refusal.ensures in
     let answer = commit_answer S a.key.now a.message.now in
     let (p, q) = unfit S (hasLength (item_cells S) a.commitment.now) answer.refusal (together S answer.commitment) a.commitment.now _ border c.if-refusal-ne0.true in
     record { refusal = p; commitment_exit = q }
@@ -31,19 +29,15 @@ returns-then-refusal-ne0 c =
 returns : tie.Need-returns
 unfolding commit_number commit_exit hasLength commit_answer
 returns c =
-    let at-commit = c in
-    let at-if1 = at-commit in
-    let at-refusal = at-if1 in
-    let at-item-cells = at-refusal in
-    let a = at-item-cells.args in
+    let a = c.args in
     let S = given a.degree a.depth a.modulus a.bound a.rows in
     let C = a.commitment.now in
-    let border = counted S at-item-cells.item_cells.ensures.0 C at-refusal.refusal-refusal.ensures in
+    let border = counted S c.item_cells.ensures.0 C c.refusal-refusal.ensures in
     let G = a.key.now in
     let m = a.message.now in
     let answer = commit_answer S G m in
-    let to = at-commit.commit_to in
-    let nothing = at-if1.if-refusal-ne0.false in
+    let to = c.commit_to in
+    let nothing = c.if-refusal-ne0.false in
     let passed = sym border ∙ nothing in
     let long = eqb-true _ _ (lent_fits S _ passed) in
     elim (ℕ_discrete to.result 0) [

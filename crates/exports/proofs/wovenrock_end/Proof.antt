@@ -26,13 +26,12 @@ unfolding end_number end_exit hasLength
 returns-then-answer-ne0 c =
     let at-end = c in
     let at-if1 = at-end in
-    let at-refusal = at-if1 in
-    let a = at-refusal.args in
+    let a = at-if1.args in
     let S = given a.degree a.depth a.modulus a.bound a.rows in
     let answer = end_answer S a.done a.message.now in
     let same = ap (λ (r : Ended). r.refusal) at-end.end-answer.ensures in
     let (p, q) =
-    refused S (hasLength a.degree a.last.now) answer.refusal (take a.degree answer.last) a.last.now _ at-refusal.refusal-refusal.ensures at-if1.if-refusal-ne0.false
+    refused S (hasLength a.degree a.last.now) answer.refusal (take a.degree answer.last) a.last.now _ at-if1.refusal-refusal.ensures at-if1.if-refusal-ne0.false
     _ same c.if-answer-ne0.true in
     record { refusal = p; last_exit = q }
 

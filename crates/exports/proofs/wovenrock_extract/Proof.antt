@@ -20,11 +20,9 @@ refusal-refusal-requires c κs = search rules
 returns-then-refusal-ne0 : tie.Need-returns-then-refusal-ne0
 unfolding extract_number extract_exit hasLength
 returns-then-refusal-ne0 c =
-    let at-refusal = c in
-    let at-item-cells = at-refusal in
-    let a = at-item-cells.args in
+    let a = c.args in
     let S = given a.degree a.depth a.modulus a.bound a.rows in
-    let border = counted S at-item-cells.item_cells.ensures.0 a.commitment.now at-refusal.refusal-refusal.ensures in
+    let border = counted S c.item_cells.ensures.0 a.commitment.now c.refusal-refusal.ensures in
     let C = values_of S a.commitment.now in
     let N = Calls.extract_refusal S C a.key.now a.rounds.now a.challenges.now a.leaves.now a.w.now in
     let exit = Calls.extract_exit S C a.key.now a.rounds.now a.challenges.now a.leaves.now a.w.now in
@@ -43,19 +41,14 @@ shape_of-w c = search rules
 returns : tie.Need-returns
 unfolding extract_number extract_exit Calls.extract_exit hasLength
 returns c =
-    let at-extract = c in
-    let at-residues = at-extract in
-    let at-if1 = at-residues in
-    let at-refusal = at-if1 in
-    let at-item-cells = at-refusal in
-    let a = at-item-cells.args in
+    let a = c.args in
     let S = given a.degree a.depth a.modulus a.bound a.rows in
     let fits = hasLength (item_cells S) a.commitment.now in
-    let border = counted S at-item-cells.item_cells.ensures.0 a.commitment.now at-refusal.refusal-refusal.ensures in
-    let nothing = at-if1.if-refusal-ne0.false in
+    let border = counted S c.item_cells.ensures.0 a.commitment.now c.refusal-refusal.ensures in
+    let nothing = c.if-refusal-ne0.false in
     let passed = sym border ∙ nothing in
-    let commitment = at-residues.residues-c.ensures (lent_allowed S _ passed) (eqb-true _ _ (lent_fits S _ passed)) in
-    let answer = at-extract.extract.ensures in
+    let commitment = c.residues-c.ensures (lent_allowed S _ passed) (eqb-true _ _ (lent_fits S _ passed)) in
+    let answer = c.extract.ensures in
     let N = Calls.extract_refusal S (values_of S a.commitment.now) a.key.now a.rounds.now a.challenges.now a.leaves.now a.w.now in
     record {
       refusal = answer.refusal ∙ ap (λ C. Calls.extract_refusal S C a.key.now a.rounds.now a.challenges.now a.leaves.now a.w.now) commitment ∙ lent_passes S fits N passed;

@@ -24,11 +24,9 @@ refusal-refusal-requires c κs = search rules
 returns-then-refusal-ne0 : tie.Need-returns-then-refusal-ne0
 unfolding judge_number judge_yes hasLength
 returns-then-refusal-ne0 c =
-    let at-refusal = c in
-    let at-item-cells = at-refusal in
-    let a = at-item-cells.args in
+    let a = c.args in
     let S = given a.degree a.depth a.modulus a.bound a.rows in
-    let border = counted S at-item-cells.item_cells.ensures.0 a.commitment.now at-refusal.refusal-refusal.ensures in
+    let border = counted S c.item_cells.ensures.0 a.commitment.now c.refusal-refusal.ensures in
     let answer = judge_answer S (values_of S a.commitment.now) a.slack a.key.now a.w.now in
     let (p, q) = unfit {A = ℕ} S (hasLength (item_cells S) a.commitment.now) answer.refusal (choose answer.yes 1 0) 0 _ border c.if-refusal-ne0.true in
     record { refusal = p; yes_exit = q }
@@ -45,23 +43,18 @@ overflow_cast-yes c = search rules
 returns : tie.Need-returns
 unfolding judge_number judge_yes judge_answer hasLength
 returns c =
-    let at-judge = c in
-    let at-residues = at-judge in
-    let at-if1 = at-residues in
-    let at-refusal = at-if1 in
-    let at-item-cells = at-refusal in
-    let a = at-item-cells.args in
+    let a = c.args in
     let S = given a.degree a.depth a.modulus a.bound a.rows in
     let fits = hasLength (item_cells S) a.commitment.now in
-    let border = counted S at-item-cells.item_cells.ensures.0 a.commitment.now at-refusal.refusal-refusal.ensures in
-    let nothing = at-if1.if-refusal-ne0.false in
+    let border = counted S c.item_cells.ensures.0 a.commitment.now c.refusal-refusal.ensures in
+    let nothing = c.if-refusal-ne0.false in
     let passed = sym border ∙ nothing in
-    let commitment = at-residues.residues-c.ensures (lent_allowed S _ passed) (eqb-true _ _ (lent_fits S _ passed)) in
-    let answer = at-judge.judge-answer.ensures ∙ ap (λ C. judge_answer S C a.slack a.key.now a.w.now) commitment in
+    let commitment = c.residues-c.ensures (lent_allowed S _ passed) (eqb-true _ _ (lent_fits S _ passed)) in
+    let answer = c.judge-answer.ensures ∙ ap (λ C. judge_answer S C a.slack a.key.now a.w.now) commitment in
     let N = judge_refusal S (values_of S a.commitment.now) a.slack a.key.now a.w.now in
     record {
       refusal = ap (λ (r : Judged). r.refusal) answer ∙ lent_passes S fits N passed;
-      yes_exit = as_number at-judge.judge-answer.result.yes ∙ ap (λ (r : Judged). choose r.yes 1 0) answer ∙ agrees S fits N _ _ border nothing;
+      yes_exit = as_number c.judge-answer.result.yes ∙ ap (λ (r : Judged). choose r.yes 1 0) answer ∙ agrees S fits N _ _ border nothing;
     }
 
 pub wovenrock_judge_spec : {M : Type 1} → statement M

@@ -12,50 +12,34 @@ use Rattle.exports.proofs.wovenrock_open.Tie as tie
 returns-then-refusal-ne0 : tie.Need-returns-then-refusal-ne0
 unfolding hasLength
 returns-then-refusal-ne0 c =
-    let at-refusal = c in
-    let at_both = at-refusal in
-    let at-item-cells = at_both in
-    let a = at-item-cells.args in
+    let a = c.args in
     let S = given a.degree a.depth a.modulus a.bound a.rows in
-    let border = both_counted S at-item-cells.item_cells.ensures.0 a.commitment.now a.degree a.last.now at_both.both-fits.ensures at-refusal.refusal-refusal.ensures in
+    let border = both_counted S c.item_cells.ensures.0 a.commitment.now a.degree a.last.now c.both-fits.ensures c.refusal-refusal.ensures in
     open_unfit S a.key.now a.message.now a.challenges.now a.rounds.now a.commitment.now a.last.now _
     border c.if-refusal-ne0.true
 
 returns-then-answer-ne0 : tie.Need-returns-then-answer-ne0
 unfolding hasLength
 returns-then-answer-ne0 c =
-    let at_open = c in
-    let at-if1 = at_open in
-    let at-refusal = at-if1 in
-    let at_both = at-refusal in
-    let at-item-cells = at_both in
-    let a = at-item-cells.args in
+    let a = c.args in
     let S = given a.degree a.depth a.modulus a.bound a.rows in
-    let border = both_counted S at-item-cells.item_cells.ensures.0 a.commitment.now a.degree a.last.now at_both.both-fits.ensures at-refusal.refusal-refusal.ensures in
+    let border = both_counted S c.item_cells.ensures.0 a.commitment.now a.degree a.last.now c.both-fits.ensures c.refusal-refusal.ensures in
     open-refused S a.key.now a.message.now a.challenges.now a.rounds.now a.commitment.now a.last.now _
-    border at-if1.if-refusal-ne0.false _ _ _ _ at_open.open-answer.ensures c.if-answer-ne0.true
+    border c.if-refusal-ne0.false _ _ _ _ c.open-answer.ensures c.if-answer-ne0.true
 
 returns : tie.Need-returns
 unfolding hasLength
 returns c =
-    let at-store-wholes = c in
-    let at-store-residues = at-store-wholes in
-    let at-if2 = at-store-residues in
-    let at_open = at-if2 in
-    let at-if1 = at_open in
-    let at-refusal = at-if1 in
-    let at_both = at-refusal in
-    let at-item-cells = at_both in
-    let a = at-item-cells.args in
+    let a = c.args in
     let S = given a.degree a.depth a.modulus a.bound a.rows in
-    let border = both_counted S at-item-cells.item_cells.ensures.0 a.commitment.now a.degree a.last.now at_both.both-fits.ensures at-refusal.refusal-refusal.ensures in
-    let nothing = at-if1.if-refusal-ne0.false in
+    let border = both_counted S c.item_cells.ensures.0 a.commitment.now a.degree a.last.now c.both-fits.ensures c.refusal-refusal.ensures in
+    let nothing = c.if-refusal-ne0.false in
     let passed = sym border ∙ nothing in
     let (c_long, f_long) = and_split (lent_fits S _ passed) in
     open_made S a.key.now a.message.now a.challenges.now a.rounds.now a.commitment.now a.last.now _ border nothing _ _ _ _
-    at_open.open-answer.ensures at-if2.if-answer-ne0.false _ _ _
-    (at-store-residues.store_residues.ensures (lent_allowed S _ passed) (eqb-true _ _ c_long))
-    (at-store-wholes.store_wholes.ensures (lent_degree S _ passed) (eqb-true _ _ f_long)) c.verdict_number.ensures
+    c.open-answer.ensures c.if-answer-ne0.false _ _ _
+    (c.store_residues.ensures (lent_allowed S _ passed) (eqb-true _ _ c_long))
+    (c.store_wholes.ensures (lent_degree S _ passed) (eqb-true _ _ f_long)) c.verdict_number.ensures
 
 pub wovenrock_open_spec : {M : Type 1} → statement M
 wovenrock_open_spec =

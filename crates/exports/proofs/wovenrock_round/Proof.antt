@@ -45,25 +45,22 @@ returns-then-answer-ne0 c =
 returns : tie.Need-returns
 unfolding round_number round_exit hasLength
 returns c =
-    let at-store-polynomial = c in
-    let at-elements-of = at-store-polynomial in
-    let at-if2 = at-elements-of in
+    let at-if2 = c in
     let at-round = at-if2 in
-    let at-if1 = at-round in
-    let at-refusal = at-if1 in
+    let at-refusal = at-round in
     let at-item-cells = at-refusal in
     let a = at-item-cells.args in
     let S = given a.degree a.depth a.modulus a.bound a.rows in
     let border = counted S (λ z. ap (λ n. 3 * n) (at-item-cells.item_cells.ensures.0 z)) a.polynomial.now at-refusal.refusal-refusal.ensures in
     let answer = round_answer S a.done a.key.now a.message.now in
     let given-answer = at-round.round-answer.ensures in
-    let nothing = at-if1.if-refusal-ne0.false in
+    let nothing = at-round.if-refusal-ne0.false in
     let passed = sym border ∙ nothing in
-    let stored = at-store-polynomial.store_polynomial.ensures (lent_allowed S _ passed) (eqb-true _ _ (lent_fits S _ passed)) in
+    let stored = c.store_polynomial.ensures (lent_allowed S _ passed) (eqb-true _ _ (lent_fits S _ passed)) in
     let (p, q) =
     made S (hasLength (polynomial_cells S) a.polynomial.now) answer.refusal (laid S answer.elements) a.polynomial.now _ border nothing
     _ (ap (λ (r : Polynomial). r.refusal) given-answer) at-if2.if-answer-ne0.false _
-    (stored ∙ ap (laid S) (at-elements-of.elements_of-elements.ensures ∙ ap (λ (r : Polynomial). r.elements) given-answer)) in
+    (stored ∙ ap (laid S) (c.elements_of-elements.ensures ∙ ap (λ (r : Polynomial). r.elements) given-answer)) in
     record { refusal = p; polynomial_exit = q }
 
 pub wovenrock_round_spec : {M : Type 1} → statement M

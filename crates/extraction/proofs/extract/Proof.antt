@@ -34,11 +34,10 @@ returns-then-r14-ne0 c = refused _ _ _ _ _ _ _ _ (number c.before) c.if-r14-ne0.
 
 root-requires : tie.Need-root-requires
 root-requires c κs =
-    let no = c in
-    (extractable _ _ _ _ _ _ _ (sym (number no.before.before) ∙ no.if-r14-ne0.false), (given no.before.before.before.before.before.before).lengths.w_long)
+    (extractable _ _ _ _ _ _ _ (sym (number c.before.before) ∙ c.if-r14-ne0.false), (given c.before.before.before.before.before.before).lengths.w_long)
 
 returns : tie.Need-returns
-returns c = let no = c in extracted _ _ _ _ _ _ _ (sym (number no.before.before.before.before) ∙ no.if-r14-ne0.false) _ c.root.ensures
+returns c = extracted _ _ _ _ _ _ _ (sym (number c.before.before.before.before) ∙ c.if-r14-ne0.false) _ c.root.ensures
 
 pub extract_spec : {M : Type 1} → statement M
 extract_spec =

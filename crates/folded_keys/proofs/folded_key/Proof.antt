@@ -44,10 +44,9 @@ summable S key E g n is sums room empty = record {
 
 returns-then-settings-le-GATHERED_MOST : tie.Need-returns-then-settings-le-GATHERED_MOST
 returns-then-settings-le-GATHERED_MOST c = λ g.
-    let prepared = c in
-    let n = prepared.gather_elements in
-    let t = prepared.turns-n in
-    let a = prepared.args in
+    let n = c.gather_elements in
+    let t = c.turns-n in
+    let a = c.args in
     let S = a.settings in
     let key = a.key.now in
     let r = ready S g.allowed in
@@ -56,8 +55,8 @@ returns-then-settings-le-GATHERED_MOST c = λ g.
     let x = t.new.x in
     let few : t.result ≤ 256 = omega (arith, t.ensures.0, pow-le-pow_right {n = 2} (omega arith) {i = S.depth} {j = 8} r.depth_most) in
     let sums = n.ensures (summable S key a.challenges.now g t.result t.ensures.0 _
-    (omega (arith, r.degree_most, slice_bounds-gather_elements-end-then-settings-le-GATHERED_MOST prepared.before.before.before.before.before.before.before)) (λ k l. get_or-replicate width k 0 0 (omega (arith, r.degree_most)))) in
-    let ready-joint = prepared.prepare-joint.ensures (record { positive = pq; most = omega (arith, r.modulus_most_holds) }) in
+    (omega (arith, r.degree_most, slice_bounds-gather_elements-end-then-settings-le-GATHERED_MOST c.before.before.before.before.before.before.before)) (λ k l. get_or-replicate width k 0 0 (omega (arith, r.degree_most)))) in
+    let ready-joint = c.prepare-joint.ensures (record { positive = pq; most = omega (arith, r.modulus_most_holds) }) in
     let stand = gathered-stand S key x t.result pd (below-everywhere S.modulus _ key pq g.key_below) few (omega arith) n.new.sums (replicate (width + 1) 0)
     (omega (arith, r.degree_most, slice_bounds-join_all-end c.before.before)) (omega (arith, r.degree_most, slice_bounds-join_all-end-then-settings-le-GATHERED_MOST c.before))
     (λ k l. get_or-replicate (width + 1) k 0 0 (omega (arith, r.degree_most))) sums in

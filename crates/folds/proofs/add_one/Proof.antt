@@ -4,7 +4,7 @@ use Rattle.folds.proofs.add_one.Statement.{statement}
 use Rattle.folds.proofs.add_one.Tie as tie
 
 returns : tie.Need-returns
-returns c = let s = c in added_one s.args.place s.args.t.now _ s.requires.1 c.signed_sum.ensures
+returns c = added_one c.args.place c.args.t.now _ c.requires.1 c.signed_sum.ensures
 
 pub add_one_spec : {M : Type 1} → statement M
 add_one_spec =

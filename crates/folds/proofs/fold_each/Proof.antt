@@ -12,27 +12,24 @@ use Rattle.folds.proofs.fold_each.Tie as tie
 
 add_part-requires : tie.Need-add_part-requires
 add_part-requires c κs =
-    let s = c in
-    let a = s.args in
+    let a = c.args in
     let r = c.row_start-s in
-    (s.requires.0, s.requires.1, s.requires.3, r.ensures.0, first_apart a.d a.h r.result a.to _ a.second _ r.ensures.0 refl s.requires.4 s.requires.5)
+    (c.requires.0, c.requires.1, c.requires.3, r.ensures.0, first_apart a.d a.h r.result a.to _ a.second _ r.ensures.0 refl c.requires.4 c.requires.5)
 
 add_part-requires-2 : tie.Need-add_part-requires-2
 add_part-requires-2 c κs =
-    let s = c in
-    let a = s.args in
+    let a = c.args in
     let r = c.row_start-s in
     let first = c.add_part.ensures in
-    (s.requires.0, s.requires.1, s.requires.3, omega arith, last_apart a.d a.h r.result a.to _ a.second _ r.ensures.0 refl s.requires.4 (omega (arith, s.requires.5, first.long)))
+    (c.requires.0, c.requires.1, c.requires.3, omega arith, last_apart a.d a.h r.result a.to _ a.second _ r.ensures.0 refl c.requires.4 (omega (arith, c.requires.5, first.long)))
 
 returns : tie.Need-returns
 unfolding fold_halves
 returns c = λ f.
     let r = c.row_start-s in
-    let s = c in
-    let a = s.args in
-    turned-half 0 pos (modulo a.q) (BothBelow a.q) a.d a.h a.e r.result a.to _ a.second s.requires.2 r.ensures.0 (r.ensures.1 s.requires.2) refl a.t.now _ _
-    s.requires.4 s.requires.5 c.add_part.ensures c.add_part-2.ensures
+    let a = c.args in
+    turned-half 0 pos (modulo a.q) (BothBelow a.q) a.d a.h a.e r.result a.to _ a.second c.requires.2 r.ensures.0 (r.ensures.1 c.requires.2) refl a.t.now _ _
+    c.requires.4 c.requires.5 c.add_part.ensures c.add_part-2.ensures
     (λ x y lx ly. record { left = f.first.each x lx; right = f.last.each y ly })
 
 pub fold_each_spec : {M : Type 1} → statement M

@@ -10,9 +10,8 @@ use Rattle.folds.proofs.fold_elements.Tie as tie
 
 fold_each-requires : tie.Need-fold_each-requires
 fold_each-requires c κs =
-    let s = c in
     let once = c.on_circle-once in
-    (s.requires.0, s.requires.1, omega (arith, once.ensures.0 (s.requires.0, s.requires.1), mod-lt s.args.e {m = 2 * s.args.d} (omega arith)), s.requires.2, search rules, search rules)
+    (c.requires.0, c.requires.1, omega (arith, once.ensures.0 (c.requires.0, c.requires.1), mod-lt c.args.e {m = 2 * c.args.d} (omega arith)), c.requires.2, search rules, search rules)
 
 returns : tie.Need-returns
 returns c = λ f.

@@ -37,8 +37,7 @@ every_row_opens-requires c κs = (given c.before.before.before.before).rows_give
 
 returns : tie.Need-returns
 returns c =
-    let no = c in
-    judge_done _ _ _ _ _ (passed no.before.before.before.before.before) _ (within _ _ _ _ _ _ (sym (tested no.before.before.before) ∙ not-false _ no.if-not-all_within_wide.false-raw) c.every_row_opens.ensures)
+    judge_done _ _ _ _ _ (passed c.before.before.before.before.before) _ (within _ _ _ _ _ _ (sym (tested c.before.before.before) ∙ not-false _ c.if-not-all_within_wide.false-raw) c.every_row_opens.ensures)
 
 pub judge_spec : {M : Type 1} → statement M
 judge_spec =

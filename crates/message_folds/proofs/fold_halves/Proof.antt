@@ -12,23 +12,21 @@ use Rattle.message_folds.proofs.fold_halves.Tie as tie
 
 add_part-requires : tie.Need-add_part-requires
 add_part-requires c κs =
-    let s = c in
-    let a = s.args in
+    let a = c.args in
     let r = c.row_start-s in
-    (s.requires.0, s.requires.1, s.requires.2, r.ensures.0, first_apart a.d a.h r.result 0 r.result (a.h * a.d) _ r.ensures.0 (omega arith) (omega arith) (omega (arith, s.requires.4)))
+    (c.requires.0, c.requires.1, c.requires.2, r.ensures.0, first_apart a.d a.h r.result 0 r.result (a.h * a.d) _ r.ensures.0 (omega arith) (omega arith) (omega (arith, c.requires.4)))
 
 add_part-requires-2 : tie.Need-add_part-requires-2
 add_part-requires-2 c κs =
-    let s = c in
-    let a = s.args in
+    let a = c.args in
     let r = c.row_start-s in
     let first = c.add_part.ensures in (
-      s.requires.0,
-      s.requires.1,
-      s.requires.2,
+      c.requires.0,
+      c.requires.1,
+      c.requires.2,
       omega arith,
       last_apart a.d a.h r.result 0 r.result (a.h * a.d) _ r.ensures.0 (omega arith) (omega arith)
-          (omega (arith, s.requires.4, first.long)),
+          (omega (arith, c.requires.4, first.long)),
     )
 
 returns : tie.Need-returns

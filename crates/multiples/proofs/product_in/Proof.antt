@@ -5,13 +5,12 @@ use Rattle.multiples.proofs.product_in.Tie as tie
 
 returns : tie.Need-returns
 returns c = λ g.
-    let s = c in
-    let a = s.args in
+    let a = c.args in
     let ok = g.0 in
     c.sums_are.ensures (product a.d (signed a.f.now) (residue a.g.now)) (a.d * ok.magnitude) (
       record { positive = ok.elements.modulus; most = omega (arith, ok.modulus_most_holds) },
       omega (arith, mul-le-mul {n₁ = a.d} {m₁ = ok.magnitude} {n₂ = width} {m₂ = 2 ^ 16} ok.elements.degree_most ok.magnitude_most),
-      c.add_product.ensures ok (g.1, s.requires.4, g.3, g.4),
+      c.add_product.ensures ok (g.1, c.requires.4, g.3, g.4),
       g.2,
     )
 

@@ -10,8 +10,8 @@ unfolding zeros signed_zeros width
 returns-then-refusal-ne0 c = opening-refused _ _ _ _ _ _ c.open-refusal.ensures c.if-refusal-ne0.true
 
 returns : tie.Need-returns
-returns c = let no = c in c.opened.ensures
-    (sym no.open-refusal.ensures ∙ no.if-refusal-ne0.false)
+returns c = c.opened.ensures
+    (sym c.open-refusal.ensures ∙ c.if-refusal-ne0.false)
 
 pub open_spec : {M : Type 1} → statement M
 open_spec =

@@ -81,12 +81,9 @@ prover-turn-same-length-4 t c = search rules
 
 prover-turn-returns-2 : (t : ℕ) → prover-turn-lts.Need-returns (prover-calls t) (prover-turn-at t) prover-turn.Post
 prover-turn-returns-2 t c =
-    let rest = c in
-    let proved = rest in
-    let read = proved in
-    let a = read.args in
+    let a = c.args in
     prover_goes a.settings a.challenges.now a.state a.claims.now a.key.now a.message.now a.rounds.now (omega arith) _ _ _ _ _ _ _ _ _
-    read.entry-e.ensures proved.prove_round.ensures rest.verifier_turn.ensures
+    c.entry-e.ensures c.prove_round.ensures c.verifier_turn.ensures
 
 verifier-turn-check-round-requires : (t : ℕ) → verifier-turn-lts.Need-check_round-next-requires (verifier-calls t) (verifier-turn-at t) verifier-turn.Post
 verifier-turn-check-round-requires t c κs = omega arith
@@ -108,11 +105,9 @@ verifier-turn-same-length-4 t c = search rules
 
 verifier-turn-returns : (t : ℕ) → verifier-turn-lts.Need-returns (verifier-calls t) (verifier-turn-at t) verifier-turn.Post
 verifier-turn-returns t c =
-    let rest = c in
-    let checked = rest in
-    let a = checked.args in
+    let a = c.args in
     verifier_goes a.settings a.challenges.now a.state a.claims.now a.key.now a.message.now a.rounds.now (omega arith) a.e _ _ _ _ _ _ _
-    checked.check_round-next.ensures rest.prover_turn.ensures
+    c.check_round-next.ensures c.prover_turn.ensures
 
 pub +prover_turn_verifier_turn_spec : {M : Type 1} → statement M
 +prover_turn_verifier_turn_spec = close μ-prover-turn μ-verifier-turn (λ t. prover-turn-lts.spec (prover-calls t)

@@ -9,17 +9,16 @@ use Rattle.plain_products.proofs.inner_in.Tie as tie
 
 returns : tie.Need-returns
 returns c = λ G z.
-    let s = c in
-    let a = s.args in
+    let a = c.args in
     let known = first_known a.sums a.q a.d a.n a.rows a.stride a.f.now a.g.now G z.0 in
     let sum = c.sum_products in
     let F : ℕ → Element = λ r. inner a.d a.n (messages_of a.sums a.d a.n a.f.now) (keys_of a.sums a.q a.d a.n (G r)) in
     c.write_rows.ensures F (
       record { positive = known.modulus; most = known.modulus_most_holds },
-      s.requires.0,
-      s.requires.1,
-      omega (arith, s.requires.5.lowers, sum.auto.s),
-      omega (arith, s.requires.5.uppers, sum.auto.t),
+      c.requires.0,
+      c.requires.1,
+      omega (arith, c.requires.5.lowers, sum.auto.s),
+      omega (arith, c.requires.5.uppers, sum.auto.t),
       z.1,
       sum.ensures G (z.0, z.2, z.3),
     )

@@ -24,12 +24,11 @@ returns-then-g-long : tie.Need-returns-then-g-long
 returns-then-g-long c = λ G z. absurd (omega (arith, c.size-long.ensures, z.0.long 0 z.0.some))
 
 overflow_mul-cells : tie.Need-overflow_mul-cells
-overflow_mul-cells c = let s = c in let a = s.args in omega (arith, cells_most_lem a.rows a.d (omega arith) (omega arith))
+overflow_mul-cells c = let a = c.args in omega (arith, cells_most_lem a.rows a.d (omega arith) (omega arith))
 
 inner_in-requires : tie.Need-inner_in-requires
 inner_in-requires c κs =
-    let s = c in
-    let a = s.args in
+    let a = c.args in
     let long = c.size-long.ensures in
     let small = leb-true a.d 16 c.if-d-le-FEW.true-raw in
     let few = cells_most_lem a.rows a.d (omega arith) (omega arith) in (
@@ -50,8 +49,7 @@ inner_in-requires c κs =
 
 inner_in-requires-then-cells-le-WIDTH : tie.Need-inner_in-requires-then-cells-le-WIDTH
 inner_in-requires-then-cells-le-WIDTH c κs =
-    let s = c in
-    let a = s.args in
+    let a = c.args in
     let long = c.size-long.ensures in
     let few = cells_most_lem a.rows a.d (omega arith) (omega arith) in (
       omega arith,
@@ -71,8 +69,7 @@ inner_in-requires-then-cells-le-WIDTH c κs =
 
 inner_in-requires-2 : tie.Need-inner_in-requires-2
 inner_in-requires-2 c κs =
-    let s = c in
-    let a = s.args in
+    let a = c.args in
     let long = c.size-long.ensures in
     let few = cells_most_lem a.rows a.d (omega arith) (omega arith) in (
       omega arith,

@@ -6,10 +6,10 @@ use Rattle.plain_products.proofs.size.Statement.{statement}
 use Rattle.plain_products.proofs.size.Tie as tie
 
 overflow_mul-cells : tie.Need-overflow_mul-cells
-overflow_mul-cells c = let s = c in omega (arith, mul-le-mul {n₁ = s.args.n} {m₁ = s.args.d} {n₂ = 4294967295} {m₂ = width} (omega arith) s.requires)
+overflow_mul-cells c = omega (arith, mul-le-mul {n₁ = c.args.n} {m₁ = c.args.d} {n₂ = 4294967295} {m₂ = width} (omega arith) c.requires)
 
 overflow_mul-result : tie.Need-overflow_mul-result
-overflow_mul-result c = let s = c in omega (arith, mul-le-mul {n₁ = s.args.n} {m₁ = s.args.d} {n₂ = 4294967295} {m₂ = width} (omega arith) s.requires)
+overflow_mul-result c = omega (arith, mul-le-mul {n₁ = c.args.n} {m₁ = c.args.d} {n₂ = 4294967295} {m₂ = width} (omega arith) c.requires)
 
 returns-then-sums : tie.Need-returns-then-sums
 unfolding size_of

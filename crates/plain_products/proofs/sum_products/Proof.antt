@@ -27,8 +27,7 @@ add_products-requires c κs =
 -- by columns
 returns-then-q-lt4294967296 : tie.Need-returns-then-q-lt4294967296
 returns-then-q-lt4294967296 c = λ G z.
-    let s = c in
-    let a = s.args in
+    let a = c.args in
     one_summed a.sums a.q a.d a.n a.rows a.stride a.f.now a.g.now G z.0
     (eqb-true _ _ c.if-rows-eq1.true-raw) _ _
     (c.add_products.ensures a.d a.t.now (
@@ -43,14 +42,13 @@ returns-then-q-lt4294967296 c = λ G z.
 -- by rows
 returns : tie.Need-returns
 returns c = λ G z.
-    let s = c in
-    let a = s.args in
+    let a = c.args in
     let known = first_known a.sums a.q a.d a.n a.rows a.stride a.f.now a.g.now G z.0 in
     record {
       count = a.n * (a.d * known.magnitude);
       few = known.few;
       stands = c.add_elements.ensures
-          G known.magnitude (z.0, known.within, s.requires.5, z.1, z.2);
+          G known.magnitude (z.0, known.within, c.requires.5, z.1, z.2);
     }
 
 pub sum_products_spec : {M : Type 1} → statement M

@@ -43,8 +43,7 @@ decreases-loop-r q d rows s t out₀ joint cells at₀ r₀ out at r = rows - r
 
 loop-r-init : tie.Need-loop-r-init invariant-loop-r decreases-loop-r
 loop-r-init c =
-    let s = c in
-    let a = s.args in (
+    let a = c.args in (
       omega arith,
       omega arith,
       refl,
@@ -56,8 +55,8 @@ loop-r-init c =
     )
 
 returns-then-out-at : tie.Need-returns-then-out-at invariant-loop-r decreases-loop-r
-returns-then-out-at c = λ F z. let s = c in let l = c.loop-r in absurd
-    (omega (arith, (l.invariant.3 F z).0, row_inside s.args.d s.args.rows l.r (omega arith), z.5))
+returns-then-out-at c = λ F z. let l = c.loop-r in absurd
+    (omega (arith, (l.invariant.3 F z).0, row_inside c.args.d c.args.rows l.r (omega arith), z.5))
 
 reduced-places : (q d : ℕ) (F : Element) (out : List ℕ) → filled (λ k. modulo q (F k)) d out ≡ filled (element_places (reduced q d F)) d out
 unfolding reduced
@@ -65,8 +64,7 @@ reduced-places q d F out = filled_ext _ _ d out (λ k h. sym (tabulate_at d (λ 
 
 loop-r-preserved : tie.Need-loop-r-preserved invariant-loop-r decreases-loop-r
 loop-r-preserved c =
-    let s = c in
-    let a = s.args in
+    let a = c.args in
     let l = c.loop-r in
     let join = c.join_strand in (
       omega arith,
@@ -89,8 +87,7 @@ loop-r-preserved c =
 
 returns : tie.Need-returns invariant-loop-r decreases-loop-r
 returns c = λ F z.
-    let s = c in
-    let a = s.args in
+    let a = c.args in
     let l = c.loop-r in
     (l.invariant.3 F z).1 ∙ ap (λ m. filled (row_places a.d (λ i. reduced a.q a.d (F i))) (m * a.d) a.out.now) {x = l.r} {y = a.rows} (omega arith)
 

@@ -29,8 +29,7 @@ returns-then-d-gt-WIDTH c = λ G m z. absurd (omega (arith, (first_known _ _ _ _
 
 loop-i-init : tie.Need-loop-i-init invariant-loop-i decreases-loop-i
 loop-i-init c =
-    let s = c in
-    let a = s.args in (
+    let a = c.args in (
       omega arith,
       refl,
       refl,
@@ -45,8 +44,7 @@ loop-i-init c =
 
 loop-i-preserved : tie.Need-loop-i-preserved invariant-loop-i decreases-loop-i
 loop-i-preserved c =
-    let s = c in
-    let a = s.args in
+    let a = c.args in
     let l = c.loop-i in
     let test = c.loop-i-test.true in
     let one = c.add_element in (
@@ -76,8 +74,7 @@ loop-i-preserved c =
 
 returns : tie.Need-returns invariant-loop-i decreases-loop-i
 returns c = λ G m z.
-    let s = c in
-    let a = s.args in
+    let a = c.args in
     let l = c.loop-i in
     subst (λ n. Stands a.q (a.d * a.rows) (woven a.rows (λ r. inner a.d n (messages_of a.sums a.d a.n a.f.now) (keys_of a.sums a.q a.d a.n (G r))))
     (n * (a.d * m)) l.s l.t)

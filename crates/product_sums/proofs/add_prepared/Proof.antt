@@ -13,23 +13,21 @@ returns-then-strands-gt-ROWS c = λ F G count m z. absurd (omega (arith, z.0.str
 -- in one run
 returns-then-q-lt4294967296 : tie.Need-returns-then-q-lt4294967296
 returns-then-q-lt4294967296 c = λ F G count m z.
-    let s = c in
-    let a = s.args in
+    let a = c.args in
     let ok = z.0 in
     lower-stand a.q a.strands a.d m a.f.now _ _ ok F G count a.x.now a.s.now a.t.now z.1 z.2 (omega arith) _
     (c.add_product.ensures (record { some = ok.some; strands = ok.strands; degree = ok.degree_most; coefficients = ok.long; residues = z.1.places; sums = ok.lowers }))
 
 overflow_mul-d : tie.Need-overflow_mul-d
-overflow_mul-d c = let s = c in omega (arith, cells_most_lem s.args.strands s.args.d (omega arith) (omega arith))
+overflow_mul-d c = omega (arith, cells_most_lem c.args.strands c.args.d (omega arith) (omega arith))
 
 overflow_mul-d-2 : tie.Need-overflow_mul-d-2
-overflow_mul-d-2 c = let s = c in omega (arith, cells_most_lem s.args.strands s.args.d (omega arith) (omega arith))
+overflow_mul-d-2 c = omega (arith, cells_most_lem c.args.strands c.args.d (omega arith) (omega arith))
 
 -- in two
 returns : tie.Need-returns
 returns c = λ F G count m z.
-    let s = c in
-    let a = s.args in
+    let a = c.args in
     let ok = z.0 in
     both_stand a.q a.strands a.d m a.f.now _ _ ok F G count a.x.now a.s.now a.t.now z.1 z.2 _ _ _
     (c.upper_halves.ensures z.1.places)

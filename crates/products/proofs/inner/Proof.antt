@@ -11,8 +11,7 @@ use Rattle.products.proofs.inner.Tie as tie
 returns : tie.Need-returns
 unfolding zeros messages_of keys_of
 returns c = λ z.
-    let s = c in
-    let a = s.args in
+    let a = c.args in
     c.inner_rows.ensures (λ _. a.g.now) (row_given a.q a.d a.n a.f.now a.g.now z, omega (arith, z.elements.degree_most))
     ∙ one_row_lem a.q a.d (inner a.d a.n (signed_at a.d a.f.now) (residue_at a.d a.g.now))
 

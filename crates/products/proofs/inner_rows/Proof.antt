@@ -21,8 +21,7 @@ Become sums level d n rows stride f g out after q = (G : ℕ → List ℕ) → R
 
 returns : tie.Need-returns
 returns c = λ G z.
-    let s = c in
-    let a = s.args in
+    let a = c.args in
     let e = c.level-level.ensures (omega arith) in
     subst (Become a.sums _ a.d a.n a.rows a.stride a.f.now a.g.now a.out.now _) {x = 12289} {y = a.q} (sym e.modulus)
     c.transformed_rows.ensures G (z.0, z.1, e)

@@ -38,8 +38,7 @@ returns-then-out-at c = λ f G z. absurd (omega (arith, table_room _ _ _ _ _ (c.
 
 loop-r-preserved : tie.Need-loop-r-preserved invariant-loop-r decreases-loop-r
 loop-r-preserved c =
-    let s = c in
-    let a = s.args in
+    let a = c.args in
     let l = c.loop-r in
     let store = c.store in
     let next = c.further-from in (
@@ -68,8 +67,7 @@ loop-r-preserved c =
 
 returns : tie.Need-returns invariant-loop-r decreases-loop-r
 returns c = λ f G z.
-    let s = c in
-    let a = s.args in
+    let a = c.args in
     let l = c.loop-r in
     (l.invariant.4 f G z).is ∙ ap (λ m. filled (row_places a.d (λ i. inner_element a.sums 12289 a.d a.n f (G i))) (m * a.d) a.out.now) {x = l.r} {y = a.rows} (omega arith)
 

@@ -22,10 +22,8 @@ slice_bounds-store-end c = sym (length-take-le _ _ (room c.before))
 
 returns : tie.Need-returns
 returns c = λ g.
-    let s = c in
-    let e = s in
-    let lent = length-take-le _ _ (room e.before.before.before) ∙ e.claim_cells-count.ensures g.allowed in
-    take_at s.store.new.claims _ _ (c.table-2-1.given ∙ lent) ∙ s.store.ensures g lent
+    let lent = length-take-le _ _ (room c.before.before.before) ∙ c.claim_cells-count.ensures g.allowed in
+    take_at c.store.new.claims _ _ (c.table-2-1.given ∙ lent) ∙ c.store.ensures g lent
 
 pub claims_of_spec : {M : Type 1} → statement M
 claims_of_spec = tie.close (tie.spec (λ c κs. search rules) returns-then-count-gt-ROOM (λ c. search rules) slice_bounds-store-end (λ c κs. search rules) returns)

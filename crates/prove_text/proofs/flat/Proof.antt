@@ -16,10 +16,8 @@ slice_bounds-store_residues-end c = sym (length-take-le _ _ (room c.before))
 
 returns : tie.Need-returns
 returns c e =
-    let s = c in
-    let i = s in
-    let lent = length-take-le _ _ (room i.before.before.before) ∙ i.item_cells-count.ensures.0 e in
-    take_at s.store_residues.new.out _ _ (c.table-2-1.given ∙ lent) ∙ s.store_residues.ensures e lent
+    let lent = length-take-le _ _ (room c.before.before.before) ∙ c.item_cells-count.ensures.0 e in
+    take_at c.store_residues.new.out _ _ (c.table-2-1.given ∙ lent) ∙ c.store_residues.ensures e lent
 
 pub flat_spec : {M : Type 1} → statement M
 flat_spec = tie.close (tie.spec (λ c κs. search rules) (λ c. search rules) slice_bounds-store_residues-end (λ c κs. search rules) returns)

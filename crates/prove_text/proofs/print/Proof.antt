@@ -11,15 +11,12 @@ use Rattle.prove_text.proofs.print.Tie as tie
 
 within : (c : tie.Else-refusal-ne0) → c.prove-written.result.count ≤ length c.prove-written.new.out
 unfolding text_limit
-within c = let p = c in listing-within _ _ _ p.prove-written.result p.prove-written.ensures (search) c.if-refusal-ne0.false
+within c = listing-within _ _ _ c.prove-written.result c.prove-written.ensures (search) c.if-refusal-ne0.false
 
 returns-then-refusal-ne0 : tie.Need-returns-then-refusal-ne0
 unfolding text_limit
 returns-then-refusal-ne0 c =
-    let s = c in
-    let t = s in
-    let p = t in
-    shown-told (shown_as (prints-refusal _ _ _ p.prove-written.result p.prove-written.ensures (search) t.if-refusal-ne0.true) s.show_refusal.ensures)
+    shown-told (shown_as (prints-refusal _ _ _ c.prove-written.result c.prove-written.ensures (search) c.if-refusal-ne0.true) c.show_refusal.ensures)
 
 slice_bounds-listing-end : tie.Need-slice_bounds-listing-end
 slice_bounds-listing-end c = within c
@@ -30,10 +27,7 @@ slice_bounds-show-end c = sym (length-take-le _ _ (within c.before))
 returns : tie.Need-returns
 unfolding text_limit
 returns c =
-    let s = c in
-    let e = s in
-    let p = e in
-    shown-told (shown_as (prints-listing _ _ _ p.prove-written.result p.prove-written.ensures (search) e.if-refusal-ne0.false) s.show.ensures)
+    shown-told (shown_as (prints-listing _ _ _ c.prove-written.result c.prove-written.ensures (search) c.if-refusal-ne0.false) c.show.ensures)
 
 pub print_spec : {M : Type 1} → statement M
 print_spec =

@@ -107,9 +107,9 @@ module _ (c : tie.After-item_cells-item_cells) where
 
 slice_bounds-write_tables-end-3 : tie.Need-slice_bounds-write_tables-end-3
 slice_bounds-write_tables-end-3 c =
-    let i = c in
-    let long : length (made i.before.before.before.before.before).flat-table.result ≡ rows_width = search in
-    sym (length-take-le _ _ (omega (arith, room i.before.before.before.before.before)))
+    let i = c.before.before.before.before.before in
+    let long : length (made i).flat-table.result ≡ rows_width = search in
+    sym (length-take-le _ _ (omega (arith, room i)))
 
 slice_bounds-last-end : tie.Need-slice_bounds-last-end
 slice_bounds-last-end c = (last_given c.before.before.before.before.before.before.before.before.before.before.before.before.before.before.before.before).0
@@ -121,10 +121,10 @@ claims-long : (i : tie.After-item_cells-item_cells) → length (claimed-in i).cl
 claims-long i = search
 
 slice_bounds-claims-end : tie.Need-slice_bounds-claims-end
-slice_bounds-claims-end c = let i = c in omega (arith, claim-room i.before.before.before.before.before.before, claims-long i.before.before.before.before.before.before)
+slice_bounds-claims-end c = let i = c.before.before.before.before.before.before in omega (arith, claim-room i, claims-long i)
 
 slice_bounds-write_tables-end-5 : tie.Need-slice_bounds-write_tables-end-5
-slice_bounds-write_tables-end-5 c = let i = c in sym (length-take-le _ _ (omega (arith, claim-room i.before.before.before.before.before.before.before, claims-long i.before.before.before.before.before.before.before)))
+slice_bounds-write_tables-end-5 c = let i = c.before.before.before.before.before.before.before in sym (length-take-le _ _ (omega (arith, claim-room i, claims-long i)))
 
 -- the opening keeps the lengths of its tables
 opening_of : tie.After-slice_known-6-1 → tie.After-opened-transcript

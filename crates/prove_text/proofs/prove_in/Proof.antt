@@ -63,29 +63,28 @@ module _ (c : tie.Else-refusal-ne0) where
 
 returns-then-refusal-ne0 : tie.Need-returns-then-refusal-ne0
 returns-then-refusal-ne0 c =
-    let r = c in
-    prove-refused (text r.before.before.before.before.before.before.before.before.before.before) (start r.before.before.before.before.before.before.before.before.before.before).args.out.now r.read_tables-loaded.result.refusal c.if-refusal-ne0.true (sym (number_is (text r.before.before.before.before.before.before.before.before.before.before) prove_reads (t r.before.before.before.before.before.before.before.before.before.before) (t' r.before.before.before.before.before.before.before.before.before.before) (fit r.before.before.before.before.before.before.before.before.before.before) r.read_tables-loaded.result (promise r.before.before.before.before.before.before.before.before.before.before)))
+    let r = c.before.before.before.before.before.before.before.before.before.before in
+    prove-refused (text r) (start r).args.out.now c.read_tables-loaded.result.refusal c.if-refusal-ne0.true (sym (number_is (text r) prove_reads (t r) (t' r) (fit r) c.read_tables-loaded.result (promise r)))
 
 print_opening-requires : tie.Need-print_opening-requires
 print_opening-requires c κs =
-    let e = c in
-    let r = got e.before.before.before.before.before in
-    openable (S e.before.before.before.before.before) (t' r) (start r).args.rounds.now
-    (settings-allowed (text r) prove_reads (t r) (t' r) (fit r) r.read_tables-loaded.result (promise r) e.if-refusal-ne0.false)
-    (still-fitting (text r) prove_reads (t r) (t' r) (fit r) r.read_tables-loaded.result (promise r) e.if-refusal-ne0.false (lengths e.before.before.before.before.before))
-    (entries-passed (text r) prove_reads (t r) (t' r) (fit r) r.read_tables-loaded.result (promise r) e.if-refusal-ne0.false)
-    ((start r).requires.1.0 (settings-unrefused (text r) prove_reads (t r) (t' r) (fit r) r.read_tables-loaded.result (promise r) e.if-refusal-ne0.false)
-    (same_lines (text r) prove_reads (t r) (t' r) (fit r) r.read_tables-loaded.result (promise r) e.if-refusal-ne0.false) ∙ sym (ap round_cells (same_settings e.before.before.before.before.before)))
+    let e = c.before.before.before.before.before in
+    let r = got e in
+    openable (S e) (t' r) (start r).args.rounds.now
+    (settings-allowed (text r) prove_reads (t r) (t' r) (fit r) r.read_tables-loaded.result (promise r) c.if-refusal-ne0.false)
+    (still-fitting (text r) prove_reads (t r) (t' r) (fit r) r.read_tables-loaded.result (promise r) c.if-refusal-ne0.false (lengths e))
+    (entries-passed (text r) prove_reads (t r) (t' r) (fit r) r.read_tables-loaded.result (promise r) c.if-refusal-ne0.false)
+    ((start r).requires.1.0 (settings-unrefused (text r) prove_reads (t r) (t' r) (fit r) r.read_tables-loaded.result (promise r) c.if-refusal-ne0.false)
+    (same_lines (text r) prove_reads (t r) (t' r) (fit r) r.read_tables-loaded.result (promise r) c.if-refusal-ne0.false) ∙ sym (ap round_cells (same_settings e)))
 
 returns : tie.Need-returns
 returns c =
-    let p = c in
-    let e = p in
-    let r = got e.before.before.before.before.before.before.before.before.before.before.before.before.before in
-    prove_done (text r) (start r).args.out.now (S e.before.before.before.before.before.before.before.before.before.before.before.before.before) (t' r) (same_settings e.before.before.before.before.before.before.before.before.before.before.before.before.before)
-    (tables_are (text r) prove_reads (t r) (t' r) (fit r) r.read_tables-loaded.result (promise r) e.if-refusal-ne0.false)
-    (sym (number_is (text r) prove_reads (t r) (t' r) (fit r) r.read_tables-loaded.result (promise r)) ∙ e.if-refusal-ne0.false)
-    p.print_opening.result p.print_opening.new.out p.print_opening.ensures
+    let e = c.before.before.before.before.before.before.before.before.before.before.before.before.before in
+    let r = got e in
+    prove_done (text r) (start r).args.out.now (S e) (t' r) (same_settings e)
+    (tables_are (text r) prove_reads (t r) (t' r) (fit r) r.read_tables-loaded.result (promise r) c.if-refusal-ne0.false)
+    (sym (number_is (text r) prove_reads (t r) (t' r) (fit r) r.read_tables-loaded.result (promise r)) ∙ c.if-refusal-ne0.false)
+    c.print_opening.result c.print_opening.new.out c.print_opening.ensures
 
 pub prove_in_spec : {M : Type 1} → statement M
 prove_in_spec =

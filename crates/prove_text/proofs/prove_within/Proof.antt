@@ -98,11 +98,10 @@ module _ (c : tie.After-lent_cells-round_cells) where
 
 returns-then-refusal-ne0 : tie.Need-returns-then-refusal-ne0
 returns-then-refusal-ne0 c =
-    let l = c in
-    let a = l.args in
-    let r = l.allowed_settings-begun.result.loaded in
+    let a = c.args in
+    let r = c.allowed_settings-begun.result.loaded in
     prove-refused a.text.now a.out.now r.refusal c.if-refusal-ne0.true
-    (look-refusal a.text.now r ((begun a.text.now r l.allowed_settings-begun.ensures.0).refused c.if-refusal-ne0.true) prove_reads c.if-refusal-ne0.true)
+    (look-refusal a.text.now r ((begun a.text.now r c.allowed_settings-begun.ensures.0).refused c.if-refusal-ne0.true) prove_reads c.if-refusal-ne0.true)
 
 slice_bounds-prove_in-end : tie.Need-slice_bounds-prove_in-end
 slice_bounds-prove_in-end c = key_room c

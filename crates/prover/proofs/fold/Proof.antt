@@ -8,7 +8,7 @@ returns-then-refusal-ne0 : tie.Need-returns-then-refusal-ne0
 returns-then-refusal-ne0 c = let a = c.args in fold-refused a.settings a.done a.e a.key.now a.message.now _ c.fold-refusal.ensures c.if-refusal-ne0.true
 
 returns : tie.Need-returns
-returns c = let no = c in c.fold_tables.ensures (sym no.fold-refusal.ensures ∙ no.if-refusal-ne0.false)
+returns c = c.fold_tables.ensures (sym c.fold-refusal.ensures ∙ c.if-refusal-ne0.false)
 
 pub fold_spec : {M : Type 1} → statement M
 fold_spec =

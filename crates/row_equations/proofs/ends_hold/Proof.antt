@@ -15,10 +15,8 @@ returns-then-key-key_cells c = λ g. absurd (c.if-key-key_cells.true (g.key_belo
 
 rows_end-requires : tie.Need-rows_end-requires
 rows_end-requires c κs =
-    let two = c in
-    let one = two in
-    let e = sym one.settings_refusal.ensures ∙ one.if-settings_refusal-ne0.false in
-    (e, two.if-claims-ne-ROWS_WIDTH.false, c.if-key-key_cells.false ∙ c.key_cells.ensures e)
+    let e = sym c.settings_refusal.ensures ∙ c.if-settings_refusal-ne0.false in
+    (e, c.if-claims-ne-ROWS_WIDTH.false, c.if-key-key_cells.false ∙ c.key_cells.ensures e)
 
 pub ends_hold_spec : {M : Type 1} → statement M
 ends_hold_spec = tie.close (tie.spec (λ c κs. search rules) returns-then-settings_refusal-ne0 returns-then-claims-ne-ROWS_WIDTH (λ c κs. search rules) returns-then-key-key_cells rows_end-requires (λ c. search rules))

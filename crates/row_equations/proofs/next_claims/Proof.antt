@@ -33,8 +33,7 @@ returns-then-claims-ne-ROWS_WIDTH c = λ g. absurd (omega (arith, g.1))
 
 returns : tie.Need-returns
 returns c = λ g.
-    let cleared = c in
-    c.next_rows.ensures (g.0, cleared.clear.ensures ∙ ap zeros g.1)
+    c.next_rows.ensures (g.0, c.clear.ensures ∙ ap zeros g.1)
 
 pub next_claims_spec : {M : Type 1} → statement M
 next_claims_spec =

@@ -38,17 +38,15 @@ loop-i-init c = (omega arith, search rules, λ g. g.1 ∙ rows_none _ _)
 
 next_row-requires : tie.Need-next_row-requires invariant-loop-i decreases-loop-i
 next_row-requires c κs =
-    let s = c in
-    let p = s.requires in
+    let p = c.requires in
     let l = c.loop-i in
-    let in_row = row_inside s.args.step s.args.settings.rows l.i (omega arith) in
+    let in_row = row_inside c.args.step c.args.settings.rows l.i (omega arith) in
     (omega (arith, p.0), p.1, omega (arith, in_row, p.2), omega (arith, in_row, p.3), omega (arith, in_row, p.4), l.invariant.1)
 
 loop-i-preserved : tie.Need-loop-i-preserved invariant-loop-i decreases-loop-i
 loop-i-preserved c =
     let l = c.loop-i in
-    let s = c in
-    let a = s.args in
+    let a = c.args in
     let S = a.settings in
     let n = c.next_row in (
       omega arith,
@@ -56,7 +54,7 @@ loop-i-preserved c =
       λ g.
           n.ensures (g.0, omega arith)
           ∙ ap (spliced (λ k. get_or (claim S a.e a.step a.c0.now a.c1.now a.c2.now l.i) k 0) (l.i * width) S.degree) (l.invariant.2 g)
-          ∙ rows_more S (claim S a.e a.step a.c0.now a.c1.now a.c2.now) l.i (omega (arith, s.requires.0)) (ready S g.0.allowed).degree_most,
+          ∙ rows_more S (claim S a.e a.step a.c0.now a.c1.now a.c2.now) l.i (omega (arith, c.requires.0)) (ready S g.0.allowed).degree_most,
     )
 
 shape_of-claims : tie.Need-shape_of-claims invariant-loop-i decreases-loop-i

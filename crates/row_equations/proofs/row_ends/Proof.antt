@@ -40,17 +40,17 @@ slice_bounds-end_holds_for_key-end-2 c = (lent c.before).inside
 
 returns : tie.Need-returns
 returns c = λ g.
-    let w = c in
-    let a = (s w.before.before.before).args in
+    let w = c.before.before.before in
+    let a = (s w).args in
     let S = a.settings in
-    let key = (lent w.before.before.before).row in
+    let key = (lent w).row in
     c.end_holds_for_key.ensures (record {
       of_key = record {
         allowed = g.allowed;
-        key_below = subst (Below S.modulus (cells S)) (sym key) (key_row-below S S.modulus a.key.now g.key_below a.i (s w.before.before.before).requires.1);
+        key_below = subst (Below S.modulus (cells S)) (sym key) (key_row-below S S.modulus a.key.now g.key_below a.i (s w).requires.1);
         challenges-long = g.challenges-long;
       };
-      claim_long = part-long (a.i * width) S.degree a.claims.now (omega (arith, (ready S g.allowed).degree_most, (s w.before.before.before).requires.2, (s w.before.before.before).requires.3));
+      claim_long = part-long (a.i * width) S.degree a.claims.now (omega (arith, (ready S g.allowed).degree_most, (s w).requires.2, (s w).requires.3));
       final_long = g.final_long;
     })
     ∙ λ z. end_met S (value-part a.claims.now a.i z) (signed a.last.now) (folded_key S (key z) a.challenges.now)

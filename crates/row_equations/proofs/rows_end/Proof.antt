@@ -36,8 +36,7 @@ loop-i-init c = (omega arith, λ _. every-none _)
 
 row_ends-requires : tie.Need-row_ends-requires invariant-loop-i decreases-loop-i
 row_ends-requires c κs =
-    let s = c in
-    (s.requires.0, omega arith, omega (arith, (settings-valid s.args.settings s.requires.0).rows_most_holds), s.requires.1, s.requires.2)
+    (c.requires.0, omega arith, omega (arith, (settings-valid c.args.settings c.requires.0).rows_most_holds), c.requires.1, c.requires.2)
 
 returns-then-not-row_ends : tie.Need-returns-then-not-row_ends invariant-loop-i decreases-loop-i
 returns-then-not-row_ends c = λ g. every_fails _ _ c.loop-i.i (omega arith) (sym (c.row_ends.ensures g) ∙ not-true _ c.if-not-row_ends.true-raw)

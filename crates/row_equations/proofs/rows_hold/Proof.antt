@@ -35,9 +35,8 @@ loop-i-init c = (omega arith, λ _. every-none _)
 
 row_holds-requires : tie.Need-row_holds-requires invariant-loop-i decreases-loop-i
 row_holds-requires c κs =
-    let s = c in
-    let p = s.requires in
-    let in_row = row_inside s.args.step s.args.settings.rows c.loop-i.i (omega arith) in
+    let p = c.requires in
+    let in_row = row_inside c.args.step c.args.settings.rows c.loop-i.i (omega arith) in
     (omega (arith, p.0), p.1, p.2, omega (arith, in_row, p.3), omega (arith, in_row, p.4))
 
 returns-then-not-row_holds : tie.Need-returns-then-not-row_holds invariant-loop-i decreases-loop-i

@@ -7,19 +7,13 @@ use Rattle.session_records.proofs.read.Tie as tie
 
 returns : tie.Need-returns
 returns c =
-    let fifth = c in
-    let read = fifth in
-    let fourth = read in
-    let third = fourth in
-    let second = third in
-    let first = second in
-    let t = first.args.t.now in
-    let degree = first.capped.ensures in
-    let depth = second.capped-2.ensures in
-    let bound = third.capped-3.ensures in
-    let rows = fourth.capped-4.ensures in
-    let done = fifth.capped-5.ensures in
-    let challenges = read.challenges-e.ensures in
+    let t = c.args.t.now in
+    let degree = c.capped.ensures in
+    let depth = c.capped-2.ensures in
+    let bound = c.capped-3.ensures in
+    let rows = c.capped-4.ensures in
+    let done = c.capped-5.ensures in
+    let challenges = c.challenges-e.ensures in
     λ i. record {
       settings = given (degree i) (depth i) (get_or t 2 0) (bound i) (rows i);
       done = done i;

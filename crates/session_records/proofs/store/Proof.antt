@@ -21,15 +21,12 @@ slice_bounds-store-end-2 c = search rules
 returns : tie.Need-returns
 unfolding head_of
 returns c =
-    let second = c in
-    let first = second in
-    let wide = first.widened-challenges.ensures in
-    let taken = first in
-    let a = taken.args in
-    let head-stored = first.store.ensures (record { there = omega (arith, slice_bounds-store-end first.before.before.before.before.before.before.before.before.before); room = omega arith }) in
-    second.store-2.ensures (record { there = omega (arith, slice_bounds-store-end-2 second.before.before.before.before); room = omega (arith, first.store.auto.out) })
+    let wide = c.widened-challenges.ensures in
+    let a = c.args in
+    let head-stored = c.store.ensures (record { there = omega (arith, slice_bounds-store-end c.before.before.before.before.before.before.before.before.before); room = omega arith }) in
+    c.store-2.ensures (record { there = omega (arith, slice_bounds-store-end-2 c.before.before.before.before); room = omega (arith, c.store.auto.out) })
     ∙ (λ i. spliced (λ k. get_or (wide i) k 0) 7 8 (head-stored i))
-    ∙ front-stored (record_of a.r (claims_of a.t.now)) _ a.t.now taken.head-first.ensures refl (omega arith)
+    ∙ front-stored (record_of a.r (claims_of a.t.now)) _ a.t.now c.head-first.ensures refl (omega arith)
 
 pub store_spec : {M : Type 1} → statement M
 store_spec =

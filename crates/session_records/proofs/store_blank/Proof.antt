@@ -16,12 +16,11 @@ returns-then-t-ne-RECORD c = stays blank c.args.t.now c.if-t-ne-RECORD.true
 
 returns : tie.Need-returns
 returns c =
-    let stored = c in
-    let none = stored in
+    let none = c in
     let cleared = none in
     let t = cleared.args.t.now in
     let zero = cleared.clear.ensures ∙ ap zeros {x = length t} {y = record_width} (omega arith) in
-    stored.store.ensures
+    c.store.ensures
     ∙ (λ i. record_stored (record_of none.blank-none.result (claims_of (zero i))) (zero i))
     ∙ ap (λ claims. record_stored (record_of none.blank-none.result claims) (zeros record_width)) claims-zero
     ∙ ap (λ r. record_stored r (zeros record_width)) none.blank-none.ensures

@@ -10,11 +10,8 @@ returns-then-said-ne0 c = let a = c.args in answer_refused (moved_with a.said (c
 
 returns : tie.Need-returns
 returns c =
-    let at_store = c in
-    let at-verdict-number = at_store in
-    let at-if1 = at-verdict-number in
-    let a = at-if1.args in
-    answer_made (moved_with a.said (claims_of a.session.now)) a.session.now _ _ at-if1.if-said-ne0.false at_store.store.ensures at-verdict-number.verdict_number.ensures
+    let a = c.args in
+    answer_made (moved_with a.said (claims_of a.session.now)) a.session.now _ _ c.if-said-ne0.false c.store.ensures c.verdict_number.ensures
 
 pub answer_spec : {M : Type 1} → statement M
 answer_spec =

@@ -44,21 +44,15 @@ slice_bounds-end_on-end-2 c = search rules
 returns : tie.Need-returns
 unfolding last_fits end_on flagged hasLength session_of
 returns c =
-    let at-answer = c in
-    let at-end = at-answer in
+    let at-end = c in
     let at-wholes = at-end in
-    let at-if2 = at-wholes in
-    let at-refusal = at-if2 in
-    let at_both = at-refusal in
-    let at_load = at_both in
-    let at-if1 = at_load in
-    let a = at-if1.args in
+    let a = at-wholes.args in
     let t = a.session.now in
-    let long = at-if1.if-session-ne-RECORD.false in
-    let loaded = at_load.load-before in
-    let refusal = at-refusal.refusal-refusal in
-    let nothing = at-if2.if-refusal-ne0.false in
-    let both = at_both.both-fits in
+    let long = at-wholes.if-session-ne-RECORD.false in
+    let loaded = at-wholes.load-before in
+    let refusal = at-wholes.refusal-refusal in
+    let nothing = at-wholes.if-refusal-ne0.false in
+    let both = at-wholes.both-fits in
     let lengths =
     ap (λ b. lent loaded.result.settings b 0) both.ensures
     ∙ ap (λ (s : Progress). lent s.settings (eqb (length a.last.now) s.settings.degree && leb (get_or t 6 0) 1) 0) (loaded.ensures long) in
@@ -69,7 +63,7 @@ returns c =
     at-end.end_on-said.ensures (record { claims-long = lent_long t long; final_long = λ ok. omega (arith, degree_most _ (settings-valid _ ok), slice_bounds-end_on-end-2 at-end.before.before.before.before.before.before) })
     ∙ ap (λ f. end (record_of loaded.result (take (length t - 15) (drop 15 t))) f a.key.now) element
     ∙ (λ i. end (record_of (loaded.ensures long i) (claims_lent t long i)) (padded_signed (loaded.ensures long i).settings.degree a.last.now) a.key.now) in
-    move_made _ _ t long _ (refusal.ensures ∙ lengths) nothing _ _ _ _ (ap (moved_with at-end.end_on-said.result) (sym (claims_lent t long)) ∙ is) at-answer.answer.ensures
+    move_made _ _ t long _ (refusal.ensures ∙ lengths) nothing _ _ _ _ (ap (moved_with at-end.end_on-said.result) (sym (claims_lent t long)) ∙ is) c.answer.ensures
 
 pub end_spec : {M : Type 1} → statement M
 end_spec =

@@ -92,9 +92,7 @@ slice_bounds-round_on-start-2 c = omega (arith, whole c.before.before)
 returns : tie.Need-returns
 unfolding polynomial_fits round_on flagged hasLength session_of
 returns c =
-    let at-answer = c in
-    let at-round = at-answer in
-    let no = at-round in
+    let no = c in
     let a = (s no.before.before.before.before.before.before.before.before.before.before.before.before).args in
     let t = a.session.now in
     let P = a.polynomial.now in
@@ -106,7 +104,7 @@ returns c =
     ∙ sized loaded.result.settings (length P) (get_or t 6 0) _ (at_cells no.before.before.before.before.before.before.before.before.before.before.before.before).item_cells-n.ensures.0
     ∙ ap (λ (s : Progress). lent s.settings (eqb (length P) (polynomial_cells s.settings) && leb (get_or t 6 0) 1) 0) (loaded.ensures long) in
     let is =
-    at-round.round_on-said.ensures (record {
+    c.round_on-said.ensures (record {
       claims-long = lent_long t long;
       first = λ ok. flat_lent (S no.before.before.before.before.before.before.before.before.before.before.before.before) ok _ (omega (arith, whole no.before.before.before.before.before.before.before.before.before.before.before.before, cells_are no.before.before.before.before.before.before.before.before.before.before.before.before));
       second = λ ok. flat_lent (S no.before.before.before.before.before.before.before.before.before.before.before.before) ok _ (omega (arith, whole no.before.before.before.before.before.before.before.before.before.before.before.before, cells_are no.before.before.before.before.before.before.before.before.before.before.before.before, tail-length n P));
@@ -115,7 +113,7 @@ returns c =
     ∙ ap (λ p. round (record_of loaded.result (take (length t - 15) (drop 15 t))) p a.e) (flat-polynomial (S no.before.before.before.before.before.before.before.before.before.before.before.before) P n (cells_are no.before.before.before.before.before.before.before.before.before.before.before.before))
     ∙ (λ i. round (record_of (loaded.ensures long i) (claims_lent t long i)) (polynomial_of (loaded.ensures long i).settings P) a.e) in
     move_made _ _ t long _ ((at-refusal no.before.before.before.before.before.before.before.before.before.before.before.before).refusal-refusal.ensures ∙ lengths) no.if-refusal-ne0.false _ _ _ _ refl
-    (answered_lent t long _ (at-round.round_on-said.auto.claims ∙ lent_long t long) _ _ is (round_kept (session_of t) _ a.e) _ _ _ at-answer.answer.ensures)
+    (answered_lent t long _ (c.round_on-said.auto.claims ∙ lent_long t long) _ _ is (round_kept (session_of t) _ a.e) _ _ _ c.answer.ensures)
 
 pub round_spec : {M : Type 1} → statement M
 round_spec =

@@ -52,10 +52,8 @@ module _ (c : tie.Else-refusal-ne0) where
 
 returns-then-refusal-ne0 : tie.Need-returns-then-refusal-ne0
 returns-then-refusal-ne0 c =
-    let at_store = c in
-    let at-if1 = at_store in
-    let a = at-if1.args in
-    start-refused a.settings a.commitment.now a.session.now _ (refused at-if1.before.before.before.before.before) _ _ at-if1.if-refusal-ne0.true refl at_store.store_blank.ensures
+    let a = c.args in
+    start-refused a.settings a.commitment.now a.session.now _ (refused c.before.before.before.before.before) _ _ c.if-refusal-ne0.true refl c.store_blank.ensures
 
 slice_bounds-start_on-count : tie.Need-slice_bounds-start_on-count
 slice_bounds-start_on-count c = omega (arith, long c.before)
@@ -65,19 +63,17 @@ slice_bounds-start_on-start c = omega (arith, long c.before)
 
 returns : tie.Need-returns
 returns c =
-    let at_store = c in
-    let at-start = c in
     let no = c in
     let a = (s no.before.before.before.before.before.before.before.before.before.before).args in
     let t = a.session.now in
     let S = a.settings in
-    let begun = at-start.start_on-begun.result in
-    let q = at-start.start_on-begun.new.claims in
+    let begun = c.start_on-begun.result in
+    let q = c.start_on-begun.new.claims in
     let w = put_mid claims_at (length t - claims_at) t q in
-    let own = at-start.start_on-begun.auto.claims ∙ lent_long t (long no.before.before.before.before.before.before.before.before.before.before) in
+    let own = c.start_on-begun.auto.claims ∙ lent_long t (long no.before.before.before.before.before.before.before.before.before.before) in
     start_made S a.commitment.now t _ (refused no.before.before.before.before.before.before.before.before.before.before.before) (lent_rows S S.degree a.commitment.now) (started_with begun q) _ no.if-refusal-ne0.false (λ _ _. flat-values S a.commitment.now)
-    (at-start.start_on-begun.ensures (λ ok. flat_lent S ok _ (omega (arith, full no.before.before.before.before.before.before.before.before.before.before))) (lent_long t (long no.before.before.before.before.before.before.before.before.before.before)))
-    (at_store.store.ensures
+    (c.start_on-begun.ensures (λ ok. flat_lent S ok _ (omega (arith, full no.before.before.before.before.before.before.before.before.before.before))) (lent_long t (long no.before.before.before.before.before.before.before.before.before.before)))
+    (c.store.ensures
     ∙ ap (λ claims. record_stored (record_of begun.next claims) w) (written-claims t (long no.before.before.before.before.before.before.before.before.before.before) q own)
     ∙ stored-over (record_of begun.next q) w t (written_long t (long no.before.before.before.before.before.before.before.before.before.before) q own) (long no.before.before.before.before.before.before.before.before.before.before))
 

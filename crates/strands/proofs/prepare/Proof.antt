@@ -17,8 +17,7 @@ returns-then-i-n c = λ G z. absurd (omega (arith, z.1))
 
 returns-then-rows-eq1 : tie.Need-returns-then-rows-eq1
 returns-then-rows-eq1 c = λ G z.
-    let s = c in
-    let a = s.args in
+    let a = c.args in
     one_row_lem a.sums a.q a.d a.n a.rows a.stride a.g.now G z.0 (omega arith) a.i z.1 _
     (c.prepare_key.ensures (
       first_given a.sums a.q a.d a.n a.rows a.stride a.g.now G z.0,
@@ -31,19 +30,18 @@ returns-then-strands-gt-ROWS : tie.Need-returns-then-strands-gt-ROWS
 returns-then-strands-gt-ROWS c = λ G z. absurd (omega (arith, z.0.most))
 
 overflow_mul-cells : tie.Need-overflow_mul-cells
-overflow_mul-cells c = let s = c in let a = s.args in omega (arith, cells_most_lem a.rows a.d (omega arith) (omega arith))
+overflow_mul-cells c = let a = c.args in omega (arith, cells_most_lem a.rows a.d (omega arith) (omega arith))
 
 returns-then-k-cells : tie.Need-returns-then-k-cells
 returns-then-k-cells c = λ G z. absurd (omega (arith, z.3))
 
 overflow_mul-d : tie.Need-overflow_mul-d
-overflow_mul-d c = let s = c in let a = s.args in omega
+overflow_mul-d c = let a = c.args in omega
     (arith, cells_most_lem a.rows a.d (omega arith) (omega arith))
 
 returns : tie.Need-returns
 returns c = λ G z.
-    let s = c in
-    let a = s.args in
+    let a = c.args in
     let first = z.0.given 0 z.0.some in
     let keys = c.weave_keys in
     let strands = keys.ensures G (z.0, z.2) in

@@ -21,35 +21,33 @@ returns-then-a-d : tie.Need-returns-then-a-d invariant-loop-j decreases-loop-j
 returns-then-a-d c = λ g. absurd (omega arith)
 
 loop-j-init : tie.Need-loop-j-init invariant-loop-j decreases-loop-j
-loop-j-init c = let s = c in (omega arith, omega arith, search rules, strand-none s.args.strands s.args.r s.requires.1 s.args.a.now s.args.k.now)
+loop-j-init c = (omega arith, omega arith, search rules, strand-none c.args.strands c.args.r c.requires.1 c.args.a.now c.args.k.now)
 
 -- where number j of the strand stands
 overflow_mul-k : tie.Need-overflow_mul-k invariant-loop-j decreases-loop-j
-overflow_mul-k c = let s = c in let l = c.loop-j in omega (arith, cells_most_lem s.args.strands l.j s.requires.0 (omega (arith, s.requires.2)))
+overflow_mul-k c = let l = c.loop-j in omega (arith, cells_most_lem c.args.strands l.j c.requires.0 (omega (arith, c.requires.2)))
 
 overflow_add-k : tie.Need-overflow_add-k invariant-loop-j decreases-loop-j
-overflow_add-k c = let s = c in let l = c.loop-j in omega
-    (arith, cells_most_lem s.args.strands l.j s.requires.0 (omega (arith, s.requires.2)), s.requires.0, s.requires.1)
+overflow_add-k c = let l = c.loop-j in omega
+    (arith, cells_most_lem c.args.strands l.j c.requires.0 (omega (arith, c.requires.2)), c.requires.0, c.requires.1)
 
 offset_bounds-k-j : tie.Need-offset_bounds-k-j invariant-loop-j decreases-loop-j
-offset_bounds-k-j c = let s = c in let l = c.loop-j in omega
-    (arith, cells_most_lem s.args.strands l.j s.requires.0 (omega (arith, s.requires.2)), s.requires.0, s.requires.1)
+offset_bounds-k-j c = let l = c.loop-j in omega
+    (arith, cells_most_lem c.args.strands l.j c.requires.0 (omega (arith, c.requires.2)), c.requires.0, c.requires.1)
 
 bounds-k-j : tie.Need-bounds-k-j invariant-loop-j decreases-loop-j
 bounds-k-j c =
-    let s = c in
     let l = c.loop-j in
-    omega (arith, cell-inside s.args.strands s.args.d l.j s.args.r (omega arith) s.requires.1, s.requires.3)
+    omega (arith, cell-inside c.args.strands c.args.d l.j c.args.r (omega arith) c.requires.1, c.requires.3)
 
 loop-j-preserved : tie.Need-loop-j-preserved invariant-loop-j decreases-loop-j
 loop-j-preserved c =
-    let s = c in
     let l = c.loop-j in (
       omega arith,
       omega arith,
       simp length-set (omega arith),
-      strand_more s.args.strands s.args.r s.requires.1 s.args.a.now s.args.k.now l.j l.k _ l.invariant.3 refl
-          (omega (arith, cell-inside s.args.strands s.args.d l.j s.args.r (omega arith) s.requires.1, s.requires.3)),
+      strand_more c.args.strands c.args.r c.requires.1 c.args.a.now c.args.k.now l.j l.k _ l.invariant.3 refl
+          (omega (arith, cell-inside c.args.strands c.args.d l.j c.args.r (omega arith) c.requires.1, c.requires.3)),
     )
 
 returns : tie.Need-returns invariant-loop-j decreases-loop-j

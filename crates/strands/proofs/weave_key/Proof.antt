@@ -10,18 +10,18 @@ use Rattle.strands.proofs.weave_key.Statement.{statement}
 use Rattle.strands.proofs.weave_key.Tie as tie
 
 overflow_mul-at : tie.Need-overflow_mul-at
-overflow_mul-at c = let s = c in omega (arith, place_most s.args.d s.args.n s.args.i s.requires.3 s.requires.2 (omega (arith, s.requires.4)))
+overflow_mul-at c = omega (arith, place_most c.args.d c.args.n c.args.i c.requires.3 c.requires.2 (omega (arith, c.requires.4)))
 
 overflow_mul-n : tie.Need-overflow_mul-n
-overflow_mul-n c = let s = c in omega (arith, place_most s.args.d s.args.n s.args.n s.requires.3 s.requires.2 (omega arith))
+overflow_mul-n c = omega (arith, place_most c.args.d c.args.n c.args.n c.requires.3 c.requires.2 (omega arith))
 
 overflow_add-n : tie.Need-overflow_add-n
-overflow_add-n c = let s = c in
+overflow_add-n c =
     omega (
       arith,
-      place_most s.args.d s.args.n s.args.n s.requires.3 s.requires.2 (omega arith),
-      place_most s.args.d s.args.n s.args.i s.requires.3 s.requires.2
-          (omega (arith, s.requires.4)),
+      place_most c.args.d c.args.n c.args.n c.requires.3 c.requires.2 (omega arith),
+      place_most c.args.d c.args.n c.args.i c.requires.3 c.requires.2
+          (omega (arith, c.requires.4)),
     )
 
 returns-then-sums : tie.Need-returns-then-sums

@@ -25,8 +25,7 @@ loop-r-init c = (omega arith, omega arith, refl, refl, λ G z _. (λ _. sym (Nat
 
 loop-r-preserved : tie.Need-loop-r-preserved invariant-loop-r decreases-loop-r
 loop-r-preserved c =
-    let s = c in
-    let a = s.args in
+    let a = c.args in
     let l = c.loop-r in
     let move = c.weave_key in
     let next = c.further-from in (
@@ -43,7 +42,7 @@ loop-r-preserved c =
           let same : (j : ℕ) → j < a.d → keys_of a.sums a.q a.d a.n (take (length a.g.now - l.from) (drop l.from a.g.now)) a.i j ≡ keys_of a.sums a.q a.d
           a.n (G l.r) a.i j =
           λ j m. ap (λ v. keys_of a.sums a.q a.d a.n (take (length a.g.now - v) (drop v a.g.now)) a.i j) from
-          ∙ row_same a.sums a.q a.d a.n a.strands a.stride a.g.now G z l.r h a.i s.requires.3 j m in (
+          ∙ row_same a.sums a.q a.d a.n a.strands a.stride a.g.now G z l.r h a.i c.requires.3 j m in (
             λ m. next.ensures.1 (omega (arith, from, z.long (l.r + 1) m, Nat.add-mul l.r 1 a.stride)) ∙ omega (arith, from, Nat.add-mul l.r 1 a.stride),
             move.ensures (λ t. keys_of a.sums a.q a.d a.n (G t) a.i) (given, omega (arith, room, l.invariant.2), same, w.1),
           ),
@@ -51,8 +50,7 @@ loop-r-preserved c =
 
 returns : tie.Need-returns invariant-loop-r decreases-loop-r
 returns c = λ G z.
-    let s = c in
-    let a = s.args in
+    let a = c.args in
     let l = c.loop-r in
     subst (λ n. Woven a.strands n a.d (λ t. keys_of a.sums a.q a.d a.n (G t) a.i) l.k) (omega arith) (l.invariant.4 G z.0 z.1).1
 

@@ -9,21 +9,17 @@ use Rattle.table_reader.proofs.read.Tie as tie
 
 returns-then-loaded-ne0 : tie.Need-returns-then-loaded-ne0
 returns-then-loaded-ne0 c =
-    let s = c in
-    let a = s.args in
+    let a = c.args in
     let t = tables_of a.key.now a.message.now a.commitment.now a.rounds.now a.challenges.now a.last.now a.claims.now in
-    let r = s.allowed_settings-begun.result.loaded in
-    let looks = (begun a.text.now r s.allowed_settings-begun.ensures.0).refused c.if-loaded-ne0.true in
+    let r = c.allowed_settings-begun.result.loaded in
+    let looks = (begun a.text.now r c.allowed_settings-begun.ensures.0).refused c.if-loaded-ne0.true in
     read-refused a.parts a.text.now t r [] (gathered-look a.parts (lengths_of t) a.text.now r looks [] c.if-loaded-ne0.true) c.if-loaded-ne0.true
 
 returns : tie.Need-returns
 returns c =
-    let g = c in
-    let e = g in
-    let s = e in
-    let r = s.allowed_settings-begun.result in
-    let text = s.args.text.now in
-    g.read_tables.ensures (begun_begins text r.loaded r.next s.allowed_settings-begun.ensures.0 s.allowed_settings-begun.ensures.1 e.if-loaded-ne0.false)
+    let r = c.allowed_settings-begun.result in
+    let text = c.args.text.now in
+    c.read_tables.ensures (begun_begins text r.loaded r.next c.allowed_settings-begun.ensures.0 c.allowed_settings-begun.ensures.1 c.if-loaded-ne0.false)
 
 pub read_spec : {M : Type 1} → statement M
 read_spec =

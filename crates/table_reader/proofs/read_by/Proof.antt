@@ -33,7 +33,7 @@ module _ (c : tie.After-read_values-loaded) where
   gathered b = c.read_values-loaded.ensures.0 (b, start.requires)
 
 returns-then-loaded-ne0 : tie.Need-returns-then-loaded-ne0
-returns-then-loaded-ne0 c b = let g = c in read-refused (P g.before.before.before) (text g.before.before.before) (t g.before.before.before) g.read_values-loaded.result (values g.before.before.before) (gathered g.before.before.before b) c.if-loaded-ne0.true
+returns-then-loaded-ne0 c b = let g = c.before.before.before in read-refused (P g) (text g) (t g) c.read_values-loaded.result (values g) (gathered g b) c.if-loaded-ne0.true
 
 refusal-refusal-requires : tie.Need-refusal-refusal-requires
 refusal-refusal-requires c κs = c.read_values-loaded.ensures.1 c.if-loaded-ne0.false
@@ -41,29 +41,25 @@ refusal-refusal-requires c κs = c.read_values-loaded.ensures.1 c.if-loaded-ne0.
 returns-then-refusal-ne0 : tie.Need-returns-then-refusal-ne0
 unfolding lengths_of
 returns-then-refusal-ne0 c b =
-    let f = c in
-    let g = f in
-    let r = g.read_values-loaded.result in
-    let none = f.if-loaded-ne0.false in
-    read_refused_entries (P g.before.before.before.before.before.before.before) (text g.before.before.before.before.before.before.before) (t g.before.before.before.before.before.before.before) r (values g.before.before.before.before.before.before.before) (gathered g.before.before.before.before.before.before.before b) none f.refusal-refusal.result
-    (f.refusal-refusal.ensures (read_allowed (P g.before.before.before.before.before.before.before) (text g.before.before.before.before.before.before.before) (t g.before.before.before.before.before.before.before) r (values g.before.before.before.before.before.before.before) (gathered g.before.before.before.before.before.before.before b) none)) c.refused.result c.refused.ensures c.if-refusal-ne0.true
+    let g = c.before.before.before.before.before.before.before in
+    let r = c.read_values-loaded.result in
+    let none = c.if-loaded-ne0.false in
+    read_refused_entries (P g) (text g) (t g) r (values g) (gathered g b) none c.refusal-refusal.result
+    (c.refusal-refusal.ensures (read_allowed (P g) (text g) (t g) r (values g) (gathered g b) none)) c.refused.result c.refused.ensures c.if-refusal-ne0.true
 
 all-requires : tie.Need-all-requires
 unfolding lengths_of
 all-requires c κs =
-    let f = c in
-    f.read_values-loaded.ensures.1 f.if-loaded-ne0.false
+    c.read_values-loaded.ensures.1 c.if-loaded-ne0.false
 
 returns : tie.Need-returns
 unfolding lengths_of
 returns c b =
-    let a = c in
-    let f = a in
-    let g = f in
-    let r = g.read_values-loaded.result in
-    let none = f.if-loaded-ne0.false in
-    read_done (P g.before.before.before.before.before.before.before.before.before.before.before.before.before.before.before.before.before.before.before.before.before.before.before.before.before.before) (text g.before.before.before.before.before.before.before.before.before.before.before.before.before.before.before.before.before.before.before.before.before.before.before.before.before.before) (t g.before.before.before.before.before.before.before.before.before.before.before.before.before.before.before.before.before.before.before.before.before.before.before.before.before.before) r (values g.before.before.before.before.before.before.before.before.before.before.before.before.before.before.before.before.before.before.before.before.before.before.before.before.before.before) (gathered g.before.before.before.before.before.before.before.before.before.before.before.before.before.before.before.before.before.before.before.before.before.before.before.before.before.before b) none f.refusal-refusal.result (f.refusal-refusal.ensures (read_allowed (P g.before.before.before.before.before.before.before.before.before.before.before.before.before.before.before.before.before.before.before.before.before.before.before.before.before.before) (text g.before.before.before.before.before.before.before.before.before.before.before.before.before.before.before.before.before.before.before.before.before.before.before.before.before.before) (t g.before.before.before.before.before.before.before.before.before.before.before.before.before.before.before.before.before.before.before.before.before.before.before.before.before.before) r (values g.before.before.before.before.before.before.before.before.before.before.before.before.before.before.before.before.before.before.before.before.before.before.before.before.before.before) (gathered g.before.before.before.before.before.before.before.before.before.before.before.before.before.before.before.before.before.before.before.before.before.before.before.before.before.before b) none))
-    a.if-refusal-ne0.false _ a.all.ensures
+    let g = c.before.before.before.before.before.before.before.before.before.before.before.before.before.before.before.before.before.before.before.before.before.before.before.before.before.before in
+    let r = c.read_values-loaded.result in
+    let none = c.if-loaded-ne0.false in
+    read_done (P g) (text g) (t g) r (values g) (gathered g b) none c.refusal-refusal.result (c.refusal-refusal.ensures (read_allowed (P g) (text g) (t g) r (values g) (gathered g b) none))
+    c.if-refusal-ne0.false _ c.all.ensures
 
 pub read_by_spec : {M : Type 1} → statement M
 read_by_spec =

@@ -11,10 +11,9 @@ refusal-refusal-requires c κs = search rules
 returns-then-refusal-ne0 : tie.Need-returns-then-refusal-ne0
 unfolding parts_named
 returns-then-refusal-ne0 c =
-    let at-refusal = c in
-    let a = at-refusal.args in
+    let a = c.args in
     write_unfit a.settings a.parts (tables_of a.key.now a.message.now a.commitment.now a.rounds.now a.challenges.now a.last.now a.claims.now) a.out.now _
-    at-refusal.refusal-refusal.ensures c.if-refusal-ne0.true
+    c.refusal-refusal.ensures c.if-refusal-ne0.true
 
 parts_of-there-requires : tie.Need-parts_of-there-requires
 parts_of-there-requires c κs = search rules
@@ -28,13 +27,9 @@ shape_of-out c = search rules
 returns : tie.Need-returns
 unfolding parts_named
 returns c =
-    let at-write = c in
-    let at-parts-of = at-write in
-    let at-if1 = at-parts-of in
-    let at-refusal = at-if1 in
-    let a = at-refusal.args in
+    let a = c.args in
     write-made a.settings a.parts (tables_of a.key.now a.message.now a.commitment.now a.rounds.now a.challenges.now a.last.now a.claims.now) a.out.now _
-    at-refusal.refusal-refusal.ensures at-if1.if-refusal-ne0.false _ at-parts-of.parts_of-there.ensures _ _ at-write.write-written.ensures
+    c.refusal-refusal.ensures c.if-refusal-ne0.false _ c.parts_of-there.ensures _ _ c.write-written.ensures
 
 pub write_spec : {M : Type 1} → statement M
 write_spec =

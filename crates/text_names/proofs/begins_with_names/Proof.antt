@@ -49,9 +49,7 @@ returns-then-first_word-ne-M_PLACE c =
 returns : tie.Need-returns
 unfolding bytes
 returns c =
-    let both = c in
-    let same = both in
-    c.begins.ensures ∙ by_tests same.before.before.before.before.before.before.before.before.before true true (first same.before.before.before.before.before.before.before) (eq-eqb _ _ (sym both.first_word-2.ensures ∙ both.if-first_word-ne-M_PLACE.false))
+    c.begins.ensures ∙ by_tests c.before.before.before.before.before.before.before.before.before true true (first c.before.before.before.before.before.before.before) (eq-eqb _ _ (sym c.first_word-2.ensures ∙ c.if-first_word-ne-M_PLACE.false))
 
 pub begins_with_names_spec : {M : Type 1} → statement M
 begins_with_names_spec =

@@ -87,11 +87,11 @@ returns-then-loaded-ne0 c = ((λ b. gathered-look _ _ _ c.read_settings-loaded.r
 returns-then-not-read_wanted : tie.Need-returns-then-not-read_wanted
 returns-then-not-read_wanted c =
     let seen = c in
-    let v = seen in
-    let unrefused = sym (look-number (text v.before.before.before.before.before) seen.read_settings-loaded.result seen.read_settings-loaded.ensures) ∙ c.if-loaded-ne0.false in (
+    let v = seen.before.before.before.before.before in
+    let unrefused = sym (look-number (text v) seen.read_settings-loaded.result seen.read_settings-loaded.ensures) ∙ c.if-loaded-ne0.false in (
       (λ b.
-          gathered_refused (parts v.before.before.before.before.before) (lengths v.before.before.before.before.before) (text v.before.before.before.before.before) seen.read_settings-loaded.result seen.read_settings-loaded.ensures _ c.if-loaded-ne0.false c.refused.result c.refused.ensures
-          (and_fails_left (ordered v.before.before.before.before.before) (fitting v.before.before.before.before.before) (sym ((v.read_wanted.ensures.0 b).answer unrefused) ∙ not-true _ seen.if-not-read_wanted.true-raw))),
+          gathered_refused (parts v) (lengths v) (text v) seen.read_settings-loaded.result seen.read_settings-loaded.ensures _ c.if-loaded-ne0.false c.refused.result c.refused.ensures
+          (and_fails_left (ordered v) (fitting v) (sym ((seen.read_wanted.ensures.0 b).answer unrefused) ∙ not-true _ seen.if-not-read_wanted.true-raw))),
       λ e. absurd (omega (arith, e, ap (λ r. r.refusal) c.refused.ensures)),
     )
 

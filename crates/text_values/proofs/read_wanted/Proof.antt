@@ -38,11 +38,10 @@ returns-then-text-gt-TEXT_LIMIT c =
 
 returns-then-not-taken : tie.Need-returns-then-not-taken
 returns-then-not-taken c =
-    let p = c in
-    let a = p.args in (
+    let a = c.args in (
       (λ b.
-          followed-missed a.text.now a.parts (header a.settings a.from) b.0.header _ p.read_parts-taken.result
-          (p.read_parts-taken.ensures.0 (asked a.text.now a.settings a.from _ (short p.before.before.before.before.before) b)) (not-true _ c.if-not-taken.true)),
+          followed-missed a.text.now a.parts (header a.settings a.from) b.0.header _ c.read_parts-taken.result
+          (c.read_parts-taken.ensures.0 (asked a.text.now a.settings a.from _ (short c.before.before.before.before.before) b)) (not-true _ c.if-not-taken.true)),
       λ e. absurd (false≢true e),
     )
 

@@ -21,17 +21,13 @@ returns-then-rounds-round_cells c = λ g _. absurd (c.if-rounds-round_cells.true
 
 every_row_accepted-requires : tie.Need-every_row_accepted-requires
 every_row_accepted-requires c κs =
-    let four = c in
-    let three = four in
-    let two = three in
-    let one = two in
-    let e = sym one.settings_refusal.ensures ∙ one.if-settings_refusal-ne0.false in
+    let e = sym c.settings_refusal.ensures ∙ c.if-settings_refusal-ne0.false in
     record {
       allowed = e;
       wide = degree_most _ (settings-valid _ e);
-      commitment-long = le_of_eq (sym (two.if-commitment-item_cells.false ∙ two.item_cells.ensures.0 e));
-      key_long = three.if-key-key_cells.false ∙ three.key_cells.ensures e;
-      rounds_long = four.if-rounds-round_cells.false ∙ four.round_cells.ensures e;
+      commitment-long = le_of_eq (sym (c.if-commitment-item_cells.false ∙ c.item_cells.ensures.0 e));
+      key_long = c.if-key-key_cells.false ∙ c.key_cells.ensures e;
+      rounds_long = c.if-rounds-round_cells.false ∙ c.round_cells.ensures e;
     }
 
 returns : tie.Need-returns

@@ -24,8 +24,7 @@ given c x long = let a = c.args in passed a.settings a.commitment.now a.key.now 
 
 every_row_accepted-requires : tie.Need-every_row_accepted-requires
 every_row_accepted-requires c κs =
-    let e = c in
-    let g = given e.before.before width (λ _. width) in
+    let g = given c.before.before width (λ _. width) in
     record {
       allowed = g.allowed;
       wide = le_refl width;

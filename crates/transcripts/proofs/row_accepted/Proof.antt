@@ -25,24 +25,22 @@ wide c e = omega (arith, slice_bounds-rounds_hold-end c.before, degree_most _ (s
 
 returns-then-not-rounds_hold : tie.Need-returns-then-not-rounds_hold
 returns-then-not-rounds_hold c = λ g.
-    let w = c in
-    let a = w.args in
-    let held = w.rounds_hold.ensures (record { allowed = g.allowed; rounds_long = g.rounds_long; rounds_below = g.rounds_below; claim_long = wide w.before.before g.allowed }) in
-    rejects a.settings a.commitment.now _ a.rounds.now a.challenges.now a.last.now (w.element_at-claim.ensures (degree_most _ (settings-valid _ g.allowed)))
+    let a = c.args in
+    let held = c.rounds_hold.ensures (record { allowed = g.allowed; rounds_long = g.rounds_long; rounds_below = g.rounds_below; claim_long = wide c.before.before g.allowed }) in
+    rejects a.settings a.commitment.now _ a.rounds.now a.challenges.now a.last.now (c.element_at-claim.ensures (degree_most _ (settings-valid _ g.allowed)))
     (sym held.every_round ∙ not-true _ c.if-not-rounds_hold.true-raw) a.key.now
 
 returns : tie.Need-returns
 returns c = λ g.
-    let w = c in
-    let a = w.args in
-    let held = w.rounds_hold.ensures (record { allowed = g.allowed; rounds_long = g.rounds_long; rounds_below = g.rounds_below; claim_long = wide w.before.before.before.before g.allowed }) in
+    let a = c.args in
+    let held = c.rounds_hold.ensures (record { allowed = g.allowed; rounds_long = g.rounds_long; rounds_below = g.rounds_below; claim_long = wide c.before.before.before.before g.allowed }) in
     let holds = not-false _ c.if-not-rounds_hold.false-raw in
     c.end_holds_for_key.ensures (record {
       of_key = record { allowed = g.allowed; key_below = g.key_below; challenges-long = le_of_eq (sym g.challenges-long) };
       claim_long = omega (arith, slice_bounds-end_holds_for_key-end c.before, degree_most _ (settings-valid _ g.allowed));
       final_long = g.final_long;
     })
-    ∙ ends a.settings a.commitment.now _ a.rounds.now a.challenges.now a.last.now (w.element_at-claim.ensures (degree_most _ (settings-valid _ g.allowed)))
+    ∙ ends a.settings a.commitment.now _ a.rounds.now a.challenges.now a.last.now (c.element_at-claim.ensures (degree_most _ (settings-valid _ g.allowed)))
     (sym held.every_round ∙ holds) a.key.now _ (held.claim_is holds)
 
 pub row_accepted_spec : {M : Type 1} → statement M

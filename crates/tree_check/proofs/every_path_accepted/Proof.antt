@@ -25,16 +25,13 @@ slice_bounds-every_row_accepted-end c = search rules
 
 every_row_accepted-requires : tie.Need-every_row_accepted-requires
 every_row_accepted-requires c κs =
-    let four = c in
-    let three = four in
-    let two = three in
-    let e = allowed two.before.before.before.before.before.before.before in
+    let e = allowed c.before.before.before.before.before.before.before in
     record {
       allowed = e;
       commitment-long = sym (slice_bounds-every_row_accepted-end c);
-      key_long = two.if-key-key_cells.false ∙ two.key_cells.ensures e;
-      rounds_long = three.if-rounds-tree_round_cells.false ∙ three.tree_round_cells.ensures e;
-      finals_long = four.if-leaves-leaf_cells.false ∙ four.leaf_cells.ensures e;
+      key_long = c.if-key-key_cells.false ∙ c.key_cells.ensures e;
+      rounds_long = c.if-rounds-tree_round_cells.false ∙ c.tree_round_cells.ensures e;
+      finals_long = c.if-leaves-leaf_cells.false ∙ c.leaf_cells.ensures e;
     }
 
 returns : tie.Need-returns

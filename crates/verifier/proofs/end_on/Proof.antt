@@ -36,9 +36,9 @@ met : (c : tie.After-ends_hold) (lent : Lent c.before.before.before.before.befor
     c.ends_hold.result ≡ session_end_holds (record_of a.progress a.claims.now) a.last.now a.key.now
 unfolding session_end_holds
 met c lent =
-    let one = c in
-    let a = (s one.before.before.before.before.before).args in
-    let g = end_given a.progress a.claims.now a.last.now a.key.now (passed one.before.before.before.before.before lent) in
+    let one = c.before.before.before.before.before in
+    let a = (s one).args in
+    let g = end_given a.progress a.claims.now a.last.now a.key.now (passed one lent) in
     c.ends_hold.ensures (record {
       allowed = g.allowed;
       key_below = g.key_below;
@@ -50,16 +50,16 @@ met c lent =
 returns-then-ends_hold : tie.Need-returns-then-ends_hold
 unfolding verdict choose
 returns-then-ends_hold c = λ lent.
-    let one = c in
-    let a = (s one.before.before.before.before.before.before).args in
-    end_done a.progress a.claims.now a.last.now a.key.now (passed one.before.before.before.before.before.before lent) true (sym (met c.before lent) ∙ c.if-ends_hold.true) _ c.shut-closed.ensures
+    let one = c.before.before.before.before.before.before in
+    let a = (s one).args in
+    end_done a.progress a.claims.now a.last.now a.key.now (passed one lent) true (sym (met c.before lent) ∙ c.if-ends_hold.true) _ c.shut-closed.ensures
 
 returns : tie.Need-returns
 unfolding verdict choose
 returns c = λ lent.
-    let one = c in
-    let a = (s one.before.before.before.before.before.before).args in
-    end_done a.progress a.claims.now a.last.now a.key.now (passed one.before.before.before.before.before.before lent) false (sym (met c.before lent) ∙ c.if-ends_hold.false) _ c.shut-closed.ensures
+    let one = c.before.before.before.before.before.before in
+    let a = (s one).args in
+    end_done a.progress a.claims.now a.last.now a.key.now (passed one lent) false (sym (met c.before lent) ∙ c.if-ends_hold.false) _ c.shut-closed.ensures
 
 pub end_on_spec : {M : Type 1} → statement M
 end_on_spec =

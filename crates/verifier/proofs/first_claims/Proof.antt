@@ -27,8 +27,7 @@ returns-then-claims-ne-ROWS_WIDTH c = λ g. absurd (omega (arith, g.2))
 
 returns : tie.Need-returns
 returns c = λ g.
-    let cleared = c in
-    c.read_rows.ensures (g.0, g.1, cleared.clear.ensures ∙ ap zeros g.2)
+    c.read_rows.ensures (g.0, g.1, c.clear.ensures ∙ ap zeros g.2)
 
 pub first_claims_spec : {M : Type 1} → statement M
 first_claims_spec =

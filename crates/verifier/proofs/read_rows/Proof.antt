@@ -44,10 +44,9 @@ loop-i-init c = (omega arith, search rules, λ g. g.2 ∙ rows_none _ _)
 loop-i-preserved : tie.Need-loop-i-preserved invariant-loop-i decreases-loop-i
 loop-i-preserved c =
     let l = c.loop-i in
-    let s = c in
-    let S = s.args.settings in
-    let C = s.args.commitment.now in
-    let w = s.args.step in
+    let S = c.args.settings in
+    let C = c.args.commitment.now in
+    let w = c.args.step in
     let R = lent_rows S w C in
     let to = l.i * width in
     let n = c.store in (
@@ -56,10 +55,10 @@ loop-i-preserved c =
       λ g.
           let wide = degree_most S (settings-valid S g.0) in
           let h : l.i < S.rows = omega arith in
-          n.ensures (record { there = omega (arith, tail-length (l.i * w) C, lent_inside S g.0 w C g.1 l.i h); room = omega (arith, wide, l.invariant.1, s.requires.0) })
+          n.ensures (record { there = omega (arith, tail-length (l.i * w) C, lent_inside S g.0 w C g.1 l.i h); room = omega (arith, wide, l.invariant.1, c.requires.0) })
           ∙ spliced_ext _ (λ k. lists.get_or (row_read S R l.i) k 0) to S.degree l.claims (λ k m. same S g.0 w C l.i k h m)
           ∙ ap (spliced (λ k. lists.get_or (row_read S R l.i) k 0) to S.degree) (l.invariant.2 g)
-          ∙ rows_more S (row_read S R) l.i (omega (arith, s.requires.0)) wide,
+          ∙ rows_more S (row_read S R) l.i (omega (arith, c.requires.0)) wide,
     )
 
 returns : tie.Need-returns invariant-loop-i decreases-loop-i
@@ -74,18 +73,15 @@ places s i h = Nat.mul-le-mul {n₁ = i} {m₁ = s.args.step} {n₂ = rows_most}
 
 overflow_mul-from : tie.Need-overflow_mul-from invariant-loop-i decreases-loop-i
 overflow_mul-from c =
-    let s = c in
-    record { fits = omega (arith, places s.before.before.before.before.before c.loop-i.i (omega arith)) }
+    record { fits = omega (arith, places c.before.before.before.before.before c.loop-i.i (omega arith)) }
 
 offset_bounds-commitment-from : tie.Need-offset_bounds-commitment-from invariant-loop-i decreases-loop-i
 offset_bounds-commitment-from c =
-    let s = c in
-    record { fits = omega (arith, places s.before.before.before.before.before.before c.loop-i.i (omega arith)) }
+    record { fits = omega (arith, places c.before.before.before.before.before.before c.loop-i.i (omega arith)) }
 
 slice_bounds-store-count : tie.Need-slice_bounds-store-count invariant-loop-i decreases-loop-i
 slice_bounds-store-count c =
-    let s = c in
-    omega (arith, s.requires.2, row_inside s.args.step s.args.settings.rows c.loop-i.i (omega arith))
+    omega (arith, c.requires.2, row_inside c.args.step c.args.settings.rows c.loop-i.i (omega arith))
 
 slice_bounds-store-start : tie.Need-slice_bounds-store-start invariant-loop-i decreases-loop-i
 slice_bounds-store-start c = slice_bounds-store-count c

@@ -34,24 +34,22 @@ held : (c : tie.After-round_holds) (lent : Lent c.before.before) → let a = (s 
     c.round_holds.result ≡ session_round_holds (record_of a.progress a.claims.now) (lent_polynomial a.progress.settings a.step a.c0.now a.c1.now a.c2.now)
 unfolding session_round_holds part
 held c lent =
-    let one = c in
-    let v = (given one.before.before lent).read in
+    let v = (given c.before.before lent).read in
     c.round_holds.ensures (record { allowed = v.allowed; first = v.first_lent; third = v.third_lent }) lent.claims-long
 
 returns-then-not-round_holds : tie.Need-returns-then-not-round_holds
 returns-then-not-round_holds c = λ lent.
-    let one = c in
-    let a = (s one.before.before.before.before).args in
-    round_rejected a.progress a.claims.now a.step a.c0.now a.c1.now a.c2.now a.e (passed one.before.before.before.before lent)
+    let one = c.before.before.before.before in
+    let a = (s one).args in
+    round_rejected a.progress a.claims.now a.step a.c0.now a.c1.now a.c2.now a.e (passed one lent)
     (sym (held c.before.before lent) ∙ not-true _ c.if-not-round_holds.true-raw) _ c.shut-closed.ensures
 
 returns : tie.Need-returns
 returns c = λ lent.
-    let one = c in
-    let no = c in
-    let a = (s one.before.before.before.before.before.before.before.before).args in
-    let g = given one.before.before.before.before.before.before.before.before lent in
-    round_counted a.progress a.claims.now a.step a.c0.now a.c1.now a.c2.now a.e (passed one.before.before.before.before.before.before.before.before lent) (sym (held no.before.before.before.before.before.before lent) ∙ not-false _ no.if-not-round_holds.false-raw) _ _
+    let one = c.before.before.before.before.before.before.before.before in
+    let a = (s one).args in
+    let g = given one lent in
+    round_counted a.progress a.claims.now a.step a.c0.now a.c1.now a.c2.now a.e (passed one lent) (sym (held c.before.before.before.before.before.before lent) ∙ not-false _ c.if-not-round_holds.false-raw) _ _
     (c.counted-next.ensures (omega (arith, g.turn, (settings-valid _ g.read.allowed).depth_most))) (c.next_claims.ensures (g.read, lent.claims-long))
 
 pub round_on_spec : {M : Type 1} → statement M

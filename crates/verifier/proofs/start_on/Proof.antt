@@ -9,18 +9,16 @@ use Rattle.verifier.proofs.start_on.Tie as tie
 
 returns-then-refusal-ne0 : tie.Need-returns-then-refusal-ne0
 returns-then-refusal-ne0 c = λ lent long.
-    let refused = c in
-    let a = refused.args in
-    start-refused a.settings (lent_rows a.settings a.step a.commitment.now) _ _ (refused.start-refusal.ensures lent) refused.if-refusal-ne0.true
+    let a = c.args in
+    start-refused a.settings (lent_rows a.settings a.step a.commitment.now) _ _ (c.start-refusal.ensures lent) c.if-refusal-ne0.true
     (ap (record_of c.blank-none.result) (c.clear.ensures ∙ ap zeros long) ∙ c.blank-none.ensures)
 
 returns : tie.Need-returns
 unfolding zeros slots
 returns c = λ lent long.
-    let taken = c in
-    let a = taken.args in
+    let a = c.args in
     let C = lent_rows a.settings a.step a.commitment.now in
-    let z = sym (taken.start-refusal.ensures lent) ∙ taken.if-refusal-ne0.false in
+    let z = sym (c.start-refusal.ensures lent) ∙ c.if-refusal-ne0.false in
     let ok = start-allowed a.settings C z in
     start-done a.settings C z _ (c.first_claims.ensures (ok, lent ok, long))
 

@@ -20,12 +20,12 @@ module _ (c : tie.Start) where
   abbrev t : Tables
   t = let a = c.args in tables_of a.key.now [] a.commitment.now a.rounds.now a.challenges.now a.last.now a.claims.now
 
-accepted_is : (c : tie.After-accepted-accepted) → let s = c in c.accepted-accepted.result ≡ all_accepted s.args.settings (t s.before.before.before.before.before.before).key (transcript_in (t s.before.before.before.before.before.before))
+accepted_is : (c : tie.After-accepted-accepted) → let s = c.before.before.before.before.before.before in c.accepted-accepted.result ≡ all_accepted c.args.settings (t s).key (transcript_in (t s))
 unfolding transcript_in
 accepted_is c = let g = c.requires in c.accepted-accepted.ensures (transcript_given _ _ g) (long _ _ g).commitment
 
 -- a claim reads nothing but rounds and challenges
-written_is : (c : tie.After-written-written) → let s = c in c.written-written.result ≡ claims_written s.args.settings (transcript_in (t s.before.before.before.before.before.before.before)) (t s.before.before.before.before.before.before.before).claims
+written_is : (c : tie.After-written-written) → let s = c.before.before.before.before.before.before.before in c.written-written.result ≡ claims_written c.args.settings (transcript_in (t s)) (t s).claims
 unfolding claims_written claim_written claim_of claim_after element row_of transcript_in
 written_is c = let g = c.requires in c.written-written.ensures (claims_given _ _ g) (long _ _ g).claims
 

@@ -16,7 +16,7 @@ shape_of-out c = search
 
 returns : tie.Need-returns
 unfolding verify_output
-returns c = let s = c in shown-told (shown_as (ap verdict_line s.verify.ensures.0) s.show_verdict.ensures)
+returns c = shown-told (shown_as (ap verdict_line c.verify.ensures.0) c.show_verdict.ensures)
 
 pub print_spec : {M : Type 1} → statement M
 print_spec = tie.close (tie.spec verify-requires show_verdict-requires shape_of-out returns)

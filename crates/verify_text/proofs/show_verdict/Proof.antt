@@ -9,15 +9,15 @@ use Rattle.verify_text.proofs.show_verdict.Tie as tie
 
 returns-in-Accepted : tie.Need-returns-in-Accepted
 unfolding verdict_line bytes
-returns-in-Accepted c = let s = c in shown_as (sym (ap verdict_line s.in-Accepted.is)) s.show.ensures
+returns-in-Accepted c = shown_as (sym (ap verdict_line c.in-Accepted.is)) c.show.ensures
 
 returns-in-Rejected : tie.Need-returns-in-Rejected
 unfolding verdict_line bytes
-returns-in-Rejected c = let s = c in shown_as (sym (ap verdict_line s.in-Rejected.is)) s.show-in-Rejected.ensures
+returns-in-Rejected c = shown_as (sym (ap verdict_line c.in-Rejected.is)) c.show-in-Rejected.ensures
 
 returns-in-Refused : tie.Need-returns-in-Refused
 unfolding verdict_line
-returns-in-Refused c = let s = c in shown_as (sym (ap verdict_line s.in-Refused.is)) s.show_refusal.ensures
+returns-in-Refused c = shown_as (sym (ap verdict_line c.in-Refused.is)) c.show_refusal.ensures
 
 pub show_verdict_spec : {M : Type 1} → statement M
 show_verdict_spec =

@@ -38,34 +38,31 @@ module _ (c : tie.After-read_tables-loaded) where
 lengths : (c : tie.After-claims-1) → let r = c in lengths_of (t' r.before.before.before.before.before.before.before.before.before.before.before) ≡ lengths_of (t r.before.before.before.before.before.before.before.before.before.before.before)
 unfolding lengths_of
 lengths c =
-    let r = c in
-    let a = (start r.before.before.before.before.before.before.before.before.before.before.before).args in
-    let key : length (t' r.before.before.before.before.before.before.before.before.before.before.before).key ≡ length a.key.now = search in
-    let message : length (t' r.before.before.before.before.before.before.before.before.before.before.before).message ≡ length a.message.now = search in
-    let commitment : length (t' r.before.before.before.before.before.before.before.before.before.before.before).commitment ≡ length a.commitment.now = search in
-    let rounds : length (t' r.before.before.before.before.before.before.before.before.before.before.before).rounds ≡ length a.rounds.now = search in
-    let challenges : length (t' r.before.before.before.before.before.before.before.before.before.before.before).challenges ≡ length a.challenges.now = search in
-    let last : length (t' r.before.before.before.before.before.before.before.before.before.before.before).last ≡ length a.last.now = search in
-    let claims : length (t' r.before.before.before.before.before.before.before.before.before.before.before).claims ≡ length a.claims.now = search in
+    let r = c.before.before.before.before.before.before.before.before.before.before.before in
+    let a = (start r).args in
+    let key : length (t' r).key ≡ length a.key.now = search in
+    let message : length (t' r).message ≡ length a.message.now = search in
+    let commitment : length (t' r).commitment ≡ length a.commitment.now = search in
+    let rounds : length (t' r).rounds ≡ length a.rounds.now = search in
+    let challenges : length (t' r).challenges ≡ length a.challenges.now = search in
+    let last : length (t' r).last ≡ length a.last.now = search in
+    let claims : length (t' r).claims ≡ length a.claims.now = search in
     λ j. key j ∷ message j ∷ commitment j ∷ rounds j ∷ challenges j ∷ last j ∷ claims j ∷ []
 
 returns-then-loaded-ne0 : tie.Need-returns-then-loaded-ne0
-returns-then-loaded-ne0 c = let r = c in
-    verify-refused (text r.before.before.before.before.before.before.before.before.before.before.before.before.before.before) (t r.before.before.before.before.before.before.before.before.before.before.before.before.before.before) (t' r.before.before.before.before.before.before.before.before.before.before.before.before.before.before) (fit r.before.before.before.before.before.before.before.before.before.before.before.before.before.before) r.read_tables-loaded.result (promise r.before.before.before.before.before.before.before.before.before.before.before.before.before.before) c.if-loaded-ne0.true
+returns-then-loaded-ne0 c = let r = c.before.before.before.before.before.before.before.before.before.before.before.before.before.before in
+    verify-refused (text r) (t r) (t' r) (fit r) c.read_tables-loaded.result (promise r) c.if-loaded-ne0.true
 
 answer-requires : tie.Need-answer-requires
 answer-requires c κs =
-    let e = c in
-    let l = e in
-    let r = l in
-    given_bare _ _ (verify_given (text r.before.before.before.before.before.before.before.before.before.before.before.before.before.before.before) (t r.before.before.before.before.before.before.before.before.before.before.before.before.before.before.before) (t' r.before.before.before.before.before.before.before.before.before.before.before.before.before.before.before) (fit r.before.before.before.before.before.before.before.before.before.before.before.before.before.before.before) r.read_tables-loaded.result (promise r.before.before.before.before.before.before.before.before.before.before.before.before.before.before.before) e.if-loaded-ne0.false (lengths l.before.before.before.before))
+    let r = c.before.before.before.before.before.before.before.before.before.before.before.before.before.before.before in
+    given_bare _ _ (verify_given (text r) (t r) (t' r) (fit r) c.read_tables-loaded.result (promise r) c.if-loaded-ne0.false (lengths c.before.before.before.before))
 
 returns : tie.Need-returns
 unfolding tables_accepted transcript_in
 returns c =
-    let e = c in
-    let r = e in
-    verify-done (text r.before.before.before.before.before.before.before.before.before.before.before.before.before.before.before.before) (t r.before.before.before.before.before.before.before.before.before.before.before.before.before.before.before.before) (t' r.before.before.before.before.before.before.before.before.before.before.before.before.before.before.before.before) (fit r.before.before.before.before.before.before.before.before.before.before.before.before.before.before.before.before) r.read_tables-loaded.result (promise r.before.before.before.before.before.before.before.before.before.before.before.before.before.before.before.before) e.if-loaded-ne0.false c.answer.result c.answer.ensures
+    let r = c.before.before.before.before.before.before.before.before.before.before.before.before.before.before.before.before in
+    verify-done (text r) (t r) (t' r) (fit r) c.read_tables-loaded.result (promise r) c.if-loaded-ne0.false c.answer.result c.answer.ensures
 
 pub verify_in_spec : {M : Type 1} → statement M
 verify_in_spec =

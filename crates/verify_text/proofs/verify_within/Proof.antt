@@ -106,10 +106,9 @@ module _ (c : tie.After-claim_cells-claim_cells) where
 
 returns-then-looked-ne0 : tie.Need-returns-then-looked-ne0
 returns-then-looked-ne0 c =
-    let l = c in
-    let t = l.args.text.now in
-    let r = l.allowed_settings-begun.result.loaded in
-    verify-stops t r ((begun t r l.allowed_settings-begun.ensures.0).refused c.if-looked-ne0.true) c.if-looked-ne0.true
+    let t = c.args.text.now in
+    let r = c.allowed_settings-begun.result.loaded in
+    verify-stops t r ((begun t r c.allowed_settings-begun.ensures.0).refused c.if-looked-ne0.true) c.if-looked-ne0.true
 
 slice_bounds-verify_in-end : tie.Need-slice_bounds-verify_in-end
 slice_bounds-verify_in-end c = key_room c

@@ -14,15 +14,14 @@ returns-then-rounds-third c = λ g.
 
 returns : tie.Need-returns
 returns c = λ g.
-    let p = c in
-    let a = p.args in
+    let a = c.args in
     let S = a.settings in
     let d = S.degree in
     let r = ready S g.of_round.allowed in
-    let is_at = p.polynomial_at-at.ensures.0 g.of_round.allowed g.of_round.index in
-    let is_n = p.item_cells-n.ensures.0 g.of_round.allowed in
-    let at = p.polynomial_at-at.result in
-    let n = p.item_cells-n.result in
+    let is_at = c.polynomial_at-at.ensures.0 g.of_round.allowed g.of_round.index in
+    let is_n = c.item_cells-n.ensures.0 g.of_round.allowed in
+    let at = c.polynomial_at-at.result in
+    let n = c.item_cells-n.result in
     claim-alike S a.rounds.now a.k at (at + 2 * n) is_at (ap (λ x. at + 2 * x) is_n) a.e (at + n) (ap (λ x. at + x) is_n) a.claim.now
     (c.value.ensures (record {
       degree = omega arith;

@@ -11,14 +11,13 @@ returns-then-rounds-last c = λ g. absurd (let at = c.polynomial_at-at.ensures.0
 
 returns : tie.Need-returns
 returns c = λ g.
-    let p = c in
-    let a = p.args in
+    let a = c.args in
     let S = a.settings in
     let d = S.degree in
-    let is_at = p.polynomial_at-at.ensures.0 g.allowed g.index in
-    let is_n = p.item_cells-n.ensures.0 g.allowed in
-    let at = p.polynomial_at-at.result in
-    let third = at + 2 * p.item_cells-n.result in
+    let is_at = c.polynomial_at-at.ensures.0 g.allowed g.index in
+    let is_n = c.item_cells-n.ensures.0 g.allowed in
+    let at = c.polynomial_at-at.result in
+    let third = at + 2 * c.item_cells-n.result in
     c.round_holds.ensures (record {
       allowed = g.allowed;
       first = g.claim_long;

@@ -9,7 +9,7 @@ use Rattle.extraction.proofs.elements.add_own.Statement.{statement}
 use Rattle.extraction.proofs.elements.add_own.Tie as tie
 
 mirror-requires : tie.Need-mirror-requires
-mirror-requires c κs = let g = c in own_mirrorable g.args.d g.requires.0 g.args.a.now g.requires.4 _ g.requires.3
+mirror-requires c κs = own_mirrorable c.args.d c.requires.0 c.args.a.now c.requires.4 _ c.requires.3
 
 -- the room keeps its length
 room : (c : tie.After-mirror) → let a = c.args in 2 * a.d ≤ length c.mirror.new.x
@@ -17,20 +17,20 @@ room c = omega (arith, c.requires.3, c.mirror.auto.x)
 
 add_rotated-requires : tie.Need-add_rotated-requires
 add_rotated-requires c κs =
-    let m = c in let g = m in let a = g.args in (
-      g.requires.0,
-      g.requires.1,
-      g.requires.2,
-      room m.before.before,
-      half-mirrored a.d a.a.now _ m.mirror.ensures,
-      own_summable a.d g.requires.0 a.a.now g.requires.4 _ (room m.before.before) m.mirror.ensures,
+    let m = c.before.before in let a = c.args in (
+      c.requires.0,
+      c.requires.1,
+      c.requires.2,
+      room m,
+      half-mirrored a.d a.a.now _ c.mirror.ensures,
+      own_summable a.d c.requires.0 a.a.now c.requires.4 _ (room m) c.mirror.ensures,
     )
 
 returns : tie.Need-returns
 returns c =
-    let m = c in let g = m in let a = g.args in
+    let a = c.args in
     c.add_rotated.ensures
-    ∙ own-rotated a.d g.requires.0 a.a.now g.requires.4 _ (room m.before.before.before.before) m.mirror.ensures a.e
+    ∙ own-rotated a.d c.requires.0 a.a.now c.requires.4 _ (room c.before.before.before.before) c.mirror.ensures a.e
 
 pub add_own_spec : {M : Type 1} → statement M
 add_own_spec =

@@ -37,15 +37,15 @@ loop-k-init c = (omega arith, filled_none _ _, refl)
 minus-requires : tie.Need-minus-requires invariant-loop-k decreases-loop-k invariant-loop-k-2 decreases-loop-k-2
 unfolding signed
 minus-requires c κs =
-    let l = c.loop-k in let g = c in let a = g.args in
-    row_room true a.n a.x.now a.out.now g.requires l.k (omega arith) l.invariant.1 (through-bits w64 _ c.minus-arg-1.given) (through-bits w64 _ c.minus-arg-in-loop-k-1.given)
+    let l = c.loop-k in let a = c.args in
+    row_room true a.n a.x.now a.out.now c.requires l.k (omega arith) l.invariant.1 (through-bits w64 _ c.minus-arg-1.given) (through-bits w64 _ c.minus-arg-in-loop-k-1.given)
 
 loop-k-preserved : tie.Need-loop-k-preserved invariant-loop-k decreases-loop-k invariant-loop-k-2 decreases-loop-k-2
 unfolding signed
 loop-k-preserved c =
-    let l = c.loop-k in let g = c in let a = g.args in (
+    let l = c.loop-k in let a = c.args in (
       search rules,
-      row_turn true a.n a.x.now a.out.now g.requires l.k (omega arith) l.invariant.1 (through-bits w64 _ c.minus-arg-1.given)
+      row_turn true a.n a.x.now a.out.now c.requires l.k (omega arith) l.invariant.1 (through-bits w64 _ c.minus-arg-1.given)
           (through-bits w64 _ c.minus-arg-in-loop-k-1.given)
           (through-bits w64 _ c.minus.type_inv ∙ c.minus.ensures),
       simp length-set (search rules),
@@ -60,15 +60,15 @@ returns-then-negative c =
 plus-requires : tie.Need-plus-requires invariant-loop-k decreases-loop-k invariant-loop-k-2 decreases-loop-k-2
 unfolding signed
 plus-requires c κs =
-    let l = c.loop-k-2 in let g = c in let a = g.args in
-    row_room false a.n a.x.now a.out.now g.requires l.k (omega arith) l.invariant.1 (through-bits w64 _ c.plus-arg-1.given) (through-bits w64 _ c.plus-arg-in-loop-k-2-1.given)
+    let l = c.loop-k-2 in let a = c.args in
+    row_room false a.n a.x.now a.out.now c.requires l.k (omega arith) l.invariant.1 (through-bits w64 _ c.plus-arg-1.given) (through-bits w64 _ c.plus-arg-in-loop-k-2-1.given)
 
 loop-k-2-preserved : tie.Need-loop-k-2-preserved invariant-loop-k decreases-loop-k invariant-loop-k-2 decreases-loop-k-2
 unfolding signed
 loop-k-2-preserved c =
-    let l = c.loop-k-2 in let g = c in let a = g.args in (
+    let l = c.loop-k-2 in let a = c.args in (
       search rules,
-      row_turn false a.n a.x.now a.out.now g.requires l.k (omega arith) l.invariant.1 (through-bits w64 _ c.plus-arg-1.given)
+      row_turn false a.n a.x.now a.out.now c.requires l.k (omega arith) l.invariant.1 (through-bits w64 _ c.plus-arg-1.given)
           (through-bits w64 _ c.plus-arg-in-loop-k-2-1.given)
           (through-bits w64 _ c.plus.type_inv ∙ c.plus.ensures),
       simp length-set (search rules),

@@ -83,15 +83,15 @@ add_own-requires c κs =
 
 overflow_mul-e : tie.Need-overflow_mul-e invariant-loop-j decreases-loop-j
 overflow_mul-e c =
-    let g = c in let l = c.loop-j in
-    omega (arith, small g.before.before.before.before.before.before.before.before, turn-exponent g.before.before.before.before.before.before.before.before l.j l.e l.invariant.1)
+    let g = c.before.before.before.before.before.before.before.before in let l = c.loop-j in
+    omega (arith, small g, turn-exponent g l.j l.e l.invariant.1)
 
 loop-j-preserved : tie.Need-loop-j-preserved invariant-loop-j decreases-loop-j
 loop-j-preserved c =
-    let g = c in let l = c.loop-j in let a = g.args in (
+    let g = c.before.before.before.before.before.before.before.before.before in let l = c.loop-j in let a = c.args in (
       omega arith,
-      c.on_circle-e.ensures.0 (some g.before.before.before.before.before.before.before.before.before, small g.before.before.before.before.before.before.before.before.before) ∙ ap (λ n. 2 * n % (2 * a.d)) l.invariant.1 ∙ Q.next-exponent a.d a.k l.j,
-      Q.next-sum a.d a.k (some g.before.before.before.before.before.before.before.before.before) a.a.now l.a l.j l.invariant.2 l.e l.invariant.1 _ c.add_own.ensures,
+      c.on_circle-e.ensures.0 (some g, small g) ∙ ap (λ n. 2 * n % (2 * a.d)) l.invariant.1 ∙ Q.next-exponent a.d a.k l.j,
+      Q.next-sum a.d a.k (some g) a.a.now l.a l.j l.invariant.2 l.e l.invariant.1 _ c.add_own.ensures,
       c.add_own.auto.a ∙ l.invariant.3,
       c.add_own.auto.x ∙ l.invariant.4,
       further a.d a.k l.j l.e l.invariant.1 c.if-e-d.false l.invariant.5,

@@ -56,8 +56,8 @@ minus-requires c κs =
 
 loop-k-preserved : tie.Need-loop-k-preserved invariant-loop-k decreases-loop-k
 loop-k-preserved c =
-    let g = c in let l = c.loop-k in let a = g.args in
-    let long : 2 * a.d ≤ length l.x = omega (arith, g.requires.long_to, l.invariant.1) in
+    let l = c.loop-k in let a = c.args in
+    let long : 2 * a.d ≤ length l.x = omega (arith, c.requires.long_to, l.invariant.1) in
     let here = through-bits w64 (get_or a.a.now l.k (pos 0)) c.y-1.given in (
       omega arith,
       simp length-set (search rules),

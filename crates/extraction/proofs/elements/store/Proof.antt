@@ -23,8 +23,8 @@ loop-k-init c = (omega arith, filled_none _ _, refl)
 loop-k-preserved : tie.Need-loop-k-preserved invariant-loop-k decreases-loop-k
 unfolding signed
 loop-k-preserved c =
-    let g = c in let l = c.loop-k in
-    (search rules, filled-turn (signed g.args.a.now) l.k g.args.out.now l.invariant.1 (through-bits w64 _ c.out-1.given) (omega arith), simp length-set (search rules))
+    let l = c.loop-k in
+    (search rules, filled-turn (signed c.args.a.now) l.k c.args.out.now l.invariant.1 (through-bits w64 _ c.out-1.given) (omega arith), simp length-set (search rules))
 
 returns : tie.Need-returns invariant-loop-k decreases-loop-k
 returns c = filled-end _ _ c.loop-k.invariant.1 (omega arith)

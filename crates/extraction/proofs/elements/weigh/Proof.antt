@@ -6,27 +6,27 @@ use Rattle.extraction.proofs.elements.weigh.Statement.{statement}
 use Rattle.extraction.proofs.elements.weigh.Tie as tie
 
 divide-requires : tie.Need-divide-requires
-divide-requires c κs = let g = c in let a = g.args in (g.requires.0, W.first-doubling a.d a.k a.m a.e a.a.now g.requires.1)
+divide-requires c κs = let a = c.args in (c.requires.0, W.first-doubling a.d a.k a.m a.e a.a.now c.requires.1)
 
 divide-requires-2 : tie.Need-divide-requires-2
 divide-requires-2 c κs =
-    let g = c in let a = g.args in let one = c.divide in
-    (omega (arith, g.requires.0, one.auto.x), W.second_doubling a.d a.k a.m a.e a.a.now g.requires.1 _ one.ensures)
+    let a = c.args in let one = c.divide in
+    (omega (arith, c.requires.0, one.auto.x), W.second_doubling a.d a.k a.m a.e a.a.now c.requires.1 _ one.ensures)
 
 add_own-requires : tie.Need-add_own-requires
 add_own-requires c κs =
-    let two = c in let one = two in let g = one in let a = g.args in (
-      W.some a.d a.k a.m a.e a.a.now g.requires.1,
-      W.small a.d a.k a.m a.e a.a.now g.requires.1,
-      g.requires.1.factors.exponent,
-      omega (arith, g.requires.0, one.divide.auto.x, two.divide-2.auto.x),
-      W.both_summable a.d a.k a.m a.e a.a.now g.requires.1 _ one.divide.ensures _ two.divide-2.ensures,
+    let a = c.args in (
+      W.some a.d a.k a.m a.e a.a.now c.requires.1,
+      W.small a.d a.k a.m a.e a.a.now c.requires.1,
+      c.requires.1.factors.exponent,
+      omega (arith, c.requires.0, c.divide.auto.x, c.divide-2.auto.x),
+      W.both_summable a.d a.k a.m a.e a.a.now c.requires.1 _ c.divide.ensures _ c.divide-2.ensures,
     )
 
 returns : tie.Need-returns
 returns c =
-    let g = c in let a = g.args in
-    W.weighted_all a.d a.k a.m a.e a.a.now g.requires.1 _
+    let a = c.args in
+    W.weighted_all a.d a.k a.m a.e a.a.now c.requires.1 _
     c.divide.ensures _
     c.divide-2.ensures _ c.add_own.ensures
 

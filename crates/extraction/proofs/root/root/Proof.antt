@@ -16,13 +16,13 @@ use Rattle.extraction.proofs.root.root.Statement.{statement}
 use Rattle.extraction.proofs.root.root.Tie as tie
 
 cells_are : (c : tie.After-cells-cells) → c.cells-cells.result ≡ cells c.args.settings
-cells_are c = let g = c in c.cells-cells.ensures (valid-settings g.args.settings g.requires.0.valid)
+cells_are c = c.cells-cells.ensures (valid-settings c.args.settings c.requires.0.valid)
 
 room : (c : tie.After-cells-cells) → c.cells-cells.result ≤ vector_room
 room c = omega (arith, cells_are c, root-room _ _ _ c.requires.0)
 
 nodes_are : (c : tie.After-nodes-first) → c.nodes-first.result ≡ nodes c.args.settings
-nodes_are c = let g = c in c.nodes-first.ensures.0 (valid-settings g.args.settings g.requires.0.valid)
+nodes_are c = c.nodes-first.ensures.0 (valid-settings c.args.settings c.requires.0.valid)
 
 -- the list before the call, and what the call leaves in its part of the list
 abbrev made : tie.After-node → tie.After-workspace-ws
@@ -50,14 +50,13 @@ slice_bounds-node-end : tie.Need-slice_bounds-node-end
 slice_bounds-node-end c = sym (length-take-le _ _ (omega (arith, room c.before.before.before, c.workspace-ws.ensures)))
 
 node-requires : tie.Need-node-requires
-node-requires c κs =
-    let z = c in let k = z in let g = k in (
-      g.requires.0,
-      (
-        root_at g.args.settings g.args.challenges.now g.args.leaves.now g.requires.0 _ _ z.workspace-ws.result (nodes_are z.before.before.before) (cells_are k.before.before.before.before) z.workspace-ws.ensures,
-        omega arith,
-      ),
-    )
+node-requires c κs = (
+  c.requires.0,
+  (
+    root_at c.args.settings c.args.challenges.now c.args.leaves.now c.requires.0 _ _ c.workspace-ws.result (nodes_are c.before.before.before) (cells_are c.before.before.before.before) c.workspace-ws.ensures,
+    omega arith,
+  ),
+)
 
 offset_bounds-ws-cells : tie.Need-offset_bounds-ws-cells
 offset_bounds-ws-cells c = omega (arith, room (counted c.before.before))
@@ -69,18 +68,18 @@ slice_bounds-store-start : tie.Need-slice_bounds-store-start
 slice_bounds-store-start c = omega (arith, room (counted c.before.before))
 
 slice_bounds-store-end : tie.Need-slice_bounds-store-end
-slice_bounds-store-end c = let n = c in omega (arith, kept_long _ (left n.before.before) (given n.before.before) (room (counted n.before.before)) (lent n.before.before) (made n.before.before).workspace-ws.ensures)
+slice_bounds-store-end c = let n = c.before.before in omega (arith, kept_long _ (left n) (given n) (room (counted n)) (lent n) (made n).workspace-ws.ensures)
 
 store-requires : tie.Need-store-requires
 store-requires c κs =
-    let n = c in let k = counted n.before.before.before.before in let g = k in
-    (omega (arith, part_room _ (left n.before.before.before.before) (given n.before.before.before.before) (room k) (lent n.before.before.before.before) (made n.before.before.before.before).workspace-ws.ensures), omega (arith, g.requires.1, cells_are k))
+    let n = c.before.before.before.before in let k = counted n in
+    (omega (arith, part_room _ (left n) (given n) (room k) (lent n) (made n).workspace-ws.ensures), omega (arith, k.requires.1, cells_are k))
 
 returns : tie.Need-returns
 unfolding root_vector cells size
 returns c =
-    let n = c in let k = counted n.before.before.before.before.before.before in let g = k in
-    copied k.cells-cells.result (left n.before.before.before.before.before.before) (given n.before.before.before.before.before.before) (room k) (lent n.before.before.before.before.before.before) (made n.before.before.before.before.before.before).workspace-ws.ensures g.args.w.now _ (g.requires.1 ∙ sym (cells_are k)) c.store.ensures
+    let n = c in let k = counted n.before.before.before.before.before.before in
+    copied k.cells-cells.result (left n.before.before.before.before.before.before) (given n.before.before.before.before.before.before) (room k) (lent n.before.before.before.before.before.before) (made n.before.before.before.before.before.before).workspace-ws.ensures k.args.w.now _ (k.requires.1 ∙ sym (cells_are k)) c.store.ensures
     ∙ ap (λ m. drop m (left n.before.before.before.before.before.before)) (cells_are k)
     ∙ n.node.ensures
 

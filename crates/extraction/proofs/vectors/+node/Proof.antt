@@ -96,21 +96,18 @@ module _ (t : ℕ) where
 
   stage-1 : (c : First) → N.Stage (branch (above (zeros c))) 1 c.add_branch.new.ws
   stage-1 c =
-      let child = c in
-      N.stage_next (branch (above (zeros c))) 0 (omega arith) _ (stage-0 (zeros c)) child.child_of.ensures
-      child.node.auto.ws child.node.ensures c.add_branch.ensures c.add_branch.auto.ws
+      N.stage_next (branch (above (zeros c))) 0 (omega arith) _ (stage-0 (zeros c)) c.child_of.ensures
+      c.node.auto.ws c.node.ensures c.add_branch.ensures c.add_branch.auto.ws
 
   stage-2 : (c : Second) → N.Stage (branch (above (zeros (first c)))) 2 c.add_branch-2.new.ws
   stage-2 c =
-      let child = c in
-      N.stage_next (branch (above (zeros (first c)))) 1 (omega arith) _ (stage-1 (first c)) child.child_of-2.ensures
-      child.node-2.auto.ws child.node-2.ensures c.add_branch-2.ensures c.add_branch-2.auto.ws
+      N.stage_next (branch (above (zeros (first c)))) 1 (omega arith) _ (stage-1 (first c)) c.child_of-2.ensures
+      c.node-2.auto.ws c.node-2.ensures c.add_branch-2.ensures c.add_branch-2.auto.ws
 
   stage-3 : (c : Third) → N.Stage (branch (above (zeros (first (second c))))) 3 c.add_branch-3.new.ws
   stage-3 c =
-      let child = c in
-      N.stage_next (branch (above (zeros (first (second c))))) 2 (omega arith) _ (stage-2 (second c)) child.child_of-3.ensures
-      child.node-3.auto.ws child.node-3.ensures c.add_branch-3.ensures c.add_branch-3.auto.ws
+      N.stage_next (branch (above (zeros (first (second c))))) 2 (omega arith) _ (stage-2 (second c)) c.child_of-3.ensures
+      c.node-3.auto.ws c.node-3.ensures c.add_branch-3.ensures c.add_branch-3.auto.ws
 
   -- the room keeps its length
   held : (g : Start) → 2 * width ≤ length g.args.room.now
@@ -127,16 +124,16 @@ module _ (t : ℕ) where
   node-cast-d c = omega (arith, L.small c.requires.1.0)
 
   node-sub-leaf-vector : node-lts.Need-overflow_sub-k (calls t) (node_at t) node.Post
-  node-sub-leaf-vector c = let g = c in L.leaf-number g.requires.1.0 g.requires.1.1.0 (omega arith)
+  node-sub-leaf-vector c = L.leaf-number c.requires.1.0 c.requires.1.1.0 (omega arith)
 
   node-leaf-vector-requires : node-lts.Need-leaf_vector-requires (calls t) (node_at t) node.Post
   node-leaf-vector-requires c κs =
-      let g = c in let tree = g.requires.1.0 in
-      (L.small tree, L.leaf-inside tree g.requires.1.1.0 (omega arith), L.leaf-space tree g.requires.1.1.0 (omega arith))
+      let tree = c.requires.1.0 in
+      (L.small tree, L.leaf-inside tree c.requires.1.1.0 (omega arith), L.leaf-space tree c.requires.1.1.0 (omega arith))
 
   node-returns : node-lts.Need-returns-then-h-eq0 (calls t) (node_at t) node.Post
   node-returns c =
-      let g = c in L.leaf-is g.requires.1.0 g.requires.1.1.0 (omega arith) _ c.leaf_vector.ensures
+      L.leaf-is c.requires.1.0 c.requires.1.1.0 (omega arith) _ c.leaf_vector.ensures
 
   node-div-n : node-lts.Need-nonzero_div-n-2 (calls t) (node_at t) node.Post
   node-div-n c = L.some (start c).requires.1.0
@@ -145,40 +142,40 @@ module _ (t : ℕ) where
   node-child-of-requires c κs = omega (arith, inner (above c))
 
   node-slice-aggregate-node : node-lts.Need-slice_bounds-node-end-2 (calls t) (node_at t) node.Post
-  node-slice-aggregate-node c = let at = c in N.lent (branch (above at.before.before)) 0 (stage-0 at.before.before)
+  node-slice-aggregate-node c = let at = c.before.before in N.lent (branch (above at)) 0 (stage-0 at)
 
   node-node-requires : node-lts.Need-node-requires (calls t) (node_at t) node.Post
   node-node-requires c κs =
-      let at = c in let b = branch (above at.before.before.before) in
-      (lower (above at.before.before.before), (b.tree, (N.child_place b 0 (omega arith) c.child_of.ensures (stage-0 at.before.before.before), held (start (above at.before.before.before)))))
+      let at = c.before.before.before in let b = branch (above at) in
+      (lower (above at), (b.tree, (N.child_place b 0 (omega arith) c.child_of.ensures (stage-0 at), held (start (above at)))))
 
   node-add-branch-requires : node-lts.Need-add_branch-requires (calls t) (node_at t) node.Post
   node-add-branch-requires c κs =
-      let child = c in let at = child in
-      let g = start (above at.before.before.before.before.before.before.before.before) in (
-        omega (arith, L.small g.requires.1.0, held g, child.node.auto.room),
-        N.stage_branching (branch (above at.before.before.before.before.before.before.before.before)) 0 (omega arith) _ (stage-0 at.before.before.before.before.before.before.before.before)
-            child.child_of.ensures child.node.auto.ws child.node.ensures,
+      let at = c.before.before.before.before.before.before.before.before in
+      let g = start (above at) in (
+        omega (arith, L.small g.requires.1.0, held g, c.node.auto.room),
+        N.stage_branching (branch (above at)) 0 (omega arith) _ (stage-0 at)
+            c.child_of.ensures c.node.auto.ws c.node.ensures,
       )
 
   node-child-of-requires-2 : node-lts.Need-child_of-requires-2 (calls t) (node_at t) node.Post
   node-child-of-requires-2 c κs = omega (arith, inner (above (zeros c)))
 
   node-slice-aggregate-node-2 : node-lts.Need-slice_bounds-node-end-4 (calls t) (node_at t) node.Post
-  node-slice-aggregate-node-2 c = let at = c in N.lent (branch (above (zeros at.before.before))) 1 (stage-1 at.before.before)
+  node-slice-aggregate-node-2 c = let at = c.before.before in N.lent (branch (above (zeros at))) 1 (stage-1 at)
 
   node-node-requires-2 : node-lts.Need-node-requires-2 (calls t) (node_at t) node.Post
   node-node-requires-2 c κs =
-      let at = c in let b = branch (above (zeros at.before.before.before)) in
-      (lower (above (zeros at.before.before.before)), (b.tree, (N.child_place b 1 (omega arith) c.child_of-2.ensures (stage-1 at.before.before.before), omega (arith, held (start (above (zeros at.before.before.before))), same-1 at.before.before.before))))
+      let at = c.before.before.before in let b = branch (above (zeros at)) in
+      (lower (above (zeros at)), (b.tree, (N.child_place b 1 (omega arith) c.child_of-2.ensures (stage-1 at), omega (arith, held (start (above (zeros at))), same-1 at))))
 
   node-add-branch-requires-2 : node-lts.Need-add_branch-requires-2 (calls t) (node_at t) node.Post
   node-add-branch-requires-2 c κs =
-      let child = c in let at = child in
-      let g = start (above (zeros at.before.before.before.before.before.before.before.before)) in (
-        omega (arith, L.small g.requires.1.0, held g, same-1 at.before.before.before.before.before.before.before.before, child.node-2.auto.room),
-        N.stage_branching (branch (above (zeros at.before.before.before.before.before.before.before.before))) 1 (omega arith) _ (stage-1 at.before.before.before.before.before.before.before.before)
-            child.child_of-2.ensures child.node-2.auto.ws child.node-2.ensures,
+      let at = c.before.before.before.before.before.before.before.before in
+      let g = start (above (zeros at)) in (
+        omega (arith, L.small g.requires.1.0, held g, same-1 at, c.node-2.auto.room),
+        N.stage_branching (branch (above (zeros at))) 1 (omega arith) _ (stage-1 at)
+            c.child_of-2.ensures c.node-2.auto.ws c.node-2.ensures,
       )
 
   node-sub-node-3 : node-lts.Need-overflow_sub-h-3 (calls t) (node_at t) node.Post
@@ -191,29 +188,29 @@ module _ (t : ℕ) where
   node-slice-relend-prefix-node-3 c = omega (arith, (stage-2 c.before).long)
 
   node-slice-aggregate-node-3 : node-lts.Need-slice_bounds-node-end-6 (calls t) (node_at t) node.Post
-  node-slice-aggregate-node-3 c = let at = c in N.lent (branch (above (zeros (first at.before.before)))) 2 (stage-2 at.before.before)
+  node-slice-aggregate-node-3 c = let at = c.before.before in N.lent (branch (above (zeros (first at)))) 2 (stage-2 at)
 
   node-node-requires-3 : node-lts.Need-node-requires-3 (calls t) (node_at t) node.Post
   node-node-requires-3 c κs =
-      let at = c in let b = branch (above (zeros (first at.before.before.before))) in (
-        lower (above (zeros (first at.before.before.before))),
+      let at = c.before.before.before in let b = branch (above (zeros (first at))) in (
+        lower (above (zeros (first at))),
         (
           b.tree,
           (
-            N.child_place b 2 (omega arith) c.child_of-3.ensures (stage-2 at.before.before.before),
+            N.child_place b 2 (omega arith) c.child_of-3.ensures (stage-2 at),
             omega
-                (arith, held (start (above (zeros (first at.before.before.before)))), same-2 at.before.before.before),
+                (arith, held (start (above (zeros (first at)))), same-2 at),
           ),
         ),
       )
 
   node-add-branch-requires-3 : node-lts.Need-add_branch-requires-3 (calls t) (node_at t) node.Post
   node-add-branch-requires-3 c κs =
-      let child = c in let at = child in
-      let g = start (above (zeros (first at.before.before.before.before.before.before.before.before))) in (
-        omega (arith, L.small g.requires.1.0, held g, same-2 at.before.before.before.before.before.before.before.before, child.node-3.auto.room),
-        N.stage_branching (branch (above (zeros (first at.before.before.before.before.before.before.before.before)))) 2 (omega arith) _ (stage-2 at.before.before.before.before.before.before.before.before)
-            child.child_of-3.ensures child.node-3.auto.ws child.node-3.ensures,
+      let at = c.before.before.before.before.before.before.before.before in
+      let g = start (above (zeros (first at))) in (
+        omega (arith, L.small g.requires.1.0, held g, same-2 at, c.node-3.auto.room),
+        N.stage_branching (branch (above (zeros (first at)))) 2 (omega arith) _ (stage-2 at)
+            c.child_of-3.ensures c.node-3.auto.ws c.node-3.ensures,
       )
 
   node-same-length-2 : node-lts.Need-shape_of-ws (calls t) (node_at t) node.Post

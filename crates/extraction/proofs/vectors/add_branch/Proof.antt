@@ -32,17 +32,17 @@ module _ (d n k j x y : ℕ) (E : List ℕ) (ws : List ℤ) (B : Branching d n k
 
 add_share-requires : tie.Need-add_share-requires
 add_share-requires c κs =
-    let h = c in let g = h in let a = g.args in (
-      g.requires.0,
-      sharing a.d a.n a.k a.j a.x a.y a.challenges.now a.ws.now g.requires.1
-          h.challenge_of-a.ensures h.challenge_of-b.ensures h.challenge_of-c.ensures,
+    let a = c.args in (
+      c.requires.0,
+      sharing a.d a.n a.k a.j a.x a.y a.challenges.now a.ws.now c.requires.1
+          c.challenge_of-a.ensures c.challenge_of-b.ensures c.challenge_of-c.ensures,
     )
 
 returns : tie.Need-returns
 returns c =
-    let s = c in let h = s in let g = h in let a = g.args in
-    added a.d a.n a.k a.j a.x a.y a.challenges.now a.ws.now g.requires.1
-    h.challenge_of-a.ensures h.challenge_of-b.ensures h.challenge_of-c.ensures _ s.add_share.ensures
+    let a = c.args in
+    added a.d a.n a.k a.j a.x a.y a.challenges.now a.ws.now c.requires.1
+    c.challenge_of-a.ensures c.challenge_of-b.ensures c.challenge_of-c.ensures _ c.add_share.ensures
 
 pub add_branch_spec : {M : Type 1} → statement M
 add_branch_spec =

@@ -71,16 +71,16 @@ overflow_add-c : tie.Need-overflow_add-c
 overflow_add-c c = omega (arith, c.requires.1.small, c.requires.1.others.1)
 
 overflow_add-b-2 : tie.Need-overflow_add-b-2
-overflow_add-b-2 c = let g = c in omega (arith, g.requires.1.small, g.requires.1.others.0, g.requires.1.others.1)
+overflow_add-b-2 c = omega (arith, c.requires.1.small, c.requires.1.others.0, c.requires.1.others.1)
 
 slice_bounds-scale-end-2 : tie.Need-slice_bounds-scale-end-2
-slice_bounds-scale-end-2 c = let g = c in sym (length-take-le _ _ (omega (arith, g.requires.1.long)))
+slice_bounds-scale-end-2 c = sym (length-take-le _ _ (omega (arith, c.requires.1.long)))
 
 scale-requires : tie.Need-scale-requires
 scale-requires c κs =
-    let g = c in let a = g.args in
-    let is-e = c.on_circle-e.ensures.0 (circle g.before.before.before.before.before) in
-    (g.requires.0, rw (first c.before.before.before.before, second c.before.before.before, is-e) (share_scalable a.d a.n a.a a.b a.c a.l.now g.requires.1))
+    let a = c.args in
+    let is-e = c.on_circle-e.ensures.0 (circle c.before.before.before.before.before) in
+    (c.requires.0, rw (first c.before.before.before.before, second c.before.before.before, is-e) (share_scalable a.d a.n a.a a.b a.c a.l.now c.requires.1))
 
 overflow_mul-once : tie.Need-overflow_mul-once
 overflow_mul-once c = omega (arith, once_small c, (at_once c).requires.1.small)
@@ -91,14 +91,14 @@ at_sums c = c.before.before.before.before
 
 add_turned-requires : tie.Need-add_turned-requires
 add_turned-requires c κs =
-    let at = c in let s = at_sums at.before.before in let g = at_scale s in let a = g.args in
-    (room s, rw (twice at.before.before, once at.before.before.before) (share_turnable a.d a.n a.a a.b a.c a.l.now g.requires.1 (products s)))
+    let at = c.before.before in let s = at_sums at in let g = at_scale s in let a = g.args in
+    (room s, rw (twice at, once c.before.before.before) (share_turnable a.d a.n a.a a.b a.c a.l.now g.requires.1 (products s)))
 
 returns : tie.Need-returns
 returns c =
-    let t = c in let at = t in let s = at_sums at.before.before.before.before.before in let g = at_scale s in let a = g.args in
+    let at = c in let s = at_sums at.before.before.before.before.before in let g = at_scale s in let a = g.args in
     share-added a.d a.n a.a a.b a.c a.l.now g.requires.1 (products s)
-    (t.add_turned.ensures ∙ (λ i. turned a.d a.n (twice at.before.before.before.before.before i) (once at.before.before.before.before.before.before i) a.n (whole s)))
+    (c.add_turned.ensures ∙ (λ i. turned a.d a.n (twice at.before.before.before.before.before i) (once at.before.before.before.before.before.before i) a.n (whole s)))
 
 pub add_share_spec : {M : Type 1} → statement M
 add_share_spec =

@@ -20,9 +20,9 @@ decreases-loop-i d n e f l₀ x₀ cells₀ i₀ l x i = n - i
 here : (c : tie.In-loop-i invariant-loop-i decreases-loop-i) → let a = c.args in let l = c.loop-i in
     (l.i < a.n) × (l.i * a.d + a.d ≤ a.n * a.d) × (length a.l.now ≡ 3 * (a.n * a.d)) × (length l.l ≡ length a.l.now)
 here c =
-    let g = c in let a = g.args in
+    let a = c.args in
     let lt : c.loop-i.i < a.n = omega arith in
-    (lt, in_row a.d a.n a.e a.f a.l.now g.requires.1 c.loop-i.i lt, g.requires.1.long, c.loop-i.invariant.2)
+    (lt, in_row a.d a.n a.e a.f a.l.now c.requires.1 c.loop-i.i lt, c.requires.1.long, c.loop-i.invariant.2)
 
 overflow_mul-cells : tie.Need-overflow_mul-cells invariant-loop-i decreases-loop-i
 overflow_mul-cells c = let h = c.requires.1.long in record { fits = omega arith }
@@ -44,8 +44,8 @@ slice_bounds-mirror-start c = let h = here c in omega arith
 
 mirror-requires : tie.Need-mirror-requires invariant-loop-i decreases-loop-i
 mirror-requires c κs =
-    let at = c in let g = at in let l = at.loop-i in let a = g.args in
-    can_mirror a.d a.n a.e a.f a.l.now g.requires.1 l.i (here at.before.before).0 l.invariant.1 l.invariant.2 l.x (omega (arith, g.requires.0, l.invariant.3))
+    let l = c.loop-i in let a = c.args in
+    can_mirror a.d a.n a.e a.f a.l.now c.requires.1 l.i (here c.before.before).0 l.invariant.1 l.invariant.2 l.x (omega (arith, c.requires.0, l.invariant.3))
 
 overflow_add-low : tie.Need-overflow_add-low invariant-loop-i decreases-loop-i
 overflow_add-low c = let h = here c.before.before.before.before in record { fits = omega arith }
@@ -61,17 +61,17 @@ slice_bounds-add_rotated-start c = let h = here c.before.before.before.before in
 
 add_rotated-requires : tie.Need-add_rotated-requires invariant-loop-i decreases-loop-i
 add_rotated-requires c κs =
-    let s = c.mirror in let at = c in let g = at in let l = at.loop-i in let a = g.args in
-    can_add_low a.d a.n a.e a.f a.l.now g.requires.1 l.i (here at.before.before.before.before.before).0 l.invariant.1 l.invariant.2 (omega (arith, g.requires.0, l.invariant.3, s.auto.x)) s.ensures
+    let s = c.mirror in let l = c.loop-i in let a = c.args in
+    can_add_low a.d a.n a.e a.f a.l.now c.requires.1 l.i (here c.before.before.before.before.before).0 l.invariant.1 l.invariant.2 (omega (arith, c.requires.0, l.invariant.3, s.auto.x)) s.ensures
 
 -- the list keeps its length in the first sum
 after : (c : tie.After-add_rotated invariant-loop-i decreases-loop-i) → let at = c in let a = at.args in let l = at.loop-i in
     let low = a.n * a.d + l.i * a.d in
     length (put_mid low (length l.l - low) l.l c.add_rotated.new.out) ≡ length a.l.now
 after c =
-    let s = c.mirror in let at = c in let g = at in let l = at.loop-i in
-    let a = g.args in
-    after_low a.d a.n a.e a.f a.l.now g.requires.1 l.i (here at.before.before.before.before.before.before).0 l.invariant.1 l.invariant.2 (omega (arith, g.requires.0, l.invariant.3, s.auto.x)) s.ensures
+    let s = c.mirror in let l = c.loop-i in
+    let a = c.args in
+    after_low a.d a.n a.e a.f a.l.now c.requires.1 l.i (here c.before.before.before.before.before.before).0 l.invariant.1 l.invariant.2 (omega (arith, c.requires.0, l.invariant.3, s.auto.x)) s.ensures
     c.add_rotated.ensures
 
 overflow_add-high : tie.Need-overflow_add-high invariant-loop-i decreases-loop-i
@@ -88,18 +88,18 @@ slice_bounds-add_rotated-start-in-loop-i c = let h = here c.before.before.before
 
 add_rotated-requires-in-loop-i : tie.Need-add_rotated-requires-in-loop-i invariant-loop-i decreases-loop-i
 add_rotated-requires-in-loop-i c κs =
-    let s = c.mirror in let at = c in let g = at in let l = at.loop-i in let a = g.args in
-    can_add_high a.d a.n a.e a.f a.l.now g.requires.1 l.i (here at.before.before.before.before.before.before.before.before).0 l.invariant.1 l.invariant.2 (omega (arith, g.requires.0, l.invariant.3, s.auto.x)) s.ensures
+    let s = c.mirror in let l = c.loop-i in let a = c.args in
+    can_add_high a.d a.n a.e a.f a.l.now c.requires.1 l.i (here c.before.before.before.before.before.before.before.before).0 l.invariant.1 l.invariant.2 (omega (arith, c.requires.0, l.invariant.3, s.auto.x)) s.ensures
     c.add_rotated.ensures
 
 loop-i-preserved : tie.Need-loop-i-preserved invariant-loop-i decreases-loop-i
 loop-i-preserved c =
-    let s = c.mirror in let at = c in let g = at in let l = at.loop-i in let a = g.args in
-    let same = after_high a.d a.n a.e a.f a.l.now g.requires.1 l.i (here at.before.before.before.before.before.before.before.before.before.before).0 l.invariant.1 l.invariant.2 (omega (arith, g.requires.0, l.invariant.3, s.auto.x)) s.ensures
+    let s = c.mirror in let at = c.before.before.before.before.before.before.before.before.before.before in let l = c.loop-i in let a = c.args in
+    let same = after_high a.d a.n a.e a.f a.l.now c.requires.1 l.i (here at).0 l.invariant.1 l.invariant.2 (omega (arith, c.requires.0, l.invariant.3, s.auto.x)) s.ensures
     c.add_rotated.ensures c.add_rotated-in-loop-i.ensures in (
-      omega (arith, (here at.before.before.before.before.before.before.before.before.before.before).0),
+      omega (arith, (here at).0),
       same,
-      ap length same ∙ turned-length a.d a.n a.e a.f a.l.now g.requires.1 (l.i + 1) (omega (arith, (here at.before.before.before.before.before.before.before.before.before.before).0)),
+      ap length same ∙ turned-length a.d a.n a.e a.f a.l.now c.requires.1 (l.i + 1) (omega (arith, (here at).0)),
       s.auto.x ∙ l.invariant.3,
     )
 

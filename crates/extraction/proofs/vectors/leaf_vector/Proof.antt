@@ -32,7 +32,7 @@ loaded d j finals ws q inside long e =
     ∙ tabulate_ext d (part-signed (j * d) (length finals - j * d) finals d j refl (omega arith))
 
 returns : tie.Need-returns
-returns c = let g = c in loaded g.args.d g.args.j g.args.leaves.now g.args.ws.now _ g.requires.1 g.requires.2 c.load.ensures
+returns c = loaded c.args.d c.args.j c.args.leaves.now c.args.ws.now _ c.requires.1 c.requires.2 c.load.ensures
 
 pub leaf_vector_spec : {M : Type 1} → statement M
 leaf_vector_spec =

@@ -24,9 +24,9 @@ loop-k-init c = (omega arith, filled_none _ _, refl)
 loop-k-preserved : tie.Need-loop-k-preserved invariant-loop-k decreases-loop-k
 unfolding signed
 loop-k-preserved c =
-    let g = c in let l = c.loop-k in (
+    let l = c.loop-k in (
       search rules,
-      filled-turn (signed g.args.f.now) l.k g.args.out.now l.invariant.1
+      filled-turn (signed c.args.f.now) l.k c.args.out.now l.invariant.1
           (through-bits w64 _ c.widen.type_inv ∙ c.widen.ensures ∙ to_z-of_z {w = w32} (record { sfits = c.widen-arg-1.given })) (omega arith),
       simp length-set (search rules),
     )

@@ -60,7 +60,7 @@ module _ (d n k m e : ℕ) (v : List ℤ) (X : Scalable d n k m e v) (i : ℕ) (
 
 -- an element's place
 here : (c : tie.In-loop-i invariant-loop-i decreases-loop-i) → let g = c in c.loop-i.i * g.args.d + g.args.d ≤ length g.args.v.now
-here c = let g = c in let a = g.args in inside a.d a.n a.k a.m a.e a.v.now g.requires.1 c.loop-i.i (omega arith)
+here c = let a = c.args in inside a.d a.n a.k a.m a.e a.v.now c.requires.1 c.loop-i.i (omega arith)
 
 loop-i-init : tie.Need-loop-i-init invariant-loop-i decreases-loop-i
 loop-i-init c = let a = c.args in (omega arith, rows_none (products a.d a.k a.m a.e a.v.now) 0 a.d a.v.now, refl, refl)
@@ -79,13 +79,13 @@ slice_bounds-weigh-start c = omega (arith, here c)
 
 weigh-requires : tie.Need-weigh-requires invariant-loop-i decreases-loop-i
 weigh-requires c κs =
-    let g = c in let l = c.loop-i in let a = g.args in
-    (omega (arith, g.requires.0, l.invariant.3), weighable a.d a.n a.k a.m a.e a.v.now g.requires.1 l.i (omega arith) l.v l.invariant.1 l.invariant.2)
+    let l = c.loop-i in let a = c.args in
+    (omega (arith, c.requires.0, l.invariant.3), weighable a.d a.n a.k a.m a.e a.v.now c.requires.1 l.i (omega arith) l.v l.invariant.1 l.invariant.2)
 
 loop-i-preserved : tie.Need-loop-i-preserved invariant-loop-i decreases-loop-i
 loop-i-preserved c =
-    let g = c in let l = c.loop-i in let a = g.args in
-    let next = turn a.d a.n a.k a.m a.e a.v.now g.requires.1 l.i (omega arith) l.v l.invariant.1 l.invariant.2 _ c.weigh.ensures in (
+    let l = c.loop-i in let a = c.args in
+    let next = turn a.d a.n a.k a.m a.e a.v.now c.requires.1 l.i (omega arith) l.v l.invariant.1 l.invariant.2 _ c.weigh.ensures in (
       omega arith,
       next,
       ap length next ∙ spliced-length _ 0 ((l.i + 1) * a.d) a.v.now (omega arith) (omega (arith, here c.before.before.before.before.before, Nat.add-mul l.i 1 a.d)),

@@ -8,30 +8,24 @@ use Rattle.judge.proofs.combination.combination.Statement.{statement}
 use Rattle.judge.proofs.combination.combination.Tie as tie
 
 returns-then-q-le-NARROW : tie.Need-returns-then-q-le-NARROW
-returns-then-q-le-NARROW c = let s = c in c.part-sums.ensures ∙ part_only s.args.settings s.args.key.now s.args.w.now s.requires (omega arith)
+returns-then-q-le-NARROW c = c.part-sums.ensures ∙ part_only c.args.settings c.args.key.now c.args.w.now c.requires (omega arith)
 
 add_scaled-requires : tie.Need-add_scaled-requires
 add_scaled-requires c κs =
-    let second = c in
-    let first = second in
-    let s = first in
-    let a = s.args in
-    let few = degree-few a.settings a.key.now a.w.now s.requires in (
-      modulus_given a.settings a.key.now a.w.now s.requires,
+    let a = c.args in
+    let few = degree-few a.settings a.key.now a.w.now c.requires in (
+      modulus_given a.settings a.key.now a.w.now c.requires,
       omega arith,
       omega (arith, few),
       omega (arith, few),
-      part-reduced a.settings a.key.now a.w.now s.requires (2 ^ 32) _ second.part-upper.ensures,
-      part-reduced a.settings a.key.now a.w.now s.requires 1 _ first.part-sums.ensures,
+      part-reduced a.settings a.key.now a.w.now c.requires (2 ^ 32) _ c.part-upper.ensures,
+      part-reduced a.settings a.key.now a.w.now c.requires 1 _ c.part-sums.ensures,
     )
 
 returns : tie.Need-returns
 returns c =
-    let second = c in
-    let first = second in
-    let s = first in
-    let a = s.args in
-    c.add_scaled.ensures ∙ parts-joined a.settings a.key.now a.w.now s.requires _ _ first.part-sums.ensures second.part-upper.ensures
+    let a = c.args in
+    c.add_scaled.ensures ∙ parts-joined a.settings a.key.now a.w.now c.requires _ _ c.part-sums.ensures c.part-upper.ensures
 
 pub combination_spec : {M : Type 1} → statement M
 combination_spec =

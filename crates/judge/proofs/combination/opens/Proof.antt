@@ -53,7 +53,7 @@ module _ (c : tie.In-loop-k invariant-loop-k decreases-loop-k) where
 
 prepared-factor-requires : tie.Need-prepared-factor-requires invariant-loop-k decreases-loop-k
 prepared-factor-requires c κs =
-    let g = c in (modulus_given g.args.settings g.args.key.now g.args.w.now g.requires.0, omega (arith, g.ranges.c.fits))
+    (modulus_given c.args.settings c.args.key.now c.args.w.now c.requires.0, omega (arith, c.ranges.c.fits))
 
 loop-k-init : tie.Need-loop-k-init invariant-loop-k decreases-loop-k
 loop-k-init c = (omega arith, every-none _)
@@ -69,8 +69,8 @@ scaled_is-requires c κs = (c.prepared-factor.ensures, (s c.before).requires.2 c
 
 returns-then-not-scaled_is : tie.Need-returns-then-not-scaled_is invariant-loop-k decreases-loop-k
 returns-then-not-scaled_is c =
-    let i = c in let a = (s i.before.before.before).args in let sums = i.combination-sums in
-    every_fails (same a.settings.modulus a.c a.commitment.now sums.result) a.settings.degree i.loop-k.k (omega arith)
+    let a = (s c.before.before.before).args in let sums = c.combination-sums in
+    every_fails (same a.settings.modulus a.c a.commitment.now sums.result) a.settings.degree c.loop-k.k (omega arith)
     (sym c.scaled_is.ensures ∙ not-true _ c.if-not-scaled_is.true-raw)
     ∙ same_is a.settings a.key.now a.commitment.now a.c a.w.now _ sums.ensures
 

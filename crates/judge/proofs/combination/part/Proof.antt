@@ -11,50 +11,43 @@ use Rattle.judge.proofs.combination.part.Tie as tie
 
 -- as many elements as the settings say
 count : (c : tie.After-left-n) → c.left-n.result ≡ size c.args.settings
-count c = let s = c in c.left-n.ensures (record { allowed = s.requires.0.allowed; most = omega arith }) ∙ left_none s.args.settings
+count c = c.left-n.ensures (record { allowed = c.requires.0.allowed; most = omega arith }) ∙ left_none c.args.settings
 
 split-requires : tie.Need-split-requires
 split-requires c κs =
-    let s = c in
-    let a = s.args in
-    let v = s.requires.0 in
-    ((modulus_given a.settings a.key.now a.w.now v).positive, s.requires.1, omega (arith, v.few, v.long), omega (arith, v.few, v.long))
+    let a = c.args in
+    let v = c.requires.0 in
+    ((modulus_given a.settings a.key.now a.w.now v).positive, c.requires.1, omega (arith, v.few, v.long), omega (arith, v.few, v.long))
 
 add_scaled-requires : tie.Need-add_scaled-requires
 unfolding signed_zeros
 add_scaled-requires c κs =
-    let second = c in
-    let first = second in
-    let digits = first in
-    let t = digits in
-    let a = t.args in
-    let v = t.requires.0 in
-    let e = digits.split.ensures in
+    let t = c.before.before.before.before.before.before.before.before.before.before.before in
+    let a = c.args in
+    let v = c.requires.0 in
+    let e = c.split.ensures in
     let few = degree-few a.settings a.key.now a.w.now v in (
       modulus_given a.settings a.key.now a.w.now v,
       omega arith,
       omega (arith, few),
       omega (arith, few),
       product-reduced a.settings a.key.now a.w.now v _ _ _
-          (second.inner-upper.ensures (digits_summable a.settings a.key.now a.w.now v (2 ^ a.shift * 65536) _ e.1 _ (count t.before.before.before.before.before.before.before.before.before.before.before))),
+          (c.inner-upper.ensures (digits_summable a.settings a.key.now a.w.now v (2 ^ a.shift * 65536) _ e.1 _ (count t))),
       product-reduced a.settings a.key.now a.w.now v _ _ _
-          (first.inner-sums.ensures (digits_summable a.settings a.key.now a.w.now v (2 ^ a.shift) _ e.0 _ (count t.before.before.before.before.before.before.before.before.before.before.before))),
+          (c.inner-sums.ensures (digits_summable a.settings a.key.now a.w.now v (2 ^ a.shift) _ e.0 _ (count t))),
     )
 
 returns : tie.Need-returns
 unfolding signed_zeros
 returns c =
-    let second = c in
-    let first = second in
-    let digits = first in
-    let t = digits in
-    let a = t.args in
-    let v = t.requires.0 in
-    let e = digits.split.ensures in
+    let t = c.before.before.before.before.before.before.before.before.before.before.before.before.before in
+    let a = c.args in
+    let v = c.requires.0 in
+    let e = c.split.ensures in
     c.add_scaled.ensures
-    ∙ digits-joined a.settings a.key.now a.w.now v t.left-n.result (count t.before.before.before.before.before.before.before.before.before.before.before.before.before) (2 ^ a.shift) _ _ e.0 e.1 _ _
-    (first.inner-sums.ensures (digits_summable a.settings a.key.now a.w.now v (2 ^ a.shift) _ e.0 _ (count t.before.before.before.before.before.before.before.before.before.before.before.before.before)))
-    (second.inner-upper.ensures (digits_summable a.settings a.key.now a.w.now v (2 ^ a.shift * 65536) _ e.1 _ (count t.before.before.before.before.before.before.before.before.before.before.before.before.before)))
+    ∙ digits-joined a.settings a.key.now a.w.now v c.left-n.result (count t) (2 ^ a.shift) _ _ e.0 e.1 _ _
+    (c.inner-sums.ensures (digits_summable a.settings a.key.now a.w.now v (2 ^ a.shift) _ e.0 _ (count t)))
+    (c.inner-upper.ensures (digits_summable a.settings a.key.now a.w.now v (2 ^ a.shift * 65536) _ e.1 _ (count t)))
 
 pub part_spec : {M : Type 1} → statement M
 part_spec =

@@ -17,7 +17,7 @@ rest-is : (c : tie.After-remainder-m) → let a = c.args in c.remainder-m.result
 rest-is c = let s = c in c.remainder-m.ensures ∙ ap (λ m. m % s.args.q) (c.folded.ensures ∙ ap folded (to_z-of_z s.ranges.x))
 
 overflow_sub-result-then-x-lt0 : tie.Need-overflow_sub-result-then-x-lt0
-overflow_sub-result-then-x-lt0 c = let s = c in omega (arith, c.remainder-m.ensures, mod-lt c.folded.result s.requires)
+overflow_sub-result-then-x-lt0 c = omega (arith, c.remainder-m.ensures, mod-lt c.folded.result c.requires)
 
 returns-then-x-lt0 : tie.Need-returns-then-x-lt0
 returns-then-x-lt0 c =

@@ -28,13 +28,11 @@ loop-p-init c = (omega arith, filled_none _ _, filled_none _ _, search rules, se
 loop-p-preserved : tie.Need-loop-p-preserved invariant-loop-p decreases-loop-p
 unfolding digit
 loop-p-preserved c =
-    let first = c in
-    let r = first in
-    let l = r.loop-p in
-    let a = r.args in
-    let m-is : r.residue.result ≡ modulo a.q (get_or a.w.now l.p (pos 0)) = r.residue.ensures ∙ ap (modulo a.q) (through-bits w64 _ r.residue-arg-1.given) in (
+    let l = c.loop-p in
+    let a = c.args in
+    let m-is : c.residue.result ≡ modulo a.q (get_or a.w.now l.p (pos 0)) = c.residue.ensures ∙ ap (modulo a.q) (through-bits w64 _ c.residue-arg-1.given) in (
       omega arith,
-      filled-turn _ l.p _ l.invariant.1 (through-bits w32 first.digit_of.result first.digit_of.type_inv ∙ first.digit_of.ensures
+      filled-turn _ l.p _ l.invariant.1 (through-bits w32 c.digit_of.result c.digit_of.type_inv ∙ c.digit_of.ensures
           ∙ ap (λ m. pos (m / 2 ^ a.shift / 1 % 65536)) m-is ∙ ap pos (first_digit a.q (2 ^ a.shift) _)) (omega arith),
       filled-turn _ l.p _ l.invariant.2 (through-bits w32 c.digit_of-in-loop-p.result c.digit_of-in-loop-p.type_inv ∙ c.digit_of-in-loop-p.ensures
           ∙ ap (λ m. pos (m / 2 ^ a.shift / 65536 % 65536)) m-is ∙ ap pos (second_digit a.q (2 ^ a.shift) _)) (omega arith),

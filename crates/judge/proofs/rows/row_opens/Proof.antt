@@ -45,17 +45,17 @@ slice_bounds-opens-end-2 c = (lent c.before.before.before).inside
 
 opens-requires : tie.Need-opens-requires
 opens-requires c κs =
-    let s = c in
-    let p = s.requires in
-    let a = s.args in
+    let s = c.before.before.before.before in
+    let p = c.requires in
+    let a = c.args in
     let S = a.settings in (
       record {
         allowed = p.0.allowed;
-        key_given = subst (Below S.modulus (cells S)) (sym (lent s.before.before.before.before).row) (key_row-below S S.modulus a.key.now p.0.key_given a.i p.1);
+        key_given = subst (Below S.modulus (cells S)) (sym (lent s).row) (key_row-below S S.modulus a.key.now p.0.key_given a.i p.1);
         long = p.0.w_long;
         few = p.0.few;
       },
-      part-long (a.i * width) S.degree a.commitment.now (omega (arith, few_rows s.before.before.before.before, p.0.commitment-long, degree_most S (settings-valid S p.0.allowed))),
+      part-long (a.i * width) S.degree a.commitment.now (omega (arith, few_rows s, p.0.commitment-long, degree_most S (settings-valid S p.0.allowed))),
       subst (Reduced S.modulus S.degree) (sym (value-part a.commitment.now a.i)) (p.0.commitment_given a.i p.1),
     )
 

@@ -23,10 +23,8 @@ kept c = let l = c.loop-k in ap (λ x. get_or x l.k 0) l.invariant.1 ∙ filled-
 
 joined-requires : tie.Need-joined-requires invariant-loop-k decreases-loop-k
 joined-requires c κs =
-    let i = c in
-    let l = i.loop-k in
-    let s = i in
-    (i.prepared-factor.ensures, omega (arith, kept i.before.before, s.requires.5 l.k (omega arith)), s.requires.4 l.k (omega arith))
+    let l = c.loop-k in
+    (c.prepared-factor.ensures, omega (arith, kept c.before.before, c.requires.5 l.k (omega arith)), c.requires.4 l.k (omega arith))
 
 loop-k-preserved : tie.Need-loop-k-preserved invariant-loop-k decreases-loop-k
 loop-k-preserved c =

@@ -10,10 +10,9 @@ use Rattle.plain_products.proofs.columnwise.add_elements.Tie as tie
 
 returns : tie.Need-returns
 returns c = λ q t z h.
-    let s = c in
-    let a = s.args in
+    let a = c.args in
     subst (λ l. Stands q 4 (inner 4 a.n (signed_at 4 a.f.now) (residue_at 4 a.g.now)) (a.n * (4 * z.magnitude)) l t)
-    (sym (c.add_table.ensures (record { coefficients = s.requires.0; residues = s.requires.1; sums = s.requires.2 })))
+    (sym (c.add_table.ensures (record { coefficients = c.requires.0; residues = c.requires.1; sums = c.requires.2 })))
     (table_stands q a.n a.f.now a.g.now z h.0 a.s.now t h.1 a.n (Nat.le_refl a.n))
 
 pub add_elements_spec : {M : Type 1} → statement M

@@ -44,41 +44,37 @@ module _ (q n : ℕ) (f : List ℤ) (g s t s' : List ℕ) (few : q < 2 ^ 32) whe
 
 add_sums-requires : tie.Need-add_sums-requires
 add_sums-requires c κs =
-    let s = c in
-    let a = s.args in
+    let a = c.args in
     let t = c.if-sums.true in (
       record {
-        modulus = s.requires.0;
+        modulus = c.requires.0;
         degree = omega arith;
         degree_most = omega arith;
-        f_long = omega (arith, size_true a.sums t 4 a.n (length a.f.now) s.requires.1);
-        g_long = omega (arith, size_true a.sums t 4 a.n (length a.g.now) s.requires.2);
+        f_long = omega (arith, size_true a.sums t 4 a.n (length a.f.now) c.requires.1);
+        g_long = omega (arith, size_true a.sums t 4 a.n (length a.g.now) c.requires.2);
       },
-      s.requires.5,
-      s.requires.3,
-      s.requires.4,
+      c.requires.5,
+      c.requires.3,
+      c.requires.4,
     )
 
 returns-then-sums : tie.Need-returns-then-sums
 unfolding Given
 returns-then-sums c = λ d t z.
-    let s = c in
-    let a = s.args in
+    let a = c.args in
     at_four a.sums true c.if-sums.true a.q a.n a.f.now a.g.now a.s.now t _ d z.0
     (sums_become a.q a.n a.f.now a.g.now a.s.now t _ z.1 c.add_sums.ensures)
     z.2 z.3 z.4
 
 add_elements-requires : tie.Need-add_elements-requires
 add_elements-requires c κs =
-    let s = c in
-    let a = s.args in
+    let a = c.args in
     let t = c.if-sums.false in
-    (size-false a.sums t 4 a.n (length a.f.now) s.requires.1, size-false a.sums t 4 a.n (length a.g.now) s.requires.2, s.requires.5)
+    (size-false a.sums t 4 a.n (length a.f.now) c.requires.1, size-false a.sums t 4 a.n (length a.g.now) c.requires.2, c.requires.5)
 
 returns : tie.Need-returns
 returns c = λ d t z.
-    let s = c in
-    let a = s.args in
+    let a = c.args in
     at_four a.sums false c.if-sums.false a.q a.n a.f.now a.g.now a.s.now t _ d z.0
     (tables_become a.q a.n a.f.now a.g.now a.s.now t _ z.1 c.add_elements.ensures)
     z.2 z.3 z.4

@@ -27,8 +27,7 @@ loop-i-init c = let s = c in (omega arith, (λ t z. stands_first _ 4 (4 * 2 ^ 16
 
 loop-i-preserved : tie.Need-loop-i-preserved invariant-loop-i decreases-loop-i
 loop-i-preserved c =
-    let s = c in
-    let a = s.args in
+    let a = c.args in
     let l = c.loop-i in
     let test = c.loop-i-test.true in
     let halves = c.add_halves in
@@ -50,8 +49,7 @@ loop-i-preserved c =
 
 returns : tie.Need-returns invariant-loop-i decreases-loop-i
 returns c = λ t z.
-    let s = c in
-    let a = s.args in
+    let a = c.args in
     let l = c.loop-i in
     subst (λ n. Stands a.q 4 (inner 4 n (message_sums 4 a.h a.f.now) (key_sums a.q 4 a.h a.g.now)) (n * (4 * 2 ^ 16)) l.s t) {x = l.i} {y = a.h} (omega arith) (l.invariant.1 t z)
 

@@ -21,9 +21,8 @@ returns-then-r7-ne0 c =
 
 ending_small-requires : tie.Need-ending_small-requires
 ending_small-requires c κs =
-    let c7 = c in
-    let ok = allowed c7.before.before (tested-before c7.refuse-r7.ensures c.if-r7-ne0.false) in
-    (ok, eqb-true _ _ (tested-passed c7.refuse-r7.ensures c.if-r7-ne0.false) ∙ c7.cells.ensures ok)
+    let ok = allowed c.before.before (tested-before c.refuse-r7.ensures c.if-r7-ne0.false) in
+    (ok, eqb-true _ _ (tested-passed c.refuse-r7.ensures c.if-r7-ne0.false) ∙ c.cells.ensures ok)
 
 returns : tie.Need-returns
 unfolding end_refusal hasLength

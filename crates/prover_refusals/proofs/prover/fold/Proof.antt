@@ -13,20 +13,19 @@ unfolding fold_refusal
 returns-then-r7-ne0 c = sym (first_tested _ _ c.lengths-r7.ensures (λ z. refl) ∙ first_stops _ _ c.if-r7-ne0.true)
 
 moving_small-requires : tie.Need-moving_small-requires
-moving_small-requires c κs = let no = c in lengths_given _ _ _ no.lengths-r7.ensures no.if-r7-ne0.false
+moving_small-requires c κs = lengths_given _ _ _ c.lengths-r7.ensures c.if-r7-ne0.false
 
 returns : tie.Need-returns
 unfolding fold_refusal all_below exponent
 returns c =
-    let c10 = c in
-    let c9 = c10 in
+    let c9 = c in
     let c8 = c9 in
     let no = c8 in
     let (ok, _) = lengths_given _ _ _ no.lengths-r7.ensures no.if-r7-ne0.false in
     sym (first_tested _ _ no.lengths-r7.ensures (λ z. refl)
     ∙ first_tested _ _ c8.refuse-r8.ensures (λ z. c8.all_below_wide.ensures)
     ∙ first_tested _ _ c9.refuse-r9.ensures (λ z. c9.moving_small.ensures)
-    ∙ first_tested _ _ c10.refuse-r10.ensures (λ z. rw (c10.exponent_count.ensures ok))
+    ∙ first_tested _ _ c.refuse-r10.ensures (λ z. rw (c.exponent_count.ensures ok))
     ∙ first_tested _ _ c.refuse.ensures (λ z. refl)
     ∙ first_only _)
 

@@ -14,7 +14,7 @@ part : (c : tie.After-left_cells-end) → c.left_cells-end.result ≡ left_cells
 part c = c.left_cells-end.ensures (record { allowed = c.requires.0; most = c.requires.1 })
 
 slice_bounds-all_within-end : tie.Need-slice_bounds-all_within-end
-slice_bounds-all_within-end c = let p = c in sym (length-take-le _ _ (omega (arith, part p.before, left_inside p.args.settings p.args.t, p.requires.2)))
+slice_bounds-all_within-end c = sym (length-take-le _ _ (omega (arith, part c.before, left_inside c.args.settings c.args.t, c.requires.2)))
 
 returns : tie.Need-returns
 unfolding left_small

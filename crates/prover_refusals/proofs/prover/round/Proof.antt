@@ -13,7 +13,7 @@ unfolding round_refusal
 returns-then-r7-ne0 c = sym (first_tested _ _ c.lengths-r7.ensures (λ z. refl) ∙ first_stops _ _ c.if-r7-ne0.true)
 
 moving_small-requires : tie.Need-moving_small-requires
-moving_small-requires c κs = let no = c in lengths_given _ _ _ no.lengths-r7.ensures no.if-r7-ne0.false
+moving_small-requires c κs = lengths_given _ _ _ c.lengths-r7.ensures c.if-r7-ne0.false
 
 returns : tie.Need-returns
 unfolding round_refusal all_below

@@ -16,14 +16,12 @@ lengths : (c : tie.After-refuse-r7) → let a = c.args in
     Tested (settings_refusal a.settings) 7 (tree_sized a.settings a.key.now a.rounds.now a.challenges.now a.leaves.now a.w.now) c.refuse-r7.result
 unfolding hasLength
 lengths c =
-    let s = c in
-    let c16 = s in
-    lengths-tested _ c16.settings_refusal-r16.ensures c.refuse-r7.ensures (λ z. rw (
-      c16.cells-cells.ensures z,
-      s.key_cells.ensures z,
-      s.tree_round_cells.ensures z,
-      s.tree_challenges.ensures.0 z,
-      s.leaf_cells.ensures z,
+    lengths-tested _ c.settings_refusal-r16.ensures c.refuse-r7.ensures (λ z. rw (
+      c.cells-cells.ensures z,
+      c.key_cells.ensures z,
+      c.tree_round_cells.ensures z,
+      c.tree_challenges.ensures.0 z,
+      c.leaf_cells.ensures z,
     ))
 
 returns-then-r7-ne0 : tie.Need-returns-then-r7-ne0
@@ -41,9 +39,9 @@ unfolding tree_refusal all_below exponents exponent
 returns c =
     let c10 = c in
     let c8 = c10 in
-    let no = c8 in
-    let ok = tested-before (lengths no.before.before.before.before.before.before.before.before.before.before.before.before) no.if-r7-ne0.false in
-    sym (first_tested _ _ (lengths no.before.before.before.before.before.before.before.before.before.before.before.before) (λ z. refl)
+    let no = c8.before.before.before.before.before.before.before.before.before.before.before.before in
+    let ok = tested-before (lengths no) c8.if-r7-ne0.false in
+    sym (first_tested _ _ (lengths no) (λ z. refl)
     ∙ first_tested _ _ c8.refuse-r8.ensures (λ z. rw (
       c8.all_below_wide.ensures,
       c8.rows_below.ensures ok,

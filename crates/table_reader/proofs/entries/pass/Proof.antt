@@ -32,13 +32,12 @@ returns-in-9 c ok = tested _ _ _ _ (tests_it c.before.before.before) _ (c.all_wi
 returns-in-10 : tie.Need-returns-in-10
 unfolding exponents exponent narrow_limit value_limit
 returns-in-10 c ok =
-    let limit = c in
-    let a = limit.args in
+    let a = c.args in
     let small = exponent-le a.settings (allowed a.settings ok) in
-    tested _ _ _ _ (tests_it limit.before.before.before) _
-    (c.all_below-in-10.ensures ∙ ap (λ n. all (λ x. ltb x n) (map (unsigned value_limit) a.values.now)) (limit.exponent_count.ensures ok)
+    tested _ _ _ _ (tests_it c.before.before.before) _
+    (c.all_below-in-10.ensures ∙ ap (λ n. all (λ x. ltb x n) (map (unsigned value_limit) a.values.now)) (c.exponent_count.ensures ok)
     ∙ below-either (2 * a.settings.degree) value_limit narrow_limit (omega (arith, small)) small a.values.now
-    ∙ sym (tests-exponents _ _ _ limit.in-10.is))
+    ∙ sym (tests-exponents _ _ _ c.in-10.is))
 
 returns-in_default : tie.Need-returns-in_default
 returns-in_default c ok = tested _ _ _ _ (tests_it c.before) _ (sym (tests-nothing _ _ _ (λ e. absurd (omega arith)) (λ e. absurd (omega arith)) (λ e. absurd (omega arith))))

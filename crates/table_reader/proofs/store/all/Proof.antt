@@ -72,33 +72,32 @@ residues-after_key-requires c κs = omega (arith, room c.before.before.before.be
 
 signed-after_message-requires : tie.Need-signed-after_message-requires
 unfolding at_key start total lengths_of
-signed-after_message-requires c κs = let k = c in omega (arith, room (at_key k.before.before.before), key-end k.before.before.before)
+signed-after_message-requires c κs = let k = c.before.before.before in omega (arith, room (at_key k), key-end k)
 
 residues-after_commitment-requires : tie.Need-residues-after_commitment-requires
 unfolding at-message at_key start total lengths_of
-residues-after_commitment-requires c κs = let m = c in omega (arith, room (at-message m.before.before), message-end m.before.before)
+residues-after_commitment-requires c κs = let m = c.before.before in omega (arith, room (at-message m), message-end m)
 
 residues-after_rounds-requires : tie.Need-residues-after_rounds-requires
 unfolding at-commitment at-message at_key start total lengths_of
-residues-after_rounds-requires c κs = let p = c in omega (arith, room (at-commitment p.before.before.before), commitment-end p.before.before.before)
+residues-after_rounds-requires c κs = let p = c.before.before.before in omega (arith, room (at-commitment p), commitment-end p)
 
 exponents-after_challenges-requires : tie.Need-exponents-after_challenges-requires
 unfolding at-rounds at-commitment at-message at_key start total lengths_of
-exponents-after_challenges-requires c κs = let r = c in omega (arith, room (at-rounds r.before.before.before), rounds-end r.before.before.before)
+exponents-after_challenges-requires c κs = let r = c.before.before.before in omega (arith, room (at-rounds r), rounds-end r)
 
 signed-after_last-requires : tie.Need-signed-after_last-requires
 unfolding at-challenges at-rounds at-commitment at-message at_key start total lengths_of
-signed-after_last-requires c κs = let h = c in omega (arith, room (at-challenges h.before.before.before), challenges-end h.before.before.before)
+signed-after_last-requires c κs = let h = c.before.before.before in omega (arith, room (at-challenges h), challenges-end h)
 
 residues-requires : tie.Need-residues-requires
 unfolding at_last at-challenges at-rounds at-commitment at-message at_key start total lengths_of
-residues-requires c κs = let l = c in omega (arith, room (at_last l.before.before), last_end l.before.before)
+residues-requires c κs = let l = c.before.before in omega (arith, room (at_last l), last_end l)
 
 returns : tie.Need-returns
 unfolding at_last at-challenges at-rounds at-commitment at-message at_key start cut_tables narrow_tables lengths_of
 returns c =
-    let v = c in
-    let l = v in
+    let l = c in
     let h = l in
     let r = h in
     let p = r in
@@ -111,7 +110,7 @@ returns c =
     let rounds = r.residues-after_rounds.ensures.1 ∙ ap (λ from. map (unsigned value_limit) (cut from (length a.rounds.now) vs)) (commitment-end p.before.before.before.before.before.before.before.before.before.before.before.before.before.before.before.before.before) in
     let challenges = h.exponents-after_challenges.ensures.1 ∙ ap (λ from. map (unsigned narrow_limit) (cut from (length a.challenges.now) vs)) (rounds-end r.before.before.before.before.before.before.before.before.before.before.before.before.before) in
     let last = l.signed-after_last.ensures.1 ∙ ap (λ from. map narrowed (cut from (length a.last.now) vs)) (challenges-end h.before.before.before.before.before.before.before.before.before) in
-    let claims = v.residues.ensures.1 ∙ ap (λ from. map (unsigned value_limit) (cut from (length a.claims.now) vs)) (last_end l.before.before.before.before.before) in
+    let claims = c.residues.ensures.1 ∙ ap (λ from. map (unsigned value_limit) (cut from (length a.claims.now) vs)) (last_end l.before.before.before.before.before) in
     λ j. tables_of (k.residues-after_key.ensures.1 j) (message j) (commitment j) (rounds j) (challenges j) (last j) (claims j)
 
 pub all_spec : {M : Type 1} → statement M

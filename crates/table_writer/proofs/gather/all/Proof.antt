@@ -67,30 +67,30 @@ residues-after_key-requires c κs = omega (arith, c.requires)
 signed-after_message-requires : tie.Need-signed-after_message-requires
 unfolding at_key start total lengths_of
 signed-after_message-requires c κs =
-    let k = c in
-    let same : length k.residues-after_key.new.values ≡ length (at_key k.before.before).args.values.now = search rules in
-    omega (arith, (at_key k.before.before).requires, key-end k.before.before)
+    let k = c.before.before in
+    let same : length c.residues-after_key.new.values ≡ length (at_key k).args.values.now = search rules in
+    omega (arith, (at_key k).requires, key-end k)
 
 residues-after_commitment-requires : tie.Need-residues-after_commitment-requires
 unfolding at-message at_key start total lengths_of
 residues-after_commitment-requires c κs =
-    let m = c in
-    let same : length m.signed-after_message.new.values ≡ length (at-message m.before.before).args.values.now = search rules in
-    omega (arith, (at-message m.before.before).requires, message-end m.before.before)
+    let m = c.before.before in
+    let same : length c.signed-after_message.new.values ≡ length (at-message m).args.values.now = search rules in
+    omega (arith, (at-message m).requires, message-end m)
 
 residues-after_rounds-requires : tie.Need-residues-after_rounds-requires
 unfolding at-commitment at-message at_key start total lengths_of
 residues-after_rounds-requires c κs =
-    let p = c in
-    let same : length p.residues-after_commitment.new.values ≡ length (at-commitment p.before.before).args.values.now = search rules in
-    omega (arith, (at-commitment p.before.before).requires, commitment-end p.before.before)
+    let p = c.before.before in
+    let same : length c.residues-after_commitment.new.values ≡ length (at-commitment p).args.values.now = search rules in
+    omega (arith, (at-commitment p).requires, commitment-end p)
 
 exponents-after_challenges-requires : tie.Need-exponents-after_challenges-requires
 unfolding at-rounds at-commitment at-message at_key start total lengths_of
 exponents-after_challenges-requires c κs =
-    let r = c in
-    let same : length r.residues-after_rounds.new.values ≡ length (at-rounds r.before.before).args.values.now = search rules in
-    omega (arith, (at-rounds r.before.before).requires, rounds-end r.before.before)
+    let r = c.before.before in
+    let same : length c.residues-after_rounds.new.values ≡ length (at-rounds r).args.values.now = search rules in
+    omega (arith, (at-rounds r).requires, rounds-end r)
 
 challenges-length : (h : tie.After-exponents-after_challenges) → length h.exponents-after_challenges.new.values ≡ length (at-challenges h).args.values.now
 unfolding at-challenges at-rounds at-commitment at-message at_key
@@ -99,29 +99,21 @@ challenges-length h = search rules
 signed-after_last-requires : tie.Need-signed-after_last-requires
 unfolding at-challenges at-rounds at-commitment at-message at_key start total lengths_of
 signed-after_last-requires c κs =
-    let h = c in
-    omega (arith, (at-challenges h.before.before).requires, challenges-end h.before.before, challenges-length h.before.before)
+    let h = c.before.before in
+    omega (arith, (at-challenges h).requires, challenges-end h, challenges-length h)
 
 residues-requires : tie.Need-residues-requires
 unfolding at_last at-challenges at-rounds at-commitment at-message at_key start total lengths_of
 residues-requires c κs =
-    let l = c in
-    let h = l in
-    let same : length l.signed-after_last.new.values ≡ length h.exponents-after_challenges.new.values = search rules in
-    omega (arith, (at_last l.before.before).requires, last_end l.before.before, challenges-length h.before.before.before.before.before)
+    let l = c.before.before in
+    let same : length c.signed-after_last.new.values ≡ length c.exponents-after_challenges.new.values = search rules in
+    omega (arith, (at_last l).requires, last_end l, challenges-length c.before.before.before.before.before)
 
 returns : tie.Need-returns
 unfolding gathered flat_map
 returns c =
-    let v = c in
-    let l = v in
-    let h = l in
-    let r = h in
-    let p = r in
-    let m = p in
-    let k = m in
-    put_then k.residues-after_key.ensures (put_then m.signed-after_message.ensures (put_then p.residues-after_commitment.ensures (put_then r.residues-after_rounds.ensures
-    (put_then h.exponents-after_challenges.ensures (put_then l.signed-after_last.ensures (put_as (sym (append-nil _)) v.residues.ensures))))))
+    put_then c.residues-after_key.ensures (put_then c.signed-after_message.ensures (put_then c.residues-after_commitment.ensures (put_then c.residues-after_rounds.ensures
+    (put_then c.exponents-after_challenges.ensures (put_then c.signed-after_last.ensures (put_as (sym (append-nil _)) c.residues.ensures))))))
 
 pub all_spec : {M : Type 1} → statement M
 all_spec =

@@ -35,42 +35,36 @@ put_field-requires c κs = simp length-set (omega (arith, room c.before.before.b
 
 shape_of-out-then-value-lt0 : tie.Need-shape_of-out-then-value-lt0
 shape_of-out-then-value-lt0 c =
-    let f = c in
-    let s = f in
-    let put : length f.put_field.new.out ≡ length (set (after s.before.before.before.before.before.before.before.before) s.put_spot-value_on.result 45) = search rules in
-    let spot : length (after s.before.before.before.before.before.before.before.before) ≡ length s.args.out.now = search rules in
-    put ∙ length-set (after s.before.before.before.before.before.before.before.before) s.put_spot-value_on.result 45 ∙ spot
+    let s = c.before.before.before.before.before.before.before.before in
+    let put : length c.put_field.new.out ≡ length (set (after s) c.put_spot-value_on.result 45) = search rules in
+    let spot : length (after s) ≡ length c.args.out.now = search rules in
+    put ∙ length-set (after s) c.put_spot-value_on.result 45 ∙ spot
 
 returns-then-value-lt0 : tie.Need-returns-then-value-lt0
 returns-then-value-lt0 c =
-    let f = c in
-    let m = f in
-    let t = m in
-    let s = m in
-    let a = s.args in
-    let fits = s.ranges.value in
+    let t = c in
+    let s = c.before.before.before.before.before.before.before.before in
+    let a = c.args in
+    let fits = c.ranges.value in
     put_as
-    (ap (λ n. spot_text a.part a.cell ++ (45 ∷ field n 10)) (m.magnitude_wide.ensures ∙ ap nat_abs (to_z-of_z fits))
+    (ap (λ n. spot_text a.part a.cell ++ (45 ∷ field n 10)) (c.magnitude_wide.ensures ∙ ap nat_abs (to_z-of_z fits))
     ∙ ap (λ e. spot_text a.part a.cell ++ e) (value-below a.value fits t.if-value-lt0.true)
     ∙ line-spot a.part a.cell a.value)
-    (put_then s.put_spot-value_on.ensures (put_then (put_byte (after s.before.before.before.before.before.before.before.before) s.put_spot-value_on.result 45 (omega (arith, room s.before.before.before.before.before.before.before.before))) f.put_field.ensures))
+    (put_then c.put_spot-value_on.ensures (put_then (put_byte (after s) c.put_spot-value_on.result 45 (omega (arith, room s))) c.put_field.ensures))
 
 put_field-requires-2 : tie.Need-put_field-requires-2
 put_field-requires-2 c κs = omega (arith, room c.before.before.before.before.before)
 
 returns : tie.Need-returns
 returns c =
-    let f = c in
-    let m = f in
-    let t = m in
-    let s = m in
-    let a = s.args in
-    let fits = s.ranges.value in
+    let t = c in
+    let a = c.args in
+    let fits = c.ranges.value in
     put_as
-    (ap (λ n. spot_text a.part a.cell ++ field n 10) (m.magnitude_wide-2.ensures ∙ ap nat_abs (to_z-of_z fits))
+    (ap (λ n. spot_text a.part a.cell ++ field n 10) (c.magnitude_wide-2.ensures ∙ ap nat_abs (to_z-of_z fits))
     ∙ ap (λ e. spot_text a.part a.cell ++ e) (value-from a.value fits t.if-value-lt0.false)
     ∙ line-spot a.part a.cell a.value)
-    (put_then s.put_spot-value_on.ensures f.put_field-2.ensures)
+    (put_then c.put_spot-value_on.ensures c.put_field-2.ensures)
 
 pub put_line_spec : {M : Type 1} → statement M
 put_line_spec =

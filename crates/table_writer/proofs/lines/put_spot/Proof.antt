@@ -14,18 +14,15 @@ put_field-item_on-requires c κs = search rules
 
 put_field-place_on-requires : tie.Need-put_field-place_on-requires
 put_field-place_on-requires c κs =
-    let f = c in
-    let a = f.args in
-    let same : length f.put_field-item_on.new.out ≡ length a.out.now = search rules in
-    omega (arith, f.put_field-item_on.ensures.next, field_most a.part 32)
+    let a = c.args in
+    let same : length c.put_field-item_on.new.out ≡ length a.out.now = search rules in
+    omega (arith, c.put_field-item_on.ensures.next, field_most a.part 32)
 
 put_field-requires : tie.Need-put_field-requires
 put_field-requires c κs =
-    let g = c in
-    let f = g in
-    let a = f.args in
-    let same : length g.put_field-place_on.new.out ≡ length a.out.now = search rules in
-    omega (arith, f.put_field-item_on.ensures.next, g.put_field-place_on.ensures.next, field_most a.part 32, field_most a.cell.item 32)
+    let a = c.args in
+    let same : length c.put_field-place_on.new.out ≡ length a.out.now = search rules in
+    omega (arith, c.put_field-item_on.ensures.next, c.put_field-place_on.ensures.next, field_most a.part 32, field_most a.cell.item 32)
 
 shape_of-out : tie.Need-shape_of-out
 shape_of-out c = search rules
@@ -33,10 +30,7 @@ shape_of-out c = search rules
 returns : tie.Need-returns
 unfolding spot_text
 returns c =
-    let h = c in
-    let g = h in
-    let f = g in
-    put_then f.put_field-item_on.ensures (put_then g.put_field-place_on.ensures h.put_field.ensures)
+    put_then c.put_field-item_on.ensures (put_then c.put_field-place_on.ensures c.put_field.ensures)
 
 pub put_spot_spec : {M : Type 1} → statement M
 put_spot_spec =

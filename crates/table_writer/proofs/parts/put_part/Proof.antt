@@ -36,13 +36,12 @@ returns-then-at-gt-TEXT_LIMIT c fits =
 loop-p-preserved : tie.Need-loop-p-preserved invariant-loop-p decreases-loop-p
 unfolding text_limit
 loop-p-preserved c =
-    let w = c in
-    let l = w.loop-p in
-    let a = w.args in
+    let l = c.loop-p in
+    let a = c.args in
     let b = as_shape a.shape in
     let v = get_or a.values.now l.p (pos 0) in
     let items : a.shape.items < 2 ^ 32 = search rules in
-    let same : length w.put_line-at.new.out ≡ length l.out = search rules in (
+    let same : length c.put_line-at.new.out ≡ length l.out = search rules in (
       omega arith,
       same ∙ l.invariant.1,
       λ fits.
@@ -50,7 +49,7 @@ loop-p-preserved c =
           let (within, few) = cell-inside b l.p inside l.cell items (l.invariant.2 fits).0 in (
             c.next_cell-cell.ensures ∙ next-cell _ _ within few l.p (l.invariant.2 fits).0,
             upto-line b a.values.now a.from a.out.now l.p l.at l.out (l.invariant.2 fits).1 l.cell (to_z w64 (of_z w64 v)) inside
-                (omega arith) (l.invariant.2 fits).0 (through-bits w64 v w.put_line-arg-1.given) w.put_line-at.ensures,
+                (omega arith) (l.invariant.2 fits).0 (through-bits w64 v c.put_line-arg-1.given) c.put_line-at.ensures,
           ),
     )
 

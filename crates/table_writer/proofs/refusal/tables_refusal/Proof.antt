@@ -58,10 +58,9 @@ unfolding tables_refusal entries_refusal all_below all_within exponents exponent
 returns c =
     let c₉ = c in
     let c₈ = c₉ in
-    let no = c₈ in
-    let c₇ = no in
-    let ok = allowed (c₆ c₇.before.before.before.before.before.before.before.before.before.before.before.before) (tested-before c₇.refuse-r7.ensures no.if-r7-ne0.false) in
-    sym (known c₇.before.before.before.before.before.before.before.before.before.before.before.before _ ∙ last_flat _ _
+    let c₇ = c₈.before.before.before.before.before.before.before.before.before.before.before.before in
+    let ok = allowed (c₆ c₇) (tested-before c₈.refuse-r7.ensures c₈.if-r7-ne0.false) in
+    sym (known c₇ _ ∙ last_flat _ _
     ∙ first_tested _ _ c₈.refuse-r8.ensures (λ z. rw (
       c₈.all_below_wide.ensures,
       c₈.all_below_wide-2.ensures,

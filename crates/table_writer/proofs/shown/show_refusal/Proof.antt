@@ -48,7 +48,7 @@ slice_bounds-show-end : tie.Need-slice_bounds-show-end
 slice_bounds-show-end c = sym (length-take-le _ _ (within c.before.before))
 
 returns : tie.Need-returns
-returns c = let s = c in shown_as (whole s.before.before.before.before.before.before) s.show.ensures
+returns c = shown_as (whole c.before.before.before.before.before.before) c.show.ensures
 
 pub show_refusal_spec : {M : Type 1} → statement M
 show_refusal_spec =

@@ -27,16 +27,11 @@ returns c =
     let k = p in
     let a = k.args in
     let b = p in
-    let v₅ = b in
-    let v₄ = v₅ in
-    let v₃ = v₄ in
-    let v₂ = v₃ in
-    let v₁ = v₂ in
-    let degree = through-bits w64 _ v₁.value_of.type_inv ∙ v₁.value_of.ensures in
-    let depth = through-bits w64 _ v₂.value_of-2.type_inv ∙ v₂.value_of-2.ensures in
-    let modulus = through-bits w64 _ v₃.residue_value.type_inv ∙ v₃.residue_value.ensures in
-    let bound = through-bits w64 _ v₄.value_of-3.type_inv ∙ v₄.value_of-3.ensures in
-    let rows = through-bits w64 _ v₅.value_of-4.type_inv ∙ v₅.value_of-4.ensures in
+    let degree = through-bits w64 _ b.value_of.type_inv ∙ b.value_of.ensures in
+    let depth = through-bits w64 _ b.value_of-2.type_inv ∙ b.value_of-2.ensures in
+    let modulus = through-bits w64 _ b.residue_value.type_inv ∙ b.residue_value.ensures in
+    let bound = through-bits w64 _ b.value_of-3.type_inv ∙ b.value_of-3.ensures in
+    let rows = through-bits w64 _ b.value_of-4.type_inv ∙ b.value_of-4.ensures in
     subst (λ l. Held (names ++ l) p.put_part.result p.put_part.new.out)
     (λ j. part_text (b.settings_shape.ensures j) (degree j ∷ depth j ∷ modulus j ∷ bound j ∷ rows j ∷ []))
     (p.put_part.ensures (sym (ap shape_size b.settings_shape.ensures)) names (subst (Held names 22) (sym k.copy.ensures) (named a.out.now)))

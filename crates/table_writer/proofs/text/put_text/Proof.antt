@@ -7,9 +7,7 @@ use Rattle.table_writer.proofs.text.put_text.Tie as tie
 returns : tie.Need-returns
 unfolding values_text
 returns c fits =
-    let p = c in
-    let s = p in
-    p.put_parts.ensures fits _ s.put_settings-tables_on.ensures
+    c.put_parts.ensures fits _ c.put_settings-tables_on.ensures
 
 pub put_text_spec : {M : Type 1} → statement M
 put_text_spec = tie.close (tie.spec (λ c κs. search rules) (λ c κs. search rules) (λ c. search rules) returns)

@@ -18,9 +18,8 @@ returns-then-refusal-ne0 c = stopped _ _ _ _ _ c.tables_refusal-refusal.ensures 
 
 returns : tie.Need-returns
 returns c =
-    let w = c in
-    let e = w in
-    wrote _ _ _ _ (fine e.before.before.before.before) w.write_tables.result _ (w.write_tables.ensures (passed _ _ _ [] (fine e.before.before.before.before)))
+    let e = c.before.before.before.before in
+    wrote _ _ _ _ (fine e) c.write_tables.result _ (c.write_tables.ensures (passed _ _ _ [] (fine e)))
 
 pub write_spec : {M : Type 1} → statement M
 write_spec = tie.close (tie.spec (λ c κs. search rules) returns-then-refusal-ne0 (λ c κs. search rules) (λ c. search rules) returns)

@@ -41,10 +41,8 @@ all-requires c κs = omega (arith, room c.before)
 
 write_values-requires : tie.Need-write_values-requires
 write_values-requires c κs =
-    let a = c in
-    let e = c in
-    let same : length a.all.new.values ≡ values_room = search rules in
-    omega (arith, room e.before.before.before.before.before, ap total (lengths_is e.before.before.before.before.before.before))
+    let same : length c.all.new.values ≡ values_room = search rules in
+    omega (arith, room c.before.before.before.before.before, ap total (lengths_is c.before.before.before.before.before.before))
 
 returns : tie.Need-returns
 returns c w =

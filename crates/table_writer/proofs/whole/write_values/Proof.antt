@@ -59,11 +59,10 @@ copy-requires c κs = omega (arith, front c.before.before.before)
 
 returns : tie.Need-returns
 returns c fits =
-    let k = c in
-    let l = k in
-    let out = (put l.before.before.before.before.before.before).args.out.now in
-    let (long, is) = kept l.before.before.before.before.before.before fits in
-    done _ _ (short l.before.before.before.before.before.before fits) _ _ long (omega arith) (k.copy.ensures ∙ ap (λ x. x ++ drop (length x) out) is)
+    let l = c.before.before.before.before.before.before in
+    let out = (put l).args.out.now in
+    let (long, is) = kept l fits in
+    done _ _ (short l fits) _ _ long (omega arith) (c.copy.ensures ∙ ap (λ x. x ++ drop (length x) out) is)
 
 pub write_values_spec : {M : Type 1} → statement M
 write_values_spec =

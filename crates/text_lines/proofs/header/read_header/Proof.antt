@@ -170,54 +170,54 @@ returns-then-not-begins_with_names c =
 
 returns-in_default : tie.Need-returns-in_default
 returns-in_default c =
-    let d = c in
-    let missed = unvalued (text d.before.before.before) (at_place 0) 22 _ (sym c.value_at.ensures.0 ∙ c.in_default.is) in
-    refuses (text d.before.before.before) _ c.no_header-in_default.ensures (values-over _ [] (at_place 0) _ _ (left₀ d.before.before.before) missed)
+    let d = c.before.before.before in
+    let missed = unvalued (text d) (at_place 0) 22 _ (sym c.value_at.ensures.0 ∙ c.in_default.is) in
+    refuses (text d) _ c.no_header-in_default.ensures (values-over _ [] (at_place 0) _ _ (left₀ d) missed)
 
 returns-in_default-value_at : tie.Need-returns-in_default-value_at
 returns-in_default-value_at c =
-    let d = c in
-    let t = text (from₀ d.before.before.before) in
-    let missed = unvalued t (at_place 1) (on₁ d.before.before.before) _ (sym c.value_at-2.ensures.0 ∙ c.in_default-value_at.is) in
-    refuses t _ c.no_header-in_default-value_at.ensures (values-over _ (v₁ d.before.before.before ∷ []) (at_place 1) _ _ (left₁ d.before.before.before) missed)
+    let d = c.before.before.before in
+    let t = text (from₀ d) in
+    let missed = unvalued t (at_place 1) (on₁ d) _ (sym c.value_at-2.ensures.0 ∙ c.in_default-value_at.is) in
+    refuses t _ c.no_header-in_default-value_at.ensures (values-over _ (v₁ d ∷ []) (at_place 1) _ _ (left₁ d) missed)
 
 returns-in_default-value_at-2 : tie.Need-returns-in_default-value_at-2
 returns-in_default-value_at-2 c =
-    let d = c in
-    let t = text₁ d.before.before.before in
-    let missed = unvalued t (at_place 2) (on₂ d.before.before.before) _ (sym c.value_at-3.ensures.0 ∙ c.in_default-value_at-2.is) in
-    refuses t _ c.no_header-in_default-value_at-2.ensures (values-over _ (v₁ (from₁ d.before.before.before) ∷ v₂ d.before.before.before ∷ []) (at_place 2) _ _ (left₂ d.before.before.before) missed)
+    let d = c.before.before.before in
+    let t = text₁ d in
+    let missed = unvalued t (at_place 2) (on₂ d) _ (sym c.value_at-3.ensures.0 ∙ c.in_default-value_at-2.is) in
+    refuses t _ c.no_header-in_default-value_at-2.ensures (values-over _ (v₁ (from₁ d) ∷ v₂ d ∷ []) (at_place 2) _ _ (left₂ d) missed)
 
 returns-in_default-value_at-3 : tie.Need-returns-in_default-value_at-3
 returns-in_default-value_at-3 c =
-    let d = c in
-    let t = text₂ d.before.before.before in
-    let missed = unvalued t (at_place 3) (on₃ d.before.before.before) _ (sym c.value_at-4.ensures.0 ∙ c.in_default-value_at-3.is) in
-    refuses t _ c.no_header-in_default-value_at-3.ensures (values-over _ (v₁ (from₁ (from₂ d.before.before.before)) ∷ v₂ (from₂ d.before.before.before) ∷ v₃ d.before.before.before ∷ []) (at_place 3) _ _ (left₃ d.before.before.before) missed)
+    let d = c.before.before.before in
+    let t = text₂ d in
+    let missed = unvalued t (at_place 3) (on₃ d) _ (sym c.value_at-4.ensures.0 ∙ c.in_default-value_at-3.is) in
+    refuses t _ c.no_header-in_default-value_at-3.ensures (values-over _ (v₁ (from₁ (from₂ d)) ∷ v₂ (from₂ d) ∷ v₃ d ∷ []) (at_place 3) _ _ (left₃ d) missed)
 
 returns-in_default-value_at-4 : tie.Need-returns-in_default-value_at-4
 returns-in_default-value_at-4 c =
-    let d = c in
-    let t = text₃ d.before.before.before in
-    let missed = unvalued t (at_place 4) (on₄ d.before.before.before) _ (sym c.value_at-5.ensures.0 ∙ c.in_default-value_at-4.is) in
-    refuses t _ c.no_header-in_default-value_at-4.ensures (values-over _ (four d.before.before.before) (at_place 4) [] _ (left₄ d.before.before.before) missed)
+    let d = c.before.before.before in
+    let t = text₃ d in
+    let missed = unvalued t (at_place 4) (on₄ d) _ (sym c.value_at-5.ensures.0 ∙ c.in_default-value_at-4.is) in
+    refuses t _ c.no_header-in_default-value_at-4.ensures (values-over _ (four d) (at_place 4) [] _ (left₄ d) missed)
 
 returns : tie.Need-returns
 unfolding header_answer settings_of
 returns c =
-    let d = c in
+    let d = c.before.before.before.before.before in
     (λ j. record {
       found = true;
       settings = record {
-        degree = (c.unsigned_narrow.ensures ∙ ap (unsigned narrow_limit) (word₁ (from₁ (from₂ (from₃ (from₄ d.before.before.before.before.before)))))) j;
-        depth = (c.unsigned_narrow-2.ensures ∙ ap (unsigned narrow_limit) (word₂ (from₂ (from₃ (from₄ d.before.before.before.before.before))))) j;
-        modulus = (c.unsigned_wide.ensures ∙ ap (unsigned value_limit) (word₃ (from₃ (from₄ d.before.before.before.before.before)))) j;
-        bound = (c.unsigned_narrow-3.ensures ∙ ap (unsigned narrow_limit) (word₄ (from₄ d.before.before.before.before.before))) j;
-        rows = (c.unsigned_narrow-4.ensures ∙ ap (unsigned narrow_limit) (word₅ d.before.before.before.before.before)) j;
+        degree = (c.unsigned_narrow.ensures ∙ ap (unsigned narrow_limit) (word₁ (from₁ (from₂ (from₃ (from₄ d)))))) j;
+        depth = (c.unsigned_narrow-2.ensures ∙ ap (unsigned narrow_limit) (word₂ (from₂ (from₃ (from₄ d))))) j;
+        modulus = (c.unsigned_wide.ensures ∙ ap (unsigned value_limit) (word₃ (from₃ (from₄ d)))) j;
+        bound = (c.unsigned_narrow-3.ensures ∙ ap (unsigned narrow_limit) (word₄ (from₄ d))) j;
+        rows = (c.unsigned_narrow-4.ensures ∙ ap (unsigned narrow_limit) (word₅ d)) j;
       };
-      next = sym (suffix_back (text₄ d.before.before.before.before.before) (on₅ d.before.before.before.before.before) (got₅ d.before.before.before.before.before).within) j;
+      next = sym (suffix_back (text₄ d) (on₅ d) (got₅ d).within) j;
     })
-    ∙ sym (ap (header_answer (text₄ d.before.before.before.before.before)) (whole d.before.before.before.before.before))
+    ∙ sym (ap (header_answer (text₄ d)) (whole d))
 
 pub read_header_spec : {M : Type 1} → statement M
 read_header_spec =

@@ -47,23 +47,21 @@ returns-then-text-gt-TEXT_LIMIT c =
 returns-then-not-header : tie.Need-returns-then-not-header
 unfolding look_answer text_limit
 returns-then-not-header c =
-    let h = c in
-    let t = h.args.text.now in
-    let missing = header_unfound t h.read_header-header.result h.read_header-header.ensures (not-true _ c.if-not-header.true) in
+    let t = c.args.text.now in
+    let missing = header_unfound t c.read_header-header.result c.read_header-header.ensures (not-true _ c.if-not-header.true) in
     loaded-refused t _ 2 (look_refusal t) c.refused-then-not-header.ensures (look-missing t (omega arith) missing) (λ z. absurd (omega arith))
 
 returns-then-refusal-ne0 : tie.Need-returns-then-refusal-ne0
 unfolding look_answer
 returns-then-refusal-ne0 c =
-    let d = c in
-    loaded-refused (text d.before.before) _ d.or_malformed-refusal.result (look_refusal (text d.before.before)) c.refused-then-refusal-ne0.ensures (refusal d.before.before) c.if-refusal-ne0.true
+    let d = c.before.before in
+    loaded-refused (text d) _ c.or_malformed-refusal.result (look_refusal (text d)) c.refused-then-refusal-ne0.ensures (refusal d) c.if-refusal-ne0.true
 
 returns : tie.Need-returns
 unfolding look_answer
 returns c =
-    let d = c in
-    let granted = settled-granted (text d.before) (found d.before).0 (found d.before).1 (found d.before).2 _ (sym (number d.before) ∙ c.if-refusal-ne0.false) in
-    loaded-granted (text d.before) _ (look_refusal (text d.before)) (refusal d.before ∙ c.if-refusal-ne0.false) (granted ∙ sym (found d.before).3)
+    let granted = settled-granted (text c.before) (found c.before).0 (found c.before).1 (found c.before).2 _ (sym (number c.before) ∙ c.if-refusal-ne0.false) in
+    loaded-granted (text c.before) _ (look_refusal (text c.before)) (refusal c.before ∙ c.if-refusal-ne0.false) (granted ∙ sym (found c.before).3)
 
 pub read_settings_spec : {M : Type 1} → statement M
 read_settings_spec =

@@ -58,7 +58,7 @@ returns-then-not-stands c =
     index_both (text d.before.before) (at d.before.before) _ (sym (ap (λ o. number_answer (text d.before.before) (plain o)) (column_unspaced (drop (at d.before.before) (text d.before.before)) (got d.before.before).0 (drop (next d.before.before) (text d.before.before)) (got d.before.before).2.is missed)))
 
 overflow_add-result : tie.Need-overflow_add-result
-overflow_add-result c = let d = c in record { fits = omega (arith, byte-place space (text d.before.before) (next d.before.before) (stands c)) }
+overflow_add-result c = let d = c.before.before in record { fits = omega (arith, byte-place space (text d) (next d) (stands c)) }
 
 returns : tie.Need-returns
 unfolding read_index_at number_answer plain bind

@@ -144,30 +144,30 @@ returns-in_default c =
 returns-in_default-read_index : tie.Need-returns-in_default-read_index
 unfolding read_line_at line_answer line₁
 returns-in_default-read_index c =
-    let d = c in
-    let missed = uncolumned (text d.before.before) (on₁ d.before.before) _ (sym c.read_index-2.ensures.0 ∙ c.in_default-read_index.is) in
-    line_both (text d.before.before) (at d.before.before) _ (sym (ap (line_answer (text d.before.before)) (left₁ d.before.before ∙ bind-none _ (line₂ (part d.before.before).0) missed)))
+    let d = c.before.before in
+    let missed = uncolumned (text d) (on₁ d) _ (sym c.read_index-2.ensures.0 ∙ c.in_default-read_index.is) in
+    line_both (text d) (at d) _ (sym (ap (line_answer (text d)) (left₁ d ∙ bind-none _ (line₂ (part d).0) missed)))
 
 returns-in_default-read_index-2 : tie.Need-returns-in_default-read_index-2
 unfolding read_line_at line_answer line₂
 returns-in_default-read_index-2 c =
-    let d = c in
-    let missed = uncolumned (text (from₁ d.before.before)) (on₂ d.before.before) _ (sym c.read_index-3.ensures.0 ∙ c.in_default-read_index-2.is) in
-    line_both (text (from₁ d.before.before)) (at (from₁ d.before.before)) _ (sym (ap (line_answer (text (from₁ d.before.before))) (left₂ d.before.before ∙ bind-none _ (line₃ (part (from₁ d.before.before)).0 (item d.before.before).0) missed)))
+    let d = c.before.before in
+    let missed = uncolumned (text (from₁ d)) (on₂ d) _ (sym c.read_index-3.ensures.0 ∙ c.in_default-read_index-2.is) in
+    line_both (text (from₁ d)) (at (from₁ d)) _ (sym (ap (line_answer (text (from₁ d))) (left₂ d ∙ bind-none _ (line₃ (part (from₁ d)).0 (item d).0) missed)))
 
 returns-in_default-value_of : tie.Need-returns-in_default-value_of
 unfolding read_line_at line_answer line₃
 returns-in_default-value_of c =
-    let d = c in
-    let missed = unnumbered _ (text₂ d.before.before) (on₃ d.before.before) _ (part-value d.before.before _ c.value_of.ensures ∙ c.in_default-value_of.is) in
-    line_both (text₂ d.before.before) (at (from₁ (from₂ d.before.before))) _ (sym (ap (line_answer (text₂ d.before.before)) (left₃ d.before.before ∙ bind-none _ (line₄ (part (from₁ (from₂ d.before.before))).0 (item (from₂ d.before.before)).0 (place d.before.before).0) missed)))
+    let d = c.before.before in
+    let missed = unnumbered _ (text₂ d) (on₃ d) _ (part-value d _ c.value_of.ensures ∙ c.in_default-value_of.is) in
+    line_both (text₂ d) (at (from₁ (from₂ d))) _ (sym (ap (line_answer (text₂ d)) (left₃ d ∙ bind-none _ (line₄ (part (from₁ (from₂ d))).0 (item (from₂ d)).0 (place d).0) missed)))
 
 returns-then-not-stands : tie.Need-returns-then-not-stands
 unfolding read_line_at line_answer line₄
 returns-then-not-stands c =
-    let d = c in
-    let missed : byte line_feed (drop (on₄ d.before.before) (text₃ d.before.before)) ≡ none = present-none _ (sym c.stands.ensures ∙ not-true _ c.if-not-stands.true-raw) in
-    line_both (text₃ d.before.before) (at₃ d.before.before) _ (sym (ap (line_answer (text₃ d.before.before)) (left₄ d.before.before ∙ bind-none _ _ missed)))
+    let d = c.before.before in
+    let missed : byte line_feed (drop (on₄ d) (text₃ d)) ≡ none = present-none _ (sym c.stands.ensures ∙ not-true _ c.if-not-stands.true-raw) in
+    line_both (text₃ d) (at₃ d) _ (sym (ap (line_answer (text₃ d)) (left₄ d ∙ bind-none _ _ missed)))
 
 overflow_cast-part : tie.Need-overflow_cast-part
 overflow_cast-part c = let d = from₁ (from₂ c) in narrow-cast _ (part d).0 (part d).1 (part_small d)
@@ -179,7 +179,7 @@ overflow_cast-result-2 : tie.Need-overflow_cast-result-2
 overflow_cast-result-2 c = let d = from₃ c.before.before in narrow-cast _ (place d).0 (place d).1 (place_small d)
 
 overflow_add-result : tie.Need-overflow_add-result
-overflow_add-result c = let d = c in record { fits = omega (arith, byte-place line_feed (text₃ d.before.before) (on₄ d.before.before) (ends c), c.well_formed.0.0) }
+overflow_add-result c = let d = c.before.before in record { fits = omega (arith, byte-place line_feed (text₃ d) (on₄ d) (ends c), c.well_formed.0.0) }
 
 returns : tie.Need-returns
 unfolding read_line_at line_answer line₄

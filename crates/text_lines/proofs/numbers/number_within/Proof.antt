@@ -68,20 +68,18 @@ returns-then-text-at-ne45 c =
 returns-in_default : tie.Need-returns-in_default
 unfolding read_number_at number_answer
 returns-in_default c =
-    let d = c in
-    let a = d.args in
+    let a = c.args in
     let none-behind = uncounted a.most a.text.now (a.at + 1) _ (sym c.count_within-2.ensures.0 ∙ c.in_default.is) in
-    number_both a.most a.text.now a.at _ (sym (ap (number_answer a.text.now) (number-minus a.most a.text.now a.at (search rules) d.if-text-at-ne45.false ∙ negative-none _ none-behind)))
+    number_both a.most a.text.now a.at _ (sym (ap (number_answer a.text.now) (number-minus a.most a.text.now a.at (search rules) c.if-text-at-ne45.false ∙ negative-none _ none-behind)))
 
 returns-then-value-eq0 : tie.Need-returns-then-value-eq0
 unfolding read_number_at number_answer
 returns-then-value-eq0 c =
-    let d = c in
-    number_both (most d.before) (text d.before) (at d.before) _
-    (sym (ap (number_answer (text d.before)) (signed d.before ∙ negative-zero _ (got d.before).0 (drop (next d.before) (text d.before)) (got d.before).2.is (sym (ap (of_z w64) (got d.before).1) ∙ c.if-value-eq0.true))))
+    number_both (most c.before) (text c.before) (at c.before) _
+    (sym (ap (number_answer (text c.before)) (signed c.before ∙ negative-zero _ (got c.before).0 (drop (next c.before) (text c.before)) (got c.before).2.is (sym (ap (of_z w64) (got c.before).1) ∙ c.if-value-eq0.true))))
 
 overflow_sub-result : tie.Need-overflow_sub-result
-overflow_sub-result c = let d = c in subst (SFits w64) (sym (neg_is (v d.before) (got d.before).0 (got d.before).1 (small d.before))) (neg-fits (got d.before).0 (small d.before))
+overflow_sub-result c = subst (SFits w64) (sym (neg_is (v c.before) (got c.before).0 (got c.before).1 (small c.before))) (neg-fits (got c.before).0 (small c.before))
 
 returns : tie.Need-returns
 unfolding read_number_at number_answer

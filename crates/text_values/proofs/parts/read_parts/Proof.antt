@@ -169,10 +169,10 @@ shape_of-values-then-not-taken c = c.values-1.given.1 ∙ (at_part c.before.befo
 
 returns-then-not-taken : tie.Need-returns-then-not-taken invariant-loop-part decreases-loop-part
 returns-then-not-taken c =
-    let d = c in
-    let p = at_part d.before.before in (
+    let d = c.before.before in
+    let p = at_part d in (
       (λ g.
-          let missing = taken-missed (text p) _ d.read_part-taken.result (took d.before.before g).answer (not-true _ c.if-not-taken.true) in
+          let missing = taken-missed (text p) _ c.read_part-taken.result (took d g).answer (not-true _ c.if-not-taken.true) in
           took-missed (text p) (from p) _ _
           (here p g ∙ ap (prefix (take (start p) (values p))) (values-never (spots_here p) (spots_next p) (drop (now_at p) (text p)) missing) ∙ prefix-none _)),
       λ e. absurd (false≢true e),

@@ -144,22 +144,22 @@ folded-long t c = c.fold_key.auto.ws
 claim-room : (t : ℕ) (c : child-accepted-lts.After-slice_known-2-1 (child-calls t) (child-accepted-at t) child-accepted.Post) →
     c.args.settings.degree ≤ length
     c.claim_to.new.claim
-claim-room t c = let g = c in
-    omega (arith, c.claim_to.auto.claim, degree_most g.args.settings (settings-valid g.args.settings (allowed t g.before.before.before.before.before.before.before.before.before.before.before)))
+claim-room t c =
+    omega (arith, c.claim_to.auto.claim, degree_most c.args.settings (settings-valid c.args.settings (allowed t c.before.before.before.before.before.before.before.before.before.before.before)))
 
 child-accepted-slice-aggregate-claim-to : (t : ℕ) → child-accepted-lts.Need-slice_bounds-claim_to-end (child-calls t) (child-accepted-at t) child-accepted.Post
 child-accepted-slice-aggregate-claim-to t c = search rules
 
 child-accepted-claim-to-requires : (t : ℕ) → child-accepted-lts.Need-claim_to-requires (child-calls t) (child-accepted-at t) child-accepted.Post
-child-accepted-claim-to-requires t c κs = let g = c in
-    (round t g.before.before.before.before, omega (arith, g.requires.1.0.2), omega (arith, degree_most g.args.settings (settings-valid g.args.settings (allowed t g.before.before.before.before))))
+child-accepted-claim-to-requires t c κs = let g = c.before.before.before.before in
+    (round t g, omega (arith, c.requires.1.0.2), omega (arith, degree_most c.args.settings (settings-valid c.args.settings (allowed t g))))
 
 child-accepted-challenge-requires : (t : ℕ) → child-accepted-lts.Need-challenge-requires (child-calls t) (child-accepted-at t) child-accepted.Post
-child-accepted-challenge-requires t c κs = let g = c in (few t g.before.before.before.before.before.before, omega (arith, g.requires.1.0.2))
+child-accepted-challenge-requires t c κs = (few t c.before.before.before.before.before.before, omega (arith, c.requires.1.0.2))
 
 child-accepted-fold-key-requires : (t : ℕ) → child-accepted-lts.Need-fold_key-requires (child-calls t) (child-accepted-at t) child-accepted.Post
-child-accepted-fold-key-requires t c κs = let g = c in
-    record { allowed = allowed t g.before.before.before.before.before.before.before.before; up = higher t g.before.before.before.before.before.before.before.before; height = (place t g.before.before.before.before.before.before.before.before).height; space_is = (place t g.before.before.before.before.before.before.before.before).space_is }
+child-accepted-fold-key-requires t c κs = let g = c.before.before.before.before.before.before.before.before in
+    record { allowed = allowed t g; up = higher t g; height = (place t g).height; space_is = (place t g).space_is }
 
 child-accepted-sub-subtree-accepted : (t : ℕ) → child-accepted-lts.Need-overflow_sub-h (child-calls t) (child-accepted-at t) child-accepted.Post
 child-accepted-sub-subtree-accepted t c = higher t c.before.before.before.before.before.before.before.before.before.before.before
@@ -196,9 +196,9 @@ child-accepted-slice-aggregate-subtree-accepted-2 t c =
 child-accepted-subtree-accepted-requires :
     (t : ℕ) → child-accepted-lts.Need-subtree_accepted-requires (child-calls t) (child-accepted-at t) child-accepted.Post
 child-accepted-subtree-accepted-requires t c κs =
-    let g = c in
-    let b = c in
-    (omega (arith, higher t g.before.before.before.before.before.before.before.before.before.before.before.before.before), ((g.requires.1.0.0, claim-room t b.before.before), below t g.before.before.before.before.before.before.before.before.before.before.before.before.before (after t b.before.before) (folded-long t b.before.before)))
+    let g = c.before.before.before.before.before.before.before.before.before.before.before.before.before in
+    let b = c.before.before in
+    (omega (arith, higher t g), ((c.requires.1.0.0, claim-room t b), below t g (after t b) (folded-long t b)))
 
 child-accepted-same-length : (t : ℕ) → child-accepted-lts.Need-shape_of-ws (child-calls t) (child-accepted-at t) child-accepted.Post
 child-accepted-same-length t c = let U = after t c.before.before.before.before.before in
@@ -209,17 +209,17 @@ child-accepted-returns : (t : ℕ) → child-accepted-lts.Need-returns (child-ca
 child-accepted-returns t c = λ read.
     let g = c in
     let a = g.args in
-    let b = c in
-    let U = after t b.before.before.before.before.before in
-    let half = half_is t g.before.before.before.before.before.before.before.before.before.before.before.before.before.before.before.before U (folded-long t b.before.before.before.before.before) in
-    let folded = folded-is t b.before.before.before.before.before read.key_below in
+    let b = c.before.before.before.before.before in
+    let U = after t b in
+    let half = half_is t g.before.before.before.before.before.before.before.before.before.before.before.before.before.before.before.before U (folded-long t b) in
+    let folded = folded-is t b read.key_below in
     let pq : 0 < a.settings.modulus = omega (arith, (settings-valid a.settings (allowed t g.before.before.before.before.before.before.before.before.before.before.before.before.before.before.before.before)).modulus_least) in
     let down = Descent.child-read a.settings (tree_row a.settings a.rounds.now) a.challenges.now a.leaves.now a.h a.k a.first (space t g.before.before.before.before.before.before.before.before.before.before.before.before.before.before.before.before) (place t g.before.before.before.before.before.before.before.before.before.before.before.before.before.before.before.before) (higher t g.before.before.before.before.before.before.before.before.before.before.before.before.before.before.before.before)
     a.j (length U / 2) a.ws.now U (λ _. space t g.before.before.before.before.before.before.before.before.before.before.before.before.before.before.before.before) half folded pq in
     let f = c.subtree_accepted in (
       f.ensures (record { rounds_below = read.rounds_below; key_below = down })
           ∙ Descent.child-tests a.settings (tree_row a.settings a.rounds.now) a.challenges.now a.leaves.now a.h a.k a.first (space t g.before.before.before.before.before.before.before.before.before.before.before.before.before.before.before.before) (place t g.before.before.before.before.before.before.before.before.before.before.before.before.before.before.before.before) (higher t g.before.before.before.before.before.before.before.before.before.before.before.before.before.before.before.before) a.j
-          (length U / 2) a.ws.now U (λ _. space t g.before.before.before.before.before.before.before.before.before.before.before.before.before.before.before.before) half folded _ (b.claim_to.ensures read.rounds_below),
+          (length U / 2) a.ws.now U (λ _. space t g.before.before.before.before.before.before.before.before.before.before.before.before.before.before.before.before) half folded _ (c.claim_to.ensures read.rounds_below),
       Descent.key-kept a.settings (tree_row a.settings a.rounds.now) a.challenges.now a.leaves.now a.h a.k a.first (space t g.before.before.before.before.before.before.before.before.before.before.before.before.before.before.before.before) (place t g.before.before.before.before.before.before.before.before.before.before.before.before.before.before.before.before) (higher t g.before.before.before.before.before.before.before.before.before.before.before.before.before.before.before.before) a.j
           (length U / 2) a.ws.now U (λ _. space t g.before.before.before.before.before.before.before.before.before.before.before.before.before.before.before.before) half folded f.new.ws f.auto.ws (omega arith),
     )
@@ -267,9 +267,8 @@ module _ (t : ℕ) where
   stage-0 : (c : subtree-accepted-lts.Else-not-node_holds (subtree-calls t) (subtree-accepted-at t) subtree-accepted.Post) →
       Stage t c.before.before.before.before.before.before.before 0 c.args.ws.now
   stage-0 c =
-      let g = c in
-      let a = g.args in
-      Stages.stage_first a.settings (tree_row a.settings a.rounds.now) a.challenges.now a.leaves.now a.h a.k a.first a.claim.now a.ws.now (position t g.before.before.before.before.before.before.before)
+      let a = c.args in
+      Stages.stage_first a.settings (tree_row a.settings a.rounds.now) a.challenges.now a.leaves.now a.h a.k a.first a.claim.now a.ws.now (position t c.before.before.before.before.before.before.before)
       (upper c.before.before) (sym c.node_holds.ensures ∙ not-false _ c.if-not-node_holds.false-raw)
 
   long-1 : (c : subtree-accepted-lts.Else-not-child_accepted (subtree-calls t) (subtree-accepted-at t) subtree-accepted.Post) →
@@ -307,8 +306,8 @@ subtree-accepted-cast-d : (t : ℕ) → subtree-accepted-lts.Need-overflow_cast-
 subtree-accepted-cast-d t c = search rules
 
 subtree-accepted-sub-leaf-accepted : (t : ℕ) → subtree-accepted-lts.Need-overflow_sub-k (subtree-calls t) (subtree-accepted-at t) subtree-accepted.Post
-subtree-accepted-sub-leaf-accepted t c = let g = c in
-    Places.leaf-number g.args.settings g.args.h g.args.k g.args.first _ (position t g.before.before.before.before.before.before) (omega arith)
+subtree-accepted-sub-leaf-accepted t c =
+    Places.leaf-number c.args.settings c.args.h c.args.k c.args.first _ (position t c.before.before.before.before.before.before) (omega arith)
 
 subtree-accepted-mul-leaf-accepted : (t : ℕ) → subtree-accepted-lts.Need-offset_bounds-ws-d (subtree-calls t) (subtree-accepted-at t) subtree-accepted.Post
 subtree-accepted-mul-leaf-accepted t c = let S = c.args.settings in
@@ -328,12 +327,12 @@ subtree-accepted-part-leaf-accepted-end t c = search rules
 subtree-accepted-leaf-accepted-requires :
     (t : ℕ) → subtree-accepted-lts.Need-leaf_accepted-requires (subtree-calls t) (subtree-accepted-at t) subtree-accepted.Post
 subtree-accepted-leaf-accepted-requires t c κs =
-    let g = c in
-    let a = g.args in (
-      granted t g.before.before.before.before.before.before.before,
-      Checks.leaf-inside a.settings a.h a.k a.first _ (rounds-many t g.before.before.before.before.before.before.before) (finals-many t g.before.before.before.before.before.before.before) (position t g.before.before.before.before.before.before.before) g.requires.1.0.0 (omega arith),
-      g.requires.1.0.1,
-      Checks.part-long a.settings.degree a.settings.degree a.ws.now (leaf-twice t g.before.before.before.before.before.before.before (omega arith)),
+    let g = c.before.before.before.before.before.before.before in
+    let a = c.args in (
+      granted t g,
+      Checks.leaf-inside a.settings a.h a.k a.first _ (rounds-many t g) (finals-many t g) (position t g) c.requires.1.0.0 (omega arith),
+      c.requires.1.0.1,
+      Checks.part-long a.settings.degree a.settings.degree a.ws.now (leaf-twice t g (omega arith)),
     )
 
 subtree-accepted-same-length : (t : ℕ) → subtree-accepted-lts.Need-shape_of-ws-then-h-eq0 (subtree-calls t) (subtree-accepted-at t) subtree-accepted.Post
@@ -341,28 +340,27 @@ subtree-accepted-same-length t c = search rules
 
 subtree-accepted-returns : (t : ℕ) → subtree-accepted-lts.Need-returns-then-h-eq0 (subtree-calls t) (subtree-accepted-at t) subtree-accepted.Post
 subtree-accepted-returns t c = λ read.
-    let g = c in
-    let a = g.args in
-    c.leaf_accepted.ensures (Descent.leaf-below a.settings (tree_row a.settings a.rounds.now) a.challenges.now a.leaves.now a.h a.k a.first _ (position t g.before.before.before.before.before.before.before.before)
+    let g = c.before.before.before.before.before.before.before.before in
+    let a = c.args in
+    c.leaf_accepted.ensures (Descent.leaf-below a.settings (tree_row a.settings a.rounds.now) a.challenges.now a.leaves.now a.h a.k a.first _ (position t g)
     (omega arith) a.ws.now read.key_below) ∙ Descent.leaf-tests a.settings (tree_row a.settings a.rounds.now) a.challenges.now a.leaves.now a.h a.k a.first _
-    (position t g.before.before.before.before.before.before.before.before)
+    (position t g)
     (omega arith) a.claim.now a.ws.now
 
 subtree-accepted-node-holds-requires : (t : ℕ) → subtree-accepted-lts.Need-node_holds-requires (subtree-calls t) (subtree-accepted-at t) subtree-accepted.Post
-subtree-accepted-node-holds-requires t c κs = let g = c in let a = g.args in
-    (Checks.round-inside a.settings a.h a.k a.first _ (rounds-many t g.before.before.before.before.before) (finals-many t g.before.before.before.before.before) (position t g.before.before.before.before.before) g.requires.1.0.0 (upper t c), g.requires.1.0.1)
+subtree-accepted-node-holds-requires t c κs = let g = c.before.before.before.before.before in let a = c.args in
+    (Checks.round-inside a.settings a.h a.k a.first _ (rounds-many t g) (finals-many t g) (position t g) c.requires.1.0.0 (upper t c), c.requires.1.0.1)
 
 subtree-accepted-returns-2 : (t : ℕ) → subtree-accepted-lts.Need-returns-then-not-node_holds (subtree-calls t) (subtree-accepted-at t) subtree-accepted.Post
 subtree-accepted-returns-2 t c = λ read.
-    let g = c in
-    let a = g.args in
-    Stages.node_stops a.settings (tree_row a.settings a.rounds.now) a.challenges.now a.leaves.now a.h a.k a.first a.claim.now a.ws.now (position t g.before.before.before.before.before.before.before)
+    let a = c.args in
+    Stages.node_stops a.settings (tree_row a.settings a.rounds.now) a.challenges.now a.leaves.now a.h a.k a.first a.claim.now a.ws.now (position t c.before.before.before.before.before.before.before)
     (upper t c.before.before) (sym c.node_holds.ensures ∙ not-true _ c.if-not-node_holds.true-raw)
 
 subtree-accepted-child-accepted-requires :
     (t : ℕ) → subtree-accepted-lts.Need-child_accepted-requires (subtree-calls t) (subtree-accepted-at t) subtree-accepted.Post
-subtree-accepted-child-accepted-requires t c κs = let g = c in
-    (omega arith, ((g.requires.1.0.0, upper t c.before.before.before, omega arith), position t g.before.before.before.before.before.before.before.before))
+subtree-accepted-child-accepted-requires t c κs =
+    (omega arith, ((c.requires.1.0.0, upper t c.before.before.before, omega arith), position t c.before.before.before.before.before.before.before.before))
 
 subtree-accepted-same-length-2 : (t : ℕ) → subtree-accepted-lts.Need-shape_of-ws-then-not-child_accepted (subtree-calls t) (subtree-accepted-at t) subtree-accepted.Post
 subtree-accepted-same-length-2 t c = search rules
@@ -375,8 +373,8 @@ subtree-accepted-returns-3 t c = λ read.
 
 subtree-accepted-child-accepted-requires-2 :
     (t : ℕ) → subtree-accepted-lts.Need-child_accepted-requires-2 (subtree-calls t) (subtree-accepted-at t) subtree-accepted.Post
-subtree-accepted-child-accepted-requires-2 t c κs = let g = c in
-    (omega arith, ((g.requires.1.0.0, upper t c.before.before.before.before.before.before.before.before, omega arith), stays t g.before.before.before.before.before.before.before.before.before.before.before.before.before (long-1 t c.before)))
+subtree-accepted-child-accepted-requires-2 t c κs =
+    (omega arith, ((c.requires.1.0.0, upper t c.before.before.before.before.before.before.before.before, omega arith), stays t c.before.before.before.before.before.before.before.before.before.before.before.before.before (long-1 t c.before)))
 
 subtree-accepted-same-length-3 : (t : ℕ) → subtree-accepted-lts.Need-shape_of-ws-then-not-child_accepted-2 (subtree-calls t) (subtree-accepted-at t) subtree-accepted.Post
 subtree-accepted-same-length-3 t c = c.child_accepted-2.auto.ws ∙ long-1 t c.before.before.before.before.before

@@ -9,13 +9,13 @@ use Rattle.tree_check.proofs.nodes.fold_key.Statement.{statement}
 use Rattle.tree_check.proofs.nodes.fold_key.Tie as tie
 
 half : (c : tie.After-half_left-n) → let a = c.args in c.half_left-n.result ≡ half_left a.settings (a.settings.depth - a.h)
-half c = let s = c in c.half_left-n.ensures (record { allowed = s.requires.allowed; turn = omega (arith, s.requires.up, s.requires.height) })
+half c = c.half_left-n.ensures (record { allowed = c.requires.allowed; turn = omega (arith, c.requires.up, c.requires.height) })
 
 overflow_mul-to : tie.Need-overflow_mul-to
-overflow_mul-to c = let s = c in omega (arith, Workspace.cells-few s.args.settings s.args.h _ s.requires (half c))
+overflow_mul-to c = omega (arith, Workspace.cells-few c.args.settings c.args.h _ c.requires (half c))
 
 overflow_mul-to-2 : tie.Need-overflow_mul-to-2
-overflow_mul-to-2 c = let s = c in omega (arith, Workspace.cells-few s.args.settings s.args.h _ s.requires (half c))
+overflow_mul-to-2 c = omega (arith, Workspace.cells-few c.args.settings c.args.h _ c.requires (half c))
 
 returns : tie.Need-returns
 returns c = λ below.

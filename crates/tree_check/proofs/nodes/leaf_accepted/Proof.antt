@@ -8,10 +8,9 @@ use Rattle.tree_check.proofs.nodes.leaf_accepted.Tie as tie
 
 returns : tie.Need-returns
 returns c = λ below.
-    let s = c in
-    let a = s.args in
+    let a = c.args in
     let d = a.settings.degree in
-    c.end_holds.ensures (record { allowed = s.requires.0; first = s.requires.2; second = part-long (a.j * d) d a.leaves.now s.requires.1; third = s.requires.3 }) (λ k _. below k)
+    c.end_holds.ensures (record { allowed = c.requires.0; first = c.requires.2; second = part-long (a.j * d) d a.leaves.now c.requires.1; third = c.requires.3 }) (λ k _. below k)
     ∙ leaf-is a.settings a.leaves.now a.j a.claim.now a.folded.now
 
 pub leaf_accepted_spec : {M : Type 1} → statement M

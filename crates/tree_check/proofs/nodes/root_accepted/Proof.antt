@@ -35,8 +35,7 @@ leaf_accepted-requires c κs =
 
 returns-then-settings-eq0 : tie.Need-returns-then-settings-eq0
 returns-then-settings-eq0 c = λ g.
-    let s = c in
-    let a = s.args in
+    let a = c.args in
     c.leaf_accepted.ensures g.1 ∙ root_leaf a.settings (tree_row a.settings a.rounds.now) a.challenges.now a.leaves.now a.commitment.now a.key.now c.if-settings-eq0.true
 
 node_holds-requires : tie.Need-node_holds-requires
@@ -47,8 +46,7 @@ node_holds-requires c κs =
 
 returns-then-not-node_holds : tie.Need-returns-then-not-node_holds
 returns-then-not-node_holds c = λ g.
-    let s = c in
-    let a = s.args in
+    let a = c.args in
     sym (and_fails_left _ _ (sym c.node_holds.ensures ∙ not-true _ c.if-not-node_holds.true-raw))
     ∙ root_tests a.settings (tree_row a.settings a.rounds.now) a.challenges.now a.leaves.now a.commitment.now a.key.now (omega arith)
 
@@ -57,9 +55,9 @@ folding : (s : tie.Start) (space : ℕ) → 0 < s.args.settings.depth → 3 * le
 folding s space up room = record { allowed = s.requires.0.allowed; up = up; key_long = s.requires.1; room = omega (arith, root_half s.args.settings up, s.requires.1) }
 
 root_children_accepted-requires : tie.Need-root_children_accepted-requires
-root_children_accepted-requires c κs = let s = c in (s.requires.0, folding s.before.before.before.before.before.before.before.before.before.before.before _ (omega arith) (omega arith))
+root_children_accepted-requires c κs = (c.requires.0, folding c.before.before.before.before.before.before.before.before.before.before.before _ (omega arith) (omega arith))
 
-children : (c : tie.Else-not-node_holds) → let s = c in let a = s.args in (b : Bool)
+children : (c : tie.Else-not-node_holds) → let a = c.args in (b : Bool)
     → b ≡ every 3 (child_accepted a.settings (tree_row a.settings a.rounds.now) a.challenges.now a.leaves.now a.settings.depth 0 a.key.now)
     → b ≡ tree_accepted a.settings (tree_row a.settings a.rounds.now) a.challenges.now a.leaves.now a.settings.depth 0 0 a.commitment.now a.key.now
 children e b is =
@@ -71,19 +69,15 @@ children e b is =
 
 returns-then-key-le-FEW : tie.Need-returns-then-key-le-FEW
 returns-then-key-le-FEW c = λ g.
-    let e = c in
-    let s = e in
-    children e.before.before.before.before.before _ (c.root_children_accepted.ensures g)
+    children c.before.before.before.before.before _ (c.root_children_accepted.ensures g)
 
 root_children_accepted-requires-2 : tie.Need-root_children_accepted-requires-2
-root_children_accepted-requires-2 c κs = let s = c in
-    (s.requires.0, folding s.before.before.before.before.before.before.before.before.before.before.before _ (omega arith) (omega (arith, root_most s.args.settings s.requires.0.allowed, s.requires.1)))
+root_children_accepted-requires-2 c κs =
+    (c.requires.0, folding c.before.before.before.before.before.before.before.before.before.before.before _ (omega arith) (omega (arith, root_most c.args.settings c.requires.0.allowed, c.requires.1)))
 
 returns : tie.Need-returns
 returns c = λ g.
-    let e = c in
-    let s = e in
-    children e.before.before.before.before.before _ (c.root_children_accepted-2.ensures g)
+    children c.before.before.before.before.before _ (c.root_children_accepted-2.ensures g)
 
 pub root_accepted_spec : {M : Type 1} → statement M
 root_accepted_spec =

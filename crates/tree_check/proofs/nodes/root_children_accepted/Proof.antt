@@ -24,8 +24,7 @@ loop-j-init c = (omega arith, (λ z. every-none _), refl)
 
 root_child_accepted-requires : tie.Need-root_child_accepted-requires invariant-loop-j decreases-loop-j
 root_child_accepted-requires c κs =
-    let s = c in
-    (s.requires.0, subst (RootFolding s.args.settings (length s.args.key.now)) (sym c.loop-j.invariant.2) s.requires.1, omega arith)
+    (c.requires.0, subst (RootFolding c.args.settings (length c.args.key.now)) (sym c.loop-j.invariant.2) c.requires.1, omega arith)
 
 returns-then-not-root_child_accepted : tie.Need-returns-then-not-root_child_accepted invariant-loop-j decreases-loop-j
 returns-then-not-root_child_accepted c = λ z. let l = c.loop-j in every_fails _ 3 l.j (omega arith)

@@ -72,18 +72,18 @@ module _ (b : tie.After-row_start-start) where
 
 root_accepted-requires : tie.Need-root_accepted-requires
 root_accepted-requires c κs =
-    let b = c in
-    let p = (s (w b.before.before.before)).requires in
-    let a = (s (w b.before.before.before)).args in
+    let b = c.before.before.before in
+    let p = (s (w b)).requires in
+    let a = (s (w b)).args in
     let S = a.settings in
     let most = start_most S (length a.rounds.now) a.i in (
       record {
         allowed = p.0.allowed;
-        rounds_long = omega (arith, tail-length (at b.before.before.before) a.rounds.now, p.0.rounds_long, start b.before.before.before, most.0, most.1, row_inside S.degree S.rows a.i p.1);
+        rounds_long = omega (arith, tail-length (at b) a.rounds.now, p.0.rounds_long, start b, most.0, most.1, row_inside S.degree S.rows a.i p.1);
         finals_long = p.0.finals_long;
       },
-      ap length (lent (w b.before.before.before)).row ∙ key_row-length S a.key.now a.i,
-      part-long (a.i * width) S.degree a.commitment.now (omega (arith, few_rows (w b.before.before.before), p.0.commitment-long, degree_most S (settings-valid S p.0.allowed))),
+      ap length (lent (w b)).row ∙ key_row-length S a.key.now a.i,
+      part-long (a.i * width) S.degree a.commitment.now (omega (arith, few_rows (w b), p.0.commitment-long, degree_most S (settings-valid S p.0.allowed))),
     )
 
 returns : tie.Need-returns
