@@ -13,6 +13,7 @@ use Rattle.algebra.specs.Integers.{ℤ-ring, fromℤ, ofℕ_two}
 use Rattle.algebra.specs.Negacyclic.{negacyclic, coef, X^}
 use Rattle.algebra.specs.Steps as A
 use Rattle.algebra.specs.Divisor as A'
+use Rattle.algebra.proofs.Divisor as Laws
 use Rattle.protocol.specs.Basic.{least}
 use Rattle.protocol.specs.Element.{Element, one, power, times}
 use Rattle.protocol.specs.Tree.{gap, steps, s, difference, Divides, Divisor}
@@ -66,11 +67,11 @@ module _ (D a b : ℕ) (la : a < 2 * 2 ^ D) (lb : b < 2 * 2 ^ D) (ne : a ≢ b) 
         readℤ-inj (2 ^ D) q _ _ (
         read-product ℤ-ring (2 ^ D) q _ _
         ∙ ap₂ (negacyclic ℤ-ring (2 ^ D) q).mul (read-s (2 ^ D) q a b) (read-difference ℤ-ring (2 ^ D) q a b)
-        ∙ A'.s-two D a b la lb ne
+        ∙ Laws.s-two D a b la lb ne
         ∙ sym (read_two ℤ-ring (2 ^ D) q)
         );
-    ternary = λ k l. subst (λ z. nat_abs z ≤ 1) (ap (λ x. coef ℤ-ring (2 ^ D) q x k) (sym (read-s (2 ^ D) q a b)) ∙ coef_readℤ (2 ^ D) q (s (2 ^ D) a b) k l) (A'.bound-s D a b la lb ne k);
-    only = λ x h. readℤ-inj (2 ^ D) q _ _ (A'.s-only D a b la lb ne _ (read-divides ℤ-ring (2 ^ D) q a b x h) ∙ sym (read-s (2 ^ D) q a b));
+    ternary = λ k l. subst (λ z. nat_abs z ≤ 1) (ap (λ x. coef ℤ-ring (2 ^ D) q x k) (sym (read-s (2 ^ D) q a b)) ∙ coef_readℤ (2 ^ D) q (s (2 ^ D) a b) k l) (Laws.bound-s D a b la lb ne k);
+    only = λ x h. readℤ-inj (2 ^ D) q _ _ (Laws.s-only D a b la lb ne _ (read-divides ℤ-ring (2 ^ D) q a b x h) ∙ sym (read-s (2 ^ D) q a b));
   }
 
 pub divisor : (D d : ℕ) → 2 ^ D ≡ d → (a b : ℕ) → a < 2 * d → b < 2 * d → a ≢ b → Divisor d a b

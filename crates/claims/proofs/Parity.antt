@@ -10,7 +10,7 @@ use native.Mathlib.Omega.{arith}
 use Rattle.algebra.specs.Magnitude.{weight}
 use Rattle.algebra.specs.Norm as N
 use Rattle.algebra.specs.Steps.{pow_pos}
-use Rattle.algebra.specs.Divisor.{norm1-s_even}
+use Rattle.algebra.proofs.Divisor.{norm1-s_even}
 use Rattle.protocol.specs.Tree.{s}
 use Rattle.claims.proofs.Divisors.{read-s}
 use Rattle.claims.proofs.Weights.{Triple}
