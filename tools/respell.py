@@ -24,7 +24,7 @@ LEMMAS = [
     ("same_spot", ["text_lines/proofs/Values.antt", "text_lines/proofs/Follow.antt", "text_lines/proofs/lines/value_at/Proof.antt", "text_values/proofs/Orders.antt"]),
 ]
 WORD = re.compile(r"[^\s(){}\[\];,.\"`⟨⟩«»@:=|\\]+")
-DECLARED = re.compile(r"^(\s*)((?:abbrev |pub |unfoldable )*)([^\s:(){}\[\]]+)\s:(?:\s|$)(.*)$")
+DECLARED = re.compile(r"^(\s*)((?:abbrev |pub |unfoldable )*)([^\s:(){}\[\]]+)(?: \{[^}]*\})*\s:(?:\s|$)(.*)$")
 TYPES = re.compile(r"^\s*(?:abbrev |pub )*(?:record|data)(?: pub)? (\S+)")
 
 

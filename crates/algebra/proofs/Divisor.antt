@@ -1,7 +1,7 @@
 -- The element s(a,b), of d a power of two and two different exponents: it undoes the difference, nothing else does, its coefficients are −1, 0 and 1,
 -- and at an even difference it has at most half as many powers of X.
-use Rattle.std.specs.Prelude.{◌≡◌, ◌≢◌, pos}
-use Rattle.std.proofs.Common.{◌∙◌, arith}
+use Rattle.std.specs.Prelude.{◌≡◌, ◌≢◌}
+use Rattle.std.proofs.Common.{arith}
 use Prim.Native.Nat.{ℕ, ◌+◌, ◌*◌, ◌-◌, ◌%◌, ◌^◌, ◌<◌, ◌≤◌}
 use Rattle.std.proofs.Math.Nat as NatL
 use Rattle.algebra.specs.Ring.{two}

@@ -1,5 +1,7 @@
 // Inner products modulo 12289 by the transform, sixteen elements at a time: of two tables, or of the sums of their halves. A message is transformed once for all
 // rows of a key.
+#![tactic(auto)]
+
 ghost use Rattle.std.specs.Prelude.{◌≡◌, ℕ, ◌+◌, ◌*◌, ◌^◌, ◌<◌, ◌≤◌, pos, length};
 ghost use Rattle.protocol.specs.Basic.{Provided};
 ghost use Rattle.protocol.specs.Element.{Element, width, reduced, padded};

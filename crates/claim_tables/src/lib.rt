@@ -1,5 +1,7 @@
 // The claims of a transcript, as part 7 of a text has them: after each round an element for each row. A claim follows from its round's elements and challenge alone.
 // Every function is safe for every input; what it gives is said under a condition that the refusals ensure.
+#![tactic(auto)]
+
 ghost use Rattle.std.specs.Prelude.{◌≡◌, ◌+◌, ◌/◌, ◌%◌, ◌<◌, ◌≤◌, eqb, length, get_or};
 ghost use Rattle.protocol.specs.Basic.{every, Provided};
 ghost use Rattle.protocol.specs.Layout.{claim_items, claim_cells};

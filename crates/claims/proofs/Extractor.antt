@@ -15,7 +15,7 @@ use Rattle.protocol.specs.declared.Settings.{Settings}
 use Rattle.protocol.specs.Basic.{every, first, unless, granted}
 use Rattle.protocol.specs.Element.{signed, value_row}
 use Rattle.protocol.specs.Layout.{key_cells, tree_challenges, tree_round_cells, exponent_count}
-use Rattle.protocol.specs.Settings.{size, cells, hasLength, all_below, residue_element, residue_rows, exponent, exponents}
+use Rattle.protocol.specs.Settings.{size, cells, has_length, all_below, residue_element, residue_rows, exponent, exponents}
 use Rattle.protocol.specs.Transcript.{accepted}
 use Rattle.protocol.specs.Rows.{key_row}
 use Rattle.protocol.specs.Tree.{nodes, leaves, leaf, path, row_path, challenge, apart, root_vector, growth, growth_limit, growth_allowed}
@@ -89,14 +89,14 @@ module _ (S : Settings) (ok : Valid S) (G C rounds E : List ℕ) (finals : List 
 
   module _ (w : List ℤ) (long : length w ≡ cells S) where
     pub judge-tests : (c : ℕ) → judge_refusal S C c G w ≡ first (unless 14 (growth_allowed S) ∷ unless 15 (slack_allowed S c) ∷ [])
-    unfolding judge_refusal all_below hasLength
+    unfolding judge_refusal all_below has_length
     judge-tests c =
         first_passes _ _ (valid-settings S ok)
         ∙ first_holds 7 _ _ (and_intro (below_sized q (key_cells S) G key-ok) (eq-eqb _ _ long))
         ∙ first_holds 8 _ _ (and_intro (below_tested q (key_cells S) G key-ok) commitment-tested)
 
     pub extract-tests : extract_refusal S C G rounds E finals w ≡ first (unless 14 (growth_allowed S) ∷ [])
-    unfolding extract_refusal all_below exponents exponent hasLength
+    unfolding extract_refusal all_below exponents exponent has_length
     extract-tests =
         first_passes _ _ (valid-settings S ok)
         ∙ first_holds 7 _ _ (and_intro (and_intro (and_intro (and_intro

@@ -13,7 +13,7 @@ use Rattle.protocol.specs.declared.Verdict.TheVariants as Says
 use Rattle.protocol.specs.Basic.{choose}
 use Rattle.protocol.specs.Element.{padded_signed}
 use Rattle.protocol.specs.Layout.{key_cells, round_cells, exponent_count}
-use Rattle.protocol.specs.Settings.{cells, hasLength, all_below, exponent, exponents}
+use Rattle.protocol.specs.Settings.{cells, has_length, all_below, exponent, exponents}
 use Rattle.protocol.specs.Opening.{commitment, message_after, final_element}
 use Rattle.protocol.specs.Transcript.{Transcript, Accepted}
 use Rattle.protocol.specs.Rows.{key_row, at_rows, together, row_of, commitments, round_tables, keys_after, transcripts_of, AllAccepted}
@@ -49,7 +49,7 @@ module _ {S : Settings} {G : List ℕ} {M : List ℤ} {E : List ℕ} (ok : Given
   open S use {degree as d, depth as L, modulus as q, bound as B}
 
   pub opening-granted : opening_refusal S G M E rounds ≡ 0
-  unfolding opening_refusal all_below exponents exponent hasLength
+  unfolding opening_refusal all_below exponents exponent has_length
   opening-granted =
       zero_first _ _ (valid-settings S ok.settings)
       (zero_first _ _ (zero-unless 7 _

@@ -15,7 +15,7 @@ use Rattle.protocol.specs.declared.Verified.TheVariants.{Accepted}
 use Rattle.protocol.specs.Basic.{tabulate, all, choose, first, unless, granted}
 use Rattle.protocol.specs.Element.{signed}
 use Rattle.protocol.specs.Layout.{key_items, key_cells, item_cells, round_cells, claim_cells, exponent_count}
-use Rattle.protocol.specs.Settings.{cells, hasLength, all_below, all_within, exponent, exponents}
+use Rattle.protocol.specs.Settings.{cells, has_length, all_below, all_within, exponent, exponents}
 use Rattle.protocol.specs.Inputs.{Below, Within}
 use Rattle.protocol.specs.Opening.{message_after}
 use Rattle.protocol.specs.Transcript.{Transcript, transcript_of}
@@ -163,7 +163,7 @@ module _ (S : Settings) (key : List ℕ) (T : Transcript) where
 
 read_given : (text : List ℕ) → text_refusal prove_reads true text ≡ 0
     → Given (settings_in (lines_of text)) (tables_in (lines_of text)).key (tables_in (lines_of text)).message (tables_in (lines_of text)).challenges
-unfolding shapes settings_shape shape shape_size choose contents prove_reads all_below exponents exponent hasLength cells
+unfolding shapes settings_shape shape shape_size choose contents prove_reads all_below exponents exponent has_length cells
 read_given text h =
     let (s, f, p) = readable_tables prove_reads text h in
     record {

@@ -13,7 +13,7 @@ use Rattle.protocol.specs.declared.Settings.{Settings}
 use Rattle.protocol.specs.Basic.{first, unless, granted}
 use Rattle.protocol.specs.Element.{padded_signed}
 use Rattle.protocol.specs.Layout.{key_cells, left_cells}
-use Rattle.protocol.specs.Settings.{settings_refusal, cells, hasLength, all_below, exponent}
+use Rattle.protocol.specs.Settings.{settings_refusal, cells, has_length, all_below, exponent}
 use Rattle.protocol.specs.Opening.{commitment, message_after, final_element}
 use Rattle.protocol.specs.Rows.{key_row, at_rows, keys_after}
 use Rattle.protocol.specs.Calls.{commit_refusal, commit_answer, left_small, moving_small, round_refusal, polynomial, round_answer, fold_refusal, fold_key_exit, fold_message_exit, ending_small}
@@ -48,8 +48,8 @@ module _ {S : Settings} {G : List ℕ} {M : List ℤ} {E : List ℕ} (ok : Given
   key_given : (t : ℕ) → Below q (key_cells S) (key t)
   key_given t = keys_below S (modulus-positive S ok.settings) some-cells E t G ok.key
 
-  message-sized : (t : ℕ) → hasLength (cells S) (message t) ≡ true
-  unfolding hasLength
+  message-sized : (t : ℕ) → has_length (cells S) (message t) ≡ true
+  unfolding has_length
   message-sized t = eq-eqb _ _ (message-length S E t M ok.message.long)
 
   left-small : (t : ℕ) → t ≤ L → left_small S t (message t) ≡ true
@@ -58,7 +58,7 @@ module _ {S : Settings} {G : List ℕ} {M : List ℤ} {E : List ℕ} (ok : Given
 
   -- refusals 3 to 8 of a call on both tables
   tables-granted : (K : List ℕ) → Below q (key_cells S) K → (t : ℕ) (rest : List ℕ) → first rest ≡ 0
-      → first (settings_refusal S ∷ unless 7 (hasLength (key_cells S) K && hasLength (cells S) (message t)) ∷ unless 8 (all_below S K) ∷ rest) ≡ 0
+      → first (settings_refusal S ∷ unless 7 (has_length (key_cells S) K && has_length (cells S) (message t)) ∷ unless 8 (all_below S K) ∷ rest) ≡ 0
   unfolding all_below
   tables-granted K b t rest e =
       zero_first _ _ (valid-settings S ok.settings)

@@ -16,7 +16,7 @@ use Rattle.protocol.specs.Calls as Calls
 use Rattle.text_format.specs.Text as Text
 use Rattle.one_claim.specs.Demand3.{Held, State, KeyTable, MessageTable, Record, Call, Step, lent_key, lent_message, handed, tables, refusal, back_key, back_message, back_record, after}
 use Rattle.one_claim.specs.Demand3.{step, Gap, none, refused, Run, stop, go}
-use Rattle.protocol.proofs.Tests.{granted-refused}
+use Rattle.protocol.proofs.Tests.{granted_refused}
 
 -- ---- what comes back as it was lent, to what is as it was
 
@@ -56,16 +56,16 @@ unfolding after refusal Calls.fold_key_exit Calls.fold_message_exit Calls.openin
     Text.read_answer Text.loaded Text.read_exit tables
 refused-keeps (Call.commit S k m) h r = refl
 refused-keeps (Call.round S t k m) h r = refl
-refused-keeps (Call.fold S t e k m) h r = back_key_lem k (granted-refused _ _ _ r) (back_message_lem m (granted-refused _ _ _ r) refl)
+refused-keeps (Call.fold S t e k m) h r = back_key_lem k (granted_refused _ _ _ r) (back_message_lem m (granted_refused _ _ _ r) refl)
 refused-keeps (Call.end S t m) h r = refl
-refused-keeps (Call.opening S k m e o) h r = back_key_lem k (granted-refused _ _ _ r) (back_key_lem o (granted-refused _ _ _ r) (back_message_lem m (granted-refused _ _ _ r) refl))
+refused-keeps (Call.opening S k m e o) h r = back_key_lem k (granted_refused _ _ _ r) (back_key_lem o (granted_refused _ _ _ r) (back_message_lem m (granted_refused _ _ _ r) refl))
 refused-keeps (Call.session_round s p e) h r = back_record_lem s (move_kept _ _ (handed h s) (choose-number _ _ _ refl refl) r)
 refused-keeps (Call.session_end s f k) h r = back_record_lem s (move_kept _ _ (handed h s) refl r)
 refused-keeps (Call.check S C f k o e) h r = refl
 refused-keeps (Call.judge S C c k w) h r = refl
 refused-keeps (Call.extract S C k o e f w) h r = refl
 refused-keeps (Call.read P text k m c o e f v) h r =
-    let kept : Text.read_exit P text (tables h k m c o e f v) ≡ tables h k m c o e f v = granted-refused _ _ _ r in
+    let kept : Text.read_exit P text (tables h k m c o e f v) ≡ tables h k m c o e f v = granted_refused _ _ _ r in
     back_key_lem k (ap (λ x. x.key) kept) (back_message_lem m (ap (λ x. x.message) kept) (back_key_lem c (ap (λ x. x.commitment) kept)
     (back_key_lem o (ap (λ x. x.rounds) kept) (back_key_lem e (ap (λ x. x.challenges) kept) (back_message_lem f (ap (λ x. x.last) kept) (back_key_lem v (ap (λ x. x.claims) kept) refl))))))
 refused-keeps (Call.write S P k m c o e f v out) h r = refl

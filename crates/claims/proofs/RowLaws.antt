@@ -57,10 +57,10 @@ flat-add d n (suc m) F =
     ∙ ap (λ l. flat d n F ++ l) (sym (flat-suc d m (λ i. F (n + i))))
 
 -- what is chosen where a test passes
-choose-ext {ℓ} : {A : Type ℓ} (b : Bool) (x y z : A) → (b ≡ true → x ≡ y) → choose b x z ≡ choose b y z
+choose_ext {ℓ} : {A : Type ℓ} (b : Bool) (x y z : A) → (b ≡ true → x ≡ y) → choose b x z ≡ choose b y z
 unfolding choose
-choose-ext true x y z e = e refl
-choose-ext false x y z e = refl
+choose_ext true x y z e = e refl
+choose_ext false x y z e = refl
 
 module _ (S : Settings) where
   open S use {degree as d, depth as L, modulus as q, rows as rows}
@@ -99,7 +99,7 @@ module _ (S : Settings) where
 
   pub at_rows_ext : (f g : ℕ → List ℕ) → ((r k : ℕ) → r < rows → k < d → get_or (f r) k 0 ≡ get_or (g r) k 0) → at_rows S f ≡ at_rows S g
   unfolding at_rows
-  at_rows_ext f g e = flat_ext width rows_most (omega arith) (λ r k _ _. choose-ext (ltb r rows && ltb k d) _ _ 0 (λ t.
+  at_rows_ext f g e = flat_ext width rows_most (omega arith) (λ r k _ _. choose_ext (ltb r rows && ltb k d) _ _ 0 (λ t.
       let (hr, hk) = and_split {a = ltb r rows} t in e r k (ltb-true r rows hr) (ltb-true k d hk)))
 
   module _ (most : rows ≤ rows_most) (wide : d ≤ width) where

@@ -13,7 +13,7 @@ use Rattle.protocol.specs.Element.{width}
 use Rattle.protocol.specs.declared.Settings.{Settings}
 use Rattle.protocol.specs.declared.Parts.{Parts}
 use Rattle.protocol.specs.Basic.{tabulate, all, choose, within, first, unless, granted}
-use Rattle.protocol.specs.Settings.{settings_refusal, hasLength, all_below, exponent, exponents}
+use Rattle.protocol.specs.Settings.{settings_refusal, has_length, all_below, exponent, exponents}
 use Rattle.text_format.specs.Text.{Line, Shape, Tables, text_limit, value_limit, narrow_limit, shape, settings_shape, shapes, shape_size}
 use Rattle.text_format.specs.Text.{spot_at, spots, wanted, settings_values, contents, block, blocks, block_lines, text_of, block_fits, fits}
 use Rattle.text_format.specs.Text.{lines_of, same_spot, same_spots, spots_of, values_of, well_formed, unsigned, column, unsigned_column}
@@ -39,7 +39,7 @@ unfolding shapes shape settings_shape
 shapes-rise S P = (omega arith, (omega arith, (omega arith, (omega arith, (omega arith, (omega arith, (omega arith, (omega arith, tt))))))))
 
 fit : (bs : List Shape) (vs : List (List ℤ)) → length vs ≡ length bs → all block_fits (zip_with block bs vs) ≡ true → Fit bs vs
-unfolding all zip_with block_fits block hasLength
+unfolding all zip_with block_fits block has_length
 fit [] [] e h = tt
 fit [] (v ∷ vs) e h = absurd (omega arith)
 fit (b ∷ bs) [] e h = absurd (omega arith)
@@ -48,7 +48,7 @@ fit (b ∷ bs) (v ∷ vs) e h =
     (eqb-true (length v) (shape_size b) here, fit bs vs (omega arith) more)
 
 pub fit_all : (bs : List Shape) (vs : List (List ℤ)) → Fit bs vs → all block_fits (zip_with block bs vs) ≡ true
-unfolding all zip_with block_fits block hasLength
+unfolding all zip_with block_fits block has_length
 fit_all [] [] h = refl
 fit_all [] (v ∷ vs) h = absurd h
 fit_all (b ∷ bs) [] h = absurd h

@@ -1,5 +1,7 @@
 // The product of an element of whole numbers with an element of residues of 32 bits, coefficient by coefficient, added to sums modulo 2^64. Nothing is prepared,
 // so it is the quicker way where the degree is small.
+#![tactic(auto)]
+
 ghost use Rattle.std.specs.Prelude.{◌≡◌, ◌%◌, ◌^◌, ◌<◌, ◌≤◌, length, pos, ◌+ℤ◌, ◌*ℤ◌, slice_index_or};
 ghost use Rattle.protocol.specs.Basic.{Provided};
 ghost use Rattle.protocol.specs.Element.{width, modulo, rotate, product, signed};

@@ -1,4 +1,6 @@
 // The greatest common divisor, for every two numbers.
+#![tactic(auto)]
+
 ghost use Rattle.std.specs.Prelude.{◌≡◌};
 ghost use Rattle.protocol.specs.CommonDivisor.{greatest_common_divisor};
 

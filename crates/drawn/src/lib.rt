@@ -1,1 +1,3 @@
+#![tactic(auto)]
+
 // Drawn cases of the definitions, in proofs/. No function stands here.

@@ -1,5 +1,7 @@
 // The verifier's equations: a round, the claim after it, and the end. Every function is safe for every input; what it gives is said for
 // settings that refusals 3 to 6 and 16 let pass.
+#![tactic(auto)]
+
 pub mod rounds;
 
 ghost use Rattle.std.specs.Prelude.{◌≡◌, ◌+◌, ◌*◌, ◌%◌, ◌<◌, ◌≤◌, eqb, length};

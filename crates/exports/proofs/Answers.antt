@@ -14,7 +14,7 @@ use Rattle.protocol.specs.declared.Verdict.TheVariants.{Silent}
 use Rattle.protocol.specs.declared.Opened.{Opened}
 use Rattle.protocol.specs.Basic.{choose, granted}
 use Rattle.protocol.specs.Layout.{item_cells}
-use Rattle.protocol.specs.Settings.{settings_refusal, hasLength}
+use Rattle.protocol.specs.Settings.{settings_refusal, has_length}
 use Rattle.protocol.specs.Rows.{together}
 use Rattle.protocol.specs.Calls as Calls
 use Rattle.protocol.specs.Promises.{Opening}
@@ -26,13 +26,13 @@ use Rattle.exports.specs.Promises.{OpeningStored}
 
 -- slices are held against lengths that are worked out, and are right where the settings are allowed
 module _ (S : Settings) {n x m : ℕ} (is : settings_refusal S ≡ 0 → x ≡ m) where
-  pub counted : (t : List ℕ) → n ≡ lent S (eqb (length t) x) 0 → n ≡ lent S (hasLength m t) 0
-  unfolding hasLength
+  pub counted : (t : List ℕ) → n ≡ lent S (eqb (length t) x) 0 → n ≡ lent S (has_length m t) 0
+  unfolding has_length
   counted t e = e ∙ lent_same S _ _ 0 (λ z. ap (eqb (length t)) (is z))
 
   pub both_counted : (C : List ℕ) (d : ℕ) (f : List ℤ) {fits : Bool} → fits ≡ (eqb (length C) x && eqb (length f) d) → n ≡ lent S fits 0
-      → n ≡ lent S (hasLength m C && hasLength d f) 0
-  unfolding hasLength
+      → n ≡ lent S (has_length m C && has_length d f) 0
+  unfolding has_length
   both_counted C d f b e = e ∙ lent_same S _ _ 0 (λ z. b ∙ ap (λ y. eqb (length C) y && eqb (length f) d) (is z))
 
 -- a refused call leaves y, one that is not leaves x
@@ -76,9 +76,9 @@ agrees S fits N b n e h = no N ∙ ap (λ k. granted k (bit (granted N b false))
 
 -- ---- the whole opening
 
-module _ (S : Settings) (key : List ℕ) (message : List ℤ) (E rounds C : List ℕ) (f : List ℤ) (n : ℕ) (e : n ≡ lent S (hasLength (item_cells S) C && hasLength S.degree f) 0) where
+module _ (S : Settings) (key : List ℕ) (message : List ℤ) (E rounds C : List ℕ) (f : List ℤ) (n : ℕ) (e : n ≡ lent S (has_length (item_cells S) C && has_length S.degree f) 0) where
   abbrev fits : Bool
-  fits = hasLength (item_cells S) C && hasLength S.degree f
+  fits = has_length (item_cells S) C && has_length S.degree f
 
   abbrev N : ℕ
   N = Calls.opening_refusal S key message E rounds

@@ -11,7 +11,7 @@ use Rattle.protocol.specs.Basic.{granted}
 use Rattle.protocol.specs.Calls.{fold_key_exit, fold_message_exit}
 use Rattle.text_format.specs.Text.{lines_of, tables_in}
 use Rattle.one_claim.specs.Demand3.{Step}
-use Rattle.protocol.proofs.Tests.{granted-refused}
+use Rattle.protocol.proofs.Tests.{granted_refused}
 use Rattle.sessions.specs.Promises.{move_exit}
 use Rattle.text_calls.specs.Promises.{read_number}
 use Rattle.exports.specs.Border as Border
@@ -46,22 +46,22 @@ back_wholes (Wholes.other t) e f = f
 pub refused-keeps : (c : Call) (h : Held) → refusal h c ≢ 0 → after c h ≡ h
 unfolding after refusal Border.commit_exit Border.round_exit fold_key_exit fold_message_exit Border.end_exit Border.open_key_exit Border.open_message_exit Border.open_rounds_exit
     Border.open_commitment_exit Border.open_last_exit move_exit tables
-refused-keeps (Call.commit S k m c) h r = back_words c (granted-refused _ _ _ r) refl
-refused-keeps (Call.round S t k m p) h r = back_words p (granted-refused _ _ _ r) refl
-refused-keeps (Call.fold S t e k m) h r = back_words k (granted-refused _ _ _ r) (back_wholes m (granted-refused _ _ _ r) refl)
-refused-keeps (Call.end S t m f) h r = back_wholes f (granted-refused _ _ _ r) refl
+refused-keeps (Call.commit S k m c) h r = back_words c (granted_refused _ _ _ r) refl
+refused-keeps (Call.round S t k m p) h r = back_words p (granted_refused _ _ _ r) refl
+refused-keeps (Call.fold S t e k m) h r = back_words k (granted_refused _ _ _ r) (back_wholes m (granted_refused _ _ _ r) refl)
+refused-keeps (Call.end S t m f) h r = back_wholes f (granted_refused _ _ _ r) refl
 refused-keeps (Call.opening S k m e o c f) h r =
-    back_words k (granted-refused _ _ _ r)
-    (back_wholes m (granted-refused _ _ _ r) (back_words o (granted-refused _ _ _ r) (back_words c (granted-refused _ _ _ r) (back_wholes f (granted-refused _ _ _ r) refl))))
-refused-keeps (Call.session_round p e s) h r = back_words s (granted-refused _ _ _ r) refl
-refused-keeps (Call.session_end f k s) h r = back_words s (granted-refused _ _ _ r) refl
+    back_words k (granted_refused _ _ _ r)
+    (back_wholes m (granted_refused _ _ _ r) (back_words o (granted_refused _ _ _ r) (back_words c (granted_refused _ _ _ r) (back_wholes f (granted_refused _ _ _ r) refl))))
+refused-keeps (Call.session_round p e s) h r = back_words s (granted_refused _ _ _ r) refl
+refused-keeps (Call.session_end f k s) h r = back_words s (granted_refused _ _ _ r) refl
 refused-keeps (Call.check S c f k o e) h r = refl
 refused-keeps (Call.judge S c s k w) h r = refl
 refused-keeps (Call.extract S c k o e f w) h r = refl
-refused-keeps (Call.look text s) h r = back_words s (granted-refused _ _ _ r) refl
+refused-keeps (Call.look text s) h r = back_words s (granted_refused _ _ _ r) refl
 refused-keeps (Call.read n text s k m c o e f v) h r =
-    let kept : granted (read_number n text (words h s) (tables h k m c o e f v)) (tables_in (lines_of text)) (tables h k m c o e f v) ≡ tables h k m c o e f v = granted-refused _ _ _ r in
-    back_words s (granted-refused _ _ _ r)
+    let kept : granted (read_number n text (words h s) (tables h k m c o e f v)) (tables_in (lines_of text)) (tables h k m c o e f v) ≡ tables h k m c o e f v = granted_refused _ _ _ r in
+    back_words s (granted_refused _ _ _ r)
     (back_words k (ap (λ x. x.key) kept) (back_wholes m (ap (λ x. x.message) kept) (back_words c (ap (λ x. x.commitment) kept)
     (back_words o (ap (λ x. x.rounds) kept) (back_words e (ap (λ x. x.challenges) kept) (back_wholes f (ap (λ x. x.last) kept) (back_words v (ap (λ x. x.claims) kept) refl)))))))
 refused-keeps (Call.write S n k m c o e f v out) h r = refl

@@ -18,7 +18,7 @@ use Rattle.protocol.specs.declared.Moved.{Moved}
 use Rattle.protocol.specs.declared.Verdict.TheVariants.{Holds, Accepted}
 use Rattle.protocol.specs.Element.{padded_signed}
 use Rattle.protocol.specs.Layout.{item_cells, polynomial_cells}
-use Rattle.protocol.specs.Settings.{hasLength}
+use Rattle.protocol.specs.Settings.{has_length}
 use Rattle.protocol.specs.Opening.{commitment, round_element, message_after, final_element}
 use Rattle.protocol.specs.Rows.{key_row, at_rows, together, commitments, keys_after}
 use Rattle.protocol.specs.Session.{opened, blank, start_refusal, start, shut, part, round, end}
@@ -47,8 +47,8 @@ pub own : (S : Settings) → Valid S → (fits : Bool) (N : ℕ) → fits ≡ tr
 unfolding lent
 own S v fits N e = first_passes _ _ (valid-settings S v) ∙ first_holds 7 _ _ e ∙ first_only N
 
-pub fit {ℓ} : {A : Type ℓ} (n : ℕ) (t : List A) → length t ≡ n → hasLength n t ≡ true
-unfolding hasLength
+pub fit {ℓ} : {A : Type ℓ} (n : ℕ) (t : List A) → length t ≡ n → has_length n t ≡ true
+unfolding has_length
 fit n t e = eq-eqb _ _ e
 
 -- a move on a record in a slice
@@ -174,7 +174,7 @@ module _ {S : Settings} {G : List ℕ} {M : List ℤ} {E : List ℕ} (ok : Given
 
     slice_fits : polynomial_fits slice (numbers_of (session t)) ≡ true
     unfolding polynomial_fits
-    slice_fits = ap (λ s. hasLength (polynomial_cells s) slice) (settings_are t (omega arith)) ∙ fit (polynomial_cells S) slice slice_long
+    slice_fits = ap (λ s. has_length (polynomial_cells s) slice) (settings_are t (omega arith)) ∙ fit (polynomial_cells S) slice slice_long
 
     made : round_on slice (get_or E t 0) (numbers_of (session t)) ≡ record { refusal = 0; verdict = Holds; next = session (suc t) }
     unfolding round_on session_after
@@ -215,7 +215,7 @@ module _ {S : Settings} {G : List ℕ} {M : List ℤ} {E : List ℕ} (ok : Given
 
   final-fits : last_fits final (numbers_of (session L)) ≡ true
   unfolding last_fits
-  final-fits = ap (λ s. hasLength s.degree final) (settings_are L (Nat.le_refl L)) ∙ fit d final final_long
+  final-fits = ap (λ s. has_length s.degree final) (settings_are L (Nat.le_refl L)) ∙ fit d final final_long
 
   closed : end_on final G (numbers_of (session L)) ≡ record { refusal = 0; verdict = Accepted; next = shut (session L) }
   unfolding end_on session_after

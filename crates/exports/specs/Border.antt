@@ -14,26 +14,26 @@ use Rattle.protocol.specs.declared.Settings.{Settings}
 use Rattle.protocol.specs.Basic.{choose, granted}
 use Rattle.protocol.specs.Element.{padded_signed}
 use Rattle.protocol.specs.Layout.{item_cells, polynomial_cells}
-use Rattle.protocol.specs.Settings.{hasLength}
+use Rattle.protocol.specs.Settings.{has_length}
 use Rattle.protocol.specs.Rows.{together}
 use Rattle.protocol.specs.Calls as Calls
 use Rattle.slices.specs.Slices.{lent, values_of, laid}
 use Rattle.protocol.specs.Session.{verdict_number}
 
 unfoldable pub commit_number : Settings → List ℕ → List ℤ → List ℕ → ℕ
-commit_number S key message commitment = lent S (hasLength (item_cells S) commitment) (Calls.commit_answer S key message).refusal
+commit_number S key message commitment = lent S (has_length (item_cells S) commitment) (Calls.commit_answer S key message).refusal
 
 unfoldable pub commit_exit : Settings → List ℕ → List ℤ → List ℕ → List ℕ
 commit_exit S key message commitment = granted (commit_number S key message commitment) (together S (Calls.commit_answer S key message).commitment) commitment
 
 unfoldable pub round_number : Settings → ℕ → List ℕ → List ℤ → List ℕ → ℕ
-round_number S t key message polynomial = lent S (hasLength (polynomial_cells S) polynomial) (Calls.round_answer S t key message).refusal
+round_number S t key message polynomial = lent S (has_length (polynomial_cells S) polynomial) (Calls.round_answer S t key message).refusal
 
 unfoldable pub round_exit : Settings → ℕ → List ℕ → List ℤ → List ℕ → List ℕ
 round_exit S t key message polynomial = granted (round_number S t key message polynomial) (laid S (Calls.round_answer S t key message).elements) polynomial
 
 unfoldable pub end_number : Settings → ℕ → List ℤ → List ℤ → ℕ
-end_number S t message last = lent S (hasLength S.degree last) (Calls.end_answer S t message).refusal
+end_number S t message last = lent S (has_length S.degree last) (Calls.end_answer S t message).refusal
 
 unfoldable pub end_exit : Settings → ℕ → List ℤ → List ℤ → List ℤ
 end_exit S t message last = granted (end_number S t message last) (take S.degree (Calls.end_answer S t message).last) last
@@ -41,7 +41,7 @@ end_exit S t message last = granted (end_number S t message last) (take S.degree
 -- C and f are the slices for commitment and final element
 module _ (S : Settings) (key : List ℕ) (message : List ℤ) (E rounds C : List ℕ) (f : List ℤ) where
   unfoldable pub open_number : ℕ
-  open_number = lent S (hasLength (item_cells S) C && hasLength S.degree f) (Calls.opening_answer S key message E rounds).refusal
+  open_number = lent S (has_length (item_cells S) C && has_length S.degree f) (Calls.opening_answer S key message E rounds).refusal
 
   unfoldable pub open_key_exit : List ℕ
   open_key_exit = granted open_number (Calls.opening_key_exit S key message E rounds) key
@@ -63,7 +63,7 @@ module _ (S : Settings) (key : List ℕ) (message : List ℤ) (E rounds C : List
 
 module _ (S : Settings) (C : List ℕ) (f : List ℤ) (key rounds E : List ℕ) where
   unfoldable pub check_number : ℕ
-  check_number = lent S (hasLength (item_cells S) C && hasLength S.degree f) (Calls.check_answer S (values_of S C) (padded_signed S.degree f) key rounds E).refusal
+  check_number = lent S (has_length (item_cells S) C && has_length S.degree f) (Calls.check_answer S (values_of S C) (padded_signed S.degree f) key rounds E).refusal
 
   unfoldable pub check_verdict : ℕ
   check_verdict = granted check_number (verdict_number (Calls.check_answer S (values_of S C) (padded_signed S.degree f) key rounds E).verdict) 0
@@ -71,14 +71,14 @@ module _ (S : Settings) (C : List ℕ) (f : List ℤ) (key rounds E : List ℕ) 
 -- c is the slack
 module _ (S : Settings) (C : List ℕ) (c : ℕ) (key : List ℕ) (w : List ℤ) where
   unfoldable pub judge_number : ℕ
-  judge_number = lent S (hasLength (item_cells S) C) (Calls.judge_answer S (values_of S C) c key w).refusal
+  judge_number = lent S (has_length (item_cells S) C) (Calls.judge_answer S (values_of S C) c key w).refusal
 
   unfoldable pub judge_yes : ℕ
   judge_yes = granted judge_number (choose (Calls.judge_answer S (values_of S C) c key w).yes 1 0) 0
 
 module _ (S : Settings) (C key rounds E : List ℕ) (leaves w : List ℤ) where
   unfoldable pub extract_number : ℕ
-  extract_number = lent S (hasLength (item_cells S) C) (Calls.extract_refusal S (values_of S C) key rounds E leaves w)
+  extract_number = lent S (has_length (item_cells S) C) (Calls.extract_refusal S (values_of S C) key rounds E leaves w)
 
   unfoldable pub extract_exit : List ℤ
   extract_exit = granted extract_number (Calls.extract_exit S (values_of S C) key rounds E leaves w) w

@@ -2,6 +2,8 @@
 //
 // Every function answers the number of the first refusal, 0 where nothing is refused. Every slice has exactly its length, or is refused by 7. A refused call
 // writes nothing to a slice, but for the closed record of a refused start.
+#![tactic(auto)]
+
 ghost use Rattle.std.specs.Prelude.{◌≡◌};
 ghost use Rattle.protocol.specs.Settings.{settings_refusal};
 ghost use Rattle.protocol.specs.Promises.{Folded};

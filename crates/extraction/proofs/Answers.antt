@@ -13,7 +13,7 @@ use Rattle.protocol.specs.Layout.{leaves, leaf_cells}
 use Rattle.protocol.specs.Tree.{leaf, path, row_path, root_vector, growth_allowed}
 use Rattle.protocol.specs.Calls.{every_path, tree_tests, tree_refusal, extract_refusal, extract_exit}
 use Rattle.protocol.specs.Promises.{Extracted}
-use Rattle.protocol.proofs.Tests.{granted-zero, granted-refused}
+use Rattle.protocol.proofs.Tests.{granted-zero, granted_refused}
 use Rattle.protocol.proofs.Refusals.{front-joined}
 use Rattle.claims.proofs.Honest.{degree-positive}
 use Rattle.claims.proofs.Weights.{signed-coefficients}
@@ -30,7 +30,7 @@ module _ (S : Settings) (C key rounds E : List ℕ) (finals w : List ℤ) where
 
   pub refused : (n : ℕ) → n ≡ extract_refusal S C key rounds E finals w → (n ≡ 0 → ⊥) → Extracted S C key rounds E finals w n w
   unfolding extract_exit
-  refused n e r = record { refusal = e; w_exit = sym (granted-refused _ (root_vector S E finals) w (λ z. r (e ∙ z))) }
+  refused n e r = record { refusal = e; w_exit = sym (granted_refused _ (root_vector S E finals) w (λ z. r (e ∙ z))) }
 
   pub extracted : extract_refusal S C key rounds E finals w ≡ 0 → (v : List ℤ) → v ≡ root_vector S E finals → Extracted S C key rounds E finals w 0 v
   unfolding extract_exit

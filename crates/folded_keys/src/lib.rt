@@ -1,4 +1,6 @@
 // The key folded by all challenges, as one sum of rotated elements (the law is key-turns of proofs/KeyTurns), and the end of a transcript by it.
+#![tactic(auto)]
+
 ghost use Rattle.std.specs.Prelude.{◌≡◌, ◌+◌, ◌%◌, ◌^◌, ◌<◌, ◌≤◌, length, slice_index};
 ghost use Rattle.protocol.specs.Basic.{Provided};
 ghost use Rattle.protocol.specs.Element.{signed};

@@ -1,5 +1,7 @@
 // Folds of flat tables of residues. Every public function is safe for every input; what it gives is said by a definition under a condition that the refusals
 // ensure.
+#![tactic(auto)]
+
 ghost use Rattle.std.specs.Prelude.{◌≡◌, ◌+◌, ◌*◌, ◌<◌, ◌≤◌, length, get_or};
 ghost use Rattle.protocol.specs.Basic.{Provided};
 ghost use Rattle.protocol.specs.Element.{width};

@@ -1,4 +1,6 @@
 // The sums of the two halves of a table, number by number; the second half comes as a part of the table. Every public function is safe for every input.
+#![tactic(auto)]
+
 ghost use Rattle.std.specs.Prelude.{◌≡◌, ℕ, ◌+◌, ◌%◌, ◌^◌, ◌<◌, ◌≤◌, pos, nat_abs, ◌+ℤ◌, length, get_or};
 ghost use Rattle.protocol.specs.Basic.{Provided};
 ghost use Rattle.residues.specs.Lists.{filled};

@@ -1,5 +1,7 @@
 // Sums of products with residues of up to 61 bits, in numbers of 64 bits: they run twice, over the lower 32 bits of the residues and over what is above them, and
 // are joined once. A modulus of 32 bits needs no second run. Every function is safe for every input.
+#![tactic(auto)]
+
 pub mod elements;
 
 ghost use Rattle.std.specs.Prelude.{◌≡◌, ℕ, ◌-◌, ◌%◌, ◌^◌, ◌<◌, ◌≤◌, ℤ};

@@ -14,12 +14,12 @@ use Rattle.protocol.specs.Basic.{every}
 use Rattle.protocol.specs.Element.{value_row}
 use Rattle.protocol.specs.Layout.{rows_width, key_cells}
 use Rattle.protocol.specs.Rows.{key_row}
-use Rattle.protocol.specs.Settings.{settings_refusal, hasLength, all_below, residue_rows, all_within}
+use Rattle.protocol.specs.Settings.{settings_refusal, has_length, all_below, residue_rows, all_within}
 use Rattle.protocol.specs.Tree.{growth_factor, growth_limit, growth, growth_allowed}
 use Rattle.protocol.specs.Judge.{opens, judged}
 use Rattle.protocol.specs.Calls.{judge_refusal, judge_answer}
 use Rattle.protocol.proofs.Inputs.{settings-valid, tested-below}
-use Rattle.protocol.proofs.Tests.{and_split, granted-zero, granted-refused}
+use Rattle.protocol.proofs.Tests.{and_split, granted-zero, granted_refused}
 use Rattle.protocol.proofs.Refusals.{none-refused, and_fails_right}
 use Rattle.protocol.specs.GrowthTest.{capped_growth}
 use Rattle.protocol.proofs.GrowthTest.{power-exact, growth-cells}
@@ -42,7 +42,7 @@ pub record JudgeGiven (S : Settings) (C key : List ℕ) (w : List ℤ) : Type 0 
 
 module _ (S : Settings) (C : List ℕ) (c : ℕ) (key : List ℕ) (w : List ℤ) where
   pub judge_given : judge_refusal S C c key w ≡ 0 → JudgeGiven S C key w
-  unfolding judge_refusal hasLength all_below growth_allowed
+  unfolding judge_refusal has_length all_below growth_allowed
   judge_given e =
       let (r16, (t7, (t8, (t14, _)))) = none-refused ((6, _) ∷ (7, _) ∷ (13, _) ∷ (14, _) ∷ []) e in
       let (k, v) = and_split t7 in
@@ -62,7 +62,7 @@ module _ (S : Settings) (C : List ℕ) (c : ℕ) (key : List ℕ) (w : List ℤ)
 
   pub judge_refused : (n : ℕ) → n ≡ judge_refusal S C c key w → (n ≡ 0 → ⊥) → ◌≡◌ {A = Judged} (record { refusal = n; yes = false }) (judge_answer S C c key w)
   unfolding judge_answer
-  judge_refused n e r = let none = sym (granted-refused (judge_refusal S C c key w) (judged S key C c w) false (λ z. r (e ∙ z))) in λ i. record { refusal = e i; yes = none i }
+  judge_refused n e r = let none = sym (granted_refused (judge_refusal S C c key w) (judged S key C c w) false (λ z. r (e ∙ z))) in λ i. record { refusal = e i; yes = none i }
 
   pub judge_done : judge_refusal S C c key w ≡ 0 → (y : Bool) → y ≡ judged S key C c w → ◌≡◌ {A = Judged} (record { refusal = 0; yes = y }) (judge_answer S C c key w)
   unfolding judge_answer

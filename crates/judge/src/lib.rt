@@ -1,4 +1,6 @@
 // The judge of relaxed openings.
+#![tactic(auto)]
+
 mod combination;
 mod rows;
 mod scaling;

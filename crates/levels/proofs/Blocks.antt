@@ -1,7 +1,7 @@
 -- A block splits in two: at which e they stand, how long they are, and what is left of an element in each.
 use Rattle.std.proofs.Common.{◌≡◌, ℕ, suc, ◌+◌, ◌*◌, ◌/◌, ◌^◌, ◌<◌, ◌≤◌, List, length, take, drop, ap, ◌∙◌, arith, length-drop, length-take-le}
 use native.Mathlib.Nat as NatL
-use Rattle.algebra.specs.Ring.{CommRing, pow}
+use Rattle.algebra.specs.Ring.{pow}
 use Rattle.algebra.specs.Transform.{value, value-split}
 use Rattle.powers.specs.Powers.{K, psi, root}
 use Rattle.powers.proofs.Roots.{parts, root-power}

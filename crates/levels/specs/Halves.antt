@@ -5,7 +5,6 @@
 --   JoinedPair z      a pair of the way up: its sum, and z times its difference
 --   Split z h l m     m is the block l, split; Joined z h l m: m is the block l, joined
 use Rattle.std.specs.Prelude.{◌≡◌, ℕ, ◌+◌, ◌*◌, ◌<◌, ◌≤◌, List, length, slice_index}
-use Rattle.algebra.specs.Ring.{CommRing}
 use Rattle.powers.specs.Powers.{modulus, K, res}
 
 pub record Pairs (P : ℕ → ℕ → ℕ → ℕ → Type 0) (h i : ℕ) (l m : List ℕ) : Type 0 where

@@ -6,7 +6,7 @@
 --   Down D e l m     the way down from l to m: the length stays, and a block of small numbers is sent
 --   Up D e l m       the way up
 use Rattle.std.specs.Prelude.{◌≡◌, ℕ, ◌+◌, ◌*◌, ◌^◌, ◌<◌, ◌≤◌, List, length}
-use Rattle.algebra.specs.Ring.{CommRing, two, pow}
+use Rattle.algebra.specs.Ring.{two, pow}
 use Rattle.algebra.specs.Transform.{value}
 use Rattle.powers.specs.Powers.{modulus, K, Below, seen, root}
 

@@ -1,6 +1,8 @@
 // The transform modulo 12289 and its inverse, level by level and in place. A block of 2^D places stands for an element modulo X^(2^D) − 9^e; it splits into two blocks
 // of half the length, at the two square roots of 9^e. At each place stand w numbers, one of each of w elements that are transformed together. Numbers stand for
 // their residues: on the way down they stay below 4·12289, on the way up below 2·12289. Every public function is safe for every input.
+#![tactic(auto)]
+
 ghost use Rattle.std.specs.Prelude.{◌≡◌, ℕ, ◌+◌, ◌*◌, ◌/◌, ◌%◌, ◌^◌, ◌<◌, ◌≤◌, length, slice_index};
 ghost use Rattle.protocol.specs.Basic.{Provided};
 ghost use Rattle.powers.specs.Powers.{powers, Below};

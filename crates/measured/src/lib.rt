@@ -1,4 +1,6 @@
 // Functions of inner crates that are measured alone: a static library for bench/, and no part of the library that is linked.
+#![tactic(auto)]
+
 ghost use Rattle.std.specs.Prelude.{◌≡◌, length};
 ghost use Rattle.protocol.specs.Basic.{Provided};
 ghost use Rattle.protocol.specs.Element.{reduced, signed_at, residue_at};

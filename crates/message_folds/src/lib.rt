@@ -1,5 +1,7 @@
 // The fold of a message, over whole numbers. The public function is safe for every input; what it gives is said by a definition under a condition that the
 // refusals ensure.
+#![tactic(auto)]
+
 ghost use Rattle.std.specs.Prelude.{◌≡◌, ◌*◌, ◌^◌, ◌<◌, ◌≤◌, pos, nat_abs, length};
 ghost use Rattle.protocol.specs.Basic.{Provided};
 ghost use Rattle.protocol.specs.Element.{width};

@@ -1,5 +1,5 @@
 -- Halves of a residue of an odd modulus.
-use Rattle.std.proofs.Common.{◌≡◌, ℕ, ◌+◌, ◌*◌, ◌/◌, ◌%◌, ◌^◌, ◌<◌, ◌≤◌, sym, refl, ap, ◌∙◌, add-one, arith}
+use Rattle.std.proofs.Common.{◌≡◌, ℕ, ◌+◌, ◌*◌, ◌/◌, ◌%◌, ◌^◌, ◌<◌, sym, ap, ◌∙◌, add-one, arith}
 use native.Mathlib.Nat as Nat
 use Rattle.protocol.proofs.Modulo.{times_mod}
 use Rattle.modular.specs.Factors.{Halvable}

@@ -1,5 +1,7 @@
 // Is the product of two elements c times a third, modulo q. The product is not reduced for that: c·(q − a) is added to its sums, for each number a of the third, and what they
 // are joined to must be 0.
+#![tactic(auto)]
+
 ghost use Rattle.std.specs.Prelude.{◌≡◌, ℕ, ◌*◌, ◌^◌, ◌≤◌, length, ℤ, slice_index};
 ghost use Rattle.protocol.specs.Basic.{every, Provided};
 ghost use Rattle.protocol.specs.Element.{Element, width, product, signed, residue};

@@ -22,7 +22,7 @@ use Rattle.protocol.specs.Rows.{key_row, at_rows, keys_after, round_tables, tran
 use Rattle.protocol.specs.Session.{verdict, verdict_number}
 use Rattle.protocol.specs.Calls.{commit_refusal, commit_answer, opening_refusal, opening_answer, opening_key_exit, opening_message_exit, opening_rounds_exit}
 use Rattle.protocol.specs.Promises.{Opening}
-use Rattle.protocol.proofs.Tests.{granted-zero, granted-refused}
+use Rattle.protocol.proofs.Tests.{granted-zero, granted_refused}
 use Rattle.protocol.proofs.Answers.{opening-number}
 use Rattle.protocol.proofs.Rows.{keys-zero, key_row-below}
 use Rattle.claims.proofs.Honest.{Given, degree-positive, modulus-positive, opening-commitment, opening_last, opening-key, opening-message, opening-rounds}
@@ -62,14 +62,14 @@ module _ (S : Settings) (G : List ℕ) (M : List ℤ) (E R : List ℕ) where
   opening-refused n e r = record {
     answer = λ i. record {
       refusal = e i;
-      commitment = sym (granted-refused (opening_refusal S G M E R) value (zeros rows_width) some) i;
-      last = sym (granted-refused (opening_refusal S G M E R) (padded_signed d T.last) (signed_zeros width) some) i;
-      verdict = sym (granted-refused (opening_refusal S G M E R) (verdict (all_accepted S G T)) Silent some) i;
+      commitment = sym (granted_refused (opening_refusal S G M E R) value (zeros rows_width) some) i;
+      last = sym (granted_refused (opening_refusal S G M E R) (padded_signed d T.last) (signed_zeros width) some) i;
+      verdict = sym (granted_refused (opening_refusal S G M E R) (verdict (all_accepted S G T)) Silent some) i;
     };
-    verdict_number_holds = ap verdict_number (sym (granted-refused (opening_refusal S G M E R) (verdict (all_accepted S G T)) Silent some)) ∙ opening-number S G M E R;
-    key_exit = sym (granted-refused _ _ _ some);
-    message_exit = sym (granted-refused _ _ _ some);
-    rounds_exit = sym (granted-refused _ _ _ some);
+    verdict_number_holds = ap verdict_number (sym (granted_refused (opening_refusal S G M E R) (verdict (all_accepted S G T)) Silent some)) ∙ opening-number S G M E R;
+    key_exit = sym (granted_refused _ _ _ some);
+    message_exit = sym (granted_refused _ _ _ some);
+    rounds_exit = sym (granted_refused _ _ _ some);
   }
     where
       some : opening_refusal S G M E R ≡ 0 → ⊥

@@ -1,4 +1,6 @@
 // The whole opening: turns of the prover and the verifier, on tables that are folded in place.
+#![tactic(auto)]
+
 ghost use Rattle.std.specs.Prelude.{◌≡◌};
 ghost use Rattle.protocol.specs.Basic.{Provided};
 ghost use Rattle.protocol.specs.Calls.{opening_refusal};

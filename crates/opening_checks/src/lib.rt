@@ -1,4 +1,6 @@
 // What the verifier checks in a whole opening, in every row: a round's equations with the next claims, and the end.
+#![tactic(auto)]
+
 ghost use Rattle.std.specs.Prelude.{◌≡◌, ◌&&◌, length};
 ghost use Rattle.protocol.specs.Basic.{every, Provided};
 ghost use Rattle.protocol.specs.Element.{signed, residue};

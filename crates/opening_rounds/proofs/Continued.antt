@@ -52,9 +52,9 @@ module _ (S : Settings) (t : ℕ) (key : List ℕ) (message : List ℤ) where
     element-below : (j k : ℕ) → k < d → c j k < q
     element-below j k l = (round-below S pq t key message j).each k l
 
-    sum_at : (k : ℕ) → k < d → get_or (sum_element S t key message) k 0 ≡ ((c 0 k + c 1 k) % q + c 2 k) % q
+    sum_at_lem : (k : ℕ) → k < d → get_or (sum_element S t key message) k 0 ≡ ((c 0 k + c 1 k) % q + c 2 k) % q
     unfolding sum_element times
-    sum_at k l =
+    sum_at_lem k l =
         let n : ℕ = half S ^ (t + 1) in
         let m : ℕ → Element = signed_at d message in
         let G : ℕ → Element = residue_at d key in
@@ -94,7 +94,7 @@ module _ (S : Settings) (t : ℕ) (key : List ℕ) (message : List ℤ) (claim p
   item-below j k l = element-below S t (key_row S key (k / d)) message (at_row k l) j (k % d) (place k)
 
   sums_at : (k : ℕ) → k < n → sums k ≡ ((item 0 k + item 1 k) % q + item 2 k) % q
-  sums_at k l = sum_at S t (key_row S key (k / d)) message (at_row k l) (k % d) (place k)
+  sums_at k l = sum_at_lem S t (key_row S key (k / d)) message (at_row k l) (k % d) (place k)
 
   claimed : (k : ℕ) → k < n → get_or claim k 0 ≡ 2 * (item 0 k + item 2 k) % q
   claimed k l = g.claimed k (omega (arith, n-is))

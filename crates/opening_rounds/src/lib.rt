@@ -1,6 +1,8 @@
 // The prover's work in a whole opening, on slices, in every row of the key. The products of the commitment give c0 of round 1 on the way; in each round
 // 2·(c0 + c2) is the claim, so that c2 follows from the claim and c0, and c1 from one inner product of the halves' sums. What there is for each row, the
 // commitment, the claim and c_j of a round, is an item: an element for each row, one behind the other. Every function is safe for every input.
+#![tactic(auto)]
+
 ghost use Rattle.std.specs.Prelude.{◌≡◌, ◌+◌, ◌*◌, ◌%◌, ◌^◌, ◌<◌, ◌≤◌, length, get_or};
 ghost use Rattle.protocol.specs.Basic.{Provided};
 ghost use Rattle.protocol.specs.Layout.{item_cells};

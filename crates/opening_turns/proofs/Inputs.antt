@@ -6,7 +6,7 @@ use borrow.Author.Tests.{eqb-true}
 use lib.IntN.{ℤ}
 use lib.ListN.{length}
 use Rattle.protocol.specs.declared.Settings.{Settings}
-use Rattle.protocol.specs.Settings.{settings_refusal, cells, hasLength, all_below, exponent, exponents}
+use Rattle.protocol.specs.Settings.{settings_refusal, cells, has_length, all_below, exponent, exponents}
 use Rattle.protocol.specs.Layout.{key_cells, round_cells, exponent_count}
 use Rattle.protocol.specs.Calls.{opening_refusal}
 use Rattle.protocol.proofs.Tests.{and_split}
@@ -21,7 +21,7 @@ module _ (S : Settings) (G : List ℕ) (M : List ℤ) (E R : List ℕ) where
     pub rounds_long : length R ≡ round_cells S
 
   pub lent : opening_refusal S G M E R ≡ 0 → Lent
-  unfolding opening_refusal all_below exponents exponent hasLength
+  unfolding opening_refusal all_below exponents exponent has_length
   lent e =
       let (r6, (t7, (t8, (t9, (t10, _))))) = none-refused ((6, _) ∷ (7, _) ∷ (8, _) ∷ (9, _) ∷ []) e in
       let (three, rounds) = and_split t7 in

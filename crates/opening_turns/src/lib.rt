@@ -1,5 +1,7 @@
 // The turns of a whole opening (PROTOCOL 2.6, 8.7): prover and verifier call each other, once each in every round. The round polynomial of every row stands in
 // its place of the table of rounds, and the claims in a lent slice, an element for each row: a turn copies no element.
+#![tactic(auto)]
+
 mod storage;
 
 ghost use Rattle.std.specs.Prelude.{◌<◌};

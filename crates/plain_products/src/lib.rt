@@ -1,5 +1,7 @@
 // Inner products of elements of whole numbers with elements of residues, modulo q, coefficient by coefficient, with all rows of a key at once. Products are summed as they
 // are, in numbers of 64 bits, and reduced once: a caller sees elements of residues.
+#![tactic(auto)]
+
 mod columnwise;
 
 ghost use Rattle.std.specs.Prelude.{◌≡◌, List, ℕ, ◌+◌, ◌*◌, ◌<◌, ◌≤◌, length};

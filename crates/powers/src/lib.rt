@@ -1,4 +1,6 @@
 // The constant table of the transform: the powers of 9 modulo 12289, from 9^0 to 9^255. Its 128th power is −1. Every power is the one before it times 9.
+#![tactic(auto)]
+
 ghost use Rattle.std.specs.Prelude.{◌≡◌};
 ghost use Rattle.powers.specs.Powers.{powers};
 

@@ -1,4 +1,6 @@
 // Sums of products by rows, those of lower halves of residues in s and those of upper halves in t, in all strands of a woven key. A modulus of 32 bits has no upper halves.
+#![tactic(auto)]
+
 ghost use Rattle.std.specs.Prelude.{List, ℕ, ◌+◌, ◌*◌, ◌<◌, ◌≤◌, length};
 ghost use Rattle.protocol.specs.Basic.{Provided};
 ghost use Rattle.protocol.specs.Element.{Element, width, plus, product, signed};

@@ -1,5 +1,7 @@
 // Inner products of elements of whole numbers with elements of residues, modulo q, with all rows of a key, by whichever way is the quicker: coefficient by coefficient, or by
 // the transform.
+#![tactic(auto)]
+
 ghost use Rattle.std.specs.Prelude.{◌≡◌, List, ℕ, ◌*◌, ◌≤◌, ℤ, length};
 ghost use Rattle.protocol.specs.Basic.{Provided};
 ghost use Rattle.protocol.specs.Element.{reduced, padded, signed_at, residue_at};

@@ -2,7 +2,7 @@
 use Rattle.protocol.specs.Basic.{sum, every, least, tabulate, flat, all, among, within, choose, first, unless, granted}
 use Rattle.protocol.specs.Element.{modulo, flips, around, rotate, product, one, power, plus, times, signed, residue, signed_at, residue_at, coefficients, reduced, width, zeros}
 use Rattle.protocol.specs.Element.{signed_zeros, padded_signed, value_row}
-use Rattle.protocol.specs.Settings.{degree_allowed, depth_allowed, modulus_allowed, bound_allowed, rows_allowed, settings_refusal, size, cells, half, hasLength, all_below, residue_element}
+use Rattle.protocol.specs.Settings.{degree_allowed, depth_allowed, modulus_allowed, bound_allowed, rows_allowed, settings_refusal, size, cells, half, has_length, all_below, residue_element}
 use Rattle.protocol.specs.Settings.{residue_rows, all_within, exponent, exponents}
 use Rattle.protocol.specs.Opening.{inner, second, cross, fold_signed, fold_residues, commitment, left, half_left, round_element, fold_message, fold_key, message_after, key_after}
 use Rattle.protocol.specs.Opening.{final_element, round_table}
@@ -24,7 +24,7 @@ unfoldable pub computed : Unit {0}
 unfolding
     sum every least tabulate flat all among within choose first unless granted
     modulo flips around rotate product one power plus times signed residue signed_at residue_at coefficients reduced width zeros signed_zeros padded_signed value_row
-    degree_allowed depth_allowed modulus_allowed bound_allowed rows_allowed settings_refusal size cells half hasLength all_below residue_element residue_rows all_within exponent exponents
+    degree_allowed depth_allowed modulus_allowed bound_allowed rows_allowed settings_refusal size cells half has_length all_below residue_element residue_rows all_within exponent exponents
     inner second cross fold_signed fold_residues commitment left half_left round_element fold_message fold_key message_after key_after final_element round_table
     doubled round_holds next_claim final_bounded ending end_holds end_met element claim_after holds_at closes accepted transcript_of
     end_cause key_row stacked row_items interleaved at_rows together row_of commitments round_tables fold_keys keys_after transcripts_of all_accepted held cause

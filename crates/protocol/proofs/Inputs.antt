@@ -1,22 +1,22 @@
 -- The tests of refusals 3 to 10 and 16 against the plain statements of Inputs: settings, residues, bounds, exponents.
 use mathlib.Core.Path.{◌≡◌, refl, sym, ap, ◌∙◌, subst}
 use mathlib.Core.Logic.{inl, inr}
-use mathlib.Core.Bool.{Bool, true, false, ◌&&◌, ◌||◌, false≢true}
+use mathlib.Core.Bool.{Bool, true, false, ◌||◌, false≢true}
 use mathlib.Core.List.{List, [], ◌∷◌}
-use Prim.Native.Nat.{ℕ, zero, suc, ◌%◌, ◌^◌, ◌<◌, ◌≤◌}
+use Prim.Native.Nat.{ℕ, zero, suc, ◌^◌, ◌<◌, ◌≤◌}
 use native.Mathlib.Decide.{dec_lt}
 use native.Mathlib.Omega.{arith}
 use borrow.Author.Tests.{eq-eqb, eqb-true, le-leb, leb-true, lt-ltb, ltb-true}
-use lib.Dec.{eqb, leb, ltb}
+use lib.Dec.{eqb, ltb}
 use lib.ListN.{length, get_or}
 use lib.Pow as Pow
 use lib.IntN.{ℤ, pos}
 use Rattle.protocol.specs.declared.Settings.{Settings}
 use Rattle.protocol.specs.Basic.{all, among, within}
 use Rattle.protocol.specs.Layout.{width}
-use Rattle.protocol.specs.Settings.{transform_modulus, degree_allowed, depth_allowed, modulus_allowed, bound_allowed, rows_allowed, settings_refusal, hasLength, all_within}
+use Rattle.protocol.specs.Settings.{transform_modulus, degree_allowed, depth_allowed, modulus_allowed, bound_allowed, rows_allowed, settings_refusal, has_length, all_within}
 use Rattle.protocol.specs.Inputs.{Valid, Below, Within}
-use Rattle.protocol.proofs.Tests.{and_split, and_intro, or_split, or_left, or_right, all-at, all-intro}
+use Rattle.protocol.proofs.Tests.{and_split, and_intro, or_split, or_left, or_right, all_at, all_intro}
 use Rattle.protocol.proofs.Refusals.{all_passed, passed_all}
 
 -- ---- settings
@@ -121,30 +121,30 @@ degree_most S v = subst (λ n. n ≤ width) (sym v.degree_is) (Pow.pow_mono {j =
 -- ---- tables: the length of refusal 7 with the range of refusal 8, 9 or 10
 
 module _ (limit n : ℕ) (t : List ℕ) where
-  pub tested-below : hasLength n t ≡ true → all (λ x. ltb x limit) t ≡ true → Below limit n t
-  unfolding hasLength
+  pub tested-below : has_length n t ≡ true → all (λ x. ltb x limit) t ≡ true → Below limit n t
+  unfolding has_length
   tested-below l r =
       let e : length t ≡ n = eqb-true _ _ l in
-      record { long = e; each = λ i h. ltb-true _ _ (all-at (λ x. ltb x limit) t 0 r i (omega arith)) }
+      record { long = e; each = λ i h. ltb-true _ _ (all_at (λ x. ltb x limit) t 0 r i (omega arith)) }
 
   pub below_tested : Below limit n t → all (λ x. ltb x limit) t ≡ true
-  below_tested b = all-intro (λ x. ltb x limit) t 0 (λ i h. lt-ltb _ _ (b.each i (omega (arith, b.long))))
+  below_tested b = all_intro (λ x. ltb x limit) t 0 (λ i h. lt-ltb _ _ (b.each i (omega (arith, b.long))))
 
-  pub below_sized : Below limit n t → hasLength n t ≡ true
-  unfolding hasLength
+  pub below_sized : Below limit n t → has_length n t ≡ true
+  unfolding has_length
   below_sized b = eq-eqb _ _ b.long
 
 module _ (b n : ℕ) (t : List ℤ) where
-  pub tested_within : hasLength n t ≡ true → all_within b t ≡ true → Within b n t
-  unfolding hasLength all_within within
+  pub tested_within : has_length n t ≡ true → all_within b t ≡ true → Within b n t
+  unfolding has_length all_within within
   tested_within l r =
       let e : length t ≡ n = eqb-true _ _ l in
-      record { long = e; each = λ i h. leb-true _ _ (all-at (within b) t (pos 0) r i (omega arith)) }
+      record { long = e; each = λ i h. leb-true _ _ (all_at (within b) t (pos 0) r i (omega arith)) }
 
   pub within_tested : Within b n t → all_within b t ≡ true
   unfolding all_within within
-  within_tested w = all-intro (within b) t (pos 0) (λ i h. le-leb _ _ (w.each i (omega (arith, w.long))))
+  within_tested w = all_intro (within b) t (pos 0) (λ i h. le-leb _ _ (w.each i (omega (arith, w.long))))
 
-  pub within_sized : Within b n t → hasLength n t ≡ true
-  unfolding hasLength
+  pub within_sized : Within b n t → has_length n t ≡ true
+  unfolding has_length
   within_sized w = eq-eqb _ _ w.long

@@ -3,7 +3,7 @@
 --   listed at n f            f at, f (at + 1), … , n places
 --   at_rows-listed           the elements of the rows by value
 --   commit-listed, start-listed, round-listed, polynomial-listed   the calls that answer with them
-use mathlib.Core.Path.{◌≡◌, refl, ap, ◌∙◌}
+use mathlib.Core.Path.{◌≡◌, refl, ◌∙◌}
 use mathlib.Core.Bool.{Bool, true, false, ◌&&◌, false≢true}
 use mathlib.Core.List.{List, [], ◌∷◌}
 use Prim.Native.Nat.{ℕ, zero, suc, ◌+◌, ◌/◌, ◌%◌}
@@ -16,7 +16,7 @@ use Rattle.protocol.specs.declared.Settings.{Settings}
 use Rattle.protocol.specs.declared.Session.{Session}
 use Rattle.protocol.specs.declared.Moved.{Moved}
 use Rattle.protocol.specs.declared.Verdict.TheVariants.{Holds}
-use Rattle.protocol.specs.Basic.{tabulate, flat, choose, granted}
+use Rattle.protocol.specs.Basic.{tabulate, flat, choose}
 use Rattle.protocol.specs.Element.{width, residue, value_row, zeros}
 use Rattle.protocol.specs.Layout.{rows_width, slots}
 use Rattle.protocol.specs.Rows.{key_row, at_rows}
@@ -30,10 +30,10 @@ unfoldable pub listed {ℓ} : {A : Type ℓ} → ℕ → ℕ → (ℕ → A) →
 listed at zero f = []
 listed at (suc n) f = f at ∷ listed (suc at) n f
 
-tabulate-from {ℓ} : {A : Type ℓ} (n at : ℕ) (f : ℕ → A) → tabulate n (λ i. f (at + i)) ≡ listed at n f
+tabulate_from {ℓ} : {A : Type ℓ} (n at : ℕ) (f : ℕ → A) → tabulate n (λ i. f (at + i)) ≡ listed at n f
 unfolding tabulate listed
-tabulate-from zero at f = refl
-tabulate-from (suc n) at f = λ j. f (Nat.add-zero at j) ∷ (step ∙ tabulate-from n (suc at) f) j
+tabulate_from zero at f = refl
+tabulate_from (suc n) at f = λ j. f (Nat.add-zero at j) ∷ (step ∙ tabulate_from n (suc at) f) j
   where
     moved : (i : ℕ) → at + suc i ≡ suc at + i
     moved i = omega arith
@@ -41,8 +41,8 @@ tabulate-from (suc n) at f = λ j. f (Nat.add-zero at j) ∷ (step ∙ tabulate-
     step : tabulate n (λ i. f (at + suc i)) ≡ tabulate n (λ i. f (suc at + i))
     step = λ j. tabulate n (λ i. f (moved i j))
 
-tabulate-listed {ℓ} : {A : Type ℓ} (n : ℕ) (f : ℕ → A) → tabulate n f ≡ listed 0 n f
-tabulate-listed n f = (λ j. tabulate n (λ i. f (whole i j))) ∙ tabulate-from n 0 f
+tabulate_listed {ℓ} : {A : Type ℓ} (n : ℕ) (f : ℕ → A) → tabulate n f ≡ listed 0 n f
+tabulate_listed n f = (λ j. tabulate n (λ i. f (whole i j))) ∙ tabulate_from n 0 f
   where
     whole : (i : ℕ) → i ≡ 0 + i
     whole i = omega arith
@@ -52,7 +52,7 @@ listed_rows S f = listed 0 rows_width (λ p. choose (ltb (p / width) S.rows && l
 
 pub at_rows-listed : (S : Settings) (f : ℕ → List ℕ) → at_rows S f ≡ listed_rows S f
 unfolding at_rows flat
-at_rows-listed S f = tabulate-listed rows_width _
+at_rows-listed S f = tabulate_listed rows_width _
 
 -- ---- the calls, where nothing is refused: each rule asks for the places that are answered as they are computed one by one
 

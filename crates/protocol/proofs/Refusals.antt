@@ -15,7 +15,7 @@ use Rattle.protocol.specs.declared.Settings.{Settings}
 use Rattle.protocol.specs.Basic.{first, unless, Tested}
 use Rattle.protocol.specs.Tree.{root_vector}
 use Rattle.protocol.specs.Calls.{left_small, moving_small, ending_small, extract_refusal, extract_exit}
-use Rattle.protocol.proofs.Tests.{first_nothing, first_zero, zero_first, unless-zero, zero-unless, granted-refused}
+use Rattle.protocol.proofs.Tests.{first_nothing, first_zero, zero_first, unless-zero, zero-unless, granted_refused}
 
 pub first_stops : (x : ℕ) (rest : List ℕ) → (x ≡ 0 → ⊥) → first (x ∷ rest) ≡ x
 unfolding first
@@ -132,4 +132,4 @@ module _ (S : Settings) (t : ℕ) (message : List ℤ) where
 
 pub extract-keeps : (S : Settings) (C key rounds E : List ℕ) (finals w : List ℤ) → extract_refusal S C key rounds E finals w ≢ 0 → extract_exit S C key rounds E finals w ≡ w
 unfolding extract_exit
-extract-keeps S C key rounds E finals w = granted-refused (extract_refusal S C key rounds E finals w) (root_vector S E finals) w
+extract-keeps S C key rounds E finals w = granted_refused (extract_refusal S C key rounds E finals w) (root_vector S E finals) w

@@ -4,7 +4,7 @@ use mathlib.Core.Bool.{true, false}
 use mathlib.Core.List.{List, [], ◌∷◌, ◌++◌, map}
 use Prim.Native.Nat.{ℕ}
 use lib.ListN.{replicate, set as replaced}
-use lib.IntN.{ℤ, pos}
+use lib.IntN.{pos}
 use Rattle.protocol.specs.declared.Session.{Session}
 use Rattle.protocol.specs.declared.Verdict.TheVariants.{Holds, Rejected}
 use Rattle.protocol.specs.Basic.{all}

@@ -8,10 +8,10 @@
 --   value_row_at, at_rows-length, at_rows_at, together_at, together-at_rows
 --   keys-zero, keys-suc                    the folds of a key one after the other
 --   transcript_row                         a row of a message's transcript is the transcript of that row
-use mathlib.Core.Path.{◌≡◌, refl, sym, ap, ◌∙◌, subst}
+use mathlib.Core.Path.{◌≡◌, sym, ap, ◌∙◌, subst}
 use mathlib.Core.Bool.{◌&&◌}
 use mathlib.Core.List.{List}
-use Prim.Native.Nat.{ℕ, zero, suc, ◌+◌, ◌*◌, ◌/◌, ◌%◌, ◌<◌, ◌≤◌}
+use Prim.Native.Nat.{ℕ, suc, ◌+◌, ◌*◌, ◌/◌, ◌%◌, ◌<◌, ◌≤◌}
 use native.Mathlib.Nat as Nat
 use native.Mathlib.Omega.{arith}
 use borrow.Author.Tests.{lt-ltb}
@@ -22,13 +22,13 @@ use lib.IntN.{ℤ, pos}
 use Rattle.protocol.specs.declared.Settings.{Settings}
 use Rattle.protocol.specs.Basic.{tabulate, flat, choose}
 use Rattle.protocol.specs.Element.{width, value_row, residue_at, reduced}
-use Rattle.protocol.specs.Layout.{rows_most, rows_width, key_cells, round_items, round_cells, tree_challenges, tree_round_cells}
+use Rattle.protocol.specs.Layout.{rows_most, rows_width, key_cells, round_items}
 use Rattle.protocol.specs.Settings.{cells}
 use Rattle.protocol.specs.Inputs.{Below}
 use Rattle.protocol.specs.Opening.{commitment, round_table, fold_key, key_after}
 use Rattle.protocol.specs.Transcript.{transcript_of}
 use Rattle.protocol.specs.Rows.{key_row, stacked, row_items, interleaved, at_rows, together, row_of, commitments, round_tables, fold_keys, keys_after, transcripts_of}
-use Rattle.protocol.proofs.Reading.{cell-inside, row_inside, cell-element, cell-place, tabulate_length, tabulate_at, tabulate_own, tabulate_ext, flat-length, flat_at, flat-own, flat_ext}
+use Rattle.protocol.proofs.Reading.{cell-inside, cell-element, cell-place, tabulate_length, tabulate_at, tabulate_own, tabulate_ext, flat-length, flat_at, flat-own, flat_ext}
 use Rattle.protocol.proofs.OpeningLaws.{key-length}
 
 -- an item of a row stands inside its table

@@ -60,21 +60,21 @@ every_swap n m f = same_test
 
 -- ---- all
 
-pub all-at {ℓ} : {A : Type ℓ} (f : A → Bool) (l : List A) (z : A) → all f l ≡ true → (i : ℕ) → i < length l → f (get_or l i z) ≡ true
+pub all_at {ℓ} : {A : Type ℓ} (f : A → Bool) (l : List A) (z : A) → all f l ≡ true → (i : ℕ) → i < length l → f (get_or l i z) ≡ true
 unfolding all
-all-at f [] z t i h = absurd (omega arith)
-all-at f (x ∷ l) z t zero h = (and_split {a = f x} {b = all f l} t).0
-all-at f (x ∷ l) z t (suc i) h = all-at f l z (and_split {a = f x} {b = all f l} t).1 i (omega arith)
+all_at f [] z t i h = absurd (omega arith)
+all_at f (x ∷ l) z t zero h = (and_split {a = f x} {b = all f l} t).0
+all_at f (x ∷ l) z t (suc i) h = all_at f l z (and_split {a = f x} {b = all f l} t).1 i (omega arith)
 
-pub all-intro {ℓ} : {A : Type ℓ} (f : A → Bool) (l : List A) (z : A) → ((i : ℕ) → i < length l → f (get_or l i z) ≡ true) → all f l ≡ true
+pub all_intro {ℓ} : {A : Type ℓ} (f : A → Bool) (l : List A) (z : A) → ((i : ℕ) → i < length l → f (get_or l i z) ≡ true) → all f l ≡ true
 unfolding all
-all-intro f [] z h = refl
-all-intro f (x ∷ l) z h = and_intro {a = f x} {b = all f l} (h 0 (omega arith)) (all-intro f l z (λ i m. h (suc i) (omega arith)))
+all_intro f [] z h = refl
+all_intro f (x ∷ l) z h = and_intro {a = f x} {b = all f l} (h 0 (omega arith)) (all_intro f l z (λ i m. h (suc i) (omega arith)))
 
-pub all-weaken {ℓ} : {A : Type ℓ} (f g : A → Bool) → ((x : A) → f x ≡ true → g x ≡ true) → (l : List A) → all f l ≡ true → all g l ≡ true
+pub all_weaken {ℓ} : {A : Type ℓ} (f g : A → Bool) → ((x : A) → f x ≡ true → g x ≡ true) → (l : List A) → all f l ≡ true → all g l ≡ true
 unfolding all
-all-weaken f g w [] h = refl
-all-weaken f g w (x ∷ l) h = let (a, b) = and_split {a = f x} {b = all f l} h in and_intro {a = g x} {b = all g l} (w x a) (all-weaken f g w l b)
+all_weaken f g w [] h = refl
+all_weaken f g w (x ∷ l) h = let (a, b) = and_split {a = f x} {b = all f l} h in and_intro {a = g x} {b = all g l} (w x a) (all_weaken f g w l b)
 
 pub all_replicate {ℓ} : {A : Type ℓ} (f : A → Bool) (n : ℕ) (a : A) → f a ≡ true → all f (replicate n a) ≡ true
 unfolding all
@@ -156,7 +156,7 @@ unfolding granted
 granted-zero zero x y e = refl
 granted-zero (suc n) x y e = absurd (omega arith)
 
-pub granted-refused {ℓ} : {A : Type ℓ} (n : ℕ) (x y : A) → n ≢ 0 → granted n x y ≡ y
+pub granted_refused {ℓ} : {A : Type ℓ} (n : ℕ) (x y : A) → n ≢ 0 → granted n x y ≡ y
 unfolding granted
-granted-refused zero x y r = absurd (r refl)
-granted-refused (suc n) x y r = refl
+granted_refused zero x y r = absurd (r refl)
+granted_refused (suc n) x y r = refl

@@ -16,7 +16,7 @@ use Rattle.protocol.specs.declared.Verdict.TheVariants.{Silent, Holds, Accepted,
 use Rattle.protocol.specs.Basic.{every, all, flat, first, unless}
 use Rattle.protocol.specs.Element.{power, rotate, coefficients, value_row}
 use Rattle.protocol.specs.Layout.{rows_width, key_cells, tree_round_cells, tree_challenges, leaf_cells}
-use Rattle.protocol.specs.Settings.{settings_refusal, cells, hasLength, all_below, residue_rows, exponents}
+use Rattle.protocol.specs.Settings.{settings_refusal, cells, has_length, all_below, residue_rows, exponents}
 use Rattle.protocol.specs.Opening.{fold_message, message_after, key_after}
 use Rattle.protocol.specs.Rows.{key_row, row_items, cause}
 use Rattle.protocol.specs.Transcript.{accepted}
@@ -275,8 +275,8 @@ all_pass : (settings : ℕ) (lengths residues exponents differences : Bool) → 
 unfolding first unless
 all_pass settings lengths residues exponents differences s l r e d = λ i. first (s i ∷ unless 7 (l i) ∷ unless 8 (r i) ∷ unless 10 (e i) ∷ unless 12 (d i) ∷ [])
 
-long {ℓ} : {A : Type ℓ} (m n : ℕ) (x : A) → n ≡ m → hasLength m (replicate n x) ≡ true
-unfolding hasLength
+long {ℓ} : {A : Type ℓ} (m n : ℕ) (x : A) → n ≡ m → has_length m (replicate n x) ≡ true
+unfolding has_length
 long m n x e = eq-eqb _ m (length-replicate n x ∙ e)
 
 -- a table of zeros has its length, and passes its test, by a law and not place by place
@@ -293,7 +293,7 @@ passed = all_pass _ _ _ _ _ allowed lengths residues exponents₄ differ
     differ : every (nodes S₄) (apart E₄) ≡ true
     differ = unfold computed in refl
 
-    challenges : hasLength (tree_challenges S₄) E₄ ≡ true
+    challenges : has_length (tree_challenges S₄) E₄ ≡ true
     challenges = unfold computed in refl
 
     commitment : residue_rows S₄ C₄ ≡ true
@@ -302,7 +302,7 @@ passed = all_pass _ _ _ _ _ allowed lengths residues exponents₄ differ
     below : (n : ℕ) → all_below S₄ (replicate n 0) ≡ true
     below n = unfold all_below in all_replicate (λ x. ltb x 17) n 0 refl
 
-    lengths : (hasLength (key_cells S₄) key₄ && hasLength (tree_round_cells S₄) rounds₄ && hasLength (tree_challenges S₄) E₄ && hasLength (leaf_cells S₄) finals₄ && hasLength (cells S₄) w₄) ≡ true
+    lengths : (has_length (key_cells S₄) key₄ && has_length (tree_round_cells S₄) rounds₄ && has_length (tree_challenges S₄) E₄ && has_length (leaf_cells S₄) finals₄ && has_length (cells S₄) w₄) ≡ true
     lengths =
         and_intro (and_intro (and_intro (and_intro
         (long {A = ℕ} (key_cells S₄) 1024 0 (unfold computed in refl))

@@ -23,7 +23,7 @@ use Rattle.protocol.specs.declared.Checked.{Checked}
 use Rattle.protocol.specs.declared.Judged.{Judged}
 use Rattle.protocol.specs.Basic.{every, tabulate, first, unless, granted}
 use Rattle.protocol.specs.Element.{width, zeros, signed_zeros, padded_signed}
-use Rattle.protocol.specs.Settings.{settings_refusal, cells, hasLength, all_below, residue_rows, all_within, exponent, exponents}
+use Rattle.protocol.specs.Settings.{settings_refusal, cells, has_length, all_below, residue_rows, all_within, exponent, exponents}
 use Rattle.protocol.specs.Layout.{rows_width, key_cells, left_cells, round_cells, nodes, leaves, tree_round_cells, tree_challenges, leaf_cells}
 use Rattle.protocol.specs.Opening.{commitment, round_element, fold_message, message_after, final_element}
 use Rattle.protocol.specs.Transcript.{accepted}
@@ -38,7 +38,7 @@ unfoldable pub commit_refusal : Settings → List ℕ → List ℤ → ℕ
 commit_refusal S key message =
     first
     (settings_refusal S
-    ∷ unless 7 (hasLength (key_cells S) key && hasLength (cells S) message)
+    ∷ unless 7 (has_length (key_cells S) key && has_length (cells S) message)
     ∷ unless 8 (all_below S key)
     ∷ unless 9 (all_within S.bound message)
     ∷ [])
@@ -63,7 +63,7 @@ unfoldable pub round_refusal : Settings → ℕ → List ℕ → List ℤ → �
 round_refusal S t key message =
     first
     (settings_refusal S
-    ∷ unless 7 (hasLength (key_cells S) key && hasLength (cells S) message)
+    ∷ unless 7 (has_length (key_cells S) key && has_length (cells S) message)
     ∷ unless 8 (all_below S key)
     ∷ unless 9 (moving_small S t message)
     ∷ unless 11 (ltb t S.depth)
@@ -88,7 +88,7 @@ unfoldable pub fold_refusal : Settings → ℕ → ℕ → List ℕ → List ℤ
 fold_refusal S t e key message =
     first
     (settings_refusal S
-    ∷ unless 7 (hasLength (key_cells S) key && hasLength (cells S) message)
+    ∷ unless 7 (has_length (key_cells S) key && has_length (cells S) message)
     ∷ unless 8 (all_below S key)
     ∷ unless 9 (moving_small S t message)
     ∷ unless 10 (exponent S e)
@@ -112,7 +112,7 @@ unfoldable pub end_refusal : Settings → ℕ → List ℤ → ℕ
 end_refusal S t message =
     first
     (settings_refusal S
-    ∷ unless 7 (hasLength (cells S) message)
+    ∷ unless 7 (has_length (cells S) message)
     ∷ unless 9 (ending_small S t message)
     ∷ unless 11 (eqb t S.depth)
     ∷ [])
@@ -129,7 +129,7 @@ unfoldable pub opening_refusal : Settings → List ℕ → List ℤ → List ℕ
 opening_refusal S key message E rounds =
     first
     (settings_refusal S
-    ∷ unless 7 (hasLength (key_cells S) key && hasLength (cells S) message && hasLength S.depth E && hasLength (round_cells S) rounds)
+    ∷ unless 7 (has_length (key_cells S) key && has_length (cells S) message && has_length S.depth E && has_length (round_cells S) rounds)
     ∷ unless 8 (all_below S key)
     ∷ unless 9 (all_within S.bound message)
     ∷ unless 10 (exponents S E)
@@ -166,7 +166,7 @@ unfoldable pub check_refusal : Settings → List ℕ → List ℕ → List ℕ �
 check_refusal S C key rounds E =
     first
     (settings_refusal S
-    ∷ unless 7 (hasLength (key_cells S) key && hasLength (round_cells S) rounds && hasLength S.depth E)
+    ∷ unless 7 (has_length (key_cells S) key && has_length (round_cells S) rounds && has_length S.depth E)
     ∷ unless 8 (all_below S key && residue_rows S C && all_below S rounds)
     ∷ unless 10 (exponents S E)
     ∷ [])
@@ -187,7 +187,7 @@ unfoldable pub judge_refusal : Settings → List ℕ → ℕ → List ℕ → Li
 judge_refusal S C c key w =
     first
     (settings_refusal S
-    ∷ unless 7 (hasLength (key_cells S) key && hasLength (cells S) w)
+    ∷ unless 7 (has_length (key_cells S) key && has_length (cells S) w)
     ∷ unless 8 (all_below S key && residue_rows S C)
     ∷ unless 14 (growth_allowed S)
     ∷ unless 15 (slack_allowed S c)
@@ -209,7 +209,7 @@ every_path S C key rounds E finals = every (leaves S) (λ j. every S.rows (λ r.
 abbrev pub tree_tests : Settings → List ℕ → List ℕ → List ℕ → List ℕ → List ℤ → List ℤ → List ℕ
 tree_tests S C key rounds E finals w =
     settings_refusal S
-    ∷ unless 7 (hasLength (key_cells S) key && hasLength (tree_round_cells S) rounds && hasLength (tree_challenges S) E && hasLength (leaf_cells S) finals && hasLength (cells S) w)
+    ∷ unless 7 (has_length (key_cells S) key && has_length (tree_round_cells S) rounds && has_length (tree_challenges S) E && has_length (leaf_cells S) finals && has_length (cells S) w)
     ∷ unless 8 (all_below S key && residue_rows S C && all_below S rounds)
     ∷ unless 10 (exponents S E)
     ∷ unless 12 (every (nodes S) (apart E))

@@ -26,7 +26,7 @@ use Rattle.protocol.specs.Basic.{every, tabulate, choose, first, unless, granted
 unfoldable pub use Rattle.protocol.specs.Layout.{slots}
 use Rattle.protocol.specs.Layout.{rows_width, key_cells}
 use Rattle.protocol.specs.Element.{zeros, value_row, signed, residue}
-use Rattle.protocol.specs.Settings.{settings_refusal, hasLength, all_below, residue_rows, exponent, exponents}
+use Rattle.protocol.specs.Settings.{settings_refusal, has_length, all_below, residue_rows, exponent, exponents}
 use Rattle.protocol.specs.Transcript.{round_holds, next_claim, end_met, folded_key}
 use Rattle.protocol.specs.Rows.{key_row, at_rows}
 
@@ -132,7 +132,7 @@ session_end_refusal r key =
     let S = r.settings in
     first
     (settings_refusal S
-    ∷ unless 7 (hasLength (key_cells S) key)
+    ∷ unless 7 (has_length (key_cells S) key)
     ∷ unless 8 (all_below S key && residue_rows S r.claims)
     ∷ unless 10 (exponents S r.challenges)
     ∷ unless 11 (eqb r.done S.depth && not r.closed)

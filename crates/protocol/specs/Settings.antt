@@ -6,12 +6,12 @@
 --   settings_refusal S                  refusals 3 to 6, and 16
 --   size S, cells S                     passed on from Layout
 --   half S                              the inverse of 2 modulo q
---   hasLength n t                       has the table t exactly n entries (refusal 7)
+--   has_length n t                       has the table t exactly n entries (refusal 7)
 --   all_below S t, residue_element S a  are the numbers of a table, of an element by value, residues: below q (refusal 8)
 --   residue_rows S C                    are those of an element of each row by value
 --   all_within b t                      are the numbers of a table from −b to b (refusal 9)
 --   exponent S e, exponents S t         is e, is every number of a table, an exponent (refusal 10)
-use Rattle.std.specs.Prelude.{Bool, ◌&&◌, ◌||◌, List, [], ◌∷◌, ℕ, ◌+◌, ◌*◌, ◌/◌, ◌%◌, ◌^◌, leb, ltb, eqb, length, get_or, ℤ}
+use Rattle.std.specs.Prelude.{Bool, ◌&&◌, ◌||◌, List, [], ◌∷◌, ℕ, ◌+◌, ◌/◌, ◌%◌, leb, ltb, eqb, length, get_or, ℤ}
 use Rattle.protocol.specs.declared.Settings.{Settings}
 use Rattle.protocol.specs.Basic.{every, all, among, within, first, unless}
 use Rattle.protocol.specs.Layout.{exponent_count, rows_most}
@@ -61,8 +61,8 @@ unfoldable pub half : Settings → ℕ
 half S = (S.modulus + 1) / 2
 
 -- PROTOCOL 7.1, refusal 7
-unfoldable pub hasLength {ℓ} : {A : Type ℓ} → ℕ → List A → Bool
-hasLength n t = eqb (length t) n
+unfoldable pub has_length {ℓ} : {A : Type ℓ} → ℕ → List A → Bool
+has_length n t = eqb (length t) n
 
 -- PROTOCOL 7.1, refusal 8
 unfoldable pub all_below : Settings → List ℕ → Bool

@@ -14,7 +14,7 @@
 --   holds_at, closes         does round t + 1 hold; is the last equation met
 --   accepted S key T         is a transcript accepted, as a test; `Accepted` is the same as a statement
 --   transcript_of            a message's transcript
-use Rattle.std.specs.Prelude.{◌≡◌, Bool, ◌&&◌, List, ℕ, zero, suc, ◌+◌, ◌*◌, ◌^◌, ◌<◌, ◌≤◌, eqb, get_or, ℤ, pos, ◌+ℤ◌, ◌*ℤ◌, nat_abs}
+use Rattle.std.specs.Prelude.{◌≡◌, Bool, ◌&&◌, List, ℕ, zero, suc, ◌*◌, ◌^◌, ◌<◌, ◌≤◌, eqb, get_or, ℤ, pos, ◌+ℤ◌, ◌*ℤ◌, nat_abs}
 use Rattle.protocol.specs.declared.Settings.{Settings}
 use Rattle.protocol.specs.Basic.{every, within}
 use Rattle.protocol.specs.Element.{Element, modulo, rotate, product, reduced, signed, residue_at}

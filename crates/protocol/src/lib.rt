@@ -1,4 +1,5 @@
 // The declared types of the public calls (PROTOCOL 8.1, by value), and the numbers that their sizes go by. No function stands here.
+#![tactic(auto)]
 
 // How many places an element has that is passed by value: `width` of the definitions.
 pub const WIDTH: usize = 128;

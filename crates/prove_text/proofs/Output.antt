@@ -13,7 +13,7 @@ use Rattle.protocol.specs.declared.Written.{Written}
 use Rattle.text_format.specs.Text.{text_limit, written, overwritten}
 use Rattle.text_format.specs.Programs.{prove_text, prove_refusal, prove_answer, prove_exit, refused_line, prove_output}
 use Rattle.text_format.specs.Promises.{Proved}
-use Rattle.protocol.proofs.Tests.{granted-zero, granted-refused}
+use Rattle.protocol.proofs.Tests.{granted-zero, granted_refused}
 
 module _ (text out out' : List ℕ) (r : Written) (p : Proved text out r out') (long : length out ≡ text_limit) where
   number_is : r.refusal ≡ prove_refusal text text_limit
@@ -22,7 +22,7 @@ module _ (text out out' : List ℕ) (r : Written) (p : Proved text out r out') (
 
   pub prints-refusal : (r.refusal ≡ 0 → ⊥) → refused_line r.refusal ≡ prove_output text
   unfolding prove_output
-  prints-refusal h = ap refused_line number_is ∙ sym (granted-refused (prove_refusal text text_limit) _ _ (λ z. h (number_is ∙ z)))
+  prints-refusal h = ap refused_line number_is ∙ sym (granted_refused (prove_refusal text text_limit) _ _ (λ z. h (number_is ∙ z)))
 
   module _ (e : r.refusal ≡ 0) where
     fine : prove_refusal text (length out) ≡ 0

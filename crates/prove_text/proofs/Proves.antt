@@ -18,7 +18,7 @@ use Rattle.protocol.specs.declared.Settings.{Settings}
 use Rattle.protocol.specs.declared.Written.{Written}
 use Rattle.protocol.specs.Basic.{choose, granted}
 use Rattle.protocol.specs.Layout.{key_cells, round_cells}
-use Rattle.protocol.specs.Settings.{settings_refusal, cells, hasLength, all_below, exponent, exponents}
+use Rattle.protocol.specs.Settings.{settings_refusal, cells, has_length, all_below, exponent, exponents}
 use Rattle.text_format.specs.Text.{
   Tables,
   shape,
@@ -79,7 +79,7 @@ module _ (text out : List ℕ) where
 module _ (S : Settings) (t : Tables) where
   pub openable : (rounds : List ℕ) → settings_refusal S ≡ 0 → fits S prove_reads t ≡ true → entries_refusal S true t ≡ 0 → length rounds ≡ round_cells S
       → Openable S t.key t.message t.challenges rounds
-  unfolding entries_refusal all_below exponents exponent hasLength part_shape shapes shape shape_size choose prove_reads cells
+  unfolding entries_refusal all_below exponents exponent has_length part_shape shapes shape shape_size choose prove_reads cells
   openable rounds allowed fit entries long =
       let exact = fits-exact S prove_reads t fit in
       let (h₈, r₈) = first_zero _ _ entries in

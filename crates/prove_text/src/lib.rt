@@ -1,4 +1,6 @@
 // The program `prove` as a call on text: its settings, its tables, the whole opening, and the text of the transcript.
+#![tactic(auto)]
+
 ghost use Rattle.std.specs.Prelude.{◌≡◌, [], ◌≤◌, length, take};
 ghost use Rattle.protocol.specs.Basic.{Provided};
 ghost use Rattle.protocol.specs.Layout.{slots, item_cells, claim_cells};

@@ -13,7 +13,7 @@ use Rattle.protocol.specs.Opening.{fold_signed, half_left, fold_message, final_e
 use Rattle.protocol.specs.Rows.{at_rows, fold_keys}
 use Rattle.protocol.specs.Calls.{commit_refusal, commit_answer, polynomial, no_polynomial, round_refusal, round_answer, fold_refusal, fold_key_exit, fold_message_exit, end_refusal, end_answer}
 use Rattle.protocol.specs.Promises.{Folded}
-use Rattle.protocol.proofs.Tests.{granted-zero, granted-refused}
+use Rattle.protocol.proofs.Tests.{granted-zero, granted_refused}
 use Rattle.prover.specs.Rowwise.{committed}
 
 -- ---- commit
@@ -24,7 +24,7 @@ module _ (S : Settings) (key : List ℕ) (message : List ℤ) where
 
   pub commit-refused : (n : ℕ) → n ≡ commit_refusal S key message → (n ≡ 0 → ⊥) → ◌≡◌ {A = Committed} (record { refusal = n; commitment = zeros rows_width }) (commit_answer S key message)
   unfolding commit_answer
-  commit-refused n e r = let none = sym (granted-refused (commit_refusal S key message) all_rows (zeros rows_width) (λ z. r (e ∙ z))) in λ i. record { refusal = e i; commitment = none i }
+  commit-refused n e r = let none = sym (granted_refused (commit_refusal S key message) all_rows (zeros rows_width) (λ z. r (e ∙ z))) in λ i. record { refusal = e i; commitment = none i }
 
   pub commit-done : commit_refusal S key message ≡ 0 → (a : List ℕ) → a ≡ all_rows → ◌≡◌ {A = Committed} (record { refusal = 0; commitment = a }) (commit_answer S key message)
   unfolding commit_answer
@@ -35,7 +35,7 @@ module _ (S : Settings) (key : List ℕ) (message : List ℤ) where
 module _ (S : Settings) (t : ℕ) (key : List ℕ) (message : List ℤ) where
   pub round_refused : (n : ℕ) (r : Polynomial) → n ≡ round_refusal S t key message → (n ≡ 0 → ⊥) → r.refusal ≡ n → r.elements ≡ no_polynomial → r ≡ round_answer S t key message
   unfolding round_answer
-  round_refused n r e f a b = let none = b ∙ sym (granted-refused (round_refusal S t key message) (polynomial S t key message) no_polynomial (λ z. f (e ∙ z))) in
+  round_refused n r e f a b = let none = b ∙ sym (granted_refused (round_refusal S t key message) (polynomial S t key message) no_polynomial (λ z. f (e ∙ z))) in
       λ i. record { refusal = (a ∙ e) i; elements = none i }
 
   pub round-done : (r : Polynomial) → round_refusal S t key message ≡ 0 → r.refusal ≡ 0 → r.elements ≡ polynomial S t key message → r ≡ round_answer S t key message
@@ -47,7 +47,7 @@ module _ (S : Settings) (t : ℕ) (key : List ℕ) (message : List ℤ) where
 module _ (S : Settings) (t e : ℕ) (key : List ℕ) (message : List ℤ) where
   pub fold-refused : (n : ℕ) → n ≡ fold_refusal S t e key message → (n ≡ 0 → ⊥) → Folded S t e key message n key message
   unfolding fold_key_exit fold_message_exit
-  fold-refused n e r = record { refusal = e; key_exit = sym (granted-refused _ _ _ (λ z. r (e ∙ z))); message_exit = sym (granted-refused _ _ _ (λ z. r (e ∙ z))) }
+  fold-refused n e r = record { refusal = e; key_exit = sym (granted_refused _ _ _ (λ z. r (e ∙ z))); message_exit = sym (granted_refused _ _ _ (λ z. r (e ∙ z))) }
 
   pub fold_done : fold_refusal S t e key message ≡ 0 → (key' : List ℕ) (message' : List ℤ)
       → key' ≡ fold_keys S t e key → message' ≡ fold_signed S.degree (half_left S t) e message → Folded S t e key message 0 key' message'
@@ -62,7 +62,7 @@ module _ (S : Settings) (t : ℕ) (message : List ℤ) where
 
   pub end_refused : (n : ℕ) → n ≡ end_refusal S t message → (n ≡ 0 → ⊥) → ◌≡◌ {A = Ended} (record { refusal = n; last = signed_zeros width }) (end_answer S t message)
   unfolding end_answer
-  end_refused n e r = let none = sym (granted-refused (end_refusal S t message) last (signed_zeros width) (λ z. r (e ∙ z))) in λ i. record { refusal = e i; last = none i }
+  end_refused n e r = let none = sym (granted_refused (end_refusal S t message) last (signed_zeros width) (λ z. r (e ∙ z))) in λ i. record { refusal = e i; last = none i }
 
   pub end_done : end_refusal S t message ≡ 0 → (f : List ℤ) → f ≡ last → ◌≡◌ {A = Ended} (record { refusal = 0; last = f }) (end_answer S t message)
   unfolding end_answer

@@ -1,4 +1,6 @@
 // The prover's calls: each tests what it is given, and then works on the tables that it is lent, in every row of the key.
+#![tactic(auto)]
+
 ghost use Rattle.std.specs.Prelude.{◌≡◌, ◌≤◌, length};
 ghost use Rattle.protocol.specs.Basic.{Provided};
 ghost use Rattle.protocol.specs.Layout.{item_cells};

@@ -15,12 +15,12 @@ use lib.ListN.{length, get_or, take}
 use lib.Seq.{get_or-take, length-take-le}
 use Rattle.protocol.specs.declared.Settings.{Settings}
 use Rattle.protocol.specs.Basic.{Tested, within}
-use Rattle.protocol.specs.Settings.{settings_refusal, cells, hasLength, all_below, all_within, exponent}
+use Rattle.protocol.specs.Settings.{settings_refusal, cells, has_length, all_below, all_within, exponent}
 use Rattle.protocol.specs.Layout.{key_cells, left_cells}
 use Rattle.protocol.specs.Rows.{key_row}
 use Rattle.protocol.specs.Calls.{left_small, commit_refusal, round_refusal, fold_refusal, end_refusal}
 use Rattle.protocol.specs.Inputs.{Valid}
-use Rattle.protocol.proofs.Tests.{and_split, all-at}
+use Rattle.protocol.proofs.Tests.{and_split, all_at}
 use Rattle.protocol.proofs.Inputs.{settings-valid, tested-below, tested_within}
 use Rattle.protocol.proofs.Refusals.{tested-before, tested-passed, none-refused, moving_tested}
 use Rattle.protocol.proofs.OpeningLaws.{left_inside}
@@ -32,22 +32,22 @@ first_row S z = omega (arith, (settings-valid S z).rows_least)
 
 module _ (S : Settings) (key : List ℕ) (message : List ℤ) where
   -- 3 to 7, and 16, refuse nothing
-  pub lengths_given : {r : ℕ} → Tested (settings_refusal S) 7 (hasLength (key_cells S) key && hasLength (cells S) message) r → r ≡ 0 → (settings_refusal S ≡ 0) × (length message ≡ cells S)
-  unfolding hasLength
-  lengths_given e z = (tested-before e z, eqb-true _ _ (and_split {a = hasLength (key_cells S) key} (tested-passed e z)).1)
+  pub lengths_given : {r : ℕ} → Tested (settings_refusal S) 7 (has_length (key_cells S) key && has_length (cells S) message) r → r ≡ 0 → (settings_refusal S ≡ 0) × (length message ≡ cells S)
+  unfolding has_length
+  lengths_given e z = (tested-before e z, eqb-true _ _ (and_split {a = has_length (key_cells S) key} (tested-passed e z)).1)
 
   abbrev Whole : Type 0
   Whole = (settings_refusal S ≡ 0) × (length key ≡ key_cells S)
 
-  key_given : settings_refusal S ≡ 0 → (hasLength (key_cells S) key && hasLength (cells S) message) ≡ true → Whole
-  unfolding hasLength
+  key_given : settings_refusal S ≡ 0 → (has_length (key_cells S) key && has_length (cells S) message) ≡ true → Whole
+  unfolding has_length
   key_given r6 t7 = (r6, eqb-true _ _ (and_split t7).0)
 
   abbrev Rows : Type 0
   Rows = (r : ℕ) → r < S.rows → TablesGiven S (key_row S key r) message
 
-  tables_given : settings_refusal S ≡ 0 → (hasLength (key_cells S) key && hasLength (cells S) message) ≡ true → all_below S key ≡ true → Rows
-  unfolding hasLength all_below
+  tables_given : settings_refusal S ≡ 0 → (has_length (key_cells S) key && has_length (cells S) message) ≡ true → all_below S key ≡ true → Rows
+  unfolding has_length all_below
   tables_given r6 t7 t8 r h =
       let (k, m) = and_split t7 in
       record {
@@ -67,13 +67,13 @@ module _ (S : Settings) (key : List ℕ) (message : List ℤ) where
         arith,
         ap nat_abs (get_or-take (left_cells S t) message j (pos 0) l),
         leb-true (nat_abs (get_or (take (left_cells S t) message) j (pos 0))) (2 ^ t * S.bound)
-            (all-at (λ z. leb (nat_abs z) (2 ^ t * S.bound)) (take (left_cells S t) message) (pos 0) h j (omega (arith, length-take-le (left_cells S t) message inside))),
+            (all_at (λ z. leb (nat_abs z) (2 ^ t * S.bound)) (take (left_cells S t) message) (pos 0) h j (omega (arith, length-take-le (left_cells S t) message inside))),
       )
 
   -- ---- the prover's calls
 
   pub commit_given : commit_refusal S key message ≡ 0 → (r : ℕ) → r < S.rows → CommitGiven S (key_row S key r) message
-  unfolding commit_refusal hasLength
+  unfolding commit_refusal has_length
   commit_given z r h =
       let (r6, (t7, (t8, (t9, _)))) = none-refused ((6, _) ∷ (7, _) ∷ (8, _) ∷ []) z in
       let g = tables_given r6 t7 t8 r h in
@@ -108,5 +108,5 @@ module _ (S : Settings) (key : List ℕ) (message : List ℤ) where
   fold_key_holds t e z = let (r6, (t7, _)) = none-refused ((6, _) ∷ (7, _) ∷ (8, _) ∷ (9, _) ∷ (10, _) ∷ []) z in key_given r6 t7
 
 pub end_given : (S : Settings) (t : ℕ) (message : List ℤ) → end_refusal S t message ≡ 0 → Valid S × (length message ≡ cells S)
-unfolding end_refusal hasLength
+unfolding end_refusal has_length
 end_given S t message z = let (r6, (t7, _)) = none-refused ((6, _) ∷ (8, _) ∷ (10, _) ∷ []) z in (settings-valid S r6, eqb-true _ _ t7)

@@ -2,7 +2,7 @@
 ghost use Rattle.std.specs.Prelude.{◌≡◌, ◌&&◌, ◌≤◌, length};
 ghost use Rattle.protocol.specs.Basic.{Tested};
 ghost use Rattle.protocol.specs.Layout.{key_cells};
-ghost use Rattle.protocol.specs.Settings.{settings_refusal, cells, hasLength};
+ghost use Rattle.protocol.specs.Settings.{settings_refusal, cells, has_length};
 ghost use Rattle.protocol.specs.Calls.{left_small, moving_small, ending_small, commit_refusal, round_refusal, fold_refusal, end_refusal};
 
 use protocol::{Residue, Settings};
@@ -11,7 +11,7 @@ use ranges::tests::refuse;
 
 // 3 to 7 of a call on both tables, and 16, which belongs to the settings.
 fn lengths(settings: Settings, key: &[Residue], message: &[i32]) -> u32
-    ensures { Tested (settings_refusal settings) 7 (hasLength (key_cells settings) key.now && hasLength (cells settings) message.now) result }
+    ensures { Tested (settings_refusal settings) 7 (has_length (key_cells settings) key.now && has_length (cells settings) message.now) result }
 {
     let key_cells = sizes::key_cells(settings);
     let cells = sizes::cells(settings);

@@ -14,7 +14,7 @@ use lib.IntN.{ℤ}
 use lib.ListN.{length, get_or}
 use Rattle.protocol.specs.declared.Settings.{Settings}
 use Rattle.protocol.specs.Basic.{every, Tested}
-use Rattle.protocol.specs.Settings.{settings_refusal, cells, hasLength, all_below, residue_rows, exponent, exponents}
+use Rattle.protocol.specs.Settings.{settings_refusal, cells, has_length, all_below, residue_rows, exponent, exponents}
 use Rattle.protocol.specs.Layout.{key_cells, nodes, leaves, tree_round_cells, tree_challenges, leaf_cells, exponent_count}
 use Rattle.protocol.specs.Transcript.{accepted}
 use Rattle.protocol.specs.Rows.{key_row}
@@ -29,7 +29,7 @@ use Rattle.protocol.proofs.Acceptance.{accepted_states}
 
 abbrev pub tree_sized : Settings → List ℕ → List ℕ → List ℕ → List ℤ → List ℤ → Bool
 tree_sized S key rounds E finals w =
-    hasLength (key_cells S) key && hasLength (tree_round_cells S) rounds && hasLength (tree_challenges S) E && hasLength (leaf_cells S) finals && hasLength (cells S) w
+    has_length (key_cells S) key && has_length (tree_round_cells S) rounds && has_length (tree_challenges S) E && has_length (leaf_cells S) finals && has_length (cells S) w
 
 pub record Lengths (S : Settings) (key rounds E : List ℕ) (finals w : List ℤ) : Type 0 where
   pub key_long : length key ≡ key_cells S
@@ -68,7 +68,7 @@ node-apart E k t =
 
 module _ (S : Settings) (key rounds E : List ℕ) (finals w : List ℤ) where
   sized-lengths : tree_sized S key rounds E finals w ≡ true → Lengths S key rounds E finals w
-  unfolding hasLength
+  unfolding has_length
   sized-lengths t =
       let (to-finals, of-w) = and_split t in
       let (to-challenges, of-finals) = and_split to-finals in
@@ -82,7 +82,7 @@ module _ (S : Settings) (key rounds E : List ℕ) (finals w : List ℤ) where
 
 module _ (S : Settings) (C key rounds E : List ℕ) (finals w : List ℤ) where
   pub tree_given : tree_refusal S C key rounds E finals w ≡ 0 → TreeGiven S C key rounds E finals w
-  unfolding tree_refusal all_below exponents exponent hasLength
+  unfolding tree_refusal all_below exponents exponent has_length
   tree_given z =
       let (r16, (t7, (t8, (t10, (t12, _))))) = none-refused ((6, _) ∷ (7, _) ∷ (9, _) ∷ (11, _) ∷ []) z in
       let l = sized-lengths S key rounds E finals w t7 in

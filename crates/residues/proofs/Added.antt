@@ -1,5 +1,5 @@
 -- Numbers that are added to others of the same list, set after set of places, and the two rows of every element that X^e·a is made of.
-use Rattle.std.proofs.Common.{◌≡◌, ℕ, ◌+◌, ◌-◌, ◌*◌, ◌%◌, ◌<◌, ◌≤◌, List, length, get_or, set, sym, refl, ap, ◌∙◌, subst, arith, length-set, get_or-set_other, get_or-set_same}
+use Rattle.std.proofs.Common.{◌≡◌, ℕ, ◌+◌, ◌*◌, ◌%◌, ◌<◌, ◌≤◌, List, length, get_or, set, sym, refl, ap, ◌∙◌, subst, arith, length-set, get_or-set_other, get_or-set_same}
 use native.Mathlib.Nat as Nat
 use native.Mathlib.Decide.{dec_lt}
 use Rattle.protocol.proofs.Reading.{row_inside, cell-place}

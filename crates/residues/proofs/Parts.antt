@@ -1,5 +1,5 @@
 -- Residues of a part of a row, of a copy, of the parts of a table as the code lends them, and of a row behind what is written.
-use Rattle.std.proofs.Common.{◌≡◌, ℕ, ◌+◌, ◌-◌, ◌*◌, ◌<◌, ◌≤◌, List, ◌++◌, length, get_or, take, drop, replicate, ℤ, pos, sym, refl, ap, ◌∙◌, arith, length-drop, length-take-le, get_or-drop, take_all, get_or-take}
+use Rattle.std.proofs.Common.{◌≡◌, ℕ, ◌+◌, ◌-◌, ◌<◌, ◌≤◌, List, ◌++◌, length, get_or, take, drop, replicate, ℤ, pos, sym, refl, ap, ◌∙◌, arith, length-drop, get_or-drop, take_all}
 use lib.ListN.{length-replicate, get_or-eq_default}
 use Rattle.protocol.specs.Basic.{tabulate}
 use Rattle.protocol.specs.Element.{width, zeros, signed_zeros, padded, padded_signed}

@@ -1,5 +1,5 @@
 -- The laws of Fill over zeros that are whole numbers: elements of whole numbers that are passed by value.
-use Rattle.std.proofs.Common.{◌≡◌, ℕ, zero, suc, ◌+◌, ◌<◌, List, ◌++◌, length, get_or, set, replicate, ℤ, pos, sym, refl, ap, ◌∙◌, arith, ext_get_or}
+use Rattle.std.proofs.Common.{◌≡◌, ℕ, ◌+◌, ◌<◌, List, length, get_or, set, replicate, ℤ, pos, sym, ◌∙◌, arith, ext_get_or}
 use native.Mathlib.Nat as Nat
 use lib.ListN.{length-replicate}
 use Rattle.protocol.specs.Basic.{tabulate}

@@ -10,9 +10,9 @@ use Rattle.protocol.proofs.Reading.{tabulate_length, tabulate_ext, tabulate_add}
 use Rattle.residues.specs.Lists.{spliced}
 use Rattle.residues.proofs.Fill.{filled, filled_more, filled_at, filled-behind, filled-length, filled-again, element-done}
 
-set-behind {ℓ} : {A : Type ℓ} (xs ys : List A) (n : ℕ) (a : A) → set (xs ++ ys) (length xs + n) a ≡ xs ++ set ys n a
-set-behind [] ys n a = ap (λ m. set ys m a) (Nat.zero-add n)
-set-behind (x ∷ xs) ys n a = ap (λ m. set (x ∷ xs ++ ys) m a) (Nat.suc-add (length xs) n) ∙ ap (λ l. x ∷ l) (set-behind xs ys n a)
+set_behind {ℓ} : {A : Type ℓ} (xs ys : List A) (n : ℕ) (a : A) → set (xs ++ ys) (length xs + n) a ≡ xs ++ set ys n a
+set_behind [] ys n a = ap (λ m. set ys m a) (Nat.zero-add n)
+set_behind (x ∷ xs) ys n a = ap (λ m. set (x ∷ xs ++ ys) m a) (Nat.suc-add (length xs) n) ∙ ap (λ l. x ∷ l) (set_behind xs ys n a)
 
 module _ {ℓ} {A : Type ℓ} where
   pub spliced-none : (f : ℕ → A) (at : ℕ) (l : List A) → l ≡ spliced f at 0 l
@@ -27,7 +27,7 @@ module _ {ℓ} {A : Type ℓ} where
     unfolding spliced filled
     spliced_more h =
         ap (λ m. set (take at l ++ filled f n (drop at l)) (m + n) (f n)) (sym front)
-        ∙ set-behind (take at l) (filled f n (drop at l)) n (f n)
+        ∙ set_behind (take at l) (filled f n (drop at l)) n (f n)
         ∙ ap (λ s. take at l ++ s) (filled_more f n (drop at l) (omega (arith, length-drop at l)))
 
     pub spliced-length : at + n ≤ length l → length (spliced f at n l) ≡ length l

@@ -1,5 +1,7 @@
 // Residues modulo q: single ones, exponents of X, rows that are copied, and elements. Every public function is safe for every input; what it gives is said by
 // a definition, where needed under a condition that the refusals ensure. No residue is divided, and no branch depends on one but by its order.
+#![tactic(auto)]
+
 pub mod elements;
 
 ghost use Rattle.std.specs.Prelude.{◌≡◌, ◌+◌, ◌*◌, ◌%◌, ◌<◌, ◌≤◌, ◌++◌, length, drop, pos, ◌+ℤ◌, neg_ℤ, slice_index};

@@ -1,6 +1,8 @@
 // Multiples X^e·a, which are rotations with signs, and the value of a polynomial at X^e. Every public function is safe for every input; what it gives is said
 // by a definition under a condition that the refusals ensure. No residue is divided and no branch depends on one but by its order, so that the compiler takes
 // several at a time.
+#![tactic(auto)]
+
 ghost use Rattle.std.specs.Prelude.{◌≡◌, ◌+◌, ◌^◌, ◌≤◌, length, pos, ◌+ℤ◌};
 ghost use Rattle.protocol.specs.Basic.{Provided};
 ghost use Rattle.protocol.specs.Element.{modulo};

@@ -1,6 +1,8 @@
 // Inner products of messages and keys in every row, of halves of them and of the sums of halves, times a power of half, and the round polynomial that they make. What
 // there is for each row is an item: an element for each row, one behind the other. Every public function is safe for every input; what it gives is said by a definition
 // under a condition that the refusals ensure.
+#![tactic(auto)]
+
 ghost use Rattle.std.specs.Prelude.{◌≡◌, List, ℕ, ◌*◌, ◌%◌, ◌^◌, ◌<◌, ◌≤◌, length, get_or};
 ghost use Rattle.protocol.specs.Basic.{Provided};
 ghost use Rattle.protocol.specs.Layout.{item_cells};

@@ -1,5 +1,7 @@
 // The equations of all rows. The claims are as they are passed by value, for each row WIDTH places; the elements of a round polynomial stand `step` places from each
 // other: d in a flat table, WIDTH by value. All are lent here, so that no element is copied.
+#![tactic(auto)]
+
 ghost use Rattle.std.specs.Prelude.{◌≡◌, ◌*◌, ◌<◌, ◌≤◌, length, get_or};
 ghost use Rattle.protocol.specs.Basic.{every, Provided};
 ghost use Rattle.protocol.specs.Element.{width, value_row, residue, signed, zeros};

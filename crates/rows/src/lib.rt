@@ -1,6 +1,8 @@
 // The products of an element of whole numbers with elements of residues, added to sums modulo 2^64. Residues stand in 64 bits, and four rows are added
 // at a time: so a row costs one product and one sum for each of its numbers. The elements of residues are strands of one woven element: with c of them,
 // number k of strand r stands at place k·c + r, so that a row of all strands is one row, c times as long.
+#![tactic(auto)]
+
 ghost use Rattle.std.specs.Prelude.{◌≡◌, ℕ, ◌+◌, ◌*◌, ◌%◌, ◌^◌, ◌<◌, ◌≤◌, List, length};
 ghost use Rattle.protocol.specs.Basic.{Provided};
 ghost use Rattle.protocol.specs.Element.{width, residue};

@@ -11,7 +11,7 @@ use Rattle.protocol.specs.declared.Session.{Session}
 use Rattle.protocol.specs.Basic.{tabulate, choose}
 use Rattle.protocol.specs.Element.{zeros}
 use Rattle.protocol.specs.Layout.{rows_width}
-use Rattle.protocol.specs.Settings.{hasLength}
+use Rattle.protocol.specs.Settings.{has_length}
 use Rattle.protocol.proofs.Reading.{tabulate_length, tabulate_at, tabulate_ext, tabulate_own}
 use Rattle.residues.specs.Lists.{spliced}
 use Rattle.residues.proofs.Fill.{zeros-length, zeros_at}
@@ -20,11 +20,11 @@ use Rattle.session_records.specs.Records.{record_width, claims_of, head_of, numb
 
 module _ (r : Session) where
   pub stays : (t : List ℕ) → length t ≢ record_width → t ≡ record_stored r t
-  unfolding record_stored record_width hasLength choose
+  unfolding record_stored record_width has_length choose
   stays t h = sym (ap (λ b. choose b (numbers_of r) t) (ne_eqb _ _ h))
 
   pub stored : (t : List ℕ) → length t ≡ record_width → record_stored r t ≡ numbers_of r
-  unfolding record_stored record_width hasLength choose
+  unfolding record_stored record_width has_length choose
   stored t h = ap (λ b. choose b (numbers_of r) t) (eq-eqb _ _ h)
 
   pub head-number : (k : ℕ) → k < 7 → get_or (head_of r) k 0 ≡ number_of r k

@@ -15,7 +15,7 @@ use Rattle.std.specs.Prelude.{Bool, List, [], ◌∷◌, ℕ, ◌+◌, ◌-◌, 
 use Rattle.protocol.specs.declared.Session.{Session}
 use Rattle.protocol.specs.Basic.{tabulate, choose}
 use Rattle.protocol.specs.Layout.{rows_width, slots}
-use Rattle.protocol.specs.Settings.{hasLength}
+use Rattle.protocol.specs.Settings.{has_length}
 use Rattle.slices.specs.Slices.{given, capped}
 use Rattle.verifier_refusals.specs.declared.Progress.{Progress}
 use Rattle.verifier_refusals.specs.Lent.{record_of}
@@ -60,4 +60,4 @@ unfoldable pub numbers_of : Session → List ℕ
 numbers_of r = tabulate record_width (number_of r)
 
 unfoldable pub record_stored : Session → List ℕ → List ℕ
-record_stored r t = choose (hasLength record_width t) (numbers_of r) t
+record_stored r t = choose (has_length record_width t) (numbers_of r) t

@@ -1,5 +1,7 @@
 // Session records in slices of RECORD numbers: degree, depth, modulus, bound, rows, rounds done, closed, then the challenges, then the places of the claims. The
 // claims stay in the slice, and are lent from it.
+#![tactic(auto)]
+
 ghost use Rattle.std.specs.Prelude.{◌≡◌, length, []};
 ghost use Rattle.protocol.specs.Basic.{Provided};
 ghost use Rattle.protocol.specs.Session.{blank};

@@ -13,9 +13,9 @@ use Rattle.protocol.specs.declared.Started.{Started}
 use Rattle.protocol.specs.declared.Moved.{Moved}
 use Rattle.protocol.specs.Basic.{granted}
 use Rattle.protocol.specs.Layout.{item_cells}
-use Rattle.protocol.specs.Settings.{settings_refusal, hasLength}
+use Rattle.protocol.specs.Settings.{settings_refusal, has_length}
 use Rattle.protocol.specs.Session.{opened, blank, start_refusal, start}
-use Rattle.protocol.proofs.Tests.{and_split, granted-zero, granted-refused}
+use Rattle.protocol.proofs.Tests.{and_split, granted-zero, granted_refused}
 use Rattle.protocol.proofs.Refusals.{first_fails, first_holds, first_only}
 use Rattle.slices.specs.Slices.{lent, values_of}
 use Rattle.protocol.specs.Session.{verdict_number}
@@ -25,11 +25,11 @@ use Rattle.sessions.specs.Promises.{start_number, start_exit, StartStored, move_
 
 -- ---- the start
 
-module _ (S : Settings) (C rec : List ℕ) (n : ℕ) (e : n ≡ lent S (hasLength (item_cells S) C && hasLength record_width rec) 0) where
+module _ (S : Settings) (C rec : List ℕ) (n : ℕ) (e : n ≡ lent S (has_length (item_cells S) C && has_length record_width rec) 0) where
   pub start-refused : (none : Session) (rec' : List ℕ) → n ≢ 0 → none ≡ blank → rec' ≡ record_stored none rec → StartStored S C rec n rec'
   unfolding start_number start_exit
   start-refused none rec' h b p =
-      let refused : lent S (hasLength (item_cells S) C && hasLength record_width rec) 0 ≢ 0 = λ z. h (e ∙ z) in
+      let refused : lent S (has_length (item_cells S) C && has_length record_width rec) 0 ≢ 0 = λ z. h (e ∙ z) in
       record {
         refusal = e ∙ lent_stops S _ _ refused;
         record_exit = p ∙ ap (λ r. record_stored r rec) (b ∙ kept S _ _ _ _ refused);
@@ -37,9 +37,9 @@ module _ (S : Settings) (C rec : List ℕ) (n : ℕ) (e : n ≡ lent S (hasLengt
 
   pub start_made : (c : List ℕ) (r : Started) (rec' : List ℕ) → n ≡ 0 → (settings_refusal S ≡ 0 → length C ≡ item_cells S → c ≡ values_of S C) → r ≡ start S c
       → rec' ≡ record_stored r.next rec → StartStored S C rec r.refusal rec'
-  unfolding start_number start_exit start hasLength
+  unfolding start_number start_exit start has_length
   start_made c r rec' h b q p =
-      let long = eqb-true _ _ (and_split (lent_fits S (hasLength (item_cells S) C && hasLength record_width rec) (sym e ∙ h))).0 in
+      let long = eqb-true _ _ (and_split (lent_fits S (has_length (item_cells S) C && has_length record_width rec) (sym e ∙ h))).0 in
       let answer = q ∙ ap (start S) (b (lent_allowed S _ (sym e ∙ h)) long) in
       let same = lent_passes S _ (start_refusal S (values_of S C)) (sym e ∙ h) in
       record {
@@ -55,19 +55,19 @@ module _ (fits : Bool) (m : Moved) (rec : List ℕ) where
   unfolding move_exit move_verdict
   move_nowhere h = record {
     refusal = seven;
-    record_exit = sym (granted-refused _ _ _ refused);
-    verdict_exit = sym (granted-refused _ _ _ refused);
+    record_exit = sym (granted_refused _ _ _ refused);
+    verdict_exit = sym (granted_refused _ _ _ refused);
   }
     where
       seven : 7 ≡ move_number fits m rec
-      seven = unfold move_number in unfold hasLength in sym (first_fails 6 _ _ (ne_eqb _ _ h))
+      seven = unfold move_number in unfold has_length in sym (first_fails 6 _ _ (ne_eqb _ _ h))
 
       refused : move_number fits m rec ≢ 0
       refused z = let no : ◌≡◌ {A = ℕ} 7 0 = seven ∙ z in omega arith
 
   module _ (long : length rec ≡ record_width) where
     number_is : move_number fits m rec ≡ lent (session_of rec).settings (fits && flagged rec) m.refusal
-    unfolding move_number hasLength
+    unfolding move_number has_length
     number_is = first_holds 7 _ _ (eq-eqb _ _ long) ∙ first_only _
 
     -- slices beside it that do not fit, or settings that are refused
@@ -76,7 +76,7 @@ module _ (fits : Bool) (m : Moved) (rec : List ℕ) where
     move_refused n e h =
         let same = e ∙ lent_stops _ _ m.refusal (λ z. h (e ∙ z)) ∙ sym number_is in
         let refused : move_number fits m rec ≢ 0 = λ z. h (same ∙ z) in
-        record { refusal = same; record_exit = sym (granted-refused _ _ _ refused); verdict_exit = sym (granted-refused _ _ _ refused) }
+        record { refusal = same; record_exit = sym (granted_refused _ _ _ refused); verdict_exit = sym (granted_refused _ _ _ refused) }
 
     pub move_made : (n : ℕ) → n ≡ lent (session_of rec).settings (fits && flagged rec) 0 → n ≡ 0
         → (m' : Moved) (r : ℕ) (rec' : List ℕ) (v' : ℕ) → m' ≡ m → Answered m' rec r rec' v' → MoveStored fits m rec r rec' v'
@@ -92,7 +92,7 @@ module _ (fits : Bool) (m : Moved) (rec : List ℕ) where
 -- what a move answers that is refused, and one that is not
 module _ (m : Moved) (rec : List ℕ) where
   pub answer_refused : m.refusal ≢ 0 → Answered m rec m.refusal rec 0
-  answer_refused h = record { refusal = refl; record_exit = sym (granted-refused _ _ _ h); verdict_exit = sym (granted-refused _ _ _ h) }
+  answer_refused h = record { refusal = refl; record_exit = sym (granted_refused _ _ _ h); verdict_exit = sym (granted_refused _ _ _ h) }
 
   pub answer_made : (rec' : List ℕ) (v' : ℕ) → m.refusal ≡ 0 → rec' ≡ record_stored m.next rec → v' ≡ verdict_number m.verdict → Answered m rec 0 rec' v'
   answer_made rec' v' h p v = record { refusal = sym h; record_exit = p ∙ sym (granted-zero _ _ _ h); verdict_exit = v ∙ sym (granted-zero _ _ _ h) }

@@ -19,7 +19,7 @@ use Rattle.protocol.specs.Settings.{settings_refusal}
 use Rattle.protocol.specs.Session.{shut, refused_move, advanced, session_round_refusal, session_round_holds, round, verdict_number}
 use Rattle.protocol.proofs.Inputs.{settings-valid}
 use Rattle.protocol.proofs.Reading.{tabulate_ext, tabulate_own}
-use Rattle.protocol.proofs.Tests.{granted-zero, granted-refused}
+use Rattle.protocol.proofs.Tests.{granted-zero, granted_refused}
 use Rattle.residues.proofs.Parts.{tail_all, tail_at, tail-length}
 use Rattle.sizes.proofs.Limits.{degree_most}
 use Rattle.slices.specs.Slices.{values_of, polynomial_of}
@@ -82,7 +82,7 @@ module _ (t : List ℕ) (long : length t ≡ record_width) where
         go (suc k) z =
             let no : m.refusal ≢ 0 = λ h. let never = sym z ∙ h in omega arith in
             let own = ap (put_mid claims_at (length t - claims_at) t) (ap (λ (x : Moved). x.next.claims) is ∙ same no) ∙ kept in
-            granted-refused _ _ _ no ∙ own ∙ sym (granted-refused _ _ _ no)
+            granted_refused _ _ _ no ∙ own ∙ sym (granted_refused _ _ _ no)
 
 -- a refused round keeps the claims
 pub round_kept : (r : Session) (p : List (List ℕ)) (e : ℕ) → (round r p e).refusal ≢ 0 → (round r p e).next.claims ≡ r.claims

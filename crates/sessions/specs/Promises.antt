@@ -17,13 +17,13 @@ use Rattle.protocol.specs.declared.Moved.{Moved}
 use Rattle.protocol.specs.Basic.{first, unless, granted}
 use Rattle.protocol.specs.Element.{padded_signed}
 use Rattle.protocol.specs.Layout.{item_cells, polynomial_cells}
-use Rattle.protocol.specs.Settings.{hasLength}
+use Rattle.protocol.specs.Settings.{has_length}
 use Rattle.protocol.specs.Session.{opened, blank, start_refusal, round, end, verdict_number}
 use Rattle.slices.specs.Slices.{lent, values_of, polynomial_of}
 use Rattle.session_records.specs.Records.{record_width, session_of, flagged, record_stored}
 
 unfoldable pub start_number : Settings → List ℕ → List ℕ → ℕ
-start_number S C rec = lent S (hasLength (item_cells S) C && hasLength record_width rec) (start_refusal S (values_of S C))
+start_number S C rec = lent S (has_length (item_cells S) C && has_length record_width rec) (start_refusal S (values_of S C))
 
 unfoldable pub start_exit : Settings → List ℕ → List ℕ → List ℕ
 start_exit S C rec = record_stored (granted (start_number S C rec) (opened S (values_of S C)) blank) rec
@@ -33,7 +33,7 @@ pub record StartStored (S : Settings) (C rec : List ℕ) (r : ℕ) (rec' : List 
   pub record_exit : rec' ≡ start_exit S C rec
 
 unfoldable pub move_number : Bool → Moved → List ℕ → ℕ
-move_number fits m rec = first (unless 7 (hasLength record_width rec) ∷ lent (session_of rec).settings (fits && flagged rec) m.refusal ∷ [])
+move_number fits m rec = first (unless 7 (has_length record_width rec) ∷ lent (session_of rec).settings (fits && flagged rec) m.refusal ∷ [])
 
 unfoldable pub move_exit : Bool → Moved → List ℕ → List ℕ
 move_exit fits m rec = granted (move_number fits m rec) (record_stored m.next rec) rec
@@ -47,13 +47,13 @@ pub record MoveStored (fits : Bool) (m : Moved) (rec : List ℕ) (r : ℕ) (rec'
   pub verdict_exit : verdict' ≡ move_verdict fits m rec
 
 unfoldable pub polynomial_fits : List ℕ → List ℕ → Bool
-polynomial_fits P rec = hasLength (polynomial_cells (session_of rec).settings) P
+polynomial_fits P rec = has_length (polynomial_cells (session_of rec).settings) P
 
 unfoldable pub round_on : List ℕ → ℕ → List ℕ → Moved
 round_on P e rec = round (session_of rec) (polynomial_of (session_of rec).settings P) e
 
 unfoldable pub last_fits : List ℤ → List ℕ → Bool
-last_fits f rec = hasLength (session_of rec).settings.degree f
+last_fits f rec = has_length (session_of rec).settings.degree f
 
 unfoldable pub end_on : List ℤ → List ℕ → List ℕ → Moved
 end_on f key rec = end (session_of rec) (padded_signed (session_of rec).settings.degree f) key

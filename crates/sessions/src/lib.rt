@@ -1,5 +1,7 @@
 // The verifier's session on a record that stands in a lent slice of RECORD numbers. A refused move writes nothing to it; a refused start writes the closed
 // record of zeros. Claims and elements are read, and the next claims written, where they stand.
+#![tactic(auto)]
+
 ghost use Rattle.session_records.specs.Records.{claims_of};
 ghost use Rattle.verifier.specs.Records.{moved_with};
 ghost use Rattle.sessions.specs.Promises.{StartStored, MoveStored, Answered, polynomial_fits, last_fits, round_on, end_on};

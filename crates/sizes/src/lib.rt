@@ -1,5 +1,7 @@
 // The layout in code: how many elements, numbers, challenges and nodes there are, how many of them are left after t rounds, and how large numbers become.
 // Each function is safe for every input, and says what it gives for settings that are allowed.
+#![tactic(auto)]
+
 ghost use Rattle.std.specs.Prelude.{◌≡◌, ◌*◌, ◌^◌, ◌<◌, ◌≤◌};
 ghost use Rattle.protocol.specs.Basic.{Provided};
 ghost use Rattle.protocol.specs.Layout as layout;

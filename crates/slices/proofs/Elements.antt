@@ -20,22 +20,22 @@ pub whole-signed : (d : ℕ) (t : List ℤ) → length t ≡ d → padded_signed
 unfolding coefficients signed_at
 whole-signed d t e = ap (padded_signed d) (tabulate_ext d (λ k h. ap (λ n. get_or t (n + k) (pos 0)) (Nat.zero-mul d) ∙ ap (λ n. get_or t n (pos 0)) (Nat.zero-add k)) ∙ tabulate_own d t (pos 0) e)
 
-drop-end {ℓ} : {A : Type ℓ} (n : ℕ) (l : List A) → length l ≡ n → drop n l ≡ []
-drop-end n l e = ap (λ k. drop k l) (sym e) ∙ drop-length l
+drop_end {ℓ} : {A : Type ℓ} (n : ℕ) (l : List A) → length l ≡ n → drop n l ≡ []
+drop_end n l e = ap (λ k. drop k l) (sym e) ∙ drop-length l
 
 -- the first n places of an element, one by one
-pub first-places {ℓ} : {A : Type ℓ} (n : ℕ) (a : List A) (z : A) → n ≤ length a → tabulate n (λ k. get_or a k z) ≡ take n a
-first-places n a z h = tabulate_ext n (λ k l. sym (get_or-take n a k z l)) ∙ tabulate_own n (take n a) z (length-take-le n a h)
+pub first_places {ℓ} : {A : Type ℓ} (n : ℕ) (a : List A) (z : A) → n ≤ length a → tabulate n (λ k. get_or a k z) ≡ take n a
+first_places n a z h = tabulate_ext n (λ k l. sym (get_or-take n a k z l)) ∙ tabulate_own n (take n a) z (length-take-le n a h)
 
 -- an element that is written over a whole slice
 pub filled-whole : (d k : ℕ) (a l : List ℤ) → d ≤ length a → length l ≡ d → k ≡ d → filled (λ j. get_or a j (pos 0)) k l ≡ take d a
 unfolding filled
 filled-whole d k a l h e p =
-    ap (λ n. filled (λ j. get_or a j (pos 0)) n l) p ∙ (λ i. first-places d a (pos 0) h i ++ drop-end d l e i) ∙ append-nil _
+    ap (λ n. filled (λ j. get_or a j (pos 0)) n l) p ∙ (λ i. first_places d a (pos 0) h i ++ drop_end d l e i) ∙ append-nil _
 
-pub stored-whole {ℓ} : {A : Type ℓ} (n : ℕ) (f : ℕ → A) (l : List A) → length l ≡ n → spliced f 0 n l ≡ tabulate n f
+pub stored_whole {ℓ} : {A : Type ℓ} (n : ℕ) (f : ℕ → A) (l : List A) → length l ≡ n → spliced f 0 n l ≡ tabulate n f
 unfolding spliced
-stored-whole n f l e = ap (λ t. tabulate n f ++ t) (drop-end n l e) ∙ append-nil _
+stored_whole n f l e = ap (λ t. tabulate n f ++ t) (drop_end n l e) ∙ append-nil _
 
 -- three elements that are written one after the other
 module _ (d : ℕ) (f g h : ℕ → ℕ) (l : List ℕ) (e : length l ≡ 3 * d) where
@@ -71,7 +71,7 @@ module _ (d : ℕ) (f g h : ℕ → ℕ) (l : List ℕ) (e : length l ≡ 3 * d)
       third : spliced h (2 * d) d ((X ++ Y) ++ R) ≡ tabulate d f ++ (tabulate d g ++ tabulate d h)
       third = unfold spliced in unfold X in unfold Y in
           (λ i. take_at (X ++ Y) R (2 * d) both i ++ (tabulate d h ++ drop d (drop_at (X ++ Y) R (2 * d) both i)))
-          ∙ ap (λ t. (X ++ Y) ++ (tabulate d h ++ t)) (drop-end d R rest)
+          ∙ ap (λ t. (X ++ Y) ++ (tabulate d h ++ t)) (drop_end d R rest)
           ∙ ap (λ t. (X ++ Y) ++ t) (append-nil (tabulate d h))
           ∙ append_assoc X Y (tabulate d h)
 

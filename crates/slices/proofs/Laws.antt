@@ -3,15 +3,14 @@ use mathlib.Core.Path.{◌≡◌, sym, ap, ◌∙◌}
 use mathlib.Core.List.{List, [], ◌∷◌, ◌++◌, append-nil}
 use Prim.Native.Nat.{ℕ, ◌+◌, ◌*◌, ◌<◌, ◌≤◌}
 use native.Mathlib.Nat as Nat
-use native.Mathlib.Decide.{dec_lt}
 use native.Mathlib.Omega.{arith}
 use lib.IntN.{ℤ}
-use lib.ListN.{length, get_or, take, drop, take-append-drop, length-append, length-drop, get_or-append}
-use lib.Seq.{take_at, take_all, drop_at, drop-drop, get_or-take, get_or-drop, length-take-le}
+use lib.ListN.{length, get_or, take, drop, take-append-drop, length-drop, get_or-append}
+use lib.Seq.{take_at, take_all, drop_at, drop-drop, get_or-take, length-take-le}
 use Rattle.protocol.specs.declared.Settings.{Settings}
-use Rattle.protocol.specs.Basic.{tabulate, flat, choose}
-use Rattle.protocol.specs.Element.{width, padded_signed, value_row}
-use Rattle.protocol.specs.Layout.{rows_most, item_cells, polynomial_cells}
+use Rattle.protocol.specs.Basic.{tabulate}
+use Rattle.protocol.specs.Element.{padded_signed}
+use Rattle.protocol.specs.Layout.{item_cells, polynomial_cells}
 use Rattle.protocol.specs.Inputs.{Valid}
 use Rattle.protocol.specs.Rows.{at_rows, together}
 use Rattle.protocol.specs.Session.{part}

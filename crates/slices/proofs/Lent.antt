@@ -9,7 +9,7 @@ use Rattle.protocol.specs.Basic.{first, unless, granted}
 use Rattle.protocol.specs.Settings.{settings_refusal}
 use Rattle.protocol.specs.Layout.{width}
 use Rattle.protocol.specs.Inputs.{Valid}
-use Rattle.protocol.proofs.Tests.{first_zero, unless-zero, granted-zero, granted-refused}
+use Rattle.protocol.proofs.Tests.{first_zero, unless-zero, granted-zero, granted_refused}
 use Rattle.protocol.proofs.Refusals.{first_passes, first_only}
 use Rattle.protocol.proofs.Inputs.{settings-valid}
 use Rattle.sizes.proofs.Limits.{degree_most}
@@ -82,10 +82,10 @@ lent_degree S fits h = degree_most S (lent_valid S fits h)
 -- what is granted where the slices are refused, where the call is, and where nothing is
 module _ {ℓ} {A : Type ℓ} (S : Settings) (fits : Bool) (N : ℕ) (x y : A) where
   pub kept : lent S fits 0 ≢ 0 → y ≡ granted (lent S fits N) x y
-  kept h = sym (granted-refused _ x y (λ e. h (lent_stops S fits N h ∙ e)))
+  kept h = sym (granted_refused _ x y (λ e. h (lent_stops S fits N h ∙ e)))
 
   pub kept_by : lent S fits 0 ≡ 0 → N ≢ 0 → y ≡ granted (lent S fits N) x y
-  kept_by h n = sym (granted-refused _ x y (λ e. n (lent_passes S fits N h ∙ e)))
+  kept_by h n = sym (granted_refused _ x y (λ e. n (lent_passes S fits N h ∙ e)))
 
   pub done : lent S fits 0 ≡ 0 → N ≡ 0 → x ≡ granted (lent S fits N) x y
   done h n = sym (granted-zero _ x y (sym (lent_passes S fits N h) ∙ n))

@@ -11,11 +11,11 @@ use lib.Dec.{ltb}
 use lib.ListN.{length, get_or}
 use lib.Seq.{ext_get_or}
 use Rattle.protocol.specs.declared.Settings.{Settings}
-use Rattle.protocol.specs.Basic.{tabulate, flat, choose}
-use Rattle.protocol.specs.Element.{width, zeros, value_row}
+use Rattle.protocol.specs.Basic.{tabulate, choose}
+use Rattle.protocol.specs.Element.{width, zeros}
 use Rattle.protocol.specs.Layout.{rows_most, rows_width}
-use Rattle.protocol.specs.Rows.{at_rows, together}
-use Rattle.protocol.proofs.Reading.{cell-inside, cell-element, cell-place, row_inside, by_cells, tabulate_at, flat-length, flat_at, flat_ext, flat-own}
+use Rattle.protocol.specs.Rows.{at_rows}
+use Rattle.protocol.proofs.Reading.{cell-element, cell-place, by_cells, tabulate_at, flat-length, flat_at, flat_ext, flat-own}
 use Rattle.residues.specs.Lists.{spliced, spliced_rows}
 use Rattle.residues.proofs.Fill.{zeros_at}
 use Rattle.residues.proofs.Splice.{spliced-none, spliced-length, spliced-before, spliced-inside, spliced-behind, spliced-twice}

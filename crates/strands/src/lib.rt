@@ -1,4 +1,6 @@
 // The elements at one place of all rows of a key, or of the sums of its halves, prepared for products: one woven element, whose strand r is row r's.
+#![tactic(auto)]
+
 ghost use Rattle.std.specs.Prelude.{◌≡◌, List, ℕ, ◌+◌, ◌*◌, ◌^◌, ◌<◌, ◌≤◌, length};
 ghost use Rattle.protocol.specs.Basic.{Provided};
 ghost use Rattle.protocol.specs.Element.{Element, width};

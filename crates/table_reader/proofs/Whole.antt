@@ -23,7 +23,7 @@ use Rattle.protocol.specs.Settings.{settings_refusal}
 use Rattle.text_format.specs.Text.{Line, Shape, Tables, value_limit, narrow_limit, shape, settings_shape, shapes, shape_size, wanted, lines_of, unsigned, unsigned_column, settings_in, tables_in, no_settings}
 use Rattle.text_format.specs.Text.{look_refusal, loaded, entries_refusal, text_refusal, read_refusal, read_answer, read_exit}
 use Rattle.text_format.specs.Promises.{Read}
-use Rattle.protocol.proofs.Tests.{and_split, every_at, first_zero, unless-zero, granted-zero, granted-refused}
+use Rattle.protocol.proofs.Tests.{and_split, every_at, first_zero, unless-zero, granted-zero, granted_refused}
 use Rattle.protocol.proofs.Refusals.{front-stops, front-passes, first_only}
 use Rattle.text_format.proofs.TableLaws.{Rising, Fit, parts, columns, read-fit}
 use Rattle.text_parts.specs.Parts.{tables_of, table_count, part_shape, lengths_of, lengths_are, lengths_fit}
@@ -139,7 +139,7 @@ module _ (P : Parts) (text : List ℕ) (t : Tables) (r : Loaded) (values : List 
 
   kept : (m : ℕ) → read_refusal P text t ≡ m → (m ≡ 0 → ⊥) → t ≡ read_exit P text t
   unfolding read_exit
-  kept m e h = sym (granted-refused _ _ _ (λ z. h (sym e ∙ z)))
+  kept m e h = sym (granted_refused _ _ _ (λ z. h (sym e ∙ z)))
 
   pub read-refused : (r.refusal ≡ 0 → ⊥) → Read P text t r t
   unfolding read_answer

@@ -1,4 +1,6 @@
 // The table reader: the tables of a text, in what is lent for them. Nothing is written before the whole text has passed refusals 1 to 10.
+#![tactic(auto)]
+
 mod entries;
 mod store;
 

@@ -12,11 +12,11 @@ use Rattle.protocol.specs.declared.Parts.{Parts}
 use Rattle.protocol.specs.declared.Loaded.{Loaded}
 use Rattle.protocol.specs.declared.Written.{Written}
 use Rattle.protocol.specs.Basic.{first, unless, granted}
-use Rattle.protocol.specs.Settings.{hasLength}
+use Rattle.protocol.specs.Settings.{has_length}
 use Rattle.text_format.specs.Text.{Tables, wanted, fits, lines_of, spots_of, same_spots, entries_refusal, settings_in, tables_in, loaded, look_refusal}
 use Rattle.text_format.specs.Text.{look_answer, text_refusal, read_refusal, read_answer, read_exit, text_of, written, overwritten, write_refusal, write_answer, write_exit}
 use Rattle.text_format.specs.Promises.{Read, Wrote}
-use Rattle.protocol.proofs.Tests.{granted-zero, granted-refused}
+use Rattle.protocol.proofs.Tests.{granted-zero, granted_refused}
 use Rattle.protocol.proofs.Refusals.{first_stops, first_passes, first_fails, first_holds, and_fails_right}
 use Rattle.slices.specs.Slices.{lent}
 use Rattle.slices.proofs.Lent.{lent_stops, lent_passes}
@@ -36,22 +36,22 @@ module _ (text : List ℕ) (l : Loaded) (e : l ≡ look_answer text) where
 
   module _ (settings : List ℕ) where
     pub look-refused : l.refusal ≢ 0 → Looked text settings l.refusal settings
-    look-refused h = record { refusal = same; settings_exit = sym (granted-refused _ _ _ (λ z. h (same ∙ z))) }
+    look-refused h = record { refusal = same; settings_exit = sym (granted_refused _ _ _ (λ z. h (same ∙ z))) }
       where
         same : l.refusal ≡ look_number text settings
         same = unfold look_number in look-number ∙ sym (first_stops _ _ (λ z. h (look-number ∙ z)))
 
     pub look_unfit : l.refusal ≡ 0 → length settings ≢ settings_width → Looked text settings 7 settings
-    look_unfit h s = record { refusal = same; settings_exit = sym (granted-refused _ _ _ (λ z. let no : ◌≡◌ {A = ℕ} 7 0 = same ∙ z in omega arith)) }
+    look_unfit h s = record { refusal = same; settings_exit = sym (granted_refused _ _ _ (λ z. let no : ◌≡◌ {A = ℕ} 7 0 = same ∙ z in omega arith)) }
       where
         same : 7 ≡ look_number text settings
-        same = unfold look_number in unfold hasLength in sym (first_passes _ _ (sym look-number ∙ h) ∙ first_fails 6 _ _ (ne_eqb _ _ s))
+        same = unfold look_number in unfold has_length in sym (first_passes _ _ (sym look-number ∙ h) ∙ first_fails 6 _ _ (ne_eqb _ _ s))
 
     pub look-made : l.refusal ≡ 0 → length settings ≡ settings_width → (settings' : List ℕ) → settings' ≡ settings_numbers l.settings → Looked text settings 0 settings'
     look-made h s settings' p = record { refusal = same; settings_exit = p ∙ ap settings_numbers (look-settings h) ∙ sym (granted-zero _ _ _ (sym same)) }
       where
         same : 0 ≡ look_number text settings
-        same = unfold look_number in unfold hasLength in sym (first_passes _ _ (sym look-number ∙ h) ∙ first_holds 7 _ _ (eq-eqb _ _ s) ∙ unfold first in refl)
+        same = unfold look_number in unfold has_length in sym (first_passes _ _ (sym look-number ∙ h) ∙ first_holds 7 _ _ (eq-eqb _ _ s) ∙ unfold first in refl)
 
 -- ---- the table reader
 
@@ -71,14 +71,14 @@ and-true false b e = refl
 
 module _ (n : ℕ) (text settings : List ℕ) (t : Tables) where
   -- the slice for the settings or the number of parts is refused
-  pub read_unfit : (r : ℕ) → r ≡ first (look_refusal text ∷ 7 ∷ []) → (hasLength settings_width settings && parts_named n) ≡ false → ReadStored n text settings t r settings t
+  pub read_unfit : (r : ℕ) → r ≡ first (look_refusal text ∷ 7 ∷ []) → (has_length settings_width settings && parts_named n) ≡ false → ReadStored n text settings t r settings t
   unfolding read_number text_refusal
-  read_unfit r e b = record { refusal = same; settings_exit = sym (granted-refused _ _ _ refused); tables_exit = sym (granted-refused _ _ _ refused) }
+  read_unfit r e b = record { refusal = same; settings_exit = sym (granted_refused _ _ _ refused); tables_exit = sym (granted_refused _ _ _ refused) }
     where
       unfit : read_number n text settings t ≡ first (look_refusal text ∷ 7 ∷ [])
       unfit =
           let S = settings_in (lines_of text) in
-          seven (look_refusal text) (same_spots (spots_of (lines_of text)) (wanted S (parts_of n))) (fits S (parts_of n) t) (hasLength settings_width settings && parts_named n)
+          seven (look_refusal text) (same_spots (spots_of (lines_of text)) (wanted S (parts_of n))) (fits S (parts_of n) t) (has_length settings_width settings && parts_named n)
           (entries_refusal S true (tables_in (lines_of text)) ∷ []) b
 
       same : r ≡ read_number n text settings t
@@ -87,7 +87,7 @@ module _ (n : ℕ) (text settings : List ℕ) (t : Tables) where
       refused : read_number n text settings t ≢ 0
       refused z = some-refusal (look_refusal text) (sym e ∙ same ∙ z)
 
-  module _ (b : (hasLength settings_width settings && parts_named n) ≡ true) (P : Parts) (p : P ≡ parts_of n) (l : Loaded) (t' : Tables) (given : Read P text t l t') where
+  module _ (b : (has_length settings_width settings && parts_named n) ≡ true) (P : Parts) (p : P ≡ parts_of n) (l : Loaded) (t' : Tables) (given : Read P text t l t') where
     read_is : read_refusal P text t ≡ read_number n text settings t
     unfolding read_number read_refusal
     read_is = ap (λ x. text_refusal x (fits (settings_in (lines_of text)) x t) text) p ∙ ap (λ x. text_refusal (parts_of n) x text) (sym (and-true _ _ b))
@@ -101,7 +101,7 @@ module _ (n : ℕ) (text settings : List ℕ) (t : Tables) where
     tables = given.tables_exit ∙ ap (λ x. granted x (tables_in (lines_of text)) t) read_is
 
     pub read-refused : l.refusal ≢ 0 → ReadStored n text settings t l.refusal settings t'
-    read-refused h = record { refusal = same; settings_exit = sym (granted-refused _ _ _ (λ z. h (same ∙ z))); tables_exit = tables }
+    read-refused h = record { refusal = same; settings_exit = sym (granted_refused _ _ _ (λ z. h (same ∙ z))); tables_exit = tables }
 
     pub read_made : l.refusal ≡ 0 → (settings' : List ℕ) → settings' ≡ settings_numbers l.settings → ReadStored n text settings t 0 settings' t'
     unfolding read_answer loaded
@@ -116,7 +116,7 @@ module _ (n : ℕ) (text settings : List ℕ) (t : Tables) where
 module _ (S : Settings) (n : ℕ) (t : Tables) (out : List ℕ) (r : ℕ) (e : r ≡ lent S (parts_named n) 0) where
   pub write_unfit : r ≢ 0 → WroteStored S n t out r out 0
   unfolding overwritten
-  write_unfit h = record { refusal = same; out_exit = sym (granted-refused _ _ _ refused); count_exit = sym (granted-refused _ _ _ refused) }
+  write_unfit h = record { refusal = same; out_exit = sym (granted_refused _ _ _ refused); count_exit = sym (granted_refused _ _ _ refused) }
     where
       same : r ≡ write_number S n t out
       same = unfold write_number in e ∙ lent_stops S _ _ (λ z. h (e ∙ z))

@@ -10,7 +10,7 @@ use Rattle.std.specs.Prelude.{◌≡◌, ◌&&◌, List, [], ◌∷◌, ℕ, len
 use Rattle.protocol.specs.declared.Settings.{Settings}
 use Rattle.protocol.specs.declared.Checked.{Checked}
 use Rattle.protocol.specs.Basic.{first, unless, granted}
-use Rattle.protocol.specs.Settings.{hasLength}
+use Rattle.protocol.specs.Settings.{has_length}
 use Rattle.text_format.specs.Text.{Tables, fits, lines_of, settings_in, tables_in, look_refusal, text_refusal, text_of, write_refusal, overwritten}
 use Rattle.text_format.specs.Programs.{prove_answer, prove_exit}
 use Rattle.slices.specs.Slices.{lent}
@@ -18,14 +18,14 @@ use Rattle.protocol.specs.Session.{verdict_number}
 use Rattle.text_calls.specs.Texts.{parts_of, parts_named, settings_width, settings_numbers}
 
 unfoldable pub look_number : List ℕ → List ℕ → ℕ
-look_number text settings = first (look_refusal text ∷ unless 7 (hasLength settings_width settings) ∷ [])
+look_number text settings = first (look_refusal text ∷ unless 7 (has_length settings_width settings) ∷ [])
 
 pub record Looked (text settings : List ℕ) (r : ℕ) (settings' : List ℕ) : Type 0 where
   pub refusal : r ≡ look_number text settings
   pub settings_exit : settings' ≡ granted (look_number text settings) (settings_numbers (settings_in (lines_of text))) settings
 
 unfoldable pub read_number : ℕ → List ℕ → List ℕ → Tables → ℕ
-read_number n text settings t = text_refusal (parts_of n) (fits (settings_in (lines_of text)) (parts_of n) t && (hasLength settings_width settings && parts_named n)) text
+read_number n text settings t = text_refusal (parts_of n) (fits (settings_in (lines_of text)) (parts_of n) t && (has_length settings_width settings && parts_named n)) text
 
 pub record ReadStored (n : ℕ) (text settings : List ℕ) (t : Tables) (r : ℕ) (settings' : List ℕ) (t' : Tables) : Type 0 where
   pub refusal : r ≡ read_number n text settings t

@@ -2,6 +2,8 @@
 //
 // Settings go to a slice of five numbers: degree, depth, modulus, bound, rows. Which of parts 1 to 7 are there is a number below 128: bit 0 is the key, bit 6 the
 // claims. A refused call writes nothing to a slice.
+#![tactic(auto)]
+
 mod settings;
 
 ghost use Rattle.std.specs.Prelude.{◌≡◌, [], ◌∷◌};

@@ -3,7 +3,7 @@ use mathlib.Core.List.{flat_map, zip_with}
 use mathlib.Core.Option.{bind}
 use Rattle.protocol.specs.Basic.{sum, every, least, tabulate, flat, all, among, within, choose, first, unless, granted}
 use Rattle.protocol.specs.Element.{modulo, flips, around, rotate, product, plus, times, signed, signed_at, residue_at, coefficients, reduced}
-use Rattle.protocol.specs.Settings.{degree_allowed, depth_allowed, modulus_allowed, bound_allowed, rows_allowed, settings_refusal, size, cells, half, hasLength, all_below}
+use Rattle.protocol.specs.Settings.{degree_allowed, depth_allowed, modulus_allowed, bound_allowed, rows_allowed, settings_refusal, size, cells, half, has_length, all_below}
 use Rattle.protocol.specs.Settings.{all_within, exponent, exponents}
 use Rattle.protocol.specs.Opening.{inner, second, cross, fold_signed, fold_residues, commitment, half_left, round_element, fold_message, fold_key}
 use Rattle.protocol.specs.Opening.{message_after, key_after, final_element, round_table}
@@ -29,7 +29,7 @@ unfolding
     bind flat_map zip_with
     sum every least tabulate flat all among within choose first unless granted
     modulo flips around rotate product plus times signed signed_at residue_at coefficients reduced
-    degree_allowed depth_allowed modulus_allowed bound_allowed rows_allowed settings_refusal size cells half hasLength all_below all_within exponent exponents
+    degree_allowed depth_allowed modulus_allowed bound_allowed rows_allowed settings_refusal size cells half has_length all_below all_within exponent exponents
     inner second cross fold_signed fold_residues commitment half_left round_element fold_message fold_key message_after key_after final_element round_table
     doubled round_holds next_claim final_bounded ending end_holds element claim_after holds_at closes accepted
     key_row row_items interleaved row_of commitments round_tables transcripts_of all_accepted claim_of claim_table claim_written claims_written

@@ -8,16 +8,15 @@ use native.Mathlib.Omega.{arith}
 use borrow.Author.Tests.{le-leb}
 use lib.ListN.{length, replicate, length-replicate}
 use lib.IntN.{pos, negsuc}
-use Rattle.protocol.specs.declared.Settings.{Settings}
 use Rattle.protocol.specs.declared.Verdict.TheVariants.{Silent, Accepted, Rejected}
 use Rattle.protocol.specs.Basic.{first, unless, choose, tabulate}
-use Rattle.text_format.specs.Text.{bytes, names as namesLine, text_limit, no_settings, begins, begins_with_names, parsed, lines_of, spots_of, well_formed, look_refusal, output_refusal}
+use Rattle.text_format.specs.Text.{bytes, names as names_line, text_limit, no_settings, begins, begins_with_names, parsed, lines_of, spots_of, well_formed, look_refusal, output_refusal}
 use Rattle.text_format.specs.Text.{settings_shape, shape, shape_size, spots, same_spots}
 use Rattle.text_format.specs.Programs.{prove_reads, prove_prints, verify_reads, prove_output}
 use Rattle.text_format.specs.ProveVerify.{key_lines, head_length, with_key}
 use Rattle.text_format.proofs.ComputeText.{computed_text}
 use Rattle.text_format.proofs.ReaderLaws.{too_long_to-read, too_long_to-write}
-use Rattle.text_format.proofs.TextExamples.{names, settings, key, message, commitment, rounds, challenge, final, claim, input, with_final, with_claim, no_depth, wide_modulus, more_depth, listing}
+use Rattle.text_format.proofs.TextExamples.{names, settings, key, message, challenge, final, claim, input, with_final, with_claim, no_depth, wide_modulus, more_depth, listing}
 use Rattle.text_format.proofs.TextExamples.{example, tables, no_parts, challenge_only, final_only, all_parts, residues₂, residues₆, claims₂, listed, final_element, lent, prove_tables}
 use Rattle.text_format.proofs.TextExamples.{lent_listed, nothing, everything, deep, shallow, shallow_lent, lent_verify, lent_deep, only_challenges, only_final, widest, extremes}
 use Rattle.text_format.proofs.TextExamples.{with_settings, bound_and_rows, bounded, weights, secondʷ, listingʷ, with_second, tablesʷ, lentʷ}
@@ -215,7 +214,7 @@ over : (n : ℕ) → text_limit < n → (look_refusal (replicate n 48) ≡ 1) ×
 over n h = let l : text_limit < length {A = ℕ} (replicate n 48) = rw length-replicate h in (too_long_to-read _ l, too_long_to-write _ 0 l)
 
 under : (n : ℕ) → suc n ≤ text_limit → (look_refusal (replicate (suc n) 48) ≡ 2) × (output_refusal (replicate (suc n) 48) (suc n) ≡ 0)
-unfolding look_refusal output_refusal first unless well_formed lines_of parsed begins_with_names begins namesLine bytes spots_of settings_shape shape choose shape_size spots tabulate same_spots
+unfolding look_refusal output_refusal first unless well_formed lines_of parsed begins_with_names begins names_line bytes spots_of settings_shape shape choose shape_size spots tabulate same_spots
 under n h = (rw (length-replicate, le-leb (suc n) text_limit h), rw (length-replicate, le-leb (suc n) text_limit h, le-leb (suc n) (suc n) (omega arith)))
 
 limit-over : (look_refusal (replicate 65_537 48) ≡ 1) × (output_refusal (replicate 65_537 48) 0 ≡ 1)

@@ -1,10 +1,10 @@
 -- Laws about limits: settings and tables that are not refused have lines in which every number is within its limit of magnitude, and so have the lines of
 -- every text.
 use mathlib.Core.Path.{◌≡◌, refl, subst, ◌∙◌}
-use mathlib.Core.Bool.{Bool, true, false, ◌&&◌, and-eq-true_iff}
+use mathlib.Core.Bool.{Bool, true, false, and-eq-true_iff}
 use mathlib.Core.Option.{Option, none, some, get_or}
 use mathlib.Core.List.{List, [], ◌∷◌, ◌++◌, map, flat_map, zip_with}
-use Prim.Native.Nat.{ℕ, zero, suc, ◌*◌, ◌%◌, ◌<◌, ◌≤◌}
+use Prim.Native.Nat.{ℕ, zero, suc, ◌*◌, ◌<◌, ◌≤◌}
 use native.Mathlib.Omega.{arith}
 use native.Mathlib.Nat.{le_trans, zero-mul, pow-le-pow_right, mul-le-mul, div-le_self, mod-le}
 use lib.Dec.{leb, ltb, eqb}
@@ -19,7 +19,7 @@ use Rattle.protocol.specs.Settings.{exponent, exponents}
 use Rattle.text_format.specs.Text.{Line, Shape, Tables, value_limit, narrow_limit, limit_of, shape, settings_shape, shapes, shape_size}
 use Rattle.text_format.specs.Text.{spot_at, settings_values, contents, block, block_lines}
 use Rattle.text_format.specs.Text.{parsed, lines_of, column, entries_refusal}
-use Rattle.protocol.proofs.Tests.{first_zero, unless-zero, all-weaken, all_map, all_get_d, and_intro}
+use Rattle.protocol.proofs.Tests.{first_zero, unless-zero, all_weaken, all_map, all_get_d, and_intro}
 use Rattle.protocol.proofs.Inputs.{settings-valid, degree_most}
 use Rattle.text_format.proofs.LineLaws.{Limited, AllLimited, parsed-text}
 
@@ -134,7 +134,7 @@ unfolding entries_refusal first unless
 unrefused S last_fits t p l = rw (p.key, p.commitment, p.rounds, p.claims, p.message, l, p.challenges)
 
 pub below-limited : (most m : ℕ) (v : List ℕ) → m ≤ most → all (λ x. ltb x m) v ≡ true → all (λ x. leb x most) v ≡ true
-below-limited most m v l h = all-weaken (λ x. ltb x m) (λ x. leb x most) (λ x e. le-leb x most (omega (arith, ltb-true x m e))) v h
+below-limited most m v l h = all_weaken (λ x. ltb x m) (λ x. leb x most) (λ x e. le-leb x most (omega (arith, ltb-true x m e))) v h
 
 -- the largest exponent is far below the limit
 pub exponent-le : (S : Settings) → Allowed S → 2 * S.degree ≤ narrow_limit
@@ -152,7 +152,7 @@ exponents-limited S v a h = all_map (within narrow_limit) pos v ∙ below-limite
 small_limited : (S : Settings) (v : List ℤ) → Allowed S → all_within S.bound v ≡ true → all (within narrow_limit) v ≡ true
 unfolding all_within within narrow_limit
 small_limited S v a h =
-    all-weaken (within S.bound) (within narrow_limit) (λ z e. le-leb (nat_abs z) narrow_limit (omega (arith, leb-true (nat_abs z) S.bound e, a.bound))) v h
+    all_weaken (within S.bound) (within narrow_limit) (λ z e. le-leb (nat_abs z) narrow_limit (omega (arith, leb-true (nat_abs z) S.bound e, a.bound))) v h
 
 settings-limited : (S : Settings) → Allowed S
     → all (within value_limit) (settings_values S) ≡ true

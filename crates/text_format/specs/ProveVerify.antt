@@ -6,7 +6,7 @@
 --   keyed S key T        the tables that stand in it, T being the transcript
 --   Accepts text ..      what is owed of a listing, `text` being what `prove` read
 --   ProveVerify          that, for every text that `prove` does not refuse: as a call on text, and as a program
-use Rattle.std.specs.Prelude.{◌≡◌, true, List, [], ◌++◌, map, ℕ, ◌+◌, ◌<◌, ◌≤◌, length, take, drop, pos}
+use Rattle.std.specs.Prelude.{◌≡◌, true, List, [], ◌++◌, map, ℕ, ◌<◌, ◌≤◌, length, take, drop, pos}
 use Rattle.protocol.specs.declared.Settings.{Settings}
 use Rattle.protocol.specs.declared.Verified.TheVariants.{Accepted}
 use Rattle.protocol.specs.Layout.{key_items}

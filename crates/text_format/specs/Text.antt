@@ -71,7 +71,7 @@ use Rattle.protocol.specs.declared.Number.{Number}
 use Rattle.protocol.specs.declared.Number.TheVariants.{Value, Refused}
 use Rattle.protocol.specs.Layout.{key_items, round_items, claim_items}
 use Rattle.protocol.specs.Basic.{least, tabulate, all, among, choose, within, first, unless, granted}
-use Rattle.protocol.specs.Settings.{settings_refusal, size, hasLength, all_below, exponents, all_within}
+use Rattle.protocol.specs.Settings.{settings_refusal, size, has_length, all_below, exponents, all_within}
 
 -- PROTOCOL 7.1, refusal 1
 unfoldable pub text_limit : ℕ
@@ -231,7 +231,7 @@ unfoldable pub text_of : Settings → Parts → Tables → List ℕ
 text_of S P t = names ++ lines_text (flat_map block_lines (blocks S P t))
 
 unfoldable pub block_fits : Block → Bool
-block_fits b = hasLength (shape_size b.shape) b.values
+block_fits b = has_length (shape_size b.shape) b.values
 
 -- PROTOCOL 7.1, refusal 7: a part that is not there has no values
 unfoldable pub fits : Settings → Parts → Tables → Bool

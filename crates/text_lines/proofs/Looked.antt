@@ -22,7 +22,7 @@ use Rattle.protocol.specs.Basic.{choose, granted, among, first, unless}
 use Rattle.protocol.specs.Settings.{degree_allowed, settings_refusal}
 use Rattle.text_format.specs.Text.{Line, text_limit, lines_of, settings_in, no_settings, look_refusal, loaded, look_answer}
 use Rattle.text_format.specs.Lines.{present, all_lines, settings_of, read_settings, begun_with, begun_answer}
-use Rattle.protocol.proofs.Tests.{first_zero, unless-zero, granted-zero, granted-refused}
+use Rattle.protocol.proofs.Tests.{first_zero, unless-zero, granted-zero, granted_refused}
 use Rattle.text_lines.specs.declared.header.Header.{Header}
 use Rattle.text_lines.specs.Header.{header_answer, Begins}
 use Rattle.text_lines.proofs.Looks.{Settled, settled, settled-settings, settled-look, look-missing}
@@ -150,7 +150,7 @@ module _ (text : List ℕ) where
 
     pub begun_refused : (r : Loaded) → r ≡ look_answer text → (settings_refusal h.settings ≡ 0 → ⊥) → r ≡ begun_answer text
     unfolding begun_answer
-    begun_refused r e n = e ∙ sym (granted-refused _ _ _ (λ z. n (ap settings_refusal begins_with ∙ z)))
+    begun_refused r e n = e ∙ sym (granted_refused _ _ _ (λ z. n (ap settings_refusal begins_with ∙ z)))
 
     pub begun_granted : settings_refusal h.settings ≡ 0 → ◌≡◌ {A = Loaded} (record { refusal = 0; settings = h.settings }) (begun_answer text)
     unfolding begun_answer
@@ -170,7 +170,7 @@ module _ (text : List ℕ) where
   unfolding begun_answer begun_with
   front_allowed r e z zero f = (f, ap (λ x. x.settings) (e ∙ granted-zero _ _ _ f))
   front_allowed r e z (suc n) f =
-      let l = looked text (sym (look-number text r (e ∙ granted-refused _ _ _ (λ g. absurd (omega arith)))) ∙ z) in
+      let l = looked text (sym (look-number text r (e ∙ granted_refused _ _ _ (λ g. absurd (omega arith)))) ∙ z) in
       absurd (omega (arith, f, ap (λ o. settings_refusal (begun_with o)) l.header_is, l.allowed))
 
   pub begun_begins : (r : Loaded) (next : ℕ) → r ≡ begun_answer text → next ≡ (header_answer text (read_settings text)).next → r.refusal ≡ 0 → Begins text r.settings next

@@ -1,5 +1,7 @@
 // The lines of a text: its numbers, its lines and the settings that it begins with. What each function gives is said by the definitions of
 // `protocol`'s specs/Text.antt and specs/Lines.antt.
+#![tactic(auto)]
+
 mod header;
 mod lines;
 mod numbers;

@@ -1,4 +1,6 @@
 // The names line, the first of every text. What is asked of it is said by `begins_with_names` of `protocol`'s specs/Text.antt.
+#![tactic(auto)]
+
 ghost use Rattle.std.specs.Prelude.{◌≡◌, [], ◌∷◌, ◌≤◌, length, take};
 ghost use Rattle.text_format.specs.Text.{begins as beginsWith, begins_with_names};
 ghost use Rattle.text_names.specs.Words.{word};

@@ -16,7 +16,7 @@ use lib.IntN.{pos}
 use Rattle.protocol.specs.declared.Settings.{Settings}
 use Rattle.protocol.specs.declared.Parts.{Parts}
 use Rattle.protocol.specs.Basic.{all, every, choose}
-use Rattle.protocol.specs.Settings.{hasLength}
+use Rattle.protocol.specs.Settings.{has_length}
 use Rattle.text_format.specs.Text.{Tables, shape, settings_shape, shapes, shape_size, settings_values, contents, block, blocks, block_fits, fits}
 use Rattle.protocol.proofs.Tests.{every_at}
 use Rattle.text_parts.specs.Parts.{table_count, part_shape, lengths_of, lengths_are, lengths_fit, Exact}
@@ -30,7 +30,7 @@ and_assoc true b c = refl
 and_assoc false b c = refl
 
 pub lengths-fit : (S : Settings) (P : Parts) (t : Tables) → lengths_fit S P (lengths_of t) ≡ fits S P t
-unfolding lengths_are every lengths_of part_shape fits blocks shapes contents settings_values zip_with all block_fits block hasLength settings_shape shape choose shape_size
+unfolding lengths_are every lengths_of part_shape fits blocks shapes contents settings_values zip_with all block_fits block has_length settings_shape shape choose shape_size
 lengths-fit S P t = simp (and_assoc, same_count t.key, same_count t.commitment, same_count t.rounds, same_count t.challenges, same_count t.claims, and-true)
 
 module _ (S : Settings) (P : Parts) (t : Tables) (h : fits S P t ≡ true) where

@@ -12,7 +12,7 @@ use native.Mathlib.Omega.{arith}
 use native.Mathlib.Numerals.{add-one}
 use lib.ListN.{length, get_or, take, drop, length-append, length-map}
 use lib.Seq.{take-append_seam, drop-append-add}
-use lib.IntN.{ℤ, pos}
+use lib.IntN.{ℤ}
 use Rattle.text_format.specs.Text.{Tables, contents}
 use Rattle.text_parts.specs.Parts.{table_count, lengths_of}
 use Rattle.text_parts.specs.Flat.{start, total, piece, joined, table_values}

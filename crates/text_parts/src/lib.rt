@@ -1,4 +1,6 @@
 // The parts of a text: what their lines are. One description for the reader and for the writer.
+#![tactic(auto)]
+
 ghost use Rattle.std.specs.Prelude.{◌≡◌};
 ghost use Rattle.text_format.specs.Text.{shape, settings_shape, shape_size};
 ghost use Rattle.text_parts.specs.Parts.{tables_of, as_shape, next_cell, part_of, lengths_of, lengths_are, tested_by};

@@ -1,4 +1,6 @@
 // All values of a text, gathered part after part before any of them is tested or stored.
+#![tactic(auto)]
+
 mod parts;
 
 ghost use Rattle.std.specs.Prelude.{◌≡◌, true, ◌≤◌, length};

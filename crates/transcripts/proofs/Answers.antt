@@ -9,14 +9,14 @@ use lib.IntN.{ℤ}
 use Rattle.protocol.specs.declared.Settings.{Settings}
 use Rattle.protocol.specs.declared.Checked.{Checked}
 use Rattle.protocol.specs.declared.Verdict.TheVariants.{Silent}
-use Rattle.protocol.specs.Settings.{hasLength, all_below, residue_rows}
+use Rattle.protocol.specs.Settings.{has_length, all_below, residue_rows}
 use Rattle.protocol.specs.Transcript.{Transcript}
 use Rattle.protocol.specs.Rows.{together, all_accepted}
 use Rattle.protocol.specs.Session.{verdict, verdict_number}
 use Rattle.protocol.specs.Calls.{check_refusal, check_answer, check_number}
 use Rattle.protocol.specs.Layout.{width, key_cells, round_cells}
 use Rattle.protocol.proofs.Answers.{check-number}
-use Rattle.protocol.proofs.Tests.{and_split, granted-zero, granted-refused}
+use Rattle.protocol.proofs.Tests.{and_split, granted-zero, granted_refused}
 use Rattle.protocol.proofs.Inputs.{settings-valid, tested-below}
 use Rattle.protocol.proofs.Refusals.{none-refused}
 use Rattle.sizes.proofs.Limits.{degree_most}
@@ -24,7 +24,7 @@ use Rattle.transcripts.specs.Given.{TranscriptGiven}
 
 module _ (S : Settings) (C key rounds E : List ℕ) where
   pub passed : (x : ℕ) → x ≡ width → check_refusal S C key rounds E ≡ 0 → TranscriptGiven S x key rounds E
-  unfolding check_refusal hasLength all_below
+  unfolding check_refusal has_length all_below
   passed x long e =
       let (settings, (sizes, (numbers, _))) = none-refused ((6, _) ∷ (7, _) ∷ (9, _) ∷ []) e in
       let (left, challenges) = and_split sizes in
@@ -49,7 +49,7 @@ module _ (S : Settings) (C key rounds E : List ℕ) where
 
     pub refused : (n : ℕ) → n ≡ check_refusal S C key rounds E → (n ≡ 0 → ⊥) → ◌≡◌ {A = Checked} (record { refusal = n; verdict = Silent }) (check_answer S C f key rounds E)
     unfolding check_answer
-    refused n e r = λ i. record { refusal = e i; verdict = sym (granted-refused (check_refusal S C key rounds E) (verdict (all_accepted S key T)) Silent (λ z. r (e ∙ z))) i }
+    refused n e r = λ i. record { refusal = e i; verdict = sym (granted_refused (check_refusal S C key rounds E) (verdict (all_accepted S key T)) Silent (λ z. r (e ∙ z))) i }
 
     pub decided : (b : Bool) → check_refusal S C key rounds E ≡ 0 → b ≡ all_accepted S key T → ◌≡◌ {A = Checked} (record { refusal = 0; verdict = verdict b }) (check_answer S C f key rounds E)
     unfolding check_answer

@@ -1,4 +1,6 @@
 // The check of a whole transcript: its refusal, and then row by row a core on slices that copies no element of the tables.
+#![tactic(auto)]
+
 ghost use Rattle.std.specs.Prelude.{true, ◌≡◌, ◌<◌, length};
 ghost use Rattle.protocol.specs.Basic.{every, Provided};
 ghost use Rattle.protocol.specs.Layout.{item_cells, round_items};

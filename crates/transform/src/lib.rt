@@ -1,5 +1,7 @@
 // Inner products modulo 12289 by the transform. Sixteen elements of either table are transformed side by side, their products are added up place by place, and the
 // sums come back once. What is transformed of a message serves every row of a key. Every function is safe for every input.
+#![tactic(auto)]
+
 ghost use Rattle.std.specs.Prelude.{◌≡◌, ℕ, ◌+◌, ◌-◌, ◌*◌, ◌/◌, ◌%◌, ◌^◌, ◌<◌, ◌≤◌, length, slice_index, unsigned_abs};
 ghost use Rattle.algebra.specs.Integers.{ofℤ};
 ghost use Rattle.protocol.specs.Basic.{Provided, tabulate};

@@ -1,4 +1,6 @@
 // The check of every path of a tree (refusal 13).
+#![tactic(auto)]
+
 mod nodes;
 mod rows;
 

@@ -22,7 +22,7 @@ use Rattle.protocol.specs.Session.{slots, verdict, opened, blank, start_refusal,
 use Rattle.protocol.specs.Session.{session_end_holds, end, verdict_number, session_round_number, session_end_number}
 use Rattle.protocol.proofs.Answers.{session-round-number, session-end-number}
 use Rattle.protocol.proofs.Inputs.{tested-below}
-use Rattle.protocol.proofs.Tests.{and_split, granted-zero, granted-refused}
+use Rattle.protocol.proofs.Tests.{and_split, granted-zero, granted_refused}
 use Rattle.protocol.proofs.Refusals.{none-refused}
 use Rattle.row_equations.specs.Given.{RowsEvaluable}
 use Rattle.verifier_refusals.specs.declared.Progress.{Progress}
@@ -38,7 +38,7 @@ module _ (S : Settings) (C : List ℕ) where
 
   pub start-refused : (n : ℕ) (none : Session) → n ≡ start_refusal S C → (n ≡ 0 → ⊥) → none ≡ blank → ◌≡◌ {A = Started} (record { refusal = n; next = none }) (start S C)
   unfolding start
-  start-refused n none e r b = let next = b ∙ sym (granted-refused (start_refusal S C) (opened S C) blank (λ z. r (e ∙ z))) in λ i. record { refusal = e i; next = next i }
+  start-refused n none e r b = let next = b ∙ sym (granted_refused (start_refusal S C) (opened S C) blank (λ z. r (e ∙ z))) in λ i. record { refusal = e i; next = next i }
 
   pub start-done : start_refusal S C ≡ 0 → (claims : List ℕ) → claims ≡ at_rows S (row_read S C)
       → ◌≡◌ {A = Started} (record { refusal = 0; next = record { settings = S; done = 0; claims = claims; challenges = zeros slots; closed = false } }) (start S C)
@@ -81,7 +81,7 @@ module _ (b : Progress) (own : List ℕ) (w : ℕ) (c0 c1 c2 : List ℕ) (e : �
 
   pub round_refused : (n : ℕ) → n ≡ session_round_refusal r p e → (n ≡ 0 → ⊥) → ◌≡◌ {A = Moved} (record { refusal = n; verdict = Silent; next = r }) (round r p e)
   unfolding round refused_move
-  round_refused n f s = (λ i. record { refusal = f i; verdict = Silent; next = r }) ∙ sym (granted-refused (session_round_refusal r p e) _ _ (λ z. s (f ∙ z)))
+  round_refused n f s = (λ i. record { refusal = f i; verdict = Silent; next = r }) ∙ sym (granted_refused (session_round_refusal r p e) _ _ (λ z. s (f ∙ z)))
 
   made : session_round_refusal r p e ≡ 0 → (t : Bool) → session_round_holds r p ≡ t →
       round r p e ≡ choose t (record { refusal = 0; verdict = Holds; next = advanced r p e }) (record { refusal = 0; verdict = Rejected; next = shut r })
@@ -123,7 +123,7 @@ module _ (b : Progress) (own : List ℕ) (f : List ℤ) (key : List ℕ) where
 
   pub end_refused : (n : ℕ) → n ≡ session_end_refusal closing key → (n ≡ 0 → ⊥) → ◌≡◌ {A = Moved} (record { refusal = n; verdict = Silent; next = closing }) (end closing f key)
   unfolding end refused_move
-  end_refused n e s = (λ i. record { refusal = e i; verdict = Silent; next = closing }) ∙ sym (granted-refused (session_end_refusal closing key) _ _ (λ z. s (e ∙ z)))
+  end_refused n e s = (λ i. record { refusal = e i; verdict = Silent; next = closing }) ∙ sym (granted_refused (session_end_refusal closing key) _ _ (λ z. s (e ∙ z)))
 
   pub end_done : session_end_refusal closing key ≡ 0 → (t : Bool) → session_end_holds closing f key ≡ t → (next : Progress) → next ≡ shut_of b →
       ◌≡◌ {A = Moved} (record { refusal = 0; verdict = verdict t; next = record_of next own }) (end closing f key)

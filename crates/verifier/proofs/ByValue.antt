@@ -20,7 +20,7 @@ use Rattle.protocol.proofs.Agreement.{Same, every_ext, claim_same, round_same}
 use Rattle.protocol.proofs.Inputs.{settings-valid}
 use Rattle.protocol.proofs.Reading.{tabulate_ext}
 use Rattle.protocol.proofs.Rows.{value_row_at}
-use Rattle.protocol.proofs.Tests.{first_zero, granted-zero, granted-refused}
+use Rattle.protocol.proofs.Tests.{first_zero, granted-zero, granted_refused}
 use Rattle.slices.proofs.Rows.{at_rows_ext}
 use Rattle.sizes.proofs.Limits.{degree_most}
 use Rattle.verifier_refusals.specs.Lent.{lent_rows, lent_polynomial, RowsLent}
@@ -72,7 +72,7 @@ module _ (S : Settings) where
         go zero z = granted-zero _ _ _ (refusal_same ∙ z) ∙ opened_same (start-allowed S C z) ∙ sym (granted-zero _ _ _ z)
         go (suc n) z =
             let no : start_refusal S C ≢ 0 = λ h. let never = sym z ∙ h in omega arith in
-            granted-refused _ _ _ (λ h. no (sym refusal_same ∙ h)) ∙ sym (granted-refused _ _ _ no)
+            granted_refused _ _ _ (λ h. no (sym refusal_same ∙ h)) ∙ sym (granted_refused _ _ _ no)
 
 -- ---- round
 
@@ -116,4 +116,4 @@ module _ (r : Session) (p : List (List ℕ)) (e : ℕ) where
           ∙ sym (granted-zero _ _ _ z)
       go (suc n) z =
           let no : session_round_refusal r p e ≢ 0 = λ h. let never = sym z ∙ h in omega arith in
-          granted-refused _ _ _ (λ h. no (sym turn-refusal_same ∙ h)) ∙ ap (refused_move r) turn-refusal_same ∙ sym (granted-refused _ _ _ no)
+          granted_refused _ _ _ (λ h. no (sym turn-refusal_same ∙ h)) ∙ ap (refused_move r) turn-refusal_same ∙ sym (granted_refused _ _ _ no)

@@ -1,4 +1,6 @@
 // The verifier's session (PROTOCOL 4): moves by value, from one record to the next. Each is one on a record whose claims are lent, which copies no element.
+#![tactic(auto)]
+
 ghost use Rattle.std.specs.Prelude.{◌≡◌, ◌*◌, ◌<◌, ◌≤◌, length};
 ghost use Rattle.protocol.specs.Basic.{Provided};
 ghost use Rattle.protocol.specs.Element.{zeros};

@@ -1,4 +1,6 @@
 // The refusals of the verifier's session and of the check of a transcript. Each function is its call's list of tests, as in `prover_refusals`.
+#![tactic(auto)]
+
 pub mod session;
 pub mod transcript;
 

@@ -16,7 +16,7 @@ use Rattle.protocol.specs.declared.Settings.{Settings}
 use Rattle.protocol.specs.Basic.{choose}
 use Rattle.protocol.specs.Layout.{key_cells, item_cells, round_cells, claim_cells}
 use Rattle.protocol.specs.Inputs.{Below}
-use Rattle.protocol.specs.Settings.{hasLength, all_below}
+use Rattle.protocol.specs.Settings.{has_length, all_below}
 use Rattle.text_format.specs.Text.{Tables, shape, shapes, shape_size, entries_refusal}
 use Rattle.text_format.specs.Programs.{verify_reads}
 use Rattle.protocol.proofs.Tests.{and_split, first_zero, unless-zero}
@@ -71,14 +71,14 @@ module _ (S : Settings) (t : Tables) (g : Given S t) where
   all_residues = let (k, r) = and_split (unless-zero 7 _ (first_zero _ _ g.entries).0) in (k, and_split r)
 
   rounds_residues : Below S.modulus (round_cells S) t.rounds
-  unfolding all_below hasLength
+  unfolding all_below has_length
   rounds_residues = tested-below S.modulus _ t.rounds (eq-eqb _ _ long.rounds) (and_split {a = all_below S t.rounds} all_residues.1.1).0
 
   pub claims_given : claim-tables.Given S t.rounds
   claims_given = record { allowed = g.settings; rounds_below = rounds_residues }
 
   pub transcript_given : TranscriptGiven S (length t.last) t.key t.rounds t.challenges
-  unfolding all_below hasLength
+  unfolding all_below has_length
   transcript_given = record {
     allowed = g.settings;
     key_below = tested-below S.modulus _ t.key (eq-eqb _ _ long.key) all_residues.0;

@@ -21,7 +21,7 @@ use Rattle.protocol.specs.Layout.{key_cells, round_cells}
 use Rattle.text_format.specs.Text.{Tables, shape, shapes, shape_size, fits, wanted, lines_of, spots_of, same_spots, settings_in, look_refusal, look_answer}
 use Rattle.text_format.specs.Promises.{Read}
 use Rattle.text_format.specs.Programs.{verify_reads, tables_accepted, verify_refusal, verify_answer}
-use Rattle.protocol.proofs.Tests.{granted-zero, granted-refused}
+use Rattle.protocol.proofs.Tests.{granted-zero, granted_refused}
 use Rattle.text_parts.specs.Parts.{part_shape, lengths_of, cells_room}
 use Rattle.text_parts.proofs.Exactly.{exact-fits}
 use Rattle.table_reader.specs.Parts.{Lent}
@@ -36,7 +36,7 @@ module _ (text : List ℕ) where
 
   refused_is : (n : ℕ) → verify_refusal text ≡ n → (n ≡ 0 → ⊥) → Refused n ≡ verify_answer text
   unfolding verify_answer
-  refused_is n e h = ap Refused (sym e) ∙ sym (granted-refused (verify_refusal text) _ _ (λ z. h (sym e ∙ z)))
+  refused_is n e h = ap Refused (sym e) ∙ sym (granted_refused (verify_refusal text) _ _ (λ z. h (sym e ∙ z)))
 
   -- ---- a first look
 

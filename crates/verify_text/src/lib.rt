@@ -1,4 +1,6 @@
 // The program `verify` as a call on text: its settings, its tables, the check of its transcript and of the claims that are written beside it.
+#![tactic(auto)]
+
 ghost use Rattle.std.specs.Prelude.{◌≡◌, [], ◌≤◌, length};
 ghost use Rattle.protocol.specs.Basic.{choose};
 ghost use Rattle.protocol.specs.Layout.{width, rows_width, slots};

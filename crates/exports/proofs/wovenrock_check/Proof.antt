@@ -4,7 +4,7 @@ use borrow.Author.Tests.{eqb-true}
 use Rattle.protocol.specs.declared.Checked.{Checked}
 use Rattle.protocol.specs.Element.{padded_signed}
 use Rattle.protocol.specs.Layout.{item_cells}
-use Rattle.protocol.specs.Settings.{hasLength}
+use Rattle.protocol.specs.Settings.{has_length}
 use Rattle.protocol.specs.Calls.{check_refusal, check_answer}
 use Rattle.protocol.proofs.Tests.{and_split}
 use Rattle.slices.specs.Slices.{given, values_of}
@@ -17,22 +17,22 @@ use Rattle.exports.proofs.wovenrock_check.Statement.{statement}
 use Rattle.exports.proofs.wovenrock_check.Tie as tie
 
 returns-then-refusal-ne0 : tie.Need-returns-then-refusal-ne0
-unfolding check_number check_verdict hasLength
+unfolding check_number check_verdict has_length
 returns-then-refusal-ne0 c =
     let a = c.args in
     let S = given a.degree a.depth a.modulus a.bound a.rows in
     let border = both_counted S c.item_cells.ensures.0 a.commitment.now a.degree a.last.now c.both-fits.ensures c.refusal-refusal.ensures in
     let answer = check_answer S (values_of S a.commitment.now) (padded_signed a.degree a.last.now) a.key.now a.rounds.now a.challenges.now in
-    let fits = hasLength (item_cells S) a.commitment.now && hasLength a.degree a.last.now in
+    let fits = has_length (item_cells S) a.commitment.now && has_length a.degree a.last.now in
     let (p, q) = unfit S fits answer.refusal (verdict_number answer.verdict) 0 _ border c.if-refusal-ne0.true in
     record { refusal = p; verdict_exit = q }
 
 returns : tie.Need-returns
-unfolding check_number check_verdict check_answer hasLength
+unfolding check_number check_verdict check_answer has_length
 returns c =
     let a = c.args in
     let S = given a.degree a.depth a.modulus a.bound a.rows in
-    let fits = hasLength (item_cells S) a.commitment.now && hasLength a.degree a.last.now in
+    let fits = has_length (item_cells S) a.commitment.now && has_length a.degree a.last.now in
     let border = both_counted S c.item_cells.ensures.0 a.commitment.now a.degree a.last.now c.both-fits.ensures c.refusal-refusal.ensures in
     let nothing = c.if-refusal-ne0.false in
     let passed = sym border ∙ nothing in

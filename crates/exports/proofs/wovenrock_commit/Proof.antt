@@ -3,7 +3,7 @@ use native.Mathlib.Nat as Nat
 use native.Mathlib.Decide.{ℕ_discrete}
 use borrow.Author.Tests.{eqb-true}
 use Rattle.protocol.specs.Layout.{item_cells}
-use Rattle.protocol.specs.Settings.{hasLength}
+use Rattle.protocol.specs.Settings.{has_length}
 use Rattle.protocol.specs.Rows.{together}
 use Rattle.protocol.specs.Calls.{commit_answer}
 use Rattle.slices.specs.Slices.{given}
@@ -16,18 +16,18 @@ use Rattle.exports.proofs.wovenrock_commit.Statement.{statement}
 use Rattle.exports.proofs.wovenrock_commit.Tie as tie
 
 returns-then-refusal-ne0 : tie.Need-returns-then-refusal-ne0
-unfolding commit_number commit_exit hasLength
+unfolding commit_number commit_exit has_length
 returns-then-refusal-ne0 c =
     let a = c.args in
     let S = given a.degree a.depth a.modulus a.bound a.rows in
     let border = counted S c.item_cells.ensures.0 a.commitment.now c.refusal-refusal.ensures in
     let answer = commit_answer S a.key.now a.message.now in
-    let (p, q) = unfit S (hasLength (item_cells S) a.commitment.now) answer.refusal (together S answer.commitment) a.commitment.now _ border c.if-refusal-ne0.true in
+    let (p, q) = unfit S (has_length (item_cells S) a.commitment.now) answer.refusal (together S answer.commitment) a.commitment.now _ border c.if-refusal-ne0.true in
     record { refusal = p; commitment_exit = q }
 
 -- what the call leaves, whether it is refused or not
 returns : tie.Need-returns
-unfolding commit_number commit_exit hasLength commit_answer
+unfolding commit_number commit_exit has_length commit_answer
 returns c =
     let a = c.args in
     let S = given a.degree a.depth a.modulus a.bound a.rows in
@@ -43,10 +43,10 @@ returns c =
     elim (ℕ_discrete to.result 0) [
       | yes none ↦
           let stored = commit-stored S (lent_allowed S _ passed) G m (sym to.ensures.refusal ∙ none) C _ (to.auto.out ∙ long) (to.ensures.written none (Nat.le_of_eq (sym long))) in
-          let (p, q) = made S (hasLength (item_cells S) C) answer.refusal (together S answer.commitment) C _ border nothing _ to.ensures.refusal none _ stored in
+          let (p, q) = made S (has_length (item_cells S) C) answer.refusal (together S answer.commitment) C _ border nothing _ to.ensures.refusal none _ stored in
           record { refusal = none ∙ p; commitment_exit = q }
       | no some ↦
-          let (p, q) = refused S (hasLength (item_cells S) C) answer.refusal (together S answer.commitment) C _ border nothing _ to.ensures.refusal some in
+          let (p, q) = refused S (has_length (item_cells S) C) answer.refusal (together S answer.commitment) C _ border nothing _ to.ensures.refusal some in
           record { refusal = p; commitment_exit = to.ensures.kept some ∙ q }
     ]
 

@@ -2,7 +2,7 @@ use mathlib.Core.Path.{sym, ap, ◌∙◌}
 use borrow.Author.Tests.{eqb-true}
 use lib.ListN.{take}
 use Rattle.protocol.specs.declared.Ended.{Ended}
-use Rattle.protocol.specs.Settings.{hasLength}
+use Rattle.protocol.specs.Settings.{has_length}
 use Rattle.protocol.specs.Calls.{end_answer}
 use Rattle.slices.specs.Slices.{given}
 use Rattle.slices.proofs.Lent.{lent_fits, lent_degree}
@@ -13,16 +13,16 @@ use Rattle.exports.proofs.wovenrock_end.Statement.{statement}
 use Rattle.exports.proofs.wovenrock_end.Tie as tie
 
 returns-then-refusal-ne0 : tie.Need-returns-then-refusal-ne0
-unfolding end_number end_exit hasLength
+unfolding end_number end_exit has_length
 returns-then-refusal-ne0 c =
     let a = c.args in
     let S = given a.degree a.depth a.modulus a.bound a.rows in
     let answer = end_answer S a.done a.message.now in
-    let (p, q) = unfit S (hasLength a.degree a.last.now) answer.refusal (take a.degree answer.last) a.last.now _ c.refusal-refusal.ensures c.if-refusal-ne0.true in
+    let (p, q) = unfit S (has_length a.degree a.last.now) answer.refusal (take a.degree answer.last) a.last.now _ c.refusal-refusal.ensures c.if-refusal-ne0.true in
     record { refusal = p; last_exit = q }
 
 returns-then-answer-ne0 : tie.Need-returns-then-answer-ne0
-unfolding end_number end_exit hasLength
+unfolding end_number end_exit has_length
 returns-then-answer-ne0 c =
     let at-end = c in
     let at-if1 = at-end in
@@ -31,12 +31,12 @@ returns-then-answer-ne0 c =
     let answer = end_answer S a.done a.message.now in
     let same = ap (λ (r : Ended). r.refusal) at-end.end-answer.ensures in
     let (p, q) =
-    refused S (hasLength a.degree a.last.now) answer.refusal (take a.degree answer.last) a.last.now _ at-if1.refusal-refusal.ensures at-if1.if-refusal-ne0.false
+    refused S (has_length a.degree a.last.now) answer.refusal (take a.degree answer.last) a.last.now _ at-if1.refusal-refusal.ensures at-if1.if-refusal-ne0.false
     _ same c.if-answer-ne0.true in
     record { refusal = p; last_exit = q }
 
 returns : tie.Need-returns
-unfolding end_number end_exit hasLength
+unfolding end_number end_exit has_length
 returns c =
     let a = c.args in
     let S = given a.degree a.depth a.modulus a.bound a.rows in
@@ -47,7 +47,7 @@ returns c =
     let passed = sym border ∙ nothing in
     let stored = c.store_wholes.ensures (lent_degree S _ passed) (eqb-true _ _ (lent_fits S _ passed)) in
     let (p, q) =
-    made S (hasLength a.degree a.last.now) answer.refusal (take a.degree answer.last) a.last.now _ border nothing
+    made S (has_length a.degree a.last.now) answer.refusal (take a.degree answer.last) a.last.now _ border nothing
     _ (ap (λ (r : Ended). r.refusal) given-answer) c.if-answer-ne0.false _ (stored ∙ ap (λ (r : Ended). take a.degree r.last) given-answer) in
     record { refusal = p; last_exit = q }
 

@@ -1,7 +1,7 @@
 use mathlib.Core.Path.{sym, ap, ◌∙◌}
 use borrow.Author.Tests.{eqb-true}
 use Rattle.protocol.specs.Layout.{item_cells}
-use Rattle.protocol.specs.Settings.{hasLength}
+use Rattle.protocol.specs.Settings.{has_length}
 use Rattle.protocol.specs.Calls as Calls
 use Rattle.slices.specs.Slices.{given, values_of}
 use Rattle.slices.proofs.Lent.{lent_passes, lent_fits, lent_allowed}
@@ -18,7 +18,7 @@ refusal-refusal-requires : tie.Need-refusal-refusal-requires
 refusal-refusal-requires c κs = search rules
 
 returns-then-refusal-ne0 : tie.Need-returns-then-refusal-ne0
-unfolding extract_number extract_exit hasLength
+unfolding extract_number extract_exit has_length
 returns-then-refusal-ne0 c =
     let a = c.args in
     let S = given a.degree a.depth a.modulus a.bound a.rows in
@@ -26,7 +26,7 @@ returns-then-refusal-ne0 c =
     let C = values_of S a.commitment.now in
     let N = Calls.extract_refusal S C a.key.now a.rounds.now a.challenges.now a.leaves.now a.w.now in
     let exit = Calls.extract_exit S C a.key.now a.rounds.now a.challenges.now a.leaves.now a.w.now in
-    let (p, q) = unfit S (hasLength (item_cells S) a.commitment.now) N exit a.w.now _ border c.if-refusal-ne0.true in
+    let (p, q) = unfit S (has_length (item_cells S) a.commitment.now) N exit a.w.now _ border c.if-refusal-ne0.true in
     record { refusal = p; w_exit = q }
 
 residues-c-requires : tie.Need-residues-c-requires
@@ -39,11 +39,11 @@ shape_of-w : tie.Need-shape_of-w
 shape_of-w c = search rules
 
 returns : tie.Need-returns
-unfolding extract_number extract_exit Calls.extract_exit hasLength
+unfolding extract_number extract_exit Calls.extract_exit has_length
 returns c =
     let a = c.args in
     let S = given a.degree a.depth a.modulus a.bound a.rows in
-    let fits = hasLength (item_cells S) a.commitment.now in
+    let fits = has_length (item_cells S) a.commitment.now in
     let border = counted S c.item_cells.ensures.0 a.commitment.now c.refusal-refusal.ensures in
     let nothing = c.if-refusal-ne0.false in
     let passed = sym border ∙ nothing in

@@ -4,7 +4,7 @@ use borrow.Author.Tests.{eqb-true}
 use Rattle.protocol.specs.declared.Judged.{Judged}
 use Rattle.protocol.specs.Basic.{choose}
 use Rattle.protocol.specs.Layout.{item_cells}
-use Rattle.protocol.specs.Settings.{hasLength}
+use Rattle.protocol.specs.Settings.{has_length}
 use Rattle.protocol.specs.Calls.{judge_refusal, judge_answer}
 use Rattle.slices.specs.Slices.{given, values_of}
 use Rattle.slices.proofs.Elements.{as_number}
@@ -22,13 +22,13 @@ refusal-refusal-requires : tie.Need-refusal-refusal-requires
 refusal-refusal-requires c κs = search rules
 
 returns-then-refusal-ne0 : tie.Need-returns-then-refusal-ne0
-unfolding judge_number judge_yes hasLength
+unfolding judge_number judge_yes has_length
 returns-then-refusal-ne0 c =
     let a = c.args in
     let S = given a.degree a.depth a.modulus a.bound a.rows in
     let border = counted S c.item_cells.ensures.0 a.commitment.now c.refusal-refusal.ensures in
     let answer = judge_answer S (values_of S a.commitment.now) a.slack a.key.now a.w.now in
-    let (p, q) = unfit {A = ℕ} S (hasLength (item_cells S) a.commitment.now) answer.refusal (choose answer.yes 1 0) 0 _ border c.if-refusal-ne0.true in
+    let (p, q) = unfit {A = ℕ} S (has_length (item_cells S) a.commitment.now) answer.refusal (choose answer.yes 1 0) 0 _ border c.if-refusal-ne0.true in
     record { refusal = p; yes_exit = q }
 
 residues-c-requires : tie.Need-residues-c-requires
@@ -41,11 +41,11 @@ overflow_cast-yes : tie.Need-overflow_cast-yes
 overflow_cast-yes c = search rules
 
 returns : tie.Need-returns
-unfolding judge_number judge_yes judge_answer hasLength
+unfolding judge_number judge_yes judge_answer has_length
 returns c =
     let a = c.args in
     let S = given a.degree a.depth a.modulus a.bound a.rows in
-    let fits = hasLength (item_cells S) a.commitment.now in
+    let fits = has_length (item_cells S) a.commitment.now in
     let border = counted S c.item_cells.ensures.0 a.commitment.now c.refusal-refusal.ensures in
     let nothing = c.if-refusal-ne0.false in
     let passed = sym border ∙ nothing in

@@ -1,6 +1,6 @@
 use mathlib.Core.Path.{sym, ap, ◌∙◌}
 use borrow.Author.Tests.{eqb-true}
-use Rattle.protocol.specs.Settings.{hasLength}
+use Rattle.protocol.specs.Settings.{has_length}
 use Rattle.protocol.proofs.Tests.{and_split}
 use Rattle.slices.specs.Slices.{given}
 use Rattle.slices.proofs.Lent.{lent_fits, lent_allowed, lent_degree}
@@ -10,7 +10,7 @@ use Rattle.exports.proofs.wovenrock_open.Statement.{statement}
 use Rattle.exports.proofs.wovenrock_open.Tie as tie
 
 returns-then-refusal-ne0 : tie.Need-returns-then-refusal-ne0
-unfolding hasLength
+unfolding has_length
 returns-then-refusal-ne0 c =
     let a = c.args in
     let S = given a.degree a.depth a.modulus a.bound a.rows in
@@ -19,7 +19,7 @@ returns-then-refusal-ne0 c =
     border c.if-refusal-ne0.true
 
 returns-then-answer-ne0 : tie.Need-returns-then-answer-ne0
-unfolding hasLength
+unfolding has_length
 returns-then-answer-ne0 c =
     let a = c.args in
     let S = given a.degree a.depth a.modulus a.bound a.rows in
@@ -28,7 +28,7 @@ returns-then-answer-ne0 c =
     border c.if-refusal-ne0.false _ _ _ _ c.open-answer.ensures c.if-answer-ne0.true
 
 returns : tie.Need-returns
-unfolding hasLength
+unfolding has_length
 returns c =
     let a = c.args in
     let S = given a.degree a.depth a.modulus a.bound a.rows in

@@ -1,4 +1,4 @@
-use Rattle.std.proofs.Common.{◌≡◌, ◌+◌, ◌-◌, ◌^◌, ◌<◌, ◌≤◌, sym, ◌∙◌, mod-eq_of_lt, arith, rules}
+use Rattle.std.proofs.Common.{◌≡◌, ◌+◌, ◌-◌, sym, ◌∙◌, mod-eq_of_lt, arith, rules}
 use native.Mathlib.Nat.{mod-eq-sub-mod}
 use Rattle.residues.proofs.plus.Statement.{statement}
 use Rattle.residues.proofs.plus.Tie as tie

@@ -6,7 +6,7 @@ use borrow.Author.Tests.{eqb-true}
 use lib.Dec.{eqb, leb}
 use lib.ListN.{length, get_or, take, drop}
 use Rattle.protocol.specs.Element.{padded_signed}
-use Rattle.protocol.specs.Settings.{hasLength}
+use Rattle.protocol.specs.Settings.{has_length}
 use Rattle.protocol.specs.Session.{end}
 use Rattle.protocol.proofs.Tests.{and_split}
 use Rattle.slices.specs.Slices.{lent}
@@ -28,7 +28,7 @@ returns-then-session-ne-RECORD : tie.Need-returns-then-session-ne-RECORD
 returns-then-session-ne-RECORD c = move_nowhere _ _ c.args.session.now c.if-session-ne-RECORD.true
 
 returns-then-refusal-ne0 : tie.Need-returns-then-refusal-ne0
-unfolding last_fits flagged hasLength session_of
+unfolding last_fits flagged has_length session_of
 returns-then-refusal-ne0 c =
     let a = c.args in
     let loaded = c.load-before in
@@ -42,7 +42,7 @@ slice_bounds-end_on-end-2 : tie.Need-slice_bounds-end_on-end-2
 slice_bounds-end_on-end-2 c = search rules
 
 returns : tie.Need-returns
-unfolding last_fits end_on flagged hasLength session_of
+unfolding last_fits end_on flagged has_length session_of
 returns c =
     let at-end = c in
     let at-wholes = at-end in

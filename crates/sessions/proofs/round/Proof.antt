@@ -7,7 +7,7 @@ use lib.Dec.{eqb, leb}
 use lib.ListN.{length, get_or, take, drop}
 use Rattle.protocol.specs.declared.Settings.{Settings}
 use Rattle.protocol.specs.Layout.{item_cells, polynomial_cells}
-use Rattle.protocol.specs.Settings.{settings_refusal, hasLength}
+use Rattle.protocol.specs.Settings.{settings_refusal, has_length}
 use Rattle.protocol.specs.Session.{round}
 use Rattle.protocol.proofs.Tests.{and_split}
 use Rattle.slices.specs.Slices.{lent, polynomial_of}
@@ -31,7 +31,7 @@ returns-then-session-ne-RECORD : tie.Need-returns-then-session-ne-RECORD
 returns-then-session-ne-RECORD c = move_nowhere _ _ c.args.session.now c.if-session-ne-RECORD.true
 
 returns-then-refusal-ne0 : tie.Need-returns-then-refusal-ne0
-unfolding polynomial_fits flagged hasLength session_of
+unfolding polynomial_fits flagged has_length session_of
 returns-then-refusal-ne0 c =
     let a = c.args in
     let loaded = c.load-before in
@@ -90,7 +90,7 @@ slice_bounds-round_on-start-2 : tie.Need-slice_bounds-round_on-start-2
 slice_bounds-round_on-start-2 c = omega (arith, whole c.before.before)
 
 returns : tie.Need-returns
-unfolding polynomial_fits round_on flagged hasLength session_of
+unfolding polynomial_fits round_on flagged has_length session_of
 returns c =
     let no = c in
     let a = (s no.before.before.before.before.before.before.before.before.before.before.before.before).args in

@@ -8,7 +8,7 @@ use lib.Dec.{eqb}
 use lib.ListN.{length}
 use Rattle.protocol.specs.declared.Settings.{Settings}
 use Rattle.protocol.specs.Layout.{item_cells}
-use Rattle.protocol.specs.Settings.{settings_refusal, hasLength}
+use Rattle.protocol.specs.Settings.{settings_refusal, has_length}
 use Rattle.slices.specs.Slices.{lent}
 use Rattle.protocol.proofs.Tests.{and_split}
 use Rattle.slices.proofs.Lent.{lent_same, lent_fits}
@@ -28,8 +28,8 @@ sized S x y n e = lent_same S _ _ 0 (λ z. ap (λ m. eqb x m && eqb y record_wid
 
 -- the refusal, and what is known where there is none
 refused : (c : tie.After-refusal-refusal) → let a = c.args in c.refusal-refusal.result ≡ lent a.settings
-    (hasLength (item_cells a.settings) a.commitment.now && hasLength record_width a.session.now) 0
-unfolding hasLength
+    (has_length (item_cells a.settings) a.commitment.now && has_length record_width a.session.now) 0
+unfolding has_length
 refused c =
     let a = c.args in
     c.refusal-refusal.ensures ∙ ap (λ b. lent a.settings b 0) c.both-fits.ensures ∙ sized a.settings (length a.commitment.now) (length a.session.now) _
@@ -39,16 +39,16 @@ module _ (c : tie.Else-refusal-ne0) where
   abbrev s : tie.Start
   s = c.before.before.before.before.before.before
 
-  passed : lent s.args.settings (hasLength (item_cells s.args.settings) s.args.commitment.now && hasLength record_width s.args.session.now) 0 ≡ 0
+  passed : lent s.args.settings (has_length (item_cells s.args.settings) s.args.commitment.now && has_length record_width s.args.session.now) 0 ≡ 0
   passed = sym (refused c.before) ∙ c.if-refusal-ne0.false
 
   long : length s.args.session.now ≡ record_width
-  unfolding hasLength
-  long = eqb-true _ _ (and_split {a = hasLength (item_cells s.args.settings) s.args.commitment.now} (lent_fits s.args.settings _ passed)).1
+  unfolding has_length
+  long = eqb-true _ _ (and_split {a = has_length (item_cells s.args.settings) s.args.commitment.now} (lent_fits s.args.settings _ passed)).1
 
   full : length s.args.commitment.now ≡ item_cells s.args.settings
-  unfolding hasLength
-  full = eqb-true _ _ (and_split {b = hasLength record_width s.args.session.now} (lent_fits s.args.settings _ passed)).0
+  unfolding has_length
+  full = eqb-true _ _ (and_split {b = has_length record_width s.args.session.now} (lent_fits s.args.settings _ passed)).0
 
 returns-then-refusal-ne0 : tie.Need-returns-then-refusal-ne0
 returns-then-refusal-ne0 c =

@@ -1,5 +1,5 @@
 -- The loop keeps: the first r rows are written.
-use mathlib.Core.Path.{◌≡◌, sym, ap, ◌∙◌}
+use mathlib.Core.Path.{◌≡◌, ap, ◌∙◌}
 use Prim.Native.Nat.{◌+◌, ◌*◌, ◌-◌, ◌≤◌}
 use native.Mathlib.Nat as Nat
 use native.Mathlib.Omega.{arith}
@@ -10,7 +10,7 @@ use Rattle.protocol.specs.Layout.{width, rows_most, rows_width}
 use Rattle.protocol.proofs.Reading.{row_inside}
 use Rattle.residues.specs.Lists.{spliced}
 use Rattle.slices.specs.Slices.{placed}
-use Rattle.slices.proofs.Rows.{placed-length, placed-none, placed_more}
+use Rattle.slices.proofs.Rows.{placed-none, placed_more}
 use Rattle.slices.proofs.place_rows.Statement.{statement}
 use Rattle.slices.proofs.place_rows.Tie as tie
 

@@ -1,10 +1,9 @@
 -- `tested_by`: the entry of the list.
-use mathlib.Core.Path.{◌≡◌, refl, sym}
-use mathlib.Core.List.{List, [], ◌∷◌}
-use Prim.Native.Nat.{ℕ, ◌≤◌}
+use mathlib.Core.Path.{sym}
+use mathlib.Core.List.{[], ◌∷◌}
 use native.Mathlib.Omega.{arith}
 use borrow.Author.Rules.{rules}
-use lib.ListN.{length, get_or, get_or-eq_default}
+use lib.ListN.{get_or-eq_default}
 use Rattle.text_parts.specs.Parts.{tested_by}
 use Rattle.text_parts.proofs.tested_by.Statement.{statement}
 use Rattle.text_parts.proofs.tested_by.Tie as tie

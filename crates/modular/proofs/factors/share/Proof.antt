@@ -1,5 +1,5 @@
 -- The loop keeps: y·P is digits·q and the rest, P being the power of 2 after i octal digits.
-use Rattle.std.proofs.Common.{◌≡◌, ◌+◌, ◌-◌, ◌*◌, ◌/◌, ◌%◌, ◌^◌, ◌<◌, ◌≤◌, ap, ◌∙◌, subst, arith, pow_pos, rules}
+use Rattle.std.proofs.Common.{◌+◌, ◌-◌, ◌*◌, ◌/◌, ◌%◌, ◌≤◌, ap, ◌∙◌, subst, arith, pow_pos, rules}
 use Rattle.modular.proofs.Shares.{Digits, digits_first, digits_small, digit_small, digits_more, digits_done, power, power_more, power_most}
 use Rattle.modular.proofs.factors.share.Statement.{statement}
 use Rattle.modular.proofs.factors.share.Tie as tie

@@ -1,5 +1,5 @@
 -- The loop keeps: y is half^i·x modulo q.
-use Rattle.std.proofs.Common.{◌≡◌, ◌+◌, ◌-◌, ◌*◌, ◌/◌, ◌%◌, ◌^◌, ◌<◌, ◌≤◌, ap, ◌∙◌, mod-lt, arith, rules}
+use Rattle.std.proofs.Common.{◌≡◌, ◌+◌, ◌-◌, ◌*◌, ◌/◌, ◌%◌, ◌^◌, ◌≤◌, ap, ◌∙◌, mod-lt, arith, rules}
 use Rattle.modular.specs.Factors.{Halvable}
 use Rattle.modular.proofs.Halving.{halvings_none, halvings_more}
 use Rattle.modular.proofs.halves.halved_times.Statement.{statement}

@@ -5,7 +5,7 @@ use borrow.Author.Rules.{rules}
 use Rattle.protocol.specs.Basic.{Tested}
 use Rattle.protocol.specs.Calls.{opening_refusal}
 use Rattle.protocol.specs.Layout.{key_cells, round_cells}
-use Rattle.protocol.specs.Settings.{settings_refusal, cells, hasLength, all_below, exponent, exponents}
+use Rattle.protocol.specs.Settings.{settings_refusal, cells, has_length, all_below, exponent, exponents}
 use Rattle.protocol.proofs.Refusals.{first_stops, first_tested, tested-before, first_only, lengths-tested}
 use Rattle.prover_refusals.proofs.opening.open.Statement.{statement}
 use Rattle.prover_refusals.proofs.opening.open.Tie as tie
@@ -13,10 +13,10 @@ use Rattle.prover_refusals.proofs.opening.open.Tie as tie
 -- 3 to 7
 lengths : (c : tie.After-refuse-r7) → let a = c.args in
     Tested (settings_refusal a.settings) 7
-    (hasLength (key_cells a.settings) a.key.now && hasLength (cells a.settings) a.message.now
-    && hasLength a.settings.depth a.challenges.now && hasLength (round_cells a.settings) a.rounds.now)
+    (has_length (key_cells a.settings) a.key.now && has_length (cells a.settings) a.message.now
+    && has_length a.settings.depth a.challenges.now && has_length (round_cells a.settings) a.rounds.now)
     c.refuse-r7.result
-unfolding hasLength
+unfolding has_length
 lengths c = let c6 = c in lengths-tested _ c6.settings_refusal-r6.ensures c.refuse-r7.ensures
     (λ z. rw (c6.key_cells-key_cells.ensures z, c6.cells-cells.ensures z, c.round_cells.ensures z))
 

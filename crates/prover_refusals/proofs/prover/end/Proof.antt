@@ -3,7 +3,7 @@ use mathlib.Core.Path.{◌≡◌, refl, sym, ◌∙◌}
 use borrow.Author.Rules.{rules}
 use borrow.Author.Tests.{eqb-true}
 use Rattle.protocol.specs.Calls.{end_refusal}
-use Rattle.protocol.specs.Settings.{settings_refusal, hasLength}
+use Rattle.protocol.specs.Settings.{settings_refusal, has_length}
 use Rattle.protocol.proofs.Refusals.{first_stops, first_known, first_tested, tested-before, tested-passed, first_only}
 use Rattle.prover_refusals.proofs.prover.end.Statement.{statement}
 use Rattle.prover_refusals.proofs.prover.end.Tie as tie
@@ -12,7 +12,7 @@ allowed : (c : tie.After-cells) → c.settings_refusal-r6.result ≡ 0 → setti
 allowed c z = sym c.settings_refusal-r6.ensures ∙ z
 
 returns-then-r7-ne0 : tie.Need-returns-then-r7-ne0
-unfolding end_refusal hasLength
+unfolding end_refusal has_length
 returns-then-r7-ne0 c =
     let c7 = c in
     sym (first_known _ _ c7.settings_refusal-r6.ensures
@@ -25,7 +25,7 @@ ending_small-requires c κs =
     (ok, eqb-true _ _ (tested-passed c.refuse-r7.ensures c.if-r7-ne0.false) ∙ c.cells.ensures ok)
 
 returns : tie.Need-returns
-unfolding end_refusal hasLength
+unfolding end_refusal has_length
 returns c =
     let c9 = c in
     let c7 = c9 in

@@ -1,13 +1,13 @@
 use mathlib.Core.Bool.{◌&&◌}
 use mathlib.Core.Path.{◌≡◌, sym, ◌∙◌}
 use borrow.Author.Rules.{rules}
-use Rattle.protocol.specs.Settings.{hasLength}
+use Rattle.protocol.specs.Settings.{has_length}
 use Rattle.protocol.proofs.Refusals.{first_known, first_tested, first_only}
 use Rattle.prover_refusals.proofs.prover.lengths.Statement.{statement}
 use Rattle.prover_refusals.proofs.prover.lengths.Tie as tie
 
 returns : tie.Need-returns
-unfolding hasLength
+unfolding has_length
 returns c =
     let c6 = c in
     record {

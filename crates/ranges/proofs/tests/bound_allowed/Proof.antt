@@ -1,4 +1,4 @@
-use Rattle.std.proofs.Common.{refl, rules}
+use Rattle.std.proofs.Common.{refl}
 use Rattle.protocol.specs.Settings.{bound_allowed}
 use Rattle.ranges.proofs.tests.bound_allowed.Statement.{statement}
 use Rattle.ranges.proofs.tests.bound_allowed.Tie as tie

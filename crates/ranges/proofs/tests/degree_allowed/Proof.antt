@@ -1,4 +1,4 @@
-use Rattle.std.proofs.Common.{◌⊎◌, inl, inr, ⊎_elim, ne_eqb}
+use Rattle.std.proofs.Common.{inl, inr, ⊎_elim, ne_eqb}
 use Rattle.protocol.specs.Basic.{among}
 use Rattle.protocol.specs.Settings.{degree_allowed}
 use Rattle.ranges.proofs.tests.degree_allowed.Statement.{statement}

@@ -1,4 +1,4 @@
-use Rattle.std.proofs.Common.{refl, rules}
+use Rattle.std.proofs.Common.{refl}
 use Rattle.protocol.specs.Settings.{modulus_allowed}
 use Rattle.ranges.proofs.tests.modulus_allowed.Statement.{statement}
 use Rattle.ranges.proofs.tests.modulus_allowed.Tie as tie

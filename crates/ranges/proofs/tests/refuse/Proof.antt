@@ -1,5 +1,5 @@
 -- An earlier refusal stands first; without one the test decides.
-use Rattle.std.proofs.Common.{◌≡◌, [], ◌∷◌, sym, ap, ◌∙◌}
+use Rattle.std.proofs.Common.{[], ◌∷◌, sym, ap, ◌∙◌}
 use Rattle.protocol.specs.Basic.{first, unless}
 use Rattle.protocol.proofs.Tests.{first_nothing}
 use Rattle.protocol.proofs.Refusals.{first_stops, first_passes, first_holds, first_only}

@@ -1,5 +1,5 @@
 -- Row i begins i times the places of an element behind the first.
-use Rattle.std.proofs.Common.{◌-◌, ◌*◌, ltb, length, get_or, take, drop, ap, ◌∙◌, arith, length-drop, take_all, rules}
+use Rattle.std.proofs.Common.{◌-◌, ◌*◌, ltb, length, get_or, drop, ap, ◌∙◌, arith, length-drop, take_all, rules}
 use Rattle.protocol.specs.Basic.{every}
 use Rattle.protocol.specs.Element.{value_row}
 use Rattle.protocol.specs.Layout.{width}

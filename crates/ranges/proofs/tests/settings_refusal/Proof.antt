@@ -1,5 +1,5 @@
 -- Each test in its turn.
-use Rattle.std.proofs.Common.{◌≡◌, sym, refl, ◌∙◌, rules}
+use Rattle.std.proofs.Common.{sym, refl, ◌∙◌, rules}
 use Rattle.protocol.specs.Settings.{depth_allowed, settings_refusal}
 use Rattle.protocol.proofs.Refusals.{first_passes, first_tested, first_only}
 use Rattle.ranges.proofs.tests.settings_refusal.Statement.{statement}

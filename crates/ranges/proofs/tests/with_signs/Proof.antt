@@ -1,6 +1,6 @@
 use Rattle.std.proofs.Common.{◌≡◌, ℕ, ◌+◌, ◌%◌, ◌^◌, ◌<◌, ◌≤◌, Bool, true, false, ◌&&◌, ltb, sym, ap, ◌∙◌, arith, rules, le-ltb, lt-ltb}
 use native.Mathlib.Decide.{dec_lt}
-use lib.Bits.{bit_or, bit_and, or_lt, or_add_and, and_le_r, and_le_l}
+use lib.Bits.{bit_or, or_lt, or_add_and, and_le_r, and_le_l}
 use Rattle.ranges.proofs.Scan.{and-false}
 use Rattle.ranges.proofs.tests.with_signs.Statement.{statement}
 use Rattle.ranges.proofs.tests.with_signs.Tie as tie

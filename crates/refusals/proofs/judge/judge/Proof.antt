@@ -5,7 +5,7 @@ use borrow.Author.Rules.{rules}
 use Rattle.protocol.specs.Basic.{Tested}
 use Rattle.protocol.specs.Calls.{judge_refusal}
 use Rattle.protocol.specs.Layout.{key_cells}
-use Rattle.protocol.specs.Settings.{settings_refusal, cells, hasLength, all_below}
+use Rattle.protocol.specs.Settings.{settings_refusal, cells, has_length, all_below}
 use Rattle.protocol.proofs.Refusals.{first_stops, first_tested, tested-before, first_only, lengths-tested}
 use Rattle.refusals.proofs.judge.judge.Statement.{statement}
 use Rattle.refusals.proofs.judge.judge.Tie as tie
@@ -13,9 +13,9 @@ use Rattle.refusals.proofs.judge.judge.Tie as tie
 -- 3 to 7
 lengths : (c : tie.After-refuse-r7) → let a = c.args in
     Tested (settings_refusal a.settings) 7
-    (hasLength (key_cells a.settings) a.key.now && hasLength (cells a.settings) a.w.now)
+    (has_length (key_cells a.settings) a.key.now && has_length (cells a.settings) a.w.now)
     c.refuse-r7.result
-unfolding hasLength
+unfolding has_length
 lengths c = let c16 = c in lengths-tested _ c16.settings_refusal-r16.ensures c.refuse-r7.ensures (λ z. rw (c16.cells-cells.ensures z, c.key_cells.ensures z))
 
 returns-then-r7-ne0 : tie.Need-returns-then-r7-ne0

@@ -5,7 +5,7 @@ use Prim.Native.Nat.{◌*◌}
 use borrow.Author.Rules.{rules}
 use Rattle.protocol.specs.Basic.{Tested}
 use Rattle.protocol.specs.Calls.{tree_refusal}
-use Rattle.protocol.specs.Settings.{settings_refusal, hasLength, all_below, exponent, exponents}
+use Rattle.protocol.specs.Settings.{settings_refusal, has_length, all_below, exponent, exponents}
 use Rattle.protocol.proofs.Refusals.{first_stops, first_tested, tested-before, first_only, lengths-tested}
 use Rattle.refusals.proofs.GivenTree.{tree_sized, lengths_given}
 use Rattle.refusals.proofs.tree.extract.Statement.{statement}
@@ -14,7 +14,7 @@ use Rattle.refusals.proofs.tree.extract.Tie as tie
 -- 3 to 7
 lengths : (c : tie.After-refuse-r7) → let a = c.args in
     Tested (settings_refusal a.settings) 7 (tree_sized a.settings a.key.now a.rounds.now a.challenges.now a.leaves.now a.w.now) c.refuse-r7.result
-unfolding hasLength
+unfolding has_length
 lengths c =
     lengths-tested _ c.settings_refusal-r16.ensures c.refuse-r7.ensures (λ z. rw (
       c.cells-cells.ensures z,

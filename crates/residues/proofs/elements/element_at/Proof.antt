@@ -1,5 +1,5 @@
 -- What is there of the element is copied over zeros.
-use Rattle.std.proofs.Common.{◌≡◌, ◌+◌, ◌-◌, ◌*◌, ◌<◌, ◌≤◌, length, take, drop, ◌∙◌, ⊎_elim, mul-le-mul, arith, rules}
+use Rattle.std.proofs.Common.{◌+◌, ◌-◌, ◌*◌, ◌<◌, ◌≤◌, length, take, drop, ◌∙◌, mul-le-mul, arith, rules}
 use Rattle.protocol.specs.Element.{width}
 use Rattle.residues.specs.Elements.{element_at}
 use Rattle.residues.proofs.Splice.{spliced-none}

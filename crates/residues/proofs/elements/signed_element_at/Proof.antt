@@ -1,5 +1,5 @@
 -- What is there of the element is copied over zeros.
-use Rattle.std.proofs.Common.{◌≡◌, ◌+◌, ◌-◌, ◌*◌, ◌<◌, ◌≤◌, length, take, drop, ◌∙◌, ⊎_elim, mul-le-mul, arith, rules}
+use Rattle.std.proofs.Common.{◌+◌, ◌-◌, ◌*◌, ◌<◌, ◌≤◌, length, take, drop, ◌∙◌, mul-le-mul, arith, rules}
 use Rattle.protocol.specs.Element.{width, coefficients, signed_at}
 use Rattle.residues.proofs.Fill.{filled_none}
 use Rattle.residues.proofs.Parts.{tail-length, signed_part}

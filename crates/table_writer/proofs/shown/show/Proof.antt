@@ -1,5 +1,4 @@
 -- `show`: nothing where there is no room, and else a copy.
-use native.Mathlib.Omega.{arith}
 use borrow.Author.Rules.{rules}
 use Rattle.table_writer.proofs.Shows.{shown_all, shown-none}
 use Rattle.table_writer.proofs.shown.show.Statement.{statement}

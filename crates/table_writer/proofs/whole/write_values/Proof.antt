@@ -9,7 +9,7 @@ use lib.ListN.{length, take, drop}
 use lib.Seq.{length-take-le}
 use Rattle.text_format.specs.Text.{text_limit}
 use Rattle.text_parts.specs.Parts.{part_of, lengths_are}
-use Rattle.table_writer.specs.Put.{text_room, Held}
+use Rattle.table_writer.specs.Put.{text_room}
 use Rattle.table_writer.specs.Tables.{values_text}
 use Rattle.table_writer.proofs.Answers.{long, cramped, done}
 use Rattle.table_writer.proofs.whole.write_values.Statement.{statement}

@@ -4,7 +4,7 @@ use borrow.Author.Rules.{rules}
 use Rattle.protocol.specs.Basic.{Tested}
 use Rattle.protocol.specs.Layout.{key_cells}
 use Rattle.protocol.specs.Session.{session_end_refusal}
-use Rattle.protocol.specs.Settings.{settings_refusal, hasLength, all_below, exponent, exponents}
+use Rattle.protocol.specs.Settings.{settings_refusal, has_length, all_below, exponent, exponents}
 use Rattle.protocol.proofs.Refusals.{first_stops, first_tested, tested-before, first_only, lengths-tested}
 use Rattle.verifier_refusals.proofs.session.end.Statement.{statement}
 use Rattle.verifier_refusals.proofs.session.end.Tie as tie
@@ -12,9 +12,9 @@ use Rattle.verifier_refusals.proofs.session.end.Tie as tie
 -- 3 to 7
 lengths : (c : tie.After-refuse-r7) → let a = c.args in
     Tested (settings_refusal a.progress.settings) 7
-    (hasLength (key_cells a.progress.settings) a.key.now)
+    (has_length (key_cells a.progress.settings) a.key.now)
     c.refuse-r7.result
-unfolding hasLength
+unfolding has_length
 lengths c = lengths-tested _ c.settings_refusal-r16.ensures c.refuse-r7.ensures (λ z. rw (c.key_cells.ensures z))
 
 returns-then-r7-ne0 : tie.Need-returns-then-r7-ne0

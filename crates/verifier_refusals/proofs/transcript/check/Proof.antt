@@ -5,7 +5,7 @@ use borrow.Author.Rules.{rules}
 use Rattle.protocol.specs.Basic.{Tested}
 use Rattle.protocol.specs.Calls.{check_refusal}
 use Rattle.protocol.specs.Layout.{key_cells, round_cells}
-use Rattle.protocol.specs.Settings.{settings_refusal, hasLength, all_below, exponent, exponents}
+use Rattle.protocol.specs.Settings.{settings_refusal, has_length, all_below, exponent, exponents}
 use Rattle.protocol.proofs.Refusals.{first_stops, first_tested, tested-before, first_only, lengths-tested}
 use Rattle.verifier_refusals.proofs.transcript.check.Statement.{statement}
 use Rattle.verifier_refusals.proofs.transcript.check.Tie as tie
@@ -13,10 +13,10 @@ use Rattle.verifier_refusals.proofs.transcript.check.Tie as tie
 -- 3 to 7
 lengths : (c : tie.After-refuse-r7) → let a = c.args in
     Tested (settings_refusal a.settings) 7
-    (hasLength (key_cells a.settings) a.key.now && hasLength (round_cells a.settings) a.rounds.now
-    && hasLength a.settings.depth a.challenges.now)
+    (has_length (key_cells a.settings) a.key.now && has_length (round_cells a.settings) a.rounds.now
+    && has_length a.settings.depth a.challenges.now)
     c.refuse-r7.result
-unfolding hasLength
+unfolding has_length
 lengths c =
     let rounds = c.before.before in
     lengths-tested _ rounds.settings_refusal-r16.ensures c.refuse-r7.ensures (λ z. rw (rounds.key_cells.ensures z, rounds.round_cells.ensures z))
