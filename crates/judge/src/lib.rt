@@ -2,7 +2,7 @@
 #![tactic(auto)]
 
 mod combination;
-mod rows;
+mod key_rows;
 mod scaling;
 
 ghost use Rattle.std.specs.Prelude.{◌≡◌};
@@ -36,6 +36,6 @@ pub fn judge(
     }
     Judged {
         refusal: 0,
-        yes: rows::every_row_opens(settings, &commitment, c, key, w),
+        yes: key_rows::every_row_opens(settings, &commitment, c, key, w),
     }
 }

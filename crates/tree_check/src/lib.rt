@@ -1,8 +1,8 @@
 // The check of every path of a tree (refusal 13).
 #![tactic(auto)]
 
+mod key_rows;
 mod nodes;
-mod rows;
 
 ghost use Rattle.std.specs.Prelude.{◌≡◌};
 ghost use Rattle.protocol.specs.Basic.{Provided};
@@ -35,5 +35,5 @@ pub fn every_path_accepted(
     if leaves.len() != sizes::leaf_cells(settings) {
         return false;
     }
-    rows::every_row_accepted(settings, &commitment, key, rounds, challenges, leaves)
+    key_rows::every_row_accepted(settings, &commitment, key, rounds, challenges, leaves)
 }

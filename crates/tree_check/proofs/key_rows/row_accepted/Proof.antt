@@ -18,8 +18,8 @@ use Rattle.equations.proofs.Items.{start_most, row_table_lem}
 use Rattle.equations.proofs.Polynomials.{part, part-long}
 use Rattle.equations.proofs.ByValue.{value-part, KeyPart, key_part}
 use Rattle.tree_check.specs.Nodes.{tree_row}
-use Rattle.tree_check.proofs.rows.row_accepted.Statement.{statement}
-use Rattle.tree_check.proofs.rows.row_accepted.Tie as tie
+use Rattle.tree_check.proofs.key_rows.row_accepted.Statement.{statement}
+use Rattle.tree_check.proofs.key_rows.row_accepted.Tie as tie
 
 -- the row's part of the key
 module _ (c : tie.After-cells-n) where

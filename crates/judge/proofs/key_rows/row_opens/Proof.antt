@@ -14,8 +14,8 @@ use Rattle.sizes.proofs.Limits.{degree_most}
 use Rattle.equations.proofs.Polynomials.{part-long}
 use Rattle.equations.proofs.ByValue.{value-part, KeyPart, key_part}
 use Rattle.judge.specs.Scaling.{Reduced}
-use Rattle.judge.proofs.rows.row_opens.Statement.{statement}
-use Rattle.judge.proofs.rows.row_opens.Tie as tie
+use Rattle.judge.proofs.key_rows.row_opens.Statement.{statement}
+use Rattle.judge.proofs.key_rows.row_opens.Tie as tie
 
 module _ (s : tie.Start) where
   few_rows : s.args.i < rows_most

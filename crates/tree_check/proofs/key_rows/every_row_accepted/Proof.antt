@@ -12,8 +12,8 @@ use Rattle.protocol.specs.Rows.{key_row, row_items}
 use Rattle.protocol.specs.TreeCheck.{tree_accepted}
 use Rattle.ranges.proofs.Scan.{every-none, every_goes_on, every_fails, every_ends}
 use Rattle.tree_check.specs.Nodes.{TreeGiven}
-use Rattle.tree_check.proofs.rows.every_row_accepted.Statement.{statement}
-use Rattle.tree_check.proofs.rows.every_row_accepted.Tie as tie
+use Rattle.tree_check.proofs.key_rows.every_row_accepted.Statement.{statement}
+use Rattle.tree_check.proofs.key_rows.every_row_accepted.Tie as tie
 
 abbrev invariant-loop-i : tie.invariant-loop-i
 invariant-loop-i settings commitment key rounds challenges leaves rows i₀ i =

@@ -10,8 +10,8 @@ use Rattle.protocol.specs.Element.{value_row}
 use Rattle.protocol.specs.Judge.{opens}
 use Rattle.protocol.specs.Rows.{key_row}
 use Rattle.ranges.proofs.Scan.{every-none, every_goes_on, every_fails, every_ends}
-use Rattle.judge.proofs.rows.every_row_opens.Statement.{statement}
-use Rattle.judge.proofs.rows.every_row_opens.Tie as tie
+use Rattle.judge.proofs.key_rows.every_row_opens.Statement.{statement}
+use Rattle.judge.proofs.key_rows.every_row_opens.Tie as tie
 
 abbrev invariant-loop-i : tie.invariant-loop-i
 invariant-loop-i settings commitment c key w rows i₀ i =
