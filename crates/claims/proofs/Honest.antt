@@ -9,7 +9,7 @@ use lib.ListN.{length}
 use lib.Pow as Pow
 use lib.IntN.{ℤ}
 use Rattle.protocol.specs.declared.Settings.{Settings}
-use Rattle.protocol.specs.declared.Verdict.TheVariants as Says
+use Rattle.protocol.specs.Answers.{Verdict as Says}
 use Rattle.protocol.specs.Basic.{choose}
 use Rattle.protocol.specs.Element.{padded_signed}
 use Rattle.protocol.specs.Layout.{key_cells, round_cells, exponent_count}

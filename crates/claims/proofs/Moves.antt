@@ -13,8 +13,8 @@ use lib.ListN.{get_or, replicate, replicate-append-replicate}
 use lib.IntN.{ℤ}
 use Rattle.protocol.specs.declared.Settings.{Settings}
 use Rattle.protocol.specs.declared.Session.{Session}
-use Rattle.protocol.specs.declared.Verdict.{Verdict}
-use Rattle.protocol.specs.declared.Verdict.TheVariants as Says
+use Rattle.protocol.specs.Answers.{Verdict}
+use Rattle.protocol.specs.Answers.{Verdict as Says}
 use Rattle.protocol.specs.Basic.{tabulate, flat}
 use Rattle.protocol.specs.Element.{padded_signed}
 use Rattle.protocol.specs.Layout.{item_of}

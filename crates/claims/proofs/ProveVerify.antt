@@ -11,7 +11,7 @@ use lib.ListN.{length, take, drop, length-map}
 use lib.Seq.{take-append_seam, drop-append_seam}
 use lib.IntN.{ℤ, pos}
 use Rattle.protocol.specs.declared.Settings.{Settings}
-use Rattle.protocol.specs.declared.Verified.TheVariants.{Accepted}
+use Rattle.protocol.specs.Answers.Verified.{Accepted}
 use Rattle.protocol.specs.Basic.{tabulate, all, choose, first, unless, granted}
 use Rattle.protocol.specs.Element.{signed}
 use Rattle.protocol.specs.Layout.{key_items, key_cells, item_cells, round_cells, claim_cells, exponent_count}

@@ -8,7 +8,7 @@ use Prim.Native.Nat.{ℕ, zero, suc}
 use lib.IntN.{ℤ}
 use Rattle.protocol.specs.declared.Settings.{Settings}
 use Rattle.protocol.specs.declared.Session.{Session}
-use Rattle.protocol.specs.declared.Moved.{Moved}
+use Rattle.protocol.specs.Answers.{Moved}
 use Rattle.protocol.specs.Basic.{choose, granted}
 use Rattle.protocol.specs.Session as Verifier
 use Rattle.protocol.specs.Session.{refused_move}

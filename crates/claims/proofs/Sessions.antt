@@ -13,7 +13,7 @@ use lib.ListN.{get_or}
 use lib.IntN.{ℤ, pos}
 use Rattle.protocol.specs.declared.Settings.{Settings}
 use Rattle.protocol.specs.declared.Session.{Session}
-use Rattle.protocol.specs.declared.Verdict.TheVariants as Says
+use Rattle.protocol.specs.Answers.{Verdict as Says}
 use Rattle.protocol.specs.Basic.{tabulate, choose, granted, within}
 use Rattle.protocol.specs.Element.{Element, width, padded_signed, value_row, residue, residue_at}
 use Rattle.protocol.specs.Layout.{key_cells}

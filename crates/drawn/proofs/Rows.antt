@@ -8,7 +8,7 @@ use Rattle.protocol.specs.Layout.{width}
 use Rattle.protocol.specs.declared.Settings.{Settings}
 use Rattle.protocol.specs.declared.Session.{Session}
 use Rattle.protocol.specs.declared.Parts.{Parts}
-use Rattle.protocol.specs.declared.Verdict.{Verdict}
+use Rattle.protocol.specs.Answers.{Verdict}
 use Rattle.protocol.specs.Transcript.{Transcript}
 use Rattle.protocol.specs.Rows.{Cause, cause, together}
 use Rattle.protocol.specs.Session.{start, round, end}

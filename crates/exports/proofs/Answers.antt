@@ -9,9 +9,9 @@ use lib.IntN.{ℤ}
 use lib.Dec.{eqb}
 use lib.ListN.{length, take}
 use Rattle.protocol.specs.declared.Settings.{Settings}
-use Rattle.protocol.specs.declared.Verdict.{Verdict}
-use Rattle.protocol.specs.declared.Verdict.TheVariants.{Silent}
-use Rattle.protocol.specs.declared.Opened.{Opened}
+use Rattle.protocol.specs.Answers.{Verdict}
+use Rattle.protocol.specs.Answers.Verdict.{Silent}
+use Rattle.protocol.specs.Answers.{Opened}
 use Rattle.protocol.specs.Basic.{choose, granted}
 use Rattle.protocol.specs.Layout.{item_cells}
 use Rattle.protocol.specs.Settings.{settings_refusal, has_length}

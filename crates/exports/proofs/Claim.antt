@@ -7,7 +7,7 @@ use lib.IntN.{ℤ, pos, ◌*ℤ◌}
 use lib.ListN.{length, get_or, take, drop}
 use lib.Seq.{get_or-drop}
 use Rattle.protocol.specs.declared.Settings.{Settings}
-use Rattle.protocol.specs.declared.Judged.{Judged}
+use Rattle.protocol.specs.Answers.{Judged}
 use Rattle.protocol.specs.Basic.{choose}
 use Rattle.protocol.specs.Element.{modulo, value_row, times, residue}
 use Rattle.protocol.specs.Layout.{key_cells, item_cells, polynomial_cells, polynomial_at, round_cells}

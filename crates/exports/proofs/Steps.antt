@@ -10,12 +10,12 @@ use lib.IntN.{ℤ}
 use lib.ListN.{length, get_or, take, length-append}
 use Rattle.protocol.specs.declared.Settings.{Settings}
 use Rattle.protocol.specs.declared.Session.{Session}
-use Rattle.protocol.specs.declared.Committed.{Committed}
-use Rattle.protocol.specs.declared.Polynomial.{Polynomial}
-use Rattle.protocol.specs.declared.Ended.{Ended}
-use Rattle.protocol.specs.declared.Started.{Started}
-use Rattle.protocol.specs.declared.Moved.{Moved}
-use Rattle.protocol.specs.declared.Verdict.TheVariants.{Holds, Accepted}
+use Rattle.protocol.specs.Answers.{Committed}
+use Rattle.protocol.specs.Answers.{Polynomial}
+use Rattle.protocol.specs.Answers.{Ended}
+use Rattle.protocol.specs.Answers.{Started}
+use Rattle.protocol.specs.Answers.{Moved}
+use Rattle.protocol.specs.Answers.Verdict.{Holds, Accepted}
 use Rattle.protocol.specs.Element.{padded_signed}
 use Rattle.protocol.specs.Layout.{item_cells, polynomial_cells}
 use Rattle.protocol.specs.Settings.{has_length}

@@ -9,7 +9,7 @@ use borrow.Author.Tests.{eqb-true, leb-true}
 use lib.IntN.{ℤ}
 use lib.ListN.{length}
 use Rattle.protocol.specs.declared.Settings.{Settings}
-use Rattle.protocol.specs.declared.Judged.{Judged}
+use Rattle.protocol.specs.Answers.{Judged}
 use Rattle.protocol.specs.Basic.{every}
 use Rattle.protocol.specs.Element.{value_row}
 use Rattle.protocol.specs.Layout.{rows_width, key_cells}

@@ -15,9 +15,9 @@ use lib.ListN.{replicate}
 use lib.IntN.{ℤ, pos}
 use Rattle.protocol.specs.declared.Session.{Session}
 use Rattle.protocol.specs.declared.Parts.{Parts}
-use Rattle.protocol.specs.declared.Opened.{Opened}
-use Rattle.protocol.specs.declared.Verdict.{Verdict}
-use Rattle.protocol.specs.declared.Verdict.TheVariants as Says
+use Rattle.protocol.specs.Answers.{Opened}
+use Rattle.protocol.specs.Answers.{Verdict}
+use Rattle.protocol.specs.Answers.{Verdict as Says}
 use Rattle.protocol.specs.Settings.{cells}
 use Rattle.protocol.specs.Rows.{together, AllAccepted}
 use Rattle.protocol.specs.Session.{blank}

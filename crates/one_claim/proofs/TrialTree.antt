@@ -10,7 +10,7 @@ use Prim.Native.Nat.{ℕ, zero, suc, ◌<◌, ◌≤◌}
 use native.Mathlib.Omega.{arith}
 use lib.ListN.{replicate}
 use lib.IntN.{ℤ, pos}
-use Rattle.protocol.specs.declared.Judged.{Judged}
+use Rattle.protocol.specs.Answers.{Judged}
 use Rattle.protocol.specs.Basic.{every}
 use Rattle.protocol.specs.Element.{value_row}
 use Rattle.protocol.specs.Transcript.{accepted, Accepted}

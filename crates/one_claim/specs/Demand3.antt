@@ -22,8 +22,8 @@ use Rattle.std.specs.Prelude.{◌≡◌, ◌≢◌, true, List, [], ◌∷◌, �
 use Rattle.protocol.specs.declared.Settings.{Settings}
 use Rattle.protocol.specs.declared.Session.{Session}
 use Rattle.protocol.specs.declared.Parts.{Parts}
-use Rattle.protocol.specs.declared.Verdict.{Verdict}
-use Rattle.protocol.specs.declared.Verdict.TheVariants as Says
+use Rattle.protocol.specs.Answers.{Verdict}
+use Rattle.protocol.specs.Answers.{Verdict as Says}
 use Rattle.protocol.specs.Element.{value_row}
 use Rattle.protocol.specs.Layout.{key_cells, round_cells, tree_round_cells, tree_challenges, leaf_cells, exponent_count}
 use Rattle.protocol.specs.Inputs.{Valid, Below, Within}

@@ -13,17 +13,17 @@ use Rattle.std.specs.Prelude.{◌≡◌, ◌≢◌, true, List, [], ◌∷◌, m
 use Rattle.protocol.specs.declared.Settings.{Settings}
 use Rattle.protocol.specs.declared.Session.{Session}
 use Rattle.protocol.specs.declared.Parts.{Parts}
-use Rattle.protocol.specs.declared.Committed.{Committed}
-use Rattle.protocol.specs.declared.Polynomial.{Polynomial}
-use Rattle.protocol.specs.declared.Ended.{Ended}
-use Rattle.protocol.specs.declared.Opened.{Opened}
-use Rattle.protocol.specs.declared.Started.{Started}
-use Rattle.protocol.specs.declared.Moved.{Moved}
-use Rattle.protocol.specs.declared.Checked.{Checked}
-use Rattle.protocol.specs.declared.Judged.{Judged}
-use Rattle.protocol.specs.declared.Loaded.{Loaded}
-use Rattle.protocol.specs.declared.Written.{Written}
-use Rattle.protocol.specs.declared.Verdict.TheVariants as Says
+use Rattle.protocol.specs.Answers.{Committed}
+use Rattle.protocol.specs.Answers.{Polynomial}
+use Rattle.protocol.specs.Answers.{Ended}
+use Rattle.protocol.specs.Answers.{Opened}
+use Rattle.protocol.specs.Answers.{Started}
+use Rattle.protocol.specs.Answers.{Moved}
+use Rattle.protocol.specs.Answers.{Checked}
+use Rattle.protocol.specs.Answers.{Judged}
+use Rattle.protocol.specs.Answers.{Loaded}
+use Rattle.protocol.specs.Answers.{Written}
+use Rattle.protocol.specs.Answers.{Verdict as Says}
 use Rattle.protocol.specs.Layout.{key_cells, round_cells, exponent_count}
 use Rattle.protocol.specs.Inputs.{Valid, Below, Within}
 use Rattle.protocol.specs.Settings.{cells}

@@ -9,8 +9,8 @@ use native.Mathlib.Omega.{arith}
 use lib.IntN.{ℤ}
 use lib.ListN.{length}
 use Rattle.protocol.specs.declared.Settings.{Settings}
-use Rattle.protocol.specs.declared.Verdict.{Verdict}
-use Rattle.protocol.specs.declared.Verdict.TheVariants.{Silent}
+use Rattle.protocol.specs.Answers.{Verdict}
+use Rattle.protocol.specs.Answers.Verdict.{Silent}
 use Rattle.protocol.specs.Basic.{every}
 use Rattle.protocol.specs.Element.{width, zeros, signed_zeros, padded_signed, coefficients, signed_at, signed, residue}
 use Rattle.protocol.specs.Settings.{settings_refusal}

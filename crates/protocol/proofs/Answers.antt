@@ -9,8 +9,8 @@ use Prim.Native.Nat.{ℕ, zero, suc}
 use lib.IntN.{ℤ}
 use Rattle.protocol.specs.declared.Settings.{Settings}
 use Rattle.protocol.specs.declared.Session.{Session}
-use Rattle.protocol.specs.declared.Moved.{Moved}
-use Rattle.protocol.specs.declared.Verdict.TheVariants.{Silent, Holds, Rejected}
+use Rattle.protocol.specs.Answers.{Moved}
+use Rattle.protocol.specs.Answers.Verdict.{Silent, Holds, Rejected}
 use Rattle.protocol.specs.Basic.{choose, granted}
 use Rattle.protocol.specs.Session.{verdict, verdict_number, round_number, end_number, advanced, shut, refused_move, round, session_round_refusal, session_round_holds, session_round_number}
 use Rattle.protocol.specs.Session.{end, session_end_refusal, session_end_holds, session_end_number}

@@ -7,8 +7,8 @@ use Prim.Native.Nat.{ℕ}
 use lib.Dec.{eqb}
 use lib.IntN.{ℤ, pos, negsuc}
 use Rattle.protocol.specs.declared.Session.{Session}
-use Rattle.protocol.specs.declared.Moved.{Moved}
-use Rattle.protocol.specs.declared.Verdict.{Verdict}
+use Rattle.protocol.specs.Answers.{Moved}
+use Rattle.protocol.specs.Answers.{Verdict}
 use Rattle.protocol.specs.Basic.{choose}
 use Rattle.protocol.specs.Rows.{Cause}
 use Rattle.protocol.specs.Session.{verdict_number}

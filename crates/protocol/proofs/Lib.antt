@@ -1,4 +1,5 @@
 pub mod Tests
+pub mod Chains
 pub mod Reading
 pub mod SumLaws
 pub mod Rotation

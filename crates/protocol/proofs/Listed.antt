@@ -14,8 +14,8 @@ use lib.ListN.{get_or, set}
 use lib.IntN.{ℤ}
 use Rattle.protocol.specs.declared.Settings.{Settings}
 use Rattle.protocol.specs.declared.Session.{Session}
-use Rattle.protocol.specs.declared.Moved.{Moved}
-use Rattle.protocol.specs.declared.Verdict.TheVariants.{Holds}
+use Rattle.protocol.specs.Answers.{Moved}
+use Rattle.protocol.specs.Answers.Verdict.{Holds}
 use Rattle.protocol.specs.Basic.{tabulate, flat, choose}
 use Rattle.protocol.specs.Element.{width, residue, value_row, zeros}
 use Rattle.protocol.specs.Layout.{rows_width, slots}

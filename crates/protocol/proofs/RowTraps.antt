@@ -6,7 +6,7 @@ use Prim.Native.Nat.{ℕ}
 use lib.ListN.{replicate, set as replaced}
 use lib.IntN.{pos}
 use Rattle.protocol.specs.declared.Session.{Session}
-use Rattle.protocol.specs.declared.Verdict.TheVariants.{Holds, Rejected}
+use Rattle.protocol.specs.Answers.Verdict.{Holds, Rejected}
 use Rattle.protocol.specs.Basic.{all}
 use Rattle.protocol.specs.Settings.{settings_refusal}
 use Rattle.protocol.specs.Rows.{cause}

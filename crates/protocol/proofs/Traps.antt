@@ -10,9 +10,9 @@ use lib.ListN.{length, get_or, replicate, length-replicate}
 use lib.IntN.{ℤ, pos, negsuc}
 use Rattle.protocol.specs.declared.Settings.{Settings}
 use Rattle.protocol.specs.declared.Session.{Session}
-use Rattle.protocol.specs.declared.Moved.{Moved}
-use Rattle.protocol.specs.declared.Verdict.{Verdict}
-use Rattle.protocol.specs.declared.Verdict.TheVariants.{Silent, Holds, Accepted, Rejected}
+use Rattle.protocol.specs.Answers.{Moved}
+use Rattle.protocol.specs.Answers.{Verdict}
+use Rattle.protocol.specs.Answers.Verdict.{Silent, Holds, Accepted, Rejected}
 use Rattle.protocol.specs.Basic.{every, all, flat, first, unless}
 use Rattle.protocol.specs.Element.{power, rotate, coefficients, value_row}
 use Rattle.protocol.specs.Layout.{rows_width, key_cells, tree_round_cells, tree_challenges, leaf_cells}

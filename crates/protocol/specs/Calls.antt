@@ -14,13 +14,14 @@
 --   tree_refusal, extract_refusal, extract_exit          the extractor; tree_refusal is what is tested before the verifier runs
 use Rattle.std.specs.Prelude.{Bool, true, false, ◌&&◌, List, [], ◌∷◌, ◌++◌, ℕ, ◌*◌, ◌^◌, leb, ltb, eqb, take, ℤ}
 use Rattle.protocol.specs.declared.Settings.{Settings}
-use Rattle.protocol.specs.declared.Verdict.TheVariants.{Silent}
-use Rattle.protocol.specs.declared.Committed.{Committed}
-use Rattle.protocol.specs.declared.Polynomial.{Polynomial}
-use Rattle.protocol.specs.declared.Ended.{Ended}
-use Rattle.protocol.specs.declared.Opened.{Opened}
-use Rattle.protocol.specs.declared.Checked.{Checked}
-use Rattle.protocol.specs.declared.Judged.{Judged}
+use Rattle.protocol.specs.Answers.Verdict.{Silent}
+unfoldable pub use Rattle.protocol.specs.Answers.{no_polynomial}
+use Rattle.protocol.specs.Answers.{Committed}
+use Rattle.protocol.specs.Answers.{Polynomial}
+use Rattle.protocol.specs.Answers.{Ended}
+use Rattle.protocol.specs.Answers.{Opened}
+use Rattle.protocol.specs.Answers.{Checked}
+use Rattle.protocol.specs.Answers.{Judged}
 use Rattle.protocol.specs.Basic.{every, tabulate, first, unless, granted}
 use Rattle.protocol.specs.Element.{width, zeros, signed_zeros, padded_signed}
 use Rattle.protocol.specs.Settings.{settings_refusal, cells, has_length, all_below, residue_rows, all_within, exponent, exponents}
@@ -72,9 +73,6 @@ round_refusal S t key message =
 -- PROTOCOL 2.3: the round polynomial by value
 unfoldable pub polynomial : Settings → ℕ → List ℕ → List ℤ → List (List ℕ)
 polynomial S t key message = tabulate 3 (λ j. at_rows S (λ r. round_element S t (key_row S key r) message j))
-
-unfoldable pub no_polynomial : List (List ℕ)
-no_polynomial = tabulate 3 (λ j. zeros rows_width)
 
 unfoldable pub round_answer : Settings → ℕ → List ℕ → List ℤ → Polynomial
 round_answer S t key message = record {

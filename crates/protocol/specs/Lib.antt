@@ -2,6 +2,8 @@ pub mod Basic
 pub mod Layout
 pub mod Element
 pub mod Settings
+pub mod Refusal
+pub mod Answers
 pub mod Opening
 pub mod Transcript
 pub mod Rows

@@ -6,7 +6,7 @@
 --   Extracted    the extractor
 use Rattle.std.specs.Prelude.{◌≡◌, List, ℕ, ℤ}
 use Rattle.protocol.specs.declared.Settings.{Settings}
-use Rattle.protocol.specs.declared.Opened.{Opened}
+use Rattle.protocol.specs.Answers.{Opened}
 use Rattle.protocol.specs.Session.{verdict_number}
 use Rattle.protocol.specs.Calls.{fold_refusal, fold_key_exit, fold_message_exit, opening_answer, opening_number, opening_key_exit, opening_message_exit, opening_rounds_exit, extract_refusal, extract_exit}
 

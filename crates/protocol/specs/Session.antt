@@ -18,10 +18,10 @@
 use Rattle.std.specs.Prelude.{Bool, true, false, ◌&&◌, not, List, [], ◌∷◌, ℕ, ◌+◌, ltb, eqb, get_or, set, ℤ}
 use Rattle.protocol.specs.declared.Settings.{Settings}
 use Rattle.protocol.specs.declared.Session.{Session}
-use Rattle.protocol.specs.declared.Started.{Started}
-use Rattle.protocol.specs.declared.Moved.{Moved}
-use Rattle.protocol.specs.declared.Verdict.{Verdict}
-use Rattle.protocol.specs.declared.Verdict.TheVariants.{Silent, Holds, Accepted, Rejected}
+use Rattle.protocol.specs.Answers.{Started}
+use Rattle.protocol.specs.Answers.{Moved}
+use Rattle.protocol.specs.Answers.{Verdict}
+use Rattle.protocol.specs.Answers.Verdict.{Silent, Holds, Accepted, Rejected}
 use Rattle.protocol.specs.Basic.{every, tabulate, choose, first, unless, granted}
 unfoldable pub use Rattle.protocol.specs.Layout.{slots}
 use Rattle.protocol.specs.Layout.{rows_width, key_cells}

@@ -1,5 +1,8 @@
-// The declared types of the public calls (PROTOCOL 8.1, by value), and the numbers that their sizes go by. No function stands here.
+// The declared types of the public calls (PROTOCOL 8.1, by value), and the numbers that their sizes go by.
 #![tactic(auto)]
+
+ghost use Rattle.std.specs.Prelude.{◌≡◌};
+ghost use Rattle.protocol.specs.Refusal.{number};
 
 // How many places an element has that is passed by value: `width` of the definitions.
 pub const WIDTH: usize = 128;
@@ -29,10 +32,56 @@ pub struct Settings {
     pub rows: u32,
 }
 
-// What a verifier says. `Silent` is the 0 of a refused call; a session's round that is met says `Holds`.
-#[derive(Clone, Copy)]
+// Why a call is refused (PROTOCOL 7.1): the first test that fails says so.
+#[derive(Clone, Copy, Debug, PartialEq, Eq)]
+pub enum Refusal {
+    Long,
+    Text,
+    Degree,
+    Depth,
+    Modulus,
+    Bound,
+    Size,
+    Residue,
+    Tall,
+    Challenge,
+    Turn,
+    Twin,
+    Branch,
+    Growth,
+    Slack,
+    Rows,
+}
+
+impl Refusal {
+    // Its number in the table of refusals.
+    pub fn number(self) -> u32
+        ensures { result ≡ number self }
+    {
+        match self {
+            Refusal::Long => 1,
+            Refusal::Text => 2,
+            Refusal::Degree => 3,
+            Refusal::Depth => 4,
+            Refusal::Modulus => 5,
+            Refusal::Bound => 6,
+            Refusal::Size => 7,
+            Refusal::Residue => 8,
+            Refusal::Tall => 9,
+            Refusal::Challenge => 10,
+            Refusal::Turn => 11,
+            Refusal::Twin => 12,
+            Refusal::Branch => 13,
+            Refusal::Growth => 14,
+            Refusal::Slack => 15,
+            Refusal::Rows => 16,
+        }
+    }
+}
+
+// What a verifier says: of a round that is met `Holds`, of a transcript or its end one of the other two, of a round that is not met the last.
+#[derive(Clone, Copy, Debug, PartialEq, Eq)]
 pub enum Verdict {
-    Silent,
     Holds,
     Accepted,
     Rejected,
@@ -48,66 +97,28 @@ pub struct Session {
     pub closed: bool,
 }
 
-// Every answer begins with the refusal's number, 0 where nothing is refused; then every other part is 0. What there is for each row
-// has room for four; the places past the rows are 0.
-
-// Commit.
+// What a session's start or move hands back: what it says or why it is refused, and the record that follows. A refused move hands back the record that it was
+// given, a refused start the closed record of zeros.
 #[derive(Clone, Copy)]
-pub struct Committed {
-    pub refusal: u32,
-    pub commitment: [Residue; ROWS_WIDTH],
+pub struct Handed<T, R> {
+    pub said: Result<T, Refusal>,
+    pub next: R,
 }
 
-// The prover's round (PROTOCOL 8.4): c0, c1 and c2, each of all rows.
-#[derive(Clone, Copy)]
-pub struct Polynomial {
-    pub refusal: u32,
-    pub elements: [[Residue; ROWS_WIDTH]; 3],
-}
+// What there is for each row has room for four; the places past the rows are 0.
 
-// The prover's end.
-#[derive(Clone, Copy)]
-pub struct Ended {
-    pub refusal: u32,
-    pub last: [i32; WIDTH],
-}
+// An element of each row: a commitment, or one of a round polynomial's three.
+pub type Item = [Residue; ROWS_WIDTH];
 
-// The whole opening; its round elements are in the table lent for them.
+// A round polynomial (PROTOCOL 8.4): c0, c1 and c2, each of all rows.
+pub type Polynomial = [Item; 3];
+
+// What a whole opening gives; its round elements are in the table lent for them.
 #[derive(Clone, Copy)]
-pub struct Opened {
-    pub refusal: u32,
-    pub commitment: [Residue; ROWS_WIDTH],
+pub struct Outcome {
+    pub commitment: Item,
     pub last: [i32; WIDTH],
     pub verdict: Verdict,
-}
-
-// A session's start.
-#[derive(Clone, Copy)]
-pub struct Started {
-    pub refusal: u32,
-    pub next: Session,
-}
-
-// A session's round or end.
-#[derive(Clone, Copy)]
-pub struct Moved {
-    pub refusal: u32,
-    pub verdict: Verdict,
-    pub next: Session,
-}
-
-// The check of a transcript.
-#[derive(Clone, Copy)]
-pub struct Checked {
-    pub refusal: u32,
-    pub verdict: Verdict,
-}
-
-// The judge of relaxed openings.
-#[derive(Clone, Copy)]
-pub struct Judged {
-    pub refusal: u32,
-    pub yes: bool,
 }
 
 // Which parts a text has (PROTOCOL 9.2).
@@ -122,44 +133,19 @@ pub struct Parts {
     pub claims: bool,
 }
 
-// The table reader; its tables are in what was lent for them.
+// A number of a text (PROTOCOL 9.4) and the place behind it.
 #[derive(Clone, Copy)]
-pub struct Loaded {
-    pub refusal: u32,
-    pub settings: Settings,
+pub struct Number {
+    pub value: i64,
+    pub next: usize,
 }
 
-// The table writer, and the program `prove` as a call on text: how many bytes were written.
+// A line of a text and the place behind it.
 #[derive(Clone, Copy)]
-pub struct Written {
-    pub refusal: u32,
-    pub count: usize,
-}
-
-// The number reader (PROTOCOL 9.4).
-#[derive(Clone, Copy)]
-pub enum Number {
-    Value { value: i64, next: usize },
-    Refused(u32),
-}
-
-// The line reader: a line of the stated shape with the place behind it, or none.
-#[derive(Clone, Copy)]
-pub enum Entry {
-    Found {
-        part: u32,
-        item: u32,
-        place: u32,
-        value: i64,
-        next: usize,
-    },
-    Malformed,
-}
-
-// The program `verify` as a call on text.
-#[derive(Clone, Copy)]
-pub enum Verified {
-    Accepted,
-    Rejected,
-    Refused(u32),
+pub struct Line {
+    pub part: u32,
+    pub item: u32,
+    pub place: u32,
+    pub value: i64,
+    pub next: usize,
 }

@@ -17,7 +17,7 @@ use lib.ListN.{length, take, length-append}
 use lib.Seq.{take_at}
 use lib.IntN.{ℤ}
 use Rattle.protocol.specs.declared.Settings.{Settings}
-use Rattle.protocol.specs.declared.Written.{Written}
+use Rattle.protocol.specs.Answers.{Written}
 use Rattle.protocol.specs.Basic.{all, choose}
 use Rattle.protocol.specs.Element.{padded_signed}
 use Rattle.protocol.specs.Opening.{commitment, message_after, final_element}

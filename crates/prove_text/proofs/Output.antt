@@ -9,7 +9,7 @@ use Prim.Native.Nat.{ℕ, ◌≤◌}
 use native.Mathlib.Omega.{arith}
 use lib.ListN.{length, take, drop, length-append}
 use lib.Seq.{take-append_seam}
-use Rattle.protocol.specs.declared.Written.{Written}
+use Rattle.protocol.specs.Answers.{Written}
 use Rattle.text_format.specs.Text.{text_limit, written, overwritten}
 use Rattle.text_format.specs.Programs.{prove_text, prove_refusal, prove_answer, prove_exit, refused_line, prove_output}
 use Rattle.text_format.specs.Promises.{Proved}

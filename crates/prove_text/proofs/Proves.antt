@@ -15,7 +15,7 @@ use borrow.Author.Tests.{eq-eqb}
 use lib.ListN.{length}
 use lib.IntN.{ℤ}
 use Rattle.protocol.specs.declared.Settings.{Settings}
-use Rattle.protocol.specs.declared.Written.{Written}
+use Rattle.protocol.specs.Answers.{Written}
 use Rattle.protocol.specs.Basic.{choose, granted}
 use Rattle.protocol.specs.Layout.{key_cells, round_cells}
 use Rattle.protocol.specs.Settings.{settings_refusal, cells, has_length, all_below, exponent, exponents}

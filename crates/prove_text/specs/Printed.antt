@@ -6,7 +6,7 @@
 --   RoundsLent text rounds    the table for the round elements has its length, where the text has the lines that its settings ask for
 use Rattle.std.specs.Prelude.{◌≡◌, true, List, ℕ, length, ℤ}
 use Rattle.protocol.specs.declared.Settings.{Settings}
-use Rattle.protocol.specs.declared.Written.{Written}
+use Rattle.protocol.specs.Answers.{Written}
 use Rattle.protocol.specs.Layout.{key_cells, round_cells, exponent_count}
 use Rattle.protocol.specs.Settings.{cells}
 use Rattle.protocol.specs.Inputs.{Valid, Below, Within}

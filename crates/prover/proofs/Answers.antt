@@ -4,9 +4,9 @@ use mathlib.Core.List.{List}
 use Prim.Native.Nat.{ℕ}
 use lib.IntN.{ℤ}
 use Rattle.protocol.specs.declared.Settings.{Settings}
-use Rattle.protocol.specs.declared.Committed.{Committed}
-use Rattle.protocol.specs.declared.Polynomial.{Polynomial}
-use Rattle.protocol.specs.declared.Ended.{Ended}
+use Rattle.protocol.specs.Answers.{Committed}
+use Rattle.protocol.specs.Answers.{Polynomial}
+use Rattle.protocol.specs.Answers.{Ended}
 use Rattle.protocol.specs.Element.{width, zeros, signed_zeros, padded_signed}
 use Rattle.protocol.specs.Layout.{rows_width}
 use Rattle.protocol.specs.Opening.{fold_signed, half_left, fold_message, final_element}

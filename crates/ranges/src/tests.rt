@@ -1,11 +1,12 @@
 // The tests that refusals go by.
 ghost use Rattle.std.specs.Prelude.{◌≡◌, ◌^◌, ◌<◌, ◌≤◌, ◌&&◌, ltb, length, nat_lt, slice_index, unsigned_abs};
-ghost use Rattle.protocol.specs.Basic.{every, all, within, Provided, Tested};
+ghost use Rattle.protocol.specs.Basic.{every, all, unless, Provided, Tested};
 ghost use Rattle.protocol.specs.Element.{value_row};
+ghost use Rattle.protocol.specs.Refusal.{number, refusal_of};
 ghost use Rattle.protocol.specs.Layout.{width, rows_most, rows_width};
 ghost use Rattle.protocol.specs.Settings.{degree_allowed, modulus_allowed, bound_allowed, rows_allowed, settings_refusal, all_within};
 
-use protocol::{ROWS, Residue, Settings, TRANSFORM_MODULUS, WIDTH};
+use protocol::{ROWS, Refusal, Residue, Settings, TRANSFORM_MODULUS, WIDTH};
 
 // The largest depth, one round for each slot of a record, the largest modulus and the largest bound (PROTOCOL 1.1): as `depth_allowed`, `modulus_allowed` and
 // `bound_allowed` have them.
@@ -15,17 +16,12 @@ const MODULUS_MOST: Residue = 2305843009213693951;
 
 pub const BOUND_MOST: u32 = 127;
 
-// One test more: an earlier refusal stands, and otherwise the number is given unless the test holds.
-pub fn refuse(earlier: u32, number: u32, holds: bool) -> u32
-    ensures { Tested earlier number holds result }
+// A test of a call: where it fails the call is refused.
+#[tactic(auto, unfolding(protocol::specs::Basic::unless))]
+pub fn require(holds: bool, otherwise: Refusal) -> Result<(), Refusal>
+    ensures { refusal_of result ≡ unless (number otherwise) holds }
 {
-    if earlier != 0 {
-        return earlier;
-    }
-    if holds {
-        return 0;
-    }
-    number
+    if holds { Ok(()) } else { Err(otherwise) }
 }
 
 // Refusal 3: is the degree allowed; the largest one is with one modulus alone.
@@ -63,56 +59,23 @@ fn rows_allowed(settings: Settings) -> bool
     (1 <= rows) & (rows <= ROWS)
 }
 
-// Refusals 3 to 6 and 16, the first that applies; 0 where the settings are allowed.
-pub fn settings_refusal(settings: Settings) -> u32
-    ensures { result ≡ settings_refusal settings }
+// Refusals 3 to 6 and 16: are the settings allowed.
+#[tactic(auto, unfolding(protocol::specs::Basic::first, protocol::specs::Basic::unless, protocol::specs::Settings::settings_refusal, protocol::specs::Settings::depth_allowed))]
+pub fn allow(settings: Settings) -> Result<(), Refusal>
+    ensures { refusal_of result ≡ settings_refusal settings }
 {
-    let r3 = refuse(0, 3, degree_allowed(settings));
-    let r4 = refuse(r3, 4, settings.depth <= DEPTH_MOST);
-    let r5 = refuse(r4, 5, modulus_allowed(settings));
-    let r6 = refuse(r5, 6, bound_allowed(settings));
-    refuse(r6, 16, rows_allowed(settings))
-}
-
-// One test more. The loops over tables ask all numbers, also after one that fails, so that the compiler takes several at a time.
-fn and_below(good: bool, limit: u32, x: u32) -> bool
-    ensures { result ≡ (good && nat_lt x limit) }
-{
-    if x < limit {
-        return good;
-    }
-    false
+    require(degree_allowed(settings), Refusal::Degree)?;
+    require(settings.depth <= DEPTH_MOST, Refusal::Depth)?;
+    require(modulus_allowed(settings), Refusal::Modulus)?;
+    require(bound_allowed(settings), Refusal::Bound)?;
+    require(rows_allowed(settings), Refusal::Rows)
 }
 
 // Is every number of a table below the limit: refusal 10 at 2d.
 pub fn all_below(limit: u32, t: &[u32]) -> bool
     ensures { result ≡ all (λ x. ltb x limit) t.now }
 {
-    let mut good = true;
-    for i in 0..t.len() {
-        good = and_below(good, limit, t[i]);
-    }
-    good
-}
-
-fn and_below_wide(good: bool, limit: u64, x: u64) -> bool
-    ensures { result ≡ (good && nat_lt x limit) }
-{
-    if x >= limit {
-        return false;
-    }
-    good
-}
-
-// The same of numbers of 64 bits, for every limit.
-fn all_below_any(limit: u64, t: &[u64]) -> bool
-    ensures { result ≡ all (λ x. ltb x limit) t.now }
-{
-    let mut good = true;
-    for i in 0..t.len() {
-        good = and_below_wide(good, limit, t[i]);
-    }
-    good
+    t.iter().all(|x| *x < limit)
 }
 
 // 2^63: the highest bit of a number of 64 bits.
@@ -122,20 +85,21 @@ const SIGN: u64 = 9223372036854775808;
 fn with_signs(signs: u64, limit: u64, x: u64) -> u64
     ensures { Provided (limit ≤ 2 ^ 63) (nat_lt result (2 ^ 63) ≡ (nat_lt signs (2 ^ 63) && nat_lt x limit)) }
 {
-    let raised = std::num::wrapping_add_u64(x, std::num::wrapping_sub_u64(SIGN, limit));
+    let raised = x.wrapping_add(SIGN.wrapping_sub(limit));
     signs | x | raised
 }
 
-// Are all residues of a table below the modulus: refusal 8. The highest bits of all numbers are gathered, and asked for once.
+// Are all residues of a table below the modulus: refusal 8. The highest bits of all numbers are gathered, and asked for once, so that the compiler takes several
+// numbers at a time.
 pub fn all_below_wide(limit: u64, t: &[u64]) -> bool
     ensures { result ≡ all (λ x. ltb x limit) t.now }
 {
     if limit > SIGN {
-        return all_below_any(limit, t);
+        return t.iter().all(|x| *x < limit);
     }
     let mut signs: u64 = 0;
-    for i in 0..t.len() {
-        signs = with_signs(signs, limit, t[i]);
+    for x in t {
+        signs = with_signs(signs, limit, *x);
     }
     signs < SIGN
 }
@@ -171,14 +135,53 @@ pub fn rows_below(limit: Residue, d: u32, rows: u32, a: &[Residue]) -> bool
     if n > ROWS {
         return false;
     }
-    let mut i: usize = 0;
-    while i < n {
-        if !row_below(limit, d, i, a) {
-            return false;
-        }
-        i += 1;
+    (0..n).all(|i| row_below(limit, d, i, a))
+}
+
+// Is every number of a table from −bound to bound. All are asked, also behind one that is not, so that the compiler takes several at a time.
+pub fn all_within(bound: u32, t: &[i32]) -> bool
+    ensures { result ≡ all_within bound t.now }
+{
+    let mut good = true;
+    for x in t {
+        good = good & (x.unsigned_abs() <= bound);
     }
-    true
+    good
+}
+
+pub fn all_within_wide(bound: u64, t: &[i64]) -> bool
+    ensures { result ≡ all_within bound t.now }
+{
+    let mut good = true;
+    for x in t {
+        good = good & (x.unsigned_abs() <= bound);
+    }
+    good
+}
+
+// ---- to go once nothing calls them
+// One test more: an earlier refusal stands, and otherwise the number is given unless the test holds.
+pub fn refuse(earlier: u32, number: u32, holds: bool) -> u32
+    ensures { Tested earlier number holds result }
+{
+    if earlier != 0 {
+        return earlier;
+    }
+    if holds {
+        return 0;
+    }
+    number
+}
+
+// Refusals 3 to 6 and 16, the first that applies; 0 where the settings are allowed.
+pub fn settings_refusal(settings: Settings) -> u32
+    ensures { result ≡ settings_refusal settings }
+{
+    let r3 = refuse(0, 3, degree_allowed(settings));
+    let r4 = refuse(r3, 4, settings.depth <= DEPTH_MOST);
+    let r5 = refuse(r4, 5, modulus_allowed(settings));
+    let r6 = refuse(r5, 6, bound_allowed(settings));
+    refuse(r6, 16, rows_allowed(settings))
 }
 
 // The magnitude of a number. One is added before the sign changes: the least number of a width has a magnitude that is no number of that width.
@@ -200,43 +203,4 @@ pub fn magnitude_wide(x: i64) -> u64
     } else {
         x as u64
     }
-}
-
-fn and_within(good: bool, bound: u32, x: i32) -> bool
-    ensures { result ≡ (good && within bound x) }
-{
-    if magnitude(x) <= bound {
-        return good;
-    }
-    false
-}
-
-// Is every number of a table from −bound to bound.
-pub fn all_within(bound: u32, t: &[i32]) -> bool
-    ensures { result ≡ all_within bound t.now }
-{
-    let mut good = true;
-    for i in 0..t.len() {
-        good = and_within(good, bound, t[i]);
-    }
-    good
-}
-
-fn and_within_wide(good: bool, bound: u64, x: i64) -> bool
-    ensures { result ≡ (good && within bound x) }
-{
-    if magnitude_wide(x) <= bound {
-        return good;
-    }
-    false
-}
-
-pub fn all_within_wide(bound: u64, t: &[i64]) -> bool
-    ensures { result ≡ all_within bound t.now }
-{
-    let mut good = true;
-    for i in 0..t.len() {
-        good = and_within_wide(good, bound, t[i]);
-    }
-    good
 }

@@ -9,8 +9,8 @@ use borrow.Author.Tests.{eq-eqb, eqb-true, ne_eqb}
 use lib.ListN.{length}
 use Rattle.protocol.specs.declared.Settings.{Settings}
 use Rattle.protocol.specs.declared.Session.{Session}
-use Rattle.protocol.specs.declared.Started.{Started}
-use Rattle.protocol.specs.declared.Moved.{Moved}
+use Rattle.protocol.specs.Answers.{Started}
+use Rattle.protocol.specs.Answers.{Moved}
 use Rattle.protocol.specs.Basic.{granted}
 use Rattle.protocol.specs.Layout.{item_cells}
 use Rattle.protocol.specs.Settings.{settings_refusal, has_length}

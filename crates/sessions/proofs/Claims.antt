@@ -11,8 +11,8 @@ use lib.ListN.{length, get_or, take, drop, take-append-drop, get_or-append}
 use lib.Seq.{get_or-append-add, length-take-le}
 use Rattle.protocol.specs.declared.Settings.{Settings}
 use Rattle.protocol.specs.declared.Session.{Session}
-use Rattle.protocol.specs.declared.Moved.{Moved}
-use Rattle.protocol.specs.declared.Verdict.TheVariants.{Holds, Rejected}
+use Rattle.protocol.specs.Answers.{Moved}
+use Rattle.protocol.specs.Answers.Verdict.{Holds, Rejected}
 use Rattle.protocol.specs.Basic.{choose, granted}
 use Rattle.protocol.specs.Layout.{rows_width, item_cells}
 use Rattle.protocol.specs.Settings.{settings_refusal}

@@ -14,7 +14,7 @@ use lib.ListN.{length, get_or, set, length-set, get_or-eq_default}
 use lib.Seq.{ext_get_or, get_or-set_same, get_or-set_other}
 use Rattle.protocol.specs.declared.Settings.{Settings}
 use Rattle.protocol.specs.declared.Session.{Session}
-use Rattle.protocol.specs.declared.Verdict.TheVariants.{Holds, Rejected}
+use Rattle.protocol.specs.Answers.Verdict.{Holds, Rejected}
 use Rattle.protocol.specs.Basic.{tabulate, choose, granted}
 use Rattle.protocol.specs.Element.{zeros}
 use Rattle.protocol.specs.Layout.{rows_width}

@@ -13,7 +13,7 @@
 --   Answered                 what a move leaves where nothing beside it is refused
 use Rattle.std.specs.Prelude.{◌≡◌, Bool, ◌&&◌, List, [], ◌∷◌, ℕ, ℤ}
 use Rattle.protocol.specs.declared.Settings.{Settings}
-use Rattle.protocol.specs.declared.Moved.{Moved}
+use Rattle.protocol.specs.Answers.{Moved}
 use Rattle.protocol.specs.Basic.{first, unless, granted}
 use Rattle.protocol.specs.Element.{padded_signed}
 use Rattle.protocol.specs.Layout.{item_cells, polynomial_cells}

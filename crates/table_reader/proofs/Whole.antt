@@ -17,7 +17,7 @@ use lib.Seq.{ext_get_or}
 use lib.IntN.{ℤ}
 use Rattle.protocol.specs.declared.Settings.{Settings}
 use Rattle.protocol.specs.declared.Parts.{Parts}
-use Rattle.protocol.specs.declared.Loaded.{Loaded}
+use Rattle.protocol.specs.Answers.{Loaded}
 use Rattle.protocol.specs.Basic.{first, unless}
 use Rattle.protocol.specs.Settings.{settings_refusal}
 use Rattle.text_format.specs.Text.{Line, Shape, Tables, value_limit, narrow_limit, shape, settings_shape, shapes, shape_size, wanted, lines_of, unsigned, unsigned_column, settings_in, tables_in, no_settings}

@@ -14,7 +14,7 @@ use borrow.Author.Tests.{le-leb, lt-leb}
 use lib.ListN.{length, drop}
 use Rattle.protocol.specs.declared.Settings.{Settings}
 use Rattle.protocol.specs.declared.Parts.{Parts}
-use Rattle.protocol.specs.declared.Written.{Written}
+use Rattle.protocol.specs.Answers.{Written}
 use Rattle.protocol.specs.Basic.{all, within, granted}
 use Rattle.protocol.specs.Settings.{all_below}
 use Rattle.text_format.specs.Text.{Tables, text_limit, narrow_limit, text_of, entries_refusal, output_refusal, write_refusal, written, overwritten, write_answer, write_exit}

@@ -12,7 +12,7 @@
 use Rattle.std.specs.Prelude.{◌≡◌, true, ◌&&◌, List, [], ◌∷◌, ◌++◌, map, ℕ, zero, suc, ◌+◌, min, length, ℤ, pos}
 use Rattle.protocol.specs.declared.Settings.{Settings}
 use Rattle.protocol.specs.declared.Parts.{Parts}
-use Rattle.protocol.specs.declared.Written.{Written}
+use Rattle.protocol.specs.Answers.{Written}
 use Rattle.protocol.specs.Basic.{all, within, first, unless}
 use Rattle.protocol.specs.Settings.{settings_refusal, all_below}
 use Rattle.text_format.specs.Text.{Shape, Tables, value_limit, narrow_limit, names, settings_shape, fits, entries_refusal, output_refusal, written, overwritten}

@@ -8,7 +8,7 @@
 --   ProvedStored               the program `prove` as a call on text
 use Rattle.std.specs.Prelude.{◌≡◌, ◌&&◌, List, [], ◌∷◌, ℕ, length}
 use Rattle.protocol.specs.declared.Settings.{Settings}
-use Rattle.protocol.specs.declared.Checked.{Checked}
+use Rattle.protocol.specs.Answers.{Checked}
 use Rattle.protocol.specs.Basic.{first, unless, granted}
 use Rattle.protocol.specs.Settings.{has_length}
 use Rattle.text_format.specs.Text.{Tables, fits, lines_of, settings_in, tables_in, look_refusal, text_refusal, text_of, write_refusal, overwritten}

@@ -8,9 +8,9 @@ use mathlib.Core.List.{List}
 use mathlib.Core.Option.{Option, none, some}
 use Prim.Native.Nat.{ℕ, zero, suc}
 use lib.IntN.{ℤ}
-use Rattle.protocol.specs.declared.Checked.{Checked}
-use Rattle.protocol.specs.declared.Verdict.TheVariants.{Silent}
-use Rattle.protocol.specs.declared.Verified.TheVariants as Verify
+use Rattle.protocol.specs.Answers.{Checked}
+use Rattle.protocol.specs.Answers.Verdict.{Silent}
+use Rattle.protocol.specs.Answers.{Verified as Verify}
 use Rattle.protocol.specs.Basic.{choose, granted}
 use Rattle.protocol.specs.Session.{verdict}
 use Rattle.text_format.specs.Text.{Line, lines_of, settings_in, tables_in, reading, number_answer}

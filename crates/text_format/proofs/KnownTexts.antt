@@ -8,7 +8,7 @@ use native.Mathlib.Omega.{arith}
 use borrow.Author.Tests.{le-leb}
 use lib.ListN.{length, replicate, length-replicate}
 use lib.IntN.{pos, negsuc}
-use Rattle.protocol.specs.declared.Verdict.TheVariants.{Silent, Accepted, Rejected}
+use Rattle.protocol.specs.Answers.Verdict.{Silent, Accepted, Rejected}
 use Rattle.protocol.specs.Basic.{first, unless, choose, tabulate}
 use Rattle.text_format.specs.Text.{bytes, names as names_line, text_limit, no_settings, begins, begins_with_names, parsed, lines_of, spots_of, well_formed, look_refusal, output_refusal}
 use Rattle.text_format.specs.Text.{settings_shape, shape, shape_size, spots, same_spots}

@@ -10,7 +10,7 @@ use lib.ListN.{length, get_or, drop, length-append, length-drop, drop_of_length-
 use lib.Dec.{eqb}
 use lib.Seq.{drop-append_seam, drop-drop, drop-cons}
 use lib.IntN.{ℤ}
-use Rattle.protocol.specs.declared.Number.TheVariants.{Value, Refused}
+use Rattle.protocol.specs.Answers.Number.{Value, Refused}
 use Rattle.text_format.specs.Text.{Line, value_limit, line_text, numeral, keep, digit, digit_run, digit_first, read_count, read_number, plain, byte, read_line, number_answer, read_number_at, read_count_at}
 use Rattle.text_format.proofs.NumeralLaws.{Numbered, digit_run_on, read_number_text, plain_numbered, numeral-some}
 use Rattle.text_format.proofs.LineLaws.{read_line-text, line_text-length}

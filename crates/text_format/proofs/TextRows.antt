@@ -7,10 +7,10 @@ use lib.ListN.{length, replicate}
 use lib.IntN.{ℤ, pos}
 use Rattle.protocol.specs.declared.Settings.{Settings}
 use Rattle.protocol.specs.declared.Parts.{Parts}
-use Rattle.protocol.specs.declared.Loaded.{Loaded}
-use Rattle.protocol.specs.declared.Written.{Written}
-use Rattle.protocol.specs.declared.Checked.{Checked}
-use Rattle.protocol.specs.declared.Verdict.{Verdict}
+use Rattle.protocol.specs.Answers.{Loaded}
+use Rattle.protocol.specs.Answers.{Written}
+use Rattle.protocol.specs.Answers.{Checked}
+use Rattle.protocol.specs.Answers.{Verdict}
 use Rattle.text_format.specs.Text.{Tables, Reading, value_limit, narrow_limit, bytes, no_settings, begins_with_names, look_answer, read_answer, read_exit}
 use Rattle.text_format.specs.Text.{write_answer, write_exit, reading, read_number_at, read_count_at}
 use Rattle.text_format.specs.Lines.{LineReading, line_reading, read_line_at, begun_answer}

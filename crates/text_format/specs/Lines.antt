@@ -19,10 +19,10 @@
 use Rattle.std.specs.Prelude.{Bool, true, false, List, [], ◌∷◌, ℕ, suc, ◌-◌, length, get_or, drop, ℤ, pos}
 use Rattle.std.proofs.Math.Option.{Option, none, some, bind as ◌>>=◌}
 use Rattle.protocol.specs.declared.Settings.{Settings}
-use Rattle.protocol.specs.declared.Loaded.{Loaded}
-use Rattle.protocol.specs.declared.Number.{Number}
-use Rattle.protocol.specs.declared.Entry.{Entry}
-use Rattle.protocol.specs.declared.Entry.TheVariants.{Found, Malformed}
+use Rattle.protocol.specs.Answers.{Loaded}
+use Rattle.protocol.specs.Answers.{Number}
+use Rattle.protocol.specs.Answers.{Entry}
+use Rattle.protocol.specs.Answers.Entry.{Found, Malformed}
 use Rattle.protocol.specs.Basic.{granted}
 use Rattle.protocol.specs.Settings.{settings_refusal}
 use Rattle.text_format.specs.Text.{Spot, Line, Reading, value_limit, narrow_limit, names, keep, plain, read_index, read_line, read_lines, begins_with_names, same_spot, spots, settings_shape, unsigned}

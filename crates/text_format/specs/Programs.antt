@@ -15,11 +15,11 @@
 use Rattle.std.specs.Prelude.{Bool, true, false, ◌&&◌, List, [], ◌∷◌, ◌++◌, ℕ, length}
 use Rattle.protocol.specs.declared.Settings.{Settings}
 use Rattle.protocol.specs.declared.Parts.{Parts}
-use Rattle.protocol.specs.declared.Written.{Written}
-use Rattle.protocol.specs.declared.Checked.{Checked}
-use Rattle.protocol.specs.declared.Verified.{Verified}
-use Rattle.protocol.specs.declared.Verdict.TheVariants.{Silent, Accepted as Accepts, Rejected as Rejects}
-use Rattle.protocol.specs.declared.Verified.TheVariants.{Accepted, Rejected, Refused}
+use Rattle.protocol.specs.Answers.{Written}
+use Rattle.protocol.specs.Answers.{Checked}
+use Rattle.protocol.specs.Answers.{Verified}
+use Rattle.protocol.specs.Answers.Verdict.{Silent, Accepted as Accepts, Rejected as Rejects}
+use Rattle.protocol.specs.Answers.Verified.{Accepted, Rejected, Refused}
 use Rattle.protocol.specs.Basic.{choose, first, granted}
 use Rattle.protocol.specs.Transcript.{Transcript}
 use Rattle.protocol.specs.Rows.{all_accepted, transcripts_of}

@@ -5,8 +5,8 @@
 use Rattle.std.specs.Prelude.{◌≡◌, List, ℕ}
 use Rattle.protocol.specs.declared.Settings.{Settings}
 use Rattle.protocol.specs.declared.Parts.{Parts}
-use Rattle.protocol.specs.declared.Loaded.{Loaded}
-use Rattle.protocol.specs.declared.Written.{Written}
+use Rattle.protocol.specs.Answers.{Loaded}
+use Rattle.protocol.specs.Answers.{Written}
 use Rattle.text_format.specs.Text.{Tables, read_answer, read_exit, write_answer, write_exit}
 use Rattle.text_format.specs.Programs.{prove_answer, prove_exit}
 

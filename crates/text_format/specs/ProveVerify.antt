@@ -8,7 +8,7 @@
 --   ProveVerify          that, for every text that `prove` does not refuse: as a call on text, and as a program
 use Rattle.std.specs.Prelude.{◌≡◌, true, List, [], ◌++◌, map, ℕ, ◌<◌, ◌≤◌, length, take, drop, pos}
 use Rattle.protocol.specs.declared.Settings.{Settings}
-use Rattle.protocol.specs.declared.Verified.TheVariants.{Accepted}
+use Rattle.protocol.specs.Answers.Verified.{Accepted}
 use Rattle.protocol.specs.Layout.{key_items}
 use Rattle.protocol.specs.Transcript.{Transcript}
 use Rattle.protocol.specs.Rows.{transcripts_of}

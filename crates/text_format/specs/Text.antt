@@ -65,10 +65,11 @@ use Prim.Native.Char.{code}
 use Prim.Native.String.{String, [] as end, ◌∷◌ as ◌then◌}
 use Rattle.protocol.specs.declared.Settings.{Settings}
 use Rattle.protocol.specs.declared.Parts.{Parts}
-use Rattle.protocol.specs.declared.Loaded.{Loaded}
-use Rattle.protocol.specs.declared.Written.{Written}
-use Rattle.protocol.specs.declared.Number.{Number}
-use Rattle.protocol.specs.declared.Number.TheVariants.{Value, Refused}
+unfoldable pub use Rattle.protocol.specs.Answers.{no_settings}
+use Rattle.protocol.specs.Answers.{Loaded}
+use Rattle.protocol.specs.Answers.{Written}
+use Rattle.protocol.specs.Answers.{Number}
+use Rattle.protocol.specs.Answers.Number.{Value, Refused}
 use Rattle.protocol.specs.Layout.{key_items, round_items, claim_items}
 use Rattle.protocol.specs.Basic.{least, tabulate, all, among, choose, within, first, unless, granted}
 use Rattle.protocol.specs.Settings.{settings_refusal, size, has_length, all_below, exponents, all_within}
@@ -381,10 +382,6 @@ tables_in ls = record {
 }
 
 -- ---- The calls
-
--- PROTOCOL 7.4
-unfoldable pub no_settings : Settings
-no_settings = record { degree = 0; depth = 0; modulus = 0; bound = 0; rows = 0 }
 
 -- refusals 1 and 2 over the whole text, then 3 to 6 and 16
 unfoldable pub look_refusal : List ℕ → ℕ

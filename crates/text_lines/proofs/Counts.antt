@@ -20,8 +20,8 @@ use lib.Dec.{leb, eqb}
 use lib.ListN.{length, get_or, drop, length-drop, drop_of_length-le}
 use lib.Seq.{drop-drop}
 use lib.IntN.{ℤ, pos, neg_ℤ}
-use Rattle.protocol.specs.declared.Number.{Number}
-use Rattle.protocol.specs.declared.Number.TheVariants.{Value, Refused}
+use Rattle.protocol.specs.Answers.{Number}
+use Rattle.protocol.specs.Answers.Number.{Value, Refused}
 use Rattle.text_format.specs.Text.{minus, keep, digit, digit_first, digit_run, proper_digits, read_count, plain, negative, read_number, number_answer, read_number_at, read_count_at, reading}
 use Rattle.text_format.specs.Lines.{given_number}
 use Rattle.text_format.proofs.Answers.{number_given}

@@ -17,7 +17,7 @@ use borrow.Author.Tests.{leb-true}
 use lib.ListN.{length}
 use lib.IntN.{ℤ}
 use Rattle.protocol.specs.declared.Settings.{Settings}
-use Rattle.protocol.specs.declared.Loaded.{Loaded}
+use Rattle.protocol.specs.Answers.{Loaded}
 use Rattle.protocol.specs.Basic.{choose, granted, among, first, unless}
 use Rattle.protocol.specs.Settings.{degree_allowed, settings_refusal}
 use Rattle.text_format.specs.Text.{Line, text_limit, lines_of, settings_in, no_settings, look_refusal, loaded, look_answer}

@@ -15,7 +15,7 @@ use lib.ListN.{length, take, drop, get_or-append, length-drop, length-map}
 use lib.Seq.{take_at, drop-drop}
 use lib.IntN.{ℤ, pos}
 use Rattle.protocol.specs.declared.Settings.{Settings}
-use Rattle.protocol.specs.declared.Loaded.{Loaded}
+use Rattle.protocol.specs.Answers.{Loaded}
 use Rattle.protocol.specs.Basic.{tabulate, choose, first, unless, granted}
 use Rattle.protocol.specs.Settings.{settings_refusal}
 use Rattle.text_format.specs.Text.{Spot, Line, text_limit, shape, settings_shape, shape_size, spots, names, read_lines, begins_with_names, parsed, lines_of, same_spots, spots_of}

@@ -18,11 +18,11 @@ use native.Mathlib.Omega.{arith}
 use lib.Dec.{eqb}
 use lib.ListN.{length, get_or, drop, length-drop}
 use lib.IntN.{ℤ, pos}
-use Rattle.protocol.specs.declared.Number.{Number}
-use Rattle.protocol.specs.declared.Number.TheVariants.{Value, Refused}
-use Rattle.protocol.specs.declared.Entry.{Entry}
+use Rattle.protocol.specs.Answers.{Number}
+use Rattle.protocol.specs.Answers.Number.{Value, Refused}
+use Rattle.protocol.specs.Answers.{Entry}
 use Rattle.text_format.specs.Text.{Line, space, line_feed, narrow_limit, limit_of, keep, proper_digits, read_count, read_number, byte, plain, read_index, read_line, read_lines, reading}
-use Rattle.protocol.specs.declared.Entry.TheVariants.{Found as Line-at, Malformed}
+use Rattle.protocol.specs.Answers.Entry.{Found as Line-at, Malformed}
 use Rattle.text_format.specs.Lines.{present, given_number, read_index_at, line_reading, given_line, line_answer, read_line_at, all_lines}
 use Rattle.text_format.proofs.Answers.{line_given}
 use Rattle.text_parts.proofs.From.{from_cons}

@@ -15,7 +15,7 @@ use borrow.Author.Tests.{eq-eqb, ne_eqb, eqb-true}
 use lib.Dec.{eqb}
 use lib.ListN.{length, drop}
 use lib.IntN.{ℤ}
-use Rattle.protocol.specs.declared.Number.TheVariants.{Value, Refused}
+use Rattle.protocol.specs.Answers.Number.{Value, Refused}
 use Rattle.text_format.specs.Text.{Spot, Line, bytes, names, settings_shape, spots, keep, read_line, begins_with_names, same_spot, number_answer}
 use Rattle.protocol.proofs.Tests.{and_split, and_intro}
 use Rattle.text_format.specs.Lines.{spot, read_value, read_values, read_settings}

@@ -14,7 +14,7 @@ use lib.Dec.{eqb}
 use lib.ListN.{length, drop, take, length-map}
 use lib.IntN.{ℤ}
 use Rattle.protocol.specs.declared.Parts.{Parts}
-use Rattle.protocol.specs.declared.Loaded.{Loaded}
+use Rattle.protocol.specs.Answers.{Loaded}
 use Rattle.protocol.specs.Basic.{choose, unless}
 use Rattle.protocol.specs.Settings.{settings_refusal}
 use Rattle.text_format.specs.Text.{Spot, Line, text_limit, lines_of, spots_of, values_of, settings_in, no_settings, look_refusal, loaded, look_answer}

@@ -9,7 +9,7 @@
 use Rattle.std.specs.Prelude.{◌≡◌, Bool, true, ◌&&◌, ℕ, length, take, ℤ}
 use mathlib.Core.List.{List, [], ◌∷◌, flat_map}
 use Rattle.protocol.specs.declared.Parts.{Parts}
-use Rattle.protocol.specs.declared.Loaded.{Loaded}
+use Rattle.protocol.specs.Answers.{Loaded}
 use Rattle.protocol.specs.Basic.{first, unless}
 use Rattle.text_format.specs.Text.{Line, wanted, lines_of, same_spots, spots_of, column, settings_in, look_refusal, loaded}
 use Rattle.text_parts.specs.Parts.{lengths_fit}

@@ -7,8 +7,8 @@ use native.Mathlib.Omega.{arith}
 use borrow.Author.Tests.{eqb-true}
 use lib.IntN.{ℤ}
 use Rattle.protocol.specs.declared.Settings.{Settings}
-use Rattle.protocol.specs.declared.Checked.{Checked}
-use Rattle.protocol.specs.declared.Verdict.TheVariants.{Silent}
+use Rattle.protocol.specs.Answers.{Checked}
+use Rattle.protocol.specs.Answers.Verdict.{Silent}
 use Rattle.protocol.specs.Settings.{has_length, all_below, residue_rows}
 use Rattle.protocol.specs.Transcript.{Transcript}
 use Rattle.protocol.specs.Rows.{together, all_accepted}

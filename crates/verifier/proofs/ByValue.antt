@@ -10,7 +10,7 @@ use lib.IntN.{pos}
 use lib.ListN.{get_or, set}
 use Rattle.protocol.specs.declared.Settings.{Settings}
 use Rattle.protocol.specs.declared.Session.{Session}
-use Rattle.protocol.specs.declared.Verdict.TheVariants.{Holds, Rejected}
+use Rattle.protocol.specs.Answers.Verdict.{Holds, Rejected}
 use Rattle.protocol.specs.Basic.{choose, first, unless, granted}
 use Rattle.protocol.specs.Element.{zeros, value_row, residue}
 use Rattle.protocol.specs.Layout.{width, rows_width}

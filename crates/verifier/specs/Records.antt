@@ -6,8 +6,8 @@
 --   LastLent S x y            x numbers have the claims, and y numbers an element, where the settings are allowed
 use Rattle.std.specs.Prelude.{true, List, ◌≡◌, ℕ, ◌+◌, ◌≤◌, get_or, set}
 use Rattle.protocol.specs.declared.Settings.{Settings}
-use Rattle.protocol.specs.declared.Started.{Started}
-use Rattle.protocol.specs.declared.Moved.{Moved}
+use Rattle.protocol.specs.Answers.{Started}
+use Rattle.protocol.specs.Answers.{Moved}
 use Rattle.protocol.specs.Basic.{tabulate}
 use Rattle.protocol.specs.Element.{value_row}
 use Rattle.protocol.specs.Layout.{rows_width}

@@ -13,9 +13,9 @@ use Prim.Native.Nat.{ℕ, ◌≤◌}
 use native.Mathlib.Nat as Nat
 use native.Mathlib.Omega.{arith}
 use Rattle.protocol.specs.declared.Settings.{Settings}
-use Rattle.protocol.specs.declared.Loaded.{Loaded}
-use Rattle.protocol.specs.declared.Verified.{Verified}
-use Rattle.protocol.specs.declared.Verified.TheVariants.{Accepted, Rejected, Refused}
+use Rattle.protocol.specs.Answers.{Loaded}
+use Rattle.protocol.specs.Answers.{Verified}
+use Rattle.protocol.specs.Answers.Verified.{Accepted, Rejected, Refused}
 use Rattle.protocol.specs.Basic.{choose}
 use Rattle.protocol.specs.Layout.{key_cells, round_cells}
 use Rattle.text_format.specs.Text.{Tables, shape, shapes, shape_size, fits, wanted, lines_of, spots_of, same_spots, settings_in, look_refusal, look_answer}

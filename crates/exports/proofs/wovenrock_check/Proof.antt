@@ -1,7 +1,7 @@
 use mathlib.Core.Path.{sym, ap, ◌∙◌}
 use mathlib.Core.Bool.{◌&&◌}
 use borrow.Author.Tests.{eqb-true}
-use Rattle.protocol.specs.declared.Checked.{Checked}
+use Rattle.protocol.specs.Answers.{Checked}
 use Rattle.protocol.specs.Element.{padded_signed}
 use Rattle.protocol.specs.Layout.{item_cells}
 use Rattle.protocol.specs.Settings.{has_length}

@@ -1,7 +1,7 @@
 use mathlib.Core.Path.{sym, ap, ◌∙◌}
 use borrow.Author.Tests.{eqb-true}
 use lib.ListN.{take}
-use Rattle.protocol.specs.declared.Ended.{Ended}
+use Rattle.protocol.specs.Answers.{Ended}
 use Rattle.protocol.specs.Settings.{has_length}
 use Rattle.protocol.specs.Calls.{end_answer}
 use Rattle.slices.specs.Slices.{given}

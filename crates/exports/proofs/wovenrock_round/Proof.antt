@@ -1,7 +1,7 @@
 use mathlib.Core.Path.{sym, ap, ◌∙◌}
 use Prim.Native.Nat.{◌*◌}
 use borrow.Author.Tests.{eqb-true}
-use Rattle.protocol.specs.declared.Polynomial.{Polynomial}
+use Rattle.protocol.specs.Answers.{Polynomial}
 use Rattle.protocol.specs.Layout.{polynomial_cells}
 use Rattle.protocol.specs.Settings.{has_length}
 use Rattle.protocol.specs.Calls.{round_answer}

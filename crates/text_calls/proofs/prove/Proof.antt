@@ -1,5 +1,5 @@
 use mathlib.Core.Path.{ap}
-use Rattle.protocol.specs.declared.Written.{Written}
+use Rattle.protocol.specs.Answers.{Written}
 use borrow.Author.Rules.{rules}
 use Rattle.text_calls.proofs.prove.Statement.{statement}
 use Rattle.text_calls.proofs.prove.Tie as tie

@@ -1,5 +1,5 @@
 use mathlib.Core.Path.{ap, ◌∙◌}
-use Rattle.protocol.specs.declared.Verified.{Verified}
+use Rattle.protocol.specs.Answers.{Verified}
 use Rattle.text_format.specs.Programs.{checked}
 use Rattle.protocol.specs.Session.{verdict_number}
 use borrow.Author.Rules.{rules}

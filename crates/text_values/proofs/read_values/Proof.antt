@@ -9,7 +9,7 @@ use lib.ListN.{length}
 use lib.IntN.{ℤ}
 use Rattle.protocol.specs.declared.Settings.{Settings}
 use Rattle.protocol.specs.declared.Parts.{Parts}
-use Rattle.protocol.specs.declared.Loaded.{Loaded}
+use Rattle.protocol.specs.Answers.{Loaded}
 use Rattle.text_format.specs.Text.{lines_of, settings_in, look_refusal, look_answer}
 use Rattle.protocol.proofs.Tests.{and_intro}
 use Rattle.protocol.proofs.Refusals.{and_fails_left, and_fails_right}

@@ -4,7 +4,7 @@ use mathlib.Core.Bool.{◌&&◌}
 use mathlib.Core.List.{[]}
 use borrow.Author.Rules.{rules}
 use borrow.Author.Tests.{not-true, not-false}
-use Rattle.protocol.specs.declared.Verified.TheVariants.{Accepted, Rejected}
+use Rattle.protocol.specs.Answers.Verified.{Accepted, Rejected}
 use Rattle.protocol.specs.Basic.{choose}
 use Rattle.protocol.specs.Rows.{row_of, all_accepted}
 use Rattle.protocol.specs.Transcript.{element, claim_after}

@@ -3,7 +3,7 @@ use mathlib.Core.Path.{◌≡◌, ap, ◌∙◌}
 use mathlib.Core.List.{List}
 use Prim.Native.Nat.{ℕ}
 use borrow.Author.Rules.{rules}
-use Rattle.protocol.specs.declared.Verified.{Verified}
+use Rattle.protocol.specs.Answers.{Verified}
 use Rattle.text_format.specs.Programs.{verify_answer, checked, verify_gives}
 use Rattle.text_format.proofs.Answers.{verify_given}
 use Rattle.verify_text.proofs.verify.Statement.{statement}

@@ -9,7 +9,7 @@ use borrow.Author.Rules.{rules}
 use borrow.Author.Tests.{not-true, not-false}
 use lib.ListN.{length, drop}
 use lib.IntN.{ℤ, pos}
-use Rattle.protocol.specs.declared.Number.TheVariants.{Value}
+use Rattle.protocol.specs.Answers.Number.{Value}
 use Rattle.text_format.specs.Text.{space, narrow_limit, read_count, plain, byte, number_answer}
 use Rattle.text_format.specs.Lines.{present, read_index_at}
 use Rattle.text_lines.proofs.Counts.{Found, suffix_back, counted, uncounted, count_small}

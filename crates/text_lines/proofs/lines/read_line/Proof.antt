@@ -13,8 +13,8 @@ use mir.Syntax.{w64}
 use mir.Val.{of_z, to_z}
 use mir.Facts.{to_z-of_z}
 use Rattle.text_format.specs.Text.{line_feed, narrow_limit, limit_of, read_number, read_number_at, byte, read_index, read_line}
-use Rattle.protocol.specs.declared.Number.{Number}
-use Rattle.protocol.specs.declared.Entry.TheVariants.{Found as Line-at}
+use Rattle.protocol.specs.Answers.{Number}
+use Rattle.protocol.specs.Answers.Entry.{Found as Line-at}
 use Rattle.text_format.specs.Lines.{present, line_answer, read_line_at}
 use Rattle.text_lines.proofs.Counts.{Found, suffix_back, numbered, unnumbered}
 use Rattle.text_lines.proofs.Rows.{bind-some, bind-none, present-none, byte-place, byte-stands, columned, uncolumned, column_small, line-columns, line_both, line₁, line₂, line₃, line₄}

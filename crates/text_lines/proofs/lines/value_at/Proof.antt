@@ -9,7 +9,7 @@ use lib.IntN.{ℤ}
 use mir.Syntax.{w64}
 use mir.Val.{of_z, to_z}
 use mir.Facts.{to_z-of_z}
-use Rattle.protocol.specs.declared.Number.TheVariants.{Value, Refused}
+use Rattle.protocol.specs.Answers.Number.{Value, Refused}
 use Rattle.text_format.specs.Text.{Spot, Line, read_line, same_spot, number_answer, reading}
 use Rattle.text_format.specs.Lines.{spot, read_value, given_number}
 use Rattle.text_lines.proofs.Counts.{Found, suffix_back, answer_both}

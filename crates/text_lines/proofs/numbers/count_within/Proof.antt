@@ -11,7 +11,7 @@ use lib.ListN.{length, drop}
 use lib.IntN.{pos}
 use mir.Syntax.{w64}
 use mir.Facts.{to_z_pos}
-use Rattle.protocol.specs.declared.Number.TheVariants.{Value}
+use Rattle.protocol.specs.Answers.Number.{Value}
 use Rattle.text_format.specs.Text.{value_limit, digit_run, proper_digits, plain, number_answer, read_count_at}
 use Rattle.text_lines.specs.Digits.{past_limit, kept_run, run_answer}
 use Rattle.text_format.proofs.NumeralLaws.{proper_first}

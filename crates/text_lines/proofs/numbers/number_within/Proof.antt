@@ -10,7 +10,7 @@ use mir.Syntax.{w64}
 use mir.Val.{SFits, of_z, to_z}
 use mir.ValLaws.{to_z-of_z}
 use mir.Facts.{to_z_pos}
-use Rattle.protocol.specs.declared.Number.TheVariants.{Value}
+use Rattle.protocol.specs.Answers.Number.{Value}
 use Rattle.text_format.specs.Text.{value_limit, read_count, negative, read_number, number_answer, read_number_at, read_count_at}
 use Rattle.text_lines.proofs.Counts.{Found, suffix_back, counted, uncounted, count_small, number-outside, number-plain, number-minus, negative-number, negative-zero, negative-none, number_both}
 use Rattle.text_lines.proofs.numbers.number_within.Statement.{statement}

@@ -1,9 +1,8 @@
-use Rattle.std.proofs.Common.{◌≡◌, ℕ, ◌+◌, ◌%◌, ◌^◌, ◌<◌, ◌≤◌, Bool, true, false, ◌&&◌, ltb, sym, ap, ◌∙◌, arith, rules, le-ltb, lt-ltb}
+use Rattle.std.proofs.Common.{◌≡◌, ℕ, ◌+◌, ◌-◌, refl, ◌%◌, ◌^◌, ◌<◌, ◌≤◌, Bool, true, false, ◌&&◌, ltb, sym, ap, ◌∙◌, arith, le-ltb, lt-ltb}
 use native.Mathlib.Decide.{dec_lt}
 use lib.Bits.{bit_or, or_lt, or_add_and, and_le_r, and_le_l}
 use Rattle.ranges.proofs.Scan.{and-false}
-use Rattle.ranges.proofs.tests.with_signs.Statement.{statement}
-use Rattle.ranges.proofs.tests.with_signs.Tie as tie
+use Rattle.ranges.proofs.tests.with_signs.Goals as goal
 
 -- a number has its highest bit where one of those has it that it is made of
 either : (a b : ℕ) → ltb (bit_or a b) (2 ^ 63) ≡ (ltb a (2 ^ 63) && ltb b (2 ^ 63))
@@ -28,15 +27,12 @@ and_assoc : (a b c : Bool) → ((a && b) && c) ≡ (a && (b && c))
 and_assoc true b c = λ i. b && c
 and_assoc false b c = λ i. false
 
-returns : tie.Need-returns
+pub returns : goal.returns
 returns c = λ most.
-    let less = c.wrapping_sub_u64 in
-    let up = c.wrapping_add_u64-raised in
     let a = c.args in
-    either (bit_or a.signs a.x) up.result
-    ∙ ap (λ b. b && ltb up.result (2 ^ 63)) (either a.signs a.x)
-    ∙ and_assoc (ltb a.signs (2 ^ 63)) (ltb a.x (2 ^ 63)) (ltb up.result (2 ^ 63))
-    ∙ ap (λ b. ltb a.signs (2 ^ 63) && b) (both_signs a.limit a.x up.result less.result most (omega arith) (omega arith) less.ensures up.ensures)
-
-pub with_signs_spec : {M : Type 1} → statement M
-with_signs_spec = tie.close (tie.spec (λ c κs. search rules) (λ c κs. search rules) returns)
+    let less = (2 ^ 63 + (2 ^ 64 - a.limit)) % 2 ^ 64 in
+    let up = (a.x + less) % 2 ^ 64 in
+    either (bit_or a.signs a.x) up
+    ∙ ap (λ b. b && ltb up (2 ^ 63)) (either a.signs a.x)
+    ∙ and_assoc (ltb a.signs (2 ^ 63)) (ltb a.x (2 ^ 63)) (ltb up (2 ^ 63))
+    ∙ ap (λ b. ltb a.signs (2 ^ 63) && b) (both_signs a.limit a.x up less most (omega arith) (omega arith) (omega arith) refl)

@@ -1,0 +1,7 @@
+-- What is gathered, and the numbers that are left, decide.
+use Rattle.std.proofs.Common.{◌≡◌, ◌^◌, ◌&&◌, ltb, drop}
+use Rattle.protocol.specs.Basic.{all}
+use Rattle.ranges.proofs.tests.all_below_wide.Given as goal
+
+abbrev pub invariant-loop-x : goal.invariant-loop-x
+invariant-loop-x l = all (λ x. ltb x l.limit) l.t ≡ (ltb l.signs (2 ^ 63) && all (λ x. ltb x l.limit) (drop l.x-index l.t))
