@@ -1,13 +1,11 @@
-use mathlib.Core.Path.{◌≡◌, ap, ◌∙◌}
+use Rattle.std.proofs.Common.{◌≡◌, ap, ◌∙◌}
 use Rattle.protocol.specs.Opening.{half_left, fold_signed}
 use Rattle.prover_refusals.proofs.Given.{first_row, fold_key_holds, fold_given}
 use Rattle.prover.proofs.Folding.{message_foldable, keys_given}
 use Rattle.prover.proofs.Answers.{fold_done}
-use borrow.Author.Rules.{rules}
-use Rattle.prover.proofs.fold_tables.Statement.{statement}
-use Rattle.prover.proofs.fold_tables.Tie as tie
+use Rattle.prover.proofs.fold_tables.Goals as goal
 
-returns : tie.Need-returns
+pub returns : goal.returns
 returns c = λ z.
     let a = c.args in
     let S = a.settings in
@@ -20,8 +18,3 @@ returns c = λ z.
     fold_done S a.done a.e G m z _ _
     (c.fold_keys.ensures (keys_given S a.done a.e G m z))
     (c.fold_message.ensures (rw is (message_foldable S a.done a.e _ m g)) ∙ ap (λ n. fold_signed S.degree n a.e m) is)
-
-pub fold_tables_spec : {M : Type 1} → statement M
-fold_tables_spec =
-    tie.close
-    (tie.spec (λ c κs. search rules) (λ c κs. search rules) (λ c κs. search rules) (λ c. search rules) (λ c. search rules) returns)
