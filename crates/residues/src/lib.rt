@@ -3,6 +3,7 @@
 #![tactic(auto)]
 
 pub mod elements;
+pub mod sums;
 
 ghost use Rattle.std.specs.Prelude.{◌≡◌, ℕ, ◌+◌, ◌-◌, ◌*◌, ◌%◌, ◌<◌, ◌≤◌, List, ◌++◌, length, drop, replicate, pos, ◌+ℤ◌, neg_ℤ, get_or};
 ghost use Rattle.protocol.specs.Basic.{Provided, tabulate};
