@@ -3,16 +3,9 @@ use Prim.Native.Nat.{◌+◌, ◌*◌}
 use native.Mathlib.Omega.{arith}
 use Rattle.equations.proofs.Ready.{ready}
 use Rattle.equations.proofs.Polynomials.{part-residues, claim-alike}
-use borrow.Author.Rules.{rules}
-use Rattle.equations.proofs.rounds.next_claim.Statement.{statement}
-use Rattle.equations.proofs.rounds.next_claim.Tie as tie
+use Rattle.equations.proofs.rounds.next_claim.Goals as goal
 
-returns-then-rounds-third : tie.Need-returns-then-rounds-third
-returns-then-rounds-third c = λ g.
-    let h = g.of_round in
-    absurd (let at = c.polynomial_at-at.ensures.0 h.allowed h.index in let n = c.item_cells-n.ensures.0 h.allowed in omega (arith, at, n, h.inside))
-
-returns : tie.Need-returns
+pub returns : goal.returns
 returns c = λ g.
     let a = c.args in
     let S = a.settings in
@@ -34,10 +27,3 @@ returns c = λ g.
       };
       room = g.of_round.claim_long;
     }))
-
-pub next_claim_spec : {M : Type 1} → statement M
-next_claim_spec =
-    tie.close
-    (tie.spec (λ c. search rules) (λ c κs. search rules) (λ c. search rules) (λ c. search rules) (λ c. search rules) returns-then-rounds-third (λ c. search rules)
-    (λ c. search rules) (λ c. search rules) (λ c. search rules) (λ c. search rules) (λ c. search rules) (λ c. search rules) (λ c. search rules)
-    (λ c. search rules) (λ c. search rules) (λ c. search rules) (λ c. search rules) (λ c κs. search rules) (λ c. search rules) returns)

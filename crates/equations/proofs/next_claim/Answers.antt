@@ -10,11 +10,9 @@ use Rattle.residues.specs.Residues.{Residues}
 use Rattle.rotations.specs.Values.{value_at}
 use Rattle.residues.proofs.Splice.{spliced-element}
 use Rattle.equations.proofs.Ready.{ready}
-use borrow.Author.Rules.{rules}
-use Rattle.equations.proofs.next_claim.Statement.{statement}
-use Rattle.equations.proofs.next_claim.Tie as tie
+use Rattle.equations.proofs.next_claim.Goals as goal
 
-returns : tie.Need-returns
+pub returns : goal.returns
 unfolding next_claim reduced value_at
 returns c = λ l g.
     let a = c.args in
@@ -35,6 +33,3 @@ returns c = λ l g.
       room = omega arith;
     })
     ∙ spliced-element _ (value_at S.modulus S.degree a.e (residue a.c0.now) (residue a.c1.now) (residue a.c2.now)) S.degree (λ k l. refl)
-
-pub next_claim_spec : {M : Type 1} → statement M
-next_claim_spec = tie.close (tie.spec (λ c. search rules) (λ c κs. search rules) returns)

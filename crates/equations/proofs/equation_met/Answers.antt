@@ -2,11 +2,9 @@ use mathlib.Core.Path.{◌∙◌}
 use native.Mathlib.Omega.{arith}
 use Rattle.equations.proofs.Ending.{final_summable, power_most, equation_is}
 use Rattle.equations.proofs.Ready.{ready}
-use borrow.Author.Rules.{rules}
-use Rattle.equations.proofs.equation_met.Statement.{statement}
-use Rattle.equations.proofs.equation_met.Tie as tie
+use Rattle.equations.proofs.equation_met.Goals as goal
 
-returns : tie.Need-returns
+pub returns : goal.returns
 returns c = λ g.
     let a = c.args in
     let r = ready a.settings g.allowed in
@@ -17,6 +15,3 @@ returns c = λ g.
       power_most a.settings r a.f.now g.bounded a.g.now a.claim.now _ all,
     )
     ∙ equation_is a.settings r a.f.now g.bounded a.g.now a.claim.now _ all
-
-pub equation_met_spec : {M : Type 1} → statement M
-equation_met_spec = tie.close (tie.spec (λ c κs. search rules) (λ c κs. search rules) returns)
