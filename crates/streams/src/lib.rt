@@ -2,61 +2,42 @@
 // handles a signal, so none is interrupted.
 #![tactic(auto)]
 
-ghost use Rattle.std.specs.Prelude.{◌≡◌, ℕ, ◌<◌, ◌≤◌, IsTrue, IsFalse, length, take};
+ghost use Rattle.std.specs.Prelude.{◌≡◌, ℕ, ◌<◌, ◌≤◌, length, take, IfOk, OnOk, MatchResult};
 ghost use Rattle.std.specs.Io.KnownBytes.{Appends, Consumes, IsAtEnd};
 
-use std::io::{Read, Write};
+use std::io;
+use std::io::{ErrorKind, Read, Write};
 
-// How many bytes were read, and whether it was a failed read that ended them.
-#[derive(Clone, Copy)]
-pub struct Input {
-    pub failed: bool,
-    pub count: usize,
-}
-
-// Reads until the slice is full, the input ends or a read fails.
-pub fn read<R: Read>(from: &mut R, text: &mut [u8]) -> Input
-    ensures within { result.count ≤ length text.new }
-    ensures counted { result.count ≡ length (take result.count text.new) }
-    ensures bytes { Consumes (R.remaining from.old) (R.remaining from.new) (take result.count text.new) }
-    ensures whole { IsFalse result.failed → result.count < length text.new → IsAtEnd (R.remaining from.new) }
+// Reads until the slice is full or the input ends, and answers how many bytes were read. Where a read fails, those before it stand at the front of the slice.
+pub fn read<R: Read>(from: &mut R, text: &mut [u8]) -> io::Result<usize>
+    ensures within { IfOk result (λ n. n ≤ length text.new) }
+    ensures counted { IfOk result (λ n. n ≡ length (take n text.new)) }
+    ensures bytes { MatchResult result
+        (λ n. Consumes (R.remaining from.old) (R.remaining from.new) (take n text.new))
+        (λ _. (n : ℕ) × (n ≤ length text.new) × Consumes (R.remaining from.old) (R.remaining from.new) (take n text.new)) }
+    ensures whole { IfOk result (λ n. n < length text.new → IsAtEnd (R.remaining from.new)) }
 {
-    let mut done: usize = 0;
+    let mut done = 0;
     while done < text.len() {
-        match from.read(&mut text[done..]) {
-            Ok(0) => {
-                return Input {
-                    failed: false,
-                    count: done,
-                };
-            }
-            Ok(more) => done += more,
-            Err(_) => {
-                return Input {
-                    failed: true,
-                    count: done,
-                };
-            }
+        match from.read(&mut text[done..])? {
+            0 => return Ok(done),
+            more => done += more,
         }
     }
-    Input {
-        failed: false,
-        count: done,
-    }
+    Ok(done)
 }
 
-// Writes all of the bytes, and answers whether it did: it stops at the first write that takes nothing or fails, where a front of them is written.
-pub fn write<W: Write>(to: &mut W, bytes: &[u8]) -> bool
-    ensures all { IsTrue result → Appends (W.contents to.old) (W.contents to.new) bytes.now }
+// Writes all of the bytes. It stops at the first write that takes nothing or fails, where a front of them is written.
+pub fn write<W: Write>(to: &mut W, bytes: &[u8]) -> io::Result<()>
+    ensures all { OnOk result (Appends (W.contents to.old) (W.contents to.new) bytes.now) }
     ensures front { (n : ℕ) × (n ≤ length bytes.now) × Appends (W.contents to.old) (W.contents to.new) (take n bytes.now) }
 {
-    let mut done: usize = 0;
+    let mut done = 0;
     while done < bytes.len() {
-        match to.write(&bytes[done..]) {
-            Ok(0) => return false,
-            Ok(more) => done += more,
-            Err(_) => return false,
+        match to.write(&bytes[done..])? {
+            0 => return Err(ErrorKind::WriteZero.into()),
+            more => done += more,
         }
     }
-    true
+    Ok(())
 }

@@ -4,15 +4,13 @@
 // One byte more than the longest text has is read, so that a longer one is seen to be longer.
 fn main(rt: HostRuntime) {
     let mut text = [0u8; 65537];
-    let input = streams::read(&mut rt.stdin(), &mut text);
-    if input.failed {
-        streams::write(&mut rt.stderr(), b"verify: cannot read standard input\n");
+    let Ok(n) = streams::read(&mut rt.stdin(), &mut text) else {
+        let _ = streams::write(&mut rt.stderr(), b"verify: cannot read standard input\n");
         return;
-    }
-    let n = input.count;
+    };
     let mut out = [0u8; 19];
     let count = verify_text::print(&text[..n], &mut out);
-    if !streams::write(&mut rt.stdout(), &out[..count]) {
-        streams::write(&mut rt.stderr(), b"verify: cannot write standard output\n");
+    if let Err(_) = streams::write(&mut rt.stdout(), &out[..count]) {
+        let _ = streams::write(&mut rt.stderr(), b"verify: cannot write standard output\n");
     }
 }
