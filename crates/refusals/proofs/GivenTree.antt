@@ -13,7 +13,7 @@ use lib.Dec.{eqb}
 use lib.IntN.{ℤ}
 use lib.ListN.{length, get_or}
 use Rattle.protocol.specs.declared.Settings.{Settings}
-use Rattle.protocol.specs.Basic.{every, Tested}
+use Rattle.protocol.specs.Basic.{every}
 use Rattle.protocol.specs.Settings.{settings_refusal, cells, has_length, all_below, residue_rows, exponent, exponents}
 use Rattle.protocol.specs.Layout.{key_cells, nodes, leaves, tree_round_cells, tree_challenges, leaf_cells, exponent_count}
 use Rattle.protocol.specs.Transcript.{accepted}
@@ -24,7 +24,7 @@ use Rattle.protocol.specs.Inputs.{Valid, Below}
 use Rattle.one_claim.specs.Demand3.{FullTree}
 use Rattle.protocol.proofs.Tests.{and_split, every_at}
 use Rattle.protocol.proofs.Inputs.{settings-valid, tested-below}
-use Rattle.protocol.proofs.Refusals.{front-joined, tested-passed, none-refused}
+use Rattle.protocol.proofs.Refusals.{front-joined, none-refused}
 use Rattle.protocol.proofs.Acceptance.{accepted_states}
 
 abbrev pub tree_sized : Settings → List ℕ → List ℕ → List ℕ → List ℤ → List ℤ → Bool
@@ -75,10 +75,6 @@ module _ (S : Settings) (key rounds E : List ℕ) (finals w : List ℤ) where
       let (to-rounds, of-challenges) = and_split to-challenges in
       let (of_key, of-rounds) = and_split to-rounds in
       record { key_long = eqb-true _ _ of_key; rounds_long = eqb-true _ _ of-rounds; challenges-long = eqb-true _ _ of-challenges; finals_long = eqb-true _ _ of-finals; w_long = eqb-true _ _ of-w }
-
-  -- 3 to 7 refuse nothing
-  pub lengths_given : {r : ℕ} → Tested (settings_refusal S) 7 (tree_sized S key rounds E finals w) r → r ≡ 0 → Lengths S key rounds E finals w
-  lengths_given e z = sized-lengths (tested-passed e z)
 
 module _ (S : Settings) (C key rounds E : List ℕ) (finals w : List ℤ) where
   pub tree_given : tree_refusal S C key rounds E finals w ≡ 0 → TreeGiven S C key rounds E finals w
