@@ -1,14 +1,13 @@
 -- X^e is on the circle where its place on it is.
-use Rattle.std.proofs.Common.{◌≡◌, ◌+◌, ◌*◌, ◌<◌, ◌≤◌, get_or, pos, ◌+ℤ◌, ap, ◌∙◌, mod-lt, arith, rules}
+use Rattle.std.proofs.Common.{◌+◌, ◌*◌, ◌<◌, ◌≤◌, get_or, pos, ◌+ℤ◌, ap, ◌∙◌, mod-lt, arith}
 use Rattle.protocol.specs.Element.{width, modulo, rotate, residue}
 use Rattle.residues.proofs.Around.{rotate-mod}
 use Rattle.residues.proofs.Splice.{spliced_ext}
-use Rattle.rotations.proofs.add_turned.Statement.{statement}
-use Rattle.rotations.proofs.add_turned.Tie as tie
+use Rattle.rotations.proofs.add_turned.Goals as goal
 
-returns : tie.Need-returns
+pub returns : goal.returns
 returns c = λ f.
-    let o = c.before.before.before.before in
+    let o = c in
     let a = o.args in
     let d : (0 < a.d) × (a.d ≤ width) = (f.degree, f.degree_most) in
     let once = o.on_circle-once.ensures.0 d in
@@ -16,8 +15,3 @@ returns c = λ f.
     ∙ spliced_ext _ _ 0 a.d a.out.now (λ k l.
     ap (λ z. modulo a.q (pos (get_or a.out.now (0 + k) 0) +ℤ z))
     (ap (λ n. rotate a.d n (residue a.a.now) k) once ∙ rotate-mod a.d a.e (residue a.a.now) k))
-
-pub add_turned_spec : {M : Type 1} → statement M
-add_turned_spec =
-    tie.close
-    (tie.spec (λ c κs. search rules) (λ c κs. search rules) (λ c. search rules) returns)

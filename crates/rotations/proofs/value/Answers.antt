@@ -1,17 +1,16 @@
 -- The element c0, then its multiples of c1 and c2, one after the other.
-use Rattle.std.proofs.Common.{◌+◌, ◌*◌, ◌<◌, ◌≤◌, ◌∙◌, mod-lt, arith, rules}
+use Rattle.std.proofs.Common.{◌+◌, ◌*◌, ◌<◌, ◌≤◌, ◌∙◌, mod-lt, arith}
 use Rattle.protocol.specs.Element.{width}
 use Rattle.rotations.proofs.Values.{first_summands, second_summands, value-done}
-use Rattle.rotations.proofs.value.Statement.{statement}
-use Rattle.rotations.proofs.value.Tie as tie
+use Rattle.rotations.proofs.value.Goals as goal
 
-overflow_add-once : tie.Need-overflow_add-once
+pub overflow_add-once : goal.overflow_add-once
 overflow_add-once c = omega (arith, c.on_circle-once.ensures.1)
 
-returns : tie.Need-returns
+pub returns : goal.returns
 returns c = λ f.
-    let o = c.before.before.before.before.before.before.before.before.before.before.before.before.before in
-    let w = c.before.before.before.before.before.before.before.before.before.before.before.before in
+    let o = c in
+    let w = c in
     let a = o.args in
     let d : (0 < a.d) × (a.d ≤ width) = (f.degree, f.degree_most) in
     let once = o.on_circle-once.ensures.0 d in
@@ -30,9 +29,3 @@ returns c = λ f.
     })
     ∙ value-done a.q a.d a.e f.degree a.c0.now a.c1.now a.c2.now a.out.now _ _ f.coefficients
     o.on_circle-once.result w.on_circle-twice.result f.room once twice copied first
-
-pub value_spec : {M : Type 1} → statement M
-value_spec =
-    tie.close
-    (tie.spec (λ c κs. search rules) overflow_add-once (λ c κs. search rules) (λ c κs. search rules) (λ c κs. search rules) (λ c κs. search rules)
-    (λ c. search rules) returns)
