@@ -2,7 +2,7 @@
 ghost use Rattle.std.specs.Prelude.{Bool, ◌≡◌, ℕ, ◌+◌, ◌<◌, ◌≤◌, length, pos, ◌+ℤ◌, get_or};
 ghost use Rattle.protocol.specs.Basic.{Provided, tabulate};
 ghost use Rattle.protocol.specs.Element.{modulo};
-ghost use Rattle.residues.specs.Residues.{BothBelow, signed};
+ghost use Rattle.residues.specs.Residues.{BothBelow, BothSmall, signed};
 
 use crate::Entry;
 use protocol::Residue;
@@ -30,6 +30,24 @@ impl Sum<Residue> for Modulo {
 
     fn add(self, negative: bool, x: Residue, y: Residue) -> Residue {
         crate::signed_sum(self.q, negative, x, y)
+    }
+}
+
+// Whole numbers that are small enough for their sum to be a number of 32 bits too.
+#[derive(Clone, Copy)]
+pub struct Whole;
+
+impl Sum<i32> for Whole {
+    ghost allowed = { λ _. BothSmall };
+
+    ghost sum = { λ _ negative x y. x +ℤ signed negative y };
+
+    fn add(self, negative: bool, x: i32, y: i32) -> i32 {
+        if negative {
+            x.wrapping_sub(y)
+        } else {
+            x.wrapping_add(y)
+        }
     }
 }
 
