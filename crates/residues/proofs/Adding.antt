@@ -2,6 +2,7 @@
 --
 --   both base row j   what number j becomes; z is what is read behind the end of a list, and P what is asked of two numbers
 --   row_turn          a turn of such a loop
+--   part_filled       a part of a list that was lent and filled, as it is handed back
 --   pair_turn, front_filled   the same of a loop that fills the front of a list from two others
 --   row_added         a part of a list to which the numbers of a part of another are added, as it is handed back
 use Rattle.std.proofs.Common.{◌≡◌, ℕ, ◌+◌, ◌-◌, ◌<◌, ◌≤◌, List, ◌++◌, length, get_or, take, drop, set, sym, ap, ◌∙◌, subst, arith, length-drop, length-take-le, get_or-drop, get_or-take}
@@ -17,6 +18,18 @@ use Rattle.residues.proofs.Parts.{tail_at}
 pub filled-all : {A : Type 0} (f : ℕ → A) (l : List A) {k : ℕ} {s : List A} → s ≡ filled f k l → length l ≤ k → k ≤ length l → s ≡ tabulate (length l) f
 unfolding filled
 filled-all f l e h m = filled-end f l e (Nat.le_antisymm m h) ∙ ap (λ t. tabulate (length l) f ++ t) (drop_all (length l) l (Nat.le_refl _)) ∙ append-nil (tabulate (length l) f)
+
+-- a part that was lent and filled, as it is handed back
+module _ {A : Type 0} (f : ℕ → A) (at n : ℕ) (l s : List A) (k : ℕ) (room : at + n ≤ length l) where
+  abbrev Back : ℕ → Type 0
+  Back m = s ≡ filled f k (take m (drop at l)) → length (take m (drop at l)) ≤ k → k ≤ length (take m (drop at l)) → take at l ++ (s ++ drop m (drop at l)) ≡ spliced f at n l
+
+  back : Back n
+  unfolding spliced
+  back e h m = ap (λ t. take at l ++ (t ++ drop n (drop at l))) (filled-all f (take n (drop at l)) e h m ∙ ap (λ k. tabulate k f) (length-take-le n (drop at l) (omega (arith, length-drop at l))))
+
+  pub part_filled : {m : ℕ} → m ≡ n → Back m
+  part_filled e = subst Back (sym e) back
 
 -- a front that was lent and filled, as it is handed back
 pub front_filled : {A : Type 0} (f : ℕ → A) (n : ℕ) (l : List A) {k : ℕ} {s : List A} → n ≤ length l → s ≡ filled f k (take n l) → length (take n l) ≤ k → k ≤ length (take n l) → s ++ drop n l ≡ filled f n l
