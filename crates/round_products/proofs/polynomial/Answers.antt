@@ -1,7 +1,6 @@
 use mathlib.Core.Path.{◌≡◌, sym, ap, ◌∙◌, subst}
 use mathlib.Core.Bool.{true, false}
 use Prim.Native.Nat.{◌+◌, ◌*◌, ◌^◌}
-use native.Mathlib.Nat.{mul-le-mul}
 use native.Mathlib.Omega.{arith}
 use Rattle.protocol.specs.Settings.{half}
 use Rattle.protocol.specs.Layout.{item_cells}
@@ -12,29 +11,21 @@ use Rattle.plain_products.specs.Rowwise.{row_places}
 use Rattle.round_products.specs.Items.{inner_item, ItemsGiven}
 use Rattle.round_products.proofs.Rowwise.{tail}
 use Rattle.round_products.proofs.Itemwise.{allowed, turn, half-inside, first_given, second_given, sum_given, first-item, last_item, sum-item, three-below, middle-item}
-use borrow.Author.Rules.{rules}
-use Rattle.round_products.proofs.polynomial.Statement.{statement}
-use Rattle.round_products.proofs.polynomial.Tie as tie
+use Rattle.round_products.proofs.polynomial.Goals as goal
 
-returns-then-t-settings : tie.Need-returns-then-t-settings
+pub returns-then-t-settings : goal.returns-then-t-settings
 returns-then-t-settings c = λ z _. absurd (omega (arith, turn _ _ _ _ z))
 
-returns-then-c0-n : tie.Need-returns-then-c0-n
+pub returns-then-c0-n : goal.returns-then-c0-n
 returns-then-c0-n c = λ z room. absurd (omega (arith, room.0, c.item_cells-n.ensures.0 (allowed _ _ _ _ z)))
 
-returns-then-c1-n : tie.Need-returns-then-c1-n
+pub returns-then-c1-n : goal.returns-then-c1-n
 returns-then-c1-n c = λ z room. absurd (omega (arith, room.1, c.item_cells-n.ensures.0 (allowed _ _ _ _ z)))
 
-returns-then-c2-n : tie.Need-returns-then-c2-n
+pub returns-then-c2-n : goal.returns-then-c2-n
 returns-then-c2-n c = λ z room. absurd (omega (arith, room.2, c.item_cells-n.ensures.0 (allowed _ _ _ _ z)))
 
-overflow_mul-half : tie.Need-overflow_mul-half
-overflow_mul-half c = omega (
-  arith,
-  mul-le-mul {n₁ = c.half_left-h.result} {m₁ = c.args.settings.degree} {n₂ = 4294967295} {m₂ = 4294967295} (omega arith) (omega arith),
-)
-
-returns-then-message-half : tie.Need-returns-then-message-half
+pub returns-then-message-half : goal.returns-then-message-half
 returns-then-message-half c = λ z room.
     let is = c.half_left-h.ensures (record { allowed = allowed _ _ _ _ z; turn = turn _ _ _ _ z }) in
     absurd (omega (
@@ -43,7 +34,7 @@ returns-then-message-half c = λ z room.
       ap (λ n. n * c.args.settings.degree) is,
     ))
 
-returns-then-key-half : tie.Need-returns-then-key-half
+pub returns-then-key-half : goal.returns-then-key-half
 returns-then-key-half c = λ z room.
     let is = c.half_left-h.ensures (record { allowed = allowed _ _ _ _ z; turn = turn _ _ _ _ z }) in
     absurd (omega (
@@ -52,7 +43,7 @@ returns-then-key-half c = λ z room.
       ap (λ n. n * c.args.settings.degree) is,
     ))
 
-returns : tie.Need-returns
+pub returns : goal.returns
 unfolding half
 returns c = λ z room.
     let a = c.args in
@@ -80,10 +71,3 @@ returns c = λ z room.
       middle = c.difference.ensures (λ k l. below k (omega (arith, n))) ∙ middle-item S t G m z _ _ _ a.c0.now a.c1.now a.c2.now x c0 c2 _ n;
       last = c2;
     }
-
-pub polynomial_spec : {M : Type 1} → statement M
-polynomial_spec =
-    tie.close
-    (tie.spec returns-then-t-settings (λ c κs. search) returns-then-c0-n returns-then-c1-n returns-then-c2-n (λ c κs. search) (λ c. search rules) (λ c. search rules) overflow_mul-half returns-then-message-half returns-then-key-half (λ c. search rules)
-    (λ c κs. search) (λ c. search rules) (λ c. search rules) (λ c. search) (λ c. search) (λ c. search rules) (λ c. search rules) (λ c. search) (λ c. search)
-    (λ c. search rules) (λ c κs. search) (λ c. search rules) (λ c κs. search) (λ c κs. search rules) (λ c. search) (λ c. search) (λ c. search) returns)

@@ -4,11 +4,9 @@ use native.Mathlib.Nat.{mod-lt}
 use native.Mathlib.Omega.{arith}
 use Rattle.residues.specs.Residues.{BothBelow}
 use Rattle.round_products.proofs.Less.{minus_is}
-use borrow.Author.Rules.{rules}
-use Rattle.round_products.proofs.minus_both.Statement.{statement}
-use Rattle.round_products.proofs.minus_both.Tie as tie
+use Rattle.round_products.proofs.minus_both.Goals as goal
 
-returns : tie.Need-returns
+pub returns : goal.returns
 returns c = λ h.
     let a = c.args in
     let q = a.q in
@@ -16,6 +14,3 @@ returns c = λ h.
     let is : c.minus.result ≡ (a.x + (q - a.a)) % q = c.minus.ensures first ∙ minus_is first in
     let both : BothBelow q c.minus.result a.b = record { left = omega (arith, is, mod-lt (a.x + (q - a.a)) {m = q} (omega arith)); right = h.2 } in
     c.minus-2.ensures both ∙ minus_is both ∙ ap (λ y. (y + (q - a.b)) % q) is
-
-pub minus_both_spec : {M : Type 1} → statement M
-minus_both_spec = tie.close (tie.spec (λ c κs. search rules) (λ c κs. search rules) returns)

@@ -1,4 +1,4 @@
-use mathlib.Core.Path.{◌≡◌, sym, ap, ◌∙◌, subst}
+use mathlib.Core.Path.{sym, ap, ◌∙◌, subst}
 use Prim.Native.Nat.{ℕ, ◌*◌, ◌%◌, ◌^◌, ◌<◌}
 use native.Mathlib.Omega.{arith}
 use lib.ListN.{get_or}
@@ -11,11 +11,9 @@ use Rattle.product_sums.specs.Sums.{messages_of, keys_of, RowsGiven}
 use Rattle.product_sums.proofs.Rows.{known}
 use Rattle.round_products.specs.Sums.{half, Halvables}
 use Rattle.round_products.proofs.Itemwise.{written_halvable, written-times}
-use borrow.Author.Rules.{rules}
-use Rattle.round_products.proofs.items.Statement.{statement}
-use Rattle.round_products.proofs.items.Tie as tie
+use Rattle.round_products.proofs.items.Goals as goal
 
-returns : tie.Need-returns
+pub returns : goal.returns
 returns c = λ G z.
     let a = c.args in
     let S = a.settings in
@@ -36,8 +34,3 @@ returns c = λ G z.
     ∙ ap (λ m. filled (λ k. half q ^ a.t * get_or c.inner_rows.new.out k 0 % q) m
     c.inner_rows.new.out) n
     ∙ written-times q d (item_cells S) pq pd F a.out.now _ is (half q ^ a.t)
-
-pub items_spec : {M : Type 1} → statement M
-items_spec =
-    tie.close
-    (tie.spec (λ c κs. search rules) (λ c κs. search rules) (λ c κs. search rules) (λ c κs. search rules) (λ c. search rules) returns)
