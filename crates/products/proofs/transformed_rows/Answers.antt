@@ -3,22 +3,15 @@ use native.Mathlib.Omega.{arith}
 use Rattle.protocol.specs.Element.{zeros}
 use Rattle.residues.proofs.Fill.{zeros_at}
 use Rattle.products.proofs.Rows.{table-few}
-use borrow.Author.Rules.{rules}
-use Rattle.products.proofs.transformed_rows.Statement.{statement}
-use Rattle.products.proofs.transformed_rows.Tie as tie
+use Rattle.products.proofs.transformed_rows.Goals as goal
 
-overflow_mul-n : tie.Need-overflow_mul-n
+pub overflow_mul-n : goal.overflow_mul-n
 overflow_mul-n c = omega (arith, mul-le-mul {n₁ = c.args.n} {m₁ = c.args.d} {n₂ = 4294967295} {m₂ = 4294967295} (omega arith) (omega arith))
 
-returns-then-n-d-le-SHORT_TABLE : tie.Need-returns-then-n-d-le-SHORT_TABLE
+pub returns-then-n-d-le-SHORT_TABLE : goal.returns-then-n-d-le-SHORT_TABLE
 unfolding zeros
 returns-then-n-d-le-SHORT_TABLE c = λ G z. c.send_rows.ensures G (z.0, z.1, z.2, omega arith, zeros_at 8192)
 
-returns : tie.Need-returns
+pub returns : goal.returns
 unfolding zeros
 returns c = λ G z. c.send_rows-2.ensures G (z.0, z.1, z.2, omega (arith, table-few _ _ _ _ z.2), zeros_at 32772)
-
-pub transformed_rows_spec : {M : Type 1} → statement M
-transformed_rows_spec =
-    tie.close
-    (tie.spec overflow_mul-n (λ c. search rules) (λ c κs. search rules) (λ c. search) returns-then-n-d-le-SHORT_TABLE (λ c. search rules) (λ c κs. search rules) (λ c. search) returns)
