@@ -14,11 +14,9 @@ use Rattle.round_products.specs.Sums.{Halvables}
 use Rattle.round_products.proofs.Rowwise.{tail}
 use Rattle.opening_rounds.specs.Rounds.{sum_at}
 use Rattle.opening_rounds.proofs.Beginning.{half-inside, first_rows, second_rows, first_halvable, first_begun, both_residues, commitment_begun, item-some}
-use borrow.Author.Rules.{rules}
-use Rattle.opening_rounds.proofs.begin.Statement.{statement}
-use Rattle.opening_rounds.proofs.begin.Tie as tie
+use Rattle.opening_rounds.proofs.begin.Goals as goal
 
-returns-then-commitments-n : tie.Need-returns-then-commitments-n
+pub returns-then-commitments-n : goal.returns-then-commitments-n
 returns-then-commitments-n c = λ z.
     let a = c.args in
     let none : item_cells a.settings ≤ length a.commitments.now → ⊥ = λ room. omega (
@@ -28,28 +26,28 @@ returns-then-commitments-n c = λ z.
     ) in
     record { commits = λ room. absurd (none room); first = λ room _. absurd (none room); none = λ room _. absurd (none room) }
 
-overflow_mul-half : tie.Need-overflow_mul-half
+pub overflow_mul-half : goal.overflow_mul-half
 overflow_mul-half c = omega (
   arith,
   mul-le-mul {n₁ = c.left-all.result / 2} {m₁ = c.args.settings.degree} {n₂ = 4294967295} {m₂ = 4294967295}
       (omega arith) (omega arith),
 )
 
-returns-then-message-half : tie.Need-returns-then-message-half
+pub returns-then-message-half : goal.returns-then-message-half
 returns-then-message-half c = λ z.
     let a = c.args in
     let S = a.settings in
     let is : c.left-all.result ≡ left S 0 = c.left-all.ensures (record { allowed = (commit_key S a.key.now a.message.now z).0; most = omega arith }) in
     absurd (omega (arith, (half-inside S a.key.now a.message.now z c.left-all.result is).0))
 
-returns-then-key-half : tie.Need-returns-then-key-half
+pub returns-then-key-half : goal.returns-then-key-half
 returns-then-key-half c = λ z.
     let a = c.args in
     let S = a.settings in
     let is : c.left-all.result ≡ left S 0 = c.left-all.ensures (record { allowed = (commit_key S a.key.now a.message.now z).0; most = omega arith }) in
     absurd (omega (arith, (half-inside S a.key.now a.message.now z c.left-all.result is).1))
 
-returns : tie.Need-returns
+pub returns : goal.returns
 unfolding half zeros
 returns c = λ z.
     let a = c.args in
@@ -98,10 +96,3 @@ returns c = λ z.
           ∙ first_begun S G m z n is C C1 is1 a.rounds.now;
       none = λ _ short. c.write_halved.ensures.1 (omega (arith, size, item-some S ok));
     }
-
-pub begin_spec : {M : Type 1} → statement M
-begin_spec =
-    tie.close
-    (tie.spec (λ c κs. search rules) returns-then-commitments-n (λ c κs. search rules) (λ c κs. search rules) (λ c. search rules) (λ c. search rules) overflow_mul-half returns-then-message-half returns-then-key-half (λ c κs. search rules)
-    (λ c κs. search rules) (λ c. search rules) (λ c. search rules) (λ c. search rules) (λ c. search rules) (λ c. search rules) (λ c. search rules) (λ c. search rules) (λ c. search rules)
-    (λ c. search rules) (λ c. search rules) (λ c κs. search rules) (λ c. search rules) (λ c κs. search rules) (λ c. search rules) (λ c. search rules) returns)
