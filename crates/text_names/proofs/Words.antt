@@ -1,19 +1,19 @@
 -- Bytes as one number, and what a text begins with.
 --
 --   word-cons      two words are equal exactly when their first bytes are and what the others make
---   take_places    the first n of a list, place by place
 --   begins-word    a text begins with bytes exactly when its word of so many bytes is theirs, for any number of bytes
 --   begins-parts   bytes in two parts are looked for one part after the other
 --   begins-short   a shorter text does not begin with them
+--   begins-starts  what a text begins with is what its first bytes are, one by one
 use mathlib.Core.Path.{◌≡◌, refl, sym, ap, ◌∙◌}
 use mathlib.Core.Bool.{Bool, true, false, ◌&&◌, and_assoc, and-false}
 use mathlib.Core.List.{List, [], ◌∷◌, ◌++◌}
-use Prim.Native.Nat.{ℕ, zero, suc, ◌+◌, ◌*◌, ◌≤◌, ◌<◌}
+use Prim.Native.Nat.{ℕ, suc, ◌+◌, ◌*◌, ◌≤◌, ◌<◌}
 use native.Mathlib.Omega.{arith}
 use borrow.Author.Tests.{eq-eqb, ne_eqb, eqb-true, eqb-false}
 use lib.Dec.{eqb}
 use lib.ListN.{length, get_or, take, drop}
-use Rattle.protocol.specs.Basic.{tabulate}
+use Rattle.std.specs.Cmp.Lexicographic.{pointwise}
 use Rattle.text_format.specs.Text.{begins}
 use Rattle.text_names.specs.Words.{word}
 
@@ -37,12 +37,6 @@ module _ (b c x y : ℕ) (hb : b < 256) (hc : c < 256) where
   pub word-cons : eqb (b + 256 * x) (c + 256 * y) ≡ (eqb b c && eqb x y)
   word-cons = by_tests (eqb b c) (eqb x y) refl refl
 
-pub take_places : (n : ℕ) (l : List ℕ) → n ≤ length l → take n l ≡ tabulate n (λ i. get_or l i 0)
-unfolding tabulate
-take_places zero l h = refl
-take_places (suc n) [] h = absurd (omega (arith, h))
-take_places (suc n) (a ∷ l) h = ap (λ (t : List ℕ). a ∷ t) (take_places n l (omega (arith, h)))
-
 pub begins-word : (cs text : List ℕ) → length cs ≤ length text → Bytes cs → ((i : ℕ) → get_or text i 0 < 256)
     → begins cs text ≡ eqb (word (take (length cs) text)) (word cs)
 unfolding begins
@@ -63,3 +57,16 @@ unfolding begins
 begins-short [] text l = absurd (omega (arith, l))
 begins-short (c ∷ cs) [] l = refl
 begins-short (c ∷ cs) (b ∷ bs) l = ap (λ t. eqb b c && t) (begins-short cs bs (omega (arith, l))) ∙ and-false (eqb b c)
+
+eqb-swapped : (b c : ℕ) → eqb b c ≡ eqb c b
+eqb-swapped b c = by_test (eqb c b) refl
+  where
+    by_test : (t : Bool) → eqb c b ≡ t → eqb b c ≡ t
+    by_test true e = eq-eqb b c (sym (eqb-true c b e))
+    by_test false e = ne_eqb b c (λ w. eqb-false c b e (sym w))
+
+pub begins-starts : (cs text : List ℕ) → begins cs text ≡ pointwise eqb cs (take (length cs) text)
+unfolding begins
+begins-starts [] text = refl
+begins-starts (c ∷ cs) [] = refl
+begins-starts (c ∷ cs) (b ∷ bs) = λ j. eqb-swapped b c j && begins-starts cs bs j

@@ -13,13 +13,16 @@
 --   lengths_fit S P n     has every table its length
 --   Exact S P t           the lengths of tables that fit
 --   tested_by k           the refusal that tests the values of the table at place k; 0 where none does
+--   test_number x         the number of a refusal, where there is one; else 0
 --   values_room           8,192: the room for the values of every text that is not too long
 --   cells_room            as many: the room for each of its tables
 --   lent_cells n          how many numbers of a table of n are lent to the reader of such a text
-use Rattle.std.specs.Prelude.{◌≡◌, Bool, ◌&&◌, List, [], ◌∷◌, ℕ, ◌+◌, ◌/◌, ◌%◌, min, leb, ltb, eqb, length, get_or, ℤ}
+use Rattle.std.specs.Prelude.{◌≡◌, Bool, ◌&&◌, List, [], ◌∷◌, Option, Some, None, ℕ, ◌+◌, ◌/◌, ◌%◌, min, leb, ltb, eqb, length, get_or, ℤ}
 use Rattle.protocol.specs.declared.Settings.{Settings}
 use Rattle.protocol.specs.declared.Parts.{Parts}
+use Rattle.protocol.specs.declared.Refusal.{Refusal}
 use Rattle.protocol.specs.Basic.{choose, every}
+use Rattle.protocol.specs.Refusal.{number}
 use Rattle.protocol.specs.Layout.{rows_most}
 use Rattle.protocol.specs.Settings.{depth_allowed}
 use Rattle.text_format.specs.Text.{Tables, Shape, settings_shape, shapes, shape_size}
@@ -87,6 +90,10 @@ pub record Exact (S : Settings) (P : Parts) (t : Tables) : Type 0 where
 -- key, commitment, rounds and claims are residues, the message is within the bound, challenges are exponents
 unfoldable pub tested_by : ℕ → ℕ
 tested_by k = get_or (8 ∷ 9 ∷ 8 ∷ 8 ∷ 10 ∷ 0 ∷ 8 ∷ []) k 0
+
+abbrev pub test_number : Option Refusal → ℕ
+test_number (Some r) = number r
+test_number None = 0
 
 -- ---- rooms
 

@@ -5,8 +5,6 @@ use native.Mathlib.Omega.{arith}
 use native.Mathlib.Nat as Nat
 use borrow.Author.Rules.{rules}
 use lib.Pow.{pow_mono}
-use mir.Syntax.{w32}
-use mir.Val.{Fits}
 use Rattle.protocol.specs.Settings.{size}
 use Rattle.protocol.specs.declared.Settings.{Settings}
 use Rattle.protocol.specs.declared.Parts.{Parts}
@@ -14,8 +12,7 @@ use Rattle.protocol.specs.Layout.{rows_most}
 use Rattle.text_format.specs.Text.{Shape, shape, settings_shape, shapes}
 use Rattle.text_parts.specs.Parts.{part_shape, part_of}
 use Rattle.text_parts.proofs.Counted.{part-counted, part-deep, part-many}
-use Rattle.text_parts.proofs.shape_of.Statement.{statement}
-use Rattle.text_parts.proofs.shape_of.Tie as tie
+use Rattle.text_parts.proofs.shape_of.Goals as goal
 
 -- a shift by the depth is n
 shifted : (depth : ℕ) → depth ≤ 8 → (1 * 2 ^ depth) % 2 ^ 32 ≡ 2 ^ depth
@@ -41,28 +38,13 @@ none-such S P (suc (suc (suc (suc (suc (suc (suc (suc k)))))))) h = refl
 named : (S : Settings) (P : Parts) (k n : ℕ) (b : Shape) → S.depth ≤ 8 → S.rows ≤ rows_most → k ≡ n → b ≡ part_shape S P n → b ≡ part_of S P k
 named S P k n b deep many e is = is ∙ sym (ap (part_shape S P) e) ∙ sym (part-counted S P k deep many)
 
-returns-then-depth-gt8 : tie.Need-returns-then-depth-gt8
-returns-then-depth-gt8 c = let a = c.args in c.settings_shape.ensures ∙ sym (part-deep a.settings a.parts a.part (omega arith))
+pub returns-then-depth-gt-DEPTH_MOST : goal.returns-then-depth-gt-DEPTH_MOST
+returns-then-depth-gt-DEPTH_MOST c = let a = c.args in c.settings_shape.ensures ∙ sym (part-deep a.settings a.parts a.part (omega arith))
 
-returns-then-rows-gt-ROWS : tie.Need-returns-then-rows-gt-ROWS
+pub returns-then-rows-gt-ROWS : goal.returns-then-rows-gt-ROWS
 returns-then-rows-gt-ROWS c = let a = c.args in c.settings_shape-then-rows-gt-ROWS.ensures ∙ sym (part-many a.settings a.parts a.part (omega arith) (omega arith))
 
--- items of every row
-items-fit : (rows n : ℕ) → rows ≤ rows_most → n ≤ 256 → Fits w32 (rows * n)
-items-fit rows n many most = record { fits = omega (arith, Nat.mul-le-mul many most) }
-
-overflow_mul-rows : tie.Need-overflow_mul-rows
-overflow_mul-rows c =
-    let S = c.args.settings in
-    items-fit S.rows _ (omega arith) (omega (arith, shifted S.depth (omega arith), pow_mono {i = S.depth} {j = 8} (omega arith)))
-
-overflow_mul-rows-in-4 : tie.Need-overflow_mul-rows-in-4
-overflow_mul-rows-in-4 c = let S = c.args.settings in items-fit S.rows _ (omega arith) (omega arith)
-
-overflow_mul-rows-in-7 : tie.Need-overflow_mul-rows-in-7
-overflow_mul-rows-in-7 c = let S = c.args.settings in items-fit S.rows _ (omega arith) (omega arith)
-
-returns-in-1 : tie.Need-returns-in-1
+pub returns-in-1 : goal.returns-in-1
 unfolding part_shape shapes size
 returns-in-1 c =
     let a = c.args in
@@ -70,7 +52,7 @@ returns-in-1 c =
     named a.settings a.parts a.part 1 _ deep (omega arith) c.in-1.is
     (c.part_of.ensures ∙ (λ j. shape 1 a.parts.key (a.settings.rows * shifted a.settings.depth deep j) a.settings.degree))
 
-returns-in-2 : tie.Need-returns-in-2
+pub returns-in-2 : goal.returns-in-2
 unfolding part_shape shapes size
 returns-in-2 c =
     let a = c.args in
@@ -78,50 +60,43 @@ returns-in-2 c =
     named a.settings a.parts a.part 2 _ deep (omega arith) c.in-2.is
     (c.part_of-in-2.ensures ∙ (λ j. shape 2 a.parts.message (shifted a.settings.depth deep j) a.settings.degree))
 
-returns-in-3 : tie.Need-returns-in-3
+pub returns-in-3 : goal.returns-in-3
 unfolding part_shape shapes size
 returns-in-3 c =
     let a = c.args in
     let deep : a.settings.depth ≤ 8 = omega arith in
     named a.settings a.parts a.part 3 _ deep (omega arith) c.in-3.is c.part_of-in-3.ensures
 
-returns-in-4 : tie.Need-returns-in-4
+pub returns-in-4 : goal.returns-in-4
 unfolding part_shape shapes size
 returns-in-4 c =
     let a = c.args in
     let deep : a.settings.depth ≤ 8 = omega arith in
     named a.settings a.parts a.part 4 _ deep (omega arith) c.in-4.is c.part_of-in-4.ensures
 
-returns-in-5 : tie.Need-returns-in-5
+pub returns-in-5 : goal.returns-in-5
 unfolding part_shape shapes size
 returns-in-5 c =
     let a = c.args in
     let deep : a.settings.depth ≤ 8 = omega arith in
     named a.settings a.parts a.part 5 _ deep (omega arith) c.in-5.is c.part_of-in-5.ensures
 
-returns-in-6 : tie.Need-returns-in-6
+pub returns-in-6 : goal.returns-in-6
 unfolding part_shape shapes size
 returns-in-6 c =
     let a = c.args in
     let deep : a.settings.depth ≤ 8 = omega arith in
     named a.settings a.parts a.part 6 _ deep (omega arith) c.in-6.is c.part_of-in-6.ensures
 
-returns-in-7 : tie.Need-returns-in-7
+pub returns-in-7 : goal.returns-in-7
 unfolding part_shape shapes size
 returns-in-7 c =
     let a = c.args in
     let deep : a.settings.depth ≤ 8 = omega arith in
     named a.settings a.parts a.part 7 _ deep (omega arith) c.in-7.is c.part_of-in-7.ensures
 
-returns-in_default : tie.Need-returns-in_default
+pub returns-in_default : goal.returns-in_default
 returns-in_default c =
     let a = c.args in
     named a.settings a.parts a.part a.part _ (omega arith) (omega arith) refl
-    (c.settings_shape-in_default.ensures ∙ sym (none-such a.settings a.parts a.part c.in_default.in_default-own.rest))
-
-pub shape_of_spec : {M : Type 1} → statement M
-shape_of_spec =
-    tie.close
-    (tie.spec (λ c κs. search rules) returns-then-depth-gt8 (λ c. search rules) (λ c κs. search rules) returns-then-rows-gt-ROWS (λ c. search rules) overflow_mul-rows (λ c κs. search rules)
-    (λ c. search rules) (λ c κs. search rules) (λ c κs. search rules) (λ c. search rules) overflow_mul-rows-in-4 (λ c κs. search rules) (λ c κs. search rules)
-    (λ c κs. search rules) overflow_mul-rows-in-7 (λ c κs. search rules) (λ c κs. search rules) returns-in-1 returns-in-2 returns-in-3 returns-in-4 returns-in-5 returns-in-6 returns-in-7 returns-in_default)
+    (c.settings_shape-in_default.ensures ∙ sym (none-such a.settings a.parts a.part (search rules)))
